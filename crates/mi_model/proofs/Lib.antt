@@ -1,0 +1,9 @@
+pub mod StepLaws
+pub mod SessionLaws
+pub mod SortLaws
+pub mod ViewLaws
+pub mod PutLaws
+pub mod TableLaws
+pub mod StampLaws
+pub mod SameLaws
+pub mod DatabaseLaws

@@ -1,0 +1,14 @@
+pub mod Key
+pub mod Table
+pub mod View
+pub mod Conflict
+pub mod Change
+pub mod Verdict
+pub mod Lookup
+pub mod Page
+pub mod Database
+pub mod Same
+pub mod Steps
+pub mod Run
+pub mod Footprint
+pub mod Examples

@@ -1,0 +1,134 @@
+//! The ids of each index. A change makes a new list beside the old one, so a refused growth changes nothing.
+use std::alloc::{AllocError, Global};
+use std::marker::Model;
+
+/// The ids of an index, seen as a list.
+#[derive(Debug, Drop)]
+pub(crate) struct Ids {
+    ids: Vec<u64>,
+}
+
+impl Model for Ids {
+    ghost use Rattle.std.specs.Prelude.{List, ℕ};
+
+    ghost Value = { List ℕ };
+
+    ghost view = { λ a. a.ids.items };
+}
+
+impl Ids {
+    ghost use Rattle.std.specs.Prelude.{◌≡◌, [], IfOk};
+    ghost use Rattle.std.specs.declared.option.Option.TheVariants.{None};
+    ghost use Rattle.mi_model.specs.Change.{stand_before, stand};
+
+    /// No ids.
+    pub(crate) fn new(alloc: Global) -> Ids
+        ensures { result ≡ [] }
+    {
+        Ids {
+            ids: Vec::new(alloc),
+        }
+    }
+
+    /// The same ids.
+    pub(crate) fn copy(&self, alloc: Global) -> Result<Ids, AllocError>
+        ensures { IfOk result (λ copied. copied ≡ self.now) }
+    {
+        let ids = Vec::from_slice(alloc, self.ids.as_slice())?;
+        Ok(Ids { ids })
+    }
+
+    /// The ids with e at the end.
+    fn with_last(&self, alloc: Global, e: u64) -> Result<Ids, AllocError>
+        ensures { IfOk result (λ ids. ids ≡ stand None e self.now) }
+    {
+        let mut ids = Vec::from_slice(alloc, self.ids.as_slice())?;
+        ids.push(e)?;
+        Ok(Ids { ids })
+    }
+
+    /// The ids with e directly before b, or where b isn't among them at the end.
+    fn with_before(&self, alloc: Global, b: u64, e: u64) -> Result<Ids, AllocError>
+        ensures { IfOk result (λ ids. ids ≡ stand_before b e self.now) }
+    {
+        let ids = ids_before(alloc, self.ids.as_slice(), b, e)?;
+        Ok(Ids { ids })
+    }
+}
+
+ghost use Rattle.std.specs.Prelude.{◌≡◌, [], IfOk, map};
+ghost use Rattle.std.specs.declared.option.Option.TheVariants.{None};
+ghost use Rattle.mi_model.specs.Change.{stand_before, added, stand};
+ghost use Rattle.mi_schema.specs.declared.index.Index.{Index as IndexSpec};
+
+use mi_schema::Index;
+
+fn ids_before(alloc: Global, all: &[u64], b: u64, e: u64) -> Result<Vec<u64>, AllocError>
+    ensures { IfOk result (λ ids. ids.items ≡ stand_before b e all.now) }
+{
+    let mut ids = Vec::new(alloc);
+    let mut placed = false;
+    for a in all {
+        if !placed && *a == b {
+            ids.push(e)?;
+            placed = true;
+        }
+        ids.push(*a)?;
+    }
+    if !placed {
+        ids.push(e)?;
+    }
+    Ok(ids)
+}
+
+/// Each list with e at the end.
+fn all_with_last(alloc: Global, lists: &[Ids], e: u64) -> Result<Vec<Ids>, AllocError>
+    ensures { IfOk result (λ new. new.items ≡ map (stand None e) lists.now) }
+{
+    let mut new = Vec::new(alloc);
+    for ids in lists {
+        new.push(ids.with_last(alloc, e)?)?;
+    }
+    Ok(new)
+}
+
+/// The lists with e at its place in each: at the end, but in the list of `before` directly before its id.
+pub(crate) fn with_added(
+    alloc: Global,
+    lists: &[Ids],
+    e: u64,
+    before: Option<(usize, u64)>,
+) -> Result<Vec<Ids>, AllocError>
+    ensures { IfOk result (λ new. new.items ≡ added before e lists.now) }
+{
+    let mut new = all_with_last(alloc, lists, e)?;
+    if let Some((x, b)) = before
+        && x < lists.len()
+    {
+        let ids = lists[x].with_before(alloc, b, e)?;
+        new[x] = ids;
+    }
+    Ok(new)
+}
+
+/// The same lists.
+pub(crate) fn copy_lists(alloc: Global, lists: &[Ids]) -> Result<Vec<Ids>, AllocError>
+    ensures { IfOk result (λ new. new.items ≡ lists.now) }
+{
+    let mut new = Vec::new(alloc);
+    for ids in lists {
+        new.push(ids.copy(alloc)?)?;
+    }
+    Ok(new)
+}
+
+/// An empty list for each index.
+pub(crate) fn empty_lists(alloc: Global, indexes: &[Index]) -> Result<Vec<Ids>, AllocError>
+    ensures { IfOk result (λ new. new.items ≡ map (λ (_ : IndexSpec). []) indexes.now) }
+{
+    let mut new = Vec::new(alloc);
+    for _index in indexes {
+        new.push(Ids::new(alloc))?;
+    }
+    Ok(new)
+}

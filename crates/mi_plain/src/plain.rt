@@ -1,0 +1,147 @@
+//! The plain database: its tables, and whole copies of them for the open sessions.
+use crate::table::PlainTable;
+use mi_database::Sessions;
+use mi_schema::Catalog;
+use mi_value::limits::{LAST_COUNT, MAX_SESSIONS};
+use mi_value::{NoSession, Record, Refusal};
+use std::alloc::{AllocError, Global};
+use std::marker::Model;
+
+/// All tables as they were at the start of a session.
+#[derive(Debug, Drop)]
+struct Copies {
+    tables: Vec<PlainTable>,
+}
+
+impl Model for Copies {
+    ghost use Rattle.std.specs.Prelude.{List};
+    ghost use Rattle.mi_model.specs.Table.{Table};
+
+    ghost Value = { List Table };
+
+    ghost view = { λ a. a.tables.items };
+}
+
+/// A database as tables of rows and whole copies of them, the newest last.
+#[derive(Debug, Drop)]
+pub struct Plain {
+    catalog: Catalog,
+    tables: Vec<PlainTable>,
+    old: Vec<Copies>,
+    revision: u64,
+}
+
+impl Model for Plain {
+    ghost use Rattle.std.specs.Prelude.{◌≡◌, ◌≤◌, length, reverse};
+    ghost use Rattle.std.specs.List.{All};
+    ghost use Rattle.mi_value.specs.declared.limits.TheConstants.{LAST_COUNT};
+    ghost use Rattle.mi_model.specs.Database.{Database};
+
+    ghost Value = { Database };
+
+    ghost view = { λ a. record { catalog = a.catalog; tables = a.tables.items; old = reverse a.old.items; revision = a.revision } };
+
+    ghost invariant = { λ a. (length a.tables.items ≡ length a.catalog.tables) × All (λ tables. length tables ≡ length a.catalog.tables) a.old.items × (length a.old.items ≤ a.revision) × (a.revision ≤ LAST_COUNT) };
+}
+
+ghost use Rattle.std.specs.Prelude.{◌≡◌, IfOk, map};
+ghost use Rattle.mi_model.specs.Table.{opened};
+
+/// The same tables.
+fn copy_tables(alloc: Global, tables: &[PlainTable]) -> Result<Vec<PlainTable>, Refusal>
+    ensures { IfOk result (λ new. new.items ≡ tables.now) }
+{
+    let mut new = Vec::new(alloc);
+    for table in tables {
+        new.push(table.copy(alloc)?)?;
+    }
+    Ok(new)
+}
+
+/// The tables that a catalog opens with.
+fn open_tables(alloc: Global, catalog: &Catalog) -> Result<Vec<PlainTable>, AllocError>
+    ensures { IfOk result (λ new. new.items ≡ map opened catalog.now.tables) }
+{
+    let mut new = Vec::new(alloc);
+    for i in 0..catalog.table_count() {
+        new.push(PlainTable::opened(alloc, catalog.table(i))?)?;
+    }
+    Ok(new)
+}
+
+impl Plain {
+    ghost use Rattle.std.specs.Prelude.{◌≡◌, IfOk};
+    ghost use Rattle.mi_model.specs.Database.{opened_database};
+
+    /// The database that a catalog opens with: no rows, no open session, the first counters and the first revision.
+    pub fn new(alloc: Global, catalog: Catalog) -> Result<Plain, AllocError>
+        ensures { IfOk result (λ d. d ≡ opened_database catalog) }
+    {
+        catalog.keeps_rules();
+        let tables = open_tables(alloc, &catalog)?;
+        let revision = catalog.first_revision();
+        Ok(Plain {
+            catalog,
+            tables,
+            old: Vec::new(alloc),
+            revision,
+        })
+    }
+}
+
+impl Sessions for Plain {
+    ghost state = { λ s. s };
+
+    fn catalog(&self) -> &Catalog {
+        &self.catalog
+    }
+
+    fn insert(
+        &mut self,
+        alloc: Global,
+        table: usize,
+        row: Record,
+        before: Option<(usize, u64)>,
+    ) -> Result<u64, (Refusal, Record)> {
+        let schema = self.catalog.table(table);
+        self.tables[table].insert(alloc, schema, row, before)
+    }
+
+    fn get(&self, table: usize, id: u64) -> Option<&Record> {
+        self.tables[table].get(id)
+    }
+
+    fn start(&mut self, alloc: Global) -> Result<u64, Refusal> {
+        if self.revision == LAST_COUNT {
+            return Err(Refusal::Spent);
+        }
+        if self.old.len() == MAX_SESSIONS {
+            return Err(Refusal::Depth);
+        }
+        let Ok(tables) = copy_tables(alloc, self.tables.as_slice()) else {
+            return Err(Refusal::Memory);
+        };
+        if self.old.push(Copies { tables }).is_err() {
+            return Err(Refusal::Memory);
+        }
+        self.revision += 1;
+        Ok(self.revision)
+    }
+
+    fn undo(&mut self) -> Result<u64, NoSession> {
+        let Some(Copies { tables }) = self.old.pop() else {
+            return Err(NoSession);
+        };
+        self.tables = tables;
+        self.revision -= 1;
+        Ok(self.revision)
+    }
+
+    fn revision(&self) -> u64 {
+        self.revision
+    }
+
+    fn depth(&self) -> u64 {
+        self.old.len() as u64
+    }
+}

@@ -1,0 +1,4 @@
+pub mod Shape
+pub mod Fits
+pub mod Rules
+pub mod Accounts

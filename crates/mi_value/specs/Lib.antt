@@ -1,0 +1,3 @@
+pub mod Order
+pub mod Edits
+pub mod Words

@@ -1,0 +1,79 @@
+//! The order of values and keys. It reads records and takes no memory.
+ghost use Rattle.std.specs.Prelude.{◌≡◌, slice_get};
+ghost use Rattle.std.specs.Ordering.{is_eq};
+ghost use Rattle.std.specs.Option.{option_copied};
+ghost use Rattle.mi_value.specs.Order as order;
+
+use crate::value::{Record, Value};
+use std::cmp::Ordering;
+
+/// One part of an index's key: a column by its number, and whether it descends.
+#[derive(Clone, Copy, Debug, PartialEq, Eq)]
+pub struct KeyPart {
+    pub column: usize,
+    pub descending: bool,
+}
+
+/// Two values: numbers by value, texts by their bytes, false before true; of two types Int, then Text, then Flag.
+pub fn compare_value(a: &Value, b: &Value) -> Ordering
+    ensures { result ≡ order.compare_value a.now b.now }
+{
+    match (a, b) {
+        (Value::Int(x), Value::Int(y)) => x.cmp(y),
+        (Value::Int(_), _) => Ordering::Less,
+        (Value::Text(_), Value::Int(_)) => Ordering::Greater,
+        (Value::Text(x), Value::Text(y)) => x.as_str().cmp(y.as_str()),
+        (Value::Text(_), Value::Flag(_)) => Ordering::Less,
+        (Value::Flag(x), Value::Flag(y)) => x.cmp(y),
+        (Value::Flag(_), _) => Ordering::Greater,
+    }
+}
+
+/// Two values that may be missing; a missing one is less than any other.
+fn compare_missing(a: Option<&Value>, b: Option<&Value>) -> Ordering
+    ensures { result ≡ order.compare_missing (option_copied a.entry) (option_copied b.entry) }
+{
+    match (a, b) {
+        (None, None) => Ordering::Equal,
+        (None, Some(_)) => Ordering::Less,
+        (Some(_), None) => Ordering::Greater,
+        (Some(x), Some(y)) => compare_value(x, y),
+    }
+}
+
+/// A descending part turns its comparison round.
+fn directed(descending: bool, o: Ordering) -> Ordering
+    ensures { result ≡ order.directed descending o }
+{
+    if descending { o.reverse() } else { o }
+}
+
+/// Two records by one part of a key.
+fn compare_part(a: &Record, b: &Record, part: &KeyPart) -> Ordering
+    ensures { result ≡ order.compare_part part.now a.now b.now }
+{
+    directed(
+        part.descending,
+        compare_missing(a.values().get(part.column), b.values().get(part.column)),
+    )
+}
+
+/// Two records by the parts of a key.
+pub fn compare_key(a: &Record, b: &Record, parts: &[KeyPart]) -> Ordering
+    ensures { result ≡ order.compare_key parts.now a.now b.now }
+{
+    for part in parts {
+        match compare_part(a, b, part) {
+            Ordering::Equal => {}
+            o => return o,
+        }
+    }
+    Ordering::Equal
+}
+
+/// Whether two records have one key.
+pub fn same_key(a: &Record, b: &Record, parts: &[KeyPart]) -> bool
+    ensures { result ≡ is_eq (order.compare_key parts.now a.now b.now) }
+{
+    compare_key(a, b, parts).is_eq()
+}

@@ -1,0 +1,18 @@
+//! The words of the product: values, records, keys, edits, bounds, refusals, limits and counted steps.
+//! It knows nothing of tables, schemas or bytes on a wire; it allocates only to copy.
+#![tactic(auto)]
+
+mod bound;
+mod compare;
+mod edit;
+pub mod limits;
+mod refusal;
+mod steps;
+mod value;
+
+pub use bound::{Key, Lower, Probe, Upper};
+pub use compare::{KeyPart, compare_key, compare_value, same_key};
+pub use edit::Edit;
+pub use refusal::{NoSession, Refusal};
+pub use steps::Steps;
+pub use value::{ColumnType, Record, Text, Value};
