@@ -1,0 +1,12 @@
+-- To be read in this order.
+pub mod Ended
+pub mod Lines
+pub mod Holder
+pub mod Answer
+pub mod Served
+pub mod Connections
+pub mod Run
+pub mod Watching
+pub mod LineLaws
+pub mod RunLaws
+pub mod Places

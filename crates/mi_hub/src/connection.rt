@@ -1,0 +1,28 @@
+//! Attached connections, found by their number.
+ghost use Rattle.std.specs.Prelude.{◌≡◌, None, MatchOption};
+ghost use Rattle.mi_hub.specs.Connections.{rest_at};
+ghost use Rattle.mi_hub.specs.Places.{StandsAt};
+
+use crate::line::LineBuffer;
+
+/// Connections that can be attached at a time, at most: one, until pieces of several are fed by turns.
+pub const MAX_ATTACHED: usize = 1;
+
+/// An attached connection, and its bytes since the last newline.
+#[derive(Drop)]
+pub struct Connection {
+    pub id: u64,
+    pub rest: LineBuffer,
+}
+
+/// The first place of a connection.
+pub fn place_of(connections: &[Connection], conn: u64) -> Option<usize>
+    ensures { MatchOption result (rest_at conn connections.now ≡ None) (λ i. StandsAt conn i connections.now) }
+{
+    for (i, connection) in connections.iter().enumerate() {
+        if connection.id == conn {
+            return Some(i);
+        }
+    }
+    None
+}

@@ -1,0 +1,183 @@
+//! Connections by turns over one database. A call does one event of one connection, and nothing else changes.
+ghost use Rattle.std.specs.Prelude.{◌≡◌, ◌≢◌, ◌↔◌, ◌⊎◌, ◌≤◌, ℕ, List, [], true, None, Some, Err, MatchOption, IfSome, IsSome, OnOk, OnErr, length, ◌<◌};
+ghost use Rattle.std.specs.List.{remove};
+ghost use Rattle.mi_hub.specs.Lines.{extended};
+ghost use Rattle.mi_hub.specs.Holder.{released};
+ghost use Rattle.mi_hub.specs.Connections.{rest_at};
+ghost use Rattle.mi_hub.specs.Places.{StandsAt};
+ghost use Rattle.mi_hub.specs.Run.{piece, close, cut, attach, Done, Failed};
+ghost use Rattle.mi_hub.specs.Watching.{has_failed, Writes};
+
+use crate::connection::{Connection, MAX_ATTACHED, place_of};
+use crate::executor::Executor;
+use crate::fault::HubFault;
+use crate::line::LineBuffer;
+use crate::serve::{serve_last, serve_piece};
+use crate::watched::Watched;
+use mi_database::Sessions;
+use std::alloc::Global;
+use std::io::Write;
+use std::marker::Model;
+
+/// A database, who holds its open sessions, and the attached connections.
+#[derive(Drop)]
+pub struct Hub<D: Sessions + Drop> {
+    executor: Executor<D>,
+    connections: Vec<Connection>,
+    alloc: Global,
+}
+
+impl<D: Sessions + Drop> Model for Hub<D> {
+    ghost use Rattle.mi_hub.specs.Run.{HubState};
+
+    ghost Value = { HubState };
+
+    ghost view = { λ h. record { held = h.executor; attached = h.connections.items } };
+}
+
+impl<D: Sessions + Drop> Hub<D> {
+    /// A hub over this database, whose open sessions nobody holds, with no connection.
+    pub fn new(alloc: Global, database: D) -> Hub<D>
+        ensures { result ≡ record { held = record { database = D.state database; holder = None }; attached = [] } }
+    {
+        Hub {
+            executor: Executor::new(alloc, database),
+            connections: Vec::new(alloc),
+            alloc,
+        }
+    }
+
+    /// What is served.
+    pub fn database(&self) -> &D
+        ensures { D.state result.now ≡ self.now.held.database }
+    {
+        self.executor.database()
+    }
+
+    /// A connection comes, with no bytes. The whole room of its longest line is taken here.
+    ///
+    /// Refusals, in this order, each of which changes nothing: `AlreadyAttached`, `TooMany`, `Memory`.
+    pub fn attach(&mut self, conn: u64) -> Result<(), HubFault>
+        ensures ok { OnOk result (Done self.old (attach conn) [] self.new) }
+        ensures refused { OnErr result (self.new ≡ self.old) }
+        ensures already { (result ≡ Err HubFault.AlreadyAttached) ↔ IsSome (rest_at conn self.old.attached) }
+        ensures full { (result ≡ Err HubFault.TooMany) ↔ (rest_at conn self.old.attached ≡ None) × (MAX_ATTACHED ≤ length self.old.attached) }
+        ensures no_other { (result ≢ Err HubFault.NotAttached) × (result ≢ Err HubFault.Write) }
+    {
+        if self.place(conn).is_some() {
+            return Err(HubFault::AlreadyAttached);
+        }
+        if self.connections.len() >= MAX_ATTACHED {
+            return Err(HubFault::TooMany);
+        }
+        let Ok(rest) = LineBuffer::new(self.alloc) else {
+            return Err(HubFault::Memory);
+        };
+        match self.connections.push(Connection { id: conn, rest }) {
+            Ok(()) => Ok(()),
+            Err(_) => Err(HubFault::Memory),
+        }
+    }
+
+    /// A piece of a connection's bytes: each line that ends in it is answered.
+    ///
+    /// `NotAttached` changes nothing. After `Write` the connection has been cut.
+    pub(crate) fn feed<W: Write>(
+        &mut self,
+        conn: u64,
+        bytes: &[u8],
+        writer: &mut Watched<W>,
+    ) -> Result<(), HubFault>
+        ensures ok { OnOk result ((out : List ℕ) × Writes W.contents writer.old writer.new out × Done self.old (piece conn bytes.now) out self.new) }
+        ensures sound { OnOk result (has_failed writer.new ≡ has_failed writer.old) }
+        ensures not_attached { (result ≡ Err HubFault.NotAttached) ↔ (rest_at conn self.old.attached ≡ None) }
+        ensures unchanged { result ≡ Err HubFault.NotAttached → (self.new ≡ self.old) × (writer.new ≡ writer.old) }
+        ensures write { result ≡ Err HubFault.Write → (out : List ℕ) × Writes W.contents writer.old writer.new out × Failed self.old (piece conn bytes.now) out self.new }
+        ensures failed { result ≡ Err HubFault.Write → has_failed writer.new ≡ true }
+        ensures no_other { OnErr result ((result ≡ Err HubFault.NotAttached) ⊎ (result ≡ Err HubFault.Write)) }
+    {
+        let Some(at) = self.place(conn) else {
+            return Err(HubFault::NotAttached);
+        };
+        match serve_piece(
+            &mut self.executor,
+            conn,
+            &mut self.connections[at].rest,
+            bytes,
+            writer,
+        ) {
+            Ok(()) => Ok(()),
+            Err(_) => {
+                self.leave(at, conn);
+                Err(HubFault::Write)
+            }
+        }
+    }
+
+    /// A connection's bytes end: its last line is answered, then the sessions that it holds are undone and it is gone.
+    ///
+    /// `NotAttached` changes nothing. After `Write` the connection has been cut.
+    pub(crate) fn close<W: Write>(
+        &mut self,
+        conn: u64,
+        writer: &mut Watched<W>,
+    ) -> Result<(), HubFault>
+        ensures ok { OnOk result ((out : List ℕ) × Writes W.contents writer.old writer.new out × Done self.old (close conn) out self.new) }
+        ensures sound { OnOk result (has_failed writer.new ≡ has_failed writer.old) }
+        ensures not_attached { (result ≡ Err HubFault.NotAttached) ↔ (rest_at conn self.old.attached ≡ None) }
+        ensures unchanged { result ≡ Err HubFault.NotAttached → (self.new ≡ self.old) × (writer.new ≡ writer.old) }
+        ensures write { result ≡ Err HubFault.Write → (out : List ℕ) × Writes W.contents writer.old writer.new out × Failed self.old (close conn) out self.new }
+        ensures failed { result ≡ Err HubFault.Write → has_failed writer.new ≡ true }
+        ensures no_other { OnErr result ((result ≡ Err HubFault.NotAttached) ⊎ (result ≡ Err HubFault.Write)) }
+    {
+        let Some(at) = self.place(conn) else {
+            return Err(HubFault::NotAttached);
+        };
+        let served = serve_last(&mut self.executor, conn, &self.connections[at].rest, writer);
+        self.leave(at, conn);
+        match served {
+            Ok(()) => Ok(()),
+            Err(_) => Err(HubFault::Write),
+        }
+    }
+
+    /// A connection goes away with nothing more asked: the sessions that it holds are undone. It takes no memory.
+    ///
+    /// `NotAttached` changes nothing.
+    pub(crate) fn cut(&mut self, conn: u64) -> Result<(), HubFault>
+        ensures ok { OnOk result (Done self.old (cut conn) [] self.new) }
+        ensures not_attached { (result ≡ Err HubFault.NotAttached) ↔ (rest_at conn self.old.attached ≡ None) }
+        ensures refused { OnErr result ((result ≡ Err HubFault.NotAttached) × (self.new ≡ self.old)) }
+    {
+        let Some(at) = self.place(conn) else {
+            return Err(HubFault::NotAttached);
+        };
+        self.leave(at, conn);
+        Ok(())
+    }
+
+    /// Where a connection stands.
+    fn place(&self, conn: u64) -> Option<usize>
+        ensures { MatchOption result (rest_at conn self.now.attached ≡ None) (λ i. StandsAt conn i self.now.attached) }
+    {
+        place_of(self.connections.as_slice(), conn)
+    }
+
+    /// The connection at this place goes away.
+    fn leave(&mut self, at: usize, conn: u64)
+        requires { at < length self.old.attached }
+        ensures { self.new ≡ record { held = released conn self.old.held; attached = remove self.old.attached at } }
+    {
+        self.connections.remove(at);
+        self.executor.release(conn);
+    }
+
+    /// No rest that is kept is over-long. It changes nothing.
+    pub(crate) fn keeps_limit(&self, conn: u64)
+        ensures { IfSome (rest_at conn self.now.attached) (λ r. extended r [] ≡ r) }
+    {
+        if let Some(at) = self.place(conn) {
+            self.connections[at].rest.keeps_limit();
+        }
+    }
+}

@@ -1,0 +1,20 @@
+//! Connections that share one database by turns: lines out of bytes, answers in order, and who holds the open sessions.
+//! It knows the database by its trait alone, and of readers and writers only what they say that they gave and took.
+#![tactic(auto)]
+
+mod connection;
+mod executor;
+mod fault;
+mod holder;
+mod hub;
+pub mod laws;
+mod line;
+mod send;
+mod serve;
+mod stream;
+mod watched;
+
+pub use fault::{HubFault, ServeFault};
+pub use hub::Hub;
+pub use stream::serve_stream;
+pub use watched::Watched;

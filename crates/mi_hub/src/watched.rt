@@ -1,0 +1,84 @@
+//! A reader or writer that remembers whether it has failed.
+ghost use Rattle.std.specs.Prelude.{◌≡◌, ◌≤◌, ◌<◌, ◌==◌, ◌||◌, ◌&&◌, nat_lt, is_ok, not, false, true, length, IfOk, MatchResult};
+ghost use Rattle.std.specs.Io.{ReadsAtMost, WritesAtMost};
+ghost use Rattle.std.specs.Io.KnownBytes.{ReadConsumes, WriteAppends, Keeps};
+
+use std::io;
+use std::io::{Read, Write};
+
+#[derive(Drop)]
+pub struct Watched<T> {
+    inner: T,
+    failed: bool,
+}
+
+impl<T> Watched<T> {
+    ghost use Rattle.mi_hub.specs.Watching.{watched, has_failed};
+
+    pub fn new(inner: T) -> Watched<T>
+        ensures inner { watched result ≡ inner }
+        ensures sound { has_failed result ≡ false }
+    {
+        Watched {
+            inner,
+            failed: false,
+        }
+    }
+
+    pub fn inner(&self) -> &T
+        ensures { result.now ≡ watched self.now }
+    {
+        &self.inner
+    }
+
+    /// Whether a read has answered an error, or a write of one or more bytes an error or 0.
+    pub fn failed(&self) -> bool
+        ensures { result ≡ has_failed self.now }
+    {
+        self.failed
+    }
+}
+
+impl<R: Read> Read for Watched<R> {
+    ghost use Rattle.mi_hub.specs.Watching.{watched, has_failed};
+
+    ghost remaining = { λ w. R.remaining (watched w) };
+
+    fn read(&mut self, buf: &mut [u8]) -> io::Result<usize>
+        ensures bound { ReadsAtMost result buf.new }
+        ensures bytes { ReadConsumes (R.remaining (watched self.old)) (R.remaining (watched self.new)) result buf.new }
+        ensures failed { has_failed self.new ≡ (has_failed self.old || not (is_ok result)) }
+    {
+        let result = self.inner.read(buf);
+        if result.is_err() {
+            self.failed = true;
+        }
+        result
+    }
+}
+
+impl<W: Write> Write for Watched<W> {
+    ghost use Rattle.mi_hub.specs.Watching.{watched, has_failed, takes_none};
+
+    ghost contents = { λ w. W.contents (watched w) };
+
+    fn write(&mut self, buf: &[u8]) -> io::Result<usize>
+        ensures bound { WritesAtMost result buf.now }
+        ensures bytes { WriteAppends (W.contents (watched self.old)) (W.contents (watched self.new)) result buf.now }
+        ensures failed { has_failed self.new
+            ≡ (has_failed self.old || (nat_lt 0 (length buf.now) && takes_none result)) }
+    {
+        let result = self.inner.write(buf);
+        if !buf.is_empty() && !matches!(&result, Ok(n) if *n > 0) {
+            self.failed = true;
+        }
+        result
+    }
+
+    fn flush(&mut self) -> io::Result<()>
+        ensures bytes { Keeps (W.contents (watched self.old)) (W.contents (watched self.new)) }
+        ensures failed { has_failed self.new ≡ has_failed self.old }
+    {
+        self.inner.flush()
+    }
+}

@@ -1,0 +1,10 @@
+pub mod Answers
+pub mod Binding
+pub mod Commands
+pub mod Json
+pub mod Lines
+pub mod ObjectCode
+pub mod Replies
+pub mod ReplyJson
+pub mod Rows
+pub mod Text

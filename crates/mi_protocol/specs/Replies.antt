@@ -1,0 +1,74 @@
+-- What replies say, and their text, without a newline.
+use Rattle.std.specs.Prelude.{ℕ, ◌<◌, List, ◌++◌, length, Bool, true, false, codes, decimal}
+use Rattle.serde_json.specs.Data.{boolean, object, no_members, member}
+use Rattle.serde_json.specs.Written.{compact_text}
+use Rattle.mi_value.specs.Words.{word_of}
+use Rattle.mi_value.specs.declared.refusal.Refusal.{Refusal}
+use Rattle.mi_value.specs.declared.refusal.Refusal.TheVariants.{Unique, Lost}
+use Rattle.mi_value.specs.declared.value.Value.{Value}
+use Rattle.mi_schema.specs.Shape.{CatalogShape, schema_at, index_at}
+use Rattle.mi_protocol.specs.Rows.{row_members}
+use Rattle.mi_protocol.specs.declared.reply.Reply.{Reply}
+use Rattle.mi_protocol.specs.declared.reply.Reply.TheVariants as reply
+
+-- what a reply says: the id of an inserted record, a record of a table, a revision, or why a command over a table is refused
+pub data Said : Type 0 where
+  inserted : ℕ → Said
+  shown : ℕ → ℕ → List Value → Said
+  revised : ℕ → Said
+  refused : ℕ → Refusal → Said
+
+-- what a reply of the code says
+abbrev pub said : Reply → Said
+said (reply.Inserted id) = inserted id
+said (reply.Shown table id row) = shown table id row.now
+said (reply.Revised revision) = revised revision
+said (reply.Refused table refusal) = refused table refusal
+
+-- the name of an index of a table
+abbrev pub index_name : CatalogShape → ℕ → ℕ → List ℕ
+index_name c n x = (index_at (schema_at c n) x).name
+
+-- the start of the text of a conflict, up to the index's name
+abbrev pub conflict_text : CatalogShape → ℕ → ℕ → ℕ → List ℕ
+conflict_text c n x id = codes "{\"error\":\"unique\",\"id\":" ++ decimal id ++ codes ",\"index\":\"" ++ index_name c n x
+
+-- a refusal names the conflict of a unique index; a record that a modify lost is marked
+abbrev pub refusal_text : CatalogShape → ℕ → Refusal → List ℕ
+refusal_text c n (Unique x id) = conflict_text c n x id ++ codes "\",\"ok\":false}"
+refusal_text c n (Lost x id) = conflict_text c n x id ++ codes "\",\"lost\":true,\"ok\":false}"
+refusal_text c n e = codes "{\"error\":\"" ++ word_of e ++ codes "\",\"ok\":false}"
+
+-- the text of a reply: compact JSON, the members in the order of their names' bytes
+abbrev pub reply_text : CatalogShape → Said → List ℕ
+reply_text c (inserted id) = codes "{\"id\":" ++ decimal id ++ codes ",\"ok\":true}"
+reply_text c (shown n id row) =
+    compact_text (object (member (codes "ok") (boolean true) (member (codes "row") (object (row_members (schema_at c n).columns id row)) no_members)))
+reply_text c (revised n) = codes "{\"ok\":true,\"revision\":" ++ decimal n ++ codes "}"
+reply_text c (refused n e) = refusal_text c n e
+
+-- a refusal other than a conflict
+abbrev pub NamesNoIndex : Refusal → Type 0
+NamesNoIndex (Unique x id) = ⊥
+NamesNoIndex (Lost x id) = ⊥
+NamesNoIndex e = Unit {0}
+
+-- a conflict's table and index are there
+abbrev pub IsRefusalOf : CatalogShape → ℕ → Refusal → Type 0
+IsRefusalOf c n (Unique x id) = (n < length c.tables) × (x < length (schema_at c n).indexes)
+IsRefusalOf c n (Lost x id) = (n < length c.tables) × (x < length (schema_at c n).indexes)
+IsRefusalOf c n e = Unit {0}
+
+-- the table, and the index of a conflict, are there
+abbrev pub IsSaidOf : CatalogShape → Said → Type 0
+IsSaidOf c (inserted id) = Unit {0}
+IsSaidOf c (shown n id row) = n < length c.tables
+IsSaidOf c (revised n) = Unit {0}
+IsSaidOf c (refused n e) = IsRefusalOf c n e
+
+-- a reply with no row
+abbrev pub is_short : Said → Bool
+is_short (inserted id) = true
+is_short (shown n id row) = false
+is_short (revised n) = true
+is_short (refused n e) = true

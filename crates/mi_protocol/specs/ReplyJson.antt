@@ -1,0 +1,32 @@
+-- The JSON object that each reply is.
+use Rattle.std.specs.Prelude.{◌≡◌, ℕ, true, false, IsTrue, codes}
+use Rattle.serde_json.specs.Data.{Data, boolean, number, unsigned, string, object, no_members, member}
+use Rattle.serde_json.specs.Written.{compact_text}
+use Rattle.mi_value.specs.Words.{word_of}
+use Rattle.mi_value.specs.declared.refusal.Refusal.{Refusal}
+use Rattle.mi_value.specs.declared.refusal.Refusal.TheVariants.{Unique, Lost}
+use Rattle.mi_schema.specs.Shape.{CatalogShape, schema_at}
+use Rattle.mi_schema.specs.Rules.{is_catalog}
+use Rattle.mi_protocol.specs.Rows.{row_members}
+use Rattle.mi_protocol.specs.Replies.{Said, inserted, shown, revised, refused, index_name, reply_text, IsSaidOf}
+
+-- the object of a refusal
+abbrev pub refusal_data : CatalogShape → ℕ → Refusal → Data
+refusal_data c n (Unique x id) =
+    object (member (codes "error") (string (codes "unique")) (member (codes "id") (number (unsigned id)) (member (codes "index") (string (index_name c n x))
+    (member (codes "ok") (boolean false) no_members))))
+refusal_data c n (Lost x id) =
+    object (member (codes "error") (string (codes "unique")) (member (codes "id") (number (unsigned id)) (member (codes "index") (string (index_name c n x))
+    (member (codes "lost") (boolean true) (member (codes "ok") (boolean false) no_members)))))
+refusal_data c n e = object (member (codes "error") (string (word_of e)) (member (codes "ok") (boolean false) no_members))
+
+-- the object of a reply
+abbrev pub reply_data : CatalogShape → Said → Data
+reply_data c (inserted id) = object (member (codes "id") (number (unsigned id)) (member (codes "ok") (boolean true) no_members))
+reply_data c (shown n id row) = object (member (codes "ok") (boolean true) (member (codes "row") (object (row_members (schema_at c n).columns id row)) no_members))
+reply_data c (revised n) = object (member (codes "ok") (boolean true) (member (codes "revision") (number (unsigned n)) no_members))
+reply_data c (refused n e) = refusal_data c n e
+
+-- the text of each reply is the compact text of its object
+abbrev pub RepliesAreCompactJson : Type 0
+RepliesAreCompactJson = (c : CatalogShape) (s : Said) → IsTrue (is_catalog c) → IsSaidOf c s → reply_text c s ≡ compact_text (reply_data c s)

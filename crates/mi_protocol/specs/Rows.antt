@@ -1,0 +1,46 @@
+-- Rows: the values that the members of an object are, and the object that a record's values are.
+use Rattle.std.specs.Prelude.{ℕ, List, [], ◌∷◌, length, map, nat_le, if◌then◌else◌, Option, Some, None, option_map, option_and_then, codes}
+use Rattle.serde_json.specs.Data.{Data, boolean, number, unsigned, string, Members, no_members, put}
+use Rattle.serde_json.specs.Find.{get_member, as_number, as_str, as_bool, as_i64, of_integer}
+use Rattle.mi_value.specs.declared.limits.TheConstants.{MAX_TEXT}
+use Rattle.mi_value.specs.declared.value.ColumnType.{ColumnType}
+use Rattle.mi_value.specs.declared.value.ColumnType.TheVariants as column
+use Rattle.mi_value.specs.declared.value.Value.{Value}
+use Rattle.mi_value.specs.declared.value.Value.TheVariants as value
+use Rattle.mi_schema.specs.declared.index.Column.{Column}
+use Rattle.mi_protocol.specs.Json.{has_only, option_map₂}
+
+-- a text value, unless it is too long
+abbrev pub short_text : List ℕ → Option Value
+short_text t = if nat_le (length t) MAX_TEXT then Some (value.Text t) else None
+
+-- the value that a JSON value is in a column of this type, if it fits: a whole number, a text, or true or false
+abbrev pub fitting : ColumnType → Data → Option Value
+fitting column.Int d = option_map value.Int (option_and_then as_i64 (as_number d))
+fitting column.Text d = option_and_then short_text (as_str d)
+fitting column.Flag d = option_map value.Flag (as_bool d)
+
+-- the value of each column, from the member of its name; none where one is missing or doesn't fit
+abbrev pub values_of : List Column → Members → Option (List Value)
+values_of [] ms = Some []
+values_of (c ∷ cs) ms = option_map₂ (λ v vs. v ∷ vs) (option_and_then (fitting c.kind) (get_member c.name ms)) (values_of cs ms)
+
+-- the values of a row whose members are exactly the columns, each with a value that fits
+abbrev pub bound_row : List Column → Members → Option (List Value)
+bound_row cs ms = if has_only (map (λ c. c.name) cs) ms then values_of cs ms else None
+
+-- a value as JSON
+abbrev pub value_data : Value → Data
+value_data (value.Int n) = number (of_integer n)
+value_data (value.Text t) = string t
+value_data (value.Flag b) = boolean b
+
+-- the members with one for each column
+abbrev pub with_values : List Column → List Value → Members → Members
+with_values [] vs ms = ms
+with_values (c ∷ cs) [] ms = ms
+with_values (c ∷ cs) (v ∷ vs) ms = with_values cs vs (put c.name (value_data v) ms)
+
+-- the members of a row: `id` and all columns, in the order of their names' bytes
+abbrev pub row_members : List Column → ℕ → List Value → Members
+row_members cs id vs = with_values cs vs (put (codes "id") (number (unsigned id)) no_members)

@@ -1,0 +1,21 @@
+//! The wire: command lines to requests, requests to commands over a catalog, replies to text.
+//! It knows the grammar and nothing of tables' rows, sessions or connections; it reads and writes no stream.
+#![tactic(auto)]
+
+mod binding;
+mod command;
+mod laws;
+mod object;
+mod reply;
+mod request;
+mod row;
+#[cfg(test)]
+mod tests;
+mod text;
+
+pub use binding::{Command, bind};
+pub use laws::replies_are_compact_json;
+pub use object::Object;
+pub use reply::Reply;
+pub use request::{Place, Request, parse_line};
+pub use text::ReplyText;

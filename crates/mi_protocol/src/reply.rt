@@ -1,0 +1,126 @@
+//! Replies and their text. Only a reply that shows a row takes memory; the others stand in a buffer of 128 bytes.
+ghost use Rattle.std.specs.Prelude.{◌≡◌, ◌+◌, ◌≤◌, ◌<◌, ◌++◌, length, codes, decimal, true, IfOk, IfErr, IsOk};
+ghost use Rattle.arrayvec.specs.ArrayVec.{array_vec_len};
+ghost use Rattle.mi_value.specs.declared.limits.TheConstants.{MAX_NAME, SHORT_REPLY};
+ghost use Rattle.mi_protocol.specs.Replies as replies;
+ghost use Rattle.mi_protocol.specs.Replies.{reply_text, said, is_short, index_name, IsSaidOf, IsRefusalOf};
+ghost use Rattle.mi_protocol.specs.Text.{text_bytes};
+
+use crate::row::row_text;
+use crate::text::ReplyText;
+use arrayvec::ArrayVec;
+use itoa::Buffer;
+use mi_schema::Catalog;
+use mi_value::limits::SHORT_REPLY;
+use mi_value::{Record, Refusal};
+use std::alloc::Global;
+
+/// What a command is answered. `table` is the number of the table that the command is over; of a refusal it matters for a
+/// conflict alone.
+#[derive(Debug, Drop)]
+pub enum Reply<'a> {
+    /// The id of the record that an insert added.
+    Inserted(u64),
+    /// A record of a table, by its id.
+    Shown {
+        table: usize,
+        id: u64,
+        row: &'a Record,
+    },
+    /// The revision that a session command left.
+    Revised(u64),
+    /// Why a command is refused.
+    Refused {
+        table: usize,
+        refusal: Refusal,
+    },
+}
+
+/// Adds bytes that fit.
+fn put(out: &mut ArrayVec<u8, SHORT_REPLY>, bytes: &[u8])
+    requires { array_vec_len out.old + length bytes.now ≤ SHORT_REPLY }
+    ensures items { out.new.items ≡ out.old.items ++ bytes.now }
+    ensures len { array_vec_len out.new ≡ array_vec_len out.old + length bytes.now }
+{
+    out.try_extend_from_slice(bytes).unwrap();
+}
+
+/// A text with a part in it that is given.
+fn short(before: &[u8], part: &[u8], after: &[u8]) -> ReplyText
+    requires { length before.now + length part.now + length after.now ≤ SHORT_REPLY }
+    ensures { text_bytes result ≡ before.now ++ part.now ++ after.now }
+{
+    let mut out = ArrayVec::new();
+    put(&mut out, before);
+    put(&mut out, part);
+    put(&mut out, after);
+    ReplyText::Short(out)
+}
+
+/// A text with a number in it.
+fn short_number(before: &[u8], n: u64, after: &[u8]) -> ReplyText
+    requires { length before.now + length after.now + 20 ≤ SHORT_REPLY }
+    ensures { text_bytes result ≡ before.now ++ decimal n ++ after.now }
+{
+    let mut buffer = Buffer::new();
+    short(before, buffer.format(n).as_bytes(), after)
+}
+
+/// The text of a conflict with the record of this id in the index of this name.
+fn conflict(id: u64, index: &str, after: &[u8]) -> ReplyText
+    requires index { length index.now ≤ MAX_NAME }
+    requires after { length after.now ≤ 32 }
+    ensures { text_bytes result ≡ codes "{\"error\":\"unique\",\"id\":" ++ decimal id ++ codes ",\"index\":\"" ++ index.now ++ after.now }
+{
+    let mut buffer = Buffer::new();
+    let mut out = ArrayVec::new();
+    put(&mut out, b"{\"error\":\"unique\",\"id\":");
+    put(&mut out, buffer.format(id).as_bytes());
+    put(&mut out, b",\"index\":\"");
+    put(&mut out, index.as_bytes());
+    put(&mut out, after);
+    ReplyText::Short(out)
+}
+
+/// The text of a refusal. It takes no memory.
+fn refusal_text(catalog: &Catalog, table: usize, refusal: Refusal) -> ReplyText
+    requires { IsRefusalOf catalog.now table refusal }
+    ensures { text_bytes result ≡ replies.refusal_text catalog.now table refusal }
+{
+    match refusal {
+        Refusal::Unique { index, id } => {
+            let name = catalog.table(table).index_name(index);
+            conflict(id, name, b"\",\"ok\":false}")
+        }
+        Refusal::Lost { index, id } => {
+            let name = catalog.table(table).index_name(index);
+            conflict(id, name, b"\",\"lost\":true,\"ok\":false}")
+        }
+        other => short(
+            b"{\"error\":\"",
+            other.word().as_bytes(),
+            b"\",\"ok\":false}",
+        ),
+    }
+}
+
+impl Reply<'_> {
+    /// The text of a reply, without a newline. Its table, and the index of a conflict, are in the catalog. It answers
+    /// `Memory` where a growth is refused; a reply that shows no row takes no memory.
+    pub fn text(&self, alloc: Global, catalog: &Catalog) -> Result<ReplyText, Refusal>
+        requires { IsSaidOf catalog.now (said self.now) }
+        ensures text { IfOk result (λ t. text_bytes t ≡ reply_text catalog.now (said self.now)) }
+        ensures short { is_short (said self.now) ≡ true → IsOk result }
+        ensures memory { IfErr result (λ e. e ≡ Refusal.Memory) }
+    {
+        match self {
+            Reply::Inserted(id) => Ok(short_number(b"{\"id\":", *id, b",\"ok\":true}")),
+            Reply::Shown { table, id, row } => {
+                let columns = catalog.table(*table).columns();
+                Ok(ReplyText::Long(row_text(alloc, *id, row, columns)?))
+            }
+            Reply::Revised(n) => Ok(short_number(b"{\"ok\":true,\"revision\":", *n, b"}")),
+            Reply::Refused { table, refusal } => Ok(refusal_text(catalog, *table, *refusal)),
+        }
+    }
+}

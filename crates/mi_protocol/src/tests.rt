@@ -1,0 +1,220 @@
+//! Worked lines and replies over the schema of accounts.
+ghost use Rattle.std.specs.Prelude.{◌≡◌, [], ◌∷◌, IfOk};
+ghost use Rattle.mi_schema.specs.Accounts.{accounts};
+ghost use Rattle.mi_protocol.specs.Replies.{said, IsSaidOf};
+ghost use Rattle.mi_protocol.specs.declared.reply.Reply.TheVariants as replies;
+
+use crate::{Command, Reply, bind, parse_line};
+use mi_schema::{Catalog, built_in};
+use mi_value::{Record, Refusal, Text, Value};
+use std::alloc::{AllocError, Global};
+use std::process::Abort;
+use std::test::Fail;
+
+fn catalog_of_accounts(alloc: Global) -> Result<Catalog, AllocError>
+    ensures { IfOk result (λ c. c ≡ record { tables = accounts ∷ []; first_revision = 0 }) }
+{
+    Catalog::of(alloc, built_in(alloc)?)
+}
+
+fn account(alloc: Global, owner: &str, balance: i64, vip: bool) -> Result<Record, AllocError> {
+    let owner = Value::Text(Text::of(alloc, owner)?);
+    Ok(Record::new(vec![in alloc; owner, Value::Int(balance), Value::Flag(vip)]?))
+}
+
+fn command_of(alloc: Global, line: &[u8], catalog: &Catalog) -> Result<Command, Refusal> {
+    bind(alloc, parse_line(alloc, line)?, catalog)
+}
+
+/// The refusal's word, or `ok`.
+fn verdict(alloc: Global, line: &[u8], catalog: &Catalog) -> &'static str {
+    match command_of(alloc, line, catalog) {
+        Ok(_command) => "ok",
+        Err(refusal) => refusal.word(),
+    }
+}
+
+/// The line of an insert whose owner has n letters.
+fn insert_of_owner(alloc: Global, n: usize) -> Result<Vec<u8>, AllocError> {
+    let mut line = Vec::from_slice(
+        alloc,
+        b"{\"cmd\":\"insert\",\"row\":{\"balance\":1,\"vip\":true,\"owner\":\"",
+    )?;
+    line.extend_from_slice(vec![in alloc; b'a'; n]?.as_slice())?;
+    line.extend_from_slice(b"\"}}")?;
+    Ok(line)
+}
+
+fn brackets(alloc: Global, n: usize) -> Result<Vec<u8>, AllocError> {
+    let mut line = vec![in alloc; b'['; n]?;
+    line.extend_from_slice(vec![in alloc; b']'; n]?.as_slice())?;
+    Ok(line)
+}
+
+#[test]
+fn lines_are_commands_or_refused(rt: HostRuntime) -> Result<(), Fail> {
+    let alloc = rt.alloc();
+    let catalog = catalog_of_accounts(alloc)?;
+    for (line, want) in [
+        ("{\"cmd\":\"undo\"", "json"),
+        ("[]", "form"),
+        ("{\"cmd\":\"fly\"}", "form"),
+        ("{\"cmd\":\"get\",\"id\":0,\"x\":1}", "form"),
+        ("{ \"cmd\" : \"undo\" }", "ok"),
+        ("{\"cmd\":\"undo\"}", "ok"),
+        ("{\"cmd\":\"start\"}", "ok"),
+        ("{\"cmd\":\"start\",\"table\":\"a\"}", "form"),
+        ("{\"cmd\":\"get\",\"id\":0}", "ok"),
+        ("{\"cmd\":\"get\",\"id\":-1}", "form"),
+        ("{\"cmd\":\"get\",\"id\":9223372036854775807}", "ok"),
+        ("{\"cmd\":\"get\",\"id\":9223372036854775808}", "form"),
+        ("{\"cmd\":\"get\",\"table\":\"accounts\",\"id\":0}", "ok"),
+        ("{\"cmd\":\"get\",\"table\":\"c\",\"id\":0}", "table"),
+        ("{\"cmd\":\"insert\"}", "form"),
+    ] {
+        assert_eq!(rt; verdict(alloc, line.as_bytes(), &catalog), want, "{line}");
+    }
+    assert_eq!(rt; verdict(alloc, b"\xff", &catalog), "json");
+    assert_eq!(rt;
+        verdict(alloc, brackets(alloc, 100)?.as_slice(), &catalog),
+        "form"
+    );
+    assert_eq!(rt;
+        verdict(alloc, brackets(alloc, 1000)?.as_slice(), &catalog),
+        "json"
+    );
+    Ok(())
+}
+
+#[test]
+fn inserts_are_bound_or_refused(rt: HostRuntime) -> Result<(), Fail> {
+    let alloc = rt.alloc();
+    let catalog = catalog_of_accounts(alloc)?;
+    for (rest, want) in [
+        ("\"balance\":50,\"vip\":false}}", "ok"),
+        ("\"balance\":50,\"vip\":false},\"before\":null}", "ok"),
+        (
+            "\"balance\":50,\"vip\":false},\"before\":{\"index\":\"line\",\"id\":1}}",
+            "ok",
+        ),
+        (
+            "\"balance\":50,\"vip\":false},\"before\":{\"index\":\"by_vip\",\"id\":1}}",
+            "kind",
+        ),
+        (
+            "\"balance\":50,\"vip\":false},\"before\":{\"index\":\"none\",\"id\":1}}",
+            "index",
+        ),
+        ("\"balance\":50,\"vip\":false},\"before\":7}", "form"),
+        (
+            "\"balance\":50},\"before\":{\"index\":\"none\",\"id\":1}}",
+            "index",
+        ),
+        ("\"balance\":50}}", "row"),
+        ("\"balance\":50,\"vip\":false,\"x\":1}}", "row"),
+        ("\"balance\":1.5,\"vip\":false}}", "row"),
+        ("\"balance\":9223372036854775808,\"vip\":false}}", "row"),
+    ] {
+        let line = format!(in alloc; "{{\"cmd\":\"insert\",\"row\":{{\"owner\":\"ann\",{rest}")?;
+        assert_eq!(rt; verdict(alloc, line.as_bytes(), &catalog), want, "{rest}");
+    }
+    assert_eq!(rt;
+        verdict(alloc, insert_of_owner(alloc, 1024)?.as_slice(), &catalog),
+        "ok"
+    );
+    assert_eq!(rt;
+        verdict(alloc, insert_of_owner(alloc, 1025)?.as_slice(), &catalog),
+        "row"
+    );
+    Ok(())
+}
+
+fn assert_text(rt: &impl Abort, alloc: Global, catalog: &Catalog, given: &Reply<'_>, want: &str)
+    requires { IsSaidOf catalog.now (said given.now) }
+{
+    let text = given.text(alloc, catalog).expect(rt, "memory is there");
+    assert_eq!(rt; text.as_slice(), want.as_bytes(), "{want}");
+}
+
+fn refused(refusal: Refusal) -> Reply<'static>
+    ensures { result ≡ replies.Refused 0 refusal }
+{
+    Reply::Refused { table: 0, refusal }
+}
+
+#[test]
+fn replies_have_their_texts(rt: HostRuntime) -> Result<(), Fail> {
+    let alloc = rt.alloc();
+    let catalog = catalog_of_accounts(alloc)?;
+    let ann = account(alloc, "ann", 50, false)?;
+    let escaped = account(alloc, "\u{1}\"\\", -7, true)?;
+    let unique = Refusal::Unique { index: 1, id: 0 };
+    let lost = Refusal::Lost { index: 1, id: 0 };
+    let shown = Reply::Shown {
+        table: 0,
+        id: 0,
+        row: &ann,
+    };
+    let escapes = Reply::Shown {
+        table: 0,
+        id: 0,
+        row: &escaped,
+    };
+    assert_text(
+        &rt,
+        alloc,
+        &catalog,
+        &Reply::Inserted(0),
+        "{\"id\":0,\"ok\":true}",
+    );
+    assert_text(
+        &rt,
+        alloc,
+        &catalog,
+        &Reply::Revised(1),
+        "{\"ok\":true,\"revision\":1}",
+    );
+    assert_text(
+        &rt,
+        alloc,
+        &catalog,
+        &shown,
+        "{\"ok\":true,\"row\":{\"balance\":50,\"id\":0,\"owner\":\"ann\",\"vip\":false}}",
+    );
+    assert_text(
+        &rt,
+        alloc,
+        &catalog,
+        &escapes,
+        "{\"ok\":true,\"row\":{\"balance\":-7,\"id\":0,\"owner\":\"\\u0001\\\"\\\\\",\"vip\":true}}",
+    );
+    assert_text(
+        &rt,
+        alloc,
+        &catalog,
+        &refused(Refusal::NoId),
+        "{\"error\":\"id\",\"ok\":false}",
+    );
+    assert_text(
+        &rt,
+        alloc,
+        &catalog,
+        &refused(Refusal::Memory),
+        "{\"error\":\"memory\",\"ok\":false}",
+    );
+    assert_text(
+        &rt,
+        alloc,
+        &catalog,
+        &refused(unique),
+        "{\"error\":\"unique\",\"id\":0,\"index\":\"by_owner\",\"ok\":false}",
+    );
+    assert_text(
+        &rt,
+        alloc,
+        &catalog,
+        &refused(lost),
+        "{\"error\":\"unique\",\"id\":0,\"index\":\"by_owner\",\"lost\":true,\"ok\":false}",
+    );
+    Ok(())
+}

@@ -1,0 +1,6 @@
+//! Worked rows through the whole program over memory, failing readers and writers, and each public call once.
+
+mod devices;
+mod faults;
+mod library;
+mod rows;

@@ -1,0 +1,83 @@
+//! Devices that fail in the middle: what was executed, what was written, and the status.
+use super::devices::{AtEnd, Narrow, Pieces};
+use crate::serve::run;
+use mi_database::Sessions;
+use mi_hub::{Hub, HubFault, ServeFault, Watched, serve_stream};
+use mi_plain::Plain;
+use mi_schema::{Catalog, built_in};
+use std::test::Fail;
+
+const TWO_STARTS: &[u8] = b"{\"cmd\":\"start\"}\n{\"cmd\":\"start\"}\n";
+
+/// A read that fails ends the program; what was read before it is answered.
+#[test]
+fn failing_read(rt: HostRuntime) -> Result<(), Fail> {
+    let mut out = Vec::new(rt.alloc());
+    let mut errors = Vec::new(rt.alloc());
+    let input = Pieces {
+        left: b"{\"cmd\":\"start\"}\n{\"cmd\":\"st",
+        size: 7,
+        sound: false,
+    };
+    let status = run(rt.alloc(), input, &mut out, &mut errors);
+    assert_eq!(rt; status, 4);
+    assert_eq!(rt;
+        out.as_slice(),
+        b"{\"ok\":true,\"revision\":1}\n".as_slice()
+    );
+    assert_eq!(rt; errors.as_slice(), b"fault: read\n".as_slice());
+    Ok(())
+}
+
+/// A write that fails or takes nothing cuts the connection: its line was executed and the later ones not, and what it held is
+/// undone.
+#[test]
+fn failing_write(rt: HostRuntime) -> Result<(), Fail> {
+    for (step, room, at_end) in [(64, 10, AtEnd::Fail), (1, 10, AtEnd::TakeNone)] {
+        let catalog = Catalog::of(rt.alloc(), built_in(rt.alloc())?)?;
+        let mut hub = Hub::new(rt.alloc(), Plain::new(rt.alloc(), catalog)?);
+        assert_eq!(rt; hub.attach(1), Ok(()));
+        assert_eq!(rt; hub.attach(1), Err(HubFault::AlreadyAttached));
+        assert_eq!(rt; hub.attach(2), Err(HubFault::TooMany));
+        let mut reader = Watched::new(Pieces {
+            left: TWO_STARTS,
+            size: 4096,
+            sound: true,
+        });
+        let mut writer = Watched::new(Narrow {
+            taken: Vec::new(rt.alloc()),
+            step,
+            room,
+            at_end,
+        });
+        let served = serve_stream(&mut hub, 1, &mut reader, &mut writer);
+        assert_eq!(rt; served, Err(ServeFault::Write));
+        assert!(rt; writer.failed() && !reader.failed());
+        assert_eq!(rt; writer.inner().taken.as_slice(), b"{\"ok\":true".as_slice());
+        assert_eq!(rt; hub.database().depth(), 0);
+        assert_eq!(rt; hub.database().revision(), 0);
+        assert_eq!(rt; hub.attach(1), Ok(()));
+    }
+    Ok(())
+}
+
+/// A last flush that fails is a write fault of the program.
+#[test]
+fn failing_flush(rt: HostRuntime) -> Result<(), Fail> {
+    let mut errors = Vec::new(rt.alloc());
+    let input = Pieces {
+        left: TWO_STARTS,
+        size: 4096,
+        sound: true,
+    };
+    let output = Narrow {
+        taken: Vec::new(rt.alloc()),
+        step: 64,
+        room: 0,
+        at_end: AtEnd::Fail,
+    };
+    let status = run(rt.alloc(), input, output, &mut errors);
+    assert_eq!(rt; status, 4);
+    assert_eq!(rt; errors.as_slice(), b"fault: write\n".as_slice());
+    Ok(())
+}
