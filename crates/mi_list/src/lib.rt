@@ -1,0 +1,8 @@
+//! A doubly linked list through one slot of a pool's nodes.
+//! Safe code over the pool: it holds no node, takes no memory, and writes no slot but its own.
+#![tactic(auto)]
+
+mod ends;
+mod list;
+
+pub use list::List;

@@ -1,0 +1,11 @@
+-- The link that a stored form stands for.
+use Rattle.std.specs.Prelude.{Some, None}
+use Rattle.mi_node.specs.declared.link.Link.{Link}
+use Rattle.mi_node.specs.declared.packed.PackedLink.{PackedLink}
+use Rattle.mi_node.specs.declared.packed.PackedLink.TheVariants.{Neither, Back, Forth, Both}
+
+abbrev pub link_in : PackedLink → Link
+link_in (Neither h n) = record { back = None; forth = None; size = n; height = h }
+link_in (Back h n b) = record { back = Some b; forth = None; size = n; height = h }
+link_in (Forth h n f) = record { back = None; forth = Some f; size = n; height = h }
+link_in (Both h n b f) = record { back = Some b; forth = Some f; size = n; height = h }

@@ -1,0 +1,108 @@
+-- What a contract sees of a `Pool`: a finite map from names to entries, and how many links each entry has.
+--     Entry           where the node lies, its value, and its links by slot
+--     ref_of, value_of, link_of      the reference that `take` gave for a name, its value, its link of a slot
+--     IsHeld, IsHeldIf          this pool's entry of the reference's name has this very reference
+--     no_nodes, taken, without, with_link, with_value      the pool after a call
+--     node_count      how many nodes are held
+--     Keeps           what a change of one structure leaves as it was
+use Rattle.std.specs.Prelude.{◌≡◌, ℕ, zero, suc, false, ◌==◌, List, [], ◌∷◌, Option, Some, None, option_map, slice_index_or, replicate, refl}
+use Rattle.std.specs.Ordering.{nat_cmp}
+use Rattle.std.specs.FinMap.{FinMap, get, insert, remove, empty, len, code}
+use Rattle.std.specs.Coded.{Coded, code_by, coded×, coded_list, coded_ℕ}
+use Rattle.std.specs.Ptr.{Ptr}
+use Rattle.mi_node.specs.Refs.{IsOut}
+use Rattle.mi_node.specs.declared.heap.NodeRef.{NodeRef}
+use Rattle.mi_node.specs.declared.link.Link.{Link}
+use Rattle.mi_node.specs.contracts.heap.NodeRef as node_type
+use Rattle.mi_node.specs.contracts.link.Link as link_type
+
+pub record Entry (T : Type 0) : Type 0 where
+  pub at : Ptr
+  pub value : T
+  pub links : List Link
+
+abbrev pub entry_code : {T : Type 0} → Coded T → Coded (Entry T)
+entry_code {T} t = code_by (NodeRef × (T × List Link)) (coded× node_type.the_row.coded (coded× t (coded_list link_type.the_row.coded)))
+    (λ e. (record { name = 0; at = e.at }, (e.value, e.links))) (λ p. record { at = p.0.at; value = p.1.0; links = p.1.1 }) (λ _. refl)
+
+-- slots: the number of links of each node
+pub record Pooled (T : Type 0) : Type 0 where
+  pub entries : FinMap nat_cmp (Entry T)
+  pub slots : ℕ
+
+abbrev pub pooled_code : {T : Type 0} → Coded T → Coded (Pooled T)
+pooled_code {T} t =
+    code_by (FinMap nat_cmp (Entry T) × ℕ) (coded× (code coded_ℕ (entry_code t)) coded_ℕ) (λ m. (m.entries, m.slots)) (λ p. record { entries = p.0; slots = p.1 }) (λ _. refl)
+
+-- the link of a slot that was never set
+abbrev pub no_link : Link
+no_link = record { back = None; forth = None; size = 0; height = 0 }
+
+-- the links with l in slot s. A list that is too short is filled up, which no pool's is
+abbrev pub put_link : List Link → ℕ → Link → List Link
+put_link [] zero l = l ∷ []
+put_link [] (suc s) l = no_link ∷ put_link [] s l
+put_link (x ∷ xs) zero l = l ∷ xs
+put_link (x ∷ xs) (suc s) l = x ∷ put_link xs s l
+
+-- a pool whose nodes have n links, and that holds none
+unfoldable pub no_nodes : {T : Type 0} → ℕ → Pooled T
+no_nodes n = record { entries = empty; slots = n }
+
+module _ {T : Type 0} where
+  abbrev pub entry_link : Option (Entry T) → ℕ → Link
+  entry_link None s = no_link
+  entry_link (Some e) s = slice_index_or e.links s no_link
+
+  abbrev pub node_at : ℕ → Entry T → NodeRef
+  node_at k e = record { name = k; at = e.at }
+
+  unfoldable pub ref_of : Pooled T → ℕ → Option NodeRef
+  ref_of m k = option_map (node_at k) (get m.entries k)
+
+  unfoldable pub value_of : Pooled T → ℕ → Option T
+  value_of m k = option_map (λ e. e.value) (get m.entries k)
+
+  unfoldable pub link_of : Pooled T → ℕ → ℕ → Link
+  link_of m k s = entry_link (get m.entries k) s
+
+  unfoldable pub node_count : Pooled T → ℕ
+  node_count m = len m.entries
+
+  abbrev pub IsHeld : Pooled T → NodeRef → Type 0
+  IsHeld m r = ref_of m r.name ≡ Some r
+
+  -- the node that is named, if one is, is held
+  abbrev pub IsHeldIf : Pooled T → Option NodeRef → Type 0
+  IsHeldIf m None = Unit {0}
+  IsHeldIf m (Some r) = IsHeld m r
+
+  -- f of the entry of name k
+  abbrev pub changed : FinMap nat_cmp (Entry T) → ℕ → (Entry T → Entry T) → Option (Entry T) → FinMap nat_cmp (Entry T)
+  changed es k f None = es
+  changed es k f (Some e) = insert es k (f e)
+
+  unfoldable pub change : Pooled T → ℕ → (Entry T → Entry T) → Pooled T
+  change m k f = record { entries = changed m.entries k f (get m.entries k); slots = m.slots }
+
+  -- with the node r of the value v, whose links were never set
+  unfoldable pub taken : Pooled T → NodeRef → T → Pooled T
+  taken m r v = record { entries = insert m.entries r.name (record { at = r.at; value = v; links = replicate m.slots no_link }); slots = m.slots }
+
+  -- with no node of name k
+  unfoldable pub without : Pooled T → ℕ → Pooled T
+  without m k = record { entries = remove m.entries k; slots = m.slots }
+
+  unfoldable pub with_link : Pooled T → ℕ → ℕ → Link → Pooled T
+  with_link m k s l = change m k (λ e. record e { links = put_link e.links s l })
+
+  unfoldable pub with_value : Pooled T → ℕ → T → Pooled T
+  with_value m k v = change m k (λ e. record e { value = v })
+
+  -- a call on a structure changed nothing but links of slot s, and those only of nodes among rs
+  pub record Keeps (old new : Pooled T) (s : ℕ) (rs : List NodeRef) : Type 0 where
+    pub refs : (k : ℕ) → ref_of new k ≡ ref_of old k
+    pub values : (k : ℕ) → value_of new k ≡ value_of old k
+    pub slots : new.slots ≡ old.slots
+    pub other_slots : (k t : ℕ) → (s == t) ≡ false → link_of new k t ≡ link_of old k t
+    pub other_nodes : (k t : ℕ) → IsOut k rs → link_of new k t ≡ link_of old k t
