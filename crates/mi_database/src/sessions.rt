@@ -1,16 +1,16 @@
 //! The calls of a database: several tables under one stack of nested sessions. It says what each call answers and leaves,
 //! by the definitions of `mi_model`, and nothing of how rows are kept.
-ghost use Rattle.std.specs.Prelude.{◌≡◌, ◌<◌, length, IsTrue, IfSome, IfErr};
+ghost use Rattle.std.specs.Prelude.{◌≡◌, ◌<◌, true, length, IsTrue, IfSome, IfErr};
 ghost use Rattle.std.specs.Option.{option_copied};
-ghost use Rattle.mi_schema.specs.Fits.{fits_record};
+ghost use Rattle.mi_schema.specs.Fits.{fits_record, fits_key};
 ghost use Rattle.mi_schema.specs.declared.index.IndexKind.TheVariants.{Sequenced};
 ghost use Rattle.mi_model.specs.Table.{get as get_row};
 ghost use Rattle.mi_schema.specs.Shape.{index_at};
 ghost use Rattle.mi_model.specs.Database.{Database, schema_of, table_of, depth as depth_of, start_step, undo_step};
-ghost use Rattle.mi_model.specs.Steps.{Meets, without_value, insert_step};
+ghost use Rattle.mi_model.specs.Steps.{Meets, without_value, insert_step, replace_step, modify_step, erase_step, erase_key_step, relocate_step};
 
 use mi_schema::Catalog;
-use mi_value::{NoSession, Record, Refusal};
+use mi_value::{Edit, NoSession, Record, Refusal, Value};
 use std::alloc::Global;
 
 /// Tables under one stack of nested sessions.
@@ -42,6 +42,70 @@ pub trait Sessions {
         requires before { IfSome before (λ at. (index_at (schema_of (state self.old) table) at.0).kind ≡ Sequenced) }
         ensures outcome { Meets (insert_step table before row (state self.old)) (without_value result) (state self.old) (state self.new) }
         ensures handed_back { IfErr result (λ e. e.1 ≡ row) };
+
+    /// Sets another record for an id. In each index where its key stays, and in each sequenced one, it keeps its place; where
+    /// its key changes it goes last among its new equals.
+    ///
+    /// Refusals, in this order: `NoId`, `Spent` (arrivals), `Unique`, `Memory`. The refused record is handed back.
+    fn replace(
+        &mut self,
+        alloc: Global,
+        table: usize,
+        id: u64,
+        row: Record,
+    ) -> Result<(), (Refusal, Record)>
+        requires table { table < length (state self.old).catalog.tables }
+        requires row { IsTrue (fits_record (schema_of (state self.old) table).columns row) }
+        ensures outcome { Meets (replace_step table id row (state self.old)) (without_value result) (state self.old) (state self.new) }
+        ensures handed_back { IfErr result (λ e. e.1 ≡ row) };
+
+    /// Changes columns of a record, whose places move as by `replace`.
+    ///
+    /// Refusals, in this order: `NoId`, `Range` (a sum leaves 64 bits), `Spent` (arrivals), then where a unique index refuses
+    /// the result `Unique` with `rollback`, which changes nothing, or without it `Lost`, and the record is erased; `Memory`.
+    fn modify(
+        &mut self,
+        alloc: Global,
+        table: usize,
+        id: u64,
+        edits: &[Edit],
+        rollback: bool,
+    ) -> Result<(), Refusal>
+        requires { table < length (state self.old).catalog.tables }
+        ensures { Meets (modify_step table id edits.now rollback (state self.old)) result (state self.old) (state self.new) };
+
+    /// Erases a record. Refusals: `NoId`, `Memory`.
+    fn erase(&mut self, alloc: Global, table: usize, id: u64) -> Result<(), Refusal>
+        requires { table < length (state self.old).catalog.tables }
+        ensures { Meets (erase_step table id (state self.old)) result (state self.old) (state self.new) };
+
+    /// Erases every record with a key in an index that isn't sequenced, and answers how many. The key is whole. Refusal:
+    /// `Memory`.
+    fn erase_key(
+        &mut self,
+        alloc: Global,
+        table: usize,
+        index: usize,
+        key: &[Value],
+    ) -> Result<u64, Refusal>
+        requires table { table < length (state self.old).catalog.tables }
+        requires index { index < length (schema_of (state self.old) table).indexes }
+        requires key { IsTrue (fits_key (schema_of (state self.old) table).columns (index_at (schema_of (state self.old) table) index).parts true key.now) }
+        ensures { Meets (erase_key_step table index key.now (state self.old)) result (state self.old) (state self.new) };
+
+    /// Moves a record in a sequenced index directly before another, or to its end; before itself it stays. Refusals: `NoId`
+    /// (of either record), `Memory`.
+    fn relocate(
+        &mut self,
+        alloc: Global,
+        table: usize,
+        index: usize,
+        id: u64,
+        before: Option<u64>,
+    ) -> Result<(), Refusal>
+        requires table { table < length (state self.old).catalog.tables }
+        requires index { (index_at (schema_of (state self.old) table) index).kind ≡ Sequenced }
+        ensures { Meets (relocate_step table index id before (state self.old)) result (state self.old) (state self.new) };
 
     /// The record of an id, or none.
     fn get(&self, table: usize, id: u64) -> Option<&Record>

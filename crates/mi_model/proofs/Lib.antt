@@ -1,4 +1,5 @@
 pub mod StepLaws
+pub mod EraseLaws
 pub mod SessionLaws
 pub mod SortLaws
 pub mod ViewLaws

@@ -1,7 +1,8 @@
-//! Which row a unique index refuses a record for. It reads rows and takes no memory.
-ghost use Rattle.std.specs.Prelude.{◌≡◌, ◌==◌, drop};
+//! Rows by their ids, and which of them a unique index refuses a record for. It takes no memory.
+ghost use Rattle.std.specs.Prelude.{◌≡◌, ◌==◌, not, drop};
+ghost use Rattle.std.specs.List.{filter, position};
 ghost use Rattle.std.specs.Option.{option_copied};
-ghost use Rattle.std.specs.Map.{lookup};
+ghost use Rattle.std.specs.Map.{lookup, set_value};
 ghost use Rattle.mi_model.specs.Conflict as meaning;
 
 use mi_schema::Index;
@@ -20,6 +21,29 @@ pub(crate) fn find_row(rows: &[Row], id: u64) -> Option<&Record>
         }
     }
     None
+}
+
+/// The place of the row of an id.
+fn place_of(rows: &[Row], id: u64) -> Option<usize>
+    ensures { result ≡ position (λ r. r.0 == id) rows.now }
+{
+    rows.iter().position(|r| r.0 == id)
+}
+
+/// Another record for the row of an id; where it isn't there nothing changes.
+pub(crate) fn set_row(rows: &mut Vec<Row>, id: u64, row: Record)
+    ensures { rows.new.items ≡ set_value (λ a. a == id) rows.old.items row }
+{
+    if let Some(i) = place_of(rows.as_slice(), id) {
+        rows[i] = (id, row);
+    }
+}
+
+/// Takes the row of an id out.
+pub(crate) fn remove_row(rows: &mut Vec<Row>, id: u64)
+    ensures { rows.new.items ≡ filter (λ r. not (r.0 == id)) rows.old.items }
+{
+    rows.retain(|r| r.0 != id);
 }
 
 /// Whether a row, other than that of `except`, has the record's key.

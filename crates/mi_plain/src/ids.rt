@@ -1,4 +1,6 @@
 //! The ids of each index. A change makes a new list beside the old one, so a refused growth changes nothing.
+use mi_schema::Index;
+use mi_value::{Record, same_key};
 use std::alloc::{AllocError, Global};
 use std::marker::Model;
 
@@ -19,7 +21,7 @@ impl Model for Ids {
 impl Ids {
     ghost use Rattle.std.specs.Prelude.{◌≡◌, [], IfOk};
     ghost use Rattle.std.specs.declared.option.Option.TheVariants.{None};
-    ghost use Rattle.mi_model.specs.Change.{stand_before, stand};
+    ghost use Rattle.mi_model.specs.Change.{stand_before, stand, without, moved_in, relocated};
 
     /// No ids.
     pub(crate) fn new(alloc: Global) -> Ids
@@ -47,6 +49,55 @@ impl Ids {
         Ok(Ids { ids })
     }
 
+    /// The ids in order.
+    pub(crate) fn as_slice(&self) -> &[u64]
+        ensures { result.now ≡ self.now }
+    {
+        self.ids.as_slice()
+    }
+
+    /// Takes e out. It takes no memory.
+    fn remove(&mut self, e: u64)
+        ensures { self.new ≡ without e self.old }
+    {
+        self.ids.retain(|a| *a != e);
+    }
+
+    /// The ids once the record of e is another: e goes last where its key in this index changes.
+    fn with_moved(
+        &self,
+        alloc: Global,
+        index: &Index,
+        old: &Record,
+        new: &Record,
+        e: u64,
+    ) -> Result<Ids, AllocError>
+        ensures { IfOk result (λ ids. ids ≡ moved_in index.now old.now new.now e self.now) }
+    {
+        if same_key(old, new, index.parts.as_slice()) {
+            return self.copy(alloc);
+        }
+        let mut ids = self.copy(alloc)?;
+        ids.remove(e);
+        ids.ids.push(e)?;
+        Ok(ids)
+    }
+
+    /// The ids with e directly before b, or last; where both are one id as they are.
+    fn with_relocated(&self, alloc: Global, e: u64, b: Option<u64>) -> Result<Ids, AllocError>
+        ensures { IfOk result (λ ids. ids ≡ relocated b e self.now) }
+    {
+        if b == Some(e) {
+            return self.copy(alloc);
+        }
+        let mut left = self.copy(alloc)?;
+        left.remove(e);
+        match b {
+            None => left.with_last(alloc, e),
+            Some(b) => left.with_before(alloc, b, e),
+        }
+    }
+
     /// The ids with e directly before b, or where b isn't among them at the end.
     fn with_before(&self, alloc: Global, b: u64, e: u64) -> Result<Ids, AllocError>
         ensures { IfOk result (λ ids. ids ≡ stand_before b e self.now) }
@@ -56,12 +107,11 @@ impl Ids {
     }
 }
 
-ghost use Rattle.std.specs.Prelude.{◌≡◌, [], IfOk, map};
+ghost use Rattle.std.specs.Prelude.{◌≡◌, ◌<◌, [], IfOk, map, length, slice_index_or};
 ghost use Rattle.std.specs.declared.option.Option.TheVariants.{None};
-ghost use Rattle.mi_model.specs.Change.{stand_before, added, stand};
+ghost use Rattle.mi_model.specs.Change.{stand_before, added, stand, without, moved, relocated};
 ghost use Rattle.mi_schema.specs.declared.index.Index.{Index as IndexSpec};
 
-use mi_schema::Index;
 
 fn ids_before(alloc: Global, all: &[u64], b: u64, e: u64) -> Result<Vec<u64>, AllocError>
     ensures { IfOk result (λ ids. ids.items ≡ stand_before b e all.now) }
@@ -131,4 +181,49 @@ pub(crate) fn empty_lists(alloc: Global, indexes: &[Index]) -> Result<Vec<Ids>, 
         new.push(Ids::new(alloc))?;
     }
     Ok(new)
+}
+
+/// Takes e out of each list. It takes no memory.
+pub(crate) fn remove_from_all(lists: &mut [Ids], e: u64)
+    ensures { lists.new ≡ map (without e) lists.old }
+{
+    for ids in lists.iter_mut() {
+        ids.remove(e);
+    }
+}
+
+/// The lists once the record of e is another: e goes last in each list whose index sees its key change.
+pub(crate) fn with_moved(
+    alloc: Global,
+    indexes: &[Index],
+    lists: &[Ids],
+    old: &Record,
+    new: &Record,
+    e: u64,
+) -> Result<Vec<Ids>, AllocError>
+    ensures { IfOk result (λ all. all.items ≡ moved indexes.now old.now new.now e lists.now) }
+{
+    let mut all = Vec::new(alloc);
+    for (i, ids) in lists.iter().enumerate() {
+        let ids = match indexes.get(i) {
+            Some(index) => ids.with_moved(alloc, index, old, new, e)?,
+            None => ids.copy(alloc)?,
+        };
+        all.push(ids)?;
+    }
+    Ok(all)
+}
+
+/// The list of index x with e directly before b, or last.
+pub(crate) fn with_relocated(
+    alloc: Global,
+    lists: &[Ids],
+    x: usize,
+    e: u64,
+    b: Option<u64>,
+) -> Result<Ids, AllocError>
+    requires { x < length lists.now }
+    ensures { IfOk result (λ ids. ids ≡ relocated b e (slice_index_or lists.now x [])) }
+{
+    lists[x].with_relocated(alloc, e, b)
 }

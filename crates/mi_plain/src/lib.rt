@@ -5,6 +5,7 @@
 
 mod conflict;
 mod ids;
+mod key;
 mod plain;
 mod table;
 

@@ -3,7 +3,7 @@ use crate::table::PlainTable;
 use mi_database::Sessions;
 use mi_schema::Catalog;
 use mi_value::limits::{LAST_COUNT, MAX_SESSIONS};
-use mi_value::{NoSession, Record, Refusal};
+use mi_value::{Edit, NoSession, Record, Refusal, Value};
 use std::alloc::{AllocError, Global};
 use std::marker::Model;
 
@@ -105,6 +105,56 @@ impl Sessions for Plain {
     ) -> Result<u64, (Refusal, Record)> {
         let schema = self.catalog.table(table);
         self.tables[table].insert(alloc, schema, row, before)
+    }
+
+    fn replace(
+        &mut self,
+        alloc: Global,
+        table: usize,
+        id: u64,
+        row: Record,
+    ) -> Result<(), (Refusal, Record)> {
+        let schema = self.catalog.table(table);
+        self.tables[table].replace(alloc, schema, id, row)
+    }
+
+    fn modify(
+        &mut self,
+        alloc: Global,
+        table: usize,
+        id: u64,
+        edits: &[Edit],
+        rollback: bool,
+    ) -> Result<(), Refusal> {
+        let schema = self.catalog.table(table);
+        self.tables[table].modify(alloc, schema, id, edits, rollback)
+    }
+
+    fn erase(&mut self, alloc: Global, table: usize, id: u64) -> Result<(), Refusal> {
+        let _ = alloc;
+        self.tables[table].erase(id)
+    }
+
+    fn erase_key(
+        &mut self,
+        alloc: Global,
+        table: usize,
+        index: usize,
+        key: &[Value],
+    ) -> Result<u64, Refusal> {
+        let schema = self.catalog.table(table);
+        self.tables[table].erase_key(alloc, schema, index, key)
+    }
+
+    fn relocate(
+        &mut self,
+        alloc: Global,
+        table: usize,
+        index: usize,
+        id: u64,
+        before: Option<u64>,
+    ) -> Result<(), Refusal> {
+        self.tables[table].relocate(alloc, index, id, before)
     }
 
     fn get(&self, table: usize, id: u64) -> Option<&Record> {

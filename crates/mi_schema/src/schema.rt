@@ -108,6 +108,14 @@ impl Schema {
         self.indexes.as_slice()
     }
 
+    /// Index i.
+    pub fn index(&self, i: usize) -> &Index
+        requires { i < length self.now.indexes }
+        ensures { result.now ≡ index_at self.now i }
+    {
+        &self.indexes[i]
+    }
+
     /// How many indexes there are, `id` among them: 1 to 16.
     pub fn index_count(&self) -> usize
         ensures { result ≡ length self.now.indexes }

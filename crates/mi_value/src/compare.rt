@@ -58,6 +58,33 @@ fn compare_part(a: &Record, b: &Record, part: &KeyPart) -> Ordering
     )
 }
 
+/// A value against a record, by one part of a key.
+fn compare_to_part(value: &Value, row: &Record, part: &KeyPart) -> Ordering
+    ensures { result ≡ order.compare_to_part part.now value.now row.now }
+{
+    directed(
+        part.descending,
+        compare_missing(Some(value), row.values().get(part.column)),
+    )
+}
+
+/// The values of a key, or the first of them, against a record, on the key's own length: all records whose key begins with
+/// these values are equal to them. A value past the last part is greater than what is missing there.
+pub fn compare_prefix(key: &[Value], row: &Record, parts: &[KeyPart]) -> Ordering
+    ensures { result ≡ order.compare_prefix parts.now key.now row.now }
+{
+    for (i, value) in key.iter().enumerate() {
+        let Some(part) = parts.get(i) else {
+            return Ordering::Greater;
+        };
+        match compare_to_part(value, row, part) {
+            Ordering::Equal => {}
+            o => return o,
+        }
+    }
+    Ordering::Equal
+}
+
 /// Two records by the parts of a key.
 pub fn compare_key(a: &Record, b: &Record, parts: &[KeyPart]) -> Ordering
     ensures { result ≡ order.compare_key parts.now a.now b.now }

@@ -11,8 +11,8 @@ mod steps;
 mod value;
 
 pub use bound::{Key, Lower, Probe, Upper};
-pub use compare::{KeyPart, compare_key, compare_value, same_key};
-pub use edit::Edit;
+pub use compare::{KeyPart, compare_key, compare_prefix, compare_value, same_key};
+pub use edit::{Edit, apply};
 pub use refusal::{NoSession, Refusal};
 pub use steps::Steps;
 pub use value::{ColumnType, Record, Text, Value};

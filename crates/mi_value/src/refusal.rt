@@ -1,5 +1,5 @@
 //! Why a command is refused. The words are those that replies carry.
-ghost use Rattle.std.specs.Prelude.{◌≡◌, ◌≤◌, length};
+ghost use Rattle.std.specs.Prelude.{◌≡◌, ◌≤◌, length, Some};
 ghost use Rattle.mi_value.specs.Words.{word_of};
 ghost use Rattle.mi_value.specs.declared.refusal.Refusal.TheVariants.{Memory};
 
@@ -80,6 +80,8 @@ impl Refusal {
 }
 
 impl fmt::Display for Refusal {
+    ghost output = { λ r. Some (word_of r) };
+
     fn fmt<W: fmt::Write>(&self, f: &mut fmt::Formatter<W>) -> fmt::Result {
         let word = self.word();
         write!(f, "{word}")

@@ -98,7 +98,7 @@ impl Model for Record {
 }
 
 impl Record {
-    ghost use Rattle.std.specs.Prelude.{◌≡◌, IfOk, IfErr};
+    ghost use Rattle.std.specs.Prelude.{◌≡◌, slice_set, IfOk, IfErr};
 
     /// An equal record. Answers `Memory` where a growth is refused, and nothing else.
     pub fn copy(&self, alloc: Global) -> Result<Record, Refusal>
@@ -122,5 +122,14 @@ impl Record {
         ensures { result.now ≡ self.now }
     {
         self.values.as_slice()
+    }
+
+    /// Another value in a column; a record without that column stays as it is.
+    pub(crate) fn set(&mut self, column: usize, value: Value)
+        ensures { self.new ≡ slice_set self.old column value }
+    {
+        if column < self.values.len() {
+            self.values[column] = value;
+        }
     }
 }

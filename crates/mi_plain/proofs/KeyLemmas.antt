@@ -1,0 +1,59 @@
+-- A key against an id, and what an erase by key takes out.
+use Rattle.std.proofs.Common.{◌≡◌, ℕ, pos, Bool, true, false, List, [], ◌∷◌, length, refl, ap, sym, ◌∙◌, arith}
+use Rattle.std.proofs.lemmas.Bool.{eqb-true, eqb-false}
+use Rattle.std.specs.Prelude.{◌==◌}
+use Rattle.mi_value.specs.declared.compare.KeyPart.{KeyPart}
+use Rattle.std.specs.Ordering.{is_eq, ordering_then}
+use Rattle.std.specs.List.{filter}
+use Rattle.std.specs.declared.cmp.Ordering.{Ordering}
+use Rattle.std.specs.declared.cmp.Ordering.TheVariants.{Less, Equal, Greater}
+use Rattle.mi_value.specs.declared.value.Value.{Value}
+use Rattle.mi_value.specs.declared.value.Value.TheVariants.{Int}
+use Rattle.mi_value.specs.Order.{compare_value, compare_prefix}
+use Rattle.mi_schema.specs.Shape.{Shape, index_at}
+use Rattle.mi_model.specs.Table.{Table, list_of}
+use Rattle.mi_model.specs.View.{of_key, compare_to_id, compare_ids}
+use Rattle.mi_model.specs.Change.{erase_all, erase_key}
+use Rattle.mi_model.proofs.EraseLaws.{count-shown, in-shown, erase_all-alike}
+use Rattle.mi_plain.specs.IdPart.{id_part}
+
+then_equal : (o : Ordering) → is_eq (ordering_then o Equal) ≡ is_eq o
+then_equal Less = refl
+then_equal Equal = refl
+then_equal Greater = refl
+
+then_greater : (o : Ordering) → is_eq (ordering_then o Greater) ≡ false
+then_greater Less = refl
+then_greater Equal = refl
+then_greater Greater = refl
+
+abbrev pub is_none : List Value → Bool
+is_none [] = true
+is_none (v ∷ vs) = false
+
+-- a list of no length is empty
+pub no_parts : (ps : List KeyPart) → (length ps == 0) ≡ true → ps ≡ []
+no_parts [] h = refl
+no_parts (p ∷ ps) h = absurd (let e : length (p ∷ ps) ≡ 0 = eqb-true (length (p ∷ ps)) 0 h in omega (arith, e))
+
+-- a key of one value is an id where the value is
+pub one_value : (first : Value) (rest : List Value) (id : ℕ) → (length rest == 0) ≡ true → is_eq (compare_prefix id_part (first ∷ rest) (Int (pos id) ∷ [])) ≡ is_eq (compare_value first (Int (pos id)))
+one_value first [] id h = then_equal (compare_value first (Int (pos id)))
+one_value first (v ∷ vs) id h = absurd (let e : length (v ∷ vs) ≡ 0 = eqb-true (length (v ∷ vs)) 0 h in omega (arith, e))
+
+-- a key of more values is none
+pub more_values : (first : Value) (rest : List Value) (id : ℕ) → (length rest == 0) ≡ false → is_eq (compare_prefix id_part (first ∷ rest) (Int (pos id) ∷ [])) ≡ false
+more_values first [] id h = absurd (eqb-false 0 0 h refl)
+more_values first (v ∷ vs) id h = then_greater (compare_value first (Int (pos id)))
+
+abbrev pub has_key : Shape → Table → ℕ → List Value → ℕ → Bool
+has_key s t x key id = is_eq (compare_to_id (index_at s x) t key id)
+
+-- as many rows have a key as ids of its list
+pub count-of_key : (s : Shape) (t : Table) (x : ℕ) (key : List Value) → length (of_key s t x key) ≡ length (filter (has_key s t x key) (list_of t x))
+count-of_key s t x key = count-shown (has_key s t x key) (index_at s x).kind (compare_ids (index_at s x) t) (list_of t x)
+
+-- taking out the ids of its list is taking out the key
+pub erase_key-is : (s : Shape) (t : Table) (x : ℕ) (key : List Value) → erase_key s x key t ≡ erase_all (filter (has_key s t x key) (list_of t x)) t
+erase_key-is s t x key =
+    erase_all-alike (of_key s t x key) (filter (has_key s t x key) (list_of t x)) (in-shown (has_key s t x key) (index_at s x).kind (compare_ids (index_at s x) t) (list_of t x)) t
