@@ -1,9 +1,15 @@
-# make run: build if needed, then serve standard input. make test: the gate.
+# make run    builds the server if needed and serves standard input
+# make test   the gate: every proof from nothing, the must-fail edits, the tests, the program by two compilers
 
-.PHONY: run test
+.PHONY: run build test
 
-run:
-	@cd crates/mi_server && rt run --quiet 2>/dev/null || true
+run: build
+	@exec crates/mi_server/out/mi_server
+
+build:
+	@mkdir -p crates/mi_server/out
+	@echo "building, which proves every crate below (some minutes the first time)" >&2
+	@cd crates/mi_server && rt run < /dev/null > out/build.txt 2>&1 || { tail -n 20 out/build.txt >&2; exit 1; }
 
 test:
 	@rt ci
