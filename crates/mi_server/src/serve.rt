@@ -1,4 +1,7 @@
 //! Serves one input to one output over the built-in schema. Output is buffered; the hub flushes it after each piece of input.
+ghost use Rattle.std.specs.Prelude.{◌≡◌, ◌⊎◌, [], ◌∷◌, IfOk};
+ghost use Rattle.mi_schema.specs.Accounts.{accounts};
+
 use crate::failure::Failure;
 use mi_database::Sessions;
 use mi_hub::{Hub, Watched, serve_stream};
@@ -11,7 +14,9 @@ use std::io::{BufWriter, Read, Write};
 const STANDARD_INPUT: u64 = 1;
 
 /// The catalog of the built-in schema.
-fn built_in_catalog(alloc: Global) -> Result<Catalog, AllocError> {
+fn built_in_catalog(alloc: Global) -> Result<Catalog, AllocError>
+    ensures { IfOk result (λ c. c ≡ record { tables = accounts ∷ []; first_revision = 0 }) }
+{
     Catalog::of(alloc, built_in(alloc)?)
 }
 
@@ -47,14 +52,16 @@ fn open_and_serve<R: Read + Drop, W: Write + Drop>(
     serve(alloc, database, input, output)
 }
 
-/// Does what the program does, and answers its exit status. A failure is one line on `errors`; where that can't be written
+/// Does what the program does, and answers its exit status: 0, 3 where the schema is at fault, or 4. A failure is one line on `errors`; where that can't be written
 /// it is passed over.
 pub fn run<R: Read + Drop, W: Write + Drop, E: Write + Drop>(
     alloc: Global,
     input: R,
     output: W,
     errors: E,
-) -> u8 {
+) -> u8
+    ensures { (result ≡ 0) ⊎ (result ≡ 3) ⊎ (result ≡ 4) }
+{
     match open_and_serve(alloc, input, output) {
         Ok(()) => 0,
         Err(failure) => {

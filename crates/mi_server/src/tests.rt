@@ -1,5 +1,6 @@
 //! Worked rows through the whole program over memory, failing readers and writers, and each public call once.
 
+mod changes;
 mod devices;
 mod faults;
 mod library;
