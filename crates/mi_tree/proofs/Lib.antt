@@ -1,0 +1,13 @@
+pub mod Frames
+pub mod Heights
+pub mod Joins
+pub mod Looks
+pub mod Outs
+pub mod Puts
+pub mod Shapes
+pub mod Sorts
+pub mod Stands
+pub mod Stocks
+pub mod Takes
+pub mod Turns
+pub mod Walks

@@ -1,0 +1,5 @@
+use Rattle.mi_tree.proofs.Frames.{tree_listed}
+use Rattle.mi_tree.proofs.laws.trees_are_listed.Goals as goal
+
+pub returns : goal.returns
+returns g c = tree_listed

@@ -1,0 +1,5 @@
+use Rattle.mi_tree.proofs.Heights.{has_enough}
+use Rattle.mi_tree.proofs.laws.trees_have_enough.Goals as goal
+
+pub returns : goal.returns
+returns c = has_enough

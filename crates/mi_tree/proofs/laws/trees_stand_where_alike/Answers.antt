@@ -1,0 +1,5 @@
+use Rattle.mi_tree.proofs.Frames.{tree_where}
+use Rattle.mi_tree.proofs.laws.trees_stand_where_alike.Goals as goal
+
+pub returns : goal.returns
+returns g c o = tree_where (g.O.NodeOrder.order o)

@@ -1,0 +1,11 @@
+pub mod Frame
+pub mod Height
+pub mod Joining
+pub mod Order
+pub mod Probed
+pub mod Shape
+pub mod Sorted
+pub mod Standing
+pub mod Stock
+pub mod StockLaws
+pub mod Walking

@@ -1,0 +1,123 @@
+//! Subtrees and nodes between them are put together.
+//! Here alone links are set; it knows no order.
+ghost use Rattle.std.specs.Prelude.{◌≡◌, ◌<◌, [], ◌∷◌, Some};
+ghost use Rattle.mi_node.specs.Pool.{IsHeldIf, Keeps};
+ghost use Rattle.mi_tree.specs.Shape.{Shape, Fork, IsRooted, size_at, height_at};
+ghost use Rattle.mi_tree.specs.Joining.{Two, Three, Four};
+
+use mi_node::{Link, NodeRef, Pool};
+
+/// How many nodes stand there.
+pub(crate) fn size<T>(p: &Pool<T>, slot: usize, at: Option<NodeRef>) -> u64
+    requires held { IsHeldIf p.now at }
+    requires slot { slot < p.now.slots }
+    ensures { result ≡ size_at p.now slot at }
+{
+    match at {
+        None => 0,
+        Some(node) => p.link(node, slot).size,
+    }
+}
+
+/// How many levels they have.
+pub(crate) fn height<T>(p: &Pool<T>, slot: usize, at: Option<NodeRef>) -> u8
+    requires held { IsHeldIf p.now at }
+    requires slot { slot < p.now.slots }
+    ensures { result ≡ height_at p.now slot at }
+{
+    match at {
+        None => 0,
+        Some(node) => p.link(node, slot).height,
+    }
+}
+
+/// The node gets these two sides.
+pub(crate) fn join<T>(
+    p: &mut Pool<T>,
+    slot: usize,
+    a: Option<NodeRef>,
+    x: NodeRef,
+    b: Option<NodeRef>,
+)
+    requires slot { slot < p.old.slots }
+    requires parts { (A : Shape) × (B : Shape) × Two p.old slot a x b A B }
+    ensures tree { (A : Shape) (B : Shape) → Two p.old slot a x b A B → IsRooted p.new slot (Some x) (Fork A x B) }
+    ensures slots { p.new.slots ≡ p.old.slots }
+    ensures keeps { Keeps p.old p.new slot (x ∷ []) }
+{
+    let size = size(p, slot, a) + size(p, slot, b) + 1;
+    let height = height(p, slot, a).max(height(p, slot, b)) + 1;
+    p.set_link(
+        x,
+        slot,
+        Link {
+            back: a,
+            forth: b,
+            size,
+            height,
+        },
+    );
+}
+
+/// `x` is above `y`.
+pub(crate) fn join_down<T>(
+    p: &mut Pool<T>,
+    slot: usize,
+    a: Option<NodeRef>,
+    x: NodeRef,
+    b: Option<NodeRef>,
+    y: NodeRef,
+    c: Option<NodeRef>,
+)
+    requires slot { slot < p.old.slots }
+    requires parts { (A : Shape) × (B : Shape) × (C : Shape) × Three p.old slot a x b y c A B C }
+    ensures tree { (A : Shape) (B : Shape) (C : Shape) → Three p.old slot a x b y c A B C → IsRooted p.new slot (Some x) (Fork A x (Fork B y C)) }
+    ensures slots { p.new.slots ≡ p.old.slots }
+    ensures keeps { Keeps p.old p.new slot (x ∷ y ∷ []) }
+{
+    join(p, slot, b, y, c);
+    join(p, slot, a, x, Some(y));
+}
+
+/// `y` is above `x`.
+pub(crate) fn join_up<T>(
+    p: &mut Pool<T>,
+    slot: usize,
+    a: Option<NodeRef>,
+    x: NodeRef,
+    b: Option<NodeRef>,
+    y: NodeRef,
+    c: Option<NodeRef>,
+)
+    requires slot { slot < p.old.slots }
+    requires parts { (A : Shape) × (B : Shape) × (C : Shape) × Three p.old slot a x b y c A B C }
+    ensures tree { (A : Shape) (B : Shape) (C : Shape) → Three p.old slot a x b y c A B C → IsRooted p.new slot (Some y) (Fork (Fork A x B) y C) }
+    ensures slots { p.new.slots ≡ p.old.slots }
+    ensures keeps { Keeps p.old p.new slot (x ∷ y ∷ []) }
+{
+    join(p, slot, a, x, b);
+    join(p, slot, Some(x), y, c);
+}
+
+/// `y` is above `x` and `z`.
+pub(crate) fn join_both<T>(
+    p: &mut Pool<T>,
+    slot: usize,
+    a: Option<NodeRef>,
+    x: NodeRef,
+    b: Option<NodeRef>,
+    y: NodeRef,
+    c: Option<NodeRef>,
+    z: NodeRef,
+    d: Option<NodeRef>,
+)
+    requires slot { slot < p.old.slots }
+    requires parts { (A : Shape) × (B : Shape) × (C : Shape) × (D : Shape) × Four p.old slot a x b y c z d A B C D }
+    ensures tree { (A : Shape) (B : Shape) (C : Shape) (D : Shape) → Four p.old slot a x b y c z d A B C D → IsRooted p.new slot (Some y) (Fork (Fork A x B) y (Fork C z D)) }
+    ensures slots { p.new.slots ≡ p.old.slots }
+    ensures keeps { Keeps p.old p.new slot (x ∷ y ∷ z ∷ []) }
+{
+    join(p, slot, a, x, b);
+    join(p, slot, c, z, d);
+    join(p, slot, Some(x), y, Some(z));
+}
