@@ -1,3 +1,4 @@
 pub mod Order
 pub mod Edits
 pub mod Words
+pub mod Hash

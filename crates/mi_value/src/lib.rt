@@ -5,6 +5,7 @@
 mod bound;
 mod compare;
 mod edit;
+mod hash;
 pub mod limits;
 mod refusal;
 mod steps;
@@ -13,6 +14,7 @@ mod value;
 pub use bound::{Key, Lower, Probe, Upper};
 pub use compare::{KeyPart, compare_key, compare_prefix, compare_value, same_key};
 pub use edit::{Edit, apply};
+pub use hash::hash_values;
 pub use refusal::{NoSession, Refusal};
 pub use steps::Steps;
 pub use value::{ColumnType, Record, Text, Value};

@@ -2,7 +2,9 @@
 use mi_database::Sessions;
 use mi_plain::Plain;
 use mi_schema::{Catalog, IndexKind, Schema, built_in};
-use mi_value::{Key, KeyPart, NoSession, Record, Refusal, Text, Value, compare_key, same_key};
+use mi_value::{
+    Key, KeyPart, NoSession, Record, Refusal, Text, Value, compare_key, hash_values, same_key,
+};
 use std::alloc::{AllocError, Global};
 use std::cmp::Ordering;
 use std::test::Fail;
@@ -49,6 +51,13 @@ fn keys_compare(rt: HostRuntime) -> Result<(), Fail> {
         assert_eq!(rt; same_key(&a, &b, &parts), want == Ordering::Equal);
     }
     assert!(rt; is_account(&a.copy(alloc)?, "a", 1, true));
+    let owner = [KeyPart {
+        column: 0,
+        descending: false,
+    }];
+    let other = account(alloc, "a", 2, false)?;
+    let hash = hash_values(&[Value::Text(Text::of(alloc, "a")?)]);
+    assert!(rt; a.key_hash(&owner) == hash && other.key_hash(&owner) == hash);
     let key = Key::new(vec![in alloc; Value::Int(3)]?);
     assert_eq!(rt; key.values().len(), 1);
     Ok(())

@@ -1,0 +1,8 @@
+-- The heads of the buckets after a call.
+use Rattle.std.specs.Prelude.{ℕ, List, Option, Some, None, slice_set}
+use Rattle.mi_node.specs.declared.heap.NodeRef.{NodeRef}
+
+-- with another head of a bucket, where no node stands before
+abbrev pub heads_joined : Option NodeRef → List (Option NodeRef) → ℕ → Option NodeRef → List (Option NodeRef)
+heads_joined None heads i f = slice_set heads i f
+heads_joined (Some r) heads i f = heads

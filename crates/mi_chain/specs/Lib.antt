@@ -1,0 +1,5 @@
+pub mod Chained
+pub mod Groups
+pub mod Heads
+pub mod Keying
+pub mod Places

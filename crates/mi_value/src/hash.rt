@@ -1,0 +1,66 @@
+//! The hashes of values and keys: SipHash with fixed keys. They read values and records and take no memory.
+//! Who lets strangers choose keys mixes a secret into them.
+ghost use Rattle.std.specs.Prelude.{◌≡◌, fold, slice_get};
+ghost use Rattle.std.specs.Hash.DefaultHasher as sip;
+ghost use Rattle.mi_value.specs.Hash.{value_input, values_hash, key_values, after_if};
+
+use crate::compare::KeyPart;
+use crate::value::{Record, Value};
+use std::hash::{DefaultHasher, Hash, Hasher};
+
+/// The hash of a list of values, over their types and contents.
+#[tactic(auto, unfolding(crate::specs::Hash::values_hash))]
+pub fn hash_values(values: &[Value]) -> u64
+    ensures { result ≡ values_hash values.now }
+{
+    let mut state = DefaultHasher::new();
+    for value in values {
+        feed(value, &mut state);
+    }
+    state.finish()
+}
+
+impl Record {
+    /// The hash of the record's key at these parts: that of the list of its values there, missing ones left out. Equal
+    /// keys have equal hashes.
+    #[tactic(auto, using(crate::proofs::Hashes::one_part), unfolding(crate::specs::Hash::values_hash))]
+    pub fn key_hash(&self, parts: &[KeyPart]) -> u64
+        ensures { result ≡ values_hash (key_values parts.now self.now) }
+    {
+        let mut state = DefaultHasher::new();
+        for part in parts {
+            feed_at(self, part.column, &mut state);
+        }
+        state.finish()
+    }
+}
+
+/// Puts the value of this column into the hash, if it has one.
+fn feed_at(source: &Record, column: usize, state: &mut DefaultHasher)
+    ensures { state.new ≡ after_if state.old (slice_get source.now column) }
+{
+    match source.values().get(column) {
+        None => {}
+        Some(value) => feed(value, state),
+    }
+}
+
+/// Puts the value's type and content into the hash.
+fn feed(value: &Value, state: &mut DefaultHasher)
+    ensures { state.new ≡ fold sip.write state.old (value_input value.now) }
+{
+    match value {
+        Value::Int(n) => {
+            state.write_u8(0);
+            n.hash(state);
+        }
+        Value::Text(text) => {
+            state.write_u8(1);
+            text.as_str().hash(state);
+        }
+        Value::Flag(b) => {
+            state.write_u8(2);
+            b.hash(state);
+        }
+    }
+}
