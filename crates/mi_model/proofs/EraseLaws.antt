@@ -140,8 +140,8 @@ erase_all-is [] t = sym (ap₂ (with_both t) (filter_all t.rows) (map_all t.list
 erase_all-is (e ∷ ids) t =
     erase_all-is ids (erase e t)
     ∙ ap₂ (with_both t)
-      (filter_twice (λ r. not (is_in ids r.0)) (λ r. not (r.0 == e)) t.rows ∙ filter_alike (λ r. not (r.0 == e) && not (is_in ids r.0)) (λ r. not (is_in (e ∷ ids) r.0)) (λ r. neither (r.0 == e) (is_in ids r.0)) t.rows)
-      (map_twice (λ a. not (is_in ids a)) (λ a. not (a == e)) (λ a. not (is_in (e ∷ ids) a)) (λ a. neither (a == e) (is_in ids a)) t.lists)
+    (filter_twice (λ r. not (is_in ids r.0)) (λ r. not (r.0 == e)) t.rows ∙ filter_alike (λ r. not (r.0 == e) && not (is_in ids r.0)) (λ r. not (is_in (e ∷ ids) r.0)) (λ r. neither (r.0 == e) (is_in ids r.0)) t.rows)
+    (map_twice (λ a. not (is_in ids a)) (λ a. not (a == e)) (λ a. not (is_in (e ∷ ids) a)) (λ a. neither (a == e) (is_in ids a)) t.lists)
 
 map_alike : (p q : ℕ → Bool) → ((a : ℕ) → p a ≡ q a) → (lists : List (List ℕ)) → map (filter p) lists ≡ map (filter q) lists
 map_alike p q alike [] = refl
@@ -152,6 +152,6 @@ pub erase_all-alike : (ids others : List ℕ) → ((a : ℕ) → is_in ids a ≡
 erase_all-alike ids others alike t =
     erase_all-is ids t
     ∙ ap₂ (with_both t)
-      (filter_alike (λ r. not (is_in ids r.0)) (λ r. not (is_in others r.0)) (λ r. ap not (alike r.0)) t.rows)
-      (map_alike (λ a. not (is_in ids a)) (λ a. not (is_in others a)) (λ a. ap not (alike a)) t.lists)
+    (filter_alike (λ r. not (is_in ids r.0)) (λ r. not (is_in others r.0)) (λ r. ap not (alike r.0)) t.rows)
+    (map_alike (λ a. not (is_in ids a)) (λ a. not (is_in others a)) (λ a. ap not (alike a)) t.lists)
     ∙ sym (erase_all-is others t)

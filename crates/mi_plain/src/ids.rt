@@ -112,7 +112,6 @@ ghost use Rattle.std.specs.declared.option.Option.TheVariants.{None};
 ghost use Rattle.mi_model.specs.Change.{stand_before, added, stand, without, moved, relocated};
 ghost use Rattle.mi_schema.specs.declared.index.Index.{Index as IndexSpec};
 
-
 fn ids_before(alloc: Global, all: &[u64], b: u64, e: u64) -> Result<Vec<u64>, AllocError>
     ensures { IfOk result (λ ids. ids.items ≡ stand_before b e all.now) }
 {

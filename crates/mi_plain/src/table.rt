@@ -1,6 +1,8 @@
 //! One table as its rows and the ids of each index.
 use crate::conflict::{Row, conflict, find_row, remove_row, set_row};
-use crate::ids::{Ids, copy_lists, empty_lists, remove_from_all, with_added, with_moved, with_relocated};
+use crate::ids::{
+    Ids, copy_lists, empty_lists, remove_from_all, with_added, with_moved, with_relocated,
+};
 use crate::key::is_of_key;
 use mi_schema::{Index, Schema};
 use mi_value::limits::LAST_COUNT;
@@ -176,7 +178,14 @@ impl PlainTable {
         let Some(old) = self.get(id) else {
             return Err((Refusal::Memory, row));
         };
-        let Ok(lists) = with_moved(alloc, schema.indexes(), self.lists.as_slice(), old, &row, id) else {
+        let Ok(lists) = with_moved(
+            alloc,
+            schema.indexes(),
+            self.lists.as_slice(),
+            old,
+            &row,
+            id,
+        ) else {
             return Err((Refusal::Memory, row));
         };
         self.lists = lists;
