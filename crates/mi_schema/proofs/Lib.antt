@@ -1,1 +1,4 @@
 pub mod RuleLaws
+pub mod ListLaws
+pub mod DocumentLaws
+pub mod CheckLaws

@@ -1,15 +1,14 @@
 -- What follows from the rules of a schema and of a catalog.
-use Rattle.std.proofs.Common.{◌≡◌, ℕ, zero, suc, ◌<◌, ◌≤◌, Bool, true, false, ◌&&◌, List, [], ◌∷◌, length, map, slice_index_or, drop, lit≤, ap, sym, subst, arith}
-use Rattle.std.specs.Prelude.{◌==◌, bytes_eq, codes, IsTrue, nat_le, nat_lt}
+use Rattle.std.proofs.Common.{◌≡◌, ℕ, zero, suc, ◌<◌, ◌≤◌, true, false, List, [], ◌∷◌, length, map, slice_index_or, ap, subst, arith}
+use Rattle.std.specs.Prelude.{◌==◌, bytes_eq, codes}
 use Rattle.std.specs.List.{list_all}
 use Rattle.std.proofs.lemmas.Bool.{and_parts, leb-true, ltb-true, eqb-true}
 use Rattle.std.proofs.lemmas.Slice.Eq.{bytes_eq-Decides}
-use Rattle.mi_value.specs.declared.limits.TheConstants.{MAX_COLUMNS, MAX_NAME, MAX_TABLES, MAX_ROWS, LAST_COUNT}
-use Rattle.mi_schema.specs.declared.index.Column.{Column}
+use Rattle.mi_value.specs.declared.limits.TheConstants.{MAX_NAME, MAX_ROWS, LAST_COUNT}
 use Rattle.mi_schema.specs.declared.index.Index.{Index}
 use Rattle.mi_schema.specs.declared.index.IndexKind.TheVariants.{Hashed}
 use Rattle.mi_schema.specs.Shape.{Shape, CatalogShape, schema_at, index_at}
-use Rattle.mi_schema.specs.Rules.{is_name, is_free_name, are_distinct, are_columns, are_indexes, is_id_index, is_declared_index, keeps_kind, is_ranked, are_numbers, is_schema, is_catalog}
+use Rattle.mi_schema.specs.Rules.{is_name, are_distinct, are_columns, are_indexes, is_id_index, is_declared_index, are_numbers, is_schema, is_catalog}
 
 pub is_name-short : (name : List ℕ) → is_name name ≡ true → length name ≤ MAX_NAME
 is_name-short [] h = absurd (cc)

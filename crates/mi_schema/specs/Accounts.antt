@@ -1,5 +1,5 @@
 -- The schema that is served where no other is given.
-use Rattle.std.specs.Prelude.{true, false, List, [], ◌∷◌, codes}
+use Rattle.std.specs.Prelude.{true, false, [], ◌∷◌, codes}
 use Rattle.mi_value.specs.declared.value.ColumnType.TheVariants as column
 use Rattle.mi_value.specs.declared.limits.TheConstants.{DEFAULT_MAX_ROWS}
 use Rattle.mi_schema.specs.declared.index.IndexKind.TheVariants.{Ranked, Ordered, Hashed, Sequenced}

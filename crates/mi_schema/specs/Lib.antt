@@ -2,3 +2,8 @@ pub mod Shape
 pub mod Fits
 pub mod Rules
 pub mod Accounts
+pub mod Draft
+pub mod Members
+pub mod Words
+pub mod Checks
+pub mod Reading

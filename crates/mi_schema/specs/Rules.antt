@@ -1,5 +1,5 @@
 -- The rules that every schema and every catalog keeps.
-use Rattle.std.specs.Prelude.{ℕ, Bool, true, false, not, ◌&&◌, ◌||◌, ◌==◌, nat_le, nat_lt, bytes_eq, codes, List, [], ◌∷◌, length, map, drop}
+use Rattle.std.specs.Prelude.{ℕ, Bool, true, false, not, ◌&&◌, ◌||◌, ◌==◌, nat_le, nat_lt, bytes_eq, codes, List, [], ◌∷◌, length, map}
 use Rattle.std.specs.List.{list_all, list_any}
 use Rattle.mi_value.specs.declared.compare.KeyPart.{KeyPart}
 use Rattle.mi_value.specs.declared.limits.TheConstants.{MAX_COLUMNS, MAX_INDEXES, MAX_KEY_PARTS, MAX_TABLES, MAX_NAME, MAX_ROWS, LAST_COUNT}

@@ -41,6 +41,17 @@ impl Catalog {
     ghost use Rattle.mi_schema.specs.Shape.{schema_at, find_table};
     ghost use Rattle.mi_schema.specs.Rules.{is_catalog};
 
+    /// The catalog of these tables, which keep the rules together. Takes no memory.
+    pub(crate) fn new(tables: Vec<Schema>, first_revision: u64) -> Catalog
+        requires { IsTrue (is_catalog (record { tables = tables.items; first_revision = first_revision })) }
+        ensures { result ≡ record { tables = tables.items; first_revision = first_revision } }
+    {
+        Catalog {
+            tables,
+            first_revision,
+        }
+    }
+
     /// The catalog of one table, which opens with the schema's first revision.
     pub fn of(alloc: Global, schema: Schema) -> Result<Catalog, AllocError>
         ensures { IfOk result (λ c. c ≡ record { tables = schema ∷ []; first_revision = schema.first_revision }) }
@@ -53,6 +64,14 @@ impl Catalog {
             tables,
             first_revision,
         })
+    }
+
+    /// The schema of table 0. Takes no memory.
+    pub(crate) fn into_first(self) -> Schema
+        ensures { result ≡ schema_at self 0 }
+    {
+        let mut tables = self.tables;
+        tables.swap_remove(0)
     }
 
     /// States that the catalog keeps every rule, for callers that need one of them. It does nothing.

@@ -1,0 +1,10 @@
+-- what was read, and what is still read
+use Rattle.std.proofs.Common.{◌≡◌, drop}
+use Rattle.toml.specs.View.{items_view}
+use Rattle.toml.specs.Data.{as_str}
+use Rattle.mi_schema.specs.Members.{each}
+use Rattle.mi_schema.proofs.DocumentLaws.{with_front}
+use Rattle.mi_schema.proofs.document.texts.Given as goal
+
+abbrev pub invariant-loop-value : goal.invariant-loop-value
+invariant-loop-value l = with_front l.texts.items (each as_str (items_view (drop l.value-index l.values))) ≡ each as_str (items_view l.values)

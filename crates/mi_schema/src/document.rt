@@ -1,0 +1,361 @@
+//! From a TOML document to a draft: which members each level has, and of which kind each is. It knows no other rule.
+ghost use Rattle.std.specs.Prelude.{◌≡◌, [], None, false, bytes_eq, codes, map, option_map, string_bytes};
+ghost use Rattle.std.specs.List.{list_any, list_all};
+ghost use Rattle.std.specs.BTreeMap.{keys};
+ghost use Rattle.toml.specs.Data.{get_member, as_str, as_array, as_table, as_integer, as_bool};
+ghost use Rattle.toml.specs.View.{view, table_view, array_view, items_view};
+ghost use Rattle.mi_schema.specs.Members.{Gives, has_only, needed, optional, each, list, key_draft, column_draft, index_draft, table_draft, one_table, named_table, several_tables, schema_draft, first_format, catalog_draft};
+ghost use Rattle.mi_schema.specs.declared.document.Misread.TheVariants as misread;
+
+use crate::draft::{Draft, DraftColumn, DraftIndex, DraftTable, Texts};
+use mi_value::Text;
+use mi_value::limits::DEFAULT_MAX_ROWS;
+use std::alloc::{AllocError, AllocFailed, Global};
+use toml::{Table, Value};
+
+/// Why a value isn't read: its shape is another, or a growth was refused.
+#[derive(Clone, Copy, Debug, PartialEq, Eq)]
+pub(crate) enum Misread {
+    Shape,
+    Memory,
+}
+
+impl From<AllocError> for Misread {
+    ghost from_gives = { λ _ e. e ≡ misread.Memory };
+
+    fn from(_e: AllocError) -> Misread {
+        Misread::Memory
+    }
+}
+
+impl<T: Drop> From<AllocFailed<T>> for Misread {
+    ghost from_gives = { λ _ e. e ≡ misread.Memory };
+
+    fn from(_e: AllocFailed<T>) -> Misread {
+        Misread::Memory
+    }
+}
+
+/// Whether a name is one of these.
+fn is_named(names: &[&str], name: &str) -> bool
+    ensures { result ≡ list_any (λ n. bytes_eq name.now n.now) names.now }
+{
+    names.iter().any(|n| name == *n)
+}
+
+/// Whether each key is one of these names.
+fn are_named(names: &[&str], members: &Table) -> bool
+    ensures { result ≡ list_all (λ k. list_any (λ n. bytes_eq (string_bytes k) n.now) names.now) (keys members.now) }
+{
+    members.keys().all(|k| is_named(names, k.as_str()))
+}
+
+/// Whether no member has another name than these.
+fn has_only(names: &[&str], members: &Table) -> bool
+    ensures { result ≡ has_only (map (λ n. n.now) names.now) (table_view members.now) }
+{
+    are_named(names, members)
+}
+
+/// The member of this name.
+fn member<'a>(members: &'a Table, name: &str) -> Option<&'a Value>
+    ensures { option_map (λ v. view v.now) result ≡ get_member name.now (table_view members.now) }
+{
+    members.get(name)
+}
+
+fn text(alloc: Global, value: &Value) -> Result<Text, Misread>
+    ensures { Gives (λ t. t) result (as_str (view value.now)) }
+{
+    match value.as_str() {
+        Some(text) => Ok(Text::of(alloc, text)?),
+        None => Err(Misread::Shape),
+    }
+}
+
+fn table(value: &Value) -> Result<&Table, Misread>
+    ensures { Gives (λ t. table_view t.now) result (as_table (view value.now)) }
+{
+    value.as_table().ok_or(Misread::Shape)
+}
+
+/// The text of a member that has to be there.
+fn needed_text(alloc: Global, members: &Table, name: &str) -> Result<Text, Misread>
+    ensures { Gives (λ t. t) result (needed as_str name.now (table_view members.now)) }
+{
+    match member(members, name) {
+        Some(value) => text(alloc, value),
+        None => Err(Misread::Shape),
+    }
+}
+
+/// The whole number of a member that may be absent.
+fn optional_number(members: &Table, name: &str, absent: i64) -> Result<i64, Misread>
+    ensures { Gives (λ n. n) result (optional absent as_integer name.now (table_view members.now)) }
+{
+    match member(members, name) {
+        Some(value) => value.as_integer().ok_or(Misread::Shape),
+        None => Ok(absent),
+    }
+}
+
+/// Whether a member that may be absent is true.
+fn optional_flag(members: &Table, name: &str) -> Result<bool, Misread>
+    ensures { Gives (λ b. b) result (optional false as_bool name.now (table_view members.now)) }
+{
+    match member(members, name) {
+        Some(value) => value.as_bool().ok_or(Misread::Shape),
+        None => Ok(false),
+    }
+}
+
+fn array(value: &Value) -> Result<&Vec<Value>, Misread>
+    ensures { Gives (λ a. array_view a.now) result (as_array (view value.now)) }
+{
+    value.as_array().ok_or(Misread::Shape)
+}
+
+fn texts(alloc: Global, values: &[Value]) -> Result<Vec<Text>, Misread>
+    ensures { Gives (λ ts. ts.items) result (each as_str (items_view values.now)) }
+{
+    let mut texts = Vec::new(alloc);
+    for value in values {
+        texts.push(text(alloc, value)?)?;
+    }
+    Ok(texts)
+}
+
+/// The key of an index, if it has one.
+fn key(alloc: Global, members: &Table) -> Result<Option<Texts>, Misread>
+    ensures { Gives (λ k. k) result (optional None key_draft (codes "key") (table_view members.now)) }
+{
+    match member(members, "key") {
+        Some(value) => Ok(Some(Texts::new(texts(alloc, array(value)?)?))),
+        None => Ok(None),
+    }
+}
+
+#[tactic(auto, unfolding(crate::specs::Members::column_draft))]
+fn column(alloc: Global, value: &Value) -> Result<DraftColumn, Misread>
+    ensures { Gives (λ c. c) result (column_draft (view value.now)) }
+{
+    let members = table(value)?;
+    if !has_only(&["name", "type"], members) {
+        return Err(Misread::Shape);
+    }
+    let name = needed_text(alloc, members, "name")?;
+    let kind = needed_text(alloc, members, "type")?;
+    Ok(DraftColumn { name, kind })
+}
+
+fn columns(alloc: Global, values: &[Value]) -> Result<Vec<DraftColumn>, Misread>
+    ensures { Gives (λ cs. cs.items) result (each column_draft (items_view values.now)) }
+{
+    let mut columns = Vec::new(alloc);
+    for value in values {
+        columns.push(column(alloc, value)?)?;
+    }
+    Ok(columns)
+}
+
+#[tactic(auto, unfolding(crate::specs::Members::index_draft))]
+fn index(alloc: Global, value: &Value) -> Result<DraftIndex, Misread>
+    ensures { Gives (λ i. i) result (index_draft (view value.now)) }
+{
+    let members = table(value)?;
+    if !has_only(&["name", "kind", "unique", "key"], members) {
+        return Err(Misread::Shape);
+    }
+    let name = needed_text(alloc, members, "name")?;
+    let kind = needed_text(alloc, members, "kind")?;
+    let unique = optional_flag(members, "unique")?;
+    let key = key(alloc, members)?;
+    Ok(DraftIndex {
+        name,
+        kind,
+        unique,
+        key,
+    })
+}
+
+fn indexes(alloc: Global, values: &[Value]) -> Result<Vec<DraftIndex>, Misread>
+    ensures { Gives (λ is. is.items) result (each index_draft (items_view values.now)) }
+{
+    let mut indexes = Vec::new(alloc);
+    for value in values {
+        indexes.push(index(alloc, value)?)?;
+    }
+    Ok(indexes)
+}
+
+/// The columns, which have to be there.
+fn needed_columns(alloc: Global, members: &Table) -> Result<Vec<DraftColumn>, Misread>
+    ensures { Gives (λ cs. cs.items) result (needed (list column_draft) (codes "column") (table_view members.now)) }
+{
+    match member(members, "column") {
+        Some(value) => columns(alloc, array(value)?),
+        None => Err(Misread::Shape),
+    }
+}
+
+/// The indexes, none where there is no such member.
+fn optional_indexes(alloc: Global, members: &Table) -> Result<Vec<DraftIndex>, Misread>
+    ensures { Gives (λ is. is.items) result (optional [] (list index_draft) (codes "index") (table_view members.now)) }
+{
+    match member(members, "index") {
+        Some(value) => indexes(alloc, array(value)?),
+        None => Ok(Vec::new(alloc)),
+    }
+}
+
+/// A table of this name.
+#[tactic(auto, unfolding(crate::specs::Members::table_draft))]
+fn table_named(alloc: Global, name: Text, members: &Table) -> Result<DraftTable, Misread>
+    ensures { Gives (λ t. t) result (table_draft name (table_view members.now)) }
+{
+    let columns = needed_columns(alloc, members)?;
+    let indexes = optional_indexes(alloc, members)?;
+    let first_id = optional_number(members, "first_id", 0)?;
+    let first_arrival = optional_number(members, "first_arrival", 0)?;
+    let max_rows = optional_number(members, "max_rows", DEFAULT_MAX_ROWS as i64)?;
+    Ok(DraftTable {
+        name,
+        columns,
+        indexes,
+        first_id,
+        first_arrival,
+        max_rows,
+    })
+}
+
+/// A document of one table, whose other members are not looked at.
+#[tactic(auto, unfolding(crate::specs::Members::one_table))]
+fn one_table(alloc: Global, members: &Table) -> Result<Draft, Misread>
+    ensures { Gives (λ d. d) result (one_table (table_view members.now)) }
+{
+    let name = needed_text(alloc, members, "table")?;
+    let table = table_named(alloc, name, members)?;
+    let first_revision = optional_number(members, "first_revision", 0)?;
+    Ok(Draft {
+        tables: vec![in alloc; table]?,
+        first_revision,
+    })
+}
+
+/// A table among several.
+#[tactic(auto, unfolding(crate::specs::Members::named_table))]
+fn named_table(alloc: Global, value: &Value) -> Result<DraftTable, Misread>
+    ensures { Gives (λ t. t) result (named_table (view value.now)) }
+{
+    let members = table(value)?;
+    if !has_only(
+        &[
+            "name",
+            "column",
+            "index",
+            "first_id",
+            "first_arrival",
+            "max_rows",
+        ],
+        members,
+    ) {
+        return Err(Misread::Shape);
+    }
+    let name = needed_text(alloc, members, "name")?;
+    table_named(alloc, name, members)
+}
+
+fn tables(alloc: Global, values: &[Value]) -> Result<Vec<DraftTable>, Misread>
+    ensures { Gives (λ ts. ts.items) result (each named_table (items_view values.now)) }
+{
+    let mut tables = Vec::new(alloc);
+    for value in values {
+        tables.push(named_table(alloc, value)?)?;
+    }
+    Ok(tables)
+}
+
+fn needed_tables(alloc: Global, members: &Table) -> Result<Vec<DraftTable>, Misread>
+    ensures { Gives (λ ts. ts.items) result (needed (list named_table) (codes "table") (table_view members.now)) }
+{
+    match member(members, "table") {
+        Some(value) => tables(alloc, array(value)?),
+        None => Err(Misread::Shape),
+    }
+}
+
+/// A document of several tables.
+#[tactic(auto, unfolding(crate::specs::Members::several_tables))]
+fn several_tables(alloc: Global, members: &Table) -> Result<Draft, Misread>
+    ensures { Gives (λ d. d) result (several_tables (table_view members.now)) }
+{
+    if !has_only(&["format", "table", "first_revision"], members) {
+        return Err(Misread::Shape);
+    }
+    let tables = needed_tables(alloc, members)?;
+    let first_revision = optional_number(members, "first_revision", 0)?;
+    Ok(Draft {
+        tables,
+        first_revision,
+    })
+}
+
+/// A document that is a schema.
+#[tactic(auto, unfolding(crate::specs::Members::schema_draft))]
+pub(crate) fn schema_draft(alloc: Global, members: &Table) -> Result<Draft, Misread>
+    ensures { Gives (λ d. d) result (schema_draft (table_view members.now)) }
+{
+    if !has_only(
+        &[
+            "table",
+            "column",
+            "index",
+            "first_id",
+            "first_arrival",
+            "first_revision",
+            "max_rows",
+        ],
+        members,
+    ) {
+        return Err(Misread::Shape);
+    }
+    one_table(alloc, members)
+}
+
+/// A document of one table that may name its format.
+#[tactic(auto, unfolding(crate::specs::Members::first_format))]
+fn first_format(alloc: Global, members: &Table) -> Result<Draft, Misread>
+    ensures { Gives (λ d. d) result (first_format (table_view members.now)) }
+{
+    if !has_only(
+        &[
+            "format",
+            "table",
+            "column",
+            "index",
+            "first_id",
+            "first_arrival",
+            "first_revision",
+            "max_rows",
+        ],
+        members,
+    ) {
+        return Err(Misread::Shape);
+    }
+    one_table(alloc, members)
+}
+
+/// A document that is a catalog: of one table, in the format that is meant where none is named, or of several.
+#[tactic(auto, unfolding(crate::specs::Members::catalog_draft))]
+pub(crate) fn catalog_draft(alloc: Global, members: &Table) -> Result<Draft, Misread>
+    ensures { Gives (λ d. d) result (catalog_draft (table_view members.now)) }
+{
+    let format = optional_number(members, "format", 1)?;
+    if format == 1 {
+        first_format(alloc, members)
+    } else if format == 2 {
+        several_tables(alloc, members)
+    } else {
+        Err(Misread::Shape)
+    }
+}
