@@ -34,7 +34,7 @@ either_keeps s false x y f g = g refl
 pub insert_keeps : (s : Shape) (at : Option (ℕ × ℕ)) (r : List Value) (t : Table) → IsTable s t → IsTable s (insert_outcome s at r t).1
 insert_keeps s at r t is = unless_keeps s (insert_refusal s at r t) t.next (insert at r t) t (is_table_insert s at r t is) is
 
-not_not : (b : Bool) → not b ≡ false → b ≡ true
+pub not_not : (b : Bool) → not b ≡ false → b ≡ true
 not_not true e = refl
 not_not false e = absurd (cc)
 
@@ -82,14 +82,14 @@ relocate_keeps s x e b t is =
     either_keeps {A = Unit {0}} s (has t e && has_place t b) (Ok tt, relocate x e b t) (Err NoId, t)
     (λ there. is_table_relocate s x e b t (both_true (has t e) (has_place t b) there) is) (λ _. is)
 
-zip_get : (R : Shape → Table → Type 0) (xs : List Shape) (ys : List Table) (n : ℕ) (d : Shape) (e : Table) → AllZip R xs ys → n < length ys → R (get_or xs n d) (get_or ys n e)
+pub zip_get : (R : Shape → Table → Type 0) (xs : List Shape) (ys : List Table) (n : ℕ) (d : Shape) (e : Table) → AllZip R xs ys → n < length ys → R (get_or xs n d) (get_or ys n e)
 zip_get R [] [] n d e all l = absurd (omega arith)
 zip_get R [] (y ∷ ys) n d e all l = absurd all
 zip_get R (x ∷ xs) [] n d e all l = absurd all
 zip_get R (x ∷ xs) (y ∷ ys) zero d e all l = all.0
 zip_get R (x ∷ xs) (y ∷ ys) (suc n) d e all l = zip_get R xs ys n d e all.1 (omega arith)
 
-zip_set : (R : Shape → Table → Type 0) (xs : List Shape) (ys : List Table) (n : ℕ) (d : Shape) (u : Table) → AllZip R xs ys → (n < length ys → R (get_or xs n d) u) → AllZip R xs (set ys n u)
+pub zip_set : (R : Shape → Table → Type 0) (xs : List Shape) (ys : List Table) (n : ℕ) (d : Shape) (u : Table) → AllZip R xs ys → (n < length ys → R (get_or xs n d) u) → AllZip R xs (set ys n u)
 zip_set R [] [] n d u all p = all
 zip_set R [] (y ∷ ys) n d u all p = absurd all
 zip_set R (x ∷ xs) [] n d u all p = absurd all
@@ -124,7 +124,7 @@ undone_times_is : (k : ℕ) (d : Database) → IsDatabase d → IsDatabase (undo
 undone_times_is zero d is = is
 undone_times_is (suc k) d is = undone_times_is k (undone d) (undone_is d.catalog d.tables d.old d.revision is)
 
-all_take : (P : List Table → Type 0) (n : ℕ) (xs : List (List Table)) → AllByRecursion P xs → AllByRecursion P (take n xs)
+pub all_take : (P : List Table → Type 0) (n : ℕ) (xs : List (List Table)) → AllByRecursion P xs → AllByRecursion P (take n xs)
 all_take P zero xs all = tt
 all_take P (suc n) [] all = tt
 all_take P (suc n) (x ∷ xs) all = (all.0, all_take P n xs all.1)

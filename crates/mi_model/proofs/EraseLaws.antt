@@ -1,17 +1,15 @@
 -- Erasing many rows: it depends on which ids are erased, and not on their order.
 use Rattle.std.proofs.Common.{◌≡◌, ℕ, ◌+◌, Bool, true, false, cond, List, [], ◌∷◌, length, map, refl, ap, ap₂, sym, ◌∙◌, arith}
-use Rattle.std.specs.Prelude.{◌==◌, ◌&&◌, ◌||◌, not, if◌then◌else◌}
+use Rattle.std.specs.Prelude.{◌==◌, ◌&&◌, ◌||◌, not}
 use Rattle.std.specs.List.{filter, fold, list_any}
 use Rattle.std.specs.Ordering.{is_lt}
 use Rattle.std.specs.declared.cmp.Ordering.{Ordering}
-use Rattle.mi_value.specs.declared.value.Value.{Value}
 use Rattle.mi_schema.specs.declared.index.IndexKind.{IndexKind}
 use Rattle.mi_schema.specs.declared.index.IndexKind.TheVariants.{Ordered, Ranked, Hashed, Sequenced}
-use Rattle.mi_schema.specs.Shape.{Shape, index_at}
 use Rattle.mi_model.specs.Key.{Row}
-use Rattle.mi_model.specs.Table.{Table, list_of}
-use Rattle.mi_model.specs.View.{place, sorted, shown, compare_ids}
-use Rattle.mi_model.specs.Change.{without, erase, erase_all}
+use Rattle.mi_model.specs.Table.{Table}
+use Rattle.mi_model.specs.View.{place, sorted, shown}
+use Rattle.mi_model.specs.Change.{erase, erase_all}
 
 abbrev pub is_in : List ℕ → ℕ → Bool
 is_in ids a = list_any (λ b. a == b) ids

@@ -1,6 +1,7 @@
 pub mod StepLaws
 pub mod EraseLaws
 pub mod SessionLaws
+pub mod NumberLaws
 pub mod SortLaws
 pub mod ViewLaws
 pub mod PutLaws
@@ -8,3 +9,7 @@ pub mod TableLaws
 pub mod StampLaws
 pub mod SameLaws
 pub mod DatabaseLaws
+pub mod InvariantLaws
+pub mod UniqueLaws
+pub mod LookUpLaws
+pub mod AlikeLaws

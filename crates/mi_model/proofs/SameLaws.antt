@@ -60,7 +60,7 @@ same_erase s e t u a =
 abbrev pub IsFresh : Table → Type 0
 IsFresh t = (x : ℕ) → Lacks t.next (list_of t x)
 
-abbrev with_lists : List Row → List (List ℕ) → ℕ → ℕ → Table
+abbrev pub with_lists : List Row → List (List ℕ) → ℕ → ℕ → Table
 with_lists rows lists next arrivals = record { rows = rows; lists = lists; next = next; arrivals = arrivals }
 
 -- a hashed index shows its list

@@ -24,11 +24,11 @@ use Rattle.mi_model.proofs.PutLaws.{lookup_set_same}
 count_itself : (e : ℕ) → (e == e) ≡ true
 count_itself e = elim (eqb_tells e e) [ inl is ↦ is.0 | inr isnt ↦ absurd (isnt.1 refl) ]
 
-not_same : (a e : ℕ) → a ≢ e → (a == e) ≡ false
+pub not_same : (a e : ℕ) → a ≢ e → (a == e) ≡ false
 not_same a e ne = elim (eqb_tells a e) [ inl is ↦ absurd (ne is.1) | inr isnt ↦ isnt.0 ]
 
 -- an id that is at or above next isn't there
-above_next : (next e : ℕ) (rows : List Row) → Rise next rows → next ≤ e → lookup (λ k. k == e) rows ≡ None
+pub above_next : (next e : ℕ) (rows : List Row) → Rise next rows → next ≤ e → lookup (λ k. k == e) rows ≡ None
 above_next next e [] up le = refl
 above_next next e (r ∷ rows) up le =
     ap (λ b. cond b (Some r.1) (lookup (λ k. k == e) rows)) (not_same r.0 e (λ is. absurd (let l : r.0 < next = up.0 in omega arith)))
@@ -145,7 +145,7 @@ rise_set_value next e r (q ∷ rows) up =
       | false ↦ (up.0, all_set_value q.0 e r rows up.1, rise_set_value next e r rows up.2)
     ]
 
-lookup_push_same : (e : ℕ) (r : List Value) (rows : List Row) → lookup (λ k. k == e) rows ≡ None → lookup (λ k. k == e) (rows ++ (e, r) ∷ []) ≡ Some r
+pub lookup_push_same : (e : ℕ) (r : List Value) (rows : List Row) → lookup (λ k. k == e) rows ≡ None → lookup (λ k. k == e) (rows ++ (e, r) ∷ []) ≡ Some r
 lookup_push_same e r [] none = ap (λ b. cond b (Some r) None) (count_itself e)
 lookup_push_same e r (q ∷ rows) none =
     both_ways (q.0 == e)
@@ -153,7 +153,7 @@ lookup_push_same e r (q ∷ rows) none =
     (λ isnt. ap (λ b. cond b (Some q.1) (lookup (λ k. k == e) (rows ++ (e, r) ∷ []))) isnt
     ∙ lookup_push_same e r rows (sym (ap (λ b. cond b (Some q.1) (lookup (λ k. k == e) rows)) isnt) ∙ none))
 
-lookup_without_same : (e : ℕ) (rows : List Row) → lookup (λ k. k == e) (filter (λ r. not (r.0 == e)) rows) ≡ None
+pub lookup_without_same : (e : ℕ) (rows : List Row) → lookup (λ k. k == e) (filter (λ r. not (r.0 == e)) rows) ≡ None
 lookup_without_same e [] = refl
 lookup_without_same e (q ∷ rows) =
     both_ways (q.0 == e)

@@ -10,7 +10,7 @@ use Rattle.mi_value.specs.declared.edit.Edit.TheVariants.{Put, Add}
 use Rattle.mi_value.specs.declared.bound.Lower.TheVariants as lower
 use Rattle.mi_value.specs.declared.bound.Upper.TheVariants as upper
 use Rattle.mi_value.specs.declared.refusal.Refusal.TheVariants.{NoId, Range, Full, Unique, Lost}
-use Rattle.mi_schema.specs.declared.index.IndexKind.TheVariants.{Ordered, Ranked, Hashed, Sequenced}
+use Rattle.mi_schema.specs.declared.index.IndexKind.TheVariants.{Ordered, Ranked}
 use Rattle.mi_schema.specs.Shape.{Shape, CatalogShape}
 use Rattle.mi_schema.specs.Accounts.{accounts}
 use Rattle.mi_model.specs.Table.{Table, get, size}

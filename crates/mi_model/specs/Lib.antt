@@ -10,5 +10,8 @@ pub mod Database
 pub mod Same
 pub mod Steps
 pub mod Run
+pub mod Sessions
+pub mod Unique
+pub mod Alike
 pub mod Footprint
 pub mod Examples

@@ -13,16 +13,17 @@ use Rattle.mi_model.specs.View.{view, of_key, compare_ids, compare_to_id}
 abbrev pub rank_in : List ℕ → ℕ → ℕ
 rank_in ids e = position_or_len (λ a. a == e) ids
 
+-- the id before place n
+abbrev pub before_place : List ℕ → ℕ → Option ℕ
+before_place ids zero = None
+before_place ids (suc n) = slice_get ids n
+
 -- the id after e, and the one before it
 abbrev pub after_in : List ℕ → ℕ → Option ℕ
 after_in ids e = slice_get ids (rank_in ids e + 1)
 
 abbrev pub before_in : List ℕ → ℕ → Option ℕ
 before_in ids e = before_place ids (rank_in ids e)
-  where
-    before_place : List ℕ → ℕ → Option ℕ
-    before_place ids zero = None
-    before_place ids (suc n) = slice_get ids n
 
 abbrev pub rank : Shape → Table → ℕ → ℕ → ℕ
 rank s t x e = rank_in (view s t x) e
@@ -56,7 +57,7 @@ abbrev pub first : Shape → Table → ℕ → Option ℕ
 first s t x = slice_get (view s t x) 0
 
 abbrev pub last : Shape → Table → ℕ → Option ℕ
-last s t x = before_in (view s t x) (length (view s t x))
+last s t x = before_place (view s t x) (length (view s t x))
 
 abbrev pub after : Shape → Table → ℕ → ℕ → Option ℕ
 after s t x e = after_in (view s t x) e
