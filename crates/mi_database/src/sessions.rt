@@ -1,24 +1,38 @@
 //! The calls of a database: several tables under one stack of nested sessions. It says what each call answers and leaves,
 //! by the definitions of `mi_model`, and nothing of how rows are kept.
-ghost use Rattle.std.specs.Prelude.{◌≡◌, ◌<◌, true, length, IsTrue, IfSome, IfErr};
+ghost use Rattle.std.specs.Prelude.{◌≡◌, ◌<◌, ℕ, true, false, length, IsTrue, IfSome, IfErr};
+ghost use Rattle.std.specs.declared.option.Option.{Option as Maybe};
 ghost use Rattle.std.specs.Option.{option_copied};
 ghost use Rattle.mi_schema.specs.Fits.{fits_record, fits_key};
-ghost use Rattle.mi_schema.specs.declared.index.IndexKind.TheVariants.{Sequenced};
-ghost use Rattle.mi_model.specs.Table.{get as get_row};
+ghost use Rattle.mi_schema.specs.declared.index.IndexKind.TheVariants.{Hashed, Sequenced};
+ghost use Rattle.mi_model.specs.Table.{get as get_row, has as has_row, size as size_of};
+ghost use Rattle.mi_model.specs.View.{is_sorted, shows_one_list};
+ghost use Rattle.mi_model.specs.Lookup as look;
 ghost use Rattle.mi_schema.specs.Shape.{index_at};
-ghost use Rattle.mi_model.specs.Database.{Database, schema_of, table_of, depth as depth_of, start_step, undo_step};
+ghost use Rattle.mi_model.specs.Database.{Database, IsDatabase, schema_of, table_of, depth as depth_of, start_step, undo_step, squash_step, ending, committed, undone_times};
 ghost use Rattle.mi_model.specs.Steps.{Meets, without_value, insert_step, replace_step, modify_step, erase_step, erase_key_step, relocate_step};
+ghost use Rattle.mi_database.specs.LookUps.{WithinLookUps};
 
 use mi_schema::Catalog;
-use mi_value::{Edit, NoSession, Record, Refusal, Value};
+use mi_value::{Edit, NoSession, Record, Refusal, Steps, Value};
 use std::alloc::Global;
 
 /// Tables under one stack of nested sessions.
 ///
 /// The tables are named by their number in the catalog. A refused call changes nothing. Where a growth is refused a call
-/// that can answer `Memory` does, and nothing has changed.
+/// that can answer `Memory` does, and nothing has changed. Calls that read take no memory.
+///
+/// Calls that compare keys count each comparison on `steps`. `bound` says how many one look-up in a table of so many rows
+/// makes at most, if the database promises it.
 pub trait Sessions {
     ghost state: { Self → Database };
+
+    ghost bound: { ℕ → Maybe ℕ };
+
+    /// States what holds of every database: in each table every index lists each record once, and no id is used twice. It
+    /// does nothing.
+    fn keeps_rules(&self)
+        ensures { IsDatabase (state self.now) };
 
     /// The tables' schemas. It never changes.
     fn catalog(&self) -> &Catalog
@@ -107,10 +121,16 @@ pub trait Sessions {
         requires index { (index_at (schema_of (state self.old) table) index).kind ≡ Sequenced }
         ensures { Meets (relocate_step table index id before (state self.old)) result (state self.old) (state self.new) };
 
-    /// The record of an id, or none.
-    fn get(&self, table: usize, id: u64) -> Option<&Record>
+    /// How many records a table has.
+    fn size(&self, table: usize) -> u64
         requires { table < length (state self.now).catalog.tables }
-        ensures { option_copied result ≡ get_row (table_of (state self.now) table) id };
+        ensures { result ≡ size_of (table_of (state self.now) table) };
+
+    /// The record of an id, or none. At most one look-up.
+    fn get(&self, table: usize, id: u64, steps: &mut Steps) -> Option<&Record>
+        requires { table < length (state self.now).catalog.tables }
+        ensures record { option_copied result ≡ get_row (table_of (state self.now) table) id }
+        ensures steps { WithinLookUps bound 1 (size_of (table_of (state self.now) table)) steps.old.count steps.new.count };
 
     /// Opens a session and answers its number, the new revision. Refusals, in this order: `Spent` (the revision is
     /// 2^63 - 1), `Depth` (1,024 are open), `Memory`.
@@ -122,6 +142,23 @@ pub trait Sessions {
     fn undo(&mut self) -> Result<u64, NoSession>
         ensures answer { result ≡ (undo_step (state self.old)).0 }
         ensures state { state self.new ≡ (undo_step (state self.old)).1 };
+
+    /// Joins the newest session into the one below it, or with one open ends it and keeps its changes; answers the new
+    /// revision. Its one refusal is that no session is open.
+    fn squash(&mut self) -> Result<u64, NoSession>
+        ensures answer { result ≡ (squash_step (state self.old)).0 }
+        ensures state { state self.new ≡ (squash_step (state self.old)).1 };
+
+    /// Ends the sessions with a number of at most this, the oldest first, and keeps their changes; answers how many. The
+    /// revision stays, and so do the numbers of the others.
+    fn commit(&mut self, number: u64) -> u64
+        ensures answer { result ≡ ending number (state self.old) }
+        ensures state { state self.new ≡ committed number (state self.old) };
+
+    /// Takes back all changes since the oldest start and answers how many sessions it undid.
+    fn undo_all(&mut self) -> u64
+        ensures answer { result ≡ depth_of (state self.old) }
+        ensures state { state self.new ≡ undone_times (depth_of (state self.old)) (state self.old) };
 
     /// The number of the newest session, or where none is open the one it opened with.
     fn revision(&self) -> u64

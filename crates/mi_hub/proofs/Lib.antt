@@ -5,3 +5,4 @@ pub mod RunLemmas
 pub mod PieceLemmas
 pub mod AnswerLemmas
 pub mod WriteLemmas
+pub mod DriveLemmas

@@ -78,7 +78,7 @@ run_two e f old mid new first later p q = (mid, first, later, p, run_one f mid n
 
 -- ---- a piece in a run, or the same piece cut in two
 
-run_append : (xs ys : List Event) (old mid new : HubState) (first later : List ℕ) → Run old xs first mid → Run mid ys later new → Run old (xs ++ ys) (first ++ later) new
+pub run_append : (xs ys : List Event) (old mid new : HubState) (first later : List ℕ) → Run old xs first mid → Run mid ys later new → Run old (xs ++ ys) (first ++ later) new
 run_append [] ys old mid new first later p q =
     subst (λ t. Run old ys (t ++ later) new) (sym p.0) (subst (λ s. Run s ys later new) p.1 q)
 run_append (x ∷ xs) ys old mid new first later p q =

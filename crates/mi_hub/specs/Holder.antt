@@ -1,5 +1,5 @@
 -- Which connection holds open sessions. What it holds are the newest sessions.
-use Rattle.std.specs.Prelude.{ℕ, ◌+◌, ◌-◌, Bool, false, not, ◌==◌, nat_le, if◌then◌else◌, Option, Some, None}
+use Rattle.std.specs.Prelude.{ℕ, ◌+◌, ◌-◌, min, Bool, false, not, ◌==◌, nat_le, if◌then◌else◌, Option, Some, None}
 use Rattle.mi_model.specs.Database.{Database, undone_times}
 use Rattle.mi_hub.specs.declared.holder.Holder.{Holder}
 
@@ -18,10 +18,15 @@ abbrev pub one_more : ℕ → Option Holder → Option Holder
 one_more conn None = Some (record { conn = conn; held = 1 })
 one_more conn (Some h) = Some (record { conn = h.conn; held = h.held + 1 })
 
--- after an accepted undo
+-- after an accepted undo or squash
 abbrev pub one_less : Option Holder → Option Holder
 one_less None = None
 one_less (Some h) = if nat_le h.held 1 then None else Some (record { conn = h.conn; held = h.held - 1 })
+
+-- after a commit that leaves this many sessions open
+abbrev pub at_most : ℕ → Option Holder → Option Holder
+at_most opened None = None
+at_most opened (Some h) = if opened == 0 then None else Some (record { conn = h.conn; held = min h.held opened })
 
 -- how many sessions are held at all
 abbrev pub held_count : Option Holder → ℕ

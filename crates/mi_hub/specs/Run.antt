@@ -7,7 +7,7 @@ use Rattle.mi_hub.specs.Connections.{rest_at, with_rest, others}
 use Rattle.mi_hub.specs.Answer.{MayGive}
 use Rattle.mi_hub.specs.Served.{Served, CutOff}
 use Rattle.mi_hub.specs.declared.connection.Connection.{Connection}
-use Rattle.mi_hub.specs.declared.connection.TheConstants.{MAX_ATTACHED}
+use Rattle.mi_value.specs.declared.limits.TheConstants.{MAX_CONNECTIONS}
 
 -- the database with its holder, and the attached connections, each with the rest of the bytes fed to it
 pub record HubState : Type 0 where
@@ -38,7 +38,7 @@ with_held h s = record { held = h; attached = s.attached }
 -- rest. close: its rest is a line and is answered, and then it is gone. cut: nothing is asked, and it is gone.
 abbrev pub Done : HubState → Event → List ℕ → HubState → Type 0
 Done old (attach conn) out new =
-    (rest_at conn old.attached ≡ None) × (length old.attached < MAX_ATTACHED) × (out ≡ []) × (new ≡ with_connection conn old)
+    (rest_at conn old.attached ≡ None) × (length old.attached < MAX_CONNECTIONS) × (out ≡ []) × (new ≡ with_connection conn old)
 Done old (piece conn bytes) out new =
     (r : Rest) × (rest_at conn old.attached ≡ Some r) × Served (MayGive conn) old.held (lines_from r bytes) out new.held
     × (new.attached ≡ with_rest conn (rest_from r bytes) old.attached)

@@ -5,9 +5,6 @@ ghost use Rattle.mi_hub.specs.Places.{StandsAt};
 
 use crate::line::LineBuffer;
 
-/// Connections that can be attached at a time, at most: one, until pieces of several are fed by turns.
-pub const MAX_ATTACHED: usize = 1;
-
 /// An attached connection, and its bytes since the last newline.
 #[derive(Drop)]
 pub struct Connection {

@@ -1,29 +1,27 @@
 //! Commands, one line at a time, over the database: parsed, kept out where another connection holds sessions, bound, done, said.
 //! It reads and writes no stream, and knows of the database what `Sessions` says.
-ghost use Rattle.std.specs.Prelude.{◌≡◌, ◌≢◌, ◌+◌, ◌-◌, ◌<◌, ◌≤◌, true, None, Ok};
+ghost use Rattle.std.specs.Prelude.{◌≡◌, ◌≢◌, ◌≤◌, true, None, Ok};
 ghost use Rattle.mi_model.specs.Database.{depth, undone_times};
 ghost use Rattle.mi_protocol.specs.Binding.{FitsCatalog};
 ghost use Rattle.mi_protocol.specs.Replies.{reply_text, refused, said, is_short, IsSaidOf, NamesNoIndex};
 ghost use Rattle.mi_protocol.specs.Text.{text_bytes};
-ghost use Rattle.mi_hub.specs.Holder as spec;
-ghost use Rattle.mi_hub.specs.Holder.{held_count};
 
-use crate::holder::Holder;
+use crate::holder::{Holder, held_by, is_busy, without_holder};
 use crate::line::Line;
 use crate::serve::Answering;
 use mi_database::Sessions;
 use mi_protocol::{Command, Reply, ReplyText, Request, bind, parse_line};
 use mi_schema::Catalog;
-use mi_value::{Record, Refusal};
+use mi_value::{Refusal, Steps};
 use std::alloc::Global;
 use std::marker::Model;
 
 /// A database, and who holds its open sessions.
 #[derive(Drop)]
 pub struct Executor<D: Sessions + Drop> {
-    database: D,
-    holder: Option<Holder>,
-    alloc: Global,
+    pub(crate) database: D,
+    pub(crate) holder: Option<Holder>,
+    pub(crate) alloc: Global,
 }
 
 impl<D: Sessions + Drop> Model for Executor<D> {
@@ -40,7 +38,8 @@ impl<D: Sessions + Drop> Model for Executor<D> {
 
 impl<D: Sessions + Drop> Executor<D> {
     ghost use Rattle.mi_hub.specs.Holder.{released};
-    ghost use Rattle.mi_hub.specs.Answer.{insert_row, show_row, start_session, undo_session, done, request_answer, IsGiven, GivenOrMemory, MayGive};
+    ghost use Rattle.mi_hub.specs.Performed.{show_row, performed};
+    ghost use Rattle.mi_hub.specs.Answer.{request_answer, GivenOrMemory, MayGive};
     ghost use Rattle.mi_hub.specs.Lines.{text};
 
     /// A database that nobody holds sessions of.
@@ -70,26 +69,13 @@ impl<D: Sessions + Drop> Executor<D> {
         undo_times(&mut self.database, count);
     }
 
-    /// Adds a record to a table, before a place where one is given.
-    fn insert(&mut self, table: usize, row: Record, before: Option<(usize, u64)>) -> ReplyText
-        requires { FitsCatalog self.old.database.catalog (Command.Insert table row before) }
-        ensures { GivenOrMemory (Unit {0}) (insert_row self.old table row before) self.old (text_bytes result) self.new }
-    {
-        match self.database.insert(self.alloc, table, row, before) {
-            Ok(id) => short_text(self.alloc, self.database.catalog(), Reply::Inserted(id)),
-            Err((refusal, _row)) => {
-                let reply = Reply::Refused { table, refusal };
-                short_text(self.alloc, self.database.catalog(), reply)
-            }
-        }
-    }
-
     /// Shows a record.
     fn get(&self, table: usize, id: u64) -> ReplyText
         requires { FitsCatalog self.now.database.catalog (Command.Get table id) }
-        ensures { GivenOrMemory (Unit {0}) (show_row self.now table id) self.now (text_bytes result) self.now }
+        ensures { GivenOrMemory (Unit {0}) (show_row self.now table id, self.now) self.now (text_bytes result) self.now }
     {
-        let Some(row) = self.database.get(table, id) else {
+        let mut steps = Steps::new();
+        let Some(row) = self.database.get(table, id, &mut steps) else {
             return self.refuse(Refusal::NoId);
         };
         let reply = Reply::Shown { table, id, row };
@@ -99,51 +85,31 @@ impl<D: Sessions + Drop> Executor<D> {
         }
     }
 
-    /// Opens a session, which the connection then holds.
-    fn start(&mut self, conn: u64) -> ReplyText
-        ensures { GivenOrMemory (Unit {0}) (start_session self.old conn) self.old (text_bytes result) self.new }
-    {
-        match self.database.start(self.alloc) {
-            Ok(revision) => {
-                let opened = self.database.depth();
-                self.holder = one_more(self.holder, conn, opened);
-                short_text(
-                    self.alloc,
-                    self.database.catalog(),
-                    Reply::Revised(revision),
-                )
-            }
-            Err(refusal) => self.refuse(refusal),
-        }
-    }
-
-    /// Undoes the newest session. It takes no memory.
-    fn undo(&mut self) -> ReplyText
-        ensures { IsGiven (undo_session self.old) self.old (text_bytes result) self.new }
-    {
-        match self.database.undo() {
-            Ok(revision) => {
-                self.holder = one_less(self.holder);
-                short_text(
-                    self.alloc,
-                    self.database.catalog(),
-                    Reply::Revised(revision),
-                )
-            }
-            Err(_none) => self.refuse(Refusal::Session),
-        }
-    }
-
     /// Does a command that fits the catalog. An undo takes no memory.
     fn perform(&mut self, conn: u64, command: Command) -> ReplyText
         requires { FitsCatalog self.old.database.catalog command }
-        ensures { GivenOrMemory (command ≢ Command.Undo) (done self.old conn command) self.old (text_bytes result) self.new }
+        ensures { GivenOrMemory (command ≢ Command.Undo) (performed self.old conn command) self.old (text_bytes result) self.new }
     {
         match command {
             Command::Insert { table, row, before } => self.insert(table, row, before),
-            Command::Get { table, id } => self.get(table, id),
+            Command::Replace { table, id, row } => self.replace(table, id, row),
+            Command::Modify {
+                table,
+                id,
+                edits,
+                rollback,
+            } => self.modify(table, id, edits.as_slice(), rollback),
+            Command::Erase { table, id } => self.erase(table, id),
+            Command::EraseKey { table, index, key } => self.erase_key(table, index, key.values()),
+            Command::Relocate {
+                table,
+                index,
+                id,
+                before,
+            } => self.relocate(table, index, id, before),
             Command::Start => self.start(conn),
             Command::Undo => self.undo(),
+            Command::Get { table, id } => self.get(table, id),
         }
     }
 
@@ -171,12 +137,20 @@ impl<D: Sessions + Drop> Executor<D> {
     }
 
     /// The text of a refusal that names no index. It takes no memory.
-    fn refuse(&self, refusal: Refusal) -> ReplyText
+    pub(crate) fn refuse(&self, refusal: Refusal) -> ReplyText
         requires { NamesNoIndex refusal }
         ensures { text_bytes result ≡ reply_text self.now.database.catalog (refused 0 refusal) }
     {
-        let reply = Reply::Refused { table: 0, refusal };
-        short_text(self.alloc, self.database.catalog(), reply)
+        self.say(Reply::Refused { table: 0, refusal })
+    }
+
+    /// The text of a reply that shows no row. It takes no memory.
+    pub(crate) fn say(&self, reply: Reply<'_>) -> ReplyText
+        requires said { IsSaidOf self.now.database.catalog (said reply) }
+        requires short { is_short (said reply) ≡ true }
+        ensures { text_bytes result ≡ reply_text self.now.database.catalog (said reply.entry) }
+    {
+        reply.text(self.alloc, self.database.catalog()).unwrap()
     }
 }
 
@@ -193,56 +167,8 @@ impl<D: Sessions + Drop> Answering for Executor<D> {
     }
 }
 
-/// The text of a reply that shows no row. It takes no memory.
-fn short_text(alloc: Global, catalog: &Catalog, reply: Reply<'_>) -> ReplyText
-    requires said { IsSaidOf catalog.now (said reply) }
-    requires short { is_short (said reply) ≡ true }
-    ensures { text_bytes result ≡ reply_text catalog.now (said reply.entry) }
-{
-    reply.text(alloc, catalog).unwrap()
-}
-
-/// Whether another connection holds sessions.
-fn is_busy(holder: &Option<Holder>, conn: u64) -> bool
-    ensures { result ≡ spec.is_busy holder.now conn }
-{
-    match holder {
-        Some(holder) => holder.conn != conn,
-        None => false,
-    }
-}
-
-/// The holder after a start; `opened` sessions are open then.
-fn one_more(holder: Option<Holder>, conn: u64, opened: u64) -> Option<Holder>
-    requires { held_count holder < opened }
-    ensures holder { result ≡ spec.one_more conn holder }
-    ensures count { held_count result ≡ held_count holder + 1 }
-{
-    match holder {
-        Some(holder) => Some(Holder {
-            conn: holder.conn,
-            held: holder.held + 1,
-        }),
-        None => Some(Holder { conn, held: 1 }),
-    }
-}
-
-/// The holder after an undo.
-fn one_less(holder: Option<Holder>) -> Option<Holder>
-    ensures holder { result ≡ spec.one_less holder }
-    ensures count { held_count result ≡ held_count holder - 1 }
-{
-    match holder {
-        Some(holder) if holder.held > 1 => Some(Holder {
-            conn: holder.conn,
-            held: holder.held - 1,
-        }),
-        _ => None,
-    }
-}
-
 /// Undoes the newest sessions, this many. It takes no memory.
-fn undo_times<D: Sessions>(database: &mut D, count: u64)
+pub(crate) fn undo_times<D: Sessions>(database: &mut D, count: u64)
     requires { count ≤ depth (D.state database.old) }
     ensures { D.state database.new ≡ undone_times count (D.state database.old) }
 {
@@ -250,26 +176,5 @@ fn undo_times<D: Sessions>(database: &mut D, count: u64)
     'sessions: while left > 0 {
         let _ = database.undo();
         left -= 1;
-    }
-}
-
-/// How many sessions this connection holds.
-fn held_by(holder: &Option<Holder>, conn: u64) -> u64
-    ensures { result ≡ spec.held_by conn holder.now }
-{
-    match holder {
-        Some(holder) if holder.conn == conn => holder.held,
-        _ => 0,
-    }
-}
-
-/// The holder once this connection is gone.
-fn without_holder(holder: Option<Holder>, conn: u64) -> Option<Holder>
-    ensures holder { result ≡ spec.without_holder conn holder }
-    ensures count { held_count result + spec.held_by conn holder ≡ held_count holder }
-{
-    match holder {
-        Some(holder) if holder.conn == conn => None,
-        other => other,
     }
 }

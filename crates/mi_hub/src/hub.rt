@@ -1,6 +1,7 @@
 //! Connections by turns over one database. A call does one event of one connection, and nothing else changes.
 ghost use Rattle.std.specs.Prelude.{◌≡◌, ◌≢◌, ◌↔◌, ◌⊎◌, ◌≤◌, ℕ, List, [], true, None, Some, Err, MatchOption, IfSome, IsSome, OnOk, OnErr, length, ◌<◌};
 ghost use Rattle.std.specs.List.{remove};
+ghost use Rattle.mi_value.specs.declared.limits.TheConstants.{MAX_CONNECTIONS};
 ghost use Rattle.mi_hub.specs.Lines.{extended};
 ghost use Rattle.mi_hub.specs.Holder.{released};
 ghost use Rattle.mi_hub.specs.Connections.{rest_at};
@@ -8,13 +9,14 @@ ghost use Rattle.mi_hub.specs.Places.{StandsAt};
 ghost use Rattle.mi_hub.specs.Run.{piece, close, cut, attach, Done, Failed};
 ghost use Rattle.mi_hub.specs.Watching.{has_failed, Writes};
 
-use crate::connection::{Connection, MAX_ATTACHED, place_of};
+use crate::connection::{Connection, place_of};
 use crate::executor::Executor;
 use crate::fault::HubFault;
 use crate::line::LineBuffer;
 use crate::serve::{serve_last, serve_piece};
 use crate::watched::Watched;
 use mi_database::Sessions;
+use mi_value::limits::MAX_CONNECTIONS;
 use std::alloc::Global;
 use std::io::Write;
 use std::marker::Model;
@@ -61,13 +63,13 @@ impl<D: Sessions + Drop> Hub<D> {
         ensures ok { OnOk result (Done self.old (attach conn) [] self.new) }
         ensures refused { OnErr result (self.new ≡ self.old) }
         ensures already { (result ≡ Err HubFault.AlreadyAttached) ↔ IsSome (rest_at conn self.old.attached) }
-        ensures full { (result ≡ Err HubFault.TooMany) ↔ (rest_at conn self.old.attached ≡ None) × (MAX_ATTACHED ≤ length self.old.attached) }
+        ensures full { (result ≡ Err HubFault.TooMany) ↔ (rest_at conn self.old.attached ≡ None) × (MAX_CONNECTIONS ≤ length self.old.attached) }
         ensures no_other { (result ≢ Err HubFault.NotAttached) × (result ≢ Err HubFault.Write) }
     {
         if self.place(conn).is_some() {
             return Err(HubFault::AlreadyAttached);
         }
-        if self.connections.len() >= MAX_ATTACHED {
+        if self.connections.len() >= MAX_CONNECTIONS {
             return Err(HubFault::TooMany);
         }
         let Ok(rest) = LineBuffer::new(self.alloc) else {
@@ -82,7 +84,7 @@ impl<D: Sessions + Drop> Hub<D> {
     /// A piece of a connection's bytes: each line that ends in it is answered.
     ///
     /// `NotAttached` changes nothing. After `Write` the connection has been cut.
-    pub(crate) fn feed<W: Write>(
+    pub fn feed<W: Write>(
         &mut self,
         conn: u64,
         bytes: &[u8],
@@ -117,11 +119,7 @@ impl<D: Sessions + Drop> Hub<D> {
     /// A connection's bytes end: its last line is answered, then the sessions that it holds are undone and it is gone.
     ///
     /// `NotAttached` changes nothing. After `Write` the connection has been cut.
-    pub(crate) fn close<W: Write>(
-        &mut self,
-        conn: u64,
-        writer: &mut Watched<W>,
-    ) -> Result<(), HubFault>
+    pub fn close<W: Write>(&mut self, conn: u64, writer: &mut Watched<W>) -> Result<(), HubFault>
         ensures ok { OnOk result ((out : List ℕ) × Writes W.contents writer.old writer.new out × Done self.old (close conn) out self.new) }
         ensures sound { OnOk result (has_failed writer.new ≡ has_failed writer.old) }
         ensures not_attached { (result ≡ Err HubFault.NotAttached) ↔ (rest_at conn self.old.attached ≡ None) }
@@ -144,7 +142,7 @@ impl<D: Sessions + Drop> Hub<D> {
     /// A connection goes away with nothing more asked: the sessions that it holds are undone. It takes no memory.
     ///
     /// `NotAttached` changes nothing.
-    pub(crate) fn cut(&mut self, conn: u64) -> Result<(), HubFault>
+    pub fn cut(&mut self, conn: u64) -> Result<(), HubFault>
         ensures ok { OnOk result (Done self.old (cut conn) [] self.new) }
         ensures not_attached { (result ≡ Err HubFault.NotAttached) ↔ (rest_at conn self.old.attached ≡ None) }
         ensures refused { OnErr result ((result ≡ Err HubFault.NotAttached) × (self.new ≡ self.old)) }

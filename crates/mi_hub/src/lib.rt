@@ -2,7 +2,9 @@
 //! It knows the database by its trait alone, and of readers and writers only what they say that they gave and took.
 #![tactic(auto)]
 
+mod changes;
 mod connection;
+mod events;
 mod executor;
 mod fault;
 mod holder;
@@ -11,9 +13,11 @@ pub mod laws;
 mod line;
 mod send;
 mod serve;
+mod sessions;
 mod stream;
 mod watched;
 
+pub use events::{Event, drive};
 pub use fault::{HubFault, ServeFault};
 pub use hub::Hub;
 pub use stream::serve_stream;

@@ -1,6 +1,6 @@
 -- Rows found and set, lists moved, and what a free replace says.
 use Rattle.std.proofs.lemmas.List.{drop_all, append-nil}
-use Rattle.std.proofs.Common.{◌≡◌, ℕ, zero, suc, ◌+◌, ◌<◌, ◌≤◌, Bool, true, false, List, [], ◌∷◌, length, slice_set, refl, ap, sym, subst, cond, arith, ◌∙◌}
+use Rattle.std.proofs.Common.{◌≡◌, ℕ, suc, ◌+◌, ◌<◌, ◌≤◌, Bool, true, false, List, [], ◌∷◌, length, slice_set, refl, ap, sym, subst, cond, arith, ◌∙◌}
 use Rattle.std.specs.Prelude.{◌==◌, not, if◌then◌else◌, nat_lt, MatchOption, drop, ◌++◌}
 use Rattle.std.specs.List.{position_or_len, position}
 use Rattle.std.specs.Option.{option_map}

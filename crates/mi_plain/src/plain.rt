@@ -3,7 +3,7 @@ use crate::table::PlainTable;
 use mi_database::Sessions;
 use mi_schema::Catalog;
 use mi_value::limits::{LAST_COUNT, MAX_SESSIONS};
-use mi_value::{Edit, NoSession, Record, Refusal, Value};
+use mi_value::{Edit, NoSession, Record, Refusal, Steps, Value};
 use std::alloc::{AllocError, Global};
 use std::marker::Model;
 
@@ -33,15 +33,14 @@ pub struct Plain {
 
 impl Model for Plain {
     ghost use Rattle.std.specs.Prelude.{◌≡◌, ◌≤◌, length, reverse};
-    ghost use Rattle.std.specs.List.{All};
     ghost use Rattle.mi_value.specs.declared.limits.TheConstants.{LAST_COUNT};
-    ghost use Rattle.mi_model.specs.Database.{Database};
+    ghost use Rattle.mi_model.specs.Database.{Database, IsDatabase};
 
     ghost Value = { Database };
 
     ghost view = { λ a. record { catalog = a.catalog; tables = a.tables.items; old = reverse a.old.items; revision = a.revision } };
 
-    ghost invariant = { λ a. (length a.tables.items ≡ length a.catalog.tables) × All (λ tables. length tables ≡ length a.catalog.tables) a.old.items × (length a.old.items ≤ a.revision) × (a.revision ≤ LAST_COUNT) };
+    ghost invariant = { λ a. IsDatabase (record { catalog = a.catalog; tables = a.tables.items; old = reverse a.old.items; revision = a.revision }) × (length a.tables.items ≡ length a.catalog.tables) × (length a.old.items ≤ a.revision) × (a.revision ≤ LAST_COUNT) };
 }
 
 ghost use Rattle.std.specs.Prelude.{◌≡◌, IfOk, map};
@@ -90,7 +89,15 @@ impl Plain {
 }
 
 impl Sessions for Plain {
+    ghost use Rattle.std.specs.declared.option.Option.TheVariants.{None};
+
     ghost state = { λ s. s };
+
+    ghost bound = { λ n. None };
+
+    fn keeps_rules(&self) {
+        let _ = &self.catalog;
+    }
 
     fn catalog(&self) -> &Catalog {
         &self.catalog
@@ -157,7 +164,12 @@ impl Sessions for Plain {
         self.tables[table].relocate(alloc, index, id, before)
     }
 
-    fn get(&self, table: usize, id: u64) -> Option<&Record> {
+    fn size(&self, table: usize) -> u64 {
+        self.tables[table].size()
+    }
+
+    fn get(&self, table: usize, id: u64, steps: &mut Steps) -> Option<&Record> {
+        let _ = steps;
         self.tables[table].get(id)
     }
 
@@ -185,6 +197,31 @@ impl Sessions for Plain {
         self.tables = tables;
         self.revision -= 1;
         Ok(self.revision)
+    }
+
+    fn squash(&mut self) -> Result<u64, NoSession> {
+        match self.old.pop() {
+            None => Err(NoSession),
+            Some(_joined) => {
+                self.revision -= 1;
+                Ok(self.revision)
+            }
+        }
+    }
+
+    fn commit(&mut self, number: u64) -> u64 {
+        let open = self.old.len() as u64;
+        let ending = number.saturating_sub(self.revision - open).min(open);
+        self.old.drain(..ending as usize);
+        ending
+    }
+
+    fn undo_all(&mut self) -> u64 {
+        let open = self.depth();
+        for _ in 0..open {
+            let _ = self.undo();
+        }
+        open
     }
 
     fn revision(&self) -> u64 {

@@ -50,7 +50,7 @@ impl PlainTable {
     ghost use Rattle.std.specs.List.{filter};
     ghost use Rattle.mi_model.specs.Change.{put as put_row, erase as erase_row, erase_all};
     ghost use Rattle.std.specs.Option.{option_copied};
-    ghost use Rattle.mi_model.specs.Table.{get as get_row, has as has_row, opened as opened_table, list_of};
+    ghost use Rattle.mi_model.specs.Table.{get as get_row, has as has_row, size as size_of, opened as opened_table, list_of};
     ghost use Rattle.mi_model.specs.View.{compare_to_id};
     ghost use Rattle.mi_model.specs.Verdict as verdict;
     ghost use Rattle.mi_model.specs.Steps.{Meets, without_value};
@@ -73,6 +73,13 @@ impl PlainTable {
         ensures { option_copied result ≡ get_row self.now id }
     {
         find_row(self.rows.as_slice(), id)
+    }
+
+    /// How many rows there are.
+    pub(crate) fn size(&self) -> u64
+        ensures { result ≡ size_of self.now }
+    {
+        self.rows.len() as u64
     }
 
     fn has(&self, id: u64) -> bool

@@ -1,11 +1,17 @@
 -- A command that is bound fits the catalog.
-use Rattle.std.proofs.Common.{◌≡◌, ℕ, ◌<◌, List, [], ◌∷◌, length, map, nat_le, Bool, true, false, cond, Option, Some, None, option_map, option_and_then, IfSome, Result, Ok, Err, IfOk, ℤ, refl, ap, subst, ◌∙◌, ◌&&◌}
-use Rattle.std.specs.Option.{ok_or}
-use Rattle.serde_json.specs.Data.{Data, Members}
+use Rattle.std.proofs.Common.{◌≡◌, ℕ, ◌<◌, zero, suc, List, [], ◌∷◌, length, map, drop, slice_get, nat_le, nat_lt, Bool, true, false, cond, Option, Some, None, option_map, option_and_then, IfSome, Result, Ok, Err, IfOk, ℤ, refl, sym, ap, subst, ◌∙◌, ◌&&◌, true≢false, rules}
+use Rattle.std.specs.List.{list_all, position, position_or_len}
+use Rattle.std.specs.Str.{bytes_eq}
+use Rattle.std.proofs.lemmas.Bool.{ltb-true}
+use Rattle.std.proofs.Math.Seq.{drop-nil}
+use Rattle.std.specs.Option.{ok_or, option_map_or}
+use Rattle.serde_json.specs.Data.{Data, Items, Members}
 use Rattle.serde_json.specs.Find.{get_member, as_number, as_i64, as_str, as_bool}
+use Rattle.mi_value.specs.declared.edit.Edit.{Edit}
+use Rattle.mi_value.specs.declared.edit.Edit.TheVariants as edit
 use Rattle.mi_value.specs.declared.limits.TheConstants.{MAX_TEXT}
 use Rattle.mi_value.specs.declared.refusal.Refusal.{Refusal}
-use Rattle.mi_value.specs.declared.refusal.Refusal.TheVariants.{Index, Kind, Row}
+use Rattle.mi_value.specs.declared.refusal.Refusal.TheVariants.{NoTable, Index, Kind, Row, Key}
 use Rattle.mi_value.specs.declared.value.ColumnType.{ColumnType}
 use Rattle.mi_value.specs.declared.value.ColumnType.TheVariants as column
 use Rattle.mi_value.specs.declared.value.Value.{Value}
@@ -13,15 +19,20 @@ use Rattle.mi_value.specs.declared.value.Value.TheVariants as value
 use Rattle.mi_schema.specs.declared.index.Column.{Column}
 use Rattle.mi_schema.specs.declared.index.IndexKind.{IndexKind}
 use Rattle.mi_schema.specs.declared.index.IndexKind.TheVariants.{Ordered, Ranked, Hashed, Sequenced}
-use Rattle.mi_schema.specs.Shape.{Shape, CatalogShape, schema_at, index_at, find_index}
-use Rattle.mi_schema.specs.Fits.{fits_type, fits_record}
+use Rattle.mi_schema.specs.Shape.{Shape, CatalogShape, schema_at, index_at, find_index, find_table}
+use Rattle.mi_schema.specs.Fits.{fits_type, fits_record, fits_key}
+use Rattle.mi_schema.specs.Rules.{is_catalog}
 use Rattle.mi_protocol.specs.Answers.{IsAnswer}
+use Rattle.mi_protocol.specs.Edits.{addition, edit_of, with_edit, edits_from, bound_edits, is_int, fits_edit}
 use Rattle.mi_protocol.specs.Json.{has_only, option_map₂}
+use Rattle.mi_protocol.specs.Keys.{plain_values, if_key, bound_key}
+use Rattle.mi_protocol.specs.Kinds.{has_keys, is_sequenced}
 use Rattle.mi_protocol.specs.Rows.{short_text, fitting, values_of, bound_row}
-use Rattle.mi_protocol.specs.Binding.{is_sequenced, and_then, sequenced_place, bound_place, bound_insert, FitsCatalog}
+use Rattle.mi_protocol.specs.Binding.{and_then, table_number, of_kind, index_number, bound_place, bound_insert, bound_replace, bound_modify, bound_erase_key, bound_relocate, bound_command, FitsCatalog}
 use Rattle.mi_protocol.specs.declared.request.Place.{Place}
+use Rattle.mi_protocol.specs.declared.request.Request.{Request}
+use Rattle.mi_protocol.specs.declared.request.Request.TheVariants as request
 use Rattle.mi_protocol.specs.declared.binding.Command.{Command}
-use Rattle.mi_protocol.specs.declared.binding.Command.TheVariants as command
 
 -- ---- a row
 
@@ -64,37 +75,197 @@ if-fits false cs r h = tt
 row-fits : (cs : List Column) (ms : Members) → IfSome (bound_row cs ms) (λ vs. fits_record cs vs ≡ true)
 row-fits cs ms = if-fits (has_only (map (λ c. c.name) cs) ms) cs (values_of cs ms) (values-fit cs ms)
 
+-- ---- columns from one on
+
+abbrev first : List Column → Option Column
+first [] = None
+first (c ∷ cs) = Some c
+
+abbrev others : List Column → List Column
+others [] = []
+others (c ∷ cs) = cs
+
+at-front : (cs : List Column) (x : ℕ) → slice_get cs x ≡ first (drop x cs)
+at-front [] x = ap first (sym (drop-nil x))
+at-front (d ∷ cs) zero = refl
+at-front (d ∷ cs) (suc x) = at-front cs x
+
+drop-more : (cs : List Column) (x : ℕ) → drop (suc x) cs ≡ others (drop x cs)
+drop-more [] x = ap others (sym (drop-nil x))
+drop-more (d ∷ cs) zero = refl
+drop-more (d ∷ cs) (suc x) = drop-more cs x
+
+-- ---- edits
+
+put-fits : (cs : List Column) (x : ℕ) (c : Column) (o : Option Value) → slice_get cs x ≡ Some c → IfSome o (λ v. fits_type c.kind v ≡ true)
+    → IfSome (option_map (λ v. Some (edit.Put x v)) o) (λ e. IfSome e (λ e. fits_edit cs e ≡ true))
+put-fits cs x c None at h = tt
+put-fits cs x c (Some v) at h = ap (λ o. option_map_or (λ c. fits_type c.kind v) o false) at ∙ h
+
+addition-fits : (cs : List Column) (x : ℕ) (c : Column) (k : ColumnType) (d : Data) → slice_get cs x ≡ Some c → c.kind ≡ k → IfSome (option_map Some (addition x k d)) (λ e. IfSome e (λ e. fits_edit cs e ≡ true))
+addition-fits cs x c column.Int d at is = by_number (option_and_then as_i64 (as_number d))
+  where
+    by_number : (z : Option ℤ) → IfSome (option_map Some (option_map (edit.Add x) z)) (λ e. IfSome e (λ e. fits_edit cs e ≡ true))
+    by_number None = tt
+    by_number (Some z) = ap (λ o. option_map_or (λ c. is_int c.kind) o false) at ∙ ap is_int is
+addition-fits cs x c column.Text d at is = tt
+addition-fits cs x c column.Flag d at is = tt
+
+edit-fits : (cs : List Column) (x : ℕ) (c : Column) (set add : Option Data) → slice_get cs x ≡ Some c → IfSome (edit_of x c.kind set add) (λ e. IfSome e (λ e. fits_edit cs e ≡ true))
+edit-fits cs x c None None at = tt
+edit-fits cs x c (Some d) None at = put-fits cs x c (fitting c.kind d) at (value-fits c.kind (Some d))
+edit-fits cs x c None (Some d) at = addition-fits cs x c c.kind d at refl
+edit-fits cs x c (Some d) (Some e) at = tt
+
+one-more : (cs : List Column) (o : Option (Option Edit)) (r : Option (List Edit)) → IfSome o (λ e. IfSome e (λ e. fits_edit cs e ≡ true)) → IfSome r (λ es. list_all (fits_edit cs) es ≡ true)
+    → IfSome (option_map₂ with_edit o r) (λ es. list_all (fits_edit cs) es ≡ true)
+one-more cs None r h g = tt
+one-more cs (Some e) None h g = tt
+one-more cs (Some None) (Some es) h g = g
+one-more cs (Some (Some e)) (Some es) h g = ap (λ b. b && list_all (fits_edit cs) es) h ∙ g
+
+-- the columns from x on are those of all
+from-fit : (cs : List Column) (x : ℕ) (more : List Column) (set add : Members) → drop x cs ≡ more → IfSome (edits_from x more set add) (λ es. list_all (fits_edit cs) es ≡ true)
+from-fit cs x [] set add is = refl
+from-fit cs x (c ∷ more) set add is =
+    one-more cs _ _ (edit-fits cs x c (get_member c.name set) (get_member c.name add) (at-front cs x ∙ ap first is)) (from-fit cs (suc x) more set add (drop-more cs x ∙ ap others is))
+
+edits-fit : (cs : List Column) (set add : Members) → IfSome (bound_edits cs set add) (λ es. list_all (fits_edit cs) es ≡ true)
+edits-fit cs set add = by_test (has_only (map (λ c. c.name) cs) set && has_only (map (λ c. c.name) cs) add)
+  where
+    by_test : (b : Bool) → IfSome (cond b (edits_from 0 cs set add) None) (λ es. list_all (fits_edit cs) es ≡ true)
+    by_test true = from-fit cs 0 cs set add refl
+    by_test false = tt
+
+-- ---- one after another
+
+-- what holds of a value, and then of what follows
+then : {A B : Type 0} (P : A → Type 0) (Q : B → Type 0) (f : A → Result B Refusal) (r : Result A Refusal) → IfOk r P → ((a : A) → P a → IfOk (f a) Q) → IfOk (and_then f r) Q
+then P Q f (Ok a) h more = more a h
+then P Q f (Err e) h more = tt
+
+some : {A : Type 0} (P : A → Type 0) (e : Refusal) (o : Option A) → IfSome o P → IfOk (ok_or o e) P
+some P e None h = tt
+some P e (Some a) h = h
+
+-- ---- tables and indexes
+
+found : {A : Type 0} (p : A → Bool) (xs : List A) → IfSome (position p xs) (λ x. x < length xs)
+found p xs = by_test _ refl
+  where
+    by_test : (b : Bool) → nat_lt (position_or_len p xs) (length xs) ≡ b → IfSome (cond b (Some (position_or_len p xs)) None) (λ x. x < length xs)
+    by_test true e = ltb-true (position_or_len p xs) (length xs) e
+    by_test false e = tt
+
+abbrev IsTableOf : CatalogShape → ℕ → Type 0
+IsTableOf c n = n < length c.tables
+
+table-there : (c : CatalogShape) (name : Option (List ℕ)) → is_catalog c ≡ true → IfOk (table_number c name) (IsTableOf c)
+table-there c None h = search rules
+table-there c (Some name) h = some (IsTableOf c) NoTable (find_table c name) (found (λ s. bytes_eq s.table_name name) c.tables)
+
+abbrev IsIndexOf : (IndexKind → Bool) → Shape → ℕ → Type 0
+IsIndexOf kinds s x = (x < length s.indexes) × (kinds (index_at s x).kind ≡ true)
+
+kind-fits : (kinds : IndexKind → Bool) (s : Shape) (x : ℕ) → x < length s.indexes → IfOk (of_kind kinds s x) (IsIndexOf kinds s)
+kind-fits kinds s x there = by_test _ refl
+  where
+    by_test : (b : Bool) → kinds (index_at s x).kind ≡ b → IfOk (cond b (Ok x) (Err Kind)) (IsIndexOf kinds s)
+    by_test true e = (there, e)
+    by_test false e = tt
+
+index-fits : (kinds : IndexKind → Bool) (s : Shape) (name : List ℕ) → IfOk (index_number kinds s name) (IsIndexOf kinds s)
+index-fits kinds s name =
+    then (λ x. x < length s.indexes) (IsIndexOf kinds s) (of_kind kinds s) (ok_or (find_index s name) Index)
+    (some (λ x. x < length s.indexes) Index (find_index s name) (found (λ i. bytes_eq i.name name) s.indexes)) (kind-fits kinds s)
+
+sequenced : (k : IndexKind) → is_sequenced k ≡ true → k ≡ Sequenced
+sequenced Ordered h = absurd (true≢false (sym h))
+sequenced Ranked h = absurd (true≢false (sym h))
+sequenced Hashed h = absurd (true≢false (sym h))
+sequenced Sequenced h = refl
+
 -- ---- a place
 
 abbrev IsPlaceOf : Shape → Option (ℕ × ℕ) → Type 0
 IsPlaceOf s at = IfSome at (λ p. (index_at s p.0).kind ≡ Sequenced)
 
-kind-fits : (s : Shape) (id x : ℕ) (k : IndexKind) → (index_at s x).kind ≡ k → IfOk (cond (is_sequenced k) (Ok (Some (x, id))) (Err Kind)) (IsPlaceOf s)
-kind-fits s id x Ordered e = tt
-kind-fits s id x Ranked e = tt
-kind-fits s id x Hashed e = tt
-kind-fits s id x Sequenced e = e
-
-found-fits : (s : Shape) (id : ℕ) (o : Option ℕ) → IfOk (and_then (sequenced_place s id) (ok_or o Index)) (IsPlaceOf s)
-found-fits s id None = tt
-found-fits s id (Some x) = kind-fits s id x _ refl
-
 place-fits : (s : Shape) (p : Option Place) → IfOk (bound_place s p) (IsPlaceOf s)
 place-fits s None = tt
-place-fits s (Some p) = found-fits s p.id (find_index s p.index)
+place-fits s (Some p) = then (IsIndexOf is_sequenced s) (IsPlaceOf s) _ (index_number is_sequenced s p.index) (index-fits is_sequenced s p.index) (λ x h. sequenced (index_at s x).kind h.1)
 
--- ---- an insert
+-- ---- a key
 
-joined : (c : CatalogShape) (n : ℕ) → n < length c.tables → (at : Result (Option (ℕ × ℕ)) Refusal) (row : Option (List Value)) → IfOk at (IsPlaceOf (schema_at c n)) → IfSome row (λ vs. fits_record (schema_at c n).columns vs ≡ true)
-    → IfOk (and_then (λ p. and_then (λ values. Ok (command.Insert n values p)) (ok_or row Row)) at) (FitsCatalog c)
-joined c n there (Err e) row h g = tt
-joined c n there (Ok p) None h g = tt
-joined c n there (Ok p) (Some vs) h g = (there, g, h)
+if-key-fits : (s : Shape) (x : ℕ) (whole b : Bool) (vs : List Value) → fits_key s.columns (index_at s x).parts whole vs ≡ b
+    → IfSome (cond b (Some vs) None) (λ key. fits_key s.columns (index_at s x).parts whole key ≡ true)
+if-key-fits s x whole true vs e = e
+if-key-fits s x whole false vs e = tt
+
+values-key-fits : (s : Shape) (x : ℕ) (whole : Bool) (o : Option (List Value)) → IfSome (option_and_then (if_key s x whole) o) (λ key. fits_key s.columns (index_at s x).parts whole key ≡ true)
+values-key-fits s x whole None = tt
+values-key-fits s x whole (Some vs) = if-key-fits s x whole _ vs refl
+
+key-fits : (s : Shape) (x : ℕ) (whole : Bool) (ds : Items) → IfSome (bound_key s x whole ds) (λ key. fits_key s.columns (index_at s x).parts whole key ≡ true)
+key-fits s x whole ds = values-key-fits s x whole (plain_values ds)
+
+-- ---- commands
+
+abbrev IsRowOf : Shape → List Value → Type 0
+IsRowOf s values = fits_record s.columns values ≡ true
+
+abbrev AreEditsOf : Shape → List Edit → Type 0
+AreEditsOf s edits = list_all (fits_edit s.columns) edits ≡ true
+
+abbrev IsKeyOf : Shape → ℕ → Bool → List Value → Type 0
+IsKeyOf s x whole key = fits_key s.columns (index_at s x).parts whole key ≡ true
 
 insert-fits : (c : CatalogShape) (n : ℕ) (row : Members) (before : Option Place) → n < length c.tables → IfOk (bound_insert (schema_at c n) n row before) (FitsCatalog c)
-insert-fits c n row before there = joined c n there _ _ (place-fits (schema_at c n) before) (row-fits (schema_at c n).columns row)
+insert-fits c n row before there =
+    then (IsPlaceOf (schema_at c n)) (FitsCatalog c) _ (bound_place (schema_at c n) before) (place-fits (schema_at c n) before)
+    (λ at place. then (IsRowOf (schema_at c n)) (FitsCatalog c) _ (ok_or (bound_row (schema_at c n).columns row) Row)
+    (some (IsRowOf (schema_at c n)) Row (bound_row (schema_at c n).columns row) (row-fits (schema_at c n).columns row)) (λ values fits. (there, fits, place)))
+
+replace-fits : (c : CatalogShape) (n id : ℕ) (row : Members) → n < length c.tables → IfOk (bound_replace (schema_at c n) n id row) (FitsCatalog c)
+replace-fits c n id row there =
+    then (IsRowOf (schema_at c n)) (FitsCatalog c) _ (ok_or (bound_row (schema_at c n).columns row) Row)
+    (some (IsRowOf (schema_at c n)) Row (bound_row (schema_at c n).columns row) (row-fits (schema_at c n).columns row)) (λ values fits. (there, fits))
+
+modify-fits : (c : CatalogShape) (n id : ℕ) (set add : Members) (rollback : Bool) → n < length c.tables → IfOk (bound_modify (schema_at c n) n id set add rollback) (FitsCatalog c)
+modify-fits c n id set add rollback there =
+    then (AreEditsOf (schema_at c n)) (FitsCatalog c) _ (ok_or (bound_edits (schema_at c n).columns set add) Row)
+    (some (AreEditsOf (schema_at c n)) Row (bound_edits (schema_at c n).columns set add) (edits-fit (schema_at c n).columns set add)) (λ edits fits. (there, fits))
+
+-- what is bound by a key of index x
+keyed : (c : CatalogShape) (s : Shape) (x : ℕ) (whole : Bool) (key : Items) (f : List Value → Result Command Refusal) → ((values : List Value) → IsKeyOf s x whole values → IfOk (f values) (FitsCatalog c))
+    → IfOk (and_then f (ok_or (bound_key s x whole key) Key)) (FitsCatalog c)
+keyed c s x whole key f more =
+    then (IsKeyOf s x whole) (FitsCatalog c) f (ok_or (bound_key s x whole key) Key) (some (IsKeyOf s x whole) Key (bound_key s x whole key) (key-fits s x whole key)) more
+
+erase_key-fits : (c : CatalogShape) (n : ℕ) (index : List ℕ) (key : Items) → n < length c.tables → IfOk (bound_erase_key (schema_at c n) n index key) (FitsCatalog c)
+erase_key-fits c n index key there =
+    then (IsIndexOf has_keys (schema_at c n)) (FitsCatalog c) _ (index_number has_keys (schema_at c n) index) (index-fits has_keys (schema_at c n) index)
+    (λ x at. keyed c (schema_at c n) x true key _ (λ values fits. (there, (at.0, at.1, fits))))
+
+relocate-fits : (c : CatalogShape) (n : ℕ) (index : List ℕ) (id : ℕ) (before : Option ℕ) → n < length c.tables → IfOk (bound_relocate (schema_at c n) n index id before) (FitsCatalog c)
+relocate-fits c n index id before there =
+    then (IsIndexOf is_sequenced (schema_at c n)) (FitsCatalog c) _ (index_number is_sequenced (schema_at c n) index) (index-fits is_sequenced (schema_at c n) index)
+    (λ x at. (there, sequenced (index_at (schema_at c n) x).kind at.1))
+
+over-table : (c : CatalogShape) (name : Option (List ℕ)) (f : ℕ → Result Command Refusal) → is_catalog c ≡ true → ((n : ℕ) → n < length c.tables → IfOk (f n) (FitsCatalog c)) → IfOk (and_then f (table_number c name)) (FitsCatalog c)
+over-table c name f h more = then (IsTableOf c) (FitsCatalog c) f (table_number c name) (table-there c name h) more
+
+bound-fits : (c : CatalogShape) (r : Request) → is_catalog c ≡ true → IfOk (bound_command c r) (FitsCatalog c)
+bound-fits c (request.Insert table row before) h = over-table c table _ h (λ n there. insert-fits c n row before there)
+bound-fits c (request.Replace table id row) h = over-table c table _ h (λ n there. replace-fits c n id row there)
+bound-fits c (request.Modify table id set add rollback) h = over-table c table _ h (λ n there. modify-fits c n id set add rollback there)
+bound-fits c (request.Erase table id) h = over-table c table _ h (λ n there. there)
+bound-fits c (request.EraseKey table index key) h = over-table c table _ h (λ n there. erase_key-fits c n index key there)
+bound-fits c (request.Relocate table index id before) h = over-table c table _ h (λ n there. relocate-fits c n index id before there)
+bound-fits c request.Start h = tt
+bound-fits c request.Undo h = tt
+bound-fits c (request.Get table id) h = over-table c table _ h (λ n there. there)
 
 -- the answer of the code
-pub answer-fits : (c : CatalogShape) (n : ℕ) (row : Members) (before : Option Place) (r : Result Command Refusal) → n < length c.tables → IsAnswer r (bound_insert (schema_at c n) n row before) → IfOk r (FitsCatalog c)
-answer-fits c n row before (Ok command) there is = subst (λ d. IfOk d (FitsCatalog c)) is (insert-fits c n row before there)
-answer-fits c n row before (Err e) there is = tt
+pub answer-fits : (c : CatalogShape) (request : Request) (r : Result Command Refusal) → is_catalog c ≡ true → IsAnswer r (bound_command c request) → IfOk r (FitsCatalog c)
+answer-fits c request (Ok command) h is = subst (λ d. IfOk d (FitsCatalog c)) is (bound-fits c request h)
+answer-fits c request (Err e) h is = tt

@@ -1,5 +1,7 @@
 pub mod BindingLemmas
-pub mod Members
+pub mod EditLemmas
+pub mod KeyLemmas
+pub mod ObjectLemmas
 pub mod Parsing
 pub mod RefusalLemmas
 pub mod ReplyLemmas

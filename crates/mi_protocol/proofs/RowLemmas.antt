@@ -12,7 +12,7 @@ use Rattle.mi_value.specs.declared.value.Value.{Value}
 use Rattle.mi_value.specs.declared.value.Value.TheVariants as value
 use Rattle.mi_schema.specs.declared.index.Column.{Column}
 use Rattle.mi_schema.specs.Rules.{are_distinct}
-use Rattle.mi_protocol.proofs.Members.{get_member-without}
+use Rattle.mi_protocol.proofs.ObjectLemmas.{get_member-without}
 use Rattle.mi_protocol.specs.Json.{without, option_map₂}
 use Rattle.mi_protocol.specs.Rows.{fitting, values_of, value_data, with_values, row_members}
 
@@ -23,15 +23,15 @@ abbrev pub taken : List Column → Members → Option (List Value)
 taken [] ms = Some []
 taken (c ∷ cs) ms = option_map₂ (λ v vs. v ∷ vs) (option_and_then (fitting c.kind) (get_member c.name ms)) (taken cs (without c.name ms))
 
-not_or : (a b : Bool) → not (a || b) ≡ true → (a ≡ false) × (not b ≡ true)
+pub not_or : (a b : Bool) → not (a || b) ≡ true → (a ≡ false) × (not b ≡ true)
 not_or true b h = absurd (true≢false (sym h))
 not_or false b h = (refl, h)
 
-and_true : (a b : Bool) → (a && b) ≡ true → (a ≡ true) × (b ≡ true)
+pub and_true : (a b : Bool) → (a && b) ≡ true → (a ≡ true) × (b ≡ true)
 and_true true b h = (refl, h)
 and_true false b h = absurd (true≢false (sym h))
 
-bytes_eq-sym : (a b : List ℕ) → bytes_eq a b ≡ false → bytes_eq b a ≡ false
+pub bytes_eq-sym : (a b : List ℕ) → bytes_eq a b ≡ false → bytes_eq b a ≡ false
 bytes_eq-sym a b h = by_test (bytes_eq b a) refl
   where
     by_test : (t : Bool) → bytes_eq b a ≡ t → t ≡ false

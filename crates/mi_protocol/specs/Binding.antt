@@ -1,13 +1,18 @@
 -- The command that a request is over a catalog, with tables, indexes and columns by number.
-use Rattle.std.specs.Prelude.{◌≡◌, ℕ, ◌<◌, Bool, true, false, IsTrue, if◌then◌else◌, List, length, Option, Some, None, IfSome, Result, Ok, Err}
+use Rattle.std.specs.Prelude.{◌≡◌, ℕ, ◌<◌, Bool, true, IsTrue, if◌then◌else◌, List, length, Option, Some, None, IfSome, Result, Ok, Err}
+use Rattle.std.specs.List.{list_all}
 use Rattle.std.specs.Option.{ok_or}
 use Rattle.mi_value.specs.declared.refusal.Refusal.{Refusal}
-use Rattle.mi_value.specs.declared.refusal.Refusal.TheVariants.{NoTable, Index, Kind, Row}
+use Rattle.mi_value.specs.declared.refusal.Refusal.TheVariants.{NoTable, Index, Kind, Row, Key}
+use Rattle.mi_value.specs.declared.value.Value.{Value}
 use Rattle.mi_schema.specs.declared.index.IndexKind.{IndexKind}
-use Rattle.mi_schema.specs.declared.index.IndexKind.TheVariants.{Ordered, Ranked, Hashed, Sequenced}
+use Rattle.mi_schema.specs.declared.index.IndexKind.TheVariants.{Sequenced}
 use Rattle.mi_schema.specs.Shape.{Shape, CatalogShape, schema_at, index_at, find_table, find_index}
-use Rattle.mi_schema.specs.Fits.{fits_record}
-use Rattle.serde_json.specs.Data.{Members}
+use Rattle.mi_schema.specs.Fits.{fits_record, fits_key}
+use Rattle.serde_json.specs.Data.{Items, Members}
+use Rattle.mi_protocol.specs.Edits.{bound_edits, fits_edit}
+use Rattle.mi_protocol.specs.Keys.{bound_key}
+use Rattle.mi_protocol.specs.Kinds.{has_keys, is_sequenced}
 use Rattle.mi_protocol.specs.Rows.{bound_row}
 use Rattle.mi_protocol.specs.declared.request.Place.{Place}
 use Rattle.mi_protocol.specs.declared.request.Request.{Request}
@@ -25,36 +30,61 @@ abbrev pub table_number : CatalogShape → Option (List ℕ) → Result ℕ Refu
 table_number c None = Ok 0
 table_number c (Some name) = ok_or (find_table c name) NoTable
 
-abbrev pub is_sequenced : IndexKind → Bool
-is_sequenced Ordered = false
-is_sequenced Ranked = false
-is_sequenced Hashed = false
-is_sequenced Sequenced = true
+-- index x, if it is of a kind that the command is for
+abbrev pub of_kind : (IndexKind → Bool) → Shape → ℕ → Result ℕ Refusal
+of_kind kinds s x = if kinds (index_at s x).kind then Ok x else Err Kind
 
--- a place in index x, which must be sequenced
-abbrev pub sequenced_place : Shape → ℕ → ℕ → Result (Option (ℕ × ℕ)) Refusal
-sequenced_place s id x = if is_sequenced (index_at s x).kind then Ok (Some (x, id)) else Err Kind
+-- the number of the index that is named, which must be of a kind that the command is for
+abbrev pub index_number : (IndexKind → Bool) → Shape → List ℕ → Result ℕ Refusal
+index_number kinds s name = and_then (of_kind kinds s) (ok_or (find_index s name) Index)
 
 -- the place that is named, if one is
 abbrev pub bound_place : Shape → Option Place → Result (Option (ℕ × ℕ)) Refusal
 bound_place s None = Ok None
-bound_place s (Some p) = and_then (sequenced_place s p.id) (ok_or (find_index s p.index) Index)
+bound_place s (Some p) = and_then (λ x. Ok (Some (x, p.id))) (index_number is_sequenced s p.index)
 
 -- an insert into table n, whose place is bound before its row
 abbrev pub bound_insert : Shape → ℕ → Members → Option Place → Result Command Refusal
 bound_insert s n row before = and_then (λ at. and_then (λ values. Ok (command.Insert n values at)) (ok_or (bound_row s.columns row) Row)) (bound_place s before)
 
--- the command that a request is: refused as `table`, `index`, `kind`, `row` in this order
+abbrev pub bound_replace : Shape → ℕ → ℕ → Members → Result Command Refusal
+bound_replace s n id row = and_then (λ values. Ok (command.Replace n id values)) (ok_or (bound_row s.columns row) Row)
+
+abbrev pub bound_modify : Shape → ℕ → ℕ → Members → Members → Bool → Result Command Refusal
+bound_modify s n id set add rollback = and_then (λ edits. Ok (command.Modify n id edits rollback)) (ok_or (bound_edits s.columns set add) Row)
+
+-- an erasure by a whole key
+abbrev pub bound_erase_key : Shape → ℕ → List ℕ → Items → Result Command Refusal
+bound_erase_key s n index key = and_then (λ x. and_then (λ values. Ok (command.EraseKey n x values)) (ok_or (bound_key s x true key) Key)) (index_number has_keys s index)
+
+abbrev pub bound_relocate : Shape → ℕ → List ℕ → ℕ → Option ℕ → Result Command Refusal
+bound_relocate s n index id before = and_then (λ x. Ok (command.Relocate n x id before)) (index_number is_sequenced s index)
+
+-- the command that a request is: refused as `table`, `index`, `kind`, `row`, `key` in this order
 abbrev pub bound_command : CatalogShape → Request → Result Command Refusal
 bound_command c (request.Insert table row before) = and_then (λ n. bound_insert (schema_at c n) n row before) (table_number c table)
-bound_command c (request.Get table id) = and_then (λ n. Ok (command.Get n id)) (table_number c table)
+bound_command c (request.Replace table id row) = and_then (λ n. bound_replace (schema_at c n) n id row) (table_number c table)
+bound_command c (request.Modify table id set add rollback) = and_then (λ n. bound_modify (schema_at c n) n id set add rollback) (table_number c table)
+bound_command c (request.Erase table id) = and_then (λ n. Ok (command.Erase n id)) (table_number c table)
+bound_command c (request.EraseKey table index key) = and_then (λ n. bound_erase_key (schema_at c n) n index key) (table_number c table)
+bound_command c (request.Relocate table index id before) = and_then (λ n. bound_relocate (schema_at c n) n index id before) (table_number c table)
 bound_command c request.Start = Ok command.Start
 bound_command c request.Undo = Ok command.Undo
+bound_command c (request.Get table id) = and_then (λ n. Ok (command.Get n id)) (table_number c table)
 
--- the table is there, the record fits its columns, and a place is in a sequenced index
+-- the table has this index, and these are a key of it, or where it needn't be whole the first values of one
+abbrev pub FitsIndex : Shape → ℕ → Bool → List Value → Type 0
+FitsIndex s x whole key = (x < length s.indexes) × IsTrue (has_keys (index_at s x).kind) × IsTrue (fits_key s.columns (index_at s x).parts whole key)
+
+-- the table is there, and records, edits, keys and indexes are as its schema wants them
 abbrev pub FitsCatalog : CatalogShape → Command → Type 0
 FitsCatalog c (command.Insert n row before) =
     (n < length c.tables) × IsTrue (fits_record (schema_at c n).columns row) × IfSome before (λ at. (index_at (schema_at c n) at.0).kind ≡ Sequenced)
-FitsCatalog c (command.Get n id) = n < length c.tables
+FitsCatalog c (command.Replace n id row) = (n < length c.tables) × IsTrue (fits_record (schema_at c n).columns row)
+FitsCatalog c (command.Modify n id edits rollback) = (n < length c.tables) × IsTrue (list_all (fits_edit (schema_at c n).columns) edits)
+FitsCatalog c (command.Erase n id) = n < length c.tables
+FitsCatalog c (command.EraseKey n x key) = (n < length c.tables) × FitsIndex (schema_at c n) x true key
+FitsCatalog c (command.Relocate n x id before) = (n < length c.tables) × ((index_at (schema_at c n) x).kind ≡ Sequenced)
 FitsCatalog c command.Start = Unit {0}
 FitsCatalog c command.Undo = Unit {0}
+FitsCatalog c (command.Get n id) = n < length c.tables

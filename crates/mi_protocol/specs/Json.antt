@@ -35,6 +35,14 @@ if_there kind (Some d) = option_map Some (kind d)
 abbrev pub optional : {A : Type 0} → (Data → Option A) → List ℕ → Members → Option (Option A)
 optional kind name ms = if_there kind (get_member name ms)
 
+abbrev pub default_if : {A : Type 0} → A → (Data → Option A) → Option Data → Option A
+default_if a kind None = Some a
+default_if a kind (Some d) = kind d
+
+-- a member that may be absent, which is then this, read by its kind where it is there
+abbrev pub default : {A : Type 0} → A → (Data → Option A) → List ℕ → Members → Option A
+default a kind name ms = default_if a kind (get_member name ms)
+
 -- all of two parts, or none
 abbrev pub option_map₂ : {A B C : Type 0} → (A → B → C) → Option A → Option B → Option C
 option_map₂ f (Some a) b = option_map (f a) b
@@ -44,3 +52,13 @@ option_map₂ f None b = None
 abbrev pub option_map₃ : {A B C D : Type 0} → (A → B → C → D) → Option A → Option B → Option C → Option D
 option_map₃ f (Some a) b c = option_map₂ (f a) b c
 option_map₃ f None b c = None
+
+-- all of four parts, or none
+abbrev pub option_map₄ : {A B C D E : Type 0} → (A → B → C → D → E) → Option A → Option B → Option C → Option D → Option E
+option_map₄ f (Some a) b c d = option_map₃ (f a) b c d
+option_map₄ f None b c d = None
+
+-- all of five parts, or none
+abbrev pub option_map₅ : {A B C D E F : Type 0} → (A → B → C → D → E → F) → Option A → Option B → Option C → Option D → Option E → Option F
+option_map₅ f (Some a) b c d e = option_map₄ (f a) b c d e
+option_map₅ f None b c d e = None

@@ -1,7 +1,10 @@
 pub mod Answers
 pub mod Binding
 pub mod Commands
+pub mod Edits
 pub mod Json
+pub mod Keys
+pub mod Kinds
 pub mod Lines
 pub mod ObjectCode
 pub mod Replies

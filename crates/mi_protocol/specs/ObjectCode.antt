@@ -1,4 +1,4 @@
--- A code of objects, by which proofs tell them apart. It says nothing of what an object means, and no contract reads it.
+-- Codes of objects and arrays, by which proofs tell them apart. They say nothing of what these mean, and no contract reads them.
 use Rattle.std.specs.Prelude.{◌≡◌, ℕ, ◌==◌, ℤ, List, [], ◌∷◌, true, false, if◌then◌else◌, Float, refl, ◌⊎◌}
 use Rattle.std.specs.Coded.{Coded, code_by, coded×, coded⊎, coded_list, coded_ℕ, coded_ℤ}
 use Rattle.std.proofs.Common.{inl, inr, ap, ◌∙◌}
@@ -95,13 +95,20 @@ mutual
   parts-pieces (array ds) ps = ap as_array (parts-items_pieces ds ps)
   parts-pieces (object ms) ps = ap as_object (parts-members_pieces ms ps)
 
-  parts-items_pieces : (ds : Items) (ps : List Piece) → parts (items_pieces ds ps) ≡ items ds ∷ parts ps
+  pub parts-items_pieces : (ds : Items) (ps : List Piece) → parts (items_pieces ds ps) ≡ items ds ∷ parts ps
   parts-items_pieces no_items ps = refl
   parts-items_pieces (item d ds) ps = ap as_item (parts-pieces d (items_pieces ds ps) ∙ ap (λ xs. value d ∷ xs) (parts-items_pieces ds ps))
 
   pub parts-members_pieces : (ms : Members) (ps : List Piece) → parts (members_pieces ms ps) ≡ members ms ∷ parts ps
   parts-members_pieces no_members ps = refl
   parts-members_pieces (member k d ms) ps = ap (as_member k) (parts-pieces d (members_pieces ms ps) ∙ ap (λ xs. value d ∷ xs) (parts-members_pieces ms ps))
+
+abbrev first_items : List Part → Items
+first_items (items ds ∷ ps) = ds
+first_items ps = no_items
+
+abbrev pub items_code : Coded Items
+items_code = code_by (List Piece) (coded_list (coded⊎ (coded× coded_ℕ (coded_list coded_ℕ)) num_code)) (λ ds. items_pieces ds []) (λ ps. first_items (parts ps)) (λ ds. ap first_items (parts-items_pieces ds []))
 
 abbrev first_members : List Part → Members
 first_members (members ms ∷ ps) = ms

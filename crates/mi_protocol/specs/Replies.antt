@@ -11,18 +11,25 @@ use Rattle.mi_protocol.specs.Rows.{row_members}
 use Rattle.mi_protocol.specs.declared.reply.Reply.{Reply}
 use Rattle.mi_protocol.specs.declared.reply.Reply.TheVariants as reply
 
--- what a reply says: the id of an inserted record, a record of a table, a revision, or why a command over a table is refused
+-- what a reply says: the id of an inserted record, no more than that it is done, how many records were erased, a record of a
+-- table, a revision, or why a modify or another command over a table is refused
 pub data Said : Type 0 where
   inserted : ℕ → Said
+  done : Said
+  erased : ℕ → Said
   shown : ℕ → ℕ → List Value → Said
   revised : ℕ → Said
+  refused_modify : ℕ → Refusal → Said
   refused : ℕ → Refusal → Said
 
 -- what a reply of the code says
 abbrev pub said : Reply → Said
 said (reply.Inserted id) = inserted id
+said reply.Done = done
+said (reply.Erased count) = erased count
 said (reply.Shown table id row) = shown table id row.now
 said (reply.Revised revision) = revised revision
+said (reply.RefusedModify table refusal) = refused_modify table refusal
 said (reply.Refused table refusal) = refused table refusal
 
 -- the name of an index of a table
@@ -39,12 +46,20 @@ refusal_text c n (Unique x id) = conflict_text c n x id ++ codes "\",\"ok\":fals
 refusal_text c n (Lost x id) = conflict_text c n x id ++ codes "\",\"lost\":true,\"ok\":false}"
 refusal_text c n e = codes "{\"error\":\"" ++ word_of e ++ codes "\",\"ok\":false}"
 
+-- a refusal of a modify says of a conflict whether the record is lost
+abbrev pub modify_refusal_text : CatalogShape → ℕ → Refusal → List ℕ
+modify_refusal_text c n (Unique x id) = conflict_text c n x id ++ codes "\",\"lost\":false,\"ok\":false}"
+modify_refusal_text c n e = refusal_text c n e
+
 -- the text of a reply: compact JSON, the members in the order of their names' bytes
 abbrev pub reply_text : CatalogShape → Said → List ℕ
 reply_text c (inserted id) = codes "{\"id\":" ++ decimal id ++ codes ",\"ok\":true}"
+reply_text c done = codes "{\"ok\":true}"
+reply_text c (erased n) = codes "{\"erased\":" ++ decimal n ++ codes ",\"ok\":true}"
 reply_text c (shown n id row) =
     compact_text (object (member (codes "ok") (boolean true) (member (codes "row") (object (row_members (schema_at c n).columns id row)) no_members)))
 reply_text c (revised n) = codes "{\"ok\":true,\"revision\":" ++ decimal n ++ codes "}"
+reply_text c (refused_modify n e) = modify_refusal_text c n e
 reply_text c (refused n e) = refusal_text c n e
 
 -- a refusal other than a conflict
@@ -62,13 +77,19 @@ IsRefusalOf c n e = Unit {0}
 -- the table, and the index of a conflict, are there
 abbrev pub IsSaidOf : CatalogShape → Said → Type 0
 IsSaidOf c (inserted id) = Unit {0}
+IsSaidOf c done = Unit {0}
+IsSaidOf c (erased n) = Unit {0}
 IsSaidOf c (shown n id row) = n < length c.tables
 IsSaidOf c (revised n) = Unit {0}
+IsSaidOf c (refused_modify n e) = IsRefusalOf c n e
 IsSaidOf c (refused n e) = IsRefusalOf c n e
 
 -- a reply with no row
 abbrev pub is_short : Said → Bool
 is_short (inserted id) = true
+is_short done = true
+is_short (erased n) = true
 is_short (shown n id row) = false
 is_short (revised n) = true
+is_short (refused_modify n e) = true
 is_short (refused n e) = true

@@ -8,7 +8,7 @@ use Rattle.mi_value.specs.declared.refusal.Refusal.TheVariants.{Unique, Lost}
 use Rattle.mi_schema.specs.Shape.{CatalogShape, schema_at}
 use Rattle.mi_schema.specs.Rules.{is_catalog}
 use Rattle.mi_protocol.specs.Rows.{row_members}
-use Rattle.mi_protocol.specs.Replies.{Said, inserted, shown, revised, refused, index_name, reply_text, IsSaidOf}
+use Rattle.mi_protocol.specs.Replies.{Said, inserted, done, erased, shown, revised, refused_modify, refused, index_name, reply_text, IsSaidOf}
 
 -- the object of a refusal
 abbrev pub refusal_data : CatalogShape → ℕ → Refusal → Data
@@ -20,11 +20,21 @@ refusal_data c n (Lost x id) =
     (member (codes "lost") (boolean true) (member (codes "ok") (boolean false) no_members)))))
 refusal_data c n e = object (member (codes "error") (string (word_of e)) (member (codes "ok") (boolean false) no_members))
 
+-- the object of a modify's refusal
+abbrev pub modify_refusal_data : CatalogShape → ℕ → Refusal → Data
+modify_refusal_data c n (Unique x id) =
+    object (member (codes "error") (string (codes "unique")) (member (codes "id") (number (unsigned id)) (member (codes "index") (string (index_name c n x))
+    (member (codes "lost") (boolean false) (member (codes "ok") (boolean false) no_members)))))
+modify_refusal_data c n e = refusal_data c n e
+
 -- the object of a reply
 abbrev pub reply_data : CatalogShape → Said → Data
 reply_data c (inserted id) = object (member (codes "id") (number (unsigned id)) (member (codes "ok") (boolean true) no_members))
+reply_data c done = object (member (codes "ok") (boolean true) no_members)
+reply_data c (erased n) = object (member (codes "erased") (number (unsigned n)) (member (codes "ok") (boolean true) no_members))
 reply_data c (shown n id row) = object (member (codes "ok") (boolean true) (member (codes "row") (object (row_members (schema_at c n).columns id row)) no_members))
 reply_data c (revised n) = object (member (codes "ok") (boolean true) (member (codes "revision") (number (unsigned n)) no_members))
+reply_data c (refused_modify n e) = modify_refusal_data c n e
 reply_data c (refused n e) = refusal_data c n e
 
 -- the text of each reply is the compact text of its object

@@ -6,9 +6,14 @@ ghost use Rattle.mi_protocol.specs.Commands.{command_named, form_of};
 #[derive(Clone, Copy, Debug, PartialEq, Eq)]
 pub(crate) enum CommandName {
     Insert,
-    Get,
+    Replace,
+    Modify,
+    Erase,
+    EraseKey,
+    Relocate,
     Start,
     Undo,
+    Get,
 }
 
 impl CommandName {
@@ -18,12 +23,22 @@ impl CommandName {
     {
         if text == "insert" {
             Some(CommandName::Insert)
-        } else if text == "get" {
-            Some(CommandName::Get)
+        } else if text == "replace" {
+            Some(CommandName::Replace)
+        } else if text == "modify" {
+            Some(CommandName::Modify)
+        } else if text == "erase" {
+            Some(CommandName::Erase)
+        } else if text == "erase_key" {
+            Some(CommandName::EraseKey)
+        } else if text == "relocate" {
+            Some(CommandName::Relocate)
         } else if text == "start" {
             Some(CommandName::Start)
         } else if text == "undo" {
             Some(CommandName::Undo)
+        } else if text == "get" {
+            Some(CommandName::Get)
         } else {
             None
         }
@@ -35,7 +50,11 @@ impl CommandName {
     {
         match self {
             CommandName::Insert => &["cmd", "table", "row", "before"],
-            CommandName::Get => &["cmd", "table", "id"],
+            CommandName::Replace => &["cmd", "table", "id", "row"],
+            CommandName::Modify => &["cmd", "table", "id", "set", "add", "rollback"],
+            CommandName::Erase | CommandName::Get => &["cmd", "table", "id"],
+            CommandName::EraseKey => &["cmd", "table", "index", "key"],
+            CommandName::Relocate => &["cmd", "table", "index", "id", "before"],
             CommandName::Start | CommandName::Undo => &["cmd"],
         }
     }

@@ -2,9 +2,13 @@
 //! It knows the grammar and nothing of tables' rows, sessions or connections; it reads and writes no stream.
 #![tactic(auto)]
 
+mod array;
 mod binding;
 mod command;
+mod edits;
+mod keys;
 mod laws;
+mod members;
 mod object;
 mod reply;
 mod request;
@@ -13,7 +17,9 @@ mod row;
 mod tests;
 mod text;
 
+pub use array::Array;
 pub use binding::{Command, bind};
+pub use edits::Edits;
 pub use laws::replies_are_compact_json;
 pub use object::Object;
 pub use reply::Reply;

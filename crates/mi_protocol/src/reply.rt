@@ -21,6 +21,10 @@ use std::alloc::Global;
 pub enum Reply<'a> {
     /// The id of the record that an insert added.
     Inserted(u64),
+    /// The command is done.
+    Done,
+    /// How many records an erasure by key took.
+    Erased(u64),
     /// A record of a table, by its id.
     Shown {
         table: usize,
@@ -29,7 +33,12 @@ pub enum Reply<'a> {
     },
     /// The revision that a session command left.
     Revised(u64),
-    /// Why a command is refused.
+    /// Why a modify is refused. Of a conflict the text says whether the record is lost.
+    RefusedModify {
+        table: usize,
+        refusal: Refusal,
+    },
+    /// Why another command is refused.
     Refused {
         table: usize,
         refusal: Refusal,
@@ -104,6 +113,20 @@ fn refusal_text(catalog: &Catalog, table: usize, refusal: Refusal) -> ReplyText
     }
 }
 
+/// The text of a modify's refusal, which says of a conflict whether the record is lost. It takes no memory.
+fn modify_refusal_text(catalog: &Catalog, table: usize, refusal: Refusal) -> ReplyText
+    requires { IsRefusalOf catalog.now table refusal }
+    ensures { text_bytes result ≡ replies.modify_refusal_text catalog.now table refusal }
+{
+    match refusal {
+        Refusal::Unique { index, id } => {
+            let name = catalog.table(table).index_name(index);
+            conflict(id, name, b"\",\"lost\":false,\"ok\":false}")
+        }
+        other => refusal_text(catalog, table, other),
+    }
+}
+
 impl Reply<'_> {
     /// The text of a reply, without a newline. Its table, and the index of a conflict, are in the catalog. It answers
     /// `Memory` where a growth is refused; a reply that shows no row takes no memory.
@@ -115,11 +138,16 @@ impl Reply<'_> {
     {
         match self {
             Reply::Inserted(id) => Ok(short_number(b"{\"id\":", *id, b",\"ok\":true}")),
+            Reply::Done => Ok(short(b"{\"ok\":", b"true", b"}")),
+            Reply::Erased(n) => Ok(short_number(b"{\"erased\":", *n, b",\"ok\":true}")),
             Reply::Shown { table, id, row } => {
                 let columns = catalog.table(*table).columns();
                 Ok(ReplyText::Long(row_text(alloc, *id, row, columns)?))
             }
             Reply::Revised(n) => Ok(short_number(b"{\"ok\":true,\"revision\":", *n, b"}")),
+            Reply::RefusedModify { table, refusal } => {
+                Ok(modify_refusal_text(catalog, *table, *refusal))
+            }
             Reply::Refused { table, refusal } => Ok(refusal_text(catalog, *table, *refusal)),
         }
     }

@@ -1,17 +1,22 @@
 //! From a line to a request. It reads JSON by `serde_json` and knows no catalog.
 ghost use Rattle.std.specs.Prelude.{◌≡◌, codes, Ok, IfErr, option_and_then};
-ghost use Rattle.serde_json.specs.Find.{as_str, as_object};
+ghost use Rattle.serde_json.specs.Find.{as_str};
 ghost use Rattle.serde_json.specs.View.{view};
 ghost use Rattle.mi_protocol.specs.Answers.{IsAnswer};
 ghost use Rattle.mi_protocol.specs.Commands as commands;
 ghost use Rattle.mi_protocol.specs.Commands.{command_named, form_of};
-ghost use Rattle.mi_protocol.specs.Json.{natural, needed, optional, without};
+ghost use Rattle.mi_protocol.specs.Json.{needed};
 ghost use Rattle.mi_protocol.specs.Lines as lines;
 ghost use Rattle.mi_protocol.specs.Lines.{command_line};
 ghost use Rattle.mi_protocol.specs.Replies.{NamesNoIndex};
 ghost use Rattle.mi_protocol.specs.declared.command.CommandName.TheVariants as name;
 
+use crate::array::Array;
 use crate::command::CommandName;
+use crate::members::{
+    Members, array, flag, natural, natural_if_there, needed_object, object_of, object_or_empty,
+    place, text, text_if_there,
+};
 use crate::object::Object;
 use mi_value::{Refusal, Text};
 use serde_json::{Category, Value as Json};
@@ -33,12 +38,41 @@ pub enum Request {
         row: Object,
         before: Option<Place>,
     },
+    Replace {
+        table: Option<Text>,
+        id: u64,
+        row: Object,
+    },
+    /// `set` and `add` have no members where they are absent.
+    Modify {
+        table: Option<Text>,
+        id: u64,
+        set: Object,
+        add: Object,
+        rollback: bool,
+    },
+    Erase {
+        table: Option<Text>,
+        id: u64,
+    },
+    EraseKey {
+        table: Option<Text>,
+        index: Text,
+        key: Array,
+    },
+    /// Without `before` the record goes to the end.
+    Relocate {
+        table: Option<Text>,
+        index: Text,
+        id: u64,
+        before: Option<u64>,
+    },
+    Start,
+    Undo,
     Get {
         table: Option<Text>,
         id: u64,
     },
-    Start,
-    Undo,
 }
 
 impl Request {
@@ -47,127 +81,103 @@ impl Request {
         ensures { result ≡ commands.keeps_out self.now }
     {
         match self {
-            Request::Insert { .. } | Request::Start | Request::Undo => true,
             Request::Get { .. } => false,
+            Request::Insert { .. }
+            | Request::Replace { .. }
+            | Request::Modify { .. }
+            | Request::Erase { .. }
+            | Request::EraseKey { .. }
+            | Request::Relocate { .. }
+            | Request::Start
+            | Request::Undo => true,
         }
-    }
-}
-
-fn text_of(value: Json) -> Option<Text>
-    ensures { result ≡ as_str (view value) }
-{
-    match value {
-        Json::String(text) => Some(Text::new(text)),
-        _other => None,
-    }
-}
-
-fn object_of(value: Json) -> Option<Object>
-    ensures { result ≡ as_object (view value) }
-{
-    match value {
-        Json::Object(members) => Some(Object::new(members)),
-        _other => None,
-    }
-}
-
-fn natural_of(value: &Json) -> Option<u64>
-    ensures { result ≡ natural (view value.now) }
-{
-    match value.as_i64() {
-        Some(n) if n >= 0 => Some(n as u64),
-        _ => None,
-    }
-}
-
-fn take_natural(object: &mut Object, name: &str) -> Option<u64>
-    ensures value { result ≡ needed natural name.now object.old }
-    ensures rest { object.new ≡ without name.now object.old }
-{
-    let value = object.take(name)?;
-    natural_of(&value)
-}
-
-fn take_text(object: &mut Object, name: &str) -> Option<Text>
-    ensures value { result ≡ needed as_str name.now object.old }
-    ensures rest { object.new ≡ without name.now object.old }
-{
-    text_of(object.take(name)?)
-}
-
-fn take_object(object: &mut Object, name: &str) -> Option<Object>
-    ensures value { result ≡ needed as_object name.now object.old }
-    ensures rest { object.new ≡ without name.now object.old }
-{
-    object_of(object.take(name)?)
-}
-
-/// The table that a command names, if it names one.
-fn take_table(object: &mut Object) -> Option<Option<Text>>
-    ensures value { result ≡ optional as_str (codes "table") object.old }
-    ensures rest { object.new ≡ without (codes "table") object.old }
-{
-    match object.take("table") {
-        Some(value) => Some(Some(text_of(value)?)),
-        None => Some(None),
-    }
-}
-
-/// The place that an object with exactly `index` and `id` names.
-fn place_of(object: Object) -> Option<Place>
-    ensures { result ≡ commands.place_of object }
-{
-    let mut object = object;
-    if !object.has_only(&["index", "id"]) {
-        return None;
-    }
-    let index = take_text(&mut object, "index")?;
-    let id = take_natural(&mut object, "id")?;
-    Some(Place { index, id })
-}
-
-fn place_in(value: Json) -> Option<Option<Place>>
-    ensures { result ≡ commands.place_in (view value) }
-{
-    match value {
-        Json::Null => Some(None),
-        Json::Object(members) => Some(Some(place_of(Object::new(members))?)),
-        _other => None,
-    }
-}
-
-/// The place before which a record is inserted; null is as absent.
-fn take_place(object: &mut Object) -> Option<Option<Place>>
-    ensures value { result ≡ commands.place (codes "before") object.old }
-    ensures rest { object.new ≡ without (codes "before") object.old }
-{
-    match object.take("before") {
-        Some(value) => place_in(value),
-        None => Some(None),
     }
 }
 
 fn insert_request(object: Object) -> Option<Request>
     ensures { result ≡ (form_of name.Insert).request object }
 {
-    let mut object = object;
-    let table = take_table(&mut object)?;
-    let row = take_object(&mut object, "row")?;
-    let before = take_place(&mut object)?;
+    let members = Members::of(object);
+    let table = text_if_there(members.table)?;
+    let row = needed_object(members.row)?;
+    let before = place(members.before)?;
     Some(Request::Insert { table, row, before })
+}
+
+fn replace_request(object: Object) -> Option<Request>
+    ensures { result ≡ (form_of name.Replace).request object }
+{
+    let members = Members::of(object);
+    let table = text_if_there(members.table)?;
+    let id = natural(members.id)?;
+    let row = needed_object(members.row)?;
+    Some(Request::Replace { table, id, row })
+}
+
+fn modify_request(alloc: Global, object: Object) -> Option<Request>
+    ensures { result ≡ (form_of name.Modify).request object }
+{
+    let members = Members::of(object);
+    let table = text_if_there(members.table)?;
+    let id = natural(members.id)?;
+    let set = object_or_empty(alloc, members.set)?;
+    let add = object_or_empty(alloc, members.add)?;
+    let rollback = flag(members.rollback)?;
+    Some(Request::Modify {
+        table,
+        id,
+        set,
+        add,
+        rollback,
+    })
+}
+
+fn erase_request(object: Object) -> Option<Request>
+    ensures { result ≡ (form_of name.Erase).request object }
+{
+    let members = Members::of(object);
+    let table = text_if_there(members.table)?;
+    let id = natural(members.id)?;
+    Some(Request::Erase { table, id })
+}
+
+fn erase_key_request(object: Object) -> Option<Request>
+    ensures { result ≡ (form_of name.EraseKey).request object }
+{
+    let members = Members::of(object);
+    let table = text_if_there(members.table)?;
+    let index = text(members.index)?;
+    let key = array(members.key)?;
+    Some(Request::EraseKey { table, index, key })
+}
+
+fn relocate_request(object: Object) -> Option<Request>
+    ensures { result ≡ (form_of name.Relocate).request object }
+{
+    let members = Members::of(object);
+    let table = text_if_there(members.table)?;
+    let index = text(members.index)?;
+    let id = natural(members.id)?;
+    let before = natural_if_there(members.before)?;
+    Some(Request::Relocate {
+        table,
+        index,
+        id,
+        before,
+    })
 }
 
 fn get_request(object: Object) -> Option<Request>
     ensures { result ≡ (form_of name.Get).request object }
 {
-    let mut object = object;
-    let table = take_table(&mut object)?;
-    let id = take_natural(&mut object, "id")?;
+    let members = Members::of(object);
+    let table = text_if_there(members.table)?;
+    let id = natural(members.id)?;
     Some(Request::Get { table, id })
 }
 
 /// The request that the members of a command are.
-fn request_by(name: CommandName, object: Object) -> Option<Request>
+fn request_by(alloc: Global, name: CommandName, object: Object) -> Option<Request>
     ensures { result ≡ lines.request_by object (form_of name) }
 {
     if !object.has_only(name.members()) {
@@ -175,9 +185,14 @@ fn request_by(name: CommandName, object: Object) -> Option<Request>
     }
     match name {
         CommandName::Insert => insert_request(object),
-        CommandName::Get => get_request(object),
+        CommandName::Replace => replace_request(object),
+        CommandName::Modify => modify_request(alloc, object),
+        CommandName::Erase => erase_request(object),
+        CommandName::EraseKey => erase_key_request(object),
+        CommandName::Relocate => relocate_request(object),
         CommandName::Start => Some(Request::Start),
         CommandName::Undo => Some(Request::Undo),
+        CommandName::Get => get_request(object),
     }
 }
 
@@ -188,12 +203,12 @@ fn name_in(object: &Object) -> Option<CommandName>
     CommandName::of(object.get("cmd")?.as_str()?)
 }
 
-fn request_of(value: Json) -> Option<Request>
+fn request_of(alloc: Global, value: Json) -> Option<Request>
     ensures { result ≡ lines.request_of (view value) }
 {
     let object = object_of(value)?;
     let name = name_in(&object)?;
-    request_by(name, object)
+    request_by(alloc, name, object)
 }
 
 /// The request that a line, without its newline, is. Refusals: `Json` where the bytes are not UTF-8 or no JSON, `Form` where
@@ -207,7 +222,7 @@ pub fn parse_line(alloc: Global, line: &[u8]) -> Result<Request, Refusal>
         return Ok(Request::Undo);
     }
     match Json::from_slice(alloc, line) {
-        Ok(value) => request_of(value).ok_or(Refusal::Form),
+        Ok(value) => request_of(alloc, value).ok_or(Refusal::Form),
         Err(e) if e.classify() == Category::Memory => Err(Refusal::Memory),
         Err(_) => Err(Refusal::Json),
     }

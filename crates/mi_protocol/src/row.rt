@@ -48,7 +48,7 @@ fn fit_text(value: Json) -> Option<Value>
 }
 
 /// The value that fits a column of this type. A text is moved.
-fn fit(kind: ColumnType, value: Json) -> Option<Value>
+pub(crate) fn fit(kind: ColumnType, value: Json) -> Option<Value>
     ensures { result ≡ fitting kind (view value) }
 {
     match kind {

@@ -129,11 +129,150 @@ fn inserts_are_bound_or_refused(rt: HostRuntime) -> Result<(), Fail> {
     Ok(())
 }
 
+#[test]
+fn changes_are_bound_or_refused(rt: HostRuntime) -> Result<(), Fail> {
+    let alloc = rt.alloc();
+    let catalog = catalog_of_accounts(alloc)?;
+    for (line, want) in [
+        (
+            "{\"cmd\":\"replace\",\"id\":0,\"row\":{\"owner\":\"a\",\"balance\":5,\"vip\":true}}",
+            "ok",
+        ),
+        (
+            "{\"cmd\":\"replace\",\"id\":0,\"row\":{\"owner\":\"a\",\"balance\":5}}",
+            "row",
+        ),
+        ("{\"cmd\":\"replace\",\"id\":0,\"row\":[]}", "form"),
+        (
+            "{\"cmd\":\"replace\",\"row\":{\"owner\":\"a\",\"balance\":5,\"vip\":true}}",
+            "form",
+        ),
+        (
+            "{\"cmd\":\"replace\",\"table\":\"c\",\"id\":0,\"row\":{}}",
+            "table",
+        ),
+        ("{\"cmd\":\"modify\",\"id\":0}", "ok"),
+        (
+            "{\"cmd\":\"modify\",\"id\":1,\"set\":{\"owner\":\"a\"},\"rollback\":true}",
+            "ok",
+        ),
+        (
+            "{\"cmd\":\"modify\",\"id\":0,\"add\":{\"balance\":1}}",
+            "ok",
+        ),
+        (
+            "{\"cmd\":\"modify\",\"id\":0,\"set\":{\"vip\":true},\"add\":{\"balance\":-1}}",
+            "ok",
+        ),
+        (
+            "{\"cmd\":\"modify\",\"id\":0,\"set\":{\"balance\":2},\"add\":{\"balance\":1}}",
+            "row",
+        ),
+        ("{\"cmd\":\"modify\",\"id\":0,\"set\":{\"none\":2}}", "row"),
+        ("{\"cmd\":\"modify\",\"id\":0,\"add\":{\"none\":2}}", "row"),
+        (
+            "{\"cmd\":\"modify\",\"id\":0,\"set\":{\"balance\":\"2\"}}",
+            "row",
+        ),
+        (
+            "{\"cmd\":\"modify\",\"id\":0,\"set\":{\"balance\":null}}",
+            "row",
+        ),
+        ("{\"cmd\":\"modify\",\"id\":0,\"add\":{\"owner\":2}}", "row"),
+        (
+            "{\"cmd\":\"modify\",\"id\":0,\"add\":{\"balance\":1.5}}",
+            "row",
+        ),
+        ("{\"cmd\":\"modify\",\"id\":0,\"set\":null}", "form"),
+        ("{\"cmd\":\"modify\",\"id\":0,\"add\":[]}", "form"),
+        ("{\"cmd\":\"modify\",\"id\":0,\"rollback\":1}", "form"),
+        ("{\"cmd\":\"erase\",\"id\":0}", "ok"),
+        ("{\"cmd\":\"erase\",\"id\":0,\"index\":\"line\"}", "form"),
+        ("{\"cmd\":\"erase\"}", "form"),
+        (
+            "{\"cmd\":\"erase_key\",\"index\":\"by_vip\",\"key\":[true]}",
+            "ok",
+        ),
+        ("{\"cmd\":\"erase_key\",\"index\":\"id\",\"key\":[0]}", "ok"),
+        (
+            "{\"cmd\":\"erase_key\",\"index\":\"id\",\"key\":[\"a\"]}",
+            "key",
+        ),
+        (
+            "{\"cmd\":\"erase_key\",\"index\":\"by_class\",\"key\":[true,1]}",
+            "ok",
+        ),
+        (
+            "{\"cmd\":\"erase_key\",\"index\":\"by_class\",\"key\":[true]}",
+            "key",
+        ),
+        (
+            "{\"cmd\":\"erase_key\",\"index\":\"by_class\",\"key\":[true,1,2]}",
+            "key",
+        ),
+        (
+            "{\"cmd\":\"erase_key\",\"index\":\"by_class\",\"key\":[1,true]}",
+            "key",
+        ),
+        (
+            "{\"cmd\":\"erase_key\",\"index\":\"by_vip\",\"key\":[null]}",
+            "key",
+        ),
+        (
+            "{\"cmd\":\"erase_key\",\"index\":\"by_vip\",\"key\":[]}",
+            "key",
+        ),
+        (
+            "{\"cmd\":\"erase_key\",\"index\":\"none\",\"key\":[]}",
+            "index",
+        ),
+        (
+            "{\"cmd\":\"erase_key\",\"index\":\"line\",\"key\":[]}",
+            "kind",
+        ),
+        (
+            "{\"cmd\":\"erase_key\",\"index\":\"line\",\"key\":0}",
+            "form",
+        ),
+        (
+            "{\"cmd\":\"relocate\",\"index\":\"line\",\"id\":0,\"before\":0}",
+            "ok",
+        ),
+        (
+            "{\"cmd\":\"relocate\",\"index\":\"line\",\"id\":0,\"before\":null}",
+            "ok",
+        ),
+        ("{\"cmd\":\"relocate\",\"index\":\"line\",\"id\":0}", "ok"),
+        (
+            "{\"cmd\":\"relocate\",\"index\":\"line\",\"id\":0,\"before\":-1}",
+            "form",
+        ),
+        (
+            "{\"cmd\":\"relocate\",\"index\":\"by_vip\",\"id\":0}",
+            "kind",
+        ),
+        (
+            "{\"cmd\":\"relocate\",\"index\":\"none\",\"id\":0}",
+            "index",
+        ),
+        ("{\"cmd\":\"relocate\",\"index\":0,\"id\":0}", "form"),
+    ] {
+        assert_eq!(rt; verdict(alloc, line.as_bytes(), &catalog), want, "{line}");
+    }
+    Ok(())
+}
+
 fn assert_text(rt: &impl Abort, alloc: Global, catalog: &Catalog, given: &Reply<'_>, want: &str)
     requires { IsSaidOf catalog.now (said given.now) }
 {
     let text = given.text(alloc, catalog).expect(rt, "memory is there");
     assert_eq!(rt; text.as_slice(), want.as_bytes(), "{want}");
+}
+
+fn refused_modify(refusal: Refusal) -> Reply<'static>
+    ensures { result ≡ replies.RefusedModify 0 refusal }
+{
+    Reply::RefusedModify { table: 0, refusal }
 }
 
 fn refused(refusal: Refusal) -> Reply<'static>
@@ -214,6 +353,35 @@ fn replies_have_their_texts(rt: HostRuntime) -> Result<(), Fail> {
         alloc,
         &catalog,
         &refused(lost),
+        "{\"error\":\"unique\",\"id\":0,\"index\":\"by_owner\",\"lost\":true,\"ok\":false}",
+    );
+    assert_text(&rt, alloc, &catalog, &Reply::Done, "{\"ok\":true}");
+    assert_text(
+        &rt,
+        alloc,
+        &catalog,
+        &Reply::Erased(2),
+        "{\"erased\":2,\"ok\":true}",
+    );
+    assert_text(
+        &rt,
+        alloc,
+        &catalog,
+        &refused_modify(Refusal::Range),
+        "{\"error\":\"range\",\"ok\":false}",
+    );
+    assert_text(
+        &rt,
+        alloc,
+        &catalog,
+        &refused_modify(unique),
+        "{\"error\":\"unique\",\"id\":0,\"index\":\"by_owner\",\"lost\":false,\"ok\":false}",
+    );
+    assert_text(
+        &rt,
+        alloc,
+        &catalog,
+        &refused_modify(lost),
         "{\"error\":\"unique\",\"id\":0,\"index\":\"by_owner\",\"lost\":true,\"ok\":false}",
     );
     Ok(())

@@ -1,6 +1,6 @@
 use Rattle.std.proofs.Common.{◌∙◌, ap}
 use Rattle.serde_json.specs.Find.{get_member}
-use Rattle.mi_protocol.proofs.Members.{lent}
+use Rattle.mi_protocol.proofs.ObjectLemmas.{lent}
 use Rattle.mi_protocol.proofs.object.Object.get.Goals as goal
 
 pub returns : goal.returns

@@ -1,6 +1,6 @@
 use Rattle.std.proofs.Common.{ℕ, List, Bor, ◌∙◌, ap, map}
 use Rattle.mi_protocol.specs.Json.{has_only}
-use Rattle.mi_protocol.proofs.Members.{has_only-keys}
+use Rattle.mi_protocol.proofs.ObjectLemmas.{has_only-keys}
 use Rattle.mi_protocol.proofs.object.Object.has_only.Goals as goal
 
 pub returns : goal.returns

@@ -2,7 +2,7 @@ use Rattle.std.proofs.Common.{◌∙◌, ap}
 use Rattle.serde_json.specs.Find.{get_member}
 use Rattle.serde_json.specs.View.{members_view}
 use Rattle.mi_protocol.specs.Json.{without}
-use Rattle.mi_protocol.proofs.Members.{looked_up, removed}
+use Rattle.mi_protocol.proofs.ObjectLemmas.{looked_up, removed}
 use Rattle.mi_protocol.proofs.object.Object.take.Goals as goal
 
 pub returns-clause-value : goal.returns-clause-value

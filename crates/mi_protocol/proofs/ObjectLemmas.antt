@@ -67,3 +67,19 @@ kept k l ms left is other = ap (get_member k) is ∙ get_member-without k l ms o
 -- the member that a look-up lends
 pub lent : (name : List ℕ) (es : List (String Global × Json)) (r : Option (Bor Json)) → option_map (λ x. x.now) r ≡ lookup (is_at (λ k. slice_cmp nat_cmp name (string_bytes k))) es → option_map (λ v. view v.now) r ≡ get_member name (members_view es)
 lent name es r is = view_of_ref r ∙ looked_up name es _ is
+
+-- the members without those of these names, the last taken out first
+abbrev pub left_out : List (List ℕ) → Members → Members
+left_out [] ms = ms
+left_out (n ∷ ns) ms = without n (left_out ns ms)
+
+not_named : (a b : Bool) → (a || b) ≡ false → (a ≡ false) × (b ≡ false)
+not_named true b h = absurd (true≢false h)
+not_named false b h = (refl, h)
+
+-- a member of another name stays where several are taken out
+pub stays : (k : List ℕ) (ns : List (List ℕ)) (ms left : Members) → left ≡ left_out ns ms → list_any (λ n. bytes_eq k n) ns ≡ false → get_member k left ≡ get_member k ms
+stays k [] ms left is other = ap (get_member k) is
+stays k (n ∷ ns) ms left is other =
+    let p = not_named (bytes_eq k n) _ other in
+    kept k n (left_out ns ms) left is p.0 ∙ stays k ns ms (left_out ns ms) refl p.1

@@ -1,0 +1,73 @@
+-- What a command says and leaves, done by a connection that nobody keeps out: {"cmd":"start"} says the new revision, opens a session, and
+-- makes its connection the holder.
+use Rattle.std.specs.Prelude.{ℕ, List, Option, Some, None, Result, Ok, Err}
+use Rattle.mi_value.specs.declared.value.Value.{Value}
+use Rattle.mi_value.specs.declared.refusal.Refusal.{Refusal}
+use Rattle.mi_value.specs.declared.refusal.Refusal.TheVariants.{NoId, Session}
+use Rattle.mi_value.specs.declared.refusal.NoSession.{NoSession}
+use Rattle.mi_model.specs.Table.{get}
+use Rattle.mi_model.specs.Database.{Database, Step, table_of, start_step, undo_step, squash_step}
+use Rattle.mi_model.specs.Steps.{insert_step, replace_step, modify_step, erase_step, erase_key_step, relocate_step}
+use Rattle.mi_protocol.specs.Replies as say
+use Rattle.mi_protocol.specs.Replies.{Said}
+use Rattle.mi_protocol.specs.declared.binding.Command.{Command}
+use Rattle.mi_protocol.specs.declared.binding.Command.TheVariants as command
+use Rattle.mi_hub.specs.Holder.{Held, one_more, one_less}
+use Rattle.mi_hub.specs.declared.holder.Holder.{Holder}
+
+-- what an accepted step says, or its refusal
+abbrev pub said_of : {A : Type 0} → (A → Said) → (Refusal → Said) → Result A Refusal → Said
+said_of accepted refused (Ok v) = accepted v
+said_of accepted refused (Err e) = refused e
+
+-- a change of a table, whoever holds sessions
+abbrev pub changed : {A : Type 0} → (A → Said) → (Refusal → Said) → Step A → Held → Said × Held
+changed accepted refused step s = (said_of accepted refused step.0, record { database = step.1; holder = s.holder })
+
+-- a change that answers nothing but that it is done
+abbrev pub all_done : Unit {0} → Said
+all_done u = say.done
+
+-- the holder moves where the step is accepted
+abbrev pub moved : Result ℕ Refusal → (Option Holder → Option Holder) → Option Holder → Option Holder
+moved (Ok n) move h = move h
+moved (Err e) move h = h
+
+-- the one refusal of an undo and of a squash
+abbrev pub or_session : Result ℕ NoSession → Result ℕ Refusal
+or_session (Ok n) = Ok n
+or_session (Err none) = Err Session
+
+-- a session step that says the new revision
+abbrev pub revised : Result ℕ Refusal → Database → (Option Holder → Option Holder) → Held → Said × Held
+revised answer left move s = (said_of say.revised (say.refused 0) answer, record { database = left; holder = moved answer move s.holder })
+
+abbrev pub start_session : Held → ℕ → Said × Held
+start_session s conn = let step = start_step s.database in revised step.0 step.1 (one_more conn) s
+
+abbrev pub undo_session : Held → Said × Held
+undo_session s = let step = undo_step s.database in revised (or_session step.0) step.1 one_less s
+
+abbrev pub squash_session : Held → Said × Held
+squash_session s = let step = squash_step s.database in revised (or_session step.0) step.1 one_less s
+
+-- what a look-up of an id says
+abbrev pub found : ℕ → ℕ → Option (List Value) → Said
+found table id None = say.refused table NoId
+found table id (Some row) = say.shown table id row
+
+-- a record is shown
+abbrev pub show_row : Held → ℕ → ℕ → Said
+show_row s table id = found table id (get (table_of s.database table) id)
+
+-- a command, done by a connection that nobody keeps out
+abbrev pub performed : Held → ℕ → Command → Said × Held
+performed s conn (command.Insert table row before) = changed say.inserted (say.refused table) (insert_step table before row s.database) s
+performed s conn (command.Replace table id row) = changed all_done (say.refused table) (replace_step table id row s.database) s
+performed s conn (command.Modify table id edits rollback) = changed all_done (say.refused_modify table) (modify_step table id edits rollback s.database) s
+performed s conn (command.Erase table id) = changed all_done (say.refused table) (erase_step table id s.database) s
+performed s conn (command.EraseKey table index key) = changed say.erased (say.refused table) (erase_key_step table index key s.database) s
+performed s conn (command.Relocate table index id before) = changed all_done (say.refused table) (relocate_step table index id before s.database) s
+performed s conn command.Start = start_session s conn
+performed s conn command.Undo = undo_session s
+performed s conn (command.Get table id) = (show_row s table id, s)

@@ -1,0 +1,60 @@
+//! Keys: from a JSON array to the values of a key of an index.
+ghost use Rattle.std.specs.Prelude.{◌≡◌, ◌<◌, length, true, IfOk, IsTrue};
+ghost use Rattle.std.specs.Option.{ok_or};
+ghost use Rattle.serde_json.specs.View.{view, items_view};
+ghost use Rattle.mi_schema.specs.Shape.{index_at};
+ghost use Rattle.mi_protocol.specs.Answers.{IsAnswer};
+ghost use Rattle.mi_protocol.specs.Keys as keys;
+ghost use Rattle.mi_protocol.specs.Keys.{plain_values, bound_key};
+
+use crate::array::Array;
+use mi_schema::Schema;
+use mi_value::{Key, Refusal, Text, Value};
+use serde_json::Value as Json;
+use std::alloc::{AllocError, Global};
+
+/// The value that a JSON value is: a whole number, a text, or true or false.
+fn plain_value(alloc: Global, value: &Json) -> Result<Option<Value>, AllocError>
+    ensures { IfOk result (λ v. v ≡ keys.plain_value (view value.now)) }
+{
+    match value {
+        Json::Number(_) => Ok(value.as_i64().map(Value::Int)),
+        Json::String(text) => Ok(Some(Value::Text(Text::of(alloc, text.as_str())?))),
+        Json::Bool(b) => Ok(Some(Value::Flag(*b))),
+        _other => Ok(None),
+    }
+}
+
+/// The key of these values. Refusals: `Key` and `Memory`.
+fn key_of(alloc: Global, items: &[Json]) -> Result<Key, Refusal>
+    ensures { IsAnswer result (ok_or (plain_values (items_view items.now)) Refusal.Key) }
+{
+    let mut values = Vec::new(alloc);
+    'items: for item in items {
+        let Some(value) = plain_value(alloc, item)? else {
+            return Err(Refusal::Key);
+        };
+        values.push(value)?;
+    }
+    Ok(Key::new(values))
+}
+
+/// The key of index i that the items of an array are; where it needn't be whole, the first values of one will do. Refusals:
+/// `Key` and `Memory`.
+pub(crate) fn bind_key(
+    alloc: Global,
+    key: Array,
+    schema: &Schema,
+    i: usize,
+    whole: bool,
+) -> Result<Key, Refusal>
+    requires { i < length schema.now.indexes }
+    ensures { IsAnswer result (ok_or (bound_key schema.now i whole key) Refusal.Key) }
+{
+    let key = key_of(alloc, key.items())?;
+    if schema.fits_key(i, key.values(), whole) {
+        Ok(key)
+    } else {
+        Err(Refusal::Key)
+    }
+}
