@@ -132,6 +132,98 @@ pub trait Sessions {
         ensures record { option_copied result ≡ get_row (table_of (state self.now) table) id }
         ensures steps { WithinLookUps bound 1 (size_of (table_of (state self.now) table)) steps.old.count steps.new.count };
 
+    /// The first id that an index shows, or none of an empty table. A hashed index has no order.
+    fn first(&self, table: usize, index: usize) -> Option<u64>
+        requires table { table < length (state self.now).catalog.tables }
+        requires index { IsTrue (shows_one_list (index_at (schema_of (state self.now) table) index).kind) }
+        ensures { result ≡ look.first (schema_of (state self.now) table) (table_of (state self.now) table) index };
+
+    /// The last id that an index shows, or none of an empty table.
+    fn last(&self, table: usize, index: usize) -> Option<u64>
+        requires table { table < length (state self.now).catalog.tables }
+        requires index { IsTrue (shows_one_list (index_at (schema_of (state self.now) table) index).kind) }
+        ensures { result ≡ look.last (schema_of (state self.now) table) (table_of (state self.now) table) index };
+
+    /// The id that an index shows directly after another, or none behind the last.
+    fn after(&self, table: usize, index: usize, id: u64) -> Option<u64>
+        requires table { table < length (state self.now).catalog.tables }
+        requires index { IsTrue (shows_one_list (index_at (schema_of (state self.now) table) index).kind) }
+        requires id { IsTrue (has_row (table_of (state self.now) table) id) }
+        ensures { result ≡ look.after (schema_of (state self.now) table) (table_of (state self.now) table) index id };
+
+    /// The id that an index shows directly before another, or none before the first.
+    fn before(&self, table: usize, index: usize, id: u64) -> Option<u64>
+        requires table { table < length (state self.now).catalog.tables }
+        requires index { IsTrue (shows_one_list (index_at (schema_of (state self.now) table) index).kind) }
+        requires id { IsTrue (has_row (table_of (state self.now) table) id) }
+        ensures { result ≡ look.before (schema_of (state self.now) table) (table_of (state self.now) table) index id };
+
+    /// The first id of an ordered or ranked index whose key isn't less than a key or the first values of one, or none. At
+    /// most one look-up.
+    fn lower(&self, table: usize, index: usize, key: &[Value], steps: &mut Steps) -> Option<u64>
+        requires table { table < length (state self.now).catalog.tables }
+        requires index { IsTrue (is_sorted (index_at (schema_of (state self.now) table) index).kind) }
+        requires key { IsTrue (fits_key (schema_of (state self.now) table).columns (index_at (schema_of (state self.now) table) index).parts false key.now) }
+        ensures id { result ≡ look.lower (schema_of (state self.now) table) (table_of (state self.now) table) index key.now }
+        ensures steps { WithinLookUps bound 1 (size_of (table_of (state self.now) table)) steps.old.count steps.new.count };
+
+    /// The first id of an ordered or ranked index whose key is greater than a key or the first values of one, or none. At
+    /// most one look-up.
+    fn upper(&self, table: usize, index: usize, key: &[Value], steps: &mut Steps) -> Option<u64>
+        requires table { table < length (state self.now).catalog.tables }
+        requires index { IsTrue (is_sorted (index_at (schema_of (state self.now) table) index).kind) }
+        requires key { IsTrue (fits_key (schema_of (state self.now) table).columns (index_at (schema_of (state self.now) table) index).parts false key.now) }
+        ensures id { result ≡ look.upper (schema_of (state self.now) table) (table_of (state self.now) table) index key.now }
+        ensures steps { WithinLookUps bound 1 (size_of (table_of (state self.now) table)) steps.old.count steps.new.count };
+
+    /// The first id of a whole key in a hashed index, or none.
+    fn first_of(&self, table: usize, index: usize, key: &[Value]) -> Option<u64>
+        requires table { table < length (state self.now).catalog.tables }
+        requires index { index < length (schema_of (state self.now) table).indexes }
+        requires kind { (index_at (schema_of (state self.now) table) index).kind ≡ Hashed }
+        requires key { IsTrue (fits_key (schema_of (state self.now) table).columns (index_at (schema_of (state self.now) table) index).parts true key.now) }
+        ensures { result ≡ look.first_of (schema_of (state self.now) table) (table_of (state self.now) table) index key.now };
+
+    /// The id that follows another among those of its key in a hashed index, or none behind the last.
+    fn next_of(&self, table: usize, index: usize, id: u64) -> Option<u64>
+        requires table { table < length (state self.now).catalog.tables }
+        requires index { index < length (schema_of (state self.now) table).indexes }
+        requires kind { (index_at (schema_of (state self.now) table) index).kind ≡ Hashed }
+        requires id { IsTrue (has_row (table_of (state self.now) table) id) }
+        ensures { result ≡ look.next_of (schema_of (state self.now) table) (table_of (state self.now) table) index id };
+
+    /// The id with n records before it in an ordered or ranked index, or none.
+    fn nth(&self, table: usize, index: usize, n: u64) -> Option<u64>
+        requires table { table < length (state self.now).catalog.tables }
+        requires index { IsTrue (is_sorted (index_at (schema_of (state self.now) table) index).kind) }
+        ensures { result ≡ look.nth (schema_of (state self.now) table) (table_of (state self.now) table) index n };
+
+    /// How many records stand before a record in an ordered or ranked index. At most two look-ups.
+    fn rank_of(&self, table: usize, index: usize, id: u64, steps: &mut Steps) -> u64
+        requires table { table < length (state self.now).catalog.tables }
+        requires index { IsTrue (is_sorted (index_at (schema_of (state self.now) table) index).kind) }
+        requires id { IsTrue (has_row (table_of (state self.now) table) id) }
+        ensures rank { result ≡ look.rank (schema_of (state self.now) table) (table_of (state self.now) table) index id }
+        ensures steps { WithinLookUps bound 2 (size_of (table_of (state self.now) table)) steps.old.count steps.new.count };
+
+    /// How many records of an ordered or ranked index have a key less than a key or the first values of one. At most two
+    /// look-ups.
+    fn lower_rank(&self, table: usize, index: usize, key: &[Value], steps: &mut Steps) -> u64
+        requires table { table < length (state self.now).catalog.tables }
+        requires index { IsTrue (is_sorted (index_at (schema_of (state self.now) table) index).kind) }
+        requires key { IsTrue (fits_key (schema_of (state self.now) table).columns (index_at (schema_of (state self.now) table) index).parts false key.now) }
+        ensures rank { result ≡ look.lower_rank (schema_of (state self.now) table) (table_of (state self.now) table) index key.now }
+        ensures steps { WithinLookUps bound 2 (size_of (table_of (state self.now) table)) steps.old.count steps.new.count };
+
+    /// How many records of an ordered or ranked index have a key not greater than a key or the first values of one. At most
+    /// two look-ups.
+    fn upper_rank(&self, table: usize, index: usize, key: &[Value], steps: &mut Steps) -> u64
+        requires table { table < length (state self.now).catalog.tables }
+        requires index { IsTrue (is_sorted (index_at (schema_of (state self.now) table) index).kind) }
+        requires key { IsTrue (fits_key (schema_of (state self.now) table).columns (index_at (schema_of (state self.now) table) index).parts false key.now) }
+        ensures rank { result ≡ look.upper_rank (schema_of (state self.now) table) (table_of (state self.now) table) index key.now }
+        ensures steps { WithinLookUps bound 2 (size_of (table_of (state self.now) table)) steps.old.count steps.new.count };
+
     /// Opens a session and answers its number, the new revision. Refusals, in this order: `Spent` (the revision is
     /// 2^63 - 1), `Depth` (1,024 are open), `Memory`.
     fn start(&mut self, alloc: Global) -> Result<u64, Refusal>

@@ -1,18 +1,18 @@
 -- What a command says and leaves, done by a connection that nobody keeps out: {"cmd":"start"} says the new revision, opens a session, and
 -- makes its connection the holder.
-use Rattle.std.specs.Prelude.{ℕ, List, Option, Some, None, Result, Ok, Err}
+use Rattle.std.specs.Prelude.{◌≡◌, ℕ, ◌-◌, List, Option, Some, None, Result, Ok, Err}
 use Rattle.mi_value.specs.declared.value.Value.{Value}
 use Rattle.mi_value.specs.declared.refusal.Refusal.{Refusal}
 use Rattle.mi_value.specs.declared.refusal.Refusal.TheVariants.{NoId, Session}
 use Rattle.mi_value.specs.declared.refusal.NoSession.{NoSession}
 use Rattle.mi_model.specs.Table.{get}
-use Rattle.mi_model.specs.Database.{Database, Step, table_of, start_step, undo_step, squash_step}
+use Rattle.mi_model.specs.Database.{Database, Step, table_of, depth, ending, committed, undone_times, start_step, undo_step, squash_step}
 use Rattle.mi_model.specs.Steps.{insert_step, replace_step, modify_step, erase_step, erase_key_step, relocate_step}
 use Rattle.mi_protocol.specs.Replies as say
 use Rattle.mi_protocol.specs.Replies.{Said}
 use Rattle.mi_protocol.specs.declared.binding.Command.{Command}
 use Rattle.mi_protocol.specs.declared.binding.Command.TheVariants as command
-use Rattle.mi_hub.specs.Holder.{Held, one_more, one_less}
+use Rattle.mi_hub.specs.Holder.{Held, one_more, one_less, at_most, held_by, without_holder}
 use Rattle.mi_hub.specs.declared.holder.Holder.{Holder}
 
 -- what an accepted step says, or its refusal
@@ -51,6 +51,23 @@ undo_session s = let step = undo_step s.database in revised (or_session step.0) 
 abbrev pub squash_session : Held → Said × Held
 squash_session s = let step = squash_step s.database in revised (or_session step.0) step.1 one_less s
 
+-- sessions with a number of at most x end; the holder holds no more than those that stay open
+abbrev pub commit_sessions : Held → ℕ → Said × Held
+commit_sessions s x =
+    (say.committed (ending x s.database), record { database = committed x s.database; holder = at_most (depth (committed x s.database)) s.holder })
+
+-- all open sessions are undone, and nobody holds any
+abbrev pub undo_sessions : Held → Said × Held
+undo_sessions s = (say.undone (depth s.database), record { database = undone_times (depth s.database) s.database; holder = None })
+
+-- the sessions that the connection holds are open and held by nobody
+abbrev pub push_sessions : Held → ℕ → Said × Held
+push_sessions s conn = (say.pushed (held_by conn s.holder), record { database = s.database; holder = without_holder conn s.holder })
+
+-- how many sessions are open, how many of them the connection holds, and the revision
+abbrev pub status : Held → ℕ → Said
+status s conn = say.status (depth s.database) (held_by conn s.holder) s.database.revision
+
 -- what a look-up of an id says
 abbrev pub found : ℕ → ℕ → Option (List Value) → Said
 found table id None = say.refused table NoId
@@ -70,4 +87,9 @@ performed s conn (command.EraseKey table index key) = changed say.erased (say.re
 performed s conn (command.Relocate table index id before) = changed all_done (say.refused table) (relocate_step table index id before s.database) s
 performed s conn command.Start = start_session s conn
 performed s conn command.Undo = undo_session s
+performed s conn command.Squash = squash_session s
+performed s conn (command.Commit revision) = commit_sessions s revision
+performed s conn command.UndoAll = undo_sessions s
+performed s conn command.Push = push_sessions s conn
+performed s conn command.Revision = (status s conn, s)
 performed s conn (command.Get table id) = (show_row s table id, s)

@@ -109,6 +109,11 @@ impl<D: Sessions + Drop> Executor<D> {
             } => self.relocate(table, index, id, before),
             Command::Start => self.start(conn),
             Command::Undo => self.undo(),
+            Command::Squash => self.squash(),
+            Command::Commit { revision } => self.commit(revision),
+            Command::UndoAll => self.undo_all(),
+            Command::Push => self.push(conn),
+            Command::Revision => self.status(conn),
             Command::Get { table, id } => self.get(table, id),
         }
     }

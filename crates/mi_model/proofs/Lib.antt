@@ -11,5 +11,7 @@ pub mod SameLaws
 pub mod DatabaseLaws
 pub mod InvariantLaws
 pub mod UniqueLaws
-pub mod LookUpLaws
+pub mod AlikeLookUps
 pub mod AlikeLaws
+pub mod LookupLaws
+pub mod PrefixLaws

@@ -21,7 +21,7 @@ use Rattle.mi_model.proofs.SortLaws.{both_ways}
 use Rattle.mi_model.proofs.ViewLaws.{Lacks, lookup_without, lookup_push, lookup_set}
 use Rattle.mi_model.proofs.PutLaws.{lookup_set_same}
 
-count_itself : (e : ℕ) → (e == e) ≡ true
+pub count_itself : (e : ℕ) → (e == e) ≡ true
 count_itself e = elim (eqb_tells e e) [ inl is ↦ is.0 | inr isnt ↦ absurd (isnt.1 refl) ]
 
 pub not_same : (a e : ℕ) → a ≢ e → (a == e) ≡ false
@@ -35,7 +35,7 @@ above_next next e (r ∷ rows) up le =
     ∙ above_next next e rows up.2 le
 
 -- a list that counts no e lacks it
-lacks_of_count : (e : ℕ) (ids : List ℕ) → times e ids ≡ 0 → Lacks e ids
+pub lacks_of_count : (e : ℕ) (ids : List ℕ) → times e ids ≡ 0 → Lacks e ids
 lacks_of_count e [] none = tt
 lacks_of_count e (a ∷ ids) none =
     elim (eqb_tells a e) [
@@ -43,7 +43,7 @@ lacks_of_count e (a ∷ ids) none =
       | inr isnt ↦ (isnt.1, lacks_of_count e ids (let n : cond (a == e) 1 0 + times e ids ≡ 0 = none in omega arith))
     ]
 
-all_get : (P : List ℕ → Type 0) (lists : List (List ℕ)) (x : ℕ) → AllByRecursion P lists → x < length lists → P (get_or lists x [])
+pub all_get : (P : List ℕ → Type 0) (lists : List (List ℕ)) (x : ℕ) → AllByRecursion P lists → x < length lists → P (get_or lists x [])
 all_get P [] x all l = absurd (omega arith)
 all_get P (ids ∷ lists) zero all l = all.0
 all_get P (ids ∷ lists) (suc x) all l = all_get P lists x all.1 (omega arith)

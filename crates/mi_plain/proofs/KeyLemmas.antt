@@ -17,34 +17,24 @@ use Rattle.mi_model.specs.Change.{erase_all, erase_key}
 use Rattle.mi_model.proofs.EraseLaws.{count-shown, in-shown, erase_all-alike}
 use Rattle.mi_plain.specs.IdPart.{id_part}
 
-then_equal : (o : Ordering) → is_eq (ordering_then o Equal) ≡ is_eq o
+then_equal : (o : Ordering) → ordering_then o Equal ≡ o
 then_equal Less = refl
 then_equal Equal = refl
 then_equal Greater = refl
-
-then_greater : (o : Ordering) → is_eq (ordering_then o Greater) ≡ false
-then_greater Less = refl
-then_greater Equal = refl
-then_greater Greater = refl
-
-abbrev pub is_none : List Value → Bool
-is_none [] = true
-is_none (v ∷ vs) = false
 
 -- a list of no length is empty
 pub no_parts : (ps : List KeyPart) → (length ps == 0) ≡ true → ps ≡ []
 no_parts [] h = refl
 no_parts (p ∷ ps) h = absurd (let e : length (p ∷ ps) ≡ 0 = eqb-true (length (p ∷ ps)) 0 h in omega (arith, e))
 
--- a key of one value is an id where the value is
-pub one_value : (first : Value) (rest : List Value) (id : ℕ) → (length rest == 0) ≡ true → is_eq (compare_prefix id_part (first ∷ rest) (Int (pos id) ∷ [])) ≡ is_eq (compare_value first (Int (pos id)))
+-- a key of one value compares as the value, and one of more values is never an id
+pub one_value : (first : Value) (rest : List Value) (id : ℕ) → (length rest == 0) ≡ true → compare_prefix id_part (first ∷ rest) (Int (pos id) ∷ []) ≡ compare_value first (Int (pos id))
 one_value first [] id h = then_equal (compare_value first (Int (pos id)))
 one_value first (v ∷ vs) id h = absurd (let e : length (v ∷ vs) ≡ 0 = eqb-true (length (v ∷ vs)) 0 h in omega (arith, e))
 
--- a key of more values is none
-pub more_values : (first : Value) (rest : List Value) (id : ℕ) → (length rest == 0) ≡ false → is_eq (compare_prefix id_part (first ∷ rest) (Int (pos id) ∷ [])) ≡ false
+pub more_values : (first : Value) (rest : List Value) (id : ℕ) → (length rest == 0) ≡ false → compare_prefix id_part (first ∷ rest) (Int (pos id) ∷ []) ≡ ordering_then (compare_value first (Int (pos id))) Greater
 more_values first [] id h = absurd (eqb-false 0 0 h refl)
-more_values first (v ∷ vs) id h = then_greater (compare_value first (Int (pos id)))
+more_values first (v ∷ vs) id h = refl
 
 abbrev pub has_key : Shape → Table → ℕ → List Value → ℕ → Bool
 has_key s t x key id = is_eq (compare_to_id (index_at s x) t key id)

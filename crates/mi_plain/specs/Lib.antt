@@ -1,1 +1,2 @@
 pub mod IdPart
+pub mod Cut

@@ -1,47 +1,78 @@
-//! Whether a row has a key. It reads rows and takes no memory.
+//! How keys and rows compare. It reads rows and takes no memory.
 ghost use Rattle.std.specs.Prelude.{◌≡◌, pos, [], ◌∷◌};
 ghost use Rattle.std.specs.Ordering.{is_eq};
 ghost use Rattle.mi_value.specs.declared.value.Value.TheVariants.{Int};
 ghost use Rattle.mi_value.specs.Order.{compare_value, compare_prefix as compare_prefix_to};
 ghost use Rattle.mi_plain.specs.IdPart.{id_part};
-ghost use Rattle.mi_model.specs.Key.{compare_to_row};
+ghost use Rattle.mi_model.specs.Key as meaning;
 
-use mi_value::{KeyPart, Record, Value, compare_prefix};
+use mi_value::{KeyPart, Record, Value, compare_key, compare_prefix};
+use std::cmp::Ordering;
 
-/// Whether a value is this id.
-fn is_id(value: &Value, id: u64) -> bool
-    ensures { result ≡ is_eq (compare_value value.now (Int (pos id))) }
+/// A value against an id.
+fn compare_to_id(value: &Value, id: u64) -> Ordering
+    ensures { result ≡ compare_value value.now (Int (pos id)) }
 {
     match value {
-        Value::Int(n) => *n >= 0 && *n as u64 == id,
-        Value::Text(_) | Value::Flag(_) => false,
+        Value::Int(n) if *n < 0 => Ordering::Less,
+        Value::Int(n) => (*n as u64).cmp(&id),
+        Value::Text(_) | Value::Flag(_) => Ordering::Greater,
     }
 }
 
-/// Whether a key of these values is this id.
-fn is_first_id(first: &Value, rest: &[Value], id: u64) -> bool
-    ensures { result ≡ is_eq (compare_prefix_to id_part (first.now ∷ rest.now) (Int (pos id) ∷ [])) }
+/// A key of these values against an id.
+fn compare_values(first: &Value, rest: &[Value], id: u64) -> Ordering
+    ensures { result ≡ compare_prefix_to id_part (first.now ∷ rest.now) (Int (pos id) ∷ []) }
 {
-    rest.is_empty() && is_id(first, id)
+    let o = compare_to_id(first, id);
+    if rest.is_empty() {
+        o
+    } else {
+        o.then(Ordering::Greater)
+    }
 }
 
-/// Whether a key is this id, or has no value.
-fn is_id_key(key: &[Value], id: u64) -> bool
-    ensures { result ≡ is_eq (compare_prefix_to id_part key.now (Int (pos id) ∷ [])) }
+/// A key against an id; one without values is equal to every id.
+fn compare_id_key(key: &[Value], id: u64) -> Ordering
+    ensures { result ≡ compare_prefix_to id_part key.now (Int (pos id) ∷ []) }
 {
     match key.split_first() {
-        None => true,
-        Some((first, rest)) => is_first_id(first, rest, id),
+        None => Ordering::Equal,
+        Some((first, rest)) => compare_values(first, rest, id),
+    }
+}
+
+/// A key, or the first values of one, against the key of a row by an index with these parts.
+pub(crate) fn compare_to_row(parts: &[KeyPart], key: &[Value], id: u64, row: &Record) -> Ordering
+    ensures { result ≡ meaning.compare_to_row parts.now key.now (id, row.now) }
+{
+    if parts.is_empty() {
+        compare_id_key(key, id)
+    } else {
+        compare_prefix(key, row, parts)
     }
 }
 
 /// Whether a key, or the first values of one, is that of a row by an index with these parts.
 pub(crate) fn is_of_key(parts: &[KeyPart], key: &[Value], id: u64, row: &Record) -> bool
-    ensures { result ≡ is_eq (compare_to_row parts.now key.now (id, row.now)) }
+    ensures { result ≡ is_eq (meaning.compare_to_row parts.now key.now (id, row.now)) }
+{
+    compare_to_row(parts, key, id, row).is_eq()
+}
+
+/// The keys of two rows by an index with these parts.
+pub(crate) fn compare_rows(
+    parts: &[KeyPart],
+    a: u64,
+    row: &Record,
+    b: u64,
+    other: &Record,
+) -> Ordering
+    ensures { result ≡ meaning.compare_rows parts.now (a, row.now) (b, other.now) }
 {
     if parts.is_empty() {
-        is_id_key(key, id)
+        a.cmp(&b)
     } else {
-        compare_prefix(key, row, parts).is_eq()
+        compare_key(row, other, parts)
     }
 }

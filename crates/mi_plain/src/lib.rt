@@ -6,6 +6,8 @@
 mod conflict;
 mod ids;
 mod key;
+mod lookup;
+mod pass;
 mod plain;
 mod table;
 

@@ -1,7 +1,7 @@
 //! The plain database: its tables, and whole copies of them for the open sessions.
 use crate::table::PlainTable;
 use mi_database::Sessions;
-use mi_schema::Catalog;
+use mi_schema::{Catalog, Schema};
 use mi_value::limits::{LAST_COUNT, MAX_SESSIONS};
 use mi_value::{Edit, NoSession, Record, Refusal, Steps, Value};
 use std::alloc::{AllocError, Global};
@@ -69,8 +69,19 @@ fn open_tables(alloc: Global, catalog: &Catalog) -> Result<Vec<PlainTable>, Allo
 }
 
 impl Plain {
-    ghost use Rattle.std.specs.Prelude.{◌≡◌, IfOk};
-    ghost use Rattle.mi_model.specs.Database.{opened_database};
+    ghost use Rattle.std.specs.Prelude.{◌≡◌, ◌<◌, length, IfOk};
+    ghost use Rattle.mi_model.specs.Table.{IsTable};
+    ghost use Rattle.mi_model.specs.Database.{opened_database, schema_of, table_of};
+
+    /// A table and its schema.
+    fn at(&self, n: usize) -> (&Schema, &PlainTable)
+        requires { n < length self.now.catalog.tables }
+        ensures schema { result.0.now ≡ schema_of self.now n }
+        ensures table { result.1.now ≡ table_of self.now n }
+        ensures is { IsTable result.0.now result.1.now }
+    {
+        (self.catalog.table(n), &self.tables[n])
+    }
 
     /// The database that a catalog opens with: no rows, no open session, the first counters and the first revision.
     pub fn new(alloc: Global, catalog: Catalog) -> Result<Plain, AllocError>
@@ -171,6 +182,71 @@ impl Sessions for Plain {
     fn get(&self, table: usize, id: u64, steps: &mut Steps) -> Option<&Record> {
         let _ = steps;
         self.tables[table].get(id)
+    }
+
+    fn first(&self, table: usize, index: usize) -> Option<u64> {
+        let (schema, rows) = self.at(table);
+        rows.first(schema, index)
+    }
+
+    fn last(&self, table: usize, index: usize) -> Option<u64> {
+        let (schema, rows) = self.at(table);
+        rows.last(schema, index)
+    }
+
+    fn after(&self, table: usize, index: usize, id: u64) -> Option<u64> {
+        let (schema, rows) = self.at(table);
+        rows.after(schema, index, id)
+    }
+
+    fn before(&self, table: usize, index: usize, id: u64) -> Option<u64> {
+        let (schema, rows) = self.at(table);
+        rows.before(schema, index, id)
+    }
+
+    fn lower(&self, table: usize, index: usize, key: &[Value], steps: &mut Steps) -> Option<u64> {
+        let _ = steps;
+        let (schema, rows) = self.at(table);
+        rows.lower(schema, index, key)
+    }
+
+    fn upper(&self, table: usize, index: usize, key: &[Value], steps: &mut Steps) -> Option<u64> {
+        let _ = steps;
+        let (schema, rows) = self.at(table);
+        rows.upper(schema, index, key)
+    }
+
+    fn first_of(&self, table: usize, index: usize, key: &[Value]) -> Option<u64> {
+        let (schema, rows) = self.at(table);
+        rows.first_of(schema, index, key)
+    }
+
+    fn next_of(&self, table: usize, index: usize, id: u64) -> Option<u64> {
+        let (schema, rows) = self.at(table);
+        rows.next_of(schema, index, id)
+    }
+
+    fn nth(&self, table: usize, index: usize, n: u64) -> Option<u64> {
+        let (schema, rows) = self.at(table);
+        rows.nth(schema, index, n)
+    }
+
+    fn rank_of(&self, table: usize, index: usize, id: u64, steps: &mut Steps) -> u64 {
+        let _ = steps;
+        let (schema, rows) = self.at(table);
+        rows.rank_of(schema, index, id)
+    }
+
+    fn lower_rank(&self, table: usize, index: usize, key: &[Value], steps: &mut Steps) -> u64 {
+        let _ = steps;
+        let (schema, rows) = self.at(table);
+        rows.lower_rank(schema, index, key)
+    }
+
+    fn upper_rank(&self, table: usize, index: usize, key: &[Value], steps: &mut Steps) -> u64 {
+        let _ = steps;
+        let (schema, rows) = self.at(table);
+        rows.upper_rank(schema, index, key)
     }
 
     fn start(&mut self, alloc: Global) -> Result<u64, Refusal> {

@@ -82,10 +82,20 @@ impl PlainTable {
         self.rows.len() as u64
     }
 
-    fn has(&self, id: u64) -> bool
+    pub(crate) fn has(&self, id: u64) -> bool
         ensures { result ≡ has_row self.now id }
     {
         self.get(id).is_some()
+    }
+
+    /// The ids of index x in the order of its list.
+    pub(crate) fn ids(&self, x: usize) -> &[u64]
+        ensures { result.now ≡ list_of self.now x }
+    {
+        match self.lists.get(x) {
+            Some(ids) => ids.as_slice(),
+            None => &[],
+        }
     }
 
     /// The same table.

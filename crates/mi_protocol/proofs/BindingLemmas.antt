@@ -263,6 +263,11 @@ bound-fits c (request.EraseKey table index key) h = over-table c table _ h (λ n
 bound-fits c (request.Relocate table index id before) h = over-table c table _ h (λ n there. relocate-fits c n index id before there)
 bound-fits c request.Start h = tt
 bound-fits c request.Undo h = tt
+bound-fits c request.Squash h = tt
+bound-fits c (request.Commit revision) h = tt
+bound-fits c request.UndoAll h = tt
+bound-fits c request.Push h = tt
+bound-fits c request.Revision h = tt
 bound-fits c (request.Get table id) h = over-table c table _ h (λ n there. there)
 
 -- the answer of the code

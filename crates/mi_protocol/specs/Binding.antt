@@ -70,6 +70,11 @@ bound_command c (request.EraseKey table index key) = and_then (λ n. bound_erase
 bound_command c (request.Relocate table index id before) = and_then (λ n. bound_relocate (schema_at c n) n index id before) (table_number c table)
 bound_command c request.Start = Ok command.Start
 bound_command c request.Undo = Ok command.Undo
+bound_command c request.Squash = Ok command.Squash
+bound_command c (request.Commit revision) = Ok (command.Commit revision)
+bound_command c request.UndoAll = Ok command.UndoAll
+bound_command c request.Push = Ok command.Push
+bound_command c request.Revision = Ok command.Revision
 bound_command c (request.Get table id) = and_then (λ n. Ok (command.Get n id)) (table_number c table)
 
 -- the table has this index, and these are a key of it, or where it needn't be whole the first values of one
@@ -87,4 +92,9 @@ FitsCatalog c (command.EraseKey n x key) = (n < length c.tables) × FitsIndex (s
 FitsCatalog c (command.Relocate n x id before) = (n < length c.tables) × ((index_at (schema_at c n) x).kind ≡ Sequenced)
 FitsCatalog c command.Start = Unit {0}
 FitsCatalog c command.Undo = Unit {0}
+FitsCatalog c command.Squash = Unit {0}
+FitsCatalog c (command.Commit revision) = Unit {0}
+FitsCatalog c command.UndoAll = Unit {0}
+FitsCatalog c command.Push = Unit {0}
+FitsCatalog c command.Revision = Unit {0}
 FitsCatalog c (command.Get n id) = n < length c.tables

@@ -20,6 +20,11 @@ command_named t =
     else if bytes_eq t (codes "relocate") then Some name.Relocate
     else if bytes_eq t (codes "start") then Some name.Start
     else if bytes_eq t (codes "undo") then Some name.Undo
+    else if bytes_eq t (codes "squash") then Some name.Squash
+    else if bytes_eq t (codes "commit") then Some name.Commit
+    else if bytes_eq t (codes "undo_all") then Some name.UndoAll
+    else if bytes_eq t (codes "push") then Some name.Push
+    else if bytes_eq t (codes "revision") then Some name.Revision
     else if bytes_eq t (codes "get") then Some name.Get
     else None
 
@@ -92,6 +97,11 @@ form_of name.Relocate = record {
 }
 form_of name.Start = record { members = []; request = λ ms. Some request.Start }
 form_of name.Undo = record { members = []; request = λ ms. Some request.Undo }
+form_of name.Squash = record { members = []; request = λ ms. Some request.Squash }
+form_of name.Commit = record { members = codes "revision" ∷ []; request = λ ms. option_map request.Commit (needed natural (codes "revision") ms) }
+form_of name.UndoAll = record { members = []; request = λ ms. Some request.UndoAll }
+form_of name.Push = record { members = []; request = λ ms. Some request.Push }
+form_of name.Revision = record { members = []; request = λ ms. Some request.Revision }
 form_of name.Get = record {
   members = codes "table" ∷ codes "id" ∷ [];
   request = λ ms. option_map₂ request.Get (table_in ms) (id_in ms);
@@ -107,4 +117,9 @@ keeps_out (request.EraseKey table index key) = true
 keeps_out (request.Relocate table index id before) = true
 keeps_out request.Start = true
 keeps_out request.Undo = true
+keeps_out request.Squash = true
+keeps_out (request.Commit revision) = true
+keeps_out request.UndoAll = true
+keeps_out request.Push = true
+keeps_out request.Revision = false
 keeps_out (request.Get table id) = false

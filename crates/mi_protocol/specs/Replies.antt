@@ -12,13 +12,18 @@ use Rattle.mi_protocol.specs.declared.reply.Reply.{Reply}
 use Rattle.mi_protocol.specs.declared.reply.Reply.TheVariants as reply
 
 -- what a reply says: the id of an inserted record, no more than that it is done, how many records were erased, a record of a
--- table, a revision, or why a modify or another command over a table is refused
+-- table, a revision, how many sessions were committed, undone or pushed, how many are open and are held with the revision, or
+-- why a modify or another command over a table is refused
 pub data Said : Type 0 where
   inserted : ℕ → Said
   done : Said
   erased : ℕ → Said
   shown : ℕ → ℕ → List Value → Said
   revised : ℕ → Said
+  committed : ℕ → Said
+  undone : ℕ → Said
+  pushed : ℕ → Said
+  status : ℕ → ℕ → ℕ → Said
   refused_modify : ℕ → Refusal → Said
   refused : ℕ → Refusal → Said
 
@@ -29,6 +34,10 @@ said reply.Done = done
 said (reply.Erased count) = erased count
 said (reply.Shown table id row) = shown table id row.now
 said (reply.Revised revision) = revised revision
+said (reply.Committed count) = committed count
+said (reply.Undone count) = undone count
+said (reply.Pushed count) = pushed count
+said (reply.Status depth held revision) = status depth held revision
 said (reply.RefusedModify table refusal) = refused_modify table refusal
 said (reply.Refused table refusal) = refused table refusal
 
@@ -59,6 +68,11 @@ reply_text c (erased n) = codes "{\"erased\":" ++ decimal n ++ codes ",\"ok\":tr
 reply_text c (shown n id row) =
     compact_text (object (member (codes "ok") (boolean true) (member (codes "row") (object (row_members (schema_at c n).columns id row)) no_members)))
 reply_text c (revised n) = codes "{\"ok\":true,\"revision\":" ++ decimal n ++ codes "}"
+reply_text c (committed n) = codes "{\"committed\":" ++ decimal n ++ codes ",\"ok\":true}"
+reply_text c (undone n) = codes "{\"ok\":true,\"undone\":" ++ decimal n ++ codes "}"
+reply_text c (pushed n) = codes "{\"ok\":true,\"pushed\":" ++ decimal n ++ codes "}"
+reply_text c (status depth held revision) =
+    codes "{\"depth\":" ++ decimal depth ++ codes ",\"held\":" ++ decimal held ++ codes ",\"ok\":true,\"revision\":" ++ decimal revision ++ codes "}"
 reply_text c (refused_modify n e) = modify_refusal_text c n e
 reply_text c (refused n e) = refusal_text c n e
 
@@ -81,6 +95,10 @@ IsSaidOf c done = Unit {0}
 IsSaidOf c (erased n) = Unit {0}
 IsSaidOf c (shown n id row) = n < length c.tables
 IsSaidOf c (revised n) = Unit {0}
+IsSaidOf c (committed n) = Unit {0}
+IsSaidOf c (undone n) = Unit {0}
+IsSaidOf c (pushed n) = Unit {0}
+IsSaidOf c (status depth held revision) = Unit {0}
 IsSaidOf c (refused_modify n e) = IsRefusalOf c n e
 IsSaidOf c (refused n e) = IsRefusalOf c n e
 
@@ -91,5 +109,9 @@ is_short done = true
 is_short (erased n) = true
 is_short (shown n id row) = false
 is_short (revised n) = true
+is_short (committed n) = true
+is_short (undone n) = true
+is_short (pushed n) = true
+is_short (status depth held revision) = true
 is_short (refused_modify n e) = true
 is_short (refused n e) = true

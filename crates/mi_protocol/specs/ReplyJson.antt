@@ -8,7 +8,7 @@ use Rattle.mi_value.specs.declared.refusal.Refusal.TheVariants.{Unique, Lost}
 use Rattle.mi_schema.specs.Shape.{CatalogShape, schema_at}
 use Rattle.mi_schema.specs.Rules.{is_catalog}
 use Rattle.mi_protocol.specs.Rows.{row_members}
-use Rattle.mi_protocol.specs.Replies.{Said, inserted, done, erased, shown, revised, refused_modify, refused, index_name, reply_text, IsSaidOf}
+use Rattle.mi_protocol.specs.Replies.{Said, inserted, done, erased, shown, revised, committed, undone, pushed, status, refused_modify, refused, index_name, reply_text, IsSaidOf}
 
 -- the object of a refusal
 abbrev pub refusal_data : CatalogShape → ℕ → Refusal → Data
@@ -34,6 +34,12 @@ reply_data c done = object (member (codes "ok") (boolean true) no_members)
 reply_data c (erased n) = object (member (codes "erased") (number (unsigned n)) (member (codes "ok") (boolean true) no_members))
 reply_data c (shown n id row) = object (member (codes "ok") (boolean true) (member (codes "row") (object (row_members (schema_at c n).columns id row)) no_members))
 reply_data c (revised n) = object (member (codes "ok") (boolean true) (member (codes "revision") (number (unsigned n)) no_members))
+reply_data c (committed n) = object (member (codes "committed") (number (unsigned n)) (member (codes "ok") (boolean true) no_members))
+reply_data c (undone n) = object (member (codes "ok") (boolean true) (member (codes "undone") (number (unsigned n)) no_members))
+reply_data c (pushed n) = object (member (codes "ok") (boolean true) (member (codes "pushed") (number (unsigned n)) no_members))
+reply_data c (status depth held revision) =
+    object (member (codes "depth") (number (unsigned depth)) (member (codes "held") (number (unsigned held)) (member (codes "ok") (boolean true)
+    (member (codes "revision") (number (unsigned revision)) no_members))))
 reply_data c (refused_modify n e) = modify_refusal_data c n e
 reply_data c (refused n e) = refusal_data c n e
 

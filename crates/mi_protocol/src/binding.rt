@@ -58,6 +58,13 @@ pub enum Command {
     },
     Start,
     Undo,
+    Squash,
+    Commit {
+        revision: u64,
+    },
+    UndoAll,
+    Push,
+    Revision,
     Get {
         table: usize,
         id: u64,
@@ -214,6 +221,11 @@ fn command_of(alloc: Global, request: Request, catalog: &Catalog) -> Result<Comm
         }
         Request::Start => Ok(Command::Start),
         Request::Undo => Ok(Command::Undo),
+        Request::Squash => Ok(Command::Squash),
+        Request::Commit { revision } => Ok(Command::Commit { revision }),
+        Request::UndoAll => Ok(Command::UndoAll),
+        Request::Push => Ok(Command::Push),
+        Request::Revision => Ok(Command::Revision),
         Request::Get { table, id } => {
             let table = table_number(table, catalog)?;
             Ok(Command::Get { table, id })

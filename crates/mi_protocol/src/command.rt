@@ -13,6 +13,11 @@ pub(crate) enum CommandName {
     Relocate,
     Start,
     Undo,
+    Squash,
+    Commit,
+    UndoAll,
+    Push,
+    Revision,
     Get,
 }
 
@@ -37,6 +42,16 @@ impl CommandName {
             Some(CommandName::Start)
         } else if text == "undo" {
             Some(CommandName::Undo)
+        } else if text == "squash" {
+            Some(CommandName::Squash)
+        } else if text == "commit" {
+            Some(CommandName::Commit)
+        } else if text == "undo_all" {
+            Some(CommandName::UndoAll)
+        } else if text == "push" {
+            Some(CommandName::Push)
+        } else if text == "revision" {
+            Some(CommandName::Revision)
         } else if text == "get" {
             Some(CommandName::Get)
         } else {
@@ -55,7 +70,13 @@ impl CommandName {
             CommandName::Erase | CommandName::Get => &["cmd", "table", "id"],
             CommandName::EraseKey => &["cmd", "table", "index", "key"],
             CommandName::Relocate => &["cmd", "table", "index", "id", "before"],
-            CommandName::Start | CommandName::Undo => &["cmd"],
+            CommandName::Commit => &["cmd", "revision"],
+            CommandName::Start
+            | CommandName::Undo
+            | CommandName::Squash
+            | CommandName::UndoAll
+            | CommandName::Push
+            | CommandName::Revision => &["cmd"],
         }
     }
 }

@@ -26,6 +26,7 @@ pub(crate) struct Members {
     pub(crate) add: Option<Json>,
     pub(crate) rollback: Option<Json>,
     pub(crate) before: Option<Json>,
+    pub(crate) revision: Option<Json>,
 }
 
 impl Members {
@@ -40,6 +41,7 @@ impl Members {
         ensures add { option_map view result.add ≡ get_member (codes "add") object }
         ensures rollback { option_map view result.rollback ≡ get_member (codes "rollback") object }
         ensures before { option_map view result.before ≡ get_member (codes "before") object }
+        ensures revision { option_map view result.revision ≡ get_member (codes "revision") object }
     {
         let mut left = object;
         Members {
@@ -52,6 +54,7 @@ impl Members {
             add: left.take("add"),
             rollback: left.take("rollback"),
             before: left.take("before"),
+            revision: left.take("revision"),
         }
     }
 }

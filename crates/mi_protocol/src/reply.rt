@@ -33,6 +33,18 @@ pub enum Reply<'a> {
     },
     /// The revision that a session command left.
     Revised(u64),
+    /// How many sessions were committed.
+    Committed(u64),
+    /// How many sessions were undone.
+    Undone(u64),
+    /// How many sessions were pushed.
+    Pushed(u64),
+    /// How many sessions are open, how many of them the asking connection holds, and the revision.
+    Status {
+        depth: u64,
+        held: u64,
+        revision: u64,
+    },
     /// Why a modify is refused. Of a conflict the text says whether the record is lost.
     RefusedModify {
         table: usize,
@@ -91,6 +103,21 @@ fn conflict(id: u64, index: &str, after: &[u8]) -> ReplyText
     ReplyText::Short(out)
 }
 
+/// The text of the sessions that are open and that are held, and of the revision.
+fn status(depth: u64, held: u64, revision: u64) -> ReplyText
+    ensures { text_bytes result ≡ codes "{\"depth\":" ++ decimal depth ++ codes ",\"held\":" ++ decimal held ++ codes ",\"ok\":true,\"revision\":" ++ decimal revision ++ codes "}" }
+{
+    let mut out = ArrayVec::new();
+    put(&mut out, b"{\"depth\":");
+    put(&mut out, Buffer::new().format(depth).as_bytes());
+    put(&mut out, b",\"held\":");
+    put(&mut out, Buffer::new().format(held).as_bytes());
+    put(&mut out, b",\"ok\":true,\"revision\":");
+    put(&mut out, Buffer::new().format(revision).as_bytes());
+    put(&mut out, b"}");
+    ReplyText::Short(out)
+}
+
 /// The text of a refusal. It takes no memory.
 fn refusal_text(catalog: &Catalog, table: usize, refusal: Refusal) -> ReplyText
     requires { IsRefusalOf catalog.now table refusal }
@@ -145,6 +172,14 @@ impl Reply<'_> {
                 Ok(ReplyText::Long(row_text(alloc, *id, row, columns)?))
             }
             Reply::Revised(n) => Ok(short_number(b"{\"ok\":true,\"revision\":", *n, b"}")),
+            Reply::Committed(n) => Ok(short_number(b"{\"committed\":", *n, b",\"ok\":true}")),
+            Reply::Undone(n) => Ok(short_number(b"{\"ok\":true,\"undone\":", *n, b"}")),
+            Reply::Pushed(n) => Ok(short_number(b"{\"ok\":true,\"pushed\":", *n, b"}")),
+            Reply::Status {
+                depth,
+                held,
+                revision,
+            } => Ok(status(*depth, *held, *revision)),
             Reply::RefusedModify { table, refusal } => {
                 Ok(modify_refusal_text(catalog, *table, *refusal))
             }

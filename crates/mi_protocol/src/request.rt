@@ -69,6 +69,14 @@ pub enum Request {
     },
     Start,
     Undo,
+    Squash,
+    /// Ends the sessions up to this number, 0 to 2^63 - 1, and keeps their changes.
+    Commit {
+        revision: u64,
+    },
+    UndoAll,
+    Push,
+    Revision,
     Get {
         table: Option<Text>,
         id: u64,
@@ -81,7 +89,7 @@ impl Request {
         ensures { result ≡ commands.keeps_out self.now }
     {
         match self {
-            Request::Get { .. } => false,
+            Request::Revision | Request::Get { .. } => false,
             Request::Insert { .. }
             | Request::Replace { .. }
             | Request::Modify { .. }
@@ -89,7 +97,11 @@ impl Request {
             | Request::EraseKey { .. }
             | Request::Relocate { .. }
             | Request::Start
-            | Request::Undo => true,
+            | Request::Undo
+            | Request::Squash
+            | Request::Commit { .. }
+            | Request::UndoAll
+            | Request::Push => true,
         }
     }
 }
@@ -167,6 +179,14 @@ fn relocate_request(object: Object) -> Option<Request>
     })
 }
 
+fn commit_request(object: Object) -> Option<Request>
+    ensures { result ≡ (form_of name.Commit).request object }
+{
+    let members = Members::of(object);
+    let revision = natural(members.revision)?;
+    Some(Request::Commit { revision })
+}
+
 fn get_request(object: Object) -> Option<Request>
     ensures { result ≡ (form_of name.Get).request object }
 {
@@ -192,6 +212,11 @@ fn request_by(alloc: Global, name: CommandName, object: Object) -> Option<Reques
         CommandName::Relocate => relocate_request(object),
         CommandName::Start => Some(Request::Start),
         CommandName::Undo => Some(Request::Undo),
+        CommandName::Squash => Some(Request::Squash),
+        CommandName::Commit => commit_request(object),
+        CommandName::UndoAll => Some(Request::UndoAll),
+        CommandName::Push => Some(Request::Push),
+        CommandName::Revision => Some(Request::Revision),
         CommandName::Get => get_request(object),
     }
 }

@@ -64,6 +64,16 @@ fn lines_are_commands_or_refused(rt: HostRuntime) -> Result<(), Fail> {
         ("{\"cmd\":\"undo\"}", "ok"),
         ("{\"cmd\":\"start\"}", "ok"),
         ("{\"cmd\":\"start\",\"table\":\"a\"}", "form"),
+        ("{\"cmd\":\"squash\"}", "ok"),
+        ("{\"cmd\":\"squash\",\"table\":\"accounts\"}", "form"),
+        ("{\"cmd\":\"commit\",\"revision\":0}", "ok"),
+        ("{\"cmd\":\"commit\"}", "form"),
+        ("{\"cmd\":\"commit\",\"revision\":-1}", "form"),
+        ("{\"cmd\":\"commit\",\"revision\":null}", "form"),
+        ("{\"cmd\":\"undo_all\"}", "ok"),
+        ("{\"cmd\":\"push\"}", "ok"),
+        ("{\"cmd\":\"revision\"}", "ok"),
+        ("{\"cmd\":\"revision\",\"table\":\"accounts\"}", "form"),
         ("{\"cmd\":\"get\",\"id\":0}", "ok"),
         ("{\"cmd\":\"get\",\"id\":-1}", "form"),
         ("{\"cmd\":\"get\",\"id\":9223372036854775807}", "ok"),
@@ -356,6 +366,38 @@ fn replies_have_their_texts(rt: HostRuntime) -> Result<(), Fail> {
         "{\"error\":\"unique\",\"id\":0,\"index\":\"by_owner\",\"lost\":true,\"ok\":false}",
     );
     assert_text(&rt, alloc, &catalog, &Reply::Done, "{\"ok\":true}");
+    assert_text(
+        &rt,
+        alloc,
+        &catalog,
+        &Reply::Committed(1),
+        "{\"committed\":1,\"ok\":true}",
+    );
+    assert_text(
+        &rt,
+        alloc,
+        &catalog,
+        &Reply::Undone(2),
+        "{\"ok\":true,\"undone\":2}",
+    );
+    assert_text(
+        &rt,
+        alloc,
+        &catalog,
+        &Reply::Pushed(1),
+        "{\"ok\":true,\"pushed\":1}",
+    );
+    assert_text(
+        &rt,
+        alloc,
+        &catalog,
+        &Reply::Status {
+            depth: 1,
+            held: 1,
+            revision: 2,
+        },
+        "{\"depth\":1,\"held\":1,\"ok\":true,\"revision\":2}",
+    );
     assert_text(
         &rt,
         alloc,

@@ -29,6 +29,9 @@ names_7 = codes "add" ∷ names_6
 abbrev names_8 : List (List ℕ)
 names_8 = codes "rollback" ∷ names_7
 
+abbrev names_9 : List (List ℕ)
+names_9 = codes "before" ∷ names_8
+
 left_1 : (c : goal.After-drop-left-inside) → c.take.new.self ≡ left_out names_1 c.args.object
 left_1 c = c.take.ensures.rest
 
@@ -53,6 +56,9 @@ left_7 c = c.take-7.ensures.rest ∙ ap (without (codes "add")) (left_6 c)
 left_8 : (c : goal.After-drop-left-inside) → c.take-8.new.self ≡ left_out names_8 c.args.object
 left_8 c = c.take-8.ensures.rest ∙ ap (without (codes "rollback")) (left_7 c)
 
+left_9 : (c : goal.After-drop-left-inside) → c.take-9.new.self ≡ left_out names_9 c.args.object
+left_9 c = c.take-9.ensures.rest ∙ ap (without (codes "before")) (left_8 c)
+
 pub returns-clause-index : goal.returns-clause-index
 returns-clause-index c = c.take-2.ensures.value ∙ stays (codes "index") names_1 c.args.object c.take.new.self (left_1 c) refl
 
@@ -76,3 +82,6 @@ returns-clause-rollback c = c.take-8.ensures.value ∙ stays (codes "rollback") 
 
 pub returns-clause-before : goal.returns-clause-before
 returns-clause-before c = c.take-9.ensures.value ∙ stays (codes "before") names_8 c.args.object c.take-8.new.self (left_8 c) refl
+
+pub returns-clause-revision : goal.returns-clause-revision
+returns-clause-revision c = c.take-10.ensures.value ∙ stays (codes "revision") names_9 c.args.object c.take-9.new.self (left_9 c) refl

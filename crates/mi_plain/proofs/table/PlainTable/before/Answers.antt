@@ -1,0 +1,7 @@
+-- What the pass finds is what the look-up answers.
+use Rattle.std.proofs.Common.{[], ◌∙◌}
+use Rattle.mi_plain.proofs.ShownLemmas.{before_shown}
+use Rattle.mi_plain.proofs.table.PlainTable.before.Goals as goal
+
+pub returns : goal.returns
+returns c = c.last_before.ensures ∙ before_shown c.args.schema.now c.args.self.now c.args.x c.requires.is c.index.result.now c.index.ensures [] c.args.id c.requires.id c.place_of.result c.place_of.ensures c.requires.kind
