@@ -15,3 +15,6 @@ pub mod AlikeLookUps
 pub mod AlikeLaws
 pub mod LookupLaws
 pub mod PrefixLaws
+pub mod PlaceLaws
+pub mod QueryLaws
+pub mod NextLaws

@@ -1,0 +1,118 @@
+//! Records by key: the first, and how many. It takes no memory.
+ghost use Rattle.std.specs.Prelude.{◌≡◌, ◌<◌, true, false, length, IsTrue};
+ghost use Rattle.mi_schema.specs.declared.index.IndexKind.TheVariants.{Hashed};
+ghost use Rattle.mi_schema.specs.Shape.{index_at};
+ghost use Rattle.mi_schema.specs.Fits.{fits_key};
+ghost use Rattle.mi_model.specs.Table.{size as size_of};
+ghost use Rattle.mi_model.specs.View.{is_sorted};
+ghost use Rattle.mi_model.specs.Database.{schema_of, table_of};
+ghost use Rattle.mi_model.specs.Lookup as look;
+ghost use Rattle.mi_database.specs.LookUps.{WithinLookUps};
+ghost use Rattle.mi_query.specs.Keys.{has_keys, fits_look_up};
+
+use crate::shown::shows_each;
+use mi_database::Sessions;
+use mi_schema::IndexKind;
+use mi_value::{Steps, Value};
+
+/// The first id of a key in an index, or none: of equal keys that of the record that arrived first. A hashed index is asked
+/// for a whole key, an ordered or ranked one also for the first values of one. At most two look-ups.
+pub fn find<D: Sessions>(
+    db: &D,
+    table: usize,
+    index: usize,
+    key: &[Value],
+    steps: &mut Steps,
+) -> Option<u64>
+    requires table { table < length (D.state db.now).catalog.tables }
+    requires index { index < length (schema_of (D.state db.now) table).indexes }
+    requires kind { IsTrue (has_keys (index_at (schema_of (D.state db.now) table) index).kind) }
+    requires key { IsTrue (fits_look_up (schema_of (D.state db.now) table) index key.now) }
+    ensures id { result ≡ look.find (schema_of (D.state db.now) table) (table_of (D.state db.now) table) index key.now }
+    ensures steps { WithinLookUps D.bound 2 (size_of (table_of (D.state db.now) table)) steps.old.count steps.new.count }
+{
+    match db.catalog().table(table).kind(index) {
+        IndexKind::Hashed => db.first_of(table, index, key),
+        _ => find_sorted(db, table, index, key, steps),
+    }
+}
+
+/// The first id of a key in an ordered or ranked index: its lower bound, unless that is its upper bound too.
+fn find_sorted<D: Sessions>(
+    db: &D,
+    table: usize,
+    index: usize,
+    key: &[Value],
+    steps: &mut Steps,
+) -> Option<u64>
+    requires table { table < length (D.state db.now).catalog.tables }
+    requires within { index < length (schema_of (D.state db.now) table).indexes }
+    requires index { IsTrue (is_sorted (index_at (schema_of (D.state db.now) table) index).kind) }
+    requires key { IsTrue (fits_key (schema_of (D.state db.now) table).columns (index_at (schema_of (D.state db.now) table) index).parts false key.now) }
+    ensures id { result ≡ look.find (schema_of (D.state db.now) table) (table_of (D.state db.now) table) index key.now }
+    ensures steps { WithinLookUps D.bound 2 (size_of (table_of (D.state db.now) table)) steps.old.count steps.new.count }
+{
+    shows_each(db, table, index);
+    let lower = db.lower(table, index, key, steps);
+    let upper = db.upper(table, index, key, steps);
+    if lower == upper { None } else { lower }
+}
+
+/// How many records have a key in an index. A hashed index is asked for a whole key and walks its records, an ordered or
+/// ranked one also for the first values of one, in at most four look-ups.
+pub fn count<D: Sessions>(
+    db: &D,
+    table: usize,
+    index: usize,
+    key: &[Value],
+    steps: &mut Steps,
+) -> u64
+    requires table { table < length (D.state db.now).catalog.tables }
+    requires index { index < length (schema_of (D.state db.now) table).indexes }
+    requires kind { IsTrue (has_keys (index_at (schema_of (D.state db.now) table) index).kind) }
+    requires key { IsTrue (fits_look_up (schema_of (D.state db.now) table) index key.now) }
+    ensures count { result ≡ look.count (schema_of (D.state db.now) table) (table_of (D.state db.now) table) index key.now }
+    ensures steps { WithinLookUps D.bound 4 (size_of (table_of (D.state db.now) table)) steps.old.count steps.new.count }
+{
+    match db.catalog().table(table).kind(index) {
+        IndexKind::Hashed => count_hashed(db, table, index, key),
+        _ => count_sorted(db, table, index, key, steps),
+    }
+}
+
+/// How many records of an ordered or ranked index have a key: as many as stand between its ranks.
+fn count_sorted<D: Sessions>(
+    db: &D,
+    table: usize,
+    index: usize,
+    key: &[Value],
+    steps: &mut Steps,
+) -> u64
+    requires table { table < length (D.state db.now).catalog.tables }
+    requires index { IsTrue (is_sorted (index_at (schema_of (D.state db.now) table) index).kind) }
+    requires key { IsTrue (fits_key (schema_of (D.state db.now) table).columns (index_at (schema_of (D.state db.now) table) index).parts false key.now) }
+    ensures count { result ≡ look.count (schema_of (D.state db.now) table) (table_of (D.state db.now) table) index key.now }
+    ensures steps { WithinLookUps D.bound 4 (size_of (table_of (D.state db.now) table)) steps.old.count steps.new.count }
+{
+    let lower = db.lower_rank(table, index, key, steps);
+    let upper = db.upper_rank(table, index, key, steps);
+    upper - lower
+}
+
+/// How many records of a hashed index have a whole key: one after another.
+fn count_hashed<D: Sessions>(db: &D, table: usize, index: usize, key: &[Value]) -> u64
+    requires table { table < length (D.state db.now).catalog.tables }
+    requires index { index < length (schema_of (D.state db.now) table).indexes }
+    requires kind { (index_at (schema_of (D.state db.now) table) index).kind ≡ Hashed }
+    requires key { IsTrue (fits_key (schema_of (D.state db.now) table).columns (index_at (schema_of (D.state db.now) table) index).parts true key.now) }
+    ensures { result ≡ look.count (schema_of (D.state db.now) table) (table_of (D.state db.now) table) index key.now }
+{
+    shows_each(db, table, index);
+    let mut next = db.first_of(table, index, key);
+    let mut count = 0;
+    'ids: while let Some(id) = next {
+        count += 1;
+        next = db.next_of(table, index, id);
+    }
+    count
+}

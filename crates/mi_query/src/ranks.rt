@@ -1,0 +1,86 @@
+//! Ranks and sizes: how many records stand before a record or a key. It takes no memory.
+ghost use Rattle.std.specs.Prelude.{◌≡◌, ◌<◌, false, length, IsTrue, if◌then◌else◌, Ok, Err};
+ghost use Rattle.mi_value.specs.declared.refusal.Refusal.TheVariants.{NoId};
+ghost use Rattle.mi_schema.specs.Shape.{index_at};
+ghost use Rattle.mi_schema.specs.Fits.{fits_key};
+ghost use Rattle.mi_model.specs.Table.{has as has_row, size as size_of};
+ghost use Rattle.mi_model.specs.View.{is_sorted};
+ghost use Rattle.mi_model.specs.Database.{schema_of, table_of};
+ghost use Rattle.mi_model.specs.Lookup as look;
+ghost use Rattle.mi_database.specs.LookUps.{WithinLookUps};
+
+use mi_database::Sessions;
+use mi_value::{Refusal, Steps, Value};
+
+/// How many records a table has.
+pub fn size<D: Sessions>(db: &D, table: usize) -> u64
+    requires { table < length (D.state db.now).catalog.tables }
+    ensures { result ≡ size_of (table_of (D.state db.now) table) }
+{
+    db.size(table)
+}
+
+/// How many records stand before a record in an ordered or ranked index: those of a smaller key, and of its equals those
+/// that arrived earlier. Its one refusal is `NoId`, where the record isn't there. At most three look-ups.
+pub fn rank<D: Sessions>(
+    db: &D,
+    table: usize,
+    index: usize,
+    id: u64,
+    steps: &mut Steps,
+) -> Result<u64, Refusal>
+    requires table { table < length (D.state db.now).catalog.tables }
+    requires index { IsTrue (is_sorted (index_at (schema_of (D.state db.now) table) index).kind) }
+    ensures rank { result ≡ (if has_row (table_of (D.state db.now) table) id then Ok (look.rank (schema_of (D.state db.now) table) (table_of (D.state db.now) table) index id) else Err NoId) }
+    ensures steps { WithinLookUps D.bound 3 (size_of (table_of (D.state db.now) table)) steps.old.count steps.new.count }
+{
+    if db.get(table, id, steps).is_none() {
+        return Err(Refusal::NoId);
+    }
+    Ok(db.rank_of(table, index, id, steps))
+}
+
+/// The id with n records before it in an ordered or ranked index, or none.
+pub fn nth<D: Sessions>(db: &D, table: usize, index: usize, n: u64) -> Option<u64>
+    requires table { table < length (D.state db.now).catalog.tables }
+    requires index { IsTrue (is_sorted (index_at (schema_of (D.state db.now) table) index).kind) }
+    ensures { result ≡ look.nth (schema_of (D.state db.now) table) (table_of (D.state db.now) table) index n }
+{
+    db.nth(table, index, n)
+}
+
+/// How many records of an ordered or ranked index have a key less than a key or the first values of one. At most two
+/// look-ups.
+pub fn lower_rank<D: Sessions>(
+    db: &D,
+    table: usize,
+    index: usize,
+    key: &[Value],
+    steps: &mut Steps,
+) -> u64
+    requires table { table < length (D.state db.now).catalog.tables }
+    requires index { IsTrue (is_sorted (index_at (schema_of (D.state db.now) table) index).kind) }
+    requires key { IsTrue (fits_key (schema_of (D.state db.now) table).columns (index_at (schema_of (D.state db.now) table) index).parts false key.now) }
+    ensures rank { result ≡ look.lower_rank (schema_of (D.state db.now) table) (table_of (D.state db.now) table) index key.now }
+    ensures steps { WithinLookUps D.bound 2 (size_of (table_of (D.state db.now) table)) steps.old.count steps.new.count }
+{
+    db.lower_rank(table, index, key, steps)
+}
+
+/// How many records of an ordered or ranked index have a key not greater than a key or the first values of one. At most
+/// two look-ups.
+pub fn upper_rank<D: Sessions>(
+    db: &D,
+    table: usize,
+    index: usize,
+    key: &[Value],
+    steps: &mut Steps,
+) -> u64
+    requires table { table < length (D.state db.now).catalog.tables }
+    requires index { IsTrue (is_sorted (index_at (schema_of (D.state db.now) table) index).kind) }
+    requires key { IsTrue (fits_key (schema_of (D.state db.now) table).columns (index_at (schema_of (D.state db.now) table) index).parts false key.now) }
+    ensures rank { result ≡ look.upper_rank (schema_of (D.state db.now) table) (table_of (D.state db.now) table) index key.now }
+    ensures steps { WithinLookUps D.bound 2 (size_of (table_of (D.state db.now) table)) steps.old.count steps.new.count }
+{
+    db.upper_rank(table, index, key, steps)
+}
