@@ -1,6 +1,6 @@
 //! Pages of ranges and lists. A page takes memory for its ids alone: the index is walked from where the page begins.
 ghost use Rattle.std.specs.Prelude.{◌≡◌, ◌<◌, ℕ, not, length, drop, IsTrue, IfOk, IfErr, IfSome, Ok, Err, slice_get, if◌then◌else◌};
-ghost use Rattle.std.specs.List.{count_by};
+ghost use Rattle.std.specs.List.{All, count_by};
 ghost use Rattle.mi_value.specs.declared.refusal.Refusal.TheVariants.{Memory, NoId};
 ghost use Rattle.mi_schema.specs.declared.index.IndexKind.TheVariants.{Sequenced};
 ghost use Rattle.mi_schema.specs.Shape.{index_at};
@@ -84,6 +84,7 @@ fn walk<D: Sessions>(
     requires first { IfSome first (λ id. IsTrue (has_row (table_of (D.state db.now) table) id)) }
     ensures page { IfOk result (λ p. (at : ℕ) → first ≡ slice_get (turned reverse (view (schema_of (D.state db.now) table) (table_of (D.state db.now) table) index)) at
         → seen p ≡ page_of limit (drop at (turned reverse (view (schema_of (D.state db.now) table) (table_of (D.state db.now) table) index)))) }
+    ensures held { IfOk result (λ p. All (λ id. IsTrue (has_row (table_of (D.state db.now) table) id)) p.ids.items) }
     ensures err { IfErr result (λ e. e ≡ Memory) }
 {
     let mut ids = Vec::new(alloc);
@@ -116,6 +117,7 @@ pub fn range<D: Sessions>(
     requires lower { IsTrue (fits_lower (schema_of (D.state db.now) table) index lower.now) }
     requires upper { IsTrue (fits_upper (schema_of (D.state db.now) table) index upper.now) }
     ensures page { IfOk result (λ p. seen p ≡ range_of (schema_of (D.state db.now) table) (table_of (D.state db.now) table) index lower.now upper.now reverse limit) }
+    ensures held { IfOk result (λ p. All (λ id. IsTrue (has_row (table_of (D.state db.now) table) id)) p.ids.items) }
     ensures err { IfErr result (λ e. e ≡ Memory) }
 {
     db.keeps_rules();
@@ -150,6 +152,7 @@ pub fn list<D: Sessions>(
     requires table { table < length (D.state db.now).catalog.tables }
     requires index { (index_at (schema_of (D.state db.now) table) index).kind ≡ Sequenced }
     ensures page { IfOk result (λ p. seen p ≡ list_of (schema_of (D.state db.now) table) (table_of (D.state db.now) table) index after limit) }
+    ensures held { IfOk result (λ p. All (λ id. IsTrue (has_row (table_of (D.state db.now) table) id)) p.ids.items) }
     ensures there { IfOk result (λ _. IsTrue (has_place (table_of (D.state db.now) table) after)) }
     ensures err { IfErr result (λ e. e ≡ (if has_place (table_of (D.state db.now) table) after then Memory else NoId)) }
 {

@@ -1,5 +1,8 @@
 use Rattle.std.proofs.Common.{◌≡◌, ◌+◌, ap, sym, ◌∙◌, subst, inl, inr, arith, length, take, drop, List}
-use Rattle.std.specs.Prelude.{slice_get}
+use Rattle.std.specs.Prelude.{IsTrue, IfSome, slice_get}
+use Rattle.std.specs.List.{All}
+use Rattle.std.proofs.lemmas.List.Elements.{All-push}
+use Rattle.mi_model.specs.Table.{has}
 use Rattle.mi_model.specs.View.{view}
 use Rattle.mi_model.specs.Database.{schema_of, table_of}
 use Rattle.mi_query.specs.Pages.{turned}
@@ -21,6 +24,7 @@ ids-preserved g c =
       next = λ at from.
           c.following-next.ensures.next (at + length c.ids.ids.items) (sym (c.ids.invariant.next at from) ∙ c.in-Some.is)
           ∙ ap (slice_get shown) (let e : (at + length c.ids.ids.items) + 1 ≡ at + length c.push.new.self.items = omega arith in e);
+      held = subst (All (λ id. IsTrue (has (table_of d c.args.table) id))) (sym pushed) (All-push (λ id. IsTrue (has (table_of d c.args.table) id)) c.ids.ids.items c.in-Some.id c.ids.invariant.held (subst (λ o. IfSome o (λ id. IsTrue (has (table_of d c.args.table) id))) c.in-Some.is c.ids.invariant.there));
       within = omega arith;
     }
 
