@@ -6,7 +6,7 @@ ghost use Rattle.std.specs.Option.{option_copied};
 ghost use Rattle.mi_schema.specs.Fits.{fits_record, fits_key};
 ghost use Rattle.mi_schema.specs.declared.index.IndexKind.TheVariants.{Hashed, Sequenced};
 ghost use Rattle.mi_model.specs.Table.{get as get_row, has as has_row, size as size_of};
-ghost use Rattle.mi_model.specs.View.{is_sorted, shows_one_list};
+ghost use Rattle.mi_schema.specs.Kinds.{is_sorted, shows_one_list};
 ghost use Rattle.mi_model.specs.Lookup as look;
 ghost use Rattle.mi_schema.specs.Shape.{index_at};
 ghost use Rattle.mi_model.specs.Database.{Database, IsDatabase, schema_of, table_of, depth as depth_of, start_step, undo_step, squash_step, ending, committed, undone_times};

@@ -16,7 +16,8 @@ use Rattle.mi_schema.specs.declared.index.IndexKind.TheVariants.{Ordered, Ranked
 use Rattle.mi_schema.specs.Shape.{Shape, index_at}
 use Rattle.mi_model.specs.Key.{Row}
 use Rattle.mi_model.specs.Table.{Table, has, size, list_of, Rise, times, ListsEach, IsTable}
-use Rattle.mi_model.specs.View.{is_sorted, shows_one_list, shown, view}
+use Rattle.mi_model.specs.View.{shown, view}
+use Rattle.mi_schema.specs.Kinds.{is_sorted, shows_one_list}
 use Rattle.mi_model.specs.Change.{without}
 use Rattle.mi_model.specs.Lookup.{rank_in, after_in, before_place, before_in}
 use Rattle.mi_model.proofs.EraseLaws.{count-shown}

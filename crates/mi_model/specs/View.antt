@@ -1,5 +1,5 @@
 -- What an index shows of a table.
-use Rattle.std.specs.Prelude.{ℕ, Bool, true, false, if◌then◌else◌, List, [], ◌∷◌}
+use Rattle.std.specs.Prelude.{ℕ, false, if◌then◌else◌, List, [], ◌∷◌}
 use Rattle.std.specs.List.{filter, fold}
 use Rattle.std.specs.Ordering.{is_lt, is_eq}
 use Rattle.std.specs.declared.cmp.Ordering.{Ordering}
@@ -27,20 +27,6 @@ place order e (a ∷ ids) = if is_lt (order e a) then e ∷ a ∷ ids else a ∷
 -- the ids in order, equal ones as they stand
 abbrev pub sorted : (ℕ → ℕ → Ordering) → List ℕ → List ℕ
 sorted order ids = fold (λ done e. place order e done) [] ids
-
--- an ordered or ranked index stands by its keys
-abbrev pub is_sorted : IndexKind → Bool
-is_sorted Ordered = true
-is_sorted Ranked = true
-is_sorted Hashed = false
-is_sorted Sequenced = false
-
--- every index but a hashed one shows one list
-abbrev pub shows_one_list : IndexKind → Bool
-shows_one_list Ordered = true
-shows_one_list Ranked = true
-shows_one_list Hashed = false
-shows_one_list Sequenced = true
 
 -- an ordered or ranked index shows its list sorted by key; the others show it as it is
 abbrev pub shown : IndexKind → (ℕ → ℕ → Ordering) → List ℕ → List ℕ

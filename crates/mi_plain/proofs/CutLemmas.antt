@@ -13,7 +13,8 @@ use Rattle.mi_schema.specs.declared.index.IndexKind.{IndexKind}
 use Rattle.mi_schema.specs.declared.index.IndexKind.TheVariants.{Ordered, Ranked, Hashed, Sequenced}
 use Rattle.mi_schema.specs.Shape.{Shape, index_at}
 use Rattle.mi_model.specs.Table.{Table, IsTable, ListsEach, has, list_of, times}
-use Rattle.mi_model.specs.View.{place, sorted, shown, view, is_sorted, shows_one_list, compare_ids, compare_to_id}
+use Rattle.mi_model.specs.View.{place, sorted, shown, view, compare_ids, compare_to_id}
+use Rattle.mi_schema.specs.Kinds.{is_sorted, shows_one_list}
 use Rattle.mi_model.specs.Lookup as look
 use Rattle.mi_model.specs.Lookup.{rank_in, before_place}
 use Rattle.mi_model.proofs.SortLaws.{both_ways, is_less, filter-sorted}

@@ -7,7 +7,8 @@ use Rattle.mi_value.specs.declared.value.Value.{Value}
 use Rattle.mi_schema.specs.declared.index.Index.{Index}
 use Rattle.mi_schema.specs.Shape.{Shape, index_at}
 use Rattle.mi_model.specs.Table.{Table, IsTable, has, list_of}
-use Rattle.mi_model.specs.View.{sorted, is_sorted, shows_one_list, compare_to_id}
+use Rattle.mi_model.specs.View.{sorted, compare_to_id}
+use Rattle.mi_schema.specs.Kinds.{is_sorted, shows_one_list}
 use Rattle.mi_model.specs.Lookup as look
 use Rattle.mi_model.specs.Lookup.{rank_in, before_place}
 use Rattle.mi_plain.specs.declared.pass.Cut.{Cut}

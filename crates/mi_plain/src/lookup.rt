@@ -10,7 +10,7 @@ impl PlainTable {
     ghost use Rattle.mi_schema.specs.Shape.{index_at};
     ghost use Rattle.mi_schema.specs.declared.index.IndexKind.TheVariants.{Hashed};
     ghost use Rattle.mi_model.specs.Table.{has as has_row, IsTable};
-    ghost use Rattle.mi_model.specs.View.{is_sorted, shows_one_list};
+    ghost use Rattle.mi_schema.specs.Kinds.{is_sorted, shows_one_list};
     ghost use Rattle.mi_model.specs.Lookup as look;
 
     /// The first id that index x shows.

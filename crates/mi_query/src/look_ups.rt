@@ -4,11 +4,11 @@ ghost use Rattle.mi_schema.specs.declared.index.IndexKind.TheVariants.{Hashed};
 ghost use Rattle.mi_schema.specs.Shape.{index_at};
 ghost use Rattle.mi_schema.specs.Fits.{fits_key};
 ghost use Rattle.mi_model.specs.Table.{size as size_of};
-ghost use Rattle.mi_model.specs.View.{is_sorted};
+ghost use Rattle.mi_schema.specs.Kinds.{has_keys, is_sorted};
 ghost use Rattle.mi_model.specs.Database.{schema_of, table_of};
 ghost use Rattle.mi_model.specs.Lookup as look;
 ghost use Rattle.mi_database.specs.LookUps.{WithinLookUps};
-ghost use Rattle.mi_query.specs.Keys.{has_keys, fits_look_up};
+ghost use Rattle.mi_query.specs.Keys.{fits_look_up};
 
 use crate::shown::shows_each;
 use mi_database::Sessions;

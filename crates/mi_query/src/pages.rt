@@ -5,7 +5,8 @@ ghost use Rattle.mi_value.specs.declared.refusal.Refusal.TheVariants.{Memory, No
 ghost use Rattle.mi_schema.specs.declared.index.IndexKind.TheVariants.{Sequenced};
 ghost use Rattle.mi_schema.specs.Shape.{index_at};
 ghost use Rattle.mi_model.specs.Table.{has as has_row};
-ghost use Rattle.mi_model.specs.View.{view, is_sorted, shows_one_list};
+ghost use Rattle.mi_model.specs.View.{view};
+ghost use Rattle.mi_schema.specs.Kinds.{is_sorted, shows_one_list};
 ghost use Rattle.mi_model.specs.Verdict.{has_place};
 ghost use Rattle.mi_model.specs.Database.{schema_of, table_of};
 ghost use Rattle.mi_model.specs.Page.{page_of, meets_lower, meets_upper, range as range_of, list as list_of};

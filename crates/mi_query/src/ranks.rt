@@ -4,7 +4,7 @@ ghost use Rattle.mi_value.specs.declared.refusal.Refusal.TheVariants.{NoId};
 ghost use Rattle.mi_schema.specs.Shape.{index_at};
 ghost use Rattle.mi_schema.specs.Fits.{fits_key};
 ghost use Rattle.mi_model.specs.Table.{has as has_row, size as size_of};
-ghost use Rattle.mi_model.specs.View.{is_sorted};
+ghost use Rattle.mi_schema.specs.Kinds.{is_sorted};
 ghost use Rattle.mi_model.specs.Database.{schema_of, table_of};
 ghost use Rattle.mi_model.specs.Lookup as look;
 ghost use Rattle.mi_database.specs.LookUps.{WithinLookUps};

@@ -3,7 +3,8 @@
 ghost use Rattle.std.specs.Prelude.{◌≡◌, ◌+◌, ◌<◌, ◌^◌, ℕ, length, IsTrue, IfSome, Some, slice_get};
 ghost use Rattle.mi_schema.specs.Shape.{index_at};
 ghost use Rattle.mi_model.specs.Table.{ListsEach, has as has_row, size as size_of};
-ghost use Rattle.mi_model.specs.View.{view, shows_one_list};
+ghost use Rattle.mi_model.specs.View.{view};
+ghost use Rattle.mi_schema.specs.Kinds.{shows_one_list};
 ghost use Rattle.mi_model.specs.Database.{schema_of, table_of};
 ghost use Rattle.mi_query.specs.Pages.{turned};
 
