@@ -1,12 +1,17 @@
 -- What a command says and leaves, done by a connection that nobody keeps out: {"cmd":"start"} says the new revision, opens a session, and
 -- makes its connection the holder.
-use Rattle.std.specs.Prelude.{◌≡◌, ℕ, ◌-◌, List, Option, Some, None, Result, Ok, Err}
+use Rattle.std.specs.Prelude.{ℕ, if◌then◌else◌, List, map, Option, Some, None, Result, Ok, Err}
 use Rattle.mi_value.specs.declared.value.Value.{Value}
 use Rattle.mi_value.specs.declared.refusal.Refusal.{Refusal}
 use Rattle.mi_value.specs.declared.refusal.Refusal.TheVariants.{NoId, Session}
 use Rattle.mi_value.specs.declared.refusal.NoSession.{NoSession}
-use Rattle.mi_model.specs.Table.{get}
-use Rattle.mi_model.specs.Database.{Database, Step, table_of, depth, ending, committed, undone_times, start_step, undo_step, squash_step}
+use Rattle.mi_schema.specs.Shape.{Shape}
+use Rattle.mi_model.specs.Table.{Table, get, has, row, size}
+use Rattle.mi_model.specs.Lookup as look
+use Rattle.mi_model.specs.Page as page
+use Rattle.mi_model.specs.Page.{Page}
+use Rattle.mi_model.specs.Verdict.{has_place}
+use Rattle.mi_model.specs.Database.{Database, Step, schema_of, table_of, depth, ending, committed, undone_times, start_step, undo_step, squash_step}
 use Rattle.mi_model.specs.Steps.{insert_step, replace_step, modify_step, erase_step, erase_key_step, relocate_step}
 use Rattle.mi_protocol.specs.Replies as say
 use Rattle.mi_protocol.specs.Replies.{Said}
@@ -77,6 +82,31 @@ found table id (Some row) = say.shown table id row
 abbrev pub show_row : Held → ℕ → ℕ → Said
 show_row s table id = found table id (get (table_of s.database table) id)
 
+-- the record of the id that a look-up found
+abbrev pub show_found : Held → ℕ → Option ℕ → Said
+show_found s table None = say.refused table NoId
+show_found s table (Some id) = show_row s table id
+
+-- the records of a page
+abbrev pub show_page : Held → ℕ → Page → Said
+show_page s table p = say.rows table (map (row (table_of s.database table)) p.ids) p.more
+
+-- the records of a list, unless the one behind which it begins isn't there
+abbrev pub show_list : Held → ℕ → ℕ → Option ℕ → ℕ → Said
+show_list s table index after limit =
+    let t = table_of s.database table in
+    if has_place t after then show_page s table (page.list (schema_of s.database table) t index after limit) else say.refused table NoId
+
+-- how many records stand before one, unless it isn't there
+abbrev pub say_rank : Held → ℕ → ℕ → ℕ → Said
+say_rank s table index id =
+    let t = table_of s.database table in
+    if has t id then say.ranked (look.rank (schema_of s.database table) t index id) else say.refused table NoId
+
+-- what a look-up of a table answers
+abbrev pub asked : {A : Type 0} → Held → ℕ → (Shape → Table → A) → A
+asked s table look_up = look_up (schema_of s.database table) (table_of s.database table)
+
 -- a command, done by a connection that nobody keeps out
 abbrev pub performed : Held → ℕ → Command → Said × Held
 performed s conn (command.Insert table row before) = changed say.inserted (say.refused table) (insert_step table before row s.database) s
@@ -93,3 +123,13 @@ performed s conn command.UndoAll = undo_sessions s
 performed s conn command.Push = push_sessions s conn
 performed s conn command.Revision = (status s conn, s)
 performed s conn (command.Get table id) = (show_row s table id, s)
+performed s conn (command.Find table index key) = (show_found s table (asked s table (λ shape t. look.find shape t index key)), s)
+performed s conn (command.Nth table index n) = (show_found s table (asked s table (λ shape t. look.nth shape t index n)), s)
+performed s conn (command.Count table index key) = (say.counted (asked s table (λ shape t. look.count shape t index key)), s)
+performed s conn (command.Range table index low high reverse limit) =
+    (show_page s table (asked s table (λ shape t. page.range shape t index low high reverse limit)), s)
+performed s conn (command.List table index after limit) = (show_list s table index after limit, s)
+performed s conn (command.Rank table index id) = (say_rank s table index id, s)
+performed s conn (command.LowerRank table index key) = (say.ranked (asked s table (λ shape t. look.lower_rank shape t index key)), s)
+performed s conn (command.UpperRank table index key) = (say.ranked (asked s table (λ shape t. look.upper_rank shape t index key)), s)
+performed s conn (command.Size table) = (say.sized (size (table_of s.database table)), s)

@@ -12,7 +12,7 @@ use crate::serve::Answering;
 use mi_database::Sessions;
 use mi_protocol::{Command, Reply, ReplyText, Request, bind, parse_line};
 use mi_schema::Catalog;
-use mi_value::{Refusal, Steps};
+use mi_value::Refusal;
 use std::alloc::Global;
 use std::marker::Model;
 
@@ -38,7 +38,7 @@ impl<D: Sessions + Drop> Model for Executor<D> {
 
 impl<D: Sessions + Drop> Executor<D> {
     ghost use Rattle.mi_hub.specs.Holder.{released};
-    ghost use Rattle.mi_hub.specs.Performed.{show_row, performed};
+    ghost use Rattle.mi_hub.specs.Performed.{performed};
     ghost use Rattle.mi_hub.specs.Answer.{request_answer, GivenOrMemory, MayGive};
     ghost use Rattle.mi_hub.specs.Lines.{text};
 
@@ -67,22 +67,6 @@ impl<D: Sessions + Drop> Executor<D> {
         let count = held_by(&self.holder, conn);
         self.holder = without_holder(self.holder, conn);
         undo_times(&mut self.database, count);
-    }
-
-    /// Shows a record.
-    fn get(&self, table: usize, id: u64) -> ReplyText
-        requires { FitsCatalog self.now.database.catalog (Command.Get table id) }
-        ensures { GivenOrMemory (Unit {0}) (show_row self.now table id, self.now) self.now (text_bytes result) self.now }
-    {
-        let mut steps = Steps::new();
-        let Some(row) = self.database.get(table, id, &mut steps) else {
-            return self.refuse(Refusal::NoId);
-        };
-        let reply = Reply::Shown { table, id, row };
-        match reply.text(self.alloc, self.database.catalog()) {
-            Ok(text) => text,
-            Err(refusal) => self.refuse(refusal),
-        }
     }
 
     /// Does a command that fits the catalog. An undo takes no memory.
@@ -115,6 +99,27 @@ impl<D: Sessions + Drop> Executor<D> {
             Command::Push => self.push(conn),
             Command::Revision => self.status(conn),
             Command::Get { table, id } => self.get(table, id),
+            Command::Find { table, index, key } => self.find(table, index, key.values()),
+            Command::Nth { table, index, n } => self.nth(table, index, n),
+            Command::Count { table, index, key } => self.count(table, index, key.values()),
+            Command::Range {
+                table,
+                index,
+                lower,
+                upper,
+                reverse,
+                limit,
+            } => self.range(table, index, &lower, &upper, reverse, limit),
+            Command::List {
+                table,
+                index,
+                after,
+                limit,
+            } => self.list(table, index, after, limit),
+            Command::Rank { table, index, id } => self.rank(table, index, id),
+            Command::LowerRank { table, index, key } => self.lower_rank(table, index, key.values()),
+            Command::UpperRank { table, index, key } => self.upper_rank(table, index, key.values()),
+            Command::Size { table } => self.size(table),
         }
     }
 

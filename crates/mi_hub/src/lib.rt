@@ -11,6 +11,7 @@ mod holder;
 mod hub;
 pub mod laws;
 mod line;
+mod reads;
 mod send;
 mod serve;
 mod sessions;

@@ -14,6 +14,10 @@ use Rattle.mi_value.specs.declared.refusal.Refusal.{Refusal}
 use Rattle.mi_value.specs.declared.refusal.Refusal.TheVariants.{NoTable, Index, Kind, Row, Key}
 use Rattle.mi_value.specs.declared.value.ColumnType.{ColumnType}
 use Rattle.mi_value.specs.declared.value.ColumnType.TheVariants as column
+use Rattle.mi_value.specs.declared.bound.Lower.{Lower}
+use Rattle.mi_value.specs.declared.bound.Lower.TheVariants as lower
+use Rattle.mi_value.specs.declared.bound.Upper.{Upper}
+use Rattle.mi_value.specs.declared.bound.Upper.TheVariants as upper
 use Rattle.mi_value.specs.declared.value.Value.{Value}
 use Rattle.mi_value.specs.declared.value.Value.TheVariants as value
 use Rattle.mi_schema.specs.declared.index.Column.{Column}
@@ -25,10 +29,12 @@ use Rattle.mi_schema.specs.Rules.{is_catalog}
 use Rattle.mi_protocol.specs.Answers.{IsAnswer}
 use Rattle.mi_protocol.specs.Edits.{addition, edit_of, with_edit, edits_from, bound_edits, is_int, fits_edit}
 use Rattle.mi_protocol.specs.Json.{has_only, option_map₂}
-use Rattle.mi_protocol.specs.Keys.{plain_values, if_key, bound_key}
-use Rattle.mi_protocol.specs.Kinds.{has_keys, is_sequenced}
+use Rattle.mi_protocol.specs.Keys.{plain_values, if_key, bound_key, bound_lower, bound_upper, FitsLower, FitsUpper}
+use Rattle.mi_schema.specs.Kinds.{has_keys, is_sequenced, is_sorted, is_ranked, wants_whole}
 use Rattle.mi_protocol.specs.Rows.{short_text, fitting, values_of, bound_row}
-use Rattle.mi_protocol.specs.Binding.{and_then, table_number, of_kind, index_number, bound_place, bound_insert, bound_replace, bound_modify, bound_erase_key, bound_relocate, bound_command, FitsCatalog}
+use Rattle.mi_protocol.specs.Binding.{and_then, table_number, of_kind, index_number, bound_place, bound_insert, bound_replace, bound_modify, named_key, bound_ends, bound_range, bound_relocate, bound_command, FitsCatalog}
+use Rattle.mi_protocol.specs.declared.request.End.{End}
+use Rattle.mi_protocol.specs.declared.request.End.TheVariants.{Open, With, Without}
 use Rattle.mi_protocol.specs.declared.request.Place.{Place}
 use Rattle.mi_protocol.specs.declared.request.Request.{Request}
 use Rattle.mi_protocol.specs.declared.request.Request.TheVariants as request
@@ -185,6 +191,12 @@ sequenced Ranked h = absurd (true≢false (sym h))
 sequenced Hashed h = absurd (true≢false (sym h))
 sequenced Sequenced h = refl
 
+ranked : (k : IndexKind) → is_ranked k ≡ true → k ≡ Ranked
+ranked Ordered h = absurd (true≢false (sym h))
+ranked Ranked h = refl
+ranked Hashed h = absurd (true≢false (sym h))
+ranked Sequenced h = absurd (true≢false (sym h))
+
 -- ---- a place
 
 abbrev IsPlaceOf : Shape → Option (ℕ × ℕ) → Type 0
@@ -235,21 +247,68 @@ modify-fits c n id set add rollback there =
     then (AreEditsOf (schema_at c n)) (FitsCatalog c) _ (ok_or (bound_edits (schema_at c n).columns set add) Row)
     (some (AreEditsOf (schema_at c n)) Row (bound_edits (schema_at c n).columns set add) (edits-fit (schema_at c n).columns set add)) (λ edits fits. (there, fits))
 
--- what is bound by a key of index x
-keyed : (c : CatalogShape) (s : Shape) (x : ℕ) (whole : Bool) (key : Items) (f : List Value → Result Command Refusal) → ((values : List Value) → IsKeyOf s x whole values → IfOk (f values) (FitsCatalog c))
-    → IfOk (and_then f (ok_or (bound_key s x whole key) Key)) (FitsCatalog c)
-keyed c s x whole key f more =
-    then (IsKeyOf s x whole) (FitsCatalog c) f (ok_or (bound_key s x whole key) Key) (some (IsKeyOf s x whole) Key (bound_key s x whole key) (key-fits s x whole key)) more
+-- an index of one of these kinds, and a key of it
+abbrev IsNamedKeyOf : (IndexKind → Bool) → (IndexKind → Bool) → Shape → ℕ × List Value → Type 0
+IsNamedKeyOf kinds whole s k = IsIndexOf kinds s k.0 × IsKeyOf s k.0 (whole (index_at s k.0).kind) k.1
 
-erase_key-fits : (c : CatalogShape) (n : ℕ) (index : List ℕ) (key : Items) → n < length c.tables → IfOk (bound_erase_key (schema_at c n) n index key) (FitsCatalog c)
-erase_key-fits c n index key there =
-    then (IsIndexOf has_keys (schema_at c n)) (FitsCatalog c) _ (index_number has_keys (schema_at c n) index) (index-fits has_keys (schema_at c n) index)
-    (λ x at. keyed c (schema_at c n) x true key _ (λ values fits. (there, (at.0, at.1, fits))))
+named_key-fits : (kinds whole : IndexKind → Bool) (s : Shape) (index : List ℕ) (key : Items) → IfOk (named_key kinds whole s index key) (IsNamedKeyOf kinds whole s)
+named_key-fits kinds whole s index key =
+    then (IsIndexOf kinds s) (IsNamedKeyOf kinds whole s) _ (index_number kinds s index) (index-fits kinds s index)
+    (λ x at. then (IsKeyOf s x (whole (index_at s x).kind)) (IsNamedKeyOf kinds whole s) _ (ok_or (bound_key s x (whole (index_at s x).kind) key) Key)
+    (some (IsKeyOf s x (whole (index_at s x).kind)) Key (bound_key s x (whole (index_at s x).kind) key) (key-fits s x (whole (index_at s x).kind) key)) (λ values fits. (at, fits)))
+
+-- what is made of a named key
+by_key : (c : CatalogShape) (n : ℕ) (kinds whole : IndexKind → Bool) (index : List ℕ) (key : Items) (f : ℕ × List Value → Result Command Refusal)
+    → ((k : ℕ × List Value) → IsNamedKeyOf kinds whole (schema_at c n) k → IfOk (f k) (FitsCatalog c)) → IfOk (and_then f (named_key kinds whole (schema_at c n) index key)) (FitsCatalog c)
+by_key c n kinds whole index key f more =
+    then (IsNamedKeyOf kinds whole (schema_at c n)) (FitsCatalog c) f (named_key kinds whole (schema_at c n) index key) (named_key-fits kinds whole (schema_at c n) index key) more
+
+-- what is made of a named index
+by_index : (c : CatalogShape) (n : ℕ) (kinds : IndexKind → Bool) (index : List ℕ) (f : ℕ → Result Command Refusal) → ((x : ℕ) → IsIndexOf kinds (schema_at c n) x → IfOk (f x) (FitsCatalog c))
+    → IfOk (and_then f (index_number kinds (schema_at c n) index)) (FitsCatalog c)
+by_index c n kinds index f more = then (IsIndexOf kinds (schema_at c n)) (FitsCatalog c) f (index_number kinds (schema_at c n) index) (index-fits kinds (schema_at c n) index) more
+
+from-fits : (s : Shape) (x : ℕ) (o : Option (List Value)) → IfSome o (IsKeyOf s x false) → IfSome (option_map lower.From o) (FitsLower s x)
+from-fits s x None h = tt
+from-fits s x (Some key) h = h
+
+beyond-fits : (s : Shape) (x : ℕ) (o : Option (List Value)) → IfSome o (IsKeyOf s x false) → IfSome (option_map lower.Beyond o) (FitsLower s x)
+beyond-fits s x None h = tt
+beyond-fits s x (Some key) h = h
+
+lower-fits : (s : Shape) (x : ℕ) (e : End) → IfSome (bound_lower s x e) (FitsLower s x)
+lower-fits s x Open = tt
+lower-fits s x (With ds) = from-fits s x (bound_key s x false ds) (key-fits s x false ds)
+lower-fits s x (Without ds) = beyond-fits s x (bound_key s x false ds) (key-fits s x false ds)
+
+up_to-fits : (s : Shape) (x : ℕ) (o : Option (List Value)) → IfSome o (IsKeyOf s x false) → IfSome (option_map upper.UpTo o) (FitsUpper s x)
+up_to-fits s x None h = tt
+up_to-fits s x (Some key) h = h
+
+below-fits : (s : Shape) (x : ℕ) (o : Option (List Value)) → IfSome o (IsKeyOf s x false) → IfSome (option_map upper.Below o) (FitsUpper s x)
+below-fits s x None h = tt
+below-fits s x (Some key) h = h
+
+upper-fits : (s : Shape) (x : ℕ) (e : End) → IfSome (bound_upper s x e) (FitsUpper s x)
+upper-fits s x Open = tt
+upper-fits s x (With ds) = up_to-fits s x (bound_key s x false ds) (key-fits s x false ds)
+upper-fits s x (Without ds) = below-fits s x (bound_key s x false ds) (key-fits s x false ds)
+
+abbrev AreBoundsOf : Shape → ℕ → Lower × Upper → Type 0
+AreBoundsOf s x e = FitsLower s x e.0 × FitsUpper s x e.1
+
+ends-fit : (s : Shape) (x : ℕ) (lower upper : End) → IfOk (bound_ends s x lower upper) (AreBoundsOf s x)
+ends-fit s x lower upper =
+    then (FitsLower s x) (AreBoundsOf s x) _ (ok_or (bound_lower s x lower) Key) (some (FitsLower s x) Key (bound_lower s x lower) (lower-fits s x lower))
+    (λ l below. then (FitsUpper s x) (AreBoundsOf s x) _ (ok_or (bound_upper s x upper) Key) (some (FitsUpper s x) Key (bound_upper s x upper) (upper-fits s x upper)) (λ u above. (below, above)))
+
+range-fits : (c : CatalogShape) (n : ℕ) (index : List ℕ) (lower upper : End) (reverse : Bool) (limit : ℕ) → n < length c.tables → IfOk (bound_range (schema_at c n) n index lower upper reverse limit) (FitsCatalog c)
+range-fits c n index lower upper reverse limit there =
+    by_index c n is_sorted index _
+    (λ x at. then (AreBoundsOf (schema_at c n) x) (FitsCatalog c) _ (bound_ends (schema_at c n) x lower upper) (ends-fit (schema_at c n) x lower upper) (λ e fit. (there, at.1, fit.0, fit.1)))
 
 relocate-fits : (c : CatalogShape) (n : ℕ) (index : List ℕ) (id : ℕ) (before : Option ℕ) → n < length c.tables → IfOk (bound_relocate (schema_at c n) n index id before) (FitsCatalog c)
-relocate-fits c n index id before there =
-    then (IsIndexOf is_sequenced (schema_at c n)) (FitsCatalog c) _ (index_number is_sequenced (schema_at c n) index) (index-fits is_sequenced (schema_at c n) index)
-    (λ x at. (there, sequenced (index_at (schema_at c n) x).kind at.1))
+relocate-fits c n index id before there = by_index c n is_sequenced index _ (λ x at. (there, sequenced (index_at (schema_at c n) x).kind at.1))
 
 over-table : (c : CatalogShape) (name : Option (List ℕ)) (f : ℕ → Result Command Refusal) → is_catalog c ≡ true → ((n : ℕ) → n < length c.tables → IfOk (f n) (FitsCatalog c)) → IfOk (and_then f (table_number c name)) (FitsCatalog c)
 over-table c name f h more = then (IsTableOf c) (FitsCatalog c) f (table_number c name) (table-there c name h) more
@@ -259,7 +318,7 @@ bound-fits c (request.Insert table row before) h = over-table c table _ h (λ n 
 bound-fits c (request.Replace table id row) h = over-table c table _ h (λ n there. replace-fits c n id row there)
 bound-fits c (request.Modify table id set add rollback) h = over-table c table _ h (λ n there. modify-fits c n id set add rollback there)
 bound-fits c (request.Erase table id) h = over-table c table _ h (λ n there. there)
-bound-fits c (request.EraseKey table index key) h = over-table c table _ h (λ n there. erase_key-fits c n index key there)
+bound-fits c (request.EraseKey table index key) h = over-table c table _ h (λ n there. by_key c n has_keys (λ kind. true) index key _ (λ k fits. (there, (fits.0.0, fits.0.1, fits.1))))
 bound-fits c (request.Relocate table index id before) h = over-table c table _ h (λ n there. relocate-fits c n index id before there)
 bound-fits c request.Start h = tt
 bound-fits c request.Undo h = tt
@@ -269,6 +328,17 @@ bound-fits c request.UndoAll h = tt
 bound-fits c request.Push h = tt
 bound-fits c request.Revision h = tt
 bound-fits c (request.Get table id) h = over-table c table _ h (λ n there. there)
+bound-fits c (request.Find table index key) h = over-table c table _ h (λ n there. by_key c n has_keys wants_whole index key _ (λ k fits. (there, (fits.0.0, fits.0.1, fits.1))))
+bound-fits c (request.Nth table index n) h = over-table c table _ h (λ t there. by_index c t is_ranked index _ (λ x at. (there, ranked (index_at (schema_at c t) x).kind at.1)))
+bound-fits c (request.Count table index key) h = over-table c table _ h (λ n there. by_key c n has_keys wants_whole index key _ (λ k fits. (there, (fits.0.0, fits.0.1, fits.1))))
+bound-fits c (request.Range table index lower upper reverse limit) h = over-table c table _ h (λ n there. range-fits c n index lower upper reverse limit there)
+bound-fits c (request.List table index after limit) h = over-table c table _ h (λ n there. by_index c n is_sequenced index _ (λ x at. (there, sequenced (index_at (schema_at c n) x).kind at.1)))
+bound-fits c (request.Rank table index id) h = over-table c table _ h (λ n there. by_index c n is_ranked index _ (λ x at. (there, ranked (index_at (schema_at c n) x).kind at.1)))
+bound-fits c (request.LowerRank table index key) h =
+    over-table c table _ h (λ n there. by_key c n is_ranked (λ kind. false) index key _ (λ k fits. (there, (ranked (index_at (schema_at c n) k.0).kind fits.0.1, fits.1))))
+bound-fits c (request.UpperRank table index key) h =
+    over-table c table _ h (λ n there. by_key c n is_ranked (λ kind. false) index key _ (λ k fits. (there, (ranked (index_at (schema_at c n) k.0).kind fits.0.1, fits.1))))
+bound-fits c (request.Size table) h = over-table c table _ h (λ n there. there)
 
 -- the answer of the code
 pub answer-fits : (c : CatalogShape) (request : Request) (r : Result Command Refusal) → is_catalog c ≡ true → IsAnswer r (bound_command c request) → IfOk r (FitsCatalog c)

@@ -13,7 +13,7 @@ use Rattle.mi_value.specs.declared.limits.TheConstants.{MAX_NAME}
 use Rattle.mi_schema.specs.Shape.{Shape, CatalogShape, schema_at}
 use Rattle.mi_schema.specs.Rules.{starts_name, continues_name, is_name, is_declared_index, is_schema, is_catalog, are_columns, are_indexes, are_numbers}
 use Rattle.mi_schema.specs.declared.index.Index.{Index}
-use Rattle.mi_protocol.specs.Replies.{Said, inserted, done, erased, shown, revised, committed, undone, pushed, status, refused_modify, refused, index_name, refusal_text, modify_refusal_text, reply_text, IsRefusalOf, IsSaidOf}
+use Rattle.mi_protocol.specs.Replies.{Said, inserted, done, erased, shown, revised, committed, undone, pushed, status, counted, ranked, sized, rows, refused_modify, refused, index_name, refusal_text, modify_refusal_text, reply_text, IsRefusalOf, IsSaidOf}
 use Rattle.mi_protocol.specs.ReplyJson.{refusal_data, modify_refusal_data, reply_data}
 
 -- ---- tests
@@ -146,5 +146,9 @@ reply_is c (committed n) h said = refl
 reply_is c (undone n) h said = refl
 reply_is c (pushed n) h said = refl
 reply_is c (status depth held revision) h said = ap (λ t. codes "{\"depth\":" ++ t) (three_numbers (decimal depth) (codes ",\"held\":") (decimal held) (codes ",\"ok\":true,\"revision\":") (decimal revision) (codes "}"))
+reply_is c (counted n) h said = refl
+reply_is c (ranked n) h said = refl
+reply_is c (sized n) h said = refl
+reply_is c (rows n records more) h said = refl
 reply_is c (refused_modify n e) h said = modify_refusal_is c n e h said
 reply_is c (refused n e) h said = refusal_is c n e h said

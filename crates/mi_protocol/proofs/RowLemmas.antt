@@ -1,20 +1,21 @@
 -- Rows, column by column.
-use Rattle.std.proofs.Common.{◌≡◌, ℕ, List, [], ◌∷◌, map, not, ◌&&◌, Bool, true, false, Option, Some, option_and_then, refl, sym, ap, ◌∙◌, nat_cmp, codes, ◌||◌, true≢false, Ordering, Less, Equal, Greater, pos, negsuc}
+use Rattle.std.proofs.Common.{◌≡◌, ℕ, List, [], ◌∷◌, map, not, ◌&&◌, Bool, true, false, Bor, Option, Some, option_and_then, refl, sym, ap, ◌∙◌, nat_cmp, codes, ◌||◌, true≢false, Ordering, Less, Equal, Greater, pos, negsuc}
 use Rattle.std.specs.List.{list_any}
 use Rattle.std.specs.Str.{bytes_eq}
 use Rattle.std.proofs.lemmas.Slice.Eq.{bytes_eq-Decides}
 use Rattle.std.specs.Ordering.{match_ordering}
 use Rattle.std.specs.Cmp.Lexicographic.{slice_cmp}
-use Rattle.serde_json.specs.Data.{Data, boolean, number, unsigned, object, Members, no_members, member, put}
+use Rattle.serde_json.specs.Data.{Data, boolean, number, unsigned, array, object, item, Members, no_members, member, put}
 use Rattle.serde_json.specs.Find.{get_member}
-use Rattle.serde_json.specs.Written.{has_float, members_have_float}
+use Rattle.serde_json.specs.View.{items_of}
+use Rattle.serde_json.specs.Written.{has_float, items_have_float, members_have_float}
 use Rattle.mi_value.specs.declared.value.Value.{Value}
 use Rattle.mi_value.specs.declared.value.Value.TheVariants as value
 use Rattle.mi_schema.specs.declared.index.Column.{Column}
 use Rattle.mi_schema.specs.Rules.{are_distinct}
 use Rattle.mi_protocol.proofs.ObjectLemmas.{get_member-without}
 use Rattle.mi_protocol.specs.Json.{without, option_map₂}
-use Rattle.mi_protocol.specs.Rows.{fitting, values_of, value_data, with_values, row_members}
+use Rattle.mi_protocol.specs.Rows.{fitting, values_of, value_data, with_values, row_members, row_data, rows_items}
 
 -- ---- from an object to a record
 
@@ -83,3 +84,19 @@ values-no_float (c ∷ cs) (v ∷ vs) ms h = values-no_float cs vs (put c.name (
 
 pub row-no_float : (cs : List Column) (id : ℕ) (vs : List Value) → has_float (object (member (codes "ok") (boolean true) (member (codes "row") (object (row_members cs id vs)) no_members))) ≡ false
 row-no_float cs id vs = ap (λ b. b || false) (values-no_float cs vs (put (codes "id") (number (unsigned id)) no_members) refl)
+
+-- ---- several rows
+
+-- rows that are lent, as the items of an array
+pub rows_map : (cs : List Column) (rs : List (ℕ × Bor (List Value))) → items_of (map (λ r. row_data cs r.0 r.1.now) rs) ≡ rows_items cs (map (λ r. (r.0, r.1.now)) rs)
+rows_map cs [] = refl
+rows_map cs (r ∷ rs) = ap (λ ds. item (row_data cs r.0 r.1.now) ds) (rows_map cs rs)
+
+items-no_float : (cs : List Column) (rs : List (ℕ × List Value)) → items_have_float (rows_items cs rs) ≡ false
+items-no_float cs [] = refl
+items-no_float cs (r ∷ rs) =
+    ap (λ b. b || items_have_float (rows_items cs rs)) (values-no_float cs r.1 (put (codes "id") (number (unsigned r.0)) no_members) refl) ∙ items-no_float cs rs
+
+pub rows-no_float : (cs : List Column) (rs : List (ℕ × List Value)) (more : Bool)
+    → has_float (object (member (codes "more") (boolean more) (member (codes "ok") (boolean true) (member (codes "rows") (array (rows_items cs rs)) no_members)))) ≡ false
+rows-no_float cs rs more = ap (λ b. b || false) (items-no_float cs rs)

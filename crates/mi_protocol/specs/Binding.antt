@@ -1,19 +1,22 @@
 -- The command that a request is over a catalog, with tables, indexes and columns by number.
-use Rattle.std.specs.Prelude.{◌≡◌, ℕ, ◌<◌, Bool, true, IsTrue, if◌then◌else◌, List, length, Option, Some, None, IfSome, Result, Ok, Err}
+use Rattle.std.specs.Prelude.{◌≡◌, ℕ, ◌<◌, Bool, true, false, IsTrue, if◌then◌else◌, List, length, Option, Some, None, IfSome, Result, Ok, Err}
 use Rattle.std.specs.List.{list_all}
 use Rattle.std.specs.Option.{ok_or}
 use Rattle.mi_value.specs.declared.refusal.Refusal.{Refusal}
 use Rattle.mi_value.specs.declared.refusal.Refusal.TheVariants.{NoTable, Index, Kind, Row, Key}
+use Rattle.mi_value.specs.declared.bound.Lower.{Lower}
+use Rattle.mi_value.specs.declared.bound.Upper.{Upper}
 use Rattle.mi_value.specs.declared.value.Value.{Value}
 use Rattle.mi_schema.specs.declared.index.IndexKind.{IndexKind}
-use Rattle.mi_schema.specs.declared.index.IndexKind.TheVariants.{Sequenced}
+use Rattle.mi_schema.specs.declared.index.IndexKind.TheVariants.{Ranked, Sequenced}
 use Rattle.mi_schema.specs.Shape.{Shape, CatalogShape, schema_at, index_at, find_table, find_index}
 use Rattle.mi_schema.specs.Fits.{fits_record, fits_key}
 use Rattle.serde_json.specs.Data.{Items, Members}
 use Rattle.mi_protocol.specs.Edits.{bound_edits, fits_edit}
-use Rattle.mi_protocol.specs.Keys.{bound_key}
-use Rattle.mi_protocol.specs.Kinds.{has_keys, is_sequenced}
+use Rattle.mi_protocol.specs.Keys.{bound_key, bound_lower, bound_upper, FitsLower, FitsUpper}
+use Rattle.mi_schema.specs.Kinds.{has_keys, is_sequenced, is_sorted, is_ranked, wants_whole}
 use Rattle.mi_protocol.specs.Rows.{bound_row}
+use Rattle.mi_protocol.specs.declared.request.End.{End}
 use Rattle.mi_protocol.specs.declared.request.Place.{Place}
 use Rattle.mi_protocol.specs.declared.request.Request.{Request}
 use Rattle.mi_protocol.specs.declared.request.Request.TheVariants as request
@@ -53,9 +56,30 @@ bound_replace s n id row = and_then (λ values. Ok (command.Replace n id values)
 abbrev pub bound_modify : Shape → ℕ → ℕ → Members → Members → Bool → Result Command Refusal
 bound_modify s n id set add rollback = and_then (λ edits. Ok (command.Modify n id edits rollback)) (ok_or (bound_edits s.columns set add) Row)
 
--- an erasure by a whole key
-abbrev pub bound_erase_key : Shape → ℕ → List ℕ → Items → Result Command Refusal
-bound_erase_key s n index key = and_then (λ x. and_then (λ values. Ok (command.EraseKey n x values)) (ok_or (bound_key s x true key) Key)) (index_number has_keys s index)
+-- the index that is named, of a kind that the command is for, and a key of it: whole where its kind wants that
+abbrev pub named_key : (IndexKind → Bool) → (IndexKind → Bool) → Shape → List ℕ → Items → Result (ℕ × List Value) Refusal
+named_key kinds whole s index key =
+    and_then (λ x. and_then (λ values. Ok (x, values)) (ok_or (bound_key s x (whole (index_at s x).kind) key) Key)) (index_number kinds s index)
+
+-- a whole key
+abbrev pub whole_key : Shape → List ℕ → Items → Result (ℕ × List Value) Refusal
+whole_key s index key = named_key has_keys (λ kind. true) s index key
+
+-- a key, or in a sorted index the first values of one
+abbrev pub key_or_prefix : Shape → List ℕ → Items → Result (ℕ × List Value) Refusal
+key_or_prefix s index key = named_key has_keys wants_whole s index key
+
+-- a key of a ranked index, or the first values of one
+abbrev pub ranked_key : Shape → List ℕ → Items → Result (ℕ × List Value) Refusal
+ranked_key s index key = named_key is_ranked (λ kind. false) s index key
+
+-- the bounds of a range in index x
+abbrev pub bound_ends : Shape → ℕ → End → End → Result (Lower × Upper) Refusal
+bound_ends s x lower upper = and_then (λ l. and_then (λ u. Ok (l, u)) (ok_or (bound_upper s x upper) Key)) (ok_or (bound_lower s x lower) Key)
+
+abbrev pub bound_range : Shape → ℕ → List ℕ → End → End → Bool → ℕ → Result Command Refusal
+bound_range s n index lower upper reverse limit =
+    and_then (λ x. and_then (λ e. Ok (command.Range n x e.0 e.1 reverse limit)) (bound_ends s x lower upper)) (index_number is_sorted s index)
 
 abbrev pub bound_relocate : Shape → ℕ → List ℕ → ℕ → Option ℕ → Result Command Refusal
 bound_relocate s n index id before = and_then (λ x. Ok (command.Relocate n x id before)) (index_number is_sequenced s index)
@@ -66,7 +90,7 @@ bound_command c (request.Insert table row before) = and_then (λ n. bound_insert
 bound_command c (request.Replace table id row) = and_then (λ n. bound_replace (schema_at c n) n id row) (table_number c table)
 bound_command c (request.Modify table id set add rollback) = and_then (λ n. bound_modify (schema_at c n) n id set add rollback) (table_number c table)
 bound_command c (request.Erase table id) = and_then (λ n. Ok (command.Erase n id)) (table_number c table)
-bound_command c (request.EraseKey table index key) = and_then (λ n. bound_erase_key (schema_at c n) n index key) (table_number c table)
+bound_command c (request.EraseKey table index key) = and_then (λ n. and_then (λ k. Ok (command.EraseKey n k.0 k.1)) (whole_key (schema_at c n) index key)) (table_number c table)
 bound_command c (request.Relocate table index id before) = and_then (λ n. bound_relocate (schema_at c n) n index id before) (table_number c table)
 bound_command c request.Start = Ok command.Start
 bound_command c request.Undo = Ok command.Undo
@@ -76,10 +100,23 @@ bound_command c request.UndoAll = Ok command.UndoAll
 bound_command c request.Push = Ok command.Push
 bound_command c request.Revision = Ok command.Revision
 bound_command c (request.Get table id) = and_then (λ n. Ok (command.Get n id)) (table_number c table)
+bound_command c (request.Find table index key) = and_then (λ n. and_then (λ k. Ok (command.Find n k.0 k.1)) (key_or_prefix (schema_at c n) index key)) (table_number c table)
+bound_command c (request.Nth table index n) = and_then (λ t. and_then (λ x. Ok (command.Nth t x n)) (index_number is_ranked (schema_at c t) index)) (table_number c table)
+bound_command c (request.Count table index key) = and_then (λ n. and_then (λ k. Ok (command.Count n k.0 k.1)) (key_or_prefix (schema_at c n) index key)) (table_number c table)
+bound_command c (request.Range table index lower upper reverse limit) = and_then (λ n. bound_range (schema_at c n) n index lower upper reverse limit) (table_number c table)
+bound_command c (request.List table index after limit) = and_then (λ n. and_then (λ x. Ok (command.List n x after limit)) (index_number is_sequenced (schema_at c n) index)) (table_number c table)
+bound_command c (request.Rank table index id) = and_then (λ n. and_then (λ x. Ok (command.Rank n x id)) (index_number is_ranked (schema_at c n) index)) (table_number c table)
+bound_command c (request.LowerRank table index key) = and_then (λ n. and_then (λ k. Ok (command.LowerRank n k.0 k.1)) (ranked_key (schema_at c n) index key)) (table_number c table)
+bound_command c (request.UpperRank table index key) = and_then (λ n. and_then (λ k. Ok (command.UpperRank n k.0 k.1)) (ranked_key (schema_at c n) index key)) (table_number c table)
+bound_command c (request.Size table) = and_then (λ n. Ok (command.Size n)) (table_number c table)
 
 -- the table has this index, and these are a key of it, or where it needn't be whole the first values of one
 abbrev pub FitsIndex : Shape → ℕ → Bool → List Value → Type 0
 FitsIndex s x whole key = (x < length s.indexes) × IsTrue (has_keys (index_at s x).kind) × IsTrue (fits_key s.columns (index_at s x).parts whole key)
+
+-- index x is ranked, and these are a key of it or the first values of one
+abbrev pub FitsRanked : Shape → ℕ → List Value → Type 0
+FitsRanked s x key = ((index_at s x).kind ≡ Ranked) × IsTrue (fits_key s.columns (index_at s x).parts false key)
 
 -- the table is there, and records, edits, keys and indexes are as its schema wants them
 abbrev pub FitsCatalog : CatalogShape → Command → Type 0
@@ -98,3 +135,13 @@ FitsCatalog c command.UndoAll = Unit {0}
 FitsCatalog c command.Push = Unit {0}
 FitsCatalog c command.Revision = Unit {0}
 FitsCatalog c (command.Get n id) = n < length c.tables
+FitsCatalog c (command.Find n x key) = (n < length c.tables) × FitsIndex (schema_at c n) x (wants_whole (index_at (schema_at c n) x).kind) key
+FitsCatalog c (command.Nth t x n) = (t < length c.tables) × ((index_at (schema_at c t) x).kind ≡ Ranked)
+FitsCatalog c (command.Count n x key) = (n < length c.tables) × FitsIndex (schema_at c n) x (wants_whole (index_at (schema_at c n) x).kind) key
+FitsCatalog c (command.Range n x lower upper reverse limit) =
+    (n < length c.tables) × IsTrue (is_sorted (index_at (schema_at c n) x).kind) × FitsLower (schema_at c n) x lower × FitsUpper (schema_at c n) x upper
+FitsCatalog c (command.List n x after limit) = (n < length c.tables) × ((index_at (schema_at c n) x).kind ≡ Sequenced)
+FitsCatalog c (command.Rank n x id) = (n < length c.tables) × ((index_at (schema_at c n) x).kind ≡ Ranked)
+FitsCatalog c (command.LowerRank n x key) = (n < length c.tables) × FitsRanked (schema_at c n) x key
+FitsCatalog c (command.UpperRank n x key) = (n < length c.tables) × FitsRanked (schema_at c n) x key
+FitsCatalog c (command.Size n) = n < length c.tables

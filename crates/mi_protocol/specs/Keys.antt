@@ -1,12 +1,18 @@
 -- Keys: the values that the items of an array are.
-use Rattle.std.specs.Prelude.{ℕ, Bool, List, [], ◌∷◌, if◌then◌else◌, Option, Some, None, option_map, option_and_then}
+use Rattle.std.specs.Prelude.{ℕ, Bool, false, IsTrue, List, [], ◌∷◌, if◌then◌else◌, Option, Some, None, option_map, option_and_then}
 use Rattle.serde_json.specs.Data.{Data, null, boolean, number, string, array, object, Items, no_items, item}
 use Rattle.serde_json.specs.Find.{as_i64}
 use Rattle.mi_value.specs.declared.value.Value.{Value}
 use Rattle.mi_value.specs.declared.value.Value.TheVariants as value
+use Rattle.mi_value.specs.declared.bound.Lower.{Lower}
+use Rattle.mi_value.specs.declared.bound.Lower.TheVariants as lower
+use Rattle.mi_value.specs.declared.bound.Upper.{Upper}
+use Rattle.mi_value.specs.declared.bound.Upper.TheVariants as upper
 use Rattle.mi_schema.specs.Shape.{Shape, index_at}
 use Rattle.mi_schema.specs.Fits.{fits_key}
 use Rattle.mi_protocol.specs.Json.{option_map₂}
+use Rattle.mi_protocol.specs.declared.request.End.{End}
+use Rattle.mi_protocol.specs.declared.request.End.TheVariants.{Open, With, Without}
 
 -- a whole number, a text, or true or false
 abbrev pub plain_value : Data → Option Value
@@ -29,3 +35,25 @@ if_key s x whole vs = if fits_key s.columns (index_at s x).parts whole vs then S
 -- the key of index x that items are
 abbrev pub bound_key : Shape → ℕ → Bool → Items → Option (List Value)
 bound_key s x whole ds = option_and_then (if_key s x whole) (plain_values ds)
+
+-- the bounds of a range in index x, by keys or the first values of keys
+abbrev pub bound_lower : Shape → ℕ → End → Option Lower
+bound_lower s x Open = Some lower.All
+bound_lower s x (With ds) = option_map lower.From (bound_key s x false ds)
+bound_lower s x (Without ds) = option_map lower.Beyond (bound_key s x false ds)
+
+abbrev pub bound_upper : Shape → ℕ → End → Option Upper
+bound_upper s x Open = Some upper.All
+bound_upper s x (With ds) = option_map upper.UpTo (bound_key s x false ds)
+bound_upper s x (Without ds) = option_map upper.Below (bound_key s x false ds)
+
+-- the bound's key is one of index x, or the first values of one
+abbrev pub FitsLower : Shape → ℕ → Lower → Type 0
+FitsLower s x lower.All = Unit {0}
+FitsLower s x (lower.From key) = IsTrue (fits_key s.columns (index_at s x).parts false key)
+FitsLower s x (lower.Beyond key) = IsTrue (fits_key s.columns (index_at s x).parts false key)
+
+abbrev pub FitsUpper : Shape → ℕ → Upper → Type 0
+FitsUpper s x upper.All = Unit {0}
+FitsUpper s x (upper.UpTo key) = IsTrue (fits_key s.columns (index_at s x).parts false key)
+FitsUpper s x (upper.Below key) = IsTrue (fits_key s.columns (index_at s x).parts false key)

@@ -4,7 +4,6 @@ pub mod Commands
 pub mod Edits
 pub mod Json
 pub mod Keys
-pub mod Kinds
 pub mod Lines
 pub mod ObjectCode
 pub mod Replies

@@ -1,19 +1,19 @@
 -- What replies say, and their text, without a newline.
-use Rattle.std.specs.Prelude.{ℕ, ◌<◌, List, ◌++◌, length, Bool, true, false, codes, decimal}
-use Rattle.serde_json.specs.Data.{boolean, object, no_members, member}
+use Rattle.std.specs.Prelude.{ℕ, ◌<◌, List, ◌++◌, length, map, Bool, true, false, codes, decimal}
+use Rattle.serde_json.specs.Data.{boolean, array, object, no_members, member}
 use Rattle.serde_json.specs.Written.{compact_text}
 use Rattle.mi_value.specs.Words.{word_of}
 use Rattle.mi_value.specs.declared.refusal.Refusal.{Refusal}
 use Rattle.mi_value.specs.declared.refusal.Refusal.TheVariants.{Unique, Lost}
 use Rattle.mi_value.specs.declared.value.Value.{Value}
 use Rattle.mi_schema.specs.Shape.{CatalogShape, schema_at, index_at}
-use Rattle.mi_protocol.specs.Rows.{row_members}
+use Rattle.mi_protocol.specs.Rows.{row_data, rows_items}
 use Rattle.mi_protocol.specs.declared.reply.Reply.{Reply}
 use Rattle.mi_protocol.specs.declared.reply.Reply.TheVariants as reply
 
 -- what a reply says: the id of an inserted record, no more than that it is done, how many records were erased, a record of a
--- table, a revision, how many sessions were committed, undone or pushed, how many are open and are held with the revision, or
--- why a modify or another command over a table is refused
+-- table, a revision, how many sessions were committed, undone or pushed, how many are open and are held with the revision, a
+-- count, a rank, a size, records of a table and whether more follow, or why a modify or another command over a table is refused
 pub data Said : Type 0 where
   inserted : ℕ → Said
   done : Said
@@ -24,6 +24,10 @@ pub data Said : Type 0 where
   undone : ℕ → Said
   pushed : ℕ → Said
   status : ℕ → ℕ → ℕ → Said
+  counted : ℕ → Said
+  ranked : ℕ → Said
+  sized : ℕ → Said
+  rows : ℕ → List (ℕ × List Value) → Bool → Said
   refused_modify : ℕ → Refusal → Said
   refused : ℕ → Refusal → Said
 
@@ -38,6 +42,10 @@ said (reply.Committed count) = committed count
 said (reply.Undone count) = undone count
 said (reply.Pushed count) = pushed count
 said (reply.Status depth held revision) = status depth held revision
+said (reply.Counted count) = counted count
+said (reply.Ranked rank) = ranked rank
+said (reply.Sized size) = sized size
+said (reply.Rows table records more) = rows table (map (λ r. (r.0, r.1.now)) records.items) more
 said (reply.RefusedModify table refusal) = refused_modify table refusal
 said (reply.Refused table refusal) = refused table refusal
 
@@ -66,13 +74,19 @@ reply_text c (inserted id) = codes "{\"id\":" ++ decimal id ++ codes ",\"ok\":tr
 reply_text c done = codes "{\"ok\":true}"
 reply_text c (erased n) = codes "{\"erased\":" ++ decimal n ++ codes ",\"ok\":true}"
 reply_text c (shown n id row) =
-    compact_text (object (member (codes "ok") (boolean true) (member (codes "row") (object (row_members (schema_at c n).columns id row)) no_members)))
+    compact_text (object (member (codes "ok") (boolean true) (member (codes "row") (row_data (schema_at c n).columns id row) no_members)))
 reply_text c (revised n) = codes "{\"ok\":true,\"revision\":" ++ decimal n ++ codes "}"
 reply_text c (committed n) = codes "{\"committed\":" ++ decimal n ++ codes ",\"ok\":true}"
 reply_text c (undone n) = codes "{\"ok\":true,\"undone\":" ++ decimal n ++ codes "}"
 reply_text c (pushed n) = codes "{\"ok\":true,\"pushed\":" ++ decimal n ++ codes "}"
 reply_text c (status depth held revision) =
     codes "{\"depth\":" ++ decimal depth ++ codes ",\"held\":" ++ decimal held ++ codes ",\"ok\":true,\"revision\":" ++ decimal revision ++ codes "}"
+reply_text c (counted n) = codes "{\"count\":" ++ decimal n ++ codes ",\"ok\":true}"
+reply_text c (ranked n) = codes "{\"ok\":true,\"rank\":" ++ decimal n ++ codes "}"
+reply_text c (sized n) = codes "{\"ok\":true,\"size\":" ++ decimal n ++ codes "}"
+reply_text c (rows n records more) =
+    compact_text (object (member (codes "more") (boolean more) (member (codes "ok") (boolean true)
+    (member (codes "rows") (array (rows_items (schema_at c n).columns records)) no_members))))
 reply_text c (refused_modify n e) = modify_refusal_text c n e
 reply_text c (refused n e) = refusal_text c n e
 
@@ -99,10 +113,14 @@ IsSaidOf c (committed n) = Unit {0}
 IsSaidOf c (undone n) = Unit {0}
 IsSaidOf c (pushed n) = Unit {0}
 IsSaidOf c (status depth held revision) = Unit {0}
+IsSaidOf c (counted n) = Unit {0}
+IsSaidOf c (ranked n) = Unit {0}
+IsSaidOf c (sized n) = Unit {0}
+IsSaidOf c (rows n records more) = n < length c.tables
 IsSaidOf c (refused_modify n e) = IsRefusalOf c n e
 IsSaidOf c (refused n e) = IsRefusalOf c n e
 
--- a reply with no row
+-- a reply that shows no rows
 abbrev pub is_short : Said → Bool
 is_short (inserted id) = true
 is_short done = true
@@ -113,5 +131,9 @@ is_short (committed n) = true
 is_short (undone n) = true
 is_short (pushed n) = true
 is_short (status depth held revision) = true
+is_short (counted n) = true
+is_short (ranked n) = true
+is_short (sized n) = true
+is_short (rows n records more) = false
 is_short (refused_modify n e) = true
 is_short (refused n e) = true

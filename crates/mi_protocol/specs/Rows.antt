@@ -1,6 +1,7 @@
 -- Rows: the values that the members of an object are, and the object that a record's values are.
 use Rattle.std.specs.Prelude.{ℕ, List, [], ◌∷◌, length, map, nat_le, if◌then◌else◌, Option, Some, None, option_map, option_and_then, codes}
-use Rattle.serde_json.specs.Data.{Data, boolean, number, unsigned, string, Members, no_members, put}
+use Rattle.serde_json.specs.Data.{Data, boolean, number, unsigned, string, Items, Members, no_members, put, object}
+use Rattle.serde_json.specs.View.{items_of}
 use Rattle.serde_json.specs.Find.{get_member, as_number, as_str, as_bool, as_i64, of_integer}
 use Rattle.mi_value.specs.declared.limits.TheConstants.{MAX_TEXT}
 use Rattle.mi_value.specs.declared.value.ColumnType.{ColumnType}
@@ -44,3 +45,11 @@ with_values (c ∷ cs) (v ∷ vs) ms = with_values cs vs (put c.name (value_data
 -- the members of a row: `id` and all columns, in the order of their names' bytes
 abbrev pub row_members : List Column → ℕ → List Value → Members
 row_members cs id vs = with_values cs vs (put (codes "id") (number (unsigned id)) no_members)
+
+-- a row as JSON
+abbrev pub row_data : List Column → ℕ → List Value → Data
+row_data cs id vs = object (row_members cs id vs)
+
+-- rows as the items of an array
+abbrev pub rows_items : List Column → List (ℕ × List Value) → Items
+rows_items cs rs = items_of (map (λ r. row_data cs r.0 r.1) rs)

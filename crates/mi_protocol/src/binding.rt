@@ -1,22 +1,21 @@
 //! From a request to a command over a catalog: names of tables and indexes become numbers, a row becomes a record.
-ghost use Rattle.std.specs.Prelude.{◌≡◌, ◌<◌, length, Ok, IfOk, IfErr, IfSome, IsTrue};
-ghost use Rattle.std.specs.Option.{ok_or};
-ghost use Rattle.mi_schema.specs.Shape.{schema_at, index_at, find_index};
+ghost use Rattle.std.specs.Prelude.{◌≡◌, ◌<◌, length, Ok, IfOk, IfErr};
 ghost use Rattle.mi_protocol.specs.Answers.{IsAnswer};
 ghost use Rattle.mi_protocol.specs.Binding as binding;
-ghost use Rattle.mi_protocol.specs.Binding.{bound_command, bound_insert, bound_erase_key, bound_relocate, bound_place, index_number, FitsCatalog};
-ghost use Rattle.mi_protocol.specs.Kinds as kinds;
+ghost use Rattle.mi_protocol.specs.Binding.{bound_command, bound_insert, bound_place, bound_ends, FitsCatalog};
 ghost use Rattle.mi_protocol.specs.Replies.{NamesNoIndex};
 ghost use Rattle.mi_protocol.specs.declared.request.Request.TheVariants as request;
 
-use crate::array::Array;
 use crate::edits::{Edits, bind_edits};
-use crate::keys::bind_key;
+use crate::indexes::{
+    key_or_prefix, ranked_index, ranked_key, sequenced_index, sorted_index, whole_key,
+};
+use crate::keys::{bind_lower, bind_upper};
 use crate::object::Object;
-use crate::request::{Place, Request};
+use crate::request::{End, Place, Request};
 use crate::row::bind_row;
-use mi_schema::{Catalog, IndexKind, Schema};
-use mi_value::{Key, Record, Refusal, Text};
+use mi_schema::{Catalog, Schema};
+use mi_value::{Key, Lower, Record, Refusal, Text, Upper};
 use std::alloc::Global;
 
 /// A command that fits a catalog: tables, indexes and columns by number, a row as a record. An insert's `before` is a
@@ -69,6 +68,57 @@ pub enum Command {
         table: usize,
         id: u64,
     },
+    /// The key is whole, or in an ordered or ranked index the first values of one.
+    Find {
+        table: usize,
+        index: usize,
+        key: Key,
+    },
+    Nth {
+        table: usize,
+        index: usize,
+        n: u64,
+    },
+    /// The key is whole, or in an ordered or ranked index the first values of one.
+    Count {
+        table: usize,
+        index: usize,
+        key: Key,
+    },
+    /// At most `limit` rows, 1 to 1,000.
+    Range {
+        table: usize,
+        index: usize,
+        lower: Lower,
+        upper: Upper,
+        reverse: bool,
+        limit: usize,
+    },
+    /// At most `limit` rows, 1 to 1,000, behind the record `after` or from the first.
+    List {
+        table: usize,
+        index: usize,
+        after: Option<u64>,
+        limit: usize,
+    },
+    Rank {
+        table: usize,
+        index: usize,
+        id: u64,
+    },
+    LowerRank {
+        table: usize,
+        index: usize,
+        key: Key,
+    },
+    UpperRank {
+        table: usize,
+        index: usize,
+        key: Key,
+    },
+    Size {
+        table: usize,
+    },
 }
 
 /// The number of the table that is named; without a name it is the first.
@@ -78,37 +128,6 @@ fn table_number(table: Option<Text>, catalog: &Catalog) -> Result<usize, Refusal
     match table {
         Some(name) => catalog.find_table(name.as_str()).ok_or(Refusal::NoTable),
         None => Ok(0),
-    }
-}
-
-/// The number of the index that is named. Refusal: `Index`.
-fn find_index(name: &Text, schema: &Schema) -> Result<usize, Refusal>
-    ensures number { result ≡ ok_or (find_index schema.now name.now) Refusal.Index }
-    ensures there { IfOk result (λ i. i < length schema.now.indexes) }
-{
-    schema.find_index(name.as_str()).ok_or(Refusal::Index)
-}
-
-/// The number of the sequenced index that is named. Refusals, in this order: `Index`, `Kind`.
-fn sequenced_index(name: &Text, schema: &Schema) -> Result<usize, Refusal>
-    ensures { result ≡ index_number kinds.is_sequenced schema.now name.now }
-{
-    let index = find_index(name, schema)?;
-    match schema.kind(index) {
-        IndexKind::Sequenced => Ok(index),
-        _ => Err(Refusal::Kind),
-    }
-}
-
-/// The number of the index with keys that is named. Refusals, in this order: `Index`, `Kind`.
-fn keyed_index(name: &Text, schema: &Schema) -> Result<usize, Refusal>
-    ensures number { result ≡ index_number kinds.has_keys schema.now name.now }
-    ensures there { IfOk result (λ i. i < length schema.now.indexes) }
-{
-    let index = find_index(name, schema)?;
-    match schema.kind(index) {
-        IndexKind::Sequenced => Err(Refusal::Kind),
-        _ => Ok(index),
     }
 }
 
@@ -137,36 +156,19 @@ fn bind_insert(
     Ok(Command::Insert { table, row, before })
 }
 
-fn bind_erase_key(
+fn bind_range(
     alloc: Global,
-    table: usize,
-    index: Text,
-    key: Array,
+    index: usize,
+    lower: End,
+    upper: End,
     schema: &Schema,
-) -> Result<Command, Refusal>
-    ensures { IsAnswer result (bound_erase_key schema.now table index key) }
+) -> Result<(Lower, Upper), Refusal>
+    requires { index < length schema.now.indexes }
+    ensures { IsAnswer result (bound_ends schema.now index lower upper) }
 {
-    let index = keyed_index(&index, schema)?;
-    let key = bind_key(alloc, key, schema, index, true)?;
-    Ok(Command::EraseKey { table, index, key })
-}
-
-fn bind_relocate(
-    table: usize,
-    index: Text,
-    id: u64,
-    before: Option<u64>,
-    schema: &Schema,
-) -> Result<Command, Refusal>
-    ensures { IsAnswer result (bound_relocate schema.now table index id before) }
-{
-    let index = sequenced_index(&index, schema)?;
-    Ok(Command::Relocate {
-        table,
-        index,
-        id,
-        before,
-    })
+    let lower = bind_lower(alloc, lower, schema, index)?;
+    let upper = bind_upper(alloc, upper, schema, index)?;
+    Ok((lower, upper))
 }
 
 /// The command that a request is.
@@ -208,7 +210,8 @@ fn command_of(alloc: Global, request: Request, catalog: &Catalog) -> Result<Comm
         }
         Request::EraseKey { table, index, key } => {
             let table = table_number(table, catalog)?;
-            bind_erase_key(alloc, table, index, key, catalog.table(table))
+            let (index, key) = whole_key(alloc, &index, key, catalog.table(table))?;
+            Ok(Command::EraseKey { table, index, key })
         }
         Request::Relocate {
             table,
@@ -217,7 +220,13 @@ fn command_of(alloc: Global, request: Request, catalog: &Catalog) -> Result<Comm
             before,
         } => {
             let table = table_number(table, catalog)?;
-            bind_relocate(table, index, id, before, catalog.table(table))
+            let index = sequenced_index(&index, catalog.table(table))?;
+            Ok(Command::Relocate {
+                table,
+                index,
+                id,
+                before,
+            })
         }
         Request::Start => Ok(Command::Start),
         Request::Undo => Ok(Command::Undo),
@@ -229,6 +238,76 @@ fn command_of(alloc: Global, request: Request, catalog: &Catalog) -> Result<Comm
         Request::Get { table, id } => {
             let table = table_number(table, catalog)?;
             Ok(Command::Get { table, id })
+        }
+        Request::Find { table, index, key } => {
+            let table = table_number(table, catalog)?;
+            let (index, key) = key_or_prefix(alloc, &index, key, catalog.table(table))?;
+            Ok(Command::Find { table, index, key })
+        }
+        Request::Nth { table, index, n } => {
+            let table = table_number(table, catalog)?;
+            let index = ranked_index(&index, catalog.table(table))?;
+            Ok(Command::Nth { table, index, n })
+        }
+        Request::Count { table, index, key } => {
+            let table = table_number(table, catalog)?;
+            let (index, key) = key_or_prefix(alloc, &index, key, catalog.table(table))?;
+            Ok(Command::Count { table, index, key })
+        }
+        Request::Range {
+            table,
+            index,
+            lower,
+            upper,
+            reverse,
+            limit,
+        } => {
+            let table = table_number(table, catalog)?;
+            let schema = catalog.table(table);
+            let index = sorted_index(&index, schema)?;
+            let (lower, upper) = bind_range(alloc, index, lower, upper, schema)?;
+            Ok(Command::Range {
+                table,
+                index,
+                lower,
+                upper,
+                reverse,
+                limit,
+            })
+        }
+        Request::List {
+            table,
+            index,
+            after,
+            limit,
+        } => {
+            let table = table_number(table, catalog)?;
+            let index = sequenced_index(&index, catalog.table(table))?;
+            Ok(Command::List {
+                table,
+                index,
+                after,
+                limit,
+            })
+        }
+        Request::Rank { table, index, id } => {
+            let table = table_number(table, catalog)?;
+            let index = ranked_index(&index, catalog.table(table))?;
+            Ok(Command::Rank { table, index, id })
+        }
+        Request::LowerRank { table, index, key } => {
+            let table = table_number(table, catalog)?;
+            let (index, key) = ranked_key(alloc, &index, key, catalog.table(table))?;
+            Ok(Command::LowerRank { table, index, key })
+        }
+        Request::UpperRank { table, index, key } => {
+            let table = table_number(table, catalog)?;
+            let (index, key) = ranked_key(alloc, &index, key, catalog.table(table))?;
+            Ok(Command::UpperRank { table, index, key })
+        }
+        Request::Size { table } => {
+            let table = table_number(table, catalog)?;
+            Ok(Command::Size { table })
         }
     }
 }

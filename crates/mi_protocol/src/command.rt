@@ -19,6 +19,15 @@ pub(crate) enum CommandName {
     Push,
     Revision,
     Get,
+    Find,
+    Nth,
+    Count,
+    Range,
+    List,
+    Rank,
+    LowerRank,
+    UpperRank,
+    Size,
 }
 
 impl CommandName {
@@ -54,6 +63,24 @@ impl CommandName {
             Some(CommandName::Revision)
         } else if text == "get" {
             Some(CommandName::Get)
+        } else if text == "find" {
+            Some(CommandName::Find)
+        } else if text == "nth" {
+            Some(CommandName::Nth)
+        } else if text == "count" {
+            Some(CommandName::Count)
+        } else if text == "range" {
+            Some(CommandName::Range)
+        } else if text == "list" {
+            Some(CommandName::List)
+        } else if text == "rank" {
+            Some(CommandName::Rank)
+        } else if text == "lower_rank" {
+            Some(CommandName::LowerRank)
+        } else if text == "upper_rank" {
+            Some(CommandName::UpperRank)
+        } else if text == "size" {
+            Some(CommandName::Size)
         } else {
             None
         }
@@ -68,8 +95,19 @@ impl CommandName {
             CommandName::Replace => &["cmd", "table", "id", "row"],
             CommandName::Modify => &["cmd", "table", "id", "set", "add", "rollback"],
             CommandName::Erase | CommandName::Get => &["cmd", "table", "id"],
-            CommandName::EraseKey => &["cmd", "table", "index", "key"],
+            CommandName::EraseKey
+            | CommandName::Find
+            | CommandName::Count
+            | CommandName::LowerRank
+            | CommandName::UpperRank => &["cmd", "table", "index", "key"],
             CommandName::Relocate => &["cmd", "table", "index", "id", "before"],
+            CommandName::Nth => &["cmd", "table", "index", "n"],
+            CommandName::Range => &[
+                "cmd", "table", "index", "lower", "upper", "reverse", "limit",
+            ],
+            CommandName::List => &["cmd", "table", "index", "after", "limit"],
+            CommandName::Rank => &["cmd", "table", "index", "id"],
+            CommandName::Size => &["cmd", "table"],
             CommandName::Commit => &["cmd", "revision"],
             CommandName::Start
             | CommandName::Undo

@@ -1,15 +1,15 @@
-//! Keys: from a JSON array to the values of a key of an index.
-ghost use Rattle.std.specs.Prelude.{◌≡◌, ◌<◌, length, true, IfOk, IsTrue};
+//! Keys: from a JSON array to the values of a key of an index, and from the ends of a range to its bounds.
+ghost use Rattle.std.specs.Prelude.{◌≡◌, ◌<◌, length, IfOk};
 ghost use Rattle.std.specs.Option.{ok_or};
 ghost use Rattle.serde_json.specs.View.{view, items_view};
-ghost use Rattle.mi_schema.specs.Shape.{index_at};
 ghost use Rattle.mi_protocol.specs.Answers.{IsAnswer};
 ghost use Rattle.mi_protocol.specs.Keys as keys;
-ghost use Rattle.mi_protocol.specs.Keys.{plain_values, bound_key};
+ghost use Rattle.mi_protocol.specs.Keys.{plain_values, bound_key, bound_lower, bound_upper};
 
 use crate::array::Array;
+use crate::request::End;
 use mi_schema::Schema;
-use mi_value::{Key, Refusal, Text, Value};
+use mi_value::{Key, Lower, Refusal, Text, Upper, Value};
 use serde_json::Value as Json;
 use std::alloc::{AllocError, Global};
 
@@ -56,5 +56,39 @@ pub(crate) fn bind_key(
         Ok(key)
     } else {
         Err(Refusal::Key)
+    }
+}
+
+/// The lower bound of a range in index i. Refusals: `Key` and `Memory`.
+pub(crate) fn bind_lower(
+    alloc: Global,
+    end: End,
+    schema: &Schema,
+    i: usize,
+) -> Result<Lower, Refusal>
+    requires { i < length schema.now.indexes }
+    ensures { IsAnswer result (ok_or (bound_lower schema.now i end) Refusal.Key) }
+{
+    match end {
+        End::Open => Ok(Lower::All),
+        End::With(key) => Ok(Lower::From(bind_key(alloc, key, schema, i, false)?)),
+        End::Without(key) => Ok(Lower::Beyond(bind_key(alloc, key, schema, i, false)?)),
+    }
+}
+
+/// The upper bound of a range in index i. Refusals: `Key` and `Memory`.
+pub(crate) fn bind_upper(
+    alloc: Global,
+    end: End,
+    schema: &Schema,
+    i: usize,
+) -> Result<Upper, Refusal>
+    requires { i < length schema.now.indexes }
+    ensures { IsAnswer result (ok_or (bound_upper schema.now i end) Refusal.Key) }
+{
+    match end {
+        End::Open => Ok(Upper::All),
+        End::With(key) => Ok(Upper::UpTo(bind_key(alloc, key, schema, i, false)?)),
+        End::Without(key) => Ok(Upper::Below(bind_key(alloc, key, schema, i, false)?)),
     }
 }

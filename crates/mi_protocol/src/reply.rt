@@ -1,4 +1,4 @@
-//! Replies and their text. Only a reply that shows a row takes memory; the others stand in a buffer of 128 bytes.
+//! Replies and their text. Only a reply that shows rows takes memory; the others stand in a buffer of 128 bytes.
 ghost use Rattle.std.specs.Prelude.{◌≡◌, ◌+◌, ◌≤◌, ◌<◌, ◌++◌, length, codes, decimal, true, IfOk, IfErr, IsOk};
 ghost use Rattle.arrayvec.specs.ArrayVec.{array_vec_len};
 ghost use Rattle.mi_value.specs.declared.limits.TheConstants.{MAX_NAME, SHORT_REPLY};
@@ -6,7 +6,7 @@ ghost use Rattle.mi_protocol.specs.Replies as replies;
 ghost use Rattle.mi_protocol.specs.Replies.{reply_text, said, is_short, index_name, IsSaidOf, IsRefusalOf};
 ghost use Rattle.mi_protocol.specs.Text.{text_bytes};
 
-use crate::row::row_text;
+use crate::row::{row_text, rows_text};
 use crate::text::ReplyText;
 use arrayvec::ArrayVec;
 use itoa::Buffer;
@@ -44,6 +44,18 @@ pub enum Reply<'a> {
         depth: u64,
         held: u64,
         revision: u64,
+    },
+    /// How many records have a key.
+    Counted(u64),
+    /// How many records stand before one or a key.
+    Ranked(u64),
+    /// How many records a table has.
+    Sized(u64),
+    /// Records of a table, by their ids, and whether more follow.
+    Rows {
+        table: usize,
+        rows: Vec<(u64, &'a Record)>,
+        more: bool,
     },
     /// Why a modify is refused. Of a conflict the text says whether the record is lost.
     RefusedModify {
@@ -156,7 +168,7 @@ fn modify_refusal_text(catalog: &Catalog, table: usize, refusal: Refusal) -> Rep
 
 impl Reply<'_> {
     /// The text of a reply, without a newline. Its table, and the index of a conflict, are in the catalog. It answers
-    /// `Memory` where a growth is refused; a reply that shows no row takes no memory.
+    /// `Memory` where a growth is refused; a reply that shows no rows takes no memory.
     pub fn text(&self, alloc: Global, catalog: &Catalog) -> Result<ReplyText, Refusal>
         requires { IsSaidOf catalog.now (said self.now) }
         ensures text { IfOk result (λ t. text_bytes t ≡ reply_text catalog.now (said self.now)) }
@@ -180,6 +192,14 @@ impl Reply<'_> {
                 held,
                 revision,
             } => Ok(status(*depth, *held, *revision)),
+            Reply::Counted(n) => Ok(short_number(b"{\"count\":", *n, b",\"ok\":true}")),
+            Reply::Ranked(n) => Ok(short_number(b"{\"ok\":true,\"rank\":", *n, b"}")),
+            Reply::Sized(n) => Ok(short_number(b"{\"ok\":true,\"size\":", *n, b"}")),
+            Reply::Rows { table, rows, more } => {
+                let columns = catalog.table(*table).columns();
+                let text = rows_text(alloc, rows.as_slice(), *more, columns)?;
+                Ok(ReplyText::Long(text))
+            }
             Reply::RefusedModify { table, refusal } => {
                 Ok(modify_refusal_text(catalog, *table, *refusal))
             }

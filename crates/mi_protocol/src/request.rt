@@ -4,19 +4,16 @@ ghost use Rattle.serde_json.specs.Find.{as_str};
 ghost use Rattle.serde_json.specs.View.{view};
 ghost use Rattle.mi_protocol.specs.Answers.{IsAnswer};
 ghost use Rattle.mi_protocol.specs.Commands as commands;
-ghost use Rattle.mi_protocol.specs.Commands.{command_named, form_of};
+ghost use Rattle.mi_protocol.specs.Commands.{command_named};
 ghost use Rattle.mi_protocol.specs.Json.{needed};
 ghost use Rattle.mi_protocol.specs.Lines as lines;
 ghost use Rattle.mi_protocol.specs.Lines.{command_line};
 ghost use Rattle.mi_protocol.specs.Replies.{NamesNoIndex};
-ghost use Rattle.mi_protocol.specs.declared.command.CommandName.TheVariants as name;
 
 use crate::array::Array;
 use crate::command::CommandName;
-use crate::members::{
-    Members, array, flag, natural, natural_if_there, needed_object, object_of, object_or_empty,
-    place, text, text_if_there,
-};
+use crate::forms::request_by;
+use crate::members::object_of;
 use crate::object::Object;
 use mi_value::{Refusal, Text};
 use serde_json::{Category, Value as Json};
@@ -27,6 +24,14 @@ use std::alloc::Global;
 pub struct Place {
     pub index: Text,
     pub id: u64,
+}
+
+/// An end of a range: none, a key that is in it, or a key that isn't.
+#[derive(Debug, Drop)]
+pub enum End {
+    Open,
+    With(Array),
+    Without(Array),
 }
 
 /// A command as it is asked, whatever the catalog: names as they were written, ids 0 to 2^63 - 1. An absent `table` is the
@@ -81,6 +86,55 @@ pub enum Request {
         table: Option<Text>,
         id: u64,
     },
+    Find {
+        table: Option<Text>,
+        index: Text,
+        key: Array,
+    },
+    Nth {
+        table: Option<Text>,
+        index: Text,
+        n: u64,
+    },
+    Count {
+        table: Option<Text>,
+        index: Text,
+        key: Array,
+    },
+    /// At most `limit` rows, 1 to 1,000.
+    Range {
+        table: Option<Text>,
+        index: Text,
+        lower: End,
+        upper: End,
+        reverse: bool,
+        limit: usize,
+    },
+    /// At most `limit` rows, 1 to 1,000, behind the record `after` or from the first.
+    List {
+        table: Option<Text>,
+        index: Text,
+        after: Option<u64>,
+        limit: usize,
+    },
+    Rank {
+        table: Option<Text>,
+        index: Text,
+        id: u64,
+    },
+    LowerRank {
+        table: Option<Text>,
+        index: Text,
+        key: Array,
+    },
+    UpperRank {
+        table: Option<Text>,
+        index: Text,
+        key: Array,
+    },
+    Size {
+        table: Option<Text>,
+    },
 }
 
 impl Request {
@@ -89,7 +143,17 @@ impl Request {
         ensures { result ≡ commands.keeps_out self.now }
     {
         match self {
-            Request::Revision | Request::Get { .. } => false,
+            Request::Revision
+            | Request::Get { .. }
+            | Request::Find { .. }
+            | Request::Nth { .. }
+            | Request::Count { .. }
+            | Request::Range { .. }
+            | Request::List { .. }
+            | Request::Rank { .. }
+            | Request::LowerRank { .. }
+            | Request::UpperRank { .. }
+            | Request::Size { .. } => false,
             Request::Insert { .. }
             | Request::Replace { .. }
             | Request::Modify { .. }
@@ -103,121 +167,6 @@ impl Request {
             | Request::UndoAll
             | Request::Push => true,
         }
-    }
-}
-
-fn insert_request(object: Object) -> Option<Request>
-    ensures { result ≡ (form_of name.Insert).request object }
-{
-    let members = Members::of(object);
-    let table = text_if_there(members.table)?;
-    let row = needed_object(members.row)?;
-    let before = place(members.before)?;
-    Some(Request::Insert { table, row, before })
-}
-
-fn replace_request(object: Object) -> Option<Request>
-    ensures { result ≡ (form_of name.Replace).request object }
-{
-    let members = Members::of(object);
-    let table = text_if_there(members.table)?;
-    let id = natural(members.id)?;
-    let row = needed_object(members.row)?;
-    Some(Request::Replace { table, id, row })
-}
-
-fn modify_request(alloc: Global, object: Object) -> Option<Request>
-    ensures { result ≡ (form_of name.Modify).request object }
-{
-    let members = Members::of(object);
-    let table = text_if_there(members.table)?;
-    let id = natural(members.id)?;
-    let set = object_or_empty(alloc, members.set)?;
-    let add = object_or_empty(alloc, members.add)?;
-    let rollback = flag(members.rollback)?;
-    Some(Request::Modify {
-        table,
-        id,
-        set,
-        add,
-        rollback,
-    })
-}
-
-fn erase_request(object: Object) -> Option<Request>
-    ensures { result ≡ (form_of name.Erase).request object }
-{
-    let members = Members::of(object);
-    let table = text_if_there(members.table)?;
-    let id = natural(members.id)?;
-    Some(Request::Erase { table, id })
-}
-
-fn erase_key_request(object: Object) -> Option<Request>
-    ensures { result ≡ (form_of name.EraseKey).request object }
-{
-    let members = Members::of(object);
-    let table = text_if_there(members.table)?;
-    let index = text(members.index)?;
-    let key = array(members.key)?;
-    Some(Request::EraseKey { table, index, key })
-}
-
-fn relocate_request(object: Object) -> Option<Request>
-    ensures { result ≡ (form_of name.Relocate).request object }
-{
-    let members = Members::of(object);
-    let table = text_if_there(members.table)?;
-    let index = text(members.index)?;
-    let id = natural(members.id)?;
-    let before = natural_if_there(members.before)?;
-    Some(Request::Relocate {
-        table,
-        index,
-        id,
-        before,
-    })
-}
-
-fn commit_request(object: Object) -> Option<Request>
-    ensures { result ≡ (form_of name.Commit).request object }
-{
-    let members = Members::of(object);
-    let revision = natural(members.revision)?;
-    Some(Request::Commit { revision })
-}
-
-fn get_request(object: Object) -> Option<Request>
-    ensures { result ≡ (form_of name.Get).request object }
-{
-    let members = Members::of(object);
-    let table = text_if_there(members.table)?;
-    let id = natural(members.id)?;
-    Some(Request::Get { table, id })
-}
-
-/// The request that the members of a command are.
-fn request_by(alloc: Global, name: CommandName, object: Object) -> Option<Request>
-    ensures { result ≡ lines.request_by object (form_of name) }
-{
-    if !object.has_only(name.members()) {
-        return None;
-    }
-    match name {
-        CommandName::Insert => insert_request(object),
-        CommandName::Replace => replace_request(object),
-        CommandName::Modify => modify_request(alloc, object),
-        CommandName::Erase => erase_request(object),
-        CommandName::EraseKey => erase_key_request(object),
-        CommandName::Relocate => relocate_request(object),
-        CommandName::Start => Some(Request::Start),
-        CommandName::Undo => Some(Request::Undo),
-        CommandName::Squash => Some(Request::Squash),
-        CommandName::Commit => commit_request(object),
-        CommandName::UndoAll => Some(Request::UndoAll),
-        CommandName::Push => Some(Request::Push),
-        CommandName::Revision => Some(Request::Revision),
-        CommandName::Get => get_request(object),
     }
 }
 

@@ -1,12 +1,12 @@
 //! Rows: from an object to a record over given columns, and back to JSON. It knows columns and no tables.
 ghost use Rattle.std.specs.Prelude.{◌≡◌, map, codes, true, string_bytes, IfOk, IsTrue};
 ghost use Rattle.std.specs.Option.{ok_or};
-ghost use Rattle.serde_json.specs.Data.{object, boolean, member, no_members};
+ghost use Rattle.serde_json.specs.Data.{array, object, boolean, member, no_members};
 ghost use Rattle.serde_json.specs.View.{view, members_view};
 ghost use Rattle.serde_json.specs.Written.{compact_text};
 ghost use Rattle.mi_protocol.specs.Answers.{IsAnswer};
 ghost use Rattle.mi_protocol.specs.Rows as rows;
-ghost use Rattle.mi_protocol.specs.Rows.{fitting, values_of, bound_row, value_data};
+ghost use Rattle.mi_protocol.specs.Rows.{fitting, values_of, bound_row, value_data, row_data, rows_items};
 ghost use Rattle.mi_schema.specs.Rules.{are_distinct};
 
 use crate::object::Object;
@@ -128,11 +128,45 @@ pub(crate) fn row_text(
     row: &Record,
     columns: &[Column],
 ) -> Result<Vec<u8>, AllocError>
-    ensures { IfOk result (λ t. t.items ≡ compact_text (object (member (codes "ok") (boolean true) (member (codes "row") (object (rows.row_members columns.now id row.now)) no_members)))) }
+    ensures { IfOk result (λ t. t.items ≡ compact_text (object (member (codes "ok") (boolean true) (member (codes "row") (row_data columns.now id row.now) no_members)))) }
 {
     let shown = row_members(alloc, id, row, columns)?;
     let mut members = Map::new(alloc);
     serde_json::put(&mut members, alloc, "ok", Json::Bool(true))?;
     serde_json::put(&mut members, alloc, "row", Json::Object(shown))?;
+    Json::Object(members).to_vec(alloc)
+}
+
+/// The rows as JSON objects.
+fn rows_data(
+    alloc: Global,
+    rows: &[(u64, &Record)],
+    columns: &[Column],
+) -> Result<Vec<Json>, AllocError>
+    ensures { IfOk result (λ shown. map view shown.items ≡ map (λ r. row_data columns.now r.0 r.1.now) rows.now) }
+{
+    let mut shown = Vec::new(alloc);
+    'rows: for row in rows {
+        let (id, row) = *row;
+        let members = row_members(alloc, id, row, columns)?;
+        shown.push(Json::Object(members))?;
+    }
+    Ok(shown)
+}
+
+/// The text of the reply that shows several rows, and whether more follow.
+pub(crate) fn rows_text(
+    alloc: Global,
+    rows: &[(u64, &Record)],
+    more: bool,
+    columns: &[Column],
+) -> Result<Vec<u8>, AllocError>
+    ensures { IfOk result (λ t. t.items ≡ compact_text (object (member (codes "more") (boolean more) (member (codes "ok") (boolean true) (member (codes "rows") (array (rows_items columns.now (map (λ r. (r.0, r.1.now)) rows.now))) no_members))))) }
+{
+    let shown = rows_data(alloc, rows, columns)?;
+    let mut members = Map::new(alloc);
+    serde_json::put(&mut members, alloc, "more", Json::Bool(more))?;
+    serde_json::put(&mut members, alloc, "ok", Json::Bool(true))?;
+    serde_json::put(&mut members, alloc, "rows", Json::Array(shown))?;
     Json::Object(members).to_vec(alloc)
 }

@@ -272,6 +272,153 @@ fn changes_are_bound_or_refused(rt: HostRuntime) -> Result<(), Fail> {
     Ok(())
 }
 
+#[test]
+fn reads_are_bound_or_refused(rt: HostRuntime) -> Result<(), Fail> {
+    let alloc = rt.alloc();
+    let catalog = catalog_of_accounts(alloc)?;
+    for (line, want) in [
+        (
+            "{\"cmd\":\"find\",\"index\":\"by_vip\",\"key\":[false]}",
+            "ok",
+        ),
+        (
+            "{\"cmd\":\"find\",\"index\":\"by_class\",\"key\":[false]}",
+            "ok",
+        ),
+        ("{\"cmd\":\"find\",\"index\":\"id\",\"key\":[0]}", "ok"),
+        ("{\"cmd\":\"find\",\"index\":\"id\",\"key\":[0,1]}", "key"),
+        ("{\"cmd\":\"find\",\"index\":\"by_vip\",\"key\":[]}", "key"),
+        (
+            "{\"cmd\":\"find\",\"index\":\"by_owner\",\"key\":[1]}",
+            "key",
+        ),
+        ("{\"cmd\":\"find\",\"index\":\"line\",\"key\":[]}", "kind"),
+        (
+            "{\"cmd\":\"find\",\"index\":\"by_vip\",\"key\":true}",
+            "form",
+        ),
+        ("{\"cmd\":\"nth\",\"index\":\"by_balance\",\"n\":0}", "ok"),
+        (
+            "{\"cmd\":\"nth\",\"index\":\"by_balance\",\"n\":-1}",
+            "form",
+        ),
+        ("{\"cmd\":\"nth\",\"index\":\"by_class\",\"n\":0}", "kind"),
+        ("{\"cmd\":\"nth\",\"index\":\"none\",\"n\":0}", "index"),
+        (
+            "{\"cmd\":\"count\",\"index\":\"by_balance\",\"key\":[5]}",
+            "ok",
+        ),
+        (
+            "{\"cmd\":\"count\",\"index\":\"by_balance\",\"key\":[]}",
+            "key",
+        ),
+        ("{\"cmd\":\"count\",\"index\":\"line\",\"key\":[5]}", "kind"),
+        ("{\"cmd\":\"range\",\"index\":\"by_balance\"}", "ok"),
+        (
+            "{\"cmd\":\"range\",\"index\":\"by_class\",\"lower\":{\"ge\":[false]}}",
+            "ok",
+        ),
+        (
+            "{\"cmd\":\"range\",\"index\":\"by_class\",\"lower\":{\"gt\":[true,1]},\"upper\":{\"lt\":[false]}}",
+            "ok",
+        ),
+        (
+            "{\"cmd\":\"range\",\"index\":\"by_class\",\"upper\":{\"le\":[true]},\"reverse\":true}",
+            "ok",
+        ),
+        (
+            "{\"cmd\":\"range\",\"index\":\"by_class\",\"lower\":{\"ge\":[true,3]},\"limit\":1}",
+            "ok",
+        ),
+        (
+            "{\"cmd\":\"range\",\"index\":\"by_class\",\"lower\":{\"ge\":[1]}}",
+            "key",
+        ),
+        (
+            "{\"cmd\":\"range\",\"index\":\"by_class\",\"upper\":{\"le\":[]}}",
+            "key",
+        ),
+        (
+            "{\"cmd\":\"range\",\"index\":\"by_class\",\"lower\":{\"ge\":[true],\"gt\":[true]}}",
+            "form",
+        ),
+        (
+            "{\"cmd\":\"range\",\"index\":\"by_class\",\"lower\":{}}",
+            "form",
+        ),
+        (
+            "{\"cmd\":\"range\",\"index\":\"by_class\",\"lower\":{\"le\":[true]}}",
+            "form",
+        ),
+        (
+            "{\"cmd\":\"range\",\"index\":\"by_class\",\"upper\":{\"ge\":[true]}}",
+            "form",
+        ),
+        (
+            "{\"cmd\":\"range\",\"index\":\"by_class\",\"lower\":null}",
+            "form",
+        ),
+        (
+            "{\"cmd\":\"range\",\"index\":\"by_class\",\"lower\":{\"ge\":true}}",
+            "form",
+        ),
+        (
+            "{\"cmd\":\"range\",\"index\":\"by_class\",\"limit\":0}",
+            "form",
+        ),
+        (
+            "{\"cmd\":\"range\",\"index\":\"by_class\",\"limit\":1000}",
+            "ok",
+        ),
+        (
+            "{\"cmd\":\"range\",\"index\":\"by_class\",\"limit\":1001}",
+            "form",
+        ),
+        (
+            "{\"cmd\":\"range\",\"index\":\"by_class\",\"reverse\":0}",
+            "form",
+        ),
+        ("{\"cmd\":\"range\",\"index\":\"by_vip\"}", "kind"),
+        ("{\"cmd\":\"range\",\"index\":\"line\"}", "kind"),
+        ("{\"cmd\":\"list\",\"index\":\"line\"}", "ok"),
+        (
+            "{\"cmd\":\"list\",\"index\":\"line\",\"after\":0,\"limit\":1}",
+            "ok",
+        ),
+        (
+            "{\"cmd\":\"list\",\"index\":\"line\",\"after\":null}",
+            "form",
+        ),
+        ("{\"cmd\":\"list\",\"index\":\"by_balance\"}", "kind"),
+        ("{\"cmd\":\"rank\",\"index\":\"by_balance\",\"id\":0}", "ok"),
+        ("{\"cmd\":\"rank\",\"index\":\"id\",\"id\":0}", "ok"),
+        ("{\"cmd\":\"rank\",\"index\":\"line\",\"id\":0}", "kind"),
+        (
+            "{\"cmd\":\"lower_rank\",\"index\":\"by_balance\",\"key\":[5]}",
+            "ok",
+        ),
+        (
+            "{\"cmd\":\"lower_rank\",\"index\":\"by_class\",\"key\":[true]}",
+            "kind",
+        ),
+        (
+            "{\"cmd\":\"upper_rank\",\"index\":\"by_balance\",\"key\":[\"5\"]}",
+            "key",
+        ),
+        (
+            "{\"cmd\":\"upper_rank\",\"index\":\"by_vip\",\"key\":[true]}",
+            "kind",
+        ),
+        ("{\"cmd\":\"size\"}", "ok"),
+        ("{\"cmd\":\"size\",\"x\":1}", "form"),
+        ("{\"cmd\":\"size\",\"table\":\"c\"}", "table"),
+        ("{\"cmd\":\"size\",\"table\":0}", "form"),
+    ] {
+        assert_eq!(rt; verdict(alloc, line.as_bytes(), &catalog), want, "{line}");
+    }
+    Ok(())
+}
+
 fn assert_text(rt: &impl Abort, alloc: Global, catalog: &Catalog, given: &Reply<'_>, want: &str)
     requires { IsSaidOf catalog.now (said given.now) }
 {
@@ -299,6 +446,17 @@ fn replies_have_their_texts(rt: HostRuntime) -> Result<(), Fail> {
     let escaped = account(alloc, "\u{1}\"\\", -7, true)?;
     let unique = Refusal::Unique { index: 1, id: 0 };
     let lost = Refusal::Lost { index: 1, id: 0 };
+    let bob = account(alloc, "bob", 7, true)?;
+    let none = Reply::Rows {
+        table: 0,
+        rows: Vec::new(alloc),
+        more: false,
+    };
+    let first = Reply::Rows {
+        table: 0,
+        rows: vec![in alloc; (0, &ann), (1, &bob)]?,
+        more: true,
+    };
     let shown = Reply::Shown {
         table: 0,
         id: 0,
@@ -366,6 +524,41 @@ fn replies_have_their_texts(rt: HostRuntime) -> Result<(), Fail> {
         "{\"error\":\"unique\",\"id\":0,\"index\":\"by_owner\",\"lost\":true,\"ok\":false}",
     );
     assert_text(&rt, alloc, &catalog, &Reply::Done, "{\"ok\":true}");
+    assert_text(
+        &rt,
+        alloc,
+        &catalog,
+        &Reply::Counted(3),
+        "{\"count\":3,\"ok\":true}",
+    );
+    assert_text(
+        &rt,
+        alloc,
+        &catalog,
+        &Reply::Ranked(1),
+        "{\"ok\":true,\"rank\":1}",
+    );
+    assert_text(
+        &rt,
+        alloc,
+        &catalog,
+        &Reply::Sized(0),
+        "{\"ok\":true,\"size\":0}",
+    );
+    assert_text(
+        &rt,
+        alloc,
+        &catalog,
+        &none,
+        "{\"more\":false,\"ok\":true,\"rows\":[]}",
+    );
+    assert_text(
+        &rt,
+        alloc,
+        &catalog,
+        &first,
+        "{\"more\":true,\"ok\":true,\"rows\":[{\"balance\":50,\"id\":0,\"owner\":\"ann\",\"vip\":false},{\"balance\":7,\"id\":1,\"owner\":\"bob\",\"vip\":true}]}",
+    );
     assert_text(
         &rt,
         alloc,

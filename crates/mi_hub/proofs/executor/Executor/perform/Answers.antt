@@ -1,0 +1,37 @@
+use Rattle.std.proofs.Common.{◌≡◌, ◌≢◌, inl, inr, sym, subst}
+use Rattle.std.specs.Prelude.{List, ℕ}
+use Rattle.mi_value.specs.declared.value.Value.{Value}
+use Rattle.mi_protocol.specs.Text.{text_bytes}
+use Rattle.mi_protocol.specs.Replies.{Said}
+use Rattle.mi_protocol.specs.declared.binding.Command.{Command}
+use Rattle.mi_protocol.specs.declared.binding.Command.TheVariants as command
+use Rattle.mi_hub.specs.Holder.{Held}
+use Rattle.mi_hub.specs.Performed.{performed}
+use Rattle.mi_hub.specs.Answer.{GivenOrMemory}
+use Rattle.mi_hub.proofs.executor.Executor.perform.Goals as goal
+
+-- what may lack memory may, where the command isn't an undo
+may_lack : {A : Type 0} (a : Said × Held) (s : Held) (reply : List ℕ) (t : Held) → A → GivenOrMemory (Unit {0}) a s reply t → GivenOrMemory A a s reply t
+may_lack a s reply t lack h = elim h [ inl p ↦ inl p | inr p ↦ inr (lack, p.1) ]
+
+lower_isnt : (table index : ℕ) (key : List Value) → command.LowerRank table index key ≢ command.Undo
+lower_isnt table index key h = cc
+
+upper_isnt : (table index : ℕ) (key : List Value) → command.UpperRank table index key ≢ command.Undo
+upper_isnt table index key h = cc
+
+pub returns-in-LowerRank : goal.returns-in-LowerRank
+returns-in-LowerRank g c =
+    let asks = λ (key : List Value). performed c.args.self.now c.args.conn (command.LowerRank c.in-LowerRank.table c.in-LowerRank.index key) in
+    subst (λ k. GivenOrMemory (k ≢ command.Undo) (performed c.args.self.now c.args.conn k) c.args.self.now (text_bytes c.lower_rank.result) c.args.self.now)
+    (sym c.in-LowerRank.is)
+    (may_lack (asks c.in-LowerRank.key) c.args.self.now (text_bytes c.lower_rank.result) c.args.self.now (lower_isnt c.in-LowerRank.table c.in-LowerRank.index c.in-LowerRank.key)
+    (subst (λ key. GivenOrMemory (Unit {0}) (asks key) c.args.self.now (text_bytes c.lower_rank.result) c.args.self.now) c.values-in-LowerRank.ensures c.lower_rank.ensures))
+
+pub returns-in-UpperRank : goal.returns-in-UpperRank
+returns-in-UpperRank g c =
+    let asks = λ (key : List Value). performed c.args.self.now c.args.conn (command.UpperRank c.in-UpperRank.table c.in-UpperRank.index key) in
+    subst (λ k. GivenOrMemory (k ≢ command.Undo) (performed c.args.self.now c.args.conn k) c.args.self.now (text_bytes c.upper_rank.result) c.args.self.now)
+    (sym c.in-UpperRank.is)
+    (may_lack (asks c.in-UpperRank.key) c.args.self.now (text_bytes c.upper_rank.result) c.args.self.now (upper_isnt c.in-UpperRank.table c.in-UpperRank.index c.in-UpperRank.key)
+    (subst (λ key. GivenOrMemory (Unit {0}) (asks key) c.args.self.now (text_bytes c.upper_rank.result) c.args.self.now) c.values-in-UpperRank.ensures c.upper_rank.ensures))

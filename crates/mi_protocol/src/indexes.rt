@@ -1,0 +1,120 @@
+//! Indexes by name, of the kinds that commands are for, and keys of them.
+ghost use Rattle.std.specs.Prelude.{◌≡◌, ◌<◌, length, IfOk};
+ghost use Rattle.std.specs.Option.{ok_or};
+ghost use Rattle.mi_schema.specs.Shape.{find_index};
+ghost use Rattle.mi_protocol.specs.Answers.{IsAnswer};
+ghost use Rattle.mi_protocol.specs.Binding as binding;
+ghost use Rattle.mi_protocol.specs.Binding.{index_number};
+ghost use Rattle.mi_schema.specs.Kinds as kinds;
+
+use crate::array::Array;
+use crate::keys::bind_key;
+use mi_schema::{IndexKind, Schema};
+use mi_value::{Key, Refusal, Text};
+use std::alloc::Global;
+
+/// The number of the index that is named. Refusal: `Index`.
+fn find_index(name: &Text, schema: &Schema) -> Result<usize, Refusal>
+    ensures number { result ≡ ok_or (find_index schema.now name.now) Refusal.Index }
+    ensures there { IfOk result (λ i. i < length schema.now.indexes) }
+{
+    schema.find_index(name.as_str()).ok_or(Refusal::Index)
+}
+
+/// The number of the sequenced index that is named. Refusals, in this order: `Index`, `Kind`.
+pub(crate) fn sequenced_index(name: &Text, schema: &Schema) -> Result<usize, Refusal>
+    ensures { result ≡ index_number kinds.is_sequenced schema.now name.now }
+{
+    let index = find_index(name, schema)?;
+    match schema.kind(index) {
+        IndexKind::Sequenced => Ok(index),
+        _ => Err(Refusal::Kind),
+    }
+}
+
+/// The number of the index with keys that is named. Refusals, in this order: `Index`, `Kind`.
+fn keyed_index(name: &Text, schema: &Schema) -> Result<usize, Refusal>
+    ensures number { result ≡ index_number kinds.has_keys schema.now name.now }
+    ensures there { IfOk result (λ i. i < length schema.now.indexes) }
+{
+    let index = find_index(name, schema)?;
+    match schema.kind(index) {
+        IndexKind::Sequenced => Err(Refusal::Kind),
+        IndexKind::Ordered | IndexKind::Ranked | IndexKind::Hashed => Ok(index),
+    }
+}
+
+/// The number of the ordered or ranked index that is named. Refusals, in this order: `Index`, `Kind`.
+pub(crate) fn sorted_index(name: &Text, schema: &Schema) -> Result<usize, Refusal>
+    ensures number { result ≡ index_number kinds.is_sorted schema.now name.now }
+    ensures there { IfOk result (λ i. i < length schema.now.indexes) }
+{
+    let index = find_index(name, schema)?;
+    match schema.kind(index) {
+        IndexKind::Ordered | IndexKind::Ranked => Ok(index),
+        IndexKind::Sequenced | IndexKind::Hashed => Err(Refusal::Kind),
+    }
+}
+
+/// The number of the ranked index that is named. Refusals, in this order: `Index`, `Kind`.
+pub(crate) fn ranked_index(name: &Text, schema: &Schema) -> Result<usize, Refusal>
+    ensures number { result ≡ index_number kinds.is_ranked schema.now name.now }
+    ensures there { IfOk result (λ i. i < length schema.now.indexes) }
+{
+    let index = find_index(name, schema)?;
+    match schema.kind(index) {
+        IndexKind::Ranked => Ok(index),
+        IndexKind::Sequenced | IndexKind::Ordered | IndexKind::Hashed => Err(Refusal::Kind),
+    }
+}
+
+/// Whether only whole keys are looked up in an index of this kind.
+fn wants_whole(kind: IndexKind) -> bool
+    ensures { result ≡ kinds.wants_whole kind }
+{
+    match kind {
+        IndexKind::Ordered | IndexKind::Ranked => false,
+        IndexKind::Hashed | IndexKind::Sequenced => true,
+    }
+}
+
+/// An index with keys and a whole key of it. Refusals, in this order: `Index`, `Kind`, `Key`, and `Memory`.
+pub(crate) fn whole_key(
+    alloc: Global,
+    index: &Text,
+    key: Array,
+    schema: &Schema,
+) -> Result<(usize, Key), Refusal>
+    ensures { IsAnswer result (binding.whole_key schema.now index.now key) }
+{
+    let index = keyed_index(index, schema)?;
+    Ok((index, bind_key(alloc, key, schema, index, true)?))
+}
+
+/// An index with keys and a key of it, of which a sorted index takes the first values too. Refusals, in this order: `Index`,
+/// `Kind`, `Key`, and `Memory`.
+pub(crate) fn key_or_prefix(
+    alloc: Global,
+    index: &Text,
+    key: Array,
+    schema: &Schema,
+) -> Result<(usize, Key), Refusal>
+    ensures { IsAnswer result (binding.key_or_prefix schema.now index.now key) }
+{
+    let index = keyed_index(index, schema)?;
+    let whole = wants_whole(schema.kind(index));
+    Ok((index, bind_key(alloc, key, schema, index, whole)?))
+}
+
+/// A ranked index and a key of it or the first values of one. Refusals, in this order: `Index`, `Kind`, `Key`, and `Memory`.
+pub(crate) fn ranked_key(
+    alloc: Global,
+    index: &Text,
+    key: Array,
+    schema: &Schema,
+) -> Result<(usize, Key), Refusal>
+    ensures { IsAnswer result (binding.ranked_key schema.now index.now key) }
+{
+    let index = ranked_index(index, schema)?;
+    Ok((index, bind_key(alloc, key, schema, index, false)?))
+}
