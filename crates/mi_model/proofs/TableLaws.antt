@@ -111,7 +111,7 @@ all_push : (P : Row → Type 0) (rows : List Row) (r : Row) → AllByRecursion P
 all_push P [] r all p = (p, tt)
 all_push P (q ∷ rows) r all p = (all.0, all_push P rows r all.1 p)
 
-rise_push : (next : ℕ) (rows : List Row) (r : List Value) → Rise next rows → Rise (next + 1) (rows ++ (next, r) ∷ [])
+pub rise_push : (next : ℕ) (rows : List Row) (r : List Value) → Rise next rows → Rise (next + 1) (rows ++ (next, r) ∷ [])
 rise_push next [] r up = (omega arith, tt, tt)
 rise_push next (q ∷ rows) r up =
     (let l : q.0 < next = up.0 in omega arith, all_push (λ p. q.0 < p.0) rows (next, r) up.1 up.0, rise_push next rows r up.2)
@@ -121,7 +121,7 @@ all_filter P p [] all = tt
 all_filter P p (r ∷ rows) all =
     elim (p r) as (λ b. AllByRecursion P (cond b (r ∷ filter p rows) (filter p rows))) [ true ↦ (all.0, all_filter P p rows all.1) | false ↦ all_filter P p rows all.1 ]
 
-rise_filter : (next : ℕ) (p : Row → Bool) (rows : List Row) → Rise next rows → Rise next (filter p rows)
+pub rise_filter : (next : ℕ) (p : Row → Bool) (rows : List Row) → Rise next rows → Rise next (filter p rows)
 rise_filter next p [] up = tt
 rise_filter next p (r ∷ rows) up =
     elim (p r) as (λ b. Rise next (cond b (r ∷ filter p rows) (filter p rows))) [
@@ -137,7 +137,7 @@ all_set_value n e r (q ∷ rows) all =
       | false ↦ (all.0, all_set_value n e r rows all.1)
     ]
 
-rise_set_value : (next e : ℕ) (r : List Value) (rows : List Row) → Rise next rows → Rise next (set_value (λ k. k == e) rows r)
+pub rise_set_value : (next e : ℕ) (r : List Value) (rows : List Row) → Rise next rows → Rise next (set_value (λ k. k == e) rows r)
 rise_set_value next e r [] up = tt
 rise_set_value next e r (q ∷ rows) up =
     elim (q.0 == e) as (λ b. Rise next (cond b ((q.0, r) ∷ rows) (q ∷ set_value (λ k. k == e) rows r))) [

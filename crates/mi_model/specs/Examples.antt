@@ -235,6 +235,7 @@ RowsKeptForASession = (kept_after (Erase 0 2) (db (four ++ Start ∷ Erase 0 1 �
 abbrev pub NeighboursOfOneKey : Type 0
 NeighboursOfOneKey = (first_of accounts (table vips) 3 (flag true) ≡ Some 0) × (next_of accounts (table vips) 3 0 ≡ Some 1) × (next_of accounts (table vips) 3 1 ≡ None)
     × (after accounts (table vips) 2 1 ≡ Some 2) × (before accounts (table vips) 2 0 ≡ None) × (last accounts (table vips) 5 ≡ Some 2)
+    × (last accounts (table (vips ++ Erase 0 0 ∷ [])) 5 ≡ Some 2)
 
 -- one id in two tables is two rows
 abbrev pub from_zero : CatalogShape → CatalogShape

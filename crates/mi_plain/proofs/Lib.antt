@@ -5,3 +5,4 @@ pub mod PassLemmas
 pub mod CutLemmas
 pub mod ShownLemmas
 pub mod ScanLemmas
+pub mod SearchLemmas

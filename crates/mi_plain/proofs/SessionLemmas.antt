@@ -30,9 +30,19 @@ pub undo_leaves : (d : Database) → (undo_step d).1 ≡ undone d
 undo_leaves d = undone_of d.catalog d.tables d.old d.revision
 
 -- without the copies of the sessions that end, the others stay
-pub commit_leaves : (x n : ℕ) (c : CatalogShape) (ts : List Table) (old : List (List Table)) (r : ℕ) → length old ≤ r → n ≡ min (x - (r - length old)) (length old)
+commit_leaves : (x n : ℕ) (c : CatalogShape) (ts : List Table) (old : List (List Table)) (r : ℕ) → length old ≤ r → n ≡ min (x - (r - length old)) (length old)
     → db c ts (reverse (drop n old)) r ≡ committed x (db c ts (reverse old) r)
 commit_leaves x n c ts old r le is =
     let long : length (reverse old) ≡ length old = length-reverse old in
     let left : length old - n ≡ length (reverse old) - min (length (reverse old)) (x + length (reverse old) - r) = omega (arith, long, is, le) in
     ap (λ o. db c ts o r) (reverse_drop n old (omega (arith, is)) ∙ ap (λ k. take k (reverse old)) left)
+
+-- the same, as `commit` comes to it
+pub commit_left : (x n opened : ℕ) (c : CatalogShape) (ts : List Table) (old left : List (List Table)) (r : ℕ) → length old ≤ r → left ≡ drop n old → n ≡ min (x - (r - opened)) opened → opened ≡ length old
+    → db c ts (reverse left) r ≡ committed x (db c ts (reverse old) r)
+commit_left x n opened c ts old left r le is ending all =
+    ap (λ o. db c ts (reverse o) r) is ∙ commit_leaves x n c ts old r le (ending ∙ ap (λ k. min (x - (r - k)) k) all)
+
+-- and how many are left
+pub fewer_left : (n : ℕ) (old left : List (List Table)) (r : ℕ) → length old ≤ r → left ≡ drop n old → length left ≤ r
+fewer_left n old left r le is = let few : length left ≡ length old - n = ap length is ∙ length-drop n old in omega (arith, few, le)

@@ -1,2 +1,3 @@
 pub mod IdPart
 pub mod Cut
+pub mod Rows

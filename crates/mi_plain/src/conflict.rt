@@ -1,9 +1,11 @@
 //! Rows by their ids, and which of them a unique index refuses a record for. It takes no memory.
-ghost use Rattle.std.specs.Prelude.{◌≡◌, ◌==◌, not, drop};
+ghost use Rattle.std.specs.Prelude.{◌≡◌, ◌==◌, not, drop, IfOk, IfErr};
 ghost use Rattle.std.specs.List.{filter, position};
 ghost use Rattle.std.specs.Option.{option_copied};
 ghost use Rattle.std.specs.Map.{lookup, set_value};
+ghost use Rattle.std.specs.declared.option.Option.TheVariants.{None};
 ghost use Rattle.mi_model.specs.Conflict as meaning;
+ghost use Rattle.mi_plain.specs.Rows.{AreInOrder, IsRowOf};
 
 use mi_schema::Index;
 use mi_value::{KeyPart, Record, same_key};
@@ -11,16 +13,24 @@ use mi_value::{KeyPart, Record, same_key};
 /// A row: its id and its record.
 pub(crate) type Row = (u64, Record);
 
-/// The record of an id.
+/// The place of the row of an id among rows in the order of their ids, or where it would go.
+fn search(rows: &[Row], id: u64) -> Result<usize, usize>
+    requires { AreInOrder rows.now }
+    ensures found { IfOk result (IsRowOf rows.now id) }
+    ensures absent { IfErr result (λ i. lookup (λ a. a == id) rows.now ≡ None) }
+{
+    rows.binary_search_by_key(&id, |row| row.0)
+}
+
+/// The record of an id, among rows in the order of their ids.
 pub(crate) fn find_row(rows: &[Row], id: u64) -> Option<&Record>
+    requires { AreInOrder rows.now }
     ensures { option_copied result ≡ lookup (λ a. a == id) rows.now }
 {
-    for (a, row) in rows {
-        if *a == id {
-            return Some(row);
-        }
+    match search(rows, id) {
+        Ok(i) => Some(&rows[i].1),
+        Err(_) => None,
     }
-    None
 }
 
 /// The place of the row of an id.

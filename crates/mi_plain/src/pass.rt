@@ -43,8 +43,7 @@ impl PlainTable {
     ghost use Rattle.mi_model.specs.View as shows;
     ghost use Rattle.mi_model.specs.View.{sorted};
     ghost use Rattle.mi_model.specs.Lookup.{rank_in};
-    ghost use Rattle.mi_plain.specs.Cut.{last_in};
-    ghost use Rattle.mi_plain.specs.Cut.{order_in, is_before as stands_before, StandsIn};
+    ghost use Rattle.mi_plain.specs.Cut.{order_in, is_before as stands_before, StandsIn, last_in};
 
     /// A key, or the first values of one, against the key of an id.
     pub(crate) fn compare_to_id(&self, index: &Index, key: &[Value], id: u64) -> Ordering

@@ -22,13 +22,13 @@ pub(crate) struct PlainTable {
 impl Model for PlainTable {
     ghost use Rattle.std.specs.Prelude.{◌≤◌};
     ghost use Rattle.mi_value.specs.declared.limits.TheConstants.{LAST_COUNT};
-    ghost use Rattle.mi_model.specs.Table.{Table};
+    ghost use Rattle.mi_model.specs.Table.{Table, Rise};
 
     ghost Value = { Table };
 
     ghost view = { λ a. record { rows = a.rows.items; lists = a.lists.items; next = a.next; arrivals = a.arrivals } };
 
-    ghost invariant = { λ a. (a.next ≤ LAST_COUNT) × (a.arrivals ≤ LAST_COUNT) };
+    ghost invariant = { λ a. (a.next ≤ LAST_COUNT) × (a.arrivals ≤ LAST_COUNT) × Rise a.next a.rows.items };
 }
 
 ghost use Rattle.std.specs.Prelude.{◌≡◌, IfOk};

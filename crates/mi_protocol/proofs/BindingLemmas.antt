@@ -30,7 +30,7 @@ use Rattle.mi_protocol.specs.Answers.{IsAnswer}
 use Rattle.mi_protocol.specs.Edits.{addition, edit_of, with_edit, edits_from, bound_edits, is_int, fits_edit}
 use Rattle.mi_protocol.specs.Json.{has_only, option_map₂}
 use Rattle.mi_protocol.specs.Keys.{plain_values, if_key, bound_key, bound_lower, bound_upper, FitsLower, FitsUpper}
-use Rattle.mi_schema.specs.Kinds.{has_keys, is_sequenced, is_sorted, is_ranked, wants_whole}
+use Rattle.mi_schema.specs.Kinds.{has_keys, is_sequenced, is_sorted, is_ranked, is_hashed}
 use Rattle.mi_protocol.specs.Rows.{short_text, fitting, values_of, bound_row}
 use Rattle.mi_protocol.specs.Binding.{and_then, table_number, of_kind, index_number, bound_place, bound_insert, bound_replace, bound_modify, named_key, bound_ends, bound_range, bound_relocate, bound_command, FitsCatalog}
 use Rattle.mi_protocol.specs.declared.request.End.{End}
@@ -328,9 +328,9 @@ bound-fits c request.UndoAll h = tt
 bound-fits c request.Push h = tt
 bound-fits c request.Revision h = tt
 bound-fits c (request.Get table id) h = over-table c table _ h (λ n there. there)
-bound-fits c (request.Find table index key) h = over-table c table _ h (λ n there. by_key c n has_keys wants_whole index key _ (λ k fits. (there, (fits.0.0, fits.0.1, fits.1))))
+bound-fits c (request.Find table index key) h = over-table c table _ h (λ n there. by_key c n has_keys is_hashed index key _ (λ k fits. (there, (fits.0.0, fits.0.1, fits.1))))
 bound-fits c (request.Nth table index n) h = over-table c table _ h (λ t there. by_index c t is_ranked index _ (λ x at. (there, ranked (index_at (schema_at c t) x).kind at.1)))
-bound-fits c (request.Count table index key) h = over-table c table _ h (λ n there. by_key c n has_keys wants_whole index key _ (λ k fits. (there, (fits.0.0, fits.0.1, fits.1))))
+bound-fits c (request.Count table index key) h = over-table c table _ h (λ n there. by_key c n has_keys is_hashed index key _ (λ k fits. (there, (fits.0.0, fits.0.1, fits.1))))
 bound-fits c (request.Range table index lower upper reverse limit) h = over-table c table _ h (λ n there. range-fits c n index lower upper reverse limit there)
 bound-fits c (request.List table index after limit) h = over-table c table _ h (λ n there. by_index c n is_sequenced index _ (λ x at. (there, sequenced (index_at (schema_at c n) x).kind at.1)))
 bound-fits c (request.Rank table index id) h = over-table c table _ h (λ n there. by_index c n is_ranked index _ (λ x at. (there, ranked (index_at (schema_at c n) x).kind at.1)))

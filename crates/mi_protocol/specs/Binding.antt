@@ -14,7 +14,7 @@ use Rattle.mi_schema.specs.Fits.{fits_record, fits_key}
 use Rattle.serde_json.specs.Data.{Items, Members}
 use Rattle.mi_protocol.specs.Edits.{bound_edits, fits_edit}
 use Rattle.mi_protocol.specs.Keys.{bound_key, bound_lower, bound_upper, FitsLower, FitsUpper}
-use Rattle.mi_schema.specs.Kinds.{has_keys, is_sequenced, is_sorted, is_ranked, wants_whole}
+use Rattle.mi_schema.specs.Kinds.{has_keys, is_sequenced, is_sorted, is_ranked, is_hashed}
 use Rattle.mi_protocol.specs.Rows.{bound_row}
 use Rattle.mi_protocol.specs.declared.request.End.{End}
 use Rattle.mi_protocol.specs.declared.request.Place.{Place}
@@ -67,7 +67,7 @@ whole_key s index key = named_key has_keys (λ kind. true) s index key
 
 -- a key, or in a sorted index the first values of one
 abbrev pub key_or_prefix : Shape → List ℕ → Items → Result (ℕ × List Value) Refusal
-key_or_prefix s index key = named_key has_keys wants_whole s index key
+key_or_prefix s index key = named_key has_keys is_hashed s index key
 
 -- a key of a ranked index, or the first values of one
 abbrev pub ranked_key : Shape → List ℕ → Items → Result (ℕ × List Value) Refusal
@@ -135,9 +135,9 @@ FitsCatalog c command.UndoAll = Unit {0}
 FitsCatalog c command.Push = Unit {0}
 FitsCatalog c command.Revision = Unit {0}
 FitsCatalog c (command.Get n id) = n < length c.tables
-FitsCatalog c (command.Find n x key) = (n < length c.tables) × FitsIndex (schema_at c n) x (wants_whole (index_at (schema_at c n) x).kind) key
+FitsCatalog c (command.Find n x key) = (n < length c.tables) × FitsIndex (schema_at c n) x (is_hashed (index_at (schema_at c n) x).kind) key
 FitsCatalog c (command.Nth t x n) = (t < length c.tables) × ((index_at (schema_at c t) x).kind ≡ Ranked)
-FitsCatalog c (command.Count n x key) = (n < length c.tables) × FitsIndex (schema_at c n) x (wants_whole (index_at (schema_at c n) x).kind) key
+FitsCatalog c (command.Count n x key) = (n < length c.tables) × FitsIndex (schema_at c n) x (is_hashed (index_at (schema_at c n) x).kind) key
 FitsCatalog c (command.Range n x lower upper reverse limit) =
     (n < length c.tables) × IsTrue (is_sorted (index_at (schema_at c n) x).kind) × FitsLower (schema_at c n) x lower × FitsUpper (schema_at c n) x upper
 FitsCatalog c (command.List n x after limit) = (n < length c.tables) × ((index_at (schema_at c n) x).kind ≡ Sequenced)

@@ -2,17 +2,17 @@
 ghost use Rattle.std.specs.Prelude.{◌≡◌, ◌<◌, length, Ok, IfOk, IfErr};
 ghost use Rattle.mi_protocol.specs.Answers.{IsAnswer};
 ghost use Rattle.mi_protocol.specs.Binding as binding;
-ghost use Rattle.mi_protocol.specs.Binding.{bound_command, bound_insert, bound_place, bound_ends, FitsCatalog};
+ghost use Rattle.mi_protocol.specs.Binding.{bound_command, bound_insert, FitsCatalog};
 ghost use Rattle.mi_protocol.specs.Replies.{NamesNoIndex};
 ghost use Rattle.mi_protocol.specs.declared.request.Request.TheVariants as request;
 
 use crate::edits::{Edits, bind_edits};
 use crate::indexes::{
-    key_or_prefix, ranked_index, ranked_key, sequenced_index, sorted_index, whole_key,
+    bind_place, key_or_prefix, ranked_index, ranked_key, sequenced_index, sorted_index, whole_key,
 };
-use crate::keys::{bind_lower, bind_upper};
+use crate::keys::bind_bounds;
 use crate::object::Object;
-use crate::request::{End, Place, Request};
+use crate::request::{Place, Request};
 use crate::row::bind_row;
 use mi_schema::{Catalog, Schema};
 use mi_value::{Key, Lower, Record, Refusal, Text, Upper};
@@ -131,17 +131,6 @@ fn table_number(table: Option<Text>, catalog: &Catalog) -> Result<usize, Refusal
     }
 }
 
-/// The sequenced index and the id that a place names.
-fn bind_place(place: Option<Place>, schema: &Schema) -> Result<Option<(usize, u64)>, Refusal>
-    ensures { result ≡ bound_place schema.now place }
-{
-    let Some(place) = place else {
-        return Ok(None);
-    };
-    let index = sequenced_index(&place.index, schema)?;
-    Ok(Some((index, place.id)))
-}
-
 fn bind_insert(
     alloc: Global,
     table: usize,
@@ -154,21 +143,6 @@ fn bind_insert(
     let before = bind_place(before, schema)?;
     let row = bind_row(alloc, row, schema)?;
     Ok(Command::Insert { table, row, before })
-}
-
-fn bind_range(
-    alloc: Global,
-    index: usize,
-    lower: End,
-    upper: End,
-    schema: &Schema,
-) -> Result<(Lower, Upper), Refusal>
-    requires { index < length schema.now.indexes }
-    ensures { IsAnswer result (bound_ends schema.now index lower upper) }
-{
-    let lower = bind_lower(alloc, lower, schema, index)?;
-    let upper = bind_upper(alloc, upper, schema, index)?;
-    Ok((lower, upper))
 }
 
 /// The command that a request is.
@@ -265,7 +239,7 @@ fn command_of(alloc: Global, request: Request, catalog: &Catalog) -> Result<Comm
             let table = table_number(table, catalog)?;
             let schema = catalog.table(table);
             let index = sorted_index(&index, schema)?;
-            let (lower, upper) = bind_range(alloc, index, lower, upper, schema)?;
+            let (lower, upper) = bind_bounds(alloc, index, lower, upper, schema)?;
             Ok(Command::Range {
                 table,
                 index,

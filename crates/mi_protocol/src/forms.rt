@@ -5,11 +5,12 @@ ghost use Rattle.mi_protocol.specs.Lines as lines;
 ghost use Rattle.mi_protocol.specs.declared.command.CommandName.TheVariants as name;
 
 use crate::command::CommandName;
-use crate::members::{
-    IndexMembers, PageMembers, RowMembers, array, flag, lower, natural, natural_if_there,
-    natural_or_absent, needed_object, object_or_empty, page, place, text, text_if_there, upper,
-};
+use crate::members::{IndexMembers, PageMembers, RowMembers};
 use crate::object::Object;
+use crate::reading::{
+    array, flag, lower, natural, natural_if_there, natural_or_absent, needed_object,
+    object_or_empty, page, place, text, text_if_there, upper,
+};
 use crate::request::Request;
 use std::alloc::Global;
 

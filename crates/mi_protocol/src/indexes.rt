@@ -4,11 +4,12 @@ ghost use Rattle.std.specs.Option.{ok_or};
 ghost use Rattle.mi_schema.specs.Shape.{find_index};
 ghost use Rattle.mi_protocol.specs.Answers.{IsAnswer};
 ghost use Rattle.mi_protocol.specs.Binding as binding;
-ghost use Rattle.mi_protocol.specs.Binding.{index_number};
+ghost use Rattle.mi_protocol.specs.Binding.{index_number, bound_place};
 ghost use Rattle.mi_schema.specs.Kinds as kinds;
 
 use crate::array::Array;
 use crate::keys::bind_key;
+use crate::request::Place;
 use mi_schema::{IndexKind, Schema};
 use mi_value::{Key, Refusal, Text};
 use std::alloc::Global;
@@ -68,13 +69,13 @@ pub(crate) fn ranked_index(name: &Text, schema: &Schema) -> Result<usize, Refusa
     }
 }
 
-/// Whether only whole keys are looked up in an index of this kind.
-fn wants_whole(kind: IndexKind) -> bool
-    ensures { result ≡ kinds.wants_whole kind }
+/// Whether an index of this kind is hashed, so that only whole keys are looked up in it.
+fn is_hashed(kind: IndexKind) -> bool
+    ensures { result ≡ kinds.is_hashed kind }
 {
     match kind {
-        IndexKind::Ordered | IndexKind::Ranked => false,
-        IndexKind::Hashed | IndexKind::Sequenced => true,
+        IndexKind::Hashed => true,
+        IndexKind::Ordered | IndexKind::Ranked | IndexKind::Sequenced => false,
     }
 }
 
@@ -102,7 +103,7 @@ pub(crate) fn key_or_prefix(
     ensures { IsAnswer result (binding.key_or_prefix schema.now index.now key) }
 {
     let index = keyed_index(index, schema)?;
-    let whole = wants_whole(schema.kind(index));
+    let whole = is_hashed(schema.kind(index));
     Ok((index, bind_key(alloc, key, schema, index, whole)?))
 }
 
@@ -117,4 +118,18 @@ pub(crate) fn ranked_key(
 {
     let index = ranked_index(index, schema)?;
     Ok((index, bind_key(alloc, key, schema, index, false)?))
+}
+
+/// The sequenced index and the id that a place names.
+pub(crate) fn bind_place(
+    place: Option<Place>,
+    schema: &Schema,
+) -> Result<Option<(usize, u64)>, Refusal>
+    ensures { result ≡ bound_place schema.now place }
+{
+    let Some(place) = place else {
+        return Ok(None);
+    };
+    let index = sequenced_index(&place.index, schema)?;
+    Ok(Some((index, place.id)))
 }

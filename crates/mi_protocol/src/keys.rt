@@ -3,6 +3,7 @@ ghost use Rattle.std.specs.Prelude.{◌≡◌, ◌<◌, length, IfOk};
 ghost use Rattle.std.specs.Option.{ok_or};
 ghost use Rattle.serde_json.specs.View.{view, items_view};
 ghost use Rattle.mi_protocol.specs.Answers.{IsAnswer};
+ghost use Rattle.mi_protocol.specs.Binding.{bound_ends};
 ghost use Rattle.mi_protocol.specs.Keys as keys;
 ghost use Rattle.mi_protocol.specs.Keys.{plain_values, bound_key, bound_lower, bound_upper};
 
@@ -60,12 +61,7 @@ pub(crate) fn bind_key(
 }
 
 /// The lower bound of a range in index i. Refusals: `Key` and `Memory`.
-pub(crate) fn bind_lower(
-    alloc: Global,
-    end: End,
-    schema: &Schema,
-    i: usize,
-) -> Result<Lower, Refusal>
+fn bind_lower(alloc: Global, end: End, schema: &Schema, i: usize) -> Result<Lower, Refusal>
     requires { i < length schema.now.indexes }
     ensures { IsAnswer result (ok_or (bound_lower schema.now i end) Refusal.Key) }
 {
@@ -77,12 +73,7 @@ pub(crate) fn bind_lower(
 }
 
 /// The upper bound of a range in index i. Refusals: `Key` and `Memory`.
-pub(crate) fn bind_upper(
-    alloc: Global,
-    end: End,
-    schema: &Schema,
-    i: usize,
-) -> Result<Upper, Refusal>
+fn bind_upper(alloc: Global, end: End, schema: &Schema, i: usize) -> Result<Upper, Refusal>
     requires { i < length schema.now.indexes }
     ensures { IsAnswer result (ok_or (bound_upper schema.now i end) Refusal.Key) }
 {
@@ -91,4 +82,20 @@ pub(crate) fn bind_upper(
         End::With(key) => Ok(Upper::UpTo(bind_key(alloc, key, schema, i, false)?)),
         End::Without(key) => Ok(Upper::Below(bind_key(alloc, key, schema, i, false)?)),
     }
+}
+
+/// The bounds of a range in index i, the lower one first. Refusals: `Key` and `Memory`.
+pub(crate) fn bind_bounds(
+    alloc: Global,
+    i: usize,
+    lower: End,
+    upper: End,
+    schema: &Schema,
+) -> Result<(Lower, Upper), Refusal>
+    requires { i < length schema.now.indexes }
+    ensures { IsAnswer result (bound_ends schema.now i lower upper) }
+{
+    let lower = bind_lower(alloc, lower, schema, i)?;
+    let upper = bind_upper(alloc, upper, schema, i)?;
+    Ok((lower, upper))
 }

@@ -12,6 +12,7 @@ mod keys;
 mod laws;
 mod members;
 mod object;
+mod reading;
 mod reply;
 mod request;
 mod row;

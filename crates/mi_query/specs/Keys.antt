@@ -5,13 +5,13 @@ use Rattle.mi_value.specs.declared.bound.Lower.{Lower}
 use Rattle.mi_value.specs.declared.bound.Lower.TheVariants as lower
 use Rattle.mi_value.specs.declared.bound.Upper.{Upper}
 use Rattle.mi_value.specs.declared.bound.Upper.TheVariants as upper
-use Rattle.mi_schema.specs.Kinds.{wants_whole}
+use Rattle.mi_schema.specs.Kinds.{is_hashed}
 use Rattle.mi_schema.specs.Shape.{Shape, index_at}
 use Rattle.mi_schema.specs.Fits.{fits_key}
 
 -- a hashed index is asked for a whole key, another also for the first values of one
 abbrev pub fits_look_up : Shape → ℕ → List Value → Bool
-fits_look_up s x key = fits_key s.columns (index_at s x).parts (wants_whole (index_at s x).kind) key
+fits_look_up s x key = fits_key s.columns (index_at s x).parts (is_hashed (index_at s x).kind) key
 
 -- the key of a bound, or the first values of one
 abbrev pub fits_lower : Shape → ℕ → Lower → Bool

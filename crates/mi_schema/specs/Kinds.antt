@@ -32,11 +32,11 @@ is_ranked Hashed = false
 is_ranked Sequenced = false
 
 -- an index in which only whole keys are looked up
-abbrev pub wants_whole : IndexKind → Bool
-wants_whole Ordered = false
-wants_whole Ranked = false
-wants_whole Hashed = true
-wants_whole Sequenced = true
+abbrev pub is_hashed : IndexKind → Bool
+is_hashed Ordered = false
+is_hashed Ranked = false
+is_hashed Hashed = true
+is_hashed Sequenced = false
 
 -- every index but a hashed one shows one list
 abbrev pub shows_one_list : IndexKind → Bool
