@@ -5,3 +5,7 @@ pub mod ByValue
 pub mod Stands
 pub mod Walks
 pub mod Whole
+pub mod Splits
+pub mod Moving
+pub mod Elsewhere
+pub mod Rosters

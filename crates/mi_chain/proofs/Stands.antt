@@ -23,7 +23,7 @@ Test = NodeRef → Bool
 eq_other : (a i j : ℕ) → (a == i) ≡ true → (i ≡ j → ⊥) → (a == j) ≡ false
 eq_other a i j e n = no_is_false (a == j) (λ t. n (grind arith))
 
-held_all : {T : Type 0} (s : ℕ) (m n : Pooled T) (ws rs : List NodeRef) → Keeps m n s ws → AreHeld m rs → AreHeld n rs
+pub held_all : {T : Type 0} (s : ℕ) (m n : Pooled T) (ws rs : List NodeRef) → Keeps m n s ws → AreHeld m rs → AreHeld n rs
 held_all s m n ws [] k h = tt
 held_all s m n ws (r ∷ rs) k h = (held_kept s m n ws r k h.0, held_all s m n ws rs k h.1)
 
@@ -43,7 +43,7 @@ linked_kept : {T : Type 0} (s : ℕ) (m n : Pooled T) (ws : List NodeRef) (b : O
 linked_kept s m n ws b [] f k o h = tt
 linked_kept s m n ws b (r ∷ rs) f k o h = (held_kept s m n ws r k h.0, k.other_nodes r.name s o.0 ∙ h.1, linked_kept s m n ws (Some r) rs f k o.1 h.2)
 
-chained_kept : {T : Type 0} (s : ℕ) (m n : Pooled T) (ws : List NodeRef) (gs : List (List NodeRef)) (f : Option NodeRef) → Keeps m n s ws → AreOut (members gs) ws → IsChained m s gs f → IsChained n s gs f
+pub chained_kept : {T : Type 0} (s : ℕ) (m n : Pooled T) (ws : List NodeRef) (gs : List (List NodeRef)) (f : Option NodeRef) → Keeps m n s ws → AreOut (members gs) ws → IsChained m s gs f → IsChained n s gs f
 chained_kept s m n ws [] f k o h = tt
 chained_kept s m n ws (g ∷ gs) f k o h = (linked_kept s m n ws (last_of None g) g (first_in gs f) k (are_out_xs g (members gs) ws o) h.0, chained_kept s m n ws gs f k (are_out_ys g (members gs) ws o) h.1)
 
@@ -63,7 +63,7 @@ module _ (R : NodeRef → NodeRef → Bool) (A : IsAlike R) (stamp hash : NodeRe
   after_insert q [] r ys h e = (e, h)
   after_insert q (x ∷ xs) r ys h e = (h.0, after_insert q xs r ys h.1 e)
 
-  rising_insert : (xs : List NodeRef) (r : NodeRef) (ys : List NodeRef) → IsRising R stamp (xs ++ ys) → AreBefore R stamp r xs → AreAfter R stamp r ys → IsRising R stamp (xs ++ r ∷ ys)
+  pub rising_insert : (xs : List NodeRef) (r : NodeRef) (ys : List NodeRef) → IsRising R stamp (xs ++ ys) → AreBefore R stamp r xs → AreAfter R stamp r ys → IsRising R stamp (xs ++ r ∷ ys)
   rising_insert [] r ys h b a = (a, h)
   rising_insert (x ∷ xs) r ys h b a = (after_insert x xs r ys h.0 (λ e. b.0 (A.symmetric x r e)), rising_insert xs r ys h.1 b.1 a)
 
@@ -71,7 +71,7 @@ module _ (R : NodeRef → NodeRef → Bool) (A : IsAlike R) (stamp hash : NodeRe
   after_remove q [] r ys h = h.1
   after_remove q (x ∷ xs) r ys h = (h.0, after_remove q xs r ys h.1)
 
-  rising_remove : (xs : List NodeRef) (r : NodeRef) (ys : List NodeRef) → IsRising R stamp (xs ++ r ∷ ys) → IsRising R stamp (xs ++ ys)
+  pub rising_remove : (xs : List NodeRef) (r : NodeRef) (ys : List NodeRef) → IsRising R stamp (xs ++ r ∷ ys) → IsRising R stamp (xs ++ ys)
   rising_remove [] r ys h = h.1
   rising_remove (x ∷ xs) r ys h = (after_remove x xs r ys h.0, rising_remove xs r ys h.1)
 

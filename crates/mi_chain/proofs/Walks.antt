@@ -63,12 +63,12 @@ last_in_push b [] g = refl
 last_in_push b (x ∷ xs) g = last_in_push (last_of b x) xs g
 
 -- a chain that has a first node has a first group, which begins with it
-begins : (ys : List (List NodeRef)) (y : NodeRef) → AreFull ys → first_in ys None ≡ Some y → (ws : List NodeRef) × (zs : List (List NodeRef)) × (ys ≡ (y ∷ ws) ∷ zs)
+pub begins : (ys : List (List NodeRef)) (y : NodeRef) → AreFull ys → first_in ys None ≡ Some y → (ws : List NodeRef) × (zs : List (List NodeRef)) × (ys ≡ (y ∷ ws) ∷ zs)
 begins [] y full e = absurd (cc)
 begins ([] ∷ zs) y full e = absurd (full.0 refl)
 begins ((z ∷ ws) ∷ zs) y full e = (ws, zs, ap (λ w. (w ∷ ws) ∷ zs) (some_is z y e))
 
-ends_none : (ys : List (List NodeRef)) → AreFull ys → first_in ys None ≡ None → ys ≡ []
+pub ends_none : (ys : List (List NodeRef)) → AreFull ys → first_in ys None ≡ None → ys ≡ []
 ends_none [] full e = refl
 ends_none ([] ∷ zs) full e = absurd (full.0 refl)
 ends_none ((z ∷ ws) ∷ zs) full e = absurd (cc)

@@ -25,11 +25,11 @@ pub held_or : {T : Type 0} (m : Pooled T) (o p : Option NodeRef) → IsHeldIf m 
 held_or m None p g h = h
 held_or m (Some x) p g h = g
 
-held_xs : {T : Type 0} (m : Pooled T) (xs ys : List NodeRef) → AreHeld m (xs ++ ys) → AreHeld m xs
+pub held_xs : {T : Type 0} (m : Pooled T) (xs ys : List NodeRef) → AreHeld m (xs ++ ys) → AreHeld m xs
 held_xs m [] ys h = tt
 held_xs m (x ∷ xs) ys h = (h.0, held_xs m xs ys h.1)
 
-held_ys : {T : Type 0} (m : Pooled T) (xs ys : List NodeRef) → AreHeld m (xs ++ ys) → AreHeld m ys
+pub held_ys : {T : Type 0} (m : Pooled T) (xs ys : List NodeRef) → AreHeld m (xs ++ ys) → AreHeld m ys
 held_ys m [] ys h = h
 held_ys m (x ∷ xs) ys h = held_ys m xs ys h.1
 

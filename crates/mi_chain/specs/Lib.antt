@@ -2,4 +2,7 @@ pub mod Chained
 pub mod Groups
 pub mod Heads
 pub mod Keying
+pub mod Moves
 pub mod Places
+pub mod Roster
+pub mod RosterLaws
