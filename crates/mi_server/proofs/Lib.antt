@@ -1,0 +1,5 @@
+mod Matched
+mod Numbers
+mod Texts
+mod Values
+pub mod TurnLemmas

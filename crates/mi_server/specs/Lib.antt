@@ -1,1 +1,4 @@
+pub mod Source
 pub mod Status
+pub mod Words
+pub mod Turns

@@ -1,26 +1,33 @@
 //! Why the program ends early: the line on standard error and the exit status.
 ghost use Rattle.std.specs.Prelude.{◌≡◌};
-ghost use Rattle.mi_server.specs.Status.{status_of};
+ghost use Rattle.mi_server.specs.Status.{status_of, failure_of};
 
 use mi_hub::ServeFault;
+use mi_schema::SchemaFault;
 use thiserror::Error;
 
-/// Why the program ends before all of its input is served.
+/// Why the program ends before its work is done. The text is its line on standard error.
 #[derive(Clone, Copy, Debug, PartialEq, Eq, Error)]
 pub enum Failure {
-    /// The built-in schema was refused memory.
-    #[error("schema: memory")]
-    SchemaMemory,
+    /// The schema's file can't be read, or has more than 65,536 bytes.
+    #[error("schema: file")]
+    SchemaFile,
+    /// The schema is refused, or was refused memory.
+    #[error("schema: {0}")]
+    Schema(SchemaFault),
     /// A read of the input failed.
     #[error("fault: read")]
     Read,
     /// A write of the output failed.
     #[error("fault: write")]
     Write,
+    /// The port can't be listened on.
+    #[error("fault: listen")]
+    Listen,
     /// A connection could not be accepted.
     #[error("fault: accept")]
     Accept,
-    /// The database, the connection or a buffer was refused memory.
+    /// The words, the database, the connection or a buffer was refused memory.
     #[error("fault: memory")]
     Memory,
     /// The input was not at its end after 2^40 reads.
@@ -34,10 +41,22 @@ impl Failure {
         ensures { result ≡ status_of self.now }
     {
         match self {
-            Failure::SchemaMemory => 3,
-            Failure::Read | Failure::Write | Failure::Accept | Failure::Memory | Failure::Turns =>
-                4,
+            Failure::SchemaFile | Failure::Schema(_) => 3,
+            Failure::Read
+            | Failure::Write
+            | Failure::Listen
+            | Failure::Accept
+            | Failure::Memory
+            | Failure::Turns => 4,
         }
+    }
+}
+
+impl From<SchemaFault> for Failure {
+    ghost from_gives = { λ fault e. e ≡ failure_of fault };
+
+    fn from(fault: SchemaFault) -> Failure {
+        Failure::Schema(fault)
     }
 }
 

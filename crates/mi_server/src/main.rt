@@ -1,16 +1,30 @@
-//! The program: it serves standard input, as connection 1, to standard output, over the built-in schema of accounts.
-//! It knows the order in which things are opened and the words of the program's faults, and nothing of commands.
+//! The program: it hands its arguments and the standard streams to `run`. The crate knows the program's options, where the
+//! schema comes from, the order in which things are opened and the words of its failures, and nothing of commands.
 #![tactic(auto)]
 
 mod failure;
+mod listener;
+mod program;
 mod serve;
+mod source;
 #[cfg(test)]
 mod tests;
+mod words;
 
-use serve::run;
+use program::{refuse_arguments, run};
 use std::process::ExitCode;
+use std::{env, io};
+
+/// The program's arguments, the first of which is its name.
+fn arguments(rt: &HostRuntime) -> io::Result<Vec<String>> {
+    let words = env::args(rt)?;
+    Ok(words.collect(rt.alloc())?)
+}
 
 fn main(rt: HostRuntime) -> ExitCode {
-    let status = run(rt.alloc(), rt.stdin(), rt.stdout(), rt.stderr());
+    let status = match arguments(&rt) {
+        Ok(words) => run(&rt, words.as_slice(), rt.stdin(), rt.stdout(), rt.stderr()),
+        Err(error) => refuse_arguments(&error, rt.stderr()),
+    };
     ExitCode::from(status)
 }

@@ -1,7 +1,11 @@
 //! Worked rows through the whole program over memory, failing readers and writers, and each public call once.
 
-mod changes;
+mod accounts;
 mod devices;
 mod faults;
 mod library;
+mod listener;
+mod program;
 mod rows;
+mod worked;
+mod worked_rows;

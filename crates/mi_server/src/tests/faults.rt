@@ -1,6 +1,6 @@
 //! Devices that fail in the middle: what was executed, what was written, and the status.
 use super::devices::{AtEnd, Narrow, Pieces};
-use crate::serve::run;
+use crate::program::run;
 use mi_database::Sessions;
 use mi_hub::{Hub, HubFault, ServeFault, Watched, serve_stream};
 use mi_plain::Plain;
@@ -8,26 +8,6 @@ use mi_schema::{Catalog, built_in};
 use std::test::Fail;
 
 const TWO_STARTS: &[u8] = b"{\"cmd\":\"start\"}\n{\"cmd\":\"start\"}\n";
-
-/// A read that fails ends the program; what was read before it is answered.
-#[test]
-fn failing_read(rt: HostRuntime) -> Result<(), Fail> {
-    let mut out = Vec::new(rt.alloc());
-    let mut errors = Vec::new(rt.alloc());
-    let input = Pieces {
-        left: b"{\"cmd\":\"start\"}\n{\"cmd\":\"st",
-        size: 7,
-        sound: false,
-    };
-    let status = run(rt.alloc(), input, &mut out, &mut errors);
-    assert_eq!(rt; status, 4);
-    assert_eq!(rt;
-        out.as_slice(),
-        b"{\"ok\":true,\"revision\":1}\n".as_slice()
-    );
-    assert_eq!(rt; errors.as_slice(), b"fault: read\n".as_slice());
-    Ok(())
-}
 
 /// A write that fails or takes nothing cuts the connection: its line was executed and the later ones not, and what it held is
 /// undone.
@@ -38,7 +18,6 @@ fn failing_write(rt: HostRuntime) -> Result<(), Fail> {
         let mut hub = Hub::new(rt.alloc(), Plain::new(rt.alloc(), catalog)?);
         assert_eq!(rt; hub.attach(1), Ok(()));
         assert_eq!(rt; hub.attach(1), Err(HubFault::AlreadyAttached));
-        assert_eq!(rt; hub.attach(2), Err(HubFault::TooMany));
         let mut reader = Watched::new(Pieces {
             left: TWO_STARTS,
             size: 4096,
@@ -61,23 +40,79 @@ fn failing_write(rt: HostRuntime) -> Result<(), Fail> {
     Ok(())
 }
 
-/// A last flush that fails is a write fault of the program.
+/// As many connections as can be, and one more; the place of one that is cut can be taken.
 #[test]
-fn failing_flush(rt: HostRuntime) -> Result<(), Fail> {
-    let mut errors = Vec::new(rt.alloc());
-    let input = Pieces {
-        left: TWO_STARTS,
-        size: 4096,
-        sound: true,
-    };
-    let output = Narrow {
+fn connections_are_limited(rt: HostRuntime) -> Result<(), Fail> {
+    let catalog = Catalog::of(rt.alloc(), built_in(rt.alloc())?)?;
+    let mut hub = Hub::new(rt.alloc(), Plain::new(rt.alloc(), catalog)?);
+    for conn in 1..=64 {
+        assert_eq!(rt; hub.attach(conn), Ok(()));
+    }
+    assert_eq!(rt; hub.attach(1), Err(HubFault::AlreadyAttached));
+    assert_eq!(rt; hub.attach(65), Err(HubFault::TooMany));
+    assert_eq!(rt; hub.cut(64), Ok(()));
+    assert_eq!(rt; hub.attach(65), Ok(()));
+    assert_eq!(rt; hub.cut(64), Err(HubFault::NotAttached));
+    Ok(())
+}
+
+/// A piece of two lines whose writer takes 10 bytes: the first line was executed and undone, and the connection is gone.
+#[test]
+fn failing_piece(rt: HostRuntime) -> Result<(), Fail> {
+    let catalog = Catalog::of(rt.alloc(), built_in(rt.alloc())?)?;
+    let mut hub = Hub::new(rt.alloc(), Plain::new(rt.alloc(), catalog)?);
+    assert_eq!(rt; hub.attach(1), Ok(()));
+    let mut writer = Watched::new(Narrow {
         taken: Vec::new(rt.alloc()),
         step: 64,
-        room: 0,
+        room: 10,
         at_end: AtEnd::Fail,
+    });
+    let piece = b"{\"cmd\":\"start\"}\n{\"cmd\":\"size\"}\n";
+    assert_eq!(rt; hub.feed(1, piece, &mut writer), Err(HubFault::Write));
+    assert_eq!(rt; writer.inner().taken.as_slice(), b"{\"ok\":true".as_slice());
+    assert_eq!(rt; hub.database().depth(), 0);
+    assert_eq!(rt; hub.database().revision(), 0);
+    assert_eq!(rt; hub.feed(1, piece, &mut writer), Err(HubFault::NotAttached));
+    Ok(())
+}
+
+/// A read that fails ends the program, and what was read before it is answered; so does a last flush that fails.
+#[test]
+fn failing_streams(rt: HostRuntime) -> Result<(), Fail> {
+    let mut out = Vec::new(rt.alloc());
+    let mut errors = Vec::new(rt.alloc());
+    let input = Pieces {
+        left: b"{\"cmd\":\"start\"}\n{\"cmd\":\"st",
+        size: 7,
+        sound: false,
     };
-    let status = run(rt.alloc(), input, output, &mut errors);
+    let status = run(&rt, &["mi_server"], input, &mut out, &mut errors);
     assert_eq!(rt; status, 4);
-    assert_eq!(rt; errors.as_slice(), b"fault: write\n".as_slice());
+    assert_eq!(rt;
+        out.as_slice(),
+        b"{\"ok\":true,\"revision\":1}\n".as_slice()
+    );
+    assert_eq!(rt; errors.as_slice(), b"fault: read\n".as_slice());
+    for words in [
+        &["mi_server"].as_slice(),
+        &["mi_server", "--check"].as_slice(),
+    ] {
+        let mut errors = Vec::new(rt.alloc());
+        let input = Pieces {
+            left: TWO_STARTS,
+            size: 4096,
+            sound: true,
+        };
+        let output = Narrow {
+            taken: Vec::new(rt.alloc()),
+            step: 64,
+            room: 0,
+            at_end: AtEnd::Fail,
+        };
+        let status = run(&rt, words, input, output, &mut errors);
+        assert_eq!(rt; status, 4);
+        assert_eq!(rt; errors.as_slice(), b"fault: write\n".as_slice());
+    }
     Ok(())
 }

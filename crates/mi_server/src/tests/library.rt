@@ -1,27 +1,15 @@
 //! Each public call of the crates below once, with ample memory.
+use super::accounts::{account, is_account};
 use mi_database::Sessions;
 use mi_plain::Plain;
 use mi_schema::{Catalog, IndexKind, Schema, built_in};
 use mi_value::{
-    Key, KeyPart, NoSession, Record, Refusal, Text, Value, compare_key, hash_values, same_key,
+    Edit, Key, KeyPart, NoSession, Record, Refusal, Steps, Text, Value, apply, compare_key,
+    hash_values, same_key,
 };
 use std::alloc::{AllocError, Global};
 use std::cmp::Ordering;
 use std::test::Fail;
-
-fn account(alloc: Global, owner: &str, balance: i64, vip: bool) -> Result<Record, AllocError> {
-    let owner = Value::Text(Text::of(alloc, owner)?);
-    Ok(Record::new(vec![in alloc; owner, Value::Int(balance), Value::Flag(vip)]?))
-}
-
-fn is_account(row: &Record, owner: &str, balance: i64, vip: bool) -> bool {
-    match row.values() {
-        [Value::Text(o), Value::Int(b), Value::Flag(v)] => o.as_str() == owner
-            && *b == balance
-            && *v == vip,
-        _ => false,
-    }
-}
 
 #[test]
 fn keys_compare(rt: HostRuntime) -> Result<(), Fail> {
@@ -140,9 +128,28 @@ fn plain_is_a_database(rt: HostRuntime) -> Result<(), Fail> {
     assert_eq!(rt; database.undo(), Ok(0));
     assert_eq!(rt; database.revision(), 0);
     assert_eq!(rt; database.catalog().table_count(), 1);
-    match database.get(0, 0) {
+    match database.get(0, 0, &mut Steps::new()) {
         Some(row) => assert!(rt; is_account(row, "a", 1, false)),
         None => assert!(rt; false, "the record is there"),
+    }
+    Ok(())
+}
+
+#[test]
+fn edits_are_applied(rt: HostRuntime) -> Result<(), Fail> {
+    let alloc = rt.alloc();
+    let row = account(alloc, "a", 5, false)?;
+    let edits = [
+        Edit::Add(1, 2),
+        Edit::Put(0, Value::Text(Text::of(alloc, "b")?)),
+    ];
+    match apply(alloc, &row, &edits) {
+        Ok(edited) => assert!(rt; is_account(&edited, "b", 7, false)),
+        Err(refusal) => assert_eq!(rt; refusal.word(), "ok"),
+    }
+    match apply(alloc, &row, &[Edit::Add(1, 9_223_372_036_854_775_807)]) {
+        Ok(_edited) => assert!(rt; false, "a sum past the last number"),
+        Err(refusal) => assert_eq!(rt; refusal.word(), "range"),
     }
     Ok(())
 }

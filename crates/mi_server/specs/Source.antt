@@ -1,0 +1,18 @@
+-- What a schema's file is read as.
+use Rattle.std.specs.Prelude.{◌≡◌, ◌⊎◌, ◌≤◌, ℕ, List, length, Result, Ok, Err}
+use Rattle.mi_value.specs.declared.limits.TheConstants.{MAX_SCHEMA_FILE}
+use Rattle.mi_schema.specs.Reading.{catalog_read}
+use Rattle.mi_schema.specs.Shape.{CatalogShape}
+use Rattle.mi_schema.specs.declared.fault.SchemaFault.{SchemaFault}
+use Rattle.mi_schema.specs.declared.fault.SchemaFault.TheVariants as fault
+use Rattle.mi_server.specs.declared.failure.Failure.{Failure}
+use Rattle.mi_server.specs.declared.failure.Failure.TheVariants.{SchemaFile, Schema}
+
+-- A file isn't read: it can't be or is too long, or memory was refused.
+abbrev pub IsUnread : Failure → Type 0
+IsUnread failure = (failure ≡ SchemaFile) ⊎ (failure ≡ Schema fault.Memory)
+
+-- The answer to a file of these bytes: what they are read as, where they are no more than a file may have.
+abbrev pub IsRead : List ℕ → Result CatalogShape Failure → Type 0
+IsRead bytes (Ok catalog) = (length bytes ≤ MAX_SCHEMA_FILE) × (catalog_read bytes ≡ Ok catalog)
+IsRead bytes (Err failure) = IsUnread failure ⊎ ((length bytes ≤ MAX_SCHEMA_FILE) × (fault : SchemaFault) × (failure ≡ Schema fault) × (catalog_read bytes ≡ Err fault))

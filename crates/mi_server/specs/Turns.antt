@@ -1,0 +1,107 @@
+-- What serving connections by turns does to a hub. The connections 1 and 2 are open, in this row. 1 gives a piece and goes behind 2;
+-- then the write of a reply to 2 fails, and then 1 ends: fed 1 "{\"cmd\":\"start\"}⏎", unanswered 2 "{\"cmd\":\"undo\"}⏎", ended 1.
+use Rattle.std.specs.Prelude.{◌≡◌, ℕ, ◌≤◌, List, [], ◌∷◌, ◌++◌, length, map, Bool, true, false, ◌==◌, Result, Ok, Err, Some, IsSome, ⊤}
+use Rattle.std.specs.Result.{result_and}
+use Rattle.std.specs.List.{range_with_len}
+use Rattle.mi_value.specs.declared.limits.TheConstants.{PIECE}
+use Rattle.mi_hub.specs.Connections.{rest_at}
+use Rattle.mi_hub.specs.Run.{HubState, piece, close, cut, Done, Failed}
+use Rattle.mi_hub.specs.declared.connection.Connection.{Connection}
+use Rattle.mi_hub.specs.declared.fault.ServeFault.{ServeFault}
+use Rattle.mi_hub.specs.declared.fault.ServeFault.TheVariants.{Read, Write}
+use Rattle.mi_server.specs.declared.listener.Client.{Client}
+
+-- a connection that has come, with no bytes
+abbrev pub fresh : ℕ → Connection
+fresh conn = record { id = conn; rest = Some [] }
+
+-- n connections have come to a hub with none, numbered from 1 in this order
+abbrev pub with_clients : ℕ → HubState → HubState
+with_clients n s = record { held = s.held; attached = map fresh (range_with_len 1 n) }
+
+-- A turn of an open connection: a piece of its bytes is fed, or they are at their end and it is closed; or its read fails and it is
+-- cut; or its writer fails in a reply to a piece, or in the one at the end.
+pub data Turn : Type 0 where
+  fed : ℕ → List ℕ → Turn
+  ended : ℕ → Turn
+  unread : ℕ → Turn
+  unanswered : ℕ → List ℕ → Turn
+  unended : ℕ → Turn
+
+-- the connection whose turn it is
+abbrev pub conn_of : Turn → ℕ
+conn_of (fed conn bytes) = conn
+conn_of (ended conn) = conn
+conn_of (unread conn) = conn
+conn_of (unanswered conn bytes) = conn
+conn_of (unended conn) = conn
+
+-- whether the connection is open still, or the fault that has ended it
+abbrev pub outcome : Turn → Result Bool ServeFault
+outcome (fed conn bytes) = Ok true
+outcome (ended conn) = Ok false
+outcome (unread conn) = Err Read
+outcome (unanswered conn bytes) = Err Write
+outcome (unended conn) = Err Write
+
+-- what one read gives
+abbrev pub IsPiece : List ℕ → Type 0
+IsPiece bytes = (1 ≤ length bytes) × (length bytes ≤ PIECE)
+
+-- From old, this turn is made: out is written to the connection, and new is left.
+abbrev pub Made : HubState → Turn → List ℕ → HubState → Type 0
+Made old (fed conn bytes) out new = Done old (piece conn bytes) out new × IsPiece bytes
+Made old (ended conn) out new = Done old (close conn) out new
+Made old (unread conn) out new = Done old (cut conn) out new
+Made old (unanswered conn bytes) out new = Failed old (piece conn bytes) out new × IsPiece bytes
+Made old (unended conn) out new = Failed old (close conn) out new
+
+-- a connection that stays open goes behind the others
+abbrev pub row_after : Turn → List ℕ → List ℕ
+row_after (fed conn bytes) others = others ++ conn ∷ []
+row_after (ended conn) others = others
+row_after (unread conn) others = others
+row_after (unanswered conn bytes) others = others
+row_after (unended conn) others = others
+
+-- From a row of open connections and from old, these turns are made, each by the first of the row then; left is the row that is left, and
+-- new the hub.
+abbrev pub ByTurns : List ℕ → HubState → List Turn → List ℕ → HubState → Type 0
+ByTurns row old [] left new = (left ≡ row) × (new ≡ old)
+ByTurns row old (turn ∷ turns) left new =
+    (others : List ℕ) × (out : List ℕ) × (mid : HubState) × (row ≡ conn_of turn ∷ others) × Made old turn out mid × ByTurns (row_after turn others) mid turns left new
+
+-- a fault, or none
+abbrev pub fault_of : Result Bool ServeFault → Result ⊤ ServeFault
+fault_of (Ok is_open) = Ok tt
+fault_of (Err fault) = Err fault
+
+-- the first fault of these turns, or none
+abbrev pub first_fault : List Turn → Result ⊤ ServeFault
+first_fault [] = Ok tt
+first_fault (turn ∷ turns) = result_and (fault_of (outcome turn)) (first_fault turns)
+
+-- the numbers of clients, in order
+abbrev pub client_ids : {S : Type 0} → List (Client S) → List ℕ
+client_ids clients = map (λ c. c.conn) clients
+
+-- all of these are attached
+abbrev pub AllAttached : List ℕ → List Connection → Type 0
+AllAttached [] cs = Unit {0}
+AllAttached (conn ∷ row) cs = IsSome (rest_at conn cs) × AllAttached row cs
+
+-- none of these is this number
+abbrev pub IsNoneOf : ℕ → List ℕ → Type 0
+IsNoneOf k [] = Unit {0}
+IsNoneOf k (x ∷ xs) = ((k == x) ≡ false) × IsNoneOf k xs
+
+-- no two are the same
+abbrev pub AllDiffer : List ℕ → Type 0
+AllDiffer [] = Unit {0}
+AllDiffer (x ∷ xs) = IsNoneOf x xs × AllDiffer xs
+
+-- the open connections of this row are those that are attached, and no two are the same
+pub record Serves (row : List ℕ) (cs : List Connection) : Type 0 where
+  pub there : AllAttached row cs
+  pub count : length cs ≡ length row
+  pub differ : AllDiffer row

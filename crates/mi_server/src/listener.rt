@@ -1,0 +1,229 @@
+//! Connections of a listener by turns: one piece of each open one after another, until all have ended.
+//! It knows of a connection what its stream reads and takes, and nothing of lines.
+ghost use Rattle.std.specs.Prelude.{◌≡◌, ◌≢◌, ◌⊎◌, ◌≤◌, ◌<◌, ◌∷◌, ℕ, List, [], length, Err, None, IsSome, OnOk, OnErr, IfOk, true};
+ghost use Rattle.std.specs.List.{range_with_len};
+ghost use Rattle.mi_value.specs.declared.limits.TheConstants.{MAX_CONNECTIONS, MAX_READS, PIECE};
+ghost use Rattle.mi_hub.specs.Run.{HubState, with_connection};
+ghost use Rattle.mi_hub.specs.Connections.{rest_at};
+ghost use Rattle.mi_hub.specs.Watching.{has_failed, Writes};
+ghost use Rattle.mi_server.specs.Turns.{with_clients, Turn, conn_of, outcome, IsPiece, Made, row_after, ByTurns, fault_of, first_fault, client_ids, Serves};
+
+use mi_database::Sessions;
+use mi_hub::{Hub, ServeFault, Watched};
+use mi_value::limits::{MAX_READS, PIECE};
+use std::alloc::Global;
+use std::collections::VecDeque;
+use std::io::{Read, Write};
+use std::net::OpenListener;
+
+/// An open connection.
+#[derive(Drop)]
+pub struct Client<S> {
+    conn: u64,
+    stream: Watched<S>,
+}
+
+/// Accepts one connection, and attaches it. After a fault nothing has changed.
+fn accept<D: Sessions + Drop, L: OpenListener>(
+    hub: &mut Hub<D>,
+    listener: &L,
+    conn: u64,
+) -> Result<Client<L::Stream>, ServeFault>
+    requires { rest_at conn hub.old.attached ≡ None }
+    ensures ok { IfOk result (λ client. (client.conn ≡ conn) × (hub.new ≡ with_connection conn hub.old)) }
+    ensures fault { OnErr result (hub.new ≡ hub.old) }
+    ensures no_other { OnErr result ((result ≡ Err ServeFault.Accept) ⊎ (result ≡ Err ServeFault.Memory)) }
+{
+    let Ok((stream, _address)) = listener.accept() else {
+        return Err(ServeFault::Accept);
+    };
+    if hub.attach(conn).is_err() {
+        return Err(ServeFault::Memory);
+    }
+    Ok(Client {
+        conn,
+        stream: Watched::new(stream),
+    })
+}
+
+/// Feeds a piece that was read. After a fault the connection has been cut.
+fn feed<D: Sessions + Drop, S: Write>(
+    hub: &mut Hub<D>,
+    client: &mut Client<S>,
+    bytes: &[u8],
+) -> Result<bool, ServeFault>
+    requires attached { IsSome (rest_at client.old.conn hub.old.attached) }
+    requires piece { IsPiece bytes.now }
+    ensures turn { (turn : Turn) × (out : List ℕ) × (conn_of turn ≡ client.old.conn) × (result ≡ outcome turn)
+        × Writes S.contents client.old.stream client.new.stream out × Made hub.old turn out hub.new }
+    ensures same { client.new.conn ≡ client.old.conn }
+    ensures failed { OnErr result (has_failed client.new.stream ≡ true) }
+    ensures sound { OnOk result (has_failed client.new.stream ≡ has_failed client.old.stream) }
+{
+    match hub.feed(client.conn, bytes, &mut client.stream) {
+        Ok(()) => {
+            let _ = client.stream.flush();
+            Ok(true)
+        }
+        Err(_) => Err(ServeFault::Write),
+    }
+}
+
+/// Closes a connection at the end of its bytes.
+fn close<D: Sessions + Drop, S: Write>(
+    hub: &mut Hub<D>,
+    client: &mut Client<S>,
+) -> Result<bool, ServeFault>
+    requires { IsSome (rest_at client.old.conn hub.old.attached) }
+    ensures turn { (turn : Turn) × (out : List ℕ) × (conn_of turn ≡ client.old.conn) × (result ≡ outcome turn)
+        × Writes S.contents client.old.stream client.new.stream out × Made hub.old turn out hub.new }
+    ensures same { client.new.conn ≡ client.old.conn }
+    ensures failed { OnErr result (has_failed client.new.stream ≡ true) }
+    ensures sound { OnOk result (has_failed client.new.stream ≡ has_failed client.old.stream) }
+{
+    match hub.close(client.conn, &mut client.stream) {
+        Ok(()) => {
+            let _ = client.stream.flush();
+            Ok(false)
+        }
+        Err(_) => Err(ServeFault::Write),
+    }
+}
+
+/// Reads one piece of a connection and feeds it, or closes the connection at the end of its bytes. Answers whether it is open
+/// still; after a fault it has been cut.
+fn take_turn<D: Sessions + Drop, S: Read + Write>(
+    hub: &mut Hub<D>,
+    client: &mut Client<S>,
+    buffer: &mut [u8],
+) -> Result<bool, ServeFault>
+    requires attached { IsSome (rest_at client.old.conn hub.old.attached) }
+    requires room { length buffer.old ≡ PIECE }
+    ensures turn { (turn : Turn) × (out : List ℕ) × (conn_of turn ≡ client.old.conn) × (result ≡ outcome turn) × Made hub.old turn out hub.new }
+    ensures same { client.new.conn ≡ client.old.conn }
+    ensures failed { OnErr result (has_failed client.new.stream ≡ true) }
+    ensures sound { OnOk result (has_failed client.new.stream ≡ has_failed client.old.stream) }
+{
+    let Ok(n) = client.stream.read(buffer) else {
+        let _ = hub.cut(client.conn);
+        return Err(ServeFault::Read);
+    };
+    if n > 0 {
+        feed(hub, client, &buffer[..n])
+    } else {
+        close(hub, client)
+    }
+}
+
+/// The first of a row of open connections takes its turn; where it stays open it goes behind the others, else it is let go.
+fn next_turn<D: Sessions + Drop, S: Read + Write + Drop>(
+    hub: &mut Hub<D>,
+    row: &mut VecDeque<Client<S>>,
+    buffer: &mut [u8],
+) -> Result<(), ServeFault>
+    requires some { 0 < length row.old.items }
+    requires served { Serves (client_ids row.old.items) hub.old.attached }
+    requires room { length buffer.old ≡ PIECE }
+    ensures turn { (turn : Turn) × (others : List ℕ) × (out : List ℕ) × (client_ids row.old.items ≡ conn_of turn ∷ others) × Made hub.old turn out hub.new
+        × (client_ids row.new.items ≡ row_after turn others) × (result ≡ fault_of (outcome turn)) }
+{
+    let mut client = row.pop_front().unwrap();
+    if take_turn(hub, &mut client, buffer)? {
+        row.push_back(client).unwrap();
+    }
+    Ok(())
+}
+
+/// Cuts all connections of a row.
+fn cut_all<D: Sessions + Drop, S: Drop>(hub: &mut Hub<D>, row: &mut VecDeque<Client<S>>)
+    requires { Serves (client_ids row.old.items) hub.old.attached }
+    ensures { hub.new.attached ≡ [] }
+{
+    'row: while let Some(client) = row.pop_front() {
+        let _ = hub.cut(client.conn);
+    }
+}
+
+/// Accepts so many connections, numbers them from 1 and attaches them. After a fault all of them have been cut.
+fn accept_all<D: Sessions + Drop, L: OpenListener>(
+    alloc: Global,
+    hub: &mut Hub<D>,
+    listener: &L,
+    count: usize,
+) -> Result<VecDeque<Client<L::Stream>>, ServeFault>
+    requires { hub.old.attached ≡ [] }
+    ensures ok { IfOk result (λ row. (client_ids row.items ≡ range_with_len 1 count) × (hub.new ≡ with_clients count hub.old)) }
+    ensures none { OnErr result (hub.new.attached ≡ []) }
+    ensures no_other { OnErr result ((result ≡ Err ServeFault.Accept) ⊎ (result ≡ Err ServeFault.Memory)) }
+{
+    let Ok(mut row) = VecDeque::with_capacity(alloc, count) else {
+        return Err(ServeFault::Memory);
+    };
+    'row: for before in 0..count {
+        match accept(hub, listener, before as u64 + 1) {
+            Ok(client) => row.push_back(client).unwrap(),
+            Err(fault) => {
+                cut_all(hub, &mut row);
+                return Err(fault);
+            }
+        }
+    }
+    Ok(row)
+}
+
+/// Serves a row of connections by turns until all have ended. After `Turns` those that had not have been cut.
+fn serve_all<D: Sessions + Drop, S: Read + Write + Drop>(
+    hub: &mut Hub<D>,
+    row: VecDeque<Client<S>>,
+) -> Result<(), ServeFault>
+    requires some { 0 < length row.items }
+    requires served { Serves (client_ids row.items) hub.old.attached }
+    ensures none { hub.new.attached ≡ [] }
+    ensures served { result ≢ Err ServeFault.Turns → (turns : List Turn)
+        × ByTurns (client_ids row.items) hub.old turns [] hub.new × (result ≡ first_fault turns) }
+    ensures turns { result ≡ Err ServeFault.Turns → (turns : List Turn) × (left : List ℕ) × (mid : HubState)
+        × ByTurns (client_ids row.items) hub.old turns left mid × (length turns ≡ MAX_READS) }
+{
+    let mut row = row;
+    let mut first = Ok(());
+    let mut buffer = [0u8; PIECE];
+    'turns: for _turn in 0..MAX_READS {
+        first = first.and(next_turn(hub, &mut row, &mut buffer));
+        if row.is_empty() {
+            return first;
+        }
+    }
+    cut_all(hub, &mut row);
+    Err(ServeFault::Turns)
+}
+
+/// Accepts so many connections of a listener, from 1 to 64, numbers them from 1 in this order and attaches them. Then it reads
+/// one piece of at most 4,096 bytes from each open one in turn, until all have ended. One whose input is at its end is closed, and
+/// its stream is let go. Replies go to the connection's own stream.
+///
+/// A connection whose read or write fails is cut and the others go on; the first such fault is answered at the end, as `Read` or
+/// `Write`. After `Accept`, `Memory` (the row had no room, or an attach was refused) and `Turns` (2^40 reads were made) all
+/// have been cut. Whatever the answer, no connection is attached then.
+pub fn serve_listener<D: Sessions + Drop, L: OpenListener>(
+    alloc: Global,
+    hub: &mut Hub<D>,
+    listener: &L,
+    clients: usize,
+) -> Result<(), ServeFault>
+where
+    L::Stream: Read + Write,
+    requires clients { (1 ≤ clients) × (clients ≤ MAX_CONNECTIONS) }
+    requires none { hub.old.attached ≡ [] }
+    ensures none { hub.new.attached ≡ [] }
+
+    // All connections have come and have had their turns until none was open; the answer is the first fault, or that there was none.
+    ensures served { result ≢ Err ServeFault.Accept → result ≢ Err ServeFault.Memory → result ≢ Err ServeFault.Turns →
+        (turns : List Turn) × ByTurns (range_with_len 1 clients) (with_clients clients hub.old) turns [] hub.new × (result ≡ first_fault turns) }
+
+    // So many turns were made; then those that were open still have been cut.
+    ensures turns { result ≡ Err ServeFault.Turns → (turns : List Turn) × (left : List ℕ) × (mid : HubState)
+        × ByTurns (range_with_len 1 clients) (with_clients clients hub.old) turns left mid × (length turns ≡ MAX_READS) }
+{
+    let row = accept_all(alloc, hub, listener, clients)?;
+    serve_all(hub, row)
+}

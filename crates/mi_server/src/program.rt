@@ -1,0 +1,146 @@
+//! What the program does, in its order: the words are judged, the schema is read, then `ok` is printed or the input is served.
+//! A failure is one line on the third stream; where that can't be written it is passed over.
+ghost use Rattle.std.specs.Prelude.{◌≡◌, ◌≢◌, ◌⊎◌, ◌≤◌, [], map, codes, true, false, OnOk, IfSome};
+ghost use Rattle.std.specs.Io.KnownBytes.{Appends};
+ghost use Rattle.clap.specs.Faults.{fault_of};
+ghost use Rattle.mi_value.specs.declared.limits.TheConstants.{MAX_CONNECTIONS};
+ghost use Rattle.mi_server.specs.Status.{status_of, status_of_words};
+ghost use Rattle.clap.specs.Words.{matches_of};
+ghost use Rattle.mi_server.specs.Words.{command_line, keeps_rules};
+
+use crate::failure::Failure;
+use crate::listener::serve_listener;
+use crate::serve::serve;
+use crate::source::catalog;
+use crate::words::{Options, WordsFault, read_words};
+use mi_database::Sessions;
+use mi_hub::Hub;
+use mi_plain::Plain;
+use std::convert::AsStr;
+use std::io;
+use std::io::{ErrorKind, Read, Write};
+use std::net::{Ipv4Addr, TcpListener};
+use std::rt::{Files, Net};
+
+/// The exit status where the words are refused.
+const USAGE: u8 = 2;
+
+/// Prints the line `ok`.
+fn confirm<W: Write>(output: &mut W) -> io::Result<()>
+    ensures { OnOk result (Appends (W.contents output.old) (W.contents output.new) (codes "ok\n")) }
+{
+    output.write_all(b"ok\n")?;
+    output.flush()
+}
+
+/// Serves connections to a port of 127.0.0.1 over a database.
+fn serve_port<R: Net + AllocGlobal, D: Sessions + Drop>(
+    rt: &R,
+    database: D,
+    port: u16,
+    clients: usize,
+) -> Result<(), Failure>
+    requires { (1 ≤ clients) × (clients ≤ MAX_CONNECTIONS) }
+{
+    let Ok(listener) = TcpListener::bind(rt, (Ipv4Addr::LOCALHOST, port)) else {
+        return Err(Failure::Listen);
+    };
+    let mut hub = Hub::new(rt.alloc(), database);
+    serve_listener(rt.alloc(), &mut hub, &listener, clients)?;
+    Ok(())
+}
+
+/// Does what the options say. Where the schema alone is checked, the input isn't read.
+fn perform<R: Files + Net + AllocGlobal, I: Read, O: Write>(
+    rt: &R,
+    options: &Options,
+    input: &mut I,
+    output: &mut O,
+) -> Result<(), Failure>
+    requires clients { IfSome options.now.listen (λ l. (1 ≤ l.1) × (l.1 ≤ MAX_CONNECTIONS)) }
+    ensures check { options.now.check ≡ true → OnOk result (Appends (O.contents output.old) (O.contents output.new) (codes "ok\n") × (input.new ≡ input.old)) }
+{
+    let catalog = catalog(rt, options.schema.as_deref())?;
+    if options.check {
+        return confirm(output).map_err(|_error| Failure::Write);
+    }
+    let Ok(database) = Plain::new(rt.alloc(), catalog) else {
+        return Err(Failure::Memory);
+    };
+    match options.listen {
+        Some((port, clients)) => serve_port(rt, database, port, clients),
+        None => serve(rt.alloc(), database, input, output),
+    }
+}
+
+/// Reports a failure, and answers its status.
+fn report<E: Write>(failure: Failure, errors: &mut E) -> u8
+    ensures { result ≡ status_of failure }
+{
+    let _ = writeln!(errors, "{failure}");
+    failure.status()
+}
+
+/// Reports words that give no options, by the parser's own text where they are refused, and answers the status.
+fn refuse<E: Write>(fault: &WordsFault, errors: &mut E) -> u8
+    ensures { result ≡ status_of_words fault.now }
+{
+    match fault {
+        WordsFault::Parse(error) => {
+            let _ = write!(errors, "{error}");
+            USAGE
+        }
+        WordsFault::Rules => {
+            let _ = writeln!(
+                errors,
+                "usage: --listen and --clients go together; --check stands alone"
+            );
+            USAGE
+        }
+        WordsFault::Memory => report(Failure::Memory, errors),
+    }
+}
+
+/// Reports arguments that could not be had, which aren't UTF-8 or were refused memory, and answers the status.
+pub fn refuse_arguments<E: Write + Drop>(error: &io::Error, errors: E) -> u8
+    ensures { (result ≡ 2) ⊎ (result ≡ 4) }
+{
+    let mut errors = errors;
+    match error.kind() {
+        ErrorKind::OutOfMemory => report(Failure::Memory, &mut errors),
+        _other => {
+            let _ = writeln!(errors, "error: an argument isn't UTF-8");
+            USAGE
+        }
+    }
+}
+
+/// Does what the program does with these words, the first of which is its name, and answers its exit status:
+///
+/// | Status | When | On `errors` |
+/// |---|---|---|
+/// | 0 | all input was served, or the schema was read and `ok` printed | nothing |
+/// | 2 | the words are refused, or ask for help | the parser's text, or the rule that they break |
+/// | 3 | the schema can't be read or is refused | `schema: ` and a word |
+/// | 4 | a stream failed, memory was refused, or the input didn't end | `fault: ` and a word |
+pub fn run<
+    R: Files + Net + AllocGlobal,
+    S: AsStr,
+    I: Read + Drop,
+    O: Write + Drop,
+    E: Write + Drop,
+>(rt: &R, words: &[S], input: I, output: O, errors: E) -> u8
+    ensures statuses { (result ≡ 0) ⊎ (result ≡ 2) ⊎ (result ≡ 3) ⊎ (result ≡ 4) }
+    ensures usage { result ≡ 2 → (fault_of command_line (map S.text words.now) ≢ []) ⊎ (keeps_rules (matches_of command_line (map S.text words.now)) ≡ false) }
+    ensures refused { fault_of command_line (map S.text words.now) ≢ [] → (result ≡ 2) ⊎ (result ≡ 4) }
+    ensures rules { keeps_rules (matches_of command_line (map S.text words.now)) ≡ false → (result ≡ 2) ⊎ (result ≡ 4) }
+{
+    let (mut input, mut output, mut errors) = (input, output, errors);
+    match read_words(rt.alloc(), words) {
+        Ok(options) => match perform(rt, &options, &mut input, &mut output) {
+            Ok(()) => 0,
+            Err(failure) => report(failure, &mut errors),
+        },
+        Err(fault) => refuse(&fault, &mut errors),
+    }
+}

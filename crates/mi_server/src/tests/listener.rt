@@ -1,0 +1,215 @@
+//! Connections over the loopback interface, and over streams that fail in the middle.
+ghost use Rattle.std.specs.Prelude.{◌≡◌, [], IfOk};
+
+use crate::listener::serve_listener;
+use mi_database::Sessions;
+use mi_hub::{Hub, ServeFault};
+use mi_plain::Plain;
+use mi_schema::{Catalog, built_in};
+use mi_value::{Record, Steps, Value};
+use std::alloc::{AllocError, Global};
+use std::cell::Cell;
+use std::io;
+use std::io::{Error, ErrorKind, Read, Write};
+use std::net::{Ipv4Addr, Net, OpenListener, Shutdown, SocketAddr, TcpListener, TcpStream};
+use std::test::Fail;
+
+const START_AND_INSERT: &[u8] =
+    b"{\"cmd\":\"start\"}\n{\"cmd\":\"insert\",\"row\":{\"owner\":\"a\",\"balance\":1,\"vip\":false}}\n";
+
+const INSERT_A: &[u8] =
+    b"{\"cmd\":\"insert\",\"row\":{\"owner\":\"a\",\"balance\":1,\"vip\":false}}\n";
+
+const SIZE: &[u8] = b"{\"cmd\":\"size\"}\n";
+
+fn opened(alloc: Global) -> Result<Hub<Plain>, AllocError>
+    ensures { IfOk result (λ hub. hub.attached ≡ []) }
+{
+    let catalog = Catalog::of(alloc, built_in(alloc)?)?;
+    Ok(Hub::new(alloc, Plain::new(alloc, catalog)?))
+}
+
+/// The owner in the record of id 0.
+fn first_owner(database: &Plain) -> Option<&str> {
+    if database.catalog().table_count() == 0 {
+        return None;
+    }
+    match database.get(0, 0, &mut Steps::new())?.values() {
+        [Value::Text(owner), ..] => Some(owner.as_str()),
+        _ => None,
+    }
+}
+
+/// A port of the loopback interface that the system chooses.
+fn listen<N: Net<Listener = TcpListener, Stream = TcpStream>>(net: &N) -> io::Result<TcpListener> {
+    TcpListener::bind(net, (Ipv4Addr::LOCALHOST, 0))
+}
+
+/// A client that has sent these bytes, by one write.
+fn client<N: Net<Listener = TcpListener, Stream = TcpStream>>(
+    net: &N,
+    to: &TcpListener,
+    bytes: &[u8],
+) -> io::Result<TcpStream> {
+    let mut stream = TcpStream::connect(net, to.local_addr()?)?;
+    stream.write_all(bytes)?;
+    Ok(stream)
+}
+
+/// What a client is answered.
+fn replies(alloc: Global, stream: TcpStream) -> io::Result<Vec<u8>> {
+    let mut stream = stream;
+    let mut bytes = Vec::new(alloc);
+    stream.read_to_end(&mut bytes)?;
+    Ok(bytes)
+}
+
+/// What two clients send and are answered, and the owner of id 0 afterwards.
+#[derive(Drop)]
+struct Row {
+    sent: [&'static [u8]; 2],
+    want: [&'static [u8]; 2],
+    owner: Option<&'static str>,
+}
+
+#[test]
+fn two_clients_are_answered(rt: HostRuntime) -> Result<(), Fail> {
+    let rows = [
+        Row {
+            sent: [INSERT_A, SIZE],
+            want: [b"{\"id\":0,\"ok\":true}\n", b"{\"ok\":true,\"size\":1}\n"],
+            owner: Some("a"),
+        },
+        Row {
+            sent: [
+                b"{\"cmd\":\"start\"}\n{\"cmd\":\"insert\",\"row\":{\"owner\":\"a\",\"balance\":1,\"vip\":false}}",
+                SIZE,
+            ],
+            want: [
+                b"{\"ok\":true,\"revision\":1}\n{\"id\":0,\"ok\":true}\n",
+                b"{\"ok\":true,\"size\":0}\n",
+            ],
+            owner: None,
+        },
+    ];
+    for row in &rows {
+        let mut hub = opened(rt.alloc())?;
+        let listener = listen(&rt)?;
+        let first = client(&rt, &listener, row.sent[0])?;
+        let second = client(&rt, &listener, row.sent[1])?;
+        first.shutdown(Shutdown::Write)?;
+        second.shutdown(Shutdown::Write)?;
+        let served = serve_listener(rt.alloc(), &mut hub, &listener, 2);
+        assert_eq!(rt; served, Ok(()));
+        assert_eq!(rt; replies(rt.alloc(), first)?.as_slice(), row.want[0]);
+        assert_eq!(rt; replies(rt.alloc(), second)?.as_slice(), row.want[1]);
+        assert_eq!(rt; first_owner(hub.database()), row.owner);
+        assert_eq!(rt; hub.database().revision(), 0);
+        assert_eq!(rt; hub.database().depth(), 0);
+    }
+    Ok(())
+}
+
+/// With no client there to accept the call ends, and the one that had come is cut.
+#[test]
+fn failed_accept_ends_all(rt: HostRuntime) -> Result<(), Fail> {
+    let mut hub = opened(rt.alloc())?;
+    let listener = listen(&rt)?;
+    listener.set_nonblocking(true)?;
+    let first = client(&rt, &listener, INSERT_A)?;
+    let served = serve_listener(rt.alloc(), &mut hub, &listener, 2);
+    assert_eq!(rt; served, Err(ServeFault::Accept));
+    assert!(rt; first_owner(hub.database()).is_none());
+    assert_eq!(rt; hub.attach(1), Ok(()));
+    let _ = first;
+    Ok(())
+}
+
+/// A stream over memory: it gives one piece a read, and then is at its end or fails; where it is dumb each write fails.
+#[derive(Drop)]
+struct Script {
+    pieces: &'static [&'static [u8]],
+    sound: bool,
+    dumb: bool,
+}
+
+impl Read for Script {
+    fn read(&mut self, buf: &mut [u8]) -> io::Result<usize> {
+        let [piece, later @ ..] = self.pieces else {
+            return if self.sound {
+                Ok(0)
+            } else {
+                Err(Error::from(ErrorKind::Other))
+            };
+        };
+        let count = piece.len().min(buf.len());
+        let (front, _) = piece.split_at(count);
+        buf[..count].copy_from_slice(front);
+        self.pieces = later;
+        Ok(count)
+    }
+}
+
+impl Write for Script {
+    fn write(&mut self, buf: &[u8]) -> io::Result<usize> {
+        if self.dumb {
+            return Err(Error::from(ErrorKind::Other));
+        }
+        Ok(buf.len())
+    }
+
+    fn flush(&mut self) -> io::Result<()> {
+        Ok(())
+    }
+}
+
+/// The first connection, in these pieces, breaks off at its end or at its first reply; the second inserts the owner b.
+#[derive(Drop)]
+struct Breaking {
+    pieces: &'static [&'static [u8]],
+    sound: bool,
+    accepted: Cell<bool>,
+}
+
+impl OpenListener for Breaking {
+    type Stream = Script;
+
+    fn accept(&self) -> io::Result<(Script, SocketAddr)> {
+        let stream = if self.accepted.replace(true) {
+            Script {
+                pieces: &[
+                    b"{\"cmd\":\"insert\",",
+                    b"\"row\":{\"owner\":\"b\",\"balance\":2,\"vip\":true}}\n",
+                ],
+                sound: true,
+                dumb: false,
+            }
+        } else {
+            Script {
+                pieces: self.pieces,
+                sound: self.sound,
+                dumb: self.sound,
+            }
+        };
+        Ok((stream, SocketAddr::from((Ipv4Addr::LOCALHOST, 1))))
+    }
+}
+
+/// A connection whose read or write fails is cut: what it holds is undone, the other goes on, and the fault is answered at the end.
+#[test]
+fn others_go_on(rt: HostRuntime) -> Result<(), Fail> {
+    for (sound, fault) in [(false, ServeFault::Read), (true, ServeFault::Write)] {
+        let mut hub = opened(rt.alloc())?;
+        let listener = Breaking {
+            pieces: &[START_AND_INSERT],
+            sound,
+            accepted: Cell::new(false),
+        };
+        let served = serve_listener(rt.alloc(), &mut hub, &listener, 2);
+        assert_eq!(rt; served, Err(fault));
+        assert_eq!(rt; first_owner(hub.database()), Some("b"));
+        assert_eq!(rt; hub.database().depth(), 0);
+        assert_eq!(rt; hub.database().revision(), 0);
+    }
+    Ok(())
+}

@@ -1,0 +1,261 @@
+//! The program by its words: its options, schemas from files, and how it ends.
+use crate::program::run;
+use crate::words::{WordsFault, read_words};
+use std::fs;
+use std::net::{Ipv4Addr, TcpListener};
+use std::test::Fail;
+
+/// The files that the tests write and read.
+const FILE: &str = "mi_server_checked.toml";
+
+const OTHER_FILE: &str = "mi_server_served.toml";
+
+const ACCOUNTS: &str = r#"table = "accounts"
+
+[[column]]
+name = "owner"
+type = "text"
+
+[[column]]
+name = "balance"
+type = "int"
+
+[[column]]
+name = "vip"
+type = "flag"
+
+[[index]]
+name = "by_owner"
+kind = "hashed"
+unique = true
+key = ["owner"]
+
+[[index]]
+name = "by_balance"
+kind = "ranked"
+key = ["balance"]
+
+[[index]]
+name = "by_vip"
+kind = "hashed"
+key = ["vip"]
+
+[[index]]
+name = "by_class"
+kind = "ordered"
+key = ["-vip", "balance"]
+
+[[index]]
+name = "line"
+kind = "sequenced"
+"#;
+
+const TWO: &str = r#"format = 2
+[[table]]
+name = "a"
+column = [{name = "k", type = "int"}]
+index = [{name = "u", kind = "ordered", unique = true, key = ["k"]}]
+[[table]]
+name = "b"
+first_id = 10
+max_rows = 1
+column = [{name = "t", type = "text"}]
+"#;
+
+/// What `--check` makes of a file: the text, the status, the output and the line on the third stream.
+const CHECKED: [(&str, u8, &str, &str); 2] = [
+    (ACCOUNTS, 0, "ok\n", ""),
+    (
+        r#"table = "t"
+column = [{name = "id", type = "float"}]
+"#,
+        3,
+        "",
+        "schema: name\n",
+    ),
+];
+
+/// Words that name no file that is there.
+const CALLED: [(&[&str], u8, &str, &str); 6] = [
+    (
+        &["mi_server", "--listen", "8000"],
+        2,
+        "",
+        "usage: --listen and --clients go together; --check stands alone\n",
+    ),
+    (
+        &["mi_server", "--check", "--listen", "8000", "--clients", "1"],
+        2,
+        "",
+        "usage: --listen and --clients go together; --check stands alone\n",
+    ),
+    (&["mi_server", "--check"], 0, "ok\n", ""),
+    (&["mi_server"], 0, "", ""),
+    (
+        &["mi_server", "--check", "--schema=mi_server_none.toml"],
+        3,
+        "",
+        "schema: file\n",
+    ),
+    (
+        &["mi_server", "--what", "--check"],
+        2,
+        "",
+        "error: unexpected argument '--what' found\n\nUsage: mi_server [OPTIONS]\n\nFor more information, try '--help'.\n",
+    ),
+];
+
+/// A line that stands before the text of a file, the text, commands and their replies.
+const SERVED: [(&str, &str, &str, &str); 5] = [
+    (
+        "first_id = 9223372036854775806\n",
+        ACCOUNTS,
+        r#"{"cmd":"insert","row":{"owner":"a","balance":1,"vip":false}}
+{"cmd":"insert","row":{"owner":"b","balance":1,"vip":false}}
+"#,
+        r#"{"id":9223372036854775806,"ok":true}
+{"error":"spent","ok":false}
+"#,
+    ),
+    (
+        "first_arrival = 9223372036854775806\n",
+        ACCOUNTS,
+        r#"{"cmd":"insert","row":{"owner":"a","balance":1,"vip":false}}
+{"cmd":"insert","row":{"owner":"a","balance":1,"vip":false}}
+"#,
+        r#"{"id":0,"ok":true}
+{"error":"spent","ok":false}
+"#,
+    ),
+    (
+        "first_revision = 9223372036854775807\n",
+        ACCOUNTS,
+        r#"{"cmd":"start"}"#,
+        r#"{"error":"spent","ok":false}
+"#,
+    ),
+    (
+        "max_rows = 2\n",
+        ACCOUNTS,
+        r#"{"cmd":"insert","row":{"owner":"a","balance":1,"vip":false}}
+{"cmd":"insert","row":{"owner":"b","balance":1,"vip":false}}
+{"cmd":"insert","row":{"owner":"a","balance":1,"vip":false}}
+"#,
+        r#"{"id":0,"ok":true}
+{"id":1,"ok":true}
+{"error":"full","ok":false}
+"#,
+    ),
+    (
+        "",
+        TWO,
+        r#"{"cmd":"insert","row":{"k":5}}
+{"cmd":"start"}
+{"cmd":"insert","table":"b","row":{"t":"x"}}
+{"cmd":"insert","table":"b","row":{"t":"y"}}
+{"cmd":"insert","table":"a","row":{"k":5}}
+{"cmd":"start","table":"a"}
+{"cmd":"undo"}
+{"cmd":"get","id":0}
+{"cmd":"get","table":"b","id":10}
+"#,
+        r#"{"id":0,"ok":true}
+{"ok":true,"revision":1}
+{"id":10,"ok":true}
+{"error":"full","ok":false}
+{"error":"unique","id":0,"index":"u","ok":false}
+{"error":"form","ok":false}
+{"ok":true,"revision":0}
+{"ok":true,"row":{"id":0,"k":5}}
+{"error":"id","ok":false}
+"#,
+    ),
+];
+
+/// How a run of the program on this input ends, and what it wrote.
+fn ended(rt: &HostRuntime, words: &[&str], input: &str) -> (u8, Vec<u8>, Vec<u8>) {
+    let mut output = Vec::new(rt.alloc());
+    let mut errors = Vec::new(rt.alloc());
+    let status = run(rt, words, input.as_bytes(), &mut output, &mut errors);
+    (status, output, errors)
+}
+
+#[test]
+fn schemas_are_checked(rt: HostRuntime) -> Result<(), Fail> {
+    for (text, status, output, errors) in CHECKED {
+        fs::write(&rt, FILE, text)?;
+        let got = ended(&rt, &["mi_server", "--check", "--schema", FILE], "");
+        assert_eq!(rt; got.0, status, "status of {text}");
+        assert_eq!(rt; got.1.as_slice(), output.as_bytes(), "of {text}");
+        assert_eq!(rt; got.2.as_slice(), errors.as_bytes(), "of {text}");
+    }
+    for (words, status, output, errors) in CALLED {
+        let got = ended(&rt, words, "");
+        assert_eq!(rt; got.0, status, "status of {words:?}");
+        assert_eq!(rt; got.1.as_slice(), output.as_bytes(), "of {words:?}");
+        assert_eq!(rt; got.2.as_slice(), errors.as_bytes(), "of {words:?}");
+    }
+    for (length, status) in [(65_536, 0), (65_537, 3)] {
+        let mut text = String::from_str(rt.alloc(), ACCOUNTS)?;
+        for _ in text.len()..length {
+            text.push('\n')?;
+        }
+        fs::write(&rt, FILE, text.as_str())?;
+        let got = ended(&rt, &["mi_server", "--check", "--schema", FILE], "");
+        assert_eq!(rt; got.0, status, "status of {length} bytes");
+    }
+    fs::remove_file(&rt, FILE)?;
+    Ok(())
+}
+
+#[test]
+fn schemas_are_served(rt: HostRuntime) -> Result<(), Fail> {
+    for (line, text, input, want) in SERVED {
+        let text = format!(in rt.alloc(); "{line}{text}")?;
+        fs::write(&rt, OTHER_FILE, text.as_str())?;
+        let got = ended(&rt, &["mi_server", "--schema", OTHER_FILE], input);
+        assert_eq!(rt; got.0, 0, "status of {text}");
+        assert_eq!(rt; got.1.as_slice(), want.as_bytes(), "of {text}");
+    }
+    fs::remove_file(&rt, OTHER_FILE)?;
+    Ok(())
+}
+
+#[test]
+fn words_are_read(rt: HostRuntime) -> Result<(), Fail> {
+    match read_words(rt.alloc(), &["mi_server", "--check"]) {
+        Ok(options) => {
+            assert!(rt; options.schema.is_none() && options.check && options.listen.is_none());
+        }
+        Err(_) => assert!(rt; false, "the words are the program's"),
+    }
+    match read_words(
+        rt.alloc(),
+        &["mi_server", "--listen", "8000", "--clients", "2"],
+    ) {
+        Ok(options) => assert_eq!(rt; options.listen, Some((8000, 2))),
+        Err(_) => assert!(rt; false, "the words are the program's"),
+    }
+    let alone = read_words(rt.alloc(), &["mi_server", "--listen", "8000"]);
+    assert!(rt; matches!(alone, Err(WordsFault::Rules)));
+    for (port, clients) in [("0", "2"), ("65536", "2"), ("8000", "0"), ("8000", "65")] {
+        let wrong = read_words(
+            rt.alloc(),
+            &["mi_server", "--listen", port, "--clients", clients],
+        );
+        assert!(rt; matches!(wrong, Err(WordsFault::Parse(_))));
+    }
+    Ok(())
+}
+
+/// A port on which another listens already.
+#[test]
+fn taken_ports_are_refused(rt: HostRuntime) -> Result<(), Fail> {
+    let taken = TcpListener::bind(&rt, (Ipv4Addr::LOCALHOST, 0))?;
+    let port = format!(in rt.alloc(); "{}", taken.local_addr()?.port())?;
+    let words = ["mi_server", "--listen", port.as_str(), "--clients", "1"];
+    let got = ended(&rt, &words, "");
+    assert_eq!(rt; got.0, 4);
+    assert_eq!(rt; got.2.as_slice(), b"fault: listen\n".as_slice());
+    Ok(())
+}
