@@ -1,10 +1,10 @@
-# make run    builds the server if needed and serves standard input
+# make run    builds the server if needed and serves standard input; options by ARGS="--schema FILE"
 # make test   the gate: every proof from nothing, the must-fail edits, the tests, the program by two compilers
 
 .PHONY: run build test
 
 run: build
-	@exec crates/mi_server/out/mi_server
+	@exec crates/mi_server/out/mi_server $(ARGS)
 
 build:
 	@mkdir -p crates/mi_server/out
