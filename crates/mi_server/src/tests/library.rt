@@ -5,7 +5,7 @@ use mi_plain::Plain;
 use mi_schema::{Catalog, IndexKind, Schema, built_in};
 use mi_value::{
     Edit, Key, KeyPart, NoSession, Record, Refusal, Steps, Text, Value, apply, compare_key,
-    hash_values, same_key,
+    compare_prefix, hash_values, same_key,
 };
 use std::alloc::{AllocError, Global};
 use std::cmp::Ordering;
@@ -38,6 +38,9 @@ fn keys_compare(rt: HostRuntime) -> Result<(), Fail> {
         );
         assert_eq!(rt; same_key(&a, &b, &parts), want == Ordering::Equal);
     }
+    let third = account(alloc, "b", 3, true)?;
+    let prefix = [Value::Flag(true)];
+    assert_eq!(rt; compare_prefix(&prefix, &third, &parts), Ordering::Equal);
     assert!(rt; is_account(&a.copy(alloc)?, "a", 1, true));
     let owner = [KeyPart {
         column: 0,
