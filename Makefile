@@ -2,6 +2,7 @@
 # Options of the program go in ARGS, as make run ARGS="--schema examples/shop.toml".
 
 PYTHON ?= python3
+RT ?= rt
 PREFIX ?= /usr/local
 SEED ?= 1
 LINES ?= 2000
@@ -13,8 +14,9 @@ SHARE = $(DESTDIR)$(PREFIX)/share/weltiyo
 .PHONY: help try run build test check-docs bench fuzz soak install dist clean
 
 help:
-	@echo 'make try         compiles without proving (about a minute the first time) and serves; ARGS="..." are the options'
+	@echo 'make try         compiles without proving (about a minute the first time) and serves, at a terminal by a prompt'
 	@echo 'make run         proves, builds and serves; a program that is up to date starts at once, without `rt`'
+	@echo '                 (ARGS="--schema FILE" and the like are the options of the program for both)'
 	@echo 'make build       the same, without serving'
 	@echo 'make test        the gate: every proof from nothing, the must-fail edits, the tests, the program by two compilers'
 	@echo 'make check-docs  runs what README, guide and examples print, and the tests of the Python client and of the scripts'
@@ -35,8 +37,8 @@ build:
 	@$(PYTHON) scripts/program.py build
 
 test:
-	@command -v rt > /dev/null || exec $(PYTHON) scripts/program.py needs
-	@rt ci
+	@command -v $(RT) > /dev/null || $(PYTHON) scripts/program.py needs
+	@$(RT) ci
 
 check-docs:
 	@$(PYTHON) scripts/check_docs.py
@@ -51,12 +53,13 @@ bench:
 	@$(PYTHON) scripts/bench.py --rows $(ROWS)
 
 install: build
-	@install -d '$(DESTDIR)$(PREFIX)/bin' '$(SHARE)/docs' '$(SHARE)/examples' '$(SHARE)/python/mi_client'
+	@install -d '$(DESTDIR)$(PREFIX)/bin' '$(SHARE)/docs' '$(SHARE)/examples' '$(SHARE)/clients/python/mi_client'
 	@install -m 755 crates/mi_server/out/mi_server '$(DESTDIR)$(PREFIX)/bin/'
-	@install -m 644 README.md CHANGELOG.md '$(SHARE)/'
+	@install -m 644 README.md CHANGELOG.md CONTRIBUTING.md '$(SHARE)/'
 	@install -m 644 docs/*.md '$(SHARE)/docs/'
 	@install -m 644 examples/* '$(SHARE)/examples/'
-	@install -m 644 clients/python/mi_client/*.py '$(SHARE)/python/mi_client/'
+	@install -m 644 clients/python/README.md '$(SHARE)/clients/python/'
+	@install -m 644 clients/python/mi_client/*.py '$(SHARE)/clients/python/mi_client/'
 	@echo "installed $(DESTDIR)$(PREFIX)/bin/mi_server and $(SHARE)"
 
 dist: build
