@@ -74,7 +74,8 @@ class Database:
         """A server of its own, asked over its standard input. Its tables are gone when the connection is closed."""
         words = [os.fspath(program)] + (["--schema", os.fspath(schema)] if schema else [])
         pipes = {"stdin": subprocess.PIPE, "stdout": subprocess.PIPE, "stderr": subprocess.PIPE}
-        ran = subprocess.Popen(words, **pipes)
+        # (an interrupt at the terminal is for the client, and not for its server)
+        ran = subprocess.Popen(words, start_new_session=True, **pipes)
         return cls(ran.stdout, ran.stdin, [ran.stderr], ran)
 
     def __enter__(self) -> Database:

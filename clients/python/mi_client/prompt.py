@@ -157,6 +157,9 @@ def main() -> int:
             db = Database.start(options.program, options.schema)
         with db:
             ask_all(db, typed)
+    except KeyboardInterrupt:
+        print("\nmi_client: interrupted while a reply was awaited, so the connection is closed", file=sys.stderr)
+        return 130
     except (Ended, OSError) as error:
         print(f"mi_client: {error}", file=sys.stderr)
         return 1
