@@ -161,7 +161,7 @@ class Documents:
             raise Differs(f"--check ended with {ran.returncode}: {ran.stdout}{ran.stderr}")
 
     def run(self, words, **how):
-        env = {**os.environ, "PATH": f"{self.folder}/bin:{os.environ['PATH']}", "PYTHONPATH": f"{TOP}/clients/python"}
+        env = {**os.environ, "PATH": f"{self.folder}/bin:{os.environ['PATH']}", "PYTHONPATH": f"{TOP}/clients/python", "MI_SERVER": self.path}
         how = {"cwd": self.folder, "env": env, "capture_output": True, "text": True, "timeout": LONGEST_RUN, **how}
         return subprocess.run(words, stdin=subprocess.DEVNULL, **how)
 
@@ -284,8 +284,8 @@ def main():
     with tempfile.TemporaryDirectory(prefix="check-docs-") as folder:
         os.mkdir(f"{folder}/bin")
         os.symlink(path, f"{folder}/bin/mi_server")
-        os.symlink(f"{TOP}/examples", f"{folder}/examples")
-        os.symlink(f"{TOP}/scripts", f"{folder}/scripts")
+        for it in ("examples", "scripts", "clients"):
+            os.symlink(f"{TOP}/{it}", f"{folder}/{it}")
         checks = Documents(path, folder)
         for file in files:
             checks.document(file)
