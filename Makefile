@@ -1,15 +1,72 @@
-# make run    builds the server if needed and serves standard input; options by ARGS="--schema FILE"
-# make test   the gate: every proof from nothing, the must-fail edits, the tests, the program by two compilers
+# make        prints the targets below
+# Options of the program go in ARGS, as make run ARGS="--schema examples/shop.toml".
 
-.PHONY: run build test
+PYTHON ?= python3
+RT ?= rt
+PREFIX ?= /usr/local
+SEED ?= 1
+LINES ?= 2000
+SECONDS ?= 30
+CLIENTS ?= 4
+ROWS ?= 1000
+SHARE = $(DESTDIR)$(PREFIX)/share/weltiyo
 
-run: build
-	@exec crates/mi_server/out/mi_server $(ARGS)
+.PHONY: help try run build test check-docs bench fuzz soak install dist clean
+
+help:
+	@echo 'make try         compiles without proving (about a minute the first time) and serves, at a terminal by a prompt'
+	@echo 'make run         proves, builds and serves; a program that is up to date starts at once, without `rt`'
+	@echo '                 (ARGS="--schema FILE" and the like are the options of the program for both)'
+	@echo 'make build       the same, without serving'
+	@echo 'make test        the gate: every proof from nothing, the must-fail edits, the tests, the program by two compilers'
+	@echo 'make check-docs  runs what README, guide and examples print, and the tests of the Python client and of the scripts'
+	@echo 'make fuzz        random lines to the program and to a reference in Python: SEED=$(SEED) LINES=$(LINES)'
+	@echo 'make soak        clients over loopback for SECONDS=$(SECONDS), CLIENTS=$(CLIENTS): sums, sessions and memory are watched'
+	@echo 'make bench       how many commands a second the program answers over ROWS=$(ROWS) rows'
+	@echo 'make install     copies program, documents, examples and client below PREFIX=$(PREFIX)'
+	@echo 'make dist        the same as one archive, out/weltiyo.tar.gz'
+	@echo 'make clean       removes what was built, the kept proofs too'
+
+try:
+	@exec $(PYTHON) scripts/program.py try -- $(ARGS)
+
+run:
+	@exec $(PYTHON) scripts/program.py run -- $(ARGS)
 
 build:
-	@mkdir -p crates/mi_server/out
-	@echo "building, which proves every crate below (some minutes the first time)" >&2
-	@cd crates/mi_server && rt run < /dev/null > out/build.txt 2>&1 || { tail -n 20 out/build.txt >&2; exit 1; }
+	@$(PYTHON) scripts/program.py build
 
 test:
-	@rt ci
+	@command -v $(RT) > /dev/null || $(PYTHON) scripts/program.py needs
+	@$(RT) ci
+
+check-docs:
+	@$(PYTHON) scripts/check_docs.py
+
+fuzz:
+	@$(PYTHON) scripts/fuzz.py --seed $(SEED) --lines $(LINES)
+
+soak:
+	@$(PYTHON) scripts/soak.py --seconds $(SECONDS) --clients $(CLIENTS)
+
+bench:
+	@$(PYTHON) scripts/bench.py --rows $(ROWS)
+
+install: build
+	@install -d '$(DESTDIR)$(PREFIX)/bin' '$(SHARE)/docs' '$(SHARE)/examples' '$(SHARE)/clients/python/mi_client'
+	@install -m 755 crates/mi_server/out/mi_server '$(DESTDIR)$(PREFIX)/bin/'
+	@install -m 644 README.md CHANGELOG.md CONTRIBUTING.md '$(SHARE)/'
+	@install -m 644 docs/*.md '$(SHARE)/docs/'
+	@install -m 644 examples/* '$(SHARE)/examples/'
+	@install -m 644 clients/python/README.md '$(SHARE)/clients/python/'
+	@install -m 644 clients/python/mi_client/*.py '$(SHARE)/clients/python/mi_client/'
+	@echo "installed $(DESTDIR)$(PREFIX)/bin/mi_server and $(SHARE)"
+
+dist: build
+	@rm -rf out/dist && mkdir -p out/dist
+	@$(MAKE) --no-print-directory install DESTDIR='$(CURDIR)/out/dist' PREFIX=/weltiyo > out/dist/log.txt
+	@tar -C out/dist -czf out/weltiyo.tar.gz weltiyo
+	@rm -rf out/dist && echo 'made out/weltiyo.tar.gz'
+
+clean:
+	@rm -rf out crates/*/out

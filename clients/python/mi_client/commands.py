@@ -1,0 +1,60 @@
+"""The commands as the prompt knows them: their members, their replies, and a line on each."""
+from __future__ import annotations
+
+from typing import List, NamedTuple
+
+
+class Command(NamedTuple):
+    name: str
+    members: List[str]
+    """The needed members, and those in square brackets that may be left out."""
+    reply: str
+    about: str
+    example: str
+
+
+TABLE = "[table]"
+
+COMMANDS = {
+    it.name: it
+    for it in [
+        Command("insert", ["row", "[before]", TABLE], '{"id":N,"ok":true}', "adds a record",
+                'insert row={"owner":"ann","balance":50,"vip":false}'),
+        Command("replace", ["id", "row", TABLE], '{"ok":true}', "sets another record for an id",
+                'replace id=0 row={"owner":"ann","balance":7,"vip":true}'),
+        Command("modify", ["id", "[set]", "[add]", "[rollback]", TABLE], '{"ok":true}',
+                "sets columns and adds to int columns; refused as unique it erases the record, unless rollback=true",
+                'modify id=0 add={"balance":-5}'),
+        Command("erase", ["id", TABLE], '{"ok":true}', "erases a record", "erase id=0"),
+        Command("erase_key", ["index", "key", TABLE], '{"erased":N,"ok":true}', "erases every record with a whole key",
+                "erase_key index=by_vip key=[true]"),
+        Command("relocate", ["index", "id", "[before]", TABLE], '{"ok":true}',
+                "moves a record of a sequenced index before another, or to the end", "relocate index=line id=2 before=0"),
+        Command("start", [], '{"ok":true,"revision":N}', "opens a session", "start"),
+        Command("undo", [], '{"ok":true,"revision":N}', "takes back everything since the newest start", "undo"),
+        Command("squash", [], '{"ok":true,"revision":N}', "joins the newest session into the one below", "squash"),
+        Command("commit", ["revision"], '{"committed":N,"ok":true}', "ends the sessions up to a number for good", "commit revision=1"),
+        Command("undo_all", [], '{"ok":true,"undone":N}', "undoes every open session", "undo_all"),
+        Command("push", [], '{"ok":true,"pushed":N}', "lets go of the sessions that this connection holds", "push"),
+        Command("get", ["id", TABLE], '{"ok":true,"row":{..}}', "the record of an id", "get id=0"),
+        Command("find", ["index", "key", TABLE], '{"ok":true,"row":{..}}', "the first record with a key",
+                'find index=by_owner key=["ann"]'),
+        Command("nth", ["index", "n", TABLE], '{"ok":true,"row":{..}}', "the record with n others before it in a ranked index",
+                "nth index=by_balance n=0"),
+        Command("count", ["index", "key", TABLE], '{"count":N,"ok":true}', "how many records have a key", "count index=by_vip key=[true]"),
+        Command("range", ["index", "[lower]", "[upper]", "[reverse]", "[limit]", TABLE], '{"more":B,"ok":true,"rows":[..]}',
+                "the records between two bounds, in the order of an index",
+                'range index=by_balance lower={"ge":[10]} limit=5'),
+        Command("list", ["index", "[after]", "[limit]", TABLE], '{"more":B,"ok":true,"rows":[..]}',
+                "the records of a sequenced index", "list index=line"),
+        Command("rank", ["index", "id", TABLE], '{"ok":true,"rank":N}', "how many records stand before a record in a ranked index",
+                "rank index=by_balance id=0"),
+        Command("lower_rank", ["index", "key", TABLE], '{"ok":true,"rank":N}', "how many keys of a ranked index are less",
+                "lower_rank index=by_balance key=[10]"),
+        Command("upper_rank", ["index", "key", TABLE], '{"ok":true,"rank":N}', "how many keys of a ranked index are not greater",
+                "upper_rank index=by_balance key=[10]"),
+        Command("size", [TABLE], '{"ok":true,"size":N}', "how many records the table has", "size"),
+        Command("revision", [], '{"depth":N,"held":N,"ok":true,"revision":N}',
+                "the revision, the open sessions, and those that this connection holds", "revision"),
+    ]
+}

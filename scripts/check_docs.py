@@ -1,0 +1,306 @@
+#!/usr/bin/env python3
+"""Runs what the documents print: each command line must get the reply that stands under it, byte for byte.
+
+    check_docs.py [--program FILE] [--quick] [FILE.md ..]
+
+Fenced blocks are known by the first word behind the fence:
+
+    replies [NAME.toml] [continued]   `> LINE` is asked and the lines under it are the replies; `2> LINE` asks connection 2 of
+                                      several. NAME.toml is an example or a schema printed before; without it the built-in
+                                      one is served. `continued` goes on with the server of the block before.
+    toml NAME.toml [fault=WORD]       a schema, on which --check says `ok` or this fault
+    sh, python                        is run where the next block is `output`, which is what it prints; python is run always
+    output                            see above
+
+A block with a command line in any other form is an error, so that none stays unchecked. Then the examples are run against
+their stored replies (`examples/NAME.out`), and the tests of the client and of the scripts. --quick leaves the tests out. The
+last line is 'N passed, M failed'."""
+import argparse
+import glob
+import os
+import re
+import shutil
+import subprocess
+import sys
+import tempfile
+
+import program
+
+TOP = program.TOP
+sys.path.insert(0, f"{TOP}/clients/python")
+from mi_client import Database, Ended, Server  # noqa: E402
+
+FENCE = re.compile(r"^(`{3,})(.*)$")
+COMMAND = re.compile(r'^\s*(\d*>\s*)?\{\s*"cmd"')
+ASKED = re.compile(r"^(\d*)> (.*)$")
+LONGEST_RUN = 120
+PORT = "8000"
+"""The port that documents use; a free one takes its place."""
+
+
+class Differs(Exception):
+    """What was printed isn't what came."""
+
+
+class Block:
+    def __init__(self, file, line, words, text):
+        self.file, self.line, self.words, self.text = file, line, words, text
+        self.place = f"{os.path.relpath(file, TOP)}:{line}"
+
+    def kind(self):
+        return self.words[0] if self.words else ""
+
+
+def blocks_of(file):
+    with open(file, encoding="utf-8") as it:
+        lines = it.read().split("\n")
+    found, at = [], 0
+    while at < len(lines):
+        fence = FENCE.match(lines[at])
+        if not fence:
+            at += 1
+            continue
+        end = at + 1
+        while end < len(lines) and lines[end].strip() != fence[1]:
+            end += 1
+        found.append(Block(file, at + 1, fence[2].split(), lines[at + 1:end]))
+        at = end + 1
+    return found
+
+
+class Talk:
+    """The connections that a block of replies speaks of."""
+
+    def __init__(self, path, schema, count):
+        self.server = None
+        if count == 0:
+            self.connections = {"": Database.start(path, schema)}
+        else:
+            self.server = Server(path, clients=count, schema=schema)
+            self.connections = {str(n + 1): self.server.connect(60) for n in range(count)}
+        self.names = list(self.connections)
+        self.next = 0
+
+    def ask(self, name, line):
+        """The reply. Those whose turn comes first pass it on."""
+        while self.names[self.next] != name:
+            self.connections[self.names[self.next]].pass_turn()
+            self.next = (self.next + 1) % len(self.names)
+        self.next = (self.next + 1) % len(self.names)
+        return self.connections[name].ask_line(line)
+
+    def close(self):
+        for it in self.connections.values():
+            it.close()
+        if self.server:
+            self.server.__exit__()
+
+
+def connections_in(text):
+    asked = [ASKED.match(it) for it in text]
+    return max([int(it[1]) for it in asked if it and it[1]], default=0)
+
+
+class Documents:
+    def __init__(self, path, folder):
+        self.path, self.folder = path, folder
+        self.talk, self.passed, self.failed, self.skipped = None, 0, 0, []
+
+    def check(self, place, call, *args):
+        try:
+            call(*args)
+            self.passed += 1
+        except (Differs, Ended, OSError, subprocess.TimeoutExpired, ValueError) as error:
+            self.failed += 1
+            print(f"{place}: {error}")
+
+    def schema(self, name):
+        for folder in (self.folder, f"{TOP}/examples"):
+            if os.path.isfile(f"{folder}/{name}"):
+                return f"{folder}/{name}"
+        raise Differs(f"no schema {name} was printed before")
+
+    # Blocks
+
+    def replies(self, block):
+        schemas = [it for it in block.words[1:] if it.endswith(".toml")]
+        if "continued" not in block.words:
+            self.end_talk()
+            self.talk = Talk(self.path, self.schema(schemas[0]) if schemas else None, connections_in(block.text))
+        if not self.talk:
+            raise Differs("nothing to continue")
+        asked = None
+        for n, line in enumerate(block.text, 1):
+            found = ASKED.match(line)
+            if found:
+                if asked is not None:
+                    raise Differs(f"line {n}: the command before has no reply under it")
+                asked = self.talk.ask(found[1], found[2])
+            elif line and asked is None:
+                raise Differs(f"line {n}: a reply that nothing asked for")
+            elif line:
+                if line != asked:
+                    raise Differs(f"line {n}\n  printed {line}\n  came    {asked}")
+                asked = None
+        if asked is not None:
+            raise Differs("the last command has no reply under it")
+
+    def end_talk(self):
+        if self.talk:
+            self.talk.close()
+        self.talk = None
+
+    def toml(self, block):
+        name = block.words[1]
+        fault = next((it[6:] for it in block.words if it.startswith("fault=")), None)
+        with open(f"{self.folder}/{name}", "w", encoding="utf-8") as file:
+            file.write("\n".join(block.text) + "\n")
+        ran = self.run([self.path, "--check", "--schema", f"{self.folder}/{name}"])
+        wanted = (3, "", f"schema: {fault}\n") if fault else (0, "ok\n", "")
+        if (ran.returncode, ran.stdout, ran.stderr) != wanted:
+            raise Differs(f"--check ended with {ran.returncode}: {ran.stdout}{ran.stderr}")
+
+    def run(self, words, **how):
+        env = {**os.environ, "PATH": f"{self.folder}/bin:{os.environ['PATH']}", "PYTHONPATH": f"{TOP}/clients/python", "MI_SERVER": self.path}
+        how = {"cwd": self.folder, "env": env, "capture_output": True, "text": True, "timeout": LONGEST_RUN, **how}
+        return subprocess.run(words, stdin=subprocess.DEVNULL, **how)
+
+    def code(self, block, wanted):
+        text = "\n".join(block.text).replace(PORT, str(program.free_port())).replace("crates/mi_server/out/mi_server", "mi_server")
+        words = [sys.executable, "-c", text] if block.kind() == "python" else ["bash", "-e", "-c", text]
+        ran = self.run(words)
+        if ran.returncode:
+            raise Differs(f"ended with {ran.returncode}: {ran.stderr}")
+        if wanted is not None and ran.stdout.rstrip("\n") != "\n".join(wanted.text):
+            raise Differs("it prints\n" + ran.stdout)
+
+    def block(self, block, following):
+        kind = block.kind()
+        wanted = following if following and following.kind() == "output" else None
+        if kind == "replies":
+            self.check(block.place, self.replies, block)
+        elif kind == "toml" and len(block.words) > 1:
+            self.check(block.place, self.toml, block)
+        elif kind == "python" or kind == "sh" and wanted:
+            needs = [it[6:] for it in block.words if it.startswith("needs=")]
+            lacking = [it for it in needs if not shutil.which(it)]
+            if lacking:
+                self.skipped.append(f"{block.place} needs {', '.join(lacking)}")
+            else:
+                self.check(block.place, self.code, block, wanted)
+        elif kind not in ("output", "sh") and any(map(COMMAND.match, block.text)):
+            self.check(block.place, self.unknown, block)
+
+    def unknown(self, block):
+        raise Differs("a command line in a block that isn't `replies`, so nothing checks it")
+
+    def document(self, file):
+        print(f"== {os.path.relpath(file, TOP)}", flush=True)
+        blocks = blocks_of(file)
+        for block, following in zip(blocks, [*blocks[1:], None]):
+            self.block(block, following)
+        self.end_talk()
+        self.check(os.path.relpath(file, TOP), self.paths, file)
+
+    def paths(self, file):
+        """The files of the repository that a document names are there."""
+        with open(file, encoding="utf-8") as it:
+            text = it.read()
+        named = set(re.findall(r"`((?:docs|examples|scripts|clients|\.ci)/[\w./-]+)`", text))
+        named |= {os.path.relpath(os.path.normpath(f"{os.path.dirname(file)}/{it}"), TOP) for it in re.findall(r"\]\(([^)#:]+)(?:#[^)]*)?\)", text)}
+        lacking = sorted(it for it in named if not os.path.exists(f"{TOP}/{it}"))
+        if lacking:
+            raise Differs(f"names what isn't there: {', '.join(lacking)}")
+
+    # Examples
+
+    def example(self, lines, schema, stored):
+        words = [self.path] + (["--schema", schema] if schema else [])
+        with open(lines, "rb") as file, open(stored, "rb") as out:
+            ran = subprocess.run(words, stdin=file, capture_output=True, timeout=LONGEST_RUN)
+            if ran.returncode or ran.stderr:
+                raise Differs(f"ended with {ran.returncode}: {ran.stderr.decode()}")
+            for n, (want, got) in enumerate(zip(out.read().splitlines(), ran.stdout.splitlines()), 1):
+                if want != got:
+                    raise Differs(f"reply {n}\n  stored {want.decode()}\n  came   {got.decode()}")
+            out.seek(0)
+            if out.read() != ran.stdout:
+                raise Differs("the stored replies are more or fewer")
+
+    def clients(self, script, stored):
+        """An example in Python that connects to two clients' worth of a server."""
+        port = str(program.free_port())
+        with subprocess.Popen([self.path, "--listen", port, "--clients", "2"]) as server:
+            try:
+                ran = self.run([sys.executable, script, port])
+            finally:
+                if server.poll() is None and sys.exc_info()[0]:
+                    server.kill()
+        with open(stored, encoding="utf-8") as file:
+            if ran.returncode or ran.stdout != file.read():
+                raise Differs(f"ended with {ran.returncode}, and printed\n{ran.stdout}{ran.stderr}")
+
+    def examples(self):
+        print("== examples", flush=True)
+        for lines in sorted(glob.glob(f"{TOP}/examples/*.txt")):
+            name = lines[:-4]
+            schema = f"{name}.toml" if os.path.isfile(f"{name}.toml") else None
+            self.check(os.path.relpath(lines, TOP), self.example, lines, schema, f"{name}.out")
+        for script in sorted(glob.glob(f"{TOP}/examples/*.py")):
+            self.check(os.path.relpath(script, TOP), self.clients, script, f"{script[:-3]}.out")
+        for schema in sorted(glob.glob(f"{TOP}/examples/*.toml")):
+            self.check(os.path.relpath(schema, TOP), self.is_sound, schema)
+
+    def is_sound(self, schema):
+        ran = self.run([self.path, "--check", "--schema", schema])
+        if ran.stdout != "ok\n":
+            raise Differs(ran.stderr.strip())
+
+    # Tests
+
+    def tests(self, folder):
+        env = {**os.environ, "MI_SERVER": self.path}
+        ran = subprocess.run(
+            [sys.executable, "-m", "unittest", "discover", "-s", folder], env=env, capture_output=True, text=True, timeout=600
+        )
+        if ran.returncode:
+            raise Differs(ran.stderr)
+
+    def fuzz(self):
+        ran = self.run([sys.executable, f"{TOP}/scripts/fuzz.py", "--program", self.path, "--lines", "600"])
+        if ran.returncode:
+            raise Differs(ran.stdout + ran.stderr)
+
+
+def main():
+    parser = argparse.ArgumentParser()
+    parser.add_argument("--program")
+    parser.add_argument("--quick", action="store_true")
+    parser.add_argument("files", nargs="*")
+    options = parser.parse_args()
+    path = os.path.abspath(options.program) if options.program else program.program()
+    print(f"with {program.title(path)}")
+    files = options.files or [f"{TOP}/README.md", f"{TOP}/CONTRIBUTING.md", *sorted(glob.glob(f"{TOP}/docs/*.md")), f"{TOP}/clients/python/README.md"]
+    with tempfile.TemporaryDirectory(prefix="check-docs-") as folder:
+        os.mkdir(f"{folder}/bin")
+        os.symlink(path, f"{folder}/bin/mi_server")
+        for it in ("examples", "scripts", "clients"):
+            os.symlink(f"{TOP}/{it}", f"{folder}/{it}")
+        checks = Documents(path, folder)
+        for file in files:
+            checks.document(file)
+        if not options.files:
+            checks.examples()
+        if not options.files and not options.quick:
+            print("== tests", flush=True)
+            checks.check("clients/python/tests", checks.tests, f"{TOP}/clients/python/tests")
+            checks.check("scripts/tests", checks.tests, f"{TOP}/scripts/tests")
+            checks.check("scripts/fuzz.py", checks.fuzz)
+    for it in checks.skipped:
+        print(f"skipped: {it}")
+    print(f"{checks.passed} passed, {checks.failed} failed", flush=True)
+    return 1 if checks.failed else 0
+
+
+if __name__ == "__main__":
+    sys.exit(main())

@@ -1,0 +1,386 @@
+#!/usr/bin/env python3
+"""Random lines to the program and to `reference.py`, whose replies must be the same bytes.
+
+    fuzz.py [--seed N] [--lines N] [--program FILE]
+
+A case is a random schema with some 200 lines: mostly commands that mean something, some damaged ones. Each case goes through
+standard input in one piece; each third one goes through two to four loopback connections, in pieces cut inside of lines. The same seed
+gives the same cases. Where a reply differs, the case is left in out/fuzz/."""
+import argparse
+import json
+import os
+import random
+import socket
+import subprocess
+import sys
+import time
+
+import program
+from reference import LAST, LONGEST_LINE, Index, Reference, Schema
+
+CASE_LINES = 200
+PIECE = 4096
+FOLDER = f"{program.TOP}/out/fuzz"
+
+ACCOUNTS = Schema(
+    "accounts",
+    [("owner", "text"), ("balance", "int"), ("vip", "flag")],
+    [
+        Index("by_owner", "hashed", [(0, False)], unique=True),
+        Index("by_balance", "ranked", [(1, False)]),
+        Index("by_vip", "hashed", [(2, False)]),
+        Index("by_class", "ordered", [(2, True), (1, False)]),
+        Index("line", "sequenced"),
+    ],
+)
+
+TEXTS = ["", "a", "b", "ann", "bob", "\u00e4", "\u6f22", "\U0001f600", "\uffff", "z\"\\\n", "\x00\x1f\x7f", "id", "a" * 1024, "\u00e4" * 512]
+NUMBERS = [0, 1, 2, 3, 5, 7, -1, -5, 50, LAST, -LAST - 1, LAST - 1]
+ODD_VALUES = ["1.0", "1e3", "-0", "1.5", "9223372036854775808", "-9223372036854775809", "1e400", "null", "[]", "{}", "\"" + "x" * 1025 + "\""]
+DAMAGE = [b"\xff", b"\xef\xbb\xbf", b"\\ud800", b"\\u0061", b"\x00", b"\t", b" ", b"}", b"{", b"[", b",", b"\"", b"01", b"NaN", b"\r"]
+
+
+def toml(schemas, first_revision):
+    """The catalog as a document."""
+    lines = [] if len(schemas) == 1 else ["format = 2"]
+    if first_revision:
+        lines.append(f"first_revision = {first_revision}")
+    for schema in schemas:
+        alone = len(schemas) == 1
+        if alone:
+            lines.insert(0, f'table = "{schema.name}"')
+        else:
+            lines += ["[[table]]", f'name = "{schema.name}"']
+        lines += [f"max_rows = {schema.max_rows}", f"first_id = {schema.first_id}", f"first_arrival = {schema.first_arrival}"]
+        columns = ", ".join(f'{{name = "{name}", type = "{kind}"}}' for name, kind in schema.columns)
+        lines.append(f"column = [{columns}]")
+        indexes = ", ".join(toml_index(schema, it) for it in schema.indexes[1:])
+        lines.append(f"index = [{indexes}]")
+    return "\n".join(lines) + "\n"
+
+
+def toml_index(schema, index):
+    said = f'name = "{index.name}", kind = "{index.kind}"'
+    if index.kind != "sequenced":
+        parts = ", ".join(f'"{"-" * descends}{schema.columns[column][0]}"' for column, descends in index.parts)
+        said += f", unique = {str(index.unique).lower()}, key = [{parts}]"
+    return f"{{{said}}}"
+
+
+class Lines:
+    """Random schemas and lines."""
+
+    def __init__(self, seed):
+        self.random = random.Random(seed)
+
+    def schema(self, n):
+        pick = self.random
+        columns = [(f"c{i}", pick.choice(["int", "text", "flag"])) for i in range(pick.randint(1, 5))]
+        indexes = []
+        for i in range(pick.randint(0, 6)):
+            kind = pick.choice(["ordered", "ranked", "hashed", "sequenced"])
+            parts = pick.sample(range(len(columns)), pick.randint(1, min(3, len(columns))))
+            parts = [(it, kind != "hashed" and pick.random() < 0.4) for it in parts]
+            if kind == "sequenced":
+                indexes.append(Index(f"i{i}", kind))
+            else:
+                indexes.append(Index(f"i{i}", kind, parts, unique=pick.random() < 0.3))
+        late = pick.random() < 0.1
+        return Schema(
+            f"t{n}",
+            columns,
+            indexes,
+            max_rows=pick.choice([1, 3, 20, 1_000_000]),
+            first_id=LAST - pick.randint(0, 20) if late else pick.choice([0, 0, 100]),
+            first_arrival=LAST - pick.randint(0, 40) if pick.random() < 0.1 else 0,
+        )
+
+    def catalog(self):
+        if self.random.random() < 0.3:
+            return [ACCOUNTS], 0
+        first_revision = LAST - self.random.randint(0, 5) if self.random.random() < 0.1 else self.random.choice([0, 0, 7])
+        return [self.schema(n) for n in range(self.random.choice([1, 1, 2, 3]))], first_revision
+
+    def value(self, kind):
+        if kind == "int":
+            return self.random.choice(NUMBERS)
+        return self.random.random() < 0.5 if kind == "flag" else self.random.choice(TEXTS)
+
+    def row(self, schema):
+        return {name: self.value(kind) for name, kind in schema.columns}
+
+    def id(self, schema):
+        return max(0, min(LAST, schema.first_id + self.random.randint(-1, 30)))
+
+    def key(self, schema, index, is_whole_key):
+        kinds = ["int"] if index.is_id else [schema.columns[column][1] for column, _ in index.parts]
+        if index.is_id:
+            return [self.id(schema)]
+        least = len(kinds) if is_whole_key or not index.is_sorted else 1
+        length = self.random.randint(min(least, len(kinds)), len(kinds))
+        return [self.value(it) for it in kinds[:length]]
+
+    def index(self, schema, kinds):
+        fitting = [it for it in schema.indexes if it.kind in kinds]
+        return self.random.choice(fitting if fitting and self.random.random() < 0.95 else schema.indexes)
+
+    def command(self, schemas):
+        """A command as an object."""
+        pick, schema = self.random, self.random.choice(schemas)
+        name = pick.choices(
+            ["insert", "replace", "modify", "erase", "erase_key", "relocate", "start", "undo", "squash", "commit", "undo_all", "push",
+             "get", "find", "nth", "count", "range", "list", "rank", "lower_rank", "upper_rank", "size", "revision", "reserve", "fly"],
+            [30, 8, 14, 6, 2, 8, 6, 5, 3, 2, 0.5, 1, 4, 4, 3, 4, 10, 6, 4, 3, 3, 2, 2, 0.5, 0.2],
+        )[0]
+        said = {"cmd": name}
+        if name in ("insert", "replace"):
+            said["row"] = self.row(schema)
+        if name in ("replace", "modify", "erase", "relocate", "get", "rank"):
+            said["id"] = self.id(schema)
+        if name == "insert" and pick.random() < 0.2:
+            place = {"index": self.index(schema, ["sequenced"]).name, "id": self.id(schema)}
+            said["before"] = pick.choice([None, place, place, place])
+        if name == "modify":
+            self.edits(schema, said)
+        if name in ("relocate", "list"):
+            said["index"] = self.index(schema, ["sequenced"]).name
+        if name == "relocate" and pick.random() < 0.8:
+            said["before"] = pick.choice([None, self.id(schema), self.id(schema)])
+        if name == "list" and pick.random() < 0.5:
+            said["after"] = self.id(schema)
+        if name in ("rank", "nth"):
+            said["index"] = self.index(schema, ["ranked", "id"]).name
+        if name == "nth":
+            said["n"] = pick.randint(0, 20)
+        if name in ("find", "count", "erase_key", "lower_rank", "upper_rank"):
+            kinds = ["ranked", "id"] if name.endswith("rank") else ["ordered", "ranked", "hashed", "id"]
+            index = self.index(schema, kinds)
+            said.update(index=index.name, key=self.key(schema, index, name == "erase_key"))
+        if name == "range":
+            index = self.index(schema, ["ordered", "ranked", "id"])
+            said["index"] = index.name
+            for side, bounds in (("lower", ["ge", "gt"]), ("upper", ["le", "lt"])):
+                if pick.random() < 0.5:
+                    said[side] = {pick.choice(bounds): self.key(schema, index, False)}
+            if pick.random() < 0.3:
+                said["reverse"] = pick.random() < 0.8
+        if name in ("range", "list") and pick.random() < 0.4:
+            said["limit"] = pick.choice([1, 2, 3, 1000, pick.randint(0, 1001)])
+        if name == "commit":
+            said["revision"] = pick.choice([0, 1, 2, 3, 8, LAST - 3, LAST])
+        if name == "reserve":
+            said.update(changes=pick.choice([0, 3, 1_000_000, 1_000_001]), sessions=pick.choice([0, 1, 1024, 1025]))
+        if name not in ("start", "undo", "squash", "commit", "undo_all", "push", "revision", "reserve", "fly"):
+            if schema is not schemas[0] or pick.random() < 0.1:
+                said["table"] = schema.name
+        return said
+
+    def edits(self, schema, said):
+        pick = self.random
+        names = pick.sample(schema.columns, pick.randint(0, len(schema.columns)))
+        for name, kind in names:
+            if kind == "int" and pick.random() < 0.6:
+                said.setdefault("add", {})[name] = self.value(kind)
+            else:
+                said.setdefault("set", {})[name] = self.value(kind)
+        if pick.random() < 0.05 and names:
+            said.setdefault("add", {})[names[0][0]] = 1
+        if pick.random() < 0.5:
+            said["rollback"] = pick.random() < 0.8
+
+    def text(self, said):
+        """The object as a line, written in one of the ways that JSON allows."""
+        pick = self.random
+        if pick.random() < 0.1:
+            members = list(said.items())
+            pick.shuffle(members)
+            said = dict(members)
+        spaces = pick.random() < 0.1
+        text = json.dumps(said, ensure_ascii=pick.random() < 0.2, separators=(", ", ": ") if spaces else (",", ":"))
+        return text.encode()
+
+    def line(self, schemas):
+        pick = self.random
+        chance = pick.random()
+        if chance < 0.03:
+            return pick.choice([b"", b"\r", b" ", b"[]", b"{}", b"null", b"[" * 127 + b"]" * 127, b"[" * 128 + b"]" * 128, b'{"cmd":"undo"}'])
+        if chance < 0.035:
+            text = b'{"cmd":"size"}'
+            return text + b" " * (LONGEST_LINE - len(text) + pick.randint(-1, 1))
+        said = self.command(schemas)
+        text = self.text(said)
+        if chance < 0.10:
+            return self.damaged(text, said)
+        return text + b"\r" if chance < 0.14 else text
+
+    def damaged(self, text, said):
+        pick = self.random
+        how = pick.randint(0, 5)
+        if how == 0:
+            return text[: pick.randint(0, len(text))]
+        if how == 1:
+            at = pick.randint(0, len(text))
+            return text[:at] + pick.choice(DAMAGE) + text[at:]
+        if how == 2:
+            at = pick.randint(0, len(text) - 1)
+            return text[:at] + text[at + 1:]
+        if how == 3:
+            member = pick.choice(list(said))
+            return json.dumps({it: value for it, value in said.items() if it != member}).encode()
+        if how == 4:
+            name = pick.choice([*said, "x", "table"])
+            return text[:-1] + f',"{name}":{pick.choice(ODD_VALUES)}}}'.encode()
+        odd = pick.choice(ODD_VALUES)
+        return json.dumps(replaced(said, pick)).replace('"@"', odd).encode()
+
+
+def replaced(said, pick):
+    """The object with one value, at any depth, replaced by "@"."""
+    if isinstance(said, dict) and said:
+        name = pick.choice(list(said))
+        return {**said, name: replaced(said[name], pick)}
+    if isinstance(said, list) and said:
+        return [replaced(said[0], pick), *said[1:]]
+    return "@"
+
+
+def start(path, folder, catalog, words=()):
+    schemas, first_revision = catalog
+    words = [path, *words]
+    if schemas != [ACCOUNTS]:
+        with open(f"{folder}/schema.toml", "w", encoding="utf-8") as file:
+            file.write(toml(schemas, first_revision))
+        words += ["--schema", f"{folder}/schema.toml"]
+    return subprocess.Popen(words, stdin=subprocess.PIPE, stdout=subprocess.PIPE, stderr=subprocess.PIPE)
+
+
+def first_difference(lines, want, got):
+    want, got = want.split(b"\n"), got.split(b"\n")
+    for n, pair in enumerate(zip(want, got)):
+        if pair[0] != pair[1]:
+            return f"reply {n + 1}\n  wanted {pair[0][:2000]!r}\n  got    {pair[1][:2000]!r}"
+    return f"{len(want) - 1} replies were wanted, {len(got) - 1} came"
+
+
+def over_pipes(path, catalog, lines, has_reserve):
+    """Asks a case over standard input, in one piece. Answers how it differs, if it does."""
+    reference = Reference(*catalog, has_reserve)
+    whole = b"\n".join(lines)
+    want = reference.feed(1, whole) + reference.close(1)
+    with open(f"{FOLDER}/lines.txt", "wb") as file:
+        file.write(whole)
+    ran = start(path, FOLDER, catalog)
+    got, said = ran.communicate(whole, timeout=300)
+    if ran.returncode:
+        return f"the program ended with status {ran.returncode}: {said.decode(errors='replace')}"
+    return None if got == want else first_difference(lines, want, got)
+
+
+def connected(ran, port):
+    for _ in range(500):
+        try:
+            stream = socket.create_connection(("127.0.0.1", port), timeout=60)
+            stream.setsockopt(socket.IPPROTO_TCP, socket.TCP_NODELAY, 1)
+            return stream
+        except ConnectionRefusedError:
+            if ran.poll() is not None:
+                break
+            time.sleep(0.02)
+    return None
+
+
+def over_loopback(path, catalog, lines, has_reserve, pick):
+    """Asks a case over several connections, which take turns. Each turn is a piece with at least one reply, so that the next
+    connection's piece is sent once the server has read this one's. Answers how it differs, if it does."""
+    reference, count, port = Reference(*catalog, has_reserve), pick.randint(2, 4), program.free_port()
+    ran = start(path, FOLDER, catalog, ["--listen", str(port), "--clients", str(count)])
+    streams = [connected(ran, port) for _ in range(count)]
+    try:
+        return by_turns(reference, dict(enumerate(streams, 1)), lines, pick)
+    finally:
+        for it in streams:
+            if it:
+                it.close()
+        try:
+            ran.communicate(timeout=60)
+        except subprocess.TimeoutExpired:
+            ran.kill()
+            ran.communicate()
+
+
+def received(stream, length):
+    got = b""
+    while len(got) < length or length < 0:
+        more = stream.recv(65_536)
+        if not more:
+            break
+        got += more
+    return got
+
+
+def by_turns(reference, streams, lines, pick):
+    if None in streams.values():
+        return "the program doesn't listen"
+    left = [it for it in lines if len(it) < PIECE // 2]
+    fronts = {it: b"" for it in streams}
+    log = []
+    while streams:
+        for connection in list(streams):
+            stream, ends = streams[connection], not left or pick.random() < 0.01
+            if ends:
+                # (what was sent of a last line is a line now)
+                piece, want = b"", reference.close(connection)
+                stream.shutdown(socket.SHUT_WR)
+                got = received(stream, -1)
+                del streams[connection]
+            else:
+                piece = (left.pop() + b"\n") if left else b""
+                cut = pick.randint(0, len(left[-1])) if left and pick.random() < 0.5 else 0
+                front = left[-1][:cut] if cut else b""
+                if cut:
+                    # (the rest of this line comes with the connection's next turn)
+                    left[-1], behind = b'{"cmd":"revision"}', left[-1][cut:]
+                piece = fronts[connection] + piece + b'{"cmd":"size"}\n' + front
+                fronts[connection] = behind + b"\n" if cut else b""
+                want = reference.feed(connection, piece)
+                stream.sendall(piece)
+                got = received(stream, len(want))
+            log.append((connection, piece, want, got))
+            if got != want:
+                with open(f"{FOLDER}/turns.txt", "w", encoding="utf-8") as file:
+                    file.writelines(f"{it[0]} {it[1]!r}\n  wanted {it[2]!r}\n  got    {it[3]!r}\n" for it in log)
+                return f"turn {len(log)} of connection {connection}: {first_difference([], want, got)}"
+    return None
+
+
+def knows_reserve(path):
+    line = b'{"cmd":"reserve","changes":0,"sessions":0}'
+    return subprocess.run([path], input=line, stdout=subprocess.PIPE).stdout == b'{"ok":true}\n'
+
+
+def main():
+    parser = argparse.ArgumentParser()
+    parser.add_argument("--seed", type=int, default=1)
+    parser.add_argument("--lines", type=int, default=2000)
+    parser.add_argument("--program")
+    options = parser.parse_args()
+    path = options.program or program.program()
+    os.makedirs(FOLDER, exist_ok=True)
+    has_reserve, began, asked, case = knows_reserve(path), time.monotonic(), 0, 0
+    while asked < options.lines:
+        made = Lines(f"{options.seed}/{case}")
+        catalog, count = made.catalog(), min(CASE_LINES, options.lines - asked)
+        lines = [made.line(catalog[0]) for _ in range(count)]
+        differs = over_pipes(path, catalog, lines, has_reserve)
+        where = "lines.txt"
+        if not differs and case % 3 == 0:
+            differs, where = over_loopback(path, catalog, lines, has_reserve, made.random), "turns.txt"
+        if differs:
+            sys.exit(f"seed {options.seed}, case {case}: {differs}\nthe case is in {os.path.relpath(FOLDER)}: schema.toml, {where}")
+        asked, case = asked + count, case + 1
+    seconds = time.monotonic() - began
+    print(f"{asked} lines in {case} cases of seed {options.seed}: {program.title(path)} and the reference wrote the same bytes ({seconds:.0f} s)")
+
+
+if __name__ == "__main__":
+    main()

@@ -1,0 +1,151 @@
+#!/usr/bin/env python3
+"""A bounded run over loopback with the Python client.
+
+    soak.py [--seconds N] [--clients K] [--program FILE]
+
+Each client has some accounts and, in its own thread, moves sums between them inside of sessions, some of which it undoes, some it lets
+fail and some it pushes or leaves to the end of its connection. The sum of all balances must stay what it was, whatever was undone, and the
+server's memory is looked at: once the tables have their size it must not grow with the number of commands."""
+import argparse
+import random
+import sys
+import threading
+import time
+
+import program
+
+sys.path.insert(0, f"{program.TOP}/clients/python")
+from mi_client import Refused, Server  # noqa: E402
+
+ACCOUNTS = 20
+BALANCE = 1_000
+
+
+class Failed(Exception):
+    """Something was undone in a block on purpose."""
+
+
+class Mover(threading.Thread):
+    """Moves sums between the accounts of one client until it is told to stop, and counts what it did."""
+
+    def __init__(self, db, number, stopped):
+        super().__init__(daemon=True)
+        self.db, self.number, self.stopped = db, number, stopped
+        self.random = random.Random(number)
+        self.done, self.busy, self.undone, self.fault = 0, 0, 0, None
+
+    def asked(self, call, *args, **members):
+        """Asks until no other connection holds sessions."""
+        while True:
+            try:
+                return call(*args, **members)
+            except Refused as refusal:
+                if refusal.word != "busy":
+                    raise
+                self.busy += 1
+
+    def run(self):
+        try:
+            with self.db:
+                self.ids = [self.open_account(n) for n in range(ACCOUNTS)]
+                while not self.stopped.is_set():
+                    self.move()
+                    self.done += 1
+                # A session that is left open is undone with the connection.
+                self.asked(self.db.begin)
+                self.db.erase(self.ids[0])
+        except Exception as error:  # the main thread tells of it
+            self.fault = error
+
+    def open_account(self, n):
+        row = {"owner": f"client {self.number} account {n}", "balance": BALANCE, "vip": n % 2 == 0}
+        return self.asked(self.db.insert, row)
+
+    def move(self):
+        source, target = self.random.sample(self.ids, 2)
+        how, sum_moved = self.random.random(), self.random.randint(1, 50)
+        self.asked(self.db.begin)
+        number = self.db.revision().revision
+        self.db.modify(source, add={"balance": -sum_moved})
+        self.db.relocate("line", source, before=target)
+        if how < 0.3:
+            # An inner session that fails: a second account of one owner.
+            try:
+                with self.db.session():
+                    self.db.modify(source, add={"balance": -sum_moved})
+                    self.db.insert({"owner": self.db.get(source)["owner"], "balance": 0, "vip": False})
+                raise AssertionError("two accounts of one owner")
+            except Refused as refusal:
+                assert refusal.word == "unique", refusal.word
+        if how < 0.5:
+            self.db.erase(target)
+            assert self.db.undo() == number - 1
+            self.undone += 1
+            return
+        self.db.modify(target, add={"balance": sum_moved})
+        if how < 0.6:
+            self.db.commit(number)
+        else:
+            self.db.squash()
+
+
+def memory_of(process):
+    """The server's memory in kilobytes."""
+    with open(f"/proc/{process.pid}/status", encoding="ascii") as file:
+        return next(int(line.split()[1]) for line in file if line.startswith("VmRSS"))
+
+
+def fail(why):
+    sys.exit(f"soak: {why}")
+
+
+def main():
+    parser = argparse.ArgumentParser()
+    parser.add_argument("--seconds", type=float, default=30)
+    parser.add_argument("--clients", type=int, default=4)
+    parser.add_argument("--program")
+    options = parser.parse_args()
+    if not 1 <= options.clients <= 63:
+        fail("--clients is 1 to 63, since one more connection watches")
+    path = options.program or program.program()
+    stopped, began, samples = threading.Event(), time.monotonic(), []
+    with Server(path, clients=options.clients + 1) as server:
+        movers = [Mover(server.connect(60), n + 1, stopped) for n in range(options.clients)]
+        watcher = server.connect(60)
+        for it in movers:
+            it.start()
+        while any(it.is_alive() for it in movers):
+            watcher.revision()
+            if time.monotonic() - began > len(samples) * options.seconds / 20:
+                samples.append(memory_of(server.process))
+            if time.monotonic() - began > options.seconds:
+                stopped.set()
+        faults = [it.fault for it in movers if it.fault]
+        if faults:
+            fail(f"a client failed: {faults[0]!r}")
+        rows = list(watcher.walk_range("by_balance", ["balance"], page=7))
+        listed = [it["id"] for it in watcher.walk_list("line", page=7)]
+        state = watcher.revision()
+        watcher.close()
+        status = server.ended()
+    if len(rows) != ACCOUNTS * options.clients or sorted(listed) != sorted(it["id"] for it in rows):
+        fail(f"{len(rows)} accounts are left of {ACCOUNTS * options.clients}, {len(listed)} in the list")
+    if sum(it["balance"] for it in rows) != BALANCE * len(rows):
+        fail("the sum of the balances has changed")
+    if [it["balance"] for it in rows] != sorted(it["balance"] for it in rows):
+        fail("the range is out of order")
+    if (state.depth, state.held) != (0, 0) or status:
+        fail(f"at the end: {state}, status {status}")
+    half = len(samples) // 2
+    early, late = max(samples[: half + 1]), max(samples[half:])
+    if late > 1.5 * early + 10_000:
+        fail(f"the server's memory rose from {early} to {late} kB")
+    moves, undone, busy = (sum(getattr(it, name) for it in movers) for name in ("done", "undone", "busy"))
+    print(
+        f"{options.clients} clients for {options.seconds:.0f} s with {program.title(path)}: {moves} moves, {undone} of them undone, "
+        f"{busy} refused as busy and asked again; the sum stayed; memory {early} kB in the first half, {late} kB in the second"
+    )
+
+
+if __name__ == "__main__":
+    main()
