@@ -5,7 +5,7 @@ use Rattle.mi_node.specs.declared.packed.PackedLink.{PackedLink}
 use Rattle.mi_node.specs.declared.packed.PackedLink.TheVariants.{Neither, Back, Forth, Both}
 
 abbrev pub link_in : PackedLink → Link
-link_in (Neither h n) = record { back = None; forth = None; size = n; height = h }
-link_in (Back h n b) = record { back = Some b; forth = None; size = n; height = h }
-link_in (Forth h n f) = record { back = None; forth = Some f; size = n; height = h }
-link_in (Both h n b f) = record { back = Some b; forth = Some f; size = n; height = h }
+link_in (Neither h n t) = record { back = None; forth = None; size = n; height = h; tag = t }
+link_in (Back h n t b) = record { back = Some b; forth = None; size = n; height = h; tag = t }
+link_in (Forth h n t f) = record { back = None; forth = Some f; size = n; height = h; tag = t }
+link_in (Both h n t b f) = record { back = Some b; forth = Some f; size = n; height = h; tag = t }

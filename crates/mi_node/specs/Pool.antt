@@ -13,6 +13,7 @@ use Rattle.std.specs.Ptr.{Ptr}
 use Rattle.mi_node.specs.Refs.{IsOut}
 use Rattle.mi_node.specs.declared.heap.NodeRef.{NodeRef}
 use Rattle.mi_node.specs.declared.link.Link.{Link}
+use Rattle.mi_node.specs.declared.link.Tag.{Tag}
 use Rattle.mi_node.specs.contracts.heap.NodeRef as node_type
 use Rattle.mi_node.specs.contracts.link.Link as link_type
 
@@ -34,9 +35,13 @@ abbrev pub pooled_code : {T : Type 0} → Coded T → Coded (Pooled T)
 pooled_code {T} t =
     code_by (FinMap nat_cmp (Entry T) × ℕ) (coded× (code coded_ℕ (entry_code t)) coded_ℕ) (λ m. (m.entries, m.slots)) (λ p. record { entries = p.0; slots = p.1 }) (λ _. refl)
 
+-- the tag of a slot that was never set
+abbrev pub no_tag : Tag
+no_tag = record { key = 0; stamp = 0 }
+
 -- the link of a slot that was never set
 abbrev pub no_link : Link
-no_link = record { back = None; forth = None; size = 0; height = 0 }
+no_link = record { back = None; forth = None; size = 0; height = 0; tag = no_tag }
 
 -- the links with l in slot s. A list that is too short is filled up, which no pool's is
 abbrev pub put_link : List Link → ℕ → Link → List Link

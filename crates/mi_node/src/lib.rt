@@ -12,5 +12,5 @@ mod worked;
 
 pub use counted::Counted;
 pub use heap::NodeRef;
-pub use link::{Link, NO_LINK};
+pub use link::{Link, NO_LINK, NO_TAG, Tag};
 pub use pool::{MAX_SLOTS, Pool};

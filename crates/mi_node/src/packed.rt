@@ -1,10 +1,10 @@
-//! The form in which a node stores a link: 48 bytes, where a `Link` takes 64.
+//! The form in which a node stores a link: 64 bytes, where a `Link` takes more.
 //! Plain data: it owns no node and never follows a reference.
 ghost use Rattle.std.specs.Prelude.{◌≡◌, ⊤};
 ghost use Rattle.mi_node.specs.Packed.{link_in};
 
 use crate::heap::NodeRef;
-use crate::link::Link;
+use crate::link::{Link, Tag};
 use std::alloc::AllocError;
 
 /// A `Link` with one tag for which neighbours are there, in place of one tag for each. The height
@@ -12,21 +12,25 @@ use std::alloc::AllocError;
 pub(crate) enum PackedLink {
     Neither {
         height: u8,
-        size: u64,
+        size: u32,
+        tag: Tag,
     },
     Back {
         height: u8,
-        size: u64,
+        size: u32,
+        tag: Tag,
         back: NodeRef,
     },
     Forth {
         height: u8,
-        size: u64,
+        size: u32,
+        tag: Tag,
         forth: NodeRef,
     },
     Both {
         height: u8,
-        size: u64,
+        size: u32,
+        tag: Tag,
         back: NodeRef,
         forth: NodeRef,
     },
@@ -54,18 +58,26 @@ impl PackedLink {
             forth,
             size,
             height,
+            tag,
         } = link;
         match (back, forth) {
-            (None, None) => PackedLink::Neither { height, size },
-            (Some(back), None) => PackedLink::Back { height, size, back },
+            (None, None) => PackedLink::Neither { height, size, tag },
+            (Some(back), None) => PackedLink::Back {
+                height,
+                size,
+                tag,
+                back,
+            },
             (None, Some(forth)) => PackedLink::Forth {
                 height,
                 size,
+                tag,
                 forth,
             },
             (Some(back), Some(forth)) => PackedLink::Both {
                 height,
                 size,
+                tag,
                 back,
                 forth,
             },
@@ -77,31 +89,41 @@ impl PackedLink {
         ensures { result ≡ link_in self }
     {
         match self {
-            PackedLink::Neither { height, size } => Link {
+            PackedLink::Neither { height, size, tag } => Link {
                 back: None,
                 forth: None,
                 size,
                 height,
+                tag,
             },
-            PackedLink::Back { height, size, back } => Link {
+            PackedLink::Back {
+                height,
+                size,
+                tag,
+                back,
+            } => Link {
                 back: Some(back),
                 forth: None,
                 size,
                 height,
+                tag,
             },
             PackedLink::Forth {
                 height,
                 size,
+                tag,
                 forth,
             } => Link {
                 back: None,
                 forth: Some(forth),
                 size,
                 height,
+                tag,
             },
             PackedLink::Both {
                 height,
                 size,
+                tag,
                 back,
                 forth,
             } => Link {
@@ -109,6 +131,7 @@ impl PackedLink {
                 forth: Some(forth),
                 size,
                 height,
+                tag,
             },
         }
     }

@@ -21,7 +21,7 @@ pub const MAX_SLOTS: usize = 16;
 /// A reference is held while the pool's entry of its name has that very reference: not after it was
 /// given back, even if its name was taken again, and never in another pool.
 ///
-/// A node takes two blocks of memory: one of its value and 72 bytes, and one of 48 bytes a slot.
+/// A node takes two blocks of memory: one of its value and 72 bytes, and one of 64 bytes a slot.
 /// Dropping the pool drops the value of each held node and frees the node.
 pub struct Pool<T> {
     heap: Heap<Node<T>, Global>,

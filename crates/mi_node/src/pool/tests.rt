@@ -36,16 +36,16 @@ fn links_are_kept_by_slot(rt: HostRuntime) {
     };
     let mut link = NO_LINK;
     link.forth = Some(r);
-    link.size = u64::MAX;
+    link.size = u32::MAX;
     link.height = u8::MAX;
     pool.set_link(r, 2, link);
     let last = pool.link(r, 2);
-    assert_eq!(rt; (last.size, last.height), (u64::MAX, u8::MAX));
+    assert_eq!(rt; (last.size, last.height), (u32::MAX, u8::MAX));
     assert_eq!(rt; last.back.is_some(), false);
     assert_eq!(rt; last.forth.is_some(), true);
     assert_eq!(rt; pool.link(r, 1).size, 0);
     let mut counted = Counted::new(&pool);
-    assert_eq!(rt; counted.link(r, 2).size, u64::MAX);
+    assert_eq!(rt; counted.link(r, 2).size, u32::MAX);
     assert_eq!(rt; *counted.value(r), 10);
 }
 
@@ -106,7 +106,7 @@ fn each_value_is_dropped_once(rt: HostRuntime) {
 #[test]
 fn a_node_is_small(rt: HostRuntime) {
     let (link, node) = (size_of::<PackedLink>(), size_of::<Node<u64>>());
-    assert_eq!(rt; link, 48);
+    assert_eq!(rt; link, 64);
     assert_eq!(rt; node, 80);
-    assert_eq!(rt; node.wrapping_add(link.wrapping_mul(6)), 368);
+    assert_eq!(rt; node.wrapping_add(link.wrapping_mul(6)), 464);
 }
