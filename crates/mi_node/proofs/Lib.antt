@@ -1,8 +1,6 @@
 pub mod Callers
-pub mod Gaps
+pub mod Flats
 pub mod Keeping
-pub mod Parts
+pub mod Links
+pub mod Maps
 pub mod Refs
-pub mod Sharing
-pub mod Split
-pub mod Threads

@@ -1,0 +1,87 @@
+//! A place for a node: one stands there, or it is free.
+//! Plain data, which knows nothing of other places.
+ghost use Rattle.std.specs.Prelude.{◌≡◌, ◌<◌, ◌≤◌, ◌+◌, Some, IfOk, IsTrue, is_some, length};
+ghost use Rattle.mi_node.specs.Homes.{IsFree, AreFree, node_in, value_in};
+
+use crate::chunks::CHUNK;
+use crate::node_ref::{NodeRef, PLACES};
+use std::alloc::{AllocError, Global};
+
+/// What stands at a place: a node, or nothing, with the number of the next free place. A free place
+/// keeps the reference of the last node that stood there.
+#[derive(Drop)]
+pub(crate) enum Home<T> {
+    Free { node: NodeRef, next: u32 },
+    Held { node: NodeRef, value: T },
+}
+
+/// A reference for the next node at a free place, and the number of the free place after it.
+pub(crate) fn next_at<T>(home: &Home<T>) -> (NodeRef, u32)
+    requires { IsFree home.now }
+    ensures { result.0.name ≡ (node_in home.now).name }
+{
+    match home {
+        Home::Free { node, next } => (node.renewed(), *next),
+        Home::Held { node: _, value: _ } => unreachable!(),
+    }
+}
+
+/// The value of the node that stands there.
+pub(crate) fn value_at<T>(home: &Home<T>) -> &T
+    requires { IsTrue (is_some (value_in home.now)) }
+    ensures { value_in home.now ≡ Some result.now }
+{
+    match home {
+        Home::Held { node: _, value } => value,
+        Home::Free { node: _, next: _ } => unreachable!(),
+    }
+}
+
+/// The value of the node that stood there.
+pub(crate) fn into_value<T>(home: Home<T>) -> T
+    requires { IsTrue (is_some (value_in home)) }
+    ensures { value_in home ≡ Some result }
+{
+    match home {
+        Home::Held { node: _, value } => value,
+        Home::Free { node: _, next: _ } => unreachable!(),
+    }
+}
+
+/// Whether no node stands there.
+pub(crate) fn is_free<T>(home: &Home<T>) -> bool
+    ensures { IsTrue result → IsFree home.now }
+{
+    match home {
+        Home::Free { node: _, next: _ } => true,
+        Home::Held { node: _, value: _ } => false,
+    }
+}
+
+/// A chunk of free places, the first of which has the number `first`. Each names the one after it as
+/// the next free place, and the last names `next`.
+pub(crate) fn free_chunk<T>(
+    alloc: Global,
+    first: u32,
+    next: u32,
+) -> Result<Vec<Home<T>>, AllocError>
+where
+    T: Drop,
+    requires { first + 4096 ≤ PLACES }
+    ensures length { IfOk result (λ c. length c.items ≡ 4096) }
+    ensures free { IfOk result (λ c. AreFree first c.items) }
+{
+    let mut chunk = Vec::with_capacity(alloc, CHUNK)?;
+    for place in first..first + CHUNK as u32 {
+        let after = if place + 1 < first + CHUNK as u32 {
+            place + 1
+        } else {
+            next
+        };
+        chunk.push_reserved(Home::Free {
+            node: NodeRef::new(place, 0),
+            next: after,
+        });
+    }
+    Ok(chunk)
+}
