@@ -7,6 +7,7 @@ A case is a random schema with some 200 lines: mostly commands that mean somethi
 standard input in one piece; each third one goes through two to four loopback connections, in pieces cut inside of lines. The same seed
 gives the same cases. Where a reply differs, the case is left below out/fuzz/."""
 import argparse
+import collections
 import json
 import os
 import random
@@ -17,7 +18,7 @@ import sys
 import time
 
 import program
-from reference import LAST, LONGEST_LINE, Index, Reference, Schema
+from reference import KINDS, LAST, LONGEST_LINE, Index, Reference, Schema
 
 CASE_LINES = 200
 PIECE = 4096
@@ -40,8 +41,8 @@ TEXTS = ["", "a", "b", "ann", "bob", "\u00e4", "\u6f22", "\U0001f600", "\uffff",
 NUMBERS = [0, 1, 2, 3, 5, 7, -1, -5, 50, LAST, -LAST - 1, LAST - 1]
 ODD_VALUES = ["1.0", "1e3", "-0", "1.5", "9223372036854775808", "-9223372036854775809", "1e400", "null", "[]", "{}", "\"" + "x" * 1025 + "\""]
 OFTEN = {
-    "insert": 30, "replace": 8, "modify": 14, "erase": 6, "erase_key": 2, "relocate": 8, "start": 6, "undo": 5, "squash": 3, "commit": 2,
-    "undo_all": 0.5, "push": 1, "get": 4, "find": 4, "nth": 3, "count": 4, "range": 10, "list": 6, "rank": 4, "lower_rank": 3,
+    "insert": 36, "replace": 8, "modify": 14, "erase": 5, "erase_key": 1, "relocate": 8, "start": 8, "undo": 5, "squash": 2, "commit": 4,
+    "undo_all": 0.3, "push": 1, "get": 4, "find": 4, "nth": 3, "count": 4, "range": 10, "list": 6, "rank": 4, "lower_rank": 3,
     "upper_rank": 3, "size": 2, "revision": 2, "reserve": 0.5, "fly": 0.2,
 }
 WITHOUT_TABLE = ("start", "undo", "squash", "commit", "undo_all", "push", "revision", "reserve", "fly")
@@ -80,11 +81,16 @@ class Lines:
 
     def __init__(self, seed):
         self.random = random.Random(seed)
+        # Few values in most cases, so that keys are equal and unique indexes refuse.
+        size = self.random.choice([2, 3, 5, 100])
+        self.texts = self.random.sample(TEXTS, min(size, len(TEXTS)))
+        self.numbers = self.random.sample(NUMBERS, min(size, len(NUMBERS)))
+        self.inserts = collections.Counter()
 
     def schema(self, n):
         pick = self.random
         columns = [(f"c{i}", pick.choice(["int", "text", "flag"])) for i in range(pick.randint(1, 5))]
-        indexes = []
+        indexes, often_unique = [], pick.choice([0, 0.1, 0.3])
         for i in range(pick.randint(0, 6)):
             kind = pick.choice(["ordered", "ranked", "hashed", "sequenced"])
             parts = pick.sample(range(len(columns)), pick.randint(1, min(3, len(columns))))
@@ -92,13 +98,13 @@ class Lines:
             if kind == "sequenced":
                 indexes.append(Index(f"i{i}", kind))
             else:
-                indexes.append(Index(f"i{i}", kind, parts, unique=pick.random() < 0.3))
+                indexes.append(Index(f"i{i}", kind, parts, unique=pick.random() < often_unique))
         late = pick.random() < 0.1
         return Schema(
             f"t{n}",
             columns,
             indexes,
-            max_rows=pick.choice([1, 3, 20, 1_000_000]),
+            max_rows=pick.choice([1, 8, 1_000_000, 1_000_000]),
             first_id=LAST - pick.randint(0, 20) if late else pick.choice([0, 0, 100]),
             first_arrival=LAST - pick.randint(0, 40) if pick.random() < 0.1 else 0,
         )
@@ -111,14 +117,17 @@ class Lines:
 
     def value(self, kind):
         if kind == "int":
-            return self.random.choice(NUMBERS)
-        return self.random.random() < 0.5 if kind == "flag" else self.random.choice(TEXTS)
+            return self.random.choice(self.numbers)
+        return self.random.random() < 0.5 if kind == "flag" else self.random.choice(self.texts)
 
     def row(self, schema):
         return {name: self.value(kind) for name, kind in schema.columns}
 
     def id(self, schema):
-        return max(0, min(LAST, schema.first_id + self.random.randint(-1, 30)))
+        """Mostly the id of a record that may be there."""
+        inserts = self.inserts[schema.name]
+        highest = inserts + 3 if self.random.random() < 0.1 else inserts * 2 // 3
+        return max(0, min(LAST, schema.first_id + self.random.randint(-1 if highest < 1 else 0, highest)))
 
     def key(self, schema, index, is_whole_key):
         kinds = ["int"] if index.is_id else [schema.columns[column][1] for column, _ in index.parts]
@@ -136,7 +145,10 @@ class Lines:
         """A command as an object."""
         pick, schema = self.random, self.random.choice(schemas)
         name = pick.choices(list(OFTEN), list(OFTEN.values()))[0]
+        if not any(it.kind in KINDS.get(name, it.kind).split() for it in schema.indexes) and pick.random() < 0.9:
+            name = "insert"
         said = {"cmd": name}
+        self.inserts[schema.name] += name == "insert"
         if name in ("insert", "replace"):
             said["row"] = self.row(schema)
         if name in ("replace", "modify", "erase", "relocate", "get", "rank"):
@@ -204,8 +216,8 @@ class Lines:
                 said.setdefault("set", {})[name] = self.value(kind)
         if pick.random() < 0.05 and names:
             said.setdefault("add", {})[names[0][0]] = 1
-        if pick.random() < 0.5:
-            said["rollback"] = pick.random() < 0.8
+        if pick.random() < 0.8:
+            said["rollback"] = pick.random() < 0.9
 
     def text(self, said):
         """The object as a line, written in one of the ways that JSON allows."""
@@ -222,7 +234,7 @@ class Lines:
         pick = self.random
         chance = pick.random()
         if chance < 0.03:
-            return pick.choice([b"", b"\r", b" ", b"[]", b"{}", b"null", b"[" * 127 + b"]" * 127, b"[" * 128 + b"]" * 128, b'{"cmd":"undo"}'])
+            return pick.choice([b"", b"\r", b"\r\r", b" ", b"[]", b"{}", b"null", b"[" * 127 + b"]" * 127, b"[" * 128 + b"]" * 128, b'{"cmd":"undo"}'])
         if chance < 0.035:
             text = b'{"cmd":"size"}'
             return text + b" " * (LONGEST_LINE - len(text) + pick.randint(-1, 1))
@@ -298,7 +310,7 @@ def over_pipes(path, catalog, lines, has_reserve):
 def connected(ran, port):
     for _ in range(500):
         try:
-            stream = socket.create_connection(("127.0.0.1", port), timeout=60)
+            stream = socket.create_connection(("127.0.0.1", port), timeout=30)
             stream.setsockopt(socket.IPPROTO_TCP, socket.TCP_NODELAY, 1)
             return stream
         except ConnectionRefusedError:
@@ -330,7 +342,10 @@ def over_loopback(path, catalog, lines, has_reserve, pick):
 def received(stream, length):
     got = b""
     while len(got) < length or length < 0:
-        more = stream.recv(65_536)
+        try:
+            more = stream.recv(65_536)
+        except socket.timeout:
+            break
         if not more:
             break
         got += more
