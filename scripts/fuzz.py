@@ -5,22 +5,25 @@
 
 A case is a random schema with some 200 lines: mostly commands that mean something, some damaged ones. Each case goes through
 standard input in one piece; each third one goes through two to four loopback connections, in pieces cut inside of lines. The same seed
-gives the same cases. Where a reply differs, the case is left in out/fuzz/."""
+gives the same cases. Where a reply differs, the case is left below out/fuzz/."""
 import argparse
+import collections
 import json
 import os
 import random
+import shutil
 import socket
 import subprocess
 import sys
 import time
 
 import program
-from reference import LAST, LONGEST_LINE, Index, Reference, Schema
+from reference import KINDS, LAST, LONGEST_LINE, Index, Reference, Schema
 
 CASE_LINES = 200
 PIECE = 4096
-FOLDER = f"{program.TOP}/out/fuzz"
+FOLDER = f"{program.TOP}/out/fuzz/{os.getpid()}"
+"""Of this run alone, so that several may run at once."""
 
 ACCOUNTS = Schema(
     "accounts",
@@ -37,6 +40,12 @@ ACCOUNTS = Schema(
 TEXTS = ["", "a", "b", "ann", "bob", "\u00e4", "\u6f22", "\U0001f600", "\uffff", "z\"\\\n", "\x00\x1f\x7f", "id", "a" * 1024, "\u00e4" * 512]
 NUMBERS = [0, 1, 2, 3, 5, 7, -1, -5, 50, LAST, -LAST - 1, LAST - 1]
 ODD_VALUES = ["1.0", "1e3", "-0", "1.5", "9223372036854775808", "-9223372036854775809", "1e400", "null", "[]", "{}", "\"" + "x" * 1025 + "\""]
+OFTEN = {
+    "insert": 36, "replace": 8, "modify": 14, "erase": 5, "erase_key": 1, "relocate": 8, "start": 8, "undo": 5, "squash": 2, "commit": 4,
+    "undo_all": 0.3, "push": 1, "get": 4, "find": 4, "nth": 3, "count": 4, "range": 10, "list": 6, "rank": 4, "lower_rank": 3,
+    "upper_rank": 3, "size": 2, "revision": 2, "reserve": 0.5, "fly": 0.2,
+}
+WITHOUT_TABLE = ("start", "undo", "squash", "commit", "undo_all", "push", "revision", "reserve", "fly")
 DAMAGE = [b"\xff", b"\xef\xbb\xbf", b"\\ud800", b"\\u0061", b"\x00", b"\t", b" ", b"}", b"{", b"[", b",", b"\"", b"01", b"NaN", b"\r"]
 
 
@@ -72,11 +81,16 @@ class Lines:
 
     def __init__(self, seed):
         self.random = random.Random(seed)
+        # Few values in most cases, so that keys are equal and unique indexes refuse.
+        size = self.random.choice([2, 3, 5, 100])
+        self.texts = self.random.sample(TEXTS, min(size, len(TEXTS)))
+        self.numbers = self.random.sample(NUMBERS, min(size, len(NUMBERS)))
+        self.inserts = collections.Counter()
 
     def schema(self, n):
         pick = self.random
         columns = [(f"c{i}", pick.choice(["int", "text", "flag"])) for i in range(pick.randint(1, 5))]
-        indexes = []
+        indexes, often_unique = [], pick.choice([0, 0.1, 0.3])
         for i in range(pick.randint(0, 6)):
             kind = pick.choice(["ordered", "ranked", "hashed", "sequenced"])
             parts = pick.sample(range(len(columns)), pick.randint(1, min(3, len(columns))))
@@ -84,13 +98,13 @@ class Lines:
             if kind == "sequenced":
                 indexes.append(Index(f"i{i}", kind))
             else:
-                indexes.append(Index(f"i{i}", kind, parts, unique=pick.random() < 0.3))
+                indexes.append(Index(f"i{i}", kind, parts, unique=pick.random() < often_unique))
         late = pick.random() < 0.1
         return Schema(
             f"t{n}",
             columns,
             indexes,
-            max_rows=pick.choice([1, 3, 20, 1_000_000]),
+            max_rows=pick.choice([1, 8, 1_000_000, 1_000_000]),
             first_id=LAST - pick.randint(0, 20) if late else pick.choice([0, 0, 100]),
             first_arrival=LAST - pick.randint(0, 40) if pick.random() < 0.1 else 0,
         )
@@ -103,14 +117,17 @@ class Lines:
 
     def value(self, kind):
         if kind == "int":
-            return self.random.choice(NUMBERS)
-        return self.random.random() < 0.5 if kind == "flag" else self.random.choice(TEXTS)
+            return self.random.choice(self.numbers)
+        return self.random.random() < 0.5 if kind == "flag" else self.random.choice(self.texts)
 
     def row(self, schema):
         return {name: self.value(kind) for name, kind in schema.columns}
 
     def id(self, schema):
-        return max(0, min(LAST, schema.first_id + self.random.randint(-1, 30)))
+        """Mostly the id of a record that may be there."""
+        inserts = self.inserts[schema.name]
+        highest = inserts + 3 if self.random.random() < 0.1 else inserts * 2 // 3
+        return max(0, min(LAST, schema.first_id + self.random.randint(-1 if highest < 1 else 0, highest)))
 
     def key(self, schema, index, is_whole_key):
         kinds = ["int"] if index.is_id else [schema.columns[column][1] for column, _ in index.parts]
@@ -127,35 +144,57 @@ class Lines:
     def command(self, schemas):
         """A command as an object."""
         pick, schema = self.random, self.random.choice(schemas)
-        name = pick.choices(
-            ["insert", "replace", "modify", "erase", "erase_key", "relocate", "start", "undo", "squash", "commit", "undo_all", "push",
-             "get", "find", "nth", "count", "range", "list", "rank", "lower_rank", "upper_rank", "size", "revision", "reserve", "fly"],
-            [30, 8, 14, 6, 2, 8, 6, 5, 3, 2, 0.5, 1, 4, 4, 3, 4, 10, 6, 4, 3, 3, 2, 2, 0.5, 0.2],
-        )[0]
+        name = pick.choices(list(OFTEN), list(OFTEN.values()))[0]
+        if not any(it.kind in KINDS.get(name, it.kind).split() for it in schema.indexes) and pick.random() < 0.9:
+            name = "insert"
         said = {"cmd": name}
+        self.inserts[schema.name] += name == "insert"
         if name in ("insert", "replace"):
             said["row"] = self.row(schema)
         if name in ("replace", "modify", "erase", "relocate", "get", "rank"):
             said["id"] = self.id(schema)
-        if name == "insert" and pick.random() < 0.2:
-            place = {"index": self.index(schema, ["sequenced"]).name, "id": self.id(schema)}
-            said["before"] = pick.choice([None, place, place, place])
         if name == "modify":
             self.edits(schema, said)
-        if name in ("relocate", "list"):
-            said["index"] = self.index(schema, ["sequenced"]).name
+        if name in ("insert", "relocate", "list"):
+            self.places(schema, name, said)
+        if name in ("rank", "nth", "find", "count", "erase_key", "lower_rank", "upper_rank"):
+            self.keys(schema, name, said)
+        if name in ("range", "list"):
+            self.page(schema, name, said)
+        if name == "commit":
+            said["revision"] = pick.choice([0, 1, 2, 3, 8, LAST - 3, LAST])
+        if name == "reserve":
+            said.update(changes=pick.choice([0, 3, 1_000_000, 1_000_001]), sessions=pick.choice([0, 1, 1024, 1025]))
+        if name not in WITHOUT_TABLE and (schema is not schemas[0] or pick.random() < 0.1):
+            said["table"] = schema.name
+        return said
+
+    def places(self, schema, name, said):
+        """The members of a command that speaks of a place in a sequenced index."""
+        pick, index = self.random, self.index(schema, ["sequenced"]).name
+        if name == "insert":
+            if pick.random() < 0.2:
+                said["before"] = pick.choice([None] + [{"index": index, "id": self.id(schema)}] * 3)
+            return
+        said["index"] = index
         if name == "relocate" and pick.random() < 0.8:
             said["before"] = pick.choice([None, self.id(schema), self.id(schema)])
         if name == "list" and pick.random() < 0.5:
             said["after"] = self.id(schema)
-        if name in ("rank", "nth"):
-            said["index"] = self.index(schema, ["ranked", "id"]).name
+
+    def keys(self, schema, name, said):
+        """The members of a command that asks for a key, or for a place in a ranked index."""
+        is_ranked = name in ("rank", "nth", "lower_rank", "upper_rank")
+        index = self.index(schema, ["ranked", "id"] if is_ranked else ["ordered", "ranked", "hashed", "id"])
+        said["index"] = index.name
         if name == "nth":
-            said["n"] = pick.randint(0, 20)
-        if name in ("find", "count", "erase_key", "lower_rank", "upper_rank"):
-            kinds = ["ranked", "id"] if name.endswith("rank") else ["ordered", "ranked", "hashed", "id"]
-            index = self.index(schema, kinds)
-            said.update(index=index.name, key=self.key(schema, index, name == "erase_key"))
+            said["n"] = self.random.randint(0, 20)
+        elif name != "rank":
+            said["key"] = self.key(schema, index, name == "erase_key")
+
+    def page(self, schema, name, said):
+        """The members of a command that answers a page."""
+        pick = self.random
         if name == "range":
             index = self.index(schema, ["ordered", "ranked", "id"])
             said["index"] = index.name
@@ -164,16 +203,8 @@ class Lines:
                     said[side] = {pick.choice(bounds): self.key(schema, index, False)}
             if pick.random() < 0.3:
                 said["reverse"] = pick.random() < 0.8
-        if name in ("range", "list") and pick.random() < 0.4:
+        if pick.random() < 0.4:
             said["limit"] = pick.choice([1, 2, 3, 1000, pick.randint(0, 1001)])
-        if name == "commit":
-            said["revision"] = pick.choice([0, 1, 2, 3, 8, LAST - 3, LAST])
-        if name == "reserve":
-            said.update(changes=pick.choice([0, 3, 1_000_000, 1_000_001]), sessions=pick.choice([0, 1, 1024, 1025]))
-        if name not in ("start", "undo", "squash", "commit", "undo_all", "push", "revision", "reserve", "fly"):
-            if schema is not schemas[0] or pick.random() < 0.1:
-                said["table"] = schema.name
-        return said
 
     def edits(self, schema, said):
         pick = self.random
@@ -185,8 +216,8 @@ class Lines:
                 said.setdefault("set", {})[name] = self.value(kind)
         if pick.random() < 0.05 and names:
             said.setdefault("add", {})[names[0][0]] = 1
-        if pick.random() < 0.5:
-            said["rollback"] = pick.random() < 0.8
+        if pick.random() < 0.8:
+            said["rollback"] = pick.random() < 0.9
 
     def text(self, said):
         """The object as a line, written in one of the ways that JSON allows."""
@@ -203,7 +234,7 @@ class Lines:
         pick = self.random
         chance = pick.random()
         if chance < 0.03:
-            return pick.choice([b"", b"\r", b" ", b"[]", b"{}", b"null", b"[" * 127 + b"]" * 127, b"[" * 128 + b"]" * 128, b'{"cmd":"undo"}'])
+            return pick.choice([b"", b"\r", b"\r\r", b" ", b"[]", b"{}", b"null", b"[" * 127 + b"]" * 127, b"[" * 128 + b"]" * 128, b'{"cmd":"undo"}'])
         if chance < 0.035:
             text = b'{"cmd":"size"}'
             return text + b" " * (LONGEST_LINE - len(text) + pick.randint(-1, 1))
@@ -279,7 +310,7 @@ def over_pipes(path, catalog, lines, has_reserve):
 def connected(ran, port):
     for _ in range(500):
         try:
-            stream = socket.create_connection(("127.0.0.1", port), timeout=60)
+            stream = socket.create_connection(("127.0.0.1", port), timeout=30)
             stream.setsockopt(socket.IPPROTO_TCP, socket.TCP_NODELAY, 1)
             return stream
         except ConnectionRefusedError:
@@ -311,7 +342,10 @@ def over_loopback(path, catalog, lines, has_reserve, pick):
 def received(stream, length):
     got = b""
     while len(got) < length or length < 0:
-        more = stream.recv(65_536)
+        try:
+            more = stream.recv(65_536)
+        except socket.timeout:
+            break
         if not more:
             break
         got += more
@@ -335,13 +369,11 @@ def by_turns(reference, streams, lines, pick):
                 del streams[connection]
             else:
                 piece = (left.pop() + b"\n") if left else b""
-                cut = pick.randint(0, len(left[-1])) if left and pick.random() < 0.5 else 0
-                front = left[-1][:cut] if cut else b""
-                if cut:
-                    # (the rest of this line comes with the connection's next turn)
-                    left[-1], behind = b'{"cmd":"revision"}', left[-1][cut:]
-                piece = fronts[connection] + piece + b'{"cmd":"size"}\n' + front
-                fronts[connection] = behind + b"\n" if cut else b""
+                # The last line of a turn is cut in half of them; its rest comes with the connection's next turn.
+                cut_line = left.pop() if left and pick.random() < 0.5 else b""
+                cut = pick.randint(0, len(cut_line))
+                piece = fronts[connection] + piece + b'{"cmd":"size"}\n' + cut_line[:cut]
+                fronts[connection] = cut_line[cut:] + b"\n" if cut_line else b""
                 want = reference.feed(connection, piece)
                 stream.sendall(piece)
                 got = received(stream, len(want))
@@ -379,6 +411,7 @@ def main():
             sys.exit(f"seed {options.seed}, case {case}: {differs}\nthe case is in {os.path.relpath(FOLDER)}: schema.toml, {where}")
         asked, case = asked + count, case + 1
     seconds = time.monotonic() - began
+    shutil.rmtree(FOLDER)
     print(f"{asked} lines in {case} cases of seed {options.seed}: {program.title(path)} and the reference wrote the same bytes ({seconds:.0f} s)")
 
 

@@ -99,6 +99,34 @@ def fail(why):
     sys.exit(f"soak: {why}")
 
 
+def watched(movers, watcher, process, seconds):
+    """Looks on until all clients have ended, and stops them after so many seconds. Answers the memory that was seen."""
+    began, samples = time.monotonic(), []
+    while any(it.is_alive() for it in movers):
+        watcher.revision()
+        if time.monotonic() - began > len(samples) * seconds / 20:
+            samples.append(memory_of(process))
+        if time.monotonic() - began > seconds:
+            movers[0].stopped.set()
+    return samples
+
+
+def judge(watcher, clients):
+    """Fails where the table isn't what it must be after any moves."""
+    rows = list(watcher.walk_range("id", ["id"], page=7))
+    balances = [it["balance"] for it in watcher.range("by_balance").rows]
+    listed = [it["id"] for it in watcher.walk_list("line", page=7)]
+    state = watcher.revision()
+    if len(rows) != ACCOUNTS * clients or sorted(listed) != sorted(it["id"] for it in rows):
+        fail(f"{len(rows)} accounts are left of {ACCOUNTS * clients}, {len(listed)} in the list")
+    if sum(it["balance"] for it in rows) != BALANCE * len(rows):
+        fail("the sum of the balances has changed")
+    if balances != sorted(it["balance"] for it in rows)[: len(balances)]:
+        fail("the range is out of order")
+    if (state.depth, state.held) != (0, 0):
+        fail(f"sessions are open at the end: {state}")
+
+
 def main():
     parser = argparse.ArgumentParser()
     parser.add_argument("--seconds", type=float, default=30)
@@ -108,36 +136,21 @@ def main():
     if not 1 <= options.clients <= 63:
         fail("--clients is 1 to 63, since one more connection watches")
     path = options.program or program.program()
-    stopped, began, samples = threading.Event(), time.monotonic(), []
+    stopped = threading.Event()
     with Server(path, clients=options.clients + 1) as server:
         movers = [Mover(server.connect(60), n + 1, stopped) for n in range(options.clients)]
         watcher = server.connect(60)
         for it in movers:
             it.start()
-        while any(it.is_alive() for it in movers):
-            watcher.revision()
-            if time.monotonic() - began > len(samples) * options.seconds / 20:
-                samples.append(memory_of(server.process))
-            if time.monotonic() - began > options.seconds:
-                stopped.set()
+        samples = watched(movers, watcher, server.process, options.seconds)
         faults = [it.fault for it in movers if it.fault]
         if faults:
             fail(f"a client failed: {faults[0]!r}")
-        rows = list(watcher.walk_range("by_balance", ["balance"], page=7))
-        listed = [it["id"] for it in watcher.walk_list("line", page=7)]
-        state = watcher.revision()
+        judge(watcher, options.clients)
         watcher.close()
-        status = server.ended()
-    if len(rows) != ACCOUNTS * options.clients or sorted(listed) != sorted(it["id"] for it in rows):
-        fail(f"{len(rows)} accounts are left of {ACCOUNTS * options.clients}, {len(listed)} in the list")
-    if sum(it["balance"] for it in rows) != BALANCE * len(rows):
-        fail("the sum of the balances has changed")
-    if [it["balance"] for it in rows] != sorted(it["balance"] for it in rows):
-        fail("the range is out of order")
-    if (state.depth, state.held) != (0, 0) or status:
-        fail(f"at the end: {state}, status {status}")
-    half = len(samples) // 2
-    early, late = max(samples[: half + 1]), max(samples[half:])
+        if server.ended():
+            fail(f"the server ended with status {server.ended()}")
+    early, late = max(samples[: len(samples) // 2 + 1]), max(samples[len(samples) // 2:])
     if late > 1.5 * early + 10_000:
         fail(f"the server's memory rose from {early} to {late} kB")
     moves, undone, busy = (sum(getattr(it, name) for it in movers) for name in ("done", "undone", "busy"))

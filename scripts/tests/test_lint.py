@@ -119,7 +119,9 @@ class Places(unittest.TestCase):
         self.assertEqual((root["j"].value["k"].kind, root["l"].value["m"].value[0].value["n"].line), ("other", 10))
 
     def test_faults(self):
-        for text, line in [("a = 1\na = 2\n", 2), ("a = 1 b = 2\n", 1), ("\n[a\n", 2), ("a = [1\n2]\n", 2), ("a.b = 1\na = 2\n", 2), ("a = 99999999999999999999\n", 1)]:
+        for text, line in [
+            ("a = 1\na = 2\n", 2), ("a = 1 b = 2\n", 1), ("\n[a\n", 2), ("a = [1\n2]\n", 2), ("a.b = 1\na = 2\n", 2), ("a = 99999999999999999999\n", 1),
+        ]:
             with self.assertRaises(toml_places.Fault) as caught:
                 toml_places.read(text.encode())
             self.assertEqual(caught.exception.line, line, text)

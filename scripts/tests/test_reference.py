@@ -123,7 +123,8 @@ class Rows(unittest.TestCase):
         self.assertEqual(self.server.feed(1, size + b" " * 65_522 + b"\n"), b'{"ok":true,"size":0}\n')
         self.assertEqual(self.server.feed(1, size + b" " * 65_523 + b"\n"), b'{"error":"line","ok":false}\n')
         self.assertEqual(self.server.feed(1, b"\n\r\n"), b"")
-        for line, word in [(b'{"cmd":"undo"', "json"), (b"\xff", "json"), (b"[]", "form"), (b'{"cmd":"size","x":1}', "form"), (b'{ "cmd" : "undo" }', "session")]:
+        for line, word in [(b'{"cmd":"undo"', "json"), (b"\xff", "json"), (b"[]", "form"), (b'{"cmd":"size","x":1}', "form"),
+                           (b'{ "cmd" : "undo" }', "session")]:
             self.assertEqual(json.loads(self.server.feed(1, line + b"\n"))["error"], word)
         self.assertEqual(self.server.feed(1, b"[" * 1000 + b"]" * 1000 + b"\n"), b'{"error":"json","ok":false}\n')
 
