@@ -5,7 +5,7 @@ use Rattle.mi_value.specs.declared.value.Value.{Value}
 use Rattle.mi_value.specs.declared.refusal.Refusal.{Refusal}
 use Rattle.mi_value.specs.declared.refusal.Refusal.TheVariants.{NoId, Session}
 use Rattle.mi_value.specs.declared.refusal.NoSession.{NoSession}
-use Rattle.mi_schema.specs.Shape.{Shape}
+use Rattle.mi_catalog.specs.Shape.{Shape}
 use Rattle.mi_model.specs.Table.{Table, get, has, row, size}
 use Rattle.mi_model.specs.Lookup as look
 use Rattle.mi_model.specs.Page as page

@@ -3,8 +3,8 @@ ghost use Rattle.mi_protocol.specs.Binding.{FitsCatalog};
 ghost use Rattle.mi_protocol.specs.Text.{text_bytes};
 
 use crate::executor::Executor;
-use mi_database::Sessions;
 use mi_protocol::{Command, Reply, ReplyText};
+use mi_sessions::Sessions;
 use mi_value::{Edit, Record, Value};
 
 impl<D: Sessions + Drop> Executor<D> {

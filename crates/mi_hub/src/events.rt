@@ -7,7 +7,7 @@ ghost use Rattle.mi_hub.specs.Watching.{has_failed, Writes};
 use crate::fault::HubFault;
 use crate::hub::Hub;
 use crate::watched::Watched;
-use mi_database::Sessions;
+use mi_sessions::Sessions;
 use std::io::Write;
 
 /// What happens to one connection, by its number: it comes, a piece of its bytes comes, its bytes end, or it breaks off.

@@ -15,7 +15,7 @@ use crate::fault::HubFault;
 use crate::line::LineBuffer;
 use crate::serve::{serve_last, serve_piece};
 use crate::watched::Watched;
-use mi_database::Sessions;
+use mi_sessions::Sessions;
 use mi_value::limits::MAX_CONNECTIONS;
 use std::alloc::Global;
 use std::io::Write;

@@ -10,9 +10,9 @@ ghost use Rattle.mi_query.specs.Pages.{seen};
 ghost use Rattle.mi_protocol.specs.Text.{text_bytes};
 
 use crate::executor::Executor;
-use mi_database::Sessions;
 use mi_protocol::{Command, Reply, ReplyText};
 use mi_query::{Page, count, find, list, lower_rank, nth, range, rank, size, upper_rank};
+use mi_sessions::Sessions;
 use mi_value::{Lower, Record, Refusal, Steps, Upper, Value};
 
 impl<D: Sessions + Drop> Executor<D> {

@@ -5,8 +5,8 @@ ghost use Rattle.mi_protocol.specs.Text.{text_bytes};
 
 use crate::executor::Executor;
 use crate::holder::{at_most, held_by, one_less, one_more, without_holder};
-use mi_database::Sessions;
 use mi_protocol::{Reply, ReplyText};
+use mi_sessions::Sessions;
 use mi_value::Refusal;
 
 impl<D: Sessions + Drop> Executor<D> {

@@ -8,7 +8,7 @@ ghost use Rattle.mi_hub.specs.Watching.{watched, has_failed, Reads, Writes};
 use crate::fault::ServeFault;
 use crate::hub::Hub;
 use crate::watched::Watched;
-use mi_database::Sessions;
+use mi_sessions::Sessions;
 use mi_value::limits::{MAX_READS, PIECE};
 use std::io::{Read, Write};
 

@@ -13,8 +13,8 @@ use Rattle.mi_value.specs.declared.refusal.Refusal.{Refusal}
 use Rattle.mi_value.specs.declared.refusal.Refusal.TheVariants.{NoId, Spent, Depth}
 use Rattle.mi_value.specs.declared.refusal.NoSession.{NoSession}
 use Rattle.mi_value.specs.Edits.{apply}
-use Rattle.mi_schema.specs.declared.index.IndexKind.TheVariants.{Sequenced}
-use Rattle.mi_schema.specs.Shape.{Shape, CatalogShape, schema_at, index_at}
+use Rattle.mi_catalog.specs.declared.index.IndexKind.TheVariants.{Sequenced}
+use Rattle.mi_catalog.specs.Shape.{Shape, CatalogShape, schema_at, index_at}
 use Rattle.mi_model.specs.Key.{Row}
 use Rattle.mi_model.specs.Table.{Table, IsTable, has, row}
 use Rattle.mi_model.specs.Conflict.{conflict}

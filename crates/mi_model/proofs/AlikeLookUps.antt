@@ -13,10 +13,10 @@ use Rattle.mi_value.specs.declared.bound.Upper.{Upper}
 use Rattle.mi_value.specs.declared.bound.Upper.TheVariants as upper
 use Rattle.mi_value.specs.declared.compare.KeyPart.{KeyPart}
 use Rattle.mi_value.specs.Order.{compare_key, compare_prefix, compare_missing, directed}
-use Rattle.mi_schema.specs.declared.index.Index.{Index}
-use Rattle.mi_schema.specs.declared.index.IndexKind.{IndexKind}
-use Rattle.mi_schema.specs.declared.index.IndexKind.TheVariants.{Ordered, Ranked, Hashed, Sequenced}
-use Rattle.mi_schema.specs.Shape.{Shape, schema_at, index_at}
+use Rattle.mi_catalog.specs.declared.index.Index.{Index}
+use Rattle.mi_catalog.specs.declared.index.IndexKind.{IndexKind}
+use Rattle.mi_catalog.specs.declared.index.IndexKind.TheVariants.{Ordered, Ranked, Hashed, Sequenced}
+use Rattle.mi_catalog.specs.Shape.{Shape, schema_at, index_at}
 use Rattle.mi_model.specs.Key.{Row, compare_rows, compare_to_row}
 use Rattle.mi_model.specs.Table.{Table, get, row, size}
 use Rattle.mi_model.specs.View.{view, of_key, compare_ids, compare_to_id}

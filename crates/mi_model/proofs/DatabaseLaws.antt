@@ -11,7 +11,7 @@ use Rattle.mi_value.specs.declared.refusal.Refusal.{Refusal}
 use Rattle.mi_value.specs.declared.refusal.Refusal.TheVariants.{NoId, Spent, Depth}
 use Rattle.mi_value.specs.declared.refusal.NoSession.{NoSession}
 use Rattle.mi_value.specs.Edits.{apply}
-use Rattle.mi_schema.specs.Shape.{Shape, CatalogShape}
+use Rattle.mi_catalog.specs.Shape.{Shape, CatalogShape}
 use Rattle.mi_model.specs.Table.{Table, IsTable, has, row}
 use Rattle.mi_model.specs.View.{of_key}
 use Rattle.mi_model.specs.Conflict.{conflict}

@@ -4,8 +4,8 @@ use Rattle.std.specs.Prelude.{◌==◌, ◌&&◌, ◌||◌, not}
 use Rattle.std.specs.List.{filter, fold, list_any}
 use Rattle.std.specs.Ordering.{is_lt}
 use Rattle.std.specs.declared.cmp.Ordering.{Ordering}
-use Rattle.mi_schema.specs.declared.index.IndexKind.{IndexKind}
-use Rattle.mi_schema.specs.declared.index.IndexKind.TheVariants.{Ordered, Ranked, Hashed, Sequenced}
+use Rattle.mi_catalog.specs.declared.index.IndexKind.{IndexKind}
+use Rattle.mi_catalog.specs.declared.index.IndexKind.TheVariants.{Ordered, Ranked, Hashed, Sequenced}
 use Rattle.mi_model.specs.Key.{Row}
 use Rattle.mi_model.specs.Table.{Table}
 use Rattle.mi_model.specs.View.{place, sorted, shown}

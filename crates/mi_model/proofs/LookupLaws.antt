@@ -17,7 +17,7 @@ use Rattle.mi_model.proofs.StampLaws.{Rises, of_one, times_first}
 use Rattle.mi_model.proofs.TableLaws.{count_itself, not_same, lacks_of_count}
 use Rattle.mi_model.proofs.ViewLaws.{Lacks}
 use Rattle.mi_model.proofs.EraseLaws.{count-shown}
-use Rattle.mi_schema.specs.declared.index.IndexKind.TheVariants.{Ordered}
+use Rattle.mi_catalog.specs.declared.index.IndexKind.TheVariants.{Ordered}
 
 filter_none : (p : ℕ → Bool) (xs : List ℕ) → AllByRecursion (λ a. p a ≡ false) xs → filter p xs ≡ []
 filter_none p [] all = refl

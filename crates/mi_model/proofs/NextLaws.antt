@@ -12,10 +12,10 @@ use Rattle.mi_value.specs.declared.value.Value.TheVariants.{Int, Text, Flag}
 use Rattle.mi_value.specs.declared.compare.KeyPart.{KeyPart}
 use Rattle.mi_value.specs.Order.{compare_missing, directed, compare_key, compare_to_part, compare_prefix}
 use Rattle.mi_value.proofs.OrderLaws.{directed_total, prefix_alike}
-use Rattle.mi_schema.specs.declared.index.Column.{Column}
-use Rattle.mi_schema.specs.declared.index.Index.{Index}
-use Rattle.mi_schema.specs.Shape.{Shape, index_at}
-use Rattle.mi_schema.specs.Fits.{is_id_key, fits_key, fits_parts}
+use Rattle.mi_catalog.specs.declared.index.Column.{Column}
+use Rattle.mi_catalog.specs.declared.index.Index.{Index}
+use Rattle.mi_catalog.specs.Shape.{Shape, index_at}
+use Rattle.mi_catalog.specs.Fits.{is_id_key, fits_key, fits_parts}
 use Rattle.mi_model.specs.Key.{parts_or_id, record_or_id}
 use Rattle.mi_model.specs.Table.{Table, has, row, times, ListsEach}
 use Rattle.mi_model.specs.View.{compare_ids, compare_to_id, view, of_key}

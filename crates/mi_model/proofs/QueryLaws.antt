@@ -17,13 +17,13 @@ use Rattle.mi_value.specs.declared.bound.Lower.{Lower}
 use Rattle.mi_value.specs.declared.bound.Lower.TheVariants as lower
 use Rattle.mi_value.specs.declared.bound.Upper.{Upper}
 use Rattle.mi_value.specs.declared.bound.Upper.TheVariants as upper
-use Rattle.mi_schema.specs.declared.index.Index.{Index}
-use Rattle.mi_schema.specs.declared.index.IndexKind.{IndexKind}
-use Rattle.mi_schema.specs.declared.index.IndexKind.TheVariants.{Ordered, Ranked, Hashed, Sequenced}
-use Rattle.mi_schema.specs.Shape.{Shape, index_at}
+use Rattle.mi_catalog.specs.declared.index.Index.{Index}
+use Rattle.mi_catalog.specs.declared.index.IndexKind.{IndexKind}
+use Rattle.mi_catalog.specs.declared.index.IndexKind.TheVariants.{Ordered, Ranked, Hashed, Sequenced}
+use Rattle.mi_catalog.specs.Shape.{Shape, index_at}
 use Rattle.mi_model.specs.Table.{Table, list_of}
 use Rattle.mi_model.specs.View.{compare_ids, compare_to_id, shown, view, of_key}
-use Rattle.mi_schema.specs.Kinds.{is_sorted}
+use Rattle.mi_catalog.specs.Kinds.{is_sorted}
 use Rattle.mi_model.specs.Lookup as look
 use Rattle.mi_model.specs.Lookup.{rank_in}
 use Rattle.mi_model.specs.Page.{meets_lower, meets_upper, between}

@@ -9,9 +9,9 @@ use Rattle.std.proofs.lemmas.List.Elements.{filter-append}
 use Rattle.std.specs.declared.cmp.Ordering.{Ordering}
 use Rattle.std.specs.declared.option.Option.TheVariants.{None}
 use Rattle.mi_value.specs.declared.value.Value.{Value}
-use Rattle.mi_schema.specs.declared.index.IndexKind.{IndexKind}
-use Rattle.mi_schema.specs.declared.index.IndexKind.TheVariants.{Ordered, Ranked, Hashed, Sequenced}
-use Rattle.mi_schema.specs.Shape.{Shape, index_at}
+use Rattle.mi_catalog.specs.declared.index.IndexKind.{IndexKind}
+use Rattle.mi_catalog.specs.declared.index.IndexKind.TheVariants.{Ordered, Ranked, Hashed, Sequenced}
+use Rattle.mi_catalog.specs.Shape.{Shape, index_at}
 use Rattle.mi_model.specs.Key.{Row}
 use Rattle.mi_model.specs.Table.{Table, has, row, list_of}
 use Rattle.mi_model.specs.View.{compare_ids, compare_to_id, shown, view, of_key}

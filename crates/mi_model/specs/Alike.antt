@@ -5,8 +5,8 @@ use Rattle.std.specs.declared.option.Option.{Option}
 use Rattle.mi_value.specs.declared.value.Value.{Value}
 use Rattle.mi_value.specs.declared.bound.Lower.{Lower}
 use Rattle.mi_value.specs.declared.bound.Upper.{Upper}
-use Rattle.mi_schema.specs.declared.index.IndexKind.TheVariants.{Hashed, Sequenced}
-use Rattle.mi_schema.specs.Shape.{Shape, CatalogShape, schema_at, index_at}
+use Rattle.mi_catalog.specs.declared.index.IndexKind.TheVariants.{Hashed, Sequenced}
+use Rattle.mi_catalog.specs.Shape.{Shape, CatalogShape, schema_at, index_at}
 use Rattle.mi_model.specs.Table.{Table, get, row, size}
 use Rattle.mi_model.specs.Conflict.{conflict}
 use Rattle.mi_model.specs.Lookup.{rank, nth, lower_rank, upper_rank, find, count, lower, upper, first, last, after as row_after, before as row_before, first_of, next_of}

@@ -7,7 +7,7 @@ use Rattle.mi_value.specs.declared.refusal.Refusal.{Refusal}
 use Rattle.mi_value.specs.declared.refusal.Refusal.TheVariants.{Spent, Depth}
 use Rattle.mi_value.specs.declared.refusal.NoSession.{NoSession}
 use Rattle.mi_value.specs.declared.limits.TheConstants.{MAX_SESSIONS}
-use Rattle.mi_schema.specs.Shape.{Shape, CatalogShape, schema_at}
+use Rattle.mi_catalog.specs.Shape.{Shape, CatalogShape, schema_at}
 use Rattle.mi_model.specs.Table.{Table, IsTable, opened}
 use Rattle.mi_model.specs.Verdict.{Outcome, is_spent}
 

@@ -10,9 +10,9 @@ use Rattle.mi_value.specs.declared.edit.Edit.TheVariants.{Put, Add}
 use Rattle.mi_value.specs.declared.bound.Lower.TheVariants as lower
 use Rattle.mi_value.specs.declared.bound.Upper.TheVariants as upper
 use Rattle.mi_value.specs.declared.refusal.Refusal.TheVariants.{NoId, Range, Full, Unique, Lost}
-use Rattle.mi_schema.specs.declared.index.IndexKind.TheVariants.{Ordered, Ranked}
-use Rattle.mi_schema.specs.Shape.{Shape, CatalogShape}
-use Rattle.mi_schema.specs.Accounts.{accounts}
+use Rattle.mi_catalog.specs.declared.index.IndexKind.TheVariants.{Ordered, Ranked}
+use Rattle.mi_catalog.specs.Shape.{Shape, CatalogShape}
+use Rattle.mi_catalog.specs.Accounts.{accounts}
 use Rattle.mi_model.specs.Table.{Table, get, size}
 use Rattle.mi_model.specs.View.{view}
 use Rattle.mi_model.specs.Verdict.{insert_outcome, modify_outcome, relocate_outcome, erase_key_outcome}

@@ -5,7 +5,7 @@ use Rattle.std.specs.Ordering.{is_eq, is_gt, is_ge}
 use Rattle.std.specs.declared.option.Option.{Option}
 use Rattle.std.specs.declared.option.Option.TheVariants.{None}
 use Rattle.mi_value.specs.declared.value.Value.{Value}
-use Rattle.mi_schema.specs.Shape.{Shape, index_at}
+use Rattle.mi_catalog.specs.Shape.{Shape, index_at}
 use Rattle.mi_model.specs.Table.{Table}
 use Rattle.mi_model.specs.View.{view, of_key, compare_ids, compare_to_id}
 

@@ -2,7 +2,7 @@
 use Rattle.std.specs.Prelude.{◌≡◌, ◌≢◌, ℕ, ◌<◌, true, false, List}
 use Rattle.std.specs.List.{AllZip, AllByRecursion}
 use Rattle.std.specs.Ordering.{is_eq}
-use Rattle.mi_schema.specs.Shape.{Shape, CatalogShape, index_at}
+use Rattle.mi_catalog.specs.Shape.{Shape, CatalogShape, index_at}
 use Rattle.mi_model.specs.Table.{Table, has}
 use Rattle.mi_model.specs.View.{compare_ids}
 use Rattle.mi_model.specs.Database.{Database, IsDatabase, opened_database}

@@ -11,7 +11,7 @@ use Rattle.mi_value.specs.declared.refusal.Refusal.{Refusal}
 use Rattle.mi_value.specs.declared.refusal.Refusal.TheVariants.{NoId, Range, Full, Spent, Unique, Lost}
 use Rattle.mi_value.specs.declared.limits.TheConstants.{LAST_COUNT}
 use Rattle.mi_value.specs.Edits.{apply}
-use Rattle.mi_schema.specs.Shape.{Shape}
+use Rattle.mi_catalog.specs.Shape.{Shape}
 use Rattle.mi_model.specs.Table.{Table, has, row, size}
 use Rattle.mi_model.specs.View.{of_key}
 use Rattle.mi_model.specs.Conflict.{conflict}

@@ -8,13 +8,13 @@ use Rattle.std.proofs.lemmas.List.{get_or_past, append-nil, append_assoc}
 use Rattle.std.specs.declared.cmp.Ordering.{Ordering}
 use Rattle.std.specs.declared.cmp.Ordering.TheVariants.{Less, Equal, Greater}
 use Rattle.mi_value.specs.declared.value.Value.{Value}
-use Rattle.mi_schema.specs.declared.index.Index.{Index}
-use Rattle.mi_schema.specs.declared.index.IndexKind.{IndexKind}
-use Rattle.mi_schema.specs.declared.index.IndexKind.TheVariants.{Ordered, Ranked, Hashed, Sequenced}
-use Rattle.mi_schema.specs.Shape.{Shape, index_at}
+use Rattle.mi_catalog.specs.declared.index.Index.{Index}
+use Rattle.mi_catalog.specs.declared.index.IndexKind.{IndexKind}
+use Rattle.mi_catalog.specs.declared.index.IndexKind.TheVariants.{Ordered, Ranked, Hashed, Sequenced}
+use Rattle.mi_catalog.specs.Shape.{Shape, index_at}
 use Rattle.mi_model.specs.Table.{Table, IsTable, ListsEach, has, list_of, times}
 use Rattle.mi_model.specs.View.{place, sorted, shown, view, compare_ids, compare_to_id}
-use Rattle.mi_schema.specs.Kinds.{is_sorted, shows_one_list}
+use Rattle.mi_catalog.specs.Kinds.{is_sorted, shows_one_list}
 use Rattle.mi_model.specs.Lookup as look
 use Rattle.mi_model.specs.Lookup.{rank_in, before_place}
 use Rattle.mi_model.proofs.SortLaws.{both_ways, is_less, filter-sorted}

@@ -10,7 +10,7 @@ use Rattle.std.specs.declared.cmp.Ordering.TheVariants.{Less, Equal, Greater}
 use Rattle.mi_value.specs.declared.value.Value.{Value}
 use Rattle.mi_value.specs.declared.value.Value.TheVariants.{Int}
 use Rattle.mi_value.specs.Order.{compare_value, compare_prefix}
-use Rattle.mi_schema.specs.Shape.{Shape, index_at}
+use Rattle.mi_catalog.specs.Shape.{Shape, index_at}
 use Rattle.mi_model.specs.Table.{Table, list_of}
 use Rattle.mi_model.specs.View.{of_key, compare_to_id, compare_ids}
 use Rattle.mi_model.specs.Change.{erase_all, erase_key}

@@ -11,8 +11,8 @@ use Rattle.std.proofs.lemmas.Bool.{eqb-true, ltb-true, ltb-false}
 use Rattle.mi_value.specs.declared.value.Value.{Value}
 use Rattle.mi_value.specs.declared.refusal.Refusal.{Refusal}
 use Rattle.mi_value.specs.declared.refusal.Refusal.TheVariants.{NoId, Spent}
-use Rattle.mi_schema.specs.declared.index.Index.{Index}
-use Rattle.mi_schema.specs.Shape.{Shape}
+use Rattle.mi_catalog.specs.declared.index.Index.{Index}
+use Rattle.mi_catalog.specs.Shape.{Shape}
 use Rattle.mi_model.specs.Key.{Row}
 use Rattle.mi_model.specs.Table.{Table, has}
 use Rattle.mi_model.specs.Conflict.{conflict}

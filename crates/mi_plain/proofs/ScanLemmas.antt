@@ -6,10 +6,10 @@ use Rattle.std.specs.Ordering.{is_eq}
 use Rattle.std.specs.Cmp.{tied_itself}
 use Rattle.std.proofs.lemmas.Bool.Decides.{eqb_tells}
 use Rattle.mi_value.specs.declared.value.Value.{Value}
-use Rattle.mi_schema.specs.declared.index.Index.{Index}
-use Rattle.mi_schema.specs.declared.index.IndexKind.{IndexKind}
-use Rattle.mi_schema.specs.declared.index.IndexKind.TheVariants.{Hashed}
-use Rattle.mi_schema.specs.Shape.{Shape, index_at}
+use Rattle.mi_catalog.specs.declared.index.Index.{Index}
+use Rattle.mi_catalog.specs.declared.index.IndexKind.{IndexKind}
+use Rattle.mi_catalog.specs.declared.index.IndexKind.TheVariants.{Hashed}
+use Rattle.mi_catalog.specs.Shape.{Shape, index_at}
 use Rattle.mi_model.specs.Table.{Table, ListsEach, has, list_of, times}
 use Rattle.mi_model.specs.View.{shown, view, compare_ids, compare_to_id}
 use Rattle.mi_model.specs.Lookup as look

@@ -5,7 +5,7 @@ use Rattle.std.specs.declared.result.Result.{Result}
 use Rattle.std.specs.declared.result.Result.TheVariants.{Ok, Err}
 use Rattle.mi_value.specs.declared.refusal.NoSession.{NoSession}
 use Rattle.mi_model.proofs.TableLaws.{not_same}
-use Rattle.mi_schema.specs.Shape.{CatalogShape}
+use Rattle.mi_catalog.specs.Shape.{CatalogShape}
 use Rattle.mi_model.specs.Table.{Table}
 use Rattle.mi_model.specs.Database.{Database, undo_step, undone, committed}
 

@@ -4,11 +4,11 @@ use Rattle.std.specs.List.{filter, count_by}
 use Rattle.std.specs.Ordering.{is_gt, is_ge}
 use Rattle.std.proofs.lemmas.List.Sums.{length-filter}
 use Rattle.mi_value.specs.declared.value.Value.{Value}
-use Rattle.mi_schema.specs.declared.index.Index.{Index}
-use Rattle.mi_schema.specs.Shape.{Shape, index_at}
+use Rattle.mi_catalog.specs.declared.index.Index.{Index}
+use Rattle.mi_catalog.specs.Shape.{Shape, index_at}
 use Rattle.mi_model.specs.Table.{Table, IsTable, has, list_of}
 use Rattle.mi_model.specs.View.{sorted, compare_to_id}
-use Rattle.mi_schema.specs.Kinds.{is_sorted, shows_one_list}
+use Rattle.mi_catalog.specs.Kinds.{is_sorted, shows_one_list}
 use Rattle.mi_model.specs.Lookup as look
 use Rattle.mi_model.specs.Lookup.{rank_in, before_place}
 use Rattle.mi_plain.specs.declared.pass.Cut.{Cut}

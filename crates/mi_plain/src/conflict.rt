@@ -7,7 +7,7 @@ ghost use Rattle.std.specs.declared.option.Option.TheVariants.{None};
 ghost use Rattle.mi_model.specs.Conflict as meaning;
 ghost use Rattle.mi_plain.specs.Rows.{AreInOrder, IsRowOf};
 
-use mi_schema::Index;
+use mi_catalog::Index;
 use mi_value::{KeyPart, Record, same_key};
 
 /// A row: its id and its record.

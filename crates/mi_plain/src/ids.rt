@@ -1,5 +1,5 @@
 //! The ids of each index. A change makes a new list beside the old one, so a refused growth changes nothing.
-use mi_schema::Index;
+use mi_catalog::Index;
 use mi_value::{Record, same_key};
 use std::alloc::{AllocError, Global};
 use std::marker::Model;
@@ -110,7 +110,7 @@ impl Ids {
 ghost use Rattle.std.specs.Prelude.{◌≡◌, ◌<◌, [], IfOk, map, length, slice_index_or};
 ghost use Rattle.std.specs.declared.option.Option.TheVariants.{None};
 ghost use Rattle.mi_model.specs.Change.{stand_before, added, stand, without, moved, relocated};
-ghost use Rattle.mi_schema.specs.declared.index.Index.{Index as IndexSpec};
+ghost use Rattle.mi_catalog.specs.declared.index.Index.{Index as IndexSpec};
 
 fn ids_before(alloc: Global, all: &[u64], b: u64, e: u64) -> Result<Vec<u64>, AllocError>
     ensures { IfOk result (λ ids. ids.items ≡ stand_before b e all.now) }

@@ -2,15 +2,15 @@
 //! rows and take no memory.
 use crate::pass::Cut;
 use crate::table::PlainTable;
-use mi_schema::Schema;
+use mi_catalog::Schema;
 use mi_value::Value;
 
 impl PlainTable {
     ghost use Rattle.std.specs.Prelude.{◌≡◌, ◌<◌, IsTrue, length};
-    ghost use Rattle.mi_schema.specs.Shape.{index_at};
-    ghost use Rattle.mi_schema.specs.declared.index.IndexKind.TheVariants.{Hashed};
+    ghost use Rattle.mi_catalog.specs.Shape.{index_at};
+    ghost use Rattle.mi_catalog.specs.declared.index.IndexKind.TheVariants.{Hashed};
     ghost use Rattle.mi_model.specs.Table.{has as has_row, IsTable};
-    ghost use Rattle.mi_schema.specs.Kinds.{is_sorted, shows_one_list};
+    ghost use Rattle.mi_catalog.specs.Kinds.{is_sorted, shows_one_list};
     ghost use Rattle.mi_model.specs.Lookup as look;
 
     /// The first id that index x shows.

@@ -2,7 +2,7 @@
 //! read rows and take no memory.
 use crate::key::{compare_rows, compare_to_row};
 use crate::table::PlainTable;
-use mi_schema::{Index, IndexKind};
+use mi_catalog::{Index, IndexKind};
 use mi_value::Value;
 use std::cmp::Ordering;
 

@@ -1,7 +1,7 @@
 //! The plain database: its tables, and whole copies of them for the open sessions.
 use crate::table::PlainTable;
-use mi_database::Sessions;
-use mi_schema::{Catalog, Schema};
+use mi_catalog::{Catalog, Schema};
+use mi_sessions::Sessions;
 use mi_value::limits::{LAST_COUNT, MAX_SESSIONS};
 use mi_value::{Edit, NoSession, Record, Refusal, Steps, Value};
 use std::alloc::{AllocError, Global};

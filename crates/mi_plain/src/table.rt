@@ -4,7 +4,7 @@ use crate::ids::{
     Ids, copy_lists, empty_lists, remove_from_all, with_added, with_moved, with_relocated,
 };
 use crate::key::is_of_key;
-use mi_schema::{Index, Schema};
+use mi_catalog::{Index, Schema};
 use mi_value::limits::LAST_COUNT;
 use mi_value::{Edit, Record, Refusal, Value, apply};
 use std::alloc::{AllocError, Global};

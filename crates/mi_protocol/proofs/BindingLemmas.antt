@@ -20,17 +20,17 @@ use Rattle.mi_value.specs.declared.bound.Upper.{Upper}
 use Rattle.mi_value.specs.declared.bound.Upper.TheVariants as upper
 use Rattle.mi_value.specs.declared.value.Value.{Value}
 use Rattle.mi_value.specs.declared.value.Value.TheVariants as value
-use Rattle.mi_schema.specs.declared.index.Column.{Column}
-use Rattle.mi_schema.specs.declared.index.IndexKind.{IndexKind}
-use Rattle.mi_schema.specs.declared.index.IndexKind.TheVariants.{Ordered, Ranked, Hashed, Sequenced}
-use Rattle.mi_schema.specs.Shape.{Shape, CatalogShape, schema_at, index_at, find_index, find_table}
-use Rattle.mi_schema.specs.Fits.{fits_type, fits_record, fits_key}
-use Rattle.mi_schema.specs.Rules.{is_catalog}
+use Rattle.mi_catalog.specs.declared.index.Column.{Column}
+use Rattle.mi_catalog.specs.declared.index.IndexKind.{IndexKind}
+use Rattle.mi_catalog.specs.declared.index.IndexKind.TheVariants.{Ordered, Ranked, Hashed, Sequenced}
+use Rattle.mi_catalog.specs.Shape.{Shape, CatalogShape, schema_at, index_at, find_index, find_table}
+use Rattle.mi_catalog.specs.Fits.{fits_type, fits_record, fits_key}
+use Rattle.mi_catalog.specs.Rules.{is_catalog}
 use Rattle.mi_protocol.specs.Answers.{IsAnswer}
 use Rattle.mi_protocol.specs.Edits.{addition, edit_of, with_edit, edits_from, bound_edits, is_int, fits_edit}
 use Rattle.mi_protocol.specs.Json.{has_only, option_map₂}
 use Rattle.mi_protocol.specs.Keys.{plain_values, if_key, bound_key, bound_lower, bound_upper, FitsLower, FitsUpper}
-use Rattle.mi_schema.specs.Kinds.{has_keys, is_sequenced, is_sorted, is_ranked, is_hashed}
+use Rattle.mi_catalog.specs.Kinds.{has_keys, is_sequenced, is_sorted, is_ranked, is_hashed}
 use Rattle.mi_protocol.specs.Rows.{short_text, fitting, values_of, bound_row}
 use Rattle.mi_protocol.specs.Binding.{and_then, table_number, of_kind, index_number, bound_place, bound_insert, bound_replace, bound_modify, named_key, bound_ends, bound_range, bound_relocate, bound_command, FitsCatalog}
 use Rattle.mi_protocol.specs.declared.request.End.{End}

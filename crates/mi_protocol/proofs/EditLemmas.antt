@@ -5,8 +5,8 @@ use Rattle.std.specs.Str.{bytes_eq}
 use Rattle.serde_json.specs.Data.{Members}
 use Rattle.serde_json.specs.Find.{get_member}
 use Rattle.mi_value.specs.declared.edit.Edit.{Edit}
-use Rattle.mi_schema.specs.declared.index.Column.{Column}
-use Rattle.mi_schema.specs.Rules.{are_distinct}
+use Rattle.mi_catalog.specs.declared.index.Column.{Column}
+use Rattle.mi_catalog.specs.Rules.{are_distinct}
 use Rattle.mi_protocol.specs.Edits.{edit_of, with_edit, edits_from}
 use Rattle.mi_protocol.specs.Json.{without, option_map₂}
 use Rattle.mi_protocol.proofs.ObjectLemmas.{get_member-without}

@@ -2,7 +2,7 @@
 use Rattle.std.proofs.Common.{ℕ}
 use Rattle.mi_value.specs.declared.refusal.Refusal.{Refusal}
 use Rattle.mi_value.specs.declared.refusal.Refusal.TheVariants.{Unique, Lost}
-use Rattle.mi_schema.specs.Shape.{CatalogShape}
+use Rattle.mi_catalog.specs.Shape.{CatalogShape}
 use Rattle.mi_protocol.specs.Replies.{NamesNoIndex, IsRefusalOf}
 
 -- a refusal that is no conflict, over any catalog and table

@@ -10,9 +10,9 @@ use Rattle.serde_json.specs.Written.{compact_text}
 use Rattle.mi_value.specs.declared.refusal.Refusal.{Refusal}
 use Rattle.mi_value.specs.declared.refusal.Refusal.TheVariants.{Unique, Lost}
 use Rattle.mi_value.specs.declared.limits.TheConstants.{MAX_NAME}
-use Rattle.mi_schema.specs.Shape.{Shape, CatalogShape, schema_at}
-use Rattle.mi_schema.specs.Rules.{starts_name, continues_name, is_name, is_declared_index, is_schema, is_catalog, are_columns, are_indexes, are_numbers}
-use Rattle.mi_schema.specs.declared.index.Index.{Index}
+use Rattle.mi_catalog.specs.Shape.{Shape, CatalogShape, schema_at}
+use Rattle.mi_catalog.specs.Rules.{starts_name, continues_name, is_name, is_declared_index, is_schema, is_catalog, are_columns, are_indexes, are_numbers}
+use Rattle.mi_catalog.specs.declared.index.Index.{Index}
 use Rattle.mi_protocol.specs.Replies.{Said, inserted, done, erased, shown, revised, committed, undone, pushed, status, counted, ranked, sized, rows, refused_modify, refused, index_name, refusal_text, modify_refusal_text, reply_text, IsRefusalOf, IsSaidOf}
 use Rattle.mi_protocol.specs.ReplyJson.{refusal_data, modify_refusal_data, reply_data}
 

@@ -11,8 +11,8 @@ use Rattle.serde_json.specs.View.{items_of}
 use Rattle.serde_json.specs.Written.{has_float, items_have_float, members_have_float}
 use Rattle.mi_value.specs.declared.value.Value.{Value}
 use Rattle.mi_value.specs.declared.value.Value.TheVariants as value
-use Rattle.mi_schema.specs.declared.index.Column.{Column}
-use Rattle.mi_schema.specs.Rules.{are_distinct}
+use Rattle.mi_catalog.specs.declared.index.Column.{Column}
+use Rattle.mi_catalog.specs.Rules.{are_distinct}
 use Rattle.mi_protocol.proofs.ObjectLemmas.{get_member-without}
 use Rattle.mi_protocol.specs.Json.{without, option_map₂}
 use Rattle.mi_protocol.specs.Rows.{fitting, values_of, value_data, with_values, row_members, row_data, rows_items}

@@ -7,14 +7,14 @@ use Rattle.mi_value.specs.declared.refusal.Refusal.TheVariants.{NoTable, Index, 
 use Rattle.mi_value.specs.declared.bound.Lower.{Lower}
 use Rattle.mi_value.specs.declared.bound.Upper.{Upper}
 use Rattle.mi_value.specs.declared.value.Value.{Value}
-use Rattle.mi_schema.specs.declared.index.IndexKind.{IndexKind}
-use Rattle.mi_schema.specs.declared.index.IndexKind.TheVariants.{Ranked, Sequenced}
-use Rattle.mi_schema.specs.Shape.{Shape, CatalogShape, schema_at, index_at, find_table, find_index}
-use Rattle.mi_schema.specs.Fits.{fits_record, fits_key}
+use Rattle.mi_catalog.specs.declared.index.IndexKind.{IndexKind}
+use Rattle.mi_catalog.specs.declared.index.IndexKind.TheVariants.{Ranked, Sequenced}
+use Rattle.mi_catalog.specs.Shape.{Shape, CatalogShape, schema_at, index_at, find_table, find_index}
+use Rattle.mi_catalog.specs.Fits.{fits_record, fits_key}
 use Rattle.serde_json.specs.Data.{Items, Members}
 use Rattle.mi_protocol.specs.Edits.{bound_edits, fits_edit}
 use Rattle.mi_protocol.specs.Keys.{bound_key, bound_lower, bound_upper, FitsLower, FitsUpper}
-use Rattle.mi_schema.specs.Kinds.{has_keys, is_sequenced, is_sorted, is_ranked, is_hashed}
+use Rattle.mi_catalog.specs.Kinds.{has_keys, is_sequenced, is_sorted, is_ranked, is_hashed}
 use Rattle.mi_protocol.specs.Rows.{bound_row}
 use Rattle.mi_protocol.specs.declared.request.End.{End}
 use Rattle.mi_protocol.specs.declared.request.Place.{Place}

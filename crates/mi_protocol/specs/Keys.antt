@@ -8,8 +8,8 @@ use Rattle.mi_value.specs.declared.bound.Lower.{Lower}
 use Rattle.mi_value.specs.declared.bound.Lower.TheVariants as lower
 use Rattle.mi_value.specs.declared.bound.Upper.{Upper}
 use Rattle.mi_value.specs.declared.bound.Upper.TheVariants as upper
-use Rattle.mi_schema.specs.Shape.{Shape, index_at}
-use Rattle.mi_schema.specs.Fits.{fits_key}
+use Rattle.mi_catalog.specs.Shape.{Shape, index_at}
+use Rattle.mi_catalog.specs.Fits.{fits_key}
 use Rattle.mi_protocol.specs.Json.{option_map₂}
 use Rattle.mi_protocol.specs.declared.request.End.{End}
 use Rattle.mi_protocol.specs.declared.request.End.TheVariants.{Open, With, Without}

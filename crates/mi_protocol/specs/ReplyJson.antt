@@ -5,8 +5,8 @@ use Rattle.serde_json.specs.Written.{compact_text}
 use Rattle.mi_value.specs.Words.{word_of}
 use Rattle.mi_value.specs.declared.refusal.Refusal.{Refusal}
 use Rattle.mi_value.specs.declared.refusal.Refusal.TheVariants.{Unique, Lost}
-use Rattle.mi_schema.specs.Shape.{CatalogShape, schema_at}
-use Rattle.mi_schema.specs.Rules.{is_catalog}
+use Rattle.mi_catalog.specs.Shape.{CatalogShape, schema_at}
+use Rattle.mi_catalog.specs.Rules.{is_catalog}
 use Rattle.mi_protocol.specs.Rows.{row_data, rows_items}
 use Rattle.mi_protocol.specs.Replies.{Said, inserted, done, erased, shown, revised, committed, undone, pushed, status, counted, ranked, sized, rows, refused_modify, refused, index_name, reply_text, IsSaidOf}
 

@@ -14,7 +14,7 @@ use crate::keys::bind_bounds;
 use crate::object::Object;
 use crate::request::{Place, Request};
 use crate::row::bind_row;
-use mi_schema::{Catalog, Schema};
+use mi_catalog::{Catalog, Schema};
 use mi_value::{Key, Lower, Record, Refusal, Text, Upper};
 use std::alloc::Global;
 

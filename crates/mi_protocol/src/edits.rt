@@ -2,14 +2,14 @@
 ghost use Rattle.std.specs.Prelude.{◌≡◌, map, option_map, IsTrue};
 ghost use Rattle.std.specs.Option.{ok_or};
 ghost use Rattle.serde_json.specs.View.{view};
-ghost use Rattle.mi_schema.specs.Rules.{are_distinct};
+ghost use Rattle.mi_catalog.specs.Rules.{are_distinct};
 ghost use Rattle.mi_protocol.specs.Answers.{IsAnswer};
 ghost use Rattle.mi_protocol.specs.Edits as edits;
 ghost use Rattle.mi_protocol.specs.Edits.{edits_from, bound_edits};
 
 use crate::object::Object;
 use crate::row::fit;
-use mi_schema::{Column, Schema};
+use mi_catalog::{Column, Schema};
 use mi_value::{ColumnType, Edit, Refusal};
 use serde_json::Value as Json;
 use std::alloc::Global;

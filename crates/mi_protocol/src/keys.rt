@@ -9,7 +9,7 @@ ghost use Rattle.mi_protocol.specs.Keys.{plain_values, bound_key, bound_lower, b
 
 use crate::array::Array;
 use crate::request::End;
-use mi_schema::Schema;
+use mi_catalog::Schema;
 use mi_value::{Key, Lower, Refusal, Text, Upper, Value};
 use serde_json::Value as Json;
 use std::alloc::{AllocError, Global};

@@ -3,7 +3,7 @@ ghost use Rattle.std.specs.Prelude.{◌≡◌, bytes_eq, string_bytes};
 ghost use Rattle.std.specs.List.{list_any, list_all};
 ghost use Rattle.std.specs.BTreeMap.{keys};
 
-use mi_schema::Column;
+use mi_catalog::Column;
 use serde_json::{Map, Value as Json};
 use std::marker::Model;
 

@@ -10,7 +10,7 @@ use crate::row::{row_text, rows_text};
 use crate::text::ReplyText;
 use arrayvec::ArrayVec;
 use itoa::Buffer;
-use mi_schema::Catalog;
+use mi_catalog::Catalog;
 use mi_value::limits::SHORT_REPLY;
 use mi_value::{Record, Refusal};
 use std::alloc::Global;

@@ -7,10 +7,10 @@ ghost use Rattle.serde_json.specs.Written.{compact_text};
 ghost use Rattle.mi_protocol.specs.Answers.{IsAnswer};
 ghost use Rattle.mi_protocol.specs.Rows as rows;
 ghost use Rattle.mi_protocol.specs.Rows.{fitting, values_of, bound_row, value_data, row_data, rows_items};
-ghost use Rattle.mi_schema.specs.Rules.{are_distinct};
+ghost use Rattle.mi_catalog.specs.Rules.{are_distinct};
 
 use crate::object::Object;
-use mi_schema::{Column, Schema};
+use mi_catalog::{Column, Schema};
 use mi_value::limits::MAX_TEXT;
 use mi_value::{ColumnType, Record, Refusal, Text, Value};
 use serde_json::{Map, Value as Json};

@@ -1,11 +1,11 @@
 //! Worked lines and replies over the schema of accounts.
 ghost use Rattle.std.specs.Prelude.{◌≡◌, [], ◌∷◌, IfOk};
-ghost use Rattle.mi_schema.specs.Accounts.{accounts};
+ghost use Rattle.mi_catalog.specs.Accounts.{accounts};
 ghost use Rattle.mi_protocol.specs.Replies.{said, IsSaidOf};
 ghost use Rattle.mi_protocol.specs.declared.reply.Reply.TheVariants as replies;
 
 use crate::{Command, Reply, bind, parse_line};
-use mi_schema::{Catalog, built_in};
+use mi_catalog::{Catalog, built_in};
 use mi_value::{Record, Refusal, Text, Value};
 use std::alloc::{AllocError, Global};
 use std::process::Abort;

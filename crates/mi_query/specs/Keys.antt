@@ -5,9 +5,9 @@ use Rattle.mi_value.specs.declared.bound.Lower.{Lower}
 use Rattle.mi_value.specs.declared.bound.Lower.TheVariants as lower
 use Rattle.mi_value.specs.declared.bound.Upper.{Upper}
 use Rattle.mi_value.specs.declared.bound.Upper.TheVariants as upper
-use Rattle.mi_schema.specs.Kinds.{is_hashed}
-use Rattle.mi_schema.specs.Shape.{Shape, index_at}
-use Rattle.mi_schema.specs.Fits.{fits_key}
+use Rattle.mi_catalog.specs.Kinds.{is_hashed}
+use Rattle.mi_catalog.specs.Shape.{Shape, index_at}
+use Rattle.mi_catalog.specs.Fits.{fits_key}
 
 -- a hashed index is asked for a whole key, another also for the first values of one
 abbrev pub fits_look_up : Shape → ℕ → List Value → Bool

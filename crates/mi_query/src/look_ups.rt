@@ -1,18 +1,18 @@
 //! Records by key: the first, and how many. It takes no memory.
 ghost use Rattle.std.specs.Prelude.{◌≡◌, ◌<◌, true, false, length, IsTrue};
-ghost use Rattle.mi_schema.specs.declared.index.IndexKind.TheVariants.{Hashed};
-ghost use Rattle.mi_schema.specs.Shape.{index_at};
-ghost use Rattle.mi_schema.specs.Fits.{fits_key};
+ghost use Rattle.mi_catalog.specs.declared.index.IndexKind.TheVariants.{Hashed};
+ghost use Rattle.mi_catalog.specs.Shape.{index_at};
+ghost use Rattle.mi_catalog.specs.Fits.{fits_key};
 ghost use Rattle.mi_model.specs.Table.{size as size_of};
-ghost use Rattle.mi_schema.specs.Kinds.{has_keys, is_sorted};
+ghost use Rattle.mi_catalog.specs.Kinds.{has_keys, is_sorted};
 ghost use Rattle.mi_model.specs.Database.{schema_of, table_of};
 ghost use Rattle.mi_model.specs.Lookup as look;
-ghost use Rattle.mi_database.specs.LookUps.{WithinLookUps};
+ghost use Rattle.mi_sessions.specs.LookUps.{WithinLookUps};
 ghost use Rattle.mi_query.specs.Keys.{fits_look_up};
 
 use crate::shown::shows_each;
-use mi_database::Sessions;
-use mi_schema::IndexKind;
+use mi_catalog::IndexKind;
+use mi_sessions::Sessions;
 use mi_value::{Steps, Value};
 
 /// The first id of a key in an index, or none: of equal keys that of the record that arrived first. A hashed index is asked

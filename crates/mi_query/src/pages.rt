@@ -2,11 +2,11 @@
 ghost use Rattle.std.specs.Prelude.{◌≡◌, ◌<◌, ℕ, not, length, drop, IsTrue, IfOk, IfErr, IfSome, Ok, Err, slice_get, if◌then◌else◌};
 ghost use Rattle.std.specs.List.{All, count_by};
 ghost use Rattle.mi_value.specs.declared.refusal.Refusal.TheVariants.{Memory, NoId};
-ghost use Rattle.mi_schema.specs.declared.index.IndexKind.TheVariants.{Sequenced};
-ghost use Rattle.mi_schema.specs.Shape.{index_at};
+ghost use Rattle.mi_catalog.specs.declared.index.IndexKind.TheVariants.{Sequenced};
+ghost use Rattle.mi_catalog.specs.Shape.{index_at};
 ghost use Rattle.mi_model.specs.Table.{has as has_row};
 ghost use Rattle.mi_model.specs.View.{view};
-ghost use Rattle.mi_schema.specs.Kinds.{is_sorted, shows_one_list};
+ghost use Rattle.mi_catalog.specs.Kinds.{is_sorted, shows_one_list};
 ghost use Rattle.mi_model.specs.Verdict.{has_place};
 ghost use Rattle.mi_model.specs.Database.{schema_of, table_of};
 ghost use Rattle.mi_model.specs.Page.{page_of, meets_lower, meets_upper, range as range_of, list as list_of};
@@ -14,7 +14,7 @@ ghost use Rattle.mi_query.specs.Keys.{fits_lower, fits_upper};
 ghost use Rattle.mi_query.specs.Pages.{seen, turned, place_behind};
 
 use crate::shown::{following, shows_each};
-use mi_database::Sessions;
+use mi_sessions::Sessions;
 use mi_value::{Lower, Refusal, Steps, Upper};
 use std::alloc::Global;
 

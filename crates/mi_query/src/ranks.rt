@@ -1,15 +1,15 @@
 //! Ranks and sizes: how many records stand before a record or a key. It takes no memory.
 ghost use Rattle.std.specs.Prelude.{◌≡◌, ◌<◌, false, length, IsTrue, if◌then◌else◌, Ok, Err};
 ghost use Rattle.mi_value.specs.declared.refusal.Refusal.TheVariants.{NoId};
-ghost use Rattle.mi_schema.specs.Shape.{index_at};
-ghost use Rattle.mi_schema.specs.Fits.{fits_key};
+ghost use Rattle.mi_catalog.specs.Shape.{index_at};
+ghost use Rattle.mi_catalog.specs.Fits.{fits_key};
 ghost use Rattle.mi_model.specs.Table.{has as has_row, size as size_of};
-ghost use Rattle.mi_schema.specs.Kinds.{is_sorted};
+ghost use Rattle.mi_catalog.specs.Kinds.{is_sorted};
 ghost use Rattle.mi_model.specs.Database.{schema_of, table_of};
 ghost use Rattle.mi_model.specs.Lookup as look;
-ghost use Rattle.mi_database.specs.LookUps.{WithinLookUps};
+ghost use Rattle.mi_sessions.specs.LookUps.{WithinLookUps};
 
-use mi_database::Sessions;
+use mi_sessions::Sessions;
 use mi_value::{Refusal, Steps, Value};
 
 /// How many records a table has.

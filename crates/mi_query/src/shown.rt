@@ -1,14 +1,14 @@
 //! What an index shows of its table, for the other files: each record once, and the ids one after another from either
 //! end. It takes no memory.
 ghost use Rattle.std.specs.Prelude.{◌≡◌, ◌+◌, ◌<◌, ◌^◌, ℕ, length, IsTrue, IfSome, Some, slice_get};
-ghost use Rattle.mi_schema.specs.Shape.{index_at};
+ghost use Rattle.mi_catalog.specs.Shape.{index_at};
 ghost use Rattle.mi_model.specs.Table.{ListsEach, has as has_row, size as size_of};
 ghost use Rattle.mi_model.specs.View.{view};
-ghost use Rattle.mi_schema.specs.Kinds.{shows_one_list};
+ghost use Rattle.mi_catalog.specs.Kinds.{shows_one_list};
 ghost use Rattle.mi_model.specs.Database.{schema_of, table_of};
 ghost use Rattle.mi_query.specs.Pages.{turned};
 
-use mi_database::Sessions;
+use mi_sessions::Sessions;
 
 /// States that an index shows each record of its table once and nothing else, fewer than 2^64 in all. It does nothing.
 pub(crate) fn shows_each<D: Sessions>(db: &D, table: usize, index: usize)

@@ -9,11 +9,11 @@ use Rattle.mi_value.specs.declared.limits.TheConstants.{MAX_COLUMNS, MAX_INDEXES
 use Rattle.mi_schema.specs.declared.draft.DraftColumn.{DraftColumn}
 use Rattle.mi_schema.specs.declared.draft.DraftIndex.{DraftIndex}
 use Rattle.mi_schema.specs.declared.fault.SchemaFault.{SchemaFault}
-use Rattle.mi_schema.specs.declared.index.IndexKind.{IndexKind}
-use Rattle.mi_schema.specs.declared.index.IndexKind.TheVariants.{Ordered, Ranked, Hashed, Sequenced}
+use Rattle.mi_catalog.specs.declared.index.IndexKind.{IndexKind}
+use Rattle.mi_catalog.specs.declared.index.IndexKind.TheVariants.{Ordered, Ranked, Hashed, Sequenced}
 use Rattle.mi_schema.specs.Draft.{TableDraft, CatalogDraft}
-use Rattle.mi_schema.specs.Shape.{Shape}
-use Rattle.mi_schema.specs.Rules as rules
+use Rattle.mi_catalog.specs.Shape.{Shape}
+use Rattle.mi_catalog.specs.Rules as rules
 use Rattle.mi_schema.specs.Checks.{has_names, has_no_twins, are_no_twins, has_types, has_kinds, has_keys, has_key, has_key_of, has_limits, are_few, has_numbers, are_numbered, is_count, is_most_rows, entries, entry_column, names_each_once, names_columns, kind_or_sequenced, fault_of}
 use Rattle.mi_schema.proofs.ListLaws.{any_of_map, all_of_map, map_map}
 use Rattle.mi_schema.specs.Reading.{column_of, part_of, parts_of, index_of, id_index, shape_of, catalog_of}

@@ -1,4 +1,3 @@
-pub mod RuleLaws
 pub mod ListLaws
 pub mod DocumentLaws
 pub mod CheckLaws

@@ -9,10 +9,10 @@ use Rattle.mi_schema.specs.declared.draft.DraftColumn.{DraftColumn}
 use Rattle.mi_schema.specs.declared.draft.DraftIndex.{DraftIndex}
 use Rattle.mi_schema.specs.declared.fault.SchemaFault.{SchemaFault}
 use Rattle.mi_schema.specs.declared.fault.SchemaFault.TheVariants.{Name, Twice, ColType, Kind, Key, Limit, Number}
-use Rattle.mi_schema.specs.declared.index.IndexKind.{IndexKind}
-use Rattle.mi_schema.specs.declared.index.IndexKind.TheVariants.{Ordered, Ranked, Hashed, Sequenced}
+use Rattle.mi_catalog.specs.declared.index.IndexKind.{IndexKind}
+use Rattle.mi_catalog.specs.declared.index.IndexKind.TheVariants.{Ordered, Ranked, Hashed, Sequenced}
 use Rattle.mi_schema.specs.Draft.{TableDraft, CatalogDraft}
-use Rattle.mi_schema.specs.Rules.{is_name, is_free_name, are_distinct}
+use Rattle.mi_catalog.specs.Rules.{is_name, is_free_name, are_distinct}
 
 -- names: each is one, and no column or index is `id`
 abbrev pub has_names : TableDraft → Bool

@@ -1,8 +1,3 @@
-pub mod Shape
-pub mod Kinds
-pub mod Fits
-pub mod Rules
-pub mod Accounts
 pub mod Draft
 pub mod Members
 pub mod Words

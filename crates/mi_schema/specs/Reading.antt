@@ -11,10 +11,10 @@ use Rattle.mi_schema.specs.declared.document.Misread.{Misread}
 use Rattle.mi_schema.specs.declared.document.Misread.TheVariants as misread
 use Rattle.mi_schema.specs.declared.fault.SchemaFault.{SchemaFault}
 use Rattle.mi_schema.specs.declared.fault.SchemaFault.TheVariants.{Toml, Shape as OtherShape, Memory}
-use Rattle.mi_schema.specs.declared.index.Column.{Column}
-use Rattle.mi_schema.specs.declared.index.Index.{Index}
-use Rattle.mi_schema.specs.declared.index.IndexKind.TheVariants.{Ranked}
-use Rattle.mi_schema.specs.Shape.{Shape, CatalogShape, schema_at}
+use Rattle.mi_catalog.specs.declared.index.Column.{Column}
+use Rattle.mi_catalog.specs.declared.index.Index.{Index}
+use Rattle.mi_catalog.specs.declared.index.IndexKind.TheVariants.{Ranked}
+use Rattle.mi_catalog.specs.Shape.{Shape, CatalogShape, schema_at}
 use Rattle.mi_schema.specs.Draft.{TableDraft, CatalogDraft}
 use Rattle.mi_schema.specs.Members.{schema_draft, catalog_draft}
 use Rattle.mi_schema.specs.Checks.{type_of, kind_or_sequenced, descends, entries, entry_column, fault_of}

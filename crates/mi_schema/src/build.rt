@@ -3,13 +3,11 @@ ghost use Rattle.std.specs.Prelude.{◌≡◌, ◌∷◌, map, IfOk, IsTrue};
 ghost use Rattle.std.specs.List.{list_all};
 ghost use Rattle.mi_schema.specs.Reading as reading;
 ghost use Rattle.mi_schema.specs.Reading.{shape_of};
-ghost use Rattle.mi_schema.specs.Rules.{is_schema};
+ghost use Rattle.mi_catalog.specs.Rules.{is_schema};
 
-use crate::catalog::Catalog;
 use crate::checks::{descends, entry_column, type_of};
 use crate::draft::{Draft, DraftColumn, DraftIndex, DraftTable};
-use crate::index::{Column, Index, IndexKind, Parts};
-use crate::schema::{Counts, Schema};
+use mi_catalog::{Catalog, Column, Counts, Index, IndexKind, Parts, Schema};
 use mi_value::{ColumnType, KeyPart, Text};
 use std::alloc::{AllocError, Global};
 

@@ -2,11 +2,11 @@
 ghost use Rattle.std.specs.Prelude.{◌≡◌, ◌==◌, map, not, nat_lt, nat_le, length, bytes_eq};
 ghost use Rattle.std.specs.List.{list_any, list_all, position};
 ghost use Rattle.mi_schema.specs.Checks as checks;
-ghost use Rattle.mi_schema.specs.Rules as rules;
+ghost use Rattle.mi_catalog.specs.Rules as rules;
 
 use crate::draft::{Draft, DraftColumn, DraftIndex, DraftTable};
 use crate::fault::SchemaFault;
-use crate::index::IndexKind;
+use mi_catalog::IndexKind;
 use mi_value::limits::{MAX_COLUMNS, MAX_INDEXES, MAX_KEY_PARTS, MAX_NAME, MAX_ROWS, MAX_TABLES};
 use mi_value::{ColumnType, Text};
 

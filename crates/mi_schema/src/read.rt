@@ -7,11 +7,10 @@ ghost use Rattle.mi_schema.specs.Reading as reading;
 ghost use Rattle.mi_schema.specs.Reading.{IsAnswer, misread_fault, catalog_read, schema_read};
 ghost use Rattle.mi_schema.specs.declared.fault.SchemaFault.TheVariants as fault;
 
-use crate::catalog::Catalog;
 use crate::document::{Misread, catalog_draft, schema_draft};
 use crate::draft::Draft;
 use crate::fault::SchemaFault;
-use crate::schema::Schema;
+use mi_catalog::{Catalog, Schema};
 use std::alloc::Global;
 use toml::Table;
 

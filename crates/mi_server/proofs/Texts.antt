@@ -4,7 +4,7 @@ use Rattle.std.specs.Prelude.{IfSome, option_map, Result, Err, min}
 use Rattle.std.proofs.lemmas.List.{length-take, take_all}
 use Rattle.mi_value.specs.declared.limits.TheConstants.{MAX_SCHEMA_FILE}
 use Rattle.mi_schema.specs.Reading.{catalog_read, IsAnswer}
-use Rattle.mi_schema.specs.Shape.{CatalogShape}
+use Rattle.mi_catalog.specs.Shape.{CatalogShape}
 use Rattle.mi_schema.specs.declared.fault.SchemaFault.{SchemaFault}
 use Rattle.mi_server.specs.Source.{IsRead, IsUnread}
 use Rattle.mi_server.specs.declared.failure.Failure.{Failure}

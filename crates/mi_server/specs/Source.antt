@@ -2,7 +2,7 @@
 use Rattle.std.specs.Prelude.{◌≡◌, ◌⊎◌, ◌≤◌, ℕ, List, length, Result, Ok, Err}
 use Rattle.mi_value.specs.declared.limits.TheConstants.{MAX_SCHEMA_FILE}
 use Rattle.mi_schema.specs.Reading.{catalog_read}
-use Rattle.mi_schema.specs.Shape.{CatalogShape}
+use Rattle.mi_catalog.specs.Shape.{CatalogShape}
 use Rattle.mi_schema.specs.declared.fault.SchemaFault.{SchemaFault}
 use Rattle.mi_schema.specs.declared.fault.SchemaFault.TheVariants as fault
 use Rattle.mi_server.specs.declared.failure.Failure.{Failure}

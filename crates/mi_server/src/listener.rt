@@ -8,8 +8,8 @@ ghost use Rattle.mi_hub.specs.Connections.{rest_at};
 ghost use Rattle.mi_hub.specs.Watching.{has_failed, Writes};
 ghost use Rattle.mi_server.specs.Turns.{with_clients, Turn, conn_of, outcome, IsPiece, Made, row_after, ByTurns, fault_of, first_fault, client_ids, Serves};
 
-use mi_database::Sessions;
 use mi_hub::{Hub, ServeFault, Watched};
+use mi_sessions::Sessions;
 use mi_value::limits::{MAX_READS, PIECE};
 use std::alloc::Global;
 use std::collections::VecDeque;

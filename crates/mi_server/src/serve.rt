@@ -1,7 +1,7 @@
 //! Serves one input to one output over a database. Output is buffered; the hub flushes it after each piece of input.
 use crate::failure::Failure;
-use mi_database::Sessions;
 use mi_hub::{Hub, Watched, serve_stream};
+use mi_sessions::Sessions;
 use std::alloc::Global;
 use std::io::{BufWriter, Read, Write};
 

@@ -1,7 +1,7 @@
 //! Where the catalog comes from: the built-in schema or a file.
 ghost use Rattle.std.specs.Prelude.{◌≡◌, ◌≤◌, ◌∷◌, [], None, length, IfOk, IfErr, IfSome};
 ghost use Rattle.mi_value.specs.declared.limits.TheConstants.{MAX_SCHEMA_FILE as most_bytes};
-ghost use Rattle.mi_schema.specs.Accounts.{accounts};
+ghost use Rattle.mi_catalog.specs.Accounts.{accounts};
 ghost use Rattle.mi_server.specs.Source.{IsRead, IsUnread};
 
 use crate::failure::Failure;

@@ -1,10 +1,10 @@
 //! Devices that fail in the middle: what was executed, what was written, and the status.
 use super::devices::{AtEnd, Narrow, Pieces};
 use crate::program::run;
-use mi_database::Sessions;
 use mi_hub::{Hub, HubFault, ServeFault, Watched, serve_stream};
 use mi_plain::Plain;
 use mi_schema::{Catalog, built_in};
+use mi_sessions::Sessions;
 use std::test::Fail;
 
 const TWO_STARTS: &[u8] = b"{\"cmd\":\"start\"}\n{\"cmd\":\"start\"}\n";

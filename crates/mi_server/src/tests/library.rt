@@ -1,8 +1,8 @@
 //! Each public call of the crates below once, with ample memory.
 use super::accounts::{account, is_account};
-use mi_database::Sessions;
 use mi_plain::Plain;
 use mi_schema::{Catalog, IndexKind, Schema, built_in};
+use mi_sessions::Sessions;
 use mi_value::{
     Edit, Key, KeyPart, NoSession, Record, Refusal, Steps, Text, Value, apply, compare_key,
     compare_prefix, hash_values, same_key,

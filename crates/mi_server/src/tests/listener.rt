@@ -2,10 +2,10 @@
 ghost use Rattle.std.specs.Prelude.{◌≡◌, [], IfOk};
 
 use crate::listener::serve_listener;
-use mi_database::Sessions;
 use mi_hub::{Hub, ServeFault};
 use mi_plain::Plain;
 use mi_schema::{Catalog, built_in};
+use mi_sessions::Sessions;
 use mi_value::{Record, Steps, Value};
 use std::alloc::{AllocError, Global};
 use std::cell::Cell;

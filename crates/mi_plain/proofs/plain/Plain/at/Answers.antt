@@ -1,7 +1,7 @@
 -- Each table of a database is one of its schema.
 use Rattle.std.proofs.Common.{◌≡◌, ◌<◌, length, subst, ◌∙◌, ap, sym, arith}
 use Rattle.std.proofs.lemmas.List.{get_or_default}
-use Rattle.mi_schema.specs.Shape.{Shape, schema_at}
+use Rattle.mi_catalog.specs.Shape.{Shape, schema_at}
 use Rattle.mi_model.specs.Table.{Table, IsTable}
 use Rattle.mi_model.specs.Database.{Database, table_of}
 use Rattle.mi_model.proofs.InvariantLaws.{table_is}

@@ -3,7 +3,7 @@ use Rattle.std.proofs.Common.{◌≡◌, rules, List, ℕ, length, ap, sym, ◌�
 use Rattle.std.specs.List.{filter}
 use Rattle.std.specs.Ordering.{is_eq}
 use Rattle.std.specs.declared.result.Result.TheVariants.{Ok}
-use Rattle.mi_schema.specs.declared.index.Index.{Index}
+use Rattle.mi_catalog.specs.declared.index.Index.{Index}
 use Rattle.mi_model.specs.Table.{list_of}
 use Rattle.mi_model.specs.View.{compare_to_id}
 use Rattle.mi_model.specs.Change.{erase_all}

@@ -1,5 +1,5 @@
 use Rattle.std.proofs.Common.{◌∙◌, ap, map}
-use Rattle.mi_schema.specs.declared.index.Column.{Column}
+use Rattle.mi_catalog.specs.declared.index.Column.{Column}
 use Rattle.mi_protocol.specs.Json.{has_only}
 use Rattle.mi_protocol.proofs.ObjectLemmas.{has_only-keys}
 use Rattle.mi_protocol.proofs.object.Object.has_only_columns.Goals as goal

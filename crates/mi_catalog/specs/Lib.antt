@@ -1,0 +1,5 @@
+pub mod Shape
+pub mod Kinds
+pub mod Fits
+pub mod Rules
+pub mod Accounts

@@ -1,5 +1,0 @@
-use Rattle.mi_model.proofs.AlikeLaws.{commands_answer_alike, runs_answer_alike}
-use Rattle.mi_database.proofs.laws.commands_answer_alike.Goals as goal
-
-pub returns : goal.returns
-returns c = record { one = commands_answer_alike; several = runs_answer_alike }

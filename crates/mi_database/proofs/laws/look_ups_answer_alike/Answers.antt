@@ -1,5 +1,0 @@
-use Rattle.mi_model.proofs.AlikeLookUps.{look_ups_answer_alike}
-use Rattle.mi_database.proofs.laws.look_ups_answer_alike.Goals as goal
-
-pub returns : goal.returns
-returns c = look_ups_answer_alike

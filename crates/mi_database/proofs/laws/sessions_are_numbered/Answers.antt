@@ -1,5 +1,0 @@
-use Rattle.mi_model.proofs.NumberLaws.{sessions_are_numbered, commits_end_by_number}
-use Rattle.mi_database.proofs.laws.sessions_are_numbered.Goals as goal
-
-pub returns : goal.returns
-returns c = record { numbers = sessions_are_numbered; commit = commits_end_by_number }

@@ -1,5 +1,0 @@
-use Rattle.mi_model.proofs.SessionLaws.{undos_take_back}
-use Rattle.mi_database.proofs.laws.undos_take_back.Goals as goal
-
-pub returns : goal.returns
-returns c = undos_take_back

@@ -1,7 +1,0 @@
--- The rules say so.
-use Rattle.mi_schema.specs.contracts.catalog.Catalog.{the_view}
-use Rattle.mi_schema.proofs.RuleLaws.{revision_in_limits}
-use Rattle.mi_schema.proofs.catalog.Catalog.first_revision.Goals as goal
-
-pub returns-clause-within : goal.returns-clause-within
-returns-clause-within c = revision_in_limits (the_view c.self.inside) c.self.invariant

@@ -1,5 +1,0 @@
-use Rattle.std.proofs.Common.{length}
-use Rattle.mi_schema.proofs.fits.+fits_parts.Given as goal
-
-abbrev pub decreases-fits_parts : goal.decreases-fits_parts
-decreases-fits_parts l = length l.parts.now

@@ -1,7 +1,0 @@
--- The rules say so.
-use Rattle.mi_schema.specs.contracts.schema.Schema.{the_view}
-use Rattle.mi_schema.proofs.RuleLaws.{in_limits}
-use Rattle.mi_schema.proofs.schema.Schema.first_revision.Goals as goal
-
-pub returns-clause-within : goal.returns-clause-within
-returns-clause-within c = (in_limits (the_view c.self.inside) c.self.invariant).first_revision

@@ -1,0 +1,262 @@
+//! The calls of a database: several tables under one stack of nested sessions. It says what each call answers and leaves,
+//! by the definitions of `mi_model`, and nothing of how rows are kept.
+ghost use Rattle.std.specs.Prelude.{◌≡◌, ◌<◌, ℕ, true, false, length, IsTrue, IfSome, IfErr};
+ghost use Rattle.std.specs.declared.option.Option.{Option as Maybe};
+ghost use Rattle.std.specs.Option.{option_copied};
+ghost use Rattle.mi_catalog.specs.Fits.{fits_record, fits_key};
+ghost use Rattle.mi_catalog.specs.declared.index.IndexKind.TheVariants.{Hashed, Sequenced};
+ghost use Rattle.mi_model.specs.Table.{get as get_row, has as has_row, size as size_of};
+ghost use Rattle.mi_catalog.specs.Kinds.{is_sorted, shows_one_list};
+ghost use Rattle.mi_model.specs.Lookup as look;
+ghost use Rattle.mi_catalog.specs.Shape.{index_at};
+ghost use Rattle.mi_model.specs.Database.{Database, IsDatabase, schema_of, table_of, depth as depth_of, start_step, undo_step, squash_step, ending, committed, undone_times};
+ghost use Rattle.mi_model.specs.Steps.{Meets, without_value, insert_step, replace_step, modify_step, erase_step, erase_key_step, relocate_step};
+ghost use Rattle.mi_sessions.specs.LookUps.{WithinLookUps};
+
+use mi_catalog::Catalog;
+use mi_value::{Edit, NoSession, Record, Refusal, Steps, Value};
+use std::alloc::Global;
+
+/// Tables under one stack of nested sessions.
+///
+/// The tables are named by their number in the catalog. A refused call changes nothing. Where a growth is refused a call
+/// that can answer `Memory` does, and nothing has changed. Calls that read take no memory.
+///
+/// Calls that compare keys count each comparison on `steps`. `bound` says how many one look-up in a table of so many rows
+/// makes at most, if the database promises it.
+pub trait Sessions {
+    ghost state: { Self → Database };
+
+    ghost bound: { ℕ → Maybe ℕ };
+
+    /// States what holds of every database: in each table every index lists each record once, and no id is used twice. It
+    /// does nothing.
+    fn keeps_rules(&self)
+        ensures { IsDatabase (state self.now) };
+
+    /// The tables' schemas. It never changes.
+    fn catalog(&self) -> &Catalog
+        ensures { result.now ≡ (state self.now).catalog };
+
+    /// Adds a record and answers its id. It goes last in each index among its equals; in the sequenced index that `before`
+    /// names it stands directly before the record that `before` names.
+    ///
+    /// Refusals, in this order: `NoId` (the record of `before` isn't there), `Full`, `Spent` (next id or arrivals),
+    /// `Unique` (the first unique index in schema order that refuses, with the record that has the key), `Memory`.
+    /// The refused record is handed back.
+    fn insert(
+        &mut self,
+        alloc: Global,
+        table: usize,
+        row: Record,
+        before: Option<(usize, u64)>,
+    ) -> Result<u64, (Refusal, Record)>
+        requires table { table < length (state self.old).catalog.tables }
+        requires row { IsTrue (fits_record (schema_of (state self.old) table).columns row) }
+        requires before { IfSome before (λ at. (index_at (schema_of (state self.old) table) at.0).kind ≡ Sequenced) }
+        ensures outcome { Meets (insert_step table before row (state self.old)) (without_value result) (state self.old) (state self.new) }
+        ensures handed_back { IfErr result (λ e. e.1 ≡ row) };
+
+    /// Sets another record for an id. In each index where its key stays, and in each sequenced one, it keeps its place; where
+    /// its key changes it goes last among its new equals.
+    ///
+    /// Refusals, in this order: `NoId`, `Spent` (arrivals), `Unique`, `Memory`. The refused record is handed back.
+    fn replace(
+        &mut self,
+        alloc: Global,
+        table: usize,
+        id: u64,
+        row: Record,
+    ) -> Result<(), (Refusal, Record)>
+        requires table { table < length (state self.old).catalog.tables }
+        requires row { IsTrue (fits_record (schema_of (state self.old) table).columns row) }
+        ensures outcome { Meets (replace_step table id row (state self.old)) (without_value result) (state self.old) (state self.new) }
+        ensures handed_back { IfErr result (λ e. e.1 ≡ row) };
+
+    /// Changes columns of a record, whose places move as by `replace`.
+    ///
+    /// Refusals, in this order: `NoId`, `Range` (a sum leaves 64 bits), `Spent` (arrivals), then where a unique index refuses
+    /// the result `Unique` with `rollback`, which changes nothing, or without it `Lost`, and the record is erased; `Memory`.
+    fn modify(
+        &mut self,
+        alloc: Global,
+        table: usize,
+        id: u64,
+        edits: &[Edit],
+        rollback: bool,
+    ) -> Result<(), Refusal>
+        requires { table < length (state self.old).catalog.tables }
+        ensures { Meets (modify_step table id edits.now rollback (state self.old)) result (state self.old) (state self.new) };
+
+    /// Erases a record. Refusals: `NoId`, `Memory`.
+    fn erase(&mut self, alloc: Global, table: usize, id: u64) -> Result<(), Refusal>
+        requires { table < length (state self.old).catalog.tables }
+        ensures { Meets (erase_step table id (state self.old)) result (state self.old) (state self.new) };
+
+    /// Erases every record with a key in an index that isn't sequenced, and answers how many. The key is whole. Refusal:
+    /// `Memory`.
+    fn erase_key(
+        &mut self,
+        alloc: Global,
+        table: usize,
+        index: usize,
+        key: &[Value],
+    ) -> Result<u64, Refusal>
+        requires table { table < length (state self.old).catalog.tables }
+        requires index { index < length (schema_of (state self.old) table).indexes }
+        requires key { IsTrue (fits_key (schema_of (state self.old) table).columns (index_at (schema_of (state self.old) table) index).parts true key.now) }
+        ensures { Meets (erase_key_step table index key.now (state self.old)) result (state self.old) (state self.new) };
+
+    /// Moves a record in a sequenced index directly before another, or to its end; before itself it stays. Refusals: `NoId`
+    /// (of either record), `Memory`.
+    fn relocate(
+        &mut self,
+        alloc: Global,
+        table: usize,
+        index: usize,
+        id: u64,
+        before: Option<u64>,
+    ) -> Result<(), Refusal>
+        requires table { table < length (state self.old).catalog.tables }
+        requires index { (index_at (schema_of (state self.old) table) index).kind ≡ Sequenced }
+        ensures { Meets (relocate_step table index id before (state self.old)) result (state self.old) (state self.new) };
+
+    /// How many records a table has.
+    fn size(&self, table: usize) -> u64
+        requires { table < length (state self.now).catalog.tables }
+        ensures { result ≡ size_of (table_of (state self.now) table) };
+
+    /// The record of an id, or none. At most one look-up.
+    fn get(&self, table: usize, id: u64, steps: &mut Steps) -> Option<&Record>
+        requires { table < length (state self.now).catalog.tables }
+        ensures record { option_copied result ≡ get_row (table_of (state self.now) table) id }
+        ensures steps { WithinLookUps bound 1 (size_of (table_of (state self.now) table)) steps.old.count steps.new.count };
+
+    /// The first id that an index shows, or none of an empty table. A hashed index has no order.
+    fn first(&self, table: usize, index: usize) -> Option<u64>
+        requires table { table < length (state self.now).catalog.tables }
+        requires index { IsTrue (shows_one_list (index_at (schema_of (state self.now) table) index).kind) }
+        ensures { result ≡ look.first (schema_of (state self.now) table) (table_of (state self.now) table) index };
+
+    /// The last id that an index shows, or none of an empty table.
+    fn last(&self, table: usize, index: usize) -> Option<u64>
+        requires table { table < length (state self.now).catalog.tables }
+        requires index { IsTrue (shows_one_list (index_at (schema_of (state self.now) table) index).kind) }
+        ensures { result ≡ look.last (schema_of (state self.now) table) (table_of (state self.now) table) index };
+
+    /// The id that an index shows directly after another, or none behind the last.
+    fn after(&self, table: usize, index: usize, id: u64) -> Option<u64>
+        requires table { table < length (state self.now).catalog.tables }
+        requires index { IsTrue (shows_one_list (index_at (schema_of (state self.now) table) index).kind) }
+        requires id { IsTrue (has_row (table_of (state self.now) table) id) }
+        ensures { result ≡ look.after (schema_of (state self.now) table) (table_of (state self.now) table) index id };
+
+    /// The id that an index shows directly before another, or none before the first.
+    fn before(&self, table: usize, index: usize, id: u64) -> Option<u64>
+        requires table { table < length (state self.now).catalog.tables }
+        requires index { IsTrue (shows_one_list (index_at (schema_of (state self.now) table) index).kind) }
+        requires id { IsTrue (has_row (table_of (state self.now) table) id) }
+        ensures { result ≡ look.before (schema_of (state self.now) table) (table_of (state self.now) table) index id };
+
+    /// The first id of an ordered or ranked index whose key isn't less than a key or the first values of one, or none. At
+    /// most one look-up.
+    fn lower(&self, table: usize, index: usize, key: &[Value], steps: &mut Steps) -> Option<u64>
+        requires table { table < length (state self.now).catalog.tables }
+        requires index { IsTrue (is_sorted (index_at (schema_of (state self.now) table) index).kind) }
+        requires key { IsTrue (fits_key (schema_of (state self.now) table).columns (index_at (schema_of (state self.now) table) index).parts false key.now) }
+        ensures id { result ≡ look.lower (schema_of (state self.now) table) (table_of (state self.now) table) index key.now }
+        ensures steps { WithinLookUps bound 1 (size_of (table_of (state self.now) table)) steps.old.count steps.new.count };
+
+    /// The first id of an ordered or ranked index whose key is greater than a key or the first values of one, or none. At
+    /// most one look-up.
+    fn upper(&self, table: usize, index: usize, key: &[Value], steps: &mut Steps) -> Option<u64>
+        requires table { table < length (state self.now).catalog.tables }
+        requires index { IsTrue (is_sorted (index_at (schema_of (state self.now) table) index).kind) }
+        requires key { IsTrue (fits_key (schema_of (state self.now) table).columns (index_at (schema_of (state self.now) table) index).parts false key.now) }
+        ensures id { result ≡ look.upper (schema_of (state self.now) table) (table_of (state self.now) table) index key.now }
+        ensures steps { WithinLookUps bound 1 (size_of (table_of (state self.now) table)) steps.old.count steps.new.count };
+
+    /// The first id of a whole key in a hashed index, or none.
+    fn first_of(&self, table: usize, index: usize, key: &[Value]) -> Option<u64>
+        requires table { table < length (state self.now).catalog.tables }
+        requires index { index < length (schema_of (state self.now) table).indexes }
+        requires kind { (index_at (schema_of (state self.now) table) index).kind ≡ Hashed }
+        requires key { IsTrue (fits_key (schema_of (state self.now) table).columns (index_at (schema_of (state self.now) table) index).parts true key.now) }
+        ensures { result ≡ look.first_of (schema_of (state self.now) table) (table_of (state self.now) table) index key.now };
+
+    /// The id that follows another among those of its key in a hashed index, or none behind the last.
+    fn next_of(&self, table: usize, index: usize, id: u64) -> Option<u64>
+        requires table { table < length (state self.now).catalog.tables }
+        requires index { index < length (schema_of (state self.now) table).indexes }
+        requires kind { (index_at (schema_of (state self.now) table) index).kind ≡ Hashed }
+        requires id { IsTrue (has_row (table_of (state self.now) table) id) }
+        ensures { result ≡ look.next_of (schema_of (state self.now) table) (table_of (state self.now) table) index id };
+
+    /// The id with n records before it in an ordered or ranked index, or none.
+    fn nth(&self, table: usize, index: usize, n: u64) -> Option<u64>
+        requires table { table < length (state self.now).catalog.tables }
+        requires index { IsTrue (is_sorted (index_at (schema_of (state self.now) table) index).kind) }
+        ensures { result ≡ look.nth (schema_of (state self.now) table) (table_of (state self.now) table) index n };
+
+    /// How many records stand before a record in an ordered or ranked index. At most two look-ups.
+    fn rank_of(&self, table: usize, index: usize, id: u64, steps: &mut Steps) -> u64
+        requires table { table < length (state self.now).catalog.tables }
+        requires index { IsTrue (is_sorted (index_at (schema_of (state self.now) table) index).kind) }
+        requires id { IsTrue (has_row (table_of (state self.now) table) id) }
+        ensures rank { result ≡ look.rank (schema_of (state self.now) table) (table_of (state self.now) table) index id }
+        ensures steps { WithinLookUps bound 2 (size_of (table_of (state self.now) table)) steps.old.count steps.new.count };
+
+    /// How many records of an ordered or ranked index have a key less than a key or the first values of one. At most two
+    /// look-ups.
+    fn lower_rank(&self, table: usize, index: usize, key: &[Value], steps: &mut Steps) -> u64
+        requires table { table < length (state self.now).catalog.tables }
+        requires index { IsTrue (is_sorted (index_at (schema_of (state self.now) table) index).kind) }
+        requires key { IsTrue (fits_key (schema_of (state self.now) table).columns (index_at (schema_of (state self.now) table) index).parts false key.now) }
+        ensures rank { result ≡ look.lower_rank (schema_of (state self.now) table) (table_of (state self.now) table) index key.now }
+        ensures steps { WithinLookUps bound 2 (size_of (table_of (state self.now) table)) steps.old.count steps.new.count };
+
+    /// How many records of an ordered or ranked index have a key not greater than a key or the first values of one. At most
+    /// two look-ups.
+    fn upper_rank(&self, table: usize, index: usize, key: &[Value], steps: &mut Steps) -> u64
+        requires table { table < length (state self.now).catalog.tables }
+        requires index { IsTrue (is_sorted (index_at (schema_of (state self.now) table) index).kind) }
+        requires key { IsTrue (fits_key (schema_of (state self.now) table).columns (index_at (schema_of (state self.now) table) index).parts false key.now) }
+        ensures rank { result ≡ look.upper_rank (schema_of (state self.now) table) (table_of (state self.now) table) index key.now }
+        ensures steps { WithinLookUps bound 2 (size_of (table_of (state self.now) table)) steps.old.count steps.new.count };
+
+    /// Opens a session and answers its number, the new revision. Refusals, in this order: `Spent` (the revision is
+    /// 2^63 - 1), `Depth` (1,024 are open), `Memory`.
+    fn start(&mut self, alloc: Global) -> Result<u64, Refusal>
+        ensures { Meets (start_step (state self.old)) result (state self.old) (state self.new) };
+
+    /// Takes back all changes since the newest start, in all tables, and answers the new revision. It takes no memory;
+    /// its one refusal is that no session is open.
+    fn undo(&mut self) -> Result<u64, NoSession>
+        ensures answer { result ≡ (undo_step (state self.old)).0 }
+        ensures state { state self.new ≡ (undo_step (state self.old)).1 };
+
+    /// Joins the newest session into the one below it, or with one open ends it and keeps its changes; answers the new
+    /// revision. Its one refusal is that no session is open.
+    fn squash(&mut self) -> Result<u64, NoSession>
+        ensures answer { result ≡ (squash_step (state self.old)).0 }
+        ensures state { state self.new ≡ (squash_step (state self.old)).1 };
+
+    /// Ends the sessions with a number of at most this, the oldest first, and keeps their changes; answers how many. The
+    /// revision stays, and so do the numbers of the others.
+    fn commit(&mut self, number: u64) -> u64
+        ensures answer { result ≡ ending number (state self.old) }
+        ensures state { state self.new ≡ committed number (state self.old) };
+
+    /// Takes back all changes since the oldest start and answers how many sessions it undid.
+    fn undo_all(&mut self) -> u64
+        ensures answer { result ≡ depth_of (state self.old) }
+        ensures state { state self.new ≡ undone_times (depth_of (state self.old)) (state self.old) };
+
+    /// The number of the newest session, or where none is open the one it opened with.
+    fn revision(&self) -> u64
+        ensures { result ≡ (state self.now).revision };
+
+    /// How many sessions are open.
+    fn depth(&self) -> u64
+        ensures { result ≡ depth_of (state self.now) };
+}
