@@ -1,0 +1,15 @@
+pub mod Pairs
+pub mod Contents
+pub mod Sequences
+pub mod StampLaws
+pub mod NameLaws
+pub mod Facts
+pub mod Stamped
+pub mod Groups
+pub mod Exact
+pub mod TableChanges
+pub mod DataLaws
+pub mod FitLaws
+pub mod RunLaws
+pub mod Opening
+pub mod LawProofs
