@@ -1,8 +1,4 @@
 pub mod Callers
-pub mod Gaps
 pub mod Keeping
-pub mod Parts
+pub mod Places
 pub mod Refs
-pub mod Sharing
-pub mod Split
-pub mod Threads

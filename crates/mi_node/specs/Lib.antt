@@ -1,8 +1,7 @@
 pub mod Cells
 pub mod Counted
-pub mod Lends
-pub mod Nodes
-pub mod Packed
+pub mod Homes
 pub mod Pool
+pub mod RefView
 pub mod Refs
-pub mod Thread
+pub mod Seen
