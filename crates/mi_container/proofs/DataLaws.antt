@@ -15,7 +15,7 @@ use Rattle.mi_model.specs.Unique.{HasUniqueKeys}
 use Rattle.mi_model.proofs.SortLaws.{both_ways}
 use Rattle.mi_model.proofs.TableLaws.{is_table_insert, is_table_erase, is_table_put, is_table_relocate}
 use Rattle.mi_model.proofs.UniqueLaws.{unique_insert, unique_put, unique_erase}
-use Rattle.mi_container.specs.Refs.{Ref}
+use Rattle.mi_node.specs.Refs.{Ref}
 use Rattle.mi_container.specs.Data.{Content, Node, Order, Data, parts_of, has_stamps, node_of, content_in, content_of, stamp_of, table_of, KindFits, KindsFit, StampsFit, IsData}
 use Rattle.mi_container.specs.Data.Order.{ById, ByKey, ByHash, Listed}
 use Rattle.mi_container.specs.Changes.{left_out, with_content, new_content, in_order, new_stamp, new_node, orders_with, inserted, replaced, kept_node, erased_node, erased, moved_order, relocated_in}

@@ -11,7 +11,7 @@ use Rattle.mi_value.specs.Order.{compare_key}
 use Rattle.mi_catalog.specs.Shape.{Shape}
 use Rattle.mi_model.specs.Change.{stand, without, relocated}
 use Rattle.mi_model.proofs.SortLaws.{both_ways}
-use Rattle.mi_container.specs.Refs.{Ref}
+use Rattle.mi_node.specs.Refs.{Ref}
 use Rattle.mi_container.specs.Data.{Content, Node, Order, Data, parts_of, node_of, kept_of, content_in, content_of, stamp_of, IsData}
 use Rattle.mi_container.specs.Data.Order.{ById, ByKey, ByHash, Listed}
 use Rattle.mi_container.specs.Changes.{entered, left_out, with_content, restamped, new_content, in_order, new_node, orders_with, inserted, replaced, next_in, link_in, links_from, kept_node, erased_node, erased, moved_order, relocated_in}

@@ -16,7 +16,7 @@ use Rattle.mi_catalog.specs.Shape.{Shape}
 use Rattle.mi_model.specs.Table.{row}
 use Rattle.mi_model.specs.Change.{stand_before, stand, without, added, insert, moved_in, moved, put, erase, relocated, relocate}
 use Rattle.mi_model.proofs.SortLaws.{both_ways}
-use Rattle.mi_container.specs.Refs.{Ref}
+use Rattle.mi_node.specs.Refs.{Ref}
 use Rattle.mi_container.specs.Data.{Content, Node, Order, Data, parts_of, has_stamps, content_in, content_of, stamp_of, by_stamp, listed, lists_from, shown_row, table_of, KindFits, KindsFit, IsData}
 use Rattle.mi_container.specs.Data.Order.{ById, ByKey, ByHash, Listed}
 use Rattle.mi_container.specs.Changes.{left_out, with_content, new_content, in_order, new_stamp, new_node, orders_with, inserted, replaced, erased_node, erased, moved_order, relocated_in}

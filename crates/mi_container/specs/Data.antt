@@ -16,7 +16,7 @@ use Rattle.mi_catalog.specs.Shape.{Shape}
 use Rattle.mi_model.specs.Table.{Table, IsTable}
 use Rattle.mi_model.specs.Unique.{HasUniqueKeys}
 use Rattle.mi_model.specs.View.{sorted}
-use Rattle.mi_container.specs.Refs.{Ref}
+use Rattle.mi_node.specs.Refs.{Ref}
 
 -- a record, and for each index the stamp of its place there, which is 0 where the index has no stamps
 pub record Content : Type 0 where

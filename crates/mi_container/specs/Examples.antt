@@ -7,7 +7,7 @@ use Rattle.mi_value.specs.declared.value.Value.TheVariants.{Int, Flag}
 use Rattle.mi_catalog.specs.declared.index.IndexKind.TheVariants.{Ranked, Hashed, Sequenced}
 use Rattle.mi_catalog.specs.Shape.{Shape}
 use Rattle.mi_model.specs.View.{view}
-use Rattle.mi_container.specs.Refs.{Ref}
+use Rattle.mi_node.specs.Refs.{Ref}
 use Rattle.mi_container.specs.Data.{Link, Data, table_of, kept_of, ids_of}
 use Rattle.mi_container.specs.Changes.{opened_data}
 use Rattle.mi_container.specs.Inverse.{RowRef, OldPlace}

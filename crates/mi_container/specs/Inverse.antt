@@ -10,7 +10,7 @@ use Rattle.std.specs.declared.option.Option.TheVariants.{None, Some}
 use Rattle.mi_value.specs.declared.value.Value.{Value}
 use Rattle.mi_value.specs.Order.{compare_key}
 use Rattle.mi_model.specs.Change.{stand, without}
-use Rattle.mi_container.specs.Refs.{Ref}
+use Rattle.mi_node.specs.Refs.{Ref}
 use Rattle.mi_container.specs.Data.{Content, Node, Link, Kept, Order, Data, order_at, parts_of, node_of, kept_of, content_of}
 use Rattle.mi_container.specs.Data.Order.{ById, ByKey, ByHash, Listed}
 use Rattle.mi_container.specs.Changes.{entered, left_out, with_content, in_order, next_in, link_in, moved_order}

@@ -1,4 +1,3 @@
-pub mod Refs
 pub mod Data
 pub mod Changes
 pub mod Inverse

@@ -7,7 +7,7 @@ use Rattle.mi_catalog.specs.Shape.{Shape}
 use Rattle.mi_model.specs.Conflict.{conflict}
 use Rattle.mi_model.specs.Table.{Table}
 use Rattle.mi_model.specs.Change.{insert, put, erase, relocate}
-use Rattle.mi_container.specs.Refs.{Ref}
+use Rattle.mi_node.specs.Refs.{Ref}
 use Rattle.mi_container.specs.Data.{Order, Data, order_at, table_of}
 use Rattle.mi_container.specs.Changes.{inserted, replaced, erased, relocated_in}
 use Rattle.mi_container.specs.Inverse.{Inverse, insert_inverse, put_inverse, erase_inverse, relocate_inverse, id_named, taken_back}
