@@ -5,3 +5,5 @@ pub mod Fits
 pub mod Run
 pub mod Laws
 pub mod Examples
+pub mod Tags
+pub mod Orders
