@@ -141,12 +141,12 @@ one_record s t u e r except unique now others none rivals x a b p is =
     ∙ keys_differ (index_at s x).parts e b r (unwrap_or (get t b) [])
     (rivals (index_at s x).parts b (unwrap_or (get t b) []) ne (no_rival (index_at s x).parts r except t.rows b (no_rival_in s t r except x none p is) there))) a b
 
-unique_insert : (s : Shape) (at : Option (ℕ × ℕ)) (r : List Value) (t : Table) → IsTable s t → HasUniqueKeys s t → conflict s t r None ≡ None → HasUniqueKeys s (insert at r t)
+pub unique_insert : (s : Shape) (at : Option (ℕ × ℕ)) (r : List Value) (t : Table) → IsTable s t → HasUniqueKeys s t → conflict s t r None ≡ None → HasUniqueKeys s (insert at r t)
 unique_insert s at r t is unique none =
     one_record s t (insert at r t) t.next r None unique (lookup_push_same t.next r t.rows (above_next t.next t.next t.rows is.ordered (omega arith)))
     (λ a ne. lookup_push a t.next r t.rows ne) none (λ ps b v ne differ. differ)
 
-unique_put : (s : Shape) (e : ℕ) (r : List Value) (t : Table) → has t e ≡ true → HasUniqueKeys s t → conflict s t r (Some e) ≡ None → HasUniqueKeys s (put s e r t)
+pub unique_put : (s : Shape) (e : ℕ) (r : List Value) (t : Table) → has t e ≡ true → HasUniqueKeys s t → conflict s t r (Some e) ≡ None → HasUniqueKeys s (put s e r t)
 unique_put s e r t there unique none =
     one_record s t (put s e r t) e r (Some e) unique (lookup_set_same e r t.rows there) (λ a ne. lookup_set a e r t.rows ne) none
     (λ ps b v ne differ. sym (ap (λ c. not c && is_eq (compare_key ps v r)) (not_same b e ne)) ∙ differ)

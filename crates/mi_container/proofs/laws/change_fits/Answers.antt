@@ -1,0 +1,5 @@
+use Rattle.mi_container.proofs.LawProofs.{change_fits}
+use Rattle.mi_container.proofs.laws.change_fits.Goals as goal
+
+pub returns : goal.returns
+returns c = change_fits

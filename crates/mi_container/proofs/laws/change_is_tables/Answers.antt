@@ -1,0 +1,5 @@
+use Rattle.mi_container.proofs.LawProofs.{change_is_tables}
+use Rattle.mi_container.proofs.laws.change_is_tables.Goals as goal
+
+pub returns : goal.returns
+returns c = change_is_tables

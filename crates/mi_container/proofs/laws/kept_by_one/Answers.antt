@@ -1,0 +1,5 @@
+use Rattle.mi_container.proofs.LawProofs.{kept_by_one}
+use Rattle.mi_container.proofs.laws.kept_by_one.Goals as goal
+
+pub returns : goal.returns
+returns c = kept_by_one

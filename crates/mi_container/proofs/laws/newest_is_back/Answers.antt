@@ -1,0 +1,5 @@
+use Rattle.mi_container.proofs.LawProofs.{newest_is_back}
+use Rattle.mi_container.proofs.laws.newest_is_back.Goals as goal
+
+pub returns : goal.returns
+returns c = newest_is_back

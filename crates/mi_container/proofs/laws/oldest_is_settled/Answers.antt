@@ -1,0 +1,5 @@
+use Rattle.mi_container.proofs.LawProofs.{oldest_is_settled}
+use Rattle.mi_container.proofs.laws.oldest_is_settled.Goals as goal
+
+pub returns : goal.returns
+returns c = oldest_is_settled

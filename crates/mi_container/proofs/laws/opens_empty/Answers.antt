@@ -1,0 +1,5 @@
+use Rattle.mi_container.proofs.LawProofs.{opens_empty}
+use Rattle.mi_container.proofs.laws.opens_empty.Goals as goal
+
+pub returns : goal.returns
+returns c = opens_empty

@@ -1,0 +1,5 @@
+use Rattle.mi_container.proofs.RunLaws.{runs_unwind}
+use Rattle.mi_container.proofs.laws.runs_unwind.Goals as goal
+
+pub returns : goal.returns
+returns c = runs_unwind

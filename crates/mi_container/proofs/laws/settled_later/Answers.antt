@@ -1,0 +1,5 @@
+use Rattle.mi_container.proofs.LawProofs.{settled_later}
+use Rattle.mi_container.proofs.laws.settled_later.Goals as goal
+
+pub returns : goal.returns
+returns c = settled_later

@@ -1,0 +1,85 @@
+-- The changes of data at work on a small table: what is remembered, and that all is given back. Each statement is proved by computation.
+use Rattle.std.specs.Prelude.{◌≡◌, ℕ, pos, Bool, true, false, List, [], ◌∷◌}
+use Rattle.std.specs.declared.option.Option.{Option}
+use Rattle.std.specs.declared.option.Option.TheVariants.{None, Some}
+use Rattle.mi_value.specs.declared.value.Value.{Value}
+use Rattle.mi_value.specs.declared.value.Value.TheVariants.{Int, Flag}
+use Rattle.mi_catalog.specs.declared.index.IndexKind.TheVariants.{Ranked, Hashed, Sequenced}
+use Rattle.mi_catalog.specs.Shape.{Shape}
+use Rattle.mi_model.specs.View.{view}
+use Rattle.mi_node.specs.Refs.{Ref}
+use Rattle.mi_container.specs.Data.{Link, Data, table_of, kept_of, ids_of}
+use Rattle.mi_container.specs.Changes.{opened_data}
+use Rattle.mi_container.specs.Inverse.{RowRef, OldPlace}
+use Rattle.mi_container.specs.Inverse.Inverse.{Put, Erased, Relocated}
+use Rattle.mi_container.specs.Run.{Change, run, inverses, all_back}
+use Rattle.mi_container.specs.Run.Change.{Insert, Replace, Erase, Relocate}
+
+-- the indexes: id, by_balance, by_vip (hashed) and line (sequenced)
+abbrev pub accounts : Shape
+accounts = record {
+  table_name = [];
+  columns = [];
+  indexes =
+      record { name = []; kind = Ranked; «unique» = true; parts = [] }
+      ∷ record { name = []; kind = Ranked; «unique» = false; parts = record { column = 0; descending = false } ∷ [] }
+      ∷ record { name = []; kind = Hashed; «unique» = false; parts = record { column = 1; descending = false } ∷ [] }
+      ∷ record { name = []; kind = Sequenced; «unique» = false; parts = [] }
+      ∷ [];
+  first_id = 0;
+  first_arrival = 0;
+  first_revision = 0;
+  max_rows = 1000000;
+}
+
+abbrev pub account : ℕ → Bool → List Value
+account balance vip = Int (pos balance) ∷ Flag vip ∷ []
+
+-- the node of a name
+abbrev pub node : ℕ → Ref
+node name = record { name = name; mark = 0 }
+
+-- four rows, the last directly before row 1 in the line
+abbrev pub before : Data
+before = run (Insert None (node 10) (account 7 false) ∷ Insert None (node 11) (account 7 true) ∷ Insert None (node 12) (account 7 false) ∷ Insert (Some (3, 1)) (node 13) (account 7 true) ∷ []) (opened_data accounts)
+
+-- 1 and its neighbour 3 are erased, 0 gets another balance and its old one again, 2 goes first in the line
+abbrev pub changes : List Change
+changes = Erase 1 None ∷ Erase 3 None ∷ Replace 0 (account 9 false) ∷ Replace 0 (account 7 false) ∷ Relocate 3 2 (Some 0) ∷ []
+
+abbrev pub after : Data
+after = run changes before
+
+-- the line, and the rows by balance: 0 now stands behind its equal
+abbrev pub ChangesAreSeen : Type 0
+ChangesAreSeen = (view accounts (table_of before) 3 ≡ 0 ∷ 3 ∷ 1 ∷ 2 ∷ []) × (view accounts (table_of after) 3 ≡ 2 ∷ 0 ∷ [])
+    × (view accounts (table_of after) 1 ≡ 2 ∷ 0 ∷ []) × (ids_of after.kept ≡ 1 ∷ 3 ∷ [])
+
+abbrev pub no_link : Link
+no_link = record { back = None; forth = None }
+
+-- 1 remembers the vip behind it, and 3 before and 2 behind it in the line; the node of 3 is kept by then, and is live again when 1 comes back
+abbrev pub NeighboursAreRemembered : Type 0
+NeighboursAreRemembered = (kept_of after.kept 1 ≡ Some (record {
+  node = record { at = node 11; content = record { values = account 7 true; stamps = 0 ∷ 1 ∷ 1 ∷ 0 ∷ [] } };
+  links =
+      no_link ∷ no_link ∷ record { back = None; forth = Some (node 13) } ∷ record { back = Some (node 13); forth = Some (node 12) } ∷ [];
+}))
+
+abbrev pub row : ℕ → ℕ → RowRef
+row e name = record { id = e; at = node name }
+
+abbrev pub place : ℕ → Option OldPlace
+place stamp = Some (record { stamp = stamp; link = no_link })
+
+-- a put keeps the old record, and the old stamp of the one key that changed
+abbrev pub InversesAreSmall : Type 0
+InversesAreSmall = (inverses changes before
+    ≡ Relocated 3 (row 2 12) None
+    ∷ Put (row 0 10) (record { values = account 9 false; places = None ∷ place 4 ∷ None ∷ None ∷ [] })
+    ∷ Put (row 0 10) (record { values = account 7 false; places = None ∷ place 0 ∷ None ∷ None ∷ [] })
+    ∷ Erased (row 3 13) None ∷ Erased (row 1 11) None ∷ [])
+
+-- all taken back: the data before, 0 first among its equals again
+abbrev pub AllIsGivenBack : Type 0
+AllIsGivenBack = (all_back (inverses changes before) after ≡ before) × (view accounts (table_of (all_back (inverses changes before) after)) 1 ≡ 0 ∷ 1 ∷ 2 ∷ 3 ∷ [])

@@ -1,0 +1,9 @@
+pub mod Data
+pub mod Changes
+pub mod Inverse
+pub mod Fits
+pub mod Run
+pub mod Laws
+pub mod Examples
+pub mod Tags
+pub mod Orders

@@ -1,0 +1,81 @@
+//! The laws of undo over a container's plain data, and those of tags: each is the contract of a function that does nothing.
+//! They say nothing new of tables: the table of changed data is the definitions' changed table.
+ghost use Rattle.mi_container.specs.Laws.{OpensEmpty, ChangeIsTables, ChangeIsUndone, RunsUnwind, ChangeFits, NewestIsBack, OldestIsSettled, SettledLater, KeptByOne};
+ghost use Rattle.mi_container.specs.Orders.{OrdersAreLawful, KeyingsAreLawful};
+ghost use Rattle.mi_container.specs.Tags.{TagsOrderKeys, ExactTagsAreKeys, TagsOrderProbes, ExactTagsAreProbes};
+
+/// A container opens with the data of an empty table.
+pub fn opens_empty()
+    ensures { OpensEmpty }
+{}
+
+/// The table of changed data is the changed table, and what holds of a container's data is kept.
+pub fn change_is_tables()
+    ensures { ChangeIsTables }
+{}
+
+/// The inverse of a change can be taken back, and gives exactly the data before it.
+pub fn change_is_undone()
+    ensures { ChangeIsUndone }
+{}
+
+/// A run of changes is the run of tables, and its inverses, the newest first, give back exactly the data before it.
+pub fn runs_unwind()
+    ensures { RunsUnwind }
+{}
+
+/// A change extends a fitting list of inverses by its own, with the table before it.
+pub fn change_fits()
+    ensures { ChangeFits }
+{}
+
+/// The newest of a fitting list of inverses can be taken back: it gives its table, and the rest fits.
+pub fn newest_is_back()
+    ensures { NewestIsBack }
+{}
+
+/// The oldest of a fitting list of inverses can be settled: the table stays, and the rest fits.
+pub fn oldest_is_settled()
+    ensures { OldestIsSettled }
+{}
+
+/// To settle one inverse and to take back another are in either order the same.
+pub fn settled_later()
+    ensures { SettledLater }
+{}
+
+/// Each node that is kept is kept by one inverse of a fitting list, and no later one names its row.
+pub fn kept_by_one()
+    ensures { KeptByOne }
+{}
+
+/// Of two records the one with the smaller tag is less, by every key that begins with the tag's part.
+pub fn tags_order_keys()
+    ensures { TagsOrderKeys }
+{}
+
+/// Two records of one exact tag are equal by a key of its part alone.
+pub fn exact_tags_are_keys()
+    ensures { ExactTagsAreKeys }
+{}
+
+/// A key is greater than the records of a smaller tag than its own, and less than those of a greater one.
+pub fn tags_order_probes()
+    ensures { TagsOrderProbes }
+{}
+
+/// A value is the key of the records of its own tag, where that is exact.
+pub fn exact_tags_are_probes()
+    ensures { ExactTagsAreProbes }
+{}
+
+/// The orders of sorted indexes are total, their tags stand in the order of the keys, and what a probe answers rises
+/// along them.
+pub fn orders_are_lawful()
+    ensures { OrdersAreLawful }
+{}
+
+/// To have one key in a hashed index is an equivalence, and equal keys and their probes have one hash.
+pub fn keyings_are_lawful()
+    ensures { KeyingsAreLawful }
+{}

@@ -1,0 +1,142 @@
+//! How indexes see what nodes hold: by the key that a record has at an index's parts. An index without parts goes by the id.
+//! They read values alone, and take no memory; they know no stamps, which stand in links.
+ghost use Rattle.std.specs.Prelude.{◌≡◌};
+
+use crate::key::{compare_rows, compare_to_row, id_sought, is_whole_key};
+use crate::stored::Stored;
+use crate::tags::{is_exact, part_tag, probe_tag};
+use mi_catalog::Parts;
+use mi_value::{ColumnType, Probe, Value, compare_key, hash_values, same_key};
+use std::cmp::Ordering;
+
+/// The order of an ordered or ranked index, and its tags: `column` is the type of the first part's column.
+#[derive(Debug, Drop)]
+pub struct ByKey {
+    pub parts: Parts,
+    pub column: ColumnType,
+}
+
+impl ByKey {
+    ghost use Rattle.mi_container.specs.Orders.{stored_order, place_in, stored_tag, key_tag, sought_tag, is_decided};
+
+    /// Two rows by their keys.
+    pub fn compare(&self, left: &Stored, right: &Stored) -> Ordering
+        ensures { result ≡ stored_order self.now.parts left.now right.now }
+    {
+        compare_rows(
+            self.parts.as_slice(),
+            left.id,
+            &left.row,
+            right.id,
+            &right.row,
+        )
+    }
+
+    /// Where a row stands beside a probe: Less where it is before it.
+    pub fn seek(&self, value: &Stored, probe: Probe<'_>) -> Ordering
+        ensures { result ≡ place_in self.now.parts value.now probe.entry }
+    {
+        match probe {
+            Probe::Key(key) => {
+                compare_to_row(self.parts.as_slice(), key, value.id, &value.row).reverse()
+            }
+            Probe::Of(record) => compare_key(&value.row, record, self.parts.as_slice()),
+        }
+    }
+
+    /// The tag of a row's key.
+    pub fn tag(&self, value: &Stored) -> u64
+        ensures { result ≡ stored_tag self.now.column self.now.parts value.now }
+    {
+        match self.parts.as_slice() {
+            [] => value.id,
+            [part, ..] => part_tag(self.column, part, &value.row),
+        }
+    }
+
+    /// The tag of a key, if it has one.
+    fn key_tag(&self, key: &[Value]) -> Option<u64>
+        ensures { result ≡ key_tag self.now.column self.now.parts key.now }
+    {
+        match (self.parts.as_slice(), key) {
+            (_, []) => None,
+            ([], [value]) => id_sought(value),
+            ([], [_, _, ..]) => None,
+            ([part, rest @ ..], [value, more @ ..]) => {
+                if more.len() <= rest.len() {
+                    Some(probe_tag(self.column, part, value))
+                } else {
+                    None
+                }
+            }
+        }
+    }
+
+    /// The tag of a probe, if it has one.
+    pub fn probe_tag(&self, probe: Probe<'_>) -> Option<u64>
+        ensures { result ≡ sought_tag self.now.column self.now.parts probe.entry }
+    {
+        match probe {
+            Probe::Key(key) => self.key_tag(key),
+            Probe::Of(record) => match self.parts.as_slice() {
+                [] => None,
+                [part, ..] => Some(part_tag(self.column, part, record)),
+            },
+        }
+    }
+
+    /// Whether a tag says all of its key.
+    pub fn decides(&self, tag: u64) -> bool
+        ensures { result ≡ is_decided self.now.column self.now.parts tag }
+    {
+        match self.parts.as_slice() {
+            [] => true,
+            [part] => is_exact(self.column, part, tag),
+            [_, _, ..] => false,
+        }
+    }
+}
+
+/// The keys of a hashed index.
+#[derive(Debug, Drop)]
+pub struct ByHash {
+    pub parts: Parts,
+}
+
+impl ByHash {
+    ghost use Rattle.mi_container.specs.Orders.{keying_hash, sought_hash, has_one_key, is_key};
+
+    /// The hash of a row's key.
+    pub fn hash(&self, value: &Stored) -> u64
+        ensures { result ≡ keying_hash self.now.parts value.now }
+    {
+        value.row.key_hash(self.parts.as_slice())
+    }
+
+    /// The hash of a probe, which the rows of its key have.
+    pub fn hash_key(&self, probe: Probe<'_>) -> u64
+        ensures { result ≡ sought_hash self.now.parts probe.entry }
+    {
+        match probe {
+            Probe::Key(values) => hash_values(values),
+            Probe::Of(record) => record.key_hash(self.parts.as_slice()),
+        }
+    }
+
+    /// Whether two rows have one key.
+    pub fn same(&self, left: &Stored, right: &Stored) -> bool
+        ensures { result ≡ has_one_key self.now.parts left.now right.now }
+    {
+        same_key(&left.row, &right.row, self.parts.as_slice())
+    }
+
+    /// Whether a row has the key of a probe.
+    pub fn same_key(&self, value: &Stored, probe: Probe<'_>) -> bool
+        ensures { result ≡ is_key self.now.parts value.now probe.entry }
+    {
+        match probe {
+            Probe::Key(values) => is_whole_key(self.parts.as_slice(), values, &value.row),
+            Probe::Of(record) => same_key(&value.row, record, self.parts.as_slice()),
+        }
+    }
+}
