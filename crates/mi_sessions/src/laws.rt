@@ -36,14 +36,15 @@ pub fn unique_keys_stay_unique()
     ensures { UniqueKeysStayUnique }
 {}
 
-/// Databases that show the same answer every look-up alike. A hashed index is asked by key alone, or for the next record
-/// of the key that a record has.
+/// Databases that show the same answer every look-up alike. A hashed index is asked by whole keys alone, or for the next
+/// record of the key that a record has.
 pub fn look_ups_answer_alike()
     ensures { LookUpsAnswerAlike }
 {}
 
 /// In databases that show the same a command answers the same, accepted or refused, and leaves them so that they still
-/// show the same; so does each of several commands in turn. An insert or a relocation names a sequenced index, if any.
+/// show the same; so does each of several commands in turn. An insert or a relocation names a sequenced index, if any, and
+/// an erase by key a whole key.
 pub fn commands_answer_alike()
     ensures one { CommandsAnswerAlike }
     ensures several { RunsAnswerAlike }
