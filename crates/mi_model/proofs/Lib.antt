@@ -18,3 +18,5 @@ pub mod PrefixLaws
 pub mod PlaceLaws
 pub mod QueryLaws
 pub mod NextLaws
+pub mod RankLaws
+pub mod OneTableLaws

@@ -2,6 +2,8 @@
 ghost use Rattle.mi_model.specs.Run.{UndosTakeBack};
 ghost use Rattle.mi_model.specs.Sessions.{SessionsAreNumbered, CommitsEndByNumber, StartsTakeTheNextNumber, SessionsKeepTheirNumbers};
 ghost use Rattle.mi_model.specs.Unique.{TablesStayWellFormed, UniqueKeysStayUnique};
+ghost use Rattle.mi_model.specs.Lookup.{RanksCountRows};
+ghost use Rattle.mi_model.specs.OneTable.{OneTableAsBefore};
 ghost use Rattle.mi_model.specs.Alike.{LookUpsAnswerAlike, CommandsAnswerAlike, RunsAnswerAlike};
 
 /// After a start and any commands that leave its session open, with k - 1 sessions above it, k undos
@@ -48,4 +50,16 @@ pub fn look_ups_answer_alike()
 pub fn commands_answer_alike()
     ensures one { CommandsAnswerAlike }
     ensures several { RunsAnswerAlike }
+{}
+
+/// The rank of a record is the number of records with a smaller key and of those with the same key that stand earlier in
+/// the index's list.
+pub fn ranks_count_rows()
+    ensures { RanksCountRows }
+{}
+
+/// A database whose catalog has one table answers and changes as that table by itself, with sessions of its own: every
+/// change over table 0 and every session step.
+pub fn one_table_as_before()
+    ensures { OneTableAsBefore }
 {}
