@@ -6,3 +6,4 @@ pub mod Parsing
 pub mod RefusalLemmas
 pub mod ReplyLemmas
 pub mod RowLemmas
+pub mod FirstTableLaws

@@ -2,6 +2,7 @@ pub mod Answers
 pub mod Binding
 pub mod Commands
 pub mod Edits
+pub mod FirstTable
 pub mod Json
 pub mod Keys
 pub mod Lines
