@@ -20,3 +20,4 @@ pub mod QueryLaws
 pub mod NextLaws
 pub mod RankLaws
 pub mod OneTableLaws
+pub mod AskedLaws

@@ -1,5 +1,5 @@
 -- Databases that show the same: look-ups answer the same in both, and so do commands, after which they show the same.
-use Rattle.std.specs.Prelude.{◌≡◌, ◌≢◌, ℕ, ◌<◌, Bool, List, [], ◌∷◌, length, IfSome}
+use Rattle.std.specs.Prelude.{◌≡◌, ◌≢◌, ℕ, ◌<◌, Bool, true, IsTrue, List, [], ◌∷◌, length, IfSome}
 use Rattle.std.specs.List.{AllByRecursion}
 use Rattle.std.specs.declared.option.Option.{Option}
 use Rattle.mi_value.specs.declared.value.Value.{Value}
@@ -7,6 +7,9 @@ use Rattle.mi_value.specs.declared.bound.Lower.{Lower}
 use Rattle.mi_value.specs.declared.bound.Upper.{Upper}
 use Rattle.mi_catalog.specs.declared.index.IndexKind.TheVariants.{Hashed, Sequenced}
 use Rattle.mi_catalog.specs.Shape.{Shape, CatalogShape, schema_at, index_at}
+use Rattle.mi_catalog.specs.Kinds.{is_hashed}
+use Rattle.mi_catalog.specs.Fits.{fits_record, fits_key}
+use Rattle.mi_catalog.specs.Rules.{is_schema}
 use Rattle.mi_model.specs.Key.{IsWholeKey, IsAskedBy}
 use Rattle.mi_model.specs.Table.{Table, get, row, size}
 use Rattle.mi_model.specs.Conflict.{conflict}
@@ -97,3 +100,13 @@ AllAnswerAlike (c ∷ cs) d e = AnswersAlike c d e × AllAnswerAlike cs (after c
 abbrev pub RunsAnswerAlike : Type 0
 RunsAnswerAlike = (cs : List Command) (d e : Database) → IsDatabase d → IsDatabase e → AllByRecursion (IsCommandOf d.catalog) cs → SameDatabase d e
     → AllAnswerAlike cs d e
+
+-- a key that fits an index whole is a whole key, and one that fits it as look-ups are asked is one that it is asked by
+abbrev pub WhatFitsIsAsked : Type 0
+WhatFitsIsAsked = (s : Shape) (x : ℕ) (key : List Value)
+    → (IsTrue (fits_key s.columns (index_at s x).parts true key) → IsWholeKey (index_at s x).parts key)
+    × (IsTrue (fits_key s.columns (index_at s x).parts (is_hashed (index_at s x).kind) key) → IsAskedBy (index_at s x).kind (index_at s x).parts key)
+
+-- a record that fits has a value for each part of each index
+abbrev pub RecordsThatFitHaveWholeKeys : Type 0
+RecordsThatFitHaveWholeKeys = (s : Shape) (t : Table) (x e : ℕ) → IsTrue (is_schema s) → IsTrue (fits_record s.columns (row t e).1) → HasWholeKey s x t e

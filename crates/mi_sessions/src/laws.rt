@@ -4,7 +4,7 @@ ghost use Rattle.mi_model.specs.Sessions.{SessionsAreNumbered, CommitsEndByNumbe
 ghost use Rattle.mi_model.specs.Unique.{TablesStayWellFormed, UniqueKeysStayUnique};
 ghost use Rattle.mi_model.specs.Lookup.{RanksCountRows};
 ghost use Rattle.mi_model.specs.OneTable.{OneTableAsBefore};
-ghost use Rattle.mi_model.specs.Alike.{LookUpsAnswerAlike, CommandsAnswerAlike, RunsAnswerAlike};
+ghost use Rattle.mi_model.specs.Alike.{LookUpsAnswerAlike, CommandsAnswerAlike, RunsAnswerAlike, WhatFitsIsAsked, RecordsThatFitHaveWholeKeys};
 
 /// After a start and any commands that leave its session open, with k - 1 sessions above it, k undos
 /// give back the tables and the revision of the start.
@@ -50,6 +50,13 @@ pub fn look_ups_answer_alike()
 pub fn commands_answer_alike()
     ensures one { CommandsAnswerAlike }
     ensures several { RunsAnswerAlike }
+{}
+
+/// What fits a schema meets what the two laws above ask: a key that fits an index whole is a whole key, one that fits it as
+/// look-ups are asked is one that it is asked by, and a record that fits has a value for each part of each index.
+pub fn what_fits_is_asked()
+    ensures keys { WhatFitsIsAsked }
+    ensures records { RecordsThatFitHaveWholeKeys }
 {}
 
 /// The rank of a record is the number of records with a smaller key and of those with the same key that stand earlier in
