@@ -7,3 +7,4 @@ pub mod RefusalLemmas
 pub mod ReplyLemmas
 pub mod RowLemmas
 pub mod FirstTableLaws
+pub mod EditOrderLaws

@@ -1,6 +1,7 @@
 pub mod Answers
 pub mod Binding
 pub mod Commands
+pub mod EditOrder
 pub mod Edits
 pub mod FirstTable
 pub mod Json
