@@ -10,6 +10,7 @@ pub mod Database
 pub mod Same
 pub mod Steps
 pub mod Run
+pub mod OneTable
 pub mod Sessions
 pub mod Unique
 pub mod Alike

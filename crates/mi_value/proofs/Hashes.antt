@@ -1,5 +1,5 @@
 -- Hashes of keys, part by part, and that equal keys have equal hashes.
-use Rattle.std.proofs.Common.{◌≡◌, Bool, true, false, List, [], ◌∷◌, slice_get, Option, Some, None, refl, ap}
+use Rattle.std.proofs.Common.{◌≡◌, Bool, true, false, List, [], ◌∷◌, length, slice_get, Option, Some, None, refl, ap, arith}
 use Rattle.std.specs.List.{cons_option}
 use Rattle.std.specs.declared.cmp.Ordering.{Ordering}
 use Rattle.std.specs.declared.cmp.Ordering.TheVariants.{Less, Equal, Greater}
@@ -8,9 +8,9 @@ use Rattle.std.proofs.lemmas.Map.Lookups.{exact_signed, exact_bytes}
 use Rattle.core.specs.declared.hash.sip.DefaultHasher.{DefaultHasher}
 use Rattle.mi_value.specs.declared.value.Value.{Value}
 use Rattle.mi_value.specs.declared.value.Value.TheVariants.{Int, Text, Flag}
-use Rattle.mi_value.specs.Order.{compare_value, compare_missing, directed, compare_part, compare_key}
+use Rattle.mi_value.specs.Order.{compare_value, compare_missing, directed, compare_part, compare_key, compare_to_part, compare_prefix}
 use Rattle.mi_value.specs.declared.compare.KeyPart.{KeyPart}
-use Rattle.mi_value.specs.Hash.{after_if, after_values, key_values, values_hash}
+use Rattle.mi_value.specs.Hash.{after_if, after_values, key_values, values_hash, EqualKeysHaveEqualHashes, KeysHaveTheirRecordsHash}
 
 pub one_part : (state : DefaultHasher) (p : KeyPart) (ps : List KeyPart) (r : List Value) → after_values state (key_values (p ∷ ps) r) ≡ after_values (after_if state (slice_get r p.column)) (key_values ps r)
 one_part state p ps r = elim (slice_get r p.column) as (λ o. after_values state (cons_option o (key_values ps r)) ≡ after_values (after_if state o) (key_values ps r)) [
@@ -64,5 +64,18 @@ equal_keys (p ∷ ps) r s h =
     λ i. cons_option (here i) (equal_keys ps r s both.1 i)
 
 -- and so one hash
-pub equal_hashes : (ps : List KeyPart) (r s : List Value) → compare_key ps r s ≡ Equal → values_hash (key_values ps r) ≡ values_hash (key_values ps s)
+pub equal_hashes : EqualKeysHaveEqualHashes
 equal_hashes ps r s h = ap values_hash (equal_keys ps r s h)
+
+-- a whole key that equals a record's is its values there
+whole_key : (ps : List KeyPart) (key r : List Value) → length key ≡ length ps → compare_prefix ps key r ≡ Equal → key ≡ key_values ps r
+whole_key [] [] r long h = refl
+whole_key [] (v ∷ key) r long h = absurd (cc)
+whole_key (p ∷ ps) [] r long h = absurd (omega arith)
+whole_key (p ∷ ps) (v ∷ key) r long h =
+    let both : (compare_to_part p v r ≡ Equal) × (compare_prefix ps key r ≡ Equal) = then_equal (compare_to_part p v r) (compare_prefix ps key r) h in
+    let here : Some v ≡ slice_get r p.column = missing_equal (Some v) (slice_get r p.column) (directed_equal p.descending (compare_missing (Some v) (slice_get r p.column)) both.0) in
+    λ i. cons_option (here i) (whole_key ps key r (omega arith) both.1 i)
+
+pub key_hashes : KeysHaveTheirRecordsHash
+key_hashes ps key r long h = ap values_hash (whole_key ps key r long h)

@@ -6,6 +6,7 @@ mod bound;
 mod compare;
 mod edit;
 mod hash;
+pub mod laws;
 pub mod limits;
 mod refusal;
 mod steps;

@@ -1,0 +1,5 @@
+use Rattle.mi_value.proofs.Hashes.{equal_hashes, key_hashes}
+use Rattle.mi_value.proofs.laws.equal_keys_have_equal_hashes.Goals as goal
+
+pub returns : goal.returns
+returns c = record { records = equal_hashes; look_ups = key_hashes }
