@@ -1,1 +1,2 @@
 pub mod RuleLaws
+pub mod KindLaws

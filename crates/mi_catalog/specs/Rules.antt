@@ -7,6 +7,7 @@ use Rattle.mi_catalog.specs.declared.index.Column.{Column}
 use Rattle.mi_catalog.specs.declared.index.Index.{Index}
 use Rattle.mi_catalog.specs.declared.index.IndexKind.{IndexKind}
 use Rattle.mi_catalog.specs.declared.index.IndexKind.TheVariants.{Ordered, Ranked, Hashed, Sequenced}
+use Rattle.mi_catalog.specs.Kinds.{is_ranked}
 use Rattle.mi_catalog.specs.Shape.{Shape, CatalogShape}
 
 -- a letter a to z or `_`
@@ -49,10 +50,6 @@ keeps_kind columns Sequenced one_each ps = not one_each && (length ps == 0)
 
 abbrev pub is_declared_index : ℕ → Index → Bool
 is_declared_index columns i = is_free_name i.name && keeps_kind columns i.kind i.«unique» i.parts
-
-abbrev pub is_ranked : IndexKind → Bool
-is_ranked Ranked = true
-is_ranked kind = false
 
 -- the index `id`: ranked, unique, by the id
 abbrev pub is_id_index : Index → Bool

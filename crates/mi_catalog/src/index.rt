@@ -1,4 +1,4 @@
-//! Columns and indexes as a schema lists them.
+//! Columns and indexes as a schema lists them, and what each kind of index can do. The code's one table of kinds stands here.
 ghost use Rattle.std.specs.Prelude.{◌≡◌, IfOk};
 
 use mi_value::{ColumnType, KeyPart, Text};
@@ -12,6 +12,72 @@ pub enum IndexKind {
     Ranked,
     Hashed,
     Sequenced,
+}
+
+/// What indexes of each kind can do.
+impl IndexKind {
+    ghost use Rattle.std.specs.Prelude.{◌≡◌};
+    ghost use Rattle.mi_catalog.specs.Kinds as kinds;
+
+    /// Whether an index of this kind has keys.
+    pub fn has_keys(self) -> bool
+        ensures { result ≡ kinds.has_keys self }
+    {
+        match self {
+            IndexKind::Ordered | IndexKind::Ranked | IndexKind::Hashed => true,
+            IndexKind::Sequenced => false,
+        }
+    }
+
+    /// Whether its records stand in an order of their own, which commands change.
+    pub fn is_sequenced(self) -> bool
+        ensures { result ≡ kinds.is_sequenced self }
+    {
+        match self {
+            IndexKind::Sequenced => true,
+            IndexKind::Ordered | IndexKind::Ranked | IndexKind::Hashed => false,
+        }
+    }
+
+    /// Whether its records stand in the order of their keys.
+    pub fn is_sorted(self) -> bool
+        ensures { result ≡ kinds.is_sorted self }
+    {
+        match self {
+            IndexKind::Ordered | IndexKind::Ranked => true,
+            IndexKind::Hashed | IndexKind::Sequenced => false,
+        }
+    }
+
+    /// Whether commands ask it for ranks.
+    pub fn is_ranked(self) -> bool
+        ensures { result ≡ kinds.is_ranked self }
+    {
+        match self {
+            IndexKind::Ranked => true,
+            IndexKind::Ordered | IndexKind::Hashed | IndexKind::Sequenced => false,
+        }
+    }
+
+    /// Whether it is looked up by whole keys alone.
+    pub fn is_hashed(self) -> bool
+        ensures { result ≡ kinds.is_hashed self }
+    {
+        match self {
+            IndexKind::Hashed => true,
+            IndexKind::Ordered | IndexKind::Ranked | IndexKind::Sequenced => false,
+        }
+    }
+
+    /// Whether it shows its records as one list, from a first to a last.
+    pub fn shows_one_list(self) -> bool
+        ensures { result ≡ kinds.shows_one_list self }
+    {
+        match self {
+            IndexKind::Ordered | IndexKind::Ranked | IndexKind::Sequenced => true,
+            IndexKind::Hashed => false,
+        }
+    }
 }
 
 /// The parts of an index's key, seen as a list.

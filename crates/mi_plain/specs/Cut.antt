@@ -1,5 +1,5 @@
 -- Which ids of a list stand before a place in what an index shows.
-use Rattle.std.specs.Prelude.{ℕ, Bool, true, false, not, IsTrue, List, length}
+use Rattle.std.specs.Prelude.{ℕ, Bool, true, false, not, IsTrue, if◌then◌else◌, List, length}
 use Rattle.std.specs.declared.option.Option.{Option}
 use Rattle.std.specs.Ordering.{is_lt, is_gt, is_ge, nat_cmp, on, ordering_then, then_cmp}
 use Rattle.std.specs.declared.cmp.Ordering.{Ordering}
@@ -7,7 +7,7 @@ use Rattle.std.specs.declared.cmp.Ordering.TheVariants.{Equal}
 use Rattle.mi_value.specs.declared.value.Value.{Value}
 use Rattle.mi_catalog.specs.declared.index.Index.{Index}
 use Rattle.mi_catalog.specs.declared.index.IndexKind.{IndexKind}
-use Rattle.mi_catalog.specs.declared.index.IndexKind.TheVariants.{Ordered, Ranked, Hashed, Sequenced}
+use Rattle.mi_catalog.specs.Kinds.{is_sorted}
 use Rattle.mi_model.specs.Table.{Table, has}
 use Rattle.mi_model.specs.View.{compare_ids, compare_to_id}
 use Rattle.mi_model.specs.Lookup.{rank_in, before_place}
@@ -16,10 +16,7 @@ use Rattle.mi_plain.specs.declared.pass.Cut.TheVariants.{Start, End, Lower, Uppe
 
 -- an ordered or ranked index goes by its keys, and any other by the list alone
 abbrev pub order_by : IndexKind → (ℕ → ℕ → Ordering) → ℕ → ℕ → Ordering
-order_by Ordered order a b = order a b
-order_by Ranked order a b = order a b
-order_by Hashed order a b = Equal
-order_by Sequenced order a b = Equal
+order_by kind order a b = if is_sorted kind then order a b else Equal
 
 abbrev pub order_in : Index → Table → ℕ → ℕ → Ordering
 order_in i t = order_by i.kind (compare_ids i t)

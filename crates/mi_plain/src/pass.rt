@@ -2,7 +2,7 @@
 //! read rows and take no memory.
 use crate::key::{compare_rows, compare_to_row};
 use crate::table::PlainTable;
-use mi_catalog::{Index, IndexKind};
+use mi_catalog::Index;
 use mi_value::Value;
 use std::cmp::Ordering;
 
@@ -74,9 +74,10 @@ impl PlainTable {
         requires b { IsTrue (has_row self.now b) }
         ensures { result ≡ order_in index.now self.now a b }
     {
-        match index.kind {
-            IndexKind::Ordered | IndexKind::Ranked => self.compare_ids(index, a, b),
-            IndexKind::Hashed | IndexKind::Sequenced => Ordering::Equal,
+        if index.kind.is_sorted() {
+            self.compare_ids(index, a, b)
+        } else {
+            Ordering::Equal
         }
     }
 

@@ -1,5 +1,5 @@
 -- A command that is bound fits the catalog.
-use Rattle.std.proofs.Common.{◌≡◌, ℕ, ◌<◌, zero, suc, List, [], ◌∷◌, length, map, drop, slice_get, nat_le, nat_lt, Bool, true, false, cond, Option, Some, None, option_map, option_and_then, IfSome, Result, Ok, Err, IfOk, ℤ, refl, sym, ap, subst, ◌∙◌, ◌&&◌, true≢false, rules}
+use Rattle.std.proofs.Common.{◌≡◌, ℕ, ◌<◌, zero, suc, List, [], ◌∷◌, length, map, drop, slice_get, nat_le, nat_lt, Bool, true, false, cond, Option, Some, None, option_map, option_and_then, IfSome, Result, Ok, Err, IfOk, ℤ, refl, sym, ap, subst, ◌∙◌, ◌&&◌, rules}
 use Rattle.std.specs.List.{list_all, position, position_or_len}
 use Rattle.std.specs.Str.{bytes_eq}
 use Rattle.std.proofs.lemmas.Bool.{ltb-true}
@@ -7,6 +7,7 @@ use Rattle.std.proofs.Math.Seq.{drop-nil}
 use Rattle.std.specs.Option.{ok_or, option_map_or}
 use Rattle.serde_json.specs.Data.{Data, Items, Members}
 use Rattle.serde_json.specs.Find.{get_member, as_number, as_i64, as_str, as_bool}
+use Rattle.mi_value.specs.Edits.{NamesEachOnce}
 use Rattle.mi_value.specs.declared.edit.Edit.{Edit}
 use Rattle.mi_value.specs.declared.edit.Edit.TheVariants as edit
 use Rattle.mi_value.specs.declared.limits.TheConstants.{MAX_TEXT}
@@ -22,14 +23,15 @@ use Rattle.mi_value.specs.declared.value.Value.{Value}
 use Rattle.mi_value.specs.declared.value.Value.TheVariants as value
 use Rattle.mi_catalog.specs.declared.index.Column.{Column}
 use Rattle.mi_catalog.specs.declared.index.IndexKind.{IndexKind}
-use Rattle.mi_catalog.specs.declared.index.IndexKind.TheVariants.{Ordered, Ranked, Hashed, Sequenced}
+use Rattle.mi_catalog.specs.declared.index.IndexKind.TheVariants.{Sequenced}
 use Rattle.mi_catalog.specs.Shape.{Shape, CatalogShape, schema_at, index_at, find_index, find_table}
-use Rattle.mi_catalog.specs.Fits.{fits_type, fits_record, fits_key}
+use Rattle.mi_catalog.specs.Fits.{fits_type, fits_record, is_int, fits_edit, fits_key, fits_lower, fits_upper}
 use Rattle.mi_catalog.specs.Rules.{is_catalog}
+use Rattle.mi_catalog.proofs.KindLaws.{sequenced, ranked}
 use Rattle.mi_protocol.specs.Answers.{IsAnswer}
-use Rattle.mi_protocol.specs.Edits.{addition, edit_of, with_edit, edits_from, bound_edits, is_int, fits_edit}
+use Rattle.mi_protocol.specs.Edits.{addition, edit_of, with_edit, edits_from, bound_edits}
 use Rattle.mi_protocol.specs.Json.{has_only, option_map₂}
-use Rattle.mi_protocol.specs.Keys.{plain_values, if_key, bound_key, bound_lower, bound_upper, FitsLower, FitsUpper}
+use Rattle.mi_protocol.specs.Keys.{plain_values, if_key, bound_key, bound_lower, bound_upper}
 use Rattle.mi_catalog.specs.Kinds.{has_keys, is_sequenced, is_sorted, is_ranked, is_hashed}
 use Rattle.mi_protocol.specs.Rows.{short_text, fitting, values_of, bound_row}
 use Rattle.mi_protocol.specs.Binding.{and_then, table_number, of_kind, index_number, bound_place, bound_insert, bound_replace, bound_modify, named_key, bound_ends, bound_range, bound_relocate, bound_command, FitsCatalog}
@@ -39,6 +41,7 @@ use Rattle.mi_protocol.specs.declared.request.Place.{Place}
 use Rattle.mi_protocol.specs.declared.request.Request.{Request}
 use Rattle.mi_protocol.specs.declared.request.Request.TheVariants as request
 use Rattle.mi_protocol.specs.declared.binding.Command.{Command}
+use Rattle.mi_protocol.proofs.EditLemmas.{edited_once}
 
 -- ---- a row
 
@@ -136,11 +139,19 @@ from-fit cs x [] set add is = refl
 from-fit cs x (c ∷ more) set add is =
     one-more cs _ _ (edit-fits cs x c (get_member c.name set) (get_member c.name add) (at-front cs x ∙ ap first is)) (from-fit cs (suc x) more set add (drop-more cs x ∙ ap others is))
 
-edits-fit : (cs : List Column) (set add : Members) → IfSome (bound_edits cs set add) (λ es. list_all (fits_edit cs) es ≡ true)
+-- each is of a column of its type, and no column is named twice
+abbrev AreEdits : List Column → List Edit → Type 0
+AreEdits cs es = (list_all (fits_edit cs) es ≡ true) × NamesEachOnce es
+
+both-fit : (cs : List Column) (r : Option (List Edit)) → IfSome r (λ es. list_all (fits_edit cs) es ≡ true) → IfSome r NamesEachOnce → IfSome r (AreEdits cs)
+both-fit cs None h once = tt
+both-fit cs (Some es) h once = (h, once)
+
+edits-fit : (cs : List Column) (set add : Members) → IfSome (bound_edits cs set add) (AreEdits cs)
 edits-fit cs set add = by_test (has_only (map (λ c. c.name) cs) set && has_only (map (λ c. c.name) cs) add)
   where
-    by_test : (b : Bool) → IfSome (cond b (edits_from 0 cs set add) None) (λ es. list_all (fits_edit cs) es ≡ true)
-    by_test true = from-fit cs 0 cs set add refl
+    by_test : (b : Bool) → IfSome (cond b (edits_from 0 cs set add) None) (AreEdits cs)
+    by_test true = both-fit cs (edits_from 0 cs set add) (from-fit cs 0 cs set add refl) (edited_once 0 cs set add)
     by_test false = tt
 
 -- ---- one after another
@@ -185,18 +196,6 @@ index-fits kinds s name =
     then (λ x. x < length s.indexes) (IsIndexOf kinds s) (of_kind kinds s) (ok_or (find_index s name) Index)
     (some (λ x. x < length s.indexes) Index (find_index s name) (found (λ i. bytes_eq i.name name) s.indexes)) (kind-fits kinds s)
 
-sequenced : (k : IndexKind) → is_sequenced k ≡ true → k ≡ Sequenced
-sequenced Ordered h = absurd (true≢false (sym h))
-sequenced Ranked h = absurd (true≢false (sym h))
-sequenced Hashed h = absurd (true≢false (sym h))
-sequenced Sequenced h = refl
-
-ranked : (k : IndexKind) → is_ranked k ≡ true → k ≡ Ranked
-ranked Ordered h = absurd (true≢false (sym h))
-ranked Ranked h = refl
-ranked Hashed h = absurd (true≢false (sym h))
-ranked Sequenced h = absurd (true≢false (sym h))
-
 -- ---- a place
 
 abbrev IsPlaceOf : Shape → Option (ℕ × ℕ) → Type 0
@@ -226,7 +225,7 @@ abbrev IsRowOf : Shape → List Value → Type 0
 IsRowOf s values = fits_record s.columns values ≡ true
 
 abbrev AreEditsOf : Shape → List Edit → Type 0
-AreEditsOf s edits = list_all (fits_edit s.columns) edits ≡ true
+AreEditsOf s edits = AreEdits s.columns edits
 
 abbrev IsKeyOf : Shape → ℕ → Bool → List Value → Type 0
 IsKeyOf s x whole key = fits_key s.columns (index_at s x).parts whole key ≡ true
@@ -268,39 +267,46 @@ by_index : (c : CatalogShape) (n : ℕ) (kinds : IndexKind → Bool) (index : Li
     → IfOk (and_then f (index_number kinds (schema_at c n) index)) (FitsCatalog c)
 by_index c n kinds index f more = then (IsIndexOf kinds (schema_at c n)) (FitsCatalog c) f (index_number kinds (schema_at c n) index) (index-fits kinds (schema_at c n) index) more
 
-from-fits : (s : Shape) (x : ℕ) (o : Option (List Value)) → IfSome o (IsKeyOf s x false) → IfSome (option_map lower.From o) (FitsLower s x)
+-- bounds of a range in index x
+abbrev IsLowerOf : Shape → ℕ → Lower → Type 0
+IsLowerOf s x low = fits_lower s.columns (index_at s x).parts low ≡ true
+
+abbrev IsUpperOf : Shape → ℕ → Upper → Type 0
+IsUpperOf s x high = fits_upper s.columns (index_at s x).parts high ≡ true
+
+from-fits : (s : Shape) (x : ℕ) (o : Option (List Value)) → IfSome o (IsKeyOf s x false) → IfSome (option_map lower.From o) (IsLowerOf s x)
 from-fits s x None h = tt
 from-fits s x (Some key) h = h
 
-beyond-fits : (s : Shape) (x : ℕ) (o : Option (List Value)) → IfSome o (IsKeyOf s x false) → IfSome (option_map lower.Beyond o) (FitsLower s x)
+beyond-fits : (s : Shape) (x : ℕ) (o : Option (List Value)) → IfSome o (IsKeyOf s x false) → IfSome (option_map lower.Beyond o) (IsLowerOf s x)
 beyond-fits s x None h = tt
 beyond-fits s x (Some key) h = h
 
-lower-fits : (s : Shape) (x : ℕ) (e : End) → IfSome (bound_lower s x e) (FitsLower s x)
-lower-fits s x Open = tt
+lower-fits : (s : Shape) (x : ℕ) (e : End) → IfSome (bound_lower s x e) (IsLowerOf s x)
+lower-fits s x Open = refl
 lower-fits s x (With ds) = from-fits s x (bound_key s x false ds) (key-fits s x false ds)
 lower-fits s x (Without ds) = beyond-fits s x (bound_key s x false ds) (key-fits s x false ds)
 
-up_to-fits : (s : Shape) (x : ℕ) (o : Option (List Value)) → IfSome o (IsKeyOf s x false) → IfSome (option_map upper.UpTo o) (FitsUpper s x)
+up_to-fits : (s : Shape) (x : ℕ) (o : Option (List Value)) → IfSome o (IsKeyOf s x false) → IfSome (option_map upper.UpTo o) (IsUpperOf s x)
 up_to-fits s x None h = tt
 up_to-fits s x (Some key) h = h
 
-below-fits : (s : Shape) (x : ℕ) (o : Option (List Value)) → IfSome o (IsKeyOf s x false) → IfSome (option_map upper.Below o) (FitsUpper s x)
+below-fits : (s : Shape) (x : ℕ) (o : Option (List Value)) → IfSome o (IsKeyOf s x false) → IfSome (option_map upper.Below o) (IsUpperOf s x)
 below-fits s x None h = tt
 below-fits s x (Some key) h = h
 
-upper-fits : (s : Shape) (x : ℕ) (e : End) → IfSome (bound_upper s x e) (FitsUpper s x)
-upper-fits s x Open = tt
+upper-fits : (s : Shape) (x : ℕ) (e : End) → IfSome (bound_upper s x e) (IsUpperOf s x)
+upper-fits s x Open = refl
 upper-fits s x (With ds) = up_to-fits s x (bound_key s x false ds) (key-fits s x false ds)
 upper-fits s x (Without ds) = below-fits s x (bound_key s x false ds) (key-fits s x false ds)
 
 abbrev AreBoundsOf : Shape → ℕ → Lower × Upper → Type 0
-AreBoundsOf s x e = FitsLower s x e.0 × FitsUpper s x e.1
+AreBoundsOf s x e = IsLowerOf s x e.0 × IsUpperOf s x e.1
 
 ends-fit : (s : Shape) (x : ℕ) (lower upper : End) → IfOk (bound_ends s x lower upper) (AreBoundsOf s x)
 ends-fit s x lower upper =
-    then (FitsLower s x) (AreBoundsOf s x) _ (ok_or (bound_lower s x lower) Key) (some (FitsLower s x) Key (bound_lower s x lower) (lower-fits s x lower))
-    (λ l below. then (FitsUpper s x) (AreBoundsOf s x) _ (ok_or (bound_upper s x upper) Key) (some (FitsUpper s x) Key (bound_upper s x upper) (upper-fits s x upper)) (λ u above. (below, above)))
+    then (IsLowerOf s x) (AreBoundsOf s x) _ (ok_or (bound_lower s x lower) Key) (some (IsLowerOf s x) Key (bound_lower s x lower) (lower-fits s x lower))
+    (λ l below. then (IsUpperOf s x) (AreBoundsOf s x) _ (ok_or (bound_upper s x upper) Key) (some (IsUpperOf s x) Key (bound_upper s x upper) (upper-fits s x upper)) (λ u above. (below, above)))
 
 range-fits : (c : CatalogShape) (n : ℕ) (index : List ℕ) (lower upper : End) (reverse : Bool) (limit : ℕ) → n < length c.tables → IfOk (bound_range (schema_at c n) n index lower upper reverse limit) (FitsCatalog c)
 range-fits c n index lower upper reverse limit there =
@@ -318,7 +324,7 @@ bound-fits c (request.Insert table row before) h = over-table c table _ h (λ n 
 bound-fits c (request.Replace table id row) h = over-table c table _ h (λ n there. replace-fits c n id row there)
 bound-fits c (request.Modify table id set add rollback) h = over-table c table _ h (λ n there. modify-fits c n id set add rollback there)
 bound-fits c (request.Erase table id) h = over-table c table _ h (λ n there. there)
-bound-fits c (request.EraseKey table index key) h = over-table c table _ h (λ n there. by_key c n has_keys (λ kind. true) index key _ (λ k fits. (there, (fits.0.0, fits.0.1, fits.1))))
+bound-fits c (request.EraseKey table index key) h = over-table c table _ h (λ n there. by_key c n has_keys (λ kind. true) index key _ (λ k fits. (there, fits.0, fits.1)))
 bound-fits c (request.Relocate table index id before) h = over-table c table _ h (λ n there. relocate-fits c n index id before there)
 bound-fits c request.Start h = tt
 bound-fits c request.Undo h = tt
@@ -328,16 +334,16 @@ bound-fits c request.UndoAll h = tt
 bound-fits c request.Push h = tt
 bound-fits c request.Revision h = tt
 bound-fits c (request.Get table id) h = over-table c table _ h (λ n there. there)
-bound-fits c (request.Find table index key) h = over-table c table _ h (λ n there. by_key c n has_keys is_hashed index key _ (λ k fits. (there, (fits.0.0, fits.0.1, fits.1))))
+bound-fits c (request.Find table index key) h = over-table c table _ h (λ n there. by_key c n has_keys is_hashed index key _ (λ k fits. (there, fits.0, fits.1)))
 bound-fits c (request.Nth table index n) h = over-table c table _ h (λ t there. by_index c t is_ranked index _ (λ x at. (there, ranked (index_at (schema_at c t) x).kind at.1)))
-bound-fits c (request.Count table index key) h = over-table c table _ h (λ n there. by_key c n has_keys is_hashed index key _ (λ k fits. (there, (fits.0.0, fits.0.1, fits.1))))
+bound-fits c (request.Count table index key) h = over-table c table _ h (λ n there. by_key c n has_keys is_hashed index key _ (λ k fits. (there, fits.0, fits.1)))
 bound-fits c (request.Range table index lower upper reverse limit) h = over-table c table _ h (λ n there. range-fits c n index lower upper reverse limit there)
 bound-fits c (request.List table index after limit) h = over-table c table _ h (λ n there. by_index c n is_sequenced index _ (λ x at. (there, sequenced (index_at (schema_at c n) x).kind at.1)))
 bound-fits c (request.Rank table index id) h = over-table c table _ h (λ n there. by_index c n is_ranked index _ (λ x at. (there, ranked (index_at (schema_at c n) x).kind at.1)))
 bound-fits c (request.LowerRank table index key) h =
-    over-table c table _ h (λ n there. by_key c n is_ranked (λ kind. false) index key _ (λ k fits. (there, (ranked (index_at (schema_at c n) k.0).kind fits.0.1, fits.1))))
+    over-table c table _ h (λ n there. by_key c n is_ranked (λ kind. false) index key _ (λ k fits. (there, ranked (index_at (schema_at c n) k.0).kind fits.0.1, fits.1)))
 bound-fits c (request.UpperRank table index key) h =
-    over-table c table _ h (λ n there. by_key c n is_ranked (λ kind. false) index key _ (λ k fits. (there, (ranked (index_at (schema_at c n) k.0).kind fits.0.1, fits.1))))
+    over-table c table _ h (λ n there. by_key c n is_ranked (λ kind. false) index key _ (λ k fits. (there, ranked (index_at (schema_at c n) k.0).kind fits.0.1, fits.1)))
 bound-fits c (request.Size table) h = over-table c table _ h (λ n there. there)
 
 -- the answer of the code

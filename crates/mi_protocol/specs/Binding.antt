@@ -1,6 +1,5 @@
 -- The command that a request is over a catalog, with tables, indexes and columns by number.
-use Rattle.std.specs.Prelude.{◌≡◌, ℕ, ◌<◌, Bool, true, false, IsTrue, if◌then◌else◌, List, length, Option, Some, None, IfSome, Result, Ok, Err}
-use Rattle.std.specs.List.{list_all}
+use Rattle.std.specs.Prelude.{ℕ, Bool, true, false, if◌then◌else◌, List, Option, Some, None, IfSome, Result, Ok, Err}
 use Rattle.std.specs.Option.{ok_or}
 use Rattle.mi_value.specs.declared.refusal.Refusal.{Refusal}
 use Rattle.mi_value.specs.declared.refusal.Refusal.TheVariants.{NoTable, Index, Kind, Row, Key}
@@ -8,12 +7,12 @@ use Rattle.mi_value.specs.declared.bound.Lower.{Lower}
 use Rattle.mi_value.specs.declared.bound.Upper.{Upper}
 use Rattle.mi_value.specs.declared.value.Value.{Value}
 use Rattle.mi_catalog.specs.declared.index.IndexKind.{IndexKind}
-use Rattle.mi_catalog.specs.declared.index.IndexKind.TheVariants.{Ranked, Sequenced}
 use Rattle.mi_catalog.specs.Shape.{Shape, CatalogShape, schema_at, index_at, find_table, find_index}
-use Rattle.mi_catalog.specs.Fits.{fits_record, fits_key}
+use Rattle.mi_catalog.specs.Fitting.{HasTable, IsKeyedIndex, IsSortedIndex, IsRankedIndex, IsSequencedIndex}
+use Rattle.mi_catalog.specs.Fitting.{FitsTable, EditsFit, FitsWhole, FitsPrefix, FitsLookUp, FitsLower, FitsUpper}
 use Rattle.serde_json.specs.Data.{Items, Members}
-use Rattle.mi_protocol.specs.Edits.{bound_edits, fits_edit}
-use Rattle.mi_protocol.specs.Keys.{bound_key, bound_lower, bound_upper, FitsLower, FitsUpper}
+use Rattle.mi_protocol.specs.Edits.{bound_edits}
+use Rattle.mi_protocol.specs.Keys.{bound_key, bound_lower, bound_upper}
 use Rattle.mi_catalog.specs.Kinds.{has_keys, is_sequenced, is_sorted, is_ranked, is_hashed}
 use Rattle.mi_protocol.specs.Rows.{bound_row}
 use Rattle.mi_protocol.specs.declared.request.End.{End}
@@ -48,7 +47,8 @@ bound_place s (Some p) = and_then (λ x. Ok (Some (x, p.id))) (index_number is_s
 
 -- an insert into table n, whose place is bound before its row
 abbrev pub bound_insert : Shape → ℕ → Members → Option Place → Result Command Refusal
-bound_insert s n row before = and_then (λ at. and_then (λ values. Ok (command.Insert n values at)) (ok_or (bound_row s.columns row) Row)) (bound_place s before)
+bound_insert s n row before =
+    and_then (λ at. and_then (λ values. Ok (command.Insert n values at)) (ok_or (bound_row s.columns row) Row)) (bound_place s before)
 
 abbrev pub bound_replace : Shape → ℕ → ℕ → Members → Result Command Refusal
 bound_replace s n id row = and_then (λ values. Ok (command.Replace n id values)) (ok_or (bound_row s.columns row) Row)
@@ -90,7 +90,8 @@ bound_command c (request.Insert table row before) = and_then (λ n. bound_insert
 bound_command c (request.Replace table id row) = and_then (λ n. bound_replace (schema_at c n) n id row) (table_number c table)
 bound_command c (request.Modify table id set add rollback) = and_then (λ n. bound_modify (schema_at c n) n id set add rollback) (table_number c table)
 bound_command c (request.Erase table id) = and_then (λ n. Ok (command.Erase n id)) (table_number c table)
-bound_command c (request.EraseKey table index key) = and_then (λ n. and_then (λ k. Ok (command.EraseKey n k.0 k.1)) (whole_key (schema_at c n) index key)) (table_number c table)
+bound_command c (request.EraseKey table index key) =
+    and_then (λ n. and_then (λ k. Ok (command.EraseKey n k.0 k.1)) (whole_key (schema_at c n) index key)) (table_number c table)
 bound_command c (request.Relocate table index id before) = and_then (λ n. bound_relocate (schema_at c n) n index id before) (table_number c table)
 bound_command c request.Start = Ok command.Start
 bound_command c request.Undo = Ok command.Undo
@@ -100,33 +101,32 @@ bound_command c request.UndoAll = Ok command.UndoAll
 bound_command c request.Push = Ok command.Push
 bound_command c request.Revision = Ok command.Revision
 bound_command c (request.Get table id) = and_then (λ n. Ok (command.Get n id)) (table_number c table)
-bound_command c (request.Find table index key) = and_then (λ n. and_then (λ k. Ok (command.Find n k.0 k.1)) (key_or_prefix (schema_at c n) index key)) (table_number c table)
-bound_command c (request.Nth table index n) = and_then (λ t. and_then (λ x. Ok (command.Nth t x n)) (index_number is_ranked (schema_at c t) index)) (table_number c table)
-bound_command c (request.Count table index key) = and_then (λ n. and_then (λ k. Ok (command.Count n k.0 k.1)) (key_or_prefix (schema_at c n) index key)) (table_number c table)
-bound_command c (request.Range table index lower upper reverse limit) = and_then (λ n. bound_range (schema_at c n) n index lower upper reverse limit) (table_number c table)
-bound_command c (request.List table index after limit) = and_then (λ n. and_then (λ x. Ok (command.List n x after limit)) (index_number is_sequenced (schema_at c n) index)) (table_number c table)
-bound_command c (request.Rank table index id) = and_then (λ n. and_then (λ x. Ok (command.Rank n x id)) (index_number is_ranked (schema_at c n) index)) (table_number c table)
-bound_command c (request.LowerRank table index key) = and_then (λ n. and_then (λ k. Ok (command.LowerRank n k.0 k.1)) (ranked_key (schema_at c n) index key)) (table_number c table)
-bound_command c (request.UpperRank table index key) = and_then (λ n. and_then (λ k. Ok (command.UpperRank n k.0 k.1)) (ranked_key (schema_at c n) index key)) (table_number c table)
+bound_command c (request.Find table index key) =
+    and_then (λ n. and_then (λ k. Ok (command.Find n k.0 k.1)) (key_or_prefix (schema_at c n) index key)) (table_number c table)
+bound_command c (request.Nth table index n) =
+    and_then (λ t. and_then (λ x. Ok (command.Nth t x n)) (index_number is_ranked (schema_at c t) index)) (table_number c table)
+bound_command c (request.Count table index key) =
+    and_then (λ n. and_then (λ k. Ok (command.Count n k.0 k.1)) (key_or_prefix (schema_at c n) index key)) (table_number c table)
+bound_command c (request.Range table index lower upper reverse limit) =
+    and_then (λ n. bound_range (schema_at c n) n index lower upper reverse limit) (table_number c table)
+bound_command c (request.List table index after limit) =
+    and_then (λ n. and_then (λ x. Ok (command.List n x after limit)) (index_number is_sequenced (schema_at c n) index)) (table_number c table)
+bound_command c (request.Rank table index id) =
+    and_then (λ n. and_then (λ x. Ok (command.Rank n x id)) (index_number is_ranked (schema_at c n) index)) (table_number c table)
+bound_command c (request.LowerRank table index key) =
+    and_then (λ n. and_then (λ k. Ok (command.LowerRank n k.0 k.1)) (ranked_key (schema_at c n) index key)) (table_number c table)
+bound_command c (request.UpperRank table index key) =
+    and_then (λ n. and_then (λ k. Ok (command.UpperRank n k.0 k.1)) (ranked_key (schema_at c n) index key)) (table_number c table)
 bound_command c (request.Size table) = and_then (λ n. Ok (command.Size n)) (table_number c table)
-
--- the table has this index, and these are a key of it, or where it needn't be whole the first values of one
-abbrev pub FitsIndex : Shape → ℕ → Bool → List Value → Type 0
-FitsIndex s x whole key = (x < length s.indexes) × IsTrue (has_keys (index_at s x).kind) × IsTrue (fits_key s.columns (index_at s x).parts whole key)
-
--- index x is ranked, and these are a key of it or the first values of one
-abbrev pub FitsRanked : Shape → ℕ → List Value → Type 0
-FitsRanked s x key = ((index_at s x).kind ≡ Ranked) × IsTrue (fits_key s.columns (index_at s x).parts false key)
 
 -- the table is there, and records, edits, keys and indexes are as its schema wants them
 abbrev pub FitsCatalog : CatalogShape → Command → Type 0
-FitsCatalog c (command.Insert n row before) =
-    (n < length c.tables) × IsTrue (fits_record (schema_at c n).columns row) × IfSome before (λ at. (index_at (schema_at c n) at.0).kind ≡ Sequenced)
-FitsCatalog c (command.Replace n id row) = (n < length c.tables) × IsTrue (fits_record (schema_at c n).columns row)
-FitsCatalog c (command.Modify n id edits rollback) = (n < length c.tables) × IsTrue (list_all (fits_edit (schema_at c n).columns) edits)
-FitsCatalog c (command.Erase n id) = n < length c.tables
-FitsCatalog c (command.EraseKey n x key) = (n < length c.tables) × FitsIndex (schema_at c n) x true key
-FitsCatalog c (command.Relocate n x id before) = (n < length c.tables) × ((index_at (schema_at c n) x).kind ≡ Sequenced)
+FitsCatalog c (command.Insert n row before) = HasTable c n × FitsTable c n row × IfSome before (λ at. IsSequencedIndex c n at.0)
+FitsCatalog c (command.Replace n id row) = HasTable c n × FitsTable c n row
+FitsCatalog c (command.Modify n id edits rollback) = HasTable c n × EditsFit c n edits
+FitsCatalog c (command.Erase n id) = HasTable c n
+FitsCatalog c (command.EraseKey n x key) = HasTable c n × IsKeyedIndex c n x × FitsWhole c n x key
+FitsCatalog c (command.Relocate n x id before) = HasTable c n × IsSequencedIndex c n x
 FitsCatalog c command.Start = Unit {0}
 FitsCatalog c command.Undo = Unit {0}
 FitsCatalog c command.Squash = Unit {0}
@@ -134,14 +134,13 @@ FitsCatalog c (command.Commit revision) = Unit {0}
 FitsCatalog c command.UndoAll = Unit {0}
 FitsCatalog c command.Push = Unit {0}
 FitsCatalog c command.Revision = Unit {0}
-FitsCatalog c (command.Get n id) = n < length c.tables
-FitsCatalog c (command.Find n x key) = (n < length c.tables) × FitsIndex (schema_at c n) x (is_hashed (index_at (schema_at c n) x).kind) key
-FitsCatalog c (command.Nth t x n) = (t < length c.tables) × ((index_at (schema_at c t) x).kind ≡ Ranked)
-FitsCatalog c (command.Count n x key) = (n < length c.tables) × FitsIndex (schema_at c n) x (is_hashed (index_at (schema_at c n) x).kind) key
-FitsCatalog c (command.Range n x lower upper reverse limit) =
-    (n < length c.tables) × IsTrue (is_sorted (index_at (schema_at c n) x).kind) × FitsLower (schema_at c n) x lower × FitsUpper (schema_at c n) x upper
-FitsCatalog c (command.List n x after limit) = (n < length c.tables) × ((index_at (schema_at c n) x).kind ≡ Sequenced)
-FitsCatalog c (command.Rank n x id) = (n < length c.tables) × ((index_at (schema_at c n) x).kind ≡ Ranked)
-FitsCatalog c (command.LowerRank n x key) = (n < length c.tables) × FitsRanked (schema_at c n) x key
-FitsCatalog c (command.UpperRank n x key) = (n < length c.tables) × FitsRanked (schema_at c n) x key
-FitsCatalog c (command.Size n) = n < length c.tables
+FitsCatalog c (command.Get n id) = HasTable c n
+FitsCatalog c (command.Find n x key) = HasTable c n × IsKeyedIndex c n x × FitsLookUp c n x key
+FitsCatalog c (command.Nth t x n) = HasTable c t × IsRankedIndex c t x
+FitsCatalog c (command.Count n x key) = HasTable c n × IsKeyedIndex c n x × FitsLookUp c n x key
+FitsCatalog c (command.Range n x low high reverse limit) = HasTable c n × IsSortedIndex c n x × FitsLower c n x low × FitsUpper c n x high
+FitsCatalog c (command.List n x after limit) = HasTable c n × IsSequencedIndex c n x
+FitsCatalog c (command.Rank n x id) = HasTable c n × IsRankedIndex c n x
+FitsCatalog c (command.LowerRank n x key) = HasTable c n × IsRankedIndex c n x × FitsPrefix c n x key
+FitsCatalog c (command.UpperRank n x key) = HasTable c n × IsRankedIndex c n x × FitsPrefix c n x key
+FitsCatalog c (command.Size n) = HasTable c n

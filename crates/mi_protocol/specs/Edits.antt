@@ -1,6 +1,5 @@
 -- Edits: what the members of `set` and `add` make of the columns.
-use Rattle.std.specs.Prelude.{ℕ, suc, Bool, true, false, ◌&&◌, List, [], ◌∷◌, map, if◌then◌else◌, Option, Some, None, option_map, option_and_then, slice_get}
-use Rattle.std.specs.Option.{option_map_or}
+use Rattle.std.specs.Prelude.{ℕ, suc, ◌&&◌, List, [], ◌∷◌, map, if◌then◌else◌, Option, Some, None, option_map, option_and_then}
 use Rattle.serde_json.specs.Data.{Data, Members}
 use Rattle.serde_json.specs.Find.{get_member, as_number, as_i64}
 use Rattle.mi_value.specs.declared.value.ColumnType.{ColumnType}
@@ -8,7 +7,6 @@ use Rattle.mi_value.specs.declared.value.ColumnType.TheVariants as column
 use Rattle.mi_value.specs.declared.edit.Edit.{Edit}
 use Rattle.mi_value.specs.declared.edit.Edit.TheVariants as edit
 use Rattle.mi_catalog.specs.declared.index.Column.{Column}
-use Rattle.mi_catalog.specs.Fits.{fits_type}
 use Rattle.mi_protocol.specs.Json.{has_only, option_map₂}
 use Rattle.mi_protocol.specs.Rows.{fitting}
 
@@ -37,13 +35,3 @@ edits_from x (c ∷ cs) set add = option_map₂ with_edit (edit_of x c.kind (get
 -- the edits of a record with these columns; every member is of a column
 abbrev pub bound_edits : List Column → Members → Members → Option (List Edit)
 bound_edits cs set add = if has_only (map (λ c. c.name) cs) set && has_only (map (λ c. c.name) cs) add then edits_from 0 cs set add else None
-
-abbrev pub is_int : ColumnType → Bool
-is_int column.Int = true
-is_int column.Text = false
-is_int column.Flag = false
-
--- an edit of a column that is there: a value that fits, or an addition to an `int`
-abbrev pub fits_edit : List Column → Edit → Bool
-fits_edit cs (edit.Put x v) = option_map_or (λ c. fits_type c.kind v) (slice_get cs x) false
-fits_edit cs (edit.Add x n) = option_map_or (λ c. is_int c.kind) (slice_get cs x) false

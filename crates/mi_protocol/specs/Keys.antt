@@ -1,5 +1,5 @@
 -- Keys: the values that the items of an array are.
-use Rattle.std.specs.Prelude.{ℕ, Bool, false, IsTrue, List, [], ◌∷◌, if◌then◌else◌, Option, Some, None, option_map, option_and_then}
+use Rattle.std.specs.Prelude.{ℕ, Bool, false, List, [], ◌∷◌, if◌then◌else◌, Option, Some, None, option_map, option_and_then}
 use Rattle.serde_json.specs.Data.{Data, null, boolean, number, string, array, object, Items, no_items, item}
 use Rattle.serde_json.specs.Find.{as_i64}
 use Rattle.mi_value.specs.declared.value.Value.{Value}
@@ -46,14 +46,3 @@ abbrev pub bound_upper : Shape → ℕ → End → Option Upper
 bound_upper s x Open = Some upper.All
 bound_upper s x (With ds) = option_map upper.UpTo (bound_key s x false ds)
 bound_upper s x (Without ds) = option_map upper.Below (bound_key s x false ds)
-
--- the bound's key is one of index x, or the first values of one
-abbrev pub FitsLower : Shape → ℕ → Lower → Type 0
-FitsLower s x lower.All = Unit {0}
-FitsLower s x (lower.From key) = IsTrue (fits_key s.columns (index_at s x).parts false key)
-FitsLower s x (lower.Beyond key) = IsTrue (fits_key s.columns (index_at s x).parts false key)
-
-abbrev pub FitsUpper : Shape → ℕ → Upper → Type 0
-FitsUpper s x upper.All = Unit {0}
-FitsUpper s x (upper.UpTo key) = IsTrue (fits_key s.columns (index_at s x).parts false key)
-FitsUpper s x (upper.Below key) = IsTrue (fits_key s.columns (index_at s x).parts false key)

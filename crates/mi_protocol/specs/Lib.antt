@@ -12,3 +12,6 @@ pub mod Replies
 pub mod ReplyJson
 pub mod Rows
 pub mod Text
+-- What a command fits.
+pub use Rattle.mi_catalog.specs.Shape
+pub use Rattle.mi_catalog.specs.Fitting

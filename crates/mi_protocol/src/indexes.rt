@@ -10,7 +10,7 @@ ghost use Rattle.mi_catalog.specs.Kinds as kinds;
 use crate::array::Array;
 use crate::keys::bind_key;
 use crate::request::Place;
-use mi_catalog::{IndexKind, Schema};
+use mi_catalog::Schema;
 use mi_value::{Key, Refusal, Text};
 use std::alloc::Global;
 
@@ -27,9 +27,10 @@ pub(crate) fn sequenced_index(name: &Text, schema: &Schema) -> Result<usize, Ref
     ensures { result ≡ index_number kinds.is_sequenced schema.now name.now }
 {
     let index = find_index(name, schema)?;
-    match schema.kind(index) {
-        IndexKind::Sequenced => Ok(index),
-        _ => Err(Refusal::Kind),
+    if schema.kind(index).is_sequenced() {
+        Ok(index)
+    } else {
+        Err(Refusal::Kind)
     }
 }
 
@@ -39,9 +40,10 @@ fn keyed_index(name: &Text, schema: &Schema) -> Result<usize, Refusal>
     ensures there { IfOk result (λ i. i < length schema.now.indexes) }
 {
     let index = find_index(name, schema)?;
-    match schema.kind(index) {
-        IndexKind::Sequenced => Err(Refusal::Kind),
-        IndexKind::Ordered | IndexKind::Ranked | IndexKind::Hashed => Ok(index),
+    if schema.kind(index).has_keys() {
+        Ok(index)
+    } else {
+        Err(Refusal::Kind)
     }
 }
 
@@ -51,9 +53,10 @@ pub(crate) fn sorted_index(name: &Text, schema: &Schema) -> Result<usize, Refusa
     ensures there { IfOk result (λ i. i < length schema.now.indexes) }
 {
     let index = find_index(name, schema)?;
-    match schema.kind(index) {
-        IndexKind::Ordered | IndexKind::Ranked => Ok(index),
-        IndexKind::Sequenced | IndexKind::Hashed => Err(Refusal::Kind),
+    if schema.kind(index).is_sorted() {
+        Ok(index)
+    } else {
+        Err(Refusal::Kind)
     }
 }
 
@@ -63,19 +66,10 @@ pub(crate) fn ranked_index(name: &Text, schema: &Schema) -> Result<usize, Refusa
     ensures there { IfOk result (λ i. i < length schema.now.indexes) }
 {
     let index = find_index(name, schema)?;
-    match schema.kind(index) {
-        IndexKind::Ranked => Ok(index),
-        IndexKind::Sequenced | IndexKind::Ordered | IndexKind::Hashed => Err(Refusal::Kind),
-    }
-}
-
-/// Whether an index of this kind is hashed, so that only whole keys are looked up in it.
-fn is_hashed(kind: IndexKind) -> bool
-    ensures { result ≡ kinds.is_hashed kind }
-{
-    match kind {
-        IndexKind::Hashed => true,
-        IndexKind::Ordered | IndexKind::Ranked | IndexKind::Sequenced => false,
+    if schema.kind(index).is_ranked() {
+        Ok(index)
+    } else {
+        Err(Refusal::Kind)
     }
 }
 
@@ -103,7 +97,7 @@ pub(crate) fn key_or_prefix(
     ensures { IsAnswer result (binding.key_or_prefix schema.now index.now key) }
 {
     let index = keyed_index(index, schema)?;
-    let whole = is_hashed(schema.kind(index));
+    let whole = schema.kind(index).is_hashed();
     Ok((index, bind_key(alloc, key, schema, index, whole)?))
 }
 

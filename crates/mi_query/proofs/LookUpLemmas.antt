@@ -13,7 +13,7 @@ use Rattle.std.proofs.lemmas.List.Sums.{length-filter, count_by-le-length}
 use Rattle.std.proofs.lemmas.Option.{slice_get-get_or}
 use Rattle.mi_value.specs.declared.value.Value.{Value}
 use Rattle.mi_value.specs.declared.refusal.Refusal.{Refusal}
-use Rattle.mi_catalog.specs.Shape.{Shape}
+use Rattle.mi_model.specs.Shape.{Shape}
 use Rattle.mi_model.specs.Table.{Table}
 use Rattle.mi_model.specs.View.{view, of_key}
 

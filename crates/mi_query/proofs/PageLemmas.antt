@@ -10,10 +10,10 @@ use Rattle.std.proofs.lemmas.Option.{slice_get-get_or, slice_get_past, slice_get
 use Rattle.std.proofs.Math.Seq.{take-append_seam, drop-append_seam}
 use Rattle.mi_value.specs.declared.bound.Lower.{Lower}
 use Rattle.mi_value.specs.declared.bound.Upper.{Upper}
-use Rattle.mi_catalog.specs.Shape.{Shape, index_at}
+use Rattle.mi_model.specs.Shape.{Shape, index_at}
 use Rattle.mi_model.specs.Table.{Table}
 use Rattle.mi_model.specs.View.{view}
-use Rattle.mi_catalog.specs.Kinds.{is_sorted}
+use Rattle.mi_model.specs.Kinds.{is_sorted}
 use Rattle.mi_model.specs.Page as page
 use Rattle.mi_model.specs.Page.{Page, page_of}
 use Rattle.mi_model.proofs.PlaceLaws.{slice_get-reverse}

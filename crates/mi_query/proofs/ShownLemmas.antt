@@ -2,10 +2,10 @@
 use Rattle.std.proofs.Common.{◌≡◌, ℕ, ◌+◌, ◌<◌, zero, suc, Bool, true, false, List, length, refl, sym, subst}
 use Rattle.std.specs.Prelude.{IsTrue, IfSome, slice_get}
 use Rattle.std.specs.declared.option.Option.TheVariants.{None, Some}
-use Rattle.mi_catalog.specs.Shape.{index_at}
+use Rattle.mi_model.specs.Shape.{index_at}
 use Rattle.mi_model.specs.Table.{Table, has, size, ListsEach}
 use Rattle.mi_model.specs.View.{view}
-use Rattle.mi_catalog.specs.Kinds.{shows_one_list}
+use Rattle.mi_model.specs.Kinds.{shows_one_list}
 use Rattle.mi_model.specs.Database.{Database, IsDatabase, schema_of, table_of}
 use Rattle.mi_model.specs.Lookup as look
 use Rattle.mi_model.specs.Lookup.{rank_in, before_in}

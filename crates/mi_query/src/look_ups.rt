@@ -1,17 +1,12 @@
 //! Records by key: the first, and how many. It takes no memory.
-ghost use Rattle.std.specs.Prelude.{◌≡◌, ◌<◌, true, false, length, IsTrue};
-ghost use Rattle.mi_catalog.specs.declared.index.IndexKind.TheVariants.{Hashed};
-ghost use Rattle.mi_catalog.specs.Shape.{index_at};
-ghost use Rattle.mi_catalog.specs.Fits.{fits_key};
+ghost use Rattle.std.specs.Prelude.{◌≡◌};
+ghost use Rattle.mi_sessions.specs.Fitting.{HasTable, IsKeyedIndex, IsHashedIndex, IsSortedIndex, FitsWhole, FitsPrefix, FitsLookUp};
 ghost use Rattle.mi_model.specs.Table.{size as size_of};
-ghost use Rattle.mi_catalog.specs.Kinds.{has_keys, is_sorted};
 ghost use Rattle.mi_model.specs.Database.{schema_of, table_of};
 ghost use Rattle.mi_model.specs.Lookup as look;
 ghost use Rattle.mi_sessions.specs.LookUps.{WithinLookUps};
-ghost use Rattle.mi_query.specs.Keys.{fits_look_up};
 
 use crate::shown::shows_each;
-use mi_catalog::IndexKind;
 use mi_sessions::Sessions;
 use mi_value::{Steps, Value};
 
@@ -24,16 +19,16 @@ pub fn find<D: Sessions>(
     key: &[Value],
     steps: &mut Steps,
 ) -> Option<u64>
-    requires table { table < length (D.state db.now).catalog.tables }
-    requires index { index < length (schema_of (D.state db.now) table).indexes }
-    requires kind { IsTrue (has_keys (index_at (schema_of (D.state db.now) table) index).kind) }
-    requires key { IsTrue (fits_look_up (schema_of (D.state db.now) table) index key.now) }
+    requires table { HasTable (D.state db.now).catalog table }
+    requires index { IsKeyedIndex (D.state db.now).catalog table index }
+    requires key { FitsLookUp (D.state db.now).catalog table index key.now }
     ensures id { result ≡ look.find (schema_of (D.state db.now) table) (table_of (D.state db.now) table) index key.now }
     ensures steps { WithinLookUps D.bound 2 (size_of (table_of (D.state db.now) table)) steps.old.count steps.new.count }
 {
-    match db.catalog().table(table).kind(index) {
-        IndexKind::Hashed => db.first_of(table, index, key),
-        _ => find_sorted(db, table, index, key, steps),
+    if db.catalog().table(table).kind(index).is_hashed() {
+        db.first_of(table, index, key)
+    } else {
+        find_sorted(db, table, index, key, steps)
     }
 }
 
@@ -45,10 +40,9 @@ fn find_sorted<D: Sessions>(
     key: &[Value],
     steps: &mut Steps,
 ) -> Option<u64>
-    requires table { table < length (D.state db.now).catalog.tables }
-    requires within { index < length (schema_of (D.state db.now) table).indexes }
-    requires index { IsTrue (is_sorted (index_at (schema_of (D.state db.now) table) index).kind) }
-    requires key { IsTrue (fits_key (schema_of (D.state db.now) table).columns (index_at (schema_of (D.state db.now) table) index).parts false key.now) }
+    requires table { HasTable (D.state db.now).catalog table }
+    requires index { IsSortedIndex (D.state db.now).catalog table index }
+    requires key { FitsPrefix (D.state db.now).catalog table index key.now }
     ensures id { result ≡ look.find (schema_of (D.state db.now) table) (table_of (D.state db.now) table) index key.now }
     ensures steps { WithinLookUps D.bound 2 (size_of (table_of (D.state db.now) table)) steps.old.count steps.new.count }
 {
@@ -67,16 +61,16 @@ pub fn count<D: Sessions>(
     key: &[Value],
     steps: &mut Steps,
 ) -> u64
-    requires table { table < length (D.state db.now).catalog.tables }
-    requires index { index < length (schema_of (D.state db.now) table).indexes }
-    requires kind { IsTrue (has_keys (index_at (schema_of (D.state db.now) table) index).kind) }
-    requires key { IsTrue (fits_look_up (schema_of (D.state db.now) table) index key.now) }
+    requires table { HasTable (D.state db.now).catalog table }
+    requires index { IsKeyedIndex (D.state db.now).catalog table index }
+    requires key { FitsLookUp (D.state db.now).catalog table index key.now }
     ensures count { result ≡ look.count (schema_of (D.state db.now) table) (table_of (D.state db.now) table) index key.now }
     ensures steps { WithinLookUps D.bound 4 (size_of (table_of (D.state db.now) table)) steps.old.count steps.new.count }
 {
-    match db.catalog().table(table).kind(index) {
-        IndexKind::Hashed => count_hashed(db, table, index, key),
-        _ => count_sorted(db, table, index, key, steps),
+    if db.catalog().table(table).kind(index).is_hashed() {
+        count_hashed(db, table, index, key)
+    } else {
+        count_sorted(db, table, index, key, steps)
     }
 }
 
@@ -88,9 +82,9 @@ fn count_sorted<D: Sessions>(
     key: &[Value],
     steps: &mut Steps,
 ) -> u64
-    requires table { table < length (D.state db.now).catalog.tables }
-    requires index { IsTrue (is_sorted (index_at (schema_of (D.state db.now) table) index).kind) }
-    requires key { IsTrue (fits_key (schema_of (D.state db.now) table).columns (index_at (schema_of (D.state db.now) table) index).parts false key.now) }
+    requires table { HasTable (D.state db.now).catalog table }
+    requires index { IsSortedIndex (D.state db.now).catalog table index }
+    requires key { FitsPrefix (D.state db.now).catalog table index key.now }
     ensures count { result ≡ look.count (schema_of (D.state db.now) table) (table_of (D.state db.now) table) index key.now }
     ensures steps { WithinLookUps D.bound 4 (size_of (table_of (D.state db.now) table)) steps.old.count steps.new.count }
 {
@@ -101,10 +95,9 @@ fn count_sorted<D: Sessions>(
 
 /// How many records of a hashed index have a whole key: one after another.
 fn count_hashed<D: Sessions>(db: &D, table: usize, index: usize, key: &[Value]) -> u64
-    requires table { table < length (D.state db.now).catalog.tables }
-    requires index { index < length (schema_of (D.state db.now) table).indexes }
-    requires kind { (index_at (schema_of (D.state db.now) table) index).kind ≡ Hashed }
-    requires key { IsTrue (fits_key (schema_of (D.state db.now) table).columns (index_at (schema_of (D.state db.now) table) index).parts true key.now) }
+    requires table { HasTable (D.state db.now).catalog table }
+    requires index { IsHashedIndex (D.state db.now).catalog table index }
+    requires key { FitsWhole (D.state db.now).catalog table index key.now }
     ensures { result ≡ look.count (schema_of (D.state db.now) table) (table_of (D.state db.now) table) index key.now }
 {
     shows_each(db, table, index);

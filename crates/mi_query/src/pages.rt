@@ -1,17 +1,13 @@
 //! Pages of ranges and lists. A page takes memory for its ids alone: the index is walked from where the page begins.
-ghost use Rattle.std.specs.Prelude.{◌≡◌, ◌<◌, ℕ, not, length, drop, IsTrue, IfOk, IfErr, IfSome, Ok, Err, slice_get, if◌then◌else◌};
+ghost use Rattle.std.specs.Prelude.{◌≡◌, ℕ, not, length, drop, IsTrue, IfOk, IfErr, IfSome, Ok, Err, slice_get, if◌then◌else◌};
 ghost use Rattle.std.specs.List.{All, count_by};
 ghost use Rattle.mi_value.specs.declared.refusal.Refusal.TheVariants.{Memory, NoId};
-ghost use Rattle.mi_catalog.specs.declared.index.IndexKind.TheVariants.{Sequenced};
-ghost use Rattle.mi_catalog.specs.Shape.{index_at};
+ghost use Rattle.mi_sessions.specs.Fitting.{HasTable, index_of, IsSortedIndex, IsSequencedIndex, IsListedIndex, FitsLower, FitsUpper};
 ghost use Rattle.mi_model.specs.Table.{has as has_row};
-ghost use Rattle.mi_model.specs.View.{view};
-ghost use Rattle.mi_catalog.specs.Kinds.{is_sorted, shows_one_list};
 ghost use Rattle.mi_model.specs.Verdict.{has_place};
 ghost use Rattle.mi_model.specs.Database.{schema_of, table_of};
 ghost use Rattle.mi_model.specs.Page.{page_of, meets_lower, meets_upper, range as range_of, list as list_of};
-ghost use Rattle.mi_query.specs.Keys.{fits_lower, fits_upper};
-ghost use Rattle.mi_query.specs.Pages.{seen, turned, place_behind};
+ghost use Rattle.mi_query.specs.Pages.{shown_by, seen, turned, place_behind};
 
 use crate::shown::{following, shows_each};
 use mi_sessions::Sessions;
@@ -34,10 +30,11 @@ fn rank_from<D: Sessions>(
     lower: &Lower,
     steps: &mut Steps,
 ) -> u64
-    requires table { table < length (D.state db.now).catalog.tables }
-    requires index { IsTrue (is_sorted (index_at (schema_of (D.state db.now) table) index).kind) }
-    requires key { IsTrue (fits_lower (schema_of (D.state db.now) table) index lower.now) }
-    ensures { result ≡ count_by (λ id. not (meets_lower (index_at (schema_of (D.state db.now) table) index) (table_of (D.state db.now) table) lower.now id)) (view (schema_of (D.state db.now) table) (table_of (D.state db.now) table) index) }
+    requires table { HasTable (D.state db.now).catalog table }
+    requires index { IsSortedIndex (D.state db.now).catalog table index }
+    requires key { FitsLower (D.state db.now).catalog table index lower.now }
+    ensures { result ≡ count_by (λ id. not (meets_lower (index_of (D.state db.now).catalog table index) (table_of (D.state db.now) table) lower.now id))
+        (shown_by (D.state db.now) table index) }
 {
     match lower {
         Lower::All => 0,
@@ -48,10 +45,11 @@ fn rank_from<D: Sessions>(
 
 /// How many ids of an ordered or ranked index stand before the end of a range that ends at this bound: those that meet it.
 fn rank_to<D: Sessions>(db: &D, table: usize, index: usize, upper: &Upper, steps: &mut Steps) -> u64
-    requires table { table < length (D.state db.now).catalog.tables }
-    requires index { IsTrue (is_sorted (index_at (schema_of (D.state db.now) table) index).kind) }
-    requires key { IsTrue (fits_upper (schema_of (D.state db.now) table) index upper.now) }
-    ensures { result ≡ count_by (meets_upper (index_at (schema_of (D.state db.now) table) index) (table_of (D.state db.now) table) upper.now) (view (schema_of (D.state db.now) table) (table_of (D.state db.now) table) index) }
+    requires table { HasTable (D.state db.now).catalog table }
+    requires index { IsSortedIndex (D.state db.now).catalog table index }
+    requires key { FitsUpper (D.state db.now).catalog table index upper.now }
+    ensures { result ≡ count_by (meets_upper (index_of (D.state db.now).catalog table index) (table_of (D.state db.now) table) upper.now)
+        (shown_by (D.state db.now) table index) }
 {
     match upper {
         Upper::All => all_of(db, table, index),
@@ -62,9 +60,9 @@ fn rank_to<D: Sessions>(db: &D, table: usize, index: usize, upper: &Upper, steps
 
 /// How many ids an ordered or ranked index shows.
 fn all_of<D: Sessions>(db: &D, table: usize, index: usize) -> u64
-    requires table { table < length (D.state db.now).catalog.tables }
-    requires index { IsTrue (is_sorted (index_at (schema_of (D.state db.now) table) index).kind) }
-    ensures { result ≡ length (view (schema_of (D.state db.now) table) (table_of (D.state db.now) table) index) }
+    requires table { HasTable (D.state db.now).catalog table }
+    requires index { IsSortedIndex (D.state db.now).catalog table index }
+    ensures { result ≡ length (shown_by (D.state db.now) table index) }
 {
     shows_each(db, table, index);
     db.size(table)
@@ -80,11 +78,11 @@ fn walk<D: Sessions>(
     first: Option<u64>,
     limit: usize,
 ) -> Result<Page, Refusal>
-    requires table { table < length (D.state db.now).catalog.tables }
-    requires index { IsTrue (shows_one_list (index_at (schema_of (D.state db.now) table) index).kind) }
+    requires table { HasTable (D.state db.now).catalog table }
+    requires index { IsListedIndex (D.state db.now).catalog table index }
     requires first { IfSome first (λ id. IsTrue (has_row (table_of (D.state db.now) table) id)) }
-    ensures page { IfOk result (λ p. (at : ℕ) → first ≡ slice_get (turned reverse (view (schema_of (D.state db.now) table) (table_of (D.state db.now) table) index)) at
-        → seen p ≡ page_of limit (drop at (turned reverse (view (schema_of (D.state db.now) table) (table_of (D.state db.now) table) index)))) }
+    ensures page { IfOk result (λ p. (at : ℕ) → first ≡ slice_get (turned reverse (shown_by (D.state db.now) table index)) at
+        → seen p ≡ page_of limit (drop at (turned reverse (shown_by (D.state db.now) table index)))) }
     ensures held { IfOk result (λ p. All (λ id. IsTrue (has_row (table_of (D.state db.now) table) id)) p.ids.items) }
     ensures err { IfErr result (λ e. e ≡ Memory) }
 {
@@ -113,11 +111,12 @@ pub fn range<D: Sessions>(
     reverse: bool,
     limit: usize,
 ) -> Result<Page, Refusal>
-    requires table { table < length (D.state db.now).catalog.tables }
-    requires index { IsTrue (is_sorted (index_at (schema_of (D.state db.now) table) index).kind) }
-    requires lower { IsTrue (fits_lower (schema_of (D.state db.now) table) index lower.now) }
-    requires upper { IsTrue (fits_upper (schema_of (D.state db.now) table) index upper.now) }
-    ensures page { IfOk result (λ p. seen p ≡ range_of (schema_of (D.state db.now) table) (table_of (D.state db.now) table) index lower.now upper.now reverse limit) }
+    requires table { HasTable (D.state db.now).catalog table }
+    requires index { IsSortedIndex (D.state db.now).catalog table index }
+    requires lower { FitsLower (D.state db.now).catalog table index lower.now }
+    requires upper { FitsUpper (D.state db.now).catalog table index upper.now }
+    ensures page { IfOk result (λ p. seen p ≡
+        range_of (schema_of (D.state db.now) table) (table_of (D.state db.now) table) index lower.now upper.now reverse limit) }
     ensures held { IfOk result (λ p. All (λ id. IsTrue (has_row (table_of (D.state db.now) table) id)) p.ids.items) }
     ensures err { IfErr result (λ e. e ≡ Memory) }
 {
@@ -150,8 +149,8 @@ pub fn list<D: Sessions>(
     after: Option<u64>,
     limit: usize,
 ) -> Result<Page, Refusal>
-    requires table { table < length (D.state db.now).catalog.tables }
-    requires index { (index_at (schema_of (D.state db.now) table) index).kind ≡ Sequenced }
+    requires table { HasTable (D.state db.now).catalog table }
+    requires index { IsSequencedIndex (D.state db.now).catalog table index }
     ensures page { IfOk result (λ p. seen p ≡ list_of (schema_of (D.state db.now) table) (table_of (D.state db.now) table) index after limit) }
     ensures held { IfOk result (λ p. All (λ id. IsTrue (has_row (table_of (D.state db.now) table) id)) p.ids.items) }
     ensures there { IfOk result (λ _. IsTrue (has_place (table_of (D.state db.now) table) after)) }
@@ -169,10 +168,10 @@ fn first_behind<D: Sessions>(
     index: usize,
     after: Option<u64>,
 ) -> Result<Option<u64>, Refusal>
-    requires table { table < length (D.state db.now).catalog.tables }
-    requires index { (index_at (schema_of (D.state db.now) table) index).kind ≡ Sequenced }
+    requires table { HasTable (D.state db.now).catalog table }
+    requires index { IsSequencedIndex (D.state db.now).catalog table index }
     ensures { result ≡ (if has_place (table_of (D.state db.now) table) after
-        then Ok (slice_get (view (schema_of (D.state db.now) table) (table_of (D.state db.now) table) index) (place_behind (view (schema_of (D.state db.now) table) (table_of (D.state db.now) table) index) after))
+        then Ok (slice_get (shown_by (D.state db.now) table index) (place_behind (shown_by (D.state db.now) table index) after))
         else Err NoId) }
 {
     let Some(id) = after else {

@@ -1,10 +1,8 @@
 //! Ranks and sizes: how many records stand before a record or a key. It takes no memory.
-ghost use Rattle.std.specs.Prelude.{◌≡◌, ◌<◌, false, length, IsTrue, if◌then◌else◌, Ok, Err};
+ghost use Rattle.std.specs.Prelude.{◌≡◌, if◌then◌else◌, Ok, Err};
 ghost use Rattle.mi_value.specs.declared.refusal.Refusal.TheVariants.{NoId};
-ghost use Rattle.mi_catalog.specs.Shape.{index_at};
-ghost use Rattle.mi_catalog.specs.Fits.{fits_key};
+ghost use Rattle.mi_sessions.specs.Fitting.{HasTable, IsSortedIndex, FitsPrefix};
 ghost use Rattle.mi_model.specs.Table.{has as has_row, size as size_of};
-ghost use Rattle.mi_catalog.specs.Kinds.{is_sorted};
 ghost use Rattle.mi_model.specs.Database.{schema_of, table_of};
 ghost use Rattle.mi_model.specs.Lookup as look;
 ghost use Rattle.mi_sessions.specs.LookUps.{WithinLookUps};
@@ -14,7 +12,7 @@ use mi_value::{Refusal, Steps, Value};
 
 /// How many records a table has.
 pub fn size<D: Sessions>(db: &D, table: usize) -> u64
-    requires { table < length (D.state db.now).catalog.tables }
+    requires { HasTable (D.state db.now).catalog table }
     ensures { result ≡ size_of (table_of (D.state db.now) table) }
 {
     db.size(table)
@@ -29,9 +27,11 @@ pub fn rank<D: Sessions>(
     id: u64,
     steps: &mut Steps,
 ) -> Result<u64, Refusal>
-    requires table { table < length (D.state db.now).catalog.tables }
-    requires index { IsTrue (is_sorted (index_at (schema_of (D.state db.now) table) index).kind) }
-    ensures rank { result ≡ (if has_row (table_of (D.state db.now) table) id then Ok (look.rank (schema_of (D.state db.now) table) (table_of (D.state db.now) table) index id) else Err NoId) }
+    requires table { HasTable (D.state db.now).catalog table }
+    requires index { IsSortedIndex (D.state db.now).catalog table index }
+    ensures rank { result ≡ (if has_row (table_of (D.state db.now) table) id
+        then Ok (look.rank (schema_of (D.state db.now) table) (table_of (D.state db.now) table) index id)
+        else Err NoId) }
     ensures steps { WithinLookUps D.bound 3 (size_of (table_of (D.state db.now) table)) steps.old.count steps.new.count }
 {
     if db.get(table, id, steps).is_none() {
@@ -42,8 +42,8 @@ pub fn rank<D: Sessions>(
 
 /// The id with n records before it in an ordered or ranked index, or none.
 pub fn nth<D: Sessions>(db: &D, table: usize, index: usize, n: u64) -> Option<u64>
-    requires table { table < length (D.state db.now).catalog.tables }
-    requires index { IsTrue (is_sorted (index_at (schema_of (D.state db.now) table) index).kind) }
+    requires table { HasTable (D.state db.now).catalog table }
+    requires index { IsSortedIndex (D.state db.now).catalog table index }
     ensures { result ≡ look.nth (schema_of (D.state db.now) table) (table_of (D.state db.now) table) index n }
 {
     db.nth(table, index, n)
@@ -58,9 +58,9 @@ pub fn lower_rank<D: Sessions>(
     key: &[Value],
     steps: &mut Steps,
 ) -> u64
-    requires table { table < length (D.state db.now).catalog.tables }
-    requires index { IsTrue (is_sorted (index_at (schema_of (D.state db.now) table) index).kind) }
-    requires key { IsTrue (fits_key (schema_of (D.state db.now) table).columns (index_at (schema_of (D.state db.now) table) index).parts false key.now) }
+    requires table { HasTable (D.state db.now).catalog table }
+    requires index { IsSortedIndex (D.state db.now).catalog table index }
+    requires key { FitsPrefix (D.state db.now).catalog table index key.now }
     ensures rank { result ≡ look.lower_rank (schema_of (D.state db.now) table) (table_of (D.state db.now) table) index key.now }
     ensures steps { WithinLookUps D.bound 2 (size_of (table_of (D.state db.now) table)) steps.old.count steps.new.count }
 {
@@ -76,9 +76,9 @@ pub fn upper_rank<D: Sessions>(
     key: &[Value],
     steps: &mut Steps,
 ) -> u64
-    requires table { table < length (D.state db.now).catalog.tables }
-    requires index { IsTrue (is_sorted (index_at (schema_of (D.state db.now) table) index).kind) }
-    requires key { IsTrue (fits_key (schema_of (D.state db.now) table).columns (index_at (schema_of (D.state db.now) table) index).parts false key.now) }
+    requires table { HasTable (D.state db.now).catalog table }
+    requires index { IsSortedIndex (D.state db.now).catalog table index }
+    requires key { FitsPrefix (D.state db.now).catalog table index key.now }
     ensures rank { result ≡ look.upper_rank (schema_of (D.state db.now) table) (table_of (D.state db.now) table) index key.now }
     ensures steps { WithinLookUps D.bound 2 (size_of (table_of (D.state db.now) table)) steps.old.count steps.new.count }
 {

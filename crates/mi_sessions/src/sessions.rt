@@ -1,15 +1,14 @@
 //! The calls of a database: several tables under one stack of nested sessions. It says what each call answers and leaves,
 //! by the definitions of `mi_model`, and nothing of how rows are kept.
-ghost use Rattle.std.specs.Prelude.{◌≡◌, ◌<◌, ℕ, true, false, length, IsTrue, IfSome, IfErr};
+ghost use Rattle.std.specs.Prelude.{◌≡◌, ℕ, IsTrue, IfSome, IfErr};
 ghost use Rattle.std.specs.declared.option.Option.{Option as Maybe};
 ghost use Rattle.std.specs.Option.{option_copied};
-ghost use Rattle.mi_catalog.specs.Fits.{fits_record, fits_key};
-ghost use Rattle.mi_catalog.specs.declared.index.IndexKind.TheVariants.{Hashed, Sequenced};
+ghost use Rattle.mi_catalog.specs.Fitting.{HasTable, IsKeyedIndex, IsHashedIndex, IsSortedIndex, IsSequencedIndex, IsListedIndex};
+ghost use Rattle.mi_catalog.specs.Fitting.{FitsTable, EditsFit, FitsWhole, FitsPrefix};
 ghost use Rattle.mi_model.specs.Table.{get as get_row, has as has_row, size as size_of};
-ghost use Rattle.mi_catalog.specs.Kinds.{is_sorted, shows_one_list};
 ghost use Rattle.mi_model.specs.Lookup as look;
-ghost use Rattle.mi_catalog.specs.Shape.{index_at};
-ghost use Rattle.mi_model.specs.Database.{Database, IsDatabase, schema_of, table_of, depth as depth_of, start_step, undo_step, squash_step, ending, committed, undone_times};
+ghost use Rattle.mi_model.specs.Database.{Database, IsDatabase, schema_of, table_of, depth as depth_of};
+ghost use Rattle.mi_model.specs.Database.{start_step, undo_step, squash_step, ending, committed, undone_times};
 ghost use Rattle.mi_model.specs.Steps.{Meets, without_value, insert_step, replace_step, modify_step, erase_step, erase_key_step, relocate_step};
 ghost use Rattle.mi_sessions.specs.LookUps.{WithinLookUps};
 
@@ -51,9 +50,9 @@ pub trait Sessions {
         row: Record,
         before: Option<(usize, u64)>,
     ) -> Result<u64, (Refusal, Record)>
-        requires table { table < length (state self.old).catalog.tables }
-        requires row { IsTrue (fits_record (schema_of (state self.old) table).columns row) }
-        requires before { IfSome before (λ at. (index_at (schema_of (state self.old) table) at.0).kind ≡ Sequenced) }
+        requires table { HasTable (state self.old).catalog table }
+        requires row { FitsTable (state self.old).catalog table row }
+        requires before { IfSome before (λ at. IsSequencedIndex (state self.old).catalog table at.0) }
         ensures outcome { Meets (insert_step table before row (state self.old)) (without_value result) (state self.old) (state self.new) }
         ensures handed_back { IfErr result (λ e. e.1 ≡ row) };
 
@@ -68,12 +67,13 @@ pub trait Sessions {
         id: u64,
         row: Record,
     ) -> Result<(), (Refusal, Record)>
-        requires table { table < length (state self.old).catalog.tables }
-        requires row { IsTrue (fits_record (schema_of (state self.old) table).columns row) }
+        requires table { HasTable (state self.old).catalog table }
+        requires row { FitsTable (state self.old).catalog table row }
         ensures outcome { Meets (replace_step table id row (state self.old)) (without_value result) (state self.old) (state self.new) }
         ensures handed_back { IfErr result (λ e. e.1 ≡ row) };
 
-    /// Changes columns of a record, whose places move as by `replace`.
+    /// Changes columns of a record, whose places move as by `replace`. Each edit is of a column of its type, and no column is
+    /// edited twice; with no edits the record stays.
     ///
     /// Refusals, in this order: `NoId`, `Range` (a sum leaves 64 bits), `Spent` (arrivals), then where a unique index refuses
     /// the result `Unique` with `rollback`, which changes nothing, or without it `Lost`, and the record is erased; `Memory`.
@@ -85,16 +85,16 @@ pub trait Sessions {
         edits: &[Edit],
         rollback: bool,
     ) -> Result<(), Refusal>
-        requires { table < length (state self.old).catalog.tables }
+        requires table { HasTable (state self.old).catalog table }
+        requires edits { EditsFit (state self.old).catalog table edits.now }
         ensures { Meets (modify_step table id edits.now rollback (state self.old)) result (state self.old) (state self.new) };
 
     /// Erases a record. Refusals: `NoId`, `Memory`.
     fn erase(&mut self, alloc: Global, table: usize, id: u64) -> Result<(), Refusal>
-        requires { table < length (state self.old).catalog.tables }
+        requires { HasTable (state self.old).catalog table }
         ensures { Meets (erase_step table id (state self.old)) result (state self.old) (state self.new) };
 
-    /// Erases every record with a key in an index that isn't sequenced, and answers how many. The key is whole. Refusal:
-    /// `Memory`.
+    /// Erases every record with a key in an index that has keys, and answers how many. The key is whole. Refusal: `Memory`.
     fn erase_key(
         &mut self,
         alloc: Global,
@@ -102,9 +102,9 @@ pub trait Sessions {
         index: usize,
         key: &[Value],
     ) -> Result<u64, Refusal>
-        requires table { table < length (state self.old).catalog.tables }
-        requires index { index < length (schema_of (state self.old) table).indexes }
-        requires key { IsTrue (fits_key (schema_of (state self.old) table).columns (index_at (schema_of (state self.old) table) index).parts true key.now) }
+        requires table { HasTable (state self.old).catalog table }
+        requires index { IsKeyedIndex (state self.old).catalog table index }
+        requires key { FitsWhole (state self.old).catalog table index key.now }
         ensures { Meets (erase_key_step table index key.now (state self.old)) result (state self.old) (state self.new) };
 
     /// Moves a record in a sequenced index directly before another, or to its end; before itself it stays. Refusals: `NoId`
@@ -117,91 +117,89 @@ pub trait Sessions {
         id: u64,
         before: Option<u64>,
     ) -> Result<(), Refusal>
-        requires table { table < length (state self.old).catalog.tables }
-        requires index { (index_at (schema_of (state self.old) table) index).kind ≡ Sequenced }
+        requires table { HasTable (state self.old).catalog table }
+        requires index { IsSequencedIndex (state self.old).catalog table index }
         ensures { Meets (relocate_step table index id before (state self.old)) result (state self.old) (state self.new) };
 
     /// How many records a table has.
     fn size(&self, table: usize) -> u64
-        requires { table < length (state self.now).catalog.tables }
+        requires { HasTable (state self.now).catalog table }
         ensures { result ≡ size_of (table_of (state self.now) table) };
 
     /// The record of an id, or none. At most one look-up.
     fn get(&self, table: usize, id: u64, steps: &mut Steps) -> Option<&Record>
-        requires { table < length (state self.now).catalog.tables }
+        requires { HasTable (state self.now).catalog table }
         ensures record { option_copied result ≡ get_row (table_of (state self.now) table) id }
         ensures steps { WithinLookUps bound 1 (size_of (table_of (state self.now) table)) steps.old.count steps.new.count };
 
     /// The first id that an index shows, or none of an empty table. A hashed index has no order.
     fn first(&self, table: usize, index: usize) -> Option<u64>
-        requires table { table < length (state self.now).catalog.tables }
-        requires index { IsTrue (shows_one_list (index_at (schema_of (state self.now) table) index).kind) }
+        requires table { HasTable (state self.now).catalog table }
+        requires index { IsListedIndex (state self.now).catalog table index }
         ensures { result ≡ look.first (schema_of (state self.now) table) (table_of (state self.now) table) index };
 
     /// The last id that an index shows, or none of an empty table.
     fn last(&self, table: usize, index: usize) -> Option<u64>
-        requires table { table < length (state self.now).catalog.tables }
-        requires index { IsTrue (shows_one_list (index_at (schema_of (state self.now) table) index).kind) }
+        requires table { HasTable (state self.now).catalog table }
+        requires index { IsListedIndex (state self.now).catalog table index }
         ensures { result ≡ look.last (schema_of (state self.now) table) (table_of (state self.now) table) index };
 
     /// The id that an index shows directly after another, or none behind the last.
     fn after(&self, table: usize, index: usize, id: u64) -> Option<u64>
-        requires table { table < length (state self.now).catalog.tables }
-        requires index { IsTrue (shows_one_list (index_at (schema_of (state self.now) table) index).kind) }
+        requires table { HasTable (state self.now).catalog table }
+        requires index { IsListedIndex (state self.now).catalog table index }
         requires id { IsTrue (has_row (table_of (state self.now) table) id) }
         ensures { result ≡ look.after (schema_of (state self.now) table) (table_of (state self.now) table) index id };
 
     /// The id that an index shows directly before another, or none before the first.
     fn before(&self, table: usize, index: usize, id: u64) -> Option<u64>
-        requires table { table < length (state self.now).catalog.tables }
-        requires index { IsTrue (shows_one_list (index_at (schema_of (state self.now) table) index).kind) }
+        requires table { HasTable (state self.now).catalog table }
+        requires index { IsListedIndex (state self.now).catalog table index }
         requires id { IsTrue (has_row (table_of (state self.now) table) id) }
         ensures { result ≡ look.before (schema_of (state self.now) table) (table_of (state self.now) table) index id };
 
     /// The first id of an ordered or ranked index whose key isn't less than a key or the first values of one, or none. At
     /// most one look-up.
     fn lower(&self, table: usize, index: usize, key: &[Value], steps: &mut Steps) -> Option<u64>
-        requires table { table < length (state self.now).catalog.tables }
-        requires index { IsTrue (is_sorted (index_at (schema_of (state self.now) table) index).kind) }
-        requires key { IsTrue (fits_key (schema_of (state self.now) table).columns (index_at (schema_of (state self.now) table) index).parts false key.now) }
+        requires table { HasTable (state self.now).catalog table }
+        requires index { IsSortedIndex (state self.now).catalog table index }
+        requires key { FitsPrefix (state self.now).catalog table index key.now }
         ensures id { result ≡ look.lower (schema_of (state self.now) table) (table_of (state self.now) table) index key.now }
         ensures steps { WithinLookUps bound 1 (size_of (table_of (state self.now) table)) steps.old.count steps.new.count };
 
     /// The first id of an ordered or ranked index whose key is greater than a key or the first values of one, or none. At
     /// most one look-up.
     fn upper(&self, table: usize, index: usize, key: &[Value], steps: &mut Steps) -> Option<u64>
-        requires table { table < length (state self.now).catalog.tables }
-        requires index { IsTrue (is_sorted (index_at (schema_of (state self.now) table) index).kind) }
-        requires key { IsTrue (fits_key (schema_of (state self.now) table).columns (index_at (schema_of (state self.now) table) index).parts false key.now) }
+        requires table { HasTable (state self.now).catalog table }
+        requires index { IsSortedIndex (state self.now).catalog table index }
+        requires key { FitsPrefix (state self.now).catalog table index key.now }
         ensures id { result ≡ look.upper (schema_of (state self.now) table) (table_of (state self.now) table) index key.now }
         ensures steps { WithinLookUps bound 1 (size_of (table_of (state self.now) table)) steps.old.count steps.new.count };
 
     /// The first id of a whole key in a hashed index, or none.
     fn first_of(&self, table: usize, index: usize, key: &[Value]) -> Option<u64>
-        requires table { table < length (state self.now).catalog.tables }
-        requires index { index < length (schema_of (state self.now) table).indexes }
-        requires kind { (index_at (schema_of (state self.now) table) index).kind ≡ Hashed }
-        requires key { IsTrue (fits_key (schema_of (state self.now) table).columns (index_at (schema_of (state self.now) table) index).parts true key.now) }
+        requires table { HasTable (state self.now).catalog table }
+        requires index { IsHashedIndex (state self.now).catalog table index }
+        requires key { FitsWhole (state self.now).catalog table index key.now }
         ensures { result ≡ look.first_of (schema_of (state self.now) table) (table_of (state self.now) table) index key.now };
 
     /// The id that follows another among those of its key in a hashed index, or none behind the last.
     fn next_of(&self, table: usize, index: usize, id: u64) -> Option<u64>
-        requires table { table < length (state self.now).catalog.tables }
-        requires index { index < length (schema_of (state self.now) table).indexes }
-        requires kind { (index_at (schema_of (state self.now) table) index).kind ≡ Hashed }
+        requires table { HasTable (state self.now).catalog table }
+        requires index { IsHashedIndex (state self.now).catalog table index }
         requires id { IsTrue (has_row (table_of (state self.now) table) id) }
         ensures { result ≡ look.next_of (schema_of (state self.now) table) (table_of (state self.now) table) index id };
 
     /// The id with n records before it in an ordered or ranked index, or none.
     fn nth(&self, table: usize, index: usize, n: u64) -> Option<u64>
-        requires table { table < length (state self.now).catalog.tables }
-        requires index { IsTrue (is_sorted (index_at (schema_of (state self.now) table) index).kind) }
+        requires table { HasTable (state self.now).catalog table }
+        requires index { IsSortedIndex (state self.now).catalog table index }
         ensures { result ≡ look.nth (schema_of (state self.now) table) (table_of (state self.now) table) index n };
 
     /// How many records stand before a record in an ordered or ranked index. At most two look-ups.
     fn rank_of(&self, table: usize, index: usize, id: u64, steps: &mut Steps) -> u64
-        requires table { table < length (state self.now).catalog.tables }
-        requires index { IsTrue (is_sorted (index_at (schema_of (state self.now) table) index).kind) }
+        requires table { HasTable (state self.now).catalog table }
+        requires index { IsSortedIndex (state self.now).catalog table index }
         requires id { IsTrue (has_row (table_of (state self.now) table) id) }
         ensures rank { result ≡ look.rank (schema_of (state self.now) table) (table_of (state self.now) table) index id }
         ensures steps { WithinLookUps bound 2 (size_of (table_of (state self.now) table)) steps.old.count steps.new.count };
@@ -209,18 +207,18 @@ pub trait Sessions {
     /// How many records of an ordered or ranked index have a key less than a key or the first values of one. At most two
     /// look-ups.
     fn lower_rank(&self, table: usize, index: usize, key: &[Value], steps: &mut Steps) -> u64
-        requires table { table < length (state self.now).catalog.tables }
-        requires index { IsTrue (is_sorted (index_at (schema_of (state self.now) table) index).kind) }
-        requires key { IsTrue (fits_key (schema_of (state self.now) table).columns (index_at (schema_of (state self.now) table) index).parts false key.now) }
+        requires table { HasTable (state self.now).catalog table }
+        requires index { IsSortedIndex (state self.now).catalog table index }
+        requires key { FitsPrefix (state self.now).catalog table index key.now }
         ensures rank { result ≡ look.lower_rank (schema_of (state self.now) table) (table_of (state self.now) table) index key.now }
         ensures steps { WithinLookUps bound 2 (size_of (table_of (state self.now) table)) steps.old.count steps.new.count };
 
     /// How many records of an ordered or ranked index have a key not greater than a key or the first values of one. At most
     /// two look-ups.
     fn upper_rank(&self, table: usize, index: usize, key: &[Value], steps: &mut Steps) -> u64
-        requires table { table < length (state self.now).catalog.tables }
-        requires index { IsTrue (is_sorted (index_at (schema_of (state self.now) table) index).kind) }
-        requires key { IsTrue (fits_key (schema_of (state self.now) table).columns (index_at (schema_of (state self.now) table) index).parts false key.now) }
+        requires table { HasTable (state self.now).catalog table }
+        requires index { IsSortedIndex (state self.now).catalog table index }
+        requires key { FitsPrefix (state self.now).catalog table index key.now }
         ensures rank { result ≡ look.upper_rank (schema_of (state self.now) table) (table_of (state self.now) table) index key.now }
         ensures steps { WithinLookUps bound 2 (size_of (table_of (state self.now) table)) steps.old.count steps.new.count };
 

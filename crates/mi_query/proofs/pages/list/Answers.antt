@@ -2,7 +2,7 @@ use Rattle.std.proofs.Common.{ap, sym, subst}
 use Rattle.std.specs.Prelude.{IsTrue, IfSome}
 use Rattle.mi_model.specs.Table.{has}
 use Rattle.mi_model.specs.View.{view}
-use Rattle.mi_catalog.specs.Kinds.{shows_one_list}
+use Rattle.mi_model.specs.Kinds.{shows_one_list}
 use Rattle.mi_model.specs.Verdict.{has_place}
 use Rattle.mi_model.specs.Database.{schema_of, table_of}
 use Rattle.mi_query.specs.Pages.{place_behind}
