@@ -6,12 +6,23 @@
 
 import socket
 import sys
+import time
+
+
+def connected(port):
+    """A connection, once the server listens."""
+    for _ in range(50):
+        try:
+            return socket.create_connection(("127.0.0.1", port))
+        except ConnectionRefusedError:
+            time.sleep(0.1)
+    sys.exit(f"nothing listens on port {port}")
 
 
 class Client:
     def __init__(self, name, port):
         self.name = name
-        self.stream = socket.create_connection(("127.0.0.1", port))
+        self.stream = connected(port)
         self.replies = self.stream.makefile()
 
     def ask(self, line):

@@ -20,6 +20,7 @@ import glob
 import os
 import re
 import shutil
+import signal
 import subprocess
 import sys
 import tempfile
@@ -160,10 +161,17 @@ class Documents:
         if (ran.returncode, ran.stdout, ran.stderr) != wanted:
             raise Differs(f"--check ended with {ran.returncode}: {ran.stdout}{ran.stderr}")
 
-    def run(self, words, **how):
+    def run(self, words):
         env = {**os.environ, "PATH": f"{self.folder}/bin:{os.environ['PATH']}", "PYTHONPATH": f"{TOP}/clients/python", "MI_SERVER": self.path}
-        how = {"cwd": self.folder, "env": env, "capture_output": True, "text": True, "timeout": LONGEST_RUN, **how}
-        return subprocess.run(words, stdin=subprocess.DEVNULL, **how)
+        pipes = {"stdin": subprocess.DEVNULL, "stdout": subprocess.PIPE, "stderr": subprocess.PIPE}
+        with subprocess.Popen(words, cwd=self.folder, env=env, text=True, start_new_session=True, **pipes) as ran:
+            try:
+                out, errors = ran.communicate(timeout=LONGEST_RUN)
+            except subprocess.TimeoutExpired:
+                # (a server that it started in the background would hold the pipes)
+                os.killpg(ran.pid, signal.SIGKILL)
+                raise
+        return subprocess.CompletedProcess(words, ran.returncode, out, errors)
 
     def code(self, block, wanted):
         text = "\n".join(block.text).replace(PORT, str(program.free_port())).replace("crates/mi_server/out/mi_server", "mi_server")
@@ -233,9 +241,9 @@ class Documents:
         with subprocess.Popen([self.path, "--listen", port, "--clients", "2"]) as server:
             try:
                 ran = self.run([sys.executable, script, port])
+                server.wait(10)
             finally:
-                if server.poll() is None and sys.exc_info()[0]:
-                    server.kill()
+                server.kill()
         with open(stored, encoding="utf-8") as file:
             if ran.returncode or ran.stdout != file.read():
                 raise Differs(f"ended with {ran.returncode}, and printed\n{ran.stdout}{ran.stderr}")
