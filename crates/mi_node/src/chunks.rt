@@ -1,6 +1,6 @@
 //! An array in chunks that never move, seen as one list.
 //! Safe code over blocks of memory, which knows nothing of nodes.
-ghost use Rattle.std.specs.Prelude.{◌≡◌, ◌<◌, ◌++◌, [], IsTrue, nat_lt, length, slice_set, slice_index_or, IfOk, IfErr};
+ghost use Rattle.std.specs.Prelude.{◌≡◌, ◌<◌, ◌++◌, [], length, slice_set, slice_index_or, IfOk, IfErr};
 ghost use Rattle.std.specs.Vec.{with_item};
 
 use std::alloc::{AllocError, Global};

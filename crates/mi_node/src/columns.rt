@@ -1,7 +1,6 @@
 //! The links of all nodes: for each slot a column of cells, one for each place.
 //! Safe code on the columns alone: it follows no link.
-ghost use Rattle.std.specs.Prelude.{◌≡◌, ◌==◌, ◌<◌, ◌≤◌, ◌+◌, ℕ, false, length, replicate, IfOk, slice_index_or, slice_set};
-ghost use Rattle.mi_node.specs.Cells.{link_in, empty_cell};
+ghost use Rattle.std.specs.Prelude.{◌≡◌, ◌==◌, ◌<◌, ◌≤◌, ◌+◌, ℕ, false, length, replicate, IfOk, slice_index_or};
 ghost use Rattle.mi_node.specs.Pool.{no_link, put_link};
 ghost use Rattle.mi_node.specs.Columns.{cell_at, links_at, column, AreLong};
 

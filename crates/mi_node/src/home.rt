@@ -1,6 +1,6 @@
 //! A place for a node: one stands there, or it is free.
 //! Plain data, which knows nothing of other places.
-ghost use Rattle.std.specs.Prelude.{◌≡◌, ◌<◌, ◌≤◌, ◌+◌, Some, IfOk, IsTrue, is_some, length};
+ghost use Rattle.std.specs.Prelude.{◌≡◌, ◌≤◌, ◌+◌, Some, IfOk, IsTrue, is_some, length};
 ghost use Rattle.mi_node.specs.Homes.{IsFree, AreFree, node_in, value_in};
 
 use crate::chunks::CHUNK;

@@ -2,6 +2,7 @@
 
 use super::*;
 use crate::cell::Cell;
+use crate::home::Home;
 use crate::{Counted, NO_LINK, Tag};
 use std::cell::Cell as Counter;
 use std::mem::size_of;
@@ -149,7 +150,8 @@ fn each_value_is_dropped_once(rt: HostRuntime) {
 }
 
 #[test]
-fn a_cell_and_a_reference_are_small(rt: HostRuntime) {
+fn a_node_is_small(rt: HostRuntime) {
     assert_eq!(rt; size_of::<Cell>(), 32);
     assert_eq!(rt; size_of::<NodeRef>(), 4);
+    assert_eq!(rt; size_of::<Home<u64>>(), 16);
 }
