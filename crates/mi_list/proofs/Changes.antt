@@ -7,10 +7,12 @@ use Rattle.mi_node.specs.declared.link.Link.{Link}
 use Rattle.mi_node.proofs.Callers.{slots-with_link, ref-with_link, link_here}
 use Rattle.mi_node.proofs.Keeping.{keeps_link, keeps_then}
 use Rattle.mi_node.proofs.Refs.{out_left, out_right, out_both, apart_insert, apart_remove}
-use Rattle.mi_list.specs.Linked.{IsLinked, IsNamed, kept_if, joined, with_forth_if}
+use Rattle.mi_node.specs.Neighbours.{IsLinked, kept_if, joined}
+use Rattle.mi_list.specs.Named.{IsNamed}
 use Rattle.mi_list.specs.Listed.{IsListed, FitsBetween}
 use Rattle.mi_list.specs.declared.list.List.{List}
-use Rattle.mi_list.proofs.Links.{last_differs, first_differs, linked_left, linked_right, frame, unlinks, relinks, first_kept, last_unlinked, last_relinked, held_last, held_first, ref-forth, slots-joined, keeps_joined, joined_there, ref-joined, linked_unique}
+use Rattle.mi_node.proofs.NeighbourLaws.{last_differs, first_differs, linked_left, linked_right, frame, unlinks, relinks, held_last, held_first, slots-joined, keeps_joined, joined_there, ref-joined, linked_unique}
+use Rattle.mi_list.proofs.Ends.{first_kept, last_unlinked, last_relinked}
 
 pub nothing_after : (rs : Seq NodeRef) → rs ++ [] ≡ rs
 nothing_after [] = refl
@@ -109,14 +111,6 @@ module _ {T : Type 0} where
       → Keeps m (joined (with_link m x.name s y) s (last_of None xs) (Some x) (first_of ys None) (Some x)) s (x ∷ xs ++ ys)
   keeps_placed s m x y xs ys = let n = with_link m x.name s y in
       keeps_then s m n (joined n s (last_of None xs) (Some x) (first_of ys None) (Some x)) (x ∷ []) (xs ++ ys) (x ∷ xs ++ ys) (keeps_link s m x y) (keeps_joined s n xs ys (Some x) (Some x)) (λ k o. ((o.0, tt), o.1))
-
-  pub held_still : (s : ℕ) (m : Pooled T) (o c p : Option NodeRef) → IsHeldIf m p → IsHeldIf (with_forth_if m s o c) p
-  held_still s m o c None h = tt
-  held_still s m o c (Some r) h = ref-forth s m o c r.name ∙ h
-
-  pub held_link : (m : Pooled T) (q s : ℕ) (y : Link) (o : Option NodeRef) → IsHeldIf m o → IsHeldIf (with_link m q s y) o
-  held_link m q s y None h = tt
-  held_link m q s y (Some r) h = ref-with_link m q s y r.name ∙ h
 
   -- one list stands for one list of nodes
   pub listed_unique : (l : List) (m : Pooled T) (rs ts : Seq NodeRef) → IsListed l m rs → IsListed l m ts → rs ≡ ts

@@ -4,7 +4,7 @@ use Rattle.mi_node.specs.Pool.{Pooled, node_count}
 use Rattle.mi_node.specs.Refs.{names, first_of}
 use Rattle.mi_node.specs.declared.heap.NodeRef.{NodeRef}
 use Rattle.mi_node.proofs.Keeping.{node_count-least}
-use Rattle.mi_list.specs.Linked.{IsLinked}
+use Rattle.mi_node.specs.Neighbours.{IsLinked}
 use Rattle.mi_list.specs.Listed.{IsListed}
 use Rattle.mi_list.specs.Order.{follow, order}
 use Rattle.mi_list.specs.declared.list.List.{List}

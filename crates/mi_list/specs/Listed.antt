@@ -5,7 +5,7 @@ use Rattle.std.specs.Prelude.{◌≡◌, ℕ, ◌<◌, List as Seq, ◌++◌, No
 use Rattle.mi_node.specs.Pool.{Pooled, link_of, IsHeld}
 use Rattle.mi_node.specs.Refs.{first_of, last_of, IsOut, IsApart}
 use Rattle.mi_node.specs.declared.heap.NodeRef.{NodeRef}
-use Rattle.mi_list.specs.Linked.{IsLinked}
+use Rattle.mi_node.specs.Neighbours.{IsLinked}
 use Rattle.mi_list.specs.declared.list.List.{List}
 
 abbrev pub slot_of : List → ℕ

@@ -4,10 +4,11 @@ ghost use Rattle.std.specs.Prelude.{◌≡◌, ◌<◌, ◌⊎◌, Some, None, L
 ghost use Rattle.mi_node.specs.Pool.{IsHeld, IsHeldIf, Keeps};
 ghost use Rattle.mi_node.specs.Refs.{IsOut, first_of, last_of};
 ghost use Rattle.mi_node.specs.declared.heap.NodeRef.{NodeRef as Ref};
-ghost use Rattle.mi_list.specs.Linked.{kept_if, joined, IsNamed};
+ghost use Rattle.mi_node.specs.Neighbours.{kept_if, joined};
+ghost use Rattle.mi_list.specs.Named.{IsNamed};
 
-use crate::ends::{set_back, set_forth};
-use mi_node::{Link, NodeRef, Pool};
+use mi_node::neighbours::{set_back, set_forth};
+use mi_node::{Link, NO_TAG, NodeRef, Pool};
 
 /// A list through one slot of the nodes of a pool. Contracts see the list of its nodes, in order.
 ///
@@ -101,6 +102,7 @@ impl List {
                 forth: before,
                 size: 0,
                 height: 0,
+                tag: NO_TAG,
             },
         );
         self.join(p, back, Some(node), before, Some(node));

@@ -1,6 +1,7 @@
 pub mod Callers
 pub mod Gaps
 pub mod Keeping
+pub mod NeighbourLaws
 pub mod Parts
 pub mod Refs
 pub mod Sharing

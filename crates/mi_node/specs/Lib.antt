@@ -1,6 +1,7 @@
 pub mod Cells
 pub mod Counted
 pub mod Lends
+pub mod Neighbours
 pub mod Nodes
 pub mod Packed
 pub mod Pool

@@ -6,6 +6,7 @@ mod cells;
 mod counted;
 mod heap;
 mod link;
+pub mod neighbours;
 mod packed;
 mod pool;
 mod worked;

@@ -1,7 +1,7 @@
 use Rattle.std.proofs.Common.{ap, sym, ◌∙◌}
 use Rattle.mi_node.specs.Pool.{with_link}
-use Rattle.mi_list.specs.Linked.{with_forth, with_forth_if}
-use Rattle.mi_list.proofs.ends.set_forth.Goals as goal
+use Rattle.mi_node.specs.Neighbours.{with_forth, with_forth_if}
+use Rattle.mi_node.proofs.neighbours.set_forth.Goals as goal
 
 pub returns-in-Some : goal.returns-in-Some
 unfolding with_forth

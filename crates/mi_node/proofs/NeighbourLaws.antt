@@ -1,12 +1,18 @@
--- Linked nodes are cut, changed at an end, and put together.
-use Rattle.std.proofs.Common.{◌≡◌, ℕ, ◌==◌, false, List, [], ◌∷◌, ◌++◌, Option, Some, None, refl, sym, ap, ◌∙◌}
+-- Linked nodes are cut, changed at an end, and put together, for the proofs of every doubly linked structure.
+--     linked_..        nodes that are linked, in two parts; their references, and that what follows a node is what its links say
+--     frame_..         a link of a node that is not among them is set
+--     rehead, retail, joins      the first has another before it, the last another after it, and both sides of a gap
+--     ref-.., value-.., slots-.., tag-..      the parts of the pool that stay
+--     unlinks, relinks      one node is taken out, and put back
+use Rattle.std.proofs.Common.{◌≡◌, ℕ, ◌==◌, Bool, true, false, List, [], ◌∷◌, ◌++◌, Option, Some, None, refl, sym, ap, ◌∙◌}
 use Rattle.mi_node.specs.Pool.{Pooled, ref_of, value_of, link_of, IsHeld, IsHeldIf, Keeps, with_link}
 use Rattle.mi_node.specs.Refs.{first_of, last_of, IsOut, IsApart, AreOut}
+use Rattle.mi_node.specs.Neighbours.{AreHeld, IsLinked, joined, with_back, with_forth, with_back_if, with_forth_if}
 use Rattle.mi_node.specs.declared.heap.NodeRef.{NodeRef}
 use Rattle.mi_node.specs.declared.link.Link.{Link}
-use Rattle.mi_node.proofs.Callers.{flip, slots-with_link, ref-with_link, value-with_link, link_here, link_there, link_beside}
-use Rattle.mi_node.proofs.Refs.{out_left, out_right, are_out_tail, apart_left, apart_right, apart_across, apart_remove, last_push, first_push, last_both}
-use Rattle.mi_list.specs.Linked.{IsLinked, kept_if, joined, with_back, with_forth, with_back_if, with_forth_if}
+use Rattle.mi_node.proofs.Callers.{flip, same_name, slots-with_link, ref-with_link, value-with_link, link_here, link_there, link_beside}
+use Rattle.mi_node.proofs.Keeping.{SameLinks}
+use Rattle.mi_node.proofs.Refs.{out_left, out_right, are_out_tail, apart_left, apart_right, apart_across, apart_remove, first_push}
 
 -- an optional reference is of none of the nodes
 abbrev pub IsOutIf : Option NodeRef → List NodeRef → Type 0
@@ -90,13 +96,13 @@ module _ {T : Type 0} (s : ℕ) where
       (ref-with_link m y.name s l y.name ∙ h.0, ap (λ (z : Link). z.back) here, ap (λ (z : Link). z.forth) here ∙ h.2, frame m y.name l (Some y) ys f a.0 h.3)
 
   -- the last node has another after it
-  pub retail : (m : Pooled T) (b : Option NodeRef) (xs : List NodeRef) (f g : Option NodeRef) → IsOutIf b xs → IsApart xs → IsLinked m s b xs f → IsLinked (with_forth_if m s (last_of None xs) g) s b xs g
+  pub retail : (m : Pooled T) (b : Option NodeRef) (xs : List NodeRef) (f g : Option NodeRef) → IsApart xs → IsLinked m s b xs f → IsLinked (with_forth_if m s (last_of None xs) g) s b xs g
   unfolding with_forth
-  retail m b [] f g o a h = tt
-  retail m b (x ∷ []) f g o a h = let l : Link = record (link_of m x.name s) { forth = g } in let here = link_here m x s l h.0 in
+  retail m b [] f g a h = tt
+  retail m b (x ∷ []) f g a h = let l : Link = record (link_of m x.name s) { forth = g } in let here = link_here m x s l h.0 in
       (ref-with_link m x.name s l x.name ∙ h.0, ap (λ (z : Link). z.back) here ∙ h.1, ap (λ (z : Link). z.forth) here, tt)
-  retail m b (x ∷ y ∷ xs) f g o a h =
-      let on = retail m (Some x) (y ∷ xs) f g a.0 a.1 h.3 in
+  retail m b (x ∷ y ∷ xs) f g a h =
+      let on = retail m (Some x) (y ∷ xs) f g a.1 h.3 in
       let same = forth_there m (last_of None (y ∷ xs)) g x.name s (last_differs (Some y) xs x.name (flip y.name x.name ∙ a.0.0) a.0.1) in
       (ref-forth m (last_of None (y ∷ xs)) g x.name ∙ h.0, ap (λ (z : Link). z.back) same ∙ h.1, ap (λ (z : Link). z.forth) same ∙ h.2, on)
 
@@ -105,7 +111,7 @@ module _ {T : Type 0} (s : ℕ) where
       → IsLinked (joined m s (last_of None xs) l (first_of ys None) r) s None xs l × IsLinked (joined m s (last_of None xs) l (first_of ys None) r) s r ys None
   joins m xs ys f b l r a g h =
       let n = with_forth_if m s (last_of None xs) l in let across = apart_across xs ys a in (
-        frame_back n (first_of ys None) r None xs l (out_of_first xs ys across) (retail m None xs f l tt (apart_left xs ys a) g),
+        frame_back n (first_of ys None) r None xs l (out_of_first xs ys across) (retail m None xs f l (apart_left xs ys a) g),
         rehead n b r ys None (apart_right xs ys a) (frame_forth m (last_of None xs) l b ys None (last_out None xs ys tt across) h),
       )
 
@@ -183,23 +189,6 @@ module _ {T : Type 0} (s : ℕ) where
       linked_both n None xs (x ∷ ys) None on.0
       (ref-joined m (last_of None xs) (Some x) (first_of ys None) (Some x) x.name ∙ held, ap (λ (z : Link). z.back) same ∙ back, ap (λ (z : Link). z.forth) same ∙ forth, on.1)
 
-last_is_some : (x : NodeRef) (xs : List NodeRef) (o w : Option NodeRef) → kept_if (last_of (Some x) xs) o w ≡ o
-last_is_some x [] o w = refl
-last_is_some x (y ∷ xs) o w = last_is_some y xs o w
-
--- the ends of the list
-pub first_kept : (xs zs ws : List NodeRef) → kept_if (last_of None xs) (first_of (xs ++ zs) None) (first_of ws None) ≡ first_of (xs ++ ws) None
-first_kept [] zs ws = refl
-first_kept (x ∷ xs) zs ws = last_is_some x xs (Some x) (first_of ws None)
-
-pub last_unlinked : (xs : List NodeRef) (x : NodeRef) (ys : List NodeRef) → kept_if (first_of ys None) (last_of None (xs ++ x ∷ ys)) (last_of None xs) ≡ last_of None (xs ++ ys)
-last_unlinked xs x [] = sym (last_both None xs [])
-last_unlinked xs x (y ∷ ys) = last_push None xs x (y ∷ ys) ∙ sym (last_push None xs y ys)
-
-pub last_relinked : (xs : List NodeRef) (x : NodeRef) (ys : List NodeRef) → kept_if (first_of ys None) (last_of None (xs ++ ys)) (Some x) ≡ last_of None (xs ++ x ∷ ys)
-last_relinked xs x [] = sym (last_push None xs x [])
-last_relinked xs x (y ∷ ys) = last_push None xs y ys ∙ sym (last_push None xs x (y ∷ ys))
-
 -- who is held in a chain
 pub held_last : {T : Type 0} (s : ℕ) (m : Pooled T) (b : Option NodeRef) (xs : List NodeRef) (f : Option NodeRef) → IsHeldIf m b → IsLinked m s b xs f → IsHeldIf m (last_of b xs)
 held_last s m b [] f g h = g
@@ -208,3 +197,46 @@ held_last s m b (x ∷ xs) f g h = held_last s m (Some x) xs f h.0 h.3
 pub held_first : {T : Type 0} (s : ℕ) (m : Pooled T) (b : Option NodeRef) (xs : List NodeRef) → IsLinked m s b xs None → IsHeldIf m (first_of xs None)
 held_first s m b [] h = tt
 held_first s m b (x ∷ xs) h = h.0
+
+module _ {T : Type 0} (s : ℕ) where
+  pub linked_held : (m : Pooled T) (b : Option NodeRef) (rs : List NodeRef) (f : Option NodeRef) → IsLinked m s b rs f → AreHeld m rs
+  linked_held m b [] f h = tt
+  linked_held m b (r ∷ rs) f h = (h.0, linked_held m (Some r) rs f h.3)
+
+  -- in a pool where the nodes have the same links
+  pub linked_same : (m n : Pooled T) (b : Option NodeRef) (rs : List NodeRef) (f : Option NodeRef) → SameLinks m n s rs → IsLinked m s b rs f → IsLinked n s b rs f
+  linked_same m n b [] f same h = tt
+  linked_same m n b (r ∷ rs) f same h = (same.0 ∙ h.0, ap (λ (y : Link). y.back) same.1 ∙ h.1, ap (λ (y : Link). y.forth) same.1 ∙ h.2, linked_same m n (Some r) rs f same.2 h.3)
+
+  -- the tags stay, of the nodes that are set too
+  tag_put : (m : Pooled T) (r : NodeRef) (l : Link) (q t : ℕ) → IsHeld m r → l.tag ≡ (link_of m r.name s).tag → (link_of (with_link m r.name s l) q t).tag ≡ (link_of m q t).tag
+  tag_put m r l q t held e = by_name (r.name == q) refl
+    where
+      by_slot : (b : Bool) → (s == t) ≡ b → r.name ≡ q → (link_of (with_link m r.name s l) q t).tag ≡ (link_of m q t).tag
+      by_slot true d n = (λ i. (link_of (with_link m r.name s l) (sym n i) (sym (same_name s t d) i)).tag) ∙ ap (λ (z : Link). z.tag) (link_here m r s l held) ∙ e ∙ (λ i. (link_of m (n i) (same_name s t d i)).tag)
+      by_slot false d n = ap (λ (z : Link). z.tag) (link_beside m r.name s l q t d)
+
+      by_name : (b : Bool) → (r.name == q) ≡ b → (link_of (with_link m r.name s l) q t).tag ≡ (link_of m q t).tag
+      by_name true d = by_slot (s == t) refl (same_name r.name q d)
+      by_name false d = ap (λ (z : Link). z.tag) (link_there m r.name s l q t d)
+
+  pub tag-forth : (m : Pooled T) (o c : Option NodeRef) (q t : ℕ) → IsHeldIf m o → (link_of (with_forth_if m s o c) q t).tag ≡ (link_of m q t).tag
+  unfolding with_forth
+  tag-forth m None c q t h = refl
+  tag-forth m (Some r) c q t h = tag_put m r (record (link_of m r.name s) { forth = c }) q t h refl
+
+  pub tag-back : (m : Pooled T) (o c : Option NodeRef) (q t : ℕ) → IsHeldIf m o → (link_of (with_back_if m s o c) q t).tag ≡ (link_of m q t).tag
+  unfolding with_back
+  tag-back m None c q t h = refl
+  tag-back m (Some r) c q t h = tag_put m r (record (link_of m r.name s) { back = c }) q t h refl
+
+  pub held_link : (m : Pooled T) (k : ℕ) (l : Link) (o : Option NodeRef) → IsHeldIf m o → IsHeldIf (with_link m k s l) o
+  held_link m k l None h = tt
+  held_link m k l (Some r) h = ref-with_link m k s l r.name ∙ h
+
+  pub held_still : (m : Pooled T) (o c p : Option NodeRef) → IsHeldIf m p → IsHeldIf (with_forth_if m s o c) p
+  held_still m o c None h = tt
+  held_still m o c (Some r) h = ref-forth s m o c r.name ∙ h
+
+  pub tag-joined : (m : Pooled T) (b l f r : Option NodeRef) (q t : ℕ) → IsHeldIf m b → IsHeldIf m f → (link_of (joined m s b l f r) q t).tag ≡ (link_of m q t).tag
+  tag-joined m b l f r q t g h = tag-back (with_forth_if m s b l) f r q t (held_still m b l f h) ∙ tag-forth m b l q t g

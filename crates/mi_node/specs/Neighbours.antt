@@ -1,20 +1,23 @@
 -- Nodes that are linked through one slot of a pool, as a list of references.
+--     AreHeld         each node of a list is held
+--     IsLinked        after one node and before another stand these, each knowing its neighbours
+--     with_back, with_forth, joined      the pool after one side of a node's link was set, and of two nodes' links
+--     kept_if         an end that is another where no node stands on that side
 use Rattle.std.specs.Prelude.{◌≡◌, ℕ, List, [], ◌∷◌, Option, Some, None}
 use Rattle.mi_node.specs.Pool.{Pooled, link_of, IsHeld, with_link}
 use Rattle.mi_node.specs.Refs.{first_of}
 use Rattle.mi_node.specs.declared.heap.NodeRef.{NodeRef}
 
--- there is a reference, of that name
-abbrev pub IsNamed : Option NodeRef → ℕ → Type 0
-IsNamed None k = ⊥
-IsNamed (Some r) k = r.name ≡ k
-
 -- the old end, or where there is no neighbour on that side a new one
-abbrev pub kept_if : Option NodeRef → Option NodeRef → Option NodeRef → Option NodeRef
+abbrev pub kept_if : {A : Type 0} → Option NodeRef → A → A → A
 kept_if None old new = new
 kept_if (Some r) old new = old
 
 module _ {T : Type 0} where
+  abbrev pub AreHeld : Pooled T → List NodeRef → Type 0
+  AreHeld m [] = Unit {0}
+  AreHeld m (r ∷ rs) = IsHeld m r × AreHeld m rs
+
   -- after b and before f stand the nodes rs, each knowing its neighbours in slot s
   abbrev pub IsLinked : Pooled T → ℕ → Option NodeRef → List NodeRef → Option NodeRef → Type 0
   IsLinked m s b [] f = Unit {0}

@@ -1,7 +1,7 @@
 use Rattle.std.proofs.Common.{ap, sym, ◌∙◌}
 use Rattle.mi_node.specs.Pool.{with_link}
-use Rattle.mi_list.specs.Linked.{with_back, with_back_if}
-use Rattle.mi_list.proofs.ends.set_back.Goals as goal
+use Rattle.mi_node.specs.Neighbours.{with_back, with_back_if}
+use Rattle.mi_node.proofs.neighbours.set_back.Goals as goal
 
 pub returns-in-Some : goal.returns-in-Some
 unfolding with_back
