@@ -4,13 +4,15 @@
 --     link_here, link_there, link_beside      a link after `set_link` at its own name and slot, at another name, and in another slot
 --     name_of_ref, held_of_ref, same_node      the reference of a name has that name, is held, and is the only one held of it
 --     held_has, absent_value, absent_link      a held node has a value; a name of no node has no value and no link
+--     held-.., held          a held node stays held after a call, as a set for `grind (arith, held)`
+--     apart_of_free   a place that no node has is not the place of a held one
 --     fewer           a pool without one of its nodes has fewer
 use Rattle.std.proofs.Common.{◌≡◌, ℕ, zero, suc, ◌-◌, ◌<◌, ◌==◌, Bool, true, false, cond, List, [], ◌∷◌, option_map, slice_index_or, replicate, Option, Some, None, refl, sym, ap, subst, ◌∙◌, arith, is_some}
 use Rattle.std.specs.Ordering.{nat_cmp}
 use Rattle.std.specs.Cmp.{nat_cmp_total, unsigned_tied}
 use Rattle.std.specs.FinMap.{FinMap, get, len, contains_key, get-insert, get-remove, get-empty, len-empty, len-remove, empty_of_len}
 use Rattle.mi_node.specs.Pool.{Entry, Pooled, node_at, ref_of, value_of, link_of, node_count, entry_link, no_link, put_link, IsHeld, change, changed, no_nodes, taken, without, with_link, with_value}
-use Rattle.mi_node.specs.declared.heap.NodeRef.{NodeRef}
+use Rattle.mi_node.specs.Refs.{Ref}
 use Rattle.mi_node.specs.declared.link.Link.{Link}
 
 some_inj : {X : Type 0} (x y : X) → Some x ≡ Some y → x ≡ y
@@ -65,21 +67,21 @@ module _ (T : Type 0) where
   node_count-no_nodes n = len-empty nat_cmp (Entry T)
 
 module _ {T : Type 0} where
-  named_at : (k : ℕ) (o : Option (Entry T)) (r : NodeRef) → option_map (node_at k) o ≡ Some r → r.name ≡ k
+  named_at : (k : ℕ) (o : Option (Entry T)) (r : Ref) → option_map (node_at k) o ≡ Some r → r.name ≡ k
   named_at k None r e = absurd (none_some r e)
-  named_at k (Some x) r e = ap (λ (n : NodeRef). n.name) (some_inj r (node_at k x) (sym e))
+  named_at k (Some x) r e = ap (λ (n : Ref). n.name) (some_inj r (node_at k x) (sym e))
 
   -- the reference of a name has that name
-  pub name_of_ref : (m : Pooled T) (k : ℕ) (r : NodeRef) → ref_of m k ≡ Some r → r.name ≡ k
+  pub name_of_ref : (m : Pooled T) (k : ℕ) (r : Ref) → ref_of m k ≡ Some r → r.name ≡ k
   unfolding ref_of
   name_of_ref m k r e = named_at k (get m.entries k) r e
 
   -- and is held
-  pub held_of_ref : (m : Pooled T) (k : ℕ) (r : NodeRef) → ref_of m k ≡ Some r → IsHeld m r
+  pub held_of_ref : (m : Pooled T) (k : ℕ) (r : Ref) → ref_of m k ≡ Some r → IsHeld m r
   held_of_ref m k r e = ap (ref_of m) (name_of_ref m k r e) ∙ e
 
   -- two held references of one name are one
-  pub same_node : (m : Pooled T) (r q : NodeRef) → IsHeld m r → IsHeld m q → r.name ≡ q.name → r ≡ q
+  pub same_node : (m : Pooled T) (r q : Ref) → IsHeld m r → IsHeld m q → r.name ≡ q.name → r ≡ q
   same_node m r q g h e = some_inj r q (sym g ∙ ap (ref_of m) e ∙ h)
 
   -- the entry of each name, after a change of one
@@ -137,12 +139,12 @@ module _ {T : Type 0} where
     unfolding link_of with_link
     link_beside q t e = ap (λ o. entry_link o t) (get-change m k q puts) ∙ beside_at t e (k == q) (get m.entries q)
 
-    links_at : (t : ℕ) (b : Bool) (o : Option (Entry T)) (f : Entry T → NodeRef) (r : NodeRef) → option_map f o ≡ Some r → entry_link (cond b (option_map puts o) o) t ≡ cond b (cond (s == t) l (entry_link o t)) (entry_link o t)
+    links_at : (t : ℕ) (b : Bool) (o : Option (Entry T)) (f : Entry T → Ref) (r : Ref) → option_map f o ≡ Some r → entry_link (cond b (option_map puts o) o) t ≡ cond b (cond (s == t) l (entry_link o t)) (entry_link o t)
     links_at t b None f r e = absurd (none_some r e)
     links_at t true (Some x) f r e = index-put x.links s t l
     links_at t false (Some x) f r e = refl
 
-  pub link-with_link : (m : Pooled T) (r : NodeRef) (s : ℕ) (l : Link) → IsHeld m r → (q t : ℕ) → link_of (with_link m r.name s l) q t ≡ cond (r.name == q) (cond (s == t) l (link_of m q t)) (link_of m q t)
+  pub link-with_link : (m : Pooled T) (r : Ref) (s : ℕ) (l : Link) → IsHeld m r → (q t : ℕ) → link_of (with_link m r.name s l) q t ≡ cond (r.name == q) (cond (s == t) l (link_of m q t)) (link_of m q t)
   unfolding link_of with_link ref_of
   link-with_link m r s l held q t = ap (λ o. entry_link o t) (get-change m r.name q (puts m r.name s l))
       ∙ (elim (r.name == q) as (λ b. (r.name == q) ≡ b → entry_link (cond b (option_map (puts m r.name s l) (get m.entries q)) (get m.entries q)) t ≡ cond b (cond (s == t) l (entry_link (get m.entries q) t)) (entry_link (get m.entries q) t)) [
@@ -150,7 +152,7 @@ module _ {T : Type 0} where
         | false ↦ λ e. refl
       ]) refl
 
-  pub link_here : (m : Pooled T) (r : NodeRef) (s : ℕ) (l : Link) → IsHeld m r → link_of (with_link m r.name s l) r.name s ≡ l
+  pub link_here : (m : Pooled T) (r : Ref) (s : ℕ) (l : Link) → IsHeld m r → link_of (with_link m r.name s l) r.name s ≡ l
   link_here m r s l held = link-with_link m r s l held r.name s ∙ ap (λ b. cond b (cond (s == s) l (link_of m r.name s)) (link_of m r.name s)) (same_refl r.name) ∙ ap (λ b. cond b l (link_of m r.name s)) (same_refl s)
 
   -- after `swap_value`
@@ -184,11 +186,11 @@ module _ {T : Type 0} where
     unfolding link_of with_value
     link-with_value q t = ap (λ o. entry_link o t) (get-change m k q swaps) ∙ same_links t (k == q) (get m.entries q)
 
-  held_value : (v : T) (o : Option (Entry T)) (r : NodeRef) → option_map (node_at r.name) o ≡ Some r → option_map (λ (_ : T). v) (option_map (λ (e : Entry T). e.value) o) ≡ Some v
+  held_value : (v : T) (o : Option (Entry T)) (r : Ref) → option_map (node_at r.name) o ≡ Some r → option_map (λ (_ : T). v) (option_map (λ (e : Entry T). e.value) o) ≡ Some v
   held_value v None r e = absurd (none_some r e)
   held_value v (Some x) r e = refl
 
-  pub value_here : (m : Pooled T) (r : NodeRef) (v : T) → IsHeld m r → value_of (with_value m r.name v) r.name ≡ Some v
+  pub value_here : (m : Pooled T) (r : Ref) (v : T) → IsHeld m r → value_of (with_value m r.name v) r.name ≡ Some v
   unfolding ref_of value_of
   value_here m r v held = value-with_value m r.name v r.name ∙ ap (λ b. cond b (option_map (λ (_ : T). v) (value_of m r.name)) (value_of m r.name)) (same_refl r.name) ∙ held_value v (get m.entries r.name) r held
 
@@ -212,12 +214,12 @@ module _ {T : Type 0} where
   unfolding link_of
   absent_link m k t e = ap (λ o. entry_link o t) (absent_get m k e)
 
-  some_value : (o : Option (Entry T)) (r : NodeRef) → option_map (node_at r.name) o ≡ Some r → (v : T) × (option_map (λ (e : Entry T). e.value) o ≡ Some v)
+  some_value : (o : Option (Entry T)) (r : Ref) → option_map (node_at r.name) o ≡ Some r → (v : T) × (option_map (λ (e : Entry T). e.value) o ≡ Some v)
   some_value None r e = absurd (none_some r e)
   some_value (Some x) r e = (x.value, refl)
 
   -- a held node has a value
-  pub held_has : (m : Pooled T) (r : NodeRef) → IsHeld m r → (v : T) × (value_of m r.name ≡ Some v)
+  pub held_has : (m : Pooled T) (r : Ref) → IsHeld m r → (v : T) × (value_of m r.name ≡ Some v)
   unfolding ref_of value_of
   held_has m r held = some_value (get m.entries r.name) r held
 
@@ -230,9 +232,9 @@ module _ {T : Type 0} where
   of_none f false o = refl
 
   -- after `take`
-  module _ (m : Pooled T) (r : NodeRef) (v : T) where
+  module _ (m : Pooled T) (r : Ref) (v : T) where
     abbrev new_entry : Entry T
-    new_entry = record { at = r.at; value = v; links = replicate m.slots no_link }
+    new_entry = record { mark = r.mark; value = v; links = replicate m.slots no_link }
 
     get-taken : (q : ℕ) → get (taken m r v).entries q ≡ cond (r.name == q) (Some new_entry) (get m.entries q)
     unfolding taken
@@ -291,8 +293,36 @@ module _ {T : Type 0} where
     unfolding link_of
     link-without q t = ap (λ o. entry_link o t) (get-without q) ∙ no_links t (k == q) (get m.entries q)
 
+-- what stays held, after each call
+module _ {T : Type 0} where
+  -- a place that no node has is not the place of a held one
+  pub apart_of_free : (m : Pooled T) (r q : Ref) → IsHeld m r → ref_of m q.name ≡ None → (q.name == r.name) ≡ false
+  apart_of_free m r q h e = differs (q.name == r.name) refl
+    where
+      differs : (b : Bool) → (q.name == r.name) ≡ b → (q.name == r.name) ≡ false
+      differs true is = absurd (none_some r (sym e ∙ ap (ref_of m) (same_name q.name r.name is) ∙ h))
+      differs false is = is
+
+  pub apart_of_free' : (m : Pooled T) (r q : Ref) → IsHeld m r → ref_of m q.name ≡ None → (r.name == q.name) ≡ false
+  apart_of_free' m r q h e = flip r.name q.name ∙ apart_of_free m r q h e
+
+  pub held-taken : (m : Pooled T) (r q : Ref) (v : T) → IsHeld m r → ref_of m q.name ≡ None → IsHeld (taken m q v) r
+  held-taken m r q v h e = ref-taken m q v r.name ∙ ap (λ b. cond b (Some q) (ref_of m r.name)) (apart_of_free m r q h e) ∙ h
+
+  pub held-without : (m : Pooled T) (r q : Ref) → IsHeld m r → (q.name == r.name) ≡ false → IsHeld (without m q.name) r
+  held-without m r q h e = ref-without m q.name r.name ∙ ap (λ b. cond b None (ref_of m r.name)) e ∙ h
+
+  pub held-with_link : (m : Pooled T) (r : Ref) (k s : ℕ) (l : Link) → IsHeld m r → IsHeld (with_link m k s l) r
+  held-with_link m r k s l h = ref-with_link m k s l r.name ∙ h
+
+  pub held-with_value : (m : Pooled T) (r : Ref) (k : ℕ) (v : T) → IsHeld m r → IsHeld (with_value m k v) r
+  held-with_value m r k v h = ref-with_value m k v r.name ∙ h
+
 -- which references are held, after any calls
 pub ruleset refs = (ref-no_nodes, ref-taken, ref-without, ref-with_link, ref-with_value)
+
+-- the same, where names are known by their nodes alone
+pub ruleset held = (held_taken, held-taken, held-without, held-with_link, held-with_value, apart_of_free, apart_of_free')
 
 -- the values, the links and the number of slots after any calls
 pub ruleset values = (value-no_nodes, value-taken, value-without, value-with_link, value-with_value)
@@ -301,7 +331,7 @@ pub ruleset links = (link-no_nodes, link-taken, link-without, link_there, link_b
 
 pub ruleset slot_counts = (slots-no_nodes, slots-taken, slots-without, slots-with_link, slots-with_value)
 
-not_none : {X : Type 0} (o : Option X) (b : Bool) → is_some o ≡ b → (r : NodeRef) (f : X → NodeRef) → option_map f o ≡ Some r → b ≡ true
+not_none : {X : Type 0} (o : Option X) (b : Bool) → is_some o ≡ b → (r : Ref) (f : X → Ref) → option_map f o ≡ Some r → b ≡ true
 not_none None b e r f h = absurd (none_some r h)
 not_none (Some x) b e r f h = sym e
 
@@ -314,7 +344,7 @@ less n true e h = let above : 0 < n = positive n h in omega arith
 less n false e h = absurd cc
 
 -- a pool without one of its nodes has fewer
-pub fewer : {T : Type 0} (m : Pooled T) (r : NodeRef) → IsHeld m r → node_count (without m r.name) < node_count m
+pub fewer : {T : Type 0} (m : Pooled T) (r : Ref) → IsHeld m r → node_count (without m r.name) < node_count m
 unfolding ref_of node_count without
 fewer {T} m r h =
     subst (λ n. n < len m.entries) (sym (len-remove nat_cmp_total m.entries r.name)) (less (len m.entries) (contains_key m.entries r.name) (not_none (get m.entries r.name) _ refl r (node_at r.name) h)

@@ -1,9 +1,5 @@
 pub mod Callers
-pub mod Gaps
 pub mod Keeping
 pub mod NeighbourLaws
-pub mod Parts
+pub mod Places
 pub mod Refs
-pub mod Sharing
-pub mod Split
-pub mod Threads

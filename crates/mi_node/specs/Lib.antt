@@ -1,9 +1,8 @@
 pub mod Cells
 pub mod Counted
-pub mod Lends
+pub mod Homes
 pub mod Neighbours
-pub mod Nodes
-pub mod Packed
 pub mod Pool
+pub mod RefView
 pub mod Refs
-pub mod Thread
+pub mod Seen

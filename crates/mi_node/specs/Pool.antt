@@ -1,5 +1,5 @@
 -- What a contract sees of a `Pool`: a finite map from names to entries, and how many links each entry has.
---     Entry           where the node lies, its value, and its links by slot
+--     Entry           the mark of its reference, its value, and its links by slot
 --     ref_of, value_of, link_of      the reference that `take` gave for a name, its value, its link of a slot
 --     IsHeld, IsHeldIf          this pool's entry of the reference's name has this very reference
 --     no_nodes, taken, without, with_link, with_value      the pool after a call
@@ -9,22 +9,19 @@ use Rattle.std.specs.Prelude.{◌≡◌, ℕ, zero, suc, false, ◌==◌, List, 
 use Rattle.std.specs.Ordering.{nat_cmp}
 use Rattle.std.specs.FinMap.{FinMap, get, insert, remove, empty, len, code}
 use Rattle.std.specs.Coded.{Coded, code_by, coded×, coded_list, coded_ℕ}
-use Rattle.std.specs.Ptr.{Ptr}
-use Rattle.mi_node.specs.Refs.{IsOut}
-use Rattle.mi_node.specs.declared.heap.NodeRef.{NodeRef}
+use Rattle.mi_node.specs.Refs.{Ref, IsOut}
 use Rattle.mi_node.specs.declared.link.Link.{Link}
 use Rattle.mi_node.specs.declared.link.Tag.{Tag}
-use Rattle.mi_node.specs.contracts.heap.NodeRef as node_type
 use Rattle.mi_node.specs.contracts.link.Link as link_type
 
 pub record Entry (T : Type 0) : Type 0 where
-  pub at : Ptr
+  pub mark : ℕ
   pub value : T
   pub links : List Link
 
 abbrev pub entry_code : {T : Type 0} → Coded T → Coded (Entry T)
-entry_code {T} t = code_by (NodeRef × (T × List Link)) (coded× node_type.the_row.coded (coded× t (coded_list link_type.the_row.coded)))
-    (λ e. (record { name = 0; at = e.at }, (e.value, e.links))) (λ p. record { at = p.0.at; value = p.1.0; links = p.1.1 }) (λ _. refl)
+entry_code {T} t = code_by (ℕ × (T × List Link)) (coded× coded_ℕ (coded× t (coded_list link_type.the_row.coded)))
+    (λ e. (e.mark, (e.value, e.links))) (λ p. record { mark = p.0; value = p.1.0; links = p.1.1 }) (λ _. refl)
 
 -- slots: the number of links of each node
 pub record Pooled (T : Type 0) : Type 0 where
@@ -59,10 +56,10 @@ module _ {T : Type 0} where
   entry_link None s = no_link
   entry_link (Some e) s = slice_index_or e.links s no_link
 
-  abbrev pub node_at : ℕ → Entry T → NodeRef
-  node_at k e = record { name = k; at = e.at }
+  abbrev pub node_at : ℕ → Entry T → Ref
+  node_at k e = record { name = k; mark = e.mark }
 
-  unfoldable pub ref_of : Pooled T → ℕ → Option NodeRef
+  unfoldable pub ref_of : Pooled T → ℕ → Option Ref
   ref_of m k = option_map (node_at k) (get m.entries k)
 
   unfoldable pub value_of : Pooled T → ℕ → Option T
@@ -74,11 +71,11 @@ module _ {T : Type 0} where
   unfoldable pub node_count : Pooled T → ℕ
   node_count m = len m.entries
 
-  abbrev pub IsHeld : Pooled T → NodeRef → Type 0
+  abbrev pub IsHeld : Pooled T → Ref → Type 0
   IsHeld m r = ref_of m r.name ≡ Some r
 
   -- the node that is named, if one is, is held
-  abbrev pub IsHeldIf : Pooled T → Option NodeRef → Type 0
+  abbrev pub IsHeldIf : Pooled T → Option Ref → Type 0
   IsHeldIf m None = Unit {0}
   IsHeldIf m (Some r) = IsHeld m r
 
@@ -91,8 +88,8 @@ module _ {T : Type 0} where
   change m k f = record { entries = changed m.entries k f (get m.entries k); slots = m.slots }
 
   -- with the node r of the value v, whose links were never set
-  unfoldable pub taken : Pooled T → NodeRef → T → Pooled T
-  taken m r v = record { entries = insert m.entries r.name (record { at = r.at; value = v; links = replicate m.slots no_link }); slots = m.slots }
+  unfoldable pub taken : Pooled T → Ref → T → Pooled T
+  taken m r v = record { entries = insert m.entries r.name (record { mark = r.mark; value = v; links = replicate m.slots no_link }); slots = m.slots }
 
   -- with no node of name k
   unfoldable pub without : Pooled T → ℕ → Pooled T
@@ -105,7 +102,7 @@ module _ {T : Type 0} where
   with_value m k v = change m k (λ e. record e { value = v })
 
   -- a call on a structure changed nothing but links of slot s, and those only of nodes among rs
-  pub record Keeps (old new : Pooled T) (s : ℕ) (rs : List NodeRef) : Type 0 where
+  pub record Keeps (old new : Pooled T) (s : ℕ) (rs : List Ref) : Type 0 where
     pub refs : (k : ℕ) → ref_of new k ≡ ref_of old k
     pub values : (k : ℕ) → value_of new k ≡ value_of old k
     pub slots : new.slots ≡ old.slots

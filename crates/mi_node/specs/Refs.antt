@@ -1,32 +1,36 @@
--- Lists of references: their ends, and which names stand in one.
+-- References as contracts see them, and lists of them: their ends, and which names stand in one.
 use Rattle.std.specs.Prelude.{◌≡◌, ℕ, false, ◌==◌, List, [], ◌∷◌, map, Option, Some}
-use Rattle.mi_node.specs.declared.heap.NodeRef.{NodeRef}
+
+-- a node's place, which is its name, and a mark that no clause specifies
+pub record Ref : Type 0 where
+  pub name : ℕ
+  pub mark : ℕ
 
 -- the names, in the order of the references
-abbrev pub names : List NodeRef → List ℕ
-names rs = map (λ (r : NodeRef). r.name) rs
+abbrev pub names : List Ref → List ℕ
+names rs = map (λ (r : Ref). r.name) rs
 
 -- the first of rs and f
-abbrev pub first_of : List NodeRef → Option NodeRef → Option NodeRef
+abbrev pub first_of : List Ref → Option Ref → Option Ref
 first_of [] f = f
 first_of (r ∷ rs) f = Some r
 
 -- the last of b and rs
-abbrev pub last_of : Option NodeRef → List NodeRef → Option NodeRef
+abbrev pub last_of : Option Ref → List Ref → Option Ref
 last_of b [] = b
 last_of b (r ∷ rs) = last_of (Some r) rs
 
 -- no reference of that name
-abbrev pub IsOut : ℕ → List NodeRef → Type 0
+abbrev pub IsOut : ℕ → List Ref → Type 0
 IsOut k [] = Unit {0}
 IsOut k (r ∷ rs) = ((k == r.name) ≡ false) × IsOut k rs
 
 -- no name stands twice
-abbrev pub IsApart : List NodeRef → Type 0
+abbrev pub IsApart : List Ref → Type 0
 IsApart [] = Unit {0}
 IsApart (r ∷ rs) = IsOut r.name rs × IsApart rs
 
 -- no name of xs stands in ys
-abbrev pub AreOut : List NodeRef → List NodeRef → Type 0
+abbrev pub AreOut : List Ref → List Ref → Type 0
 AreOut [] ys = Unit {0}
 AreOut (x ∷ xs) ys = IsOut x.name ys × AreOut xs ys

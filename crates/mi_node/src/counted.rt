@@ -3,8 +3,8 @@
 ghost use Rattle.std.specs.Prelude.{◌≡◌, ◌<◌, ◌+◌, Some};
 ghost use Rattle.mi_node.specs.Pool.{IsHeld, value_of, link_of};
 
-use crate::heap::NodeRef;
 use crate::link::Link;
+use crate::node_ref::NodeRef;
 use crate::pool::Pool;
 use mi_value::Steps;
 use std::marker::Model;

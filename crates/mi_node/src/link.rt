@@ -1,6 +1,6 @@
 //! What a node knows of its neighbours in one structure.
 //! Plain data: it owns no node and never follows a reference.
-use crate::heap::NodeRef;
+use crate::node_ref::NodeRef;
 
 /// What stands for a node's key in one structure, so that most comparisons read no value.
 #[derive(Clone, Copy)]

@@ -4,8 +4,8 @@ ghost use Rattle.std.specs.Prelude.{◌≡◌, ◌<◌};
 ghost use Rattle.mi_node.specs.Pool.{IsHeldIf};
 ghost use Rattle.mi_node.specs.Neighbours.{with_back_if, with_forth_if};
 
-use crate::heap::NodeRef;
 use crate::link::Link;
+use crate::node_ref::NodeRef;
 use crate::pool::Pool;
 
 /// The node, if there is one, has `back` before it. The rest of its link stays.

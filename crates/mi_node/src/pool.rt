@@ -1,13 +1,15 @@
-//! The pool of all nodes, seen as a finite map.
-//! Safe code over the heap: it holds the list of all nodes, so that its drop finds each of them, and
-//! never reads what a link says.
-ghost use Rattle.std.specs.Prelude.{◌≡◌, ◌<◌, ◌≤◌, Some, None, IfOk, IfErr, MatchOption};
-ghost use Rattle.mi_node.specs.Pool.{IsHeld, ref_of, value_of, link_of, no_nodes, taken, without, with_link, with_value};
+//! The pool of all nodes, seen as a finite map from places.
+//! Safe code over the places: it never reads what a link says.
+ghost use Rattle.std.specs.Prelude.{◌≡◌, ◌<◌, ◌≤◌, Some, None, IfOk, IfErr, length, map, replicate};
+ghost use Rattle.mi_node.specs.Cells.{link_in};
+ghost use Rattle.mi_node.specs.Pool.{IsHeld, ref_of, value_of, link_of, no_link, no_nodes, taken, without, with_link, with_value};
 
-use crate::cells::{Node, close, new_node, set_packed, set_up_if, swap_value};
-use crate::heap::{Heap, NodeRef};
+use crate::cell::Cell;
+use crate::home::{
+    Home, State, link_at, new_links, next_free, set_cell_in, settle, swap_in, vacate, value_at,
+};
 use crate::link::Link;
-use crate::packed::PackedLink;
+use crate::node_ref::{NodeRef, PLACES};
 use std::alloc::{AllocError, Global};
 use std::marker::Model;
 
@@ -18,14 +20,15 @@ pub const MAX_SLOTS: usize = 16;
 /// slots. Contracts see the number of slots, and a map from the name of each node to the reference
 /// that `take` gave, its value and its links.
 ///
-/// A reference is held while the pool's entry of its name has that very reference: not after it was
-/// given back, even if its name was taken again, and never in another pool.
+/// A node's name is its place, a number below 2^31 - 1. A place that was given back is used again. A
+/// reference is held while the pool's node of its name has that very reference: not after it was
+/// given back, even if its place is used again, and never in another pool.
 ///
-/// A node takes two blocks of memory: one of its value and 72 bytes, and one of 64 bytes a slot.
-/// Dropping the pool drops the value of each held node and frees the node.
+/// Dropping the pool drops the value of each held node.
+#[derive(Drop)]
 pub struct Pool<T> {
-    heap: Heap<Node<T>, Global>,
-    first: Option<NodeRef>,
+    homes: Vec<Home<T>>,
+    free: u32,
     slots: usize,
     alloc: Global,
 }
@@ -37,11 +40,11 @@ impl<T> Model for Pool<T> {
 
     ghost coded = { pooled_code T.code };
 
-    ghost use Rattle.mi_node.specs.Thread.{seen, IsSound};
+    ghost use Rattle.mi_node.specs.Seen.{seen, IsNamed};
 
-    ghost view = { λ p. seen p.slots p.heap.cells };
+    ghost view = { λ p. seen p.slots p.homes.items };
 
-    ghost invariant = { λ p. IsSound p.first p.slots p.heap.cells };
+    ghost invariant = { λ p. IsNamed p.slots 0 p.homes.items };
 }
 
 impl<T> Pool<T> {
@@ -59,8 +62,8 @@ impl<T> Pool<T> {
         ensures { result ≡ no_nodes slots }
     {
         Pool {
-            heap: Heap::new(),
-            first: None,
+            homes: Vec::new(alloc),
+            free: PLACES,
             slots,
             alloc,
         }
@@ -73,44 +76,76 @@ impl<T> Pool<T> {
         self.slots
     }
 
-    /// Puts the value into a new node of that name, none of whose links is set. The name is any number
-    /// that no held node has.
+    /// Puts the value into a new node, none of whose links is set. Its name is a place where no node
+    /// stood: one that was given back, or a new one.
     ///
-    /// Where memory is refused, the pool is as it was and the value comes back.
-    pub fn take(&mut self, name: u64, value: T) -> Result<NodeRef, (AllocError, T)>
+    /// Where memory is refused, or each of the 2^31 - 1 places has a node, the pool is as it was and
+    /// the value comes back.
+    pub fn take(&mut self, value: T) -> Result<NodeRef, (AllocError, T)>
     where
         T: Drop,
-        requires { ref_of self.old name ≡ None }
-        ensures name { IfOk result (λ r. r.name ≡ name) }
+        ensures free { IfOk result (λ r. ref_of self.old r.name ≡ None) }
         ensures ok { IfOk result (λ r. self.new ≡ taken self.old r value) }
         ensures value_returned { IfErr result (λ e. e.1 ≡ value) }
         ensures err { IfErr result (λ _. self.new ≡ self.old) }
     {
-        let first = self.first;
-        let node = new_node(self.alloc, self.slots, value, first)?;
-        let (node, _) = self.heap.put(name, node);
-        set_up_if(&mut self.heap, first, Some(node));
-        self.first = Some(node);
+        match new_links(self.alloc, self.slots) {
+            Ok(links) => self.place(value, links),
+            Err(refused) => Err((refused, value)),
+        }
+    }
+
+    fn place(&mut self, value: T, links: Vec<Cell>) -> Result<NodeRef, (AllocError, T)>
+    where
+        T: Drop,
+        requires { map link_in links.items ≡ replicate self.old.slots no_link }
+        ensures free { IfOk result (λ r. ref_of self.old r.name ≡ None) }
+        ensures ok { IfOk result (λ r. self.new ≡ taken self.old r value) }
+        ensures value_returned { IfErr result (λ e. e.1 ≡ value) }
+        ensures err { IfErr result (λ _. self.new ≡ self.old) }
+    {
+        let place = self.free as usize;
+        if place < self.homes.len() {
+            if let Some(next) = next_free(&self.homes[place]) {
+                self.free = next;
+                return Ok(settle(&mut self.homes[place], value, links));
+            }
+        }
+        self.grow(value, links)
+    }
+
+    fn grow(&mut self, value: T, links: Vec<Cell>) -> Result<NodeRef, (AllocError, T)>
+    where
+        T: Drop,
+        requires { map link_in links.items ≡ replicate self.old.slots no_link }
+        ensures free { IfOk result (λ r. ref_of self.old r.name ≡ None) }
+        ensures ok { IfOk result (λ r. self.new ≡ taken self.old r value) }
+        ensures value_returned { IfErr result (λ e. e.1 ≡ value) }
+        ensures err { IfErr result (λ _. self.new ≡ self.old) }
+    {
+        let place = self.homes.len();
+        if place >= PLACES as usize {
+            return Err((AllocError, value));
+        }
+        if let Err(refused) = self.homes.reserve(1) {
+            return Err((refused, value));
+        }
+        let node = NodeRef::new(place as u32, 0);
+        self.homes.push_reserved(Home {
+            node,
+            state: State::Held { value, links },
+        });
         Ok(node)
     }
 
-    /// Takes the node out of the pool, frees it, and gives its value back.
+    /// Takes the node out of the pool, and gives its value back. Its place may be used again.
     pub fn give(&mut self, node: NodeRef) -> T
         requires { IsHeld self.old node }
         ensures value { value_of self.old node.name ≡ Some result }
         ensures pool { self.new ≡ without self.old node.name }
     {
-        let Node {
-            value,
-            links: _,
-            up,
-            down,
-        } = Box::into_inner(self.heap.pick(self.alloc, node));
-        close(&mut self.heap, up, down);
-        match up {
-            None => self.first = down,
-            Some(_) => {}
-        }
+        let value = vacate(&mut self.homes[node.name() as usize], self.free);
+        self.free = node.name();
         value
     }
 
@@ -119,7 +154,7 @@ impl<T> Pool<T> {
         requires { IsHeld self.now node }
         ensures { value_of self.now node.name ≡ Some result.now }
     {
-        &self.heap.at(node).value
+        value_at(&self.homes[node.name() as usize])
     }
 
     /// Puts another value into the node, and gives the old one back. The node's reference and links stay.
@@ -128,7 +163,7 @@ impl<T> Pool<T> {
         ensures value { value_of self.old node.name ≡ Some result }
         ensures pool { self.new ≡ with_value self.old node.name value }
     {
-        swap_value(&mut self.heap, node, value)
+        swap_in(&mut self.homes[node.name() as usize], value)
     }
 
     /// The node's link of a slot, counted from 0.
@@ -137,7 +172,7 @@ impl<T> Pool<T> {
         requires slot { slot < self.now.slots }
         ensures { result ≡ link_of self.now node.name slot }
     {
-        self.heap.at(node).links[slot].link()
+        link_at(&self.homes[node.name() as usize], slot)
     }
 
     /// Sets the node's link of a slot, counted from 0. All other links stay.
@@ -146,35 +181,7 @@ impl<T> Pool<T> {
         requires slot { slot < self.old.slots }
         ensures { self.new ≡ with_link self.old node.name slot link }
     {
-        set_packed(&mut self.heap, node, slot, PackedLink::new(link));
-    }
-
-    fn first(&self) -> Option<NodeRef>
-        ensures { MatchOption result (self.now ≡ no_nodes self.now.slots) (λ r. IsHeld self.now r) }
-    {
-        self.first
-    }
-
-    fn finish(self)
-        requires { self ≡ no_nodes self.slots }
-    {
-        let Pool {
-            heap,
-            first: _,
-            slots: _,
-            alloc: _,
-        } = self;
-        heap.finish();
-    }
-}
-
-impl<T: Drop> Drop for Pool<T> {
-    fn drop(self) {
-        let mut pool = self;
-        while let Some(node) = pool.first() {
-            drop(pool.give(node));
-        }
-        pool.finish();
+        set_cell_in(&mut self.homes[node.name() as usize], slot, Cell::new(link));
     }
 }
 

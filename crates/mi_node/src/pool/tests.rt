@@ -1,78 +1,102 @@
-#![tactic(auto, using(crate::proofs::Callers::refs, crate::proofs::Callers::slot_counts))]
+#![tactic(auto, using(crate::proofs::Callers::held, crate::proofs::Callers::slot_counts))]
 
 use super::*;
-use crate::cells::Node;
-use crate::worked::exchanges;
-use crate::{Counted, NO_LINK};
-use std::cell::Cell;
+use crate::{Counted, NO_LINK, Tag};
+use std::cell::Cell as Counter;
 use std::mem::size_of;
 
 #[test]
-fn texts_are_kept_by_name(rt: HostRuntime) {
+fn texts_are_kept_by_reference(rt: HostRuntime) {
     let mut pool: Pool<&'static str> = Pool::new(rt.alloc());
-    let Ok(r) = pool.take(5, "x") else {
+    let Ok(r) = pool.take("x") else {
         panic!(rt; "no memory");
     };
-    let Ok(s) = pool.take(7, "y") else {
+    let Ok(s) = pool.take("y") else {
         panic!(rt; "no memory");
     };
     assert_eq!(rt; *pool.value(r), "x");
     assert_eq!(rt; pool.swap_value(r, "z"), "x");
     assert_eq!(rt; pool.give(r), "z");
-    let Ok(t) = pool.take(5, "w") else {
+    let Ok(t) = pool.take("w") else {
         panic!(rt; "no memory");
     };
     assert_eq!(rt; *pool.value(s), "y");
     assert_eq!(rt; *pool.value(t), "w");
-    assert_eq!(rt; t.name(), 5);
     assert_eq!(rt; pool.slots(), 16);
 }
 
 #[test]
 fn links_are_kept_by_slot(rt: HostRuntime) {
     let mut pool: Pool<u8> = Pool::with_slots(rt.alloc(), 3);
-    let Ok(r) = pool.take(1, 10) else {
+    let Ok(r) = pool.take(10) else {
         panic!(rt; "no memory");
     };
     let mut link = NO_LINK;
     link.forth = Some(r);
     link.size = u32::MAX;
     link.height = u8::MAX;
+    link.tag = Tag {
+        key: u64::MAX,
+        stamp: 7,
+    };
     pool.set_link(r, 2, link);
     let last = pool.link(r, 2);
     assert_eq!(rt; (last.size, last.height), (u32::MAX, u8::MAX));
+    assert_eq!(rt; (last.tag.key, last.tag.stamp), (u64::MAX, 7));
     assert_eq!(rt; last.back.is_some(), false);
     assert_eq!(rt; last.forth.is_some(), true);
     assert_eq!(rt; pool.link(r, 1).size, 0);
     let mut counted = Counted::new(&pool);
     assert_eq!(rt; counted.link(r, 2).size, u32::MAX);
     assert_eq!(rt; *counted.value(r), 10);
+    let _ = pool.give(r);
+    let Ok(s) = pool.take(11) else {
+        panic!(rt; "no memory");
+    };
+    assert_eq!(rt; pool.link(s, 2).size, 0);
+}
+
+/// Three places that are given back are used again, in whatever order, and by other references.
+#[test]
+fn places_are_used_again(rt: HostRuntime) {
+    let mut pool: Pool<u8> = Pool::with_slots(rt.alloc(), 1);
+    let Ok(one) = pool.take(1) else {
+        panic!(rt; "no memory");
+    };
+    let Ok(two) = pool.take(2) else {
+        panic!(rt; "no memory");
+    };
+    let Ok(three) = pool.take(3) else {
+        panic!(rt; "no memory");
+    };
+    let (last, first, middle) = (pool.give(three), pool.give(one), pool.give(two));
+    assert_eq!(rt; (first, middle, last), (1, 2, 3));
+    for value in 0..3 {
+        let Ok(node) = pool.take(value) else {
+            panic!(rt; "no memory");
+        };
+        assert!(rt; node.name() < 3);
+        for old in [one, two, three] {
+            assert!(rt; node.bits() != old.bits());
+        }
+    }
 }
 
 /// Run with an allocation that fails, it sees that the value comes back and the pool can go on.
 #[test]
 fn a_refused_take_gives_the_value_back(rt: HostRuntime) {
     let mut pool: Pool<&'static str> = Pool::with_slots(rt.alloc(), 1);
-    if let Err((_, value)) = pool.take(1, "x") {
+    if let Err((_, value)) = pool.take("x") {
         assert_eq!(rt; value, "x");
-        let Ok(r) = pool.take(1, value) else {
+        let Ok(r) = pool.take(value) else {
             panic!(rt; "no memory");
         };
         assert_eq!(rt; *pool.value(r), "x");
     }
 }
 
-#[test]
-fn a_worked_use_runs(rt: HostRuntime) {
-    let sum = match exchanges(rt.alloc()) {
-        Ok(sum) => sum,
-        Err(_) => 0,
-    };
-    assert_eq!(rt; sum, 70 + 71 + 72 + 80);
-}
-
 struct Counting<'a> {
-    drops: &'a Cell<u64>,
+    drops: &'a Counter<u64>,
 }
 
 impl Drop for Counting<'_> {
@@ -84,15 +108,15 @@ impl Drop for Counting<'_> {
 
 #[test]
 fn each_value_is_dropped_once(rt: HostRuntime) {
-    let drops = Cell::new(0);
+    let drops = Counter::new(0);
     let mut pool = Pool::with_slots(rt.alloc(), 2);
-    let Ok(_) = pool.take(1, Counting { drops: &drops }) else {
+    let Ok(_) = pool.take(Counting { drops: &drops }) else {
         panic!(rt; "no memory");
     };
-    let Ok(two) = pool.take(2, Counting { drops: &drops }) else {
+    let Ok(two) = pool.take(Counting { drops: &drops }) else {
         panic!(rt; "no memory");
     };
-    let Ok(three) = pool.take(3, Counting { drops: &drops }) else {
+    let Ok(three) = pool.take(Counting { drops: &drops }) else {
         panic!(rt; "no memory");
     };
     drop(pool.give(two));
@@ -104,9 +128,7 @@ fn each_value_is_dropped_once(rt: HostRuntime) {
 }
 
 #[test]
-fn a_node_is_small(rt: HostRuntime) {
-    let (link, node) = (size_of::<PackedLink>(), size_of::<Node<u64>>());
-    assert_eq!(rt; link, 64);
-    assert_eq!(rt; node, 80);
-    assert_eq!(rt; node.wrapping_add(link.wrapping_mul(6)), 464);
+fn a_cell_and_a_reference_are_small(rt: HostRuntime) {
+    assert_eq!(rt; size_of::<Cell>(), 32);
+    assert_eq!(rt; size_of::<NodeRef>(), 4);
 }

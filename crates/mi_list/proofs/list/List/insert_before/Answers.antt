@@ -1,6 +1,6 @@
 use Rattle.std.proofs.Common.{◌<◌, ◌∷◌, ◌++◌, Option, Some, sym, ap, ◌∙◌, subst}
 use Rattle.mi_node.specs.Pool.{Pooled, IsHeldIf, Keeps, with_link}
-use Rattle.mi_node.specs.declared.heap.NodeRef.{NodeRef}
+use Rattle.mi_node.specs.Refs.{Ref}
 use Rattle.mi_node.specs.declared.link.Link.{Link}
 use Rattle.mi_node.proofs.Callers.{slots-with_link}
 use Rattle.mi_node.specs.Neighbours.{joined}
@@ -31,7 +31,7 @@ returns-clause-list g c xs ys h out e =
     let y : Link = record { back = b; forth = c.args.before; size = 0; height = 0; tag = record { key = 0; stamp = 0 } } in let is = c.back_at-back.ensures xs ys h e in
     let told : Joined l k c.set_link.new.self n b (Some x) c.args.before (Some x) = record { pool = c.join.ensures.pool; first = c.join.ensures.first; last = c.join.ensures.last; slot = c.join.ensures.slot } in
     relinked l k (with_link m x.name l.slot y) n xs x ys (placed l m x y xs ys h out c.requires.held is (sym e))
-    (subst (λ (z : Option NodeRef × Option NodeRef). Joined l k (with_link m x.name l.slot y) n z.0 (Some x) z.1 (Some x)) (λ i. (is i, sym e i)) (subst (λ p. Joined l k p n b (Some x) c.args.before (Some x)) c.set_link.ensures told))
+    (subst (λ (z : Option Ref × Option Ref). Joined l k (with_link m x.name l.slot y) n z.0 (Some x) z.1 (Some x)) (λ i. (is i, sym e i)) (subst (λ p. Joined l k p n b (Some x) c.args.before (Some x)) c.set_link.ensures told))
 
 pub returns-clause-keeps : goal.returns-clause-keeps
 returns-clause-keeps g c xs ys h out e =

@@ -1,0 +1,81 @@
+//! The form in which a link is stored: 32 bytes, where a `Link` takes more.
+//! Plain data: it owns no node and never follows a reference.
+ghost use Rattle.std.specs.Prelude.{◌≡◌, ◌<◌, ⊤};
+ghost use Rattle.mi_node.specs.Cells.{link_in, ref_in};
+
+use crate::link::{Link, Tag};
+use crate::node_ref::{NOBODY, NodeRef};
+use std::alloc::AllocError;
+
+/// A `Link` whose neighbours are the bits of their references.
+pub(crate) struct Cell {
+    back: u32,
+    forth: u32,
+    size: u32,
+    height: u8,
+    key: u64,
+    stamp: u64,
+}
+
+impl Clone for Cell {
+    ghost is_clone = { λ x y. y ≡ x };
+
+    ghost is_infallible = { λ _. ⊤ };
+
+    fn clone(&self) -> Result<Cell, AllocError> {
+        Ok(*self)
+    }
+}
+
+impl Copy for Cell {}
+
+impl Cell {
+    /// The stored form of the link.
+    pub(crate) fn new(link: Link) -> Cell
+        ensures { link_in result ≡ link }
+    {
+        Cell {
+            back: bits_of(link.back),
+            forth: bits_of(link.forth),
+            size: link.size,
+            height: link.height,
+            key: link.tag.key,
+            stamp: link.tag.stamp,
+        }
+    }
+
+    /// The link that is stored.
+    pub(crate) fn link(self) -> Link
+        ensures { result ≡ link_in self }
+    {
+        Link {
+            back: ref_of(self.back),
+            forth: ref_of(self.forth),
+            size: self.size,
+            height: self.height,
+            tag: Tag {
+                key: self.key,
+                stamp: self.stamp,
+            },
+        }
+    }
+}
+
+fn bits_of(node: Option<NodeRef>) -> u32
+    ensures { ref_in result ≡ node }
+{
+    match node {
+        None => NOBODY,
+        Some(node) => node.bits(),
+    }
+}
+
+fn ref_of(bits: u32) -> Option<NodeRef>
+    ensures { result ≡ ref_in bits }
+{
+    if bits < NOBODY {
+        Some(NodeRef::of_bits(bits))
+    } else {
+        None
+    }
+}

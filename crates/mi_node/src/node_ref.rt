@@ -1,0 +1,97 @@
+//! A reference of four bytes: 31 bits of the node's place, and one bit that no clause of the pool
+//! specifies. Plain data: it owns no node.
+ghost use Rattle.std.specs.Prelude.{◌≡◌, ⊤, ◌<◌, ◌/◌, ◌%◌};
+
+use std::alloc::AllocError;
+use std::marker::Model;
+
+/// How many places there are.
+pub(crate) const PLACES: u32 = 0x7fff_ffff;
+
+/// The bits of no reference.
+pub(crate) const NOBODY: u32 = 0xffff_ffff;
+
+/// Which node: plain data that owns nothing. Contracts see its name, which is the node's place, and its mark.
+pub struct NodeRef {
+    bits: u32,
+}
+
+impl Model for NodeRef {
+    ghost use Rattle.mi_node.specs.Refs.{Ref};
+
+    ghost Value = { Ref };
+
+    ghost use Rattle.mi_node.specs.RefView.{ref_seen, bits_of, IsSomebody, bits_of-ref_seen};
+
+    ghost view = { ref_seen };
+
+    ghost invariant = { IsSomebody };
+
+    ghost inverse = { bits_of };
+
+    ghost inverse_ok = { bits_of-ref_seen };
+}
+
+impl Clone for NodeRef {
+    ghost is_clone = { λ x y. y ≡ x };
+
+    ghost is_infallible = { λ _. ⊤ };
+
+    fn clone(&self) -> Result<NodeRef, AllocError> {
+        Ok(*self)
+    }
+}
+
+impl Copy for NodeRef {}
+
+impl NodeRef {
+    /// The reference to the node at that place, which its mark (0 or 1) tells from the node that stood there before.
+    pub(crate) fn new(place: u32, mark: u32) -> NodeRef
+        requires place { place < PLACES }
+        requires mark { mark < 2 }
+        ensures name { result.name ≡ place }
+        ensures mark { result.mark ≡ mark }
+    {
+        NodeRef {
+            bits: place * 2 + mark,
+        }
+    }
+
+    /// The node's name.
+    pub fn name(self) -> u32
+        ensures { result ≡ self.name }
+    {
+        self.bits / 2
+    }
+
+    /// The reference to another node at the same place. Its mark is the other one, which no clause says.
+    pub(crate) fn renewed(self) -> NodeRef
+        ensures { result.name ≡ self.name }
+    {
+        let mark = 1 - self.bits % 2;
+        let bits = self.bits / 2 * 2 + mark;
+        if bits < NOBODY {
+            NodeRef { bits }
+        } else {
+            self
+        }
+    }
+
+    /// The reference as a number.
+    pub(crate) fn bits(self) -> u32
+        ensures some { result < NOBODY }
+        ensures name { result / 2 ≡ self.name }
+        ensures mark { result % 2 ≡ self.mark }
+    {
+        self.bits
+    }
+
+    /// The reference of that number.
+    pub(crate) fn of_bits(bits: u32) -> NodeRef
+        requires { bits < NOBODY }
+        ensures name { result.name ≡ bits / 2 }
+        ensures mark { result.mark ≡ bits % 2 }
+    {
+        NodeRef { bits }
+    }
+}
