@@ -3,6 +3,7 @@ pub mod Chunks
 pub mod Columns
 pub mod Counted
 pub mod Homes
+pub mod Neighbours
 pub mod Places
 pub mod Pool
 pub mod RefView

@@ -8,6 +8,7 @@ mod columns;
 mod counted;
 mod home;
 mod link;
+pub mod neighbours;
 mod node_ref;
 mod places;
 mod pool;
