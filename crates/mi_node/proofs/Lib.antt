@@ -1,4 +1,6 @@
 pub mod Callers
+pub mod Flats
 pub mod Keeping
-pub mod Places
+pub mod Links
+pub mod Maps
 pub mod Refs

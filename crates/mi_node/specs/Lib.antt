@@ -1,6 +1,9 @@
 pub mod Cells
+pub mod Chunks
+pub mod Columns
 pub mod Counted
 pub mod Homes
+pub mod Places
 pub mod Pool
 pub mod RefView
 pub mod Refs

@@ -3,10 +3,13 @@
 #![tactic(auto)]
 
 mod cell;
+mod chunks;
+mod columns;
 mod counted;
 mod home;
 mod link;
 mod node_ref;
+mod places;
 mod pool;
 
 pub use counted::Counted;
