@@ -1,12 +1,12 @@
 -- A balanced tree is not high.
 --     has_enough      it has at least as many nodes as a Fibonacci number says
---     short, low_enough      its height, by the number of binary digits of its size, and for fewer than 2^64 nodes
+--     short, shorter, low_enough      its height, by the number of binary digits of its size, and for fewer than 2^32 nodes
 use Rattle.std.proofs.Common.{◌≡◌, ℕ, zero, suc, ◌+◌, ◌*◌, ◌^◌, ◌<◌, ◌≤◌, max, ◌⊎◌, inl, inr, refl, sym, subst, arith}
 use Rattle.std.proofs.Math.Nat.{pow-suc}
 use Rattle.mi_tree.specs.Shape.{Shape, Tip, Fork, size, height, DifferByAtMost, IsEven}
 use Rattle.mi_tree.specs.Height.{fib, HasEnough}
 
-at_most_or_more : (a b : ℕ) → (a ≤ b) ⊎ (b + 1 ≤ a)
+pub at_most_or_more : (a b : ℕ) → (a ≤ b) ⊎ (b + 1 ≤ a)
 at_most_or_more zero b = inl (omega arith)
 at_most_or_more (suc a) zero = inr (omega arith)
 at_most_or_more (suc a) (suc b) = elim (at_most_or_more a b) [ inl h ↦ inl (omega arith) | inr h ↦ inr (omega arith) ]
@@ -56,8 +56,24 @@ short t e b h = elim (at_most_or_more (height t) (2 * b)) [
   | inr i ↦ let p = passed b (2 * b) refl in let j = has_enough t e in let k = (fib_mono (suc (suc (suc (2 * b)))) (suc (suc (height t))) (omega arith)).0 in absurd (omega arith)
 ]
 
-pub low_enough : (t : Shape) → IsEven t → size t < 2 ^ 64 → height t ≤ 91
-low_enough t e h = elim (at_most_or_more (height t) 91) [
+-- one level less than that, where there is a node
+passed_less : (b n : ℕ) → n ≡ 2 * b → 2 ^ suc b < fib (suc (suc (suc (suc n))))
+passed_less zero zero e = omega arith
+passed_less zero (suc n) e = absurd (omega arith)
+passed_less (suc b) zero e = absurd (omega arith)
+passed_less (suc b) (suc zero) e = absurd (omega arith)
+passed_less (suc b) (suc (suc n)) e =
+    let i = passed_less b n (omega arith) in let j = fib_two (suc (suc (suc (suc n)))) in let k = fib_two (suc (suc (suc n))) in let p = pow-suc 2 (suc b) in omega arith
+
+pub shorter : (t : Shape) → IsEven t → (b : ℕ) → size t < 2 ^ b → 1 ≤ size t → height t + 1 ≤ 2 * b
+shorter t e zero h k = absurd (omega arith)
+shorter t e (suc b) h k = elim (at_most_or_more (height t + 1) (2 * suc b)) [
   | inl i ↦ i
-  | inr i ↦ let j = has_enough t e in let k : fib 94 ≤ fib (suc (suc (height t))) = (fib_mono 94 (suc (suc (height t))) (omega arith)).0 in absurd (omega arith)
+  | inr i ↦ let p = passed_less b (2 * b) refl in let j = has_enough t e in let f = (fib_mono (suc (suc (suc (suc (2 * b))))) (suc (suc (height t))) (omega arith)).0 in absurd (omega arith)
+]
+
+pub low_enough : (t : Shape) → IsEven t → size t < 2 ^ 32 → height t ≤ 45
+low_enough t e h = elim (at_most_or_more (height t) 45) [
+  | inl i ↦ i
+  | inr i ↦ let j = has_enough t e in let k : fib 48 ≤ fib (suc (suc (height t))) = (fib_mono 48 (suc (suc (height t))) (omega arith)).0 in absurd (omega arith)
 ]

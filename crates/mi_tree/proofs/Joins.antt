@@ -1,55 +1,73 @@
 -- What a new link of one node does to the trees.
-use Rattle.std.proofs.Common.{◌≡◌, ℕ, ◌+◌, max, List, [], ◌∷◌, ◌++◌, Option, Some, refl, sym, ap, ◌∙◌, subst, arith, append_assoc}
-use Rattle.mi_node.specs.Pool.{Pooled, link_of, with_link, Keeps}
-use Rattle.mi_node.specs.declared.heap.NodeRef.{NodeRef}
+use Rattle.std.proofs.Common.{◌≡◌, ℕ, ◌+◌, ◌==◌, true, false, max, List, [], ◌∷◌, ◌++◌, Option, Some, refl, sym, ap, ◌∙◌, subst, arith, append_assoc}
+use Rattle.mi_node.specs.Pool.{Pooled, IsHeld, link_of, with_link, Keeps}
 use Rattle.mi_node.specs.declared.link.Link.{Link}
-use Rattle.mi_node.proofs.Callers.{link_here}
+use Rattle.mi_node.specs.declared.link.Tag.{Tag}
+use Rattle.mi_node.proofs.Callers.{link_here, link_there, same_name}
 use Rattle.mi_node.proofs.Keeping.{keeps_link, held_kept}
-use Rattle.mi_node.specs.Refs.{IsOut, IsApart, AreOut}
+use Rattle.mi_node.specs.Refs.{Ref, IsOut, IsApart, AreOut}
 use Rattle.mi_node.proofs.Refs.{out_left, out_right, between, are_out_none, are_out_cons}
 use Rattle.mi_tree.specs.Shape.{Shape, Tip, Fork, nodes, fork_link, Stands, IsRooted, size_at, height_at}
-use Rattle.mi_tree.specs.Joining.{Two, Three, Four}
+use Rattle.mi_tree.specs.Joining.{Two, IsFork, Three, Four}
+use Rattle.mi_tree.specs.Sorted.{SameTags}
 use Rattle.mi_tree.proofs.Shapes.{size-root, height-root}
 use Rattle.mi_tree.proofs.Outs.{thrice}
 
-cut_out : (xs : List NodeRef) (r : NodeRef) (ys us : List NodeRef) → AreOut (xs ++ r ∷ ys) us → AreOut xs us × IsOut r.name us × AreOut ys us
+cut_out : (xs : List Ref) (r : Ref) (ys us : List Ref) → AreOut (xs ++ r ∷ ys) us → AreOut xs us × IsOut r.name us × AreOut ys us
 cut_out [] r ys us a = (tt, a.0, a.1)
 cut_out (x ∷ xs) r ys us a = let on = cut_out xs r ys us a.1 in ((a.0, on.0), on.1, on.2)
 
 module _ {T : Type 0} where
+  -- a link that says something of itself by its tag
+  pub link_kept : (m n : Pooled T) (s : ℕ) (r : Ref) (f : Tag → Link) → link_of n r.name s ≡ link_of m r.name s → link_of m r.name s ≡ f (link_of m r.name s).tag → link_of n r.name s ≡ f (link_of n r.name s).tag
+  link_kept m n s r f e h = e ∙ h ∙ ap (λ (y : Link). f y.tag) (sym e)
+
   -- a tree away from the change
-  pub stands_kept : (s : ℕ) (m n : Pooled T) (us : List NodeRef) (t : Shape) → Keeps m n s us → AreOut (nodes t) us → Stands m s t → Stands n s t
+  pub stands_kept : (s : ℕ) (m n : Pooled T) (us : List Ref) (t : Shape) → Keeps m n s us → AreOut (nodes t) us → Stands m s t → Stands n s t
   stands_kept s m n us Tip g a h = tt
   stands_kept s m n us (Fork l r q) g a h =
       let on = cut_out (nodes l) r (nodes q) us a in
-      (held_kept s m n us r g h.0, g.other_nodes r.name s on.1 ∙ h.1, stands_kept s m n us l g on.0 h.2, stands_kept s m n us q g on.2 h.3)
+      (held_kept s m n us r g h.0, link_kept m n s r (fork_link l q) (g.other_nodes r.name s on.1) h.1, stands_kept s m n us l g on.0 h.2, stands_kept s m n us q g on.2 h.3)
 
-  pub rooted_kept : (s : ℕ) (m n : Pooled T) (us : List NodeRef) (o : Option NodeRef) (t : Shape) → Keeps m n s us → AreOut (nodes t) us → IsRooted m s o t → IsRooted n s o t
+  pub rooted_kept : (s : ℕ) (m n : Pooled T) (us : List Ref) (o : Option Ref) (t : Shape) → Keeps m n s us → AreOut (nodes t) us → IsRooted m s o t → IsRooted n s o t
   rooted_kept s m n us o t g a h = record { root = h.root; stands = stands_kept s m n us t g a h.stands }
 
   -- the same, where one node changed
-  pub rooted_past : (s : ℕ) (m n : Pooled T) (x : NodeRef) (o : Option NodeRef) (t : Shape) → Keeps m n s (x ∷ []) → IsOut x.name (nodes t) → IsRooted m s o t → IsRooted n s o t
+  pub rooted_past : (s : ℕ) (m n : Pooled T) (x : Ref) (o : Option Ref) (t : Shape) → Keeps m n s (x ∷ []) → IsOut x.name (nodes t) → IsRooted m s o t → IsRooted n s o t
   rooted_past s m n x o t g a h = rooted_kept s m n (x ∷ []) o t g (are_out_cons (nodes t) x [] a (are_out_none (nodes t))) h
 
-  pub joined : (s : ℕ) (m n : Pooled T) (a : Option NodeRef) (x : NodeRef) (b : Option NodeRef) (A B : Shape) (y : Link) → n ≡ with_link m x.name s y
-      → y ≡ record { back = a; forth = b; size = size_at m s a + size_at m s b + 1; height = max (height_at m s a) (height_at m s b) + 1 }
-      → Two m s a x b A B → IsRooted n s (Some x) (Fork A x B)
-  joined s m n a x b A B y e is h =
+  pub joined : (s : ℕ) (m n : Pooled T) (x : Ref) (y : Link) (A B : Shape) → n ≡ with_link m x.name s y → IsFork m s x y A B → IsRooted n s (Some x) (Fork A x B)
+  joined s m n x y A B e h =
       let keeps = subst (λ o. Keeps m o s (x ∷ [])) (sym e) (keeps_link s m x y) in
-      let sizes = size-root m s a A h.first in let sizes2 = size-root m s b B h.second in
-      let heights = height-root m s a A h.first in let heights2 = height-root m s b B h.second in
-      let link : y ≡ fork_link A B = is ∙ (λ i. record { back = h.first.root i; forth = h.second.root i; size = sizes i + sizes2 i + 1; height = max (heights i) (heights2 i) + 1 }) in
+      let two = h.two in
+      let link : y ≡ fork_link A B y.tag = λ i. record { back = two.first.root i; forth = two.second.root i; size = h.size_is i; height = h.height_is i; tag = y.tag } in
+      let here : link_of n x.name s ≡ y = ap (λ o. link_of o x.name s) e ∙ link_here m x s y two.held in
       record {
         root = refl;
         stands = (
-          keeps.refs x.name ∙ h.held,
-          ap (λ o. link_of o x.name s) e ∙ link_here m x s y h.held ∙ link,
-          (rooted_past s m n x a A keeps h.out_first h.first).stands,
-          (rooted_past s m n x b B keeps h.out_second h.second).stands,
+          keeps.refs x.name ∙ two.held,
+          here ∙ link ∙ ap (λ (z : Link). fork_link A B z.tag) (sym here),
+          (rooted_past s m n x y.back A keeps two.out_first two.first).stands,
+          (rooted_past s m n x y.forth B keeps two.out_second two.second).stands,
         );
       }
 
-  module _ (s : ℕ) (m n : Pooled T) (a : Option NodeRef) (x : NodeRef) (b : Option NodeRef) (y : NodeRef) (c : Option NodeRef) (A B C : Shape) (h : Three m s a x b y c A B C) where
+  -- no tag changes where a node's link is set with its own
+  pub tags_set : (s : ℕ) (m n : Pooled T) (x : Ref) (y : Link) → n ≡ with_link m x.name s y → IsHeld m x → y.tag ≡ (link_of m x.name s).tag → SameTags m n s
+  tags_set s m n x y e h t k = ap (λ o. (link_of o k s).tag) e ∙ (elim (x.name == k) as (λ b. (x.name == k) ≡ b → (link_of (with_link m x.name s y) k s).tag ≡ (link_of m k s).tag) [
+    | true ↦ λ is. let at = same_name x.name k is in
+        ap (λ q. (link_of (with_link m x.name s y) q s).tag) (sym at) ∙ ap (λ (z : Link). z.tag) (link_here m x s y h) ∙ t ∙ ap (λ q. (link_of m q s).tag) at
+    | false ↦ λ is. ap (λ (z : Link). z.tag) (link_there m x.name s y k s is)
+  ]) refl
+
+  pub fork_of : (s : ℕ) (m : Pooled T) (x : Ref) (y : Link) (A B : Shape) → Two m s y.back x y.forth A B → y.size ≡ size_at m s y.back + size_at m s y.forth + 1
+      → y.height ≡ max (height_at m s y.back) (height_at m s y.forth) + 1 → y.tag ≡ (link_of m x.name s).tag → IsFork m s x y A B
+  fork_of s m x y A B h e f g =
+      let a = size-root m s y.back A h.first in let b = size-root m s y.forth B h.second in
+      let c = height-root m s y.back A h.first in let d = height-root m s y.forth B h.second in
+      record { two = h; size_is = omega arith; height_is = f ∙ (λ i. max (c i) (d i) + 1); tag_is = g }
+
+  module _ (s : ℕ) (m n : Pooled T) (a : Option Ref) (x : Ref) (b : Option Ref) (y : Ref) (c : Option Ref) (A B C : Shape) (h : Three m s a x b y c A B C) where
     pub down_low : Two m s b y c B C
     down_low = let o = thrice (nodes A) x (nodes B) y (nodes C) h.apart in let f = h.fits in let w = h.low in record { first = h.second; held = h.held_y; second = h.third; out_first = o.y_B; out_second = o.y_C; fits = omega arith; low = (omega arith, omega arith) }
 
@@ -78,7 +96,7 @@ module _ {T : Type 0} where
       low = (omega arith, omega arith);
     }
 
-  module _ (s : ℕ) (m n o : Pooled T) (a : Option NodeRef) (x : NodeRef) (b : Option NodeRef) (y : NodeRef) (c : Option NodeRef) (z : NodeRef) (d : Option NodeRef) (A B C D : Shape) (h : Four m s a x b y c z d A B C D) where
+  module _ (s : ℕ) (m n o : Pooled T) (a : Option Ref) (x : Ref) (b : Option Ref) (y : Ref) (c : Option Ref) (z : Ref) (d : Option Ref) (A B C D : Shape) (h : Four m s a x b y c z d A B C D) where
     pub both_left : Two m s a x b A B
     both_left = let i = thrice (nodes A) x (nodes B) y (nodes C ++ z ∷ nodes D) h.apart in let f = h.fits in let w = h.low in
         record { first = h.first; held = h.held_x; second = h.second; out_first = i.x_A; out_second = i.x_B; fits = omega arith; low = (omega arith, omega arith) }

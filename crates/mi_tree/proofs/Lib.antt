@@ -1,13 +1,14 @@
+pub mod Compares
 pub mod Frames
 pub mod Heights
 pub mod Joins
 pub mod Looks
 pub mod Outs
 pub mod Puts
+pub mod Ranks
 pub mod Shapes
 pub mod Sorts
 pub mod Stands
-pub mod Stocks
 pub mod Takes
 pub mod Turns
 pub mod Walks

@@ -1,77 +1,56 @@
 -- What the ways down find.
-use Rattle.std.proofs.Common.{◌≡◌, ℕ, ◌+◌, ◌≤◌, Bool, true, false, cond, List, [], ◌∷◌, ◌++◌, length, Option, Some, None, refl, sym, ap, ◌∙◌, subst, arith, length-append}
+use Rattle.std.proofs.Common.{◌≡◌, ℕ, suc, ◌+◌, ◌*◌, ◌<◌, ◌≤◌, Bool, true, false, cond, List, [], ◌∷◌, ◌++◌, length, Option, Some, None, refl, sym, ap, ◌∙◌, subst, arith, length-append}
 use Rattle.std.specs.declared.cmp.Ordering.{Ordering}
 use Rattle.std.specs.declared.cmp.Ordering.TheVariants.{Less, Equal, Greater}
-use Rattle.std.specs.Ordering.{is_eq}
+use Rattle.std.specs.Ordering.{is_eq, nat_cmp, ordering_then}
+use Rattle.mi_node.proofs.Callers.{held_has}
 use Rattle.mi_node.specs.Pool.{Pooled, link_of, value_of, IsHeld}
-use Rattle.mi_node.specs.declared.heap.NodeRef.{NodeRef}
+use Rattle.mi_node.specs.Refs.{Ref}
 use Rattle.mi_node.specs.declared.link.Link.{Link}
-use Rattle.mi_tree.specs.Shape.{Shape, nodes, height, Stands, IsRooted}
+use Rattle.mi_tree.specs.Shape.{Shape, nodes, size, height, Stands, IsRooted, size_at, height_at, nth_of}
 use Rattle.mi_tree.specs.Order.{IsNoLater, IsMonotone}
-use Rattle.mi_tree.specs.Sorted.{AllAre, Rising, compared, side}
-use Rattle.mi_tree.specs.Probed.{past, past_value, is_past_node, is_value_at, is_node_at, first_where, AllWhere, IsSteady}
-use Rattle.mi_tree.proofs.Shapes.{moved, opened, AllHeld, all_held}
+use Rattle.mi_tree.specs.Sorted.{AllAre, Rising, HasTag, AreTagged, CanTake, by_stamp, stamped, compared, item_of, side}
+use Rattle.mi_tree.specs.Probed.{past, place_at, past_value, is_past_node, is_value_at, is_node_at, first_where, AllWhere, IsSteady}
+use Rattle.mi_tree.proofs.Shapes.{moved, tip_is, same_tree, Sides, sides, size-root, height-root, size-nodes, nth-before, nth-at, nth-after, AllHeld, all_held}
+use Rattle.mi_tree.proofs.Sorts.{IsOrder, tagged_left, tagged_right, rising_left, rising_right, where_is, go_left, go_here, go_right}
+use Rattle.mi_tree.proofs.Takes.{take_opened}
 
--- the heights below a node
-module _ {T : Type 0} where
-  pub record Below (m : Pooled T) (s : ℕ) (y : Link) (t : Shape) : Type 0 where
-    pub A : Shape
-    pub B : Shape
-    pub left : IsRooted m s y.back A
-    pub right : IsRooted m s y.forth B
-    pub left_lower : height A + 1 ≤ height t
-    pub right_lower : height B + 1 ≤ height t
+-- the first, or what was found before
+abbrev pub or_found : Option Ref → Option Ref → Option Ref
+or_found None o = o
+or_found (Some r) o = Some r
 
-  pub below : (m : Pooled T) (s : ℕ) (at : Option NodeRef) (r : NodeRef) (y : Link) (t : Shape) → IsRooted m s at t → at ≡ Some r → y ≡ link_of m r.name s → Below m s y t
-  below m s at r y t h e i =
-      let o = opened m s r t (moved m m s at (Some r) t refl e h) in let heights = ap height o.is in record {
-        A = o.left;
-        B = o.right;
-        left = moved m m s _ y.back o.left refl (sym (ap (λ (z : Link). z.back) i)) o.left_is;
-        right = moved m m s _ y.forth o.right refl (sym (ap (λ (z : Link). z.forth) i)) o.right_is;
-        left_lower = omega arith;
-        right_lower = omega arith;
-      }
-
-first_past : (f : NodeRef → Bool) (A : List NodeRef) (r : NodeRef) (C : List NodeRef) → f r ≡ true → (o : Option NodeRef) → o ≡ first_where f A → (e : NodeRef → Option NodeRef) → first_where f (A ++ r ∷ C) ≡ (elim o as (λ _. Option NodeRef) [ None ↦ Some r | Some q ↦ Some q ])
-first_past f [] r C is o e k = ap (λ b. cond b (Some r) (first_where f C)) is ∙ sym (ap (λ (p : Option NodeRef). elim p as (λ _. Option NodeRef) [ None ↦ Some r | Some q ↦ Some q ]) e)
-first_past f (a ∷ A) r C is o e k = (elim (f a) as (λ b. f a ≡ b → first_where f (a ∷ A ++ r ∷ C) ≡ (elim o as (λ _. Option NodeRef) [ None ↦ Some r | Some q ↦ Some q ])) [
-  | true ↦ λ h. ap (λ b. cond b (Some a) (first_where f (A ++ r ∷ C))) h ∙ sym (ap (λ (p : Option NodeRef). elim p as (λ _. Option NodeRef) [ None ↦ Some r | Some q ↦ Some q ]) (e ∙ ap (λ b. cond b (Some a) (first_where f A)) h))
-  | false ↦ λ h. ap (λ b. cond b (Some a) (first_where f (A ++ r ∷ C))) h ∙ first_past f A r C is o (e ∙ ap (λ b. cond b (Some a) (first_where f A)) h) k
+first_or : (f : Ref → Bool) (A : List Ref) (r : Ref) (C : List Ref) (o : Option Ref) → f r ≡ true → or_found (first_where f (A ++ r ∷ C)) o ≡ or_found (first_where f A) (Some r)
+first_or f [] r C o is = ap (λ b. or_found (cond b (Some r) (first_where f C)) o) is
+first_or f (a ∷ A) r C o is = (elim (f a) as (λ b. f a ≡ b → or_found (cond b (Some a) (first_where f (A ++ r ∷ C))) o ≡ or_found (cond b (Some a) (first_where f A)) (Some r)) [
+  | true ↦ λ h. refl
+  | false ↦ λ h. first_or f A r C o is
 ]) refl
-
--- found to the left
-pub first_in : (f : NodeRef → Bool) (A : List NodeRef) (r : NodeRef) (C : List NodeRef) (q : NodeRef) → f r ≡ true → Some q ≡ first_where f A → Some q ≡ first_where f (A ++ r ∷ C)
-first_in f A r C q is e = sym (first_past f A r C is (Some q) e (λ k. None))
-
--- nothing to the left
-pub first_at : (f : NodeRef → Bool) (A : List NodeRef) (r : NodeRef) (C : List NodeRef) → f r ≡ true → None ≡ first_where f A → Some r ≡ first_where f (A ++ r ∷ C)
-first_at f A r C is e = sym (first_past f A r C is None e (λ k. None))
 
 true_false : (b : Bool) → b ≡ true → b ≡ false → ⊥
 true_false b e f = cc
 
-where_right : (f : NodeRef → Bool) (xs : List NodeRef) (r : NodeRef) (ys : List NodeRef) → AllWhere f (xs ++ r ∷ ys) → f r ≡ true
+where_right : (f : Ref → Bool) (xs : List Ref) (r : Ref) (ys : List Ref) → AllWhere f (xs ++ r ∷ ys) → f r ≡ true
 where_right f [] r ys h = h.0
 where_right f (x ∷ xs) r ys h = where_right f xs r ys h.1
 
 -- before a node that isn't past none is
-pub first_after : (f : NodeRef → Bool) (A : List NodeRef) (r : NodeRef) (C : List NodeRef) → f r ≡ false → IsSteady f (A ++ r ∷ C) → first_where f (A ++ r ∷ C) ≡ first_where f C
+pub first_after : (f : Ref → Bool) (A : List Ref) (r : Ref) (C : List Ref) → f r ≡ false → IsSteady f (A ++ r ∷ C) → first_where f (A ++ r ∷ C) ≡ first_where f C
 first_after f [] r C is h = ap (λ b. cond b (Some r) (first_where f C)) is
 first_after f (a ∷ A) r C is h = (elim (f a) as (λ b. f a ≡ b → first_where f (a ∷ A ++ r ∷ C) ≡ first_where f C) [
   | true ↦ λ e. absurd (true_false (f r) (where_right f A r C (h.0 e)) is)
   | false ↦ λ e. ap (λ b. cond b (Some a) (first_where f (A ++ r ∷ C))) e ∙ first_after f A r C is h.1
 ]) refl
 
-where_left : (f : NodeRef → Bool) (xs ys : List NodeRef) → AllWhere f (xs ++ ys) → AllWhere f xs
+where_left : (f : Ref → Bool) (xs ys : List Ref) → AllWhere f (xs ++ ys) → AllWhere f xs
 where_left f [] ys h = tt
 where_left f (x ∷ xs) ys h = (h.0, where_left f xs ys h.1)
 
-pub steady_left : (f : NodeRef → Bool) (xs ys : List NodeRef) → IsSteady f (xs ++ ys) → IsSteady f xs
+pub steady_left : (f : Ref → Bool) (xs ys : List Ref) → IsSteady f (xs ++ ys) → IsSteady f xs
 steady_left f [] ys h = tt
 steady_left f (x ∷ xs) ys h = (λ e. where_left f xs ys (h.0 e), steady_left f xs ys h.1)
 
-pub steady_right : (f : NodeRef → Bool) (xs ys : List NodeRef) → IsSteady f (xs ++ ys) → IsSteady f ys
+pub steady_right : (f : Ref → Bool) (xs ys : List Ref) → IsSteady f (xs ++ ys) → IsSteady f ys
 steady_right f [] ys h = h
 steady_right f (x ∷ xs) ys h = steady_right f xs ys h.1
 
@@ -88,24 +67,32 @@ past_later strict Greater Greater h e = refl
 equal_less : Equal ≡ Less → ⊥
 equal_less e = cc
 
+greater_less : Greater ≡ Less → ⊥
+greater_less e = cc
+
+-- a node before another has no greater key
+not_greater : (a b : Ordering) → ordering_then a b ≡ Less → a ≡ Greater → ⊥
+not_greater a b e f = greater_less (ap (λ o. ordering_then o b) (sym f) ∙ e)
+
 module _ {T : Type 0} (order : T → T → Ordering) (place : T → Ordering) (mono : IsMonotone order place) (strict : Bool) where
-  value_later : (a b : Option T) → compared order a b ≡ Less → past_value strict place a ≡ true → past_value strict place b ≡ true
-  value_later None b e f = absurd (equal_less e)
-  value_later (Some x) None e f = absurd (equal_less e)
-  value_later (Some x) (Some y) e f = past_later strict (place x) (place y) (mono x y e) f
+  value_later : (a b : Option T) (i j : ℕ) → compared (by_stamp order) (stamped a i) (stamped b j) ≡ Less → past_value strict place a ≡ true → past_value strict place b ≡ true
+  value_later None b i j e f = absurd (equal_less e)
+  value_later (Some x) None i j e f = absurd (equal_less e)
+  value_later (Some x) (Some y) i j e f = past_later strict (place x) (place y) (mono x y (not_greater (order x y) (nat_cmp i j) e)) f
 
-  all_later : (m : Pooled T) (r : NodeRef) (rs : List NodeRef) → AllAre (side order m r) Less rs → is_past_node strict place m r ≡ true → AllWhere (is_past_node strict place m) rs
-  unfolding side is_past_node
-  all_later m r [] h e = tt
-  all_later m r (q ∷ rs) h e = (value_later (value_of m r.name) (value_of m q.name) h.0 e, all_later m r rs h.1 e)
+  all_later : (m : Pooled T) (s : ℕ) (r : Ref) (rs : List Ref) → AllAre (side order m s r) Less rs → is_past_node strict place m r ≡ true → AllWhere (is_past_node strict place m) rs
+  unfolding side item_of is_past_node
+  all_later m s r [] h e = tt
+  all_later m s r (q ∷ rs) h e = (value_later (value_of m r.name) (value_of m q.name) (link_of m r.name s).tag.stamp (link_of m q.name s).tag.stamp h.0 e, all_later m s r rs h.1 e)
 
-  pub steady : (m : Pooled T) (rs : List NodeRef) → Rising (side order m) rs → IsSteady (is_past_node strict place m) rs
-  steady m [] h = tt
-  steady m (r ∷ rs) h = (all_later m r rs h.0, steady m rs h.1)
+  pub steady : (m : Pooled T) (s : ℕ) (rs : List Ref) → Rising (side order m s) rs → IsSteady (is_past_node strict place m) rs
+  steady m s [] h = tt
+  steady m s (r ∷ rs) h = (all_later m s r rs h.0, steady m s rs h.1)
 
-pub past_is : {T : Type 0} (strict : Bool) (place : T → Ordering) (m : Pooled T) (r : NodeRef) (v : T) → value_of m r.name ≡ Some v → is_past_node strict place m r ≡ past strict (place v)
+-- of a held node
+pub past_is : {T : Type 0} (strict : Bool) (place : T → Ordering) (m : Pooled T) (r : Ref) → IsHeld m r → is_past_node strict place m r ≡ past strict (place_at place (value_of m r.name))
 unfolding is_past_node
-past_is strict place m r v e = ap (past_value strict place) e
+past_is strict place m r h = let v = held_has m r h in ap (past_value strict place) v.1 ∙ ap (λ o. past strict (place_at place o)) (sym v.1)
 
 -- the node of a probe's own key is the first that isn't before the probe
 no_here : Greater ≡ Equal → ⊥
@@ -132,39 +119,39 @@ is_false : (b : Bool) → (b ≡ true → ⊥) → b ≡ false
 is_false true h = absurd (h refl)
 is_false false h = refl
 
-abbrev NoneWhere : (NodeRef → Bool) → List NodeRef → Type 0
+abbrev NoneWhere : (Ref → Bool) → List Ref → Type 0
 NoneWhere f [] = Unit {0}
 NoneWhere f (r ∷ rs) = (f r ≡ false) × NoneWhere f rs
 
-first_none : (f : NodeRef → Bool) (rs : List NodeRef) → NoneWhere f rs → first_where f rs ≡ None
+first_none : (f : Ref → Bool) (rs : List Ref) → NoneWhere f rs → first_where f rs ≡ None
 first_none f [] h = refl
 first_none f (r ∷ rs) h = ap (λ b. cond b (Some r) (first_where f rs)) h.0 ∙ first_none f rs h.1
 
-module _ {T : Type 0} (order : T → T → Ordering) (place : T → Ordering) (mono : IsMonotone order place) (m : Pooled T) where
+module _ {T : Type 0} (order : T → T → Ordering) (place : T → Ordering) (mono : IsMonotone order place) (m : Pooled T) (s : ℕ) where
   value_here : (a : Option T) → is_value_at place a ≡ true → past_value false place a ≡ true
   value_here None e = e
   value_here (Some x) e = here_past (place x) e
 
-  value_after : (a b : Option T) → compared order a b ≡ Less → past_value false place a ≡ true → is_value_at place a ≡ false → is_value_at place b ≡ false
-  value_after None b e f g = absurd (equal_less e)
-  value_after (Some x) None e f g = refl
-  value_after (Some x) (Some y) e f g = here_after (place x) (place y) (mono x y e) f g
+  value_after : (a b : Option T) (i j : ℕ) → compared (by_stamp order) (stamped a i) (stamped b j) ≡ Less → past_value false place a ≡ true → is_value_at place a ≡ false → is_value_at place b ≡ false
+  value_after None b i j e f g = absurd (equal_less e)
+  value_after (Some x) None i j e f g = refl
+  value_after (Some x) (Some y) i j e f g = here_after (place x) (place y) (mono x y (not_greater (order x y) (nat_cmp i j) e)) f g
 
-  none_after : (r : NodeRef) (rs : List NodeRef) → AllAre (side order m r) Less rs → is_past_node false place m r ≡ true → is_node_at place m r ≡ false → NoneWhere (is_node_at place m) rs
-  unfolding side is_past_node is_node_at
+  none_after : (r : Ref) (rs : List Ref) → AllAre (side order m s r) Less rs → is_past_node false place m r ≡ true → is_node_at place m r ≡ false → NoneWhere (is_node_at place m) rs
+  unfolding side item_of is_past_node is_node_at
   none_after r [] h e f = tt
-  none_after r (q ∷ rs) h e f = (value_after (value_of m r.name) (value_of m q.name) h.0 e f, none_after r rs h.1 e f)
+  none_after r (q ∷ rs) h e f = (value_after (value_of m r.name) (value_of m q.name) (link_of m r.name s).tag.stamp (link_of m q.name s).tag.stamp h.0 e f, none_after r rs h.1 e f)
 
-  node_here : (r : NodeRef) → is_node_at place m r ≡ true → is_past_node false place m r ≡ true
+  node_here : (r : Ref) → is_node_at place m r ≡ true → is_past_node false place m r ≡ true
   unfolding is_past_node is_node_at
   node_here r e = value_here (value_of m r.name) e
 
   -- the first that isn't before the probe, if it is at the probe
-  abbrev if_here : Option NodeRef → Option NodeRef
+  abbrev if_here : Option Ref → Option Ref
   if_here None = None
   if_here (Some r) = cond (is_node_at place m r) (Some r) None
 
-  pub found : (rs : List NodeRef) → Rising (side order m) rs → first_where (is_node_at place m) rs ≡ if_here (first_where (is_past_node false place m) rs)
+  pub found : (rs : List Ref) → Rising (side order m s) rs → first_where (is_node_at place m) rs ≡ if_here (first_where (is_past_node false place m) rs)
   found [] h = refl
   found (r ∷ rs) h = let P = is_past_node false place m in let H = is_node_at place m in (elim (P r) as (λ b. P r ≡ b → first_where H (r ∷ rs) ≡ if_here (cond b (Some r) (first_where P rs))) [
     | true ↦ λ e. (elim (H r) as (λ b. H r ≡ b → cond b (Some r) (first_where H rs) ≡ cond b (Some r) None) [
@@ -174,27 +161,27 @@ module _ {T : Type 0} (order : T → T → Ordering) (place : T → Ordering) (m
     | false ↦ λ e. ap (λ b. cond b (Some r) (first_where H rs)) (is_false (H r) (λ g. true_false (P r) (node_here r g) e)) ∙ found rs h.1
   ]) refl
 
-  pub node_is : (r : NodeRef) (v : T) → value_of m r.name ≡ Some v → is_node_at place m r ≡ is_eq (place v)
+  pub node_is : (r : Ref) → IsHeld m r → is_node_at place m r ≡ is_eq (place_at place (value_of m r.name))
   unfolding is_node_at
-  node_is r v e = ap (is_value_at place) e
+  node_is r h = let v = held_has m r h in ap (is_value_at place) v.1 ∙ ap (λ o. is_eq (place_at place o)) (sym v.1)
 
   -- what `find` answers, by what `lower` gives
-  pub found_none : (rs : List NodeRef) → Rising (side order m) rs → None ≡ first_where (is_past_node false place m) rs → None ≡ first_where (is_node_at place m) rs
+  pub found_none : (rs : List Ref) → Rising (side order m s) rs → None ≡ first_where (is_past_node false place m) rs → None ≡ first_where (is_node_at place m) rs
   found_none rs h e = ap if_here e ∙ sym (found rs h)
 
-  pub found_some : (rs : List NodeRef) (r : NodeRef) → Rising (side order m) rs → Some r ≡ first_where (is_past_node false place m) rs → is_node_at place m r ≡ true → Some r ≡ first_where (is_node_at place m) rs
+  pub found_some : (rs : List Ref) (r : Ref) → Rising (side order m s) rs → Some r ≡ first_where (is_past_node false place m) rs → is_node_at place m r ≡ true → Some r ≡ first_where (is_node_at place m) rs
   found_some rs r h e g = sym (ap (λ b. cond b (Some r) None) g) ∙ ap if_here e ∙ sym (found rs h)
 
-  pub found_other : (rs : List NodeRef) (r : NodeRef) → Rising (side order m) rs → Some r ≡ first_where (is_past_node false place m) rs → is_node_at place m r ≡ false → None ≡ first_where (is_node_at place m) rs
+  pub found_other : (rs : List Ref) (r : Ref) → Rising (side order m s) rs → Some r ≡ first_where (is_past_node false place m) rs → is_node_at place m r ≡ false → None ≡ first_where (is_node_at place m) rs
   found_other rs r h e g = sym (ap (λ b. cond b (Some r) None) g) ∙ ap if_here e ∙ sym (found rs h)
 
-some_one : (r q : NodeRef) → Some r ≡ Some q → r ≡ q
+some_one : (r q : Ref) → Some r ≡ Some q → r ≡ q
 some_one r q e = cc
 
-none_one : (r : NodeRef) → Some r ≡ None → ⊥
+none_one : (r : Ref) → Some r ≡ None → ⊥
 none_one r e = cc
 
-first_held : {T : Type 0} (m : Pooled T) (f : NodeRef → Bool) (rs : List NodeRef) (r : NodeRef) → AllHeld m rs → Some r ≡ first_where f rs → IsHeld m r
+first_held : {T : Type 0} (m : Pooled T) (f : Ref → Bool) (rs : List Ref) (r : Ref) → AllHeld m rs → Some r ≡ first_where f rs → IsHeld m r
 first_held m f [] r h e = absurd (none_one r e)
 first_held m f (q ∷ rs) r h e = (elim (f q) as (λ b. Some r ≡ cond b (Some q) (first_where f rs) → IsHeld m r) [
   | true ↦ λ k. subst (IsHeld m) (sym (some_one r q k)) h.0
@@ -202,12 +189,133 @@ first_held m f (q ∷ rs) r h e = (elim (f q) as (λ b. Some r ≡ cond b (Some 
 ]) e
 
 -- what is found stands in the pool
-pub found_held : {T : Type 0} (m : Pooled T) (s : ℕ) (t : Shape) (f : NodeRef → Bool) (r : NodeRef) → Stands m s t → Some r ≡ first_where f (nodes t) → IsHeld m r
+pub found_held : {T : Type 0} (m : Pooled T) (s : ℕ) (t : Shape) (f : Ref → Bool) (r : Ref) → Stands m s t → Some r ≡ first_where f (nodes t) → IsHeld m r
 found_held m s t f r h e = first_held m f (nodes t) r (all_held m s t h) e
 
--- ranks
-pub rank_here : (A xs : List NodeRef) → A ≡ xs → length A ≡ length xs
-rank_here A xs e = ap length e
+or_none : (o : Option Ref) → o ≡ or_found o None
+or_none None = refl
+or_none (Some r) = refl
 
-pub rank_right : (A : List NodeRef) (r : NodeRef) (zs xs : List NodeRef) → xs ≡ A ++ r ∷ zs → length xs ≡ length A + 1 + length zs
-rank_right A r zs xs e = let a = ap length e in let b = length-append A (r ∷ zs) in omega arith
+-- the way of a search: what is found in the whole is found below, or was found before
+module _ {T : Type 0} where
+  pub record Seeking (m : Pooled T) (s : ℕ) (tag : T → ℕ) (f : Ref → Bool) (root at found : Option Ref) (read0 read step0 step : ℕ) : Type 0 where
+    pub t : Shape
+    pub u : Shape
+    pub whole : IsRooted m s root t
+    pub rooted : IsRooted m s at u
+    pub tagged : AreTagged tag m s (nodes u)
+    pub steady : IsSteady f (nodes u)
+    pub is : first_where f (nodes t) ≡ or_found (first_where f (nodes u)) found
+    pub reads : read + height u ≤ read0 + height t
+    pub steps : step + height u ≤ step0 + height t
+
+  module _ (m : Pooled T) (s : ℕ) (tag : T → ℕ) (f : Ref → Bool) (root : Option Ref) where
+    pub seek_start : (t : Shape) → IsRooted m s root t → AreTagged tag m s (nodes t) → IsSteady f (nodes t) → (a b : ℕ) → Seeking m s tag f root root None a a b b
+    seek_start t h g k a b = record { t = t; u = t; whole = h; rooted = h; tagged = g; steady = k; is = or_none (first_where f (nodes t)); reads = omega arith; steps = omega arith }
+
+    module _ (at : Option Ref) (r : Ref) (y : Link) (found : Option Ref) (a b c d : ℕ) (h : Seeking m s tag f root at found a b c d) (e : at ≡ Some r) (i : y ≡ link_of m r.name s) where
+      pub seek_held : IsHeld m r
+      seek_held = (sides m s at r y h.u h.rooted e i).held
+
+      pub seek_tag : HasTag tag m s r
+      seek_tag = let o = sides m s at r y h.u h.rooted e i in (tagged_right tag m s (nodes o.A) (r ∷ nodes o.B) (subst (λ k. AreTagged tag m s (nodes k)) o.is h.tagged)).0
+
+      pub seek_lower : (height_at m s y.back < height_at m s at) × (height_at m s y.forth < height_at m s at)
+      seek_lower = let o = sides m s at r y h.u h.rooted e i in let n = height-root m s at h.u h.rooted in let p = o.left_lower in let q = o.right_lower in (omega arith, omega arith)
+
+      pub seek_left : f r ≡ true → Seeking m s tag f root y.back (Some r) a (b + 1) c (d + 1)
+      seek_left p = let o = sides m s at r y h.u h.rooted e i in let n = h.reads in let k = h.steps in let w = o.height_is in record {
+        t = h.t;
+        u = o.A;
+        whole = h.whole;
+        rooted = o.left;
+        tagged = tagged_left tag m s (nodes o.A) (r ∷ nodes o.B) (subst (λ k. AreTagged tag m s (nodes k)) o.is h.tagged);
+        steady = steady_left f (nodes o.A) (r ∷ nodes o.B) (subst (λ k. IsSteady f (nodes k)) o.is h.steady);
+        is = h.is ∙ ap (λ k. or_found (first_where f (nodes k)) found) o.is ∙ first_or f (nodes o.A) r (nodes o.B) found p;
+        reads = omega arith;
+        steps = omega arith;
+      }
+
+      pub seek_right : f r ≡ false → Seeking m s tag f root y.forth found a (b + 1) c (d + 1)
+      seek_right p = let o = sides m s at r y h.u h.rooted e i in let n = h.reads in let k = h.steps in let w = o.height_is in let all = subst (λ k. IsSteady f (nodes k)) o.is h.steady in record {
+        t = h.t;
+        u = o.B;
+        whole = h.whole;
+        rooted = o.right;
+        tagged = (tagged_right tag m s (nodes o.A) (r ∷ nodes o.B) (subst (λ k. AreTagged tag m s (nodes k)) o.is h.tagged)).1;
+        steady = (steady_right f (nodes o.A) (r ∷ nodes o.B) all).1;
+        is = h.is ∙ ap (λ k. or_found (first_where f (nodes k)) found) o.is ∙ ap (λ k. or_found k found) (first_after f (nodes o.A) r (nodes o.B) p all);
+        reads = omega arith;
+        steps = omega arith;
+      }
+
+    pub seek_end : (at found : Option Ref) (a b c d : ℕ) (h : Seeking m s tag f root at found a b c d) → at ≡ None → (t : Shape) → IsRooted m s root t → (found ≡ first_where f (nodes t)) × (b ≤ a + height t) × (d ≤ c + height t)
+    seek_end at found a b c d h e t w =
+        let same = same_tree m s root t h.t w h.whole in let tall = ap height same in let n = h.reads in let k = h.steps in let tip = tip_is m s h.u (moved m m s at None h.u refl e h.rooted) in
+        (sym (ap (λ k. first_where f (nodes k)) same ∙ h.is ∙ ap (λ k. or_found (first_where f (nodes k)) found) tip), omega arith, omega arith)
+
+  -- the way to a node of an index
+  pub record Counting (m : Pooled T) (s : ℕ) (root at : Option Ref) (n0 n read0 read : ℕ) : Type 0 where
+    pub t : Shape
+    pub u : Shape
+    pub whole : IsRooted m s root t
+    pub rooted : IsRooted m s at u
+    pub is : nth_of (nodes t) n0 ≡ nth_of (nodes u) n
+    pub reads : read + 2 * height u ≤ read0 + 2 * height t
+
+  module _ (m : Pooled T) (s : ℕ) (root : Option Ref) (n0 : ℕ) where
+    pub count_start : (t : Shape) → IsRooted m s root t → (a : ℕ) → Counting m s root root n0 n0 a a
+    count_start t h a = record { t = t; u = t; whole = h; rooted = h; is = refl; reads = omega arith }
+
+    module _ (at : Option Ref) (r : Ref) (y : Link) (n a b : ℕ) (h : Counting m s root at n0 n a b) (e : at ≡ Some r) (i : y ≡ link_of m r.name s) where
+      pub count_sides : Sides m s r y h.u
+      count_sides = sides m s at r y h.u h.rooted e i
+
+      pub count_lower : (height_at m s y.back < height_at m s at) × (height_at m s y.forth < height_at m s at)
+      count_lower = let o = count_sides in let k = height-root m s at h.u h.rooted in let p = o.left_lower in let q = o.right_lower in (omega arith, omega arith)
+
+      module _ (c : ℕ) (low : c ≤ b + 2) where
+        pub count_here : n ≡ size_at m s y.back → (t : Shape) → IsRooted m s root t → (Some r ≡ nth_of (nodes t) n0) × (c ≤ a + 2 * height t)
+        count_here f t w =
+            let o = count_sides in let k = size-root m s y.back o.A o.left in let j = size-nodes o.A in let q : n ≡ length (nodes o.A) = omega arith in
+            let same = same_tree m s root t h.t w h.whole in let tall = ap height same in let z = h.reads in let g = o.height_is in
+            (sym (ap (λ k. nth_of (nodes k) n0) same ∙ h.is ∙ ap (λ k. nth_of (nodes k) n) o.is ∙ ap (nth_of (nodes o.A ++ r ∷ nodes o.B)) q ∙ nth-at (nodes o.A) r (nodes o.B)), omega arith)
+
+        pub count_left : n < size_at m s y.back → Counting m s root y.back n0 n a c
+        count_left f = let o = count_sides in let k = size-root m s y.back o.A o.left in let j = size-nodes o.A in let z = h.reads in let g = o.height_is in record {
+          t = h.t;
+          u = o.A;
+          whole = h.whole;
+          rooted = o.left;
+          is = h.is ∙ ap (λ k. nth_of (nodes k) n) o.is ∙ nth-before (nodes o.A) r (nodes o.B) n (omega arith);
+          reads = omega arith;
+        }
+
+        pub count_right : (d : ℕ) → n ≡ suc (size_at m s y.back + d) → Counting m s root y.forth n0 d a c
+        count_right d f =
+            let o = count_sides in let k = size-root m s y.back o.A o.left in let j = size-nodes o.A in let z = h.reads in let g = o.height_is in let q : n ≡ suc (length (nodes o.A) + d) = omega arith in record {
+              t = h.t;
+              u = o.B;
+              whole = h.whole;
+              rooted = o.right;
+              is = h.is ∙ ap (λ k. nth_of (nodes k) n) o.is ∙ ap (nth_of (nodes o.A ++ r ∷ nodes o.B)) q ∙ nth-after (nodes o.A) r (nodes o.B) d;
+              reads = omega arith;
+            }
+
+    pub count_end : (at : Option Ref) (n a b : ℕ) (h : Counting m s root at n0 n a b) → at ≡ None → (t : Shape) → IsRooted m s root t → (None ≡ nth_of (nodes t) n0) × (b ≤ a + 2 * height t)
+    count_end at n a b h e t w =
+        let same = same_tree m s root t h.t w h.whole in let tall = ap height same in let k = h.reads in let tip = tip_is m s h.u (moved m m s at None h.u refl e h.rooted) in
+        (sym (ap (λ k. nth_of (nodes k) n0) same ∙ h.is ∙ ap (λ k. nth_of (nodes k) n) tip), omega arith)
+
+-- and has the tag of its value
+pub found_tag : {T : Type 0} (tag : T → ℕ) (m : Pooled T) (s : ℕ) (f : Ref → Bool) (rs : List Ref) (r : Ref) → AreTagged tag m s rs → Some r ≡ first_where f rs → HasTag tag m s r
+found_tag tag m s f [] r h e = absurd (none_one r e)
+found_tag tag m s f (q ∷ rs) r h e = (elim (f q) as (λ b. Some r ≡ cond b (Some q) (first_where f rs) → HasTag tag m s r) [
+  | true ↦ λ k. subst (HasTag tag m s) (sym (some_one r q k)) h.0
+  | false ↦ λ k. found_tag tag m s f rs r h.1 k
+]) e
+
+-- what is found is among some
+pub some_found : (f : Ref → Bool) (rs : List Ref) (r : Ref) → Some r ≡ first_where f rs → 1 ≤ length rs
+some_found f [] r e = absurd (none_one r e)
+some_found f (q ∷ rs) r e = omega arith

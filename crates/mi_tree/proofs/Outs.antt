@@ -1,11 +1,10 @@
 -- Names that stand apart, in lists and in trees.
 use Rattle.std.proofs.Common.{List, ◌∷◌, ◌++◌, sym, subst, append_assoc}
-use Rattle.mi_node.specs.declared.heap.NodeRef.{NodeRef}
-use Rattle.mi_node.specs.Refs.{IsOut, IsApart}
+use Rattle.mi_node.specs.Refs.{Ref, IsOut, IsApart}
 use Rattle.mi_node.proofs.Refs.{out_left, out_right, between}
 
 -- three lists with nodes between them
-pub record Thrice (A : List NodeRef) (x : NodeRef) (B : List NodeRef) (y : NodeRef) (C : List NodeRef) : Type 0 where
+pub record Thrice (A : List Ref) (x : Ref) (B : List Ref) (y : Ref) (C : List Ref) : Type 0 where
   pub x_A : IsOut x.name A
   pub x_BC : IsOut x.name (B ++ y ∷ C)
   pub x_B : IsOut x.name B
@@ -16,7 +15,7 @@ pub record Thrice (A : List NodeRef) (x : NodeRef) (B : List NodeRef) (y : NodeR
   pub y_C : IsOut y.name C
   pub right : IsApart C
 
-pub thrice : (A : List NodeRef) (x : NodeRef) (B : List NodeRef) (y : NodeRef) (C : List NodeRef) → IsApart (A ++ x ∷ (B ++ y ∷ C)) → Thrice A x B y C
+pub thrice : (A : List Ref) (x : Ref) (B : List Ref) (y : Ref) (C : List Ref) → IsApart (A ++ x ∷ (B ++ y ∷ C)) → Thrice A x B y C
 thrice A x B y C h =
     let p = between A x (B ++ y ∷ C) h in
     let q = between B y C p.right in

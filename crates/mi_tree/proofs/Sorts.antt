@@ -1,12 +1,14 @@
 -- Lists in order, and where a node stands in one.
-use Rattle.std.proofs.Common.{◌≡◌, List, [], ◌∷◌, ◌++◌, Option, Some, None, refl, sym, ap, ◌∙◌, subst, append_assoc}
+use Rattle.std.proofs.Common.{◌≡◌, ℕ, List, [], ◌∷◌, ◌++◌, Option, Some, None, refl, sym, ap, ◌∙◌, subst, append_assoc}
 use Rattle.std.specs.declared.cmp.Ordering.{Ordering}
 use Rattle.std.specs.declared.cmp.Ordering.TheVariants.{Less, Equal, Greater}
 use Rattle.std.specs.Ordering.{ordering_reverse}
 use Rattle.std.specs.Cmp.{IsTotalOrder}
-use Rattle.mi_node.specs.Pool.{Pooled, value_of}
-use Rattle.mi_node.specs.declared.heap.NodeRef.{NodeRef}
-use Rattle.mi_tree.specs.Sorted.{AllAre, NoneAre, Rising, IsPutIn, compared, side}
+use Rattle.std.proofs.lemmas.Cmp.{then_total, on_total, nat_cmp_total}
+use Rattle.mi_node.specs.Pool.{Pooled, value_of, link_of}
+use Rattle.mi_node.specs.declared.link.Tag.{Tag}
+use Rattle.mi_node.specs.Refs.{Ref}
+use Rattle.mi_tree.specs.Sorted.{AllAre, NoneAre, Rising, IsPutIn, IsTagOf, HasTag, AreTagged, compared, by_stamp, stamped, item_of, side}
 
 less_equal : Less ≡ Equal → ⊥
 less_equal e = cc
@@ -18,33 +20,65 @@ greater_equal : Greater ≡ Equal → ⊥
 greater_equal e = cc
 
 -- what is needed of the order on nodes
-pub record IsOrder (R : NodeRef → NodeRef → Ordering) : Type 0 where
-  pub antisymm : (x y : NodeRef) → R x y ≡ ordering_reverse (R y x)
-  pub trans : (x y z : NodeRef) → R x y ≡ Less → R y z ≡ Less → R x z ≡ Less
+pub record IsOrder (R : Ref → Ref → Ordering) : Type 0 where
+  pub antisymm : (x y : Ref) → R x y ≡ ordering_reverse (R y x)
+  pub trans : (x y z : Ref) → R x y ≡ Less → R y z ≡ Less → R x z ≡ Less
 
-module _ {T : Type 0} where
-  compared_antisymm : (order : T → T → Ordering) → IsTotalOrder order → (a b : Option T) → compared order a b ≡ ordering_reverse (compared order b a)
+module _ {X : Type 0} where
+  compared_antisymm : (order : X → X → Ordering) → IsTotalOrder order → (a b : Option X) → compared order a b ≡ ordering_reverse (compared order b a)
   compared_antisymm order o None None = refl
   compared_antisymm order o None (Some y) = refl
   compared_antisymm order o (Some x) None = refl
   compared_antisymm order o (Some x) (Some y) = o.antisymm x y
 
-  compared_trans : (order : T → T → Ordering) → IsTotalOrder order → (a b c : Option T) → compared order a b ≡ Less → compared order b c ≡ Less → compared order a c ≡ Less
+  compared_trans : (order : X → X → Ordering) → IsTotalOrder order → (a b c : Option X) → compared order a b ≡ Less → compared order b c ≡ Less → compared order a c ≡ Less
   compared_trans order o None b c e f = absurd (less_equal (sym e))
   compared_trans order o (Some x) None c e f = absurd (less_equal (sym e))
   compared_trans order o (Some x) (Some y) None e f = absurd (less_equal (sym f))
   compared_trans order o (Some x) (Some y) (Some z) e f = o.trans x y z e f
 
-  pub side_order : (order : T → T → Ordering) (m : Pooled T) → IsTotalOrder order → IsOrder (side order m)
+module _ {T : Type 0} where
+  pub by_stamp_total : (order : T → T → Ordering) → IsTotalOrder order → IsTotalOrder (by_stamp order)
+  by_stamp_total order o = then_total (on_total (λ (x : T × ℕ). x.0) o) (on_total (λ (x : T × ℕ). x.1) nat_cmp_total)
+
+  pub side_order : (order : T → T → Ordering) (m : Pooled T) (s : ℕ) → IsTotalOrder order → IsOrder (side order m s)
   unfolding side
-  side_order order m o = record {
-    antisymm = λ a b. compared_antisymm order o (value_of m a.name) (value_of m b.name);
-    trans = λ a b c e f. compared_trans order o (value_of m a.name) (value_of m b.name) (value_of m c.name) e f;
+  side_order order m s o = let b = by_stamp_total order o in record {
+    antisymm = λ x y. compared_antisymm (by_stamp order) b (item_of m s x.name) (item_of m s y.name);
+    trans = λ x y z e f. compared_trans (by_stamp order) b (item_of m s x.name) (item_of m s y.name) (item_of m s z.name) e f;
   }
 
-  pub side_is : (order : T → T → Ordering) (m : Pooled T) (a b : NodeRef) (x y : T) → value_of m a.name ≡ Some x → value_of m b.name ≡ Some y → side order m a b ≡ order x y
+  -- two nodes, by what was read of their links
+  pub side_is : (order : T → T → Ordering) (m : Pooled T) (s : ℕ) (a b : Ref) (y z : Tag) → y ≡ (link_of m a.name s).tag → z ≡ (link_of m b.name s).tag
+      → side order m s a b ≡ compared (by_stamp order) (stamped (value_of m a.name) y.stamp) (stamped (value_of m b.name) z.stamp)
+  unfolding side item_of
+  side_is order m s a b y z e f = λ i. compared (by_stamp order) (stamped (value_of m a.name) (sym e i).stamp) (stamped (value_of m b.name) (sym f i).stamp)
+
+  -- what a tree's nodes are, where neither values nor tags changed
+  pub item_kept : (m n : Pooled T) (s k : ℕ) → value_of n k ≡ value_of m k → (link_of n k s).tag ≡ (link_of m k s).tag → item_of n s k ≡ item_of m s k
+  unfolding item_of
+  item_kept m n s k e f = λ i. stamped (e i) (f i).stamp
+
+  pub side_kept : (order : T → T → Ordering) (m n : Pooled T) (s : ℕ) (a b : Ref) → item_of n s a.name ≡ item_of m s a.name → item_of n s b.name ≡ item_of m s b.name → side order n s a b ≡ side order m s a b
   unfolding side
-  side_is order m a b x y e f = λ i. compared order (e i) (f i)
+  side_kept order m n s a b e f = λ i. compared (by_stamp order) (e i) (f i)
+
+  pub has_tag_kept : (tag : T → ℕ) (m n : Pooled T) (s : ℕ) (r : Ref) → value_of n r.name ≡ value_of m r.name → (link_of n r.name s).tag ≡ (link_of m r.name s).tag → HasTag tag m s r → HasTag tag n s r
+  has_tag_kept tag m n s r e f h = subst (λ (z : Option T × Tag). IsTagOf tag z.0 z.1.key) (λ i. (sym e i, sym f i)) h
+
+-- tags of a list's parts
+module _ {T : Type 0} (tag : T → ℕ) (m : Pooled T) (s : ℕ) where
+  pub tagged_left : (xs ys : List Ref) → AreTagged tag m s (xs ++ ys) → AreTagged tag m s xs
+  tagged_left [] ys h = tt
+  tagged_left (x ∷ xs) ys h = (h.0, tagged_left xs ys h.1)
+
+  pub tagged_right : (xs ys : List Ref) → AreTagged tag m s (xs ++ ys) → AreTagged tag m s ys
+  tagged_right [] ys h = h
+  tagged_right (x ∷ xs) ys h = tagged_right xs ys h.1
+
+  pub tagged_both : (xs ys : List Ref) → AreTagged tag m s xs → AreTagged tag m s ys → AreTagged tag m s (xs ++ ys)
+  tagged_both [] ys g h = h
+  tagged_both (x ∷ xs) ys g h = (g.0, tagged_both xs ys g.1 h)
 
 pub greater_of : (o : Ordering) → (o ≡ Less → ⊥) → (o ≡ Equal → ⊥) → o ≡ Greater
 greater_of Less f g = absurd (f refl)
@@ -52,56 +86,56 @@ greater_of Equal f g = absurd (g refl)
 greater_of Greater f g = refl
 
 -- lists of nodes that compare alike
-pub are_left : (f : NodeRef → Ordering) (o : Ordering) (xs ys : List NodeRef) → AllAre f o (xs ++ ys) → AllAre f o xs
+pub are_left : (f : Ref → Ordering) (o : Ordering) (xs ys : List Ref) → AllAre f o (xs ++ ys) → AllAre f o xs
 are_left f o [] ys h = tt
 are_left f o (x ∷ xs) ys h = (h.0, are_left f o xs ys h.1)
 
-pub are_right : (f : NodeRef → Ordering) (o : Ordering) (xs ys : List NodeRef) → AllAre f o (xs ++ ys) → AllAre f o ys
+pub are_right : (f : Ref → Ordering) (o : Ordering) (xs ys : List Ref) → AllAre f o (xs ++ ys) → AllAre f o ys
 are_right f o [] ys h = h
 are_right f o (x ∷ xs) ys h = are_right f o xs ys h.1
 
-pub are_both : (f : NodeRef → Ordering) (o : Ordering) (xs ys : List NodeRef) → AllAre f o xs → AllAre f o ys → AllAre f o (xs ++ ys)
+pub are_both : (f : Ref → Ordering) (o : Ordering) (xs ys : List Ref) → AllAre f o xs → AllAre f o ys → AllAre f o (xs ++ ys)
 are_both f o [] ys g h = h
 are_both f o (x ∷ xs) ys g h = (g.0, are_both f o xs ys g.1 h)
 
-pub none_left : (f : NodeRef → Ordering) (o : Ordering) (xs ys : List NodeRef) → NoneAre f o (xs ++ ys) → NoneAre f o xs
+pub none_left : (f : Ref → Ordering) (o : Ordering) (xs ys : List Ref) → NoneAre f o (xs ++ ys) → NoneAre f o xs
 none_left f o [] ys h = tt
 none_left f o (x ∷ xs) ys h = (h.0, none_left f o xs ys h.1)
 
-pub none_right : (f : NodeRef → Ordering) (o : Ordering) (xs ys : List NodeRef) → NoneAre f o (xs ++ ys) → NoneAre f o ys
+pub none_right : (f : Ref → Ordering) (o : Ordering) (xs ys : List Ref) → NoneAre f o (xs ++ ys) → NoneAre f o ys
 none_right f o [] ys h = h
 none_right f o (x ∷ xs) ys h = none_right f o xs ys h.1
 
-pub rising_left : (R : NodeRef → NodeRef → Ordering) (xs ys : List NodeRef) → Rising R (xs ++ ys) → Rising R xs
+pub rising_left : (R : Ref → Ref → Ordering) (xs ys : List Ref) → Rising R (xs ++ ys) → Rising R xs
 rising_left R [] ys h = tt
 rising_left R (x ∷ xs) ys h = (are_left (R x) Less xs ys h.0, rising_left R xs ys h.1)
 
-pub rising_right : (R : NodeRef → NodeRef → Ordering) (xs ys : List NodeRef) → Rising R (xs ++ ys) → Rising R ys
+pub rising_right : (R : Ref → Ref → Ordering) (xs ys : List Ref) → Rising R (xs ++ ys) → Rising R ys
 rising_right R [] ys h = h
 rising_right R (x ∷ xs) ys h = rising_right R xs ys h.1
 
-module _ (R : NodeRef → NodeRef → Ordering) (o : IsOrder R) where
-  turned : (x y : NodeRef) → R x y ≡ Less → R y x ≡ Greater
+module _ (R : Ref → Ref → Ordering) (o : IsOrder R) where
+  turned : (x y : Ref) → R x y ≡ Less → R y x ≡ Greater
   turned x y e = o.antisymm y x ∙ ap ordering_reverse e
 
-  turned_back : (x y : NodeRef) → R x y ≡ Greater → R y x ≡ Less
+  turned_back : (x y : Ref) → R x y ≡ Greater → R y x ≡ Less
   turned_back x y e = o.antisymm y x ∙ ap ordering_reverse e
 
   -- before r, so before all that r is before
-  above_all : (x r : NodeRef) (ys : List NodeRef) → R x r ≡ Less → AllAre (R r) Less ys → AllAre (R x) Less ys
+  above_all : (x r : Ref) (ys : List Ref) → R x r ≡ Less → AllAre (R r) Less ys → AllAre (R x) Less ys
   above_all x r [] e h = tt
   above_all x r (y ∷ ys) e h = (o.trans x r y e h.0, above_all x r ys e h.1)
 
   -- in rising nodes, r is after all that stand to its left
-  pub left_below : (xs : List NodeRef) (r : NodeRef) (ys : List NodeRef) → Rising R (xs ++ r ∷ ys) → AllAre (R r) Greater xs
+  pub left_below : (xs : List Ref) (r : Ref) (ys : List Ref) → Rising R (xs ++ r ∷ ys) → AllAre (R r) Greater xs
   left_below [] r ys h = tt
   left_below (x ∷ xs) r ys h = (turned x r (are_right (R x) Less xs (r ∷ ys) h.0).0, left_below xs r ys h.1)
 
-  below_all : (x r : NodeRef) (xs : List NodeRef) → R x r ≡ Greater → AllAre (R r) Greater xs → AllAre (R x) Greater xs
+  below_all : (x r : Ref) (xs : List Ref) → R x r ≡ Greater → AllAre (R r) Greater xs → AllAre (R x) Greater xs
   below_all x r [] e h = tt
   below_all x r (y ∷ ys) e h = (turned y x (o.trans y r x (turned_back r y h.0) (turned_back x r e)), below_all x r ys e h.1)
 
-  pub put_left : (x : NodeRef) (L : List NodeRef) (r : NodeRef) (Q us : List NodeRef) → Rising R (L ++ r ∷ Q) → R x r ≡ Less → IsPutIn R x L us → IsPutIn R x (L ++ r ∷ Q) (us ++ r ∷ Q)
+  pub put_left : (x : Ref) (L : List Ref) (r : Ref) (Q us : List Ref) → Rising R (L ++ r ∷ Q) → R x r ≡ Less → IsPutIn (R x) x L us → IsPutIn (R x) x (L ++ r ∷ Q) (us ++ r ∷ Q)
   put_left x L r Q us h e p = record {
     xs = p.xs;
     ys = p.ys ++ r ∷ Q;
@@ -111,7 +145,7 @@ module _ (R : NodeRef → NodeRef → Ordering) (o : IsOrder R) where
     above = are_both (R x) Less p.ys (r ∷ Q) p.above (e, above_all x r Q e (rising_right R L (r ∷ Q) h).0);
   }
 
-  pub put_right : (x : NodeRef) (L : List NodeRef) (r : NodeRef) (Q us : List NodeRef) → Rising R (L ++ r ∷ Q) → R x r ≡ Greater → IsPutIn R x Q us → IsPutIn R x (L ++ r ∷ Q) (L ++ r ∷ us)
+  pub put_right : (x : Ref) (L : List Ref) (r : Ref) (Q us : List Ref) → Rising R (L ++ r ∷ Q) → R x r ≡ Greater → IsPutIn (R x) x Q us → IsPutIn (R x) x (L ++ r ∷ Q) (L ++ r ∷ us)
   put_right x L r Q us h e p = record {
     xs = L ++ r ∷ p.xs;
     ys = p.ys;
@@ -122,31 +156,31 @@ module _ (R : NodeRef → NodeRef → Ordering) (o : IsOrder R) where
   }
 
   -- what was in order is still
-  rising_both : (xs ys : List NodeRef) (x : NodeRef) → Rising R (xs ++ ys) → AllAre (R x) Greater xs → AllAre (R x) Less ys → Rising R (xs ++ x ∷ ys)
+  rising_both : (xs ys : List Ref) (x : Ref) → Rising R (xs ++ ys) → AllAre (R x) Greater xs → AllAre (R x) Less ys → Rising R (xs ++ x ∷ ys)
   rising_both [] ys x h b a = (a, h)
   rising_both (y ∷ xs) ys x h b a = (are_both (R y) Less xs (x ∷ ys) (are_left (R y) Less xs ys h.0) (turned_back x y b.0, are_right (R y) Less xs ys h.0), rising_both xs ys x h.1 b.1 a)
 
-  pub rising_put : (x : NodeRef) (rs us : List NodeRef) → Rising R rs → IsPutIn R x rs us → Rising R us
+  pub rising_put : (x : Ref) (rs us : List Ref) → Rising R rs → IsPutIn (R x) x rs us → Rising R us
   rising_put x rs us h p = subst (Rising R) (sym p.now) (rising_both p.xs p.ys x (subst (Rising R) p.was h) p.below p.above)
 
 -- where x stands in a list that is cut at r
-pub data Where (A : List NodeRef) (r : NodeRef) (C xs : List NodeRef) (x : NodeRef) (ys : List NodeRef) : Type 0 where
-  InLeft : (zs : List NodeRef) → A ≡ xs ++ x ∷ zs → ys ≡ zs ++ r ∷ C → Where A r C xs x ys
+pub data Where (A : List Ref) (r : Ref) (C xs : List Ref) (x : Ref) (ys : List Ref) : Type 0 where
+  InLeft : (zs : List Ref) → A ≡ xs ++ x ∷ zs → ys ≡ zs ++ r ∷ C → Where A r C xs x ys
   Here : A ≡ xs → r ≡ x → C ≡ ys → Where A r C xs x ys
-  InRight : (zs : List NodeRef) → xs ≡ A ++ r ∷ zs → C ≡ zs ++ x ∷ ys → Where A r C xs x ys
+  InRight : (zs : List Ref) → xs ≡ A ++ r ∷ zs → C ≡ zs ++ x ∷ ys → Where A r C xs x ys
 
-later : (a : NodeRef) (A : List NodeRef) (r : NodeRef) (C : List NodeRef) (z : NodeRef) (xs : List NodeRef) (x : NodeRef) (ys : List NodeRef) → a ≡ z → Where A r C xs x ys → Where (a ∷ A) r C (z ∷ xs) x ys
+later : (a : Ref) (A : List Ref) (r : Ref) (C : List Ref) (z : Ref) (xs : List Ref) (x : Ref) (ys : List Ref) → a ≡ z → Where A r C xs x ys → Where (a ∷ A) r C (z ∷ xs) x ys
 later a A r C z xs x ys e (InLeft zs f g) = InLeft zs (λ i. e i ∷ f i) g
 later a A r C z xs x ys e (Here f g h) = Here (λ i. e i ∷ f i) g h
 later a A r C z xs x ys e (InRight zs f g) = InRight zs (λ i. sym e i ∷ f i) g
 
-first_same : (a b : NodeRef) (us vs : List NodeRef) → a ∷ us ≡ b ∷ vs → a ≡ b
+first_same : (a b : Ref) (us vs : List Ref) → a ∷ us ≡ b ∷ vs → a ≡ b
 first_same a b us vs e = cc
 
-rest_same : (a b : NodeRef) (us vs : List NodeRef) → a ∷ us ≡ b ∷ vs → us ≡ vs
+rest_same : (a b : Ref) (us vs : List Ref) → a ∷ us ≡ b ∷ vs → us ≡ vs
 rest_same a b us vs e = cc
 
-pub where_is : (A : List NodeRef) (r : NodeRef) (C xs : List NodeRef) (x : NodeRef) (ys : List NodeRef) → A ++ r ∷ C ≡ xs ++ x ∷ ys → Where A r C xs x ys
+pub where_is : (A : List Ref) (r : Ref) (C xs : List Ref) (x : Ref) (ys : List Ref) → A ++ r ∷ C ≡ xs ++ x ∷ ys → Where A r C xs x ys
 where_is [] r C [] x ys e = Here refl (first_same r x C ys e) (rest_same r x C ys e)
 where_is [] r C (z ∷ xs) x ys e = InRight xs (ap (λ k. k ∷ xs) (sym (first_same r z C (xs ++ x ∷ ys) e))) (rest_same r z C (xs ++ x ∷ ys) e)
 where_is (a ∷ A) r C [] x ys e = InLeft A (ap (λ k. k ∷ A) (first_same a x (A ++ r ∷ C) ys e)) (sym (rest_same a x (A ++ r ∷ C) ys e))
@@ -157,22 +191,22 @@ reversed_less Less e = absurd (less_greater e)
 reversed_less Equal e = refl
 reversed_less Greater e = absurd (less_greater (sym e))
 
-pub self_equal : (R : NodeRef → NodeRef → Ordering) → IsOrder R → (x : NodeRef) → R x x ≡ Equal
+pub self_equal : (R : Ref → Ref → Ordering) → IsOrder R → (x : Ref) → R x x ≡ Equal
 self_equal R o x = reversed_less (R x x) (o.antisymm x x)
 
-module _ (R : NodeRef → NodeRef → Ordering) (o : IsOrder R) (A : List NodeRef) (r : NodeRef) (C xs : List NodeRef) (x : NodeRef) (ys : List NodeRef) (h : Rising R (A ++ r ∷ C)) where
-  left_less : (zs : List NodeRef) → A ≡ xs ++ x ∷ zs → R x r ≡ Less
+module _ (R : Ref → Ref → Ordering) (o : IsOrder R) (A : List Ref) (r : Ref) (C xs : List Ref) (x : Ref) (ys : List Ref) (h : Rising R (A ++ r ∷ C)) where
+  left_less : (zs : List Ref) → A ≡ xs ++ x ∷ zs → R x r ≡ Less
   left_less zs e =
       let all = subst (Rising R) (ap (λ v. v ++ r ∷ C) e ∙ append_assoc xs (x ∷ zs) (r ∷ C)) h in
       (are_right (R x) Less zs (r ∷ C) (rising_right R xs (x ∷ (zs ++ r ∷ C)) all).0).0
 
-  right_more : (zs : List NodeRef) → C ≡ zs ++ x ∷ ys → R x r ≡ Greater
+  right_more : (zs : List Ref) → C ≡ zs ++ x ∷ ys → R x r ≡ Greater
   right_more zs e = turned R o r x (are_right (R r) Less zs (x ∷ ys) (subst (AllAre (R r) Less) e (rising_right R A (r ∷ C) h).0)).0
 
   here_equal : r ≡ x → R x r ≡ Equal
   here_equal e = reversed_less (R x r) (ap (R x) e ∙ o.antisymm x x ∙ ap (λ k. ordering_reverse (R x k)) (sym e))
 
-  pub go_left : R x r ≡ Less → Where A r C xs x ys → (zs : List NodeRef) × (A ≡ xs ++ x ∷ zs) × (ys ≡ zs ++ r ∷ C)
+  pub go_left : R x r ≡ Less → Where A r C xs x ys → (zs : List Ref) × (A ≡ xs ++ x ∷ zs) × (ys ≡ zs ++ r ∷ C)
   go_left e (InLeft zs f g) = (zs, f, g)
   go_left e (Here f g k) = absurd (less_equal (sym e ∙ here_equal g))
   go_left e (InRight zs f g) = absurd (less_greater (sym e ∙ right_more zs g))
@@ -182,11 +216,11 @@ module _ (R : NodeRef → NodeRef → Ordering) (o : IsOrder R) (A : List NodeRe
   go_here e (Here f g k) = (f, g, k)
   go_here e (InRight zs f g) = absurd (greater_equal (sym (right_more zs g) ∙ e))
 
-  pub go_right : R x r ≡ Greater → Where A r C xs x ys → (zs : List NodeRef) × (xs ≡ A ++ r ∷ zs) × (C ≡ zs ++ x ∷ ys)
+  pub go_right : R x r ≡ Greater → Where A r C xs x ys → (zs : List Ref) × (xs ≡ A ++ r ∷ zs) × (C ≡ zs ++ x ∷ ys)
   go_right e (InLeft zs f g) = absurd (less_greater (sym (left_less zs f) ∙ e))
   go_right e (Here f g k) = absurd (greater_equal (sym e ∙ here_equal g))
   go_right e (InRight zs f g) = (zs, f, g)
 
-pub none_here : (xs : List NodeRef) (x : NodeRef) (ys : List NodeRef) → [] ≡ xs ++ x ∷ ys → ⊥
+pub none_here : (xs : List Ref) (x : Ref) (ys : List Ref) → [] ≡ xs ++ x ∷ ys → ⊥
 none_here [] x ys e = cc
 none_here (z ∷ xs) x ys e = cc

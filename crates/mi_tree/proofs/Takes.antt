@@ -1,13 +1,12 @@
 -- A node less in a subtree, and then in the whole.
-use Rattle.std.proofs.Common.{◌≡◌, ℕ, ◌+◌, ◌^◌, ◌<◌, ◌≤◌, max, List, [], ◌∷◌, ◌++◌, length, Option, Some, None, refl, sym, ap, ◌∙◌, subst, arith, append_assoc, length-append}
+use Rattle.std.proofs.Common.{◌≡◌, ℕ, Bool, true, false, ◌+◌, ◌-◌, ◌^◌, ◌<◌, ◌≤◌, max, List, [], ◌∷◌, ◌++◌, length, Option, Some, None, refl, sym, ap, ◌∙◌, subst, arith, append_assoc, length-append}
 use Rattle.mi_node.specs.Pool.{Pooled, link_of, IsHeld, Keeps}
-use Rattle.mi_node.specs.declared.heap.NodeRef.{NodeRef}
 use Rattle.mi_node.specs.declared.link.Link.{Link}
-use Rattle.mi_node.specs.Refs.{IsOut, IsApart}
+use Rattle.mi_node.specs.Refs.{Ref, IsOut, IsApart}
 use Rattle.mi_node.proofs.Refs.{out_left, out_right, out_both, apart_right, apart_across, apart_remove, between, are_out_flip}
 use Rattle.mi_node.proofs.Keeping.{keeps_then, keeps_more, keeps_none, held_kept}
 use Rattle.mi_tree.specs.Shape.{Shape, Tip, Fork, nodes, size, height, DifferByAtMost, IsEven, Stands, height_at}
-use Rattle.mi_tree.specs.Joining.{AreSides, IsBalanced}
+use Rattle.mi_tree.specs.Joining.{AreSides, IsBalanced, Says}
 use Rattle.mi_tree.specs.Sorted.{CanTake, HasTaken, AreEnds, AreAppended}
 use Rattle.mi_tree.proofs.Shapes.{moved, opened, tip_is, height-root, size-nodes}
 use Rattle.mi_tree.proofs.Joins.{rooted_kept}
@@ -25,33 +24,42 @@ pub met : (l q u t : ℕ) → DifferByAtMost 1 l q → u ≤ q → q ≤ u + 1 �
 met l q u t d a b low high tight = (grind arith, grind arith, grind arith)
 
 -- one node less is one less in size
-pub less_size : (t u : Shape) (xs : List NodeRef) (x : NodeRef) (ys : List NodeRef) → nodes t ≡ xs ++ x ∷ ys → nodes u ≡ xs ++ ys → size t ≡ size u + 1
+pub less_size : (t u : Shape) (xs : List Ref) (x : Ref) (ys : List Ref) → nodes t ≡ xs ++ x ∷ ys → nodes u ≡ xs ++ ys → size t ≡ size u + 1
 less_size t u xs x ys e f =
     let a = size-nodes t in let b = size-nodes u in let c = ap length e in let d = ap length f in let i = length-append xs (x ∷ ys) in let j = length-append xs ys in omega arith
 
 -- what is out of a list is out of it without a node
-pub out_less : (k : ℕ) (xs : List NodeRef) (x : NodeRef) (ys : List NodeRef) → IsOut k (xs ++ x ∷ ys) → IsOut k (xs ++ ys)
+pub out_less : (k : ℕ) (xs : List Ref) (x : Ref) (ys : List Ref) → IsOut k (xs ++ x ∷ ys) → IsOut k (xs ++ ys)
 out_less k xs x ys o = out_both k xs ys (out_left k xs (x ∷ ys) o) (out_right k xs (x ∷ ys) o).1
 
 -- a part of a list apart from others
-pub apart_less : (xs : List NodeRef) (x : NodeRef) (ys : List NodeRef) → IsApart (xs ++ x ∷ ys) → IsApart (xs ++ ys)
+pub apart_less : (xs : List Ref) (x : Ref) (ys : List Ref) → IsApart (xs ++ x ∷ ys) → IsApart (xs ++ ys)
 apart_less xs x ys a = (apart_remove xs x ys a).0
 
-nothing_after : (rs : List NodeRef) → rs ++ [] ≡ rs
+pub true_is : true ≡ false → ⊥
+true_is e = cc
+
+fork_left : (A : Shape) (r : Ref) (B l : Shape) (x : Ref) (q : Shape) → Fork A r B ≡ Fork l x q → A ≡ l
+fork_left A r B l x q e = cc
+
+fork_right : (A : Shape) (r : Ref) (B l : Shape) (x : Ref) (q : Shape) → Fork A r B ≡ Fork l x q → B ≡ q
+fork_right A r B l x q e = cc
+
+nothing_after : (rs : List Ref) → rs ++ [] ≡ rs
 nothing_after [] = refl
 nothing_after (r ∷ rs) = ap (λ l. r ∷ l) (nothing_after rs)
 
 module _ {T : Type 0} where
   -- every node of a tree that stands is held
-  abbrev AreHeld : Pooled T → List NodeRef → Type 0
+  abbrev AreHeld : Pooled T → List Ref → Type 0
   AreHeld m [] = Unit {0}
   AreHeld m (r ∷ rs) = IsHeld m r × AreHeld m rs
 
-  held_both : (m : Pooled T) (xs : List NodeRef) (r : NodeRef) (ys : List NodeRef) → AreHeld m xs → IsHeld m r → AreHeld m ys → AreHeld m (xs ++ r ∷ ys)
+  held_both : (m : Pooled T) (xs : List Ref) (r : Ref) (ys : List Ref) → AreHeld m xs → IsHeld m r → AreHeld m ys → AreHeld m (xs ++ r ∷ ys)
   held_both m [] r ys a h b = (h, b)
   held_both m (x ∷ xs) r ys a h b = (a.0, held_both m xs r ys a.1 h b)
 
-  held_right : (m : Pooled T) (xs : List NodeRef) (r : NodeRef) (ys : List NodeRef) → AreHeld m (xs ++ r ∷ ys) → IsHeld m r
+  held_right : (m : Pooled T) (xs : List Ref) (r : Ref) (ys : List Ref) → AreHeld m (xs ++ r ∷ ys) → IsHeld m r
   held_right m [] r ys a = a.0
   held_right m (x ∷ xs) r ys a = held_right m xs r ys a.1
 
@@ -59,13 +67,13 @@ module _ {T : Type 0} where
   all_held m s Tip h = tt
   all_held m s (Fork l r q) h = held_both m (nodes l) r (nodes q) (all_held m s l h.2) h.0 (all_held m s q h.3)
 
-  pub held_first : (m : Pooled T) (s : ℕ) (t : Shape) (r : NodeRef) (rs : List NodeRef) → nodes t ≡ r ∷ rs → Stands m s t → IsHeld m r
+  pub held_first : (m : Pooled T) (s : ℕ) (t : Shape) (r : Ref) (rs : List Ref) → nodes t ≡ r ∷ rs → Stands m s t → IsHeld m r
   held_first m s t r rs e h = (subst (AreHeld m) e (all_held m s t h)).0
 
-  pub held_in : (m : Pooled T) (s : ℕ) (t : Shape) (xs : List NodeRef) (r : NodeRef) (ys : List NodeRef) → nodes t ≡ xs ++ r ∷ ys → Stands m s t → IsHeld m r
+  pub held_in : (m : Pooled T) (s : ℕ) (t : Shape) (xs : List Ref) (r : Ref) (ys : List Ref) → nodes t ≡ xs ++ r ∷ ys → Stands m s t → IsHeld m r
   held_in m s t xs r ys e h = held_right m xs r ys (subst (AreHeld m) e (all_held m s t h))
 
-  pub record TakeOpened (m : Pooled T) (s : ℕ) (root : NodeRef) (y : Link) (t : Shape) : Type 0 where
+  pub record TakeOpened (m : Pooled T) (s : ℕ) (root : Ref) (y : Link) (t : Shape) : Type 0 where
     pub A : Shape
     pub B : Shape
     pub is : t ≡ Fork A root B
@@ -74,11 +82,14 @@ module _ {T : Type 0} where
     pub held_root : IsHeld m root
     pub even : IsEven (Fork A root B)
     pub apart : IsApart (nodes A ++ root ∷ nodes B)
-    pub fits : size A + size B + 1 < 2 ^ 64
+    pub fits : size A + size B + 1 < 2 ^ 32
     pub left_lower : height_at m s y.back < height t
     pub right_lower : height_at m s y.forth < height t
+    pub size_is : y.size ≡ size A + size B + 1
+    pub height_is : y.height ≡ max (height A) (height B) + 1
+    pub tag_is : y.tag ≡ (link_of m root.name s).tag
 
-  pub take_opened : (m : Pooled T) (s : ℕ) (at : Option NodeRef) (root : NodeRef) (y : Link) (t : Shape) → CanTake m s at t → at ≡ Some root → y ≡ link_of m root.name s → TakeOpened m s root y t
+  pub take_opened : (m : Pooled T) (s : ℕ) (at : Option Ref) (root : Ref) (y : Link) (t : Shape) → CanTake m s at t → at ≡ Some root → y ≡ link_of m root.name s → TakeOpened m s root y t
   take_opened m s at root y t h e i =
       let o = opened m s root t (moved m m s at (Some root) t refl e h.rooted) in
       let A = nodes o.left in let B = nodes o.right in
@@ -99,17 +110,20 @@ module _ {T : Type 0} where
         fits = omega arith;
         left_lower = omega arith;
         right_lower = omega arith;
+        size_is = ap (λ (z : Link). z.size) i ∙ ap (λ (z : Link). z.size) o.link;
+        height_is = ap (λ (z : Link). z.height) i ∙ ap (λ (z : Link). z.height) o.link;
+        tag_is = ap (λ (z : Link). z.tag) i;
       }
 
   -- a list cut out of one that is apart
-  module _ (m n : Pooled T) (s : ℕ) (root : NodeRef) (y : Link) (t : Shape) (o : TakeOpened m s root y t) (rest : Option NodeRef) (u : Shape) (xs : List NodeRef) (x : NodeRef) (ys : List NodeRef) where
-    pub without_left : nodes o.A ≡ xs ++ x ∷ ys → HasTaken m n s o.A (xs ++ ys) rest u → AreSides n s rest root y.forth u o.B
+  module _ (m n : Pooled T) (s : ℕ) (root : Ref) (y : Link) (t : Shape) (o : TakeOpened m s root y t) (rest : Option Ref) (lower : Bool) (u : Shape) (xs : List Ref) (x : Ref) (ys : List Ref) where
+    pub without_left : nodes o.A ≡ xs ++ x ∷ ys → HasTaken m n s o.A (xs ++ ys) rest lower u → AreSides n s rest root y.forth u o.B
     without_left e h =
         let A = nodes o.A in let B = nodes o.B in let size_is = less_size o.A u xs x ys e h.nodes_are in let e0 = o.even.0 in let f = o.fits in let lo = h.not_lower in let hi = h.not_higher in
         let all = subst IsApart (ap (λ v. v ++ root ∷ B) e ∙ append_assoc xs (x ∷ ys) (root ∷ B)) o.apart in record {
           left_is = h.rooted;
-          held = held_kept s m n A root h.keeps o.held_root;
-          right_is = rooted_kept s m n A y.forth o.B h.keeps (are_out_flip A B (cut_right A root B (apart_across A (root ∷ B) o.apart))) o.right.rooted;
+          held = held_kept s m n (xs ++ ys) root h.keeps o.held_root;
+          right_is = rooted_kept s m n A y.forth o.B (keeps_more s m n (xs ++ ys) A h.keeps (λ k out. out_less k xs x ys (subst (IsOut k) e out))) (are_out_flip A B (cut_right A root B (apart_across A (root ∷ B) o.apart))) o.right.rooted;
           apart = subst IsApart (sym (ap (λ v. v ++ root ∷ B) h.nodes_are ∙ append_assoc xs ys (root ∷ B))) (apart_less xs x (ys ++ root ∷ B) all);
           left_even = h.even;
           right_even = o.even.2;
@@ -117,12 +131,12 @@ module _ {T : Type 0} where
           fits = omega arith;
         }
 
-    pub without_right : nodes o.B ≡ xs ++ x ∷ ys → HasTaken m n s o.B (xs ++ ys) rest u → AreSides n s y.back root rest o.A u
+    pub without_right : nodes o.B ≡ xs ++ x ∷ ys → HasTaken m n s o.B (xs ++ ys) rest lower u → AreSides n s y.back root rest o.A u
     without_right e h =
         let A = nodes o.A in let B = nodes o.B in let size_is = less_size o.B u xs x ys e h.nodes_are in let e0 = o.even.0 in let f = o.fits in let lo = h.not_lower in let hi = h.not_higher in
         let all = subst IsApart (ap (λ v. A ++ root ∷ v) e ∙ sym (append_assoc A (root ∷ xs) (x ∷ ys))) o.apart in record {
-          left_is = rooted_kept s m n B y.back o.A h.keeps (cut_right A root B (apart_across A (root ∷ B) o.apart)) o.left.rooted;
-          held = held_kept s m n B root h.keeps o.held_root;
+          left_is = rooted_kept s m n B y.back o.A (keeps_more s m n (xs ++ ys) B h.keeps (λ k out. out_less k xs x ys (subst (IsOut k) e out))) (cut_right A root B (apart_across A (root ∷ B) o.apart)) o.left.rooted;
+          held = held_kept s m n (xs ++ ys) root h.keeps o.held_root;
           right_is = h.rooted;
           apart = subst IsApart (sym (ap (λ v. A ++ root ∷ v) h.nodes_are ∙ sym (append_assoc A (root ∷ xs) ys))) (apart_less (A ++ root ∷ xs) x ys all);
           left_even = o.even.1;
@@ -131,8 +145,26 @@ module _ {T : Type 0} where
           fits = omega arith;
         }
 
-    pub took_left : (v : Pooled T) (result : NodeRef) (z : Shape) → nodes o.A ≡ xs ++ x ∷ ys → HasTaken m n s o.A (xs ++ ys) rest u → IsBalanced n v s u root o.B result z → HasTaken m v s t (xs ++ (ys ++ root ∷ nodes o.B)) (Some result) z
-    took_left v result z e h b =
+    -- what the new link of the root says
+    pub says_left : (w : Link) → w.size ≡ y.size - 1 → w.height ≡ y.height → w.tag ≡ y.tag → nodes o.A ≡ xs ++ x ∷ ys → HasTaken m n s o.A (xs ++ ys) rest lower u → Says n s root w lower u o.B
+    says_left w a b c e h = let d = less_size o.A u xs x ys e h.nodes_are in let i = o.size_is in let j = o.height_is in let near = o.even.0 in record {
+      size_is = omega arith;
+      height_is = λ f. (let k = h.same_height f in omega arith);
+      near = λ f. (let k = h.same_height f in (omega arith, omega arith));
+      tag_is = c ∙ o.tag_is ∙ sym (h.tags root.name);
+    }
+
+    pub says_right : (w : Link) → w.size ≡ y.size - 1 → w.height ≡ y.height → w.tag ≡ y.tag → nodes o.B ≡ xs ++ x ∷ ys → HasTaken m n s o.B (xs ++ ys) rest lower u → Says n s root w lower o.A u
+    says_right w a b c e h = let d = less_size o.B u xs x ys e h.nodes_are in let i = o.size_is in let j = o.height_is in let near = o.even.0 in record {
+      size_is = omega arith;
+      height_is = λ f. (let k = h.same_height f in omega arith);
+      near = λ f. (let k = h.same_height f in (omega arith, omega arith));
+      tag_is = c ∙ o.tag_is ∙ sym (h.tags root.name);
+    }
+
+    pub took_left : (v : Pooled T) (result : Ref) (top : Bool) (z : Shape) → nodes o.A ≡ xs ++ x ∷ ys → HasTaken m n s o.A (xs ++ ys) rest lower u → IsBalanced n v s u root o.B result z → (top ≡ false → height z ≡ y.height)
+        → HasTaken m v s t (xs ++ (ys ++ root ∷ nodes o.B)) (Some result) top z
+    took_left v result top z e h b same =
         let A = nodes o.A in let B = nodes o.B in let r = b.rebalanced in let names = ap nodes o.is in let heights = ap height o.is in
         let g = sunk (height o.A) (height o.B) (height u) (height z) o.even.0 h.not_higher h.not_lower r.not_lower r.not_higher r.as_high in record {
           rooted = b.rooted;
@@ -140,12 +172,15 @@ module _ {T : Type 0} where
           nodes_are = r.nodes_are ∙ ap (λ w. w ++ root ∷ B) h.nodes_are ∙ append_assoc xs ys (root ∷ B);
           not_higher = omega arith;
           not_lower = omega arith;
-          keeps = subst (λ k. Keeps m v s k) (sym names) (keeps_then s m n v A (nodes u ++ root ∷ B) (A ++ root ∷ B) h.keeps b.keeps
-              (λ k out. let left = out_left k A (root ∷ B) out in (left, out_both k (nodes u) (root ∷ B) (subst (IsOut k) (sym h.nodes_are) (out_less k xs x ys (subst (IsOut k) e left))) (out_right k A (root ∷ B) out))));
+          same_height = λ f. (let k = same f in let j = o.height_is in omega arith);
+          tags = λ k. b.tags k ∙ h.tags k;
+          keeps = keeps_then s m n v (xs ++ ys) (nodes u ++ root ∷ B) (xs ++ (ys ++ root ∷ B)) h.keeps b.keeps
+              (λ k out. let all = subst (IsOut k) (sym (append_assoc xs ys (root ∷ B))) out in (out_left k (xs ++ ys) (root ∷ B) all, subst (λ w. IsOut k (w ++ root ∷ B)) (sym h.nodes_are) all));
         }
 
-    pub took_right : (v : Pooled T) (result : NodeRef) (z : Shape) → nodes o.B ≡ xs ++ x ∷ ys → HasTaken m n s o.B (xs ++ ys) rest u → IsBalanced n v s o.A root u result z → HasTaken m v s t ((nodes o.A ++ root ∷ xs) ++ ys) (Some result) z
-    took_right v result z e h b =
+    pub took_right : (v : Pooled T) (result : Ref) (top : Bool) (z : Shape) → nodes o.B ≡ xs ++ x ∷ ys → HasTaken m n s o.B (xs ++ ys) rest lower u → IsBalanced n v s o.A root u result z → (top ≡ false → height z ≡ y.height)
+        → HasTaken m v s t ((nodes o.A ++ root ∷ xs) ++ ys) (Some result) top z
+    took_right v result top z e h b same =
         let A = nodes o.A in let B = nodes o.B in let r = b.rebalanced in let names = ap nodes o.is in let heights = ap height o.is in
         let g = sunk_right (height o.A) (height o.B) (height u) (height z) o.even.0 h.not_higher h.not_lower r.not_lower r.not_higher r.as_high in record {
           rooted = b.rooted;
@@ -153,12 +188,14 @@ module _ {T : Type 0} where
           nodes_are = r.nodes_are ∙ ap (λ w. A ++ root ∷ w) h.nodes_are ∙ sym (append_assoc A (root ∷ xs) ys);
           not_higher = omega arith;
           not_lower = omega arith;
-          keeps = subst (λ k. Keeps m v s k) (sym names) (keeps_then s m n v B (A ++ root ∷ nodes u) (A ++ root ∷ B) h.keeps b.keeps
-              (λ k out. let right = out_right k A (root ∷ B) out in (right.1, out_both k A (root ∷ nodes u) (out_left k A (root ∷ B) out) (right.0, subst (IsOut k) (sym h.nodes_are) (out_less k xs x ys (subst (IsOut k) e right.1))))));
+          same_height = λ f. (let k = same f in let j = o.height_is in omega arith);
+          tags = λ k. b.tags k ∙ h.tags k;
+          keeps = keeps_then s m n v (xs ++ ys) (A ++ root ∷ nodes u) ((A ++ root ∷ xs) ++ ys) h.keeps b.keeps
+              (λ k out. let all = subst (IsOut k) (append_assoc A (root ∷ xs) ys) out in ((out_right k A (root ∷ (xs ++ ys)) all).1, subst (λ w. IsOut k (A ++ root ∷ w)) (sym h.nodes_are) all));
         }
 
   -- the root is the first node
-  pub took_root : (m : Pooled T) (s : ℕ) (root : NodeRef) (y : Link) (t : Shape) (o : TakeOpened m s root y t) → o.A ≡ Tip → (nodes t ≡ root ∷ nodes o.B) × HasTaken m m s t (nodes o.B) y.forth o.B
+  pub took_root : (m : Pooled T) (s : ℕ) (root : Ref) (y : Link) (t : Shape) (o : TakeOpened m s root y t) → o.A ≡ Tip → (nodes t ≡ root ∷ nodes o.B) × HasTaken m m s t (nodes o.B) y.forth true o.B
   took_root m s root y t o e =
       let whole = o.is ∙ ap (λ k. Fork k root o.B) e in let heights = ap height whole in let even = o.even.0 in (
         ap nodes whole,
@@ -168,15 +205,17 @@ module _ {T : Type 0} where
           nodes_are = refl;
           not_higher = omega arith;
           not_lower = let low = ap height e in omega arith;
-          keeps = keeps_none s m (nodes t);
+          same_height = λ f. absurd (true_is f);
+          keeps = keeps_none s m (nodes o.B);
+          tags = λ k. refl;
         },
       )
 
   -- two trees
-  pub ends_take : (m : Pooled T) (s : ℕ) (left right : Option NodeRef) (l q : Shape) → AreEnds m s left right l q → CanTake m s right q
+  pub ends_take : (m : Pooled T) (s : ℕ) (left right : Option Ref) (l q : Shape) → AreEnds m s left right l q → CanTake m s right q
   ends_take m s left right l q h = let f = h.fits in record { rooted = h.right_is; even = h.right_even; apart = apart_right (nodes l) (nodes q) h.apart; fits = omega arith }
 
-  pub ends_none : (m : Pooled T) (s : ℕ) (left right : Option NodeRef) (l q : Shape) → AreEnds m s left right l q → right ≡ None → AreAppended m m s l q left l
+  pub ends_none : (m : Pooled T) (s : ℕ) (left right : Option Ref) (l q : Shape) → AreEnds m s left right l q → right ≡ None → AreAppended m m s l q left l
   ends_none m s left right l q h e =
       let tip = tip_is m s q (moved m m s right None q refl e h.right_is) in let low = ap height tip in record {
         rooted = h.left_is;
@@ -185,15 +224,16 @@ module _ {T : Type 0} where
         not_lower = (omega arith, omega arith);
         not_higher = omega arith;
         keeps = keeps_none s m (nodes l ++ nodes q);
+        tags = λ k. refl;
       }
 
-  module _ (m n : Pooled T) (s : ℕ) (left right : Option NodeRef) (l q : Shape) (h : AreEnds m s left right l q) (first : NodeRef) (rs : List NodeRef) (rest : Option NodeRef) (u : Shape) (is : nodes q ≡ first ∷ rs) (k : HasTaken m n s q rs rest u) where
+  module _ (m n : Pooled T) (s : ℕ) (left right : Option Ref) (l q : Shape) (h : AreEnds m s left right l q) (first : Ref) (rs : List Ref) (rest : Option Ref) (lower : Bool) (u : Shape) (is : nodes q ≡ first ∷ rs) (k : HasTaken m n s q rs rest lower u) where
     pub ends_sides : AreSides n s left first rest l u
     ends_sides =
         let size_is = less_size q u [] first rs is k.nodes_are in let e0 = h.near in let f = h.fits in let lo = k.not_lower in let hi = k.not_higher in
         let all = subst IsApart (ap (λ v. nodes l ++ v) is) h.apart in record {
-          left_is = rooted_kept s m n (nodes q) left l k.keeps (apart_across (nodes l) (nodes q) h.apart) h.left_is;
-          held = held_kept s m n (nodes q) first k.keeps (held_first m s q first rs is (h.right_is.stands));
+          left_is = rooted_kept s m n (nodes q) left l (keeps_more s m n rs (nodes q) k.keeps (λ j out. (subst (IsOut j) is out).1)) (apart_across (nodes l) (nodes q) h.apart) h.left_is;
+          held = held_kept s m n rs first k.keeps (held_first m s q first rs is (h.right_is.stands));
           right_is = k.rooted;
           apart = subst (λ v. IsApart (nodes l ++ first ∷ v)) (sym k.nodes_are) all;
           left_even = h.left_even;
@@ -202,7 +242,7 @@ module _ {T : Type 0} where
           fits = omega arith;
         }
 
-    pub ends_appended : (v : Pooled T) (result : NodeRef) (z : Shape) → IsBalanced n v s l first u result z → AreAppended m v s l q (Some result) z
+    pub ends_appended : (v : Pooled T) (result : Ref) (z : Shape) → IsBalanced n v s l first u result z → AreAppended m v s l q (Some result) z
     ends_appended v result z b =
         let r = b.rebalanced in let g = met (height l) (height q) (height u) (height z) h.near k.not_higher k.not_lower r.not_lower r.not_higher r.as_high in record {
           rooted = b.rooted;
@@ -210,11 +250,12 @@ module _ {T : Type 0} where
           nodes_are = r.nodes_are ∙ ap (λ w. nodes l ++ first ∷ w) k.nodes_are ∙ sym (ap (λ w. nodes l ++ w) is);
           not_lower = (g.0, g.1);
           not_higher = g.2;
-          keeps = keeps_then s m n v (nodes q) (nodes l ++ first ∷ nodes u) (nodes l ++ nodes q) k.keeps b.keeps
-              (λ j out. let right = out_right j (nodes l) (nodes q) out in (right, out_both j (nodes l) (first ∷ nodes u) (out_left j (nodes l) (nodes q) out) (subst (λ w. IsOut j (first ∷ w)) (sym k.nodes_are) (subst (IsOut j) is right))));
+          tags = λ j. b.tags j ∙ k.tags j;
+          keeps = keeps_then s m n v rs (nodes l ++ first ∷ nodes u) (nodes l ++ nodes q) k.keeps b.keeps
+              (λ j out. let right = out_right j (nodes l) (nodes q) out in ((subst (IsOut j) is right).1, out_both j (nodes l) (first ∷ nodes u) (out_left j (nodes l) (nodes q) out) (subst (λ w. IsOut j (first ∷ w)) (sym k.nodes_are) (subst (IsOut j) is right))));
         }
 
-  pub ends_of : (m : Pooled T) (s : ℕ) (root : NodeRef) (y : Link) (t : Shape) (o : TakeOpened m s root y t) → AreEnds m s y.back y.forth o.A o.B
+  pub ends_of : (m : Pooled T) (s : ℕ) (root : Ref) (y : Link) (t : Shape) (o : TakeOpened m s root y t) → AreEnds m s y.back y.forth o.A o.B
   ends_of m s root y t o = let f = o.fits in let e0 = o.even.0 in record {
     left_is = o.left.rooted;
     right_is = o.right.rooted;
@@ -225,13 +266,21 @@ module _ {T : Type 0} where
     fits = omega arith;
   }
 
-  pub took_here : (m n : Pooled T) (s : ℕ) (root : NodeRef) (y : Link) (t : Shape) (o : TakeOpened m s root y t) (result : Option NodeRef) (u : Shape) (xs ys : List NodeRef) → nodes o.A ≡ xs → nodes o.B ≡ ys
-      → AreAppended m n s o.A o.B result u → HasTaken m n s t (xs ++ ys) result u
-  took_here m n s root y t o result u xs ys e f h = let heights = ap height o.is in let lo = h.not_lower in let hi = h.not_higher in record {
+  pub took_here : (m n : Pooled T) (s : ℕ) (root : Ref) (y : Link) (t : Shape) (o : TakeOpened m s root y t) (result : Option Ref) (top : Bool) (u : Shape) (xs ys : List Ref) → nodes o.A ≡ xs → nodes o.B ≡ ys
+      → AreAppended m n s o.A o.B result u → (top ≡ false → height u ≡ y.height) → HasTaken m n s t (xs ++ ys) result top u
+  took_here m n s root y t o result top u xs ys e f h same = let heights = ap height o.is in let lo = h.not_lower in let hi = h.not_higher in record {
     rooted = h.rooted;
     even = h.even;
     nodes_are = h.nodes_are ∙ (λ i. e i ++ f i);
     not_higher = omega arith;
     not_lower = grind arith;
-    keeps = keeps_more s m n (nodes o.A ++ nodes o.B) (nodes t) h.keeps (λ k out. out_less k (nodes o.A) root (nodes o.B) (subst (IsOut k) (ap nodes o.is) out));
+    same_height = λ g. (let k = same g in let j = o.height_is in omega arith);
+    keeps = subst (λ k. Keeps m n s k) (λ i. e i ++ f i) h.keeps;
+    tags = h.tags;
   }
+
+  -- the sides of a fork, which is known already
+  pub side_take : (m : Pooled T) (s : ℕ) (at : Option Ref) (root : Ref) (y : Link) (t : Shape) → CanTake m s at t → at ≡ Some root → y ≡ link_of m root.name s → (l q : Shape) → t ≡ Fork l root q → CanTake m s y.back l × CanTake m s y.forth q
+  side_take m s at root y t h e i l q is =
+      let o = take_opened m s at root y t h e i in let same = sym o.is ∙ is in
+      (subst (CanTake m s y.back) (fork_left o.A root o.B l root q same) o.left, subst (CanTake m s y.forth) (fork_right o.A root o.B l root q same) o.right)

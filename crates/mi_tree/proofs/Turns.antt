@@ -1,20 +1,21 @@
 -- Turning a tree whose one side is two levels higher.
-use Rattle.std.proofs.Common.{◌≡◌, ℕ, ◌+◌, ◌<◌, ◌≤◌, List, [], ◌∷◌, ◌++◌, Option, Some, refl, sym, ap, ◌∙◌, subst, arith, append_assoc}
+use Rattle.std.proofs.lemmas.Bool.Decides.{nat_tests}
+use Rattle.std.proofs.Common.{◌≡◌, ◌==◌, ℕ, Bool, not, false, ◌+◌, ◌<◌, ◌≤◌, List, [], ◌∷◌, ◌++◌, Option, Some, refl, sym, ap, ◌∙◌, subst, arith, append_assoc}
 use Rattle.mi_node.specs.Pool.{Pooled, link_of, Keeps}
-use Rattle.mi_node.specs.declared.heap.NodeRef.{NodeRef}
 use Rattle.mi_node.specs.declared.link.Link.{Link}
-use Rattle.mi_node.specs.Refs.{IsOut, IsApart}
+use Rattle.mi_node.specs.Refs.{Ref, IsOut, IsApart}
 use Rattle.mi_node.proofs.Keeping.{keeps_more}
 use Rattle.mi_node.proofs.Refs.{out_left, out_right, between}
 use Rattle.mi_tree.specs.Shape.{Shape, Fork, nodes, size, height, DifferByAtMost, IsEven, IsRooted}
-use Rattle.mi_tree.specs.Joining.{Two, Three, Four, Rebalanced, AreSides, IsBalanced}
+use Rattle.mi_tree.specs.Sorted.{SameTags}
+use Rattle.mi_tree.specs.Joining.{Two, IsFork, Three, Four, Rebalanced, AreSides, IsBalanced, Says}
 use Rattle.mi_tree.proofs.Heights.{low_enough}
 use Rattle.mi_tree.proofs.Shapes.{moved, opened}
 
-pub turn_plain : (l : Shape) (x : NodeRef) (q : Shape) → IsEven l → IsEven q → DifferByAtMost 1 (height l) (height q) → Rebalanced l x q (Fork l x q)
+pub turn_plain : (l : Shape) (x : Ref) (q : Shape) → IsEven l → IsEven q → DifferByAtMost 1 (height l) (height q) → Rebalanced l x q (Fork l x q)
 turn_plain l x q el eq d = record { nodes_are = refl; even = (d, el, eq); not_lower = omega arith; not_higher = omega arith; as_high = λ h. refl }
 
-pub turn_down : (A : Shape) (x : NodeRef) (B : Shape) (y : NodeRef) (C : Shape) → IsEven (Fork A x B) → IsEven C → DifferByAtMost 2 (height (Fork A x B)) (height C) → height C + 1 < height (Fork A x B) → height B ≤ height A
+pub turn_down : (A : Shape) (x : Ref) (B : Shape) (y : Ref) (C : Shape) → IsEven (Fork A x B) → IsEven C → DifferByAtMost 2 (height (Fork A x B)) (height C) → height C + 1 < height (Fork A x B) → height B ≤ height A
     → Rebalanced (Fork A x B) y C (Fork A x (Fork B y C))
 turn_down A x B y C e f d h w = let e0 = e.0 in record {
   nodes_are = sym (append_assoc (nodes A) (x ∷ nodes B) (y ∷ nodes C));
@@ -24,7 +25,7 @@ turn_down A x B y C e f d h w = let e0 = e.0 in record {
   as_high = λ k. absurd (omega arith);
 }
 
-pub turn_up : (A : Shape) (x : NodeRef) (B : Shape) (y : NodeRef) (C : Shape) → IsEven A → IsEven (Fork B y C) → DifferByAtMost 2 (height A) (height (Fork B y C)) → height A + 1 < height (Fork B y C) → height B ≤ height C
+pub turn_up : (A : Shape) (x : Ref) (B : Shape) (y : Ref) (C : Shape) → IsEven A → IsEven (Fork B y C) → DifferByAtMost 2 (height A) (height (Fork B y C)) → height A + 1 < height (Fork B y C) → height B ≤ height C
     → Rebalanced A x (Fork B y C) (Fork (Fork A x B) y C)
 turn_up A x B y C e f d h w = let f0 = f.0 in record {
   nodes_are = append_assoc (nodes A) (x ∷ nodes B) (y ∷ nodes C);
@@ -35,7 +36,7 @@ turn_up A x B y C e f d h w = let f0 = f.0 in record {
 }
 
 -- from the left: A x (B y C) is too high
-pub turn_left_both : (A : Shape) (x : NodeRef) (B : Shape) (y : NodeRef) (C : Shape) (z : NodeRef) (D : Shape) → IsEven (Fork A x (Fork B y C)) → IsEven D → DifferByAtMost 2 (height (Fork A x (Fork B y C))) (height D)
+pub turn_left_both : (A : Shape) (x : Ref) (B : Shape) (y : Ref) (C : Shape) (z : Ref) (D : Shape) → IsEven (Fork A x (Fork B y C)) → IsEven D → DifferByAtMost 2 (height (Fork A x (Fork B y C))) (height D)
     → height D + 1 < height (Fork A x (Fork B y C)) → height A < height (Fork B y C) → Rebalanced (Fork A x (Fork B y C)) z D (Fork (Fork A x B) y (Fork C z D))
 turn_left_both A x B y C z D e f d h w = let e0 = e.0 in let e2 = e.2.0 in record {
   nodes_are = append_assoc (nodes A) (x ∷ nodes B) (y ∷ nodes C ++ z ∷ nodes D) ∙ sym (append_assoc (nodes A) (x ∷ nodes B ++ y ∷ nodes C) (z ∷ nodes D) ∙ ap (λ u. nodes A ++ x ∷ u) (append_assoc (nodes B) (y ∷ nodes C) (z ∷ nodes D)));
@@ -46,7 +47,7 @@ turn_left_both A x B y C z D e f d h w = let e0 = e.0 in let e2 = e.2.0 in recor
 }
 
 -- from the right: (B y C) z D is too high
-pub turn_right_both : (A : Shape) (x : NodeRef) (B : Shape) (y : NodeRef) (C : Shape) (z : NodeRef) (D : Shape) → IsEven A → IsEven (Fork (Fork B y C) z D) → DifferByAtMost 2 (height A) (height (Fork (Fork B y C) z D))
+pub turn_right_both : (A : Shape) (x : Ref) (B : Shape) (y : Ref) (C : Shape) (z : Ref) (D : Shape) → IsEven A → IsEven (Fork (Fork B y C) z D) → DifferByAtMost 2 (height A) (height (Fork (Fork B y C) z D))
     → height A + 1 < height (Fork (Fork B y C) z D) → height D < height (Fork B y C) → Rebalanced A x (Fork (Fork B y C) z D) (Fork (Fork A x B) y (Fork C z D))
 turn_right_both A x B y C z D e f d h w = let f0 = f.0 in let f1 = f.1.0 in record {
   nodes_are = append_assoc (nodes A) (x ∷ nodes B) (y ∷ nodes C ++ z ∷ nodes D) ∙ ap (λ u. nodes A ++ x ∷ u) (sym (append_assoc (nodes B) (y ∷ nodes C) (z ∷ nodes D)));
@@ -56,28 +57,32 @@ turn_right_both A x B y C z D e f d h w = let f0 = f.0 in let f1 = f.1.0 in reco
   as_high = λ k. absurd (omega arith);
 }
 
-out_two : (k : ℕ) (A : List NodeRef) (x : NodeRef) (B : List NodeRef) (y : NodeRef) (C : List NodeRef) → IsOut k ((A ++ x ∷ B) ++ y ∷ C) → IsOut k (x ∷ y ∷ [])
+-- what a test of two numbers says
+pub same_number : (a b : ℕ) → not (a == b) ≡ false → a ≡ b
+same_number a b e = grind (arith, nat_tests, e)
+
+out_two : (k : ℕ) (A : List Ref) (x : Ref) (B : List Ref) (y : Ref) (C : List Ref) → IsOut k ((A ++ x ∷ B) ++ y ∷ C) → IsOut k (x ∷ y ∷ [])
 out_two k A x B y C h = ((out_right k A (x ∷ B) (out_left k (A ++ x ∷ B) (y ∷ C) h)).0, ((out_right k (A ++ x ∷ B) (y ∷ C) h).0, tt))
 
-out_two_right : (k : ℕ) (A : List NodeRef) (x : NodeRef) (B : List NodeRef) (y : NodeRef) (C : List NodeRef) → IsOut k (A ++ x ∷ (B ++ y ∷ C)) → IsOut k (x ∷ y ∷ [])
+out_two_right : (k : ℕ) (A : List Ref) (x : Ref) (B : List Ref) (y : Ref) (C : List Ref) → IsOut k (A ++ x ∷ (B ++ y ∷ C)) → IsOut k (x ∷ y ∷ [])
 out_two_right k A x B y C h = let o = out_right k A (x ∷ B ++ y ∷ C) h in (o.0, ((out_right k B (y ∷ C) o.1).0, tt))
 
-out_three_left : (k : ℕ) (A : List NodeRef) (x : NodeRef) (B : List NodeRef) (y : NodeRef) (C : List NodeRef) (z : NodeRef) (D : List NodeRef) → IsOut k ((A ++ x ∷ (B ++ y ∷ C)) ++ z ∷ D) → IsOut k (x ∷ y ∷ z ∷ [])
+out_three_left : (k : ℕ) (A : List Ref) (x : Ref) (B : List Ref) (y : Ref) (C : List Ref) (z : Ref) (D : List Ref) → IsOut k ((A ++ x ∷ (B ++ y ∷ C)) ++ z ∷ D) → IsOut k (x ∷ y ∷ z ∷ [])
 out_three_left k A x B y C z D h = let o = out_two_right k A x B y C (out_left k (A ++ x ∷ (B ++ y ∷ C)) (z ∷ D) h) in (o.0, (o.1.0, ((out_right k (A ++ x ∷ (B ++ y ∷ C)) (z ∷ D) h).0, tt)))
 
-out_three_right : (k : ℕ) (A : List NodeRef) (x : NodeRef) (B : List NodeRef) (y : NodeRef) (C : List NodeRef) (z : NodeRef) (D : List NodeRef) → IsOut k (A ++ x ∷ ((B ++ y ∷ C) ++ z ∷ D)) → IsOut k (x ∷ y ∷ z ∷ [])
+out_three_right : (k : ℕ) (A : List Ref) (x : Ref) (B : List Ref) (y : Ref) (C : List Ref) (z : Ref) (D : List Ref) → IsOut k (A ++ x ∷ ((B ++ y ∷ C) ++ z ∷ D)) → IsOut k (x ∷ y ∷ z ∷ [])
 out_three_right k A x B y C z D h = let o = out_right k A (x ∷ (B ++ y ∷ C) ++ z ∷ D) h in (o.0, out_two k B y C z D o.1)
 
 module _ {T : Type 0} where
   -- the left side, opened
-  pub record LeftOpened (m : Pooled T) (s : ℕ) (r x : NodeRef) (right : Option NodeRef) (y : Link) (l q : Shape) : Type 0 where
+  pub record LeftOpened (m : Pooled T) (s : ℕ) (r x : Ref) (right : Option Ref) (y : Link) (l q : Shape) : Type 0 where
     pub A : Shape
     pub B : Shape
     pub is : l ≡ Fork A r B
     pub parts : Three m s y.back r y.forth x right A B q
     pub even : IsEven (Fork A r B)
 
-  pub left_opened : (m : Pooled T) (s : ℕ) (left : Option NodeRef) (x : NodeRef) (right : Option NodeRef) (l q : Shape) (r : NodeRef) (y : Link)
+  pub left_opened : (m : Pooled T) (s : ℕ) (left : Option Ref) (x : Ref) (right : Option Ref) (l q : Shape) (r : Ref) (y : Link)
       → AreSides m s left x right l q → left ≡ Some r → y ≡ link_of m r.name s → LeftOpened m s r x right y l q
   left_opened m s left x right l q r y h e i =
       let o = opened m s r l (moved m m s left (Some r) l refl e h.left_is) in
@@ -100,14 +105,14 @@ module _ {T : Type 0} where
         };
       }
 
-  pub record RightOpened (m : Pooled T) (s : ℕ) (left : Option NodeRef) (x r : NodeRef) (y : Link) (l q : Shape) : Type 0 where
+  pub record RightOpened (m : Pooled T) (s : ℕ) (left : Option Ref) (x r : Ref) (y : Link) (l q : Shape) : Type 0 where
     pub B : Shape
     pub C : Shape
     pub is : q ≡ Fork B r C
     pub parts : Three m s left x y.back r y.forth l B C
     pub even : IsEven (Fork B r C)
 
-  pub right_opened : (m : Pooled T) (s : ℕ) (left : Option NodeRef) (x : NodeRef) (right : Option NodeRef) (l q : Shape) (r : NodeRef) (y : Link)
+  pub right_opened : (m : Pooled T) (s : ℕ) (left : Option Ref) (x : Ref) (right : Option Ref) (l q : Shape) (r : Ref) (y : Link)
       → AreSides m s left x right l q → right ≡ Some r → y ≡ link_of m r.name s → RightOpened m s left x r y l q
   right_opened m s left x right l q r y h e i =
       let o = opened m s r q (moved m m s right (Some r) q refl e h.right_is) in
@@ -131,13 +136,13 @@ module _ {T : Type 0} where
       }
 
   -- the middle, opened
-  pub record MiddleOpened (m : Pooled T) (s : ℕ) (a : Option NodeRef) (x y z : NodeRef) (d : Option NodeRef) (w : Link) (A M D : Shape) : Type 0 where
+  pub record MiddleOpened (m : Pooled T) (s : ℕ) (a : Option Ref) (x y z : Ref) (d : Option Ref) (w : Link) (A M D : Shape) : Type 0 where
     pub B : Shape
     pub C : Shape
     pub is : M ≡ Fork B y C
     pub parts : Four m s a x w.back y w.forth z d A B C D
 
-  pub middle_opened : (m : Pooled T) (s : ℕ) (a : Option NodeRef) (x : NodeRef) (b : Option NodeRef) (y z : NodeRef) (d : Option NodeRef) (w : Link) (A M D : Shape) → Three m s a x b z d A M D → b ≡ Some y → w ≡ link_of m y.name s
+  pub middle_opened : (m : Pooled T) (s : ℕ) (a : Option Ref) (x : Ref) (b : Option Ref) (y z : Ref) (d : Option Ref) (w : Link) (A M D : Shape) → Three m s a x b z d A M D → b ≡ Some y → w ≡ link_of m y.name s
       → MiddleOpened m s a x y z d w A M D
   middle_opened m s a x b y z d w A M D h e i =
       let o = opened m s y M (moved m m s b (Some y) M refl e h.second) in
@@ -160,64 +165,74 @@ module _ {T : Type 0} where
       }
 
   -- what the calls give
-  pub downs : (m n : Pooled T) (s : ℕ) (A : Shape) (r : NodeRef) (B : Shape) (x : NodeRef) (l q : Shape) → l ≡ Fork A r B → IsEven l → IsEven q → DifferByAtMost 2 (height l) (height q) → height q + 1 < height l → height B ≤ height A
-      → IsRooted n s (Some r) (Fork A r (Fork B x q)) → Keeps m n s (r ∷ x ∷ []) → (t : Shape) × IsBalanced m n s l x q r t
-  downs m n s A r B x l q is el eq near more higher rooted keeps = subst (λ k. (t : Shape) × IsBalanced m n s k x q r t) (sym is) (
+  pub downs : (m n : Pooled T) (s : ℕ) (A : Shape) (r : Ref) (B : Shape) (x : Ref) (l q : Shape) → l ≡ Fork A r B → IsEven l → IsEven q → DifferByAtMost 2 (height l) (height q) → height q + 1 < height l → height B ≤ height A
+      → IsRooted n s (Some r) (Fork A r (Fork B x q)) → Keeps m n s (r ∷ x ∷ []) → SameTags m n s → (t : Shape) × IsBalanced m n s l x q r t
+  downs m n s A r B x l q is el eq near more higher rooted keeps tags = subst (λ k. (t : Shape) × IsBalanced m n s k x q r t) (sym is) (
     Fork A r (Fork B x q),
     record {
       rooted = rooted;
       rebalanced = turn_down A r B x q (subst IsEven is el) eq (subst (λ k. DifferByAtMost 2 (height k) (height q)) is near) (subst (λ k. height q + 1 < height k) is more) higher;
       keeps = keeps_more s m n (r ∷ x ∷ []) _ keeps (λ k o. out_two k (nodes A) r (nodes B) x (nodes q) o);
+      tags = tags;
     },
   )
 
-  pub ups : (m n : Pooled T) (s : ℕ) (B : Shape) (r : NodeRef) (C : Shape) (x : NodeRef) (l q : Shape) → q ≡ Fork B r C → IsEven l → IsEven q → DifferByAtMost 2 (height l) (height q) → height l + 1 < height q → height B ≤ height C
-      → IsRooted n s (Some r) (Fork (Fork l x B) r C) → Keeps m n s (x ∷ r ∷ []) → (t : Shape) × IsBalanced m n s l x q r t
-  ups m n s B r C x l q is el eq near more higher rooted keeps = subst (λ k. (t : Shape) × IsBalanced m n s l x k r t) (sym is) (
+  pub ups : (m n : Pooled T) (s : ℕ) (B : Shape) (r : Ref) (C : Shape) (x : Ref) (l q : Shape) → q ≡ Fork B r C → IsEven l → IsEven q → DifferByAtMost 2 (height l) (height q) → height l + 1 < height q → height B ≤ height C
+      → IsRooted n s (Some r) (Fork (Fork l x B) r C) → Keeps m n s (x ∷ r ∷ []) → SameTags m n s → (t : Shape) × IsBalanced m n s l x q r t
+  ups m n s B r C x l q is el eq near more higher rooted keeps tags = subst (λ k. (t : Shape) × IsBalanced m n s l x k r t) (sym is) (
     Fork (Fork l x B) r C,
     record {
       rooted = rooted;
       rebalanced = turn_up l x B r C el (subst IsEven is eq) (subst (λ k. DifferByAtMost 2 (height l) (height k)) is near) (subst (λ k. height l + 1 < height k) is more) higher;
       keeps = keeps_more s m n (x ∷ r ∷ []) _ keeps (λ k o. out_two_right k (nodes l) x (nodes B) r (nodes C) o);
+      tags = tags;
     },
   )
 
-  pub left_boths : (m n : Pooled T) (s : ℕ) (A : Shape) (r : NodeRef) (B : Shape) (y : NodeRef) (C M : Shape) (x : NodeRef) (l q : Shape) → l ≡ Fork A r M → M ≡ Fork B y C → IsEven l → IsEven q → DifferByAtMost 2 (height l) (height q)
-      → height q + 1 < height l → height A < height M → IsRooted n s (Some y) (Fork (Fork A r B) y (Fork C x q)) → Keeps m n s (r ∷ y ∷ x ∷ []) → (t : Shape) × IsBalanced m n s l x q y t
-  left_boths m n s A r B y C M x l q is has el eq near more higher rooted keeps =
+  pub left_boths : (m n : Pooled T) (s : ℕ) (A : Shape) (r : Ref) (B : Shape) (y : Ref) (C M : Shape) (x : Ref) (l q : Shape) → l ≡ Fork A r M → M ≡ Fork B y C → IsEven l → IsEven q → DifferByAtMost 2 (height l) (height q)
+      → height q + 1 < height l → height A < height M → IsRooted n s (Some y) (Fork (Fork A r B) y (Fork C x q)) → Keeps m n s (r ∷ y ∷ x ∷ []) → SameTags m n s → (t : Shape) × IsBalanced m n s l x q y t
+  left_boths m n s A r B y C M x l q is has el eq near more higher rooted keeps tags =
       let whole = is ∙ ap (Fork A r) has in subst (λ k. (t : Shape) × IsBalanced m n s k x q y t) (sym whole) (
         Fork (Fork A r B) y (Fork C x q),
         record {
           rooted = rooted;
           rebalanced = turn_left_both A r B y C x q (subst IsEven whole el) eq (subst (λ k. DifferByAtMost 2 (height k) (height q)) whole near) (subst (λ k. height q + 1 < height k) whole more) (subst (λ k. height A < height k) has higher);
           keeps = keeps_more s m n (r ∷ y ∷ x ∷ []) _ keeps (λ k o. out_three_left k (nodes A) r (nodes B) y (nodes C) x (nodes q) o);
+          tags = tags;
         },
       )
 
-  pub right_boths : (m n : Pooled T) (s : ℕ) (B : Shape) (y : NodeRef) (C M : Shape) (r : NodeRef) (D : Shape) (x : NodeRef) (l q : Shape) → q ≡ Fork M r D → M ≡ Fork B y C → IsEven l → IsEven q → DifferByAtMost 2 (height l) (height q)
-      → height l + 1 < height q → height D < height M → IsRooted n s (Some y) (Fork (Fork l x B) y (Fork C r D)) → Keeps m n s (x ∷ y ∷ r ∷ []) → (t : Shape) × IsBalanced m n s l x q y t
-  right_boths m n s B y C M r D x l q is has el eq near more higher rooted keeps =
+  pub right_boths : (m n : Pooled T) (s : ℕ) (B : Shape) (y : Ref) (C M : Shape) (r : Ref) (D : Shape) (x : Ref) (l q : Shape) → q ≡ Fork M r D → M ≡ Fork B y C → IsEven l → IsEven q → DifferByAtMost 2 (height l) (height q)
+      → height l + 1 < height q → height D < height M → IsRooted n s (Some y) (Fork (Fork l x B) y (Fork C r D)) → Keeps m n s (x ∷ y ∷ r ∷ []) → SameTags m n s → (t : Shape) × IsBalanced m n s l x q y t
+  right_boths m n s B y C M r D x l q is has el eq near more higher rooted keeps tags =
       let whole = is ∙ ap (λ k. Fork k r D) has in subst (λ k. (t : Shape) × IsBalanced m n s l x k y t) (sym whole) (
         Fork (Fork l x B) y (Fork C r D),
         record {
           rooted = rooted;
           rebalanced = turn_right_both l x B y C r D el (subst IsEven whole eq) (subst (λ k. DifferByAtMost 2 (height l) (height k)) whole near) (subst (λ k. height l + 1 < height k) whole more) (subst (λ k. height D < height k) has higher);
           keeps = keeps_more s m n (x ∷ y ∷ r ∷ []) _ keeps (λ k o. out_three_right k (nodes l) x (nodes B) y (nodes C) r (nodes D) o);
+          tags = tags;
         },
       )
 
-  pub plains : (m n : Pooled T) (s : ℕ) (left : Option NodeRef) (x : NodeRef) (right : Option NodeRef) (l q : Shape) → AreSides m s left x right l q → DifferByAtMost 1 (height l) (height q)
-      → IsRooted n s (Some x) (Fork l x q) → Keeps m n s (x ∷ []) → (t : Shape) × IsBalanced m n s l x q x t
-  plains m n s left x right l q h near rooted keeps = (
-    Fork l x q,
-    record {
-      rooted = rooted;
-      rebalanced = turn_plain l x q h.left_even h.right_even near;
-      keeps = keeps_more s m n (x ∷ []) _ keeps (λ k o. ((out_right k (nodes l) (x ∷ nodes q) o).0, tt));
-    },
-  )
+  pub plain_is : (m n : Pooled T) (s : ℕ) (left : Option Ref) (x : Ref) (right : Option Ref) (l q : Shape) → AreSides m s left x right l q → DifferByAtMost 1 (height l) (height q)
+      → IsRooted n s (Some x) (Fork l x q) → Keeps m n s (x ∷ []) → SameTags m n s → IsBalanced m n s l x q x (Fork l x q)
+  plain_is m n s left x right l q h near rooted keeps tags = record {
+    rooted = rooted;
+    rebalanced = turn_plain l x q h.left_even h.right_even near;
+    keeps = keeps_more s m n (x ∷ []) _ keeps (λ k o. ((out_right k (nodes l) (x ∷ nodes q) o).0, tt));
+    tags = tags;
+  }
 
-  pub plain_parts : (m : Pooled T) (s : ℕ) (left : Option NodeRef) (x : NodeRef) (right : Option NodeRef) (l q : Shape) → AreSides m s left x right l q → Two m s left x right l q
+  pub plains : (m n : Pooled T) (s : ℕ) (left : Option Ref) (x : Ref) (right : Option Ref) (l q : Shape) → AreSides m s left x right l q → DifferByAtMost 1 (height l) (height q)
+      → IsRooted n s (Some x) (Fork l x q) → Keeps m n s (x ∷ []) → SameTags m n s → (t : Shape) × IsBalanced m n s l x q x t
+  plains m n s left x right l q h near rooted keeps tags = (Fork l x q, plain_is m n s left x right l q h near rooted keeps tags)
+
+  pub plain_parts : (m : Pooled T) (s : ℕ) (left : Option Ref) (x : Ref) (right : Option Ref) (l q : Shape) → AreSides m s left x right l q → Two m s left x right l q
   plain_parts m s left x right l q h =
       let f = h.fits in let hl = low_enough l h.left_even (omega arith) in let hq = low_enough q h.right_even (omega arith) in let b = between (nodes l) x (nodes q) h.apart in
       record { first = h.left_is; held = h.held; second = h.right_is; out_first = b.out_left; out_second = b.out_right; fits = f; low = (omega arith, omega arith) }
+
+  -- a node's link that was set, where no side changed in height
+  pub settled : (m : Pooled T) (s : ℕ) (x : Ref) (y : Link) (changed : Bool) (l q : Shape) → AreSides m s y.back x y.forth l q → Says m s x y changed l q → changed ≡ false → IsFork m s x y l q
+  settled m s x y changed l q h w e = record { two = plain_parts m s y.back x y.forth l q h; size_is = w.size_is; height_is = w.height_is e; tag_is = w.tag_is }

@@ -1,33 +1,41 @@
 -- What is put together, and what comes of it.
 --     Two, Three, Four      subtrees with nodes between them, which may be put together
 --     AreSides, IsBalanced      two balanced subtrees of nearly one height, and the balanced tree that they give
-use Rattle.std.specs.Prelude.{◌≡◌, ℕ, ◌+◌, ◌^◌, ◌<◌, ◌≤◌, max, ◌∷◌, ◌++◌, Option, Some}
-use Rattle.mi_node.specs.Pool.{Pooled, IsHeld, Keeps}
-use Rattle.mi_node.specs.declared.heap.NodeRef.{NodeRef}
-use Rattle.mi_node.specs.Refs.{IsOut, IsApart}
+use Rattle.std.specs.Prelude.{◌≡◌, ℕ, Bool, false, ◌+◌, ◌^◌, ◌<◌, ◌≤◌, max, ◌∷◌, ◌++◌, Option, Some}
+use Rattle.mi_node.specs.Pool.{Pooled, IsHeld, Keeps, link_of}
+use Rattle.mi_node.specs.declared.link.Link.{Link}
+use Rattle.mi_node.specs.Refs.{Ref, IsOut, IsApart}
+use Rattle.mi_tree.specs.Sorted.{SameTags}
 use Rattle.mi_tree.specs.Shape.{Shape, nodes, size, height, DifferByAtMost, IsEven, IsRooted}
 
 module _ {T : Type 0} where
-  pub record Two (m : Pooled T) (s : ℕ) (a : Option NodeRef) (x : NodeRef) (b : Option NodeRef) (A B : Shape) : Type 0 where
+  pub record Two (m : Pooled T) (s : ℕ) (a : Option Ref) (x : Ref) (b : Option Ref) (A B : Shape) : Type 0 where
     pub first : IsRooted m s a A
     pub held : IsHeld m x
     pub second : IsRooted m s b B
     pub out_first : IsOut x.name (nodes A)
     pub out_second : IsOut x.name (nodes B)
-    pub fits : size A + size B + 1 < 2 ^ 64
+    pub fits : size A + size B + 1 < 2 ^ 32
     pub low : (height A < 255) × (height B < 255)
 
-  pub record Three (m : Pooled T) (s : ℕ) (a : Option NodeRef) (x : NodeRef) (b : Option NodeRef) (y : NodeRef) (c : Option NodeRef) (A B C : Shape) : Type 0 where
+  -- the link that the node has above these two
+  pub record IsFork (m : Pooled T) (s : ℕ) (x : Ref) (y : Link) (A B : Shape) : Type 0 where
+    pub two : Two m s y.back x y.forth A B
+    pub size_is : y.size ≡ size A + size B + 1
+    pub height_is : y.height ≡ max (height A) (height B) + 1
+    pub tag_is : y.tag ≡ (link_of m x.name s).tag
+
+  pub record Three (m : Pooled T) (s : ℕ) (a : Option Ref) (x : Ref) (b : Option Ref) (y : Ref) (c : Option Ref) (A B C : Shape) : Type 0 where
     pub first : IsRooted m s a A
     pub held_x : IsHeld m x
     pub second : IsRooted m s b B
     pub held_y : IsHeld m y
     pub third : IsRooted m s c C
     pub apart : IsApart (nodes A ++ x ∷ (nodes B ++ y ∷ nodes C))
-    pub fits : size A + size B + size C + 2 < 2 ^ 64
+    pub fits : size A + size B + size C + 2 < 2 ^ 32
     pub low : (height A < 254) × (height B < 254) × (height C < 254)
 
-  pub record Four (m : Pooled T) (s : ℕ) (a : Option NodeRef) (x : NodeRef) (b : Option NodeRef) (y : NodeRef) (c : Option NodeRef) (z : NodeRef) (d : Option NodeRef) (A B C D : Shape) : Type 0 where
+  pub record Four (m : Pooled T) (s : ℕ) (a : Option Ref) (x : Ref) (b : Option Ref) (y : Ref) (c : Option Ref) (z : Ref) (d : Option Ref) (A B C D : Shape) : Type 0 where
     pub first : IsRooted m s a A
     pub held_x : IsHeld m x
     pub second : IsRooted m s b B
@@ -36,11 +44,11 @@ module _ {T : Type 0} where
     pub held_z : IsHeld m z
     pub fourth : IsRooted m s d D
     pub apart : IsApart (nodes A ++ x ∷ (nodes B ++ y ∷ (nodes C ++ z ∷ nodes D)))
-    pub fits : size A + size B + size C + size D + 3 < 2 ^ 64
+    pub fits : size A + size B + size C + size D + 3 < 2 ^ 32
     pub low : (height A < 254) × (height B < 254) × (height C < 254) × (height D < 254)
 
 -- t is balanced, has the nodes of l, then x, then those of q, and is as high as such a tree may be
-pub record Rebalanced (l : Shape) (x : NodeRef) (q t : Shape) : Type 0 where
+pub record Rebalanced (l : Shape) (x : Ref) (q t : Shape) : Type 0 where
   pub nodes_are : nodes t ≡ nodes l ++ x ∷ nodes q
   pub even : IsEven t
   pub not_lower : max (height l) (height q) ≤ height t
@@ -49,7 +57,7 @@ pub record Rebalanced (l : Shape) (x : NodeRef) (q t : Shape) : Type 0 where
 
 module _ {T : Type 0} where
   -- two subtrees and a node between them, which may be put together
-  pub record AreSides (m : Pooled T) (s : ℕ) (left : Option NodeRef) (x : NodeRef) (right : Option NodeRef) (l q : Shape) : Type 0 where
+  pub record AreSides (m : Pooled T) (s : ℕ) (left : Option Ref) (x : Ref) (right : Option Ref) (l q : Shape) : Type 0 where
     pub left_is : IsRooted m s left l
     pub held : IsHeld m x
     pub right_is : IsRooted m s right q
@@ -57,10 +65,18 @@ module _ {T : Type 0} where
     pub left_even : IsEven l
     pub right_even : IsEven q
     pub near : DifferByAtMost 2 (height l) (height q)
-    pub fits : size l + size q + 1 < 2 ^ 64
+    pub fits : size l + size q + 1 < 2 ^ 32
 
   -- what putting them together gives
-  pub record IsBalanced (m n : Pooled T) (s : ℕ) (l : Shape) (x : NodeRef) (q : Shape) (root : NodeRef) (t : Shape) : Type 0 where
+  pub record IsBalanced (m n : Pooled T) (s : ℕ) (l : Shape) (x : Ref) (q : Shape) (root : Ref) (t : Shape) : Type 0 where
     pub rooted : IsRooted n s (Some root) t
     pub rebalanced : Rebalanced l x q t
     pub keeps : Keeps m n s (nodes l ++ x ∷ nodes q)
+    pub tags : SameTags m n s
+
+  -- the link has their size, and also the height of the tree that they give, where neither changed in height
+  pub record Says (m : Pooled T) (s : ℕ) (x : Ref) (y : Link) (changed : Bool) (l q : Shape) : Type 0 where
+    pub size_is : y.size ≡ size l + size q + 1
+    pub height_is : changed ≡ false → y.height ≡ max (height l) (height q) + 1
+    pub near : changed ≡ false → DifferByAtMost 1 (height l) (height q)
+    pub tag_is : y.tag ≡ (link_of m x.name s).tag

@@ -6,6 +6,4 @@ pub mod Probed
 pub mod Shape
 pub mod Sorted
 pub mod Standing
-pub mod Stock
-pub mod StockLaws
 pub mod Walking

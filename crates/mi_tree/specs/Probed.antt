@@ -4,7 +4,7 @@ use Rattle.std.specs.declared.cmp.Ordering.{Ordering}
 use Rattle.std.specs.declared.cmp.Ordering.TheVariants.{Less, Equal, Greater}
 use Rattle.std.specs.Ordering.{is_eq}
 use Rattle.mi_node.specs.Pool.{Pooled, value_of}
-use Rattle.mi_node.specs.declared.heap.NodeRef.{NodeRef}
+use Rattle.mi_node.specs.Refs.{Ref}
 
 -- the probe isn't after, or with `strict` it is before
 abbrev pub past : Bool → Ordering → Bool
@@ -13,11 +13,16 @@ past strict Equal = not strict
 past strict Greater = true
 
 module _ {T : Type 0} where
+  -- where a value stands, if there is one
+  abbrev pub place_at : (T → Ordering) → Option T → Ordering
+  place_at place None = Equal
+  place_at place (Some v) = place v
+
   abbrev pub past_value : Bool → (T → Ordering) → Option T → Bool
   past_value strict place None = false
   past_value strict place (Some v) = past strict (place v)
 
-  unfoldable pub is_past_node : Bool → (T → Ordering) → Pooled T → NodeRef → Bool
+  unfoldable pub is_past_node : Bool → (T → Ordering) → Pooled T → Ref → Bool
   is_past_node strict place m r = past_value strict place (value_of m r.name)
 
 module _ {T : Type 0} where
@@ -26,19 +31,19 @@ module _ {T : Type 0} where
   is_value_at place (Some v) = is_eq (place v)
 
   -- the node's key is the probe's
-  unfoldable pub is_node_at : (T → Ordering) → Pooled T → NodeRef → Bool
+  unfoldable pub is_node_at : (T → Ordering) → Pooled T → Ref → Bool
   is_node_at place m r = is_value_at place (value_of m r.name)
 
 -- the first of the nodes that passes the test
-abbrev pub first_where : (NodeRef → Bool) → List NodeRef → Option NodeRef
+abbrev pub first_where : (Ref → Bool) → List Ref → Option Ref
 first_where f [] = None
 first_where f (r ∷ rs) = cond (f r) (Some r) (first_where f rs)
 
-abbrev pub AllWhere : (NodeRef → Bool) → List NodeRef → Type 0
+abbrev pub AllWhere : (Ref → Bool) → List Ref → Type 0
 AllWhere f [] = Unit {0}
 AllWhere f (r ∷ rs) = (f r ≡ true) × AllWhere f rs
 
 -- once true, true of all later nodes
-abbrev pub IsSteady : (NodeRef → Bool) → List NodeRef → Type 0
+abbrev pub IsSteady : (Ref → Bool) → List Ref → Type 0
 IsSteady f [] = Unit {0}
 IsSteady f (r ∷ rs) = (f r ≡ true → AllWhere f rs) × IsSteady f rs

@@ -1,47 +1,71 @@
 -- Where a walk along a tree stands.
---     Pending      a node that is ahead, and the subtree after it
---     ahead, path_of      the nodes ahead in order, and the nodes on the path, the first of which is its last
+--     onward, beyond      a list in the walk's direction; what the walk comes to from between two lists
+--     near_of, far_of      the side of a link that the walk comes to before its node, and the one after it
+--     Pending      a node that is ahead, and the subtree that the walk comes to after it
+--     ahead, path_of      the nodes ahead, and the nodes on the path, the first of which is its last
 --     Goes      a path stands in a pool with these nodes ahead
 --     IsWalk      the same of a walk
-use Rattle.std.specs.Prelude.{◌≡◌, ℕ, ◌+◌, ◌<◌, ◌≤◌, List, [], ◌∷◌, ◌++◌, length, Option, Some}
+use Rattle.std.specs.Prelude.{◌≡◌, ℕ, Bool, true, false, ◌+◌, ◌<◌, ◌≤◌, List, [], ◌∷◌, ◌++◌, length, reverse, Option, Some}
 use Rattle.mi_node.specs.Pool.{Pooled, link_of, IsHeld}
-use Rattle.mi_node.specs.declared.heap.NodeRef.{NodeRef}
+use Rattle.mi_node.specs.Refs.{Ref}
+use Rattle.mi_node.specs.declared.link.Link.{Link}
 use Rattle.mi_tree.specs.Shape.{Shape, nodes, height, IsRooted}
+use Rattle.mi_tree.specs.declared.walk.Direction.{Direction}
+use Rattle.mi_tree.specs.declared.walk.Direction.TheVariants.{Ascending, Descending}
 use Rattle.mi_tree.specs.declared.walk.Walk.{Walk}
 
+abbrev pub beyond : Direction → List Ref → List Ref → List Ref
+beyond Ascending xs ys = ys
+beyond Descending xs ys = reverse xs
+
+abbrev pub onward : Direction → List Ref → List Ref
+onward d rs = beyond d rs rs
+
+abbrev pub near_of : Direction → Link → Option Ref
+near_of Ascending y = y.back
+near_of Descending y = y.forth
+
+abbrev pub far_of : Direction → Link → Option Ref
+far_of Ascending y = y.forth
+far_of Descending y = y.back
+
+abbrev pub is_ascending : Direction → Bool
+is_ascending Ascending = true
+is_ascending Descending = false
+
 pub record Pending : Type 0 where
-  pub node : NodeRef
+  pub node : Ref
   pub after : Shape
 
-abbrev pub ahead : List Pending → List NodeRef
-ahead [] = []
-ahead (x ∷ xs) = x.node ∷ (nodes x.after ++ ahead xs)
+abbrev pub ahead : Direction → List Pending → List Ref
+ahead d [] = []
+ahead d (x ∷ xs) = x.node ∷ (onward d (nodes x.after) ++ ahead d xs)
 
-abbrev pub path_of : List Pending → List (Option NodeRef)
+abbrev pub path_of : List Pending → List (Option Ref)
 path_of [] = []
 path_of (x ∷ xs) = path_of xs ++ Some x.node ∷ []
 
 module _ {T : Type 0} where
   -- each is held, with its subtree after it, of which every way down has room on a path of that many levels
-  abbrev pub ArePending : Pooled T → ℕ → ℕ → List Pending → Type 0
-  ArePending m s levels [] = Unit {0}
-  ArePending m s levels (x ∷ xs) = IsHeld m x.node × IsRooted m s (link_of m x.node.name s).forth x.after × (height x.after + length xs + 1 ≤ levels) × ArePending m s levels xs
+  abbrev pub ArePending : Pooled T → ℕ → Direction → ℕ → List Pending → Type 0
+  ArePending m s d levels [] = Unit {0}
+  ArePending m s d levels (x ∷ xs) = IsHeld m x.node × IsRooted m s (far_of d (link_of m x.node.name s)) x.after × (height x.after + length xs + 1 ≤ levels) × ArePending m s d levels xs
 
-  pub record Goes (m : Pooled T) (s levels : ℕ) (items : List (Option NodeRef)) (xs : List Pending) : Type 0 where
+  pub record Goes (m : Pooled T) (s : ℕ) (d : Direction) (levels : ℕ) (items : List (Option Ref)) (xs : List Pending) : Type 0 where
     pub path_is : items ≡ path_of xs
-    pub pending : ArePending m s levels xs
+    pub pending : ArePending m s d levels xs
 
   -- a path from which the walk goes down into a subtree first
-  pub record Enters (m : Pooled T) (s levels : ℕ) (items : List (Option NodeRef)) (at : Option NodeRef) (xs : List Pending) (t : Shape) : Type 0 where
-    pub goes : Goes m s levels items xs
+  pub record Enters (m : Pooled T) (s : ℕ) (d : Direction) (levels : ℕ) (items : List (Option Ref)) (at : Option Ref) (xs : List Pending) (t : Shape) : Type 0 where
+    pub goes : Goes m s d levels items xs
     pub rooted : IsRooted m s at t
     pub room : height t + length xs ≤ levels
-    pub low : levels ≤ 91
+    pub low : levels ≤ 45
 
   -- the walk has the nodes us ahead, and its path has at most that many levels
-  pub record IsWalk (w : Walk) (m : Pooled T) (levels : ℕ) (us : List NodeRef) : Type 0 where
+  pub record IsWalk (w : Walk) (m : Pooled T) (levels : ℕ) (us : List Ref) : Type 0 where
     pub xs : List Pending
-    pub goes : Goes m w.slot levels w.path.items xs
-    pub ahead_is : ahead xs ≡ us
-    pub low : levels ≤ 91
+    pub goes : Goes m w.slot w.direction levels w.path.items xs
+    pub ahead_is : ahead w.direction xs ≡ us
+    pub low : levels ≤ 45
     pub has_slot : w.slot < m.slots

@@ -1,5 +1,5 @@
 //! Laws of the definitions, each the contract of a function that does nothing.
-ghost use Rattle.mi_tree.specs.Frame.{StandsWhereAlike, IsListed, StandsEmpty};
+ghost use Rattle.mi_tree.specs.Frame.{StandsWhereAlike, StandsWhereSwapped, IsListed, StandsEmpty};
 ghost use Rattle.mi_tree.specs.Height.{HasEnough};
 
 use crate::order::NodeOrder;
@@ -10,10 +10,14 @@ pub fn new_trees_are_empty<T, O>()
 {}
 
 /// A tree stands wherever each of its nodes is held, has the same link in the tree's slot, and has a
-/// value that compares Equal to the old one. So other slots and other nodes may change, and a value may
-/// be exchanged for one that compares Equal.
+/// value that compares Equal to the old one. So other slots and other nodes may change.
 pub fn trees_stand_where_alike<T, O: NodeOrder<T>>()
-    ensures { (o : O) → StandsWhereAlike T O (O.order o) }
+    ensures { (o : O) → StandsWhereAlike T O (O.order o) (O.tag_of o) }
+{}
+
+/// A tree stands after a node's value was exchanged for one of an equal key.
+pub fn trees_stand_where_swapped<T, O: NodeOrder<T>>()
+    ensures { (o : O) → StandsWhereSwapped T O (O.order o) (O.tag_of o) }
 {}
 
 /// A tree is the one list that its links say.

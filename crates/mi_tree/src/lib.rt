@@ -4,14 +4,14 @@
 
 mod balance;
 mod change;
+mod compare;
 pub mod laws;
 mod look;
 mod order;
 mod parts;
 mod tree;
 mod walk;
-mod worked;
 
 pub use order::NodeOrder;
 pub use tree::Tree;
-pub use walk::Walk;
+pub use walk::{Direction, Walk};

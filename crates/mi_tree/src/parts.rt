@@ -3,12 +3,13 @@
 ghost use Rattle.std.specs.Prelude.{◌≡◌, ◌<◌, [], ◌∷◌, Some};
 ghost use Rattle.mi_node.specs.Pool.{IsHeldIf, Keeps};
 ghost use Rattle.mi_tree.specs.Shape.{Shape, Fork, IsRooted, size_at, height_at};
-ghost use Rattle.mi_tree.specs.Joining.{Two, Three, Four};
+ghost use Rattle.mi_tree.specs.Joining.{Two, IsFork, Three, Four};
+ghost use Rattle.mi_tree.specs.Sorted.{SameTags};
 
 use mi_node::{Link, NodeRef, Pool};
 
 /// How many nodes stand there.
-pub(crate) fn size<T>(p: &Pool<T>, slot: usize, at: Option<NodeRef>) -> u64
+pub(crate) fn size<T>(p: &Pool<T>, slot: usize, at: Option<NodeRef>) -> u32
     requires held { IsHeldIf p.now at }
     requires slot { slot < p.now.slots }
     ensures { result ≡ size_at p.now slot at }
@@ -44,19 +45,26 @@ pub(crate) fn join<T>(
     ensures tree { (A : Shape) (B : Shape) → Two p.old slot a x b A B → IsRooted p.new slot (Some x) (Fork A x B) }
     ensures slots { p.new.slots ≡ p.old.slots }
     ensures keeps { Keeps p.old p.new slot (x ∷ []) }
+    ensures tags { SameTags p.old p.new slot }
 {
-    let size = size(p, slot, a) + size(p, slot, b) + 1;
-    let height = height(p, slot, a).max(height(p, slot, b)) + 1;
-    p.set_link(
-        x,
-        slot,
-        Link {
-            back: a,
-            forth: b,
-            size,
-            height,
-        },
-    );
+    let mut link = p.link(x, slot);
+    link.back = a;
+    link.forth = b;
+    link.size = size(p, slot, link.back) + size(p, slot, link.forth) + 1;
+    link.height = height(p, slot, link.back).max(height(p, slot, link.forth)) + 1;
+    set_fork(p, slot, x, link);
+}
+
+/// Sets the node's link, by which it has two sides.
+pub(crate) fn set_fork<T>(p: &mut Pool<T>, slot: usize, x: NodeRef, link: Link)
+    requires slot { slot < p.old.slots }
+    requires parts { (A : Shape) × (B : Shape) × IsFork p.old slot x link A B }
+    ensures tree { (A : Shape) (B : Shape) → IsFork p.old slot x link A B → IsRooted p.new slot (Some x) (Fork A x B) }
+    ensures slots { p.new.slots ≡ p.old.slots }
+    ensures keeps { Keeps p.old p.new slot (x ∷ []) }
+    ensures tags { SameTags p.old p.new slot }
+{
+    p.set_link(x, slot, link);
 }
 
 /// `x` is above `y`.
@@ -74,6 +82,7 @@ pub(crate) fn join_down<T>(
     ensures tree { (A : Shape) (B : Shape) (C : Shape) → Three p.old slot a x b y c A B C → IsRooted p.new slot (Some x) (Fork A x (Fork B y C)) }
     ensures slots { p.new.slots ≡ p.old.slots }
     ensures keeps { Keeps p.old p.new slot (x ∷ y ∷ []) }
+    ensures tags { SameTags p.old p.new slot }
 {
     join(p, slot, b, y, c);
     join(p, slot, a, x, Some(y));
@@ -94,6 +103,7 @@ pub(crate) fn join_up<T>(
     ensures tree { (A : Shape) (B : Shape) (C : Shape) → Three p.old slot a x b y c A B C → IsRooted p.new slot (Some y) (Fork (Fork A x B) y C) }
     ensures slots { p.new.slots ≡ p.old.slots }
     ensures keeps { Keeps p.old p.new slot (x ∷ y ∷ []) }
+    ensures tags { SameTags p.old p.new slot }
 {
     join(p, slot, a, x, b);
     join(p, slot, Some(x), y, c);
@@ -116,6 +126,7 @@ pub(crate) fn join_both<T>(
     ensures tree { (A : Shape) (B : Shape) (C : Shape) (D : Shape) → Four p.old slot a x b y c z d A B C D → IsRooted p.new slot (Some y) (Fork (Fork A x B) y (Fork C z D)) }
     ensures slots { p.new.slots ≡ p.old.slots }
     ensures keeps { Keeps p.old p.new slot (x ∷ y ∷ z ∷ []) }
+    ensures tags { SameTags p.old p.new slot }
 {
     join(p, slot, a, x, b);
     join(p, slot, c, z, d);

@@ -1,28 +1,29 @@
 //! The tree: its slot, its order and its root.
 //! It sets links of its own slot alone, owns no node, and never touches a value.
-ghost use Rattle.std.specs.Prelude.{◌≡◌, ℕ, ◌+◌, ◌*◌, ◌^◌, ◌<◌, ◌≤◌, ◌∷◌, ◌++◌, List, length, drop, None, true, false};
+ghost use Rattle.std.specs.Prelude.{◌≡◌, ℕ, ◌+◌, ◌*◌, ◌^◌, ◌<◌, ◌≤◌, ◌∷◌, ◌++◌, ◌==◌, List, length, take, drop, None, true, false};
 ghost use Rattle.std.specs.declared.cmp.Ordering.{Ordering as Side};
-ghost use Rattle.mi_node.specs.declared.heap.NodeRef.{NodeRef as Ref};
-ghost use Rattle.mi_node.specs.Pool.{Keeps};
-ghost use Rattle.mi_node.specs.Refs.{first_of, last_of};
+ghost use Rattle.mi_node.specs.Pool.{Keeps, link_of};
+ghost use Rattle.mi_node.specs.Refs.{Ref, first_of, last_of};
 ghost use Rattle.mi_tree.specs.Shape.{nth_of};
-ghost use Rattle.mi_tree.specs.Sorted.{side, IsPutIn};
+ghost use Rattle.mi_tree.specs.Sorted.{side_of_new, IsPutIn};
 ghost use Rattle.mi_tree.specs.Probed.{is_past_node, is_node_at, first_where};
 
 use crate::change::{put_in, take_out};
+use crate::compare::compare_probe;
 use crate::look::{nth_in, rank_in, seek_in};
 use crate::order::NodeOrder;
 use crate::parts::size;
-use crate::walk::Walk;
-use mi_node::{Counted, NodeRef, Pool};
+use crate::walk::{Direction, Walk};
+use mi_node::{Counted, Link, NodeRef, Pool, Tag};
 use mi_value::{Probe, Steps};
 use std::cmp::Ordering;
 
 /// A height-balanced tree through one slot of a pool's nodes. It stands in a pool, which each call is
-/// passed, and is the list of its nodes in the order of their values; no two of them compare Equal.
+/// passed, and is the list of its nodes in the order of their keys; nodes of one key are in the order of
+/// their stamps, no two of which are alike.
 ///
-/// Each node's link has its children, the number of nodes below and with it, and the number of levels
-/// there. A call takes no memory.
+/// Each node's link has its children, the number of nodes below and with it, the number of levels there,
+/// and the node's tag: that of its value's key, and its stamp. A call takes no memory.
 ///
 /// The bounds of look-ups hold for every number b of binary digits that is enough for the number of
 /// nodes, n < 2^b.
@@ -35,7 +36,7 @@ pub struct Tree<O> {
 
 impl<O> Tree<O> {
     ghost use Rattle.mi_tree.specs.Standing.{IsTree, IsNew};
-    ghost use Rattle.mi_tree.specs.Walking.{IsWalk};
+    ghost use Rattle.mi_tree.specs.Walking.{IsWalk, beyond};
 
     /// An empty tree through a slot, counted from 0, which must be one that the pool's nodes have.
     pub fn new(slot: usize, order: O) -> Tree<O>
@@ -50,72 +51,94 @@ impl<O> Tree<O> {
         }
     }
 
-    /// Puts a node in, behind all that are before it in the order. No node of the tree compares Equal
-    /// to it, and the tree has fewer than 2^64 - 1 nodes.
+    /// Puts a node in with that stamp, in its place by its key and then by the stamp. No node of the tree
+    /// has its key and that stamp, and the tree has fewer than 2^32 - 1 nodes.
     ///
-    /// Links are set of this slot alone, and of no node outside the tree but this one.
-    pub fn insert<T>(&mut self, p: &mut Pool<T>, node: NodeRef, steps: &mut Steps)
+    /// Links are set of this slot alone, and of no node outside the tree but this one. Each node of the tree
+    /// keeps its stamp.
+    pub fn insert<T>(&mut self, p: &mut Pool<T>, node: NodeRef, stamp: u64, steps: &mut Steps)
     where
         O: NodeOrder<T>,
-        requires { (rs : List Ref) × IsTree self.old p.old (side (O.order self.old.order) p.old) rs × IsNew p.old (side (O.order self.old.order) p.old) node rs }
-        ensures tree { (rs : List Ref) → IsTree self.old p.old (side (O.order self.old.order) p.old) rs → IsNew p.old (side (O.order self.old.order) p.old) node rs
-            → (us : List Ref) × IsPutIn (side (O.order self.old.order) p.old) node rs us × IsTree self.new p.new (side (O.order self.old.order) p.new) us }
-        ensures keeps { (rs : List Ref) → IsTree self.old p.old (side (O.order self.old.order) p.old) rs → IsNew p.old (side (O.order self.old.order) p.old) node rs → Keeps p.old p.new self.old.slot (node ∷ rs) }
+        requires { (rs : List Ref) × IsTree self.old p.old (O.order self.old.order) (O.tag_of self.old.order) rs × IsNew p.old self.old.slot (O.order self.old.order) node stamp rs }
+        ensures tree { (rs : List Ref) → IsTree self.old p.old (O.order self.old.order) (O.tag_of self.old.order) rs → IsNew p.old self.old.slot (O.order self.old.order) node stamp rs
+            → (us : List Ref) × IsPutIn (side_of_new (O.order self.old.order) p.old self.old.slot node stamp) node rs us × IsTree self.new p.new (O.order self.old.order) (O.tag_of self.old.order) us }
+        ensures keeps { (rs : List Ref) → IsTree self.old p.old (O.order self.old.order) (O.tag_of self.old.order) rs → IsNew p.old self.old.slot (O.order self.old.order) node stamp rs
+            → Keeps p.old p.new self.old.slot (node ∷ rs) }
+        ensures stamp { (link_of p.new node.name self.old.slot).tag.stamp ≡ stamp }
+        ensures tags { (k : ℕ) → (k == node.name) ≡ false → (link_of p.new k self.old.slot).tag ≡ (link_of p.old k self.old.slot).tag }
         ensures slot { self.new.slot ≡ self.old.slot }
         ensures order { self.new.order ≡ self.old.order }
     {
-        self.root = Some(put_in(p, self.slot, &self.order, self.root, node, steps));
+        let key = self.order.tag(p.value(node));
+        let tag = Tag { key, stamp };
+        p.set_link(
+            node,
+            self.slot,
+            Link {
+                back: None,
+                forth: None,
+                size: 1,
+                height: 1,
+                tag,
+            },
+        );
+        self.root = Some(put_in(p, self.slot, &self.order, self.root, node, tag, steps).0);
     }
 
-    /// Takes a node of the tree out. The others keep their order, and each node keeps its value.
+    /// Takes a node of the tree out. The others keep their order, and each node keeps its value, its tag
+    /// and its stamp.
     ///
-    /// Links are set of this slot alone, and of the tree's nodes alone.
+    /// Links are set of this slot alone, and of the nodes that stay alone: the link of the node that goes is
+    /// as it was.
     pub fn remove<T>(&mut self, p: &mut Pool<T>, node: NodeRef, steps: &mut Steps)
     where
         O: NodeOrder<T>,
-        requires { (xs : List Ref) × (ys : List Ref) × IsTree self.old p.old (side (O.order self.old.order) p.old) (xs ++ node ∷ ys) }
-        ensures tree { (xs : List Ref) (ys : List Ref) → IsTree self.old p.old (side (O.order self.old.order) p.old) (xs ++ node ∷ ys)
-            → IsTree self.new p.new (side (O.order self.old.order) p.new) (xs ++ ys) }
-        ensures keeps { (xs : List Ref) (ys : List Ref) → IsTree self.old p.old (side (O.order self.old.order) p.old) (xs ++ node ∷ ys) → Keeps p.old p.new self.old.slot (xs ++ node ∷ ys) }
+        requires { (xs : List Ref) × (ys : List Ref) × IsTree self.old p.old (O.order self.old.order) (O.tag_of self.old.order) (xs ++ node ∷ ys) }
+        ensures tree { (xs : List Ref) (ys : List Ref) → IsTree self.old p.old (O.order self.old.order) (O.tag_of self.old.order) (xs ++ node ∷ ys)
+            → IsTree self.new p.new (O.order self.old.order) (O.tag_of self.old.order) (xs ++ ys) }
+        ensures keeps { (xs : List Ref) (ys : List Ref) → IsTree self.old p.old (O.order self.old.order) (O.tag_of self.old.order) (xs ++ node ∷ ys) → Keeps p.old p.new self.old.slot (xs ++ ys) }
+        ensures tags { (k : ℕ) → (link_of p.new k self.old.slot).tag ≡ (link_of p.old k self.old.slot).tag }
         ensures slot { self.new.slot ≡ self.old.slot }
         ensures order { self.new.order ≡ self.old.order }
     {
-        self.root = take_out(p, self.slot, &self.order, self.root, node, steps);
+        let tag = p.link(node, self.slot).tag;
+        self.root = take_out(p, self.slot, &self.order, self.root, node, tag, steps).0;
     }
 
     /// How many nodes it has. Reads one link.
-    pub fn len<T>(&self, p: &Pool<T>) -> u64
-        requires { (R : Ref → Ref → Side) × (rs : List Ref) × IsTree self.now p.now R rs }
-        ensures { (R : Ref → Ref → Side) (rs : List Ref) → IsTree self.now p.now R rs → result ≡ length rs }
+    pub fn len<T>(&self, p: &Pool<T>) -> u32
+        requires { (order : T → T → Side) × (tag : T → ℕ) × (rs : List Ref) × IsTree self.now p.now order tag rs }
+        ensures { (order : T → T → Side) (tag : T → ℕ) (rs : List Ref) → IsTree self.now p.now order tag rs → result ≡ length rs }
     {
         size(p, self.slot, self.root)
     }
 
     /// The node of a rank, counted from 0, or None where the tree has no more nodes than that. It
     /// compares nothing and reads at most 4b links.
-    pub fn nth<T>(&self, p: &mut Counted<T>, n: u64) -> Option<NodeRef>
-        requires { (R : Ref → Ref → Side) × (rs : List Ref) × IsTree self.now p.old.pool R rs }
-        ensures node { (R : Ref → Ref → Side) (rs : List Ref) → IsTree self.now p.old.pool R rs → result ≡ nth_of rs n }
+    pub fn nth<T>(&self, p: &mut Counted<T>, n: u32) -> Option<NodeRef>
+        requires { (order : T → T → Side) × (tag : T → ℕ) × (rs : List Ref) × IsTree self.now p.old.pool order tag rs }
+        ensures node { (order : T → T → Side) (tag : T → ℕ) (rs : List Ref) → IsTree self.now p.old.pool order tag rs → result ≡ nth_of rs n }
         ensures pool { p.new.pool ≡ p.old.pool }
-        ensures reads { (R : Ref → Ref → Side) (rs : List Ref) → IsTree self.now p.old.pool R rs → (b : ℕ) → length rs < 2 ^ b → p.new.reads ≤ p.old.reads + 4 * b }
+        ensures reads { (order : T → T → Side) (tag : T → ℕ) (rs : List Ref) → IsTree self.now p.old.pool order tag rs → (b : ℕ) → length rs < 2 ^ b → p.new.reads ≤ p.old.reads + 4 * b }
     {
         nth_in(p, self.slot, self.root, n)
     }
 
     /// How many nodes are before a node of the tree. At most 2b comparisons and 4b reads of links.
-    pub fn rank<T>(&self, p: &mut Counted<T>, node: NodeRef, steps: &mut Steps) -> u64
+    pub fn rank<T>(&self, p: &mut Counted<T>, node: NodeRef, steps: &mut Steps) -> u32
     where
         O: NodeOrder<T>,
-        requires { (xs : List Ref) × (ys : List Ref) × IsTree self.now p.old.pool (side (O.order self.now.order) p.old.pool) (xs ++ node ∷ ys) }
-        ensures rank { (xs : List Ref) (ys : List Ref) → IsTree self.now p.old.pool (side (O.order self.now.order) p.old.pool) (xs ++ node ∷ ys) → result ≡ length xs }
+        requires { (xs : List Ref) × (ys : List Ref) × IsTree self.now p.old.pool (O.order self.now.order) (O.tag_of self.now.order) (xs ++ node ∷ ys) }
+        ensures rank { (xs : List Ref) (ys : List Ref) → IsTree self.now p.old.pool (O.order self.now.order) (O.tag_of self.now.order) (xs ++ node ∷ ys) → result ≡ length xs }
         ensures pool { p.new.pool ≡ p.old.pool }
-        ensures reads { (R : Ref → Ref → Side) (rs : List Ref) → IsTree self.now p.old.pool R rs → (b : ℕ) → length rs < 2 ^ b → p.new.reads ≤ p.old.reads + 4 * b }
-        ensures steps { (R : Ref → Ref → Side) (rs : List Ref) → IsTree self.now p.old.pool R rs → (b : ℕ) → length rs < 2 ^ b → steps.new.count ≤ steps.old.count + 2 * b }
+        ensures reads { (order : T → T → Side) (tag : T → ℕ) (rs : List Ref) → IsTree self.now p.old.pool order tag rs → (b : ℕ) → length rs < 2 ^ b → p.new.reads ≤ p.old.reads + 4 * b }
+        ensures steps { (order : T → T → Side) (tag : T → ℕ) (rs : List Ref) → IsTree self.now p.old.pool order tag rs → (b : ℕ) → length rs < 2 ^ b → steps.new.count ≤ steps.old.count + 2 * b }
     {
-        rank_in(p, self.slot, &self.order, self.root, node, steps)
+        let tag = p.link(node, self.slot).tag;
+        rank_in(p, self.slot, &self.order, self.root, node, tag, steps)
     }
 
-    /// The first node that isn't before the probe. At most 2b comparisons and 4b reads of links.
+    /// The first node that isn't before the probe. At most 2b comparisons and 2b reads of links.
     pub fn lower<T>(
         &self,
         p: &mut Counted<T>,
@@ -124,17 +147,17 @@ impl<O> Tree<O> {
     ) -> Option<NodeRef>
     where
         O: NodeOrder<T>,
-        requires { (rs : List Ref) × IsTree self.now p.old.pool (side (O.order self.now.order) p.old.pool) rs }
-        ensures node { (rs : List Ref) → IsTree self.now p.old.pool (side (O.order self.now.order) p.old.pool) rs
+        requires { (rs : List Ref) × IsTree self.now p.old.pool (O.order self.now.order) (O.tag_of self.now.order) rs }
+        ensures node { (rs : List Ref) → IsTree self.now p.old.pool (O.order self.now.order) (O.tag_of self.now.order) rs
             → result ≡ first_where (is_past_node false (λ v. O.place self.now.order v probe.entry) p.old.pool) rs }
         ensures pool { p.new.pool ≡ p.old.pool }
-        ensures reads { (R : Ref → Ref → Side) (rs : List Ref) → IsTree self.now p.old.pool R rs → (b : ℕ) → length rs < 2 ^ b → p.new.reads ≤ p.old.reads + 4 * b }
-        ensures steps { (R : Ref → Ref → Side) (rs : List Ref) → IsTree self.now p.old.pool R rs → (b : ℕ) → length rs < 2 ^ b → steps.new.count ≤ steps.old.count + 2 * b }
+        ensures reads { (order : T → T → Side) (tag : T → ℕ) (rs : List Ref) → IsTree self.now p.old.pool order tag rs → (b : ℕ) → length rs < 2 ^ b → p.new.reads ≤ p.old.reads + 2 * b }
+        ensures steps { (order : T → T → Side) (tag : T → ℕ) (rs : List Ref) → IsTree self.now p.old.pool order tag rs → (b : ℕ) → length rs < 2 ^ b → steps.new.count ≤ steps.old.count + 2 * b }
     {
         seek_in(p, self.slot, &self.order, self.root, probe, false, steps)
     }
 
-    /// The first node that is after the probe. At most 2b comparisons and 4b reads of links.
+    /// The first node that is after the probe. At most 2b comparisons and 2b reads of links.
     pub fn upper<T>(
         &self,
         p: &mut Counted<T>,
@@ -143,12 +166,12 @@ impl<O> Tree<O> {
     ) -> Option<NodeRef>
     where
         O: NodeOrder<T>,
-        requires { (rs : List Ref) × IsTree self.now p.old.pool (side (O.order self.now.order) p.old.pool) rs }
-        ensures node { (rs : List Ref) → IsTree self.now p.old.pool (side (O.order self.now.order) p.old.pool) rs
+        requires { (rs : List Ref) × IsTree self.now p.old.pool (O.order self.now.order) (O.tag_of self.now.order) rs }
+        ensures node { (rs : List Ref) → IsTree self.now p.old.pool (O.order self.now.order) (O.tag_of self.now.order) rs
             → result ≡ first_where (is_past_node true (λ v. O.place self.now.order v probe.entry) p.old.pool) rs }
         ensures pool { p.new.pool ≡ p.old.pool }
-        ensures reads { (R : Ref → Ref → Side) (rs : List Ref) → IsTree self.now p.old.pool R rs → (b : ℕ) → length rs < 2 ^ b → p.new.reads ≤ p.old.reads + 4 * b }
-        ensures steps { (R : Ref → Ref → Side) (rs : List Ref) → IsTree self.now p.old.pool R rs → (b : ℕ) → length rs < 2 ^ b → steps.new.count ≤ steps.old.count + 2 * b }
+        ensures reads { (order : T → T → Side) (tag : T → ℕ) (rs : List Ref) → IsTree self.now p.old.pool order tag rs → (b : ℕ) → length rs < 2 ^ b → p.new.reads ≤ p.old.reads + 2 * b }
+        ensures steps { (order : T → T → Side) (tag : T → ℕ) (rs : List Ref) → IsTree self.now p.old.pool order tag rs → (b : ℕ) → length rs < 2 ^ b → steps.new.count ≤ steps.old.count + 2 * b }
     {
         seek_in(p, self.slot, &self.order, self.root, probe, true, steps)
     }
@@ -162,17 +185,18 @@ impl<O> Tree<O> {
     ) -> Option<NodeRef>
     where
         O: NodeOrder<T>,
-        requires { (rs : List Ref) × IsTree self.now p.old.pool (side (O.order self.now.order) p.old.pool) rs }
-        ensures node { (rs : List Ref) → IsTree self.now p.old.pool (side (O.order self.now.order) p.old.pool) rs
+        requires { (rs : List Ref) × IsTree self.now p.old.pool (O.order self.now.order) (O.tag_of self.now.order) rs }
+        ensures node { (rs : List Ref) → IsTree self.now p.old.pool (O.order self.now.order) (O.tag_of self.now.order) rs
             → result ≡ first_where (is_node_at (λ v. O.place self.now.order v probe.entry) p.old.pool) rs }
         ensures pool { p.new.pool ≡ p.old.pool }
-        ensures reads { (R : Ref → Ref → Side) (rs : List Ref) → IsTree self.now p.old.pool R rs → (b : ℕ) → length rs < 2 ^ b → p.new.reads ≤ p.old.reads + 4 * b }
-        ensures steps { (R : Ref → Ref → Side) (rs : List Ref) → IsTree self.now p.old.pool R rs → (b : ℕ) → length rs < 2 ^ b → steps.new.count ≤ steps.old.count + (2 * b + 1) }
+        ensures reads { (order : T → T → Side) (tag : T → ℕ) (rs : List Ref) → IsTree self.now p.old.pool order tag rs → (b : ℕ) → length rs < 2 ^ b → p.new.reads ≤ p.old.reads + 4 * b }
+        ensures steps { (order : T → T → Side) (tag : T → ℕ) (rs : List Ref) → IsTree self.now p.old.pool order tag rs → (b : ℕ) → length rs < 2 ^ b → steps.new.count ≤ steps.old.count + (2 * b + 1) }
     {
         let Some(node) = self.lower(p, probe, steps) else {
             return None;
         };
-        match self.order.seek(p.value(node), probe, steps) {
+        let (tag, probe_tag) = (p.link(node, self.slot).tag, self.order.probe_tag(probe));
+        match compare_probe(p, &self.order, node, tag, probe, probe_tag, steps) {
             Ordering::Equal => Some(node),
             _ => None,
         }
@@ -182,11 +206,11 @@ impl<O> Tree<O> {
     pub fn next<T>(&self, p: &mut Counted<T>, node: NodeRef, steps: &mut Steps) -> Option<NodeRef>
     where
         O: NodeOrder<T>,
-        requires { (xs : List Ref) × (ys : List Ref) × IsTree self.now p.old.pool (side (O.order self.now.order) p.old.pool) (xs ++ node ∷ ys) }
-        ensures node { (xs : List Ref) (ys : List Ref) → IsTree self.now p.old.pool (side (O.order self.now.order) p.old.pool) (xs ++ node ∷ ys) → result ≡ first_of ys None }
+        requires { (xs : List Ref) × (ys : List Ref) × IsTree self.now p.old.pool (O.order self.now.order) (O.tag_of self.now.order) (xs ++ node ∷ ys) }
+        ensures node { (xs : List Ref) (ys : List Ref) → IsTree self.now p.old.pool (O.order self.now.order) (O.tag_of self.now.order) (xs ++ node ∷ ys) → result ≡ first_of ys None }
         ensures pool { p.new.pool ≡ p.old.pool }
-        ensures reads { (R : Ref → Ref → Side) (rs : List Ref) → IsTree self.now p.old.pool R rs → (b : ℕ) → length rs < 2 ^ b → p.new.reads ≤ p.old.reads + 8 * b }
-        ensures steps { (R : Ref → Ref → Side) (rs : List Ref) → IsTree self.now p.old.pool R rs → (b : ℕ) → length rs < 2 ^ b → steps.new.count ≤ steps.old.count + 2 * b }
+        ensures reads { (order : T → T → Side) (tag : T → ℕ) (rs : List Ref) → IsTree self.now p.old.pool order tag rs → (b : ℕ) → length rs < 2 ^ b → p.new.reads ≤ p.old.reads + 8 * b }
+        ensures steps { (order : T → T → Side) (tag : T → ℕ) (rs : List Ref) → IsTree self.now p.old.pool order tag rs → (b : ℕ) → length rs < 2 ^ b → steps.new.count ≤ steps.old.count + 2 * b }
     {
         let rank = self.rank(p, node, steps);
         self.nth(p, rank + 1)
@@ -196,11 +220,11 @@ impl<O> Tree<O> {
     pub fn prev<T>(&self, p: &mut Counted<T>, node: NodeRef, steps: &mut Steps) -> Option<NodeRef>
     where
         O: NodeOrder<T>,
-        requires { (xs : List Ref) × (ys : List Ref) × IsTree self.now p.old.pool (side (O.order self.now.order) p.old.pool) (xs ++ node ∷ ys) }
-        ensures node { (xs : List Ref) (ys : List Ref) → IsTree self.now p.old.pool (side (O.order self.now.order) p.old.pool) (xs ++ node ∷ ys) → result ≡ last_of None xs }
+        requires { (xs : List Ref) × (ys : List Ref) × IsTree self.now p.old.pool (O.order self.now.order) (O.tag_of self.now.order) (xs ++ node ∷ ys) }
+        ensures node { (xs : List Ref) (ys : List Ref) → IsTree self.now p.old.pool (O.order self.now.order) (O.tag_of self.now.order) (xs ++ node ∷ ys) → result ≡ last_of None xs }
         ensures pool { p.new.pool ≡ p.old.pool }
-        ensures reads { (R : Ref → Ref → Side) (rs : List Ref) → IsTree self.now p.old.pool R rs → (b : ℕ) → length rs < 2 ^ b → p.new.reads ≤ p.old.reads + 8 * b }
-        ensures steps { (R : Ref → Ref → Side) (rs : List Ref) → IsTree self.now p.old.pool R rs → (b : ℕ) → length rs < 2 ^ b → steps.new.count ≤ steps.old.count + 2 * b }
+        ensures reads { (order : T → T → Side) (tag : T → ℕ) (rs : List Ref) → IsTree self.now p.old.pool order tag rs → (b : ℕ) → length rs < 2 ^ b → p.new.reads ≤ p.old.reads + 8 * b }
+        ensures steps { (order : T → T → Side) (tag : T → ℕ) (rs : List Ref) → IsTree self.now p.old.pool order tag rs → (b : ℕ) → length rs < 2 ^ b → steps.new.count ≤ steps.old.count + 2 * b }
     {
         let rank = self.rank(p, node, steps);
         if rank == 0 {
@@ -210,15 +234,47 @@ impl<O> Tree<O> {
         }
     }
 
-    /// A walk in order from the node of rank `from` on, counted from 0, for k nodes at 2k + 6b reads of
-    /// links in all: at most 4b here, and 2k and as many as the path has levels, at most 2b, on the way.
-    pub fn walk<T>(&self, p: &mut Counted<T>, from: u64) -> Walk
-        requires { (R : Ref → Ref → Side) × (rs : List Ref) × IsTree self.now p.old.pool R rs }
-        ensures walk { (R : Ref → Ref → Side) (rs : List Ref) → IsTree self.now p.old.pool R rs
-            → (levels : ℕ) × IsWalk result p.old.pool levels (drop from rs) × ((b : ℕ) → length rs < 2 ^ b → levels ≤ 2 * b) }
+    /// A walk from the place behind the first `passed` nodes, up or down from there: up from the node of
+    /// that rank on, counted from 0, or down from the node before it. For k nodes it reads 2k + 6b links in
+    /// all: at most 4b here, and 2k and as many as the path has levels, at most 2b, on the way.
+    pub fn walk<T>(&self, p: &mut Counted<T>, direction: Direction, passed: u32) -> Walk
+        requires { (order : T → T → Side) × (tag : T → ℕ) × (rs : List Ref) × IsTree self.now p.old.pool order tag rs }
+        ensures walk { (order : T → T → Side) (tag : T → ℕ) (rs : List Ref) → IsTree self.now p.old.pool order tag rs
+            → (levels : ℕ) × IsWalk result p.old.pool levels (beyond direction (take passed rs) (drop passed rs)) × ((b : ℕ) → length rs < 2 ^ b → levels ≤ 2 * b) }
         ensures pool { p.new.pool ≡ p.old.pool }
-        ensures reads { (R : Ref → Ref → Side) (rs : List Ref) → IsTree self.now p.old.pool R rs → (b : ℕ) → length rs < 2 ^ b → p.new.reads ≤ p.old.reads + 4 * b }
+        ensures reads { (order : T → T → Side) (tag : T → ℕ) (rs : List Ref) → IsTree self.now p.old.pool order tag rs → (b : ℕ) → length rs < 2 ^ b → p.new.reads ≤ p.old.reads + 4 * b }
     {
-        Walk::start(p, self.slot, self.root, from)
+        Walk::start(p, self.slot, direction, self.root, passed)
+    }
+
+    /// A walk from a node of the tree, up or down from there; the node is its first. At most 2b comparisons,
+    /// and for k nodes 2k + 6b reads of links in all: at most 4b here, and 2k + 2b on the way.
+    pub fn walk_from<T>(
+        &self,
+        p: &mut Counted<T>,
+        direction: Direction,
+        node: NodeRef,
+        steps: &mut Steps,
+    ) -> Walk
+    where
+        O: NodeOrder<T>,
+        requires { (xs : List Ref) × (ys : List Ref) × IsTree self.now p.old.pool (O.order self.now.order) (O.tag_of self.now.order) (xs ++ node ∷ ys) }
+        ensures walk { (xs : List Ref) (ys : List Ref) → IsTree self.now p.old.pool (O.order self.now.order) (O.tag_of self.now.order) (xs ++ node ∷ ys)
+            → (levels : ℕ) × IsWalk result p.old.pool levels (node ∷ beyond direction xs ys) × ((b : ℕ) → length (xs ++ node ∷ ys) < 2 ^ b → levels ≤ 2 * b) }
+        ensures pool { p.new.pool ≡ p.old.pool }
+        ensures reads { (order : T → T → Side) (tag : T → ℕ) (rs : List Ref) → IsTree self.now p.old.pool order tag rs → (b : ℕ) → length rs < 2 ^ b → p.new.reads ≤ p.old.reads + 4 * b }
+        ensures steps { (order : T → T → Side) (tag : T → ℕ) (rs : List Ref) → IsTree self.now p.old.pool order tag rs → (b : ℕ) → length rs < 2 ^ b → steps.new.count ≤ steps.old.count + 2 * b }
+    {
+        let tag = p.link(node, self.slot).tag;
+        Walk::start_at(
+            p,
+            self.slot,
+            direction,
+            &self.order,
+            self.root,
+            node,
+            tag,
+            steps,
+        )
     }
 }

@@ -1,50 +1,132 @@
-//! A walk along a tree's nodes in order, which remembers the way down to where it stands.
+//! A walk along a tree's nodes in order or against it, which remembers the way down to where it stands.
 //! It reads links of one slot, and changes nothing.
-ghost use Rattle.std.specs.Prelude.{◌≡◌, ℕ, ◌+◌, ◌*◌, ◌<◌, ◌≤◌, List, [], ◌++◌, length, drop, None};
-ghost use Rattle.mi_node.specs.declared.heap.NodeRef.{NodeRef as Ref};
-ghost use Rattle.mi_node.specs.Refs.{first_of};
+ghost use Rattle.std.specs.Prelude.{◌≡◌, ℕ, ◌+◌, ◌*◌, ◌<◌, ◌≤◌, List, [], ◌∷◌, ◌++◌, length, take, drop, cond, None, Some};
+ghost use Rattle.mi_node.specs.Pool.{link_of};
+ghost use Rattle.mi_node.specs.Refs.{Ref, first_of};
 ghost use Rattle.mi_tree.specs.Shape.{Shape, IsRooted, nodes, height};
-ghost use Rattle.mi_tree.specs.Walking.{Pending, IsWalk, Enters, Goes, ahead};
+ghost use Rattle.mi_tree.specs.Sorted.{side, Rising, AreTagged, CanTake};
+ghost use Rattle.mi_tree.specs.Walking.{Pending, IsWalk, Enters, Goes, ahead, onward, beyond, near_of, far_of, is_ascending};
 
+use crate::compare::compare_nodes;
 use crate::look::size;
+use crate::order::NodeOrder;
 use arrayvec::ArrayVec;
-use mi_node::{Counted, NodeRef};
+use mi_node::{Counted, Link, NodeRef, Tag};
+use mi_value::Steps;
+use std::cmp::Ordering;
 
-/// The most levels of a balanced tree that has fewer than 2^64 nodes.
-pub(crate) const MAX_LEVELS: usize = 91;
+/// The most levels of a balanced tree that has fewer than 2^32 nodes.
+pub(crate) const MAX_LEVELS: usize = 45;
 
 type Path = ArrayVec<Option<NodeRef>, MAX_LEVELS>;
 
-/// Where a walk along a tree stands. It gives the nodes in order, one a call, in a time that does not
-/// depend on the tree's size on average: k calls read at most 2k links and one for each level.
+/// Which way a walk goes along a tree.
+#[derive(Clone, Copy)]
+pub enum Direction {
+    /// From each node to the one after it.
+    Ascending,
+    /// From each node to the one before it.
+    Descending,
+}
+
+impl Direction {
+    /// The side of a node that the walk comes to before the node.
+    fn near(self, link: Link) -> Option<NodeRef>
+        ensures { result ≡ near_of self link }
+    {
+        match self {
+            Direction::Ascending => link.back,
+            Direction::Descending => link.forth,
+        }
+    }
+
+    /// The side of a node that the walk comes to after the node.
+    fn far(self, link: Link) -> Option<NodeRef>
+        ensures { result ≡ far_of self link }
+    {
+        match self {
+            Direction::Ascending => link.forth,
+            Direction::Descending => link.back,
+        }
+    }
+
+    fn is_ascending(self) -> bool
+        ensures { result ≡ is_ascending self }
+    {
+        match self {
+            Direction::Ascending => true,
+            Direction::Descending => false,
+        }
+    }
+}
+
+/// Where a walk along a tree stands. It gives the nodes in its direction, one a call, in a time that does
+/// not depend on the tree's size on average: k calls read at most 2k links and one for each level.
 ///
 /// It takes no memory. It is of use while the pool has the tree's links as they were when it began.
 #[derive(Drop)]
 pub struct Walk {
     slot: usize,
+    direction: Direction,
     path: Path,
 }
 
 impl Walk {
-    /// A walk from the node of rank `skip` under a root.
+    /// A walk under a root, from the place behind the first `passed` nodes.
     pub(crate) fn start<T>(
         p: &mut Counted<T>,
         slot: usize,
+        direction: Direction,
         root: Option<NodeRef>,
-        skip: u64,
+        passed: u32,
     ) -> Walk
         requires slot { slot < p.old.pool.slots }
-        requires tree { (levels : ℕ) × (t : Shape) × Enters p.old.pool slot levels [] root [] t }
-        ensures walk { (levels : ℕ) (t : Shape) → Enters p.old.pool slot levels [] root [] t → IsWalk result p.old.pool levels (drop skip (nodes t)) }
+        requires tree { (levels : ℕ) × (t : Shape) × Enters p.old.pool slot direction levels [] root [] t }
+        ensures walk { (levels : ℕ) (t : Shape) → Enters p.old.pool slot direction levels [] root [] t
+            → IsWalk result p.old.pool levels (beyond direction (take passed (nodes t)) (drop passed (nodes t))) }
         ensures pool { p.new.pool ≡ p.old.pool }
-        ensures reads { (levels : ℕ) (t : Shape) → Enters p.old.pool slot levels [] root [] t → p.new.reads ≤ p.old.reads + 2 * height t }
+        ensures reads { (levels : ℕ) (t : Shape) → Enters p.old.pool slot direction levels [] root [] t → p.new.reads ≤ p.old.reads + 2 * height t }
     {
         let mut path = ArrayVec::new();
-        skip_down(p, slot, root, skip, &mut path);
-        Walk { slot, path }
+        cut_down(p, slot, direction, root, passed, &mut path);
+        Walk {
+            slot,
+            direction,
+            path,
+        }
     }
 
-    /// The next node in order, or None where there are no more.
+    /// A walk under a root from a node of that tag on, which stands there.
+    pub(crate) fn start_at<T, O: NodeOrder<T>>(
+        p: &mut Counted<T>,
+        slot: usize,
+        direction: Direction,
+        order: &O,
+        root: Option<NodeRef>,
+        node: NodeRef,
+        tag: Tag,
+        steps: &mut Steps,
+    ) -> Walk
+        requires slot { slot < p.old.pool.slots }
+        requires tag { tag ≡ (link_of p.old.pool node.name slot).tag }
+        requires tree { (levels : ℕ) × (t : Shape) × (xs : List Ref) × (ys : List Ref) × Enters p.old.pool slot direction levels [] root [] t × CanTake p.old.pool slot root t
+            × Rising (side (O.order order.now) p.old.pool slot) (nodes t) × AreTagged (O.tag_of order.now) p.old.pool slot (nodes t) × (nodes t ≡ xs ++ node ∷ ys) }
+        ensures walk { (levels : ℕ) (t : Shape) (xs : List Ref) (ys : List Ref) → Enters p.old.pool slot direction levels [] root [] t → CanTake p.old.pool slot root t
+            → Rising (side (O.order order.now) p.old.pool slot) (nodes t) → nodes t ≡ xs ++ node ∷ ys → IsWalk result p.old.pool levels (node ∷ beyond direction xs ys) }
+        ensures pool { p.new.pool ≡ p.old.pool }
+        ensures reads { (t : Shape) → IsRooted p.old.pool slot root t → p.new.reads ≤ p.old.reads + height t }
+        ensures steps { (t : Shape) → IsRooted p.old.pool slot root t → steps.new.count ≤ steps.old.count + height t }
+    {
+        let mut path = ArrayVec::new();
+        find_down(p, slot, direction, order, root, node, tag, &mut path, steps);
+        Walk {
+            slot,
+            direction,
+            path,
+        }
+    }
+
+    /// The next node in the walk's direction, or None where there are no more.
     ///
     /// It reads two links, and one more for each level by which its path grows; the path has at most
     /// `levels` levels.
@@ -59,18 +141,24 @@ impl Walk {
         let Some(node) = self.path.pop().flatten() else {
             return None;
         };
-        let after = p.link(node, self.slot).forth;
-        go_down(p, self.slot, after, &mut self.path);
+        let after = self.direction.far(p.link(node, self.slot));
+        go_down(p, self.slot, self.direction, after, &mut self.path);
         Some(node)
     }
 }
 
-/// Goes down to the first node, and puts each node on the way onto the path.
-fn go_down<T>(p: &mut Counted<T>, slot: usize, at: Option<NodeRef>, path: &mut Path)
+/// Goes down to the first node in that direction, and puts each node on the way onto the path.
+fn go_down<T>(
+    p: &mut Counted<T>,
+    slot: usize,
+    direction: Direction,
+    at: Option<NodeRef>,
+    path: &mut Path,
+)
     requires slot { slot < p.old.pool.slots }
-    requires way { (levels : ℕ) × (xs : List Pending) × (t : Shape) × Enters p.old.pool slot levels path.old.items at xs t }
-    ensures way { (levels : ℕ) (xs : List Pending) (t : Shape) → Enters p.old.pool slot levels path.old.items at xs t
-        → (ys : List Pending) × Goes p.old.pool slot levels path.new.items ys × (ahead ys ≡ nodes t ++ ahead xs) }
+    requires way { (levels : ℕ) × (xs : List Pending) × (t : Shape) × Enters p.old.pool slot direction levels path.old.items at xs t }
+    ensures way { (levels : ℕ) (xs : List Pending) (t : Shape) → Enters p.old.pool slot direction levels path.old.items at xs t
+        → (ys : List Pending) × Goes p.old.pool slot direction levels path.new.items ys × (ahead direction ys ≡ onward direction (nodes t) ++ ahead direction xs) }
     ensures pool { p.new.pool ≡ p.old.pool }
     ensures reads { p.new.reads + length path.old.items ≡ p.old.reads + length path.new.items }
 {
@@ -78,16 +166,25 @@ fn go_down<T>(p: &mut Counted<T>, slot: usize, at: Option<NodeRef>, path: &mut P
         return;
     };
     path.push(Some(node));
-    let before = p.link(node, slot).back;
-    go_down(p, slot, before, path);
+    let before = direction.near(p.link(node, slot));
+    go_down(p, slot, direction, before, path);
 }
 
-/// Goes down past the first `skip` nodes, and puts the nodes that are ahead onto the path.
-fn skip_down<T>(p: &mut Counted<T>, slot: usize, at: Option<NodeRef>, skip: u64, path: &mut Path)
+/// Goes down to the place behind the first `passed` nodes, and puts the nodes that are ahead from there
+/// onto the path.
+fn cut_down<T>(
+    p: &mut Counted<T>,
+    slot: usize,
+    direction: Direction,
+    at: Option<NodeRef>,
+    passed: u32,
+    path: &mut Path,
+)
     requires slot { slot < p.old.pool.slots }
-    requires way { (levels : ℕ) × (xs : List Pending) × (t : Shape) × Enters p.old.pool slot levels path.old.items at xs t }
-    ensures way { (levels : ℕ) (xs : List Pending) (t : Shape) → Enters p.old.pool slot levels path.old.items at xs t
-        → (ys : List Pending) × Goes p.old.pool slot levels path.new.items ys × (ahead ys ≡ drop skip (nodes t) ++ ahead xs) }
+    requires way { (levels : ℕ) × (xs : List Pending) × (t : Shape) × Enters p.old.pool slot direction levels path.old.items at xs t }
+    ensures way { (levels : ℕ) (xs : List Pending) (t : Shape) → Enters p.old.pool slot direction levels path.old.items at xs t
+        → (ys : List Pending) × Goes p.old.pool slot direction levels path.new.items ys
+        × (ahead direction ys ≡ beyond direction (take passed (nodes t)) (drop passed (nodes t)) ++ ahead direction xs) }
     ensures pool { p.new.pool ≡ p.old.pool }
     ensures reads { (t : Shape) → IsRooted p.old.pool slot at t → p.new.reads ≤ p.old.reads + 2 * height t }
 {
@@ -96,10 +193,62 @@ fn skip_down<T>(p: &mut Counted<T>, slot: usize, at: Option<NodeRef>, skip: u64,
     };
     let link = p.link(node, slot);
     let before = size(p, slot, link.back);
-    if skip <= before {
-        path.push(Some(node));
-        skip_down(p, slot, link.back, skip, path);
+    if passed <= before {
+        push_if(path, node, direction.is_ascending());
+        cut_down(p, slot, direction, link.back, passed, path);
     } else {
-        skip_down(p, slot, link.forth, skip - before - 1, path);
+        push_if(path, node, !direction.is_ascending());
+        cut_down(p, slot, direction, link.forth, passed - before - 1, path);
+    }
+}
+
+/// Goes down to a node of that tag, which stands there, and puts it and the nodes that are ahead from
+/// there onto the path.
+fn find_down<T, O: NodeOrder<T>>(
+    p: &mut Counted<T>,
+    slot: usize,
+    direction: Direction,
+    order: &O,
+    at: Option<NodeRef>,
+    node: NodeRef,
+    tag: Tag,
+    path: &mut Path,
+    steps: &mut Steps,
+)
+    requires slot { slot < p.old.pool.slots }
+    requires tag { tag ≡ (link_of p.old.pool node.name slot).tag }
+    requires way { (levels : ℕ) × (xs : List Pending) × (t : Shape) × (vs : List Ref) × (ws : List Ref) × Enters p.old.pool slot direction levels path.old.items at xs t × CanTake p.old.pool slot at t
+        × Rising (side (O.order order.now) p.old.pool slot) (nodes t) × AreTagged (O.tag_of order.now) p.old.pool slot (nodes t) × (nodes t ≡ vs ++ node ∷ ws) }
+    ensures way { (levels : ℕ) (xs : List Pending) (t : Shape) (vs : List Ref) (ws : List Ref) → Enters p.old.pool slot direction levels path.old.items at xs t → CanTake p.old.pool slot at t
+        → Rising (side (O.order order.now) p.old.pool slot) (nodes t) → nodes t ≡ vs ++ node ∷ ws
+        → (ys : List Pending) × Goes p.old.pool slot direction levels path.new.items ys × (ahead direction ys ≡ node ∷ (beyond direction vs ws ++ ahead direction xs)) }
+    ensures pool { p.new.pool ≡ p.old.pool }
+    ensures reads { (t : Shape) → IsRooted p.old.pool slot at t → p.new.reads ≤ p.old.reads + height t }
+    ensures steps { (t : Shape) → IsRooted p.old.pool slot at t → steps.new.count ≤ steps.old.count + height t }
+{
+    let Some(root) = at else { unreachable!() };
+    let link = p.link(root, slot);
+    match compare_nodes(p, order, node, tag, root, link.tag, steps) {
+        Ordering::Less => {
+            push_if(path, root, direction.is_ascending());
+            find_down(p, slot, direction, order, link.back, node, tag, path, steps);
+        }
+        Ordering::Equal => push_if(path, root, true),
+        Ordering::Greater => {
+            push_if(path, root, !direction.is_ascending());
+            find_down(
+                p, slot, direction, order, link.forth, node, tag, path, steps,
+            );
+        }
+    }
+}
+
+/// Puts a node onto the path, if it is wanted there.
+fn push_if(path: &mut Path, node: NodeRef, wanted: bool)
+    requires { length path.old.items < 45 }
+    ensures { path.new.items ≡ cond wanted (path.old.items ++ Some node ∷ []) path.old.items }
+{
+    if wanted {
+        path.push(Some(node));
     }
 }

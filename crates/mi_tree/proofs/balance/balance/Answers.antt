@@ -41,4 +41,4 @@ returns-else-right_height-left_height-clause-tree g c l q h =
     let v = c.args in
     let i = c.height-left_height.ensures ∙ height-root v.p.now v.slot v.left l h.left_is in let j = c.height-right_height.ensures ∙ height-root v.p.now v.slot v.right q h.right_is in
     let near : DifferByAtMost 1 (height l) (height q) = (omega arith, omega arith) in
-    plains v.p.now c.join.new.p v.slot v.left v.node v.right l q h near (c.join.ensures.tree l q (plain_parts v.p.now v.slot v.left v.node v.right l q h)) c.join.ensures.keeps
+    plains v.p.now c.join.new.p v.slot v.left v.node v.right l q h near (c.join.ensures.tree l q (plain_parts v.p.now v.slot v.left v.node v.right l q h)) c.join.ensures.keeps c.join.ensures.tags

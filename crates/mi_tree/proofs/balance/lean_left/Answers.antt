@@ -39,7 +39,7 @@ returns-then-height-clause-tree g c l q h more =
     let i = c.height.ensures ∙ height-root m s c.link-link.result.back o.A o.parts.first in
     let j = c.height-2.ensures ∙ height-root m s c.link-link.result.forth o.B o.parts.second in
     let higher : height o.B ≤ height o.A = omega (arith, c.if-height.true) in
-    downs m c.join_down.new.p s o.A c.in-Some.left o.B v.node l q o.is h.left_even h.right_even h.near more higher (c.join_down.ensures.tree o.A o.B q o.parts) c.join_down.ensures.keeps
+    downs m c.join_down.new.p s o.A c.in-Some.left o.B v.node l q o.is h.left_even h.right_even h.near more higher (c.join_down.ensures.tree o.A o.B q o.parts) c.join_down.ensures.keeps c.join_down.ensures.tags
 
 pub link-inner-requires-clause-held : goal.link-inner-requires-clause-held
 link-inner-requires-clause-held g c =
@@ -62,4 +62,4 @@ returns-clause-tree g c l q h more =
     let i = c.height.ensures ∙ height-root m s c.link-link.result.back o.A o.parts.first in
     let j = c.height-2.ensures ∙ height-root m s c.link-link.result.forth o.B o.parts.second in
     let higher : height o.A < height o.B = omega (arith, c.if-height.false) in
-    left_boths m c.join_both.new.p s o.A c.in-Some.left u.B c.in-Some-forth.middle u.C o.B v.node l q o.is u.is h.left_even h.right_even h.near more higher (c.join_both.ensures.tree o.A u.B u.C q u.parts) c.join_both.ensures.keeps
+    left_boths m c.join_both.new.p s o.A c.in-Some.left u.B c.in-Some-forth.middle u.C o.B v.node l q o.is u.is h.left_even h.right_even h.near more higher (c.join_both.ensures.tree o.A u.B u.C q u.parts) c.join_both.ensures.keeps c.join_both.ensures.tags

@@ -39,7 +39,7 @@ returns-then-height-clause-tree g c l q h more =
     let i = c.height.ensures ∙ height-root m s c.link-link.result.forth o.C o.parts.third in
     let j = c.height-2.ensures ∙ height-root m s c.link-link.result.back o.B o.parts.second in
     let higher : height o.B ≤ height o.C = omega (arith, c.if-height.true) in
-    ups m c.join_up.new.p s o.B c.in-Some.right o.C v.node l q o.is h.left_even h.right_even h.near more higher (c.join_up.ensures.tree l o.B o.C o.parts) c.join_up.ensures.keeps
+    ups m c.join_up.new.p s o.B c.in-Some.right o.C v.node l q o.is h.left_even h.right_even h.near more higher (c.join_up.ensures.tree l o.B o.C o.parts) c.join_up.ensures.keeps c.join_up.ensures.tags
 
 pub link-inner-requires-clause-held : goal.link-inner-requires-clause-held
 link-inner-requires-clause-held g c =
@@ -62,4 +62,4 @@ returns-clause-tree g c l q h more =
     let i = c.height.ensures ∙ height-root m s c.link-link.result.forth o.C o.parts.third in
     let j = c.height-2.ensures ∙ height-root m s c.link-link.result.back o.B o.parts.second in
     let higher : height o.C < height o.B = omega (arith, c.if-height.false) in
-    right_boths m c.join_both.new.p s u.B c.in-Some-back.middle u.C o.B c.in-Some.right o.C v.node l q o.is u.is h.left_even h.right_even h.near more higher (c.join_both.ensures.tree l u.B u.C o.C u.parts) c.join_both.ensures.keeps
+    right_boths m c.join_both.new.p s u.B c.in-Some-back.middle u.C o.B c.in-Some.right o.C v.node l q o.is u.is h.left_even h.right_even h.near more higher (c.join_both.ensures.tree l u.B u.C o.C u.parts) c.join_both.ensures.keeps c.join_both.ensures.tags

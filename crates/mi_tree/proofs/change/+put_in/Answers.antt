@@ -1,59 +1,72 @@
-use Rattle.std.proofs.Common.{◌≡◌, ◌<◌, sym, ◌∙◌, arith, rules}
+use Rattle.std.proofs.Common.{◌≡◌, ◌<◌, ◌+◌, ◌∷◌, Some, refl, sym, ap, ◌∙◌, subst, arith, rules}
 use Rattle.std.specs.declared.cmp.Ordering.TheVariants.{Less, Greater}
-use Rattle.mi_tree.specs.Shape.{Shape, height_at}
-use Rattle.mi_tree.specs.Sorted.{side, CanPut}
+use Rattle.mi_node.specs.Pool.{Pooled, value_of, IsHeld}
+use Rattle.mi_node.specs.declared.link.Link.{Link}
+use Rattle.mi_tree.specs.Shape.{Shape, nodes, height_at, Fork, Tip}
+use Rattle.mi_tree.specs.Sorted.{IsTagOf, AreTagged, compared, by_stamp, stamped, side, CanPut}
 use Rattle.mi_tree.proofs.Shapes.{height-root}
-use Rattle.mi_tree.proofs.Sorts.{side_order, side_is, greater_of}
-use Rattle.mi_tree.proofs.Puts.{put_opened, sides_left, sides_right, puts_left, puts_right}
+use Rattle.mi_tree.proofs.Sorts.{side_order, side_is, greater_of, tagged_left, tagged_right}
+use Rattle.mi_tree.proofs.Puts.{put_opened, sides_left, sides_right, says_left, says_right, puts_left, puts_right, puts_here}
 use Rattle.mi_tree.proofs.change.+put_in.Goals as goal
+
+pub returns-in_default-clause-tree : goal.returns-in_default-clause-tree
+returns-in_default-clause-tree g t c u h = let v = c.args in let m = v.p.now in let s = v.slot in (Fork Tip v.node Tip, puts_here m s (side (g.O.NodeOrder.order v.order.now) m s) v.at v.node u h c.in_default.is)
+
+pub compare_nodes-requires-clause-right : goal.compare_nodes-requires-clause-right
+compare_nodes-requires-clause-right g t c =
+    let v = c.args in let m = v.p.now in let s = v.slot in let ord = g.O.NodeOrder.order v.order.now in let tag = g.O.NodeOrder.tag_of v.order.now in let R = side ord m s in let order = side_order ord m s (g.met.O.NodeOrder.total v.order.now) in let root = c.in-Some.root in let y = c.link-link.result in let w = c.requires.tree in
+    let o = put_opened m s R v.at root v.node y w.0 w.1 c.in-Some.is c.link-link.ensures in
+    let tags = (tagged_right tag m s (nodes o.A) (root ∷ nodes o.B) (subst (AreTagged tag m s) (ap nodes o.is) w.2.1)).0 in
+    subst (λ (z : Pooled g.row.T.Denot). IsHeld z root × IsTagOf tag (value_of z root.name) y.tag.key) (sym c.new.ensures.pool) (o.held_root, subst (λ (k : Link). IsTagOf tag (value_of m root.name) k.tag.key) (sym c.link-link.ensures) tags)
 
 pub put_in-left-requires : goal.put_in-left-requires
 put_in-left-requires g t c =
-    let v = c.args in let m = v.p.now in let s = v.slot in let w = c.requires.tree in let R = side (g.O.NodeOrder.order v.order.now) m in
-    let o = put_opened m s R v.at c.in-Some.root v.node c.link-link.result w.0 w.1 c.in-Some.is c.link-link.ensures in
-    let place : (x : Shape) × CanPut m s R c.link-link.result.back v.node x = (o.A, o.left) in
+    let v = c.args in let m = v.p.now in let s = v.slot in let ord = g.O.NodeOrder.order v.order.now in let tag = g.O.NodeOrder.tag_of v.order.now in let R = side ord m s in let order = side_order ord m s (g.met.O.NodeOrder.total v.order.now) in let root = c.in-Some.root in let y = c.link-link.result in let w = c.requires.tree in
+    let o = put_opened m s R v.at root v.node y w.0 w.1 c.in-Some.is c.link-link.ensures in
+    let tags = subst (AreTagged tag m s) (ap nodes o.is) w.2.1 in
+    let place : (x : Shape) × CanPut m s R y.back v.node x × AreTagged tag m s (v.node ∷ nodes x) = (o.A, o.left, (w.2.0, tagged_left tag m s (nodes o.A) (root ∷ nodes o.B) tags)) in
     let lower = o.left_lower in let e = height-root m s v.at w.0 w.1.rooted in
-    let falls : height_at m s c.link-link.result.back < height_at m s v.at = omega arith in search rules
+    let falls : height_at m s y.back < height_at m s v.at = omega arith in search rules
 
-pub balance-requires-in-Less-clause-sides : goal.balance-requires-in-Less-clause-sides
-balance-requires-in-Less-clause-sides g t c =
-    let v = c.args in let m = v.p.now in let s = v.slot in let w = c.requires.tree in let R = side (g.O.NodeOrder.order v.order.now) m in
-    let o = put_opened m s R v.at c.in-Some.root v.node c.link-link.result w.0 w.1 c.in-Some.is c.link-link.ensures in
-    let put = c.put_in-left.ensures.tree o.A o.left in
-    (put.0, o.B, sides_left m c.put_in-left.new.p s R (side_order _ m (g.met.O.NodeOrder.total v.order.now)) c.in-Some.root v.node c.link-link.result w.0 o c.put_in-left.result put.0 put.1)
+pub settle-requires-clause-sides : goal.settle-requires-clause-sides
+settle-requires-clause-sides g t c =
+    let v = c.args in let m = v.p.now in let s = v.slot in let ord = g.O.NodeOrder.order v.order.now in let tag = g.O.NodeOrder.tag_of v.order.now in let R = side ord m s in let order = side_order ord m s (g.met.O.NodeOrder.total v.order.now) in let root = c.in-Some.root in let y = c.link-link.result in let w = c.requires.tree in
+    let o = put_opened m s R v.at root v.node y w.0 w.1 c.in-Some.is c.link-link.ensures in let put = c.put_in-left.ensures.tree o.A o.left in
+    (put.0, o.B, sides_left m c.put_in-left.new.p s R order root v.node y w.0 o c.put_in-left.result.0 c.put_in-left.result.1 put.0 put.1, says_left m c.put_in-left.new.p s R order root v.node y w.0 o c.put_in-left.result.0 c.put_in-left.result.1 put.0 _ refl refl refl put.1)
 
 pub put_in-right-requires : goal.put_in-right-requires
 put_in-right-requires g t c =
-    let v = c.args in let m = v.p.now in let s = v.slot in let w = c.requires.tree in let R = side (g.O.NodeOrder.order v.order.now) m in
-    let o = put_opened m s R v.at c.in-Some.root v.node c.link-link.result w.0 w.1 c.in-Some.is c.link-link.ensures in
-    let place : (x : Shape) × CanPut m s R c.link-link.result.forth v.node x = (o.B, o.right) in
+    let v = c.args in let m = v.p.now in let s = v.slot in let ord = g.O.NodeOrder.order v.order.now in let tag = g.O.NodeOrder.tag_of v.order.now in let R = side ord m s in let order = side_order ord m s (g.met.O.NodeOrder.total v.order.now) in let root = c.in-Some.root in let y = c.link-link.result in let w = c.requires.tree in
+    let o = put_opened m s R v.at root v.node y w.0 w.1 c.in-Some.is c.link-link.ensures in
+    let tags = subst (AreTagged tag m s) (ap nodes o.is) w.2.1 in
+    let place : (x : Shape) × CanPut m s R y.forth v.node x × AreTagged tag m s (v.node ∷ nodes x) = (o.B, o.right, (w.2.0, (tagged_right tag m s (nodes o.A) (root ∷ nodes o.B) tags).1)) in
     let lower = o.right_lower in let e = height-root m s v.at w.0 w.1.rooted in
-    let falls : height_at m s c.link-link.result.forth < height_at m s v.at = omega arith in search rules
+    let falls : height_at m s y.forth < height_at m s v.at = omega arith in search rules
 
-pub balance-requires-in_default-compare : goal.balance-requires-in_default-compare
-balance-requires-in_default-compare g t c =
-    let v = c.args in let m = v.p.now in let s = v.slot in let w = c.requires.tree in let R = side (g.O.NodeOrder.order v.order.now) m in
-    let o = put_opened m s R v.at c.in-Some.root v.node c.link-link.result w.0 w.1 c.in-Some.is c.link-link.ensures in
-    let put = c.put_in-right.ensures.tree o.B o.right in
-    record { slot = omega arith; sides = (o.A, put.0, sides_right m c.put_in-right.new.p s R (side_order _ m (g.met.O.NodeOrder.total v.order.now)) c.in-Some.root v.node c.link-link.result w.0 o c.put_in-right.result put.0 put.1) }
+pub settle-requires-in_default-compare_nodes : goal.settle-requires-in_default-compare_nodes
+settle-requires-in_default-compare_nodes g t c =
+    let v = c.args in let m = v.p.now in let s = v.slot in let ord = g.O.NodeOrder.order v.order.now in let tag = g.O.NodeOrder.tag_of v.order.now in let R = side ord m s in let order = side_order ord m s (g.met.O.NodeOrder.total v.order.now) in let root = c.in-Some.root in let y = c.link-link.result in let w = c.requires.tree in
+    let o = put_opened m s R v.at root v.node y w.0 w.1 c.in-Some.is c.link-link.ensures in let put = c.put_in-right.ensures.tree o.B o.right in
+    record { slot = omega arith; sides = (o.A, put.0, sides_right m c.put_in-right.new.p s R order root v.node y w.0 o c.put_in-right.result.0 c.put_in-right.result.1 put.0 put.1, says_right m c.put_in-right.new.p s R order root v.node y w.0 o c.put_in-right.result.0 c.put_in-right.result.1 put.0 _ refl refl refl put.1) }
 
 pub returns-in-Less-clause-tree : goal.returns-in-Less-clause-tree
 returns-in-Less-clause-tree g t c u h =
-    let v = c.args in let m = v.p.now in let s = v.slot in let R = side (g.O.NodeOrder.order v.order.now) m in
-    let order = side_order _ m (g.met.O.NodeOrder.total v.order.now) in
-    let o = put_opened m s R v.at c.in-Some.root v.node c.link-link.result u h c.in-Some.is c.link-link.ensures in
-    let put = c.put_in-left.ensures.tree o.A o.left in
-    let less : R v.node c.in-Some.root ≡ Less = side_is _ m v.node c.in-Some.root _ _ c.value.ensures c.value-2.ensures ∙ sym c.compare.ensures.result ∙ c.in-Less.is in
-    let whole = c.balance-in-Less.ensures.tree put.0 o.B (sides_left m c.put_in-left.new.p s R order c.in-Some.root v.node c.link-link.result u o c.put_in-left.result put.0 put.1) in
-    (whole.0, puts_left m c.put_in-left.new.p s R order c.in-Some.root v.node c.link-link.result u o c.put_in-left.result put.0 _ _ whole.0 less put.1 whole.1)
+    let v = c.args in let m = v.p.now in let s = v.slot in let ord = g.O.NodeOrder.order v.order.now in let tag = g.O.NodeOrder.tag_of v.order.now in let R = side ord m s in let order = side_order ord m s (g.met.O.NodeOrder.total v.order.now) in let root = c.in-Some.root in let y = c.link-link.result in
+    let o = put_opened m s R v.at root v.node y u h c.in-Some.is c.link-link.ensures in let put = c.put_in-left.ensures.tree o.A o.left in
+    let is = side_is ord m s v.node root v.tag y.tag c.requires.tag (ap (λ (k : Link). k.tag) c.link-link.ensures)
+    ∙ ap (λ (z : Pooled g.row.T.Denot). compared (by_stamp ord) (stamped (value_of z v.node.name) v.tag.stamp) (stamped (value_of z root.name) y.tag.stamp)) (sym c.new.ensures.pool) ∙ sym c.compare_nodes.ensures.result in
+    let whole = c.settle.ensures.tree put.0 o.B (sides_left m c.put_in-left.new.p s R order root v.node y u o c.put_in-left.result.0 c.put_in-left.result.1 put.0 put.1) (says_left m c.put_in-left.new.p s R order root v.node y u o c.put_in-left.result.0 c.put_in-left.result.1 put.0 _ refl refl refl put.1) in
+    (whole.0, puts_left m c.put_in-left.new.p s R order root v.node y u o c.put_in-left.result.0 c.put_in-left.result.1 put.0 c.settle.new.p c.settle.result.0 c.settle.result.1 whole.0 (is ∙ c.in-Less.is) put.1 whole.1 whole.2)
 
-pub returns-in_default-compare-clause-tree : goal.returns-in_default-compare-clause-tree
-returns-in_default-compare-clause-tree g t c u h =
-    let v = c.args in let m = v.p.now in let s = v.slot in let R = side (g.O.NodeOrder.order v.order.now) m in
-    let order = side_order _ m (g.met.O.NodeOrder.total v.order.now) in
-    let o = put_opened m s R v.at c.in-Some.root v.node c.link-link.result u h c.in-Some.is c.link-link.ensures in
-    let put = c.put_in-right.ensures.tree o.B o.right in
-    let is = side_is _ m v.node c.in-Some.root _ _ c.value.ensures c.value-2.ensures ∙ sym c.compare.ensures.result in
-    let more : R v.node c.in-Some.root ≡ Greater = greater_of _ (λ e. c.in_default-compare.not-Less (sym is ∙ e)) o.differs_root in
-    let whole = c.balance-in_default-compare.ensures.tree o.A put.0 (sides_right m c.put_in-right.new.p s R order c.in-Some.root v.node c.link-link.result u o c.put_in-right.result put.0 put.1) in
-    (whole.0, puts_right m c.put_in-right.new.p s R order c.in-Some.root v.node c.link-link.result u o c.put_in-right.result put.0 _ _ whole.0 more put.1 whole.1)
+pub returns-in_default-compare_nodes : goal.returns-in_default-compare_nodes
+returns-in_default-compare_nodes g t c =
+    let v = c.args in let m = v.p.now in let s = v.slot in let ord = g.O.NodeOrder.order v.order.now in let tag = g.O.NodeOrder.tag_of v.order.now in let R = side ord m s in let order = side_order ord m s (g.met.O.NodeOrder.total v.order.now) in let root = c.in-Some.root in let y = c.link-link.result in
+    let is = side_is ord m s v.node root v.tag y.tag c.requires.tag (ap (λ (k : Link). k.tag) c.link-link.ensures)
+    ∙ ap (λ (z : Pooled g.row.T.Denot). compared (by_stamp ord) (stamped (value_of z v.node.name) v.tag.stamp) (stamped (value_of z root.name) y.tag.stamp)) (sym c.new.ensures.pool) ∙ sym c.compare_nodes.ensures.result in
+    record {
+      slots = c.settle-in_default-compare_nodes.ensures.slots ∙ c.put_in-right.ensures.slots;
+      tree = λ u h. (let o = put_opened m s R v.at root v.node y u h c.in-Some.is c.link-link.ensures in let put = c.put_in-right.ensures.tree o.B o.right in
+          let more = greater_of _ (λ e. c.in_default-compare_nodes.not-Less (sym is ∙ e)) o.differs_root in
+          let whole = c.settle-in_default-compare_nodes.ensures.tree o.A put.0 (sides_right m c.put_in-right.new.p s R order root v.node y u o c.put_in-right.result.0 c.put_in-right.result.1 put.0 put.1) (says_right m c.put_in-right.new.p s R order root v.node y u o c.put_in-right.result.0 c.put_in-right.result.1 put.0 _ refl refl refl put.1) in
+          (whole.0, puts_right m c.put_in-right.new.p s R order root v.node y u o c.put_in-right.result.0 c.put_in-right.result.1 put.0 c.settle-in_default-compare_nodes.new.p c.settle-in_default-compare_nodes.result.0 c.settle-in_default-compare_nodes.result.1 whole.0 more put.1 whole.1 whole.2));
+    }

@@ -2,4 +2,4 @@ use Rattle.mi_tree.proofs.Frames.{tree_where}
 use Rattle.mi_tree.proofs.laws.trees_stand_where_alike.Goals as goal
 
 pub returns : goal.returns
-returns g c o = tree_where (g.O.NodeOrder.order o)
+returns g c o = tree_where (g.O.NodeOrder.order o) (g.O.NodeOrder.tag_of o) (g.met.O.NodeOrder.total o) (g.met.O.NodeOrder.tag_below o)

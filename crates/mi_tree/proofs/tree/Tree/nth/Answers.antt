@@ -4,10 +4,10 @@ use Rattle.mi_tree.proofs.Stands.{bound}
 use Rattle.mi_tree.proofs.tree.Tree.nth.Goals as goal
 
 pub nth_in-requires-clause-tree : goal.nth_in-requires-clause-tree
-nth_in-requires-clause-tree g c = let w = c.requires in (w.2.shape, w.2.rooted)
+nth_in-requires-clause-tree g c = let w = c.requires in (w.3.shape, w.3.rooted)
 
 pub returns-clause-node : goal.returns-clause-node
-returns-clause-node g c R rs h = c.nth_in.ensures.node h.shape h.rooted ∙ ap (λ k. nth_of k c.args.n) h.nodes_are
+returns-clause-node g c order tag rs h = c.nth_in.ensures.node h.shape h.rooted ∙ ap (λ k. nth_of k c.args.n) h.nodes_are
 
 pub returns-clause-reads : goal.returns-clause-reads
-returns-clause-reads g c R rs h b f = let a = c.nth_in.ensures.reads h.shape h.rooted in let d = bound c.args.self.now c.args.p.now.pool R rs h b f in omega arith
+returns-clause-reads g c order tag rs h b f = let a = c.nth_in.ensures.reads h.shape h.rooted in let d = bound c.args.self.now c.args.p.now.pool order tag rs h b f in omega arith

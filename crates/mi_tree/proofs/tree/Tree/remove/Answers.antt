@@ -1,22 +1,28 @@
-use Rattle.std.proofs.Common.{◌∷◌, ◌++◌, refl, sym, subst}
-use Rattle.mi_node.specs.Pool.{Keeps}
-use Rattle.mi_tree.specs.Sorted.{side, Rising}
-use Rattle.mi_tree.proofs.Stands.{can_take, has_taken}
+use Rattle.std.proofs.Common.{◌∷◌, ◌++◌, refl, sym, ap, ◌∙◌, subst}
+use Rattle.mi_tree.proofs.Stands.{can_take, rising_in, tagged_in, node_held, has_taken}
 use Rattle.mi_tree.proofs.tree.Tree.remove.Goals as goal
 
-pub take_out-self-requires-clause-tree : goal.take_out-self-requires-clause-tree
-take_out-self-requires-clause-tree g c =
-    let v = c.args in let m = v.p.now in let l = v.self.now in let w = c.requires in let R = side (g.O.NodeOrder.order l.order) m in
-    (w.2.shape, w.0, w.1, can_take l m R (w.0 ++ v.node ∷ w.1) w.2, subst (Rising R) (sym w.2.nodes_are) w.2.rising, w.2.nodes_are)
+pub link-requires-clause-held : goal.link-requires-clause-held
+link-requires-clause-held g c =
+    let v = c.args in let m = v.p.now in let l = v.self.now in let s = l.slot in let ord = g.O.NodeOrder.order l.order in let tag = g.O.NodeOrder.tag_of l.order in let w = c.requires in node_held l m ord tag w.0 v.node w.1 w.2
+
+pub take_out-requires-clause-tree : goal.take_out-requires-clause-tree
+take_out-requires-clause-tree g c =
+    let v = c.args in let m = v.p.now in let l = v.self.now in let s = l.slot in let ord = g.O.NodeOrder.order l.order in let tag = g.O.NodeOrder.tag_of l.order in let w = c.requires in let rs = w.0 ++ v.node ∷ w.1 in
+    (w.2.shape, w.0, w.1, can_take l m ord tag rs w.2, rising_in l m ord tag rs w.2, tagged_in l m ord tag rs w.2, w.2.nodes_are)
 
 pub returns-clause-tree : goal.returns-clause-tree
 returns-clause-tree g c xs ys h =
-    let v = c.args in let m = v.p.now in let l = v.self.now in let ord = g.O.NodeOrder.order l.order in
-    let took = c.take_out-self.ensures.tree h.shape xs ys (can_take l m (side ord m) (xs ++ v.node ∷ ys) h) (subst (Rising (side ord m)) (sym h.nodes_are) h.rising) h.nodes_are in
-    has_taken ord l _ m c.take_out-self.new.p xs v.node ys h c.take_out-self.result took.0 refl refl took.1
+    let v = c.args in let m = v.p.now in let l = v.self.now in let s = l.slot in let ord = g.O.NodeOrder.order l.order in let tag = g.O.NodeOrder.tag_of l.order in
+    let took = c.take_out.ensures.tree h.shape xs ys (can_take l m ord tag (xs ++ v.node ∷ ys) h) (rising_in l m ord tag (xs ++ v.node ∷ ys) h) h.nodes_are in
+    has_taken ord tag l _ m c.take_out.new.p xs v.node ys h c.take_out.result.0 c.take_out.result.1 took.0 refl refl took.1
 
 pub returns-clause-keeps : goal.returns-clause-keeps
 returns-clause-keeps g c xs ys h =
-    let v = c.args in let m = v.p.now in let l = v.self.now in let ord = g.O.NodeOrder.order l.order in
-    let took = c.take_out-self.ensures.tree h.shape xs ys (can_take l m (side ord m) (xs ++ v.node ∷ ys) h) (subst (Rising (side ord m)) (sym h.nodes_are) h.rising) h.nodes_are in
-    subst (λ k. Keeps m c.take_out-self.new.p l.slot k) h.nodes_are took.1.keeps
+    let v = c.args in let m = v.p.now in let l = v.self.now in let s = l.slot in let ord = g.O.NodeOrder.order l.order in let tag = g.O.NodeOrder.tag_of l.order in
+    let took = c.take_out.ensures.tree h.shape xs ys (can_take l m ord tag (xs ++ v.node ∷ ys) h) (rising_in l m ord tag (xs ++ v.node ∷ ys) h) h.nodes_are in took.1.keeps
+
+pub returns-clause-tags : goal.returns-clause-tags
+returns-clause-tags g c =
+    let v = c.args in let m = v.p.now in let l = v.self.now in let s = l.slot in let ord = g.O.NodeOrder.order l.order in let tag = g.O.NodeOrder.tag_of l.order in let w = c.requires in
+    let took = c.take_out.ensures.tree w.2.shape w.0 w.1 (can_take l m ord tag (w.0 ++ v.node ∷ w.1) w.2) (rising_in l m ord tag (w.0 ++ v.node ∷ w.1) w.2) w.2.nodes_are in took.1.tags

@@ -1,22 +1,22 @@
-use Rattle.std.proofs.Common.{true, sym, ap, ◌∙◌, subst, arith}
+use Rattle.std.proofs.Common.{◌≡◌, true, ap, ◌∙◌, arith}
 use Rattle.mi_tree.specs.Shape.{nodes}
-use Rattle.mi_tree.specs.Sorted.{side, Rising}
 use Rattle.mi_tree.specs.Probed.{is_past_node, first_where}
-use Rattle.mi_tree.proofs.Stands.{bound}
+use Rattle.mi_tree.proofs.Stands.{bound, rising_in, tagged_in}
 use Rattle.mi_tree.proofs.Looks.{steady}
 use Rattle.mi_tree.proofs.tree.Tree.upper.Goals as goal
 
 pub seek_in-requires-clause-tree : goal.seek_in-requires-clause-tree
-seek_in-requires-clause-tree g c = let w = c.requires in (w.1.shape, w.1.rooted)
+seek_in-requires-clause-tree g c =
+    let v = c.args in let m = v.p.now.pool in let l = v.self.now in let ord = g.O.NodeOrder.order l.order in let tag = g.O.NodeOrder.tag_of l.order in let w = c.requires in let place = λ (x : g.row.T.Denot). g.O.NodeOrder.place l.order x v.probe in
+    (w.1.shape, w.1.rooted, tagged_in l m ord tag w.0 w.1, steady ord place (g.met.O.NodeOrder.monotone l.order v.probe) true m l.slot (nodes w.1.shape) (rising_in l m ord tag w.0 w.1))
 
 pub returns-clause-node : goal.returns-clause-node
 returns-clause-node g c rs h =
-    let v = c.args in let m = v.p.now.pool in let l = v.self.now in let ord = g.O.NodeOrder.order l.order in let place = λ (x : g.row.T.Denot). g.O.NodeOrder.place l.order x v.probe in
-    c.seek_in.ensures.node h.shape h.rooted (steady ord place (g.met.O.NodeOrder.monotone l.order v.probe) true m (nodes h.shape) (subst (Rising (side ord m)) (sym h.nodes_are) h.rising))
-    ∙ ap (first_where (is_past_node true place m)) h.nodes_are
+    let v = c.args in let m = v.p.now.pool in let l = v.self.now in let place = λ (x : g.row.T.Denot). g.O.NodeOrder.place l.order x v.probe in
+    c.seek_in.ensures.node h.shape h.rooted ∙ ap (first_where (is_past_node true place m)) h.nodes_are
 
 pub returns-clause-reads : goal.returns-clause-reads
-returns-clause-reads g c R rs h b f = let a = c.seek_in.ensures.reads h.shape h.rooted in let d = bound c.args.self.now c.args.p.now.pool R rs h b f in omega arith
+returns-clause-reads g c order tag rs h b f = let a = c.seek_in.ensures.reads h.shape h.rooted in let d = bound c.args.self.now c.args.p.now.pool order tag rs h b f in omega arith
 
 pub returns-clause-steps : goal.returns-clause-steps
-returns-clause-steps g c R rs h b f = let a = c.seek_in.ensures.steps h.shape h.rooted in let d = bound c.args.self.now c.args.p.now.pool R rs h b f in omega arith
+returns-clause-steps g c order tag rs h b f = let a = c.seek_in.ensures.steps h.shape h.rooted in let d = bound c.args.self.now c.args.p.now.pool order tag rs h b f in omega arith

@@ -1,15 +1,14 @@
 use Rattle.std.proofs.Common.{length, None, refl, sym, ap, ◌∙◌, subst, arith}
 use Rattle.mi_node.specs.Pool.{Pooled}
 use Rattle.mi_node.specs.Refs.{first_of}
-use Rattle.mi_node.specs.declared.link.Link.{Link}
-use Rattle.mi_tree.specs.Walking.{Enters, Goes, ahead}
+use Rattle.mi_tree.specs.Walking.{Enters, Goes, ahead, far_of}
 use Rattle.mi_tree.proofs.Walks.{popped_none, stepped, walks, walks_none, goes_depth}
 use Rattle.mi_tree.proofs.walk.Walk.next.Goals as goal
 
 pub returns-in_default-clause-node : goal.returns-in_default-clause-node
 returns-in_default-clause-node g c levels us h =
     let w = c.args.self.now in let e = popped_none w.path.items _ _ h.xs h.goes.path_is c.pop.ensures.rest c.pop.ensures.value (sym c.flatten.ensures ∙ c.in_default.is) in
-    ap (λ k. first_of (ahead k) None) (sym e.0) ∙ ap (λ k. first_of k None) h.ahead_is
+    ap (λ k. first_of (ahead w.direction k) None) (sym e.0) ∙ ap (λ k. first_of k None) h.ahead_is
 
 pub returns-in_default-clause-walk : goal.returns-in_default-clause-walk
 returns-in_default-clause-walk g c levels us h =
@@ -21,8 +20,8 @@ returns-in_default-clause-depth g c levels us h =
     let w = c.args.self.now in let e = popped_none w.path.items _ _ h.xs h.goes.path_is c.pop.ensures.rest c.pop.ensures.value (sym c.flatten.ensures ∙ c.in_default.is) in
     let i = ap length e.1 in omega arith
 
-pub link-after-requires-clause-held : goal.link-after-requires-clause-held
-link-after-requires-clause-held g c =
+pub link-requires-clause-held : goal.link-requires-clause-held
+link-requires-clause-held g c =
     let w = c.requires in
     (stepped c.args.self.now c.args.p.now.pool w.0 w.1 _ _ c.in-Some.node w.2 c.pop.ensures.rest c.pop.ensures.value (sym c.flatten.ensures ∙ c.in-Some.is)).held
 
@@ -30,8 +29,8 @@ pub go_down-requires-clause-way : goal.go_down-requires-clause-way
 go_down-requires-clause-way g c =
     let w = c.requires in let m = c.args.p.now.pool in let s = c.args.self.now.slot in
     let o = stepped c.args.self.now m w.0 w.1 c.pop.new.self.items _ c.in-Some.node w.2 c.pop.ensures.rest c.pop.ensures.value (sym c.flatten.ensures ∙ c.in-Some.is) in
-    let forth = ap (λ (y : Link). y.forth) c.link-after.ensures.link in
-    (w.0, o.ys, o.after, subst (λ (z : Pooled g.row.T.Denot × _). Enters z.0 s w.0 c.pop.new.self.items z.1 o.ys o.after) (λ i. (sym c.link-after.ensures.pool i, sym forth i)) o.enters)
+    let forth = c.far-after.ensures ∙ ap (far_of c.args.self.now.direction) c.link.ensures.link in
+    (w.0, o.ys, o.after, subst (λ (z : Pooled g.row.T.Denot × _). Enters z.0 s c.args.self.now.direction w.0 c.pop.new.self.items z.1 o.ys o.after) (λ i. (sym c.link.ensures.pool i, sym forth i)) o.enters)
 
 pub returns-clause-node : goal.returns-clause-node
 returns-clause-node g c levels us h =
@@ -42,14 +41,14 @@ pub returns-clause-walk : goal.returns-clause-walk
 returns-clause-walk g c levels us h =
     let w = c.args.self.now in let m = c.args.p.now.pool in let s = w.slot in
     let o = stepped w m levels us c.pop.new.self.items _ c.in-Some.node h c.pop.ensures.rest c.pop.ensures.value (sym c.flatten.ensures ∙ c.in-Some.is) in
-    let forth = ap (λ (y : Link). y.forth) c.link-after.ensures.link in
-    let on = c.go_down.ensures.way levels o.ys o.after (subst (λ (z : Pooled g.row.T.Denot × _). Enters z.0 s levels c.pop.new.self.items z.1 o.ys o.after) (λ i. (sym c.link-after.ensures.pool i, sym forth i)) o.enters) in
-    walks w _ m c.go_down.new.p.pool levels us c.pop.new.self.items c.in-Some.node h o (c.go_down.ensures.pool ∙ c.link-after.ensures.pool) refl on.0 (subst (λ (z : Pooled g.row.T.Denot). Goes z s levels c.go_down.new.path.items on.0) c.link-after.ensures.pool on.1) on.2
+    let forth = c.far-after.ensures ∙ ap (far_of c.args.self.now.direction) c.link.ensures.link in
+    let on = c.go_down.ensures.way levels o.ys o.after (subst (λ (z : Pooled g.row.T.Denot × _). Enters z.0 s w.direction levels c.pop.new.self.items z.1 o.ys o.after) (λ i. (sym c.link.ensures.pool i, sym forth i)) o.enters) in
+    walks w _ m c.go_down.new.p.pool levels us c.pop.new.self.items c.in-Some.node h o (c.go_down.ensures.pool ∙ c.link.ensures.pool) refl refl on.0 (subst (λ (z : Pooled g.row.T.Denot). Goes z s w.direction levels c.go_down.new.path.items on.0) c.link.ensures.pool on.1) on.2
 
 pub returns-clause-depth : goal.returns-clause-depth
 returns-clause-depth g c levels us h =
     let w = c.args.self.now in let m = c.args.p.now.pool in let s = w.slot in
     let o = stepped w m levels us c.pop.new.self.items _ c.in-Some.node h c.pop.ensures.rest c.pop.ensures.value (sym c.flatten.ensures ∙ c.in-Some.is) in
-    let forth = ap (λ (y : Link). y.forth) c.link-after.ensures.link in
-    let on = c.go_down.ensures.way levels o.ys o.after (subst (λ (z : Pooled g.row.T.Denot × _). Enters z.0 s levels c.pop.new.self.items z.1 o.ys o.after) (λ i. (sym c.link-after.ensures.pool i, sym forth i)) o.enters) in
-    goes_depth c.link-after.new.self.pool s levels c.go_down.new.path.items on.0 on.1
+    let forth = c.far-after.ensures ∙ ap (far_of c.args.self.now.direction) c.link.ensures.link in
+    let on = c.go_down.ensures.way levels o.ys o.after (subst (λ (z : Pooled g.row.T.Denot × _). Enters z.0 s w.direction levels c.pop.new.self.items z.1 o.ys o.after) (λ i. (sym c.link.ensures.pool i, sym forth i)) o.enters) in
+    goes_depth c.link.new.self.pool s w.direction levels c.go_down.new.path.items on.0 on.1
