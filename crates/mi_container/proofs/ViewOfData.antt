@@ -24,7 +24,7 @@ use Rattle.mi_model.proofs.ViewLaws.{Lacks, compare_ids_total}
 use Rattle.mi_model.proofs.TableLaws.{all_get}
 use Rattle.mi_model.proofs.PlaceLaws.{each_in_view}
 use Rattle.mi_container.specs.Data.{Node, Order, Data, has_stamps, stamp_of, by_stamp, ids_of, listed, lists_from, table_of, KindFits, KindsFit, Climbs, IsData}
-use Rattle.mi_container.specs.Data.Order.{ById, ByKey, ByHash}
+use Rattle.mi_container.specs.Data.Order.{ById, ByKey, ByHash, Listed}
 use Rattle.mi_container.specs.Fits.{IsThere}
 use Rattle.mi_container.specs.Laws.{Rise, stands_before, SortedIsShown, HashedIsShown, IdsAreShown}
 use Rattle.mi_container.proofs.Sequences.{Once}
@@ -112,6 +112,17 @@ module _ (s : Shape) (d : Data) (is : IsData s d) (x : ℕ) (l : x < length d.or
   stamps_rise has_ each =
       rises_strict (on (stamp_of d.rows x) nat_cmp) (on_total (stamp_of d.rows x) nat_cmp_total) (IsThere d.rows) (stamps_differ has_) (by_stamp x d.rows)
       (each_there d (by_stamp x d.rows) each) (each_once t (by_stamp x d.rows) each) (ascends_sorted (on_total (stamp_of d.rows x) nat_cmp_total) (ids_of d.rows))
+
+one_stamped : (o : Order) (x : ℕ) (rows : List (ℕ × Node)) → has_stamps o ≡ true → listed x rows o ≡ by_stamp x rows
+one_stamped ById x rows has_ = absurd (false≢true has_)
+one_stamped (ByKey ps) x rows has_ = refl
+one_stamped (ByHash ps) x rows has_ = refl
+one_stamped (Listed ids) x rows has_ = absurd (false≢true has_)
+
+-- the stamps of an index that has them rise
+pub stamps_rise_in : (s : Shape) (d : Data) → IsData s d → (x : ℕ) → x < length d.orders → has_stamps (get_or d.orders x ById) ≡ true → Rises (on (stamp_of d.rows x) nat_cmp) (by_stamp x d.rows)
+stamps_rise_in s d is x l has_ =
+    stamps_rise s d is x l has_ (subst (ListsEach (table_of d)) (list_at s d is x l ∙ one_stamped (get_or d.orders x ById) x d.rows has_) (each_at s d is x l))
 
 -- by keys and stamps
 keyed_rises : (s : Shape) (d : Data) (is : IsData s d) (x : ℕ) (ps : List KeyPart) → x < length d.orders → get_or d.orders x ById ≡ ByKey ps → Rises (stands_before s d x) (view s (table_of d) x)
