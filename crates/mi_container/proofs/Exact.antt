@@ -23,7 +23,8 @@ use Rattle.mi_container.proofs.Contents.{content_back, node_with}
 use Rattle.mi_container.proofs.Sequences.{OfList, of_one, orders_back, order_back, moved_same, relinked_back, relocated_back, next_is_other, OtherThere, Stands}
 use Rattle.mi_container.proofs.Facts.{rows_climb, no_next, lists_stand, all_stand, lists_lack, unkept, stamp_early, stamps_long}
 use Rattle.mi_container.proofs.Stamped.{by_stamp_moves, restamped_at}
-use Rattle.mi_container.proofs.Groups.{all_meet, MovesLast, places_meet}
+use Rattle.mi_container.proofs.Groups.{StampsRise, RisesIn, all_meet, MovesLast, places_meet}
+use Rattle.mi_container.proofs.ViewOfData.{stamps_rise_in}
 use Rattle.mi_container.proofs.NameLaws.{names_out}
 
 -- a live row is in the node of its reference
@@ -79,6 +80,11 @@ moves_last s e r d is there x l has_ changed =
     let newest : get_or c.stamps x 0 ≡ d.arrivals = restamped_at d.orders ById was.values r d.arrivals was.stamps x l (omega arith) ∙ ap (λ b. cond b (get_or was.stamps x 0) d.arrivals) changed in
     by_stamp_moves x e d.next c d.rows (rows_climb s d is) there (λ a here. subst (λ n. stamp_of d.rows x a < n) (sym newest) (stamp_early s d is x has_ a here))
 
+-- the stamps of an index of the container rise
+rises_in : (s : Shape) (d : Data) → IsData s d → (k : ℕ) → k < length d.orders → RisesIn d.rows (0 + k) (get_or d.orders k ById)
+rises_in s d is k l has_ =
+    let same : 0 + k ≡ k = omega arith in subst (λ n. StampsRise n d.rows) (sym same) (stamps_rise_in s d is k l has_)
+
 pub put_ready : (s : Shape) (e : ℕ) (r : List Value) (d : Data) → IsData s d → IsThere d.rows e → Ready (put_inverse e r d) (replaced e r d)
 put_ready s e r d is there =
     let was : Content = content_of d.rows e in
@@ -86,7 +92,11 @@ put_ready s e r d is there =
       (_, node_with e c d.rows there.0 there.1, sym (ap at_in there.1)),
       omega arith,
       places_meet e c d.rows there 0 d.orders was.stamps (stamps_long s d is e there) (all_stand s e d is there)
-          (λ k l. let same : 0 + k ≡ k = omega arith in subst (λ n. MovesLast e c d.rows there n (get_or d.orders k ById)) (sym same) (moves_last s e r d is there k l)),
+          (λ k l. let same : 0 + k ≡ k = omega arith in (
+            rises_in s d is k l,
+            subst (λ n. MovesLast e c d.rows there n (get_or d.orders k ById)) (sym same) (moves_last s e r d is there k l),
+            ap (λ n. stamp_of d.rows n e) (sym same),
+          )),
     )
 
 -- Erase
@@ -108,9 +118,9 @@ erase_back s e why d is there =
 pub erase_ready : (s : Shape) (e : ℕ) (why : Option (ℕ × ℕ)) (d : Data) → IsData s d → IsThere d.rows e → Ready (erase_inverse e why d) (erased e d)
 erase_ready s e why d is there =
     let n : Node = there.0 in
-    let values : (content_of d.rows e).values ≡ n.content.values = ap (λ o. (content_in o).values) there.1 in
-    let meet : AllMeet 0 (left_out e d.rows) n.content.values (links_from 0 d.rows e d.orders) (map (in_order (without e)) d.orders) =
-    subst (λ v. AllMeet 0 (left_out e d.rows) v (links_from 0 d.rows e d.orders) (map (in_order (without e)) d.orders)) values (all_meet 0 e d.rows d.orders (all_stand s e d is there)) in
+    let content : content_of d.rows e ≡ n.content = ap content_in there.1 in
+    let meet : AllMeet 0 (left_out e d.rows) n.content (links_from 0 d.rows e d.orders) (map (in_order (without e)) d.orders) =
+    subst (λ c. AllMeet 0 (left_out e d.rows) c (links_from 0 d.rows e d.orders) (map (in_order (without e)) d.orders)) content (all_meet 0 e d.rows d.orders (all_stand s e d is there) (rises_in s d is)) in
     subst (λ o. Ready (erase_inverse e why d) (erased_node e o d)) (sym there.1)
     ((kept_node e n d, kept_there s e n d is there.1, sym (ap at_in there.1)), meet)
 

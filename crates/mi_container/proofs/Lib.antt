@@ -16,3 +16,4 @@ pub mod LawProofs
 pub mod TagLemmas
 pub mod KeyLemmas
 pub mod OrderLemmas
+pub mod ViewOfData

@@ -33,7 +33,7 @@ stored_total ps = on_total row_in (on_total (record_or_id ps) (compare_key_total
 
 -- Ids
 
-ids_below : (m n : ℕ) → m < n → int_cmp (pos m) (pos n) ≡ Less
+pub ids_below : (m n : ℕ) → m < n → int_cmp (pos m) (pos n) ≡ Less
 ids_below m n l = ap (λ b. cond b Less (cond (nat_lt n m) Greater Equal)) (lt-ltb m n l)
 
 ids_above : (m n : ℕ) → n < m → int_cmp (pos m) (pos n) ≡ Greater

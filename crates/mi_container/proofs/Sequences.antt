@@ -77,7 +77,7 @@ next_is e a ids same = ap (λ t. cond t (head_of ids) (next_in e ids)) same
 next_isnt : (e a : ℕ) (ids : List ℕ) → (a == e) ≡ false → next_in e (a ∷ ids) ≡ next_in e ids
 next_isnt e a ids other = ap (λ t. cond t (head_of ids) (next_in e ids)) other
 
-head_isnot : (a : ℕ) (ids : List ℕ) → Lacks a ids → IsNot a (head_of ids)
+pub head_isnot : (a : ℕ) (ids : List ℕ) → Lacks a ids → IsNot a (head_of ids)
 head_isnot a [] lacks = tt
 head_isnot a (b ∷ ids) lacks = lacks.0
 
@@ -124,27 +124,27 @@ prev_isnt p e a ids other = ap (λ t. cond t p (prev_in (Some a) e ids)) other
 
 -- the neighbours of an id that left stand next to each other
 pub neighbours_meet : (p : Option ℕ) (e : ℕ) (ids : List ℕ) → Once ids → 0 < times e ids
-    → (xs ys : List ℕ) × (without e ids ≡ xs ++ ys) × (prev_in p e ids ≡ last_or p xs) × (next_in e ids ≡ head_of ys)
+    → (xs ys : List ℕ) × (without e ids ≡ xs ++ ys) × (prev_in p e ids ≡ last_or p xs) × (next_in e ids ≡ head_of ys) × (ids ≡ xs ++ e ∷ ys)
 neighbours_meet p e [] once some = absurd (omega arith)
 neighbours_meet p e (a ∷ ids) once some =
     both_ways (a == e)
     (λ yes.
     let lacks : Lacks e ids = subst (λ k. Lacks k ids) (eqb-true a e yes) once.0 in
-    ([], ids, drop_is e a ids yes ∙ without_lacks e ids lacks, prev_is p e a ids yes, next_is e a ids yes))
+    ([], ids, drop_is e a ids yes ∙ without_lacks e ids lacks, prev_is p e a ids yes, next_is e a ids yes, ap (λ k. k ∷ ids) (eqb-true a e yes)))
     (λ isnt.
     let rest : 0 < times e ids = (let z : cond {A = ℕ} (a == e) 1 0 ≡ 0 = ap (λ b. cond {A = ℕ} b 1 0) isnt in let n : 0 < cond {A = ℕ} (a == e) 1 0 + times e ids = some in omega arith) in
     let h = neighbours_meet (Some a) e ids once.1 rest in
-    (a ∷ h.0, h.1, drop_isnt e a ids isnt ∙ ap (λ q. a ∷ q) h.2, prev_isnt p e a ids isnt ∙ h.3, next_isnt e a ids isnt ∙ h.4))
+    (a ∷ h.0, h.1, drop_isnt e a ids isnt ∙ ap (λ q. a ∷ q) h.2, prev_isnt p e a ids isnt ∙ h.3, next_isnt e a ids isnt ∙ h.4, ap (λ q. a ∷ q) h.5))
 
-lacks_left : (e : ℕ) (xs ys : List ℕ) → Lacks e (xs ++ ys) → Lacks e xs
+pub lacks_left : (e : ℕ) (xs ys : List ℕ) → Lacks e (xs ++ ys) → Lacks e xs
 lacks_left e [] ys lacks = tt
 lacks_left e (a ∷ xs) ys lacks = (lacks.0, lacks_left e xs ys lacks.1)
 
-lacks_right : (e : ℕ) (xs ys : List ℕ) → Lacks e (xs ++ ys) → Lacks e ys
+pub lacks_right : (e : ℕ) (xs ys : List ℕ) → Lacks e (xs ++ ys) → Lacks e ys
 lacks_right e [] ys lacks = lacks
 lacks_right e (a ∷ xs) ys lacks = lacks_right e xs ys lacks.1
 
-last_isnot : (e : ℕ) (p : Option ℕ) (xs : List ℕ) → IsNot e p → Lacks e xs → IsNot e (last_or p xs)
+pub last_isnot : (e : ℕ) (p : Option ℕ) (xs : List ℕ) → IsNot e p → Lacks e xs → IsNot e (last_or p xs)
 last_isnot e p [] isnt lacks = isnt
 last_isnot e p (a ∷ xs) isnt lacks = last_isnot e (Some a) xs lacks.0 lacks.1
 

@@ -1,11 +1,12 @@
 -- Which inverses can be taken back, and which lists of them, the newest first, fit data.
-use Rattle.std.specs.Prelude.{◌≡◌, ◌≢◌, ℕ, ◌+◌, ◌<◌, List, [], ◌∷◌, ◌++◌, suc}
+use Rattle.std.specs.Prelude.{◌≡◌, ◌≢◌, ℕ, ◌+◌, ◌<◌, List, [], ◌∷◌, ◌++◌, slice_index_or, suc}
+use Rattle.std.specs.List.{AllByRecursion}
 use Rattle.std.specs.declared.option.Option.{Option}
 use Rattle.std.specs.declared.option.Option.TheVariants.{None, Some}
 use Rattle.mi_value.specs.declared.value.Value.{Value}
 use Rattle.mi_catalog.specs.Shape.{Shape}
 use Rattle.mi_model.specs.Table.{Table}
-use Rattle.mi_container.specs.Data.{Node, Link, Kept, Order, Data, order_at, node_of, kept_of, table_of, IsData}
+use Rattle.mi_container.specs.Data.{Content, Node, Link, Kept, Order, Data, order_at, node_of, kept_of, stamp_of, table_of, IsData}
 use Rattle.mi_container.specs.Data.Order.{ById, ByKey, ByHash, Listed}
 use Rattle.mi_container.specs.Changes.{ref_of, head_of, group}
 use Rattle.mi_container.specs.Inverse.{RowRef, OldPlace, Inverse, keeps, taken_back}
@@ -20,24 +21,29 @@ last_or p (a ∷ ids) = last_or (Some a) ids
 abbrev pub Meet : List (ℕ × Node) → Link → List ℕ → Type 0
 Meet rows l ids = (xs ys : List ℕ) × (ids ≡ xs ++ ys) × (l.back ≡ ref_of rows (last_or None xs)) × (l.forth ≡ ref_of rows (head_of ys))
 
--- in the list of the index of number x, or where it is hashed among the rows of r's key
-abbrev pub MeetIn : ℕ → List (ℕ × Node) → List Value → Link → Order → Type 0
-MeetIn x rows r l ById = Unit {0}
-MeetIn x rows r l (ByKey ps) = Unit {0}
-MeetIn x rows r l (ByHash ps) = Meet rows l (group ps x rows r)
-MeetIn x rows r l (Listed ids) = Meet rows l ids
+-- and a stamp is later than those before the place, and earlier than those behind it
+abbrev pub MeetByStamp : ℕ → List (ℕ × Node) → ℕ → Link → List ℕ → Type 0
+MeetByStamp x rows a l ids = (xs ys : List ℕ) × (ids ≡ xs ++ ys) × (l.back ≡ ref_of rows (last_or None xs)) × (l.forth ≡ ref_of rows (head_of ys))
+    × AllByRecursion (λ b. stamp_of rows x b < a) xs × AllByRecursion (λ b. a < stamp_of rows x b) ys
 
--- in every index from number x on
-abbrev pub AllMeet : ℕ → List (ℕ × Node) → List Value → List Link → List Order → Type 0
-AllMeet x rows r [] [] = Unit {0}
-AllMeet x rows r [] (o ∷ os) = ⊥
-AllMeet x rows r (l ∷ ls) [] = ⊥
-AllMeet x rows r (l ∷ ls) (o ∷ os) = MeetIn x rows r l o × AllMeet (suc x) rows r ls os
+-- in the list of the index of number x, or where it is hashed among the rows of r's key, by the stamp a
+abbrev pub MeetIn : ℕ → List (ℕ × Node) → List Value → ℕ → Link → Order → Type 0
+MeetIn x rows r a l ById = Unit {0}
+MeetIn x rows r a l (ByKey ps) = Unit {0}
+MeetIn x rows r a l (ByHash ps) = MeetByStamp x rows a l (group ps x rows r)
+MeetIn x rows r a l (Listed ids) = Meet rows l ids
+
+-- in every index from number x on, for what a node holds
+abbrev pub AllMeet : ℕ → List (ℕ × Node) → Content → List Link → List Order → Type 0
+AllMeet x rows c [] [] = Unit {0}
+AllMeet x rows c [] (o ∷ os) = ⊥
+AllMeet x rows c (l ∷ ls) [] = ⊥
+AllMeet x rows c (l ∷ ls) (o ∷ os) = MeetIn x rows c.values (slice_index_or c.stamps x 0) l o × AllMeet (suc x) rows c ls os
 
 -- those of a place that is remembered
 abbrev pub PlaceMeets : ℕ → List (ℕ × Node) → List Value → Option OldPlace → Order → Type 0
 PlaceMeets x rows r None o = Unit {0}
-PlaceMeets x rows r (Some was) o = MeetIn x rows r was.link o
+PlaceMeets x rows r (Some was) o = MeetIn x rows r was.stamp was.link o
 
 abbrev pub PlacesMeet : ℕ → List (ℕ × Node) → List Value → List (Option OldPlace) → List Order → Type 0
 PlacesMeet x rows r [] [] = Unit {0}
@@ -71,7 +77,7 @@ IsListed (Listed ids) = Unit {0}
 abbrev pub Ready : Inverse → Data → Type 0
 Ready (Inserted r) d = IsLive d.rows r × (d.next ≡ r.id + 1) × (0 < d.arrivals)
 Ready (Put r old) d = IsLive d.rows r × (0 < d.arrivals) × PlacesMeet 0 d.rows old.values old.places d.orders
-Ready (Erased r why) d = (k : IsKept d.kept r) × AllMeet 0 d.rows k.0.node.content.values k.0.links d.orders
+Ready (Erased r why) d = (k : IsKept d.kept r) × AllMeet 0 d.rows k.0.node.content k.0.links d.orders
 Ready (Relocated x r b) d = IsLive d.rows r × IsOther d.rows r.id b × IsListed (order_at d.orders x)
 Ready Nothing d = Unit {0}
 

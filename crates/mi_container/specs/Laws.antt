@@ -3,15 +3,22 @@
 --     ChangeIsUndone, RunsUnwind      the inverse of a change, and those of a run, give back exactly the data before
 --     ChangeFits, NewestIsBack, OldestIsSettled      lists of inverses that fit: one more, the newest taken back, the oldest settled
 --     SettledLater, KeptByOne      settling and taking back are in either order the same, and each kept node is kept by one inverse
-use Rattle.std.specs.Prelude.{◌≡◌, ℕ, true, if◌then◌else◌, List, [], ◌∷◌, ◌++◌}
+--     SortedIsShown, HashedIsShown, IdsAreShown      the live ids by keys and stamps are what an index shows
+use Rattle.std.specs.Prelude.{◌≡◌, ℕ, ◌<◌, true, if◌then◌else◌, List, [], ◌∷◌, ◌++◌, length}
+use Rattle.std.specs.Ordering.{nat_cmp, on, then_cmp}
+use Rattle.std.specs.declared.cmp.Ordering.{Ordering}
+use Rattle.std.specs.declared.cmp.Ordering.TheVariants.{Less}
 use Rattle.std.specs.List.{AllByRecursion}
 use Rattle.std.specs.Option.{is_some}
 use Rattle.std.specs.declared.option.Option.{Option}
 use Rattle.std.specs.declared.option.Option.TheVariants.{Some}
 use Rattle.mi_catalog.specs.Rules.{is_schema}
-use Rattle.mi_catalog.specs.Shape.{Shape}
-use Rattle.mi_model.specs.Table.{Table, times, opened}
-use Rattle.mi_container.specs.Data.{Data, kept_of, table_of, IsData}
+use Rattle.mi_value.specs.declared.compare.KeyPart.{KeyPart}
+use Rattle.mi_catalog.specs.Shape.{Shape, index_at}
+use Rattle.mi_model.specs.Table.{Table, times, ListsEach, opened}
+use Rattle.mi_model.specs.View.{compare_ids, view}
+use Rattle.mi_container.specs.Data.{Data, order_at, kept_of, stamp_of, ids_of, table_of, IsData}
+use Rattle.mi_container.specs.Data.Order.{ById, ByKey, ByHash}
 use Rattle.mi_container.specs.Changes.{opened_data}
 use Rattle.mi_container.specs.Inverse.{RowRef, Inverse, keeps, taken_back, settled}
 use Rattle.mi_container.specs.Inverse.Inverse.{Erased}
@@ -64,3 +71,28 @@ abbrev pub KeptByOne : Type 0
 KeptByOne = (s : Shape) (is : List Inverse) (ts : List Table) (d : Data) → IsData s d → Fits s is ts d
     → ((e : ℕ) → times e (kept_ids is) ≡ (if is_some (kept_of d.kept e) then 1 else 0))
     × ((later older : List Inverse) (r : RowRef) (why : Option (ℕ × ℕ)) → is ≡ later ++ Erased r why ∷ older → AllByRecursion (Unnamed r.id) later)
+
+-- What indexes show
+
+-- each id is before those after it
+abbrev pub Rise : (ℕ → ℕ → Ordering) → List ℕ → Type 0
+Rise order [] = Unit {0}
+Rise order (a ∷ ids) = AllByRecursion (λ b. order a b ≡ Less) ids × Rise order ids
+
+-- by the keys of the index of number x, and then by the stamps
+abbrev pub stands_before : Shape → Data → ℕ → ℕ → ℕ → Ordering
+stands_before s d x = then_cmp (compare_ids (index_at s x) (table_of d)) (on (stamp_of d.rows x) nat_cmp)
+
+-- the live ids by their keys and then by their stamps are what a sorted index with keys shows
+abbrev pub SortedIsShown : Type 0
+SortedIsShown = (s : Shape) (d : Data) (x : ℕ) (ps : List KeyPart) (ids : List ℕ) → IsData s d → x < length d.orders → order_at d.orders x ≡ ByKey ps
+    → ListsEach (table_of d) ids → Rise (stands_before s d x) ids → ids ≡ view s (table_of d) x
+
+-- and by their stamps what a hashed one does, which shows those of each key
+abbrev pub HashedIsShown : Type 0
+HashedIsShown = (s : Shape) (d : Data) (x : ℕ) (ps : List KeyPart) (ids : List ℕ) → IsData s d → x < length d.orders → order_at d.orders x ≡ ByHash ps
+    → ListsEach (table_of d) ids → Rise (on (stamp_of d.rows x) nat_cmp) ids → ids ≡ view s (table_of d) x
+
+-- the index of the ids shows the live ids in their order
+abbrev pub IdsAreShown : Type 0
+IdsAreShown = (s : Shape) (d : Data) (x : ℕ) → IsData s d → x < length d.orders → order_at d.orders x ≡ ById → ids_of d.rows ≡ view s (table_of d) x

@@ -1,6 +1,6 @@
 //! The laws of undo over a container's plain data, and those of tags: each is the contract of a function that does nothing.
 //! They say nothing new of tables: the table of changed data is the definitions' changed table.
-ghost use Rattle.mi_container.specs.Laws.{OpensEmpty, ChangeIsTables, ChangeIsUndone, RunsUnwind, ChangeFits, NewestIsBack, OldestIsSettled, SettledLater, KeptByOne};
+ghost use Rattle.mi_container.specs.Laws.{IdsAreShown, SortedIsShown, HashedIsShown, OpensEmpty, ChangeIsTables, ChangeIsUndone, RunsUnwind, ChangeFits, NewestIsBack, OldestIsSettled, SettledLater, KeptByOne};
 ghost use Rattle.mi_container.specs.Orders.{OrdersAreLawful, KeyingsAreLawful};
 ghost use Rattle.mi_container.specs.Tags.{TagsOrderKeys, ExactTagsAreKeys, TagsOrderProbes, ExactTagsAreProbes};
 
@@ -78,4 +78,19 @@ pub fn orders_are_lawful()
 /// To have one key in a hashed index is an equivalence, and equal keys and their probes have one hash.
 pub fn keyings_are_lawful()
     ensures { KeyingsAreLawful }
+{}
+
+/// The live ids, by their keys and then by their stamps, are what a sorted index with keys shows.
+pub fn sorted_is_shown()
+    ensures { SortedIsShown }
+{}
+
+/// The live ids by their stamps are the list of a hashed index.
+pub fn hashed_is_shown()
+    ensures { HashedIsShown }
+{}
+
+/// The live ids in their order are what the index of the ids shows.
+pub fn ids_are_shown()
+    ensures { IdsAreShown }
 {}

@@ -1,0 +1,5 @@
+use Rattle.mi_container.proofs.ViewOfData.{hashed_is_shown}
+use Rattle.mi_container.proofs.laws.hashed_is_shown.Goals as goal
+
+pub returns : goal.returns
+returns c = hashed_is_shown

@@ -1,0 +1,5 @@
+use Rattle.mi_container.proofs.ViewOfData.{ids_are_shown}
+use Rattle.mi_container.proofs.laws.ids_are_shown.Goals as goal
+
+pub returns : goal.returns
+returns c = ids_are_shown

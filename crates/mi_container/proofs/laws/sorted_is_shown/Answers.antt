@@ -1,0 +1,5 @@
+use Rattle.mi_container.proofs.ViewOfData.{sorted_is_shown}
+use Rattle.mi_container.proofs.laws.sorted_is_shown.Goals as goal
+
+pub returns : goal.returns
+returns c = sorted_is_shown
