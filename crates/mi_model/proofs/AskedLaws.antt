@@ -69,7 +69,8 @@ at_number columns [] d n past all = past
 at_number columns (i ∷ is) d zero past all = all.0
 at_number columns (i ∷ is) d (suc n) past all = at_number columns is d n past all.1
 
-in_index : (columns : ℕ) (is : List Index) (d : Index) (n : ℕ) → InColumns columns d.parts → are_indexes columns is ≡ true → InColumns columns (get_or is n d).parts
+in_index : (columns : ℕ) (is : List Index) (d : Index) (n : ℕ) → InColumns columns d.parts → are_indexes columns is ≡ true
+    → InColumns columns (get_or is n d).parts
 in_index columns [] d n past keeps = past
 in_index columns (i ∷ is) d n past keeps =
     let both = and_left _ _ (and_left _ _ keeps) in

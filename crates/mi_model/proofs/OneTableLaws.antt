@@ -35,15 +35,19 @@ module _ (first : ℕ) (s : Shape) where
       either {A = Result ℕ Refusal} (is_spent d.revision) (Err Spent, e) (cond (depth e == 1024) (Err Depth, e) (Ok (d.revision + 1), started e)) (Err Spent, d)
       (cond (length d.old == 1024) (Err Depth, d) (Ok (d.revision + 1), more)) refl
       (ap (λ n. cond (n == 1024) (let x : Result ℕ Refusal × Database = (Err Depth, e) in x) (Ok (d.revision + 1), started e)) (kept_long d.old)
-      ∙ either {A = Result ℕ Refusal} (length d.old == 1024) (Err Depth, e) (Ok (d.revision + 1), started e) (Err Depth, d) (Ok (d.revision + 1), more) refl refl)
+      ∙ either {A = Result ℕ Refusal} (length d.old == 1024) (Err Depth, e) (Ok (d.revision + 1), started e)
+      (Err Depth, d) (Ok (d.revision + 1), more) refl refl)
 
   undo_alone : (t : Table) (old : List Table) (r : ℕ) → undo_step (in_catalog first s (alone t old r)) ≡ and_in_catalog first s (undo_to (alone t old r) old)
   undo_alone t [] r = refl
-  undo_alone t (u ∷ old) r = ap (λ b. cond b (Err (record {}), in_catalog first s (alone t (u ∷ old) r)) (Ok (r - 1), in_catalog first s (alone u old (r - 1)))) (some_open u old)
+  undo_alone t (u ∷ old) r =
+      ap (λ b. cond b (Err (record {}), in_catalog first s (alone t (u ∷ old) r)) (Ok (r - 1), in_catalog first s (alone u old (r - 1)))) (some_open u old)
 
-  squash_alone : (t : Table) (old : List Table) (r : ℕ) → squash_step (in_catalog first s (alone t old r)) ≡ and_in_catalog first s (squash_to (alone t old r) old)
+  squash_alone : (t : Table) (old : List Table) (r : ℕ)
+      → squash_step (in_catalog first s (alone t old r)) ≡ and_in_catalog first s (squash_to (alone t old r) old)
   squash_alone t [] r = refl
-  squash_alone t (u ∷ old) r = ap (λ b. cond b (Err (record {}), in_catalog first s (alone t (u ∷ old) r)) (Ok (r - 1), in_catalog first s (alone t old (r - 1)))) (some_open u old)
+  squash_alone t (u ∷ old) r =
+      ap (λ b. cond b (Err (record {}), in_catalog first s (alone t (u ∷ old) r)) (Ok (r - 1), in_catalog first s (alone t old (r - 1)))) (some_open u old)
 
   take_kept : (n : ℕ) (old : List Table) → take n (map (λ (t : Table). t ∷ []) old) ≡ map (λ t. t ∷ []) (take n old)
   take_kept zero old = refl
@@ -56,7 +60,8 @@ module _ (first : ℕ) (s : Shape) where
       (Ok (min n (x + n - d.revision)), record (in_catalog first s d) { old = take (n - min n (x + n - d.revision)) (map (λ t. t ∷ []) d.old) }))
       ∙ ap (λ old. (Ok (min (length d.old) (x + length d.old - d.revision)), record (in_catalog first s d) { old = old })) (take_kept _ d.old)
 
-  undone_alone : (t : Table) (old : List Table) (r : ℕ) → undone_times (length old) (in_catalog first s (alone t old r)) ≡ in_catalog first s (alone (oldest t old) [] (r - length old))
+  undone_alone : (t : Table) (old : List Table) (r : ℕ)
+      → undone_times (length old) (in_catalog first s (alone t old r)) ≡ in_catalog first s (alone (oldest t old) [] (r - length old))
   undone_alone t [] r = ap (λ n. in_catalog first s (alone t [] n)) (omega arith)
   undone_alone t (u ∷ old) r = undone_alone u old (r - 1) ∙ ap (λ n. in_catalog first s (alone (oldest u old) [] n)) (omega arith)
 

@@ -1,5 +1,6 @@
 -- A rank in counts of rows: those of a smaller key, and those of the same key earlier in the list.
-use Rattle.std.proofs.Common.{◌≡◌, ℕ, ◌+◌, ◌<◌, ◌≤◌, zero, suc, Bool, true, false, cond, not, ◌&&◌, inl, inr, List, [], ◌∷◌, length, take, refl, ap, ap₂, sym, ◌∙◌, subst, arith}
+use Rattle.std.proofs.Common.{◌≡◌, ℕ, ◌+◌, ◌<◌, ◌≤◌, zero, suc, Bool, true, false, cond, not, ◌&&◌}
+use Rattle.std.proofs.Common.{inl, inr, List, [], ◌∷◌, length, take, refl, ap, ap₂, sym, ◌∙◌, subst, arith}
 use Rattle.std.specs.Prelude.{◌==◌, IsTrue}
 use Rattle.std.specs.List.{filter, AllByRecursion}
 use Rattle.std.specs.Map.{lookup}
@@ -39,14 +40,16 @@ split_step Equal Greater a all less same h = omega arith
 split_step Greater k a all less same h = omega arith
 
 split_count : (f g : ℕ → Ordering) (ids : List ℕ)
-    → length (filter (λ a. is_lt (ordering_then (f a) (g a))) ids) ≡ length (filter (λ a. is_lt (f a)) ids) + length (filter (λ a. is_eq (f a) && is_lt (g a)) ids)
+    → length (filter (λ a. is_lt (ordering_then (f a) (g a))) ids)
+    ≡ length (filter (λ a. is_lt (f a)) ids) + length (filter (λ a. is_eq (f a) && is_lt (g a)) ids)
 split_count f g [] = omega arith
 split_count f g (a ∷ ids) = split_step (f a) (g a) a _ _ _ (split_count f g ids)
 
 less_suc : (m n : ℕ) → is_lt (nat_cmp (suc m) (suc n)) ≡ is_lt (nat_cmp m n)
 less_suc m n =
     both_ways (is_lt (nat_cmp m n))
-    (λ yes. let l : m < n = ranked m n Less (sym (is_less _ yes)) in ap (λ b. is_lt (cond b Less (cond (suc m == suc n) Equal Greater))) (lt-ltb (suc m) (suc n) (omega arith)) ∙ sym yes)
+    (λ yes. let l : m < n = ranked m n Less (sym (is_less _ yes)) in
+    ap (λ b. is_lt (cond b Less (cond (suc m == suc n) Equal Greater))) (lt-ltb (suc m) (suc n) (omega arith)) ∙ sym yes)
     (λ isnt. both_ways (is_lt (nat_cmp (suc m) (suc n)))
     (λ yes. absurd (
     let l : suc m < suc n = ranked (suc m) (suc n) Less (sym (is_less _ yes)) in
@@ -68,7 +71,8 @@ and_true false c is = refl
 none_early : (q : ℕ → Bool) (g : ℕ → ℕ) (ids : List ℕ) → filter (λ b. q b && is_lt (nat_cmp (g b) 0)) ids ≡ []
 none_early q g [] = refl
 none_early q g (a ∷ ids) =
-    ap (λ b. cond b (a ∷ filter (λ b. q b && is_lt (nat_cmp (g b) 0)) ids) (filter (λ b. q b && is_lt (nat_cmp (g b) 0)) ids)) (and_false (q a) _ (never_less (g a)))
+    ap (λ b. cond b (a ∷ filter (λ b. q b && is_lt (nat_cmp (g b) 0)) ids)
+    (filter (λ b. q b && is_lt (nat_cmp (g b) 0)) ids)) (and_false (q a) _ (never_less (g a)))
     ∙ none_early q g ids
 
 -- the ids of the first n places
@@ -77,18 +81,21 @@ early q [] zero once = refl
 early q [] (suc n) once = refl
 early q (a ∷ ids) zero once = none_early q (rank_in (a ∷ ids)) (a ∷ ids)
 early q (a ∷ ids) (suc n) once =
-    let lacks : Lacks a ids = lacks_of_count a ids (let o : cond {A = ℕ} (a == a) 1 0 + times a ids ≤ 1 = once a in let c : cond {A = ℕ} (a == a) 1 0 ≡ 1 = ap (λ b. cond {A = ℕ} b 1 0) (count_itself a) in omega (arith, o, c)) in
+    let lacks : Lacks a ids = lacks_of_count a ids (let o : cond {A = ℕ} (a == a) 1 0 + times a ids ≤ 1 = once a in
+    let c : cond {A = ℕ} (a == a) 1 0 ≡ 1 = ap (λ b. cond {A = ℕ} b 1 0) (count_itself a) in omega (arith, o, c)) in
     let fewer : IsOnce ids = λ id. (let o : cond {A = ℕ} (a == id) 1 0 + times id ids ≤ 1 = once id in omega (arith, o)) in
     let test : ℕ → Bool = λ b. q b && is_lt (nat_cmp (rank_in (a ∷ ids) b) (suc n)) in
     ap (λ b. cond b (a ∷ filter test ids) (filter test ids))
-    (and_true (q a) _ (ap (λ r. is_lt (nat_cmp r (suc n))) (rank_first a a ids (count_itself a)) ∙ ap (λ b. is_lt (cond b Less (cond (0 == suc n) Equal Greater))) (lt-ltb 0 (suc n) (omega arith))))
+    (and_true (q a) _ (ap (λ r. is_lt (nat_cmp r (suc n))) (rank_first a a ids (count_itself a))
+    ∙ ap (λ b. is_lt (cond b Less (cond (0 == suc n) Equal Greater))) (lt-ltb 0 (suc n) (omega arith))))
     ∙ ap (λ rest. cond (q a) (a ∷ rest) rest)
     (filter_alike a test (λ b. q b && is_lt (nat_cmp (rank_in ids b) n)) (λ b ne. ap (λ r. q b && r) (
     ap (λ r. is_lt (nat_cmp r (suc n))) (rank_next b a ids (not_same a b (λ e. ne (sym e))) ∙ omega arith) ∙ less_suc (rank_in ids b) n)) ids lacks
     ∙ early q ids n fewer)
 
 -- with and without an id
-step_same : (b : Bool) (a n : ℕ) (kept less : List ℕ) → length kept ≡ cond {A = ℕ} b n 0 + length less → length (cond b (a ∷ kept) kept) ≡ cond {A = ℕ} b (1 + n) 0 + length less
+step_same : (b : Bool) (a n : ℕ) (kept less : List ℕ) → length kept ≡ cond {A = ℕ} b n 0 + length less
+    → length (cond b (a ∷ kept) kept) ≡ cond {A = ℕ} b (1 + n) 0 + length less
 step_same true a n kept less h = omega arith
 step_same false a n kept less h = omega arith
 
@@ -110,10 +117,12 @@ count-without p e (a ∷ ids) =
           ∙ sym (ap (λ b. cond {A = ℕ} (p e) (cond {A = ℕ} b 1 0 + times e ids) 0 + length (filter p (cond (not b) (a ∷ without e ids) (without e ids)))) is.0)
       | inr isnt ↦
           step_other (p a) (p e) a (times e ids) (filter p ids) (filter p (without e ids)) rest
-          ∙ sym (ap (λ b. cond {A = ℕ} (p e) (cond {A = ℕ} b 1 0 + times e ids) 0 + length (filter p (cond (not b) (a ∷ without e ids) (without e ids)))) isnt.0)
+          ∙ sym (ap (λ b. cond {A = ℕ} (p e) (cond {A = ℕ} b 1 0 + times e ids) 0
+          + length (filter p (cond (not b) (a ∷ without e ids) (without e ids)))) isnt.0)
     ]
 
-step_row : (b : Bool) (n : ℕ) (less : List ℕ) (r : Row) (rows : List Row) → n ≡ 1 → length less ≡ length rows → cond {A = ℕ} b n 0 + length less ≡ length (cond b (r ∷ rows) rows)
+step_row : (b : Bool) (n : ℕ) (less : List ℕ) (r : Row) (rows : List Row) → n ≡ 1 → length less ≡ length rows
+    → cond {A = ℕ} b n 0 + length less ≡ length (cond b (r ∷ rows) rows)
 step_row true n less r rows one h = omega arith
 step_row false n less r rows one h = omega arith
 
@@ -121,7 +130,8 @@ step_row false n less r rows one h = omega arith
 count_each : (p : ℕ → Bool) (next : ℕ) (rows : List Row) → Rise next rows → (ids : List ℕ) → ((id : ℕ) → times id ids ≡ here id rows)
     → length (filter p ids) ≡ length (filter (λ (r : Row). p r.0) rows)
 count_each p next [] up [] each = refl
-count_each p next [] up (a ∷ ids) each = absurd (let some : 0 < times a (a ∷ ids) = stands a 0 (a ∷ ids) refl in let none : times a (a ∷ ids) ≡ 0 = each a in omega arith)
+count_each p next [] up (a ∷ ids) each =
+    absurd (let some : 0 < times a (a ∷ ids) = stands a 0 (a ∷ ids) refl in let none : times a (a ∷ ids) ≡ 0 = each a in omega arith)
 count_each p next (r ∷ rows) up ids each =
     count-without p r.0 ids
     ∙ step_row (p r.0) (times r.0 ids) (filter p (without r.0 ids)) r (filter (λ (q : Row). p q.0) rows)
@@ -132,12 +142,15 @@ count_each p next (r ∷ rows) up ids each =
 found_behind : (r : Row) (rows others : List Row) → AllByRecursion (λ q. r.0 < q.0) others → AllByRecursion (λ q. lookup (λ k. k == q.0) rows ≡ Some q.1) others
     → AllByRecursion (λ q. lookup (λ k. k == q.0) (r ∷ rows) ≡ Some q.1) others
 found_behind r rows [] above found = tt
-found_behind r rows (q ∷ others) above found =
-    (ap (λ b. cond b (Some r.1) (lookup (λ k. k == q.0) rows)) (not_same r.0 q.0 (λ is. absurd (let l : r.0 < q.0 = above.0 in omega arith))) ∙ found.0, found_behind r rows others above.1 found.1)
+found_behind r rows (q ∷ others) above found = (
+  ap (λ b. cond b (Some r.1) (lookup (λ k. k == q.0) rows)) (not_same r.0 q.0 (λ is. absurd (let l : r.0 < q.0 = above.0 in omega arith))) ∙ found.0,
+  found_behind r rows others above.1 found.1,
+)
 
 each_found : (next : ℕ) (rows : List Row) → Rise next rows → AllByRecursion (λ q. lookup (λ k. k == q.0) rows ≡ Some q.1) rows
 each_found next [] up = tt
-each_found next (r ∷ rows) up = (ap (λ b. cond b (Some r.1) (lookup (λ k. k == r.0) rows)) (count_itself r.0), found_behind r rows rows up.1 (each_found next rows up.2))
+each_found next (r ∷ rows) up =
+    (ap (λ b. cond b (Some r.1) (lookup (λ k. k == r.0) rows)) (count_itself r.0), found_behind r rows rows up.1 (each_found next rows up.2))
 
 filter_rows : (p q : Row → Bool) (all rows : List Row) → ((r : Row) → lookup (λ k. k == r.0) all ≡ Some r.1 → p r ≡ q r)
     → AllByRecursion (λ r. lookup (λ k. k == r.0) all ≡ Some r.1) rows → filter p rows ≡ filter q rows
@@ -156,7 +169,8 @@ rank_of_sorted : (order : ℕ → ℕ → Ordering) → IsTotalOrder order → (
     → rank_in (sorted order ids) e ≡ length (filter (λ a. is_lt (order a e)) ids) + length (filter (λ a. is_eq (order a e)) (take (rank_in ids e) ids))
 rank_of_sorted order total ids e once some =
     let both : IsTotalOrder (by_stamp total (rank_in ids)) = then_total total (on_total (rank_in ids) nat_cmp_total) in
-    sym (rank_counts both e (sorted order ids) (sorted-rises total (rank_in ids) ids (places_rise ids once)) (subst (λ n. 0 < n) (sym (times-sorted e order ids)) some))
+    sym (rank_counts both e (sorted order ids)
+    (sorted-rises total (rank_in ids) ids (places_rise ids once)) (subst (λ n. 0 < n) (sym (times-sorted e order ids)) some))
     ∙ count-sorted (λ a. is_lt (by_stamp total (rank_in ids) a e)) order ids
     ∙ split_count (λ a. order a e) (λ a. nat_cmp (rank_in ids a) (rank_in ids e)) ids
     ∙ ap (λ n. length (filter (λ a. is_lt (order a e)) ids) + n) (ap length (early (λ a. is_eq (order a e)) ids (rank_in ids e) once))

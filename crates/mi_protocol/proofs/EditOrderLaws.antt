@@ -49,7 +49,8 @@ spared : (x : ℕ) (e : Edit) (es : List Edit) → column_of e ≡ x → AllByRe
 spared x e [] is all = tt
 spared x e (f ∷ es) is all = (λ same. absurd (omega arith), spared x e es is all.1)
 
-one_more : (x : ℕ) (o : Option (Option Edit)) (r : Option (List Edit)) → IfSome o (IsOfColumn x) → IfSome r (From (suc x)) → IfSome (option_map₂ with_edit o r) (From x)
+one_more : (x : ℕ) (o : Option (Option Edit)) (r : Option (List Edit)) → IfSome o (IsOfColumn x) → IfSome r (From (suc x))
+    → IfSome (option_map₂ with_edit o r) (From x)
 one_more x None r is rest = tt
 one_more x (Some o) None is rest = tt
 one_more x (Some None) (Some es) is rest = record { late = later x es rest.late; once = rest.once }

@@ -20,7 +20,8 @@ through (Err e) f h = tt
 
 pub no_name_is_the_first : NoNameIsTheFirst
 no_name_is_the_first c (request.Insert (Some name) row before) none = absurd (cc)
-no_name_is_the_first c (request.Insert None row before) none = through (bound_place (schema_at c 0) before) _ (λ at. through (ok_or (bound_row (schema_at c 0).columns row) Row) _ (λ values. refl))
+no_name_is_the_first c (request.Insert None row before) none =
+    through (bound_place (schema_at c 0) before) _ (λ at. through (ok_or (bound_row (schema_at c 0).columns row) Row) _ (λ values. refl))
 no_name_is_the_first c (request.Replace (Some name) id row) none = absurd (cc)
 no_name_is_the_first c (request.Replace None id row) none = through (ok_or (bound_row (schema_at c 0).columns row) Row) _ (λ values. refl)
 no_name_is_the_first c (request.Modify (Some name) id set add rollback) none = absurd (cc)
@@ -40,7 +41,8 @@ no_name_is_the_first c (request.Nth None index n) none = through (index_number i
 no_name_is_the_first c (request.Count (Some name) index key) none = absurd (cc)
 no_name_is_the_first c (request.Count None index key) none = through (key_or_prefix (schema_at c 0) index key) _ (λ k. refl)
 no_name_is_the_first c (request.Range (Some name) index lower upper reverse limit) none = absurd (cc)
-no_name_is_the_first c (request.Range None index lower upper reverse limit) none = through (index_number is_sorted (schema_at c 0) index) _ (λ x. through (bound_ends (schema_at c 0) x lower upper) _ (λ e. refl))
+no_name_is_the_first c (request.Range None index lower upper reverse limit) none =
+    through (index_number is_sorted (schema_at c 0) index) _ (λ x. through (bound_ends (schema_at c 0) x lower upper) _ (λ e. refl))
 no_name_is_the_first c (request.List (Some name) index after limit) none = absurd (cc)
 no_name_is_the_first c (request.List None index after limit) none = through (index_number is_sequenced (schema_at c 0) index) _ (λ x. refl)
 no_name_is_the_first c (request.Rank (Some name) index id) none = absurd (cc)

@@ -28,7 +28,8 @@ get_other (a ∷ r) (suc c) zero v ne = refl
 get_other (a ∷ r) (suc c) (suc d) v ne = get_other r c d v (λ e. ne (ap suc e))
 
 -- two edits of different columns, in either order
-both : (es : List Edit) (r : List Value) (c d : ℕ) (v w : Option Value) → c ≢ d → (f g : Option Value → Option Value) → f (slice_get r c) ≡ v → g (slice_get r d) ≡ w
+both : (es : List Edit) (r : List Value) (c d : ℕ) (v w : Option Value) → c ≢ d → (f g : Option Value → Option Value) → f (slice_get r c) ≡ v
+    → g (slice_get r d) ≡ w
     → option_and_then (λ q. option_and_then (apply es) (option_map (slice_set q d) (g (slice_get q d)))) (option_map (slice_set r c) v)
     ≡ option_and_then (λ q. option_and_then (apply es) (option_map (slice_set q c) (f (slice_get q c)))) (option_map (slice_set r d) w)
 both es r c d None None ne f g is it = refl
@@ -45,7 +46,8 @@ swapped_two a b es ne r =
     ap (option_and_then (apply (b ∷ es))) (edited_is a r)
     ∙ (λ i. option_and_then (λ q. option_and_then (apply es) (edited_is b q i)) (option_map (slice_set r (column_of a)) (put_by a (slice_get r (column_of a)))))
     ∙ both es r (column_of a) (column_of b) _ _ ne (put_by a) (put_by b) refl refl
-    ∙ (λ i. option_and_then (λ q. option_and_then (apply es) (sym (edited_is a q) i)) (option_map (slice_set r (column_of b)) (put_by b (slice_get r (column_of b)))))
+    ∙ (λ i. option_and_then (λ q. option_and_then (apply es) (sym (edited_is a q) i))
+    (option_map (slice_set r (column_of b)) (put_by b (slice_get r (column_of b)))))
     ∙ ap (option_and_then (apply (a ∷ es))) (sym (edited_is b r))
 
 -- lists of edits that do the same where each column is named once
@@ -113,7 +115,8 @@ none_mapped f (Some v) = refl
 
 stays_through : (r q : List Value) (c d : ℕ) (o : Option Value) → c ≢ d → option_map (slice_set r c) o ≡ Some q → slice_get q d ≡ slice_get r d
 stays_through r q c d None ne is = absurd (let h : None ≡ Some q = is in cc)
-stays_through r q c d (Some v) ne is = let h : Some (set r c v) ≡ Some q = is in let same : set r c v ≡ q = cc in sym (ap (λ l. slice_get l d) same) ∙ get_other r c d v ne
+stays_through r q c d (Some v) ne is =
+    let h : Some (set r c v) ≡ Some q = is in let same : set r c v ≡ q = cc in sym (ap (λ l. slice_get l d) same) ∙ get_other r c d v ne
 
 -- an edit of another column fits after an edit exactly where it does before
 fits_after : (e f : Edit) (r q : List Value) → column_of e ≢ column_of f → edited e r ≡ Some q → is_none (edited f q) ≡ is_none (edited f r)

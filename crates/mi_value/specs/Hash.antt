@@ -39,4 +39,5 @@ EqualKeysHaveEqualHashes = (ps : List KeyPart) (r s : List Value) → compare_ke
 
 -- a whole key has the hash of each record that has this key
 abbrev pub KeysHaveTheirRecordsHash : Type 0
-KeysHaveTheirRecordsHash = (ps : List KeyPart) (key r : List Value) → length key ≡ length ps → compare_prefix ps key r ≡ Equal → values_hash key ≡ values_hash (key_values ps r)
+KeysHaveTheirRecordsHash =
+    (ps : List KeyPart) (key r : List Value) → length key ≡ length ps → compare_prefix ps key r ≡ Equal → values_hash key ≡ values_hash (key_values ps r)
