@@ -1,5 +1,5 @@
 -- Finding, changing and taking out a connection.
-use Rattle.std.proofs.Common.{◌≡◌, ℕ, zero, suc, ◌<◌, List, [], ◌∷◌, length, get_or, Bool, true, false, cond, nat_eq, Some, None, refl, sym, ap, ◌∙◌, arith, inl, inr, ◌⊎◌}
+use Rattle.std.proofs.Common.{◌≡◌, ℕ, zero, suc, ◌<◌, List, [], ◌∷◌, ◌++◌, length, get_or, Bool, true, false, cond, nat_eq, Option, Some, None, is_some, refl, sym, ap, ◌∙◌, arith, inl, inr, ◌⊎◌}
 use Rattle.mi_hub.specs.Lines.{Rest}
 use Rattle.mi_hub.specs.Connections.{rest_at, with_rest, others}
 use Rattle.mi_hub.specs.Places.{StandsAt}
@@ -110,3 +110,73 @@ others-with_rest conn r (c ∷ cs) = elim (test_of (nat_eq c.id conn)) [
       ap (others conn) (with_rest-later conn r c cs other) ∙ others-later conn c (with_rest conn r cs) other
       ∙ ap (λ ds. c ∷ ds) (others-with_rest conn r cs) ∙ sym (others-later conn c cs other)
 ]
+
+-- ---- another connection
+
+differs : (x y z : ℕ) → nat_eq x y ≡ true → (y ≡ z → ⊥) → nat_eq x z ≡ false
+differs x y z e n = grind arith
+
+pub rest_at-others : (k conn : ℕ) (cs : List Connection) → (conn ≡ k → ⊥) → rest_at k (others conn cs) ≡ rest_at k cs
+rest_at-others k conn [] h = refl
+rest_at-others k conn (c ∷ cs) h = elim (test_of (nat_eq c.id conn)) [
+  | inl is ↦ ap (rest_at k) (others-here conn c cs is) ∙ sym (rest_at-later k c cs (differs c.id conn k is h))
+  | inr other ↦ ap (rest_at k) (others-later conn c cs other) ∙ ap (λ o. cond (nat_eq c.id k) (Some c.rest) o) (rest_at-others k conn cs h)
+]
+
+pub rest_at-with_other : (k conn : ℕ) (r : Rest) (cs : List Connection) → (conn ≡ k → ⊥) → rest_at k (with_rest conn r cs) ≡ rest_at k cs
+rest_at-with_other k conn r [] h = refl
+rest_at-with_other k conn r (c ∷ cs) h = elim (test_of (nat_eq c.id conn)) [
+  | inl is ↦
+      ap (rest_at k) (with_rest-here conn r c cs is) ∙ rest_at-later k (with_new c r) cs (differs c.id conn k is h)
+      ∙ sym (rest_at-later k c cs (differs c.id conn k is h))
+  | inr other ↦ ap (rest_at k) (with_rest-later conn r c cs other) ∙ ap (λ o. cond (nat_eq c.id k) (Some c.rest) o) (rest_at-with_other k conn r cs h)
+]
+
+-- those that are attached stay so where another comes
+pub rest_at-append : (k : ℕ) (r : Rest) (cs ds : List Connection) → rest_at k cs ≡ Some r → rest_at k (cs ++ ds) ≡ Some r
+rest_at-append k r [] ds h = absurd (none_some h)
+  where
+    none_some : {A : Type 0} {x : A} → None ≡ Some x → ⊥
+    none_some e = cc
+rest_at-append k r (c ∷ cs) ds h = elim (test_of (nat_eq c.id k)) [
+  | inl is ↦ rest_at-here k c (cs ++ ds) is ∙ sym (rest_at-here k c cs is) ∙ h
+  | inr other ↦ rest_at-later k c (cs ++ ds) other ∙ rest_at-append k r cs ds (sym (rest_at-later k c cs other) ∙ h)
+]
+
+-- the last to come has no bytes
+pub rest_at-last : (k : ℕ) (r : Rest) (cs : List Connection) → rest_at k cs ≡ None → rest_at k (cs ++ record { id = k; rest = r } ∷ []) ≡ Some r
+rest_at-last k r [] h = rest_at-here k (record { id = k; rest = r }) [] (same_test k k refl)
+rest_at-last k r (c ∷ cs) h = elim (test_of (nat_eq c.id k)) [
+  | inl is ↦ absurd (some_none (sym (rest_at-here k c cs is) ∙ h))
+  | inr other ↦ rest_at-later k c (cs ++ record { id = k; rest = r } ∷ []) other ∙ rest_at-last k r cs (sym (rest_at-later k c cs other) ∙ h)
+]
+  where
+    some_none : {A : Type 0} {x : A} → Some x ≡ None → ⊥
+    some_none e = cc
+
+-- another rest leaves who is attached
+pub some_with_rest : (k conn : ℕ) (r : Rest) (cs : List Connection) → is_some (rest_at k (with_rest conn r cs)) ≡ is_some (rest_at k cs)
+some_with_rest k conn r [] = refl
+some_with_rest k conn r (c ∷ cs) = elim (test_of (nat_eq c.id conn)) [
+  | inl is ↦ ap (λ ds. is_some (rest_at k ds)) (with_rest-here conn r c cs is) ∙ either (nat_eq c.id k)
+  | inr other ↦ ap (λ ds. is_some (rest_at k ds)) (with_rest-later conn r c cs other) ∙ later (nat_eq c.id k) (some_with_rest k conn r cs)
+]
+  where
+    either : (b : Bool) → is_some (cond b (Some r) (rest_at k cs)) ≡ is_some (cond b (Some c.rest) (rest_at k cs))
+    either true = refl
+    either false = refl
+
+    later : (b : Bool) → is_some (rest_at k (with_rest conn r cs)) ≡ is_some (rest_at k cs)
+        → is_some (cond b (Some c.rest) (rest_at k (with_rest conn r cs))) ≡ is_some (cond b (Some c.rest) (rest_at k cs))
+    later true h = refl
+    later false h = h
+
+pub some_append : (k : ℕ) (cs ds : List Connection) → is_some (rest_at k cs) ≡ true → is_some (rest_at k (cs ++ ds)) ≡ true
+some_append k cs ds = by_rest (rest_at k cs) refl
+  where
+    by_rest : (o : Option Rest) → rest_at k cs ≡ o → is_some o ≡ true → is_some (rest_at k (cs ++ ds)) ≡ true
+    by_rest None e h = absurd (false_true h)
+      where
+        false_true : is_some {T = Rest} None ≡ true → ⊥
+        false_true f = cc
+    by_rest (Some r) e h = ap is_some (rest_at-append k r cs ds e)

@@ -6,3 +6,5 @@ pub mod PieceLemmas
 pub mod AnswerLemmas
 pub mod WriteLemmas
 pub mod DriveLemmas
+pub mod RestLemmas
+pub mod HolderLemmas

@@ -1,16 +1,15 @@
 -- Pieces of one connection, one after another, come together to one.
-use Rattle.std.proofs.Common.{◌≡◌, ◌↔◌, ℕ, List, [], ◌∷◌, ◌++◌, Option, Some, None, IsSome, IfSome, is_some, true, false, Result, Ok, Err, OnOk, OnErr, refl, sym, ap, ◌∙◌, subst, append-nil, append_assoc}
+use Rattle.std.proofs.Common.{◌≡◌, ◌↔◌, ◌⊎◌, ℕ, List, [], ◌∷◌, ◌++◌, Option, Some, None, IsSome, IfSome, is_some, true, false, Result, Ok, Err, OnOk, OnErr, refl, sym, ap, ◌∙◌, subst, append-nil, append_assoc, inl, inr}
 use Rattle.mi_hub.specs.declared.fault.HubFault.{HubFault}
-use Rattle.mi_hub.specs.declared.fault.HubFault.TheVariants.{NotAttached}
+use Rattle.mi_hub.specs.declared.fault.HubFault.TheVariants.{NotAttached, AlreadyAttached, TooMany, Memory, Write}
 use Rattle.mi_hub.specs.Lines.{Rest, extended, lines_from, rest_from}
-use Rattle.mi_hub.specs.Holder.{released}
 use Rattle.mi_hub.specs.Connections.{rest_at, with_rest, others}
 use Rattle.mi_hub.specs.Answer.{MayGive}
-use Rattle.mi_hub.specs.Served.{Served, CutOff}
-use Rattle.mi_hub.specs.Run.{HubState, Event, piece, close, cut, Done, Failed, Run, RunToFault}
+use Rattle.mi_hub.specs.Served.{Served}
+use Rattle.mi_hub.specs.Run.{HubState, Event, piece, close, cut, Done, Failed, Refused, Step, OneByOne, Run, AllDone, Unflushed, Unsent, DoneToFault}
 use Rattle.mi_hub.specs.RunLaws.{PiecesCutInTwo}
 use Rattle.mi_hub.proofs.LineLemmas.{cut_in_two, from_unended, ended_nil}
-use Rattle.mi_hub.proofs.ServedLemmas.{served_none, served_more, served_split, cut_more}
+use Rattle.mi_hub.proofs.ServedLemmas.{served_none, served_more, served_split}
 use Rattle.mi_hub.proofs.ConnectionLemmas.{rest_at-with_rest, with_rest-twice, with_rest-same, others-with_rest}
 
 same_rest : {r s : Rest} → Some r ≡ Some s → r ≡ s
@@ -40,16 +39,6 @@ piece_more conn a b out more old mid new p q =
           ∙ with_rest-twice conn _ _ old.attached ∙ ap (λ r. with_rest conn r old.attached) (sym two.1),
     )
 
-pub piece_fails : (conn : ℕ) (a b out more : List ℕ) (old mid new : HubState) → Done old (piece conn a) out mid → Failed mid (piece conn b) more new → Failed old (piece conn (a ++ b)) (out ++ more) new
-piece_fails conn a b out more old mid new p q =
-    let then = rest_then conn p.0 (rest_from p.0 a) q.0 old mid p.1 p.3 q.2 in (
-      p.0,
-      q.1,
-      p.1,
-      subst (λ ls. CutOff (MayGive conn) old.held ls (out ++ more) q.1) (ap (λ r. lines_from p.0 a ++ lines_from r b) then ∙ sym (cut_in_two p.0 a b).0) (cut_more (MayGive conn) p.2 q.3),
-      q.4 ∙ ap (λ cs. record { held = released conn q.1; attached = cs }) (ap (others conn) p.3 ∙ others-with_rest conn (rest_from p.0 a) old.attached),
-    )
-
 pub piece_split : (conn : ℕ) (a b out : List ℕ) (old new : HubState) → Done old (piece conn (a ++ b)) out new
     → (mid : HubState) × (first : List ℕ) × (later : List ℕ) × Done old (piece conn a) first mid × Done mid (piece conn b) later new × (out ≡ first ++ later)
 piece_split conn a b out old new p =
@@ -70,19 +59,20 @@ piece_split conn a b out old new p =
 
 -- ---- runs of one and of two events
 
-pub run_one : (e : Event) (old new : HubState) (out : List ℕ) → Done old e out new → Run old (e ∷ []) out new
-run_one e old new out p = (new, out, [], p, (refl, refl), sym (append-nil out))
+module _ (Makes : HubState → Event → List ℕ → HubState → Type 0) where
+  pub one : (e : Event) (old new : HubState) (out : List ℕ) → Makes old e out new → OneByOne Makes old (e ∷ []) out new
+  one e old new out p = (new, out, [], p, (refl, refl), sym (append-nil out))
 
-pub run_two : (e f : Event) (old mid new : HubState) (first later : List ℕ) → Done old e first mid → Done mid f later new → Run old (e ∷ f ∷ []) (first ++ later) new
-run_two e f old mid new first later p q = (mid, first, later, p, run_one f mid new later q, refl)
+  pub two : (e f : Event) (old mid new : HubState) (first later : List ℕ) → Makes old e first mid → Makes mid f later new → OneByOne Makes old (e ∷ f ∷ []) (first ++ later) new
+  two e f old mid new first later p q = (mid, first, later, p, one f mid new later q, refl)
+
+  pub run_append : (xs ys : List Event) (old mid new : HubState) (first later : List ℕ) → OneByOne Makes old xs first mid → OneByOne Makes mid ys later new → OneByOne Makes old (xs ++ ys) (first ++ later) new
+  run_append [] ys old mid new first later p q =
+      subst (λ t. OneByOne Makes old ys (t ++ later) new) (sym p.0) (subst (λ s. OneByOne Makes s ys later new) p.1 q)
+  run_append (x ∷ xs) ys old mid new first later p q =
+      (p.0, p.1, p.2 ++ later, p.3, run_append xs ys p.0 mid new p.2 later p.4 q, ap (λ t. t ++ later) p.5 ∙ append_assoc p.1 p.2 later)
 
 -- ---- a piece in a run, or the same piece cut in two
-
-pub run_append : (xs ys : List Event) (old mid new : HubState) (first later : List ℕ) → Run old xs first mid → Run mid ys later new → Run old (xs ++ ys) (first ++ later) new
-run_append [] ys old mid new first later p q =
-    subst (λ t. Run old ys (t ++ later) new) (sym p.0) (subst (λ s. Run s ys later new) p.1 q)
-run_append (x ∷ xs) ys old mid new first later p q =
-    (p.0, p.1, p.2 ++ later, p.3, run_append xs ys p.0 mid new p.2 later p.4 q, ap (λ t. t ++ later) p.5 ∙ append_assoc p.1 p.2 later)
 
 run_split : (xs ys : List Event) (old new : HubState) (out : List ℕ) → Run old (xs ++ ys) out new
     → (mid : HubState) × (first : List ℕ) × (later : List ℕ) × Run old xs first mid × Run mid ys later new × (out ≡ first ++ later)
@@ -91,24 +81,52 @@ run_split (x ∷ xs) ys old new out p =
     let q = run_split xs ys p.0 new p.2 p.4 in
     (q.0, p.1 ++ q.1, q.2, (p.0, p.1, q.1, p.3, q.3, refl), q.4, p.5 ∙ ap (λ t. p.1 ++ t) q.5 ∙ sym (append_assoc p.1 q.1 q.2))
 
+-- a piece that is refused is refused in two pieces too
+some_none : {A : Type 0} {x : A} → Some x ≡ None → ⊥
+some_none h = cc
+
+step_split : (conn : ℕ) (a b out : List ℕ) (old new : HubState) → Step old (piece conn (a ++ b)) out new
+    → (mid : HubState) × (first : List ℕ) × (later : List ℕ) × Step old (piece conn a) first mid × Step mid (piece conn b) later new × (out ≡ first ++ later)
+step_split conn a b out old new (inl p) =
+    let q = piece_split conn a b out old new p in (q.0, q.1, q.2, inl q.3, inl q.4, q.5)
+step_split conn a b out old new (inr p) =
+    (old, [], [], inr (p.0, p.1, refl, refl), inr (p.0, p.1, refl, p.3), p.2)
+
+-- the connection of a piece that is done is attached, so the next piece isn't refused
+pub not_refused : (conn : ℕ) (bytes : List ℕ) (r : Rest) (fault : HubFault) (s : HubState) → rest_at conn s.attached ≡ Some r → Refused s (piece conn bytes) fault → ⊥
+not_refused conn bytes r NotAttached s here refused = some_none (sym here ∙ refused)
+not_refused conn bytes r AlreadyAttached s here refused = refused
+not_refused conn bytes r TooMany s here refused = refused
+not_refused conn bytes r Memory s here refused = refused
+not_refused conn bytes r Write s here refused = refused
+
+step_join : (conn : ℕ) (a b out more : List ℕ) (old mid new : HubState) → Step old (piece conn a) out mid → Step mid (piece conn b) more new → Step old (piece conn (a ++ b)) (out ++ more) new
+step_join conn a b out more old mid new (inl p) (inl q) = inl (piece_more conn a b out more old mid new p q)
+step_join conn a b out more old mid new (inl p) (inr q) =
+    absurd (not_refused conn b (rest_from p.0 a) q.0 mid (ap (rest_at conn) p.3 ∙ rest_at-with_rest conn (rest_from p.0 a) p.0 old.attached p.1) q.1)
+step_join conn a b out more old mid new (inr p) (inl q) =
+    absurd (not_refused conn a q.0 p.0 old (ap (λ (s : HubState). rest_at conn s.attached) (sym p.3) ∙ q.1) p.1)
+step_join conn a b out more old mid new (inr p) (inr q) =
+    inr (p.0, p.1, ap (λ t. t ++ more) p.2 ∙ q.2, q.3 ∙ p.3)
+
 cut_first : (conn : ℕ) (a b : List ℕ) (later : List Event) (old new : HubState) (out : List ℕ) → Run old (piece conn (a ++ b) ∷ later) out new → Run old (piece conn a ∷ piece conn b ∷ later) out new
 cut_first conn a b later old new out p =
-    let two = piece_split conn a b p.1 old p.0 p.3 in
-    (two.0, two.1, two.2 ++ p.2, two.3, (p.0, two.2, p.2, two.4, p.4, refl), p.5 ∙ ap (λ t. t ++ p.2) two.5 ∙ append_assoc two.1 two.2 p.2)
+    let parts = step_split conn a b p.1 old p.0 p.3 in
+    (parts.0, parts.1, parts.2 ++ p.2, parts.3, (p.0, parts.2, p.2, parts.4, p.4, refl), p.5 ∙ ap (λ t. t ++ p.2) parts.5 ∙ append_assoc parts.1 parts.2 p.2)
 
 join_first : (conn : ℕ) (a b : List ℕ) (later : List Event) (old new : HubState) (out : List ℕ) → Run old (piece conn a ∷ piece conn b ∷ later) out new → Run old (piece conn (a ++ b) ∷ later) out new
 join_first conn a b later old new out p =
     let q = p.4 in
-    (q.0, p.1 ++ q.1, q.2, piece_more conn a b p.1 q.1 old p.0 q.0 p.3 q.3, q.4, p.5 ∙ ap (λ t. p.1 ++ t) q.5 ∙ sym (append_assoc p.1 q.1 q.2))
+    (q.0, p.1 ++ q.1, q.2, step_join conn a b p.1 q.1 old p.0 q.0 p.3 q.3, q.4, p.5 ∙ ap (λ t. p.1 ++ t) q.5 ∙ sym (append_assoc p.1 q.1 q.2))
 
 pub pieces_cut_in_two : PiecesCutInTwo
 pieces_cut_in_two conn a b before later old new out = (
   λ p. let q = run_split before (piece conn (a ++ b) ∷ later) old new out p in
       subst (λ t. Run old (before ++ piece conn a ∷ piece conn b ∷ later) t new) (sym q.5)
-      (run_append before (piece conn a ∷ piece conn b ∷ later) old q.0 new q.1 q.2 q.3 (cut_first conn a b later q.0 new q.2 q.4)),
+      (run_append Step before (piece conn a ∷ piece conn b ∷ later) old q.0 new q.1 q.2 q.3 (cut_first conn a b later q.0 new q.2 q.4)),
   λ p. let q = run_split before (piece conn a ∷ piece conn b ∷ later) old new out p in
       subst (λ t. Run old (before ++ piece conn (a ++ b) ∷ later) t new) (sym q.5)
-      (run_append before (piece conn (a ++ b) ∷ later) old q.0 new q.1 q.2 q.3 (join_first conn a b later q.0 new q.2 q.4)),
+      (run_append Step before (piece conn (a ++ b) ∷ later) old q.0 new q.1 q.2 q.3 (join_first conn a b later q.0 new q.2 q.4)),
 )
 
 -- a connection that was fed is still attached
@@ -140,17 +158,37 @@ same_err h = cc
 -- ---- a piece, and what ends the connection
 
 pub piece_close : (conn : ℕ) (bytes first later : List ℕ) (old mid new : HubState) → Done old (piece conn bytes) first mid → Done mid (close conn) later new
-    → Run old (piece conn bytes ∷ close conn ∷ []) (first ++ later) new
-piece_close conn bytes first later old mid new p q = run_two (piece conn bytes) (close conn) old mid new first later p q
+    → AllDone old (piece conn bytes ∷ close conn ∷ []) (first ++ later) new
+piece_close conn bytes first later old mid new p q = two Done (piece conn bytes) (close conn) old mid new first later p q
 
 pub piece_cut : (conn : ℕ) (bytes first : List ℕ) (old mid new : HubState) → Done old (piece conn bytes) first mid → Done mid (cut conn) [] new
-    → Run old (piece conn bytes ∷ cut conn ∷ []) first new
+    → AllDone old (piece conn bytes ∷ cut conn ∷ []) first new
 piece_cut conn bytes first old mid new p q =
-    subst (λ t. Run old (piece conn bytes ∷ cut conn ∷ []) t new) (append-nil first) (run_two (piece conn bytes) (cut conn) old mid new first [] p q)
+    subst (λ t. AllDone old (piece conn bytes ∷ cut conn ∷ []) t new) (append-nil first) (two Done (piece conn bytes) (cut conn) old mid new first [] p q)
 
-pub piece_close_fails : (conn : ℕ) (bytes first later : List ℕ) (old mid new : HubState) → Done old (piece conn bytes) first mid → Failed mid (close conn) later new
-    → RunToFault old (piece conn bytes ∷ close conn ∷ []) (first ++ later) new
-piece_close_fails conn bytes first later old mid new p q = (mid, first, later, p, q, refl)
+-- the replies of the last event don't go out
+pub piece_unsent : (e : Event) (conn : ℕ) (bytes first later : List ℕ) (old mid new : HubState) → Done old (piece conn bytes) first mid → Unsent mid e later new
+    → DoneToFault old (piece conn bytes ∷ []) e (first ++ later) new
+piece_unsent e conn bytes first later old mid new p q = (mid, first, later, one Done (piece conn bytes) old mid first p, q, refl)
+
+-- a connection whose replies don't go out is gone, and the others stay
+pub unsent_piece_gone : (conn : ℕ) (bytes out : List ℕ) (old new : HubState) → Unsent old (piece conn bytes) out new → new.attached ≡ others conn old.attached
+unsent_piece_gone conn bytes out old new (inl p) = ap (λ (s : HubState). s.attached) p.4
+unsent_piece_gone conn bytes out old new (inr p) =
+    ap (λ (s : HubState). s.attached) (p.4.4.1 ∙ p.4.3.2) ∙ ap (others conn) p.3.3 ∙ others-with_rest conn (rest_from p.3.0 bytes) old.attached
+
+pub unsent_close_gone : (conn : ℕ) (out : List ℕ) (old new : HubState) → Unsent old (close conn) out new → new.attached ≡ others conn old.attached
+unsent_close_gone conn out old new (inl p) = ap (λ (s : HubState). s.attached) p.4
+unsent_close_gone conn out old new (inr p) = ap (λ (s : HubState). s.attached) p.4
+
+-- an attached connection is answered no other fault than Write
+pub write_of : (X : Type 0) (o : Option Rest) (result : Result (Unit {0}) HubFault) → IsSome o
+    → (result ≡ Err NotAttached) ⊎ (result ≡ Err Write) → (result ≡ Err NotAttached → o ≡ None) → (result ≡ Err Write → X) → X
+write_of X o result some (inl not) none x = absurd (false_true (sym (ap is_some (none not)) ∙ some))
+  where
+    false_true : is_some {T = Rest} None ≡ true → ⊥
+    false_true k = cc
+write_of X o result some (inr write) none x = x write
 
 pub on_err : {T E : Type 0} {r : Result T E} {e : E} {P : Type 0} → r ≡ Err e → OnErr r P → P
 on_err {r = Ok v} is p = absurd (ok_err is)

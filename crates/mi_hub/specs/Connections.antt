@@ -1,7 +1,8 @@
 -- The attached connections, each with the rest of the bytes fed to it.
-use Rattle.std.specs.Prelude.{ℕ, List, [], ◌∷◌, ◌==◌, if◌then◌else◌, Option, Some, None}
+use Rattle.std.specs.Prelude.{ℕ, List, [], ◌∷◌, Bool, true, ◌==◌, if◌then◌else◌, Option, Some, None, is_some}
 use Rattle.mi_hub.specs.Lines.{Rest}
 use Rattle.mi_hub.specs.declared.connection.Connection.{Connection}
+use Rattle.mi_hub.specs.declared.holder.Holder.{Holder}
 
 -- the rest of a connection, where it is attached
 abbrev pub rest_at : ℕ → List Connection → Option Rest
@@ -17,3 +18,8 @@ with_rest conn r (c ∷ cs) = if c.id == conn then record { id = c.id; rest = r 
 abbrev pub others : ℕ → List Connection → List Connection
 others conn [] = []
 others conn (c ∷ cs) = if c.id == conn then cs else c ∷ others conn cs
+
+-- whoever holds sessions is attached
+abbrev pub holder_is_attached : Option Holder → List Connection → Bool
+holder_is_attached None cs = true
+holder_is_attached (Some h) cs = is_some (rest_at h.conn cs)

@@ -1,12 +1,14 @@
 -- What events do to a hub: the one relation that the calls of the hub are proved against. Connection 1 comes, gives bytes and ends:
 -- attach 1, piece 1 "{\"cmd\":\"start\"}⏎{\"cmd\":\"und", piece 1 "o\"}", close 1.
-use Rattle.std.specs.Prelude.{◌≡◌, ℕ, ◌<◌, List, [], ◌∷◌, ◌++◌, length, option_to_list, Some, None, IsSome}
+use Rattle.std.specs.Prelude.{◌≡◌, ◌⊎◌, ℕ, ◌<◌, ◌≤◌, List, [], ◌∷◌, ◌++◌, length, option_to_list, Some, None, IsSome}
 use Rattle.mi_hub.specs.Lines.{Rest, lines_from, rest_from, last_line}
 use Rattle.mi_hub.specs.Holder.{Held, released}
 use Rattle.mi_hub.specs.Connections.{rest_at, with_rest, others}
 use Rattle.mi_hub.specs.Answer.{MayGive}
 use Rattle.mi_hub.specs.Served.{Served, CutOff}
 use Rattle.mi_hub.specs.declared.connection.Connection.{Connection}
+use Rattle.mi_hub.specs.declared.fault.HubFault.{HubFault}
+use Rattle.mi_hub.specs.declared.fault.HubFault.TheVariants.{NotAttached, AlreadyAttached, TooMany, Memory, Write}
 use Rattle.mi_value.specs.declared.limits.TheConstants.{MAX_CONNECTIONS}
 
 -- the database with its holder, and the attached connections, each with the rest of the bytes fed to it
@@ -58,15 +60,60 @@ Failed old (close conn) out new =
     × CutOff (MayGive conn) old.held (option_to_list (last_line r)) out mid × (new ≡ gone conn (with_held mid old))
 Failed old (cut conn) out new = ⊥
 
--- From old, these events are done one after another: out is all that is written, and new is left.
-abbrev pub Run : HubState → List Event → List ℕ → HubState → Type 0
-Run old [] out new = (out ≡ []) × (new ≡ old)
-Run old (event ∷ events) out new =
-    (mid : HubState) × (first : List ℕ) × (later : List ℕ) × Done old event first mid × Run mid events later new × (out ≡ first ++ later)
+-- why the attach of a connection changes nothing; memory may be wanting only where there is a place for it
+abbrev pub AttachRefused : HubState → ℕ → HubFault → Type 0
+AttachRefused old conn AlreadyAttached = IsSome (rest_at conn old.attached)
+AttachRefused old conn TooMany = (rest_at conn old.attached ≡ None) × (MAX_CONNECTIONS ≤ length old.attached)
+AttachRefused old conn Memory = (rest_at conn old.attached ≡ None) × (length old.attached < MAX_CONNECTIONS)
+AttachRefused old conn NotAttached = ⊥
+AttachRefused old conn Write = ⊥
 
--- The same, but in the last of these events the writer fails.
-abbrev pub RunToFault : HubState → List Event → List ℕ → HubState → Type 0
-RunToFault old [] out new = ⊥
-RunToFault old (event ∷ []) out new = Failed old event out new
-RunToFault old (event ∷ next ∷ events) out new =
-    (mid : HubState) × (first : List ℕ) × (later : List ℕ) × Done old event first mid × RunToFault mid (next ∷ events) later new × (out ≡ first ++ later)
+-- why another event changes nothing: its connection isn't attached
+abbrev pub OtherRefused : HubState → ℕ → HubFault → Type 0
+OtherRefused old conn NotAttached = rest_at conn old.attached ≡ None
+OtherRefused old conn AlreadyAttached = ⊥
+OtherRefused old conn TooMany = ⊥
+OtherRefused old conn Memory = ⊥
+OtherRefused old conn Write = ⊥
+
+-- At old, the event is refused for this reason.
+abbrev pub Refused : HubState → Event → HubFault → Type 0
+Refused old (attach conn) fault = AttachRefused old conn fault
+Refused old (piece conn bytes) fault = OtherRefused old conn fault
+Refused old (close conn) fault = OtherRefused old conn fault
+Refused old (cut conn) fault = OtherRefused old conn fault
+
+-- From old, the event is done; or it is refused, and then nothing is written or changed.
+abbrev pub Step : HubState → Event → List ℕ → HubState → Type 0
+Step old event out new = Done old event out new ⊎ ((fault : HubFault) × Refused old event fault × (out ≡ []) × (new ≡ old))
+
+-- From old, these events are made one after another, each as `Makes` says: out is all that is written, and new is left.
+abbrev pub OneByOne : (HubState → Event → List ℕ → HubState → Type 0) → HubState → List Event → List ℕ → HubState → Type 0
+OneByOne Makes old [] out new = (out ≡ []) × (new ≡ old)
+OneByOne Makes old (event ∷ events) out new =
+    (mid : HubState) × (first : List ℕ) × (later : List ℕ) × Makes old event first mid × OneByOne Makes mid events later new × (out ≡ first ++ later)
+
+-- From old, these events come one after another, and some may be refused.
+abbrev pub Run : HubState → List Event → List ℕ → HubState → Type 0
+Run = OneByOne Step
+
+-- The same, and none is refused.
+abbrev pub AllDone : HubState → List Event → List ℕ → HubState → Type 0
+AllDone = OneByOne Done
+
+-- From old, the event is done, and then the flush behind it fails: out is what the writer has taken, the connection is gone, and new is
+-- left.
+abbrev pub Unflushed : HubState → Event → List ℕ → HubState → Type 0
+Unflushed old (attach conn) out new = ⊥
+Unflushed old (piece conn bytes) out new = AllDone old (piece conn bytes ∷ cut conn ∷ []) out new
+Unflushed old (close conn) out new = Done old (close conn) out new
+Unflushed old (cut conn) out new = ⊥
+
+-- From old, the replies of the event don't go out: the writer fails at one of them, or at the flush behind them.
+abbrev pub Unsent : HubState → Event → List ℕ → HubState → Type 0
+Unsent old event out new = Failed old event out new ⊎ Unflushed old event out new
+
+-- From old, these events are done, and then the replies of one more don't go out.
+abbrev pub DoneToFault : HubState → List Event → Event → List ℕ → HubState → Type 0
+DoneToFault old events event out new =
+    (mid : HubState) × (first : List ℕ) × (later : List ℕ) × AllDone old events first mid × Unsent mid event later new × (out ≡ first ++ later)

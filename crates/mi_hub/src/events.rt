@@ -1,6 +1,6 @@
 //! What happens to connections, one event after another.
 ghost use Rattle.std.specs.Prelude.{◌≡◌, ℕ, List, map, true, OnOk, IfErr};
-ghost use Rattle.mi_hub.specs.Run.{Done, Run};
+ghost use Rattle.mi_hub.specs.Run.{Done, AllDone};
 ghost use Rattle.mi_hub.specs.Drive.{event_of, NotDone, Stopped};
 ghost use Rattle.mi_hub.specs.Watching.{has_failed, Writes};
 
@@ -47,7 +47,7 @@ pub fn drive<D: Sessions + Drop, W: Write>(
     events: &[Event],
     writer: &mut Watched<W>,
 ) -> Result<(), (usize, HubFault)>
-    ensures ok { OnOk result ((out : List ℕ) × Writes W.contents writer.old writer.new out × Run hub.old (map event_of events.now) out hub.new) }
+    ensures ok { OnOk result ((out : List ℕ) × Writes W.contents writer.old writer.new out × AllDone hub.old (map event_of events.now) out hub.new) }
     ensures sound { OnOk result (has_failed writer.new ≡ has_failed writer.old) }
     ensures fault { IfErr result (λ e. (out : List ℕ) × Writes W.contents writer.old writer.new out × Stopped hub.old (map event_of events.now) e.0 e.1 out hub.new) }
     ensures failed { IfErr result (λ e. e.1 ≡ HubFault.Write → has_failed writer.new ≡ true) }

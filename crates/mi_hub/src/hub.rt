@@ -64,6 +64,7 @@ impl<D: Sessions + Drop> Hub<D> {
         ensures refused { OnErr result (self.new ≡ self.old) }
         ensures already { (result ≡ Err HubFault.AlreadyAttached) ↔ IsSome (rest_at conn self.old.attached) }
         ensures full { (result ≡ Err HubFault.TooMany) ↔ (rest_at conn self.old.attached ≡ None) × (MAX_CONNECTIONS ≤ length self.old.attached) }
+        ensures memory { result ≡ Err HubFault.Memory → (rest_at conn self.old.attached ≡ None) × (length self.old.attached < MAX_CONNECTIONS) }
         ensures no_other { (result ≢ Err HubFault.NotAttached) × (result ≢ Err HubFault.Write) }
     {
         if self.place(conn).is_some() {

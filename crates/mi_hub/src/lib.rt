@@ -21,5 +21,5 @@ mod watched;
 pub use events::{Event, drive};
 pub use fault::{HubFault, ServeFault};
 pub use hub::Hub;
-pub use stream::serve_stream;
+pub use stream::{close_flushed, feed_flushed, serve_stream};
 pub use watched::Watched;

@@ -1,8 +1,9 @@
 //! A whole input, served to its end as the bytes of one connection. How reads cut it doesn't matter.
-ghost use Rattle.std.specs.Prelude.{◌≡◌, ◌≢◌, ◌⊎◌, ◌≤◌, ◌<◌, ℕ, List, [], ◌∷◌, Ok, Err, IsSome, IfOk, OnOk, OnErr, length, true, false};
+ghost use Rattle.std.specs.Prelude.{◌≡◌, ◌≢◌, ◌⊎◌, ◌≤◌, ◌<◌, ℕ, List, [], ◌∷◌, ◌++◌, Ok, Err, IsSome, IfOk, OnOk, OnErr, length, true, false};
 ghost use Rattle.std.specs.Io.KnownBytes.{IsAtEnd};
+ghost use Rattle.mi_value.specs.declared.limits.TheConstants.{PIECE as piece_size};
 ghost use Rattle.mi_hub.specs.Connections.{rest_at};
-ghost use Rattle.mi_hub.specs.Run.{piece, close, cut, Done, Failed, Run, RunToFault};
+ghost use Rattle.mi_hub.specs.Run.{piece, close, cut, Done, AllDone, Unsent, DoneToFault};
 ghost use Rattle.mi_hub.specs.Watching.{watched, has_failed, Reads, Writes};
 
 use crate::fault::ServeFault;
@@ -11,6 +12,58 @@ use crate::watched::Watched;
 use mi_sessions::Sessions;
 use mi_value::limits::{MAX_READS, PIECE};
 use std::io::{Read, Write};
+
+/// Feeds a piece to a connection, and flushes the writer behind its replies, so that they are out before more is read.
+///
+/// The one fault is `Write`: a write or the flush failed, and the connection has been cut.
+pub fn feed_flushed<D: Sessions + Drop, W: Write>(
+    hub: &mut Hub<D>,
+    conn: u64,
+    bytes: &[u8],
+    writer: &mut Watched<W>,
+) -> Result<(), ServeFault>
+    requires { IsSome (rest_at conn hub.old.attached) }
+    ensures ok { OnOk result ((out : List ℕ) × Writes W.contents writer.old writer.new out × Done hub.old (piece conn bytes.now) out hub.new) }
+    ensures sound { OnOk result (has_failed writer.new ≡ has_failed writer.old) }
+    ensures write { OnErr result ((result ≡ Err ServeFault.Write)
+        × ((out : List ℕ) × Writes W.contents writer.old writer.new out × Unsent hub.old (piece conn bytes.now) out hub.new)
+        × (has_failed writer.new ≡ true)) }
+{
+    match hub.feed(conn, bytes, writer) {
+        Ok(()) => match writer.flush() {
+            Ok(()) => Ok(()),
+            Err(_) => {
+                let _ = hub.cut(conn);
+                Err(ServeFault::Write)
+            }
+        },
+        Err(_) => Err(ServeFault::Write),
+    }
+}
+
+/// Closes a connection at the end of its bytes, and flushes the writer behind its last reply.
+///
+/// The one fault is `Write`: a write or the flush failed; the connection is gone then too.
+pub fn close_flushed<D: Sessions + Drop, W: Write>(
+    hub: &mut Hub<D>,
+    conn: u64,
+    writer: &mut Watched<W>,
+) -> Result<(), ServeFault>
+    requires { IsSome (rest_at conn hub.old.attached) }
+    ensures ok { OnOk result ((out : List ℕ) × Writes W.contents writer.old writer.new out × Done hub.old (close conn) out hub.new) }
+    ensures sound { OnOk result (has_failed writer.new ≡ has_failed writer.old) }
+    ensures write { OnErr result ((result ≡ Err ServeFault.Write)
+        × ((out : List ℕ) × Writes W.contents writer.old writer.new out × Unsent hub.old (close conn) out hub.new)
+        × (has_failed writer.new ≡ true)) }
+{
+    match hub.close(conn, writer) {
+        Ok(()) => match writer.flush() {
+            Ok(()) => Ok(()),
+            Err(_) => Err(ServeFault::Write),
+        },
+        Err(_) => Err(ServeFault::Write),
+    }
+}
 
 /// Reads once, and feeds what was read; false at the end of the input. After a fault the connection has been cut.
 fn serve_read<D: Sessions + Drop, R: Read, W: Write>(
@@ -21,7 +74,7 @@ fn serve_read<D: Sessions + Drop, R: Read, W: Write>(
     writer: &mut Watched<W>,
 ) -> Result<bool, ServeFault>
     requires attached { IsSome (rest_at conn hub.old.attached) }
-    requires room { 0 < length buffer.old }
+    requires room { length buffer.old ≡ piece_size }
     ensures ok { IfOk result (λ more. (bytes : List ℕ) × (out : List ℕ)
         × Reads R.remaining reader.old reader.new bytes × Writes W.contents writer.old writer.new out
         × Done hub.old (piece conn bytes) out hub.new
@@ -31,50 +84,30 @@ fn serve_read<D: Sessions + Drop, R: Read, W: Write>(
         Reads R.remaining reader.old reader.new [] × Writes W.contents writer.old writer.new []
         × Done hub.old (cut conn) [] hub.new × (has_failed reader.new ≡ true) }
     ensures write { result ≡ Err ServeFault.Write → (bytes : List ℕ) × (out : List ℕ)
-        × Reads R.remaining reader.old reader.new bytes × Writes W.contents writer.old writer.new out
-        × Failed hub.old (piece conn bytes) out hub.new × (has_failed writer.new ≡ true) }
+        × (length bytes ≤ piece_size) × Reads R.remaining reader.old reader.new bytes × Writes W.contents writer.old writer.new out
+        × Unsent hub.old (piece conn bytes) out hub.new × (has_failed writer.new ≡ true) × (has_failed reader.new ≡ has_failed reader.old) }
     ensures no_other { OnErr result ((result ≡ Err ServeFault.Read) ⊎ (result ≡ Err ServeFault.Write)) }
 {
     let Ok(n) = reader.read(buffer) else {
         let _ = hub.cut(conn);
         return Err(ServeFault::Read);
     };
-    match hub.feed(conn, &buffer[..n], writer) {
-        Ok(()) => {
-            let _ = writer.flush();
-            Ok(n > 0)
-        }
-        Err(_) => Err(ServeFault::Write),
-    }
+    feed_flushed(hub, conn, &buffer[..n], writer)?;
+    Ok(n > 0)
 }
 
-/// Closes the connection at the end of its input.
-fn serve_end<D: Sessions + Drop, W: Write>(
-    hub: &mut Hub<D>,
-    conn: u64,
-    writer: &mut Watched<W>,
-) -> Result<(), ServeFault>
-    requires { IsSome (rest_at conn hub.old.attached) }
-    ensures ok { OnOk result ((out : List ℕ) × Writes W.contents writer.old writer.new out × Done hub.old (close conn) out hub.new) }
-    ensures sound { OnOk result (has_failed writer.new ≡ has_failed writer.old) }
-    ensures write { OnErr result ((result ≡ Err ServeFault.Write)
-        × ((out : List ℕ) × Writes W.contents writer.old writer.new out × Failed hub.old (close conn) out hub.new)
-        × (has_failed writer.new ≡ true)) }
-{
-    match hub.close(conn, writer) {
-        Ok(()) => {
-            let _ = writer.flush();
-            Ok(())
-        }
-        Err(_) => Err(ServeFault::Write),
-    }
-}
-
-/// Serves an input to its end, as the bytes of this connection, and then closes it. Each reply goes out before the next line
-/// is asked, and after each piece of at most 4,096 bytes the writer is flushed; a flush that fails changes nothing here.
+/// Serves an input to its end, as the bytes of this connection, and then closes it. Each reply is written before the next line
+/// is asked, and the writer is flushed behind each piece of at most 4,096 bytes, before the next is read, and behind the close.
 ///
-/// After `Read` (any error of a read), `Write` or `Turns` (2^40 reads were made) the connection has been cut: what it holds is
-/// undone, and what it has not asked is dropped. `Accept` and `Memory` are never answered here.
+/// After any fault the connection has been cut: what it holds is undone, and what it has not asked is dropped. Nothing is read
+/// after a fault.
+///
+/// - `Read`: a read answered an error. What was read before it is answered.
+/// - `Write`: a write or a flush failed. The lines up to the one whose reply failed were executed and no other; where a flush
+///   failed, those are all lines of the pieces that were read.
+/// - `Turns`: 2^40 reads were made, each of one byte at least. What was read is answered.
+///
+/// `Accept` and `Memory` are never answered here.
 pub fn serve_stream<D: Sessions + Drop, R: Read, W: Write>(
     hub: &mut Hub<D>,
     conn: u64,
@@ -87,28 +120,29 @@ pub fn serve_stream<D: Sessions + Drop, R: Read, W: Write>(
     ensures ok { OnOk result ((bytes : List ℕ) × (out : List ℕ)
         × Reads R.remaining reader.old reader.new bytes × IsAtEnd (R.remaining (watched reader.new))
         × Writes W.contents writer.old writer.new out
-        × Run hub.old (piece conn bytes ∷ close conn ∷ []) out hub.new) }
+        × AllDone hub.old (piece conn bytes ∷ close conn ∷ []) out hub.new) }
     ensures sound { OnOk result ((has_failed reader.new ≡ has_failed reader.old) × (has_failed writer.new ≡ has_failed writer.old)) }
 
     // Of the bytes that were read all whole lines are answered; the rest is dropped.
     ensures read { result ≡ Err ServeFault.Read → (bytes : List ℕ) × (out : List ℕ)
         × Reads R.remaining reader.old reader.new bytes
         × Writes W.contents writer.old writer.new out
-        × Run hub.old (piece conn bytes ∷ cut conn ∷ []) out hub.new }
+        × AllDone hub.old (piece conn bytes ∷ cut conn ∷ []) out hub.new }
     ensures turns { result ≡ Err ServeFault.Turns → (bytes : List ℕ) × (out : List ℕ)
         × Reads R.remaining reader.old reader.new bytes × (MAX_READS ≤ length bytes)
         × Writes W.contents writer.old writer.new out
-        × Run hub.old (piece conn bytes ∷ cut conn ∷ []) out hub.new }
+        × AllDone hub.old (piece conn bytes ∷ cut conn ∷ []) out hub.new }
 
-    // The writer failed at the reply to a line of the bytes that were read, or to the last line of the whole input.
-    ensures write { result ≡ Err ServeFault.Write → (bytes : List ℕ) × (out : List ℕ)
-        × Reads R.remaining reader.old reader.new bytes
+    // The replies to the first bytes went out, and those to the last piece don't, which was read last; or they are all answered, nothing is
+    // left to read, and what goes out at the close doesn't.
+    ensures write { result ≡ Err ServeFault.Write → (first : List ℕ) × (last : List ℕ) × (out : List ℕ)
+        × Reads R.remaining reader.old reader.new (first ++ last) × (length last ≤ piece_size)
         × Writes W.contents writer.old writer.new out
-        × (RunToFault hub.old (piece conn bytes ∷ []) out hub.new
-        ⊎ (IsAtEnd (R.remaining (watched reader.new)) × RunToFault hub.old (piece conn bytes ∷ close conn ∷ []) out hub.new)) }
+        × (DoneToFault hub.old (piece conn first ∷ []) (piece conn last) out hub.new
+        ⊎ (IsAtEnd (R.remaining (watched reader.new)) × (last ≡ []) × DoneToFault hub.old (piece conn first ∷ []) (close conn) out hub.new)) }
 
     ensures read_failed { result ≡ Err ServeFault.Read → has_failed reader.new ≡ true }
-    ensures write_failed { result ≡ Err ServeFault.Write → has_failed writer.new ≡ true }
+    ensures write_failed { result ≡ Err ServeFault.Write → (has_failed writer.new ≡ true) × (has_failed reader.new ≡ has_failed reader.old) }
     ensures no_other { (result ≢ Err ServeFault.Accept) × (result ≢ Err ServeFault.Memory) }
 {
     hub.keeps_limit(conn);
@@ -117,7 +151,7 @@ pub fn serve_stream<D: Sessions + Drop, R: Read, W: Write>(
         if serve_read(hub, conn, &mut buffer, reader, writer)? {
             continue 'reads;
         }
-        return serve_end(hub, conn, writer);
+        return close_flushed(hub, conn, writer);
     }
     let _ = hub.cut(conn);
     Err(ServeFault::Turns)

@@ -1,11 +1,13 @@
-//! A reader or writer that remembers whether it has failed.
-ghost use Rattle.std.specs.Prelude.{◌≡◌, ◌≤◌, ◌<◌, ◌==◌, ◌||◌, ◌&&◌, nat_lt, is_ok, not, false, true, length, IfOk, MatchResult};
+//! A reader or writer that remembers whether it has failed, and isn't used again once it has.
+ghost use Rattle.std.specs.Prelude.{◌≡◌, ◌<◌, ◌||◌, ◌&&◌, nat_lt, is_ok, not, false, true, length, OnErr, IsErr};
 ghost use Rattle.std.specs.Io.{ReadsAtMost, WritesAtMost};
 ghost use Rattle.std.specs.Io.KnownBytes.{ReadConsumes, WriteAppends, Keeps};
 
 use std::io;
-use std::io::{Read, Write};
+use std::io::{Error, ErrorKind, Read, Write};
 
+/// A reader or writer. Once a read, a write or a flush of it has failed, each further call answers an error and leaves all as it is:
+/// nothing is read, written or flushed behind a failure.
 #[derive(Drop)]
 pub struct Watched<T> {
     inner: T,
@@ -31,7 +33,15 @@ impl<T> Watched<T> {
         &self.inner
     }
 
-    /// Whether a read has answered an error, or a write of one or more bytes an error or 0.
+    /// What was watched.
+    pub fn into_inner(self) -> T
+        ensures { result ≡ watched self }
+    {
+        let Watched { inner, failed: _ } = self;
+        inner
+    }
+
+    /// Whether a read or a flush has answered an error, or a write of one or more bytes an error or 0.
     pub fn failed(&self) -> bool
         ensures { result ≡ has_failed self.now }
     {
@@ -48,7 +58,11 @@ impl<R: Read> Read for Watched<R> {
         ensures bound { ReadsAtMost result buf.new }
         ensures bytes { ReadConsumes (R.remaining (watched self.old)) (R.remaining (watched self.new)) result buf.new }
         ensures failed { has_failed self.new ≡ (has_failed self.old || not (is_ok result)) }
+        ensures over { has_failed self.old ≡ true → IsErr result × (self.new ≡ self.old) }
     {
+        if self.failed {
+            return Err(Error::from(ErrorKind::Other));
+        }
         let result = self.inner.read(buf);
         if result.is_err() {
             self.failed = true;
@@ -67,7 +81,11 @@ impl<W: Write> Write for Watched<W> {
         ensures bytes { WriteAppends (W.contents (watched self.old)) (W.contents (watched self.new)) result buf.now }
         ensures failed { has_failed self.new
             ≡ (has_failed self.old || (nat_lt 0 (length buf.now) && takes_none result)) }
+        ensures over { has_failed self.old ≡ true → IsErr result × (self.new ≡ self.old) }
     {
+        if self.failed {
+            return Err(Error::from(ErrorKind::Other));
+        }
         let result = self.inner.write(buf);
         if !buf.is_empty() && !matches!(&result, Ok(n) if *n > 0) {
             self.failed = true;
@@ -77,8 +95,16 @@ impl<W: Write> Write for Watched<W> {
 
     fn flush(&mut self) -> io::Result<()>
         ensures bytes { Keeps (W.contents (watched self.old)) (W.contents (watched self.new)) }
-        ensures failed { has_failed self.new ≡ has_failed self.old }
+        ensures failed { has_failed self.new ≡ (has_failed self.old || not (is_ok result)) }
+        ensures over { has_failed self.old ≡ true → IsErr result × (self.new ≡ self.old) }
     {
-        self.inner.flush()
+        if self.failed {
+            return Err(Error::from(ErrorKind::Other));
+        }
+        let result = self.inner.flush();
+        if result.is_err() {
+            self.failed = true;
+        }
+        result
     }
 }

@@ -1,5 +1,7 @@
+mod Buffers
 mod Matched
 mod Numbers
+mod Servings
 mod Texts
 mod Values
 pub mod TurnLemmas

@@ -10,24 +10,10 @@ use Rattle.mi_hub.specs.Run.{HubState, with_connection}
 use Rattle.mi_hub.specs.declared.connection.Connection.{Connection}
 use Rattle.mi_hub.specs.declared.fault.ServeFault.{ServeFault}
 use Rattle.mi_hub.specs.declared.fault.ServeFault.TheVariants.{Read, Turns, Write as ServeWrite}
-use Rattle.mi_hub.specs.declared.fault.HubFault.{HubFault}
-use Rattle.mi_hub.specs.declared.fault.HubFault.TheVariants.{NotAttached, Write}
+use Rattle.mi_hub.proofs.ConnectionLemmas.{some_with_rest}
+use Rattle.mi_hub.proofs.PieceLemmas.{unsent_piece_gone, unsent_close_gone}
 use Rattle.mi_server.specs.Turns.{fresh, with_clients, Turn, fed, ended, unread, unanswered, unended, conn_of, outcome, Made, ByTurns, row_after, fault_of, first_fault, client_ids, AllAttached, IsNoneOf, AllDiffer, Serves}
 use Rattle.mi_server.specs.declared.listener.Client.{Client}
-
--- ---- a call of the hub for an attached connection
-
-some_none : {A : Type 0} (o : Option A) → IsSome o → o ≡ None → ⊥
-some_none o h k = false_true (sym (ap is_some k) ∙ h)
-  where
-    false_true : false ≡ true → ⊥
-    false_true e = cc
-
--- an attached connection is answered no other fault than Write
-pub write_of : (X : Type 0) (o : Option Rest) (result : Result ⊤ HubFault) → IsSome o
-    → (result ≡ Err NotAttached) ⊎ (result ≡ Err Write) → (result ≡ Err NotAttached → o ≡ None) → (result ≡ Err Write → X) → X
-write_of X o result some (inl not) none x = absurd (some_none o some (none not))
-write_of X o result some (inr write) none x = x write
 
 -- ---- attached connections
 
@@ -77,23 +63,6 @@ length_others conn (c ∷ cs) h = elim (test_of (nat_eq c.id conn)) [
       let e : suc (length (others conn cs)) + 1 ≡ suc (length cs) = omega (arith, less) in
       ap (λ xs. length xs + 1) (others_later conn c cs other) ∙ e
 ]
-
--- another rest leaves who is attached
-some_with_rest : (k conn : ℕ) (r : Rest) (cs : List Connection) → is_some (rest_at k (with_rest conn r cs)) ≡ is_some (rest_at k cs)
-some_with_rest k conn r [] = refl
-some_with_rest k conn r (c ∷ cs) = elim (test_of (nat_eq c.id conn)) [
-  | inl is ↦ ap (λ b. is_some (rest_at k (cond b (record { id = c.id; rest = r } ∷ cs) (c ∷ with_rest conn r cs)))) is ∙ either (nat_eq c.id k)
-  | inr other ↦ ap (λ b. is_some (rest_at k (cond b (record { id = c.id; rest = r } ∷ cs) (c ∷ with_rest conn r cs)))) other ∙ later (nat_eq c.id k) (some_with_rest k conn r cs)
-]
-  where
-    either : (b : Bool) → is_some (cond b (Some r) (rest_at k cs)) ≡ is_some (cond b (Some c.rest) (rest_at k cs))
-    either true = refl
-    either false = refl
-
-    later : (b : Bool) → is_some (rest_at k (with_rest conn r cs)) ≡ is_some (rest_at k cs)
-        → is_some (cond b (Some c.rest) (rest_at k (with_rest conn r cs))) ≡ is_some (cond b (Some c.rest) (rest_at k cs))
-    later true h = refl
-    later false h = h
 
 length_with_rest : (conn : ℕ) (r : Rest) (cs : List Connection) → length (with_rest conn r cs) ≡ length cs
 length_with_rest conn r [] = refl
@@ -208,8 +177,8 @@ serves_after (fed conn bytes) row out old new p made = subst (Serves (row ++ con
     one_end xs = omega (arith, length-append xs (conn ∷ []))
 serves_after (ended conn) row out old new p made = serves_gone conn row old.attached new.attached p (ap (λ (s : HubState). s.attached) made.4)
 serves_after (unread conn) row out old new p made = serves_gone conn row old.attached new.attached p (ap (λ (s : HubState). s.attached) made.2)
-serves_after (unanswered conn bytes) row out old new p made = serves_gone conn row old.attached new.attached p (ap (λ (s : HubState). s.attached) made.0.4)
-serves_after (unended conn) row out old new p made = serves_gone conn row old.attached new.attached p (ap (λ (s : HubState). s.attached) made.4)
+serves_after (unanswered conn bytes) row out old new p made = serves_gone conn row old.attached new.attached p (unsent_piece_gone conn bytes out old new made.0)
+serves_after (unended conn) row out old new p made = serves_gone conn row old.attached new.attached p (unsent_close_gone conn out old new made)
 
 -- no row, no connections
 pub none_left : (row : List ℕ) (cs : List Connection) → Serves row cs → length row ≡ 0 → cs ≡ []

@@ -1,4 +1,7 @@
+-- To be read in this order.
+pub mod Words
 pub mod Source
 pub mod Status
-pub mod Words
+pub mod Buffer
+pub mod Serving
 pub mod Turns

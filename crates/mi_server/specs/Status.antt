@@ -3,12 +3,22 @@ use Rattle.std.specs.Prelude.{ℕ}
 use Rattle.mi_schema.specs.declared.fault.SchemaFault.{SchemaFault}
 use Rattle.mi_server.specs.declared.failure.Failure.{Failure}
 use Rattle.mi_server.specs.declared.failure.Failure.TheVariants.{SchemaFile, Schema, Read, Write, Listen, Accept, Memory, Turns}
+use Rattle.mi_hub.specs.declared.fault.ServeFault.{ServeFault}
+use Rattle.mi_hub.specs.declared.fault.ServeFault.TheVariants as serving
 use Rattle.mi_server.specs.declared.words.WordsFault.{WordsFault}
 use Rattle.mi_server.specs.declared.words.WordsFault.TheVariants as words
 
 -- the failure that a schema's fault is
 abbrev pub failure_of : SchemaFault → Failure
 failure_of fault = Schema fault
+
+-- the failure that a fault of serving is
+abbrev pub served_failure : ServeFault → Failure
+served_failure serving.Read = Read
+served_failure serving.Write = Write
+served_failure serving.Accept = Accept
+served_failure serving.Memory = Memory
+served_failure serving.Turns = Turns
 
 -- 3 where the schema is at fault, else 4
 abbrev pub status_of : Failure → ℕ

@@ -5,7 +5,7 @@ use Rattle.std.specs.Result.{result_and}
 use Rattle.std.specs.List.{range_with_len}
 use Rattle.mi_value.specs.declared.limits.TheConstants.{PIECE}
 use Rattle.mi_hub.specs.Connections.{rest_at}
-use Rattle.mi_hub.specs.Run.{HubState, piece, close, cut, Done, Failed}
+use Rattle.mi_hub.specs.Run.{HubState, piece, close, cut, Done, Unsent}
 use Rattle.mi_hub.specs.declared.connection.Connection.{Connection}
 use Rattle.mi_hub.specs.declared.fault.ServeFault.{ServeFault}
 use Rattle.mi_hub.specs.declared.fault.ServeFault.TheVariants.{Read, Write}
@@ -20,7 +20,7 @@ abbrev pub with_clients : ℕ → HubState → HubState
 with_clients n s = record { held = s.held; attached = map fresh (range_with_len 1 n) }
 
 -- A turn of an open connection: a piece of its bytes is fed, or they are at their end and it is closed; or its read fails and it is
--- cut; or its writer fails in a reply to a piece, or in the one at the end.
+-- cut; or the replies to a piece don't go out, or the one at the end.
 pub data Turn : Type 0 where
   fed : ℕ → List ℕ → Turn
   ended : ℕ → Turn
@@ -53,8 +53,8 @@ abbrev pub Made : HubState → Turn → List ℕ → HubState → Type 0
 Made old (fed conn bytes) out new = Done old (piece conn bytes) out new × IsPiece bytes
 Made old (ended conn) out new = Done old (close conn) out new
 Made old (unread conn) out new = Done old (cut conn) out new
-Made old (unanswered conn bytes) out new = Failed old (piece conn bytes) out new × IsPiece bytes
-Made old (unended conn) out new = Failed old (close conn) out new
+Made old (unanswered conn bytes) out new = Unsent old (piece conn bytes) out new × IsPiece bytes
+Made old (unended conn) out new = Unsent old (close conn) out new
 
 -- a connection that stays open goes behind the others
 abbrev pub row_after : Turn → List ℕ → List ℕ

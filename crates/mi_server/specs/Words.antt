@@ -62,6 +62,16 @@ go_together listen clients check = if listen then clients && not check else not 
 abbrev pub keeps_rules : List Row → Bool
 keeps_rules rows = go_together (is_some (one_of (codes "listen") rows)) (is_some (one_of (codes "clients") rows)) (is_set (one_of (codes "check") rows))
 
+-- what words ask for: a check, a port that is listened on, a schema's file
+abbrev pub asks_check : List Row → Bool
+asks_check rows = is_set (one_of (codes "check") rows)
+
+abbrev pub asks_port : List Row → Bool
+asks_port rows = is_some (one_of (codes "listen") rows)
+
+abbrev pub names_schema : List Row → Bool
+names_schema rows = is_some (first_of (codes "schema") rows)
+
 -- a number that was matched, within its bounds
 abbrev pub IsNumber : ℕ → ℕ → Option (List ℕ) → Option ℕ → Type 0
 IsNumber low high None None = ⊤

@@ -1,6 +1,6 @@
 //! Why the program ends early: the line on standard error and the exit status.
 ghost use Rattle.std.specs.Prelude.{◌≡◌};
-ghost use Rattle.mi_server.specs.Status.{status_of, failure_of};
+ghost use Rattle.mi_server.specs.Status.{status_of, failure_of, served_failure};
 
 use mi_hub::ServeFault;
 use mi_schema::SchemaFault;
@@ -36,6 +36,20 @@ pub enum Failure {
 }
 
 impl Failure {
+    /// The failure that a fault of serving is. Its status is 4.
+    pub fn of_serving(fault: ServeFault) -> Failure
+        ensures is { result ≡ served_failure fault }
+        ensures status { status_of result ≡ 4 }
+    {
+        match fault {
+            ServeFault::Read => Failure::Read,
+            ServeFault::Write => Failure::Write,
+            ServeFault::Accept => Failure::Accept,
+            ServeFault::Memory => Failure::Memory,
+            ServeFault::Turns => Failure::Turns,
+        }
+    }
+
     /// The exit status: 3 where the schema is at fault, else 4.
     pub fn status(&self) -> u8
         ensures { result ≡ status_of self.now }
@@ -57,17 +71,5 @@ impl From<SchemaFault> for Failure {
 
     fn from(fault: SchemaFault) -> Failure {
         Failure::Schema(fault)
-    }
-}
-
-impl From<ServeFault> for Failure {
-    fn from(fault: ServeFault) -> Failure {
-        match fault {
-            ServeFault::Read => Failure::Read,
-            ServeFault::Write => Failure::Write,
-            ServeFault::Accept => Failure::Accept,
-            ServeFault::Memory => Failure::Memory,
-            ServeFault::Turns => Failure::Turns,
-        }
     }
 }

@@ -6,9 +6,11 @@ ghost use Rattle.mi_value.specs.declared.limits.TheConstants.{MAX_CONNECTIONS, M
 ghost use Rattle.mi_hub.specs.Run.{HubState, with_connection};
 ghost use Rattle.mi_hub.specs.Connections.{rest_at};
 ghost use Rattle.mi_hub.specs.Watching.{has_failed, Writes};
+ghost use Rattle.mi_server.specs.Buffer.{contents_of};
 ghost use Rattle.mi_server.specs.Turns.{with_clients, Turn, conn_of, outcome, IsPiece, Made, row_after, ByTurns, fault_of, first_fault, client_ids, Serves};
 
-use mi_hub::{Hub, ServeFault, Watched};
+use crate::buffered::Buffered;
+use mi_hub::{Hub, ServeFault, Watched, close_flushed, feed_flushed};
 use mi_sessions::Sessions;
 use mi_value::limits::{MAX_READS, PIECE};
 use std::alloc::Global;
@@ -16,15 +18,16 @@ use std::collections::VecDeque;
 use std::io::{Read, Write};
 use std::net::OpenListener;
 
-/// An open connection.
+/// An open connection. Its replies are gathered, and go out behind each piece of its bytes.
 #[derive(Drop)]
 pub struct Client<S> {
     conn: u64,
-    stream: Watched<S>,
+    stream: Watched<Buffered<S>>,
 }
 
 /// Accepts one connection, and attaches it. After a fault nothing has changed.
 fn accept<D: Sessions + Drop, L: OpenListener>(
+    alloc: Global,
     hub: &mut Hub<D>,
     listener: &L,
     conn: u64,
@@ -36,6 +39,9 @@ fn accept<D: Sessions + Drop, L: OpenListener>(
 {
     let Ok((stream, _address)) = listener.accept() else {
         return Err(ServeFault::Accept);
+    };
+    let Ok(stream) = Buffered::new(alloc, stream) else {
+        return Err(ServeFault::Memory);
     };
     if hub.attach(conn).is_err() {
         return Err(ServeFault::Memory);
@@ -55,17 +61,14 @@ fn feed<D: Sessions + Drop, S: Write>(
     requires attached { IsSome (rest_at client.old.conn hub.old.attached) }
     requires piece { IsPiece bytes.now }
     ensures turn { (turn : Turn) × (out : List ℕ) × (conn_of turn ≡ client.old.conn) × (result ≡ outcome turn)
-        × Writes S.contents client.old.stream client.new.stream out × Made hub.old turn out hub.new }
+        × Writes (contents_of S.contents) client.old.stream client.new.stream out × Made hub.old turn out hub.new }
     ensures same { client.new.conn ≡ client.old.conn }
     ensures failed { OnErr result (has_failed client.new.stream ≡ true) }
     ensures sound { OnOk result (has_failed client.new.stream ≡ has_failed client.old.stream) }
 {
-    match hub.feed(client.conn, bytes, &mut client.stream) {
-        Ok(()) => {
-            let _ = client.stream.flush();
-            Ok(true)
-        }
-        Err(_) => Err(ServeFault::Write),
+    match feed_flushed(hub, client.conn, bytes, &mut client.stream) {
+        Ok(()) => Ok(true),
+        Err(fault) => Err(fault),
     }
 }
 
@@ -76,17 +79,14 @@ fn close<D: Sessions + Drop, S: Write>(
 ) -> Result<bool, ServeFault>
     requires { IsSome (rest_at client.old.conn hub.old.attached) }
     ensures turn { (turn : Turn) × (out : List ℕ) × (conn_of turn ≡ client.old.conn) × (result ≡ outcome turn)
-        × Writes S.contents client.old.stream client.new.stream out × Made hub.old turn out hub.new }
+        × Writes (contents_of S.contents) client.old.stream client.new.stream out × Made hub.old turn out hub.new }
     ensures same { client.new.conn ≡ client.old.conn }
     ensures failed { OnErr result (has_failed client.new.stream ≡ true) }
     ensures sound { OnOk result (has_failed client.new.stream ≡ has_failed client.old.stream) }
 {
-    match hub.close(client.conn, &mut client.stream) {
-        Ok(()) => {
-            let _ = client.stream.flush();
-            Ok(false)
-        }
-        Err(_) => Err(ServeFault::Write),
+    match close_flushed(hub, client.conn, &mut client.stream) {
+        Ok(()) => Ok(false),
+        Err(fault) => Err(fault),
     }
 }
 
@@ -160,7 +160,7 @@ fn accept_all<D: Sessions + Drop, L: OpenListener>(
         return Err(ServeFault::Memory);
     };
     'row: for before in 0..count {
-        match accept(hub, listener, before as u64 + 1) {
+        match accept(alloc, hub, listener, before as u64 + 1) {
             Ok(client) => row.push_back(client).unwrap(),
             Err(fault) => {
                 cut_all(hub, &mut row);

@@ -2,6 +2,7 @@
 //! schema comes from, the order in which things are opened and the words of its failures, and nothing of commands.
 #![tactic(auto)]
 
+mod buffered;
 mod failure;
 mod listener;
 mod program;

@@ -1,19 +1,25 @@
 //! What the program does, in its order: the words are judged, the schema is read, then `ok` is printed or the input is served.
 //! A failure is one line on the third stream; where that can't be written it is passed over.
-ghost use Rattle.std.specs.Prelude.{◌≡◌, ◌≢◌, ◌⊎◌, ◌≤◌, [], map, codes, true, false, OnOk, IfSome};
+ghost use Rattle.std.specs.Prelude.{◌≡◌, ◌≢◌, ◌⊎◌, ◌≤◌, [], ◌∷◌, map, codes, true, false, Err, None, is_some, OnOk, IfErr, IfSome};
+ghost use Rattle.std.specs.Net.Addr.{ipv4_octets};
 ghost use Rattle.std.specs.Io.KnownBytes.{Appends};
 ghost use Rattle.clap.specs.Faults.{fault_of};
 ghost use Rattle.mi_value.specs.declared.limits.TheConstants.{MAX_CONNECTIONS};
 ghost use Rattle.mi_server.specs.Status.{status_of, status_of_words};
 ghost use Rattle.clap.specs.Words.{matches_of};
-ghost use Rattle.mi_server.specs.Words.{command_line, keeps_rules};
+ghost use Rattle.mi_server.specs.Words.{command_line, keeps_rules, asks_check, asks_port, names_schema};
+ghost use Rattle.mi_server.specs.Source.{IsCatalog};
+ghost use Rattle.mi_server.specs.Serving.{IsServed};
+ghost use Rattle.mi_server.specs.declared.failure.Failure.{Failure};
+ghost use Rattle.mi_hub.specs.Watching.{Writes};
 
+use crate::buffered::Buffered;
 use crate::failure::Failure;
 use crate::listener::serve_listener;
 use crate::serve::serve;
 use crate::source::catalog;
 use crate::words::{Options, WordsFault, read_words};
-use mi_hub::Hub;
+use mi_hub::{Hub, Watched};
 use mi_plain::Plain;
 use mi_sessions::Sessions;
 use std::convert::AsStr;
@@ -33,7 +39,14 @@ fn confirm<W: Write>(output: &mut W) -> io::Result<()>
     output.flush()
 }
 
-/// Serves connections to a port of 127.0.0.1 over a database.
+/// The address that is listened on: this port of 127.0.0.1.
+fn listen_address(port: u16) -> (Ipv4Addr, u16)
+    ensures { (ipv4_octets result.0 ≡ 127 ∷ 0 ∷ 0 ∷ 1 ∷ []) × (result.1 ≡ port) }
+{
+    (Ipv4Addr::LOCALHOST, port)
+}
+
+/// Serves connections to a port over a database.
 fn serve_port<R: Net + AllocGlobal, D: Sessions + Drop>(
     rt: &R,
     database: D,
@@ -41,35 +54,45 @@ fn serve_port<R: Net + AllocGlobal, D: Sessions + Drop>(
     clients: usize,
 ) -> Result<(), Failure>
     requires { (1 ≤ clients) × (clients ≤ MAX_CONNECTIONS) }
+    ensures { IfErr result (λ failure. status_of failure ≡ 4) }
 {
-    let Ok(listener) = TcpListener::bind(rt, (Ipv4Addr::LOCALHOST, port)) else {
+    let Ok(listener) = TcpListener::bind(rt, listen_address(port)) else {
         return Err(Failure::Listen);
     };
     let mut hub = Hub::new(rt.alloc(), database);
-    serve_listener(rt.alloc(), &mut hub, &listener, clients)?;
-    Ok(())
+    match serve_listener(rt.alloc(), &mut hub, &listener, clients) {
+        Ok(()) => Ok(()),
+        Err(fault) => Err(Failure::of_serving(fault)),
+    }
 }
 
-/// Does what the options say. Where the schema alone is checked, the input isn't read.
+/// Does what the options say. Where the schema alone is checked the line `ok` is written, and the input isn't read.
+///
+/// The failures of status 3 are those of `catalog`, and come before anything is read or written.
 fn perform<R: Files + Net + AllocGlobal, I: Read, O: Write>(
     rt: &R,
     options: &Options,
-    input: &mut I,
-    output: &mut O,
+    reader: &mut Watched<I>,
+    writer: &mut Watched<O>,
 ) -> Result<(), Failure>
     requires clients { IfSome options.now.listen (λ l. (1 ≤ l.1) × (l.1 ≤ MAX_CONNECTIONS)) }
-    ensures check { options.now.check ≡ true → OnOk result (Appends (O.contents output.old) (O.contents output.new) (codes "ok\n") × (input.new ≡ input.old)) }
+    ensures check { options.now.check ≡ true → OnOk result (Writes O.contents writer.old writer.new (codes "ok\n")) }
+    ensures unread { options.now.check ≡ true → reader.new ≡ reader.old }
+    ensures schema { IfErr result (λ failure. status_of failure ≡ 3 →
+        IsCatalog R.File.remaining (is_some options.now.schema) (Err failure) × (reader.new ≡ reader.old) × (writer.new ≡ writer.old)) }
+    ensures served { options.now.check ≡ false → options.now.listen ≡ None → OnOk result (
+        IsServed R.File.remaining (is_some options.now.schema) I.remaining O.contents reader.old reader.new writer.old writer.new) }
 {
     let catalog = catalog(rt, options.schema.as_deref())?;
     if options.check {
-        return confirm(output).map_err(|_error| Failure::Write);
+        return confirm(writer).map_err(|_error| Failure::Write);
     }
     let Ok(database) = Plain::new(rt.alloc(), catalog) else {
         return Err(Failure::Memory);
     };
     match options.listen {
         Some((port, clients)) => serve_port(rt, database, port, clients),
-        None => serve(rt.alloc(), database, input, output),
+        None => serve(rt.alloc(), database, reader, writer),
     }
 }
 
@@ -119,10 +142,46 @@ pub fn refuse_arguments<E: Write + Drop>(error: &io::Error, errors: E) -> u8
 ///
 /// | Status | When | On `errors` |
 /// |---|---|---|
-/// | 0 | all input was served, or the schema was read and `ok` printed | nothing |
+/// | 0 | all input was served, or the schema was read and `ok` written | nothing |
 /// | 2 | the words are refused, or ask for help | the parser's text, or the rule that they break |
 /// | 3 | the schema can't be read or is refused | `schema: ` and a word |
 /// | 4 | a stream failed, memory was refused, or the input didn't end | `fault: ` and a word |
+pub fn run_over<R: Files + Net + AllocGlobal, S: AsStr, I: Read, O: Write, E: Write>(
+    rt: &R,
+    words: &[S],
+    reader: &mut Watched<I>,
+    writer: &mut Watched<O>,
+    errors: &mut E,
+) -> u8
+    ensures statuses { (result ≡ 0) ⊎ (result ≡ 2) ⊎ (result ≡ 3) ⊎ (result ≡ 4) }
+    ensures usage { result ≡ 2 → (fault_of command_line (map S.text words.now) ≢ []) ⊎ (keeps_rules (matches_of command_line (map S.text words.now)) ≡ false) }
+    ensures refused { fault_of command_line (map S.text words.now) ≢ [] → (result ≡ 2) ⊎ (result ≡ 4) }
+    ensures rules { keeps_rules (matches_of command_line (map S.text words.now)) ≡ false → (result ≡ 2) ⊎ (result ≡ 4) }
+
+    // Where the words ask for a check, `ok` is written and nothing is read.
+    ensures check { result ≡ 0 → asks_check (matches_of command_line (map S.text words.now)) ≡ true →
+        Writes O.contents writer.old writer.new (codes "ok\n") × (reader.new ≡ reader.old) }
+
+    // Where they ask neither for a check nor for a port, the whole input is served.
+    ensures served { result ≡ 0 → asks_check (matches_of command_line (map S.text words.now)) ≡ false →
+        asks_port (matches_of command_line (map S.text words.now)) ≡ false →
+        IsServed R.File.remaining (names_schema (matches_of command_line (map S.text words.now))) I.remaining O.contents reader.old reader.new writer.old writer.new }
+
+    // The schema is at fault, and nothing is read or written.
+    ensures schema { result ≡ 3 → (failure : Failure) × (status_of failure ≡ 3)
+        × IsCatalog R.File.remaining (names_schema (matches_of command_line (map S.text words.now))) (Err failure)
+        × (reader.new ≡ reader.old) × (writer.new ≡ writer.old) }
+{
+    match read_words(rt.alloc(), words) {
+        Ok(options) => match perform(rt, &options, reader, writer) {
+            Ok(()) => 0,
+            Err(failure) => report(failure, errors),
+        },
+        Err(fault) => refuse(&fault, errors),
+    }
+}
+
+/// Does what `run_over` does over these streams, the output buffered.
 pub fn run<
     R: Files + Net + AllocGlobal,
     S: AsStr,
@@ -134,13 +193,13 @@ pub fn run<
     ensures usage { result ≡ 2 → (fault_of command_line (map S.text words.now) ≢ []) ⊎ (keeps_rules (matches_of command_line (map S.text words.now)) ≡ false) }
     ensures refused { fault_of command_line (map S.text words.now) ≢ [] → (result ≡ 2) ⊎ (result ≡ 4) }
     ensures rules { keeps_rules (matches_of command_line (map S.text words.now)) ≡ false → (result ≡ 2) ⊎ (result ≡ 4) }
+    ensures schema { result ≡ 3 → (failure : Failure) × (status_of failure ≡ 3)
+        × IsCatalog R.File.remaining (names_schema (matches_of command_line (map S.text words.now))) (Err failure) }
 {
-    let (mut input, mut output, mut errors) = (input, output, errors);
-    match read_words(rt.alloc(), words) {
-        Ok(options) => match perform(rt, &options, &mut input, &mut output) {
-            Ok(()) => 0,
-            Err(failure) => report(failure, &mut errors),
-        },
-        Err(fault) => refuse(&fault, &mut errors),
-    }
+    let mut errors = errors;
+    let Ok(output) = Buffered::new(rt.alloc(), output) else {
+        return report(Failure::Memory, &mut errors);
+    };
+    let (mut reader, mut writer) = (Watched::new(input), Watched::new(output));
+    run_over(rt, words, &mut reader, &mut writer, &mut errors)
 }

@@ -1,8 +1,8 @@
 //! Where the catalog comes from: the built-in schema or a file.
-ghost use Rattle.std.specs.Prelude.{◌≡◌, ◌≤◌, ◌∷◌, [], None, length, IfOk, IfErr, IfSome};
+ghost use Rattle.std.specs.Prelude.{◌≡◌, ◌≤◌, ◌∷◌, [], is_some, length, IfOk, IfErr, IfSome};
 ghost use Rattle.mi_value.specs.declared.limits.TheConstants.{MAX_SCHEMA_FILE as most_bytes};
 ghost use Rattle.mi_catalog.specs.Accounts.{accounts};
-ghost use Rattle.mi_server.specs.Source.{IsRead, IsUnread};
+ghost use Rattle.mi_server.specs.Source.{IsRead, IsUnread, IsCatalog};
 
 use crate::failure::Failure;
 use mi_schema::{Catalog, SchemaFault, built_in, read_catalog};
@@ -66,7 +66,7 @@ fn catalog_in<R: Read + Drop>(alloc: Global, reader: R) -> Result<Catalog, Failu
 ///
 /// `SchemaFile` where the file can't be read or is too long, `Schema` where it is no schema or memory was refused.
 pub fn catalog<R: Files + AllocGlobal>(rt: &R, file: Option<&str>) -> Result<Catalog, Failure>
-    ensures built_in { file.entry ≡ None → IfOk result (λ c. c ≡ record { tables = accounts ∷ []; first_revision = 0 }) }
+    ensures { IsCatalog R.File.remaining (is_some file.entry) result }
 {
     let alloc = rt.alloc();
     match file {

@@ -6,6 +6,7 @@ mod faults;
 mod library;
 mod listener;
 mod program;
+mod replies;
 mod rows;
 mod worked;
 mod worked_rows;

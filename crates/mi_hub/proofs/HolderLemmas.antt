@@ -1,0 +1,129 @@
+-- Whoever holds sessions is attached: each answer keeps that, and so does each event.
+use Rattle.std.proofs.Common.{◌≡◌, ◌⊎◌, ℕ, ◌-◌, min, List, [], ◌∷◌, ◌++◌, Bool, true, false, ◌&&◌, cond, nat_eq, nat_le, get_or, set, remove, Option, Some, None, IsSome, is_some, Result, Ok, Err, refl, sym, ap, ◌∙◌, subst, inl, inr, arith}
+use Rattle.mi_value.specs.declared.refusal.Refusal.{Refusal}
+use Rattle.mi_value.specs.declared.refusal.Refusal.TheVariants.{Busy}
+use Rattle.mi_model.specs.Database.{Database}
+use Rattle.mi_protocol.specs.Lines.{command_line}
+use Rattle.mi_protocol.specs.Commands.{keeps_out}
+use Rattle.mi_protocol.specs.Binding.{bound_command}
+use Rattle.mi_protocol.specs.declared.request.Request.{Request}
+use Rattle.mi_protocol.specs.declared.binding.Command.{Command}
+use Rattle.mi_protocol.specs.declared.binding.Command.TheVariants as command
+use Rattle.mi_hub.specs.Lines.{Asked, Rest, text, too_long}
+use Rattle.mi_hub.specs.Holder.{Held, is_busy, one_more, one_less, at_most, without_holder, released}
+use Rattle.mi_hub.specs.Performed.{performed, moved}
+use Rattle.mi_hub.specs.Answer.{command_answer, request_answer, refusal, answer, MayGive}
+use Rattle.mi_hub.specs.Served.{InTurn, Served, CutOff}
+use Rattle.mi_hub.specs.Connections.{rest_at, with_rest, others, holder_is_attached}
+use Rattle.mi_hub.specs.Places.{StandsAt}
+use Rattle.mi_hub.specs.declared.holder.Holder.{Holder}
+use Rattle.mi_hub.specs.declared.connection.Connection.{Connection}
+use Rattle.mi_hub.proofs.ConnectionLemmas.{rest_at-others, some_with_rest, some_append}
+
+-- ---- the moves of the holder
+
+module _ (cs : List Connection) where
+  either : (b : Bool) (o p : Option Holder) → holder_is_attached o cs ≡ true → holder_is_attached p cs ≡ true → holder_is_attached (cond b o p) cs ≡ true
+  either true o p h k = h
+  either false o p h k = k
+
+  more : (conn : ℕ) (o : Option Holder) → IsSome (rest_at conn cs) → holder_is_attached o cs ≡ true → holder_is_attached (one_more conn o) cs ≡ true
+  more conn None here h = here
+  more conn (Some x) here h = h
+
+  less : (o : Option Holder) → holder_is_attached o cs ≡ true → holder_is_attached (one_less o) cs ≡ true
+  less None h = refl
+  less (Some x) h = either (nat_le x.held 1) None (Some (record { conn = x.conn; held = x.held - 1 })) refl h
+
+  most : (opened : ℕ) (o : Option Holder) → holder_is_attached o cs ≡ true → holder_is_attached (at_most opened o) cs ≡ true
+  most opened None h = refl
+  most opened (Some x) h = either (nat_eq opened 0) None (Some (record { conn = x.conn; held = min x.held opened })) refl h
+
+  without : (conn : ℕ) (o : Option Holder) → holder_is_attached o cs ≡ true → holder_is_attached (without_holder conn o) cs ≡ true
+  without conn None h = refl
+  without conn (Some x) h = either (nat_eq x.conn conn) None (Some x) refl h
+
+  where_accepted : (answer : Result ℕ Refusal) (move : Option Holder → Option Holder) (o : Option Holder)
+      → holder_is_attached (move o) cs ≡ true → holder_is_attached o cs ≡ true → holder_is_attached (moved answer move o) cs ≡ true
+  where_accepted (Ok n) move o h k = h
+  where_accepted (Err e) move o h k = k
+
+  -- ---- answers
+  module _ (conn : ℕ) (here : IsSome (rest_at conn cs)) where
+    by_command : (s : Held) (c : Command) → holder_is_attached s.holder cs ≡ true → holder_is_attached (performed s conn c).1.holder cs ≡ true
+    by_command s (command.Insert table row before) h = h
+    by_command s (command.Replace table id row) h = h
+    by_command s (command.Modify table id edits rollback) h = h
+    by_command s (command.Erase table id) h = h
+    by_command s (command.EraseKey table index key) h = h
+    by_command s (command.Relocate table index id before) h = h
+    by_command s command.Start h = where_accepted _ (one_more conn) s.holder (more conn s.holder here h) h
+    by_command s command.Undo h = where_accepted _ one_less s.holder (less s.holder h) h
+    by_command s command.Squash h = where_accepted _ one_less s.holder (less s.holder h) h
+    by_command s (command.Commit revision) h = most _ s.holder h
+    by_command s command.UndoAll h = refl
+    by_command s command.Push h = without conn s.holder h
+    by_command s command.Revision h = h
+    by_command s (command.Get table id) h = h
+    by_command s (command.Find table index key) h = h
+    by_command s (command.Nth table index n) h = h
+    by_command s (command.Count table index key) h = h
+    by_command s (command.Range table index low high reverse limit) h = h
+    by_command s (command.List table index after limit) h = h
+    by_command s (command.Rank table index id) h = h
+    by_command s (command.LowerRank table index key) h = h
+    by_command s (command.UpperRank table index key) h = h
+    by_command s (command.Size table) h = h
+
+    by_bound : (s : Held) (c : Result Command Refusal) → holder_is_attached s.holder cs ≡ true → holder_is_attached (command_answer s conn c).1.holder cs ≡ true
+    by_bound s (Ok c) h = by_command s c h
+    by_bound s (Err e) h = h
+
+    by_request : (s : Held) (r : Result Request Refusal) → holder_is_attached s.holder cs ≡ true → holder_is_attached (request_answer s conn r).1.holder cs ≡ true
+    by_request s (Ok r) h = kept (keeps_out r && is_busy s.holder conn)
+      where
+        kept : (b : Bool) → holder_is_attached (cond b (refusal s Busy) (command_answer s conn (bound_command s.database.catalog r))).1.holder cs ≡ true
+        kept true = h
+        kept false = by_bound s (bound_command s.database.catalog r) h
+    by_request s (Err e) h = h
+
+    by_answer : (s : Held) (line : Asked) → holder_is_attached s.holder cs ≡ true → holder_is_attached (answer s conn line).1.holder cs ≡ true
+    by_answer s (text t) h = by_request s (command_line t) h
+    by_answer s too_long h = h
+
+    by_reply : (s t : Held) (line : Asked) (reply : List ℕ) → MayGive conn s line reply t → holder_is_attached s.holder cs ≡ true → holder_is_attached t.holder cs ≡ true
+    by_reply s t line reply (inl p) h = ap (λ (u : Held). holder_is_attached u.holder cs) p.1 ∙ by_answer s line h
+    by_reply s t line reply (inr p) h = ap (λ (u : Held). holder_is_attached u.holder cs) p.1.1 ∙ h
+
+    in_turn : (lines : List Asked) (replies : List (List ℕ)) (s t : Held) → InTurn (MayGive conn) s lines replies t → holder_is_attached s.holder cs ≡ true → holder_is_attached t.holder cs ≡ true
+    in_turn [] [] s t p h = ap (λ (u : Held). holder_is_attached u.holder cs) p ∙ h
+    in_turn [] (r ∷ replies) s t p h = absurd p
+    in_turn (l ∷ lines) [] s t p h = absurd p
+    in_turn (l ∷ lines) (r ∷ replies) s t p h = in_turn lines replies p.0 t p.2 (by_reply s p.0 l r p.1 h)
+
+    pub served_holder : (lines : List Asked) (out : List ℕ) (s t : Held) → Served (MayGive conn) s lines out t → holder_is_attached s.holder cs ≡ true → holder_is_attached t.holder cs ≡ true
+    served_holder lines out s t p h = in_turn lines p.replies s t p.in_turn h
+
+    pub cut_holder : (lines : List Asked) (out : List ℕ) (s t : Held) → CutOff (MayGive conn) s lines out t → holder_is_attached s.holder cs ≡ true → holder_is_attached t.holder cs ≡ true
+    cut_holder lines out s t p h = in_turn (p.asked ++ p.line ∷ []) (p.replies ++ p.reply ∷ []) s t p.in_turn h
+
+-- ---- events
+
+pub gone_holder : (conn : ℕ) (o : Option Holder) (cs : List Connection) → holder_is_attached o cs ≡ true → holder_is_attached (without_holder conn o) (others conn cs) ≡ true
+gone_holder conn None cs h = refl
+gone_holder conn (Some x) cs h = by_test (nat_eq x.conn conn) refl
+  where
+    apart : (a b : ℕ) → nat_eq a b ≡ false → b ≡ a → ⊥
+    apart a b e k = grind arith
+
+    by_test : (b : Bool) → nat_eq x.conn conn ≡ b → holder_is_attached (cond b None (Some x)) (others conn cs) ≡ true
+    by_test true e = refl
+    by_test false e = ap is_some (rest_at-others x.conn conn cs (apart x.conn conn e)) ∙ h
+
+pub more_attached : (o : Option Holder) (cs ds : List Connection) → holder_is_attached o cs ≡ true → holder_is_attached o (cs ++ ds) ≡ true
+more_attached None cs ds h = refl
+more_attached (Some x) cs ds h = some_append x.conn cs ds h
+
+pub another_rest : (conn : ℕ) (r : Rest) (o : Option Holder) (cs : List Connection) → holder_is_attached o cs ≡ true → holder_is_attached o (with_rest conn r cs) ≡ true
+another_rest conn r None cs h = refl
+another_rest conn r (Some x) cs h = some_with_rest x.conn conn r cs ∙ h
