@@ -15,7 +15,7 @@ use Rattle.mi_value.specs.declared.refusal.NoSession.{NoSession}
 use Rattle.mi_value.specs.Edits.{apply}
 use Rattle.mi_catalog.specs.declared.index.IndexKind.TheVariants.{Sequenced}
 use Rattle.mi_catalog.specs.Shape.{Shape, CatalogShape, schema_at, index_at}
-use Rattle.mi_model.specs.Key.{Row}
+use Rattle.mi_model.specs.Key.{Row, IsWholeKey}
 use Rattle.mi_model.specs.Table.{Table, IsTable, has, row}
 use Rattle.mi_model.specs.Conflict.{conflict}
 use Rattle.mi_model.specs.Change.{insert, put, erase, relocate}
@@ -24,9 +24,9 @@ use Rattle.mi_model.specs.Database.{Database, IsDatabase, on_table, table_of, de
 use Rattle.mi_model.specs.Same.{SameTable, SameTables, SameDatabase}
 use Rattle.mi_model.specs.Run.{Command, after}
 use Rattle.mi_model.specs.Run.Command.{Insert, Replace, Modify, Erase, EraseKey, Relocate, Start, Undo, Squash, Commit, UndoAll}
-use Rattle.mi_model.specs.Alike.{NamesSequenced, AnswersAlike, CommandsAnswerAlike, RunsAnswerAlike}
+use Rattle.mi_model.specs.Alike.{IsCommandOf, AnswersAlike, CommandsAnswerAlike, RunsAnswerAlike}
 use Rattle.mi_model.proofs.TableLaws.{fresh_of_table, is_table_opened}
-use Rattle.mi_model.proofs.SameLaws.{with_lists, same_insert, same_insert_before, same_put, same_erase, same_of_key, same_erase_key, same_relocate}
+use Rattle.mi_model.proofs.SameLaws.{with_lists, same_insert, same_insert_before, same_put, same_erase, asked, same_of_key, same_erase_key, same_relocate}
 use Rattle.mi_model.proofs.DatabaseLaws.{not_not, is_database_after}
 use Rattle.mi_model.proofs.AlikeLookUps.{same_at, zip_length}
 
@@ -118,8 +118,9 @@ erase_same s e =
     let u : Table = with_lists rows m next arrivals in
     either_same {A = Unit {0}} s (has t e) (Ok tt, erase e t) (Err NoId, t) (Ok tt, erase e u) (Err NoId, u) (λ _. (refl, same_erase s e t u same)) (λ _. (refl, same)))
 
-erase_key_same : (s : Shape) (x : ℕ) (key : List Value) (t u : Table) → SameTable s t u → OfTables s (erase_key_outcome s x key) t u
-erase_key_same s x key t u same is iu = (ap (λ ids. Ok (length ids)) (same_of_key s x key t u same), same_erase_key s x key t u same)
+erase_key_same : (s : Shape) (x : ℕ) (key : List Value) → IsWholeKey (index_at s x).parts key → (t u : Table) → SameTable s t u → OfTables s (erase_key_outcome s x key) t u
+erase_key_same s x key whole t u same is iu =
+    (ap (λ ids. Ok (length ids)) (same_of_key s x key t u (asked (index_at s x).kind (index_at s x).parts key whole) same), same_erase_key s x key t u whole same)
 
 relocate_same : (s : Shape) (x e : ℕ) (b : Option ℕ) → (index_at s x).kind ≡ Sequenced → (t u : Table) → SameTable s t u → OfTables s (relocate_outcome x e b) t u
 relocate_same s x e b placed =
@@ -230,7 +231,7 @@ committed_same x c ts us old others r same =
 
 -- each command, in databases of one catalog and one revision
 abbrev WorksInBoth : Command → Database → Database → Type 0
-WorksInBoth c d e = IsDatabase d → IsDatabase e → NamesSequenced d.catalog c → AnswersAlike c d e × SameDatabase (after c d) (after c e)
+WorksInBoth c d e = IsDatabase d → IsDatabase e → IsCommandOf d.catalog c → AnswersAlike c d e × SameDatabase (after c d) (after c e)
 
 works : (command : Command) (c : CatalogShape) (ts us : List Table) (old others : List (List Table)) (r : ℕ) → SameDatabase (db c ts old r) (db c us others r)
     → WorksInBoth command (db c ts old r) (db c us others r)
@@ -239,7 +240,7 @@ works (Replace n e v) c ts us old others r same is iu placed = on_table_same c t
 works (Modify n e edits rollback) c ts us old others r same is iu placed =
     on_table_same c ts us old others r is iu same n (λ s t. modify_outcome s e edits rollback t) (modify_same (schema_at c n) e edits rollback)
 works (Erase n e) c ts us old others r same is iu placed = on_table_same c ts us old others r is iu same n (λ s t. erase_outcome e t) (erase_same (schema_at c n) e)
-works (EraseKey n x key) c ts us old others r same is iu placed = on_table_same c ts us old others r is iu same n (λ s t. erase_key_outcome s x key t) (erase_key_same (schema_at c n) x key)
+works (EraseKey n x key) c ts us old others r same is iu placed = on_table_same c ts us old others r is iu same n (λ s t. erase_key_outcome s x key t) (erase_key_same (schema_at c n) x key placed)
 works (Relocate n x e b) c ts us old others r same is iu placed = on_table_same c ts us old others r is iu same n (λ s t. relocate_outcome x e b t) (relocate_same (schema_at c n) x e b placed)
 works Start c ts us old others r same is iu placed =
     let d : Database = db c ts old r in
@@ -302,5 +303,5 @@ runs_answer_alike (c ∷ cs) d e is iu placed same =
     let step : AnswersAlike c d e × SameDatabase (after c d) (after c e) = commands_answer_alike c d e is iu placed.0 same in (
       step.0,
       runs_answer_alike cs (after c d) (after c e) (is_database_after c d is) (is_database_after c e iu)
-          (subst (λ shapes. AllByRecursion (NamesSequenced shapes) cs) (sym (catalog_after c d)) placed.1) step.1,
+          (subst (λ shapes. AllByRecursion (IsCommandOf shapes) cs) (sym (catalog_after c d)) placed.1) step.1,
     )

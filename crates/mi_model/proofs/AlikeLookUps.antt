@@ -17,7 +17,7 @@ use Rattle.mi_catalog.specs.declared.index.Index.{Index}
 use Rattle.mi_catalog.specs.declared.index.IndexKind.{IndexKind}
 use Rattle.mi_catalog.specs.declared.index.IndexKind.TheVariants.{Ordered, Ranked, Hashed, Sequenced}
 use Rattle.mi_catalog.specs.Shape.{Shape, schema_at, index_at}
-use Rattle.mi_model.specs.Key.{Row, compare_rows, compare_to_row}
+use Rattle.mi_model.specs.Key.{Row, compare_rows, compare_to_row, IsWholeKey}
 use Rattle.mi_model.specs.Table.{Table, get, row, size}
 use Rattle.mi_model.specs.View.{view, of_key, compare_ids, compare_to_id}
 use Rattle.mi_model.specs.Conflict.{conflict}
@@ -26,7 +26,7 @@ use Rattle.mi_model.specs.Page.{page_of, meets_lower, meets_upper, between, list
 use Rattle.mi_model.specs.Database.{schema_of, table_of}
 use Rattle.mi_model.specs.Same.{SameView, SameTable, SameTables}
 use Rattle.mi_model.specs.Alike.{HasWholeKey, KeyedAlike, ListedAlike, TablesAlike, LookUpsAnswerAlike}
-use Rattle.mi_model.proofs.SameLaws.{with_lists, same_refl, same_of_key}
+use Rattle.mi_model.proofs.SameLaws.{with_lists, same_refl, asked, same_of_key}
 
 -- an index that isn't hashed shows one list
 listed : (kind : IndexKind) (s : Shape) (x : ℕ) (t u : Table) → kind ≢ Hashed → SameView kind s x t u → view s t x ≡ view s u x
@@ -42,16 +42,30 @@ value_at (v ∷ r) zero l = (v, refl)
 value_at (v ∷ r) (suc n) l = value_at r n (omega arith)
 
 -- a record with a value for each part is compared as the key of these values
-whole_key : (ps : List KeyPart) (r : List Value) → AllByRecursion (λ p. p.column < length r) ps → (key : List Value) × ((q : List Value) → compare_key ps r q ≡ compare_prefix ps key q)
-whole_key [] r all = ([], λ q. refl)
+record KeyOf (ps : List KeyPart) (r : List Value) : Type 0 where
+  key : List Value
+  long : length key ≡ length ps
+  compares : (q : List Value) → compare_key ps r q ≡ compare_prefix ps key q
+
+whole_key : (ps : List KeyPart) (r : List Value) → AllByRecursion (λ p. p.column < length r) ps → KeyOf ps r
+whole_key [] r all = record { key = []; long = refl; compares = λ q. refl }
 whole_key (p ∷ ps) r all =
     let v : (v : Value) × (slice_get r p.column ≡ Some v) = value_at r p.column all.0 in
-    let rest : (key : List Value) × ((q : List Value) → compare_key ps r q ≡ compare_prefix ps key q) = whole_key ps r all.1 in
-    (v.0 ∷ rest.0, λ q. ap₂ (λ o below. ordering_then (directed p.descending (compare_missing o (slice_get q p.column))) below) v.1 (rest.1 q))
+    let rest : KeyOf ps r = whole_key ps r all.1 in
+    record {
+      key = v.0 ∷ rest.key;
+      long = ap suc rest.long;
+      compares = λ q. ap₂ (λ o below. ordering_then (directed p.descending (compare_missing o (slice_get q p.column))) below) v.1 (rest.compares q);
+    }
 
-key_of_row : (ps : List KeyPart) (e : ℕ) (r : List Value) → AllByRecursion (λ p. p.column < length r) ps → (key : List Value) × ((q : Row) → compare_rows ps (e, r) q ≡ compare_to_row ps key q)
-key_of_row [] e r all = (Int (pos e) ∷ [], λ q. refl)
-key_of_row (p ∷ ps) e r all = let k : (key : List Value) × ((q : List Value) → compare_key (p ∷ ps) r q ≡ compare_prefix (p ∷ ps) key q) = whole_key (p ∷ ps) r all in (k.0, λ q. k.1 q.1)
+record KeyOfRow (ps : List KeyPart) (row : Row) : Type 0 where
+  key : List Value
+  whole : IsWholeKey ps key
+  compares : (q : Row) → compare_rows ps row q ≡ compare_to_row ps key q
+
+key_of_row : (ps : List KeyPart) (e : ℕ) (r : List Value) → AllByRecursion (λ p. p.column < length r) ps → KeyOfRow ps (e, r)
+key_of_row [] e r all = record { key = Int (pos e) ∷ []; whole = refl; compares = λ q. refl }
+key_of_row (p ∷ ps) e r all = let k : KeyOf (p ∷ ps) r = whole_key (p ∷ ps) r all in record { key = k.key; whole = k.long; compares = λ q. k.compares q.1 }
 
 -- the ids of a row's key are the ids of the key of its values
 ids_beside : (s : Shape) (x e : ℕ) (t : Table) (key : List Value) → ((q : Row) → compare_rows (index_at s x).parts (row t e) q ≡ compare_to_row (index_at s x).parts key q)
@@ -63,17 +77,17 @@ same_row t u rows e = ap (λ rs. row (with_lists rs [] 0 0) e) rows
 
 next_alike : (s : Shape) (x : ℕ) (t u : Table) → SameTable s t u → (e : ℕ) → HasWholeKey s x t e → next_of s t x e ≡ next_of s u x e
 next_alike s x t u same e whole =
-    let k : (key : List Value) × ((q : Row) → compare_rows (index_at s x).parts (row t e) q ≡ compare_to_row (index_at s x).parts key q) = key_of_row (index_at s x).parts e (row t e).1 whole in
+    let k : KeyOfRow (index_at s x).parts (row t e) = key_of_row (index_at s x).parts e (row t e).1 whole in
     ap (λ ids. after_in ids e)
-    (ids_beside s x e t k.0 k.1 ∙ same_of_key s x k.0 t u same
-    ∙ sym (ids_beside s x e u k.0 (λ q. ap (λ r. compare_rows (index_at s x).parts r q) (sym (same_row t u same.rows e)) ∙ k.1 q)))
+    (ids_beside s x e t k.key k.compares ∙ same_of_key s x k.key t u (asked (index_at s x).kind (index_at s x).parts k.key k.whole) same
+    ∙ sym (ids_beside s x e u k.key (λ q. ap (λ r. compare_rows (index_at s x).parts r q) (sym (same_row t u same.rows e)) ∙ k.compares q)))
 
 keyed_alike : (s : Shape) (x : ℕ) (t u : Table) → SameTable s t u → KeyedAlike s x t u
 keyed_alike s x t u same =
     record {
-      find = λ key. ap (λ ids. slice_get ids 0) (same_of_key s x key t u same);
-      count = λ key. ap length (same_of_key s x key t u same);
-      first_of = λ key. ap (λ ids. slice_get ids 0) (same_of_key s x key t u same);
+      find = λ key asks. ap (λ ids. slice_get ids 0) (same_of_key s x key t u asks same);
+      count = λ key asks. ap length (same_of_key s x key t u asks same);
+      first_of = λ key whole. ap (λ ids. slice_get ids 0) (same_of_key s x key t u (asked (index_at s x).kind (index_at s x).parts key whole) same);
       next_of = next_alike s x t u same;
     }
 

@@ -18,3 +18,6 @@ pub mod PrefixLaws
 pub mod PlaceLaws
 pub mod QueryLaws
 pub mod NextLaws
+pub mod RankLaws
+pub mod OneTableLaws
+pub mod AskedLaws

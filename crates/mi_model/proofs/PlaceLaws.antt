@@ -157,10 +157,10 @@ absent_behind e (r ∷ rows) all =
     ]
 
 -- whether a row has the id, as a number
-abbrev here : ℕ → List Row → ℕ
+abbrev pub here : ℕ → List Row → ℕ
 here id rows = cond {A = ℕ} (is_some (lookup (λ k. k == id) rows)) 1 0
 
-here_behind : (id : ℕ) (r : Row) (rows : List Row) → AllByRecursion (λ q. r.0 < q.0) rows → (ids : List ℕ) → times id ids ≡ here id (r ∷ rows)
+pub here_behind : (id : ℕ) (r : Row) (rows : List Row) → AllByRecursion (λ q. r.0 < q.0) rows → (ids : List ℕ) → times id ids ≡ here id (r ∷ rows)
     → times id (without r.0 ids) ≡ here id rows
 here_behind id r rows all ids is =
     elim (eqb_tells r.0 id) [

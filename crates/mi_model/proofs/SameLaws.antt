@@ -12,7 +12,8 @@ use Rattle.mi_value.specs.declared.value.Value.{Value}
 use Rattle.mi_catalog.specs.declared.index.IndexKind.{IndexKind}
 use Rattle.mi_catalog.specs.declared.index.IndexKind.TheVariants.{Ordered, Ranked, Hashed, Sequenced}
 use Rattle.mi_catalog.specs.Shape.{Shape, index_at}
-use Rattle.mi_model.specs.Key.{Row}
+use Rattle.mi_value.specs.declared.compare.KeyPart.{KeyPart}
+use Rattle.mi_model.specs.Key.{Row, IsWholeKey, IsAskedBy}
 use Rattle.mi_model.specs.Table.{Table, has, row, list_of}
 use Rattle.mi_model.specs.View.{compare_ids, compare_to_id, shown, view, of_key}
 use Rattle.mi_model.specs.Change.{stand, stand_before, without, added, insert, moved, put, erase, erase_all, erase_key, relocated, relocate}
@@ -26,15 +27,15 @@ use Rattle.mi_model.specs.Same.{SameView, SameTable}
 use Rattle.mi_model.proofs.ViewLaws.{view-insert_other, list-insert_before, view-erase, of_key-erase, view-insert, arrived, Lacks, filter_alike, key_from, lookup_push}
 
 view_refl : (kind : IndexKind) (s : Shape) (x : ℕ) (t : Table) → SameView kind s x t t
-view_refl Hashed s x t = λ key. refl
+view_refl Hashed s x t = λ key whole. refl
 view_refl kind s x t = refl
 
 view_sym : (kind : IndexKind) (s : Shape) (x : ℕ) (t u : Table) → SameView kind s x t u → SameView kind s x u t
-view_sym Hashed s x t u same = λ key. sym (same key)
+view_sym Hashed s x t u same = λ key whole. sym (same key whole)
 view_sym kind s x t u same = sym same
 
 view_trans : (kind : IndexKind) (s : Shape) (x : ℕ) (t u v : Table) → SameView kind s x t u → SameView kind s x u v → SameView kind s x t v
-view_trans Hashed s x t u v a b = λ key. a key ∙ b key
+view_trans Hashed s x t u v a b = λ key whole. a key whole ∙ b key whole
 view_trans kind s x t u v a b = a ∙ b
 
 pub same_refl : (s : Shape) (t : Table) → SameTable s t t
@@ -48,7 +49,7 @@ same_trans s t u v a b =
     record { rows = a.rows ∙ b.rows; next = a.next ∙ b.next; arrivals = a.arrivals ∙ b.arrivals; views = λ x. view_trans (index_at s x).kind s x t u v (a.views x) (b.views x) }
 
 erased_views : (kind : IndexKind) (s : Shape) (e x : ℕ) (t u : Table) → SameView kind s x t u → SameView kind s x (erase e t) (erase e u)
-erased_views Hashed s e x t u same = λ key. of_key-erase s e t x key ∙ ap (without e) (same key) ∙ sym (of_key-erase s e u x key)
+erased_views Hashed s e x t u same = λ key whole. of_key-erase s e t x key ∙ ap (without e) (same key whole) ∙ sym (of_key-erase s e u x key)
 erased_views kind s e x t u same = view-erase s e t x ∙ ap (without e) same ∙ sym (view-erase s e u x)
 
 -- an erase keeps tables the same
@@ -91,9 +92,9 @@ inserted_views : (kind : IndexKind) (s : Shape) (r : List Value) (rows : List Ro
     → x < length l → x < length m → Lacks next (get_or l x []) → Lacks next (get_or m x [])
     → SameView kind s x (with_lists rows l next arrivals) (with_lists rows m next arrivals)
     → SameView kind s x (insert None r (with_lists rows l next arrivals)) (insert None r (with_lists rows m next arrivals))
-inserted_views Hashed s r rows next arrivals l m x is in_l in_m fresh_l fresh_m same = λ key.
+inserted_views Hashed s r rows next arrivals l m x is in_l in_m fresh_l fresh_m same = λ key whole.
     of_key-insert s r (with_lists rows l next arrivals) x key is in_l fresh_l
-    ∙ ap (λ ids. ids ++ filter (λ id. is_eq (compare_to_id (index_at s x) (insert None r (with_lists rows l next arrivals)) key id)) (next ∷ [])) (same key)
+    ∙ ap (λ ids. ids ++ filter (λ id. is_eq (compare_to_id (index_at s x) (insert None r (with_lists rows l next arrivals)) key id)) (next ∷ [])) (same key whole)
     ∙ sym (of_key-insert s r (with_lists rows m next arrivals) x key is in_m fresh_m)
 inserted_views kind s r rows next arrivals l m x is in_l in_m fresh_l fresh_m same =
     view-insert s r (with_lists rows l next arrivals) x in_l fresh_l
@@ -103,7 +104,7 @@ inserted_views kind s r rows next arrivals l m x is in_l in_m fresh_l fresh_m sa
 -- of equal views both kinds of `SameView` follow
 same_from_view : (kind : IndexKind) (s : Shape) (x : ℕ) (rows : List Row) (next arrivals : ℕ) (l m : List (List ℕ))
     → view s (with_lists rows l next arrivals) x ≡ view s (with_lists rows m next arrivals) x → SameView kind s x (with_lists rows l next arrivals) (with_lists rows m next arrivals)
-same_from_view Hashed s x rows next arrivals l m e = λ key. ap (filter (λ id. is_eq (compare_to_id (index_at s x) (with_lists rows l next arrivals) key id))) e
+same_from_view Hashed s x rows next arrivals l m e = λ key whole. ap (filter (λ id. is_eq (compare_to_id (index_at s x) (with_lists rows l next arrivals) key id))) e
 same_from_view kind s x rows next arrivals l m e = e
 
 inserted_past : (s : Shape) (r : List Value) (rows : List Row) (next arrivals : ℕ) (l m : List (List ℕ)) (x : ℕ) → length l ≤ x → length m ≤ x
@@ -150,11 +151,11 @@ put_views : (kind : IndexKind) (s : Shape) (e : ℕ) (r : List Value) (rows : Li
     → SameView kind s x (with_lists rows l next arrivals) (with_lists rows m next arrivals)
     → (b : Bool) → is_eq (compare_key (index_at s x).parts (row (with_lists rows l next arrivals) e).1 r) ≡ b
     → SameView kind s x (put s e r (with_lists rows l next arrivals)) (put s e r (with_lists rows m next arrivals))
-put_views Hashed s e r rows next arrivals l m x is in_l in_m there same true key_is = λ key.
-    of_key-put_stays s e r (with_lists rows l next arrivals) x key in_l there key_is ∙ same key ∙ sym (of_key-put_stays s e r (with_lists rows m next arrivals) x key in_m there key_is)
-put_views Hashed s e r rows next arrivals l m x is in_l in_m there same false key_is = λ key.
+put_views Hashed s e r rows next arrivals l m x is in_l in_m there same true key_is = λ key whole.
+    of_key-put_stays s e r (with_lists rows l next arrivals) x key in_l there key_is ∙ same key whole ∙ sym (of_key-put_stays s e r (with_lists rows m next arrivals) x key in_m there key_is)
+put_views Hashed s e r rows next arrivals l m x is in_l in_m there same false key_is = λ key whole.
     of_key-put_moves s e r (with_lists rows l next arrivals) x key is in_l key_is
-    ∙ ap (λ ids. without e ids ++ filter (λ id. is_eq (compare_to_id (index_at s x) (put s e r (with_lists rows l next arrivals)) key id)) (e ∷ [])) (same key)
+    ∙ ap (λ ids. without e ids ++ filter (λ id. is_eq (compare_to_id (index_at s x) (put s e r (with_lists rows l next arrivals)) key id)) (e ∷ [])) (same key whole)
     ∙ sym (of_key-put_moves s e r (with_lists rows m next arrivals) x key is in_m key_is)
 put_views kind s e r rows next arrivals l m x is in_l in_m there same true key_is =
     view-put_stays s e r (with_lists rows l next arrivals) x in_l there key_is ∙ same ∙ sym (view-put_stays s e r (with_lists rows m next arrivals) x in_m there key_is)
@@ -230,8 +231,8 @@ view_sequenced s t x is = shown_sequenced (index_at s x).kind (compare_ids (inde
 same_along : (kind : IndexKind) (s : Shape) (x : ℕ) (rows : List Row) (next arrivals next' arrivals' : ℕ) (l m l' m' : List (List ℕ))
     → view s (with_lists rows l' next' arrivals') x ≡ view s (with_lists rows l next arrivals) x → view s (with_lists rows m' next' arrivals') x ≡ view s (with_lists rows m next arrivals) x
     → SameView kind s x (with_lists rows l next arrivals) (with_lists rows m next arrivals) → SameView kind s x (with_lists rows l' next' arrivals') (with_lists rows m' next' arrivals')
-same_along Hashed s x rows next arrivals next' arrivals' l m l' m' el em same = λ key.
-    ap (filter (λ id. is_eq (compare_to_id (index_at s x) (with_lists rows l next arrivals) key id))) el ∙ same key
+same_along Hashed s x rows next arrivals next' arrivals' l m l' m' el em same = λ key whole.
+    ap (filter (λ id. is_eq (compare_to_id (index_at s x) (with_lists rows l next arrivals) key id))) el ∙ same key whole
     ∙ sym (ap (filter (λ id. is_eq (compare_to_id (index_at s x) (with_lists rows l next arrivals) key id))) em)
 same_along kind s x rows next arrivals next' arrivals' l m l' m' el em same = el ∙ same ∙ sym em
 
@@ -326,17 +327,26 @@ pub same_erase_all : (s : Shape) (ids : List ℕ) (t u : Table) → SameTable s 
 same_erase_all s [] t u a = a
 same_erase_all s (e ∷ ids) t u a = same_erase_all s ids (erase e t) (erase e u) (same_erase s e t u a)
 
-of_key_same : (kind : IndexKind) (s : Shape) (x : ℕ) (key : List Value) (t u : Table) → t.rows ≡ u.rows → SameView kind s x t u → of_key s t x key ≡ of_key s u x key
-of_key_same Hashed s x key t u rows same = same key
-of_key_same kind s x key t u rows same =
+-- by a whole key every index may be asked
+pub asked : (kind : IndexKind) (ps : List KeyPart) (key : List Value) → IsWholeKey ps key → IsAskedBy kind ps key
+asked Hashed ps key whole = whole
+asked Ordered ps key whole = tt
+asked Ranked ps key whole = tt
+asked Sequenced ps key whole = tt
+
+of_key_same : (kind : IndexKind) (s : Shape) (x : ℕ) (key : List Value) (t u : Table) → t.rows ≡ u.rows → IsAskedBy kind (index_at s x).parts key → SameView kind s x t u
+    → of_key s t x key ≡ of_key s u x key
+of_key_same Hashed s x key t u rows asks same = same key asks
+of_key_same kind s x key t u rows asks same =
     ap (λ rs. filter (λ id. is_eq (compare_to_id (index_at s x) (with_lists rs [] 0 0) key id)) (view s t x)) rows
     ∙ ap (filter (λ id. is_eq (compare_to_id (index_at s x) u key id))) same
 
--- tables that are the same have the same ids of each key
-pub same_of_key : (s : Shape) (x : ℕ) (key : List Value) (t u : Table) → SameTable s t u → of_key s t x key ≡ of_key s u x key
-same_of_key s x key t u a = of_key_same (index_at s x).kind s x key t u a.rows (a.views x)
+-- tables that are the same have the same ids of each key that the index is asked by
+pub same_of_key : (s : Shape) (x : ℕ) (key : List Value) (t u : Table) → IsAskedBy (index_at s x).kind (index_at s x).parts key → SameTable s t u → of_key s t x key ≡ of_key s u x key
+same_of_key s x key t u asks a = of_key_same (index_at s x).kind s x key t u a.rows asks (a.views x)
 
--- an erase by key keeps tables the same
-pub same_erase_key : (s : Shape) (x : ℕ) (key : List Value) (t u : Table) → SameTable s t u → SameTable s (erase_key s x key t) (erase_key s x key u)
-same_erase_key s x key t u a =
-    subst (λ ids. SameTable s (erase_key s x key t) (erase_all ids u)) (same_of_key s x key t u a) (same_erase_all s (of_key s t x key) t u a)
+-- an erase by a whole key keeps tables the same
+pub same_erase_key : (s : Shape) (x : ℕ) (key : List Value) (t u : Table) → IsWholeKey (index_at s x).parts key → SameTable s t u → SameTable s (erase_key s x key t) (erase_key s x key u)
+same_erase_key s x key t u whole a =
+    subst (λ ids. SameTable s (erase_key s x key t) (erase_all ids u)) (same_of_key s x key t u (asked (index_at s x).kind (index_at s x).parts key whole) a)
+    (same_erase_all s (of_key s t x key) t u a)

@@ -1,12 +1,17 @@
 -- Databases that show the same: look-ups answer the same in both, and so do commands, after which they show the same.
-use Rattle.std.specs.Prelude.{◌≡◌, ◌≢◌, ℕ, ◌<◌, Bool, List, [], ◌∷◌, length, IfSome}
+use Rattle.std.specs.Prelude.{◌≡◌, ◌≢◌, ℕ, ◌<◌, Bool, true, IsTrue, List, [], ◌∷◌, length, IfSome}
 use Rattle.std.specs.List.{AllByRecursion}
 use Rattle.std.specs.declared.option.Option.{Option}
 use Rattle.mi_value.specs.declared.value.Value.{Value}
 use Rattle.mi_value.specs.declared.bound.Lower.{Lower}
 use Rattle.mi_value.specs.declared.bound.Upper.{Upper}
-use Rattle.mi_catalog.specs.declared.index.IndexKind.TheVariants.{Hashed, Sequenced}
+use Rattle.mi_catalog.specs.declared.index.IndexKind.TheVariants.{Hashed}
 use Rattle.mi_catalog.specs.Shape.{Shape, CatalogShape, schema_at, index_at}
+use Rattle.mi_catalog.specs.Fitting.{IsSequencedIndex}
+use Rattle.mi_catalog.specs.Kinds.{is_hashed}
+use Rattle.mi_catalog.specs.Fits.{fits_record, fits_key}
+use Rattle.mi_catalog.specs.Rules.{is_schema}
+use Rattle.mi_model.specs.Key.{IsWholeKey, IsAskedBy}
 use Rattle.mi_model.specs.Table.{Table, get, row, size}
 use Rattle.mi_model.specs.Conflict.{conflict}
 use Rattle.mi_model.specs.Lookup.{rank, nth, lower_rank, upper_rank, find, count, lower, upper, first, last, after as row_after, before as row_before, first_of, next_of}
@@ -21,11 +26,11 @@ use Rattle.mi_model.specs.Run.Command.{Insert, Replace, Modify, Erase, EraseKey,
 abbrev pub HasWholeKey : Shape → ℕ → Table → ℕ → Type 0
 HasWholeKey s x t e = AllByRecursion (λ p. p.column < length (row t e).1) (index_at s x).parts
 
--- what is asked of every index gets one answer from both tables
+-- what is asked of every index gets one answer from both tables; a hashed one is asked by whole keys
 pub record KeyedAlike (s : Shape) (x : ℕ) (t u : Table) : Type 0 where
-  pub find : (key : List Value) → find s t x key ≡ find s u x key
-  pub count : (key : List Value) → count s t x key ≡ count s u x key
-  pub first_of : (key : List Value) → first_of s t x key ≡ first_of s u x key
+  pub find : (key : List Value) → IsAskedBy (index_at s x).kind (index_at s x).parts key → find s t x key ≡ find s u x key
+  pub count : (key : List Value) → IsAskedBy (index_at s x).kind (index_at s x).parts key → count s t x key ≡ count s u x key
+  pub first_of : (key : List Value) → IsWholeKey (index_at s x).parts key → first_of s t x key ≡ first_of s u x key
   pub next_of : (e : ℕ) → HasWholeKey s x t e → next_of s t x e ≡ next_of s u x e
 
 -- and so does what is asked of an index that isn't hashed
@@ -62,11 +67,12 @@ pub record LookUpsAlike (d e : Database) : Type 0 where
 abbrev pub LookUpsAnswerAlike : Type 0
 LookUpsAnswerAlike = (d e : Database) → SameDatabase d e → LookUpsAlike d e
 
--- the place that an insert or a relocation names is in a sequenced index
-abbrev pub NamesSequenced : CatalogShape → Command → Type 0
-NamesSequenced c (Insert n at r) = IfSome at (λ p. (index_at (schema_at c n) p.0).kind ≡ Sequenced)
-NamesSequenced c (Relocate n x e b) = (index_at (schema_at c n) x).kind ≡ Sequenced
-NamesSequenced c command = Unit {0}
+-- the place that an insert or a relocation names is in a sequenced index, and an erase by key names a whole key
+abbrev pub IsCommandOf : CatalogShape → Command → Type 0
+IsCommandOf c (Insert n at r) = IfSome at (λ p. IsSequencedIndex c n p.0)
+IsCommandOf c (EraseKey n x key) = IsWholeKey (index_at (schema_at c n) x).parts key
+IsCommandOf c (Relocate n x e b) = IsSequencedIndex c n x
+IsCommandOf c command = Unit {0}
 
 -- a command answers the same in both
 abbrev pub AnswersAlike : Command → Database → Database → Type 0
@@ -84,7 +90,7 @@ AnswersAlike UndoAll d e = (undo_all_step d).0 ≡ (undo_all_step e).0
 
 -- a command answers the same in databases that show the same, and they still do
 abbrev pub CommandsAnswerAlike : Type 0
-CommandsAnswerAlike = (c : Command) (d e : Database) → IsDatabase d → IsDatabase e → NamesSequenced d.catalog c → SameDatabase d e
+CommandsAnswerAlike = (c : Command) (d e : Database) → IsDatabase d → IsDatabase e → IsCommandOf d.catalog c → SameDatabase d e
     → AnswersAlike c d e × SameDatabase (after c d) (after c e)
 
 -- each of several commands answers the same in both, and after the last they show the same
@@ -93,5 +99,15 @@ AllAnswerAlike [] d e = SameDatabase d e
 AllAnswerAlike (c ∷ cs) d e = AnswersAlike c d e × AllAnswerAlike cs (after c d) (after c e)
 
 abbrev pub RunsAnswerAlike : Type 0
-RunsAnswerAlike = (cs : List Command) (d e : Database) → IsDatabase d → IsDatabase e → AllByRecursion (NamesSequenced d.catalog) cs → SameDatabase d e
+RunsAnswerAlike = (cs : List Command) (d e : Database) → IsDatabase d → IsDatabase e → AllByRecursion (IsCommandOf d.catalog) cs → SameDatabase d e
     → AllAnswerAlike cs d e
+
+-- a key that fits an index whole is a whole key, and one that fits it as look-ups are asked is one that it is asked by
+abbrev pub WhatFitsIsAsked : Type 0
+WhatFitsIsAsked = (s : Shape) (x : ℕ) (key : List Value)
+    → (IsTrue (fits_key s.columns (index_at s x).parts true key) → IsWholeKey (index_at s x).parts key)
+    × (IsTrue (fits_key s.columns (index_at s x).parts (is_hashed (index_at s x).kind) key) → IsAskedBy (index_at s x).kind (index_at s x).parts key)
+
+-- a record that fits has a value for each part of each index
+abbrev pub RecordsThatFitHaveWholeKeys : Type 0
+RecordsThatFitHaveWholeKeys = (s : Shape) (t : Table) (x e : ℕ) → IsTrue (is_schema s) → IsTrue (fits_record s.columns (row t e).1) → HasWholeKey s x t e

@@ -1,5 +1,5 @@
 -- The definitions at work on small tables: what commands leave and what an index then shows. Each statement is proved by computation.
-use Rattle.std.specs.Prelude.{◌≡◌, ℕ, pos, Bool, true, false, List, [], ◌∷◌, ◌++◌, codes, map}
+use Rattle.std.specs.Prelude.{◌≡◌, ℕ, pos, Bool, true, false, List, [], ◌∷◌, ◌++◌, codes, map, slice_set}
 use Rattle.std.specs.declared.option.Option.TheVariants.{None, Some}
 use Rattle.std.specs.declared.result.Result.TheVariants.{Ok, Err}
 use Rattle.mi_value.specs.declared.value.Value.{Value}
@@ -13,13 +13,14 @@ use Rattle.mi_value.specs.declared.refusal.Refusal.TheVariants.{NoId, Range, Ful
 use Rattle.mi_catalog.specs.declared.index.IndexKind.TheVariants.{Ordered, Ranked}
 use Rattle.mi_catalog.specs.Shape.{Shape, CatalogShape}
 use Rattle.mi_catalog.specs.Accounts.{accounts}
-use Rattle.mi_model.specs.Table.{Table, get, size}
+use Rattle.mi_model.specs.Table.{Table, get, size, list_of}
 use Rattle.mi_model.specs.View.{view}
 use Rattle.mi_model.specs.Verdict.{insert_outcome, modify_outcome, relocate_outcome, erase_key_outcome}
 use Rattle.mi_model.specs.Lookup.{after, before, last, first_of, next_of, rank, nth, lower_rank, upper_rank, find, count}
 use Rattle.mi_model.specs.Page.{range}
 use Rattle.mi_model.specs.Database.{Database, opened_database, table_of, on_table, depth, undo_step, commit_step, undo_all_step}
 use Rattle.mi_model.specs.Run.{Command, run}
+use Rattle.mi_model.specs.Same.{SameTable}
 use Rattle.mi_model.specs.Footprint.{kept_after}
 use Rattle.mi_model.specs.Run.Command.{Insert, Replace, Modify, Erase, EraseKey, Relocate, Start, Undo, Squash, Commit, UndoAll}
 
@@ -246,3 +247,13 @@ both_from_zero = run (Insert 0 None (number 1) ∷ Insert 1 None (Text (codes "x
 
 abbrev pub OneIdInTwoTables : Type 0
 OneIdInTwoTables = (get (table_of both_from_zero 0) 0 ≡ None) × (get (table_of both_from_zero 1) 0 ≡ Some (Text (codes "x") ∷ [])) × (size (table_of both_from_zero 1) ≡ 1)
+
+-- two rows of different keys, in either order in the list of a hashed index
+abbrev pub one_vip : Table
+one_vip = table (ins (codes "a") 1 true ∷ ins (codes "b") 2 false ∷ [])
+
+abbrev pub one_vip_later : Table
+one_vip_later = record one_vip { lists = slice_set one_vip.lists 3 (1 ∷ 0 ∷ []) }
+
+abbrev pub KeysOfAHashedIndexHaveNoOrder : Type 0
+KeysOfAHashedIndexHaveNoOrder = (list_of one_vip 3 ≡ 0 ∷ 1 ∷ []) × (list_of one_vip_later 3 ≡ 1 ∷ 0 ∷ []) × SameTable accounts one_vip one_vip_later

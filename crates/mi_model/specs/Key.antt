@@ -1,10 +1,12 @@
 -- How rows and keys compare by the parts of an index.
-use Rattle.std.specs.Prelude.{ℕ, pos, false, List, [], ◌∷◌}
+use Rattle.std.specs.Prelude.{◌≡◌, ℕ, pos, false, List, [], ◌∷◌, length}
 use Rattle.std.specs.declared.cmp.Ordering.{Ordering}
 use Rattle.mi_value.specs.declared.value.Value.{Value}
 use Rattle.mi_value.specs.declared.value.Value.TheVariants.{Int}
 use Rattle.mi_value.specs.declared.compare.KeyPart.{KeyPart}
 use Rattle.mi_value.specs.Order.{compare_key, compare_prefix}
+use Rattle.mi_catalog.specs.declared.index.IndexKind.{IndexKind}
+use Rattle.mi_catalog.specs.declared.index.IndexKind.TheVariants.{Hashed}
 
 -- a row: its id and its record
 abbrev pub Row : Type 0
@@ -27,3 +29,12 @@ compare_rows ps a b = compare_key (parts_or_id ps) (record_or_id ps a) (record_o
 -- a key, or the first values of one, against the key of a row
 abbrev pub compare_to_row : List KeyPart → List Value → Row → Ordering
 compare_to_row ps key row = compare_prefix (parts_or_id ps) key (record_or_id ps row)
+
+-- a key with one value for each part; that of an index without parts is the id
+abbrev pub IsWholeKey : List KeyPart → List Value → Type 0
+IsWholeKey ps key = length key ≡ length (parts_or_id ps)
+
+-- a hashed index is asked by whole keys alone, any other also by the first values of a key
+abbrev pub IsAskedBy : IndexKind → List KeyPart → List Value → Type 0
+IsAskedBy Hashed ps key = IsWholeKey ps key
+IsAskedBy kind ps key = Unit {0}

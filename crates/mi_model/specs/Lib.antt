@@ -10,6 +10,7 @@ pub mod Database
 pub mod Same
 pub mod Steps
 pub mod Run
+pub mod OneTable
 pub mod Sessions
 pub mod Unique
 pub mod Alike
@@ -19,3 +20,4 @@ pub mod Examples
 -- What these definitions say of schemas.
 pub use Rattle.mi_catalog.specs.Shape
 pub use Rattle.mi_catalog.specs.Kinds
+pub use Rattle.mi_catalog.specs.Fitting

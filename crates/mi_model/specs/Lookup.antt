@@ -1,12 +1,14 @@
 -- What the look-ups answer. A rank is the number of rows before.
-use Rattle.std.specs.Prelude.{ℕ, ◌+◌, zero, suc, ◌==◌, List, length, slice_get}
-use Rattle.std.specs.List.{filter, count_by, position_or_len}
-use Rattle.std.specs.Ordering.{is_eq, is_gt, is_ge}
+use Rattle.std.specs.Prelude.{◌≡◌, ℕ, ◌+◌, zero, suc, true, IsTrue, ◌==◌, List, length, slice_get}
+use Rattle.std.specs.List.{filter, count_by, position_or_len, before_first}
+use Rattle.std.specs.Ordering.{is_lt, is_eq, is_gt, is_ge}
 use Rattle.std.specs.declared.option.Option.{Option}
 use Rattle.std.specs.declared.option.Option.TheVariants.{None}
 use Rattle.mi_value.specs.declared.value.Value.{Value}
 use Rattle.mi_catalog.specs.Shape.{Shape, index_at}
-use Rattle.mi_model.specs.Table.{Table}
+use Rattle.mi_catalog.specs.Kinds.{is_sorted}
+use Rattle.mi_model.specs.Key.{compare_rows}
+use Rattle.mi_model.specs.Table.{Table, IsTable, has, row, list_of}
 use Rattle.mi_model.specs.View.{view, of_key, compare_ids, compare_to_id}
 
 -- the number of ids before e
@@ -71,3 +73,9 @@ first_of = find
 
 abbrev pub next_of : Shape → Table → ℕ → ℕ → Option ℕ
 next_of s t x e = after_in (filter (λ id. is_eq (compare_ids (index_at s x) t e id)) (view s t x)) e
+
+-- the rank of a row is the number of rows of a smaller key, and of those of the same key that stand earlier in the index's list
+abbrev pub RanksCountRows : Type 0
+RanksCountRows = (s : Shape) (t : Table) (x e : ℕ) → IsTable s t → IsTrue (is_sorted (index_at s x).kind) → has t e ≡ true
+    → rank s t x e ≡ count_by (λ r. is_lt (compare_rows (index_at s x).parts r (row t e))) t.rows
+    + count_by (λ id. is_eq (compare_ids (index_at s x) t id e)) (before_first (λ id. id == e) (list_of t x))

@@ -5,13 +5,14 @@ use Rattle.mi_value.specs.declared.value.Value.{Value}
 use Rattle.mi_catalog.specs.declared.index.IndexKind.{IndexKind}
 use Rattle.mi_catalog.specs.declared.index.IndexKind.TheVariants.{Hashed}
 use Rattle.mi_catalog.specs.Shape.{Shape, index_at}
+use Rattle.mi_model.specs.Key.{IsWholeKey}
 use Rattle.mi_model.specs.Table.{Table}
 use Rattle.mi_model.specs.View.{view, of_key}
 use Rattle.mi_model.specs.Database.{Database}
 
--- a hashed index shows the same for each key, and any other the same list
+-- a hashed index shows the same for each whole key, and any other the same list
 abbrev pub SameView : IndexKind → Shape → ℕ → Table → Table → Type 0
-SameView Hashed s x t u = (key : List Value) → of_key s t x key ≡ of_key s u x key
+SameView Hashed s x t u = (key : List Value) → IsWholeKey (index_at s x).parts key → of_key s t x key ≡ of_key s u x key
 SameView kind s x t u = view s t x ≡ view s u x
 
 pub record SameTable (s : Shape) (t u : Table) : Type 0 where

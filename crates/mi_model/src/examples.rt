@@ -125,3 +125,8 @@ pub fn neighbours_of_one_key()
 pub fn one_id_in_two_tables()
     ensures { example.OneIdInTwoTables }
 {}
+
+/// Tables that differ in how keys of a hashed index stand among one another are the same.
+pub fn keys_of_a_hashed_index_have_no_order()
+    ensures { example.KeysOfAHashedIndexHaveNoOrder }
+{}

@@ -6,3 +6,5 @@ pub mod Parsing
 pub mod RefusalLemmas
 pub mod ReplyLemmas
 pub mod RowLemmas
+pub mod FirstTableLaws
+pub mod EditOrderLaws

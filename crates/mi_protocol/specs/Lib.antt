@@ -1,7 +1,9 @@
 pub mod Answers
 pub mod Binding
 pub mod Commands
+pub mod EditOrder
 pub mod Edits
+pub mod FirstTable
 pub mod Json
 pub mod Keys
 pub mod Lines

@@ -23,7 +23,7 @@ mod text;
 pub use array::Array;
 pub use binding::{Command, bind};
 pub use edits::Edits;
-pub use laws::replies_are_compact_json;
+pub use laws::{lines_edit_columns_once, lines_without_a_table, replies_are_compact_json};
 pub use object::Object;
 pub use reply::Reply;
 pub use request::{End, Place, Request, parse_line};

@@ -4,7 +4,7 @@ ghost use Rattle.arrayvec.specs.ArrayVec.{array_vec_len};
 ghost use Rattle.mi_value.specs.declared.limits.TheConstants.{MAX_NAME, SHORT_REPLY};
 ghost use Rattle.mi_protocol.specs.Replies as replies;
 ghost use Rattle.mi_protocol.specs.Replies.{reply_text, said, is_short, index_name, IsSaidOf, IsRefusalOf};
-ghost use Rattle.mi_protocol.specs.Text.{text_bytes};
+ghost use Rattle.mi_protocol.specs.Text.{text_bytes, is_short_text};
 
 use crate::row::{row_text, rows_text};
 use crate::text::ReplyText;
@@ -81,7 +81,8 @@ fn put(out: &mut ArrayVec<u8, SHORT_REPLY>, bytes: &[u8])
 /// A text with a part in it that is given.
 fn short(before: &[u8], part: &[u8], after: &[u8]) -> ReplyText
     requires { length before.now + length part.now + length after.now ≤ SHORT_REPLY }
-    ensures { text_bytes result ≡ before.now ++ part.now ++ after.now }
+    ensures text { text_bytes result ≡ before.now ++ part.now ++ after.now }
+    ensures form { is_short_text result ≡ true }
 {
     let mut out = ArrayVec::new();
     put(&mut out, before);
@@ -93,7 +94,8 @@ fn short(before: &[u8], part: &[u8], after: &[u8]) -> ReplyText
 /// A text with a number in it.
 fn short_number(before: &[u8], n: u64, after: &[u8]) -> ReplyText
     requires { length before.now + length after.now + 20 ≤ SHORT_REPLY }
-    ensures { text_bytes result ≡ before.now ++ decimal n ++ after.now }
+    ensures text { text_bytes result ≡ before.now ++ decimal n ++ after.now }
+    ensures form { is_short_text result ≡ true }
 {
     let mut buffer = Buffer::new();
     short(before, buffer.format(n).as_bytes(), after)
@@ -103,7 +105,8 @@ fn short_number(before: &[u8], n: u64, after: &[u8]) -> ReplyText
 fn conflict(id: u64, index: &str, after: &[u8]) -> ReplyText
     requires index { length index.now ≤ MAX_NAME }
     requires after { length after.now ≤ 32 }
-    ensures { text_bytes result ≡ codes "{\"error\":\"unique\",\"id\":" ++ decimal id ++ codes ",\"index\":\"" ++ index.now ++ after.now }
+    ensures text { text_bytes result ≡ codes "{\"error\":\"unique\",\"id\":" ++ decimal id ++ codes ",\"index\":\"" ++ index.now ++ after.now }
+    ensures form { is_short_text result ≡ true }
 {
     let mut buffer = Buffer::new();
     let mut out = ArrayVec::new();
@@ -117,7 +120,8 @@ fn conflict(id: u64, index: &str, after: &[u8]) -> ReplyText
 
 /// The text of the sessions that are open and that are held, and of the revision.
 fn status(depth: u64, held: u64, revision: u64) -> ReplyText
-    ensures { text_bytes result ≡ codes "{\"depth\":" ++ decimal depth ++ codes ",\"held\":" ++ decimal held ++ codes ",\"ok\":true,\"revision\":" ++ decimal revision ++ codes "}" }
+    ensures text { text_bytes result ≡ codes "{\"depth\":" ++ decimal depth ++ codes ",\"held\":" ++ decimal held ++ codes ",\"ok\":true,\"revision\":" ++ decimal revision ++ codes "}" }
+    ensures form { is_short_text result ≡ true }
 {
     let mut out = ArrayVec::new();
     put(&mut out, b"{\"depth\":");
@@ -133,7 +137,8 @@ fn status(depth: u64, held: u64, revision: u64) -> ReplyText
 /// The text of a refusal. It takes no memory.
 fn refusal_text(catalog: &Catalog, table: usize, refusal: Refusal) -> ReplyText
     requires { IsRefusalOf catalog.now table refusal }
-    ensures { text_bytes result ≡ replies.refusal_text catalog.now table refusal }
+    ensures text { text_bytes result ≡ replies.refusal_text catalog.now table refusal }
+    ensures form { is_short_text result ≡ true }
 {
     match refusal {
         Refusal::Unique { index, id } => {
@@ -155,7 +160,8 @@ fn refusal_text(catalog: &Catalog, table: usize, refusal: Refusal) -> ReplyText
 /// The text of a modify's refusal, which says of a conflict whether the record is lost. It takes no memory.
 fn modify_refusal_text(catalog: &Catalog, table: usize, refusal: Refusal) -> ReplyText
     requires { IsRefusalOf catalog.now table refusal }
-    ensures { text_bytes result ≡ replies.modify_refusal_text catalog.now table refusal }
+    ensures text { text_bytes result ≡ replies.modify_refusal_text catalog.now table refusal }
+    ensures form { is_short_text result ≡ true }
 {
     match refusal {
         Refusal::Unique { index, id } => {
@@ -167,12 +173,14 @@ fn modify_refusal_text(catalog: &Catalog, table: usize, refusal: Refusal) -> Rep
 }
 
 impl Reply<'_> {
-    /// The text of a reply, without a newline. Its table, and the index of a conflict, are in the catalog. It answers
-    /// `Memory` where a growth is refused; a reply that shows no rows takes no memory.
+    /// The text of a reply, without a newline. Its table, and the index of a conflict, are in the catalog. It is `Long`
+    /// exactly where the reply shows rows; such a one answers `Memory` where a growth is refused, every other is `Short`
+    /// and takes no memory.
     pub fn text(&self, alloc: Global, catalog: &Catalog) -> Result<ReplyText, Refusal>
         requires { IsSaidOf catalog.now (said self.now) }
         ensures text { IfOk result (λ t. text_bytes t ≡ reply_text catalog.now (said self.now)) }
         ensures short { is_short (said self.now) ≡ true → IsOk result }
+        ensures form { IfOk result (λ t. is_short_text t ≡ is_short (said self.now)) }
         ensures memory { IfErr result (λ e. e ≡ Refusal.Memory) }
     {
         match self {

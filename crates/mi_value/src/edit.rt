@@ -47,7 +47,8 @@ fn edit_one(alloc: Global, row: &mut Record, edit: &Edit) -> Result<(), Refusal>
     }
 }
 
-/// The record after these edits, one after another.
+/// The record after these edits, one after another; where no column is named twice their order doesn't matter
+/// (`laws::edits_in_any_order`).
 ///
 /// Refusals: `Range` exactly where a sum leaves -2^63 to 2^63 - 1 (or the column holds no number, which no edit that fits
 /// the columns asks), and `Memory`.
