@@ -16,7 +16,6 @@ pub mod Unique
 pub mod Alike
 pub mod Footprint
 pub mod Examples
-
 -- What these definitions say of schemas.
 pub use Rattle.mi_catalog.specs.Shape
 pub use Rattle.mi_catalog.specs.Kinds
