@@ -5,8 +5,9 @@ use Rattle.std.specs.declared.option.Option.{Option}
 use Rattle.mi_value.specs.declared.value.Value.{Value}
 use Rattle.mi_value.specs.declared.bound.Lower.{Lower}
 use Rattle.mi_value.specs.declared.bound.Upper.{Upper}
-use Rattle.mi_catalog.specs.declared.index.IndexKind.TheVariants.{Hashed, Sequenced}
+use Rattle.mi_catalog.specs.declared.index.IndexKind.TheVariants.{Hashed}
 use Rattle.mi_catalog.specs.Shape.{Shape, CatalogShape, schema_at, index_at}
+use Rattle.mi_catalog.specs.Fitting.{IsSequencedIndex}
 use Rattle.mi_catalog.specs.Kinds.{is_hashed}
 use Rattle.mi_catalog.specs.Fits.{fits_record, fits_key}
 use Rattle.mi_catalog.specs.Rules.{is_schema}
@@ -68,9 +69,9 @@ LookUpsAnswerAlike = (d e : Database) → SameDatabase d e → LookUpsAlike d e
 
 -- the place that an insert or a relocation names is in a sequenced index, and an erase by key names a whole key
 abbrev pub IsCommandOf : CatalogShape → Command → Type 0
-IsCommandOf c (Insert n at r) = IfSome at (λ p. (index_at (schema_at c n) p.0).kind ≡ Sequenced)
+IsCommandOf c (Insert n at r) = IfSome at (λ p. IsSequencedIndex c n p.0)
 IsCommandOf c (EraseKey n x key) = IsWholeKey (index_at (schema_at c n) x).parts key
-IsCommandOf c (Relocate n x e b) = (index_at (schema_at c n) x).kind ≡ Sequenced
+IsCommandOf c (Relocate n x e b) = IsSequencedIndex c n x
 IsCommandOf c command = Unit {0}
 
 -- a command answers the same in both

@@ -16,7 +16,7 @@ pub mod Unique
 pub mod Alike
 pub mod Footprint
 pub mod Examples
-
 -- What these definitions say of schemas.
 pub use Rattle.mi_catalog.specs.Shape
 pub use Rattle.mi_catalog.specs.Kinds
+pub use Rattle.mi_catalog.specs.Fitting

@@ -41,7 +41,7 @@ use Rattle.mi_protocol.specs.declared.request.Place.{Place}
 use Rattle.mi_protocol.specs.declared.request.Request.{Request}
 use Rattle.mi_protocol.specs.declared.request.Request.TheVariants as request
 use Rattle.mi_protocol.specs.declared.binding.Command.{Command}
-use Rattle.mi_protocol.proofs.EditLemmas.{edited_once}
+use Rattle.mi_protocol.proofs.EditOrderLaws.{lines_edit_columns_once}
 
 -- ---- a row
 
@@ -147,12 +147,15 @@ both-fit : (cs : List Column) (r : Option (List Edit)) → IfSome r (λ es. list
 both-fit cs None h once = tt
 both-fit cs (Some es) h once = (h, once)
 
-edits-fit : (cs : List Column) (set add : Members) → IfSome (bound_edits cs set add) (AreEdits cs)
-edits-fit cs set add = by_test (has_only (map (λ c. c.name) cs) set && has_only (map (λ c. c.name) cs) add)
+each-fits : (cs : List Column) (set add : Members) → IfSome (bound_edits cs set add) (λ es. list_all (fits_edit cs) es ≡ true)
+each-fits cs set add = by_test (has_only (map (λ c. c.name) cs) set && has_only (map (λ c. c.name) cs) add)
   where
-    by_test : (b : Bool) → IfSome (cond b (edits_from 0 cs set add) None) (AreEdits cs)
-    by_test true = both-fit cs (edits_from 0 cs set add) (from-fit cs 0 cs set add refl) (edited_once 0 cs set add)
+    by_test : (b : Bool) → IfSome (cond b (edits_from 0 cs set add) None) (λ es. list_all (fits_edit cs) es ≡ true)
+    by_test true = from-fit cs 0 cs set add refl
     by_test false = tt
+
+edits-fit : (cs : List Column) (set add : Members) → IfSome (bound_edits cs set add) (AreEdits cs)
+edits-fit cs set add = both-fit cs (bound_edits cs set add) (each-fits cs set add) (lines_edit_columns_once cs set add)
 
 -- ---- one after another
 

@@ -3,7 +3,6 @@ pub mod Members
 pub mod Words
 pub mod Checks
 pub mod Reading
-
 -- What a schema is.
 pub use Rattle.mi_catalog.specs.Shape
 pub use Rattle.mi_catalog.specs.Kinds
