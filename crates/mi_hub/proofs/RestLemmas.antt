@@ -41,7 +41,7 @@ module _ (conn : ℕ) (r : Rest) where
       let at : rest_at conn old.attached ≡ Some p.0 = ap (λ k. rest_at k old.attached) (sym e) ∙ p.1 in
       let kept = same_some (sym at ∙ here) in
       ap (rest_at conn) p.3 ∙ ap (λ k. rest_at conn (with_rest k (rest_from p.0 bytes) old.attached)) e
-          ∙ rest_at-with_rest conn (rest_from p.0 bytes) p.0 old.attached at ∙ ap (λ q. Some (rest_from q bytes)) kept
+      ∙ rest_at-with_rest conn (rest_from p.0 bytes) p.0 old.attached at ∙ ap (λ q. Some (rest_from q bytes)) kept
   own_piece c bytes out old mid is here (inr p) =
       absurd (not_refused c bytes r p.0 old (ap (λ k. rest_at k old.attached) (same c conn is) ∙ here) p.1)
 

@@ -9,7 +9,7 @@ pub front_goes : (a b c : Option (List ℕ)) (gathered left : List ℕ) (sent n 
     → Keeps a (append_known c (drop (sent + n) gathered))
 front_goes a b c gathered left sent n is kept taken =
     let parts : drop sent gathered ≡ take n left ++ drop (sent + n) gathered =
-        sym (take-append-drop n (drop sent gathered)) ∙ ap (λ t. take n (drop sent gathered) ++ t) (drop-drop n sent gathered) ∙ ap (λ t. take n t ++ drop (sent + n) gathered) (sym is) in
+    sym (take-append-drop n (drop sent gathered)) ∙ ap (λ t. take n (drop sent gathered) ++ t) (drop-drop n sent gathered) ∙ ap (λ t. take n t ++ drop (sent + n) gathered) (sym is) in
     Keeps-trans a (append_known b (drop sent gathered)) (append_known c (drop (sent + n) gathered)) kept
     (append_known-moved b c (take n left) (drop (sent + n) gathered) (drop sent gathered) taken parts)
 

@@ -59,7 +59,9 @@ impl Read for Asker<'_> {
         let (front, _) = piece.split_at(count);
         buf[..count].copy_from_slice(front);
         self.pieces = later;
-        self.talk.asked.set(self.talk.asked.get().saturating_add(lines(front)));
+        self.talk
+            .asked
+            .set(self.talk.asked.get().saturating_add(lines(front)));
         Ok(count)
     }
 }
@@ -72,7 +74,9 @@ struct Teller<'a> {
 
 impl Write for Teller<'_> {
     fn write(&mut self, buf: &[u8]) -> io::Result<usize> {
-        self.talk.written.set(self.talk.written.get().saturating_add(lines(buf)));
+        self.talk
+            .written
+            .set(self.talk.written.get().saturating_add(lines(buf)));
         Ok(buf.len())
     }
 
@@ -236,7 +240,11 @@ fn connections_are_answered(rt: HostRuntime) -> Result<(), Fail> {
         assert_eq!(rt; serve_listener(rt.alloc(), &mut hub, &calls, 5), served);
         for (i, talk) in talks.iter().enumerate() {
             let is_gone = i == 2 && third == 1;
-            assert_eq!(rt; talk.flushed.get(), if is_gone { 2 } else { 4 }, "client {i}");
+            assert_eq!(rt;
+                talk.flushed.get(),
+                if is_gone { 2 } else { 4 },
+                "client {i}"
+            );
         }
         assert_eq!(rt; hub.database().depth(), 0);
         assert_eq!(rt; hub.database().revision(), 0);
@@ -252,13 +260,17 @@ fn long_pages_are_shown(rt: HostRuntime) -> Result<(), Fail> {
         let mut want = String::new(rt.alloc());
         let mut rows = String::new(rt.alloc());
         for id in 0..count {
-            let line = format!(in rt.alloc(); "{{\"cmd\":\"insert\",\"row\":{{\"owner\":\"o{id}\",\"balance\":7,\"vip\":true}}}}\n")?;
+            let line = format!(in rt.alloc();
+                "{{\"cmd\":\"insert\",\"row\":{{\"owner\":\"o{id}\",\"balance\":7,\"vip\":true}}}}\n"
+            )?;
             input.push_str(line.as_str())?;
             let reply = format!(in rt.alloc(); "{{\"id\":{id},\"ok\":true}}\n")?;
             want.push_str(reply.as_str())?;
             if id < 500 {
                 let comma = if id > 0 { "," } else { "" };
-                let row = format!(in rt.alloc(); "{comma}{{\"balance\":7,\"id\":{id},\"owner\":\"o{id}\",\"vip\":true}}")?;
+                let row = format!(in rt.alloc();
+                    "{comma}{{\"balance\":7,\"id\":{id},\"owner\":\"o{id}\",\"vip\":true}}"
+                )?;
                 rows.push_str(row.as_str())?;
             }
         }
@@ -267,7 +279,13 @@ fn long_pages_are_shown(rt: HostRuntime) -> Result<(), Fail> {
         let page = format!(in rt.alloc(); "{{\"more\":{more},\"ok\":true,\"rows\":[{rows}]}}\n")?;
         want.push_str(page.as_str())?;
         let (mut output, mut errors) = (Vec::new(rt.alloc()), Vec::new(rt.alloc()));
-        let status = run(&rt, &["mi_server"], input.as_bytes(), &mut output, &mut errors);
+        let status = run(
+            &rt,
+            &["mi_server"],
+            input.as_bytes(),
+            &mut output,
+            &mut errors,
+        );
         assert_eq!(rt; status, 0);
         assert_eq!(rt; output.as_slice(), want.as_bytes(), "{count} rows");
     }

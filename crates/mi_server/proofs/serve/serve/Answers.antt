@@ -43,7 +43,7 @@ returns-clause-write g c = λ is.
       p.4,
       p.5,
       subst
-      (λ s. DoneToFault s (piece 1 p.0 ∷ []) (piece 1 p.1) p.2 new
+          (λ s. DoneToFault s (piece 1 p.0 ∷ []) (piece 1 p.1) p.2 new
           ⊎ (IsAtEnd (g.R.Read.remaining (watched c.serve_stream.new.reader)) × (p.1 ≡ []) × DoneToFault s (piece 1 p.0 ∷ []) (close 1) p.2 new)) come p.6,
       (c.in-Err.ensures.write_failed fault).0,
     )
