@@ -1,10 +1,9 @@
 -- What a run leaves of a connection that stays: the rest of all its bytes joined.
-use Rattle.std.proofs.Common.{◌≡◌, ◌⊎◌, ℕ, List, [], ◌∷◌, ◌++◌, Bool, true, false, cond, nat_eq, Some, None, refl, sym, ap, ◌∙◌, subst, append-nil, inl, inr, arith}
-use Rattle.mi_hub.specs.declared.fault.HubFault.{HubFault}
+use Rattle.std.proofs.Common.{◌≡◌, ◌⊎◌, ℕ, List, [], ◌∷◌, ◌++◌, Bool, true, false, cond, nat_eq, Some, refl, sym, ap, ◌∙◌, append-nil, inl, inr, arith}
 use Rattle.mi_hub.specs.Ended.{ended}
-use Rattle.mi_hub.specs.Lines.{Rest, rest_of, rest_from}
+use Rattle.mi_hub.specs.Lines.{Rest, rest_from}
 use Rattle.mi_hub.specs.Connections.{rest_at, with_rest}
-use Rattle.mi_hub.specs.Run.{HubState, Event, attach, piece, close, cut, Done, Refused, Step, Run}
+use Rattle.mi_hub.specs.Run.{HubState, Event, attach, piece, close, cut, Step, Run}
 use Rattle.mi_hub.specs.RunLaws.{bytes_of, Stays, RestOfAllBytes}
 use Rattle.mi_hub.proofs.LineLemmas.{cut_in_two, rest_from-nothing}
 use Rattle.mi_hub.proofs.ConnectionLemmas.{rest_at-with_rest, rest_at-others, rest_at-with_other, rest_at-append, rest_at-last}
@@ -41,7 +40,7 @@ module _ (conn : ℕ) (r : Rest) where
       let at : rest_at conn old.attached ≡ Some p.0 = ap (λ k. rest_at k old.attached) (sym e) ∙ p.1 in
       let kept = same_some (sym at ∙ here) in
       ap (rest_at conn) p.3 ∙ ap (λ k. rest_at conn (with_rest k (rest_from p.0 bytes) old.attached)) e
-          ∙ rest_at-with_rest conn (rest_from p.0 bytes) p.0 old.attached at ∙ ap (λ q. Some (rest_from q bytes)) kept
+      ∙ rest_at-with_rest conn (rest_from p.0 bytes) p.0 old.attached at ∙ ap (λ q. Some (rest_from q bytes)) kept
   own_piece c bytes out old mid is here (inr p) =
       absurd (not_refused c bytes r p.0 old (ap (λ k. rest_at k old.attached) (same c conn is) ∙ here) p.1)
 
