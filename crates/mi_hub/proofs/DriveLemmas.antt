@@ -1,9 +1,9 @@
 -- One event more behind those that were done, and the first that wasn't.
-use Rattle.std.proofs.Common.{◌≡◌, ℕ, ◌+◌, ◌<◌, List, [], ◌∷◌, ◌++◌, length, map, take, get_or, Some, refl, sym, ap, ◌∙◌, subst}
-use Rattle.std.specs.Prelude.{slice_get, option_map}
+use Rattle.std.proofs.Common.{◌≡◌, ℕ, ◌+◌, ◌<◌, List, [], ◌∷◌, ◌++◌, length, map, take, get_or, refl, sym, ap, ◌∙◌, subst}
+use Rattle.std.specs.Prelude.{option_map}
 use Rattle.std.proofs.lemmas.List.{take-map, map_more}
 use Rattle.std.proofs.lemmas.Option.{slice_get-map, slice_get_read}
-use Rattle.mi_hub.specs.Run.{HubState, Event, Done, AllDone}
+use Rattle.mi_hub.specs.Run.{HubState, Done, AllDone}
 use Rattle.mi_hub.specs.Drive.{event_of, NotDone, Stopped}
 use Rattle.mi_hub.specs.declared.events.Event.{Event as Given}
 use Rattle.mi_hub.specs.declared.fault.HubFault.{HubFault}

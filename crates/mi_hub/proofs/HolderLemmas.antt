@@ -1,8 +1,7 @@
 -- Whoever holds sessions is attached: each answer keeps that, and so does each event.
-use Rattle.std.proofs.Common.{◌≡◌, ◌⊎◌, ℕ, ◌-◌, min, List, [], ◌∷◌, ◌++◌, Bool, true, false, ◌&&◌, cond, nat_eq, nat_le, get_or, set, remove, Option, Some, None, IsSome, is_some, Result, Ok, Err, refl, sym, ap, ◌∙◌, subst, inl, inr, arith}
+use Rattle.std.proofs.Common.{◌≡◌, ℕ, ◌-◌, min, List, [], ◌∷◌, ◌++◌, Bool, true, false, ◌&&◌, cond, nat_eq, nat_le, get_or, set, remove, Option, Some, None, IsSome, is_some, Result, Ok, Err, OnOk, OnErr, refl, sym, ap, ◌∙◌, subst, inl, inr, arith}
 use Rattle.mi_value.specs.declared.refusal.Refusal.{Refusal}
 use Rattle.mi_value.specs.declared.refusal.Refusal.TheVariants.{Busy}
-use Rattle.mi_model.specs.Database.{Database}
 use Rattle.mi_protocol.specs.Lines.{command_line}
 use Rattle.mi_protocol.specs.Commands.{keeps_out}
 use Rattle.mi_protocol.specs.Binding.{bound_command}
@@ -18,7 +17,9 @@ use Rattle.mi_hub.specs.Connections.{rest_at, with_rest, others, holder_is_attac
 use Rattle.mi_hub.specs.Places.{StandsAt}
 use Rattle.mi_hub.specs.declared.holder.Holder.{Holder}
 use Rattle.mi_hub.specs.declared.connection.Connection.{Connection}
-use Rattle.mi_hub.proofs.ConnectionLemmas.{rest_at-others, some_with_rest, some_append}
+use Rattle.mi_hub.specs.Run.{HubState}
+use Rattle.mi_hub.proofs.ConnectionLemmas.{rest_at-others, some_with_rest, some_append, others-with_rest}
+use Rattle.mi_hub.proofs.RunLemmas.{element, remove-set}
 
 -- ---- the moves of the holder
 
@@ -127,3 +128,37 @@ more_attached (Some x) cs ds h = some_append x.conn cs ds h
 pub another_rest : (conn : ℕ) (r : Rest) (o : Option Holder) (cs : List Connection) → holder_is_attached o cs ≡ true → holder_is_attached o (with_rest conn r cs) ≡ true
 another_rest conn r None cs h = refl
 another_rest conn r (Some x) cs h = some_with_rest x.conn conn r cs ∙ h
+
+-- ---- the hub's own calls: its fields, and the state that they are
+
+pub pushed_holder : (b : Bool) (o : Option Holder) (cs ds new : List Connection) → new ≡ cond b (cs ++ ds) cs → holder_is_attached o cs ≡ true → holder_is_attached o new ≡ true
+pushed_holder true o cs ds new is h = ap (holder_is_attached o) is ∙ more_attached o cs ds h
+pushed_holder false o cs ds new is h = ap (holder_is_attached o) is ∙ h
+
+module _ (conn at : ℕ) (old : HubState) (h : Held) (cs : List Connection) (view : record { held = h; attached = cs } ≡ old) where
+  pub left_holder : (new : Held) (ds : List Connection) → remove old.attached at ≡ others conn old.attached → holder_is_attached h.holder cs ≡ true
+      → new ≡ released conn h → ds ≡ remove cs at → holder_is_attached new.holder ds ≡ true
+  left_holder new ds there kept left removed =
+      let gone = subst (λ (s : HubState). remove s.attached at ≡ others conn s.attached) (sym view) there in
+      ap (λ (u : Held). holder_is_attached u.holder ds) left
+      ∙ ap (holder_is_attached (without_holder conn h.holder)) (removed ∙ gone) ∙ gone_holder conn h.holder cs kept
+
+  module _ (stands : StandsAt conn at old.attached) where
+    stands_here : StandsAt conn at cs
+    stands_here = subst (λ (s : HubState). StandsAt conn at s.attached) (sym view) stands
+
+    pub lines_holder : {T E : Type 0} (W V : List ℕ → Type 0) (new : Held) (lines : List Asked) (r : Result T E)
+        → OnOk r ((out : List ℕ) × W out × Served (MayGive conn) h lines out new) → OnErr r ((out : List ℕ) × V out × CutOff (MayGive conn) h lines out new)
+        → holder_is_attached h.holder cs ≡ true → holder_is_attached new.holder cs ≡ true
+    lines_holder W V new lines (Ok v) ok err kept = served_holder cs conn (ap is_some (stands_here.rest (record { id = 0; rest = None }))) lines ok.0 h new ok.2 kept
+    lines_holder W V new lines (Err e) ok err kept = cut_holder cs conn (ap is_some (stands_here.rest (record { id = 0; rest = None }))) lines err.0 h new err.2 kept
+
+    module _ (x : Connection) (is : x ≡ get_or cs at x) (kept_rest : Rest) where
+      another : set cs at (record { id = x.id; rest = kept_rest }) ≡ with_rest conn kept_rest cs
+      another = ap (λ n. set cs at (record { id = n; rest = kept_rest })) (element conn at cs x stands_here is).0 ∙ stands_here.written kept_rest
+
+      pub fed_holder : (o : Option Holder) → holder_is_attached o cs ≡ true → holder_is_attached o (set cs at (record { id = x.id; rest = kept_rest })) ≡ true
+      fed_holder o kept = ap (holder_is_attached o) another ∙ another_rest conn kept_rest o cs kept
+
+      pub fed_leaves : remove (set cs at (record { id = x.id; rest = kept_rest })) at ≡ others conn (set cs at (record { id = x.id; rest = kept_rest }))
+      fed_leaves = remove-set cs at (record { id = x.id; rest = kept_rest }) ∙ stands_here.removed ∙ sym (ap (others conn) another ∙ others-with_rest conn kept_rest cs)

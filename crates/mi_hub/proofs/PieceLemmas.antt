@@ -6,7 +6,7 @@ use Rattle.mi_hub.specs.Lines.{Rest, extended, lines_from, rest_from}
 use Rattle.mi_hub.specs.Connections.{rest_at, with_rest, others}
 use Rattle.mi_hub.specs.Answer.{MayGive}
 use Rattle.mi_hub.specs.Served.{Served}
-use Rattle.mi_hub.specs.Run.{HubState, Event, piece, close, cut, Done, Failed, Refused, Step, OneByOne, Run, AllDone, Unflushed, Unsent, DoneToFault}
+use Rattle.mi_hub.specs.Run.{HubState, Event, piece, close, cut, Done, Refused, Step, OneByOne, Run, AllDone, Unsent, DoneToFault}
 use Rattle.mi_hub.specs.RunLaws.{PiecesCutInTwo}
 use Rattle.mi_hub.proofs.LineLemmas.{cut_in_two, from_unended, ended_nil}
 use Rattle.mi_hub.proofs.ServedLemmas.{served_none, served_more, served_split}

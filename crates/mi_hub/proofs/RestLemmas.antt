@@ -1,10 +1,9 @@
 -- What a run leaves of a connection that stays: the rest of all its bytes joined.
-use Rattle.std.proofs.Common.{◌≡◌, ◌⊎◌, ℕ, List, [], ◌∷◌, ◌++◌, Bool, true, false, cond, nat_eq, Some, None, refl, sym, ap, ◌∙◌, subst, append-nil, inl, inr, arith}
-use Rattle.mi_hub.specs.declared.fault.HubFault.{HubFault}
+use Rattle.std.proofs.Common.{◌≡◌, ◌⊎◌, ℕ, List, [], ◌∷◌, ◌++◌, Bool, true, false, cond, nat_eq, Some, refl, sym, ap, ◌∙◌, append-nil, inl, inr, arith}
 use Rattle.mi_hub.specs.Ended.{ended}
-use Rattle.mi_hub.specs.Lines.{Rest, rest_of, rest_from}
+use Rattle.mi_hub.specs.Lines.{Rest, rest_from}
 use Rattle.mi_hub.specs.Connections.{rest_at, with_rest}
-use Rattle.mi_hub.specs.Run.{HubState, Event, attach, piece, close, cut, Done, Refused, Step, Run}
+use Rattle.mi_hub.specs.Run.{HubState, Event, attach, piece, close, cut, Step, Run}
 use Rattle.mi_hub.specs.RunLaws.{bytes_of, Stays, RestOfAllBytes}
 use Rattle.mi_hub.proofs.LineLemmas.{cut_in_two, rest_from-nothing}
 use Rattle.mi_hub.proofs.ConnectionLemmas.{rest_at-with_rest, rest_at-others, rest_at-with_other, rest_at-append, rest_at-last}

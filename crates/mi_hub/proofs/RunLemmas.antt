@@ -25,10 +25,10 @@ found_there None conn cs p h d = absurd (false_true h)
     false_true k = cc
 found_there (Some i) conn cs p h d = ((get_or cs i d).rest, p.rest d)
 
-element : (conn at : ℕ) (cs : List Connection) (x : Connection) → StandsAt conn at cs → x ≡ get_or cs at x → (x.id ≡ conn) × (rest_at conn cs ≡ Some x.rest)
+pub element : (conn at : ℕ) (cs : List Connection) (x : Connection) → StandsAt conn at cs → x ≡ get_or cs at x → (x.id ≡ conn) × (rest_at conn cs ≡ Some x.rest)
 element conn at cs x p is = (ap (λ (z : Connection). z.id) is ∙ p.same x, p.rest x ∙ ap (λ (z : Connection). Some z.rest) (sym is))
 
-remove-set : {A : Type 0} (xs : List A) (i : ℕ) (y : A) → remove (set xs i y) i ≡ remove xs i
+pub remove-set : {A : Type 0} (xs : List A) (i : ℕ) (y : A) → remove (set xs i y) i ≡ remove xs i
 remove-set [] i y = refl
 remove-set (x ∷ xs) zero y = refl
 remove-set (x ∷ xs) (suc i) y = ap (λ zs. x ∷ zs) (remove-set xs i y)

@@ -1,6 +1,6 @@
 //! Commands, one line at a time, over the database: parsed, kept out where another connection holds sessions, bound, done, said.
 //! It reads and writes no stream, and knows of the database what `Sessions` says.
-ghost use Rattle.std.specs.Prelude.{◌≡◌, ◌≢◌, ◌≤◌, true, None, Ok};
+ghost use Rattle.std.specs.Prelude.{◌≡◌, ◌≢◌, ◌≤◌, true, None, Ok, option_map};
 ghost use Rattle.mi_model.specs.Database.{depth, undone_times};
 ghost use Rattle.mi_protocol.specs.Binding.{FitsCatalog};
 ghost use Rattle.mi_protocol.specs.Replies.{reply_text, refused, said, is_short, IsSaidOf, NamesNoIndex};
@@ -58,6 +58,16 @@ impl<D: Sessions + Drop> Executor<D> {
         ensures { D.state result.now ≡ self.now.database }
     {
         &self.database
+    }
+
+    /// The connection that holds open sessions.
+    pub fn holder(&self) -> Option<u64>
+        ensures { result ≡ option_map (λ h. h.conn) self.now.holder }
+    {
+        match &self.holder {
+            Some(holder) => Some(holder.conn),
+            None => None,
+        }
     }
 
     /// A connection goes away: the sessions that it holds are undone.

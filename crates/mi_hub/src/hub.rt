@@ -1,10 +1,10 @@
 //! Connections by turns over one database. A call does one event of one connection, and nothing else changes.
-ghost use Rattle.std.specs.Prelude.{◌≡◌, ◌≢◌, ◌↔◌, ◌⊎◌, ◌≤◌, ℕ, List, [], true, None, Some, Err, MatchOption, IfSome, IsSome, OnOk, OnErr, length, ◌<◌};
+ghost use Rattle.std.specs.Prelude.{◌≡◌, ◌≢◌, ◌↔◌, ◌⊎◌, ◌≤◌, ℕ, List, [], true, None, Some, Err, MatchOption, IfSome, IsSome, OnOk, OnErr, length, ◌<◌, option_map};
 ghost use Rattle.std.specs.List.{remove};
 ghost use Rattle.mi_value.specs.declared.limits.TheConstants.{MAX_CONNECTIONS};
 ghost use Rattle.mi_hub.specs.Lines.{extended};
 ghost use Rattle.mi_hub.specs.Holder.{released};
-ghost use Rattle.mi_hub.specs.Connections.{rest_at};
+ghost use Rattle.mi_hub.specs.Connections.{rest_at, others};
 ghost use Rattle.mi_hub.specs.Places.{StandsAt};
 ghost use Rattle.mi_hub.specs.Run.{piece, close, cut, attach, Done, Failed};
 ghost use Rattle.mi_hub.specs.Watching.{has_failed, Writes};
@@ -30,11 +30,15 @@ pub struct Hub<D: Sessions + Drop> {
 }
 
 impl<D: Sessions + Drop> Model for Hub<D> {
+    ghost use Rattle.std.specs.Prelude.{◌≡◌, true};
+    ghost use Rattle.mi_hub.specs.Connections.{holder_is_attached};
     ghost use Rattle.mi_hub.specs.Run.{HubState};
 
     ghost Value = { HubState };
 
     ghost view = { λ h. record { held = h.executor; attached = h.connections.items } };
+
+    ghost invariant = { λ h. holder_is_attached h.executor.holder h.connections.items ≡ true };
 }
 
 impl<D: Sessions + Drop> Hub<D> {
@@ -54,6 +58,15 @@ impl<D: Sessions + Drop> Hub<D> {
         ensures { D.state result.now ≡ self.now.held.database }
     {
         self.executor.database()
+    }
+
+    /// The connection that holds open sessions, where one does. It is attached.
+    pub fn holder(&self) -> Option<u64>
+        ensures is { result ≡ option_map (λ h. h.conn) self.now.held.holder }
+        ensures attached { IfSome result (λ conn. IsSome (rest_at conn self.now.attached)) }
+    {
+        let _ = &self.connections;
+        self.executor.holder()
     }
 
     /// A connection comes, with no bytes. The whole room of its longest line is taken here.
@@ -164,7 +177,8 @@ impl<D: Sessions + Drop> Hub<D> {
 
     /// The connection at this place goes away.
     fn leave(&mut self, at: usize, conn: u64)
-        requires { at < length self.old.attached }
+        requires within { at < length self.old.attached }
+        requires there { remove self.old.attached at ≡ others conn self.old.attached }
         ensures { self.new ≡ record { held = released conn self.old.held; attached = remove self.old.attached at } }
     {
         self.connections.remove(at);

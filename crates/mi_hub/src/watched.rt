@@ -33,14 +33,6 @@ impl<T> Watched<T> {
         &self.inner
     }
 
-    /// What was watched.
-    pub fn into_inner(self) -> T
-        ensures { result ≡ watched self }
-    {
-        let Watched { inner, failed: _ } = self;
-        inner
-    }
-
     /// Whether a read or a flush has answered an error, or a write of one or more bytes an error or 0.
     pub fn failed(&self) -> bool
         ensures { result ≡ has_failed self.now }

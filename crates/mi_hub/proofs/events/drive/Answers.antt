@@ -1,4 +1,4 @@
-use Rattle.std.proofs.Common.{arith, ◌++◌, ◌∙◌}
+use Rattle.std.proofs.Common.{◌++◌, ◌∙◌}
 use Rattle.std.proofs.KnownBytes.{Appends-trans}
 use Rattle.mi_hub.proofs.DriveLemmas.{run_next, stopped_here}
 use Rattle.mi_hub.proofs.events.drive.Goals as goal

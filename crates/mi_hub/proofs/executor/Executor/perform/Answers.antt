@@ -1,9 +1,8 @@
-use Rattle.std.proofs.Common.{◌≡◌, ◌≢◌, inl, inr, sym, subst}
+use Rattle.std.proofs.Common.{◌≢◌, inl, inr, sym, subst}
 use Rattle.std.specs.Prelude.{List, ℕ}
 use Rattle.mi_value.specs.declared.value.Value.{Value}
 use Rattle.mi_protocol.specs.Text.{text_bytes}
 use Rattle.mi_protocol.specs.Replies.{Said}
-use Rattle.mi_protocol.specs.declared.binding.Command.{Command}
 use Rattle.mi_protocol.specs.declared.binding.Command.TheVariants as command
 use Rattle.mi_hub.specs.Holder.{Held}
 use Rattle.mi_hub.specs.Performed.{performed}
