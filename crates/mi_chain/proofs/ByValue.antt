@@ -1,25 +1,21 @@
 -- Nodes by their values: equality of keys is an equivalence, hashes and probes agree with it, and all of them depend on the values alone.
 use Rattle.std.proofs.Common.{◌≡◌, ℕ, true, Option, Some, None, refl, ap}
 use Rattle.mi_node.specs.Pool.{Pooled, value_of}
-use Rattle.mi_node.specs.declared.heap.NodeRef.{NodeRef}
+use Rattle.mi_node.specs.Refs.{Ref}
 use Rattle.mi_value.specs.declared.bound.Probe.{Probe}
-use Rattle.mi_chain.specs.Keying.{Keying, IsLawful, same_values, number_of, passes, same_nodes, hash_node, stamp_node, has_key}
+use Rattle.mi_chain.specs.Keying.{Keying, IsLawful, same_values, number_of, passes, same_nodes, hash_node, has_key}
 use Rattle.mi_chain.proofs.Classes.{IsAlike, IsOfKey}
 
 module _ {T : Type 0} (k : Keying T) (m : Pooled T) where
-  pub same_nodes_is : (a b : NodeRef) (x y : T) → value_of m a.name ≡ Some x → value_of m b.name ≡ Some y → same_nodes k m a b ≡ k.same x y
+  pub same_nodes_is : (a b : Ref) (x y : T) → value_of m a.name ≡ Some x → value_of m b.name ≡ Some y → same_nodes k m a b ≡ k.same x y
   unfolding same_nodes
   same_nodes_is a b x y e f = λ i. same_values k.same (e i) (f i)
 
-  pub has_key_is : (p : Probe) (a : NodeRef) (x : T) → value_of m a.name ≡ Some x → has_key k m p a ≡ k.same_key x p
+  pub has_key_is : (p : Probe) (a : Ref) (x : T) → value_of m a.name ≡ Some x → has_key k m p a ≡ k.same_key x p
   unfolding has_key
   has_key_is p a x e = ap (passes (λ y. k.same_key y p)) e
 
-  pub stamp_is : (a : NodeRef) (x : T) → value_of m a.name ≡ Some x → stamp_node k m a ≡ k.stamp x
-  unfolding stamp_node
-  stamp_is a x e = ap (number_of k.stamp) e
-
-  pub hash_is : (a : NodeRef) (x : T) → value_of m a.name ≡ Some x → hash_node k m a ≡ k.hash x
+  pub hash_is : (a : Ref) (x : T) → value_of m a.name ≡ Some x → hash_node k m a ≡ k.hash x
   unfolding hash_node
   hash_is a x e = ap (number_of k.hash) e
 
@@ -70,7 +66,7 @@ module _ {T : Type 0} (k : Keying T) (m : Pooled T) where
       transitive = λ a b c g h. transitive (value_of m a.name) (value_of m b.name) (value_of m c.name) g h;
     }
 
-    pub same_hash : (a b : NodeRef) → same_nodes k m a b ≡ true → hash_node k m a ≡ hash_node k m b
+    pub same_hash : (a b : Ref) → same_nodes k m a b ≡ true → hash_node k m a ≡ hash_node k m b
     unfolding same_nodes hash_node
     same_hash a b h = one_hash (value_of m a.name) (value_of m b.name) h
 
@@ -78,7 +74,7 @@ module _ {T : Type 0} (k : Keying T) (m : Pooled T) where
     unfolding same_nodes has_key
     of_probe p = record { agrees = λ a b h t. agrees p (value_of m a.name) (value_of m b.name) h t; one_key = λ a b g h. one_key p (value_of m a.name) (value_of m b.name) g h }
 
-    pub hash_of_probe : (p : Probe) (a : NodeRef) → has_key k m p a ≡ true → hash_node k m a ≡ k.hash_key p
+    pub hash_of_probe : (p : Probe) (a : Ref) → has_key k m p a ≡ true → hash_node k m a ≡ k.hash_key p
     unfolding has_key hash_node
     hash_of_probe p a h = probe_hash p (value_of m a.name) h
 
@@ -87,10 +83,6 @@ module _ {T : Type 0} (k : Keying T) (m n : Pooled T) (e : (q : ℕ) → value_o
   pub same_kept : same_nodes k n ≡ same_nodes k m
   unfolding same_nodes
   same_kept = λ i a b. same_values k.same (e a.name i) (e b.name i)
-
-  pub stamp_kept : stamp_node k n ≡ stamp_node k m
-  unfolding stamp_node
-  stamp_kept = λ i a. number_of k.stamp (e a.name i)
 
   pub hash_kept : hash_node k n ≡ hash_node k m
   unfolding hash_node

@@ -1,20 +1,21 @@
--- Chains stand in another pool, where each of their nodes has the same link and a value of the same key and stamp.
+-- Chains stand in another pool, where each of their nodes has the same link and a value of the same key.
 --     AllOf      each node of a list is so
---     IsSame      a node has the same link and key and stamp in both pools
+--     IsSame      a node has the same link and key in both pools
 --     chained_elsewhere      for a pool after `take`, `give` or `swap_value`, or after a call on another structure
-use Rattle.std.proofs.Common.{◌≡◌, ℕ, ◌<◌, ◌%◌, ◌==◌, Bool, true, false, not, cond, List, [], ◌∷◌, ◌++◌, Option, Some, None, vec_len, refl, sym, ap, ◌∙◌, subst, arith}
+use Rattle.std.proofs.Common.{◌≡◌, ℕ, ◌+◌, ◌<◌, ◌%◌, ◌==◌, Bool, true, false, not, cond, List, [], ◌∷◌, ◌++◌, Option, Some, None, vec_len, refl, sym, ap, ◌∙◌, subst, arith}
 use Rattle.std.specs.List.{filter}
 use Rattle.mi_node.specs.Pool.{Pooled, value_of, link_of, IsHeld}
-use Rattle.mi_node.specs.Refs.{last_of}
-use Rattle.mi_node.specs.declared.heap.NodeRef.{NodeRef}
-use Rattle.mi_chain.specs.Keying.{Keying, IsLawful, same_nodes, hash_node, stamp_node}
-use Rattle.mi_chain.specs.Groups.{members, first_in, others, AreHeld, IsLinked, IsChained, IsGrouped}
-use Rattle.mi_chain.specs.Chained.{AreAfter, IsRising, in_bucket, AreBuckets, AreChained}
+use Rattle.mi_node.specs.Neighbours.{AreHeld, IsLinked}
+use Rattle.mi_node.specs.declared.link.Link.{Link}
+use Rattle.mi_node.specs.Refs.{Ref, last_of}
+use Rattle.mi_chain.specs.Keying.{Keying, IsLawful, same_nodes, hash_node, stamp_at}
+use Rattle.mi_chain.specs.Groups.{members, first_in, others, has_none, key_count, IsChained, IsGrouped}
+use Rattle.mi_chain.specs.Chained.{AreAfter, IsRising, in_bucket, AreBuckets, AreTagged, AreChained}
 use Rattle.mi_chain.specs.declared.chains.Chains.{Chains}
 use Rattle.mi_chain.proofs.Classes.{IsAlike, like, first_passes}
-use Rattle.mi_chain.proofs.ByValue.{alike, same_nodes_is, stamp_is, hash_is}
+use Rattle.mi_chain.proofs.ByValue.{alike, same_nodes_is, hash_is}
 
-abbrev pub AllOf : (NodeRef → Type 0) → List NodeRef → Type 0
+abbrev pub AllOf : (Ref → Type 0) → List Ref → Type 0
 AllOf P [] = Unit {0}
 AllOf P (r ∷ rs) = P r × AllOf P rs
 
@@ -23,76 +24,86 @@ both_ways true b h g = sym (h refl)
 both_ways false true h g = g refl
 both_ways false false h g = refl
 
-module _ (P : NodeRef → Type 0) where
-  all_filter : (f : NodeRef → Bool) (rs : List NodeRef) → AllOf P rs → AllOf P (filter f rs)
+module _ (P : Ref → Type 0) where
+  pub all_filter : (f : Ref → Bool) (rs : List Ref) → AllOf P rs → AllOf P (filter f rs)
   all_filter f [] h = tt
   all_filter f (r ∷ rs) h = elim (f r) as (λ b. AllOf P (cond b (r ∷ filter f rs) (filter f rs))) [
     | true ↦ (h.0, all_filter f rs h.1)
     | false ↦ all_filter f rs h.1
   ]
 
-  all_both : (xs ys : List NodeRef) → AllOf P xs → AllOf P ys → AllOf P (xs ++ ys)
+  all_both : (xs ys : List Ref) → AllOf P xs → AllOf P ys → AllOf P (xs ++ ys)
   all_both [] ys g h = h
   all_both (x ∷ xs) ys g h = (g.0, all_both xs ys g.1 h)
 
-  filter_on : (f g : NodeRef → Bool) → ((q : NodeRef) → P q → f q ≡ g q) → (rs : List NodeRef) → AllOf P rs → filter f rs ≡ filter g rs
+  filter_on : (f g : Ref → Bool) → ((q : Ref) → P q → f q ≡ g q) → (rs : List Ref) → AllOf P rs → filter f rs ≡ filter g rs
   filter_on f g e [] h = refl
   filter_on f g e (r ∷ rs) h = λ i. cond (e r h.0 i) (r ∷ filter_on f g e rs h.1 i) (filter_on f g e rs h.1 i)
 
-  module _ (R Q : NodeRef → NodeRef → Bool) (A : IsAlike R) (agree : (a b : NodeRef) → P a → P b → Q a b ≡ R a b) where
-    grouped_on : (gs : List (List NodeRef)) (rs : List NodeRef) → AllOf P rs → IsGrouped R gs rs → IsGrouped Q gs rs
+  module _ (R Q : Ref → Ref → Bool) (A : IsAlike R) (agree : (a b : Ref) → P a → P b → Q a b ≡ R a b) where
+    grouped_on : (gs : List (List Ref)) (rs : List Ref) → AllOf P rs → IsGrouped R gs rs → IsGrouped Q gs rs
     grouped_on [] rs all h = h
     grouped_on ([] ∷ gs) rs all h = absurd (h.1 refl)
     grouped_on ((y ∷ ys) ∷ gs) rs all h =
         let x = h.0 in let xy = first_passes (R x) rs (y ∷ ys) y h.2 refl in
         let here = subst (AllOf P) h.2 (all_filter (R x) rs all) in
-        let same : (q : NodeRef) → P q → Q y q ≡ R x q = λ q p. agree y q here.0 p ∙ sym (like R A x y q xy) in
+        let same : (q : Ref) → P q → Q y q ≡ R x q = λ q p. agree y q here.0 p ∙ sym (like R A x y q xy) in
         let rest = filter_on (λ q. not (Q y q)) (λ q. not (R x q)) (λ q p. ap not (same q p)) rs all in
         (y, h.1, filter_on (Q y) (R x) same rs all ∙ h.2, subst (IsGrouped Q gs) (sym rest) (grouped_on gs (others R x rs) (all_filter (λ q. not (R x q)) rs all) h.3))
 
-    grouped_all : (gs : List (List NodeRef)) (rs : List NodeRef) → AllOf P rs → IsGrouped R gs rs → AllOf P (members gs)
+    count_on : (rs : List Ref) → AllOf P rs → key_count Q rs ≡ key_count R rs
+    count_on [] all = refl
+    count_on (r ∷ rs) all =
+        let same = filter_on (Q r) (R r) (λ q p. agree r q all.0 p) rs all.1 in
+        λ i. cond (has_none (same i)) (count_on rs all.1 i + 1) (count_on rs all.1 i)
+
+    grouped_all : (gs : List (List Ref)) (rs : List Ref) → AllOf P rs → IsGrouped R gs rs → AllOf P (members gs)
     grouped_all [] rs all h = tt
     grouped_all (g ∷ gs) rs all h = all_both g (members gs) (subst (AllOf P) h.2 (all_filter (R h.0) rs all)) (grouped_all gs (others R h.0 rs) (all_filter (λ q. not (R h.0 q)) rs all) h.3)
 
-    module _ (stamp stamp2 : NodeRef → ℕ) (stamps : (q : NodeRef) → P q → stamp2 q ≡ stamp q) where
-      after_on : (q : NodeRef) (rs : List NodeRef) → P q → AllOf P rs → AreAfter R stamp q rs → AreAfter Q stamp2 q rs
+    module _ (stamp stamp2 : Ref → ℕ) (stamps : (q : Ref) → P q → stamp2 q ≡ stamp q) where
+      after_on : (q : Ref) (rs : List Ref) → P q → AllOf P rs → AreAfter R stamp q (stamp q) rs → AreAfter Q stamp2 q (stamp2 q) rs
       after_on q [] p all h = tt
       after_on q (r ∷ rs) p all h = (
         λ e. (let lt = h.0 (sym (agree q r p all.0) ∙ e) in let a = stamps q p in let b = stamps r all.0 in omega arith),
         after_on q rs p all.1 h.1,
       )
 
-      pub rising_on : (rs : List NodeRef) → AllOf P rs → IsRising R stamp rs → IsRising Q stamp2 rs
+      pub rising_on : (rs : List Ref) → AllOf P rs → IsRising R stamp rs → IsRising Q stamp2 rs
       rising_on [] all h = tt
       rising_on (r ∷ rs) all h = (after_on r rs all.0 all.1 h.0, rising_on rs all.1 h.1)
 
-  in_same : (hash hash2 : NodeRef → ℕ) (n i : ℕ) (q : NodeRef) → hash2 q ≡ hash q → in_bucket hash2 n i q ≡ in_bucket hash n i q
+  in_same : (hash hash2 : Ref → ℕ) (n i : ℕ) (q : Ref) → hash2 q ≡ hash q → in_bucket hash2 n i q ≡ in_bucket hash n i q
   unfolding in_bucket
   in_same hash hash2 n i q e = ap (λ z. (z % n) == i) e
 
-  module _ {T : Type 0} (m n : Pooled T) (s : ℕ) (held : (q : NodeRef) → P q → IsHeld n q) (link : (q : NodeRef) → P q → link_of n q.name s ≡ link_of m q.name s) where
-    linked_on : (b : Option NodeRef) (rs : List NodeRef) (f : Option NodeRef) → AllOf P rs → IsLinked m s b rs f → IsLinked n s b rs f
+  module _ {T : Type 0} (m n : Pooled T) (s : ℕ) (held : (q : Ref) → P q → IsHeld n q) (link : (q : Ref) → P q → link_of n q.name s ≡ link_of m q.name s) where
+    linked_on : (b : Option Ref) (rs : List Ref) (f : Option Ref) → AllOf P rs → IsLinked m s b rs f → IsLinked n s b rs f
     linked_on b [] f all h = tt
-    linked_on b (r ∷ rs) f all h = (held r all.0, link r all.0 ∙ h.1, linked_on (Some r) rs f all.1 h.2)
+    linked_on b (r ∷ rs) f all h = let same = link r all.0 in (held r all.0, ap (λ (l : Link). l.back) same ∙ h.1, ap (λ (l : Link). l.forth) same ∙ h.2, linked_on (Some r) rs f all.1 h.3)
 
-    all_left : (xs ys : List NodeRef) → AllOf P (xs ++ ys) → AllOf P xs
+    tagged_on : (hash hash2 : Ref → ℕ) → ((q : Ref) → P q → hash2 q ≡ hash q) → (rs : List Ref) → AllOf P rs → AreTagged hash m s rs → AreTagged hash2 n s rs
+    tagged_on hash hash2 same [] all h = tt
+    tagged_on hash hash2 same (r ∷ rs) all h = (ap (λ (l : Link). l.tag.key) (link r all.0) ∙ h.0 ∙ sym (same r all.0), tagged_on hash hash2 same rs all.1 h.1)
+
+    all_left : (xs ys : List Ref) → AllOf P (xs ++ ys) → AllOf P xs
     all_left [] ys h = tt
     all_left (x ∷ xs) ys h = (h.0, all_left xs ys h.1)
 
-    all_right : (xs ys : List NodeRef) → AllOf P (xs ++ ys) → AllOf P ys
+    all_right : (xs ys : List Ref) → AllOf P (xs ++ ys) → AllOf P ys
     all_right [] ys h = h
     all_right (x ∷ xs) ys h = all_right xs ys h.1
 
-    chained_on : (gs : List (List NodeRef)) (f : Option NodeRef) → AllOf P (members gs) → IsChained m s gs f → IsChained n s gs f
+    chained_on : (gs : List (List Ref)) (f : Option Ref) → AllOf P (members gs) → IsChained m s gs f → IsChained n s gs f
     chained_on [] f all h = tt
     chained_on (g ∷ gs) f all h = (linked_on (last_of None g) g (first_in gs f) (all_left g (members gs) all) h.0, chained_on gs f (all_right g (members gs) all) h.1)
 
-    held_on : (rs : List NodeRef) → AllOf P rs → AreHeld n rs
+    held_on : (rs : List Ref) → AllOf P rs → AreHeld n rs
     held_on [] all = tt
     held_on (r ∷ rs) all = (held r all.0, held_on rs all.1)
 
--- a node has the same link in both pools, and values of one key and stamp
-pub record IsSame {T : Type 0} (k : Keying T) (m n : Pooled T) (s : ℕ) (r : NodeRef) : Type 0 where
+-- a node has the same link in both pools, and values of one key
+pub record IsSame {T : Type 0} (k : Keying T) (m n : Pooled T) (s : ℕ) (r : Ref) : Type 0 where
   pub held : IsHeld n r
   pub link : link_of n r.name s ≡ link_of m r.name s
   pub old : T
@@ -100,25 +111,24 @@ pub record IsSame {T : Type 0} (k : Keying T) (m n : Pooled T) (s : ℕ) (r : No
   pub was : value_of m r.name ≡ Some old
   pub is : value_of n r.name ≡ Some new
   pub one_key : k.same old new ≡ true
-  pub one_stamp : k.stamp new ≡ k.stamp old
 
 module _ {T : Type 0} (k : Keying T) (w : IsLawful k) (m n : Pooled T) (s : ℕ) where
-  agreed : (a b : NodeRef) → IsSame k m n s a → IsSame k m n s b → same_nodes k n a b ≡ same_nodes k m a b
+  agreed : (a b : Ref) → IsSame k m n s a → IsSame k m n s b → same_nodes k n a b ≡ same_nodes k m a b
   agreed a b p q = same_nodes_is k n a b p.new q.new p.is q.is
       ∙ both_ways (k.same p.new q.new) (k.same p.old q.old) (λ e. w.transitive p.old p.new q.old p.one_key (w.transitive p.new q.new q.old e (w.symmetric q.old q.new q.one_key)))
       (λ e. w.transitive p.new p.old q.new (w.symmetric p.old p.new p.one_key) (w.transitive p.old q.old q.new e q.one_key)) ∙ sym (same_nodes_is k m a b p.old q.old p.was q.was)
 
-  stamps_agree : (a : NodeRef) → IsSame k m n s a → stamp_node k n a ≡ stamp_node k m a
-  stamps_agree a p = stamp_is k n a p.new p.is ∙ p.one_stamp ∙ sym (stamp_is k m a p.old p.was)
+  stamps_agree : (a : Ref) → IsSame k m n s a → stamp_at n s a ≡ stamp_at m s a
+  stamps_agree a p = ap (λ (l : Link). l.tag.stamp) p.link
 
-  hashes_agree : (a : NodeRef) → IsSame k m n s a → hash_node k n a ≡ hash_node k m a
+  hashes_agree : (a : Ref) → IsSame k m n s a → hash_node k n a ≡ hash_node k m a
   hashes_agree a p = hash_is k n a p.new p.is ∙ sym (w.one_hash p.old p.new p.one_key) ∙ sym (hash_is k m a p.old p.was)
 
-  pub rising_elsewhere : (rs : List NodeRef) → AllOf (IsSame k m n s) rs → IsRising (same_nodes k m) (stamp_node k m) rs → IsRising (same_nodes k n) (stamp_node k n) rs
-  rising_elsewhere rs all h = rising_on (IsSame k m n s) (same_nodes k m) (same_nodes k n) (alike k m w) agreed (stamp_node k m) (stamp_node k n) stamps_agree rs all h
+  pub rising_elsewhere : (rs : List Ref) → AllOf (IsSame k m n s) rs → IsRising (same_nodes k m) (stamp_at m s) rs → IsRising (same_nodes k n) (stamp_at n s) rs
+  rising_elsewhere rs all h = rising_on (IsSame k m n s) (same_nodes k m) (same_nodes k n) (alike k m w) agreed (stamp_at m s) (stamp_at n s) stamps_agree rs all h
 
-  pub buckets_elsewhere : (heads : List (Option NodeRef)) (count : ℕ) (rs : List NodeRef) → n.slots ≡ m.slots → AllOf (IsSame k m n s) rs → AreBuckets (same_nodes k m) (stamp_node k m) (hash_node k m) m s heads count rs
-      → AreBuckets (same_nodes k n) (stamp_node k n) (hash_node k n) n s heads count rs
+  pub buckets_elsewhere : (heads : List (Option Ref)) (count : ℕ) (rs : List Ref) → n.slots ≡ m.slots → AllOf (IsSame k m n s) rs → AreBuckets (same_nodes k m) (stamp_at m s) (hash_node k m) m s heads count rs
+      → AreBuckets (same_nodes k n) (stamp_at n s) (hash_node k n) n s heads count rs
   buckets_elsewhere heads count rs slots all h = let P = IsSame k m n s in record {
     slot = subst (λ z. s < z) (sym slots) h.slot;
     some = h.some;
@@ -136,5 +146,11 @@ module _ {T : Type 0} (k : Keying T) (w : IsLawful k) (m n : Pooled T) (s : ℕ)
         };
   }
 
-pub chained_elsewhere : {T H : Type 0} (c : Chains H) (k : Keying T) (w : IsLawful k) (m n : Pooled T) (rs : List NodeRef) → n.slots ≡ m.slots → AllOf (IsSame k m n c.slot) rs → AreChained c k m rs → AreChained c k n rs
-chained_elsewhere c k w m n rs slots all h = buckets_elsewhere k w m n c.slot c.buckets.items (vec_len c.buckets) rs slots all h
+pub chained_elsewhere : {T H : Type 0} (c : Chains H) (k : Keying T) (w : IsLawful k) (m n : Pooled T) (rs : List Ref) → n.slots ≡ m.slots → AllOf (IsSame k m n c.slot) rs → AreChained c k m rs → AreChained c k n rs
+chained_elsewhere c k w m n rs slots all h = let P = IsSame k m n c.slot in record {
+  buckets = buckets_elsewhere k w m n c.slot c.buckets.items (vec_len c.buckets) rs slots all h.buckets;
+  tagged = tagged_on P m n c.slot (λ q p. p.held) (λ q p. p.link) (hash_node k m) (hash_node k n) (hashes_agree k w m n c.slot) rs all h.tagged;
+  power = h.power;
+  counted = h.counted ∙ sym (count_on P (same_nodes k m) (same_nodes k n) (alike k m w) (agreed k w m n c.slot) rs all);
+  few = h.few;
+}

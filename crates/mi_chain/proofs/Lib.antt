@@ -1,11 +1,10 @@
+pub mod ByValue
 pub mod Changes
 pub mod Classes
+pub mod Counts
+pub mod Elsewhere
 pub mod Joins
-pub mod ByValue
+pub mod Moving
 pub mod Stands
 pub mod Walks
 pub mod Whole
-pub mod Splits
-pub mod Moving
-pub mod Elsewhere
-pub mod Rosters

@@ -1,10 +1,12 @@
--- What chains see of values, and of nodes by their values.
---     Keying      hash, equality of keys and stamp, of values and of probes
+-- What chains see of values, and of nodes by their values and by their links.
+--     Keying      hash and equality of keys, of values and of probes
 --     IsLawful      equality of keys is an equivalence, and hashes and probes agree with it
---     same_nodes, hash_node, stamp_node, has_key      these of nodes in a pool
+--     same_nodes, hash_node, has_key      these of nodes in a pool
+--     tag_at, stamp_at      the tag of a node's link, and the stamp in it
 use Rattle.std.specs.Prelude.{◌≡◌, ℕ, Bool, true, false, Option, Some, None}
-use Rattle.mi_node.specs.Pool.{Pooled, value_of}
-use Rattle.mi_node.specs.declared.heap.NodeRef.{NodeRef}
+use Rattle.mi_node.specs.Pool.{Pooled, value_of, link_of}
+use Rattle.mi_node.specs.Refs.{Ref}
+use Rattle.mi_node.specs.declared.link.Tag.{Tag}
 use Rattle.mi_value.specs.declared.bound.Probe.{Probe}
 
 pub record Keying (T : Type 0) : Type 0 where
@@ -12,7 +14,6 @@ pub record Keying (T : Type 0) : Type 0 where
   pub hash_key : Probe → ℕ
   pub same : T → T → Bool
   pub same_key : T → Probe → Bool
-  pub stamp : T → ℕ
 
 pub record IsLawful {T : Type 0} (k : Keying T) : Type 0 where
   pub reflexive : (x : T) → k.same x x ≡ true
@@ -41,14 +42,17 @@ module _ {T : Type 0} where
   passes f (Some x) = f x
 
   -- whether two nodes have one key
-  unfoldable pub same_nodes : Keying T → Pooled T → NodeRef → NodeRef → Bool
+  unfoldable pub same_nodes : Keying T → Pooled T → Ref → Ref → Bool
   same_nodes k m a b = same_values k.same (value_of m a.name) (value_of m b.name)
 
-  unfoldable pub hash_node : Keying T → Pooled T → NodeRef → ℕ
+  unfoldable pub hash_node : Keying T → Pooled T → Ref → ℕ
   hash_node k m a = number_of k.hash (value_of m a.name)
 
-  unfoldable pub stamp_node : Keying T → Pooled T → NodeRef → ℕ
-  stamp_node k m a = number_of k.stamp (value_of m a.name)
-
-  unfoldable pub has_key : Keying T → Pooled T → Probe → NodeRef → Bool
+  unfoldable pub has_key : Keying T → Pooled T → Probe → Ref → Bool
   has_key k m p a = passes (λ x. k.same_key x p) (value_of m a.name)
+
+  abbrev pub tag_at : Pooled T → ℕ → Ref → Tag
+  tag_at m s a = (link_of m a.name s).tag
+
+  abbrev pub stamp_at : Pooled T → ℕ → Ref → ℕ
+  stamp_at m s a = (link_of m a.name s).tag.stamp

@@ -4,5 +4,3 @@ pub mod Heads
 pub mod Keying
 pub mod Moves
 pub mod Places
-pub mod Roster
-pub mod RosterLaws

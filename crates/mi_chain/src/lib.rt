@@ -4,9 +4,7 @@
 
 mod chains;
 mod keys;
-mod links;
 mod look;
-mod worked;
 
 pub use chains::Chains;
 pub use keys::KeyHash;

@@ -1,4 +1,4 @@
 pub mod Changes
+pub mod Ends
 pub mod Frames
-pub mod Links
 pub mod Orders

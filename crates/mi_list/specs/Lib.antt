@@ -1,3 +1,3 @@
-pub mod Linked
 pub mod Listed
+pub mod Named
 pub mod Order

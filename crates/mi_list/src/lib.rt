@@ -2,7 +2,6 @@
 //! Safe code over the pool: it holds no node, takes no memory, and writes no slot but its own.
 #![tactic(auto)]
 
-mod ends;
 mod list;
 
 pub use list::List;

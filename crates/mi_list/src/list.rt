@@ -1,13 +1,15 @@
 //! The list: its slot and its two ends, over a pool that each call is passed.
-//! It reads and writes links of its own slot alone, and never a value.
+//! It reads and writes links of its own slot alone, and never a value. Where an optional reference is used again, it is
+//! passed as a copy, `*&x`: by its name it would be moved.
 ghost use Rattle.std.specs.Prelude.{◌≡◌, ◌<◌, ◌⊎◌, Some, None, List as Seq, [], ◌∷◌, ◌++◌, ◌↔◌, IsTrue};
 ghost use Rattle.mi_node.specs.Pool.{IsHeld, IsHeldIf, Keeps};
 ghost use Rattle.mi_node.specs.Refs.{IsOut, first_of, last_of};
-ghost use Rattle.mi_node.specs.declared.heap.NodeRef.{NodeRef as Ref};
-ghost use Rattle.mi_list.specs.Linked.{kept_if, joined, IsNamed};
+ghost use Rattle.mi_node.specs.Refs.{Ref};
+ghost use Rattle.mi_node.specs.Neighbours.{kept_if, joined};
+ghost use Rattle.mi_list.specs.Named.{IsNamed};
 
-use crate::ends::{set_back, set_forth};
-use mi_node::{Link, NodeRef, Pool};
+use mi_node::neighbours::{set_back, set_forth};
+use mi_node::{Link, NO_TAG, NodeRef, Pool};
 
 /// A list through one slot of the nodes of a pool. Contracts see the list of its nodes, in order.
 ///
@@ -92,15 +94,16 @@ impl List {
             → IsOut node.name (xs ++ ys) → first_of ys None ≡ before → Keeps p.old p.new (slot_of self.old) (node ∷ xs ++ ys) }
         ensures slot { slot_of self.new ≡ slot_of self.old }
     {
-        let back = self.back_at(p, before);
+        let back = self.back_at(p, *&before);
         p.set_link(
             node,
             self.slot,
             Link {
-                back,
-                forth: before,
+                back: *&back,
+                forth: *&before,
                 size: 0,
                 height: 0,
+                tag: NO_TAG,
             },
         );
         self.join(p, back, Some(node), before, Some(node));
@@ -146,7 +149,7 @@ impl List {
             → Keeps p.old p.new (slot_of self.old) (xs ++ node ∷ ys) }
         ensures slot { slot_of self.new ≡ slot_of self.old }
     {
-        if is_node(before, node) {
+        if is_node(*&before, node) {
             return;
         }
         self.unlink(p, node);
@@ -184,8 +187,8 @@ impl List {
         ensures last { self.new.last ≡ kept_if forth self.old.last prev }
         ensures slot { slot_of self.new ≡ slot_of self.old }
     {
-        set_forth(p, self.slot, back, next);
-        set_back(p, self.slot, forth, prev);
+        set_forth(p, self.slot, *&back, *&next);
+        set_back(p, self.slot, *&forth, *&prev);
         if back.is_none() {
             self.first = next;
         }

@@ -1,9 +1,10 @@
 -- What a change of one structure keeps, for the proofs of every structure.
 --     keeps_..        `Keeps` of no change, of one call of `set_link`, of one change after another
 --     SameLinks, same_..      that nodes have the same links of a slot after a change of another slot, of other nodes, or after `take`, `give` and `swap_value`
---     AreHeld, absent_out, node_count-least      lists of held nodes
+--     absent_out, node_count-least      lists of held nodes
 use Rattle.std.proofs.Common.{◌≡◌, ℕ, ◌≤◌, ◌==◌, Bool, true, false, cond, List, [], ◌∷◌, ◌++◌, length, Option, Some, None, refl, sym, ap, ◌∙◌, arith}
 use Rattle.mi_node.specs.Pool.{Pooled, ref_of, link_of, no_link, node_count, IsHeld, IsHeldIf, Keeps, taken, without, with_link, with_value}
+use Rattle.mi_node.specs.Neighbours.{AreHeld}
 use Rattle.mi_node.specs.Refs.{Ref, IsOut, IsApart, AreOut}
 use Rattle.mi_node.specs.declared.link.Link.{Link}
 use Rattle.mi_node.proofs.Callers.{flip, same_name, none_some, fewer, ref-taken, link-taken, ref-without, link-without, ref-with_value, link-with_value, slots-with_link, ref-with_link, value-with_link, link_there, link_beside}
@@ -48,11 +49,6 @@ module _ {T : Type 0} where
 abbrev pub SameLinks : {T : Type 0} → Pooled T → Pooled T → ℕ → List Ref → Type 0
 SameLinks m n s [] = Unit {0}
 SameLinks m n s (r ∷ rs) = (ref_of n r.name ≡ ref_of m r.name) × (link_of n r.name s ≡ link_of m r.name s) × SameLinks m n s rs
-
--- each node of rs is held
-abbrev pub AreHeld : {T : Type 0} → Pooled T → List Ref → Type 0
-AreHeld m [] = Unit {0}
-AreHeld m (r ∷ rs) = IsHeld m r × AreHeld m rs
 
 module _ {T : Type 0} where
   pub same_where : (m n : Pooled T) (s : ℕ) (rs : List Ref) → ((k : ℕ) → ref_of n k ≡ ref_of m k) → ((k : ℕ) → link_of n k s ≡ link_of m k s) → SameLinks m n s rs

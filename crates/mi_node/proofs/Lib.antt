@@ -1,4 +1,5 @@
 pub mod Callers
 pub mod Keeping
+pub mod NeighbourLaws
 pub mod Places
 pub mod Refs

@@ -6,6 +6,7 @@ mod cell;
 mod counted;
 mod home;
 mod link;
+pub mod neighbours;
 mod node_ref;
 mod pool;
 

@@ -1,13 +1,13 @@
-ghost use Rattle.std.specs.Prelude.{◌≡◌, List as Seq, [], ◌∷◌};
+ghost use Rattle.std.specs.Prelude.{◌≡◌, ◌==◌, false, List as Seq, [], ◌∷◌};
 ghost use Rattle.mi_node.specs.Pool.{IsHeld};
-ghost use Rattle.mi_node.specs.declared.heap.NodeRef.{NodeRef as Ref};
+ghost use Rattle.mi_node.specs.Refs.{Ref};
 ghost use Rattle.mi_list.specs.Listed.{IsListed};
 
 use super::*;
 use std::process::Abort;
 
 /// Asserts that the list has nodes of these names, from the first on.
-fn assert_forth(rt: &impl Abort, list: &List, p: &Pool<u8>, names: &[u64])
+fn assert_forth(rt: &impl Abort, list: &List, p: &Pool<u8>, names: &[u32])
     requires { (rs : Seq Ref) × IsListed list.now p.now rs }
 {
     let mut at = list.first(p);
@@ -22,7 +22,7 @@ fn assert_forth(rt: &impl Abort, list: &List, p: &Pool<u8>, names: &[u64])
 }
 
 /// Asserts that the list has nodes of these names, from the last back.
-fn assert_back(rt: &impl Abort, list: &List, p: &Pool<u8>, names: &[u64])
+fn assert_back(rt: &impl Abort, list: &List, p: &Pool<u8>, names: &[u32])
     requires { (rs : Seq Ref) × IsListed list.now p.now rs }
 {
     let mut at = list.last(p);
@@ -40,7 +40,7 @@ fn assert_back(rt: &impl Abort, list: &List, p: &Pool<u8>, names: &[u64])
 fn fill(list: &mut List, p: &mut Pool<u8>, one: NodeRef, two: NodeRef, three: NodeRef)
     requires listed { IsListed list.old p.old [] }
     requires held { IsHeld p.old one × IsHeld p.old two × IsHeld p.old three }
-    requires names { (one.name ≡ 1) × (two.name ≡ 2) × (three.name ≡ 3) }
+    requires names { ((two.name == one.name) ≡ false) × ((three.name == one.name) ≡ false) × ((two.name == three.name) ≡ false) }
     ensures { IsListed list.new p.new (one ∷ two ∷ three ∷ []) }
 {
     list.push_back(p, one);
@@ -61,11 +61,11 @@ fn leave_and_return(
     ensures { IsListed list.new p.new (one ∷ two ∷ three ∷ []) }
 {
     list.unlink(p, two);
-    assert_forth(rt, list, p, &[1, 3]);
+    assert_forth(rt, list, p, &[one.name(), three.name()]);
     list.unlink(p, three);
-    assert_forth(rt, list, p, &[1]);
+    assert_forth(rt, list, p, &[one.name()]);
     list.relink(p, three);
-    assert_forth(rt, list, p, &[1, 3]);
+    assert_forth(rt, list, p, &[one.name(), three.name()]);
     list.relink(p, two);
 }
 
@@ -81,31 +81,31 @@ fn move_about(
     requires { IsListed list.old p.old (one ∷ two ∷ three ∷ []) }
 {
     list.move_before(p, one, None);
-    assert_forth(rt, list, p, &[2, 3, 1]);
+    assert_forth(rt, list, p, &[two.name(), three.name(), one.name()]);
     list.move_before(p, three, Some(three));
-    assert_forth(rt, list, p, &[2, 3, 1]);
+    assert_forth(rt, list, p, &[two.name(), three.name(), one.name()]);
     list.move_before(p, one, Some(three));
-    assert_forth(rt, list, p, &[2, 1, 3]);
-    assert_back(rt, list, p, &[3, 1, 2]);
+    assert_forth(rt, list, p, &[two.name(), one.name(), three.name()]);
+    assert_back(rt, list, p, &[three.name(), one.name(), two.name()]);
 }
 
 #[test]
 #[tactic(auto, using(mi_node::proofs::Callers::refs))]
 fn nodes_leave_and_come_back(rt: HostRuntime) {
     let mut p: Pool<u8> = Pool::with_slots(rt.alloc(), 2);
-    let Ok(one) = p.take(1, 10) else {
+    let Ok(one) = p.take(10) else {
         panic!(rt; "no memory");
     };
-    let Ok(two) = p.take(2, 20) else {
+    let Ok(two) = p.take(20) else {
         panic!(rt; "no memory");
     };
-    let Ok(three) = p.take(3, 30) else {
+    let Ok(three) = p.take(30) else {
         panic!(rt; "no memory");
     };
     let mut list = List::new(1);
     fill(&mut list, &mut p, one, two, three);
-    assert_forth(&rt, &list, &p, &[1, 2, 3]);
+    assert_forth(&rt, &list, &p, &[one.name(), two.name(), three.name()]);
     leave_and_return(&rt, &mut list, &mut p, one, two, three);
-    assert_forth(&rt, &list, &p, &[1, 2, 3]);
+    assert_forth(&rt, &list, &p, &[one.name(), two.name(), three.name()]);
     move_about(&rt, &mut list, &mut p, one, two, three);
 }

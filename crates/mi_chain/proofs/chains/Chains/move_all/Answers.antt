@@ -1,9 +1,8 @@
 use Rattle.std.proofs.Common.{◌≡◌, ◌<◌, ◌∙◌, sym, subst, vec_len, slice_index_or, None, arith}
-use Rattle.mi_node.specs.Pool.{Keeps}
+use Rattle.mi_node.specs.Pool.{Keeps, link_of}
 use Rattle.mi_node.proofs.Keeping.{keeps_then}
 use Rattle.mi_chain.specs.Moves.{AreBetween}
-use Rattle.mi_chain.proofs.Splits.{all_below}
-use Rattle.mi_chain.proofs.Moving.{all_moved}
+use Rattle.mi_chain.proofs.Moving.{all_below, all_moved}
 use Rattle.mi_chain.proofs.chains.Chains.move_all.Goals as goal
 
 pub move_bucket-requires-clause-moving : goal.move_bucket-requires-clause-moving
@@ -26,6 +25,7 @@ loop-bucket-preserved g c = let v = c.args in let l = v.self.now in let a = c.lo
       c.move_bucket.ensures.count ∙ a.invariant.3,
       c.move_bucket.ensures.slot ∙ a.invariant.4,
       c.move_bucket.ensures.keys ∙ a.invariant.5,
+      λ q. subst (λ t. (link_of z.p q t).tag ≡ (link_of a.p q t).tag) a.invariant.4 (c.move_bucket.ensures.tags q) ∙ a.invariant.6 q,
     )
 
 pub returns-clause-list : goal.returns-clause-list
@@ -36,3 +36,6 @@ returns-clause-list g c rs b = let l = c.args.self.now in let a = c.loop-bucket 
 
 pub returns-clause-keeps : goal.returns-clause-keeps
 returns-clause-keeps g c rs b = (c.loop-bucket.invariant.0 rs b).1
+
+pub returns-clause-tags : goal.returns-clause-tags
+returns-clause-tags g c q = c.loop-bucket.invariant.6 q

@@ -1,38 +1,33 @@
-use Rattle.std.proofs.Common.{◌≡◌, true, false, sym, ap, ◌∙◌, subst, vec_len}
-use Rattle.mi_node.specs.Pool.{IsHeldIf}
+use Rattle.std.proofs.Common.{◌≡◌, true, false, inl, inr, sym, ap, ◌∙◌}
 use Rattle.mi_node.specs.declared.link.Link.{Link}
-use Rattle.mi_chain.specs.Keying.{same_nodes}
-use Rattle.mi_chain.proofs.ByValue.{same_nodes_is}
-use Rattle.mi_chain.proofs.Stands.{held_at}
-use Rattle.mi_chain.proofs.Whole.{next_here}
+use Rattle.mi_chain.specs.Places.{is_named}
+use Rattle.mi_chain.proofs.Classes.{not_both}
+use Rattle.mi_chain.proofs.Whole.{held_it, next_of_it, none_of_it}
 use Rattle.mi_chain.proofs.chains.Chains.next_of.Goals as goal
 
-pub link-next-requires-clause-held : goal.link-next-requires-clause-held
-link-next-requires-clause-held g c = held_at c.args.p.now c.requires.0 c.args.node c.requires.1 c.requires.2.held
+pub link-link-requires-clause-held : goal.link-link-requires-clause-held
+link-link-requires-clause-held g c = let l = c.args.self.now in held_it l (g.H.KeyHash.keying l.keys) (g.met.H.KeyHash.lawful l.keys) c.args.p.now c.requires.0 c.args.node c.requires.1 c.requires.2
 
-pub value-requires : goal.value-requires
-value-requires g c = held_at c.args.p.now c.requires.0 c.args.node c.requires.1 c.requires.2.held
+pub link-after-requires-clause-held : goal.link-after-requires-clause-held
+link-after-requires-clause-held g c = let l = c.args.self.now in
+    (next_of_it l (g.H.KeyHash.keying l.keys) (g.met.H.KeyHash.lawful l.keys) c.args.p.now c.requires.0 c.args.node c.requires.1 c.requires.2 c.in-Some.next (sym (ap (λ (y : Link). y.forth) c.link-link.ensures) ∙ c.in-Some.is)).0
 
-pub value-requires-in-Some : goal.value-requires-in-Some
-value-requires-in-Some g c = let v = c.args in let m = v.p.now in let l = v.self.now in let k = g.H.KeyHash.keying l.keys in
-    let on = next_here k (g.met.H.KeyHash.lawful l.keys) m l.slot l.buckets.items (vec_len l.buckets) c.requires.0 v.node c.requires.1 c.requires.2 in
-    subst (IsHeldIf m) (sym (ap (λ (y : Link). y.forth) c.link-next.ensures) ∙ c.in-Some.is) on.held
+pub returns-then-is_node : goal.returns-then-is_node
+returns-then-is_node g c xs ys h = let l = c.args.self.now in
+    let t : is_named c.args.node.name c.link-after.result.back ≡ true = sym c.is_node.ensures ∙ c.if-is_node.true in
+    elim (next_of_it l (g.H.KeyHash.keying l.keys) (g.met.H.KeyHash.lawful l.keys) c.args.p.now xs c.args.node ys h c.in-Some.next (sym (ap (λ (y : Link). y.forth) c.link-link.ensures) ∙ c.in-Some.is)).1 [
+      | inl p ↦ sym p.1
+      | inr p ↦ absurd (not_both (is_named c.args.node.name c.link-after.result.back) t (ap (λ (y : Link). is_named c.args.node.name y.back) c.link-after.ensures ∙ p.0))
+    ]
 
-pub returns-in-None : goal.returns-in-None
-returns-in-None g c xs ys h = let v = c.args in let m = v.p.now in let l = v.self.now in let k = g.H.KeyHash.keying l.keys in
-    let on = next_here k (g.met.H.KeyHash.lawful l.keys) m l.slot l.buckets.items (vec_len l.buckets) xs v.node ys h in
-    sym (on.none (sym (ap (λ (y : Link). y.forth) c.link-next.ensures) ∙ c.in-None.is))
+pub returns-else-is_node : goal.returns-else-is_node
+returns-else-is_node g c xs ys h = let l = c.args.self.now in
+    let f : is_named c.args.node.name c.link-after.result.back ≡ false = sym c.is_node.ensures ∙ c.if-is_node.false in
+    elim (next_of_it l (g.H.KeyHash.keying l.keys) (g.met.H.KeyHash.lawful l.keys) c.args.p.now xs c.args.node ys h c.in-Some.next (sym (ap (λ (y : Link). y.forth) c.link-link.ensures) ∙ c.in-Some.is)).1 [
+      | inl p ↦ absurd (not_both (is_named c.args.node.name c.link-after.result.back) (ap (λ (y : Link). is_named c.args.node.name y.back) c.link-after.ensures ∙ p.0) f)
+      | inr p ↦ sym p.1
+    ]
 
-pub returns-then-same : goal.returns-then-same
-returns-then-same g c xs ys h = let v = c.args in let m = v.p.now in let l = v.self.now in let k = g.H.KeyHash.keying l.keys in
-    let on = next_here k (g.met.H.KeyHash.lawful l.keys) m l.slot l.buckets.items (vec_len l.buckets) xs v.node ys h in
-    let is = sym (ap (λ (y : Link). y.forth) c.link-next.ensures) ∙ c.in-Some.is in
-    let same : same_nodes k m v.node c.in-Some.after ≡ true = same_nodes_is k m v.node c.in-Some.after c.value.result.now c.value-in-Some.result.now c.value.ensures c.value-in-Some.ensures ∙ sym c.same.ensures ∙ c.if-same.true in
-    sym (on.same c.in-Some.after is same)
-
-pub returns-else-same : goal.returns-else-same
-returns-else-same g c xs ys h = let v = c.args in let m = v.p.now in let l = v.self.now in let k = g.H.KeyHash.keying l.keys in
-    let on = next_here k (g.met.H.KeyHash.lawful l.keys) m l.slot l.buckets.items (vec_len l.buckets) xs v.node ys h in
-    let is = sym (ap (λ (y : Link). y.forth) c.link-next.ensures) ∙ c.in-Some.is in
-    let same : same_nodes k m v.node c.in-Some.after ≡ false = same_nodes_is k m v.node c.in-Some.after c.value.result.now c.value-in-Some.result.now c.value.ensures c.value-in-Some.ensures ∙ sym c.same.ensures ∙ c.if-same.false in
-    sym (on.other c.in-Some.after is same)
+pub returns-in_default : goal.returns-in_default
+returns-in_default g c xs ys h = let l = c.args.self.now in
+    sym (none_of_it l (g.H.KeyHash.keying l.keys) (g.met.H.KeyHash.lawful l.keys) c.args.p.now xs c.args.node ys h (sym (ap (λ (y : Link). y.forth) c.link-link.ensures) ∙ c.in_default.is))

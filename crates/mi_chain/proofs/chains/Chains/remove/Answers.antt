@@ -1,100 +1,159 @@
-use Rattle.std.proofs.Common.{◌≡◌, ◌<◌, ◌%◌, ◌++◌, ◌∷◌, sym, ap, ◌∙◌, subst, refl, rules, length, vec_len}
-use Rattle.mi_node.specs.Pool.{IsHeldIf}
-use Rattle.mi_chain.specs.Keying.{same_nodes, hash_node}
-use Rattle.mi_chain.specs.Groups.{joined}
+use Rattle.std.proofs.Common.{◌≡◌, ℕ, ◌<◌, ◌-◌, ◌%◌, ◌++◌, ◌∷◌, cond, sym, ap, ◌∙◌, subst, vec_len, slice_index_or, Option, None}
+use Rattle.std.specs.Option.{option_or}
+use Rattle.mi_node.specs.Pool.{Pooled, ref_of, with_link}
+use Rattle.mi_node.specs.Neighbours.{joined}
+use Rattle.mi_node.specs.Refs.{Ref}
+use Rattle.mi_node.specs.declared.link.Link.{Link}
+use Rattle.mi_node.proofs.NeighbourLaws.{ref-joined, slots-joined}
+use Rattle.mi_chain.specs.Keying.{hash_node}
 use Rattle.mi_chain.specs.Heads.{heads_joined}
-use Rattle.mi_chain.specs.Places.{IsFound}
-use Rattle.mi_chain.proofs.Stands.{held_at}
-use Rattle.mi_chain.proofs.ByValue.{hash_is}
-use Rattle.mi_chain.proofs.Whole.{group_at, here, chain_here, around_held, removed, never_none}
+use Rattle.mi_chain.specs.Places.{end_at, is_empty}
+use Rattle.mi_chain.proofs.Whole.{here, groups_at, chain_here, held_it, tag_is, spot, Spot, spot_holds, some_groups, removed}
 use Rattle.mi_chain.proofs.chains.Chains.remove.Goals as goal
 
-pub bucket-bucket-requires : goal.bucket-bucket-requires
-bucket-bucket-requires g c = c.requires.2.some
-
-pub value-requires : goal.value-requires
-value-requires g c = held_at c.args.p.now c.requires.0 c.args.node c.requires.1 c.requires.2.held
-
-pub head-head-requires : goal.head-head-requires
-head-head-requires g c = let v = c.args in let m = v.p.now in let l = v.self.now in let k = g.H.KeyHash.keying l.keys in let w = g.met.H.KeyHash.lawful l.keys in let n = vec_len l.buckets in let x = hash_node k m v.node in
-    let eb : c.bucket-bucket.result ≡ x % n = c.bucket-bucket.ensures ∙ ap (λ z. z % n) (c.hash.ensures ∙ sym (hash_is k m v.node c.value.result.now c.value.ensures)) in
-    subst (λ i. i < n) (sym eb) (here k w m l.slot l.buckets.items n (c.requires.0 ++ v.node ∷ c.requires.1) x c.requires.2)
-
-pub group_of-place-requires-clause-held : goal.group_of-place-requires-clause-held
-group_of-place-requires-clause-held g c = held_at c.args.p.now c.requires.0 c.args.node c.requires.1 c.requires.2.held
-
-pub group_of-place-requires-clause-chain : goal.group_of-place-requires-clause-chain
-group_of-place-requires-clause-chain g c = let v = c.args in let m = v.p.now in let l = v.self.now in let k = g.H.KeyHash.keying l.keys in let w = g.met.H.KeyHash.lawful l.keys in let n = vec_len l.buckets in let x = hash_node k m v.node in
-    let eb : c.bucket-bucket.result ≡ x % n = c.bucket-bucket.ensures ∙ ap (λ z. z % n) (c.hash.ensures ∙ sym (hash_is k m v.node c.value.result.now c.value.ensures)) in
-    let rs = c.requires.0 ++ v.node ∷ c.requires.1 in let h = c.requires.2 in
-    let chain = chain_here k w m l.slot l.buckets.items n rs h x c.bucket-bucket.result c.head-head.result eb c.head-head.ensures in
-    ((h.each (x % n) (here k w m l.slot l.buckets.items n rs x h)).groups, chain)
-
 pub link-link-requires-clause-held : goal.link-link-requires-clause-held
-link-link-requires-clause-held g c = held_at c.args.p.now c.requires.0 c.args.node c.requires.1 c.requires.2.held
+link-link-requires-clause-held g c = let l = c.args.self.now in held_it l (g.H.KeyHash.keying l.keys) (g.met.H.KeyHash.lawful l.keys) c.args.p.now c.requires.0 c.args.node c.requires.1 c.requires.2
 
-pub left_end-left-requires-clause-held : goal.left_end-left-requires-clause-held
-left_end-left-requires-clause-held g c = held_at c.args.p.now c.requires.0 c.args.node c.requires.1 c.requires.2.held
+pub link-link-requires-clause-slot : goal.link-link-requires-clause-slot
+link-link-requires-clause-slot g c = let b = c.requires.2.buckets in b.slot
 
-pub right_end-right-requires-clause-held : goal.right_end-right-requires-clause-held
-right_end-right-requires-clause-held g c = held_at c.args.p.now c.requires.0 c.args.node c.requires.1 c.requires.2.held
+pub bucket-bucket-requires : goal.bucket-bucket-requires
+bucket-bucket-requires g c = c.requires.2.power
 
-pub right_end-right-requires-clause-first : goal.right_end-right-requires-clause-first
-right_end-right-requires-clause-first g c = let v = c.args in let m = v.p.now in let l = v.self.now in let k = g.H.KeyHash.keying l.keys in let w = g.met.H.KeyHash.lawful l.keys in let n = vec_len l.buckets in let x = hash_node k m v.node in
-    let eb : c.bucket-bucket.result ≡ x % n = c.bucket-bucket.ensures ∙ ap (λ z. z % n) (c.hash.ensures ∙ sym (hash_is k m v.node c.value.result.now c.value.ensures)) in
-    let rs = c.requires.0 ++ v.node ∷ c.requires.1 in let h = c.requires.2 in
-    let chain = chain_here k w m l.slot l.buckets.items n rs h x c.bucket-bucket.result c.head-head.result eb c.head-head.ensures in
-    let found = subst (IsFound (same_nodes k m v.node) (h.each (x % n) (here k w m l.slot l.buckets.items n rs x h)).groups c.group_of-place.result.before) c.in-Some.is (c.group_of-place.ensures (h.each (x % n) (here k w m l.slot l.buckets.items n rs x h)).groups chain) in
-    let group = group_at m l.slot c.head-head.result (h.each (x % n) (here k w m l.slot l.buckets.items n rs x h)).groups (same_nodes k m v.node) c.group_of-place.result.before c.in-Some.first chain found in
-    group.first_held
+pub place_at-place-requires-clause-bucket : goal.place_at-place-requires-clause-bucket
+place_at-place-requires-clause-bucket g c = let v = c.args in let m = v.p.now in let l = v.self.now in let k = g.H.KeyHash.keying l.keys in let w = g.met.H.KeyHash.lawful l.keys in let n = vec_len l.buckets in let r = v.node in let x = hash_node k m r in
+    let ex : c.link-link.result.tag.key ≡ x = ap (λ (y : Link). y.tag.key) c.link-link.ensures ∙ tag_is l k w m c.requires.0 r c.requires.1 c.requires.2 in
+    let eb : c.bucket-bucket.result ≡ x % n = c.bucket-bucket.ensures ∙ ap (λ z. z % n) ex in
+    subst (λ i. i < n) (sym eb) (here l k w m (c.requires.0 ++ r ∷ c.requires.1) x c.requires.2)
+
+pub place_at-place-requires-clause-slot : goal.place_at-place-requires-clause-slot
+place_at-place-requires-clause-slot g c = let b = c.requires.2.buckets in b.slot
+
+pub place_at-place-requires-clause-chain : goal.place_at-place-requires-clause-chain
+place_at-place-requires-clause-chain g c = let v = c.args in let m = v.p.now in let l = v.self.now in let k = g.H.KeyHash.keying l.keys in let w = g.met.H.KeyHash.lawful l.keys in let n = vec_len l.buckets in let r = v.node in let x = hash_node k m r in
+    let ex : c.link-link.result.tag.key ≡ x = ap (λ (y : Link). y.tag.key) c.link-link.ensures ∙ tag_is l k w m c.requires.0 r c.requires.1 c.requires.2 in
+    let eb : c.bucket-bucket.result ≡ x % n = c.bucket-bucket.ensures ∙ ap (λ z. z % n) ex in
+    let rs = c.requires.0 ++ r ∷ c.requires.1 in
+    let chain = chain_here l k w m rs c.requires.2 x (slice_index_or l.buckets.items c.bucket-bucket.result None) (ap (λ i. slice_index_or l.buckets.items i None) eb) in
+    let gs = groups_at l k w m rs c.requires.2 x in
+    (gs, chain)
 
 pub join-requires-clause-held : goal.join-requires-clause-held
-join-requires-clause-held g c = let v = c.args in let m = v.p.now in let l = v.self.now in let k = g.H.KeyHash.keying l.keys in let w = g.met.H.KeyHash.lawful l.keys in let n = vec_len l.buckets in let x = hash_node k m v.node in
-    let eb : c.bucket-bucket.result ≡ x % n = c.bucket-bucket.ensures ∙ ap (λ z. z % n) (c.hash.ensures ∙ sym (hash_is k m v.node c.value.result.now c.value.ensures)) in
-    let rs = c.requires.0 ++ v.node ∷ c.requires.1 in let h = c.requires.2 in
-    let chain = chain_here k w m l.slot l.buckets.items n rs h x c.bucket-bucket.result c.head-head.result eb c.head-head.ensures in
-    let found = subst (IsFound (same_nodes k m v.node) (h.each (x % n) (here k w m l.slot l.buckets.items n rs x h)).groups c.group_of-place.result.before) c.in-Some.is (c.group_of-place.ensures (h.each (x % n) (here k w m l.slot l.buckets.items n rs x h)).groups chain) in
-    let group = group_at m l.slot c.head-head.result (h.each (x % n) (here k w m l.slot l.buckets.items n rs x h)).groups (same_nodes k m v.node) c.group_of-place.result.before c.in-Some.first chain found in
-    let count : n ≡ length l.buckets.items = search rules in
-    let held = around_held k w m l.slot l.buckets.items n c.requires.0 v.node c.requires.1 h c.group_of-place.result.before c.in-Some.first found (subst (λ z. x % n < z) count (here k w m l.slot l.buckets.items n rs x h)) in
-    (subst (IsHeldIf m) (sym c.left_end-left.ensures) held.0, subst (IsHeldIf m) (sym c.right_end-right.ensures) held.1)
+join-requires-clause-held g c = let v = c.args in let m = v.p.now in let l = v.self.now in let k = g.H.KeyHash.keying l.keys in let w = g.met.H.KeyHash.lawful l.keys in let n = vec_len l.buckets in let r = v.node in let x = hash_node k m r in
+    let ex : c.link-link.result.tag.key ≡ x = ap (λ (y : Link). y.tag.key) c.link-link.ensures ∙ tag_is l k w m c.requires.0 r c.requires.1 c.requires.2 in
+    let eb : c.bucket-bucket.result ≡ x % n = c.bucket-bucket.ensures ∙ ap (λ z. z % n) ex in
+    let rs = c.requires.0 ++ r ∷ c.requires.1 in
+    let chain = chain_here l k w m rs c.requires.2 x (slice_index_or l.buckets.items c.bucket-bucket.result None) (ap (λ i. slice_index_or l.buckets.items i None) eb) in
+    let gs = groups_at l k w m rs c.requires.2 x in
+    let prev = c.prev_of-prev.result in let next = c.next_of-next.result in
+    let ep = c.prev_of-prev.ensures c.requires.0 c.requires.1 c.requires.2 in let en = c.next_of-next.ensures c.requires.0 c.requires.1 c.requires.2 in
+    let found = spot l k w m c.requires.0 r c.requires.1 c.requires.2 prev next c.place_at-place.result.before c.place_at-place.result.first ep en
+    (λ z i e. c.place_at-place.ensures gs z chain i (c.end_at-end.ensures ∙ ap (λ (y : Link). end_at r y.back next) c.link-link.ensures ∙ e)) in
+    let right = c.or-right.ensures ∙ ap (option_or next) c.other-first.ensures in
+    let there : Spot l k w m c.requires.0 r c.requires.1 c.requires.2 c.or-left.result c.or-right.result = subst (λ (z : Option Ref × Option Ref). Spot l k w m c.requires.0 r c.requires.1 c.requires.2 z.0 z.1) (λ i. (sym c.or-left.ensures i, sym right i)) found in
+    spot_holds l k w m c.requires.0 r c.requires.1 c.requires.2 c.or-left.result c.or-right.result there
 
-pub returns-in_default-clause-list : goal.returns-in_default-clause-list
-returns-in_default-clause-list g c xs ys h = let v = c.args in let m = v.p.now in let l = v.self.now in let k = g.H.KeyHash.keying l.keys in let w = g.met.H.KeyHash.lawful l.keys in let n = vec_len l.buckets in let x = hash_node k m v.node in
-    let eb : c.bucket-bucket.result ≡ x % n = c.bucket-bucket.ensures ∙ ap (λ z. z % n) (c.hash.ensures ∙ sym (hash_is k m v.node c.value.result.now c.value.ensures)) in
-    let rs = xs ++ v.node ∷ ys in
-    let chain = chain_here k w m l.slot l.buckets.items n rs h x c.bucket-bucket.result c.head-head.result eb c.head-head.ensures in
-    let count : n ≡ length l.buckets.items = search rules in
-    let fits : c.bucket-bucket.result < length l.buckets.items = subst (λ z. c.bucket-bucket.result < z) count (subst (λ i. i < n) (sym eb) (here k w m l.slot l.buckets.items n rs x h)) in
-    let passed = subst (IsFound (same_nodes k m v.node) (h.each (x % n) (here k w m l.slot l.buckets.items n rs x h)).groups c.group_of-place.result.before) c.in_default.is (c.group_of-place.ensures (h.each (x % n) (here k w m l.slot l.buckets.items n rs x h)).groups chain) in
-    absurd (never_none k w m l.slot l.buckets.items n m l.buckets.items l.slot n refl refl xs v.node ys c.bucket-bucket.result eb c.head-head.result c.head-head.ensures fits h passed)
+pub join-requires-clause-slot : goal.join-requires-clause-slot
+join-requires-clause-slot g c = let b = c.requires.2.buckets in b.slot
 
-pub returns-in-Some-clause-list : goal.returns-in-Some-clause-list
-returns-in-Some-clause-list g c xs ys h = let v = c.args in let m = v.p.now in let l = v.self.now in let k = g.H.KeyHash.keying l.keys in let w = g.met.H.KeyHash.lawful l.keys in let n = vec_len l.buckets in let x = hash_node k m v.node in
-    let eb : c.bucket-bucket.result ≡ x % n = c.bucket-bucket.ensures ∙ ap (λ z. z % n) (c.hash.ensures ∙ sym (hash_is k m v.node c.value.result.now c.value.ensures)) in
-    let rs = xs ++ v.node ∷ ys in
-    let chain = chain_here k w m l.slot l.buckets.items n rs h x c.bucket-bucket.result c.head-head.result eb c.head-head.ensures in
-    let count : n ≡ length l.buckets.items = search rules in
-    let fits : c.bucket-bucket.result < length l.buckets.items = subst (λ z. c.bucket-bucket.result < z) count (subst (λ i. i < n) (sym eb) (here k w m l.slot l.buckets.items n rs x h)) in
-    let found = subst (IsFound (same_nodes k m v.node) (h.each (x % n) (here k w m l.slot l.buckets.items n rs x h)).groups c.group_of-place.result.before) c.in-Some.is (c.group_of-place.ensures (h.each (x % n) (here k w m l.slot l.buckets.items n rs x h)).groups chain) in
-    let group = group_at m l.slot c.head-head.result (h.each (x % n) (here k w m l.slot l.buckets.items n rs x h)).groups (same_nodes k m v.node) c.group_of-place.result.before c.in-Some.first chain found in
-    let first = c.in-Some.first in let bef = c.group_of-place.result.before in
-    let pool = c.join.ensures.pool ∙ (λ i. joined m l.slot (c.left_end-left.ensures i) (c.link-link.ensures i).forth (c.right_end-right.ensures i) (c.link-link.ensures i).back) in
-    let heads = c.join.ensures.heads ∙ (λ i. heads_joined (c.left_end-left.ensures i) l.buckets.items c.bucket-bucket.result (c.link-link.ensures i).forth) in
-    (removed k w m l.slot l.buckets.items n c.join.new.p c.join.new.self.buckets.items c.join.new.self.slot (vec_len c.join.new.self.buckets) c.join.ensures.slot c.join.ensures.count xs v.node ys c.bucket-bucket.result eb c.head-head.result c.head-head.ensures fits
-    h bef first found pool heads).0
+pub join-requires-clause-bucket : goal.join-requires-clause-bucket
+join-requires-clause-bucket g c = let v = c.args in let m = v.p.now in let l = v.self.now in let k = g.H.KeyHash.keying l.keys in let w = g.met.H.KeyHash.lawful l.keys in let n = vec_len l.buckets in let r = v.node in let x = hash_node k m r in
+    let ex : c.link-link.result.tag.key ≡ x = ap (λ (y : Link). y.tag.key) c.link-link.ensures ∙ tag_is l k w m c.requires.0 r c.requires.1 c.requires.2 in
+    let eb : c.bucket-bucket.result ≡ x % n = c.bucket-bucket.ensures ∙ ap (λ z. z % n) ex in
+    subst (λ i. i < n) (sym eb) (here l k w m (c.requires.0 ++ r ∷ c.requires.1) x c.requires.2)
 
-pub returns-in-Some-clause-keeps : goal.returns-in-Some-clause-keeps
-returns-in-Some-clause-keeps g c xs ys h = let v = c.args in let m = v.p.now in let l = v.self.now in let k = g.H.KeyHash.keying l.keys in let w = g.met.H.KeyHash.lawful l.keys in let n = vec_len l.buckets in let x = hash_node k m v.node in
-    let eb : c.bucket-bucket.result ≡ x % n = c.bucket-bucket.ensures ∙ ap (λ z. z % n) (c.hash.ensures ∙ sym (hash_is k m v.node c.value.result.now c.value.ensures)) in
-    let rs = xs ++ v.node ∷ ys in
-    let chain = chain_here k w m l.slot l.buckets.items n rs h x c.bucket-bucket.result c.head-head.result eb c.head-head.ensures in
-    let count : n ≡ length l.buckets.items = search rules in
-    let fits : c.bucket-bucket.result < length l.buckets.items = subst (λ z. c.bucket-bucket.result < z) count (subst (λ i. i < n) (sym eb) (here k w m l.slot l.buckets.items n rs x h)) in
-    let found = subst (IsFound (same_nodes k m v.node) (h.each (x % n) (here k w m l.slot l.buckets.items n rs x h)).groups c.group_of-place.result.before) c.in-Some.is (c.group_of-place.ensures (h.each (x % n) (here k w m l.slot l.buckets.items n rs x h)).groups chain) in
-    let group = group_at m l.slot c.head-head.result (h.each (x % n) (here k w m l.slot l.buckets.items n rs x h)).groups (same_nodes k m v.node) c.group_of-place.result.before c.in-Some.first chain found in
-    let first = c.in-Some.first in let bef = c.group_of-place.result.before in
-    let pool = c.join.ensures.pool ∙ (λ i. joined m l.slot (c.left_end-left.ensures i) (c.link-link.ensures i).forth (c.right_end-right.ensures i) (c.link-link.ensures i).back) in
-    let heads = c.join.ensures.heads ∙ (λ i. heads_joined (c.left_end-left.ensures i) l.buckets.items c.bucket-bucket.result (c.link-link.ensures i).forth) in
-    (removed k w m l.slot l.buckets.items n c.join.new.p c.join.new.self.buckets.items c.join.new.self.slot (vec_len c.join.new.self.buckets) c.join.ensures.slot c.join.ensures.count xs v.node ys c.bucket-bucket.result eb c.head-head.result c.head-head.ensures fits
-    h bef first found pool heads).1
+pub set_link-requires-clause-held : goal.set_link-requires-clause-held
+set_link-requires-clause-held g c = let l = c.args.self.now in let m = c.args.p.now in let r = c.args.node in
+    ap (λ (z : Pooled g.row.T.Denot). ref_of z r.name) c.join.ensures.pool ∙ ref-joined l.slot m c.or-left.result c.link-link.result.forth c.or-right.result c.link-link.result.back r.name ∙ held_it l (g.H.KeyHash.keying l.keys) (g.met.H.KeyHash.lawful l.keys) m c.requires.0 r c.requires.1 c.requires.2
+
+pub set_link-requires-clause-slot : goal.set_link-requires-clause-slot
+set_link-requires-clause-slot g c = let l = c.args.self.now in let m = c.args.p.now in let b = c.requires.2.buckets in
+    subst (λ (z : ℕ × ℕ). z.0 < z.1) (λ i. (sym c.join.ensures.slot i, sym (ap (λ (z : Pooled g.row.T.Denot). z.slots) c.join.ensures.pool ∙ slots-joined l.slot m c.or-left.result c.link-link.result.forth c.or-right.result c.link-link.result.back) i)) b.slot
+
+pub groups_left-self-requires : goal.groups_left-self-requires
+groups_left-self-requires g c = let l = c.args.self.now in subst (λ z. 0 < z) (sym c.join.ensures.groups) (some_groups l (g.H.KeyHash.keying l.keys) (g.met.H.KeyHash.lawful l.keys) c.args.p.now c.requires.0 c.args.node c.requires.1 c.requires.2)
+
+pub returns-clause-list : goal.returns-clause-list
+returns-clause-list g c xs ys h = let v = c.args in let m = v.p.now in let l = v.self.now in let k = g.H.KeyHash.keying l.keys in let w = g.met.H.KeyHash.lawful l.keys in let n = vec_len l.buckets in let r = v.node in let x = hash_node k m r in
+    let ex : c.link-link.result.tag.key ≡ x = ap (λ (y : Link). y.tag.key) c.link-link.ensures ∙ tag_is l k w m xs r ys h in
+    let eb : c.bucket-bucket.result ≡ x % n = c.bucket-bucket.ensures ∙ ap (λ z. z % n) ex in
+    let rs = xs ++ r ∷ ys in
+    let chain = chain_here l k w m rs h x (slice_index_or l.buckets.items c.bucket-bucket.result None) (ap (λ i. slice_index_or l.buckets.items i None) eb) in
+    let gs = groups_at l k w m rs h x in
+    let prev = c.prev_of-prev.result in let next = c.next_of-next.result in
+    let ep = c.prev_of-prev.ensures xs ys h in let en = c.next_of-next.ensures xs ys h in
+    let found = spot l k w m xs r ys h prev next c.place_at-place.result.before c.place_at-place.result.first ep en
+    (λ z i e. c.place_at-place.ensures gs z chain i (c.end_at-end.ensures ∙ ap (λ (y : Link). end_at r y.back next) c.link-link.ensures ∙ e)) in
+    let right = c.or-right.ensures ∙ ap (option_or next) c.other-first.ensures in
+    let there : Spot l k w m xs r ys h c.or-left.result c.or-right.result = subst (λ (z : Option Ref × Option Ref). Spot l k w m xs r ys h z.0 z.1) (λ i. (sym c.or-left.ensures i, sym right i)) found in
+    let made : Link = record { back = prev; forth = next; size = 0; height = 0; tag = c.link-link.result.tag } in
+    let on = removed l k w m xs r ys h (record c.join.new.self { groups = c.groups_left-self.result }) c.join.new.p c.set_link.new.self made c.or-left.result c.or-right.result c.join.ensures.slot c.join.ensures.count there
+    (c.join.ensures.pool ∙ (λ i. joined m l.slot c.or-left.result (c.link-link.ensures i).forth c.or-right.result (c.link-link.ensures i).back))
+    (c.join.ensures.heads ∙ (λ i. heads_joined c.or-left.result l.buckets.items (eb i) (c.link-link.ensures i).forth))
+    (c.set_link.ensures ∙ ap (λ t. with_link c.join.new.p r.name t made) c.join.ensures.slot) (ap (λ (y : Link). y.tag) c.link-link.ensures) ep en
+    (c.groups_left-self.ensures ∙ ap (λ z. cond (is_empty prev next) (z - 1) z) c.join.ensures.groups) in
+    on.0
+
+pub returns-clause-keeps : goal.returns-clause-keeps
+returns-clause-keeps g c xs ys h = let v = c.args in let m = v.p.now in let l = v.self.now in let k = g.H.KeyHash.keying l.keys in let w = g.met.H.KeyHash.lawful l.keys in let n = vec_len l.buckets in let r = v.node in let x = hash_node k m r in
+    let ex : c.link-link.result.tag.key ≡ x = ap (λ (y : Link). y.tag.key) c.link-link.ensures ∙ tag_is l k w m xs r ys h in
+    let eb : c.bucket-bucket.result ≡ x % n = c.bucket-bucket.ensures ∙ ap (λ z. z % n) ex in
+    let rs = xs ++ r ∷ ys in
+    let chain = chain_here l k w m rs h x (slice_index_or l.buckets.items c.bucket-bucket.result None) (ap (λ i. slice_index_or l.buckets.items i None) eb) in
+    let gs = groups_at l k w m rs h x in
+    let prev = c.prev_of-prev.result in let next = c.next_of-next.result in
+    let ep = c.prev_of-prev.ensures xs ys h in let en = c.next_of-next.ensures xs ys h in
+    let found = spot l k w m xs r ys h prev next c.place_at-place.result.before c.place_at-place.result.first ep en
+    (λ z i e. c.place_at-place.ensures gs z chain i (c.end_at-end.ensures ∙ ap (λ (y : Link). end_at r y.back next) c.link-link.ensures ∙ e)) in
+    let right = c.or-right.ensures ∙ ap (option_or next) c.other-first.ensures in
+    let there : Spot l k w m xs r ys h c.or-left.result c.or-right.result = subst (λ (z : Option Ref × Option Ref). Spot l k w m xs r ys h z.0 z.1) (λ i. (sym c.or-left.ensures i, sym right i)) found in
+    let made : Link = record { back = prev; forth = next; size = 0; height = 0; tag = c.link-link.result.tag } in
+    let on = removed l k w m xs r ys h (record c.join.new.self { groups = c.groups_left-self.result }) c.join.new.p c.set_link.new.self made c.or-left.result c.or-right.result c.join.ensures.slot c.join.ensures.count there
+    (c.join.ensures.pool ∙ (λ i. joined m l.slot c.or-left.result (c.link-link.ensures i).forth c.or-right.result (c.link-link.ensures i).back))
+    (c.join.ensures.heads ∙ (λ i. heads_joined c.or-left.result l.buckets.items (eb i) (c.link-link.ensures i).forth))
+    (c.set_link.ensures ∙ ap (λ t. with_link c.join.new.p r.name t made) c.join.ensures.slot) (ap (λ (y : Link). y.tag) c.link-link.ensures) ep en
+    (c.groups_left-self.ensures ∙ ap (λ z. cond (is_empty prev next) (z - 1) z) c.join.ensures.groups) in
+    on.1
+
+pub returns-clause-remembers : goal.returns-clause-remembers
+returns-clause-remembers g c xs ys h = let v = c.args in let m = v.p.now in let l = v.self.now in let k = g.H.KeyHash.keying l.keys in let w = g.met.H.KeyHash.lawful l.keys in let n = vec_len l.buckets in let r = v.node in let x = hash_node k m r in
+    let ex : c.link-link.result.tag.key ≡ x = ap (λ (y : Link). y.tag.key) c.link-link.ensures ∙ tag_is l k w m xs r ys h in
+    let eb : c.bucket-bucket.result ≡ x % n = c.bucket-bucket.ensures ∙ ap (λ z. z % n) ex in
+    let rs = xs ++ r ∷ ys in
+    let chain = chain_here l k w m rs h x (slice_index_or l.buckets.items c.bucket-bucket.result None) (ap (λ i. slice_index_or l.buckets.items i None) eb) in
+    let gs = groups_at l k w m rs h x in
+    let prev = c.prev_of-prev.result in let next = c.next_of-next.result in
+    let ep = c.prev_of-prev.ensures xs ys h in let en = c.next_of-next.ensures xs ys h in
+    let found = spot l k w m xs r ys h prev next c.place_at-place.result.before c.place_at-place.result.first ep en
+    (λ z i e. c.place_at-place.ensures gs z chain i (c.end_at-end.ensures ∙ ap (λ (y : Link). end_at r y.back next) c.link-link.ensures ∙ e)) in
+    let right = c.or-right.ensures ∙ ap (option_or next) c.other-first.ensures in
+    let there : Spot l k w m xs r ys h c.or-left.result c.or-right.result = subst (λ (z : Option Ref × Option Ref). Spot l k w m xs r ys h z.0 z.1) (λ i. (sym c.or-left.ensures i, sym right i)) found in
+    let made : Link = record { back = prev; forth = next; size = 0; height = 0; tag = c.link-link.result.tag } in
+    let on = removed l k w m xs r ys h (record c.join.new.self { groups = c.groups_left-self.result }) c.join.new.p c.set_link.new.self made c.or-left.result c.or-right.result c.join.ensures.slot c.join.ensures.count there
+    (c.join.ensures.pool ∙ (λ i. joined m l.slot c.or-left.result (c.link-link.ensures i).forth c.or-right.result (c.link-link.ensures i).back))
+    (c.join.ensures.heads ∙ (λ i. heads_joined c.or-left.result l.buckets.items (eb i) (c.link-link.ensures i).forth))
+    (c.set_link.ensures ∙ ap (λ t. with_link c.join.new.p r.name t made) c.join.ensures.slot) (ap (λ (y : Link). y.tag) c.link-link.ensures) ep en
+    (c.groups_left-self.ensures ∙ ap (λ z. cond (is_empty prev next) (z - 1) z) c.join.ensures.groups) in
+    on.2
+
+pub returns-clause-tags : goal.returns-clause-tags
+returns-clause-tags g c = let xs = c.requires.0 in let ys = c.requires.1 in let h = c.requires.2 in
+    let v = c.args in let m = v.p.now in let l = v.self.now in let k = g.H.KeyHash.keying l.keys in let w = g.met.H.KeyHash.lawful l.keys in let n = vec_len l.buckets in let r = v.node in let x = hash_node k m r in
+    let ex : c.link-link.result.tag.key ≡ x = ap (λ (y : Link). y.tag.key) c.link-link.ensures ∙ tag_is l k w m xs r ys h in
+    let eb : c.bucket-bucket.result ≡ x % n = c.bucket-bucket.ensures ∙ ap (λ z. z % n) ex in
+    let rs = xs ++ r ∷ ys in
+    let chain = chain_here l k w m rs h x (slice_index_or l.buckets.items c.bucket-bucket.result None) (ap (λ i. slice_index_or l.buckets.items i None) eb) in
+    let gs = groups_at l k w m rs h x in
+    let prev = c.prev_of-prev.result in let next = c.next_of-next.result in
+    let ep = c.prev_of-prev.ensures xs ys h in let en = c.next_of-next.ensures xs ys h in
+    let found = spot l k w m xs r ys h prev next c.place_at-place.result.before c.place_at-place.result.first ep en
+    (λ z i e. c.place_at-place.ensures gs z chain i (c.end_at-end.ensures ∙ ap (λ (y : Link). end_at r y.back next) c.link-link.ensures ∙ e)) in
+    let right = c.or-right.ensures ∙ ap (option_or next) c.other-first.ensures in
+    let there : Spot l k w m xs r ys h c.or-left.result c.or-right.result = subst (λ (z : Option Ref × Option Ref). Spot l k w m xs r ys h z.0 z.1) (λ i. (sym c.or-left.ensures i, sym right i)) found in
+    let made : Link = record { back = prev; forth = next; size = 0; height = 0; tag = c.link-link.result.tag } in
+    let on = removed l k w m xs r ys h (record c.join.new.self { groups = c.groups_left-self.result }) c.join.new.p c.set_link.new.self made c.or-left.result c.or-right.result c.join.ensures.slot c.join.ensures.count there
+    (c.join.ensures.pool ∙ (λ i. joined m l.slot c.or-left.result (c.link-link.ensures i).forth c.or-right.result (c.link-link.ensures i).back))
+    (c.join.ensures.heads ∙ (λ i. heads_joined c.or-left.result l.buckets.items (eb i) (c.link-link.ensures i).forth))
+    (c.set_link.ensures ∙ ap (λ t. with_link c.join.new.p r.name t made) c.join.ensures.slot) (ap (λ (y : Link). y.tag) c.link-link.ensures) ep en
+    (c.groups_left-self.ensures ∙ ap (λ z. cond (is_empty prev next) (z - 1) z) c.join.ensures.groups) in
+    on.3

@@ -1,11 +1,10 @@
 use Rattle.std.proofs.Common.{◌≡◌, ◌++◌, Option, Some, None, sym, ap, ◌∙◌, subst}
 use Rattle.mi_node.specs.Pool.{IsHeldIf, Keeps}
-use Rattle.mi_node.specs.Refs.{first_of, last_of}
-use Rattle.mi_node.specs.declared.heap.NodeRef.{NodeRef}
+use Rattle.mi_node.specs.Refs.{Ref, first_of, last_of}
 use Rattle.mi_node.specs.declared.link.Link.{Link}
-use Rattle.mi_list.specs.Linked.{joined}
+use Rattle.mi_node.specs.Neighbours.{joined}
 use Rattle.mi_list.proofs.Changes.{ends_held, Joined, relinked}
-use Rattle.mi_list.proofs.Links.{keeps_joined}
+use Rattle.mi_node.proofs.NeighbourLaws.{keeps_joined}
 use Rattle.mi_list.proofs.list.List.relink.Goals as goal
 
 pub join-requires-clause-back : goal.join-requires-clause-back
@@ -24,7 +23,7 @@ returns-clause-list g c xs ys h =
     let b : link.back ≡ last_of None xs = ap (λ (y : Link). y.back) c.link-link.ensures ∙ h.back_is in
     let f : link.forth ≡ first_of ys None = ap (λ (y : Link). y.forth) c.link-link.ensures ∙ h.forth_is in
     let told : Joined l k m n link.back (Some x) link.forth (Some x) = record { pool = c.join.ensures.pool; first = c.join.ensures.first; last = c.join.ensures.last; slot = c.join.ensures.slot } in
-    relinked l k m n xs x ys h (subst (λ (z : Option NodeRef × Option NodeRef). Joined l k m n z.0 (Some x) z.1 (Some x)) (λ i. (b i, f i)) told)
+    relinked l k m n xs x ys h (subst (λ (z : Option Ref × Option Ref). Joined l k m n z.0 (Some x) z.1 (Some x)) (λ i. (b i, f i)) told)
 
 pub returns-clause-keeps : goal.returns-clause-keeps
 returns-clause-keeps g c xs ys h =

@@ -1,11 +1,10 @@
 use Rattle.std.proofs.Common.{◌≡◌, ◌++◌, Option, None, sym, ap, ◌∙◌, subst}
 use Rattle.mi_node.specs.Pool.{IsHeldIf, Keeps}
-use Rattle.mi_node.specs.Refs.{first_of, last_of}
-use Rattle.mi_node.specs.declared.heap.NodeRef.{NodeRef}
+use Rattle.mi_node.specs.Refs.{Ref, first_of, last_of}
 use Rattle.mi_node.specs.declared.link.Link.{Link}
-use Rattle.mi_list.specs.Linked.{joined}
+use Rattle.mi_node.specs.Neighbours.{joined}
 use Rattle.mi_list.proofs.Changes.{knows, Joined, unlinked}
-use Rattle.mi_list.proofs.Links.{keeps_joined}
+use Rattle.mi_node.proofs.NeighbourLaws.{keeps_joined}
 use Rattle.mi_list.proofs.list.List.unlink.Goals as goal
 
 pub link-link-requires-clause-held : goal.link-link-requires-clause-held
@@ -25,7 +24,7 @@ returns-clause-list g c xs ys h =
     let b : link.back ≡ last_of None xs = ap (λ (y : Link). y.back) c.link-link.ensures ∙ on.back_is in
     let f : link.forth ≡ first_of ys None = ap (λ (y : Link). y.forth) c.link-link.ensures ∙ on.forth_is in
     let told : Joined l k m n link.back link.forth link.forth link.back = record { pool = c.join.ensures.pool; first = c.join.ensures.first; last = c.join.ensures.last; slot = c.join.ensures.slot } in
-    unlinked l k m n xs x ys h (subst (λ (z : Option NodeRef × Option NodeRef). Joined l k m n z.0 z.1 z.1 z.0) (λ i. (b i, f i)) told)
+    unlinked l k m n xs x ys h (subst (λ (z : Option Ref × Option Ref). Joined l k m n z.0 z.1 z.1 z.0) (λ i. (b i, f i)) told)
 
 pub returns-clause-keeps : goal.returns-clause-keeps
 returns-clause-keeps g c xs ys h =

@@ -1,6 +1,6 @@
 use Rattle.std.proofs.Common.{◌≡◌, List as Seq, ◌++◌, None}
 use Rattle.mi_node.specs.Refs.{last_of}
-use Rattle.mi_node.specs.declared.heap.NodeRef.{NodeRef as Ref}
+use Rattle.mi_node.specs.Refs.{Ref}
 use Rattle.mi_list.specs.Listed.{IsListed}
 use Rattle.mi_list.proofs.list.tests.assert_back.Given as goal
 

@@ -1,5 +1,5 @@
 use Rattle.std.proofs.Common.{List as Seq, [], ◌∷◌, ◌++◌, sym, ◌∙◌, subst, append_assoc}
-use Rattle.mi_node.specs.declared.heap.NodeRef.{NodeRef as Ref}
+use Rattle.mi_node.specs.Refs.{Ref}
 use Rattle.mi_node.proofs.Refs.{first_split}
 use Rattle.mi_list.specs.Listed.{IsListed}
 use Rattle.mi_list.proofs.list.tests.assert_forth.Goals as goal

@@ -1,0 +1,9 @@
+use Rattle.std.proofs.Common.{◌≡◌, replicate, vec_len, None, refl, rules}
+use Rattle.mi_chain.proofs.chains.Chains.new.Goals as goal
+
+pub returns : goal.returns
+returns g c =
+    let v = c.in_ok-vec.field-0 in
+    let count : vec_len v ≡ 16 = search rules in
+    let items : v.items ≡ replicate 16 None = search rules in
+    record { slot = refl; keys_are = refl; power = (4, count); empty = λ i lt. search rules; none = refl }
