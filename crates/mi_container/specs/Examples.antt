@@ -41,7 +41,9 @@ node name = record { name = name; mark = 0 }
 
 -- four rows, the last directly before row 1 in the line
 abbrev pub before : Data
-before = run (Insert None (node 10) (account 7 false) ∷ Insert None (node 11) (account 7 true) ∷ Insert None (node 12) (account 7 false) ∷ Insert (Some (3, 1)) (node 13) (account 7 true) ∷ []) (opened_data accounts)
+before =
+    run (Insert None (node 10) (account 7 false) ∷ Insert None (node 11) (account 7 true) ∷ Insert None (node 12) (account 7 false)
+    ∷ Insert (Some (3, 1)) (node 13) (account 7 true) ∷ []) (opened_data accounts)
 
 -- 1 and its neighbour 3 are erased, 0 gets another balance and its old one again, 2 goes first in the line
 abbrev pub changes : List Change
@@ -82,4 +84,5 @@ InversesAreSmall = (inverses changes before
 
 -- all taken back: the data before, 0 first among its equals again
 abbrev pub AllIsGivenBack : Type 0
-AllIsGivenBack = (all_back (inverses changes before) after ≡ before) × (view accounts (table_of (all_back (inverses changes before) after)) 1 ≡ 0 ∷ 1 ∷ 2 ∷ 3 ∷ [])
+AllIsGivenBack = (all_back (inverses changes before) after ≡ before)
+    × (view accounts (table_of (all_back (inverses changes before) after)) 1 ≡ 0 ∷ 1 ∷ 2 ∷ 3 ∷ [])

@@ -140,7 +140,12 @@ old_content old now = record { values = old.values; stamps = stamps_back old.pla
 
 -- the data without the change of an inverse, from what the inverse and the kept node remember
 abbrev pub taken_back : Inverse → Data → Data
-taken_back (Inserted r) d = record d { rows = left_out r.id d.rows; orders = map (in_order (without r.id)) d.orders; next = d.next - 1; arrivals = d.arrivals - 1 }
+taken_back (Inserted r) d = record d {
+  rows = left_out r.id d.rows;
+  orders = map (in_order (without r.id)) d.orders;
+  next = d.next - 1;
+  arrivals = d.arrivals - 1;
+}
 taken_back (Put r old) d = record d { rows = with_content r.id (old_content old (content_of d.rows r.id)) d.rows; arrivals = d.arrivals - 1 }
 taken_back (Erased r why) d = returned r.id (kept_of d.kept r.id) d
 taken_back (Relocated x r b) d = record d { orders = moved_order x (λ ids. stand (option_map (λ (q : RowRef). q.id) b) r.id (without r.id ids)) d.orders }

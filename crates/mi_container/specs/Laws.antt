@@ -31,7 +31,8 @@ OpensEmpty = (s : Shape) → is_schema s ≡ true → IsData s (opened_data s) �
 
 -- the table of changed data is the changed table, and what holds of data is kept
 abbrev pub ChangeIsTables : Type 0
-ChangeIsTables = (s : Shape) (c : Change) (d : Data) → IsData s d → Allowed s c d → IsData s (changed c d) × (table_of (changed c d) ≡ table_changed s c (table_of d))
+ChangeIsTables = (s : Shape) (c : Change) (d : Data) → IsData s d → Allowed s c d
+    → IsData s (changed c d) × (table_of (changed c d) ≡ table_changed s c (table_of d))
 
 -- the inverse of a change can be taken back, and gives exactly the data before
 abbrev pub ChangeIsUndone : Type 0

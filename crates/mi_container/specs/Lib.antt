@@ -7,3 +7,4 @@ pub mod Laws
 pub mod Examples
 pub mod Tags
 pub mod Orders
+pub mod OrderLaws

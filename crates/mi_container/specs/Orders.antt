@@ -1,7 +1,7 @@
 -- How an index sees what nodes hold. Stamps stand in the links of nodes, and are no part of it.
 --     stored_order, place_in      two nodes by their keys, and one beside a probe
 --     stored_tag, sought_tag, is_decided      the tags of both, and whether a tag says all of its key
---     keying_hash, sought_hash, has_one_key, is_key      hashes and equality of keys in a hashed index
+--     keying_hash, sought_hash, has_one_key, is_key, keying_of      hashes and equality of keys in a hashed index
 use Rattle.std.specs.Prelude.{◌≡◌, ◌<◌, ℕ, pos, negsuc, ◌==◌, ◌&&◌, nat_le, Bool, true, false, if◌then◌else◌, List, [], ◌∷◌, length}
 use Rattle.std.specs.declared.option.Option.{Option}
 use Rattle.std.specs.declared.option.Option.TheVariants.{None, Some}
@@ -19,6 +19,7 @@ use Rattle.mi_value.specs.Order.{compare_key, compare_prefix}
 use Rattle.mi_value.specs.Hash.{values_hash, key_values}
 use Rattle.mi_model.specs.Key.{Row, compare_rows, compare_to_row}
 use Rattle.mi_container.specs.declared.stored.Stored.{Stored}
+use Rattle.mi_chain.specs.Keying.{Keying, IsLawful}
 use Rattle.mi_container.specs.Tags.{part_tag, probe_tag, is_exact}
 
 -- the part that an index without parts goes by: the id alone
@@ -91,6 +92,10 @@ abbrev pub is_key : List KeyPart → Stored → Probe → Bool
 is_key ps v (Key vs) = is_whole ps vs.now v.row
 is_key ps v (Of q) = is_eq (compare_key ps v.row q.now)
 
+-- all of it, as chains see it
+abbrev pub keying_of : List KeyPart → Keying Stored
+keying_of ps = record { hash = keying_hash ps; hash_key = sought_hash ps; same = has_one_key ps; same_key = is_key ps }
+
 -- What an order and its tags owe
 
 -- the order is total, a smaller tag is less, and one tag that decides is one key
@@ -114,15 +119,6 @@ abbrev pub OrdersAreLawful : Type 0
 OrdersAreLawful = (c : ColumnType) (ps : List KeyPart) → IsTagged c ps × ((k : Probe) → IsSought c ps k)
     × ((k : Probe) (x y : Stored) → is_gt (stored_order ps x y) ≡ false → Rises ps k x y)
 
--- one key is an equivalence with one hash, and a probe is of one key, whose hash it has
-pub record IsKeying (ps : List KeyPart) : Type 0 where
-  pub reflexive : (x : Stored) → has_one_key ps x x ≡ true
-  pub symmetric : (x y : Stored) → has_one_key ps x y ≡ true → has_one_key ps y x ≡ true
-  pub transitive : (x y z : Stored) → has_one_key ps x y ≡ true → has_one_key ps y z ≡ true → has_one_key ps x z ≡ true
-  pub one_hash : (x y : Stored) → has_one_key ps x y ≡ true → keying_hash ps x ≡ keying_hash ps y
-  pub agrees : (x y : Stored) (p : Probe) → has_one_key ps x y ≡ true → is_key ps x p ≡ true → is_key ps y p ≡ true
-  pub one_key : (x y : Stored) (p : Probe) → is_key ps x p ≡ true → is_key ps y p ≡ true → has_one_key ps x y ≡ true
-  pub probe_hash : (x : Stored) (p : Probe) → is_key ps x p ≡ true → keying_hash ps x ≡ sought_hash ps p
-
+-- equality of keys is an equivalence, and hashes and probes agree with it
 abbrev pub KeyingsAreLawful : Type 0
-KeyingsAreLawful = (ps : List KeyPart) → IsKeying ps
+KeyingsAreLawful = (ps : List KeyPart) → IsLawful (keying_of ps)

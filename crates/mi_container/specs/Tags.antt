@@ -2,7 +2,8 @@
 --     value_tag      of a value in a column of a type: a smaller tag is less; values of another type are below or above all
 --     part_tag      of the first part of a key, turned round where it descends
 --     is_exact      whether a tag says all of its value
-use Rattle.std.specs.Prelude.{◌≡◌, ◌<◌, ℕ, ℤ, pos, negsuc, ◌+◌, ◌-◌, ◌*◌, ◌^◌, Bool, true, false, ◌&&◌, nat_lt, min, if◌then◌else◌, List, [], ◌∷◌, slice_get, zero, suc}
+use Rattle.std.specs.Prelude.{◌≡◌, ◌<◌, ℕ, ℤ, pos, negsuc, ◌+◌, ◌-◌, ◌*◌, ◌^◌, zero, suc, nat_lt, min}
+use Rattle.std.specs.Prelude.{Bool, true, false, ◌&&◌, if◌then◌else◌, List, [], ◌∷◌, slice_get}
 use Rattle.std.specs.declared.cmp.Ordering.TheVariants.{Less, Equal, Greater}
 use Rattle.std.specs.declared.option.Option.{Option}
 use Rattle.std.specs.declared.option.Option.TheVariants.{None, Some}
@@ -79,12 +80,14 @@ TagsOrderKeys = (c : ColumnType) (p : KeyPart) (ps : List KeyPart) (r s : List V
 
 -- two that have one exact tag are equal by a key of this part alone
 abbrev pub ExactTagsAreKeys : Type 0
-ExactTagsAreKeys = (c : ColumnType) (p : KeyPart) (r s : List Value) → is_exact c p (part_tag c p r) ≡ true → part_tag c p r ≡ part_tag c p s → compare_key (p ∷ []) r s ≡ Equal
+ExactTagsAreKeys = (c : ColumnType) (p : KeyPart) (r s : List Value)
+    → is_exact c p (part_tag c p r) ≡ true → part_tag c p r ≡ part_tag c p s → compare_key (p ∷ []) r s ≡ Equal
 
 -- a key that begins with a value is greater than the records of a smaller tag than its own, and less than those of a greater one
 abbrev pub TagsOrderProbes : Type 0
 TagsOrderProbes = (c : ColumnType) (p : KeyPart) (ps : List KeyPart) (v : Value) (vs r : List Value)
-    → (part_tag c p r < probe_tag c p v → compare_prefix (p ∷ ps) (v ∷ vs) r ≡ Greater) × (probe_tag c p v < part_tag c p r → compare_prefix (p ∷ ps) (v ∷ vs) r ≡ Less)
+    → (part_tag c p r < probe_tag c p v → compare_prefix (p ∷ ps) (v ∷ vs) r ≡ Greater)
+    × (probe_tag c p v < part_tag c p r → compare_prefix (p ∷ ps) (v ∷ vs) r ≡ Less)
 
 -- and one of a value alone is that of the records of its own tag, where that is exact
 abbrev pub ExactTagsAreProbes : Type 0

@@ -1,6 +1,8 @@
 //! The laws of undo over a container's plain data, and those of tags: each is the contract of a function that does nothing.
 //! They say nothing new of tables: the table of changed data is the definitions' changed table.
-ghost use Rattle.mi_container.specs.Laws.{IdsAreShown, SortedIsShown, HashedIsShown, OpensEmpty, ChangeIsTables, ChangeIsUndone, RunsUnwind, ChangeFits, NewestIsBack, OldestIsSettled, SettledLater, KeptByOne};
+ghost use Rattle.mi_container.specs.Laws.{OpensEmpty, ChangeIsTables, ChangeIsUndone, RunsUnwind, ChangeFits};
+ghost use Rattle.mi_container.specs.Laws.{NewestIsBack, OldestIsSettled, SettledLater, KeptByOne};
+ghost use Rattle.mi_container.specs.Laws.{SortedIsShown, HashedIsShown, IdsAreShown};
 ghost use Rattle.mi_container.specs.Orders.{OrdersAreLawful, KeyingsAreLawful};
 ghost use Rattle.mi_container.specs.Tags.{TagsOrderKeys, ExactTagsAreKeys, TagsOrderProbes, ExactTagsAreProbes};
 

@@ -6,6 +6,7 @@ use crate::key::{compare_rows, compare_to_row, id_sought, is_whole_key};
 use crate::stored::Stored;
 use crate::tags::{is_exact, part_tag, probe_tag};
 use mi_catalog::Parts;
+use mi_chain::KeyHash;
 use mi_value::{ColumnType, Probe, Value, compare_key, hash_values, same_key};
 use std::cmp::Ordering;
 
@@ -103,40 +104,33 @@ pub struct ByHash {
     pub parts: Parts,
 }
 
-impl ByHash {
-    ghost use Rattle.mi_container.specs.Orders.{keying_hash, sought_hash, has_one_key, is_key};
+impl KeyHash<Stored> for ByHash {
+    ghost use Rattle.mi_container.specs.Orders.{keying_of};
+    ghost use Rattle.mi_container.specs.OrderLaws.{keyings_are_lawful};
 
-    /// The hash of a row's key.
-    pub fn hash(&self, value: &Stored) -> u64
-        ensures { result ≡ keying_hash self.now.parts value.now }
-    {
+    ghost keying = { λ h. keying_of h.parts };
+
+    fn hash(&self, value: &Stored) -> u64 {
         value.row.key_hash(self.parts.as_slice())
     }
 
-    /// The hash of a probe, which the rows of its key have.
-    pub fn hash_key(&self, probe: Probe<'_>) -> u64
-        ensures { result ≡ sought_hash self.now.parts probe.entry }
-    {
-        match probe {
+    fn hash_key(&self, key: Probe<'_>) -> u64 {
+        match key {
             Probe::Key(values) => hash_values(values),
             Probe::Of(record) => record.key_hash(self.parts.as_slice()),
         }
     }
 
-    /// Whether two rows have one key.
-    pub fn same(&self, left: &Stored, right: &Stored) -> bool
-        ensures { result ≡ has_one_key self.now.parts left.now right.now }
-    {
+    fn same(&self, left: &Stored, right: &Stored) -> bool {
         same_key(&left.row, &right.row, self.parts.as_slice())
     }
 
-    /// Whether a row has the key of a probe.
-    pub fn same_key(&self, value: &Stored, probe: Probe<'_>) -> bool
-        ensures { result ≡ is_key self.now.parts value.now probe.entry }
-    {
-        match probe {
+    fn same_key(&self, value: &Stored, key: Probe<'_>) -> bool {
+        match key {
             Probe::Key(values) => is_whole_key(self.parts.as_slice(), values, &value.row),
             Probe::Of(record) => same_key(&value.row, record, self.parts.as_slice()),
         }
     }
+
+    ghost lawful = { λ h. keyings_are_lawful h.parts };
 }

@@ -21,7 +21,11 @@ impl<T> Model for Journal<T> {
 
     ghost Value = { Noted T };
 
-    ghost view = { λ a. record { sessions = cut (reverse a.counts.items) (reverse a.entries.items); changes = deque_capacity a.entries - deque_len a.entries; starts = deque_capacity a.counts - deque_len a.counts } };
+    ghost view = { λ a. record {
+      sessions = cut (reverse a.counts.items) (reverse a.entries.items);
+      changes = deque_capacity a.entries - deque_len a.entries;
+      starts = deque_capacity a.counts - deque_len a.counts;
+    } };
 
     ghost invariant = { λ a. sum a.counts.items ≡ length a.entries.items };
 }

@@ -1,4 +1,4 @@
-use Rattle.mi_container.proofs.OrderLemmas.{keyings_are_lawful}
+use Rattle.mi_container.specs.OrderLaws.{keyings_are_lawful}
 use Rattle.mi_container.proofs.laws.keyings_are_lawful.Goals as goal
 
 pub returns : goal.returns
