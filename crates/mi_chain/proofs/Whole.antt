@@ -575,11 +575,11 @@ module _ {T H : Type 0} (c : Chains H) (k : Keying T) (w : IsLawful k) (m : Pool
         )
 
 -- chains of no node stand in every pool that has their slot
-pub new_chains : {T H : Type 0} (c : Chains H) (s : ℕ) (keys : H) (k : Keying T) (m : Pooled T) → AreNew c s keys → s < m.slots → 0 < vec_len c.buckets → AreChained c k m []
-new_chains c s keys k m new fits some = record {
+pub new_chains : {T H : Type 0} (c : Chains H) (s : ℕ) (keys : H) (k : Keying T) (m : Pooled T) → AreNew c s keys → s < m.slots → AreChained c k m []
+new_chains c s keys k m new fits = record {
   buckets = record {
     slot = subst (λ z. z < m.slots) (sym new.slot) fits;
-    some = some;
+    some = new.some;
     held = tt;
     apart = tt;
     rising = tt;

@@ -80,6 +80,7 @@ pub record AreChained {T H : Type 0} (c : Chains H) (k : Keying T) (m : Pooled T
 pub record AreNew {H : Type 0} (c : Chains H) (s : ℕ) (keys : H) : Type 0 where
   pub slot : c.slot ≡ s
   pub keys_are : c.keys ≡ keys
+  pub some : 0 < vec_len c.buckets
   pub power : IsPowerOfTwo (vec_len c.buckets)
   pub empty : (i : ℕ) → i < vec_len c.buckets → slice_index_or c.buckets.items i None ≡ None
   pub none : c.groups ≡ 0

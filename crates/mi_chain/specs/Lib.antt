@@ -3,4 +3,5 @@ pub mod Groups
 pub mod Heads
 pub mod Keying
 pub mod Moves
+pub mod OneKey
 pub mod Places

@@ -456,3 +456,6 @@ impl<H> Chains<H> {
         }
     }
 }
+
+#[cfg(test)]
+mod tests;

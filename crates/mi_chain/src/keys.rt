@@ -28,3 +28,6 @@ pub trait KeyHash<T> {
 
     ghost lawful: { (h : Self) → IsLawful (keying h) };
 }
+
+#[cfg(test)]
+pub(crate) mod one_key;

@@ -1,4 +1,4 @@
-use Rattle.std.proofs.Common.{◌≡◌, replicate, vec_len, None, refl, rules}
+use Rattle.std.proofs.Common.{◌≡◌, replicate, vec_len, None, refl, rules, arith}
 use Rattle.mi_chain.proofs.chains.Chains.new.Goals as goal
 
 pub returns : goal.returns
@@ -6,4 +6,4 @@ returns g c =
     let v = c.in_ok-vec.field-0 in
     let count : vec_len v ≡ 16 = search rules in
     let items : v.items ≡ replicate 16 None = search rules in
-    record { slot = refl; keys_are = refl; power = (4, count); empty = λ i lt. search rules; none = refl }
+    record { slot = refl; keys_are = refl; some = omega arith; power = (4, count); empty = λ i lt. search rules; none = refl }
