@@ -197,13 +197,21 @@ fn serve_all<D: Sessions + Drop, S: Read + Write + Drop>(
     Err(ServeFault::Turns)
 }
 
+/// States that nobody holds sessions where no connection is attached. It does nothing.
+fn nobody_holds<D: Sessions + Drop>(hub: &Hub<D>)
+    requires { hub.now.attached ≡ [] }
+    ensures { hub.now.held.holder ≡ None }
+{
+    let _ = hub.holder();
+}
+
 /// Accepts so many connections of a listener, from 1 to 64, numbers them from 1 in this order and attaches them. Then it reads
 /// one piece of at most 4,096 bytes from each open one in turn, until all have ended. One whose input is at its end is closed, and
 /// its stream is let go. Replies go to the connection's own stream.
 ///
 /// A connection whose read or write fails is cut and the others go on; the first such fault is answered at the end, as `Read` or
 /// `Write`. After `Accept`, `Memory` (the row had no room, or an attach was refused) and `Turns` (2^40 reads were made) all
-/// have been cut. Whatever the answer, no connection is attached then.
+/// have been cut. Whatever the answer, no connection is attached then, and nobody holds sessions.
 pub fn serve_listener<D: Sessions + Drop, L: OpenListener>(
     alloc: Global,
     hub: &mut Hub<D>,
@@ -215,6 +223,7 @@ where
     requires clients { (1 ≤ clients) × (clients ≤ MAX_CONNECTIONS) }
     requires none { hub.old.attached ≡ [] }
     ensures none { hub.new.attached ≡ [] }
+    ensures nobody { hub.new.held.holder ≡ None }
 
     // All connections have come and have had their turns until none was open; the answer is the first fault, or that there was none.
     ensures served { result ≢ Err ServeFault.Accept → result ≢ Err ServeFault.Memory → result ≢ Err ServeFault.Turns →
@@ -224,6 +233,10 @@ where
     ensures turns { result ≡ Err ServeFault.Turns → (turns : List Turn) × (left : List ℕ) × (mid : HubState)
         × ByTurns (range_with_len 1 clients) (with_clients clients hub.old) turns left mid × (length turns ≡ MAX_READS) }
 {
-    let row = accept_all(alloc, hub, listener, clients)?;
-    serve_all(hub, row)
+    let served = match accept_all(alloc, hub, listener, clients) {
+        Ok(row) => serve_all(hub, row),
+        Err(fault) => Err(fault),
+    };
+    nobody_holds(hub);
+    served
 }
