@@ -1,5 +1,7 @@
 pub mod Callers
+pub mod Flats
 pub mod Keeping
+pub mod Links
+pub mod Maps
 pub mod NeighbourLaws
-pub mod Places
 pub mod Refs

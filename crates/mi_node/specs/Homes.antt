@@ -1,52 +1,36 @@
--- What a place holds, and its changes.
-use Rattle.std.specs.Prelude.{◌≡◌, ℕ, List, [], Option, Some, None, length}
-use Rattle.std.specs.Global.{Vec}
-use Rattle.std.specs.Vec.{with_item}
+-- What stands at a place.
+use Rattle.std.specs.Prelude.{◌≡◌, ℕ, zero, suc, List, [], ◌∷◌, Option, Some, None}
 use Rattle.mi_node.specs.Refs.{Ref}
-use Rattle.mi_node.specs.declared.cell.Cell.{Cell}
 use Rattle.mi_node.specs.declared.home.Home.{Home}
-use Rattle.mi_node.specs.declared.home.State.{State}
-use Rattle.mi_node.specs.declared.home.State.TheVariants.{Free, Held}
+use Rattle.mi_node.specs.declared.home.Home.TheVariants.{Free, Held}
 
 module _ {T : Type 0} where
-  abbrev pub state_value : State T → Option T
-  state_value (Free n) = None
-  state_value (Held v ls) = Some v
+  -- the reference that was given last
+  abbrev pub node_in : Home T → Ref
+  node_in (Free r n) = r
+  node_in (Held r v) = r
 
   abbrev pub value_in : Home T → Option T
-  value_in h = state_value h.state
-
-  abbrev pub state_links : State T → List Cell
-  state_links (Free n) = []
-  state_links (Held v ls) = ls.items
-
-  abbrev pub links_in : Home T → List Cell
-  links_in h = state_links h.state
+  value_in (Free r n) = None
+  value_in (Held r v) = Some v
 
   abbrev pub IsFree : Home T → Type 0
   IsFree h = value_in h ≡ None
 
-  -- a node has n links
-  abbrev pub HasSlots : ℕ → State T → Type 0
-  HasSlots n (Free k) = Unit {0}
-  HasSlots n (Held v ls) = length ls.items ≡ n
+  -- free places, the first of which has the name k
+  abbrev pub AreFree : ℕ → List (Home T) → Type 0
+  AreFree k [] = Unit {0}
+  AreFree k (h ∷ hs) = ((node_in h).name ≡ k) × IsFree h × AreFree (suc k) hs
 
-  abbrev pub settled : Ref → T → Vec Cell → Home T
-  settled r v ls = record { node = r; state = Held v ls }
+  abbrev pub home_at : List (Home T) → ℕ → Option (Home T)
+  home_at [] k = None
+  home_at (h ∷ hs) zero = Some h
+  home_at (h ∷ hs) (suc k) = home_at hs k
 
-  abbrev pub vacated : ℕ → Home T → Home T
-  vacated n h = record h { state = Free n }
+  -- there is such a place, and it is free
+  abbrev pub IsFreeIf : Option (Home T) → Type 0
+  IsFreeIf None = ⊥
+  IsFreeIf (Some h) = IsFree h
 
-  abbrev pub other_value : T → State T → State T
-  other_value v (Free n) = Free n
-  other_value v (Held x ls) = Held v ls
-
-  abbrev pub with_value_in : T → Home T → Home T
-  with_value_in v h = record h { state = other_value v h.state }
-
-  abbrev pub other_cell : ℕ → Cell → State T → State T
-  other_cell s c (Free n) = Free n
-  other_cell s c (Held v ls) = Held v (with_item ls s c)
-
-  abbrev pub with_cell_in : ℕ → Cell → Home T → Home T
-  with_cell_in s c h = record h { state = other_cell s c h.state }
+  abbrev pub IsFreeAt : List (Home T) → ℕ → Type 0
+  IsFreeAt hs k = IsFreeIf (home_at hs k)

@@ -1,7 +1,10 @@
 pub mod Cells
+pub mod Chunks
+pub mod Columns
 pub mod Counted
 pub mod Homes
 pub mod Neighbours
+pub mod Places
 pub mod Pool
 pub mod RefView
 pub mod Refs

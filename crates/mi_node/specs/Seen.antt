@@ -1,28 +1,35 @@
--- The map that places stand for, that each place has its own name, and that each node has its links.
-use Rattle.std.specs.Prelude.{◌≡◌, ℕ, suc, List, [], ◌∷◌, map}
+-- The map that places and columns of cells stand for, and how they stand.
+use Rattle.std.specs.Prelude.{◌≡◌, ℕ, suc, ◌<◌, ◌≤◌, List, [], ◌∷◌, length}
 use Rattle.std.specs.Ordering.{nat_cmp}
 use Rattle.std.specs.FinMap.{FinMap, insert, empty}
-use Rattle.mi_node.specs.Cells.{link_in}
-use Rattle.mi_node.specs.Homes.{HasSlots}
+use Rattle.mi_node.specs.Columns.{links_at, AreLong}
+use Rattle.mi_node.specs.Homes.{node_in}
 use Rattle.mi_node.specs.Pool.{Entry, Pooled}
+use Rattle.mi_node.specs.declared.cell.Cell.{Cell}
 use Rattle.mi_node.specs.declared.home.Home.{Home}
-use Rattle.mi_node.specs.declared.home.State.{State}
-use Rattle.mi_node.specs.declared.home.State.TheVariants.{Free, Held}
+use Rattle.mi_node.specs.declared.home.Home.TheVariants.{Free, Held}
 
 module _ {T : Type 0} where
-  abbrev pub put_home : ℕ → ℕ → State T → FinMap nat_cmp (Entry T) → FinMap nat_cmp (Entry T)
-  put_home k mark (Free n) m = m
-  put_home k mark (Held v ls) m = insert m k (record { mark = mark; value = v; links = map link_in ls.items })
+  abbrev pub put_home : List (List Cell) → ℕ → Home T → FinMap nat_cmp (Entry T) → FinMap nat_cmp (Entry T)
+  put_home cs k (Free r n) m = m
+  put_home cs k (Held r v) m = insert m k (record { mark = r.mark; value = v; links = links_at cs k })
 
   -- the first place has the name k
-  abbrev pub map_from : ℕ → List (Home T) → FinMap nat_cmp (Entry T)
-  map_from k [] = empty
-  map_from k (h ∷ hs) = put_home k h.node.mark h.state (map_from (suc k) hs)
+  abbrev pub map_from : List (List Cell) → ℕ → List (Home T) → FinMap nat_cmp (Entry T)
+  map_from cs k [] = empty
+  map_from cs k (h ∷ hs) = put_home cs k h (map_from cs (suc k) hs)
 
-  unfoldable pub seen : ℕ → List (Home T) → Pooled T
-  seen n hs = record { entries = map_from 0 hs; slots = n }
+  unfoldable pub seen : ℕ → List (List Cell) → List (Home T) → Pooled T
+  seen n cs hs = record { entries = map_from cs 0 hs; slots = n }
 
-  -- the first place has the name k, and each node has n links
-  abbrev pub IsNamed : ℕ → ℕ → List (Home T) → Type 0
-  IsNamed n k [] = Unit {0}
-  IsNamed n k (h ∷ hs) = (h.node.name ≡ k) × HasSlots n h.state × IsNamed n (suc k) hs
+  -- each place keeps references of its own name, the first of which is k
+  abbrev pub IsNamed : ℕ → List (Home T) → Type 0
+  IsNamed k [] = Unit {0}
+  IsNamed k (h ∷ hs) = ((node_in h).name ≡ k) × IsNamed (suc k) hs
+
+  -- where there are places, each slot has a column, which has a cell for each of them
+  pub record IsSound (n : ℕ) (cs : List (List Cell)) (hs : List (Home T)) : Type 0 where
+    pub named : IsNamed 0 hs
+    pub few : length cs ≤ n
+    pub wide : 0 < length hs → length cs ≡ n
+    pub long : AreLong (length hs) cs

@@ -17,6 +17,16 @@ pub(crate) struct Cell {
     stamp: u64,
 }
 
+/// The stored form of a link that was never set.
+pub(crate) const EMPTY: Cell = Cell {
+    back: NOBODY,
+    forth: NOBODY,
+    size: 0,
+    height: 0,
+    key: 0,
+    stamp: 0,
+};
+
 impl Clone for Cell {
     ghost is_clone = { λ x y. y ≡ x };
 

@@ -3,11 +3,14 @@
 #![tactic(auto)]
 
 mod cell;
+mod chunks;
+mod columns;
 mod counted;
 mod home;
 mod link;
 pub mod neighbours;
 mod node_ref;
+mod places;
 mod pool;
 
 pub use counted::Counted;

@@ -1,15 +1,11 @@
 //! The pool of all nodes, seen as a finite map from places.
 //! Safe code over the places: it never reads what a link says.
-ghost use Rattle.std.specs.Prelude.{◌≡◌, ◌<◌, ◌≤◌, Some, None, IfOk, IfErr, length, map, replicate};
-ghost use Rattle.mi_node.specs.Cells.{link_in};
-ghost use Rattle.mi_node.specs.Pool.{IsHeld, ref_of, value_of, link_of, no_link, no_nodes, taken, without, with_link, with_value};
+ghost use Rattle.std.specs.Prelude.{◌≡◌, ◌<◌, ◌≤◌, Some, None, IfOk, IfErr};
+ghost use Rattle.mi_node.specs.Pool.{IsHeld, ref_of, value_of, link_of, no_nodes, taken, without, with_link, with_value};
 
-use crate::cell::Cell;
-use crate::home::{
-    Home, State, link_at, new_links, next_free, set_cell_in, settle, swap_in, vacate, value_at,
-};
 use crate::link::Link;
-use crate::node_ref::{NodeRef, PLACES};
+use crate::node_ref::NodeRef;
+use crate::places::Places;
 use std::alloc::{AllocError, Global};
 use std::marker::Model;
 
@@ -20,17 +16,16 @@ pub const MAX_SLOTS: usize = 16;
 /// slots. Contracts see the number of slots, and a map from the name of each node to the reference
 /// that `take` gave, its value and its links.
 ///
-/// A node's name is its place, a number below 2^31 - 1. A place that was given back is used again. A
+/// A node's name is its place, a number below 2^31. A place that was given back is used again. A
 /// reference is held while the pool's node of its name has that very reference: not after it was
 /// given back, even if its place is used again, and never in another pool.
 ///
-/// Dropping the pool drops the value of each held node.
+/// Memory is taken for 4,096 places at once: 32 bytes a slot for each, the value, and 8 bytes. No
+/// place is ever moved, and none is freed before the pool is dropped, which drops the value of each
+/// held node.
 #[derive(Drop)]
 pub struct Pool<T> {
-    homes: Vec<Home<T>>,
-    free: u32,
-    slots: usize,
-    alloc: Global,
+    places: Places<T>,
 }
 
 impl<T> Model for Pool<T> {
@@ -40,11 +35,11 @@ impl<T> Model for Pool<T> {
 
     ghost coded = { pooled_code T.code };
 
-    ghost use Rattle.mi_node.specs.Seen.{seen, IsNamed};
+    ghost use Rattle.mi_node.specs.Places.{nodes, AreSound};
 
-    ghost view = { λ p. seen p.slots p.homes.items };
+    ghost view = { λ p. nodes p.places };
 
-    ghost invariant = { λ p. IsNamed p.slots 0 p.homes.items };
+    ghost invariant = { λ p. AreSound p.places };
 }
 
 impl<T> Pool<T> {
@@ -62,10 +57,7 @@ impl<T> Pool<T> {
         ensures { result ≡ no_nodes slots }
     {
         Pool {
-            homes: Vec::new(alloc),
-            free: PLACES,
-            slots,
-            alloc,
+            places: Places::new(alloc, slots),
         }
     }
 
@@ -73,13 +65,13 @@ impl<T> Pool<T> {
     pub fn slots(&self) -> usize
         ensures { result ≡ self.now.slots }
     {
-        self.slots
+        self.places.slots()
     }
 
     /// Puts the value into a new node, none of whose links is set. Its name is a place where no node
     /// stood: one that was given back, or a new one.
     ///
-    /// Where memory is refused, or each of the 2^31 - 1 places has a node, the pool is as it was and
+    /// Where memory is refused, or no place is left, the pool is as it was and
     /// the value comes back.
     pub fn take(&mut self, value: T) -> Result<NodeRef, (AllocError, T)>
     where
@@ -89,53 +81,10 @@ impl<T> Pool<T> {
         ensures value_returned { IfErr result (λ e. e.1 ≡ value) }
         ensures err { IfErr result (λ _. self.new ≡ self.old) }
     {
-        match new_links(self.alloc, self.slots) {
-            Ok(links) => self.place(value, links),
+        match self.places.free_place() {
+            Ok(place) => Ok(self.places.settle(place, value)),
             Err(refused) => Err((refused, value)),
         }
-    }
-
-    fn place(&mut self, value: T, links: Vec<Cell>) -> Result<NodeRef, (AllocError, T)>
-    where
-        T: Drop,
-        requires { map link_in links.items ≡ replicate self.old.slots no_link }
-        ensures free { IfOk result (λ r. ref_of self.old r.name ≡ None) }
-        ensures ok { IfOk result (λ r. self.new ≡ taken self.old r value) }
-        ensures value_returned { IfErr result (λ e. e.1 ≡ value) }
-        ensures err { IfErr result (λ _. self.new ≡ self.old) }
-    {
-        let place = self.free as usize;
-        if place < self.homes.len() {
-            if let Some(next) = next_free(&self.homes[place]) {
-                self.free = next;
-                return Ok(settle(&mut self.homes[place], value, links));
-            }
-        }
-        self.grow(value, links)
-    }
-
-    fn grow(&mut self, value: T, links: Vec<Cell>) -> Result<NodeRef, (AllocError, T)>
-    where
-        T: Drop,
-        requires { map link_in links.items ≡ replicate self.old.slots no_link }
-        ensures free { IfOk result (λ r. ref_of self.old r.name ≡ None) }
-        ensures ok { IfOk result (λ r. self.new ≡ taken self.old r value) }
-        ensures value_returned { IfErr result (λ e. e.1 ≡ value) }
-        ensures err { IfErr result (λ _. self.new ≡ self.old) }
-    {
-        let place = self.homes.len();
-        if place >= PLACES as usize {
-            return Err((AllocError, value));
-        }
-        if let Err(refused) = self.homes.reserve(1) {
-            return Err((refused, value));
-        }
-        let node = NodeRef::new(place as u32, 0);
-        self.homes.push_reserved(Home {
-            node,
-            state: State::Held { value, links },
-        });
-        Ok(node)
     }
 
     /// Takes the node out of the pool, and gives its value back. Its place may be used again.
@@ -144,9 +93,7 @@ impl<T> Pool<T> {
         ensures value { value_of self.old node.name ≡ Some result }
         ensures pool { self.new ≡ without self.old node.name }
     {
-        let value = vacate(&mut self.homes[node.name() as usize], self.free);
-        self.free = node.name();
-        value
+        self.places.vacate(node)
     }
 
     /// The node's value.
@@ -154,7 +101,7 @@ impl<T> Pool<T> {
         requires { IsHeld self.now node }
         ensures { value_of self.now node.name ≡ Some result.now }
     {
-        value_at(&self.homes[node.name() as usize])
+        self.places.value(node)
     }
 
     /// Puts another value into the node, and gives the old one back. The node's reference and links stay.
@@ -163,7 +110,7 @@ impl<T> Pool<T> {
         ensures value { value_of self.old node.name ≡ Some result }
         ensures pool { self.new ≡ with_value self.old node.name value }
     {
-        swap_in(&mut self.homes[node.name() as usize], value)
+        self.places.swap_value(node, value)
     }
 
     /// The node's link of a slot, counted from 0.
@@ -172,7 +119,7 @@ impl<T> Pool<T> {
         requires slot { slot < self.now.slots }
         ensures { result ≡ link_of self.now node.name slot }
     {
-        link_at(&self.homes[node.name() as usize], slot)
+        self.places.link(node, slot)
     }
 
     /// Sets the node's link of a slot, counted from 0. All other links stay.
@@ -181,7 +128,7 @@ impl<T> Pool<T> {
         requires slot { slot < self.old.slots }
         ensures { self.new ≡ with_link self.old node.name slot link }
     {
-        set_cell_in(&mut self.homes[node.name() as usize], slot, Cell::new(link));
+        self.places.set_link(node, slot, link);
     }
 }
 

@@ -1,6 +1,8 @@
 #![tactic(auto, using(crate::proofs::Callers::held, crate::proofs::Callers::slot_counts))]
 
 use super::*;
+use crate::cell::Cell;
+use crate::home::Home;
 use crate::{Counted, NO_LINK, Tag};
 use std::cell::Cell as Counter;
 use std::mem::size_of;
@@ -82,6 +84,26 @@ fn places_are_used_again(rt: HostRuntime) {
     }
 }
 
+/// Past a chunk of places the first nodes keep what they have.
+#[test]
+fn many_nodes_stand_in_chunks(rt: HostRuntime) {
+    let mut pool: Pool<u32> = Pool::with_slots(rt.alloc(), 2);
+    let Ok(first) = pool.take(7) else {
+        panic!(rt; "no memory");
+    };
+    let mut link = NO_LINK;
+    link.back = Some(first);
+    pool.set_link(first, 1, link);
+    let mut last = first.name();
+    for value in 0..9000 {
+        let Ok(node) = pool.take(value) else {
+            panic!(rt; "no memory");
+        };
+        last = node.name();
+    }
+    assert_eq!(rt; last, 9000);
+}
+
 /// Run with an allocation that fails, it sees that the value comes back and the pool can go on.
 #[test]
 fn a_refused_take_gives_the_value_back(rt: HostRuntime) {
@@ -128,7 +150,8 @@ fn each_value_is_dropped_once(rt: HostRuntime) {
 }
 
 #[test]
-fn a_cell_and_a_reference_are_small(rt: HostRuntime) {
+fn a_node_is_small(rt: HostRuntime) {
     assert_eq!(rt; size_of::<Cell>(), 32);
     assert_eq!(rt; size_of::<NodeRef>(), 4);
+    assert_eq!(rt; size_of::<Home<u64>>(), 16);
 }

@@ -1,0 +1,360 @@
+-- What the places and the columns give of the pool's map, and how a change of one place is seen.
+--     There, spot, ..              a held reference is that of the node at its place
+--     value-seen, link-seen        what is read of a node
+--     seen-..                      the map after a change
+--     sound-..                     that places stay sound
+use Rattle.std.proofs.Common.{◌≡◌, ℕ, zero, suc, ◌+◌, ◌<◌, ◌≤◌, ◌==◌, true, false, cond, List, [], ◌∷◌, ◌++◌, length, option_map, replicate, slice_set, slice_index_or, Option, Some, None, refl, sym, ap, ◌∙◌, subst, arith}
+use Rattle.std.specs.Prelude.{IsTrue, is_some}
+use Rattle.std.specs.Ordering.{nat_cmp}
+use Rattle.std.specs.Cmp.{nat_cmp_total, unsigned_tied}
+use Rattle.std.specs.FinMap.{FinMap, get, get-empty, get-insert, get-remove, same_map, nat_cmp-IsAntisymmetric}
+use Rattle.std.proofs.Math.ListN.{length-set}
+use Rattle.mi_node.specs.Refs.{Ref}
+use Rattle.mi_node.specs.Columns.{links_at, AreLong}
+use Rattle.mi_node.specs.Homes.{node_in, value_in, IsFree, AreFree, home_at, IsFreeIf, IsFreeAt}
+use Rattle.mi_node.specs.Pool.{Entry, no_link, no_nodes, node_at, ref_of, value_of, link_of, entry_link, put_link, IsHeld, change, changed, taken, without, with_link, with_value}
+use Rattle.mi_node.specs.Seen.{put_home, map_from, seen, IsNamed, IsSound}
+use Rattle.mi_node.specs.declared.link.Link.{Link}
+use Rattle.mi_node.specs.declared.cell.Cell.{Cell}
+use Rattle.mi_node.specs.declared.home.Home.{Home}
+use Rattle.mi_node.specs.declared.home.Home.TheVariants.{Free, Held}
+
+some_inj : {X : Type 0} (x y : X) → Some x ≡ Some y → x ≡ y
+some_inj x y e = cc
+
+none_some : {X : Type 0} (x : X) → None ≡ Some x → ⊥
+none_some x e = cc
+
+same : (k q : ℕ) → (k == q) ≡ true → k ≡ q
+same k q e = grind (arith, e)
+
+itself : (k : ℕ) → (k == k) ≡ true
+itself k = grind arith
+
+from_zero : (q : ℕ) → 0 + q ≡ q
+from_zero q = omega arith
+
+later : (q j : ℕ) → (suc q == suc j) ≡ (q == j)
+later q j = grind arith
+
+not_first : (q : ℕ) → (suc q == 0) ≡ false
+not_first q = grind arith
+
+not_last : (j : ℕ) → (0 == suc j) ≡ false
+not_last j = grind arith
+
+-- references of one name and one mark are one
+same_ref : (r q : Ref) → r.name ≡ q.name → r.mark ≡ q.mark → r ≡ q
+same_ref r q e f = λ i. record { name = e i; mark = f i }
+
+pub at_less : (a b c : ℕ) → a < b → b ≤ c → a < c
+at_less a b c g h = omega (arith, g, h)
+
+pub up_to : (a b c : ℕ) → a < b → b ≤ c → a + 1 ≤ c
+up_to a b c g h = omega (arith, g, h)
+
+pub has_room : (first n k c : ℕ) → first + n ≡ k → k < first + 4096 → 4096 ≤ c → n < c
+has_room first n k c e g h = omega (arith, e, g, h)
+
+pub one_more : (first n m k : ℕ) → first + n ≡ k → m ≡ n + 1 → first + m ≡ k + 1
+one_more first n m k e f = omega (arith, e, f)
+
+pub some_less : (n : ℕ) → n ≡ 4096 → 0 < n
+some_less n e = omega (arith, e)
+
+pub room_of : (a b c : ℕ) → a ≡ b → c ≡ 4096 → a + 4096 ≡ b + c
+room_of a b c e f = omega (arith, e, f)
+
+long_none : (cs : List (List Cell)) → AreLong 0 cs
+long_none cs s less = omega arith
+
+module _ {T : Type 0} where
+  -- the node at the place k
+  abbrev made : List (List Cell) → ℕ → Ref → T → Entry T
+  made cs k r v = record { mark = r.mark; value = v; links = links_at cs k }
+
+  abbrev entry_at : List (List Cell) → ℕ → Home T → Option (Entry T)
+  entry_at cs k (Free r n) = None
+  entry_at cs k (Held r v) = Some (made cs k r v)
+
+  abbrev entry_of : List (List Cell) → ℕ → Option (Home T) → Option (Entry T)
+  entry_of cs k None = None
+  entry_of cs k (Some h) = entry_at cs k h
+
+  put_same : (cs : List (List Cell)) (k : ℕ) (h : Home T) (m : FinMap nat_cmp (Entry T)) → get m k ≡ None → get (put_home cs k h m) k ≡ entry_at cs k h
+  put_same cs k (Free r n) m e = e
+  put_same cs k (Held r v) m e = get-insert nat_cmp_total m k (made cs k r v) k ∙ ap (λ b. cond b (Some (made cs k r v)) (get m k)) (unsigned_tied k k ∙ itself k)
+
+  put_other : (cs : List (List Cell)) (k q : ℕ) (h : Home T) (m : FinMap nat_cmp (Entry T)) → (q == k) ≡ false → get (put_home cs k h m) q ≡ get m q
+  put_other cs k q (Free r n) m e = refl
+  put_other cs k q (Held r v) m e = get-insert nat_cmp_total m k (made cs k r v) q ∙ ap (λ b. cond b (Some (made cs k r v)) (get m q)) (unsigned_tied q k ∙ e)
+
+  below : (cs : List (List Cell)) (q k : ℕ) (hs : List (Home T)) → q < k → get (map_from cs k hs) q ≡ None
+  below cs q k [] less = get-empty nat_cmp q
+  below cs q k (h ∷ hs) less = put_other cs k q h (map_from cs (suc k) hs) (grind (arith, less)) ∙ below cs q (suc k) hs (omega (arith, less))
+
+  get-from : (cs : List (List Cell)) (k j : ℕ) (hs : List (Home T)) → get (map_from cs k hs) (k + j) ≡ entry_of cs (k + j) (home_at hs j)
+  get-from cs k j [] = get-empty nat_cmp (k + j)
+  get-from cs k zero (h ∷ hs) =
+      let here : k ≡ k + 0 = omega arith in
+      subst (λ q. get (map_from cs k (h ∷ hs)) q ≡ entry_at cs q h) here (put_same cs k h (map_from cs (suc k) hs) (below cs k (suc k) hs (omega arith)))
+  get-from cs k (suc j) (h ∷ hs) =
+      let on : suc k + j ≡ k + suc j = omega arith in let apart : (k + suc j == k) ≡ false = grind arith in
+      put_other cs k (k + suc j) h (map_from cs (suc k) hs) apart ∙ subst (λ q. get (map_from cs (suc k) hs) q ≡ entry_of cs q (home_at hs j)) on (get-from cs (suc k) j hs)
+
+  get-map : (cs : List (List Cell)) (hs : List (Home T)) (q : ℕ) → get (map_from cs 0 hs) q ≡ entry_of cs q (home_at hs q)
+  get-map cs hs q = subst (λ k. get (map_from cs 0 hs) k ≡ entry_of cs k (home_at hs q)) (from_zero q) (get-from cs 0 q hs)
+
+  at_index : (hs : List (Home T)) (j : ℕ) (d : Home T) → j < length hs → home_at hs j ≡ Some (slice_index_or hs j d)
+  at_index [] j d less = absurd (omega (arith, less))
+  at_index (h ∷ hs) zero d less = refl
+  at_index (h ∷ hs) (suc j) d less = at_index hs j d (omega (arith, less))
+
+  at_set : (hs : List (Home T)) (j q : ℕ) (h : Home T) → j < length hs → home_at (slice_set hs j h) q ≡ cond (q == j) (Some h) (home_at hs q)
+  at_set [] j q h less = absurd (omega (arith, less))
+  at_set (x ∷ hs) zero zero h less = refl
+  at_set (x ∷ hs) zero (suc q) h less = ap (λ y. cond y (Some h) (home_at hs q)) (sym (not_first q))
+  at_set (x ∷ hs) (suc j) zero h less = ap (λ y. cond y (Some h) (Some x)) (sym (not_last j))
+  at_set (x ∷ hs) (suc j) (suc q) h less = at_set hs j q h (omega (arith, less)) ∙ ap (λ y. cond y (Some h) (home_at hs q)) (sym (later q j))
+
+  inside : (hs : List (Home T)) (j : ℕ) (h : Home T) → home_at hs j ≡ Some h → j < length hs
+  inside [] j h is = absurd (none_some h is)
+  inside (x ∷ hs) zero h is = omega arith
+  inside (x ∷ hs) (suc j) h is = let i = inside hs j h is in omega (arith, i)
+
+  named_at : (k j : ℕ) (hs : List (Home T)) (h : Home T) → IsNamed k hs → home_at hs j ≡ Some h → (node_in h).name ≡ k + j
+  named_at k j [] h all is = absurd (none_some h is)
+  named_at k zero (x ∷ hs) h all is = let e : x ≡ h = some_inj x h is in let f = all.0 in let g : (node_in x).name ≡ k + 0 = omega (arith, f) in ap (λ (w : Home T). (node_in w).name) (sym e) ∙ g
+  named_at k (suc j) (x ∷ hs) h all is = let e = named_at (suc k) j hs h all.1 is in omega (arith, e)
+
+  named_set : (k j : ℕ) (hs : List (Home T)) (h : Home T) → IsNamed k hs → (node_in h).name ≡ k + j → IsNamed k (slice_set hs j h)
+  named_set k j [] h all name = tt
+  named_set k zero (x ∷ hs) h all name = let is : (node_in h).name ≡ k = omega (arith, name) in (is, all.1)
+  named_set k (suc j) (x ∷ hs) h all name = let is : (node_in h).name ≡ suc k + j = omega (arith, name) in (all.0, named_set (suc k) j hs h all.1 is)
+
+  named_both : (k : ℕ) (hs fs : List (Home T)) → IsNamed k hs → AreFree (k + length hs) fs → IsNamed k (hs ++ fs)
+  named_both k [] [] all free = tt
+  named_both k [] (f ∷ fs) all free =
+      let e = free.0 in let is : (node_in f).name ≡ k = omega (arith, e) in let on : suc (k + 0) ≡ suc k + 0 = omega arith in
+      (is, named_both (suc k) [] fs tt (subst (λ q. AreFree q fs) on free.2))
+  named_both k (h ∷ hs) fs all free = let on : k + suc (length hs) ≡ suc k + length hs = omega arith in (all.0, named_both (suc k) hs fs all.1 (subst (λ q. AreFree q fs) on free))
+
+  -- the node of a held reference stands at its place
+  pub record There (cs : List (List Cell)) (hs : List (Home T)) (r : Ref) : Type 0 where
+    pub less : r.name < length hs
+    pub value : T
+    pub at : home_at hs r.name ≡ Some (Held r value)
+
+  held_home : (cs : List (List Cell)) (hs : List (Home T)) (r : Ref) (o : Option (Home T)) → home_at hs r.name ≡ o → IsNamed 0 hs → option_map (node_at r.name) (entry_of cs r.name o) ≡ Some r → There cs hs r
+  held_home cs hs r None is all e = absurd (none_some r e)
+  held_home cs hs r (Some (Free q n)) is all e = absurd (none_some r e)
+  held_home cs hs r (Some (Held q v)) is all e =
+      let name : q.name ≡ r.name = named_at 0 r.name hs (Held q v) all is ∙ from_zero r.name in
+      let one : q ≡ r = same_ref q r name (ap (λ (s : Ref). s.mark) (some_inj _ r e)) in
+      record { less = inside hs r.name (Held q v) is; value = v; at = is ∙ ap (λ (s : Ref). Some (Held s v)) one }
+
+  pub there : (n : ℕ) (cs : List (List Cell)) (hs : List (Home T)) (r : Ref) → IsSound n cs hs → IsHeld (seen n cs hs) r → There cs hs r
+  unfolding ref_of seen
+  there n cs hs r sound h = held_home cs hs r (home_at hs r.name) refl sound.named (ap (option_map (node_at r.name)) (sym (get-map cs hs r.name)) ∙ h)
+
+  -- as an index finds it
+  pub found : (cs : List (List Cell)) (hs : List (Home T)) (r : Ref) (t : There cs hs r) (k : ℕ) (h : Home T) → k ≡ r.name → h ≡ slice_index_or hs k h → h ≡ Held r t.value
+  found cs hs r t k h name is = is ∙ ap (λ q. slice_index_or hs q h) name ∙ some_inj _ _ (sym (at_index hs r.name h t.less) ∙ t.at)
+
+  pub held_some : (cs : List (List Cell)) (hs : List (Home T)) (r : Ref) (t : There cs hs r) (k : ℕ) (h : Home T) → k ≡ r.name → h ≡ slice_index_or hs k h → IsTrue (is_some (value_in h))
+  held_some cs hs r t k h name is = subst (λ (w : Home T). IsTrue (is_some (value_in w))) (sym (found cs hs r t k h name is)) refl
+
+  pub value-seen : (n : ℕ) (cs : List (List Cell)) (hs : List (Home T)) (r : Ref) (t : There cs hs r) → value_of (seen n cs hs) r.name ≡ Some t.value
+  unfolding value_of seen
+  value-seen n cs hs r t = ap (option_map (λ (e : Entry T). e.value)) (get-map cs hs r.name ∙ ap (entry_of cs r.name) t.at)
+
+  pub link-seen : (n : ℕ) (cs : List (List Cell)) (hs : List (Home T)) (r : Ref) (s : ℕ) (t : There cs hs r) → link_of (seen n cs hs) r.name s ≡ slice_index_or (links_at cs r.name) s no_link
+  unfolding link_of seen
+  link-seen n cs hs r s t = ap (λ o. entry_link o s) (get-map cs hs r.name ∙ ap (entry_of cs r.name) t.at)
+
+  same_entry : (cs ds : List (List Cell)) (q : ℕ) (o : Option (Home T)) → links_at ds q ≡ links_at cs q → entry_of ds q o ≡ entry_of cs q o
+  same_entry cs ds q None e = refl
+  same_entry cs ds q (Some (Free r n)) e = refl
+  same_entry cs ds q (Some (Held r v)) e = λ i. Some (record { mark = r.mark; value = v; links = e i })
+
+  -- what becomes of the map where all places but j stay as they are
+  get-one : (cs ds : List (List Cell)) (hs gs : List (Home T)) (j : ℕ) → ((q : ℕ) → (q == j) ≡ false → links_at ds q ≡ links_at cs q) → ((q : ℕ) → (q == j) ≡ false → home_at gs q ≡ home_at hs q)
+      → (q : ℕ) → get (map_from ds 0 gs) q ≡ cond (q == j) (entry_of ds j (home_at gs j)) (get (map_from cs 0 hs) q)
+  get-one cs ds hs gs j links homes q = get-map ds gs q ∙ (elim (q == j) as (λ y. (q == j) ≡ y → entry_of ds q (home_at gs q) ≡ cond y (entry_of ds j (home_at gs j)) (get (map_from cs 0 hs) q)) [
+    | true ↦ λ e. ap (λ k. entry_of ds k (home_at gs k)) (same q j e)
+    | false ↦ λ e. ap (entry_of ds q) (homes q e) ∙ same_entry cs ds q (home_at hs q) (links q e) ∙ sym (get-map cs hs q)
+  ]) refl
+
+  other_home : (hs : List (Home T)) (j : ℕ) (h : Home T) → j < length hs → (q : ℕ) → (q == j) ≡ false → home_at (slice_set hs j h) q ≡ home_at hs q
+  other_home hs j h less q e = at_set hs j q h less ∙ ap (λ b. cond b (Some h) (home_at hs q)) e
+
+  this_home : (hs : List (Home T)) (j : ℕ) (h : Home T) → j < length hs → home_at (slice_set hs j h) j ≡ Some h
+  this_home hs j h less = at_set hs j j h less ∙ ap (λ b. cond b (Some h) (home_at hs j)) (itself j)
+
+  pub seen-vacated : (n : ℕ) (cs : List (List Cell)) (hs : List (Home T)) (r : Ref) (next : ℕ) → r.name < length hs → seen n cs (slice_set hs r.name (Free r next)) ≡ without (seen n cs hs) r.name
+  unfolding seen without
+  seen-vacated n cs hs r next less = ap (λ m. record { entries = m; slots = n }) (same_map nat_cmp_total nat_cmp-IsAntisymmetric _ _ (λ q.
+      get-one cs cs hs (slice_set hs r.name (Free r next)) r.name (λ k e. refl) (other_home hs r.name (Free r next) less) q
+      ∙ ap (λ o. cond (q == r.name) (entry_of cs r.name o) (get (map_from cs 0 hs) q)) (this_home hs r.name (Free r next) less)
+      ∙ sym (get-remove nat_cmp_total (map_from cs 0 hs) r.name q ∙ ap (λ b. cond b None (get (map_from cs 0 hs) q)) (unsigned_tied q r.name))))
+
+  -- the entry of a node none of whose links is set
+  abbrev blank : ℕ → Ref → T → Entry T
+  blank n r v = record { mark = r.mark; value = v; links = replicate n no_link }
+
+  pub seen-settled : (n : ℕ) (cs ds : List (List Cell)) (hs : List (Home T)) (r : Ref) (v : T) → r.name < length hs → ((q : ℕ) → (q == r.name) ≡ false → links_at ds q ≡ links_at cs q)
+      → links_at ds r.name ≡ replicate n no_link → seen n ds (slice_set hs r.name (Held r v)) ≡ taken (seen n cs hs) r v
+  unfolding seen taken
+  seen-settled n cs ds hs r v less others here = ap (λ m. record { entries = m; slots = n }) (same_map nat_cmp_total nat_cmp-IsAntisymmetric _ _ (λ q.
+      get-one cs ds hs (slice_set hs r.name (Held r v)) r.name others (other_home hs r.name (Held r v) less) q
+      ∙ ap (λ o. cond (q == r.name) (entry_of ds r.name o) (get (map_from cs 0 hs) q)) (this_home hs r.name (Held r v) less)
+      ∙ ap (λ ls. cond (q == r.name) (Some (record { mark = r.mark; value = v; links = ls })) (get (map_from cs 0 hs) q)) here
+      ∙ sym (get-insert nat_cmp_total (map_from cs 0 hs) r.name (blank n r v) q ∙ ap (λ b. cond b (Some (blank n r v)) (get (map_from cs 0 hs) q)) (unsigned_tied q r.name))))
+
+  change_found : (f : Entry T → Entry T) (m : FinMap nat_cmp (Entry T)) (k q : ℕ) (o : Option (Entry T)) → get m k ≡ o → get (changed m k f o) q ≡ cond (q == k) (option_map f o) (get m q)
+  change_found f m k q None e = (elim (q == k) as (λ y. (q == k) ≡ y → get m q ≡ cond y None (get m q)) [
+    | true ↦ λ t. ap (get m) (same q k t) ∙ e
+    | false ↦ λ t. refl
+  ]) refl
+  change_found f m k q (Some x) e = get-insert nat_cmp_total m k (f x) q ∙ ap (λ y. cond y (Some (f x)) (get m q)) (unsigned_tied q k)
+
+  seen-change : (n : ℕ) (f : Entry T → Entry T) (cs ds : List (List Cell)) (hs gs : List (Home T)) (j : ℕ) → ((q : ℕ) → (q == j) ≡ false → links_at ds q ≡ links_at cs q)
+      → ((q : ℕ) → (q == j) ≡ false → home_at gs q ≡ home_at hs q) → entry_of ds j (home_at gs j) ≡ option_map f (entry_of cs j (home_at hs j)) → seen n ds gs ≡ change (seen n cs hs) j f
+  unfolding seen change
+  seen-change n f cs ds hs gs j links homes is = ap (λ m. record { entries = m; slots = n }) (same_map nat_cmp_total nat_cmp-IsAntisymmetric _ _ (λ q.
+      get-one cs ds hs gs j links homes q ∙ ap (λ o. cond (q == j) o (get (map_from cs 0 hs) q)) (is ∙ ap (option_map f) (sym (get-map cs hs j)))
+      ∙ sym (change_found f (map_from cs 0 hs) j q (get (map_from cs 0 hs) j) refl)))
+
+  pub seen-value : (n : ℕ) (cs : List (List Cell)) (hs : List (Home T)) (r : Ref) (v : T) → There cs hs r → seen n cs (slice_set hs r.name (Held r v)) ≡ with_value (seen n cs hs) r.name v
+  unfolding with_value
+  seen-value n cs hs r v t = seen-change n (λ e. record e { value = v }) cs cs hs (slice_set hs r.name (Held r v)) r.name (λ k e. refl) (other_home hs r.name (Held r v) t.less)
+      (ap (entry_of cs r.name) (this_home hs r.name (Held r v) t.less) ∙ ap (λ o. option_map (λ (e : Entry T). record e { value = v }) (entry_of cs r.name o)) (sym t.at))
+
+  pub seen-link : (n : ℕ) (cs ds : List (List Cell)) (hs : List (Home T)) (r : Ref) (s : ℕ) (l : Link) → There cs hs r → ((q : ℕ) → (q == r.name) ≡ false → links_at ds q ≡ links_at cs q)
+      → links_at ds r.name ≡ put_link (links_at cs r.name) s l → seen n ds hs ≡ with_link (seen n cs hs) r.name s l
+  unfolding with_link
+  seen-link n cs ds hs r s l t others here = seen-change n (λ e. record e { links = put_link e.links s l }) cs ds hs hs r.name others (λ k e. refl)
+      (ap (entry_of ds r.name) t.at ∙ (λ i. Some (record { mark = r.mark; value = t.value; links = here i }))
+      ∙ ap (λ o. option_map (λ (e : Entry T). record e { links = put_link e.links s l }) (entry_of cs r.name o)) (sym t.at))
+
+  -- a free place is no node's
+  free_entry : (cs : List (List Cell)) (k : ℕ) (o : Option (Home T)) → IsFreeIf o → entry_of cs k o ≡ None
+  free_entry cs k None free = absurd free
+  free_entry cs k (Some (Free r n)) free = refl
+  free_entry cs k (Some (Held r v)) free = absurd (none_some v (sym free))
+
+  pub free-seen : (n : ℕ) (cs : List (List Cell)) (hs : List (Home T)) (k : ℕ) → IsFreeAt hs k → ref_of (seen n cs hs) k ≡ None
+  unfolding ref_of seen
+  free-seen n cs hs k free = ap (option_map (node_at k)) (get-map cs hs k ∙ free_entry cs k (home_at hs k) free)
+
+  free_there : (hs : List (Home T)) (k : ℕ) (o : Option (Home T)) → home_at hs k ≡ o → IsFreeIf o → k < length hs
+  free_there hs k None is free = absurd free
+  free_there hs k (Some h) is free = inside hs k h is
+
+  pub free_less : (hs : List (Home T)) (k : ℕ) → IsFreeAt hs k → k < length hs
+  free_less hs k free = free_there hs k (home_at hs k) refl free
+
+  -- as an index finds it
+  pub free_found : (hs : List (Home T)) (k : ℕ) (h : Home T) → IsFreeAt hs k → h ≡ slice_index_or hs k h → IsFree h
+  free_found hs k h free is = subst IsFree (sym is) (subst IsFreeIf (at_index hs k h (free_less hs k free)) free)
+
+  pub free_at : (hs : List (Home T)) (k : ℕ) (h : Home T) → k < length hs → h ≡ slice_index_or hs k h → IsFree h → IsFreeAt hs k
+  free_at hs k h less is free = subst IsFreeIf (sym (at_index hs k h less)) (subst IsFree is free)
+
+  pub named_found : (hs : List (Home T)) (k : ℕ) (h : Home T) → IsNamed 0 hs → k < length hs → h ≡ slice_index_or hs k h → (node_in h).name ≡ k
+  named_found hs k h all less is = named_at 0 k hs h all (at_index hs k h less ∙ ap Some (sym is)) ∙ from_zero k
+
+  -- free places at the end
+  free_tail : (cs : List (List Cell)) (p q k : ℕ) (fs : List (Home T)) → AreFree k fs → entry_of cs p (home_at fs q) ≡ None
+  free_tail cs p q k [] free = refl
+  free_tail cs p zero k (f ∷ fs) free = free_entry cs p (Some f) free.1
+  free_tail cs p (suc q) k (f ∷ fs) free = free_tail cs p q (suc k) fs free.2
+
+  more_entry : (cs : List (List Cell)) (p q k : ℕ) (hs fs : List (Home T)) → AreFree k fs → entry_of cs p (home_at (hs ++ fs) q) ≡ entry_of cs p (home_at hs q)
+  more_entry cs p q k [] fs free = free_tail cs p q k fs free
+  more_entry cs p zero k (h ∷ hs) fs free = refl
+  more_entry cs p (suc q) k (h ∷ hs) fs free = more_entry cs p q k hs fs free
+
+  pub seen-more : (n k : ℕ) (cs : List (List Cell)) (hs fs : List (Home T)) → AreFree k fs → seen n cs (hs ++ fs) ≡ seen n cs hs
+  unfolding seen
+  seen-more n k cs hs fs free = ap (λ m. record { entries = m; slots = n }) (same_map nat_cmp_total nat_cmp-IsAntisymmetric _ _ (λ q.
+      get-map cs (hs ++ fs) q ∙ more_entry cs q q k hs fs free ∙ sym (get-map cs hs q)))
+
+  first_home : (k : ℕ) (fs : List (Home T)) → AreFree k fs → 0 < length fs → IsFreeIf (home_at fs 0)
+  first_home k [] free less = absurd (omega (arith, less))
+  first_home k (f ∷ fs) free less = free.1
+
+  pub free_end : (k : ℕ) (hs fs : List (Home T)) → AreFree k fs → 0 < length fs → IsFreeAt (hs ++ fs) (length hs)
+  free_end k [] fs free less = first_home k fs free less
+  free_end k (h ∷ hs) fs free less = free_end k hs fs free less
+
+  -- columns with the same links
+  pub seen-columns : (n : ℕ) (cs ds : List (List Cell)) (hs : List (Home T)) → ((k : ℕ) → links_at ds k ≡ links_at cs k) → seen n ds hs ≡ seen n cs hs
+  unfolding seen
+  seen-columns n cs ds hs links = ap (λ m. record { entries = m; slots = n }) (same_map nat_cmp_total nat_cmp-IsAntisymmetric _ _ (λ q.
+      get-map ds hs q ∙ same_entry cs ds q (home_at hs q) (links q) ∙ sym (get-map cs hs q)))
+
+  -- columns where there is no place, or as many as slots
+  pub seen-wide : (n : ℕ) (cs ds : List (List Cell)) (hs : List (Home T)) → IsSound n cs hs → (length cs ≡ n → ds ≡ cs) → seen n ds hs ≡ seen n cs hs
+  unfolding seen
+  seen-wide n cs ds [] sound full = refl
+  seen-wide n cs ds (h ∷ hs) sound full = ap (λ es. record { entries = map_from es 0 (h ∷ hs); slots = n }) (full (sound.wide (omega arith)))
+
+  pub slots-seen : (n : ℕ) (cs : List (List Cell)) (hs : List (Home T)) → (seen n cs hs).slots ≡ n
+  unfolding seen
+  slots-seen n cs hs = refl
+
+  pub seen-none : (n : ℕ) (cs : List (List Cell)) → seen {T = T} n cs [] ≡ no_nodes n
+  unfolding seen no_nodes
+  seen-none n cs = refl
+
+  -- places stay sound
+  pub sound-none : (n : ℕ) (cs : List (List Cell)) → cs ≡ [] → IsSound {T = T} n cs []
+  sound-none n cs e = subst (λ (ds : List (List Cell)). IsSound {T = T} n ds []) (sym e) (record { named = tt; few = omega arith; wide = λ less. absurd (omega (arith, less)); long = λ s less. absurd (omega (arith, less)) })
+
+  pub sound-set : (n : ℕ) (cs : List (List Cell)) (hs : List (Home T)) (j : ℕ) (h : Home T) → IsSound n cs hs → (node_in h).name ≡ j → IsSound n cs (slice_set hs j h)
+  sound-set n cs hs j h sound name = record {
+    named = named_set 0 j hs h sound.named (name ∙ sym (from_zero j));
+    few = sound.few;
+    wide = λ less. sound.wide (subst (λ k. 0 < k) (length-set hs j h) less);
+    long = subst (λ k. AreLong k cs) (sym (length-set hs j h)) sound.long;
+  }
+
+  pub sound-columns : (n : ℕ) (cs ds : List (List Cell)) (hs : List (Home T)) → IsSound n cs hs → length ds ≡ length cs → ((m : ℕ) → AreLong m cs → AreLong m ds) → IsSound n ds hs
+  sound-columns n cs ds hs sound count long = record {
+    named = sound.named;
+    few = subst (λ k. k ≤ n) (sym count) sound.few;
+    wide = λ less. count ∙ sound.wide less;
+    long = long (length hs) sound.long;
+  }
+
+  pub sound-wide : (n : ℕ) (cs ds : List (List Cell)) (hs : List (Home T)) → IsSound n cs hs → length ds ≤ n → (length cs ≡ n → ds ≡ cs) → IsSound n ds hs
+  sound-wide n cs ds [] sound few full = record { named = tt; few = few; wide = λ less. absurd (omega (arith, less)); long = long_none ds }
+  sound-wide n cs ds (h ∷ hs) sound few full = subst (λ es. IsSound n es (h ∷ hs)) (sym (full (sound.wide (omega arith)))) sound
+
+  length_both : (hs fs : List (Home T)) → length (hs ++ fs) ≡ length hs + length fs
+  length_both [] fs = omega arith
+  length_both (h ∷ hs) fs = let e = length_both hs fs in omega (arith, e)
+
+  pub sound-more : (n : ℕ) (cs : List (List Cell)) (hs fs : List (Home T)) → IsSound n cs hs → length cs ≡ n → AreFree (length hs) fs → AreLong (length hs + length fs) cs → IsSound n cs (hs ++ fs)
+  sound-more n cs hs fs sound wide free long = record {
+    named = named_both 0 hs fs sound.named (subst (λ k. AreFree k fs) (sym (from_zero (length hs))) free);
+    few = sound.few;
+    wide = λ less. wide;
+    long = subst (λ k. AreLong k cs) (sym (length_both hs fs)) long;
+  }
+
+  -- a slot of a held node has a column with a cell for its place
+  pub wide_at : (n s : ℕ) (cs : List (List Cell)) (hs : List (Home T)) (r : Ref) → IsSound n cs hs → There cs hs r → s < n → s < length cs
+  wide_at n s cs hs r sound t less = let l = t.less in subst (λ k. s < k) (sym (sound.wide (omega (arith, l)))) less
+
+  pub some_wide : (n : ℕ) (cs : List (List Cell)) (hs : List (Home T)) (k : ℕ) → IsSound n cs hs → k < length hs → length cs ≡ n
+  some_wide n cs hs k sound less = sound.wide (omega (arith, less))
+
+  -- one free place more
+  pub free-next : (k : ℕ) (hs : List (Home T)) (h : Home T) → AreFree k hs → (node_in h).name ≡ k + length hs → IsFree h → AreFree k (hs ++ h ∷ [])
+  free-next k [] h all name free = let is : (node_in h).name ≡ k = omega (arith, name) in (is, free, tt)
+  free-next k (x ∷ hs) h all name free = let is : (node_in h).name ≡ suc k + length hs = omega (arith, name) in (all.0, all.1, free-next (suc k) hs h all.2 is free)
+
+  pub length-next : (hs : List (Home T)) (h : Home T) → length (hs ++ h ∷ []) ≡ length hs + 1
+  length-next hs h = length_both hs (h ∷ [])

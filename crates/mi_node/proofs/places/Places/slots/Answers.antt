@@ -1,0 +1,6 @@
+use Rattle.std.proofs.Common.{sym}
+use Rattle.mi_node.proofs.Maps.{slots-seen}
+use Rattle.mi_node.proofs.places.Places.slots.Goals as goal
+
+pub returns : goal.returns
+returns g c = sym (slots-seen c.args.self.now.slots c.args.self.now.columns.items c.args.self.now.homes)

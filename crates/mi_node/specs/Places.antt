@@ -1,0 +1,11 @@
+-- What the places of a pool stand for, and that they are sound.
+use Rattle.mi_node.specs.Pool.{Pooled}
+use Rattle.mi_node.specs.Seen.{seen, IsSound}
+use Rattle.mi_node.specs.declared.places.Places.{Places}
+
+module _ {T : Type 0} where
+  abbrev pub nodes : Places T → Pooled T
+  nodes p = seen p.slots p.columns.items p.homes
+
+  abbrev pub AreSound : Places T → Type 0
+  AreSound p = IsSound p.slots p.columns.items p.homes

@@ -1,0 +1,105 @@
+//! An array in chunks that never move, seen as one list.
+//! Safe code over blocks of memory, which knows nothing of nodes.
+ghost use Rattle.std.specs.Prelude.{◌≡◌, ◌<◌, ◌++◌, [], length, slice_set, slice_index_or, IfOk, IfErr};
+ghost use Rattle.std.specs.Vec.{with_item};
+
+use std::alloc::{AllocError, Global};
+use std::marker::Model;
+
+/// How many elements a chunk has.
+pub(crate) const CHUNK: usize = 4096;
+
+/// How many chunks there may be: as many elements as 31 bits count.
+const MAX_CHUNKS: usize = 524_288;
+
+/// An array that grows by a chunk at a time. No element is ever moved to another address.
+#[derive(Drop)]
+pub(crate) struct Chunks<E> {
+    chunks: Vec<Vec<E>>,
+}
+
+impl<E> Model for Chunks<E> {
+    ghost use Rattle.std.specs.Prelude.{List};
+    ghost use Rattle.std.specs.Coded.{coded_list};
+
+    ghost Value = { List E };
+
+    ghost coded = { coded_list E.code };
+
+    ghost use Rattle.mi_node.specs.Chunks.{flat, IsChunked};
+
+    ghost view = { λ c. flat c.chunks.items };
+
+    ghost invariant = { λ c. IsChunked c.chunks.items };
+}
+
+impl<E> Chunks<E> {
+    /// No elements. Takes no memory.
+    pub(crate) fn new(alloc: Global) -> Chunks<E>
+        ensures { result ≡ [] }
+    {
+        Chunks {
+            chunks: Vec::new(alloc),
+        }
+    }
+
+    /// How many elements there are.
+    pub(crate) fn len(&self) -> usize
+        ensures { result ≡ length self.now }
+    {
+        self.chunks.len() * CHUNK
+    }
+
+    /// The element of an index.
+    pub(crate) fn at(&self, at: usize) -> &E
+        requires { at < length self.now }
+        ensures { result.now ≡ slice_index_or self.now at result.now }
+    {
+        &self.chunks[at / CHUNK][at % CHUNK]
+    }
+
+    /// Puts an element in place of another, which it gives back.
+    pub(crate) fn replace(&mut self, at: usize, item: E) -> E
+        requires { at < length self.old }
+        ensures item { result ≡ slice_index_or self.old at result }
+        ensures items { self.new ≡ slice_set self.old at item }
+    {
+        replace_in(&mut self.chunks[at / CHUNK], at % CHUNK, item)
+    }
+
+    /// Puts an element in place of another.
+    pub(crate) fn set(&mut self, at: usize, item: E)
+    where
+        E: Drop,
+        requires { at < length self.old }
+        ensures { self.new ≡ slice_set self.old at item }
+    {
+        let _ = self.replace(at, item);
+    }
+
+    /// Adds a chunk at the end. Where memory is refused, or there are 2^31 elements, all is as it was.
+    pub(crate) fn add(&mut self, chunk: Vec<E>) -> Result<(), AllocError>
+    where
+        E: Drop,
+        requires { length chunk.items ≡ 4096 }
+        ensures ok { IfOk result (λ _. self.new ≡ self.old ++ chunk.items) }
+        ensures err { IfErr result (λ _. self.new ≡ self.old) }
+    {
+        if self.chunks.len() >= MAX_CHUNKS {
+            return Err(AllocError);
+        }
+        if let Err(refused) = self.chunks.reserve(1) {
+            return Err(refused);
+        }
+        self.chunks.push_reserved(chunk);
+        Ok(())
+    }
+}
+
+fn replace_in<E>(chunk: &mut Vec<E>, at: usize, item: E) -> E
+    requires { at < length chunk.old.items }
+    ensures item { result ≡ slice_index_or chunk.old.items at result }
+    ensures items { chunk.new ≡ with_item chunk.old at item }
+{
+    std::mem::replace(&mut chunk[at], item)
+}

@@ -1,0 +1,166 @@
+//! The places of a pool: what stands at each, and its links.
+//! Safe code over arrays in chunks: it never reads what a link says.
+ghost use Rattle.std.specs.Prelude.{◌≡◌, ◌<◌, Some, None, IfOk};
+ghost use Rattle.mi_node.specs.Homes.{IsFreeAt};
+ghost use Rattle.mi_node.specs.Pool.{IsHeld, ref_of, value_of, link_of, no_nodes, taken, without, with_link, with_value};
+
+use crate::cell::Cell;
+use crate::chunks::{CHUNK, Chunks};
+use crate::columns::{add_columns, clear, lengthen, link_at, set_link_at};
+use crate::home::{Home, free_chunk, into_value, is_free, next_at, value_at};
+use crate::link::Link;
+use crate::node_ref::{NodeRef, PLACES};
+use std::alloc::{AllocError, Global};
+
+/// The places, each free or with a node. `free` is a place that is free, if one is: a free place
+/// names the next one.
+#[derive(Drop)]
+pub(crate) struct Places<T> {
+    homes: Chunks<Home<T>>,
+    columns: Vec<Chunks<Cell>>,
+    free: u32,
+    slots: usize,
+    alloc: Global,
+}
+
+impl<T> Places<T> {
+    ghost use Rattle.mi_node.specs.Places.{nodes, AreSound};
+
+    /// No places, for nodes with `slots` links each. Takes no memory.
+    pub(crate) fn new(alloc: Global, slots: usize) -> Places<T>
+        ensures nodes { nodes result ≡ no_nodes slots }
+        ensures sound { AreSound result }
+    {
+        Places {
+            homes: Chunks::new(alloc),
+            columns: Vec::new(alloc),
+            free: PLACES,
+            slots,
+            alloc,
+        }
+    }
+
+    /// How many links each node has.
+    pub(crate) fn slots(&self) -> usize
+        ensures { result ≡ (nodes self.now).slots }
+    {
+        self.slots
+    }
+
+    /// A free place. Where there is none, a chunk of free places is added.
+    pub(crate) fn free_place(&mut self) -> Result<usize, AllocError>
+    where
+        T: Drop,
+        requires { AreSound self.old }
+        ensures place { IfOk result (λ k. IsFreeAt self.new.homes k) }
+        ensures nodes { nodes self.new ≡ nodes self.old }
+        ensures sound { AreSound self.new }
+    {
+        let place = self.free as usize;
+        if place < self.homes.len() {
+            if is_free(self.homes.at(place)) {
+                return Ok(place);
+            }
+        }
+        self.add_chunk()
+    }
+
+    /// Adds a chunk of free places, and answers the first of them. Memory is taken for the links
+    /// first: what is taken where the rest is refused is of use later.
+    fn add_chunk(&mut self) -> Result<usize, AllocError>
+    where
+        T: Drop,
+        requires { AreSound self.old }
+        ensures place { IfOk result (λ k. IsFreeAt self.new.homes k) }
+        ensures nodes { nodes self.new ≡ nodes self.old }
+        ensures sound { AreSound self.new }
+    {
+        let first = self.homes.len();
+        if first > PLACES as usize - CHUNK {
+            return Err(AllocError);
+        }
+        add_columns(&mut self.columns, self.slots, self.alloc)?;
+        lengthen(&mut self.columns, first + CHUNK, self.alloc)?;
+        self.homes
+            .add(free_chunk(self.alloc, first as u32, self.free)?)?;
+        self.free = first as u32;
+        Ok(first)
+    }
+
+    /// A new node at a free place, none of whose links is set.
+    pub(crate) fn settle(&mut self, place: usize, value: T) -> NodeRef
+    where
+        T: Drop,
+        requires sound { AreSound self.old }
+        requires free { IsFreeAt self.old.homes place }
+        ensures free { ref_of (nodes self.old) result.name ≡ None }
+        ensures nodes { nodes self.new ≡ taken (nodes self.old) result value }
+        ensures sound { AreSound self.new }
+    {
+        let (node, next) = next_at(self.homes.at(place));
+        clear(&mut self.columns, place);
+        self.homes.set(place, Home::Held { node, value });
+        self.free = next;
+        node
+    }
+
+    /// Takes the node out, and gives its value back. Its place is free.
+    pub(crate) fn vacate(&mut self, node: NodeRef) -> T
+        requires sound { AreSound self.old }
+        requires held { IsHeld (nodes self.old) node }
+        ensures value { value_of (nodes self.old) node.name ≡ Some result }
+        ensures nodes { nodes self.new ≡ without (nodes self.old) node.name }
+        ensures sound { AreSound self.new }
+    {
+        let next = self.free;
+        let home = self
+            .homes
+            .replace(node.name() as usize, Home::Free { node, next });
+        self.free = node.name();
+        into_value(home)
+    }
+
+    /// The node's value.
+    pub(crate) fn value(&self, node: NodeRef) -> &T
+        requires sound { AreSound self.now }
+        requires held { IsHeld (nodes self.now) node }
+        ensures { value_of (nodes self.now) node.name ≡ Some result.now }
+    {
+        value_at(self.homes.at(node.name() as usize))
+    }
+
+    /// Puts another value into the node, and gives the old one back.
+    pub(crate) fn swap_value(&mut self, node: NodeRef, value: T) -> T
+        requires sound { AreSound self.old }
+        requires held { IsHeld (nodes self.old) node }
+        ensures value { value_of (nodes self.old) node.name ≡ Some result }
+        ensures nodes { nodes self.new ≡ with_value (nodes self.old) node.name value }
+        ensures sound { AreSound self.new }
+    {
+        into_value(
+            self.homes
+                .replace(node.name() as usize, Home::Held { node, value }),
+        )
+    }
+
+    /// The node's link of a slot.
+    pub(crate) fn link(&self, node: NodeRef, slot: usize) -> Link
+        requires sound { AreSound self.now }
+        requires held { IsHeld (nodes self.now) node }
+        requires slot { slot < self.now.slots }
+        ensures { result ≡ link_of (nodes self.now) node.name slot }
+    {
+        link_at(&self.columns, node.name() as usize, slot)
+    }
+
+    /// Sets the node's link of a slot.
+    pub(crate) fn set_link(&mut self, node: NodeRef, slot: usize, link: Link)
+        requires sound { AreSound self.old }
+        requires held { IsHeld (nodes self.old) node }
+        requires slot { slot < self.old.slots }
+        ensures nodes { nodes self.new ≡ with_link (nodes self.old) node.name slot link }
+        ensures sound { AreSound self.new }
+    {
+        set_link_at(&mut self.columns, node.name() as usize, slot, link);
+    }
+}
