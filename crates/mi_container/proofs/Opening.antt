@@ -7,9 +7,9 @@ use Rattle.mi_value.specs.declared.compare.KeyPart.{KeyPart}
 use Rattle.mi_catalog.specs.declared.index.Index.{Index}
 use Rattle.mi_catalog.specs.declared.index.IndexKind.{IndexKind}
 use Rattle.mi_catalog.specs.declared.index.IndexKind.TheVariants.{Ordered, Ranked, Hashed, Sequenced}
-use Rattle.mi_catalog.specs.Kinds.{is_sorted, is_hashed, is_sequenced}
+use Rattle.mi_catalog.specs.Kinds.{is_sorted, is_hashed, is_sequenced, is_ranked}
 use Rattle.mi_catalog.specs.Shape.{Shape}
-use Rattle.mi_catalog.specs.Rules.{keeps_kind, is_ranked, is_declared_index, are_indexes, is_schema}
+use Rattle.mi_catalog.specs.Rules.{keeps_kind, is_declared_index, are_indexes, is_schema}
 use Rattle.mi_model.specs.Table.{IsTable, opened}
 use Rattle.mi_model.proofs.TableLaws.{is_table_opened}
 use Rattle.mi_container.specs.Data.{listed, lists_from, table_of, KindFits, KindsFit, IsData}

@@ -1,8 +1,6 @@
 -- Clients by turns: which connections stay, and how turns come one behind another.
 use Rattle.std.proofs.Common.{◌≡◌, ◌⊎◌, ℕ, zero, suc, ◌+◌, ◌<◌, ◌≤◌, List, [], ◌∷◌, ◌++◌, length, map, Bool, true, false, cond, nat_eq, Option, Some, None, IsSome, is_some, Result, Ok, Err, refl, sym, ap, ◌∙◌, subst, arith, inl, inr, length-append}
-use Rattle.std.specs.Prelude.{⊤, IfSome, option_map}
-use Rattle.std.proofs.lemmas.Bool.{false≢true}
-use Rattle.mi_hub.specs.declared.holder.Holder.{Holder}
+use Rattle.std.specs.Prelude.{⊤}
 use Rattle.std.specs.Result.{result_and}
 use Rattle.std.specs.List.{range_with_len}
 use Rattle.std.proofs.lemmas.List.{map-append, length-map}
@@ -257,12 +255,3 @@ module _ {S : Type 0} where
   client_gone clients later x cs ds p first gone =
       let q : Serves (x.conn ∷ client_ids later) cs = subst (λ xs. Serves (client_ids xs) cs) first p in
       serves_gone x.conn (client_ids later) cs ds q (gone q.there.0)
-
--- ---- nobody
-
--- where no connection is attached, and the holder is, nobody holds sessions
-pub nobody_there : (o : Option Holder) (r : Option ℕ) (cs : List Connection) → cs ≡ [] → r ≡ option_map (λ h. h.conn) o → IfSome r (λ conn. IsSome (rest_at conn cs)) → o ≡ None
-nobody_there None r cs none is there = refl
-nobody_there (Some h) r cs none is there =
-    let P : List Connection → Option ℕ → Type 0 = λ ds o. IfSome o (λ conn. IsSome (rest_at conn ds)) in
-    absurd (false≢true (subst (P []) is (subst (λ ds. P ds r) none there)))

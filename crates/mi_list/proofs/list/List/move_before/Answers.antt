@@ -1,6 +1,5 @@
 use Rattle.std.proofs.Common.{◌≡◌, List as Seq, ◌∷◌, ◌++◌, refl, sym, ◌∙◌, subst, true≢false, inl, inr}
 use Rattle.mi_node.specs.Pool.{Keeps}
-
 use Rattle.mi_node.specs.Refs.{Ref, IsOut}
 use Rattle.mi_node.proofs.Keeping.{keeps_then}
 use Rattle.mi_node.proofs.Refs.{out_right, apart_remove}
