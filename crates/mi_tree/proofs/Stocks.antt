@@ -6,7 +6,7 @@ use Rattle.std.specs.Ordering.{nat_cmp, ordering_then}
 use Rattle.std.specs.Cmp.{IsTotalOrder}
 use Rattle.std.proofs.lemmas.Cmp.{nat_cmp_total, on_total, tied_itself, ranked}
 use Rattle.mi_node.specs.Pool.{Pooled, ref_of, value_of, link_of, no_link, IsHeld, IsHeldIf, Keeps, no_nodes, taken}
-use Rattle.mi_node.specs.Refs.{Ref, IsOut, IsApart}
+use Rattle.mi_node.specs.Refs.{Ref, IsOut, IsApart, first_of, last_of}
 use Rattle.mi_node.specs.declared.link.Link.{Link}
 use Rattle.mi_node.proofs.Callers.{held_has, held_taken, ref-taken, value-taken, link-taken, slots-taken, ref-no_nodes, slots-no_nodes, same_name, same_refl, flip}
 use Rattle.mi_node.proofs.Refs.{out_right, apart_insert, apart_remove}
@@ -18,7 +18,10 @@ use Rattle.mi_tree.specs.Frame.{AreAlike}
 use Rattle.mi_tree.specs.Keyed.{keyed_order, key_tag}
 use Rattle.mi_tree.specs.KeyedLaws.{tag_below}
 use Rattle.mi_tree.specs.Stock.{AllHeldIn, stamp_of, IsStock}
+use Rattle.mi_tree.specs.Walking.{Pending, ArePending, IsWalk, ahead}
 use Rattle.mi_tree.specs.declared.tree.Tree.{Tree}
+use Rattle.mi_tree.specs.declared.walk.Direction.{Direction}
+use Rattle.mi_tree.specs.declared.walk.Walk.{Walk}
 use Rattle.mi_tree.proofs.Frames.{tree_where, tree_empty}
 use Rattle.mi_tree.proofs.Shapes.{AllHeld, all_held}
 
@@ -47,11 +50,11 @@ held_both : (m : Pool) (xs ys : List Ref) → AllHeldIn m xs → AllHeldIn m ys 
 held_both m [] ys g h = h
 held_both m (x ∷ xs) ys g h = (g.0, held_both m xs ys g.1 h)
 
-held_left : (m : Pool) (xs ys : List Ref) → AllHeldIn m (xs ++ ys) → AllHeldIn m xs
+pub held_left : (m : Pool) (xs ys : List Ref) → AllHeldIn m (xs ++ ys) → AllHeldIn m xs
 held_left m [] ys h = tt
 held_left m (x ∷ xs) ys h = (h.0, held_left m xs ys h.1)
 
-held_right : (m : Pool) (xs ys : List Ref) → AllHeldIn m (xs ++ ys) → AllHeldIn m ys
+pub held_right : (m : Pool) (xs ys : List Ref) → AllHeldIn m (xs ++ ys) → AllHeldIn m ys
 held_right m [] ys h = h
 held_right m (x ∷ xs) ys h = held_right m xs ys h.1
 
@@ -308,3 +311,22 @@ either_held m false x y f g = g
 pub first_held : (m : Pool) (f : Ref → Bool) (rs : List Ref) → AllHeldIn m rs → IsHeldIf m (first_where f rs)
 first_held m f [] h = tt
 first_held m f (r ∷ rs) h = either_held m (f r) (Some r) (first_where f rs) h.0 (first_held m f rs h.1)
+
+-- so are its neighbours
+pub next_held : (m : Pool) (rs : List Ref) → AllHeldIn m rs → IsHeldIf m (first_of rs None)
+next_held m [] h = tt
+next_held m (r ∷ rs) h = h.0
+
+pub prev_held : (m : Pool) (at : Option Ref) (rs : List Ref) → IsHeldIf m at → AllHeldIn m rs → IsHeldIf m (last_of at rs)
+prev_held m at [] g h = g
+prev_held m at (r ∷ rs) g h = prev_held m (Some r) rs h.0 h.1
+
+pending_held : (m : Pool) (s : ℕ) (d : Direction) (levels : ℕ) (xs : List Pending) → ArePending m s d levels xs → IsHeldIf m (first_of (ahead d xs) None)
+pending_held m s d levels [] h = tt
+pending_held m s d levels (x ∷ xs) h = h.0
+
+-- and what a walk gives
+pub walk_held : (m z : Pool) (w : Walk) (levels : ℕ) (us : List Ref) (o : Option Ref) → IsWalk w z levels us → z ≡ m → o ≡ first_of us None → IsHeldIf m o
+walk_held m z w levels us o h e f =
+    let at : IsHeldIf z (first_of us None) = subst (λ k. IsHeldIf z (first_of k None)) h.ahead_is (pending_held z w.slot w.direction levels h.xs h.goes.pending) in
+    subst (IsHeldIf m) (sym f) (subst (λ k. IsHeldIf k (first_of us None)) e at)

@@ -4,6 +4,7 @@ use std::process::Abort;
 
 mod stock;
 
+use crate::Direction;
 use stock::Stock;
 
 /// Asserts the ids in order.
@@ -34,10 +35,37 @@ fn nodes_of_one_key_stand_by_their_stamps(rt: HostRuntime) {
             assert_eq!(rt; stock.upper(key), upper);
             assert_eq!(rt; stock.find(key), found);
         }
+        for (rank, before, after) in [
+            (0, None, Some(10)),
+            (1, Some(12), Some(11)),
+            (2, Some(10), None),
+        ] {
+            assert_eq!(rt; stock.beside(rank), (before, after));
+        }
         assert!(rt; stock.pull(1));
         assert_ids(&rt, &stock, [Some(12), Some(11), None, None]);
         assert!(rt; stock.put());
         assert_ids(&rt, &stock, [Some(12), Some(10), Some(11), None]);
+    }
+}
+
+#[test]
+fn walks_go_both_ways(rt: HostRuntime) {
+    let (up, down) = (Direction::Ascending, Direction::Descending);
+    for tagged in [false, true] {
+        let calls = Cell::new(0);
+        let mut stock = Stock::new(rt.alloc(), &calls, tagged);
+        for (id, key) in [(10, 5), (11, 5), (12, 3), (13, 9)] {
+            assert!(rt; stock.add(key, id));
+        }
+        assert_eq!(rt; stock.walk(up, 0), [Some(12), Some(10), Some(11)]);
+        assert_eq!(rt; stock.walk(up, 2), [Some(11), Some(13), None]);
+        assert_eq!(rt; stock.walk(down, 4), [Some(13), Some(11), Some(10)]);
+        assert_eq!(rt; stock.walk(down, 2), [Some(10), Some(12), None]);
+        assert_eq!(rt; stock.walk_from(up, 1), [Some(10), Some(11), Some(13)]);
+        assert_eq!(rt; stock.walk_from(up, 3), [Some(13), None, None]);
+        assert_eq!(rt; stock.walk_from(down, 2), [Some(11), Some(10), Some(12)]);
+        assert_eq!(rt; stock.walk_from(down, 0), [Some(12), None, None]);
     }
 }
 

@@ -1,8 +1,11 @@
 //! Nodes for tests, in a tree or out of it, under an order that counts its own calls.
 //! It stands for a caller in another crate: it reaches the tree through its contracts alone.
+ghost use Rattle.std.specs.Prelude.{◌≡◌, ℕ, List};
 ghost use Rattle.mi_node.specs.Pool.{IsHeldIf};
+ghost use Rattle.mi_node.specs.Refs.{Ref};
+ghost use Rattle.mi_tree.specs.Walking.{IsWalk};
 
-use crate::{NodeOrder, Tree};
+use crate::{Direction, NodeOrder, Tree, Walk};
 use mi_node::{Counted, NodeRef, Pool};
 use mi_value::{Probe, Steps, Value};
 use std::alloc::Global;
@@ -198,6 +201,47 @@ impl<'a> Stock<'a> {
         };
         Some(self.tree.rank(&mut read, node, &mut Steps::new()))
     }
+
+    /// The ids of the nodes before and after the one of a rank.
+    pub(crate) fn beside(&self, rank: u32) -> (Option<u32>, Option<u32>) {
+        let mut read = Counted::new(&self.pool);
+        let Some(node) = self.tree.nth(&mut read, rank) else {
+            return (None, None);
+        };
+        let mut steps = Steps::new();
+        let before = self.tree.prev(&mut read, node, &mut steps);
+        let after = self.tree.next(&mut read, node, &mut steps);
+        (id_of(&self.pool, before), id_of(&self.pool, after))
+    }
+
+    /// The first three ids of a walk from the place behind the first `passed` nodes.
+    pub(crate) fn walk(&self, direction: Direction, passed: u32) -> [Option<u32>; 3] {
+        let mut read = Counted::new(&self.pool);
+        let mut walk = self.tree.walk(&mut read, direction, passed);
+        three_of(&self.pool, &mut read, &mut walk)
+    }
+
+    /// The first three ids of a walk from the node of a rank on.
+    pub(crate) fn walk_from(&self, direction: Direction, rank: u32) -> [Option<u32>; 3] {
+        let mut read = Counted::new(&self.pool);
+        let Some(node) = self.tree.nth(&mut read, rank) else {
+            return [None, None, None];
+        };
+        let mut steps = Steps::new();
+        let mut walk = self.tree.walk_from(&mut read, direction, node, &mut steps);
+        three_of(&self.pool, &mut read, &mut walk)
+    }
+}
+
+/// The next three ids of a walk.
+fn three_of(pool: &Pool<Item>, read: &mut Counted<'_, Item>, walk: &mut Walk) -> [Option<u32>; 3]
+    requires pool { read.old.pool ≡ pool.now }
+    requires walk { (levels : ℕ) × (us : List Ref) × IsWalk walk.old read.old.pool levels us }
+{
+    let first = walk.next(read);
+    let second = walk.next(read);
+    let third = walk.next(read);
+    [id_of(pool, first), id_of(pool, second), id_of(pool, third)]
 }
 
 fn id_of(pool: &Pool<Item>, node: Option<NodeRef>) -> Option<u32>
