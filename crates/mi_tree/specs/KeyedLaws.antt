@@ -31,7 +31,8 @@ int_later a b k Equal e n = subst (IsNoLater (int_cmp a k)) (int_cmp_total.congr
 int_later a b k Less e n = (elim (int_cmp a k) as (λ o. int_cmp a k ≡ o → IsNoLater o (int_cmp b k)) [
   | Less ↦ λ f. tt
   | Equal ↦ λ f. subst (IsNoLater Equal) (sym (int_cmp_total.antisymm b k ∙ ap ordering_reverse (sym (int_cmp_total.congr a k b f) ∙ e))) tt
-  | Greater ↦ λ f. subst (IsNoLater Greater) (sym (int_cmp_total.antisymm b k ∙ ap ordering_reverse (int_cmp_total.trans k a b (int_cmp_total.antisymm k a ∙ ap ordering_reverse f) e))) tt
+  | Greater ↦ λ f. (let before = int_cmp_total.trans k a b (int_cmp_total.antisymm k a ∙ ap ordering_reverse f) e in
+      subst (IsNoLater Greater) (sym (int_cmp_total.antisymm b k ∙ ap ordering_reverse before)) tt)
 ]) refl
 
 same_cmp : (a b : ℕ) → int_cmp (pos a) (pos b) ≡ nat_cmp a b
