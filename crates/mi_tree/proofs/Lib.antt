@@ -9,6 +9,7 @@ pub mod Ranks
 pub mod Shapes
 pub mod Sorts
 pub mod Stands
+pub mod Stocks
 pub mod Takes
 pub mod Turns
 pub mod Walks

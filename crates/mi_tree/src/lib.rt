@@ -9,6 +9,8 @@ pub mod laws;
 mod look;
 mod order;
 mod parts;
+#[cfg(test)]
+mod tests;
 mod tree;
 mod walk;
 
