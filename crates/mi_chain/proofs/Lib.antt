@@ -6,5 +6,6 @@ pub mod Elsewhere
 pub mod Joins
 pub mod Moving
 pub mod Stands
+pub mod Threes
 pub mod Walks
 pub mod Whole

@@ -85,3 +85,5 @@ fn two_of_one_key(rt: HostRuntime) {
     fill(&mut chains, &mut p, one, two);
     leave_and_return(&rt, rt.alloc(), &mut chains, &mut p, one, two);
 }
+
+mod three;
