@@ -167,3 +167,63 @@ fn three_of_one_key(rt: HostRuntime) {
     second_leaves(&rt, &mut chains, &mut p, one, two, three);
     assert_list(&rt, &chains, &p, 7, [Some(one), Some(two), Some(three)]);
 }
+
+/// Asserts that room for this many keys is refused, and that each list is as it was.
+fn refuse_room(
+    rt: &impl Abort,
+    alloc: Global,
+    chains: &mut Chains<ByNumber>,
+    p: &mut Pool<i64>,
+    one: NodeRef,
+    two: NodeRef,
+    three: NodeRef,
+    n: u64,
+)
+    requires { AreChained chains.old number_keying p.old (one ∷ two ∷ three ∷ []) }
+    ensures { AreChained chains.new number_keying p.new (one ∷ two ∷ three ∷ []) }
+{
+    assert!(rt; chains.make_room(alloc, p, n).is_err());
+    assert_list(rt, chains, p, 5, [Some(one), Some(three), None]);
+    assert_list(rt, chains, p, -5, [Some(two), None, None]);
+    assert_list(rt, chains, p, 6, [None, None, None]);
+}
+
+#[test]
+#[tactic(auto, using(mi_node::proofs::Callers::refs))]
+fn refused_room_changes_no_list(rt: HostRuntime) {
+    let mut p: Pool<i64> = Pool::with_slots(rt.alloc(), 2);
+    let Ok(one) = p.take(5) else {
+        panic!(rt; "no memory");
+    };
+    let Ok(two) = p.take(-5) else {
+        panic!(rt; "no memory");
+    };
+    let Ok(three) = p.take(5) else {
+        panic!(rt; "no memory");
+    };
+    let Ok(mut chains) = Chains::new(rt.alloc(), 1, ByNumber) else {
+        panic!(rt; "no memory");
+    };
+    fill(&mut chains, &mut p, one, two, three);
+    assert_eq!(rt; chains.groups(&p), 2);
+    refuse_room(
+        &rt,
+        rt.alloc(),
+        &mut chains,
+        &mut p,
+        one,
+        two,
+        three,
+        u64::MAX,
+    );
+    refuse_room(
+        &rt,
+        rt.alloc(),
+        &mut chains,
+        &mut p,
+        one,
+        two,
+        three,
+        1 << 62,
+    );
+}
