@@ -1,5 +1,6 @@
 //! Replies are out before more is read, and a consumer that is gone is noticed: over streams, and over connections.
-ghost use Rattle.std.specs.Prelude.{◌≡◌, [], IfOk};
+ghost use Rattle.std.specs.Prelude.{◌≡◌, [], IfOk, IsSome};
+ghost use Rattle.mi_hub.specs.Connections.{rest_at};
 
 use crate::buffered::Buffered;
 use crate::listener::serve_listener;
@@ -147,21 +148,44 @@ fn opened(alloc: Global) -> Result<Hub<Plain>, AllocError>
     Ok(Hub::new(alloc, Plain::new(alloc, catalog)?))
 }
 
+/// Serves connection 1, and answers what serving answered, whether the reader has failed, whether the writer has, and whether
+/// it refuses what is written then.
+fn serve_once<R: Read + Drop, W: Write + Drop>(
+    alloc: Global,
+    hub: &mut Hub<Plain>,
+    input: R,
+    output: W,
+) -> Result<(Result<(), ServeFault>, bool, bool, bool), AllocError>
+    requires { IsSome (rest_at 1 hub.old.attached) }
+{
+    let mut reader = Watched::new(input);
+    let mut writer = Watched::new(Buffered::new(alloc, output)?);
+    let served = serve_stream(hub, 1, &mut reader, &mut writer);
+    let refused = writer.write(b"more").is_err();
+    Ok((served, reader.failed(), writer.failed(), refused))
+}
+
 /// A flush that fails cuts the connection: what it held is undone, and a writer that has failed takes nothing more.
 #[test]
 fn failed_flush_cuts(rt: HostRuntime) -> Result<(), Fail> {
     let talk = Talk::new(0);
     let mut hub = opened(rt.alloc())?;
     assert_eq!(rt; hub.attach(1), Ok(()));
-    let mut reader = Watched::new(Asker {
-        talk: &talk,
-        pieces: SESSION,
-    });
-    let mut writer = Watched::new(Buffered::new(rt.alloc(), Teller { talk: &talk })?);
-    let served = serve_stream(&mut hub, 1, &mut reader, &mut writer);
+    let (input, output) = (
+        Asker {
+            talk: &talk,
+            pieces: SESSION,
+        },
+        Teller { talk: &talk },
+    );
+    let (served, reader_failed, writer_failed, refused) = serve_once(
+        rt.alloc(),
+        &mut hub,
+        input,
+        output,
+    )?;
     assert_eq!(rt; served, Err(ServeFault::Write));
-    assert!(rt; writer.failed() && !reader.failed());
-    assert!(rt; writer.write(b"more").is_err());
+    assert!(rt; writer_failed && !reader_failed && refused);
     assert_eq!(rt; talk.asked.get(), 1);
     assert_eq!(rt; hub.database().depth(), 0);
     assert_eq!(rt; hub.database().revision(), 0);
