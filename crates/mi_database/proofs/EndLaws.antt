@@ -64,7 +64,8 @@ ending_more n first now next e ends =
       revision = ends.revision ∙ e.revision;
       journal = ends.journal ∙ newer_take (d - n) first.journal now.journal e.journal (omega arith) ∙ ap (λ k. take k first.journal) less;
       tables = ends.tables ∙ e.tables;
-      old_ = ends.old_ ∙ newer_take (d - n) (old_of first.datas first.journal) (old_of now.datas now.journal) e.old_ (omega (arith, long)) ∙ ap (λ k. take k (old_of first.datas first.journal)) less;
+      old_ = ends.old_ ∙ newer_take (d - n) (old_of first.datas first.journal) (old_of now.datas now.journal) e.old_ (omega (arith, long))
+          ∙ ap (λ k. take k (old_of first.datas first.journal)) less;
       changes = omega (arith, rose, rises);
       starts = omega (arith, opened, opens);
     }
@@ -76,7 +77,8 @@ some_open n first now e l =
     omega (arith, long)
 
 -- a commit, as the code comes to the number of sessions that end
-pub ended_all : (n x open_ : ℕ) (first now : Held) → Ending n first now → open_ ≡ length first.journal → n ≡ min (x - (first.revision - open_)) open_ → length first.journal ≤ first.revision
+pub ended_all : (n x open_ : ℕ) (first now : Held) → Ending n first now → open_ ≡ length first.journal → n ≡ min (x - (first.revision - open_)) open_
+    → length first.journal ≤ first.revision
     → (n ≡ ending x (meaning first)) × (meaning now ≡ committed x (meaning first))
 ended_all n x open_ first now e all is le =
     let d : ℕ = length first.journal in
@@ -90,11 +92,13 @@ ended_all n x open_ first now e all is le =
     let revision = e.revision in
     (same, λ i. record { catalog = catalog i; tables = tables i; old = kept i; revision = revision i })
 
-undone_of : (c : CatalogShape) (ts : List Table) (old : List (List Table)) (r : ℕ) → (undo_step (record { catalog = c; tables = ts; old = old; revision = r })).1 ≡ undone (record { catalog = c; tables = ts; old = old; revision = r })
+undone_of : (c : CatalogShape) (ts : List Table) (old : List (List Table)) (r : ℕ)
+    → (undo_step (record { catalog = c; tables = ts; old = old; revision = r })).1 ≡ undone (record { catalog = c; tables = ts; old = old; revision = r })
 undone_of c ts [] r = refl
 undone_of c ts (o ∷ old) r =
     let d : Database = record { catalog = c; tables = ts; old = o ∷ old; revision = r } in
-    ap (λ b. (cond {A = Result ℕ NoSession × Database} b (Err (record {}), d) (Ok (r - 1), undone d)).1) (not_same (length (o ∷ old)) 0 (λ e. absurd (omega (arith, e))))
+    ap (λ b. (cond {A = Result ℕ NoSession × Database} b (Err (record {}), d) (Ok (r - 1), undone d)).1)
+    (not_same (length (o ∷ old)) 0 (λ e. absurd (omega (arith, e))))
 
 -- an undo leaves what the definition says, also where no session is open
 pub undo_leaves : (d : Database) → (undo_step d).1 ≡ undone d
@@ -102,16 +106,19 @@ undo_leaves d = undone_of d.catalog d.tables d.old d.revision
 
 -- The tables of a linked database
 
-tables_from : (ss : List Shape) (ds : List Data) (none : Shape) → length ds ≡ length ss → ((n : ℕ) → n < length ds → IsTable (get_or ss n none) (table_of (data_at ds n))) → AllZip IsTable ss (tables_of ds)
+tables_from : (ss : List Shape) (ds : List Data) (none : Shape) → length ds ≡ length ss
+    → ((n : ℕ) → n < length ds → IsTable (get_or ss n none) (table_of (data_at ds n))) → AllZip IsTable ss (tables_of ds)
 tables_from [] [] none same all = tt
 tables_from [] (d ∷ ds) none same all = absurd (omega (arith, same))
 tables_from (s ∷ ss) [] none same all = absurd (omega (arith, same))
 tables_from (s ∷ ss) (d ∷ ds) none same all = (all 0 (omega arith), tables_from ss ds none (omega (arith, same)) (λ n l. all (suc n) (omega (arith, l))))
 
-all_tables : (c : CatalogShape) (ds : List Data) → length ds ≡ length c.tables → ((n : ℕ) → n < length ds → IsData (schema_at c n) (data_at ds n)) → AllZip IsTable c.tables (tables_of ds)
+all_tables : (c : CatalogShape) (ds : List Data) → length ds ≡ length c.tables → ((n : ℕ) → n < length ds → IsData (schema_at c n) (data_at ds n))
+    → AllZip IsTable c.tables (tables_of ds)
 all_tables c ds same all = tables_from c.tables ds _ same (λ n l. (all n l).table)
 
-old_tables : (c : CatalogShape) (j : Journal) (ds : List Data) → length ds ≡ length c.tables → IsLinked c ds j → AllByRecursion (AllZip IsTable c.tables) (old_of ds j)
+old_tables : (c : CatalogShape) (j : Journal) (ds : List Data) → length ds ≡ length c.tables → IsLinked c ds j
+    → AllByRecursion (AllZip IsTable c.tables) (old_of ds j)
 old_tables c [] ds same is = tt
 old_tables c (es ∷ older) ds same is =
     let back : IsLinked c (unwound es ds) older = linked_undone c ds es older is in
@@ -122,7 +129,12 @@ pub held_database : (ss : List Shape) (h : Held) → IsHeld ss h → IsDatabase 
 held_database ss h is =
     let long : length (old_of h.datas h.journal) ≡ length h.journal = length-old h.journal h.datas in
     let numbered = is.numbered in
-    record { tables = all_tables h.catalog h.datas is.many is.linked.each; old = old_tables h.catalog h.journal h.datas is.many is.linked; numbered = omega (arith, long, numbered) }
+    record {
+      tables = all_tables h.catalog h.datas is.many is.linked.each;
+      old = old_tables h.catalog h.journal h.datas is.many is.linked;
+      numbered =
+          omega (arith, long, numbered);
+    }
 
 -- Start and squash
 
@@ -130,18 +142,22 @@ pub start_full : (h : Held) → h.revision ≢ LAST_COUNT → length h.journal �
 start_full h low full =
     let d : Database = meaning h in
     let long : length d.old ≡ MAX_SESSIONS = length-old h.journal h.datas ∙ full in
-    ap (λ b. cond {A = Result ℕ Refusal × Database} b (Err Spent, d) (cond (length d.old == MAX_SESSIONS) (Err Depth, d) (Ok (d.revision + 1), started d))) (not_same h.revision LAST_COUNT low)
+    ap (λ b. cond {A = Result ℕ Refusal × Database} b (Err Spent, d) (cond (length d.old == MAX_SESSIONS) (Err Depth, d) (Ok (d.revision + 1), started d)))
+    (not_same h.revision LAST_COUNT low)
     ∙ ap (λ n. cond {A = Result ℕ Refusal × Database} (n == MAX_SESSIONS) (Err Depth, d) (Ok (d.revision + 1), started d)) long
 
 pub start_opens : (h : Held) → h.revision ≢ LAST_COUNT → length h.journal ≢ MAX_SESSIONS → start_step (meaning h) ≡ (Ok (h.revision + 1), started (meaning h))
 start_opens h low few =
     let d : Database = meaning h in
     let long : length d.old ≡ length h.journal = length-old h.journal h.datas in
-    ap (λ b. cond {A = Result ℕ Refusal × Database} b (Err Spent, d) (cond (length d.old == MAX_SESSIONS) (Err Depth, d) (Ok (d.revision + 1), started d))) (not_same h.revision LAST_COUNT low)
-    ∙ ap (λ b. cond {A = Result ℕ Refusal × Database} b (Err Depth, d) (Ok (d.revision + 1), started d)) (not_same (length d.old) MAX_SESSIONS (λ same. few (sym long ∙ same)))
+    ap (λ b. cond {A = Result ℕ Refusal × Database} b (Err Spent, d) (cond (length d.old == MAX_SESSIONS) (Err Depth, d) (Ok (d.revision + 1), started d)))
+    (not_same h.revision LAST_COUNT low)
+    ∙ ap (λ b. cond {A = Result ℕ Refusal × Database} b (Err Depth, d) (Ok (d.revision + 1), started d))
+    (not_same (length d.old) MAX_SESSIONS (λ same. few (sym long ∙ same)))
 
 squash_opens : (d : Database) → 0 < length d.old → squash_step d ≡ (Ok (d.revision - 1), squashed d)
-squash_opens d some = ap (λ b. cond {A = Result ℕ NoSession × Database} b (Err (record {}), d) (Ok (d.revision - 1), squashed d)) (not_same (length d.old) 0 (λ none. absurd (omega (arith, none))))
+squash_opens d some = ap (λ b. cond {A = Result ℕ NoSession × Database} b (Err (record {}), d) (Ok (d.revision - 1), squashed d))
+    (not_same (length d.old) 0 (λ none. absurd (omega (arith, none))))
 
 one_session : (j : Journal) → length j ≡ 1 → (es : List Entry) × (j ≡ es ∷ [])
 one_session [] one = absurd (omega (arith, one))
@@ -154,7 +170,8 @@ two_sessions (es ∷ []) some more = absurd (more refl)
 two_sessions (newest ∷ below ∷ older) some more = (newest, below, older, refl)
 
 pub two_open : (j : Journal) → length j ≢ 0 → length j ≢ 1 → TwoAreOpen j
-two_open j some more = let two : (newest : List Entry) × (below : List Entry) × (older : Journal) × (j ≡ newest ∷ below ∷ older) = two_sessions j some more in subst TwoAreOpen (sym two.3) tt
+two_open j some more = let two : (newest : List Entry) × (below : List Entry) × (older : Journal) × (j ≡ newest ∷ below ∷ older) = two_sessions j some more in
+    subst TwoAreOpen (sym two.3) tt
 
 alone_at : (c : CatalogShape) (ds : List Data) (es : List Entry) (r changes starts : ℕ) (now : Held) → EndsOldest (held c ds (es ∷ []) r changes starts) now
     → state_of now.catalog now.datas now.journal (now.revision - 1) ≡ squashed (state_of c ds (es ∷ []) r)
@@ -172,9 +189,11 @@ squash_alone old now ends one =
     let long : length (old_of old.datas old.journal) ≡ length old.journal = length-old old.journal old.datas in
     let is : squash_step (meaning old) ≡ (Ok (old.revision - 1), squashed (meaning old)) = squash_opens (meaning old) (omega (arith, long, one)) in
     let split : (es : List Entry) × (old.journal ≡ es ∷ []) = one_session old.journal one in
-    let was : old ≡ held old.catalog old.datas (split.0 ∷ []) old.revision old.changes old.starts = ap (λ j. held old.catalog old.datas j old.revision old.changes old.starts) split.1 in
+    let was : old ≡ held old.catalog old.datas (split.0 ∷ []) old.revision old.changes old.starts =
+    ap (λ j. held old.catalog old.datas j old.revision old.changes old.starts) split.1 in
     let state : state_of now.catalog now.datas now.journal (now.revision - 1) ≡ squashed (meaning old) =
-    alone_at old.catalog old.datas split.0 old.revision old.changes old.starts now (subst (λ (h : Held). EndsOldest h now) was ends) ∙ ap (λ (h : Held). squashed (meaning h)) (sym was) in
+    alone_at old.catalog old.datas split.0 old.revision old.changes old.starts now (subst (λ (h : Held). EndsOldest h now) was ends)
+    ∙ ap (λ (h : Held). squashed (meaning h)) (sym was) in
     (ap (λ n. Ok (n - 1)) ends.revision ∙ sym (ap (λ q. q.0) is), state ∙ sym (ap (λ q. q.1) is))
 
 -- the newest joined into the one below
@@ -190,7 +209,8 @@ squash_joins old j' left some more =
     (sym (ap (λ q. q.0) is), state ∙ sym (ap (λ q. q.1) is))
 
 -- and what holds stays
-pub joined_held : (ss : List Shape) (c : CatalogShape) (ds : List Data) (j j' : Journal) (r changes starts changes' starts' : ℕ) → j' ≡ joined j → length j ≢ 0 → length j ≢ 1 → IsHeld ss (held c ds j r changes starts)
+pub joined_held : (ss : List Shape) (c : CatalogShape) (ds : List Data) (j j' : Journal) (r changes starts changes' starts' : ℕ) → j' ≡ joined j → length j ≢ 0
+    → length j ≢ 1 → IsHeld ss (held c ds j r changes starts)
     → IsHeld ss (held c ds j' (r - 1) changes' starts')
 joined_held ss c ds j j' r changes starts changes' starts' left some more is =
     let two : (newest : List Entry) × (below : List Entry) × (older : Journal) × (j ≡ newest ∷ below ∷ older) = two_sessions j some more in

@@ -25,11 +25,13 @@ kept_state c ds [] n i new r l back =
     ap (λ q. state_of c q [] r) (ap (λ d. set (set ds n new) n (settled i d)) there ∙ set-set ds n new (settled i new)) ∙ state_alone c ds n i new r
 kept_state c ds (newest ∷ older) n i new r l back = state_noted c ds n i new newest older r l back
 
-kept_linked : (c : CatalogShape) (ds : List Data) (j : Journal) (n : ℕ) (i : Inverse) (new : Data) → IsLinked c ds j → n < length ds → Ready i new → taken_back i new ≡ data_at ds n
+kept_linked : (c : CatalogShape) (ds : List Data) (j : Journal) (n : ℕ) (i : Inverse) (new : Data) → IsLinked c ds j → n < length ds → Ready i new
+    → taken_back i new ≡ data_at ds n
     → IsData (schema_at c n) new → IsLinked c (kept_datas n i j (set ds n new)) (noted (n, i) j)
 kept_linked c ds [] n i new is l ready back data_ =
     let there : data_at (set ds n new) n ≡ new = get_or-set_same ds n new _ l in
-    subst (λ q. IsLinked c q []) (sym (ap (λ d. set (set ds n new) n (settled i d)) there ∙ set-set ds n new (settled i new))) (linked_alone c ds n i new is l ready back data_)
+    subst (λ q. IsLinked c q []) (sym (ap (λ d. set (set ds n new) n (settled i d)) there ∙ set-set ds n new (settled i new)))
+    (linked_alone c ds n i new is l ready back data_)
 kept_linked c ds (newest ∷ older) n i new is l ready back data_ = linked_noted c ds n i new newest older is l ready back data_
 
 kept_length : (j : Journal) (n : ℕ) (i : Inverse) (ds : List Data) → length (kept_datas n i j ds) ≡ length ds
@@ -45,11 +47,13 @@ pub set_data : {X : Type 0} (plain : X → Data) (cs : List X) (n : ℕ) (k : X)
 set_data plain cs n k l is = get_or-map plain cs n k _ l ∙ ap plain (sym is)
 
 -- the schema of a container is that of its table
-pub shape_at : {X : Type 0} (shape : X → Shape) (c : CatalogShape) (cs : List X) (n : ℕ) (k : X) → n < length cs → k ≡ get_or cs n k → map shape cs ≡ c.tables → shape k ≡ schema_at c n
+pub shape_at : {X : Type 0} (shape : X → Shape) (c : CatalogShape) (cs : List X) (n : ℕ) (k : X) → n < length cs → k ≡ get_or cs n k → map shape cs ≡ c.tables
+    → shape k ≡ schema_at c n
 shape_at shape c cs n k l is shapes = ap shape is ∙ sym (get_or-map shape cs n k _ l) ∙ ap (λ (q : List Shape). schema_at (record c { tables = q }) n) shapes
 
 -- a container that keeps its schema leaves the list of schemas
-pub same_shapes : {X : Type 0} (shape : X → Shape) (cs : List X) (n : ℕ) (k k' : X) → n < length cs → k ≡ get_or cs n k → shape k' ≡ shape k → map shape (set cs n k') ≡ map shape cs
+pub same_shapes : {X : Type 0} (shape : X → Shape) (cs : List X) (n : ℕ) (k k' : X) → n < length cs → k ≡ get_or cs n k → shape k' ≡ shape k
+    → map shape (set cs n k') ≡ map shape cs
 same_shapes shape cs n k k' l is same =
     map-set shape cs n k' ∙ ap (set (map shape cs) n) (same ∙ ap shape is ∙ sym (get_or-map shape cs n k (shape k) l)) ∙ set-get_or (map shape cs) n (shape k)
 
@@ -80,9 +84,12 @@ module _ {X : Type 0} (shape : X → Shape) (plain : X → Data) (c : CatalogSha
       let is : IsData (shape k) (plain k) = subst (λ q. IsData q (plain k)) (sym schema) (subst (IsData (schema_at c n)) there (linked.each n l)) in
       record {
         within = l;
-        ready = subst (λ q. Ready i q) (sym made.makes.changed_data) (subst (λ q. Ready q (changed made.change (plain k))) (sym made.makes.inverse) (change_ready (shape k) made.change (plain k) is made.makes.allowed));
+        ready = subst (λ q. Ready i q) (sym made.makes.changed_data)
+            (subst (λ q. Ready q (changed made.change (plain k))) (sym made.makes.inverse)
+            (change_ready (shape k) made.change (plain k) is made.makes.allowed));
         back = ap₂ taken_back made.makes.inverse made.makes.changed_data ∙ change_back (shape k) made.change (plain k) is made.makes.allowed ∙ sym there;
-        is = subst (λ q. IsData q (plain k')) schema (subst (IsData (shape k)) (sym made.makes.changed_data) (change_data (shape k) made.change (plain k) is made.makes.allowed));
+        is = subst (λ q. IsData q (plain k')) schema (subst (IsData (shape k)) (sym made.makes.changed_data)
+            (change_data (shape k) made.change (plain k) is made.makes.allowed));
       }
 
   after_datas : Made shape plain cs after n k k' i j noted_ → map plain after ≡ kept_datas n i j (set (map plain cs) n (plain k'))
@@ -121,7 +128,8 @@ module _ {X : Type 0} (shape : X → Shape) (plain : X → Data) (c : CatalogSha
       }
 
 -- what the inverse keeps, if anything, is kept
-pub made_keeps : {X : Type 0} (shape : X → Shape) (plain : X → Data) (c : CatalogShape) (cs : List X) (n : ℕ) (k k' : X) (i : Inverse) (change : Change) (j : Journal)
+pub made_keeps : {X : Type 0} (shape : X → Shape) (plain : X → Data) (c : CatalogShape) (cs : List X) (n : ℕ) (k k' : X) (i : Inverse) (change : Change)
+    (j : Journal)
     → n < length cs → k ≡ get_or cs n k → Makes (shape k) change (plain k) i (plain k') → map shape cs ≡ c.tables → IsLinked c (map plain cs) j
     → KeptBy i (data_at (map plain (set cs n k')) n)
 made_keeps shape plain c cs n k k' i change j l was makes shapes linked =
@@ -129,12 +137,15 @@ made_keeps shape plain c cs n k k' i change j l was makes shapes linked =
     let there : data_at (map plain cs) n ≡ plain k = set_data plain cs n k l was in
     let schema : shape k ≡ schema_at c n = shape_at shape c cs n k l was shapes in
     let is : IsData (shape k) (plain k) = subst (λ q. IsData q (plain k)) (sym schema) (subst (IsData (schema_at c n)) there (linked.each n within)) in
-    let ready : Ready i (plain k') = subst (λ q. Ready i q) (sym makes.changed_data) (subst (λ q. Ready q (changed change (plain k))) (sym makes.inverse) (change_ready (shape k) change (plain k) is makes.allowed)) in
-    let now : data_at (map plain (set cs n k')) n ≡ plain k' = ap (λ q. data_at q n) (map-set plain cs n k') ∙ get_or-set_same (map plain cs) n (plain k') _ within in
+    let ready : Ready i (plain k') = subst (λ q. Ready i q) (sym makes.changed_data)
+    (subst (λ q. Ready q (changed change (plain k))) (sym makes.inverse) (change_ready (shape k) change (plain k) is makes.allowed)) in
+    let now : data_at (map plain (set cs n k')) n ≡ plain k' = ap (λ q. data_at q n) (map-set plain cs n k')
+    ∙ get_or-set_same (map plain cs) n (plain k') _ within in
     subst (KeptBy i) (sym now) (ready_keeps i (plain k') ready)
 
 -- whatever a modify made, it is one change
-pub some_modify : (o : Option (ℕ × ℕ)) (s : Shape) (e : ℕ) (old : Data) (i : Inverse) (new : Data) → MakesModify o s e old i new → (change : Change) × Makes s change old i new
+pub some_modify : (o : Option (ℕ × ℕ)) (s : Shape) (e : ℕ) (old : Data) (i : Inverse) (new : Data) → MakesModify o s e old i new → (change : Change)
+    × Makes s change old i new
 some_modify None s e old i new made = (Replace e made.0, made.1)
 some_modify (Some at) s e old i new made = (Erase e (Some at), made)
 

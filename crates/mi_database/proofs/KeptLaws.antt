@@ -1,5 +1,6 @@
 -- How the kept rows move.
-use Rattle.std.proofs.Common.{◌≡◌, ◌≢◌, Bool, true, false, cond, Option, Some, None, ℕ, ◌-◌, ◌<◌, List, [], ◌∷◌, ◌++◌, map, length, take, refl, ap, ap₂, sym, ◌∙◌, subst, arith}
+use Rattle.std.proofs.Common.{◌≡◌, ◌≢◌, Bool, true, false, cond, Option, Some, None, ℕ, ◌-◌, ◌<◌, List}
+use Rattle.std.proofs.Common.{[], ◌∷◌, ◌++◌, map, length, take, refl, ap, ap₂, sym, ◌∙◌, subst, arith}
 use Rattle.std.proofs.lemmas.List.{take-map, append-nil, append_assoc, nil_from_length, get_or-set_same}
 use Rattle.std.specs.declared.result.Result.{Result}
 use Rattle.std.specs.declared.result.Result.TheVariants.{Ok, Err}
@@ -54,7 +55,8 @@ in_kept n (e ∷ es) = ids_in-append n (kept_in es) (kept_by e.0 (keeps e.1)) �
 
 kept_at-append : (n : ℕ) (es fs : List Entry) → kept_at n (es ++ fs) ≡ kept_at n fs ++ kept_at n es
 kept_at-append n [] fs = sym (append-nil (kept_at n fs))
-kept_at-append n (e ∷ es) fs = ap (λ q. q ++ cond (e.0 == n) (kept_id (keeps e.1)) []) (kept_at-append n es fs) ∙ append_assoc (kept_at n fs) (kept_at n es) (cond (e.0 == n) (kept_id (keeps e.1)) [])
+kept_at-append n (e ∷ es) fs = ap (λ q. q ++ cond (e.0 == n) (kept_id (keeps e.1)) []) (kept_at-append n es fs)
+    ∙ append_assoc (kept_at n fs) (kept_at n es) (cond (e.0 == n) (kept_id (keeps e.1)) [])
 
 at_kept : (n : ℕ) (j : Journal) → ids_at n (map kept_in j) ≡ kept_at n (entries j)
 at_kept n [] = refl
@@ -62,7 +64,11 @@ at_kept n (es ∷ older) = ap₂ (λ p q. p ++ q) (at_kept n older) (in_kept n e
 
 pub nodes_kept : (ss : List Shape) (h : Held) (n : ℕ) → IsHeld ss h → n < length h.datas → NodesAreKept h n
 nodes_kept ss h n is l =
-    record { kept = λ a. ap (times a) (at_kept n h.journal) ∙ kept_names h.catalog (entries h.journal) h.datas is.linked.holds n a l; gone = (is.linked.each n l).gone }
+    record {
+      kept = λ a. ap (times a) (at_kept n h.journal) ∙ kept_names h.catalog (entries h.journal) h.datas is.linked.holds n a l;
+      gone =
+          (is.linked.each n l).gone;
+    }
 
 pub undo_keeps : (j : Journal) → map kept_in (older_of j) ≡ kept_on_undo (map kept_in j)
 undo_keeps [] = refl
@@ -78,7 +84,8 @@ join_keeps [] more = refl
 join_keeps (es ∷ []) more = absurd (more refl)
 join_keeps (es ∷ below ∷ older) more = kept_joined es below older
 
-pub end_keeps : (n x : ℕ) (h : Held) (j : Journal) → j ≡ take (length h.journal - n) h.journal → n ≡ ending x (meaning h) → map kept_in j ≡ kept_after (Commit x) (meaning h) (kept_rows h)
+pub end_keeps : (n x : ℕ) (h : Held) (j : Journal) → j ≡ take (length h.journal - n) h.journal → n ≡ ending x (meaning h)
+    → map kept_in j ≡ kept_after (Commit x) (meaning h) (kept_rows h)
 end_keeps n x h j is ends =
     let long : length (meaning h).old ≡ length h.journal = length-old h.journal h.datas in
     ap (map kept_in) is ∙ sym (take-map kept_in (length h.journal - n) h.journal) ∙ ap₂ (λ d k. take (d - k) (map kept_in h.journal)) (sym long) ends
@@ -101,19 +108,22 @@ refused_has true t u e is = absurd (let h : Ok tt ≡ Err e = is in cc)
 refused_has false t u e is = refl
 
 -- an erase of a row keeps it
-pub erase_keeps : (n e : ℕ) (h new : Held) (i : Inverse) → keeps i ≡ Some e → new.journal ≡ noted (n, i) h.journal → (erase_step n e (meaning h)).0 ≡ Ok tt → kept_rows new ≡ kept_after (Erase n e) (meaning h) (kept_rows h)
+pub erase_keeps : (n e : ℕ) (h new : Held) (i : Inverse) → keeps i ≡ Some e → new.journal ≡ noted (n, i) h.journal → (erase_step n e (meaning h)).0 ≡ Ok tt
+    → kept_rows new ≡ kept_after (Erase n e) (meaning h) (kept_rows h)
 erase_keeps n e h new i keeps_ journal is =
     let there : has (table_of (meaning h) n) e ≡ true = erased_has _ _ _ is in
     ap (map kept_in) journal ∙ note_keeps n i h.journal
     ∙ ap₂ (λ o b. kept_more (kept_by n o) (map kept_in h.journal)) keeps_ there
     ∙ sym (ap (λ b. kept_more (cond b ((n, e) ∷ []) []) (map kept_in h.journal)) there)
 
-pub erase_refused : (n e : ℕ) (h new : Held) (f : Refusal) → new.journal ≡ h.journal → (erase_step n e (meaning h)).0 ≡ Err f → kept_rows new ≡ kept_after (Erase n e) (meaning h) (kept_rows h)
+pub erase_refused : (n e : ℕ) (h new : Held) (f : Refusal) → new.journal ≡ h.journal → (erase_step n e (meaning h)).0 ≡ Err f
+    → kept_rows new ≡ kept_after (Erase n e) (meaning h) (kept_rows h)
 erase_refused n e h new f journal is =
     let none : has (table_of (meaning h) n) e ≡ false = refused_has _ _ _ f is in
     ap (map kept_in) journal ∙ sym (none_more (map kept_in h.journal)) ∙ sym (ap (λ b. kept_more (cond b ((n, e) ∷ []) []) (map kept_in h.journal)) none)
 
-pub refused_keeps : (c : Command) (e : Refusal) (old new : Held) → e ≢ Memory → kept_rows new ≡ kept_after c (meaning old) (kept_rows old) → KeptRefused c e old new
+pub refused_keeps : (c : Command) (e : Refusal) (old new : Held) → e ≢ Memory → kept_rows new ≡ kept_after c (meaning old) (kept_rows old)
+    → KeptRefused c e old new
 refused_keeps c Memory old new never is = absurd (never refl)
 refused_keeps c e old new never is = is
 
@@ -137,22 +147,29 @@ relocate_keeps x e None d = refl
 relocate_keeps x e (Some b) d = nothing_or (b == e) x e d
 
 -- a modify keeps the row that it lost
-lost_keeps : (o : Option (ℕ × ℕ)) (s : Shape) (n e : ℕ) (old : Data) (i : Inverse) (new : Data) → MakesModify o s e old i new → kept_by n (keeps i) ≡ lost_row (lost_answer o) (n, e)
+lost_keeps : (o : Option (ℕ × ℕ)) (s : Shape) (n e : ℕ) (old : Data) (i : Inverse) (new : Data) → MakesModify o s e old i new
+    → kept_by n (keeps i) ≡ lost_row (lost_answer o) (n, e)
 lost_keeps None s n e old i new made = ap (λ q. kept_by n (keeps q)) made.1.inverse
 lost_keeps (Some at) s n e old i new made = ap (λ q. kept_by n (keeps q)) made.inverse
 
-met_answer : (step : Result (Unit {0}) Refusal × Database) (o : Option (ℕ × ℕ)) (old new : Database) → Meets step (lost_answer o) old new → step.0 ≡ lost_answer o
+met_answer : (step : Result (Unit {0}) Refusal × Database) (o : Option (ℕ × ℕ)) (old new : Database) → Meets step (lost_answer o) old new
+    → step.0 ≡ lost_answer o
 met_answer step None old new m = m.0
 met_answer step (Some at) old new m = m.0
 
-pub modify_keeps : (n e : ℕ) (edits : List Edit) (rollback : Bool) (h new : Held) (s : Shape) (old : Data) (i : Inverse) (made_ : Data) → MakesModify (lost_to i) s e old i made_ → new.journal ≡ noted (n, i) h.journal
-    → Meets (modify_step n e edits rollback (meaning h)) (lost_answer (lost_to i)) (meaning h) (meaning new) → kept_rows new ≡ kept_after (Modify n e edits rollback) (meaning h) (kept_rows h)
+pub modify_keeps : (n e : ℕ) (edits : List Edit) (rollback : Bool) (h new : Held) (s : Shape) (old : Data) (i : Inverse) (made_ : Data)
+    → MakesModify (lost_to i) s e old i made_ → new.journal ≡ noted (n, i) h.journal
+    → Meets (modify_step n e edits rollback (meaning h)) (lost_answer (lost_to i)) (meaning h) (meaning new)
+    → kept_rows new ≡ kept_after (Modify n e edits rollback) (meaning h) (kept_rows h)
 modify_keeps n e edits rollback h new s old i made_ makes journal meets =
     ap (map kept_in) journal ∙ note_keeps n i h.journal
-    ∙ ap (λ q. kept_more q (map kept_in h.journal)) (lost_keeps (lost_to i) s n e old i made_ makes ∙ sym (ap (λ (r : Result (Unit {0}) Refusal). lost_row r (n, e)) (met_answer (modify_step n e edits rollback (meaning h)) (lost_to i) (meaning h) (meaning new) meets)))
+    ∙ ap (λ q. kept_more q (map kept_in h.journal)) (lost_keeps (lost_to i) s n e old i made_ makes
+    ∙ sym (ap (λ (r : Result (Unit {0}) Refusal). lost_row r (n, e))
+    (met_answer (modify_step n e edits rollback (meaning h)) (lost_to i) (meaning h) (meaning new) meets)))
 
 -- a refused change that keeps no node
-pub kept_refusal : (c : Command) (e : Refusal) (old new : Held) → new.journal ≡ old.journal → kept_after c (meaning old) (kept_rows old) ≡ kept_rows old → KeptRefused c e old new
+pub kept_refusal : (c : Command) (e : Refusal) (old new : Held) → new.journal ≡ old.journal → kept_after c (meaning old) (kept_rows old) ≡ kept_rows old
+    → KeptRefused c e old new
 kept_refusal c Memory old new journal stays = ap (map kept_in) journal
 kept_refusal c e old new journal stays = ap (map kept_in) journal ∙ sym stays
 
@@ -172,7 +189,8 @@ modify_refused n e edits rollback old new f journal none m =
 pub modify_kept : (n e : ℕ) (edits : List Edit) (rollback : Bool) (old new : Held) (a : Result (Unit {0}) Refusal) (o : Option (ℕ × ℕ)) → a ≡ lost_answer o
     → kept_rows new ≡ kept_after (Modify n e edits rollback) (meaning old) (kept_rows old) → KeptAfter (Modify n e edits rollback) a old new
 modify_kept n e edits rollback old new a None is kept = subst (λ (r : Result (Unit {0}) Refusal). KeptAfter (Modify n e edits rollback) r old new) (sym is) kept
-modify_kept n e edits rollback old new a (Some at) is kept = subst (λ (r : Result (Unit {0}) Refusal). KeptAfter (Modify n e edits rollback) r old new) (sym is) kept
+modify_kept n e edits rollback old new a (Some at) is kept =
+    subst (λ (r : Result (Unit {0}) Refusal). KeptAfter (Modify n e edits rollback) r old new) (sym is) kept
 
 -- Erasing the rows of a key
 
@@ -180,7 +198,8 @@ kept_twice : (xs ys : List (ℕ × ℕ)) (s : Kept) → kept_more ys (kept_more 
 kept_twice xs ys [] = refl
 kept_twice xs ys (newest ∷ older) = ap (λ q. q ∷ older) (append_assoc newest xs ys)
 
-kept_result : {A : Type 0} (c : Command) (r : Result A Refusal) (old new : Held) → r ≢ Err Memory → KeptAfter c r old new → kept_rows new ≡ kept_after c (meaning old) (kept_rows old)
+kept_result : {A : Type 0} (c : Command) (r : Result A Refusal) (old new : Held) → r ≢ Err Memory → KeptAfter c r old new
+    → kept_rows new ≡ kept_after c (meaning old) (kept_rows old)
 kept_result c (Ok v) old new never is = is
 kept_result {A} c (Err f) old new never is = refusal f (λ same. never (ap Err same)) is
   where
@@ -188,19 +207,25 @@ kept_result {A} c (Err f) old new never is = refusal f (λ same. never (ap Err s
     refusal Memory never is = absurd (never refl)
     refusal f never is = is
 
-pub first_keeps : (n x e : ℕ) (key : List Value) (old new : Held) (r : Result (Unit {0}) Refusal) → n < length (meaning old).tables → ErasesFirst (schema_of (meaning old) n) (table_of (meaning old) n) x key e
-    → meaning new ≡ with_table n (erase e (table_of (meaning old) n)) (meaning old) → r ≢ Err Memory → KeptAfter (Erase n e) r old new → kept_with n x key new ≡ kept_with n x key old
+pub first_keeps : (n x e : ℕ) (key : List Value) (old new : Held) (r : Result (Unit {0}) Refusal) → n < length (meaning old).tables
+    → ErasesFirst (schema_of (meaning old) n) (table_of (meaning old) n) x key e
+    → meaning new ≡ with_table n (erase e (table_of (meaning old) n)) (meaning old) → r ≢ Err Memory → KeptAfter (Erase n e) r old new
+    → kept_with n x key new ≡ kept_with n x key old
 first_keeps n x e key old new r l first state never kept =
     let d : Database = meaning old in
     let row : ℕ → ℕ × ℕ = λ id. (n, id) in
     let there : table_of (with_table n (erase e (table_of d n)) d) n ≡ erase e (table_of d n) = get_or-set_same d.tables n (erase e (table_of d n)) _ l in
-    let left : keyed n x key (meaning new) ≡ of_key (schema_of d n) (erase e (table_of d n)) x key = ap (keyed n x key) state ∙ ap (λ t. of_key (schema_of d n) t x key) there in
-    let more : kept_rows new ≡ kept_more ((n, e) ∷ []) (kept_rows old) = kept_result (Erase n e) r old new never kept ∙ ap (λ b. kept_more (cond b ((n, e) ∷ []) []) (kept_rows old)) first.there in
-    ap₂ (λ ids s. kept_more (map row ids) s) left more ∙ kept_twice ((n, e) ∷ []) (map row (of_key (schema_of d n) (erase e (table_of d n)) x key)) (kept_rows old)
+    let left : keyed n x key (meaning new) ≡ of_key (schema_of d n) (erase e (table_of d n)) x key = ap (keyed n x key) state
+    ∙ ap (λ t. of_key (schema_of d n) t x key) there in
+    let more : kept_rows new ≡ kept_more ((n, e) ∷ []) (kept_rows old) = kept_result (Erase n e) r old new never kept
+    ∙ ap (λ b. kept_more (cond b ((n, e) ∷ []) []) (kept_rows old)) first.there in
+    ap₂ (λ ids s. kept_more (map row ids) s) left more ∙ kept_twice ((n, e) ∷ []) (map row (of_key (schema_of d n) (erase e (table_of d n)) x key))
+    (kept_rows old)
     ∙ sym (ap (λ ids. kept_more (map row ids) (kept_rows old)) first.split)
 
 pub all_kept : (n x : ℕ) (key : List Value) (h : Held) → length (keyed n x key (meaning h)) ≡ 0 → kept_rows h ≡ kept_with n x key h
-all_kept n x key h none = sym (ap (λ ids. kept_more (map (λ (id : ℕ). (n, id)) ids) (kept_rows h)) (nil_from_length (keyed n x key (meaning h)) none) ∙ none_more (kept_rows h))
+all_kept n x key h none = sym (ap (λ ids. kept_more (map (λ (id : ℕ). (n, id)) ids) (kept_rows h)) (nil_from_length (keyed n x key (meaning h)) none)
+    ∙ none_more (kept_rows h))
 
 -- no session is open
 pub none_kept : (h : Held) → length h.journal ≡ 0 → kept_rows h ≡ []

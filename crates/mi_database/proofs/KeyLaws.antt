@@ -43,7 +43,8 @@ pub record ErasesFirst (s : Shape) (t : Table) (x : ℕ) (key : List Value) (e :
   pub fewer : length (of_key s (erase e t) x key) + 1 ≡ length (of_key s t x key)
   pub all : erase_key s x key (erase e t) ≡ erase_key s x key t
 
-pub erases_first : (s : Shape) (t : Table) (x : ℕ) (key : List Value) (e : ℕ) → IsTable s t → x < length s.indexes → find s t x key ≡ Some e → ErasesFirst s t x key e
+pub erases_first : (s : Shape) (t : Table) (x : ℕ) (key : List Value) (e : ℕ) → IsTable s t → x < length s.indexes → find s t x key ≡ Some e
+    → ErasesFirst s t x key e
 erases_first s t x key e is within first =
     let each = each_in_view s t x is within in
     let split : (rest : List ℕ) × (of_key s t x key ≡ e ∷ rest) = first_split (of_key s t x key) e first in
@@ -56,16 +57,21 @@ erases_first s t x key e is within first =
       all = ap (λ q. erase_all q (erase e t)) left ∙ sym (ap (λ q. erase_all q t) split.1);
     }
 
-refused_there : (n e : ℕ) (d new : Database) (f : Refusal) → has (table_of d n) e ≡ true → f ≢ Memory → MeetsRefusal (erase_step n e d) f d new → new ≡ with_table n (erase e (table_of d n)) d
+refused_there : (n e : ℕ) (d new : Database) (f : Refusal) → has (table_of d n) e ≡ true → f ≢ Memory → MeetsRefusal (erase_step n e d) f d new
+    → new ≡ with_table n (erase e (table_of d n)) d
 refused_there n e d new Memory there never m = absurd (never refl)
-refused_there n e d new f there never m = m.1 ∙ ap (λ b. with_table n (cond {A = Outcome (Unit {0})} b (Ok tt, erase e (table_of d n)) (Err NoId, table_of d n)).1 d) there
+refused_there n e d new f there never m = m.1 ∙ ap (λ b. with_table n
+    (cond {A = Outcome (Unit {0})} b (Ok tt, erase e (table_of d n)) (Err NoId, table_of d n)).1 d) there
 
 -- an erase of a row that is there, which isn't refused for memory
-pub erased_there : (n e : ℕ) (d new : Database) (r : Result (Unit {0}) Refusal) → has (table_of d n) e ≡ true → r ≢ Err Memory → Meets (erase_step n e d) r d new → new ≡ with_table n (erase e (table_of d n)) d
-erased_there n e d new (Ok v) there never meets = meets.1 ∙ ap (λ b. with_table n (cond {A = Outcome (Unit {0})} b (Ok tt, erase e (table_of d n)) (Err NoId, table_of d n)).1 d) there
+pub erased_there : (n e : ℕ) (d new : Database) (r : Result (Unit {0}) Refusal) → has (table_of d n) e ≡ true → r ≢ Err Memory
+    → Meets (erase_step n e d) r d new → new ≡ with_table n (erase e (table_of d n)) d
+erased_there n e d new (Ok v) there never meets = meets.1 ∙ ap
+    (λ b. with_table n (cond {A = Outcome (Unit {0})} b (Ok tt, erase e (table_of d n)) (Err NoId, table_of d n)).1 d) there
 erased_there n e d new (Err f) there never meets = refused_there n e d new f there (λ same. never (ap Err same)) meets
 
-pub erases_one : (n x e : ℕ) (key : List Value) (d : Database) → n < length d.tables → ErasesFirst (schema_of d n) (table_of d n) x key e → ErasesOne n x key d (with_table n (erase e (table_of d n)) d)
+pub erases_one : (n x e : ℕ) (key : List Value) (d : Database) → n < length d.tables → ErasesFirst (schema_of d n) (table_of d n) x key e
+    → ErasesOne n x key d (with_table n (erase e (table_of d n)) d)
 erases_one n x e key d l first =
     let s : Shape = schema_of d n in
     let t : Table = table_of d n in
@@ -92,8 +98,10 @@ pub record Erasing (n x : ℕ) (key : List Value) (rows i : ℕ) (first now : He
   pub changes : first.changes ≤ now.changes + i
   pub starts : now.starts ≡ first.starts
 
-pub erasing_more : (n x : ℕ) (key : List Value) (rows i : ℕ) (first now next : Held) → Erasing n x key rows i first now → ErasesOne n x key (meaning now) (meaning next)
-    → kept_with n x key next ≡ kept_with n x key now → next.catalog ≡ now.catalog → length next.journal ≡ length now.journal → now.changes ≤ next.changes + 1 → next.starts ≡ now.starts → Erasing n x key rows (i + 1) first next
+pub erasing_more : (n x : ℕ) (key : List Value) (rows i : ℕ) (first now next : Held) → Erasing n x key rows i first now
+    → ErasesOne n x key (meaning now) (meaning next)
+    → kept_with n x key next ≡ kept_with n x key now → next.catalog ≡ now.catalog → length next.journal ≡ length now.journal → now.changes ≤ next.changes + 1
+    → next.starts ≡ now.starts → Erasing n x key rows (i + 1) first next
 erasing_more n x key rows i first now next e one kept catalog depth changes starts =
     let fewer = one.fewer in
     let left = e.left in

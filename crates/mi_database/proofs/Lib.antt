@@ -7,3 +7,4 @@ pub mod KeyLaws
 pub mod OpenLaws
 pub mod KeptLaws
 pub mod BoundLaws
+pub mod ChangeLaws

@@ -1,5 +1,6 @@
 -- One entry taken back, and one settled.
-use Rattle.std.proofs.Common.{◌≡◌, true, false, inl, inr, ℕ, ◌+◌, ◌-◌, ◌<◌, ◌≤◌, Some, None, List, [], ◌∷◌, ◌++◌, map, length, take, set, get_or, refl, ap, ap₂, sym, ◌∙◌, subst, arith}
+use Rattle.std.proofs.Common.{◌≡◌, true, false, inl, inr, ℕ, ◌+◌, ◌-◌, ◌<◌, ◌≤◌, Some, None, List, []}
+use Rattle.std.proofs.Common.{◌∷◌, ◌++◌, map, length, take, set, get_or, refl, ap, ap₂, sym, ◌∙◌, subst, arith}
 use Rattle.std.proofs.lemmas.List.{map-set, length-set, length-map, length_push, take_at, append-nil, append_assoc}
 use Rattle.std.specs.Option.{is_some}
 use Rattle.std.proofs.lemmas.Bool.{false≢true}
@@ -8,7 +9,8 @@ use Rattle.mi_container.specs.Data.{Data}
 use Rattle.mi_container.specs.Inverse.{Inverse, taken_back, settled}
 use Rattle.mi_container.specs.Fits.{KeptBy}
 use Rattle.mi_database.specs.Journal.{Entry, Journal, data_at, entry_back, entry_settled, entries, unwound, old_of, tables_of, Holds, IsLinked}
-use Rattle.mi_database.proofs.JournalLaws.{linked_popped, oldest, holds_settled, all_settled_data, old_settled, tables_settled, length-old, take_old, entries-append}
+use Rattle.mi_database.proofs.JournalLaws.{linked_popped, oldest, holds_settled, all_settled_data}
+use Rattle.mi_database.proofs.JournalLaws.{old_settled, tables_settled, length-old, take_old, entries-append}
 use Rattle.mi_journal.specs.Noted.{newest_entry, without_entry, TakesOldest, OldestIsEmpty}
 use Rattle.mi_database.specs.Held.{Held, IsHeld, newest_of, older_of, back_by, newer_than_oldest, SettlesSome, SettlesNone, UnwindsNewest, EndsOldest}
 use Rattle.mi_database.proofs.HeldLaws.{set_data, same_shapes}
@@ -28,10 +30,12 @@ newer_than_push xs y =
     let less : length xs ≡ length (xs ++ y ∷ []) - 1 = omega arith in
     take_at xs (y ∷ []) (length (xs ++ y ∷ []) - 1) less
 
-module _ {X : Type 0} (shape : X → Shape) (plain : X → Data) (c : CatalogShape) (cs : List X) (n : ℕ) (k k' : X) (i : Inverse) (r changes starts changes' starts' : ℕ) where
+module _ {X : Type 0} (shape : X → Shape) (plain : X → Data) (c : CatalogShape) (cs : List X) (n : ℕ) (k k' : X) (i : Inverse)
+    (r changes starts changes' starts' : ℕ) where
   unwind_at : (es : List Entry) (older : Journal) → k ≡ get_or cs n k → plain k' ≡ taken_back i (plain k) → shape k' ≡ shape k
       → IsHeld (map shape cs) (held c (map plain cs) (((n, i) ∷ es) ∷ older) r changes starts)
-      → IsHeld (map shape (set cs n k')) (held c (map plain (set cs n k')) (es ∷ older) r changes' starts') × (map plain (set cs n k') ≡ entry_back (n, i) (map plain cs))
+      → IsHeld (map shape (set cs n k')) (held c (map plain (set cs n k')) (es ∷ older) r changes' starts')
+      × (map plain (set cs n k') ≡ entry_back (n, i) (map plain cs))
   unwind_at es older was back same is =
       let within : n < length cs = subst (λ q. n < q) (length-map cs plain) is.linked.holds.0 in
       let datas : map plain (set cs n k') ≡ entry_back (n, i) (map plain cs) =
@@ -48,9 +52,11 @@ module _ {X : Type 0} (shape : X → Shape) (plain : X → Data) (c : CatalogSha
       )
 
   -- one entry popped and taken back
-  pub unwind_law : (j j' : Journal) → Some (n, i) ≡ newest_entry j → j' ≡ without_entry j → k ≡ get_or cs n k → plain k' ≡ taken_back i (plain k) → shape k' ≡ shape k
+  pub unwind_law : (j j' : Journal) → Some (n, i) ≡ newest_entry j → j' ≡ without_entry j → k ≡ get_or cs n k → plain k' ≡ taken_back i (plain k)
+      → shape k' ≡ shape k
       → IsHeld (map shape cs) (held c (map plain cs) j r changes starts)
-      → IsHeld (map shape (set cs n k')) (held c (map plain (set cs n k')) j' r changes' starts') × (map plain (set cs n k') ≡ back_by (newest_of j) (map plain cs))
+      → IsHeld (map shape (set cs n k')) (held c (map plain (set cs n k')) j' r changes' starts')
+      × (map plain (set cs n k') ≡ back_by (newest_of j) (map plain cs))
   unwind_law j j' entry left was back same is =
       let split : (es : List Entry) × (older : Journal) × (j ≡ ((n, i) ∷ es) ∷ older) = newest_split j (n, i) (sym entry) in
       let h = unwind_at split.0 split.1 was back same (subst (λ q. IsHeld (map shape cs) (held c (map plain cs) q r changes starts)) split.2 is) in (
@@ -63,7 +69,8 @@ entries_push : (newer : Journal) (es : List Entry) → entries (newer ++ es ∷ 
 entries_push newer es = entries-append newer (es ∷ []) ∙ ap (λ q. entries newer ++ q) (append-nil es)
 
 pub entries_oldest : (newer : Journal) (rest : List Entry) (e : Entry) → entries (newer ++ (rest ++ e ∷ []) ∷ []) ≡ entries (newer ++ rest ∷ []) ++ e ∷ []
-entries_oldest newer rest e = entries_push newer (rest ++ e ∷ []) ∙ sym (append_assoc (entries newer) rest (e ∷ [])) ∙ ap (λ q. q ++ e ∷ []) (sym (entries_push newer rest))
+entries_oldest newer rest e = entries_push newer (rest ++ e ∷ []) ∙ sym (append_assoc (entries newer) rest (e ∷ []))
+    ∙ ap (λ q. q ++ e ∷ []) (sym (entries_push newer rest))
 
 -- the old tables of all sessions but the oldest
 newer_old : (newer : Journal) (es : List Entry) (ds : List Data) → newer_than_oldest (old_of ds (newer ++ es ∷ [])) ≡ old_of ds newer
@@ -78,7 +85,8 @@ module _ {X : Type 0} (shape : X → Shape) (plain : X → Data) (c : CatalogSha
   oldest_of newer rest is = subst (λ es. Holds c es (map plain cs)) (entries_oldest newer rest (n, i)) is.linked.holds
 
   -- the oldest entry's container is there, and keeps its node
-  pub oldest_within : (j j' : Journal) → TakesOldest (Some (n, i)) j j' → IsHeld (map shape cs) (held c (map plain cs) j r changes starts) → (n < length cs) × KeptBy i (data_at (map plain cs) n)
+  pub oldest_within : (j j' : Journal) → TakesOldest (Some (n, i)) j j' → IsHeld (map shape cs) (held c (map plain cs) j r changes starts) → (n < length cs)
+      × KeptBy i (data_at (map plain cs) n)
   oldest_within j j' taken is =
       let h = oldest c (n, i) (entries (taken.0 ++ taken.1 ∷ [])) (map plain cs)
       (oldest_of taken.0 taken.1 (subst (λ q. IsHeld (map shape cs) (held c (map plain cs) q r changes starts)) taken.2 is)) in
@@ -87,7 +95,8 @@ module _ {X : Type 0} (shape : X → Shape) (plain : X → Data) (c : CatalogSha
   settle_at : (newer : Journal) (rest : List Entry) (k k' : X) (changes' starts' : ℕ) → k ≡ get_or cs n k → plain k' ≡ settled i (plain k) → shape k' ≡ shape k
       → IsHeld (map shape cs) (held c (map plain cs) (newer ++ (rest ++ (n, i) ∷ []) ∷ []) r changes starts)
       → IsHeld (map shape (set cs n k')) (held c (map plain (set cs n k')) (newer ++ rest ∷ []) r changes' starts')
-      × SettlesSome (held c (map plain cs) (newer ++ (rest ++ (n, i) ∷ []) ∷ []) r changes starts) (held c (map plain (set cs n k')) (newer ++ rest ∷ []) r changes' starts')
+      × SettlesSome (held c (map plain cs) (newer ++ (rest ++ (n, i) ∷ []) ∷ []) r changes starts)
+      (held c (map plain (set cs n k')) (newer ++ rest ∷ []) r changes' starts')
   settle_at newer rest k k' changes' starts' was back same is =
       let ds : List Data = map plain cs in
       let j : Journal = newer ++ (rest ++ (n, i) ∷ []) ∷ [] in
@@ -95,13 +104,18 @@ module _ {X : Type 0} (shape : X → Shape) (plain : X → Data) (c : CatalogSha
       let holds : Holds c (entries j' ++ (n, i) ∷ []) ds = oldest_of newer rest is in
       let there = oldest c (n, i) (entries j') ds holds in
       let within : n < length cs = subst (λ q. n < q) (length-map cs plain) there.0 in
-      let datas : map plain (set cs n k') ≡ entry_settled (n, i) ds = map-set plain cs n k' ∙ ap (set ds n) (back ∙ ap (settled i) (sym (set_data plain cs n k within was))) in
+      let datas : map plain (set cs n k') ≡ entry_settled (n, i) ds = map-set plain cs n k'
+      ∙ ap (set ds n) (back ∙ ap (settled i) (sym (set_data plain cs n k within was))) in
       let new : length j' ≡ length newer + 1 = length_push newer rest in
       let old : length j ≡ length newer + 1 = length_push newer (rest ++ (n, i) ∷ []) in
       let numbered = is.numbered in
       let all : length (entries j) ≡ length (entries j') + 1 = ap length (entries_oldest newer rest (n, i)) ∙ length_push (entries j') (n, i) in (
         record {
-          linked = subst (λ q. IsLinked c q j') (sym datas) (record { each = all_settled_data c (n, i) ds is.linked.each there.0; holds = holds_settled c (n, i) (entries j') ds holds });
+          linked = subst (λ q. IsLinked c q j') (sym datas) (record {
+            each = all_settled_data c (n, i) ds is.linked.each there.0;
+            holds =
+                holds_settled c (n, i) (entries j') ds holds;
+          });
           shapes = same_shapes shape cs n k k' within was same ∙ is.shapes;
           many = ap length datas ∙ length-set ds n _ ∙ is.many;
           numbered = omega (arith, new, old, numbered);
@@ -112,19 +126,24 @@ module _ {X : Type 0} (shape : X → Shape) (plain : X → Data) (c : CatalogSha
           open_ = new ∙ sym old;
           newer = newer_than_push newer rest ∙ sym (newer_than_push newer (rest ++ (n, i) ∷ []));
           tables = ap tables_of datas ∙ tables_settled (n, i) ds;
-          old_ = ap (λ q. newer_than_oldest (old_of q j')) datas ∙ ap newer_than_oldest (old_settled (n, i) j' ds there.2) ∙ newer_old newer rest ds ∙ sym (newer_old newer (rest ++ (n, i) ∷ []) ds);
+          old_ = ap (λ q. newer_than_oldest (old_of q j')) datas ∙ ap newer_than_oldest (old_settled (n, i) j' ds there.2) ∙ newer_old newer rest ds
+              ∙ sym (newer_old newer (rest ++ (n, i) ∷ []) ds);
         },
       )
 
   -- the oldest entry taken and settled
-  pub settle_law : (j j' : Journal) (k k' : X) (changes' starts' : ℕ) → TakesOldest (Some (n, i)) j j' → k ≡ get_or cs n k → plain k' ≡ settled i (plain k) → shape k' ≡ shape k
+  pub settle_law : (j j' : Journal) (k k' : X) (changes' starts' : ℕ) → TakesOldest (Some (n, i)) j j' → k ≡ get_or cs n k → plain k' ≡ settled i (plain k)
+      → shape k' ≡ shape k
       → IsHeld (map shape cs) (held c (map plain cs) j r changes starts)
-      → IsHeld (map shape (set cs n k')) (held c (map plain (set cs n k')) j' r changes' starts') × SettlesSome (held c (map plain cs) j r changes starts) (held c (map plain (set cs n k')) j' r changes' starts')
+      → IsHeld (map shape (set cs n k')) (held c (map plain (set cs n k')) j' r changes' starts')
+      × SettlesSome (held c (map plain cs) j r changes starts) (held c (map plain (set cs n k')) j' r changes' starts')
   settle_law j j' k k' changes' starts' taken was back same is =
-      let h = settle_at taken.0 taken.1 k k' changes' starts' was back same (subst (λ q. IsHeld (map shape cs) (held c (map plain cs) q r changes starts)) taken.2 is) in (
+      let h = settle_at taken.0 taken.1 k k' changes' starts' was back same
+      (subst (λ q. IsHeld (map shape cs) (held c (map plain cs) q r changes starts)) taken.2 is) in (
         subst (λ q. IsHeld (map shape (set cs n k')) (held c (map plain (set cs n k')) q r changes' starts')) (sym taken.3) h.0,
         subst (λ q. SettlesSome (held c (map plain cs) q r changes starts) (held c (map plain (set cs n k')) j' r changes' starts')) (sym taken.2)
-            (subst (λ q. SettlesSome (held c (map plain cs) (taken.0 ++ (taken.1 ++ (n, i) ∷ []) ∷ []) r changes starts) (held c (map plain (set cs n k')) q r changes' starts')) (sym taken.3) h.1),
+            (subst (λ q. SettlesSome (held c (map plain cs) (taken.0 ++ (taken.1 ++ (n, i) ∷ []) ∷ []) r changes starts)
+            (held c (map plain (set cs n k')) q r changes' starts')) (sym taken.3) h.1),
       )
 
 -- while the newest session is unwound
@@ -176,7 +195,8 @@ newest_empty [] none some = absurd (omega arith)
 newest_empty ([] ∷ older) none some = refl
 newest_empty ((e ∷ es) ∷ older) none some = absurd (false≢true none)
 
-pub unwinding_more : (first now next : Held) → Unwinding first now → next.datas ≡ back_by (newest_of now.journal) now.datas → next.journal ≡ without_entry now.journal
+pub unwinding_more : (first now next : Held) → Unwinding first now → next.datas ≡ back_by (newest_of now.journal) now.datas
+    → next.journal ≡ without_entry now.journal
     → next.catalog ≡ now.catalog → next.revision ≡ now.revision → now.changes ≤ next.changes → next.starts ≡ now.starts → Unwinding first next
 unwinding_more first now next u datas journal catalog revision changes starts =
     let rose = u.changes in
@@ -206,7 +226,8 @@ unwinding_done first now u some none =
 pub settling_from : (h : Held) → Settling h h
 settling_from h = record { catalog = refl; revision = refl; newer = refl; open_ = refl; tables = refl; old_ = refl; changes = omega arith; starts = refl }
 
-pub settling_more : (first now next : Held) → Settling first now → SettlesSome now next → next.catalog ≡ now.catalog → next.revision ≡ now.revision → now.changes ≤ next.changes → next.starts ≡ now.starts → Settling first next
+pub settling_more : (first now next : Held) → Settling first now → SettlesSome now next → next.catalog ≡ now.catalog → next.revision ≡ now.revision
+    → now.changes ≤ next.changes → next.starts ≡ now.starts → Settling first next
 settling_more first now next u s catalog revision changes starts =
     let rose = u.changes in
     record {
@@ -230,7 +251,8 @@ settled_up first now next u s some =
     ]
 
 -- the oldest session, which has no entry, ends
-pub ends_law : (c : CatalogShape) (ss : List Shape) (ds : List Data) (j j' : Journal) (r changes starts changes' starts' : ℕ) → j ≡ j' ++ [] ∷ [] → IsHeld ss (held c ds j r changes starts) → IsHeld ss (held c ds j' r changes' starts')
+pub ends_law : (c : CatalogShape) (ss : List Shape) (ds : List Data) (j j' : Journal) (r changes starts changes' starts' : ℕ) → j ≡ j' ++ [] ∷ []
+    → IsHeld ss (held c ds j r changes starts) → IsHeld ss (held c ds j' r changes' starts')
 ends_law c ss ds j j' r changes starts changes' starts' split is =
     let same : entries j ≡ entries j' = ap entries split ∙ entries_push j' [] ∙ append-nil (entries j') in
     let long : length j ≡ length j' + 1 = ap length split ∙ length_push j' [] in
@@ -243,8 +265,10 @@ ends_law c ss ds j j' r changes starts changes' starts' split is =
       last = is.last;
     }
 
-pub ended_law : (first now next : Held) (j' : Journal) (changes' starts' : ℕ) → Settling first now → SettlesNone now next → next.catalog ≡ now.catalog → next.revision ≡ now.revision → now.changes ≤ next.changes → next.starts ≡ now.starts
-    → next.journal ≡ j' ++ [] ∷ [] → changes' ≡ next.changes → starts' ≡ next.starts + 1 → EndsOldest first (held next.catalog next.datas j' next.revision changes' starts')
+pub ended_law : (first now next : Held) (j' : Journal) (changes' starts' : ℕ) → Settling first now → SettlesNone now next → next.catalog ≡ now.catalog
+    → next.revision ≡ now.revision → now.changes ≤ next.changes → next.starts ≡ now.starts
+    → next.journal ≡ j' ++ [] ∷ [] → changes' ≡ next.changes → starts' ≡ next.starts + 1
+    → EndsOldest first (held next.catalog next.datas j' next.revision changes' starts')
 ended_law first now next j' changes' starts' u s catalog revision changes starts split stay more =
     let rose = u.changes in
     let same = u.starts in
@@ -254,7 +278,8 @@ ended_law first now next j' changes' starts' u s catalog revision changes starts
       revision = revision ∙ u.revision;
       journal = left ∙ ap newer_than_oldest s.journal ∙ u.newer;
       tables = ap tables_of s.datas ∙ u.tables;
-      old_ = sym (newer_old j' [] next.datas) ∙ sym (ap (λ q. newer_than_oldest (old_of next.datas q)) split) ∙ ap₂ (λ p q. newer_than_oldest (old_of p q)) s.datas s.journal ∙ u.old_;
+      old_ = sym (newer_old j' [] next.datas) ∙ sym (ap (λ q. newer_than_oldest (old_of next.datas q)) split)
+          ∙ ap₂ (λ p q. newer_than_oldest (old_of p q)) s.datas s.journal ∙ u.old_;
       changes = omega (arith, rose, changes, stay);
       starts = more ∙ ap (λ n. n + 1) (starts ∙ same);
     }

@@ -11,7 +11,8 @@ use Rattle.mi_container.proofs.Opening.{is_data_opened}
 use Rattle.mi_database.specs.Journal.{Journal, data_at}
 use Rattle.mi_database.specs.Held.{IsHeld}
 
-opened_each : (c : CatalogShape) → is_catalog c ≡ true → (n : ℕ) → n < length (map opened_data c.tables) → IsData (schema_at c n) (data_at (map opened_data c.tables) n)
+opened_each : (c : CatalogShape) → is_catalog c ≡ true → (n : ℕ) → n < length (map opened_data c.tables)
+    → IsData (schema_at c n) (data_at (map opened_data c.tables) n)
 opened_each c kept n l =
     let within : n < length c.tables = subst (λ q. n < q) (length-map c.tables opened_data) l in
     subst (IsData (schema_at c n)) (sym (get_or-map opened_data c.tables n _ _ within)) (is_data_opened (schema_at c n) (table_kept c n kept within))
@@ -21,7 +22,8 @@ opened_none [] n = refl
 opened_none (s ∷ ss) zero = refl
 opened_none (s ∷ ss) (suc n) = opened_none ss n
 
-opened_is : (c : CatalogShape) (ss : List Shape) (ds : List Data) (changes starts : ℕ) → is_catalog c ≡ true → ss ≡ c.tables → ds ≡ map opened_data c.tables → c.first_revision ≤ LAST_COUNT
+opened_is : (c : CatalogShape) (ss : List Shape) (ds : List Data) (changes starts : ℕ) → is_catalog c ≡ true → ss ≡ c.tables → ds ≡ map opened_data c.tables
+    → c.first_revision ≤ LAST_COUNT
     → IsHeld ss (record { catalog = c; datas = ds; journal = []; revision = c.first_revision; changes = changes; starts = starts })
 opened_is c ss ds changes starts kept shapes datas last =
     subst (λ q. IsHeld ss (record { catalog = c; datas = q; journal = []; revision = c.first_revision; changes = changes; starts = starts })) (sym datas)
@@ -34,7 +36,8 @@ opened_is c ss ds changes starts kept shapes datas last =
     })
 
 -- the same, as the code comes to it
-pub opened_at : (c : CatalogShape) (ss : List Shape) (ds : List Data) (j : Journal) (r changes starts : ℕ) → is_catalog c ≡ true → ss ≡ c.tables → ds ≡ map opened_data c.tables → j ≡ [] → r ≡ c.first_revision → r ≤ LAST_COUNT
+pub opened_at : (c : CatalogShape) (ss : List Shape) (ds : List Data) (j : Journal) (r changes starts : ℕ) → is_catalog c ≡ true → ss ≡ c.tables
+    → ds ≡ map opened_data c.tables → j ≡ [] → r ≡ c.first_revision → r ≤ LAST_COUNT
     → IsHeld ss (record { catalog = c; datas = ds; journal = j; revision = r; changes = changes; starts = starts })
 opened_at c ss ds j r changes starts kept shapes datas none first last =
     subst (λ q. IsHeld ss (record { catalog = c; datas = ds; journal = q; revision = r; changes = changes; starts = starts })) (sym none)

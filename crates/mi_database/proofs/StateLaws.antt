@@ -19,7 +19,8 @@ use Rattle.mi_database.proofs.HeldLaws.{set_data, shape_at, same_shapes, Made, m
 use Rattle.mi_database.proofs.LoopLaws.{held}
 
 -- a table's number is that of a container
-pub within_containers : {X : Type 0} (shape : X → Shape) (plain : X → Data) (c : CatalogShape) (cs : List X) (j : Journal) (r changes starts n : ℕ) → IsHeld (map shape cs) (held c (map plain cs) j r changes starts)
+pub within_containers : {X : Type 0} (shape : X → Shape) (plain : X → Data) (c : CatalogShape) (cs : List X) (j : Journal) (r changes starts n : ℕ)
+    → IsHeld (map shape cs) (held c (map plain cs) j r changes starts)
     → n < length c.tables → n < length cs
 within_containers shape plain c cs j r changes starts n is l = subst (λ q. n < q) (sym is.many ∙ length-map cs plain) l
 
@@ -30,7 +31,8 @@ table_of_container plain c cs j r n k l was =
     ap table_of (sym (set_data plain cs n k l was)) ∙ sym (table_there (map plain cs) n _ (subst (λ q. n < q) (sym (length-map cs plain)) l))
 
 -- an accepted change
-pub lift_made : {X A : Type 0} (shape : X → Shape) (plain : X → Data) (c : CatalogShape) (cs after : List X) (n : ℕ) (k k' : X) (i : Inverse) (j noted_ : Journal) (r changes starts : ℕ)
+pub lift_made : {X A : Type 0} (shape : X → Shape) (plain : X → Data) (c : CatalogShape) (cs after : List X) (n : ℕ) (k k' : X) (i : Inverse)
+    (j noted_ : Journal) (r changes starts : ℕ)
     (f : Shape → Table → Outcome A) (a : Result A Refusal) (d : Database)
     → Made shape plain cs after n k k' i j noted_ → IsHeld (map shape cs) (held c (map plain cs) j r changes starts)
     → Meets (f (shape k) (table_of (plain k))) a (table_of (plain k)) (table_of (plain k')) → state_of c (map plain cs) j r ≡ d
@@ -43,7 +45,8 @@ lift_made shape plain c cs after n k k' i j noted_ r changes starts f a d made i
     (meets_on_table n f old (shape k) (table_of (plain k)) (table_of (plain k')) a (shape_at shape c cs n k made.within made.was is.shapes)
     (table_of_container plain c cs j r n k made.within made.was) meets))
 
-refused_datas : {X : Type 0} (plain : X → Data) (cs : List X) (n : ℕ) (k k' : X) → n < length cs → k ≡ get_or cs n k → plain k' ≡ plain k → map plain (set cs n k') ≡ map plain cs
+refused_datas : {X : Type 0} (plain : X → Data) (cs : List X) (n : ℕ) (k k' : X) → n < length cs → k ≡ get_or cs n k → plain k' ≡ plain k
+    → map plain (set cs n k') ≡ map plain cs
 refused_datas plain cs n k k' l was same =
     map-set plain cs n k' ∙ ap (set (map plain cs) n) (same ∙ ap plain was ∙ sym (get_or-map plain cs n k (plain k) l)) ∙ set-get_or (map plain cs) n (plain k)
 
@@ -57,7 +60,8 @@ refused_held shape plain c cs n k k' j r changes starts is w was same shapes =
     subst (λ q. IsHeld q (held c (map plain (set cs n k')) j r changes starts)) (sym (same_shapes shape cs n k k' l was shapes))
     (subst (λ q. IsHeld (map shape cs) (held c q j r changes starts)) (sym datas) is)
 
-pub lift_refused : {X A : Type 0} (shape : X → Shape) (plain : X → Data) (c : CatalogShape) (cs : List X) (n : ℕ) (k k' : X) (j : Journal) (r changes starts : ℕ)
+pub lift_refused : {X A : Type 0} (shape : X → Shape) (plain : X → Data) (c : CatalogShape) (cs : List X) (n : ℕ) (k k' : X) (j : Journal)
+    (r changes starts : ℕ)
     (f : Shape → Table → Outcome A) (a : Result A Refusal) (d : Database)
     → IsHeld (map shape cs) (held c (map plain cs) j r changes starts) → n < length c.tables → k ≡ get_or cs n k → plain k' ≡ plain k
     → Meets (f (shape k) (table_of (plain k))) a (table_of (plain k)) (table_of (plain k')) → state_of c (map plain cs) j r ≡ d
@@ -68,7 +72,8 @@ lift_refused shape plain c cs n k k' j r changes starts f a d is w was same meet
     let new : Database = state_of c (map plain (set cs n k')) j r in
     let here = table_of_container plain c cs j r n k l was in
     let stays : with_table n (table_of (plain k')) old ≡ new =
-    ap (λ t. with_table n t old) (ap table_of same ∙ here) ∙ with_same_table n old ∙ sym (ap (λ q. state_of c q j r) (refused_datas plain cs n k k' l was same)) in
+    ap (λ t. with_table n t old) (ap table_of same ∙ here) ∙ with_same_table n old
+    ∙ sym (ap (λ q. state_of c q j r) (refused_datas plain cs n k k' l was same)) in
     subst (λ (q : Database). Meets (on_table n f q) a q new) is_state
     (subst (Meets (on_table n f old) a old) stays
     (meets_on_table n f old (shape k) (table_of (plain k)) (table_of (plain k')) a (shape_at shape c cs n k l was is.shapes) here meets))

@@ -7,7 +7,7 @@ use Rattle.mi_container.specs.Data.{Data}
 use Rattle.mi_container.specs.Changes.{opened_data}
 use Rattle.mi_container.specs.Inverse.{Inverse, settled}
 use Rattle.mi_database.specs.Journal.{Entry, Journal, data_at, entry_back, entries, unwound, old_of, tables_of, state_of, IsLinked}
-use Rattle.mi_journal.specs.Noted.{OldestIsEmpty}
+use Rattle.mi_journal.specs.Noted.{Noted, OldestIsEmpty}
 
 -- the containers' data, the inverses of each session, the revision, and the journal's room
 pub record Held : Type 0 where
@@ -17,6 +17,10 @@ pub record Held : Type 0 where
   pub revision : ℕ
   pub changes : ℕ
   pub starts : ℕ
+
+-- as the fields have it
+abbrev pub seen : CatalogShape → List Data → Noted Inverse → ℕ → Held
+seen c ds j r = record { catalog = c; datas = ds; journal = j.sessions; revision = r; changes = j.changes; starts = j.starts }
 
 abbrev pub meaning : Held → Database
 meaning h = state_of h.catalog h.datas h.journal h.revision
@@ -102,4 +106,12 @@ pub record EndsOldest (old new : Held) : Type 0 where
 
 -- what a catalog opens with
 abbrev pub opened_held : ℕ → ℕ → CatalogShape → Held
-opened_held changes starts c = record { catalog = c; datas = map opened_data c.tables; journal = []; revision = c.first_revision; changes = changes; starts = starts }
+opened_held changes starts c = record {
+  catalog = c;
+  datas = map opened_data c.tables;
+  journal = [];
+  revision = c.first_revision;
+  changes = changes;
+  starts =
+      starts;
+}

@@ -18,13 +18,13 @@ pub struct Linked<C: Container> {
 
 impl<C: Container> Model for Linked<C> {
     ghost use Rattle.std.specs.Prelude.{map};
-    ghost use Rattle.mi_database.specs.Held.{Held, IsHeld};
+    ghost use Rattle.mi_database.specs.Held.{Held, seen, IsHeld};
 
     ghost Value = { Held };
 
-    ghost view = { λ a. record { catalog = a.catalog; datas = map C.plain a.containers.items; journal = a.journal.sessions; revision = a.revision; changes = a.journal.changes; starts = a.journal.starts } };
+    ghost view = { λ a. seen a.catalog (map C.plain a.containers.items) a.journal a.revision };
 
-    ghost invariant = { λ a. IsHeld (map C.shape a.containers.items) (record { catalog = a.catalog; datas = map C.plain a.containers.items; journal = a.journal.sessions; revision = a.revision; changes = a.journal.changes; starts = a.journal.starts }) };
+    ghost invariant = { λ a. IsHeld (map C.shape a.containers.items) (seen a.catalog (map C.plain a.containers.items) a.journal a.revision) };
 }
 
 ghost use Rattle.mi_value.specs.declared.refusal.Refusal.TheVariants.{Memory};

@@ -14,7 +14,8 @@ returns-then-depth-eq0-clause-datas g c =
     let within : c.args.table < length cs.items = subst (λ n. c.args.table < n) cs.ok.0 c.requires.table in
     let none : c.args.journal.now.sessions ≡ [] = nil_from_length c.args.journal.now.sessions (sym c.depth.ensures ∙ c.if-depth-eq0.true) in
     map-set plain cs.items c.args.table c.settle.new.self
-    ∙ ap (set (map plain cs.items) c.args.table) (c.settle.ensures.plain ∙ ap (settled c.args.inverse) (sym (set_data plain cs.items c.args.table c.index_mut.result.now within c.index_mut.ensures.value)))
+    ∙ ap (set (map plain cs.items) c.args.table) (c.settle.ensures.plain
+    ∙ ap (settled c.args.inverse) (sym (set_data plain cs.items c.args.table c.index_mut.result.now within c.index_mut.ensures.value)))
     ∙ ap (λ (j : Journal). kept_datas c.args.table c.args.inverse j (map plain cs.items)) (sym none)
 
 pub returns-then-depth-eq0-clause-shapes : goal.returns-then-depth-eq0-clause-shapes

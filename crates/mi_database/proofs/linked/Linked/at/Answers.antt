@@ -15,7 +15,8 @@ returns-clause-table g c =
     let a = c.self.inside in
     let within : c.args.n < length a.catalog.tables = subst (λ (h : Held). c.args.n < length h.catalog.tables) (sym c.self.view_is) c.requires in
     table_of_container g.C.Container.plain a.catalog a.containers.items a.journal.sessions a.revision c.args.n c.index.result.now
-    (within_containers g.C.Container.shape g.C.Container.plain a.catalog a.containers.items a.journal.sessions a.revision a.journal.changes a.journal.starts c.args.n c.self.invariant within) c.index.ensures
+    (within_containers g.C.Container.shape g.C.Container.plain a.catalog a.containers.items a.journal.sessions a.revision a.journal.changes a.journal.starts
+    c.args.n c.self.invariant within) c.index.ensures
     ∙ ap (λ (h : Held). table_at (meaning h) c.args.n) c.self.view_is
 
 pub returns-clause-is : goal.returns-clause-is

@@ -18,7 +18,8 @@ loop-preserved g c =
 
 pub end_oldest-requires : goal.end_oldest-requires
 end_oldest-requires g c =
-    subst OldestIsEmpty (sym (ap (λ (h : Held). h.journal) c.self.view_is)) (settled_up c.args.self.now c.loop.self c.settle_one.new.self c.loop.invariant c.loop-test.ensures.settles c.requires)
+    subst OldestIsEmpty (sym (ap (λ (h : Held). h.journal) c.self.view_is))
+    (settled_up c.args.self.now c.loop.self c.settle_one.new.self c.loop.invariant c.loop-test.ensures.settles c.requires)
 
 pub invariant_of-self : goal.invariant_of-self
 invariant_of-self g c =
@@ -33,4 +34,5 @@ returns g c =
     let was = c.self.view_is in
     subst (λ (h : Held). EndsOldest c.args.self.now (held h.catalog h.datas j.sessions h.revision j.changes j.starts)) (sym was)
     (ended_law c.args.self.now c.loop.self next j.sessions j.changes j.starts c.loop.invariant e.settles e.catalog e.revision e.changes e.starts
-    (sym (ap (λ (h : Held). h.journal) was) ∙ c.end_oldest.ensures.sessions) (c.end_oldest.ensures.changes ∙ ap (λ (h : Held). h.changes) was) (c.end_oldest.ensures.starts ∙ ap (λ (h : Held). h.starts + 1) was))
+    (sym (ap (λ (h : Held). h.journal) was) ∙ c.end_oldest.ensures.sessions) (c.end_oldest.ensures.changes ∙ ap (λ (h : Held). h.changes) was)
+    (c.end_oldest.ensures.starts ∙ ap (λ (h : Held). h.starts + 1) was))

@@ -21,7 +21,8 @@ returns-clause-answer g c =
     let within : length first.journal ≤ first.revision = subst (λ (h : Held). length h.journal ≤ h.revision) c.self.view_is c.self.invariant.numbered in
     let many : c.min-ending.result ≡ min (c.args.number - (first.revision - c.depth-open.result)) c.depth-open.result =
     c.min-ending.ensures ∙ ap (λ n. min n c.depth-open.result) (c.saturating_sub.ensures ∙ ap (λ n. c.args.number - (n - c.depth-open.result)) revision) in
-    (ended_all c.min-ending.result c.args.number c.depth-open.result first c.loop.self (subst (λ n. Ending n first c.loop.self) done c.loop.invariant) opens many within).0
+    (ended_all c.min-ending.result c.args.number c.depth-open.result first c.loop.self
+    (subst (λ n. Ending n first c.loop.self) done c.loop.invariant) opens many within).0
 
 pub returns-clause-state : goal.returns-clause-state
 returns-clause-state g c =
@@ -33,7 +34,8 @@ returns-clause-state g c =
     let within : length first.journal ≤ first.revision = subst (λ (h : Held). length h.journal ≤ h.revision) c.self.view_is c.self.invariant.numbered in
     let many : c.min-ending.result ≡ min (c.args.number - (first.revision - c.depth-open.result)) c.depth-open.result =
     c.min-ending.ensures ∙ ap (λ n. min n c.depth-open.result) (c.saturating_sub.ensures ∙ ap (λ n. c.args.number - (n - c.depth-open.result)) revision) in
-    (ended_all c.min-ending.result c.args.number c.depth-open.result first c.loop.self (subst (λ n. Ending n first c.loop.self) done c.loop.invariant) opens many within).1
+    (ended_all c.min-ending.result c.args.number c.depth-open.result first c.loop.self
+    (subst (λ n. Ending n first c.loop.self) done c.loop.invariant) opens many within).1
 
 pub returns-clause-footprint : goal.returns-clause-footprint
 returns-clause-footprint g c =

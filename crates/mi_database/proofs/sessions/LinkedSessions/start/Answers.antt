@@ -17,7 +17,8 @@ pub returns-then-depth-eq-MAX_SESSIONS-clause-outcome : goal.returns-then-depth-
 returns-then-depth-eq-MAX_SESSIONS-clause-outcome g c =
     let h = c.args.self.now in
     let low : h.revision ≢ LAST_COUNT = λ same. c.if-self-eq-LAST_COUNT.false (ap (λ (q : Held). q.revision) c.self.view_is ∙ same) in
-    let full : length h.journal ≡ MAX_SESSIONS = sym (ap (λ (q : Held). length q.journal) c.self.view_is) ∙ sym c.depth.ensures ∙ c.if-depth-eq-MAX_SESSIONS.true in
+    let full : length h.journal ≡ MAX_SESSIONS = sym (ap (λ (q : Held). length q.journal) c.self.view_is) ∙ sym c.depth.ensures
+    ∙ c.if-depth-eq-MAX_SESSIONS.true in
     let is = start_full h low full in
     (ap (λ q. q.0) is, sym (ap (λ q. q.1) is))
 
@@ -26,12 +27,14 @@ returns-clause-outcome g c =
     let h = c.args.self.now in
     let a = c.self-2.inside in
     let low : h.revision ≢ LAST_COUNT = λ same. c.if-self-eq-LAST_COUNT.false (ap (λ (q : Held). q.revision) c.self.view_is ∙ same) in
-    let few : length h.journal ≢ MAX_SESSIONS = λ full. c.if-depth-eq-MAX_SESSIONS.false (c.depth.ensures ∙ ap (λ (q : Held). length q.journal) c.self.view_is ∙ full) in
+    let few : length h.journal ≢ MAX_SESSIONS = λ full. c.if-depth-eq-MAX_SESSIONS.false
+    (c.depth.ensures ∙ ap (λ (q : Held). length q.journal) c.self.view_is ∙ full) in
     let is = start_opens h low few in
     let revision : a.revision ≡ h.revision = ap (λ (q : Held). q.revision) c.self-2.view_is ∙ ap (λ (q : Held). q.revision) c.make_place.ensures.same in
     let same = ap meaning c.self-2.view_is ∙ ap meaning c.make_place.ensures.same in (
       ap (λ q. q.0) is ∙ ap (λ (n : ℕ). Ok (n + 1)) (sym revision),
-      ap (λ (j : Journal). state_of a.catalog (map g.C.Container.plain a.containers.items) j (a.revision + 1)) c.open_session.ensures.sessions ∙ ap started same ∙ sym (ap (λ q. q.1) is),
+      ap (λ (j : Journal). state_of a.catalog (map g.C.Container.plain a.containers.items) j (a.revision + 1)) c.open_session.ensures.sessions
+          ∙ ap started same ∙ sym (ap (λ q. q.1) is),
     )
 
 pub returns-then-depth-eq-MAX_SESSIONS-clause-footprint : goal.returns-then-depth-eq-MAX_SESSIONS-clause-footprint
