@@ -5,6 +5,3 @@ pub mod Fits
 pub mod Run
 pub mod Laws
 pub mod Examples
-pub mod Tags
-pub mod Orders
-pub mod OrderLaws
