@@ -2,7 +2,7 @@
 use Rattle.std.proofs.Common.{◌≡◌, ℕ, zero, suc, ◌+◌, ◌*◌, ◌/◌, ◌^◌, ◌<◌, ◌≤◌, ap, sym, subst, arith}
 use Rattle.std.proofs.Math.Nat.{pow-suc}
 use Rattle.mi_model.specs.Table.{Table, size}
-use Rattle.mi_database.specs.Bound.{halvings, binary_digits, look_up_bound}
+use Rattle.mi_database.specs.Bound.{halvings, binary_digits, look_up_bound, LookUpsAreBounded}
 
 halvings_reach : (most n : ℕ) → n ≤ most → n < 2 ^ halvings most n
 halvings_reach zero zero le = omega arith
@@ -31,3 +31,15 @@ pub within_two : (t u : Table) (before after : ℕ) → t ≡ u
 within_two t u before after same steps =
     let most : after ≤ before + 2 * (2 * binary_digits (size u) + 1) = steps (binary_digits (size u)) (below_table t u same) in
     omega (arith, most)
+
+halvings_few : (most n b : ℕ) → n < 2 ^ b → halvings most n ≤ b
+halvings_few zero n b l = omega arith
+halvings_few (suc most) zero b l = omega arith
+halvings_few (suc most) (suc n) zero l = absurd (omega (arith, l))
+halvings_few (suc most) (suc n) (suc b) l =
+    let twice : 2 ^ suc b ≡ 2 ^ b * 2 = pow-suc 2 b in
+    let fewer : halvings most (suc n / 2) ≤ b = halvings_few most (suc n / 2) b (omega (arith, l, twice)) in
+    omega (arith, fewer)
+
+pub look_ups_are_bounded : LookUpsAreBounded
+look_ups_are_bounded n b l = let few : binary_digits n ≤ b = halvings_few n n b l in omega (arith, few)

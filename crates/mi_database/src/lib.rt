@@ -2,10 +2,12 @@
 //! knows a container by its calls alone.
 #![tactic(auto)]
 
+mod bound;
 mod ending;
 mod erasing;
 mod linked;
 mod sessions;
 
+pub use bound::look_ups_are_bounded;
 pub use linked::Linked;
 pub use mi_sessions::{Sessions, laws};
