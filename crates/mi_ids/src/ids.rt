@@ -1,6 +1,6 @@
 //! The map as a hash map from ids to entries. Only `make_room` takes memory; no call reads a node.
 //! Ids are given in turn by the server, so a fixed hash serves them, and every run is alike.
-ghost use Rattle.std.specs.Prelude.{◌≡◌, ◌+◌, ◌<◌, ◌≤◌, IsOk, OnOk};
+ghost use Rattle.std.specs.Prelude.{◌≡◌, ◌+◌, ◌<◌, ◌≤◌, true, false, IsOk, OnOk};
 ghost use Rattle.std.specs.FinMap.{get, empty, insert, remove, len};
 ghost use Rattle.mi_ids.specs.IdMap.{live_node, with_live};
 
