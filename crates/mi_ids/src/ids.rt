@@ -60,7 +60,9 @@ impl Ids {
     pub fn live(&self, id: u64) -> Option<NodeRef>
         ensures { result ≡ live_node self.now.entries id }
     {
-        self.get(id).filter(|entry| entry.live).map(|entry| entry.node)
+        self.get(id)
+            .filter(|entry| entry.live)
+            .map(|entry| entry.node)
     }
 
     /// Room for one id more, by taking memory where there is none.
@@ -121,3 +123,6 @@ impl Ids {
         self.map.remove(&id);
     }
 }
+
+#[cfg(test)]
+mod tests;

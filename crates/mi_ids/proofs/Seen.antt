@@ -1,15 +1,16 @@
 -- Entries of a hash map as the finite map that contracts see.
---     seen-same, seen-put, seen-taken, seen-marked      the map after a call
+--     get-seen        what an id has
+--     seen-same, seen-put, seen-taken, seen-marked, seen-unmarked      the map after a call
 --     seen-len        its length, where no id stands twice
---     get-with_live   what is read after `keep` and `revive`
-use Rattle.std.proofs.Common.{◌≡◌, ℕ, ◌+◌, ◌==◌, Bool, true, false, cond, List, [], ◌∷◌, length, option_map, Option, Some, None, refl, sym, ap, subst, ◌∙◌, arith}
+use Rattle.std.proofs.Common.{◌≡◌, ℕ, ◌+◌, ◌==◌, Bool, false, cond, List, [], ◌∷◌, length, Option, Some, None, refl, sym, ap, ◌∙◌, arith}
 use Rattle.std.specs.Prelude.{is_some}
 use Rattle.std.specs.Ordering.{nat_cmp}
 use Rattle.std.specs.Cmp.{nat_cmp_total, unsigned_tied}
-use Rattle.std.specs.FinMap.{FinMap, get, insert, remove, len, from_entries, find, get-empty, get-insert, get-remove, get-from_entries, len-empty, len-insert, same_map, nat_cmp-IsAntisymmetric}
+use Rattle.std.specs.FinMap.{FinMap, get, insert, remove, len, from_entries, find, get-from_entries, len-empty, len-insert, same_map, nat_cmp-IsAntisymmetric}
 use Rattle.std.specs.List.{IsDistinct, AllByRecursion}
 use Rattle.std.specs.Map.{keys_of, lookup}
 use Rattle.mi_ids.specs.IdMap.{marked, with_live}
+use Rattle.mi_ids.proofs.Callers.{get-put, get-out}
 use Rattle.mi_ids.specs.declared.entry.IdEntry.{IdEntry}
 
 abbrev seen : List (ℕ × IdEntry) → FinMap nat_cmp IdEntry
@@ -17,12 +18,6 @@ seen es = from_entries es
 
 abbrev at : ℕ → List (ℕ × IdEntry) → Option IdEntry
 at q es = lookup (λ k. q == k) es
-
-flip : (k q : ℕ) → (k == q) ≡ (q == k)
-flip k q = grind arith
-
-same : (k q : ℕ) → (k == q) ≡ true → k ≡ q
-same k q e = grind (arith, e)
 
 found : (q : ℕ) (es : List (ℕ × IdEntry)) → find nat_cmp q es ≡ at q es
 found q [] = refl
@@ -37,15 +32,12 @@ equal fs m is = same_map nat_cmp_total nat_cmp-IsAntisymmetric (seen fs) m (λ q
 pub seen-same : (es fs : List (ℕ × IdEntry)) → ((q : ℕ) → at q fs ≡ at q es) → seen fs ≡ seen es
 seen-same es fs is = equal fs (seen es) (λ q. is q ∙ sym (get-seen es q))
 
-get-put : (m : FinMap nat_cmp IdEntry) (k : ℕ) (e : IdEntry) (q : ℕ) → get (insert m k e) q ≡ cond (k == q) (Some e) (get m q)
-get-put m k e q = get-insert nat_cmp_total m k e q ∙ ap (λ b. cond b (Some e) (get m q)) (unsigned_tied q k ∙ flip q k)
-
 pub seen-put : (es fs : List (ℕ × IdEntry)) (k : ℕ) (e : IdEntry) → ((q : ℕ) → at q fs ≡ cond (k == q) (Some e) (at q es)) → seen fs ≡ insert (seen es) k e
 seen-put es fs k e is = equal fs (insert (seen es) k e) (λ q. is q ∙ ap (cond (k == q) (Some e)) (sym (get-seen es q)) ∙ sym (get-put (seen es) k e q))
 
 pub seen-taken : (es fs : List (ℕ × IdEntry)) (k : ℕ) → ((q : ℕ) → at q fs ≡ cond (k == q) None (at q es)) → seen fs ≡ remove (seen es) k
 seen-taken es fs k is = equal fs (remove (seen es) k) (λ q. is q ∙ ap (cond (k == q) None) (sym (get-seen es q))
-    ∙ sym (get-remove nat_cmp_total (seen es) k q ∙ ap (λ b. cond b None (get (seen es) q)) (unsigned_tied q k ∙ flip q k)))
+    ∙ sym (get-out (seen es) k q))
 
 pub seen-marked : (es fs : List (ℕ × IdEntry)) (k : ℕ) (live : Bool) (e : IdEntry) → at k es ≡ Some e → ((q : ℕ) → at q fs ≡ cond (k == q) (Some (record e { live = live })) (at q es)) → seen fs ≡ with_live (seen es) k live
 unfolding with_live
@@ -54,17 +46,6 @@ seen-marked es fs k live e there is = seen-put es fs k (record e { live = live }
 pub seen-unmarked : (es : List (ℕ × IdEntry)) (k : ℕ) (live : Bool) → at k es ≡ None → seen es ≡ with_live (seen es) k live
 unfolding with_live
 seen-unmarked es k live out = ap (marked (seen es) k live) (sym (get-seen es k ∙ out))
-
-read-marked : (m : FinMap nat_cmp IdEntry) (k : ℕ) (live : Bool) (q : ℕ) (o : Option IdEntry) → get m k ≡ o → get (marked m k live o) q ≡ cond (k == q) (option_map (λ (e : IdEntry). record e { live = live }) o) (get m q)
-read-marked m k live q None e = (elim (k == q) as (λ y. (k == q) ≡ y → get m q ≡ cond y None (get m q)) [
-  | true ↦ λ t. ap (get m) (sym (same k q t)) ∙ e
-  | false ↦ λ t. refl
-]) refl
-read-marked m k live q (Some x) e = get-put m k (record x { live = live }) q
-
-pub get-with_live : (m : FinMap nat_cmp IdEntry) (k : ℕ) (live : Bool) (q : ℕ) → get (with_live m k live) q ≡ cond (k == q) (option_map (λ (e : IdEntry). record e { live = live }) (get m k)) (get m q)
-unfolding with_live
-get-with_live m k live q = read-marked m k live q (get m k) refl
 
 lone : (k : ℕ) (es : List (ℕ × IdEntry)) → AllByRecursion (λ q. (k == q) ≡ false) (keys_of es) → at k es ≡ None
 lone k [] out = refl
