@@ -8,3 +8,6 @@ pub mod Examples
 pub mod Tags
 pub mod Orders
 pub mod OrderLaws
+pub mod Makes
+pub mod Asked
+pub mod Backs
