@@ -4,6 +4,7 @@
 
 mod entry;
 mod ids;
+pub mod laws;
 
 pub use entry::IdEntry;
 pub use ids::Ids;
