@@ -9,7 +9,7 @@ use Rattle.std.specs.Cmp.{nat_cmp_total, unsigned_tied}
 use Rattle.std.specs.FinMap.{FinMap, get, insert, remove, len, from_entries, find, get-from_entries, len-empty, len-insert, same_map, nat_cmp-IsAntisymmetric}
 use Rattle.std.specs.List.{IsDistinct, AllByRecursion}
 use Rattle.std.specs.Map.{keys_of, lookup}
-use Rattle.mi_ids.specs.IdMap.{marked, with_live}
+use Rattle.mi_ids.specs.IdMap.{flagged, marked, with_live}
 use Rattle.mi_ids.proofs.Callers.{get-put, get-out}
 use Rattle.mi_ids.specs.declared.entry.IdEntry.{IdEntry}
 
@@ -39,9 +39,10 @@ pub seen-taken : (es fs : List (ℕ × IdEntry)) (k : ℕ) → ((q : ℕ) → at
 seen-taken es fs k is = equal fs (remove (seen es) k) (λ q. is q ∙ ap (cond (k == q) None) (sym (get-seen es q))
     ∙ sym (get-out (seen es) k q))
 
-pub seen-marked : (es fs : List (ℕ × IdEntry)) (k : ℕ) (live : Bool) (e : IdEntry) → at k es ≡ Some e → ((q : ℕ) → at q fs ≡ cond (k == q) (Some (record e { live = live })) (at q es)) → seen fs ≡ with_live (seen es) k live
+pub seen-marked : (es fs : List (ℕ × IdEntry)) (k : ℕ) (live : Bool) (e : IdEntry) → at k es ≡ Some e
+    → ((q : ℕ) → at q fs ≡ cond (k == q) (Some (flagged live e)) (at q es)) → seen fs ≡ with_live (seen es) k live
 unfolding with_live
-seen-marked es fs k live e there is = seen-put es fs k (record e { live = live }) is ∙ ap (marked (seen es) k live) (sym (get-seen es k ∙ there))
+seen-marked es fs k live e there is = seen-put es fs k (flagged live e) is ∙ ap (marked (seen es) k live) (sym (get-seen es k ∙ there))
 
 pub seen-unmarked : (es : List (ℕ × IdEntry)) (k : ℕ) (live : Bool) → at k es ≡ None → seen es ≡ with_live (seen es) k live
 unfolding with_live
