@@ -68,6 +68,8 @@ def markdown(about, tables):
         f" {about['load'][1]:.1f} at the end (it is 1 to 2 where nothing else runs). The sources were at `{about['commit']}`.",
         "",
     ]
+    if about["quick"]:
+        lines += ["**A quick run: the workloads are smaller than their titles say, and the figures say nothing.**", ""]
     if max(about["load"]) > 2.5:
         lines += ["**Other work ran on the machine: these figures are not final.** Ratios of one round say more than the speeds.", ""]
     if "without proofs" in next(iter(about["systems"].values())):
