@@ -134,7 +134,7 @@ def left_out(about, tables, names):
             for key, title in workloads.TITLES.items():
                 why = table["cells"][key][name]["left_out"]
                 if why and why != NO_COMMAND:
-                    rest = "; so were all workloads of this size" if key == "insert" else ""
+                    rest = "; the other workloads of this size too" if key == "insert" else ""
                     lines.append(f"- {name}, {table['rows']:,} records, {title}: {why}{rest}")
     limits = f"A cell is left out where one unit takes more than {about['limit']:.0f} s, or the process wants more than {about['memory']:.0f} GB."
     return ["## Left out", "", limits, "", *(lines or ["- nothing"]), ""]

@@ -133,7 +133,7 @@ class Table:
         return True
 
     def leave_out(self, system, cell, why):
-        cell.left_out = why
+        cell.left_out = f"{why}, in round {len(cell.rounds) + 1}" if cell.rounds else why
         system.stop()
         self.filled.discard(system.name)
         return False
@@ -149,7 +149,7 @@ class Table:
                 cell.units = self.fitting_units(system, work)
             cell.rounds.append(self.ask(system, work, 0, cell.units))
         except systems.TooSlow as why:
-            self.leave_out(system, cell, f"one unit took over {why.seconds:.0f} s")
+            self.leave_out(system, cell, f"not done after {why.seconds:.0f} s")
         except (systems.Ended, OSError) as why:
             self.leave_out(system, cell, str(why))
 
