@@ -68,6 +68,8 @@ def markdown(about, tables):
         f" {about['load'][1]:.1f} at the end (it is 1 to 2 where nothing else runs). The sources were at `{about['commit']}`.",
         "",
     ]
+    if about["quick"]:
+        lines += ["**A quick run: the workloads are smaller than their titles say, and the figures say nothing.**", ""]
     if max(about["load"]) > 2.5:
         lines += ["**Other work ran on the machine: these figures are not final.** Ratios of one round say more than the speeds.", ""]
     if "without proofs" in next(iter(about["systems"].values())):
@@ -132,7 +134,7 @@ def left_out(about, tables, names):
             for key, title in workloads.TITLES.items():
                 why = table["cells"][key][name]["left_out"]
                 if why and why != NO_COMMAND:
-                    rest = "; so were all workloads of this size" if key == "insert" else ""
+                    rest = "; the other workloads of this size too" if key == "insert" else ""
                     lines.append(f"- {name}, {table['rows']:,} records, {title}: {why}{rest}")
     limits = f"A cell is left out where one unit takes more than {about['limit']:.0f} s, or the process wants more than {about['memory']:.0f} GB."
     return ["## Left out", "", limits, "", *(lines or ["- nothing"]), ""]

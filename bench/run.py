@@ -133,7 +133,7 @@ class Table:
         return True
 
     def leave_out(self, system, cell, why):
-        cell.left_out = why
+        cell.left_out = f"{why}, in round {len(cell.rounds) + 1}" if cell.rounds else why
         system.stop()
         self.filled.discard(system.name)
         return False
@@ -149,7 +149,7 @@ class Table:
                 cell.units = self.fitting_units(system, work)
             cell.rounds.append(self.ask(system, work, 0, cell.units))
         except systems.TooSlow as why:
-            self.leave_out(system, cell, f"one unit took over {why.seconds:.0f} s")
+            self.leave_out(system, cell, f"not done after {why.seconds:.0f} s")
         except (systems.Ended, OSError) as why:
             self.leave_out(system, cell, str(why))
 
@@ -221,7 +221,7 @@ def numbers_of_rows(options, ours):
     return [10_000, 100_000, 1_000_000]
 
 
-def main():
+def words_of(line=None):
     parser = argparse.ArgumentParser()
     parser.add_argument("--rows")
     parser.add_argument("--rounds", type=int)
@@ -231,38 +231,57 @@ def main():
     parser.add_argument("--program")
     parser.add_argument("--out")
     parser.add_argument("--quick", action="store_true")
-    options = parser.parse_args()
+    options = parser.parse_args(line)
     options.rounds = options.rounds or (2 if options.quick else 5)
     options.limit = options.limit or (QUICK_LIMIT if options.quick else 60)
-    folder = options.out or (f"{build.OUT}/quick" if options.quick else f"{build.TOP}/docs/bench")
+    options.out = options.out or (f"{build.OUT}/quick" if options.quick else f"{build.TOP}/docs/bench")
+    return options
+
+
+def about_run(options, chosen, left):
+    return {
+        "date": datetime.date.today().isoformat(), "machine": machine(), "commit": commit(), "clock": options.clock, "rounds": options.rounds,
+        "limit": options.limit, "memory": options.memory, "load": [os.getloadavg()[0]], "left_out": left, "quick": options.quick,
+        "systems": {it.name: it.about for it in chosen}, "program": digest(chosen[0].words[0]),
+    }
+
+
+def check_boost(chosen):
+    """The peer whose replies count as right is asked what the reference answers."""
+    for it in chosen:
+        if it.name == "Boost":
+            compared = check_peer.check(it.words[0], 1, 5)
+            print(f"the Boost peer answers {compared:,} random lines as scripts/reference.py does", file=sys.stderr, flush=True)
+
+
+def unmeasured(tables, name):
+    """The cells in which this system was left out."""
+    cells = [(it["rows"], key, cell[name]["left_out"]) for it in tables for key, cell in it["cells"].items()]
+    return [f"{key} over {rows} rows: {why}" for rows, key, why in cells if why]
+
+
+def main():
+    options = words_of()
     os.makedirs(build.OUT, exist_ok=True)
     chosen, left = found_systems(options, build.OUT)
-    sizes = numbers_of_rows(options, chosen[0])
     for it in left:
         print(f"left out: {it}", file=sys.stderr)
-    about = {
-        "date": datetime.date.today().isoformat(), "machine": machine(), "commit": commit(), "clock": options.clock, "rounds": options.rounds,
-        "limit": options.limit, "memory": options.memory, "load": [os.getloadavg()[0]], "left_out": left,
-        "systems": {it.name: it.about for it in chosen}, "program": digest(chosen[0].words[0]), "sizes": sizes,
-    }
-    peer = next((it for it in chosen if it.name == "Boost"), None)
-    if peer:
-        compared = check_peer.check(peer.words[0], 1, 5)
-        print(f"the Boost peer answers {compared:,} random lines as scripts/reference.py does", file=sys.stderr, flush=True)
+    about = about_run(options, chosen, left)
+    check_boost(chosen)
     tables = []
     try:
-        for rows in sizes:
+        for rows in numbers_of_rows(options, chosen[0]):
             table = Table(rows, chosen, options)
             table.run()
             tables.append(gathered(table))
     except Disagree as why:
         sys.exit(f"bench: {why}")
     about["load"].append(os.getloadavg()[0])
-    report.write(folder, about, tables)
-    missing = [f"{name}: {cells[chosen[0].name]['left_out']}" for it in tables for name, cells in it["cells"].items() if cells[chosen[0].name]["left_out"]]
+    report.write(options.out, about, tables)
+    missing = unmeasured(tables, chosen[0].name)
     if options.quick and missing:
         sys.exit("bench: the program was left out: " + "; ".join(missing))
-    print(f"all answers agree; the report is {os.path.relpath(folder)}/results.md")
+    print(f"all answers agree; the report is {os.path.relpath(options.out)}/results.md")
 
 
 if __name__ == "__main__":

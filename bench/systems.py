@@ -38,7 +38,7 @@ class Process:
         self.ran, self.memory = subprocess.Popen(words, stderr=subprocess.DEVNULL, bufsize=0, **how), memory
 
     def on_processor(self):
-        """Seconds, so far."""
+        """Seconds, so far; of the first thread, which does the work in all of these systems."""
         with open(f"/proc/{self.ran.pid}/schedstat", encoding="ascii") as file:
             return int(file.read().split()[0]) / 1e9
 

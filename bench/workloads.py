@@ -55,7 +55,7 @@ def records(rows):
 
 
 class Changes:
-    """Changes of a table that has these rows, which all are accepted."""
+    """Changes of a table that has these rows, which all are accepted; half of the rows stay."""
 
     def __init__(self, rows, pick):
         self.rows, self.pick, self.erased, self.next_id = rows, pick, set(), rows
@@ -77,7 +77,7 @@ class Changes:
         if kind < 0.85:
             self.next_id += 1
             return "insert", owner(self.next_id - 1), pick.randrange(self.rows), pick.random() < 0.3
-        if kind < 0.90:
+        if kind < 0.90 and 2 * len(self.erased) < self.rows:
             self.erased.add(id)
             return "erase", id
         return "relocate", id, self.alive()
