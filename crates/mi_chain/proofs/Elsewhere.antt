@@ -2,18 +2,23 @@
 --     AllOf      each node of a list is so
 --     IsSame      a node has the same link and key in both pools
 --     chained_elsewhere      for a pool after `take`, `give` or `swap_value`, or after a call on another structure
-use Rattle.std.proofs.Common.{◌≡◌, ℕ, ◌+◌, ◌<◌, ◌%◌, ◌==◌, Bool, true, false, not, cond, List, [], ◌∷◌, ◌++◌, Option, Some, None, vec_len, refl, sym, ap, ◌∙◌, subst, arith}
+--     chained_taken      for a pool with one more node
+--     chained_swapped      for a pool after a value was exchanged for one of an equal key
+use Rattle.std.proofs.Common.{◌≡◌, ℕ, ◌+◌, ◌<◌, ◌%◌, ◌==◌, Bool, true, false, not, cond, option_map, List, [], ◌∷◌, ◌++◌, Option, Some, None, vec_len, refl, sym, ap, ◌∙◌, subst, arith}
 use Rattle.std.specs.List.{filter}
-use Rattle.mi_node.specs.Pool.{Pooled, value_of, link_of, IsHeld}
+use Rattle.mi_node.specs.Pool.{Pooled, ref_of, value_of, link_of, no_link, taken, with_value, IsHeld}
 use Rattle.mi_node.specs.Neighbours.{AreHeld, IsLinked}
 use Rattle.mi_node.specs.declared.link.Link.{Link}
 use Rattle.mi_node.specs.Refs.{Ref, last_of}
-use Rattle.mi_chain.specs.Keying.{Keying, IsLawful, same_nodes, hash_node, stamp_at}
+use Rattle.mi_node.proofs.Callers.{held_has, held-taken, apart_of_free, link-taken, value-taken, slots-taken, same_name, value-with_value, value_there, ref-with_value, link-with_value, slots-with_value}
+use Rattle.mi_value.specs.declared.bound.Probe.{Probe}
+use Rattle.mi_chain.specs.Keying.{Keying, IsLawful, same_nodes, hash_node, has_key, stamp_at}
 use Rattle.mi_chain.specs.Groups.{members, first_in, others, has_none, key_count, IsChained, IsGrouped}
 use Rattle.mi_chain.specs.Chained.{AreAfter, IsRising, in_bucket, AreBuckets, AreTagged, AreChained}
+use Rattle.mi_chain.specs.Frame.{StandWhereSwapped}
 use Rattle.mi_chain.specs.declared.chains.Chains.{Chains}
 use Rattle.mi_chain.proofs.Classes.{IsAlike, like, first_passes}
-use Rattle.mi_chain.proofs.ByValue.{alike, same_nodes_is, hash_is}
+use Rattle.mi_chain.proofs.ByValue.{alike, same_nodes_is, has_key_is, hash_is}
 
 abbrev pub AllOf : (Ref → Type 0) → List Ref → Type 0
 AllOf P [] = Unit {0}
@@ -154,3 +159,71 @@ chained_elsewhere c k w m n rs slots all h = let P = IsSame k m n c.slot in reco
   counted = h.counted ∙ sym (count_on P (same_nodes k m) (same_nodes k n) (alike k m w) (agreed k w m n c.slot) rs all);
   few = h.few;
 }
+
+module _ {T : Type 0} (k : Keying T) (w : IsLawful k) (m : Pooled T) (x : Ref) (old new : T)
+    (was : value_of m x.name ≡ Some old) (one_key : k.same old new ≡ true) (s : ℕ) where
+  abbrev n : Pooled T
+  n = with_value m x.name new
+
+  value_now : (r : Ref) → (x.name == r.name) ≡ true → value_of m r.name ≡ Some old → value_of n r.name ≡ Some new
+  value_now r is e = value-with_value m x.name new r.name ∙ (λ i. cond (is i) (option_map (λ (_ : T). new) (e i)) (e i))
+
+  same_swapped : (r : Ref) → IsHeld m r → IsSame k m n s r
+  same_swapped r h = (elim (x.name == r.name) as (λ b. (x.name == r.name) ≡ b → IsSame k m n s r) [
+    | true ↦ λ is. let here = ap (value_of m) (sym (same_name x.name r.name is)) ∙ was in
+        record {
+          held = ref-with_value m x.name new r.name ∙ h;
+          link = link-with_value m x.name new r.name s;
+          old = old;
+          new = new;
+          was = here;
+          is = value_now r is here;
+          one_key = one_key;
+        }
+    | false ↦ λ is. let v = held_has m r h in record {
+      held = ref-with_value m x.name new r.name ∙ h;
+      link = link-with_value m x.name new r.name s;
+      old = v.0;
+      new = v.0;
+      was = v.1;
+      is = value_there m x.name new r.name is ∙ v.1;
+      one_key = w.reflexive v.0;
+    }
+  ]) refl
+
+  all_swapped : (rs : List Ref) → AreHeld m rs → AllOf (IsSame k m n s) rs
+  all_swapped [] h = tt
+  all_swapped (r ∷ rs) h = (same_swapped r h.0, all_swapped rs h.1)
+
+  probe_agrees : (p : Probe) (r : Ref) → IsSame k m n s r → has_key k n p r ≡ has_key k m p r
+  probe_agrees p r h = has_key_is k n p r h.new h.is
+      ∙ both_ways (k.same_key h.new p) (k.same_key h.old p) (w.agrees h.new h.old p (w.symmetric h.old h.new h.one_key)) (w.agrees h.old h.new p h.one_key)
+      ∙ sym (has_key_is k m p r h.old h.was)
+
+pub chained_swapped : {T H : Type 0} (k : Keying T) → IsLawful k → StandWhereSwapped T H k
+chained_swapped k w c m rs x old new h was one_key =
+    let n = with_value m x.name new in let all = all_swapped k w m x old new was one_key c.slot rs h.buckets.held in (
+      chained_elsewhere c k w m n rs (slots-with_value m x.name new) all h,
+      λ p. filter_on (IsSame k m n c.slot) (has_key k n p) (has_key k m p) (probe_agrees k w m x old new was one_key c.slot p) rs all,
+    )
+
+module _ {T : Type 0} (k : Keying T) (w : IsLawful k) (m : Pooled T) (r : Ref) (v : T) (free : ref_of m r.name ≡ None) (s : ℕ) where
+  same_taken : (q : Ref) → IsHeld m q → IsSame k m (taken m r v) s q
+  same_taken q h = let other : (r.name == q.name) ≡ false = apart_of_free m q r h free in let had = held_has m q h in record {
+    held = held-taken m q r v h free;
+    link = link-taken m r v q.name s ∙ ap (λ b. cond b no_link (link_of m q.name s)) other;
+    old = had.0;
+    new = had.0;
+    was = had.1;
+    is = value-taken m r v q.name ∙ ap (λ b. cond b (Some v) (value_of m q.name)) other ∙ had.1;
+    one_key = w.reflexive had.0;
+  }
+
+  all_taken : (rs : List Ref) → AreHeld m rs → AllOf (IsSame k m (taken m r v) s) rs
+  all_taken [] h = tt
+  all_taken (q ∷ rs) h = (same_taken q h.0, all_taken rs h.1)
+
+pub chained_taken : {T H : Type 0} (c : Chains H) (k : Keying T) → IsLawful k → (m : Pooled T) (r : Ref) (v : T) (rs : List Ref) → ref_of m r.name ≡ None
+    → AreChained c k m rs → AreChained c k (taken m r v) rs
+chained_taken c k w m r v rs free h =
+    chained_elsewhere c k w m (taken m r v) rs (slots-taken m r v) (all_taken k w m r v free c.slot rs h.buckets.held) h

@@ -1,4 +1,5 @@
 pub mod Chained
+pub mod Frame
 pub mod Groups
 pub mod Heads
 pub mod Keying

@@ -4,6 +4,7 @@
 
 mod chains;
 mod keys;
+pub mod laws;
 mod look;
 
 pub use chains::Chains;

@@ -1,14 +1,12 @@
-//! What a container of records under several indexes is to its callers, over plain data: its rows, its changes, the
-//! inverse of each, and which inverses can be taken back; and how its indexes see records: orders, tags and hashes.
-//! It knows no sessions. The container itself is not here yet.
+//! What a container of records under several indexes is to its callers, over plain data: its calls, as a trait; its rows,
+//! its changes, the inverse of each, and which inverses can be taken back.
+//! It knows no sessions. No container is here yet that meets the trait.
 #![tactic(auto)]
 
+mod container;
 pub mod examples;
-mod key;
+mod inverse;
 pub mod laws;
-mod orders;
-mod stored;
-pub mod tags;
 
-pub use orders::{ByHash, ByKey};
-pub use stored::Stored;
+pub use container::Container;
+pub use inverse::{Inverse, MAX_PLACES, OldPlace, OldPlaces, RowRef, Undo};

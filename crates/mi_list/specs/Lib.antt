@@ -1,3 +1,4 @@
+pub mod Frame
 pub mod Listed
 pub mod Named
 pub mod Order

@@ -1,0 +1,5 @@
+use Rattle.mi_chain.proofs.Elsewhere.{chained_swapped}
+use Rattle.mi_chain.proofs.laws.chains_stand_where_swapped.Goals as goal
+
+pub returns : goal.returns
+returns g c h = chained_swapped (g.H.KeyHash.keying h) (g.met.H.KeyHash.lawful h)

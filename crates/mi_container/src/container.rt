@@ -1,0 +1,220 @@
+//! The calls of a container: the rows of one table, linked into its indexes, and changes with their inverses. It says what
+//! each call answers and leaves, by plain data and the definitions of tables, and nothing of how rows are linked. It knows
+//! no sessions.
+ghost use Rattle.std.specs.Prelude.{◌≡◌, ◌≢◌, ◌<◌, ◌≤◌, ◌+◌, ◌*◌, ◌^◌, ℕ, IsTrue, IfOk, IfErr, IfSome};
+ghost use Rattle.std.specs.Option.{option_copied};
+ghost use Rattle.mi_value.specs.declared.refusal.Refusal.TheVariants.{Memory};
+ghost use Rattle.mi_catalog.specs.Shape.{Shape};
+ghost use Rattle.mi_model.specs.Table.{get as get_row, has as has_row, size as size_of};
+ghost use Rattle.mi_model.specs.Lookup as look;
+ghost use Rattle.mi_model.specs.Verdict.{insert_outcome, replace_outcome, modify_outcome, erase_outcome, relocate_outcome};
+ghost use Rattle.mi_container.specs.Asked.{IsKeyed, IsHashed, IsSorted, IsSequenced, ShowsOneList, RecordFits, EditsFit, WholeKey, KeyPrefix};
+ghost use Rattle.mi_container.specs.Data.{Data, IsData, table_of};
+ghost use Rattle.mi_container.specs.Changes.{opened_data};
+ghost use Rattle.mi_container.specs.Inverse.{taken_back, settled, lost_to};
+ghost use Rattle.mi_container.specs.Fits.{Ready, KeptBy};
+ghost use Rattle.mi_container.specs.Run.Change.{Replace, Erase, Relocate};
+ghost use Rattle.mi_container.specs.Makes.{Makes, MakesInsert, MakesModify, MeetsOn, insert_answer, replace_answer, erase_answer, modify_answer, IsNoLoss};
+
+use crate::inverse::Inverse;
+use mi_catalog::Schema;
+use mi_value::{Edit, Record, Refusal, Steps, Value};
+use std::alloc::{AllocError, Global};
+
+/// The rows of one table under its indexes.
+///
+/// Each accepted change answers its inverse. Of a change the clause `outcome` says what it means to the table, and `made`
+/// which change of the data it was, and that the answer is its inverse. A refused change leaves the data as they were.
+///
+/// Calls that compare keys count each comparison on `steps`. In a table whose size has b binary digits a look-up makes at
+/// most 2 b + 1.
+pub trait Container: Drop {
+    ghost shape: { Self → Shape };
+
+    ghost plain: { Self → Data };
+
+    /// States what holds of every container. It does nothing.
+    fn keeps_rules(&self)
+        ensures { IsData (shape self.now) (plain self.now) };
+
+    /// A container without rows.
+    fn new(alloc: Global, schema: Schema) -> Result<Self, AllocError>
+        ensures shape { IfOk result (λ made. shape made ≡ schema) }
+        ensures plain { IfOk result (λ made. plain made ≡ opened_data schema) };
+
+    /// Adds a record and answers its id. It goes last in each index among its equals; in the sequenced index that `before`
+    /// names it stands directly before the record that `before` names.
+    ///
+    /// Refusals, in this order: `NoId`, `Full`, `Spent`, `Unique`, `Memory`. The refused record is handed back.
+    fn insert(
+        &mut self,
+        alloc: Global,
+        row: Record,
+        before: Option<(usize, u64)>,
+    ) -> Result<(u64, Inverse), (Refusal, Record)>
+        requires row { RecordFits (shape self.old) row }
+        requires before { IfSome before (λ at. IsSequenced (shape self.old) at.0) }
+        ensures outcome { MeetsOn (insert_outcome (shape self.old) before row) (insert_answer result) (plain self.old) (plain self.new) }
+        ensures made { IfOk result (λ p. MakesInsert (shape self.old) before row (plain self.old) p.1 (plain self.new)) }
+        ensures refused { IfErr result (λ e. plain self.new ≡ plain self.old) }
+        ensures handed_back { IfErr result (λ e. e.1 ≡ row) }
+        ensures shape { shape self.new ≡ shape self.old };
+
+    /// Sets another record for an id. Takes no memory. Refusals, in this order: `NoId`, `Spent`, `Unique`. The refused record
+    /// is handed back.
+    fn replace(&mut self, id: u64, row: Record) -> Result<Inverse, (Refusal, Record)>
+        requires { RecordFits (shape self.old) row }
+        ensures outcome { MeetsOn (replace_outcome (shape self.old) id row) (replace_answer result) (plain self.old) (plain self.new) }
+        ensures memory { IfErr result (λ e. e.0 ≢ Memory) }
+        ensures made { IfOk result (λ i. Makes (shape self.old) (Replace id row) (plain self.old) i (plain self.new)) }
+        ensures refused { IfErr result (λ e. plain self.new ≡ plain self.old) }
+        ensures handed_back { IfErr result (λ e. e.1 ≡ row) }
+        ensures shape { shape self.new ≡ shape self.old };
+
+    /// Changes columns of a record. Where a unique index refuses the result without `rollback` the record is erased: then the
+    /// answer is an inverse that is `lost`.
+    ///
+    /// Refusals, in this order: `NoId`, `Range`, `Spent`, with `rollback` `Unique`, `Memory`.
+    fn modify(
+        &mut self,
+        alloc: Global,
+        id: u64,
+        edits: &[Edit],
+        rollback: bool,
+    ) -> Result<Inverse, Refusal>
+        requires { EditsFit (shape self.old) edits.now }
+        ensures outcome { MeetsOn (modify_outcome (shape self.old) id edits.now rollback) (modify_answer result) (plain self.old) (plain self.new) }
+        ensures made { IfOk result (λ i. MakesModify (lost_to i) (shape self.old) id (plain self.old) i (plain self.new)) }
+        ensures loss { IfErr result (λ e. IsNoLoss e) }
+        ensures refused { IfErr result (λ e. plain self.new ≡ plain self.old) }
+        ensures shape { shape self.new ≡ shape self.old };
+
+    /// Erases a record, whose node is kept for the inverse. Takes no memory. Refusal: `NoId`.
+    fn erase(&mut self, id: u64) -> Result<Inverse, Refusal>
+        ensures outcome { MeetsOn (erase_outcome id) (erase_answer result) (plain self.old) (plain self.new) }
+        ensures memory { IfErr result (λ e. e ≢ Memory) }
+        ensures made { IfOk result (λ i. Makes (shape self.old) (Erase id None) (plain self.old) i (plain self.new)) }
+        ensures refused { IfErr result (λ e. plain self.new ≡ plain self.old) }
+        ensures shape { shape self.new ≡ shape self.old };
+
+    /// Moves a record in a sequenced index directly before another, or to its end. Takes no memory. Refusal: `NoId`.
+    fn relocate(&mut self, index: usize, id: u64, before: Option<u64>) -> Result<Inverse, Refusal>
+        requires { IsSequenced (shape self.old) index }
+        ensures outcome { MeetsOn (relocate_outcome index id before) (erase_answer result) (plain self.old) (plain self.new) }
+        ensures memory { IfErr result (λ e. e ≢ Memory) }
+        ensures made { IfOk result (λ i. Makes (shape self.old) (Relocate index id before) (plain self.old) i (plain self.new)) }
+        ensures refused { IfErr result (λ e. plain self.new ≡ plain self.old) }
+        ensures shape { shape self.new ≡ shape self.old };
+
+    /// Takes a change back, by its inverse: of the changes not yet taken back it is the newest. Takes no memory.
+    fn unwind(&mut self, inverse: Inverse)
+        requires ready { Ready inverse (plain self.old) }
+        requires before { IsData (shape self.old) (taken_back inverse (plain self.old)) }
+        ensures plain { plain self.new ≡ taken_back inverse (plain self.old) }
+        ensures shape { shape self.new ≡ shape self.old };
+
+    /// Frees the node that an inverse keeps, if any. Takes no memory.
+    fn settle(&mut self, inverse: Inverse)
+        requires { KeptBy inverse (plain self.old) }
+        ensures plain { plain self.new ≡ settled inverse (plain self.old) }
+        ensures shape { shape self.new ≡ shape self.old };
+
+    /// How many records there are.
+    fn size(&self) -> u64
+        ensures { result ≡ size_of (table_of (plain self.now)) };
+
+    /// The first id with a whole key in an index with keys, or none. Takes no memory.
+    fn find(&self, index: usize, key: &[Value]) -> Option<u64>
+        requires index { IsKeyed (shape self.now) index }
+        requires key { WholeKey (shape self.now) index key.now }
+        ensures { result ≡ look.find (shape self.now) (table_of (plain self.now)) index key.now };
+
+    /// How many records have a whole key in an index with keys. Takes no memory.
+    fn count(&self, index: usize, key: &[Value]) -> u64
+        requires index { IsKeyed (shape self.now) index }
+        requires key { WholeKey (shape self.now) index key.now }
+        ensures { result ≡ look.count (shape self.now) (table_of (plain self.now)) index key.now };
+
+    /// The record of an id, or none. At most one look-up.
+    fn get(&self, id: u64, steps: &mut Steps) -> Option<&Record>
+        ensures record { option_copied result ≡ get_row (table_of (plain self.now)) id }
+        ensures steps { (b : ℕ) → size_of (table_of (plain self.now)) < 2 ^ b → steps.new.count ≤ steps.old.count + (2 * b + 1) };
+
+    /// The first id that an index shows, or none where there are no records.
+    fn first(&self, index: usize) -> Option<u64>
+        requires { ShowsOneList (shape self.now) index }
+        ensures { result ≡ look.first (shape self.now) (table_of (plain self.now)) index };
+
+    /// The last id that an index shows, or none where there are no records.
+    fn last(&self, index: usize) -> Option<u64>
+        requires { ShowsOneList (shape self.now) index }
+        ensures { result ≡ look.last (shape self.now) (table_of (plain self.now)) index };
+
+    /// The id that an index shows directly after another, or none behind the last.
+    fn after(&self, index: usize, id: u64) -> Option<u64>
+        requires index { ShowsOneList (shape self.now) index }
+        requires id { IsTrue (has_row (table_of (plain self.now)) id) }
+        ensures { result ≡ look.after (shape self.now) (table_of (plain self.now)) index id };
+
+    /// The id that an index shows directly before another, or none before the first.
+    fn before(&self, index: usize, id: u64) -> Option<u64>
+        requires index { ShowsOneList (shape self.now) index }
+        requires id { IsTrue (has_row (table_of (plain self.now)) id) }
+        ensures { result ≡ look.before (shape self.now) (table_of (plain self.now)) index id };
+
+    /// The first id of an ordered or ranked index whose key isn't less than a key or the first values of one, or none. At
+    /// most one look-up.
+    fn lower(&self, index: usize, key: &[Value], steps: &mut Steps) -> Option<u64>
+        requires index { IsSorted (shape self.now) index }
+        requires key { KeyPrefix (shape self.now) index key.now }
+        ensures id { result ≡ look.lower (shape self.now) (table_of (plain self.now)) index key.now }
+        ensures steps { (b : ℕ) → size_of (table_of (plain self.now)) < 2 ^ b → steps.new.count ≤ steps.old.count + (2 * b + 1) };
+
+    /// The first id of an ordered or ranked index whose key is greater than a key or the first values of one, or none. At
+    /// most one look-up.
+    fn upper(&self, index: usize, key: &[Value], steps: &mut Steps) -> Option<u64>
+        requires index { IsSorted (shape self.now) index }
+        requires key { KeyPrefix (shape self.now) index key.now }
+        ensures id { result ≡ look.upper (shape self.now) (table_of (plain self.now)) index key.now }
+        ensures steps { (b : ℕ) → size_of (table_of (plain self.now)) < 2 ^ b → steps.new.count ≤ steps.old.count + (2 * b + 1) };
+
+    /// The first id of a whole key in a hashed index, or none.
+    fn first_of(&self, index: usize, key: &[Value]) -> Option<u64>
+        requires index { IsHashed (shape self.now) index }
+        requires key { WholeKey (shape self.now) index key.now }
+        ensures { result ≡ look.first_of (shape self.now) (table_of (plain self.now)) index key.now };
+
+    /// The id that follows another among those of its key in a hashed index, or none behind the last.
+    fn next_of(&self, index: usize, id: u64) -> Option<u64>
+        requires index { IsHashed (shape self.now) index }
+        requires id { IsTrue (has_row (table_of (plain self.now)) id) }
+        ensures { result ≡ look.next_of (shape self.now) (table_of (plain self.now)) index id };
+
+    /// The id with n records before it in an ordered or ranked index, or none.
+    fn nth(&self, index: usize, n: u64) -> Option<u64>
+        requires { IsSorted (shape self.now) index }
+        ensures { result ≡ look.nth (shape self.now) (table_of (plain self.now)) index n };
+
+    /// How many records stand before a record in an ordered or ranked index. At most two look-ups.
+    fn rank_of(&self, index: usize, id: u64, steps: &mut Steps) -> u64
+        requires index { IsSorted (shape self.now) index }
+        requires id { IsTrue (has_row (table_of (plain self.now)) id) }
+        ensures rank { result ≡ look.rank (shape self.now) (table_of (plain self.now)) index id }
+        ensures steps { (b : ℕ) → size_of (table_of (plain self.now)) < 2 ^ b → steps.new.count ≤ steps.old.count + 2 * (2 * b + 1) };
+
+    /// How many records of an ordered or ranked index have a key less than a key or the first values of one. At most two
+    /// look-ups.
+    fn lower_rank(&self, index: usize, key: &[Value], steps: &mut Steps) -> u64
+        requires index { IsSorted (shape self.now) index }
+        requires key { KeyPrefix (shape self.now) index key.now }
+        ensures rank { result ≡ look.lower_rank (shape self.now) (table_of (plain self.now)) index key.now }
+        ensures steps { (b : ℕ) → size_of (table_of (plain self.now)) < 2 ^ b → steps.new.count ≤ steps.old.count + 2 * (2 * b + 1) };
+
+    /// How many records of an ordered or ranked index have a key not greater than a key or the first values of one. At most
+    /// two look-ups.
+    fn upper_rank(&self, index: usize, key: &[Value], steps: &mut Steps) -> u64
+        requires index { IsSorted (shape self.now) index }
+        requires key { KeyPrefix (shape self.now) index key.now }
+        ensures rank { result ≡ look.upper_rank (shape self.now) (table_of (plain self.now)) index key.now }
+        ensures steps { (b : ℕ) → size_of (table_of (plain self.now)) < 2 ^ b → steps.new.count ≤ steps.old.count + 2 * (2 * b + 1) };
+}

@@ -1,0 +1,10 @@
+pub mod JournalLaws
+pub mod HeldLaws
+pub mod LoopLaws
+pub mod StateLaws
+pub mod EndLaws
+pub mod KeyLaws
+pub mod OpenLaws
+pub mod KeptLaws
+pub mod BoundLaws
+pub mod ChangeLaws

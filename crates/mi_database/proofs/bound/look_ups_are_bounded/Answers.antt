@@ -1,0 +1,5 @@
+use Rattle.mi_database.proofs.BoundLaws.{look_ups_are_bounded}
+use Rattle.mi_database.proofs.bound.look_ups_are_bounded.Goals as goal
+
+pub returns : goal.returns
+returns c = look_ups_are_bounded

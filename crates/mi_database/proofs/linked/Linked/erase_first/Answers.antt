@@ -1,0 +1,47 @@
+-- the first row of the key goes
+use Rattle.std.proofs.Common.{◌≡◌, ◌∙◌, ap₂, sym, subst, Some}
+use Rattle.mi_catalog.specs.Shape.{Shape}
+use Rattle.mi_model.specs.Table.{Table}
+use Rattle.mi_model.specs.Lookup.{find}
+use Rattle.mi_model.specs.Database.{Database, schema_of, table_of}
+use Rattle.mi_database.specs.Held.{meaning}
+use Rattle.mi_database.specs.Keyed.{keyed, ErasesOne}
+use Rattle.mi_database.proofs.KeyLaws.{erases_first, erased_there, erases_one, some_found}
+use Rattle.mi_database.proofs.KeptLaws.{first_keeps}
+use Rattle.mi_database.proofs.linked.Linked.erase_first.Goals as goal
+
+pub returns-in-Some-clause-one : goal.returns-in-Some-clause-one
+returns-in-Some-clause-one g c =
+    let n = c.args.table in
+    let x = c.args.index in
+    let key = c.args.key.now in
+    let d : Database = meaning c.args.self.now in
+    let found : find (schema_of d n) (table_of d n) x key ≡ Some c.in-Some.id =
+    sym (c.find.ensures ∙ ap₂ (λ (s : Shape) (t : Table). find s t x key) c.at.ensures.shape c.at.ensures.table) ∙ c.in-Some.is in
+    let first = erases_first (schema_of d n) (table_of d n) x key c.in-Some.id c.at.ensures.is c.requires.index.0 found in
+    subst (ErasesOne n x key d) (sym (erased_there n c.in-Some.id d
+    (meaning c.erase_row.new.self) c.erase_row.result first.there c.erase_row.ensures.memory c.erase_row.ensures.outcome))
+    (erases_one n x c.in-Some.id key d c.at.ensures.within first)
+
+pub returns-in_default-clause-one : goal.returns-in_default-clause-one
+returns-in_default-clause-one g c =
+    let n = c.args.table in
+    let x = c.args.index in
+    let key = c.args.key.now in
+    let d : Database = meaning c.args.self.now in
+    let same : c.find.result ≡ find (schema_of d n) (table_of d n) x key = c.find.ensures
+    ∙ ap₂ (λ (s : Shape) (t : Table). find s t x key) c.at.ensures.shape c.at.ensures.table in
+    some_found (ErasesOne n x key d d) (keyed n x key d) c.requires.some c.find.result same c.in_default.not-Some
+
+pub returns-in-Some-clause-footprint : goal.returns-in-Some-clause-footprint
+returns-in-Some-clause-footprint g c =
+    let n = c.args.table in
+    let x = c.args.index in
+    let key = c.args.key.now in
+    let d : Database = meaning c.args.self.now in
+    let found : find (schema_of d n) (table_of d n) x key ≡ Some c.in-Some.id =
+    sym (c.find.ensures ∙ ap₂ (λ (s : Shape) (t : Table). find s t x key) c.at.ensures.shape c.at.ensures.table) ∙ c.in-Some.is in
+    let first = erases_first (schema_of d n) (table_of d n) x key c.in-Some.id c.at.ensures.is c.requires.index.0 found in
+    first_keeps n x c.in-Some.id key c.args.self.now c.erase_row.new.self c.erase_row.result c.at.ensures.within first
+    (erased_there n c.in-Some.id d (meaning c.erase_row.new.self) c.erase_row.result first.there c.erase_row.ensures.memory c.erase_row.ensures.outcome)
+    c.erase_row.ensures.memory c.erase_row.ensures.footprint

@@ -1,0 +1,80 @@
+-- what the container answers and leaves, the database does
+use Rattle.std.proofs.Common.{◌≢◌, ◌∙◌, map, set, ap}
+use Rattle.std.specs.Prelude.{Ok, Err}
+use Rattle.std.specs.declared.option.Option.TheVariants.{None}
+use Rattle.mi_value.specs.declared.refusal.Refusal.TheVariants.{Memory}
+use Rattle.mi_model.specs.Verdict.{erase_outcome}
+use Rattle.mi_model.specs.Steps.{erase_step}
+use Rattle.mi_model.specs.Run.Command.{Erase as EraseCommand}
+use Rattle.mi_container.specs.Inverse.{keeps}
+use Rattle.mi_container.specs.Run.Change.{Erase}
+use Rattle.mi_journal.specs.Noted.{noted}
+use Rattle.mi_database.specs.Held.{Held, meaning}
+use Rattle.mi_database.proofs.HeldLaws.{some_change}
+use Rattle.mi_database.proofs.LoopLaws.{held}
+use Rattle.mi_database.proofs.KeptLaws.{erase_keeps, erase_refused, refused_keeps, met_refusal}
+use Rattle.mi_database.proofs.ChangeLaws.{spot, spot_keeps, spot_made, spot_held, spot_outcome, spot_stays, spot_refused}
+use Rattle.mi_database.proofs.linked.Linked.erase_row.Goals as goal
+
+pub keep-requires-clause-kept : goal.keep-requires-clause-kept
+keep-requires-clause-kept g c =
+    let shape = g.C.Container.shape in
+    let plain = g.C.Container.plain in
+    let at = spot shape plain c.args.self.now _ _ c.self.invariant c.self.view_is c.requires.table c.index_mut.ensures.value in
+    let makes = some_change (Erase c.args.id None) c.in-Ok.ensures.made in
+    spot_keeps shape plain at c.erase.new.self c.in-Ok.inverse makes
+
+pub invariant_of-self : goal.invariant_of-self
+invariant_of-self g c =
+    let shape = g.C.Container.shape in
+    let plain = g.C.Container.plain in
+    let at = spot shape plain c.args.self.now _ _ c.self.invariant c.self.view_is c.requires.table c.index_mut.ensures.value in
+    let makes = some_change (Erase c.args.id None) c.in-Ok.ensures.made in
+    let made = spot_made shape plain at c.erase.new.self c.in-Ok.inverse c.keep.new.containers.items c.keep.new.journal makes c.erase.ensures.shape
+    c.keep.ensures.datas c.keep.ensures.shapes c.keep.ensures.journal in
+    spot_held shape plain at c.erase.new.self c.in-Ok.inverse c.keep.new.containers.items c.keep.new.journal made
+
+pub invariant_of-self-in-Err : goal.invariant_of-self-in-Err
+invariant_of-self-in-Err g c =
+    let shape = g.C.Container.shape in
+    let plain = g.C.Container.plain in
+    let at = spot shape plain c.args.self.now _ _ c.self.invariant c.self.view_is c.requires.table c.index_mut.ensures.value in
+    spot_stays shape plain at c.erase.new.self c.in-Err.ensures.refused c.erase.ensures.shape
+
+pub returns-in-Ok-clause-outcome : goal.returns-in-Ok-clause-outcome
+returns-in-Ok-clause-outcome g c =
+    let shape = g.C.Container.shape in
+    let plain = g.C.Container.plain in
+    let at = spot shape plain c.args.self.now _ _ c.self.invariant c.self.view_is c.requires.table c.index_mut.ensures.value in
+    let makes = some_change (Erase c.args.id None) c.in-Ok.ensures.made in
+    let made = spot_made shape plain at c.erase.new.self c.in-Ok.inverse c.keep.new.containers.items c.keep.new.journal makes c.erase.ensures.shape
+    c.keep.ensures.datas c.keep.ensures.shapes c.keep.ensures.journal in
+    spot_outcome shape plain at c.erase.new.self c.in-Ok.inverse c.keep.new.containers.items c.keep.new.journal
+    (λ s t. erase_outcome c.args.id t) (Ok tt) made c.in-Ok.ensures.outcome
+
+pub returns-in-Err-clause-outcome : goal.returns-in-Err-clause-outcome
+returns-in-Err-clause-outcome g c =
+    let shape = g.C.Container.shape in
+    let plain = g.C.Container.plain in
+    let at = spot shape plain c.args.self.now _ _ c.self.invariant c.self.view_is c.requires.table c.index_mut.ensures.value in
+    spot_refused shape plain at c.erase.new.self
+    (λ s t. erase_outcome c.args.id t) (Err c.in-Err.refused) c.in-Err.ensures.refused c.in-Err.ensures.outcome
+
+pub returns-in-Ok-clause-footprint : goal.returns-in-Ok-clause-footprint
+returns-in-Ok-clause-footprint g c =
+    let a = c.self.inside in
+    let new : Held = held a.catalog (map g.C.Container.plain c.keep.new.containers.items) c.keep.new.journal.sessions a.revision c.keep.new.journal.changes
+    c.keep.new.journal.starts in
+    erase_keeps c.args.table c.args.id c.args.self.now new c.in-Ok.inverse (ap keeps c.in-Ok.ensures.made.inverse)
+    (c.keep.ensures.journal ∙ ap (λ (h : Held). noted (c.args.table, c.in-Ok.inverse) h.journal) c.self.view_is) (returns-in-Ok-clause-outcome g c).0
+
+pub returns-in-Err-clause-footprint : goal.returns-in-Err-clause-footprint
+returns-in-Err-clause-footprint g c =
+    let a = c.self.inside in
+    let new : Held = held a.catalog (map g.C.Container.plain (set a.containers.items c.args.table c.erase.new.self)) a.journal.sessions a.revision
+    a.journal.changes a.journal.starts in
+    let never : c.in-Err.refused ≢ Memory = c.in-Err.ensures.memory in
+    refused_keeps (EraseCommand c.args.table c.args.id) c.in-Err.refused c.args.self.now new never
+    (erase_refused c.args.table c.args.id c.args.self.now new c.in-Err.refused (ap (λ (h : Held). h.journal) c.self.view_is)
+    (met_refusal (erase_step c.args.table c.args.id (meaning c.args.self.now)) c.in-Err.refused (meaning c.args.self.now) (meaning new) never
+    (returns-in-Err-clause-outcome g c)))

@@ -1,0 +1,11 @@
+-- what the journal's inverses keep is kept
+use Rattle.std.proofs.Common.{◌<◌, length, sym, subst}
+use Rattle.mi_database.specs.Held.{Held}
+use Rattle.mi_database.specs.Kept.{NodesAreKept}
+use Rattle.mi_database.proofs.KeptLaws.{nodes_kept}
+use Rattle.mi_database.proofs.linked.Linked.keeps_nodes.Goals as goal
+
+pub returns : goal.returns
+returns g c =
+    subst (λ (h : Held). NodesAreKept h c.args.n) c.self.view_is
+    (nodes_kept _ _ c.args.n c.self.invariant (subst (λ (h : Held). c.args.n < length h.datas) (sym c.self.view_is) c.requires))

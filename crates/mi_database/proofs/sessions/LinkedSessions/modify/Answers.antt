@@ -1,0 +1,82 @@
+-- what the container answers and leaves, the database does
+use Rattle.std.proofs.Common.{◌∙◌, map, set, ap, sym, subst}
+use Rattle.std.specs.Prelude.{Err}
+use Rattle.std.specs.declared.result.Result.{Result}
+use Rattle.mi_value.specs.declared.refusal.Refusal.{Refusal}
+use Rattle.mi_model.specs.Verdict.{modify_outcome}
+use Rattle.mi_model.specs.Steps.{Meets, modify_step}
+use Rattle.mi_container.specs.Inverse.{lost_to}
+use Rattle.mi_container.specs.Makes.{MeetsOn}
+use Rattle.mi_journal.specs.Noted.{noted}
+use Rattle.mi_database.specs.Held.{Held, meaning}
+use Rattle.mi_database.proofs.HeldLaws.{some_modify}
+use Rattle.mi_database.proofs.LoopLaws.{held}
+use Rattle.mi_database.proofs.KeptLaws.{modify_keeps, modify_kept, modify_refused}
+use Rattle.mi_database.proofs.ChangeLaws.{spot, spot_keeps, spot_made, spot_held, spot_outcome, spot_stays, spot_refused}
+use Rattle.mi_database.proofs.sessions.LinkedSessions.modify.Goals as goal
+
+pub keep-requires-clause-kept : goal.keep-requires-clause-kept
+keep-requires-clause-kept g c =
+    let shape = g.C.Container.shape in
+    let plain = g.C.Container.plain in
+    let at = spot shape plain c.args.self.now _ _ c.self.invariant (c.self.view_is ∙ c.make_room.ensures.same) c.requires.table c.index_mut.ensures.value in
+    let makes = some_modify (lost_to c.in-Ok.inverse) _ c.args.id _ c.in-Ok.inverse _ c.in-Ok.ensures.made in
+    spot_keeps shape plain at c.modify.new.self c.in-Ok.inverse makes
+
+pub invariant_of-self : goal.invariant_of-self
+invariant_of-self g c =
+    let shape = g.C.Container.shape in
+    let plain = g.C.Container.plain in
+    let at = spot shape plain c.args.self.now _ _ c.self.invariant (c.self.view_is ∙ c.make_room.ensures.same) c.requires.table c.index_mut.ensures.value in
+    let makes = some_modify (lost_to c.in-Ok.inverse) _ c.args.id _ c.in-Ok.inverse _ c.in-Ok.ensures.made in
+    let made = spot_made shape plain at c.modify.new.self c.in-Ok.inverse c.keep.new.containers.items c.keep.new.journal makes c.modify.ensures.shape
+    c.keep.ensures.datas c.keep.ensures.shapes c.keep.ensures.journal in
+    spot_held shape plain at c.modify.new.self c.in-Ok.inverse c.keep.new.containers.items c.keep.new.journal made
+
+pub invariant_of-self-in-Err : goal.invariant_of-self-in-Err
+invariant_of-self-in-Err g c =
+    let shape = g.C.Container.shape in
+    let plain = g.C.Container.plain in
+    let at = spot shape plain c.args.self.now _ _ c.self.invariant (c.self.view_is ∙ c.make_room.ensures.same) c.requires.table c.index_mut.ensures.value in
+    spot_stays shape plain at c.modify.new.self c.in-Err.ensures.refused c.modify.ensures.shape
+
+pub returns-in-Ok-clause-outcome : goal.returns-in-Ok-clause-outcome
+returns-in-Ok-clause-outcome g c =
+    let shape = g.C.Container.shape in
+    let plain = g.C.Container.plain in
+    let at = spot shape plain c.args.self.now _ _ c.self.invariant (c.self.view_is ∙ c.make_room.ensures.same) c.requires.table c.index_mut.ensures.value in
+    let makes = some_modify (lost_to c.in-Ok.inverse) _ c.args.id _ c.in-Ok.inverse _ c.in-Ok.ensures.made in
+    let made = spot_made shape plain at c.modify.new.self c.in-Ok.inverse c.keep.new.containers.items c.keep.new.journal makes c.modify.ensures.shape
+    c.keep.ensures.datas c.keep.ensures.shapes c.keep.ensures.journal in
+    spot_outcome shape plain at c.modify.new.self c.in-Ok.inverse c.keep.new.containers.items c.keep.new.journal
+    (λ s t. modify_outcome s c.args.id c.args.edits.now c.args.rollback t) c.modified-answer.result made
+    (subst (λ (a : Result (Unit {0}) Refusal). MeetsOn (modify_outcome (shape c.index_mut.result.now) c.args.id c.args.edits.now c.args.rollback) a
+    (plain c.index_mut.result.now) (plain c.modify.new.self)) (sym c.modified-answer.ensures) c.in-Ok.ensures.outcome)
+
+pub returns-in-Err-clause-outcome : goal.returns-in-Err-clause-outcome
+returns-in-Err-clause-outcome g c =
+    let shape = g.C.Container.shape in
+    let plain = g.C.Container.plain in
+    let at = spot shape plain c.args.self.now _ _ c.self.invariant (c.self.view_is ∙ c.make_room.ensures.same) c.requires.table c.index_mut.ensures.value in
+    spot_refused shape plain at c.modify.new.self
+    (λ s t. modify_outcome s c.args.id c.args.edits.now c.args.rollback t) (Err c.in-Err.refused) c.in-Err.ensures.refused c.in-Err.ensures.outcome
+
+pub returns-in-Ok-clause-footprint : goal.returns-in-Ok-clause-footprint
+returns-in-Ok-clause-footprint g c =
+    let a = c.self.inside in
+    let old = c.args.self.now in
+    let new : Held = held a.catalog (map g.C.Container.plain c.keep.new.containers.items) c.keep.new.journal.sessions a.revision c.keep.new.journal.changes
+    c.keep.new.journal.starts in
+    let journal = c.keep.ensures.journal ∙ ap (λ (h : Held). noted (c.args.table, c.in-Ok.inverse) h.journal) (c.self.view_is ∙ c.make_room.ensures.same) in
+    modify_kept c.args.table c.args.id c.args.edits.now c.args.rollback old new c.modified-answer.result (lost_to c.in-Ok.inverse) c.modified-answer.ensures
+    (modify_keeps c.args.table c.args.id c.args.edits.now c.args.rollback old new _ _ c.in-Ok.inverse _ c.in-Ok.ensures.made journal
+    (subst (λ (r : Result (Unit {0}) Refusal). Meets (modify_step c.args.table c.args.id c.args.edits.now c.args.rollback (meaning old)) r (meaning old)
+    (meaning new)) c.modified-answer.ensures (returns-in-Ok-clause-outcome g c)))
+
+pub returns-in-Err-clause-footprint : goal.returns-in-Err-clause-footprint
+returns-in-Err-clause-footprint g c =
+    let a = c.self.inside in
+    let new : Held = held a.catalog (map g.C.Container.plain (set a.containers.items c.args.table c.modify.new.self)) a.journal.sessions a.revision
+    a.journal.changes a.journal.starts in
+    modify_refused c.args.table c.args.id c.args.edits.now c.args.rollback c.args.self.now new c.in-Err.refused
+    (ap (λ (h : Held). h.journal) (c.self.view_is ∙ c.make_room.ensures.same)) c.in-Err.ensures.loss (returns-in-Err-clause-outcome g c)

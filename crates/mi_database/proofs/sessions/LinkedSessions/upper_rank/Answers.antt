@@ -1,0 +1,6 @@
+-- the container's bound is the table's
+use Rattle.mi_database.proofs.BoundLaws.{within_two}
+use Rattle.mi_database.proofs.sessions.LinkedSessions.upper_rank.Goals as goal
+
+pub returns-clause-steps : goal.returns-clause-steps
+returns-clause-steps g c = within_two _ _ _ _ c.at.ensures.table c.upper_rank.ensures.steps

@@ -1,0 +1,117 @@
+-- What contracts see of a linked database, and the database that it means.
+use Rattle.std.specs.Prelude.{◌≡◌, ◌⊎◌, ℕ, ◌+◌, ◌-◌, ◌<◌, ◌≤◌, Bool, true, false, List, [], ◌∷◌, length, map, take, slice_set}
+use Rattle.mi_value.specs.declared.limits.TheConstants.{LAST_COUNT}
+use Rattle.mi_catalog.specs.Shape.{Shape, CatalogShape}
+use Rattle.mi_model.specs.Database.{Database}
+use Rattle.mi_container.specs.Data.{Data}
+use Rattle.mi_container.specs.Changes.{opened_data}
+use Rattle.mi_container.specs.Inverse.{Inverse, settled}
+use Rattle.mi_database.specs.Journal.{Entry, Journal, data_at, entry_back, entries, unwound, old_of, tables_of, state_of, IsLinked}
+use Rattle.mi_journal.specs.Noted.{Noted, OldestIsEmpty}
+
+-- the containers' data, the inverses of each session, the revision, and the journal's room
+pub record Held : Type 0 where
+  pub catalog : CatalogShape
+  pub datas : List Data
+  pub journal : Journal
+  pub revision : ℕ
+  pub changes : ℕ
+  pub starts : ℕ
+
+-- as the fields have it
+abbrev pub seen : CatalogShape → List Data → Noted Inverse → ℕ → Held
+seen c ds j r = record { catalog = c; datas = ds; journal = j.sessions; revision = r; changes = j.changes; starts = j.starts }
+
+abbrev pub meaning : Held → Database
+meaning h = state_of h.catalog h.datas h.journal h.revision
+
+-- what holds of every linked database, over the schemas of its containers
+pub record IsHeld (ss : List Shape) (h : Held) : Type 0 where
+  pub linked : IsLinked h.catalog h.datas h.journal
+  pub shapes : ss ≡ h.catalog.tables
+  pub many : length h.datas ≡ length h.catalog.tables
+  pub numbered : length h.journal ≤ h.revision
+  pub last : h.revision ≤ LAST_COUNT
+
+-- other room, and all else the same
+abbrev pub with_room : ℕ → ℕ → Held → Held
+with_room changes starts h = record h { changes = changes; starts = starts }
+
+-- in a session there is room for so many inverses
+abbrev pub RoomFor : ℕ → Held → Type 0
+RoomFor n h = 0 < length h.journal → n ≤ h.changes
+
+-- a change's inverse is settled where no session is open
+abbrev pub kept_datas : ℕ → Inverse → Journal → List Data → List Data
+kept_datas n i [] ds = slice_set ds n (settled i (data_at ds n))
+kept_datas n i (newest ∷ older) ds = ds
+
+-- the newest session's entries, and the other sessions
+abbrev pub newest_of : Journal → List Entry
+newest_of [] = []
+newest_of (newest ∷ older) = newest
+
+abbrev pub older_of : Journal → Journal
+older_of [] = []
+older_of (newest ∷ older) = older
+
+-- the newest entry taken back
+abbrev pub back_by : List Entry → List Data → List Data
+back_by [] ds = ds
+back_by (e ∷ es) ds = entry_back e ds
+
+-- all sessions but the oldest
+abbrev pub newer_than_oldest : {A : Type 0} → List A → List A
+newer_than_oldest xs = take (length xs - 1) xs
+
+-- the oldest session ended, and its changes stay
+abbrev pub one_ended : Database → Database
+one_ended d = record d { old = newer_than_oldest d.old }
+
+-- the oldest change is settled, or the oldest session has none: but for that session all that is meant stays
+pub record SettlesSome (old new : Held) : Type 0 where
+  pub fewer : length (entries new.journal) + 1 ≡ length (entries old.journal)
+  pub open_ : length new.journal ≡ length old.journal
+  pub newer : newer_than_oldest new.journal ≡ newer_than_oldest old.journal
+  pub tables : tables_of new.datas ≡ tables_of old.datas
+  pub old_ : newer_than_oldest (old_of new.datas new.journal) ≡ newer_than_oldest (old_of old.datas old.journal)
+
+pub record SettlesNone (old new : Held) : Type 0 where
+  pub datas : new.datas ≡ old.datas
+  pub journal : new.journal ≡ old.journal
+  pub none : (old.journal ≡ []) ⊎ OldestIsEmpty old.journal
+
+abbrev pub SettlesOne : Bool → Held → Held → Type 0
+SettlesOne true old new = SettlesSome old new
+SettlesOne false old new = SettlesNone old new
+
+-- all changes of the newest session taken back, which stays open
+pub record UnwindsNewest (old new : Held) : Type 0 where
+  pub catalog : new.catalog ≡ old.catalog
+  pub revision : new.revision ≡ old.revision
+  pub datas : new.datas ≡ unwound (newest_of old.journal) old.datas
+  pub journal : new.journal ≡ [] ∷ older_of old.journal
+  pub changes : old.changes ≤ new.changes
+  pub starts : new.starts ≡ old.starts
+
+-- the oldest session ended, and its changes settled
+pub record EndsOldest (old new : Held) : Type 0 where
+  pub catalog : new.catalog ≡ old.catalog
+  pub revision : new.revision ≡ old.revision
+  pub journal : new.journal ≡ newer_than_oldest old.journal
+  pub tables : tables_of new.datas ≡ tables_of old.datas
+  pub old_ : old_of new.datas new.journal ≡ newer_than_oldest (old_of old.datas old.journal)
+  pub changes : old.changes ≤ new.changes
+  pub starts : new.starts ≡ old.starts + 1
+
+-- what a catalog opens with
+abbrev pub opened_held : ℕ → ℕ → CatalogShape → Held
+opened_held changes starts c = record {
+  catalog = c;
+  datas = map opened_data c.tables;
+  journal = [];
+  revision = c.first_revision;
+  changes = changes;
+  starts =
+      starts;
+}

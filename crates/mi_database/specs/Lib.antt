@@ -1,0 +1,5 @@
+pub mod Journal
+pub mod Held
+pub mod Keyed
+pub mod Kept
+pub mod Bound

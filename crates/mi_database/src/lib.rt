@@ -1,0 +1,13 @@
+//! The linked database: a container for each table under one journal. It is a `Sessions` whose undo takes no memory. It
+//! knows a container by its calls alone.
+#![tactic(auto)]
+
+mod bound;
+mod ending;
+mod erasing;
+mod linked;
+mod sessions;
+
+pub use bound::look_ups_are_bounded;
+pub use linked::Linked;
+pub use mi_sessions::{Sessions, laws};

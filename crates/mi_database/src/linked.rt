@@ -1,0 +1,168 @@
+//! The containers and the journal. A change is made by its container, which answers the inverse; with a session open the
+//! inverse is noted, else it is settled at once. This file knows nothing of how a container keeps its rows.
+use mi_catalog::Catalog;
+use mi_container::{Container, Inverse};
+use mi_journal::Journal;
+use mi_value::Refusal;
+use std::alloc::{AllocError, Global};
+use std::marker::Model;
+
+/// A database as linked containers, and a journal of inverses.
+#[derive(Drop)]
+pub struct Linked<C: Container> {
+    pub(crate) catalog: Catalog,
+    pub(crate) containers: Vec<C>,
+    pub(crate) journal: Journal<Inverse>,
+    pub(crate) revision: u64,
+}
+
+impl<C: Container> Model for Linked<C> {
+    ghost use Rattle.std.specs.Prelude.{map};
+    ghost use Rattle.mi_database.specs.Held.{Held, seen, IsHeld};
+
+    ghost Value = { Held };
+
+    ghost view = { λ a. seen a.catalog (map C.plain a.containers.items) a.journal a.revision };
+
+    ghost invariant = { λ a. IsHeld (map C.shape a.containers.items) (seen a.catalog (map C.plain a.containers.items) a.journal a.revision) };
+}
+
+ghost use Rattle.mi_value.specs.declared.refusal.Refusal.TheVariants.{Memory};
+ghost use Rattle.std.specs.Prelude.{◌≡◌, ◌<◌, ◌≤◌, ◌+◌, length, map, vec_len, IfOk, OnErr};
+ghost use Rattle.mi_container.specs.Changes.{opened_data};
+ghost use Rattle.mi_container.specs.Fits.{KeptBy};
+ghost use Rattle.mi_database.specs.Journal.{data_at};
+ghost use Rattle.mi_journal.specs.Noted.{noted};
+ghost use Rattle.mi_database.specs.Held.{kept_datas};
+
+/// The containers that a catalog opens with.
+fn open_containers<C: Container>(alloc: Global, catalog: &Catalog) -> Result<Vec<C>, AllocError>
+    ensures shapes { IfOk result (λ new. map C.shape new.items ≡ catalog.now.tables) }
+    ensures datas { IfOk result (λ new. map C.plain new.items ≡ map opened_data catalog.now.tables) }
+{
+    let mut new = Vec::new(alloc);
+    for i in 0..catalog.table_count() {
+        new.push(C::new(alloc, catalog.table(i).copy(alloc)?)?)?;
+    }
+    Ok(new)
+}
+
+/// Notes the inverse of a change that a container has just made, or settles it where no session is open.
+pub(crate) fn keep<C: Container>(
+    containers: &mut Vec<C>,
+    journal: &mut Journal<Inverse>,
+    table: usize,
+    inverse: Inverse,
+)
+    requires table { table < vec_len containers.old }
+    requires kept { KeptBy inverse (data_at (map C.plain containers.old.items) table) }
+    requires room { 0 < length journal.old.sessions → 0 < journal.old.changes }
+    ensures datas { map C.plain containers.new.items ≡ kept_datas table inverse journal.old.sessions (map C.plain containers.old.items) }
+    ensures shapes { map C.shape containers.new.items ≡ map C.shape containers.old.items }
+    ensures journal { journal.new.sessions ≡ noted (table, inverse) journal.old.sessions }
+    ensures changes { journal.old.changes ≤ journal.new.changes + 1 }
+    ensures starts { journal.new.starts ≡ journal.old.starts }
+{
+    if journal.depth() == 0 {
+        containers[table].settle(inverse);
+    } else {
+        journal.note(table, inverse);
+    }
+}
+
+impl<C: Container> Linked<C> {
+    ghost use Rattle.mi_database.specs.Held.{with_room, RoomFor};
+    ghost use Rattle.std.specs.Prelude.{OnOk, IfErr};
+    ghost use Rattle.mi_database.specs.Held.{meaning, opened_held};
+    ghost use Rattle.mi_container.specs.Data.{table_of};
+    ghost use Rattle.mi_database.specs.Kept.{NodesAreKept};
+    ghost use Rattle.mi_model.specs.Table.{IsTable};
+    ghost use Rattle.mi_model.specs.Database.{schema_of, table_of as table_at};
+
+    /// The database that a catalog opens with: no rows, no open session, the first counters and the first revision.
+    pub fn new(alloc: Global, catalog: Catalog) -> Result<Linked<C>, AllocError>
+        ensures { IfOk result (λ d. d ≡ opened_held d.changes d.starts catalog) }
+    {
+        catalog.keeps_rules();
+        let containers = open_containers(alloc, &catalog)?;
+        let revision = catalog.first_revision();
+        Ok(Linked {
+            catalog,
+            containers,
+            journal: Journal::new(alloc),
+            revision,
+        })
+    }
+
+    /// Room for so many changes inside a session, and for so many sessions.
+    pub fn room(&self) -> (u64, u64)
+        ensures changes { result.0 ≡ self.now.changes }
+        ensures starts { result.1 ≡ self.now.starts }
+    {
+        let (changes, starts) = self.journal.room();
+        (changes as u64, starts as u64)
+    }
+
+    /// States that a table's nodes are its rows and those that the inverses of the open sessions keep, each by one, and
+    /// no others. It does nothing.
+    pub fn keeps_nodes(&self, n: usize)
+        requires { n < length self.now.datas }
+        ensures { NodesAreKept self.now n }
+    {
+        let _ = &self.catalog;
+    }
+
+    /// The container of a table.
+    pub(crate) fn at(&self, n: usize) -> &C
+        requires { n < length self.now.catalog.tables }
+        ensures shape { C.shape result.now ≡ schema_of (meaning self.now) n }
+        ensures table { table_of (C.plain result.now) ≡ table_at (meaning self.now) n }
+        ensures within { n < length (meaning self.now).tables }
+        ensures is { IsTable (schema_of (meaning self.now) n) (table_at (meaning self.now) n) }
+    {
+        &self.containers[n]
+    }
+
+    /// Room for so many changes and so many sessions more: until they are used, an erase, a replacement or a relocation
+    /// inside a session, and a start, aren't refused for memory. The database stays as it is. Refusal: `Memory`.
+    pub fn reserve(&mut self, changes: u64, sessions: u64) -> Result<(), Refusal>
+        ensures same { self.new ≡ with_room self.new.changes self.new.starts self.old }
+        ensures changes { self.old.changes ≤ self.new.changes }
+        ensures starts { self.old.starts ≤ self.new.starts }
+        ensures room { OnOk result ((changes ≤ self.new.changes) × (sessions ≤ self.new.starts)) }
+        ensures memory { IfErr result (λ e. e ≡ Memory) }
+    {
+        match self.journal.reserve(changes as usize, sessions as usize) {
+            Ok(()) => Ok(()),
+            Err(_) => Err(Refusal::Memory),
+        }
+    }
+
+    /// Room for so many inverses, where a session is open.
+    pub(crate) fn make_room(&mut self, changes: usize) -> Result<(), AllocError>
+        ensures same { self.new ≡ with_room self.new.changes self.new.starts self.old }
+        ensures changes { self.old.changes ≤ self.new.changes }
+        ensures starts { self.old.starts ≤ self.new.starts }
+        ensures room { OnOk result (RoomFor changes self.new) }
+        ensures short { OnErr result ((0 < length self.old.journal) × (self.old.changes < changes)) }
+    {
+        if self.journal.depth() == 0 || changes <= self.journal.room().0 {
+            return Ok(());
+        }
+        self.journal.reserve(changes, 0)
+    }
+
+    /// Room for one more session.
+    pub(crate) fn make_place(&mut self) -> Result<(), AllocError>
+        ensures same { self.new ≡ with_room self.new.changes self.new.starts self.old }
+        ensures changes { self.old.changes ≤ self.new.changes }
+        ensures starts { self.old.starts ≤ self.new.starts }
+        ensures room { OnOk result (0 < self.new.starts) }
+        ensures short { OnErr result (self.old.starts ≡ 0) }
+    {
+        if self.journal.room().1 > 0 {
+            return Ok(());
+        }
+        self.journal.reserve(0, 1)
+    }
+}
