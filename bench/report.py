@@ -49,6 +49,10 @@ def short(value):
     return f"{value:.3g}"
 
 
+def quotient(value):
+    return f"{value:.2f}" if value >= 0.1 else f"{value:.1g}"
+
+
 def with_spread(values, shown=short):
     """The median, and in brackets the least and the greatest."""
     if not values:
@@ -64,7 +68,7 @@ def markdown(about, tables):
     lines = [
         "# What it was compared with, and how fast each was",
         "",
-        f"Measured on {about['date']} by `make bench`, on {about['machine']}; the load of the machine was {about['load'][0]:.1f} at the beginning and"
+        f"Measured on {about['date']} by `{about['command']}`, on {about['machine']}; the load of the machine was {about['load'][0]:.1f} at the beginning and"
         f" {about['load'][1]:.1f} at the end (it is 1 to 2 where nothing else runs). The sources were at `{about['commit']}`.",
         "",
     ]
@@ -83,7 +87,7 @@ def markdown(about, tables):
         " systems are asked in turn. More than 1 means that Weltiyo is faster. All replies were compared and are the same bytes; those of Redis are"
         " put together from its own first.",
         "",
-        "To repeat: `make bench` (the packages: `apt-get install g++ libboost-dev libsimdjson-dev libsqlite3-dev redis-server`).",
+        "To repeat: `make bench`, or that command (the packages: `apt-get install g++ libboost-dev libsimdjson-dev libsqlite3-dev redis-server`).",
         "",
         "![lines a second](speed.svg)",
         "",
@@ -92,7 +96,7 @@ def markdown(about, tables):
     ]
     for table in tables:
         lines += speed_table(about, table, names)
-    lines += memory_table(tables, names) + left_out(about, tables, names) + workload_list()
+    lines += growth_table(about, tables, names) + memory_table(tables, names) + left_out(about, tables, names) + workload_list()
     return "\n".join(lines) + "\n"
 
 
@@ -110,7 +114,21 @@ def speed_table(about, table, names):
         cells = table["cells"][name]
         ours = cells[names[0]]
         found = [with_spread(speeds(about, cells[it])) for it in names]
-        found += [with_spread(ratios(about, ours, cells[it]), lambda value: f"{value:.2g}") for it in others]
+        found += [with_spread(ratios(about, ours, cells[it]), quotient) for it in others]
+        lines.append(f"| {title} | " + " | ".join(found) + " |")
+    return [*lines, ""]
+
+
+def growth_table(about, tables, names):
+    """How many times longer a line takes over the most records than over the fewest."""
+    few, many = tables[0], tables[-1]
+    if few["rows"] == many["rows"]:
+        return []
+    lines = ["## Growth", "", f"How many times longer a line takes over {many['rows']:,} records than over {few['rows']:,}, by the medians.", ""]
+    lines += ["| Workload | " + " | ".join(names) + " |", "|---" * (len(names) + 1) + "|"]
+    for key, title in workloads.TITLES.items():
+        both = [[speeds(about, table["cells"][key][name]) for table in (few, many)] for name in names]
+        found = [f"{statistics.median(fast) / statistics.median(slow):.1f}" if fast and slow else "-" for fast, slow in both]
         lines.append(f"| {title} | " + " | ".join(found) + " |")
     return [*lines, ""]
 

@@ -242,6 +242,7 @@ def about_run(options, chosen, left):
     return {
         "date": datetime.date.today().isoformat(), "machine": machine(), "commit": commit(), "clock": options.clock, "rounds": options.rounds,
         "limit": options.limit, "memory": options.memory, "load": [os.getloadavg()[0]], "left_out": left, "quick": options.quick,
+        "command": " ".join(["python3 bench/run.py", *sys.argv[1:]]),
         "systems": {it.name: it.about for it in chosen}, "program": digest(chosen[0].words[0]),
     }
 

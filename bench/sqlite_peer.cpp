@@ -103,6 +103,10 @@ struct Counters {
 
 class Table {
 public:
+    Table() = default;
+    Table(const Table &) = delete;
+    ~Table() { sqlite3_close_v2(base_); }
+
     static constexpr bool HAS_ALL = false;
     static bool has_range(const Range &it) { return it.index == Index::ByBalance && it.lower && it.lower->with_equals && !it.upper && !it.reverse; }
     static bool has_rank(Index it) { return it == Index::ByBalance; }

@@ -92,6 +92,7 @@ class Report(unittest.TestCase):
     def test_figures(self):
         rows = [(1_234_567, "1.23M"), (45_678, "45.7k"), (999, "999"), (0.5, "0.5")]
         self.assertEqual([report.short(it) for it, _ in rows], [it for _, it in rows])
+        self.assertEqual([report.quotient(it) for it in (1.256, 0.1, 0.000251)], ["1.26", "0.10", "0.0003"])
         self.assertEqual(report.with_spread([3.0, 1.0, 2.0]), "2 (1 to 3)")
         self.assertEqual(report.with_spread([]), "-")
 
@@ -100,6 +101,17 @@ class Report(unittest.TestCase):
         other = {"rounds": [{"lines": 10, "seconds": 2, "on_processor": 4}, {"lines": 20, "seconds": 4, "on_processor": 4}]}
         self.assertEqual(report.ratios({"clock": "wall"}, ours, other), [2.0, 0.5])
         self.assertEqual(report.ratios({"clock": "processor"}, ours, other), [4.0, 2.0])
+
+    def test_growth_is_of_the_medians(self):
+        def cell(*seconds):
+            return {"rounds": [{"lines": 12, "seconds": it, "on_processor": it} for it in seconds], "left_out": None}
+
+        tables = [{"rows": rows, "cells": {name: {"a": some} for name in workloads.NAMES}} for rows, some in ((10, cell(1, 2, 3)), (100, cell(4, 6, 12)))]
+        lines = report.growth_table({"clock": "wall"}, tables, ["a"])
+        self.assertIn("| get by id | 3.0 |", lines)
+        tables[1]["cells"]["get"]["a"] = cell()
+        self.assertIn("| get by id | - |", report.growth_table({"clock": "wall"}, tables, ["a"]))
+        self.assertEqual(report.growth_table({"clock": "wall"}, tables[:1], ["a"]), [])
 
     def test_axes_are_logarithmic(self):
         axis = report.Axis([10, 1000], 0, 100)
