@@ -16,6 +16,7 @@ use Rattle.mi_index.specs.Standing.{slot_in, AllAbove, AllBelow}
 use Rattle.mi_index.specs.Places.{is_moved, place_for, before_at, own_place, NoneHas, HasPlace, CanJoin, HasStamp, IsJoined, IsBeside, KeepsTags, IsLeft, HasOldPlace, CanReturn, IsBack, IsWith}
 use Rattle.mi_index.specs.Pass.{Asks, Gives}
 use Rattle.mi_index.specs.Passes.{IsSame, CanJoinIf, IsJoinedIf, joining, joined, HasNodeIf, IsLeftIf, leaving, left, CanReturnTo, IsBackAt, returning, returned, nothing_asked, grown}
+use Rattle.mi_index.specs.Inserting.{IsRelocatedIf, relocating, relocated}
 use Rattle.mi_index.specs.declared.stored.Stored.{Stored}
 use Rattle.mi_index.specs.declared.moves.Place.{Place}
 use Rattle.mi_index.specs.declared.moves.Moves.{Moves}
@@ -196,3 +197,22 @@ grown_before s x l m n rs us e a h = record { list = h.list; tags = tags_before 
 
 pub grown_after : After grown
 grown_after s x m n o rs us e a h = record { list = h.list; tags = tags_after x m n o a h.tags }
+
+-- A node moves in one list
+
+pub relocating_stays : (index : ℕ) (r : Ref) (b : Option Ref) → Stays (relocating index r b)
+relocating_stays index r b s x m n rs e a c = c
+
+relocated_if_before : (here : Bool) (x : Structure) (l m n : Pooled Stored) (r : Ref) (b : Option Ref) (rs us : List Ref) → Agree (slot_in x) l m → IsRelocatedIf here x m n r b rs us → IsRelocatedIf here x l n r b rs us
+relocated_if_before true x l m n r b rs us a h = h
+relocated_if_before false x l m n r b rs us a h = same_before x l m n rs us a h
+
+relocated_if_after : (here : Bool) (x : Structure) (m n o : Pooled Stored) (r : Ref) (b : Option Ref) (rs us : List Ref) → Agree (slot_in x) n o → IsRelocatedIf here x m n r b rs us → IsRelocatedIf here x m o r b rs us
+relocated_if_after true x m n o r b rs us a h = h
+relocated_if_after false x m n o r b rs us a h = same_after x m n o rs us a h
+
+pub relocated_before : (index : ℕ) (r : Ref) (b : Option Ref) → Before (relocated index r b)
+relocated_before index r b s x l m n rs us e a h = relocated_if_before (s == index) x l m n r b rs us a h
+
+pub relocated_after : (index : ℕ) (r : Ref) (b : Option Ref) → After (relocated index r b)
+relocated_after index r b s x m n o rs us e a h = relocated_if_after (s == index) x m n o r b rs us a h

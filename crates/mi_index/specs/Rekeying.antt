@@ -59,6 +59,7 @@ pub record CanMove (x : Structure) (m : Pooled Stored) (r : Ref) (v : Stored) (s
   pub xs : List Ref
   pub ys : List Ref
   pub parts : rs ≡ xs ++ r ∷ ys
+  pub few : length rs < 2 ^ 32
   pub place : HasPlaceFor x m v stamp None (xs ++ ys)
 
 pub record HasMoved (x : Structure) (m n : Pooled Stored) (r : Ref) (stamp : ℕ) (rs us : List Ref) : Type 0 where
@@ -88,6 +89,7 @@ pub record CanMoveBack (x : Structure) (m : Pooled Stored) (r : Ref) (v : Stored
   pub xs : List Ref
   pub ys : List Ref
   pub parts : rs ≡ xs ++ r ∷ ys
+  pub few : length rs < 2 ^ 32
   pub place : HasOldPlaceFor x m v p (xs ++ ys)
 
 pub record HasMovedBack (x : Structure) (m n : Pooled Stored) (r : Ref) (p : Place) (rs us : List Ref) : Type 0 where

@@ -6,6 +6,7 @@ ghost use Rattle.mi_node.specs.Refs.{Ref};
 ghost use Rattle.mi_index.specs.Standing.{slot_in, IsLike};
 ghost use Rattle.mi_index.specs.Pass.{IsReady, IsStep, AreReady, IsPass, AllLike};
 ghost use Rattle.mi_index.specs.Passes as pass;
+ghost use Rattle.mi_index.specs.Inserting as insert;
 
 use crate::moves::{Moves, before_in};
 use crate::stored::Stored;
@@ -69,6 +70,24 @@ fn relink_one(
     }
 }
 
+/// Moves a node in one structure, if that is of the index of this number.
+fn relocate_one(
+    structure: &mut Structure,
+    slot: usize,
+    p: &mut Pool<Stored>,
+    index: usize,
+    node: NodeRef,
+    before: Option<NodeRef>,
+)
+    requires { IsReady (insert.relocating index node before) slot structure.old p.old }
+    ensures step { IsStep (insert.relocating index node before) (insert.relocated index node before) node slot structure.old structure.new p.old p.new }
+    ensures like { IsLike structure.old structure.new }
+{
+    if slot == index {
+        structure.move_before(p, node, before);
+    }
+}
+
 /// Puts a node into each structure in which it moves, the first of which has this slot: by its key and this stamp, in
 /// the list of the index that is given directly before the node that is given, and last in each other list.
 pub fn link_all(
@@ -127,6 +146,27 @@ pub fn relink_all(
     if let Some((first, rest)) = structures.split_first_mut() {
         relink_one(first, slot, p, node, moves);
         relink_all(rest, slot + 1, p, node, moves);
+    }
+}
+
+/// Moves a node in the list of the index of this number, if it is one of the structures, the first of which has this
+/// slot.
+pub fn relocate_all(
+    structures: &mut [Structure],
+    slot: usize,
+    p: &mut Pool<Stored>,
+    index: usize,
+    node: NodeRef,
+    before: Option<NodeRef>,
+)
+    requires all { AreReady (insert.relocating index node before) slot structures.old p.old }
+    requires few { slot + length structures.old < 2 ^ 64 }
+    ensures pass { IsPass (insert.relocating index node before) (insert.relocated index node before) node slot structures.old structures.new p.old p.new }
+    ensures like { AllLike structures.old structures.new }
+{
+    if let Some((first, rest)) = structures.split_first_mut() {
+        relocate_one(first, slot, p, index, node, *&before);
+        relocate_all(rest, slot + 1, p, index, node, before);
     }
 }
 

@@ -11,6 +11,7 @@ ghost use Rattle.mi_index.specs.Places as places;
 ghost use Rattle.mi_index.specs.Pass.{IsReady, IsStep};
 ghost use Rattle.mi_index.specs.Passes as pass;
 ghost use Rattle.mi_index.specs.Steps as step;
+ghost use Rattle.mi_index.specs.Inserting as insert;
 ghost use Rattle.mi_index.specs.declared.structure.Structure.TheVariants.{Ordered, Hashed, Sequenced};
 
 use crate::moves::Place;
@@ -77,6 +78,19 @@ impl Structure {
             Structure::Ordered(tree) => relink_tree(tree, p, node, place),
             Structure::Hashed(chains) => relink_chains(chains, p, node, place),
             Structure::Sequenced(list) => relink_list(list, p, node, place),
+        }
+    }
+
+    /// Moves a node of a list directly before `before`, another node of the list, or to the end where that is `None`.
+    /// Nothing changes where both are one node. Only a list has an order that is changed so. Takes no memory.
+    pub fn move_before(&mut self, p: &mut Pool<Stored>, node: NodeRef, before: Option<NodeRef>)
+        requires { IsReady (insert.moving node before) 0 self.old p.old }
+        ensures step { IsStep (insert.moving node before) (insert.moved node before) node 0 self.old self.new p.old p.new }
+        ensures like { IsLike self.old self.new }
+    {
+        match self {
+            Structure::Ordered(_) | Structure::Hashed(_) => {}
+            Structure::Sequenced(list) => move_in_list(list, p, node, before),
         }
     }
 
@@ -207,6 +221,14 @@ fn relink_list(list: &mut List, p: &mut Pool<Stored>, node: NodeRef, place: Plac
 {
     let _ = place;
     list.relink(p, node);
+}
+
+fn move_in_list(list: &mut List, p: &mut Pool<Stored>, node: NodeRef, before: Option<NodeRef>)
+    requires { IsReady (insert.moving node before) 0 (Sequenced list.old) p.old }
+    ensures step { IsStep (insert.moving node before) (insert.moved node before) node 0 (Sequenced list.old) (Sequenced list.new) p.old p.new }
+    ensures like { IsLike (Sequenced list.old) (Sequenced list.new) }
+{
+    list.move_before(p, node, before);
 }
 
 fn room_in_chains(
