@@ -8,7 +8,8 @@ SEED ?= 1
 LINES ?= 2000
 SECONDS ?= 30
 CLIENTS ?= 4
-ROWS ?= 1000
+ROWS ?=
+QUICK ?=
 SHARE = $(DESTDIR)$(PREFIX)/share/weltiyo
 
 .PHONY: help try run build test check-docs bench fuzz soak install dist clean
@@ -22,7 +23,8 @@ help:
 	@echo 'make check-docs  runs what README, guide and examples print, and the tests of the Python client and of the scripts'
 	@echo 'make fuzz        random lines to the program and to a reference in Python: SEED=$(SEED) LINES=$(LINES)'
 	@echo 'make soak        clients over loopback for SECONDS=$(SECONDS), CLIENTS=$(CLIENTS): sums, sessions and memory are watched'
-	@echo 'make bench       how many commands a second the program answers over ROWS=$(ROWS) rows'
+	@echo 'make bench       the program against a Boost.MultiIndex container, SQLite and Redis, into docs/bench (see bench/README.md);'
+	@echo '                 ROWS=1000,10000 are other sizes; QUICK=1 is small, and shows only that all answer alike'
 	@echo 'make install     copies program, documents, examples and client below PREFIX=$(PREFIX)'
 	@echo 'make dist        the same as one archive, out/weltiyo.tar.gz'
 	@echo 'make clean       removes what was built, the kept proofs too'
@@ -50,7 +52,8 @@ soak:
 	@$(PYTHON) scripts/soak.py --seconds $(SECONDS) --clients $(CLIENTS)
 
 bench:
-	@$(PYTHON) scripts/bench.py --rows $(ROWS)
+	@$(if $(QUICK),$(PYTHON) -m unittest discover -s bench/tests)
+	@$(PYTHON) bench/run.py $(if $(ROWS),--rows $(ROWS)) $(if $(QUICK),--quick) $(ARGS)
 
 install: build
 	@install -d '$(DESTDIR)$(PREFIX)/bin' '$(SHARE)/docs' '$(SHARE)/examples' '$(SHARE)/clients/python/mi_client'

@@ -2,14 +2,15 @@
 --     AllOf      each node of a list is so
 --     IsSame      a node has the same link and key in both pools
 --     chained_elsewhere      for a pool after `take`, `give` or `swap_value`, or after a call on another structure
+--     chained_taken      for a pool with one more node
 --     chained_swapped      for a pool after a value was exchanged for one of an equal key
 use Rattle.std.proofs.Common.{◌≡◌, ℕ, ◌+◌, ◌<◌, ◌%◌, ◌==◌, Bool, true, false, not, cond, option_map, List, [], ◌∷◌, ◌++◌, Option, Some, None, vec_len, refl, sym, ap, ◌∙◌, subst, arith}
 use Rattle.std.specs.List.{filter}
-use Rattle.mi_node.specs.Pool.{Pooled, value_of, link_of, with_value, IsHeld}
+use Rattle.mi_node.specs.Pool.{Pooled, ref_of, value_of, link_of, no_link, taken, with_value, IsHeld}
 use Rattle.mi_node.specs.Neighbours.{AreHeld, IsLinked}
 use Rattle.mi_node.specs.declared.link.Link.{Link}
 use Rattle.mi_node.specs.Refs.{Ref, last_of}
-use Rattle.mi_node.proofs.Callers.{held_has, same_name, value-with_value, value_there, ref-with_value, link-with_value, slots-with_value}
+use Rattle.mi_node.proofs.Callers.{held_has, held-taken, apart_of_free, link-taken, value-taken, slots-taken, same_name, value-with_value, value_there, ref-with_value, link-with_value, slots-with_value}
 use Rattle.mi_value.specs.declared.bound.Probe.{Probe}
 use Rattle.mi_chain.specs.Keying.{Keying, IsLawful, same_nodes, hash_node, has_key, stamp_at}
 use Rattle.mi_chain.specs.Groups.{members, first_in, others, has_none, key_count, IsChained, IsGrouped}
@@ -205,3 +206,24 @@ chained_swapped k w c m rs x old new h was one_key =
       chained_elsewhere c k w m n rs (slots-with_value m x.name new) all h,
       λ p. filter_on (IsSame k m n c.slot) (has_key k n p) (has_key k m p) (probe_agrees k w m x old new was one_key c.slot p) rs all,
     )
+
+module _ {T : Type 0} (k : Keying T) (w : IsLawful k) (m : Pooled T) (r : Ref) (v : T) (free : ref_of m r.name ≡ None) (s : ℕ) where
+  same_taken : (q : Ref) → IsHeld m q → IsSame k m (taken m r v) s q
+  same_taken q h = let other : (r.name == q.name) ≡ false = apart_of_free m q r h free in let had = held_has m q h in record {
+    held = held-taken m q r v h free;
+    link = link-taken m r v q.name s ∙ ap (λ b. cond b no_link (link_of m q.name s)) other;
+    old = had.0;
+    new = had.0;
+    was = had.1;
+    is = value-taken m r v q.name ∙ ap (λ b. cond b (Some v) (value_of m q.name)) other ∙ had.1;
+    one_key = w.reflexive had.0;
+  }
+
+  all_taken : (rs : List Ref) → AreHeld m rs → AllOf (IsSame k m (taken m r v) s) rs
+  all_taken [] h = tt
+  all_taken (q ∷ rs) h = (same_taken q h.0, all_taken rs h.1)
+
+pub chained_taken : {T H : Type 0} (c : Chains H) (k : Keying T) → IsLawful k → (m : Pooled T) (r : Ref) (v : T) (rs : List Ref) → ref_of m r.name ≡ None
+    → AreChained c k m rs → AreChained c k (taken m r v) rs
+chained_taken c k w m r v rs free h =
+    chained_elsewhere c k w m (taken m r v) rs (slots-taken m r v) (all_taken k w m r v free c.slot rs h.buckets.held) h

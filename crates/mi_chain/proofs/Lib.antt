@@ -5,6 +5,7 @@ pub mod Counts
 pub mod Elsewhere
 pub mod Joins
 pub mod Moving
+pub mod Sevens
 pub mod Stands
 pub mod Threes
 pub mod Walks

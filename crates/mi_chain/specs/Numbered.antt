@@ -1,5 +1,5 @@
 -- Keys for tests: a value is a number, which is its key, and numbers that differ in their sign alone have one hash.
-use Rattle.std.proofs.Common.{◌≡◌, ℕ, ℤ, Bool, true, false, List, [], ◌∷◌, ◌++◌, Option, Some, None, sym, ap, ◌∙◌}
+use Rattle.std.proofs.Common.{◌≡◌, ℕ, ℤ, Bool, true, false, ◌<◌, List, [], ◌∷◌, ◌++◌, length, Option, Some, None, sym, ap, ◌∙◌}
 use Rattle.std.specs.Prelude.{unsigned_abs}
 use Rattle.std.specs.Ordering.{int_eq}
 use Rattle.std.proofs.lemmas.Cmp.{int_eq_equiv}
@@ -8,8 +8,12 @@ use Rattle.mi_value.specs.declared.value.Value.{Value}
 use Rattle.mi_value.specs.declared.value.Value.TheVariants.{Int, Text, Flag}
 use Rattle.mi_value.specs.declared.bound.Probe.{Probe}
 use Rattle.mi_value.specs.declared.bound.Probe.TheVariants.{Key, Of}
+use Rattle.mi_node.specs.Pool.{Pooled, ref_of, value_of, link_of}
 use Rattle.mi_node.specs.Refs.{Ref}
-use Rattle.mi_chain.specs.Keying.{Keying, IsLawful}
+use Rattle.mi_node.specs.declared.link.Link.{Link}
+use Rattle.mi_chain.specs.Keying.{Keying, IsLawful, stamp_at}
+use Rattle.mi_chain.specs.Chained.{AreChained, FitsBetween}
+use Rattle.mi_chain.specs.declared.chains.Chains.{Chains}
 
 -- the number that a key begins with
 abbrev pub number_in : List Value → Option ℤ
@@ -43,6 +47,30 @@ number_keying = record {
 abbrev pub IsAmong : Option Ref → List Ref → Type 0
 IsAmong None rs = Unit {0}
 IsAmong (Some r) rs = (xs : List Ref) × (ys : List Ref) × (rs ≡ xs ++ r ∷ ys)
+
+-- each of the nodes has a stamp below n
+abbrev pub AreBelow : (Ref → ℕ) → ℕ → List Ref → Type 0
+AreBelow stamp n [] = Unit {0}
+AreBelow stamp n (r ∷ rs) = (stamp r < n) × AreBelow stamp n rs
+
+-- n nodes, with stamps below n
+pub record AreNumbered {H : Type 0} (c : Chains H) (m : Pooled ℤ) (rs : List Ref) (n : ℕ) : Type 0 where
+  pub chained : AreChained c number_keying m rs
+  pub below : AreBelow (stamp_at m c.slot) n rs
+  pub count : length rs ≡ n
+
+-- of the nodes rs this one has left with this link, or none has
+abbrev pub IsPulled : {H : Type 0} → Chains H → Pooled ℤ → List Ref → Option (Ref × Link) → Type 0
+IsPulled c m rs None = AreChained c number_keying m rs
+IsPulled c m rs (Some x) =
+    (xs : List Ref) × (ys : List Ref) × (rs ≡ xs ++ x.0 ∷ ys) × AreChained c number_keying m (xs ++ ys)
+    × FitsBetween number_keying m c.slot x.0 x.1 xs ys × (x.1 ≡ link_of m x.0.name c.slot)
+
+-- the same references, values and tags of a slot
+pub record AreSeenAlike (m n : Pooled ℤ) (s : ℕ) : Type 0 where
+  pub refs : (q : ℕ) → ref_of n q ≡ ref_of m q
+  pub values : (q : ℕ) → value_of n q ≡ value_of m q
+  pub tags : (q : ℕ) → (link_of n q s).tag ≡ (link_of m q s).tag
 
 number_agrees : (a b : ℤ) (o : Option ℤ) → int_eq a b ≡ true → is_number a o ≡ true → is_number b o ≡ true
 number_agrees a b None e h = h

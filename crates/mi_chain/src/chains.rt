@@ -102,8 +102,8 @@ impl<H> Chains<H> {
         }
     }
 
-    /// The node before this one among those of its key.
-    fn prev_of<T>(&self, p: &Pool<T>, node: NodeRef) -> Option<NodeRef>
+    /// The node before this one among those of its key. Reads two links and no value.
+    pub fn prev_of<T>(&self, p: &Pool<T>, node: NodeRef) -> Option<NodeRef>
     where
         H: KeyHash<T>,
         requires { (xs : Seq Ref) × (ys : Seq Ref) × AreChained self.now (H.keying self.now.keys) p.now (xs ++ node ∷ ys) }
@@ -116,6 +116,16 @@ impl<H> Chains<H> {
         } else {
             None
         }
+    }
+
+    /// The hash of the node's key, which its tag has while it stands in a list. Reads the value.
+    pub fn hash_of<T>(&self, p: &Pool<T>, node: NodeRef) -> u64
+    where
+        H: KeyHash<T>,
+        requires { IsHeld p.now node }
+        ensures { result ≡ hash_node (H.keying self.now.keys) p.now node }
+    {
+        self.keys.hash(p.value(node))
     }
 
     /// Puts the node into the list of its key, by this stamp, which its link then has with its hash as the tag; the

@@ -13,7 +13,4 @@ pub mod FitLaws
 pub mod RunLaws
 pub mod Opening
 pub mod LawProofs
-pub mod TagLemmas
-pub mod KeyLemmas
-pub mod OrderLemmas
 pub mod ViewOfData

@@ -1,10 +1,10 @@
 -- What a sorted or hashed index of data shows: the live ids, in the one order of keys and then stamps.
-use Rattle.std.proofs.Common.{◌≡◌, ◌≢◌, ℕ, ◌+◌, ◌<◌, zero, suc, true, false, List, [], ◌∷◌, length, get_or, refl, ap, sym, ◌∙◌, subst, arith}
-use Rattle.std.specs.Prelude.{pos}
+use Rattle.std.proofs.Common.{◌≡◌, ◌≢◌, ℕ, ◌+◌, ◌<◌, zero, suc, true, false, List, [], ◌∷◌, length, get_or, cond, refl, ap, sym, ◌∙◌, subst, arith}
+use Rattle.std.specs.Prelude.{pos, nat_lt}
 use Rattle.std.specs.List.{AllByRecursion}
 use Rattle.std.specs.Ordering.{is_lt, int_cmp, nat_cmp, on, ordering_then, ordering_reverse}
 use Rattle.std.specs.Cmp.{IsTotalOrder, on_total, then_total}
-use Rattle.std.proofs.lemmas.Bool.{false≢true}
+use Rattle.std.proofs.lemmas.Bool.{false≢true, lt-ltb}
 use Rattle.std.proofs.lemmas.Cmp.{nat_cmp_total, ranked}
 use Rattle.std.proofs.lemmas.Map.Lookups.{exact_signed}
 use Rattle.std.specs.declared.cmp.Ordering.{Ordering}
@@ -29,7 +29,9 @@ use Rattle.mi_container.specs.Fits.{IsThere}
 use Rattle.mi_container.specs.Laws.{Rise, stands_before, SortedIsShown, HashedIsShown, IdsAreShown}
 use Rattle.mi_container.proofs.Sequences.{Once}
 use Rattle.mi_container.proofs.Facts.{rows_climb, each_there, each_once, stamp_there}
-use Rattle.mi_container.proofs.OrderLemmas.{ids_below}
+
+ids_below : (m n : ℕ) → m < n → int_cmp (pos m) (pos n) ≡ Less
+ids_below m n l = ap (λ b. cond b Less (cond (nat_lt n m) Greater Equal)) (lt-ltb m n l)
 
 -- Lists that rise
 

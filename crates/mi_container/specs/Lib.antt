@@ -5,9 +5,6 @@ pub mod Fits
 pub mod Run
 pub mod Laws
 pub mod Examples
-pub mod Tags
-pub mod Orders
-pub mod OrderLaws
 pub mod Makes
 pub mod Asked
 pub mod Backs

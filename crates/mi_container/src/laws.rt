@@ -1,10 +1,8 @@
-//! The laws of undo over a container's plain data, and those of tags: each is the contract of a function that does nothing.
+//! The laws of undo over a container's plain data: each is the contract of a function that does nothing.
 //! They say nothing new of tables: the table of changed data is the definitions' changed table.
 ghost use Rattle.mi_container.specs.Laws.{OpensEmpty, ChangeIsTables, ChangeIsUndone, RunsUnwind, ChangeFits};
 ghost use Rattle.mi_container.specs.Laws.{NewestIsBack, OldestIsSettled, SettledLater, KeptByOne};
 ghost use Rattle.mi_container.specs.Laws.{SortedIsShown, HashedIsShown, IdsAreShown};
-ghost use Rattle.mi_container.specs.Orders.{OrdersAreLawful, KeyingsAreLawful};
-ghost use Rattle.mi_container.specs.Tags.{TagsOrderKeys, ExactTagsAreKeys, TagsOrderProbes, ExactTagsAreProbes};
 
 /// A container opens with the data of an empty table.
 pub fn opens_empty()
@@ -49,37 +47,6 @@ pub fn settled_later()
 /// Each node that is kept is kept by one inverse of a fitting list, and no later one names its row.
 pub fn kept_by_one()
     ensures { KeptByOne }
-{}
-
-/// Of two records the one with the smaller tag is less, by every key that begins with the tag's part.
-pub fn tags_order_keys()
-    ensures { TagsOrderKeys }
-{}
-
-/// Two records of one exact tag are equal by a key of its part alone.
-pub fn exact_tags_are_keys()
-    ensures { ExactTagsAreKeys }
-{}
-
-/// A key is greater than the records of a smaller tag than its own, and less than those of a greater one.
-pub fn tags_order_probes()
-    ensures { TagsOrderProbes }
-{}
-
-/// A value is the key of the records of its own tag, where that is exact.
-pub fn exact_tags_are_probes()
-    ensures { ExactTagsAreProbes }
-{}
-
-/// The orders of sorted indexes are total, their tags stand in the order of the keys, and what a probe answers rises
-/// along them.
-pub fn orders_are_lawful()
-    ensures { OrdersAreLawful }
-{}
-
-/// To have one key in a hashed index is an equivalence, and equal keys and their probes have one hash.
-pub fn keyings_are_lawful()
-    ensures { KeyingsAreLawful }
 {}
 
 /// The live ids, by their keys and then by their stamps, are what a sorted index with keys shows.

@@ -1,18 +1,12 @@
 //! What a container of records under several indexes is to its callers, over plain data: its calls, as a trait; its rows,
-//! its changes, the inverse of each, and which inverses can be taken back; and how its indexes see records: orders, tags
-//! and hashes. It knows no sessions. No container is here yet that meets the trait.
+//! its changes, the inverse of each, and which inverses can be taken back.
+//! It knows no sessions. No container is here yet that meets the trait.
 #![tactic(auto)]
 
 mod container;
 pub mod examples;
 mod inverse;
-mod key;
 pub mod laws;
-mod orders;
-mod stored;
-pub mod tags;
 
 pub use container::Container;
 pub use inverse::{Inverse, MAX_PLACES, OldPlace, OldPlaces, RowRef, Undo};
-pub use orders::{ByHash, ByKey};
-pub use stored::Stored;

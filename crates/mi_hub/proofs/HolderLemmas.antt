@@ -5,7 +5,7 @@ use Rattle.mi_value.specs.declared.refusal.Refusal.TheVariants.{Busy}
 use Rattle.mi_protocol.specs.Lines.{command_line}
 use Rattle.mi_protocol.specs.Commands.{keeps_out}
 use Rattle.mi_protocol.specs.Binding.{bound_command}
-use Rattle.mi_protocol.specs.declared.request.Request.{Request}
+use Rattle.mi_request.specs.declared.request.Request.{Request}
 use Rattle.mi_protocol.specs.declared.binding.Command.{Command}
 use Rattle.mi_protocol.specs.declared.binding.Command.TheVariants as command
 use Rattle.mi_hub.specs.Lines.{Asked, Rest, text, too_long}

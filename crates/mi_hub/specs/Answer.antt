@@ -6,7 +6,7 @@ use Rattle.mi_protocol.specs.Lines.{command_line}
 use Rattle.mi_protocol.specs.Commands.{keeps_out}
 use Rattle.mi_protocol.specs.Binding.{bound_command}
 use Rattle.mi_protocol.specs.Replies.{Said, refused, reply_text}
-use Rattle.mi_protocol.specs.declared.request.Request.{Request}
+use Rattle.mi_request.specs.declared.request.Request.{Request}
 use Rattle.mi_protocol.specs.declared.binding.Command.{Command}
 use Rattle.mi_hub.specs.Lines.{Asked, text, too_long}
 use Rattle.mi_hub.specs.Holder.{Held, is_busy}

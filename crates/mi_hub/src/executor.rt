@@ -3,7 +3,8 @@
 ghost use Rattle.std.specs.Prelude.{◌≡◌, ◌≢◌, ◌≤◌, true, None, Ok, option_map};
 ghost use Rattle.mi_model.specs.Database.{depth, undone_times};
 ghost use Rattle.mi_protocol.specs.Binding.{FitsCatalog};
-ghost use Rattle.mi_protocol.specs.Replies.{reply_text, refused, said, is_short, IsSaidOf, NamesNoIndex};
+ghost use Rattle.mi_request.specs.Answers.{NamesNoIndex};
+ghost use Rattle.mi_protocol.specs.Replies.{reply_text, refused, said, is_short, IsSaidOf};
 ghost use Rattle.mi_protocol.specs.Text.{text_bytes};
 
 use crate::holder::{Holder, held_by, is_busy, without_holder};

@@ -28,18 +28,18 @@ use Rattle.mi_catalog.specs.Shape.{Shape, CatalogShape, schema_at, index_at, fin
 use Rattle.mi_catalog.specs.Fits.{fits_type, fits_record, is_int, fits_edit, fits_key, fits_lower, fits_upper}
 use Rattle.mi_catalog.specs.Rules.{is_catalog}
 use Rattle.mi_catalog.proofs.KindLaws.{sequenced, ranked}
-use Rattle.mi_protocol.specs.Answers.{IsAnswer}
+use Rattle.mi_request.specs.Answers.{IsAnswer}
 use Rattle.mi_protocol.specs.Edits.{addition, edit_of, with_edit, edits_from, bound_edits}
-use Rattle.mi_protocol.specs.Json.{has_only, option_map₂}
+use Rattle.mi_request.specs.Json.{has_only, option_map₂}
 use Rattle.mi_protocol.specs.Keys.{plain_values, if_key, bound_key, bound_lower, bound_upper}
 use Rattle.mi_catalog.specs.Kinds.{has_keys, is_sequenced, is_sorted, is_ranked, is_hashed}
 use Rattle.mi_protocol.specs.Rows.{short_text, fitting, values_of, bound_row}
 use Rattle.mi_protocol.specs.Binding.{and_then, table_number, of_kind, index_number, bound_place, bound_insert, bound_replace, bound_modify, named_key, bound_ends, bound_range, bound_relocate, bound_command, FitsCatalog}
-use Rattle.mi_protocol.specs.declared.request.End.{End}
-use Rattle.mi_protocol.specs.declared.request.End.TheVariants.{Open, With, Without}
-use Rattle.mi_protocol.specs.declared.request.Place.{Place}
-use Rattle.mi_protocol.specs.declared.request.Request.{Request}
-use Rattle.mi_protocol.specs.declared.request.Request.TheVariants as request
+use Rattle.mi_request.specs.declared.request.End.{End}
+use Rattle.mi_request.specs.declared.request.End.TheVariants.{Open, With, Without}
+use Rattle.mi_request.specs.declared.request.Place.{Place}
+use Rattle.mi_request.specs.declared.request.Request.{Request}
+use Rattle.mi_request.specs.declared.request.Request.TheVariants as request
 use Rattle.mi_protocol.specs.declared.binding.Command.{Command}
 use Rattle.mi_protocol.proofs.EditOrderLaws.{lines_edit_columns_once}
 

@@ -8,8 +8,8 @@ use Rattle.mi_value.specs.declared.edit.Edit.{Edit}
 use Rattle.mi_catalog.specs.declared.index.Column.{Column}
 use Rattle.mi_catalog.specs.Rules.{are_distinct}
 use Rattle.mi_protocol.specs.Edits.{edit_of, with_edit, edits_from}
-use Rattle.mi_protocol.specs.Json.{without, option_map₂}
-use Rattle.mi_protocol.proofs.ObjectLemmas.{get_member-without}
+use Rattle.mi_request.specs.Json.{without, option_map₂}
+use Rattle.mi_request.proofs.ObjectLemmas.{get_member-without}
 use Rattle.mi_protocol.proofs.RowLemmas.{not_or, and_true, bytes_eq-sym}
 
 -- the edits of columns whose members are taken out

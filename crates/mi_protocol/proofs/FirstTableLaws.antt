@@ -6,7 +6,7 @@ use Rattle.mi_value.specs.declared.refusal.Refusal.{Refusal}
 use Rattle.mi_value.specs.declared.refusal.Refusal.TheVariants.{Row}
 use Rattle.mi_catalog.specs.Kinds.{is_sequenced, is_sorted, is_ranked}
 use Rattle.mi_catalog.specs.Shape.{schema_at}
-use Rattle.mi_protocol.specs.declared.request.Request.TheVariants as request
+use Rattle.mi_request.specs.declared.request.Request.TheVariants as request
 use Rattle.mi_protocol.specs.declared.binding.Command.{Command}
 use Rattle.mi_protocol.specs.Rows.{bound_row}
 use Rattle.mi_protocol.specs.Edits.{bound_edits}

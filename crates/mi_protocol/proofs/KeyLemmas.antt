@@ -3,7 +3,7 @@ use Rattle.std.proofs.Common.{◌≡◌, List, [], ◌∷◌, ◌++◌, Option, 
 use Rattle.serde_json.specs.View.{view, items_view}
 use Rattle.serde_json.specs.declared.value.Value.{Value as Json}
 use Rattle.mi_value.specs.declared.value.Value.{Value}
-use Rattle.mi_protocol.specs.Json.{option_map₂}
+use Rattle.mi_request.specs.Json.{option_map₂}
 use Rattle.mi_protocol.specs.Keys.{plain_value, plain_values}
 
 abbrev pub read : List Json → Option (List Value)

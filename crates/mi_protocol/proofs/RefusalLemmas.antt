@@ -3,7 +3,8 @@ use Rattle.std.proofs.Common.{ℕ}
 use Rattle.mi_value.specs.declared.refusal.Refusal.{Refusal}
 use Rattle.mi_value.specs.declared.refusal.Refusal.TheVariants.{Unique, Lost}
 use Rattle.mi_catalog.specs.Shape.{CatalogShape}
-use Rattle.mi_protocol.specs.Replies.{NamesNoIndex, IsRefusalOf}
+use Rattle.mi_request.specs.Answers.{NamesNoIndex}
+use Rattle.mi_protocol.specs.Replies.{IsRefusalOf}
 
 -- a refusal that is no conflict, over any catalog and table
 pub no_index-refusal : (c : CatalogShape) (n : ℕ) (e : Refusal) → NamesNoIndex e → IsRefusalOf c n e

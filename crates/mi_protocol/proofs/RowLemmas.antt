@@ -13,8 +13,8 @@ use Rattle.mi_value.specs.declared.value.Value.{Value}
 use Rattle.mi_value.specs.declared.value.Value.TheVariants as value
 use Rattle.mi_catalog.specs.declared.index.Column.{Column}
 use Rattle.mi_catalog.specs.Rules.{are_distinct}
-use Rattle.mi_protocol.proofs.ObjectLemmas.{get_member-without}
-use Rattle.mi_protocol.specs.Json.{without, option_map₂}
+use Rattle.mi_request.proofs.ObjectLemmas.{get_member-without}
+use Rattle.mi_request.specs.Json.{without, option_map₂}
 use Rattle.mi_protocol.specs.Rows.{fitting, values_of, value_data, with_values, row_members, row_data, rows_items}
 
 -- ---- from an object to a record

@@ -1,8 +1,8 @@
 -- Lines that name no table: they are over the first, as if the catalog had no other.
 use Rattle.std.specs.Prelude.{◌≡◌, Bool, false, [], ◌∷◌, IfOk, is_some}
 use Rattle.mi_catalog.specs.Shape.{CatalogShape, schema_at}
-use Rattle.mi_protocol.specs.declared.request.Request.{Request}
-use Rattle.mi_protocol.specs.declared.request.Request.TheVariants as request
+use Rattle.mi_request.specs.declared.request.Request.{Request}
+use Rattle.mi_request.specs.declared.request.Request.TheVariants as request
 use Rattle.mi_protocol.specs.declared.binding.Command.{Command}
 use Rattle.mi_protocol.specs.declared.binding.Command.TheVariants as command
 use Rattle.mi_protocol.specs.Binding.{bound_command}

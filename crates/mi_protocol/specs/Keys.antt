@@ -10,9 +10,9 @@ use Rattle.mi_value.specs.declared.bound.Upper.{Upper}
 use Rattle.mi_value.specs.declared.bound.Upper.TheVariants as upper
 use Rattle.mi_catalog.specs.Shape.{Shape, index_at}
 use Rattle.mi_catalog.specs.Fits.{fits_key}
-use Rattle.mi_protocol.specs.Json.{option_map₂}
-use Rattle.mi_protocol.specs.declared.request.End.{End}
-use Rattle.mi_protocol.specs.declared.request.End.TheVariants.{Open, With, Without}
+use Rattle.mi_request.specs.Json.{option_map₂}
+use Rattle.mi_request.specs.declared.request.End.{End}
+use Rattle.mi_request.specs.declared.request.End.TheVariants.{Open, With, Without}
 
 -- a whole number, a text, or true or false
 abbrev pub plain_value : Data → Option Value

@@ -90,12 +90,6 @@ reply_text c (rows n records more) =
 reply_text c (refused_modify n e) = modify_refusal_text c n e
 reply_text c (refused n e) = refusal_text c n e
 
--- a refusal other than a conflict
-abbrev pub NamesNoIndex : Refusal → Type 0
-NamesNoIndex (Unique x id) = ⊥
-NamesNoIndex (Lost x id) = ⊥
-NamesNoIndex e = Unit {0}
-
 -- a conflict's table and index are there
 abbrev pub IsRefusalOf : CatalogShape → ℕ → Refusal → Type 0
 IsRefusalOf c n (Unique x id) = (n < length c.tables) × (x < length (schema_at c n).indexes)

@@ -9,7 +9,7 @@ use Rattle.mi_value.specs.declared.value.ColumnType.TheVariants as column
 use Rattle.mi_value.specs.declared.value.Value.{Value}
 use Rattle.mi_value.specs.declared.value.Value.TheVariants as value
 use Rattle.mi_catalog.specs.declared.index.Column.{Column}
-use Rattle.mi_protocol.specs.Json.{has_only, option_map₂}
+use Rattle.mi_request.specs.Json.{has_only, option_map₂}
 
 -- a text value, unless it is too long
 abbrev pub short_text : List ℕ → Option Value

@@ -1,20 +1,18 @@
 //! From a request to a command over a catalog: names of tables and indexes become numbers, a row becomes a record.
 ghost use Rattle.std.specs.Prelude.{◌≡◌, ◌<◌, length, Ok, IfOk, IfErr};
-ghost use Rattle.mi_protocol.specs.Answers.{IsAnswer};
+ghost use Rattle.mi_request.specs.Answers.{IsAnswer, NamesNoIndex};
 ghost use Rattle.mi_protocol.specs.Binding as binding;
 ghost use Rattle.mi_protocol.specs.Binding.{bound_command, bound_insert, FitsCatalog};
-ghost use Rattle.mi_protocol.specs.Replies.{NamesNoIndex};
-ghost use Rattle.mi_protocol.specs.declared.request.Request.TheVariants as request;
+ghost use Rattle.mi_request.specs.declared.request.Request.TheVariants as request;
 
 use crate::edits::{Edits, bind_edits};
 use crate::indexes::{
     bind_place, key_or_prefix, ranked_index, ranked_key, sequenced_index, sorted_index, whole_key,
 };
 use crate::keys::bind_bounds;
-use crate::object::Object;
-use crate::request::{Place, Request};
 use crate::row::bind_row;
 use mi_catalog::{Catalog, Schema};
+use mi_request::{Object, Place, Request};
 use mi_value::{Key, Lower, Record, Refusal, Text, Upper};
 use std::alloc::Global;
 

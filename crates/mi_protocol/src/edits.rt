@@ -3,13 +3,14 @@ ghost use Rattle.std.specs.Prelude.{◌≡◌, map, option_map, IsTrue};
 ghost use Rattle.std.specs.Option.{ok_or};
 ghost use Rattle.serde_json.specs.View.{view};
 ghost use Rattle.mi_catalog.specs.Rules.{are_distinct};
-ghost use Rattle.mi_protocol.specs.Answers.{IsAnswer};
+ghost use Rattle.mi_request.specs.Answers.{IsAnswer};
 ghost use Rattle.mi_protocol.specs.Edits as edits;
 ghost use Rattle.mi_protocol.specs.Edits.{edits_from, bound_edits};
 
-use crate::object::Object;
+use crate::columns::has_only_columns;
 use crate::row::fit;
 use mi_catalog::{Column, Schema};
+use mi_request::Object;
 use mi_value::{ColumnType, Edit, Refusal};
 use serde_json::Value as Json;
 use std::alloc::Global;
@@ -101,7 +102,7 @@ pub(crate) fn bind_edits(
 {
     schema.keeps_rules();
     let columns = schema.columns();
-    if !set.has_only_columns(columns) || !add.has_only_columns(columns) {
+    if !has_only_columns(&set, columns) || !has_only_columns(&add, columns) {
         return Err(Refusal::Row);
     }
     take_edits(alloc, set, add, columns)

@@ -2,15 +2,14 @@
 ghost use Rattle.std.specs.Prelude.{◌≡◌, ◌<◌, length, IfOk};
 ghost use Rattle.std.specs.Option.{ok_or};
 ghost use Rattle.mi_catalog.specs.Shape.{find_index};
-ghost use Rattle.mi_protocol.specs.Answers.{IsAnswer};
+ghost use Rattle.mi_request.specs.Answers.{IsAnswer};
 ghost use Rattle.mi_protocol.specs.Binding as binding;
 ghost use Rattle.mi_protocol.specs.Binding.{index_number, bound_place};
 ghost use Rattle.mi_catalog.specs.Kinds as kinds;
 
-use crate::array::Array;
 use crate::keys::bind_key;
-use crate::request::Place;
 use mi_catalog::Schema;
+use mi_request::{Array, Place};
 use mi_value::{Key, Refusal, Text};
 use std::alloc::Global;
 

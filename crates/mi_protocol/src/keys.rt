@@ -2,14 +2,13 @@
 ghost use Rattle.std.specs.Prelude.{◌≡◌, ◌<◌, length, IfOk};
 ghost use Rattle.std.specs.Option.{ok_or};
 ghost use Rattle.serde_json.specs.View.{view, items_view};
-ghost use Rattle.mi_protocol.specs.Answers.{IsAnswer};
+ghost use Rattle.mi_request.specs.Answers.{IsAnswer};
 ghost use Rattle.mi_protocol.specs.Binding.{bound_ends};
 ghost use Rattle.mi_protocol.specs.Keys as keys;
 ghost use Rattle.mi_protocol.specs.Keys.{plain_values, bound_key, bound_lower, bound_upper};
 
-use crate::array::Array;
-use crate::request::End;
 use mi_catalog::Schema;
+use mi_request::{Array, End};
 use mi_value::{Key, Lower, Refusal, Text, Upper, Value};
 use serde_json::Value as Json;
 use std::alloc::{AllocError, Global};

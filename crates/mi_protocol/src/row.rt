@@ -4,13 +4,14 @@ ghost use Rattle.std.specs.Option.{ok_or};
 ghost use Rattle.serde_json.specs.Data.{array, object, boolean, member, no_members};
 ghost use Rattle.serde_json.specs.View.{view, members_view};
 ghost use Rattle.serde_json.specs.Written.{compact_text};
-ghost use Rattle.mi_protocol.specs.Answers.{IsAnswer};
+ghost use Rattle.mi_request.specs.Answers.{IsAnswer};
 ghost use Rattle.mi_protocol.specs.Rows as rows;
 ghost use Rattle.mi_protocol.specs.Rows.{fitting, values_of, bound_row, value_data, row_data, rows_items};
 ghost use Rattle.mi_catalog.specs.Rules.{are_distinct};
 
-use crate::object::Object;
+use crate::columns::has_only_columns;
 use mi_catalog::{Column, Schema};
+use mi_request::Object;
 use mi_value::limits::MAX_TEXT;
 use mi_value::{ColumnType, Record, Refusal, Text, Value};
 use serde_json::{Map, Value as Json};
@@ -83,7 +84,7 @@ pub(crate) fn bind_row(alloc: Global, row: Object, schema: &Schema) -> Result<Re
 {
     schema.keeps_rules();
     let columns = schema.columns();
-    if !row.has_only_columns(columns) {
+    if !has_only_columns(&row, columns) {
         return Err(Refusal::Row);
     }
     take_values(alloc, row, columns)

@@ -86,4 +86,5 @@ fn two_of_one_key(rt: HostRuntime) {
     leave_and_return(&rt, rt.alloc(), &mut chains, &mut p, one, two);
 }
 
+mod rooms;
 mod three;

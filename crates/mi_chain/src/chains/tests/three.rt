@@ -10,7 +10,7 @@ use super::*;
 
 /// Numbers by themselves. Those that differ in their sign alone have one hash.
 #[derive(Drop)]
-struct ByNumber;
+pub(super) struct ByNumber;
 
 impl KeyHash<i64> for ByNumber {
     ghost use Rattle.mi_chain.specs.Numbered.{number_keying, numbers_lawful};
@@ -43,7 +43,11 @@ impl KeyHash<i64> for ByNumber {
 }
 
 /// The node after this one among those of its key, if there is one.
-fn next_if(chains: &Chains<ByNumber>, p: &Pool<i64>, node: Option<NodeRef>) -> Option<NodeRef>
+pub(super) fn next_if(
+    chains: &Chains<ByNumber>,
+    p: &Pool<i64>,
+    node: Option<NodeRef>,
+) -> Option<NodeRef>
     requires { (rs : Seq Ref) × AreChained chains.now number_keying p.now rs × IsAmong node rs }
     ensures { (rs : Seq Ref) → AreChained chains.now number_keying p.now rs → IsAmong node rs → IsAmong result rs }
 {
@@ -72,7 +76,7 @@ fn assert_list(
     }
 }
 
-fn name_of(node: Option<NodeRef>) -> Option<u32> {
+pub(super) fn name_of(node: Option<NodeRef>) -> Option<u32> {
     match node {
         None => None,
         Some(node) => Some(node.name()),

@@ -1,0 +1,112 @@
+"""That the workloads can be compared at all, and the arithmetic of the report."""
+import json
+import os
+import sys
+import unittest
+
+FOLDER = os.path.dirname(os.path.dirname(os.path.realpath(__file__)))
+sys.path[:0] = [FOLDER, f"{os.path.dirname(FOLDER)}/scripts"]
+
+import report  # noqa: E402
+import run  # noqa: E402
+import systems  # noqa: E402
+import workloads  # noqa: E402
+from fuzz import ACCOUNTS  # noqa: E402
+from reference import Reference  # noqa: E402
+
+ROWS = 60
+
+
+class Workloads(unittest.TestCase):
+    def setUp(self):
+        self.server = Reference([ACCOUNTS])
+        self.ask(workloads.records(ROWS))
+
+    def ask(self, ops):
+        replies = [json.loads(self.server.feed(1, workloads.line(it).encode())) for it in ops]
+        for op, reply in zip(ops, replies):
+            self.assertIs(reply["ok"], True, (op, reply))
+        return replies
+
+    def shown(self):
+        """All that can be seen of the table: each order, and the next id."""
+        table = self.server.tables[0]
+        return [[(id, table.rows[id]) for id in table.view(x)] for x in range(6)], table.next, self.server.revision
+
+    def test_each_is_accepted_and_leaves_the_table_as_it_was(self):
+        before = self.shown()
+        seen = ["insert"]
+        for work in workloads.all_of(ROWS, True):
+            self.ask([("start",)] if work.within else [])
+            for unit in work.units:
+                self.ask(unit)
+                if not work.within:
+                    self.assertEqual(self.shown(), before, work.name)
+            self.ask([("undo",)] if work.within else [])
+            self.assertEqual(self.shown(), before, work.name)
+            seen.append(work.name)
+        self.assertEqual(seen, workloads.NAMES)
+
+    def test_the_mix_has_each_kind_of_change(self):
+        mix = next(it for it in workloads.all_of(10_000) if it.name == "mix")
+        kinds = {op[0] for unit in mix.units for op in unit}
+        self.assertEqual(kinds, {"add", "flag", "replace", "insert", "erase", "relocate"})
+
+    def test_full_workloads_are_as_long_as_their_titles_say(self):
+        units = {it.name: it.units[0] for it in workloads.all_of(10_000)}
+        self.assertEqual([len(units[it]) for it in ("undo", "nested", "squash")], [1002, 3000, 3000])
+        self.assertTrue(all(op[0] == "squash" for op in units["squash"][2000:2999]))
+
+
+class Replies(unittest.TestCase):
+    class Options:
+        quick, rounds, limit = True, 1, 1
+
+    def setUp(self):
+        self.one, self.other = (systems.LineSystem(name, [], 0, "") for name in ("one", "other"))
+        self.table = run.Table(ROWS, [self.one, self.other], self.Options)
+
+    def test_a_front_of_the_replies_agrees(self):
+        self.table.compare(self.one, "get", b"a\nb\n")
+        self.table.compare(self.other, "get", b"a\n")
+        self.table.compare(self.other, "get", b"a\nb\nc\n")
+
+    def test_another_reply_is_found(self):
+        self.table.compare(self.one, "get", b"a\nb\n")
+        with self.assertRaisesRegex(run.Disagree, "(?s)line 1:.*one: b'b'.*other: b'c'"):
+            self.table.compare(self.other, "get", b"a\nc\n")
+
+
+class Redis(unittest.TestCase):
+    def test_commands(self):
+        self.assertEqual(systems.resp("GET", 12), b"*2\r\n$3\r\nGET\r\n$2\r\n12\r\n")
+
+    def test_replies(self):
+        read = b"*2\r\n$1\r\na\r\n$-1\r\n:7\r\n+OK\r\n$0\r\n\r\n"
+        self.assertEqual(systems.all_resp(read), [[b"a", None], 7, b"OK", b""])
+        with self.assertRaisesRegex(systems.Ended, "ERR no"):
+            systems.all_resp(b"-ERR no\r\n")
+
+
+class Report(unittest.TestCase):
+    def test_figures(self):
+        rows = [(1_234_567, "1.23M"), (45_678, "45.7k"), (999, "999"), (0.5, "0.5")]
+        self.assertEqual([report.short(it) for it, _ in rows], [it for _, it in rows])
+        self.assertEqual(report.with_spread([3.0, 1.0, 2.0]), "2 (1 to 3)")
+        self.assertEqual(report.with_spread([]), "-")
+
+    def test_a_ratio_is_of_one_round(self):
+        ours = {"rounds": [{"lines": 10, "seconds": 1, "on_processor": 1}, {"lines": 10, "seconds": 4, "on_processor": 1}]}
+        other = {"rounds": [{"lines": 10, "seconds": 2, "on_processor": 4}, {"lines": 20, "seconds": 4, "on_processor": 4}]}
+        self.assertEqual(report.ratios({"clock": "wall"}, ours, other), [2.0, 0.5])
+        self.assertEqual(report.ratios({"clock": "processor"}, ours, other), [4.0, 2.0])
+
+    def test_axes_are_logarithmic(self):
+        axis = report.Axis([10, 1000], 0, 100)
+        self.assertEqual([axis.at(it) for it in (10, 100, 1000)], [0, 50, 100])
+        self.assertEqual(axis.ticks(), [10, 100, 1000])
+        self.assertEqual(report.Axis([2, 3], 0, 100).ticks(), [1, 10])
+
+
+if __name__ == "__main__":
+    unittest.main()

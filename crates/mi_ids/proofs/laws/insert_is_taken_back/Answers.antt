@@ -1,0 +1,5 @@
+use Rattle.mi_ids.proofs.Callers.{out_of_put}
+use Rattle.mi_ids.proofs.laws.insert_is_taken_back.Goals as goal
+
+pub returns : goal.returns
+returns c m k e out = out_of_put m k e out

@@ -1,0 +1,5 @@
+use Rattle.mi_ids.proofs.Callers.{revived}
+use Rattle.mi_ids.proofs.laws.keep_is_taken_back.Goals as goal
+
+pub returns : goal.returns
+returns c m k e there is = revived m k e there is

@@ -1,0 +1,5 @@
+pub mod KeyLemmas
+pub mod Frames
+pub mod Stays
+pub mod Joining
+pub mod PassLaws

@@ -1,0 +1,23 @@
+-- A node joins a tree at the place of its key and stamp.
+use Rattle.std.proofs.Common.{sym, subst, ◌∙◌, ◌≡◌, List}
+use Rattle.mi_node.specs.Refs.{Ref}
+use Rattle.mi_node.proofs.Callers.{flip}
+use Rattle.mi_tree.specs.Standing.{IsTree, IsNew}
+use Rattle.mi_index.specs.Orders.{stored_order, stored_tag}
+use Rattle.mi_index.specs.declared.orders.ByKey.{ByKey}
+use Rattle.mi_index.proofs.structure.link_tree.Goals as goal
+
+pub insert-requires : goal.insert-requires
+insert-requires c = let q = c.requires in let j = q.can in (q.rs, q.stands, record { held = j.held; out = j.out; differs = j.place; fits = j.few })
+
+pub returns-clause-step : goal.returns-clause-step
+returns-clause-step c rs h j =
+    let t = c.args.tree.now in let n = c.insert.new.p in let e = c.insert.ensures in
+    let w : IsNew c.args.p.now t.slot (stored_order t.order.parts) c.args.node c.args.stamp rs = record { held = j.held; out = j.out; differs = j.place; fits = j.few } in
+    let g = e.tree rs h w in
+    record {
+      us = g.0;
+      done = record { joined = record { xs = g.1.xs; ys = g.1.ys; was = g.1.was; now = g.1.now }; put = tt; stamped = (e.stamp, λ k d. e.tags k (flip k c.args.node.name ∙ d)) };
+      stands = subst (λ (o : ByKey). IsTree c.insert.new.self n (stored_order o.parts) (stored_tag o.column o.parts) g.0) (sym e.order) g.2;
+      keeps = e.keeps rs h w;
+    }

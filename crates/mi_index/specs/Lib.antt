@@ -1,0 +1,12 @@
+pub mod Tags
+pub mod TagLaws
+pub mod Orders
+pub mod OrderLaws
+pub mod HashLaws
+pub mod Standing
+pub mod Places
+pub mod Pass
+pub mod Steps
+pub mod Passes
+pub mod Rekeying
+pub mod Inserting

@@ -1,0 +1,60 @@
+-- How the structure of an index stands in the pool.
+--     slot_in, order_of      the slot of its links, and which values may stand for one another in it
+--     Stands x m rs      it stands in the pool m with the nodes rs: by key and stamp, by stamp, or in an order of its own
+--     IsLike      of one kind, slot and key
+use Rattle.std.specs.Prelude.{◌≡◌, ℕ, ◌<◌, List, [], ◌∷◌}
+use Rattle.std.specs.declared.cmp.Ordering.{Ordering}
+use Rattle.std.specs.declared.cmp.Ordering.TheVariants.{Equal}
+use Rattle.std.specs.Ordering.{on}
+use Rattle.mi_value.specs.Order.{compare_key}
+use Rattle.mi_node.specs.Pool.{Pooled}
+use Rattle.mi_node.specs.Refs.{Ref}
+use Rattle.mi_list.specs.Listed.{slot_of, IsListed}
+use Rattle.mi_tree.specs.Standing.{IsTree}
+use Rattle.mi_chain.specs.Keying.{stamp_at}
+use Rattle.mi_chain.specs.Chained.{AreChained}
+use Rattle.mi_index.specs.Orders.{stored_order, stored_tag, keying_of}
+use Rattle.mi_index.specs.declared.stored.Stored.{Stored}
+use Rattle.mi_index.specs.declared.structure.Structure.{Structure}
+use Rattle.mi_index.specs.declared.structure.Structure.TheVariants.{Ordered, Hashed, Sequenced}
+
+abbrev pub slot_in : Structure → ℕ
+slot_in (Ordered t) = t.slot
+slot_in (Hashed c) = c.slot
+slot_in (Sequenced l) = slot_of l
+
+-- values that compare Equal may stand for one another in the index: they have one key, and in a list all do
+abbrev pub order_of : Structure → Stored → Stored → Ordering
+order_of (Ordered t) = stored_order t.order.parts
+order_of (Hashed c) = on (λ v. v.row) (compare_key c.keys.parts)
+order_of (Sequenced l) = λ x y. Equal
+
+abbrev pub AllAbove : (Ref → ℕ) → ℕ → List Ref → Type 0
+AllAbove f n [] = Unit {0}
+AllAbove f n (r ∷ rs) = (n < f r) × AllAbove f n rs
+
+abbrev pub AllBelow : (Ref → ℕ) → ℕ → List Ref → Type 0
+AllBelow f n [] = Unit {0}
+AllBelow f n (r ∷ rs) = (f r < n) × AllBelow f n rs
+
+-- the stamps rise
+abbrev pub Climb : (Ref → ℕ) → List Ref → Type 0
+Climb f [] = Unit {0}
+Climb f (r ∷ rs) = AllAbove f (f r) rs × Climb f rs
+
+-- the list of a hashed index is that of all its nodes by their stamps, so each key has its nodes in the order of it
+abbrev pub Stands : Structure → Pooled Stored → List Ref → Type 0
+Stands (Ordered t) m rs = IsTree t m (stored_order t.order.parts) (stored_tag t.order.column t.order.parts) rs
+Stands (Hashed c) m rs = AreChained c (keying_of c.keys.parts) m rs × Climb (stamp_at m c.slot) rs
+Stands (Sequenced l) m rs = IsListed l m rs
+
+abbrev pub IsLike : Structure → Structure → Type 0
+IsLike (Ordered t) (Ordered u) = (u.slot ≡ t.slot) × (u.order ≡ t.order)
+IsLike (Ordered t) (Hashed d) = ⊥
+IsLike (Ordered t) (Sequenced k) = ⊥
+IsLike (Hashed c) (Ordered u) = ⊥
+IsLike (Hashed c) (Hashed d) = (d.slot ≡ c.slot) × (d.keys ≡ c.keys)
+IsLike (Hashed c) (Sequenced k) = ⊥
+IsLike (Sequenced l) (Ordered u) = ⊥
+IsLike (Sequenced l) (Hashed d) = ⊥
+IsLike (Sequenced l) (Sequenced k) = slot_of k ≡ slot_of l

@@ -1,0 +1,24 @@
+-- What a step on one structure asks, and what it gives: a node joins it, leaves it, or comes back to it.
+use Rattle.std.specs.Prelude.{ℕ, Option}
+use Rattle.mi_node.specs.Refs.{Ref}
+use Rattle.mi_index.specs.Places.{HasNode, CanJoin, IsJoined, IsLeft, CanReturn, IsBack}
+use Rattle.mi_index.specs.Pass.{Asks, Gives}
+use Rattle.mi_index.specs.declared.moves.Place.{Place}
+
+abbrev pub joining : Ref → ℕ → Option Ref → Asks
+joining r stamp b s x m rs = CanJoin x m r stamp b rs
+
+abbrev pub joined : Ref → ℕ → Option Ref → Gives
+joined r stamp b s x m n rs us = IsJoined x m n r stamp b rs us
+
+abbrev pub leaving : Ref → Asks
+leaving r s x m rs = HasNode r rs
+
+abbrev pub left : Ref → Gives
+left r s x m n rs us = IsLeft x m n r rs us
+
+abbrev pub returning : Ref → Place → Asks
+returning r p s x m rs = CanReturn x m r p rs
+
+abbrev pub returned : Ref → Place → Gives
+returned r p s x m n rs us = IsBack x m n r p rs us

@@ -1,0 +1,153 @@
+//! Passes over the structures of all indexes, one after another. A change in one leaves all others standing, since each
+//! sets links of its own slot alone.
+ghost use Rattle.std.specs.Prelude.{◌≡◌, ◌+◌, ◌<◌, ◌^◌, List as Seq, ◌∷◌, ◌++◌, length, IfOk};
+ghost use Rattle.mi_node.specs.Pool.{IsHeld};
+ghost use Rattle.mi_node.specs.Refs.{Ref};
+ghost use Rattle.mi_index.specs.Standing.{slot_in, IsLike};
+ghost use Rattle.mi_index.specs.Pass.{IsReady, IsStep, AreReady, IsPass, AllLike};
+ghost use Rattle.mi_index.specs.Passes as pass;
+
+use crate::moves::{Moves, before_in};
+use crate::stored::Stored;
+use crate::structure::Structure;
+use mi_node::{NodeRef, Pool};
+use std::alloc::{AllocError, Global};
+
+/// Puts a node into one structure, if it moves there.
+fn link_one(
+    structure: &mut Structure,
+    slot: usize,
+    p: &mut Pool<Stored>,
+    node: NodeRef,
+    moves: Moves<'_>,
+    stamp: u64,
+    before: Option<(usize, NodeRef)>,
+)
+    requires { IsReady (pass.joining moves node stamp before) slot structure.old p.old }
+    ensures step { IsStep (pass.joining moves.entry node stamp before) (pass.joined moves.entry node stamp before) node slot structure.old structure.new p.old p.new }
+    ensures like { IsLike structure.old structure.new }
+{
+    if moves.moves_in(slot) {
+        structure.link(p, node, stamp, before_in(slot, before));
+    }
+}
+
+/// Takes a node out of one structure, if it moves there.
+fn unlink_one(
+    structure: &mut Structure,
+    slot: usize,
+    p: &mut Pool<Stored>,
+    node: NodeRef,
+    moves: Moves<'_>,
+)
+    requires { IsReady (pass.leaving moves node) slot structure.old p.old }
+    ensures step { IsStep (pass.leaving moves.entry node) (pass.left moves.entry node) node slot structure.old structure.new p.old p.new }
+    ensures like { IsLike structure.old structure.new }
+{
+    if moves.moves_in(slot) {
+        structure.unlink(p, node);
+    }
+}
+
+/// Puts a node back into one structure, if it moves there.
+fn relink_one(
+    structure: &mut Structure,
+    slot: usize,
+    p: &mut Pool<Stored>,
+    node: NodeRef,
+    moves: Moves<'_>,
+)
+    requires held { IsHeld p.old node }
+    requires slot { slot < p.old.slots }
+    requires ready { IsReady (pass.returning moves node) slot structure.old p.old }
+    ensures step { IsStep (pass.returning moves.entry node) (pass.returned moves.entry node) node slot structure.old structure.new p.old p.new }
+    ensures like { IsLike structure.old structure.new }
+{
+    let link = p.link(node, slot);
+    if let Some(place) = moves.place_in(slot, link) {
+        structure.relink(p, node, place);
+    }
+}
+
+/// Puts a node into each structure in which it moves, the first of which has this slot: by its key and this stamp, in
+/// the list of the index that is given directly before the node that is given, and last in each other list.
+pub fn link_all(
+    structures: &mut [Structure],
+    slot: usize,
+    p: &mut Pool<Stored>,
+    node: NodeRef,
+    moves: Moves<'_>,
+    stamp: u64,
+    before: Option<(usize, NodeRef)>,
+)
+    requires all { AreReady (pass.joining moves node stamp before) slot structures.old p.old }
+    requires few { slot + length structures.old < 2 ^ 64 }
+    ensures pass { IsPass (pass.joining moves.entry node stamp before) (pass.joined moves.entry node stamp before) node slot structures.old structures.new p.old p.new }
+    ensures like { AllLike structures.old structures.new }
+{
+    if let Some((first, rest)) = structures.split_first_mut() {
+        link_one(first, slot, p, node, moves, stamp, *&before);
+        link_all(rest, slot + 1, p, node, moves, stamp, before);
+    }
+}
+
+/// Takes a node out of each structure in which it moves, the first of which has this slot.
+pub fn unlink_all(
+    structures: &mut [Structure],
+    slot: usize,
+    p: &mut Pool<Stored>,
+    node: NodeRef,
+    moves: Moves<'_>,
+)
+    requires all { AreReady (pass.leaving moves node) slot structures.old p.old }
+    requires few { slot + length structures.old < 2 ^ 64 }
+    ensures pass { IsPass (pass.leaving moves.entry node) (pass.left moves.entry node) node slot structures.old structures.new p.old p.new }
+    ensures like { AllLike structures.old structures.new }
+{
+    if let Some((first, rest)) = structures.split_first_mut() {
+        unlink_one(first, slot, p, node, moves);
+        unlink_all(rest, slot + 1, p, node, moves);
+    }
+}
+
+/// Puts a node back into each structure in which it moves, the first of which has this slot.
+pub fn relink_all(
+    structures: &mut [Structure],
+    slot: usize,
+    p: &mut Pool<Stored>,
+    node: NodeRef,
+    moves: Moves<'_>,
+)
+    requires held { IsHeld p.old node }
+    requires all { AreReady (pass.returning moves node) slot structures.old p.old }
+    requires few { slot + length structures.old < 2 ^ 64 }
+    ensures pass { IsPass (pass.returning moves.entry node) (pass.returned moves.entry node) node slot structures.old structures.new p.old p.new }
+    ensures like { AllLike structures.old structures.new }
+{
+    if let Some((first, rest)) = structures.split_first_mut() {
+        relink_one(first, slot, p, node, moves);
+        relink_all(rest, slot + 1, p, node, moves);
+    }
+}
+
+/// Makes room for n nodes in every structure, the first of which has this slot. No list changes, also where memory is
+/// refused: it then goes on with the others.
+pub fn make_room_all(
+    structures: &mut [Structure],
+    slot: usize,
+    alloc: Global,
+    p: &mut Pool<Stored>,
+    n: u64,
+) -> Result<(), AllocError>
+    requires all { AreReady pass.nothing_asked slot structures.old p.old }
+    requires few { slot + length structures.old < 2 ^ 64 }
+    ensures pass { (r : Ref) → IsPass pass.nothing_asked pass.grown r slot structures.old structures.new p.old p.new }
+    ensures like { AllLike structures.old structures.new }
+{
+    if let Some((first, rest)) = structures.split_first_mut() {
+        let first_made = first.make_room(alloc, p, n);
+        let rest_made = make_room_all(rest, slot + 1, alloc, p, n);
+        return first_made.and(rest_made);
+    }
+    Ok(())
+}

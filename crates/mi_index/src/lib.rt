@@ -1,0 +1,18 @@
+//! How indexes stand over one pool of nodes: how they see records (orders, tags and hashes), the structure of each, and
+//! the changes of all of them.
+//! It knows no ids of rows but those in the nodes, and no sessions.
+#![tactic(auto)]
+
+pub mod all;
+mod key;
+pub mod laws;
+mod moves;
+mod orders;
+mod stored;
+mod structure;
+pub mod tags;
+
+pub use moves::{Moves, Place};
+pub use orders::{ByHash, ByKey};
+pub use stored::Stored;
+pub use structure::Structure;

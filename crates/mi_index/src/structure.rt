@@ -1,0 +1,224 @@
+//! The structure of one index over the pool's nodes: the only match on the kind of an index.
+//! It links nodes through its own slot, and never reads another; what it knows of values are their keys.
+ghost use Rattle.std.specs.Prelude.{◌≡◌, ℕ, ◌+◌, ◌<◌, ◌≤◌, ◌^◌, ◌⊎◌, List as Seq, ◌∷◌, ◌++◌, [], Some, None, length, IfOk, IfErr, IsOk, false, true};
+ghost use Rattle.std.specs.List.{filter};
+ghost use Rattle.mi_node.specs.Refs.{Ref, first_of, last_of};
+ghost use Rattle.mi_node.specs.Pool.{link_of};
+ghost use Rattle.mi_chain.specs.Keying.{same_nodes, has_key};
+ghost use Rattle.mi_index.specs.Orders.{keying_of, place_in};
+ghost use Rattle.mi_index.specs.Standing.{slot_in, Stands, IsLike};
+ghost use Rattle.mi_index.specs.Places as places;
+ghost use Rattle.mi_index.specs.Pass.{IsReady, IsStep};
+ghost use Rattle.mi_index.specs.Passes as pass;
+ghost use Rattle.mi_index.specs.Steps as step;
+ghost use Rattle.mi_index.specs.declared.structure.Structure.TheVariants.{Ordered, Hashed, Sequenced};
+
+use crate::moves::Place;
+use crate::orders::{ByHash, ByKey};
+use crate::stored::Stored;
+use mi_chain::{Chains, KeyHash};
+use mi_list::List;
+use mi_node::{Link, NodeRef, Pool, Tag};
+use mi_tree::Tree;
+use mi_value::Steps;
+use std::alloc::{AllocError, Global};
+
+/// The structure of an index: a tree for an ordered or ranked one, chains for a hashed one, a list for a sequenced one.
+#[derive(Drop)]
+pub enum Structure {
+    Ordered(Tree<ByKey>),
+    Hashed(Chains<ByHash>),
+    Sequenced(List),
+}
+
+impl Structure {
+    /// Puts a node in: by its key and this stamp, or in a list, which has no stamps, directly before `before`, or last
+    /// where that is `None`. Takes no memory.
+    pub fn link(
+        &mut self,
+        p: &mut Pool<Stored>,
+        node: NodeRef,
+        stamp: u64,
+        before: Option<NodeRef>,
+    )
+        requires { IsReady (step.joining node stamp before) 0 self.old p.old }
+        ensures step { IsStep (step.joining node stamp before) (step.joined node stamp before) node 0 self.old self.new p.old p.new }
+        ensures like { IsLike self.old self.new }
+    {
+        match self {
+            Structure::Ordered(tree) => link_tree(tree, p, node, stamp, before),
+            Structure::Hashed(chains) => link_chains(chains, p, node, stamp, before),
+            Structure::Sequenced(list) => link_list(list, p, node, stamp, before),
+        }
+    }
+
+    /// Takes a node out. All tags stay, its own too; in chains and in a list its own link names the neighbours that it
+    /// had, so that it can be put back. Takes no memory.
+    pub fn unlink(&mut self, p: &mut Pool<Stored>, node: NodeRef)
+        requires { IsReady (step.leaving node) 0 self.old p.old }
+        ensures step { IsStep (step.leaving node) (step.left node) node 0 self.old self.new p.old p.new }
+        ensures like { IsLike self.old self.new }
+    {
+        match self {
+            Structure::Ordered(tree) => unlink_tree(tree, p, node),
+            Structure::Hashed(chains) => unlink_chains(chains, p, node),
+            Structure::Sequenced(list) => unlink_list(list, p, node),
+        }
+    }
+
+    /// Puts a node back to a place: in a tree by its key and the place's stamp, in chains and in a list between the
+    /// neighbours that the place names. A list knows only the place that the node's own link names. Takes no memory.
+    pub fn relink(&mut self, p: &mut Pool<Stored>, node: NodeRef, place: Place)
+        requires { IsReady (step.returning node place) 0 self.old p.old }
+        ensures step { IsStep (step.returning node place) (step.returned node place) node 0 self.old self.new p.old p.new }
+        ensures like { IsLike self.old self.new }
+    {
+        match self {
+            Structure::Ordered(tree) => relink_tree(tree, p, node, place),
+            Structure::Hashed(chains) => relink_chains(chains, p, node, place),
+            Structure::Sequenced(list) => relink_list(list, p, node, place),
+        }
+    }
+
+    /// Makes room for n keys in chains; other structures need none. Every node stays where it is. Where memory is refused
+    /// nothing has changed.
+    pub fn make_room(
+        &mut self,
+        alloc: Global,
+        p: &mut Pool<Stored>,
+        n: u64,
+    ) -> Result<(), AllocError>
+        requires { IsReady pass.nothing_asked 0 self.old p.old }
+        ensures step { (r : Ref) (s : ℕ) → IsStep pass.nothing_asked pass.grown r s self.old self.new p.old p.new }
+        ensures like { IsLike self.old self.new }
+        ensures err { IfErr result (λ _. (self.new ≡ self.old) × (p.new ≡ p.old)) }
+    {
+        match self {
+            Structure::Hashed(chains) => room_in_chains(chains, alloc, p, n),
+            Structure::Ordered(_) | Structure::Sequenced(_) => Ok(()),
+        }
+    }
+}
+
+fn link_tree(
+    tree: &mut Tree<ByKey>,
+    p: &mut Pool<Stored>,
+    node: NodeRef,
+    stamp: u64,
+    before: Option<NodeRef>,
+)
+    requires { IsReady (step.joining node stamp before) 0 (Ordered tree.old) p.old }
+    ensures step { IsStep (step.joining node stamp before) (step.joined node stamp before) node 0 (Ordered tree.old) (Ordered tree.new) p.old p.new }
+    ensures like { IsLike (Ordered tree.old) (Ordered tree.new) }
+{
+    let _ = before;
+    tree.insert(p, node, stamp, &mut Steps::new());
+}
+
+fn link_chains(
+    chains: &mut Chains<ByHash>,
+    p: &mut Pool<Stored>,
+    node: NodeRef,
+    stamp: u64,
+    before: Option<NodeRef>,
+)
+    requires { IsReady (step.joining node stamp before) 0 (Hashed chains.old) p.old }
+    ensures step { IsStep (step.joining node stamp before) (step.joined node stamp before) node 0 (Hashed chains.old) (Hashed chains.new) p.old p.new }
+    ensures like { IsLike (Hashed chains.old) (Hashed chains.new) }
+{
+    let _ = before;
+    chains.insert(p, node, stamp);
+}
+
+fn link_list(
+    list: &mut List,
+    p: &mut Pool<Stored>,
+    node: NodeRef,
+    stamp: u64,
+    before: Option<NodeRef>,
+)
+    requires { IsReady (step.joining node stamp before) 0 (Sequenced list.old) p.old }
+    ensures step { IsStep (step.joining node stamp before) (step.joined node stamp before) node 0 (Sequenced list.old) (Sequenced list.new) p.old p.new }
+    ensures like { IsLike (Sequenced list.old) (Sequenced list.new) }
+{
+    let _ = stamp;
+    list.insert_before(p, node, before);
+}
+
+fn unlink_tree(tree: &mut Tree<ByKey>, p: &mut Pool<Stored>, node: NodeRef)
+    requires { IsReady (step.leaving node) 0 (Ordered tree.old) p.old }
+    ensures step { IsStep (step.leaving node) (step.left node) node 0 (Ordered tree.old) (Ordered tree.new) p.old p.new }
+    ensures like { IsLike (Ordered tree.old) (Ordered tree.new) }
+{
+    tree.remove(p, node, &mut Steps::new());
+}
+
+fn unlink_chains(chains: &mut Chains<ByHash>, p: &mut Pool<Stored>, node: NodeRef)
+    requires { IsReady (step.leaving node) 0 (Hashed chains.old) p.old }
+    ensures step { IsStep (step.leaving node) (step.left node) node 0 (Hashed chains.old) (Hashed chains.new) p.old p.new }
+    ensures like { IsLike (Hashed chains.old) (Hashed chains.new) }
+{
+    chains.remove(p, node);
+}
+
+fn unlink_list(list: &mut List, p: &mut Pool<Stored>, node: NodeRef)
+    requires { IsReady (step.leaving node) 0 (Sequenced list.old) p.old }
+    ensures step { IsStep (step.leaving node) (step.left node) node 0 (Sequenced list.old) (Sequenced list.new) p.old p.new }
+    ensures like { IsLike (Sequenced list.old) (Sequenced list.new) }
+{
+    list.unlink(p, node);
+}
+
+fn relink_tree(tree: &mut Tree<ByKey>, p: &mut Pool<Stored>, node: NodeRef, place: Place)
+    requires { IsReady (step.returning node place) 0 (Ordered tree.old) p.old }
+    ensures step { IsStep (step.returning node place) (step.returned node place) node 0 (Ordered tree.old) (Ordered tree.new) p.old p.new }
+    ensures like { IsLike (Ordered tree.old) (Ordered tree.new) }
+{
+    tree.insert(p, node, place.stamp, &mut Steps::new());
+}
+
+fn relink_chains(chains: &mut Chains<ByHash>, p: &mut Pool<Stored>, node: NodeRef, place: Place)
+    requires { IsReady (step.returning node place) 0 (Hashed chains.old) p.old }
+    ensures step { IsStep (step.returning node place) (step.returned node place) node 0 (Hashed chains.old) (Hashed chains.new) p.old p.new }
+    ensures like { IsLike (Hashed chains.old) (Hashed chains.new) }
+{
+    let hash = chains.hash_of(p, node);
+    let tag = Tag {
+        key: hash,
+        stamp: place.stamp,
+    };
+    chains.relink(
+        p,
+        node,
+        Link {
+            back: place.back,
+            forth: place.forth,
+            size: 0,
+            height: 0,
+            tag,
+        },
+    );
+}
+
+fn relink_list(list: &mut List, p: &mut Pool<Stored>, node: NodeRef, place: Place)
+    requires { IsReady (step.returning node place) 0 (Sequenced list.old) p.old }
+    ensures step { IsStep (step.returning node place) (step.returned node place) node 0 (Sequenced list.old) (Sequenced list.new) p.old p.new }
+    ensures like { IsLike (Sequenced list.old) (Sequenced list.new) }
+{
+    let _ = place;
+    list.relink(p, node);
+}
+
+fn room_in_chains(
+    chains: &mut Chains<ByHash>,
+    alloc: Global,
+    p: &mut Pool<Stored>,
+    n: u64,
+) -> Result<(), AllocError>
+    requires { IsReady pass.nothing_asked 0 (Hashed chains.old) p.old }
+    ensures step { (r : Ref) (s : ℕ) → IsStep pass.nothing_asked pass.grown r s (Hashed chains.old) (Hashed chains.new) p.old p.new }
+    ensures like { IsLike (Hashed chains.old) (Hashed chains.new) }
+    ensures err { IfErr result (λ _. (chains.new ≡ chains.old) × (p.new ≡ p.old)) }
+{
+    chains.make_room(alloc, p, n)
+}

@@ -1,7 +1,0 @@
-use Rattle.std.proofs.Common.{ℕ, List, Bor, ◌∙◌, ap, map}
-use Rattle.mi_protocol.specs.Json.{has_only}
-use Rattle.mi_protocol.proofs.ObjectLemmas.{has_only-keys}
-use Rattle.mi_protocol.proofs.object.Object.has_only.Goals as goal
-
-pub returns : goal.returns
-returns c = c.are_named.ensures ∙ has_only-keys (λ (n : Bor (List ℕ)). n.now) c.args.names.now _ ∙ ap (has_only (map (λ n. n.now) c.args.names.now)) c.self.view_is

@@ -1,0 +1,30 @@
+//! Members against columns by name. It reads no member's value.
+ghost use Rattle.std.specs.Prelude.{◌≡◌, map, bytes_eq, string_bytes};
+ghost use Rattle.std.specs.List.{list_any, list_all};
+ghost use Rattle.std.specs.BTreeMap.{keys};
+ghost use Rattle.mi_request.specs.Json.{has_only};
+
+use mi_catalog::Column;
+use mi_request::Object;
+use serde_json::{Map, Value as Json};
+
+/// Whether a name is that of one of these columns.
+fn is_column(columns: &[Column], name: &str) -> bool
+    ensures { result ≡ list_any (λ c. bytes_eq name.now c.name) columns.now }
+{
+    columns.iter().any(|c| name == c.name.as_str())
+}
+
+/// Whether each key is the name of one of these columns.
+fn are_columns(columns: &[Column], members: &Map<String, Json>) -> bool
+    ensures { result ≡ list_all (λ k. list_any (λ c. bytes_eq (string_bytes k) c.name) columns.now) (keys members.now) }
+{
+    members.keys().all(|k| is_column(columns, k.as_str()))
+}
+
+/// Whether no member has another name than these columns.
+pub(crate) fn has_only_columns(object: &Object, columns: &[Column]) -> bool
+    ensures { result ≡ has_only (map (λ c. c.name) columns.now) object.now }
+{
+    are_columns(columns, object.members())
+}

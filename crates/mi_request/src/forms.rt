@@ -1,0 +1,243 @@
+//! The request that each command's members are. It knows the table of commands and no catalog.
+ghost use Rattle.std.specs.Prelude.{◌≡◌};
+ghost use Rattle.mi_request.specs.Commands.{form_of};
+ghost use Rattle.mi_request.specs.Lines as lines;
+ghost use Rattle.mi_request.specs.declared.command.CommandName.TheVariants as name;
+
+use crate::command::CommandName;
+use crate::members::{IndexMembers, PageMembers, RowMembers};
+use crate::object::Object;
+use crate::reading::{
+    array, flag, lower, natural, natural_if_there, natural_or_absent, needed_object,
+    object_or_empty, page, place, text, text_if_there, upper,
+};
+use crate::request::Request;
+use std::alloc::Global;
+
+fn insert_request(object: Object) -> Option<Request>
+    ensures { result ≡ (form_of name.Insert).request object }
+{
+    let members = RowMembers::of(object);
+    let table = text_if_there(members.table)?;
+    let row = needed_object(members.row)?;
+    let before = place(members.before)?;
+    Some(Request::Insert { table, row, before })
+}
+
+fn replace_request(object: Object) -> Option<Request>
+    ensures { result ≡ (form_of name.Replace).request object }
+{
+    let members = RowMembers::of(object);
+    let table = text_if_there(members.table)?;
+    let id = natural(members.id)?;
+    let row = needed_object(members.row)?;
+    Some(Request::Replace { table, id, row })
+}
+
+fn modify_request(alloc: Global, object: Object) -> Option<Request>
+    ensures { result ≡ (form_of name.Modify).request object }
+{
+    let members = RowMembers::of(object);
+    let table = text_if_there(members.table)?;
+    let id = natural(members.id)?;
+    let set = object_or_empty(alloc, members.set)?;
+    let add = object_or_empty(alloc, members.add)?;
+    let rollback = flag(members.rollback)?;
+    Some(Request::Modify {
+        table,
+        id,
+        set,
+        add,
+        rollback,
+    })
+}
+
+fn erase_request(object: Object) -> Option<Request>
+    ensures { result ≡ (form_of name.Erase).request object }
+{
+    let members = RowMembers::of(object);
+    let table = text_if_there(members.table)?;
+    let id = natural(members.id)?;
+    Some(Request::Erase { table, id })
+}
+
+fn erase_key_request(object: Object) -> Option<Request>
+    ensures { result ≡ (form_of name.EraseKey).request object }
+{
+    let members = IndexMembers::of(object);
+    let table = text_if_there(members.table)?;
+    let index = text(members.index)?;
+    let key = array(members.key)?;
+    Some(Request::EraseKey { table, index, key })
+}
+
+fn relocate_request(object: Object) -> Option<Request>
+    ensures { result ≡ (form_of name.Relocate).request object }
+{
+    let members = IndexMembers::of(object);
+    let table = text_if_there(members.table)?;
+    let index = text(members.index)?;
+    let id = natural(members.id)?;
+    let before = natural_if_there(members.before)?;
+    Some(Request::Relocate {
+        table,
+        index,
+        id,
+        before,
+    })
+}
+
+fn commit_request(object: Object) -> Option<Request>
+    ensures { result ≡ (form_of name.Commit).request object }
+{
+    let mut object = object;
+    let revision = natural(object.take("revision"))?;
+    Some(Request::Commit { revision })
+}
+
+fn get_request(object: Object) -> Option<Request>
+    ensures { result ≡ (form_of name.Get).request object }
+{
+    let members = RowMembers::of(object);
+    let table = text_if_there(members.table)?;
+    let id = natural(members.id)?;
+    Some(Request::Get { table, id })
+}
+
+fn find_request(object: Object) -> Option<Request>
+    ensures { result ≡ (form_of name.Find).request object }
+{
+    let members = IndexMembers::of(object);
+    let table = text_if_there(members.table)?;
+    let index = text(members.index)?;
+    let key = array(members.key)?;
+    Some(Request::Find { table, index, key })
+}
+
+fn nth_request(object: Object) -> Option<Request>
+    ensures { result ≡ (form_of name.Nth).request object }
+{
+    let members = IndexMembers::of(object);
+    let table = text_if_there(members.table)?;
+    let index = text(members.index)?;
+    let n = natural(members.n)?;
+    Some(Request::Nth { table, index, n })
+}
+
+fn count_request(object: Object) -> Option<Request>
+    ensures { result ≡ (form_of name.Count).request object }
+{
+    let members = IndexMembers::of(object);
+    let table = text_if_there(members.table)?;
+    let index = text(members.index)?;
+    let key = array(members.key)?;
+    Some(Request::Count { table, index, key })
+}
+
+fn range_request(object: Object) -> Option<Request>
+    ensures { result ≡ (form_of name.Range).request object }
+{
+    let members = PageMembers::of(object);
+    let table = text_if_there(members.table)?;
+    let index = text(members.index)?;
+    let lower = lower(members.lower)?;
+    let upper = upper(members.upper)?;
+    let reverse = flag(members.reverse)?;
+    let limit = page(members.limit)?;
+    Some(Request::Range {
+        table,
+        index,
+        lower,
+        upper,
+        reverse,
+        limit,
+    })
+}
+
+fn list_request(object: Object) -> Option<Request>
+    ensures { result ≡ (form_of name.List).request object }
+{
+    let members = PageMembers::of(object);
+    let table = text_if_there(members.table)?;
+    let index = text(members.index)?;
+    let after = natural_or_absent(members.after)?;
+    let limit = page(members.limit)?;
+    Some(Request::List {
+        table,
+        index,
+        after,
+        limit,
+    })
+}
+
+fn rank_request(object: Object) -> Option<Request>
+    ensures { result ≡ (form_of name.Rank).request object }
+{
+    let members = IndexMembers::of(object);
+    let table = text_if_there(members.table)?;
+    let index = text(members.index)?;
+    let id = natural(members.id)?;
+    Some(Request::Rank { table, index, id })
+}
+
+fn lower_rank_request(object: Object) -> Option<Request>
+    ensures { result ≡ (form_of name.LowerRank).request object }
+{
+    let members = IndexMembers::of(object);
+    let table = text_if_there(members.table)?;
+    let index = text(members.index)?;
+    let key = array(members.key)?;
+    Some(Request::LowerRank { table, index, key })
+}
+
+fn upper_rank_request(object: Object) -> Option<Request>
+    ensures { result ≡ (form_of name.UpperRank).request object }
+{
+    let members = IndexMembers::of(object);
+    let table = text_if_there(members.table)?;
+    let index = text(members.index)?;
+    let key = array(members.key)?;
+    Some(Request::UpperRank { table, index, key })
+}
+
+fn size_request(object: Object) -> Option<Request>
+    ensures { result ≡ (form_of name.Size).request object }
+{
+    let mut object = object;
+    let table = text_if_there(object.take("table"))?;
+    Some(Request::Size { table })
+}
+
+/// The request that the members of a command are.
+pub(crate) fn request_by(alloc: Global, name: CommandName, object: Object) -> Option<Request>
+    ensures { result ≡ lines.request_by object (form_of name) }
+{
+    if !object.has_only(name.members()) {
+        return None;
+    }
+    match name {
+        CommandName::Insert => insert_request(object),
+        CommandName::Replace => replace_request(object),
+        CommandName::Modify => modify_request(alloc, object),
+        CommandName::Erase => erase_request(object),
+        CommandName::EraseKey => erase_key_request(object),
+        CommandName::Relocate => relocate_request(object),
+        CommandName::Start => Some(Request::Start),
+        CommandName::Undo => Some(Request::Undo),
+        CommandName::Squash => Some(Request::Squash),
+        CommandName::Commit => commit_request(object),
+        CommandName::UndoAll => Some(Request::UndoAll),
+        CommandName::Push => Some(Request::Push),
+        CommandName::Revision => Some(Request::Revision),
+        CommandName::Get => get_request(object),
+        CommandName::Find => find_request(object),
+        CommandName::Nth => nth_request(object),
+        CommandName::Count => count_request(object),
+        CommandName::Range => range_request(object),
+        CommandName::List => list_request(object),
+        CommandName::Rank => rank_request(object),
+        CommandName::LowerRank => lower_rank_request(object),
+        CommandName::UpperRank => upper_rank_request(object),
+        CommandName::Size => size_request(object),
+    }
+}

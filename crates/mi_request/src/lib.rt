@@ -1,0 +1,17 @@
+//! From command lines to requests: the JSON of a line, the table of commands, and what each member must be.
+//! It knows no catalog, so it neither looks names up nor tells which values fit; it reads and writes no stream.
+#![tactic(auto)]
+
+mod array;
+mod command;
+mod forms;
+mod members;
+mod object;
+mod reading;
+mod request;
+#[cfg(test)]
+mod tests;
+
+pub use array::Array;
+pub use object::Object;
+pub use request::{End, Place, Request, parse_line};
