@@ -74,14 +74,16 @@ impl<C: Container> Linked<C> {
     ghost use Rattle.mi_database.specs.Held.{with_room, RoomFor};
     ghost use Rattle.std.specs.Prelude.{OnOk, IfErr};
     ghost use Rattle.mi_database.specs.Held.{meaning, opened_held};
+    ghost use Rattle.mi_catalog.specs.Fitting.{HasTable};
     ghost use Rattle.mi_container.specs.Data.{table_of};
     ghost use Rattle.mi_database.specs.Kept.{NodesAreKept};
     ghost use Rattle.mi_model.specs.Table.{IsTable};
-    ghost use Rattle.mi_model.specs.Database.{schema_of, table_of as table_at};
+    ghost use Rattle.mi_model.specs.Database.{opened_database, schema_of, table_of as table_at};
 
     /// The database that a catalog opens with: no rows, no open session, the first counters and the first revision.
     pub fn new(alloc: Global, catalog: Catalog) -> Result<Linked<C>, AllocError>
-        ensures { IfOk result (λ d. d ≡ opened_held d.changes d.starts catalog) }
+        ensures held { IfOk result (λ d. d ≡ opened_held d.changes d.starts catalog) }
+        ensures state { IfOk result (λ d. meaning d ≡ opened_database catalog) }
     {
         catalog.keeps_rules();
         let containers = open_containers(alloc, &catalog)?;
@@ -106,7 +108,7 @@ impl<C: Container> Linked<C> {
     /// States that a table's nodes are its rows and those that the inverses of the open sessions keep, each by one, and
     /// no others. It does nothing.
     pub fn keeps_nodes(&self, n: usize)
-        requires { n < length self.now.datas }
+        requires { HasTable self.now.catalog n }
         ensures { NodesAreKept self.now n }
     {
         let _ = &self.catalog;
@@ -114,7 +116,7 @@ impl<C: Container> Linked<C> {
 
     /// The container of a table.
     pub(crate) fn at(&self, n: usize) -> &C
-        requires { n < length self.now.catalog.tables }
+        requires { HasTable self.now.catalog n }
         ensures shape { C.shape result.now ≡ schema_of (meaning self.now) n }
         ensures table { table_of (C.plain result.now) ≡ table_at (meaning self.now) n }
         ensures within { n < length (meaning self.now).tables }

@@ -7,5 +7,6 @@ use Rattle.mi_database.proofs.linked.Linked.keeps_nodes.Goals as goal
 
 pub returns : goal.returns
 returns g c =
+    let listed : c.args.n < length c.self.inside.catalog.tables = subst (λ (h : Held). c.args.n < length h.catalog.tables) (sym c.self.view_is) c.requires in
     subst (λ (h : Held). NodesAreKept h c.args.n) c.self.view_is
-    (nodes_kept _ _ c.args.n c.self.invariant (subst (λ (h : Held). c.args.n < length h.datas) (sym c.self.view_is) c.requires))
+    (nodes_kept _ _ c.args.n c.self.invariant (subst (λ q. c.args.n < q) (sym c.self.invariant.many) listed))

@@ -1,5 +1,5 @@
 -- what a catalog opens with
-use Rattle.mi_database.proofs.OpenLaws.{opened_at}
+use Rattle.mi_database.proofs.OpenLaws.{opened_at, opened_state}
 use Rattle.mi_database.proofs.linked.Linked.new.Goals as goal
 
 pub invariant_of-result : goal.invariant_of-result
@@ -7,3 +7,8 @@ invariant_of-result g c =
     opened_at c.args.catalog _ _ c.new.result.sessions c.first_revision-revision.result c.new.result.changes c.new.result.starts
     c.keeps_rules.ensures c.in_ok-containers.ensures.shapes c.in_ok-containers.ensures.datas c.new.ensures c.first_revision-revision.ensures.value
     c.first_revision-revision.ensures.within
+
+pub returns-clause-state : goal.returns-clause-state
+returns-clause-state g c =
+    opened_state c.args.catalog _ c.new.result.sessions c.first_revision-revision.result
+    c.in_ok-containers.ensures.datas c.new.ensures c.first_revision-revision.ensures.value
