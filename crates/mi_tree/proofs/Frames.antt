@@ -4,12 +4,13 @@
 --     tree_swapped      a tree after a value was exchanged for one of an equal key
 --     tree_kept      a tree after a change of another structure, by what that change keeps
 --     tree_listed      the list that a tree is, by its links
-use Rattle.std.proofs.Common.{◌≡◌, ◌==◌, true, false, ℕ, zero, suc, ◌<◌, ◌≤◌, inl, inr, cond, option_map, List, [], ◌∷◌, ◌++◌, Option, Some, None, refl, sym, ap, ◌∙◌, subst, arith}
+use Rattle.std.proofs.Common.{◌≡◌, ◌==◌, true, false, ℕ, zero, suc, ◌<◌, ◌≤◌, inl, inr, cond, option_map, List, [], ◌∷◌, ◌++◌, Some, refl, sym, ap, ◌∙◌, subst, arith}
 use Rattle.std.specs.declared.cmp.Ordering.{Ordering}
 use Rattle.std.specs.declared.cmp.Ordering.TheVariants.{Less, Equal}
 use Rattle.std.specs.Cmp.{IsTotalOrder}
 use Rattle.std.specs.Ordering.{nat_cmp, ordering_then}
 use Rattle.std.proofs.lemmas.Cmp.{tied_itself, tied_back, alike_right, nat_cmp_total}
+use Rattle.mi_node.specs.Neighbours.{AreHeld}
 use Rattle.mi_node.specs.Pool.{Pooled, value_of, link_of, with_value, IsHeld, Keeps}
 use Rattle.mi_node.specs.Refs.{Ref}
 use Rattle.mi_node.specs.declared.link.Link.{Link}
@@ -20,7 +21,7 @@ use Rattle.mi_tree.specs.Sorted.{AllAre, Rising, IsTagOf, HasTag, AreTagged, by_
 use Rattle.mi_tree.specs.Standing.{IsTree}
 use Rattle.mi_tree.specs.declared.tree.Tree.{Tree}
 use Rattle.mi_tree.specs.Frame.{IsAlike, AreAlike, listed_in, listed, StandsWhereAlike, StandsWhereSwapped, IsListed, StandsEmpty}
-use Rattle.mi_tree.proofs.Shapes.{height-root, AllHeld, all_held}
+use Rattle.mi_tree.proofs.Shapes.{height-root, all_held}
 use Rattle.mi_tree.proofs.Sorts.{by_stamp_total}
 use Rattle.mi_tree.proofs.Joins.{link_kept}
 use Rattle.mi_tree.proofs.Heights.{at_most_or_more}
@@ -59,11 +60,11 @@ module _ {T : Type 0} (order : T → T → Ordering) (tag : T → ℕ) (total : 
         let whole = by_stamp_total order total in
         side_at n s a b wa.0 wb.0 wa.1 wb.1 ∙ sym (alike_right whole (vb.0, ib) (wb.0, jb) (wa.0, ja) fb) ∙ sym (whole.congr (va.0, ia) (wa.0, ja) (vb.0, ib) fa) ∙ sym (side_at m s a b va.0 vb.0 va.1 vb.1)
 
-    alike_all : (r : Ref) (rs : List Ref) → IsAlike order m n s r → IsHeld m r → AreAlike order m n s rs → AllHeld m rs → AllAre (side order m s r) Less rs → AllAre (side order n s r) Less rs
+    alike_all : (r : Ref) (rs : List Ref) → IsAlike order m n s r → IsHeld m r → AreAlike order m n s rs → AreHeld m rs → AllAre (side order m s r) Less rs → AllAre (side order n s r) Less rs
     alike_all r [] y h ys hs a = tt
     alike_all r (q ∷ rs) y h ys hs a = (alike_side r q y ys.0 h hs.0 ∙ a.0, alike_all r rs y h ys.1 hs.1 a.1)
 
-    alike_rising : (rs : List Ref) → AreAlike order m n s rs → AllHeld m rs → Rising (side order m s) rs → Rising (side order n s) rs
+    alike_rising : (rs : List Ref) → AreAlike order m n s rs → AreHeld m rs → Rising (side order m s) rs → Rising (side order n s) rs
     alike_rising [] ys hs h = tt
     alike_rising (r ∷ rs) ys hs h = (alike_all r rs ys.0 hs.0 ys.1 hs.1 h.0, alike_rising rs ys.1 hs.1 h.1)
 
@@ -73,7 +74,7 @@ module _ {T : Type 0} (order : T → T → Ordering) (tag : T → ℕ) (total : 
         let was : (link_of m r.name s).tag.key ≡ tag v.0 = subst (λ z. IsTagOf tag z (link_of m r.name s).tag.key) v.1 t in
         subst (λ z. IsTagOf tag z (link_of n r.name s).tag.key) (sym w.1) (ap (λ (z : Link). z.tag.key) y.link ∙ was ∙ same_tag v.0 w.0 e)
 
-    alike_tagged : (rs : List Ref) → AreAlike order m n s rs → AllHeld m rs → AreTagged tag m s rs → AreTagged tag n s rs
+    alike_tagged : (rs : List Ref) → AreAlike order m n s rs → AreHeld m rs → AreTagged tag m s rs → AreTagged tag n s rs
     alike_tagged [] ys hs h = tt
     alike_tagged (r ∷ rs) ys hs h = (alike_tag r ys.0 hs.0 h.0, alike_tagged rs ys.1 hs.1 h.1)
 
@@ -105,7 +106,7 @@ module _ {T : Type 0} (m : Pooled T) (s : ℕ) where
       λ i. left i ++ r ∷ right i
 
 module _ {T : Type 0} where
-  alike_kept : (order : T → T → Ordering) → IsTotalOrder order → (m n : Pooled T) (s k : ℕ) (us rs : List Ref) → Keeps m n s us → (s == k) ≡ false → AllHeld m rs → AreAlike order m n k rs
+  alike_kept : (order : T → T → Ordering) → IsTotalOrder order → (m n : Pooled T) (s k : ℕ) (us rs : List Ref) → Keeps m n s us → (s == k) ≡ false → AreHeld m rs → AreAlike order m n k rs
   alike_kept order total m n s k us [] g e h = tt
   alike_kept order total m n s k us (r ∷ rs) g e h =
       let v = held_has m r h.0 in (
@@ -129,7 +130,7 @@ module _ {T : Type 0} where
     | false ↦ λ is. (λ i. compared order (g i) ((value_there m k new q is ∙ g) i)) ∙ tied_itself total v
   ]) refl
 
-  alike_swapped : (order : T → T → Ordering) → IsTotalOrder order → (m : Pooled T) (k : ℕ) (old new : T) (s : ℕ) (rs : List Ref) → value_of m k ≡ Some old → order old new ≡ Equal → AllHeld m rs
+  alike_swapped : (order : T → T → Ordering) → IsTotalOrder order → (m : Pooled T) (k : ℕ) (old new : T) (s : ℕ) (rs : List Ref) → value_of m k ≡ Some old → order old new ≡ Equal → AreHeld m rs
       → AreAlike order m (with_value m k new) s rs
   alike_swapped order total m k old new s [] e f h = tt
   alike_swapped order total m k old new s (r ∷ rs) e f h = let v = held_has m r h.0 in (
@@ -141,8 +142,8 @@ module _ {T O : Type 0} where
   pub tree_empty : StandsEmpty T O
   tree_empty l m order tag e f = record { shape = Tip; rooted = record { root = e; stands = tt }; even = tt; nodes_are = refl; apart = tt; rising = tt; tagged = tt; fits = omega arith; has_slot = f }
 
-  tree_held : (l : Tree O) (m : Pooled T) (order : T → T → Ordering) (tag : T → ℕ) (rs : List Ref) → IsTree l m order tag rs → AllHeld m rs
-  tree_held l m order tag rs h = subst (AllHeld m) h.nodes_are (all_held m l.slot h.shape h.rooted.stands)
+  tree_held : (l : Tree O) (m : Pooled T) (order : T → T → Ordering) (tag : T → ℕ) (rs : List Ref) → IsTree l m order tag rs → AreHeld m rs
+  tree_held l m order tag rs h = subst (AreHeld m) h.nodes_are (all_held m l.slot h.shape h.rooted.stands)
 
   pub tree_where : (order : T → T → Ordering) (tag : T → ℕ) → IsTotalOrder order → IsTagBelow order tag → StandsWhereAlike T O order tag
   tree_where order tag total below l m n rs h y f = let same = sym h.nodes_are in let held = tree_held l m order tag rs h in record {

@@ -1,19 +1,19 @@
 -- What the ways down find.
-use Rattle.std.proofs.Common.{◌≡◌, ℕ, suc, ◌+◌, ◌*◌, ◌<◌, ◌≤◌, Bool, true, false, cond, List, [], ◌∷◌, ◌++◌, length, Option, Some, None, refl, sym, ap, ◌∙◌, subst, arith, length-append}
+use Rattle.std.proofs.Common.{◌≡◌, ℕ, suc, ◌+◌, ◌*◌, ◌<◌, ◌≤◌, Bool, true, false, cond, List, [], ◌∷◌, ◌++◌, length, Option, Some, None, refl, sym, ap, ◌∙◌, subst, arith}
 use Rattle.std.specs.declared.cmp.Ordering.{Ordering}
 use Rattle.std.specs.declared.cmp.Ordering.TheVariants.{Less, Equal, Greater}
 use Rattle.std.specs.Ordering.{is_eq, nat_cmp, ordering_then}
 use Rattle.mi_node.proofs.Callers.{held_has}
+use Rattle.mi_node.specs.Neighbours.{AreHeld}
 use Rattle.mi_node.specs.Pool.{Pooled, link_of, value_of, IsHeld}
 use Rattle.mi_node.specs.Refs.{Ref}
 use Rattle.mi_node.specs.declared.link.Link.{Link}
-use Rattle.mi_tree.specs.Shape.{Shape, nodes, size, height, Stands, IsRooted, size_at, height_at, nth_of}
+use Rattle.mi_tree.specs.Shape.{Shape, nodes, height, Stands, IsRooted, size_at, height_at, nth_of}
 use Rattle.mi_tree.specs.Order.{IsNoLater, IsMonotone}
-use Rattle.mi_tree.specs.Sorted.{AllAre, Rising, HasTag, AreTagged, CanTake, by_stamp, stamped, compared, item_of, side}
+use Rattle.mi_tree.specs.Sorted.{AllAre, Rising, HasTag, AreTagged, by_stamp, stamped, compared, item_of, side}
 use Rattle.mi_tree.specs.Probed.{past, place_at, past_value, is_past_node, is_value_at, is_node_at, first_where, AllWhere, IsSteady}
-use Rattle.mi_tree.proofs.Shapes.{moved, tip_is, same_tree, Sides, sides, size-root, height-root, size-nodes, nth-before, nth-at, nth-after, AllHeld, all_held}
-use Rattle.mi_tree.proofs.Sorts.{IsOrder, tagged_left, tagged_right, rising_left, rising_right, where_is, go_left, go_here, go_right}
-use Rattle.mi_tree.proofs.Takes.{take_opened}
+use Rattle.mi_tree.proofs.Shapes.{moved, tip_is, same_tree, Sides, sides, size-root, height-root, size-nodes, nth-before, nth-at, nth-after, all_held}
+use Rattle.mi_tree.proofs.Sorts.{tagged_left, tagged_right}
 
 -- the first, or what was found before
 abbrev pub or_found : Option Ref → Option Ref → Option Ref
@@ -181,7 +181,7 @@ some_one r q e = cc
 none_one : (r : Ref) → Some r ≡ None → ⊥
 none_one r e = cc
 
-first_held : {T : Type 0} (m : Pooled T) (f : Ref → Bool) (rs : List Ref) (r : Ref) → AllHeld m rs → Some r ≡ first_where f rs → IsHeld m r
+first_held : {T : Type 0} (m : Pooled T) (f : Ref → Bool) (rs : List Ref) (r : Ref) → AreHeld m rs → Some r ≡ first_where f rs → IsHeld m r
 first_held m f [] r h e = absurd (none_one r e)
 first_held m f (q ∷ rs) r h e = (elim (f q) as (λ b. Some r ≡ cond b (Some q) (first_where f rs) → IsHeld m r) [
   | true ↦ λ k. subst (IsHeld m) (sym (some_one r q k)) h.0

@@ -1,5 +1,6 @@
 -- What a tree that stands says of each node.
 use Rattle.std.proofs.Common.{◌≡◌, ℕ, zero, suc, ◌+◌, ◌<◌, max, List, [], ◌∷◌, ◌++◌, length, Option, Some, None, refl, sym, ap, ◌∙◌, subst, arith, length-append}
+use Rattle.mi_node.specs.Neighbours.{AreHeld}
 use Rattle.mi_node.specs.Pool.{Pooled, link_of, IsHeld, IsHeldIf}
 use Rattle.mi_node.specs.Refs.{Ref, first_of, last_of}
 use Rattle.mi_node.specs.declared.link.Link.{Link}
@@ -40,16 +41,11 @@ pub nth-first : (ys : List Ref) → nth_of ys 0 ≡ first_of ys None
 nth-first [] = refl
 nth-first (y ∷ ys) = refl
 
--- each of the nodes is held
-abbrev pub AllHeld : {T : Type 0} → Pooled T → List Ref → Type 0
-AllHeld m [] = Unit {0}
-AllHeld m (r ∷ rs) = IsHeld m r × AllHeld m rs
-
-held_both : {T : Type 0} (m : Pooled T) (xs ys : List Ref) → AllHeld m xs → AllHeld m ys → AllHeld m (xs ++ ys)
+held_both : {T : Type 0} (m : Pooled T) (xs ys : List Ref) → AreHeld m xs → AreHeld m ys → AreHeld m (xs ++ ys)
 held_both m [] ys g h = h
 held_both m (x ∷ xs) ys g h = (g.0, held_both m xs ys g.1 h)
 
-pub all_held : {T : Type 0} (m : Pooled T) (s : ℕ) (t : Shape) → Stands m s t → AllHeld m (nodes t)
+pub all_held : {T : Type 0} (m : Pooled T) (s : ℕ) (t : Shape) → Stands m s t → AreHeld m (nodes t)
 all_held m s Tip h = tt
 all_held m s (Fork l r q) h = held_both m (nodes l) (r ∷ nodes q) (all_held m s l h.2) (h.0, all_held m s q h.3)
 

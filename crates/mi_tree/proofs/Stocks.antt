@@ -5,6 +5,7 @@ use Rattle.std.specs.declared.cmp.Ordering.TheVariants.{Less, Equal, Greater}
 use Rattle.std.specs.Ordering.{nat_cmp, ordering_then}
 use Rattle.std.specs.Cmp.{IsTotalOrder}
 use Rattle.std.proofs.lemmas.Cmp.{nat_cmp_total, on_total, tied_itself, ranked}
+use Rattle.mi_node.specs.Neighbours.{AreHeld}
 use Rattle.mi_node.specs.Pool.{Pooled, ref_of, value_of, link_of, no_link, IsHeld, IsHeldIf, Keeps, no_nodes, taken}
 use Rattle.mi_node.specs.Refs.{Ref, IsOut, IsApart, first_of, last_of}
 use Rattle.mi_node.specs.declared.link.Link.{Link}
@@ -23,7 +24,7 @@ use Rattle.mi_tree.specs.declared.tree.Tree.{Tree}
 use Rattle.mi_tree.specs.declared.walk.Direction.{Direction}
 use Rattle.mi_tree.specs.declared.walk.Walk.{Walk}
 use Rattle.mi_tree.proofs.Frames.{tree_where, tree_empty}
-use Rattle.mi_tree.proofs.Shapes.{AllHeld, all_held}
+use Rattle.mi_tree.proofs.Shapes.{all_held}
 
 abbrev Pool : Type 0
 Pool = Pooled (ℕ × ℕ)
@@ -42,7 +43,7 @@ some_ref x y e = cc
 none_ref : (x : Ref) → None ≡ Some x → ⊥
 none_ref x e = cc
 
-held_in : (m : Pool) (rs : List Ref) → AllHeld m rs → AllHeldIn m rs
+held_in : (m : Pool) (rs : List Ref) → AreHeld m rs → AllHeldIn m rs
 held_in m [] h = tt
 held_in m (r ∷ rs) h = (h.0, held_in m rs h.1)
 
@@ -63,7 +64,7 @@ held_where m n [] e h = tt
 held_where m n (r ∷ rs) e h = (e r.name ∙ h.0, held_where m n rs e h.1)
 
 pub tree_held : {O : Type 0} (b : Bool) (l : Tree O) (m : Pool) (rs : List Ref) → IsTree l m keyed_order (key_tag b) rs → AllHeldIn m rs
-tree_held b l m rs h = held_in m rs (subst (AllHeld m) h.nodes_are (all_held m l.slot h.shape h.rooted.stands))
+tree_held b l m rs h = held_in m rs (subst (AreHeld m) h.nodes_are (all_held m l.slot h.shape h.rooted.stands))
 
 -- a free name is no held node's
 name_free : (m : Pool) (k : ℕ) (q : Ref) → ref_of m k ≡ None → IsHeld m q → (k == q.name) ≡ false

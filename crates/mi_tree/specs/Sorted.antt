@@ -7,7 +7,7 @@ use Rattle.std.specs.Prelude.{◌≡◌, ℕ, ◌+◌, ◌^◌, ◌<◌, ◌≤�
 use Rattle.std.specs.Ordering.{nat_cmp, ordering_then}
 use Rattle.std.specs.declared.cmp.Ordering.{Ordering}
 use Rattle.std.specs.declared.cmp.Ordering.TheVariants.{Less, Equal, Greater}
-use Rattle.mi_node.specs.Pool.{Pooled, IsHeld, value_of, link_of, Keeps}
+use Rattle.mi_node.specs.Pool.{Pooled, value_of, link_of, Keeps}
 use Rattle.mi_node.specs.Refs.{Ref, IsOut, IsApart}
 use Rattle.mi_tree.specs.Shape.{Shape, Tip, Fork, nodes, size, height, DifferByAtMost, IsEven, IsRooted}
 

@@ -1,4 +1,4 @@
-use Rattle.std.proofs.Common.{◌≡◌, ◌==◌, false, true, Some, sym, ap, ◌∙◌, subst, arith}
+use Rattle.std.proofs.Common.{true, Some, sym, ◌∙◌}
 use Rattle.mi_tree.specs.Shape.{Fork, height}
 use Rattle.mi_tree.proofs.Shapes.{height-root}
 use Rattle.mi_tree.proofs.Turns.{plain_is, settled, same_number}

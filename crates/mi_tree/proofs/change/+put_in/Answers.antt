@@ -1,5 +1,4 @@
-use Rattle.std.proofs.Common.{◌≡◌, ◌<◌, ◌+◌, ◌∷◌, Some, refl, sym, ap, ◌∙◌, subst, arith, rules}
-use Rattle.std.specs.declared.cmp.Ordering.TheVariants.{Less, Greater}
+use Rattle.std.proofs.Common.{◌<◌, ◌∷◌, refl, sym, ap, ◌∙◌, subst, arith, rules}
 use Rattle.mi_node.specs.Pool.{Pooled, value_of, IsHeld}
 use Rattle.mi_node.specs.declared.link.Link.{Link}
 use Rattle.mi_tree.specs.Shape.{Shape, nodes, height_at, Fork, Tip}

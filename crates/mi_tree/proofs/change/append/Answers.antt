@@ -1,4 +1,4 @@
-use Rattle.std.proofs.Common.{◌≡◌, true, false, Some, sym, ◌∙◌, subst}
+use Rattle.std.proofs.Common.{Some, sym, ◌∙◌, subst}
 use Rattle.mi_tree.specs.Sorted.{CanTake}
 use Rattle.mi_tree.proofs.Shapes.{height-root, held-root}
 use Rattle.mi_tree.proofs.Turns.{same_number}

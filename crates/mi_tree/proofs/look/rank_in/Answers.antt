@@ -1,8 +1,8 @@
-use Rattle.std.proofs.Common.{◌≡◌, ◌+◌, ◌-◌, ◌<◌, ◌≤◌, ◌^◌, refl, sym, ap, ◌∙◌, subst, arith, rules}
+use Rattle.std.proofs.Common.{◌+◌, ◌-◌, ◌<◌, ◌≤◌, ◌^◌, refl, sym, ap, ◌∙◌, subst, arith, rules}
 use Rattle.mi_node.specs.Pool.{Pooled, link_of, value_of, IsHeld, IsHeldIf}
 use Rattle.mi_node.specs.declared.link.Link.{Link}
 use Rattle.mi_tree.specs.Shape.{size_at, height_at}
-use Rattle.mi_tree.specs.Sorted.{IsTagOf, compared, by_stamp, stamped, side}
+use Rattle.mi_tree.specs.Sorted.{IsTagOf, compared, by_stamp, stamped}
 use Rattle.mi_tree.proofs.Shapes.{held-root}
 use Rattle.mi_tree.proofs.Sorts.{side_is}
 use Rattle.mi_tree.proofs.Ranks.{rank_start, rank_held, rank_back, rank_forth, rank_tag, rank_lower, rank_left, rank_right, rank_here, rank_fits_here, rank_fits_right, rank_not_less, rank_end}

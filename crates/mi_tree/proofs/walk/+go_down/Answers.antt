@@ -1,8 +1,8 @@
-use Rattle.std.proofs.Common.{◌≡◌, ℕ, ◌<◌, List, ◌∷◌, length, Option, refl, sym, ap, ◌∙◌, subst, arith, rules}
+use Rattle.std.proofs.Common.{ℕ, ◌<◌, List, ◌∷◌, length, Option, refl, sym, subst, rules}
 use Rattle.mi_node.specs.Pool.{Pooled}
 use Rattle.mi_node.specs.Refs.{Ref}
 use Rattle.mi_tree.specs.Shape.{Shape, height_at}
-use Rattle.mi_tree.specs.Walking.{Pending, Enters, Goes, near_of}
+use Rattle.mi_tree.specs.Walking.{Pending, Enters, Goes}
 use Rattle.mi_tree.proofs.Walks.{entered, ahead_near, nearer, farther}
 use Rattle.mi_tree.proofs.walk.+go_down.Goals as goal
 

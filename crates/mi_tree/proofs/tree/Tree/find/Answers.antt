@@ -1,9 +1,9 @@
-use Rattle.std.proofs.Common.{◌≡◌, ◌≤◌, true, false, sym, ap, ◌∙◌, subst, arith}
+use Rattle.std.proofs.Common.{false, sym, ap, ◌∙◌, subst, arith}
 use Rattle.std.specs.Ordering.{is_eq}
 use Rattle.mi_node.specs.Pool.{Pooled, IsHeld, value_of, link_of}
 use Rattle.mi_node.specs.declared.link.Link.{Link}
 use Rattle.mi_tree.specs.Sorted.{IsTagOf}
-use Rattle.mi_tree.specs.Probed.{place_at, is_past_node, is_node_at, first_where}
+use Rattle.mi_tree.specs.Probed.{place_at, is_past_node, first_where}
 use Rattle.mi_tree.proofs.Looks.{not_here, node_is, found_none, found_some, found_other, found_held, found_tag, some_found}
 use Rattle.mi_tree.proofs.Stands.{same_length, bound_less}
 use Rattle.mi_tree.proofs.tree.Tree.find.Goals as goal

@@ -1,6 +1,5 @@
-use Rattle.std.proofs.Common.{◌<◌, ◌∷◌, refl, sym, ap, ◌∙◌, subst}
+use Rattle.std.proofs.Common.{◌<◌, refl, sym, subst}
 use Rattle.mi_node.specs.declared.link.Tag.{Tag}
-use Rattle.mi_tree.specs.Sorted.{side}
 use Rattle.mi_tree.proofs.Stands.{can_put, put_tagged, has_put, put_keeps, put_stamp, put_tags, set_keeps, set_tag}
 use Rattle.mi_tree.proofs.tree.Tree.insert.Goals as goal
 

@@ -1,4 +1,4 @@
-use Rattle.std.proofs.Common.{◌∷◌, ◌++◌, refl, sym, ap, ◌∙◌, subst}
+use Rattle.std.proofs.Common.{◌∷◌, ◌++◌, refl}
 use Rattle.mi_tree.proofs.Stands.{can_take, rising_in, tagged_in, node_held, has_taken}
 use Rattle.mi_tree.proofs.tree.Tree.remove.Goals as goal
 

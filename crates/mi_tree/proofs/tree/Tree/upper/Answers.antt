@@ -1,4 +1,4 @@
-use Rattle.std.proofs.Common.{◌≡◌, true, ap, ◌∙◌, arith}
+use Rattle.std.proofs.Common.{true, ap, ◌∙◌, arith}
 use Rattle.mi_tree.specs.Shape.{nodes}
 use Rattle.mi_tree.specs.Probed.{is_past_node, first_where}
 use Rattle.mi_tree.proofs.Stands.{bound, rising_in, tagged_in}
