@@ -11,17 +11,19 @@ ghost use Rattle.mi_index.specs.Places as places;
 ghost use Rattle.mi_index.specs.Pass.{IsReady, IsStep};
 ghost use Rattle.mi_index.specs.Passes as pass;
 ghost use Rattle.mi_index.specs.Steps as step;
+ghost use Rattle.mi_index.specs.Opened as opened;
 ghost use Rattle.mi_index.specs.Inserting as insert;
 ghost use Rattle.mi_index.specs.declared.structure.Structure.TheVariants.{Ordered, Hashed, Sequenced};
 
 use crate::moves::Place;
 use crate::orders::{ByHash, ByKey};
 use crate::stored::Stored;
-use mi_chain::{Chains, KeyHash};
+use mi_catalog::{Column, Index, IndexKind, Parts};
+use mi_chain::Chains;
 use mi_list::List;
 use mi_node::{Link, NodeRef, Pool, Tag};
 use mi_tree::Tree;
-use mi_value::Steps;
+use mi_value::{ColumnType, KeyPart, Steps};
 use std::alloc::{AllocError, Global};
 
 /// The structure of an index: a tree for an ordered or ranked one, chains for a hashed one, a list for a sequenced one.
@@ -33,6 +35,30 @@ pub enum Structure {
 }
 
 impl Structure {
+    /// The structure of an index of a table with these columns, through the slot of its number, without nodes. Where
+    /// memory is refused there is none.
+    pub fn new(
+        alloc: Global,
+        slot: usize,
+        index: &Index,
+        columns: &[Column],
+    ) -> Result<Structure, AllocError>
+        ensures { IfOk result (λ x. opened.IsFor columns.now index.now slot x × opened.IsEmpty x) }
+    {
+        match index.kind {
+            IndexKind::Ordered | IndexKind::Ranked => {
+                let column = first_type(columns, index.parts.as_slice());
+                let parts = Parts::new(index.parts.as_slice().to_vec(alloc)?);
+                Ok(Structure::Ordered(Tree::new(slot, ByKey { parts, column })))
+            }
+            IndexKind::Hashed => {
+                let parts = Parts::new(index.parts.as_slice().to_vec(alloc)?);
+                Ok(Structure::Hashed(Chains::new(alloc, slot, ByHash { parts })?))
+            }
+            IndexKind::Sequenced => Ok(Structure::Sequenced(List::new(slot))),
+        }
+    }
+
     /// Puts a node in: by its key and this stamp, or in a list, which has no stamps, directly before `before`, or last
     /// where that is `None`. Takes no memory.
     pub fn link(
@@ -111,6 +137,19 @@ impl Structure {
             Structure::Hashed(chains) => room_in_chains(chains, alloc, p, n),
             Structure::Ordered(_) | Structure::Sequenced(_) => Ok(()),
         }
+    }
+}
+
+/// The type of the column of the first part, by which tags are made. Where there is none, that of the id.
+fn first_type(columns: &[Column], parts: &[KeyPart]) -> ColumnType
+    ensures { result ≡ opened.first_type columns.now parts.now }
+{
+    match parts {
+        [] => ColumnType::Int,
+        [part, ..] => match columns.get(part.column) {
+            Some(column) => column.kind,
+            None => ColumnType::Int,
+        },
     }
 }
 
