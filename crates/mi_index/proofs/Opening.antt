@@ -1,7 +1,7 @@
 -- The structures of a schema, without nodes.
 --     some_index, few_indexes      a schema has 1 to 16 indexes
 --     is_opened      empty structures stand in an empty pool
-use Rattle.std.proofs.Common.{◌≡◌, ℕ, ◌+◌, ◌<◌, ◌≤◌, true, false, List, [], ◌∷◌, length, refl, sym, ap, ◌∙◌, subst, arith}
+use Rattle.std.proofs.Common.{◌≡◌, ℕ, ◌+◌, ◌<◌, ◌≤◌, true, false, List, [], ◌∷◌, length, sym, ap, ◌∙◌, subst, arith}
 use Rattle.std.proofs.lemmas.Bool.{and_parts, leb-true}
 use Rattle.mi_value.specs.declared.limits.TheConstants.{MAX_INDEXES}
 use Rattle.mi_catalog.specs.declared.index.Column.{Column}

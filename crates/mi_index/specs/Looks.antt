@@ -1,6 +1,5 @@
 -- What the structure of an index answers: its list, and what a probe finds in it.
-use Rattle.std.specs.Prelude.{ℕ, ◌≡◌, Bool, false, List, Option, None}
-use Rattle.std.specs.List.{filter}
+use Rattle.std.specs.Prelude.{ℕ, ◌≡◌, Bool, false, List}
 use Rattle.mi_value.specs.declared.bound.Probe.{Probe}
 use Rattle.mi_node.specs.Pool.{Pooled}
 use Rattle.mi_node.specs.Refs.{Ref}

@@ -4,7 +4,7 @@ ghost use Rattle.std.specs.Prelude.{◌≡◌, ◌+◌, ◌<◌, ◌^◌, List a
 ghost use Rattle.mi_node.specs.Pool.{IsHeld};
 ghost use Rattle.mi_node.specs.Refs.{Ref};
 ghost use Rattle.mi_index.specs.Standing.{slot_in, IsLike};
-ghost use Rattle.mi_index.specs.Pass.{IsReady, IsStep, AreReady, IsPass, AllLike};
+ghost use Rattle.mi_index.specs.Pass.{IsReady, IsStep, AreReady, IsPass, AllLike, AllRoomy};
 ghost use Rattle.mi_index.specs.Passes as pass;
 ghost use Rattle.mi_index.specs.Inserting as insert;
 ghost use Rattle.mi_index.specs.Opened as opened;
@@ -186,6 +186,7 @@ pub fn make_room_all(
     requires few { slot + length structures.old < 2 ^ 64 }
     ensures pass { (r : Ref) → IsPass pass.nothing_asked pass.grown r slot structures.old structures.new p.old p.new }
     ensures like { AllLike structures.old structures.new }
+    ensures room { IfOk result (λ _. AllRoomy structures.new n) }
 {
     if let Some((first, rest)) = structures.split_first_mut() {
         let first_made = first.make_room(alloc, p, n);

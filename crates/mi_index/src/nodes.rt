@@ -128,12 +128,7 @@ impl Nodes {
 
     /// Gives a node an old value again, and the other one back. In each index that has a place for it the node moves
     /// there, which is never a list; in the others the key is the same. Takes no memory.
-    pub fn rekey_back(
-        &mut self,
-        node: NodeRef,
-        stored: Stored,
-        places: &[Option<Place>],
-    ) -> Stored
+    pub fn rekey_back(&mut self, node: NodeRef, stored: Stored, places: &[Option<Place>]) -> Stored
         requires held { IsHeld self.old.pool node }
         requires places { AreReady (rekey.returning_to places.now node stored) 0 self.old.structures.items self.old.pool }
         ensures value { value_of self.old.pool node.name ≡ Some result }

@@ -6,7 +6,7 @@ ghost use Rattle.mi_node.specs.Refs.{Ref, first_of, last_of};
 ghost use Rattle.mi_node.specs.Pool.{link_of};
 ghost use Rattle.mi_chain.specs.Keying.{same_nodes, has_key};
 ghost use Rattle.mi_index.specs.Orders.{keying_of, place_in};
-ghost use Rattle.mi_index.specs.Standing.{slot_in, Stands, IsLike};
+ghost use Rattle.mi_index.specs.Standing.{IsLike, IsRoomy};
 ghost use Rattle.mi_index.specs.Places as places;
 ghost use Rattle.mi_index.specs.Pass.{IsReady, IsStep};
 ghost use Rattle.mi_index.specs.Passes as pass;
@@ -61,13 +61,7 @@ impl Structure {
 
     /// Puts a node in: by its key and this stamp, or in a list, which has no stamps, directly before `before`, or last
     /// where that is `None`. Takes no memory.
-    pub fn link(
-        &mut self,
-        p: &mut Pool<Stored>,
-        node: NodeRef,
-        stamp: u64,
-        before: Option<NodeRef>,
-    )
+    pub fn link(&mut self, p: &mut Pool<Stored>, node: NodeRef, stamp: u64, before: Option<NodeRef>)
         requires { IsReady (step.joining node stamp before) 0 self.old p.old }
         ensures step { IsStep (step.joining node stamp before) (step.joined node stamp before) node 0 self.old self.new p.old p.new }
         ensures like { IsLike self.old self.new }
@@ -120,8 +114,8 @@ impl Structure {
         }
     }
 
-    /// Makes room for n keys in chains; other structures need none. Every node stays where it is. Where memory is refused
-    /// nothing has changed.
+    /// Makes room for n keys in chains; other structures need none. Every node stays where it is. Where there is room
+    /// already it costs nothing and changes nothing, and where memory is refused nothing has changed.
     pub fn make_room(
         &mut self,
         alloc: Global,
@@ -131,6 +125,8 @@ impl Structure {
         requires { IsReady pass.nothing_asked 0 self.old p.old }
         ensures step { (r : Ref) (s : ℕ) → IsStep pass.nothing_asked pass.grown r s self.old self.new p.old p.new }
         ensures like { IsLike self.old self.new }
+        ensures room { IfOk result (λ _. IsRoomy self.new n) }
+        ensures roomy { IsRoomy self.old n → IsOk result × (self.new ≡ self.old) × (p.new ≡ p.old) }
         ensures err { IfErr result (λ _. (self.new ≡ self.old) × (p.new ≡ p.old)) }
     {
         match self {
@@ -279,6 +275,8 @@ fn room_in_chains(
     requires { IsReady pass.nothing_asked 0 (Hashed chains.old) p.old }
     ensures step { (r : Ref) (s : ℕ) → IsStep pass.nothing_asked pass.grown r s (Hashed chains.old) (Hashed chains.new) p.old p.new }
     ensures like { IsLike (Hashed chains.old) (Hashed chains.new) }
+    ensures room { IfOk result (λ _. IsRoomy (Hashed chains.new) n) }
+    ensures roomy { IsRoomy (Hashed chains.old) n → IsOk result × (chains.new ≡ chains.old) × (p.new ≡ p.old) }
     ensures err { IfErr result (λ _. (chains.new ≡ chains.old) × (p.new ≡ p.old)) }
 {
     chains.make_room(alloc, p, n)
