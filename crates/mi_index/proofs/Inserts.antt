@@ -1,29 +1,26 @@
 -- A new node comes into every index.
 --     like_both      what is like a like one is like it
 --     can_insert, is_inserted      from chains that have grown and a node that was taken
-use Rattle.std.proofs.Common.{◌≡◌, ℕ, ◌+◌, ◌==◌, true, false, cond, List, [], ◌∷◌, Option, Some, None, refl, sym, ap, ◌∙◌, subst}
-use Rattle.mi_node.specs.Pool.{Pooled, ref_of, value_of, link_of, IsHeld, taken}
-use Rattle.mi_node.specs.Refs.{Ref, IsOut}
+use Rattle.std.proofs.Common.{◌≡◌, ℕ, ◌+◌, ◌==◌, false, cond, List, [], ◌∷◌, Option, Some, None, refl, sym, ap, ◌∙◌, subst}
+use Rattle.mi_node.specs.Pool.{Pooled, ref_of, value_of, link_of, taken}
+use Rattle.mi_node.specs.Refs.{Ref}
 use Rattle.mi_node.specs.declared.link.Link.{Link}
 use Rattle.mi_node.proofs.Callers.{flip, held_taken, same_refl, ref-taken, value-taken}
 use Rattle.mi_tree.specs.Sorted.{NoneAre}
 use Rattle.mi_chain.specs.Keying.{stamp_at}
-use Rattle.mi_list.specs.Listed.{slot_of}
 use Rattle.mi_index.specs.Orders.{stored_order}
-use Rattle.mi_index.specs.Standing.{slot_in, order_of, Stands, IsLike}
-use Rattle.mi_index.specs.Places.{before_at, NoneHas, HasPlace, CanJoin, IsPut, HasStamp, IsJoined, KeepsTags}
-use Rattle.mi_index.specs.Pass.{AllStand, AllCan, AllDone, AllLike, AreReady, AreChanged, IsPass, IsOutOfAll, KeepsFrom}
+use Rattle.mi_index.specs.Standing.{IsLike}
+use Rattle.mi_index.specs.Places.{before_at, NoneHas, IsPut, HasStamp, IsJoined, KeepsTags}
+use Rattle.mi_index.specs.Pass.{AllStand, AllCan, AllDone, AllLike, AreReady, IsPass}
 use Rattle.mi_index.specs.Passes.{joining, joined, nothing_asked, grown}
 use Rattle.std.specs.declared.cmp.Ordering.TheVariants.{Equal}
 use Rattle.mi_index.specs.Rekeying.{side_of_value, HasPlaceFor}
 use Rattle.mi_index.specs.Inserting.{inserting, inserted, IsInserted}
 use Rattle.mi_index.specs.declared.stored.Stored.{Stored}
 use Rattle.mi_index.specs.declared.orders.ByKey.{ByKey}
-use Rattle.mi_index.specs.declared.orders.ByHash.{ByHash}
 use Rattle.mi_index.specs.declared.moves.Moves.TheVariants.{All}
 use Rattle.mi_index.specs.declared.structure.Structure.{Structure}
 use Rattle.mi_index.specs.declared.structure.Structure.TheVariants.{Ordered, Hashed, Sequenced}
-use Rattle.mi_index.proofs.PassLaws.{like_slot}
 use Rattle.mi_index.proofs.Others.{AgreeBut, but_taken, all_but, out_of_one, out_of_all, OtherTags, place_seen}
 
 -- Structures of one kind

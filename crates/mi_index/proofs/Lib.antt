@@ -6,3 +6,5 @@ pub mod PassLaws
 pub mod Others
 pub mod Inserts
 pub mod Rekeys
+pub mod Opening
+pub mod Looking

@@ -2,11 +2,11 @@
 --     AgreeBut      references, values and links of all other names are the same
 --     stands_but, all_but      structures without that node stand
 --     place_seen, gap_seen      where the node may come in, seen by a value
-use Rattle.std.proofs.Common.{◌≡◌, ℕ, ◌+◌, ◌<◌, ◌==◌, Bool, true, false, cond, List, [], ◌∷◌, ◌++◌, Option, Some, None, option_map, refl, sym, ap, ◌∙◌, subst}
+use Rattle.std.proofs.Common.{◌≡◌, ℕ, ◌+◌, ◌<◌, ◌==◌, Bool, false, cond, List, [], ◌∷◌, Option, Some, None, refl, sym, ap, ◌∙◌, subst}
 use Rattle.std.specs.List.{filter}
 use Rattle.std.specs.declared.cmp.Ordering.{Ordering}
 use Rattle.std.specs.declared.cmp.Ordering.TheVariants.{Equal}
-use Rattle.mi_node.specs.Pool.{Pooled, ref_of, value_of, link_of, IsHeld, no_link, taken, without, with_value}
+use Rattle.mi_node.specs.Pool.{Pooled, ref_of, value_of, link_of, no_link, taken, without, with_value}
 use Rattle.mi_node.specs.Refs.{Ref, first_of, last_of, IsOut, IsApart}
 use Rattle.mi_node.specs.Neighbours.{AreHeld}
 use Rattle.mi_node.specs.declared.link.Tag.{Tag}
@@ -20,7 +20,7 @@ use Rattle.mi_tree.proofs.Shapes.{AllHeld, all_held}
 use Rattle.mi_chain.specs.Keying.{stamp_at, same_nodes, same_values}
 use Rattle.mi_chain.specs.declared.chains.Chains.{Chains}
 use Rattle.mi_index.specs.Orders.{stored_order, keying_of, has_one_key}
-use Rattle.mi_index.specs.Standing.{slot_in, order_of, AllAbove, AllBelow, Stands, IsLike}
+use Rattle.mi_index.specs.Standing.{slot_in, order_of, AllAbove, AllBelow, Stands}
 use Rattle.mi_index.specs.Places.{NoneHas, HasPlace, HasOldPlace}
 use Rattle.mi_index.specs.Pass.{AllStand, IsOutOfAll}
 use Rattle.mi_index.specs.Rekeying.{side_of_value, has_key_of, HasPlaceFor, HasOldPlaceFor}

@@ -3,20 +3,18 @@
 --     can_leave, can_rejoin, is_rekeyed      with a new stamp
 --     can_leave_for, can_return, is_returned      to the places that are given
 use Rattle.std.proofs.Common.{◌≡◌, ℕ, ◌+◌, ◌<◌, ◌^◌, ◌==◌, Bool, true, false, cond, List, [], ◌∷◌, ◌++◌, length, Option, Some, None, option_map, refl, sym, ap, ◌∙◌, subst, arith}
-use Rattle.std.specs.declared.cmp.Ordering.{Ordering}
 use Rattle.std.specs.declared.cmp.Ordering.TheVariants.{Equal}
 use Rattle.mi_node.specs.Pool.{Pooled, ref_of, value_of, link_of, IsHeld, with_value}
 use Rattle.mi_node.specs.Refs.{Ref, first_of, last_of, IsOut, IsApart}
-use Rattle.mi_node.specs.declared.link.Link.{Link}
 use Rattle.mi_node.proofs.Callers.{same_name, same_refl, slots-with_value, ref-with_value, value-with_value, value_here, link-with_value}
 use Rattle.mi_node.proofs.Refs.{apart_remove, out_right}
 use Rattle.mi_tree.specs.Sorted.{compared}
 use Rattle.mi_tree.specs.Frame.{IsAlike, AreAlike}
 use Rattle.mi_index.specs.Standing.{slot_in, order_of, AllAbove, AllBelow, Stands, IsLike}
-use Rattle.mi_index.specs.Places.{mark_at, given_at, is_given, is_moved, place_for, IsWith, HasNode, CanJoin, HasStamp, IsBeside, CanReturn, KeepsTags, IsLeft, IsBack}
+use Rattle.mi_index.specs.Places.{is_given, IsWith, IsBeside, IsLeft}
 use Rattle.mi_index.specs.Pass.{Asks, Gives, AllStand, AllCan, AllDone, AllLike, AreReady, IsPass, IsOutOfAll}
-use Rattle.mi_index.specs.Passes.{IsSame, CanJoinIf, IsJoinedIf, joining, joined, HasNodeIf, IsLeftIf, leaving, left, CanReturnTo, IsBackAt, returning, returned}
-use Rattle.mi_index.specs.Rekeying.{side_of_value, HasPlaceFor, HasOldPlaceFor, KeepsKey, CanMove, HasMoved, CanMoveIf, HasMovedIf, rekeying, rekeyed, CanMoveBack, HasMovedBack, CanMoveBackTo, HasMovedBackTo, returning_to, returned_to, IsRekeyed}
+use Rattle.mi_index.specs.Passes.{IsSame, CanJoinIf, IsJoinedIf, HasNodeIf, IsLeftIf, CanReturnTo, IsBackAt}
+use Rattle.mi_index.specs.Rekeying.{side_of_value, HasPlaceFor, HasOldPlaceFor, KeepsKey, CanMoveIf, HasMovedIf, CanMoveBackTo, HasMovedBackTo, IsRekeyed}
 use Rattle.std.specs.List.{filter}
 use Rattle.mi_list.proofs.Changes.{out_among}
 use Rattle.mi_tree.specs.Sorted.{NoneAre}
@@ -26,13 +24,12 @@ use Rattle.mi_index.specs.declared.stored.Stored.{Stored}
 use Rattle.mi_index.specs.declared.orders.ByKey.{ByKey}
 use Rattle.mi_index.specs.declared.orders.ByHash.{ByHash}
 use Rattle.mi_index.specs.declared.moves.Place.{Place}
-use Rattle.mi_index.specs.declared.moves.Moves.{Moves}
 use Rattle.mi_index.specs.declared.structure.Structure.{Structure}
 use Rattle.mi_index.specs.declared.structure.Structure.TheVariants.{Ordered, Hashed, Sequenced}
 use Rattle.mi_index.proofs.Frames.{stands_alike, itself}
 use Rattle.mi_index.proofs.PassLaws.{like_slot}
 use Rattle.mi_index.proofs.Joining.{long_with}
-use Rattle.mi_index.proofs.Others.{AgreeBut, but_value, stands_but, nodes_apart, OtherTags, place_seen, old_place_seen}
+use Rattle.mi_index.proofs.Others.{but_value, stands_but, nodes_apart, OtherTags, place_seen, old_place_seen}
 use Rattle.mi_index.proofs.Inserts.{place_like, tags_like, tags_but, stamp_over}
 
 -- Cuts

@@ -1,21 +1,20 @@
 -- What a step asks and gives is of its own slot alone, and of references and values.
 --     Stays P, Before Q, After Q      it isn't touched by a change in another slot
 --     .._stays      so it is of each pass
-use Rattle.std.proofs.Common.{◌≡◌, ℕ, ◌==◌, Bool, true, false, List, [], ◌∷◌, Option, Some, None, refl, sym, ap, ◌∙◌, subst}
+use Rattle.std.proofs.Common.{◌≡◌, ℕ, ◌==◌, Bool, true, false, List, Option, Some, None, sym, ap, ◌∙◌, subst}
 use Rattle.std.specs.declared.cmp.Ordering.{Ordering}
 use Rattle.std.specs.declared.cmp.Ordering.TheVariants.{Equal}
-use Rattle.mi_node.specs.Pool.{Pooled, value_of, link_of}
+use Rattle.mi_node.specs.Pool.{Pooled, link_of}
 use Rattle.mi_node.specs.Refs.{Ref, first_of, last_of}
 use Rattle.std.specs.List.{filter}
 use Rattle.mi_node.specs.declared.link.Link.{Link}
-use Rattle.mi_list.specs.Listed.{slot_of}
 use Rattle.mi_tree.specs.Sorted.{NoneAre, compared, by_stamp, stamped, item_of, side_of_new}
 use Rattle.mi_chain.specs.Keying.{Keying, same_values, same_nodes, stamp_at}
 use Rattle.mi_index.specs.Orders.{stored_order, keying_of}
 use Rattle.mi_index.specs.Standing.{slot_in, AllAbove, AllBelow}
-use Rattle.mi_index.specs.Places.{is_moved, place_for, before_at, own_place, NoneHas, HasPlace, CanJoin, HasStamp, IsJoined, IsBeside, KeepsTags, IsLeft, HasOldPlace, CanReturn, IsBack, IsWith}
+use Rattle.mi_index.specs.Places.{is_moved, place_for, before_at, own_place, NoneHas, HasPlace, CanJoin, HasStamp, IsBeside, KeepsTags, HasOldPlace}
 use Rattle.mi_index.specs.Pass.{Asks, Gives}
-use Rattle.mi_index.specs.Passes.{IsSame, CanJoinIf, IsJoinedIf, joining, joined, HasNodeIf, IsLeftIf, leaving, left, CanReturnTo, IsBackAt, returning, returned, nothing_asked, grown}
+use Rattle.mi_index.specs.Passes.{IsSame, CanJoinIf, IsJoinedIf, joining, joined, IsLeftIf, leaving, left, CanReturnTo, IsBackAt, returning, returned, nothing_asked, grown}
 use Rattle.mi_index.specs.Inserting.{IsRelocatedIf, relocating, relocated}
 use Rattle.mi_index.specs.declared.stored.Stored.{Stored}
 use Rattle.mi_index.specs.declared.moves.Place.{Place}

@@ -1,13 +1,9 @@
 -- A new node in all indexes, and a node that moves in one list.
-use Rattle.std.specs.Prelude.{◌≡◌, ℕ, ◌<◌, ◌+◌, ◌^◌, ◌==◌, Bool, true, false, cond, ◌⊎◌, List, [], ◌∷◌, ◌++◌, length, Option, Some, None}
-use Rattle.mi_catalog.specs.declared.index.Index.{Index}
-use Rattle.mi_catalog.specs.declared.index.Column.{Column}
-use Rattle.mi_catalog.specs.declared.index.IndexKind.TheVariants as kinds
+use Rattle.std.specs.Prelude.{◌≡◌, ℕ, ◌<◌, ◌+◌, ◌^◌, ◌==◌, Bool, true, false, cond, ◌⊎◌, List, ◌∷◌, ◌++◌, length, Option, Some, None}
 use Rattle.mi_node.specs.Pool.{Pooled, ref_of, value_of, link_of}
 use Rattle.mi_node.specs.Refs.{Ref, first_of}
-use Rattle.mi_list.specs.Listed.{slot_of}
 use Rattle.mi_index.specs.Places.{before_at, IsJoined}
-use Rattle.mi_index.specs.Pass.{Asks, Gives, AllStand, AllDone, AllLike, IsOutOfAll}
+use Rattle.mi_index.specs.Pass.{Asks, Gives, AllStand, AllDone, IsOutOfAll}
 use Rattle.mi_index.specs.Passes.{IsSame}
 use Rattle.mi_index.specs.Rekeying.{HasPlaceFor}
 use Rattle.mi_index.specs.declared.stored.Stored.{Stored}

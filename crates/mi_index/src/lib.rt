@@ -6,6 +6,7 @@
 pub mod all;
 mod key;
 pub mod laws;
+mod look;
 mod moves;
 mod nodes;
 mod orders;

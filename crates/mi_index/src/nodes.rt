@@ -8,12 +8,14 @@ ghost use Rattle.mi_index.specs.Pass.{AreReady, IsPass, AllLike, AllStand, AllCa
 ghost use Rattle.mi_index.specs.Passes as pass;
 ghost use Rattle.mi_index.specs.Rekeying as rekey;
 ghost use Rattle.mi_index.specs.Inserting as insert;
+ghost use Rattle.mi_index.specs.Opened as opened;
 ghost use Rattle.mi_index.specs.declared.moves.Moves.TheVariants.{All};
 
-use crate::all::{link_all, make_room_all, relink_all, relocate_all, unlink_all};
+use crate::all::{add_structures, link_all, make_room_all, relink_all, relocate_all, unlink_all};
 use crate::moves::{Moves, Place};
 use crate::stored::Stored;
 use crate::structure::Structure;
+use mi_catalog::Schema;
 use mi_node::{NodeRef, Pool};
 use std::alloc::{AllocError, Global};
 
@@ -25,6 +27,27 @@ pub struct Nodes {
 }
 
 impl Nodes {
+    /// The nodes that a table opens with: none. Takes memory for one structure an index. Where it is refused there is
+    /// nothing.
+    pub fn new(alloc: Global, schema: &Schema) -> Result<Nodes, AllocError>
+        ensures { IfOk result (λ n. opened.IsOpened schema.now n.pool n.structures.items) }
+    {
+        let slots = schema.index_count();
+        at_most_sixteen(schema);
+        let mut structures = Vec::new(alloc);
+        add_structures(
+            alloc,
+            schema.indexes(),
+            schema.columns(),
+            0,
+            &mut structures,
+        )?;
+        Ok(Nodes {
+            pool: Pool::with_slots(alloc, slots),
+            structures,
+        })
+    }
+
     /// Puts a value into a new node, and the node into every index: by its key and this stamp, in the list of the index
     /// that is given directly before the node that is given, and last in each other list. `n` is how many nodes there will
     /// be: chains get room for as many keys. It is the one call that takes memory, before anything is altered.
@@ -105,12 +128,7 @@ impl Nodes {
 
     /// Gives a node an old value again, and the other one back. In each index that has a place for it the node moves
     /// there, which is never a list; in the others the key is the same. Takes no memory.
-    pub fn rekey_back(
-        &mut self,
-        node: NodeRef,
-        stored: Stored,
-        places: &[Option<Place>],
-    ) -> Stored
+    pub fn rekey_back(&mut self, node: NodeRef, stored: Stored, places: &[Option<Place>]) -> Stored
         requires held { IsHeld self.old.pool node }
         requires places { AreReady (rekey.returning_to places.now node stored) 0 self.old.structures.items self.old.pool }
         ensures value { value_of self.old.pool node.name ≡ Some result }
@@ -152,6 +170,14 @@ impl Nodes {
     {
         self.pool.give(node)
     }
+}
+
+/// States how many indexes a schema has. It does nothing.
+fn at_most_sixteen(schema: &Schema)
+    ensures some { 1 ≤ length schema.now.indexes }
+    ensures few { length schema.now.indexes ≤ 16 }
+{
+    schema.keeps_rules();
 }
 
 /// Puts a node into each structure in which it moves.

@@ -1,7 +1,6 @@
 -- A node of a list moves, or stays where the place is its own.
-use Rattle.std.proofs.Common.{◌≡◌, ◌⊎◌, inl, inr, List, ◌∷◌, ◌++◌, subst, sym, refl, Some, None}
+use Rattle.std.proofs.Common.{inl, inr, ◌∷◌, ◌++◌, subst, sym, refl}
 use Rattle.mi_node.specs.Pool.{Pooled, Keeps}
-use Rattle.mi_node.specs.Refs.{Ref, first_of}
 use Rattle.mi_list.specs.Listed.{slot_of, IsListed}
 use Rattle.mi_index.specs.Pass.{IsChanged}
 use Rattle.mi_index.specs.Inserting.{moved, IsPlace}

@@ -1,10 +1,7 @@
 -- Chains grow, a node is taken, and then it comes into each structure.
-use Rattle.std.proofs.Common.{◌≡◌, ◌∙◌, None, Option, sym, ap, subst, List}
-use Rattle.mi_node.specs.Pool.{ref_of, taken}
-use Rattle.mi_node.specs.Refs.{Ref}
-use Rattle.mi_index.specs.Pass.{AreReady, IsPass, AllStand, AllCan}
-use Rattle.mi_index.specs.Passes.{joining, joined, nothing_asked}
-use Rattle.mi_index.specs.Inserting.{inserting, IsInserted}
+use Rattle.std.proofs.Common.{sym, subst}
+use Rattle.mi_index.specs.Pass.{AreReady, IsPass}
+use Rattle.mi_index.specs.Passes.{joining, joined}
 use Rattle.mi_index.specs.declared.moves.Moves.TheVariants.{All}
 use Rattle.mi_index.proofs.Inserts.{like_both, nothing_all, can_insert, is_inserted}
 use Rattle.mi_index.proofs.nodes.Nodes.link_in.Goals as goal

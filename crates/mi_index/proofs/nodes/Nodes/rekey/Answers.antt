@@ -1,8 +1,7 @@
 -- The node leaves the indexes that are marked, gets its value, and comes into them again.
-use Rattle.std.proofs.Common.{◌≡◌, ◌∙◌, sym, ap, subst, None}
-use Rattle.mi_node.specs.Pool.{value_of, with_value}
+use Rattle.std.proofs.Common.{◌∙◌, sym, subst, None}
 use Rattle.mi_index.specs.Pass.{AreReady, IsPass}
-use Rattle.mi_index.specs.Passes.{leaving, left, joining, joined}
+use Rattle.mi_index.specs.Passes.{joining, joined}
 use Rattle.mi_index.specs.Places.{mark_at}
 use Rattle.mi_index.specs.declared.moves.Moves.TheVariants.{Marked}
 use Rattle.mi_index.proofs.Inserts.{like_both}

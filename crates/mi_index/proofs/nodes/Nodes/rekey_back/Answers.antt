@@ -1,9 +1,9 @@
 -- The node leaves the indexes that have a place for it, gets its old value, and comes back to the places.
-use Rattle.std.proofs.Common.{◌≡◌, ◌∙◌, sym, ap, subst}
-use Rattle.mi_node.specs.Pool.{IsHeld, value_of, with_value}
+use Rattle.std.proofs.Common.{◌∙◌, sym, subst}
+use Rattle.mi_node.specs.Pool.{IsHeld}
 use Rattle.mi_node.proofs.Callers.{ref-with_value}
 use Rattle.mi_index.specs.Pass.{AreReady, IsPass}
-use Rattle.mi_index.specs.Passes.{leaving, left, returning, returned}
+use Rattle.mi_index.specs.Passes.{returning, returned}
 use Rattle.mi_index.specs.Places.{given_at}
 use Rattle.mi_index.specs.declared.moves.Moves.TheVariants.{Placed}
 use Rattle.mi_index.proofs.Inserts.{like_both}
