@@ -11,18 +11,19 @@ use crate::holder::{Holder, held_by, is_busy, without_holder};
 use crate::line::Line;
 use crate::serve::Answering;
 use mi_catalog::Catalog;
-use mi_protocol::{Command, Reply, ReplyText, Request, bind, parse_line};
+use mi_protocol::{Command, LineReader, Reply, ReplyText, Request, bind};
 use mi_sessions::Sessions;
 use mi_value::Refusal;
 use std::alloc::Global;
 use std::marker::Model;
 
-/// A database, and who holds its open sessions.
+/// A database, who holds its open sessions, and what reads the lines that ask it.
 #[derive(Drop)]
 pub struct Executor<D: Sessions + Drop> {
     pub(crate) database: D,
     pub(crate) holder: Option<Holder>,
     pub(crate) alloc: Global,
+    lines: LineReader,
 }
 
 impl<D: Sessions + Drop> Model for Executor<D> {
@@ -51,6 +52,7 @@ impl<D: Sessions + Drop> Executor<D> {
             database,
             holder: None,
             alloc,
+            lines: LineReader::new(alloc),
         }
     }
 
@@ -151,7 +153,7 @@ impl<D: Sessions + Drop> Executor<D> {
     fn answer_text(&mut self, conn: u64, bytes: &[u8]) -> ReplyText
         ensures { MayGive conn self.old (text bytes.now) (text_bytes result) self.new }
     {
-        match parse_line(self.alloc, bytes) {
+        match self.lines.parse(bytes) {
             Ok(request) => self.answer_request(conn, request),
             Err(refusal) => self.refuse(refusal),
         }

@@ -6,3 +6,4 @@ pub mod ReplyLemmas
 pub mod RowLemmas
 pub mod FirstTableLaws
 pub mod EditOrderLaws
+pub mod ShownLemmas

@@ -6,6 +6,7 @@ pub mod Keys
 pub mod Replies
 pub mod ReplyJson
 pub mod Rows
+pub mod Shown
 pub mod Text
 -- What a line asks.
 pub use Rattle.mi_request.specs.Commands

@@ -3,3 +3,4 @@ pub mod Commands
 pub mod Json
 pub mod Lines
 pub mod ObjectCode
+pub mod Tokens

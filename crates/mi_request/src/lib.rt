@@ -5,13 +5,16 @@
 mod array;
 mod command;
 mod forms;
+mod line_reader;
 mod members;
 mod object;
 mod reading;
 mod request;
 #[cfg(test)]
 mod tests;
+mod tokens;
 
 pub use array::Array;
+pub use line_reader::LineReader;
 pub use object::Object;
 pub use request::{End, Place, Request, parse_line};

@@ -176,7 +176,8 @@ fn name_in(object: &Object) -> Option<CommandName>
     CommandName::of(object.get("cmd")?.as_str()?)
 }
 
-fn request_of(alloc: Global, value: Json) -> Option<Request>
+/// The request that a JSON value is.
+pub(crate) fn request_of(alloc: Global, value: Json) -> Option<Request>
     ensures { result ≡ lines.request_of (view value) }
 {
     let object = object_of(value)?;
