@@ -9,6 +9,7 @@ pub mod Connections
 pub mod Run
 pub mod Drive
 pub mod Watching
+pub mod IoNotes
 pub mod LineLaws
 pub mod RunLaws
 pub mod Places

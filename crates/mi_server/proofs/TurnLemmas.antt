@@ -1,6 +1,9 @@
 -- Clients by turns: which connections stay, and how turns come one behind another.
 use Rattle.std.proofs.Common.{◌≡◌, ◌⊎◌, ℕ, zero, suc, ◌+◌, ◌<◌, ◌≤◌, List, [], ◌∷◌, ◌++◌, length, map, Bool, true, false, cond, nat_eq, Option, Some, None, IsSome, is_some, Result, Ok, Err, refl, sym, ap, ◌∙◌, subst, arith, inl, inr, length-append}
-use Rattle.std.specs.Prelude.{⊤}
+use Rattle.std.specs.Prelude.{⊤, ◌||◌, OnOk, OnErr}
+use Rattle.mi_hub.specs.Watching.{has_failed}
+use Rattle.mi_hub.specs.IoNotes.{reads_fail, writes_fail, with_read, with_write}
+use Rattle.mi_hub.specs.declared.io_errors.IoErrors.{IoErrors}
 use Rattle.std.specs.Result.{result_and}
 use Rattle.std.specs.List.{range_with_len}
 use Rattle.std.proofs.lemmas.List.{map-append, length-map}
@@ -9,10 +12,10 @@ use Rattle.mi_hub.specs.Connections.{rest_at, with_rest, others}
 use Rattle.mi_hub.specs.Run.{HubState, with_connection}
 use Rattle.mi_hub.specs.declared.connection.Connection.{Connection}
 use Rattle.mi_hub.specs.declared.fault.ServeFault.{ServeFault}
-use Rattle.mi_hub.specs.declared.fault.ServeFault.TheVariants.{Read, Turns, Write as ServeWrite}
+use Rattle.mi_hub.specs.declared.fault.ServeFault.TheVariants.{Read, Turns, Accept, Memory, Write as ServeWrite}
 use Rattle.mi_hub.proofs.ConnectionLemmas.{some_with_rest}
-use Rattle.mi_hub.proofs.PieceLemmas.{unsent_piece_gone, unsent_close_gone}
-use Rattle.mi_server.specs.Turns.{fresh, with_clients, Turn, fed, ended, unread, unanswered, unended, conn_of, outcome, Made, ByTurns, row_after, fault_of, first_fault, client_ids, AllAttached, IsNoneOf, AllDiffer, Serves}
+use Rattle.mi_hub.proofs.PieceLemmas.{unsent_piece_gone, unsent_close_gone, same_err}
+use Rattle.mi_server.specs.Turns.{fresh, with_clients, Turn, fed, ended, unread, unanswered, unended, conn_of, outcome, Made, ByTurns, row_after, fault_of, first_fault, noted, all_noted, client_ids, AllSound, AllAttached, IsNoneOf, AllDiffer, Serves}
 use Rattle.mi_server.specs.declared.listener.Client.{Client}
 
 -- ---- attached connections
@@ -255,3 +258,142 @@ module _ {S : Type 0} where
   client_gone clients later x cs ds p first gone =
       let q : Serves (x.conn ∷ client_ids later) cs = subst (λ xs. Serves (client_ids xs) cs) first p in
       serves_gone x.conn (client_ids later) cs ds q (gone q.there.0)
+
+-- ---- what is noted
+
+or_true : (b : Bool) → (b || true) ≡ true
+or_true true = refl
+or_true false = refl
+
+or_false : (b : Bool) → (b || false) ≡ b
+or_false true = refl
+or_false false = refl
+
+pub noted_more : (turns : List Turn) (turn : Turn) (e : IoErrors) → all_noted (turns ++ turn ∷ []) e ≡ noted (outcome turn) (all_noted turns e)
+noted_more [] turn e = refl
+noted_more (t ∷ turns) turn e = noted_more turns turn (noted (outcome t) e)
+
+-- a read was sound, and then what was written failed or didn't
+pub written_noted : (r : Result Bool ServeFault) (failed : Bool) (e : IoErrors) → OnOk r (failed ≡ false) → OnErr r ((r ≡ Err ServeWrite) × (failed ≡ true))
+    → with_write failed (with_read false e) ≡ noted r e
+written_noted (Ok is_open) failed e ok err =
+    ap (λ b. with_write b (with_read false e)) ok ∙ (λ i. record { read = or_false e.read i; write = or_false e.write i })
+written_noted (Err fault) failed e ok err =
+    ap (λ b. with_write b (with_read false e)) err.1 ∙ (λ i. record { read = or_false e.read i; write = e.write || true }) ∙ sym (ap (λ r. noted r e) err.0)
+
+reads_stay : (turns : List Turn) (e : IoErrors) → reads_fail e ≡ true → reads_fail (all_noted turns e) ≡ true
+reads_stay [] e h = h
+reads_stay (fed conn bytes ∷ turns) e h = reads_stay turns e h
+reads_stay (ended conn ∷ turns) e h = reads_stay turns e h
+reads_stay (unread conn ∷ turns) e h = reads_stay turns (with_read true e) (or_true e.read)
+reads_stay (unanswered conn bytes ∷ turns) e h = reads_stay turns (with_write true e) h
+reads_stay (unended conn ∷ turns) e h = reads_stay turns (with_write true e) h
+
+writes_stay : (turns : List Turn) (e : IoErrors) → writes_fail e ≡ true → writes_fail (all_noted turns e) ≡ true
+writes_stay [] e h = h
+writes_stay (fed conn bytes ∷ turns) e h = writes_stay turns e h
+writes_stay (ended conn ∷ turns) e h = writes_stay turns e h
+writes_stay (unread conn ∷ turns) e h = writes_stay turns (with_read true e) h
+writes_stay (unanswered conn bytes ∷ turns) e h = writes_stay turns (with_write true e) (or_true e.write)
+writes_stay (unended conn ∷ turns) e h = writes_stay turns (with_write true e) (or_true e.write)
+
+ok_read : ◌≡◌ {A = Result ⊤ ServeFault} (Ok tt) (Err Read) → ⊥
+ok_read e = cc
+
+ok_write : ◌≡◌ {A = Result ⊤ ServeFault} (Ok tt) (Err ServeWrite) → ⊥
+ok_write e = cc
+
+write_read : ◌≡◌ {A = Result ⊤ ServeFault} (Err ServeWrite) (Err Read) → ⊥
+write_read e = cc
+
+-- the first fault is noted
+pub read_noted : (turns : List Turn) (e : IoErrors) → first_fault turns ≡ Err Read → reads_fail (all_noted turns e) ≡ true
+read_noted [] e h = absurd (ok_read h)
+read_noted (fed conn bytes ∷ turns) e h = read_noted turns e h
+read_noted (ended conn ∷ turns) e h = read_noted turns e h
+read_noted (unread conn ∷ turns) e h = reads_stay turns (with_read true e) (or_true e.read)
+read_noted (unanswered conn bytes ∷ turns) e h = absurd (write_read h)
+read_noted (unended conn ∷ turns) e h = absurd (write_read h)
+
+pub write_noted : (turns : List Turn) (e : IoErrors) → first_fault turns ≡ Err ServeWrite → writes_fail (all_noted turns e) ≡ true
+write_noted [] e h = absurd (ok_write h)
+write_noted (fed conn bytes ∷ turns) e h = write_noted turns e h
+write_noted (ended conn ∷ turns) e h = write_noted turns e h
+write_noted (unread conn ∷ turns) e h = absurd (write_read (sym h))
+write_noted (unanswered conn bytes ∷ turns) e h = writes_stay turns (with_write true e) (or_true e.write)
+write_noted (unended conn ∷ turns) e h = writes_stay turns (with_write true e) (or_true e.write)
+
+-- where no turn has a fault nothing is noted
+pub none_noted : (turns : List Turn) (e : IoErrors) → ◌≡◌ {A = Result ⊤ ServeFault} (first_fault turns) (Ok tt) → all_noted turns e ≡ e
+none_noted [] e h = refl
+none_noted (fed conn bytes ∷ turns) e h = none_noted turns e h
+none_noted (ended conn ∷ turns) e h = none_noted turns e h
+none_noted (unread conn ∷ turns) e h = absurd (ok_read (sym h))
+none_noted (unanswered conn bytes ∷ turns) e h = absurd (ok_write (sym h))
+none_noted (unended conn ∷ turns) e h = absurd (ok_write (sym h))
+
+pub read_turns : ◌≡◌ {A = Result ⊤ ServeFault} (Err Read) (Err Turns) → ⊥
+read_turns e = cc
+
+pub write_turns : ◌≡◌ {A = Result ⊤ ServeFault} (Err ServeWrite) (Err Turns) → ⊥
+write_turns e = cc
+
+pub accept_turns : ◌≡◌ {A = Result ⊤ ServeFault} (Err Accept) (Err Turns) → ⊥
+accept_turns e = cc
+
+pub memory_turns : ◌≡◌ {A = Result ⊤ ServeFault} (Err Memory) (Err Turns) → ⊥
+memory_turns e = cc
+
+pub ok_turns : ◌≡◌ {A = Result ⊤ ServeFault} (Ok tt) (Err Turns) → ⊥
+ok_turns e = cc
+
+-- no turn has another fault than Read and Write
+not_fault : (turns : List Turn) (fault : ServeFault) → (Read ≡ fault → ⊥) → (ServeWrite ≡ fault → ⊥) → first_fault turns ≡ Err fault → ⊥
+not_fault [] fault r w h = ok_err fault h
+  where
+    ok_err : (f : ServeFault) → ◌≡◌ {A = Result ⊤ ServeFault} (Ok tt) (Err f) → ⊥
+    ok_err f e = cc
+not_fault (fed conn bytes ∷ turns) fault r w h = not_fault turns fault r w h
+not_fault (ended conn ∷ turns) fault r w h = not_fault turns fault r w h
+not_fault (unread conn ∷ turns) fault r w h = r (same_err h)
+not_fault (unanswered conn bytes ∷ turns) fault r w h = w (same_err h)
+not_fault (unended conn ∷ turns) fault r w h = w (same_err h)
+
+pub not_accept : (turns : List Turn) → first_fault turns ≡ Err Accept → ⊥
+not_accept turns h = not_fault turns Accept (λ e. cc) (λ e. cc) h
+
+pub not_memory : (turns : List Turn) → first_fault turns ≡ Err Memory → ⊥
+not_memory turns h = not_fault turns Memory (λ e. cc) (λ e. cc) h
+
+-- what comes before the turns is no fault of a stream
+accept_not_read : Accept ≡ Read → ⊥
+accept_not_read e = cc
+
+memory_not_read : Memory ≡ Read → ⊥
+memory_not_read e = cc
+
+accept_not_write : Accept ≡ ServeWrite → ⊥
+accept_not_write e = cc
+
+memory_not_write : Memory ≡ ServeWrite → ⊥
+memory_not_write e = cc
+
+pub early_read : {A : Type 0} (fault : ServeFault) → (◌≡◌ {A = Result A ServeFault} (Err fault) (Err Accept)) ⊎ (◌≡◌ {A = Result A ServeFault} (Err fault) (Err Memory))
+    → (s : Result ⊤ ServeFault) → s ≡ Err fault → s ≡ Err Read → ⊥
+early_read fault (inl a) s e h = accept_not_read (sym (same_err a) ∙ same_err (sym e ∙ h))
+early_read fault (inr m) s e h = memory_not_read (sym (same_err m) ∙ same_err (sym e ∙ h))
+
+pub early_write : {A : Type 0} (fault : ServeFault) → (◌≡◌ {A = Result A ServeFault} (Err fault) (Err Accept)) ⊎ (◌≡◌ {A = Result A ServeFault} (Err fault) (Err Memory))
+    → (s : Result ⊤ ServeFault) → s ≡ Err fault → s ≡ Err ServeWrite → ⊥
+early_write fault (inl a) s e h = accept_not_write (sym (same_err a) ∙ same_err (sym e ∙ h))
+early_write fault (inr m) s e h = memory_not_write (sym (same_err m) ∙ same_err (sym e ∙ h))
+
+pub on_ok : (s : Result ⊤ ServeFault) (P : Type 0) → (s ≡ Ok tt → P) → OnOk s P
+on_ok (Ok tt) P f = f refl
+on_ok (Err e) P f = tt
+
+-- ---- sound streams
+
+pub sound_last : {S : Type 0} (clients : List (Client S)) (c : Client S) → AllSound clients → has_failed c.stream ≡ false → AllSound (clients ++ c ∷ [])
+sound_last [] c h last = (last, tt)
+sound_last (x ∷ clients) c h last = (h.0, sound_last clients c h.1 last)

@@ -8,7 +8,10 @@ use Rattle.mi_hub.specs.Connections.{rest_at}
 use Rattle.mi_hub.specs.Run.{HubState, piece, close, cut, Done, Unsent}
 use Rattle.mi_hub.specs.declared.connection.Connection.{Connection}
 use Rattle.mi_hub.specs.declared.fault.ServeFault.{ServeFault}
-use Rattle.mi_hub.specs.declared.fault.ServeFault.TheVariants.{Read, Write}
+use Rattle.mi_hub.specs.declared.fault.ServeFault.TheVariants.{Read, Write, Accept, Memory, Turns}
+use Rattle.mi_hub.specs.Watching.{has_failed}
+use Rattle.mi_hub.specs.IoNotes.{with_read, with_write}
+use Rattle.mi_hub.specs.declared.io_errors.IoErrors.{IoErrors}
 use Rattle.mi_server.specs.declared.listener.Client.{Client}
 
 -- a connection that has come, with no bytes
@@ -80,6 +83,25 @@ fault_of (Err fault) = Err fault
 abbrev pub first_fault : List Turn → Result ⊤ ServeFault
 first_fault [] = Ok tt
 first_fault (turn ∷ turns) = result_and (fault_of (outcome turn)) (first_fault turns)
+
+-- what is noted of the errors of streams by a turn with this outcome: a failed read, or a failed write or flush
+abbrev pub noted : Result Bool ServeFault → IoErrors → IoErrors
+noted (Ok is_open) e = e
+noted (Err Read) e = with_read true e
+noted (Err Write) e = with_write true e
+noted (Err Accept) e = e
+noted (Err Memory) e = e
+noted (Err Turns) e = e
+
+-- what is noted by these turns, one after another
+abbrev pub all_noted : List Turn → IoErrors → IoErrors
+all_noted [] e = e
+all_noted (turn ∷ turns) e = all_noted turns (noted (outcome turn) e)
+
+-- no stream of these clients has failed
+abbrev pub AllSound : {S : Type 0} → List (Client S) → Type 0
+AllSound [] = Unit {0}
+AllSound (c ∷ clients) = (has_failed c.stream ≡ false) × AllSound clients
 
 -- the numbers of clients, in order
 abbrev pub client_ids : {S : Type 0} → List (Client S) → List ℕ

@@ -1,16 +1,17 @@
 //! Connections of a listener by turns: one piece of each open one after another, until all have ended.
 //! It knows of a connection what its stream reads and takes, and nothing of lines.
-ghost use Rattle.std.specs.Prelude.{◌≡◌, ◌≢◌, ◌⊎◌, ◌≤◌, ◌<◌, ◌∷◌, ℕ, List, [], length, Err, None, IsSome, OnOk, OnErr, IfOk, true};
+ghost use Rattle.std.specs.Prelude.{◌≡◌, ◌≢◌, ◌⊎◌, ◌≤◌, ◌<◌, ◌∷◌, ℕ, List, [], length, Err, None, IsSome, OnOk, OnErr, IfOk, true, false};
 ghost use Rattle.std.specs.List.{range_with_len};
 ghost use Rattle.mi_value.specs.declared.limits.TheConstants.{MAX_CONNECTIONS, MAX_READS, PIECE};
 ghost use Rattle.mi_hub.specs.Run.{HubState, with_connection};
 ghost use Rattle.mi_hub.specs.Connections.{rest_at};
 ghost use Rattle.mi_hub.specs.Watching.{has_failed, Writes};
+ghost use Rattle.mi_hub.specs.IoNotes.{reads_fail, writes_fail};
 ghost use Rattle.mi_server.specs.Buffer.{contents_of};
-ghost use Rattle.mi_server.specs.Turns.{with_clients, Turn, conn_of, outcome, IsPiece, Made, row_after, ByTurns, fault_of, first_fault, client_ids, Serves};
+ghost use Rattle.mi_server.specs.Turns.{with_clients, Turn, conn_of, outcome, IsPiece, Made, row_after, ByTurns, fault_of, first_fault, noted, all_noted, client_ids, AllSound, Serves};
 
 use crate::buffered::Buffered;
-use mi_hub::{Hub, ServeFault, Watched, close_flushed, feed_flushed};
+use mi_hub::{Hub, IoErrors, ServeFault, Watched, close_flushed, feed_flushed};
 use mi_sessions::Sessions;
 use mi_value::limits::{MAX_READS, PIECE};
 use std::alloc::Global;
@@ -33,7 +34,7 @@ fn accept<D: Sessions + Drop, L: OpenListener>(
     conn: u64,
 ) -> Result<Client<L::Stream>, ServeFault>
     requires { rest_at conn hub.old.attached ≡ None }
-    ensures ok { IfOk result (λ client. (client.conn ≡ conn) × (hub.new ≡ with_connection conn hub.old)) }
+    ensures ok { IfOk result (λ client. (client.conn ≡ conn) × (hub.new ≡ with_connection conn hub.old) × (has_failed client.stream ≡ false)) }
     ensures fault { OnErr result (hub.new ≡ hub.old) }
     ensures no_other { OnErr result ((result ≡ Err ServeFault.Accept) ⊎ (result ≡ Err ServeFault.Memory)) }
 {
@@ -63,7 +64,7 @@ fn feed<D: Sessions + Drop, S: Write>(
     ensures turn { (turn : Turn) × (out : List ℕ) × (conn_of turn ≡ client.old.conn) × (result ≡ outcome turn)
         × Writes (contents_of S.contents) client.old.stream client.new.stream out × Made hub.old turn out hub.new }
     ensures same { client.new.conn ≡ client.old.conn }
-    ensures failed { OnErr result (has_failed client.new.stream ≡ true) }
+    ensures failed { OnErr result ((result ≡ Err ServeFault.Write) × (has_failed client.new.stream ≡ true)) }
     ensures sound { OnOk result (has_failed client.new.stream ≡ has_failed client.old.stream) }
 {
     match feed_flushed(hub, client.conn, bytes, &mut client.stream) {
@@ -81,7 +82,7 @@ fn close<D: Sessions + Drop, S: Write>(
     ensures turn { (turn : Turn) × (out : List ℕ) × (conn_of turn ≡ client.old.conn) × (result ≡ outcome turn)
         × Writes (contents_of S.contents) client.old.stream client.new.stream out × Made hub.old turn out hub.new }
     ensures same { client.new.conn ≡ client.old.conn }
-    ensures failed { OnErr result (has_failed client.new.stream ≡ true) }
+    ensures failed { OnErr result ((result ≡ Err ServeFault.Write) × (has_failed client.new.stream ≡ true)) }
     ensures sound { OnOk result (has_failed client.new.stream ≡ has_failed client.old.stream) }
 {
     match close_flushed(hub, client.conn, &mut client.stream) {
@@ -90,29 +91,51 @@ fn close<D: Sessions + Drop, S: Write>(
     }
 }
 
+/// Feeds what one read of a connection gave, or closes it where that was nothing.
+fn feed_or_close<D: Sessions + Drop, S: Write>(
+    hub: &mut Hub<D>,
+    client: &mut Client<S>,
+    bytes: &[u8],
+) -> Result<bool, ServeFault>
+    requires attached { IsSome (rest_at client.old.conn hub.old.attached) }
+    requires piece { length bytes.now ≤ PIECE }
+    ensures turn { (turn : Turn) × (out : List ℕ) × (conn_of turn ≡ client.old.conn) × (result ≡ outcome turn)
+        × Writes (contents_of S.contents) client.old.stream client.new.stream out × Made hub.old turn out hub.new }
+    ensures same { client.new.conn ≡ client.old.conn }
+    ensures failed { OnErr result ((result ≡ Err ServeFault.Write) × (has_failed client.new.stream ≡ true)) }
+    ensures sound { OnOk result (has_failed client.new.stream ≡ has_failed client.old.stream) }
+{
+    if bytes.is_empty() {
+        close(hub, client)
+    } else {
+        feed(hub, client, bytes)
+    }
+}
+
 /// Reads one piece of a connection and feeds it, or closes the connection at the end of its bytes. Answers whether it is open
-/// still; after a fault it has been cut.
+/// still; after a fault it has been cut, and the error of its stream is noted.
 fn take_turn<D: Sessions + Drop, S: Read + Write>(
     hub: &mut Hub<D>,
     client: &mut Client<S>,
     buffer: &mut [u8],
+    errors: &mut IoErrors,
 ) -> Result<bool, ServeFault>
     requires attached { IsSome (rest_at client.old.conn hub.old.attached) }
     requires room { length buffer.old ≡ PIECE }
+    requires sound { has_failed client.old.stream ≡ false }
     ensures turn { (turn : Turn) × (out : List ℕ) × (conn_of turn ≡ client.old.conn) × (result ≡ outcome turn) × Made hub.old turn out hub.new }
     ensures same { client.new.conn ≡ client.old.conn }
     ensures failed { OnErr result (has_failed client.new.stream ≡ true) }
-    ensures sound { OnOk result (has_failed client.new.stream ≡ has_failed client.old.stream) }
+    ensures sound { OnOk result (has_failed client.new.stream ≡ false) }
+    ensures noted { errors.new ≡ noted result errors.old }
 {
-    let Ok(n) = client.stream.read(buffer) else {
+    let Ok(n) = errors.read_from(&mut client.stream, buffer) else {
         let _ = hub.cut(client.conn);
         return Err(ServeFault::Read);
     };
-    if n > 0 {
-        feed(hub, client, &buffer[..n])
-    } else {
-        close(hub, client)
-    }
+    let is_open = feed_or_close(hub, client, &buffer[..n]);
+    errors.note_write(&client.stream);
+    is_open
 }
 
 /// The first of a row of open connections takes its turn; where it stays open it goes behind the others, else it is let go.
@@ -120,15 +143,18 @@ fn next_turn<D: Sessions + Drop, S: Read + Write + Drop>(
     hub: &mut Hub<D>,
     row: &mut VecDeque<Client<S>>,
     buffer: &mut [u8],
+    errors: &mut IoErrors,
 ) -> Result<(), ServeFault>
     requires some { 0 < length row.old.items }
     requires served { Serves (client_ids row.old.items) hub.old.attached }
     requires room { length buffer.old ≡ PIECE }
+    requires sound { AllSound row.old.items }
     ensures turn { (turn : Turn) × (others : List ℕ) × (out : List ℕ) × (client_ids row.old.items ≡ conn_of turn ∷ others) × Made hub.old turn out hub.new
-        × (client_ids row.new.items ≡ row_after turn others) × (result ≡ fault_of (outcome turn)) }
+        × (client_ids row.new.items ≡ row_after turn others) × (result ≡ fault_of (outcome turn)) × (errors.new ≡ noted (outcome turn) errors.old) }
+    ensures sound { AllSound row.new.items }
 {
     let mut client = row.pop_front().unwrap();
-    if take_turn(hub, &mut client, buffer)? {
+    if take_turn(hub, &mut client, buffer, errors)? {
         row.push_back(client).unwrap();
     }
     Ok(())
@@ -152,7 +178,7 @@ fn accept_all<D: Sessions + Drop, L: OpenListener>(
     count: usize,
 ) -> Result<VecDeque<Client<L::Stream>>, ServeFault>
     requires { hub.old.attached ≡ [] }
-    ensures ok { IfOk result (λ row. (client_ids row.items ≡ range_with_len 1 count) × (hub.new ≡ with_clients count hub.old)) }
+    ensures ok { IfOk result (λ row. (client_ids row.items ≡ range_with_len 1 count) × (hub.new ≡ with_clients count hub.old) × AllSound row.items) }
     ensures none { OnErr result (hub.new.attached ≡ []) }
     ensures no_other { OnErr result ((result ≡ Err ServeFault.Accept) ⊎ (result ≡ Err ServeFault.Memory)) }
 {
@@ -175,20 +201,22 @@ fn accept_all<D: Sessions + Drop, L: OpenListener>(
 fn serve_all<D: Sessions + Drop, S: Read + Write + Drop>(
     hub: &mut Hub<D>,
     row: VecDeque<Client<S>>,
+    errors: &mut IoErrors,
 ) -> Result<(), ServeFault>
     requires some { 0 < length row.items }
     requires served { Serves (client_ids row.items) hub.old.attached }
+    requires sound { AllSound row.items }
     ensures none { hub.new.attached ≡ [] }
     ensures served { result ≢ Err ServeFault.Turns → (turns : List Turn)
-        × ByTurns (client_ids row.items) hub.old turns [] hub.new × (result ≡ first_fault turns) }
+        × ByTurns (client_ids row.items) hub.old turns [] hub.new × (result ≡ first_fault turns) × (errors.new ≡ all_noted turns errors.old) }
     ensures turns { result ≡ Err ServeFault.Turns → (turns : List Turn) × (left : List ℕ) × (mid : HubState)
-        × ByTurns (client_ids row.items) hub.old turns left mid × (length turns ≡ MAX_READS) }
+        × ByTurns (client_ids row.items) hub.old turns left mid × (length turns ≡ MAX_READS) × (errors.new ≡ all_noted turns errors.old) }
 {
     let mut row = row;
     let mut first = Ok(());
     let mut buffer = [0u8; PIECE];
     'turns: for _turn in 0..MAX_READS {
-        first = first.and(next_turn(hub, &mut row, &mut buffer));
+        first = first.and(next_turn(hub, &mut row, &mut buffer, errors));
         if row.is_empty() {
             return first;
         }
@@ -212,11 +240,15 @@ fn nobody_holds<D: Sessions + Drop>(hub: &Hub<D>)
 /// A connection whose read or write fails is cut and the others go on; the first such fault is answered at the end, as `Read` or
 /// `Write`. After `Accept`, `Memory` (the row had no room, or an attach was refused) and `Turns` (2^40 reads were made) all
 /// have been cut. Whatever the answer, no connection is attached then, and nobody holds sessions.
+///
+/// The errors that streams answered are noted in `errors`, since the streams are let go: `Read` is answered only where a read of this
+/// call has failed, and `Write` only where a write or a flush has.
 pub fn serve_listener<D: Sessions + Drop, L: OpenListener>(
     alloc: Global,
     hub: &mut Hub<D>,
     listener: &L,
     clients: usize,
+    errors: &mut IoErrors,
 ) -> Result<(), ServeFault>
 where
     L::Stream: Read + Write,
@@ -227,14 +259,22 @@ where
 
     // All connections have come and have had their turns until none was open; the answer is the first fault, or that there was none.
     ensures served { result ≢ Err ServeFault.Accept → result ≢ Err ServeFault.Memory → result ≢ Err ServeFault.Turns →
-        (turns : List Turn) × ByTurns (range_with_len 1 clients) (with_clients clients hub.old) turns [] hub.new × (result ≡ first_fault turns) }
+        (turns : List Turn) × ByTurns (range_with_len 1 clients) (with_clients clients hub.old) turns [] hub.new × (result ≡ first_fault turns)
+        × (errors.new ≡ all_noted turns errors.old) }
 
     // So many turns were made; then those that were open still have been cut.
     ensures turns { result ≡ Err ServeFault.Turns → (turns : List Turn) × (left : List ℕ) × (mid : HubState)
-        × ByTurns (range_with_len 1 clients) (with_clients clients hub.old) turns left mid × (length turns ≡ MAX_READS) }
+        × ByTurns (range_with_len 1 clients) (with_clients clients hub.old) turns left mid × (length turns ≡ MAX_READS)
+        × (errors.new ≡ all_noted turns errors.old) }
+
+    // A fault of a stream is answered only where a stream has failed so.
+    ensures read { result ≡ Err ServeFault.Read → reads_fail errors.new ≡ true }
+    ensures write { result ≡ Err ServeFault.Write → writes_fail errors.new ≡ true }
+    ensures sound { OnOk result (errors.new ≡ errors.old) }
+    ensures unserved { (result ≡ Err ServeFault.Accept) ⊎ (result ≡ Err ServeFault.Memory) → errors.new ≡ errors.old }
 {
     let served = match accept_all(alloc, hub, listener, clients) {
-        Ok(row) => serve_all(hub, row),
+        Ok(row) => serve_all(hub, row, errors),
         Err(fault) => Err(fault),
     };
     nobody_holds(hub);

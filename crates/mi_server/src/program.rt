@@ -19,7 +19,7 @@ use crate::listener::serve_listener;
 use crate::serve::serve;
 use crate::source::catalog;
 use crate::words::{Options, WordsFault, read_words};
-use mi_hub::{Hub, Watched};
+use mi_hub::{Hub, IoErrors, Watched};
 use mi_plain::Plain;
 use mi_sessions::Sessions;
 use std::convert::AsStr;
@@ -60,7 +60,8 @@ fn serve_port<R: Net + AllocGlobal, D: Sessions + Drop>(
         return Err(Failure::Listen);
     };
     let mut hub = Hub::new(rt.alloc(), database);
-    match serve_listener(rt.alloc(), &mut hub, &listener, clients) {
+    let mut errors = IoErrors::none();
+    match serve_listener(rt.alloc(), &mut hub, &listener, clients, &mut errors) {
         Ok(()) => Ok(()),
         Err(fault) => Err(Failure::of_serving(fault)),
     }

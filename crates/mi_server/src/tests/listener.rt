@@ -2,7 +2,7 @@
 ghost use Rattle.std.specs.Prelude.{◌≡◌, [], IfOk};
 
 use crate::listener::serve_listener;
-use mi_hub::{Hub, ServeFault};
+use mi_hub::{Hub, IoErrors, ServeFault};
 use mi_plain::Plain;
 use mi_schema::{Catalog, built_in};
 use mi_sessions::Sessions;
@@ -99,7 +99,8 @@ fn two_clients_are_answered(rt: HostRuntime) -> Result<(), Fail> {
         let second = client(&rt, &listener, row.sent[1])?;
         first.shutdown(Shutdown::Write)?;
         second.shutdown(Shutdown::Write)?;
-        let served = serve_listener(rt.alloc(), &mut hub, &listener, 2);
+        let mut errors = IoErrors::none();
+        let served = serve_listener(rt.alloc(), &mut hub, &listener, 2, &mut errors);
         assert_eq!(rt; served, Ok(()));
         assert_eq!(rt; replies(rt.alloc(), first)?.as_slice(), row.want[0]);
         assert_eq!(rt; replies(rt.alloc(), second)?.as_slice(), row.want[1]);
@@ -117,7 +118,8 @@ fn failed_accept_ends_all(rt: HostRuntime) -> Result<(), Fail> {
     let listener = listen(&rt)?;
     listener.set_nonblocking(true)?;
     let first = client(&rt, &listener, INSERT_A)?;
-    let served = serve_listener(rt.alloc(), &mut hub, &listener, 2);
+    let mut errors = IoErrors::none();
+    let served = serve_listener(rt.alloc(), &mut hub, &listener, 2, &mut errors);
     assert_eq!(rt; served, Err(ServeFault::Accept));
     assert!(rt; first_owner(hub.database()).is_none());
     assert_eq!(rt; hub.attach(1), Ok(()));
@@ -205,8 +207,10 @@ fn others_go_on(rt: HostRuntime) -> Result<(), Fail> {
             sound,
             accepted: Cell::new(false),
         };
-        let served = serve_listener(rt.alloc(), &mut hub, &listener, 2);
+        let mut errors = IoErrors::none();
+        let served = serve_listener(rt.alloc(), &mut hub, &listener, 2, &mut errors);
         assert_eq!(rt; served, Err(fault));
+        assert_eq!(rt; (errors.read(), errors.write()), (!sound, sound));
         assert_eq!(rt; first_owner(hub.database()), Some("b"));
         assert_eq!(rt; hub.database().depth(), 0);
         assert_eq!(rt; hub.database().revision(), 0);

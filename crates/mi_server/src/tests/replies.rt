@@ -5,7 +5,7 @@ ghost use Rattle.mi_hub.specs.Connections.{rest_at};
 use crate::buffered::Buffered;
 use crate::listener::serve_listener;
 use crate::program::run;
-use mi_hub::{Hub, ServeFault, Watched, serve_stream};
+use mi_hub::{Hub, IoErrors, ServeFault, Watched, serve_stream};
 use mi_plain::Plain;
 use mi_schema::{Catalog, built_in};
 use mi_sessions::Sessions;
@@ -261,7 +261,11 @@ fn connections_are_answered(rt: HostRuntime) -> Result<(), Fail> {
             accepted: Cell::new(0),
         };
         let mut hub = opened(rt.alloc())?;
-        assert_eq!(rt; serve_listener(rt.alloc(), &mut hub, &calls, 5), served);
+        let mut errors = IoErrors::none();
+        assert_eq!(rt;
+            serve_listener(rt.alloc(), &mut hub, &calls, 5, &mut errors),
+            served
+        );
         for (i, talk) in talks.iter().enumerate() {
             let is_gone = i == 2 && third == 1;
             assert_eq!(rt;

@@ -1,7 +1,7 @@
-use Rattle.std.proofs.Common.{◌≡◌, ◌+◌, [], ◌∷◌, ◌++◌, refl, ap, ◌∙◌, arith, rules}
+use Rattle.std.proofs.Common.{◌≡◌, ◌+◌, [], ◌∷◌, ◌++◌, refl, sym, ap, ◌∙◌, subst, arith, rules}
 use Rattle.std.specs.VecDeque.{deque_len}
-use Rattle.mi_server.specs.Turns.{client_ids}
-use Rattle.mi_server.proofs.TurnLemmas.{not_come, come_one, ids_one, serves_come}
+use Rattle.mi_server.specs.Turns.{client_ids, AllSound}
+use Rattle.mi_server.proofs.TurnLemmas.{not_come, come_one, ids_one, serves_come, sound_last}
 use Rattle.mi_server.proofs.listener.accept_all.Goals as goal
 
 pub accept-requires : goal.accept-requires
@@ -16,6 +16,7 @@ row-preserved g c =
     let come = c.in-Ok-accept.ensures.ok in
     let items : c.push_back.new.self.items ≡ c.row.row.items ++ c.in-Ok-accept.client ∷ [] = search rules in
     let len : deque_len c.push_back.new.self ≡ deque_len c.row.row + 1 = search rules in record {
+      sound = subst AllSound (sym items) (sound_last c.row.row.items c.in-Ok-accept.client c.row.invariant.sound come.2);
       hub = come.1 ∙ come_one c.row.before _ c.args.hub.now c.row.hub refl c.row.invariant.hub;
       ids = ap client_ids items ∙ ids_one c.row.row.items c.row.before c.in-Ok-accept.client c.row.invariant.ids come.0;
       len = omega (arith, len, c.row.invariant.len);

@@ -1,5 +1,5 @@
 use Rattle.std.proofs.Common.{◌≡◌, ◌<◌, List, length}
-use Rattle.mi_server.specs.Turns.{Turn, ByTurns, first_fault, client_ids, Serves}
+use Rattle.mi_server.specs.Turns.{Turn, ByTurns, first_fault, all_noted, client_ids, AllSound, Serves}
 use Rattle.mi_server.proofs.listener.serve_all.Given as goal
 
 -- so many turns are made, and some connection is open
@@ -10,5 +10,7 @@ invariant-turns g l = record {
   count : length turns ≡ l._turn;
   first : l.first ≡ first_fault turns;
   some : 0 < length l.row.items;
+  noted : l.errors ≡ all_noted turns l.fn.errors;
+  sound : AllSound l.row.items;
   served : Serves (client_ids l.row.items) l.hub.attached;
 }
