@@ -238,3 +238,6 @@ fn grow_each(
 {
     make_room_all(structures.as_mut_slice(), 0, alloc, p, n)
 }
+
+#[cfg(test)]
+mod tests;
