@@ -6,7 +6,6 @@ use Rattle.std.specs.declared.cmp.Ordering.{Ordering}
 use Rattle.std.specs.declared.cmp.Ordering.TheVariants.{Equal}
 use Rattle.std.specs.Ordering.{is_eq}
 use Rattle.std.proofs.lemmas.Cmp.{tied_itself}
-use Rattle.std.specs.Cmp.{IsTotalOrder, on_total}
 use Rattle.mi_value.specs.declared.compare.KeyPart.{KeyPart}
 use Rattle.mi_value.specs.Order.{compare_key}
 use Rattle.mi_value.proofs.OrderLaws.{compare_key_total}

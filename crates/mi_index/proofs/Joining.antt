@@ -6,18 +6,16 @@ use Rattle.std.proofs.Common.{◌≡◌, ℕ, ◌<◌, ◌≤◌, ◌+◌, ◌^�
 use Rattle.std.proofs.lemmas.Bool.{ltb-true, ltb-false}
 use Rattle.mi_node.specs.Pool.{Pooled, link_of, IsHeld, Keeps}
 use Rattle.mi_node.specs.Refs.{Ref, IsOut}
-use Rattle.mi_node.specs.declared.link.Link.{Link}
 use Rattle.mi_node.specs.declared.link.Tag.{Tag}
 use Rattle.mi_node.proofs.Refs.{out_left, out_right}
 use Rattle.mi_node.proofs.Keeping.{keeps_more}
 use Rattle.mi_list.proofs.Changes.{out_among}
-use Rattle.mi_tree.specs.Sorted.{side_of_new}
-use Rattle.mi_chain.specs.Keying.{Keying, same_nodes, stamp_at, hash_node}
-use Rattle.mi_chain.specs.Chained.{AreAfter, AreBefore, IsPlaced, FitsBetween, AreChained}
+use Rattle.mi_chain.specs.Keying.{Keying, same_nodes, stamp_at}
+use Rattle.mi_chain.specs.Chained.{AreAfter, AreBefore, IsPlaced, AreChained}
 use Rattle.mi_chain.specs.declared.chains.Chains.{Chains}
 use Rattle.mi_index.specs.Orders.{keying_of}
 use Rattle.mi_index.specs.Standing.{AllAbove, AllBelow, Climb, Stands}
-use Rattle.mi_index.specs.Places.{NoneHas, HasNode}
+use Rattle.mi_index.specs.Places.{NoneHas}
 use Rattle.mi_index.specs.declared.stored.Stored.{Stored}
 use Rattle.mi_index.specs.declared.orders.ByHash.{ByHash}
 use Rattle.mi_index.specs.declared.structure.Structure.TheVariants.{Hashed}

@@ -3,3 +3,8 @@ pub mod Frames
 pub mod Stays
 pub mod Joining
 pub mod PassLaws
+pub mod Others
+pub mod Inserts
+pub mod Rekeys
+pub mod Opening
+pub mod Looking

@@ -2,10 +2,10 @@
 --     head_ready, tail_ready      what the first structure and those behind it ask for
 --     passed      the whole pass
 use Rattle.std.proofs.Common.{◌≡◌, ℕ, ◌+◌, ◌<◌, ◌==◌, false, List, [], ◌∷◌, refl, ap, ◌∙◌, arith}
-use Rattle.mi_node.specs.Pool.{Pooled, link_of, Keeps}
-use Rattle.mi_node.specs.Refs.{Ref, IsOut}
-use Rattle.mi_index.specs.Standing.{slot_in, Stands, IsLike}
-use Rattle.mi_index.specs.Pass.{Asks, Gives, AllStand, AllCan, AllDone, KeepsFrom, IsReady, IsStep, AreReady, AreChanged, IsPass}
+use Rattle.mi_node.specs.Pool.{Pooled, Keeps}
+use Rattle.mi_node.specs.Refs.{Ref}
+use Rattle.mi_index.specs.Standing.{slot_in, IsLike}
+use Rattle.mi_index.specs.Pass.{Asks, Gives, AllStand, AllCan, AllDone, KeepsFrom, IsReady, IsStep, AreReady, IsPass}
 use Rattle.mi_index.specs.declared.stored.Stored.{Stored}
 use Rattle.mi_index.specs.declared.structure.Structure.{Structure}
 use Rattle.mi_index.specs.declared.structure.Structure.TheVariants.{Ordered, Hashed, Sequenced}

@@ -1,21 +1,21 @@
 -- What a step asks and gives is of its own slot alone, and of references and values.
 --     Stays P, Before Q, After Q      it isn't touched by a change in another slot
 --     .._stays      so it is of each pass
-use Rattle.std.proofs.Common.{◌≡◌, ℕ, ◌==◌, Bool, true, false, List, [], ◌∷◌, Option, Some, None, refl, sym, ap, ◌∙◌, subst}
+use Rattle.std.proofs.Common.{◌≡◌, ℕ, ◌==◌, Bool, true, false, List, Option, Some, None, sym, ap, ◌∙◌, subst}
 use Rattle.std.specs.declared.cmp.Ordering.{Ordering}
 use Rattle.std.specs.declared.cmp.Ordering.TheVariants.{Equal}
-use Rattle.mi_node.specs.Pool.{Pooled, value_of, link_of}
+use Rattle.mi_node.specs.Pool.{Pooled, link_of}
 use Rattle.mi_node.specs.Refs.{Ref, first_of, last_of}
 use Rattle.std.specs.List.{filter}
 use Rattle.mi_node.specs.declared.link.Link.{Link}
-use Rattle.mi_list.specs.Listed.{slot_of}
 use Rattle.mi_tree.specs.Sorted.{NoneAre, compared, by_stamp, stamped, item_of, side_of_new}
 use Rattle.mi_chain.specs.Keying.{Keying, same_values, same_nodes, stamp_at}
 use Rattle.mi_index.specs.Orders.{stored_order, keying_of}
 use Rattle.mi_index.specs.Standing.{slot_in, AllAbove, AllBelow}
-use Rattle.mi_index.specs.Places.{is_moved, place_for, before_at, own_place, NoneHas, HasPlace, CanJoin, HasStamp, IsJoined, IsBeside, KeepsTags, IsLeft, HasOldPlace, CanReturn, IsBack, IsWith}
+use Rattle.mi_index.specs.Places.{is_moved, place_for, before_at, own_place, NoneHas, HasPlace, CanJoin, HasStamp, IsBeside, KeepsTags, HasOldPlace}
 use Rattle.mi_index.specs.Pass.{Asks, Gives}
-use Rattle.mi_index.specs.Passes.{IsSame, CanJoinIf, IsJoinedIf, joining, joined, HasNodeIf, IsLeftIf, leaving, left, CanReturnTo, IsBackAt, returning, returned, nothing_asked, grown}
+use Rattle.mi_index.specs.Passes.{IsSame, CanJoinIf, IsJoinedIf, joining, joined, IsLeftIf, leaving, left, CanReturnTo, IsBackAt, returning, returned, nothing_asked, grown}
+use Rattle.mi_index.specs.Inserting.{IsRelocatedIf, relocating, relocated}
 use Rattle.mi_index.specs.declared.stored.Stored.{Stored}
 use Rattle.mi_index.specs.declared.moves.Place.{Place}
 use Rattle.mi_index.specs.declared.moves.Moves.{Moves}
@@ -196,3 +196,22 @@ grown_before s x l m n rs us e a h = record { list = h.list; tags = tags_before 
 
 pub grown_after : After grown
 grown_after s x m n o rs us e a h = record { list = h.list; tags = tags_after x m n o a h.tags }
+
+-- A node moves in one list
+
+pub relocating_stays : (index : ℕ) (r : Ref) (b : Option Ref) → Stays (relocating index r b)
+relocating_stays index r b s x m n rs e a c = c
+
+relocated_if_before : (here : Bool) (x : Structure) (l m n : Pooled Stored) (r : Ref) (b : Option Ref) (rs us : List Ref) → Agree (slot_in x) l m → IsRelocatedIf here x m n r b rs us → IsRelocatedIf here x l n r b rs us
+relocated_if_before true x l m n r b rs us a h = h
+relocated_if_before false x l m n r b rs us a h = same_before x l m n rs us a h
+
+relocated_if_after : (here : Bool) (x : Structure) (m n o : Pooled Stored) (r : Ref) (b : Option Ref) (rs us : List Ref) → Agree (slot_in x) n o → IsRelocatedIf here x m n r b rs us → IsRelocatedIf here x m o r b rs us
+relocated_if_after true x m n o r b rs us a h = h
+relocated_if_after false x m n o r b rs us a h = same_after x m n o rs us a h
+
+pub relocated_before : (index : ℕ) (r : Ref) (b : Option Ref) → Before (relocated index r b)
+relocated_before index r b s x l m n rs us e a h = relocated_if_before (s == index) x l m n r b rs us a h
+
+pub relocated_after : (index : ℕ) (r : Ref) (b : Option Ref) → After (relocated index r b)
+relocated_after index r b s x m n o rs us e a h = relocated_if_after (s == index) x m n o r b rs us a h

@@ -1,13 +1,9 @@
 -- A new node in all indexes, and a node that moves in one list.
-use Rattle.std.specs.Prelude.{◌≡◌, ℕ, ◌<◌, ◌+◌, ◌^◌, ◌==◌, Bool, true, false, cond, ◌⊎◌, List, [], ◌∷◌, ◌++◌, length, Option, Some, None}
-use Rattle.mi_catalog.specs.declared.index.Index.{Index}
-use Rattle.mi_catalog.specs.declared.index.Column.{Column}
-use Rattle.mi_catalog.specs.declared.index.IndexKind.TheVariants as kinds
+use Rattle.std.specs.Prelude.{◌≡◌, ℕ, ◌<◌, ◌+◌, ◌^◌, ◌==◌, Bool, true, false, cond, ◌⊎◌, List, ◌∷◌, ◌++◌, length, Option, Some, None}
 use Rattle.mi_node.specs.Pool.{Pooled, ref_of, value_of, link_of}
 use Rattle.mi_node.specs.Refs.{Ref, first_of}
-use Rattle.mi_list.specs.Listed.{slot_of}
 use Rattle.mi_index.specs.Places.{before_at, IsJoined}
-use Rattle.mi_index.specs.Pass.{Asks, Gives, AllStand, AllDone, AllLike, IsOutOfAll}
+use Rattle.mi_index.specs.Pass.{Asks, Gives, AllStand, AllDone, IsOutOfAll}
 use Rattle.mi_index.specs.Passes.{IsSame}
 use Rattle.mi_index.specs.Rekeying.{HasPlaceFor}
 use Rattle.mi_index.specs.declared.stored.Stored.{Stored}
@@ -47,10 +43,26 @@ CanRelocate (Ordered t) r b rs = ⊥
 CanRelocate (Hashed c) r b rs = ⊥
 CanRelocate (Sequenced l) r b rs = (xs : List Ref) × (ys : List Ref) × (rs ≡ xs ++ r ∷ ys) × IsPlace r b (xs ++ ys)
 
--- nothing changes where both are one node; else it stands directly before the other, or last
-pub record IsRelocated (r : Ref) (b : Option Ref) (rs us : List Ref) : Type 0 where
-  pub itself : b ≡ Some r → us ≡ rs
-  pub moved : (xs ys ps qs : List Ref) → rs ≡ xs ++ r ∷ ys → xs ++ ys ≡ ps ++ qs → first_of qs None ≡ b → us ≡ ps ++ r ∷ qs
+-- it stands directly before the other node, or last
+pub record IsPlaced (r : Ref) (b : Option Ref) (rs us : List Ref) : Type 0 where
+  pub xs : List Ref
+  pub ys : List Ref
+  pub was : rs ≡ xs ++ r ∷ ys
+  pub ps : List Ref
+  pub qs : List Ref
+  pub others : xs ++ ys ≡ ps ++ qs
+  pub at : first_of qs None ≡ b
+  pub now : us ≡ ps ++ r ∷ qs
+
+-- nothing changes where both are one node
+abbrev pub IsRelocated : Ref → Option Ref → List Ref → List Ref → Type 0
+IsRelocated r b rs us = ((b ≡ Some r) × (us ≡ rs)) ⊎ IsPlaced r b rs us
+
+abbrev pub moving : Ref → Option Ref → Asks
+moving r b s x m rs = CanRelocate x r b rs
+
+abbrev pub moved : Ref → Option Ref → Gives
+moved r b s x m n rs us = IsRelocated r b rs us
 
 abbrev pub CanRelocateIf : Bool → Structure → Ref → Option Ref → List Ref → Type 0
 CanRelocateIf true x r b rs = CanRelocate x r b rs

@@ -10,3 +10,5 @@ pub mod Steps
 pub mod Passes
 pub mod Rekeying
 pub mod Inserting
+pub mod Looks
+pub mod Opened

@@ -6,7 +6,7 @@
 use Rattle.std.specs.Prelude.{◌≡◌, ℕ, ◌+◌, ◌<◌, ◌==◌, false, List, [], ◌∷◌}
 use Rattle.mi_node.specs.Pool.{Pooled, ref_of, value_of, link_of, Keeps}
 use Rattle.mi_node.specs.Refs.{Ref, IsOut}
-use Rattle.mi_index.specs.Standing.{slot_in, Stands, IsLike}
+use Rattle.mi_index.specs.Standing.{slot_in, Stands, IsLike, IsRoomy}
 use Rattle.mi_index.specs.declared.stored.Stored.{Stored}
 use Rattle.mi_index.specs.declared.structure.Structure.{Structure}
 
@@ -42,6 +42,10 @@ AllLike [] [] = Unit {0}
 AllLike [] (y ∷ ys) = ⊥
 AllLike (x ∷ xs) [] = ⊥
 AllLike (x ∷ xs) (y ∷ ys) = IsLike x y × AllLike xs ys
+
+abbrev pub AllRoomy : List Structure → ℕ → Type 0
+AllRoomy [] n = Unit {0}
+AllRoomy (x ∷ xs) n = IsRoomy x n × AllRoomy xs n
 
 -- no node of that name
 abbrev pub IsOutOfAll : ℕ → List (List Ref) → Type 0

@@ -2,7 +2,7 @@
 --     HasPlaceFor, HasOldPlaceFor      a node may come in, or back, with a value that it hasn't got yet
 --     rekeying, rekeyed      by a new stamp
 --     returning_to, returned_to      back to the places that it had
-use Rattle.std.specs.Prelude.{◌≡◌, ℕ, ◌<◌, ◌+◌, ◌^◌, ◌==◌, Bool, true, false, cond, List, ◌∷◌, ◌++◌, length, Option, Some, None}
+use Rattle.std.specs.Prelude.{◌≡◌, ℕ, ◌<◌, ◌^◌, ◌==◌, Bool, true, false, cond, List, ◌∷◌, ◌++◌, length, Option, Some, None}
 use Rattle.std.specs.List.{filter}
 use Rattle.std.specs.declared.cmp.Ordering.{Ordering}
 use Rattle.std.specs.declared.cmp.Ordering.TheVariants.{Equal}
@@ -59,6 +59,7 @@ pub record CanMove (x : Structure) (m : Pooled Stored) (r : Ref) (v : Stored) (s
   pub xs : List Ref
   pub ys : List Ref
   pub parts : rs ≡ xs ++ r ∷ ys
+  pub few : length rs < 2 ^ 32
   pub place : HasPlaceFor x m v stamp None (xs ++ ys)
 
 pub record HasMoved (x : Structure) (m n : Pooled Stored) (r : Ref) (stamp : ℕ) (rs us : List Ref) : Type 0 where
@@ -88,6 +89,7 @@ pub record CanMoveBack (x : Structure) (m : Pooled Stored) (r : Ref) (v : Stored
   pub xs : List Ref
   pub ys : List Ref
   pub parts : rs ≡ xs ++ r ∷ ys
+  pub few : length rs < 2 ^ 32
   pub place : HasOldPlaceFor x m v p (xs ++ ys)
 
 pub record HasMovedBack (x : Structure) (m n : Pooled Stored) (r : Ref) (p : Place) (rs us : List Ref) : Type 0 where

@@ -2,7 +2,7 @@
 --     slot_in, order_of      the slot of its links, and which values may stand for one another in it
 --     Stands x m rs      it stands in the pool m with the nodes rs: by key and stamp, by stamp, or in an order of its own
 --     IsLike      of one kind, slot and key
-use Rattle.std.specs.Prelude.{◌≡◌, ℕ, ◌<◌, List, [], ◌∷◌}
+use Rattle.std.specs.Prelude.{◌≡◌, ℕ, ◌<◌, ◌≤◌, List, [], ◌∷◌, vec_len}
 use Rattle.std.specs.declared.cmp.Ordering.{Ordering}
 use Rattle.std.specs.declared.cmp.Ordering.TheVariants.{Equal}
 use Rattle.std.specs.Ordering.{on}
@@ -11,6 +11,7 @@ use Rattle.mi_node.specs.Pool.{Pooled}
 use Rattle.mi_node.specs.Refs.{Ref}
 use Rattle.mi_list.specs.Listed.{slot_of, IsListed}
 use Rattle.mi_tree.specs.Standing.{IsTree}
+use Rattle.mi_tree.specs.Frame.{AreAlike}
 use Rattle.mi_chain.specs.Keying.{stamp_at}
 use Rattle.mi_chain.specs.Chained.{AreChained}
 use Rattle.mi_index.specs.Orders.{stored_order, stored_tag, keying_of}
@@ -58,3 +59,13 @@ IsLike (Hashed c) (Sequenced k) = ⊥
 IsLike (Sequenced l) (Ordered u) = ⊥
 IsLike (Sequenced l) (Hashed d) = ⊥
 IsLike (Sequenced l) (Sequenced k) = slot_of k ≡ slot_of l
+
+-- chains have a bucket for each of n keys; other structures need no room
+abbrev pub IsRoomy : Structure → ℕ → Type 0
+IsRoomy (Ordered t) n = Unit {0}
+IsRoomy (Hashed c) n = n ≤ vec_len c.buckets
+IsRoomy (Sequenced l) n = Unit {0}
+
+-- a structure stands wherever each of its nodes has the same reference, the same link of its slot, and a value of the same key
+abbrev pub StandWhereAlike : Type 0
+StandWhereAlike = (x : Structure) (m n : Pooled Stored) (rs : List Ref) → n.slots ≡ m.slots → AreAlike (order_of x) m n (slot_in x) rs → Stands x m rs → Stands x n rs

@@ -4,12 +4,16 @@ ghost use Rattle.std.specs.Prelude.{◌≡◌, ◌+◌, ◌<◌, ◌^◌, List a
 ghost use Rattle.mi_node.specs.Pool.{IsHeld};
 ghost use Rattle.mi_node.specs.Refs.{Ref};
 ghost use Rattle.mi_index.specs.Standing.{slot_in, IsLike};
-ghost use Rattle.mi_index.specs.Pass.{IsReady, IsStep, AreReady, IsPass, AllLike};
+ghost use Rattle.mi_index.specs.Pass.{IsReady, IsStep, AreReady, IsPass, AllLike, AllRoomy};
 ghost use Rattle.mi_index.specs.Passes as pass;
+ghost use Rattle.mi_index.specs.Inserting as insert;
+ghost use Rattle.mi_index.specs.Opened as opened;
+ghost use Rattle.mi_index.specs.declared.structure.Structure.{Structure as One};
 
 use crate::moves::{Moves, before_in};
 use crate::stored::Stored;
 use crate::structure::Structure;
+use mi_catalog::{Column, Index};
 use mi_node::{NodeRef, Pool};
 use std::alloc::{AllocError, Global};
 
@@ -66,6 +70,24 @@ fn relink_one(
     let link = p.link(node, slot);
     if let Some(place) = moves.place_in(slot, link) {
         structure.relink(p, node, place);
+    }
+}
+
+/// Moves a node in one structure, if that is of the index of this number.
+fn relocate_one(
+    structure: &mut Structure,
+    slot: usize,
+    p: &mut Pool<Stored>,
+    index: usize,
+    node: NodeRef,
+    before: Option<NodeRef>,
+)
+    requires { IsReady (insert.relocating index node before) slot structure.old p.old }
+    ensures step { IsStep (insert.relocating index node before) (insert.relocated index node before) node slot structure.old structure.new p.old p.new }
+    ensures like { IsLike structure.old structure.new }
+{
+    if slot == index {
+        structure.move_before(p, node, before);
     }
 }
 
@@ -130,6 +152,27 @@ pub fn relink_all(
     }
 }
 
+/// Moves a node in the list of the index of this number, if it is one of the structures, the first of which has this
+/// slot.
+pub fn relocate_all(
+    structures: &mut [Structure],
+    slot: usize,
+    p: &mut Pool<Stored>,
+    index: usize,
+    node: NodeRef,
+    before: Option<NodeRef>,
+)
+    requires all { AreReady (insert.relocating index node before) slot structures.old p.old }
+    requires few { slot + length structures.old < 2 ^ 64 }
+    ensures pass { IsPass (insert.relocating index node before) (insert.relocated index node before) node slot structures.old structures.new p.old p.new }
+    ensures like { AllLike structures.old structures.new }
+{
+    if let Some((first, rest)) = structures.split_first_mut() {
+        relocate_one(first, slot, p, index, node, *&before);
+        relocate_all(rest, slot + 1, p, index, node, before);
+    }
+}
+
 /// Makes room for n nodes in every structure, the first of which has this slot. No list changes, also where memory is
 /// refused: it then goes on with the others.
 pub fn make_room_all(
@@ -143,11 +186,31 @@ pub fn make_room_all(
     requires few { slot + length structures.old < 2 ^ 64 }
     ensures pass { (r : Ref) → IsPass pass.nothing_asked pass.grown r slot structures.old structures.new p.old p.new }
     ensures like { AllLike structures.old structures.new }
+    ensures room { IfOk result (λ _. AllRoomy structures.new n) }
 {
     if let Some((first, rest)) = structures.split_first_mut() {
         let first_made = first.make_room(alloc, p, n);
         let rest_made = make_room_all(rest, slot + 1, alloc, p, n);
         return first_made.and(rest_made);
+    }
+    Ok(())
+}
+
+/// Adds a structure for each index of a table with these columns, the first of which has this number. Where memory is
+/// refused some may have been added.
+pub(crate) fn add_structures(
+    alloc: Global,
+    indexes: &[Index],
+    columns: &[Column],
+    slot: usize,
+    made: &mut Vec<Structure>,
+) -> Result<(), AllocError>
+    requires { slot + length indexes.now < 2 ^ 64 }
+    ensures { IfOk result (λ _. (ys : Seq One) × (made.new.items ≡ made.old.items ++ ys) × opened.AllFor columns.now indexes.now slot ys × opened.AllEmpty ys) }
+{
+    if let Some((index, rest)) = indexes.split_first() {
+        made.push(Structure::new(alloc, slot, index, columns)?)?;
+        add_structures(alloc, rest, columns, slot + 1, made)?;
     }
     Ok(())
 }

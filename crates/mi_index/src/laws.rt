@@ -1,5 +1,6 @@
-//! Laws of orders, tags and hashes: each is the contract of a function that does nothing.
+//! Laws of orders, tags, hashes and structures: each is the contract of a function that does nothing.
 ghost use Rattle.mi_index.specs.Orders.{OrdersAreLawful, KeyingsAreLawful};
+ghost use Rattle.mi_index.specs.Standing.{StandWhereAlike};
 ghost use Rattle.mi_index.specs.Tags.{TagsOrderKeys, ExactTagsAreKeys, TagsOrderProbes, ExactTagsAreProbes};
 
 /// Of two records the one with the smaller tag is less, by every key that begins with the tag's part.
@@ -31,4 +32,10 @@ pub fn orders_are_lawful()
 /// To have one key in a hashed index is an equivalence, and equal keys and their probes have one hash.
 pub fn keyings_are_lawful()
     ensures { KeyingsAreLawful }
+{}
+
+/// A structure stands wherever each of its nodes has the same reference, the same link of its slot, and a value of the
+/// same key. So other slots, other nodes and what no key reads may change.
+pub fn structures_stand_where_alike()
+    ensures { StandWhereAlike }
 {}

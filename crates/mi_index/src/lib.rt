@@ -6,13 +6,16 @@
 pub mod all;
 mod key;
 pub mod laws;
+mod look;
 mod moves;
+mod nodes;
 mod orders;
 mod stored;
 mod structure;
 pub mod tags;
 
 pub use moves::{Moves, Place};
+pub use nodes::Nodes;
 pub use orders::{ByHash, ByKey};
 pub use stored::Stored;
 pub use structure::Structure;

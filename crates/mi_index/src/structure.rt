@@ -6,21 +6,24 @@ ghost use Rattle.mi_node.specs.Refs.{Ref, first_of, last_of};
 ghost use Rattle.mi_node.specs.Pool.{link_of};
 ghost use Rattle.mi_chain.specs.Keying.{same_nodes, has_key};
 ghost use Rattle.mi_index.specs.Orders.{keying_of, place_in};
-ghost use Rattle.mi_index.specs.Standing.{slot_in, Stands, IsLike};
+ghost use Rattle.mi_index.specs.Standing.{IsLike, IsRoomy};
 ghost use Rattle.mi_index.specs.Places as places;
 ghost use Rattle.mi_index.specs.Pass.{IsReady, IsStep};
 ghost use Rattle.mi_index.specs.Passes as pass;
 ghost use Rattle.mi_index.specs.Steps as step;
+ghost use Rattle.mi_index.specs.Opened as opened;
+ghost use Rattle.mi_index.specs.Inserting as insert;
 ghost use Rattle.mi_index.specs.declared.structure.Structure.TheVariants.{Ordered, Hashed, Sequenced};
 
 use crate::moves::Place;
 use crate::orders::{ByHash, ByKey};
 use crate::stored::Stored;
-use mi_chain::{Chains, KeyHash};
+use mi_catalog::{Column, Index, IndexKind, Parts};
+use mi_chain::Chains;
 use mi_list::List;
 use mi_node::{Link, NodeRef, Pool, Tag};
 use mi_tree::Tree;
-use mi_value::Steps;
+use mi_value::{ColumnType, KeyPart, Steps};
 use std::alloc::{AllocError, Global};
 
 /// The structure of an index: a tree for an ordered or ranked one, chains for a hashed one, a list for a sequenced one.
@@ -32,15 +35,33 @@ pub enum Structure {
 }
 
 impl Structure {
+    /// The structure of an index of a table with these columns, through the slot of its number, without nodes. Where
+    /// memory is refused there is none.
+    pub fn new(
+        alloc: Global,
+        slot: usize,
+        index: &Index,
+        columns: &[Column],
+    ) -> Result<Structure, AllocError>
+        ensures { IfOk result (λ x. opened.IsFor columns.now index.now slot x × opened.IsEmpty x) }
+    {
+        match index.kind {
+            IndexKind::Ordered | IndexKind::Ranked => {
+                let column = first_type(columns, index.parts.as_slice());
+                let parts = Parts::new(index.parts.as_slice().to_vec(alloc)?);
+                Ok(Structure::Ordered(Tree::new(slot, ByKey { parts, column })))
+            }
+            IndexKind::Hashed => {
+                let parts = Parts::new(index.parts.as_slice().to_vec(alloc)?);
+                Ok(Structure::Hashed(Chains::new(alloc, slot, ByHash { parts })?))
+            }
+            IndexKind::Sequenced => Ok(Structure::Sequenced(List::new(slot))),
+        }
+    }
+
     /// Puts a node in: by its key and this stamp, or in a list, which has no stamps, directly before `before`, or last
     /// where that is `None`. Takes no memory.
-    pub fn link(
-        &mut self,
-        p: &mut Pool<Stored>,
-        node: NodeRef,
-        stamp: u64,
-        before: Option<NodeRef>,
-    )
+    pub fn link(&mut self, p: &mut Pool<Stored>, node: NodeRef, stamp: u64, before: Option<NodeRef>)
         requires { IsReady (step.joining node stamp before) 0 self.old p.old }
         ensures step { IsStep (step.joining node stamp before) (step.joined node stamp before) node 0 self.old self.new p.old p.new }
         ensures like { IsLike self.old self.new }
@@ -80,8 +101,21 @@ impl Structure {
         }
     }
 
-    /// Makes room for n keys in chains; other structures need none. Every node stays where it is. Where memory is refused
-    /// nothing has changed.
+    /// Moves a node of a list directly before `before`, another node of the list, or to the end where that is `None`.
+    /// Nothing changes where both are one node. Only a list has an order that is changed so. Takes no memory.
+    pub fn move_before(&mut self, p: &mut Pool<Stored>, node: NodeRef, before: Option<NodeRef>)
+        requires { IsReady (insert.moving node before) 0 self.old p.old }
+        ensures step { IsStep (insert.moving node before) (insert.moved node before) node 0 self.old self.new p.old p.new }
+        ensures like { IsLike self.old self.new }
+    {
+        match self {
+            Structure::Ordered(_) | Structure::Hashed(_) => {}
+            Structure::Sequenced(list) => move_in_list(list, p, node, before),
+        }
+    }
+
+    /// Makes room for n keys in chains; other structures need none. Every node stays where it is. Where there is room
+    /// already it costs nothing and changes nothing, and where memory is refused nothing has changed.
     pub fn make_room(
         &mut self,
         alloc: Global,
@@ -91,12 +125,27 @@ impl Structure {
         requires { IsReady pass.nothing_asked 0 self.old p.old }
         ensures step { (r : Ref) (s : ℕ) → IsStep pass.nothing_asked pass.grown r s self.old self.new p.old p.new }
         ensures like { IsLike self.old self.new }
+        ensures room { IfOk result (λ _. IsRoomy self.new n) }
+        ensures roomy { IsRoomy self.old n → IsOk result × (self.new ≡ self.old) × (p.new ≡ p.old) }
         ensures err { IfErr result (λ _. (self.new ≡ self.old) × (p.new ≡ p.old)) }
     {
         match self {
             Structure::Hashed(chains) => room_in_chains(chains, alloc, p, n),
             Structure::Ordered(_) | Structure::Sequenced(_) => Ok(()),
         }
+    }
+}
+
+/// The type of the column of the first part, by which tags are made. Where there is none, that of the id.
+fn first_type(columns: &[Column], parts: &[KeyPart]) -> ColumnType
+    ensures { result ≡ opened.first_type columns.now parts.now }
+{
+    match parts {
+        [] => ColumnType::Int,
+        [part, ..] => match columns.get(part.column) {
+            Some(column) => column.kind,
+            None => ColumnType::Int,
+        },
     }
 }
 
@@ -209,6 +258,14 @@ fn relink_list(list: &mut List, p: &mut Pool<Stored>, node: NodeRef, place: Plac
     list.relink(p, node);
 }
 
+fn move_in_list(list: &mut List, p: &mut Pool<Stored>, node: NodeRef, before: Option<NodeRef>)
+    requires { IsReady (insert.moving node before) 0 (Sequenced list.old) p.old }
+    ensures step { IsStep (insert.moving node before) (insert.moved node before) node 0 (Sequenced list.old) (Sequenced list.new) p.old p.new }
+    ensures like { IsLike (Sequenced list.old) (Sequenced list.new) }
+{
+    list.move_before(p, node, before);
+}
+
 fn room_in_chains(
     chains: &mut Chains<ByHash>,
     alloc: Global,
@@ -218,6 +275,8 @@ fn room_in_chains(
     requires { IsReady pass.nothing_asked 0 (Hashed chains.old) p.old }
     ensures step { (r : Ref) (s : ℕ) → IsStep pass.nothing_asked pass.grown r s (Hashed chains.old) (Hashed chains.new) p.old p.new }
     ensures like { IsLike (Hashed chains.old) (Hashed chains.new) }
+    ensures room { IfOk result (λ _. IsRoomy (Hashed chains.new) n) }
+    ensures roomy { IsRoomy (Hashed chains.old) n → IsOk result × (chains.new ≡ chains.old) × (p.new ≡ p.old) }
     ensures err { IfErr result (λ _. (chains.new ≡ chains.old) × (p.new ≡ p.old)) }
 {
     chains.make_room(alloc, p, n)

@@ -1,7 +1,7 @@
 -- The first structure grows, and then the others.
 use Rattle.std.proofs.Common.{rules, ◌≡◌, ◌+◌, ◌<◌, ◌^◌, ◌∷◌, length, sym, subst, arith}
 use Rattle.mi_node.specs.Refs.{Ref}
-use Rattle.mi_index.specs.Pass.{AreReady, IsStep, IsPass}
+use Rattle.mi_index.specs.Pass.{AreReady, IsPass}
 use Rattle.mi_index.specs.Passes.{nothing_asked, grown}
 use Rattle.mi_index.proofs.Stays.{nothing_stays, grown_before, grown_after}
 use Rattle.mi_index.proofs.PassLaws.{tail_ready, passed}

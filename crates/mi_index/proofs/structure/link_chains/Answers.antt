@@ -1,7 +1,6 @@
 -- A node joins the chains between those of lower and of greater stamps.
-use Rattle.std.proofs.Common.{◌≡◌, ap, ◌∙◌, sym, subst, List, ◌∷◌, ◌++◌, refl, cond}
+use Rattle.std.proofs.Common.{ap, ◌∙◌, sym, subst, ◌∷◌, ◌++◌, refl, cond}
 use Rattle.mi_node.specs.Pool.{Keeps, link_of}
-use Rattle.mi_node.specs.Refs.{Ref}
 use Rattle.mi_node.specs.declared.link.Tag.{Tag}
 use Rattle.mi_node.proofs.Callers.{same_refl}
 use Rattle.mi_chain.specs.Keying.{stamp_at, hash_node}

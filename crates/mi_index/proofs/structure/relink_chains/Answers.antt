@@ -1,7 +1,6 @@
 -- A node comes back to the chains, between those of its key that the place names.
-use Rattle.std.proofs.Common.{◌≡◌, ap, ◌∙◌, sym, subst, List, ◌∷◌, ◌++◌, refl, cond}
+use Rattle.std.proofs.Common.{ap, ◌∙◌, sym, subst, ◌∷◌, ◌++◌, refl, cond}
 use Rattle.mi_node.specs.Pool.{Keeps, link_of}
-use Rattle.mi_node.specs.Refs.{Ref}
 use Rattle.mi_node.specs.declared.link.Link.{Link}
 use Rattle.mi_node.specs.declared.link.Tag.{Tag}
 use Rattle.mi_node.proofs.Callers.{same_refl}

@@ -1,7 +1,7 @@
 -- A node comes back between the neighbours that its own link names.
-use Rattle.std.proofs.Common.{◌≡◌, subst, sym, ap, ◌∙◌, ◌∷◌, ◌++◌, refl, List}
+use Rattle.std.proofs.Common.{subst, sym, ap, ◌∙◌, ◌∷◌, ◌++◌, refl}
 use Rattle.mi_node.specs.Pool.{Keeps}
-use Rattle.mi_node.specs.Refs.{Ref, IsOut}
+use Rattle.mi_node.specs.Refs.{IsOut}
 use Rattle.mi_node.proofs.Keeping.{keeps_more}
 use Rattle.mi_list.specs.Listed.{slot_of, IsListed, FitsBetween}
 use Rattle.mi_index.specs.declared.moves.Place.{Place}

@@ -1,6 +1,5 @@
 -- A node comes back to a tree by its key and stamp.
-use Rattle.std.proofs.Common.{sym, subst, ◌∙◌, ◌≡◌, List}
-use Rattle.mi_node.specs.Refs.{Ref}
+use Rattle.std.proofs.Common.{sym, subst, ◌∙◌}
 use Rattle.mi_node.proofs.Callers.{flip}
 use Rattle.mi_tree.specs.Standing.{IsTree, IsNew}
 use Rattle.mi_index.specs.Orders.{stored_order, stored_tag}

@@ -1,0 +1,61 @@
+-- The structures that a schema opens with, without nodes.
+use Rattle.std.specs.Prelude.{◌≡◌, ℕ, ◌+◌, ◌⊎◌, List, [], ◌∷◌, length, slice_get}
+use Rattle.std.specs.declared.option.Option.{Option}
+use Rattle.std.specs.declared.option.Option.TheVariants.{None, Some}
+use Rattle.mi_value.specs.declared.value.ColumnType.{ColumnType}
+use Rattle.mi_value.specs.declared.value.ColumnType.TheVariants.{Int}
+use Rattle.mi_value.specs.declared.compare.KeyPart.{KeyPart}
+use Rattle.mi_catalog.specs.declared.index.Column.{Column}
+use Rattle.mi_catalog.specs.declared.index.Index.{Index}
+use Rattle.mi_catalog.specs.declared.index.IndexKind.TheVariants as kinds
+use Rattle.mi_catalog.specs.Shape.{Shape}
+use Rattle.mi_node.specs.Pool.{Pooled, no_nodes}
+use Rattle.mi_node.specs.Refs.{Ref}
+use Rattle.mi_list.specs.Listed.{slot_of, IsNew}
+use Rattle.mi_chain.specs.Chained.{AreNew}
+use Rattle.mi_index.specs.Pass.{AllStand}
+use Rattle.mi_index.specs.declared.stored.Stored.{Stored}
+use Rattle.mi_index.specs.declared.structure.Structure.{Structure}
+use Rattle.mi_index.specs.declared.structure.Structure.TheVariants.{Ordered, Hashed, Sequenced}
+
+-- the type of a column; one that isn't there counts as a number's
+abbrev pub type_at : Option Column → ColumnType
+type_at None = Int
+type_at (Some c) = c.kind
+
+-- the type of the column of the first part; the id is a number
+abbrev pub first_type : List Column → List KeyPart → ColumnType
+first_type columns [] = Int
+first_type columns (p ∷ ps) = type_at (slice_get columns p.column)
+
+-- a structure of the kind, the key and the slot of an index
+abbrev pub IsFor : List Column → Index → ℕ → Structure → Type 0
+IsFor columns i s (Ordered t) = ((i.kind ≡ kinds.Ordered) ⊎ (i.kind ≡ kinds.Ranked)) × (t.order.parts ≡ i.parts) × (t.order.column ≡ first_type columns i.parts) × (t.slot ≡ s)
+IsFor columns i s (Hashed c) = (i.kind ≡ kinds.Hashed) × (c.keys.parts ≡ i.parts) × (c.slot ≡ s)
+IsFor columns i s (Sequenced l) = (i.kind ≡ kinds.Sequenced) × (slot_of l ≡ s)
+
+abbrev pub AllFor : List Column → List Index → ℕ → List Structure → Type 0
+AllFor columns [] s [] = Unit {0}
+AllFor columns [] s (x ∷ xs) = ⊥
+AllFor columns (i ∷ is) s [] = ⊥
+AllFor columns (i ∷ is) s (x ∷ xs) = IsFor columns i s x × AllFor columns is (s + 1) xs
+
+abbrev pub IsEmpty : Structure → Type 0
+IsEmpty (Ordered t) = t.root ≡ None
+IsEmpty (Hashed c) = AreNew c c.slot c.keys
+IsEmpty (Sequenced l) = IsNew l (slot_of l)
+
+abbrev pub AllEmpty : List Structure → Type 0
+AllEmpty [] = Unit {0}
+AllEmpty (x ∷ xs) = IsEmpty x × AllEmpty xs
+
+-- no node for each structure
+abbrev pub empties : List Structure → List (List Ref)
+empties [] = []
+empties (x ∷ xs) = [] ∷ empties xs
+
+-- a pool of as many slots as there are indexes, without nodes, and a structure for each index
+pub record IsOpened (s : Shape) (m : Pooled Stored) (xs : List Structure) : Type 0 where
+  pub pool : m ≡ no_nodes (length s.indexes)
+  pub kinds : AllFor s.columns s.indexes 0 xs
+  pub stand : AllStand xs 0 m (empties xs)

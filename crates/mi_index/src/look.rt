@@ -1,0 +1,289 @@
+//! What the structure of one index answers. It reads the pool and changes nothing.
+ghost use Rattle.std.specs.Prelude.{◌≡◌, ℕ, ◌+◌, ◌*◌, ◌<◌, ◌≤◌, ◌^◌, List as Seq, ◌∷◌, ◌++◌, None, length, false, true};
+ghost use Rattle.std.specs.List.{filter};
+ghost use Rattle.mi_node.specs.Refs.{Ref, first_of, last_of};
+ghost use Rattle.mi_tree.specs.Shape.{nth_of};
+ghost use Rattle.mi_tree.specs.Probed.{first_where};
+ghost use Rattle.mi_index.specs.Standing.{slot_in, Stands};
+ghost use Rattle.mi_index.specs.Looks as look;
+ghost use Rattle.mi_index.specs.declared.structure.Structure.TheVariants.{Ordered, Hashed, Sequenced};
+
+use crate::moves::Place;
+use crate::orders::{ByHash, ByKey};
+use crate::stored::Stored;
+use crate::structure::Structure;
+use mi_chain::Chains;
+use mi_list::List;
+use mi_node::{Counted, NodeRef, Pool};
+use mi_tree::Tree;
+use mi_value::{Probe, Steps};
+
+impl Structure {
+    /// The first node of the list that the index shows, if it has one. Not asked of a hashed index.
+    pub fn first(&self, p: &Pool<Stored>) -> Option<NodeRef>
+        requires { (rs : Seq Ref) × Stands self.now p.now rs × look.HasOneList self.now }
+        ensures { (rs : Seq Ref) → Stands self.now p.now rs → result ≡ first_of rs None }
+    {
+        match self {
+            Structure::Ordered(tree) => first_in_tree(tree, p),
+            Structure::Hashed(_) => None,
+            Structure::Sequenced(list) => list.first(p),
+        }
+    }
+
+    /// The last node of the list that the index shows, if it has one. Not asked of a hashed index.
+    pub fn last(&self, p: &Pool<Stored>) -> Option<NodeRef>
+        requires { (rs : Seq Ref) × Stands self.now p.now rs × look.HasOneList self.now }
+        ensures { (rs : Seq Ref) → Stands self.now p.now rs → result ≡ last_of None rs }
+    {
+        match self {
+            Structure::Ordered(tree) => last_in_tree(tree, p),
+            Structure::Hashed(_) => None,
+            Structure::Sequenced(list) => list.last(p),
+        }
+    }
+
+    /// The node after one in the list that the index shows, if there is one. Not asked of a hashed index.
+    pub fn next(&self, p: &Pool<Stored>, node: NodeRef) -> Option<NodeRef>
+        requires { (xs : Seq Ref) × (ys : Seq Ref) × Stands self.now p.now (xs ++ node ∷ ys) × look.HasOneList self.now }
+        ensures { (xs ys : Seq Ref) → Stands self.now p.now (xs ++ node ∷ ys) → result ≡ first_of ys None }
+    {
+        match self {
+            Structure::Ordered(tree) => next_in_tree(tree, p, node),
+            Structure::Hashed(_) => None,
+            Structure::Sequenced(list) => list.next(p, node),
+        }
+    }
+
+    /// The node before one in the list that the index shows, if there is one. Not asked of a hashed index.
+    pub fn prev(&self, p: &Pool<Stored>, node: NodeRef) -> Option<NodeRef>
+        requires { (xs : Seq Ref) × (ys : Seq Ref) × Stands self.now p.now (xs ++ node ∷ ys) × look.HasOneList self.now }
+        ensures { (xs ys : Seq Ref) → Stands self.now p.now (xs ++ node ∷ ys) → result ≡ last_of None xs }
+    {
+        match self {
+            Structure::Ordered(tree) => prev_in_tree(tree, p, node),
+            Structure::Hashed(_) => None,
+            Structure::Sequenced(list) => list.prev(p, node),
+        }
+    }
+
+    /// The node of a rank, counted from 0, if there are more nodes than that. Asked of sorted indexes alone.
+    pub fn nth(&self, p: &Pool<Stored>, n: u32) -> Option<NodeRef>
+        requires { (rs : Seq Ref) × Stands self.now p.now rs × look.IsSorted self.now }
+        ensures { (rs : Seq Ref) → Stands self.now p.now rs → result ≡ nth_of rs n }
+    {
+        match self {
+            Structure::Ordered(tree) => nth_in_tree(tree, p, n),
+            Structure::Hashed(_) | Structure::Sequenced(_) => None,
+        }
+    }
+
+    /// How many nodes are before one. Asked of sorted indexes alone. One look-up: at most 2b comparisons for fewer than
+    /// 2^b nodes.
+    pub fn rank(&self, p: &Pool<Stored>, node: NodeRef, steps: &mut Steps) -> u32
+        requires { (xs : Seq Ref) × (ys : Seq Ref) × Stands self.now p.now (xs ++ node ∷ ys) × look.IsSorted self.now }
+        ensures rank { (xs ys : Seq Ref) → Stands self.now p.now (xs ++ node ∷ ys) → result ≡ length xs }
+        ensures steps { (rs : Seq Ref) → Stands self.now p.now rs → (b : ℕ) → length rs < 2 ^ b → steps.new.count ≤ steps.old.count + 2 * b }
+    {
+        match self {
+            Structure::Ordered(tree) => rank_in_tree(tree, p, node, steps),
+            Structure::Hashed(_) | Structure::Sequenced(_) => 0,
+        }
+    }
+
+    /// The first node that isn't before the probe, if there is one. Asked of sorted indexes alone. One look-up: at most
+    /// 2b comparisons for fewer than 2^b nodes.
+    pub fn lower(&self, p: &Pool<Stored>, probe: Probe<'_>, steps: &mut Steps) -> Option<NodeRef>
+        requires { (rs : Seq Ref) × Stands self.now p.now rs × look.IsSorted self.now }
+        ensures node { (rs : Seq Ref) → Stands self.now p.now rs → result ≡ first_where (look.is_past false self.now p.now probe.entry) rs }
+        ensures steps { (rs : Seq Ref) → Stands self.now p.now rs → (b : ℕ) → length rs < 2 ^ b → steps.new.count ≤ steps.old.count + 2 * b }
+    {
+        match self {
+            Structure::Ordered(tree) => lower_in_tree(tree, p, probe, steps),
+            Structure::Hashed(_) | Structure::Sequenced(_) => None,
+        }
+    }
+
+    /// The first node that is behind the probe, if there is one. Asked of sorted indexes alone. One look-up: at most 2b
+    /// comparisons for fewer than 2^b nodes.
+    pub fn upper(&self, p: &Pool<Stored>, probe: Probe<'_>, steps: &mut Steps) -> Option<NodeRef>
+        requires { (rs : Seq Ref) × Stands self.now p.now rs × look.IsSorted self.now }
+        ensures node { (rs : Seq Ref) → Stands self.now p.now rs → result ≡ first_where (look.is_past true self.now p.now probe.entry) rs }
+        ensures steps { (rs : Seq Ref) → Stands self.now p.now rs → (b : ℕ) → length rs < 2 ^ b → steps.new.count ≤ steps.old.count + 2 * b }
+    {
+        match self {
+            Structure::Ordered(tree) => upper_in_tree(tree, p, probe, steps),
+            Structure::Hashed(_) | Structure::Sequenced(_) => None,
+        }
+    }
+
+    /// The first node that has the key of the probe, in the order of the stamps, if there is one. A list has no keys.
+    pub fn find(&self, p: &Pool<Stored>, probe: Probe<'_>) -> Option<NodeRef>
+        requires { (rs : Seq Ref) × Stands self.now p.now rs }
+        ensures { (rs : Seq Ref) → Stands self.now p.now rs → result ≡ first_where (look.has_sought self.now p.now probe.entry) rs }
+    {
+        match self {
+            Structure::Ordered(tree) => find_in_tree(tree, p, probe),
+            Structure::Hashed(chains) => find_in_chains(chains, p, probe),
+            Structure::Sequenced(_) => None,
+        }
+    }
+
+    /// The node after one among those of its key, in the order of the stamps, if there is one. Asked of hashed indexes
+    /// alone.
+    pub fn next_of(&self, p: &Pool<Stored>, node: NodeRef) -> Option<NodeRef>
+        requires { (xs : Seq Ref) × (ys : Seq Ref) × Stands self.now p.now (xs ++ node ∷ ys) × look.IsHashed self.now }
+        ensures { (xs ys : Seq Ref) → Stands self.now p.now (xs ++ node ∷ ys) → result ≡ first_of (filter (look.has_same_key self.now p.now node) ys) None }
+    {
+        match self {
+            Structure::Hashed(chains) => next_in_chains(chains, p, node),
+            Structure::Ordered(_) | Structure::Sequenced(_) => None,
+        }
+    }
+
+    /// The place of a node, to which it could come back: its stamp, and the neighbours that it would remember if it left.
+    /// The slot is that of this index.
+    pub fn place(&self, p: &Pool<Stored>, slot: usize, node: NodeRef) -> Place
+        requires slot { slot_in self.now ≡ slot }
+        requires node { (xs : Seq Ref) × (ys : Seq Ref) × Stands self.now p.now (xs ++ node ∷ ys) }
+        ensures { (xs ys : Seq Ref) → Stands self.now p.now (xs ++ node ∷ ys) → look.IsPlaceOf self.now p.now node result xs ys }
+    {
+        match self {
+            Structure::Ordered(tree) => place_in_tree(tree, p, slot, node),
+            Structure::Hashed(chains) => place_in_chains(chains, p, slot, node),
+            Structure::Sequenced(list) => place_in_list(list, p, slot, node),
+        }
+    }
+}
+
+fn first_in_tree(tree: &Tree<ByKey>, p: &Pool<Stored>) -> Option<NodeRef>
+    requires { (rs : Seq Ref) × Stands (Ordered tree.now) p.now rs }
+    ensures { (rs : Seq Ref) → Stands (Ordered tree.now) p.now rs → result ≡ first_of rs None }
+{
+    tree.nth(&mut Counted::new(p), 0)
+}
+
+fn last_in_tree(tree: &Tree<ByKey>, p: &Pool<Stored>) -> Option<NodeRef>
+    requires { (rs : Seq Ref) × Stands (Ordered tree.now) p.now rs }
+    ensures { (rs : Seq Ref) → Stands (Ordered tree.now) p.now rs → result ≡ last_of None rs }
+{
+    let len = tree.len(p);
+    if len == 0 {
+        return None;
+    }
+    tree.nth(&mut Counted::new(p), len - 1)
+}
+
+fn next_in_tree(tree: &Tree<ByKey>, p: &Pool<Stored>, node: NodeRef) -> Option<NodeRef>
+    requires { (xs : Seq Ref) × (ys : Seq Ref) × Stands (Ordered tree.now) p.now (xs ++ node ∷ ys) }
+    ensures { (xs ys : Seq Ref) → Stands (Ordered tree.now) p.now (xs ++ node ∷ ys) → result ≡ first_of ys None }
+{
+    tree.next(&mut Counted::new(p), node, &mut Steps::new())
+}
+
+fn prev_in_tree(tree: &Tree<ByKey>, p: &Pool<Stored>, node: NodeRef) -> Option<NodeRef>
+    requires { (xs : Seq Ref) × (ys : Seq Ref) × Stands (Ordered tree.now) p.now (xs ++ node ∷ ys) }
+    ensures { (xs ys : Seq Ref) → Stands (Ordered tree.now) p.now (xs ++ node ∷ ys) → result ≡ last_of None xs }
+{
+    tree.prev(&mut Counted::new(p), node, &mut Steps::new())
+}
+
+fn nth_in_tree(tree: &Tree<ByKey>, p: &Pool<Stored>, n: u32) -> Option<NodeRef>
+    requires { (rs : Seq Ref) × Stands (Ordered tree.now) p.now rs }
+    ensures { (rs : Seq Ref) → Stands (Ordered tree.now) p.now rs → result ≡ nth_of rs n }
+{
+    tree.nth(&mut Counted::new(p), n)
+}
+
+fn rank_in_tree(tree: &Tree<ByKey>, p: &Pool<Stored>, node: NodeRef, steps: &mut Steps) -> u32
+    requires { (xs : Seq Ref) × (ys : Seq Ref) × Stands (Ordered tree.now) p.now (xs ++ node ∷ ys) }
+    ensures rank { (xs ys : Seq Ref) → Stands (Ordered tree.now) p.now (xs ++ node ∷ ys) → result ≡ length xs }
+    ensures steps { (rs : Seq Ref) → Stands (Ordered tree.now) p.now rs → (b : ℕ) → length rs < 2 ^ b → steps.new.count ≤ steps.old.count + 2 * b }
+{
+    tree.rank(&mut Counted::new(p), node, steps)
+}
+
+fn lower_in_tree(
+    tree: &Tree<ByKey>,
+    p: &Pool<Stored>,
+    probe: Probe<'_>,
+    steps: &mut Steps,
+) -> Option<NodeRef>
+    requires { (rs : Seq Ref) × Stands (Ordered tree.now) p.now rs }
+    ensures node { (rs : Seq Ref) → Stands (Ordered tree.now) p.now rs → result ≡ first_where (look.is_past false (Ordered tree.now) p.now probe.entry) rs }
+    ensures steps { (rs : Seq Ref) → Stands (Ordered tree.now) p.now rs → (b : ℕ) → length rs < 2 ^ b → steps.new.count ≤ steps.old.count + 2 * b }
+{
+    tree.lower(&mut Counted::new(p), probe, steps)
+}
+
+fn upper_in_tree(
+    tree: &Tree<ByKey>,
+    p: &Pool<Stored>,
+    probe: Probe<'_>,
+    steps: &mut Steps,
+) -> Option<NodeRef>
+    requires { (rs : Seq Ref) × Stands (Ordered tree.now) p.now rs }
+    ensures node { (rs : Seq Ref) → Stands (Ordered tree.now) p.now rs → result ≡ first_where (look.is_past true (Ordered tree.now) p.now probe.entry) rs }
+    ensures steps { (rs : Seq Ref) → Stands (Ordered tree.now) p.now rs → (b : ℕ) → length rs < 2 ^ b → steps.new.count ≤ steps.old.count + 2 * b }
+{
+    tree.upper(&mut Counted::new(p), probe, steps)
+}
+
+fn find_in_tree(tree: &Tree<ByKey>, p: &Pool<Stored>, probe: Probe<'_>) -> Option<NodeRef>
+    requires { (rs : Seq Ref) × Stands (Ordered tree.now) p.now rs }
+    ensures { (rs : Seq Ref) → Stands (Ordered tree.now) p.now rs → result ≡ first_where (look.has_sought (Ordered tree.now) p.now probe.entry) rs }
+{
+    tree.find(&mut Counted::new(p), probe, &mut Steps::new())
+}
+
+fn find_in_chains(chains: &Chains<ByHash>, p: &Pool<Stored>, probe: Probe<'_>) -> Option<NodeRef>
+    requires { (rs : Seq Ref) × Stands (Hashed chains.now) p.now rs }
+    ensures { (rs : Seq Ref) → Stands (Hashed chains.now) p.now rs → result ≡ first_where (look.has_sought (Hashed chains.now) p.now probe.entry) rs }
+{
+    chains.first_of(p, probe)
+}
+
+fn next_in_chains(chains: &Chains<ByHash>, p: &Pool<Stored>, node: NodeRef) -> Option<NodeRef>
+    requires { (xs : Seq Ref) × (ys : Seq Ref) × Stands (Hashed chains.now) p.now (xs ++ node ∷ ys) }
+    ensures { (xs ys : Seq Ref) → Stands (Hashed chains.now) p.now (xs ++ node ∷ ys) → result ≡ first_of (filter (look.has_same_key (Hashed chains.now) p.now node) ys) None }
+{
+    chains.next_of(p, node)
+}
+
+fn place_in_tree(tree: &Tree<ByKey>, p: &Pool<Stored>, slot: usize, node: NodeRef) -> Place
+    requires slot { slot_in (Ordered tree.now) ≡ slot }
+    requires node { (xs : Seq Ref) × (ys : Seq Ref) × Stands (Ordered tree.now) p.now (xs ++ node ∷ ys) }
+    ensures { (xs ys : Seq Ref) → Stands (Ordered tree.now) p.now (xs ++ node ∷ ys) → look.IsPlaceOf (Ordered tree.now) p.now node result xs ys }
+{
+    let _ = tree;
+    Place {
+        stamp: p.link(node, slot).tag.stamp,
+        back: None,
+        forth: None,
+    }
+}
+
+fn place_in_chains(chains: &Chains<ByHash>, p: &Pool<Stored>, slot: usize, node: NodeRef) -> Place
+    requires slot { slot_in (Hashed chains.now) ≡ slot }
+    requires node { (xs : Seq Ref) × (ys : Seq Ref) × Stands (Hashed chains.now) p.now (xs ++ node ∷ ys) }
+    ensures { (xs ys : Seq Ref) → Stands (Hashed chains.now) p.now (xs ++ node ∷ ys) → look.IsPlaceOf (Hashed chains.now) p.now node result xs ys }
+{
+    Place {
+        stamp: p.link(node, slot).tag.stamp,
+        back: chains.prev_of(p, node),
+        forth: chains.next_of(p, node),
+    }
+}
+
+fn place_in_list(list: &List, p: &Pool<Stored>, slot: usize, node: NodeRef) -> Place
+    requires slot { slot_in (Sequenced list.now) ≡ slot }
+    requires node { (xs : Seq Ref) × (ys : Seq Ref) × Stands (Sequenced list.now) p.now (xs ++ node ∷ ys) }
+    ensures { (xs ys : Seq Ref) → Stands (Sequenced list.now) p.now (xs ++ node ∷ ys) → look.IsPlaceOf (Sequenced list.now) p.now node result xs ys }
+{
+    let _ = slot;
+    Place {
+        stamp: 0,
+        back: list.prev(p, node),
+        forth: list.next(p, node),
+    }
+}

@@ -1,0 +1,240 @@
+//! The nodes of one table: a pool, and the structure of each index over it, through the slot of its number.
+//! What holds of both is said by relations between the structures, the pool and the lists of the nodes; this knows no rows
+//! but the values of nodes, and no counters.
+ghost use Rattle.std.specs.Prelude.{◌≡◌, ◌<◌, ◌≤◌, ◌+◌, ◌^◌, Some, None, List as Seq, length, IfOk, IfErr};
+ghost use Rattle.mi_node.specs.Pool.{IsHeld, value_of, without};
+ghost use Rattle.mi_node.specs.Refs.{Ref};
+ghost use Rattle.mi_index.specs.Pass.{AreReady, IsPass, AllLike, AllStand, AllCan, AreChanged, IsOutOfAll, KeepsFrom};
+ghost use Rattle.mi_index.specs.Passes as pass;
+ghost use Rattle.mi_index.specs.Rekeying as rekey;
+ghost use Rattle.mi_index.specs.Inserting as insert;
+ghost use Rattle.mi_index.specs.Opened as opened;
+ghost use Rattle.mi_index.specs.declared.moves.Moves.TheVariants.{All};
+
+use crate::all::{add_structures, link_all, make_room_all, relink_all, relocate_all, unlink_all};
+use crate::moves::{Moves, Place};
+use crate::stored::Stored;
+use crate::structure::Structure;
+use mi_catalog::Schema;
+use mi_node::{NodeRef, Pool};
+use std::alloc::{AllocError, Global};
+
+/// The nodes of one table, and how its indexes stand over them.
+#[derive(Drop)]
+pub struct Nodes {
+    pub pool: Pool<Stored>,
+    pub structures: Vec<Structure>,
+}
+
+impl Nodes {
+    /// The nodes that a table opens with: none. Takes memory for one structure an index. Where it is refused there is
+    /// nothing.
+    pub fn new(alloc: Global, schema: &Schema) -> Result<Nodes, AllocError>
+        ensures { IfOk result (λ n. opened.IsOpened schema.now n.pool n.structures.items) }
+    {
+        let slots = schema.index_count();
+        at_most_sixteen(schema);
+        let mut structures = Vec::new(alloc);
+        add_structures(
+            alloc,
+            schema.indexes(),
+            schema.columns(),
+            0,
+            &mut structures,
+        )?;
+        Ok(Nodes {
+            pool: Pool::with_slots(alloc, slots),
+            structures,
+        })
+    }
+
+    /// Puts a value into a new node, and the node into every index: by its key and this stamp, in the list of the index
+    /// that is given directly before the node that is given, and last in each other list. `n` is how many nodes there will
+    /// be: chains get room for as many keys. It is the one call that takes memory, before anything is altered.
+    ///
+    /// Where memory is refused, the value comes back, and every index has the nodes that it had.
+    pub fn link_in(
+        &mut self,
+        alloc: Global,
+        stored: Stored,
+        n: u64,
+        stamp: u64,
+        before: Option<(usize, NodeRef)>,
+    ) -> Result<NodeRef, (AllocError, Stored)>
+        requires room { AreReady (insert.inserting stored stamp before) 0 self.old.structures.items self.old.pool }
+        ensures ok { IfOk result (λ r. (rss : Seq (Seq Ref)) → AllStand self.old.structures.items 0 self.old.pool rss → AllCan (insert.inserting stored stamp before) self.old.structures.items 0 self.old.pool rss
+            → insert.IsInserted r stored stamp before self.old.structures.items self.new.structures.items self.old.pool self.new.pool rss) }
+        ensures returned { IfErr result (λ e. e.1 ≡ stored) }
+        ensures err { IfErr result (λ _. (r : Ref) → IsPass pass.nothing_asked pass.grown r 0 self.old.structures.items self.new.structures.items self.old.pool self.new.pool) }
+        ensures like { AllLike self.old.structures.items self.new.structures.items }
+    {
+        if let Err(refused) = grow_each(&mut self.structures, alloc, &mut self.pool, n) {
+            return Err((refused, stored));
+        }
+        let node = self.pool.take(stored)?;
+        link_each(
+            &mut self.structures,
+            &mut self.pool,
+            node,
+            Moves::All,
+            stamp,
+            before,
+        );
+        Ok(node)
+    }
+
+    /// Takes a node out of every index. It keeps its value, and its links remember its places. Takes no memory.
+    pub fn take_out(&mut self, node: NodeRef)
+        requires { AreReady (pass.leaving All node) 0 self.old.structures.items self.old.pool }
+        ensures pass { IsPass (pass.leaving All node) (pass.left All node) node 0 self.old.structures.items self.new.structures.items self.old.pool self.new.pool }
+        ensures like { AllLike self.old.structures.items self.new.structures.items }
+    {
+        unlink_each(&mut self.structures, &mut self.pool, node, Moves::All);
+    }
+
+    /// Puts a node back into every index, to the places that its links remember. Takes no memory.
+    pub fn put_back(&mut self, node: NodeRef)
+        requires held { IsHeld self.old.pool node }
+        requires places { AreReady (pass.returning All node) 0 self.old.structures.items self.old.pool }
+        ensures pass { IsPass (pass.returning All node) (pass.returned All node) node 0 self.old.structures.items self.new.structures.items self.old.pool self.new.pool }
+        ensures like { AllLike self.old.structures.items self.new.structures.items }
+    {
+        relink_each(&mut self.structures, &mut self.pool, node, Moves::All);
+    }
+
+    /// Gives a node another value, and the old one back. In each index that is marked the node moves, by its new key and
+    /// this stamp, and last in a list; in the others the key is the same. Takes no memory.
+    pub fn rekey(&mut self, node: NodeRef, stored: Stored, marks: &[bool], stamp: u64) -> Stored
+        requires held { IsHeld self.old.pool node }
+        requires places { AreReady (rekey.rekeying marks.now node stored stamp) 0 self.old.structures.items self.old.pool }
+        ensures value { value_of self.old.pool node.name ≡ Some result }
+        ensures rekeyed { (rss : Seq (Seq Ref)) → AllStand self.old.structures.items 0 self.old.pool rss → AllCan (rekey.rekeying marks.now node stored stamp) self.old.structures.items 0 self.old.pool rss
+            → rekey.IsRekeyed (rekey.rekeyed marks.now node stamp) node stored self.old.structures.items self.new.structures.items self.old.pool self.new.pool rss }
+        ensures like { AllLike self.old.structures.items self.new.structures.items }
+    {
+        let moves = Moves::Marked(marks);
+        unlink_each(&mut self.structures, &mut self.pool, node, moves);
+        let old = self.pool.swap_value(node, stored);
+        link_each(
+            &mut self.structures,
+            &mut self.pool,
+            node,
+            moves,
+            stamp,
+            None,
+        );
+        old
+    }
+
+    /// Gives a node an old value again, and the other one back. In each index that has a place for it the node moves
+    /// there, which is never a list; in the others the key is the same. Takes no memory.
+    pub fn rekey_back(&mut self, node: NodeRef, stored: Stored, places: &[Option<Place>]) -> Stored
+        requires held { IsHeld self.old.pool node }
+        requires places { AreReady (rekey.returning_to places.now node stored) 0 self.old.structures.items self.old.pool }
+        ensures value { value_of self.old.pool node.name ≡ Some result }
+        ensures rekeyed { (rss : Seq (Seq Ref)) → AllStand self.old.structures.items 0 self.old.pool rss → AllCan (rekey.returning_to places.now node stored) self.old.structures.items 0 self.old.pool rss
+            → rekey.IsRekeyed (rekey.returned_to places.now node) node stored self.old.structures.items self.new.structures.items self.old.pool self.new.pool rss }
+        ensures like { AllLike self.old.structures.items self.new.structures.items }
+    {
+        let moves = Moves::Placed(places);
+        unlink_each(&mut self.structures, &mut self.pool, node, moves);
+        let old = self.pool.swap_value(node, stored);
+        relink_each(&mut self.structures, &mut self.pool, node, moves);
+        old
+    }
+
+    /// Moves a node in the list of the index of this number directly before another one, or to the end. Nothing changes
+    /// where both are one node. Takes no memory.
+    pub fn relocate(&mut self, index: usize, node: NodeRef, before: Option<NodeRef>)
+        requires { AreReady (insert.relocating index node before) 0 self.old.structures.items self.old.pool }
+        ensures pass { IsPass (insert.relocating index node before) (insert.relocated index node before) node 0 self.old.structures.items self.new.structures.items self.old.pool self.new.pool }
+        ensures like { AllLike self.old.structures.items self.new.structures.items }
+    {
+        relocate_all(
+            self.structures.as_mut_slice(),
+            0,
+            &mut self.pool,
+            index,
+            node,
+            before,
+        );
+    }
+
+    /// Frees a node that stands in no index, and gives its value back. Takes no memory.
+    pub fn free(&mut self, node: NodeRef) -> Stored
+        requires held { IsHeld self.old.pool node }
+        ensures value { value_of self.old.pool node.name ≡ Some result }
+        ensures pool { self.new.pool ≡ without self.old.pool node.name }
+        ensures structures { self.new.structures ≡ self.old.structures }
+        ensures stand { (rss : Seq (Seq Ref)) → AllStand self.old.structures.items 0 self.old.pool rss → IsOutOfAll node.name rss → AllStand self.new.structures.items 0 self.new.pool rss }
+    {
+        self.pool.give(node)
+    }
+}
+
+/// States how many indexes a schema has. It does nothing.
+fn at_most_sixteen(schema: &Schema)
+    ensures some { 1 ≤ length schema.now.indexes }
+    ensures few { length schema.now.indexes ≤ 16 }
+{
+    schema.keeps_rules();
+}
+
+/// Puts a node into each structure in which it moves.
+fn link_each(
+    structures: &mut Vec<Structure>,
+    p: &mut Pool<Stored>,
+    node: NodeRef,
+    moves: Moves<'_>,
+    stamp: u64,
+    before: Option<(usize, NodeRef)>,
+)
+    requires { AreReady (pass.joining moves node stamp before) 0 structures.old.items p.old }
+    ensures pass { IsPass (pass.joining moves.entry node stamp before) (pass.joined moves.entry node stamp before) node 0 structures.old.items structures.new.items p.old p.new }
+    ensures like { AllLike structures.old.items structures.new.items }
+{
+    link_all(structures.as_mut_slice(), 0, p, node, moves, stamp, before);
+}
+
+/// Takes a node out of each structure in which it moves.
+fn unlink_each(
+    structures: &mut Vec<Structure>,
+    p: &mut Pool<Stored>,
+    node: NodeRef,
+    moves: Moves<'_>,
+)
+    requires { AreReady (pass.leaving moves node) 0 structures.old.items p.old }
+    ensures pass { IsPass (pass.leaving moves.entry node) (pass.left moves.entry node) node 0 structures.old.items structures.new.items p.old p.new }
+    ensures like { AllLike structures.old.items structures.new.items }
+{
+    unlink_all(structures.as_mut_slice(), 0, p, node, moves);
+}
+
+/// Puts a node back into each structure in which it moves.
+fn relink_each(
+    structures: &mut Vec<Structure>,
+    p: &mut Pool<Stored>,
+    node: NodeRef,
+    moves: Moves<'_>,
+)
+    requires held { IsHeld p.old node }
+    requires all { AreReady (pass.returning moves node) 0 structures.old.items p.old }
+    ensures pass { IsPass (pass.returning moves.entry node) (pass.returned moves.entry node) node 0 structures.old.items structures.new.items p.old p.new }
+    ensures like { AllLike structures.old.items structures.new.items }
+{
+    relink_all(structures.as_mut_slice(), 0, p, node, moves);
+}
+
+/// Makes room for n nodes in each structure.
+fn grow_each(
+    structures: &mut Vec<Structure>,
+    alloc: Global,
+    p: &mut Pool<Stored>,
+    n: u64,
+) -> Result<(), AllocError>
+    requires { AreReady pass.nothing_asked 0 structures.old.items p.old }
+    ensures pass { (r : Ref) → IsPass pass.nothing_asked pass.grown r 0 structures.old.items structures.new.items p.old p.new }
+    ensures like { AllLike structures.old.items structures.new.items }
+{
+    make_room_all(structures.as_mut_slice(), 0, alloc, p, n)
+}
