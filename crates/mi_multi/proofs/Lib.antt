@@ -1,0 +1,17 @@
+pub mod Picks
+pub mod Rows
+pub mod Lists
+pub mod Says
+pub mod OrdersBy
+pub mod Every
+pub mod Lives
+pub mod Stamps
+pub mod Beside
+pub mod Links
+pub mod Erasing
+pub mod Counts
+pub mod Places
+pub mod Returning
+pub mod Back
+pub mod Settled
+pub mod Answers

@@ -1,0 +1,4 @@
+pub mod Physical
+pub mod Alike
+pub mod Multi
+pub mod Seen

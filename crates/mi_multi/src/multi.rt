@@ -1,0 +1,91 @@
+//! The rows of one table as shared nodes, linked into every index.
+//! It knows nothing of sessions: each change gives its inverse.
+ghost use Rattle.std.specs.Prelude.{◌≡◌, ◌≢◌, None, IfOk, IfErr};
+ghost use Rattle.mi_value.specs.declared.refusal.Refusal.TheVariants.{Memory};
+ghost use Rattle.mi_model.specs.Verdict.{erase_outcome};
+ghost use Rattle.mi_container.specs.Makes.{Makes, MeetsOn, erase_answer};
+ghost use Rattle.mi_container.specs.Run.Change.{Erase};
+ghost use Rattle.mi_container.specs.Data.{IsData, table_of};
+ghost use Rattle.std.specs.Option.{option_copied};
+ghost use Rattle.mi_model.specs.Table.{get as get_row};
+ghost use Rattle.mi_container.specs.Inverse.{taken_back, settled};
+ghost use Rattle.mi_container.specs.Inverse.Inverse.{Erased};
+ghost use Rattle.mi_container.specs.Fits.{Ready, KeptBy};
+ghost use Rattle.mi_container.specs.Backs.{row_seen};
+
+use mi_catalog::Schema;
+use mi_container::{Inverse, RowRef, Undo};
+use mi_ids::Ids;
+use mi_index::Nodes;
+use mi_value::{Record, Refusal};
+use std::marker::Model;
+
+/// The rows of one table under all its indexes, which share one node a row.
+#[derive(Drop)]
+pub struct MultiIndex {
+    schema: Schema,
+    nodes: Nodes,
+    ids: Ids,
+    next: u64,
+    arrivals: u64,
+}
+
+impl Model for MultiIndex {
+    ghost use Rattle.mi_multi.specs.Seen.{Seen, seen_of, AreMulti};
+
+    ghost Value = { Seen };
+
+    ghost view = { seen_of };
+
+    ghost invariant = { AreMulti };
+}
+
+impl MultiIndex {
+    /// The record of an id, or none. It compares nothing.
+    pub fn get(&self, id: u64) -> Option<&Record>
+        ensures { option_copied result ≡ get_row (table_of self.now.plain) id }
+    {
+        let Some(node) = self.ids.live(id) else {
+            return None;
+        };
+        Some(&self.nodes.pool.value(node).row)
+    }
+
+    /// Erases a record, whose node is kept for the inverse. Takes no memory. Refusal: `NoId`.
+    pub fn erase(&mut self, id: u64) -> Result<Inverse, Refusal>
+        ensures outcome { MeetsOn (erase_outcome id) (erase_answer result) self.old.plain self.new.plain }
+        ensures memory { IfErr result (λ e. e ≢ Memory) }
+        ensures made { IfOk result (λ i. Makes self.old.shape (Erase id None) self.old.plain i self.new.plain) }
+        ensures refused { IfErr result (λ e. self.new.plain ≡ self.old.plain) }
+        ensures shape { self.new.shape ≡ self.old.shape }
+    {
+        let Some(node) = self.ids.live(id) else {
+            return Err(Refusal::NoId);
+        };
+        self.nodes.take_out(node);
+        self.ids.keep(id);
+        Ok(Inverse::new(Undo::Erased(RowRef { id, node }, None)))
+    }
+
+    /// Takes back that a row was erased: its node stands again in every index, where it stood. Takes no memory.
+    pub fn take_back_erased(&mut self, row: RowRef)
+        requires ready { Ready (Erased (row_seen row) None) self.old.plain }
+        requires before { IsData self.old.shape (taken_back (Erased (row_seen row) None) self.old.plain) }
+        ensures plain { self.new.plain ≡ taken_back (Erased (row_seen row) None) self.old.plain }
+        ensures shape { self.new.shape ≡ self.old.shape }
+    {
+        self.nodes.put_back(row.node);
+        self.ids.revive(row.id);
+    }
+
+    /// Frees the node that an erased row kept. Takes no memory.
+    pub fn settle_erased(&mut self, row: RowRef)
+        requires { KeptBy (Erased (row_seen row) None) self.old.plain }
+        ensures plain { self.new.plain ≡ settled (Erased (row_seen row) None) self.old.plain }
+        ensures shape { self.new.shape ≡ self.old.shape }
+    {
+        let freed = self.nodes.free(row.node);
+        drop(freed);
+        self.ids.remove(row.id);
+    }
+}
