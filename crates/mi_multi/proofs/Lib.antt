@@ -15,3 +15,4 @@ pub mod Returning
 pub mod Back
 pub mod Settled
 pub mod Answers
+pub mod Opening

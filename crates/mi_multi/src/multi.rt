@@ -4,6 +4,7 @@ ghost use Rattle.std.specs.Prelude.{◌≡◌, ◌≢◌, None, IfOk, IfErr};
 ghost use Rattle.mi_value.specs.declared.refusal.Refusal.TheVariants.{Memory};
 ghost use Rattle.mi_model.specs.Verdict.{erase_outcome};
 ghost use Rattle.mi_container.specs.Makes.{Makes, MeetsOn, erase_answer};
+ghost use Rattle.mi_container.specs.Changes.{opened_data};
 ghost use Rattle.mi_container.specs.Run.Change.{Erase};
 ghost use Rattle.mi_container.specs.Data.{IsData, table_of};
 ghost use Rattle.std.specs.Option.{option_copied};
@@ -18,6 +19,7 @@ use mi_container::{Inverse, RowRef, Undo};
 use mi_ids::Ids;
 use mi_index::Nodes;
 use mi_value::{Record, Refusal};
+use std::alloc::{AllocError, Global};
 use std::marker::Model;
 
 /// The rows of one table under all its indexes, which share one node a row.
@@ -41,6 +43,31 @@ impl Model for MultiIndex {
 }
 
 impl MultiIndex {
+    /// A container without records. Where memory is refused there is none.
+    pub fn new(alloc: Global, schema: Schema) -> Result<MultiIndex, AllocError>
+        ensures shape { IfOk result (λ made. made.shape ≡ schema) }
+        ensures plain { IfOk result (λ made. made.plain ≡ opened_data schema) }
+    {
+        schema.keeps_rules();
+        let nodes = Nodes::new(alloc, &schema)?;
+        let next = schema.first_id();
+        let arrivals = schema.first_arrival();
+        Ok(MultiIndex {
+            schema,
+            nodes,
+            ids: Ids::new(alloc),
+            next,
+            arrivals,
+        })
+    }
+
+    /// States what holds of every container's data. It does nothing.
+    pub fn keeps_rules(&self)
+        ensures { IsData self.now.shape self.now.plain }
+    {
+        let _next = self.next;
+    }
+
     /// The record of an id, or none. It compares nothing.
     pub fn get(&self, id: u64) -> Option<&Record>
         ensures { option_copied result ≡ get_row (table_of self.now.plain) id }
