@@ -16,7 +16,7 @@ use Rattle.mi_node.proofs.Keeping.{absent_out}
 use Rattle.mi_list.proofs.Frames.{listed_held}
 use Rattle.mi_tree.specs.Sorted.{NoneAre, compared, by_stamp, stamped, item_of, side_of_new}
 use Rattle.mi_tree.specs.Frame.{AreAlike}
-use Rattle.mi_tree.proofs.Shapes.{AllHeld, all_held}
+use Rattle.mi_tree.proofs.Shapes.{all_held}
 use Rattle.mi_chain.specs.Keying.{stamp_at, same_nodes, same_values}
 use Rattle.mi_chain.specs.declared.chains.Chains.{Chains}
 use Rattle.mi_index.specs.Orders.{stored_order, keying_of, has_one_key}
@@ -79,12 +79,8 @@ all_but (x ∷ xs) s k m n (rs ∷ rss) a o h = (h.0, stands_but x k m n rs a o.
 
 -- nodes of structures are held, each once
 
-all_are : (m : Pooled Stored) (rs : List Ref) → AllHeld m rs → AreHeld m rs
-all_are m [] h = tt
-all_are m (r ∷ rs) h = (h.0, all_are m rs h.1)
-
 pub nodes_held : (x : Structure) (m : Pooled Stored) (rs : List Ref) → Stands x m rs → AreHeld m rs
-nodes_held (Ordered t) m rs h = all_are m rs (subst (AllHeld m) h.nodes_are (all_held m t.slot h.shape h.rooted.stands))
+nodes_held (Ordered t) m rs h = subst (AreHeld m) h.nodes_are (all_held m t.slot h.shape h.rooted.stands)
 nodes_held (Hashed c) m rs h = h.0.buckets.held
 nodes_held (Sequenced l) m rs h = listed_held l m rs h
 
