@@ -16,3 +16,4 @@ pub mod Back
 pub mod Settled
 pub mod Answers
 pub mod Opening
+pub mod Uninserting
