@@ -17,3 +17,7 @@ pub mod Settled
 pub mod Answers
 pub mod Opening
 pub mod Uninserting
+pub mod Coming
+pub mod Come
+pub mod Grown
+pub mod Accepting

@@ -62,7 +62,7 @@ pub length_neighbours : (m : Pooled Stored) (k y : ℕ) (os : List Order) → le
 length_neighbours m k y [] = refl
 length_neighbours m k y (o ∷ os) = ap suc (length_neighbours m k (suc y) os)
 
-has_sorted : (ps : List KeyPart) → ps ≢ [] → has_stamps (sorted_order ps) ≡ true
+pub has_sorted : (ps : List KeyPart) → ps ≢ [] → has_stamps (sorted_order ps) ≡ true
 has_sorted [] some = absurd (some refl)
 has_sorted (p ∷ ps) some = refl
 
@@ -93,7 +93,7 @@ module _ (s : Shape) (ids : FinMap nat_cmp IdEntry) (m : Pooled Stored) (xs : Li
   abbrev d : Data
   d = plain_of s ids m xs next arrivals
 
-  abbrev Now : ℕ → Index → Structure → Structure → List Ref → List Ref → Type 0
+  abbrev pub Now : ℕ → Index → Structure → Structure → List Ref → List Ref → Type 0
   Now = Known nothing ids m m os (orders_of s.indexes (own_lists m xs))
 
   -- what is known of each index
