@@ -104,7 +104,7 @@ module _ (s : Shape) (ids : FinMap nat_cmp IdEntry) (m n : Pooled Stored) (xs ys
   rows_left : picked (live_in n os) (entries new_ids) ≡ left_out e d.rows
   rows_left = picked_lost (live_in m os) (live_in n os) ids new_ids e others (live_alike os ids m n e altered) next (rows_climb s d is.is_data) (ap (option_and_then (live_in n os)) now)
 
-  row_is : node_of d.rows e ≡ Some (node_in m os r)
+  pub row_is : node_of d.rows e ≡ Some (node_in m os r)
   row_is = get_picked (live_in m os) ids e ∙ ap (option_and_then (live_in m os)) there
 
   kept_is : kept_node_in n os r ≡ kept_node e (node_in m os r) d

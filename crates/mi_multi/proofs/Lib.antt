@@ -16,3 +16,8 @@ pub mod Back
 pub mod Settled
 pub mod Answers
 pub mod Opening
+pub mod Uninserting
+pub mod Coming
+pub mod Come
+pub mod Grown
+pub mod Accepting

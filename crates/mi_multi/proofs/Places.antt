@@ -15,6 +15,7 @@ use Rattle.mi_node.specs.Refs.{Ref}
 use Rattle.mi_tree.specs.Sorted.{side_of_new, item_of, stamped, compared, by_stamp as side_by}
 use Rattle.mi_index.specs.declared.stored.Stored.{Stored}
 use Rattle.mi_index.specs.Orders.{stored_order}
+use Rattle.mi_index.specs.Rekeying.{side_of_value}
 use Rattle.mi_index.specs.Standing.{AllAbove, AllBelow, Climb}
 use Rattle.mi_multi.specs.Multi.{HasNode}
 
@@ -47,6 +48,21 @@ not_equal [] m s r q stamp a b f g ne differ is =
     ne (sym f.id ∙ ids_equal f.value g.value both.0 ∙ g.id)
 not_equal (p ∷ ps) m s r q stamp a b f g ne differ is =
     let both = both_equal (stored_order (p ∷ ps) f.value g.value) (nat_cmp stamp (link_of m q.name s).tag.stamp) (sym (side_is (p ∷ ps) m s r q stamp f.value g.value f.is g.is) ∙ is) in
+    differ (λ e. (let bad : p ∷ ps ≡ [] = e in cc)) (ranked stamp (link_of m q.name s).tag.stamp Equal (sym both.1))
+
+-- the same of a value that no node has yet
+value_side : (ps : List KeyPart) (m : Pooled Stored) (s : ℕ) (q : Ref) (stamp : ℕ) (v w : Stored) → value_of m q.name ≡ Some w
+    → side_of_value (stored_order ps) m s v stamp q ≡ ordering_then (stored_order ps v w) (nat_cmp stamp (link_of m q.name s).tag.stamp)
+unfolding item_of
+value_side ps m s q stamp v w k = (λ i. compared (side_by (stored_order ps)) (Some (v, stamp)) (stamped (k i) (link_of m q.name s).tag.stamp))
+
+pub value_not_equal : (ps : List KeyPart) (m : Pooled Stored) (s : ℕ) (q : Ref) (stamp : ℕ) (v : Stored) (b : ℕ) → HasNode m b q → v.id ≢ b → (ps ≢ [] → stamp ≢ (link_of m q.name s).tag.stamp)
+    → side_of_value (stored_order ps) m s v stamp q ≡ Equal → ⊥
+value_not_equal [] m s q stamp v b g ne differ is =
+    let both = both_equal (stored_order [] v g.value) (nat_cmp stamp (link_of m q.name s).tag.stamp) (sym (value_side [] m s q stamp v g.value g.is) ∙ is) in
+    ne (ids_equal v g.value both.0 ∙ g.id)
+value_not_equal (p ∷ ps) m s q stamp v b g ne differ is =
+    let both = both_equal (stored_order (p ∷ ps) v g.value) (nat_cmp stamp (link_of m q.name s).tag.stamp) (sym (value_side (p ∷ ps) m s q stamp v g.value g.is) ∙ is) in
     differ (λ e. (let bad : p ∷ ps ≡ [] = e in cc)) (ranked stamp (link_of m q.name s).tag.stamp Equal (sym both.1))
 
 -- A list by its stamps, parted at one that no node has

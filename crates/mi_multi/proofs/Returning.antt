@@ -62,7 +62,7 @@ pub length_neighbours : (m : Pooled Stored) (k y : ℕ) (os : List Order) → le
 length_neighbours m k y [] = refl
 length_neighbours m k y (o ∷ os) = ap suc (length_neighbours m k (suc y) os)
 
-has_sorted : (ps : List KeyPart) → ps ≢ [] → has_stamps (sorted_order ps) ≡ true
+pub has_sorted : (ps : List KeyPart) → ps ≢ [] → has_stamps (sorted_order ps) ≡ true
 has_sorted [] some = absurd (some refl)
 has_sorted (p ∷ ps) some = refl
 
@@ -73,7 +73,7 @@ nothing s x m n rs us = Unit {0}
 
 pub like_self : (x : Structure) → IsLike x x
 like_self (Ordered t) = (refl, refl)
-like_self (Hashed c) = (refl, refl)
+like_self (Hashed c) = (refl, refl, omega arith)
 like_self (Sequenced l) = refl
 
 pub all_like_self : (xs : List Structure) → AllLike xs xs
@@ -93,7 +93,7 @@ module _ (s : Shape) (ids : FinMap nat_cmp IdEntry) (m : Pooled Stored) (xs : Li
   abbrev d : Data
   d = plain_of s ids m xs next arrivals
 
-  abbrev Now : ℕ → Index → Structure → Structure → List Ref → List Ref → Type 0
+  abbrev pub Now : ℕ → Index → Structure → Structure → List Ref → List Ref → Type 0
   Now = Known nothing ids m m os (orders_of s.indexes (own_lists m xs))
 
   -- what is known of each index

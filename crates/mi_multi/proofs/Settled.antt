@@ -85,7 +85,7 @@ order_still kinds.Ranked ps l u same = refl
 order_still kinds.Hashed ps l u same = refl
 order_still kinds.Sequenced ps l u same = ap Listed (same refl)
 
-orders_still : (g : ℕ → List ℕ → List ℕ) (is : List Index) (ls us : List (List ℕ)) → ((k : ℕ) (l : List ℕ) → g k l ≡ l) → SeqBy g is ls us → orders_of is us ≡ orders_of is ls
+pub orders_still : (g : ℕ → List ℕ → List ℕ) (is : List Index) (ls us : List (List ℕ)) → ((k : ℕ) (l : List ℕ) → g k l ≡ l) → SeqBy g is ls us → orders_of is us ≡ orders_of is ls
 orders_still g [] ls us all by = refl
 orders_still g (i ∷ is) [] us all by = absurd by
 orders_still g (i ∷ is) (l ∷ ls) [] all by = absurd by

@@ -2,3 +2,4 @@ pub mod Physical
 pub mod Alike
 pub mod Multi
 pub mod Seen
+pub mod Before

@@ -5,6 +5,7 @@
 //! the others aren't here yet.
 #![tactic(auto)]
 
+mod changes;
 mod multi;
 
 pub use multi::MultiIndex;

@@ -25,11 +25,11 @@ use std::marker::Model;
 /// The rows of one table under all its indexes, which share one node a row.
 #[derive(Drop)]
 pub struct MultiIndex {
-    schema: Schema,
-    nodes: Nodes,
-    ids: Ids,
-    next: u64,
-    arrivals: u64,
+    pub(crate) schema: Schema,
+    pub(crate) nodes: Nodes,
+    pub(crate) ids: Ids,
+    pub(crate) next: u64,
+    pub(crate) arrivals: u64,
 }
 
 impl Model for MultiIndex {
