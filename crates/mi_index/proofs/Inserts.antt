@@ -1,7 +1,7 @@
 -- A new node comes into every index.
 --     like_both      what is like a like one is like it
 --     can_insert, is_inserted      from chains that have grown and a node that was taken
-use Rattle.std.proofs.Common.{◌≡◌, ℕ, ◌+◌, ◌==◌, false, cond, List, [], ◌∷◌, Option, Some, None, refl, sym, ap, ◌∙◌, subst}
+use Rattle.std.proofs.Common.{◌≡◌, ℕ, ◌+◌, ◌==◌, false, cond, List, [], ◌∷◌, Option, Some, None, refl, sym, ap, ◌∙◌, subst, ◌≤◌, arith}
 use Rattle.mi_node.specs.Pool.{Pooled, ref_of, value_of, link_of, taken}
 use Rattle.mi_node.specs.Refs.{Ref}
 use Rattle.mi_node.specs.declared.link.Link.{Link}
@@ -9,9 +9,9 @@ use Rattle.mi_node.proofs.Callers.{flip, held_taken, same_refl, ref-taken, value
 use Rattle.mi_tree.specs.Sorted.{NoneAre}
 use Rattle.mi_chain.specs.Keying.{stamp_at}
 use Rattle.mi_index.specs.Orders.{stored_order}
-use Rattle.mi_index.specs.Standing.{IsLike}
+use Rattle.mi_index.specs.Standing.{IsLike, IsRoomy}
 use Rattle.mi_index.specs.Places.{before_at, NoneHas, IsPut, HasStamp, IsJoined, KeepsTags}
-use Rattle.mi_index.specs.Pass.{AllStand, AllCan, AllDone, AllLike, AreReady, IsPass}
+use Rattle.mi_index.specs.Pass.{AllStand, AllCan, AllDone, AllLike, AreReady, IsPass, AllRoomy}
 use Rattle.mi_index.specs.Passes.{joining, joined, nothing_asked, grown}
 use Rattle.std.specs.declared.cmp.Ordering.TheVariants.{Equal}
 use Rattle.mi_index.specs.Rekeying.{side_of_value, HasPlaceFor}
@@ -33,7 +33,7 @@ like_one (Ordered a) (Hashed b) z g h = absurd g
 like_one (Ordered a) (Sequenced b) z g h = absurd g
 like_one (Hashed a) (Ordered b) z g h = absurd g
 like_one (Hashed a) (Hashed b) (Ordered c) g h = absurd h
-like_one (Hashed a) (Hashed b) (Hashed c) g h = (h.0 ∙ g.0, h.1 ∙ g.1)
+like_one (Hashed a) (Hashed b) (Hashed c) g h = let f = g.2 in let k = h.2 in (h.0 ∙ g.0, h.1 ∙ g.1, omega (arith, f, k))
 like_one (Hashed a) (Hashed b) (Sequenced c) g h = absurd h
 like_one (Hashed a) (Sequenced b) z g h = absurd g
 like_one (Sequenced a) (Ordered b) z g h = absurd g
@@ -48,6 +48,21 @@ like_both [] (y ∷ ys) zs g h = absurd g
 like_both (x ∷ xs) [] zs g h = absurd g
 like_both (x ∷ xs) (y ∷ ys) [] g h = absurd h
 like_both (x ∷ xs) (y ∷ ys) (z ∷ zs) g h = (like_one x y z g.0 h.0, like_both xs ys zs g.1 h.1)
+
+-- room stays
+
+roomy_one : (x y : Structure) (n : ℕ) → IsLike x y → IsRoomy x n → IsRoomy y n
+roomy_one x (Ordered c) n g h = tt
+roomy_one (Ordered a) (Hashed c) n g h = absurd g
+roomy_one (Hashed a) (Hashed c) n g h = let f = g.2 in omega (arith, f, h)
+roomy_one (Sequenced a) (Hashed c) n g h = absurd g
+roomy_one x (Sequenced c) n g h = tt
+
+pub roomy_all : (xs ys : List Structure) (n : ℕ) → AllLike xs ys → AllRoomy xs n → AllRoomy ys n
+roomy_all [] [] n g h = tt
+roomy_all [] (y ∷ ys) n g h = absurd g
+roomy_all (x ∷ xs) [] n g h = absurd g
+roomy_all (x ∷ xs) (y ∷ ys) n g h = (roomy_one x y n g.0 h.0, roomy_all xs ys n g.1 h.1)
 
 -- a place in one is a place in the other
 pub place_like : (x y : Structure) (m : Pooled Stored) (v : Stored) (t : ℕ) (b : Option Ref) (rs : List Ref) → IsLike x y → HasPlaceFor x m v t b rs → HasPlaceFor y m v t b rs

@@ -1,7 +1,7 @@
 -- The structures of a schema, without nodes.
 --     some_index, few_indexes      a schema has 1 to 16 indexes
 --     is_opened      empty structures stand in an empty pool
-use Rattle.std.proofs.Common.{◌≡◌, ℕ, ◌+◌, ◌<◌, ◌≤◌, true, false, List, [], ◌∷◌, length, sym, ap, ◌∙◌, subst, arith}
+use Rattle.std.proofs.Common.{refl, ◌≡◌, ℕ, ◌+◌, ◌<◌, ◌≤◌, true, false, List, [], ◌∷◌, length, sym, ap, ◌∙◌, subst, arith}
 use Rattle.std.proofs.lemmas.Bool.{and_parts, leb-true}
 use Rattle.mi_value.specs.declared.limits.TheConstants.{MAX_INDEXES}
 use Rattle.mi_catalog.specs.declared.index.Column.{Column}
@@ -17,7 +17,10 @@ use Rattle.mi_tree.proofs.Frames.{tree_empty}
 use Rattle.mi_chain.proofs.Whole.{new_chains}
 use Rattle.mi_index.specs.Orders.{stored_order, stored_tag, keying_of}
 use Rattle.mi_index.specs.Standing.{slot_in, Stands}
-use Rattle.mi_index.specs.Pass.{AllStand}
+use Rattle.mi_index.specs.Pass.{AllStand, AllCan, AreReady}
+use Rattle.mi_index.specs.Inserting.{inserting}
+use Rattle.mi_index.specs.Rekeying.{HasPlaceFor}
+use Rattle.std.specs.declared.option.Option.TheVariants.{None}
 use Rattle.mi_index.specs.Opened.{IsFor, AllFor, IsEmpty, AllEmpty, empties, IsOpened}
 use Rattle.mi_index.specs.declared.stored.Stored.{Stored}
 use Rattle.mi_index.specs.declared.structure.Structure.{Structure}
@@ -49,3 +52,16 @@ pub is_opened : (s : Shape) (xs : List Structure) (m : Pooled Stored) → m ≡ 
 is_opened s xs m is f e =
     let slots : m.slots ≡ length s.indexes = ap (λ (n : Pooled Stored). n.slots) is ∙ slots-no_nodes Stored (length s.indexes) in
     record { pool = is; kinds = f; stand = all_empty s.columns s.indexes 0 xs m f e (omega (arith, slots)) }
+
+-- any value may be the first
+room_all : (xs : List Structure) (s : ℕ) (m : Pooled Stored) (v : Stored) (t : ℕ) → AllCan (inserting v t None) xs s m (empties xs)
+room_all [] s m v t = tt
+room_all (x ∷ xs) s m v t = (record { few = omega arith; place = room_one x }, room_all xs (s + 1) m v t)
+  where
+    room_one : (x : Structure) → HasPlaceFor x m v t None []
+    room_one (Ordered u) = tt
+    room_one (Hashed c) = tt
+    room_one (Sequenced l) = ([], [], refl, refl)
+
+pub first_fits : (s : Shape) (m : Pooled Stored) (xs : List Structure) (v : Stored) (t : ℕ) → IsOpened s m xs → AreReady (inserting v t None) 0 xs m
+first_fits s m xs v t o = record { rss = empties xs; stand = o.stand; can = room_all xs 0 m v t }

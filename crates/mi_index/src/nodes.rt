@@ -4,7 +4,7 @@
 ghost use Rattle.std.specs.Prelude.{◌≡◌, ◌<◌, ◌≤◌, ◌+◌, ◌^◌, Some, None, List as Seq, length, IfOk, IfErr};
 ghost use Rattle.mi_node.specs.Pool.{IsHeld, value_of, without};
 ghost use Rattle.mi_node.specs.Refs.{Ref};
-ghost use Rattle.mi_index.specs.Pass.{AreReady, IsPass, AllLike, AllStand, AllCan, AreChanged, IsOutOfAll, KeepsFrom};
+ghost use Rattle.mi_index.specs.Pass.{AreReady, IsPass, AllLike, AllRoomy, AllStand, AllCan, AreChanged, IsOutOfAll, KeepsFrom};
 ghost use Rattle.mi_index.specs.Passes as pass;
 ghost use Rattle.mi_index.specs.Rekeying as rekey;
 ghost use Rattle.mi_index.specs.Inserting as insert;
@@ -64,6 +64,7 @@ impl Nodes {
         requires room { AreReady (insert.inserting stored stamp before) 0 self.old.structures.items self.old.pool }
         ensures ok { IfOk result (λ r. (rss : Seq (Seq Ref)) → AllStand self.old.structures.items 0 self.old.pool rss → AllCan (insert.inserting stored stamp before) self.old.structures.items 0 self.old.pool rss
             → insert.IsInserted r stored stamp before self.old.structures.items self.new.structures.items self.old.pool self.new.pool rss) }
+        ensures room { IfOk result (λ _. AllRoomy self.new.structures.items n) }
         ensures returned { IfErr result (λ e. e.1 ≡ stored) }
         ensures err { IfErr result (λ _. (r : Ref) → IsPass pass.nothing_asked pass.grown r 0 self.old.structures.items self.new.structures.items self.old.pool self.new.pool) }
         ensures like { AllLike self.old.structures.items self.new.structures.items }
@@ -235,6 +236,10 @@ fn grow_each(
     requires { AreReady pass.nothing_asked 0 structures.old.items p.old }
     ensures pass { (r : Ref) → IsPass pass.nothing_asked pass.grown r 0 structures.old.items structures.new.items p.old p.new }
     ensures like { AllLike structures.old.items structures.new.items }
+    ensures room { IfOk result (λ _. AllRoomy structures.new.items n) }
 {
     make_room_all(structures.as_mut_slice(), 0, alloc, p, n)
 }
+
+#[cfg(test)]
+mod tests;

@@ -3,7 +3,7 @@ use Rattle.std.proofs.Common.{sym, subst}
 use Rattle.mi_index.specs.Pass.{AreReady, IsPass}
 use Rattle.mi_index.specs.Passes.{joining, joined}
 use Rattle.mi_index.specs.declared.moves.Moves.TheVariants.{All}
-use Rattle.mi_index.proofs.Inserts.{like_both, nothing_all, can_insert, is_inserted}
+use Rattle.mi_index.proofs.Inserts.{roomy_all, like_both, nothing_all, can_insert, is_inserted}
 use Rattle.mi_index.proofs.nodes.Nodes.link_in.Goals as goal
 
 pub grow_each-requires : goal.grow_each-requires
@@ -23,3 +23,6 @@ returns-clause-ok c =
 
 pub returns-clause-like : goal.returns-clause-like
 returns-clause-like c = like_both c.args.self.now.structures.items c.grow_each.new.structures.items c.link_each.new.structures.items c.grow_each.ensures.like c.link_each.ensures.like
+
+pub returns-clause-room : goal.returns-clause-room
+returns-clause-room c = roomy_all c.grow_each.new.structures.items c.link_each.new.structures.items c.args.n c.link_each.ensures.like c.in_default.ensures.room
