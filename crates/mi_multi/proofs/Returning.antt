@@ -73,7 +73,7 @@ nothing s x m n rs us = Unit {0}
 
 pub like_self : (x : Structure) → IsLike x x
 like_self (Ordered t) = (refl, refl)
-like_self (Hashed c) = (refl, refl)
+like_self (Hashed c) = (refl, refl, omega arith)
 like_self (Sequenced l) = refl
 
 pub all_like_self : (xs : List Structure) → AllLike xs xs
