@@ -16,3 +16,8 @@ pub mod Back
 pub mod Settled
 pub mod Answers
 pub mod Opening
+pub mod Numbers
+pub mod Shown
+pub mod FoundIds
+pub mod LookUps
+pub mod Calls

@@ -6,5 +6,6 @@
 #![tactic(auto)]
 
 mod multi;
+mod reading;
 
 pub use multi::MultiIndex;
