@@ -21,3 +21,8 @@ pub mod Coming
 pub mod Come
 pub mod Grown
 pub mod Accepting
+pub mod Numbers
+pub mod Shown
+pub mod FoundIds
+pub mod LookUps
+pub mod Calls
