@@ -21,3 +21,4 @@ pub mod Coming
 pub mod Come
 pub mod Grown
 pub mod Accepting
+pub mod Moved
