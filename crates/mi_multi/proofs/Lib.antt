@@ -22,3 +22,8 @@ pub mod Come
 pub mod Grown
 pub mod Accepting
 pub mod Moved
+pub mod Numbers
+pub mod Shown
+pub mod FoundIds
+pub mod LookUps
+pub mod Calls

@@ -7,5 +7,6 @@
 
 mod changes;
 mod multi;
+mod reading;
 
 pub use multi::MultiIndex;

@@ -1,6 +1,6 @@
 //! The rows of one table as shared nodes, linked into every index.
 //! It knows nothing of sessions: each change gives its inverse.
-ghost use Rattle.std.specs.Prelude.{◌≡◌, ◌≢◌, None, IfOk, IfErr};
+ghost use Rattle.std.specs.Prelude.{◌≡◌, ◌≢◌, ◌<◌, ◌≤◌, ◌+◌, ◌*◌, ◌^◌, ℕ, None, IfOk, IfErr};
 ghost use Rattle.mi_value.specs.declared.refusal.Refusal.TheVariants.{Memory};
 ghost use Rattle.mi_model.specs.Verdict.{erase_outcome};
 ghost use Rattle.mi_container.specs.Makes.{Makes, MeetsOn, erase_answer};
@@ -8,7 +8,7 @@ ghost use Rattle.mi_container.specs.Changes.{opened_data};
 ghost use Rattle.mi_container.specs.Run.Change.{Erase};
 ghost use Rattle.mi_container.specs.Data.{IsData, table_of};
 ghost use Rattle.std.specs.Option.{option_copied};
-ghost use Rattle.mi_model.specs.Table.{get as get_row};
+ghost use Rattle.mi_model.specs.Table.{get as get_row, size as size_of};
 ghost use Rattle.mi_container.specs.Inverse.{taken_back, settled};
 ghost use Rattle.mi_container.specs.Inverse.Inverse.{Erased};
 ghost use Rattle.mi_container.specs.Fits.{Ready, KeptBy};
@@ -18,7 +18,7 @@ use mi_catalog::Schema;
 use mi_container::{Inverse, RowRef, Undo};
 use mi_ids::Ids;
 use mi_index::Nodes;
-use mi_value::{Record, Refusal};
+use mi_value::{Record, Refusal, Steps};
 use std::alloc::{AllocError, Global};
 use std::marker::Model;
 
@@ -69,9 +69,11 @@ impl MultiIndex {
     }
 
     /// The record of an id, or none. It compares nothing.
-    pub fn get(&self, id: u64) -> Option<&Record>
-        ensures { option_copied result ≡ get_row (table_of self.now.plain) id }
+    pub fn get(&self, id: u64, steps: &mut Steps) -> Option<&Record>
+        ensures record { option_copied result ≡ get_row (table_of self.now.plain) id }
+        ensures steps { (b : ℕ) → size_of (table_of self.now.plain) < 2 ^ b → steps.new.count ≤ steps.old.count + (2 * b + 1) }
     {
+        let _ = steps;
         let Some(node) = self.ids.live(id) else {
             return None;
         };

@@ -6,8 +6,8 @@ use Rattle.mi_multi.specs.Seen.{Seen}
 use Rattle.mi_multi.proofs.Answers.{live_is, no_record, record_of}
 use Rattle.mi_multi.proofs.multi.MultiIndex.get.Goals as goal
 
-pub returns-in_default : goal.returns-in_default
-returns-in_default c =
+pub returns-in_default-clause-record : goal.returns-in_default-clause-record
+returns-in_default-clause-record c =
     let i = c.self.inside in
     subst (λ (w : Seen). None ≡ get_row (table_of w.plain) c.args.id) c.self.view_is
     (sym (no_record i.schema i.ids.entries i.nodes.pool i.nodes.structures.items i.next i.arrivals c.args.id (sym c.live.ensures ∙ c.in_default.is)))
@@ -18,8 +18,8 @@ value-requires c =
     let there = live_is i.ids.entries c.args.id c.in-Some.node (sym c.live.ensures ∙ c.in-Some.is) in
     (c.self.invariant.held c.args.id (record { node = c.in-Some.node; live = true }) there).held
 
-pub returns : goal.returns
-returns c =
+pub returns-clause-record : goal.returns-clause-record
+returns-clause-record c =
     let i = c.self.inside in
     subst (λ (w : Seen). Some c.value.result.now.row ≡ get_row (table_of w.plain) c.args.id) c.self.view_is
     (sym (record_of i.schema i.ids.entries i.nodes.pool i.nodes.structures.items i.next i.arrivals c.args.id c.in-Some.node c.value.result.now (sym c.live.ensures ∙ c.in-Some.is) c.value.ensures))

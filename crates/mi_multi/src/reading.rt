@@ -1,0 +1,136 @@
+//! What a container answers of its rows. It changes nothing.
+ghost use Rattle.std.specs.Prelude.{◌≡◌, ◌<◌, ◌≤◌, ◌+◌, ◌*◌, ◌^◌, ℕ, IsTrue, IfSome, List as Seq, Some, length, slice_get};
+ghost use Rattle.std.specs.Option.{option_map};
+ghost use Rattle.mi_model.specs.Table.{has as has_row, size as size_of};
+ghost use Rattle.mi_model.specs.Lookup as look;
+ghost use Rattle.mi_container.specs.Asked.{IsKeyed, IsHashed, IsSorted, ShowsOneList, WholeKey, KeyPrefix};
+ghost use Rattle.mi_container.specs.Data.{table_of};
+ghost use Rattle.mi_node.specs.Pool.{IsHeld};
+ghost use Rattle.mi_node.specs.Refs.{Ref};
+ghost use Rattle.mi_index.specs.Standing.{Stands};
+ghost use Rattle.mi_index.specs.Looks as nodes;
+ghost use Rattle.mi_index.specs.declared.structure.Structure.TheVariants.{Ordered};
+ghost use Rattle.mi_multi.specs.Multi.{id_at};
+
+use crate::multi::MultiIndex;
+use mi_index::{ByKey, Nodes, Stored, Structure};
+use mi_node::{NodeRef, Pool};
+use mi_tree::Tree;
+use mi_value::{Probe, Steps, Value};
+
+/// The structure of the index of a number.
+fn structure_at(nodes: &Nodes, index: usize) -> &Structure
+    requires { index < length nodes.now.structures.items }
+    ensures { slice_get nodes.now.structures.items index ≡ Some result.now }
+{
+    &nodes.structures[index]
+}
+
+/// The id of a node, if there is one.
+fn id_of(p: &Pool<Stored>, node: Option<NodeRef>) -> Option<u64>
+    requires { IfSome node (λ r. IsHeld p.now r) }
+    ensures { result ≡ option_map (id_at p.now) node }
+{
+    match node {
+        Some(node) => Some(p.value(node).id),
+        None => None,
+    }
+}
+
+/// How many nodes a sorted index has.
+fn node_count(structure: &Structure, p: &Pool<Stored>) -> u32
+    requires { (rs : Seq Ref) × Stands structure.now p.now rs × nodes.IsSorted structure.now }
+    ensures { (rs : Seq Ref) → Stands structure.now p.now rs → result ≡ length rs }
+{
+    match structure {
+        Structure::Ordered(tree) => tree_count(tree, p),
+        Structure::Hashed(_) | Structure::Sequenced(_) => 0,
+    }
+}
+
+fn tree_count(tree: &Tree<ByKey>, p: &Pool<Stored>) -> u32
+    requires { (rs : Seq Ref) × Stands (Ordered tree.now) p.now rs }
+    ensures { (rs : Seq Ref) → Stands (Ordered tree.now) p.now rs → result ≡ length rs }
+{
+    tree.len(p)
+}
+
+impl MultiIndex {
+    /// How many records there are.
+    pub fn size(&self) -> u64
+        ensures { result ≡ size_of (table_of self.now.plain) }
+    {
+        self.schema.keeps_rules();
+        node_count(structure_at(&self.nodes, 0), &self.nodes.pool) as u64
+    }
+
+    /// The first id that an index shows, or none where there are no records.
+    pub fn first(&self, index: usize) -> Option<u64>
+        requires { ShowsOneList self.now.shape index }
+        ensures { result ≡ look.first self.now.shape (table_of self.now.plain) index }
+    {
+        let node = structure_at(&self.nodes, index).first(&self.nodes.pool);
+        id_of(&self.nodes.pool, node)
+    }
+
+    /// The last id that an index shows, or none where there are no records.
+    pub fn last(&self, index: usize) -> Option<u64>
+        requires { ShowsOneList self.now.shape index }
+        ensures { result ≡ look.last self.now.shape (table_of self.now.plain) index }
+    {
+        let node = structure_at(&self.nodes, index).last(&self.nodes.pool);
+        id_of(&self.nodes.pool, node)
+    }
+
+    /// The id that an index shows directly after another, or none behind the last.
+    pub fn after(&self, index: usize, id: u64) -> Option<u64>
+        requires index { ShowsOneList self.now.shape index }
+        requires id { IsTrue (has_row (table_of self.now.plain) id) }
+        ensures { result ≡ look.after self.now.shape (table_of self.now.plain) index id }
+    {
+        let Some(node) = self.ids.live(id) else {
+            return None;
+        };
+        let next = structure_at(&self.nodes, index).next(&self.nodes.pool, node);
+        id_of(&self.nodes.pool, next)
+    }
+
+    /// The id that an index shows directly before another, or none before the first.
+    pub fn before(&self, index: usize, id: u64) -> Option<u64>
+        requires index { ShowsOneList self.now.shape index }
+        requires id { IsTrue (has_row (table_of self.now.plain) id) }
+        ensures { result ≡ look.before self.now.shape (table_of self.now.plain) index id }
+    {
+        let Some(node) = self.ids.live(id) else {
+            return None;
+        };
+        let prev = structure_at(&self.nodes, index).prev(&self.nodes.pool, node);
+        id_of(&self.nodes.pool, prev)
+    }
+
+    /// The id with n records before it in an ordered or ranked index, or none.
+    pub fn nth(&self, index: usize, n: u64) -> Option<u64>
+        requires { IsSorted self.now.shape index }
+        ensures { result ≡ look.nth self.now.shape (table_of self.now.plain) index n }
+    {
+        let structure = structure_at(&self.nodes, index);
+        if n > u32::MAX as u64 {
+            return None;
+        }
+        let node = structure.nth(&self.nodes.pool, n as u32);
+        id_of(&self.nodes.pool, node)
+    }
+
+    /// How many records stand before a record in an ordered or ranked index. At most two look-ups.
+    pub fn rank_of(&self, index: usize, id: u64, steps: &mut Steps) -> u64
+        requires index { IsSorted self.now.shape index }
+        requires id { IsTrue (has_row (table_of self.now.plain) id) }
+        ensures rank { result ≡ look.rank self.now.shape (table_of self.now.plain) index id }
+        ensures steps { (b : ℕ) → size_of (table_of self.now.plain) < 2 ^ b → steps.new.count ≤ steps.old.count + 2 * (2 * b + 1) }
+    {
+        let Some(node) = self.ids.live(id) else {
+            return 0;
+        };
+        structure_at(&self.nodes, index).rank(&self.nodes.pool, node, steps) as u64
+    }
+}
