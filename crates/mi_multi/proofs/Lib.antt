@@ -21,6 +21,7 @@ pub mod Coming
 pub mod Come
 pub mod Grown
 pub mod Accepting
+pub mod Moved
 pub mod Numbers
 pub mod Shown
 pub mod FoundIds

@@ -67,7 +67,7 @@ module _ (ids : FinMap nat_cmp IdEntry) (m : Pooled Stored) where
       let both : Some (entry q true) ≡ Some (entry r true) = sym live ∙ ap (get ids) is ∙ there in ap (λ (a : IdEntry). a.node) (some_is both)
 
   -- the node of a live id stands in the list
-  found : (e : ℕ) (r : Ref) (rs : List Ref) → get ids e ≡ Some (record { node = r; live = true }) → AllByRecursion IsLiveRef rs → 0 < times e (ids_at m rs) → Holds r rs
+  pub found : (e : ℕ) (r : Ref) (rs : List Ref) → get ids e ≡ Some (record { node = r; live = true }) → AllByRecursion IsLiveRef rs → 0 < times e (ids_at m rs) → Holds r rs
   found e r [] there all some = absurd (omega arith)
   found e r (q ∷ qs) there all some =
       elim (eqb_tells (id_at m q) e) [

@@ -1,11 +1,12 @@
 //! Changes of a container, and what takes each back.
 ghost use Rattle.std.specs.Prelude.{◌≡◌, None, IfOk, IfErr, IfSome};
+ghost use Rattle.std.specs.Option.{option_map};
 ghost use Rattle.mi_model.specs.Verdict.{insert_refusal};
 ghost use Rattle.mi_container.specs.Asked.{IsSequenced};
 ghost use Rattle.mi_container.specs.Data.{IsData, table_of};
 ghost use Rattle.mi_container.specs.Makes.{MakesInsert};
 ghost use Rattle.mi_container.specs.Inverse.{taken_back};
-ghost use Rattle.mi_container.specs.Inverse.Inverse.{Inserted};
+ghost use Rattle.mi_container.specs.Inverse.Inverse.{Inserted, Relocated};
 ghost use Rattle.mi_container.specs.Fits.{Ready};
 ghost use Rattle.mi_container.specs.Backs.{row_seen};
 ghost use Rattle.mi_multi.specs.Before.{node_before};
@@ -28,6 +29,16 @@ fn node_at(ids: &Ids, before: Option<(usize, u64)>) -> Option<(usize, NodeRef)>
     let (index, id) = before?;
     let node = ids.live(id)?;
     Some((index, node))
+}
+
+/// The node of a row, if one is given.
+fn node_of(row: Option<RowRef>) -> Option<NodeRef>
+    ensures { result ≡ option_map (λ r. (row_seen r).at) row }
+{
+    match row {
+        Some(row) => Some(row.node),
+        None => None,
+    }
 }
 
 impl MultiIndex {
@@ -87,5 +98,16 @@ impl MultiIndex {
         self.ids.remove(row.id);
         self.next -= 1;
         self.arrivals -= 1;
+    }
+
+    /// Takes back that a row was moved in a sequenced index: it stands there again directly before the row that is named, or
+    /// last. Takes no memory.
+    pub fn take_back_relocated(&mut self, index: usize, row: RowRef, behind: Option<RowRef>)
+        requires ready { Ready (Relocated index (row_seen row) (option_map row_seen behind)) self.old.plain }
+        requires before { IsData self.old.shape (taken_back (Relocated index (row_seen row) (option_map row_seen behind)) self.old.plain) }
+        ensures plain { self.new.plain ≡ taken_back (Relocated index (row_seen row) (option_map row_seen behind)) self.old.plain }
+        ensures shape { self.new.shape ≡ self.old.shape }
+    {
+        self.nodes.relocate(index, row.node, node_of(behind));
     }
 }
