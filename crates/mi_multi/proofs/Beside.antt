@@ -48,7 +48,7 @@ all_filter : {A : Type 0} (P : A → Type 0) (p : A → Bool) (xs : List A) → 
 all_filter P p [] all = tt
 all_filter P p (x ∷ xs) all = elim (p x) as (λ b. AllByRecursion P (cond b (x ∷ filter p xs) (filter p xs))) [ true ↦ (all.0, all_filter P p xs all.1) | false ↦ all_filter P p xs all.1 ]
 
-lacks_filter : (idf : Ref → ℕ) (p : Ref → Bool) (e : ℕ) (xs : List Ref) → Lacks e (map idf xs) → Lacks e (map idf (filter p xs))
+pub lacks_filter : (idf : Ref → ℕ) (p : Ref → Bool) (e : ℕ) (xs : List Ref) → Lacks e (map idf xs) → Lacks e (map idf (filter p xs))
 lacks_filter idf p e [] lacks = tt
 lacks_filter idf p e (x ∷ xs) lacks =
     elim (p x) as (λ b. Lacks e (map idf (cond b (x ∷ filter p xs) (filter p xs)))) [ true ↦ (lacks.0, lacks_filter idf p e xs lacks.1) | false ↦ lacks_filter idf p e xs lacks.1 ]

@@ -13,7 +13,6 @@ use Rattle.mi_catalog.specs.Kinds.{is_sorted, is_ranked}
 use Rattle.mi_catalog.specs.Rules.{is_schema, are_indexes}
 use Rattle.mi_catalog.specs.Shape.{Shape, index_at}
 use Rattle.mi_model.specs.Table.{has, size}
-use Rattle.mi_model.specs.View.{view}
 use Rattle.mi_model.specs.Lookup as look
 use Rattle.mi_model.proofs.PlaceLaws.{listed_within, sorted_listed, length-view}
 use Rattle.mi_node.specs.Pool.{Pooled, IsHeld}
@@ -27,7 +26,7 @@ use Rattle.mi_index.specs.Standing.{Stands}
 use Rattle.mi_container.specs.Asked.{ShowsOneList, IsSorted}
 use Rattle.mi_container.specs.Data.{table_of}
 use Rattle.mi_ids.specs.IdMap.{live_node}
-use Rattle.mi_multi.specs.Multi.{id_at, ids_at, IsMulti}
+use Rattle.mi_multi.specs.Multi.{id_at}
 use Rattle.mi_multi.specs.Seen.{Seen, seen_of, AreMulti}
 use Rattle.mi_multi.specs.declared.multi.MultiIndex.TheInside.{Inside}
 use Rattle.mi_multi.proofs.Answers.{none_has}

@@ -26,4 +26,6 @@ pub mod Numbers
 pub mod Shown
 pub mod FoundIds
 pub mod LookUps
+pub mod Probes
 pub mod Calls
+pub mod KeyCalls

@@ -1,5 +1,5 @@
 -- What the calls that read answer, from what is known of the index.
-use Rattle.std.proofs.Common.{◌≡◌, ℕ, ◌+◌, ◌<◌, Bool, true, false, List, [], ◌∷◌, ◌++◌, refl, ap, sym, ◌∙◌, subst, arith}
+use Rattle.std.proofs.Common.{◌≡◌, ℕ, true, List, [], ◌∷◌, ◌++◌, ap, sym, ◌∙◌, subst}
 use Rattle.std.specs.Prelude.{◌==◌, IsTrue}
 use Rattle.std.specs.List.{AllByRecursion}
 use Rattle.std.specs.Option.{option_map}
@@ -25,7 +25,7 @@ use Rattle.mi_index.specs.declared.structure.Structure.TheVariants.{Ordered, Has
 use Rattle.mi_index.specs.Looks as nodes
 use Rattle.mi_index.specs.Standing.{Stands}
 use Rattle.mi_container.specs.Asked.{ShowsOneList, IsSorted}
-use Rattle.mi_container.specs.Data.{Data, table_of}
+use Rattle.mi_container.specs.Data.{table_of}
 use Rattle.mi_container.proofs.Sequences.{lacks_left}
 use Rattle.mi_ids.specs.declared.entry.IdEntry.{IdEntry}
 use Rattle.mi_ids.specs.IdMap.{live_node}

@@ -1,27 +1,27 @@
 -- What an index shows: the ids of its nodes.
-use Rattle.std.proofs.Common.{◌≡◌, ◌≢◌, ℕ, ◌+◌, ◌<◌, zero, suc, true, false, List, [], ◌∷◌, map, slice_get, get_or, length, refl, ap, sym, ◌∙◌, subst, arith}
+use Rattle.std.proofs.Common.{◌≡◌, ◌≢◌, ℕ, ◌+◌, ◌<◌, zero, suc, true, List, [], ◌∷◌, get_or, length, refl, ap, sym, ◌∙◌, subst, arith}
 use Rattle.std.specs.Prelude.{pos}
 use Rattle.std.specs.List.{AllByRecursion}
 use Rattle.std.specs.Option.{unwrap_or}
 use Rattle.std.specs.Ordering.{nat_cmp, int_cmp, on, ordering_then}
-use Rattle.std.specs.FinMap.{FinMap, get}
+use Rattle.std.specs.FinMap.{FinMap}
 use Rattle.std.proofs.lemmas.Bool.{false≢true}
 use Rattle.std.proofs.lemmas.Bool.Decides.{nat_tests}
-use Rattle.std.proofs.lemmas.Cmp.{nat_cmp_total, ranked}
+use Rattle.std.proofs.lemmas.Cmp.{nat_cmp_total}
 use Rattle.std.specs.declared.cmp.Ordering.{Ordering}
-use Rattle.std.specs.declared.cmp.Ordering.TheVariants.{Less, Equal, Greater}
-use Rattle.std.specs.declared.option.Option.TheVariants.{None, Some}
+use Rattle.std.specs.declared.cmp.Ordering.TheVariants.{Less, Equal}
+use Rattle.std.specs.declared.option.Option.TheVariants.{Some}
 use Rattle.mi_value.specs.declared.compare.KeyPart.{KeyPart}
 use Rattle.mi_catalog.specs.declared.index.Index.{Index}
 use Rattle.mi_catalog.specs.declared.index.IndexKind.{IndexKind}
 use Rattle.mi_catalog.specs.declared.index.IndexKind.TheVariants as kind
-use Rattle.mi_catalog.specs.Kinds.{is_sorted, is_hashed, is_sequenced}
+use Rattle.mi_catalog.specs.Kinds.{is_hashed, is_sequenced}
 use Rattle.mi_catalog.specs.Shape.{Shape, index_at}
 use Rattle.mi_model.specs.Key.{compare_rows}
 use Rattle.mi_model.specs.Table.{Table, row, list_of, ListsEach}
 use Rattle.mi_model.specs.View.{compare_ids, shown, view}
 use Rattle.mi_model.proofs.StampLaws.{Rises, rises_once}
-use Rattle.mi_model.proofs.ViewLaws.{Lacks, compare_ids_total}
+use Rattle.mi_model.proofs.ViewLaws.{Lacks}
 use Rattle.mi_model.proofs.PlaceLaws.{each_in_view}
 use Rattle.mi_node.specs.Pool.{Pooled, value_of, link_of}
 use Rattle.mi_node.specs.Refs.{Ref}
@@ -31,9 +31,9 @@ use Rattle.mi_index.specs.declared.stored.Stored.{Stored}
 use Rattle.mi_index.specs.declared.structure.Structure.{Structure}
 use Rattle.mi_index.specs.declared.structure.Structure.TheVariants.{Ordered, Hashed, Sequenced}
 use Rattle.mi_index.specs.Orders.{stored_order, row_in}
-use Rattle.mi_index.specs.Standing.{Stands, Climb}
-use Rattle.mi_container.specs.Data.{Node, Order, Data, has_stamps, stamp_of, ids_of, listed, lists_from, table_of, Climbs, IsData}
-use Rattle.mi_container.specs.Data.Order.{ById, ByKey, ByHash, Listed}
+use Rattle.mi_index.specs.Standing.{Climb}
+use Rattle.mi_container.specs.Data.{Node, Order, Data, has_stamps, stamp_of, ids_of, listed, lists_from, table_of, Climbs}
+use Rattle.mi_container.specs.Data.Order.{ById}
 use Rattle.mi_container.specs.Changes.{sorted_order}
 use Rattle.mi_container.specs.Laws.{Rise, stands_before}
 use Rattle.mi_container.proofs.Facts.{each_once, rows_climb}
@@ -42,12 +42,12 @@ use Rattle.mi_container.proofs.ViewOfData.{sorted_is_shown, hashed_is_shown, ids
 use Rattle.mi_ids.specs.declared.entry.IdEntry.{IdEntry}
 use Rattle.mi_ids.specs.IdMap.{live_node, node_if_live}
 use Rattle.mi_multi.specs.Physical.{order_of, orders_of, plan}
-use Rattle.mi_multi.specs.Multi.{id_at, ids_at, own_list, own_lists, AreLive, HasNode, IsMulti, plain_of}
+use Rattle.mi_multi.specs.Multi.{id_at, ids_at, own_list, HasNode, IsMulti, plain_of}
 use Rattle.mi_multi.proofs.Lives.{IsLiveRef}
 use Rattle.mi_multi.proofs.Stamps.{stamp_row, rises_ids, lists_each}
 use Rattle.mi_multi.proofs.Every.{own_is, sorted_parts, hashed_order, sequenced_order}
 use Rattle.mi_multi.proofs.Answers.{record_of}
-use Rattle.mi_multi.proofs.Numbers.{Numbered, numbered}
+use Rattle.mi_multi.proofs.Numbers.{Numbered}
 
 rise_of : (order : ℕ → ℕ → Ordering) (ids : List ℕ) → Rises order ids → Rise order ids
 rise_of order [] up = tt

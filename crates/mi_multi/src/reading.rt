@@ -133,4 +133,97 @@ impl MultiIndex {
         };
         structure_at(&self.nodes, index).rank(&self.nodes.pool, node, steps) as u64
     }
+
+    /// The first id of an ordered or ranked index whose key isn't less than a key or the first values of one, or none. At
+    /// most one look-up.
+    pub fn lower(&self, index: usize, key: &[Value], steps: &mut Steps) -> Option<u64>
+        requires index { IsSorted self.now.shape index }
+        requires key { KeyPrefix self.now.shape index key.now }
+        ensures id { result ≡ look.lower self.now.shape (table_of self.now.plain) index key.now }
+        ensures steps { (b : ℕ) → size_of (table_of self.now.plain) < 2 ^ b → steps.new.count ≤ steps.old.count + (2 * b + 1) }
+    {
+        let structure = structure_at(&self.nodes, index);
+        let node = structure.lower(&self.nodes.pool, Probe::Key(key), steps);
+        id_of(&self.nodes.pool, node)
+    }
+
+    /// The first id of an ordered or ranked index whose key is greater than a key or the first values of one, or none. At
+    /// most one look-up.
+    pub fn upper(&self, index: usize, key: &[Value], steps: &mut Steps) -> Option<u64>
+        requires index { IsSorted self.now.shape index }
+        requires key { KeyPrefix self.now.shape index key.now }
+        ensures id { result ≡ look.upper self.now.shape (table_of self.now.plain) index key.now }
+        ensures steps { (b : ℕ) → size_of (table_of self.now.plain) < 2 ^ b → steps.new.count ≤ steps.old.count + (2 * b + 1) }
+    {
+        let structure = structure_at(&self.nodes, index);
+        let node = structure.upper(&self.nodes.pool, Probe::Key(key), steps);
+        id_of(&self.nodes.pool, node)
+    }
+
+    /// How many records of an ordered or ranked index have a key less than a key or the first values of one. At most two
+    /// look-ups.
+    pub fn lower_rank(&self, index: usize, key: &[Value], steps: &mut Steps) -> u64
+        requires index { IsSorted self.now.shape index }
+        requires key { KeyPrefix self.now.shape index key.now }
+        ensures rank { result ≡ look.lower_rank self.now.shape (table_of self.now.plain) index key.now }
+        ensures steps { (b : ℕ) → size_of (table_of self.now.plain) < 2 ^ b → steps.new.count ≤ steps.old.count + 2 * (2 * b + 1) }
+    {
+        let structure = structure_at(&self.nodes, index);
+        let first = structure.lower(&self.nodes.pool, Probe::Key(key), steps);
+        match first {
+            Some(node) => structure.rank(&self.nodes.pool, node, steps) as u64,
+            None => node_count(structure, &self.nodes.pool) as u64,
+        }
+    }
+
+    /// How many records of an ordered or ranked index have a key not greater than a key or the first values of one. At most
+    /// two look-ups.
+    pub fn upper_rank(&self, index: usize, key: &[Value], steps: &mut Steps) -> u64
+        requires index { IsSorted self.now.shape index }
+        requires key { KeyPrefix self.now.shape index key.now }
+        ensures rank { result ≡ look.upper_rank self.now.shape (table_of self.now.plain) index key.now }
+        ensures steps { (b : ℕ) → size_of (table_of self.now.plain) < 2 ^ b → steps.new.count ≤ steps.old.count + 2 * (2 * b + 1) }
+    {
+        let structure = structure_at(&self.nodes, index);
+        let first = structure.upper(&self.nodes.pool, Probe::Key(key), steps);
+        match first {
+            Some(node) => structure.rank(&self.nodes.pool, node, steps) as u64,
+            None => node_count(structure, &self.nodes.pool) as u64,
+        }
+    }
+
+    /// The first id of a whole key in an index with keys, or none. Takes no memory.
+    pub fn find(&self, index: usize, key: &[Value]) -> Option<u64>
+        requires index { IsKeyed self.now.shape index }
+        requires key { WholeKey self.now.shape index key.now }
+        ensures { result ≡ look.find self.now.shape (table_of self.now.plain) index key.now }
+    {
+        self.schema.keeps_rules();
+        let structure = structure_at(&self.nodes, index);
+        let node = structure.find(&self.nodes.pool, Probe::Key(key));
+        id_of(&self.nodes.pool, node)
+    }
+
+    /// The first id of a whole key in a hashed index, or none.
+    pub fn first_of(&self, index: usize, key: &[Value]) -> Option<u64>
+        requires index { IsHashed self.now.shape index }
+        requires key { WholeKey self.now.shape index key.now }
+        ensures { result ≡ look.first_of self.now.shape (table_of self.now.plain) index key.now }
+    {
+        self.find(index, key)
+    }
+
+    /// The id that follows another among those of its key in a hashed index, or none behind the last.
+    pub fn next_of(&self, index: usize, id: u64) -> Option<u64>
+        requires index { IsHashed self.now.shape index }
+        requires id { IsTrue (has_row (table_of self.now.plain) id) }
+        ensures { result ≡ look.next_of self.now.shape (table_of self.now.plain) index id }
+    {
+        self.schema.keeps_rules();
+        let Some(node) = self.ids.live(id) else {
+            return None;
+        };
+        let next = structure_at(&self.nodes, index).next_of(&self.nodes.pool, node);
+        id_of(&self.nodes.pool, next)
+    }
 }

@@ -1,4 +1,4 @@
-use Rattle.std.proofs.Common.{ℕ, ◌≤◌, ◌^◌, ◌∙◌, arith}
+use Rattle.std.proofs.Common.{◌∙◌, arith}
 use Rattle.mi_multi.proofs.Calls.{sorted_reaches, in_order, nth_past, nth_held, nth_is}
 use Rattle.mi_multi.proofs.multi.MultiIndex.nth.Goals as goal
 
