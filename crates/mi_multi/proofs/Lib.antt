@@ -27,3 +27,4 @@ pub mod Shown
 pub mod FoundIds
 pub mod LookUps
 pub mod Calls
+pub mod Keeping
