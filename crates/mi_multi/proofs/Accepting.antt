@@ -10,6 +10,7 @@ use Rattle.std.specs.declared.option.Option.{Option}
 use Rattle.std.specs.declared.option.Option.TheVariants.{None, Some}
 use Rattle.std.specs.declared.result.Result.TheVariants.{Ok, Err}
 use Rattle.mi_value.specs.declared.value.Value.{Value}
+use Rattle.mi_value.specs.declared.refusal.Refusal.{Refusal}
 use Rattle.mi_value.specs.declared.refusal.Refusal.TheVariants.{Line, Json, Form, Busy, NoTable, Index as RIndex, Kind, Row as RRow, Key, NoId, Range, Full, Spent, Unique, Lost, Depth, Session, Memory}
 use Rattle.mi_value.specs.declared.limits.TheConstants.{LAST_COUNT}
 use Rattle.mi_catalog.specs.declared.index.Index.{Index}
@@ -33,7 +34,7 @@ use Rattle.mi_container.proofs.Pairs.{none_some, is_other}
 use Rattle.mi_container.proofs.Facts.{has_there}
 use Rattle.mi_ids.specs.declared.entry.IdEntry.{IdEntry}
 use Rattle.mi_ids.specs.IdMap.{live_node}
-use Rattle.mi_multi.specs.Physical.{orders_of}
+use Rattle.mi_multi.specs.Physical.{order_of, orders_of, plan, node_in}
 use Rattle.mi_multi.specs.Multi.{own_lists, plain_of}
 use Rattle.mi_multi.specs.Before.{node_before}
 use Rattle.mi_multi.proofs.Every.{sequenced_order}
