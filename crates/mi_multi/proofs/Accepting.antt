@@ -104,28 +104,28 @@ module _ (s : Shape) (at : Option (ℕ × ℕ)) (r : List Value) (t : Table) whe
 
 -- A refusal that is the definition's is met
 
-refused_meets : {A S : Type 0} (e : Refusal) (t : S) → MeetsRefusal {A} (Err e, t) e t t
-refused_meets Line t = (refl, refl)
-refused_meets Json t = (refl, refl)
-refused_meets Form t = (refl, refl)
-refused_meets Busy t = (refl, refl)
-refused_meets NoTable t = (refl, refl)
-refused_meets RIndex t = (refl, refl)
-refused_meets Kind t = (refl, refl)
-refused_meets RRow t = (refl, refl)
-refused_meets Key t = (refl, refl)
-refused_meets NoId t = (refl, refl)
-refused_meets Range t = (refl, refl)
-refused_meets Full t = (refl, refl)
-refused_meets Spent t = (refl, refl)
-refused_meets (Unique x e) t = (refl, refl)
-refused_meets (Lost x e) t = (refl, refl)
-refused_meets Depth t = (refl, refl)
-refused_meets Session t = (refl, refl)
-refused_meets Memory t = refl
+refused_meets : (A : Type 0) {S : Type 0} (e : Refusal) (t : S) → MeetsRefusal {A = A} (Err e, t) e t t
+refused_meets A Line t = (refl, refl)
+refused_meets A Json t = (refl, refl)
+refused_meets A Form t = (refl, refl)
+refused_meets A Busy t = (refl, refl)
+refused_meets A NoTable t = (refl, refl)
+refused_meets A RIndex t = (refl, refl)
+refused_meets A Kind t = (refl, refl)
+refused_meets A RRow t = (refl, refl)
+refused_meets A Key t = (refl, refl)
+refused_meets A NoId t = (refl, refl)
+refused_meets A Range t = (refl, refl)
+refused_meets A Full t = (refl, refl)
+refused_meets A Spent t = (refl, refl)
+refused_meets A (Unique x e) t = (refl, refl)
+refused_meets A (Lost x e) t = (refl, refl)
+refused_meets A Depth t = (refl, refl)
+refused_meets A Session t = (refl, refl)
+refused_meets A Memory t = refl
 
 pub insert_refused : (s : Shape) (at : Option (ℕ × ℕ)) (r : List Value) (t : Table) (e : Refusal) → insert_refusal s at r t ≡ Some e → MeetsRefusal (insert_outcome s at r t) e t t
-insert_refused s at r t e h = subst (λ o. MeetsRefusal (unless o t.next (insert at r t) t) e t t) (sym h) (refused_meets e t)
+insert_refused s at r t e h = subst (λ o. MeetsRefusal (unless o t.next (insert at r t) t) e t t) (sym h) (refused_meets _ e t)
 
 pub insert_meets : (s : Shape) (at : Option (ℕ × ℕ)) (r : List Value) (t : Table) (id : ℕ) (new : Table) → insert_refusal s at r t ≡ None → id ≡ t.next → new ≡ insert at r t
     → ((insert_outcome s at r t).0 ≡ Ok id) × (new ≡ (insert_outcome s at r t).1)
