@@ -29,3 +29,4 @@ pub mod LookUps
 pub mod Probes
 pub mod Calls
 pub mod KeyCalls
+pub mod Keeping

@@ -1,22 +1,26 @@
 //! Changes of a container, and what takes each back.
-ghost use Rattle.std.specs.Prelude.{◌≡◌, None, IfOk, IfErr, IfSome};
+ghost use Rattle.std.specs.Prelude.{◌≡◌, not, List as Seq, Some, None, IfOk, IfErr, IfSome};
 ghost use Rattle.std.specs.Option.{option_map};
-ghost use Rattle.mi_model.specs.Verdict.{insert_refusal};
-ghost use Rattle.mi_container.specs.Asked.{IsSequenced};
+ghost use Rattle.mi_value.specs.declared.value.Value.{Value};
+ghost use Rattle.mi_model.specs.Table.{has as has_row};
+ghost use Rattle.mi_model.specs.Conflict.{conflict};
+ghost use Rattle.mi_model.specs.Verdict.{has_place, insert_refusal, insert_outcome};
+ghost use Rattle.mi_container.specs.Asked.{IsSequenced, RecordFits};
 ghost use Rattle.mi_container.specs.Data.{IsData, table_of};
-ghost use Rattle.mi_container.specs.Makes.{MakesInsert};
-ghost use Rattle.mi_container.specs.Inverse.{taken_back};
+ghost use Rattle.mi_container.specs.Makes.{MakesInsert, MeetsOn, insert_answer};
+ghost use Rattle.mi_container.specs.Inverse.{taken_back, settled};
 ghost use Rattle.mi_container.specs.Inverse.Inverse.{Inserted, Relocated};
-ghost use Rattle.mi_container.specs.Fits.{Ready};
+ghost use Rattle.mi_container.specs.Fits.{Ready, KeptBy};
 ghost use Rattle.mi_container.specs.Backs.{row_seen};
-ghost use Rattle.mi_multi.specs.Before.{node_before};
+ghost use Rattle.mi_multi.specs.Before.{node_before, kept_by};
 
 use crate::multi::MultiIndex;
 use mi_container::{Inverse, RowRef, Undo};
 use mi_ids::Ids;
 use mi_index::Stored;
 use mi_node::NodeRef;
-use mi_value::Record;
+use mi_value::limits::LAST_COUNT;
+use mi_value::{Record, Refusal};
 use std::alloc::Global;
 
 /// The most nodes, live and kept, that a container has. They are as many as a pool has places.
@@ -41,12 +45,23 @@ fn node_of(row: Option<RowRef>) -> Option<NodeRef>
     }
 }
 
+/// The row whose node an inverse keeps, if any.
+fn kept_row(inverse: Inverse) -> Option<RowRef>
+    ensures { option_map row_seen result ≡ kept_by inverse }
+{
+    let undo = inverse.undo();
+    match &undo {
+        Undo::Erased(row, _) => Some(*row),
+        _ => None,
+    }
+}
+
 impl MultiIndex {
     /// Adds a record that no rule refuses and answers its id. It goes last in each index among its equals; in the sequenced
     /// index that `before` names it stands directly before the record that `before` names.
     ///
     /// Where memory is refused, the record is handed back.
-    pub fn insert_accepted(
+    fn insert_accepted(
         &mut self,
         alloc: Global,
         row: Record,
@@ -84,6 +99,73 @@ impl MultiIndex {
         }
     }
 
+    /// Whether an id is of a live row.
+    fn has(&self, id: u64) -> bool
+        ensures { result ≡ has_row (table_of self.now.plain) id }
+    {
+        self.ids.live(id).is_some()
+    }
+
+    /// Whether a row is given that isn't there.
+    fn is_missing(&self, before: Option<(usize, u64)>) -> bool
+        ensures { result ≡ not (has_place (table_of self.now.plain) (option_map (λ p. p.1) before)) }
+    {
+        match before {
+            Some((_, id)) => !self.has(id),
+            None => false,
+        }
+    }
+
+    /// Why no record may be inserted there, by the rules that look at no record, or none.
+    fn early_refusal(&self, before: Option<(usize, u64)>) -> Option<Refusal>
+        ensures refused { (row : Seq Value) → IfSome result (λ e. insert_refusal self.now.shape before row (table_of self.now.plain) ≡ Some e) }
+        ensures passed { (row : Seq Value) → result ≡ None → conflict self.now.shape (table_of self.now.plain) row None ≡ None
+            → insert_refusal self.now.shape before row (table_of self.now.plain) ≡ None }
+    {
+        if self.is_missing(before) {
+            return Some(Refusal::NoId);
+        }
+        if self.size() == self.schema.max_rows() {
+            return Some(Refusal::Full);
+        }
+        if self.next == LAST_COUNT {
+            return Some(Refusal::Spent);
+        }
+        if self.arrivals == LAST_COUNT {
+            return Some(Refusal::Spent);
+        }
+        None
+    }
+
+    /// Adds a record that conflicts with none and answers its id. It goes last in each index among its equals; in the
+    /// sequenced index that `before` names it stands directly before the record that `before` names.
+    ///
+    /// Refusals, in this order: `NoId`, `Full`, `Spent`, `Memory`. The refused record is handed back.
+    pub fn insert_unique(
+        &mut self,
+        alloc: Global,
+        row: Record,
+        before: Option<(usize, u64)>,
+    ) -> Result<(u64, Inverse), (Refusal, Record)>
+        requires row { RecordFits self.old.shape row }
+        requires before { IfSome before (λ at. IsSequenced self.old.shape at.0) }
+        requires alone { conflict self.old.shape (table_of self.old.plain) row None ≡ None }
+        ensures outcome { MeetsOn (insert_outcome self.old.shape before row) (insert_answer result) self.old.plain self.new.plain }
+        ensures made { IfOk result (λ p. MakesInsert self.old.shape before row self.old.plain p.1 self.new.plain) }
+        ensures refused { IfErr result (λ e. self.new.plain ≡ self.old.plain) }
+        ensures handed_back { IfErr result (λ e. e.1 ≡ row) }
+        ensures shape { self.new.shape ≡ self.old.shape }
+    {
+        self.keeps_rules();
+        if let Some(refusal) = self.early_refusal(before) {
+            return Err((refusal, row));
+        }
+        match self.insert_accepted(alloc, row, before) {
+            Ok(inserted) => Ok(inserted),
+            Err(row) => Err((Refusal::Memory, row)),
+        }
+    }
+
     /// Takes back that a row was inserted: its node leaves every index and is freed, and its id and its place in time are
     /// used again. Takes no memory.
     pub fn take_back_inserted(&mut self, row: RowRef)
@@ -109,5 +191,17 @@ impl MultiIndex {
         ensures shape { self.new.shape ≡ self.old.shape }
     {
         self.nodes.relocate(index, row.node, node_of(behind));
+    }
+
+    /// Frees the node that an inverse keeps, if any. Takes no memory.
+    pub fn settle(&mut self, inverse: Inverse)
+        requires { KeptBy inverse self.old.plain }
+        ensures plain { self.new.plain ≡ settled inverse self.old.plain }
+        ensures shape { self.new.shape ≡ self.old.shape }
+    {
+        let Some(row) = kept_row(inverse) else {
+            return;
+        };
+        self.settle_erased(row);
     }
 }
