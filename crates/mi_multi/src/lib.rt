@@ -2,8 +2,8 @@
 //! with its places, until the change is settled or taken back.
 //! What nodes, ids and links mean is computed as plain data, and each call is stated by the definitions of those. It knows
 //! no sessions. Of a container's calls it has the opening, the look-ups but for counting a key and finding a conflict, the
-//! insert of a record that no rule refuses, erasing, and the taking back of an insert, an erase and a relocation; the others
-//! aren't here yet.
+//! insert of a record whose keys no other has, erasing, settling, and the taking back of an insert, an erase and a
+//! relocation; the others aren't here yet.
 #![tactic(auto)]
 
 mod changes;
