@@ -34,7 +34,7 @@ use Rattle.mi_container.proofs.Pairs.{none_some, is_other}
 use Rattle.mi_container.proofs.Facts.{has_there}
 use Rattle.mi_ids.specs.declared.entry.IdEntry.{IdEntry}
 use Rattle.mi_ids.specs.IdMap.{live_node}
-use Rattle.mi_multi.specs.Physical.{order_of, orders_of, plan, node_in}
+use Rattle.mi_multi.specs.Physical.{orders_of, plan, node_in}
 use Rattle.mi_multi.specs.Multi.{own_lists, plain_of}
 use Rattle.mi_multi.specs.Before.{node_before}
 use Rattle.mi_multi.proofs.Every.{sequenced_order}

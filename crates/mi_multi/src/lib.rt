@@ -9,5 +9,7 @@
 mod changes;
 mod multi;
 mod reading;
+mod relocating;
+mod unwinding;
 
 pub use multi::MultiIndex;

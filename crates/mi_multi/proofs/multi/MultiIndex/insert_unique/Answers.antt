@@ -1,4 +1,4 @@
-use Rattle.std.proofs.Common.{◌≡◌, ap, ◌∙◌}
+use Rattle.std.proofs.Common.{ap, ◌∙◌}
 use Rattle.mi_container.specs.Data.{table_of}
 use Rattle.mi_container.specs.Run.Change.{Insert}
 use Rattle.mi_container.proofs.LawProofs.{change_is_tables}
