@@ -30,3 +30,6 @@ pub mod Probes
 pub mod Calls
 pub mod KeyCalls
 pub mod Keeping
+pub mod Rivals
+pub mod Holders
+pub mod KeyCounts
