@@ -30,3 +30,4 @@ pub mod Probes
 pub mod Calls
 pub mod KeyCalls
 pub mod Keeping
+pub mod Revalued
