@@ -31,3 +31,6 @@ pub mod Calls
 pub mod KeyCalls
 pub mod Keeping
 pub mod Revalued
+pub mod NewRecord
+pub mod OldPlaces
+pub mod PutCalls

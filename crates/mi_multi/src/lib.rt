@@ -8,6 +8,7 @@
 
 mod changes;
 mod multi;
+mod putting;
 mod reading;
 
 pub use multi::MultiIndex;

@@ -19,7 +19,7 @@ use mi_tree::Tree;
 use mi_value::{Probe, Steps, Value};
 
 /// The structure of the index of a number.
-fn structure_at(nodes: &Nodes, index: usize) -> &Structure
+pub(crate) fn structure_at(nodes: &Nodes, index: usize) -> &Structure
     requires { index < length nodes.now.structures.items }
     ensures { slice_get nodes.now.structures.items index ≡ Some result.now }
 {
