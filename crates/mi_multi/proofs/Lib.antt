@@ -33,3 +33,7 @@ pub mod Keeping
 pub mod Rivals
 pub mod Holders
 pub mod KeyCounts
+pub mod Revalued
+pub mod NewRecord
+pub mod OldPlaces
+pub mod PutCalls

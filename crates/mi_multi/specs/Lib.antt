@@ -3,3 +3,4 @@ pub mod Alike
 pub mod Multi
 pub mod Seen
 pub mod Before
+pub mod Placed

@@ -9,6 +9,7 @@ mod changes;
 mod conflicts;
 mod counting;
 mod multi;
+mod putting;
 mod reading;
 
 pub use multi::MultiIndex;
