@@ -33,3 +33,10 @@ pub mod Keeping
 pub mod RowMoves
 pub mod Unput
 pub mod Unputting
+pub mod Rivals
+pub mod Holders
+pub mod KeyCounts
+pub mod Revalued
+pub mod NewRecord
+pub mod OldPlaces
+pub mod PutCalls

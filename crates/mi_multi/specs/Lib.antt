@@ -5,3 +5,4 @@ pub mod Seen
 pub mod Before
 pub mod RowAt
 pub mod Restored
+pub mod Placed

@@ -27,7 +27,7 @@ pub(crate) fn structure_at(nodes: &Nodes, index: usize) -> &Structure
 }
 
 /// The id of a node, if there is one.
-fn id_of(p: &Pool<Stored>, node: Option<NodeRef>) -> Option<u64>
+pub(crate) fn id_of(p: &Pool<Stored>, node: Option<NodeRef>) -> Option<u64>
     requires { IfSome node (λ r. IsHeld p.now r) }
     ensures { result ≡ option_map (id_at p.now) node }
 {
