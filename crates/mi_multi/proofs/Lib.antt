@@ -32,6 +32,7 @@ pub mod KeyCalls
 pub mod Keeping
 pub mod Rivals
 pub mod Holders
+pub mod Replaced
 pub mod KeyCounts
 pub mod Revalued
 pub mod NewRecord
