@@ -35,6 +35,7 @@ pub mod Unput
 pub mod Unputting
 pub mod Rivals
 pub mod Holders
+pub mod Replaced
 pub mod KeyCounts
 pub mod Revalued
 pub mod NewRecord

@@ -2,7 +2,6 @@
 ghost use Rattle.std.specs.Prelude.{◌≡◌, ◌<◌, length, map};
 ghost use Rattle.std.specs.Option.{option_map, is_some};
 ghost use Rattle.mi_value.specs.declared.limits.TheConstants.{LAST_COUNT};
-ghost use Rattle.mi_container.specs.Asked.{RecordFits};
 ghost use Rattle.mi_container.specs.Data.{content_of, stamp_of, order_at};
 ghost use Rattle.mi_container.specs.Inverse as inverse;
 ghost use Rattle.mi_container.specs.Fits.{IsLive};
@@ -83,7 +82,6 @@ impl MultiIndex {
     /// Sets another record for a live row, and answers what takes it back. Where its key stays in an index it keeps its place
     /// there; else it goes last among its new equals. Takes no memory.
     pub(crate) fn put(&mut self, id: u64, row: Record) -> Inverse
-        requires row { RecordFits self.old.shape row }
         requires allowed { Allowed self.old.shape (Replace id row) self.old.plain }
         requires times { self.old.plain.arrivals < LAST_COUNT }
         ensures made { Makes self.old.shape (Replace id row) self.old.plain result self.new.plain }
