@@ -13,7 +13,7 @@ use Rattle.mi_multi.specs.Multi.{IsMulti, plain_of}
 use Rattle.mi_multi.specs.Seen.{Seen, seen_of}
 use Rattle.mi_multi.proofs.Answers.{live_is, erase_refused, erase_made, erase_meets}
 use Rattle.mi_multi.proofs.Erasing.{can_leave, erased_seen, erased_multi}
-use Rattle.mi_multi.proofs.multi.MultiIndex.erase.Goals as goal
+use Rattle.mi_multi.proofs.multi.MultiIndex.erase_for.Goals as goal
 
 pub returns-in_default-clause-outcome : goal.returns-in_default-clause-outcome
 returns-in_default-clause-outcome c =
@@ -56,6 +56,6 @@ pub returns-clause-made : goal.returns-clause-made
 returns-clause-made c =
     let i = c.self.inside in
     let new : Data = plain_of i.schema c.keep.new.self.entries c.take_out.new.self.pool c.take_out.new.self.structures.items i.next i.arrivals in
-    subst (λ (w : Seen). Makes w.shape (Erase c.args.id None) w.plain c.new.result new) c.self.view_is
-    (subst (λ (w : Inverse). Makes i.schema (Erase c.args.id None) (seen_of i).plain w new) (sym c.new.ensures)
-    (erase_made i.schema i.ids.entries i.nodes.pool i.nodes.structures.items i.next i.arrivals c.args.id c.in-Some.node new (sym c.live.ensures ∙ c.in-Some.is) (now_is c)))
+    subst (λ (w : Seen). Makes w.shape (Erase c.args.id c.args.why) w.plain c.new.result new) c.self.view_is
+    (subst (λ (w : Inverse). Makes i.schema (Erase c.args.id c.args.why) (seen_of i).plain w new) (sym c.new.ensures)
+    (erase_made i.schema i.ids.entries i.nodes.pool i.nodes.structures.items i.next i.arrivals c.args.id c.args.why c.in-Some.node new (sym c.live.ensures ∙ c.in-Some.is) (now_is c)))
