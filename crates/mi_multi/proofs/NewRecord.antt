@@ -1,5 +1,5 @@
 -- Another record in a live row: in each index where its key changes its node may move by the next stamp, and then it holds what the data say.
-use Rattle.std.proofs.Common.{◌≡◌, ◌≢◌, ℕ, ◌+◌, ◌^◌, ◌<◌, ◌≤◌, zero, suc, Bool, true, false, cond, not, inl, inr, List, [], ◌∷◌, ◌++◌, get_or, length, refl, ap, sym, ◌∙◌, subst, arith}
+use Rattle.std.proofs.Common.{◌≡◌, ◌≢◌, ℕ, ◌+◌, ◌^◌, ◌<◌, ◌≤◌, suc, Bool, true, false, cond, not, inl, inr, List, [], ◌∷◌, ◌++◌, get_or, length, refl, ap, sym, ◌∙◌, subst, arith}
 use Rattle.std.specs.Prelude.{pos}
 use Rattle.std.specs.List.{AllByRecursion}
 use Rattle.std.specs.Option.{option_and_then}
@@ -22,7 +22,7 @@ use Rattle.mi_catalog.specs.Shape.{Shape}
 use Rattle.mi_model.proofs.ViewLaws.{Lacks}
 use Rattle.mi_model.specs.Key.{parts_or_id}
 use Rattle.mi_node.specs.Pool.{Pooled, value_of, link_of}
-use Rattle.mi_node.specs.Refs.{Ref, first_of}
+use Rattle.mi_node.specs.Refs.{Ref}
 use Rattle.mi_node.specs.declared.link.Link.{Link as Line}
 use Rattle.mi_tree.specs.Sorted.{NoneAre}
 use Rattle.mi_chain.specs.Keying.{stamp_at}
@@ -30,11 +30,10 @@ use Rattle.mi_index.specs.declared.stored.Stored.{Stored}
 use Rattle.mi_index.specs.declared.structure.Structure.{Structure}
 use Rattle.mi_index.specs.declared.structure.Structure.TheVariants.{Ordered, Hashed, Sequenced}
 use Rattle.mi_index.specs.Orders.{stored_order}
-use Rattle.mi_index.specs.Standing.{slot_in, order_of as value_order}
-use Rattle.mi_index.specs.Places.{mark_at, NoneHas, IsWith}
-use Rattle.mi_index.specs.Rekeying.{side_of_value, HasPlaceFor, KeepsKey, CanMove, CanMoveIf, HasMoved, HasMovedIf, rekeying, rekeyed, IsRekeyed}
+use Rattle.mi_index.specs.Places.{mark_at, NoneHas}
+use Rattle.mi_index.specs.Rekeying.{side_of_value, HasPlaceFor, KeepsKey, CanMove, CanMoveIf, HasMovedIf, rekeying, rekeyed, IsRekeyed}
 use Rattle.mi_index.specs.Pass.{AllCan, AllLike}
-use Rattle.mi_container.specs.Data.{Content, Node, Order, Data, has_stamps, parts_of, node_of, content_in, content_of, IsData}
+use Rattle.mi_container.specs.Data.{Content, Order, Data, has_stamps, parts_of, node_of, content_in, content_of, IsData}
 use Rattle.mi_container.specs.Data.Order.{ById, ByKey, ByHash, Listed}
 use Rattle.mi_container.specs.Changes.{sorted_order, new_stamp, restamped, new_content, replaced}
 use Rattle.mi_container.specs.Inverse.{OldPlace, old_places, at_in, put_inverse}
@@ -46,7 +45,7 @@ use Rattle.mi_ids.specs.declared.entry.IdEntry.{IdEntry}
 use Rattle.mi_multi.specs.Physical.{id_in, record_in, stamp_in, stamps_in, order_of, orders_of, plan, node_in, live_in}
 use Rattle.mi_multi.specs.Multi.{id_at, ids_at, own_list, own_lists, AreLive, HasNode, IsMulti, plain_of}
 use Rattle.mi_multi.proofs.Picks.{get_picked}
-use Rattle.mi_multi.proofs.Every.{Every, Known, one, none, sorted_parts, hashed_order, sequenced_order, has_plan}
+use Rattle.mi_multi.proofs.Every.{Every, Known, one, none, sorted_parts, hashed_order, sequenced_order}
 use Rattle.mi_multi.proofs.Lives.{IsLiveRef, holds, id_of, lacks_middle, all_left, all_right, all_append}
 use Rattle.mi_multi.proofs.Beside.{own_key}
 use Rattle.mi_multi.proofs.Counts.{no_longer}

@@ -1,5 +1,5 @@
 -- The places that a row had, as its structures answer them, are those that the data say.
-use Rattle.std.proofs.Common.{◌≡◌, ℕ, ◌+◌, ◌<◌, ◌≤◌, zero, suc, Bool, true, false, cond, not, List, [], ◌∷◌, ◌++◌, map, take, get_or, length, slice_get, refl, ap, sym, ◌∙◌, subst, arith}
+use Rattle.std.proofs.Common.{◌≡◌, ℕ, ◌+◌, ◌<◌, zero, suc, Bool, true, false, cond, not, List, [], ◌∷◌, ◌++◌, map, take, get_or, length, slice_get, refl, ap, sym, ◌∙◌, subst, arith}
 use Rattle.std.specs.Option.{option_map, is_some}
 use Rattle.std.specs.Ordering.{nat_cmp, is_eq}
 use Rattle.std.specs.FinMap.{FinMap, get}
@@ -14,7 +14,7 @@ use Rattle.mi_value.specs.Order.{compare_key}
 use Rattle.mi_catalog.specs.declared.index.Index.{Index}
 use Rattle.mi_catalog.specs.Shape.{Shape, index_at}
 use Rattle.mi_node.specs.Pool.{Pooled, value_of, link_of}
-use Rattle.mi_node.specs.Refs.{Ref, first_of, last_of}
+use Rattle.mi_node.specs.Refs.{Ref}
 use Rattle.mi_chain.specs.Keying.{stamp_at}
 use Rattle.mi_index.specs.declared.stored.Stored.{Stored}
 use Rattle.mi_index.specs.declared.moves.Place.{Place}
@@ -23,17 +23,17 @@ use Rattle.mi_index.specs.declared.structure.Structure.TheVariants.{Ordered, Has
 use Rattle.mi_index.specs.Standing.{Stands, Climb}
 use Rattle.mi_index.specs.Places.{mark_at, HasNode as Holds}
 use Rattle.mi_index.specs.Looks.{IsPlaceOf}
-use Rattle.mi_container.specs.Data.{Content, Node, Link, Order, Data, has_stamps, parts_of, content_of, stamp_of, by_stamp, KindFits, KindsFit}
+use Rattle.mi_container.specs.Data.{Content, Node, Order, Data, has_stamps, parts_of, content_of, stamp_of, by_stamp, KindFits, KindsFit}
 use Rattle.mi_container.specs.Data.Order.{ById, ByKey, ByHash, Listed}
 use Rattle.mi_container.specs.Changes.{sorted_order, link_in}
 use Rattle.mi_container.specs.Inverse.{OldPlace, old_place, old_places}
 use Rattle.mi_ids.specs.declared.entry.IdEntry.{IdEntry}
-use Rattle.mi_multi.specs.Physical.{id_in, record_in, order_of, orders_of, plan, node_in, stamps_in}
-use Rattle.mi_multi.specs.Multi.{id_at, ids_at, own_list, own_lists, AreLive, HasNode, IsMulti, plain_of}
+use Rattle.mi_multi.specs.Physical.{id_in, record_in, plan, stamps_in}
+use Rattle.mi_multi.specs.Multi.{id_at, ids_at, own_list, own_lists, AreLive, IsMulti, plain_of}
 use Rattle.mi_multi.specs.Placed.{place_kept}
 use Rattle.mi_multi.proofs.Every.{sorted_parts, hashed_order, has_plan, length_orders}
-use Rattle.mi_multi.proofs.Lives.{IsLiveRef, holds, id_of}
-use Rattle.mi_multi.proofs.Stamps.{rows, stamp_row, by_stamp_is}
+use Rattle.mi_multi.proofs.Lives.{holds, id_of}
+use Rattle.mi_multi.proofs.Stamps.{stamp_row, by_stamp_is}
 use Rattle.mi_multi.proofs.Beside.{link_hashed}
 use Rattle.mi_multi.proofs.Numbers.{Numbered, numbered}
 use Rattle.mi_multi.proofs.NewRecord.{stays, sequenced_stays, content_here, Marked}

@@ -2,7 +2,7 @@ use Rattle.std.proofs.Common.{ap, sym, ◌∙◌}
 use Rattle.std.specs.Ordering.{is_eq}
 use Rattle.std.specs.declared.option.Option.TheVariants.{Some}
 use Rattle.mi_value.specs.Order.{compare_key}
-use Rattle.mi_multi.proofs.PutCalls.{row_held, few_here, few_items, its_slot, its_node, no_place, some_place}
+use Rattle.mi_multi.proofs.PutCalls.{row_held, few_items, its_slot, its_node, no_place, some_place}
 use Rattle.mi_multi.proofs.multi.MultiIndex.old_place.Goals as goal
 
 pub value-requires : goal.value-requires

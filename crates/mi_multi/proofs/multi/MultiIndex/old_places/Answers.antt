@@ -1,4 +1,4 @@
-use Rattle.std.proofs.Common.{◌≡◌, ◌<◌, ◌∙◌, length, ap, sym, arith}
+use Rattle.std.proofs.Common.{◌≡◌, ◌<◌, ◌∙◌, length, arith}
 use Rattle.mi_container.specs.Data.{content_of}
 use Rattle.mi_container.specs.Backs.{place_seen}
 use Rattle.mi_container.specs.declared.inverse.RowRef.{RowRef as Row}

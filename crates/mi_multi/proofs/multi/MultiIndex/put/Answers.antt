@@ -1,6 +1,4 @@
-use Rattle.std.proofs.Common.{◌≡◌, true, sym, ◌∙◌}
-use Rattle.std.specs.FinMap.{get}
-use Rattle.std.specs.declared.option.Option.TheVariants.{Some}
+use Rattle.std.proofs.Common.{sym, ◌∙◌}
 use Rattle.mi_multi.proofs.Answers.{live_is}
 use Rattle.mi_multi.proofs.PutCalls.{has_node, live_row, node_held, put_ready, now_multi, now_made}
 use Rattle.mi_multi.proofs.multi.MultiIndex.put.Goals as goal
