@@ -10,21 +10,21 @@ use Rattle.mi_value.specs.declared.value.Value.{Value}
 use Rattle.mi_value.specs.declared.edit.Edit.{Edit}
 use Rattle.mi_value.specs.declared.limits.TheConstants.{LAST_COUNT}
 use Rattle.mi_value.specs.declared.refusal.Refusal.{Refusal}
-use Rattle.mi_value.specs.declared.refusal.Refusal.TheVariants.{NoId, Range, Spent, Unique, Lost, Memory}
+use Rattle.mi_value.specs.declared.refusal.Refusal.TheVariants.{NoId, Range, Spent, Unique, Memory}
 use Rattle.mi_value.specs.Edits.{apply}
 use Rattle.mi_catalog.specs.Shape.{Shape}
 use Rattle.mi_model.specs.Table.{Table, get, has, row}
 use Rattle.mi_model.specs.Conflict.{conflict}
-use Rattle.mi_model.specs.Change.{put, erase}
+use Rattle.mi_model.specs.Change.{put}
 use Rattle.mi_model.specs.Steps.{Meets, MeetsRefusal}
-use Rattle.mi_model.specs.Verdict.{Outcome, is_spent, as_unique, unless, replace_refusal, replace_outcome, refused_modify, modified, modify_outcome, erase_outcome}
+use Rattle.mi_model.specs.Verdict.{Outcome, is_spent, as_unique, unless, replace_refusal, replace_outcome, refused_modify, modified, modify_outcome}
 use Rattle.mi_container.specs.Data.{Data, IsData, table_of}
 use Rattle.mi_container.specs.Inverse.{Inverse, lost_to}
-use Rattle.mi_container.specs.Run.Change.{Replace, Erase}
-use Rattle.mi_container.specs.Makes.{Makes, MakesModify, MeetsOn, modify_answer, lost_answer, erase_answer, IsNoLoss}
+use Rattle.mi_container.specs.Run.Change.{Replace}
+use Rattle.mi_container.specs.Makes.{Makes, MeetsOn, modify_answer, lost_answer, IsNoLoss}
 use Rattle.mi_container.proofs.Pairs.{is_other, none_some, some_is}
 use Rattle.mi_container.proofs.LawProofs.{change_is_tables}
-use Rattle.mi_multi.proofs.Accepting.{tested, refused_meets}
+use Rattle.mi_multi.proofs.Accepting.{refused_meets}
 
 module _ (s : Shape) (e : ℕ) (r : List Value) (t : Table) where
   pub replace_refused : (x : Refusal) → replace_refusal s e r t ≡ Some x → MeetsRefusal (replace_outcome s e r t) x t t
