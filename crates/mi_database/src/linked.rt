@@ -3,7 +3,6 @@
 use mi_catalog::Catalog;
 use mi_container::{Container, Inverse};
 use mi_journal::Journal;
-use mi_value::Refusal;
 use std::alloc::{AllocError, Global};
 use std::marker::Model;
 
@@ -27,7 +26,6 @@ impl<C: Container> Model for Linked<C> {
     ghost invariant = { λ a. IsHeld (map C.shape a.containers.items) (seen a.catalog (map C.plain a.containers.items) a.journal a.revision) };
 }
 
-ghost use Rattle.mi_value.specs.declared.refusal.Refusal.TheVariants.{Memory};
 ghost use Rattle.std.specs.Prelude.{◌≡◌, ◌<◌, ◌≤◌, ◌+◌, length, map, vec_len, IfOk, OnErr};
 ghost use Rattle.mi_container.specs.Changes.{opened_data};
 ghost use Rattle.mi_container.specs.Fits.{KeptBy};
@@ -72,7 +70,7 @@ pub(crate) fn keep<C: Container>(
 
 impl<C: Container> Linked<C> {
     ghost use Rattle.mi_database.specs.Held.{with_room, RoomFor};
-    ghost use Rattle.std.specs.Prelude.{OnOk, IfErr};
+    ghost use Rattle.std.specs.Prelude.{OnOk};
     ghost use Rattle.mi_database.specs.Held.{meaning, opened_held};
     ghost use Rattle.mi_catalog.specs.Fitting.{HasTable};
     ghost use Rattle.mi_container.specs.Data.{table_of};
