@@ -4,17 +4,15 @@ use super::long_rows::long_scripts;
 use super::script::{Pieces, Script, scripts};
 use mi_hub::{Watched, drive};
 use mi_plain::Plain;
+use mi_schema::read_catalog;
 use std::alloc::Global;
 use std::process::Abort;
 use std::test::Fail;
 
 /// What the connections of a row are answered.
-pub(super) fn answered<D: Opens>(
-    alloc: Global,
-    script: &Script,
-    pieces: Pieces,
-) -> Result<Vec<u8>, Fail> {
-    let mut hub = opened::<D>(alloc, script.tables.as_str())?;
+fn answered<D: Opens>(alloc: Global, script: &Script, pieces: Pieces) -> Result<Vec<u8>, Fail> {
+    let catalog = read_catalog(alloc, script.tables.as_bytes())?;
+    let mut hub = opened::<D>(alloc, &catalog)?;
     let mut writer = Watched::new(Vec::new(alloc));
     let events = script.events(alloc, pieces)?;
     if drive(&mut hub, events.as_slice(), &mut writer).is_err() {
