@@ -1,11 +1,11 @@
 //! The forms of the database that every row is run on.
 use mi_catalog::Catalog;
+use mi_database::Linked;
 use mi_hub::Hub;
+use mi_multi::MultiIndex;
 use mi_plain::Plain;
-use mi_schema::read_catalog;
 use mi_sessions::Sessions;
 use std::alloc::{AllocError, Global};
-use std::test::Fail;
 
 /// A form of the database.
 pub(super) trait Opens: Sessions + Drop {
@@ -19,8 +19,16 @@ impl Opens for Plain {
     }
 }
 
-/// A hub with no connection over the tables that a text describes.
-pub(super) fn opened<D: Opens>(alloc: Global, tables: &str) -> Result<Hub<D>, Fail> {
-    let catalog = read_catalog(alloc, tables.as_bytes())?;
-    Ok(Hub::new(alloc, D::open(alloc, catalog)?))
+/// The form that is served.
+pub(super) type Served = Linked<MultiIndex>;
+
+impl Opens for Served {
+    fn open(alloc: Global, catalog: Catalog) -> Result<Served, AllocError> {
+        Linked::new(alloc, catalog)
+    }
+}
+
+/// A hub with no connection over the tables of a catalog.
+pub(super) fn opened<D: Opens>(alloc: Global, catalog: &Catalog) -> Result<Hub<D>, AllocError> {
+    Ok(Hub::new(alloc, D::open(alloc, catalog.copy(alloc)?)?))
 }

@@ -132,8 +132,46 @@ impl Script {
 
     /// Every reply, one behind another.
     pub(super) fn replies(&self, alloc: Global) -> Result<String, AllocError> {
+        self.replies_before(alloc, self.steps.len())
+    }
+
+    /// The replies to so many steps.
+    pub(super) fn replies_before(&self, alloc: Global, count: usize) -> Result<String, AllocError> {
         let mut all = String::new(alloc);
+        for step in self.steps.iter().take(count) {
+            all.push_str(step.replies.as_str())?;
+        }
+        Ok(all)
+    }
+
+    /// Whether nothing is done but by connection 1, which isn't cut.
+    pub(super) fn is_of_one(&self) -> bool {
+        self.steps.iter().all(|step| step.conn == 1 && !matches!(step.act, Act::BreaksOff))
+    }
+
+    /// All bytes that are sent.
+    pub(super) fn bytes(&self, alloc: Global) -> Result<Vec<u8>, AllocError> {
+        let mut all = Vec::new(alloc);
         for step in &self.steps {
+            if let Act::Sends(bytes) = &step.act {
+                all.extend_from_slice(bytes.as_slice())?;
+            }
+        }
+        Ok(all)
+    }
+
+    /// The replies to the lines that end within so many bytes.
+    pub(super) fn replies_to(&self, alloc: Global, count: usize) -> Result<String, AllocError> {
+        let mut all = String::new(alloc);
+        let mut left = count;
+        for step in &self.steps {
+            let Act::Sends(bytes) = &step.act else {
+                break;
+            };
+            let Some(less) = left.checked_sub(bytes.len()) else {
+                break;
+            };
+            left = less;
             all.push_str(step.replies.as_str())?;
         }
         Ok(all)
@@ -141,9 +179,19 @@ impl Script {
 
     /// Connections 1 and 2 come, and do all that is done.
     pub(super) fn events(&self, alloc: Global, pieces: Pieces) -> Result<Vec<Event>, AllocError> {
+        self.events_before(alloc, self.steps.len(), pieces)
+    }
+
+    /// Connections 1 and 2 come, and do so many steps.
+    pub(super) fn events_before(
+        &self,
+        alloc: Global,
+        count: usize,
+        pieces: Pieces,
+    ) -> Result<Vec<Event>, AllocError> {
         let mut events = vec![in alloc; Event::Attach(1), Event::Attach(2)]?;
         let mut sent = Vec::new(alloc);
-        for (i, step) in self.steps.iter().enumerate() {
+        for (i, step) in self.steps.iter().take(count).enumerate() {
             match &step.act {
                 Act::Sends(bytes) => sent.extend_from_slice(bytes.as_slice())?,
                 Act::Closes => events.push(Event::Close(step.conn))?,

@@ -1,20 +1,18 @@
 //! The worked rows, cut into pieces in every way.
-use super::databases::{Opens, opened};
+use super::databases::{Opens, Served, opened};
 use super::long_rows::long_scripts;
 use super::script::{Pieces, Script, scripts};
 use mi_hub::{Watched, drive};
 use mi_plain::Plain;
+use mi_schema::read_catalog;
 use std::alloc::Global;
 use std::process::Abort;
 use std::test::Fail;
 
 /// What the connections of a row are answered.
-pub(super) fn answered<D: Opens>(
-    alloc: Global,
-    script: &Script,
-    pieces: Pieces,
-) -> Result<Vec<u8>, Fail> {
-    let mut hub = opened::<D>(alloc, script.tables.as_str())?;
+fn answered<D: Opens>(alloc: Global, script: &Script, pieces: Pieces) -> Result<Vec<u8>, Fail> {
+    let catalog = read_catalog(alloc, script.tables.as_bytes())?;
+    let mut hub = opened::<D>(alloc, &catalog)?;
     let mut writer = Watched::new(Vec::new(alloc));
     let events = script.events(alloc, pieces)?;
     if drive(&mut hub, events.as_slice(), &mut writer).is_err() {
@@ -74,6 +72,16 @@ fn plain_answers_rows(rt: HostRuntime) -> Result<(), Fail> {
 }
 
 #[test]
+fn served_answers_rows(rt: HostRuntime) -> Result<(), Fail> {
+    check_rows::<Served>(&rt, rt.alloc())
+}
+
+#[test]
 fn plain_answers_long_rows(rt: HostRuntime) -> Result<(), Fail> {
     check_long_rows::<Plain>(&rt, rt.alloc())
+}
+
+#[test]
+fn served_answers_long_rows(rt: HostRuntime) -> Result<(), Fail> {
+    check_long_rows::<Served>(&rt, rt.alloc())
 }

@@ -1,0 +1,232 @@
+//! Two forms of the database beside one another: the same random lines, and every reply compared.
+use super::databases::{Opens, Served, opened};
+use super::random::{CHANGES, READS, Random, TABLES, number_behind};
+use mi_hub::{Hub, Watched};
+use mi_plain::Plain;
+use mi_schema::read_catalog;
+use std::alloc::{AllocError, Global};
+use std::process::Abort;
+use std::test::Fail;
+
+/// Two hubs that are asked the same, each with connection 1.
+#[derive(Drop)]
+struct Both<A: Opens, B: Opens> {
+    one: Hub<A>,
+    other: Hub<B>,
+}
+
+/// What connection 1 is answered.
+fn reply<D: Opens>(alloc: Global, hub: &mut Hub<D>, line: &str) -> Result<String, Fail> {
+    let mut writer = Watched::new(Vec::new(alloc));
+    if hub.feed(1, line.as_bytes(), &mut writer).is_err() {
+        return Err(Fail::from("the line isn't answered"));
+    }
+    Ok(String::from_utf8(writer.inner().to_vec(alloc)?)?)
+}
+
+impl<A: Opens, B: Opens> Both<A, B> {
+    fn open(alloc: Global) -> Result<Both<A, B>, Fail> {
+        let catalog = read_catalog(alloc, TABLES.as_bytes())?;
+        let mut both = Both {
+            one: opened(alloc, &catalog)?,
+            other: opened(alloc, &catalog)?,
+        };
+        if both.one.attach(1).is_err() || both.other.attach(1).is_err() {
+            return Err(Fail::from("a connection isn't attached"));
+        }
+        Ok(both)
+    }
+
+    /// What both are answered to a line.
+    fn ask(&mut self, rt: &impl Abort, alloc: Global, line: &str) -> Result<String, Fail> {
+        let got = reply(alloc, &mut self.one, line)?;
+        let want = reply(alloc, &mut self.other, line)?;
+        assert_eq!(rt; got.as_str(), want.as_str(), "to {line}");
+        Ok(got)
+    }
+
+    /// Has the ids of both tables seen.
+    fn look(&mut self, rt: &impl Abort, alloc: Global, random: &mut Random) -> Result<(), Fail> {
+        for table in ["a", "b"] {
+            let line = filled(alloc, IDS, table, "")?;
+            let page = self.ask(rt, alloc, line.as_str())?;
+            random.see(table == "b", page.as_str())?;
+        }
+        Ok(())
+    }
+
+    /// Asks so many random lines that change, start or end, and reads between them.
+    fn run(&mut self, rt: &impl Abort, alloc: Global, seed: u64, steps: u64) -> Result<(), Fail> {
+        let mut random = Random::new(alloc, seed);
+        for step in 0..steps {
+            if step % 100 == 0 {
+                self.look(rt, alloc, &mut random)?;
+            }
+            if random.below(3) == 0 {
+                let line = random.line(alloc, &READS)?;
+                let _ = self.ask(rt, alloc, line.as_str())?;
+            }
+            let line = random.line(alloc, &CHANGES)?;
+            let reply = self.ask(rt, alloc, line.as_str())?;
+            random.hear(reply.as_str());
+        }
+        Ok(())
+    }
+
+    /// Asks for every view of a table: each index from both ends, the record of each rank, its ranks, and each hashed key.
+    fn view(&mut self, rt: &impl Abort, alloc: Global, table: &str) -> Result<(), Fail> {
+        for form in LISTS {
+            let line = filled(alloc, form, table, "")?;
+            let _ = self.ask(rt, alloc, line.as_str())?;
+        }
+        for n in 0..300u64 {
+            let place = format!(in alloc; "{n}")?;
+            let line = filled(alloc, NTH, table, place.as_str())?;
+            let reply = self.ask(rt, alloc, line.as_str())?;
+            if !self.ask_each(rt, alloc, table, reply.as_str(), &OF_RECORD)? {
+                break;
+            }
+        }
+        for key in KEYS {
+            self.view_key(rt, alloc, table, key)?;
+        }
+        Ok(())
+    }
+
+    /// Asks lines about the record that a reply shows, if it does; answers whether it does.
+    fn ask_each(
+        &mut self,
+        rt: &impl Abort,
+        alloc: Global,
+        table: &str,
+        reply: &str,
+        forms: &[&str],
+    ) -> Result<bool, Fail> {
+        let Some(id) = number_behind(reply, "\"id\":") else {
+            return Ok(false);
+        };
+        let id = format!(in alloc; "{id}")?;
+        for form in forms {
+            let line = filled(alloc, form, table, id.as_str())?;
+            let _ = self.ask(rt, alloc, line.as_str())?;
+        }
+        Ok(true)
+    }
+
+    /// In a session that is undone, erases the first record of a hashed key until it has none, so that the order of its records shows.
+    fn view_key(
+        &mut self,
+        rt: &impl Abort,
+        alloc: Global,
+        table: &str,
+        key: &str,
+    ) -> Result<(), Fail> {
+        let find = filled(alloc, FIND, table, key)?;
+        let _ = self.ask(rt, alloc, "{\"cmd\":\"start\"}\n")?;
+        for _ in 0..300 {
+            let reply = self.ask(rt, alloc, find.as_str())?;
+            if !self.ask_each(rt, alloc, table, reply.as_str(), &ERASE)? {
+                break;
+            }
+        }
+        let _ = self.ask(rt, alloc, "{\"cmd\":\"undo\"}\n")?;
+        Ok(())
+    }
+}
+
+/// A form with a table for `$t` and a value for `$i`, and a newline.
+fn filled(alloc: Global, form: &str, table: &str, value: &str) -> Result<String, AllocError> {
+    let mut line = String::new(alloc);
+    let mut is_letter = false;
+    for byte in form.bytes() {
+        match (is_letter, byte) {
+            (true, b't') => line.push_str(table)?,
+            (true, _) => line.push_str(value)?,
+            (false, b'$') => {}
+            (false, _) => line.push(byte as char)?,
+        }
+        is_letter = !is_letter && byte == b'$';
+    }
+    line.push('\n')?;
+    Ok(line)
+}
+
+/// The ids of all records of a table.
+const IDS: &str = r#"{"cmd":"range","table":"$t","index":"id"}"#;
+
+const NTH: &str = r#"{"cmd":"nth","table":"$t","index":"i1","n":$i}"#;
+
+const FIND: &str = r#"{"cmd":"find","table":"$t","index":"i2","key":[$i]}"#;
+
+const ERASE: [&str; 1] = [r#"{"cmd":"erase","table":"$t","id":$i}"#];
+
+const OF_RECORD: [&str; 4] = [
+    r#"{"cmd":"get","table":"$t","id":$i}"#,
+    r#"{"cmd":"rank","table":"$t","index":"id","id":$i}"#,
+    r#"{"cmd":"rank","table":"$t","index":"i1","id":$i}"#,
+    r#"{"cmd":"list","table":"$t","index":"i3","after":$i,"limit":2}"#,
+];
+
+const LISTS: [&str; 12] = [
+    r#"{"cmd":"revision"}"#,
+    r#"{"cmd":"size","table":"$t"}"#,
+    IDS,
+    r#"{"cmd":"range","table":"$t","index":"i1"}"#,
+    r#"{"cmd":"range","table":"$t","index":"i4"}"#,
+    r#"{"cmd":"range","table":"$t","index":"i5"}"#,
+    r#"{"cmd":"range","table":"$t","index":"id","reverse":true}"#,
+    r#"{"cmd":"range","table":"$t","index":"i1","reverse":true}"#,
+    r#"{"cmd":"range","table":"$t","index":"i4","reverse":true}"#,
+    r#"{"cmd":"range","table":"$t","index":"i5","reverse":true}"#,
+    r#"{"cmd":"list","table":"$t","index":"i3"}"#,
+    r#"{"cmd":"list","table":"$t","index":"i6"}"#,
+];
+
+/// The keys of the hashed index whose keys have many records, written in JSON.
+const KEYS: [&str; 16] = [
+    r#"false,"""#,
+    r#"true,"""#,
+    r#"false,"a""#,
+    r#"true,"a""#,
+    r#"false,"ab""#,
+    r#"true,"ab""#,
+    r#"false,"b""#,
+    r#"true,"b""#,
+    r#"false,"\u0001""#,
+    r#"true,"\u0001""#,
+    r#"false,"\\""#,
+    r#"true,"\\""#,
+    r#"false,"\u00e9""#,
+    r#"true,"\u00e9""#,
+    r#"false,"\ud83d\ude00""#,
+    r#"true,"\ud83d\ude00""#,
+];
+
+/// Both answer so many random lines alike, and show the same at the end, with sessions open and after undo_all; then the next ids are
+/// the same too.
+fn check_beside<A: Opens, B: Opens>(
+    rt: &impl Abort,
+    alloc: Global,
+    seed: u64,
+    steps: u64,
+) -> Result<(), Fail> {
+    let mut both: Both<A, B> = Both::open(alloc)?;
+    both.run(rt, alloc, seed, steps)?;
+    both.view(rt, alloc, "a")?;
+    both.view(rt, alloc, "b")?;
+    let _ = both.ask(rt, alloc, "{\"cmd\":\"undo_all\"}\n")?;
+    for table in ["a", "b"] {
+        both.view(rt, alloc, table)?;
+        let line = filled(alloc, INSERT, table, "99")?;
+        let _ = both.ask(rt, alloc, line.as_str())?;
+    }
+    Ok(())
+}
+
+/// A record of keys that no other has.
+const INSERT: &str = r#"{"cmd":"insert","table":"$t","row":{"k":$i,"s":"new","f":true,"n":0}}"#;
+
+#[test]
+fn both_forms_answer_random_lines_alike(rt: HostRuntime) -> Result<(), Fail> {
+    check_beside::<Plain, Served>(&rt, rt.alloc(), 1, 100_000)
+}
