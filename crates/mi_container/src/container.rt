@@ -37,8 +37,9 @@ pub trait Container: Drop {
     fn keeps_rules(&self)
         ensures { IsData (shape self.now) (plain self.now) };
 
-    /// A container without rows.
-    fn new(alloc: Global, schema: Schema) -> Result<Self, AllocError>
+    /// A container without rows. What it answers is the same for every secret; who doesn't know the secret can't choose keys
+    /// that are slow to find.
+    fn new(alloc: Global, schema: Schema, secret: u64) -> Result<Self, AllocError>
         ensures shape { IfOk result (λ made. shape made ≡ schema) }
         ensures plain { IfOk result (λ made. plain made ≡ opened_data schema) };
 

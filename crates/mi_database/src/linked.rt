@@ -33,14 +33,18 @@ ghost use Rattle.mi_database.specs.Journal.{data_at};
 ghost use Rattle.mi_journal.specs.Noted.{noted};
 ghost use Rattle.mi_database.specs.Held.{kept_datas};
 
-/// The containers that a catalog opens with.
-fn open_containers<C: Container>(alloc: Global, catalog: &Catalog) -> Result<Vec<C>, AllocError>
+/// The containers that a catalog opens with, all with one secret.
+fn open_containers<C: Container>(
+    alloc: Global,
+    catalog: &Catalog,
+    secret: u64,
+) -> Result<Vec<C>, AllocError>
     ensures shapes { IfOk result (λ new. map C.shape new.items ≡ catalog.now.tables) }
     ensures datas { IfOk result (λ new. map C.plain new.items ≡ map opened_data catalog.now.tables) }
 {
     let mut new = Vec::new(alloc);
     for i in 0..catalog.table_count() {
-        new.push(C::new(alloc, catalog.table(i).copy(alloc)?)?)?;
+        new.push(C::new(alloc, catalog.table(i).copy(alloc)?, secret)?)?;
     }
     Ok(new)
 }
@@ -78,13 +82,15 @@ impl<C: Container> Linked<C> {
     ghost use Rattle.mi_model.specs.Table.{IsTable};
     ghost use Rattle.mi_model.specs.Database.{opened_database, schema_of, table_of as table_at};
 
-    /// The database that a catalog opens with: no rows, no open session, the first counters and the first revision.
-    pub fn new(alloc: Global, catalog: Catalog) -> Result<Linked<C>, AllocError>
+    /// The database that a catalog opens with: no rows, no open session, the first counters and the first revision. What it
+    /// answers is the same for every secret; a secret that strangers don't know keeps them from choosing keys that are slow
+    /// to find.
+    pub fn new(alloc: Global, catalog: Catalog, secret: u64) -> Result<Linked<C>, AllocError>
         ensures held { IfOk result (λ d. d ≡ opened_held d.changes d.starts catalog) }
         ensures state { IfOk result (λ d. meaning d ≡ opened_database catalog) }
     {
         catalog.keeps_rules();
-        let containers = open_containers(alloc, &catalog)?;
+        let containers = open_containers(alloc, &catalog, secret)?;
         let revision = catalog.first_revision();
         Ok(Linked {
             catalog,

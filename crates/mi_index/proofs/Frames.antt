@@ -27,6 +27,7 @@ use Rattle.mi_index.specs.OrderLaws.{stored_total, is_tagged}
 use Rattle.mi_index.specs.HashLaws.{keyings_are_lawful}
 use Rattle.mi_index.specs.Standing.{slot_in, order_of, AllAbove, Climb, Stands}
 use Rattle.mi_index.specs.declared.stored.Stored.{Stored}
+use Rattle.mi_index.specs.declared.orders.ByHash.{ByHash}
 use Rattle.mi_index.specs.declared.structure.Structure.{Structure}
 use Rattle.mi_index.specs.declared.structure.Structure.TheVariants.{Ordered, Hashed, Sequenced}
 
@@ -36,18 +37,21 @@ alike_links x m n s [] h = tt
 alike_links x m n s (r ∷ rs) h = (h.0.ref, h.0.link, alike_links x m n s rs h.1)
 
 -- chains need the key
-module _ (ps : List KeyPart) (m n : Pooled Stored) (s : ℕ) where
-  alike_same : (r : Ref) → IsHeld m r → IsAlike (λ v w. compare_key ps v.row w.row) m n s r → IsSame (keying_of ps) m n s r
-  alike_same r h y =
-      let v = held_has m r h in
-      let held : IsHeld n r = y.ref ∙ h in
+module _ (h : ByHash) (m n : Pooled Stored) (s : ℕ) where
+  abbrev ps : List KeyPart
+  ps = h.parts
+
+  alike_same : (r : Ref) → IsHeld m r → IsAlike (λ v w. compare_key ps v.row w.row) m n s r → IsSame (keying_of h) m n s r
+  alike_same r there y =
+      let v = held_has m r there in
+      let held : IsHeld n r = y.ref ∙ there in
       let w = held_has n r held in
       let e : compare_key ps v.0.row w.0.row ≡ Equal = (λ i. compared (λ (a b : Stored). compare_key ps a.row b.row) (sym v.1 i) (sym w.1 i)) ∙ y.value in
       record { held = held; link = y.link; old = v.0; new = w.0; was = v.1; is = w.1; one_key = ap is_eq e }
 
-  all_same : (rs : List Ref) → AreHeld m rs → AreAlike (λ v w. compare_key ps v.row w.row) m n s rs → AllOf (IsSame (keying_of ps) m n s) rs
-  all_same [] h y = tt
-  all_same (r ∷ rs) h y = (alike_same r h.0 y.0, all_same rs h.1 y.1)
+  all_same : (rs : List Ref) → AreHeld m rs → AreAlike (λ v w. compare_key ps v.row w.row) m n s rs → AllOf (IsSame (keying_of h) m n s) rs
+  all_same [] there y = tt
+  all_same (r ∷ rs) there y = (alike_same r there.0 y.0, all_same rs there.1 y.1)
 
 same_stamp : (order : Stored → Stored → Ordering) (m n : Pooled Stored) (s : ℕ) (r : Ref) → IsAlike order m n s r → stamp_at n s r ≡ stamp_at m s r
 same_stamp order m n s r y = ap (λ (l : Link). l.tag.stamp) y.link
@@ -65,7 +69,7 @@ pub stands_alike : (x : Structure) (m n : Pooled Stored) (rs : List Ref) → n.s
 stands_alike (Ordered t) m n rs slots y h =
     tree_where (stored_order t.order.parts) (stored_tag t.order.column t.order.parts) (stored_total t.order.parts) (is_tagged t.order.column t.order.parts).tag_below t m n rs h y (subst (λ k. t.slot < k) (sym slots) h.has_slot)
 stands_alike (Hashed c) m n rs slots y h =
-    (chained_elsewhere c (keying_of c.keys.parts) (keyings_are_lawful c.keys.parts) m n rs slots (all_same c.keys.parts m n c.slot rs h.0.buckets.held y) h.0, climb_on (order_of (Hashed c)) m n c.slot rs y h.1)
+    (chained_elsewhere c (keying_of c.keys) (keyings_are_lawful c.keys) m n rs slots (all_same c.keys m n c.slot rs h.0.buckets.held y) h.0, climb_on (order_of (Hashed c)) m n c.slot rs y h.1)
 stands_alike (Sequenced l) m n rs slots y h = listed_same l m n rs slots (alike_links (Sequenced l) m n (slot_of l) rs y) h
 
 -- the same values compare Equal

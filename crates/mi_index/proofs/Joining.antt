@@ -109,18 +109,18 @@ chain_placed k m s r stamp rs xs ys held out few parts below above = record {
 }
 
 -- chains that have become others, of the same slot and keys
-chains_same : (c d : Chains ByHash) (n : Pooled Stored) (us : List Ref) → d.slot ≡ c.slot → d.keys ≡ c.keys → AreChained d (keying_of c.keys.parts) n us → Climb (stamp_at n c.slot) us → Stands (Hashed d) n us
-chains_same c d n us slot keys h w = (subst (λ (k : ByHash). AreChained d (keying_of k.parts) n us) (sym keys) h, subst (λ s. Climb (stamp_at n s) us) (sym slot) w)
+chains_same : (c d : Chains ByHash) (n : Pooled Stored) (us : List Ref) → d.slot ≡ c.slot → d.keys ≡ c.keys → AreChained d (keying_of c.keys) n us → Climb (stamp_at n c.slot) us → Stands (Hashed d) n us
+chains_same c d n us slot keys h w = (subst (λ (k : ByHash). AreChained d (keying_of k) n us) (sym keys) h, subst (λ s. Climb (stamp_at n s) us) (sym slot) w)
 
 -- after a change that keeps all tags
 pub chains_kept : (c d : Chains ByHash) (m n : Pooled Stored) (us : List Ref) → d.slot ≡ c.slot → d.keys ≡ c.keys → ((k : ℕ) → (link_of n k c.slot).tag ≡ (link_of m k c.slot).tag)
-    → AreChained d (keying_of c.keys.parts) n us → Climb (stamp_at m c.slot) us → Stands (Hashed d) n us
+    → AreChained d (keying_of c.keys) n us → Climb (stamp_at m c.slot) us → Stands (Hashed d) n us
 chains_kept c d m n us slot keys tags h w = chains_same c d n us slot keys h (subst (λ f. Climb f us) (λ i q. (sym (tags q.name) i).stamp) w)
 
 -- with a node of another stamp
 pub chains_with : (c d : Chains ByHash) (m n : Pooled Stored) (r : Ref) (tag : Tag) (rs xs ys : List Ref) → d.slot ≡ c.slot → d.keys ≡ c.keys
     → ((k : ℕ) → (link_of n k c.slot).tag ≡ cond (r.name == k) tag (link_of m k c.slot).tag) → (r.name == r.name) ≡ true → IsOut r.name rs → rs ≡ xs ++ ys → Climb (stamp_at m c.slot) rs
-    → AllBelow (stamp_at m c.slot) tag.stamp xs → AllAbove (stamp_at m c.slot) tag.stamp ys → AreChained d (keying_of c.keys.parts) n (xs ++ r ∷ ys) → Stands (Hashed d) n (xs ++ r ∷ ys)
+    → AllBelow (stamp_at m c.slot) tag.stamp xs → AllAbove (stamp_at m c.slot) tag.stamp ys → AreChained d (keying_of c.keys) n (xs ++ r ∷ ys) → Stands (Hashed d) n (xs ++ r ∷ ys)
 chains_with c d m n r tag rs xs ys slot keys tags itself out parts climb below above h =
     let other : (q : Ref) → (r.name == q.name) ≡ false → stamp_at n c.slot q ≡ stamp_at m c.slot q = λ q e. ap (λ (t : Tag). t.stamp) (tags q.name ∙ ap (λ b. cond b tag (link_of m q.name c.slot).tag) e) in
     let own : stamp_at n c.slot r ≡ tag.stamp = ap (λ (t : Tag). t.stamp) (tags r.name ∙ ap (λ b. cond b tag (link_of m r.name c.slot).tag) itself) in

@@ -138,7 +138,7 @@ module _ (m n : Pooled Stored) (r : Ref) (v : Stored) (own : value_of n r.name �
   place_seen (Hashed c) t b rs tags out h = has_on r.name (stamp_at m c.slot) (stamp_at n c.slot) t rs (λ q e. ap (λ (z : Tag). z.stamp) (tags q.name e)) out h
   place_seen (Sequenced l) t b rs tags out h = h
 
-  key_seen : (c : Chains ByHash) (q : Ref) → (r.name == q.name) ≡ false → same_nodes (keying_of c.keys.parts) n r q ≡ has_key_of c m v q
+  key_seen : (c : Chains ByHash) (q : Ref) → (r.name == q.name) ≡ false → same_nodes (keying_of c.keys) n r q ≡ has_key_of c m v q
   unfolding same_nodes
   key_seen c q e = λ i. same_values (has_one_key c.keys.parts) (own i) (values q.name e i)
 
@@ -156,8 +156,8 @@ module _ (m n : Pooled Stored) (r : Ref) (v : Stored) (own : value_of n r.name �
         below = below_on r.name (stamp_at m c.slot) (stamp_at n c.slot) p.stamp h.xs stamps left h.below;
         above = above_on r.name (stamp_at m c.slot) (stamp_at n c.slot) p.stamp h.ys stamps right h.above;
         beside = (
-          h.back_is ∙ ap (last_of None) (sym (filter_on r.name (has_key_of c m v) (same_nodes (keying_of c.keys.parts) n r) h.xs (key_seen c) left)),
-          h.forth_is ∙ ap (λ l. first_of l None) (sym (filter_on r.name (has_key_of c m v) (same_nodes (keying_of c.keys.parts) n r) h.ys (key_seen c) right)),
+          h.back_is ∙ ap (last_of None) (sym (filter_on r.name (has_key_of c m v) (same_nodes (keying_of c.keys) n r) h.xs (key_seen c) left)),
+          h.forth_is ∙ ap (λ l. first_of l None) (sym (filter_on r.name (has_key_of c m v) (same_nodes (keying_of c.keys) n r) h.ys (key_seen c) right)),
         );
       }
   old_place_seen (Sequenced l) p rs tags out h = absurd h

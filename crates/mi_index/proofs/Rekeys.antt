@@ -116,10 +116,10 @@ unfolding same_nodes
 beside_over (Ordered a) y o p r b f xs ys g values h = tt
 beside_over (Hashed a) (Ordered c) o p r b f xs ys g values h = absurd g
 beside_over (Hashed a) (Hashed c) o p r b f xs ys g values h =
-    let e : same_nodes (keying_of c.keys.parts) o r ≡ same_nodes (keying_of a.keys.parts) p r = same_over g.1 in
+    let e : same_nodes (keying_of c.keys) o r ≡ same_nodes (keying_of a.keys) p r = same_over g.1 in
     (h.0 ∙ (λ i. last_of None (filter (e i) xs)), h.1 ∙ (λ i. first_of (filter (e i) ys) None))
   where
-    same_over : c.keys ≡ a.keys → same_nodes (keying_of c.keys.parts) o r ≡ same_nodes (keying_of a.keys.parts) p r
+    same_over : c.keys ≡ a.keys → same_nodes (keying_of c.keys) o r ≡ same_nodes (keying_of a.keys) p r
     same_over w = λ i q. same_values (has_one_key (w i).parts) (sym (values r.name) i) (sym (values q.name) i)
 beside_over (Hashed a) (Sequenced c) o p r b f xs ys g values h = absurd g
 beside_over (Sequenced a) (Ordered c) o p r b f xs ys g values h = absurd g

@@ -104,7 +104,7 @@ leaving_stays moves r s x m n rs e a c = c
 beside_stays : (x : Structure) (m n : Pooled Stored) (r : Ref) (back forth : Option Ref) (xs ys : List Ref) → Agree (slot_in x) m n → IsBeside x m r back forth xs ys → IsBeside x n r back forth xs ys
 beside_stays (Ordered t) m n r back forth xs ys a h = tt
 beside_stays (Hashed c) m n r back forth xs ys a h =
-    let e = keys_same c.slot m n a (keying_of c.keys.parts) r in
+    let e = keys_same c.slot m n a (keying_of c.keys) r in
     (h.0 ∙ (λ i. last_of None (filter (sym e i) xs)), h.1 ∙ (λ i. first_of (filter (sym e i) ys) None))
 beside_stays (Sequenced l) m n r back forth xs ys a h = h
 
@@ -171,7 +171,7 @@ back_before (Some p) x l m n r rs us a h = record { back = h.back; beside = besi
     beside_back : (x : Structure) (m n : Pooled Stored) (r : Ref) (back forth : Option Ref) (xs ys : List Ref) → Agree (slot_in x) m n → IsBeside x n r back forth xs ys → IsBeside x m r back forth xs ys
     beside_back (Ordered t) m n r back forth xs ys a h = tt
     beside_back (Hashed c) m n r back forth xs ys a h =
-        let e = keys_same c.slot m n a (keying_of c.keys.parts) r in
+        let e = keys_same c.slot m n a (keying_of c.keys) r in
         (h.0 ∙ (λ i. last_of None (filter (e i) xs)), h.1 ∙ (λ i. first_of (filter (e i) ys) None))
     beside_back (Sequenced l) m n r back forth xs ys a h = h
 

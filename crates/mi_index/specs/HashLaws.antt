@@ -19,6 +19,8 @@ use Rattle.mi_value.specs.Hash.{values_hash, key_values}
 use Rattle.mi_value.proofs.OrderLaws.{compare_key_total, directed_total, prefix_alike}
 use Rattle.mi_value.proofs.Hashes.{equal_hashes}
 use Rattle.mi_index.specs.declared.stored.Stored.{Stored}
+use Rattle.mi_index.specs.declared.orders.ByHash.{ByHash}
+use Rattle.mi_index.specs.Mixing.{mixed}
 use Rattle.mi_index.specs.Orders.{keying_hash, sought_hash, has_one_key, is_whole, is_key, KeyingsAreLawful}
 
 both_equal : (a b : Ordering) → ordering_then a b ≡ Equal → (a ≡ Equal) × (b ≡ Equal)
@@ -114,14 +116,15 @@ key_hash ps x (Key vs) h = let a = whole ps vs.now x.row h in ap values_hash (wh
 key_hash ps x (Of q) h = equal_hashes ps x.row q.now (equal_of (compare_key ps x.row q.now) h)
 
 pub keyings_are_lawful : KeyingsAreLawful
-keyings_are_lawful ps =
+keyings_are_lawful h =
+    let ps = h.parts in
     let q : IsEquivalence (eq_by_cmp (compare_key ps)) = eq_by_cmp_equiv (compare_key_total ps) in
     record {
       reflexive = λ x. q.refl x.row;
       symmetric = λ x y e. q.symm y.row x.row ∙ e;
       transitive = λ x y z e f. q.congr x.row y.row z.row e ∙ f;
-      one_hash = λ x y e. equal_hashes ps x.row y.row (equal_of (compare_key ps x.row y.row) e);
+      one_hash = λ x y e. ap (mixed h.secret) (equal_hashes ps x.row y.row (equal_of (compare_key ps x.row y.row) e));
       agrees = key_agrees ps;
       one_key = key_alone ps;
-      probe_hash = key_hash ps;
+      probe_hash = λ x p e. ap (mixed h.secret) (key_hash ps x p e);
     }

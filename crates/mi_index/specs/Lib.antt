@@ -1,5 +1,6 @@
 pub mod Tags
 pub mod TagLaws
+pub mod Mixing
 pub mod Orders
 pub mod OrderLaws
 pub mod HashLaws

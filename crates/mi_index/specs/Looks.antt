@@ -31,7 +31,7 @@ IsHashed (Sequenced l) = ⊥
 -- whether a node has the key of a probe; none has one in a list
 abbrev pub has_sought : Structure → Pooled Stored → Probe → Ref → Bool
 has_sought (Ordered t) m k = is_node_at (λ v. place_in t.order.parts v k) m
-has_sought (Hashed c) m k = has_key (keying_of c.keys.parts) m k
+has_sought (Hashed c) m k = has_key (keying_of c.keys) m k
 has_sought (Sequenced l) m k = λ q. false
 
 -- whether a node isn't before a probe, or with `strict` is behind it; this is asked of sorted indexes alone
@@ -43,7 +43,7 @@ is_past strict (Sequenced l) m k = λ q. false
 -- whether another node has the key of this one; this is asked of hashed indexes alone
 abbrev pub has_same_key : Structure → Pooled Stored → Ref → Ref → Bool
 has_same_key (Ordered t) m r = λ q. false
-has_same_key (Hashed c) m r = same_nodes (keying_of c.keys.parts) m r
+has_same_key (Hashed c) m r = same_nodes (keying_of c.keys) m r
 has_same_key (Sequenced l) m r = λ q. false
 
 abbrev pub HasItsStamp : Structure → Pooled Stored → Ref → ℕ → Type 0

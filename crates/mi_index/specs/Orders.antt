@@ -19,6 +19,8 @@ use Rattle.mi_value.specs.Order.{compare_key, compare_prefix}
 use Rattle.mi_value.specs.Hash.{values_hash, key_values}
 use Rattle.mi_model.specs.Key.{Row, compare_rows, compare_to_row}
 use Rattle.mi_index.specs.declared.stored.Stored.{Stored}
+use Rattle.mi_index.specs.declared.orders.ByHash.{ByHash}
+use Rattle.mi_index.specs.Mixing.{mixed}
 use Rattle.mi_chain.specs.Keying.{Keying, IsLawful}
 use Rattle.mi_index.specs.Tags.{part_tag, probe_tag, is_exact}
 
@@ -74,6 +76,7 @@ is_decided c (p ∷ q ∷ ps) t = false
 
 -- Hashed indexes
 
+-- the hash of a key, before the secret is mixed in
 abbrev pub keying_hash : List KeyPart → Stored → ℕ
 keying_hash ps v = values_hash (key_values ps v.row)
 
@@ -93,8 +96,8 @@ is_key ps v (Key vs) = is_whole ps vs.now v.row
 is_key ps v (Of q) = is_eq (compare_key ps v.row q.now)
 
 -- all of it, as chains see it
-abbrev pub keying_of : List KeyPart → Keying Stored
-keying_of ps = record { hash = keying_hash ps; hash_key = sought_hash ps; same = has_one_key ps; same_key = is_key ps }
+abbrev pub keying_of : ByHash → Keying Stored
+keying_of h = record { hash = λ v. mixed h.secret (keying_hash h.parts v); hash_key = λ k. mixed h.secret (sought_hash h.parts k); same = has_one_key h.parts; same_key = is_key h.parts }
 
 -- What an order and its tags owe
 
@@ -121,4 +124,4 @@ OrdersAreLawful = (c : ColumnType) (ps : List KeyPart) → IsTagged c ps × ((k 
 
 -- equality of keys is an equivalence, and hashes and probes agree with it
 abbrev pub KeyingsAreLawful : Type 0
-KeyingsAreLawful = (ps : List KeyPart) → IsLawful (keying_of ps)
+KeyingsAreLawful = (h : ByHash) → IsLawful (keying_of h)

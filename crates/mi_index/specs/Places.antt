@@ -112,7 +112,7 @@ pub record IsJoined (x : Structure) (m n : Pooled Stored) (r : Ref) (stamp : ℕ
 abbrev pub IsBeside : Structure → Pooled Stored → Ref → Option Ref → Option Ref → List Ref → List Ref → Type 0
 IsBeside (Ordered t) m r back forth xs ys = Unit {0}
 IsBeside (Hashed c) m r back forth xs ys =
-    (back ≡ last_of None (filter (same_nodes (keying_of c.keys.parts) m r) xs)) × (forth ≡ first_of (filter (same_nodes (keying_of c.keys.parts) m r) ys) None)
+    (back ≡ last_of None (filter (same_nodes (keying_of c.keys) m r) xs)) × (forth ≡ first_of (filter (same_nodes (keying_of c.keys) m r) ys) None)
 IsBeside (Sequenced l) m r back forth xs ys = (back ≡ last_of None xs) × (forth ≡ first_of ys None)
 
 -- every node has the tag that it had; lists have none

@@ -203,14 +203,15 @@ pub(crate) fn add_structures(
     indexes: &[Index],
     columns: &[Column],
     slot: usize,
+    secret: u64,
     made: &mut Vec<Structure>,
 ) -> Result<(), AllocError>
     requires { slot + length indexes.now < 2 ^ 64 }
     ensures { IfOk result (λ _. (ys : Seq One) × (made.new.items ≡ made.old.items ++ ys) × opened.AllFor columns.now indexes.now slot ys × opened.AllEmpty ys) }
 {
     if let Some((index, rest)) = indexes.split_first() {
-        made.push(Structure::new(alloc, slot, index, columns)?)?;
-        add_structures(alloc, rest, columns, slot + 1, made)?;
+        made.push(Structure::new(alloc, slot, index, columns, secret)?)?;
+        add_structures(alloc, rest, columns, slot + 1, secret, made)?;
     }
     Ok(())
 }

@@ -7,6 +7,7 @@ pub mod all;
 mod key;
 pub mod laws;
 mod look;
+mod mixing;
 mod moves;
 mod nodes;
 mod orders;

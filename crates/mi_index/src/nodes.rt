@@ -27,9 +27,9 @@ pub struct Nodes {
 }
 
 impl Nodes {
-    /// The nodes that a table opens with: none. Takes memory for one structure an index. Where it is refused there is
-    /// nothing.
-    pub fn new(alloc: Global, schema: &Schema) -> Result<Nodes, AllocError>
+    /// The nodes that a table opens with: none. Its hashed indexes mix the secret into the hashes of keys. Takes memory for
+    /// one structure an index. Where it is refused there is nothing.
+    pub fn new(alloc: Global, schema: &Schema, secret: u64) -> Result<Nodes, AllocError>
         ensures { IfOk result (λ n. opened.IsOpened schema.now n.pool n.structures.items) }
     {
         let slots = schema.index_count();
@@ -40,6 +40,7 @@ impl Nodes {
             schema.indexes(),
             schema.columns(),
             0,
+            secret,
             &mut structures,
         )?;
         Ok(Nodes {

@@ -3,6 +3,7 @@
 ghost use Rattle.std.specs.Prelude.{◌≡◌};
 
 use crate::key::{compare_rows, compare_to_row, id_sought, is_whole_key};
+use crate::mixing::mixed;
 use crate::stored::Stored;
 use crate::tags::{is_exact, part_tag, probe_tag};
 use mi_catalog::Parts;
@@ -115,27 +116,30 @@ impl NodeOrder<Stored> for ByKey {
     ghost probe_exact = { λ o k. (is_sought o.column o.parts k).exact };
 }
 
-/// The keys of a hashed index.
+/// The keys of a hashed index. Strangers choose keys, and can find many whose hashes end alike: so a secret is mixed into the
+/// hashes. Nothing depends on it but the buckets.
 #[derive(Debug, Drop)]
 pub struct ByHash {
     pub parts: Parts,
+    pub secret: u64,
 }
 
 impl KeyHash<Stored> for ByHash {
     ghost use Rattle.mi_index.specs.Orders.{keying_of};
     ghost use Rattle.mi_index.specs.HashLaws.{keyings_are_lawful};
 
-    ghost keying = { λ h. keying_of h.parts };
+    ghost keying = { keying_of };
 
     fn hash(&self, value: &Stored) -> u64 {
-        value.row.key_hash(self.parts.as_slice())
+        mixed(self.secret, value.row.key_hash(self.parts.as_slice()))
     }
 
     fn hash_key(&self, key: Probe<'_>) -> u64 {
-        match key {
+        let hash = match key {
             Probe::Key(values) => hash_values(values),
             Probe::Of(record) => record.key_hash(self.parts.as_slice()),
-        }
+        };
+        mixed(self.secret, hash)
     }
 
     fn same(&self, left: &Stored, right: &Stored) -> bool {
@@ -149,5 +153,5 @@ impl KeyHash<Stored> for ByHash {
         }
     }
 
-    ghost lawful = { λ h. keyings_are_lawful h.parts };
+    ghost lawful = { keyings_are_lawful };
 }

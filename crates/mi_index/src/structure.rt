@@ -35,13 +35,14 @@ pub enum Structure {
 }
 
 impl Structure {
-    /// The structure of an index of a table with these columns, through the slot of its number, without nodes. Where
-    /// memory is refused there is none.
+    /// The structure of an index of a table with these columns, through the slot of its number, without nodes. Chains mix
+    /// the secret into the hashes of keys. Where memory is refused there is none.
     pub fn new(
         alloc: Global,
         slot: usize,
         index: &Index,
         columns: &[Column],
+        secret: u64,
     ) -> Result<Structure, AllocError>
         ensures { IfOk result (λ x. opened.IsFor columns.now index.now slot x × opened.IsEmpty x) }
     {
@@ -53,7 +54,8 @@ impl Structure {
             }
             IndexKind::Hashed => {
                 let parts = Parts::new(index.parts.as_slice().to_vec(alloc)?);
-                Ok(Structure::Hashed(Chains::new(alloc, slot, ByHash { parts })?))
+                let keys = ByHash { parts, secret };
+                Ok(Structure::Hashed(Chains::new(alloc, slot, keys)?))
             }
             IndexKind::Sequenced => Ok(Structure::Sequenced(List::new(slot))),
         }

@@ -19,6 +19,7 @@ use Rattle.mi_node.specs.Refs.{Ref, first_of, last_of}
 use Rattle.mi_chain.specs.Keying.{same_nodes, same_values}
 use Rattle.mi_index.specs.declared.stored.Stored.{Stored}
 use Rattle.mi_index.specs.Orders.{keying_of, has_one_key}
+use Rattle.mi_index.specs.declared.orders.ByHash.{ByHash as HashedBy}
 use Rattle.mi_container.specs.Data.{Order, node_of, content_of, content_in, by_stamp}
 use Rattle.mi_container.specs.Changes.{link_of as link_at, group}
 use Rattle.mi_container.proofs.Sequences.{lacks_left}
@@ -86,18 +87,18 @@ module _ (ids : FinMap nat_cmp IdEntry) (m n : Pooled Stored) (os : List Order) 
   abbrev key_of : List KeyPart → ℕ → Bool
   key_of ps a = is_eq (compare_key ps (content_of (rows ids m os) e).values (content_of (rows ids m os) a).values)
 
-  key_at : (ps : List KeyPart) (q : Ref) → IsLiveRef ids m q → key_of ps (id_at m q) ≡ same_nodes (keying_of ps) n r q
+  key_at : (h : HashedBy) (q : Ref) → IsLiveRef ids m q → key_of h.parts (id_at m q) ≡ same_nodes (keying_of h) n r q
   unfolding same_nodes
-  key_at ps q live =
+  key_at h q live =
       let its : HasNode m (id_at m q) q = held (id_at m q) (record { node = q; live = true }) live in
       let its_values : (content_of (rows ids m os) (id_at m q)).values ≡ record_in (value_of m q.name) = ap (λ o. (content_in o).values) (node_live ids m os q live) in
-      (λ i. is_eq (compare_key ps (own_values i) (its_values i)))
-      ∙ (λ i. is_eq (compare_key ps (record_in (has.is i)) (record_in (its.is i))))
-      ∙ sym ((λ i. same_values (has_one_key ps) (values r.name i) (values q.name i)) ∙ (λ i. same_values (has_one_key ps) (has.is i) (its.is i)))
+      (λ i. is_eq (compare_key h.parts (own_values i) (its_values i)))
+      ∙ (λ i. is_eq (compare_key h.parts (record_in (has.is i)) (record_in (its.is i))))
+      ∙ sym ((λ i. same_values (has_one_key h.parts) (values r.name i) (values q.name i)) ∙ (λ i. same_values (has_one_key h.parts) (has.is i) (its.is i)))
 
-  keys_at : (ps : List KeyPart) (qs : List Ref) → AllByRecursion (IsLiveRef ids m) qs → AllByRecursion (λ q. key_of ps (id_at m q) ≡ same_nodes (keying_of ps) n r q) qs
-  keys_at ps [] all = tt
-  keys_at ps (q ∷ qs) all = (key_at ps q all.0, keys_at ps qs all.1)
+  keys_at : (h : HashedBy) (qs : List Ref) → AllByRecursion (IsLiveRef ids m) qs → AllByRecursion (λ q. key_of h.parts (id_at m q) ≡ same_nodes (keying_of h) n r q) qs
+  keys_at h [] all = tt
+  keys_at h (q ∷ qs) all = (key_at h q all.0, keys_at h qs all.1)
 
   module _ (xs ys : List Ref) (live : AreLive ids m (xs ++ r ∷ ys)) where
     before : AllByRecursion (IsLiveRef ids m) xs
@@ -114,18 +115,18 @@ module _ (ids : FinMap nat_cmp IdEntry) (m n : Pooled Stored) (os : List Order) 
     link_listed = link_middle (id_at m) (rows ids m os) e xs r ys (itself id_is) lacks (rows_of ids m os xs before) (rows_of ids m os ys behind)
 
     -- among the nodes of its key
-    pub link_hashed : (ps : List KeyPart) (x : ℕ) → by_stamp x (rows ids m os) ≡ ids_at m (xs ++ r ∷ ys)
-        → link_at (rows ids m os) e (group ps x (rows ids m os) (content_of (rows ids m os) e).values)
-        ≡ record { back = last_of None (filter (same_nodes (keying_of ps) n r) xs); forth = first_of (filter (same_nodes (keying_of ps) n r) ys) None }
-    link_hashed ps x by =
-        let p : Ref → Bool = λ q. key_of ps (id_at m q) in
-        let p' : Ref → Bool = same_nodes (keying_of ps) n r in
-        let mine : p r ≡ true = ap (key_of ps) id_is ∙ own_key ps (content_of (rows ids m os) e).values in
+    pub link_hashed : (h : HashedBy) (x : ℕ) → by_stamp x (rows ids m os) ≡ ids_at m (xs ++ r ∷ ys)
+        → link_at (rows ids m os) e (group h.parts x (rows ids m os) (content_of (rows ids m os) e).values)
+        ≡ record { back = last_of None (filter (same_nodes (keying_of h) n r) xs); forth = first_of (filter (same_nodes (keying_of h) n r) ys) None }
+    link_hashed h x by =
+        let p : Ref → Bool = λ q. key_of h.parts (id_at m q) in
+        let p' : Ref → Bool = same_nodes (keying_of h) n r in
+        let mine : p r ≡ true = ap (key_of h.parts) id_is ∙ own_key h.parts (content_of (rows ids m os) e).values in
         let parts : filter p (xs ++ r ∷ ys) ≡ filter p xs ++ r ∷ filter p ys = filter_append p xs (r ∷ ys) ∙ ap (λ b. filter p xs ++ cond b (r ∷ filter p ys) (filter p ys)) mine in
-        let left : filter p xs ≡ filter p' xs = filter_eq p p' xs (keys_at ps xs before) in
-        let right : filter p ys ≡ filter p' ys = filter_eq p p' ys (keys_at ps ys behind) in
-        let whole : group ps x (rows ids m os) (content_of (rows ids m os) e).values ≡ ids_at m (filter p' xs ++ r ∷ filter p' ys) =
-        ap (filter (key_of ps)) by ∙ filter_ids (id_at m) (key_of ps) (xs ++ r ∷ ys) ∙ ap (ids_at m) (parts ∙ (λ i. left i ++ r ∷ right i)) in
+        let left : filter p xs ≡ filter p' xs = filter_eq p p' xs (keys_at h xs before) in
+        let right : filter p ys ≡ filter p' ys = filter_eq p p' ys (keys_at h ys behind) in
+        let whole : group h.parts x (rows ids m os) (content_of (rows ids m os) e).values ≡ ids_at m (filter p' xs ++ r ∷ filter p' ys) =
+        ap (filter (key_of h.parts)) by ∙ filter_ids (id_at m) (key_of h.parts) (xs ++ r ∷ ys) ∙ ap (ids_at m) (parts ∙ (λ i. left i ++ r ∷ right i)) in
         ap (link_at (rows ids m os) e) whole
         ∙ link_middle (id_at m) (rows ids m os) e (filter p' xs) r (filter p' ys) (itself id_is) (lacks_filter (id_at m) p' e xs lacks)
         (all_filter (IsRow (id_at m) (rows ids m os)) p' xs (rows_of ids m os xs before)) (all_filter (IsRow (id_at m) (rows ids m os)) p' ys (rows_of ids m os ys behind))

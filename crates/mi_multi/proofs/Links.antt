@@ -18,6 +18,7 @@ use Rattle.mi_index.specs.declared.structure.Structure.{Structure}
 use Rattle.mi_index.specs.declared.structure.Structure.TheVariants.{Ordered, Hashed, Sequenced}
 use Rattle.mi_index.specs.declared.moves.Moves.TheVariants.{All}
 use Rattle.mi_index.specs.Orders.{keying_of}
+use Rattle.mi_index.specs.declared.orders.ByHash.{ByHash as HashedBy}
 use Rattle.mi_index.specs.Standing.{slot_in, Climb}
 use Rattle.mi_index.specs.Places.{KeepsTags}
 use Rattle.mi_index.specs.Passes.{left}
@@ -59,14 +60,14 @@ module _ (s : Shape) (ids : FinMap nat_cmp IdEntry) (m n : Pooled Stored) (xs : 
   abbrev Has : ℕ → Index → Structure → Structure → List Ref → List Ref → Type 0
   Has = Known (left All r) ids m n (plan s.indexes) (orders_of s.indexes (own_lists m xs))
 
-  in_chains : (k : ℕ) (i : Index) (x y : Structure) (rs us : List Ref) (ps : List KeyPart) → is_hashed i.kind ≡ true → ps ≡ i.parts → Climb (stamp_at m k) rs → AreLive ids m rs → Numbered (plan s.indexes) (orders_of s.indexes (own_lists m xs)) m k i x
-      → (as_ bs : List Ref) → rs ≡ as_ ++ r ∷ bs → (link_of n r.name k).back ≡ last_of None (filter (same_nodes (keying_of ps) n r) as_) → (link_of n r.name k).forth ≡ first_of (filter (same_nodes (keying_of ps) n r) bs) None
+  in_chains : (k : ℕ) (i : Index) (x y : Structure) (rs us : List Ref) (h : HashedBy) → is_hashed i.kind ≡ true → h.parts ≡ i.parts → Climb (stamp_at m k) rs → AreLive ids m rs → Numbered (plan s.indexes) (orders_of s.indexes (own_lists m xs)) m k i x
+      → (as_ bs : List Ref) → rs ≡ as_ ++ r ∷ bs → (link_of n r.name k).back ≡ last_of None (filter (same_nodes (keying_of h) n r) as_) → (link_of n r.name k).forth ≡ first_of (filter (same_nodes (keying_of h) n r) bs) None
       → link_in k rws e (order_of i.kind i.parts (own_list m x)) ≡ neighbours_in n r.name k (order_of i.kind i.parts [])
-  in_chains k i x y rs us ps hashed same climb live num as_ bs parts back forth =
+  in_chains k i x y rs us h hashed same climb live num as_ bs parts back forth =
       let by : by_stamp k rws ≡ ids_at m rs =
       by_stamp_is s (plain_of s ids m xs next arrivals) ids m (plan s.indexes) k i.parts rs is_data refl num.fewer num.few (num.order_is ∙ hashed_order i.kind i.parts (own_list m x) hashed) (num.plan_is ∙ hashed_order i.kind i.parts [] hashed) live climb in
-      let here : link_at rws e (group ps k rws (content_of rws e).values) ≡ record { back = last_of None (filter (same_nodes (keying_of ps) n r) as_); forth = first_of (filter (same_nodes (keying_of ps) n r) bs) None } =
-      link_hashed ids m n (plan s.indexes) held values e r there as_ bs (subst (AreLive ids m) parts live) ps k (by ∙ ap (ids_at m) parts) in
+      let here : link_at rws e (group h.parts k rws (content_of rws e).values) ≡ record { back = last_of None (filter (same_nodes (keying_of h) n r) as_); forth = first_of (filter (same_nodes (keying_of h) n r) bs) None } =
+      link_hashed ids m n (plan s.indexes) held values e r there as_ bs (subst (AreLive ids m) parts live) h k (by ∙ ap (ids_at m) parts) in
       ap (link_in k rws e) (hashed_order i.kind i.parts (own_list m x) hashed ∙ ap ByHash (sym same)) ∙ here
       ∙ sides n r.name k k _ _ refl back forth
       ∙ ap (neighbours_in n r.name k) (sym (hashed_order i.kind i.parts [] hashed ∙ ap ByHash (sym same)))
@@ -85,9 +86,9 @@ module _ (s : Shape) (ids : FinMap nat_cmp IdEntry) (m n : Pooled Stored) (xs : 
   one_link k i (Hashed c) y rs us h =
       let d = h.0.done in
       let slot : c.slot ≡ k = h.0.slot in
-      in_chains k i (Hashed c) y rs us c.keys.parts h.0.for_.0 h.0.for_.1 (subst (λ w. Climb (stamp_at m w) rs) slot h.0.was.1) h.0.live h.1 d.left.xs d.left.ys d.left.now
-      (subst (λ w. (link_of n r.name w).back ≡ last_of None (filter (same_nodes (keying_of c.keys.parts) n r) d.left.xs)) slot d.remembers.0)
-      (subst (λ w. (link_of n r.name w).forth ≡ first_of (filter (same_nodes (keying_of c.keys.parts) n r) d.left.ys) None) slot d.remembers.1)
+      in_chains k i (Hashed c) y rs us c.keys h.0.for_.0 h.0.for_.1 (subst (λ w. Climb (stamp_at m w) rs) slot h.0.was.1) h.0.live h.1 d.left.xs d.left.ys d.left.now
+      (subst (λ w. (link_of n r.name w).back ≡ last_of None (filter (same_nodes (keying_of c.keys) n r) d.left.xs)) slot d.remembers.0)
+      (subst (λ w. (link_of n r.name w).forth ≡ first_of (filter (same_nodes (keying_of c.keys) n r) d.left.ys) None) slot d.remembers.1)
   one_link k i (Sequenced l) y rs us h =
       let d = h.0.done in
       let slot : slot_in (Sequenced l) ≡ k = h.0.slot in

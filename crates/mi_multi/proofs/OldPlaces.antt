@@ -108,7 +108,7 @@ module _ (s : Shape) (ids : FinMap nat_cmp IdEntry) (m : Pooled Stored) (xs : Li
       let climb : Climb (stamp_at m k) w.stood.rs = subst (λ z. Climb (stamp_at m z) w.stood.rs) slot w.stood.stands.1 in
       let by : by_stamp k d.rows ≡ ids_at m w.stood.rs = by_stamp_is s d ids m os k c.keys.parts w.stood.rs is.is_data refl w.few_orders w.few_plan order_is plan_is w.stood.live climb in
       let link : link_in k d.rows e (get_or d.orders k ById) ≡ record { back = p.back; forth = p.forth } =
-      ap (link_in k d.rows e) order_is ∙ link_hashed ids m m os is.held (λ z. refl) e r there h_.xs h_.ys (subst (AreLive ids m) h_.parts w.stood.live) c.keys.parts k (by ∙ ap (ids_at m) h_.parts)
+      ap (link_in k d.rows e) order_is ∙ link_hashed ids m m os is.held (λ z. refl) e r there h_.xs h_.ys (subst (AreLive ids m) h_.parts w.stood.live) c.keys k (by ∙ ap (ids_at m) h_.parts)
       ∙ (λ j. record { back = sym its.beside.0 j; forth = sym its.beside.1 j }) in
       (λ j. record { stamp = stamp j; link = sym link j })
   place_is k (Sequenced l) w p given a b h = absurd (false≢true (sym h ∙ sequenced_stays (index_at s k) (own_list m (Sequenced l)) (get_or d.orders k ById) a b w.stood.for_ w.ordered))

@@ -39,6 +39,7 @@ use Rattle.mi_index.specs.declared.structure.Structure.{Structure}
 use Rattle.mi_index.specs.declared.structure.Structure.TheVariants.{Ordered, Hashed, Sequenced}
 use Rattle.mi_index.specs.Looks as nodes
 use Rattle.mi_index.specs.Orders.{place_in, row_in, keying_of, has_one_key, is_whole, is_key as is_key_of}
+use Rattle.mi_index.specs.declared.orders.ByHash.{ByHash as HashedBy}
 use Rattle.mi_container.specs.Asked.{IsSorted}
 use Rattle.mi_container.specs.Data.{table_of}
 use Rattle.mi_ids.specs.IdMap.{live_node}
@@ -236,9 +237,9 @@ module _ (s : Shape) (ids : FinMap nat_cmp IdEntry) (m : Pooled Stored) (xs : Li
     live_ref : IsLiveRef ids m r
     live_ref = ap (get ids) a.id ∙ live_is ids e r there
 
-    key_is : (ps : List KeyPart) → ps ≡ i.parts → (q : Ref) → IsLiveRef ids m q → is_eq (compare_ids i t e (id_at m q)) ≡ same_nodes (keying_of ps) m r q
+    key_is : (h : HashedBy) → h.parts ≡ i.parts → (q : Ref) → IsLiveRef ids m q → is_eq (compare_ids i t e (id_at m q)) ≡ same_nodes (keying_of h) m r q
     unfolding same_nodes
-    key_is ps same q live =
+    key_is h same q live =
         let mine = node_of_row s ids m xs next arrivals is x y n r live_ref in
         let its = node_of_row s ids m xs next arrivals is x y n q live in
         let one = row_at s ids m xs next arrivals is r mine.value live_ref mine mine.is in
@@ -247,18 +248,18 @@ module _ (s : Shape) (ids : FinMap nat_cmp IdEntry) (m : Pooled Stored) (xs : Li
         ∙ (λ j. is_eq (compare_rows i.parts (one j) (two j)))
         ∙ ap is_eq (rows_key i.parts mine.value its.value parts)
         ∙ ap (λ k. is_eq (compare_key k mine.value.row its.value.row)) (sym same)
-        ∙ sym ((λ j. same_values (has_one_key ps) (mine.is j) (value_of m q.name)) ∙ (λ j. same_values (has_one_key ps) (Some mine.value) (its.is j)))
+        ∙ sym ((λ j. same_values (has_one_key h.parts) (mine.is j) (value_of m q.name)) ∙ (λ j. same_values (has_one_key h.parts) (Some mine.value) (its.is j)))
 
     pub next_of_seen : (w : Structure) → IsFor i w → nodes.IsHashed w → option_map (id_at m) (first_of (filter (nodes.has_same_key w m r) a.ys) None) ≡ look.next_of s t x e
     next_of_seen (Ordered u) f hashed = absurd hashed
     next_of_seen (Sequenced l) f hashed = absurd hashed
     next_of_seen (Hashed c) f hashed =
-        let g : Ref → Bool = same_nodes (keying_of c.keys.parts) m r in
+        let g : Ref → Bool = same_nodes (keying_of c.keys) m r in
         let p : ℕ → Bool = λ id. is_eq (compare_ids i t e id) in
         let pr : Ref → Bool = λ q. p (id_at m q) in
         let live = subst (AllByRecursion (IsLiveRef ids m)) a.parts n.stood.live.rows in
-        let left : filter pr a.xs ≡ filter g a.xs = filter_eq pr g a.xs (each_of (λ q. pr q ≡ g q) (key_is c.keys.parts f.1) a.xs (all_before (IsLiveRef ids m) a.xs (r ∷ a.ys) live)) in
-        let right : filter pr a.ys ≡ filter g a.ys = filter_eq pr g a.ys (each_of (λ q. pr q ≡ g q) (key_is c.keys.parts f.1) a.ys (all_behind (IsLiveRef ids m) a.xs r a.ys live)) in
+        let left : filter pr a.xs ≡ filter g a.xs = filter_eq pr g a.xs (each_of (λ q. pr q ≡ g q) (key_is c.keys f.1) a.xs (all_before (IsLiveRef ids m) a.xs (r ∷ a.ys) live)) in
+        let right : filter pr a.ys ≡ filter g a.ys = filter_eq pr g a.ys (each_of (λ q. pr q ≡ g q) (key_is c.keys f.1) a.ys (all_behind (IsLiveRef ids m) a.xs r a.ys live)) in
         let mine : pr r ≡ true = ap p a.id ∙ ap is_eq (tied_itself (compare_ids_total i t) e) in
         let whole : filter p (view s t x) ≡ ids_at m (filter g a.xs ++ r ∷ filter g a.ys) =
         ap (filter p) (sym shown_ids ∙ ap (ids_at m) a.parts) ∙ filter_ids (id_at m) p (a.xs ++ r ∷ a.ys)

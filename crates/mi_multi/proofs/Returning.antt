@@ -21,6 +21,7 @@ use Rattle.mi_index.specs.declared.structure.Structure.{Structure}
 use Rattle.mi_index.specs.declared.structure.Structure.TheVariants.{Ordered, Hashed, Sequenced}
 use Rattle.mi_index.specs.declared.moves.Moves.TheVariants.{All}
 use Rattle.mi_index.specs.Orders.{stored_order, keying_of, has_one_key}
+use Rattle.mi_index.specs.declared.orders.ByHash.{ByHash as HashedBy}
 use Rattle.mi_index.specs.Standing.{slot_in, AllAbove, AllBelow, Climb, IsLike}
 use Rattle.mi_index.specs.Places.{own_place, CanReturn, HasOldPlace}
 use Rattle.mi_index.specs.Pass.{Gives, AllStand, AllCan, AllDone, AllLike}
@@ -146,19 +147,19 @@ module _ (s : Shape) (ids : FinMap nat_cmp IdEntry) (m : Pooled Stored) (xs : Li
 
     -- In chains
 
-    key_for : (ps : List KeyPart) (q : Ref) → IsLiveRef ids m q → is_eq (compare_key ps (record_in (value_of m r.name)) (content_of d.rows (id_at m q)).values) ≡ same_nodes (keying_of ps) m r q
+    key_for : (h : HashedBy) (q : Ref) → IsLiveRef ids m q → is_eq (compare_key h.parts (record_in (value_of m r.name)) (content_of d.rows (id_at m q)).values) ≡ same_nodes (keying_of h) m r q
     unfolding same_nodes
-    key_for ps q live =
+    key_for h q live =
         let its : HasNode m (id_at m q) q = is.held (id_at m q) (record { node = q; live = true }) live in
         let its_values : (content_of d.rows (id_at m q)).values ≡ record_in (value_of m q.name) = ap (λ o. (content_in o).values) (node_live ids m os q live) in
-        (λ i. is_eq (compare_key ps (record_in (value_of m r.name)) (its_values i)))
-        ∙ (λ i. is_eq (compare_key ps (record_in (mine.is i)) (record_in (its.is i))))
-        ∙ sym (λ i. same_values (has_one_key ps) (mine.is i) (its.is i))
+        (λ i. is_eq (compare_key h.parts (record_in (value_of m r.name)) (its_values i)))
+        ∙ (λ i. is_eq (compare_key h.parts (record_in (mine.is i)) (record_in (its.is i))))
+        ∙ sym (λ i. same_values (has_one_key h.parts) (mine.is i) (its.is i))
 
-    keys_for : (ps : List KeyPart) (qs : List Ref) → AllByRecursion (IsLiveRef ids m) qs
-        → AllByRecursion (λ q. is_eq (compare_key ps (record_in (value_of m r.name)) (content_of d.rows (id_at m q)).values) ≡ same_nodes (keying_of ps) m r q) qs
-    keys_for ps [] all = tt
-    keys_for ps (q ∷ qs) all = (key_for ps q all.0, keys_for ps qs all.1)
+    keys_for : (h : HashedBy) (qs : List Ref) → AllByRecursion (IsLiveRef ids m) qs
+        → AllByRecursion (λ q. is_eq (compare_key h.parts (record_in (value_of m r.name)) (content_of d.rows (id_at m q)).values) ≡ same_nodes (keying_of h) m r q) qs
+    keys_for h [] all = tt
+    keys_for h (q ∷ qs) all = (key_for h q all.0, keys_for h qs all.1)
 
     filtered : (P : Ref → Type 0) (p : Ref → Bool) (qs : List Ref) → AllByRecursion P qs → AllByRecursion P (filter p qs)
     filtered P p [] all = tt
@@ -181,22 +182,22 @@ module _ (s : Shape) (ids : FinMap nat_cmp IdEntry) (m : Pooled Stored) (xs : Li
         ]
 
     -- where it stands by its stamp, and beside which nodes of its key
-    abbrev ByStamp : List KeyPart → ℕ → List Ref → Type 0
-    ByStamp ps k rs = (us : List Ref) × (vs : List Ref) × (rs ≡ us ++ vs) × AllBelow (stamp_at m k) (link_of m r.name k).tag.stamp us × AllAbove (stamp_at m k) (link_of m r.name k).tag.stamp vs
-        × ((link_of m r.name k).back ≡ last_of None (filter (same_nodes (keying_of ps) m r) us)) × ((link_of m r.name k).forth ≡ first_of (filter (same_nodes (keying_of ps) m r) vs) None)
+    abbrev ByStamp : HashedBy → ℕ → List Ref → Type 0
+    ByStamp h k rs = (us : List Ref) × (vs : List Ref) × (rs ≡ us ++ vs) × AllBelow (stamp_at m k) (link_of m r.name k).tag.stamp us × AllAbove (stamp_at m k) (link_of m r.name k).tag.stamp vs
+        × ((link_of m r.name k).back ≡ last_of None (filter (same_nodes (keying_of h) m r) us)) × ((link_of m r.name k).forth ≡ first_of (filter (same_nodes (keying_of h) m r) vs) None)
 
-    in_chains : (k : ℕ) (ps : List KeyPart) (rs : List Ref) → by_stamp k d.rows ≡ ids_at m rs → AreLive ids m rs → Climb (stamp_at m k) rs → k < length os → has_stamps (get_or os k ById) ≡ true
-        → (a : ℕ) → a ≡ (link_of m r.name k).tag.stamp → MeetByStamp k d.rows a (record { back = (link_of m r.name k).back; forth = (link_of m r.name k).forth }) (group ps k d.rows (record_in (value_of m r.name))) → ByStamp ps k rs
-    in_chains k ps rs by live climb l has a a_is meets =
+    in_chains : (k : ℕ) (h : HashedBy) (rs : List Ref) → by_stamp k d.rows ≡ ids_at m rs → AreLive ids m rs → Climb (stamp_at m k) rs → k < length os → has_stamps (get_or os k ById) ≡ true
+        → (a : ℕ) → a ≡ (link_of m r.name k).tag.stamp → MeetByStamp k d.rows a (record { back = (link_of m r.name k).back; forth = (link_of m r.name k).forth }) (group h.parts k d.rows (record_in (value_of m r.name))) → ByStamp h k rs
+    in_chains k h rs by live climb l has a a_is meets =
         let c = cut_at (stamp_at m k) (link_of m r.name k).tag.stamp rs climb (all_differ k rs live.rows l has) in
-        let p : ℕ → Bool = λ w. is_eq (compare_key ps (record_in (value_of m r.name)) (content_of d.rows w).values) in
-        let p' : Ref → Bool = same_nodes (keying_of ps) m r in
+        let p : ℕ → Bool = λ w. is_eq (compare_key h.parts (record_in (value_of m r.name)) (content_of d.rows w).values) in
+        let p' : Ref → Bool = same_nodes (keying_of h) m r in
         let both : AllByRecursion (IsLiveRef ids m) (c.xs ++ c.ys) = subst (AllByRecursion (IsLiveRef ids m)) c.parts live.rows in
         let left : AllByRecursion (IsLiveRef ids m) c.xs = all_left (IsLiveRef ids m) c.xs c.ys both in
         let right : AllByRecursion (IsLiveRef ids m) c.ys = all_right (IsLiveRef ids m) c.xs c.ys both in
         let alike : filter (λ q. p (id_at m q)) (c.xs ++ c.ys) ≡ filter p' c.xs ++ filter p' c.ys =
-        filter_eq (λ q. p (id_at m q)) p' (c.xs ++ c.ys) (keys_for ps (c.xs ++ c.ys) both) ∙ filter_append p' c.xs c.ys in
-        let whole : group ps k d.rows (record_in (value_of m r.name)) ≡ ids_at m (filter p' c.xs) ++ ids_at m (filter p' c.ys) =
+        filter_eq (λ q. p (id_at m q)) p' (c.xs ++ c.ys) (keys_for h (c.xs ++ c.ys) both) ∙ filter_append p' c.xs c.ys in
+        let whole : group h.parts k d.rows (record_in (value_of m r.name)) ≡ ids_at m (filter p' c.xs) ++ ids_at m (filter p' c.ys) =
         ap (filter p) (by ∙ ap (ids_at m) c.parts) ∙ filter_ids (id_at m) p (c.xs ++ c.ys) ∙ ap (ids_at m) alike ∙ ids_append (id_at m) (filter p' c.xs) (filter p' c.ys) in
         let one_way = one_cut (stamp_of d.rows k) a (ids_at m (filter p' c.xs)) (ids_at m (filter p' c.ys)) meets.0 meets.1 (sym whole ∙ meets.2)
         (below_ids k a c.xs left l has (subst (λ w. AllBelow (stamp_at m k) w c.xs) (sym a_is) c.below) p') (above_ids k a c.ys right l has (subst (λ w. AllAbove (stamp_at m k) w c.ys) (sym a_is) c.above) p') meets.5 meets.6 in (
@@ -255,8 +256,8 @@ module _ (s : Shape) (ids : FinMap nat_cmp IdEntry) (m : Pooled Stored) (xs : Li
         let met : MeetIn k d.rows (record_in (value_of m r.name)) (get_or (stamps_in m r.name 0 os) k 0) (neighbours_in m r.name k (ByHash i.parts)) (ByHash i.parts) =
         subst (λ w. MeetIn k d.rows (record_in (value_of m r.name)) (get_or (stamps_in m r.name 0 os) k 0) (neighbours_in m r.name k (ByHash i.parts)) w) (hashed_order i.kind i.parts (own_list m (Hashed c)) hashed)
         (subst (λ w. MeetIn k d.rows (record_in (value_of m r.name)) (get_or (stamps_in m r.name 0 os) k 0) (neighbours_in m r.name k w) (order_of i.kind i.parts (own_list m (Hashed c)))) (hashed_order i.kind i.parts [] hashed) meets) in
-        let got : ByStamp i.parts k rs = in_chains k i.parts rs by h.0.live climb h.1.few (ap has_stamps plan_is) (get_or (stamps_in m r.name 0 os) k 0) stamp met in
-        let same : ByStamp c.keys.parts k rs = subst (λ w. ByStamp w k rs) (sym parts) got in
+        let same : ByStamp c.keys k rs = in_chains k c.keys rs by h.0.live climb h.1.few (ap has_stamps plan_is) (get_or (stamps_in m r.name 0 os) k 0) stamp
+        (subst (λ w. MeetByStamp k d.rows (get_or (stamps_in m r.name 0 os) k 0) (record { back = (link_of m r.name k).back; forth = (link_of m r.name k).forth }) (group w k d.rows (record_in (value_of m r.name)))) (sym parts) met) in
         record {
           xs = same.0;
           ys = same.1;

@@ -14,8 +14,8 @@ impl Container for MultiIndex {
         self.keeps_rules();
     }
 
-    fn new(alloc: Global, schema: Schema) -> Result<Self, AllocError> {
-        MultiIndex::new(alloc, schema)
+    fn new(alloc: Global, schema: Schema, secret: u64) -> Result<Self, AllocError> {
+        MultiIndex::new(alloc, schema, secret)
     }
 
     fn insert(

@@ -43,13 +43,13 @@ impl Model for MultiIndex {
 }
 
 impl MultiIndex {
-    /// A container without records. Where memory is refused there is none.
-    pub fn new(alloc: Global, schema: Schema) -> Result<MultiIndex, AllocError>
+    /// A container without records. The hash of a key is mixed with the secret. Where memory is refused there is none.
+    pub fn new(alloc: Global, schema: Schema, secret: u64) -> Result<MultiIndex, AllocError>
         ensures shape { IfOk result (λ made. made.shape ≡ schema) }
         ensures plain { IfOk result (λ made. made.plain ≡ opened_data schema) }
     {
         schema.keeps_rules();
-        let nodes = Nodes::new(alloc, &schema)?;
+        let nodes = Nodes::new(alloc, &schema, secret)?;
         let next = schema.first_id();
         let arrivals = schema.first_arrival();
         Ok(MultiIndex {

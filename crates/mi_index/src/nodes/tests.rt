@@ -10,7 +10,7 @@ fn a_row_comes_into_all_indexes(rt: HostRuntime) {
     let Ok(schema) = built_in(alloc) else {
         panic!(rt; "no memory");
     };
-    let Ok(mut nodes) = Nodes::new(alloc, &schema) else {
+    let Ok(mut nodes) = Nodes::new(alloc, &schema, 5) else {
         panic!(rt; "no memory");
     };
     let stored = Stored {

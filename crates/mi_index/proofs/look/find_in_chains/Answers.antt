@@ -6,4 +6,4 @@ use Rattle.mi_index.proofs.Looking.{first_filter}
 use Rattle.mi_index.proofs.look.find_in_chains.Goals as goal
 
 pub returns : goal.returns
-returns c rs h = let d = c.args.chains.now in c.first_of.ensures rs h.0 ∙ first_filter (has_key (keying_of d.keys.parts) c.args.p.now c.args.probe) rs
+returns c rs h = let d = c.args.chains.now in c.first_of.ensures rs h.0 ∙ first_filter (has_key (keying_of d.keys) c.args.p.now c.args.probe) rs

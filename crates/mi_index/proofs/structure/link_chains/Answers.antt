@@ -13,12 +13,12 @@ pub insert-requires : goal.insert-requires
 insert-requires c =
     let d = c.args.chains.now in let m = c.args.p.now in let q = c.requires in let j = q.can in
     let u = cut_at (stamp_at m d.slot) c.args.stamp q.rs q.stands.1 j.place in
-    (u.xs, u.ys, subst (AreChained d (keying_of d.keys.parts) m) u.parts q.stands.0, chain_placed (keying_of d.keys.parts) m d.slot c.args.node c.args.stamp q.rs u.xs u.ys j.held j.out j.few u.parts u.below u.above)
+    (u.xs, u.ys, subst (AreChained d (keying_of d.keys) m) u.parts q.stands.0, chain_placed (keying_of d.keys) m d.slot c.args.node c.args.stamp q.rs u.xs u.ys j.held j.out j.few u.parts u.below u.above)
 
 pub returns-clause-step : goal.returns-clause-step
 returns-clause-step c rs h j =
     let d = c.args.chains.now in let m = c.args.p.now in let r = c.args.node in let e = c.insert.ensures in let n = c.insert.new.p in
-    let k = keying_of d.keys.parts in
+    let k = keying_of d.keys in
     let u = cut_at (stamp_at m d.slot) c.args.stamp rs h.1 j.place in
     let a = subst (AreChained d k m) u.parts h.0 in
     let b = chain_placed k m d.slot r c.args.stamp rs u.xs u.ys j.held j.out j.few u.parts u.below u.above in

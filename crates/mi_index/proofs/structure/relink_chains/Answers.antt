@@ -14,7 +14,7 @@ hash_of-hash-requires c = c.requires.can.held
 
 pub relink-requires : goal.relink-requires
 relink-requires c =
-    let d = c.args.chains.now in let m = c.args.p.now in let q = c.requires in let j = q.can in let p = j.place in let k = keying_of d.keys.parts in (
+    let d = c.args.chains.now in let m = c.args.p.now in let q = c.requires in let j = q.can in let p = j.place in let k = keying_of d.keys in (
       p.xs,
       p.ys,
       subst (AreChained d k m) p.parts q.stands.0,
@@ -24,7 +24,7 @@ relink-requires c =
 pub returns-clause-step : goal.returns-clause-step
 returns-clause-step c rs h j =
     let d = c.args.chains.now in let m = c.args.p.now in let r = c.args.node in let e = c.relink.ensures in let n = c.relink.new.p in let p = j.place in
-    let k = keying_of d.keys.parts in
+    let k = keying_of d.keys in
     let a = subst (AreChained d k m) p.parts h.0 in
     let tag : Tag = record { key = c.hash_of-hash.result; stamp = c.args.place.stamp } in
     let l : Link = record { back = c.args.place.back; forth = c.args.place.forth; size = 0; height = 0; tag = tag } in

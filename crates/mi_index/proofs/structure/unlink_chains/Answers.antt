@@ -8,12 +8,12 @@ use Rattle.mi_index.proofs.Joining.{climb_without, chains_kept, keeps_all}
 use Rattle.mi_index.proofs.structure.unlink_chains.Goals as goal
 
 pub remove-requires : goal.remove-requires
-remove-requires c = let q = c.requires in (q.can.xs, q.can.ys, subst (AreChained c.args.chains.now (keying_of c.args.chains.now.keys.parts) c.args.p.now) q.can.parts q.stands.0)
+remove-requires c = let q = c.requires in (q.can.xs, q.can.ys, subst (AreChained c.args.chains.now (keying_of c.args.chains.now.keys) c.args.p.now) q.can.parts q.stands.0)
 
 pub returns-clause-step : goal.returns-clause-step
 returns-clause-step c rs h j =
     let d = c.args.chains.now in let m = c.args.p.now in let e = c.remove.ensures in let n = c.remove.new.p in let r = c.args.node in
-    let w = subst (AreChained d (keying_of d.keys.parts) m) j.parts h.0 in
+    let w = subst (AreChained d (keying_of d.keys) m) j.parts h.0 in
     let f = e.remembers j.xs j.ys w in
     record {
       us = j.xs ++ j.ys;
