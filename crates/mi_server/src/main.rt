@@ -6,6 +6,7 @@ mod buffered;
 mod failure;
 mod listener;
 mod program;
+mod secret;
 mod serve;
 mod source;
 #[cfg(test)]

@@ -16,6 +16,7 @@ ghost use Rattle.mi_hub.specs.Watching.{Writes};
 use crate::buffered::Buffered;
 use crate::failure::Failure;
 use crate::listener::serve_listener;
+use crate::secret::drawn;
 use crate::serve::serve;
 use crate::source::catalog;
 use crate::words::{Options, WordsFault, read_words};
@@ -27,6 +28,7 @@ use std::convert::AsStr;
 use std::io;
 use std::io::{ErrorKind, Read, Write};
 use std::net::{Ipv4Addr, TcpListener};
+use std::random::RandomSource;
 use std::rt::{Files, Net};
 
 /// The exit status where the words are refused.
@@ -71,7 +73,7 @@ fn serve_port<R: Net + AllocGlobal, D: Sessions + Drop>(
 /// Does what the options say. Where the schema alone is checked the line `ok` is written, and the input isn't read.
 ///
 /// The failures of status 3 are those of `catalog`, and come before anything is read or written.
-fn perform<R: Files + Net + AllocGlobal, I: Read, O: Write>(
+fn perform<R: Files + Net + AllocGlobal + RandomSource, I: Read, O: Write>(
     rt: &R,
     options: &Options,
     reader: &mut Watched<I>,
@@ -89,7 +91,7 @@ fn perform<R: Files + Net + AllocGlobal, I: Read, O: Write>(
     if options.check {
         return confirm(writer).map_err(|_error| Failure::Write);
     }
-    let Ok(database) = Linked::<MultiIndex>::new(rt.alloc(), catalog) else {
+    let Ok(database) = Linked::<MultiIndex>::new(rt.alloc(), catalog, drawn(rt)) else {
         return Err(Failure::Memory);
     };
     match options.listen {
@@ -148,7 +150,7 @@ pub fn refuse_arguments<E: Write + Drop>(error: &io::Error, errors: E) -> u8
 /// | 2 | the words are refused, or ask for help | the parser's text, or the rule that they break |
 /// | 3 | the schema can't be read or is refused | `schema: ` and a word |
 /// | 4 | a stream failed, memory was refused, or the input didn't end | `fault: ` and a word |
-pub fn run_over<R: Files + Net + AllocGlobal, S: AsStr, I: Read, O: Write, E: Write>(
+pub fn run_over<R: Files + Net + AllocGlobal + RandomSource, S: AsStr, I: Read, O: Write, E: Write>(
     rt: &R,
     words: &[S],
     reader: &mut Watched<I>,
@@ -185,7 +187,7 @@ pub fn run_over<R: Files + Net + AllocGlobal, S: AsStr, I: Read, O: Write, E: Wr
 
 /// Does what `run_over` does over these streams, the output buffered.
 pub fn run<
-    R: Files + Net + AllocGlobal,
+    R: Files + Net + AllocGlobal + RandomSource,
     S: AsStr,
     I: Read + Drop,
     O: Write + Drop,

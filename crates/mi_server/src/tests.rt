@@ -1,4 +1,4 @@
-//! Worked rows through the whole program over memory, failing readers and writers, and each public call once.
+//! The program by its words, failing readers and writers, connections over sockets, and each public call below once.
 
 mod accounts;
 mod counting;
@@ -9,6 +9,3 @@ mod listener;
 mod look_ups;
 mod program;
 mod replies;
-mod rows;
-mod worked;
-mod worked_rows;

@@ -10,44 +10,9 @@ const FILE: &str = "mi_server_checked.toml";
 
 const OTHER_FILE: &str = "mi_server_served.toml";
 
-const ACCOUNTS: &str = r#"table = "accounts"
-
-[[column]]
-name = "owner"
-type = "text"
-
-[[column]]
-name = "balance"
-type = "int"
-
-[[column]]
-name = "vip"
-type = "flag"
-
-[[index]]
-name = "by_owner"
-kind = "hashed"
-unique = true
-key = ["owner"]
-
-[[index]]
-name = "by_balance"
-kind = "ranked"
-key = ["balance"]
-
-[[index]]
-name = "by_vip"
-kind = "hashed"
-key = ["vip"]
-
-[[index]]
-name = "by_class"
-kind = "ordered"
-key = ["-vip", "balance"]
-
-[[index]]
-name = "line"
-kind = "sequenced"
+/// One table of one column.
+const ONE: &str = r#"table = "t"
+column = [{name = "a", type = "int"}]
 "#;
 
 const TWO: &str = r#"format = 2
@@ -64,7 +29,7 @@ column = [{name = "t", type = "text"}]
 
 /// What `--check` makes of a file: the text, the status, the output and the line on the third stream.
 const CHECKED: [(&str, u8, &str, &str); 2] = [
-    (ACCOUNTS, 0, "ok\n", ""),
+    (ONE, 0, "ok\n", ""),
     (
         r#"table = "t"
 column = [{name = "id", type = "float"}]
@@ -105,69 +70,23 @@ const CALLED: [(&[&str], u8, &str, &str); 6] = [
     ),
 ];
 
-/// A line that stands before the text of a file, the text, commands and their replies.
-const SERVED: [(&str, &str, &str, &str); 5] = [
+/// The text of a file, commands and their replies.
+const SERVED: [(&str, &str, &str); 2] = [
     (
-        "first_id = 9223372036854775806\n",
-        ACCOUNTS,
-        r#"{"cmd":"insert","row":{"owner":"a","balance":1,"vip":false}}
-{"cmd":"insert","row":{"owner":"b","balance":1,"vip":false}}
-"#,
-        r#"{"id":9223372036854775806,"ok":true}
-{"error":"spent","ok":false}
-"#,
-    ),
-    (
-        "first_arrival = 9223372036854775806\n",
-        ACCOUNTS,
-        r#"{"cmd":"insert","row":{"owner":"a","balance":1,"vip":false}}
-{"cmd":"insert","row":{"owner":"a","balance":1,"vip":false}}
-"#,
+        ONE,
+        r#"{"cmd":"insert","row":{"a":5}}
+{"cmd":"get","id":0,"table":"t"}"#,
         r#"{"id":0,"ok":true}
-{"error":"spent","ok":false}
+{"ok":true,"row":{"a":5,"id":0}}
 "#,
     ),
     (
-        "first_revision = 9223372036854775807\n",
-        ACCOUNTS,
-        r#"{"cmd":"start"}"#,
-        r#"{"error":"spent","ok":false}
-"#,
-    ),
-    (
-        "max_rows = 2\n",
-        ACCOUNTS,
-        r#"{"cmd":"insert","row":{"owner":"a","balance":1,"vip":false}}
-{"cmd":"insert","row":{"owner":"b","balance":1,"vip":false}}
-{"cmd":"insert","row":{"owner":"a","balance":1,"vip":false}}
-"#,
-        r#"{"id":0,"ok":true}
-{"id":1,"ok":true}
-{"error":"full","ok":false}
-"#,
-    ),
-    (
-        "",
         TWO,
-        r#"{"cmd":"insert","row":{"k":5}}
-{"cmd":"start"}
-{"cmd":"insert","table":"b","row":{"t":"x"}}
+        r#"{"cmd":"insert","table":"b","row":{"t":"x"}}
 {"cmd":"insert","table":"b","row":{"t":"y"}}
-{"cmd":"insert","table":"a","row":{"k":5}}
-{"cmd":"start","table":"a"}
-{"cmd":"undo"}
-{"cmd":"get","id":0}
-{"cmd":"get","table":"b","id":10}
 "#,
-        r#"{"id":0,"ok":true}
-{"ok":true,"revision":1}
-{"id":10,"ok":true}
+        r#"{"id":10,"ok":true}
 {"error":"full","ok":false}
-{"error":"unique","id":0,"index":"u","ok":false}
-{"error":"form","ok":false}
-{"ok":true,"revision":0}
-{"ok":true,"row":{"id":0,"k":5}}
-{"error":"id","ok":false}
 "#,
     ),
 ];
@@ -196,7 +115,7 @@ fn schemas_are_checked(rt: HostRuntime) -> Result<(), Fail> {
         assert_eq!(rt; got.2.as_slice(), errors.as_bytes(), "of {words:?}");
     }
     for (length, status) in [(65_536, 0), (65_537, 3)] {
-        let mut text = String::from_str(rt.alloc(), ACCOUNTS)?;
+        let mut text = String::from_str(rt.alloc(), ONE)?;
         for _ in text.len()..length {
             text.push('\n')?;
         }
@@ -210,9 +129,8 @@ fn schemas_are_checked(rt: HostRuntime) -> Result<(), Fail> {
 
 #[test]
 fn schemas_are_served(rt: HostRuntime) -> Result<(), Fail> {
-    for (line, text, input, want) in SERVED {
-        let text = format!(in rt.alloc(); "{line}{text}")?;
-        fs::write(&rt, OTHER_FILE, text.as_str())?;
+    for (text, input, want) in SERVED {
+        fs::write(&rt, OTHER_FILE, text)?;
         let got = ended(&rt, &["mi_server", "--schema", OTHER_FILE], input);
         assert_eq!(rt; got.0, 0, "status of {text}");
         assert_eq!(rt; got.1.as_slice(), want.as_bytes(), "of {text}");

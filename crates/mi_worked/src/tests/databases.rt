@@ -24,7 +24,7 @@ pub(super) type Served = Linked<MultiIndex>;
 
 impl Opens for Served {
     fn open(alloc: Global, catalog: Catalog) -> Result<Served, AllocError> {
-        Linked::new(alloc, catalog)
+        Linked::new(alloc, catalog, 1)
     }
 }
 

@@ -189,6 +189,10 @@ row a squash of the only session keeps its changes
 = {"error":"session","ok":false}
 1 {"cmd":"size"}
 = {"ok":true,"size":1}
+1 {"cmd":"reserve","changes":3,"sessions":1}
+= {"ok":true}
+1 {"cmd":"reserve","changes":1000001,"sessions":1}
+= {"error":"form","ok":false}
 
 row two tables under one stack of sessions
 tables first_id = 10
