@@ -226,7 +226,30 @@ fn check_beside<A: Opens, B: Opens>(
 /// A record of keys that no other has.
 const INSERT: &str = r#"{"cmd":"insert","table":"$t","row":{"k":$i,"s":"new","f":true,"n":0}}"#;
 
+/// As many random lines as each of the tests below asks of both forms.
+const STEPS: u64 = 20_000;
+
 #[test]
-fn both_forms_answer_random_lines_alike(rt: HostRuntime) -> Result<(), Fail> {
-    check_beside::<Plain, Served>(&rt, rt.alloc(), 1, 100_000)
+fn both_forms_answer_alike(rt: HostRuntime) -> Result<(), Fail> {
+    check_beside::<Plain, Served>(&rt, rt.alloc(), 1, STEPS)
+}
+
+#[test]
+fn both_forms_answer_alike_by_a_second_seed(rt: HostRuntime) -> Result<(), Fail> {
+    check_beside::<Plain, Served>(&rt, rt.alloc(), 2, STEPS)
+}
+
+#[test]
+fn both_forms_answer_alike_by_a_third_seed(rt: HostRuntime) -> Result<(), Fail> {
+    check_beside::<Plain, Served>(&rt, rt.alloc(), 3, STEPS)
+}
+
+#[test]
+fn both_forms_answer_alike_by_a_fourth_seed(rt: HostRuntime) -> Result<(), Fail> {
+    check_beside::<Plain, Served>(&rt, rt.alloc(), 4, STEPS)
+}
+
+#[test]
+fn both_forms_answer_alike_by_a_fifth_seed(rt: HostRuntime) -> Result<(), Fail> {
+    check_beside::<Plain, Served>(&rt, rt.alloc(), 5, STEPS)
 }
