@@ -2,11 +2,18 @@
 use super::mixed;
 use std::alloc::{AllocError, Global};
 
-/// How many of 4,096 buckets get one of as many hashes, which all end in 17 zeros.
+/// The bucket, of 4,096, of one of as many hashes that all end in 17 zeros.
+fn bucket_of(secret: u64, i: u64) -> u64 {
+    mixed(secret, i.wrapping_mul(131_072)) % 4096
+}
+
+/// How many buckets get one of the hashes.
 fn buckets_used(alloc: Global, secret: u64) -> Result<usize, AllocError> {
     let mut used = vec![in alloc; false; 4096]?;
     for i in 0..4096u64 {
-        used[(mixed(secret, i * 131_072) % 4096) as usize] = true;
+        if let Some(one) = used.get_mut(bucket_of(secret, i) as usize) {
+            *one = true;
+        }
     }
     Ok(used.iter().filter(|one| **one).count())
 }
@@ -25,11 +32,8 @@ fn hashes_that_end_alike_are_spread(rt: HostRuntime) {
 /// By chance one of 4,096 hashes has the same bucket for two secrets; ten are out of question.
 #[test]
 fn buckets_are_others_for_each_secret(rt: HostRuntime) {
-    let mut same = 0;
-    for i in 0..4096u64 {
-        if mixed(1, i * 131_072) % 4096 == mixed(2, i * 131_072) % 4096 {
-            same += 1;
-        }
-    }
+    let same = (0..4096u64)
+        .filter(|i| bucket_of(1, *i) == bucket_of(2, *i))
+        .count();
     assert!(rt; same < 10, "{same}");
 }
