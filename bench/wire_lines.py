@@ -1,7 +1,8 @@
 #!/usr/bin/env python3
-"""What a line of each kind costs, in nanoseconds: the program against the Boost.MultiIndex peer, in one run.
+"""What a line of each kind costs, in nanoseconds: the program against the Boost.MultiIndex peer, or against another build of
+itself, in one run.
 
-    wire_lines.py [--rows N] [--lines N] [--rounds N] [--clock wall|processor] [--program FILE]
+    wire_lines.py [--rows N] [--lines N] [--rounds N] [--clock wall|processor] [--program FILE] [--against FILE]
 
 Both read the same lines of JSON and write the same replies, which are compared. A round asks one kind of one program after the
 other; the figures are medians, with the least and the greatest. The commands do little, so that the reading of the line and the
@@ -36,6 +37,7 @@ def kinds(rows, count):
         return text(cmd="range", index="by_balance", lower={"ge": [lower]}, limit=10)
 
     return {
+        "undo, refused": [text(cmd="undo")] * count,
         "start and undo, nothing between": [text(cmd="start"), text(cmd="undo")] * (count // 2),
         "size": [text(cmd="size")] * count,
         "get, absent": [text(cmd="get", id=rows + n) for n in spread],
@@ -92,19 +94,21 @@ def main():
     parser.add_argument("--rounds", type=int, default=7)
     parser.add_argument("--clock", choices=["wall", "processor"], default="processor")
     parser.add_argument("--program")
+    parser.add_argument("--against", metavar="FILE", help="another build of the program, in place of the peer")
     options = parser.parse_args()
     path = options.program or program.program()
     try:
-        peer = build.peer("boost_peer")
+        peer = options.against or build.peer("boost_peer")
     except build.Missing as why:
         sys.exit(f"wire_lines: the Boost peer is {why}")
+    title, column = (options.against, "the other") if options.against else (build.version([peer, "--version"]), "Boost")
     records = workloads.records(options.rows)
     both = []
     try:
         for it in (path, peer):
             both.append(Program(it, records))
-        print(f"{program.title(path)} and {build.version([peer, '--version'])}, {options.rows:,} records, {options.rounds} rounds\n")
-        print("| Line | Weltiyo, ns | Boost, ns | Boost / Weltiyo |\n|---|---|---|---|")
+        print(f"{program.title(path)} and {title}, {options.rows:,} records, {options.rounds} rounds\n")
+        print(f"| Line | Weltiyo, ns | {column}, ns | {column} / Weltiyo |\n|---|---|---|---|")
         for name, lines in kinds(options.rows, options.lines).items():
             ours, theirs = measure(both, lines, options.rounds, options.clock)
             quotients = [b / a for a, b in zip(ours, theirs)]

@@ -293,9 +293,9 @@ def first_difference(lines, want, got):
     return f"{len(want) - 1} replies were wanted, {len(got) - 1} came"
 
 
-def over_pipes(path, catalog, lines, has_reserve):
+def over_pipes(path, catalog, lines):
     """Asks a case over standard input, in one piece. Answers how it differs, if it does."""
-    reference = Reference(*catalog, has_reserve)
+    reference = Reference(*catalog)
     whole = b"\n".join(lines)
     want = reference.feed(1, whole) + reference.close(1)
     with open(f"{FOLDER}/lines.txt", "wb") as file:
@@ -320,10 +320,10 @@ def connected(ran, port):
     return None
 
 
-def over_loopback(path, catalog, lines, has_reserve, pick):
+def over_loopback(path, catalog, lines, pick):
     """Asks a case over several connections, which take turns. Each turn is a piece with at least one reply, so that the next
     connection's piece is sent once the server has read this one's. Answers how it differs, if it does."""
-    reference, count, port = Reference(*catalog, has_reserve), pick.randint(2, 4), program.free_port()
+    reference, count, port = Reference(*catalog), pick.randint(2, 4), program.free_port()
     ran = start(path, FOLDER, catalog, ["--listen", str(port), "--clients", str(count)])
     streams = [connected(ran, port) for _ in range(count)]
     try:
@@ -385,11 +385,6 @@ def by_turns(reference, streams, lines, pick):
     return None
 
 
-def knows_reserve(path):
-    line = b'{"cmd":"reserve","changes":0,"sessions":0}'
-    return subprocess.run([path], input=line, stdout=subprocess.PIPE).stdout == b'{"ok":true}\n'
-
-
 def main():
     parser = argparse.ArgumentParser()
     parser.add_argument("--seed", type=int, default=1)
@@ -398,15 +393,15 @@ def main():
     options = parser.parse_args()
     path = options.program or program.program()
     os.makedirs(FOLDER, exist_ok=True)
-    has_reserve, began, asked, case = knows_reserve(path), time.monotonic(), 0, 0
+    began, asked, case = time.monotonic(), 0, 0
     while asked < options.lines:
         made = Lines(f"{options.seed}/{case}")
         catalog, count = made.catalog(), min(CASE_LINES, options.lines - asked)
         lines = [made.line(catalog[0]) for _ in range(count)]
-        differs = over_pipes(path, catalog, lines, has_reserve)
+        differs = over_pipes(path, catalog, lines)
         where = "lines.txt"
         if not differs and case % 3 == 0:
-            differs, where = over_loopback(path, catalog, lines, has_reserve, made.random), "turns.txt"
+            differs, where = over_loopback(path, catalog, lines, made.random), "turns.txt"
         if differs:
             sys.exit(f"seed {options.seed}, case {case}: {differs}\nthe case is in {os.path.relpath(FOLDER)}: schema.toml, {where}")
         asked, case = asked + count, case + 1

@@ -322,13 +322,13 @@ KINDS = {
 }
 
 
-def form(found, has_reserve):
+def form(found):
     """The command of a line's JSON, or `form`."""
     if not is_object(found) or not is_text(found.get("cmd")):
         raise Refusal("form")
     members = dict(found)
     name = members.pop("cmd")
-    if name not in FORMS or name == "reserve" and not has_reserve:
+    if name not in FORMS:
         raise Refusal("form")
     needed, others = FORMS[name]
     others = others if name in WITHOUT_TABLE else {**others, "table": is_text}
@@ -348,9 +348,9 @@ def fits(kind, value):
 
 
 class Reference:
-    def __init__(self, schemas, first_revision=0, has_reserve=False):
+    def __init__(self, schemas, first_revision=0):
         self.tables = [Table(it) for it in schemas]
-        self.old, self.revision, self.has_reserve = [], first_revision, has_reserve
+        self.old, self.revision = [], first_revision
         self.holder, self.held = None, 0
         self.rests = {}
 
@@ -386,7 +386,7 @@ class Reference:
 
     def answer(self, connection, line):
         try:
-            reply = {"ok": True, **self.do(connection, *form(read(line), self.has_reserve))}
+            reply = {"ok": True, **self.do(connection, *form(read(line)))}
         except Refusal as refusal:
             reply = refusal.reply
         return json.dumps(reply, separators=(",", ":"), sort_keys=True, ensure_ascii=False).encode() + b"\n"

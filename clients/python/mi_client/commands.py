@@ -36,6 +36,8 @@ COMMANDS = {
         Command("commit", ["revision"], '{"committed":N,"ok":true}', "ends the sessions up to a number for good", "commit revision=1"),
         Command("undo_all", [], '{"ok":true,"undone":N}', "undoes every open session", "undo_all"),
         Command("push", [], '{"ok":true,"pushed":N}', "lets go of the sessions that this connection holds", "push"),
+        Command("reserve", ["changes", "sessions"], '{"ok":true}', "asks room for so many changes inside sessions, and so many starts",
+                "reserve changes=10 sessions=1"),
         Command("get", ["id", TABLE], '{"ok":true,"row":{..}}', "the record of an id", "get id=0"),
         Command("find", ["index", "key", TABLE], '{"ok":true,"row":{..}}', "the first record with a key",
                 'find index=by_owner key=["ann"]'),

@@ -209,6 +209,11 @@ class Database:
         """Lets go of the sessions that this connection holds, which stay open, and answers how many they were."""
         return self.ask("push")["pushed"]
 
+    def reserve(self, changes: int, sessions: int) -> None:
+        """Asks the database for room for so many changes inside sessions (at most 1,000,000) and so many starts (at most
+        1,024), ahead of a block. Raises `Refused` with the word `memory` where there is none; nothing has changed then."""
+        self.ask("reserve", changes=changes, sessions=sessions)
+
     def revision(self) -> Revision:
         """The revision, the open sessions, and those that this connection holds."""
         reply = self.ask("revision")

@@ -107,6 +107,8 @@ class Commands:
             db.commit(1)
         self.assertEqual((db.begin(), db.begin()), (2, 3))
         self.assertEqual((db.squash(), db.push(), db.undo_all()), (2, 1, 1))
+        self.assertIsNone(db.reserve(3, 1))
+        self.refused("form", db.reserve, 1_000_001, 1)
 
     def test_refused_session_blocks_are_undone(self):
         db = self.db

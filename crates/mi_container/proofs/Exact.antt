@@ -17,7 +17,7 @@ use Rattle.mi_container.specs.Data.Order.{ById, ByKey, ByHash, Listed}
 use Rattle.mi_container.specs.Changes.{entered, left_out, with_content, restamped, new_content, in_order, new_node, orders_with, inserted, replaced, next_in, link_in, links_from, kept_node, erased_node, erased, moved_order, relocated_in}
 use Rattle.mi_container.specs.Inverse.{RowRef, at_in, row_ref, insert_inverse, old_places, old_of, old_content, put_inverse, erase_inverse, next_in_order, moved_back, relocate_inverse, relinked, returned, stamps_back, taken_back}
 use Rattle.mi_container.specs.Inverse.Inverse.{Nothing}
-use Rattle.mi_container.specs.Fits.{IsNot, IsThere, IsLive, IsOther, IsListed, AllMeet, Ready}
+use Rattle.mi_container.specs.Fits.{IsNot, IsThere, IsLive, IsOther, IsListed, AllMeet, PlacesMeet, Ready}
 use Rattle.mi_container.proofs.Pairs.{lookup_push_same, lookup_entered_same, out_push, out_entered, entered_back}
 use Rattle.mi_container.proofs.Contents.{content_back, node_with}
 use Rattle.mi_container.proofs.Sequences.{OfList, of_one, orders_back, order_back, moved_same, relinked_back, relocated_back, next_is_other, OtherThere, Stands}
@@ -91,12 +91,13 @@ put_ready s e r d is there =
     let c : Content = new_content d.orders r d.arrivals was in (
       (_, node_with e c d.rows there.0 there.1, sym (ap at_in there.1)),
       omega arith,
-      places_meet e c d.rows there 0 d.orders was.stamps (stamps_long s d is e there) (all_stand s e d is there)
+      subst (λ (q : Content). PlacesMeet 0 (with_content e c d.rows) q.values was.values (old_places 0 d.rows e was.values r d.orders was.stamps) d.orders) (sym (ap content_in (node_with e c d.rows there.0 there.1)))
+          (places_meet e c d.rows there 0 d.orders was.stamps (stamps_long s d is e there) (all_stand s e d is there)
           (λ k l. let same : 0 + k ≡ k = omega arith in (
             rises_in s d is k l,
             subst (λ n. MovesLast e c d.rows there n (get_or d.orders k ById)) (sym same) (moves_last s e r d is there k l),
             ap (λ n. stamp_of d.rows n e) (sym same),
-          )),
+          ))),
     )
 
 -- Erase

@@ -193,29 +193,32 @@ module _ (e : ℕ) (c : Content) (rows : List (ℕ × Node)) (there : IsThere ro
   abbrev pub MovesLast : ℕ → Order → Type 0
   MovesLast x o = has_stamps o ≡ true → is_eq (compare_key (parts_of o) old c.values) ≡ false → by_stamp x other ≡ without e (by_stamp x rows) ++ e ∷ []
 
-  place_meets : (x : ℕ) (o : Order) → Stands rows e (listed x rows o) → RisesIn rows x o → MovesLast x o → PlaceMeets x other old (old_place x rows e old c.values o (stamp_of rows x e)) o
-  place_meets x ById stands up moved = tt
+  place_meets : (x : ℕ) (o : Order) → Stands rows e (listed x rows o) → RisesIn rows x o → MovesLast x o → PlaceMeets x other c.values old (old_place x rows e old c.values o (stamp_of rows x e)) o
+  place_meets x ById stands up moved = refl
   place_meets x (ByKey ps) stands up moved =
-      elim (is_eq (compare_key ps old c.values)) as (λ t. PlaceMeets x other old (cond t None (Some (record { stamp = stamp_of rows x e; link = record { back = None; forth = None } }))) (ByKey ps)) [ true ↦ tt | false ↦ tt ]
+      let found : Bool → Option OldPlace = λ t. cond t None (Some (record { stamp = stamp_of rows x e; link = record { back = None; forth = None } })) in
+      both_ways (is_eq (compare_key ps old c.values))
+      (λ yes. subst (λ t. PlaceMeets x other c.values old (found t) (ByKey ps)) (sym yes) yes)
+      (λ isnt. subst (λ t. PlaceMeets x other c.values old (found t) (ByKey ps)) (sym isnt) (isnt, tt))
   place_meets x (ByHash ps) stands up moved =
       let found : Bool → Option OldPlace = λ t. cond t None (Some (record { stamp = stamp_of rows x e; link = link_of rows e (group ps x rows old) })) in
       both_ways (is_eq (compare_key ps old c.values))
-      (λ yes. subst (λ t. PlaceMeets x other old (found t) (ByHash ps)) (sym yes) tt)
-      (λ isnt. subst (λ t. PlaceMeets x other old (found t) (ByHash ps)) (sym isnt)
-      (group_meets ps x e rows other (λ o _. ref_with e c rows o there) (stamp_beside x e c rows) stands (up refl) (group_put ps x e c rows old there (moved refl isnt) isnt)))
-  place_meets x (Listed ids) stands up moved = tt
+      (λ yes. subst (λ t. PlaceMeets x other c.values old (found t) (ByHash ps)) (sym yes) yes)
+      (λ isnt. subst (λ t. PlaceMeets x other c.values old (found t) (ByHash ps)) (sym isnt)
+      (isnt, group_meets ps x e rows other (λ o _. ref_with e c rows o there) (stamp_beside x e c rows) stands (up refl) (group_put ps x e c rows old there (moved refl isnt) isnt)))
+  place_meets x (Listed ids) stands up moved = refl
 
   -- what is asked of each index
   abbrev pub PutIn : ℕ → Order → ℕ → Type 0
   PutIn x o a = RisesIn rows x o × MovesLast x o × (a ≡ stamp_of rows x e)
 
   pub places_meet : (x : ℕ) (os : List Order) (stamps : List ℕ) → length stamps ≡ length os → AllByRecursion (Stands rows e) (lists_from x rows os)
-      → ((k : ℕ) → k < length os → PutIn (x + k) (get_or os k ById) (get_or stamps k 0)) → PlacesMeet x other old (old_places x rows e old c.values os stamps) os
+      → ((k : ℕ) → k < length os → PutIn (x + k) (get_or os k ById) (get_or stamps k 0)) → PlacesMeet x other c.values old (old_places x rows e old c.values os stamps) os
   places_meet x [] stamps long all each = tt
   places_meet x (o ∷ os) [] long all each = absurd (cc)
   places_meet x (o ∷ os) (a ∷ stamps) long all each =
       let same : x + 0 ≡ x = omega arith in
       let here : PutIn x o a = subst (λ n. PutIn n o a) same (each zero (omega arith)) in (
-        subst (λ n. PlaceMeets x other old (old_place x rows e old c.values o n) o) (sym here.2) (place_meets x o all.0 here.0 here.1),
+        subst (λ n. PlaceMeets x other c.values old (old_place x rows e old c.values o n) o) (sym here.2) (place_meets x o all.0 here.0 here.1),
         places_meet (suc x) os stamps (suc_is long) all.1 (λ k l. let next : x + suc k ≡ suc x + k = omega arith in subst (λ n. PutIn n (get_or os k ById) (get_or stamps k 0)) next (each (suc k) (omega arith))),
       )

@@ -1,12 +1,14 @@
 -- Which inverses can be taken back, and which lists of them, the newest first, fit data.
-use Rattle.std.specs.Prelude.{◌≡◌, ◌≢◌, ℕ, ◌+◌, ◌<◌, List, [], ◌∷◌, ◌++◌, slice_index_or, suc}
+use Rattle.std.specs.Prelude.{◌≡◌, ◌≢◌, ℕ, ◌+◌, ◌<◌, true, false, List, [], ◌∷◌, ◌++◌, slice_index_or, suc}
 use Rattle.std.specs.List.{AllByRecursion}
+use Rattle.std.specs.Ordering.{is_eq}
 use Rattle.std.specs.declared.option.Option.{Option}
 use Rattle.std.specs.declared.option.Option.TheVariants.{None, Some}
 use Rattle.mi_value.specs.declared.value.Value.{Value}
+use Rattle.mi_value.specs.Order.{compare_key}
 use Rattle.mi_catalog.specs.Shape.{Shape}
 use Rattle.mi_model.specs.Table.{Table}
-use Rattle.mi_container.specs.Data.{Content, Node, Link, Kept, Order, Data, order_at, node_of, kept_of, stamp_of, table_of, IsData}
+use Rattle.mi_container.specs.Data.{Content, Node, Link, Kept, Order, Data, order_at, parts_of, node_of, kept_of, content_of, stamp_of, table_of, IsData}
 use Rattle.mi_container.specs.Data.Order.{ById, ByKey, ByHash, Listed}
 use Rattle.mi_container.specs.Changes.{ref_of, head_of, group}
 use Rattle.mi_container.specs.Inverse.{RowRef, OldPlace, Inverse, keeps, taken_back}
@@ -40,16 +42,16 @@ AllMeet x rows c [] (o ∷ os) = ⊥
 AllMeet x rows c (l ∷ ls) [] = ⊥
 AllMeet x rows c (l ∷ ls) (o ∷ os) = MeetIn x rows c.values (slice_index_or c.stamps x 0) l o × AllMeet (suc x) rows c ls os
 
--- those of a place that is remembered
-abbrev pub PlaceMeets : ℕ → List (ℕ × Node) → List Value → Option OldPlace → Order → Type 0
-PlaceMeets x rows r None o = Unit {0}
-PlaceMeets x rows r (Some was) o = MeetIn x rows r was.stamp was.link o
+-- a place is remembered where the key isn't that of the record r any more, and its neighbours meet
+abbrev pub PlaceMeets : ℕ → List (ℕ × Node) → List Value → List Value → Option OldPlace → Order → Type 0
+PlaceMeets x rows now r None o = is_eq (compare_key (parts_of o) r now) ≡ true
+PlaceMeets x rows now r (Some was) o = (is_eq (compare_key (parts_of o) r now) ≡ false) × MeetIn x rows r was.stamp was.link o
 
-abbrev pub PlacesMeet : ℕ → List (ℕ × Node) → List Value → List (Option OldPlace) → List Order → Type 0
-PlacesMeet x rows r [] [] = Unit {0}
-PlacesMeet x rows r [] (o ∷ os) = ⊥
-PlacesMeet x rows r (p ∷ ps) [] = ⊥
-PlacesMeet x rows r (p ∷ ps) (o ∷ os) = PlaceMeets x rows r p o × PlacesMeet (suc x) rows r ps os
+abbrev pub PlacesMeet : ℕ → List (ℕ × Node) → List Value → List Value → List (Option OldPlace) → List Order → Type 0
+PlacesMeet x rows now r [] [] = Unit {0}
+PlacesMeet x rows now r [] (o ∷ os) = ⊥
+PlacesMeet x rows now r (p ∷ ps) [] = ⊥
+PlacesMeet x rows now r (p ∷ ps) (o ∷ os) = PlaceMeets x rows now r p o × PlacesMeet (suc x) rows now r ps os
 
 abbrev pub IsThere : List (ℕ × Node) → ℕ → Type 0
 IsThere rows e = (n : Node) × (node_of rows e ≡ Some n)
@@ -76,7 +78,7 @@ IsListed (Listed ids) = Unit {0}
 -- what the call that takes an inverse back asks for
 abbrev pub Ready : Inverse → Data → Type 0
 Ready (Inserted r) d = IsLive d.rows r × (d.next ≡ r.id + 1) × (0 < d.arrivals)
-Ready (Put r old) d = IsLive d.rows r × (0 < d.arrivals) × PlacesMeet 0 d.rows old.values old.places d.orders
+Ready (Put r old) d = IsLive d.rows r × (0 < d.arrivals) × PlacesMeet 0 d.rows (content_of d.rows r.id).values old.values old.places d.orders
 Ready (Erased r why) d = (k : IsKept d.kept r) × AllMeet 0 d.rows k.0.node.content k.0.links d.orders
 Ready (Relocated x r b) d = IsLive d.rows r × IsOther d.rows r.id b × IsListed (order_at d.orders x)
 Ready Nothing d = Unit {0}

@@ -1,6 +1,6 @@
 //! What a container of records under several indexes is to its callers, over plain data: its calls, as a trait; its rows,
 //! its changes, the inverse of each, and which inverses can be taken back.
-//! It knows no sessions. No container is here yet that meets the trait.
+//! It knows no sessions. What meets the trait stands in `mi_multi`.
 #![tactic(auto)]
 
 mod container;

@@ -125,21 +125,6 @@ impl<C: Container> Linked<C> {
         &self.containers[n]
     }
 
-    /// Room for so many changes and so many sessions more: until they are used, an erase, a replacement or a relocation
-    /// inside a session, and a start, aren't refused for memory. The database stays as it is. Refusal: `Memory`.
-    pub fn reserve(&mut self, changes: u64, sessions: u64) -> Result<(), Refusal>
-        ensures same { self.new ≡ with_room self.new.changes self.new.starts self.old }
-        ensures changes { self.old.changes ≤ self.new.changes }
-        ensures starts { self.old.starts ≤ self.new.starts }
-        ensures room { OnOk result ((changes ≤ self.new.changes) × (sessions ≤ self.new.starts)) }
-        ensures memory { IfErr result (λ e. e ≡ Memory) }
-    {
-        match self.journal.reserve(changes as usize, sessions as usize) {
-            Ok(()) => Ok(()),
-            Err(_) => Err(Refusal::Memory),
-        }
-    }
-
     /// Room for so many inverses, where a session is open.
     pub(crate) fn make_room(&mut self, changes: usize) -> Result<(), AllocError>
         ensures same { self.new ≡ with_room self.new.changes self.new.starts self.old }

@@ -1,5 +1,5 @@
 //! The calls of a database, made by the containers and the journal.
-ghost use Rattle.std.specs.Prelude.{◌≡◌, ◌≢◌, ◌<◌, ◌≤◌, ◌+◌, ◌-◌, length, IfSome, IfErr, Err};
+ghost use Rattle.std.specs.Prelude.{◌≡◌, ◌≢◌, ◌<◌, ◌≤◌, ◌+◌, ◌-◌, length, IfSome, IfErr, OnOk, Err};
 ghost use Rattle.mi_value.specs.declared.refusal.Refusal.TheVariants.{Memory};
 ghost use Rattle.mi_catalog.specs.Fitting.{HasTable, IsKeyedIndex, IsSequencedIndex, FitsTable, EditsFit, FitsWhole};
 ghost use Rattle.mi_model.specs.Database.{depth as depth_of, start_step, undo_step, squash_step, ending, committed, undone_times};
@@ -12,7 +12,7 @@ ghost use Rattle.mi_model.specs.Run.Command.{Commit as CommitCommand, UndoAll as
 ghost use Rattle.mi_container.specs.Inverse.{lost_to};
 ghost use Rattle.mi_container.specs.Makes.{lost_answer, IsNoLoss};
 ghost use Rattle.mi_database.specs.Bound.{look_up_bound};
-ghost use Rattle.mi_database.specs.Held.{meaning, RoomFor};
+ghost use Rattle.mi_database.specs.Held.{meaning, with_room, RoomFor};
 ghost use Rattle.mi_database.specs.Kept.{kept_rows, KeptAfter};
 ghost use Rattle.mi_database.specs.Keyed.{keyed};
 
@@ -355,6 +355,22 @@ impl<C: Container> Sessions for Linked<C> {
             let _ = self.undo();
         }
         open
+    }
+
+    /// Room for so many changes inside a session and so many sessions more. Until it is used, an erase, a replacement, a
+    /// relocation and an erase by key, which uses as much as it erases records, aren't refused for memory, nor is a start.
+    fn reserve(&mut self, changes: u64, sessions: u64) -> Result<(), Refusal>
+        ensures same { meaning self.new ≡ meaning self.old }
+        ensures memory { IfErr result (λ e. e ≡ Memory) }
+        ensures held { self.new ≡ with_room self.new.changes self.new.starts self.old }
+        ensures room { OnOk result ((changes ≤ self.new.changes) × (sessions ≤ self.new.starts)) }
+        ensures changes { self.old.changes ≤ self.new.changes }
+        ensures starts { self.old.starts ≤ self.new.starts }
+    {
+        match self.journal.reserve(changes as usize, sessions as usize) {
+            Ok(()) => Ok(()),
+            Err(_) => Err(Refusal::Memory),
+        }
     }
 
     fn revision(&self) -> u64 {

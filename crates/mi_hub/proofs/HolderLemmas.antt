@@ -64,6 +64,7 @@ module _ (cs : List Connection) where
     by_command s (command.Commit revision) h = most _ s.holder h
     by_command s command.UndoAll h = refl
     by_command s command.Push h = without conn s.holder h
+    by_command s (command.Reserve changes sessions) h = h
     by_command s command.Revision h = h
     by_command s (command.Get table id) h = h
     by_command s (command.Find table index key) h = h

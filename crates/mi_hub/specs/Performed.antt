@@ -69,6 +69,10 @@ undo_sessions s = (say.undone (depth s.database), record { database = undone_tim
 abbrev pub push_sessions : Held → ℕ → Said × Held
 push_sessions s conn = (say.pushed (held_by conn s.holder), record { database = s.database; holder = without_holder conn s.holder })
 
+-- room is asked for: it is in no reply, and the database means what it meant
+abbrev pub reserve_room : Held → Said × Held
+reserve_room s = (say.done, s)
+
 -- how many sessions are open, how many of them the connection holds, and the revision
 abbrev pub status : Held → ℕ → Said
 status s conn = say.status (depth s.database) (held_by conn s.holder) s.database.revision
@@ -121,6 +125,7 @@ performed s conn command.Squash = squash_session s
 performed s conn (command.Commit revision) = commit_sessions s revision
 performed s conn command.UndoAll = undo_sessions s
 performed s conn command.Push = push_sessions s conn
+performed s conn (command.Reserve changes sessions) = reserve_room s
 performed s conn command.Revision = (status s conn, s)
 performed s conn (command.Get table id) = (show_row s table id, s)
 performed s conn (command.Find table index key) = (show_found s table (asked s table (λ shape t. look.find shape t index key)), s)

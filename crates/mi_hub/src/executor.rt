@@ -110,6 +110,7 @@ impl<D: Sessions + Drop> Executor<D> {
             Command::Commit { revision } => self.commit(revision),
             Command::UndoAll => self.undo_all(),
             Command::Push => self.push(conn),
+            Command::Reserve { changes, sessions } => self.reserve(changes, sessions),
             Command::Revision => self.status(conn),
             Command::Get { table, id } => self.get(table, id),
             Command::Find { table, index, key } => self.find(table, index, key.values()),

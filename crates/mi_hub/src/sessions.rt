@@ -80,6 +80,16 @@ impl<D: Sessions + Drop> Executor<D> {
         self.say(Reply::Pushed(pushed))
     }
 
+    /// Asks the database for room for so many changes and so many sessions.
+    pub(crate) fn reserve(&mut self, changes: u64, sessions: u64) -> ReplyText
+        ensures { GivenOrMemory (Unit {0}) (performed.reserve_room self.old) self.old (text_bytes result) self.new }
+    {
+        match self.database.reserve(changes, sessions) {
+            Ok(()) => self.say(Reply::Done),
+            Err(refusal) => self.refuse(refusal),
+        }
+    }
+
     /// Says the revision, and how many sessions are open and held by the connection.
     pub(crate) fn status(&self, conn: u64) -> ReplyText
         ensures { text_bytes result ≡ reply_text self.now.database.catalog (performed.status self.now conn) }

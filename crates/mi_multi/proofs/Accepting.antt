@@ -34,14 +34,14 @@ use Rattle.mi_container.proofs.Pairs.{none_some, is_other}
 use Rattle.mi_container.proofs.Facts.{has_there}
 use Rattle.mi_ids.specs.declared.entry.IdEntry.{IdEntry}
 use Rattle.mi_ids.specs.IdMap.{live_node}
-use Rattle.mi_multi.specs.Physical.{order_of, orders_of, plan, node_in}
+use Rattle.mi_multi.specs.Physical.{orders_of, plan, node_in}
 use Rattle.mi_multi.specs.Multi.{own_lists, plain_of}
 use Rattle.mi_multi.specs.Before.{node_before}
 use Rattle.mi_multi.proofs.Every.{sequenced_order}
 use Rattle.mi_multi.proofs.Answers.{live_is, none_has, row_is}
 use Rattle.mi_multi.proofs.Coming.{IsBefore}
 
-tested : (a b : ℕ) → a ≡ b → (a == b) ≡ true
+pub tested : (a b : ℕ) → a ≡ b → (a == b) ≡ true
 tested a b same = elim (eqb_tells a b) [ inl is ↦ is.0 | inr isnt ↦ absurd (isnt.1 same) ]
 
 pub record Accepted (s : Shape) (at : Option (ℕ × ℕ)) (r : List Value) (t : Table) : Type 0 where
@@ -96,15 +96,15 @@ module _ (s : Shape) (at : Option (ℕ × ℕ)) (r : List Value) (t : Table) whe
       passed_size h f ∙ ap (λ w. cond (w || is_spent t.arrivals) (Some Spent) (option_map as_unique (conflict s t r None))) (is_other t.next LAST_COUNT n)
       ∙ ap (λ w. cond w (Some Spent) (option_map as_unique (conflict s t r None))) (tested t.arrivals LAST_COUNT a)
 
-  pub none_refuses : not (has_place t (option_map (λ p. p.1) at)) ≡ false → (size t ≡ s.max_rows → ⊥) → (t.next ≡ LAST_COUNT → ⊥) → (t.arrivals ≡ LAST_COUNT → ⊥) → conflict s t r None ≡ None → insert_refusal s at r t ≡ None
-  none_refuses h f n a alone =
+  pub unique_refuses : not (has_place t (option_map (λ p. p.1) at)) ≡ false → (size t ≡ s.max_rows → ⊥) → (t.next ≡ LAST_COUNT → ⊥) → (t.arrivals ≡ LAST_COUNT → ⊥)
+      → insert_refusal s at r t ≡ option_map as_unique (conflict s t r None)
+  unique_refuses h f n a =
       passed_size h f ∙ ap (λ w. cond (w || is_spent t.arrivals) (Some Spent) (option_map as_unique (conflict s t r None))) (is_other t.next LAST_COUNT n)
       ∙ ap (λ w. cond w (Some Spent) (option_map as_unique (conflict s t r None))) (is_other t.arrivals LAST_COUNT a)
-      ∙ ap (option_map as_unique) alone
 
 -- A refusal that is the definition's is met
 
-refused_meets : (A : Type 0) {S : Type 0} (e : Refusal) (t : S) → MeetsRefusal {A = A} (Err e, t) e t t
+pub refused_meets : (A : Type 0) {S : Type 0} (e : Refusal) (t : S) → MeetsRefusal {A = A} (Err e, t) e t t
 refused_meets A Line t = (refl, refl)
 refused_meets A Json t = (refl, refl)
 refused_meets A Form t = (refl, refl)

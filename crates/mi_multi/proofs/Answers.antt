@@ -82,11 +82,11 @@ module _ (s : Shape) (ids : FinMap nat_cmp IdEntry) (m : Pooled Stored) (xs : Li
       outcome : Bool → Outcome (Unit {0})
       outcome b = cond b (Ok tt, erase e (table_of d)) (Err NoId, table_of d)
 
-  pub erase_made : (r : Ref) (new : Data) → live_node ids e ≡ Some r → new ≡ erased e d → Makes s (Erase e None) d (Erased (record { id = e; at = r }) None) new
-  erase_made r new h is = record {
+  pub erase_made : (why : Option (ℕ × ℕ)) (r : Ref) (new : Data) → live_node ids e ≡ Some r → new ≡ erased e d → Makes s (Erase e why) d (Erased (record { id = e; at = r }) why) new
+  erase_made why r new h is = record {
     allowed = (node_in m (plan s.indexes) r, row_is r h);
     changed_data = is;
-    inverse = ap (λ o. Erased (record { id = e; at = at_in o }) None) (sym (row_is r h));
+    inverse = ap (λ o. Erased (record { id = e; at = at_in o }) why) (sym (row_is r h));
   }
 
   -- The inverse of an erased row

@@ -62,7 +62,7 @@ self_equal Less h = absurd (cc)
 self_equal Equal h = refl
 self_equal Greater h = absurd (cc)
 
-own_key : (ps : List KeyPart) (r : List Value) → is_eq (compare_key ps r r) ≡ true
+pub own_key : (ps : List KeyPart) (r : List Value) → is_eq (compare_key ps r r) ≡ true
 own_key ps r = let o : IsTotalOrder (compare_key ps) = compare_key_total ps in self_equal (compare_key ps r r) (o.antisymm r r)
 
 module _ (ids : FinMap nat_cmp IdEntry) (m n : Pooled Stored) (os : List Order) (held : (e : ℕ) (a : IdEntry) → get ids e ≡ Some a → HasNode m e a.node) (values : (k : ℕ) → value_of n k ≡ value_of m k) (e : ℕ) (r : Ref)

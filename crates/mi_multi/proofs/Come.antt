@@ -74,7 +74,7 @@ not_named name (r ∷ rows) up each =
 
 -- Stamps where a node has come in
 
-stamp_others : (i : Index) (x : Structure) (m n : Pooled Stored) (r : Ref) (l : List ℕ) (stamp : ℕ) → IsFor i x → HasStamp x m n r stamp → has_stamps (order_of i.kind i.parts l) ≡ true
+pub stamp_others : (i : Index) (x : Structure) (m n : Pooled Stored) (r : Ref) (l : List ℕ) (stamp : ℕ) → IsFor i x → HasStamp x m n r stamp → has_stamps (order_of i.kind i.parts l) ≡ true
     → (k : ℕ) → (r.name == k) ≡ false → (link_of n k (slot_in x)).tag.stamp ≡ (link_of m k (slot_in x)).tag.stamp
 stamp_others i (Ordered t) m n r l stamp f h has k ne = ap (λ (w : Tag). w.stamp) (h.1 k ne)
 stamp_others i (Hashed c) m n r l stamp f h has k ne = ap (λ (w : Tag). w.stamp) (h.1 k ne)
@@ -84,7 +84,7 @@ sorted_new : (n : Pooled Stored) (k x now : ℕ) (ps : List KeyPart) → (link_o
 sorted_new n k x now [] is = refl
 sorted_new n k x now (p ∷ ps) is = is
 
-one_new : (i : Index) (x : Structure) (m n : Pooled Stored) (r : Ref) (k now : ℕ) → IsFor i x → slot_in x ≡ k → HasStamp x m n r now
+pub one_new : (i : Index) (x : Structure) (m n : Pooled Stored) (r : Ref) (k now : ℕ) → IsFor i x → slot_in x ≡ k → HasStamp x m n r now
     → stamp_in n r.name k (order_of i.kind i.parts []) ≡ new_stamp now (order_of i.kind i.parts (own_list m x))
 one_new i (Ordered t) m n r k now f slot h =
     ap (stamp_in n r.name k) (sorted_parts i.kind i.parts [] f.0) ∙ sorted_new n r.name k now i.parts (ap (λ w. (link_of n r.name w).tag.stamp) (sym slot) ∙ h.0)

@@ -207,7 +207,7 @@ seq_known Q ids m n os qs g (one {s = s} {i = i} {x = x} {y = y} {rs = rs} {us =
     )
 
 -- whether an index has stamps doesn't depend on its list
-one_plan : (k : IndexKind) (ps : List KeyPart) (l u : List ℕ) → has_stamps (order_of k ps l) ≡ has_stamps (order_of k ps u)
+pub one_plan : (k : IndexKind) (ps : List KeyPart) (l u : List ℕ) → has_stamps (order_of k ps l) ≡ has_stamps (order_of k ps u)
 one_plan kind.Ordered ps l u = refl
 one_plan kind.Ranked ps l u = refl
 one_plan kind.Hashed ps l u = refl

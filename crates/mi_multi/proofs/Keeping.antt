@@ -1,8 +1,7 @@
 -- What is settled of an inverse by the row whose node it keeps.
-use Rattle.std.proofs.Common.{◌≡◌, refl, ap, sym, ◌∙◌, subst}
+use Rattle.std.proofs.Common.{◌≡◌, refl, ap, sym, subst}
 use Rattle.std.specs.declared.option.Option.TheVariants.{None, Some}
 use Rattle.mi_container.specs.Data.{Data}
-use Rattle.mi_container.specs.Changes.{left_out}
 use Rattle.mi_container.specs.Inverse.{RowRef, Inverse, settled}
 use Rattle.mi_container.specs.Inverse.Inverse.{Inserted, Put, Erased, Relocated, Nothing}
 use Rattle.mi_container.specs.Fits.{IsKept, KeptBy}

@@ -40,7 +40,7 @@ use Rattle.mi_multi.proofs.Probes as probes
 use Rattle.mi_multi.proofs.Calls.{in_order, ranked}
 
 -- nothing stands behind the end
-past_end : (ids : List ℕ) (k : ℕ) → slice_get ids k ≡ None → length ids ≤ k
+pub past_end : (ids : List ℕ) (k : ℕ) → slice_get ids k ≡ None → length ids ≤ k
 past_end [] k none = omega arith
 past_end (a ∷ ids) zero none = absurd (let bad : Some a ≡ None = none in cc)
 past_end (a ∷ ids) (suc k) none = let l : length ids ≤ k = past_end ids k none in omega arith

@@ -30,3 +30,14 @@ pub mod Probes
 pub mod Calls
 pub mod KeyCalls
 pub mod Keeping
+pub mod RowMoves
+pub mod Unput
+pub mod Unputting
+pub mod Rivals
+pub mod Holders
+pub mod Replaced
+pub mod KeyCounts
+pub mod Revalued
+pub mod NewRecord
+pub mod OldPlaces
+pub mod PutCalls

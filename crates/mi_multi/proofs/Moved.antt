@@ -1,5 +1,5 @@
 -- A row moves in one sequenced index: what the pool and the structures say then are the data with it there, and all stands.
-use Rattle.std.proofs.Common.{◌≡◌, ◌≢◌, ℕ, ◌+◌, ◌<◌, ◌≤◌, zero, suc, Bool, true, false, cond, inl, inr, List, [], ◌∷◌, ◌++◌, map, get_or, set, length, refl, ap, sym, ◌∙◌, subst, arith}
+use Rattle.std.proofs.Common.{◌≡◌, ◌≢◌, ℕ, ◌+◌, ◌<◌, ◌≤◌, Bool, true, false, cond, inl, inr, List, [], ◌∷◌, ◌++◌, map, get_or, set, length, refl, ap, sym, ◌∙◌, subst, arith}
 use Rattle.std.specs.Prelude.{◌==◌}
 use Rattle.std.specs.List.{AllByRecursion}
 use Rattle.std.specs.Option.{option_map, option_and_then}
@@ -26,7 +26,7 @@ use Rattle.mi_index.specs.declared.structure.Structure.{Structure}
 use Rattle.mi_index.specs.declared.structure.Structure.TheVariants.{Ordered, Hashed, Sequenced}
 use Rattle.mi_index.specs.Standing.{slot_in}
 use Rattle.mi_index.specs.Pass.{AllCan, AllLike, AreChanged, IsPass}
-use Rattle.mi_index.specs.Inserting.{relocating, relocated as moves_to, IsPlace, CanRelocate, CanRelocateIf, IsPlaced, IsRelocated, IsRelocatedIf}
+use Rattle.mi_index.specs.Inserting.{relocating, relocated as moves_to, IsPlace, CanRelocate, CanRelocateIf, IsRelocated, IsRelocatedIf}
 use Rattle.mi_container.specs.Data.{Data, Order, has_stamps, IsData}
 use Rattle.mi_container.specs.Data.Order.{ById, ByKey, ByHash, Listed}
 use Rattle.mi_container.specs.Changes.{sorted_order, in_order, moved_order}

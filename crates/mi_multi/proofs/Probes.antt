@@ -110,7 +110,7 @@ eq_turned Less = refl
 eq_turned Equal = refl
 eq_turned Greater = refl
 
-no_keys : (k : IndexKind) → has_keys k ≡ true → is_sequenced k ≡ true → ⊥
+pub no_keys : (k : IndexKind) → has_keys k ≡ true → is_sequenced k ≡ true → ⊥
 no_keys kind.Ordered a b = cc
 no_keys kind.Ranked a b = cc
 no_keys kind.Hashed a b = cc
@@ -151,7 +151,7 @@ module _ (s : Shape) (ids : FinMap nat_cmp IdEntry) (m : Pooled Stored) (xs : Li
   abbrev rs : List Ref
   rs = n.stood.rs
 
-  each_of : (P : Ref → Type 0) → ((q : Ref) → IsLiveRef ids m q → P q) → (qs : List Ref) → AllByRecursion (IsLiveRef ids m) qs → AllByRecursion P qs
+  pub each_of : (P : Ref → Type 0) → ((q : Ref) → IsLiveRef ids m q → P q) → (qs : List Ref) → AllByRecursion (IsLiveRef ids m) qs → AllByRecursion P qs
   each_of P f [] all = tt
   each_of P f (q ∷ qs) all = (f q all.0, each_of P f qs all.1)
 

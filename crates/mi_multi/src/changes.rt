@@ -1,9 +1,7 @@
 //! Changes of a container, and what takes each back.
-ghost use Rattle.std.specs.Prelude.{◌≡◌, not, List as Seq, Some, None, IfOk, IfErr, IfSome};
+ghost use Rattle.std.specs.Prelude.{◌≡◌, not, None, IfOk, IfErr, IfSome};
 ghost use Rattle.std.specs.Option.{option_map};
-ghost use Rattle.mi_value.specs.declared.value.Value.{Value};
 ghost use Rattle.mi_model.specs.Table.{has as has_row};
-ghost use Rattle.mi_model.specs.Conflict.{conflict};
 ghost use Rattle.mi_model.specs.Verdict.{has_place, insert_refusal, insert_outcome};
 ghost use Rattle.mi_container.specs.Asked.{IsSequenced, RecordFits};
 ghost use Rattle.mi_container.specs.Data.{IsData, table_of};
@@ -14,6 +12,7 @@ ghost use Rattle.mi_container.specs.Fits.{Ready, KeptBy};
 ghost use Rattle.mi_container.specs.Backs.{row_seen};
 ghost use Rattle.mi_multi.specs.Before.{node_before, kept_by};
 
+use crate::conflicts::unique_refusal;
 use crate::multi::MultiIndex;
 use mi_container::{Inverse, RowRef, Undo};
 use mi_ids::Ids;
@@ -100,7 +99,7 @@ impl MultiIndex {
     }
 
     /// Whether an id is of a live row.
-    fn has(&self, id: u64) -> bool
+    pub(crate) fn has(&self, id: u64) -> bool
         ensures { result ≡ has_row (table_of self.now.plain) id }
     {
         self.ids.live(id).is_some()
@@ -116,11 +115,9 @@ impl MultiIndex {
         }
     }
 
-    /// Why no record may be inserted there, by the rules that look at no record, or none.
-    fn early_refusal(&self, before: Option<(usize, u64)>) -> Option<Refusal>
-        ensures refused { (row : Seq Value) → IfSome result (λ e. insert_refusal self.now.shape before row (table_of self.now.plain) ≡ Some e) }
-        ensures passed { (row : Seq Value) → result ≡ None → conflict self.now.shape (table_of self.now.plain) row None ≡ None
-            → insert_refusal self.now.shape before row (table_of self.now.plain) ≡ None }
+    /// Why a record may not be inserted there, or none.
+    fn insert_refusal(&self, row: &Record, before: Option<(usize, u64)>) -> Option<Refusal>
+        ensures { result ≡ insert_refusal self.now.shape before row.now (table_of self.now.plain) }
     {
         if self.is_missing(before) {
             return Some(Refusal::NoId);
@@ -134,14 +131,14 @@ impl MultiIndex {
         if self.arrivals == LAST_COUNT {
             return Some(Refusal::Spent);
         }
-        None
+        unique_refusal(self.conflict(row, None))
     }
 
-    /// Adds a record that conflicts with none and answers its id. It goes last in each index among its equals; in the
-    /// sequenced index that `before` names it stands directly before the record that `before` names.
+    /// Adds a record and answers its id. It goes last in each index among its equals; in the sequenced index that `before`
+    /// names it stands directly before the record that `before` names.
     ///
-    /// Refusals, in this order: `NoId`, `Full`, `Spent`, `Memory`. The refused record is handed back.
-    pub fn insert_unique(
+    /// Refusals, in this order: `NoId`, `Full`, `Spent`, `Unique`, `Memory`. The refused record is handed back.
+    pub fn insert(
         &mut self,
         alloc: Global,
         row: Record,
@@ -149,7 +146,6 @@ impl MultiIndex {
     ) -> Result<(u64, Inverse), (Refusal, Record)>
         requires row { RecordFits self.old.shape row }
         requires before { IfSome before (λ at. IsSequenced self.old.shape at.0) }
-        requires alone { conflict self.old.shape (table_of self.old.plain) row None ≡ None }
         ensures outcome { MeetsOn (insert_outcome self.old.shape before row) (insert_answer result) self.old.plain self.new.plain }
         ensures made { IfOk result (λ p. MakesInsert self.old.shape before row self.old.plain p.1 self.new.plain) }
         ensures refused { IfErr result (λ e. self.new.plain ≡ self.old.plain) }
@@ -157,7 +153,7 @@ impl MultiIndex {
         ensures shape { self.new.shape ≡ self.old.shape }
     {
         self.keeps_rules();
-        if let Some(refusal) = self.early_refusal(before) {
+        if let Some(refusal) = self.insert_refusal(&row, before) {
             return Err((refusal, row));
         }
         match self.insert_accepted(alloc, row, before) {

@@ -80,11 +80,16 @@ impl MultiIndex {
         Some(&self.nodes.pool.value(node).row)
     }
 
-    /// Erases a record, whose node is kept for the inverse. Takes no memory. Refusal: `NoId`.
-    pub fn erase(&mut self, id: u64) -> Result<Inverse, Refusal>
+    /// Erases a record, whose node is kept for the inverse. The inverse says by which index and id a modify lost the record,
+    /// if one did. Takes no memory. Refusal: `NoId`.
+    pub(crate) fn erase_for(
+        &mut self,
+        id: u64,
+        why: Option<(usize, u64)>,
+    ) -> Result<Inverse, Refusal>
         ensures outcome { MeetsOn (erase_outcome id) (erase_answer result) self.old.plain self.new.plain }
         ensures memory { IfErr result (λ e. e ≢ Memory) }
-        ensures made { IfOk result (λ i. Makes self.old.shape (Erase id None) self.old.plain i self.new.plain) }
+        ensures made { IfOk result (λ i. Makes self.old.shape (Erase id why) self.old.plain i self.new.plain) }
         ensures refused { IfErr result (λ e. self.new.plain ≡ self.old.plain) }
         ensures shape { self.new.shape ≡ self.old.shape }
     {
@@ -93,7 +98,18 @@ impl MultiIndex {
         };
         self.nodes.take_out(node);
         self.ids.keep(id);
-        Ok(Inverse::new(Undo::Erased(RowRef { id, node }, None)))
+        Ok(Inverse::new(Undo::Erased(RowRef { id, node }, why)))
+    }
+
+    /// Erases a record, whose node is kept for the inverse. Takes no memory. Refusal: `NoId`.
+    pub fn erase(&mut self, id: u64) -> Result<Inverse, Refusal>
+        ensures outcome { MeetsOn (erase_outcome id) (erase_answer result) self.old.plain self.new.plain }
+        ensures memory { IfErr result (λ e. e ≢ Memory) }
+        ensures made { IfOk result (λ i. Makes self.old.shape (Erase id None) self.old.plain i self.new.plain) }
+        ensures refused { IfErr result (λ e. self.new.plain ≡ self.old.plain) }
+        ensures shape { self.new.shape ≡ self.old.shape }
+    {
+        self.erase_for(id, None)
     }
 
     /// Takes back that a row was erased: its node stands again in every index, where it stood. Takes no memory.

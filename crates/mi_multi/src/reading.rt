@@ -19,7 +19,7 @@ use mi_tree::Tree;
 use mi_value::{Probe, Steps, Value};
 
 /// The structure of the index of a number.
-fn structure_at(nodes: &Nodes, index: usize) -> &Structure
+pub(crate) fn structure_at(nodes: &Nodes, index: usize) -> &Structure
     requires { index < length nodes.now.structures.items }
     ensures { slice_get nodes.now.structures.items index ≡ Some result.now }
 {
@@ -27,7 +27,7 @@ fn structure_at(nodes: &Nodes, index: usize) -> &Structure
 }
 
 /// The id of a node, if there is one.
-fn id_of(p: &Pool<Stored>, node: Option<NodeRef>) -> Option<u64>
+pub(crate) fn id_of(p: &Pool<Stored>, node: Option<NodeRef>) -> Option<u64>
     requires { IfSome node (λ r. IsHeld p.now r) }
     ensures { result ≡ option_map (id_at p.now) node }
 {

@@ -300,6 +300,12 @@ impl Sessions for Plain {
         open
     }
 
+    /// It takes memory for whole copies when a change or a start needs them, and none ahead, so this promises nothing.
+    fn reserve(&mut self, changes: u64, sessions: u64) -> Result<(), Refusal> {
+        let _ = (changes, sessions);
+        Ok(())
+    }
+
     fn revision(&self) -> u64 {
         self.revision
     }

@@ -335,6 +335,7 @@ bound-fits c request.Squash h = tt
 bound-fits c (request.Commit revision) h = tt
 bound-fits c request.UndoAll h = tt
 bound-fits c request.Push h = tt
+bound-fits c (request.Reserve changes sessions) h = tt
 bound-fits c request.Revision h = tt
 bound-fits c (request.Get table id) h = over-table c table _ h (λ n there. there)
 bound-fits c (request.Find table index key) h = over-table c table _ h (λ n there. by_key c n has_keys is_hashed index key _ (λ k fits. (there, fits.0, fits.1)))

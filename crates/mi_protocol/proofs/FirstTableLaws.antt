@@ -58,6 +58,7 @@ no_name_is_the_first c request.Undo none = tt
 no_name_is_the_first c request.Squash none = tt
 no_name_is_the_first c request.UndoAll none = tt
 no_name_is_the_first c request.Push none = tt
+no_name_is_the_first c (request.Reserve changes sessions) none = tt
 no_name_is_the_first c request.Revision none = tt
 no_name_is_the_first c (request.Commit revision) none = tt
 
@@ -99,5 +100,6 @@ other_tables_are_not_seen c request.Undo none = refl
 other_tables_are_not_seen c request.Squash none = refl
 other_tables_are_not_seen c request.UndoAll none = refl
 other_tables_are_not_seen c request.Push none = refl
+other_tables_are_not_seen c (request.Reserve changes sessions) none = refl
 other_tables_are_not_seen c request.Revision none = refl
 other_tables_are_not_seen c (request.Commit revision) none = refl

@@ -61,6 +61,11 @@ pub enum Command {
     },
     UndoAll,
     Push,
+    /// Asks room for so many changes, at most 1,000,000, and so many sessions, at most 1,024.
+    Reserve {
+        changes: u64,
+        sessions: u64,
+    },
     Revision,
     Get {
         table: usize,
@@ -206,6 +211,7 @@ fn command_of(alloc: Global, request: Request, catalog: &Catalog) -> Result<Comm
         Request::Commit { revision } => Ok(Command::Commit { revision }),
         Request::UndoAll => Ok(Command::UndoAll),
         Request::Push => Ok(Command::Push),
+        Request::Reserve { changes, sessions } => Ok(Command::Reserve { changes, sessions }),
         Request::Revision => Ok(Command::Revision),
         Request::Get { table, id } => {
             let table = table_number(table, catalog)?;

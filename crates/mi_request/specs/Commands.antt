@@ -3,7 +3,7 @@ use Rattle.std.specs.Prelude.{ℕ, List, [], ◌∷◌, Bool, true, false, ◌&&
 use Rattle.serde_json.specs.Data.{Data, null, boolean, number, string, array, object, Items, Members, no_members}
 use Rattle.serde_json.specs.Find.{get_member, as_str, as_array, as_bool, as_object}
 use Rattle.mi_request.specs.Json.{has_only, natural, needed, optional, default, option_map₂, option_map₃, option_map₄, option_map₅, option_map₆}
-use Rattle.mi_value.specs.declared.limits.TheConstants.{MAX_PAGE}
+use Rattle.mi_value.specs.declared.limits.TheConstants.{MAX_PAGE, MAX_RESERVED_CHANGES, MAX_RESERVED_SESSIONS}
 use Rattle.mi_request.specs.declared.command.CommandName.{CommandName}
 use Rattle.mi_request.specs.declared.command.CommandName.TheVariants as name
 use Rattle.mi_request.specs.declared.request.End.{End}
@@ -27,6 +27,7 @@ command_named t =
     else if bytes_eq t (codes "commit") then Some name.Commit
     else if bytes_eq t (codes "undo_all") then Some name.UndoAll
     else if bytes_eq t (codes "push") then Some name.Push
+    else if bytes_eq t (codes "reserve") then Some name.Reserve
     else if bytes_eq t (codes "revision") then Some name.Revision
     else if bytes_eq t (codes "get") then Some name.Get
     else if bytes_eq t (codes "find") then Some name.Find
@@ -70,6 +71,13 @@ if_page n = if nat_le 1 n && nat_le n MAX_PAGE then Some n else None
 
 abbrev pub page : Data → Option ℕ
 page d = option_and_then if_page (natural d)
+
+-- a whole number from 0 to a limit
+abbrev pub if_up_to : ℕ → ℕ → Option ℕ
+if_up_to most n = if nat_le n most then Some n else None
+
+abbrev pub up_to : ℕ → Data → Option ℕ
+up_to most d = option_and_then (if_up_to most) (natural d)
 
 -- an end of a range by a key that is in it, or by one that isn't: an array, and not both
 abbrev pub one_end : Option Data → Option Data → Option End
@@ -144,6 +152,10 @@ form_of name.Squash = record { members = []; request = λ ms. Some request.Squas
 form_of name.Commit = record { members = codes "revision" ∷ []; request = λ ms. option_map request.Commit (needed natural (codes "revision") ms) }
 form_of name.UndoAll = record { members = []; request = λ ms. Some request.UndoAll }
 form_of name.Push = record { members = []; request = λ ms. Some request.Push }
+form_of name.Reserve = record {
+  members = codes "changes" ∷ codes "sessions" ∷ [];
+  request = λ ms. option_map₂ request.Reserve (needed (up_to MAX_RESERVED_CHANGES) (codes "changes") ms) (needed (up_to MAX_RESERVED_SESSIONS) (codes "sessions") ms);
+}
 form_of name.Revision = record { members = []; request = λ ms. Some request.Revision }
 form_of name.Get = record {
   members = codes "table" ∷ codes "id" ∷ [];
@@ -184,7 +196,7 @@ form_of name.UpperRank = record {
 }
 form_of name.Size = record { members = codes "table" ∷ []; request = λ ms. option_map request.Size (table_in ms) }
 
--- a change or a session command, which waits while another connection holds sessions
+-- a change, a session command or a reserve, which waits while another connection holds sessions
 abbrev pub keeps_out : Request → Bool
 keeps_out (request.Insert table row before) = true
 keeps_out (request.Replace table id row) = true
@@ -198,6 +210,7 @@ keeps_out request.Squash = true
 keeps_out (request.Commit revision) = true
 keeps_out request.UndoAll = true
 keeps_out request.Push = true
+keeps_out (request.Reserve changes sessions) = true
 keeps_out request.Revision = false
 keeps_out (request.Get table id) = false
 keeps_out (request.Find table index key) = false

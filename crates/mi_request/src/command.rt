@@ -17,6 +17,7 @@ pub(crate) enum CommandName {
     Commit,
     UndoAll,
     Push,
+    Reserve,
     Revision,
     Get,
     Find,
@@ -59,6 +60,8 @@ impl CommandName {
             Some(CommandName::UndoAll)
         } else if text == "push" {
             Some(CommandName::Push)
+        } else if text == "reserve" {
+            Some(CommandName::Reserve)
         } else if text == "revision" {
             Some(CommandName::Revision)
         } else if text == "get" {
@@ -109,6 +112,7 @@ impl CommandName {
             CommandName::Rank => &["cmd", "table", "index", "id"],
             CommandName::Size => &["cmd", "table"],
             CommandName::Commit => &["cmd", "revision"],
+            CommandName::Reserve => &["cmd", "changes", "sessions"],
             CommandName::Start
             | CommandName::Undo
             | CommandName::Squash

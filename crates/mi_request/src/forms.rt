@@ -5,13 +5,14 @@ ghost use Rattle.mi_request.specs.Lines as lines;
 ghost use Rattle.mi_request.specs.declared.command.CommandName.TheVariants as name;
 
 use crate::command::CommandName;
-use crate::members::{IndexMembers, PageMembers, RowMembers};
+use crate::members::{IndexMembers, PageMembers, RoomMembers, RowMembers};
 use crate::object::Object;
 use crate::reading::{
     array, flag, lower, natural, natural_if_there, natural_or_absent, needed_object,
-    object_or_empty, page, place, text, text_if_there, upper,
+    object_or_empty, page, place, text, text_if_there, up_to, upper,
 };
 use crate::request::Request;
+use mi_value::limits::{MAX_RESERVED_CHANGES, MAX_RESERVED_SESSIONS};
 use std::alloc::Global;
 
 fn insert_request(object: Object) -> Option<Request>
@@ -93,6 +94,15 @@ fn commit_request(object: Object) -> Option<Request>
     let mut object = object;
     let revision = natural(object.take("revision"))?;
     Some(Request::Commit { revision })
+}
+
+fn reserve_request(object: Object) -> Option<Request>
+    ensures { result ≡ (form_of name.Reserve).request object }
+{
+    let members = RoomMembers::of(object);
+    let changes = up_to(members.changes, MAX_RESERVED_CHANGES)?;
+    let sessions = up_to(members.sessions, MAX_RESERVED_SESSIONS)?;
+    Some(Request::Reserve { changes, sessions })
 }
 
 fn get_request(object: Object) -> Option<Request>
@@ -228,6 +238,7 @@ pub(crate) fn request_by(alloc: Global, name: CommandName, object: Object) -> Op
         CommandName::Commit => commit_request(object),
         CommandName::UndoAll => Some(Request::UndoAll),
         CommandName::Push => Some(Request::Push),
+        CommandName::Reserve => reserve_request(object),
         CommandName::Revision => Some(Request::Revision),
         CommandName::Get => get_request(object),
         CommandName::Find => find_request(object),

@@ -111,6 +111,27 @@ impl PageMembers {
     }
 }
 
+/// The members of a reserve, those that are there.
+#[derive(Debug, Drop)]
+pub(crate) struct RoomMembers {
+    pub(crate) changes: Option<Json>,
+    pub(crate) sessions: Option<Json>,
+}
+
+impl RoomMembers {
+    /// Those of an object.
+    pub(crate) fn of(object: Object) -> RoomMembers
+        ensures changes { option_map view result.changes ≡ get_member (codes "changes") object }
+        ensures sessions { option_map view result.sessions ≡ get_member (codes "sessions") object }
+    {
+        let mut left = object;
+        RoomMembers {
+            changes: left.take("changes"),
+            sessions: left.take("sessions"),
+        }
+    }
+}
+
 /// The members of an end of a range, those that are there.
 #[derive(Debug, Drop)]
 pub(crate) struct EndMembers {

@@ -161,6 +161,20 @@ pub(crate) fn natural_or_absent(member: Option<Json>) -> Option<Option<u64>>
     }
 }
 
+fn up_to_of(value: &Json, most: u64) -> Option<u64>
+    ensures { result ≡ commands.up_to most (view value.now) }
+{
+    let n = natural_of(value)?;
+    if n <= most { Some(n) } else { None }
+}
+
+/// A whole number from 0 to `most`.
+pub(crate) fn up_to(member: Option<Json>, most: u64) -> Option<u64>
+    ensures { result ≡ option_and_then (commands.up_to most) (option_map view member) }
+{
+    up_to_of(&member?, most)
+}
+
 fn page_of(value: &Json) -> Option<usize>
     ensures { result ≡ commands.page (view value.now) }
 {

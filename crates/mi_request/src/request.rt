@@ -80,6 +80,11 @@ pub enum Request {
     },
     UndoAll,
     Push,
+    /// Asks room for so many changes, at most 1,000,000, and so many sessions, at most 1,024.
+    Reserve {
+        changes: u64,
+        sessions: u64,
+    },
     Revision,
     Get {
         table: Option<Text>,
@@ -137,7 +142,7 @@ pub enum Request {
 }
 
 impl Request {
-    /// Whether it is a change or a session command, which is refused while another connection holds sessions.
+    /// Whether it is a change, a session command or a reserve, which is refused while another connection holds sessions.
     pub fn keeps_out(&self) -> bool
         ensures { result ≡ commands.keeps_out self.now }
     {
@@ -164,6 +169,7 @@ impl Request {
             | Request::Squash
             | Request::Commit { .. }
             | Request::UndoAll
+            | Request::Reserve { .. }
             | Request::Push => true,
         }
     }

@@ -37,6 +37,19 @@ fn lines_are_requests_or_refused(rt: HostRuntime) -> Result<(), Fail> {
         ("{\"cmd\":\"commit\",\"revision\":null}", "form"),
         ("{\"cmd\":\"undo_all\"}", "ok"),
         ("{\"cmd\":\"push\"}", "ok"),
+        (
+            "{\"cmd\":\"reserve\",\"changes\":1000000,\"sessions\":1024}",
+            "ok",
+        ),
+        (
+            "{\"cmd\":\"reserve\",\"changes\":1000001,\"sessions\":1}",
+            "form",
+        ),
+        (
+            "{\"cmd\":\"reserve\",\"changes\":3,\"sessions\":1025}",
+            "form",
+        ),
+        ("{\"cmd\":\"reserve\",\"changes\":3}", "form"),
         ("{\"cmd\":\"revision\"}", "ok"),
         ("{\"cmd\":\"revision\",\"table\":\"accounts\"}", "form"),
         ("{\"cmd\":\"get\",\"id\":0}", "ok"),
@@ -57,7 +70,7 @@ fn lines_are_requests_or_refused(rt: HostRuntime) -> Result<(), Fail> {
 }
 
 /// Lines of each command, with members and texts of each kind.
-const LINES: [&str; 16] = [
+const LINES: [&str; 17] = [
     "{\"cmd\":\"undo\"}",
     "{\"cmd\":\"size\",\"table\":\"accounts\"}",
     "{\"cmd\":\"get\",\"id\":7}",
@@ -68,6 +81,7 @@ const LINES: [&str; 16] = [
     "{\"cmd\":\"erase_key\",\"index\":\"by_class\",\"key\":[true,1]}",
     "{\"cmd\":\"relocate\",\"index\":\"line\",\"id\":1,\"before\":null}",
     "{\"cmd\":\"commit\",\"revision\":3}",
+    "{\"cmd\":\"reserve\",\"changes\":3,\"sessions\":1}",
     "{\"cmd\":\"nth\",\"index\":\"by_balance\",\"n\":0}",
     "{\"cmd\":\"range\",\"index\":\"by_class\",\"lower\":{\"ge\":[true,-3]},\"upper\":{\"lt\":[false]},\"limit\":10}",
     "{\"cmd\":\"list\",\"index\":\"line\",\"after\":4,\"limit\":1000}",
@@ -124,7 +138,7 @@ fn with_piece(
 }
 
 fn random_line(alloc: Global, state: &mut u64) -> Result<Vec<u8>, AllocError> {
-    let mut line = LINES[next(state) % 16].as_bytes().to_vec(alloc)?;
+    let mut line = LINES[next(state) % 17].as_bytes().to_vec(alloc)?;
     for _ in 0..next(state) % 4 {
         let at = next(state) % 96;
         let left_out = next(state) % 3;

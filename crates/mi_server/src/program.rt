@@ -19,8 +19,9 @@ use crate::listener::serve_listener;
 use crate::serve::serve;
 use crate::source::catalog;
 use crate::words::{Options, WordsFault, read_words};
+use mi_database::Linked;
 use mi_hub::{Hub, IoErrors, Watched};
-use mi_plain::Plain;
+use mi_multi::MultiIndex;
 use mi_sessions::Sessions;
 use std::convert::AsStr;
 use std::io;
@@ -88,7 +89,7 @@ fn perform<R: Files + Net + AllocGlobal, I: Read, O: Write>(
     if options.check {
         return confirm(writer).map_err(|_error| Failure::Write);
     }
-    let Ok(database) = Plain::new(rt.alloc(), catalog) else {
+    let Ok(database) = Linked::<MultiIndex>::new(rt.alloc(), catalog) else {
         return Err(Failure::Memory);
     };
     match options.listen {

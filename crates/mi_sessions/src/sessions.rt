@@ -3,6 +3,7 @@
 ghost use Rattle.std.specs.Prelude.{◌≡◌, ℕ, IsTrue, IfSome, IfErr};
 ghost use Rattle.std.specs.declared.option.Option.{Option as Maybe};
 ghost use Rattle.std.specs.Option.{option_copied};
+ghost use Rattle.mi_value.specs.declared.refusal.Refusal.TheVariants.{Memory};
 ghost use Rattle.mi_catalog.specs.Fitting.{HasTable, IsKeyedIndex, IsHashedIndex, IsSortedIndex, IsSequencedIndex, IsListedIndex};
 ghost use Rattle.mi_catalog.specs.Fitting.{FitsTable, EditsFit, FitsWhole, FitsPrefix};
 ghost use Rattle.mi_model.specs.Table.{get as get_row, has as has_row, size as size_of};
@@ -249,6 +250,13 @@ pub trait Sessions {
     fn undo_all(&mut self) -> u64
         ensures answer { result ≡ depth_of (state self.old) }
         ensures state { state self.new ≡ undone_times (depth_of (state self.old)) (state self.old) };
+
+    /// Asks for memory ahead of its use: for so many changes inside sessions, and for so many starts. Which calls are then not
+    /// refused for memory is the database's to say. Tables, sessions and the revision stay as they are, whatever is
+    /// answered. Refusal: `Memory`.
+    fn reserve(&mut self, changes: u64, sessions: u64) -> Result<(), Refusal>
+        ensures same { state self.new ≡ state self.old }
+        ensures memory { IfErr result (λ e. e ≡ Memory) };
 
     /// The number of the newest session, or where none is open the one it opened with.
     fn revision(&self) -> u64

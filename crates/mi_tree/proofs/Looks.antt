@@ -5,14 +5,14 @@ use Rattle.std.specs.declared.cmp.Ordering.TheVariants.{Less, Equal, Greater}
 use Rattle.std.specs.Ordering.{is_eq, nat_cmp, ordering_then}
 use Rattle.mi_node.proofs.Callers.{held_has}
 use Rattle.mi_node.specs.Neighbours.{AreHeld}
-use Rattle.mi_node.specs.Pool.{Pooled, link_of, value_of, IsHeld}
+use Rattle.mi_node.specs.Pool.{Pooled, link_of, value_of, IsHeld, IsHeldIf}
 use Rattle.mi_node.specs.Refs.{Ref}
 use Rattle.mi_node.specs.declared.link.Link.{Link}
-use Rattle.mi_tree.specs.Shape.{Shape, nodes, height, Stands, IsRooted, size_at, height_at, nth_of}
+use Rattle.mi_tree.specs.Shape.{Shape, nodes, height, Stands, IsRooted, size_at, height_at, link_at, links_of, nth_of}
 use Rattle.mi_tree.specs.Order.{IsNoLater, IsMonotone}
 use Rattle.mi_tree.specs.Sorted.{AllAre, Rising, HasTag, AreTagged, by_stamp, stamped, compared, item_of, side}
 use Rattle.mi_tree.specs.Probed.{past, place_at, past_value, is_past_node, is_value_at, is_node_at, first_where, AllWhere, IsSteady}
-use Rattle.mi_tree.proofs.Shapes.{moved, tip_is, same_tree, Sides, sides, size-root, height-root, size-nodes, nth-before, nth-at, nth-after, all_held}
+use Rattle.mi_tree.proofs.Shapes.{moved, tip_is, same_tree, Sides, sides, size-root, height-root, held-root, size-nodes, nth-before, nth-at, nth-after, all_held}
 use Rattle.mi_tree.proofs.Sorts.{tagged_left, tagged_right}
 
 -- the first, or what was found before
@@ -306,6 +306,77 @@ module _ {T : Type 0} where
     count_end at n a b h e t w =
         let same = same_tree m s root t h.t w h.whole in let tall = ap height same in let k = h.reads in let tip = tip_is m s h.u (moved m m s at None h.u refl e h.rooted) in
         (sym (ap (λ k. nth_of (nodes k) n0) same ∙ h.is ∙ ap (λ k. nth_of (nodes k) n) tip), omega arith)
+
+at_most_one : (o : Option Ref) → links_of o ≤ 1
+at_most_one None = omega arith
+at_most_one (Some r) = omega arith
+
+module _ {T : Type 0} where
+  size_of_link : (m : Pooled T) (s : ℕ) (o : Option Ref) (y : Link) → y ≡ link_at m s o → y.size ≡ size_at m s o
+  size_of_link m s None y e = ap (λ (z : Link). z.size) e
+  size_of_link m s (Some r) y e = ap (λ (z : Link). z.size) e
+
+  -- a way down on which the link of the next node is read already
+  pub record Carrying (m : Pooled T) (s : ℕ) (root at back forth : Option Ref) (n0 n read0 read : ℕ) : Type 0 where
+    pub counted : ℕ
+    pub counting : Counting m s root at n0 n read0 counted
+    pub back_is : back ≡ (link_at m s at).back
+    pub forth_is : forth ≡ (link_at m s at).forth
+    pub reads : read ≤ counted + links_of at
+
+  module _ (m : Pooled T) (s : ℕ) (root : Option Ref) (n0 : ℕ) where
+    pub carry_start : (t : Shape) → IsRooted m s root t → (y : Link) → y ≡ link_at m s root → (a b : ℕ) → b ≡ a + links_of root → Carrying m s root root y.back y.forth n0 n0 a b
+    carry_start t h y i a b e = record { counted = a; counting = count_start m s root n0 t h a; back_is = ap (λ (z : Link). z.back) i; forth_is = ap (λ (z : Link). z.forth) i; reads = omega arith }
+
+    module _ (at back forth : Option Ref) (r : Ref) (n a b : ℕ) (h : Carrying m s root at back forth n0 n a b) (e : at ≡ Some r) where
+      abbrev here : Link
+      here = link_of m r.name s
+
+      is_back : here.back ≡ back
+      is_back = sym (h.back_is ∙ ap (λ o. (link_at m s o).back) e)
+
+      is_forth : here.forth ≡ forth
+      is_forth = sym (h.forth_is ∙ ap (λ o. (link_at m s o).forth) e)
+
+      pub carry_held : IsHeldIf m back × IsHeldIf m forth
+      carry_held = let o = count_sides m s root n0 at r here n a h.counted h.counting e refl in
+          (subst (IsHeldIf m) is_back (held-root m s here.back o.A o.left), subst (IsHeldIf m) is_forth (held-root m s here.forth o.B o.right))
+
+      pub carry_lower : (height_at m s back < height_at m s at) × (height_at m s forth < height_at m s at)
+      carry_lower = let o = count_lower m s root n0 at r here n a h.counted h.counting e refl in
+          (subst (λ k. height_at m s k < height_at m s at) is_back o.0, subst (λ k. height_at m s k < height_at m s at) is_forth o.1)
+
+      module _ (w : Link) (i : w ≡ link_at m s back) (c : ℕ) (f : c ≡ b + links_of back) where
+        low : c ≤ h.counted + 2
+        low = let k = h.reads in let j = ap links_of e in let g = at_most_one back in omega arith
+
+        before_is : w.size ≡ size_at m s here.back
+        before_is = size_of_link m s back w i ∙ ap (size_at m s) (sym is_back)
+
+        pub carry_ends : n ≡ w.size → (t : Shape) → IsRooted m s root t → (Some r ≡ nth_of (nodes t) n0) × (c ≤ a + 2 * height t)
+        carry_ends g t k = count_here m s root n0 at r here n a h.counted h.counting e refl c low (g ∙ before_is) t k
+
+        pub carry_left : n < w.size → Carrying m s root back w.back w.forth n0 n a c
+        carry_left g = let k = h.reads in let j = ap links_of e in let z = before_is in record {
+          counted = h.counted + 2;
+          counting = subst (λ o. Counting m s root o n0 n a (h.counted + 2)) is_back (count_left m s root n0 at r here n a h.counted h.counting e refl (h.counted + 2) (omega arith) (omega arith));
+          back_is = ap (λ (z : Link). z.back) i;
+          forth_is = ap (λ (z : Link). z.forth) i;
+          reads = omega arith;
+        }
+
+        pub carry_right : (d : ℕ) → n ≡ suc (w.size + d) → (v : Link) → v ≡ link_at m s forth → (c2 : ℕ) → c2 ≡ c + links_of forth → Carrying m s root forth v.back v.forth n0 d a c2
+        carry_right d g v l c2 x = let k = h.reads in let j = ap links_of e in let u = at_most_one back in let z = before_is in record {
+          counted = h.counted + 2;
+          counting = subst (λ o. Counting m s root o n0 d a (h.counted + 2)) is_forth (count_right m s root n0 at r here n a h.counted h.counting e refl (h.counted + 2) (omega arith) d (omega arith));
+          back_is = ap (λ (z : Link). z.back) l;
+          forth_is = ap (λ (z : Link). z.forth) l;
+          reads = omega arith;
+        }
+
+    pub carry_none : (at back forth : Option Ref) (n a b : ℕ) (h : Carrying m s root at back forth n0 n a b) → at ≡ None → (t : Shape) → IsRooted m s root t → (None ≡ nth_of (nodes t) n0) × (b ≤ a + 2 * height t)
+    carry_none at back forth n a b h e t w =
+        let on = count_end m s root n0 at n a h.counted h.counting e t w in let k = h.reads in let j = ap links_of e in let g = on.1 in (on.0, omega arith)
 
 -- and has the tag of its value
 pub found_tag : {T : Type 0} (tag : T → ℕ) (m : Pooled T) (s : ℕ) (f : Ref → Bool) (rs : List Ref) (r : Ref) → AreTagged tag m s rs → Some r ≡ first_where f rs → HasTag tag m s r

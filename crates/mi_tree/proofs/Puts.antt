@@ -5,6 +5,7 @@ use Rattle.std.specs.declared.cmp.Ordering.TheVariants.{Less, Equal, Greater}
 use Rattle.mi_node.specs.Pool.{Pooled, link_of, IsHeld, Keeps}
 use Rattle.mi_node.specs.declared.link.Link.{Link}
 use Rattle.mi_node.specs.Refs.{Ref, IsOut, IsApart, AreOut}
+use Rattle.mi_node.proofs.Callers.{flip}
 use Rattle.mi_node.proofs.Keeping.{keeps_none, keeps_then, held_kept}
 use Rattle.mi_node.proofs.Refs.{out_left, out_right, out_both, apart_across, apart_insert, between, are_out_cons, are_out_flip}
 use Rattle.mi_tree.specs.Shape.{Shape, Tip, Fork, nodes, size, height, DifferByAtMost, IsEven, height_at}
@@ -127,6 +128,15 @@ module _ {T : Type 0} where
           near = (omega arith, omega arith);
           fits = omega arith;
         }
+
+    -- the root's link is as it was
+    pub still_left : HasPut m n s R x o.A new higher u → link_of n root.name s ≡ link_of m root.name s
+    still_left h = let A = nodes o.A in let B = nodes o.B in
+        h.keeps.other_nodes root.name s (flip root.name x.name ∙ (out_right x.name A (root ∷ B) o.out).0, (between A root B o.apart).out_left)
+
+    pub still_right : HasPut m n s R x o.B new higher u → link_of n root.name s ≡ link_of m root.name s
+    still_right h = let A = nodes o.A in let B = nodes o.B in
+        h.keeps.other_nodes root.name s (flip root.name x.name ∙ (out_right x.name A (root ∷ B) o.out).0, (between A root B o.apart).out_right)
 
     -- what the new link of the root says
     pub says_left : (w : Link) → w.size ≡ y.size + 1 → w.height ≡ y.height → w.tag ≡ y.tag → HasPut m n s R x o.A new higher u → Says n s root w higher u o.B

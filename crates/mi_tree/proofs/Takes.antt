@@ -145,6 +145,13 @@ module _ {T : Type 0} where
           fits = omega arith;
         }
 
+    -- the root's link is as it was
+    pub still_left : nodes o.A ≡ xs ++ x ∷ ys → HasTaken m n s o.A (xs ++ ys) rest lower u → link_of n root.name s ≡ link_of m root.name s
+    still_left e h = h.keeps.other_nodes root.name s (out_less root.name xs x ys (subst (IsOut root.name) e (between (nodes o.A) root (nodes o.B) o.apart).out_left))
+
+    pub still_right : nodes o.B ≡ xs ++ x ∷ ys → HasTaken m n s o.B (xs ++ ys) rest lower u → link_of n root.name s ≡ link_of m root.name s
+    still_right e h = h.keeps.other_nodes root.name s (out_less root.name xs x ys (subst (IsOut root.name) e (between (nodes o.A) root (nodes o.B) o.apart).out_right))
+
     -- what the new link of the root says
     pub says_left : (w : Link) → w.size ≡ y.size - 1 → w.height ≡ y.height → w.tag ≡ y.tag → nodes o.A ≡ xs ++ x ∷ ys → HasTaken m n s o.A (xs ++ ys) rest lower u → Says n s root w lower u o.B
     says_left w a b c e h = let d = less_size o.A u xs x ys e h.nodes_are in let i = o.size_is in let j = o.height_is in let near = o.even.0 in record {

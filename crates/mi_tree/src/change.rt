@@ -16,6 +16,9 @@ use std::cmp::Ordering;
 
 /// Puts a node of that tag in, which has no sides, and which no node there compares Equal to. The new
 /// root, and whether the tree is a level higher.
+///
+/// On the way back each link is read again, right before it is set: the compiler then writes only the
+/// parts that change.
 pub(crate) fn put_in<T, O: NodeOrder<T>>(
     p: &mut Pool<T>,
     slot: usize,
@@ -39,19 +42,21 @@ pub(crate) fn put_in<T, O: NodeOrder<T>>(
     match compare_nodes(&Counted::new(p), order, node, tag, root, link.tag, steps) {
         Ordering::Less => {
             let (left, higher) = put_in(p, slot, order, link.back, node, tag, steps);
+            let above = p.link(root, slot);
             let link = Link {
                 back: Some(left),
                 size: link.size + 1,
-                ..link
+                ..above
             };
             settle(p, slot, root, link, higher)
         }
         _ => {
             let (right, higher) = put_in(p, slot, order, link.forth, node, tag, steps);
+            let above = p.link(root, slot);
             let link = Link {
                 forth: Some(right),
                 size: link.size + 1,
-                ..link
+                ..above
             };
             settle(p, slot, root, link, higher)
         }
@@ -134,10 +139,11 @@ pub(crate) fn take_out<T, O: NodeOrder<T>>(
     match compare_nodes(&Counted::new(p), order, node, tag, root, link.tag, steps) {
         Ordering::Less => {
             let (left, lower) = take_out(p, slot, order, link.back, node, tag, steps);
+            let above = p.link(root, slot);
             let link = Link {
                 back: left,
                 size: link.size - 1,
-                ..link
+                ..above
             };
             let (root, lower) = settle(p, slot, root, link, lower);
             (Some(root), lower)
@@ -145,10 +151,11 @@ pub(crate) fn take_out<T, O: NodeOrder<T>>(
         Ordering::Equal => append(p, slot, link.back, link.forth, link.height),
         Ordering::Greater => {
             let (right, lower) = take_out(p, slot, order, link.forth, node, tag, steps);
+            let above = p.link(root, slot);
             let link = Link {
                 forth: right,
                 size: link.size - 1,
-                ..link
+                ..above
             };
             let (root, lower) = settle(p, slot, root, link, lower);
             (Some(root), lower)

@@ -5,11 +5,11 @@ ghost use Rattle.mi_node.specs.Refs.{Ref};
 ghost use Rattle.mi_node.specs.Pool.{IsHeldIf, link_of};
 ghost use Rattle.mi_tree.specs.Sorted.{side, AreTagged, Rising, CanTake};
 ghost use Rattle.mi_tree.specs.Probed.{past, is_past_node, first_where, IsSteady};
-ghost use Rattle.mi_tree.specs.Shape.{Shape, IsRooted, nodes, height, size_at, nth_of};
+ghost use Rattle.mi_tree.specs.Shape.{Shape, IsRooted, nodes, height, size_at, link_at, links_of, nth_of};
 
 use crate::compare::{compare_nodes, compare_probe};
 use crate::order::NodeOrder;
-use mi_node::{Counted, NodeRef, Tag};
+use mi_node::{Counted, Link, NO_LINK, NodeRef, Tag};
 use mi_value::{Probe, Steps};
 use std::cmp::Ordering;
 
@@ -27,7 +27,21 @@ pub(crate) fn size<T>(p: &mut Counted<T>, slot: usize, at: Option<NodeRef>) -> u
     }
 }
 
-/// The node of an index in order, counted from 0.
+/// The link of the node, if there is one, and else one that was never set. At most one read.
+fn link_ahead<T>(p: &mut Counted<T>, slot: usize, at: Option<NodeRef>) -> Link
+    requires held { IsHeldIf p.old.pool at }
+    requires slot { slot < p.old.pool.slots }
+    ensures link { result ≡ link_at p.old.pool slot at }
+    ensures pool { p.new.pool ≡ p.old.pool }
+    ensures reads { p.new.reads ≡ p.old.reads + links_of at }
+{
+    match at {
+        None => NO_LINK,
+        Some(node) => p.link(node, slot),
+    }
+}
+
+/// The node of an index in order, counted from 0. Going left, it goes on with the link that it has read.
 pub(crate) fn nth_in<T>(
     p: &mut Counted<T>,
     slot: usize,
@@ -40,18 +54,24 @@ pub(crate) fn nth_in<T>(
     ensures pool { p.new.pool ≡ p.old.pool }
     ensures reads { (t : Shape) → IsRooted p.old.pool slot root t → p.new.reads ≤ p.old.reads + 2 * height t }
 {
-    let (mut at, mut left) = (root, n);
+    let above = Link {
+        back: root,
+        ..NO_LINK
+    };
+    let (mut at, mut left) = (above.back, n);
+    let mut link = link_ahead(p, slot, above.back);
     while let Some(node) = at {
-        let link = p.link(node, slot);
-        let before = size(p, slot, link.back);
-        if left == before {
+        let before = link_ahead(p, slot, link.back);
+        if left == before.size {
             return Some(node);
         }
-        if left < before {
+        if left < before.size {
             at = link.back;
+            link = before;
         } else {
+            left = left - before.size - 1;
             at = link.forth;
-            left = left - before - 1;
+            link = link_ahead(p, slot, link.forth);
         }
     }
     None

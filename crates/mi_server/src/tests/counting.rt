@@ -184,6 +184,10 @@ impl<D: Sessions> Sessions for Counting<D> {
         self.inner.undo_all()
     }
 
+    fn reserve(&mut self, changes: u64, sessions: u64) -> Result<(), Refusal> {
+        self.inner.reserve(changes, sessions)
+    }
+
     fn revision(&self) -> u64 {
         self.inner.revision()
     }

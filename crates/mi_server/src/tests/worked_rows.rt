@@ -526,6 +526,10 @@ pub(super) const SESSIONS: [Row; 12] = [
 = {"error":"session","ok":false}
 1 {"cmd":"size"}
 = {"ok":true,"size":1}
+1 {"cmd":"reserve","changes":3,"sessions":1}
+= {"ok":true}
+1 {"cmd":"reserve","changes":1000001,"sessions":1}
+= {"error":"form","ok":false}
 "#,
     ),
     (

@@ -1,5 +1,5 @@
-use Rattle.std.proofs.Common.{true, Some, sym, ◌∙◌}
-use Rattle.mi_tree.specs.Shape.{Fork, height}
+use Rattle.std.proofs.Common.{Some, sym, ◌∙◌}
+use Rattle.mi_tree.specs.Shape.{Fork}
 use Rattle.mi_tree.proofs.Shapes.{height-root}
 use Rattle.mi_tree.proofs.Turns.{plain_is, settled, same_number}
 use Rattle.mi_tree.proofs.balance.settle.Goals as goal

@@ -1,4 +1,4 @@
-use Rattle.std.proofs.Common.{ℕ, ◌<◌, true, false, Some, refl, sym, ap, ◌∙◌, subst}
+use Rattle.std.proofs.Common.{ℕ, ◌<◌, Some, refl, sym, ap, ◌∙◌, subst}
 use Rattle.mi_node.specs.Pool.{Pooled, link_of, value_of, IsHeld}
 use Rattle.mi_node.specs.declared.link.Link.{Link}
 use Rattle.mi_tree.specs.Shape.{height_at}

@@ -1,11 +1,11 @@
-use Rattle.std.proofs.Common.{◌≡◌, ap, sym, ◌∙◌, subst}
+use Rattle.std.proofs.Common.{◌≡◌, sym, subst}
 use Rattle.std.specs.Option.{option_map}
 use Rattle.mi_container.specs.Data.{Data, IsData}
 use Rattle.mi_container.specs.Inverse.{RowRef, taken_back}
 use Rattle.mi_container.specs.Inverse.Inverse.{Relocated}
 use Rattle.mi_container.specs.Fits.{Ready}
 use Rattle.mi_container.specs.Backs.{row_seen}
-use Rattle.mi_multi.specs.Multi.{IsMulti, plain_of}
+use Rattle.mi_multi.specs.Multi.{plain_of}
 use Rattle.mi_multi.specs.Seen.{Seen}
 use Rattle.mi_multi.proofs.Uninserting.{live_there}
 use Rattle.mi_multi.proofs.Moved.{IsOtherNode, other_node, can_move, moved_seen, moved_multi}

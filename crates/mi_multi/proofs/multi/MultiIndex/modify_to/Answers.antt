@@ -1,0 +1,15 @@
+use Rattle.std.proofs.Common.{◌≢◌, ap, sym, ◌∙◌}
+use Rattle.mi_value.specs.declared.limits.TheConstants.{LAST_COUNT}
+use Rattle.mi_container.proofs.Facts.{there_has}
+use Rattle.mi_multi.specs.Seen.{Seen}
+use Rattle.mi_multi.proofs.Replaced.{put_meets}
+use Rattle.mi_multi.proofs.multi.MultiIndex.modify_to.Goals as goal
+
+pub put-requires-clause-allowed : goal.put-requires-clause-allowed
+put-requires-clause-allowed c = (there_has c.args.self.now.plain c.args.id c.requires, sym c.conflict.ensures ∙ c.in-None.is)
+
+pub returns-in-None-clause-outcome : goal.returns-in-None-clause-outcome
+returns-in-None-clause-outcome c =
+    let now = c.args.self.now in
+    let unspent : now.plain.arrivals ≢ LAST_COUNT = λ spent. c.if-self-eq-LAST_COUNT.false (ap (λ (w : Seen). w.plain.arrivals) c.self.view_is ∙ spent) in
+    put_meets now.shape c.args.id c.args.row c.args.rollback now.plain c.keeps_rules.ensures unspent (sym c.conflict.ensures ∙ c.in-None.is) c.put.result c.put.new.self.plain c.put.ensures.made

@@ -1,0 +1,123 @@
+//! The container as callers of its trait see it. Each call is the container's own.
+use crate::multi::MultiIndex;
+use mi_catalog::Schema;
+use mi_container::{Container, Inverse};
+use mi_value::{Edit, Record, Refusal, Steps, Value};
+use std::alloc::{AllocError, Global};
+
+impl Container for MultiIndex {
+    ghost shape = { λ c. c.shape };
+
+    ghost plain = { λ c. c.plain };
+
+    fn keeps_rules(&self) {
+        self.keeps_rules();
+    }
+
+    fn new(alloc: Global, schema: Schema) -> Result<Self, AllocError> {
+        MultiIndex::new(alloc, schema)
+    }
+
+    fn insert(
+        &mut self,
+        alloc: Global,
+        row: Record,
+        before: Option<(usize, u64)>,
+    ) -> Result<(u64, Inverse), (Refusal, Record)> {
+        self.insert(alloc, row, before)
+    }
+
+    fn replace(&mut self, id: u64, row: Record) -> Result<Inverse, (Refusal, Record)> {
+        self.replace(id, row)
+    }
+
+    fn modify(
+        &mut self,
+        alloc: Global,
+        id: u64,
+        edits: &[Edit],
+        rollback: bool,
+    ) -> Result<Inverse, Refusal> {
+        self.modify(alloc, id, edits, rollback)
+    }
+
+    fn erase(&mut self, id: u64) -> Result<Inverse, Refusal> {
+        self.erase(id)
+    }
+
+    fn relocate(&mut self, index: usize, id: u64, before: Option<u64>) -> Result<Inverse, Refusal> {
+        self.relocate(index, id, before)
+    }
+
+    fn unwind(&mut self, inverse: Inverse) {
+        self.unwind(inverse);
+    }
+
+    fn settle(&mut self, inverse: Inverse) {
+        self.settle(inverse);
+    }
+
+    fn size(&self) -> u64 {
+        self.size()
+    }
+
+    fn find(&self, index: usize, key: &[Value]) -> Option<u64> {
+        self.find(index, key)
+    }
+
+    fn count(&self, index: usize, key: &[Value]) -> u64 {
+        self.count(index, key)
+    }
+
+    fn get(&self, id: u64, steps: &mut Steps) -> Option<&Record> {
+        self.get(id, steps)
+    }
+
+    fn first(&self, index: usize) -> Option<u64> {
+        self.first(index)
+    }
+
+    fn last(&self, index: usize) -> Option<u64> {
+        self.last(index)
+    }
+
+    fn after(&self, index: usize, id: u64) -> Option<u64> {
+        self.after(index, id)
+    }
+
+    fn before(&self, index: usize, id: u64) -> Option<u64> {
+        self.before(index, id)
+    }
+
+    fn lower(&self, index: usize, key: &[Value], steps: &mut Steps) -> Option<u64> {
+        self.lower(index, key, steps)
+    }
+
+    fn upper(&self, index: usize, key: &[Value], steps: &mut Steps) -> Option<u64> {
+        self.upper(index, key, steps)
+    }
+
+    fn first_of(&self, index: usize, key: &[Value]) -> Option<u64> {
+        self.first_of(index, key)
+    }
+
+    fn next_of(&self, index: usize, id: u64) -> Option<u64> {
+        self.next_of(index, id)
+    }
+
+    fn nth(&self, index: usize, n: u64) -> Option<u64> {
+        self.nth(index, n)
+    }
+
+    fn rank_of(&self, index: usize, id: u64, steps: &mut Steps) -> u64 {
+        self.rank_of(index, id, steps)
+    }
+
+    fn lower_rank(&self, index: usize, key: &[Value], steps: &mut Steps) -> u64 {
+        self.lower_rank(index, key, steps)
+    }
+
+    fn upper_rank(&self, index: usize, key: &[Value], steps: &mut Steps) -> u64 {
+        self.upper_rank(index, key, steps)
+    }
+}

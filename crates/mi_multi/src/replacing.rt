@@ -1,0 +1,112 @@
+//! Other records for rows, and changes of their columns.
+ghost use Rattle.std.specs.Prelude.{◌≡◌, ◌≢◌, ◌<◌, Bool, true, Some, None, IfOk, IfErr};
+ghost use Rattle.mi_value.specs.declared.limits.TheConstants.{LAST_COUNT as last_count};
+ghost use Rattle.mi_value.specs.declared.refusal.Refusal.TheVariants.{Memory};
+ghost use Rattle.mi_value.specs.Edits.{apply as apply_edits};
+ghost use Rattle.mi_model.specs.Table.{has as has_row, row as row_of};
+ghost use Rattle.mi_model.specs.Steps.{MeetsRefusal};
+ghost use Rattle.mi_model.specs.Verdict.{replace_refusal, replace_outcome, modified, modify_outcome};
+ghost use Rattle.mi_container.specs.Asked.{RecordFits, EditsFit};
+ghost use Rattle.mi_container.specs.Data.{table_of};
+ghost use Rattle.mi_container.specs.Inverse.{lost_to};
+ghost use Rattle.mi_container.specs.Run.{Allowed};
+ghost use Rattle.mi_container.specs.Run.Change.{Replace};
+ghost use Rattle.mi_container.specs.Makes.{Makes, MakesModify, MeetsOn, replace_answer, modify_answer, IsNoLoss};
+
+use crate::conflicts::unique_refusal;
+use crate::multi::MultiIndex;
+use mi_container::Inverse;
+use mi_value::limits::LAST_COUNT;
+use mi_value::{Edit, Record, Refusal, Steps, apply};
+use std::alloc::Global;
+
+impl MultiIndex {
+    /// Why a record may not be set for a row, or none.
+    fn replace_refusal(&self, id: u64, row: &Record) -> Option<Refusal>
+        ensures refusal { result ≡ replace_refusal self.now.shape id row.now (table_of self.now.plain) }
+        ensures times { result ≡ None → self.now.plain.arrivals < last_count }
+    {
+        if !self.has(id) {
+            return Some(Refusal::NoId);
+        }
+        if self.arrivals == LAST_COUNT {
+            return Some(Refusal::Spent);
+        }
+        unique_refusal(self.conflict(row, Some(id)))
+    }
+
+    /// Sets another record for an id. Takes no memory. Refusals, in this order: `NoId`, `Spent`, `Unique`. The refused record
+    /// is handed back.
+    pub fn replace(&mut self, id: u64, row: Record) -> Result<Inverse, (Refusal, Record)>
+        requires { RecordFits self.old.shape row }
+        ensures outcome { MeetsOn (replace_outcome self.old.shape id row) (replace_answer result) self.old.plain self.new.plain }
+        ensures memory { IfErr result (λ e. e.0 ≢ Memory) }
+        ensures made { IfOk result (λ i. Makes self.old.shape (Replace id row) self.old.plain i self.new.plain) }
+        ensures refused { IfErr result (λ e. self.new.plain ≡ self.old.plain) }
+        ensures handed_back { IfErr result (λ e. e.1 ≡ row) }
+        ensures shape { self.new.shape ≡ self.old.shape }
+    {
+        self.keeps_rules();
+        if let Some(refusal) = self.replace_refusal(id, &row) {
+            return Err((refusal, row));
+        }
+        Ok(self.put(id, row))
+    }
+
+    /// The record that edits make of a row's. Refusals: `NoId`, `Range` and `Memory`.
+    fn edited(&self, alloc: Global, id: u64, edits: &[Edit]) -> Result<Record, Refusal>
+        ensures there { IfOk result (λ r. has_row (table_of self.now.plain) id ≡ true) }
+        ensures edited { IfOk result (λ r. apply_edits edits.now (row_of (table_of self.now.plain) id).1 ≡ Some r) }
+        ensures refused { (rollback : Bool) → IfErr result (λ e.
+            MeetsRefusal (modify_outcome self.now.shape id edits.now rollback (table_of self.now.plain)) e (table_of self.now.plain) (table_of self.now.plain)) }
+        ensures loss { IfErr result IsNoLoss }
+    {
+        let Some(row) = self.get(id, &mut Steps::new()) else {
+            return Err(Refusal::NoId);
+        };
+        apply(alloc, row, edits)
+    }
+
+    /// Sets the record that a modify made for a row, unless a unique index refuses it: then with `rollback` nothing changes,
+    /// and without it the row is erased. Takes no memory.
+    fn modify_to(&mut self, id: u64, row: Record, rollback: bool) -> Result<Inverse, Refusal>
+        requires { has_row (table_of self.old.plain) id ≡ true }
+        ensures outcome { MeetsOn (modified self.old.shape id rollback (Some row)) (modify_answer result) self.old.plain self.new.plain }
+        ensures made { IfOk result (λ i. MakesModify (lost_to i) self.old.shape id self.old.plain i self.new.plain) }
+        ensures loss { IfErr result (λ e. IsNoLoss e) }
+        ensures refused { IfErr result (λ e. self.new.plain ≡ self.old.plain) }
+        ensures shape { self.new.shape ≡ self.old.shape }
+    {
+        self.keeps_rules();
+        if self.arrivals == LAST_COUNT {
+            return Err(Refusal::Spent);
+        }
+        match self.conflict(&row, Some(id)) {
+            None => Ok(self.put(id, row)),
+            Some((index, other)) if rollback => Err(Refusal::Unique { index, id: other }),
+            Some(rival) => self.erase_for(id, Some(rival)),
+        }
+    }
+
+    /// Changes columns of a record. Where a unique index refuses the result without `rollback` the record is erased: then the
+    /// answer is an inverse that is `lost`.
+    ///
+    /// Refusals, in this order: `NoId`, `Range`, `Spent`, with `rollback` `Unique`, `Memory`.
+    pub fn modify(
+        &mut self,
+        alloc: Global,
+        id: u64,
+        edits: &[Edit],
+        rollback: bool,
+    ) -> Result<Inverse, Refusal>
+        requires { EditsFit self.old.shape edits.now }
+        ensures outcome { MeetsOn (modify_outcome self.old.shape id edits.now rollback) (modify_answer result) self.old.plain self.new.plain }
+        ensures made { IfOk result (λ i. MakesModify (lost_to i) self.old.shape id self.old.plain i self.new.plain) }
+        ensures loss { IfErr result (λ e. IsNoLoss e) }
+        ensures refused { IfErr result (λ e. self.new.plain ≡ self.old.plain) }
+        ensures shape { self.new.shape ≡ self.old.shape }
+    {
+        let row = self.edited(alloc, id, edits)?;
+        self.modify_to(id, row, rollback)
+    }
+}

@@ -1,0 +1,76 @@
+//! Taking changes of a container back, each by its inverse.
+ghost use Rattle.std.specs.Prelude.{◌≡◌, ◌≤◌, length, map};
+ghost use Rattle.std.specs.Option.{option_map};
+ghost use Rattle.mi_container.specs.Data.{IsData};
+ghost use Rattle.mi_container.specs.Inverse.{Old, taken_back};
+ghost use Rattle.mi_container.specs.Inverse.Inverse.{Put};
+ghost use Rattle.mi_container.specs.Fits.{Ready};
+ghost use Rattle.mi_container.specs.Backs.{row_seen, place_seen};
+ghost use Rattle.mi_multi.specs.Restored.{to_place, old_seen};
+
+use crate::multi::MultiIndex;
+use arrayvec::ArrayVec;
+use mi_container::{Inverse, MAX_PLACES, OldPlace, OldPlaces, RowRef, Undo};
+use mi_index::{Place, Stored};
+use mi_value::Record;
+
+/// An old place as the indexes take it.
+fn place_of(old: Option<OldPlace>) -> Option<Place>
+    ensures { result ≡ option_map to_place (option_map place_seen old) }
+{
+    match old {
+        Some(old) => Some(Place {
+            stamp: old.stamp,
+            back: old.back,
+            forth: old.forth,
+        }),
+        None => None,
+    }
+}
+
+/// Old places as the indexes take them.
+fn places_of(old: &OldPlaces) -> ArrayVec<Option<Place>, MAX_PLACES>
+    ensures { result.items ≡ map (option_map to_place) (map (option_map place_seen) old.now.items) }
+{
+    let mut places = ArrayVec::new();
+    for place in old.as_slice() {
+        places.push(place_of(*place));
+    }
+    places
+}
+
+impl MultiIndex {
+    /// Takes back that a row got another record: it has the old one again, and stands where it stood in each index in which
+    /// its key had changed. Takes no memory.
+    fn take_back_put(&mut self, row: RowRef, old: Record, places: OldPlaces)
+        requires ready { Ready (Put (row_seen row) (old_seen old places.items)) self.old.plain }
+        requires before { IsData self.old.shape (taken_back (Put (row_seen row) (old_seen old places.items)) self.old.plain) }
+        ensures plain { self.new.plain ≡ taken_back (Put (row_seen row) (old_seen old places.items)) self.old.plain }
+        ensures shape { self.new.shape ≡ self.old.shape }
+    {
+        let places = places_of(&places);
+        let stored = Stored {
+            id: row.id,
+            row: old,
+        };
+        let put = self.nodes.rekey_back(row.node, stored, places.as_slice());
+        drop(put);
+        self.arrivals -= 1;
+    }
+
+    /// Takes a change back, by its inverse: of the changes not yet taken back it is the newest. Takes no memory.
+    pub fn unwind(&mut self, inverse: Inverse)
+        requires ready { Ready inverse self.old.plain }
+        requires before { IsData self.old.shape (taken_back inverse self.old.plain) }
+        ensures plain { self.new.plain ≡ taken_back inverse self.old.plain }
+        ensures shape { self.new.shape ≡ self.old.shape }
+    {
+        match inverse.undo() {
+            Undo::Inserted(row) => self.take_back_inserted(row),
+            Undo::Put(row, old, places) => self.take_back_put(row, old, places),
+            Undo::Erased(row, _) => self.take_back_erased(row),
+            Undo::Relocated(index, row, behind) => self.take_back_relocated(index, row, behind),
+            Undo::Nothing => {}
+        }
+    }
+}
