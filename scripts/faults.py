@@ -31,7 +31,7 @@ import tempfile
 import time
 
 import program
-from fuzz import ACCOUNTS, knows_reserve, toml
+from fuzz import ACCOUNTS, toml
 from reference import LONGEST_LINE, Index, Reference, Schema
 
 ROWS = f"{program.TOP}/crates/mi_worked/src/tests/rows"
@@ -116,7 +116,10 @@ def made_rows():
     edits = [insert("a", 1), insert("b", 2, False), insert("c", 3), line("start"), line("replace", id=1, row={"owner": "x" * 1024, "balance": 9, "vip": True})]
     edits += [line("modify", id=0, set={"owner": "y" * 300}, add={"balance": 4}), line("erase_key", index="by_vip", key=[True]), insert("a", 5), line("start")]
     edits += [line("relocate", index="line", id=3), line("modify", id=3, add={"balance": 1}), line("undo"), line("squash")]
-    made = {"fifty records are undone": many, "as many sessions as can be": deep, "lines as long as can be": long + odd, "every change": edits}
+    room = [line("start"), insert("a", 1, False), line("squash"), UNDO + b"\n", line("size"), line("reserve", changes=3, sessions=1)]
+    room += [line("reserve", changes=1_000_001, sessions=1), line("start"), line("erase", id=0), insert("b"), UNDO + b"\n"]
+    made = {"fifty records are undone": many, "as many sessions as can be": deep, "lines as long as can be": long + odd}
+    made.update({"every change": edits, "reserved room": room})
     return [Row(name, steps=[(1, it) for it in lines]) for name, lines in made.items()]
 
 
@@ -180,8 +183,8 @@ def looks_at(row, schemas):
 class Plan:
     """A row in one of the ways: the pieces in the order that they are read, and which are for looking alone."""
 
-    def __init__(self, row, way, has_reserve=False):
-        self.row, self.way, self.has_reserve = row, way, has_reserve
+    def __init__(self, row, way):
+        self.row, self.way = row, way
         self.schemas, self.first_revision = row.catalog()
         self.pieces, open_ones, at = pieces_of(row)
         if way == "within":
@@ -218,7 +221,7 @@ class Plan:
     def wanted(self, left_out):
         """The replies, by piece, of the reference that isn't asked the lines of these pieces."""
         if left_out not in self.known:
-            reference, replies = Reference(self.schemas, self.first_revision, self.has_reserve), []
+            reference, replies = Reference(self.schemas, self.first_revision), []
             for n, (conn, bytes_) in enumerate(self.pieces):
                 if n in left_out:
                     reference.rests[conn] = b""
@@ -404,7 +407,8 @@ class Counts:
             setattr(self, name, getattr(self, name) + value)
 
     def __str__(self):
-        return f"{self.runs} runs, {self.refused} requests refused, {self.memory} lines answered memory, {self.early} ended at the start, {self.differ} differences"
+        met = f"{self.runs} runs, {self.refused} requests refused, {self.memory} lines answered memory"
+        return f"{met}, {self.early} ended at the start, {self.differ} differences"
 
 
 def every_request(runner, plan):
@@ -425,14 +429,14 @@ def every_request(runner, plan):
             return counts
 
 
-def all_rows(runner, rows, ways, has_reserve):
+def all_rows(runner, rows, ways):
     total = Counts()
     for row in rows:
         if not row.can_run:
             print(f"{row.name}: left out, since a connection breaks off")
             continue
         for way in ways:
-            counts = every_request(runner, Plan(row, way, has_reserve))
+            counts = every_request(runner, Plan(row, way))
             total.add(counts)
             print(f"{row.name}, {way}: {counts}", flush=True)
     return total
@@ -446,7 +450,7 @@ def reserved(runner):
     total = Counts()
     for name, lines, free in (("a block", block, ()), ("a block with a replace", replaced, (b'"replace"',))):
         front = [*before, line("reserve", changes=len(lines), sessions=1)]
-        plan = Plan(Row(f"reserved: {name}", steps=[(1, it) for it in front + lines]), "rest", True)
+        plan = Plan(Row(f"reserved: {name}", steps=[(1, it) for it in front + lines]), "rest")
         ran = runner.run(plan, 1, first=len(front))
         differs, memory = judge(plan, ran)
         replies = ran.outs[1].splitlines(keepends=True)[len(front):len(front) + len(lines)]
@@ -545,11 +549,13 @@ def under_limit(path, rounds):
         lost = sum(server.ask(it) != reply for it, reply in zip(looks, want))
         differ += lost
         seen.append((rows, server.status("VmRSS")))
-        print(f"round {n}: {len(sizes)} sessions, {rows} rows, {asked} lines until memory, {full} kB; undone: {seen[-1][1]} kB, {lost} of {len(looks)} looks differ", flush=True)
+        print(f"round {n}: {len(sizes)} sessions, {rows} rows, {asked} lines until memory, {full} kB;", end=" ")
+        print(f"undone: {seen[-1][1]} kB, {lost} of {len(looks)} looks differ", flush=True)
     differ += server.close() != 0
     (_, early), (_, late) = seen[min(1, rounds - 1)], seen[-1]
     differ += late > 1.05 * early
-    print(f"under a limit of {limit // 1024} kB: {rounds} rounds, {differ} differences; resident {early} kB after the second, {late} kB after the last ({late / early - 1:+.1%})")
+    print(f"under a limit of {limit // 1024} kB: {rounds} rounds, {differ} differences;", end=" ")
+    print(f"resident {early} kB after the second, {late} kB after the last ({late / early - 1:+.1%})")
     return differ
 
 
@@ -570,10 +576,9 @@ def main():
         runner = Runner(path, folder)
         if not can_be_refused(runner):
             stop(f"{os.path.relpath(path)} asks for memory by an allocator of its own, as the unproved one does; make build makes another")
-        has_reserve = knows_reserve(path)
         rows = [it for it in written_rows() + made_rows() if not options.row or options.row in it.name]
-        total = all_rows(runner, rows, [options.way] if options.way else WAYS, has_reserve)
-        if has_reserve and not options.row:
+        total = all_rows(runner, rows, [options.way] if options.way else WAYS)
+        if not options.row:
             total.add(reserved(runner))
     if options.rounds and not options.row:
         total.differ += under_limit(path, options.rounds)

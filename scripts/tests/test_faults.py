@@ -61,8 +61,9 @@ class Judging(unittest.TestCase):
 
         self.assertIsNone(self.differs(self.one, ended(4, b"fault: memory\n")))
         self.assertIsNone(self.differs(self.one, ended(3, b"schema: memory\n")))
-        for ran in (ended(4, b"fault: read\n"), ended(3, b"fault: memory\n"), ended(-11, b""), ended(4, b"fault: memory\n", log="requests 1 refused 0 others 0 pieces 0\n"),
-                    ended(4, b"fault: memory\n", b"x"), ended(4, b"fault: memory\n", log="refused 1\nrequests 1 refused 1 others 0 pieces 2\n")):
+        for ran in (ended(4, b"fault: read\n"), ended(3, b"fault: memory\n"), ended(-11, b""), ended(4, b"fault: memory\n", b"x"),
+                    ended(4, b"fault: memory\n", log="requests 1 refused 0 others 0 pieces 0\n"),
+                    ended(4, b"fault: memory\n", log="refused 1\nrequests 1 refused 1 others 0 pieces 2\n")):
             self.assertIn("it ended", self.differs(self.one, ran))
 
     def test_a_session_that_is_not_taken_back(self):
