@@ -12,7 +12,7 @@ ROWS ?=
 QUICK ?=
 SHARE = $(DESTDIR)$(PREFIX)/share/weltiyo
 
-.PHONY: help try run build test check-docs bench fuzz soak install dist clean
+.PHONY: help try run build test check-docs bench fuzz faults soak install dist clean
 
 help:
 	@echo 'make try         compiles without proving (about a minute the first time) and serves, at a terminal by a prompt'
@@ -22,6 +22,8 @@ help:
 	@echo 'make test        the gate: every proof from nothing, the must-fail edits, the tests, the program by two compilers'
 	@echo 'make check-docs  runs what README, guide and examples print, and the tests of the Python client and of the scripts'
 	@echo 'make fuzz        random lines to the program and to a reference in Python: SEED=$(SEED) LINES=$(LINES)'
+	@echo 'make faults      each request for memory refused in turn on worked rows, and a server under a hard limit of memory (some'
+	@echo '                 20 minutes; needs a C compiler and the proved program; ARGS="--row WORDS" takes a part)'
 	@echo 'make soak        clients over loopback for SECONDS=$(SECONDS), CLIENTS=$(CLIENTS): sums, sessions and memory are watched'
 	@echo 'make bench       the program against a Boost.MultiIndex container, SQLite and Redis, into docs/bench (see bench/README.md);'
 	@echo '                 ROWS=1000,10000 are other sizes; QUICK=1 is small, and shows only that all answer alike'
@@ -47,6 +49,9 @@ check-docs:
 
 fuzz:
 	@$(PYTHON) scripts/fuzz.py --seed $(SEED) --lines $(LINES)
+
+faults:
+	@$(PYTHON) scripts/faults.py $(ARGS)
 
 soak:
 	@$(PYTHON) scripts/soak.py --seconds $(SECONDS) --clients $(CLIENTS)

@@ -49,6 +49,10 @@ class Schema:
                 return x
         raise Refusal("index")
 
+    def __deepcopy__(self, _):
+        # (it never changes, so the copies of a table share it)
+        return self
+
 
 def compare(a, b):
     return (a > b) - (a < b)

@@ -9,3 +9,4 @@ mod listener;
 mod look_ups;
 mod program;
 mod replies;
+mod secret;

@@ -1,0 +1,146 @@
+"""What `faults.py` takes for a difference, and which requests its library refuses, on replies and a program that are made here."""
+import os
+import shutil
+import subprocess
+import sys
+import tempfile
+import unittest
+
+TOP = os.path.dirname(os.path.dirname(os.path.dirname(os.path.realpath(__file__))))
+sys.path.insert(0, f"{TOP}/scripts")
+
+from faults import MEMORY, UNDO, Plan, Ran, Row, compiled_library, insert, judge, line, rows_in  # noqa: E402
+from reference import Reference  # noqa: E402
+
+STEPS = [(1, it) for it in (insert("a"), line("start"), insert("b"), UNDO + b"\n", line("size"))]
+
+
+def answered(plan, left_out=(), log_of=None, asked=None):
+    """A run whose lines at `left_out` were answered `memory`: those at `log_of` met a refusal, those of `asked` were executed all the same."""
+    asked = asked or ()
+    reference, out = Reference(plan.schemas, plan.first_revision), b""
+    for n, (conn, bytes_) in enumerate(plan.pieces):
+        reply = b"" if n in left_out and n not in asked else reference.feed(conn, bytes_) if bytes_ else reference.close(conn)
+        out += MEMORY if n in left_out else reply
+    refused_at = left_out if log_of is None else log_of
+    log = "".join(f"refused {it}\n" for it in refused_at)
+    return Ran({1: out}, 0, b"", log + f"requests 9 refused {len(refused_at)} others 0 pieces {len(plan.pieces)}\n")
+
+
+class Judging(unittest.TestCase):
+    def setUp(self):
+        self.one, self.rest, self.within = (Plan(Row("row", steps=STEPS), way) for way in ("one", "rest", "within"))
+
+    def differs(self, plan, ran):
+        return judge(plan, ran)[0]
+
+    def test_what_may_come(self):
+        for plan in (self.one, self.rest, self.within):
+            self.assertIsNone(self.differs(plan, answered(plan)))
+            self.assertIsNone(self.differs(plan, answered(plan, log_of=[1])))
+            self.assertIsNone(self.differs(plan, answered(plan, [2])))
+        self.assertIsNone(self.differs(self.rest, answered(self.rest, [0, 2])))
+
+    def test_a_refusal_elsewhere(self):
+        self.assertIn("answered memory", self.differs(self.one, answered(self.one, [2], log_of=[1])))
+        self.assertIn("2 lines", self.differs(self.one, answered(self.one, [0, 2])))
+
+    def test_an_undo_that_is_refused(self):
+        for plan in (self.one, self.rest):
+            self.assertIn("undo line", self.differs(plan, answered(plan, [3])))
+        self.assertIn("undo line", self.differs(self.rest, answered(self.rest, [len(STEPS)])))
+
+    def test_a_change_behind_a_refusal(self):
+        """A start or an insert that is answered `memory` and was done."""
+        for plan, n in ((self.one, 0), (self.one, 1), (self.rest, 0)):
+            self.assertIn("wanted", self.differs(plan, answered(plan, [n], asked=[n])))
+
+    def test_an_end(self):
+        def ended(status, errors, out=b"", log="refused -1\nrequests 1 refused 1 others 0 pieces 0\n"):
+            return Ran({1: out}, status, errors, log)
+
+        self.assertIsNone(self.differs(self.one, ended(4, b"fault: memory\n")))
+        self.assertIsNone(self.differs(self.one, ended(3, b"schema: memory\n")))
+        for ran in (ended(4, b"fault: read\n"), ended(3, b"fault: memory\n"), ended(-11, b""), ended(4, b"fault: memory\n", b"x"),
+                    ended(4, b"fault: memory\n", log="requests 1 refused 0 others 0 pieces 0\n"),
+                    ended(4, b"fault: memory\n", log="refused 1\nrequests 1 refused 1 others 0 pieces 2\n")):
+            self.assertIn("it ended", self.differs(self.one, ran))
+
+    def test_a_session_that_is_not_taken_back(self):
+        self.assertTrue(Plan(Row("row", steps=[(1, insert("a"))]), "within").is_undone())
+        self.assertFalse(Plan(Row("row", steps=[(1, line("squash"))]), "within").is_undone())
+
+
+class Rows(unittest.TestCase):
+    def test_rows_as_text(self):
+        rows = {}
+        rows_in('row one\n1 {"cmd":"size"}\n= {"ok":true,"size":0}\n\nrow two\nafter one\nwith max_rows = 2\n1+ x\n1 closes\n2 y\n', rows)
+        self.assertEqual(rows["one"].steps, [(1, b'{"cmd":"size"}\n')])
+        self.assertEqual(rows["two"].steps, [(1, b'{"cmd":"size"}\n'), (1, b"x"), (1, None), (2, b"y\n")])
+        self.assertEqual(rows["two"].catalog()[0][0].max_rows, 2)
+
+    def test_connections_by_turns(self):
+        plan = Plan(Row("row", steps=[(1, b"a\n"), (1, b"b"), (1, None), (2, b"c\n")]), "one")
+        self.assertEqual(plan.pieces[:6], [(1, b"a\n"), (2, b"\n"), (1, b"b"), (2, b"\n"), (1, b""), (2, b"c\n")])
+        self.assertEqual(plan.lines[:6], [b"a", None, None, None, b"b", b"c"])
+
+
+PROGRAM = r"""
+#include <stdio.h>
+#include <stdlib.h>
+#include <unistd.h>
+int main(void) {
+    char bytes[16], *line = NULL;
+    size_t length = 0;
+    FILE *file = fopen("/dev/null", "r"); /* (the C library's own request) */
+    char out[9] = {0};
+    for (int n = 0; n < 4; n++) {
+        char *got = n % 2 ? malloc(10) : realloc(NULL, 10);
+        out[n] = got ? '+' : '-';
+        free(got);
+        if (n == 1)
+            out[6] = '0' + (int)read(0, bytes, sizeof bytes);
+    }
+    out[4] = file && getline(&line, &length, file) < 0 && line ? '+' : '-';
+    out[5] = ' ';
+    out[7] = '0' + (int)read(0, bytes, sizeof bytes);
+    return write(1, out, 8) != 8;
+}
+"""
+
+
+@unittest.skipUnless(shutil.which(os.environ.get("CC", "cc")), "a C compiler is needed")
+class Library(unittest.TestCase):
+    def setUp(self):
+        self.folder = tempfile.mkdtemp()
+        self.addCleanup(shutil.rmtree, self.folder)
+        with open(f"{self.folder}/program.c", "w", encoding="ascii") as file:
+            file.write(PROGRAM)
+        words = [os.environ.get("CC", "cc"), "-O1", "-fno-builtin", "-o", f"{self.folder}/program", f"{self.folder}/program.c"]
+        subprocess.run(words, check=True)
+        with open(f"{self.folder}/lines", "wb") as file:
+            file.write(b"ab\nc\n")
+
+    def ran(self, **settings):
+        env = {**os.environ, "LD_PRELOAD": compiled_library(), "REFUSE_LOG": f"{self.folder}/log"}
+        env.update({f"REFUSE_{name}": str(value) for name, value in settings.items()})
+        with open(f"{self.folder}/lines", "rb") as lines:
+            out = subprocess.run([f"{self.folder}/program"], env=env, stdin=lines, stdout=subprocess.PIPE, check=True).stdout
+        with open(f"{self.folder}/log", encoding="ascii") as log:
+            ran = Ran({}, 0, b"", log.read())
+        return out.decode(), ran.requests, ran.refused, sorted(ran.refused_at)
+
+    def test_which_are_refused(self):
+        for settings, want in [
+            ({}, ("+++++ 32", 4, 0, [])),
+            ({"REQUEST": 2}, ("+-+++ 32", 4, 1, [-1])),
+            ({"REQUEST": 2, "ALL": 1}, ("+---+ 32", 4, 3, [-1, 0])),
+            ({"REQUEST": 1, "FROM": 0}, ("++-++ 32", 2, 1, [0])),
+            ({"REQUEST": 1, "ALL": 1, "UNTIL": 0}, ("--+++ 32", 2, 2, [-1])),
+            ({"REQUEST": 5}, ("+++++ 32", 4, 0, [])),
+        ]:
+            self.assertEqual(self.ran(**settings), want)
+
+
+if __name__ == "__main__":
+    unittest.main()
