@@ -97,7 +97,12 @@ is_key ps v (Of q) = is_eq (compare_key ps v.row q.now)
 
 -- all of it, as chains see it
 abbrev pub keying_of : ByHash → Keying Stored
-keying_of h = record { hash = λ v. mixed h.secret (keying_hash h.parts v); hash_key = λ k. mixed h.secret (sought_hash h.parts k); same = has_one_key h.parts; same_key = is_key h.parts }
+keying_of h = record {
+  hash = λ v. mixed h.secret (keying_hash h.parts v);
+  hash_key = λ k. mixed h.secret (sought_hash h.parts k);
+  same = has_one_key h.parts;
+  same_key = is_key h.parts;
+}
 
 -- What an order and its tags owe
 
