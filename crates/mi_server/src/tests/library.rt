@@ -1,5 +1,7 @@
 //! Each public call of the crates below once, with ample memory.
 use super::accounts::{account, is_account};
+use mi_database::Linked;
+use mi_multi::MultiIndex;
 use mi_plain::Plain;
 use mi_schema::{Catalog, IndexKind, Schema, built_in};
 use mi_sessions::Sessions;
@@ -9,6 +11,7 @@ use mi_value::{
 };
 use std::alloc::{AllocError, Global};
 use std::cmp::Ordering;
+use std::process::Abort;
 use std::test::Fail;
 
 #[test]
@@ -105,10 +108,12 @@ fn schemas_are_read_and_copied(rt: HostRuntime) -> Result<(), Fail> {
     Ok(())
 }
 
-#[test]
-fn plain_is_a_database(rt: HostRuntime) -> Result<(), Fail> {
-    let alloc = rt.alloc();
-    let mut database = Plain::new(alloc, Catalog::of(alloc, built_in(alloc)?)?)?;
+/// What a database of the built-in schema answers that has just been opened.
+fn check_database<D: Sessions>(
+    rt: &impl Abort,
+    alloc: Global,
+    database: &mut D,
+) -> Result<(), Fail> {
     assert_eq!(rt; database.catalog().table_count(), 1);
     assert_eq!(rt; database.undo(), Err(NoSession));
     let ann = account(alloc, "a", 1, false)?;
@@ -130,11 +135,30 @@ fn plain_is_a_database(rt: HostRuntime) -> Result<(), Fail> {
     assert_eq!(rt; database.depth(), 1);
     assert_eq!(rt; database.undo(), Ok(0));
     assert_eq!(rt; database.revision(), 0);
+    assert_eq!(rt; database.reserve(3, 1), Ok(()));
     assert_eq!(rt; database.catalog().table_count(), 1);
     match database.get(0, 0, &mut Steps::new()) {
         Some(row) => assert!(rt; is_account(row, "a", 1, false)),
         None => assert!(rt; false, "the record is there"),
     }
+    Ok(())
+}
+
+#[test]
+fn plain_is_a_database(rt: HostRuntime) -> Result<(), Fail> {
+    let alloc = rt.alloc();
+    let mut database = Plain::new(alloc, Catalog::of(alloc, built_in(alloc)?)?)?;
+    check_database(&rt, alloc, &mut database)
+}
+
+#[test]
+fn linked_is_a_database(rt: HostRuntime) -> Result<(), Fail> {
+    let alloc = rt.alloc();
+    let catalog = Catalog::of(alloc, built_in(alloc)?)?;
+    let mut database = Linked::<MultiIndex>::new(alloc, catalog, 7)?;
+    check_database(&rt, alloc, &mut database)?;
+    let (changes, sessions) = database.room();
+    assert!(rt; changes >= 3 && sessions >= 1, "{changes} and {sessions}");
     Ok(())
 }
 
