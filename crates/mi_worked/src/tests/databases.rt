@@ -1,5 +1,6 @@
 //! The forms of the database that every row is run on.
 use mi_catalog::Catalog;
+use mi_container::Container;
 use mi_database::Linked;
 use mi_hub::Hub;
 use mi_multi::MultiIndex;
@@ -22,8 +23,8 @@ impl Opens for Plain {
 /// The form that is served.
 pub(super) type Served = Linked<MultiIndex>;
 
-impl Opens for Served {
-    fn open(alloc: Global, catalog: Catalog) -> Result<Served, AllocError> {
+impl<C: Container> Opens for Linked<C> {
+    fn open(alloc: Global, catalog: Catalog) -> Result<Linked<C>, AllocError> {
         Linked::new(alloc, catalog, 1)
     }
 }
