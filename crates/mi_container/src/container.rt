@@ -37,8 +37,8 @@ pub trait Container: Drop {
     fn keeps_rules(&self)
         ensures { IsData (shape self.now) (plain self.now) };
 
-    /// A container without rows. What it answers is the same for every secret; who doesn't know the secret can't choose keys
-    /// that are slow to find.
+    /// A container without rows. What it answers is the same for every secret, which hashed indexes may mix into the hashes
+    /// of keys: then who doesn't know it can't aim keys at one bucket.
     fn new(alloc: Global, schema: Schema, secret: u64) -> Result<Self, AllocError>
         ensures shape { IfOk result (λ made. shape made ≡ schema) }
         ensures plain { IfOk result (λ made. plain made ≡ opened_data schema) };

@@ -83,8 +83,8 @@ impl<C: Container> Linked<C> {
     ghost use Rattle.mi_model.specs.Database.{opened_database, schema_of, table_of as table_at};
 
     /// The database that a catalog opens with: no rows, no open session, the first counters and the first revision. What it
-    /// answers is the same for every secret; a secret that strangers don't know keeps them from choosing keys that are slow
-    /// to find.
+    /// answers is the same for every secret; one that strangers don't know keeps them from aiming keys at one bucket of a
+    /// hashed index.
     pub fn new(alloc: Global, catalog: Catalog, secret: u64) -> Result<Linked<C>, AllocError>
         ensures held { IfOk result (λ d. d ≡ opened_held d.changes d.starts catalog) }
         ensures state { IfOk result (λ d. meaning d ≡ opened_database catalog) }

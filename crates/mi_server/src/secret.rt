@@ -5,7 +5,7 @@ use std::random::RandomSource;
 /// who knows its source can choose keys that are slow to find.
 const FIXED: u64 = 0xB504_F333_F9DE_6484;
 
-/// A number that strangers can't know, drawn from the system.
+/// A number that is drawn from the system, so that strangers can't know it; the fixed one where the system gives none.
 pub(crate) fn drawn<R: RandomSource>(rt: &R) -> u64 {
     let mut bytes = [0; 8];
     match rt.fill_bytes(&mut bytes) {
