@@ -12,23 +12,10 @@ use Rattle.mi_request.specs.declared.request.Place.{Place}
 use Rattle.mi_request.specs.declared.request.Request.{Request}
 use Rattle.mi_request.specs.declared.request.Request.TheVariants as request
 
--- the command of a name
-abbrev pub command_named : List ℕ → Option CommandName
-command_named t =
-    if bytes_eq t (codes "insert") then Some name.Insert
-    else if bytes_eq t (codes "replace") then Some name.Replace
-    else if bytes_eq t (codes "modify") then Some name.Modify
-    else if bytes_eq t (codes "erase") then Some name.Erase
-    else if bytes_eq t (codes "erase_key") then Some name.EraseKey
-    else if bytes_eq t (codes "relocate") then Some name.Relocate
-    else if bytes_eq t (codes "start") then Some name.Start
-    else if bytes_eq t (codes "undo") then Some name.Undo
-    else if bytes_eq t (codes "squash") then Some name.Squash
-    else if bytes_eq t (codes "commit") then Some name.Commit
-    else if bytes_eq t (codes "undo_all") then Some name.UndoAll
-    else if bytes_eq t (codes "push") then Some name.Push
-    else if bytes_eq t (codes "reserve") then Some name.Reserve
-    else if bytes_eq t (codes "revision") then Some name.Revision
+-- the look-up of a name
+unfoldable pub look_up_named : List ℕ → Option CommandName
+look_up_named t =
+    if bytes_eq t (codes "revision") then Some name.Revision
     else if bytes_eq t (codes "get") then Some name.Get
     else if bytes_eq t (codes "find") then Some name.Find
     else if bytes_eq t (codes "nth") then Some name.Nth
@@ -40,6 +27,29 @@ command_named t =
     else if bytes_eq t (codes "upper_rank") then Some name.UpperRank
     else if bytes_eq t (codes "size") then Some name.Size
     else None
+
+-- the session command or reserve of a name, or else its look-up
+unfoldable pub step_named : List ℕ → Option CommandName
+step_named t =
+    if bytes_eq t (codes "start") then Some name.Start
+    else if bytes_eq t (codes "undo") then Some name.Undo
+    else if bytes_eq t (codes "squash") then Some name.Squash
+    else if bytes_eq t (codes "commit") then Some name.Commit
+    else if bytes_eq t (codes "undo_all") then Some name.UndoAll
+    else if bytes_eq t (codes "push") then Some name.Push
+    else if bytes_eq t (codes "reserve") then Some name.Reserve
+    else look_up_named t
+
+-- the command of a name
+abbrev pub command_named : List ℕ → Option CommandName
+command_named t =
+    if bytes_eq t (codes "insert") then Some name.Insert
+    else if bytes_eq t (codes "replace") then Some name.Replace
+    else if bytes_eq t (codes "modify") then Some name.Modify
+    else if bytes_eq t (codes "erase") then Some name.Erase
+    else if bytes_eq t (codes "erase_key") then Some name.EraseKey
+    else if bytes_eq t (codes "relocate") then Some name.Relocate
+    else step_named t
 
 abbrev pub make_place : List ℕ → ℕ → Place
 make_place index id = record { index = index; id = id }

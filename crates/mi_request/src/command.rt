@@ -1,6 +1,6 @@
 //! The commands by name, and the members that each may have. It reads no member's value.
 ghost use Rattle.std.specs.Prelude.{◌≡◌, ◌∷◌, map, codes};
-ghost use Rattle.mi_request.specs.Commands.{command_named, form_of};
+ghost use Rattle.mi_request.specs.Commands.{look_up_named, step_named, command_named, form_of};
 
 /// The commands.
 #[derive(Clone, Copy, Debug, PartialEq, Eq)]
@@ -31,6 +31,62 @@ pub(crate) enum CommandName {
     Size,
 }
 
+/// The look-up of a name, or none.
+#[tactic(auto, unfolding(crate::specs::Commands::look_up_named))]
+fn look_up_of(text: &str) -> Option<CommandName>
+    ensures { result ≡ look_up_named text.now }
+{
+    if text == "revision" {
+        Some(CommandName::Revision)
+    } else if text == "get" {
+        Some(CommandName::Get)
+    } else if text == "find" {
+        Some(CommandName::Find)
+    } else if text == "nth" {
+        Some(CommandName::Nth)
+    } else if text == "count" {
+        Some(CommandName::Count)
+    } else if text == "range" {
+        Some(CommandName::Range)
+    } else if text == "list" {
+        Some(CommandName::List)
+    } else if text == "rank" {
+        Some(CommandName::Rank)
+    } else if text == "lower_rank" {
+        Some(CommandName::LowerRank)
+    } else if text == "upper_rank" {
+        Some(CommandName::UpperRank)
+    } else if text == "size" {
+        Some(CommandName::Size)
+    } else {
+        None
+    }
+}
+
+/// The session command or reserve of a name, or else its look-up, or none.
+#[tactic(auto, unfolding(crate::specs::Commands::step_named))]
+fn step_of(text: &str) -> Option<CommandName>
+    ensures { result ≡ step_named text.now }
+{
+    if text == "start" {
+        Some(CommandName::Start)
+    } else if text == "undo" {
+        Some(CommandName::Undo)
+    } else if text == "squash" {
+        Some(CommandName::Squash)
+    } else if text == "commit" {
+        Some(CommandName::Commit)
+    } else if text == "undo_all" {
+        Some(CommandName::UndoAll)
+    } else if text == "push" {
+        Some(CommandName::Push)
+    } else if text == "reserve" {
+        Some(CommandName::Reserve)
+    } else {
+        look_up_of(text)
+    }
+}
+
 impl CommandName {
     /// The command of a name, or none.
     pub(crate) fn of(text: &str) -> Option<CommandName>
@@ -48,44 +104,8 @@ impl CommandName {
             Some(CommandName::EraseKey)
         } else if text == "relocate" {
             Some(CommandName::Relocate)
-        } else if text == "start" {
-            Some(CommandName::Start)
-        } else if text == "undo" {
-            Some(CommandName::Undo)
-        } else if text == "squash" {
-            Some(CommandName::Squash)
-        } else if text == "commit" {
-            Some(CommandName::Commit)
-        } else if text == "undo_all" {
-            Some(CommandName::UndoAll)
-        } else if text == "push" {
-            Some(CommandName::Push)
-        } else if text == "reserve" {
-            Some(CommandName::Reserve)
-        } else if text == "revision" {
-            Some(CommandName::Revision)
-        } else if text == "get" {
-            Some(CommandName::Get)
-        } else if text == "find" {
-            Some(CommandName::Find)
-        } else if text == "nth" {
-            Some(CommandName::Nth)
-        } else if text == "count" {
-            Some(CommandName::Count)
-        } else if text == "range" {
-            Some(CommandName::Range)
-        } else if text == "list" {
-            Some(CommandName::List)
-        } else if text == "rank" {
-            Some(CommandName::Rank)
-        } else if text == "lower_rank" {
-            Some(CommandName::LowerRank)
-        } else if text == "upper_rank" {
-            Some(CommandName::UpperRank)
-        } else if text == "size" {
-            Some(CommandName::Size)
         } else {
-            None
+            step_of(text)
         }
     }
 

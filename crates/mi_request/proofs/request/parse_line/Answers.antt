@@ -1,13 +1,14 @@
 use Rattle.std.proofs.Common.{◌≡◌, codes, ap, ◌∙◌, refl, rules}
 use Rattle.std.specs.Str.{is_utf8, chars}
 use Rattle.serde_json.proofs.OnLiterals.{serde_json_on_literals}
+use Rattle.mi_request.specs.Commands.{step_named}
 use Rattle.mi_request.specs.Json.{has_only}
 use Rattle.mi_request.specs.Lines.{command_line}
 use Rattle.mi_request.proofs.Parsing.{json-found, answer-value, answer-no_value}
 use Rattle.mi_request.proofs.request.parse_line.Goals as goal
 
 pub returns-then-eq-clause-answer : goal.returns-then-eq-clause-answer
-unfolding serde_json_on_literals is_utf8 chars has_only
+unfolding serde_json_on_literals is_utf8 chars has_only step_named
 returns-then-eq-clause-answer c =
     let is : c.args.line.now ≡ codes "{\"cmd\":\"undo\"}" = search rules in
     ap command_line is ∙ refl
