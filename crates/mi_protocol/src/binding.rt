@@ -2,17 +2,19 @@
 ghost use Rattle.std.specs.Prelude.{◌≡◌, ◌<◌, length, Ok, IfOk, IfErr};
 ghost use Rattle.mi_request.specs.Answers.{IsAnswer, NamesNoIndex};
 ghost use Rattle.mi_protocol.specs.Binding as binding;
-ghost use Rattle.mi_protocol.specs.Binding.{bound_command, bound_insert, FitsCatalog};
+ghost use Rattle.mi_protocol.specs.Binding.{bound_command, FitsCatalog};
 ghost use Rattle.mi_request.specs.declared.request.Request.TheVariants as request;
 
-use crate::edits::{Edits, bind_edits};
-use crate::indexes::{
-    bind_place, key_or_prefix, ranked_index, ranked_key, sequenced_index, sorted_index, whole_key,
+use crate::changes::{
+    bind_erase, bind_erase_key, bind_insert, bind_modify, bind_relocate, bind_replace,
 };
-use crate::keys::bind_bounds;
-use crate::row::bind_row;
-use mi_catalog::{Catalog, Schema};
-use mi_request::{Object, Place, Request};
+use crate::edits::Edits;
+use crate::look_ups::{
+    bind_count, bind_find, bind_get, bind_list, bind_lower_rank, bind_nth, bind_range, bind_rank,
+    bind_size, bind_upper_rank,
+};
+use mi_catalog::Catalog;
+use mi_request::Request;
 use mi_value::{Key, Lower, Record, Refusal, Text, Upper};
 use std::alloc::Global;
 
@@ -125,7 +127,7 @@ pub enum Command {
 }
 
 /// The number of the table that is named; without a name it is the first.
-fn table_number(table: Option<Text>, catalog: &Catalog) -> Result<usize, Refusal>
+pub(crate) fn table_number(table: Option<Text>, catalog: &Catalog) -> Result<usize, Refusal>
     ensures { result ≡ binding.table_number catalog.now table }
 {
     match table {
@@ -134,77 +136,32 @@ fn table_number(table: Option<Text>, catalog: &Catalog) -> Result<usize, Refusal
     }
 }
 
-fn bind_insert(
-    alloc: Global,
-    table: usize,
-    row: Object,
-    before: Option<Place>,
-    schema: &Schema,
-) -> Result<Command, Refusal>
-    ensures { IsAnswer result (bound_insert schema.now table row before) }
-{
-    let before = bind_place(before, schema)?;
-    let row = bind_row(alloc, row, schema)?;
-    Ok(Command::Insert { table, row, before })
-}
-
 /// The command that a request is.
 fn command_of(alloc: Global, request: Request, catalog: &Catalog) -> Result<Command, Refusal>
     ensures answer { IsAnswer result (bound_command catalog.now request) }
     ensures refusal { IfErr result NamesNoIndex }
     ensures undo { request ≡ Request.Undo → result ≡ Ok Command.Undo }
 {
-    catalog.keeps_rules();
     match request {
-        Request::Insert { table, row, before } => {
-            let table = table_number(table, catalog)?;
-            bind_insert(alloc, table, row, before, catalog.table(table))
-        }
-        Request::Replace { table, id, row } => {
-            let table = table_number(table, catalog)?;
-            let row = bind_row(alloc, row, catalog.table(table))?;
-            Ok(Command::Replace { table, id, row })
-        }
+        Request::Insert { table, row, before } => bind_insert(alloc, table, row, before, catalog),
+        Request::Replace { table, id, row } => bind_replace(alloc, table, id, row, catalog),
         Request::Modify {
             table,
             id,
             set,
             add,
             rollback,
-        } => {
-            let table = table_number(table, catalog)?;
-            let edits = bind_edits(alloc, set, add, catalog.table(table))?;
-            Ok(Command::Modify {
-                table,
-                id,
-                edits,
-                rollback,
-            })
-        }
-        Request::Erase { table, id } => {
-            let table = table_number(table, catalog)?;
-            Ok(Command::Erase { table, id })
-        }
-        Request::EraseKey { table, index, key } => {
-            let table = table_number(table, catalog)?;
-            let (index, key) = whole_key(alloc, &index, key, catalog.table(table))?;
-            Ok(Command::EraseKey { table, index, key })
-        }
+        } => bind_modify(alloc, table, id, set, add, rollback, catalog),
+        Request::Erase { table, id } => bind_erase(table, id, catalog),
+        Request::EraseKey { table, index, key } => bind_erase_key(
+            alloc, table, index, key, catalog,
+        ),
         Request::Relocate {
             table,
             index,
             id,
             before,
-        } => {
-            let table = table_number(table, catalog)?;
-            let index = sequenced_index(&index, catalog.table(table))?;
-            Ok(Command::Relocate {
-                table,
-                index,
-                id,
-                before,
-            })
-        }
+        } => bind_relocate(table, index, id, before, catalog),
         Request::Start => Ok(Command::Start),
         Request::Undo => Ok(Command::Undo),
         Request::Squash => Ok(Command::Squash),
@@ -213,25 +170,10 @@ fn command_of(alloc: Global, request: Request, catalog: &Catalog) -> Result<Comm
         Request::Push => Ok(Command::Push),
         Request::Reserve { changes, sessions } => Ok(Command::Reserve { changes, sessions }),
         Request::Revision => Ok(Command::Revision),
-        Request::Get { table, id } => {
-            let table = table_number(table, catalog)?;
-            Ok(Command::Get { table, id })
-        }
-        Request::Find { table, index, key } => {
-            let table = table_number(table, catalog)?;
-            let (index, key) = key_or_prefix(alloc, &index, key, catalog.table(table))?;
-            Ok(Command::Find { table, index, key })
-        }
-        Request::Nth { table, index, n } => {
-            let table = table_number(table, catalog)?;
-            let index = ranked_index(&index, catalog.table(table))?;
-            Ok(Command::Nth { table, index, n })
-        }
-        Request::Count { table, index, key } => {
-            let table = table_number(table, catalog)?;
-            let (index, key) = key_or_prefix(alloc, &index, key, catalog.table(table))?;
-            Ok(Command::Count { table, index, key })
-        }
+        Request::Get { table, id } => bind_get(table, id, catalog),
+        Request::Find { table, index, key } => bind_find(alloc, table, index, key, catalog),
+        Request::Nth { table, index, n } => bind_nth(table, index, n, catalog),
+        Request::Count { table, index, key } => bind_count(alloc, table, index, key, catalog),
         Request::Range {
             table,
             index,
@@ -239,54 +181,21 @@ fn command_of(alloc: Global, request: Request, catalog: &Catalog) -> Result<Comm
             upper,
             reverse,
             limit,
-        } => {
-            let table = table_number(table, catalog)?;
-            let schema = catalog.table(table);
-            let index = sorted_index(&index, schema)?;
-            let (lower, upper) = bind_bounds(alloc, index, lower, upper, schema)?;
-            Ok(Command::Range {
-                table,
-                index,
-                lower,
-                upper,
-                reverse,
-                limit,
-            })
-        }
+        } => bind_range(alloc, table, index, lower, upper, reverse, limit, catalog),
         Request::List {
             table,
             index,
             after,
             limit,
-        } => {
-            let table = table_number(table, catalog)?;
-            let index = sequenced_index(&index, catalog.table(table))?;
-            Ok(Command::List {
-                table,
-                index,
-                after,
-                limit,
-            })
-        }
-        Request::Rank { table, index, id } => {
-            let table = table_number(table, catalog)?;
-            let index = ranked_index(&index, catalog.table(table))?;
-            Ok(Command::Rank { table, index, id })
-        }
-        Request::LowerRank { table, index, key } => {
-            let table = table_number(table, catalog)?;
-            let (index, key) = ranked_key(alloc, &index, key, catalog.table(table))?;
-            Ok(Command::LowerRank { table, index, key })
-        }
-        Request::UpperRank { table, index, key } => {
-            let table = table_number(table, catalog)?;
-            let (index, key) = ranked_key(alloc, &index, key, catalog.table(table))?;
-            Ok(Command::UpperRank { table, index, key })
-        }
-        Request::Size { table } => {
-            let table = table_number(table, catalog)?;
-            Ok(Command::Size { table })
-        }
+        } => bind_list(table, index, after, limit, catalog),
+        Request::Rank { table, index, id } => bind_rank(table, index, id, catalog),
+        Request::LowerRank { table, index, key } => bind_lower_rank(
+            alloc, table, index, key, catalog,
+        ),
+        Request::UpperRank { table, index, key } => bind_upper_rank(
+            alloc, table, index, key, catalog,
+        ),
+        Request::Size { table } => bind_size(table, catalog),
     }
 }
 

@@ -3,11 +3,13 @@
 #![tactic(auto)]
 
 mod binding;
+mod changes;
 mod columns;
 mod edits;
 mod indexes;
 mod keys;
 mod laws;
+mod look_ups;
 mod reply;
 mod row;
 mod shown;

@@ -1,0 +1,127 @@
+//! The changes of a table: from the members of a request to a command over a catalog.
+ghost use Rattle.std.specs.Prelude.{◌≡◌, IfErr};
+ghost use Rattle.mi_request.specs.Answers.{IsAnswer, NamesNoIndex};
+ghost use Rattle.mi_request.specs.declared.request.Request.TheVariants as request;
+ghost use Rattle.mi_protocol.specs.Binding.{bound_command};
+
+use crate::binding::{Command, table_number};
+use crate::edits::bind_edits;
+use crate::indexes::{bind_place, sequenced_index, whole_key};
+use crate::row::bind_row;
+use mi_catalog::Catalog;
+use mi_request::{Array, Object, Place};
+use mi_value::{Refusal, Text};
+use std::alloc::Global;
+
+/// A record, and a place of its own where one is named. Refusals, in this order: `NoTable`, `Index`, `Kind`, `Row`, and `Memory`.
+pub(crate) fn bind_insert(
+    alloc: Global,
+    table: Option<Text>,
+    row: Object,
+    before: Option<Place>,
+    catalog: &Catalog,
+) -> Result<Command, Refusal>
+    ensures answer { IsAnswer result (bound_command catalog.now (request.Insert table row before)) }
+    ensures refusal { IfErr result NamesNoIndex }
+{
+    catalog.keeps_rules();
+    let table = table_number(table, catalog)?;
+    let schema = catalog.table(table);
+    let before = bind_place(before, schema)?;
+    let row = bind_row(alloc, row, schema)?;
+    Ok(Command::Insert { table, row, before })
+}
+
+/// Another record for an id. Refusals, in this order: `NoTable`, `Row`, and `Memory`.
+pub(crate) fn bind_replace(
+    alloc: Global,
+    table: Option<Text>,
+    id: u64,
+    row: Object,
+    catalog: &Catalog,
+) -> Result<Command, Refusal>
+    ensures answer { IsAnswer result (bound_command catalog.now (request.Replace table id row)) }
+    ensures refusal { IfErr result NamesNoIndex }
+{
+    catalog.keeps_rules();
+    let table = table_number(table, catalog)?;
+    let row = bind_row(alloc, row, catalog.table(table))?;
+    Ok(Command::Replace { table, id, row })
+}
+
+/// Edits of columns. Refusals, in this order: `NoTable`, `Row`, and `Memory`.
+pub(crate) fn bind_modify(
+    alloc: Global,
+    table: Option<Text>,
+    id: u64,
+    set: Object,
+    add: Object,
+    rollback: bool,
+    catalog: &Catalog,
+) -> Result<Command, Refusal>
+    ensures answer { IsAnswer result (bound_command catalog.now (request.Modify table id set add rollback)) }
+    ensures refusal { IfErr result NamesNoIndex }
+{
+    catalog.keeps_rules();
+    let table = table_number(table, catalog)?;
+    let edits = bind_edits(alloc, set, add, catalog.table(table))?;
+    Ok(Command::Modify {
+        table,
+        id,
+        edits,
+        rollback,
+    })
+}
+
+/// Refusal: `NoTable`.
+pub(crate) fn bind_erase(
+    table: Option<Text>,
+    id: u64,
+    catalog: &Catalog,
+) -> Result<Command, Refusal>
+    ensures answer { IsAnswer result (bound_command catalog.now (request.Erase table id)) }
+    ensures refusal { IfErr result NamesNoIndex }
+{
+    catalog.keeps_rules();
+    let table = table_number(table, catalog)?;
+    Ok(Command::Erase { table, id })
+}
+
+/// A whole key. Refusals, in this order: `NoTable`, `Index`, `Kind`, `Key`, and `Memory`.
+pub(crate) fn bind_erase_key(
+    alloc: Global,
+    table: Option<Text>,
+    index: Text,
+    key: Array,
+    catalog: &Catalog,
+) -> Result<Command, Refusal>
+    ensures answer { IsAnswer result (bound_command catalog.now (request.EraseKey table index key)) }
+    ensures refusal { IfErr result NamesNoIndex }
+{
+    catalog.keeps_rules();
+    let table = table_number(table, catalog)?;
+    let (index, key) = whole_key(alloc, &index, key, catalog.table(table))?;
+    Ok(Command::EraseKey { table, index, key })
+}
+
+/// Refusals, in this order: `NoTable`, `Index`, `Kind`.
+pub(crate) fn bind_relocate(
+    table: Option<Text>,
+    index: Text,
+    id: u64,
+    before: Option<u64>,
+    catalog: &Catalog,
+) -> Result<Command, Refusal>
+    ensures answer { IsAnswer result (bound_command catalog.now (request.Relocate table index id before)) }
+    ensures refusal { IfErr result NamesNoIndex }
+{
+    catalog.keeps_rules();
+    let table = table_number(table, catalog)?;
+    let index = sequenced_index(&index, catalog.table(table))?;
+    Ok(Command::Relocate {
+        table,
+        index,
+        id,
+        before,
+    })
+}

@@ -1,0 +1,184 @@
+//! The look-ups: from the members of a request to a command over a catalog.
+ghost use Rattle.std.specs.Prelude.{◌≡◌, IfErr};
+ghost use Rattle.mi_request.specs.Answers.{IsAnswer, NamesNoIndex};
+ghost use Rattle.mi_request.specs.declared.request.Request.TheVariants as request;
+ghost use Rattle.mi_protocol.specs.Binding.{bound_command};
+
+use crate::binding::{Command, table_number};
+use crate::indexes::{key_or_prefix, ranked_index, ranked_key, sequenced_index, sorted_index};
+use crate::keys::bind_bounds;
+use mi_catalog::Catalog;
+use mi_request::{Array, End};
+use mi_value::{Refusal, Text};
+use std::alloc::Global;
+
+/// Refusal: `NoTable`.
+pub(crate) fn bind_get(table: Option<Text>, id: u64, catalog: &Catalog) -> Result<Command, Refusal>
+    ensures answer { IsAnswer result (bound_command catalog.now (request.Get table id)) }
+    ensures refusal { IfErr result NamesNoIndex }
+{
+    catalog.keeps_rules();
+    let table = table_number(table, catalog)?;
+    Ok(Command::Get { table, id })
+}
+
+/// A key, or the first values of one. Refusals, in this order: `NoTable`, `Index`, `Kind`, `Key`, and `Memory`.
+pub(crate) fn bind_find(
+    alloc: Global,
+    table: Option<Text>,
+    index: Text,
+    key: Array,
+    catalog: &Catalog,
+) -> Result<Command, Refusal>
+    ensures answer { IsAnswer result (bound_command catalog.now (request.Find table index key)) }
+    ensures refusal { IfErr result NamesNoIndex }
+{
+    catalog.keeps_rules();
+    let table = table_number(table, catalog)?;
+    let (index, key) = key_or_prefix(alloc, &index, key, catalog.table(table))?;
+    Ok(Command::Find { table, index, key })
+}
+
+/// A key, or the first values of one. Refusals, in this order: `NoTable`, `Index`, `Kind`, `Key`, and `Memory`.
+pub(crate) fn bind_count(
+    alloc: Global,
+    table: Option<Text>,
+    index: Text,
+    key: Array,
+    catalog: &Catalog,
+) -> Result<Command, Refusal>
+    ensures answer { IsAnswer result (bound_command catalog.now (request.Count table index key)) }
+    ensures refusal { IfErr result NamesNoIndex }
+{
+    catalog.keeps_rules();
+    let table = table_number(table, catalog)?;
+    let (index, key) = key_or_prefix(alloc, &index, key, catalog.table(table))?;
+    Ok(Command::Count { table, index, key })
+}
+
+/// Refusals, in this order: `NoTable`, `Index`, `Kind`.
+pub(crate) fn bind_nth(
+    table: Option<Text>,
+    index: Text,
+    n: u64,
+    catalog: &Catalog,
+) -> Result<Command, Refusal>
+    ensures answer { IsAnswer result (bound_command catalog.now (request.Nth table index n)) }
+    ensures refusal { IfErr result NamesNoIndex }
+{
+    catalog.keeps_rules();
+    let table = table_number(table, catalog)?;
+    let index = ranked_index(&index, catalog.table(table))?;
+    Ok(Command::Nth { table, index, n })
+}
+
+/// Two bounds. Refusals, in this order: `NoTable`, `Index`, `Kind`, `Key`, and `Memory`.
+pub(crate) fn bind_range(
+    alloc: Global,
+    table: Option<Text>,
+    index: Text,
+    lower: End,
+    upper: End,
+    reverse: bool,
+    limit: usize,
+    catalog: &Catalog,
+) -> Result<Command, Refusal>
+    ensures answer { IsAnswer result (bound_command catalog.now (request.Range table index lower upper reverse limit)) }
+    ensures refusal { IfErr result NamesNoIndex }
+{
+    catalog.keeps_rules();
+    let table = table_number(table, catalog)?;
+    let schema = catalog.table(table);
+    let index = sorted_index(&index, schema)?;
+    let (lower, upper) = bind_bounds(alloc, index, lower, upper, schema)?;
+    Ok(Command::Range {
+        table,
+        index,
+        lower,
+        upper,
+        reverse,
+        limit,
+    })
+}
+
+/// Refusals, in this order: `NoTable`, `Index`, `Kind`.
+pub(crate) fn bind_list(
+    table: Option<Text>,
+    index: Text,
+    after: Option<u64>,
+    limit: usize,
+    catalog: &Catalog,
+) -> Result<Command, Refusal>
+    ensures answer { IsAnswer result (bound_command catalog.now (request.List table index after limit)) }
+    ensures refusal { IfErr result NamesNoIndex }
+{
+    catalog.keeps_rules();
+    let table = table_number(table, catalog)?;
+    let index = sequenced_index(&index, catalog.table(table))?;
+    Ok(Command::List {
+        table,
+        index,
+        after,
+        limit,
+    })
+}
+
+/// Refusals, in this order: `NoTable`, `Index`, `Kind`.
+pub(crate) fn bind_rank(
+    table: Option<Text>,
+    index: Text,
+    id: u64,
+    catalog: &Catalog,
+) -> Result<Command, Refusal>
+    ensures answer { IsAnswer result (bound_command catalog.now (request.Rank table index id)) }
+    ensures refusal { IfErr result NamesNoIndex }
+{
+    catalog.keeps_rules();
+    let table = table_number(table, catalog)?;
+    let index = ranked_index(&index, catalog.table(table))?;
+    Ok(Command::Rank { table, index, id })
+}
+
+/// A key, or the first values of one. Refusals, in this order: `NoTable`, `Index`, `Kind`, `Key`, and `Memory`.
+pub(crate) fn bind_lower_rank(
+    alloc: Global,
+    table: Option<Text>,
+    index: Text,
+    key: Array,
+    catalog: &Catalog,
+) -> Result<Command, Refusal>
+    ensures answer { IsAnswer result (bound_command catalog.now (request.LowerRank table index key)) }
+    ensures refusal { IfErr result NamesNoIndex }
+{
+    catalog.keeps_rules();
+    let table = table_number(table, catalog)?;
+    let (index, key) = ranked_key(alloc, &index, key, catalog.table(table))?;
+    Ok(Command::LowerRank { table, index, key })
+}
+
+/// A key, or the first values of one. Refusals, in this order: `NoTable`, `Index`, `Kind`, `Key`, and `Memory`.
+pub(crate) fn bind_upper_rank(
+    alloc: Global,
+    table: Option<Text>,
+    index: Text,
+    key: Array,
+    catalog: &Catalog,
+) -> Result<Command, Refusal>
+    ensures answer { IsAnswer result (bound_command catalog.now (request.UpperRank table index key)) }
+    ensures refusal { IfErr result NamesNoIndex }
+{
+    catalog.keeps_rules();
+    let table = table_number(table, catalog)?;
+    let (index, key) = ranked_key(alloc, &index, key, catalog.table(table))?;
+    Ok(Command::UpperRank { table, index, key })
+}
+
+/// Refusal: `NoTable`.
+pub(crate) fn bind_size(table: Option<Text>, catalog: &Catalog) -> Result<Command, Refusal>
+    ensures answer { IsAnswer result (bound_command catalog.now (request.Size table)) }
+    ensures refusal { IfErr result NamesNoIndex }
+{
+    catalog.keeps_rules();
+    let table = table_number(table, catalog)?;
+    Ok(Command::Size { table })
+}
