@@ -62,7 +62,8 @@ impl Column {
         requires { place < length self.now }
         ensures { result ≡ cell_at place self.now }
     {
-        self.blocks[place / CHUNK].cells[place % CHUNK]
+        let block = &self.blocks[place / CHUNK];
+        block.cells[place % CHUNK]
     }
 
     /// Sets the cell of a place.
@@ -87,7 +88,9 @@ impl Column {
     }
 }
 
-/// A block none of whose cells was set.
+/// A block none of whose cells was set. It is made on the stack, so no caller is to have it in its own frame.
+#[cold]
+#[inline(never)]
 fn empty_block(alloc: Global) -> Result<Box<Block>, AllocError>
     ensures { IfOk result (λ b. b.value.cells ≡ replicate 4096 empty_cell) }
 {
