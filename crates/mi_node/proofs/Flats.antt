@@ -1,10 +1,8 @@
 -- An index into chunks is one into the list that they are.
---     in_chunks, small_of, split_of      where an index lies
+--     small_of, split_of, in_chunks      where an index lies
 --     full_at, index-flat, set-flat, flat-end      a chunk, an element, another in its place, and a chunk more
 --     length-flat, IsChunked-set, IsChunked-end      how many there are, and that chunks stay full
 use Rattle.std.proofs.Common.{◌≡◌, ℕ, zero, suc, ◌+◌, ◌*◌, ◌/◌, ◌%◌, ◌<◌, ◌≤◌, List, [], ◌∷◌, ◌++◌, length, slice_set, slice_index_or, refl, sym, ap, ◌∙◌, subst, arith}
-use Rattle.std.specs.Global.{Vec}
-use Rattle.std.specs.Vec.{with_item}
 use Rattle.std.proofs.Math.ListN.{length-set}
 use Rattle.mi_node.specs.Chunks.{flat, AreFull, IsChunked}
 
@@ -29,63 +27,9 @@ module _ {E : Type 0} where
   set_right (x ∷ xs) ys k zero w e = absurd (omega (arith, e))
   set_right (x ∷ xs) ys k (suc n) w e = ap (λ l. x ∷ l) (set_right xs ys k n w (omega (arith, e)))
 
-  pub full_at : (n q : ℕ) (cs : List (Vec E)) (c : Vec E) → AreFull n cs → q < length cs → c ≡ slice_index_or cs q c → length c.items ≡ n
-  full_at n q [] c full less at = absurd (omega (arith, less))
-  full_at n zero (x ∷ cs) c full less at = ap (λ (v : Vec E). length v.items) at ∙ full.0
-  full_at n (suc q) (x ∷ cs) c full less at = full_at n q cs c full.1 (omega (arith, less)) at
-
-  pub index-flat : (q r i : ℕ) (cs : List (Vec E)) (c : Vec E) (d : E) → AreFull 4096 cs → q < length cs → c ≡ slice_index_or cs q c → r < 4096 → i ≡ 4096 * q + r
-      → slice_index_or (flat cs) i d ≡ slice_index_or c.items r d
-  index-flat q r i [] c d full less at small is = absurd (omega (arith, less))
-  index-flat zero r i (x ∷ cs) c d full less at small is =
-      let e = full.0 in let f : i ≡ r = omega (arith, is) in let inside : r < length x.items = omega (arith, small, e) in
-      ap (λ m. slice_index_or (x.items ++ flat cs) m d) f ∙ in_left x.items (flat cs) r d inside ∙ ap (λ (v : Vec E). slice_index_or v.items r d) (sym at)
-  index-flat (suc q) r i (x ∷ cs) c d full less at small is =
-      let e = full.0 in let f : i ≡ length x.items + (4096 * q + r) = omega (arith, is, e) in
-      in_right x.items (flat cs) (4096 * q + r) i d f ∙ index-flat q r (4096 * q + r) cs c d full.1 (omega (arith, less)) at small refl
-
-  pub set-flat : (q r i : ℕ) (cs : List (Vec E)) (c : Vec E) (w : E) → AreFull 4096 cs → q < length cs → c ≡ slice_index_or cs q c → r < 4096 → i ≡ 4096 * q + r
-      → flat (slice_set cs q (with_item c r w)) ≡ slice_set (flat cs) i w
-  set-flat q r i [] c w full less at small is = absurd (omega (arith, less))
-  set-flat zero r i (x ∷ cs) c w full less at small is =
-      let e = full.0 in let f : r ≡ i = omega (arith, is) in let inside : r < length x.items = omega (arith, small, e) in
-      ap (λ (v : Vec E). slice_set v.items r w ++ flat cs) at ∙ sym (set_left x.items (flat cs) r w inside) ∙ ap (λ m. slice_set (x.items ++ flat cs) m w) f
-  set-flat (suc q) r i (x ∷ cs) c w full less at small is =
-      let e = full.0 in let f : i ≡ length x.items + (4096 * q + r) = omega (arith, is, e) in
-      ap (λ l. x.items ++ l) (set-flat q r (4096 * q + r) cs c w full.1 (omega (arith, less)) at small refl) ∙ sym (set_right x.items (flat cs) (4096 * q + r) i w f)
-
-  pub AreFull-set : (n q : ℕ) (cs : List (Vec E)) (c : Vec E) → AreFull n cs → length c.items ≡ n → AreFull n (slice_set cs q c)
-  AreFull-set n q [] c full size = tt
-  AreFull-set n zero (x ∷ cs) c full size = (size, full.1)
-  AreFull-set n (suc q) (x ∷ cs) c full size = (full.0, AreFull-set n q cs c full.1 size)
-
   length_both : (xs ys : List E) → length (xs ++ ys) ≡ length xs + length ys
   length_both [] ys = omega arith
   length_both (x ∷ xs) ys = let e = length_both xs ys in omega (arith, e)
-
-  pub length-flat : (cs : List (Vec E)) → AreFull 4096 cs → length (flat cs) ≡ 4096 * length cs
-  length-flat [] full = refl
-  length-flat (x ∷ cs) full = let a = length_both x.items (flat cs) in let b = length-flat cs full.1 in let e = full.0 in omega (arith, a, b, e)
-
-  pub in_chunks : (i : ℕ) (cs : List (Vec E)) → AreFull 4096 cs → i < length (flat cs) → i / 4096 < length cs
-  in_chunks i cs full less = let e = length-flat cs full in omega (arith, less, e)
-
-  length_set : (q : ℕ) (cs : List (Vec E)) (c : Vec E) → length (slice_set cs q c) ≡ length cs
-  length_set q cs c = length-set cs q c
-
-  pub IsChunked-set : (q : ℕ) (cs : List (Vec E)) (c : Vec E) → IsChunked cs → length c.items ≡ 4096 → IsChunked (slice_set cs q c)
-  IsChunked-set q cs c all size = record { full = AreFull-set 4096 q cs c all.full size; few = subst (λ n. n ≤ 524288) (sym (length_set q cs c)) all.few }
-
-  AreFull-end : (n : ℕ) (cs : List (Vec E)) (c : Vec E) → AreFull n cs → length c.items ≡ n → AreFull n (cs ++ c ∷ [])
-  AreFull-end n [] c full size = (size, tt)
-  AreFull-end n (x ∷ cs) c full size = (full.0, AreFull-end n cs c full.1 size)
-
-  length_end : (cs : List (Vec E)) (c : Vec E) → length (cs ++ c ∷ []) ≡ length cs + 1
-  length_end [] c = refl
-  length_end (x ∷ cs) c = let e = length_end cs c in omega (arith, e)
-
-  pub IsChunked-end : (cs : List (Vec E)) (c : Vec E) → IsChunked cs → length c.items ≡ 4096 → length cs < 524288 → IsChunked (cs ++ c ∷ [])
-  IsChunked-end cs c all size less = let e = length_end cs c in record { full = AreFull-end 4096 cs c all.full size; few = omega (arith, e, less) }
 
   right_none : (xs : List E) → xs ++ [] ≡ xs
   right_none [] = refl
@@ -95,9 +39,63 @@ module _ {E : Type 0} where
   regroup [] ys zs = refl
   regroup (x ∷ xs) ys zs = ap (λ l. x ∷ l) (regroup xs ys zs)
 
-  pub flat-end : (cs : List (Vec E)) (c : Vec E) → flat (cs ++ c ∷ []) ≡ flat cs ++ c.items
-  flat-end [] c = right_none c.items
-  flat-end (x ∷ cs) c = ap (λ l. x.items ++ l) (flat-end cs c) ∙ sym (regroup x.items (flat cs) c.items)
+-- items: what a chunk has
+module _ {C E : Type 0} (items : C → List E) where
+  pub full_at : (n q : ℕ) (cs : List C) (c : C) → AreFull items n cs → q < length cs → c ≡ slice_index_or cs q c → length (items c) ≡ n
+  full_at n q [] c full less at = absurd (omega (arith, less))
+  full_at n zero (x ∷ cs) c full less at = ap (λ (v : C). length (items v)) at ∙ full.0
+  full_at n (suc q) (x ∷ cs) c full less at = full_at n q cs c full.1 (omega (arith, less)) at
+
+  pub index-flat : (q r i : ℕ) (cs : List C) (c : C) (d : E) → AreFull items 4096 cs → q < length cs → c ≡ slice_index_or cs q c → r < 4096 → i ≡ 4096 * q + r
+      → slice_index_or (flat items cs) i d ≡ slice_index_or (items c) r d
+  index-flat q r i [] c d full less at small is = absurd (omega (arith, less))
+  index-flat zero r i (x ∷ cs) c d full less at small is =
+      let e = full.0 in let f : i ≡ r = omega (arith, is) in let inside : r < length (items x) = omega (arith, small, e) in
+      ap (λ m. slice_index_or (items x ++ flat items cs) m d) f ∙ in_left (items x) (flat items cs) r d inside ∙ ap (λ (v : C). slice_index_or (items v) r d) (sym at)
+  index-flat (suc q) r i (x ∷ cs) c d full less at small is =
+      let e = full.0 in let f : i ≡ length (items x) + (4096 * q + r) = omega (arith, is, e) in
+      in_right (items x) (flat items cs) (4096 * q + r) i d f ∙ index-flat q r (4096 * q + r) cs c d full.1 (omega (arith, less)) at small refl
+
+  -- the chunk e is c with another element
+  pub set-flat : (q r i : ℕ) (cs : List C) (c e : C) (w : E) → AreFull items 4096 cs → q < length cs → c ≡ slice_index_or cs q c → items e ≡ slice_set (items c) r w → r < 4096 → i ≡ 4096 * q + r
+      → flat items (slice_set cs q e) ≡ slice_set (flat items cs) i w
+  set-flat q r i [] c e w full less at put small is = absurd (omega (arith, less))
+  set-flat zero r i (x ∷ cs) c e w full less at put small is =
+      let long = full.0 in let f : r ≡ i = omega (arith, is) in let inside : r < length (items x) = omega (arith, small, long) in
+      ap (λ l. l ++ flat items cs) put ∙ ap (λ (v : C). slice_set (items v) r w ++ flat items cs) at ∙ sym (set_left (items x) (flat items cs) r w inside) ∙ ap (λ m. slice_set (items x ++ flat items cs) m w) f
+  set-flat (suc q) r i (x ∷ cs) c e w full less at put small is =
+      let long = full.0 in let f : i ≡ length (items x) + (4096 * q + r) = omega (arith, is, long) in
+      ap (λ l. items x ++ l) (set-flat q r (4096 * q + r) cs c e w full.1 (omega (arith, less)) at put small refl) ∙ sym (set_right (items x) (flat items cs) (4096 * q + r) i w f)
+
+  AreFull-set : (n q : ℕ) (cs : List C) (c : C) → AreFull items n cs → length (items c) ≡ n → AreFull items n (slice_set cs q c)
+  AreFull-set n q [] c full size = tt
+  AreFull-set n zero (x ∷ cs) c full size = (size, full.1)
+  AreFull-set n (suc q) (x ∷ cs) c full size = (full.0, AreFull-set n q cs c full.1 size)
+
+  pub length-flat : (cs : List C) → AreFull items 4096 cs → length (flat items cs) ≡ 4096 * length cs
+  length-flat [] full = refl
+  length-flat (x ∷ cs) full = let a = length_both (items x) (flat items cs) in let b = length-flat cs full.1 in let e = full.0 in omega (arith, a, b, e)
+
+  pub in_chunks : (i : ℕ) (cs : List C) → AreFull items 4096 cs → i < length (flat items cs) → i / 4096 < length cs
+  in_chunks i cs full less = let e = length-flat cs full in omega (arith, less, e)
+
+  pub IsChunked-set : (q : ℕ) (cs : List C) (c : C) → IsChunked items cs → length (items c) ≡ 4096 → IsChunked items (slice_set cs q c)
+  IsChunked-set q cs c all size = record { full = AreFull-set 4096 q cs c all.full size; few = subst (λ n. n ≤ 524288) (sym (length-set cs q c)) all.few }
+
+  AreFull-end : (n : ℕ) (cs : List C) (c : C) → AreFull items n cs → length (items c) ≡ n → AreFull items n (cs ++ c ∷ [])
+  AreFull-end n [] c full size = (size, tt)
+  AreFull-end n (x ∷ cs) c full size = (full.0, AreFull-end n cs c full.1 size)
+
+  length_end : (cs : List C) (c : C) → length (cs ++ c ∷ []) ≡ length cs + 1
+  length_end [] c = refl
+  length_end (x ∷ cs) c = let e = length_end cs c in omega (arith, e)
+
+  pub IsChunked-end : (cs : List C) (c : C) → IsChunked items cs → length (items c) ≡ 4096 → length cs < 524288 → IsChunked items (cs ++ c ∷ [])
+  IsChunked-end cs c all size less = let e = length_end cs c in record { full = AreFull-end 4096 cs c all.full size; few = omega (arith, e, less) }
+
+  pub flat-end : (cs : List C) (c : C) → flat items (cs ++ c ∷ []) ≡ flat items cs ++ items c
+  flat-end [] c = right_none (items c)
+  flat-end (x ∷ cs) c = ap (λ l. items x ++ l) (flat-end cs c) ∙ sym (regroup (items x) (flat items cs) (items c))
 
 pub split_of : (i : ℕ) → i ≡ 4096 * (i / 4096) + i % 4096
 split_of i = omega arith

@@ -114,10 +114,9 @@ long-set cs s m c there long size t less =
 pub found_column : (cs : List (List Cell)) (s : ℕ) (x : List Cell) → s < length cs → x ≡ slice_index_or cs s x → x ≡ column cs s
 found_column cs s x less is = is ∙ index-any cs s x [] less
 
-pub read_cell : (cs : List (List Cell)) (s k : ℕ) (x : List Cell) (y : Cell) → s < length cs → k < length (column cs s) → x ≡ slice_index_or cs s x → y ≡ slice_index_or x k y
+pub read_cell : (cs : List (List Cell)) (s k : ℕ) (x : List Cell) (y : Cell) → s < length cs → x ≡ slice_index_or cs s x → y ≡ cell_at k x
     → link_in y ≡ slice_index_or (links_at cs k) s no_link
-read_cell cs s k x y less inside is at =
-    ap link_in (at ∙ ap (λ (c : List Cell). slice_index_or c k y) (found_column cs s x less is) ∙ index-any (column cs s) k y empty_cell inside) ∙ sym (index-links cs k s less)
+read_cell cs s k x y less is at = ap link_in (at ∙ ap (cell_at k) (found_column cs s x less is)) ∙ sym (index-links cs k s less)
 
 -- a column with another cell, as it is put back
 pub put_column : (cs : List (List Cell)) (s k : ℕ) (x w : List Cell) (y : Cell) → s < length cs → x ≡ slice_index_or cs s x → w ≡ slice_set x k y → slice_set cs s w ≡ slice_set cs s (slice_set (column cs s) k y)

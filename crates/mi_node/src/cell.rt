@@ -8,12 +8,14 @@ use crate::node_ref::{NOBODY, NodeRef};
 use std::alloc::AllocError;
 
 /// A `Link` whose neighbours are the bits of their references.
+///
+/// What a look-up reads stands in the first half: where a cell lies across two lines of the cache, it reads one.
 pub(crate) struct Cell {
     back: u32,
     forth: u32,
+    key: u64,
     size: u32,
     height: u8,
-    key: u64,
     stamp: u64,
 }
 
@@ -21,9 +23,9 @@ pub(crate) struct Cell {
 pub(crate) const EMPTY: Cell = Cell {
     back: NOBODY,
     forth: NOBODY,
+    key: 0,
     size: 0,
     height: 0,
-    key: 0,
     stamp: 0,
 };
 
@@ -47,9 +49,9 @@ impl Cell {
         Cell {
             back: bits_of(link.back),
             forth: bits_of(link.forth),
+            key: link.tag.key,
             size: link.size,
             height: link.height,
-            key: link.tag.key,
             stamp: link.tag.stamp,
         }
     }

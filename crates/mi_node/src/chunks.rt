@@ -10,7 +10,7 @@ use std::marker::Model;
 pub(crate) const CHUNK: usize = 4096;
 
 /// How many chunks there may be: as many elements as 31 bits count.
-const MAX_CHUNKS: usize = 524_288;
+pub(crate) const MAX_CHUNKS: usize = 524_288;
 
 /// An array that grows by a chunk at a time. No element is ever moved to another address.
 #[derive(Drop)]
@@ -26,11 +26,11 @@ impl<E> Model for Chunks<E> {
 
     ghost coded = { coded_list E.code };
 
-    ghost use Rattle.mi_node.specs.Chunks.{flat, IsChunked};
+    ghost use Rattle.mi_node.specs.Chunks.{flat, in_vec, IsChunked};
 
-    ghost view = { λ c. flat c.chunks.items };
+    ghost view = { λ c. flat in_vec c.chunks.items };
 
-    ghost invariant = { λ c. IsChunked c.chunks.items };
+    ghost invariant = { λ c. IsChunked in_vec c.chunks.items };
 }
 
 impl<E> Chunks<E> {

@@ -5,12 +5,12 @@ ghost use Rattle.mi_node.specs.Pool.{no_link, put_link};
 ghost use Rattle.mi_node.specs.Columns.{cell_at, links_at, column, AreLong};
 
 use crate::cell::{Cell, EMPTY};
-use crate::chunks::{CHUNK, Chunks};
+use crate::column::Column;
 use crate::link::Link;
 use std::alloc::{AllocError, Global};
 
 /// The link of a place in a slot.
-pub(crate) fn link_at(columns: &Vec<Chunks<Cell>>, place: usize, slot: usize) -> Link
+pub(crate) fn link_at(columns: &Vec<Column>, place: usize, slot: usize) -> Link
     requires slot { slot < length columns.now.items }
     requires place { place < length (column columns.now.items slot) }
     ensures { result ≡ slice_index_or (links_at columns.now.items place) slot no_link }
@@ -19,7 +19,7 @@ pub(crate) fn link_at(columns: &Vec<Chunks<Cell>>, place: usize, slot: usize) ->
 }
 
 /// Sets the link of a place in a slot.
-pub(crate) fn set_link_at(columns: &mut Vec<Chunks<Cell>>, place: usize, slot: usize, link: Link)
+pub(crate) fn set_link_at(columns: &mut Vec<Column>, place: usize, slot: usize, link: Link)
     requires slot { slot < length columns.old.items }
     requires place { place < length (column columns.old.items slot) }
     ensures link { links_at columns.new.items place ≡ put_link (links_at columns.old.items place) slot link }
@@ -31,7 +31,7 @@ pub(crate) fn set_link_at(columns: &mut Vec<Chunks<Cell>>, place: usize, slot: u
 }
 
 /// Each link of a place is as if it was never set.
-pub(crate) fn clear(columns: &mut Vec<Chunks<Cell>>, place: usize)
+pub(crate) fn clear(columns: &mut Vec<Column>, place: usize)
     requires { AreLong (place + 1) columns.old.items }
     ensures links { links_at columns.new.items place ≡ replicate (length columns.old.items) no_link }
     ensures others { (k : ℕ) → (k == place) ≡ false → links_at columns.new.items k ≡ links_at columns.old.items k }
@@ -45,7 +45,7 @@ pub(crate) fn clear(columns: &mut Vec<Chunks<Cell>>, place: usize)
 
 /// There are as many columns as slots. New ones have no cells.
 pub(crate) fn add_columns(
-    columns: &mut Vec<Chunks<Cell>>,
+    columns: &mut Vec<Column>,
     slots: usize,
     alloc: Global,
 ) -> Result<(), AllocError>
@@ -55,14 +55,14 @@ pub(crate) fn add_columns(
     ensures full { length columns.old.items ≡ slots → columns.new.items ≡ columns.old.items }
 {
     while columns.len() < slots {
-        columns.push(Chunks::new(alloc))?;
+        columns.push(Column::new(alloc))?;
     }
     Ok(())
 }
 
 /// Each column that has fewer cells than `places` gets a chunk more. It changes no link.
 pub(crate) fn lengthen(
-    columns: &mut Vec<Chunks<Cell>>,
+    columns: &mut Vec<Column>,
     places: usize,
     alloc: Global,
 ) -> Result<(), AllocError>
@@ -78,18 +78,14 @@ pub(crate) fn lengthen(
     Ok(())
 }
 
-fn lengthen_column(
-    column: &mut Chunks<Cell>,
-    places: usize,
-    alloc: Global,
-) -> Result<(), AllocError>
+fn lengthen_column(column: &mut Column, places: usize, alloc: Global) -> Result<(), AllocError>
     requires { places ≤ length column.old + 4096 }
     ensures ok { IfOk result (λ _. places ≤ length column.new) }
     ensures cells { (k : ℕ) → cell_at k column.new ≡ cell_at k column.old }
     ensures longer { length column.old ≤ length column.new }
 {
     if column.len() < places {
-        column.add(Vec::from_elem(alloc, EMPTY, CHUNK)?)?;
+        column.add(alloc)?;
     }
     Ok(())
 }

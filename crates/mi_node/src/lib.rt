@@ -4,6 +4,7 @@
 
 mod cell;
 mod chunks;
+mod column;
 mod columns;
 mod counted;
 mod home;

@@ -4,8 +4,8 @@ ghost use Rattle.std.specs.Prelude.{◌≡◌, ◌<◌, Some, None, IfOk};
 ghost use Rattle.mi_node.specs.Homes.{IsFreeAt};
 ghost use Rattle.mi_node.specs.Pool.{IsHeld, ref_of, value_of, link_of, no_nodes, taken, without, with_link, with_value};
 
-use crate::cell::Cell;
 use crate::chunks::{CHUNK, Chunks};
+use crate::column::Column;
 use crate::columns::{add_columns, clear, lengthen, link_at, set_link_at};
 use crate::home::{Home, free_chunk, into_value, is_free, next_at, value_at};
 use crate::link::Link;
@@ -17,7 +17,7 @@ use std::alloc::{AllocError, Global};
 #[derive(Drop)]
 pub(crate) struct Places<T> {
     homes: Chunks<Home<T>>,
-    columns: Vec<Chunks<Cell>>,
+    columns: Vec<Column>,
     free: u32,
     slots: usize,
     alloc: Global,

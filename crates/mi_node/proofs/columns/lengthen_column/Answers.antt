@@ -1,4 +1,4 @@
-use Rattle.std.proofs.Common.{◌++◌, ap, ◌∙◌}
+use Rattle.std.proofs.Common.{ap, ◌∙◌}
 use Rattle.mi_node.specs.Cells.{empty_cell}
 use Rattle.mi_node.specs.Columns.{cell_at}
 use Rattle.mi_node.proofs.Links.{index-end}
@@ -6,4 +6,4 @@ use Rattle.mi_node.proofs.columns.lengthen_column.Goals as goal
 
 pub returns-in_ok-add-clause-cells : goal.returns-in_ok-add-clause-cells
 returns-in_ok-add-clause-cells c k =
-    ap (cell_at k) (c.in_ok-add.ensures.ok ∙ ap (λ es. c.args.column.now ++ es) (c.in_ok-from_elem.ensures.items_if_clones_equal (λ y e. e))) ∙ index-end c.args.column.now 4096 k empty_cell
+    ap (cell_at k) c.in_ok-add.ensures.ok ∙ index-end c.args.column.now 4096 k empty_cell
