@@ -7,4 +7,5 @@ pub mod Laws
 pub mod Examples
 pub mod Makes
 pub mod Asked
+pub mod Packed
 pub mod Backs

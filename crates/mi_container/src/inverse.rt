@@ -1,5 +1,6 @@
 //! What takes a change back. A container makes it, as it changes, and alone can use it; to the journal it is plain data. It
 //! takes no memory: the places that it remembers stand in itself.
+use crate::place::MaybePlace;
 use arrayvec::ArrayVec;
 use mi_node::NodeRef;
 use mi_value::Record;
@@ -15,17 +16,8 @@ pub struct RowRef {
     pub node: NodeRef,
 }
 
-/// The place that a record had in an index before its key changed there: its stamp, and in a hashed index the neighbours
-/// among the records of its key.
-#[derive(Clone, Copy)]
-pub struct OldPlace {
-    pub stamp: u64,
-    pub back: Option<NodeRef>,
-    pub forth: Option<NodeRef>,
-}
-
 /// For each index the old place, or none where the key stayed.
-pub type OldPlaces = ArrayVec<Option<OldPlace>, MAX_PLACES>;
+pub type OldPlaces = ArrayVec<MaybePlace, MAX_PLACES>;
 
 /// What was done, and what there was before it.
 #[derive(Drop)]

@@ -7,6 +7,8 @@ mod container;
 pub mod examples;
 mod inverse;
 pub mod laws;
+mod place;
 
 pub use container::Container;
-pub use inverse::{Inverse, MAX_PLACES, OldPlace, OldPlaces, RowRef, Undo};
+pub use inverse::{Inverse, MAX_PLACES, OldPlaces, RowRef, Undo};
+pub use place::{MaybePlace, OldPlace};

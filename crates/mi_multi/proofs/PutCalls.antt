@@ -26,7 +26,7 @@ use Rattle.mi_container.specs.Run.{Allowed}
 use Rattle.mi_container.specs.Run.Change.{Replace}
 use Rattle.mi_container.specs.Fits.{IsLive}
 use Rattle.mi_container.specs.Backs.{row_seen, place_seen}
-use Rattle.mi_container.specs.declared.inverse.OldPlace.{OldPlace as Was}
+use Rattle.mi_container.specs.declared.place.OldPlace.{OldPlace as Was}
 use Rattle.mi_container.specs.declared.inverse.RowRef.{RowRef as Row}
 use Rattle.mi_container.proofs.Facts.{has_there}
 use Rattle.mi_ids.specs.IdMap.{live_node}

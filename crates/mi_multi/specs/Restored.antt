@@ -4,7 +4,7 @@ use Rattle.std.specs.Option.{option_map}
 use Rattle.std.specs.declared.option.Option.{Option}
 use Rattle.mi_value.specs.declared.value.Value.{Value}
 use Rattle.mi_index.specs.declared.moves.Place.{Place}
-use Rattle.mi_container.specs.declared.inverse.OldPlace.{OldPlace as Remembered}
+use Rattle.mi_container.specs.declared.place.OldPlace.{OldPlace as Remembered}
 use Rattle.mi_container.specs.Inverse.{OldPlace, Old}
 use Rattle.mi_container.specs.Backs.{place_seen}
 

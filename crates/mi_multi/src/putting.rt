@@ -14,7 +14,7 @@ ghost use Rattle.mi_multi.specs.Placed.{place_kept};
 use crate::multi::MultiIndex;
 use crate::reading::structure_at;
 use arrayvec::ArrayVec;
-use mi_container::{Inverse, MAX_PLACES, OldPlace, OldPlaces, RowRef, Undo};
+use mi_container::{Inverse, MAX_PLACES, MaybePlace, OldPlace, OldPlaces, RowRef, Undo};
 use mi_index::{Place, Stored, Structure};
 use mi_node::NodeRef;
 use mi_value::{Record, same_key};
@@ -50,7 +50,7 @@ fn marks_of(places: &OldPlaces) -> ArrayVec<bool, MAX_PLACES>
 
 impl MultiIndex {
     /// The place of a row in an index, if another record has another key there.
-    fn old_place(&self, index: usize, row: RowRef, new: &Record) -> Option<OldPlace>
+    fn old_place(&self, index: usize, row: RowRef, new: &Record) -> MaybePlace
         requires index { index < length self.now.shape.indexes }
         requires row { IsLive self.now.plain.rows (row_seen row) }
         ensures { option_map place_seen result ≡ inverse.old_place index self.now.plain.rows row.id (content_of self.now.plain.rows row.id).values new.now
@@ -58,11 +58,11 @@ impl MultiIndex {
     {
         let old = &self.nodes.pool.value(row.node).row;
         if same_key(old, new, self.schema.parts(index)) {
-            return None;
+            return MaybePlace::none();
         }
         let structure = structure_at(&self.nodes, index);
         let place = structure.place(&self.nodes.pool, index, row.node);
-        Some(kept_place(structure, place))
+        MaybePlace::new(kept_place(structure, place))
     }
 
     /// The places of a row, which has this node, in the indexes in which another record has another key.

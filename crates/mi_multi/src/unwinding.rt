@@ -34,7 +34,7 @@ fn places_of(old: &OldPlaces) -> ArrayVec<Option<Place>, MAX_PLACES>
 {
     let mut places = ArrayVec::new();
     for place in old.as_slice() {
-        places.push(place_of(*place));
+        places.push(place_of(place.place()));
     }
     places
 }

@@ -11,10 +11,12 @@ mod home;
 mod link;
 pub mod neighbours;
 mod node_ref;
+mod packed;
 mod places;
 mod pool;
 
 pub use counted::Counted;
 pub use link::{Link, NO_LINK, NO_TAG, Tag};
 pub use node_ref::NodeRef;
+pub use packed::PackedRef;
 pub use pool::{MAX_SLOTS, Pool};

@@ -1,0 +1,83 @@
+//! The place that a record had in an index before its key changed there, and a form of it that takes 16 bytes. Plain data.
+ghost use Rattle.std.specs.Prelude.{◌≡◌, ◌<◌, ◌^◌, Some, None};
+ghost use Rattle.std.specs.Option.{is_some};
+
+use mi_node::{NodeRef, PackedRef};
+use std::marker::Model;
+
+/// The place that a record had in an index before its key changed there: its stamp, and in a hashed index the neighbours
+/// among the records of its key.
+#[derive(Clone, Copy)]
+pub struct OldPlace {
+    pub stamp: u64,
+    pub back: Option<NodeRef>,
+    pub forth: Option<NodeRef>,
+}
+
+/// The least number that is no stamp: it stands where there is no place.
+const NO_STAMP: u64 = 1 << 63;
+
+/// An old place, or none, in 16 bytes: contracts see the `Option`.
+#[derive(Drop)]
+pub struct MaybePlace {
+    stamp: u64,
+    back: PackedRef,
+    forth: PackedRef,
+}
+
+impl Model for MaybePlace {
+    ghost use Rattle.std.specs.Prelude.{Option};
+    ghost use Rattle.mi_container.specs.declared.place.OldPlace.{OldPlace};
+    ghost use Rattle.mi_container.specs.Packed.{place_in};
+
+    ghost Value = { Option OldPlace };
+
+    ghost view = { place_in };
+}
+
+impl MaybePlace {
+    /// No place.
+    pub fn none() -> MaybePlace
+        ensures { result ≡ None }
+    {
+        MaybePlace {
+            stamp: NO_STAMP,
+            back: PackedRef::new(None),
+            forth: PackedRef::new(None),
+        }
+    }
+
+    /// A place. Stamps are below 2^63.
+    pub fn new(place: OldPlace) -> MaybePlace
+        requires { place.stamp < 2 ^ 63 }
+        ensures { result ≡ Some place }
+    {
+        MaybePlace {
+            stamp: place.stamp,
+            back: PackedRef::new(place.back),
+            forth: PackedRef::new(place.forth),
+        }
+    }
+
+    /// Whether there is a place.
+    pub fn is_some(&self) -> bool
+        ensures { result ≡ is_some self.now }
+    {
+        self.stamp < NO_STAMP
+    }
+
+    /// The place, if there is one.
+    pub fn place(&self) -> Option<OldPlace>
+        ensures { result ≡ self.now }
+    {
+        if self.stamp < NO_STAMP {
+            Some(OldPlace {
+                stamp: self.stamp,
+                back: self.back.node(),
+                forth: self.forth.node(),
+            })
+        } else {
+            None
+        }
+    }
+}
