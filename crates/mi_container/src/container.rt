@@ -1,12 +1,13 @@
 //! The calls of a container: the rows of one table, linked into its indexes, and changes with their inverses. It says what
 //! each call answers and leaves, by plain data and the definitions of tables, and nothing of how rows are linked. It knows
 //! no sessions.
-ghost use Rattle.std.specs.Prelude.{◌≡◌, ◌≢◌, ◌<◌, ◌≤◌, ◌+◌, ◌*◌, ◌^◌, ℕ, IsTrue, IfOk, IfErr, IfSome};
+ghost use Rattle.std.specs.Prelude.{◌≡◌, ◌≢◌, ◌<◌, ◌≤◌, ◌+◌, ◌*◌, ◌^◌, ℕ, map, IsTrue, IfOk, IfErr, IfSome};
 ghost use Rattle.std.specs.Option.{option_copied};
 ghost use Rattle.mi_value.specs.declared.refusal.Refusal.TheVariants.{Memory};
 ghost use Rattle.mi_catalog.specs.Shape.{Shape};
 ghost use Rattle.mi_model.specs.Table.{get as get_row, has as has_row, size as size_of};
 ghost use Rattle.mi_model.specs.Lookup as look;
+ghost use Rattle.mi_model.specs.Walk.{rows_from};
 ghost use Rattle.mi_model.specs.Verdict.{insert_outcome, replace_outcome, modify_outcome, erase_outcome, relocate_outcome};
 ghost use Rattle.mi_container.specs.Asked.{IsKeyed, IsHashed, IsSorted, IsSequenced, ShowsOneList, RecordFits, EditsFit, WholeKey, KeyPrefix};
 ghost use Rattle.mi_container.specs.Data.{Data, IsData, table_of};
@@ -162,6 +163,24 @@ pub trait Container: Drop {
         requires index { ShowsOneList (shape self.now) index }
         requires id { IsTrue (has_row (table_of (plain self.now)) id) }
         ensures { result ≡ look.before (shape self.now) (table_of (plain self.now)) index id };
+
+    /// The rows that an index shows from one on, in its order or in the reverse of it, at most `limit` of them: their ids
+    /// with their records, lent. It is one walk from that row, which is found by at most one look-up, and the vector is the
+    /// one memory that it takes. Refusal: the vector's memory.
+    fn walk(
+        &self,
+        alloc: Global,
+        index: usize,
+        reverse: bool,
+        first: u64,
+        limit: usize,
+        steps: &mut Steps,
+    ) -> Result<Vec<(u64, &Record)>, AllocError>
+        requires index { ShowsOneList (shape self.now) index }
+        requires first { IsTrue (has_row (table_of (plain self.now)) first) }
+        ensures rows { IfOk result (λ rows. map (λ r. (r.0, r.1.now)) rows.items ≡
+            rows_from (shape self.now) (table_of (plain self.now)) index reverse first limit) }
+        ensures steps { (b : ℕ) → size_of (table_of (plain self.now)) < 2 ^ b → steps.new.count ≤ steps.old.count + (2 * b + 1) };
 
     /// The first id of an ordered or ranked index whose key isn't less than a key or the first values of one, or none. At
     /// most one look-up.

@@ -21,3 +21,4 @@ pub mod NextLaws
 pub mod RankLaws
 pub mod OneTableLaws
 pub mod AskedLaws
+pub mod WalkLaws

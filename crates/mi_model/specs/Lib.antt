@@ -6,6 +6,7 @@ pub mod Change
 pub mod Verdict
 pub mod Lookup
 pub mod Page
+pub mod Walk
 pub mod Database
 pub mod Same
 pub mod Steps

@@ -11,5 +11,6 @@ mod lookup;
 mod pass;
 mod plain;
 mod table;
+mod walk;
 
 pub use plain::Plain;

@@ -204,6 +204,21 @@ impl Sessions for Plain {
         rows.before(schema, index, id)
     }
 
+    fn walk(
+        &self,
+        alloc: Global,
+        table: usize,
+        index: usize,
+        reverse: bool,
+        first: u64,
+        limit: usize,
+        steps: &mut Steps,
+    ) -> Result<Vec<(u64, &Record)>, Refusal> {
+        let _ = steps;
+        let (schema, rows) = self.at(table);
+        rows.walk(alloc, schema, index, reverse, first, limit)
+    }
+
     fn lower(&self, table: usize, index: usize, key: &[Value], steps: &mut Steps) -> Option<u64> {
         let _ = steps;
         let (schema, rows) = self.at(table);

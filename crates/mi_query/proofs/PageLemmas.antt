@@ -1,58 +1,28 @@
 -- Pages that are walked, and the segments that they are of.
-use Rattle.std.proofs.Common.{◌≡◌, ℕ, ◌+◌, ◌-◌, ◌<◌, ◌≤◌, min, Bool, true, false, ◌⊎◌, inl, inr, get_or, List, [], ◌∷◌, ◌++◌, length, take, drop, reverse, refl, ap, ap₂, sym, ◌∙◌, subst, arith}
+use Rattle.std.proofs.Common.{◌≡◌, ℕ, suc, ◌+◌, ◌-◌, ◌<◌, ◌≤◌, min, Bool, true, false, ◌⊎◌, inl, inr, List, [], ◌∷◌, ◌++◌, map, length, take, drop, reverse, refl, ap, ap₂, sym, ◌∙◌, subst, arith}
 use Rattle.std.specs.Prelude.{if◌then◌else◌, nat_lt, slice_get, IsTrue}
-use Rattle.std.specs.Option.{is_some}
 use Rattle.std.specs.declared.option.Option.{Option}
 use Rattle.std.specs.declared.option.Option.TheVariants.{None, Some}
 use Rattle.std.proofs.lemmas.Bool.{cases_lt, lt-ltb, le-ltb}
-use Rattle.std.proofs.lemmas.List.{length-drop, length-take, length-reverse, length-append, take_all, take_more, take-take, get_or-drop, drop-take, take-append-drop, reverse-append}
-use Rattle.std.proofs.lemmas.Option.{slice_get-get_or, slice_get_past, slice_get_within, get_or_from_slice_get}
+use Rattle.std.proofs.lemmas.List.{length-drop, length-take, length-reverse, take_all, take-take, drop-take, take-map, take-append-drop, reverse-append}
 use Rattle.std.proofs.Math.Seq.{take-append_seam, drop-append_seam}
 use Rattle.mi_value.specs.declared.bound.Lower.{Lower}
 use Rattle.mi_value.specs.declared.bound.Upper.{Upper}
 use Rattle.mi_model.specs.Shape.{Shape, index_at}
-use Rattle.mi_model.specs.Table.{Table}
+use Rattle.mi_model.specs.Table.{Table, row}
 use Rattle.mi_model.specs.View.{view}
 use Rattle.mi_model.specs.Kinds.{is_sorted}
 use Rattle.mi_model.specs.Page as page
 use Rattle.mi_model.specs.Page.{Page, page_of}
-use Rattle.mi_model.proofs.PlaceLaws.{slice_get-reverse}
+use Rattle.mi_model.proofs.PlaceLaws.{IsOnce, slice_get-reverse}
 use Rattle.mi_model.proofs.QueryLaws.{rank_from, rank_to, between_ranks, to_within, segment_empty}
-use Rattle.mi_query.specs.Pages.{turned, place_behind}
+use Rattle.mi_model.specs.Walk.{turned, ids_from, rows_from}
+use Rattle.mi_model.proofs.WalkLaws.{once_turned, from_at}
+use Rattle.mi_query.specs.Pages.{place_behind}
 use Rattle.mi_query.proofs.LookUpLemmas.{none_means_past}
 
 same_page : (p q : Page) → p.ids ≡ q.ids → p.more ≡ q.more → p ≡ q
 same_page p q e f = ap (λ (ids : List ℕ). record { ids = ids; more = p.more }) e ∙ ap (λ (more : Bool). record { ids = q.ids; more = more }) f
-
--- whether an id stands at a place
-get_is_some : (xs : List ℕ) (k : ℕ) → is_some (slice_get xs k) ≡ nat_lt k (length xs)
-get_is_some xs k =
-    elim (cases_lt k (length xs)) [
-      | inl within ↦ ap is_some (slice_get-get_or xs k 0 within) ∙ sym (lt-ltb k (length xs) within)
-      | inr past ↦ ap is_some (slice_get_past xs k past) ∙ sym (le-ltb k (length xs) past)
-    ]
-
-same_lt : (a b c d : ℕ) → (a < b → c < d) → (b ≤ a → d ≤ c) → nat_lt a b ≡ nat_lt c d
-same_lt a b c d f g =
-    elim (cases_lt a b) [
-      | inl less ↦ lt-ltb a b less ∙ sym (lt-ltb c d (f less))
-      | inr more ↦ le-ltb a b more ∙ sym (le-ltb c d (g more))
-    ]
-
--- a walk that has its most ids, or that came to the end, is the page
-pub walked_page : (xs : List ℕ) (at limit : ℕ) (ids : List ℕ) (next : Option ℕ) → ids ≡ take (length ids) (drop at xs) → next ≡ slice_get xs (at + length ids) → length ids ≤ limit
-    → (limit ≤ length ids) ⊎ (next ≡ None) → record { ids = ids; more = is_some next } ≡ page_of limit (drop at xs)
-walked_page xs at limit ids next taken is within (inl full) =
-    let all : length ids ≡ limit = omega arith in
-    let rest : length (drop at xs) ≡ length xs - at = length-drop at xs in
-    same_page _ _ (taken ∙ ap (λ n. take n (drop at xs)) all)
-    (ap is_some is ∙ get_is_some xs (at + length ids) ∙ same_lt (at + length ids) (length xs) limit (length (drop at xs)) (λ l. omega arith) (λ l. omega arith))
-walked_page xs at limit ids next taken is within (inr none) =
-    let past : length xs ≤ at + length ids = none_means_past xs (at + length ids) (sym is ∙ none) in
-    let rest : length (drop at xs) ≡ length xs - at = length-drop at xs in
-    same_page _ _
-    (taken ∙ take_all (length ids) (drop at xs) (omega arith) ∙ sym (take_all limit (drop at xs) (omega arith)))
-    (ap is_some none ∙ sym (le-ltb limit (length (drop at xs)) (omega arith)))
 
 -- where a segment begins, from the first or from the last
 abbrev pub start : Bool → ℕ → ℕ → List ℕ → ℕ
@@ -122,21 +92,6 @@ pub empty_page : (reversed : Bool) (limit : ℕ) (between : List ℕ) → betwee
 empty_page true limit between is = ap (λ ids. page_of limit (reverse ids)) is ∙ page_of_none limit
 empty_page false limit between is = ap (page_of limit) is ∙ page_of_none limit
 
--- one more id is taken
-pub taken_more : (xs : List ℕ) (at e : ℕ) (ids : List ℕ) → ids ≡ take (length ids) (drop at xs) → slice_get xs (at + length ids) ≡ Some e → ids ++ e ∷ [] ≡ take (length (ids ++ e ∷ [])) (drop at xs)
-taken_more xs at e ids taken is =
-    let within : at + length ids < length xs = slice_get_within xs (at + length ids) e is in
-    let rest : length (drop at xs) ≡ length xs - at = length-drop at xs in
-    let inside : length ids < length (drop at xs) = omega arith in
-    let here : get_or (drop at xs) (length ids) 0 ≡ e = get_or-drop at xs (length ids) 0 ∙ get_or_from_slice_get xs (at + length ids) e 0 is in
-    let long : length (ids ++ e ∷ []) ≡ length ids + 1 = length-append ids (e ∷ []) in
-    ap₂ (λ (front : List ℕ) (a : ℕ). front ++ a ∷ []) taken (sym here)
-    ∙ sym (take_more (drop at xs) (length ids) 0 inside)
-    ∙ ap (λ n. take n (drop at xs)) (sym long)
-
-pub length-more : (e : ℕ) (ids : List ℕ) → length (ids ++ e ∷ []) ≡ length ids + 1
-length-more e ids = length-append ids (e ∷ [])
-
 module _ (s : Shape) (t : Table) (x : ℕ) (low : Lower) (high : Upper) (sorted : IsTrue (is_sorted (index_at s x).kind)) (from to : ℕ)
     (from_is : from ≡ rank_from s t x low) (to_is : to ≡ rank_to s t x high) where
   between_is : page.between s t x low high ≡ drop from (take to (view s t x))
@@ -161,13 +116,75 @@ module _ (s : Shape) (t : Table) (x : ℕ) (low : Lower) (high : Upper) (sorted 
   range_page reversed limit ids l given =
       segment_page reversed from to limit (view s t x) (page.between s t x low high) ids between_is l to_within_view given
 
--- the page of a list
-pub list_page : (s : Shape) (t : Table) (x : ℕ) (after : Option ℕ) (limit : ℕ) → page_of limit (drop (place_behind (view s t x) after) (view s t x)) ≡ page.list s t x after limit
-list_page s t x None limit = refl
-list_page s t x (Some e) limit = refl
+  -- there is a record where it begins
+  pub range_begins : (reversed : Bool) (n : ℕ) → from < to → n ≡ (if reversed then to - 1 else from) → slice_get (view s t x) n ≡ None → ⊥
+  range_begins true n l is none = let past : length (view s t x) ≤ n = none_means_past (view s t x) n none in let few : to ≤ length (view s t x) = to_within_view in omega arith
+  range_begins false n l is none = let past : length (view s t x) ≤ n = none_means_past (view s t x) n none in let few : to ≤ length (view s t x) = to_within_view in omega arith
 
-pub page_more : {more is : Bool} (ids : List ℕ) → more ≡ is → ◌≡◌ {A = Page} (record { ids = ids; more = more }) (record { ids = ids; more = is })
-page_more ids e = ap (λ (b : Bool). record { ids = ids; more = b }) e
+  module _ (reversed : Bool) (limit n first : ℕ) (l : from < to) (place : n ≡ (if reversed then to - 1 else from)) (at : slice_get (view s t x) n ≡ Some first) (once : IsOnce (view s t x)) where
+    same_page_is : record { ids = ids_from s t x reversed first (min limit (to - from)); more = nat_lt limit (to - from) } ≡ page.range s t x low high reversed limit
+    same_page_is =
+        let begins : slice_get (turned reversed (view s t x)) (start reversed from to (view s t x)) ≡ Some first = sym (range_first reversed l) ∙ ap (slice_get (view s t x)) (sym place) ∙ at in
+        range_page reversed limit (ids_from s t x reversed first (min limit (to - from))) l
+        (ap (take (min limit (to - from))) (from_at (turned reversed (view s t x)) (once_turned reversed (view s t x) once) (start reversed from to (view s t x)) first begins))
 
-pub no_ids : {ids : List ℕ} → ids ≡ [] → ◌≡◌ {A = Page} (record { ids = ids; more = false }) (record { ids = []; more = false })
-no_ids e = ap (λ (ids : List ℕ). record { ids = ids; more = false }) e
+    -- the rows of the walk are those of the range
+    pub range_rows : rows_from s t x reversed first (min limit (to - from)) ≡ map (row t) (page.range s t x low high reversed limit).ids
+    range_rows = ap (λ (p : Page). map (row t) p.ids) same_page_is
+
+    pub range_more : nat_lt limit (to - from) ≡ (page.range s t x low high reversed limit).more
+    range_more = ap (λ (p : Page). p.more) same_page_is
+
+-- a walk of one row more than a page, and the page of it
+
+pub length-map_rows : {A B : Type 0} (f : A → B) (xs : List A) → length (map f xs) ≡ length xs
+length-map_rows f [] = refl
+length-map_rows f (x ∷ xs) = ap suc (length-map_rows f xs)
+
+-- whether there is one row more
+one_more : (limit more : ℕ) (ids : List ℕ) → (limit < more) ⊎ (length ids ≤ limit) → nat_lt limit (length (take more ids)) ≡ nat_lt limit (length ids)
+one_more limit more ids (inl beyond) =
+    let taken : length (take more ids) ≡ min more (length ids) = length-take more ids in
+    elim (cases_lt limit (length ids)) [
+      | inl less ↦ lt-ltb limit (length (take more ids)) (omega arith) ∙ sym (lt-ltb limit (length ids) less)
+      | inr most ↦ le-ltb limit (length (take more ids)) (omega arith) ∙ sym (le-ltb limit (length ids) most)
+    ]
+one_more limit more ids (inr all) =
+    let taken : length (take more ids) ≡ min more (length ids) = length-take more ids in
+    le-ltb limit (length (take more ids)) (omega arith) ∙ sym (le-ltb limit (length ids) all)
+
+module _ (s : Shape) (t : Table) (x : ℕ) (after : Option ℕ) (limit : ℕ) where
+  abbrev at : ℕ
+  at = place_behind (view s t x) after
+
+  list_is : (o : Option ℕ) → page_of limit (drop (place_behind (view s t x) o) (view s t x)) ≡ page.list s t x o limit
+  list_is None = refl
+  list_is (Some e) = refl
+
+  -- nothing stands behind
+  pub list_none : slice_get (view s t x) at ≡ None → page.list s t x after limit ≡ record { ids = []; more = false }
+  list_none none =
+      let past : length (view s t x) ≤ at = none_means_past (view s t x) at none in
+      let rest : length (drop at (view s t x)) ≡ length (view s t x) - at = length-drop at (view s t x) in
+      sym (list_is after) ∙ ap (page_of limit) (empty (drop at (view s t x)) (omega arith)) ∙ page_of_none limit
+    where
+      empty : (ids : List ℕ) → length ids ≡ 0 → ids ≡ []
+      empty [] e = refl
+      empty (a ∷ ids) e = absurd (omega arith)
+
+  module _ (first more : ℕ) (here : slice_get (view s t x) at ≡ Some first) (once : IsOnce (view s t x)) where
+    walked : rows_from s t x false first more ≡ map (row t) (take more (drop at (view s t x)))
+    walked = ap (λ ids. map (row t) (take more ids)) (from_at (view s t x) once at first here)
+
+    pub list_rows : limit ≤ more → take limit (rows_from s t x false first more) ≡ map (row t) (page.list s t x after limit).ids
+    list_rows le =
+        ap (take limit) walked ∙ take-map (row t) limit (take more (drop at (view s t x)))
+        ∙ ap (map (row t)) (take-take limit more (drop at (view s t x)) le)
+        ∙ ap (λ (p : Page). map (row t) p.ids) (list_is after)
+
+    pub list_more : (n : ℕ) → n ≡ length (rows_from s t x false first more) → (limit < more) ⊎ (length (view s t x) ≤ limit) → nat_lt limit n ≡ (page.list s t x after limit).more
+    list_more n is enough =
+        let rest : length (drop at (view s t x)) ≡ length (view s t x) - at = length-drop at (view s t x) in
+        ap (nat_lt limit) (is ∙ ap length walked ∙ length-map_rows (row t) (take more (drop at (view s t x))))
+        ∙ one_more limit more (drop at (view s t x)) (elim enough [ inl beyond ↦ inl beyond | inr all ↦ inr (omega arith) ])
+        ∙ ap (λ (p : Page). p.more) (list_is after)

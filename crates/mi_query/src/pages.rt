@@ -1,24 +1,26 @@
-//! Pages of ranges and lists. A page takes memory for its ids alone: the index is walked from where the page begins.
-ghost use Rattle.std.specs.Prelude.{◌≡◌, ℕ, not, length, drop, IsTrue, IfOk, IfErr, IfSome, Ok, Err, slice_get, if◌then◌else◌};
-ghost use Rattle.std.specs.List.{All, count_by};
+//! Pages of ranges and lists. A page takes memory for its rows alone, which are lent: the index is walked once, from where
+//! the page begins.
+ghost use Rattle.std.specs.Prelude.{◌≡◌, not, length, map, IsTrue, IfOk, IfErr, Ok, Err, slice_get, if◌then◌else◌};
+ghost use Rattle.std.specs.List.{count_by};
 ghost use Rattle.mi_value.specs.declared.refusal.Refusal.TheVariants.{Memory, NoId};
-ghost use Rattle.mi_sessions.specs.Fitting.{HasTable, index_of, IsSortedIndex, IsSequencedIndex, IsListedIndex, FitsLower, FitsUpper};
-ghost use Rattle.mi_model.specs.Table.{has as has_row};
+ghost use Rattle.mi_sessions.specs.Fitting.{HasTable, index_of, IsSortedIndex, IsSequencedIndex, FitsLower, FitsUpper};
+ghost use Rattle.mi_sessions.specs.LookUps.{WithinLookUps};
+ghost use Rattle.mi_model.specs.Table.{row as row_of, size as size_of};
 ghost use Rattle.mi_model.specs.Verdict.{has_place};
 ghost use Rattle.mi_model.specs.Database.{schema_of, table_of};
-ghost use Rattle.mi_model.specs.Page.{page_of, meets_lower, meets_upper, range as range_of, list as list_of};
-ghost use Rattle.mi_query.specs.Pages.{shown_by, seen, turned, place_behind};
+ghost use Rattle.mi_model.specs.Page.{meets_lower, meets_upper, range as range_of, list as list_of};
+ghost use Rattle.mi_query.specs.Pages.{shown_by, place_behind};
 
-use crate::shown::{following, shows_each};
+use crate::shown::shows_each;
 use mi_sessions::Sessions;
-use mi_value::{Lower, Refusal, Steps, Upper};
+use mi_value::{Lower, Record, Refusal, Steps, Upper};
 use std::alloc::Global;
 
-/// The first ids of a range or list, and whether others remain after the last one given (with none given, whether there
-/// are any).
-#[derive(Debug, Drop)]
-pub struct Page {
-    pub ids: Vec<u64>,
+/// The first rows of a range or list, by their ids, and whether others remain after the last one given (with none given,
+/// whether there are any).
+#[derive(Drop)]
+pub struct Page<'a> {
+    pub rows: Vec<(u64, &'a Record)>,
     pub more: bool,
 }
 
@@ -33,8 +35,9 @@ fn rank_from<D: Sessions>(
     requires table { HasTable (D.state db.now).catalog table }
     requires index { IsSortedIndex (D.state db.now).catalog table index }
     requires key { FitsLower (D.state db.now).catalog table index lower.now }
-    ensures { result ≡ count_by (λ id. not (meets_lower (index_of (D.state db.now).catalog table index) (table_of (D.state db.now) table) lower.now id))
+    ensures rank { result ≡ count_by (λ id. not (meets_lower (index_of (D.state db.now).catalog table index) (table_of (D.state db.now) table) lower.now id))
         (shown_by (D.state db.now) table index) }
+    ensures steps { WithinLookUps D.bound 2 (size_of (table_of (D.state db.now) table)) steps.old.count steps.new.count }
 {
     match lower {
         Lower::All => 0,
@@ -48,8 +51,9 @@ fn rank_to<D: Sessions>(db: &D, table: usize, index: usize, upper: &Upper, steps
     requires table { HasTable (D.state db.now).catalog table }
     requires index { IsSortedIndex (D.state db.now).catalog table index }
     requires key { FitsUpper (D.state db.now).catalog table index upper.now }
-    ensures { result ≡ count_by (meets_upper (index_of (D.state db.now).catalog table index) (table_of (D.state db.now) table) upper.now)
+    ensures rank { result ≡ count_by (meets_upper (index_of (D.state db.now).catalog table index) (table_of (D.state db.now) table) upper.now)
         (shown_by (D.state db.now) table index) }
+    ensures steps { WithinLookUps D.bound 2 (size_of (table_of (D.state db.now) table)) steps.old.count steps.new.count }
 {
     match upper {
         Upper::All => all_of(db, table, index),
@@ -68,41 +72,11 @@ fn all_of<D: Sessions>(db: &D, table: usize, index: usize) -> u64
     db.size(table)
 }
 
-/// The page that begins with an id in what an index shows, or in that reversed; with no id it is empty. Refusal: `Memory`.
-fn walk<D: Sessions>(
-    db: &D,
-    alloc: Global,
-    table: usize,
-    index: usize,
-    reverse: bool,
-    first: Option<u64>,
-    limit: usize,
-) -> Result<Page, Refusal>
-    requires table { HasTable (D.state db.now).catalog table }
-    requires index { IsListedIndex (D.state db.now).catalog table index }
-    requires first { IfSome first (λ id. IsTrue (has_row (table_of (D.state db.now) table) id)) }
-    ensures page { IfOk result (λ p. (at : ℕ) → first ≡ slice_get (turned reverse (shown_by (D.state db.now) table index)) at
-        → seen p ≡ page_of limit (drop at (turned reverse (shown_by (D.state db.now) table index)))) }
-    ensures held { IfOk result (λ p. All (λ id. IsTrue (has_row (table_of (D.state db.now) table) id)) p.ids.items) }
-    ensures err { IfErr result (λ e. e ≡ Memory) }
-{
-    let mut ids = Vec::new(alloc);
-    let mut next = first;
-    'ids: while ids.len() < limit {
-        let Some(id) = next else { break };
-        ids.push(id)?;
-        next = following(db, table, index, reverse, id);
-    }
-    Ok(Page {
-        ids,
-        more: next.is_some(),
-    })
-}
-
-/// The first ids of those that an ordered or ranked index shows between two bounds, in its order or in the reverse of it,
-/// at most `limit` of them. It walks the index from where the page begins, and doesn't copy the table. Refusal: `Memory`.
-pub fn range<D: Sessions>(
-    db: &D,
+/// The first rows of those that an ordered or ranked index shows between two bounds, in its order or in the reverse of it,
+/// at most `limit` of them. The ends are found by at most five look-ups, however many rows there are; then the index is
+/// walked once, from where the page begins. Refusal: `Memory`.
+pub fn range<'a, D: Sessions>(
+    db: &'a D,
     alloc: Global,
     table: usize,
     index: usize,
@@ -110,75 +84,101 @@ pub fn range<D: Sessions>(
     upper: &Upper,
     reverse: bool,
     limit: usize,
-) -> Result<Page, Refusal>
+    steps: &mut Steps,
+) -> Result<Page<'a>, Refusal>
     requires table { HasTable (D.state db.now).catalog table }
     requires index { IsSortedIndex (D.state db.now).catalog table index }
     requires lower { FitsLower (D.state db.now).catalog table index lower.now }
     requires upper { FitsUpper (D.state db.now).catalog table index upper.now }
-    ensures page { IfOk result (λ p. seen p ≡
-        range_of (schema_of (D.state db.now) table) (table_of (D.state db.now) table) index lower.now upper.now reverse limit) }
-    ensures held { IfOk result (λ p. All (λ id. IsTrue (has_row (table_of (D.state db.now) table) id)) p.ids.items) }
+    ensures rows { IfOk result (λ p. map (λ r. (r.0, r.1.now)) p.rows.items ≡ map (row_of (table_of (D.state db.now) table))
+        (range_of (schema_of (D.state db.now) table) (table_of (D.state db.now) table) index lower.now upper.now reverse limit).ids) }
+    ensures more { IfOk result (λ p. p.more ≡
+        (range_of (schema_of (D.state db.now) table) (table_of (D.state db.now) table) index lower.now upper.now reverse limit).more) }
     ensures err { IfErr result (λ e. e ≡ Memory) }
+    ensures steps { WithinLookUps D.bound 5 (size_of (table_of (D.state db.now) table)) steps.old.count steps.new.count }
 {
     db.keeps_rules();
-    let mut steps = Steps::new();
-    let from = rank_from(db, table, index, lower, &mut steps);
-    let to = rank_to(db, table, index, upper, &mut steps);
+    let from = rank_from(db, table, index, lower, steps);
+    let to = rank_to(db, table, index, upper, steps);
     if to <= from {
         return Ok(Page {
-            ids: Vec::new(alloc),
+            rows: Vec::new(alloc),
             more: false,
         });
     }
-    let first = db.nth(table, index, if reverse { to - 1 } else { from });
     let count = (to - from) as usize;
-    let page = walk(db, alloc, table, index, reverse, first, limit.min(count))?;
+    let place = if reverse { to - 1 } else { from };
+    let Some(first) = db.nth(table, index, place) else {
+        unreachable!()
+    };
+    let rows = db.walk(alloc, table, index, reverse, first, limit.min(count), steps)?;
     Ok(Page {
-        ids: page.ids,
+        rows,
         more: limit < count,
     })
 }
 
-/// The first ids of a sequenced index, or of those behind an id, at most `limit` of them. Refusals: `NoId`, exactly where
-/// that id isn't there, and `Memory`.
-pub fn list<D: Sessions>(
-    db: &D,
+/// The first rows of a sequenced index, or of those behind an id, at most `limit` of them. At most two look-ups, and one walk.
+/// Refusals: `NoId`, exactly where that id isn't there, and `Memory`.
+pub fn list<'a, D: Sessions>(
+    db: &'a D,
     alloc: Global,
     table: usize,
     index: usize,
     after: Option<u64>,
     limit: usize,
-) -> Result<Page, Refusal>
+    steps: &mut Steps,
+) -> Result<Page<'a>, Refusal>
     requires table { HasTable (D.state db.now).catalog table }
     requires index { IsSequencedIndex (D.state db.now).catalog table index }
-    ensures page { IfOk result (λ p. seen p ≡ list_of (schema_of (D.state db.now) table) (table_of (D.state db.now) table) index after limit) }
-    ensures held { IfOk result (λ p. All (λ id. IsTrue (has_row (table_of (D.state db.now) table) id)) p.ids.items) }
+    ensures rows { IfOk result (λ p. map (λ r. (r.0, r.1.now)) p.rows.items ≡ map (row_of (table_of (D.state db.now) table))
+        (list_of (schema_of (D.state db.now) table) (table_of (D.state db.now) table) index after limit).ids) }
+    ensures more { IfOk result (λ p. p.more ≡ (list_of (schema_of (D.state db.now) table) (table_of (D.state db.now) table) index after limit).more) }
     ensures there { IfOk result (λ _. IsTrue (has_place (table_of (D.state db.now) table) after)) }
     ensures err { IfErr result (λ e. e ≡ (if has_place (table_of (D.state db.now) table) after then Memory else NoId)) }
+    ensures steps { WithinLookUps D.bound 2 (size_of (table_of (D.state db.now) table)) steps.old.count steps.new.count }
 {
     db.keeps_rules();
-    let first = first_behind(db, table, index, after)?;
-    walk(db, alloc, table, index, false, first, limit)
+    shows_each(db, table, index);
+    let Some(first) = first_behind(db, table, index, after, steps)? else {
+        return Ok(Page {
+            rows: Vec::new(alloc),
+            more: false,
+        });
+    };
+    let mut rows = db.walk(
+        alloc,
+        table,
+        index,
+        false,
+        first,
+        limit.saturating_add(1),
+        steps,
+    )?;
+    let more = rows.len() > limit;
+    rows.truncate(limit);
+    Ok(Page { rows, more })
 }
 
-/// The id directly behind another in a sequenced index, or behind none the first. Refusal: `NoId`.
+/// The id directly behind another in a sequenced index, or behind none the first. Refusal: `NoId`. At most one look-up.
 fn first_behind<D: Sessions>(
     db: &D,
     table: usize,
     index: usize,
     after: Option<u64>,
+    steps: &mut Steps,
 ) -> Result<Option<u64>, Refusal>
     requires table { HasTable (D.state db.now).catalog table }
     requires index { IsSequencedIndex (D.state db.now).catalog table index }
-    ensures { result ≡ (if has_place (table_of (D.state db.now) table) after
+    ensures first { result ≡ (if has_place (table_of (D.state db.now) table) after
         then Ok (slice_get (shown_by (D.state db.now) table index) (place_behind (shown_by (D.state db.now) table index) after))
         else Err NoId) }
+    ensures steps { WithinLookUps D.bound 1 (size_of (table_of (D.state db.now) table)) steps.old.count steps.new.count }
 {
     let Some(id) = after else {
         return Ok(db.first(table, index));
     };
-    let mut steps = Steps::new();
-    if db.get(table, id, &mut steps).is_none() {
+    if db.get(table, id, steps).is_none() {
         return Err(Refusal::NoId);
     }
     Ok(db.after(table, index, id))

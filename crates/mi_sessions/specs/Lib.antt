@@ -3,5 +3,6 @@ pub mod LookUps
 pub use Rattle.mi_catalog.specs.Fitting
 pub use Rattle.mi_model.specs.Table
 pub use Rattle.mi_model.specs.Lookup
+pub use Rattle.mi_model.specs.Walk
 pub use Rattle.mi_model.specs.Database
 pub use Rattle.mi_model.specs.Steps

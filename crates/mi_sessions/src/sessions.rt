@@ -1,6 +1,6 @@
 //! The calls of a database: several tables under one stack of nested sessions. It says what each call answers and leaves,
 //! by the definitions of `mi_model`, and nothing of how rows are kept.
-ghost use Rattle.std.specs.Prelude.{◌≡◌, ℕ, IsTrue, IfSome, IfErr};
+ghost use Rattle.std.specs.Prelude.{◌≡◌, ℕ, map, IsTrue, IfSome, IfOk, IfErr};
 ghost use Rattle.std.specs.declared.option.Option.{Option as Maybe};
 ghost use Rattle.std.specs.Option.{option_copied};
 ghost use Rattle.mi_value.specs.declared.refusal.Refusal.TheVariants.{Memory};
@@ -8,6 +8,7 @@ ghost use Rattle.mi_catalog.specs.Fitting.{HasTable, IsKeyedIndex, IsHashedIndex
 ghost use Rattle.mi_catalog.specs.Fitting.{FitsTable, EditsFit, FitsWhole, FitsPrefix};
 ghost use Rattle.mi_model.specs.Table.{get as get_row, has as has_row, size as size_of};
 ghost use Rattle.mi_model.specs.Lookup as look;
+ghost use Rattle.mi_model.specs.Walk.{rows_from};
 ghost use Rattle.mi_model.specs.Database.{Database, IsDatabase, schema_of, table_of, depth as depth_of};
 ghost use Rattle.mi_model.specs.Database.{start_step, undo_step, squash_step, ending, committed, undone_times};
 ghost use Rattle.mi_model.specs.Steps.{Meets, without_value, insert_step, replace_step, modify_step, erase_step, erase_key_step, relocate_step};
@@ -20,7 +21,7 @@ use std::alloc::Global;
 /// Tables under one stack of nested sessions.
 ///
 /// The tables are named by their number in the catalog. A refused call changes nothing. Where a growth is refused a call
-/// that can answer `Memory` does, and nothing has changed. Calls that read take no memory.
+/// that can answer `Memory` does, and nothing has changed. Of the calls that read `walk` alone takes memory.
 ///
 /// Calls that compare keys count each comparison on `steps`. `bound` says how many one look-up in a table of so many rows
 /// makes at most, if the database promises it.
@@ -158,6 +159,27 @@ pub trait Sessions {
         requires index { IsListedIndex (state self.now).catalog table index }
         requires id { IsTrue (has_row (table_of (state self.now) table) id) }
         ensures { result ≡ look.before (schema_of (state self.now) table) (table_of (state self.now) table) index id };
+
+    /// The rows that an index shows from one on, in its order or in the reverse of it, at most `limit` of them: their ids
+    /// with their records, lent. It is one walk from that row, which is found by at most one look-up, and the vector is the
+    /// one memory that it takes. Refusal: `Memory`.
+    fn walk(
+        &self,
+        alloc: Global,
+        table: usize,
+        index: usize,
+        reverse: bool,
+        first: u64,
+        limit: usize,
+        steps: &mut Steps,
+    ) -> Result<Vec<(u64, &Record)>, Refusal>
+        requires table { HasTable (state self.now).catalog table }
+        requires index { IsListedIndex (state self.now).catalog table index }
+        requires first { IsTrue (has_row (table_of (state self.now) table) first) }
+        ensures rows { IfOk result (λ rows. map (λ r. (r.0, r.1.now)) rows.items ≡
+            rows_from (schema_of (state self.now) table) (table_of (state self.now) table) index reverse first limit) }
+        ensures err { IfErr result (λ e. e ≡ Memory) }
+        ensures steps { WithinLookUps bound 1 (size_of (table_of (state self.now) table)) steps.old.count steps.new.count };
 
     /// The first id of an ordered or ranked index whose key isn't less than a key or the first values of one, or none. At
     /// most one look-up.
