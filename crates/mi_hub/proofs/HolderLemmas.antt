@@ -8,14 +8,15 @@ use Rattle.mi_protocol.specs.Binding.{bound_command}
 use Rattle.mi_request.specs.declared.request.Request.{Request}
 use Rattle.mi_protocol.specs.declared.binding.Command.{Command}
 use Rattle.mi_protocol.specs.declared.binding.Command.TheVariants as command
-use Rattle.mi_hub.specs.Lines.{Asked, Rest, text, too_long}
-use Rattle.mi_hub.specs.Holder.{Held, is_busy, one_more, one_less, at_most, without_holder, released}
-use Rattle.mi_hub.specs.Performed.{performed, moved}
-use Rattle.mi_hub.specs.Answer.{command_answer, request_answer, refusal, answer, MayGive}
+use Rattle.mi_commands.specs.Asked.{Asked, text, too_long}
+use Rattle.mi_hub.specs.Lines.{Rest}
+use Rattle.mi_commands.specs.Holder.{Held, is_busy, one_more, one_less, at_most, without_holder, released}
+use Rattle.mi_commands.specs.Performed.{performed, moved}
+use Rattle.mi_commands.specs.Answer.{command_answer, request_answer, refusal, answer, MayGive}
 use Rattle.mi_hub.specs.Served.{InTurn, Served, CutOff}
 use Rattle.mi_hub.specs.Connections.{rest_at, with_rest, others, holder_is_attached}
 use Rattle.mi_hub.specs.Places.{StandsAt}
-use Rattle.mi_hub.specs.declared.holder.Holder.{Holder}
+use Rattle.mi_commands.specs.declared.holder.Holder.{Holder}
 use Rattle.mi_hub.specs.declared.connection.Connection.{Connection}
 use Rattle.mi_hub.specs.Run.{HubState}
 use Rattle.mi_hub.proofs.ConnectionLemmas.{rest_at-others, some_with_rest, some_append, others-with_rest}

@@ -3,7 +3,6 @@ pub mod ServedLemmas
 pub mod ConnectionLemmas
 pub mod RunLemmas
 pub mod PieceLemmas
-pub mod AnswerLemmas
 pub mod WriteLemmas
 pub mod DriveLemmas
 pub mod RestLemmas

@@ -5,7 +5,8 @@ use Rattle.std.proofs.lemmas.List.Elements.{filter_map-append}
 use Rattle.std.proofs.lemmas.List.{map-append}
 use Rattle.mi_value.specs.declared.limits.TheConstants.{MAX_LINE}
 use Rattle.mi_hub.specs.Ended.{put_front, ended, if_none, after_newlines}
-use Rattle.mi_hub.specs.Lines.{marked, Asked, ended_line, lines_of, rest_of, extended, behind, lines_from, rest_from}
+use Rattle.mi_commands.specs.Asked.{Asked}
+use Rattle.mi_hub.specs.Lines.{marked, ended_line, lines_of, rest_of, extended, behind, lines_from, rest_from}
 use Rattle.mi_hub.specs.LineLaws.{StandsFor}
 
 some_is : {A : Type 0} {x : A} {xs : List A} → x ∷ xs ≡ [] → ⊥

@@ -4,7 +4,7 @@ use Rattle.mi_hub.specs.declared.fault.HubFault.{HubFault}
 use Rattle.mi_hub.specs.declared.fault.HubFault.TheVariants.{NotAttached, AlreadyAttached, TooMany, Memory, Write}
 use Rattle.mi_hub.specs.Lines.{Rest, extended, lines_from, rest_from}
 use Rattle.mi_hub.specs.Connections.{rest_at, with_rest, others}
-use Rattle.mi_hub.specs.Answer.{MayGive}
+use Rattle.mi_commands.specs.Answer.{MayGive}
 use Rattle.mi_hub.specs.Served.{Served}
 use Rattle.mi_hub.specs.Run.{HubState, Event, piece, close, cut, Done, Refused, Step, OneByOne, Run, AllDone, Unsent, DoneToFault}
 use Rattle.mi_hub.specs.RunLaws.{PiecesCutInTwo}

@@ -1,10 +1,10 @@
 -- From what a call does to one connection, to the event that it is.
 use Rattle.std.proofs.Common.{◌≡◌, ℕ, zero, suc, List, [], ◌∷◌, get_or, set, remove, Option, Some, None, is_some, true, MatchOption, option_to_list, refl, sym, ap, ◌∙◌, subst}
 use Rattle.mi_hub.specs.Lines.{Rest, lines_from, rest_from, last_line}
-use Rattle.mi_hub.specs.Holder.{Held, released}
+use Rattle.mi_commands.specs.Holder.{Held, released}
 use Rattle.mi_hub.specs.Connections.{rest_at, with_rest}
 use Rattle.mi_hub.specs.Places.{StandsAt}
-use Rattle.mi_hub.specs.Answer.{MayGive}
+use Rattle.mi_commands.specs.Answer.{MayGive}
 use Rattle.mi_hub.specs.Served.{Served, CutOff}
 use Rattle.mi_hub.specs.Run.{HubState, piece, close, Done, Failed}
 use Rattle.mi_hub.specs.declared.connection.Connection.{Connection}

@@ -2,7 +2,8 @@
 use Rattle.std.proofs.Common.{◌≡◌, ℕ, ◌<◌, List, [], ◌∷◌, ◌++◌, option_to_list, length, take, refl, sym, ap, ◌∙◌, subst, append_assoc, append-nil, Some}
 use Rattle.std.proofs.lemmas.Grind.{flat_map-append}
 use Rattle.mi_hub.specs.Ended.{ended}
-use Rattle.mi_hub.specs.Lines.{Asked, Rest, ended_line, extended, lines_from, rest_from}
+use Rattle.mi_commands.specs.Asked.{Asked}
+use Rattle.mi_hub.specs.Lines.{Rest, ended_line, extended, lines_from, rest_from}
 use Rattle.mi_hub.specs.Served.{InTurn, with_newline, sent, Served, CutOff}
 use Rattle.mi_hub.proofs.LineLemmas.{from_ended, from_unended}
 

@@ -2,7 +2,7 @@
 use Rattle.std.specs.Prelude.{ℕ, List, [], ◌∷◌, Bool, true, ◌==◌, if◌then◌else◌, Option, Some, None, is_some}
 use Rattle.mi_hub.specs.Lines.{Rest}
 use Rattle.mi_hub.specs.declared.connection.Connection.{Connection}
-use Rattle.mi_hub.specs.declared.holder.Holder.{Holder}
+use Rattle.mi_commands.specs.declared.holder.Holder.{Holder}
 
 -- the rest of a connection, where it is attached
 abbrev pub rest_at : ℕ → List Connection → Option Rest

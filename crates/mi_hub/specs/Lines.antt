@@ -3,14 +3,8 @@
 use Rattle.std.specs.Prelude.{ℕ, ◌-◌, List, [], ◌∷◌, ◌++◌, length, take, slice_index, map, nat_lt, ◌==◌, ◌&&◌, if◌then◌else◌, Option, Some, None}
 use Rattle.std.specs.List.{filter_map}
 use Rattle.mi_value.specs.declared.limits.TheConstants.{MAX_LINE}
+use Rattle.mi_commands.specs.Asked.{Asked, text, too_long}
 use Rattle.mi_hub.specs.Ended.{ended, if_none, after_newlines}
-use Rattle.mi_hub.specs.declared.line.Line.{Line}
-use Rattle.mi_hub.specs.declared.line.Line.TheVariants as code
-
--- a line as it is asked: its text, or the mark that it was over-long
-pub data Asked : Type 0 where
-  text : List ℕ → Asked
-  too_long : Asked
 
 -- bytes that are no whole line yet, or nothing in the place of too many
 abbrev pub Rest : Type 0
@@ -67,8 +61,3 @@ lines_from r bytes = filter_map ended_line (behind r (ended bytes))
 -- what this rest and these bytes leave for the next line
 abbrev pub rest_from : Rest → List ℕ → Rest
 rest_from r bytes = if_none (ended bytes) (extended r bytes) (rest_of bytes)
-
--- the line that the code hands on
-abbrev pub asked_of : Line → Asked
-asked_of (code.Text t) = text t.now
-asked_of code.TooLong = too_long

@@ -2,9 +2,9 @@
 -- attach 1, piece 1 "{\"cmd\":\"start\"}⏎{\"cmd\":\"und", piece 1 "o\"}", close 1.
 use Rattle.std.specs.Prelude.{◌≡◌, ◌⊎◌, ℕ, ◌<◌, ◌≤◌, List, [], ◌∷◌, ◌++◌, length, option_to_list, Some, None, IsSome}
 use Rattle.mi_hub.specs.Lines.{Rest, lines_from, rest_from, last_line}
-use Rattle.mi_hub.specs.Holder.{Held, released}
+use Rattle.mi_commands.specs.Holder.{Held, released}
 use Rattle.mi_hub.specs.Connections.{rest_at, with_rest, others}
-use Rattle.mi_hub.specs.Answer.{MayGive}
+use Rattle.mi_commands.specs.Answer.{MayGive}
 use Rattle.mi_hub.specs.Served.{Served, CutOff}
 use Rattle.mi_hub.specs.declared.connection.Connection.{Connection}
 use Rattle.mi_hub.specs.declared.fault.HubFault.{HubFault}

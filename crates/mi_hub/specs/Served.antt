@@ -1,6 +1,6 @@
 -- Lines that are asked one after another, and the replies that go out. `Gives` says what one line may be given.
 use Rattle.std.specs.Prelude.{◌≡◌, ℕ, ◌<◌, List, [], ◌∷◌, ◌++◌, length, take, flat_map}
-use Rattle.mi_hub.specs.Lines.{Asked}
+use Rattle.mi_commands.specs.Asked.{Asked}
 
 -- From old, these lines may be given these replies, one after another, and new is left.
 abbrev pub InTurn : {S : Type 0} → (S → Asked → List ℕ → S → Type 0) → S → List Asked → List (List ℕ) → S → Type 0

@@ -3,23 +3,34 @@ ghost use Rattle.std.specs.Prelude.{◌≡◌, ◌≢◌, ◌↔◌, ◌⊎◌, 
 ghost use Rattle.std.specs.List.{remove};
 ghost use Rattle.mi_value.specs.declared.limits.TheConstants.{MAX_CONNECTIONS};
 ghost use Rattle.mi_hub.specs.Lines.{extended};
-ghost use Rattle.mi_hub.specs.Holder.{released};
+ghost use Rattle.mi_commands.specs.Holder.{released};
 ghost use Rattle.mi_hub.specs.Connections.{rest_at, others};
 ghost use Rattle.mi_hub.specs.Places.{StandsAt};
 ghost use Rattle.mi_hub.specs.Run.{piece, close, cut, attach, Done, Failed};
 ghost use Rattle.mi_hub.specs.Watching.{has_failed, Writes};
 
 use crate::connection::{Connection, place_of};
-use crate::executor::Executor;
 use crate::fault::HubFault;
 use crate::line::LineBuffer;
-use crate::serve::{serve_last, serve_piece};
+use crate::serve::{Answering, serve_last, serve_piece};
 use crate::watched::Watched;
+use mi_commands::{Executor, Line};
+use mi_protocol::ReplyText;
 use mi_sessions::Sessions;
 use mi_value::limits::MAX_CONNECTIONS;
 use std::alloc::Global;
 use std::io::Write;
 use std::marker::Model;
+
+impl<D: Sessions + Drop> Answering for Executor<D> {
+    ghost use Rattle.mi_commands.specs.Answer.{MayGive};
+
+    ghost gives = { λ conn old line reply new. MayGive conn old line reply new };
+
+    fn answer(&mut self, conn: u64, line: Line<'_>) -> ReplyText {
+        Executor::answer(self, conn, line)
+    }
+}
 
 /// A database, who holds its open sessions, and the attached connections.
 #[derive(Drop)]

@@ -1,18 +1,13 @@
-//! A line, and the rest of a connection's bytes that is no whole line yet.
+//! The rest of a connection's bytes that is no whole line yet, and the line that it ends.
 //! It takes its whole room at the start, and grows by nothing later.
 ghost use Rattle.std.specs.Prelude.{◌≡◌, [], option_map, IfOk, Some, IsTrue, ◌↔◌};
-ghost use Rattle.mi_hub.specs.Lines.{extended, ended_line, last_line, marked, asked_of, without_return, unless_empty};
+ghost use Rattle.mi_commands.specs.Asked.{asked_of};
+ghost use Rattle.mi_hub.specs.Lines.{extended, ended_line, last_line, marked, without_return, unless_empty};
 
+use mi_commands::Line;
 use mi_value::limits::MAX_LINE;
 use std::alloc::{AllocError, Global};
 use std::marker::Model;
-
-/// A line as it is asked.
-#[derive(Clone, Copy, Drop)]
-pub enum Line<'a> {
-    Text(&'a [u8]),
-    TooLong,
-}
 
 /// The bytes since the last newline, or the mark that they are too many.
 #[derive(Drop)]

@@ -1,15 +1,17 @@
 //! Lines served to a writer: each is asked, and its reply goes out before the next is asked. It knows no command.
 ghost use Rattle.std.specs.Prelude.{◌≡◌, ℕ, List, [], ◌∷◌, ◌++◌, true, Some, option_to_list, option_map, OnOk, OnErr, MatchOption};
 ghost use Rattle.mi_hub.specs.Ended.{ended};
-ghost use Rattle.mi_hub.specs.Lines.{Asked, asked_of, extended, ended_line, last_line, lines_from, rest_from};
+ghost use Rattle.mi_commands.specs.Asked.{Asked, asked_of};
+ghost use Rattle.mi_hub.specs.Lines.{extended, ended_line, last_line, lines_from, rest_from};
 ghost use Rattle.mi_hub.specs.Served.{Served, CutOff};
 ghost use Rattle.mi_hub.specs.Watching.{has_failed, Writes};
 ghost use Rattle.mi_protocol.specs.Text.{text_bytes};
 
-use crate::line::{Line, LineBuffer, ended_text};
+use crate::line::{LineBuffer, ended_text};
 use crate::send::{WriteFault, send_reply};
 use crate::watched::Watched;
 use memchr::memchr;
+use mi_commands::Line;
 use mi_protocol::ReplyText;
 use std::io::Write;
 

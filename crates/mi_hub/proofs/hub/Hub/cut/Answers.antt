@@ -1,5 +1,5 @@
 use Rattle.std.proofs.Common.{refl, ap, ◌∙◌, is_some, None}
-use Rattle.mi_hub.specs.Holder.{released}
+use Rattle.mi_commands.specs.Holder.{released}
 use Rattle.mi_hub.proofs.RunLemmas.{neither, not_none}
 use Rattle.mi_hub.proofs.hub.Hub.cut.Goals as goal
 

@@ -17,8 +17,8 @@ use Rattle.mi_protocol.specs.Replies as say
 use Rattle.mi_protocol.specs.Replies.{Said}
 use Rattle.mi_protocol.specs.declared.binding.Command.{Command}
 use Rattle.mi_protocol.specs.declared.binding.Command.TheVariants as command
-use Rattle.mi_hub.specs.Holder.{Held, one_more, one_less, at_most, held_by, without_holder}
-use Rattle.mi_hub.specs.declared.holder.Holder.{Holder}
+use Rattle.mi_commands.specs.Holder.{Held, one_more, one_less, at_most, held_by, without_holder}
+use Rattle.mi_commands.specs.declared.holder.Holder.{Holder}
 
 -- what an accepted step says, or its refusal
 abbrev pub said_of : {A : Type 0} → (A → Said) → (Refusal → Said) → Result A Refusal → Said

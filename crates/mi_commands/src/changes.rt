@@ -10,8 +10,8 @@ use mi_value::{Edit, Record, Value};
 impl<D: Sessions + Drop> Executor<D> {
     ghost use Rattle.mi_model.specs.Steps.{insert_step, replace_step, modify_step, erase_step, erase_key_step, relocate_step};
     ghost use Rattle.mi_protocol.specs.Replies.{inserted, erased, refused, refused_modify};
-    ghost use Rattle.mi_hub.specs.Performed.{changed, all_done};
-    ghost use Rattle.mi_hub.specs.Answer.{GivenOrMemory};
+    ghost use Rattle.mi_commands.specs.Performed.{changed, all_done};
+    ghost use Rattle.mi_commands.specs.Answer.{GivenOrMemory};
 
     /// Adds a record to a table, before a place where one is given.
     pub(crate) fn insert(

@@ -1,7 +1,7 @@
 -- Which connection holds open sessions. What it holds are the newest sessions.
 use Rattle.std.specs.Prelude.{ℕ, ◌+◌, ◌-◌, min, Bool, false, not, ◌==◌, nat_le, if◌then◌else◌, Option, Some, None}
 use Rattle.mi_model.specs.Database.{Database, undone_times}
-use Rattle.mi_hub.specs.declared.holder.Holder.{Holder}
+use Rattle.mi_commands.specs.declared.holder.Holder.{Holder}
 
 -- a database, and its holder: nobody, or a connection `conn` that holds `held` of the open sessions, at least one
 pub record Held : Type 0 where

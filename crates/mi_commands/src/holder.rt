@@ -1,7 +1,7 @@
 //! Which connection holds open sessions. Plain data.
 ghost use Rattle.std.specs.Prelude.{◌≡◌, ◌+◌, ◌-◌, ◌<◌, min};
-ghost use Rattle.mi_hub.specs.Holder as spec;
-ghost use Rattle.mi_hub.specs.Holder.{held_count};
+ghost use Rattle.mi_commands.specs.Holder as spec;
+ghost use Rattle.mi_commands.specs.Holder.{held_count};
 
 /// A connection that holds sessions, and how many: at least one.
 #[derive(Clone, Copy, Drop)]
@@ -11,7 +11,7 @@ pub struct Holder {
 }
 
 /// Whether another connection holds sessions.
-pub fn is_busy(holder: &Option<Holder>, conn: u64) -> bool
+pub(crate) fn is_busy(holder: &Option<Holder>, conn: u64) -> bool
     ensures { result ≡ spec.is_busy holder.now conn }
 {
     match holder {
@@ -21,7 +21,7 @@ pub fn is_busy(holder: &Option<Holder>, conn: u64) -> bool
 }
 
 /// The holder after a start; `opened` sessions are open then.
-pub fn one_more(holder: Option<Holder>, conn: u64, opened: u64) -> Option<Holder>
+pub(crate) fn one_more(holder: Option<Holder>, conn: u64, opened: u64) -> Option<Holder>
     requires { held_count holder < opened }
     ensures holder { result ≡ spec.one_more conn holder }
     ensures count { held_count result ≡ held_count holder + 1 }
@@ -36,7 +36,7 @@ pub fn one_more(holder: Option<Holder>, conn: u64, opened: u64) -> Option<Holder
 }
 
 /// The holder after an undo or a squash.
-pub fn one_less(holder: Option<Holder>) -> Option<Holder>
+pub(crate) fn one_less(holder: Option<Holder>) -> Option<Holder>
     ensures holder { result ≡ spec.one_less holder }
     ensures count { held_count result ≡ held_count holder - 1 }
 {
@@ -50,7 +50,7 @@ pub fn one_less(holder: Option<Holder>) -> Option<Holder>
 }
 
 /// How many sessions this connection holds.
-pub fn held_by(holder: &Option<Holder>, conn: u64) -> u64
+pub(crate) fn held_by(holder: &Option<Holder>, conn: u64) -> u64
     ensures { result ≡ spec.held_by conn holder.now }
 {
     match holder {
@@ -60,7 +60,7 @@ pub fn held_by(holder: &Option<Holder>, conn: u64) -> u64
 }
 
 /// The holder once this connection is gone.
-pub fn without_holder(holder: Option<Holder>, conn: u64) -> Option<Holder>
+pub(crate) fn without_holder(holder: Option<Holder>, conn: u64) -> Option<Holder>
     ensures holder { result ≡ spec.without_holder conn holder }
     ensures count { held_count result + spec.held_by conn holder ≡ held_count holder }
 {
@@ -71,7 +71,7 @@ pub fn without_holder(holder: Option<Holder>, conn: u64) -> Option<Holder>
 }
 
 /// The holder after a commit that leaves this many sessions open.
-pub fn at_most(holder: Option<Holder>, opened: u64) -> Option<Holder>
+pub(crate) fn at_most(holder: Option<Holder>, opened: u64) -> Option<Holder>
     ensures holder { result ≡ spec.at_most opened holder }
     ensures count { held_count result ≡ min (held_count holder) opened }
 {

@@ -8,9 +8,9 @@ use Rattle.mi_protocol.specs.Binding.{bound_command}
 use Rattle.mi_protocol.specs.Replies.{Said, refused, reply_text}
 use Rattle.mi_request.specs.declared.request.Request.{Request}
 use Rattle.mi_protocol.specs.declared.binding.Command.{Command}
-use Rattle.mi_hub.specs.Lines.{Asked, text, too_long}
-use Rattle.mi_hub.specs.Holder.{Held, is_busy}
-use Rattle.mi_hub.specs.Performed.{performed}
+use Rattle.mi_commands.specs.Asked.{Asked, text, too_long}
+use Rattle.mi_commands.specs.Holder.{Held, is_busy}
+use Rattle.mi_commands.specs.Performed.{performed}
 
 -- a refusal, which leaves all as it is
 abbrev pub refusal : Held → Refusal → Said × Held

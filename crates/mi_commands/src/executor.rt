@@ -9,7 +9,6 @@ ghost use Rattle.mi_protocol.specs.Text.{text_bytes};
 
 use crate::holder::{Holder, held_by, is_busy, without_holder};
 use crate::line::Line;
-use crate::serve::Answering;
 use mi_catalog::Catalog;
 use mi_protocol::{Command, LineReader, Reply, ReplyText, Request, bind};
 use mi_sessions::Sessions;
@@ -28,7 +27,7 @@ pub struct Executor<D: Sessions + Drop> {
 
 impl<D: Sessions + Drop> Model for Executor<D> {
     ghost use Rattle.std.specs.Prelude.{◌≤◌, length};
-    ghost use Rattle.mi_hub.specs.Holder.{Held, held_count};
+    ghost use Rattle.mi_commands.specs.Holder.{Held, held_count};
     ghost use Rattle.mi_model.specs.Database.{depth};
 
     ghost Value = { Held };
@@ -39,10 +38,10 @@ impl<D: Sessions + Drop> Model for Executor<D> {
 }
 
 impl<D: Sessions + Drop> Executor<D> {
-    ghost use Rattle.mi_hub.specs.Holder.{released};
-    ghost use Rattle.mi_hub.specs.Performed.{performed};
-    ghost use Rattle.mi_hub.specs.Answer.{request_answer, GivenOrMemory, MayGive};
-    ghost use Rattle.mi_hub.specs.Lines.{text};
+    ghost use Rattle.mi_commands.specs.Holder.{released};
+    ghost use Rattle.mi_commands.specs.Performed.{performed};
+    ghost use Rattle.mi_commands.specs.Answer.{request_answer, GivenOrMemory, MayGive};
+    ghost use Rattle.mi_commands.specs.Asked.{text, asked_of};
 
     /// A database that nobody holds sessions of.
     pub fn new(alloc: Global, database: D) -> Executor<D>
@@ -80,6 +79,17 @@ impl<D: Sessions + Drop> Executor<D> {
         let count = held_by(&self.holder, conn);
         self.holder = without_holder(self.holder, conn);
         undo_times(&mut self.database, count);
+    }
+
+    /// Answers a line of a connection. `memory` may stand in the place of any answer but that to the exact undo line or an
+    /// over-long one, and then nothing has changed.
+    pub fn answer(&mut self, conn: u64, line: Line<'_>) -> ReplyText
+        ensures { MayGive conn self.old (asked_of line.entry) (text_bytes result) self.new }
+    {
+        match line {
+            Line::TooLong => self.refuse(Refusal::Line),
+            Line::Text(text) => self.answer_text(conn, text),
+        }
     }
 
     /// Does a command that fits the catalog. An undo takes no memory.
@@ -175,19 +185,6 @@ impl<D: Sessions + Drop> Executor<D> {
         ensures { text_bytes result ≡ reply_text self.now.database.catalog (said reply.entry) }
     {
         reply.text(self.alloc, self.database.catalog()).unwrap()
-    }
-}
-
-impl<D: Sessions + Drop> Answering for Executor<D> {
-    ghost use Rattle.mi_hub.specs.Answer.{MayGive};
-
-    ghost gives = { λ conn old line reply new. MayGive conn old line reply new };
-
-    fn answer(&mut self, conn: u64, line: Line<'_>) -> ReplyText {
-        match line {
-            Line::TooLong => self.refuse(Refusal::Line),
-            Line::Text(text) => self.answer_text(conn, text),
-        }
     }
 }
 

@@ -1,6 +1,6 @@
 use Rattle.std.proofs.Common.{◌≡◌, ◌≤◌}
 use Rattle.mi_model.specs.Database.{depth, undone_times}
-use Rattle.mi_hub.proofs.executor.undo_times.Given as goal
+use Rattle.mi_commands.proofs.executor.undo_times.Given as goal
 
 abbrev pub invariant-sessions : goal.invariant-sessions
 invariant-sessions g l = record {

@@ -10,8 +10,8 @@ use mi_sessions::Sessions;
 use mi_value::Refusal;
 
 impl<D: Sessions + Drop> Executor<D> {
-    ghost use Rattle.mi_hub.specs.Performed as performed;
-    ghost use Rattle.mi_hub.specs.Answer.{GivenOrMemory, IsGiven};
+    ghost use Rattle.mi_commands.specs.Performed as performed;
+    ghost use Rattle.mi_commands.specs.Answer.{GivenOrMemory, IsGiven};
 
     /// Opens a session, which the connection then holds.
     pub(crate) fn start(&mut self, conn: u64) -> ReplyText

@@ -1,7 +1,7 @@
 use Rattle.std.proofs.Common.{◌<◌, length, subst, sym}
-use Rattle.mi_hub.specs.Holder.{Held}
-use Rattle.mi_hub.proofs.AnswerLemmas.{modify_refusal_said}
-use Rattle.mi_hub.proofs.executor.Executor.modify.Goals as goal
+use Rattle.mi_commands.specs.Holder.{Held}
+use Rattle.mi_commands.proofs.AnswerLemmas.{modify_refusal_said}
+use Rattle.mi_commands.proofs.executor.Executor.modify.Goals as goal
 
 pub say-requires-in-Err-clause-said : goal.say-requires-in-Err-clause-said
 say-requires-in-Err-clause-said g c =

@@ -2,8 +2,8 @@ use Rattle.std.proofs.Common.{ap, inl, refl, ◌∙◌}
 use Rattle.mi_model.specs.Database.{schema_of, table_of}
 use Rattle.mi_model.specs.Lookup.{upper_rank}
 use Rattle.mi_protocol.specs.Replies.{ranked, reply_text}
-use Rattle.mi_hub.specs.Holder.{Held}
-use Rattle.mi_hub.proofs.executor.Executor.upper_rank.Goals as goal
+use Rattle.mi_commands.specs.Holder.{Held}
+use Rattle.mi_commands.proofs.executor.Executor.upper_rank.Goals as goal
 
 pub returns : goal.returns
 returns g c =

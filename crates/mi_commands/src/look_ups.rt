@@ -16,9 +16,9 @@ use mi_sessions::Sessions;
 use mi_value::{Lower, Record, Refusal, Steps, Upper, Value};
 
 impl<D: Sessions + Drop> Executor<D> {
-    ghost use Rattle.mi_hub.specs.Performed as performed;
-    ghost use Rattle.mi_hub.specs.Performed.{performed as done};
-    ghost use Rattle.mi_hub.specs.Answer.{GivenOrMemory};
+    ghost use Rattle.mi_commands.specs.Performed as performed;
+    ghost use Rattle.mi_commands.specs.Performed.{performed as done};
+    ghost use Rattle.mi_commands.specs.Answer.{GivenOrMemory};
 
     /// Shows a record.
     pub(crate) fn get(&self, table: usize, id: u64) -> ReplyText

@@ -1,0 +1,5 @@
+-- To be read in this order.
+pub mod Asked
+pub mod Holder
+pub mod Performed
+pub mod Answer
