@@ -1,3 +1,4 @@
 pub mod ObjectLemmas
 pub mod Parsing
+pub mod ShortLemmas
 pub mod TokenLemmas

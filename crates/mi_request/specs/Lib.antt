@@ -3,4 +3,5 @@ pub mod Commands
 pub mod Json
 pub mod Lines
 pub mod ObjectCode
+pub mod Short
 pub mod Tokens

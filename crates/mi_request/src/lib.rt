@@ -10,6 +10,7 @@ mod members;
 mod object;
 mod reading;
 mod request;
+mod short;
 #[cfg(test)]
 mod tests;
 mod tokens;

@@ -1,5 +1,5 @@
 //! From a line to a request. It reads JSON by `serde_json` and knows no catalog.
-ghost use Rattle.std.specs.Prelude.{◌≡◌, codes, Ok, IfErr, option_and_then};
+ghost use Rattle.std.specs.Prelude.{◌≡◌, codes, Some, Ok, IfErr, option_and_then};
 ghost use Rattle.serde_json.specs.Find.{as_str};
 ghost use Rattle.serde_json.specs.View.{view};
 ghost use Rattle.mi_request.specs.Answers.{IsAnswer, NamesNoIndex};
@@ -8,12 +8,14 @@ ghost use Rattle.mi_request.specs.Commands.{command_named};
 ghost use Rattle.mi_request.specs.Json.{needed};
 ghost use Rattle.mi_request.specs.Lines as lines;
 ghost use Rattle.mi_request.specs.Lines.{command_line};
+ghost use Rattle.mi_request.specs.Short.{short_line};
 
 use crate::array::Array;
 use crate::command::CommandName;
 use crate::forms::request_by;
 use crate::object::Object;
 use crate::reading::object_of;
+use crate::short::short_request;
 use mi_value::{Refusal, Text};
 use serde_json::{Category, Value as Json};
 use std::alloc::Global;
@@ -191,19 +193,29 @@ pub(crate) fn request_of(alloc: Global, value: Json) -> Option<Request>
     request_by(alloc, name, object)
 }
 
-/// The request that a line, without its newline, is. Refusals: `Json` where the bytes are not UTF-8 or no JSON, `Form` where
-/// the value is no command, and `Memory`. The line `{"cmd":"undo"}`, byte for byte, takes no memory.
-pub fn parse_line(alloc: Global, line: &[u8]) -> Result<Request, Refusal>
+/// The request that a line is, read by `serde_json` alone.
+pub(crate) fn read_line(alloc: Global, line: &[u8]) -> Result<Request, Refusal>
     ensures answer { IsAnswer result (command_line line.now) }
     ensures refusal { IfErr result NamesNoIndex }
-    ensures undo { line.now ≡ codes "{\"cmd\":\"undo\"}" → result ≡ Ok Request.Undo }
 {
-    if line == b"{\"cmd\":\"undo\"}".as_slice() {
-        return Ok(Request::Undo);
-    }
     match Json::from_slice(alloc, line) {
         Ok(value) => request_of(alloc, value).ok_or(Refusal::Form),
         Err(e) if e.classify() == Category::Memory => Err(Refusal::Memory),
         Err(_) => Err(Refusal::Json),
+    }
+}
+
+/// The request that a line, without its newline, is. Refusals: `Json` where the bytes are not UTF-8 or no JSON, `Form` where
+/// the value is no command, and `Memory`. The line of a request that has no text, written as `short_line` says, takes no
+/// memory: so `{"cmd":"undo"}`, byte for byte.
+pub fn parse_line(alloc: Global, line: &[u8]) -> Result<Request, Refusal>
+    ensures answer { IsAnswer result (command_line line.now) }
+    ensures refusal { IfErr result NamesNoIndex }
+    ensures undo { line.now ≡ codes "{\"cmd\":\"undo\"}" → result ≡ Ok Request.Undo }
+    ensures short { (r : Request) → short_line r ≡ Some line.now → result ≡ Ok r }
+{
+    match short_request(line) {
+        Some(request) => Ok(request),
+        None => read_line(alloc, line),
     }
 }

@@ -1,4 +1,5 @@
 //! Worked lines, over no catalog.
+use crate::request::read_line;
 use crate::{LineReader, Request, parse_line};
 use mi_value::Refusal;
 use std::alloc::{AllocError, Global};
@@ -56,6 +57,12 @@ fn lines_are_requests_or_refused(rt: HostRuntime) -> Result<(), Fail> {
         ("{\"cmd\":\"get\",\"id\":-1}", "form"),
         ("{\"cmd\":\"get\",\"id\":9223372036854775807}", "ok"),
         ("{\"cmd\":\"get\",\"id\":9223372036854775808}", "form"),
+        ("{\"cmd\":\"get\",\"id\":07}", "json"),
+        ("{\"cmd\":\"get\",\"id\":+7}", "json"),
+        ("{\"cmd\":\"get\",\"id\":7.0}", "form"),
+        ("{\"cmd\":\"erase\",\"id\":}", "json"),
+        ("{\"cmd\":\"erase\",\"id\":7}}", "json"),
+        ("{\"cmd\":\"erase\",\"id\":18446744073709551616}", "form"),
         ("{\"cmd\":\"get\",\"table\":\"accounts\",\"id\":0}", "ok"),
         ("{\"cmd\":\"get\",\"table\":\"c\",\"id\":0}", "ok"),
         ("{\"cmd\":\"get\",\"table\":0,\"id\":0}", "form"),
@@ -70,7 +77,7 @@ fn lines_are_requests_or_refused(rt: HostRuntime) -> Result<(), Fail> {
 }
 
 /// Lines of each command, with members and texts of each kind.
-const LINES: [&str; 17] = [
+const LINES: [&str; 20] = [
     "{\"cmd\":\"undo\"}",
     "{\"cmd\":\"size\",\"table\":\"accounts\"}",
     "{\"cmd\":\"get\",\"id\":7}",
@@ -88,6 +95,9 @@ const LINES: [&str; 17] = [
     "{ \"cmd\" : \"rank\" , \"index\" : \"id\" , \"id\" : 2 }",
     "{\"cmd\":\"count\",\"index\":\"by_owner\",\"key\":[\"\\\"\\n\"]}",
     "{\"cmd\":\"revision\",\"cmd\":\"push\"}",
+    "{\"cmd\":\"squash\"}",
+    "{\"cmd\":\"erase\",\"id\":90}",
+    "{\"cmd\":\"size\"}",
 ];
 
 /// What is put into a line.
@@ -138,7 +148,7 @@ fn with_piece(
 }
 
 fn random_line(alloc: Global, state: &mut u64) -> Result<Vec<u8>, AllocError> {
-    let mut line = LINES[next(state) % 17].as_bytes().to_vec(alloc)?;
+    let mut line = LINES[next(state) % 20].as_bytes().to_vec(alloc)?;
     for _ in 0..next(state) % 4 {
         let at = next(state) % 96;
         let left_out = next(state) % 3;
@@ -161,7 +171,7 @@ fn both_readers_read_the_same(rt: HostRuntime) -> Result<(), Fail> {
     for _ in 0..100_000 {
         let line = random_line(alloc, &mut state)?;
         let kept = shown(alloc, reader.parse(line.as_slice()))?;
-        let alone = shown(alloc, parse_line(alloc, line.as_slice()))?;
+        let alone = shown(alloc, read_line(alloc, line.as_slice()))?;
         assert_eq!(rt; kept.as_str(), alone.as_str(), "{line:?}");
     }
     Ok(())

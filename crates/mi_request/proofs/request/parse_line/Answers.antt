@@ -1,21 +1,13 @@
-use Rattle.std.proofs.Common.{◌≡◌, codes, ap, ◌∙◌, refl, rules}
-use Rattle.std.specs.Str.{is_utf8, chars}
-use Rattle.serde_json.proofs.OnLiterals.{serde_json_on_literals}
-use Rattle.mi_request.specs.Commands.{step_named}
-use Rattle.mi_request.specs.Json.{has_only}
-use Rattle.mi_request.specs.Lines.{command_line}
-use Rattle.mi_request.proofs.Parsing.{json-found, answer-value, answer-no_value}
+use Rattle.std.proofs.Common.{Ok, sym, ap, true≢false}
+use Rattle.mi_request.specs.declared.request.Request.TheVariants.{Undo}
+use Rattle.mi_request.proofs.ShortLemmas.{short_means, one_request, undo_is_short}
 use Rattle.mi_request.proofs.request.parse_line.Goals as goal
 
-pub returns-then-eq-clause-answer : goal.returns-then-eq-clause-answer
-unfolding serde_json_on_literals is_utf8 chars has_only step_named
-returns-then-eq-clause-answer c =
-    let is : c.args.line.now ≡ codes "{\"cmd\":\"undo\"}" = search rules in
-    ap command_line is ∙ refl
+pub returns-in-Some-clause-answer : goal.returns-in-Some-clause-answer
+returns-in-Some-clause-answer c = short_means c.in-Some.request c.args.line.now c.in-Some.ensures.value
 
-pub returns-in-Ok-clause-answer : goal.returns-in-Ok-clause-answer
-returns-in-Ok-clause-answer c =
-    rw c.ok_or.ensures.value (answer-value c.request_of.result c.args.line.now _ (json-found c.args.line.now _ c.in-Ok.ensures.ok.0 c.in-Ok.ensures.ok.1) c.request_of.ensures)
+pub returns-in-Some-clause-short : goal.returns-in-Some-clause-short
+returns-in-Some-clause-short c r is = ap Ok (one_request c.in-Some.request r c.args.line.now c.in-Some.ensures.value is)
 
-pub returns-in-Err-2-clause-answer : goal.returns-in-Err-2-clause-answer
-returns-in-Err-2-clause-answer c = answer-no_value c.args.line.now (λ utf8. search rules)
+pub returns-in-None-clause-undo : goal.returns-in-None-clause-undo
+returns-in-None-clause-undo c is = absurd (true≢false (sym (c.in-None.ensures.whole Undo (undo_is_short c.args.line.now is))))

@@ -1,0 +1,146 @@
+-- A short line means its request, and each is found.
+use Rattle.std.proofs.Common.{◌≡◌, ℕ, ◌^◌, ◌<◌, ◌≤◌, List, [], ◌∷◌, ◌++◌, Bool, true, false, cond, ◌&&◌, Option, Some, None, option_map, option_and_then, Result, Ok, Err, IsUtf8, codes, decimal, bytes_eq, nat_lt, refl, sym, ap, ◌∙◌, arith, lt-ltb, ltb-true}
+use Rattle.std.specs.Option.{ok_or}
+use Rattle.std.proofs.lemmas.Bool.{true≢false}
+use Rattle.std.proofs.lemmas.Option.{none-some, same_Some, cond_some}
+use Rattle.std.proofs.lemmas.Fmt.{IsAscii-decimal}
+use Rattle.std.proofs.lemmas.Slice.Eq.{bytes_eq-Decides}
+use Rattle.std.proofs.lemmas.Str.{IsUtf8-append, IsUtf8-from_ascii}
+use Rattle.std.specs.Str.{is_utf8, chars}
+use Rattle.json.specs.Token.{Token}
+use Rattle.json.specs.Lex.{tokens}
+use Rattle.json.specs.Json as json
+use Rattle.json.specs.Json.{items, members, value, if_last}
+use Rattle.json.specs.Print.{print, print_from, escape_byte, ArePrintable}
+use Rattle.json.proofs.Printed.Decimals.{IsNumber-decimal}
+use Rattle.json.proofs.Printed.Tokens.{tokens-print}
+use Rattle.json.proofs.Printed.Utf8.{IsUtf8-are_ascii}
+use Rattle.serde_json.specs.Data.{Data, Num, unsigned, string, number, object, no_members, member, put}
+use Rattle.serde_json.specs.Read.{of_json, number_of, read}
+use Rattle.serde_json.proofs.Numbers.{number_of-decimal}
+use Rattle.serde_json.proofs.OnLiterals.{serde_json_on_literals}
+use Rattle.mi_value.specs.declared.refusal.Refusal.{Refusal}
+use Rattle.mi_value.specs.declared.refusal.Refusal.TheVariants.{Form}
+use Rattle.mi_request.specs.Commands.{look_up_named, step_named}
+use Rattle.mi_request.specs.Json.{has_only}
+use Rattle.mi_request.specs.Lines.{json_of, request_of, request_or_refusal, command_line}
+use Rattle.mi_request.specs.Short.{numbered, short_line, bare_line}
+use Rattle.mi_request.specs.declared.request.Request.{Request}
+use Rattle.mi_request.specs.declared.request.Request.TheVariants as request
+use Rattle.mi_request.proofs.Parsing.{json-found}
+
+-- ---- a command with a number
+
+-- the tokens of `{"cmd":c,m:n}`
+abbrev number_tokens : List ℕ → List ℕ → ℕ → List Token
+number_tokens c m n =
+    Token.begin_object ∷ Token.key (codes "cmd") ∷ Token.string c ∷ Token.key m ∷ Token.number (decimal n) ∷ Token.end_object ∷ []
+
+-- the value that they are
+abbrev number_value : List ℕ → List ℕ → ℕ → Data
+number_value c m n = object (put m (number (unsigned n)) (member (codes "cmd") (string c) no_members))
+
+printable : (c m : List ℕ) (n : ℕ) → n < 2 ^ 64 → ArePrintable (number_tokens c m n)
+unfolding ArePrintable
+printable c m n h = (tt, (tt, (tt, (tt, (IsNumber-decimal n h, (tt, tt))))))
+
+value_read : (c m : List ℕ) (n : ℕ) → n < 2 ^ 64 → option_and_then of_json (option_and_then (λ p. if_last p.0 p.1) (value 127 (number_tokens c m n))) ≡ Some (number_value c m n)
+unfolding items members value
+value_read c m n h =
+    ap (λ o. option_map object (option_and_then (λ d. Some (put m d (member (codes "cmd") (string c) no_members))) (option_map number o))) (number_of-decimal n h)
+
+read_number : (c m : List ℕ) (n : ℕ) → n < 2 ^ 64 → read (print (number_tokens c m n)) ≡ Some (number_value c m n)
+read_number c m n h =
+    ap (λ ts. option_and_then of_json (option_and_then (λ p. if_last p.0 p.1) (value 127 ts))) (tokens-print (number_tokens c m n) (printable c m n h)) ∙ value_read c m n h
+
+utf8_number : (front : List ℕ) (n : ℕ) → n < 2 ^ 64 → IsUtf8 front → IsUtf8 (front ++ (decimal n ++ codes "}"))
+utf8_number front n h u = IsUtf8-append front _ u (IsUtf8-append (decimal n) _ (IsUtf8-from_ascii (decimal n) (IsAscii-decimal n h)) (IsUtf8-are_ascii (codes "}") refl))
+
+get_means : (n : ℕ) → n < 2 ^ 63 → command_line (codes "{\"cmd\":\"get\",\"id\":" ++ (decimal n ++ codes "}")) ≡ Ok (request.Get None n)
+unfolding print_from escape_byte has_only step_named look_up_named
+get_means n h =
+    let small : n < 2 ^ 64 = omega arith in
+    let utf8 = utf8_number (codes "{\"cmd\":\"get\",\"id\":") n small (IsUtf8-are_ascii _ refl) in
+    ap request_or_refusal (json-found _ (number_value (codes "get") (codes "id") n) utf8 (read_number (codes "get") (codes "id") n small)) ∙ rw (lt-ltb n (2 ^ 63) h)
+
+erase_means : (n : ℕ) → n < 2 ^ 63 → command_line (codes "{\"cmd\":\"erase\",\"id\":" ++ (decimal n ++ codes "}")) ≡ Ok (request.Erase None n)
+unfolding print_from escape_byte has_only step_named look_up_named
+erase_means n h =
+    let small : n < 2 ^ 64 = omega arith in
+    let utf8 = utf8_number (codes "{\"cmd\":\"erase\",\"id\":") n small (IsUtf8-are_ascii _ refl) in
+    ap request_or_refusal (json-found _ (number_value (codes "erase") (codes "id") n) utf8 (read_number (codes "erase") (codes "id") n small)) ∙ rw (lt-ltb n (2 ^ 63) h)
+
+commit_means : (n : ℕ) → n < 2 ^ 63 → command_line (codes "{\"cmd\":\"commit\",\"revision\":" ++ (decimal n ++ codes "}")) ≡ Ok (request.Commit n)
+unfolding print_from escape_byte has_only step_named look_up_named
+commit_means n h =
+    let small : n < 2 ^ 64 = omega arith in
+    let utf8 = utf8_number (codes "{\"cmd\":\"commit\",\"revision\":") n small (IsUtf8-are_ascii _ refl) in
+    ap request_or_refusal (json-found _ (number_value (codes "commit") (codes "revision") n) utf8 (read_number (codes "commit") (codes "revision") n small)) ∙ rw (lt-ltb n (2 ^ 63) h)
+
+-- ---- all short lines
+
+numbered_means : (front line : List ℕ) (r : Request) (n : ℕ) → numbered front n ≡ Some line
+    → (n < 2 ^ 63 → command_line (front ++ (decimal n ++ codes "}")) ≡ Ok r) → command_line line ≡ Ok r
+numbered_means front line r n is means =
+    let p = cond_some (nat_lt n (2 ^ 63)) _ line is in
+    ap command_line (sym p.1) ∙ means (ltb-true n (2 ^ 63) p.0)
+
+bare_means : (text line : List ℕ) (r : Request) → Some text ≡ Some line → command_line text ≡ Ok r → command_line line ≡ Ok r
+bare_means text line r is means = ap command_line (sym (same_Some text line is)) ∙ means
+
+-- a short line means its request
+pub short_means : (r : Request) (line : List ℕ) → short_line r ≡ Some line → command_line line ≡ Ok r
+unfolding serde_json_on_literals is_utf8 chars has_only step_named look_up_named
+short_means request.Start line is = bare_means _ line _ is refl
+short_means request.Undo line is = bare_means _ line _ is refl
+short_means request.Squash line is = bare_means _ line _ is refl
+short_means (request.Commit revision) line is = numbered_means (codes "{\"cmd\":\"commit\",\"revision\":") line _ revision is (commit_means revision)
+short_means request.UndoAll line is = bare_means _ line _ is refl
+short_means request.Push line is = bare_means _ line _ is refl
+short_means request.Revision line is = bare_means _ line _ is refl
+short_means (request.Get None id) line is = numbered_means (codes "{\"cmd\":\"get\",\"id\":") line _ id is (get_means id)
+short_means (request.Erase None id) line is = numbered_means (codes "{\"cmd\":\"erase\",\"id\":") line _ id is (erase_means id)
+short_means (request.Size None) line is = bare_means _ line _ is refl
+short_means (request.Get (Some table) id) line is = absurd (none-some line is)
+short_means (request.Erase (Some table) id) line is = absurd (none-some line is)
+short_means (request.Size (Some table)) line is = absurd (none-some line is)
+short_means (request.Insert table row before) line is = absurd (none-some line is)
+short_means (request.Replace table id row) line is = absurd (none-some line is)
+short_means (request.Modify table id set add rollback) line is = absurd (none-some line is)
+short_means (request.EraseKey table index key) line is = absurd (none-some line is)
+short_means (request.Relocate table index id before) line is = absurd (none-some line is)
+short_means (request.Reserve changes sessions) line is = absurd (none-some line is)
+short_means (request.Find table index key) line is = absurd (none-some line is)
+short_means (request.Nth table index n) line is = absurd (none-some line is)
+short_means (request.Count table index key) line is = absurd (none-some line is)
+short_means (request.Range table index lower upper reverse limit) line is = absurd (none-some line is)
+short_means (request.List table index after limit) line is = absurd (none-some line is)
+short_means (request.Rank table index id) line is = absurd (none-some line is)
+short_means (request.LowerRank table index key) line is = absurd (none-some line is)
+short_means (request.UpperRank table index key) line is = absurd (none-some line is)
+
+-- ---- numbers between a front and a brace
+
+-- the front and the brace hold the number
+pub numbered_is : (front line text : List ℕ) (n : ℕ) → line ≡ front ++ (text ++ codes "}") → text ≡ decimal n → n < 2 ^ 63 → numbered front n ≡ Some line
+numbered_is front line text n is digits small = rw (lt-ltb n (2 ^ 63) small) (ap (λ t. Some (front ++ (t ++ codes "}"))) (sym digits) ∙ ap Some (sym is))
+
+-- a numbered line has the front, the number and the brace
+pub numbered_parts : (front line : List ℕ) (n : ℕ) → numbered front n ≡ Some line → (n < 2 ^ 63) × (line ≡ front ++ (decimal n ++ codes "}"))
+numbered_parts front line n is = let p = cond_some (nat_lt n (2 ^ 63)) _ line is in (ltb-true n (2 ^ 63) p.0, sym p.1)
+
+-- a number is written as its digits
+pub written : (n : ℕ) (text : List ℕ) → n < 2 ^ 63 → text ≡ decimal n → (nat_lt n (2 ^ 63) && bytes_eq (decimal n) text) ≡ true
+written n text small is = rw (lt-ltb n (2 ^ 63) small) ((bytes_eq-Decides (decimal n) text).1 (sym is))
+
+abbrev request_in : Request → Result Request Refusal → Request
+request_in q (Ok r) = r
+request_in q (Err e) = q
+
+-- a line is a short line of one request
+pub one_request : (q r : Request) (line : List ℕ) → short_line q ≡ Some line → short_line r ≡ Some line → q ≡ r
+one_request q r line first second = ap (request_in q) (sym (short_means q line first) ∙ short_means r line second)
+
+-- the undo line is short
+pub undo_is_short : (line : List ℕ) → line ≡ codes "{\"cmd\":\"undo\"}" → short_line request.Undo ≡ Some line
+undo_is_short line is = ap Some (sym is)

@@ -1,0 +1,75 @@
+//! Lines without a text for the database, read where they stand as they are written without spaces. It takes no memory.
+ghost use Rattle.std.specs.Prelude.{◌≡◌, ◌<◌, ◌^◌, ◌&&◌, nat_lt, IfSome, IsSome, Some, bytes_eq, decimal, ℕ};
+ghost use Rattle.mi_request.specs.Short.{numbered, short_line, bare_line};
+ghost use Rattle.mi_request.specs.declared.request.Request.{Request as Asked};
+
+use crate::request::Request;
+use fast_float::parse_u64;
+use itoa::Buffer;
+
+/// Whether a text is how a number up to 2^63 - 1 is written.
+fn is_natural(n: u64, text: &[u8]) -> bool
+    ensures { result ≡ (nat_lt n (2 ^ 63) && bytes_eq (decimal n) text.now) }
+{
+    let mut buffer = Buffer::new();
+    n < 1 << 63 && buffer.format(n).as_bytes() == text
+}
+
+/// The number that a text writes without zeros in front, 0 to 2^63 - 1.
+fn natural_text(text: &[u8]) -> Option<u64>
+    ensures value { IfSome result (λ n. (text.now ≡ decimal n) × (n < 2 ^ 63)) }
+    ensures whole { (n : ℕ) → n < 2 ^ 63 → text.now ≡ decimal n → result ≡ Some n }
+{
+    let n = parse_u64(text).ok()?;
+    if is_natural(n, text) { Some(n) } else { None }
+}
+
+/// The number between a front and the brace that ends the line.
+fn number_behind(front: &[u8], line: &[u8]) -> Option<u64>
+    ensures value { IfSome result (λ n. numbered front.now n ≡ Some line.now) }
+    ensures whole { (n : ℕ) → numbered front.now n ≡ Some line.now → result ≡ Some n }
+{
+    let text = line.strip_prefix(front)?.strip_suffix(b"}".as_slice())?;
+    natural_text(text)
+}
+
+/// The request without members that a line is.
+fn bare_request(line: &[u8]) -> Option<Request>
+    ensures value { result ≡ bare_line line.now }
+{
+    if line == b"{\"cmd\":\"undo\"}".as_slice() {
+        Some(Request::Undo)
+    } else if line == b"{\"cmd\":\"start\"}".as_slice() {
+        Some(Request::Start)
+    } else if line == b"{\"cmd\":\"squash\"}".as_slice() {
+        Some(Request::Squash)
+    } else if line == b"{\"cmd\":\"undo_all\"}".as_slice() {
+        Some(Request::UndoAll)
+    } else if line == b"{\"cmd\":\"push\"}".as_slice() {
+        Some(Request::Push)
+    } else if line == b"{\"cmd\":\"revision\"}".as_slice() {
+        Some(Request::Revision)
+    } else if line == b"{\"cmd\":\"size\"}".as_slice() {
+        Some(Request::Size { table: None })
+    } else {
+        None
+    }
+}
+
+/// The request that a line is, where it is written as `short_line` writes it.
+pub(crate) fn short_request(line: &[u8]) -> Option<Request>
+    ensures value { IfSome result (λ r. short_line r ≡ Some line.now) }
+    ensures whole { (r : Asked) → short_line r ≡ Some line.now → IsSome result }
+{
+    if let Some(request) = bare_request(line) {
+        return Some(request);
+    }
+    if let Some(id) = number_behind(b"{\"cmd\":\"get\",\"id\":".as_slice(), line) {
+        return Some(Request::Get { table: None, id });
+    }
+    if let Some(id) = number_behind(b"{\"cmd\":\"erase\",\"id\":".as_slice(), line) {
+        return Some(Request::Erase { table: None, id });
+    }
+    let revision = number_behind(b"{\"cmd\":\"commit\",\"revision\":".as_slice(), line)?;
+    Some(Request::Commit { revision })
+}
