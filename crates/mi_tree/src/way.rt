@@ -28,6 +28,8 @@ pub(crate) type Way = ArrayVec<Option<Turn>, MAX_LEVELS>;
 
 /// Goes down to where a node of that tag belongs, which no node there compares Equal to, and puts each
 /// node on the way onto the way. Each gets a size that is one greater: a node is about to stand below it.
+///
+/// Its link is read again right before it is set: the compiler then writes the size alone.
 pub(crate) fn go_in<T, O: NodeOrder<T>>(
     p: &mut Pool<T>,
     slot: usize,
@@ -48,9 +50,10 @@ pub(crate) fn go_in<T, O: NodeOrder<T>>(
     let Some(here) = at else {
         return;
     };
-    let link = p.link(here, slot);
-    let side = compare_nodes(&Counted::new(p), order, node, tag, here, link.tag, steps);
+    let seen = p.link(here, slot);
+    let side = compare_nodes(&Counted::new(p), order, node, tag, here, seen.tag, steps);
     let left = side.is_lt();
+    let link = p.link(here, slot);
     p.set_link(
         here,
         slot,

@@ -18,7 +18,7 @@ returns-in_default-clause-way g t c fs u h =
 pub compare_nodes-side-requires-clause-right : goal.compare_nodes-side-requires-clause-right
 compare_nodes-side-requires-clause-right g t c =
     let v = c.args in let m = v.p.now in let s = v.slot in let ord = g.O.NodeOrder.order v.order.now in let tag = g.O.NodeOrder.tag_of v.order.now in let total = g.met.O.NodeOrder.total v.order.now in
-    let items = v.way.now.items in let here = c.in-Some.here in let x = v.node in let y = c.link-link.result in let e = c.in-Some.is in let i = c.link-link.ensures in
+    let items = v.way.now.items in let here = c.in-Some.here in let x = v.node in let y = c.link-seen.result in let e = c.in-Some.is in let i = c.link-seen.ensures in
     let w = c.requires.way in let fs = w.0 in let u = w.1 in let h = w.2 in
     let on = here_tagged ord total tag m (with_link m here.name s (grown_link y)) s items v.at here x y fs u h e i refl in
     subst (λ (z : Pooled g.row.T.Denot). IsHeld z here × IsTagOf tag (value_of z here.name) y.tag.key) (sym c.new.ensures.pool) (on.0, subst (λ (k : Link). IsTagOf tag (value_of m here.name) k.tag.key) (sym i) on.1.0)
@@ -36,8 +36,8 @@ go_in-requires g t c κs within =
     let items = v.way.now.items in let here = c.in-Some.here in let x = v.node in let y = c.link-link.result in let e = c.in-Some.is in let i = c.link-link.ensures in
     let w = c.requires.way in let fs = w.0 in let u = w.1 in let h = w.2 in
     let n = c.set_link.new.self in let set = c.set_link.ensures in let left = c.is_lt-left.result in
-    let is = side_is ord m s x here v.tag y.tag c.requires.tag (ap (λ (k : Link). k.tag) i)
-    ∙ ap (λ (z : Pooled g.row.T.Denot). compared (by_stamp ord) (stamped (value_of z x.name) v.tag.stamp) (stamped (value_of z here.name) y.tag.stamp)) (sym c.new.ensures.pool) ∙ sym c.compare_nodes-side.ensures.result in
+    let is = side_is ord m s x here v.tag c.link-seen.result.tag c.requires.tag (ap (λ (k : Link). k.tag) c.link-seen.ensures)
+    ∙ ap (λ (z : Pooled g.row.T.Denot). compared (by_stamp ord) (stamped (value_of z x.name) v.tag.stamp) (stamped (value_of z here.name) c.link-seen.result.tag.stamp)) (sym c.new.ensures.pool) ∙ sym c.compare_nodes-side.ensures.result in
     let st = stepped ord total tag m n s items v.at here x y fs u h e i set c.compare_nodes-side.result left is c.is_lt-left.ensures in
     let gs = record { node = here; left = left; other = st.other } ∷ fs in
     let falls = subst (λ (z : List (Option Turn) × Option Ref). Falls n s (side ord n s) tag z.0 z.1 x gs st.sub) (λ j. (sym c.push.ensures.items j, sym c.child-next.ensures j)) st.falls in
@@ -58,8 +58,8 @@ returns-clause-way g t c fs u h =
     let v = c.args in let m = v.p.now in let s = v.slot in let ord = g.O.NodeOrder.order v.order.now in let tag = g.O.NodeOrder.tag_of v.order.now in let total = g.met.O.NodeOrder.total v.order.now in
     let items = v.way.now.items in let here = c.in-Some.here in let x = v.node in let y = c.link-link.result in let e = c.in-Some.is in let i = c.link-link.ensures in
     let n = c.set_link.new.self in let set = c.set_link.ensures in let left = c.is_lt-left.result in
-    let is = side_is ord m s x here v.tag y.tag c.requires.tag (ap (λ (k : Link). k.tag) i)
-    ∙ ap (λ (z : Pooled g.row.T.Denot). compared (by_stamp ord) (stamped (value_of z x.name) v.tag.stamp) (stamped (value_of z here.name) y.tag.stamp)) (sym c.new.ensures.pool) ∙ sym c.compare_nodes-side.ensures.result in
+    let is = side_is ord m s x here v.tag c.link-seen.result.tag c.requires.tag (ap (λ (k : Link). k.tag) c.link-seen.ensures)
+    ∙ ap (λ (z : Pooled g.row.T.Denot). compared (by_stamp ord) (stamped (value_of z x.name) v.tag.stamp) (stamped (value_of z here.name) c.link-seen.result.tag.stamp)) (sym c.new.ensures.pool) ∙ sym c.compare_nodes-side.ensures.result in
     let st = stepped ord total tag m n s items v.at here x y fs u h e i set c.compare_nodes-side.result left is c.is_lt-left.ensures in
     let gs = record { node = here; left = left; other = st.other } ∷ fs in
     let falls = subst (λ (z : List (Option Turn) × Option Ref). Falls n s (side ord n s) tag z.0 z.1 x gs st.sub) (λ j. (sym c.push.ensures.items j, sym c.child-next.ensures j)) st.falls in
