@@ -13,3 +13,4 @@ pub mod Stocks
 pub mod Takes
 pub mod Turns
 pub mod Walks
+pub mod Ways

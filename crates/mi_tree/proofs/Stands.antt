@@ -124,9 +124,9 @@ module _ {T O : Type 0} where
       old_tagged order tag m q l.slot x new w.held set (nodes h.shape) (subst (IsOut x.name) (sym h.nodes_are) w.out) (subst (AreTagged tag m l.slot) (sym h.nodes_are) h.tagged),
     )
 
-    pub has_put : (total : IsTotalOrder order) (j : Tree O) (n : Pooled T) (root : Ref) (higher : Bool) (u : Shape) (v : T) → value_of m x.name ≡ Some v → new.key ≡ tag v → j.slot ≡ l.slot → j.root ≡ Some root
-        → HasPut q n l.slot (side order q l.slot) x h.shape root higher u → (us : List Ref) × IsPutIn (side_of_new order m l.slot x new.stamp) x rs us × IsTree j n order tag us
-    has_put total j n root higher u v e f es er p =
+    pub has_put : (total : IsTotalOrder order) (j : Tree O) (n : Pooled T) (root : Option Ref) (u : Shape) (v : T) → value_of m x.name ≡ Some v → new.key ≡ tag v → j.slot ≡ l.slot → j.root ≡ root
+        → HasPut q n l.slot (side order q l.slot) x h.shape root u → (us : List Ref) × IsPutIn (side_of_new order m l.slot x new.stamp) x rs us × IsTree j n order tag us
+    has_put total j n root u v e f es er p =
         let s = l.slot in let R = side order q s in let o = side_order order q s total in
         let placed = subst (λ k. IsPutIn (R x) x k (nodes u)) h.nodes_are p.placed in let long = put_length R x rs (nodes u) placed in let fits = w.fits in let first = set_keeps order tag m q s x new w.held set in
         let was = subst (λ k. AreTagged tag q s k) (placed.was) (subst (AreTagged tag q s) h.nodes_are (put_tagged v e f).1) in

@@ -10,3 +10,4 @@ pub mod Sorted
 pub mod Standing
 pub mod Stock
 pub mod Walking
+pub mod Ways

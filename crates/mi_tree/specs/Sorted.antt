@@ -81,14 +81,11 @@ module _ {T : Type 0} where
     pub differs : NoneAre (R x) Equal (nodes t)
     pub fits : size t + 1 < 2 ^ 32
 
-  -- u has the nodes of t and x, and is as high as t or one level higher
-  pub record HasPut (m n : Pooled T) (s : ℕ) (R : Ref → Ref → Ordering) (x : Ref) (t : Shape) (root : Ref) (higher : Bool) (u : Shape) : Type 0 where
-    pub rooted : IsRooted n s (Some root) u
+  -- u has the nodes of t and x
+  pub record HasPut (m n : Pooled T) (s : ℕ) (R : Ref → Ref → Ordering) (x : Ref) (t : Shape) (root : Option Ref) (u : Shape) : Type 0 where
+    pub rooted : IsRooted n s root u
     pub even : IsEven u
     pub placed : IsPutIn (R x) x (nodes t) (nodes u)
-    pub not_lower : height t ≤ height u
-    pub not_higher : height u ≤ height t + 1
-    pub same_height : higher ≡ false → height u ≡ height t
     pub keeps : Keeps m n s (x ∷ nodes t)
     pub tags : SameTags m n s
 

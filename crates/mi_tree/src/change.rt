@@ -1,5 +1,5 @@
-//! Nodes are put into a subtree and taken out of it, by one way down and back.
-//! Links are set through `balance` alone, and nodes are only compared.
+//! Nodes are put into a tree, and taken out of a subtree by one way down and back.
+//! Links are set through `way` and `balance` alone, and nodes are only compared.
 ghost use Rattle.std.specs.Prelude.{◌≡◌, ◌<◌, ◌∷◌, ◌++◌, List, Some, false};
 ghost use Rattle.mi_node.specs.Pool.{link_of};
 ghost use Rattle.mi_node.specs.Refs.{Ref};
@@ -10,57 +10,36 @@ use crate::balance::{balance, settle};
 use crate::compare::compare_nodes;
 use crate::order::NodeOrder;
 use crate::parts::height;
-use mi_node::{Counted, Link, NodeRef, Pool, Tag};
+use crate::way::{climb, go_in};
+use arrayvec::ArrayVec;
+use mi_node::{Counted, Link, NO_LINK, NodeRef, Pool, Tag};
 use mi_value::Steps;
 use std::cmp::Ordering;
 
-/// Puts a node of that tag in, which has no sides, and which no node there compares Equal to. The new
-/// root, and whether the tree is a level higher.
-///
-/// On the way back each link is read again, right before it is set: the compiler then writes only the
-/// parts that change.
+/// Puts a node of that tag in, which has no sides, and which no node there compares Equal to. The new root.
 pub(crate) fn put_in<T, O: NodeOrder<T>>(
     p: &mut Pool<T>,
     slot: usize,
     order: &O,
-    at: Option<NodeRef>,
+    root: Option<NodeRef>,
     node: NodeRef,
     tag: Tag,
     steps: &mut Steps,
-) -> (NodeRef, bool)
+) -> Option<NodeRef>
     requires slot { slot < p.old.slots }
     requires tag { tag ≡ (link_of p.old node.name slot).tag }
-    requires tree { (t : Shape) × CanPut p.old slot (side (O.order order.now) p.old slot) at node t × AreTagged (O.tag_of order.now) p.old slot (node ∷ nodes t) }
+    requires tree { (t : Shape) × CanPut p.old slot (side (O.order order.now) p.old slot) root node t × AreTagged (O.tag_of order.now) p.old slot (node ∷ nodes t) }
     ensures slots { p.new.slots ≡ p.old.slots }
-    ensures tree { (t : Shape) → CanPut p.old slot (side (O.order order.now) p.old slot) at node t
-        → (u : Shape) × HasPut p.old p.new slot (side (O.order order.now) p.old slot) node t result.0 result.1 u }
+    ensures tree { (t : Shape) → CanPut p.old slot (side (O.order order.now) p.old slot) root node t → AreTagged (O.tag_of order.now) p.old slot (node ∷ nodes t)
+        → (u : Shape) × HasPut p.old p.new slot (side (O.order order.now) p.old slot) node t result u }
 {
-    let Some(root) = at else {
-        return (node, true);
+    let above = Link {
+        back: root,
+        ..NO_LINK
     };
-    let link = p.link(root, slot);
-    match compare_nodes(&Counted::new(p), order, node, tag, root, link.tag, steps) {
-        Ordering::Less => {
-            let (left, higher) = put_in(p, slot, order, link.back, node, tag, steps);
-            let above = p.link(root, slot);
-            let link = Link {
-                back: Some(left),
-                size: link.size + 1,
-                ..above
-            };
-            settle(p, slot, root, link, higher)
-        }
-        _ => {
-            let (right, higher) = put_in(p, slot, order, link.forth, node, tag, steps);
-            let above = p.link(root, slot);
-            let link = Link {
-                forth: Some(right),
-                size: link.size + 1,
-                ..above
-            };
-            settle(p, slot, root, link, higher)
-        }
-    }
+    let mut way = ArrayVec::new();
+    go_in(p, slot, order, above.back, node, tag, &mut way, steps);
+    climb(p, slot, above.back, Some(node), &mut way)
 }
 
 /// Takes the first node out: the node, the new root, and whether the tree is a level lower.

@@ -13,6 +13,7 @@ mod parts;
 mod tests;
 mod tree;
 mod walk;
+mod way;
 
 pub use order::NodeOrder;
 pub use tree::Tree;

@@ -82,7 +82,7 @@ impl<O> Tree<O> {
                 tag,
             },
         );
-        self.root = Some(put_in(p, self.slot, &self.order, self.root, node, tag, steps).0);
+        self.root = put_in(p, self.slot, &self.order, self.root, node, tag, steps);
     }
 
     /// Takes a node of the tree out. The others keep their order, and each node keeps its value, its tag

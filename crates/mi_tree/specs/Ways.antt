@@ -1,0 +1,109 @@
+-- A way from a tree's root down to a place in it.
+--     Frame, plug      a node on the way with its other side, and the tree with another one at the end of the way
+--     rehung      a link with another child
+--     Above      the links of the nodes on the way, for a tree of that root, size and height at its end
+--     Falls, HasFallen      a way to a subtree, and the way down to where a node belongs
+--     Climbs, HasClimbed      a way with another tree at its end, and the whole tree
+use Rattle.std.specs.Prelude.{◌≡◌, ℕ, ◌+◌, ◌^◌, ◌<◌, ◌≤◌, max, Bool, true, false, cond, List, [], ◌∷◌, ◌++◌, length, Option, Some, None}
+use Rattle.std.specs.declared.cmp.Ordering.{Ordering}
+use Rattle.mi_node.specs.Pool.{Pooled, link_of, IsHeld, Keeps}
+use Rattle.mi_node.specs.Refs.{Ref, IsApart}
+use Rattle.mi_node.specs.declared.link.Link.{Link}
+use Rattle.mi_node.specs.declared.link.Tag.{Tag}
+use Rattle.mi_tree.specs.Shape.{Shape, Tip, Fork, nodes, top, size, height, DifferByAtMost, IsEven, Stands, IsRooted}
+use Rattle.mi_tree.specs.Sorted.{AreTagged, SameTags, IsPutIn, CanPut}
+use Rattle.mi_tree.specs.declared.way.Turn.{Turn}
+
+-- a node on a way, whether the way goes on to its left, and its other side. The last one of a way is the first of a list of frames
+pub record Frame : Type 0 where
+  pub node : Ref
+  pub left : Bool
+  pub other : Shape
+
+abbrev pub path_of : List Frame → List (Option Turn)
+path_of [] = []
+path_of (f ∷ fs) = path_of fs ++ Some (record { node = f.node; left = f.left }) ∷ []
+
+-- a node above a tree, which is to its left or to its right
+abbrev pub forked : Bool → Shape → Ref → Shape → Shape
+forked true t r q = Fork t r q
+forked false t r q = Fork q r t
+
+abbrev pub forked_size : Bool → ℕ → ℕ → ℕ
+forked_size true n k = n + k + 1
+forked_size false n k = k + n + 1
+
+abbrev pub forked_height : Bool → ℕ → ℕ → ℕ
+forked_height true h k = max h k + 1
+forked_height false h k = max k h + 1
+
+-- the link of such a node, for a tree of that root, size and height
+abbrev pub forked_link : Bool → Option Ref → ℕ → ℕ → Shape → Tag → Link
+forked_link true at n h q tag = record { back = at; forth = top q; size = n + size q + 1; height = max h (height q) + 1; tag = tag }
+forked_link false at n h q tag = record { back = top q; forth = at; size = size q + n + 1; height = max (height q) h + 1; tag = tag }
+
+-- another child, and nothing else
+abbrev pub rehung : Bool → Option Ref → Link → Link
+rehung b at y = record { back = cond b at y.back; forth = cond b y.forth at; size = y.size; height = y.height; tag = y.tag }
+
+-- the whole tree, with t at the end of the way
+abbrev pub plug : List Frame → Shape → Shape
+plug [] t = t
+plug (f ∷ fs) t = plug fs (forked f.left t f.node f.other)
+
+-- the frames are balanced above a tree of that height
+abbrev pub AreEven : List Frame → ℕ → Type 0
+AreEven [] h = Unit {0}
+AreEven (f ∷ fs) h = DifferByAtMost 1 h (height f.other) × IsEven f.other × AreEven fs (forked_height f.left h (height f.other))
+
+-- the root stays where a node is above the end of the way
+abbrev pub IsRootOf : Option Ref → List Frame → Type 0
+IsRootOf root [] = Unit {0}
+IsRootOf root (f ∷ fs) = root ≡ top (plug (f ∷ fs) Tip)
+
+module _ {T : Type 0} where
+  abbrev pub Above : Pooled T → ℕ → List Frame → Option Ref → ℕ → ℕ → Type 0
+  Above m s [] at n h = Unit {0}
+  Above m s (f ∷ fs) at n h = IsHeld m f.node × (link_of m f.node.name s ≡ forked_link f.left at n h f.other (link_of m f.node.name s).tag) × Stands m s f.other
+      × Above m s fs (Some f.node) (forked_size f.left n (size f.other)) (forked_height f.left h (height f.other))
+
+  -- t stands at the end of the way; above it each size counts one more
+  pub record Falls (m : Pooled T) (s : ℕ) (R : Ref → Ref → Ordering) (tag : T → ℕ) (items : List (Option Turn)) (at : Option Ref) (x : Ref) (fs : List Frame) (t : Shape) : Type 0 where
+    pub path_is : items ≡ path_of fs
+    pub can : CanPut m s R at x t
+    pub tagged : AreTagged tag m s (x ∷ nodes t)
+    pub above : Above m s fs at (size t + 1) (height t)
+    pub beside : AreEven fs (height t)
+    pub apart : IsApart (nodes (plug fs t))
+    pub places : (u : Shape) → IsPutIn (R x) x (nodes t) (nodes u) → IsPutIn (R x) x (nodes (plug fs t)) (nodes (plug fs u))
+    pub room : height t + length fs ≤ 45
+
+  -- the way of the whole tree to where x belongs
+  pub record HasFallen (m n : Pooled T) (s : ℕ) (R : Ref → Ref → Ordering) (items : List (Option Turn)) (x : Ref) (whole : Shape) (gs : List Frame) : Type 0 where
+    pub path_is : items ≡ path_of gs
+    pub whole_is : plug gs Tip ≡ whole
+    pub alone : IsRooted n s (Some x) (Fork Tip x Tip)
+    pub above : Above n s gs None 1 0
+    pub beside : AreEven gs 0
+    pub places : (u : Shape) → IsPutIn (R x) x [] (nodes u) → IsPutIn (R x) x (nodes whole) (nodes (plug gs u))
+    pub keeps : Keeps m n s (nodes whole)
+    pub tags : SameTags m n s
+
+  -- u is to stand where a tree of nearly its height is; above it each size counts the nodes of u
+  pub record Climbs (m : Pooled T) (s : ℕ) (root below : Option Ref) (items : List (Option Turn)) (fs : List Frame) (at : Option Ref) (h : ℕ) (u : Shape) : Type 0 where
+    pub path_is : items ≡ path_of fs
+    pub above : Above m s fs at (size u) h
+    pub beside : AreEven fs h
+    pub rooted : IsRooted m s below u
+    pub even : IsEven u
+    pub near : DifferByAtMost 1 (height u) h
+    pub apart : IsApart (nodes (plug fs u))
+    pub fits : size (plug fs u) < 2 ^ 32
+    pub root_is : IsRootOf root fs
+
+  pub record HasClimbed (m n : Pooled T) (s : ℕ) (whole : Shape) (root : Option Ref) (v : Shape) : Type 0 where
+    pub rooted : IsRooted n s root v
+    pub even : IsEven v
+    pub nodes_are : nodes v ≡ nodes whole
+    pub keeps : Keeps m n s (nodes whole)
+    pub tags : SameTags m n s

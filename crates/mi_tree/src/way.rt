@@ -1,0 +1,142 @@
+//! The way from a tree's root down to a place in it, and back up as far as heights change.
+//! Sizes change on the way down, so that a change visits no link above the last whose height it changes.
+ghost use Rattle.std.specs.Prelude.{◌≡◌, ℕ, ◌<◌, List, Option, cond, Some};
+ghost use Rattle.mi_node.specs.Pool.{link_of};
+ghost use Rattle.mi_node.specs.Refs.{Ref};
+ghost use Rattle.mi_tree.specs.Shape.{Shape, height as height_of};
+ghost use Rattle.mi_tree.specs.Sorted.{side};
+ghost use Rattle.mi_tree.specs.Ways.{Frame, plug, rehung, Falls, HasFallen, Climbs, HasClimbed};
+
+use crate::balance::balance;
+use crate::compare::compare_nodes;
+use crate::order::NodeOrder;
+use crate::parts::height;
+use crate::walk::MAX_LEVELS;
+use arrayvec::ArrayVec;
+use mi_node::{Counted, Link, NodeRef, Pool, Tag};
+use mi_value::Steps;
+
+/// A node on a way down, and whether the way goes on to the left.
+#[derive(Clone, Copy)]
+pub(crate) struct Turn {
+    node: NodeRef,
+    left: bool,
+}
+
+/// A way down, the root first.
+pub(crate) type Way = ArrayVec<Option<Turn>, MAX_LEVELS>;
+
+/// Goes down to where a node of that tag belongs, which no node there compares Equal to, and puts each
+/// node on the way onto the way. Each gets a size that is one greater: a node is about to stand below it.
+///
+/// Its link is read again right before it is set: the compiler then writes the size alone.
+pub(crate) fn go_in<T, O: NodeOrder<T>>(
+    p: &mut Pool<T>,
+    slot: usize,
+    order: &O,
+    at: Option<NodeRef>,
+    node: NodeRef,
+    tag: Tag,
+    way: &mut Way,
+    steps: &mut Steps,
+)
+    requires slot { slot < p.old.slots }
+    requires tag { tag ≡ (link_of p.old node.name slot).tag }
+    requires way { (fs : List Frame) × (t : Shape) × Falls p.old slot (side (O.order order.now) p.old slot) (O.tag_of order.now) way.old.items at node fs t }
+    ensures slots { p.new.slots ≡ p.old.slots }
+    ensures way { (fs : List Frame) (t : Shape) → Falls p.old slot (side (O.order order.now) p.old slot) (O.tag_of order.now) way.old.items at node fs t
+        → (gs : List Frame) × HasFallen p.old p.new slot (side (O.order order.now) p.old slot) way.new.items node (plug fs t) gs }
+{
+    let Some(here) = at else {
+        return;
+    };
+    let seen = p.link(here, slot);
+    let side = compare_nodes(&Counted::new(p), order, node, tag, here, seen.tag, steps);
+    let left = side.is_lt();
+    let link = p.link(here, slot);
+    p.set_link(
+        here,
+        slot,
+        Link {
+            size: link.size + 1,
+            ..link
+        },
+    );
+    way.push(Some(Turn { node: here, left }));
+    let next = child(link, left);
+    go_in(p, slot, order, next, node, tag, way, steps);
+}
+
+/// The child on that side.
+fn child(link: Link, left: bool) -> Option<NodeRef>
+    ensures { result ≡ cond left link.back link.forth }
+{
+    if left { link.back } else { link.forth }
+}
+
+/// The link with another child on that side.
+fn with_child(link: Link, left: bool, child: Option<NodeRef>) -> Link
+    ensures { result ≡ rehung left child link }
+{
+    if left {
+        Link {
+            back: child,
+            ..link
+        }
+    } else {
+        Link {
+            forth: child,
+            ..link
+        }
+    }
+}
+
+/// Puts the tree `below` in place of the one at the end of the way, whose height differs from its own by
+/// at most one, and rejoins the nodes of the way while heights change. The sizes on the way are right
+/// already. The tree's root.
+pub(crate) fn climb<T>(
+    p: &mut Pool<T>,
+    slot: usize,
+    root: Option<NodeRef>,
+    below: Option<NodeRef>,
+    way: &mut Way,
+) -> Option<NodeRef>
+    requires slot { slot < p.old.slots }
+    requires way { (fs : List Frame) × (at : Option Ref) × (h : ℕ) × (u : Shape) × Climbs p.old slot root below way.old.items fs at h u }
+    ensures slots { p.new.slots ≡ p.old.slots }
+    ensures tree { (fs : List Frame) (at : Option Ref) (h : ℕ) (u : Shape) → Climbs p.old slot root below way.old.items fs at h u
+        → (v : Shape) × HasClimbed p.old p.new slot (plug fs u) result v }
+{
+    let Some(turn) = way.pop().flatten() else {
+        return below;
+    };
+    let link = with_child(p.link(turn.node, slot), turn.left, below);
+    let top = balance(p, slot, link.back, turn.node, link.forth);
+    if height(p, slot, Some(top)) == link.height {
+        hang(p, slot, root, top, way)
+    } else {
+        climb(p, slot, root, Some(top), way)
+    }
+}
+
+/// Puts the tree of that root in place of the one at the end of the way, which is as high. The tree's root.
+fn hang<T>(
+    p: &mut Pool<T>,
+    slot: usize,
+    root: Option<NodeRef>,
+    top: NodeRef,
+    way: &mut Way,
+) -> Option<NodeRef>
+    requires slot { slot < p.old.slots }
+    requires way { (fs : List Frame) × (at : Option Ref) × (u : Shape) × Climbs p.old slot root (Some top) way.old.items fs at (height_of u) u }
+    ensures slots { p.new.slots ≡ p.old.slots }
+    ensures tree { (fs : List Frame) (at : Option Ref) (u : Shape) → Climbs p.old slot root (Some top) way.old.items fs at (height_of u) u
+        → (v : Shape) × HasClimbed p.old p.new slot (plug fs u) result v }
+{
+    let Some(turn) = way.pop().flatten() else {
+        return Some(top);
+    };
+    let link = with_child(p.link(turn.node, slot), turn.left, Some(top));
+    p.set_link(turn.node, slot, link);
+    root
+}
