@@ -14,3 +14,4 @@ pub mod RunLaws
 pub mod Opening
 pub mod LawProofs
 pub mod ViewOfData
+pub mod MadeLaws

@@ -7,5 +7,6 @@ pub mod Laws
 pub mod Examples
 pub mod Makes
 pub mod Asked
+pub mod Made
 pub mod Packed
 pub mod Backs

@@ -3,6 +3,7 @@
 ghost use Rattle.mi_container.specs.Laws.{OpensEmpty, ChangeIsTables, ChangeIsUndone, RunsUnwind, ChangeFits};
 ghost use Rattle.mi_container.specs.Laws.{NewestIsBack, OldestIsSettled, SettledLater, KeptByOne};
 ghost use Rattle.mi_container.specs.Laws.{SortedIsShown, HashedIsShown, IdsAreShown};
+ghost use Rattle.mi_container.specs.Made.{MadeIsUndone};
 
 /// A container opens with the data of an empty table.
 pub fn opens_empty()
@@ -17,6 +18,11 @@ pub fn change_is_tables()
 /// The inverse of a change can be taken back, and gives exactly the data before it.
 pub fn change_is_undone()
     ensures { ChangeIsUndone }
+{}
+
+/// What a container's call says of a change that it made is what `unwind` and `settle` ask of its inverse.
+pub fn made_is_undone()
+    ensures { MadeIsUndone }
 {}
 
 /// A run of changes is the run of tables, and its inverses, the newest first, give back exactly the data before it.

@@ -35,6 +35,14 @@ impl Model for MaybePlace {
     ghost view = { place_in };
 }
 
+impl Default for MaybePlace {
+    ghost is_default = { λ p. p ≡ None };
+
+    fn default() -> MaybePlace {
+        MaybePlace::none()
+    }
+}
+
 impl MaybePlace {
     /// No place.
     pub fn none() -> MaybePlace

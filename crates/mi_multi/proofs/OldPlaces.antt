@@ -1,5 +1,5 @@
 -- The places that a row had, as its structures answer them, are those that the data say.
-use Rattle.std.proofs.Common.{◌≡◌, ℕ, ◌+◌, ◌<◌, zero, suc, Bool, true, false, cond, not, List, [], ◌∷◌, ◌++◌, map, take, get_or, length, slice_get, refl, ap, sym, ◌∙◌, subst, arith}
+use Rattle.std.proofs.Common.{◌≡◌, ℕ, ◌+◌, ◌^◌, ◌<◌, ◌≤◌, zero, suc, Bool, true, false, cond, not, List, [], ◌∷◌, ◌++◌, map, take, get_or, length, slice_get, refl, ap, sym, ◌∙◌, subst, arith}
 use Rattle.std.specs.Option.{option_map, is_some}
 use Rattle.std.specs.Ordering.{nat_cmp, is_eq}
 use Rattle.std.specs.FinMap.{FinMap, get}
@@ -23,12 +23,12 @@ use Rattle.mi_index.specs.declared.structure.Structure.TheVariants.{Ordered, Has
 use Rattle.mi_index.specs.Standing.{Stands, Climb}
 use Rattle.mi_index.specs.Places.{mark_at, HasNode as Holds}
 use Rattle.mi_index.specs.Looks.{IsPlaceOf}
-use Rattle.mi_container.specs.Data.{Content, Node, Order, Data, has_stamps, parts_of, content_of, stamp_of, by_stamp, KindFits, KindsFit}
+use Rattle.mi_container.specs.Data.{Content, Node, Order, Data, has_stamps, parts_of, content_in, content_of, stamp_of, by_stamp, KindFits, KindsFit, StampFits, StampsFit}
 use Rattle.mi_container.specs.Data.Order.{ById, ByKey, ByHash, Listed}
 use Rattle.mi_container.specs.Changes.{sorted_order, link_in}
 use Rattle.mi_container.specs.Inverse.{OldPlace, old_place, old_places}
 use Rattle.mi_ids.specs.declared.entry.IdEntry.{IdEntry}
-use Rattle.mi_multi.specs.Physical.{id_in, record_in, plan, stamps_in}
+use Rattle.mi_multi.specs.Physical.{id_in, record_in, plan, stamps_in, node_in}
 use Rattle.mi_multi.specs.Multi.{id_at, ids_at, own_list, own_lists, AreLive, IsMulti, plain_of}
 use Rattle.mi_multi.specs.Placed.{place_kept}
 use Rattle.mi_multi.proofs.Every.{sorted_parts, hashed_order, has_plan, length_orders}
@@ -36,7 +36,7 @@ use Rattle.mi_multi.proofs.Lives.{holds, id_of}
 use Rattle.mi_multi.proofs.Stamps.{stamp_row, by_stamp_is}
 use Rattle.mi_multi.proofs.Beside.{link_hashed}
 use Rattle.mi_multi.proofs.Numbers.{Numbered, numbered}
-use Rattle.mi_multi.proofs.NewRecord.{stays, sequenced_stays, content_here, Marked}
+use Rattle.mi_multi.proofs.NewRecord.{stays, sequenced_stays, row_here, content_here, Marked}
 
 -- The parts of an index are those of its order
 
@@ -57,6 +57,20 @@ changed_has ById a b h = absurd (false≢true (sym h))
 changed_has (ByKey ps) a b h = refl
 changed_has (ByHash ps) a b h = refl
 changed_has (Listed l) a b h = absurd (false≢true (sym h))
+
+-- no stamp is later than the next arrival
+now_stamp : (now : ℕ) (o : Order) (a : ℕ) → StampFits now o a → a ≤ now
+now_stamp now ById a f = omega (arith, f)
+now_stamp now (ByKey ps) a f = omega (arith, f)
+now_stamp now (ByHash ps) a f = omega (arith, f)
+now_stamp now (Listed l) a f = omega (arith, f)
+
+now_stamps : (now : ℕ) (os : List Order) (stamps : List ℕ) → StampsFit now os stamps → (k : ℕ) → get_or stamps k 0 ≤ now
+now_stamps now [] [] f k = omega arith
+now_stamps now [] (a ∷ stamps) f k = absurd f
+now_stamps now (o ∷ os) [] f k = absurd f
+now_stamps now (o ∷ os) (a ∷ stamps) f zero = now_stamp now o a f.0
+now_stamps now (o ∷ os) (a ∷ stamps) f (suc k) = now_stamps now os stamps f.1 k
 
 unlinked : (x : ℕ) (rws : List (ℕ × Node)) (e : ℕ) (ps : List KeyPart) → link_in x rws e (sorted_order ps) ≡ record { back = None; forth = None }
 unlinked x rws e [] = refl
@@ -132,6 +146,18 @@ module _ (s : Shape) (ids : FinMap nat_cmp IdEntry) (m : Pooled Stored) (xs : Li
 
     pub no_place : true ≡ is_eq (compare_key (index_at s k).parts v.row new) → None ≡ its_place
     no_place same = ap (λ t. cond t None (Some (record { stamp = stamp_of d.rows k e; link = link_in k d.rows e (get_or d.orders k ById) }))) (sym (stays_is true same))
+
+    -- its stamp is below 2^63
+    pub few_stamp : false ≡ is_eq (compare_key (index_at s k).parts v.row new) → (y : Structure) → slice_get xs k ≡ Some y → (p : Place) → ((as_ bs : List Ref) → Stands y m (as_ ++ r ∷ bs) → IsPlaceOf y m r p as_ bs)
+        → (place_kept y p).stamp < 2 ^ 63
+    few_stamp other y at p given =
+        let same : (place_kept y p).stamp ≡ stamp_of d.rows k e = ap (λ (q : OldPlace). q.stamp) (place_is k y (numbered s ids m xs next arrivals is k y at) p given old new (stays_is false other)) in
+        let here = row_here s ids m xs next arrivals is e r there v (ap id_in (sym v_is) ∙ id) in
+        let content : content_of d.rows e ≡ (node_in m os r).content = ap content_in here in
+        let stamps = now_stamps arrivals d.orders (node_in m os r).content.stamps (is.is_data.stamped e (node_in m os r) here) k in
+        let now : stamp_of d.rows k e ≤ arrivals = subst (λ (c : Content). get_or c.stamps k 0 ≤ arrivals) (sym content) stamps in
+        let fit : arrivals ≤ 9223372036854775807 = is.arrivals_fit in
+        omega (arith, same, now, fit)
 
     pub some_place : false ≡ is_eq (compare_key (index_at s k).parts v.row new) → (y : Structure) → slice_get xs k ≡ Some y → (p : Place) → ((as_ bs : List Ref) → Stands y m (as_ ++ r ∷ bs) → IsPlaceOf y m r p as_ bs)
         → Some (place_kept y p) ≡ its_place

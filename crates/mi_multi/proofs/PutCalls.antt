@@ -1,5 +1,5 @@
 -- What the calls that put another record ask and answer, by what contracts see of the container.
-use Rattle.std.proofs.Common.{◌≡◌, ℕ, ◌+◌, ◌<◌, Bool, true, false, List, ◌++◌, ◌∷◌, map, length, slice_get, refl, sym, ◌∙◌, subst}
+use Rattle.std.proofs.Common.{◌≡◌, ℕ, ◌+◌, ◌^◌, ◌<◌, Bool, true, false, List, ◌++◌, ◌∷◌, map, length, slice_get, refl, sym, ◌∙◌, subst}
 use Rattle.std.specs.Option.{IsSome, option_map, is_some}
 use Rattle.std.specs.Ordering.{is_eq}
 use Rattle.std.specs.FinMap.{get}
@@ -97,6 +97,12 @@ module _ (i : Inside) (is : AreMulti i) (w : Seen) (seen : seen_of i ≡ w) (row
       some_place other y at p given =
           subst (λ (u : Seen). Some (place_kept y p) ≡ old_place k u.plain.rows row.id (content_of u.plain.rows row.id).values new (order_at u.plain.orders k) (stamp_of u.plain.rows k row.id)) seen
           (old.some_place i.schema i.ids.entries m items i.next i.arrivals is row.id row.node row_there k few_here v v_is new other y at p given)
+
+      -- the stamp of what is kept is below 2^63
+      pub kept_stamp : false ≡ is_eq (compare_key (index_at i.schema k).parts v.row new) → (y : Structure) → slice_get items k ≡ Some y → (p : Place)
+          → ((xs ys : List Ref) → Stands y m (xs ++ row.node ∷ ys) → IsPlaceOf y m row.node p xs ys) → (q : OldPlace) → q ≡ place_kept y p → q.stamp < 2 ^ 63
+      kept_stamp other y at p given q same =
+          subst (λ (a : OldPlace). a.stamp < 2 ^ 63) (sym same) (old.few_stamp i.schema i.ids.entries m items i.next i.arrivals is row.id row.node row_there k few_here v v_is new other y at p given)
 
 -- The put
 

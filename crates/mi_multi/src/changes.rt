@@ -164,7 +164,7 @@ impl MultiIndex {
 
     /// Takes back that a row was inserted: its node leaves every index and is freed, and its id and its place in time are
     /// used again. Takes no memory.
-    pub fn take_back_inserted(&mut self, row: RowRef)
+    pub(crate) fn take_back_inserted(&mut self, row: RowRef)
         requires ready { Ready (Inserted (row_seen row)) self.old.plain }
         requires before { IsData self.old.shape (taken_back (Inserted (row_seen row)) self.old.plain) }
         ensures plain { self.new.plain ≡ taken_back (Inserted (row_seen row)) self.old.plain }
@@ -178,9 +178,9 @@ impl MultiIndex {
         self.arrivals -= 1;
     }
 
-    /// Takes back that a row was moved in a sequenced index: it stands there again directly before the row that is named, or
-    /// last. Takes no memory.
-    pub fn take_back_relocated(&mut self, index: usize, row: RowRef, behind: Option<RowRef>)
+    /// Has a row stand in a sequenced index directly before the row that is named, or last. A move and what takes it back are
+    /// both this step: each is said as a move that is taken back. Takes no memory.
+    pub(crate) fn stand_before(&mut self, index: usize, row: RowRef, behind: Option<RowRef>)
         requires ready { Ready (Relocated index (row_seen row) (option_map row_seen behind)) self.old.plain }
         requires before { IsData self.old.shape (taken_back (Relocated index (row_seen row) (option_map row_seen behind)) self.old.plain) }
         ensures plain { self.new.plain ≡ taken_back (Relocated index (row_seen row) (option_map row_seen behind)) self.old.plain }

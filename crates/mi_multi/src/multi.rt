@@ -113,7 +113,7 @@ impl MultiIndex {
     }
 
     /// Takes back that a row was erased: its node stands again in every index, where it stood. Takes no memory.
-    pub fn take_back_erased(&mut self, row: RowRef)
+    pub(crate) fn take_back_erased(&mut self, row: RowRef)
         requires ready { Ready (Erased (row_seen row) None) self.old.plain }
         requires before { IsData self.old.shape (taken_back (Erased (row_seen row) None) self.old.plain) }
         ensures plain { self.new.plain ≡ taken_back (Erased (row_seen row) None) self.old.plain }
@@ -124,7 +124,7 @@ impl MultiIndex {
     }
 
     /// Frees the node that an erased row kept. Takes no memory.
-    pub fn settle_erased(&mut self, row: RowRef)
+    pub(crate) fn settle_erased(&mut self, row: RowRef)
         requires { KeptBy (Erased (row_seen row) None) self.old.plain }
         ensures plain { self.new.plain ≡ settled (Erased (row_seen row) None) self.old.plain }
         ensures shape { self.new.shape ≡ self.old.shape }

@@ -67,7 +67,7 @@ impl MultiIndex {
         self.keeps_rules();
         let RowRef { id, node } = row;
         let behind = self.row_behind(index, id, node);
-        self.take_back_relocated(index, RowRef { id, node }, before);
+        self.stand_before(index, RowRef { id, node }, before);
         Inverse::new(Undo::Relocated(index, RowRef { id, node }, behind))
     }
 

@@ -12,6 +12,7 @@ use crate::multi::MultiIndex;
 use arrayvec::ArrayVec;
 use mi_container::{Inverse, MAX_PLACES, OldPlace, OldPlaces, RowRef, Undo};
 use mi_index::{Place, Stored};
+use mi_node::NodeRef;
 use mi_value::Record;
 
 /// An old place as the indexes take it.
@@ -28,10 +29,11 @@ fn place_of(old: Option<OldPlace>) -> Option<Place>
     }
 }
 
-/// Old places as the indexes take them.
-fn places_of(old: &OldPlaces) -> ArrayVec<Option<Place>, MAX_PLACES>
+/// The old places of a node as the indexes take them.
+fn places_of(node: NodeRef, old: &OldPlaces) -> ArrayVec<Option<Place>, MAX_PLACES>
     ensures { result.items ≡ map (option_map to_place) (map (option_map place_seen) old.now.items) }
 {
+    let _ = node;
     let mut places = ArrayVec::new();
     for place in old.as_slice() {
         places.push(place_of(place.place()));
@@ -48,7 +50,7 @@ impl MultiIndex {
         ensures plain { self.new.plain ≡ taken_back (Put (row_seen row) (old_seen old places.items)) self.old.plain }
         ensures shape { self.new.shape ≡ self.old.shape }
     {
-        let places = places_of(&places);
+        let places = places_of(row.node, &places);
         let stored = Stored {
             id: row.id,
             row: old,
@@ -69,7 +71,7 @@ impl MultiIndex {
             Undo::Inserted(row) => self.take_back_inserted(row),
             Undo::Put(row, old, places) => self.take_back_put(row, old, places),
             Undo::Erased(row, _) => self.take_back_erased(row),
-            Undo::Relocated(index, row, behind) => self.take_back_relocated(index, row, behind),
+            Undo::Relocated(index, row, behind) => self.stand_before(index, row, behind),
             Undo::Nothing => {}
         }
     }

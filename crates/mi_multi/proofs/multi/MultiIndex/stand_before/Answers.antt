@@ -9,7 +9,7 @@ use Rattle.mi_multi.specs.Multi.{plain_of}
 use Rattle.mi_multi.specs.Seen.{Seen}
 use Rattle.mi_multi.proofs.Uninserting.{live_there}
 use Rattle.mi_multi.proofs.Moved.{IsOtherNode, other_node, can_move, moved_seen, moved_multi}
-use Rattle.mi_multi.proofs.multi.MultiIndex.take_back_relocated.Goals as goal
+use Rattle.mi_multi.proofs.multi.MultiIndex.stand_before.Goals as goal
 
 pub relocate-requires : goal.relocate-requires
 relocate-requires c =

@@ -1,0 +1,5 @@
+use Rattle.mi_container.proofs.MadeLaws.{made_is_undone}
+use Rattle.mi_container.proofs.laws.made_is_undone.Goals as goal
+
+pub returns : goal.returns
+returns c = made_is_undone
