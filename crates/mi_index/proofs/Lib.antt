@@ -8,3 +8,4 @@ pub mod Inserts
 pub mod Rekeys
 pub mod Opening
 pub mod Looking
+pub mod Walked

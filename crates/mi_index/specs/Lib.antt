@@ -13,3 +13,4 @@ pub mod Rekeying
 pub mod Inserting
 pub mod Looks
 pub mod Opened
+pub mod Walks

@@ -14,6 +14,7 @@ mod orders;
 mod stored;
 mod structure;
 pub mod tags;
+mod walk;
 
 pub use moves::{Moves, Place};
 pub use nodes::Nodes;

@@ -41,3 +41,4 @@ pub mod Revalued
 pub mod NewRecord
 pub mod OldPlaces
 pub mod PutCalls
+pub mod WalkCalls

@@ -6,3 +6,4 @@ pub mod Before
 pub mod RowAt
 pub mod Restored
 pub mod Placed
+pub mod Walks

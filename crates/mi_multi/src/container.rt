@@ -89,6 +89,18 @@ impl Container for MultiIndex {
         self.before(index, id)
     }
 
+    fn walk(
+        &self,
+        alloc: Global,
+        index: usize,
+        reverse: bool,
+        first: u64,
+        limit: usize,
+        steps: &mut Steps,
+    ) -> Result<Vec<(u64, &Record)>, AllocError> {
+        self.walk(alloc, index, reverse, first, limit, steps)
+    }
+
     fn lower(&self, index: usize, key: &[Value], steps: &mut Steps) -> Option<u64> {
         self.lower(index, key, steps)
     }

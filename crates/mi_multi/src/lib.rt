@@ -14,5 +14,6 @@ mod reading;
 mod relocating;
 mod replacing;
 mod unwinding;
+mod walking;
 
 pub use multi::MultiIndex;
