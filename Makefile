@@ -7,7 +7,8 @@ PREFIX ?= /usr/local
 SEED ?= 1
 LINES ?= 2000
 SECONDS ?= 30
-CLIENTS ?= 4
+CLIENTS ?= 64
+DAMAGED ?= 0.07
 ROWS ?=
 QUICK ?=
 SHARE = $(DESTDIR)$(PREFIX)/share/weltiyo
@@ -21,10 +22,11 @@ help:
 	@echo 'make build       the same, without serving'
 	@echo 'make test        the gate: every proof from nothing, the must-fail edits, the tests, the program by two compilers'
 	@echo 'make check-docs  runs what README, guide and examples print, and the tests of the Python client and of the scripts'
-	@echo 'make fuzz        random lines to the program and to a reference in Python: SEED=$(SEED) LINES=$(LINES)'
+	@echo 'make fuzz        random lines to the program and to a reference in Python: SEED=$(SEED) LINES=$(LINES), of which DAMAGED=$(DAMAGED) are damaged'
 	@echo 'make faults      each request for memory refused in turn on worked rows, and a server under a hard limit of memory (some'
 	@echo '                 20 minutes; needs a C compiler and the proved program; ARGS="--row WORDS" takes a part)'
-	@echo 'make soak        clients over loopback for SECONDS=$(SECONDS), CLIENTS=$(CLIENTS): sums, sessions and memory are watched'
+	@echo 'make soak        CLIENTS=$(CLIENTS) loopback clients of 10,000 lines each, all replies compared; clients that read slowly, break off or'
+	@echo '                 never read; and for SECONDS=$(SECONDS) clients whose sums are watched (ARGS="--part lines --lines 1000" takes a part)'
 	@echo 'make bench       the program against a Boost.MultiIndex container, SQLite and Redis, into docs/bench (see bench/README.md);'
 	@echo '                 ROWS=1000,10000 are other sizes; QUICK=1 is small, and shows only that all answer alike'
 	@echo 'make install     copies program, documents, examples and client below PREFIX=$(PREFIX)'
@@ -48,13 +50,13 @@ check-docs:
 	@$(PYTHON) scripts/check_docs.py
 
 fuzz:
-	@$(PYTHON) scripts/fuzz.py --seed $(SEED) --lines $(LINES)
+	@$(PYTHON) scripts/fuzz.py --seed $(SEED) --lines $(LINES) --damaged $(DAMAGED)
 
 faults:
 	@$(PYTHON) scripts/faults.py $(ARGS)
 
 soak:
-	@$(PYTHON) scripts/soak.py --seconds $(SECONDS) --clients $(CLIENTS)
+	@$(PYTHON) scripts/soak.py --seconds $(SECONDS) --clients $(CLIENTS) --seed $(SEED) $(ARGS)
 
 bench:
 	@$(if $(QUICK),$(PYTHON) -m unittest discover -s bench/tests)

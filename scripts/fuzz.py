@@ -1,9 +1,10 @@
 #!/usr/bin/env python3
 """Random lines to the program and to `reference.py`, whose replies must be the same bytes.
 
-    fuzz.py [--seed N] [--lines N] [--program FILE]
+    fuzz.py [--seed N] [--lines N] [--damaged SHARE] [--program FILE]
 
-A case is a random schema with some 200 lines: mostly commands that mean something, some damaged ones. Each case goes through
+A case is a random schema with some 200 lines: mostly commands that mean something, and a share that is damaged by one thing: a byte, a member, a
+value or its type, a length, an order, brackets, escapes, numbers at the limits, bytes that are no UTF-8. Each case goes through
 standard input in one piece; each third one goes through two to four loopback connections, in pieces cut inside of lines. The same seed
 gives the same cases. Where a reply differs, the case is left below out/fuzz/."""
 import argparse
@@ -39,14 +40,21 @@ ACCOUNTS = Schema(
 
 TEXTS = ["", "a", "b", "ann", "bob", "\u00e4", "\u6f22", "\U0001f600", "\uffff", "z\"\\\n", "\x00\x1f\x7f", "id", "a" * 1024, "\u00e4" * 512]
 NUMBERS = [0, 1, 2, 3, 5, 7, -1, -5, 50, LAST, -LAST - 1, LAST - 1]
-ODD_VALUES = ["1.0", "1e3", "-0", "1.5", "9223372036854775808", "-9223372036854775809", "1e400", "null", "[]", "{}", "\"" + "x" * 1025 + "\""]
+ODD_VALUES = [
+    "1.0", "1e3", "-0", "1.5", "9223372036854775807", "9223372036854775808", "-9223372036854775808", "-9223372036854775809",
+    "18446744073709551616", "1e400", "1E-400", "00", "1000", "1001", "1024", "1025", "1000000", "1000001", "true", "null", "[]", "{}", "[[0]]",
+    '""', '"id"', '"\\u0000"', '"\\ud83d\\ude00"', '"\\ud83d"', '"' + "x" * 1024 + '"', '"' + "x" * 1025 + '"', '"' + "\u00e4" * 513 + '"',
+]
 OFTEN = {
     "insert": 36, "replace": 8, "modify": 14, "erase": 5, "erase_key": 1, "relocate": 8, "start": 8, "undo": 5, "squash": 2, "commit": 4,
     "undo_all": 0.3, "push": 1, "get": 4, "find": 4, "nth": 3, "count": 4, "range": 10, "list": 6, "rank": 4, "lower_rank": 3,
     "upper_rank": 3, "size": 2, "revision": 2, "reserve": 0.5, "fly": 0.2,
 }
 WITHOUT_TABLE = ("start", "undo", "squash", "commit", "undo_all", "push", "revision", "reserve", "fly")
-DAMAGE = [b"\xff", b"\xef\xbb\xbf", b"\\ud800", b"\\u0061", b"\x00", b"\t", b" ", b"}", b"{", b"[", b",", b"\"", b"01", b"NaN", b"\r"]
+DAMAGE = [
+    b"\xff", b"\x80", b"\xc3", b"\xf0\x9f\x98", b"\xc0\xaf", b"\xed\xa0\x80", b"\xf4\x90\x80\x80", b"\xef\xbb\xbf", b"\\", b"\\x", b"\\u12",
+    b"\\ud800\\u0041", b"\\ud800", b"\\u0061", b"\x00", b"\t", b" ", b"}", b"{", b"[", b"]", b",", b":", b"\"", b"01", b"NaN", b"\r",
+]
 
 
 def toml(schemas, first_revision):
@@ -79,8 +87,8 @@ def toml_index(schema, index):
 class Lines:
     """Random schemas and lines."""
 
-    def __init__(self, seed):
-        self.random = random.Random(seed)
+    def __init__(self, seed, share=0.07):
+        self.random, self.share = random.Random(seed), share
         # Few values in most cases, so that keys are equal and unique indexes refuse.
         size = self.random.choice([2, 3, 5, 100])
         self.texts = self.random.sample(TEXTS, min(size, len(TEXTS)))
@@ -240,13 +248,13 @@ class Lines:
             return text + b" " * (LONGEST_LINE - len(text) + pick.randint(-1, 1))
         said = self.command(schemas)
         text = self.text(said)
-        if chance < 0.10:
-            return self.damaged(text, said)
-        return text + b"\r" if chance < 0.14 else text
+        if pick.random() < self.share:
+            return self.damaged(text, said).replace(b"\n", b"\x0b")
+        return text + b"\r" if chance < 0.08 else text
 
     def damaged(self, text, said):
         pick = self.random
-        how = pick.randint(0, 5)
+        how = pick.randint(0, 8)
         if how == 0:
             return text[: pick.randint(0, len(text))]
         if how == 1:
@@ -261,7 +269,20 @@ class Lines:
         if how == 4:
             name = pick.choice([*said, "x", "table"])
             return text[:-1] + f',"{name}":{pick.choice(ODD_VALUES)}}}'.encode()
-        odd = pick.choice(ODD_VALUES)
+        if how == 5:
+            at = pick.randint(0, len(text) - 1)
+            return text[:at] + bytes([pick.randint(0, 255)]) + text[at + 1:]
+        if how == 6:
+            # two members change places, or one stands there twice
+            members = [f"{json.dumps(it)}:{json.dumps(value)}" for it, value in said.items()]
+            members += [pick.choice(members)] if pick.random() < 0.5 else []
+            pick.shuffle(members)
+            return f"{{{','.join(members)}}}".encode()
+        if how == 7:
+            depth = pick.choice([1, 2, 124, 125, 126, 127, 128, 300])
+            odd = "[" * depth + pick.choice(["", "0"]) + "]" * depth
+        else:
+            odd = pick.choice(ODD_VALUES)
         return json.dumps(replaced(said, pick)).replace('"@"', odd).encode()
 
 
@@ -389,13 +410,14 @@ def main():
     parser = argparse.ArgumentParser()
     parser.add_argument("--seed", type=int, default=1)
     parser.add_argument("--lines", type=int, default=2000)
+    parser.add_argument("--damaged", type=float, default=0.07, help="the share of lines that are damaged")
     parser.add_argument("--program")
     options = parser.parse_args()
     path = options.program or program.program()
     os.makedirs(FOLDER, exist_ok=True)
     began, asked, case = time.monotonic(), 0, 0
     while asked < options.lines:
-        made = Lines(f"{options.seed}/{case}")
+        made = Lines(f"{options.seed}/{case}", options.damaged)
         catalog, count = made.catalog(), min(CASE_LINES, options.lines - asked)
         lines = [made.line(catalog[0]) for _ in range(count)]
         differs = over_pipes(path, catalog, lines)

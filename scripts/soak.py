@@ -1,9 +1,14 @@
 #!/usr/bin/env python3
-"""A bounded run over loopback with the Python client.
+"""Bounded runs over loopback.
 
-    soak.py [--seconds N] [--clients K] [--program FILE]
+    soak.py [--part lines|readers|moves] [--clients K] [--lines N] [--seconds N] [--seed N] [--program FILE]
 
-Each client has some accounts and, in its own thread, moves sums between them inside of sessions, some of which it undoes, some it lets
+Without --part all three run, one behind another. `lines` and `readers` stand in `load.py`: in the first K clients ask N lines each in random
+pieces, with sessions that are pushed and clients that break off; in the second one client reads slowly, one breaks off in the middle of a page
+and one never reads. Every reply of both is compared with `reference.py`. `lines` asks no more behind ten minutes.
+
+`moves` runs for some seconds with the Python client. Each of four clients has some accounts and, in its own thread, moves sums
+between them inside of sessions, some of which it undoes, some it lets
 fail and some it pushes or leaves to the end of its connection. The sum of all balances must stay what it was, whatever was undone, and the
 server's memory is looked at: once the tables have their size it must not grow with the number of commands."""
 import argparse
@@ -12,6 +17,7 @@ import sys
 import threading
 import time
 
+import load
 import program
 
 sys.path.insert(0, f"{program.TOP}/clients/python")
@@ -127,26 +133,19 @@ def judge(watcher, clients):
         fail(f"sessions are open at the end: {state}")
 
 
-def main():
-    parser = argparse.ArgumentParser()
-    parser.add_argument("--seconds", type=float, default=30)
-    parser.add_argument("--clients", type=int, default=4)
-    parser.add_argument("--program")
-    options = parser.parse_args()
-    if not 1 <= options.clients <= 63:
-        fail("--clients is 1 to 63, since one more connection watches")
-    path = options.program or program.program()
+def move(path, seconds, clients=4):
+    """Clients that move sums for so many seconds; answers what it saw, in words."""
     stopped = threading.Event()
-    with Server(path, clients=options.clients + 1) as server:
-        movers = [Mover(server.connect(60), n + 1, stopped) for n in range(options.clients)]
+    with Server(path, clients=clients + 1) as server:
+        movers = [Mover(server.connect(60), n + 1, stopped) for n in range(clients)]
         watcher = server.connect(60)
         for it in movers:
             it.start()
-        samples = watched(movers, watcher, server.process, options.seconds)
+        samples = watched(movers, watcher, server.process, seconds)
         faults = [it.fault for it in movers if it.fault]
         if faults:
             fail(f"a client failed: {faults[0]!r}")
-        judge(watcher, options.clients)
+        judge(watcher, clients)
         watcher.close()
         if server.ended():
             fail(f"the server ended with status {server.ended()}")
@@ -154,10 +153,35 @@ def main():
     if late > 1.5 * early + 10_000:
         fail(f"the server's memory rose from {early} to {late} kB")
     moves, undone, busy = (sum(getattr(it, name) for it in movers) for name in ("done", "undone", "busy"))
-    print(
-        f"{options.clients} clients for {options.seconds:.0f} s with {program.title(path)}: {moves} moves, {undone} of them undone, "
-        f"{busy} refused as busy and asked again; the sum stayed; memory {early} kB in the first half, {late} kB in the second"
+    return (
+        f"{clients} clients for {seconds:.0f} s: {moves} moves, {undone} of them undone, {busy} refused as busy and asked again; "
+        f"the sum stayed; memory {early} kB in the first half, {late} kB in the second"
     )
+
+
+def main():
+    parser = argparse.ArgumentParser()
+    parser.add_argument("--part", choices=["lines", "readers", "moves"])
+    parser.add_argument("--clients", type=int, default=64)
+    parser.add_argument("--lines", type=int, default=10_000)
+    parser.add_argument("--seconds", type=float, default=30)
+    parser.add_argument("--seed", type=int, default=1)
+    parser.add_argument("--program")
+    options = parser.parse_args()
+    if not 1 <= options.clients <= 64:
+        fail("--clients is 1 to 64")
+    path = options.program or program.program()
+    print(f"with {program.title(path)}:")
+    parts = {
+        "lines": lambda: load.ask_lines(path, options.clients, options.lines, 600, options.seed),
+        "readers": lambda: load.read_oddly(path),
+        "moves": lambda: move(path, options.seconds),
+    }
+    for name in [options.part] if options.part else parts:
+        try:
+            print(f"{name}: {parts[name]()}", flush=True)
+        except load.Differs as why:
+            fail(f"{name}, seed {options.seed}: {why}")
 
 
 if __name__ == "__main__":
