@@ -11,8 +11,6 @@ mod laws;
 mod reply;
 mod row;
 mod shown;
-#[cfg(test)]
-mod tests;
 mod text;
 
 pub use binding::{Command, bind};

@@ -10,8 +10,6 @@ mod members;
 mod object;
 mod reading;
 mod request;
-#[cfg(test)]
-mod tests;
 mod tokens;
 
 pub use array::Array;

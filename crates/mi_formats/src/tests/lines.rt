@@ -1,5 +1,5 @@
 //! Worked lines, over no catalog.
-use crate::{LineReader, Request, parse_line};
+use mi_request::{LineReader, Request, parse_line};
 use mi_value::Refusal;
 use std::alloc::{AllocError, Global};
 use std::test::Fail;
