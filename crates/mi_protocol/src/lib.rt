@@ -13,8 +13,6 @@ mod look_ups;
 mod reply;
 mod row;
 mod shown;
-#[cfg(test)]
-mod tests;
 mod text;
 
 pub use binding::{Command, bind};

@@ -11,8 +11,6 @@ mod object;
 mod reading;
 mod request;
 mod short;
-#[cfg(test)]
-mod tests;
 mod tokens;
 
 pub use array::Array;

@@ -12,6 +12,3 @@ mod read;
 pub use fault::SchemaFault;
 pub use mi_catalog::{Catalog, Column, Index, IndexKind, Parts, Schema, built_in};
 pub use read::{read_catalog, read_schema};
-
-#[cfg(test)]
-mod tests;

@@ -1,6 +1,5 @@
 //! Worked lines, over no catalog.
-use crate::request::read_line;
-use crate::{LineReader, Request, parse_line};
+use mi_request::{LineReader, Request, parse_line};
 use mi_value::Refusal;
 use std::alloc::{AllocError, Global};
 use std::test::Fail;
@@ -162,6 +161,13 @@ fn shown(alloc: Global, parsed: Result<Request, Refusal>) -> Result<String, Allo
     format!(in alloc; "{parsed:?}")
 }
 
+/// The line with a space behind it, which means the same and is read by `serde_json` alone.
+fn with_space(alloc: Global, line: &[u8]) -> Result<Vec<u8>, AllocError> {
+    let mut spaced = line.to_vec(alloc)?;
+    spaced.push(b' ')?;
+    Ok(spaced)
+}
+
 /// 100,000 random lines, of which three in four are damaged: the kept reader and `serde_json` alone read the same.
 #[test]
 fn both_readers_read_the_same(rt: HostRuntime) -> Result<(), Fail> {
@@ -171,7 +177,8 @@ fn both_readers_read_the_same(rt: HostRuntime) -> Result<(), Fail> {
     for _ in 0..100_000 {
         let line = random_line(alloc, &mut state)?;
         let kept = shown(alloc, reader.parse(line.as_slice()))?;
-        let alone = shown(alloc, read_line(alloc, line.as_slice()))?;
+        let spaced = with_space(alloc, line.as_slice())?;
+        let alone = shown(alloc, parse_line(alloc, spaced.as_slice()))?;
         assert_eq!(rt; kept.as_str(), alone.as_str(), "{line:?}");
     }
     Ok(())

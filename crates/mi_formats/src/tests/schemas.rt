@@ -1,5 +1,5 @@
 //! Worked documents: which are schemas and catalogs, and what the others lack.
-use crate::{Catalog, Schema, SchemaFault, built_in, read_catalog, read_schema};
+use mi_schema::{Catalog, Schema, SchemaFault, built_in, read_catalog, read_schema};
 use std::alloc::{AllocError, Global};
 use std::process::Abort;
 use std::test::Fail;

@@ -4,8 +4,8 @@ ghost use Rattle.mi_catalog.specs.Accounts.{accounts};
 ghost use Rattle.mi_protocol.specs.Replies.{said, IsSaidOf};
 ghost use Rattle.mi_protocol.specs.declared.reply.Reply.TheVariants as replies;
 
-use crate::{Command, Reply, bind, parse_line};
 use mi_catalog::{Catalog, built_in};
+use mi_protocol::{Command, Reply, bind, parse_line};
 use mi_value::{Record, Refusal, Text, Value};
 use std::alloc::{AllocError, Global};
 use std::process::Abort;

@@ -1,0 +1,5 @@
+//! Tables of what is read and written.
+
+mod lines;
+mod replies;
+mod schemas;
