@@ -461,6 +461,32 @@ def reserved(runner):
     return total
 
 
+# By calls
+
+CALLS = f"{program.TOP}/crates/mi_worked/out/mi_worked_tests"
+CALLS_TEST = "tests::calls::a_reserved_block_needs_no_memory"
+MARK = 1_234_567
+"""How many bytes that test asks for where its block begins; requests are refused behind it."""
+
+
+def by_calls(library, folder):
+    """A reserved block by calls of the database, without lines: the test passes whatever is refused behind its mark, and nothing
+    is, since the block asks for no memory. Answers how many runs differ from that."""
+    if not os.path.exists(CALLS):
+        print(f"a reserved block by calls: left out, since {os.path.relpath(CALLS)} isn't there (rt test in crates/mi_worked makes it)")
+        return 0
+    log, differ, asked = f"{folder}/calls", 0, []
+    for request, rest in [(1, 0), (2, 0), (3, 0), (1, 1)]:
+        env = {**os.environ, "LD_PRELOAD": library, "REFUSE_LOG": log, "REFUSE_MARK": str(MARK), "REFUSE_REQUEST": str(request), "REFUSE_ALL": str(rest)}
+        ran = subprocess.run([CALLS, CALLS_TEST], env=env, capture_output=True)
+        with open(log, encoding="ascii") as file:
+            words = file.read().split("\n")[-2].split()
+        asked.append(int(words[words.index("requests") + 1]))
+        differ += ran.returncode != 0
+    print(f"a reserved block by calls: {len(asked)} runs, {max(asked)} requests behind the reserve, {differ} differences", flush=True)
+    return differ
+
+
 # A hard limit
 
 
@@ -578,6 +604,7 @@ def main():
         total = all_rows(runner, rows, [options.way] if options.way else WAYS)
         if not options.row:
             total.add(reserved(runner))
+            total.differ += by_calls(runner.library, folder)
     if options.rounds and not options.row:
         total.differ += under_limit(path, options.rounds)
     print(f"{program.title(path)}, {time.monotonic() - began:.0f} s")

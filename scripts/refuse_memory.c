@@ -9,6 +9,7 @@
    REFUSE_ALL      1 refuses those behind it too
    REFUSE_FROM     requests are counted and refused from this piece of input on, the first being 0; else from the start of the program
    REFUSE_UNTIL    and no more from this piece on
+   REFUSE_MARK     requests are counted and refused only behind the first one for just so many bytes
    REFUSE_LOG      a file; it gets `refused PIECE` for each piece in which a request was refused, and at the end a line of counts
 
    A piece is what one read of standard input or of a socket gives: the bytes up to a newline, or as many as were asked for; the end of
@@ -33,7 +34,7 @@ extern void *__libc_realloc(void *, size_t);
 extern void *__libc_memalign(size_t, size_t);
 
 static uintptr_t text_start, text_end;
-static long request, refuse_all, from, until;
+static long request, refuse_all, from, until, mark;
 static long requests, refused, others, piece = -1, told = -2;
 static int out = -1;
 
@@ -62,6 +63,7 @@ __attribute__((constructor)) static void begin(void) {
     refuse_all = number("REFUSE_ALL", 0);
     from = number("REFUSE_FROM", -1);
     until = number("REFUSE_UNTIL", 1L << 62);
+    mark = number("REFUSE_MARK", 0);
     dl_iterate_phdr(find_text, NULL);
 }
 
@@ -77,8 +79,8 @@ __attribute__((destructor)) static void end(void) {
     tell("requests %ld refused %ld others %ld pieces %ld\n", requests, refused, others, piece + 1);
 }
 
-/* Whether a request is to be refused. */
-static int refuses(const void *caller) {
+/* Whether a request for so many bytes is to be refused. */
+static int refuses(const void *caller, size_t size) {
     uintptr_t at = (uintptr_t)caller;
     if (at < text_start || at >= text_end) {
         others++;
@@ -86,6 +88,11 @@ static int refuses(const void *caller) {
     }
     if (piece < from || piece >= until)
         return 0;
+    if (mark) {
+        if (size == (size_t)mark)
+            mark = 0;
+        return 0;
+    }
     requests++;
     if (!request || requests < request || (requests > request && !refuse_all))
         return 0;
@@ -96,22 +103,22 @@ static int refuses(const void *caller) {
     return 1;
 }
 
-#define REFUSES refuses(__builtin_return_address(0))
+#define REFUSES(size) refuses(__builtin_return_address(0), size)
 #define REFUSED(otherwise) (errno = ENOMEM, otherwise)
 
-void *malloc(size_t size) { return REFUSES ? REFUSED(NULL) : __libc_malloc(size); }
-void *calloc(size_t count, size_t size) { return REFUSES ? REFUSED(NULL) : __libc_calloc(count, size); }
-void *memalign(size_t align, size_t size) { return REFUSES ? REFUSED(NULL) : __libc_memalign(align, size); }
-void *aligned_alloc(size_t align, size_t size) { return REFUSES ? REFUSED(NULL) : __libc_memalign(align, size); }
+void *malloc(size_t size) { return REFUSES(size) ? REFUSED(NULL) : __libc_malloc(size); }
+void *calloc(size_t count, size_t size) { return REFUSES(count * size) ? REFUSED(NULL) : __libc_calloc(count, size); }
+void *memalign(size_t align, size_t size) { return REFUSES(size) ? REFUSED(NULL) : __libc_memalign(align, size); }
+void *aligned_alloc(size_t align, size_t size) { return REFUSES(size) ? REFUSED(NULL) : __libc_memalign(align, size); }
 
 void *realloc(void *block, size_t size) {
-    if ((size || !block) && REFUSES)
+    if ((size || !block) && REFUSES(size))
         return REFUSED(NULL);
     return __libc_realloc(block, size);
 }
 
 int posix_memalign(void **block, size_t align, size_t size) {
-    void *got = REFUSES ? NULL : __libc_memalign(align, size);
+    void *got = REFUSES(size) ? NULL : __libc_memalign(align, size);
     if (!got)
         return ENOMEM;
     *block = got;
@@ -119,7 +126,7 @@ int posix_memalign(void **block, size_t align, size_t size) {
 }
 
 void *mmap(void *at, size_t size, int may, int how, int file, off_t offset) {
-    if (REFUSES)
+    if (REFUSES(size))
         return REFUSED(MAP_FAILED);
     return (void *)syscall(SYS_mmap, at, size, may, how, file, offset);
 }

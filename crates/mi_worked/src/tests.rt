@@ -2,6 +2,7 @@
 
 mod beside;
 mod bound;
+mod calls;
 mod databases;
 mod long_rows;
 mod random;

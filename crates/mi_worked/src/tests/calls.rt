@@ -1,0 +1,132 @@
+//! Rows by calls of a database, without lines: nested sessions on both forms, and a block that was reserved for.
+ghost use Rattle.std.specs.Prelude.{◌≡◌, IsTrue, [], ◌∷◌, pos};
+ghost use Rattle.mi_value.specs.declared.edit.Edit.TheVariants.{Add};
+ghost use Rattle.mi_catalog.specs.Fitting.{HasTable, EditsFit};
+
+use super::databases::{Opens, Served};
+use mi_catalog::{Catalog, built_in};
+use mi_plain::Plain;
+use mi_sessions::Sessions;
+use mi_value::{ColumnType, Edit, NoSession, Record, Steps, Text, Value};
+use std::alloc::{AllocError, Global};
+use std::process::Abort;
+use std::test::Fail;
+
+/// A record of the built-in schema.
+fn account(alloc: Global, owner: &str, balance: i64, vip: bool) -> Result<Record, AllocError> {
+    let owner = Value::Text(Text::of(alloc, owner)?);
+    Ok(Record::new(vec![in alloc; owner, Value::Int(balance), Value::Flag(vip)]?))
+}
+
+/// Whether the table shows this account for an id.
+fn shows<D: Sessions>(database: &D, id: u64, owner: &str, balance: i64, vip: bool) -> bool
+    requires { HasTable (D.state database.now).catalog 0 }
+{
+    let Some(row) = database.get(0, id, &mut Steps::new()) else {
+        return false;
+    };
+    match row.values() {
+        [Value::Text(o), Value::Int(b), Value::Flag(v)] => {
+            o.as_str() == owner && *b == balance && *v == vip
+        }
+        _ => false,
+    }
+}
+
+/// Whether the second column of the table has numbers, to which four can be added.
+fn has_sums<D: Sessions>(database: &D) -> bool
+    requires { HasTable (D.state database.now).catalog 0 }
+    ensures { IsTrue result → EditsFit (D.state database.now).catalog 0 (Add 1 (pos 4) ∷ []) }
+{
+    match database.catalog().table(0).columns().get(1) {
+        Some(column) => column.kind == ColumnType::Int,
+        None => false,
+    }
+}
+
+/// Adds a record and wants this id for it.
+fn add<D: Sessions>(
+    rt: &impl Abort,
+    alloc: Global,
+    database: &mut D,
+    row: Record,
+    want: u64,
+) -> Result<(), Fail> {
+    assert_eq!(rt; database.catalog().table_count(), 1);
+    assert!(rt; database.catalog().table(0).fits_record(&row));
+    match database.insert(alloc, 0, row, None) {
+        Ok(id) => assert_eq!(rt; id, want),
+        Err((refusal, _row)) => assert_eq!(rt; refusal.word(), "none"),
+    }
+    Ok(())
+}
+
+/// Nested sessions: an inner one is squashed into the outer one, whose undo takes back what both changed.
+fn check_nested<D: Sessions>(rt: &impl Abort, alloc: Global, database: &mut D) -> Result<(), Fail> {
+    add(rt, alloc, database, account(alloc, "a", 1, false)?, 0)?;
+    assert_eq!(rt; database.start(alloc), Ok(1));
+    add(rt, alloc, database, account(alloc, "b", 1, false)?, 1)?;
+    assert_eq!(rt; database.start(alloc), Ok(2));
+    assert_eq!(rt; database.catalog().table_count(), 1);
+    assert!(rt; has_sums(database));
+    assert_eq!(rt;
+        database.modify(alloc, 0, 0, &[Edit::Add(1, 4)], false),
+        Ok(())
+    );
+    assert_eq!(rt; database.squash(), Ok(1));
+    assert_eq!(rt; database.catalog().table_count(), 1);
+    assert!(rt; shows(database, 0, "a", 5, false));
+    assert_eq!(rt; database.undo(), Ok(0));
+    assert_eq!(rt; database.catalog().table_count(), 1);
+    assert!(rt; shows(database, 0, "a", 1, false));
+    assert_eq!(rt; database.size(0), 1);
+    assert_eq!(rt; database.undo(), Err(NoSession));
+    add(rt, alloc, database, account(alloc, "b", 1, false)?, 1)?;
+    assert_eq!(rt; database.reserve(3, 1), Ok(()));
+    Ok(())
+}
+
+/// The built-in table.
+fn accounts(alloc: Global) -> Result<Catalog, AllocError> {
+    Catalog::of(alloc, built_in(alloc)?)
+}
+
+#[test]
+fn nested_sessions_by_calls(rt: HostRuntime) -> Result<(), Fail> {
+    let alloc = rt.alloc();
+    let mut plain: Plain = Opens::open(alloc, accounts(alloc)?)?;
+    check_nested(&rt, alloc, &mut plain)?;
+    let mut served: Served = Opens::open(alloc, accounts(alloc)?)?;
+    check_nested(&rt, alloc, &mut served)?;
+    let (changes, sessions) = served.room();
+    assert!(rt; changes >= 3 && sessions >= 1, "{changes} and {sessions}");
+    Ok(())
+}
+
+/// A request for so many bytes is the mark from which `scripts/faults.py` refuses memory.
+const MARK: usize = 1_234_567;
+
+/// Behind a reserve for two changes and a session, a start, a replacement, an erase and an undo are never refused; by itself this
+/// test has memory, and `make faults` runs it with each request behind the mark refused.
+#[test]
+fn a_reserved_block_needs_no_memory(rt: HostRuntime) -> Result<(), Fail> {
+    let alloc = rt.alloc();
+    let mut database: Served = Opens::open(alloc, accounts(alloc)?)?;
+    add(&rt, alloc, &mut database, account(alloc, "a", 1, false)?, 0)?;
+    add(&rt, alloc, &mut database, account(alloc, "b", 2, false)?, 1)?;
+    let row = account(alloc, "b", 3, true)?;
+    assert_eq!(rt; database.reserve(2, 1), Ok(()));
+    drop(Vec::<u8>::with_capacity(alloc, MARK)?);
+    assert_eq!(rt; database.start(alloc), Ok(1));
+    assert_eq!(rt; database.catalog().table_count(), 1);
+    assert!(rt; database.catalog().table(0).fits_record(&row));
+    assert!(rt; database.replace(alloc, 0, 1, row).is_ok());
+    assert_eq!(rt; database.catalog().table_count(), 1);
+    assert!(rt; shows(&database, 1, "b", 3, true));
+    assert_eq!(rt; database.erase(alloc, 0, 0), Ok(()));
+    assert_eq!(rt; database.undo(), Ok(0));
+    assert_eq!(rt; database.catalog().table_count(), 1);
+    assert!(rt; shows(&database, 0, "a", 1, false));
+    assert!(rt; shows(&database, 1, "b", 2, false));
+    Ok(())
+}
