@@ -1,19 +1,15 @@
 //! The look-ups as commands. They change nothing; a reply takes memory only where it shows rows.
-ghost use Rattle.std.specs.Prelude.{◌≡◌, ◌<◌, length, map, IsTrue, IfOk, IfErr};
-ghost use Rattle.std.specs.List.{All};
-ghost use Rattle.mi_value.specs.declared.refusal.Refusal.TheVariants.{Memory};
-ghost use Rattle.mi_model.specs.Table.{has as has_row, row as row_of};
-ghost use Rattle.mi_model.specs.Database.{table_of};
+ghost use Rattle.std.specs.Prelude.{◌<◌, length, map};
 ghost use Rattle.mi_protocol.specs.Binding.{FitsCatalog};
 ghost use Rattle.mi_protocol.specs.Replies.{said, IsSaidOf};
-ghost use Rattle.mi_query.specs.Pages.{seen};
+ghost use Rattle.mi_protocol.specs.Replies as say;
 ghost use Rattle.mi_protocol.specs.Text.{text_bytes};
 
 use crate::executor::Executor;
 use mi_protocol::{Command, Reply, ReplyText};
 use mi_query::{Page, count, find, list, lower_rank, nth, range, rank, size, upper_rank};
 use mi_sessions::Sessions;
-use mi_value::{Lower, Record, Refusal, Steps, Upper, Value};
+use mi_value::{Lower, Refusal, Steps, Upper, Value};
 
 impl<D: Sessions + Drop> Executor<D> {
     ghost use Rattle.mi_hub.specs.Performed as performed;
@@ -84,6 +80,7 @@ impl<D: Sessions + Drop> Executor<D> {
         requires { FitsCatalog self.now.database.catalog (Command.Range table index lower.now upper.now reverse limit) }
         ensures { GivenOrMemory (Unit {0}) (done self.now 0 (Command.Range table index lower.now upper.now reverse limit)) self.now (text_bytes result) self.now }
     {
+        let mut steps = Steps::new();
         match range(
             &self.database,
             self.alloc,
@@ -93,8 +90,9 @@ impl<D: Sessions + Drop> Executor<D> {
             upper,
             reverse,
             limit,
+            &mut steps,
         ) {
-            Ok(page) => self.show_page(table, &page),
+            Ok(page) => self.show_page(table, page),
             Err(refusal) => self.refuse(refusal),
         }
     }
@@ -110,8 +108,17 @@ impl<D: Sessions + Drop> Executor<D> {
         requires { FitsCatalog self.now.database.catalog (Command.List table index after limit) }
         ensures { GivenOrMemory (Unit {0}) (done self.now 0 (Command.List table index after limit)) self.now (text_bytes result) self.now }
     {
-        match list(&self.database, self.alloc, table, index, after, limit) {
-            Ok(page) => self.show_page(table, &page),
+        let mut steps = Steps::new();
+        match list(
+            &self.database,
+            self.alloc,
+            table,
+            index,
+            after,
+            limit,
+            &mut steps,
+        ) {
+            Ok(page) => self.show_page(table, page),
             Err(refusal) => self.refuse(refusal),
         }
     }
@@ -156,37 +163,16 @@ impl<D: Sessions + Drop> Executor<D> {
         self.say(Reply::Sized(size(&self.database, table)))
     }
 
-    /// The records of a page's ids, in their order. Refusal: `Memory`.
-    fn rows(&self, table: usize, ids: &[u64]) -> Result<Vec<(u64, &Record)>, Refusal>
-        requires table { table < length self.now.database.catalog.tables }
-        requires there { All (λ id. IsTrue (has_row (table_of self.now.database table) id)) ids.now }
-        ensures rows { IfOk result (λ rows. map (λ r. (r.0, r.1.now)) rows.items ≡ map (row_of (table_of self.now.database table)) ids.now) }
-        ensures err { IfErr result (λ e. e ≡ Memory) }
-    {
-        let mut rows = Vec::new(self.alloc);
-        for id in ids {
-            let mut steps = Steps::new();
-            if let Some(row) = self.database.get(table, *id, &mut steps) {
-                rows.push((*id, row))?;
-            }
-        }
-        Ok(rows)
-    }
-
     /// Shows the records of a page.
-    fn show_page(&self, table: usize, page: &Page) -> ReplyText
-        requires table { table < length self.now.database.catalog.tables }
-        requires there { All (λ id. IsTrue (has_row (table_of self.now.database table) id)) page.now.ids.items }
-        ensures { GivenOrMemory (Unit {0}) (performed.show_page self.now table (seen page.now), self.now) self.now (text_bytes result) self.now }
+    fn show_page(&self, table: usize, page: Page<'_>) -> ReplyText
+        requires { table < length self.now.database.catalog.tables }
+        ensures { GivenOrMemory (Unit {0}) (say.rows table (map (λ r. (r.0, r.1.now)) page.entry.rows.items) page.entry.more, self.now) self.now (text_bytes result) self.now }
     {
-        match self.rows(table, page.ids.as_slice()) {
-            Ok(rows) => self.show(Reply::Rows {
-                table,
-                rows,
-                more: page.more,
-            }),
-            Err(refusal) => self.refuse(refusal),
-        }
+        self.show(Reply::Rows {
+            table,
+            rows: page.rows,
+            more: page.more,
+        })
     }
 
     /// The text of a reply that shows rows, or the refusal for want of memory.
