@@ -235,6 +235,20 @@ impl<C: Container> Sessions for Linked<C> {
         self.at(table).before(index, id)
     }
 
+    fn walk(
+        &self,
+        alloc: Global,
+        table: usize,
+        index: usize,
+        reverse: bool,
+        first: u64,
+        limit: usize,
+        steps: &mut Steps,
+    ) -> Result<Vec<(u64, &Record)>, Refusal> {
+        let rows = self.at(table).walk(alloc, index, reverse, first, limit, steps)?;
+        Ok(rows)
+    }
+
     fn lower(&self, table: usize, index: usize, key: &[Value], steps: &mut Steps) -> Option<u64> {
         self.at(table).lower(index, key, steps)
     }

@@ -132,6 +132,20 @@ impl<D: Sessions> Sessions for Counting<D> {
         self.ask().before(table, index, id)
     }
 
+    fn walk(
+        &self,
+        alloc: Global,
+        table: usize,
+        index: usize,
+        reverse: bool,
+        first: u64,
+        limit: usize,
+        steps: &mut Steps,
+    ) -> Result<Vec<(u64, &Record)>, Refusal> {
+        self.ask()
+            .walk(alloc, table, index, reverse, first, limit, steps)
+    }
+
     fn lower(&self, table: usize, index: usize, key: &[Value], steps: &mut Steps) -> Option<u64> {
         self.ask().lower(table, index, key, steps)
     }
