@@ -2,7 +2,6 @@ use Rattle.std.proofs.Common.{◌<◌, ◌++◌, [], ◌∷◌, length, ap, sym,
 use Rattle.std.proofs.Math.ListN.{length-replicate}
 use Rattle.mi_node.specs.Cells.{empty_cell}
 use Rattle.mi_node.specs.Chunks.{flat, in_block, IsChunked}
-use Rattle.mi_node.specs.declared.cell.Cell.{Cell}
 use Rattle.mi_node.proofs.Flats.{IsChunked-end, flat-end}
 use Rattle.mi_node.proofs.column.Column.add.Goals as goal
 

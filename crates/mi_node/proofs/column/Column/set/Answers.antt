@@ -1,4 +1,4 @@
-use Rattle.std.proofs.Common.{◌≡◌, ◌<◌, ◌/◌, ◌%◌, List, ap, sym, subst, length, slice_index_or, slice_set, ◌∙◌}
+use Rattle.std.proofs.Common.{◌<◌, ◌/◌, ◌%◌, List, ap, sym, subst, length, slice_set, ◌∙◌}
 use Rattle.std.proofs.Math.ListN.{length-set}
 use Rattle.std_alloc.specs.Box.{with_value}
 use Rattle.mi_node.specs.Chunks.{in_block}
