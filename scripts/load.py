@@ -189,7 +189,7 @@ def ask_lines(path, clients, lines, seconds, seed):
     """So many clients ask so many lines each in random pieces; some break off on the way. Answers what it saw, in words."""
     pick, began = random.Random(seed), time.monotonic()
     askers = {n: Asker(f"{seed}/{n}", lines) for n in range(1, clients + 1)}
-    resets = {n: pick.randint(5, 100) for n in pick.sample(sorted(askers), clients // 8)}
+    resets = {n: pick.randint(lines // 10, lines * 9 // 10) for n in pick.sample(sorted(askers), clients // 8)}
     rounds, replied, cut = 0, 0, 0
     with Clients(path, [ROWS], clients) as server:
         while server.streams and time.monotonic() - began < seconds:
@@ -197,7 +197,7 @@ def ask_lines(path, clients, lines, seconds, seed):
             pieces = {n: askers[n].piece(n == last) for n in server.streams}
             replied += server.round(pieces)
             rounds += 1
-            for n in [n for n in server.streams if resets.get(n, rounds + 1) <= rounds]:
+            for n in [n for n in server.streams if askers[n].left < resets.get(n, 0)]:
                 server.reset(n)
                 cut += 1
         is_whole = not server.streams

@@ -1,7 +1,6 @@
 //! Worked rows over the forms of the database.
 
 mod beside;
-mod bound;
 mod calls;
 mod databases;
 mod long_rows;
