@@ -9,8 +9,9 @@ use crate::chunks::{CHUNK, MAX_CHUNKS};
 use std::alloc::{AllocError, Global};
 use std::marker::Model;
 
-/// So many words stand before a block's cells. The allocator answers for so large a block an address
-/// that is 16 bytes past a multiple of 64: with them no cell lies across two lines of the cache.
+/// So many words stand before a block's cells. The C library answers for so large a block an address
+/// 16 bytes past a multiple of 64: with them no cell lies across two lines of the cache. Where an
+/// address is another, time is lost and nothing else.
 const LEAD: usize = 6;
 
 /// The cells of as many places as a chunk has.
