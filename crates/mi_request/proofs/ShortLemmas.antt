@@ -1,30 +1,25 @@
 -- A short line means its request, and each is found.
-use Rattle.std.proofs.Common.{◌≡◌, ℕ, ◌^◌, ◌<◌, ◌≤◌, List, [], ◌∷◌, ◌++◌, Bool, true, false, cond, ◌&&◌, Option, Some, None, option_map, option_and_then, Result, Ok, Err, IsUtf8, codes, decimal, bytes_eq, nat_lt, refl, sym, ap, ◌∙◌, arith, lt-ltb, ltb-true}
-use Rattle.std.specs.Option.{ok_or}
-use Rattle.std.proofs.lemmas.Bool.{true≢false}
+use Rattle.std.proofs.Common.{◌≡◌, ℕ, ◌^◌, ◌<◌, List, [], ◌∷◌, ◌++◌, true, ◌&&◌, Some, None, option_map, option_and_then, Result, Ok, Err, IsUtf8, codes, decimal, bytes_eq, nat_lt, refl, sym, ap, ◌∙◌, arith, lt-ltb, ltb-true}
 use Rattle.std.proofs.lemmas.Option.{none-some, same_Some, cond_some}
 use Rattle.std.proofs.lemmas.Fmt.{IsAscii-decimal}
 use Rattle.std.proofs.lemmas.Slice.Eq.{bytes_eq-Decides}
 use Rattle.std.proofs.lemmas.Str.{IsUtf8-append, IsUtf8-from_ascii}
 use Rattle.std.specs.Str.{is_utf8, chars}
 use Rattle.json.specs.Token.{Token}
-use Rattle.json.specs.Lex.{tokens}
-use Rattle.json.specs.Json as json
 use Rattle.json.specs.Json.{items, members, value, if_last}
 use Rattle.json.specs.Print.{print, print_from, escape_byte, ArePrintable}
 use Rattle.json.proofs.Printed.Decimals.{IsNumber-decimal}
 use Rattle.json.proofs.Printed.Tokens.{tokens-print}
 use Rattle.json.proofs.Printed.Utf8.{IsUtf8-are_ascii}
-use Rattle.serde_json.specs.Data.{Data, Num, unsigned, string, number, object, no_members, member, put}
-use Rattle.serde_json.specs.Read.{of_json, number_of, read}
+use Rattle.serde_json.specs.Data.{Data, unsigned, string, number, object, no_members, member, put}
+use Rattle.serde_json.specs.Read.{of_json, read}
 use Rattle.serde_json.proofs.Numbers.{number_of-decimal}
 use Rattle.serde_json.proofs.OnLiterals.{serde_json_on_literals}
 use Rattle.mi_value.specs.declared.refusal.Refusal.{Refusal}
-use Rattle.mi_value.specs.declared.refusal.Refusal.TheVariants.{Form}
 use Rattle.mi_request.specs.Commands.{look_up_named, step_named}
 use Rattle.mi_request.specs.Json.{has_only}
-use Rattle.mi_request.specs.Lines.{json_of, request_of, request_or_refusal, command_line}
-use Rattle.mi_request.specs.Short.{numbered, short_line, bare_line}
+use Rattle.mi_request.specs.Lines.{request_or_refusal, command_line}
+use Rattle.mi_request.specs.Short.{numbered, short_line}
 use Rattle.mi_request.specs.declared.request.Request.{Request}
 use Rattle.mi_request.specs.declared.request.Request.TheVariants as request
 use Rattle.mi_request.proofs.Parsing.{json-found}
