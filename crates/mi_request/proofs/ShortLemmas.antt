@@ -1,30 +1,26 @@
 -- A short line means its request, and each is found.
-use Rattle.std.proofs.Common.{◌≡◌, ℕ, ◌^◌, ◌<◌, ◌≤◌, List, [], ◌∷◌, ◌++◌, Bool, true, false, cond, ◌&&◌, Option, Some, None, option_map, option_and_then, Result, Ok, Err, IsUtf8, codes, decimal, bytes_eq, nat_lt, refl, sym, ap, ◌∙◌, arith, lt-ltb, ltb-true}
-use Rattle.std.specs.Option.{ok_or}
-use Rattle.std.proofs.lemmas.Bool.{true≢false}
+use Rattle.std.proofs.Common.{◌≡◌, ℕ, ◌^◌, ◌<◌, List, [], ◌∷◌, ◌++◌, true, ◌&&◌, Some, None, option_map, option_and_then}
+use Rattle.std.proofs.Common.{Result, Ok, Err, IsUtf8, codes, decimal, bytes_eq, nat_lt, refl, sym, ap, ◌∙◌, arith, lt-ltb, ltb-true}
 use Rattle.std.proofs.lemmas.Option.{none-some, same_Some, cond_some}
 use Rattle.std.proofs.lemmas.Fmt.{IsAscii-decimal}
 use Rattle.std.proofs.lemmas.Slice.Eq.{bytes_eq-Decides}
 use Rattle.std.proofs.lemmas.Str.{IsUtf8-append, IsUtf8-from_ascii}
 use Rattle.std.specs.Str.{is_utf8, chars}
 use Rattle.json.specs.Token.{Token}
-use Rattle.json.specs.Lex.{tokens}
-use Rattle.json.specs.Json as json
 use Rattle.json.specs.Json.{items, members, value, if_last}
 use Rattle.json.specs.Print.{print, print_from, escape_byte, ArePrintable}
 use Rattle.json.proofs.Printed.Decimals.{IsNumber-decimal}
 use Rattle.json.proofs.Printed.Tokens.{tokens-print}
 use Rattle.json.proofs.Printed.Utf8.{IsUtf8-are_ascii}
-use Rattle.serde_json.specs.Data.{Data, Num, unsigned, string, number, object, no_members, member, put}
-use Rattle.serde_json.specs.Read.{of_json, number_of, read}
+use Rattle.serde_json.specs.Data.{Data, unsigned, string, number, object, no_members, member, put}
+use Rattle.serde_json.specs.Read.{of_json, read}
 use Rattle.serde_json.proofs.Numbers.{number_of-decimal}
 use Rattle.serde_json.proofs.OnLiterals.{serde_json_on_literals}
 use Rattle.mi_value.specs.declared.refusal.Refusal.{Refusal}
-use Rattle.mi_value.specs.declared.refusal.Refusal.TheVariants.{Form}
 use Rattle.mi_request.specs.Commands.{look_up_named, step_named}
 use Rattle.mi_request.specs.Json.{has_only}
-use Rattle.mi_request.specs.Lines.{json_of, request_of, request_or_refusal, command_line}
-use Rattle.mi_request.specs.Short.{numbered, short_line, bare_line}
+use Rattle.mi_request.specs.Lines.{request_or_refusal, command_line}
+use Rattle.mi_request.specs.Short.{numbered, short_line}
 use Rattle.mi_request.specs.declared.request.Request.{Request}
 use Rattle.mi_request.specs.declared.request.Request.TheVariants as request
 use Rattle.mi_request.proofs.Parsing.{json-found}
@@ -44,38 +40,45 @@ printable : (c m : List ℕ) (n : ℕ) → n < 2 ^ 64 → ArePrintable (number_t
 unfolding ArePrintable
 printable c m n h = (tt, (tt, (tt, (tt, (IsNumber-decimal n h, (tt, tt))))))
 
-value_read : (c m : List ℕ) (n : ℕ) → n < 2 ^ 64 → option_and_then of_json (option_and_then (λ p. if_last p.0 p.1) (value 127 (number_tokens c m n))) ≡ Some (number_value c m n)
+value_read : (c m : List ℕ) (n : ℕ) → n < 2 ^ 64
+    → option_and_then of_json (option_and_then (λ p. if_last p.0 p.1) (value 127 (number_tokens c m n))) ≡ Some (number_value c m n)
 unfolding items members value
 value_read c m n h =
-    ap (λ o. option_map object (option_and_then (λ d. Some (put m d (member (codes "cmd") (string c) no_members))) (option_map number o))) (number_of-decimal n h)
+    ap (λ o. option_map object (option_and_then (λ d. Some (put m d (member (codes "cmd") (string c) no_members))) (option_map number o)))
+    (number_of-decimal n h)
 
 read_number : (c m : List ℕ) (n : ℕ) → n < 2 ^ 64 → read (print (number_tokens c m n)) ≡ Some (number_value c m n)
 read_number c m n h =
-    ap (λ ts. option_and_then of_json (option_and_then (λ p. if_last p.0 p.1) (value 127 ts))) (tokens-print (number_tokens c m n) (printable c m n h)) ∙ value_read c m n h
+    ap (λ ts. option_and_then of_json (option_and_then (λ p. if_last p.0 p.1) (value 127 ts))) (tokens-print (number_tokens c m n) (printable c m n h))
+    ∙ value_read c m n h
 
 utf8_number : (front : List ℕ) (n : ℕ) → n < 2 ^ 64 → IsUtf8 front → IsUtf8 (front ++ (decimal n ++ codes "}"))
-utf8_number front n h u = IsUtf8-append front _ u (IsUtf8-append (decimal n) _ (IsUtf8-from_ascii (decimal n) (IsAscii-decimal n h)) (IsUtf8-are_ascii (codes "}") refl))
+utf8_number front n h u =
+    IsUtf8-append front _ u (IsUtf8-append (decimal n) _ (IsUtf8-from_ascii (decimal n) (IsAscii-decimal n h)) (IsUtf8-are_ascii (codes "}") refl))
 
 get_means : (n : ℕ) → n < 2 ^ 63 → command_line (codes "{\"cmd\":\"get\",\"id\":" ++ (decimal n ++ codes "}")) ≡ Ok (request.Get None n)
 unfolding print_from escape_byte has_only step_named look_up_named
 get_means n h =
     let small : n < 2 ^ 64 = omega arith in
     let utf8 = utf8_number (codes "{\"cmd\":\"get\",\"id\":") n small (IsUtf8-are_ascii _ refl) in
-    ap request_or_refusal (json-found _ (number_value (codes "get") (codes "id") n) utf8 (read_number (codes "get") (codes "id") n small)) ∙ rw (lt-ltb n (2 ^ 63) h)
+    ap request_or_refusal (json-found _ (number_value (codes "get") (codes "id") n) utf8 (read_number (codes "get") (codes "id") n small))
+    ∙ rw (lt-ltb n (2 ^ 63) h)
 
 erase_means : (n : ℕ) → n < 2 ^ 63 → command_line (codes "{\"cmd\":\"erase\",\"id\":" ++ (decimal n ++ codes "}")) ≡ Ok (request.Erase None n)
 unfolding print_from escape_byte has_only step_named look_up_named
 erase_means n h =
     let small : n < 2 ^ 64 = omega arith in
     let utf8 = utf8_number (codes "{\"cmd\":\"erase\",\"id\":") n small (IsUtf8-are_ascii _ refl) in
-    ap request_or_refusal (json-found _ (number_value (codes "erase") (codes "id") n) utf8 (read_number (codes "erase") (codes "id") n small)) ∙ rw (lt-ltb n (2 ^ 63) h)
+    ap request_or_refusal (json-found _ (number_value (codes "erase") (codes "id") n) utf8 (read_number (codes "erase") (codes "id") n small))
+    ∙ rw (lt-ltb n (2 ^ 63) h)
 
 commit_means : (n : ℕ) → n < 2 ^ 63 → command_line (codes "{\"cmd\":\"commit\",\"revision\":" ++ (decimal n ++ codes "}")) ≡ Ok (request.Commit n)
 unfolding print_from escape_byte has_only step_named look_up_named
 commit_means n h =
     let small : n < 2 ^ 64 = omega arith in
     let utf8 = utf8_number (codes "{\"cmd\":\"commit\",\"revision\":") n small (IsUtf8-are_ascii _ refl) in
-    ap request_or_refusal (json-found _ (number_value (codes "commit") (codes "revision") n) utf8 (read_number (codes "commit") (codes "revision") n small)) ∙ rw (lt-ltb n (2 ^ 63) h)
+    ap request_or_refusal (json-found _ (number_value (codes "commit") (codes "revision") n) utf8 (read_number (codes "commit") (codes "revision") n small))
+    ∙ rw (lt-ltb n (2 ^ 63) h)
 
 -- ---- all short lines
 

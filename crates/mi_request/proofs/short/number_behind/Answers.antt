@@ -1,5 +1,5 @@
 -- The front and the brace leave the digits.
-use Rattle.std.proofs.Common.{◌≡◌, ◌++◌, ℕ, codes, decimal, sym, ap, ◌∙◌, rules}
+use Rattle.std.proofs.Common.{◌≡◌, ◌++◌, codes, decimal, sym, ap, ◌∙◌, rules}
 use Rattle.std.proofs.lemmas.Bool.Decides.{Decides-eqb}
 use Rattle.std.proofs.lemmas.List.{append_cancel_left, append_cancel_right}
 use Rattle.std.proofs.lemmas.Option.{MatchOption-at_none, MatchOption-at_some, IfSome_then}
