@@ -10,3 +10,4 @@ mod look_ups;
 mod program;
 mod replies;
 mod secret;
+mod serving;
