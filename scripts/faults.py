@@ -463,8 +463,8 @@ def reserved(runner):
 
 # By calls
 
-CALLS = f"{program.TOP}/crates/mi_worked/out/mi_worked_tests"
-CALLS_TEST = "tests::calls::a_reserved_block_needs_no_memory"
+CALLS = f"{program.TOP}/crates/mi_calls/out/mi_calls_tests"
+CALLS_TEST = "tests::sessions::a_reserved_block_needs_no_memory"
 MARK = 1_234_567
 """How many bytes that test asks for where its block begins; requests are refused behind it."""
 
@@ -473,7 +473,7 @@ def by_calls(library, folder):
     """A reserved block by calls of the database, without lines: the test passes whatever is refused behind its mark, and nothing
     is, since the block asks for no memory. Answers how many runs differ from that."""
     if not os.path.exists(CALLS):
-        print(f"a reserved block by calls: left out, since {os.path.relpath(CALLS)} isn't there (rt test in crates/mi_worked makes it)")
+        print(f"a reserved block by calls: left out, since {os.path.relpath(CALLS)} isn't there (rt test in crates/mi_calls makes it)")
         return 0
     log, differ, asked = f"{folder}/calls", 0, []
     for request, rest in [(1, 0), (2, 0), (3, 0), (1, 1)]:

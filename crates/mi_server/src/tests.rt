@@ -1,12 +1,9 @@
-//! The program by its words, failing readers and writers, connections over sockets, and each public call below once.
+//! The program by its words, failing readers and writers, and connections over sockets.
 
-mod accounts;
-mod counting;
 mod devices;
 mod faults;
-mod library;
 mod listener;
-mod look_ups;
 mod program;
 mod replies;
 mod secret;
+mod serving;

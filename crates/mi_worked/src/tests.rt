@@ -1,7 +1,6 @@
 //! Worked rows over the forms of the database, lines with something wrong, and streams that fail.
 
 mod beside;
-mod calls;
 mod cuts;
 mod damage;
 mod databases;

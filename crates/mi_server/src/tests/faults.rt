@@ -1,9 +1,7 @@
 //! Devices that fail in the middle: what was executed, what was written, and the status.
 use super::devices::{AtEnd, Narrow, Pieces};
-use crate::program::run;
-use mi_hub::{Hub, HubFault, ServeFault, Watched, serve_stream};
-use mi_plain::Plain;
-use mi_schema::{Catalog, built_in};
+use super::serving::{ended, opened};
+use mi_hub::{HubFault, ServeFault, Watched, serve_stream};
 use mi_sessions::Sessions;
 use std::test::Fail;
 
@@ -14,8 +12,7 @@ const TWO_STARTS: &[u8] = b"{\"cmd\":\"start\"}\n{\"cmd\":\"start\"}\n";
 #[test]
 fn failing_write(rt: HostRuntime) -> Result<(), Fail> {
     for (step, room, at_end) in [(64, 10, AtEnd::Fail), (1, 10, AtEnd::TakeNone)] {
-        let catalog = Catalog::of(rt.alloc(), built_in(rt.alloc())?)?;
-        let mut hub = Hub::new(rt.alloc(), Plain::new(rt.alloc(), catalog)?);
+        let mut hub = opened(rt.alloc())?;
         assert_eq!(rt; hub.attach(1), Ok(()));
         assert_eq!(rt; hub.attach(1), Err(HubFault::AlreadyAttached));
         let mut reader = Watched::new(Pieces {
@@ -43,8 +40,7 @@ fn failing_write(rt: HostRuntime) -> Result<(), Fail> {
 /// As many connections as can be, and one more; the place of one that is cut can be taken.
 #[test]
 fn connections_are_limited(rt: HostRuntime) -> Result<(), Fail> {
-    let catalog = Catalog::of(rt.alloc(), built_in(rt.alloc())?)?;
-    let mut hub = Hub::new(rt.alloc(), Plain::new(rt.alloc(), catalog)?);
+    let mut hub = opened(rt.alloc())?;
     for conn in 1..=64 {
         assert_eq!(rt; hub.attach(conn), Ok(()));
     }
@@ -59,8 +55,7 @@ fn connections_are_limited(rt: HostRuntime) -> Result<(), Fail> {
 /// A piece of two lines whose writer takes 10 bytes: the first line was executed and undone, and the connection is gone.
 #[test]
 fn failing_piece(rt: HostRuntime) -> Result<(), Fail> {
-    let catalog = Catalog::of(rt.alloc(), built_in(rt.alloc())?)?;
-    let mut hub = Hub::new(rt.alloc(), Plain::new(rt.alloc(), catalog)?);
+    let mut hub = opened(rt.alloc())?;
     assert_eq!(rt; hub.attach(1), Ok(()));
     let mut writer = Watched::new(Narrow {
         taken: Vec::new(rt.alloc()),
@@ -81,13 +76,12 @@ fn failing_piece(rt: HostRuntime) -> Result<(), Fail> {
 #[test]
 fn failing_streams(rt: HostRuntime) -> Result<(), Fail> {
     let mut out = Vec::new(rt.alloc());
-    let mut errors = Vec::new(rt.alloc());
     let input = Pieces {
         left: b"{\"cmd\":\"start\"}\n{\"cmd\":\"st",
         size: 7,
         sound: false,
     };
-    let status = run(&rt, &["mi_server"], input, &mut out, &mut errors);
+    let (status, errors) = ended(&rt, &["mi_server"], input, &mut out);
     assert_eq!(rt; status, 4);
     assert_eq!(rt;
         out.as_slice(),
@@ -98,7 +92,6 @@ fn failing_streams(rt: HostRuntime) -> Result<(), Fail> {
         &["mi_server"].as_slice(),
         &["mi_server", "--check"].as_slice(),
     ] {
-        let mut errors = Vec::new(rt.alloc());
         let input = Pieces {
             left: TWO_STARTS,
             size: 4096,
@@ -110,7 +103,7 @@ fn failing_streams(rt: HostRuntime) -> Result<(), Fail> {
             room: 0,
             at_end: AtEnd::Fail,
         };
-        let status = run(&rt, words, input, output, &mut errors);
+        let (status, errors) = ended(&rt, words, input, output);
         assert_eq!(rt; status, 4);
         assert_eq!(rt; errors.as_slice(), b"fault: write\n".as_slice());
     }

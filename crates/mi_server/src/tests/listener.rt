@@ -1,13 +1,10 @@
 //! Connections over the loopback interface, and over streams that fail in the middle.
-ghost use Rattle.std.specs.Prelude.{◌≡◌, [], IfOk};
-
-use crate::listener::serve_listener;
-use mi_hub::{Hub, IoErrors, ServeFault};
+use super::serving::{opened, serve_all};
+use mi_hub::{Hub, ServeFault};
 use mi_plain::Plain;
-use mi_schema::{Catalog, built_in};
 use mi_sessions::Sessions;
 use mi_value::{Record, Steps, Value};
-use std::alloc::{AllocError, Global};
+use std::alloc::Global;
 use std::cell::Cell;
 use std::io;
 use std::io::{Error, ErrorKind, Read, Write};
@@ -21,13 +18,6 @@ const INSERT_A: &[u8] =
     b"{\"cmd\":\"insert\",\"row\":{\"owner\":\"a\",\"balance\":1,\"vip\":false}}\n";
 
 const SIZE: &[u8] = b"{\"cmd\":\"size\"}\n";
-
-fn opened(alloc: Global) -> Result<Hub<Plain>, AllocError>
-    ensures { IfOk result (λ hub. hub.attached ≡ []) }
-{
-    let catalog = Catalog::of(alloc, built_in(alloc)?)?;
-    Ok(Hub::new(alloc, Plain::new(alloc, catalog)?))
-}
 
 /// The owner in the record of id 0.
 fn first_owner(database: &Plain) -> Option<&str> {
@@ -64,6 +54,25 @@ fn replies(alloc: Global, stream: TcpStream) -> io::Result<Vec<u8>> {
     Ok(bytes)
 }
 
+/// What is left of a hub that has served two clients which sent these bytes and no more, and what they are answered.
+fn answered<N: Net<Listener = TcpListener, Stream = TcpStream>>(
+    net: &N,
+    alloc: Global,
+    sent: [&[u8]; 2],
+) -> Result<(Hub<Plain>, Vec<u8>, Vec<u8>), Fail> {
+    let mut hub = opened(alloc)?;
+    let listener = listen(net)?;
+    let first = client(net, &listener, sent[0])?;
+    let second = client(net, &listener, sent[1])?;
+    first.shutdown(Shutdown::Write)?;
+    second.shutdown(Shutdown::Write)?;
+    let (served, _, _) = serve_all(alloc, &mut hub, &listener, 2);
+    if served.is_err() {
+        return Err(Fail::from("a stream failed"));
+    }
+    Ok((hub, replies(alloc, first)?, replies(alloc, second)?))
+}
+
 /// What two clients send and are answered, and the owner of id 0 afterwards.
 #[derive(Drop)]
 struct Row {
@@ -93,17 +102,9 @@ fn two_clients_are_answered(rt: HostRuntime) -> Result<(), Fail> {
         },
     ];
     for row in &rows {
-        let mut hub = opened(rt.alloc())?;
-        let listener = listen(&rt)?;
-        let first = client(&rt, &listener, row.sent[0])?;
-        let second = client(&rt, &listener, row.sent[1])?;
-        first.shutdown(Shutdown::Write)?;
-        second.shutdown(Shutdown::Write)?;
-        let mut errors = IoErrors::none();
-        let served = serve_listener(rt.alloc(), &mut hub, &listener, 2, &mut errors);
-        assert_eq!(rt; served, Ok(()));
-        assert_eq!(rt; replies(rt.alloc(), first)?.as_slice(), row.want[0]);
-        assert_eq!(rt; replies(rt.alloc(), second)?.as_slice(), row.want[1]);
+        let (hub, first, second) = answered(&rt, rt.alloc(), row.sent)?;
+        assert_eq!(rt; first.as_slice(), row.want[0]);
+        assert_eq!(rt; second.as_slice(), row.want[1]);
         assert_eq!(rt; first_owner(hub.database()), row.owner);
         assert_eq!(rt; hub.database().revision(), 0);
         assert_eq!(rt; hub.database().depth(), 0);
@@ -118,8 +119,7 @@ fn failed_accept_ends_all(rt: HostRuntime) -> Result<(), Fail> {
     let listener = listen(&rt)?;
     listener.set_nonblocking(true)?;
     let first = client(&rt, &listener, INSERT_A)?;
-    let mut errors = IoErrors::none();
-    let served = serve_listener(rt.alloc(), &mut hub, &listener, 2, &mut errors);
+    let (served, _, _) = serve_all(rt.alloc(), &mut hub, &listener, 2);
     assert_eq!(rt; served, Err(ServeFault::Accept));
     assert!(rt; first_owner(hub.database()).is_none());
     assert_eq!(rt; hub.attach(1), Ok(()));
@@ -207,10 +207,9 @@ fn others_go_on(rt: HostRuntime) -> Result<(), Fail> {
             sound,
             accepted: Cell::new(false),
         };
-        let mut errors = IoErrors::none();
-        let served = serve_listener(rt.alloc(), &mut hub, &listener, 2, &mut errors);
+        let (served, read, write) = serve_all(rt.alloc(), &mut hub, &listener, 2);
         assert_eq!(rt; served, Err(fault));
-        assert_eq!(rt; (errors.read(), errors.write()), (!sound, sound));
+        assert_eq!(rt; (read, write), (!sound, sound));
         assert_eq!(rt; first_owner(hub.database()), Some("b"));
         assert_eq!(rt; hub.database().depth(), 0);
         assert_eq!(rt; hub.database().revision(), 0);

@@ -1,5 +1,5 @@
 //! The program by its words: its options, schemas from files, and how it ends.
-use crate::program::run;
+use super::serving::ended;
 use crate::words::{WordsFault, read_words};
 use std::fs;
 use std::net::{Ipv4Addr, TcpListener};
@@ -92,10 +92,9 @@ const SERVED: [(&str, &str, &str); 2] = [
 ];
 
 /// How a run of the program on this input ends, and what it wrote.
-fn ended(rt: &HostRuntime, words: &[&str], input: &str) -> (u8, Vec<u8>, Vec<u8>) {
+fn called(rt: &HostRuntime, words: &[&str], input: &str) -> (u8, Vec<u8>, Vec<u8>) {
     let mut output = Vec::new(rt.alloc());
-    let mut errors = Vec::new(rt.alloc());
-    let status = run(rt, words, input.as_bytes(), &mut output, &mut errors);
+    let (status, errors) = ended(rt, words, input.as_bytes(), &mut output);
     (status, output, errors)
 }
 
@@ -103,13 +102,13 @@ fn ended(rt: &HostRuntime, words: &[&str], input: &str) -> (u8, Vec<u8>, Vec<u8>
 fn schemas_are_checked(rt: HostRuntime) -> Result<(), Fail> {
     for (text, status, output, errors) in CHECKED {
         fs::write(&rt, FILE, text)?;
-        let got = ended(&rt, &["mi_server", "--check", "--schema", FILE], "");
+        let got = called(&rt, &["mi_server", "--check", "--schema", FILE], "");
         assert_eq!(rt; got.0, status, "status of {text}");
         assert_eq!(rt; got.1.as_slice(), output.as_bytes(), "of {text}");
         assert_eq!(rt; got.2.as_slice(), errors.as_bytes(), "of {text}");
     }
     for (words, status, output, errors) in CALLED {
-        let got = ended(&rt, words, "");
+        let got = called(&rt, words, "");
         assert_eq!(rt; got.0, status, "status of {words:?}");
         assert_eq!(rt; got.1.as_slice(), output.as_bytes(), "of {words:?}");
         assert_eq!(rt; got.2.as_slice(), errors.as_bytes(), "of {words:?}");
@@ -120,7 +119,7 @@ fn schemas_are_checked(rt: HostRuntime) -> Result<(), Fail> {
             text.push('\n')?;
         }
         fs::write(&rt, FILE, text.as_str())?;
-        let got = ended(&rt, &["mi_server", "--check", "--schema", FILE], "");
+        let got = called(&rt, &["mi_server", "--check", "--schema", FILE], "");
         assert_eq!(rt; got.0, status, "status of {length} bytes");
     }
     fs::remove_file(&rt, FILE)?;
@@ -131,7 +130,7 @@ fn schemas_are_checked(rt: HostRuntime) -> Result<(), Fail> {
 fn schemas_are_served(rt: HostRuntime) -> Result<(), Fail> {
     for (text, input, want) in SERVED {
         fs::write(&rt, OTHER_FILE, text)?;
-        let got = ended(&rt, &["mi_server", "--schema", OTHER_FILE], input);
+        let got = called(&rt, &["mi_server", "--schema", OTHER_FILE], input);
         assert_eq!(rt; got.0, 0, "status of {text}");
         assert_eq!(rt; got.1.as_slice(), want.as_bytes(), "of {text}");
     }
@@ -172,7 +171,7 @@ fn taken_ports_are_refused(rt: HostRuntime) -> Result<(), Fail> {
     let taken = TcpListener::bind(&rt, (Ipv4Addr::LOCALHOST, 0))?;
     let port = format!(in rt.alloc(); "{}", taken.local_addr()?.port())?;
     let words = ["mi_server", "--listen", port.as_str(), "--clients", "1"];
-    let got = ended(&rt, &words, "");
+    let got = called(&rt, &words, "");
     assert_eq!(rt; got.0, 4);
     assert_eq!(rt; got.2.as_slice(), b"fault: listen\n".as_slice());
     Ok(())

@@ -1,13 +1,11 @@
 //! Replies are out before more is read, and a consumer that is gone is noticed: over streams, and over connections.
-ghost use Rattle.std.specs.Prelude.{◌≡◌, [], IfOk, IsSome};
+ghost use Rattle.std.specs.Prelude.{IsSome};
 ghost use Rattle.mi_hub.specs.Connections.{rest_at};
 
+use super::serving::{ended, opened, serve_all};
 use crate::buffered::Buffered;
-use crate::listener::serve_listener;
-use crate::program::run;
-use mi_hub::{Hub, IoErrors, ServeFault, Watched, serve_stream};
+use mi_hub::{Hub, ServeFault, Watched, serve_stream};
 use mi_plain::Plain;
-use mi_schema::{Catalog, built_in};
 use mi_sessions::Sessions;
 use std::alloc::{AllocError, Global};
 use std::cell::Cell;
@@ -116,8 +114,8 @@ fn replies_are_out_before_more_is_read(rt: HostRuntime) -> Result<(), Fail> {
         },
         Teller { talk: &talk },
     );
-    let mut errors = Vec::new(rt.alloc());
-    assert_eq!(rt; run(&rt, &["mi_server"], input, output, &mut errors), 0);
+    let (status, _) = ended(&rt, &["mi_server"], input, output);
+    assert_eq!(rt; status, 0);
     assert_eq!(rt; talk.asked.get(), 3);
     assert_eq!(rt; talk.flushed.get(), 4);
     Ok(())
@@ -134,18 +132,11 @@ fn gone_consumers_end_the_program(rt: HostRuntime) -> Result<(), Fail> {
         },
         Teller { talk: &talk },
     );
-    let mut errors = Vec::new(rt.alloc());
-    assert_eq!(rt; run(&rt, &["mi_server"], input, output, &mut errors), 4);
+    let (status, errors) = ended(&rt, &["mi_server"], input, output);
+    assert_eq!(rt; status, 4);
     assert_eq!(rt; errors.as_slice(), b"fault: write\n".as_slice());
     assert_eq!(rt; talk.asked.get(), 2);
     Ok(())
-}
-
-fn opened(alloc: Global) -> Result<Hub<Plain>, AllocError>
-    ensures { IfOk result (λ hub. hub.attached ≡ []) }
-{
-    let catalog = Catalog::of(alloc, built_in(alloc)?)?;
-    Ok(Hub::new(alloc, Plain::new(alloc, catalog)?))
 }
 
 /// Serves connection 1, and answers what serving answered, whether the reader has failed, whether the writer has, and whether
@@ -261,11 +252,8 @@ fn connections_are_answered(rt: HostRuntime) -> Result<(), Fail> {
             accepted: Cell::new(0),
         };
         let mut hub = opened(rt.alloc())?;
-        let mut errors = IoErrors::none();
-        assert_eq!(rt;
-            serve_listener(rt.alloc(), &mut hub, &calls, 5, &mut errors),
-            served
-        );
+        let (answer, _, _) = serve_all(rt.alloc(), &mut hub, &calls, 5);
+        assert_eq!(rt; answer, served);
         for (i, talk) in talks.iter().enumerate() {
             let is_gone = i == 2 && third == 1;
             assert_eq!(rt;
@@ -306,14 +294,8 @@ fn long_pages_are_shown(rt: HostRuntime) -> Result<(), Fail> {
         let more = count > 500;
         let page = format!(in rt.alloc(); "{{\"more\":{more},\"ok\":true,\"rows\":[{rows}]}}\n")?;
         want.push_str(page.as_str())?;
-        let (mut output, mut errors) = (Vec::new(rt.alloc()), Vec::new(rt.alloc()));
-        let status = run(
-            &rt,
-            &["mi_server"],
-            input.as_bytes(),
-            &mut output,
-            &mut errors,
-        );
+        let mut output = Vec::new(rt.alloc());
+        let (status, _) = ended(&rt, &["mi_server"], input.as_bytes(), &mut output);
         assert_eq!(rt; status, 0);
         assert_eq!(rt; output.as_slice(), want.as_bytes(), "{count} rows");
     }

@@ -3,33 +3,24 @@ ghost use Rattle.std.specs.Prelude.{◌≡◌, IsTrue, [], ◌∷◌, pos};
 ghost use Rattle.mi_value.specs.declared.edit.Edit.TheVariants.{Add};
 ghost use Rattle.mi_catalog.specs.Fitting.{HasTable, EditsFit};
 
-use super::databases::{Opens, Served};
+use super::accounts::{account, is_account};
 use mi_catalog::{Catalog, built_in};
+use mi_database::Linked;
+use mi_multi::MultiIndex;
 use mi_plain::Plain;
 use mi_sessions::Sessions;
-use mi_value::{ColumnType, Edit, NoSession, Record, Steps, Text, Value};
+use mi_value::{ColumnType, Edit, NoSession, Record, Steps};
 use std::alloc::{AllocError, Global};
 use std::process::Abort;
 use std::test::Fail;
-
-/// A record of the built-in schema.
-fn account(alloc: Global, owner: &str, balance: i64, vip: bool) -> Result<Record, AllocError> {
-    let owner = Value::Text(Text::of(alloc, owner)?);
-    Ok(Record::new(vec![in alloc; owner, Value::Int(balance), Value::Flag(vip)]?))
-}
 
 /// Whether the table shows this account for an id.
 fn shows<D: Sessions>(database: &D, id: u64, owner: &str, balance: i64, vip: bool) -> bool
     requires { HasTable (D.state database.now).catalog 0 }
 {
-    let Some(row) = database.get(0, id, &mut Steps::new()) else {
-        return false;
-    };
-    match row.values() {
-        [Value::Text(o), Value::Int(b), Value::Flag(v)] => {
-            o.as_str() == owner && *b == balance && *v == vip
-        }
-        _ => false,
+    match database.get(0, id, &mut Steps::new()) {
+        Some(row) => is_account(row, owner, balance, vip),
+        None => false,
     }
 }
 
@@ -94,9 +85,9 @@ fn accounts(alloc: Global) -> Result<Catalog, AllocError> {
 #[test]
 fn nested_sessions_by_calls(rt: HostRuntime) -> Result<(), Fail> {
     let alloc = rt.alloc();
-    let mut plain: Plain = Opens::open(alloc, accounts(alloc)?)?;
+    let mut plain = Plain::new(alloc, accounts(alloc)?)?;
     check_nested(&rt, alloc, &mut plain)?;
-    let mut served: Served = Opens::open(alloc, accounts(alloc)?)?;
+    let mut served = Linked::<MultiIndex>::new(alloc, accounts(alloc)?, 7)?;
     check_nested(&rt, alloc, &mut served)?;
     let (changes, sessions) = served.room();
     assert!(rt; changes >= 3 && sessions >= 1, "{changes} and {sessions}");
@@ -111,7 +102,7 @@ const MARK: usize = 1_234_567;
 #[test]
 fn a_reserved_block_needs_no_memory(rt: HostRuntime) -> Result<(), Fail> {
     let alloc = rt.alloc();
-    let mut database: Served = Opens::open(alloc, accounts(alloc)?)?;
+    let mut database = Linked::<MultiIndex>::new(alloc, accounts(alloc)?, 7)?;
     add(&rt, alloc, &mut database, account(alloc, "a", 1, false)?, 0)?;
     add(&rt, alloc, &mut database, account(alloc, "b", 2, false)?, 1)?;
     let row = account(alloc, "b", 3, true)?;
