@@ -166,7 +166,8 @@ impl<D: Sessions + Drop> Executor<D> {
     /// Shows the records of a page.
     fn show_page(&self, table: usize, page: Page<'_>) -> ReplyText
         requires { table < length self.now.database.catalog.tables }
-        ensures { GivenOrMemory (Unit {0}) (say.rows table (map (λ r. (r.0, r.1.now)) page.entry.rows.items) page.entry.more, self.now) self.now (text_bytes result) self.now }
+        ensures { GivenOrMemory (Unit {0}) (say.rows table (map (λ r. (r.0, r.1.now)) page.entry.rows.items) page.entry.more, self.now)
+            self.now (text_bytes result) self.now }
     {
         self.show(Reply::Rows {
             table,

@@ -39,7 +39,8 @@ impl MultiIndex {
     ) -> Result<Vec<(u64, &Record)>, AllocError>
         requires index { ShowsOneList self.now.shape index }
         requires first { IsTrue (has_row (table_of self.now.plain) first) }
-        ensures rows { IfOk result (λ rows. map (λ r. (r.0, r.1.now)) rows.items ≡ rows_from self.now.shape (table_of self.now.plain) index reverse first limit) }
+        ensures rows { IfOk result (λ rows. map (λ r. (r.0, r.1.now)) rows.items ≡
+            rows_from self.now.shape (table_of self.now.plain) index reverse first limit) }
         ensures steps { (b : ℕ) → size_of (table_of self.now.plain) < 2 ^ b → steps.new.count ≤ steps.old.count + (2 * b + 1) }
     {
         let Some(node) = self.ids.live(first) else {
