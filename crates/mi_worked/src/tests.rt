@@ -1,11 +1,7 @@
-//! Worked rows over the forms of the database, lines with something wrong, and streams that fail.
+//! Worked rows over the forms of the database.
 
 mod beside;
-mod cuts;
-mod damage;
 mod databases;
-mod devices;
-mod failing;
 mod long_rows;
 mod random;
 mod rows;

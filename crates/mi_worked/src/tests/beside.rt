@@ -1,7 +1,5 @@
 //! Two forms of the database beside one another: the same random lines, and every reply compared.
-use super::damage::damaged;
 use super::databases::{Opens, Served, opened};
-use super::devices::Sink;
 use super::random::{CHANGES, READS, Random, TABLES, number_behind};
 use mi_hub::{Hub, Watched};
 use mi_plain::Plain;
@@ -18,12 +16,12 @@ struct Both<A: Opens, B: Opens> {
 }
 
 /// What connection 1 is answered.
-fn reply<D: Opens>(alloc: Global, hub: &mut Hub<D>, line: &[u8]) -> Result<String, Fail> {
-    let mut writer = Watched::new(Sink::sound(alloc));
-    if hub.feed(1, line, &mut writer).is_err() {
+fn reply<D: Opens>(alloc: Global, hub: &mut Hub<D>, line: &str) -> Result<String, Fail> {
+    let mut writer = Watched::new(Vec::new(alloc));
+    if hub.feed(1, line.as_bytes(), &mut writer).is_err() {
         return Err(Fail::from("the line isn't answered"));
     }
-    Ok(String::from_utf8(writer.inner().taken.to_vec(alloc)?)?)
+    Ok(String::from_utf8(writer.inner().to_vec(alloc)?)?)
 }
 
 impl<A: Opens, B: Opens> Both<A, B> {
@@ -41,14 +39,9 @@ impl<A: Opens, B: Opens> Both<A, B> {
 
     /// What both are answered to a line.
     fn ask(&mut self, rt: &impl Abort, alloc: Global, line: &str) -> Result<String, Fail> {
-        self.ask_bytes(rt, alloc, line.as_bytes())
-    }
-
-    /// The same for a line that may be no text.
-    fn ask_bytes(&mut self, rt: &impl Abort, alloc: Global, line: &[u8]) -> Result<String, Fail> {
         let got = reply(alloc, &mut self.one, line)?;
         let want = reply(alloc, &mut self.other, line)?;
-        assert_eq!(rt; got.as_str(), want.as_str(), "to {line:?}");
+        assert_eq!(rt; got.as_str(), want.as_str(), "to {line}");
         Ok(got)
     }
 
@@ -78,30 +71,6 @@ impl<A: Opens, B: Opens> Both<A, B> {
             random.hear(reply.as_str());
         }
         Ok(())
-    }
-
-    /// Asks so many random lines, three of four with one thing wrong; answers how often each of some words was in the reply.
-    fn run_damaged(
-        &mut self,
-        rt: &impl Abort,
-        alloc: Global,
-        seed: u64,
-        steps: u64,
-    ) -> Result<[u64; 9], Fail> {
-        let mut random = Random::new(alloc, seed);
-        let mut counts = [0u64; 9];
-        for step in 0..steps {
-            if step % 100 == 0 {
-                self.look(rt, alloc, &mut random)?;
-            }
-            let line = damaged_line(alloc, &mut random)?;
-            let reply = self.ask_bytes(rt, alloc, line.as_slice())?;
-            let newlines = reply.bytes().filter(|byte| *byte == b'\n').count();
-            assert!(rt; newlines <= 1, "to {line:?}: {reply}");
-            random.hear(reply.as_str());
-            note_words(&mut counts, reply.as_str());
-        }
-        Ok(counts)
     }
 
     /// Asks for every view of a table: each index from both ends, the record of each rank, its ranks, and each hashed key.
@@ -162,47 +131,6 @@ impl<A: Opens, B: Opens> Both<A, B> {
         }
         let _ = self.ask(rt, alloc, "{\"cmd\":\"undo\"}\n")?;
         Ok(())
-    }
-}
-
-/// A random line, in three of four cases with one thing wrong.
-fn damaged_line(alloc: Global, random: &mut Random) -> Result<Vec<u8>, AllocError> {
-    let line = if random.below(3) == 0 {
-        random.line(alloc, &READS)?
-    } else {
-        random.line(alloc, &CHANGES)?
-    };
-    let Some((_newline, text)) = line.as_bytes().split_last() else {
-        return Ok(Vec::new(alloc));
-    };
-    let mut bytes = if random.below(4) == 0 {
-        text.to_vec(alloc)?
-    } else {
-        damaged(alloc, random, text)?
-    };
-    bytes.push(b'\n')?;
-    Ok(bytes)
-}
-
-/// What replies to damaged lines have in them.
-const WORDS: [&str; 9] = [
-    "\"ok\":true",
-    "\"error\":\"line\"",
-    "\"error\":\"json\"",
-    "\"error\":\"form\"",
-    "\"error\":\"table\"",
-    "\"error\":\"index\"",
-    "\"error\":\"kind\"",
-    "\"error\":\"row\"",
-    "\"error\":\"key\"",
-];
-
-/// Counts the words that a reply has.
-fn note_words(counts: &mut [u64; 9], reply: &str) {
-    for (count, word) in counts.iter_mut().zip(WORDS.iter()) {
-        if reply.contains(*word) {
-            *count = count.saturating_add(1);
-        }
     }
 }
 
@@ -324,29 +252,4 @@ fn both_forms_answer_alike_by_a_fourth_seed(rt: HostRuntime) -> Result<(), Fail>
 #[test]
 fn both_forms_answer_alike_by_a_fifth_seed(rt: HostRuntime) -> Result<(), Fail> {
     check_beside::<Plain, Served>(&rt, rt.alloc(), 5, STEPS)
-}
-
-/// Both forms answer lines alike of which three of four have one thing wrong, each with at most one line, and show the same at the end.
-/// Each word was among the replies.
-fn check_damaged<A: Opens, B: Opens>(
-    rt: &impl Abort,
-    alloc: Global,
-    seed: u64,
-    steps: u64,
-) -> Result<(), Fail> {
-    let mut both: Both<A, B> = Both::open(alloc)?;
-    let counts = both.run_damaged(rt, alloc, seed, steps)?;
-    for (count, word) in counts.iter().zip(WORDS.iter()) {
-        assert!(rt; *count > 0, "no reply has {word}");
-    }
-    both.view(rt, alloc, "a")?;
-    both.view(rt, alloc, "b")
-}
-
-#[test]
-fn both_forms_answer_damaged_lines_alike(rt: HostRuntime) -> Result<(), Fail> {
-    for seed in 11..14 {
-        check_damaged::<Plain, Served>(&rt, rt.alloc(), seed, STEPS)?;
-    }
-    Ok(())
 }
