@@ -245,7 +245,9 @@ impl<C: Container> Sessions for Linked<C> {
         limit: usize,
         steps: &mut Steps,
     ) -> Result<Vec<(u64, &Record)>, Refusal> {
-        let rows = self.at(table).walk(alloc, index, reverse, first, limit, steps)?;
+        let rows = self
+            .at(table)
+            .walk(alloc, index, reverse, first, limit, steps)?;
         Ok(rows)
     }
 
