@@ -480,9 +480,10 @@ def by_calls(library, folder):
         env = {**os.environ, "LD_PRELOAD": library, "REFUSE_LOG": log, "REFUSE_MARK": str(MARK), "REFUSE_REQUEST": str(request), "REFUSE_ALL": str(rest)}
         ran = subprocess.run([CALLS, CALLS_TEST], env=env, capture_output=True)
         with open(log, encoding="ascii") as file:
-            words = file.read().split("\n")[-2].split()
+            said = file.read()
+        words = said.split("\n")[-2].split()
         asked.append(int(words[words.index("requests") + 1]))
-        differ += ran.returncode != 0
+        differ += ran.returncode != 0 or "marked" not in said
     print(f"a reserved block by calls: {len(asked)} runs, {max(asked)} requests behind the reserve, {differ} differences", flush=True)
     return differ
 

@@ -10,7 +10,8 @@
    REFUSE_FROM     requests are counted and refused from this piece of input on, the first being 0; else from the start of the program
    REFUSE_UNTIL    and no more from this piece on
    REFUSE_MARK     requests are counted and refused only behind the first one for just so many bytes
-   REFUSE_LOG      a file; it gets `refused PIECE` for each piece in which a request was refused, and at the end a line of counts
+   REFUSE_LOG      a file; it gets `refused PIECE` for each piece in which a request was refused, `marked` where the mark was, and at
+                   the end a line of counts
 
    A piece is what one read of standard input or of a socket gives: the bytes up to a newline, or as many as were asked for; the end of
    the input is one too. It lasts until the next is read; before the first it is -1. Standard input must be a file. */
@@ -89,8 +90,10 @@ static int refuses(const void *caller, size_t size) {
     if (piece < from || piece >= until)
         return 0;
     if (mark) {
-        if (size == (size_t)mark)
+        if (size == (size_t)mark) {
+            tell("marked %ld\n", mark, 0, 0, 0);
             mark = 0;
+        }
         return 0;
     }
     requests++;
