@@ -29,7 +29,8 @@ fn place_of(old: Option<OldPlace>) -> Option<Place>
     }
 }
 
-/// The old places of a node as the indexes take them.
+/// The old places of a node as the indexes take them. The toolchain takes a loop over such an array only in a function that is
+/// passed a reference, so it is passed the node's.
 fn places_of(node: NodeRef, old: &OldPlaces) -> ArrayVec<Option<Place>, MAX_PLACES>
     ensures { result.items ≡ map (option_map to_place) (map (option_map place_seen) old.now.items) }
 {

@@ -73,7 +73,8 @@ impl Cell {
     }
 }
 
-fn bits_of(node: Option<NodeRef>) -> u32
+/// The four bytes that stand for a reference or none.
+pub(crate) fn bits_of(node: Option<NodeRef>) -> u32
     ensures { ref_in result ≡ node }
 {
     match node {
@@ -82,7 +83,8 @@ fn bits_of(node: Option<NodeRef>) -> u32
     }
 }
 
-fn ref_of(bits: u32) -> Option<NodeRef>
+/// The reference or none that four bytes stand for.
+pub(crate) fn ref_of(bits: u32) -> Option<NodeRef>
     ensures { result ≡ ref_in bits }
 {
     if bits < NOBODY {

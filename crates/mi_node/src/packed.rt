@@ -1,7 +1,8 @@
 //! A reference, or none, in four bytes. Plain data: it owns no node and never follows a reference.
 ghost use Rattle.std.specs.Prelude.{◌≡◌};
 
-use crate::node_ref::{NOBODY, NodeRef};
+use crate::cell::{bits_of, ref_of};
+use crate::node_ref::NodeRef;
 use std::marker::Model;
 
 /// A reference or none, in the four bytes of a reference: contracts see the `Option`.
@@ -25,9 +26,8 @@ impl PackedRef {
     pub fn new(node: Option<NodeRef>) -> PackedRef
         ensures { result ≡ node }
     {
-        match node {
-            None => PackedRef { bits: NOBODY },
-            Some(node) => PackedRef { bits: node.bits() },
+        PackedRef {
+            bits: bits_of(node),
         }
     }
 
@@ -35,10 +35,6 @@ impl PackedRef {
     pub fn node(&self) -> Option<NodeRef>
         ensures { result ≡ self.now }
     {
-        if self.bits < NOBODY {
-            Some(NodeRef::of_bits(self.bits))
-        } else {
-            None
-        }
+        ref_of(self.bits)
     }
 }
