@@ -1,0 +1,414 @@
+//! Each call of a container once, and changes taken back: what indexes show is worked out by hand.
+ghost use Rattle.mi_calls.specs.Undone.{Holds};
+
+use super::undoable::Undoable;
+use mi_container::Container;
+use mi_multi::MultiIndex;
+use mi_schema::{Schema, read_schema};
+use mi_value::{Record, Refusal, Steps, Text, Value};
+use std::alloc::{AllocError, Global};
+use std::process::Abort;
+use std::test::Fail;
+
+/// A table with every kind of index, hashed and ordered ones both unique and not.
+const TABLE: &str = r#"table = "t"
+max_rows = 60
+column = [{name = "k", type = "int"}, {name = "s", type = "text"}, {name = "f", type = "flag"}, {name = "n", type = "int"}]
+index = [
+    {name = "by_k", kind = "hashed", unique = true, key = ["k"]},
+    {name = "by_n", kind = "ranked", key = ["n"]},
+    {name = "by_f", kind = "hashed", key = ["f"]},
+    {name = "by_f_s", kind = "ordered", key = ["-f", "s"]},
+    {name = "line", kind = "sequenced"},
+    {name = "by_s_n", kind = "ordered", unique = true, key = ["s", "n"]},
+]
+"#;
+
+pub(super) const BY_ID: usize = 0;
+
+pub(super) const BY_K: usize = 1;
+
+pub(super) const BY_N: usize = 2;
+
+pub(super) const BY_F: usize = 3;
+
+pub(super) const BY_F_S: usize = 4;
+
+pub(super) const LINE: usize = 5;
+
+pub(super) const BY_S_N: usize = 6;
+
+/// The columns of numbers.
+pub(super) const K: usize = 0;
+
+pub(super) const N: usize = 3;
+
+/// The schema of that table.
+pub(super) fn schema(alloc: Global) -> Result<Schema, Fail> {
+    match read_schema(alloc, TABLE.as_bytes()) {
+        Ok(schema) => Ok(schema),
+        Err(_) => Err(Fail::from("the schema isn't read")),
+    }
+}
+
+/// A record of that table.
+pub(super) fn record(
+    alloc: Global,
+    k: i64,
+    s: &str,
+    f: bool,
+    n: i64,
+) -> Result<Record, AllocError> {
+    let s = Value::Text(Text::of(alloc, s)?);
+    Ok(Record::new(vec![in alloc; Value::Int(k), s, Value::Flag(f), Value::Int(n)]?))
+}
+
+/// Whether the record of an id is this one.
+fn shows<C: Container>(undoable: &Undoable<C>, id: u64, k: i64, s: &str, f: bool, n: i64) -> bool {
+    let Some(row) = undoable.rows.get(id, &mut Steps::new()) else {
+        return false;
+    };
+    match row.values() {
+        [Value::Int(a), Value::Text(b), Value::Flag(c), Value::Int(d)] => {
+            *a == k && b.as_str() == s && *c == f && *d == n
+        }
+        _ => false,
+    }
+}
+
+/// The ids that an index shows, by steps from the first to the last.
+fn ids<C: Container>(
+    rt: &impl Abort,
+    alloc: Global,
+    undoable: &Undoable<C>,
+    index: usize,
+) -> Result<Vec<u64>, Fail>
+    requires { Holds undoable.now.schema (C.shape undoable.now.rows) (C.plain undoable.now.rows) undoable.now.inverses.items }
+{
+    let mut ids = Vec::new(alloc);
+    assert!(rt; undoable.is_listed(index));
+    let mut next = undoable.rows.first(index);
+    for _ in 0..100 {
+        let Some(id) = next else {
+            break;
+        };
+        ids.push(id)?;
+        assert!(rt; undoable.has(id));
+        next = undoable.rows.after(index, id);
+    }
+    Ok(ids)
+}
+
+/// The ids of one key of a hashed index.
+fn ids_of<C: Container>(
+    rt: &impl Abort,
+    alloc: Global,
+    undoable: &Undoable<C>,
+    index: usize,
+    key: Value,
+) -> Result<Vec<u64>, Fail>
+    requires { Holds undoable.now.schema (C.shape undoable.now.rows) (C.plain undoable.now.rows) undoable.now.inverses.items }
+{
+    let mut ids = Vec::new(alloc);
+    let key = [key];
+    assert!(rt; undoable.is_hashed(index));
+    assert!(rt; undoable.is_key(index, &key));
+    let mut next = undoable.rows.first_of(index, &key);
+    for _ in 0..100 {
+        let Some(id) = next else {
+            break;
+        };
+        ids.push(id)?;
+        assert!(rt; undoable.has(id));
+        next = undoable.rows.next_of(index, id);
+    }
+    Ok(ids)
+}
+
+/// What the list, the index by `n`, and of the index by `f` each key show.
+fn check_views<C: Container>(
+    rt: &impl Abort,
+    alloc: Global,
+    undoable: &Undoable<C>,
+    line: &[u64],
+    by_n: &[u64],
+    by_f: (&[u64], &[u64]),
+) -> Result<(), Fail>
+    requires { Holds undoable.now.schema (C.shape undoable.now.rows) (C.plain undoable.now.rows) undoable.now.inverses.items }
+{
+    let got = ids(rt, alloc, undoable, LINE)?;
+    assert_eq!(rt; got.as_slice(), line);
+    let got = ids(rt, alloc, undoable, BY_N)?;
+    assert_eq!(rt; got.as_slice(), by_n);
+    let got = ids_of(rt, alloc, undoable, BY_F, Value::Flag(false))?;
+    assert_eq!(rt; got.as_slice(), by_f.0);
+    let got = ids_of(rt, alloc, undoable, BY_F, Value::Flag(true))?;
+    assert_eq!(rt; got.as_slice(), by_f.1);
+    assert_eq!(rt; undoable.rows.size(), line.len() as u64);
+    Ok(())
+}
+
+/// What is shown of the first four records.
+fn check_four<C: Container>(
+    rt: &impl Abort,
+    alloc: Global,
+    undoable: &Undoable<C>,
+) -> Result<(), Fail>
+    requires { Holds undoable.now.schema (C.shape undoable.now.rows) (C.plain undoable.now.rows) undoable.now.inverses.items }
+{
+    check_views(
+        rt,
+        alloc,
+        undoable,
+        &[0, 3, 1, 2],
+        &[3, 0, 1, 2],
+        (&[0, 1], &[2, 3]),
+    )
+}
+
+/// Four records, the last of them in the list before the second.
+fn fill<C: Container>(
+    rt: &impl Abort,
+    alloc: Global,
+    undoable: &mut Undoable<C>,
+) -> Result<(), Fail>
+    requires { Holds undoable.old.schema (C.shape undoable.old.rows) (C.plain undoable.old.rows) undoable.old.inverses.items }
+    ensures { Holds undoable.new.schema (C.shape undoable.new.rows) (C.plain undoable.new.rows) undoable.new.inverses.items }
+{
+    for (id, k, s, f, n, before) in [
+        (0, 10, "a", false, 1, None),
+        (1, 11, "b", false, 2, None),
+        (2, 12, "c", true, 2, None),
+        (3, 13, "d", true, 0, Some((LINE, 1))),
+    ] {
+        let row = record(alloc, k, s, f, n)?;
+        assert_eq!(rt; undoable.insert(rt, alloc, row, before), Ok(id));
+    }
+    Ok(())
+}
+
+/// Looks up each record and each bound.
+fn check_look_ups<C: Container>(rt: &impl Abort, undoable: &Undoable<C>) -> Result<(), Fail>
+    requires { Holds undoable.now.schema (C.shape undoable.now.rows) (C.plain undoable.now.rows) undoable.now.inverses.items }
+{
+    let rows = &undoable.rows;
+    assert!(rt; shows(undoable, 3, 13, "d", true, 0));
+    assert!(rt; !undoable.has(4));
+    for (index, key, found, count) in [
+        (BY_ID, Value::Int(2), Some(2), 1),
+        (BY_K, Value::Int(11), Some(1), 1),
+        (BY_K, Value::Int(14), None, 0),
+        (BY_N, Value::Int(2), Some(1), 2),
+        (BY_F, Value::Flag(true), Some(2), 2),
+    ] {
+        let key = [key];
+        assert!(rt; undoable.is_keyed(index));
+        assert!(rt; undoable.is_key(index, &key));
+        assert_eq!(rt; rows.find(index, &key), found);
+        assert_eq!(rt; rows.count(index, &key), count);
+    }
+    Ok(())
+}
+
+/// Looks up bounds and ranks.
+fn check_bounds<C: Container>(rt: &impl Abort, undoable: &Undoable<C>) -> Result<(), Fail>
+    requires { Holds undoable.now.schema (C.shape undoable.now.rows) (C.plain undoable.now.rows) undoable.now.inverses.items }
+{
+    let rows = &undoable.rows;
+    for (index, key, lower, upper, lower_rank, upper_rank) in [
+        (BY_N, Value::Int(1), Some(0), Some(1), 1, 2),
+        (BY_N, Value::Int(2), Some(1), None, 2, 4),
+        (BY_F_S, Value::Flag(true), Some(2), Some(0), 0, 2),
+        (BY_F_S, Value::Flag(false), Some(0), None, 2, 4),
+    ] {
+        let key = [key];
+        assert!(rt; undoable.is_sorted(index));
+        assert!(rt; undoable.is_prefix(index, &key));
+        assert_eq!(rt; rows.lower(index, &key, &mut Steps::new()), lower);
+        assert_eq!(rt; rows.upper(index, &key, &mut Steps::new()), upper);
+        assert_eq!(rt; rows.lower_rank(index, &key, &mut Steps::new()), lower_rank);
+        assert_eq!(rt; rows.upper_rank(index, &key, &mut Steps::new()), upper_rank);
+    }
+    for (n, id) in [(0, 3), (1, 0), (2, 1), (3, 2)] {
+        assert!(rt; undoable.is_sorted(BY_N));
+        assert_eq!(rt; rows.nth(BY_N, n), Some(id));
+        assert!(rt; undoable.has(id));
+        assert_eq!(rt; rows.rank_of(BY_N, id, &mut Steps::new()), n);
+    }
+    assert!(rt; undoable.is_sorted(BY_N));
+    assert_eq!(rt; rows.nth(BY_N, 4), None);
+    Ok(())
+}
+
+/// Steps back, and walks both ways.
+fn check_walks<C: Container>(
+    rt: &impl Abort,
+    alloc: Global,
+    undoable: &Undoable<C>,
+) -> Result<(), Fail>
+    requires { Holds undoable.now.schema (C.shape undoable.now.rows) (C.plain undoable.now.rows) undoable.now.inverses.items }
+{
+    let rows = &undoable.rows;
+    for (index, first, last, before_one) in [
+        (BY_ID, 0, 3, Some(0)),
+        (BY_N, 3, 2, Some(0)),
+        (BY_F_S, 2, 1, Some(0)),
+        (BY_S_N, 0, 3, Some(0)),
+        (LINE, 0, 2, Some(3)),
+    ] {
+        assert!(rt; undoable.is_listed(index));
+        assert_eq!(rt; rows.first(index), Some(first));
+        assert_eq!(rt; rows.last(index), Some(last));
+        assert!(rt; undoable.has(1));
+        assert_eq!(rt; rows.before(index, 1), before_one);
+    }
+    for (reverse, first, limit, want) in [
+        (false, 3, 2, [(3, 13), (0, 10)].as_slice()),
+        (false, 2, 0, [].as_slice()),
+        (true, 0, 9, [(0, 10), (3, 13), (2, 12)].as_slice()),
+    ] {
+        assert!(rt; undoable.is_listed(BY_F_S));
+        assert!(rt; undoable.has(first));
+        let walked = rows.walk(alloc, BY_F_S, reverse, first, limit, &mut Steps::new())?;
+        assert_eq!(rt; walked.len(), want.len());
+        for ((id, row), (want, k)) in walked.iter().zip(want) {
+            assert_eq!(rt; id, want);
+            assert!(rt; matches!(row.values().first(), Some(Value::Int(got)) if got == k));
+        }
+    }
+    Ok(())
+}
+
+/// Puts that keep a place, that lose one and that lose the record, each taken back.
+fn check_puts<C: Container>(
+    rt: &impl Abort,
+    alloc: Global,
+    undoable: &mut Undoable<C>,
+) -> Result<(), Fail>
+    requires { Holds undoable.old.schema (C.shape undoable.old.rows) (C.plain undoable.old.rows) undoable.old.inverses.items }
+    ensures { Holds undoable.new.schema (C.shape undoable.new.rows) (C.plain undoable.new.rows) undoable.new.inverses.items }
+{
+    let row = record(alloc, 11, "b", true, 2)?;
+    assert_eq!(rt; undoable.replace(rt, 1, row), Ok(()));
+    check_views(
+        rt,
+        alloc,
+        undoable,
+        &[0, 3, 1, 2],
+        &[3, 0, 1, 2],
+        (&[0], &[2, 3, 1]),
+    )?;
+    assert!(rt; undoable.unwind());
+    check_four(rt, alloc, undoable)?;
+    assert_eq!(rt; undoable.add(rt, alloc, 0, N, 1, true), Ok(()));
+    assert!(rt; shows(undoable, 0, 10, "a", false, 2));
+    check_views(
+        rt,
+        alloc,
+        undoable,
+        &[0, 3, 1, 2],
+        &[3, 1, 2, 0],
+        (&[0, 1], &[2, 3]),
+    )?;
+    assert!(rt; undoable.unwind());
+    check_four(rt, alloc, undoable)?;
+    let refused = undoable.add(rt, alloc, 0, K, 2, true);
+    assert_eq!(rt; refused, Err(Refusal::Unique { index: BY_K, id: 2 }));
+    let lost = undoable.add(rt, alloc, 0, K, 2, false);
+    assert_eq!(rt; lost, Err(Refusal::Lost { index: BY_K, id: 2 }));
+    check_views(rt, alloc, undoable, &[3, 1, 2], &[3, 1, 2], (&[1], &[2, 3]))?;
+    assert!(rt; undoable.unwind());
+    assert!(rt; shows(undoable, 0, 10, "a", false, 1));
+    check_four(rt, alloc, undoable)
+}
+
+/// Moves and an erase, each taken back; then an id that is used again.
+fn check_moves<C: Container>(
+    rt: &impl Abort,
+    alloc: Global,
+    undoable: &mut Undoable<C>,
+) -> Result<(), Fail>
+    requires { Holds undoable.old.schema (C.shape undoable.old.rows) (C.plain undoable.old.rows) undoable.old.inverses.items }
+    ensures { Holds undoable.new.schema (C.shape undoable.new.rows) (C.plain undoable.new.rows) undoable.new.inverses.items }
+{
+    for (id, before, line) in [
+        (0, Some(2), [3, 1, 0, 2]),
+        (3, None, [0, 1, 2, 3]),
+        (1, Some(1), [0, 3, 1, 2]),
+    ] {
+        assert_eq!(rt; undoable.relocate(rt, LINE, id, before), Ok(()));
+        let got = ids(rt, alloc, undoable, LINE)?;
+        assert_eq!(rt; got.as_slice(), line.as_slice());
+        assert!(rt; undoable.unwind());
+        check_four(rt, alloc, undoable)?;
+    }
+    assert_eq!(rt; undoable.erase(3), Ok(()));
+    check_views(rt, alloc, undoable, &[0, 1, 2], &[0, 1, 2], (&[0, 1], &[2]))?;
+    assert!(rt; undoable.unwind());
+    check_four(rt, alloc, undoable)?;
+    for _ in 0..2 {
+        let row = record(alloc, 20, "e", true, 7)?;
+        assert_eq!(rt; undoable.insert(rt, alloc, row, None), Ok(4));
+        assert!(rt; undoable.unwind());
+    }
+    check_four(rt, alloc, undoable)
+}
+
+/// An erase that is settled stays, and its node is used again.
+fn check_settled<C: Container>(
+    rt: &impl Abort,
+    alloc: Global,
+    undoable: &mut Undoable<C>,
+) -> Result<(), Fail>
+    requires { Holds undoable.old.schema (C.shape undoable.old.rows) (C.plain undoable.old.rows) undoable.old.inverses.items }
+    ensures { Holds undoable.new.schema (C.shape undoable.new.rows) (C.plain undoable.new.rows) undoable.new.inverses.items }
+{
+    assert_eq!(rt; undoable.erase(2), Ok(()));
+    for _ in 0..5 {
+        assert!(rt; undoable.settle());
+    }
+    assert!(rt; !undoable.settle());
+    assert!(rt; !undoable.unwind());
+    let row = record(alloc, 12, "c", true, 9)?;
+    assert_eq!(rt; undoable.insert(rt, alloc, row, Some((LINE, 0))), Ok(4));
+    check_views(
+        rt,
+        alloc,
+        undoable,
+        &[4, 0, 3, 1],
+        &[3, 0, 1, 4],
+        (&[0, 1], &[3, 4]),
+    )
+}
+
+#[test]
+fn each_call_of_the_container(rt: HostRuntime) -> Result<(), Fail> {
+    let alloc = rt.alloc();
+    let mut undoable = Undoable::<MultiIndex>::open(alloc, schema(alloc)?)?;
+    fill(&rt, alloc, &mut undoable)?;
+    check_four(&rt, alloc, &undoable)?;
+    check_look_ups(&rt, &undoable)?;
+    check_bounds(&rt, &undoable)?;
+    check_walks(&rt, alloc, &undoable)?;
+    check_puts(&rt, alloc, &mut undoable)?;
+    check_moves(&rt, alloc, &mut undoable)?;
+    check_settled(&rt, alloc, &mut undoable)
+}
+
+/// An insert and a modify, both taken back: the id is used again.
+#[test]
+fn an_id_is_used_again(rt: HostRuntime) -> Result<(), Fail> {
+    let alloc = rt.alloc();
+    let mut undoable = Undoable::<MultiIndex>::open(alloc, schema(alloc)?)?;
+    let row = record(alloc, 1, "a", false, 1)?;
+    assert_eq!(rt; undoable.insert(&rt, alloc, row, None), Ok(0));
+    assert_eq!(rt; undoable.add(&rt, alloc, 0, N, 4, false), Ok(()));
+    assert!(rt; shows(&undoable, 0, 1, "a", false, 5));
+    assert!(rt; undoable.unwind());
+    assert!(rt; shows(&undoable, 0, 1, "a", false, 1));
+    assert!(rt; undoable.unwind());
+    assert!(rt; !undoable.has(0));
+    let row = record(alloc, 1, "a", false, 1)?;
+    assert_eq!(rt; undoable.insert(&rt, alloc, row, None), Ok(0));
+    Ok(())
+}
