@@ -27,14 +27,14 @@ stays schema shape shape' d d' is same was holds =
 pub makes : (schema shape shape' : Shape) (k : Change) (d d' : Data) (i : Inverse) (is : List Inverse) → IsData shape d → shape' ≡ shape
     → Makes shape k d i d' → Holds schema shape d is → Holds schema shape' d' (is ++ i ∷ [])
 makes schema shape shape' k d d' i is good same made holds =
-    let fits : Fits shape (inverse_of k d ∷ reverse is) (table_of d ∷ holds.1.0) (changed k d) =
-    change_fits shape k (reverse is) holds.1.0 d good made.allowed holds.1.1 in
-    let fits' : Fits shape (i ∷ reverse is) (table_of d ∷ holds.1.0) d' =
-    subst (λ j. Fits shape (j ∷ reverse is) (table_of d ∷ holds.1.0) d') (sym made.inverse)
-    (subst (λ x. Fits shape (inverse_of k d ∷ reverse is) (table_of d ∷ holds.1.0) x) (sym made.changed_data) fits) in
-    let fits'' : Fits shape (reverse (is ++ i ∷ [])) (table_of d ∷ holds.1.0) d' =
-    subst (λ js. Fits shape js (table_of d ∷ holds.1.0) d') (sym (reverse-append is (i ∷ []))) fits' in
-    subst (λ s. Holds schema s d' (is ++ i ∷ [])) (sym same) (holds.0, (table_of d ∷ holds.1.0, fits''))
+    let fits : Fits shape (inverse_of k d ∷ reverse is) (table_of d ∷ holds.1) (changed k d) =
+    change_fits shape k (reverse is) holds.1 d good made.allowed holds.2 in
+    let fits' : Fits shape (i ∷ reverse is) (table_of d ∷ holds.1) d' =
+    subst (λ j. Fits shape (j ∷ reverse is) (table_of d ∷ holds.1) d') (sym made.inverse)
+    (subst (λ x. Fits shape (inverse_of k d ∷ reverse is) (table_of d ∷ holds.1) x) (sym made.changed_data) fits) in
+    let fits'' : Fits shape (reverse (is ++ i ∷ [])) (table_of d ∷ holds.1) d' =
+    subst (λ js. Fits shape js (table_of d ∷ holds.1) d') (sym (reverse-append is (i ∷ []))) fits' in
+    subst (λ s. Holds schema s d' (is ++ i ∷ [])) (sym same) (holds.0, table_of d ∷ holds.1, fits'')
 
 pub makes_insert : (schema shape shape' : Shape) (place : Option (ℕ × ℕ)) (row : List Value) (d d' : Data) (i : Inverse) (is : List Inverse) → IsData shape d
     → shape' ≡ shape → MakesInsert shape place row d i d' → Holds schema shape d is → Holds schema shape' d' (is ++ i ∷ [])
@@ -47,32 +47,32 @@ makes_modify schema shape shape' (Some at) e d d' i is good same made holds = ma
 
 -- the newest can be taken back
 newest_fits : (shape : Shape) (i : Inverse) (is : List Inverse) (ts : List Table) (d : Data) → Fits shape (i ∷ is) ts d
-    → Ready i d × IsData shape (taken_back i d) × ((older : List Table) × Fits shape is older (taken_back i d))
+    → Ready i d × IsData shape (taken_back i d) × (older : List Table) × Fits shape is older (taken_back i d)
 newest_fits shape i is [] d fits = absurd fits
-newest_fits shape i is (t ∷ ts) d fits = (fits.0, fits.1.0, (ts, fits.1.1.1))
+newest_fits shape i is (t ∷ ts) d fits = (fits.0, fits.1, ts, fits.3)
 
 pub newest : (schema shape : Shape) (d : Data) (i : Inverse) (is : List Inverse) → Holds schema shape d (is ++ i ∷ [])
     → Ready i d × IsData shape (taken_back i d) × Holds schema shape (taken_back i d) is
 newest schema shape d i is holds =
-    let back = newest_fits shape i (reverse is) holds.1.0 d
-    (subst (λ js. Fits shape js holds.1.0 d) (reverse-append is (i ∷ [])) holds.1.1) in
-    (back.0, back.1.0, (holds.0, back.1.1))
+    let back = newest_fits shape i (reverse is) holds.1 d
+    (subst (λ js. Fits shape js holds.1 d) (reverse-append is (i ∷ [])) holds.2) in
+    (back.0, back.1, holds.0, back.2, back.3)
 
 -- the oldest can be settled
 tables_split : (shape : Shape) (f : Inverse) (is : List Inverse) (ts : List Table) (d : Data) → Fits shape (is ++ f ∷ []) ts d
     → (newer : List Table) × (t : Table) × (ts ≡ newer ++ t ∷ [])
 tables_split shape f [] [] d fits = absurd fits
-tables_split shape f [] (t ∷ []) d fits = ([], (t, refl))
-tables_split shape f [] (t ∷ u ∷ ts) d fits = absurd fits.1.1.1
+tables_split shape f [] (t ∷ []) d fits = ([], t, refl)
+tables_split shape f [] (t ∷ u ∷ ts) d fits = absurd fits.3
 tables_split shape f (i ∷ is) [] d fits = absurd fits
 tables_split shape f (i ∷ is) (t ∷ ts) d fits =
-    let split = tables_split shape f is ts (taken_back i d) fits.1.1.1 in
-    (t ∷ split.0, (split.1.0, ap (λ us. t ∷ us) split.1.1))
+    let split = tables_split shape f is ts (taken_back i d) fits.3 in
+    (t ∷ split.0, split.1, ap (λ us. t ∷ us) split.2)
 
 pub oldest : (schema shape : Shape) (d : Data) (f : Inverse) (is : List Inverse) → IsData shape d → Holds schema shape d (f ∷ is)
     → KeptBy f d × Holds schema shape (settled f d) is
 oldest schema shape d f is good holds =
-    let fits : Fits shape (reverse is ++ f ∷ []) holds.1.0 d = subst (λ js. Fits shape js holds.1.0 d) (reverse-append (f ∷ []) is) holds.1.1 in
-    let split = tables_split shape f (reverse is) holds.1.0 d fits in
-    let law = oldest_is_settled shape f (reverse is) split.1.0 split.0 d good (subst (λ ts. Fits shape (reverse is ++ f ∷ []) ts d) split.1.1 fits) in
-    (law.0, (holds.0, (split.0, law.1.1.1)))
+    let fits : Fits shape (reverse is ++ f ∷ []) holds.1 d = subst (λ js. Fits shape js holds.1 d) (reverse-append (f ∷ []) is) holds.2 in
+    let split = tables_split shape f (reverse is) holds.1 d fits in
+    let law = oldest_is_settled shape f (reverse is) split.1 split.0 d good (subst (λ ts. Fits shape (reverse is ++ f ∷ []) ts d) split.2 fits) in
+    (law.0, holds.0, split.0, law.3)

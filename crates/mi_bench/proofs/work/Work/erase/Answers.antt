@@ -9,4 +9,4 @@ unwind-requires-clause-ready g c = (c.made_is_undone.ensures _ _ _ _ _ c.keeps_r
 pub unwind-requires-clause-before : goal.unwind-requires-clause-before
 unwind-requires-clause-before g c =
     subst (λ s. IsData s (taken_back c.in-Ok.inverse (g.C.Container.plain c.erase.new.self))) (sym c.erase.ensures.shape)
-    (c.made_is_undone.ensures _ _ _ _ _ c.keeps_rules.ensures c.in-Ok.ensures.made).1.0
+    (c.made_is_undone.ensures _ _ _ _ _ c.keeps_rules.ensures c.in-Ok.ensures.made).1
