@@ -5,7 +5,7 @@ ghost use Rattle.mi_value.specs.declared.edit.Edit.TheVariants.{Add};
 ghost use Rattle.mi_model.specs.Table.{has as has_row};
 ghost use Rattle.mi_container.specs.Asked.{IsKeyed, IsHashed, IsSorted, IsSequenced, ShowsOneList, RecordFits, EditsFit, WholeKey, KeyPrefix};
 ghost use Rattle.mi_container.specs.Data.{table_of};
-ghost use Rattle.mi_calls.specs.Undone.{Holds};
+ghost use Rattle.mi_changes.specs.Undone.{Holds};
 
 use mi_catalog::Schema;
 use mi_container::{Container, Inverse};

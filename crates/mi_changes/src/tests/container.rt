@@ -1,5 +1,5 @@
 //! Each call of a container once, and changes taken back: what indexes show is worked out by hand.
-ghost use Rattle.mi_calls.specs.Undone.{Holds};
+ghost use Rattle.mi_changes.specs.Undone.{Holds};
 
 use super::undoable::Undoable;
 use mi_container::Container;

@@ -1,0 +1,4 @@
+//! The container that is served: what each call answers and leaves.
+
+mod container;
+mod undoable;
