@@ -1,5 +1,5 @@
 -- What changes, taking back and settling leave of a container and the inverses of its changes.
-use Rattle.std.proofs.Common.{◌≡◌, ℕ, Some, None, List, [], ◌∷◌, ◌++◌, reverse, refl, ap, sym, ◌∙◌, subst}
+use Rattle.std.proofs.Common.{◌≡◌, ℕ, Some, None, List, [], ◌∷◌, ◌++◌, reverse, refl, ap, sym, subst}
 use Rattle.std.specs.declared.option.Option.{Option}
 use Rattle.std.proofs.lemmas.List.{reverse-append}
 use Rattle.mi_value.specs.declared.value.Value.{Value}
@@ -11,14 +11,15 @@ use Rattle.mi_container.specs.Inverse.{Inverse, taken_back, settled}
 use Rattle.mi_container.specs.Fits.{Ready, KeptBy, Fits}
 use Rattle.mi_container.specs.Run.{Change, changed, inverse_of}
 use Rattle.mi_container.specs.Makes.{Makes, MakesInsert, MakesModify}
-use Rattle.mi_container.proofs.LawProofs.{change_fits, newest_is_back, oldest_is_settled}
+use Rattle.mi_container.proofs.LawProofs.{change_fits, oldest_is_settled}
 use Rattle.mi_changes.specs.Undone.{Holds}
 
 pub opened : (schema shape : Shape) (d : Data) → shape ≡ schema → d ≡ opened_data schema → Holds schema shape d []
 opened schema shape d same is = (sym same, [], ap (λ (x : Data). x.kept) is)
 
 -- nothing changed
-pub stays : (schema shape shape' : Shape) (d d' : Data) (is : List Inverse) → shape' ≡ shape → d' ≡ d → Holds schema shape d is → Holds schema shape' d' is
+pub stays : (schema shape shape' : Shape) (d d' : Data) (is : List Inverse) → shape' ≡ shape → d' ≡ d
+    → Holds schema shape d is → Holds schema shape' d' is
 stays schema shape shape' d d' is same was holds =
     subst (λ s. Holds schema s d' is) (sym same) (subst (λ x. Holds schema shape x is) (sym was) holds)
 
@@ -51,7 +52,8 @@ newest_fits : (shape : Shape) (i : Inverse) (is : List Inverse) (ts : List Table
 newest_fits shape i is [] d fits = absurd fits
 newest_fits shape i is (t ∷ ts) d fits = (fits.0, fits.1, ts, fits.3)
 
-turned : (schema shape : Shape) (d : Data) (i : Inverse) (is : List Inverse) → (holds : Holds schema shape d (is ++ i ∷ [])) → Fits shape (i ∷ reverse is) holds.1 d
+turned : (schema shape : Shape) (d : Data) (i : Inverse) (is : List Inverse)
+    → (holds : Holds schema shape d (is ++ i ∷ [])) → Fits shape (i ∷ reverse is) holds.1 d
 turned schema shape d i is holds = subst (λ js. Fits shape js holds.1 d) (reverse-append is (i ∷ [])) holds.2
 
 pub newest_ready : (schema shape : Shape) (d : Data) (i : Inverse) (is : List Inverse) → Holds schema shape d (is ++ i ∷ []) → Ready i d

@@ -1,5 +1,5 @@
 -- the oldest inverse is settled
-use Rattle.std.proofs.Common.{◌∙◌, ap, subst, List, ◌∷◌, ◌++◌}
+use Rattle.std.proofs.Common.{◌∙◌, ap, subst, List, ◌++◌}
 use Rattle.std.specs.declared.option.Option.{Option}
 use Rattle.std.specs.Option.{option_to_list}
 use Rattle.mi_container.specs.Inverse.{Inverse}
@@ -13,8 +13,9 @@ settle-requires g c =
     let rest = c.pop_front.new.self.items in
     let parts = c.pop_front.ensures.items ∙ ap (λ (o : Option Inverse). option_to_list o ++ rest) c.in-Some.is in
     let shape = g.C.Container.shape was.rows in
-    let data = g.C.Container.plain was.rows in
-    oldest_kept was.schema shape data c.in-Some.inverse rest c.keeps_rules.ensures (subst (λ (is : List Inverse). Holds was.schema shape data is) parts c.requires)
+    let plain = g.C.Container.plain was.rows in
+    oldest_kept was.schema shape plain c.in-Some.inverse rest c.keeps_rules.ensures
+    (subst (λ (is : List Inverse). Holds was.schema shape plain is) parts c.requires)
 
 pub returns-in-Some : goal.returns-in-Some
 returns-in-Some g c =
@@ -22,6 +23,6 @@ returns-in-Some g c =
     let rest = c.pop_front.new.self.items in
     let parts = c.pop_front.ensures.items ∙ ap (λ (o : Option Inverse). option_to_list o ++ rest) c.in-Some.is in
     let shape = g.C.Container.shape was.rows in
-    let data = g.C.Container.plain was.rows in
-    oldest_settled was.schema shape (g.C.Container.shape c.settle.new.self) data (g.C.Container.plain c.settle.new.self) c.in-Some.inverse rest
-    c.keeps_rules.ensures c.settle.ensures.shape c.settle.ensures.plain (subst (λ (is : List Inverse). Holds was.schema shape data is) parts c.requires)
+    let plain = g.C.Container.plain was.rows in
+    oldest_settled was.schema shape (g.C.Container.shape c.settle.new.self) plain (g.C.Container.plain c.settle.new.self) c.in-Some.inverse rest
+    c.keeps_rules.ensures c.settle.ensures.shape c.settle.ensures.plain (subst (λ (is : List Inverse). Holds was.schema shape plain is) parts c.requires)
