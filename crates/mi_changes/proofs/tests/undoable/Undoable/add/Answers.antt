@@ -13,8 +13,8 @@ returns-in-Some g c =
     let more : c.push_back_reserved.new.self.items ≡ was.inverses.items ++ c.in-Ok.inverse ∷ [] =
     c.push_back_reserved.ensures.items ∙ ap (λ (is : List Inverse). is ++ c.in-Ok.inverse ∷ []) c.reserve.ensures.items in
     subst (λ (is : List Inverse). Holds was.schema (shape c.modify.new.self) (plain c.modify.new.self) is) (sym {A = List Inverse} more)
-    (makes_modify was.schema (shape was.rows) (shape c.modify.new.self) (lost_to c.in-Ok.inverse) c.args.id (plain was.rows) (plain c.modify.new.self) c.in-Ok.inverse
-    was.inverses.items c.keeps_rules.ensures c.modify.ensures.shape c.in-Ok.ensures.made c.requires)
+    (makes_modify was.schema (shape was.rows) (shape c.modify.new.self) (lost_to c.in-Ok.inverse) c.args.id (plain was.rows)
+    (plain c.modify.new.self) c.in-Ok.inverse was.inverses.items c.keeps_rules.ensures c.modify.ensures.shape c.in-Ok.ensures.made c.requires)
 
 pub returns-in-Ok : goal.returns-in-Ok
 returns-in-Ok g c =
@@ -24,5 +24,5 @@ returns-in-Ok g c =
     let more : c.push_back_reserved.new.self.items ≡ was.inverses.items ++ c.in-Ok.inverse ∷ [] =
     c.push_back_reserved.ensures.items ∙ ap (λ (is : List Inverse). is ++ c.in-Ok.inverse ∷ []) c.reserve.ensures.items in
     subst (λ (is : List Inverse). Holds was.schema (shape c.modify.new.self) (plain c.modify.new.self) is) (sym {A = List Inverse} more)
-    (makes_modify was.schema (shape was.rows) (shape c.modify.new.self) (lost_to c.in-Ok.inverse) c.args.id (plain was.rows) (plain c.modify.new.self) c.in-Ok.inverse
-    was.inverses.items c.keeps_rules.ensures c.modify.ensures.shape c.in-Ok.ensures.made c.requires)
+    (makes_modify was.schema (shape was.rows) (shape c.modify.new.self) (lost_to c.in-Ok.inverse) c.args.id (plain was.rows)
+    (plain c.modify.new.self) c.in-Ok.inverse was.inverses.items c.keeps_rules.ensures c.modify.ensures.shape c.in-Ok.ensures.made c.requires)
