@@ -38,18 +38,19 @@ pub set_to_null : (name : List ℕ) (es : List (String Global × Json)) (w : Jso
 set_to_null name [] w is = refl
 set_to_null name (e ∷ es) w is =
     by_test _ (is_eq-slice_cmp name (string_bytes e.0))
-    ∙ ap (λ d. cond (bytes_eq name (string_bytes e.0)) (member (string_bytes e.0) d (members_view es)) (member (string_bytes e.0) (view e.1) (members_view rest))) is
-    ∙ ap (λ ms. cond (bytes_eq name (string_bytes e.0)) (member (string_bytes e.0) null (members_view es)) (member (string_bytes e.0) (view e.1) ms))
-    (set_to_null name es w is)
+    ∙ ap (λ d. cond (bytes_eq name key) (member key d (members_view es)) (member key (view e.1) (members_view rest))) is
+    ∙ ap (λ ms. cond (bytes_eq name key) (member key null (members_view es)) (member key (view e.1) ms)) (set_to_null name es w is)
   where
+    key : List ℕ
+    key = string_bytes e.0
+
     rest : List (String Global × Json)
     rest = set_value (is_at (λ k. slice_cmp nat_cmp name (string_bytes k))) es w
 
-    by_test : (t : Bool) → t ≡ bytes_eq name (string_bytes e.0)
-        → members_view (cond t ((e.0, w) ∷ es) (e ∷ rest))
-        ≡ cond (bytes_eq name (string_bytes e.0)) (member (string_bytes e.0) (view w) (members_view es)) (member (string_bytes e.0) (view e.1) (members_view rest))
-    by_test true same = ap (λ t. cond t (member (string_bytes e.0) (view w) (members_view es)) (member (string_bytes e.0) (view e.1) (members_view rest))) same
-    by_test false same = ap (λ t. cond t (member (string_bytes e.0) (view w) (members_view es)) (member (string_bytes e.0) (view e.1) (members_view rest))) same
+    by_test : (t : Bool) → t ≡ bytes_eq name (string_bytes e.0) → members_view (cond t ((e.0, w) ∷ es) (e ∷ rest))
+        ≡ cond (bytes_eq name key) (member key (view w) (members_view es)) (member key (view e.1) (members_view rest))
+    by_test true same = ap (λ t. cond t (member key (view w) (members_view es)) (member key (view e.1) (members_view rest))) same
+    by_test false same = ap (λ t. cond t (member key (view w) (members_view es)) (member key (view e.1) (members_view rest))) same
 
 absent_at : (o : Ordering) (name n : List ℕ) (d : Data) (ms : Members) → slice_cmp nat_cmp name n ≡ o
     → None ≡ match_ordering o (get_member name ms) (Some d) (get_member name ms) → (None ≡ get_member name ms → ms ≡ emptied name ms)
