@@ -122,3 +122,20 @@ fn look_ups_make_few_calls(rt: HostRuntime) {
         }
     }
 }
+
+/// Of 1023 nodes in order the left edge of their tree stays: ten nodes, which are low again.
+#[test]
+fn a_tree_gets_lower(rt: HostRuntime) {
+    let calls = Cell::new(0);
+    let mut stock = Stock::new(rt.alloc(), &calls, false);
+    for key in 0..1023 {
+        assert!(rt; stock.add(key, key));
+    }
+    for top in [511u32, 255, 127, 63, 31, 15, 7, 3, 1] {
+        for _ in 0..top {
+            assert!(rt; stock.pull(top.wrapping_add(1)));
+        }
+    }
+    assert_eq!(rt; stock.len(), 10);
+    look_up_all(&rt, &stock, &calls, 9);
+}
