@@ -32,17 +32,17 @@ returns-in-Ok-clause-noted g c =
 
 pub returns-in-Err-clause-turn : goal.returns-in-Err-clause-turn
 returns-in-Err-clause-turn g c =
-    let made = c.take_turn-in-Err.ensures.turn in
+    let made = c.take_turn.ensures.turn in
     (made.0, made.1, made.2, made.4, made.6)
 
 pub returns-in-Err-clause-failed : goal.returns-in-Err-clause-failed
 returns-in-Err-clause-failed g c =
-    let fault = c.take_turn-in-Err.ensures.read.1 refl in
-    on_err_of _ _ (ap has_failed (c.take_turn-in-Err.ensures.unread fault) ∙ c.in-Err.ensures.failed)
+    let fault = c.take_turn.ensures.read.1 refl in
+    on_err_of _ _ (ap has_failed (c.take_turn.ensures.unread fault) ∙ c.in-Err.ensures.failed)
 
 pub returns-in-Err-clause-sound : goal.returns-in-Err-clause-sound
 returns-in-Err-clause-sound g c =
-    subst (λ (r : Result Bool ServeFault). OnOk r (has_failed c.take_turn-in-Err.new.writer ≡ false)) (sym (c.take_turn-in-Err.ensures.read.1 refl)) tt
+    subst (λ (r : Result Bool ServeFault). OnOk r (has_failed c.take_turn.new.writer ≡ false)) (sym (c.take_turn.ensures.read.1 refl)) tt
 
 pub returns-in-Err-clause-noted : goal.returns-in-Err-clause-noted
-returns-in-Err-clause-noted g c = c.in-Err.ensures.noted ∙ sym (ap (λ r. noted r c.args.errors.now) (c.take_turn-in-Err.ensures.read.1 refl))
+returns-in-Err-clause-noted g c = c.in-Err.ensures.noted ∙ sym (ap (λ r. noted r c.args.errors.now) (c.take_turn.ensures.read.1 refl))
