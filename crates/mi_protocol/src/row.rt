@@ -63,7 +63,7 @@ fn take_values(alloc: Global, row: Object, columns: &[Column]) -> Result<Record,
     ensures { IsAnswer result (ok_or (values_of columns.now row) Refusal.Row) }
 {
     let mut left = row;
-    let mut values = Vec::new(alloc);
+    let mut values = Vec::with_capacity(alloc, columns.len())?;
     'columns: for column in columns {
         let Some(member) = left.move_out(column.name.as_str()) else {
             return Err(Refusal::Row);

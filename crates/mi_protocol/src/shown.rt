@@ -150,8 +150,12 @@ fn write_rows(
         ≡ writer.old.tokens ++ json_tokens (outline (array (rows_items columns.now (map (λ r. (r.0, r.1.now)) rows.now))))) }
     ensures before { OnOk result (writer.new.before ≡ writer.old.before) }
 {
-    let order = row_order(alloc, columns)?;
     writer.begin_array()?;
+    if rows.is_empty() {
+        writer.end_array()?;
+        return Ok(());
+    }
+    let order = row_order(alloc, columns)?;
     'rows: for row in rows {
         let (id, row) = *row;
         write_row(alloc, writer, id, row, columns, &order)?;

@@ -9,5 +9,5 @@ in_front_none (Some vs) = refl
 
 pub columns-init : goal.columns-init
 columns-init c =
-    ap (λ (front : List Value). option_map (λ vs. front ++ vs) (moved c.args.columns.now c.args.row)) c.new-values.ensures.items
+    ap (λ (front : List Value). option_map (λ vs. front ++ vs) (moved c.args.columns.now c.args.row)) c.in_ok-values.ensures.items
     ∙ in_front_none (moved c.args.columns.now c.args.row) ∙ moved_all c.args.columns.now c.args.row c.requires
