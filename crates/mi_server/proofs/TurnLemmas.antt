@@ -15,7 +15,8 @@ use Rattle.mi_hub.specs.declared.fault.ServeFault.{ServeFault}
 use Rattle.mi_hub.specs.declared.fault.ServeFault.TheVariants.{Read, Turns, Accept, Memory, Write as ServeWrite}
 use Rattle.mi_hub.proofs.ConnectionLemmas.{some_with_rest}
 use Rattle.mi_hub.proofs.PieceLemmas.{unsent_piece_gone, unsent_close_gone, same_err}
-use Rattle.mi_server.specs.Turns.{fresh, with_clients, Turn, fed, ended, unread, unanswered, unended, conn_of, outcome, Made, ByTurns, row_after, fault_of, first_fault, noted, all_noted, client_ids, AllSound, AllAttached, IsNoneOf, AllDiffer, Serves}
+use Rattle.mi_hub.specs.Turn.{Turn, fed, ended, unread, unanswered, unended, conn_of, outcome, given_in, Made}
+use Rattle.mi_server.specs.Turns.{fresh, with_clients, ByTurns, row_after, fault_of, first_fault, noted, all_noted, client_ids, AllSound, AllAttached, IsNoneOf, AllDiffer, Serves}
 use Rattle.mi_server.specs.declared.listener.Client.{Client}
 
 -- ---- attached connections
@@ -391,6 +392,35 @@ early_write fault (inr m) s e h = memory_not_write (sym (same_err m) ∙ same_er
 pub on_ok : (s : Result ⊤ ServeFault) (P : Type 0) → (s ≡ Ok tt → P) → OnOk s P
 on_ok (Ok tt) P f = f refl
 on_ok (Err e) P f = tt
+
+-- ---- the fault of a turn, by what was read
+
+on_err_of_ok : (r : Result Bool ServeFault) (b : Bool) (P : Type 0) → r ≡ Ok b → OnErr r P
+on_err_of_ok (Ok x) b P is = tt
+on_err_of_ok (Err fault) b P is = absurd (err_ok fault is)
+  where
+    err_ok : (f : ServeFault) → ◌≡◌ {A = Result Bool ServeFault} (Err f) (Ok b) → ⊥
+    err_ok f e = cc
+
+pub on_err_of : (r : Result Bool ServeFault) (P : Type 0) → P → OnErr r P
+on_err_of (Ok x) P p = tt
+on_err_of (Err fault) P p = p
+
+-- where the read gave bytes or their end, only a write has failed
+pub answered_fault : (turn : Turn) (bytes : List ℕ) (r : Result Bool ServeFault) (failed : Bool) → given_in turn ≡ Some bytes → r ≡ outcome turn
+    → (r ≡ Err ServeWrite → failed ≡ true) → OnErr r ((r ≡ Err ServeWrite) × (failed ≡ true))
+answered_fault (fed conn xs) bytes r failed given is write = on_err_of_ok r true _ is
+answered_fault (ended conn) bytes r failed given is write = on_err_of_ok r false _ is
+answered_fault (unread conn) bytes r failed given is write = absurd (none_some given)
+  where
+    none_some : ◌≡◌ {A = Option (List ℕ)} None (Some bytes) → ⊥
+    none_some e = cc
+answered_fault (unanswered conn xs) bytes r failed given is write = on_err_of r _ (is, write is)
+answered_fault (unended conn) bytes r failed given is write = on_err_of r _ (is, write is)
+
+pub on_err_kept : (r : Result Bool ServeFault) (A P : Type 0) → OnErr r (A × P) → OnErr r P
+on_err_kept (Ok x) A P p = tt
+on_err_kept (Err fault) A P p = p.1
 
 -- ---- sound streams
 
