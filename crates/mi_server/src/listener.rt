@@ -167,7 +167,7 @@ fn serve_all<D: Sessions + Drop, S: Read + Write + Drop>(
     Err(ServeFault::Turns)
 }
 
-/// Accepts so many connections, and serves them by turns: what `serve_listener` does.
+/// Accepts so many connections, and serves them by turns until none is open, or up to the first fault.
 fn serve_clients<D: Sessions + Drop, L: OpenListener>(
     alloc: Global,
     hub: &mut Hub<D>,
