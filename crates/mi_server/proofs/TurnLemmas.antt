@@ -156,6 +156,11 @@ serves_come row n s t is h =
       differ = differ_range 1 n;
     }))
 
+-- turns of the clients that have come
+pub turns_of_come : (row : List ℕ) (n : ℕ) (s t new : HubState) (turns : List Turn) (left : List ℕ) → row ≡ range_with_len 1 n → t ≡ with_clients n s → ByTurns row t turns left new
+    → ByTurns (range_with_len 1 n) (with_clients n s) turns left new
+turns_of_come row n s t new turns left is come made = subst (λ u. ByTurns (range_with_len 1 n) u turns left new) come (subst (λ xs. ByTurns xs t turns left new) is made)
+
 -- ---- turns
 
 -- the first of the row is gone
@@ -339,6 +344,24 @@ read_turns e = cc
 pub write_turns : ◌≡◌ {A = Result ⊤ ServeFault} (Err ServeWrite) (Err Turns) → ⊥
 write_turns e = cc
 
+pub read_accept : ◌≡◌ {A = Result ⊤ ServeFault} (Err Read) (Err Accept) → ⊥
+read_accept e = cc
+
+pub read_memory : ◌≡◌ {A = Result ⊤ ServeFault} (Err Read) (Err Memory) → ⊥
+read_memory e = cc
+
+pub write_accept : ◌≡◌ {A = Result ⊤ ServeFault} (Err ServeWrite) (Err Accept) → ⊥
+write_accept e = cc
+
+pub write_memory : ◌≡◌ {A = Result ⊤ ServeFault} (Err ServeWrite) (Err Memory) → ⊥
+write_memory e = cc
+
+pub ok_accept : ◌≡◌ {A = Result ⊤ ServeFault} (Ok tt) (Err Accept) → ⊥
+ok_accept e = cc
+
+pub ok_memory : ◌≡◌ {A = Result ⊤ ServeFault} (Ok tt) (Err Memory) → ⊥
+ok_memory e = cc
+
 pub accept_turns : ◌≡◌ {A = Result ⊤ ServeFault} (Err Accept) (Err Turns) → ⊥
 accept_turns e = cc
 
@@ -365,29 +388,6 @@ not_accept turns h = not_fault turns Accept (λ e. cc) (λ e. cc) h
 
 pub not_memory : (turns : List Turn) → first_fault turns ≡ Err Memory → ⊥
 not_memory turns h = not_fault turns Memory (λ e. cc) (λ e. cc) h
-
--- what comes before the turns is no fault of a stream
-accept_not_read : Accept ≡ Read → ⊥
-accept_not_read e = cc
-
-memory_not_read : Memory ≡ Read → ⊥
-memory_not_read e = cc
-
-accept_not_write : Accept ≡ ServeWrite → ⊥
-accept_not_write e = cc
-
-memory_not_write : Memory ≡ ServeWrite → ⊥
-memory_not_write e = cc
-
-pub early_read : {A : Type 0} (fault : ServeFault) → (◌≡◌ {A = Result A ServeFault} (Err fault) (Err Accept)) ⊎ (◌≡◌ {A = Result A ServeFault} (Err fault) (Err Memory))
-    → (s : Result ⊤ ServeFault) → s ≡ Err fault → s ≡ Err Read → ⊥
-early_read fault (inl a) s e h = accept_not_read (sym (same_err a) ∙ same_err (sym e ∙ h))
-early_read fault (inr m) s e h = memory_not_read (sym (same_err m) ∙ same_err (sym e ∙ h))
-
-pub early_write : {A : Type 0} (fault : ServeFault) → (◌≡◌ {A = Result A ServeFault} (Err fault) (Err Accept)) ⊎ (◌≡◌ {A = Result A ServeFault} (Err fault) (Err Memory))
-    → (s : Result ⊤ ServeFault) → s ≡ Err fault → s ≡ Err ServeWrite → ⊥
-early_write fault (inl a) s e h = accept_not_write (sym (same_err a) ∙ same_err (sym e ∙ h))
-early_write fault (inr m) s e h = memory_not_write (sym (same_err m) ∙ same_err (sym e ∙ h))
 
 pub on_ok : (s : Result ⊤ ServeFault) (P : Type 0) → (s ≡ Ok tt → P) → OnOk s P
 on_ok (Ok tt) P f = f refl

@@ -167,6 +167,33 @@ fn serve_all<D: Sessions + Drop, S: Read + Write + Drop>(
     Err(ServeFault::Turns)
 }
 
+/// Accepts so many connections, and serves them by turns until none is open, or up to the first fault.
+fn serve_clients<D: Sessions + Drop, L: OpenListener>(
+    alloc: Global,
+    hub: &mut Hub<D>,
+    listener: &L,
+    clients: usize,
+    errors: &mut IoErrors,
+) -> Result<(), ServeFault>
+where
+    L::Stream: Read + Write,
+    requires clients { 1 ≤ clients }
+    requires none { hub.old.attached ≡ [] }
+    ensures none { hub.new.attached ≡ [] }
+    ensures served { result ≢ Err ServeFault.Accept → result ≢ Err ServeFault.Memory → result ≢ Err ServeFault.Turns →
+        (turns : List Turn) × ByTurns (range_with_len 1 clients) (with_clients clients hub.old) turns [] hub.new × (result ≡ first_fault turns)
+        × (errors.new ≡ all_noted turns errors.old) }
+    ensures turns { result ≡ Err ServeFault.Turns → (turns : List Turn) × (left : List ℕ) × (mid : HubState)
+        × ByTurns (range_with_len 1 clients) (with_clients clients hub.old) turns left mid × (length turns ≡ MAX_READS)
+        × (errors.new ≡ all_noted turns errors.old) }
+    ensures unserved { (result ≡ Err ServeFault.Accept) ⊎ (result ≡ Err ServeFault.Memory) → errors.new ≡ errors.old }
+{
+    match accept_all(alloc, hub, listener, clients) {
+        Ok(row) => serve_all(hub, row, errors),
+        Err(fault) => Err(fault),
+    }
+}
+
 /// States that nobody holds sessions where no connection is attached. It does nothing.
 fn nobody_holds<D: Sessions + Drop>(hub: &Hub<D>)
     requires { hub.now.attached ≡ [] }
@@ -215,10 +242,7 @@ where
     ensures sound { OnOk result (errors.new ≡ errors.old) }
     ensures unserved { (result ≡ Err ServeFault.Accept) ⊎ (result ≡ Err ServeFault.Memory) → errors.new ≡ errors.old }
 {
-    let served = match accept_all(alloc, hub, listener, clients) {
-        Ok(row) => serve_all(hub, row, errors),
-        Err(fault) => Err(fault),
-    };
+    let served = serve_clients(alloc, hub, listener, clients, errors);
     nobody_holds(hub);
     served
 }
