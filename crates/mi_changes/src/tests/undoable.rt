@@ -35,11 +35,6 @@ impl<C: Container> Undoable<C> {
         })
     }
 
-    /// How many changes can be taken back.
-    pub(super) fn depth(&self) -> u64 {
-        self.inverses.len() as u64
-    }
-
     /// Whether a record fits the columns.
     pub(super) fn fits(&self, row: &Record) -> bool
         requires { Holds self.now.schema (C.shape self.now.rows) (C.plain self.now.rows) self.now.inverses.items }
