@@ -269,8 +269,8 @@ fn count_words(counts: &mut [u64; 9], reply: &str) {
     }
 }
 
-/// Both forms answer so many damaged lines alike, each with at most one line, and show the same at the end. Each fourth line or so is whole, so
-/// that there are records and sessions to speak of. Each word is among the replies.
+/// Both forms answer so many damaged lines alike, each with at most one line, and show the same at the end. Each fourth line or so
+/// is whole, so that there are records and sessions to speak of. Each word is among the replies.
 fn check_damaged(rt: &impl Abort, alloc: Global, seed: u64, steps: u64) -> Result<(), Fail> {
     let mut both: Both<Plain, Served> = Both::open(alloc)?;
     let mut random = Random::new(alloc, seed);
@@ -301,7 +301,7 @@ fn check_damaged(rt: &impl Abort, alloc: Global, seed: u64, steps: u64) -> Resul
 #[test]
 fn both_forms_answer_damaged_lines_alike(rt: HostRuntime) -> Result<(), Fail> {
     for seed in 11..16 {
-        check_damaged(&rt, rt.alloc(), seed, 20_000)?;
+        check_damaged(&rt, rt.alloc(), seed, 10_000)?;
     }
     Ok(())
 }
