@@ -4,6 +4,7 @@ pub mod ConnectionLemmas
 pub mod RunLemmas
 pub mod PieceLemmas
 pub mod WriteLemmas
+pub mod TurnLemmas
 pub mod DriveLemmas
 pub mod RestLemmas
 pub mod HolderLemmas

@@ -6,6 +6,7 @@ pub mod Connections
 pub mod Run
 pub mod Drive
 pub mod Watching
+pub mod Turn
 pub mod IoNotes
 pub mod LineLaws
 pub mod RunLaws

@@ -12,11 +12,13 @@ mod line;
 mod send;
 mod serve;
 mod stream;
+mod turn;
 mod watched;
 
 pub use events::{Event, drive};
 pub use fault::{HubFault, ServeFault};
 pub use hub::Hub;
 pub use io_errors::IoErrors;
-pub use stream::{close_flushed, feed_flushed, serve_stream};
+pub use stream::serve_stream;
+pub use turn::take_turn;
 pub use watched::Watched;

@@ -4,69 +4,19 @@ ghost use Rattle.std.specs.Io.KnownBytes.{IsAtEnd};
 ghost use Rattle.mi_value.specs.declared.limits.TheConstants.{PIECE as piece_size};
 ghost use Rattle.mi_hub.specs.Connections.{rest_at};
 ghost use Rattle.mi_hub.specs.Run.{piece, close, cut, Done, AllDone, Unsent, DoneToFault};
+ghost use Rattle.mi_hub.specs.Turn.{Turn, conn_of, outcome, given_in, Gave, Made};
 ghost use Rattle.mi_hub.specs.Watching.{watched, has_failed, Reads, Writes};
 
 use crate::fault::ServeFault;
 use crate::hub::Hub;
+use crate::turn::take_turn;
 use crate::watched::Watched;
 use mi_sessions::Sessions;
 use mi_value::limits::{MAX_READS, PIECE};
 use std::io::{Read, Write};
 
-/// Feeds a piece to a connection, and flushes the writer behind its replies, so that they are out before more is read.
-///
-/// The one fault is `Write`: a write or the flush failed, and the connection has been cut.
-pub fn feed_flushed<D: Sessions + Drop, W: Write>(
-    hub: &mut Hub<D>,
-    conn: u64,
-    bytes: &[u8],
-    writer: &mut Watched<W>,
-) -> Result<(), ServeFault>
-    requires { IsSome (rest_at conn hub.old.attached) }
-    ensures ok { OnOk result ((out : List ℕ) × Writes W.contents writer.old writer.new out × Done hub.old (piece conn bytes.now) out hub.new) }
-    ensures sound { OnOk result (has_failed writer.new ≡ has_failed writer.old) }
-    ensures write { OnErr result ((result ≡ Err ServeFault.Write)
-        × ((out : List ℕ) × Writes W.contents writer.old writer.new out × Unsent hub.old (piece conn bytes.now) out hub.new)
-        × (has_failed writer.new ≡ true)) }
-{
-    match hub.feed(conn, bytes, writer) {
-        Ok(()) => match writer.flush() {
-            Ok(()) => Ok(()),
-            Err(_) => {
-                let _ = hub.cut(conn);
-                Err(ServeFault::Write)
-            }
-        },
-        Err(_) => Err(ServeFault::Write),
-    }
-}
-
-/// Closes a connection at the end of its bytes, and flushes the writer behind its last reply.
-///
-/// The one fault is `Write`: a write or the flush failed; the connection is gone then too.
-pub fn close_flushed<D: Sessions + Drop, W: Write>(
-    hub: &mut Hub<D>,
-    conn: u64,
-    writer: &mut Watched<W>,
-) -> Result<(), ServeFault>
-    requires { IsSome (rest_at conn hub.old.attached) }
-    ensures ok { OnOk result ((out : List ℕ) × Writes W.contents writer.old writer.new out × Done hub.old (close conn) out hub.new) }
-    ensures sound { OnOk result (has_failed writer.new ≡ has_failed writer.old) }
-    ensures write { OnErr result ((result ≡ Err ServeFault.Write)
-        × ((out : List ℕ) × Writes W.contents writer.old writer.new out × Unsent hub.old (close conn) out hub.new)
-        × (has_failed writer.new ≡ true)) }
-{
-    match hub.close(conn, writer) {
-        Ok(()) => match writer.flush() {
-            Ok(()) => Ok(()),
-            Err(_) => Err(ServeFault::Write),
-        },
-        Err(_) => Err(ServeFault::Write),
-    }
-}
-
-/// Reads once, and feeds what was read; false at the end of the input. After a fault the connection has been cut.
-fn serve_read<D: Sessions + Drop, R: Read, W: Write>(
+/// Reads a piece of the input, and makes the turn that it gives; false at the end of the input. After a fault the connection is gone.
+fn read_turn<D: Sessions + Drop, R: Read, W: Write>(
     hub: &mut Hub<D>,
     conn: u64,
     buffer: &mut [u8],
@@ -75,25 +25,16 @@ fn serve_read<D: Sessions + Drop, R: Read, W: Write>(
 ) -> Result<bool, ServeFault>
     requires attached { IsSome (rest_at conn hub.old.attached) }
     requires room { length buffer.old ≡ piece_size }
-    ensures ok { IfOk result (λ more. (bytes : List ℕ) × (out : List ℕ)
-        × Reads R.remaining reader.old reader.new bytes × Writes W.contents writer.old writer.new out
-        × Done hub.old (piece conn bytes) out hub.new
-        × (more ≡ true → 1 ≤ length bytes) × (more ≡ false → IsAtEnd (R.remaining (watched reader.new)))) }
+    ensures turn { (turn : Turn) × (out : List ℕ) × (conn_of turn ≡ conn) × (result ≡ outcome turn)
+        × Gave R.remaining reader.old reader.new (given_in turn) × Writes W.contents writer.old writer.new out × Made hub.old turn out hub.new }
     ensures sound { OnOk result ((has_failed reader.new ≡ has_failed reader.old) × (has_failed writer.new ≡ has_failed writer.old)) }
-    ensures read { result ≡ Err ServeFault.Read →
-        Reads R.remaining reader.old reader.new [] × Writes W.contents writer.old writer.new []
-        × Done hub.old (cut conn) [] hub.new × (has_failed reader.new ≡ true) }
-    ensures write { result ≡ Err ServeFault.Write → (bytes : List ℕ) × (out : List ℕ)
-        × (length bytes ≤ piece_size) × Reads R.remaining reader.old reader.new bytes × Writes W.contents writer.old writer.new out
-        × Unsent hub.old (piece conn bytes) out hub.new × (has_failed writer.new ≡ true) × (has_failed reader.new ≡ has_failed reader.old) }
+    ensures write { result ≡ Err ServeFault.Write → (has_failed writer.new ≡ true) × (has_failed reader.new ≡ has_failed reader.old) }
     ensures no_other { OnErr result ((result ≡ Err ServeFault.Read) ⊎ (result ≡ Err ServeFault.Write)) }
 {
-    let Ok(n) = reader.read(buffer) else {
-        let _ = hub.cut(conn);
-        return Err(ServeFault::Read);
-    };
-    feed_flushed(hub, conn, &buffer[..n], writer)?;
-    Ok(n > 0)
+    match reader.read(buffer) {
+        Ok(n) => take_turn(hub, conn, Some(&buffer[..n]), writer),
+        Err(_) => take_turn(hub, conn, None, writer),
+    }
 }
 
 /// Serves an input to its end, as the bytes of this connection, and then closes it. Each reply is written before the next line
@@ -148,10 +89,10 @@ pub fn serve_stream<D: Sessions + Drop, R: Read, W: Write>(
     hub.keeps_limit(conn);
     let mut buffer = [0u8; PIECE];
     'reads: for _turn in 0..MAX_READS {
-        if serve_read(hub, conn, &mut buffer, reader, writer)? {
+        if read_turn(hub, conn, &mut buffer, reader, writer)? {
             continue 'reads;
         }
-        return close_flushed(hub, conn, writer);
+        return Ok(());
     }
     let _ = hub.cut(conn);
     Err(ServeFault::Turns)

@@ -67,7 +67,7 @@ climb_on order m n s (r ∷ rs) all h = (above_on order m n s r rs all.0 all.1 h
 
 pub stands_alike : (x : Structure) (m n : Pooled Stored) (rs : List Ref) → n.slots ≡ m.slots → AreAlike (order_of x) m n (slot_in x) rs → Stands x m rs → Stands x n rs
 stands_alike (Ordered t) m n rs slots y h =
-    tree_where (stored_order t.order.parts) (stored_tag t.order.column t.order.parts) (stored_total t.order.parts) (is_tagged t.order.column t.order.parts).tag_below t m n rs h y (subst (λ k. t.slot < k) (sym slots) h.has_slot)
+    tree_where (stored_order t.order.parts) (stored_tag t.order.types t.order.parts) (stored_total t.order.parts) (is_tagged t.order.types t.order.parts).tag_below t m n rs h y (subst (λ k. t.slot < k) (sym slots) h.has_slot)
 stands_alike (Hashed c) m n rs slots y h =
     (chained_elsewhere c (keying_of c.keys) (keyings_are_lawful c.keys) m n rs slots (all_same c.keys m n c.slot rs h.0.buckets.held y) h.0, climb_on (order_of (Hashed c)) m n c.slot rs y h.1)
 stands_alike (Sequenced l) m n rs slots y h = listed_same l m n rs slots (alike_links (Sequenced l) m n (slot_of l) rs y) h

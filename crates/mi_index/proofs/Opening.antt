@@ -37,7 +37,7 @@ pub few_indexes : (s : Shape) → is_schema s ≡ true → length s.indexes ≤ 
 few_indexes s h = few_of (length s.columns) s.indexes (and_parts _ _ (and_parts _ _ h).0).1
 
 stands_empty : (cs : List Column) (i : Index) (s : ℕ) (x : Structure) (m : Pooled Stored) → IsFor cs i s x → IsEmpty x → s < m.slots → (slot_in x ≡ s) × Stands x m []
-stands_empty cs i s (Ordered t) m f e l = (f.3, tree_empty t m (stored_order t.order.parts) (stored_tag t.order.column t.order.parts) e (subst (λ k. k < m.slots) (sym f.3) l))
+stands_empty cs i s (Ordered t) m f e l = (f.3, tree_empty t m (stored_order t.order.parts) (stored_tag t.order.types t.order.parts) e (subst (λ k. k < m.slots) (sym f.3) l))
 stands_empty cs i s (Hashed c) m f e l = (f.2, (new_chains c c.slot c.keys (keying_of c.keys) m e (subst (λ k. k < m.slots) (sym f.2) l), tt))
 stands_empty cs i s (Sequenced q) m f e l = (f.1, listed_new q (slot_of q) m e (subst (λ k. k < m.slots) (sym f.1) l))
 

@@ -15,6 +15,7 @@ use Rattle.mi_list.specs.Listed.{slot_of, IsNew}
 use Rattle.mi_chain.specs.Chained.{AreNew}
 use Rattle.mi_index.specs.Pass.{AllStand}
 use Rattle.mi_index.specs.declared.stored.Stored.{Stored}
+use Rattle.mi_index.specs.declared.leads.LeadTypes.{LeadTypes}
 use Rattle.mi_index.specs.declared.structure.Structure.{Structure}
 use Rattle.mi_index.specs.declared.structure.Structure.TheVariants.{Ordered, Hashed, Sequenced}
 
@@ -23,14 +24,18 @@ abbrev pub type_at : Option Column → ColumnType
 type_at None = Int
 type_at (Some c) = c.kind
 
--- the type of the column of the first part; the id is a number
-abbrev pub first_type : List Column → List KeyPart → ColumnType
-first_type columns [] = Int
-first_type columns (p ∷ ps) = type_at (slice_get columns p.column)
+-- the type of the column of a part; one that isn't there counts as a number's, as the id is
+abbrev pub type_of : List Column → Option KeyPart → ColumnType
+type_of columns None = Int
+type_of columns (Some p) = type_at (slice_get columns p.column)
+
+-- those of the first two parts
+abbrev pub lead_types : List Column → List KeyPart → LeadTypes
+lead_types columns ps = record { first = type_of columns (slice_get ps 0); second = type_of columns (slice_get ps 1) }
 
 -- a structure of the kind, the key and the slot of an index
 abbrev pub IsFor : List Column → Index → ℕ → Structure → Type 0
-IsFor columns i s (Ordered t) = ((i.kind ≡ kinds.Ordered) ⊎ (i.kind ≡ kinds.Ranked)) × (t.order.parts ≡ i.parts) × (t.order.column ≡ first_type columns i.parts) × (t.slot ≡ s)
+IsFor columns i s (Ordered t) = ((i.kind ≡ kinds.Ordered) ⊎ (i.kind ≡ kinds.Ranked)) × (t.order.parts ≡ i.parts) × (t.order.types ≡ lead_types columns i.parts) × (t.slot ≡ s)
 IsFor columns i s (Hashed c) = (i.kind ≡ kinds.Hashed) × (c.keys.parts ≡ i.parts) × (c.slot ≡ s)
 IsFor columns i s (Sequenced l) = (i.kind ≡ kinds.Sequenced) × (slot_of l ≡ s)
 

@@ -45,7 +45,7 @@ Climb f (r ∷ rs) = AllAbove f (f r) rs × Climb f rs
 
 -- the list of a hashed index is that of all its nodes by their stamps, so each key has its nodes in the order of it
 abbrev pub Stands : Structure → Pooled Stored → List Ref → Type 0
-Stands (Ordered t) m rs = IsTree t m (stored_order t.order.parts) (stored_tag t.order.column t.order.parts) rs
+Stands (Ordered t) m rs = IsTree t m (stored_order t.order.parts) (stored_tag t.order.types t.order.parts) rs
 Stands (Hashed c) m rs = AreChained c (keying_of c.keys) m rs × Climb (stamp_at m c.slot) rs
 Stands (Sequenced l) m rs = IsListed l m rs
 

@@ -97,7 +97,7 @@ text_high bs = let l : lead 8 bs < worth 8 = lead_within 8 bs in omega arith
 
 -- Values
 
-value_high : (c : ColumnType) (x : Option Value) → value_tag c x ≤ high
+pub value_high : (c : ColumnType) (x : Option Value) → value_tag c x ≤ high
 value_high column.Int None = omega arith
 value_high column.Text None = omega arith
 value_high column.Flag None = omega arith
@@ -192,14 +192,14 @@ value_same column.Flag (Some a) (Some b) exact same = ap Some (flags_equal a b e
 
 -- Turned round where a part descends
 
-turned_below : (descending : Bool) (c : ColumnType) (x y : Option Value) → directed_tag descending (value_tag c x) < directed_tag descending (value_tag c y) → directed descending (compare_missing x y) ≡ Less
+pub turned_below : (descending : Bool) (c : ColumnType) (x y : Option Value) → directed_tag descending (value_tag c x) < directed_tag descending (value_tag c y) → directed descending (compare_missing x y) ≡ Less
 turned_below false c x y l = value_below c x y l
 turned_below true c x y l =
     let o : IsTotalOrder compare_missing = directed_total false in
     let less : compare_missing y x ≡ Less = value_below c y x (omega arith) in
     ap ordering_reverse (o.antisymm x y ∙ ap ordering_reverse less)
 
-turned_above : (descending : Bool) (c : ColumnType) (x y : Option Value) → directed_tag descending (value_tag c y) < directed_tag descending (value_tag c x) → directed descending (compare_missing x y) ≡ Greater
+pub turned_above : (descending : Bool) (c : ColumnType) (x y : Option Value) → directed_tag descending (value_tag c y) < directed_tag descending (value_tag c x) → directed descending (compare_missing x y) ≡ Greater
 turned_above descending c x y l =
     let o : IsTotalOrder (λ a b. directed descending (compare_missing a b)) = directed_total descending in
     o.antisymm x y ∙ ap ordering_reverse (turned_below descending c y x l)
@@ -213,7 +213,7 @@ self_equal Less h = absurd (cc)
 self_equal Equal h = refl
 self_equal Greater h = absurd (cc)
 
-turned_same : (descending : Bool) (c : ColumnType) (x y : Option Value) → is_exact_value c (directed_tag descending (directed_tag descending (value_tag c x))) ≡ true
+pub turned_same : (descending : Bool) (c : ColumnType) (x y : Option Value) → is_exact_value c (directed_tag descending (directed_tag descending (value_tag c x))) ≡ true
     → directed_tag descending (value_tag c x) ≡ directed_tag descending (value_tag c y) → directed descending (compare_missing x y) ≡ Equal
 turned_same descending c x y exact same =
     let back : directed_tag descending (directed_tag descending (value_tag c x)) ≡ value_tag c x = twice descending (value_tag c x) (value_high c x) in

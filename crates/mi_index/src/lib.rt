@@ -6,6 +6,7 @@
 pub mod all;
 mod key;
 pub mod laws;
+pub mod leads;
 mod look;
 mod mixing;
 mod moves;

@@ -3,20 +3,20 @@
 ghost use Rattle.std.specs.Prelude.{◌≡◌};
 
 use crate::key::{compare_rows, compare_to_row, id_sought, is_whole_key};
+use crate::leads::{LeadTypes, is_exact_lead, lead_probe, lead_tag};
 use crate::mixing::mixed;
 use crate::stored::Stored;
-use crate::tags::{is_exact, part_tag, probe_tag};
 use mi_catalog::Parts;
 use mi_chain::KeyHash;
 use mi_tree::NodeOrder;
-use mi_value::{ColumnType, Probe, Steps, Value, compare_key, hash_values, same_key};
+use mi_value::{Probe, Steps, Value, compare_key, hash_values, same_key};
 use std::cmp::Ordering;
 
-/// The order of an ordered or ranked index, and its tags: `column` is the type of the first part's column.
+/// The order of an ordered or ranked index, and its tags: `types` are those of the first parts' columns.
 #[derive(Debug, Drop)]
 pub struct ByKey {
     pub parts: Parts,
-    pub column: ColumnType,
+    pub types: LeadTypes,
 }
 
 impl ByKey {
@@ -24,7 +24,7 @@ impl ByKey {
 
     /// The tag of a key, if it has one.
     fn key_tag(&self, key: &[Value]) -> Option<u64>
-        ensures { result ≡ key_tag self.now.column self.now.parts key.now }
+        ensures { result ≡ key_tag self.now.types self.now.parts key.now }
     {
         match (self.parts.as_slice(), key) {
             (_, []) => None,
@@ -32,7 +32,7 @@ impl ByKey {
             ([], [_, _, ..]) => None,
             ([part, rest @ ..], [value, more @ ..]) => {
                 if more.len() <= rest.len() {
-                    Some(probe_tag(self.column, part, value))
+                    lead_probe(&self.types, part, rest, value, more)
                 } else {
                     None
                 }
@@ -49,11 +49,11 @@ impl NodeOrder<Stored> for ByKey {
 
     ghost place = { λ o v k. place_in o.parts v k };
 
-    ghost tag_of = { λ o. stored_tag o.column o.parts };
+    ghost tag_of = { λ o. stored_tag o.types o.parts };
 
-    ghost probe_tag_of = { λ o k. sought_tag o.column o.parts k };
+    ghost probe_tag_of = { λ o k. sought_tag o.types o.parts k };
 
-    ghost is_exact = { λ o t. is_decided o.column o.parts t };
+    ghost is_exact = { λ o t. is_decided o.types o.parts t };
 
     fn compare(&self, left: &Stored, right: &Stored, steps: &mut Steps) -> Ordering {
         steps.tick();
@@ -79,7 +79,7 @@ impl NodeOrder<Stored> for ByKey {
     fn tag(&self, value: &Stored) -> u64 {
         match self.parts.as_slice() {
             [] => value.id,
-            [part, ..] => part_tag(self.column, part, &value.row),
+            [part, rest @ ..] => lead_tag(&self.types, part, rest, &value.row),
         }
     }
 
@@ -88,7 +88,7 @@ impl NodeOrder<Stored> for ByKey {
             Probe::Key(key) => self.key_tag(key),
             Probe::Of(record) => match self.parts.as_slice() {
                 [] => None,
-                [part, ..] => Some(part_tag(self.column, part, record)),
+                [part, rest @ ..] => Some(lead_tag(&self.types, part, rest, record)),
             },
         }
     }
@@ -96,24 +96,23 @@ impl NodeOrder<Stored> for ByKey {
     fn decides(&self, tag: u64) -> bool {
         match self.parts.as_slice() {
             [] => true,
-            [part] => is_exact(self.column, part, tag),
-            [_, _, ..] => false,
+            [part, rest @ ..] => is_exact_lead(&self.types, part, rest, tag),
         }
     }
 
-    ghost total = { λ o. (is_tagged o.column o.parts).total };
+    ghost total = { λ o. (is_tagged o.types o.parts).total };
 
     ghost monotone = { λ o k. place_later o.parts k };
 
-    ghost tag_below = { λ o. (is_tagged o.column o.parts).tag_below };
+    ghost tag_below = { λ o. (is_tagged o.types o.parts).tag_below };
 
-    ghost exact = { λ o. (is_tagged o.column o.parts).exact };
+    ghost exact = { λ o. (is_tagged o.types o.parts).exact };
 
-    ghost probe_below = { λ o k. (is_sought o.column o.parts k).below };
+    ghost probe_below = { λ o k. (is_sought o.types o.parts k).below };
 
-    ghost probe_above = { λ o k. (is_sought o.column o.parts k).above };
+    ghost probe_above = { λ o k. (is_sought o.types o.parts k).above };
 
-    ghost probe_exact = { λ o k. (is_sought o.column o.parts k).exact };
+    ghost probe_exact = { λ o k. (is_sought o.types o.parts k).exact };
 }
 
 /// The keys of a hashed index. Strangers choose keys, and can find many whose hashes end alike: so a secret is mixed into the

@@ -2,6 +2,7 @@
 //! It links nodes through its own slot, and never reads another; what it knows of values are their keys.
 ghost use Rattle.std.specs.Prelude.{◌≡◌, ℕ, ◌+◌, ◌<◌, ◌≤◌, ◌^◌, ◌⊎◌, List as Seq, ◌∷◌, ◌++◌, [], Some, None, length, IfOk, IfErr, IsOk, false, true};
 ghost use Rattle.std.specs.List.{filter};
+ghost use Rattle.std.specs.Option.{option_copied};
 ghost use Rattle.mi_node.specs.Refs.{Ref, first_of, last_of};
 ghost use Rattle.mi_node.specs.Pool.{link_of};
 ghost use Rattle.mi_chain.specs.Keying.{same_nodes, has_key};
@@ -15,6 +16,7 @@ ghost use Rattle.mi_index.specs.Opened as opened;
 ghost use Rattle.mi_index.specs.Inserting as insert;
 ghost use Rattle.mi_index.specs.declared.structure.Structure.TheVariants.{Ordered, Hashed, Sequenced};
 
+use crate::leads::LeadTypes;
 use crate::moves::Place;
 use crate::orders::{ByHash, ByKey};
 use crate::stored::Stored;
@@ -48,9 +50,9 @@ impl Structure {
     {
         match index.kind {
             IndexKind::Ordered | IndexKind::Ranked => {
-                let column = first_type(columns, index.parts.as_slice());
+                let types = lead_types(columns, index.parts.as_slice());
                 let parts = Parts::new(index.parts.as_slice().to_vec(alloc)?);
-                Ok(Structure::Ordered(Tree::new(slot, ByKey { parts, column })))
+                Ok(Structure::Ordered(Tree::new(slot, ByKey { parts, types })))
             }
             IndexKind::Hashed => {
                 let parts = Parts::new(index.parts.as_slice().to_vec(alloc)?);
@@ -138,16 +140,26 @@ impl Structure {
     }
 }
 
-/// The type of the column of the first part, by which tags are made. Where there is none, that of the id.
-fn first_type(columns: &[Column], parts: &[KeyPart]) -> ColumnType
-    ensures { result ≡ opened.first_type columns.now parts.now }
+/// The type of the column of a part. One that isn't there counts as a number's.
+fn type_of(columns: &[Column], part: Option<&KeyPart>) -> ColumnType
+    ensures { result ≡ opened.type_of columns.now (option_copied part.entry) }
 {
-    match parts {
-        [] => ColumnType::Int,
-        [part, ..] => match columns.get(part.column) {
+    match part {
+        None => ColumnType::Int,
+        Some(part) => match columns.get(part.column) {
             Some(column) => column.kind,
             None => ColumnType::Int,
         },
+    }
+}
+
+/// The types of the columns of the first two parts, by which tags are made.
+fn lead_types(columns: &[Column], parts: &[KeyPart]) -> LeadTypes
+    ensures { result ≡ opened.lead_types columns.now parts.now }
+{
+    LeadTypes {
+        first: type_of(columns, parts.first()),
+        second: type_of(columns, parts.get(1)),
     }
 }
 

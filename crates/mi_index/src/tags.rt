@@ -44,7 +44,7 @@ fn text_tag(text: &str) -> u64
 }
 
 /// The tag of a value in a column of that type. One of another type is below or above all of the column.
-fn value_tag(column: ColumnType, value: &Value) -> u64
+pub(crate) fn value_tag(column: ColumnType, value: &Value) -> u64
     ensures { result ≡ tags.value_tag column (Some value.now) }
 {
     match (column, value) {
@@ -60,7 +60,7 @@ fn value_tag(column: ColumnType, value: &Value) -> u64
 }
 
 /// A descending part turns its tags round.
-fn directed_tag(descending: bool, tag: u64) -> u64
+pub(crate) fn directed_tag(descending: bool, tag: u64) -> u64
     ensures { result ≡ tags.directed_tag descending tag }
 {
     if descending { u64::MAX - tag } else { tag }

@@ -8,16 +8,16 @@ use Rattle.serde_json.specs.Find.{get_member}
 use Rattle.mi_value.specs.declared.value.Value.{Value}
 use Rattle.mi_catalog.specs.declared.index.Column.{Column}
 use Rattle.mi_catalog.specs.Rules.{are_distinct}
-use Rattle.mi_request.proofs.ObjectLemmas.{get_member-without}
-use Rattle.mi_request.specs.Json.{without, option_map₂}
+use Rattle.mi_request.proofs.ObjectLemmas.{get_member-emptied}
+use Rattle.mi_request.specs.Json.{emptied, option_map₂}
 use Rattle.mi_protocol.specs.Rows.{fitting, values_of}
 
 -- ---- from an object to a record
 
--- the value of each column, whose member is taken out
-abbrev pub taken : List Column → Members → Option (List Value)
-taken [] ms = Some []
-taken (c ∷ cs) ms = option_map₂ (λ v vs. v ∷ vs) (option_and_then (fitting c.kind) (get_member c.name ms)) (taken cs (without c.name ms))
+-- the value of each column, whose member is moved out
+abbrev pub moved : List Column → Members → Option (List Value)
+moved [] ms = Some []
+moved (c ∷ cs) ms = option_map₂ (λ v vs. v ∷ vs) (option_and_then (fitting c.kind) (get_member c.name ms)) (moved cs (emptied c.name ms))
 
 pub not_or : (a b : Bool) → not (a || b) ≡ true → (a ≡ false) × (not b ≡ true)
 not_or true b h = absurd (true≢false (sym h))
@@ -34,16 +34,16 @@ bytes_eq-sym a b h = by_test (bytes_eq b a) refl
     by_test true is = absurd (true≢false (sym ((bytes_eq-Decides a b).1 (sym ((bytes_eq-Decides b a).0 is))) ∙ h))
     by_test false is = refl
 
--- other columns' values stay where a member is taken out
-values_of-without : (n : List ℕ) (cs : List Column) (ms : Members) → not (list_any (λ m. bytes_eq n m) (map (λ c. c.name) cs)) ≡ true → values_of cs (without n ms) ≡ values_of cs ms
-values_of-without n [] ms h = refl
-values_of-without n (c ∷ cs) ms h =
+-- other columns' values stay where a member is moved out
+values_of-emptied : (n : List ℕ) (cs : List Column) (ms : Members) → not (list_any (λ m. bytes_eq n m) (map (λ c. c.name) cs)) ≡ true → values_of cs (emptied n ms) ≡ values_of cs ms
+values_of-emptied n [] ms h = refl
+values_of-emptied n (c ∷ cs) ms h =
     let p = not_or (bytes_eq n c.name) _ h in
-    λ i. option_map₂ (λ v vs. v ∷ vs) (option_and_then (fitting c.kind) (get_member-without c.name n ms (bytes_eq-sym n c.name p.0) i)) (values_of-without n cs ms p.1 i)
+    λ i. option_map₂ (λ v vs. v ∷ vs) (option_and_then (fitting c.kind) (get_member-emptied c.name n ms (bytes_eq-sym n c.name p.0) i)) (values_of-emptied n cs ms p.1 i)
 
 -- of columns with names of their own
-pub taken_all : (cs : List Column) (ms : Members) → are_distinct (map (λ c. c.name) cs) ≡ true → taken cs ms ≡ values_of cs ms
-taken_all [] ms h = refl
-taken_all (c ∷ cs) ms h =
+pub moved_all : (cs : List Column) (ms : Members) → are_distinct (map (λ c. c.name) cs) ≡ true → moved cs ms ≡ values_of cs ms
+moved_all [] ms h = refl
+moved_all (c ∷ cs) ms h =
     let p = and_true _ _ h in
-    ap (option_map₂ (λ v vs. v ∷ vs) (option_and_then (fitting c.kind) (get_member c.name ms))) (taken_all cs (without c.name ms) p.1 ∙ values_of-without c.name cs ms p.0)
+    ap (option_map₂ (λ v vs. v ∷ vs) (option_and_then (fitting c.kind) (get_member c.name ms))) (moved_all cs (emptied c.name ms) p.1 ∙ values_of-emptied c.name cs ms p.0)

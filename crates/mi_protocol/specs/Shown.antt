@@ -1,15 +1,21 @@
--- The members of a row that are lent to the writer, as JSON.
-use Rattle.std.specs.Prelude.{ℕ, List, [], ◌∷◌}
+-- The members of rows in the order in which they are shown, each with the place where it stands.
+use Rattle.std.specs.Prelude.{ℕ, List, [], ◌∷◌, drop}
 use Rattle.std.specs.Borrow.{Bor}
-use Rattle.serde_json.specs.Data.{Data, number, unsigned, Members, no_members, member}
+use Rattle.serde_json.specs.Data.{Data, null, number, unsigned, Members, no_members, member}
+use Rattle.mi_value.specs.declared.value.Value.{Value}
 use Rattle.mi_protocol.specs.Rows.{value_data}
-use Rattle.mi_protocol.specs.declared.shown.Shown.{Shown}
-use Rattle.mi_protocol.specs.declared.shown.Shown.TheVariants.{Id, Value}
+use Rattle.mi_protocol.specs.declared.shown.Source.{Source}
+use Rattle.mi_protocol.specs.declared.shown.Source.TheVariants.{Id, Column}
 
-abbrev pub shown_data : Shown → Data
-shown_data (Id id) = number (unsigned id)
-shown_data (Value v) = value_data v.now
+abbrev pub first_data : List Value → Data
+first_data [] = null
+first_data (v ∷ vs) = value_data v
 
-abbrev pub shown_members : List (Bor (List ℕ) × Shown) → Members
-shown_members [] = no_members
-shown_members (e ∷ es) = member e.0.now (shown_data e.1) (shown_members es)
+-- what stands at a place of the row with this id and these values
+abbrev pub source_data : ℕ → List Value → Source → Data
+source_data id vs Id = number (unsigned id)
+source_data id vs (Column i) = first_data (drop i vs)
+
+abbrev pub shown_members : ℕ → List Value → List (Bor (List ℕ) × Source) → Members
+shown_members id vs [] = no_members
+shown_members id vs (e ∷ es) = member e.0.now (source_data id vs e.1) (shown_members id vs es)

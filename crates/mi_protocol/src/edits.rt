@@ -71,7 +71,7 @@ fn edit_of(i: usize, kind: ColumnType, set: Option<Json>, add: Option<Json>) -> 
     }
 }
 
-/// The edits of the columns' members, which are taken out one by one.
+/// The edits of the columns' members, whose values are moved out one by one.
 fn take_edits(alloc: Global, set: Object, add: Object, columns: &[Column]) -> Result<Edits, Refusal>
     requires { IsTrue (are_distinct (map (λ c. c.name) columns.now)) }
     ensures { IsAnswer result (ok_or (edits_from 0 columns.now set add) Refusal.Row) }
@@ -81,7 +81,12 @@ fn take_edits(alloc: Global, set: Object, add: Object, columns: &[Column]) -> Re
     let mut edits = Vec::new(alloc);
     'columns: for (i, column) in columns.iter().enumerate() {
         let name = column.name.as_str();
-        match edit_of(i, column.kind, set_left.take(name), add_left.take(name)) {
+        match edit_of(
+            i,
+            column.kind,
+            set_left.move_out(name),
+            add_left.move_out(name),
+        ) {
             Some(Some(edit)) => edits.push(edit)?,
             Some(None) => {}
             None => return Err(Refusal::Row),

@@ -1,5 +1,5 @@
 //! Keys: from a JSON array to the values of a key of an index, and from the ends of a range to its bounds.
-ghost use Rattle.std.specs.Prelude.{◌≡◌, ◌<◌, length, IfOk};
+ghost use Rattle.std.specs.Prelude.{◌≡◌, ◌<◌, length};
 ghost use Rattle.std.specs.Option.{ok_or};
 ghost use Rattle.serde_json.specs.View.{view, items_view};
 ghost use Rattle.mi_request.specs.Answers.{IsAnswer};
@@ -11,27 +11,27 @@ use mi_catalog::Schema;
 use mi_request::{Array, End};
 use mi_value::{Key, Lower, Refusal, Text, Upper, Value};
 use serde_json::Value as Json;
-use std::alloc::{AllocError, Global};
+use std::alloc::Global;
 
-/// The value that a JSON value is: a whole number, a text, or true or false.
-fn plain_value(alloc: Global, value: &Json) -> Result<Option<Value>, AllocError>
-    ensures { IfOk result (λ v. v ≡ keys.plain_value (view value.now)) }
+/// The value that a JSON value is: a whole number, a text, which is moved, or true or false.
+fn plain_value(value: Json) -> Option<Value>
+    ensures { result ≡ keys.plain_value (view value) }
 {
     match value {
-        Json::Number(_) => Ok(value.as_i64().map(Value::Int)),
-        Json::String(text) => Ok(Some(Value::Text(Text::of(alloc, text.as_str())?))),
-        Json::Bool(b) => Ok(Some(Value::Flag(*b))),
-        _other => Ok(None),
+        Json::Number(number) => Some(Value::Int(number.as_i64()?)),
+        Json::String(text) => Some(Value::Text(Text::new(text))),
+        Json::Bool(b) => Some(Value::Flag(b)),
+        _other => None,
     }
 }
 
 /// The key of these values. Refusals: `Key` and `Memory`.
-fn key_of(alloc: Global, items: &[Json]) -> Result<Key, Refusal>
-    ensures { IsAnswer result (ok_or (plain_values (items_view items.now)) Refusal.Key) }
+fn key_of(alloc: Global, items: Vec<Json>) -> Result<Key, Refusal>
+    ensures { IsAnswer result (ok_or (plain_values (items_view items.items)) Refusal.Key) }
 {
-    let mut values = Vec::new(alloc);
+    let mut values = Vec::with_capacity(alloc, items.len())?;
     'items: for item in items {
-        let Some(value) = plain_value(alloc, item)? else {
+        let Some(value) = plain_value(item) else {
             return Err(Refusal::Key);
         };
         values.push(value)?;
@@ -51,7 +51,7 @@ pub(crate) fn bind_key(
     requires { i < length schema.now.indexes }
     ensures { IsAnswer result (ok_or (bound_key schema.now i whole key) Refusal.Key) }
 {
-    let key = key_of(alloc, key.items())?;
+    let key = key_of(alloc, key.into_items())?;
     if schema.fits_key(i, key.values(), whole) {
         Ok(key)
     } else {

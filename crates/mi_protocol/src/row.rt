@@ -57,15 +57,15 @@ pub(crate) fn fit(kind: ColumnType, value: Json) -> Option<Value>
     }
 }
 
-/// The record of the columns' members, which are taken out one by one.
+/// The record of the columns' members, whose values are moved out one by one.
 fn take_values(alloc: Global, row: Object, columns: &[Column]) -> Result<Record, Refusal>
     requires { IsTrue (are_distinct (map (λ c. c.name) columns.now)) }
     ensures { IsAnswer result (ok_or (values_of columns.now row) Refusal.Row) }
 {
     let mut left = row;
-    let mut values = Vec::new(alloc);
+    let mut values = Vec::with_capacity(alloc, columns.len())?;
     'columns: for column in columns {
-        let Some(member) = left.take(column.name.as_str()) else {
+        let Some(member) = left.move_out(column.name.as_str()) else {
             return Err(Refusal::Row);
         };
         let Some(value) = fit(column.kind, member) else {

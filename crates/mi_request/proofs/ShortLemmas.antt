@@ -1,8 +1,10 @@
 -- A short line means its request, and each is found.
-use Rattle.std.proofs.Common.{◌≡◌, ℕ, ◌^◌, ◌<◌, List, [], ◌∷◌, ◌++◌, true, ◌&&◌, Some, None, option_map, option_and_then}
+use Rattle.std.proofs.Common.{◌≡◌, ℕ, ◌^◌, ◌<◌, ◌≤◌, ◌+◌, length, nat_le, subst, List, [], ◌∷◌, ◌++◌, true, ◌&&◌, Some, None, option_map, option_and_then}
 use Rattle.std.proofs.Common.{Result, Ok, Err, IsUtf8, codes, decimal, bytes_eq, nat_lt, refl, sym, ap, ◌∙◌, arith, lt-ltb, ltb-true}
 use Rattle.std.proofs.lemmas.Option.{none-some, same_Some, cond_some}
-use Rattle.std.proofs.lemmas.Fmt.{IsAscii-decimal}
+use Rattle.std.proofs.lemmas.Bool.{leb-true}
+use Rattle.std.proofs.lemmas.Fmt.{IsAscii-decimal, length-decimal-le}
+use Rattle.std.proofs.lemmas.List.{length-append}
 use Rattle.std.proofs.lemmas.Slice.Eq.{bytes_eq-Decides}
 use Rattle.std.proofs.lemmas.Str.{IsUtf8-append, IsUtf8-from_ascii}
 use Rattle.std.specs.Str.{is_utf8, chars}
@@ -147,3 +149,48 @@ one_request q r line first second = ap (request_in q) (sym (short_means q line f
 -- the undo line is short
 pub undo_is_short : (line : List ℕ) → line ≡ codes "{\"cmd\":\"undo\"}" → short_line request.Undo ≡ Some line
 undo_is_short line is = ap Some (sym is)
+
+-- ---- how long they are
+
+bare_length : (text line : List ℕ) → Some text ≡ Some line → nat_le (length text) 47 ≡ true → length line ≤ 47
+bare_length text line is short = subst (λ t. length t ≤ 47) (same_Some text line is) (leb-true (length text) 47 short)
+
+numbered_length : (front line : List ℕ) (n : ℕ) → numbered front n ≡ Some line → nat_le (length front) 27 ≡ true → length line ≤ 47
+numbered_length front line n is short =
+    let p = cond_some (nat_lt n (2 ^ 63)) _ line is in
+    let small : n < 2 ^ 63 = ltb-true n (2 ^ 63) p.0 in
+    let digits : length (decimal n) ≤ 19 = length-decimal-le 19 n (omega arith) (omega arith) (omega arith) in
+    let behind : length (decimal n ++ codes "}") ≡ length (decimal n) + 1 = length-append (decimal n) (codes "}") in
+    let whole : length line ≡ length front + length (decimal n ++ codes "}") = sym (ap length p.1) ∙ length-append front _ in
+    let first : length front ≤ 27 = leb-true (length front) 27 short in
+    omega arith
+
+-- a short line has at most 47 bytes
+pub short_length : (r : Request) (line : List ℕ) → short_line r ≡ Some line → length line ≤ 47
+short_length request.Start line is = bare_length _ line is refl
+short_length request.Undo line is = bare_length _ line is refl
+short_length request.Squash line is = bare_length _ line is refl
+short_length (request.Commit revision) line is = numbered_length (codes "{\"cmd\":\"commit\",\"revision\":") line revision is refl
+short_length request.UndoAll line is = bare_length _ line is refl
+short_length request.Push line is = bare_length _ line is refl
+short_length request.Revision line is = bare_length _ line is refl
+short_length (request.Get None id) line is = numbered_length (codes "{\"cmd\":\"get\",\"id\":") line id is refl
+short_length (request.Erase None id) line is = numbered_length (codes "{\"cmd\":\"erase\",\"id\":") line id is refl
+short_length (request.Size None) line is = bare_length _ line is refl
+short_length (request.Get (Some table) id) line is = absurd (none-some line is)
+short_length (request.Erase (Some table) id) line is = absurd (none-some line is)
+short_length (request.Size (Some table)) line is = absurd (none-some line is)
+short_length (request.Insert table row before) line is = absurd (none-some line is)
+short_length (request.Replace table id row) line is = absurd (none-some line is)
+short_length (request.Modify table id set add rollback) line is = absurd (none-some line is)
+short_length (request.EraseKey table index key) line is = absurd (none-some line is)
+short_length (request.Relocate table index id before) line is = absurd (none-some line is)
+short_length (request.Reserve changes sessions) line is = absurd (none-some line is)
+short_length (request.Find table index key) line is = absurd (none-some line is)
+short_length (request.Nth table index n) line is = absurd (none-some line is)
+short_length (request.Count table index key) line is = absurd (none-some line is)
+short_length (request.Range table index lower upper reverse limit) line is = absurd (none-some line is)
+short_length (request.List table index after limit) line is = absurd (none-some line is)
+short_length (request.Rank table index id) line is = absurd (none-some line is)
+short_length (request.LowerRank table index key) line is = absurd (none-some line is)
+short_length (request.UpperRank table index key) line is = absurd (none-some line is)

@@ -1,4 +1,4 @@
-//! A JSON array, seen by contracts as its items. It lends them and copies none.
+//! A JSON array, seen by contracts as its items. It hands them out by moving them, and copies none.
 use serde_json::Value as Json;
 use std::marker::Model;
 
@@ -31,10 +31,10 @@ impl Array {
         Array { items }
     }
 
-    /// Its items in order.
-    pub fn items(&self) -> &[Json]
-        ensures { items_view result.now ≡ self.now }
+    /// Its items in order, moved out.
+    pub fn into_items(self) -> Vec<Json>
+        ensures { items_view result.items ≡ self }
     {
-        self.items.as_slice()
+        self.items
     }
 }

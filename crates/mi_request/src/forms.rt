@@ -92,7 +92,7 @@ fn commit_request(object: Object) -> Option<Request>
     ensures { result ≡ (form_of name.Commit).request object }
 {
     let mut object = object;
-    let revision = natural(object.take("revision"))?;
+    let revision = natural(object.move_out("revision"))?;
     Some(Request::Commit { revision })
 }
 
@@ -214,7 +214,7 @@ fn size_request(object: Object) -> Option<Request>
     ensures { result ≡ (form_of name.Size).request object }
 {
     let mut object = object;
-    let table = text_if_there(object.take("table"))?;
+    let table = text_if_there(object.move_out("table"))?;
     Some(Request::Size { table })
 }
 

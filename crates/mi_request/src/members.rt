@@ -31,13 +31,13 @@ impl RowMembers {
     {
         let mut left = object;
         RowMembers {
-            table: left.take("table"),
-            id: left.take("id"),
-            row: left.take("row"),
-            before: left.take("before"),
-            set: left.take("set"),
-            add: left.take("add"),
-            rollback: left.take("rollback"),
+            table: left.move_out("table"),
+            id: left.move_out("id"),
+            row: left.move_out("row"),
+            before: left.move_out("before"),
+            set: left.move_out("set"),
+            add: left.move_out("add"),
+            rollback: left.move_out("rollback"),
         }
     }
 }
@@ -65,12 +65,12 @@ impl IndexMembers {
     {
         let mut left = object;
         IndexMembers {
-            table: left.take("table"),
-            index: left.take("index"),
-            id: left.take("id"),
-            before: left.take("before"),
-            key: left.take("key"),
-            n: left.take("n"),
+            table: left.move_out("table"),
+            index: left.move_out("index"),
+            id: left.move_out("id"),
+            before: left.move_out("before"),
+            key: left.move_out("key"),
+            n: left.move_out("n"),
         }
     }
 }
@@ -100,13 +100,13 @@ impl PageMembers {
     {
         let mut left = object;
         PageMembers {
-            table: left.take("table"),
-            index: left.take("index"),
-            lower: left.take("lower"),
-            upper: left.take("upper"),
-            reverse: left.take("reverse"),
-            limit: left.take("limit"),
-            after: left.take("after"),
+            table: left.move_out("table"),
+            index: left.move_out("index"),
+            lower: left.move_out("lower"),
+            upper: left.move_out("upper"),
+            reverse: left.move_out("reverse"),
+            limit: left.move_out("limit"),
+            after: left.move_out("after"),
         }
     }
 }
@@ -126,8 +126,8 @@ impl RoomMembers {
     {
         let mut left = object;
         RoomMembers {
-            changes: left.take("changes"),
-            sessions: left.take("sessions"),
+            changes: left.move_out("changes"),
+            sessions: left.move_out("sessions"),
         }
     }
 }
@@ -151,10 +151,10 @@ impl EndMembers {
     {
         let mut left = object;
         EndMembers {
-            ge: left.take("ge"),
-            gt: left.take("gt"),
-            le: left.take("le"),
-            lt: left.take("lt"),
+            ge: left.move_out("ge"),
+            gt: left.move_out("gt"),
+            le: left.move_out("le"),
+            lt: left.move_out("lt"),
         }
     }
 }

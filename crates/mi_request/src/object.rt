@@ -42,7 +42,7 @@ impl Object {
     ghost use Rattle.std.specs.Prelude.{◌≡◌, map, option_map};
     ghost use Rattle.serde_json.specs.Find.{get_member};
     ghost use Rattle.serde_json.specs.View.{view, members_view};
-    ghost use Rattle.mi_request.specs.Json.{has_only, without};
+    ghost use Rattle.mi_request.specs.Json.{has_only, emptied};
 
     /// The object of these members.
     pub(crate) fn new(members: Map<String, Json>) -> Object
@@ -58,12 +58,12 @@ impl Object {
         self.members.get(name)
     }
 
-    /// Takes the member of this name out.
-    pub fn take(&mut self, name: &str) -> Option<Json>
+    /// Moves the value of the member of this name out. Null stands in its place.
+    pub fn move_out(&mut self, name: &str) -> Option<Json>
         ensures value { option_map view result ≡ get_member name.now self.old }
-        ensures rest { self.new ≡ without name.now self.old }
+        ensures rest { self.new ≡ emptied name.now self.old }
     {
-        self.members.remove(name)
+        Some(self.members.get_mut(name)?.take())
     }
 
     /// Whether no member has another name than these.

@@ -7,6 +7,9 @@ use crate::request::Request;
 use fast_float::parse_u64;
 use itoa::Buffer;
 
+/// Bytes of a short line, at most: so many has a commit with a number of 19 digits.
+const LONGEST: usize = 47;
+
 /// Whether a text is how a number up to 2^63 - 1 is written.
 fn is_natural(n: u64, text: &[u8]) -> bool
     ensures { result ≡ (nat_lt n (2 ^ 63) && bytes_eq (decimal n) text.now) }
@@ -61,6 +64,9 @@ pub(crate) fn short_request(line: &[u8]) -> Option<Request>
     ensures value { IfSome result (λ r. short_line r ≡ Some line.now) }
     ensures whole { (r : Asked) → short_line r ≡ Some line.now → IsSome result }
 {
+    if line.len() > LONGEST {
+        return None;
+    }
     if let Some(request) = bare_request(line) {
         return Some(request);
     }

@@ -1,8 +1,8 @@
 -- What was matched of an option that is a number: it passed its bounds, and the typed getters read it.
-use Rattle.std.proofs.Common.{◌||◌, ◌≡◌, ◌∙◌, ◌<◌, ap, ap₂, ℕ, Bool, true, false, List, [], ◌∷◌, length, Option, Some, None, refl, sym, subst, inl, inr, arith}
+use Rattle.std.proofs.Common.{◌||◌, ◌&&◌, ◌≡◌, ◌∙◌, ◌<◌, ap, ap₂, ℕ, Bool, true, false, List, [], ◌∷◌, length, Option, Some, None, refl, sym, subst, inl, inr, arith}
 use Rattle.std.specs.List.{All, slice_index_or}
 use Rattle.std.specs.Str.{bytes_eq}
-use Rattle.std.specs.Prelude.{option_map, slice_get, unwrap_or}
+use Rattle.std.specs.Prelude.{option_map, slice_get, unwrap_or, Result, Ok, Err, IfOk, IfErr}
 use Rattle.std.proofs.lemmas.List.Elements.{All-get_or}
 use Rattle.std.specs.Borrow.{Bor}
 use Rattle.std.proofs.lemmas.Slice.Eq.{bytes_eq-Decides}
@@ -13,8 +13,11 @@ use Rattle.clap.specs.declared.parser.matches.Found.{Found}
 use Rattle.clap.specs.Values.{Accepts, read_as, reading_of}
 use Rattle.clap.specs.declared.builder.value_parser.Reading.{Reading}
 use Rattle.clap.proofs.CallerLemmas.{added_plain, entry_by_id, same_rules_by_id}
-use Rattle.clap.specs.Words.{App, Rule, AddsArg, rule_of, with_rule}
-use Rattle.mi_server.specs.Words.{Stands}
+use Rattle.clap.specs.Words.{App, Rule, AddsArg, app_of, rule_of, with_rule, rows_of, matches_of}
+use Rattle.clap.specs.Faults.{fault_of, is_free_app, is_simple_and_free}
+use Rattle.clap.specs.Simple.{built, is_simple}
+use Rattle.mi_server.specs.Words.{Stands, IsRefusal}
+use Rattle.mi_server.specs.declared.words.WordsFault.{WordsFault}
 use Rattle.clap.specs.declared.builder.arg.Arg.{Arg}
 use Rattle.clap.specs.declared.builder.command.Command.{Command}
 use Rattle.clap.specs.declared.builder.command.Command.TheViews.{out-Command}
@@ -112,3 +115,27 @@ stands_more old new a app r added stands is plain local = record {
   plain = added_plain old new a added stands.plain plain;
   local = added.globals ∙ ap₂ (λ (x y : Bool). x || y) stands.local local;
 }
+
+-- what a command matches, where its options are these
+pub command_matched : (c : Command) (app : App) (words : List (List ℕ)) (r : Result ArgMatches WordsFault) → Stands c app
+    → IfOk r (λ m. (fault_of (app_of c) words ≡ []) × (rows_of (found_of m) ≡ matches_of (app_of c) words) × IsParsedFrom c m)
+    → IfOk r (λ m. (fault_of app words ≡ []) × (rows_of (found_of m) ≡ matches_of app words) × ((d : Command) × Stands d app × IsParsedFrom d m))
+command_matched c app words (Ok m) stands p = (
+  ap (λ (a : App). fault_of a words) (sym stands.is) ∙ p.0,
+  p.1 ∙ ap (λ (a : App). matches_of a words) stands.is,
+  (c, stands, p.2),
+)
+command_matched c app words (Err fault) stands p = tt
+
+pub command_refused : (c : Command) (app : App) (words : List (List ℕ)) (r : Result ArgMatches WordsFault) → Stands c app
+    → IfErr r (IsRefusal (fault_of (app_of c) words) (matches_of (app_of c) words)) → IfErr r (IsRefusal (fault_of app words) (matches_of app words))
+command_refused c app words (Ok m) stands p = tt
+command_refused c app words (Err fault) stands p = subst (λ (a : App). IsRefusal (fault_of a words) (matches_of a words) fault) stands.is p
+
+-- a command that is simple and has no rule between options is simple
+pub simple_of : (app : App) → is_simple_and_free app ≡ true → is_simple app ≡ true
+simple_of app both = left (is_simple app) (is_free_app (built app)) both
+  where
+    left : (a b : Bool) → (a && b) ≡ true → a ≡ true
+    left true b h = refl
+    left false b h = h

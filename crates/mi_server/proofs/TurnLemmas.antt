@@ -15,7 +15,8 @@ use Rattle.mi_hub.specs.declared.fault.ServeFault.{ServeFault}
 use Rattle.mi_hub.specs.declared.fault.ServeFault.TheVariants.{Read, Turns, Accept, Memory, Write as ServeWrite}
 use Rattle.mi_hub.proofs.ConnectionLemmas.{some_with_rest}
 use Rattle.mi_hub.proofs.PieceLemmas.{unsent_piece_gone, unsent_close_gone, same_err}
-use Rattle.mi_server.specs.Turns.{fresh, with_clients, Turn, fed, ended, unread, unanswered, unended, conn_of, outcome, Made, ByTurns, row_after, fault_of, first_fault, noted, all_noted, client_ids, AllSound, AllAttached, IsNoneOf, AllDiffer, Serves}
+use Rattle.mi_hub.specs.Turn.{Turn, fed, ended, unread, unanswered, unended, conn_of, outcome, given_in, Made}
+use Rattle.mi_server.specs.Turns.{fresh, with_clients, ByTurns, row_after, fault_of, first_fault, noted, all_noted, client_ids, AllSound, AllAttached, IsNoneOf, AllDiffer, Serves}
 use Rattle.mi_server.specs.declared.listener.Client.{Client}
 
 -- ---- attached connections
@@ -154,6 +155,11 @@ serves_come row n s t is h =
       count = length-map (range_with_len 1 n) fresh;
       differ = differ_range 1 n;
     }))
+
+-- turns of the clients that have come
+pub turns_of_come : (row : List ℕ) (n : ℕ) (s t new : HubState) (turns : List Turn) (left : List ℕ) → row ≡ range_with_len 1 n → t ≡ with_clients n s → ByTurns row t turns left new
+    → ByTurns (range_with_len 1 n) (with_clients n s) turns left new
+turns_of_come row n s t new turns left is come made = subst (λ u. ByTurns (range_with_len 1 n) u turns left new) come (subst (λ xs. ByTurns xs t turns left new) is made)
 
 -- ---- turns
 
@@ -338,6 +344,24 @@ read_turns e = cc
 pub write_turns : ◌≡◌ {A = Result ⊤ ServeFault} (Err ServeWrite) (Err Turns) → ⊥
 write_turns e = cc
 
+pub read_accept : ◌≡◌ {A = Result ⊤ ServeFault} (Err Read) (Err Accept) → ⊥
+read_accept e = cc
+
+pub read_memory : ◌≡◌ {A = Result ⊤ ServeFault} (Err Read) (Err Memory) → ⊥
+read_memory e = cc
+
+pub write_accept : ◌≡◌ {A = Result ⊤ ServeFault} (Err ServeWrite) (Err Accept) → ⊥
+write_accept e = cc
+
+pub write_memory : ◌≡◌ {A = Result ⊤ ServeFault} (Err ServeWrite) (Err Memory) → ⊥
+write_memory e = cc
+
+pub ok_accept : ◌≡◌ {A = Result ⊤ ServeFault} (Ok tt) (Err Accept) → ⊥
+ok_accept e = cc
+
+pub ok_memory : ◌≡◌ {A = Result ⊤ ServeFault} (Ok tt) (Err Memory) → ⊥
+ok_memory e = cc
+
 pub accept_turns : ◌≡◌ {A = Result ⊤ ServeFault} (Err Accept) (Err Turns) → ⊥
 accept_turns e = cc
 
@@ -365,32 +389,38 @@ not_accept turns h = not_fault turns Accept (λ e. cc) (λ e. cc) h
 pub not_memory : (turns : List Turn) → first_fault turns ≡ Err Memory → ⊥
 not_memory turns h = not_fault turns Memory (λ e. cc) (λ e. cc) h
 
--- what comes before the turns is no fault of a stream
-accept_not_read : Accept ≡ Read → ⊥
-accept_not_read e = cc
-
-memory_not_read : Memory ≡ Read → ⊥
-memory_not_read e = cc
-
-accept_not_write : Accept ≡ ServeWrite → ⊥
-accept_not_write e = cc
-
-memory_not_write : Memory ≡ ServeWrite → ⊥
-memory_not_write e = cc
-
-pub early_read : {A : Type 0} (fault : ServeFault) → (◌≡◌ {A = Result A ServeFault} (Err fault) (Err Accept)) ⊎ (◌≡◌ {A = Result A ServeFault} (Err fault) (Err Memory))
-    → (s : Result ⊤ ServeFault) → s ≡ Err fault → s ≡ Err Read → ⊥
-early_read fault (inl a) s e h = accept_not_read (sym (same_err a) ∙ same_err (sym e ∙ h))
-early_read fault (inr m) s e h = memory_not_read (sym (same_err m) ∙ same_err (sym e ∙ h))
-
-pub early_write : {A : Type 0} (fault : ServeFault) → (◌≡◌ {A = Result A ServeFault} (Err fault) (Err Accept)) ⊎ (◌≡◌ {A = Result A ServeFault} (Err fault) (Err Memory))
-    → (s : Result ⊤ ServeFault) → s ≡ Err fault → s ≡ Err ServeWrite → ⊥
-early_write fault (inl a) s e h = accept_not_write (sym (same_err a) ∙ same_err (sym e ∙ h))
-early_write fault (inr m) s e h = memory_not_write (sym (same_err m) ∙ same_err (sym e ∙ h))
-
 pub on_ok : (s : Result ⊤ ServeFault) (P : Type 0) → (s ≡ Ok tt → P) → OnOk s P
 on_ok (Ok tt) P f = f refl
 on_ok (Err e) P f = tt
+
+-- ---- the fault of a turn, by what was read
+
+on_err_of_ok : (r : Result Bool ServeFault) (b : Bool) (P : Type 0) → r ≡ Ok b → OnErr r P
+on_err_of_ok (Ok x) b P is = tt
+on_err_of_ok (Err fault) b P is = absurd (err_ok fault is)
+  where
+    err_ok : (f : ServeFault) → ◌≡◌ {A = Result Bool ServeFault} (Err f) (Ok b) → ⊥
+    err_ok f e = cc
+
+pub on_err_of : (r : Result Bool ServeFault) (P : Type 0) → P → OnErr r P
+on_err_of (Ok x) P p = tt
+on_err_of (Err fault) P p = p
+
+-- where the read gave bytes or their end, only a write has failed
+pub answered_fault : (turn : Turn) (bytes : List ℕ) (r : Result Bool ServeFault) (failed : Bool) → given_in turn ≡ Some bytes → r ≡ outcome turn
+    → (r ≡ Err ServeWrite → failed ≡ true) → OnErr r ((r ≡ Err ServeWrite) × (failed ≡ true))
+answered_fault (fed conn xs) bytes r failed given is write = on_err_of_ok r true _ is
+answered_fault (ended conn) bytes r failed given is write = on_err_of_ok r false _ is
+answered_fault (unread conn) bytes r failed given is write = absurd (none_some given)
+  where
+    none_some : ◌≡◌ {A = Option (List ℕ)} None (Some bytes) → ⊥
+    none_some e = cc
+answered_fault (unanswered conn xs) bytes r failed given is write = on_err_of r _ (is, write is)
+answered_fault (unended conn) bytes r failed given is write = on_err_of r _ (is, write is)
+
+pub on_err_kept : (r : Result Bool ServeFault) (A P : Type 0) → OnErr r (A × P) → OnErr r P
+on_err_kept (Ok x) A P p = tt
+on_err_kept (Err fault) A P p = p.1
 
 -- ---- sound streams
 

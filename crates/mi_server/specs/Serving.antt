@@ -26,16 +26,20 @@ IsServing (Err Accept) = ⊥
 IsServing (Err Memory) = Unit {0}
 IsServing (Err Turns) = Unit {0}
 
--- The tables of a catalog, which is that of a named file or the built-in one, are opened. All of an input is read and served as the bytes of
--- connection 1; then it is closed.
-pub record IsServed {F R W : Type 0} (bytes_of : F → Option (List ℕ)) (named : Bool) (remaining : R → Option (List ℕ)) (contents : W → Option (List ℕ))
+-- All of an input is read and served over a database as the bytes of connection 1; then it is closed.
+pub record IsWholeServed {R W : Type 0} (database : Database) (remaining : R → Option (List ℕ)) (contents : W → Option (List ℕ))
     (old_reader new_reader : Watched R) (old_writer new_writer : Watched W) : Type 0 where
-  pub catalog : CatalogShape
-  pub described : IsCatalog bytes_of named (Ok catalog)
   pub bytes : List ℕ
   pub out : List ℕ
   pub new : HubState
   pub read : Reads remaining old_reader new_reader bytes
   pub ended : IsAtEnd (remaining (watched new_reader))
   pub written : Writes contents old_writer new_writer out
-  pub run : AllDone (come (opened_database catalog)) (piece 1 bytes ∷ close 1 ∷ []) out new
+  pub run : AllDone (come database) (piece 1 bytes ∷ close 1 ∷ []) out new
+
+-- The tables of a catalog, which is that of a named file or the built-in one, are opened, and an input is served over them.
+pub record IsServed {F R W : Type 0} (bytes_of : F → Option (List ℕ)) (named : Bool) (remaining : R → Option (List ℕ)) (contents : W → Option (List ℕ))
+    (old_reader new_reader : Watched R) (old_writer new_writer : Watched W) : Type 0 where
+  pub catalog : CatalogShape
+  pub described : IsCatalog bytes_of named (Ok catalog)
+  pub served : IsWholeServed (opened_database catalog) remaining contents old_reader new_reader old_writer new_writer

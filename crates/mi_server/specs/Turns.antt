@@ -1,11 +1,11 @@
 -- What serving connections by turns does to a hub. The connections 1 and 2 are open, in this row. 1 gives a piece and goes behind 2;
 -- then the write of a reply to 2 fails, and then 1 ends: fed 1 "{\"cmd\":\"start\"}⏎", unanswered 2 "{\"cmd\":\"undo\"}⏎", ended 1.
-use Rattle.std.specs.Prelude.{◌≡◌, ℕ, ◌≤◌, List, [], ◌∷◌, ◌++◌, length, map, Bool, true, false, ◌==◌, Result, Ok, Err, Some, IsSome, ⊤}
+use Rattle.std.specs.Prelude.{◌≡◌, ℕ, List, [], ◌∷◌, ◌++◌, length, map, Bool, true, false, ◌==◌, Result, Ok, Err, Some, IsSome, ⊤}
 use Rattle.std.specs.Result.{result_and}
 use Rattle.std.specs.List.{range_with_len}
-use Rattle.mi_value.specs.declared.limits.TheConstants.{PIECE}
 use Rattle.mi_hub.specs.Connections.{rest_at}
-use Rattle.mi_hub.specs.Run.{HubState, piece, close, cut, Done, Unsent}
+use Rattle.mi_hub.specs.Run.{HubState}
+use Rattle.mi_hub.specs.Turn.{Turn, fed, ended, unread, unanswered, unended, conn_of, outcome, Made}
 use Rattle.mi_hub.specs.declared.connection.Connection.{Connection}
 use Rattle.mi_hub.specs.declared.fault.ServeFault.{ServeFault}
 use Rattle.mi_hub.specs.declared.fault.ServeFault.TheVariants.{Read, Write, Accept, Memory, Turns}
@@ -21,43 +21,6 @@ fresh conn = record { id = conn; rest = Some [] }
 -- n connections have come to a hub with none, numbered from 1 in this order
 abbrev pub with_clients : ℕ → HubState → HubState
 with_clients n s = record { held = s.held; attached = map fresh (range_with_len 1 n) }
-
--- A turn of an open connection: a piece of its bytes is fed, or they are at their end and it is closed; or its read fails and it is
--- cut; or the replies to a piece don't go out, or the one at the end.
-pub data Turn : Type 0 where
-  fed : ℕ → List ℕ → Turn
-  ended : ℕ → Turn
-  unread : ℕ → Turn
-  unanswered : ℕ → List ℕ → Turn
-  unended : ℕ → Turn
-
--- the connection whose turn it is
-abbrev pub conn_of : Turn → ℕ
-conn_of (fed conn bytes) = conn
-conn_of (ended conn) = conn
-conn_of (unread conn) = conn
-conn_of (unanswered conn bytes) = conn
-conn_of (unended conn) = conn
-
--- whether the connection is open still, or the fault that has ended it
-abbrev pub outcome : Turn → Result Bool ServeFault
-outcome (fed conn bytes) = Ok true
-outcome (ended conn) = Ok false
-outcome (unread conn) = Err Read
-outcome (unanswered conn bytes) = Err Write
-outcome (unended conn) = Err Write
-
--- what one read gives
-abbrev pub IsPiece : List ℕ → Type 0
-IsPiece bytes = (1 ≤ length bytes) × (length bytes ≤ PIECE)
-
--- From old, this turn is made: out is written to the connection, and new is left.
-abbrev pub Made : HubState → Turn → List ℕ → HubState → Type 0
-Made old (fed conn bytes) out new = Done old (piece conn bytes) out new × IsPiece bytes
-Made old (ended conn) out new = Done old (close conn) out new
-Made old (unread conn) out new = Done old (cut conn) out new
-Made old (unanswered conn bytes) out new = Unsent old (piece conn bytes) out new × IsPiece bytes
-Made old (unended conn) out new = Unsent old (close conn) out new
 
 -- a connection that stays open goes behind the others
 abbrev pub row_after : Turn → List ℕ → List ℕ

@@ -5,13 +5,13 @@ ghost use Rattle.std.specs.List.{range_with_len};
 ghost use Rattle.mi_value.specs.declared.limits.TheConstants.{MAX_CONNECTIONS, MAX_READS, PIECE};
 ghost use Rattle.mi_hub.specs.Run.{HubState, with_connection};
 ghost use Rattle.mi_hub.specs.Connections.{rest_at};
-ghost use Rattle.mi_hub.specs.Watching.{has_failed, Writes};
+ghost use Rattle.mi_hub.specs.Watching.{has_failed};
 ghost use Rattle.mi_hub.specs.IoNotes.{reads_fail, writes_fail};
-ghost use Rattle.mi_server.specs.Buffer.{contents_of};
-ghost use Rattle.mi_server.specs.Turns.{with_clients, Turn, conn_of, outcome, IsPiece, Made, row_after, ByTurns, fault_of, first_fault, noted, all_noted, client_ids, AllSound, Serves};
+ghost use Rattle.mi_hub.specs.Turn.{Turn, conn_of, outcome, Made};
+ghost use Rattle.mi_server.specs.Turns.{with_clients, row_after, ByTurns, fault_of, first_fault, noted, all_noted, client_ids, AllSound, Serves};
 
 use crate::buffered::Buffered;
-use mi_hub::{Hub, IoErrors, ServeFault, Watched, close_flushed, feed_flushed};
+use mi_hub::{Hub, IoErrors, ServeFault, Watched, take_turn};
 use mi_sessions::Sessions;
 use mi_value::limits::{MAX_READS, PIECE};
 use std::alloc::Global;
@@ -53,68 +53,9 @@ fn accept<D: Sessions + Drop, L: OpenListener>(
     })
 }
 
-/// Feeds a piece that was read. After a fault the connection has been cut.
-fn feed<D: Sessions + Drop, S: Write>(
-    hub: &mut Hub<D>,
-    client: &mut Client<S>,
-    bytes: &[u8],
-) -> Result<bool, ServeFault>
-    requires attached { IsSome (rest_at client.old.conn hub.old.attached) }
-    requires piece { IsPiece bytes.now }
-    ensures turn { (turn : Turn) × (out : List ℕ) × (conn_of turn ≡ client.old.conn) × (result ≡ outcome turn)
-        × Writes (contents_of S.contents) client.old.stream client.new.stream out × Made hub.old turn out hub.new }
-    ensures same { client.new.conn ≡ client.old.conn }
-    ensures failed { OnErr result ((result ≡ Err ServeFault.Write) × (has_failed client.new.stream ≡ true)) }
-    ensures sound { OnOk result (has_failed client.new.stream ≡ has_failed client.old.stream) }
-{
-    match feed_flushed(hub, client.conn, bytes, &mut client.stream) {
-        Ok(()) => Ok(true),
-        Err(fault) => Err(fault),
-    }
-}
-
-/// Closes a connection at the end of its bytes.
-fn close<D: Sessions + Drop, S: Write>(
-    hub: &mut Hub<D>,
-    client: &mut Client<S>,
-) -> Result<bool, ServeFault>
-    requires { IsSome (rest_at client.old.conn hub.old.attached) }
-    ensures turn { (turn : Turn) × (out : List ℕ) × (conn_of turn ≡ client.old.conn) × (result ≡ outcome turn)
-        × Writes (contents_of S.contents) client.old.stream client.new.stream out × Made hub.old turn out hub.new }
-    ensures same { client.new.conn ≡ client.old.conn }
-    ensures failed { OnErr result ((result ≡ Err ServeFault.Write) × (has_failed client.new.stream ≡ true)) }
-    ensures sound { OnOk result (has_failed client.new.stream ≡ has_failed client.old.stream) }
-{
-    match close_flushed(hub, client.conn, &mut client.stream) {
-        Ok(()) => Ok(false),
-        Err(fault) => Err(fault),
-    }
-}
-
-/// Feeds what one read of a connection gave, or closes it where that was nothing.
-fn feed_or_close<D: Sessions + Drop, S: Write>(
-    hub: &mut Hub<D>,
-    client: &mut Client<S>,
-    bytes: &[u8],
-) -> Result<bool, ServeFault>
-    requires attached { IsSome (rest_at client.old.conn hub.old.attached) }
-    requires piece { length bytes.now ≤ PIECE }
-    ensures turn { (turn : Turn) × (out : List ℕ) × (conn_of turn ≡ client.old.conn) × (result ≡ outcome turn)
-        × Writes (contents_of S.contents) client.old.stream client.new.stream out × Made hub.old turn out hub.new }
-    ensures same { client.new.conn ≡ client.old.conn }
-    ensures failed { OnErr result ((result ≡ Err ServeFault.Write) × (has_failed client.new.stream ≡ true)) }
-    ensures sound { OnOk result (has_failed client.new.stream ≡ has_failed client.old.stream) }
-{
-    if bytes.is_empty() {
-        close(hub, client)
-    } else {
-        feed(hub, client, bytes)
-    }
-}
-
-/// Reads one piece of a connection and feeds it, or closes the connection at the end of its bytes. Answers whether it is open
-/// still; after a fault it has been cut, and the error of its stream is noted.
-fn take_turn<D: Sessions + Drop, S: Read + Write>(
+/// Reads one piece of a connection, and makes the turn that it gives. Answers whether the connection is open still; after a fault it has been
+/// cut, and the error of its stream is noted.
+fn client_turn<D: Sessions + Drop, S: Read + Write>(
     hub: &mut Hub<D>,
     client: &mut Client<S>,
     buffer: &mut [u8],
@@ -129,13 +70,14 @@ fn take_turn<D: Sessions + Drop, S: Read + Write>(
     ensures sound { OnOk result (has_failed client.new.stream ≡ false) }
     ensures noted { errors.new ≡ noted result errors.old }
 {
-    let Ok(n) = errors.read_from(&mut client.stream, buffer) else {
-        let _ = hub.cut(client.conn);
-        return Err(ServeFault::Read);
-    };
-    let is_open = feed_or_close(hub, client, &buffer[..n]);
-    errors.note_write(&client.stream);
-    is_open
+    match errors.read_from(&mut client.stream, buffer) {
+        Ok(n) => {
+            let is_open = take_turn(hub, client.conn, Some(&buffer[..n]), &mut client.stream);
+            errors.note_write(&client.stream);
+            is_open
+        }
+        Err(_) => take_turn(hub, client.conn, None, &mut client.stream),
+    }
 }
 
 /// The first of a row of open connections takes its turn; where it stays open it goes behind the others, else it is let go.
@@ -154,7 +96,7 @@ fn next_turn<D: Sessions + Drop, S: Read + Write + Drop>(
     ensures sound { AllSound row.new.items }
 {
     let mut client = row.pop_front().unwrap();
-    if take_turn(hub, &mut client, buffer, errors)? {
+    if client_turn(hub, &mut client, buffer, errors)? {
         row.push_back(client).unwrap();
     }
     Ok(())
@@ -225,6 +167,33 @@ fn serve_all<D: Sessions + Drop, S: Read + Write + Drop>(
     Err(ServeFault::Turns)
 }
 
+/// Accepts so many connections, and serves them by turns until none is open, or up to the first fault.
+fn serve_clients<D: Sessions + Drop, L: OpenListener>(
+    alloc: Global,
+    hub: &mut Hub<D>,
+    listener: &L,
+    clients: usize,
+    errors: &mut IoErrors,
+) -> Result<(), ServeFault>
+where
+    L::Stream: Read + Write,
+    requires clients { 1 ≤ clients }
+    requires none { hub.old.attached ≡ [] }
+    ensures none { hub.new.attached ≡ [] }
+    ensures served { result ≢ Err ServeFault.Accept → result ≢ Err ServeFault.Memory → result ≢ Err ServeFault.Turns →
+        (turns : List Turn) × ByTurns (range_with_len 1 clients) (with_clients clients hub.old) turns [] hub.new × (result ≡ first_fault turns)
+        × (errors.new ≡ all_noted turns errors.old) }
+    ensures turns { result ≡ Err ServeFault.Turns → (turns : List Turn) × (left : List ℕ) × (mid : HubState)
+        × ByTurns (range_with_len 1 clients) (with_clients clients hub.old) turns left mid × (length turns ≡ MAX_READS)
+        × (errors.new ≡ all_noted turns errors.old) }
+    ensures unserved { (result ≡ Err ServeFault.Accept) ⊎ (result ≡ Err ServeFault.Memory) → errors.new ≡ errors.old }
+{
+    match accept_all(alloc, hub, listener, clients) {
+        Ok(row) => serve_all(hub, row, errors),
+        Err(fault) => Err(fault),
+    }
+}
+
 /// States that nobody holds sessions where no connection is attached. It does nothing.
 fn nobody_holds<D: Sessions + Drop>(hub: &Hub<D>)
     requires { hub.now.attached ≡ [] }
@@ -273,10 +242,7 @@ where
     ensures sound { OnOk result (errors.new ≡ errors.old) }
     ensures unserved { (result ≡ Err ServeFault.Accept) ⊎ (result ≡ Err ServeFault.Memory) → errors.new ≡ errors.old }
 {
-    let served = match accept_all(alloc, hub, listener, clients) {
-        Ok(row) => serve_all(hub, row, errors),
-        Err(fault) => Err(fault),
-    };
+    let served = serve_clients(alloc, hub, listener, clients, errors);
     nobody_holds(hub);
     served
 }

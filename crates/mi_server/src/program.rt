@@ -9,7 +9,8 @@ ghost use Rattle.mi_server.specs.Status.{status_of, status_of_words};
 ghost use Rattle.clap.specs.Words.{matches_of};
 ghost use Rattle.mi_server.specs.Words.{command_line, keeps_rules, asks_check, asks_port, names_schema};
 ghost use Rattle.mi_server.specs.Source.{IsCatalog};
-ghost use Rattle.mi_server.specs.Serving.{IsServed};
+ghost use Rattle.mi_model.specs.Database.{opened_database};
+ghost use Rattle.mi_server.specs.Serving.{IsServed, IsWholeServed};
 ghost use Rattle.mi_server.specs.declared.failure.Failure.{Failure};
 ghost use Rattle.mi_hub.specs.Watching.{Writes};
 
@@ -23,6 +24,7 @@ use crate::words::{Options, WordsFault, read_words};
 use mi_database::Linked;
 use mi_hub::{Hub, IoErrors, Watched};
 use mi_multi::MultiIndex;
+use mi_schema::Catalog;
 use mi_sessions::Sessions;
 use std::convert::AsStr;
 use std::io;
@@ -70,6 +72,53 @@ fn serve_port<R: Net + AllocGlobal, D: Sessions + Drop>(
     }
 }
 
+/// Writes the line `ok` of a schema that is checked.
+fn confirm_schema<W: Write>(writer: &mut Watched<W>) -> Result<(), Failure>
+    ensures ok { OnOk result (Writes W.contents writer.old writer.new (codes "ok\n")) }
+    ensures late { IfErr result (λ failure. status_of failure ≡ 4) }
+{
+    match confirm(writer) {
+        Ok(()) => Ok(()),
+        Err(_error) => Err(Failure::Write),
+    }
+}
+
+/// Serves connections to a port over a database, or the input where there is no port.
+fn serve_database<R: Net + AllocGlobal, D: Sessions + Drop, I: Read, O: Write>(
+    rt: &R,
+    database: D,
+    listen: Option<(u16, usize)>,
+    reader: &mut Watched<I>,
+    writer: &mut Watched<O>,
+) -> Result<(), Failure>
+    requires clients { IfSome listen (λ l. (1 ≤ l.1) × (l.1 ≤ MAX_CONNECTIONS)) }
+    ensures late { IfErr result (λ failure. status_of failure ≡ 4) }
+    ensures served { listen ≡ None → OnOk result (IsWholeServed (D.state database) I.remaining O.contents reader.old reader.new writer.old writer.new) }
+{
+    match listen {
+        Some((port, clients)) => serve_port(rt, database, port, clients),
+        None => serve(rt.alloc(), database, reader, writer),
+    }
+}
+
+/// Opens the tables of a catalog, and serves connections to a port over them, or the input where there is no port.
+fn serve_tables<R: Net + AllocGlobal + RandomSource, I: Read, O: Write>(
+    rt: &R,
+    catalog: Catalog,
+    listen: Option<(u16, usize)>,
+    reader: &mut Watched<I>,
+    writer: &mut Watched<O>,
+) -> Result<(), Failure>
+    requires clients { IfSome listen (λ l. (1 ≤ l.1) × (l.1 ≤ MAX_CONNECTIONS)) }
+    ensures late { IfErr result (λ failure. status_of failure ≡ 4) }
+    ensures served { listen ≡ None → OnOk result (IsWholeServed (opened_database catalog) I.remaining O.contents reader.old reader.new writer.old writer.new) }
+{
+    let Ok(database) = Linked::<MultiIndex>::new(rt.alloc(), catalog, drawn(rt)) else {
+        return Err(Failure::Memory);
+    };
+    serve_database(rt, database, listen, reader, writer)
+}
+
 /// Does what the options say. Where the schema alone is checked the line `ok` is written, and the input isn't read.
 ///
 /// The failures of status 3 are those of `catalog`, and come before anything is read or written.
@@ -89,15 +138,9 @@ fn perform<R: Files + Net + AllocGlobal + RandomSource, I: Read, O: Write>(
 {
     let catalog = catalog(rt, options.schema.as_deref())?;
     if options.check {
-        return confirm(writer).map_err(|_error| Failure::Write);
+        return confirm_schema(writer);
     }
-    let Ok(database) = Linked::<MultiIndex>::new(rt.alloc(), catalog, drawn(rt)) else {
-        return Err(Failure::Memory);
-    };
-    match options.listen {
-        Some((port, clients)) => serve_port(rt, database, port, clients),
-        None => serve(rt.alloc(), database, reader, writer),
-    }
+    serve_tables(rt, catalog, options.listen, reader, writer)
 }
 
 /// Reports a failure, and answers its status.

@@ -1,10 +1,10 @@
 //! The words that the program is called with: which options it has, and what the words say by them.
-ghost use Rattle.std.specs.Prelude.{◌≡◌, ◌⊎◌, ◌≤◌, [], map, option_map, is_some, true, false, IfOk, IfErr, IfSome};
+ghost use Rattle.std.specs.Prelude.{◌≡◌, ◌⊎◌, ◌≤◌, List, [], map, option_map, is_some, true, false, IfOk, IfErr, IfSome};
 ghost use Rattle.std.specs.String.{string_bytes};
 ghost use Rattle.mi_value.specs.declared.limits.TheConstants.{MAX_CONNECTIONS};
-ghost use Rattle.clap.specs.Words.{app_of, rule_of, rows_of, found_of, matches_of};
+ghost use Rattle.clap.specs.Words.{app_of, rule_of, rows_of, found_of, matches_of, is_simple_and_free, HasKind, Kinds, Row};
 ghost use Rattle.clap.specs.Faults.{fault_of};
-ghost use Rattle.clap.specs.Built.{IsPlainArg};
+ghost use Rattle.clap.specs.Built.{IsPlainArg, IsParsedFrom};
 ghost use Rattle.mi_server.specs.Words as spec;
 ghost use Rattle.mi_server.specs.Words.{option_rule, number_rule, flag_rule, command_line, keeps_rules, go_together, both, Stands, AreGiven, AreValues, IsRefusal};
 ghost use Rattle.mi_server.specs.declared.words.WordsFault.TheVariants as fault;
@@ -131,22 +131,37 @@ fn command<'a>(alloc: Global) -> Result<Command<'a>, AllocError>
     Ok(with_clients)
 }
 
+/// The fault that an error of the parser is.
+fn parser_fault(error: clap::Error) -> WordsFault
+    ensures { (kinds : Kinds) → (rows : List Row) → HasKind kinds error → IsRefusal kinds rows result }
+{
+    if error.kind() == ErrorKind::OutOfMemory {
+        WordsFault::Memory
+    } else {
+        WordsFault::Parse(error)
+    }
+}
+
+/// What a command matches in the words.
+fn matched<'a, S: AsStr>(command: Command<'a>, words: &'a [S]) -> Result<ArgMatches<'a>, WordsFault>
+    requires { is_simple_and_free (app_of command) ≡ true }
+    ensures ok { IfOk result (λ m. (fault_of (app_of command.entry) (map S.text words.entry.now) ≡ [])
+        × (rows_of (found_of m) ≡ matches_of (app_of command.entry) (map S.text words.entry.now)) × IsParsedFrom command.entry m) }
+    ensures refused { IfErr result (IsRefusal (fault_of (app_of command.entry) (map S.text words.entry.now)) (matches_of (app_of command.entry) (map S.text words.entry.now))) }
+{
+    match command.try_get_matches_from(words) {
+        Ok(matches) => Ok(matches),
+        Err(error) => Err(parser_fault(error)),
+    }
+}
+
 /// What was matched in the words.
 fn parse<'a, S: AsStr>(alloc: Global, words: &'a [S]) -> Result<ArgMatches<'a>, WordsFault>
     ensures ok { IfOk result (λ m. (fault_of command_line (map S.text words.entry.now) ≡ [])
         × (rows_of (found_of m) ≡ matches_of command_line (map S.text words.entry.now)) × AreGiven m) }
     ensures refused { IfErr result (IsRefusal (fault_of command_line (map S.text words.entry.now)) (matches_of command_line (map S.text words.entry.now))) }
 {
-    match command(alloc)?.try_get_matches_from(words) {
-        Ok(matches) => Ok(matches),
-        Err(error) => {
-            if error.kind() == ErrorKind::OutOfMemory {
-                Err(WordsFault::Memory)
-            } else {
-                Err(WordsFault::Parse(error))
-            }
-        }
-    }
+    matched(command(alloc)?, words)
 }
 
 /// A copy of a text.

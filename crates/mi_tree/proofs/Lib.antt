@@ -7,6 +7,7 @@ pub mod Outs
 pub mod Puts
 pub mod Ranks
 pub mod Shapes
+pub mod Sinks
 pub mod Sorts
 pub mod Stands
 pub mod Stocks

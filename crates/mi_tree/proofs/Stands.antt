@@ -1,5 +1,5 @@
 -- From a tree's parts to the whole, and back.
-use Rattle.std.proofs.Common.{◌≡◌, ◌==◌, Bool, false, ℕ, ◌+◌, ◌*◌, ◌^◌, ◌<◌, ◌≤◌, List, [], ◌∷◌, ◌++◌, length, Option, Some, None, refl, sym, ap, ◌∙◌, subst, arith, length-append}
+use Rattle.std.proofs.Common.{◌≡◌, ◌==◌, false, ℕ, ◌+◌, ◌*◌, ◌^◌, ◌<◌, ◌≤◌, List, [], ◌∷◌, ◌++◌, length, Option, Some, None, refl, sym, ap, ◌∙◌, subst, arith, length-append}
 use Rattle.std.specs.declared.cmp.Ordering.{Ordering}
 use Rattle.std.specs.declared.cmp.Ordering.TheVariants.{Less, Equal, Greater}
 use Rattle.std.specs.Cmp.{IsTotalOrder}
@@ -165,9 +165,9 @@ module _ {T O : Type 0} where
   pub tagged_in : (l : Tree O) (m : Pooled T) (order : T → T → Ordering) (tag : T → ℕ) (rs : List Ref) (h : IsTree l m order tag rs) → AreTagged tag m l.slot (nodes h.shape)
   tagged_in l m order tag rs h = subst (AreTagged tag m l.slot) (sym h.nodes_are) h.tagged
 
-  pub has_taken : (order : T → T → Ordering) (tag : T → ℕ) (l j : Tree O) (m n : Pooled T) (xs : List Ref) (x : Ref) (ys : List Ref) (h : IsTree l m order tag (xs ++ x ∷ ys)) (root : Option Ref) (lower : Bool) (u : Shape)
-      → j.slot ≡ l.slot → j.root ≡ root → HasTaken m n l.slot h.shape (xs ++ ys) root lower u → IsTree j n order tag (xs ++ ys)
-  has_taken order tag l j m n xs x ys h root lower u es er p =
+  pub has_taken : (order : T → T → Ordering) (tag : T → ℕ) (l j : Tree O) (m n : Pooled T) (xs : List Ref) (x : Ref) (ys : List Ref) (h : IsTree l m order tag (xs ++ x ∷ ys)) (root : Option Ref) (u : Shape)
+      → j.slot ≡ l.slot → j.root ≡ root → HasTaken m n l.slot h.shape (xs ++ ys) root u → IsTree j n order tag (xs ++ ys)
+  has_taken order tag l j m n xs x ys h root u es er p =
       let a = length-append xs (x ∷ ys) in let b = length-append xs ys in let f = h.fits in record {
         shape = u;
         rooted = subst (λ (z : ℕ × Option Ref). IsRooted n z.0 z.1 u) (λ i. (sym es i, sym er i)) p.rooted;

@@ -1,23 +1,15 @@
 -- A node less in a subtree, and then in the whole.
-use Rattle.std.proofs.Common.{◌≡◌, ℕ, Bool, true, false, ◌+◌, ◌-◌, ◌^◌, ◌<◌, ◌≤◌, max, List, [], ◌∷◌, ◌++◌, length, Option, Some, None, refl, sym, ap, ◌∙◌, subst, arith, append_assoc, length-append}
-use Rattle.mi_node.specs.Pool.{Pooled, link_of, IsHeld, Keeps}
+use Rattle.std.proofs.Common.{◌≡◌, ℕ, ◌+◌, ◌^◌, ◌<◌, ◌≤◌, max, List, [], ◌∷◌, ◌++◌, length, Option, Some, None, refl, sym, ap, ◌∙◌, subst, arith, length-append}
+use Rattle.mi_node.specs.Pool.{Pooled, link_of, IsHeld}
 use Rattle.mi_node.specs.declared.link.Link.{Link}
 use Rattle.mi_node.specs.Refs.{Ref, IsOut, IsApart}
-use Rattle.mi_node.proofs.Refs.{out_left, out_right, out_both, apart_right, apart_across, apart_remove, between, are_out_flip}
+use Rattle.mi_node.proofs.Refs.{out_left, out_right, out_both, apart_right, apart_across, apart_remove, between}
 use Rattle.mi_node.proofs.Keeping.{keeps_then, keeps_more, keeps_none, held_kept}
 use Rattle.mi_tree.specs.Shape.{Shape, Tip, Fork, nodes, size, height, DifferByAtMost, IsEven, Stands, height_at}
-use Rattle.mi_tree.specs.Joining.{AreSides, IsBalanced, Says}
+use Rattle.mi_tree.specs.Joining.{AreSides, IsBalanced}
 use Rattle.mi_tree.specs.Sorted.{CanTake, HasTaken, AreEnds, AreAppended}
 use Rattle.mi_tree.proofs.Shapes.{moved, opened, tip_is, height-root, size-nodes}
 use Rattle.mi_tree.proofs.Joins.{rooted_kept}
-use Rattle.mi_tree.proofs.Puts.{cut_right}
-
--- heights after one side sank by at most one
-pub sunk : (l q u t : ℕ) → DifferByAtMost 1 l q → u ≤ l → l ≤ u + 1 → max u q ≤ t → t ≤ max u q + 1 → (DifferByAtMost 1 u q → t ≡ max u q + 1) → (t ≤ max l q + 1) × (max l q + 1 ≤ t + 1)
-sunk l q u t d a b low high tight = (grind arith, grind arith)
-
-pub sunk_right : (l q u t : ℕ) → DifferByAtMost 1 l q → u ≤ q → q ≤ u + 1 → max l u ≤ t → t ≤ max l u + 1 → (DifferByAtMost 1 l u → t ≡ max l u + 1) → (t ≤ max l q + 1) × (max l q + 1 ≤ t + 1)
-sunk_right l q u t d a b low high tight = (grind arith, grind arith)
 
 -- heights after the first node of the right side became the root
 pub met : (l q u t : ℕ) → DifferByAtMost 1 l q → u ≤ q → q ≤ u + 1 → max l u ≤ t → t ≤ max l u + 1 → (DifferByAtMost 1 l u → t ≡ max l u + 1) → (l ≤ t) × (q ≤ t) × (t ≤ max l q + 1)
@@ -35,9 +27,6 @@ out_less k xs x ys o = out_both k xs ys (out_left k xs (x ∷ ys) o) (out_right 
 -- a part of a list apart from others
 pub apart_less : (xs : List Ref) (x : Ref) (ys : List Ref) → IsApart (xs ++ x ∷ ys) → IsApart (xs ++ ys)
 apart_less xs x ys a = (apart_remove xs x ys a).0
-
-pub true_is : true ≡ false → ⊥
-true_is e = cc
 
 fork_left : (A : Shape) (r : Ref) (B l : Shape) (x : Ref) (q : Shape) → Fork A r B ≡ Fork l x q → A ≡ l
 fork_left A r B l x q e = cc
@@ -115,109 +104,6 @@ module _ {T : Type 0} where
         tag_is = ap (λ (z : Link). z.tag) i;
       }
 
-  -- a list cut out of one that is apart
-  module _ (m n : Pooled T) (s : ℕ) (root : Ref) (y : Link) (t : Shape) (o : TakeOpened m s root y t) (rest : Option Ref) (lower : Bool) (u : Shape) (xs : List Ref) (x : Ref) (ys : List Ref) where
-    pub without_left : nodes o.A ≡ xs ++ x ∷ ys → HasTaken m n s o.A (xs ++ ys) rest lower u → AreSides n s rest root y.forth u o.B
-    without_left e h =
-        let A = nodes o.A in let B = nodes o.B in let size_is = less_size o.A u xs x ys e h.nodes_are in let e0 = o.even.0 in let f = o.fits in let lo = h.not_lower in let hi = h.not_higher in
-        let all = subst IsApart (ap (λ v. v ++ root ∷ B) e ∙ append_assoc xs (x ∷ ys) (root ∷ B)) o.apart in record {
-          left_is = h.rooted;
-          held = held_kept s m n (xs ++ ys) root h.keeps o.held_root;
-          right_is = rooted_kept s m n A y.forth o.B (keeps_more s m n (xs ++ ys) A h.keeps (λ k out. out_less k xs x ys (subst (IsOut k) e out))) (are_out_flip A B (cut_right A root B (apart_across A (root ∷ B) o.apart))) o.right.rooted;
-          apart = subst IsApart (sym (ap (λ v. v ++ root ∷ B) h.nodes_are ∙ append_assoc xs ys (root ∷ B))) (apart_less xs x (ys ++ root ∷ B) all);
-          left_even = h.even;
-          right_even = o.even.2;
-          near = (omega arith, omega arith);
-          fits = omega arith;
-        }
-
-    pub without_right : nodes o.B ≡ xs ++ x ∷ ys → HasTaken m n s o.B (xs ++ ys) rest lower u → AreSides n s y.back root rest o.A u
-    without_right e h =
-        let A = nodes o.A in let B = nodes o.B in let size_is = less_size o.B u xs x ys e h.nodes_are in let e0 = o.even.0 in let f = o.fits in let lo = h.not_lower in let hi = h.not_higher in
-        let all = subst IsApart (ap (λ v. A ++ root ∷ v) e ∙ sym (append_assoc A (root ∷ xs) (x ∷ ys))) o.apart in record {
-          left_is = rooted_kept s m n B y.back o.A (keeps_more s m n (xs ++ ys) B h.keeps (λ k out. out_less k xs x ys (subst (IsOut k) e out))) (cut_right A root B (apart_across A (root ∷ B) o.apart)) o.left.rooted;
-          held = held_kept s m n (xs ++ ys) root h.keeps o.held_root;
-          right_is = h.rooted;
-          apart = subst IsApart (sym (ap (λ v. A ++ root ∷ v) h.nodes_are ∙ sym (append_assoc A (root ∷ xs) ys))) (apart_less (A ++ root ∷ xs) x ys all);
-          left_even = o.even.1;
-          right_even = h.even;
-          near = (omega arith, omega arith);
-          fits = omega arith;
-        }
-
-    -- the root's link is as it was
-    pub still_left : nodes o.A ≡ xs ++ x ∷ ys → HasTaken m n s o.A (xs ++ ys) rest lower u → link_of n root.name s ≡ link_of m root.name s
-    still_left e h = h.keeps.other_nodes root.name s (out_less root.name xs x ys (subst (IsOut root.name) e (between (nodes o.A) root (nodes o.B) o.apart).out_left))
-
-    pub still_right : nodes o.B ≡ xs ++ x ∷ ys → HasTaken m n s o.B (xs ++ ys) rest lower u → link_of n root.name s ≡ link_of m root.name s
-    still_right e h = h.keeps.other_nodes root.name s (out_less root.name xs x ys (subst (IsOut root.name) e (between (nodes o.A) root (nodes o.B) o.apart).out_right))
-
-    -- what the new link of the root says
-    pub says_left : (w : Link) → w.size ≡ y.size - 1 → w.height ≡ y.height → w.tag ≡ y.tag → nodes o.A ≡ xs ++ x ∷ ys → HasTaken m n s o.A (xs ++ ys) rest lower u → Says n s root w lower u o.B
-    says_left w a b c e h = let d = less_size o.A u xs x ys e h.nodes_are in let i = o.size_is in let j = o.height_is in let near = o.even.0 in record {
-      size_is = omega arith;
-      height_is = λ f. (let k = h.same_height f in omega arith);
-      near = λ f. (let k = h.same_height f in (omega arith, omega arith));
-      tag_is = c ∙ o.tag_is ∙ sym (h.tags root.name);
-    }
-
-    pub says_right : (w : Link) → w.size ≡ y.size - 1 → w.height ≡ y.height → w.tag ≡ y.tag → nodes o.B ≡ xs ++ x ∷ ys → HasTaken m n s o.B (xs ++ ys) rest lower u → Says n s root w lower o.A u
-    says_right w a b c e h = let d = less_size o.B u xs x ys e h.nodes_are in let i = o.size_is in let j = o.height_is in let near = o.even.0 in record {
-      size_is = omega arith;
-      height_is = λ f. (let k = h.same_height f in omega arith);
-      near = λ f. (let k = h.same_height f in (omega arith, omega arith));
-      tag_is = c ∙ o.tag_is ∙ sym (h.tags root.name);
-    }
-
-    pub took_left : (v : Pooled T) (result : Ref) (top : Bool) (z : Shape) → nodes o.A ≡ xs ++ x ∷ ys → HasTaken m n s o.A (xs ++ ys) rest lower u → IsBalanced n v s u root o.B result z → (top ≡ false → height z ≡ y.height)
-        → HasTaken m v s t (xs ++ (ys ++ root ∷ nodes o.B)) (Some result) top z
-    took_left v result top z e h b same =
-        let A = nodes o.A in let B = nodes o.B in let r = b.rebalanced in let names = ap nodes o.is in let heights = ap height o.is in
-        let g = sunk (height o.A) (height o.B) (height u) (height z) o.even.0 h.not_higher h.not_lower r.not_lower r.not_higher r.as_high in record {
-          rooted = b.rooted;
-          even = r.even;
-          nodes_are = r.nodes_are ∙ ap (λ w. w ++ root ∷ B) h.nodes_are ∙ append_assoc xs ys (root ∷ B);
-          not_higher = omega arith;
-          not_lower = omega arith;
-          same_height = λ f. (let k = same f in let j = o.height_is in omega arith);
-          tags = λ k. b.tags k ∙ h.tags k;
-          keeps = keeps_then s m n v (xs ++ ys) (nodes u ++ root ∷ B) (xs ++ (ys ++ root ∷ B)) h.keeps b.keeps
-              (λ k out. let all = subst (IsOut k) (sym (append_assoc xs ys (root ∷ B))) out in (out_left k (xs ++ ys) (root ∷ B) all, subst (λ w. IsOut k (w ++ root ∷ B)) (sym h.nodes_are) all));
-        }
-
-    pub took_right : (v : Pooled T) (result : Ref) (top : Bool) (z : Shape) → nodes o.B ≡ xs ++ x ∷ ys → HasTaken m n s o.B (xs ++ ys) rest lower u → IsBalanced n v s o.A root u result z → (top ≡ false → height z ≡ y.height)
-        → HasTaken m v s t ((nodes o.A ++ root ∷ xs) ++ ys) (Some result) top z
-    took_right v result top z e h b same =
-        let A = nodes o.A in let B = nodes o.B in let r = b.rebalanced in let names = ap nodes o.is in let heights = ap height o.is in
-        let g = sunk_right (height o.A) (height o.B) (height u) (height z) o.even.0 h.not_higher h.not_lower r.not_lower r.not_higher r.as_high in record {
-          rooted = b.rooted;
-          even = r.even;
-          nodes_are = r.nodes_are ∙ ap (λ w. A ++ root ∷ w) h.nodes_are ∙ sym (append_assoc A (root ∷ xs) ys);
-          not_higher = omega arith;
-          not_lower = omega arith;
-          same_height = λ f. (let k = same f in let j = o.height_is in omega arith);
-          tags = λ k. b.tags k ∙ h.tags k;
-          keeps = keeps_then s m n v (xs ++ ys) (A ++ root ∷ nodes u) ((A ++ root ∷ xs) ++ ys) h.keeps b.keeps
-              (λ k out. let all = subst (IsOut k) (append_assoc A (root ∷ xs) ys) out in ((out_right k A (root ∷ (xs ++ ys)) all).1, subst (λ w. IsOut k (A ++ root ∷ w)) (sym h.nodes_are) all));
-        }
-
-  -- the root is the first node
-  pub took_root : (m : Pooled T) (s : ℕ) (root : Ref) (y : Link) (t : Shape) (o : TakeOpened m s root y t) → o.A ≡ Tip → (nodes t ≡ root ∷ nodes o.B) × HasTaken m m s t (nodes o.B) y.forth true o.B
-  took_root m s root y t o e =
-      let whole = o.is ∙ ap (λ k. Fork k root o.B) e in let heights = ap height whole in let even = o.even.0 in (
-        ap nodes whole,
-        record {
-          rooted = o.right.rooted;
-          even = o.even.2;
-          nodes_are = refl;
-          not_higher = omega arith;
-          not_lower = let low = ap height e in omega arith;
-          same_height = λ f. absurd (true_is f);
-          keeps = keeps_none s m (nodes o.B);
-          tags = λ k. refl;
-        },
-      )
-
   -- two trees
   pub ends_take : (m : Pooled T) (s : ℕ) (left right : Option Ref) (l q : Shape) → AreEnds m s left right l q → CanTake m s right q
   ends_take m s left right l q h = let f = h.fits in record { rooted = h.right_is; even = h.right_even; apart = apart_right (nodes l) (nodes q) h.apart; fits = omega arith }
@@ -234,7 +120,7 @@ module _ {T : Type 0} where
         tags = λ k. refl;
       }
 
-  module _ (m n : Pooled T) (s : ℕ) (left right : Option Ref) (l q : Shape) (h : AreEnds m s left right l q) (first : Ref) (rs : List Ref) (rest : Option Ref) (lower : Bool) (u : Shape) (is : nodes q ≡ first ∷ rs) (k : HasTaken m n s q rs rest lower u) where
+  module _ (m n : Pooled T) (s : ℕ) (left right : Option Ref) (l q : Shape) (h : AreEnds m s left right l q) (first : Ref) (rs : List Ref) (rest : Option Ref) (u : Shape) (is : nodes q ≡ first ∷ rs) (k : HasTaken m n s q rs rest u) where
     pub ends_sides : AreSides n s left first rest l u
     ends_sides =
         let size_is = less_size q u [] first rs is k.nodes_are in let e0 = h.near in let f = h.fits in let lo = k.not_lower in let hi = k.not_higher in
@@ -261,30 +147,6 @@ module _ {T : Type 0} where
           keeps = keeps_then s m n v rs (nodes l ++ first ∷ nodes u) (nodes l ++ nodes q) k.keeps b.keeps
               (λ j out. let right = out_right j (nodes l) (nodes q) out in ((subst (IsOut j) is right).1, out_both j (nodes l) (first ∷ nodes u) (out_left j (nodes l) (nodes q) out) (subst (λ w. IsOut j (first ∷ w)) (sym k.nodes_are) (subst (IsOut j) is right))));
         }
-
-  pub ends_of : (m : Pooled T) (s : ℕ) (root : Ref) (y : Link) (t : Shape) (o : TakeOpened m s root y t) → AreEnds m s y.back y.forth o.A o.B
-  ends_of m s root y t o = let f = o.fits in let e0 = o.even.0 in record {
-    left_is = o.left.rooted;
-    right_is = o.right.rooted;
-    left_even = o.even.1;
-    right_even = o.even.2;
-    apart = apart_less (nodes o.A) root (nodes o.B) o.apart;
-    near = (omega arith, omega arith);
-    fits = omega arith;
-  }
-
-  pub took_here : (m n : Pooled T) (s : ℕ) (root : Ref) (y : Link) (t : Shape) (o : TakeOpened m s root y t) (result : Option Ref) (top : Bool) (u : Shape) (xs ys : List Ref) → nodes o.A ≡ xs → nodes o.B ≡ ys
-      → AreAppended m n s o.A o.B result u → (top ≡ false → height u ≡ y.height) → HasTaken m n s t (xs ++ ys) result top u
-  took_here m n s root y t o result top u xs ys e f h same = let heights = ap height o.is in let lo = h.not_lower in let hi = h.not_higher in record {
-    rooted = h.rooted;
-    even = h.even;
-    nodes_are = h.nodes_are ∙ (λ i. e i ++ f i);
-    not_higher = omega arith;
-    not_lower = grind arith;
-    same_height = λ g. (let k = same g in let j = o.height_is in omega arith);
-    keeps = subst (λ k. Keeps m n s k) (λ i. e i ++ f i) h.keeps;
-    tags = h.tags;
-  }
 
   -- the sides of a fork, which is known already
   pub side_take : (m : Pooled T) (s : ℕ) (at : Option Ref) (root : Ref) (y : Link) (t : Shape) → CanTake m s at t → at ≡ Some root → y ≡ link_of m root.name s → (l q : Shape) → t ≡ Fork l root q → CanTake m s y.back l × CanTake m s y.forth q

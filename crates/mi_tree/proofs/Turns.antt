@@ -1,6 +1,5 @@
 -- Turning a tree whose one side is two levels higher.
-use Rattle.std.proofs.lemmas.Bool.Decides.{nat_tests}
-use Rattle.std.proofs.Common.{◌≡◌, ◌==◌, ℕ, Bool, not, false, ◌+◌, ◌<◌, ◌≤◌, List, [], ◌∷◌, ◌++◌, Option, Some, refl, sym, ap, ◌∙◌, subst, arith, append_assoc}
+use Rattle.std.proofs.Common.{◌≡◌, ℕ, ◌+◌, ◌<◌, ◌≤◌, List, [], ◌∷◌, ◌++◌, Option, Some, refl, sym, ap, ◌∙◌, subst, arith, append_assoc}
 use Rattle.mi_node.specs.Pool.{Pooled, link_of, Keeps}
 use Rattle.mi_node.specs.declared.link.Link.{Link}
 use Rattle.mi_node.specs.Refs.{Ref, IsOut, IsApart}
@@ -8,7 +7,7 @@ use Rattle.mi_node.proofs.Keeping.{keeps_more}
 use Rattle.mi_node.proofs.Refs.{out_left, out_right, between}
 use Rattle.mi_tree.specs.Shape.{Shape, Fork, nodes, size, height, DifferByAtMost, IsEven, IsRooted}
 use Rattle.mi_tree.specs.Sorted.{SameTags}
-use Rattle.mi_tree.specs.Joining.{Two, IsFork, Three, Four, Rebalanced, AreSides, IsBalanced, Says}
+use Rattle.mi_tree.specs.Joining.{Two, Three, Four, Rebalanced, AreSides, IsBalanced}
 use Rattle.mi_tree.proofs.Heights.{low_enough}
 use Rattle.mi_tree.proofs.Shapes.{moved, opened}
 
@@ -56,10 +55,6 @@ turn_right_both A x B y C z D e f d h w = let f0 = f.0 in let f1 = f.1.0 in reco
   not_higher = omega arith;
   as_high = λ k. absurd (omega arith);
 }
-
--- what a test of two numbers says
-pub same_number : (a b : ℕ) → not (a == b) ≡ false → a ≡ b
-same_number a b e = grind (arith, nat_tests, e)
 
 out_two : (k : ℕ) (A : List Ref) (x : Ref) (B : List Ref) (y : Ref) (C : List Ref) → IsOut k ((A ++ x ∷ B) ++ y ∷ C) → IsOut k (x ∷ y ∷ [])
 out_two k A x B y C h = ((out_right k A (x ∷ B) (out_left k (A ++ x ∷ B) (y ∷ C) h)).0, ((out_right k (A ++ x ∷ B) (y ∷ C) h).0, tt))
@@ -215,24 +210,19 @@ module _ {T : Type 0} where
         },
       )
 
-  pub plain_is : (m n : Pooled T) (s : ℕ) (left : Option Ref) (x : Ref) (right : Option Ref) (l q : Shape) → AreSides m s left x right l q → DifferByAtMost 1 (height l) (height q)
-      → IsRooted n s (Some x) (Fork l x q) → Keeps m n s (x ∷ []) → SameTags m n s → IsBalanced m n s l x q x (Fork l x q)
-  plain_is m n s left x right l q h near rooted keeps tags = record {
-    rooted = rooted;
-    rebalanced = turn_plain l x q h.left_even h.right_even near;
-    keeps = keeps_more s m n (x ∷ []) _ keeps (λ k o. ((out_right k (nodes l) (x ∷ nodes q) o).0, tt));
-    tags = tags;
-  }
-
   pub plains : (m n : Pooled T) (s : ℕ) (left : Option Ref) (x : Ref) (right : Option Ref) (l q : Shape) → AreSides m s left x right l q → DifferByAtMost 1 (height l) (height q)
       → IsRooted n s (Some x) (Fork l x q) → Keeps m n s (x ∷ []) → SameTags m n s → (t : Shape) × IsBalanced m n s l x q x t
-  plains m n s left x right l q h near rooted keeps tags = (Fork l x q, plain_is m n s left x right l q h near rooted keeps tags)
+  plains m n s left x right l q h near rooted keeps tags = (
+    Fork l x q,
+    record {
+      rooted = rooted;
+      rebalanced = turn_plain l x q h.left_even h.right_even near;
+      keeps = keeps_more s m n (x ∷ []) _ keeps (λ k o. ((out_right k (nodes l) (x ∷ nodes q) o).0, tt));
+      tags = tags;
+    },
+  )
 
   pub plain_parts : (m : Pooled T) (s : ℕ) (left : Option Ref) (x : Ref) (right : Option Ref) (l q : Shape) → AreSides m s left x right l q → Two m s left x right l q
   plain_parts m s left x right l q h =
       let f = h.fits in let hl = low_enough l h.left_even (omega arith) in let hq = low_enough q h.right_even (omega arith) in let b = between (nodes l) x (nodes q) h.apart in
       record { first = h.left_is; held = h.held; second = h.right_is; out_first = b.out_left; out_second = b.out_right; fits = f; low = (omega arith, omega arith) }
-
-  -- a node's link that was set, where no side changed in height
-  pub settled : (m : Pooled T) (s : ℕ) (x : Ref) (y : Link) (changed : Bool) (l q : Shape) → AreSides m s y.back x y.forth l q → Says m s x y changed l q → changed ≡ false → IsFork m s x y l q
-  settled m s x y changed l q h w e = record { two = plain_parts m s y.back x y.forth l q h; size_is = w.size_is; height_is = w.height_is e; tag_is = w.tag_is }

@@ -18,7 +18,7 @@ use Rattle.mi_node.proofs.Refs.{out_left, out_right, between, are_out_cons, are_
 use Rattle.mi_tree.specs.Shape.{Shape, Tip, Fork, nodes, top, size, height, DifferByAtMost, IsEven, Stands, IsRooted, height_at}
 use Rattle.mi_tree.specs.Joining.{AreSides, IsBalanced}
 use Rattle.mi_tree.specs.Sorted.{AreTagged, SameTags, IsPutIn, CanPut, HasPut, side}
-use Rattle.mi_tree.specs.Ways.{Frame, path_of, forked, forked_size, forked_height, forked_link, rehung, plug, AreEven, IsRootOf, Above, Falls, HasFallen, Climbs, HasClimbed}
+use Rattle.mi_tree.specs.Ways.{Frame, path_of, forked, forked_size, forked_height, forked_link, rehung, plug, risen, IsLevel, AreEven, IsRootOf, Above, Falls, HasFallen, Climbs, HasClimbed}
 use Rattle.mi_tree.specs.declared.way.Turn.{Turn}
 use Rattle.mi_tree.proofs.Shapes.{moved, tip_is, size-nodes, height-root}
 use Rattle.mi_tree.proofs.Joins.{link_kept, stands_kept, rooted_past, tags_set}
@@ -31,7 +31,7 @@ use Rattle.mi_tree.proofs.Stands.{tagged_kept}
 abbrev pub turn_of : Frame → Turn
 turn_of f = record { node = f.node; left = f.left }
 
-path_length : (fs : List Frame) → length (path_of fs) ≡ length fs
+pub path_length : (fs : List Frame) → length (path_of fs) ≡ length fs
 path_length [] = refl
 path_length (f ∷ fs) = let i = path_length fs in let j = length-append (path_of fs) (Some (turn_of f) ∷ []) in omega arith
 
@@ -87,7 +87,7 @@ forked_apart : (b : Bool) (r : Ref) (q t : Shape) → IsApart (nodes (forked b t
 forked_apart true r q t a = let w = between (nodes t) r (nodes q) a in record { tree = w.left; out_tree = w.out_left; out_other = w.out_right; across = are_out_flip (nodes t) (nodes q) w.across }
 forked_apart false r q t a = let w = between (nodes q) r (nodes t) a in record { tree = w.right; out_tree = w.out_right; out_other = w.out_left; across = w.across }
 
-plug_apart : (fs : List Frame) (t : Shape) → IsApart (nodes (plug fs t)) → IsApart (nodes t)
+pub plug_apart : (fs : List Frame) (t : Shape) → IsApart (nodes (plug fs t)) → IsApart (nodes t)
 plug_apart [] t a = a
 plug_apart (f ∷ fs) t a = (forked_apart f.left f.node f.other t (plug_apart fs (forked f.left t f.node f.other) a)).tree
 
@@ -112,7 +112,7 @@ size_less : (b : Bool) (r : Ref) (q t : Shape) → size t + size q + 1 ≡ size 
 size_less true r q t = refl
 size_less false r q t = omega arith
 
-plug_size : (fs : List Frame) (t : Shape) → size t ≤ size (plug fs t)
+pub plug_size : (fs : List Frame) (t : Shape) → size t ≤ size (plug fs t)
 plug_size [] t = omega arith
 plug_size (f ∷ fs) t = let i = plug_size fs (forked f.left t f.node f.other) in let j = size_less f.left f.node f.other t in omega arith
 
@@ -137,9 +137,25 @@ root_next : (root : Option Ref) (f : Frame) (fs : List Frame) → IsRootOf root 
 root_next root f [] e = tt
 root_next root f (g ∷ gs) e = e ∙ top_plug g gs (forked f.left Tip f.node f.other) Tip
 
+-- the root of the whole, if a node is above the end of the way
+pub root_above : (root : Option Ref) (fs : List Frame) (t : Shape) → root ≡ top (plug fs t) → IsRootOf root fs
+root_above root [] t e = tt
+root_above root (f ∷ fs) t e = e ∙ top_plug f fs t Tip
+
 pub root_top : (root : Option Ref) (fs : List Frame) → root ≡ top (plug fs Tip) → IsRootOf root fs
 root_top root [] e = tt
 root_top root (f ∷ fs) e = e
+
+pub plug_height : (fs : List Frame) (t : Shape) → height (plug fs t) ≡ risen fs (height t)
+plug_height [] t = refl
+plug_height (f ∷ fs) t = plug_height fs (forked f.left t f.node f.other) ∙ ap (risen fs) (height_forked f.left f.node f.other t)
+
+pub level_same : (a h k z : ℕ) → k ≡ z → IsLevel a h k z
+level_same a h k z e = ((omega arith, omega arith), λ f. omega arith)
+
+not_lifted : (b : Bool) (h k u z : ℕ) → u ≤ h → z ≤ max u k + 1 → z ≤ forked_height b h k
+not_lifted true h k u z a f = grind arith
+not_lifted false h k u z a f = grind arith
 
 -- heights after one side changed by at most one
 lifted : (b : Bool) (h k u z : ℕ) → DifferByAtMost 1 u h → DifferByAtMost 1 h k → max u k ≤ z → z ≤ max u k + 1 → (DifferByAtMost 1 u k → z ≡ max u k + 1) → DifferByAtMost 1 z (forked_height b h k)
@@ -157,7 +173,7 @@ even_forked : (b : Bool) (r : Ref) (q t : Shape) → DifferByAtMost 1 (height t)
 even_forked true r q t d e f = (d, e, f)
 even_forked false r q t d e f = ((omega arith, omega arith), f, e)
 
-even_moved : (fs : List Frame) (h k : ℕ) → h ≡ k → AreEven fs h → AreEven fs k
+pub even_moved : (fs : List Frame) (h k : ℕ) → h ≡ k → AreEven fs h → AreEven fs k
 even_moved fs h k e a = subst (AreEven fs) e a
 
 link_height : (b : Bool) (at : Option Ref) (n h : ℕ) (q : Shape) (t : Tag) → (forked_link b at n h q t).height ≡ forked_height b h (height q)
@@ -230,6 +246,9 @@ module _ {T : Type 0} where
   pub climbed_none : (m : Pooled T) (s : ℕ) (root below : Option Ref) (items : List (Option Turn)) (fs : List Frame) (at : Option Ref) (h : ℕ) (u : Shape) → Climbs m s root below items fs at h u → fs ≡ [] → HasClimbed m m s (plug fs u) below u
   climbed_none m s root below items fs at h u c e = record { rooted = c.rooted; even = c.even; nodes_are = sym (ap (λ k. nodes (plug k u)) e); keeps = keeps_none s m (nodes (plug fs u)); tags = λ k. refl }
 
+  pub level_none : (m : Pooled T) (s : ℕ) (root below : Option Ref) (items : List (Option Turn)) (fs : List Frame) (at : Option Ref) (h : ℕ) (u : Shape) → Climbs m s root below items fs at h u → fs ≡ [] → IsLevel (height u) h (height_at m s below) (risen fs h)
+  level_none m s root below items fs at h u c e = subst (λ (z : ℕ × ℕ). IsLevel (height u) h z.0 z.1) (λ i. (sym (height-root m s below u c.rooted) i, ap (λ k. risen k h) (sym e) i)) (c.near, λ f. f)
+
   module _ (m : Pooled T) (s : ℕ) (root below : Option Ref) (items new : List (Option Turn)) (fs : List Frame) (at : Option Ref) (h : ℕ) (u : Shape) (c : Climbs m s root below items fs at h u) (turn : Turn) (w : IsTurned fs new turn)
       (y : Link) (i : y ≡ link_of m turn.node.name s) where
     abbrev whole : Shape
@@ -282,6 +301,10 @@ module _ {T : Type 0} where
             fits = subst (λ j. j < 2 ^ 32) (sym (same_size (plug w.rest z) (plug w.rest whole) same)) open_fits;
             root_is = root_next root (frame turn w.other) w.rest (subst (IsRootOf root) w.was c.root_is);
           }
+
+      pub level_on : (j : ℕ) → IsLevel (height z) (forked_height turn.left h (height w.other)) j (risen w.rest (forked_height turn.left h (height w.other))) → IsLevel (height u) h j (risen fs h)
+      level_on j d = let high = subst (λ i. height z ≤ i + 1) o.heights.0 k.rebalanced.not_higher in
+          subst (λ (i : List Frame). IsLevel (height u) h j (risen i h)) (sym w.was) (d.0, λ f. d.1 (not_lifted turn.left h (height w.other) (height u) (height z) f high))
 
       pub climbed_on : (v : Pooled T) (result : Option Ref) (t : Shape) → HasClimbed n v s (plug w.rest z) result t → HasClimbed m v s (plug fs u) result t
       climbed_on v result t d =

@@ -1,7 +1,7 @@
 -- What is put together, and what comes of it.
 --     Two, Three, Four      subtrees with nodes between them, which may be put together
 --     AreSides, IsBalanced      two balanced subtrees of nearly one height, and the balanced tree that they give
-use Rattle.std.specs.Prelude.{◌≡◌, ℕ, Bool, false, ◌+◌, ◌^◌, ◌<◌, ◌≤◌, max, ◌∷◌, ◌++◌, Option, Some}
+use Rattle.std.specs.Prelude.{◌≡◌, ℕ, ◌+◌, ◌^◌, ◌<◌, ◌≤◌, max, ◌∷◌, ◌++◌, Option, Some}
 use Rattle.mi_node.specs.Pool.{Pooled, IsHeld, Keeps, link_of}
 use Rattle.mi_node.specs.declared.link.Link.{Link}
 use Rattle.mi_node.specs.Refs.{Ref, IsOut, IsApart}
@@ -73,10 +73,3 @@ module _ {T : Type 0} where
     pub rebalanced : Rebalanced l x q t
     pub keeps : Keeps m n s (nodes l ++ x ∷ nodes q)
     pub tags : SameTags m n s
-
-  -- the link has their size, and also the height of the tree that they give, where neither changed in height
-  pub record Says (m : Pooled T) (s : ℕ) (x : Ref) (y : Link) (changed : Bool) (l q : Shape) : Type 0 where
-    pub size_is : y.size ≡ size l + size q + 1
-    pub height_is : changed ≡ false → y.height ≡ max (height l) (height q) + 1
-    pub near : changed ≡ false → DifferByAtMost 1 (height l) (height q)
-    pub tag_is : y.tag ≡ (link_of m x.name s).tag

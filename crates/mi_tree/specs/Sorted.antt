@@ -3,7 +3,7 @@
 --     AreTagged, SameTags      each node's link has the tag of its value; a change keeps all tags
 --     Rising      each node is before all later ones
 --     IsPutIn      the list with one more node, in its place
-use Rattle.std.specs.Prelude.{◌≡◌, ℕ, ◌+◌, ◌^◌, ◌<◌, ◌≤◌, max, false, Bool, List, [], ◌∷◌, ◌++◌, Option, Some, None}
+use Rattle.std.specs.Prelude.{◌≡◌, ℕ, ◌+◌, ◌^◌, ◌<◌, ◌≤◌, max, List, [], ◌∷◌, ◌++◌, Option, Some, None}
 use Rattle.std.specs.Ordering.{nat_cmp, ordering_then}
 use Rattle.std.specs.declared.cmp.Ordering.{Ordering}
 use Rattle.std.specs.declared.cmp.Ordering.TheVariants.{Less, Equal, Greater}
@@ -97,13 +97,12 @@ module _ {T : Type 0} where
     pub fits : size t < 2 ^ 32
 
   -- u has the nodes rs, and is as high as t or one level lower; only links of rs changed
-  pub record HasTaken (m n : Pooled T) (s : ℕ) (t : Shape) (rs : List Ref) (root : Option Ref) (lower : Bool) (u : Shape) : Type 0 where
+  pub record HasTaken (m n : Pooled T) (s : ℕ) (t : Shape) (rs : List Ref) (root : Option Ref) (u : Shape) : Type 0 where
     pub rooted : IsRooted n s root u
     pub even : IsEven u
     pub nodes_are : nodes u ≡ rs
     pub not_higher : height u ≤ height t
     pub not_lower : height t ≤ height u + 1
-    pub same_height : lower ≡ false → height u ≡ height t
     pub keeps : Keeps m n s rs
     pub tags : SameTags m n s
 

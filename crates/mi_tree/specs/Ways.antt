@@ -3,15 +3,17 @@
 --     rehung      a link with another child
 --     Above      the links of the nodes on the way, for a tree of that root, size and height at its end
 --     Falls, HasFallen      a way to a subtree, and the way down to where a node belongs
+--     Sinks, HasSunk      a way to a subtree, and the way down to a node of it that is about to leave
+--     risen, IsLevel      the height of the whole tree above one of that height, and how it differs from another
 --     Climbs, HasClimbed      a way with another tree at its end, and the whole tree
-use Rattle.std.specs.Prelude.{◌≡◌, ℕ, ◌+◌, ◌^◌, ◌<◌, ◌≤◌, max, Bool, true, false, cond, List, [], ◌∷◌, ◌++◌, length, Option, Some, None}
+use Rattle.std.specs.Prelude.{◌≡◌, ℕ, ◌+◌, ◌-◌, ◌^◌, ◌<◌, ◌≤◌, max, Bool, true, false, cond, List, [], ◌∷◌, ◌++◌, length, Option, Some, None}
 use Rattle.std.specs.declared.cmp.Ordering.{Ordering}
 use Rattle.mi_node.specs.Pool.{Pooled, link_of, IsHeld, Keeps}
 use Rattle.mi_node.specs.Refs.{Ref, IsApart}
 use Rattle.mi_node.specs.declared.link.Link.{Link}
 use Rattle.mi_node.specs.declared.link.Tag.{Tag}
 use Rattle.mi_tree.specs.Shape.{Shape, Tip, Fork, nodes, top, size, height, DifferByAtMost, IsEven, Stands, IsRooted}
-use Rattle.mi_tree.specs.Sorted.{AreTagged, SameTags, IsPutIn, CanPut}
+use Rattle.mi_tree.specs.Sorted.{AreTagged, SameTags, IsPutIn, CanPut, CanTake}
 use Rattle.mi_tree.specs.declared.way.Turn.{Turn}
 
 -- a node on a way, whether the way goes on to its left, and its other side. The last one of a way is the first of a list of frames
@@ -56,6 +58,15 @@ abbrev pub AreEven : List Frame → ℕ → Type 0
 AreEven [] h = Unit {0}
 AreEven (f ∷ fs) h = DifferByAtMost 1 h (height f.other) × IsEven f.other × AreEven fs (forked_height f.left h (height f.other))
 
+-- the height of the whole tree, with one of that height at the end of the way
+abbrev pub risen : List Frame → ℕ → ℕ
+risen [] h = h
+risen (f ∷ fs) h = risen fs (forked_height f.left h (height f.other))
+
+-- a is in place of h, and z of k: they differ by at most one, and z is not higher where a is not
+abbrev pub IsLevel : ℕ → ℕ → ℕ → ℕ → Type 0
+IsLevel a h z k = DifferByAtMost 1 z k × (a ≤ h → z ≤ k)
+
 -- the root stays where a node is above the end of the way
 abbrev pub IsRootOf : Option Ref → List Frame → Type 0
 IsRootOf root [] = Unit {0}
@@ -87,6 +98,29 @@ module _ {T : Type 0} where
     pub beside : AreEven gs 0
     pub places : (u : Shape) → IsPutIn (R x) x [] (nodes u) → IsPutIn (R x) x (nodes whole) (nodes (plug gs u))
     pub keeps : Keeps m n s (nodes whole)
+    pub tags : SameTags m n s
+
+  -- t, in which x is between xs and ys, stands at the end of the way; above it each size counts one less. Without x the whole is vs and ws
+  pub record Sinks (m : Pooled T) (s : ℕ) (items : List (Option Turn)) (at : Option Ref) (fs : List Frame) (t : Shape) (xs : List Ref) (x : Ref) (ys vs ws : List Ref) : Type 0 where
+    pub path_is : items ≡ path_of fs
+    pub can : CanTake m s at t
+    pub has : nodes t ≡ xs ++ x ∷ ys
+    pub above : Above m s fs at (size t - 1) (height t)
+    pub beside : AreEven fs (height t)
+    pub apart : IsApart (nodes (plug fs t))
+    pub places : (u : Shape) → nodes u ≡ xs ++ ys → nodes (plug fs u) ≡ vs ++ ws
+    pub room : height t + length fs ≤ 45
+
+  -- the way of the whole tree to x, which has the sides A and B
+  pub record HasSunk (m n : Pooled T) (s : ℕ) (items : List (Option Turn)) (xs : List Ref) (x : Ref) (ys vs ws : List Ref) (whole : Shape) (gs : List Frame) (A B : Shape) : Type 0 where
+    pub path_is : items ≡ path_of gs
+    pub whole_is : plug gs (Fork A x B) ≡ whole
+    pub rooted : IsRooted n s (Some x) (Fork A x B)
+    pub even : IsEven (Fork A x B)
+    pub above : Above n s gs (Some x) (size A + size B) (height (Fork A x B))
+    pub beside : AreEven gs (height (Fork A x B))
+    pub places : (u : Shape) → nodes u ≡ nodes A ++ nodes B → nodes (plug gs u) ≡ vs ++ ws
+    pub keeps : Keeps m n s (xs ++ ys)
     pub tags : SameTags m n s
 
   -- u is to stand where a tree of nearly its height is; above it each size counts the nodes of u

@@ -1,11 +1,11 @@
 //! Two subtrees and a node between them become one balanced tree.
 //! All changes of a tree are made of these; they set links of one slot, and compare nothing.
-ghost use Rattle.std.specs.Prelude.{◌≡◌, ◌<◌, ◌+◌, false};
+ghost use Rattle.std.specs.Prelude.{◌≡◌, ◌<◌, ◌+◌};
 ghost use Rattle.mi_tree.specs.Shape.{Shape, height as height_of};
-ghost use Rattle.mi_tree.specs.Joining.{AreSides, IsBalanced, Says};
+ghost use Rattle.mi_tree.specs.Joining.{AreSides, IsBalanced};
 
-use crate::parts::{height, join, join_both, join_down, join_up, set_fork};
-use mi_node::{Link, NodeRef, Pool};
+use crate::parts::{height, join, join_both, join_down, join_up};
+use mi_node::{NodeRef, Pool};
 
 /// Makes one balanced tree of two, whose heights differ by at most two, and a node between them: the
 /// same nodes in the same order, at most one level higher. Its root.
@@ -34,30 +34,6 @@ pub(crate) fn balance<T>(
         join(p, slot, link.back, node, link.forth);
         node
     }
-}
-
-/// Makes one balanced tree again of a node and its sides, of which one has changed by one node. The link
-/// has the sides and the size as they are now, and the height as it was. Where no side changed in height,
-/// the link is set and no other is read. The root, and whether the tree's height changed.
-pub(crate) fn settle<T>(
-    p: &mut Pool<T>,
-    slot: usize,
-    node: NodeRef,
-    link: Link,
-    changed: bool,
-) -> (NodeRef, bool)
-    requires slot { slot < p.old.slots }
-    requires sides { (l : Shape) × (q : Shape) × AreSides p.old slot link.back node link.forth l q × Says p.old slot node link changed l q }
-    ensures slots { p.new.slots ≡ p.old.slots }
-    ensures tree { (l : Shape) (q : Shape) → AreSides p.old slot link.back node link.forth l q → Says p.old slot node link changed l q
-        → (t : Shape) × IsBalanced p.old p.new slot l node q result.0 t × (result.1 ≡ false → height_of t ≡ link.height) }
-{
-    if !changed {
-        set_fork(p, slot, node, link);
-        return (node, false);
-    }
-    let root = balance(p, slot, link.back, node, link.forth);
-    (root, height(p, slot, Some(root)) != link.height)
 }
 
 /// The left side is two levels higher.

@@ -89,23 +89,53 @@ fn look_up_all(rt: &impl Abort, stock: &Stock<'_>, calls: &Cell<u64>, most: u64)
     }
 }
 
+/// Takes half of the nodes out and puts them back: the ids stand in order again.
+fn leave_and_return(rt: &impl Abort, stock: &mut Stock<'_>, calls: &Cell<u64>, n: u32, less: u64) {
+    for _ in 0..n / 2 {
+        assert!(rt; stock.pull(n / 4));
+    }
+    assert_eq!(rt; stock.len(), n - n / 2);
+    look_up_all(rt, stock, calls, less);
+    for _ in 0..n / 2 {
+        assert!(rt; stock.put());
+    }
+    assert_eq!(rt; stock.len(), n);
+    for rank in 0..n {
+        assert_eq!(rt; stock.nth(rank), Some(rank));
+    }
+}
+
 #[test]
 fn look_ups_make_few_calls(rt: HostRuntime) {
-    for (n, most) in [(0u32, 1u64), (1, 3), (1000, 21)] {
-        let calls = Cell::new(0);
-        let mut stock = Stock::new(rt.alloc(), &calls, false);
-        for key in 0..n {
-            assert!(rt; stock.add(key, key));
+    for (n, most, less) in [(0u32, 1u64, 1u64), (1, 3, 3), (1000, 21, 19)] {
+        // keys from below, mixed, and from above
+        for step in [1u32, 617, 999] {
+            let calls = Cell::new(0);
+            let mut stock = Stock::new(rt.alloc(), &calls, false);
+            for i in 0..n {
+                let key = i.wrapping_mul(step) % 1000;
+                assert!(rt; stock.add(key, key));
+            }
+            look_up_all(&rt, &stock, &calls, most);
+            leave_and_return(&rt, &mut stock, &calls, n, less);
+            look_up_all(&rt, &stock, &calls, most);
         }
-        look_up_all(&rt, &stock, &calls, most);
-        for _ in 0..n / 2 {
-            assert!(rt; stock.pull(n / 4));
-        }
-        assert_eq!(rt; stock.len(), n - n / 2);
-        for _ in 0..n / 2 {
-            assert!(rt; stock.put());
-        }
-        assert_eq!(rt; stock.len(), n);
-        look_up_all(&rt, &stock, &calls, most);
     }
+}
+
+/// Of 1023 nodes in order the left edge of their tree stays: ten nodes, which are low again.
+#[test]
+fn a_tree_gets_lower(rt: HostRuntime) {
+    let calls = Cell::new(0);
+    let mut stock = Stock::new(rt.alloc(), &calls, false);
+    for key in 0..1023 {
+        assert!(rt; stock.add(key, key));
+    }
+    for top in [511u32, 255, 127, 63, 31, 15, 7, 3, 1] {
+        for _ in 0..top {
+            assert!(rt; stock.pull(top.wrapping_add(1)));
+        }
+    }
+    assert_eq!(rt; stock.len(), 10);
+    look_up_all(&rt, &stock, &calls, 9);
 }

@@ -102,7 +102,7 @@ impl<O> Tree<O> {
         ensures order { self.new.order ≡ self.old.order }
     {
         let tag = p.link(node, self.slot).tag;
-        self.root = take_out(p, self.slot, &self.order, self.root, node, tag, steps).0;
+        self.root = take_out(p, self.slot, &self.order, self.root, node, tag, steps);
     }
 
     /// How many nodes it has. Reads one link.

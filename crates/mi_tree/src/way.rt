@@ -1,11 +1,11 @@
 //! The way from a tree's root down to a place in it, and back up as far as heights change.
 //! Sizes change on the way down, so that a change visits no link above the last whose height it changes.
-ghost use Rattle.std.specs.Prelude.{◌≡◌, ℕ, ◌<◌, List, Option, cond, Some};
+ghost use Rattle.std.specs.Prelude.{◌≡◌, ℕ, ◌<◌, List, [], Option, cond, Some};
 ghost use Rattle.mi_node.specs.Pool.{link_of};
 ghost use Rattle.mi_node.specs.Refs.{Ref};
-ghost use Rattle.mi_tree.specs.Shape.{Shape, height as height_of};
-ghost use Rattle.mi_tree.specs.Sorted.{side};
-ghost use Rattle.mi_tree.specs.Ways.{Frame, plug, rehung, Falls, HasFallen, Climbs, HasClimbed};
+ghost use Rattle.mi_tree.specs.Shape.{Shape, Tip, nodes, height as height_of, height_at};
+ghost use Rattle.mi_tree.specs.Sorted.{side, AreTagged, Rising};
+ghost use Rattle.mi_tree.specs.Ways.{Frame, plug, risen, rehung, Falls, HasFallen, Sinks, HasSunk, Climbs, HasClimbed, IsLevel};
 
 use crate::balance::balance;
 use crate::compare::compare_nodes;
@@ -67,6 +67,75 @@ pub(crate) fn go_in<T, O: NodeOrder<T>>(
     go_in(p, slot, order, next, node, tag, way, steps);
 }
 
+/// Goes down to a node of that tag, which stands there, and puts each node above it onto the way. Each
+/// gets a size that is one less: the node is about to leave.
+pub(crate) fn go_to<T, O: NodeOrder<T>>(
+    p: &mut Pool<T>,
+    slot: usize,
+    order: &O,
+    at: Option<NodeRef>,
+    node: NodeRef,
+    tag: Tag,
+    way: &mut Way,
+    steps: &mut Steps,
+)
+    requires slot { slot < p.old.slots }
+    requires tag { tag ≡ (link_of p.old node.name slot).tag }
+    requires way { (fs : List Frame) × (t : Shape) × (xs : List Ref) × (ys : List Ref) × (vs : List Ref) × (ws : List Ref) × Sinks p.old slot way.old.items at fs t xs node ys vs ws
+        × Rising (side (O.order order.now) p.old slot) (nodes t) × AreTagged (O.tag_of order.now) p.old slot (nodes t) }
+    ensures slots { p.new.slots ≡ p.old.slots }
+    ensures way { (fs : List Frame) (t : Shape) (xs : List Ref) (ys : List Ref) (vs : List Ref) (ws : List Ref) → Sinks p.old slot way.old.items at fs t xs node ys vs ws
+        → Rising (side (O.order order.now) p.old slot) (nodes t) → (gs : List Frame) × (A : Shape) × (B : Shape) × HasSunk p.old p.new slot way.new.items xs node ys vs ws (plug fs t) gs A B }
+{
+    let Some(here) = at else { unreachable!() };
+    let seen = p.link(here, slot);
+    let side = compare_nodes(&Counted::new(p), order, node, tag, here, seen.tag, steps);
+    if side.is_eq() {
+        return;
+    }
+    let left = side.is_lt();
+    let link = p.link(here, slot);
+    p.set_link(
+        here,
+        slot,
+        Link {
+            size: link.size - 1,
+            ..link
+        },
+    );
+    way.push(Some(Turn { node: here, left }));
+    let next = child(link, left);
+    go_to(p, slot, order, next, node, tag, way, steps);
+}
+
+/// Goes down to the first node, and puts each node above it onto the way. Each gets a size that is one
+/// less: the first node is about to leave. That node.
+pub(crate) fn go_first<T>(p: &mut Pool<T>, slot: usize, at: NodeRef, way: &mut Way) -> NodeRef
+    requires slot { slot < p.old.slots }
+    requires way { (fs : List Frame) × (t : Shape) × (x : Ref) × (ys : List Ref) × (vs : List Ref) × (ws : List Ref) × Sinks p.old slot way.old.items (Some at) fs t [] x ys vs ws }
+    ensures slots { p.new.slots ≡ p.old.slots }
+    ensures way { (fs : List Frame) (t : Shape) (x : Ref) (ys : List Ref) (vs : List Ref) (ws : List Ref) → Sinks p.old slot way.old.items (Some at) fs t [] x ys vs ws
+        → (result ≡ x) × (gs : List Frame) × (B : Shape) × HasSunk p.old p.new slot way.new.items [] x ys vs ws (plug fs t) gs Tip B }
+{
+    let link = p.link(at, slot);
+    let Some(left) = link.back else {
+        return at;
+    };
+    p.set_link(
+        at,
+        slot,
+        Link {
+            size: link.size - 1,
+            ..link
+        },
+    );
+    way.push(Some(Turn {
+        node: at,
+        left: true,
+    }));
+    go_first(p, slot, left, way)
+}
+
 /// The child on that side.
 fn child(link: Link, left: bool) -> Option<NodeRef>
     ensures { result ≡ cond left link.back link.forth }
@@ -106,6 +175,8 @@ pub(crate) fn climb<T>(
     ensures slots { p.new.slots ≡ p.old.slots }
     ensures tree { (fs : List Frame) (at : Option Ref) (h : ℕ) (u : Shape) → Climbs p.old slot root below way.old.items fs at h u
         → (v : Shape) × HasClimbed p.old p.new slot (plug fs u) result v }
+    ensures height { (fs : List Frame) (at : Option Ref) (h : ℕ) (u : Shape) → Climbs p.old slot root below way.old.items fs at h u
+        → IsLevel (height_of u) h (height_at p.new slot result) (risen fs h) }
 {
     let Some(turn) = way.pop().flatten() else {
         return below;
@@ -132,6 +203,8 @@ fn hang<T>(
     ensures slots { p.new.slots ≡ p.old.slots }
     ensures tree { (fs : List Frame) (at : Option Ref) (u : Shape) → Climbs p.old slot root (Some top) way.old.items fs at (height_of u) u
         → (v : Shape) × HasClimbed p.old p.new slot (plug fs u) result v }
+    ensures height { (fs : List Frame) (at : Option Ref) (u : Shape) → Climbs p.old slot root (Some top) way.old.items fs at (height_of u) u
+        → height_at p.new slot result ≡ risen fs (height_of u) }
 {
     let Some(turn) = way.pop().flatten() else {
         return Some(top);
@@ -139,4 +212,28 @@ fn hang<T>(
     let link = with_child(p.link(turn.node, slot), turn.left, Some(top));
     p.set_link(turn.node, slot, link);
     root
+}
+
+/// Puts the tree `below` in place of the one of that height at the end of the way, as `climb` does; where
+/// it is as high, no other height changes. The tree's root.
+pub(crate) fn replace<T>(
+    p: &mut Pool<T>,
+    slot: usize,
+    root: Option<NodeRef>,
+    below: Option<NodeRef>,
+    before: u8,
+    way: &mut Way,
+) -> Option<NodeRef>
+    requires slot { slot < p.old.slots }
+    requires way { (fs : List Frame) × (at : Option Ref) × (u : Shape) × Climbs p.old slot root below way.old.items fs at before u }
+    ensures slots { p.new.slots ≡ p.old.slots }
+    ensures tree { (fs : List Frame) (at : Option Ref) (u : Shape) → Climbs p.old slot root below way.old.items fs at before u
+        → (v : Shape) × HasClimbed p.old p.new slot (plug fs u) result v }
+    ensures height { (fs : List Frame) (at : Option Ref) (u : Shape) → Climbs p.old slot root below way.old.items fs at before u
+        → IsLevel (height_of u) before (height_at p.new slot result) (risen fs before) }
+{
+    match below {
+        Some(top) if height(p, slot, Some(top)) == before => hang(p, slot, root, top, way),
+        _ => climb(p, slot, root, below, way),
+    }
 }

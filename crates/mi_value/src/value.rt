@@ -100,12 +100,12 @@ impl Model for Record {
 impl Record {
     ghost use Rattle.std.specs.Prelude.{◌≡◌, slice_set, IfOk, IfErr};
 
-    /// An equal record. Answers `Memory` where a growth is refused, and nothing else.
+    /// An equal record, with room for its values and no more. Answers `Memory` where memory is refused, and nothing else.
     pub fn copy(&self, alloc: Global) -> Result<Record, Refusal>
         ensures ok { IfOk result (λ copied. copied ≡ self.now) }
         ensures err { IfErr result (λ e. e ≡ Refusal.Memory) }
     {
-        let mut values = Vec::new(alloc);
+        let mut values = Vec::with_capacity(alloc, self.values.len())?;
         for value in self.values.iter() {
             values.push(value.copy(alloc)?)?;
         }

@@ -58,6 +58,21 @@ fn links_are_kept_by_slot(rt: HostRuntime) {
     assert_eq!(rt; pool.link(s, 2).size, 0);
 }
 
+/// Each place has its own links.
+#[test]
+fn links_are_kept_by_place(rt: HostRuntime) {
+    let mut pool: Pool<u8> = Pool::with_slots(rt.alloc(), 2);
+    let Ok(one) = pool.take(1) else {
+        panic!(rt; "no memory");
+    };
+    let Ok(two) = pool.take(2) else {
+        panic!(rt; "no memory");
+    };
+    pool.set_link(one, 1, Link { size: 3, ..NO_LINK });
+    pool.set_link(two, 1, Link { size: 5, ..NO_LINK });
+    assert_eq!(rt; (pool.link(one, 1).size, pool.link(two, 1).size), (3, 5));
+}
+
 /// Three places that are given back are used again, in whatever order, and by other references.
 #[test]
 fn places_are_used_again(rt: HostRuntime) {

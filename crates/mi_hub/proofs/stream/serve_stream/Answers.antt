@@ -1,10 +1,10 @@
-use Rattle.std.proofs.Common.{◌∙◌, ◌++◌, [], ap, sym, refl, Err, inl, inr, length-append, append-nil, arith, subst}
-use Rattle.std.proofs.lemmas.Result.{err_from_is_err_and, on_ok_weaker}
+use Rattle.std.proofs.Common.{◌∙◌, ◌++◌, [], ap, sym, refl, Ok, Err, length-append, arith, subst}
+use Rattle.std.proofs.lemmas.Result.{err_from_is_err_and}
 use Rattle.std.proofs.KnownBytes.{Appends-nil, Appends-trans, Consumes-nil, Consumes-trans}
-use Rattle.mi_hub.specs.Run.{piece, close}
-use Rattle.mi_hub.specs.Watching.{Reads}
+use Rattle.mi_hub.specs.Watching.{Writes}
 use Rattle.mi_hub.proofs.WriteLemmas.{appends_no_more, consumes_no_more}
-use Rattle.mi_hub.proofs.PieceLemmas.{piece_start, piece_more, piece_unsent, still_attached, piece_close, piece_cut, cut_done, same_err, on_err}
+use Rattle.mi_hub.proofs.PieceLemmas.{piece_start, piece_more, still_attached, piece_close, piece_cut, cut_done, same_err}
+use Rattle.mi_hub.proofs.TurnLemmas.{was_fed, was_ended, was_unread, was_unsent, unsent_at}
 use Rattle.mi_hub.proofs.stream.serve_stream.Goals as goal
 
 pub reads-init : goal.reads-init
@@ -19,94 +19,79 @@ reads-init g c = record {
   writer_sound = refl;
 }
 
-pub serve_read-requires-clause-attached : goal.serve_read-requires-clause-attached
-serve_read-requires-clause-attached g c = still_attached _ _ _ _ _ c.reads.invariant.done
+pub read_turn-requires-clause-attached : goal.read_turn-requires-clause-attached
+read_turn-requires-clause-attached g c = still_attached _ _ _ _ _ c.reads.invariant.done
 
 pub reads-preserved : goal.reads-preserved
 reads-preserved g c =
     let before = c.reads.invariant in
-    let more = c.in_ok-serve_read.ensures.ok in record {
+    let turn = c.in_ok-read_turn.ensures.turn in
+    let more = was_fed g.R.Read.remaining c.reads.reader c.read_turn.new.reader c.args.conn c.reads.hub c.read_turn.new.hub turn.1 turn.0 turn.2 (ap Ok (sym c.if-branch.true) ∙ turn.3) turn.4 turn.6 in record {
       bytes = before.bytes ++ more.0;
-      out = before.out ++ more.1;
+      out = before.out ++ turn.1;
       read = Consumes-trans _ _ _ _ _ before.read more.2;
-      written = Appends-trans _ _ _ _ _ before.written more.3;
-      done = piece_more _ _ _ _ _ _ _ _ before.done more.4;
-      least = omega (arith, length-append before.bytes more.0, before.least, more.5 c.if-branch.true);
-      reader_sound = c.in_ok-serve_read.ensures.sound.0 ∙ before.reader_sound;
-      writer_sound = c.in_ok-serve_read.ensures.sound.1 ∙ before.writer_sound;
+      written = Appends-trans _ _ _ _ _ before.written turn.5;
+      done = piece_more _ _ _ _ _ _ _ _ before.done more.3;
+      least = omega (arith, length-append before.bytes more.0, before.least, more.1);
+      reader_sound = c.in_ok-read_turn.ensures.sound.0 ∙ before.reader_sound;
+      writer_sound = c.in_ok-read_turn.ensures.sound.1 ∙ before.writer_sound;
     }
 
-pub returns-in_err-serve_read-clause-read : goal.returns-in_err-serve_read-clause-read
-returns-in_err-serve_read-clause-read g c = λ is.
+pub returns-in_err-read_turn-clause-read : goal.returns-in_err-read_turn-clause-read
+returns-in_err-read_turn-clause-read g c = λ is.
     let p = err_from_is_err_and c.from_residual.result c.from_residual.ensures.1 in
     let before = c.reads.invariant in
-    let last = c.in_err-serve_read.ensures.read (ap Err (sym p.2 ∙ same_err (sym p.1 ∙ is))) in (
+    let turn = c.in_err-read_turn.ensures.turn in
+    let last = was_unread g.R.Read.remaining c.reads.reader c.read_turn.new.reader c.args.conn c.reads.hub c.read_turn.new.hub turn.1 turn.0 turn.2
+    (sym (ap Err (sym p.2 ∙ same_err (sym p.1 ∙ is))) ∙ turn.3) turn.4 turn.6 in (
       before.bytes,
       before.out,
       consumes_no_more _ _ _ _ before.read last.0,
-      appends_no_more _ _ _ _ before.written last.1,
-      piece_cut c.args.conn before.bytes before.out c.args.hub.now c.reads.hub c.serve_read.new.hub before.done last.2,
+      appends_no_more _ _ _ _ before.written (subst (Writes g.W.Write.contents c.reads.writer c.read_turn.new.writer) last.2 turn.5),
+      piece_cut c.args.conn before.bytes before.out c.args.hub.now c.reads.hub c.read_turn.new.hub before.done last.3,
     )
 
-pub returns-in_err-serve_read-clause-write : goal.returns-in_err-serve_read-clause-write
-returns-in_err-serve_read-clause-write g c = λ is.
+pub returns-in_err-read_turn-clause-read_failed : goal.returns-in_err-read_turn-clause-read_failed
+returns-in_err-read_turn-clause-read_failed g c = λ is.
+    let p = err_from_is_err_and c.from_residual.result c.from_residual.ensures.1 in
+    let turn = c.in_err-read_turn.ensures.turn in
+    let last = was_unread g.R.Read.remaining c.reads.reader c.read_turn.new.reader c.args.conn c.reads.hub c.read_turn.new.hub turn.1 turn.0 turn.2
+    (sym (ap Err (sym p.2 ∙ same_err (sym p.1 ∙ is))) ∙ turn.3) turn.4 turn.6 in
+    last.1
+
+pub returns-in_err-read_turn-clause-write : goal.returns-in_err-read_turn-clause-write
+returns-in_err-read_turn-clause-write g c = λ is.
     let p = err_from_is_err_and c.from_residual.result c.from_residual.ensures.1 in
     let before = c.reads.invariant in
-    let last = c.in_err-serve_read.ensures.write (ap Err (sym p.2 ∙ same_err (sym p.1 ∙ is))) in (
+    let turn = c.in_err-read_turn.ensures.turn in
+    let last = was_unsent g.R.Read.remaining c.reads.reader c.read_turn.new.reader c.args.conn c.reads.hub c.read_turn.new.hub turn.1 turn.0 turn.2
+    (sym (ap Err (sym p.2 ∙ same_err (sym p.1 ∙ is))) ∙ turn.3) turn.4 turn.6 in (
       before.bytes,
       last.0,
-      before.out ++ last.1,
-      Consumes-trans _ _ _ _ _ before.read last.3,
-      last.2,
-      Appends-trans _ _ _ _ _ before.written last.4,
-      inl (piece_unsent (piece c.args.conn last.0) _ _ _ _ _ _ _ before.done last.5),
+      before.out ++ turn.1,
+      Consumes-trans _ _ _ _ _ before.read last.2,
+      last.1,
+      Appends-trans _ _ _ _ _ before.written turn.5,
+      unsent_at c.args.conn before.bytes last.0 before.out turn.1 c.args.hub.now c.reads.hub c.read_turn.new.hub _ before.done last.3,
     )
 
-pub returns-in_err-serve_read-clause-write_failed : goal.returns-in_err-serve_read-clause-write_failed
-returns-in_err-serve_read-clause-write_failed g c = λ is.
+pub returns-in_err-read_turn-clause-write_failed : goal.returns-in_err-read_turn-clause-write_failed
+returns-in_err-read_turn-clause-write_failed g c = λ is.
     let p = err_from_is_err_and c.from_residual.result c.from_residual.ensures.1 in
-    let last = c.in_err-serve_read.ensures.write (ap Err (sym p.2 ∙ same_err (sym p.1 ∙ is))) in (last.6, last.7 ∙ c.reads.invariant.reader_sound)
-
-pub close_flushed-requires : goal.close_flushed-requires
-close_flushed-requires g c = still_attached _ _ _ _ _ c.in_ok-serve_read.ensures.ok.4
+    let failed = c.in_err-read_turn.ensures.write (ap Err (sym p.2 ∙ same_err (sym p.1 ∙ is))) in (failed.0, failed.1 ∙ c.reads.invariant.reader_sound)
 
 pub returns-in-reads-clause-ok : goal.returns-in-reads-clause-ok
 returns-in-reads-clause-ok g c =
     let before = c.reads.invariant in
-    let last = c.in_ok-serve_read.ensures.ok in
-    on_ok_weaker c.close_flushed.result
-    (λ end. (
-      before.bytes ++ last.0,
-      (before.out ++ last.1) ++ end.0,
-      Consumes-trans _ _ _ _ _ before.read last.2,
-      last.6 c.if-branch.false,
-      Appends-trans _ _ _ _ _ (Appends-trans _ _ _ _ _ before.written last.3) end.1,
-      piece_close c.args.conn (before.bytes ++ last.0) (before.out ++ last.1) end.0 c.args.hub.now c.serve_read.new.hub c.close_flushed.new.hub
-          (piece_more _ _ _ _ _ _ _ _ before.done last.4) end.2,
-    )) c.close_flushed.ensures.ok
-
-pub returns-in-reads-clause-write : goal.returns-in-reads-clause-write
-returns-in-reads-clause-write g c = λ is.
-    let before = c.reads.invariant in
-    let last = c.in_ok-serve_read.ensures.ok in
-    let end = on_err is c.close_flushed.ensures.write in (
-      before.bytes ++ last.0,
-      [],
-      (before.out ++ last.1) ++ end.1.0,
-      subst (Reads g.R.Read.remaining c.args.reader.now c.serve_read.new.reader) (sym (append-nil (before.bytes ++ last.0))) (Consumes-trans _ _ _ _ _ before.read last.2),
-      omega arith,
-      Appends-trans _ _ _ _ _ (Appends-trans _ _ _ _ _ before.written last.3) end.1.1,
-      inr (
-        last.6 c.if-branch.false,
-        refl,
-        piece_unsent (close c.args.conn) c.args.conn (before.bytes ++ last.0) (before.out ++ last.1) end.1.0 c.args.hub.now c.serve_read.new.hub c.close_flushed.new.hub
-            (piece_more _ _ _ _ _ _ _ _ before.done last.4) end.1.2,
-      ),
+    let turn = c.in_ok-read_turn.ensures.turn in
+    let last = was_ended g.R.Read.remaining c.reads.reader c.read_turn.new.reader c.args.conn c.reads.hub c.read_turn.new.hub turn.1 turn.0 turn.2 (ap Ok (sym c.if-branch.false) ∙ turn.3) turn.4 turn.6 in (
+      before.bytes,
+      before.out ++ turn.1,
+      consumes_no_more _ _ _ _ before.read last.0,
+      last.1,
+      Appends-trans _ _ _ _ _ before.written turn.5,
+      piece_close c.args.conn before.bytes before.out turn.1 c.args.hub.now c.reads.hub c.read_turn.new.hub before.done last.2,
     )
-
-pub returns-in-reads-clause-write_failed : goal.returns-in-reads-clause-write_failed
-returns-in-reads-clause-write_failed g c = λ is.
-    let end = on_err is c.close_flushed.ensures.write in (end.2, c.in_ok-serve_read.ensures.sound.0 ∙ c.reads.invariant.reader_sound)
 
 pub returns-clause-turns : goal.returns-clause-turns
 returns-clause-turns g c = λ _.

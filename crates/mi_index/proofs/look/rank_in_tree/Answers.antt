@@ -12,4 +12,4 @@ pub returns-clause-rank : goal.returns-clause-rank
 returns-clause-rank c xs ys h = let t = c.args.tree.now in c.rank.ensures.rank xs ys (subst (λ z. Stands (Ordered t) z (xs ++ c.args.node ∷ ys)) (sym c.new.ensures.pool) h)
 
 pub returns-clause-steps : goal.returns-clause-steps
-returns-clause-steps c rs h b l = let t = c.args.tree.now in c.rank.ensures.steps (stored_order t.order.parts) (stored_tag t.order.column t.order.parts) rs (subst (λ z. Stands (Ordered t) z rs) (sym c.new.ensures.pool) h) b l
+returns-clause-steps c rs h b l = let t = c.args.tree.now in c.rank.ensures.steps (stored_order t.order.parts) (stored_tag t.order.types t.order.parts) rs (subst (λ z. Stands (Ordered t) z rs) (sym c.new.ensures.pool) h) b l

@@ -15,4 +15,4 @@ returns-clause-node c rs h =
     c.upper.ensures.node rs (subst (λ z. Stands (Ordered t) z rs) (sym c.new.ensures.pool) h) ∙ ap (λ z. first_where (is_past_node true (λ v. place_in t.order.parts v c.args.probe) z) rs) c.new.ensures.pool
 
 pub returns-clause-steps : goal.returns-clause-steps
-returns-clause-steps c rs h b l = let t = c.args.tree.now in c.upper.ensures.steps (stored_order t.order.parts) (stored_tag t.order.column t.order.parts) rs (subst (λ z. Stands (Ordered t) z rs) (sym c.new.ensures.pool) h) b l
+returns-clause-steps c rs h b l = let t = c.args.tree.now in c.upper.ensures.steps (stored_order t.order.parts) (stored_tag t.order.types t.order.parts) rs (subst (λ z. Stands (Ordered t) z rs) (sym c.new.ensures.pool) h) b l

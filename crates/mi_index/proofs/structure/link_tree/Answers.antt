@@ -17,6 +17,6 @@ returns-clause-step c rs h j =
     record {
       us = g.0;
       done = record { joined = record { xs = g.1.xs; ys = g.1.ys; was = g.1.was; now = g.1.now }; put = tt; stamped = (e.stamp, λ k d. e.tags k (flip k c.args.node.name ∙ d)) };
-      stands = subst (λ (o : ByKey). IsTree c.insert.new.self n (stored_order o.parts) (stored_tag o.column o.parts) g.0) (sym e.order) g.2;
+      stands = subst (λ (o : ByKey). IsTree c.insert.new.self n (stored_order o.parts) (stored_tag o.types o.parts) g.0) (sym e.order) g.2;
       keeps = e.keeps rs h w;
     }

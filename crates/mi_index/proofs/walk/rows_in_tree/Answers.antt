@@ -39,10 +39,10 @@ returns-clause-reads c xs ys h b l =
     let us = c.args.node ∷ beyond c.args.direction xs ys in
     let w = c.walk_from-walk.ensures.walk xs ys h in
     let same = sym c.walk_from-walk.ensures.pool in
-    let begun = c.walk_from-walk.ensures.reads (stored_order t.order.parts) (stored_tag t.order.column t.order.parts) (xs ++ c.args.node ∷ ys) h b l in
+    let begun = c.walk_from-walk.ensures.reads (stored_order t.order.parts) (stored_tag t.order.types t.order.parts) (xs ++ c.args.node ∷ ys) h b l in
     let low = w.2 b l in
     IfOk-weaker c.rows_ahead.result _ _ (λ rows few. omega (arith, few, begun, low))
     (c.rows_ahead.ensures.reads w.0 us (subst (λ (z : Pooled Stored). IsWalk c.walk_from-walk.result z w.0 us) same w.1))
 
 pub returns-clause-steps : goal.returns-clause-steps
-returns-clause-steps c rs h b l = let t = c.args.tree.now in c.walk_from-walk.ensures.steps (stored_order t.order.parts) (stored_tag t.order.column t.order.parts) rs h b l
+returns-clause-steps c rs h b l = let t = c.args.tree.now in c.walk_from-walk.ensures.steps (stored_order t.order.parts) (stored_tag t.order.types t.order.parts) rs h b l

@@ -1,30 +1,24 @@
-use Rattle.std.proofs.Common.{◌≡◌, [], ◌∷◌, ◌++◌, map, ap, ◌∙◌, rules}
-use Rattle.std.specs.Map.Iter.{deref_pair}
-use Rattle.std.proofs.lemmas.Map.Iter.{iter_end}
-use Rattle.json.specs.Token.{key, begin_object, end_object}
+-- A row that is shorter than the columns shows the columns that it has values for.
+use Rattle.std.proofs.Common.{◌≡◌, ◌≤◌, ◌++◌, length, take, codes, subst, ap, ◌∙◌, arith}
+use Rattle.std.specs.Prelude.{OnOk}
 use Rattle.json.specs.Tree.{json_tokens}
-use Rattle.serde_json.specs.Data.{object}
+use Rattle.serde_json.specs.Data.{Members, number, unsigned, object, no_members, put}
 use Rattle.serde_json.specs.Written.{outline}
-use Rattle.mi_protocol.specs.Shown.{shown_data}
-use Rattle.mi_protocol.proofs.ShownLemmas.{one_member, all_members}
+use Rattle.mi_protocol.specs.Rows.{with_values, row_members}
+use Rattle.mi_protocol.specs.Shown.{shown_members}
+use Rattle.mi_protocol.proofs.ShownLemmas.{with_values-known}
 use Rattle.mi_protocol.proofs.shown.write_row.Goals as goal
-
-pub members-preserved : goal.members-preserved
-members-preserved c =
-    let l = c.members in
-    let named : c.key.new.self.tokens ≡ l.writer.tokens ++ key c.in-Some.name.now.now ∷ [] = search rules in
-    let valued : c.write_shown.new.writer.tokens ≡ c.key.new.self.tokens ++ json_tokens (outline (shown_data c.in-Some.shown.now)) = search rules in (
-      one_member l.writer.tokens c.begin_object.new.self.tokens c.key.new.self.tokens c.write_shown.new.writer.tokens l.yielded
-          (c.in-Some.name, c.in-Some.shown) l.invariant.0 named valued,
-      c.write_shown.ensures.before ∙ c.key.ensures.room.0 ∙ l.invariant.1,
-    )
 
 pub returns-clause-tokens : goal.returns-clause-tokens
 returns-clause-tokens c =
-    let l = c.members in
-    let opened : c.begin_object.new.self.tokens ≡ c.args.writer.now.tokens ++ begin_object ∷ [] = search rules in
-    let closed : c.end_object.new.self.tokens ≡ l.writer.tokens ++ end_object ∷ [] = search rules in
-    let all : map deref_pair l.yielded ≡ c.in_ok-members.members.entries = search (rules, iter_end) in
-    all_members c.args.writer.now.tokens c.begin_object.new.self.tokens l.writer.tokens c.end_object.new.self.tokens l.yielded
-    c.in_ok-members.members.entries opened l.invariant.0 closed all
-    ∙ ap (λ ms. c.args.writer.now.tokens ++ json_tokens (outline (object ms))) c.in_ok-members.ensures
+    let vs = c.values-values.result.now in
+    let start : Members = put (codes "id") (number (unsigned c.args.id)) no_members in
+    let front : c.split_at.result.0.now ≡ take (length vs) c.args.columns.now = c.split_at.ensures.front in
+    let fits : length c.split_at.result.0.now ≤ length vs = omega (arith, c.split_at.ensures.front_len) in
+    let shown : shown_members c.args.id vs c.in_ok-own_order.own_order.entries ≡ row_members c.split_at.result.0.now c.args.id vs =
+    c.in_ok-own_order.ensures c.args.id vs fits in
+    let is : shown_members c.args.id vs c.in_ok-own_order.own_order.entries ≡ row_members c.args.columns.now c.args.id c.args.row.now =
+    shown ∙ ap (λ cs. with_values cs vs start) front ∙ with_values-known c.args.columns.now vs start
+    ∙ ap (λ ws. with_values c.args.columns.now ws start) c.values-values.ensures in
+    subst (λ ms. OnOk c.write_ordered-2.result (c.write_ordered-2.new.writer.tokens ≡ c.args.writer.now.tokens ++ json_tokens (outline (object ms))))
+    is c.write_ordered-2.ensures.tokens

@@ -1,7 +1,8 @@
 use Rattle.std.proofs.Common.{◌≡◌, ◌<◌, ◌∷◌, ◌++◌, [], length, sym, ap, ◌∙◌, subst, arith, rules, length-append}
 use Rattle.std.specs.Result.{result_and}
 use Rattle.std.specs.VecDeque.{deque_len}
-use Rattle.mi_server.specs.Turns.{client_ids, outcome, noted}
+use Rattle.mi_hub.specs.Turn.{outcome}
+use Rattle.mi_server.specs.Turns.{client_ids, noted}
 use Rattle.mi_server.proofs.TurnLemmas.{serves_next, turns_next, fault_more, noted_more, not_turns, no_ids, none_left, not_zero}
 use Rattle.mi_server.proofs.listener.serve_all.Goals as goal
 

@@ -1,5 +1,6 @@
 use Rattle.std.proofs.Common.{◌≡◌, ◌<◌, List, length}
-use Rattle.mi_server.specs.Turns.{Turn, ByTurns, first_fault, all_noted, client_ids, AllSound, Serves}
+use Rattle.mi_hub.specs.Turn.{Turn}
+use Rattle.mi_server.specs.Turns.{ByTurns, first_fault, all_noted, client_ids, AllSound, Serves}
 use Rattle.mi_server.proofs.listener.serve_all.Given as goal
 
 -- so many turns are made, and some connection is open

@@ -1,11 +1,11 @@
 use Rattle.std.proofs.Common.{ℕ, ◌<◌, List, length, Option, Some, refl, sym, ap, ◌∙◌, subst, rules}
 use Rattle.mi_node.specs.Refs.{Ref}
 use Rattle.mi_node.specs.declared.link.Link.{Link}
-use Rattle.mi_tree.specs.Shape.{Shape}
+use Rattle.mi_tree.specs.Shape.{Shape, height, height_at}
 use Rattle.mi_tree.specs.Joining.{AreSides}
-use Rattle.mi_tree.specs.Ways.{Frame, Climbs}
+use Rattle.mi_tree.specs.Ways.{Frame, risen, Climbs}
 use Rattle.mi_tree.proofs.Shapes.{held-root, height-root}
-use Rattle.mi_tree.proofs.Ways.{turned_back, no_turn, climbed_none, turn_held, shorter_way, before_is, climb_sides, climbs_on, climbed_on}
+use Rattle.mi_tree.proofs.Ways.{turned_back, no_turn, climbed_none, turn_held, shorter_way, before_is, climb_sides, climbs_on, climbed_on, level_same, level_on}
 use Rattle.mi_tree.proofs.way.+climb.Goals as goal
 
 pub returns-in_default-clause-tree : goal.returns-in_default-clause-tree
@@ -87,3 +87,27 @@ returns-else-height-link-clause-tree g t c fs at h u k =
     let on = climbs_on m s v.root v.below items new fs at h u k turn back y i n _ _ l q sides.2 top z bal.1 in
     let all = c.climb.ensures.tree back.rest (Some turn.node) _ z on in
     (all.0, climbed_on m s v.root v.below items new fs at h u k turn back y i n _ _ l q sides.2 top z bal.1 c.climb.new.p c.climb.result all.0 all.1)
+
+pub returns-then-height-link-clause-height : goal.returns-then-height-link-clause-height
+returns-then-height-link-clause-height g t c fs at h u k =
+    let v = c.args in let m = v.p.now in let s = v.slot in let items = v.way.now.items in let new = c.pop.new.self.items in let turn = c.in-Some.turn in let y = c.link.result in let i = c.link.ensures in let e = c.with_child-link.ensures in
+    let back = turned_back items new _ fs turn k.path_is c.pop.ensures.rest c.pop.ensures.value (sym c.flatten.ensures ∙ c.in-Some.is) in
+    let sides = climb_sides m s v.root v.below items new fs at h u k turn back y i in let l = sides.0 in let q = sides.1 in
+    let given = subst (λ (z : Link). AreSides m s z.back turn.node z.forth l q) (sym e) sides.2.sides in
+    let n = c.balance-top.new.p in let top = c.balance-top.result in let bal = c.balance-top.ensures.tree l q given in let z = bal.0 in
+    let on = climbs_on m s v.root v.below items new fs at h u k turn back y i n _ _ l q sides.2 top z bal.1 in
+    let same = sym (before_is m s v.root v.below items new fs at h u k turn back y i) ∙ sym (ap (λ (x : Link). x.height) e) ∙ sym c.if-height-link.true ∙ c.height.ensures ∙ height-root n s (Some top) z bal.1.rooted in
+    let level = subst (λ j. Climbs n s v.root (Some top) new back.rest (Some turn.node) j z) same on in
+    let now = height_at c.hang.new.p s c.hang.result in
+    let all = level_same (height z) _ now _ (c.hang.ensures.height back.rest (Some turn.node) z level ∙ ap (risen back.rest) (sym same)) in
+    level_on m s v.root v.below items new fs at h u k turn back y i n _ _ l q sides.2 top z bal.1 now all
+
+pub returns-else-height-link-clause-height : goal.returns-else-height-link-clause-height
+returns-else-height-link-clause-height g t c fs at h u k =
+    let v = c.args in let m = v.p.now in let s = v.slot in let items = v.way.now.items in let new = c.pop.new.self.items in let turn = c.in-Some.turn in let y = c.link.result in let i = c.link.ensures in let e = c.with_child-link.ensures in
+    let back = turned_back items new _ fs turn k.path_is c.pop.ensures.rest c.pop.ensures.value (sym c.flatten.ensures ∙ c.in-Some.is) in
+    let sides = climb_sides m s v.root v.below items new fs at h u k turn back y i in let l = sides.0 in let q = sides.1 in
+    let given = subst (λ (z : Link). AreSides m s z.back turn.node z.forth l q) (sym e) sides.2.sides in
+    let n = c.balance-top.new.p in let top = c.balance-top.result in let bal = c.balance-top.ensures.tree l q given in let z = bal.0 in
+    let on = climbs_on m s v.root v.below items new fs at h u k turn back y i n _ _ l q sides.2 top z bal.1 in
+    level_on m s v.root v.below items new fs at h u k turn back y i n _ _ l q sides.2 top z bal.1 (height_at c.climb.new.p s c.climb.result) (c.climb.ensures.height back.rest (Some turn.node) _ z on)

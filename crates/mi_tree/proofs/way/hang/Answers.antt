@@ -4,7 +4,8 @@ use Rattle.mi_node.specs.declared.link.Link.{Link}
 use Rattle.mi_node.proofs.Callers.{slots-with_link}
 use Rattle.mi_tree.specs.Shape.{height}
 use Rattle.mi_tree.specs.Ways.{plug}
-use Rattle.mi_tree.proofs.Ways.{turned_back, no_turn, climbed_none, turn_held, hung}
+use Rattle.mi_tree.proofs.Shapes.{height-root}
+use Rattle.mi_tree.proofs.Ways.{turned_back, no_turn, climbed_none, turn_held, plug_height, hung}
 use Rattle.mi_tree.proofs.way.hang.Goals as goal
 
 pub returns-in_default-clause-tree : goal.returns-in_default-clause-tree
@@ -26,3 +27,11 @@ returns-clause-tree g c fs at u h =
     let t = turned_back v.way.now.items _ _ fs turn h.path_is c.pop.ensures.rest c.pop.ensures.value (sym c.flatten.ensures ∙ c.in-Some.is) in
     let set = c.set_link.ensures ∙ ap (λ (z : Link). with_link v.p.now turn.node.name v.slot z) c.with_child-link.ensures in
     (plug fs u, hung v.p.now c.set_link.new.self v.slot v.root v.top v.way.now.items _ fs at u h turn t c.link.result c.link.ensures set)
+
+pub returns-clause-height : goal.returns-clause-height
+returns-clause-height g c fs at u h =
+    let v = c.args in let turn = c.in-Some.turn in
+    let t = turned_back v.way.now.items _ _ fs turn h.path_is c.pop.ensures.rest c.pop.ensures.value (sym c.flatten.ensures ∙ c.in-Some.is) in
+    let set = c.set_link.ensures ∙ ap (λ (z : Link). with_link v.p.now turn.node.name v.slot z) c.with_child-link.ensures in
+    let all = hung v.p.now c.set_link.new.self v.slot v.root v.top v.way.now.items _ fs at u h turn t c.link.result c.link.ensures set in
+    height-root c.set_link.new.self v.slot v.root (plug fs u) all.rooted ∙ plug_height fs u

@@ -1,10 +1,10 @@
--- Each member is that of the object: those before it, which were taken out, have other names.
+-- Each member is that of the object: those before it, which were moved out, have other names.
 use Rattle.std.proofs.Common.{◌≡◌, codes, List, ℕ, [], ◌∷◌, refl, ap, ◌∙◌}
-use Rattle.mi_request.specs.Json.{without}
-use Rattle.mi_request.proofs.ObjectLemmas.{left_out, stays}
+use Rattle.mi_request.specs.Json.{emptied}
+use Rattle.mi_request.proofs.ObjectLemmas.{emptied_all, stays}
 use Rattle.mi_request.proofs.members.EndMembers.of.Goals as goal
 
--- the names that are taken out first
+-- the names that are moved out first
 abbrev names_1 : List (List ℕ)
 names_1 = codes "ge" ∷ []
 
@@ -14,20 +14,20 @@ names_2 = codes "gt" ∷ names_1
 abbrev names_3 : List (List ℕ)
 names_3 = codes "le" ∷ names_2
 
-left_1 : (c : goal.After-drop-left-inside) → c.take.new.self ≡ left_out names_1 c.args.object
-left_1 c = c.take.ensures.rest
+left_1 : (c : goal.After-drop-left-inside) → c.move_out.new.self ≡ emptied_all names_1 c.args.object
+left_1 c = c.move_out.ensures.rest
 
-left_2 : (c : goal.After-drop-left-inside) → c.take-2.new.self ≡ left_out names_2 c.args.object
-left_2 c = c.take-2.ensures.rest ∙ ap (without (codes "gt")) (left_1 c)
+left_2 : (c : goal.After-drop-left-inside) → c.move_out-2.new.self ≡ emptied_all names_2 c.args.object
+left_2 c = c.move_out-2.ensures.rest ∙ ap (emptied (codes "gt")) (left_1 c)
 
-left_3 : (c : goal.After-drop-left-inside) → c.take-3.new.self ≡ left_out names_3 c.args.object
-left_3 c = c.take-3.ensures.rest ∙ ap (without (codes "le")) (left_2 c)
+left_3 : (c : goal.After-drop-left-inside) → c.move_out-3.new.self ≡ emptied_all names_3 c.args.object
+left_3 c = c.move_out-3.ensures.rest ∙ ap (emptied (codes "le")) (left_2 c)
 
 pub returns-clause-gt : goal.returns-clause-gt
-returns-clause-gt c = c.take-2.ensures.value ∙ stays (codes "gt") names_1 c.args.object c.take.new.self (left_1 c) refl
+returns-clause-gt c = c.move_out-2.ensures.value ∙ stays (codes "gt") names_1 c.args.object c.move_out.new.self (left_1 c) refl
 
 pub returns-clause-le : goal.returns-clause-le
-returns-clause-le c = c.take-3.ensures.value ∙ stays (codes "le") names_2 c.args.object c.take-2.new.self (left_2 c) refl
+returns-clause-le c = c.move_out-3.ensures.value ∙ stays (codes "le") names_2 c.args.object c.move_out-2.new.self (left_2 c) refl
 
 pub returns-clause-lt : goal.returns-clause-lt
-returns-clause-lt c = c.take-4.ensures.value ∙ stays (codes "lt") names_3 c.args.object c.take-3.new.self (left_3 c) refl
+returns-clause-lt c = c.move_out-4.ensures.value ∙ stays (codes "lt") names_3 c.args.object c.move_out-3.new.self (left_3 c) refl

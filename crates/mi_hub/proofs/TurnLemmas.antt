@@ -1,0 +1,96 @@
+-- What a turn was, by what it answered.
+use Rattle.std.proofs.Common.{◌≡◌, ◌↔◌, ◌||◌, ◌∙◌, ◌⊎◌, ℕ, ◌<◌, ◌≤◌, List, [], ◌∷◌, ◌++◌, length, take, Bool, true, false, Option, Some, None, Result, Ok, Err, OnErr, refl, sym, ap, subst, inl, inr, arith}
+use Rattle.std.specs.Io.KnownBytes.{IsAtEnd}
+use Rattle.std.proofs.lemmas.List.{length-take}
+use Rattle.mi_value.specs.declared.limits.TheConstants.{PIECE}
+use Rattle.mi_hub.specs.Run.{HubState, piece, close, cut, Done, Unsent, DoneToFault}
+use Rattle.mi_hub.specs.Watching.{watched, has_failed, Reads}
+use Rattle.mi_hub.specs.Turn.{Turn, fed, ended, unread, unanswered, unended, conn_of, outcome, given_in, Made, Gave}
+use Rattle.mi_hub.specs.declared.fault.ServeFault.{ServeFault}
+use Rattle.mi_hub.specs.declared.fault.ServeFault.TheVariants.{Read, Write}
+use Rattle.mi_hub.specs.declared.watched.Watched.{Watched}
+use Rattle.mi_hub.proofs.PieceLemmas.{piece_unsent}
+
+open_isnt_ended : ◌≡◌ {A = Result Bool ServeFault} (Ok true) (Ok false) → ⊥
+open_isnt_ended e = cc
+
+ok_isnt_err : (b : Bool) (fault : ServeFault) → ◌≡◌ {A = Result Bool ServeFault} (Ok b) (Err fault) → ⊥
+ok_isnt_err b fault e = cc
+
+read_isnt_write : ◌≡◌ {A = Result Bool ServeFault} (Err Read) (Err Write) → ⊥
+read_isnt_write e = cc
+
+-- a turn whose read gave bytes or their end has no failed read
+pub never_read : (P : Type 0) (r : Result Bool ServeFault) → OnErr r ((r ≡ Err Write) × P) → r ≡ Err Read → ⊥
+never_read P (Ok b) w is = ok_isnt_err b Read is
+never_read P (Err fault) w is = read_isnt_write (sym is ∙ w.0)
+
+pub not_read : {X : Type 0} (P : Type 0) (r : Result Bool ServeFault) (read : Option X) (x : X) → read ≡ Some x → OnErr r ((r ≡ Err Write) × P) → (r ≡ Err Read) ↔ (read ≡ None)
+not_read P r read x is w = (λ h. absurd (never_read P r w h), λ n. absurd (some_isnt_none (sym is ∙ n)))
+  where
+    some_isnt_none : Some x ≡ None → ⊥
+    some_isnt_none e = cc
+
+pub or_true : (b : Bool) → (b || true) ≡ true
+or_true true = refl
+or_true false = refl
+
+module _ {T : Type 0} (remaining : T → Option (List ℕ)) (before later : Watched T) where
+  -- what a read gave was read
+  pub gave_bytes : (bytes : List ℕ) → Gave remaining before later (Some bytes) → Reads remaining before later bytes
+  gave_bytes [] gave = gave.0
+  gave_bytes (b ∷ bytes) gave = gave
+
+  -- what a read of so many bytes into a buffer gave
+  pub gave_read : (bytes buf : List ℕ) (n : ℕ) → bytes ≡ take n buf → n ≤ length buf → 0 < length buf
+      → Reads remaining before later (take n buf) × (n ≡ 0 → 0 < length buf → IsAtEnd (remaining (watched later))) → Gave remaining before later (Some bytes)
+  gave_read [] buf n is within room got =
+      let none : n ≡ 0 = omega (arith, length-take n buf, ap length is) in
+      (subst (Reads remaining before later) (sym is) got.0, got.1 none room)
+  gave_read (b ∷ bytes) buf n is within room got = subst (Reads remaining before later) (sym is) got.0
+
+  module _ (conn : ℕ) (old new : HubState) (out : List ℕ) where
+    -- the connection is open still
+    pub was_fed : (turn : Turn) → conn_of turn ≡ conn → Ok true ≡ outcome turn → Gave remaining before later (given_in turn) → Made old turn out new
+        → (bytes : List ℕ) × (1 ≤ length bytes) × Reads remaining before later bytes × Done old (piece conn bytes) out new
+    was_fed (fed k bytes) is answer gave made = (bytes, made.1.0, gave_bytes bytes gave, subst (λ n. Done old (piece n bytes) out new) is made.0)
+    was_fed (ended k) is answer gave made = absurd (open_isnt_ended answer)
+    was_fed (unread k) is answer gave made = absurd (ok_isnt_err true Read answer)
+    was_fed (unanswered k bytes) is answer gave made = absurd (ok_isnt_err true Write answer)
+    was_fed (unended k) is answer gave made = absurd (ok_isnt_err true Write answer)
+
+    -- its bytes have ended
+    pub was_ended : (turn : Turn) → conn_of turn ≡ conn → Ok false ≡ outcome turn → Gave remaining before later (given_in turn) → Made old turn out new
+        → Reads remaining before later [] × IsAtEnd (remaining (watched later)) × Done old (close conn) out new
+    was_ended (fed k bytes) is answer gave made = absurd (open_isnt_ended (sym answer))
+    was_ended (ended k) is answer gave made = (gave.0, gave.1, subst (λ n. Done old (close n) out new) is made)
+    was_ended (unread k) is answer gave made = absurd (ok_isnt_err false Read answer)
+    was_ended (unanswered k bytes) is answer gave made = absurd (ok_isnt_err false Write answer)
+    was_ended (unended k) is answer gave made = absurd (ok_isnt_err false Write answer)
+
+    -- its read failed
+    pub was_unread : (turn : Turn) → conn_of turn ≡ conn → Err Read ≡ outcome turn → Gave remaining before later (given_in turn) → Made old turn out new
+        → Reads remaining before later [] × (has_failed later ≡ true) × (out ≡ []) × Done old (cut conn) [] new
+    was_unread (fed k bytes) is answer gave made = absurd (ok_isnt_err true Read (sym answer))
+    was_unread (ended k) is answer gave made = absurd (ok_isnt_err false Read (sym answer))
+    was_unread (unread k) is answer gave made = (gave.0, gave.1, made.1, subst (λ n. Done old (cut n) [] new) is (made.0, refl, made.2))
+    was_unread (unanswered k bytes) is answer gave made = absurd (read_isnt_write answer)
+    was_unread (unended k) is answer gave made = absurd (read_isnt_write answer)
+
+    -- its replies don't go out
+    pub was_unsent : (turn : Turn) → conn_of turn ≡ conn → Err Write ≡ outcome turn → Gave remaining before later (given_in turn) → Made old turn out new
+        → (bytes : List ℕ) × (length bytes ≤ PIECE) × Reads remaining before later bytes
+        × (Unsent old (piece conn bytes) out new ⊎ (IsAtEnd (remaining (watched later)) × (bytes ≡ []) × Unsent old (close conn) out new))
+    was_unsent (fed k bytes) is answer gave made = absurd (ok_isnt_err true Write (sym answer))
+    was_unsent (ended k) is answer gave made = absurd (ok_isnt_err false Write (sym answer))
+    was_unsent (unread k) is answer gave made = absurd (read_isnt_write (sym answer))
+    was_unsent (unanswered k bytes) is answer gave made = (bytes, made.1.1, gave_bytes bytes gave, inl (subst (λ n. Unsent old (piece n bytes) out new) is made.0))
+    was_unsent (unended k) is answer gave made = ([], omega arith, gave.0, inr (gave.1, refl, subst (λ n. Unsent old (close n) out new) is made))
+
+-- its replies don't go out behind a piece that was done
+pub unsent_at : (conn : ℕ) (first last sent more : List ℕ) (old mid new : HubState) (AtEnd : Type 0) → Done old (piece conn first) sent mid
+    → Unsent mid (piece conn last) more new ⊎ (AtEnd × (last ≡ []) × Unsent mid (close conn) more new)
+    → DoneToFault old (piece conn first ∷ []) (piece conn last) (sent ++ more) new
+    ⊎ (AtEnd × (last ≡ []) × DoneToFault old (piece conn first ∷ []) (close conn) (sent ++ more) new)
+unsent_at conn first last sent more old mid new AtEnd done (inl unsent) = inl (piece_unsent (piece conn last) conn first sent more old mid new done unsent)
+unsent_at conn first last sent more old mid new AtEnd done (inr end) = inr (end.0, end.1, piece_unsent (close conn) conn first sent more old mid new done end.2)

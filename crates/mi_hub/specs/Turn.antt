@@ -1,0 +1,61 @@
+-- A turn of an open connection: what one read of it gives, and what comes of it. Connection 1 gives a piece, and its replies go out:
+-- fed 1 "{\"cmd\":\"start\"}⏎". Then it gives another, and a write of a reply or the flush behind it fails: unanswered 1 "{\"cmd\":\"undo\"}⏎".
+use Rattle.std.specs.Prelude.{◌≡◌, ℕ, ◌≤◌, List, [], ◌∷◌, length, Bool, true, false, Result, Ok, Err, Option, Some, None}
+use Rattle.std.specs.Io.KnownBytes.{IsAtEnd}
+use Rattle.mi_value.specs.declared.limits.TheConstants.{PIECE}
+use Rattle.mi_hub.specs.Run.{HubState, piece, close, cut, Done, Unsent}
+use Rattle.mi_hub.specs.Watching.{watched, has_failed, Reads}
+use Rattle.mi_hub.specs.declared.fault.ServeFault.{ServeFault}
+use Rattle.mi_hub.specs.declared.fault.ServeFault.TheVariants.{Read, Write}
+use Rattle.mi_hub.specs.declared.watched.Watched.{Watched}
+
+-- A turn of an open connection: a piece of its bytes is fed, or they are at their end and it is closed; or its read fails and it is
+-- cut; or the replies to a piece don't go out, or the one at the end.
+pub data Turn : Type 0 where
+  fed : ℕ → List ℕ → Turn
+  ended : ℕ → Turn
+  unread : ℕ → Turn
+  unanswered : ℕ → List ℕ → Turn
+  unended : ℕ → Turn
+
+-- the connection whose turn it is
+abbrev pub conn_of : Turn → ℕ
+conn_of (fed conn bytes) = conn
+conn_of (ended conn) = conn
+conn_of (unread conn) = conn
+conn_of (unanswered conn bytes) = conn
+conn_of (unended conn) = conn
+
+-- whether the connection is open still, or the fault that has ended it
+abbrev pub outcome : Turn → Result Bool ServeFault
+outcome (fed conn bytes) = Ok true
+outcome (ended conn) = Ok false
+outcome (unread conn) = Err Read
+outcome (unanswered conn bytes) = Err Write
+outcome (unended conn) = Err Write
+
+-- what the read gave: a piece, no bytes at their end, or nothing where it failed
+abbrev pub given_in : Turn → Option (List ℕ)
+given_in (fed conn bytes) = Some bytes
+given_in (ended conn) = Some []
+given_in (unread conn) = None
+given_in (unanswered conn bytes) = Some bytes
+given_in (unended conn) = Some []
+
+-- what one read gives
+abbrev pub IsPiece : List ℕ → Type 0
+IsPiece bytes = (1 ≤ length bytes) × (length bytes ≤ PIECE)
+
+-- From old, this turn is made: out is written to the connection, and new is left.
+abbrev pub Made : HubState → Turn → List ℕ → HubState → Type 0
+Made old (fed conn bytes) out new = Done old (piece conn bytes) out new × IsPiece bytes
+Made old (ended conn) out new = Done old (close conn) out new
+Made old (unread conn) out new = Done old (cut conn) out new
+Made old (unanswered conn bytes) out new = Unsent old (piece conn bytes) out new × IsPiece bytes
+Made old (unended conn) out new = Unsent old (close conn) out new
+
+-- One read of a reader gave this: bytes, or none since it is at its end, or nothing since it failed.
+abbrev pub Gave : {T : Type 0} → (T → Option (List ℕ)) → Watched T → Watched T → Option (List ℕ) → Type 0
+Gave remaining old new None = Reads remaining old new [] × (has_failed new ≡ true)
+Gave remaining old new (Some []) = Reads remaining old new [] × IsAtEnd (remaining (watched new))
+Gave remaining old new (Some (b ∷ bytes)) = Reads remaining old new (b ∷ bytes)

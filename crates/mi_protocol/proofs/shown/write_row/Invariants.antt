@@ -1,7 +1,0 @@
-use Rattle.std.proofs.Common.{◌≡◌, ◌++◌}
-use Rattle.mi_protocol.proofs.ShownLemmas.{member_tokens}
-use Rattle.mi_protocol.proofs.shown.write_row.Given as goal
-
--- the members so far are written
-abbrev pub invariant-members : goal.invariant-members
-invariant-members l = (l.writer.tokens ≡ l.initial.writer.tokens ++ member_tokens l.yielded) × (l.writer.before ≡ l.initial.writer.before)
