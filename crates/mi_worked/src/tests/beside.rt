@@ -10,22 +10,22 @@ use std::test::Fail;
 
 /// Two hubs that are asked the same, each with connection 1.
 #[derive(Drop)]
-struct Both<A: Opens, B: Opens> {
+pub(super) struct Both<A: Opens, B: Opens> {
     one: Hub<A>,
     other: Hub<B>,
 }
 
 /// What connection 1 is answered.
-fn reply<D: Opens>(alloc: Global, hub: &mut Hub<D>, line: &str) -> Result<String, Fail> {
+fn reply<D: Opens>(alloc: Global, hub: &mut Hub<D>, line: &[u8]) -> Result<String, Fail> {
     let mut writer = Watched::new(Vec::new(alloc));
-    if hub.feed(1, line.as_bytes(), &mut writer).is_err() {
+    if hub.feed(1, line, &mut writer).is_err() {
         return Err(Fail::from("the line isn't answered"));
     }
     Ok(String::from_utf8(writer.inner().to_vec(alloc)?)?)
 }
 
 impl<A: Opens, B: Opens> Both<A, B> {
-    fn open(alloc: Global) -> Result<Both<A, B>, Fail> {
+    pub(super) fn open(alloc: Global) -> Result<Both<A, B>, Fail> {
         let catalog = read_catalog(alloc, TABLES.as_bytes())?;
         let mut both = Both {
             one: opened(alloc, &catalog)?,
@@ -39,14 +39,29 @@ impl<A: Opens, B: Opens> Both<A, B> {
 
     /// What both are answered to a line.
     fn ask(&mut self, rt: &impl Abort, alloc: Global, line: &str) -> Result<String, Fail> {
+        self.ask_bytes(rt, alloc, line.as_bytes())
+    }
+
+    /// The same for a line that may be no text.
+    pub(super) fn ask_bytes(
+        &mut self,
+        rt: &impl Abort,
+        alloc: Global,
+        line: &[u8],
+    ) -> Result<String, Fail> {
         let got = reply(alloc, &mut self.one, line)?;
         let want = reply(alloc, &mut self.other, line)?;
-        assert_eq!(rt; got.as_str(), want.as_str(), "to {line}");
+        assert_eq!(rt; got.as_str(), want.as_str(), "to {line:?}");
         Ok(got)
     }
 
     /// Has the ids of both tables seen.
-    fn look(&mut self, rt: &impl Abort, alloc: Global, random: &mut Random) -> Result<(), Fail> {
+    pub(super) fn look(
+        &mut self,
+        rt: &impl Abort,
+        alloc: Global,
+        random: &mut Random,
+    ) -> Result<(), Fail> {
         for table in ["a", "b"] {
             let line = filled(alloc, IDS, table, "")?;
             let page = self.ask(rt, alloc, line.as_str())?;
@@ -74,7 +89,7 @@ impl<A: Opens, B: Opens> Both<A, B> {
     }
 
     /// Asks for every view of a table: each index from both ends, the record of each rank, its ranks, and each hashed key.
-    fn view(&mut self, rt: &impl Abort, alloc: Global, table: &str) -> Result<(), Fail> {
+    pub(super) fn view(&mut self, rt: &impl Abort, alloc: Global, table: &str) -> Result<(), Fail> {
         for form in LISTS {
             let line = filled(alloc, form, table, "")?;
             let _ = self.ask(rt, alloc, line.as_str())?;

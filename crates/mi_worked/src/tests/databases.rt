@@ -1,12 +1,17 @@
-//! The forms of the database that every row is run on.
+//! The forms of the database that every row is run on, and what a hub over one does. All that is generic over a form stands here,
+//! so that each call of the hub is made once for each form.
+ghost use Rattle.std.specs.Prelude.{◌≡◌, [], IfOk};
+
+use super::streams::{Sink, Source};
 use mi_catalog::Catalog;
 use mi_container::Container;
 use mi_database::Linked;
-use mi_hub::Hub;
+use mi_hub::{Event, Hub, HubFault, ServeFault, Watched, drive, serve_stream};
 use mi_multi::MultiIndex;
 use mi_plain::Plain;
 use mi_sessions::Sessions;
 use std::alloc::{AllocError, Global};
+use std::test::Fail;
 
 /// A form of the database.
 pub(super) trait Opens: Sessions + Drop {
@@ -29,7 +34,119 @@ impl<C: Container> Opens for Linked<C> {
     }
 }
 
+/// Which form a row is run on.
+#[derive(Clone, Copy, Debug)]
+pub(super) enum Form {
+    Plain,
+    Served,
+}
+
+/// How events or a stream ended: the answer, what was written, how many bytes weren't read or events weren't begun, and what another
+/// connection is answered then.
+#[derive(Drop)]
+pub(super) struct Ended {
+    pub(super) answer: Result<(), ServeFault>,
+    pub(super) written: Vec<u8>,
+    pub(super) left: usize,
+    pub(super) seen: Vec<u8>,
+}
+
+/// What another connection asks at the end: the sessions, the tables, and their next ids. What a row's tables haven't got is refused.
+const LOOK: &str = r#"{"cmd":"revision"}
+{"cmd":"range","index":"id"}
+{"cmd":"list","index":"line"}
+{"cmd":"range","index":"by_balance"}
+{"cmd":"range","index":"by_class"}
+{"cmd":"range","table":"b","index":"id"}
+{"cmd":"insert","row":{"owner":"last","balance":0,"vip":true}}
+{"cmd":"insert","row":{"k":99}}
+"#;
+
+impl Form {
+    /// Has these events happen, with one writer.
+    pub(super) fn driven(
+        self,
+        alloc: Global,
+        catalog: &Catalog,
+        events: &[Event],
+        sink: Sink,
+    ) -> Result<Ended, Fail> {
+        match self {
+            Form::Plain => driven::<Plain>(alloc, catalog, events, sink),
+            Form::Served => driven::<Served>(alloc, catalog, events, sink),
+        }
+    }
+
+    /// Serves a stream as connection 1.
+    pub(super) fn served(
+        self,
+        alloc: Global,
+        catalog: &Catalog,
+        source: Source<'_>,
+        sink: Sink,
+    ) -> Result<Ended, Fail> {
+        match self {
+            Form::Plain => served::<Plain>(alloc, catalog, source, sink),
+            Form::Served => served::<Served>(alloc, catalog, source, sink),
+        }
+    }
+}
+
 /// A hub with no connection over the tables of a catalog.
-pub(super) fn opened<D: Opens>(alloc: Global, catalog: &Catalog) -> Result<Hub<D>, AllocError> {
+pub(super) fn opened<D: Opens>(alloc: Global, catalog: &Catalog) -> Result<Hub<D>, AllocError>
+    ensures { IfOk result (λ hub. hub.attached ≡ []) }
+{
     Ok(Hub::new(alloc, D::open(alloc, catalog.copy(alloc)?)?))
+}
+
+/// What connection 3 is answered when it looks.
+fn seen<D: Opens>(alloc: Global, hub: &mut Hub<D>) -> Result<Vec<u8>, Fail> {
+    let mut writer = Watched::new(Vec::new(alloc));
+    if hub.attach(3).is_err() || hub.feed(3, LOOK.as_bytes(), &mut writer).is_err() {
+        return Err(Fail::from("another connection isn't answered"));
+    }
+    Ok(writer.inner().to_vec(alloc)?)
+}
+
+fn driven<D: Opens>(
+    alloc: Global,
+    catalog: &Catalog,
+    events: &[Event],
+    sink: Sink,
+) -> Result<Ended, Fail> {
+    let mut hub = opened::<D>(alloc, catalog)?;
+    let mut writer = Watched::new(sink);
+    let (answer, left) = match drive(&mut hub, events, &mut writer) {
+        Ok(()) => (Ok(()), 0),
+        Err((at, HubFault::Write)) => (Err(ServeFault::Write), events.len().saturating_sub(at)),
+        Err(_) => return Err(Fail::from("an event is refused")),
+    };
+    Ok(Ended {
+        answer,
+        written: writer.inner().taken.to_vec(alloc)?,
+        left,
+        seen: seen(alloc, &mut hub)?,
+    })
+}
+
+fn served<D: Opens>(
+    alloc: Global,
+    catalog: &Catalog,
+    source: Source<'_>,
+    sink: Sink,
+) -> Result<Ended, Fail> {
+    let mut hub = opened::<D>(alloc, catalog)?;
+    match hub.attach(1) {
+        Ok(()) => {}
+        Err(_) => return Err(Fail::from("a connection isn't attached")),
+    }
+    let mut reader = Watched::new(source);
+    let mut writer = Watched::new(sink);
+    let answer = serve_stream(&mut hub, 1, &mut reader, &mut writer);
+    Ok(Ended {
+        answer,
+        written: writer.inner().taken.to_vec(alloc)?,
+        left: reader.inner().left.len(),
+        seen: seen(alloc, &mut hub)?,
+    })
 }

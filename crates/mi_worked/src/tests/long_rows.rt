@@ -66,7 +66,7 @@ const UNDONE: [(&str, &str); 6] = [
 ];
 
 /// As many starts as can be, and one more.
-fn deep_sessions(alloc: Global) -> Result<Script, AllocError> {
+pub(super) fn deep_sessions(alloc: Global) -> Result<Script, AllocError> {
     let mut script = Script::new(alloc, "as many sessions as can be", ACCOUNTS)?;
     for n in 1..=1024 {
         script.ask(alloc, 1, "{\"cmd\":\"start\"}")?;
@@ -92,7 +92,7 @@ fn padded(
 }
 
 /// Lines whose length matters, and what isn't a line.
-fn odd_lines(alloc: Global) -> Result<Script, AllocError> {
+pub(super) fn odd_lines(alloc: Global) -> Result<Script, AllocError> {
     let mut script = Script::new(alloc, "odd lines", ACCOUNTS)?;
     let size = "{\"cmd\":\"size\"}";
     let owner = "{\"cmd\":\"insert\",\"row\":{\"balance\":1,\"vip\":true,\"owner\":\"";

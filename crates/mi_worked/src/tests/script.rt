@@ -160,21 +160,16 @@ impl Script {
         Ok(all)
     }
 
-    /// The replies to the lines that end within so many bytes.
-    pub(super) fn replies_to(&self, alloc: Global, count: usize) -> Result<String, AllocError> {
-        let mut all = String::new(alloc);
-        let mut left = count;
-        for step in &self.steps {
-            let Act::Sends(bytes) = &step.act else {
-                break;
-            };
-            let Some(less) = left.checked_sub(bytes.len()) else {
-                break;
-            };
-            left = less;
-            all.push_str(step.replies.as_str())?;
+    /// How many bytes are sent in so many steps; an end counts as one more.
+    pub(super) fn sent_before(&self, count: usize) -> usize {
+        let mut sent = 0usize;
+        for step in self.steps.iter().take(count) {
+            sent = sent.saturating_add(match &step.act {
+                Act::Sends(bytes) => bytes.len(),
+                Act::Closes | Act::BreaksOff => 1,
+            });
         }
-        Ok(all)
+        sent
     }
 
     /// Connections 1 and 2 come, and do all that is done.

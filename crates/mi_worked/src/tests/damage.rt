@@ -1,0 +1,307 @@
+//! Lines with one thing wrong at random, the same for the same seed, to both forms of the database.
+use super::beside::Both;
+use super::databases::Served;
+use super::random::{CHANGES, READS, Random};
+use mi_plain::Plain;
+use std::alloc::{AllocError, Global};
+use std::process::Abort;
+use std::test::Fail;
+
+/// Bytes that come to stand where they don't belong: no UTF-8, or a part of it; escapes; signs of JSON; spaces and controls.
+const BYTES: [&[u8]; 26] = [
+    b"\xff",
+    b"\xc3",
+    b"\xf0\x9f\x98",
+    b"\x80",
+    b"\xc0\xaf",
+    b"\xed\xa0\x80",
+    b"\xf4\x90\x80\x80",
+    b"\xef\xbb\xbf",
+    b"\\",
+    b"\\u",
+    b"\\ud800",
+    b"\\ud800\\u0041",
+    b"\\u0061",
+    b"\\x",
+    b"\"",
+    b"{",
+    b"}",
+    b"[",
+    b"]",
+    b",",
+    b":",
+    b"0",
+    b"\0",
+    b"\r",
+    b"\t",
+    b" ",
+];
+
+/// Values that come in the place of others: of every type, and numbers at the limits and in every form.
+const VALUES: [&[u8]; 26] = [
+    b"null",
+    b"true",
+    b"\"\"",
+    b"\"a\"",
+    b"\"id\"",
+    b"\"i1\"",
+    b"{}",
+    b"[]",
+    b"[0]",
+    b"{\"ge\":[0]}",
+    b"-0",
+    b"-1",
+    b"00",
+    b"1.0",
+    b"1.5",
+    b"1e3",
+    b"1e400",
+    b"1E-400",
+    b"1000",
+    b"1001",
+    b"9223372036854775807",
+    b"9223372036854775808",
+    b"-9223372036854775808",
+    b"-9223372036854775809",
+    b"18446744073709551616",
+    b"123456789012345678901234567890",
+];
+
+/// How deep a value comes to stand in brackets.
+const DEPTHS: [usize; 5] = [1, 2, 120, 127, 200];
+
+/// How long a text comes to be.
+const LENGTHS: [usize; 2] = [1_024, 1_025];
+
+/// How long a line comes to be.
+const LINES: [usize; 2] = [65_536, 65_537];
+
+/// One of these.
+fn one_of<T: Copy>(random: &mut Random, values: &[T], other: T) -> T {
+    let at = random.below(values.len() as u64) as usize;
+    values.get(at).copied().unwrap_or(other)
+}
+
+/// The line with other bytes from one place to another.
+fn replaced(
+    alloc: Global,
+    line: &[u8],
+    from: usize,
+    to: usize,
+    with: &[u8],
+) -> Result<Vec<u8>, AllocError> {
+    let (front, _) = line.split_at(from.min(line.len()));
+    let (_, back) = line.split_at(to.min(line.len()));
+    let mut bytes = front.to_vec(alloc)?;
+    bytes.extend_from_slice(with)?;
+    bytes.extend_from_slice(back)?;
+    Ok(bytes)
+}
+
+/// The bytes from one place to another.
+fn between(line: &[u8], from: usize, to: usize) -> &[u8] {
+    let (front, _) = line.split_at(to.min(line.len()));
+    let (_, back) = front.split_at(from.min(front.len()));
+    back
+}
+
+/// The place behind one of these bytes, or the end where the line has none.
+fn behind(random: &mut Random, line: &[u8], of: &[u8]) -> usize {
+    let count = line.iter().filter(|byte| of.contains(*byte)).count();
+    let mut left = random.below(count as u64);
+    for (at, byte) in line.iter().enumerate() {
+        if of.contains(byte) {
+            match left.checked_sub(1) {
+                Some(less) => left = less,
+                None => return at.saturating_add(1),
+            }
+        }
+    }
+    line.len()
+}
+
+/// The first place from this one on at which one of these bytes stands, or the end.
+fn next_of(line: &[u8], from: usize, of: &[u8]) -> usize {
+    for (at, byte) in line.iter().enumerate() {
+        if at >= from && of.contains(byte) {
+            return at;
+        }
+    }
+    line.len()
+}
+
+/// Where the value ends that begins here.
+fn value_end(line: &[u8], from: usize) -> usize {
+    let inner = from.saturating_add(1);
+    match line.get(from) {
+        Some(b'"') => next_of(line, inner, b"\"").saturating_add(1),
+        Some(b'[') => next_of(line, inner, b"]").saturating_add(1),
+        Some(b'{') => next_of(line, inner, b"}").saturating_add(1),
+        _ => next_of(line, from, b",}]"),
+    }
+}
+
+/// So many of a byte before a text, and so many of another behind it.
+fn wrapped(
+    alloc: Global,
+    before: u8,
+    text: &[u8],
+    after: u8,
+    count: usize,
+) -> Result<Vec<u8>, AllocError> {
+    let mut bytes = vec![in alloc; before; count]?;
+    bytes.extend_from_slice(text)?;
+    bytes.extend_from_slice(vec![in alloc; after; count]?.as_slice())?;
+    Ok(bytes)
+}
+
+/// Another value in the place of one: of any type, of a text as long as can be or longer, or the same one deep in brackets.
+fn with_value(alloc: Global, random: &mut Random, line: &[u8]) -> Result<Vec<u8>, AllocError> {
+    let from = behind(random, line, b":[");
+    let to = value_end(line, from);
+    match random.below(6) {
+        0 => {
+            let depth = one_of(random, &DEPTHS, 0);
+            let value = wrapped(alloc, b'[', between(line, from, to), b']', depth)?;
+            replaced(alloc, line, from, to, value.as_slice())
+        }
+        1 => {
+            let length = one_of(random, &LENGTHS, 0);
+            let text = vec![in alloc; b'a'; length]?;
+            let value = wrapped(alloc, b'"', text.as_slice(), b'"', 1)?;
+            replaced(alloc, line, from, to, value.as_slice())
+        }
+        _ => replaced(alloc, line, from, to, one_of(random, &VALUES, b"")),
+    }
+}
+
+/// A member left out, twice there, or behind the next one.
+fn with_members(alloc: Global, random: &mut Random, line: &[u8]) -> Result<Vec<u8>, AllocError> {
+    let from = behind(random, line, b"{,");
+    let to = next_of(line, from, b",}");
+    let member = between(line, from, to);
+    let next = to.saturating_add(1);
+    match random.below(3) {
+        0 => replaced(alloc, line, from, next, b""),
+        1 => {
+            let mut twice = member.to_vec(alloc)?;
+            twice.push(b',')?;
+            replaced(alloc, line, from, from, twice.as_slice())
+        }
+        _ => {
+            let end = next_of(line, next, b",}");
+            let mut both = between(line, next, end).to_vec(alloc)?;
+            both.push(b',')?;
+            both.extend_from_slice(member)?;
+            replaced(alloc, line, from, end, both.as_slice())
+        }
+    }
+}
+
+/// The line as long as can be by spaces, or longer by one.
+fn padded(alloc: Global, random: &mut Random, line: &[u8]) -> Result<Vec<u8>, AllocError> {
+    let length = one_of(random, &LINES, 0);
+    let spaces = vec![in alloc; b' '; length.saturating_sub(line.len())]?;
+    replaced(alloc, line, line.len(), line.len(), spaces.as_slice())
+}
+
+/// The line with one thing wrong or odd; neither has a newline at its end.
+fn damaged(alloc: Global, random: &mut Random, line: &[u8]) -> Result<Vec<u8>, AllocError> {
+    let at = random.below(line.len() as u64) as usize;
+    let next = at.saturating_add(1);
+    match random.below(100) {
+        0..10 => {
+            let byte = (random.below(256) & 0xff) as u8;
+            replaced(
+                alloc,
+                line,
+                at,
+                next,
+                &[if byte == b'\n' { b'\r' } else { byte }],
+            )
+        }
+        10..20 => replaced(alloc, line, at, line.len(), b""),
+        20..30 => replaced(alloc, line, at, next, b""),
+        30..45 => replaced(alloc, line, at, at, one_of(random, &BYTES, b"")),
+        45..75 => with_value(alloc, random, line),
+        75..99 => with_members(alloc, random, line),
+        _ => padded(alloc, random, line),
+    }
+}
+
+/// A random line, and a newline.
+fn line(alloc: Global, random: &mut Random) -> Result<String, AllocError> {
+    if random.below(3) == 0 {
+        random.line(alloc, &READS)
+    } else {
+        random.line(alloc, &CHANGES)
+    }
+}
+
+/// A random line with one thing wrong or odd, and a newline.
+fn damaged_line(alloc: Global, random: &mut Random) -> Result<Vec<u8>, AllocError> {
+    let line = line(alloc, random)?;
+    let text = line.as_bytes().strip_suffix(b"\n").unwrap_or(b"");
+    let mut bytes = damaged(alloc, random, text)?;
+    bytes.push(b'\n')?;
+    Ok(bytes)
+}
+
+/// What replies to such lines have in them.
+const WORDS: [&str; 9] = [
+    "\"ok\":true",
+    "\"error\":\"line\"",
+    "\"error\":\"json\"",
+    "\"error\":\"form\"",
+    "\"error\":\"table\"",
+    "\"error\":\"index\"",
+    "\"error\":\"kind\"",
+    "\"error\":\"row\"",
+    "\"error\":\"key\"",
+];
+
+/// Counts the words that a reply has.
+fn count_words(counts: &mut [u64; 9], reply: &str) {
+    for (count, word) in counts.iter_mut().zip(WORDS.iter()) {
+        if reply.contains(*word) {
+            *count = count.saturating_add(1);
+        }
+    }
+}
+
+/// Both forms answer so many damaged lines alike, each with at most one line, and show the same at the end. Each fourth line or so
+/// is whole, so that there are records and sessions to speak of. Each word is among the replies.
+fn check_damaged(rt: &impl Abort, alloc: Global, seed: u64, steps: u64) -> Result<(), Fail> {
+    let mut both: Both<Plain, Served> = Both::open(alloc)?;
+    let mut random = Random::new(alloc, seed);
+    let mut counts = [0u64; 9];
+    for step in 0..steps {
+        if step % 100 == 0 {
+            both.look(rt, alloc, &mut random)?;
+        }
+        if random.below(3) == 0 {
+            let whole = line(alloc, &mut random)?;
+            let reply = both.ask_bytes(rt, alloc, whole.as_bytes())?;
+            random.hear(reply.as_str());
+        }
+        let bytes = damaged_line(alloc, &mut random)?;
+        let reply = both.ask_bytes(rt, alloc, bytes.as_slice())?;
+        let newlines = reply.bytes().filter(|byte| *byte == b'\n').count();
+        assert!(rt; newlines <= 1, "to {bytes:?}: {reply}");
+        random.hear(reply.as_str());
+        count_words(&mut counts, reply.as_str());
+    }
+    for (count, word) in counts.iter().zip(WORDS.iter()) {
+        assert!(rt; *count > 0, "no reply has {word}");
+    }
+    both.view(rt, alloc, "a")?;
+    both.view(rt, alloc, "b")
+}
+
+#[test]
+fn both_forms_answer_damaged_lines_alike(rt: HostRuntime) -> Result<(), Fail> {
+    for seed in 11..16 {
+        check_damaged(&rt, rt.alloc(), seed, 10_000)?;
+    }
+    Ok(())
+}
