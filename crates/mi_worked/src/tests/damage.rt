@@ -300,7 +300,15 @@ fn check_damaged(rt: &impl Abort, alloc: Global, seed: u64, steps: u64) -> Resul
 
 #[test]
 fn both_forms_answer_damaged_lines_alike(rt: HostRuntime) -> Result<(), Fail> {
-    for seed in 11..16 {
+    for seed in 11..13 {
+        check_damaged(&rt, rt.alloc(), seed, 20_000)?;
+    }
+    Ok(())
+}
+
+#[test]
+fn both_forms_answer_damaged_lines_alike_by_more_seeds(rt: HostRuntime) -> Result<(), Fail> {
+    for seed in 13..16 {
         check_damaged(&rt, rt.alloc(), seed, 20_000)?;
     }
     Ok(())
