@@ -1,5 +1,6 @@
 -- What a tree that stands says of each node.
-use Rattle.std.proofs.Common.{◌≡◌, ℕ, zero, suc, ◌+◌, ◌<◌, max, List, [], ◌∷◌, ◌++◌, length, Option, Some, None, refl, sym, ap, ◌∙◌, subst, arith, length-append}
+use Rattle.std.proofs.Common.{◌≡◌, ℕ, zero, suc, ◌+◌, ◌<◌, max, List, [], ◌∷◌, ◌++◌, length}
+use Rattle.std.proofs.Common.{Option, Some, None, refl, sym, ap, ◌∙◌, subst, arith, length-append}
 use Rattle.mi_node.specs.Neighbours.{AreHeld}
 use Rattle.mi_node.specs.Pool.{Pooled, link_of, IsHeld, IsHeldIf}
 use Rattle.mi_node.specs.Refs.{Ref, first_of, last_of}
@@ -133,7 +134,8 @@ module _ {T : Type 0} where
     pub left_lower : height_at m s y.back < height u
     pub right_lower : height_at m s y.forth < height u
 
-  pub sides : (m : Pooled T) (s : ℕ) (at : Option Ref) (r : Ref) (y : Link) (u : Shape) → IsRooted m s at u → at ≡ Some r → y ≡ link_of m r.name s → Sides m s r y u
+  pub sides : (m : Pooled T) (s : ℕ) (at : Option Ref) (r : Ref) (y : Link) (u : Shape)
+      → IsRooted m s at u → at ≡ Some r → y ≡ link_of m r.name s → Sides m s r y u
   sides m s at r y u h e i =
       let o = opened m s r u (moved m m s at (Some r) u refl e h) in let heights = ap height o.is in
       let a = moved m m s _ y.back o.left refl (sym (ap (λ (z : Link). z.back) i)) o.left_is in

@@ -79,7 +79,8 @@ module _ {T : Type 0} where
       × Above m s fs (Some f.node) (forked_size f.left n (size f.other)) (forked_height f.left h (height f.other))
 
   -- t stands at the end of the way; above it each size counts one more
-  pub record Falls (m : Pooled T) (s : ℕ) (R : Ref → Ref → Ordering) (tag : T → ℕ) (items : List (Option Turn)) (at : Option Ref) (x : Ref) (fs : List Frame) (t : Shape) : Type 0 where
+  pub record Falls (m : Pooled T) (s : ℕ) (R : Ref → Ref → Ordering) (tag : T → ℕ)
+      (items : List (Option Turn)) (at : Option Ref) (x : Ref) (fs : List Frame) (t : Shape) : Type 0 where
     pub path_is : items ≡ path_of fs
     pub can : CanPut m s R at x t
     pub tagged : AreTagged tag m s (x ∷ nodes t)
@@ -90,7 +91,8 @@ module _ {T : Type 0} where
     pub room : height t + length fs ≤ 45
 
   -- the way of the whole tree to where x belongs
-  pub record HasFallen (m n : Pooled T) (s : ℕ) (R : Ref → Ref → Ordering) (items : List (Option Turn)) (x : Ref) (whole : Shape) (gs : List Frame) : Type 0 where
+  pub record HasFallen (m n : Pooled T) (s : ℕ) (R : Ref → Ref → Ordering)
+      (items : List (Option Turn)) (x : Ref) (whole : Shape) (gs : List Frame) : Type 0 where
     pub path_is : items ≡ path_of gs
     pub whole_is : plug gs Tip ≡ whole
     pub alone : IsRooted n s (Some x) (Fork Tip x Tip)
@@ -101,7 +103,8 @@ module _ {T : Type 0} where
     pub tags : SameTags m n s
 
   -- t, in which x is between xs and ys, stands at the end of the way; above it each size counts one less. Without x the whole is vs and ws
-  pub record Sinks (m : Pooled T) (s : ℕ) (items : List (Option Turn)) (at : Option Ref) (fs : List Frame) (t : Shape) (xs : List Ref) (x : Ref) (ys vs ws : List Ref) : Type 0 where
+  pub record Sinks (m : Pooled T) (s : ℕ) (items : List (Option Turn)) (at : Option Ref)
+      (fs : List Frame) (t : Shape) (xs : List Ref) (x : Ref) (ys vs ws : List Ref) : Type 0 where
     pub path_is : items ≡ path_of fs
     pub can : CanTake m s at t
     pub has : nodes t ≡ xs ++ x ∷ ys
@@ -112,7 +115,8 @@ module _ {T : Type 0} where
     pub room : height t + length fs ≤ 45
 
   -- the way of the whole tree to x, which has the sides A and B
-  pub record HasSunk (m n : Pooled T) (s : ℕ) (items : List (Option Turn)) (xs : List Ref) (x : Ref) (ys vs ws : List Ref) (whole : Shape) (gs : List Frame) (A B : Shape) : Type 0 where
+  pub record HasSunk (m n : Pooled T) (s : ℕ) (items : List (Option Turn)) (xs : List Ref) (x : Ref)
+      (ys vs ws : List Ref) (whole : Shape) (gs : List Frame) (A B : Shape) : Type 0 where
     pub path_is : items ≡ path_of gs
     pub whole_is : plug gs (Fork A x B) ≡ whole
     pub rooted : IsRooted n s (Some x) (Fork A x B)
@@ -124,7 +128,8 @@ module _ {T : Type 0} where
     pub tags : SameTags m n s
 
   -- u is to stand where a tree of nearly its height is; above it each size counts the nodes of u
-  pub record Climbs (m : Pooled T) (s : ℕ) (root below : Option Ref) (items : List (Option Turn)) (fs : List Frame) (at : Option Ref) (h : ℕ) (u : Shape) : Type 0 where
+  pub record Climbs (m : Pooled T) (s : ℕ) (root below : Option Ref) (items : List (Option Turn))
+      (fs : List Frame) (at : Option Ref) (h : ℕ) (u : Shape) : Type 0 where
     pub path_is : items ≡ path_of fs
     pub above : Above m s fs at (size u) h
     pub beside : AreEven fs h
