@@ -72,7 +72,10 @@ module _ {T : Type 0} (k : Keying T) (m : Pooled T) where
 
     pub of_probe : (p : Probe) → IsOfKey (same_nodes k m) alike (has_key k m p)
     unfolding same_nodes has_key
-    of_probe p = record { agrees = λ a b h t. agrees p (value_of m a.name) (value_of m b.name) h t; one_key = λ a b g h. one_key p (value_of m a.name) (value_of m b.name) g h }
+    of_probe p = record {
+      agrees = λ a b h t. agrees p (value_of m a.name) (value_of m b.name) h t;
+      one_key = λ a b g h. one_key p (value_of m a.name) (value_of m b.name) g h;
+    }
 
     pub hash_of_probe : (p : Probe) (a : Ref) → has_key k m p a ≡ true → hash_node k m a ≡ k.hash_key p
     unfolding has_key hash_node
