@@ -1,5 +1,6 @@
 -- What is checked of a draft, check by check in their order, each over all tables.
-use Rattle.std.specs.Prelude.{ℕ, ℤ, pos, negsuc, Bool, true, false, not, ◌&&◌, ◌==◌, nat_le, nat_lt, bytes_eq, codes, List, [], ◌∷◌, length, map, if◌then◌else◌, Option, Some, None, unwrap_or}
+use Rattle.std.specs.Prelude.{ℕ, ℤ, pos, negsuc, Bool, true, false, not, ◌&&◌, ◌==◌, nat_le, nat_lt, bytes_eq}
+use Rattle.std.specs.Prelude.{codes, List, [], ◌∷◌, length, map, if◌then◌else◌, Option, Some, None, unwrap_or}
 use Rattle.std.specs.Option.{is_some, is_none}
 use Rattle.std.specs.List.{list_all, list_any, position}
 use Rattle.mi_value.specs.declared.value.ColumnType.{ColumnType}

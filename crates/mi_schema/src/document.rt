@@ -4,7 +4,8 @@ ghost use Rattle.std.specs.List.{list_any, list_all};
 ghost use Rattle.std.specs.BTreeMap.{keys};
 ghost use Rattle.toml.specs.Data.{get_member, as_str, as_array, as_table, as_integer, as_bool};
 ghost use Rattle.toml.specs.View.{view, table_view, array_view, items_view};
-ghost use Rattle.mi_schema.specs.Members.{Gives, has_only, needed, optional, each, list, key_draft, column_draft, index_draft, table_draft, one_table, named_table, several_tables, schema_draft, first_format, catalog_draft};
+ghost use Rattle.mi_schema.specs.Members.{Gives, has_only, needed, optional, each, list, key_draft, column_draft, index_draft};
+ghost use Rattle.mi_schema.specs.Members.{table_draft, one_table, named_table, several_tables, schema_draft, first_format, catalog_draft};
 ghost use Rattle.mi_schema.specs.declared.document.Misread.TheVariants as misread;
 
 use crate::draft::{Draft, DraftColumn, DraftIndex, DraftTable, Texts};
