@@ -137,7 +137,9 @@ impl PlainTable {
     pub(crate) fn first_past(&self, index: &Index, x: usize, key: &[Value], cut: Cut) -> Option<u64>
         requires listed { ListsEach self.now (list_of self.now x) }
         requires cut { StandsIn self.now cut }
-        ensures { result ≡ slice_get (sorted (order_in index.now self.now) (filter (λ a. not (stands_before index.now self.now (list_of self.now x) key.now cut a)) (list_of self.now x))) 0 }
+        ensures { result ≡ slice_get (sorted (order_in index.now self.now)
+            (filter (λ a. not (stands_before index.now self.now (list_of self.now x) key.now cut a)) (list_of self.now x)))
+            0 }
     {
         let ids = self.ids(x);
         let mut best = None;
@@ -159,7 +161,8 @@ impl PlainTable {
     ) -> Option<u64>
         requires listed { ListsEach self.now (list_of self.now x) }
         requires cut { StandsIn self.now cut }
-        ensures { result ≡ last_in (sorted (order_in index.now self.now) (filter (λ a. stands_before index.now self.now (list_of self.now x) key.now cut a) (list_of self.now x))) }
+        ensures { result ≡ last_in (sorted (order_in index.now self.now)
+            (filter (λ a. stands_before index.now self.now (list_of self.now x) key.now cut a) (list_of self.now x))) }
     {
         let ids = self.ids(x);
         let mut best = None;
