@@ -35,7 +35,8 @@ lead_types columns ps = record { first = type_of columns (slice_get ps 0); secon
 
 -- a structure of the kind, the key and the slot of an index
 abbrev pub IsFor : List Column → Index → ℕ → Structure → Type 0
-IsFor columns i s (Ordered t) = ((i.kind ≡ kinds.Ordered) ⊎ (i.kind ≡ kinds.Ranked)) × (t.order.parts ≡ i.parts) × (t.order.types ≡ lead_types columns i.parts) × (t.slot ≡ s)
+IsFor columns i s (Ordered t) = ((i.kind ≡ kinds.Ordered) ⊎ (i.kind ≡ kinds.Ranked))
+    × (t.order.parts ≡ i.parts) × (t.order.types ≡ lead_types columns i.parts) × (t.slot ≡ s)
 IsFor columns i s (Hashed c) = (i.kind ≡ kinds.Hashed) × (c.keys.parts ≡ i.parts) × (c.slot ≡ s)
 IsFor columns i s (Sequenced l) = (i.kind ≡ kinds.Sequenced) × (slot_of l ≡ s)
 

@@ -28,7 +28,8 @@ fn link_one(
     before: Option<(usize, NodeRef)>,
 )
     requires { IsReady (pass.joining moves node stamp before) slot structure.old p.old }
-    ensures step { IsStep (pass.joining moves.entry node stamp before) (pass.joined moves.entry node stamp before) node slot structure.old structure.new p.old p.new }
+    ensures step { IsStep (pass.joining moves.entry node stamp before)
+        (pass.joined moves.entry node stamp before) node slot structure.old structure.new p.old p.new }
     ensures like { IsLike structure.old structure.new }
 {
     if moves.moves_in(slot) {
@@ -104,7 +105,8 @@ pub fn link_all(
 )
     requires all { AreReady (pass.joining moves node stamp before) slot structures.old p.old }
     requires few { slot + length structures.old < 2 ^ 64 }
-    ensures pass { IsPass (pass.joining moves.entry node stamp before) (pass.joined moves.entry node stamp before) node slot structures.old structures.new p.old p.new }
+    ensures pass { IsPass (pass.joining moves.entry node stamp before)
+        (pass.joined moves.entry node stamp before) node slot structures.old structures.new p.old p.new }
     ensures like { AllLike structures.old structures.new }
 {
     if let Some((first, rest)) = structures.split_first_mut() {
