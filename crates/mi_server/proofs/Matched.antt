@@ -1,5 +1,6 @@
 -- What was matched of an option that is a number: it passed its bounds, and the typed getters read it.
-use Rattle.std.proofs.Common.{◌||◌, ◌&&◌, ◌≡◌, ◌∙◌, ◌<◌, ap, ap₂, ℕ, Bool, true, false, List, [], ◌∷◌, length, Option, Some, None, refl, sym, subst, inl, inr, arith}
+use Rattle.std.proofs.Common.{◌||◌, ◌&&◌, ◌≡◌, ◌∙◌, ◌<◌, ap, ap₂, ℕ, Bool, true, false, List, []}
+use Rattle.std.proofs.Common.{◌∷◌, length, Option, Some, None, refl, sym, subst, inl, inr, arith}
 use Rattle.std.specs.List.{All, slice_index_or}
 use Rattle.std.specs.Str.{bytes_eq}
 use Rattle.std.specs.Prelude.{option_map, slice_get, unwrap_or, Result, Ok, Err, IfOk, IfErr}
@@ -98,7 +99,8 @@ taken old m p k d only plain globals named q parser read is = go (matched_of (fo
       passes_own old m p k d only q parser v.now (All-get_or (λ v. PassesArg p.built id v.now) (v ∷ vs) 0 v (omega arith) all),
     )
 
-    go : (o : Option MatchedArg) → matched_of (found_of m) id ≡ o → one_text (found_of m) id ≡ Some read → IsTaken (slice_index_or (args_of old) k d).ignore_case q read
+    go : (o : Option MatchedArg) → matched_of (found_of m) id ≡ o → one_text (found_of m) id ≡ Some read
+        → IsTaken (slice_index_or (args_of old) k d).ignore_case q read
     go None e h =
         let bad : None ≡ Some read = rw e at h in
         cc

@@ -32,7 +32,8 @@ refused bytes answer fault is fits (inl memory) = rw is (inl (inr (ap Schema mem
 refused bytes answer fault is fits (inr read) = rw is (inr (fits, fault, refl, read))
 
 -- the answer to a text that is the whole file
-pub whole : (known : Option (List ℕ)) (text : List ℕ) (limit : ℕ) (answer : Result CatalogShape Failure) → IfSome known (λ bytes. (text ≡ bytes) × (length bytes ≤ limit))
+pub whole : (known : Option (List ℕ)) (text : List ℕ) (limit : ℕ) (answer : Result CatalogShape Failure)
+    → IfSome known (λ bytes. (text ≡ bytes) × (length bytes ≤ limit))
     → (length text ≤ limit → IsRead text answer) → IfSome known (λ bytes. IsRead bytes answer)
 whole None text limit answer is read = tt
 whole (Some bytes) text limit answer is read = subst (λ bs. IsRead bs answer) is.0 (read (subst (λ bs. length bs ≤ limit) (sym is.0) is.1))

@@ -35,7 +35,8 @@ row_after (unended conn) others = others
 abbrev pub ByTurns : List ℕ → HubState → List Turn → List ℕ → HubState → Type 0
 ByTurns row old [] left new = (left ≡ row) × (new ≡ old)
 ByTurns row old (turn ∷ turns) left new =
-    (others : List ℕ) × (out : List ℕ) × (mid : HubState) × (row ≡ conn_of turn ∷ others) × Made old turn out mid × ByTurns (row_after turn others) mid turns left new
+    (others : List ℕ) × (out : List ℕ) × (mid : HubState) × (row ≡ conn_of turn ∷ others)
+    × Made old turn out mid × ByTurns (row_after turn others) mid turns left new
 
 -- a fault, or none
 abbrev pub fault_of : Result Bool ServeFault → Result ⊤ ServeFault
