@@ -19,7 +19,6 @@ use Rattle.mi_value.specs.Hash.{values_hash, key_values}
 use Rattle.mi_value.proofs.OrderLaws.{compare_key_total, directed_total, prefix_alike}
 use Rattle.mi_value.proofs.Hashes.{equal_hashes}
 use Rattle.mi_index.specs.declared.stored.Stored.{Stored}
-use Rattle.mi_index.specs.declared.orders.ByHash.{ByHash}
 use Rattle.mi_index.specs.Mixing.{mixed}
 use Rattle.mi_index.specs.Orders.{keying_hash, sought_hash, has_one_key, is_whole, is_key, KeyingsAreLawful}
 

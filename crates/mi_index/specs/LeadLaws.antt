@@ -1,11 +1,10 @@
 -- Tags of keys of several parts stand in the order of what they stand for.
-use Rattle.std.proofs.Common.{◌≡◌, ℕ, ◌+◌, ◌-◌, ◌*◌, ◌<◌, ◌≤◌, zero, suc, Bool, true, false, cond, inl}
+use Rattle.std.proofs.Common.{◌≡◌, ℕ, ◌+◌, ◌-◌, ◌*◌, ◌<◌, ◌≤◌, Bool, true, false, inl}
 use Rattle.std.proofs.Common.{inr, List, [], ◌∷◌, length, slice_get, refl, ap, sym, ◌∙◌, subst, arith}
-use Rattle.std.specs.Prelude.{nat_lt, ◌/◌, ◌&&◌, ◌||◌, ◌⊎◌}
+use Rattle.std.specs.Prelude.{nat_lt, ◌/◌, ◌&&◌, ◌⊎◌}
 use Rattle.std.specs.Cmp.{IsTotalOrder}
 use Rattle.std.specs.Ordering.{ordering_then, ordering_reverse}
 use Rattle.std.proofs.lemmas.Bool.{and_parts, or_cases, ltb-true, lt-ltb, false≢true}
-use Rattle.std.specs.declared.cmp.Ordering.{Ordering}
 use Rattle.std.specs.declared.cmp.Ordering.TheVariants.{Less, Equal, Greater}
 use Rattle.std.specs.declared.option.Option.{Option}
 use Rattle.std.specs.declared.option.Option.TheVariants.{None, Some}
@@ -19,7 +18,7 @@ use Rattle.mi_value.proofs.OrderLaws.{directed_total}
 use Rattle.mi_index.specs.declared.leads.LeadTypes.{LeadTypes}
 use Rattle.mi_index.specs.Tags.{high, value_tag, directed_tag, part_tag, is_exact, is_exact_value}
 use Rattle.mi_index.specs.TagLaws.{turned_below, turned_same, value_high, tags_order_keys, exact_tags_are_keys, tags_order_probes, exact_tags_are_probes}
-use Rattle.mi_index.specs.Leads.{shorts, short_tag, flag_rank, pair_tag, two_tag, lead_tag, lead_probe, first_probe, is_exact_pair, is_exact_two, is_exact_lead}
+use Rattle.mi_index.specs.Leads.{shorts, short_tag, pair_tag, two_tag, lead_tag, lead_probe, first_probe, is_exact_pair, is_exact_two, is_exact_lead}
 
 -- 62 bits of a tag
 

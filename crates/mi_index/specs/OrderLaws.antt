@@ -1,5 +1,5 @@
 -- The orders, tags and keys of indexes are lawful.
-use Rattle.std.proofs.Common.{◌≡◌, ℕ, ◌<◌, ◌≤◌, suc, Bool, true, false, cond, List, [], ◌∷◌, length, refl, sym, ap, ◌∙◌, subst, arith}
+use Rattle.std.proofs.Common.{◌≡◌, ℕ, ◌<◌, Bool, true, false, cond, List, [], ◌∷◌, length, refl, sym, ap, ◌∙◌, subst, arith}
 use Rattle.std.specs.Prelude.{pos, negsuc, nat_le, nat_lt}
 use Rattle.std.proofs.lemmas.Bool.{false≢true, lt-ltb, leb-true}
 use Rattle.std.specs.declared.option.Option.{Option}

@@ -1,9 +1,9 @@
 //! Passes over the structures of all indexes, one after another. A change in one leaves all others standing, since each
 //! sets links of its own slot alone.
-ghost use Rattle.std.specs.Prelude.{◌≡◌, ◌+◌, ◌<◌, ◌^◌, List as Seq, ◌∷◌, ◌++◌, length, IfOk};
+ghost use Rattle.std.specs.Prelude.{◌≡◌, ◌+◌, ◌<◌, ◌^◌, List as Seq, ◌++◌, length, IfOk};
 ghost use Rattle.mi_node.specs.Pool.{IsHeld};
 ghost use Rattle.mi_node.specs.Refs.{Ref};
-ghost use Rattle.mi_index.specs.Standing.{slot_in, IsLike};
+ghost use Rattle.mi_index.specs.Standing.{IsLike};
 ghost use Rattle.mi_index.specs.Pass.{IsReady, IsStep, AreReady, IsPass, AllLike, AllRoomy};
 ghost use Rattle.mi_index.specs.Passes as pass;
 ghost use Rattle.mi_index.specs.Inserting as insert;

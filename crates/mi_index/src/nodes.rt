@@ -1,10 +1,10 @@
 //! The nodes of one table: a pool, and the structure of each index over it, through the slot of its number.
 //! What holds of both is said by relations between the structures, the pool and the lists of the nodes; this knows no rows
 //! but the values of nodes, and no counters.
-ghost use Rattle.std.specs.Prelude.{◌≡◌, ◌<◌, ◌≤◌, ◌+◌, ◌^◌, Some, None, List as Seq, length, IfOk, IfErr};
+ghost use Rattle.std.specs.Prelude.{◌≡◌, ◌≤◌, Some, List as Seq, length, IfOk, IfErr};
 ghost use Rattle.mi_node.specs.Pool.{IsHeld, value_of, without};
 ghost use Rattle.mi_node.specs.Refs.{Ref};
-ghost use Rattle.mi_index.specs.Pass.{AreReady, IsPass, AllLike, AllRoomy, AllStand, AllCan, AreChanged, IsOutOfAll, KeepsFrom};
+ghost use Rattle.mi_index.specs.Pass.{AreReady, IsPass, AllLike, AllRoomy, AllStand, AllCan, IsOutOfAll};
 ghost use Rattle.mi_index.specs.Passes as pass;
 ghost use Rattle.mi_index.specs.Rekeying as rekey;
 ghost use Rattle.mi_index.specs.Inserting as insert;

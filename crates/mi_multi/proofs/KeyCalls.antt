@@ -38,7 +38,7 @@ use Rattle.mi_multi.proofs.Numbers.{Numbered, numbered, reaches}
 use Rattle.mi_multi.proofs.FoundIds.{all_where, all_first, all_filter, all_behind}
 use Rattle.mi_multi.proofs.LookUps as known
 use Rattle.mi_multi.proofs.Probes as probes
-use Rattle.mi_multi.proofs.Calls.{in_order, ranked}
+use Rattle.mi_multi.proofs.Calls.{in_order}
 
 -- nothing stands behind the end
 pub past_end : (ids : List ℕ) (k : ℕ) → slice_get ids k ≡ None → length ids ≤ k

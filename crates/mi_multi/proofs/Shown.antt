@@ -41,7 +41,7 @@ use Rattle.mi_container.proofs.Sequences.{Once}
 use Rattle.mi_container.proofs.ViewOfData.{sorted_is_shown, hashed_is_shown, ids_are_shown}
 use Rattle.mi_ids.specs.declared.entry.IdEntry.{IdEntry}
 use Rattle.mi_ids.specs.IdMap.{live_node, node_if_live}
-use Rattle.mi_multi.specs.Physical.{order_of, orders_of, plan}
+use Rattle.mi_multi.specs.Physical.{order_of, plan}
 use Rattle.mi_multi.specs.Multi.{id_at, ids_at, own_list, HasNode, IsMulti, plain_of}
 use Rattle.mi_multi.proofs.Lives.{IsLiveRef}
 use Rattle.mi_multi.proofs.Stamps.{stamp_row, rises_ids, lists_each}

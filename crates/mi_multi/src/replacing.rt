@@ -9,7 +9,6 @@ ghost use Rattle.mi_model.specs.Verdict.{replace_refusal, replace_outcome, modif
 ghost use Rattle.mi_container.specs.Asked.{RecordFits, EditsFit};
 ghost use Rattle.mi_container.specs.Data.{table_of};
 ghost use Rattle.mi_container.specs.Inverse.{lost_to};
-ghost use Rattle.mi_container.specs.Run.{Allowed};
 ghost use Rattle.mi_container.specs.Run.Change.{Replace};
 ghost use Rattle.mi_container.specs.Makes.{Makes, MakesModify, MeetsOn, replace_answer, modify_answer, IsNoLoss};
 

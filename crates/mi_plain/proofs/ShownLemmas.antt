@@ -10,7 +10,7 @@ use Rattle.mi_model.specs.Table.{Table, IsTable, has, list_of}
 use Rattle.mi_model.specs.View.{sorted, compare_to_id}
 use Rattle.mi_catalog.specs.Kinds.{is_sorted, shows_one_list}
 use Rattle.mi_model.specs.Lookup as look
-use Rattle.mi_model.specs.Lookup.{rank_in, before_place}
+use Rattle.mi_model.specs.Lookup.{rank_in}
 use Rattle.mi_plain.specs.declared.pass.Cut.{Cut}
 use Rattle.mi_plain.specs.declared.pass.Cut.TheVariants.{Start, End, Lower, Upper, Before, Behind}
 use Rattle.mi_plain.specs.Cut.{order_in, is_before, last_in}

@@ -35,7 +35,6 @@ fn find_in(ids: &[u64], id: u64) -> Option<usize>
 
 impl PlainTable {
     ghost use Rattle.std.specs.Prelude.{◌≡◌, not, true, Some, if◌then◌else◌, IsTrue, IfSome, length, slice_get};
-    ghost use Rattle.std.specs.declared.option.Option.TheVariants.{None};
     ghost use Rattle.std.specs.List.{filter};
     ghost use Rattle.std.specs.Option.{option_map_or};
     ghost use Rattle.std.specs.Ordering.{is_lt, nat_cmp, ordering_then};

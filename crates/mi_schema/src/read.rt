@@ -1,7 +1,6 @@
 //! From the text of a document to a schema or a catalog.
-ghost use Rattle.std.specs.Prelude.{◌≡◌, ◌⊎◌, Err, IfErr, Some, None, IfOk};
+ghost use Rattle.std.specs.Prelude.{◌≡◌, ◌⊎◌, IfErr, Some, None, IfOk};
 ghost use Rattle.toml.specs.View.{table_view};
-ghost use Rattle.mi_schema.specs.Members.{Gives};
 ghost use Rattle.mi_schema.specs.Checks.{fault_of};
 ghost use Rattle.mi_schema.specs.Reading as reading;
 ghost use Rattle.mi_schema.specs.Reading.{IsAnswer, misread_fault, catalog_read, schema_read};

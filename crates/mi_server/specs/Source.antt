@@ -1,5 +1,5 @@
 -- Where the catalog comes from: the built-in schema, or what a named file is read as.
-use Rattle.std.specs.Prelude.{◌≡◌, ◌⊎◌, ◌≤◌, ℕ, List, [], ◌∷◌, length, Bool, true, false, Option, Some, None, IfSome, Result, Ok, Err}
+use Rattle.std.specs.Prelude.{◌≡◌, ◌⊎◌, ◌≤◌, ℕ, List, [], ◌∷◌, length, Bool, true, false, Option, IfSome, Result, Ok, Err}
 use Rattle.mi_value.specs.declared.limits.TheConstants.{MAX_SCHEMA_FILE}
 use Rattle.mi_schema.specs.Reading.{catalog_read}
 use Rattle.mi_catalog.specs.Shape.{CatalogShape}

@@ -1,6 +1,5 @@
 -- The node has a place here.
 use Rattle.std.proofs.Common.{◌≡◌, ap, sym, ◌∙◌, subst}
-use Rattle.std.specs.declared.option.Option.{Option}
 use Rattle.std.specs.declared.option.Option.TheVariants.{Some}
 use Rattle.mi_node.specs.Pool.{link_of}
 use Rattle.mi_index.specs.Places.{place_for}

@@ -3,7 +3,6 @@ use Rattle.std.proofs.lemmas.Result.{IfOk-weaker}
 use Rattle.mi_node.specs.Pool.{Pooled}
 use Rattle.mi_tree.specs.Walking.{beyond}
 use Rattle.mi_tree.specs.declared.walk.Direction.{Direction}
-use Rattle.mi_index.specs.Looks as nodes
 use Rattle.mi_index.specs.Standing.{Stands}
 use Rattle.mi_index.specs.Walks.{shown_row}
 use Rattle.mi_index.specs.declared.stored.Stored.{Stored}
