@@ -16,7 +16,7 @@ differs : (s t : ℕ) → s < t → (s == t) ≡ false
 differs s t l = grind arith
 
 -- the slot of a structure from a place on, after a change in an earlier slot
-pub agree_later : (x : Structure) (t i : ℕ) (m n : Pooled Stored) (us : List Ref) → Keeps m n i us → i < t → slot_in x ≡ t → Agree (slot_in x) m n
+agree_later : (x : Structure) (t i : ℕ) (m n : Pooled Stored) (us : List Ref) → Keeps m n i us → i < t → slot_in x ≡ t → Agree (slot_in x) m n
 agree_later x t i m n us g l e = record {
   refs = g.refs;
   values = g.values;
@@ -25,7 +25,7 @@ agree_later x t i m n us g l e = record {
 }
 
 -- the slot of the first, after changes in later ones
-pub agree_first : (x : Structure) (s : ℕ) (n o : Pooled Stored) (r : Ref) (rss : List (List Ref))
+agree_first : (x : Structure) (s : ℕ) (n o : Pooled Stored) (r : Ref) (rss : List (List Ref))
     → KeepsFrom n o (s + 1) r rss → slot_in x ≡ s → Agree (slot_in x) n o
 agree_first x s n o r rss q e = record { refs = q.refs; values = q.values; slots = q.slots; links = λ k. q.earlier_slots k (slot_in x) (omega (arith, e)) }
 
@@ -40,7 +40,7 @@ like_slot (Sequenced l) (Ordered u) h = absurd h
 like_slot (Sequenced l) (Hashed d) h = absurd h
 like_slot (Sequenced l) (Sequenced k) h = h
 
-pub all_stand : (xs : List Structure) (t i : ℕ) (m n : Pooled Stored) (us : List Ref) (rss : List (List Ref))
+all_stand : (xs : List Structure) (t i : ℕ) (m n : Pooled Stored) (us : List Ref) (rss : List (List Ref))
     → Keeps m n i us → i < t → AllStand xs t m rss → AllStand xs t n rss
 all_stand [] t i m n us [] g l h = tt
 all_stand [] t i m n us (rs ∷ rss) g l h = absurd h
@@ -52,7 +52,7 @@ all_stand (x ∷ xs) t i m n us (rs ∷ rss) g l h = (
 )
 
 -- links that were set, in both parts
-pub both_keep : (s i : ℕ) (m n o : Pooled Stored) (r : Ref) (rs : List Ref) (rss : List (List Ref))
+both_keep : (s i : ℕ) (m n o : Pooled Stored) (r : Ref) (rs : List Ref) (rss : List (List Ref))
     → i ≡ s → Keeps m n i (r ∷ rs) → KeepsFrom n o (s + 1) r rss → KeepsFrom m o s r (rs ∷ rss)
 both_keep s i m n o r rs rss e g q = record {
   refs = λ k. q.refs k ∙ g.refs k;

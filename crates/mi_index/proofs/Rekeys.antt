@@ -44,7 +44,7 @@ head_of e = cc
 tail_of : {a b : Ref} {xs ys : List Ref} → (a ∷ xs) ≡ (b ∷ ys) → xs ≡ ys
 tail_of e = cc
 
-pub cut_once : (r : Ref) (xs ys us vs : List Ref) → IsApart (xs ++ r ∷ ys) → xs ++ r ∷ ys ≡ us ++ r ∷ vs → (xs ++ ys) ≡ (us ++ vs)
+cut_once : (r : Ref) (xs ys us vs : List Ref) → IsApart (xs ++ r ∷ ys) → xs ++ r ∷ ys ≡ us ++ r ∷ vs → (xs ++ ys) ≡ (us ++ vs)
 cut_once r [] ys [] vs a e = tail_of e
 cut_once r [] ys (u ∷ us) vs a e = absurd (not_out r us vs (subst (IsOut r.name) (tail_of e) a.0))
 cut_once r (x ∷ xs) ys [] vs a e = absurd (not_out r xs ys (subst (λ (z : Ref). IsOut z.name (xs ++ r ∷ ys)) (head_of e) a.0))

@@ -36,14 +36,14 @@ abbrev pub After : Gives → Type 0
 After Q = (s : ℕ) (x : Structure) (m n o : Pooled Stored) (rs us : List Ref) → slot_in x ≡ s → Agree (slot_in x) n o → Q s x m n rs us → Q s x m o rs us
 
 module _ (s : ℕ) (m n : Pooled Stored) (a : Agree s m n) where
-  pub stamps_same : stamp_at n s ≡ stamp_at m s
+  stamps_same : stamp_at n s ≡ stamp_at m s
   stamps_same = λ i r. (a.links r.name i).tag.stamp
 
-  pub keys_same : (k : Keying Stored) (r : Ref) → same_nodes k n r ≡ same_nodes k m r
+  keys_same : (k : Keying Stored) (r : Ref) → same_nodes k n r ≡ same_nodes k m r
   unfolding same_nodes
   keys_same k r = λ i q. same_values k.same (a.values r.name i) (a.values q.name i)
 
-  pub sides_same : (order : Stored → Stored → Ordering) (r : Ref) (stamp : ℕ) → side_of_new order n s r stamp ≡ side_of_new order m s r stamp
+  sides_same : (order : Stored → Stored → Ordering) (r : Ref) (stamp : ℕ) → side_of_new order n s r stamp ≡ side_of_new order m s r stamp
   unfolding side_of_new item_of
   sides_same order r stamp = λ i q. compared (by_stamp order) (stamped (a.values r.name i) stamp) (stamped (a.values q.name i) (a.links q.name i).tag.stamp)
 

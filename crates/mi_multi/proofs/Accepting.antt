@@ -43,7 +43,7 @@ use Rattle.mi_multi.proofs.Every.{sequenced_order}
 use Rattle.mi_multi.proofs.Answers.{live_is, none_has, row_is}
 use Rattle.mi_multi.proofs.Coming.{IsBefore}
 
-pub tested : (a b : ℕ) → a ≡ b → (a == b) ≡ true
+tested : (a b : ℕ) → a ≡ b → (a == b) ≡ true
 tested a b same = elim (eqb_tells a b) [ inl is ↦ is.0 | inr isnt ↦ absurd (isnt.1 same) ]
 
 pub record Accepted (s : Shape) (at : Option (ℕ × ℕ)) (r : List Value) (t : Table) : Type 0 where
@@ -158,7 +158,7 @@ module _ (s : Shape) (ids : FinMap nat_cmp IdEntry) (m : Pooled Stored) (xs : Li
   d = plain_of s ids m xs next arrivals
 
   -- a sequenced index has a list of its own
-  pub has_list : (x : ℕ) → IsSequenced s x → IsListed (get_or d.orders x ById)
+  has_list : (x : ℕ) → IsSequenced s x → IsListed (get_or d.orders x ById)
   has_list x h = listed_at s.indexes (own_lists m xs) x _ refl (ap is_sequenced h)
 
   pub place_fits : (at : Option (ℕ × ℕ)) → IfSome at (λ p. IsSequenced s p.0) → PlaceFits at d.orders

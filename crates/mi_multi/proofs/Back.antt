@@ -70,7 +70,7 @@ enough (i ∷ is) [] long = absurd (let bad : zero ≡ suc (length is) = long in
 enough (i ∷ is) (l ∷ links) long = enough is links (let h : suc (length links) ≡ suc (length is) = long in omega arith)
 
 -- stamps after a node came in with one that it had
-pub stamp_still : (i : Index) (x : Structure) (m n : Pooled Stored) (r : Ref) (l : List ℕ) (stamp : ℕ)
+stamp_still : (i : Index) (x : Structure) (m n : Pooled Stored) (r : Ref) (l : List ℕ) (stamp : ℕ)
     → IsFor i x → HasStamp x m n r stamp → has_stamps (order_of i.kind i.parts l) ≡ true
     → stamp ≡ (link_of m r.name (slot_in x)).tag.stamp → (k : ℕ) → (link_of n k (slot_in x)).tag.stamp ≡ (link_of m k (slot_in x)).tag.stamp
 stamp_still i (Ordered t) m n r l stamp f h has own k =
@@ -101,7 +101,7 @@ module _ (s : Shape) (ids : FinMap nat_cmp IdEntry) (m n : Pooled Stored) (xs ys
   abbrev b : Data
   b = returned e (Some (kept_node_in m os r)) d
 
-  pub kept_is : kept_of d.kept e ≡ Some (kept_node_in m os r)
+  kept_is : kept_of d.kept e ≡ Some (kept_node_in m os r)
   kept_is = get_picked (kept_in m os) ids e ∙ ap (option_and_then (kept_in m os)) there
 
   pub has_back : (k : ℕ) → has_stamps (get_or b.orders k ById) ≡ has_stamps (get_or os k ById)

@@ -73,7 +73,7 @@ like_slot (Hashed c) (Sequenced b) l = absurd l
 like_slot (Sequenced a) (Ordered u) l = absurd l
 like_slot (Sequenced a) (Hashed d) l = absurd l
 
-pub like_for : (i : Index) (x y : Structure) → IsLike x y → IsFor i x → IsFor i y
+like_for : (i : Index) (x y : Structure) → IsLike x y → IsFor i x → IsFor i y
 like_for i (Ordered t) (Ordered u) l f = (f.0, ap (λ o. o.parts) l.1 ∙ f.1)
 like_for i (Hashed c) (Hashed d) l f = (f.0, ap (λ k. k.parts) l.1 ∙ f.1)
 like_for i (Sequenced a) (Sequenced b) l f = f

@@ -70,7 +70,7 @@ unique_keyed columns [] k none p l h one = absurd (omega arith)
 unique_keyed columns (i ∷ is) zero none p l h one = absurd (omega arith)
 unique_keyed columns (i ∷ is) (suc k) none p l h one = declared_kept columns is k none (omega arith) (and_parts _ _ (and_parts _ _ (and_parts _ _ h).0).0).1 one
 
-pub schema_keyed : (s : Shape) (x : ℕ) → IsTrue (is_schema s) → 0 < x → x < length s.indexes
+schema_keyed : (s : Shape) (x : ℕ) → IsTrue (is_schema s) → 0 < x → x < length s.indexes
     → (index_at s x).«unique» ≡ true → (has_keys (index_at s x).kind ≡ true) × ((index_at s x).parts ≢ [])
 schema_keyed s x rules p l one = unique_keyed (length s.columns) s.indexes x _ p l (and_parts _ _ (and_parts _ _ rules).0).1 one
 

@@ -33,11 +33,11 @@ module _ (idf : Ref → ℕ) where
       ∙ ap (λ q. idf x ∷ q) (without_middle e xs r ys is lacks.1)
 
   -- and with one at its end, or before another node
-  pub stand_last : (xs : List Ref) (r : Ref) → stand None (idf r) (map idf (xs ++ [])) ≡ map idf (xs ++ r ∷ [])
+  stand_last : (xs : List Ref) (r : Ref) → stand None (idf r) (map idf (xs ++ [])) ≡ map idf (xs ++ r ∷ [])
   stand_last [] r = refl
   stand_last (x ∷ xs) r = ap (λ q. idf x ∷ q) (stand_last xs r)
 
-  pub stand_middle : (xs : List Ref) (r y : Ref) (ys : List Ref) → Lacks (idf y) (map idf xs)
+  stand_middle : (xs : List Ref) (r y : Ref) (ys : List Ref) → Lacks (idf y) (map idf xs)
       → stand_before (idf y) (idf r) (map idf (xs ++ y ∷ ys)) ≡ map idf (xs ++ r ∷ y ∷ ys)
   stand_middle [] r y ys lacks = ap (λ b. cond b (idf r ∷ idf y ∷ map idf ys) (idf y ∷ stand_before (idf y) (idf r) (map idf ys))) (is_itself (idf y))
   stand_middle (x ∷ xs) r y ys lacks =
@@ -56,7 +56,7 @@ module _ (idf : Ref → ℕ) where
 
   -- Neighbours
 
-  pub prev_middle : (p : Option ℕ) (e : ℕ) (xs : List Ref) (r : Ref) (ys : List Ref) → (idf r == e) ≡ true
+  prev_middle : (p : Option ℕ) (e : ℕ) (xs : List Ref) (r : Ref) (ys : List Ref) → (idf r == e) ≡ true
       → Lacks e (map idf xs) → prev_in p e (map idf (xs ++ r ∷ ys)) ≡ last_or p (map idf xs)
   prev_middle p e [] r ys is lacks = ap (λ t. cond t p (prev_in (Some (idf r)) e (map idf ys))) is
   prev_middle p e (x ∷ xs) r ys is lacks =

@@ -31,7 +31,7 @@ abbrev entry : Ref → Bool → IdEntry
 entry r b = record { node = r; live = b }
 
 -- an entry that says live or not
-pub with_live_is : (ids : FinMap nat_cmp IdEntry) (e : ℕ) (a : IdEntry) (b : Bool)
+with_live_is : (ids : FinMap nat_cmp IdEntry) (e : ℕ) (a : IdEntry) (b : Bool)
     → get ids e ≡ Some a → with_live ids e b ≡ insert ids e (record { node = a.node; live = b })
 unfolding with_live
 with_live_is ids e a b is = ap (marked ids e b) is
@@ -119,7 +119,7 @@ module _ (ids : FinMap nat_cmp IdEntry) (m : Pooled Stored) where
   pub node_live : (os : List Order) (r : Ref) → IsLiveRef r → node_of (picked (live_in m os) (entries ids)) (id_at m r) ≡ Some (node_in m os r)
   node_live os r live = get_picked (live_in m os) ids (id_at m r) ∙ ap (option_and_then (live_in m os)) live
 
-  pub row_of : (os : List Order) (r : Ref) → IsLiveRef r → IsRow (id_at m) (picked (live_in m os) (entries ids)) r
+  row_of : (os : List Order) (r : Ref) → IsLiveRef r → IsRow (id_at m) (picked (live_in m os) (entries ids)) r
   row_of os r live = (node_in m os r, node_live os r live, refl)
 
   pub rows_of : (os : List Order) (rs : List Ref) → AllByRecursion IsLiveRef rs → AllByRecursion (IsRow (id_at m) (picked (live_in m os) (entries ids))) rs

@@ -54,7 +54,7 @@ plan_is [] k none l = absurd (omega arith)
 plan_is (i ∷ is) zero none l = refl
 plan_is (i ∷ is) (suc k) none l = plan_is is k none (omega arith)
 
-pub length_for : (is : List Index) (xs : List Structure) → AllFor is xs → length is ≡ length xs
+length_for : (is : List Index) (xs : List Structure) → AllFor is xs → length is ≡ length xs
 length_for [] [] f = refl
 length_for [] (x ∷ xs) f = absurd f
 length_for (i ∷ is) [] f = absurd f

@@ -37,7 +37,7 @@ both_true true b p = (tt, p)
 both_true false b p = absurd p
 
 module _ {A : Type 0} where
-  pub find_lookup : (q : ℕ) (es : List (ℕ × A)) → find nat_cmp q es ≡ lookup (λ k. k == q) es
+  find_lookup : (q : ℕ) (es : List (ℕ × A)) → find nat_cmp q es ≡ lookup (λ k. k == q) es
   find_lookup q [] = refl
   find_lookup q (r ∷ es) = (λ i. cond (eq_cmp q r.0 i) (Some r.1) (find_lookup q es i))
 
@@ -102,7 +102,7 @@ module _ {A B : Type 0} (f : A → Option B) where
   found_on e None a rest isnt = refl
   found_on e (Some b) a rest isnt = head_isnt e (a, b) rest isnt
 
-  pub lookup_picked : (e : ℕ) (es : List (ℕ × A)) → Up es → lookup (λ k. k == e) (picked f es) ≡ option_and_then f (lookup (λ k. k == e) es)
+  lookup_picked : (e : ℕ) (es : List (ℕ × A)) → Up es → lookup (λ k. k == e) (picked f es) ≡ option_and_then f (lookup (λ k. k == e) es)
   lookup_picked e [] up = refl
   lookup_picked e (r ∷ es) up =
       both_ways (r.0 == e)

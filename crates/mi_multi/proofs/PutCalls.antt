@@ -49,7 +49,7 @@ module _ (i : Inside) (is : AreMulti i) (w : Seen) (seen : seen_of i ≡ w) (row
   abbrev items : List Structure
   items = i.nodes.structures.items
 
-  pub row_there : get i.ids.entries row.id ≡ Some (record { node = row.node; live = true })
+  row_there : get i.ids.entries row.id ≡ Some (record { node = row.node; live = true })
   row_there = live_there i.schema i.ids.entries m items i.next i.arrivals (row_seen row)
       (subst (λ (v : Seen). IsLive v.plain.rows (row_seen row)) (sym seen) live)
 
@@ -67,7 +67,7 @@ module _ (i : Inside) (is : AreMulti i) (w : Seen) (seen : seen_of i ≡ w) (row
       (old.long_stamps i.schema i.ids.entries m items i.next i.arrivals is row.id row.node row_there h.value h.id)
 
   module _ (k : ℕ) (few : k < length w.shape.indexes) where
-    pub few_here : k < length i.schema.indexes
+    few_here : k < length i.schema.indexes
     few_here = subst (λ (v : Seen). k < length v.shape.indexes) (sym seen) few
 
     pub few_items : k < length items

@@ -66,10 +66,10 @@ module _ (s : Shape) (e : ℕ) (edits : List Edit) (rollback : Bool) (t : Table)
       outcome : Bool → Outcome (Unit {0})
       outcome b = cond (not b) (Err NoId, t) (modified s e rollback (apply edits (row t e).1) t)
 
-  pub modify_there : has t e ≡ true → modify_outcome s e edits rollback t ≡ modified s e rollback (apply edits (row t e).1) t
+  modify_there : has t e ≡ true → modify_outcome s e edits rollback t ≡ modified s e rollback (apply edits (row t e).1) t
   modify_there h = ap (λ b. cond (not b) (Err NoId, t) (modified s e rollback (apply edits (row t e).1) t)) h
 
-  pub edits_refused : (x : Refusal) → has t e ≡ true → (x ≡ Range → apply edits (row t e).1 ≡ None)
+  edits_refused : (x : Refusal) → has t e ≡ true → (x ≡ Range → apply edits (row t e).1 ≡ None)
       → (x ≡ Range) ⊎ (x ≡ Memory) → MeetsRefusal (modify_outcome s e edits rollback t) x t t
   edits_refused x h range (inl is) =
       subst (λ k. MeetsRefusal (modify_outcome s e edits rollback t) k t t) (sym is)

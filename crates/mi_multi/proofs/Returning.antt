@@ -74,7 +74,7 @@ has_sorted (p ∷ ps) some = refl
 abbrev pub nothing : Gives
 nothing s x m n rs us = Unit {0}
 
-pub like_self : (x : Structure) → IsLike x x
+like_self : (x : Structure) → IsLike x x
 like_self (Ordered t) = (refl, refl)
 like_self (Hashed c) = (refl, refl, omega arith)
 like_self (Sequenced l) = refl
@@ -111,12 +111,12 @@ module _ (s : Shape) (ids : FinMap nat_cmp IdEntry) (m : Pooled Stored) (xs : Li
     abbrev mine : HasNode m e r
     mine = is.held e (record { node = r; live = false }) there
 
-    pub not_here : (q : Ref) → IsLiveRef ids m q → e ≢ id_at m q
+    not_here : (q : Ref) → IsLiveRef ids m q → e ≢ id_at m q
     not_here q live same =
         let both : record { node = r; live = false } ≡ record { node = q; live = true } = some_is (sym there ∙ ap (get ids) same ∙ live) in
         false≢true (ap (λ (a : IdEntry). a.live) both)
 
-    pub gone : node_of d.rows e ≡ None
+    gone : node_of d.rows e ≡ None
     gone = get_picked (live_in m os) ids e ∙ ap (option_and_then (live_in m os)) there
 
     -- no live node has its stamp

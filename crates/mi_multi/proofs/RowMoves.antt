@@ -83,7 +83,7 @@ module _ (s : Shape) (ids : FinMap nat_cmp IdEntry) (m : Pooled Stored) (xs : Li
         (r ∷ a.ys) (subst (AllByRecursion (IsLiveRef ids m)) a.parts n.stood.live.rows) in
         rest.1
 
-    pub behind_is : option_map (row_at m) (first_of a.ys None) ≡ option_map (row_ref d.rows) (next_in_order e (get_or d.orders x ById))
+    behind_is : option_map (row_at m) (first_of a.ys None) ≡ option_map (row_ref d.rows) (next_in_order e (get_or d.orders x ById))
     behind_is =
         rows_named a.ys behind
         ∙ ap (option_map (row_ref d.rows)) (sym (ap (next_in_order e) list_is ∙ next_middle (id_at m) e a.xs r a.ys a.here a.lacks ∙ head_ids (id_at m) a.ys))
@@ -124,7 +124,7 @@ kinds_listed (i ∷ is) (o ∷ os) zero none no_ f seq = kind_listed i o f.0 seq
 kinds_listed (i ∷ is) (o ∷ os) (suc x) none no_ f seq = kinds_listed is os x none no_ f.1 seq
 
 module _ (s : Shape) (d : Data) (is : IsData s d) (x : ℕ) (seq : IsSequenced s x) where
-  pub has_list : IsListed (get_or d.orders x ById)
+  has_list : IsListed (get_or d.orders x ById)
   has_list = kinds_listed s.indexes d.orders x _ refl is.kinds (ap is_sequenced seq)
 
   -- A row goes before another one, or last

@@ -46,7 +46,7 @@ above_with a e c (r ∷ rows) up =
       | false ↦ (up.0, above_with a e c rows up.1)
     ]
 
-pub up_with : (e : ℕ) (c : Content) (rows : List (ℕ × Node)) → Up rows → Up (with_content e c rows)
+up_with : (e : ℕ) (c : Content) (rows : List (ℕ × Node)) → Up rows → Up (with_content e c rows)
 up_with e c [] up = tt
 up_with e c (r ∷ rows) up =
     elim (r.0 == e) as (λ b. Up (cond b ((r.0, record { at = r.1.at; content = c }) ∷ rows) (r ∷ with_content e c rows))) [
@@ -58,7 +58,7 @@ above_push : {A : Type 0} (a e : ℕ) (n : A) (rows : List (ℕ × A)) → a < e
 above_push a e n [] l up = (l, tt)
 above_push a e n (r ∷ rows) l up = (up.0, above_push a e n rows l up.1)
 
-pub up_push : {A : Type 0} (e : ℕ) (n : A) (rows : List (ℕ × A)) → Climbs e rows → Up (rows ++ (e, n) ∷ [])
+up_push : {A : Type 0} (e : ℕ) (n : A) (rows : List (ℕ × A)) → Climbs e rows → Up (rows ++ (e, n) ∷ [])
 up_push e n [] up = (tt, tt)
 up_push e n (r ∷ rows) up = (above_push r.0 e n rows up.0 up.1, up_push e n rows up.2)
 

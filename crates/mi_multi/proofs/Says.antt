@@ -43,7 +43,7 @@ one_neighbours m n k x (ByKey ps) same = refl
 one_neighbours m n k x (ByHash ps) same = (λ i. record { back = (same i).back; forth = (same i).forth })
 one_neighbours m n k x (Listed ids) same = (λ i. record { back = (same i).back; forth = (same i).forth })
 
-pub neighbours_same : (m n : Pooled Stored) (k y : ℕ) (os : List Order)
+neighbours_same : (m n : Pooled Stored) (k y : ℕ) (os : List Order)
     → ((x : ℕ) → link_of n k x ≡ link_of m k x) → all_neighbours n k y os ≡ all_neighbours m k y os
 neighbours_same m n k y [] same = refl
 neighbours_same m n k y (o ∷ os) same = (λ i. one_neighbours m n k y o (same y) i ∷ neighbours_same m n k (suc y) os same i)
@@ -56,7 +56,7 @@ node_same os m n r same =
     let here : 0 + x ≡ x = omega arith in subst (λ q. (link_of n r.name q).tag.stamp ≡ (link_of m r.name q).tag.stamp) (sym here) (same.stamps x h)) in
     (λ i. record { at = r; content = record { values = record_in (values i); stamps = stamps i } })
 
-pub kept_same : (os : List Order) (m n : Pooled Stored) (r : Ref) → SaysSame os m n r.name
+kept_same : (os : List Order) (m n : Pooled Stored) (r : Ref) → SaysSame os m n r.name
     → ((t : ℕ) → link_of n r.name t ≡ link_of m r.name t) → kept_node_in n os r ≡ kept_node_in m os r
 kept_same os m n r same links =
     let node = node_same os m n r same in
@@ -99,7 +99,7 @@ one_plain m k x Ranked ps l u = refl
 one_plain m k x Hashed ps l u = refl
 one_plain m k x Sequenced ps l u = refl
 
-pub plain_neighbours : (m : Pooled Stored) (k x : ℕ) (is : List Index) (ls : List (List ℕ))
+plain_neighbours : (m : Pooled Stored) (k x : ℕ) (is : List Index) (ls : List (List ℕ))
     → all_neighbours m k x (orders_of is ls) ≡ all_neighbours m k x (plan is)
 plain_neighbours m k x [] ls = refl
 plain_neighbours m k x (i ∷ is) [] = refl

@@ -68,7 +68,7 @@ module _ (s : Shape) (ids : FinMap nat_cmp IdEntry) (m n : Pooled Stored) (xs ys
     there_is : node_of d.rows e ≡ Some (node_in m (plan s.indexes) r)
     there_is = row_is s ids m n xs ys next arrivals is e r there like pass
 
-    pub gone_seen : gone ≡ record d { rows = left_out e d.rows; orders = map (in_order (without e)) d.orders }
+    gone_seen : gone ≡ record d { rows = left_out e d.rows; orders = map (in_order (without e)) d.orders }
     gone_seen =
         ap (λ q. plain_of s q (freed n r.name) ys next arrivals) (sym same_ids)
         ∙ freed_seen s (with_live ids e false) n ys next arrivals left_multi e r kept_now stands

@@ -107,14 +107,14 @@ placed x rows now old was (ByKey ps) meet = refl
 placed x rows now old was (ByHash ps) meet = refl
 placed x rows now old was (Listed l) meet = sym meet.0
 
-pub stamp_back_at : (ps : List (Option OldPlace)) (stamps : List ℕ) (k : ℕ) → length ps ≡ length stamps
+stamp_back_at : (ps : List (Option OldPlace)) (stamps : List ℕ) (k : ℕ) → length ps ≡ length stamps
     → get_or (stamps_back ps stamps) k 0 ≡ stamp_back (get_or ps k None) (get_or stamps k 0)
 stamp_back_at [] stamps k long = refl
 stamp_back_at (p ∷ ps) [] k long = absurd (let bad : suc (length ps) ≡ zero = long in omega arith)
 stamp_back_at (p ∷ ps) (a ∷ stamps) zero long = refl
 stamp_back_at (p ∷ ps) (a ∷ stamps) (suc k) long = stamp_back_at ps stamps k (let h : suc (length ps) ≡ suc (length stamps) = long in omega arith)
 
-pub length_stamps : (m : Pooled Stored) (q y : ℕ) (os : List Order) → length (stamps_in m q y os) ≡ length os
+length_stamps : (m : Pooled Stored) (q y : ℕ) (os : List Order) → length (stamps_in m q y os) ≡ length os
 length_stamps m q y [] = refl
 length_stamps m q y (o ∷ os) = ap suc (length_stamps m q (suc y) os)
 
@@ -162,7 +162,7 @@ module _ (s : Shape) (ids : FinMap nat_cmp IdEntry) (m : Pooled Stored) (xs : Li
   mine : HasNode m e r
   mine = is.held e (record { node = r; live = true }) there
 
-  pub id : id_at m r ≡ e
+  id : id_at m r ≡ e
   id = ap id_in mine.is ∙ mine.id
 
   pub here : node_of d.rows e ≡ Some (node_in m os r)
@@ -171,7 +171,7 @@ module _ (s : Shape) (ids : FinMap nat_cmp IdEntry) (m : Pooled Stored) (xs : Li
   now_is : now ≡ mine.value.row
   now_is = ap (λ o. (content_in o).values) here ∙ ap record_in mine.is
 
-  pub back_there : node_of b.rows e ≡ Some (record { at = r; content = content })
+  back_there : node_of b.rows e ≡ Some (record { at = r; content = content })
   back_there = node_with e (old_content old (content_of d.rows e)) d.rows (node_in m os r) here
       ∙ ap (λ o. Some (record { at = r; content = old_content old (content_in o) })) here
 

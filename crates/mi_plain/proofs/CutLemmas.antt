@@ -37,7 +37,7 @@ order_by_total Sequenced order o = record { antisymm = λ a b. refl; trans = λ 
 pub order_in_total : (i : Index) (t : Table) → IsTotalOrder (order_in i t)
 order_in_total i t = order_by_total i.kind (compare_ids i t) (compare_ids_total i t)
 
-pub by_place_total : (i : Index) (t : Table) (ids : List ℕ) → IsTotalOrder (by_place i t ids)
+by_place_total : (i : Index) (t : Table) (ids : List ℕ) → IsTotalOrder (by_place i t ids)
 by_place_total i t ids = then_total (order_in_total i t) (on_total (rank_in ids) nat_cmp_total)
 
 -- where no id is less than another, sorting changes nothing
@@ -83,7 +83,7 @@ module _ (i : Index) (t : Table) (ids : List ℕ) (each : ListsEach t ids) where
   shown_past p holds = ap (λ xs. slice_get xs 0) (sym (filter-sorted (order_in_total i t) (λ a. not (p a)) ids))
       ∙ first_past (by_place_total i t ids) p holds all rises
 
-  pub shown_before : (p : ℕ → Bool) → HoldsBefore (by_place_total i t ids) p
+  shown_before : (p : ℕ → Bool) → HoldsBefore (by_place_total i t ids) p
       → last_in (sorted (order_in i t) (filter p ids)) ≡ before_place all (length (filter p all))
   shown_before p holds = ap last_in (sym (filter-sorted (order_in_total i t) p ids)) ∙ last_before (by_place_total i t ids) p holds all rises
 

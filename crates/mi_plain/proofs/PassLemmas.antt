@@ -54,7 +54,7 @@ first_fold order q done (a ∷ ids) =
     ∙ ap (λ b. slice_get (fold (λ d e. place order e d) done (cond b (a ∷ filter q ids) (filter q ids))) 0) (sym isnt))
 
 -- the pass gives the first of those that pass, sorted
-pub first_kept-is : (order : ℕ → ℕ → Ordering) (q : ℕ → Bool) (ids : List ℕ) → first_kept order q None ids ≡ slice_get (sorted order (filter q ids)) 0
+first_kept-is : (order : ℕ → ℕ → Ordering) (q : ℕ → Bool) (ids : List ℕ) → first_kept order q None ids ≡ slice_get (sorted order (filter q ids)) 0
 first_kept-is order q ids = first_fold order q [] ids
 
 pub first_ends : (order : ℕ → ℕ → Ordering) (q : ℕ → Bool) (best : Option ℕ) (ids others : List ℕ) (i : ℕ) → others ≡ ids → length others ≤ i
@@ -81,7 +81,7 @@ module _ {order : ℕ → ℕ → Ordering} (o : IsTotalOrder order) where
       ∙ ap (λ b. last_in (fold (λ d e. place order e d) done (cond b (a ∷ filter q ids) (filter q ids)))) (sym isnt))
 
   -- and the last of them
-  pub last_kept-is : (q : ℕ → Bool) (ids : List ℕ) → last_kept order q None ids ≡ last_in (sorted order (filter q ids))
+  last_kept-is : (q : ℕ → Bool) (ids : List ℕ) → last_kept order q None ids ≡ last_in (sorted order (filter q ids))
   last_kept-is q ids = last_fold q [] ids tt
 
   pub last_ends : (q : ℕ → Bool) (best : Option ℕ) (ids others : List ℕ) (i : ℕ) → others ≡ ids → length others ≤ i

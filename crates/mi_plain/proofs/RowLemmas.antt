@@ -31,7 +31,7 @@ there_step false w rows set e r p same later within =
     subst (λ n. w ∷ set ≡ slice_set (w ∷ rows) n (e, r)) (sym one) (ap (λ xs. w ∷ xs) (later (omega arith)))
 
 -- setting the value of the first row of an id is setting that row
-pub set_value-there : (e : ℕ) (r : List Value) (rows : List Row) → position_or_len (named e) rows < length rows
+set_value-there : (e : ℕ) (r : List Value) (rows : List Row) → position_or_len (named e) rows < length rows
     → set_value (λ a. a == e) rows r ≡ slice_set rows (position_or_len (named e) rows) (e, r)
 set_value-there e r [] within = absurd (omega arith)
 set_value-there e r (w ∷ rows) within = there_step (w.0 == e) w rows (set_value (λ a. a == e) rows r)
@@ -43,7 +43,7 @@ absent_step true w rows set r p later beyond = absurd (omega arith)
 absent_step false w rows set r p later beyond = ap (λ xs. w ∷ xs) (later (omega arith))
 
 -- where no row has the id nothing is set
-pub set_value-absent : (e : ℕ) (r : List Value) (rows : List Row) → length rows ≤ position_or_len (named e) rows → set_value (λ a. a == e) rows r ≡ rows
+set_value-absent : (e : ℕ) (r : List Value) (rows : List Row) → length rows ≤ position_or_len (named e) rows → set_value (λ a. a == e) rows r ≡ rows
 set_value-absent e r [] beyond = refl
 set_value-absent e r (w ∷ rows) beyond = absent_step (w.0 == e) w rows (set_value (λ a. a == e) rows r)
     r (position_or_len (named e) rows) (set_value-absent e r rows) beyond
@@ -70,7 +70,7 @@ set_value-missing e r rows h =
     set_value-absent e r rows (position_cases (nat_lt m (length rows)) m (length rows) None (ltb-true m (length rows)) (ltb-false m (length rows)) h)
 
 -- where no list is left none is moved
-pub moved-none : (is : List Index) (old new : List Value) (e : ℕ) → moved is old new e [] ≡ []
+moved-none : (is : List Index) (old new : List Value) (e : ℕ) → moved is old new e [] ≡ []
 moved-none [] old new e = refl
 moved-none (i ∷ is) old new e = refl
 

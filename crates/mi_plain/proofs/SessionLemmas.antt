@@ -10,7 +10,7 @@ use Rattle.mi_model.specs.Table.{Table}
 use Rattle.mi_model.specs.Database.{Database, undo_step, undone, committed}
 
 -- without the n oldest, newest first
-pub reverse_drop : {A : Type 0} (n : ℕ) (xs : List A) → n ≤ length xs → reverse (drop n xs) ≡ take (length xs - n) (reverse xs)
+reverse_drop : {A : Type 0} (n : ℕ) (xs : List A) → n ≤ length xs → reverse (drop n xs) ≡ take (length xs - n) (reverse xs)
 reverse_drop n xs le =
     let whole : reverse xs ≡ reverse (drop n xs) ++ reverse (take n xs) = ap reverse (sym (take-append-drop n xs)) ∙ reverse-append (take n xs) (drop n xs) in
     let long : length (reverse (drop n xs)) ≡ length xs - n = length-reverse (drop n xs) ∙ length-drop n xs in

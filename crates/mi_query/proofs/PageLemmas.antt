@@ -49,13 +49,13 @@ segment_back from to ids le within =
     ∙ ap (λ n. take n (reverse piece ++ reverse (take from front))) mine
     ∙ ap (take (to - from)) (sym parts ∙ sym cut)
 
-pub turned_segment : (reversed : Bool) (from to : ℕ) (ids : List ℕ) → from ≤ to → to ≤ length ids
+turned_segment : (reversed : Bool) (from to : ℕ) (ids : List ℕ) → from ≤ to → to ≤ length ids
     → turned reversed (drop from (take to ids)) ≡ take (to - from) (drop (start reversed from to ids) (turned reversed ids))
 turned_segment true from to ids le within = segment_back from to ids le within
 turned_segment false from to ids le within = segment_forth from to ids le
 
 -- the first id of a segment
-pub turned_first : (reversed : Bool) (from to : ℕ) (ids : List ℕ) → from < to → to ≤ length ids
+turned_first : (reversed : Bool) (from to : ℕ) (ids : List ℕ) → from < to → to ≤ length ids
     → slice_get ids (if reversed then to - 1 else from) ≡ slice_get (turned reversed ids) (start reversed from to ids)
 turned_first true from to ids l within =
     let inside : length ids - to < length ids = omega arith in
@@ -77,7 +77,7 @@ length-turned true ids = length-reverse ids
 length-turned false ids = refl
 
 -- the page of a segment
-pub segment_page : (reversed : Bool) (from to limit : ℕ) (ids between page : List ℕ) → between ≡ drop from (take to ids) → from < to → to ≤ length ids
+segment_page : (reversed : Bool) (from to limit : ℕ) (ids between page : List ℕ) → between ≡ drop from (take to ids) → from < to → to ≤ length ids
     → page ≡ take (min limit (to - from)) (drop (start reversed from to ids) (turned reversed ids))
     → record { ids = page; more = nat_lt limit (to - from) } ≡ page_of limit (turned reversed between)
 segment_page reversed from to limit ids between page is l within given =
@@ -93,7 +93,7 @@ page_of_none : (limit : ℕ) → page_of limit [] ≡ record { ids = []; more = 
 page_of_none limit = same_page _ _ (take_all limit [] (omega arith)) (le-ltb limit 0 (omega arith))
 
 -- an empty one
-pub empty_page : (reversed : Bool) (limit : ℕ) (between : List ℕ) → between ≡ [] → page_of limit (turned reversed between) ≡ record { ids = []; more = false }
+empty_page : (reversed : Bool) (limit : ℕ) (between : List ℕ) → between ≡ [] → page_of limit (turned reversed between) ≡ record { ids = []; more = false }
 empty_page true limit between is = ap (λ ids. page_of limit (reverse ids)) is ∙ page_of_none limit
 empty_page false limit between is = ap (page_of limit) is ∙ page_of_none limit
 
@@ -110,12 +110,12 @@ module _ (s : Shape) (t : Table) (x : ℕ) (low : Lower) (high : Upper) (sorted 
   range_empty reversed limit le = empty_page reversed limit (page.between s t x low high) (between_is ∙ segment_empty from to (view s t x) le)
 
   -- where the walk of a range begins
-  pub range_first : (reversed : Bool) → from < to
+  range_first : (reversed : Bool) → from < to
       → slice_get (view s t x) (if reversed then to - 1 else from) ≡ slice_get (turned reversed (view s t x)) (start reversed from to (view s t x))
   range_first reversed l = turned_first reversed from to (view s t x) l to_within_view
 
   -- the page of a range
-  pub range_page : (reversed : Bool) (limit : ℕ) (ids : List ℕ) → from < to
+  range_page : (reversed : Bool) (limit : ℕ) (ids : List ℕ) → from < to
       → ids ≡ take (min limit (to - from)) (drop (start reversed from to (view s t x)) (turned reversed (view s t x)))
       → record { ids = ids; more = nat_lt limit (to - from) } ≡ page.range s t x low high reversed limit
   range_page reversed limit ids l given =

@@ -70,7 +70,7 @@ rows_kept (pos n) h = and_parts _ _ h
 rows_kept (negsuc n) h = absurd (false≢true h)
 
 -- the schema of a table keeps every rule
-pub schema_kept : (revision : ℕ) (t : TableDraft) → nat_le revision LAST_COUNT ≡ true → has_names t ≡ true → has_no_twins t ≡ true
+schema_kept : (revision : ℕ) (t : TableDraft) → nat_le revision LAST_COUNT ≡ true → has_names t ≡ true → has_no_twins t ≡ true
     → has_keys t ≡ true → has_limits t ≡ true → has_numbers t ≡ true → rules.is_schema (shape_of revision t) ≡ true
 schema_kept revision t start names twins keys limits numbers =
     let named = and_parts _ _ names in
@@ -122,7 +122,7 @@ passes : (b : Bool) (e : SchemaFault) (others : Option SchemaFault) → cond (no
 passes true e others h = (refl, h)
 passes false e others h = absurd (cc)
 
-pub kept : (d : CatalogDraft) → fault_of d ≡ None → Kept d
+kept : (d : CatalogDraft) → fault_of d ≡ None → Kept d
 unfolding fault_of
 kept d h =
     let names = passes (list_all has_names d.tables) _ _ h in
@@ -135,7 +135,7 @@ kept d h =
     record { names = names.0; twins = twins.0; keys = keys.0; limits = limits.0; numbers = numbers.0 }
 
 -- the schema of each table keeps every rule
-pub tables_kept : (d : CatalogDraft) → fault_of d ≡ None → list_all (λ t. rules.is_schema (shape_of (unsigned_abs d.first_revision) t)) d.tables ≡ true
+tables_kept : (d : CatalogDraft) → fault_of d ≡ None → list_all (λ t. rules.is_schema (shape_of (unsigned_abs d.first_revision) t)) d.tables ≡ true
 tables_kept d h =
     let k : Kept d = kept d h in
     let numbers = and_parts _ _ k.numbers in
@@ -147,7 +147,7 @@ one_revision revision [] = refl
 one_revision revision (t ∷ ts) = and_from _ _ (eq-eqb revision revision refl) (one_revision revision ts)
 
 -- and so does the catalog
-pub catalog_kept : (d : CatalogDraft) → fault_of d ≡ None → rules.is_catalog (catalog_of d) ≡ true
+catalog_kept : (d : CatalogDraft) → fault_of d ≡ None → rules.is_catalog (catalog_of d) ≡ true
 catalog_kept d h =
     let k : Kept d = kept d h in
     let revision = unsigned_abs d.first_revision in

@@ -169,7 +169,7 @@ turns_of_come row n s t new turns left is come made = subst (λ u. ByTurns (rang
 -- ---- turns
 
 -- the first of the row is gone
-pub serves_gone : (conn : ℕ) (row : List ℕ) (cs ds : List Connection) → Serves (conn ∷ row) cs → ds ≡ others conn cs → Serves row ds
+serves_gone : (conn : ℕ) (row : List ℕ) (cs ds : List Connection) → Serves (conn ∷ row) cs → ds ≡ others conn cs → Serves row ds
 serves_gone conn row cs ds p is = subst (Serves row) (sym is) (record {
   there = all_but conn row cs p.differ.0 p.there.1;
   count = less (length (others conn cs)) (length cs) (length row) (length_others conn cs p.there.0) p.count;
@@ -180,7 +180,7 @@ serves_gone conn row cs ds p is = subst (Serves row) (sym is) (record {
     less a b n h k = omega arith
 
 -- the row and the hub after a turn of its first
-pub serves_after : (turn : Turn) (row out : List ℕ) (old new : HubState)
+serves_after : (turn : Turn) (row out : List ℕ) (old new : HubState)
     → Serves (conn_of turn ∷ row) old.attached → Made old turn out new → Serves (row_after turn row) new.attached
 serves_after (fed conn bytes) row out old new p made = subst (Serves (row ++ conn ∷ [])) (sym made.0.3) (record {
   there = all_same (row ++ conn ∷ []) old.attached (with_rest conn _ old.attached)
