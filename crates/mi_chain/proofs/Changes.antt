@@ -257,7 +257,7 @@ module _ (R : Ref → Ref → Bool) (A : IsAlike R) (stamp hash : Ref → ℕ) (
       pub link_back : (link_of m r.name s).back ≡ back_between us r vs
       link_back = back_of_it s m X us r vs Y full a linked
 
-      pub link_forth : (link_of m r.name s).forth ≡ forth_between vs Y
+      link_forth : (link_of m r.name s).forth ≡ forth_between vs Y
       link_forth = forth_of_it s m X us r vs Y full a linked
 
       rest_apart : IsApart ((us ++ r ∷ vs) ++ members Y)

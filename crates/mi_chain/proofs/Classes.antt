@@ -54,7 +54,7 @@ pub filter_without : (f : Test) (xs : List Ref) (r : Ref) (ys : List Ref) → f 
 filter_without f xs r ys e = filter-append f xs (r ∷ ys) ∙ ap (λ b. filter f xs ++ cond b (r ∷ filter f ys) (filter f ys)) e ∙ sym (filter-append f xs ys)
 
 -- where no node passes, all nodes pass the opposite
-pub filter_rest : (f : Test) (rs : List Ref) → filter f rs ≡ [] → filter (λ q. not (f q)) rs ≡ rs
+filter_rest : (f : Test) (rs : List Ref) → filter f rs ≡ [] → filter (λ q. not (f q)) rs ≡ rs
 filter_rest f [] e = refl
 filter_rest f (r ∷ rs) e = (elim (f r)
     as (λ b. cond b (r ∷ filter f rs) (filter f rs) ≡ [] → cond (not b) (r ∷ filter (λ q. not (f q)) rs) (filter (λ q. not (f q)) rs) ≡ r ∷ rs) [
@@ -133,7 +133,7 @@ apart_tests f g (r ∷ rs) h a = (elim (f r) as (λ b. f r ≡ b → AreOut (con
   ])
 ]) refl
 
-pub are_out_left : (xs ys zs : List Ref) → AreOut xs zs → AreOut ys zs → AreOut (xs ++ ys) zs
+are_out_left : (xs ys zs : List Ref) → AreOut xs zs → AreOut ys zs → AreOut (xs ++ ys) zs
 are_out_left [] ys zs g h = h
 are_out_left (x ∷ xs) ys zs g h = (g.0, are_out_left xs ys zs g.1 h)
 
@@ -183,7 +183,7 @@ module _ (R : Ref → Ref → Bool) (A : IsAlike R) where
   grouped_full (g ∷ gs) rs h = (h.1, grouped_full gs (others R h.0 rs) h.3)
 
   -- the groups of a list are those of any list that has the same nodes of each key in the same order
-  pub grouped_alike : (gs : List (List Ref)) (us vs : List Ref) → IsGrouped R gs us → ((x : Ref) → filter (R x) us ≡ filter (R x) vs) → IsGrouped R gs vs
+  grouped_alike : (gs : List (List Ref)) (us vs : List Ref) → IsGrouped R gs us → ((x : Ref) → filter (R x) us ≡ filter (R x) vs) → IsGrouped R gs vs
   grouped_alike [] us [] h e = refl
   grouped_alike [] us (v ∷ vs) h e =
       let here : v ∷ filter (R v) vs ≡ [] = ap (λ b. cond b (v ∷ filter (R v) vs) (filter (R v) vs)) (sym (A.reflexive v)) ∙ sym (e v) ∙ ap (filter (R v)) h in
@@ -341,7 +341,7 @@ module _ (R : Ref → Ref → Bool) (A : IsAlike R) where
     not_true_is false e = refl
 
     -- the first node of the next group is of another key
-    pub next_unlike : (X : List (List Ref)) (g : List Ref) (Y : List (List Ref)) (rs : List Ref) (y a : Ref)
+    next_unlike : (X : List (List Ref)) (g : List Ref) (Y : List (List Ref)) (rs : List Ref) (y a : Ref)
         → IsGrouped R (X ++ g ∷ Y) rs → first_of g None ≡ Some y → R r y ≡ true → first_in Y None ≡ Some a → R r a ≡ false
     next_unlike [] g [] rs y a h f t e = absurd (cc)
     next_unlike [] g ([] ∷ Y) rs y a h f t e = absurd (h.3.1 refl)

@@ -32,7 +32,7 @@ both_ways false true h g = g refl
 both_ways false false h g = refl
 
 module _ (P : Ref → Type 0) where
-  pub all_filter : (f : Ref → Bool) (rs : List Ref) → AllOf P rs → AllOf P (filter f rs)
+  all_filter : (f : Ref → Bool) (rs : List Ref) → AllOf P rs → AllOf P (filter f rs)
   all_filter f [] h = tt
   all_filter f (r ∷ rs) h = elim (f r) as (λ b. AllOf P (cond b (r ∷ filter f rs) (filter f rs))) [
     | true ↦ (h.0, all_filter f rs h.1)
@@ -81,7 +81,7 @@ module _ (P : Ref → Type 0) where
         after_on q rs p all.1 h.1,
       )
 
-      pub rising_on : (rs : List Ref) → AllOf P rs → IsRising R stamp rs → IsRising Q stamp2 rs
+      rising_on : (rs : List Ref) → AllOf P rs → IsRising R stamp rs → IsRising Q stamp2 rs
       rising_on [] all h = tt
       rising_on (r ∷ rs) all h = (after_on r rs all.0 all.1 h.0, rising_on rs all.1 h.1)
 
@@ -143,11 +143,11 @@ module _ {T : Type 0} (k : Keying T) (w : IsLawful k) (m n : Pooled T) (s : ℕ)
   hashes_agree : (a : Ref) → IsSame k m n s a → hash_node k n a ≡ hash_node k m a
   hashes_agree a p = hash_is k n a p.new p.is ∙ sym (w.one_hash p.old p.new p.one_key) ∙ sym (hash_is k m a p.old p.was)
 
-  pub rising_elsewhere : (rs : List Ref) → AllOf (IsSame k m n s) rs → IsRising (same_nodes k m) (stamp_at m s) rs → IsRising (same_nodes k n) (stamp_at n s) rs
+  rising_elsewhere : (rs : List Ref) → AllOf (IsSame k m n s) rs → IsRising (same_nodes k m) (stamp_at m s) rs → IsRising (same_nodes k n) (stamp_at n s) rs
   rising_elsewhere rs all h = rising_on (IsSame k m n s) (same_nodes k m) (same_nodes k n)
       (alike k m w) agreed (stamp_at m s) (stamp_at n s) stamps_agree rs all h
 
-  pub buckets_elsewhere : (heads : List (Option Ref)) (count : ℕ) (rs : List Ref) → n.slots ≡ m.slots
+  buckets_elsewhere : (heads : List (Option Ref)) (count : ℕ) (rs : List Ref) → n.slots ≡ m.slots
       → AllOf (IsSame k m n s) rs → AreBuckets (same_nodes k m) (stamp_at m s) (hash_node k m) m s heads count rs
       → AreBuckets (same_nodes k n) (stamp_at n s) (hash_node k n) n s heads count rs
   buckets_elsewhere heads count rs slots all h = let P = IsSame k m n s in record {

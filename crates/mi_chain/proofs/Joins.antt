@@ -33,7 +33,7 @@ pub are_out_ys : (xs ys zs : List Ref) → AreOut (xs ++ ys) zs → AreOut ys zs
 are_out_ys [] ys zs h = h
 are_out_ys (x ∷ xs) ys zs h = are_out_ys xs ys zs h.1
 
-pub out_of_xs : (zs xs ys : List Ref) → AreOut zs (xs ++ ys) → AreOut zs xs
+out_of_xs : (zs xs ys : List Ref) → AreOut zs (xs ++ ys) → AreOut zs xs
 out_of_xs [] xs ys h = tt
 out_of_xs (z ∷ zs) xs ys h = (out_left z.name xs ys h.0, out_of_xs zs xs ys h.1)
 
@@ -41,7 +41,7 @@ pub out_of_ys : (zs xs ys : List Ref) → AreOut zs (xs ++ ys) → AreOut zs ys
 out_of_ys [] xs ys h = tt
 out_of_ys (z ∷ zs) xs ys h = (out_right z.name xs ys h.0, out_of_ys zs xs ys h.1)
 
-pub last_in_are_out : (b : Option Ref) (gs : List (List Ref)) (zs : List Ref)
+last_in_are_out : (b : Option Ref) (gs : List (List Ref)) (zs : List Ref)
     → AreOut (list_of b) zs → AreOut (members gs) zs → AreOut (list_of (last_in b gs)) zs
 last_in_are_out b [] zs g h = g
 last_in_are_out b (u ∷ gs) zs g h = last_in_are_out (last_of b u) gs zs
@@ -51,11 +51,11 @@ pub last_out : (k : ℕ) (b : Option Ref) (us : List Ref) → IsOut k (list_of b
 last_out k b [] g h = g
 last_out k b (u ∷ us) g h = last_out k (Some u) us (h.0, tt) h.1
 
-pub first_out : (k : ℕ) (us : List Ref) (f : Option Ref) → IsOut k (list_of f) → IsOut k us → IsOut k (list_of (first_of us f))
+first_out : (k : ℕ) (us : List Ref) (f : Option Ref) → IsOut k (list_of f) → IsOut k us → IsOut k (list_of (first_of us f))
 first_out k [] f g h = g
 first_out k (u ∷ us) f g h = (h.0, tt)
 
-pub last_in_out : (k : ℕ) (b : Option Ref) (gs : List (List Ref)) → IsOut k (list_of b) → IsOut k (members gs) → IsOut k (list_of (last_in b gs))
+last_in_out : (k : ℕ) (b : Option Ref) (gs : List (List Ref)) → IsOut k (list_of b) → IsOut k (members gs) → IsOut k (list_of (last_in b gs))
 last_in_out k b [] g h = g
 last_in_out k b (u ∷ gs) g h = last_in_out k (last_of b u) gs (last_out k b u g (out_left k u (members gs) h)) (out_right k u (members gs) h)
 
@@ -171,11 +171,11 @@ is_not : (o : Option Ref) (k : ℕ) → IsOut k (list_of o) → IsNot o k
 is_not None k h = tt
 is_not (Some r) k h = flip r.name k ∙ h.0
 
-pub same_first : (h : List Ref) (f w : Option Ref) → (h ≡ [] → ⊥) → first_of h f ≡ first_of h w
+same_first : (h : List Ref) (f w : Option Ref) → (h ≡ [] → ⊥) → first_of h f ≡ first_of h w
 same_first [] f w n = absurd (n refl)
 same_first (y ∷ ys) f w n = refl
 
-pub same_last : (h : List Ref) (b c : Option Ref) → (h ≡ [] → ⊥) → last_of b h ≡ last_of c h
+same_last : (h : List Ref) (b c : Option Ref) → (h ≡ [] → ⊥) → last_of b h ≡ last_of c h
 same_last [] b c n = absurd (n refl)
 same_last (y ∷ ys) b c n = refl
 
@@ -188,7 +188,7 @@ module _ {T : Type 0} (s : ℕ) where
   chained_right m [] hs f h = h
   chained_right m (g ∷ gs) hs f h = chained_right m gs hs f h.1
 
-  pub chained_both : (m : Pooled T) (gs hs : List (List Ref)) (f : Option Ref)
+  chained_both : (m : Pooled T) (gs hs : List (List Ref)) (f : Option Ref)
       → IsChained m s gs (first_in hs f) → IsChained m s hs f → IsChained m s (gs ++ hs) f
   chained_both m [] hs f g h = h
   chained_both m (g' ∷ gs) hs f g h = (subst (IsLinked m s (last_of None g') g') (sym (first_in-append gs hs f)) g.0, chained_both m gs hs f g.1 h)
@@ -214,7 +214,7 @@ module _ {T : Type 0} (s : ℕ) where
   last_in_held m b (u ∷ gs) f g h = last_in_held m (last_of b u) gs f (last_held m b u g (linked_held s m (last_of None u) u (first_in gs f) h.0)) h.1
 
   -- a link of a node outside is set
-  pub chained_still : (m : Pooled T) (k : ℕ) (l : Link) (gs : List (List Ref)) (f : Option Ref)
+  chained_still : (m : Pooled T) (k : ℕ) (l : Link) (gs : List (List Ref)) (f : Option Ref)
       → IsOut k (members gs) → IsChained m s gs f → IsChained (with_link m k s l) s gs f
   chained_still m k l [] f o h = tt
   chained_still m k l (g ∷ gs) f o h = (
@@ -243,7 +243,7 @@ module _ {T : Type 0} (s : ℕ) where
   chained_back m (Some r) w gs f o h = chained_still m r.name _ gs f o.0 h
 
   -- what follows the last group changes
-  pub new_end : (m : Pooled T) (gs : List (List Ref)) (f w : Option Ref) → AreFull gs → IsApart (members gs)
+  new_end : (m : Pooled T) (gs : List (List Ref)) (f w : Option Ref) → AreFull gs → IsApart (members gs)
       → IsChained m s gs f → IsChained (with_forth_if m s (last_in None gs) w) s gs w
   new_end m [] f w full a h = tt
   new_end m (g ∷ []) f w full a h = (retail s m (last_of None g) g f w (apart_left g [] a) h.0, tt)
@@ -296,7 +296,7 @@ module _ {T : Type 0} (s : ℕ) where
     right = chained_back m (Some v) z hs None (a.vs_hs.0, tt) h.right;
   }
 
-  pub after_join : (m : Pooled T) (gs : List (List Ref)) (us vs : List Ref) (hs : List (List Ref)) (f b w c x y z : Option Ref)
+  after_join : (m : Pooled T) (gs : List (List Ref)) (us vs : List Ref) (hs : List (List Ref)) (f b w c x y z : Option Ref)
       → AreFull gs → AreParted gs us vs hs → Parts m gs us vs hs (first_of us f) b w c x
       → Parts (joined m s (left_of gs us) y (right_of us vs) z) gs us vs hs (first_of us y) (back_of vs z b) y z x
   after_join m gs us vs hs f b w c x y z full a h = after_back (with_forth_if m s (left_of gs us) y)

@@ -90,7 +90,7 @@ module _ (R : Ref → Ref → Bool) (A : IsAlike R) (stamp hash : Ref → ℕ) (
               ap (λ b. cond b (r ∷ filter (in_old hash n o moved) us) (filter (in_old hash n o moved) us)) (sym here) ∙ e o lt in
               cc)
 
-  pub buckets_all : ((i : ℕ) → i < n → slice_index_or olds i None ≡ None) → AreBuckets R stamp hash m s news j rs
+  buckets_all : ((i : ℕ) → i < n → slice_index_or olds i None ≡ None) → AreBuckets R stamp hash m s news j rs
   buckets_all none = record {
     slot = h.slot;
     some = h.many;
@@ -105,7 +105,7 @@ module _ (R : Ref → Ref → Bool) (A : IsAlike R) (stamp hash : Ref → ℕ) (
     abbrev L : List Ref
     L = filter (in_old hash n i moved) rs
 
-    pub split : (ws : List Ref) × (zs : List (List Ref)) × ((h.left i lt).groups ≡ (first ∷ ws) ∷ zs)
+    split : (ws : List Ref) × (zs : List (List Ref)) × ((h.left i lt).groups ≡ (first ∷ ws) ∷ zs)
     split = let b = h.left i lt in begins b.groups first (grouped_full R A b.groups L b.grouped) (sym b.first_is ∙ at)
 
     abbrev G : List Ref
@@ -154,22 +154,22 @@ module _ (R : Ref → Ref → Bool) (A : IsAlike R) (stamp hash : Ref → ℕ) (
     last_name_out : (k : ℕ) → IsOut k rs → IsOut k (list_of (last_of None G))
     last_name_out k o = last_out k None G tt (subst (IsOut k) class_is (out_filter (R first) k rs o))
 
-    pub back_is : back_of m s first ≡ last_of None G
+    back_is : back_of m s first ≡ last_of None G
     back_is = back_at m s first (last_of None G) G (first_in zs None) chained_then.0 refl
 
-    pub next_is : next_group m s first ≡ first_in zs None
+    next_is : next_group m s first ≡ first_in zs None
     next_is = next_group_is m s first split.0 (first_in zs None) chained_then.0
 
-    pub first_held_then : IsHeld m first
+    first_held_then : IsHeld m first
     first_held_then = chained_then.0.0
 
-    pub back_held_then : IsHeldIf m (back_of m s first)
+    back_held_then : IsHeldIf m (back_of m s first)
     back_held_then = subst (IsHeldIf m) (sym back_is) (last_held s m None G tt (linked_held s m (last_of None G) G (first_in zs None) chained_then.0))
 
-    pub tag_then : AreTagged hash m s rs → (link_of m first.name s).tag.key ≡ hash first
+    tag_then : AreTagged hash m s rs → (link_of m first.name s).tag.key ≡ hash first
     tag_then t = (tagged_groups hash m s R (G ∷ zs) L grouped_then (tagged_filter hash m s (in_old hash n i moved) rs t)).0
 
-    pub steps_then : hops (next_group m s) (node_count m) (slice_index_or olds i None) ≡ length (G ∷ zs)
+    steps_then : hops (next_group m s) (node_count m) (slice_index_or olds i None) ≡ length (G ∷ zs)
     steps_then =
         let full = grouped_full R A (G ∷ zs) L grouped_then in
         let apart = grouped_apart R A (G ∷ zs) L grouped_then (apart_filter (in_old hash n i moved) rs h.apart) in
@@ -182,7 +182,7 @@ module _ (R : Ref → Ref → Bool) (A : IsAlike R) (stamp hash : Ref → ℕ) (
       keeps_last : Keeps m m2 s (list_of (last_of None G))
       keeps_last = subst (λ z. Keeps m z s (list_of (last_of None G))) (sym em) (keeps_forth s m (last_of None G) (slice_index_or news target None))
 
-      pub keeps_moved : Keeps m m2 s rs
+      keeps_moved : Keeps m m2 s rs
       keeps_moved = keeps_more s m m2 (list_of (last_of None G)) rs keeps_last last_name_out
 
       -- a bucket without nodes of the key stays
@@ -263,7 +263,7 @@ module _ (R : Ref → Ref → Bool) (A : IsAlike R) (stamp hash : Ref → ℕ) (
             (filter_clash (R first) (in_old hash n i then_moved) (old_clash i) rs);
       })
 
-      pub parted_on : AreParted R stamp hash m2 s news2 j olds2 n rs then_moved
+      parted_on : AreParted R stamp hash m2 s news2 j olds2 n rs then_moved
       parted_on = record {
         slot = subst (λ z. s < z) (sym keeps_last.slots) h.slot;
         many = h.many;
@@ -308,7 +308,7 @@ module _ (R : Ref → Ref → Bool) (A : IsAlike R) (stamp hash : Ref → ℕ) (
                 | false ↦ λ f. sym (no_is_false (R first b) (λ t. not_both (R first a) (A.transitive first b a t (A.symmetric a b e)) f))
               ]) refl
 
-      pub steps_now : hops (next_group m2 s) (node_count m2) (slice_index_or olds2 i None) ≡ length zs
+      steps_now : hops (next_group m2 s) (node_count m2) (slice_index_or olds2 i None) ≡ length zs
       steps_now =
           let b = old_bucket in let list = filter (in_old hash n i then_moved) rs in
           let full = (grouped_full R A (G ∷ zs) L grouped_then).1 in

@@ -87,7 +87,7 @@ module _ (R : Ref → Ref → Bool) (A : IsAlike R) (stamp hash : Ref → ℕ) (
   after_insert q [] r ys h e = (e, h)
   after_insert q (x ∷ xs) r ys h e = (h.0, after_insert q xs r ys h.1 e)
 
-  pub rising_insert : (xs : List Ref) (r : Ref) (ys : List Ref) → IsRising R stamp (xs ++ ys)
+  rising_insert : (xs : List Ref) (r : Ref) (ys : List Ref) → IsRising R stamp (xs ++ ys)
       → AreBefore R stamp r (stamp r) xs → AreAfter R stamp r (stamp r) ys → IsRising R stamp (xs ++ r ∷ ys)
   rising_insert [] r ys h b a = (a, h)
   rising_insert (x ∷ xs) r ys h b a = (after_insert x xs r ys h.0 (λ e. b.0 (A.symmetric x r e)), rising_insert xs r ys h.1 b.1 a)
@@ -96,7 +96,7 @@ module _ (R : Ref → Ref → Bool) (A : IsAlike R) (stamp hash : Ref → ℕ) (
   after_remove q [] r ys h = h.1
   after_remove q (x ∷ xs) r ys h = (h.0, after_remove q xs r ys h.1)
 
-  pub rising_remove : (xs : List Ref) (r : Ref) (ys : List Ref) → IsRising R stamp (xs ++ r ∷ ys) → IsRising R stamp (xs ++ ys)
+  rising_remove : (xs : List Ref) (r : Ref) (ys : List Ref) → IsRising R stamp (xs ++ r ∷ ys) → IsRising R stamp (xs ++ ys)
   rising_remove [] r ys h = h.1
   rising_remove (x ∷ xs) r ys h = (after_remove x xs r ys h.0, rising_remove xs r ys h.1)
 

@@ -16,7 +16,7 @@ use Rattle.mi_chain.specs.Places.{is_named, Found, AreNotBelow, IsGap, forth_of,
 use Rattle.mi_chain.specs.Moves.{hops, next_group}
 use Rattle.mi_chain.proofs.Joins.{list_of, chained_right, chained_held, last_held, some_last, last_out, first_in_out, out_of_ys}
 
-pub some_is : (x y : Ref) → Some x ≡ Some y → x ≡ y
+some_is : (x y : Ref) → Some x ≡ Some y → x ≡ y
 some_is x y e = cc
 
 -- the groups passed, and those to come
@@ -38,7 +38,7 @@ pub record Gapped (stamp : Ref → ℕ) (n : ℕ) (g : List Ref) (at next : Opti
   pub above : AreNotBelow stamp n vs
 
 -- a list that has a last
-pub unpush : (us : List Ref) (z : Ref) → last_of None us ≡ Some z → (ws : List Ref) × (us ≡ ws ++ z ∷ [])
+unpush : (us : List Ref) (z : Ref) → last_of None us ≡ Some z → (ws : List Ref) × (us ≡ ws ++ z ∷ [])
 unpush [] z e = absurd (cc)
 unpush (u ∷ []) z e = ([], ap (λ w. w ∷ []) (some_is u z e))
 unpush (u ∷ v ∷ us) z e = let w = unpush (v ∷ us) z e in (u ∷ w.0, ap (λ l. u ∷ l) w.1)
@@ -180,7 +180,7 @@ module _ {T : Type 0} where
   abbrev pub step_back : Pooled T → ℕ → Ref → Ref → Option Ref
   step_back m s first r = prev_in first r (back_of m s r)
 
-  pub prev_is : (m : Pooled T) (s : ℕ) (first : Ref) (us : List Ref) (r : Ref) (vs : List Ref) (f : Option Ref)
+  prev_is : (m : Pooled T) (s : ℕ) (first : Ref) (us : List Ref) (r : Ref) (vs : List Ref) (f : Option Ref)
       → IsLinked m s (last_of None (us ++ r ∷ vs)) (us ++ r ∷ vs) f → IsApart (us ++ r ∷ vs)
       → first_of (us ++ r ∷ vs) None ≡ Some first → step_back m s first r ≡ last_of None us
   prev_is m s first [] r vs f h a e = ap (λ b. cond b None (back_of m s r)) (ap (λ (q : Ref). r.name == q.name) (sym (some_is r first e)) ∙ same_refl r.name)

@@ -59,15 +59,15 @@ module _ {T : Type 0} (hash : Ref → ℕ) (m : Pooled T) (s : ℕ) where
   tagged_groups R (u ∷ gs) rs g h = tagged_both u (members gs) (subst (AreTagged hash m s) g.2 (tagged_filter (R g.0) rs h))
       (tagged_groups R gs (others R g.0 rs) g.3 (tagged_filter (λ q. not (R g.0 q)) rs h))
 
-  pub tagged_at : (xs : List Ref) (r : Ref) (ys : List Ref) → AreTagged hash m s (xs ++ r ∷ ys) → (link_of m r.name s).tag.key ≡ hash r
+  tagged_at : (xs : List Ref) (r : Ref) (ys : List Ref) → AreTagged hash m s (xs ++ r ∷ ys) → (link_of m r.name s).tag.key ≡ hash r
   tagged_at [] r ys h = h.0
   tagged_at (x ∷ xs) r ys h = tagged_at xs r ys h.1
 
-  pub tagged_without : (xs : List Ref) (r : Ref) (ys : List Ref) → AreTagged hash m s (xs ++ r ∷ ys) → AreTagged hash m s (xs ++ ys)
+  tagged_without : (xs : List Ref) (r : Ref) (ys : List Ref) → AreTagged hash m s (xs ++ r ∷ ys) → AreTagged hash m s (xs ++ ys)
   tagged_without [] r ys h = h.1
   tagged_without (x ∷ xs) r ys h = (h.0, tagged_without xs r ys h.1)
 
-  pub tagged_with : (xs : List Ref) (r : Ref) (ys : List Ref) → (link_of m r.name s).tag.key ≡ hash r
+  tagged_with : (xs : List Ref) (r : Ref) (ys : List Ref) → (link_of m r.name s).tag.key ≡ hash r
       → AreTagged hash m s (xs ++ ys) → AreTagged hash m s (xs ++ r ∷ ys)
   tagged_with [] r ys e h = (e, h)
   tagged_with (x ∷ xs) r ys e h = (h.0, tagged_with xs r ys e h.1)
@@ -168,7 +168,7 @@ module _ {T H : Type 0} (c : Chains H) (k : Keying T) (w : IsLawful k) (m : Pool
       (same_hash k m w) m s heads n (xs ++ ys) h.buckets r (here (xs ++ ys) (hash_node k m r) h) p
 
   -- chains in a pool with the same values, where a list stands with some stamps
-  pub arrive : (c2 : Chains H) (m2 : Pooled T) (stamp : Ref → ℕ) (rs : List Ref) → c2.slot ≡ s → vec_len c2.buckets ≡ n
+  arrive : (c2 : Chains H) (m2 : Pooled T) (stamp : Ref → ℕ) (rs : List Ref) → c2.slot ≡ s → vec_len c2.buckets ≡ n
       → ((q : ℕ) → value_of m2 q ≡ value_of m q) → stamp ≡ stamp_at m2 s → AreBuckets (same_nodes k m) stamp (hash_node k m) m2 s c2.buckets.items n rs
       → AreTagged (hash_node k m) m2 s rs → IsPowerOfTwo n → c2.groups ≡ key_count (same_nodes k m) rs → length rs < 2 ^ 32 → AreChained c2 k m2 rs
   arrive c2 m2 stamp rs es en values stamps b t p g few =
@@ -203,7 +203,7 @@ module _ {T H : Type 0} (c : Chains H) (k : Keying T) (w : IsLawful k) (m : Pool
     after_there q [] d o a = tt
     after_there q (z ∷ rs) d o a = ((λ e. let lt = a.0 e in let u = stamp_theirs q d in let v = stamp_theirs z o.0 in omega arith), after_there q rs d o.1 a.1)
 
-    pub rising_there : (rs : List Ref) → IsOut r.name rs → IsRising (same_nodes k m) (stamp_at m s) rs → IsRising (same_nodes k m) stamp1 rs
+    rising_there : (rs : List Ref) → IsOut r.name rs → IsRising (same_nodes k m) (stamp_at m s) rs → IsRising (same_nodes k m) stamp1 rs
     rising_there [] o a = tt
     rising_there (z ∷ rs) o a = (after_there z rs o.0 o.1 a.0, rising_there rs o.1 a.1)
 
@@ -489,7 +489,7 @@ module _ {T H : Type 0} (c : Chains H) (k : Keying T) (w : IsLawful k) (m : Pool
     pub tag_is : (link_of m r.name s).tag.key ≡ hash_node k m r
     tag_is = tagged_at (hash_node k m) m s xs r ys h.tagged
 
-    pub found_it : (bef : Option Ref) × (first : Ref) × Found (same_nodes k m r) D bef first
+    found_it : (bef : Option Ref) × (first : Ref) × Found (same_nodes k m r) D bef first
     found_it = some_found (same_nodes k m) (alike k m w) (stamp_at m s) (hash_node k m) (same_hash k m w)
         m s heads n (xs ++ r ∷ ys) h.buckets r less (λ z. not_empty us r vs (sym whole ∙ z))
 

@@ -2,7 +2,7 @@
 //! Each call is passed the pool that they stand in. It sets links of this slot alone, and never a value. Where an optional
 //! reference is used again, it is passed as a copy, `*&x`: by its name it would be moved.
 ghost use Rattle.std.specs.Prelude.{◌≡◌, ◌<◌, ◌≤◌, ◌%◌, ◌*◌, ◌+◌, ◌^◌, ◌==◌, max, cond, ℕ, List as Seq};
-ghost use Rattle.std.specs.Prelude.{◌∷◌, ◌++◌, [], None, Some, IsOk, IfOk, IfErr, vec_len, slice_index_or};
+ghost use Rattle.std.specs.Prelude.{◌∷◌, ◌++◌, None, Some, IsOk, IfOk, IfErr, vec_len, slice_index_or};
 ghost use Rattle.std.specs.Int.{IsPowerOfTwo};
 ghost use Rattle.std.specs.List.{filter};
 ghost use Rattle.mi_node.specs.Pool.{IsHeld, IsHeldIf, Keeps, with_link, link_of, node_count};

@@ -258,26 +258,26 @@ exact_leads_are_keys c p (q ∷ z ∷ qs) r s h same = absurd (false≢true h)
 
 -- Sought keys
 
-none_some : {A : Type 0} {x : A} → None ≡ Some x → ⊥
+pub none_some : {A : Type 0} {x : A} → None ≡ Some x → ⊥
 none_some h = cc
 
-some_is : {A : Type 0} {x y : A} → Some x ≡ Some y → x ≡ y
+pub some_is : {A : Type 0} {x y : A} → Some x ≡ Some y → x ≡ y
 some_is h = cc
 
 -- a record beside a sought key of this tag
-abbrev IsBeside : KeyPart → List KeyPart → Value → List Value → ℕ → ℕ → List Value → Type 0
-IsBeside p ps v vs u t r = (u < t → compare_prefix (p ∷ ps) (v ∷ vs) r ≡ Greater) × (t < u → compare_prefix (p ∷ ps) (v ∷ vs) r ≡ Less)
+abbrev IsBesideKey : KeyPart → List KeyPart → Value → List Value → ℕ → ℕ → List Value → Type 0
+IsBesideKey p ps v vs u t r = (u < t → compare_prefix (p ∷ ps) (v ∷ vs) r ≡ Greater) × (t < u → compare_prefix (p ∷ ps) (v ∷ vs) r ≡ Less)
 
 first_beside : (c : ColumnType) (p : KeyPart) (ps : List KeyPart) (v : Value) (vs : List Value) (t : ℕ) (r : List Value)
-    → first_probe c p v ≡ Some t → IsBeside p ps v vs (part_tag c p r) t r
+    → first_probe c p v ≡ Some t → IsBesideKey p ps v vs (part_tag c p r) t r
 first_beside column.Int p ps v vs t r h =
-    subst (λ n. IsBeside p ps v vs (part_tag column.Int p r) n r) (some_is h) (tags_order_probes column.Int p ps v vs r)
+    subst (λ n. IsBesideKey p ps v vs (part_tag column.Int p r) n r) (some_is h) (tags_order_probes column.Int p ps v vs r)
 first_beside column.Text p ps v vs t r h =
-    subst (λ n. IsBeside p ps v vs (part_tag column.Text p r) n r) (some_is h) (tags_order_probes column.Text p ps v vs r)
+    subst (λ n. IsBesideKey p ps v vs (part_tag column.Text p r) n r) (some_is h) (tags_order_probes column.Text p ps v vs r)
 first_beside column.Flag p ps v vs t r h = absurd (none_some h)
 
 two_beside : (c d : ColumnType) (p q : KeyPart) (qs : List KeyPart) (v w : Value) (vs r : List Value)
-    → IsBeside p (q ∷ qs) v (w ∷ vs) (two_tag c d p q (slice_get r p.column) (slice_get r q.column)) (two_tag c d p q (Some v) (Some w)) r
+    → IsBesideKey p (q ∷ qs) v (w ∷ vs) (two_tag c d p q (slice_get r p.column) (slice_get r q.column)) (two_tag c d p q (Some v) (Some w)) r
 two_beside column.Int d p q qs v w vs r = tags_order_probes column.Int p (q ∷ qs) v (w ∷ vs) r
 two_beside column.Text d p q qs v w vs r = tags_order_probes column.Text p (q ∷ qs) v (w ∷ vs) r
 two_beside column.Flag d p q qs v w vs r =
@@ -301,17 +301,17 @@ two_beside column.Flag d p q qs v w vs r =
 
 -- records of a smaller tag than a sought key's are before it, those of a greater one behind it
 pub leads_order_probes : (c : LeadTypes) (p : KeyPart) (ps : List KeyPart) (v : Value) (vs : List Value) (t : ℕ) (r : List Value)
-    → lead_probe c p ps v vs ≡ Some t → IsBeside p ps v vs (lead_tag c p ps r) t r
+    → lead_probe c p ps v vs ≡ Some t → IsBesideKey p ps v vs (lead_tag c p ps r) t r
 leads_order_probes c p [] v vs t r h =
-    subst (λ n. IsBeside p [] v vs (part_tag c.first p r) n r) (some_is h) (tags_order_probes c.first p [] v vs r)
+    subst (λ n. IsBesideKey p [] v vs (part_tag c.first p r) n r) (some_is h) (tags_order_probes c.first p [] v vs r)
 leads_order_probes c p (q ∷ qs) v [] t r h = alone c.first h
   where
-    alone : (f : ColumnType) → first_probe f p v ≡ Some t → IsBeside p (q ∷ qs) v [] (two_tag f c.second p q (slice_get r p.column) (slice_get r q.column)) t r
+    alone : (f : ColumnType) → first_probe f p v ≡ Some t → IsBesideKey p (q ∷ qs) v [] (two_tag f c.second p q (slice_get r p.column) (slice_get r q.column)) t r
     alone column.Int k = first_beside column.Int p (q ∷ qs) v [] t r k
     alone column.Text k = first_beside column.Text p (q ∷ qs) v [] t r k
     alone column.Flag k = absurd (none_some k)
 leads_order_probes c p (q ∷ qs) v (w ∷ vs) t r h =
-    subst (λ n. IsBeside p (q ∷ qs) v (w ∷ vs) (lead_tag c p (q ∷ qs) r) n r) (some_is h) (two_beside c.first c.second p q qs v w vs r)
+    subst (λ n. IsBesideKey p (q ∷ qs) v (w ∷ vs) (lead_tag c p (q ∷ qs) r) n r) (some_is h) (two_beside c.first c.second p q qs v w vs r)
 
 two_at : (c d : ColumnType) (p q : KeyPart) (v w : Value) (r : List Value) → is_exact_two c d (two_tag c d p q (Some v) (Some w)) ≡ true
     → two_tag c d p q (slice_get r p.column) (slice_get r q.column) ≡ two_tag c d p q (Some v) (Some w) → compare_prefix (p ∷ q ∷ []) (v ∷ w ∷ []) r ≡ Equal

@@ -22,13 +22,8 @@ use Rattle.mi_tree.specs.Order.{IsNoLater, IsMonotone}
 use Rattle.mi_index.specs.declared.stored.Stored.{Stored}
 use Rattle.mi_index.specs.Leads.{lead_tag, lead_probe, is_exact_lead}
 use Rattle.mi_index.specs.Orders.{row_in, stored_order, stored_tag, key_tag, record_tag, is_decided, IsTagged, IsSought, place_in, Rises, OrdersAreLawful}
-use Rattle.mi_index.specs.LeadLaws.{leads_order_keys, exact_leads_are_keys, leads_order_probes, exact_leads_are_probes}
-
-none_some : {A : Type 0} {x : A} → None ≡ Some x → ⊥
-none_some h = cc
-
-some_is : {A : Type 0} {x y : A} → Some x ≡ Some y → x ≡ y
-some_is h = cc
+use Rattle.mi_index.specs.TagLaws.{self_equal}
+use Rattle.mi_index.specs.LeadLaws.{none_some, some_is, leads_order_keys, exact_leads_are_keys, leads_order_probes, exact_leads_are_probes}
 
 pub stored_total : (ps : List KeyPart) → IsTotalOrder (stored_order ps)
 stored_total ps = on_total row_in (on_total (record_or_id ps) (compare_key_total (parts_or_id ps)))
@@ -40,11 +35,6 @@ ids_below m n l = ap (λ b. cond b Less (cond (nat_lt n m) Greater Equal)) (lt-l
 
 ids_above : (m n : ℕ) → n < m → int_cmp (pos m) (pos n) ≡ Greater
 ids_above m n l = int_cmp_total.antisymm (pos m) (pos n) ∙ ap ordering_reverse (ids_below n m l)
-
-self_equal : (o : Ordering) → o ≡ ordering_reverse o → o ≡ Equal
-self_equal Less h = absurd (cc)
-self_equal Equal h = refl
-self_equal Greater h = absurd (cc)
 
 ids_equal : (m n : ℕ) → m ≡ n → int_cmp (pos m) (pos n) ≡ Equal
 ids_equal m n same = ap (λ k. int_cmp (pos m) (pos k)) (sym same) ∙ self_equal (int_cmp (pos m) (pos m)) (int_cmp_total.antisymm (pos m) (pos m))

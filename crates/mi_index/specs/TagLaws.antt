@@ -215,7 +215,7 @@ twice : (descending : Bool) (t : ℕ) → t ≤ high → directed_tag descending
 twice false t l = refl
 twice true t l = omega arith
 
-self_equal : (o : Ordering) → o ≡ ordering_reverse o → o ≡ Equal
+pub self_equal : (o : Ordering) → o ≡ ordering_reverse o → o ≡ Equal
 self_equal Less h = absurd (cc)
 self_equal Equal h = refl
 self_equal Greater h = absurd (cc)

@@ -133,7 +133,7 @@ pub out_among : (k : ℕ) (xs : Seq Ref) (x : Ref) (ys : Seq Ref) → IsOut k (x
 out_among k xs x ys o = let at = out_right k xs (x ∷ ys) o in let both = out_both k xs ys (out_left k xs (x ∷ ys) o) at.1 in ((at.0, both), both)
 
 -- the first of a list is of no name that is out of it
-pub first_out : (vs : Seq Ref) (q : Ref) (k : ℕ) → IsOut k vs → first_of vs None ≡ Some q → q.name ≡ k → ⊥
+first_out : (vs : Seq Ref) (q : Ref) (k : ℕ) → IsOut k vs → first_of vs None ≡ Some q → q.name ≡ k → ⊥
 first_out [] q k o e n = cc
 first_out (v ∷ vs) q k o e n = let same : v ≡ q = cc in let named : v.name ≡ k = ap (λ (z : Ref). z.name) same ∙ n in grind (arith, o.0, named)
 

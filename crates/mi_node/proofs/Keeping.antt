@@ -53,12 +53,12 @@ SameLinks m n s [] = Unit {0}
 SameLinks m n s (r ∷ rs) = (ref_of n r.name ≡ ref_of m r.name) × (link_of n r.name s ≡ link_of m r.name s) × SameLinks m n s rs
 
 module _ {T : Type 0} where
-  pub same_where : (m n : Pooled T) (s : ℕ) (rs : List Ref) → ((k : ℕ) → ref_of n k ≡ ref_of m k)
+  same_where : (m n : Pooled T) (s : ℕ) (rs : List Ref) → ((k : ℕ) → ref_of n k ≡ ref_of m k)
       → ((k : ℕ) → link_of n k s ≡ link_of m k s) → SameLinks m n s rs
   same_where m n s [] refs links = tt
   same_where m n s (r ∷ rs) refs links = (refs r.name, links r.name, same_where m n s rs refs links)
 
-  pub same_append : (m n : Pooled T) (s : ℕ) (xs ys : List Ref) → SameLinks m n s xs → SameLinks m n s ys → SameLinks m n s (xs ++ ys)
+  same_append : (m n : Pooled T) (s : ℕ) (xs ys : List Ref) → SameLinks m n s xs → SameLinks m n s ys → SameLinks m n s (xs ++ ys)
   same_append m n s [] ys g h = h
   same_append m n s (x ∷ xs) ys g h = (g.0, g.1, same_append m n s xs ys g.2 h)
 

@@ -18,7 +18,7 @@ index-any [] s d e less = absurd (omega (arith, less))
 index-any (x ∷ xs) zero d e less = refl
 index-any (x ∷ xs) (suc s) d e less = index-any xs s d e (omega (arith, less))
 
-pub index-set : {X : Type 0} (xs : List X) (s t : ℕ) (x d : X) → s < length xs → slice_index_or (slice_set xs s x) t d ≡ cond (t == s) x (slice_index_or xs t d)
+index-set : {X : Type 0} (xs : List X) (s t : ℕ) (x d : X) → s < length xs → slice_index_or (slice_set xs s x) t d ≡ cond (t == s) x (slice_index_or xs t d)
 index-set [] s t x d less = absurd (omega (arith, less))
 index-set (y ∷ xs) zero zero x d less = refl
 index-set (y ∷ xs) zero (suc t) x d less = grind arith
@@ -32,12 +32,12 @@ index-end [] (suc n) (suc k) d = index-end [] n k d
 index-end (x ∷ xs) n zero d = refl
 index-end (x ∷ xs) n (suc k) d = index-end xs n k d
 
-pub index-links : (cs : List (List Cell)) (k s : ℕ) → s < length cs → slice_index_or (links_at cs k) s no_link ≡ link_in (cell_at k (column cs s))
+index-links : (cs : List (List Cell)) (k s : ℕ) → s < length cs → slice_index_or (links_at cs k) s no_link ≡ link_in (cell_at k (column cs s))
 index-links [] k s less = absurd (omega (arith, less))
 index-links (c ∷ cs) k zero less = refl
 index-links (c ∷ cs) k (suc s) less = index-links cs k s (omega (arith, less))
 
-pub links-length : (cs : List (List Cell)) (k : ℕ) → length (links_at cs k) ≡ length cs
+links-length : (cs : List (List Cell)) (k : ℕ) → length (links_at cs k) ≡ length cs
 links-length [] k = refl
 links-length (c ∷ cs) k = ap suc (links-length cs k)
 
@@ -64,13 +64,13 @@ links-there [] s k q x e = refl
 links-there (c ∷ cs) zero k q x e = ap (λ y. link_in y ∷ links_at cs q) (at_there c k q x e)
 links-there (c ∷ cs) (suc s) k q x e = ap (λ ls. link_in (cell_at q c) ∷ ls) (links-there cs s k q x e)
 
-pub links-more : (cs : List (List Cell)) (s n k : ℕ) → links_at (slice_set cs s (column cs s ++ replicate n empty_cell)) k ≡ links_at cs k
+links-more : (cs : List (List Cell)) (s n k : ℕ) → links_at (slice_set cs s (column cs s ++ replicate n empty_cell)) k ≡ links_at cs k
 links-more [] s n k = refl
 links-more (c ∷ cs) zero n k = ap (λ y. link_in y ∷ links_at cs k) (index-end c n k empty_cell)
 links-more (c ∷ cs) (suc s) n k = ap (λ ls. link_in (cell_at k c) ∷ ls) (links-more cs s n k)
 
 -- one column more is cleared
-pub cleared-next : (cs : List (List Cell)) (s k : ℕ) → s < length cs
+cleared-next : (cs : List (List Cell)) (s k : ℕ) → s < length cs
     → slice_set (cleared s k cs) s (slice_set (column (cleared s k cs) s) k empty_cell) ≡ cleared (suc s) k cs
 cleared-next [] s k less = absurd (omega (arith, less))
 cleared-next (c ∷ cs) zero k less = refl
@@ -81,7 +81,7 @@ cleared-length cs zero k = refl
 cleared-length [] (suc s) k = refl
 cleared-length (c ∷ cs) (suc s) k = ap suc (cleared-length cs s k)
 
-pub cleared-column : (cs : List (List Cell)) (s k t : ℕ) → length (column (cleared s k cs) t) ≡ length (column cs t)
+cleared-column : (cs : List (List Cell)) (s k t : ℕ) → length (column (cleared s k cs) t) ≡ length (column cs t)
 cleared-column cs zero k t = refl
 cleared-column [] (suc s) k t = refl
 cleared-column (c ∷ cs) (suc s) k zero = length-set c k empty_cell
@@ -109,13 +109,13 @@ longer : (m : ℕ) (b : Bool) (x y : List Cell) → m ≤ length x → m ≤ len
 longer m true x y g h = g
 longer m false x y g h = h
 
-pub long-set : (cs : List (List Cell)) (s m : ℕ) (c : List Cell) → s < length cs → AreLong m cs → m ≤ length c → AreLong m (slice_set cs s c)
+long-set : (cs : List (List Cell)) (s m : ℕ) (c : List Cell) → s < length cs → AreLong m cs → m ≤ length c → AreLong m (slice_set cs s c)
 long-set cs s m c there long size t less =
     subst (λ (d : List Cell). m ≤ length d) (sym (index-set cs s t c [] there))
     (longer m (t == s) c (column cs t) size (long t (subst (λ n. t < n) (length-set cs s c) less)))
 
 -- a column as an index finds it
-pub found_column : (cs : List (List Cell)) (s : ℕ) (x : List Cell) → s < length cs → x ≡ slice_index_or cs s x → x ≡ column cs s
+found_column : (cs : List (List Cell)) (s : ℕ) (x : List Cell) → s < length cs → x ≡ slice_index_or cs s x → x ≡ column cs s
 found_column cs s x less is = is ∙ index-any cs s x [] less
 
 pub read_cell : (cs : List (List Cell)) (s k : ℕ) (x : List Cell) (y : Cell) → s < length cs → x ≡ slice_index_or cs s x → y ≡ cell_at k x

@@ -19,7 +19,7 @@ abbrev pub IsOutIf : Option Ref → List Ref → Type 0
 IsOutIf None rs = Unit {0}
 IsOutIf (Some r) rs = IsOut r.name rs
 
-pub last_out : (b : Option Ref) (xs ys : List Ref) → IsOutIf b ys → AreOut xs ys → IsOutIf (last_of b xs) ys
+last_out : (b : Option Ref) (xs ys : List Ref) → IsOutIf b ys → AreOut xs ys → IsOutIf (last_of b xs) ys
 last_out b [] ys h a = h
 last_out b (x ∷ xs) ys h a = last_out (Some x) xs ys a.0 a.1
 
@@ -72,22 +72,22 @@ module _ {T : Type 0} (s : ℕ) where
   frame_forth m None c b xs f h l = l
   frame_forth m (Some r) c b xs f h l = frame m r.name (record (link_of m r.name s) { forth = c }) b xs f h l
 
-  pub ref-forth : (m : Pooled T) (o c : Option Ref) (q : ℕ) → ref_of (with_forth_if m s o c) q ≡ ref_of m q
+  ref-forth : (m : Pooled T) (o c : Option Ref) (q : ℕ) → ref_of (with_forth_if m s o c) q ≡ ref_of m q
   unfolding with_forth
   ref-forth m None c q = refl
   ref-forth m (Some r) c q = ref-with_link m r.name s (record (link_of m r.name s) { forth = c }) q
 
-  pub ref-back : (m : Pooled T) (o c : Option Ref) (q : ℕ) → ref_of (with_back_if m s o c) q ≡ ref_of m q
+  ref-back : (m : Pooled T) (o c : Option Ref) (q : ℕ) → ref_of (with_back_if m s o c) q ≡ ref_of m q
   unfolding with_back
   ref-back m None c q = refl
   ref-back m (Some r) c q = ref-with_link m r.name s (record (link_of m r.name s) { back = c }) q
 
-  pub forth_there : (m : Pooled T) (o c : Option Ref) (q t : ℕ) → IsNot o q → link_of (with_forth_if m s o c) q t ≡ link_of m q t
+  forth_there : (m : Pooled T) (o c : Option Ref) (q t : ℕ) → IsNot o q → link_of (with_forth_if m s o c) q t ≡ link_of m q t
   unfolding with_forth
   forth_there m None c q t h = refl
   forth_there m (Some r) c q t h = link_there m r.name s (record (link_of m r.name s) { forth = c }) q t h
 
-  pub back_there : (m : Pooled T) (o c : Option Ref) (q t : ℕ) → IsNot o q → link_of (with_back_if m s o c) q t ≡ link_of m q t
+  back_there : (m : Pooled T) (o c : Option Ref) (q t : ℕ) → IsNot o q → link_of (with_back_if m s o c) q t ≡ link_of m q t
   unfolding with_back
   back_there m None c q t h = refl
   back_there m (Some r) c q t h = link_there m r.name s (record (link_of m r.name s) { back = c }) q t h
@@ -113,7 +113,7 @@ module _ {T : Type 0} (s : ℕ) where
       (ref-forth m (last_of None (y ∷ xs)) g x.name ∙ h.0, ap (λ (z : Link). z.back) same ∙ h.1, ap (λ (z : Link). z.forth) same ∙ h.2, on)
 
   -- both sides of a gap learn of other neighbours
-  pub joins : (m : Pooled T) (xs ys : List Ref) (f b l r : Option Ref) → IsApart (xs ++ ys) → IsLinked m s None xs f → IsLinked m s b ys None
+  joins : (m : Pooled T) (xs ys : List Ref) (f b l r : Option Ref) → IsApart (xs ++ ys) → IsLinked m s None xs f → IsLinked m s b ys None
       → IsLinked (joined m s (last_of None xs) l (first_of ys None) r) s None xs l × IsLinked (joined m s (last_of None xs) l (first_of ys None) r) s r ys None
   joins m xs ys f b l r a g h =
       let n = with_forth_if m s (last_of None xs) l in let across = apart_across xs ys a in (
@@ -251,7 +251,7 @@ module _ {T : Type 0} (s : ℕ) where
   tag-forth m None c q t = refl
   tag-forth m (Some r) c q t = tag-with_link m r.name (record (link_of m r.name s) { forth = c }) q t refl
 
-  pub tag-back : (m : Pooled T) (o c : Option Ref) (q t : ℕ) → (link_of (with_back_if m s o c) q t).tag ≡ (link_of m q t).tag
+  tag-back : (m : Pooled T) (o c : Option Ref) (q t : ℕ) → (link_of (with_back_if m s o c) q t).tag ≡ (link_of m q t).tag
   unfolding with_back
   tag-back m None c q t = refl
   tag-back m (Some r) c q t = tag-with_link m r.name (record (link_of m r.name s) { back = c }) q t refl

@@ -90,7 +90,7 @@ pub last_both : (b : Option Ref) (xs ys : List Ref) → last_of b (xs ++ ys) ≡
 last_both b [] ys = refl
 last_both b (x ∷ xs) ys = last_both (Some x) xs ys
 
-pub names-append : (xs ys : List Ref) → names (xs ++ ys) ≡ names xs ++ names ys
+names-append : (xs ys : List Ref) → names (xs ++ ys) ≡ names xs ++ names ys
 names-append [] ys = refl
 names-append (x ∷ xs) ys = ap (λ l. x.name ∷ l) (names-append xs ys)
 

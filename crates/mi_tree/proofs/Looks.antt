@@ -39,7 +39,7 @@ where_right f [] r ys h = h.0
 where_right f (x ∷ xs) r ys h = where_right f xs r ys h.1
 
 -- before a node that isn't past none is
-pub first_after : (f : Ref → Bool) (A : List Ref) (r : Ref) (C : List Ref) → f r ≡ false
+first_after : (f : Ref → Bool) (A : List Ref) (r : Ref) (C : List Ref) → f r ≡ false
     → IsSteady f (A ++ r ∷ C) → first_where f (A ++ r ∷ C) ≡ first_where f C
 first_after f [] r C is h = ap (λ b. cond b (Some r) (first_where f C)) is
 first_after f (a ∷ A) r C is h = (elim (f a) as (λ b. f a ≡ b → first_where f (a ∷ A ++ r ∷ C) ≡ first_where f C) [
@@ -51,11 +51,11 @@ where_left : (f : Ref → Bool) (xs ys : List Ref) → AllWhere f (xs ++ ys) →
 where_left f [] ys h = tt
 where_left f (x ∷ xs) ys h = (h.0, where_left f xs ys h.1)
 
-pub steady_left : (f : Ref → Bool) (xs ys : List Ref) → IsSteady f (xs ++ ys) → IsSteady f xs
+steady_left : (f : Ref → Bool) (xs ys : List Ref) → IsSteady f (xs ++ ys) → IsSteady f xs
 steady_left f [] ys h = tt
 steady_left f (x ∷ xs) ys h = (λ e. where_left f xs ys (h.0 e), steady_left f xs ys h.1)
 
-pub steady_right : (f : Ref → Bool) (xs ys : List Ref) → IsSteady f (xs ++ ys) → IsSteady f ys
+steady_right : (f : Ref → Bool) (xs ys : List Ref) → IsSteady f (xs ++ ys) → IsSteady f ys
 steady_right f [] ys h = h
 steady_right f (x ∷ xs) ys h = steady_right f xs ys h.1
 
@@ -163,7 +163,7 @@ module _ {T : Type 0} (order : T → T → Ordering) (place : T → Ordering) (m
   if_here None = None
   if_here (Some r) = cond (is_node_at place m r) (Some r) None
 
-  pub found : (rs : List Ref) → Rising (side order m s) rs → first_where (is_node_at place m) rs ≡ if_here (first_where (is_past_node false place m) rs)
+  found : (rs : List Ref) → Rising (side order m s) rs → first_where (is_node_at place m) rs ≡ if_here (first_where (is_past_node false place m) rs)
   found [] h = refl
   found (r ∷ rs) h =
       let P = is_past_node false place m in let H = is_node_at place m in
@@ -302,19 +302,19 @@ module _ {T : Type 0} where
     pub reads : read + 2 * height u ≤ read0 + 2 * height t
 
   module _ (m : Pooled T) (s : ℕ) (root : Option Ref) (n0 : ℕ) where
-    pub count_start : (t : Shape) → IsRooted m s root t → (a : ℕ) → Counting m s root root n0 n0 a a
+    count_start : (t : Shape) → IsRooted m s root t → (a : ℕ) → Counting m s root root n0 n0 a a
     count_start t h a = record { t = t; u = t; whole = h; rooted = h; is = refl; reads = omega arith }
 
     module _ (at : Option Ref) (r : Ref) (y : Link) (n a b : ℕ) (h : Counting m s root at n0 n a b) (e : at ≡ Some r) (i : y ≡ link_of m r.name s) where
-      pub count_sides : Sides m s r y h.u
+      count_sides : Sides m s r y h.u
       count_sides = sides m s at r y h.u h.rooted e i
 
-      pub count_lower : (height_at m s y.back < height_at m s at) × (height_at m s y.forth < height_at m s at)
+      count_lower : (height_at m s y.back < height_at m s at) × (height_at m s y.forth < height_at m s at)
       count_lower =
           let o = count_sides in let k = height-root m s at h.u h.rooted in let p = o.left_lower in let q = o.right_lower in (omega arith, omega arith)
 
       module _ (c : ℕ) (low : c ≤ b + 2) where
-        pub count_here : n ≡ size_at m s y.back → (t : Shape) → IsRooted m s root t → (Some r ≡ nth_of (nodes t) n0) × (c ≤ a + 2 * height t)
+        count_here : n ≡ size_at m s y.back → (t : Shape) → IsRooted m s root t → (Some r ≡ nth_of (nodes t) n0) × (c ≤ a + 2 * height t)
         count_here f t w =
             let o = count_sides in let k = size-root m s y.back o.A o.left in let j = size-nodes o.A in let q : n ≡ length (nodes o.A) = omega arith in
             let same = same_tree m s root t h.t w h.whole in let tall = ap height same in let z = h.reads in let g = o.height_is in (
@@ -323,7 +323,7 @@ module _ {T : Type 0} where
               omega arith,
             )
 
-        pub count_left : n < size_at m s y.back → Counting m s root y.back n0 n a c
+        count_left : n < size_at m s y.back → Counting m s root y.back n0 n a c
         count_left f =
             let o = count_sides in let k = size-root m s y.back o.A o.left in let j = size-nodes o.A in let z = h.reads in let g = o.height_is in record {
               t = h.t;
@@ -334,7 +334,7 @@ module _ {T : Type 0} where
               reads = omega arith;
             }
 
-        pub count_right : (d : ℕ) → n ≡ suc (size_at m s y.back + d) → Counting m s root y.forth n0 d a c
+        count_right : (d : ℕ) → n ≡ suc (size_at m s y.back + d) → Counting m s root y.forth n0 d a c
         count_right d f =
             let o = count_sides in let k = size-root m s y.back o.A o.left in let j = size-nodes o.A in let z = h.reads in let g = o.height_is in
             let q : n ≡ suc (length (nodes o.A) + d) = omega arith in
@@ -347,7 +347,7 @@ module _ {T : Type 0} where
               reads = omega arith;
             }
 
-    pub count_end : (at : Option Ref) (n a b : ℕ) (h : Counting m s root at n0 n a b) → at ≡ None
+    count_end : (at : Option Ref) (n a b : ℕ) (h : Counting m s root at n0 n a b) → at ≡ None
         → (t : Shape) → IsRooted m s root t → (None ≡ nth_of (nodes t) n0) × (b ≤ a + 2 * height t)
     count_end at n a b h e t w =
         let same = same_tree m s root t h.t w h.whole in let tall = ap height same in let k = h.reads in

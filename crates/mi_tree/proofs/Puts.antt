@@ -24,7 +24,7 @@ pub put_apart : (R : Ref → Ref → Ordering) (x : Ref) (rs us : List Ref) → 
 put_apart R x rs us p a o = subst IsApart (sym p.now) (apart_insert p.xs x p.ys (subst IsApart p.was a) (subst (IsOut x.name) p.was o))
 
 -- no name of xs stands right of r
-pub cut_right : (xs : List Ref) (r : Ref) (ys : List Ref) → AreOut xs (r ∷ ys) → AreOut xs ys
+cut_right : (xs : List Ref) (r : Ref) (ys : List Ref) → AreOut xs (r ∷ ys) → AreOut xs ys
 cut_right [] r ys a = tt
 cut_right (x ∷ xs) r ys a = (a.0.1, cut_right xs r ys a.1)
 

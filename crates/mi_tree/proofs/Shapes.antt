@@ -60,15 +60,15 @@ module _ {T : Type 0} where
   pub moved : (m n : Pooled T) (s : ℕ) (o p : Option Ref) (t : Shape) → m ≡ n → o ≡ p → IsRooted m s o t → IsRooted n s p t
   moved m n s o p t e f h = subst (λ (z : Pooled T × Option Ref). IsRooted z.0 s z.1 t) (λ i. (e i, f i)) h
 
-  pub size-top : (m : Pooled T) (s : ℕ) (t : Shape) → Stands m s t → size_at m s (top t) ≡ size t
+  size-top : (m : Pooled T) (s : ℕ) (t : Shape) → Stands m s t → size_at m s (top t) ≡ size t
   size-top m s Tip h = refl
   size-top m s (Fork l r q) h = ap (λ (y : Link). y.size) h.1
 
-  pub height-top : (m : Pooled T) (s : ℕ) (t : Shape) → Stands m s t → height_at m s (top t) ≡ height t
+  height-top : (m : Pooled T) (s : ℕ) (t : Shape) → Stands m s t → height_at m s (top t) ≡ height t
   height-top m s Tip h = refl
   height-top m s (Fork l r q) h = ap (λ (y : Link). y.height) h.1
 
-  pub held-top : (m : Pooled T) (s : ℕ) (t : Shape) → Stands m s t → IsHeldIf m (top t)
+  held-top : (m : Pooled T) (s : ℕ) (t : Shape) → Stands m s t → IsHeldIf m (top t)
   held-top m s Tip h = tt
   held-top m s (Fork l r q) h = h.0
 

@@ -41,7 +41,7 @@ one_of Tip r e = let f : None ≡ Some r = e in absurd cc
 one_of (Fork l x q) r e = omega arith
 
 -- the first node is in the left side, if there is one
-pub first_left : (A : Shape) (r : Ref) (C : List Ref) (x : Ref) (ys : List Ref) → 1 ≤ size A
+first_left : (A : Shape) (r : Ref) (C : List Ref) (x : Ref) (ys : List Ref) → 1 ≤ size A
     → nodes A ++ r ∷ C ≡ x ∷ ys → (zs : List Ref) × (nodes A ≡ x ∷ zs) × (ys ≡ zs ++ r ∷ C)
 first_left A r C x ys h e =
     let n = size-nodes A in (elim (nodes A) as (λ k. length k ≡ size A → k ++ r ∷ C ≡ x ∷ ys → (zs : List Ref) × (k ≡ x ∷ zs) × (ys ≡ zs ++ r ∷ C)) [
@@ -69,7 +69,7 @@ module _ {T : Type 0} where
       record { path_is = refl; can = c; has = e; above = tt; beside = tt; apart = c.apart; places = λ u p. p; room = omega arith }
 
   -- the node is there
-  pub sunk_here : (m : Pooled T) (s : ℕ) (items : List (Option Turn)) (at : Option Ref)
+  sunk_here : (m : Pooled T) (s : ℕ) (items : List (Option Turn)) (at : Option Ref)
       (fs : List Frame) (t : Shape) (xs : List Ref) (x : Ref) (ys vs ws : List Ref)
       → Sinks m s items at fs t xs x ys vs ws → at ≡ Some x
       → (A B : Shape) → t ≡ Fork A x B → nodes A ≡ xs → nodes B ≡ ys → HasSunk m m s items xs x ys vs ws (plug fs t) fs A B
@@ -88,7 +88,7 @@ module _ {T : Type 0} where
   module _ (m n : Pooled T) (s : ℕ) (items : List (Option Turn)) (at : Option Ref) (here : Ref)
       (y : Link) (fs : List Frame) (t : Shape) (xs : List Ref) (x : Ref) (ys vs ws : List Ref)
       (h : Sinks m s items at fs t xs x ys vs ws) (e : at ≡ Some here) (i : y ≡ link_of m here.name s) (set : n ≡ with_link m here.name s (shrunk_link y)) where
-    pub open_here : TakeOpened m s here y t
+    open_here : TakeOpened m s here y t
     open_here = take_opened m s at here y t h.can e i
 
     pub keeps_here : Keeps m n s (here ∷ [])
@@ -120,7 +120,7 @@ module _ {T : Type 0} where
       pub among : (j : ℕ) → IsOut j (xs ++ ys) → IsOut j (here ∷ []) × IsOut j (us ++ zs)
       pub lower : height_at n s (cond b y.back y.forth) < height_at m s at
 
-    pub lowered_left : (zs : List Ref) → nodes open_here.A ≡ xs ++ x ∷ zs → ys ≡ zs ++ here ∷ nodes open_here.B → Lowered true xs zs
+    lowered_left : (zs : List Ref) → nodes open_here.A ≡ xs ++ x ∷ zs → ys ≡ zs ++ here ∷ nodes open_here.B → Lowered true xs zs
     lowered_left zs f g =
         let o = open_here in let A = o.A in let B = o.B in let w = between (nodes A) here (nodes B) o.apart in
         let sizes = ap size o.is in let heights = ap height o.is in let room = h.room in
@@ -153,7 +153,7 @@ module _ {T : Type 0} where
           lower = omega arith;
         }
 
-    pub lowered_right : (us : List Ref) → xs ≡ nodes open_here.A ++ here ∷ us → nodes open_here.B ≡ us ++ x ∷ ys → Lowered false us ys
+    lowered_right : (us : List Ref) → xs ≡ nodes open_here.A ++ here ∷ us → nodes open_here.B ≡ us ++ x ∷ ys → Lowered false us ys
     lowered_right us f g =
         let o = open_here in let A = o.A in let B = o.B in let w = between (nodes A) here (nodes B) o.apart in
         let sizes = ap size o.is in let heights = ap height o.is in let room = h.room in

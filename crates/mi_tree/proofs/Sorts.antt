@@ -130,7 +130,7 @@ module _ (R : Ref → Ref → Ordering) (o : IsOrder R) where
   above_all x r (y ∷ ys) e h = (o.trans x r y e h.0, above_all x r ys e h.1)
 
   -- in rising nodes, r is after all that stand to its left
-  pub left_below : (xs : List Ref) (r : Ref) (ys : List Ref) → Rising R (xs ++ r ∷ ys) → AllAre (R r) Greater xs
+  left_below : (xs : List Ref) (r : Ref) (ys : List Ref) → Rising R (xs ++ r ∷ ys) → AllAre (R r) Greater xs
   left_below [] r ys h = tt
   left_below (x ∷ xs) r ys h = (turned x r (are_right (R x) Less xs (r ∷ ys) h.0).0, left_below xs r ys h.1)
 

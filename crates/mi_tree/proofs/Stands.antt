@@ -61,16 +61,16 @@ module _ {T : Type 0} (order : T → T → Ordering) (tag : T → ℕ) (m q : Po
   pub set_keeps : Keeps m q s (x ∷ [])
   set_keeps = subst (λ o. Keeps m o s (x ∷ [])) (sym set) (keeps_link s m x (leaf new))
 
-  pub set_link : link_of q x.name s ≡ leaf new
+  set_link : link_of q x.name s ≡ leaf new
   set_link = ap (λ o. link_of o x.name s) set ∙ link_here m x s (leaf new) held
 
   pub set_tag : (link_of q x.name s).tag ≡ new
   set_tag = ap (λ (y : Link). y.tag) set_link
 
-  pub other_tag : (k : ℕ) → (x.name == k) ≡ false → (link_of q k s).tag ≡ (link_of m k s).tag
+  other_tag : (k : ℕ) → (x.name == k) ≡ false → (link_of q k s).tag ≡ (link_of m k s).tag
   other_tag k e = ap (λ (o : Pooled T). (link_of o k s).tag) set ∙ ap (λ (y : Link). y.tag) (link_there m x.name s (leaf new) k s e)
 
-  pub set_alone : IsRooted q s (Some x) (Fork Tip x Tip)
+  set_alone : IsRooted q s (Some x) (Fork Tip x Tip)
   set_alone = record { root = refl; stands = (held_kept s m q (x ∷ []) x set_keeps held, set_link ∙ ap leaf (sym set_tag), tt, tt) }
 
   old_item : (r : Ref) → (x.name == r.name) ≡ false → item_of q s r.name ≡ item_of m s r.name
@@ -80,11 +80,11 @@ module _ {T : Type 0} (order : T → T → Ordering) (tag : T → ℕ) (m q : Po
   old_all r [] e o h = tt
   old_all r (a ∷ rs) e o h = (side_kept order m q s r a (old_item r e) (old_item a o.0) ∙ h.0, old_all r rs e o.1 h.1)
 
-  pub old_rising : (rs : List Ref) → IsOut x.name rs → Rising (side order m s) rs → Rising (side order q s) rs
+  old_rising : (rs : List Ref) → IsOut x.name rs → Rising (side order m s) rs → Rising (side order q s) rs
   old_rising [] o h = tt
   old_rising (r ∷ rs) o h = (old_all r rs o.0 o.1 h.0, old_rising rs o.1 h.1)
 
-  pub old_tagged : (rs : List Ref) → IsOut x.name rs → AreTagged tag m s rs → AreTagged tag q s rs
+  old_tagged : (rs : List Ref) → IsOut x.name rs → AreTagged tag m s rs → AreTagged tag q s rs
   old_tagged [] o h = tt
   old_tagged (r ∷ rs) o h = (has_tag_kept tag m q s r (set_keeps.values r.name) (other_tag r.name o.0) h.0, old_tagged rs o.1 h.1)
 
@@ -96,7 +96,7 @@ module _ {T : Type 0} (order : T → T → Ordering) (tag : T → ℕ) (m q : Po
   new_side r e = λ i. compared (by_stamp order) (stamped (set_keeps.values x.name i) (set_tag i).stamp)
       (stamped (set_keeps.values r.name i) (other_tag r.name e i).stamp)
 
-  pub new_differs : (rs : List Ref) → IsOut x.name rs → NoneAre (side_of_new order m s x new.stamp) Equal rs → NoneAre (side order q s x) Equal rs
+  new_differs : (rs : List Ref) → IsOut x.name rs → NoneAre (side_of_new order m s x new.stamp) Equal rs → NoneAre (side order q s x) Equal rs
   new_differs [] o h = tt
   new_differs (r ∷ rs) o h = (λ e. h.0 (sym (new_side r o.0) ∙ e), new_differs rs o.1 h.1)
 
@@ -104,7 +104,7 @@ module _ {T : Type 0} (order : T → T → Ordering) (tag : T → ℕ) (m q : Po
   new_are o [] out h = tt
   new_are o (r ∷ rs) out h = (sym (new_side r out.0) ∙ h.0, new_are o rs out.1 h.1)
 
-  pub new_placed : (rs us : List Ref) → IsOut x.name rs → IsPutIn (side order q s x) x rs us → IsPutIn (side_of_new order m s x new.stamp) x rs us
+  new_placed : (rs us : List Ref) → IsOut x.name rs → IsPutIn (side order q s x) x rs us → IsPutIn (side_of_new order m s x new.stamp) x rs us
   new_placed rs us out p = let w = subst (IsOut x.name) p.was out in
       record {
         xs = p.xs;

@@ -79,7 +79,7 @@ names_free : (m : Pool) (k : ℕ) (rs : List Ref) → ref_of m k ≡ None → Al
 names_free m k [] e h = tt
 names_free m k (q ∷ rs) e h = (name_free m k q e h.0, names_free m k rs e h.1)
 
-pub nth_split : (rs : List Ref) (n : ℕ) (r : Ref) → Some r ≡ nth_of rs n → (xs : List Ref) × (ys : List Ref) × (rs ≡ xs ++ r ∷ ys)
+nth_split : (rs : List Ref) (n : ℕ) (r : Ref) → Some r ≡ nth_of rs n → (xs : List Ref) × (ys : List Ref) × (rs ≡ xs ++ r ∷ ys)
 nth_split [] n r e = absurd (none_ref r (sym e))
 nth_split (q ∷ rs) zero r e = ([], rs, ap (λ k. k ∷ rs) (some_ref q r (sym e)))
 nth_split (q ∷ rs) (suc n) r e = let i = nth_split rs n r e in (q ∷ i.0, i.1, ap (λ k. q ∷ k) i.2)

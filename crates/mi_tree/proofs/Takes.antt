@@ -12,12 +12,12 @@ use Rattle.mi_tree.proofs.Shapes.{moved, opened, tip_is, height-root, size-nodes
 use Rattle.mi_tree.proofs.Joins.{rooted_kept}
 
 -- heights after the first node of the right side became the root
-pub met : (l q u t : ℕ) → DifferByAtMost 1 l q → u ≤ q → q ≤ u + 1 → max l u ≤ t → t ≤ max l u + 1
+met : (l q u t : ℕ) → DifferByAtMost 1 l q → u ≤ q → q ≤ u + 1 → max l u ≤ t → t ≤ max l u + 1
     → (DifferByAtMost 1 l u → t ≡ max l u + 1) → (l ≤ t) × (q ≤ t) × (t ≤ max l q + 1)
 met l q u t d a b low high tight = (grind arith, grind arith, grind arith)
 
 -- one node less is one less in size
-pub less_size : (t u : Shape) (xs : List Ref) (x : Ref) (ys : List Ref) → nodes t ≡ xs ++ x ∷ ys → nodes u ≡ xs ++ ys → size t ≡ size u + 1
+less_size : (t u : Shape) (xs : List Ref) (x : Ref) (ys : List Ref) → nodes t ≡ xs ++ x ∷ ys → nodes u ≡ xs ++ ys → size t ≡ size u + 1
 less_size t u xs x ys e f =
     let a = size-nodes t in let b = size-nodes u in let c = ap length e in
     let d = ap length f in let i = length-append xs (x ∷ ys) in let j = length-append xs ys in
@@ -59,7 +59,7 @@ module _ {T : Type 0} where
   all_held m s Tip h = tt
   all_held m s (Fork l r q) h = held_both m (nodes l) r (nodes q) (all_held m s l h.2) h.0 (all_held m s q h.3)
 
-  pub held_first : (m : Pooled T) (s : ℕ) (t : Shape) (r : Ref) (rs : List Ref) → nodes t ≡ r ∷ rs → Stands m s t → IsHeld m r
+  held_first : (m : Pooled T) (s : ℕ) (t : Shape) (r : Ref) (rs : List Ref) → nodes t ≡ r ∷ rs → Stands m s t → IsHeld m r
   held_first m s t r rs e h = (subst (AreHeld m) e (all_held m s t h)).0
 
   pub held_in : (m : Pooled T) (s : ℕ) (t : Shape) (xs : List Ref) (r : Ref) (ys : List Ref) → nodes t ≡ xs ++ r ∷ ys → Stands m s t → IsHeld m r

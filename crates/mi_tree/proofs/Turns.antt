@@ -11,10 +11,10 @@ use Rattle.mi_tree.specs.Joining.{Two, Three, Four, Rebalanced, AreSides, IsBala
 use Rattle.mi_tree.proofs.Heights.{low_enough}
 use Rattle.mi_tree.proofs.Shapes.{moved, opened}
 
-pub turn_plain : (l : Shape) (x : Ref) (q : Shape) → IsEven l → IsEven q → DifferByAtMost 1 (height l) (height q) → Rebalanced l x q (Fork l x q)
+turn_plain : (l : Shape) (x : Ref) (q : Shape) → IsEven l → IsEven q → DifferByAtMost 1 (height l) (height q) → Rebalanced l x q (Fork l x q)
 turn_plain l x q el eq d = record { nodes_are = refl; even = (d, el, eq); not_lower = omega arith; not_higher = omega arith; as_high = λ h. refl }
 
-pub turn_down : (A : Shape) (x : Ref) (B : Shape) (y : Ref) (C : Shape) → IsEven (Fork A x B) → IsEven C
+turn_down : (A : Shape) (x : Ref) (B : Shape) (y : Ref) (C : Shape) → IsEven (Fork A x B) → IsEven C
     → DifferByAtMost 2 (height (Fork A x B)) (height C) → height C + 1 < height (Fork A x B) → height B ≤ height A
     → Rebalanced (Fork A x B) y C (Fork A x (Fork B y C))
 turn_down A x B y C e f d h w = let e0 = e.0 in record {
@@ -25,7 +25,7 @@ turn_down A x B y C e f d h w = let e0 = e.0 in record {
   as_high = λ k. absurd (omega arith);
 }
 
-pub turn_up : (A : Shape) (x : Ref) (B : Shape) (y : Ref) (C : Shape) → IsEven A → IsEven (Fork B y C)
+turn_up : (A : Shape) (x : Ref) (B : Shape) (y : Ref) (C : Shape) → IsEven A → IsEven (Fork B y C)
     → DifferByAtMost 2 (height A) (height (Fork B y C)) → height A + 1 < height (Fork B y C) → height B ≤ height C
     → Rebalanced A x (Fork B y C) (Fork (Fork A x B) y C)
 turn_up A x B y C e f d h w = let f0 = f.0 in record {
@@ -37,7 +37,7 @@ turn_up A x B y C e f d h w = let f0 = f.0 in record {
 }
 
 -- from the left: A x (B y C) is too high
-pub turn_left_both : (A : Shape) (x : Ref) (B : Shape) (y : Ref) (C : Shape) (z : Ref) (D : Shape)
+turn_left_both : (A : Shape) (x : Ref) (B : Shape) (y : Ref) (C : Shape) (z : Ref) (D : Shape)
     → IsEven (Fork A x (Fork B y C)) → IsEven D → DifferByAtMost 2 (height (Fork A x (Fork B y C))) (height D)
     → height D + 1 < height (Fork A x (Fork B y C)) → height A < height (Fork B y C) → Rebalanced (Fork A x (Fork B y C)) z D (Fork (Fork A x B) y (Fork C z D))
 turn_left_both A x B y C z D e f d h w = let e0 = e.0 in let e2 = e.2.0 in record {
@@ -51,7 +51,7 @@ turn_left_both A x B y C z D e f d h w = let e0 = e.0 in let e2 = e.2.0 in recor
 }
 
 -- from the right: (B y C) z D is too high
-pub turn_right_both : (A : Shape) (x : Ref) (B : Shape) (y : Ref) (C : Shape) (z : Ref) (D : Shape) → IsEven A
+turn_right_both : (A : Shape) (x : Ref) (B : Shape) (y : Ref) (C : Shape) (z : Ref) (D : Shape) → IsEven A
     → IsEven (Fork (Fork B y C) z D) → DifferByAtMost 2 (height A) (height (Fork (Fork B y C) z D))
     → height A + 1 < height (Fork (Fork B y C) z D) → height D < height (Fork B y C) → Rebalanced A x (Fork (Fork B y C) z D) (Fork (Fork A x B) y (Fork C z D))
 turn_right_both A x B y C z D e f d h w = let f0 = f.0 in let f1 = f.1.0 in record {

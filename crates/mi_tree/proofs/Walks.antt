@@ -16,7 +16,7 @@ use Rattle.mi_tree.specs.declared.walk.Direction.TheVariants.{Ascending, Descend
 use Rattle.mi_tree.specs.declared.walk.Walk.{Walk}
 use Rattle.mi_tree.proofs.Shapes.{moved, opened, height-root}
 
-pub path_length : (xs : List Pending) → length (path_of xs) ≡ length xs
+path_length : (xs : List Pending) → length (path_of xs) ≡ length xs
 path_length [] = refl
 path_length (x ∷ xs) = let i = path_length xs in let j = length-append (path_of xs) (Some x.node ∷ []) in omega arith
 
@@ -121,23 +121,23 @@ drop_fork : (xs : List Ref) (r : Ref) (ys : List Ref) (n k : ℕ) → n ≡ leng
 drop_fork xs r ys n k e = ap (λ z. drop z (xs ++ r ∷ ys)) e ∙ drop-append-add xs (r ∷ ys) (suc k)
 
 -- up from a place in the left side, down from one in the right side: the node is ahead too
-pub up_left : (l : Shape) (r : Ref) (q t : Shape) (xs ys : List Pending) (n : ℕ) → t ≡ Fork l r q → n ≤ length (nodes l)
+up_left : (l : Shape) (r : Ref) (q t : Shape) (xs ys : List Pending) (n : ℕ) → t ≡ Fork l r q → n ≤ length (nodes l)
     → ahead Ascending ys ≡ drop n (nodes l) ++ ahead Ascending (record { node = r; after = q } ∷ xs)
     → ahead Ascending ys ≡ drop n (nodes t) ++ ahead Ascending xs
 up_left l r q t xs ys n e le h =
     h ∙ sym (append_assoc (drop n (nodes l)) (r ∷ nodes q) (ahead Ascending xs))
     ∙ ap (λ k. k ++ ahead Ascending xs) (sym (drop-append-le n (nodes l) (r ∷ nodes q) le)) ∙ ap (λ k. drop n (nodes k) ++ ahead Ascending xs) (sym e)
 
-pub up_right : (l : Shape) (r : Ref) (q t : Shape) (xs ys : List Pending) (n k : ℕ) → t ≡ Fork l r q → n ≡ length (nodes l) + suc k
+up_right : (l : Shape) (r : Ref) (q t : Shape) (xs ys : List Pending) (n k : ℕ) → t ≡ Fork l r q → n ≡ length (nodes l) + suc k
     → ahead Ascending ys ≡ drop k (nodes q) ++ ahead Ascending xs → ahead Ascending ys ≡ drop n (nodes t) ++ ahead Ascending xs
 up_right l r q t xs ys n k e is h = h ∙ ap (λ z. z ++ ahead Ascending xs) (sym (ap (λ z. drop n (nodes z)) e ∙ drop_fork (nodes l) r (nodes q) n k is))
 
-pub down_left : (l : Shape) (r : Ref) (q t : Shape) (xs ys : List Pending) (n : ℕ) → t ≡ Fork l r q → n ≤ length (nodes l)
+down_left : (l : Shape) (r : Ref) (q t : Shape) (xs ys : List Pending) (n : ℕ) → t ≡ Fork l r q → n ≤ length (nodes l)
     → ahead Descending ys ≡ reverse (take n (nodes l)) ++ ahead Descending xs → ahead Descending ys ≡ reverse (take n (nodes t)) ++ ahead Descending xs
 down_left l r q t xs ys n e le h = h
     ∙ ap (λ z. reverse z ++ ahead Descending xs) (sym (ap (λ z. take n (nodes z)) e ∙ take-append-le n (nodes l) (r ∷ nodes q) le))
 
-pub down_right : (l : Shape) (r : Ref) (q t : Shape) (xs ys : List Pending) (n k : ℕ) → t ≡ Fork l r q → n ≡ length (nodes l) + suc k
+down_right : (l : Shape) (r : Ref) (q t : Shape) (xs ys : List Pending) (n k : ℕ) → t ≡ Fork l r q → n ≡ length (nodes l) + suc k
     → ahead Descending ys ≡ reverse (take k (nodes q)) ++ ahead Descending (record { node = r; after = l } ∷ xs)
     → ahead Descending ys ≡ reverse (take n (nodes t)) ++ ahead Descending xs
 down_right l r q t xs ys n k e is h =
@@ -222,7 +222,7 @@ last_is items x xs e =
     (λ i. slice_get (e i) (n i)) ∙ slice_get-get_or (ps ++ Some x.node ∷ []) (length ps) (Some x.node) (omega arith)
     ∙ ap (λ k. Some k) (get_or-append_seam ps (Some x.node) [] (Some x.node))
 
-pub popped : (items new : List (Option Ref)) (last : Option (Option Ref)) (xs : List Pending) (r : Ref)
+popped : (items new : List (Option Ref)) (last : Option (Option Ref)) (xs : List Pending) (r : Ref)
     → items ≡ path_of xs → new ≡ take (length items - 1) items → last ≡ slice_get items (length items - 1)
     → option_flatten last ≡ Some r → IsPopped xs new r
 popped items new last [] r e n l f =

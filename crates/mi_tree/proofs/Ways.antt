@@ -19,7 +19,7 @@ use Rattle.mi_node.proofs.Refs.{out_left, out_right, between, are_out_cons, are_
 use Rattle.mi_tree.specs.Shape.{Shape, Tip, Fork, nodes, top, size, height, DifferByAtMost, IsEven, Stands, IsRooted, height_at}
 use Rattle.mi_tree.specs.Joining.{AreSides, IsBalanced}
 use Rattle.mi_tree.specs.Sorted.{AreTagged, SameTags, IsPutIn, CanPut, HasPut, side}
-use Rattle.mi_tree.specs.Ways.{Frame, path_of, forked, forked_size, forked_height, forked_link, rehung, plug}
+use Rattle.mi_tree.specs.Ways.{Frame, way_of, forked, forked_size, forked_height, forked_link, rehung, plug}
 use Rattle.mi_tree.specs.Ways.{risen, IsLevel, AreEven, IsRootOf, Above, Falls, HasFallen, Climbs, HasClimbed}
 use Rattle.mi_tree.specs.declared.way.Turn.{Turn}
 use Rattle.mi_tree.proofs.Shapes.{moved, tip_is, size-nodes, height-root}
@@ -33,9 +33,9 @@ use Rattle.mi_tree.proofs.Stands.{tagged_kept}
 abbrev pub turn_of : Frame → Turn
 turn_of f = record { node = f.node; left = f.left }
 
-pub path_length : (fs : List Frame) → length (path_of fs) ≡ length fs
+pub path_length : (fs : List Frame) → length (way_of fs) ≡ length fs
 path_length [] = refl
-path_length (f ∷ fs) = let i = path_length fs in let j = length-append (path_of fs) (Some (turn_of f) ∷ []) in omega arith
+path_length (f ∷ fs) = let i = path_length fs in let j = length-append (way_of fs) (Some (turn_of f) ∷ []) in omega arith
 
 some_two : (a b : Turn) → Some a ≡ Some b → a ≡ b
 some_two a b e = cc
@@ -47,19 +47,19 @@ pub record IsTurned (fs : List Frame) (new : List (Option Turn)) (turn : Turn) :
   pub other : Shape
   pub rest : List Frame
   pub was : fs ≡ frame turn other ∷ rest
-  pub now : new ≡ path_of rest
+  pub now : new ≡ way_of rest
 
-last_length : (items : List (Option Turn)) (f : Frame) (fs : List Frame) → items ≡ path_of (f ∷ fs) → length items - 1 ≡ length (path_of fs)
-last_length items f fs e = let i = ap length e in let j = length-append (path_of fs) (Some (turn_of f) ∷ []) in omega arith
+last_length : (items : List (Option Turn)) (f : Frame) (fs : List Frame) → items ≡ way_of (f ∷ fs) → length items - 1 ≡ length (way_of fs)
+last_length items f fs e = let i = ap length e in let j = length-append (way_of fs) (Some (turn_of f) ∷ []) in omega arith
 
-last_is : (items : List (Option Turn)) (f : Frame) (fs : List Frame) → items ≡ path_of (f ∷ fs) → slice_get items (length items - 1) ≡ Some (Some (turn_of f))
+last_is : (items : List (Option Turn)) (f : Frame) (fs : List Frame) → items ≡ way_of (f ∷ fs) → slice_get items (length items - 1) ≡ Some (Some (turn_of f))
 last_is items f fs e =
-    let n = last_length items f fs e in let ps = path_of fs in let j = length-append ps (Some (turn_of f) ∷ []) in
+    let n = last_length items f fs e in let ps = way_of fs in let j = length-append ps (Some (turn_of f) ∷ []) in
     (λ i. slice_get (e i) (n i)) ∙ slice_get-get_or (ps ++ Some (turn_of f) ∷ []) (length ps) (Some (turn_of f)) (omega arith)
     ∙ ap (λ k. Some k) (get_or-append_seam ps (Some (turn_of f)) [] (Some (turn_of f)))
 
 pub turned_back : (items new : List (Option Turn)) (last : Option (Option Turn)) (fs : List Frame) (turn : Turn)
-    → items ≡ path_of fs → new ≡ take (length items - 1) items → last ≡ slice_get items (length items - 1)
+    → items ≡ way_of fs → new ≡ take (length items - 1) items → last ≡ slice_get items (length items - 1)
     → option_flatten last ≡ Some turn → IsTurned fs new turn
 turned_back items new last [] r e n l g =
     let i : last ≡ None = l ∙ (λ k. slice_get (e k) (length (e k) - 1)) in let j : None ≡ Some r = sym (ap option_flatten i) ∙ g in absurd cc
@@ -68,16 +68,16 @@ turned_back items new last (f ∷ fs) r e n l g =
       other = f.other;
       rest = fs;
       was = ap (λ (z : Turn). frame z f.other ∷ fs) (sym same);
-      now = n ∙ (λ i. take (last_length items f fs e i) (e i)) ∙ take-append_seam (path_of fs) (Some (turn_of f) ∷ []);
+      now = n ∙ (λ i. take (last_length items f fs e i) (e i)) ∙ take-append_seam (way_of fs) (Some (turn_of f) ∷ []);
     }
 
-pub shorter_way : (items new : List (Option Turn)) (fs : List Frame) (turn : Turn) → items ≡ path_of fs → IsTurned fs new turn → length new < length items
+pub shorter_way : (items new : List (Option Turn)) (fs : List Frame) (turn : Turn) → items ≡ way_of fs → IsTurned fs new turn → length new < length items
 shorter_way items new fs turn e w =
     let a = ap length e in let b = path_length fs in let c = ap (λ (k : List Frame). length k) w.was in let d = ap length w.now in let f = path_length w.rest in
     omega arith
 
 pub no_turn : (items : List (Option Turn)) (last : Option (Option Turn)) (fs : List Frame)
-    → items ≡ path_of fs → last ≡ slice_get items (length items - 1) → option_flatten last ≡ None → fs ≡ []
+    → items ≡ way_of fs → last ≡ slice_get items (length items - 1) → option_flatten last ≡ None → fs ≡ []
 no_turn items last [] e l g = refl
 no_turn items last (f ∷ fs) e l g = let j : Some (turn_of f) ≡ None = sym (ap option_flatten (l ∙ last_is items f fs e)) ∙ g in absurd cc
 
@@ -133,7 +133,7 @@ forked_nodes : (b : Bool) (r : Ref) (q t u : Shape) → nodes t ≡ nodes u → 
 forked_nodes true r q t u e = ap (λ k. k ++ r ∷ nodes q) e
 forked_nodes false r q t u e = ap (λ k. nodes q ++ r ∷ k) e
 
-pub plug_nodes : (fs : List Frame) (t u : Shape) → nodes t ≡ nodes u → nodes (plug fs t) ≡ nodes (plug fs u)
+plug_nodes : (fs : List Frame) (t u : Shape) → nodes t ≡ nodes u → nodes (plug fs t) ≡ nodes (plug fs u)
 plug_nodes [] t u e = e
 plug_nodes (f ∷ fs) t u e = plug_nodes fs (forked f.left t f.node f.other) (forked f.left u f.node f.other) (forked_nodes f.left f.node f.other t u e)
 
@@ -154,7 +154,7 @@ pub root_above : (root : Option Ref) (fs : List Frame) (t : Shape) → root ≡ 
 root_above root [] t e = tt
 root_above root (f ∷ fs) t e = e ∙ top_plug f fs t Tip
 
-pub root_top : (root : Option Ref) (fs : List Frame) → root ≡ top (plug fs Tip) → IsRootOf root fs
+root_top : (root : Option Ref) (fs : List Frame) → root ≡ top (plug fs Tip) → IsRootOf root fs
 root_top root [] e = tt
 root_top root (f ∷ fs) e = e
 
@@ -198,7 +198,7 @@ rehung_is true y at bt n h q e = λ i. record { back = bt; forth = (e i).forth; 
 rehung_is false y at bt n h q e = λ i. record { back = (e i).back; forth = bt; size = (e i).size; height = (e i).height; tag = y.tag }
 
 -- the whole is balanced
-pub plug_even : (fs : List Frame) (t : Shape) → IsEven t → AreEven fs (height t) → IsEven (plug fs t)
+plug_even : (fs : List Frame) (t : Shape) → IsEven t → AreEven fs (height t) → IsEven (plug fs t)
 plug_even [] t e a = e
 plug_even (f ∷ fs) t e a = plug_even fs (forked f.left t f.node f.other) (even_forked f.left f.node f.other t a.0 e a.1)
     (even_moved fs _ _ (sym (height_forked f.left f.node f.other t)) a.2)
@@ -227,7 +227,7 @@ module _ {T : Type 0} where
   stands_forked m s false r q t h held link other = (held, link, other, h)
 
   -- the whole stands
-  pub plug_stands : (m : Pooled T) (s : ℕ) (fs : List Frame) (t : Shape) → Stands m s t → Above m s fs (top t) (size t) (height t) → Stands m s (plug fs t)
+  plug_stands : (m : Pooled T) (s : ℕ) (fs : List Frame) (t : Shape) → Stands m s t → Above m s fs (top t) (size t) (height t) → Stands m s (plug fs t)
   plug_stands m s [] t h a = h
   plug_stands m s (f ∷ fs) t h a = plug_stands m s fs (forked f.left t f.node f.other) (stands_forked m s f.left f.node f.other t h a.0 a.1 a.2)
       (above_moved m s fs _ _ _ _ _ _ (sym (top_forked f.left f.node f.other t))

@@ -1,6 +1,5 @@
-use Rattle.std.proofs.Common.{◌≡◌, ◌<◌, ℕ, [], ◌∷◌, ap, sym, ◌∙◌, subst, arith, cond, refl}
+use Rattle.std.proofs.Common.{◌≡◌, [], ◌∷◌, ap, ◌∙◌, arith, cond}
 use Rattle.mi_node.specs.Pool.{link_of}
-use Rattle.mi_node.specs.Refs.{Ref}
 use Rattle.mi_node.specs.declared.link.Tag.{Tag}
 use Rattle.mi_node.proofs.Callers.{same_refl}
 use Rattle.mi_chain.specs.Keying.{stamp_at, hash_node}
