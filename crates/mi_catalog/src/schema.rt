@@ -56,7 +56,7 @@ pub struct Counts {
 }
 
 impl Schema {
-    ghost use Rattle.std.specs.Prelude.{◌≡◌, ◌<◌, ◌≤◌, IfOk, IsTrue, length, slice_get, Some};
+    ghost use Rattle.std.specs.Prelude.{◌≡◌, ◌<◌, ◌≤◌, IfOk, IsTrue, length};
     ghost use Rattle.mi_value.specs.declared.limits.TheConstants.{MAX_NAME, MAX_ROWS, LAST_COUNT};
     ghost use Rattle.mi_catalog.specs.Rules.{is_schema};
     ghost use Rattle.mi_catalog.specs.Shape.{find_column, find_index, index_at};

@@ -114,7 +114,7 @@ put_ready s e r d is there =
 
 -- Erase
 
-pub kept_there : (s : Shape) (e : ℕ) (n : Node) (d : Data) → IsData s d → node_of d.rows e ≡ Some n
+kept_there : (s : Shape) (e : ℕ) (n : Node) (d : Data) → IsData s d → node_of d.rows e ≡ Some n
     → kept_of (erased_node e (Some n) d).kept e ≡ Some (kept_node e n d)
 kept_there s e n d is here = lookup_entered_same e (kept_node e n d) d.kept (unkept s e d is (n, here))
 

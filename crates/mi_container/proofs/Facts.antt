@@ -56,7 +56,7 @@ pub there_has : (d : Data) (e : ℕ) → has (table_of d) e ≡ true → IsThere
 there_has d e h = there_of d.rows e (node_of d.rows e) refl (sym (ap is_some (lookup_shown e d.rows)) ∙ h)
 
 -- a claim on each id that stands in a list
-pub all_standing : (P : ℕ → Type 0) (ids : List ℕ) → ((a : ℕ) → 0 < times a ids → P a) → AllByRecursion P ids
+all_standing : (P : ℕ → Type 0) (ids : List ℕ) → ((a : ℕ) → 0 < times a ids → P a) → AllByRecursion P ids
 all_standing P [] f = tt
 all_standing P (a ∷ ids) f = (
   f a (let one : cond {A = ℕ} (a == a) 1 0 ≡ 1 = ap (λ b. cond {A = ℕ} b 1 0) (is_itself a) in omega arith),
@@ -74,7 +74,7 @@ pub each_once : (t : Table) (ids : List ℕ) → ListsEach t ids → Once ids
 each_once t ids each =
     once_of_times ids (λ id. subst (λ n. n ≤ 1) (sym (each id)) (elim (has t id) as (λ b. cond {A = ℕ} b 1 0 ≤ 1) [ true ↦ omega arith | false ↦ omega arith ]))
 
-pub stands_of : (d : Data) (e : ℕ) (ids : List ℕ) → IsThere d.rows e → ListsEach (table_of d) ids → Stands d.rows e ids
+stands_of : (d : Data) (e : ℕ) (ids : List ℕ) → IsThere d.rows e → ListsEach (table_of d) ids → Stands d.rows e ids
 stands_of d e ids there each = (
   each_there d ids each,
   each_once (table_of d) ids each,
@@ -89,7 +89,7 @@ each_listed t x rows (ByHash ps ∷ os) all = (tt, each_listed t (suc x) rows os
 each_listed t x rows (Listed ids ∷ os) all = (all.0, each_listed t (suc x) rows os all.1)
 
 -- each index's own list has each live id once
-pub lists_each : (s : Shape) (d : Data) → IsData s d → OfLists (ListsEach (table_of d)) d.orders
+lists_each : (s : Shape) (d : Data) → IsData s d → OfLists (ListsEach (table_of d)) d.orders
 lists_each s d is = each_listed (table_of d) 0 d.rows d.orders is.table.complete
 
 pub lists_stand : (s : Shape) (e : ℕ) (d : Data) → IsData s d → IsThere d.rows e → OfLists (Stands d.rows e) d.orders

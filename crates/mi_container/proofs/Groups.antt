@@ -110,7 +110,7 @@ group_put ps x e c rows r there moved changed =
     ∙ filter_swap (has_key ps rows r) (λ a. not (a == e)) (by_stamp x rows)
 
 -- the references stay with another content
-pub ref_with : (e : ℕ) (c : Content) (rows : List (ℕ × Node)) (o : Option ℕ) → IsThere rows e → ref_of (with_content e c rows) o ≡ ref_of rows o
+ref_with : (e : ℕ) (c : Content) (rows : List (ℕ × Node)) (o : Option ℕ) → IsThere rows e → ref_of (with_content e c rows) o ≡ ref_of rows o
 ref_with e c rows None there = refl
 ref_with e c rows (Some b) there =
     elim (eqb_tells b e) [

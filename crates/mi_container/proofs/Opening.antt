@@ -46,7 +46,7 @@ indexes_kept columns (i ∷ is) kept =
     let parts = and_parts _ _ (and_parts _ _ (and_parts _ _ kept).0).0 in
     (ranked_kept i i.kind i.parts refl refl (and_parts _ _ (and_parts _ _ (and_parts _ _ parts.0).0).0).1, declared_kept columns is parts.1)
 
-pub opened_kinds : (s : Shape) → is_schema s ≡ true → KindsFit s.indexes (opened_data s).orders
+opened_kinds : (s : Shape) → is_schema s ≡ true → KindsFit s.indexes (opened_data s).orders
 opened_kinds s kept = indexes_kept _ s.indexes (and_parts _ _ (and_parts _ _ kept).0).1
 
 -- The table

@@ -66,7 +66,7 @@ module _ {A : Type 0} where
       (λ isnt. head_isnt e r (rows ++ (e, n) ∷ []) isnt ∙ lookup_push_same e n rows (sym (head_isnt e r rows isnt) ∙ none))
 
   -- one that isn't there is left out for nothing
-  pub out_of : (e : ℕ) (rows : List (ℕ × A)) → lookup (λ k. k == e) rows ≡ None → left_out e rows ≡ rows
+  out_of : (e : ℕ) (rows : List (ℕ × A)) → lookup (λ k. k == e) rows ≡ None → left_out e rows ≡ rows
   out_of e [] none = refl
   out_of e (r ∷ rows) none =
       both_ways (r.0 == e)

@@ -34,7 +34,7 @@ lacks_of_times e (a ∷ ids) none =
       | inr isnt ↦ (isnt.1, lacks_of_times e ids (let n : cond (a == e) 1 0 + times e ids ≡ 0 = none in omega arith))
     ]
 
-pub times_of_lacks : (e : ℕ) (ids : List ℕ) → Lacks e ids → times e ids ≡ 0
+times_of_lacks : (e : ℕ) (ids : List ℕ) → Lacks e ids → times e ids ≡ 0
 times_of_lacks e [] lacks = refl
 times_of_lacks e (a ∷ ids) lacks =
     let z : cond {A = ℕ} (a == e) 1 0 ≡ 0 = ap (λ b. cond {A = ℕ} b 1 0) (is_other a e lacks.0) in
@@ -73,7 +73,7 @@ without_before b e (a ∷ ids) lacks =
     ∙ drop_isnt e a (stand_before b e ids) (is_other a e lacks.0) ∙ ap (λ q. a ∷ q) (without_before b e ids lacks.1))
 
 -- what was put in is taken out again
-pub without_stand : (b : Option ℕ) (e : ℕ) (ids : List ℕ) → Lacks e ids → without e (stand b e ids) ≡ ids
+without_stand : (b : Option ℕ) (e : ℕ) (ids : List ℕ) → Lacks e ids → without e (stand b e ids) ≡ ids
 without_stand None e ids lacks = without_push e ids lacks
 without_stand (Some b) e ids lacks = without_before b e ids lacks
 
@@ -93,7 +93,7 @@ next_isnot a e (b ∷ ids) lacks =
     elim (b == e) as (λ t. IsNot a (cond t (head_of ids) (next_in e ids))) [ true ↦ head_isnot a ids lacks.1 | false ↦ next_isnot a e ids lacks.1 ]
 
 -- the id behind e isn't e
-pub next_other : (e : ℕ) (ids : List ℕ) → Once ids → IsNot e (next_in e ids)
+next_other : (e : ℕ) (ids : List ℕ) → Once ids → IsNot e (next_in e ids)
 next_other e [] once = tt
 next_other e (a ∷ ids) once =
     both_ways (a == e)
@@ -109,7 +109,7 @@ stand_behind a e None ids other = refl
 stand_behind a e (Some b) ids other = ap (λ t. cond t (e ∷ a ∷ ids) (a ∷ stand_before b e ids)) (is_other a b (λ same. other (sym same)))
 
 -- an id that left a list stands again before the one that was behind it
-pub stands_again : (e : ℕ) (ids : List ℕ) → Once ids → 0 < times e ids → stand (next_in e ids) e (without e ids) ≡ ids
+stands_again : (e : ℕ) (ids : List ℕ) → Once ids → 0 < times e ids → stand (next_in e ids) e (without e ids) ≡ ids
 stands_again e [] once some = absurd (omega arith)
 stands_again e (a ∷ ids) once some =
     both_ways (a == e)
@@ -223,7 +223,7 @@ named_again (r ∷ rows) b n differ is =
     ap (λ t. cond t (Some r.0) (id_named n.at.name rows)) (is_other r.1.at.name n.at.name (λ same. other (sym same))) ∙ named_again rows b n differ.1 there)
 
 -- the id of a live id's reference, once another is gone
-pub found_again : (rows : List (ℕ × Node)) (e : ℕ) (o : Option ℕ) → NamesDiffer (left_out e rows)
+found_again : (rows : List (ℕ × Node)) (e : ℕ) (o : Option ℕ) → NamesDiffer (left_out e rows)
     → OtherThere rows e o → id_at (left_out e rows) (ref_of rows o) ≡ o
 found_again rows e None differ other = refl
 found_again rows e (Some b) differ other =
@@ -243,7 +243,7 @@ abbrev pub OfLists : (List ℕ → Type 0) → List Order → Type 0
 OfLists P [] = Unit {0}
 OfLists P (o ∷ os) = OfList P o × OfLists P os
 
-pub of_list : (P Q : List ℕ → Type 0) → ((ids : List ℕ) → P ids → Q ids) → (o : Order) → OfList P o → OfList Q o
+of_list : (P Q : List ℕ → Type 0) → ((ids : List ℕ) → P ids → Q ids) → (o : Order) → OfList P o → OfList Q o
 of_list P Q f ById p = tt
 of_list P Q f (ByKey ps) p = tt
 of_list P Q f (ByHash ps) p = tt

@@ -111,7 +111,7 @@ ids_push e n [] = refl
 ids_push e n (r ∷ rows) = ap (λ q. r.0 ∷ q) (ids_push e n rows)
 
 -- a claim on each live id
-pub all_live : (P : ℕ → Type 0) (rows : List (ℕ × Node)) → ((a : ℕ) → IsThere rows a → P a) → AllByRecursion P (ids_of rows)
+all_live : (P : ℕ → Type 0) (rows : List (ℕ × Node)) → ((a : ℕ) → IsThere rows a → P a) → AllByRecursion P (ids_of rows)
 all_live P [] f = tt
 all_live P (r ∷ rows) f = (
   f r.0 (r.1, head_is r.0 r rows (is_itself r.0)),
@@ -123,11 +123,11 @@ lacks_above : (e : ℕ) (rows : List (ℕ × Node)) → AllByRecursion (λ (q : 
 lacks_above e [] all = tt
 lacks_above e (r ∷ rows) all = (λ same. let l : e < r.0 = all.0 in absurd (omega arith), lacks_above e rows all.1)
 
-pub ids_once : (next : ℕ) (rows : List (ℕ × Node)) → Climbs next rows → Once (ids_of rows)
+ids_once : (next : ℕ) (rows : List (ℕ × Node)) → Climbs next rows → Once (ids_of rows)
 ids_once next [] up = tt
 ids_once next (r ∷ rows) up = (lacks_above r.0 rows up.1, ids_once next rows up.2)
 
-pub ids_has : (e : ℕ) (rows : List (ℕ × Node)) → IsThere rows e → 0 < times e (ids_of rows)
+ids_has : (e : ℕ) (rows : List (ℕ × Node)) → IsThere rows e → 0 < times e (ids_of rows)
 ids_has e [] there = absurd (none_some there.1)
 ids_has e (r ∷ rows) there =
     both_ways (r.0 == e)
@@ -152,7 +152,7 @@ stamps_alike : (x : ℕ) (rows other : List (ℕ × Node)) (a b : ℕ) → stamp
     → on (stamp_of rows x) nat_cmp a b ≡ on (stamp_of other x) nat_cmp a b
 stamps_alike x rows other a b p q = ap (λ n. nat_cmp n (stamp_of rows x b)) p ∙ ap (nat_cmp (stamp_of other x a)) q
 
-pub stamp_from : (rows other : List (ℕ × Node)) (x a : ℕ) → node_of rows a ≡ node_of other a → stamp_of rows x a ≡ stamp_of other x a
+stamp_from : (rows other : List (ℕ × Node)) (x a : ℕ) → node_of rows a ≡ node_of other a → stamp_of rows x a ≡ stamp_of other x a
 stamp_from rows other x a is = ap (λ o. get_or (content_in o).stamps x 0) is
 
 -- a new row goes last

@@ -306,7 +306,8 @@ leads_order_probes c p [] v vs t r h =
     subst (λ n. IsBesideKey p [] v vs (part_tag c.first p r) n r) (some_is h) (tags_order_probes c.first p [] v vs r)
 leads_order_probes c p (q ∷ qs) v [] t r h = alone c.first h
   where
-    alone : (f : ColumnType) → first_probe f p v ≡ Some t → IsBesideKey p (q ∷ qs) v [] (two_tag f c.second p q (slice_get r p.column) (slice_get r q.column)) t r
+    alone : (f : ColumnType) → first_probe f p v ≡ Some t
+        → IsBesideKey p (q ∷ qs) v [] (two_tag f c.second p q (slice_get r p.column) (slice_get r q.column)) t r
     alone column.Int k = first_beside column.Int p (q ∷ qs) v [] t r k
     alone column.Text k = first_beside column.Text p (q ∷ qs) v [] t r k
     alone column.Flag k = absurd (none_some k)

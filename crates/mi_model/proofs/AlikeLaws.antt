@@ -24,7 +24,7 @@ use Rattle.mi_model.specs.Verdict.{Outcome, is_spent, has_place, as_unique, unle
 use Rattle.mi_model.specs.Verdict.{refused_modify, modified, modify_outcome, erase_outcome, erase_key_outcome, relocate_outcome}
 use Rattle.mi_model.specs.Database.{Database, IsDatabase, on_table, table_of, depth, started, undone, undone_times, squashed, committed}
 use Rattle.mi_model.specs.Same.{SameTable, SameTables, SameDatabase}
-use Rattle.mi_model.specs.Run.{Command, after}
+use Rattle.mi_model.specs.Run.{Command, after_command}
 use Rattle.mi_model.specs.Run.Command.{Insert, Replace, Modify, Erase, EraseKey, Relocate, Start, Undo, Squash, Commit, UndoAll}
 use Rattle.mi_model.specs.Alike.{IsCommandOf, AnswersAlike, CommandsAnswerAlike, RunsAnswerAlike}
 use Rattle.mi_model.proofs.TableLaws.{fresh_of_table, is_table_opened}
@@ -265,7 +265,7 @@ committed_same x c ts us old others r same =
 
 -- each command, in databases of one catalog and one revision
 abbrev WorksInBoth : Command → Database → Database → Type 0
-WorksInBoth c d e = IsDatabase d → IsDatabase e → IsCommandOf d.catalog c → AnswersAlike c d e × SameDatabase (after c d) (after c e)
+WorksInBoth c d e = IsDatabase d → IsDatabase e → IsCommandOf d.catalog c → AnswersAlike c d e × SameDatabase (after_command c d) (after_command c e)
 
 works : (command : Command) (c : CatalogShape) (ts us : List Table) (old others : List (List Table)) (r : ℕ) → SameDatabase (db c ts old r) (db c us others r)
     → WorksInBoth command (db c ts old r) (db c us others r)
@@ -330,7 +330,7 @@ undone_times_catalog : (k : ℕ) (d : Database) → (undone_times k d).catalog �
 undone_times_catalog zero d = refl
 undone_times_catalog (suc k) d = undone_times_catalog k (undone d) ∙ undone_catalog d.catalog d.tables d.old d.revision
 
-catalog_after : (c : Command) (d : Database) → (after c d).catalog ≡ d.catalog
+catalog_after : (c : Command) (d : Database) → (after_command c d).catalog ≡ d.catalog
 catalog_after Start d =
     catalog_either {A = Result ℕ Refusal} d.catalog (is_spent d.revision) (Err Spent, d)
     (if depth d == 1024 then (Err Depth, d) else (Ok (d.revision + 1), started d)) refl
@@ -347,8 +347,8 @@ catalog_after c d = refl
 pub runs_answer_alike : RunsAnswerAlike
 runs_answer_alike [] d e is iu placed same = same
 runs_answer_alike (c ∷ cs) d e is iu placed same =
-    let step : AnswersAlike c d e × SameDatabase (after c d) (after c e) = commands_answer_alike c d e is iu placed.0 same in (
+    let step : AnswersAlike c d e × SameDatabase (after_command c d) (after_command c e) = commands_answer_alike c d e is iu placed.0 same in (
       step.0,
-      runs_answer_alike cs (after c d) (after c e) (is_database_after c d is) (is_database_after c e iu)
+      runs_answer_alike cs (after_command c d) (after_command c e) (is_database_after c d is) (is_database_after c e iu)
           (subst (λ shapes. AllByRecursion (IsCommandOf shapes) cs) (sym (catalog_after c d)) placed.1) step.1,
     )

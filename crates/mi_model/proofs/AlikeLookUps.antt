@@ -141,7 +141,7 @@ module _ (s : Shape) (x : ℕ) (t u : Table) (rows : t.rows ≡ u.rows) (shows :
         list = list_alike;
       }
 
-pub tables_alike : (s : Shape) (t u : Table) → SameTable s t u → TablesAlike s t u
+tables_alike : (s : Shape) (t u : Table) → SameTable s t u → TablesAlike s t u
 tables_alike s t u same =
     record {
       get = λ id. ap (λ rs. get (with_lists rs [] 0 0) id) same.rows;

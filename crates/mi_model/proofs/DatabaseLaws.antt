@@ -20,7 +20,7 @@ use Rattle.mi_model.specs.Change.{insert, put, erase, erase_all, relocate}
 use Rattle.mi_model.specs.Verdict.{Outcome, is_spent, has_place, unless, insert_refusal, insert_outcome, as_unique, replace_outcome}
 use Rattle.mi_model.specs.Verdict.{refused_modify, modified, modify_outcome, erase_outcome, erase_key_outcome, relocate_outcome}
 use Rattle.mi_model.specs.Database.{Database, IsDatabase, schema_of, table_of, on_table, depth, started, undone, undone_times, squashed, ending, committed}
-use Rattle.mi_model.specs.Run.{Command, after, run}
+use Rattle.mi_model.specs.Run.{Command, after_command, run}
 use Rattle.mi_model.specs.Run.Command.{Insert, Replace, Modify, Erase, EraseKey, Relocate, Start, Undo, Squash, Commit, UndoAll}
 use Rattle.mi_model.proofs.TableLaws.{is_table_insert, is_table_erase, is_table_put, is_table_relocate}
 
@@ -34,7 +34,7 @@ either_keeps : {A : Type 0} (s : Shape) (b : Bool) (x y : Outcome A) → (b ≡ 
 either_keeps s true x y f g = f refl
 either_keeps s false x y f g = g refl
 
-pub insert_keeps : (s : Shape) (at : Option (ℕ × ℕ)) (r : List Value) (t : Table) → IsTable s t → IsTable s (insert_outcome s at r t).1
+insert_keeps : (s : Shape) (at : Option (ℕ × ℕ)) (r : List Value) (t : Table) → IsTable s t → IsTable s (insert_outcome s at r t).1
 insert_keeps s at r t is = unless_keeps s (insert_refusal s at r t) t.next (insert at r t) t (is_table_insert s at r t is) is
 
 pub not_not : (b : Bool) → not b ≡ false → b ≡ true
@@ -46,7 +46,7 @@ replaced_keeps : (s : Shape) (e : ℕ) (r : List Value) (t : Table) (there : Boo
 replaced_keeps s e r t true there rest is = unless_keeps {A = Unit {0}} s rest tt (put s e r t) t (is_table_put s e r t there is) is
 replaced_keeps s e r t false there rest is = is
 
-pub replace_keeps : (s : Shape) (e : ℕ) (r : List Value) (t : Table) → IsTable s t → IsTable s (replace_outcome s e r t).1
+replace_keeps : (s : Shape) (e : ℕ) (r : List Value) (t : Table) → IsTable s t → IsTable s (replace_outcome s e r t).1
 replace_keeps s e r t is = replaced_keeps s e r t (has t e) refl (if is_spent t.arrivals then Some Spent else option_map as_unique (conflict s t r (Some e))) is
 
 lost_keeps : (s : Shape) (e : ℕ) (r : List Value) (rollback : Bool) (t : Table) (at : Option (ℕ × ℕ)) → has t e ≡ true → IsTable s t
@@ -63,26 +63,26 @@ modified_keeps s e rollback (Some r) t there is =
     (option_map_or (λ at. refused_modify rollback e at t) (conflict s t r (Some e)) (Ok tt, put s e r t))
     (λ _. is) (λ _. lost_keeps s e r rollback t (conflict s t r (Some e)) there is)
 
-pub modify_keeps : (s : Shape) (e : ℕ) (edits : List Edit) (rollback : Bool) (t : Table) → IsTable s t → IsTable s (modify_outcome s e edits rollback t).1
+modify_keeps : (s : Shape) (e : ℕ) (edits : List Edit) (rollback : Bool) (t : Table) → IsTable s t → IsTable s (modify_outcome s e edits rollback t).1
 modify_keeps s e edits rollback t is =
     either_keeps {A = Unit {0}} s (not (has t e)) (Err NoId, t) (modified s e rollback (apply edits (row t e).1) t) (λ _. is)
     (λ there. modified_keeps s e rollback (apply edits (row t e).1) t (not_not (has t e) there) is)
 
-pub erase_keeps : (s : Shape) (e : ℕ) (t : Table) → IsTable s t → IsTable s (erase_outcome e t).1
+erase_keeps : (s : Shape) (e : ℕ) (t : Table) → IsTable s t → IsTable s (erase_outcome e t).1
 erase_keeps s e t is = either_keeps {A = Unit {0}} s (has t e) (Ok tt, erase e t) (Err NoId, t) (λ _. is_table_erase s e t is) (λ _. is)
 
-pub is_table_erase_all : (s : Shape) (ids : List ℕ) (t : Table) → IsTable s t → IsTable s (erase_all ids t)
+is_table_erase_all : (s : Shape) (ids : List ℕ) (t : Table) → IsTable s t → IsTable s (erase_all ids t)
 is_table_erase_all s [] t is = is
 is_table_erase_all s (e ∷ ids) t is = is_table_erase_all s ids (erase e t) (is_table_erase s e t is)
 
-pub erase_key_keeps : (s : Shape) (x : ℕ) (key : List Value) (t : Table) → IsTable s t → IsTable s (erase_key_outcome s x key t).1
+erase_key_keeps : (s : Shape) (x : ℕ) (key : List Value) (t : Table) → IsTable s t → IsTable s (erase_key_outcome s x key t).1
 erase_key_keeps s x key t is = is_table_erase_all s (of_key s t x key) t is
 
 both_true : (a b : Bool) → (a && b) ≡ true → a ≡ true
 both_true true b e = refl
 both_true false b e = absurd (cc)
 
-pub relocate_keeps : (s : Shape) (x e : ℕ) (b : Option ℕ) (t : Table) → IsTable s t → IsTable s (relocate_outcome x e b t).1
+relocate_keeps : (s : Shape) (x e : ℕ) (b : Option ℕ) (t : Table) → IsTable s t → IsTable s (relocate_outcome x e b t).1
 relocate_keeps s x e b t is =
     either_keeps {A = Unit {0}} s (has t e && has_place t b) (Ok tt, relocate x e b t) (Err NoId, t)
     (λ there. is_table_relocate s x e b t (both_true (has t e) (has_place t b) there) is) (λ _. is)
@@ -104,7 +104,7 @@ zip_set R (x ∷ xs) (y ∷ ys) zero d u all p = (p (omega arith), all.1)
 zip_set R (x ∷ xs) (y ∷ ys) (suc n) d u all p = (all.0, zip_set R xs ys n d u all.1 (λ l. p (omega arith)))
 
 -- a change that keeps tables keeps databases
-pub on_table_keeps : {A : Type 0} (n : ℕ) (change : Shape → Table → Outcome A)
+on_table_keeps : {A : Type 0} (n : ℕ) (change : Shape → Table → Outcome A)
     → ((s : Shape) (t : Table) → IsTable s t → IsTable s (change s t).1) → (d : Database) → IsDatabase d → IsDatabase (on_table n change d).1
 on_table_keeps n change keeps d is =
     record {
@@ -158,7 +158,7 @@ either_is true x y p q = p
 either_is false x y p q = q
 
 -- each command, accepted or refused, takes databases to databases
-pub is_database_after : (c : Command) (d : Database) → IsDatabase d → IsDatabase (after c d)
+pub is_database_after : (c : Command) (d : Database) → IsDatabase d → IsDatabase (after_command c d)
 is_database_after (Insert n at r) d is = on_table_keeps n (λ s t. insert_outcome s at r t) (λ s t. insert_keeps s at r t) d is
 is_database_after (Replace n e r) d is = on_table_keeps n (λ s t. replace_outcome s e r t) (λ s t. replace_keeps s e r t) d is
 is_database_after (Modify n e edits rollback) d is = on_table_keeps n
@@ -178,4 +178,4 @@ is_database_after UndoAll d is = undone_times_is (depth d) d is
 
 pub is_database_run : (cs : List Command) (d : Database) → IsDatabase d → IsDatabase (run cs d)
 is_database_run [] d is = is
-is_database_run (c ∷ cs) d is = is_database_run cs (after c d) (is_database_after c d is)
+is_database_run (c ∷ cs) d is = is_database_run cs (after_command c d) (is_database_after c d is)

@@ -1,5 +1,5 @@
 -- What a change of one table leaves of a database.
-use Rattle.std.proofs.Common.{◌≡◌, ℕ, sym, subst, ap, refl, zero, suc, ◌<◌, length, List, [], ◌∷◌, get_or, arith}
+use Rattle.std.proofs.Common.{◌≡◌, ℕ, sym, subst, ap, refl, suc, ◌<◌, length, List, [], ◌∷◌, arith}
 use Rattle.std.specs.List.{AllZip}
 use Rattle.std.specs.declared.result.Result.{Result}
 use Rattle.std.specs.declared.result.Result.TheVariants.{Ok, Err}

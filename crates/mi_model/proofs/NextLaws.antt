@@ -31,7 +31,7 @@ both_equal Equal b h = (refl, h)
 both_equal Greater b h = absurd (cc)
 
 -- two records that equal one whole key are equal at it
-pub whole_alike : (ps : List KeyPart) (key r s : List Value) → length key ≡ length ps
+whole_alike : (ps : List KeyPart) (key r s : List Value) → length key ≡ length ps
     → compare_prefix ps key r ≡ Equal → compare_prefix ps key s ≡ Equal → compare_key ps r s ≡ Equal
 whole_alike [] key r s long e f = refl
 whole_alike (p ∷ ps) [] r s long e f = absurd (omega arith)

@@ -77,7 +77,7 @@ once-filter p ids once id =
     omega arith
 
 -- what an index shows has each id as often as its list
-pub times-shown : (id : ℕ) (kind : IndexKind) (order : ℕ → ℕ → Ordering) (ids : List ℕ) → times id (shown kind order ids) ≡ times id ids
+times-shown : (id : ℕ) (kind : IndexKind) (order : ℕ → ℕ → Ordering) (ids : List ℕ) → times id (shown kind order ids) ≡ times id ids
 times-shown id Ordered order ids = times-sorted id order ids
 times-shown id Ranked order ids = times-sorted id order ids
 times-shown id Hashed order ids = refl

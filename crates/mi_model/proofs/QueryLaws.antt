@@ -119,7 +119,7 @@ module _ (order : ℕ → ℕ → Ordering) (q p : ℕ → Bool)
   segment_of [] up = sym (drop-nil 0)
   segment_of (a ∷ ids) up = step a ids up.0 (segment_of ids up.1) (p a) (q a) refl refl
 
-  pub segment : (ids : List ℕ) → Ascends order ids
+  segment : (ids : List ℕ) → Ascends order ids
       → filter (λ id. q id && p id) ids ≡ drop (count_by (λ id. not (q id)) ids) (take (count_by p ids) ids)
   segment ids up =
       segment_of ids up
@@ -196,7 +196,7 @@ not_lt Greater = refl
 pub from_all : (s : Shape) (t : Table) (x : ℕ) → rank_from s t x lower.All ≡ 0
 from_all s t x = count_none (view s t x)
 
-pub from_key : (s : Shape) (t : Table) (x : ℕ) (key : List Value) → rank_from s t x (lower.From key) ≡ look.lower_rank s t x key
+from_key : (s : Shape) (t : Table) (x : ℕ) (key : List Value) → rank_from s t x (lower.From key) ≡ look.lower_rank s t x key
 from_key s t x key = count_same _ _ (λ id. not_le (compare_to_id (index_at s x) t key id)) (view s t x)
 
 pub from_beyond : (s : Shape) (t : Table) (x : ℕ) (key : List Value) → rank_from s t x (lower.Beyond key) ≡ look.upper_rank s t x key
@@ -214,7 +214,7 @@ le_and_ge Equal = refl
 le_and_ge Greater = refl
 
 -- the ids of a key stand between its ranks
-pub of_key_ranks : (s : Shape) (t : Table) (x : ℕ) (key : List Value) → IsTrue (is_sorted (index_at s x).kind)
+of_key_ranks : (s : Shape) (t : Table) (x : ℕ) (key : List Value) → IsTrue (is_sorted (index_at s x).kind)
     → of_key s t x key ≡ drop (look.lower_rank s t x key) (take (look.upper_rank s t x key) (view s t x))
 of_key_ranks s t x key is =
     filter_like _ _ (λ id. le_and_ge (compare_to_id (index_at s x) t key id)) (view s t x)
@@ -250,7 +250,7 @@ lower-le-upper s t x key =
 pub upper-le-length : (s : Shape) (t : Table) (x : ℕ) (key : List Value) → look.upper_rank s t x key ≤ length (view s t x)
 upper-le-length s t x key = count_by-le-length _ (view s t x)
 
-pub length-segment : (from to : ℕ) (ids : List ℕ) → to ≤ length ids → length (drop from (take to ids)) ≡ to - from
+length-segment : (from to : ℕ) (ids : List ℕ) → to ≤ length ids → length (drop from (take to ids)) ≡ to - from
 length-segment from to ids within =
     let dropped : length (drop from (take to ids)) ≡ length (take to ids) - from = length-drop from (take to ids) in
     let taken : length (take to ids) ≡ min to (length ids) = length-take to ids in

@@ -84,7 +84,7 @@ shown_hashed Ranked order ids is = absurd (cc)
 shown_hashed Sequenced order ids is = refl
 
 -- an insert adds the new id behind those of its key, and to no other
-pub of_key-insert : (s : Shape) (r : List Value) (t : Table) (x : ℕ) (key : List Value)
+of_key-insert : (s : Shape) (r : List Value) (t : Table) (x : ℕ) (key : List Value)
     → (index_at s x).kind ≡ Hashed → x < length t.lists → Lacks t.next (list_of t x)
     → of_key s (insert None r t) x key ≡ of_key s t x key ++ filter (λ id. is_eq (compare_to_id (index_at s x) (insert None r t) key id)) (t.next ∷ [])
 of_key-insert s r t x key hashed within lacks =
@@ -362,7 +362,7 @@ pub same_insert_before : (s : Shape) (y b : ℕ) (r : List Value) (t u : Table)
 same_insert_before s y b r t u long is fresh_t fresh_u a =
     insert_at_any s y b r t.rows t.next t.arrivals t.lists u.lists u.rows u.next u.arrivals a.rows a.next a.arrivals long is fresh_t fresh_u a
 
-pub same_erase_all : (s : Shape) (ids : List ℕ) (t u : Table) → SameTable s t u → SameTable s (erase_all ids t) (erase_all ids u)
+same_erase_all : (s : Shape) (ids : List ℕ) (t u : Table) → SameTable s t u → SameTable s (erase_all ids t) (erase_all ids u)
 same_erase_all s [] t u a = a
 same_erase_all s (e ∷ ids) t u a = same_erase_all s ids (erase e t) (erase e u) (same_erase s e t u a)
 

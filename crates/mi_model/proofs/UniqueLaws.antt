@@ -31,7 +31,7 @@ use Rattle.mi_model.specs.Change.{insert, put, erase, erase_all, relocate}
 use Rattle.mi_model.specs.Verdict.{Outcome, is_spent, has_place, as_unique, unless, insert_refusal, insert_outcome, replace_refusal}
 use Rattle.mi_model.specs.Verdict.{replace_outcome, refused_modify, modified, modify_outcome, erase_outcome, erase_key_outcome, relocate_outcome}
 use Rattle.mi_model.specs.Database.{Database, IsDatabase, opened_database, schema_of, table_of, on_table, depth, started, undone, undone_times, squashed}
-use Rattle.mi_model.specs.Run.{Command, after, run}
+use Rattle.mi_model.specs.Run.{Command, after_command, run}
 use Rattle.mi_model.specs.Run.Command.{Insert, Replace, Modify, Erase, EraseKey, Relocate, Start, Undo, Squash, Commit, UndoAll}
 use Rattle.mi_model.specs.Unique.{HasUniqueKeys, UniqueEverywhere, UniqueKeysStayUnique, TablesStayWellFormed}
 use Rattle.mi_model.proofs.ViewLaws.{compare_rows_total, lookup_without, lookup_push, lookup_set}
@@ -269,7 +269,7 @@ either_way true x y p q = p
 either_way false x y p q = q
 
 -- each command, accepted or refused
-pub unique_after : (c : Command) (d : Database) → IsDatabase d → UniqueEverywhere d → UniqueEverywhere (after c d)
+unique_after : (c : Command) (d : Database) → IsDatabase d → UniqueEverywhere d → UniqueEverywhere (after_command c d)
 unique_after (Insert n at r) d is unique = on_table_unique n (λ s t. insert_outcome s at r t) (λ s t. insert_unique s at r t) d is unique
 unique_after (Replace n e r) d is unique = on_table_unique n (λ s t. replace_outcome s e r t) (λ s t _. replace_unique s e r t) d is unique
 unique_after (Modify n e edits rollback) d is unique = on_table_unique n
@@ -293,7 +293,7 @@ unique_after UndoAll d is unique = undone_times_unique (depth d) d unique
 
 unique_run : (cs : List Command) (d : Database) → IsDatabase d → UniqueEverywhere d → UniqueEverywhere (run cs d)
 unique_run [] d is unique = unique
-unique_run (c ∷ cs) d is unique = unique_run cs (after c d) (is_database_after c d is) (unique_after c d is unique)
+unique_run (c ∷ cs) d is unique = unique_run cs (after_command c d) (is_database_after c d is) (unique_after c d is unique)
 
 -- an opened database has empty tables
 opened_whole : (shapes : List Shape) → AllZip IsTable shapes (map opened shapes)
@@ -304,7 +304,7 @@ opened_unique : (shapes : List Shape) → AllZip HasUniqueKeys shapes (map opene
 opened_unique [] = tt
 opened_unique (s ∷ shapes) = (λ x a b p is here there ne. absurd (let h : false ≡ true = here in cc), opened_unique shapes)
 
-pub opened_is_database : (c : CatalogShape) → IsDatabase (opened_database c)
+opened_is_database : (c : CatalogShape) → IsDatabase (opened_database c)
 opened_is_database c = record { tables = opened_whole c.tables; old = tt; numbered = (omega arith) }
 
 pub tables_stay_well_formed : TablesStayWellFormed

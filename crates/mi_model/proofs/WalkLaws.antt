@@ -21,7 +21,7 @@ use Rattle.mi_model.proofs.PlaceLaws.{IsOnce, after_at, before_at, before_first,
 
 -- how often an id stands in two lists, and in a reversed one
 
-pub times-append : (id : ℕ) (xs ys : List ℕ) → times id (xs ++ ys) ≡ times id xs + times id ys
+times-append : (id : ℕ) (xs ys : List ℕ) → times id (xs ++ ys) ≡ times id xs + times id ys
 times-append id [] ys = omega arith
 times-append id (x ∷ xs) ys = let rest : times id (xs ++ ys) ≡ times id xs + times id ys = times-append id xs ys in omega arith
 
@@ -33,7 +33,7 @@ times-reverse id (x ∷ xs) =
     let rest : times id (reverse xs) ≡ times id xs = times-reverse id xs in
     omega arith
 
-pub times-turned : (reversed : Bool) (id : ℕ) (ids : List ℕ) → times id (turned reversed ids) ≡ times id ids
+times-turned : (reversed : Bool) (id : ℕ) (ids : List ℕ) → times id (turned reversed ids) ≡ times id ids
 times-turned true id ids = times-reverse id ids
 times-turned false id ids = refl
 
@@ -54,7 +54,7 @@ pub from_at : (ids : List ℕ) → IsOnce ids → (k e : ℕ) → slice_get ids 
 from_at ids once k e at = ap (λ n. drop n ids) (rank_at k e ids once at)
 
 -- from one between others on
-pub from_middle : (xs : List ℕ) (e : ℕ) (ys : List ℕ) → IsOnce (xs ++ e ∷ ys) → from_in (xs ++ e ∷ ys) e ≡ e ∷ ys
+from_middle : (xs : List ℕ) (e : ℕ) (ys : List ℕ) → IsOnce (xs ++ e ∷ ys) → from_in (xs ++ e ∷ ys) e ≡ e ∷ ys
 from_middle xs e ys once =
     let at : slice_get (xs ++ e ∷ ys) (length xs) ≡ Some e = middle xs in
     from_at (xs ++ e ∷ ys) once (length xs) e at ∙ drop-append_seam xs (e ∷ ys)

@@ -58,7 +58,7 @@ then_equal Equal b h = (refl, h)
 then_equal Greater b h = absurd (cc)
 
 -- records of one key have the same values there
-pub equal_keys : (ps : List KeyPart) (r s : List Value) → compare_key ps r s ≡ Equal → key_values ps r ≡ key_values ps s
+equal_keys : (ps : List KeyPart) (r s : List Value) → compare_key ps r s ≡ Equal → key_values ps r ≡ key_values ps s
 equal_keys [] r s h = refl
 equal_keys (p ∷ ps) r s h =
     let both = then_equal (compare_part p r s) (compare_key ps r s) h in

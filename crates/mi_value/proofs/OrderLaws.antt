@@ -52,7 +52,7 @@ in_turn_is (Flag b) (Flag c) = refl
 same_total : {K : Type 0} (R S : K → K → Ordering) → ((x y : K) → R x y ≡ S x y) → IsTotalOrder R → IsTotalOrder S
 same_total R S same o = subst IsTotalOrder (λ i x y. same x y i) o
 
-pub compare_value_total : IsTotalOrder compare_value
+compare_value_total : IsTotalOrder compare_value
 compare_value_total =
     same_total in_turn compare_value in_turn_is
     (then_total (on_total type_number nat_cmp_total)
@@ -65,7 +65,7 @@ directed_total true =
     let up : IsTotalOrder compare_missing = options_total compare_value_total in
     same_total (flip_args compare_missing) (λ a b. ordering_reverse (compare_missing a b)) (λ a b. up.antisymm b a) (back_total up)
 
-pub compare_part_total : (p : KeyPart) → IsTotalOrder (compare_part p)
+compare_part_total : (p : KeyPart) → IsTotalOrder (compare_part p)
 compare_part_total p = on_total (λ (r : List Value). slice_get r p.column) (directed_total p.descending)
 
 equal_total : {K : Type 0} → IsTotalOrder (λ (x y : K). Equal)
