@@ -105,7 +105,7 @@ returned_later : (a e : ℕ) (d : Data) (k : Kept) (o : Option Kept) → kept_of
 returned_later a e d k None was is = (λ same. none_some (sym was ∙ subst (λ q. kept_of d.kept q ≡ Some k) (sym same) is), is)
 returned_later a e d k (Some m) was is = let h : (e ≢ a) × (kept_of d.kept e ≡ Some k) = kept_still a e d.kept k is in (λ same. h.0 (sym same), h.1)
 
-later : (j : Inverse) (e : ℕ) (d : Data) (k : Kept) → kept_of (taken_back j d).kept e ≡ Some k → IsNot e (keeps j) × (kept_of d.kept e ≡ Some k)
+pub later : (j : Inverse) (e : ℕ) (d : Data) (k : Kept) → kept_of (taken_back j d).kept e ≡ Some k → IsNot e (keeps j) × (kept_of d.kept e ≡ Some k)
 later (Inserted a) e d k is = (tt, is)
 later (Put a old) e d k is = (tt, is)
 later (Erased a why) e d k is = returned_later a.id e d k (kept_of d.kept a.id) refl is

@@ -163,7 +163,7 @@ module _ {T : Type 0} (order : T → T → Ordering) (place : T → Ordering) (m
   if_here None = None
   if_here (Some r) = cond (is_node_at place m r) (Some r) None
 
-  found : (rs : List Ref) → Rising (side order m s) rs → first_where (is_node_at place m) rs ≡ if_here (first_where (is_past_node false place m) rs)
+  pub found : (rs : List Ref) → Rising (side order m s) rs → first_where (is_node_at place m) rs ≡ if_here (first_where (is_past_node false place m) rs)
   found [] h = refl
   found (r ∷ rs) h =
       let P = is_past_node false place m in let H = is_node_at place m in
