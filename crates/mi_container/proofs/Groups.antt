@@ -21,9 +21,9 @@ use Rattle.mi_model.specs.Table.{times}
 use Rattle.mi_model.specs.Change.{without}
 use Rattle.mi_model.proofs.SortLaws.{both_ways}
 use Rattle.mi_model.proofs.ViewLaws.{Lacks, none_is, filter_alike, filter_swap}
-use Rattle.mi_container.specs.Data.{Content, Node, Order, parts_of, has_stamps, node_of, content_in, content_of, stamp_of, by_stamp, listed, lists_from}
+use Rattle.mi_container.specs.Data.{Content, Node, Order, parts_of, has_stamps, node_of, content_in, content_of, stamp_of, ids_by_stamp, listed, lists_from}
 use Rattle.mi_container.specs.Data.Order.{ById, ByKey, ByHash, Listed}
-use Rattle.mi_container.specs.Changes.{left_out, with_content, in_order, ref_of, head_of, link_of, group, link_in, links_from}
+use Rattle.mi_container.specs.Changes.{left_out, with_content, in_order, ref_of, head_of, link_of_id, group, link_in, links_from}
 use Rattle.mi_container.specs.Inverse.{OldPlace, old_place, old_places}
 use Rattle.mi_container.specs.Fits.{IsThere, IsNot, last_or, MeetByStamp, MeetIn, AllMeet, PlaceMeets, PlacesMeet}
 use Rattle.mi_container.proofs.Pairs.{lookup_out}
@@ -92,22 +92,23 @@ group_erased : (ps : List KeyPart) (x e : ℕ) (rows : List (ℕ × Node)) (r : 
 group_erased ps x e rows r =
     ap (filter (has_key ps (left_out e rows) r)) (by_stamp_erase x e rows)
     ∙ filter_alike e (has_key ps (left_out e rows) r) (has_key ps rows r)
-    (λ a ne. ap (λ o. is_eq (compare_key ps r (content_in o).values)) (lookup_out a e rows ne)) (without e (by_stamp x rows)) (none_is e (by_stamp x rows))
-    ∙ filter_swap (has_key ps rows r) (λ a. not (a == e)) (by_stamp x rows)
+    (λ a ne. ap (λ o. is_eq (compare_key ps r (content_in o).values)) (lookup_out a e rows ne))
+    (without e (ids_by_stamp x rows)) (none_is e (ids_by_stamp x rows))
+    ∙ filter_swap (has_key ps rows r) (λ a. not (a == e)) (ids_by_stamp x rows)
 
 -- without one whose key changed
 group_put : (ps : List KeyPart) (x e : ℕ) (c : Content) (rows : List (ℕ × Node)) (r : List Value)
-    → IsThere rows e → by_stamp x (with_content e c rows) ≡ without e (by_stamp x rows) ++ e ∷ []
+    → IsThere rows e → ids_by_stamp x (with_content e c rows) ≡ without e (ids_by_stamp x rows) ++ e ∷ []
     → is_eq (compare_key ps r c.values) ≡ false → group ps x (with_content e c rows) r ≡ without e (group ps x rows r)
 group_put ps x e c rows r there moved changed =
     let new : has_key ps (with_content e c rows) r e ≡ false =
     ap (λ o. is_eq (compare_key ps r (content_in o).values)) (node_with e c rows there.0 there.1) ∙ changed in
     ap (filter (has_key ps (with_content e c rows) r)) moved
-    ∙ filter_push (has_key ps (with_content e c rows) r) e (without e (by_stamp x rows)) new
+    ∙ filter_push (has_key ps (with_content e c rows) r) e (without e (ids_by_stamp x rows)) new
     ∙ filter_alike e (has_key ps (with_content e c rows) r) (has_key ps rows r)
     (λ a ne. ap (λ o. is_eq (compare_key ps r (content_in o).values)) (node_beside a e c rows ne))
-    (without e (by_stamp x rows)) (none_is e (by_stamp x rows))
-    ∙ filter_swap (has_key ps rows r) (λ a. not (a == e)) (by_stamp x rows)
+    (without e (ids_by_stamp x rows)) (none_is e (ids_by_stamp x rows))
+    ∙ filter_swap (has_key ps rows r) (λ a. not (a == e)) (ids_by_stamp x rows)
 
 -- the references stay with another content
 ref_with : (e : ℕ) (c : Content) (rows : List (ℕ × Node)) (o : Option ℕ) → IsThere rows e → ref_of (with_content e c rows) o ≡ ref_of rows o
@@ -154,23 +155,24 @@ both_of f (a ∷ ids) p q = (f a p.0 q.0, both_of f ids p.1 q.1)
 
 -- the ids of an index with stamps, in their order
 abbrev pub StampsRise : ℕ → List (ℕ × Node) → Type 0
-StampsRise x rows = Rises (on (stamp_of rows x) nat_cmp) (by_stamp x rows)
+StampsRise x rows = Rises (on (stamp_of rows x) nat_cmp) (ids_by_stamp x rows)
 
 -- where the row of e leaves its group
 group_meets : (ps : List KeyPart) (x e : ℕ) (rows other : List (ℕ × Node))
     → ((o : Option ℕ) → IsNot e o → ref_of other o ≡ ref_of rows o) → ((b : ℕ) → b ≢ e → stamp_of other x b ≡ stamp_of rows x b)
-    → Stands rows e (by_stamp x rows) → StampsRise x rows → group ps x other (content_of rows e).values ≡ without e (group ps x rows (content_of rows e).values)
-    → MeetByStamp x other (stamp_of rows x e) (link_of rows e (group ps x rows (content_of rows e).values)) (group ps x other (content_of rows e).values)
+    → Stands rows e (ids_by_stamp x rows) → StampsRise x rows
+    → group ps x other (content_of rows e).values ≡ without e (group ps x rows (content_of rows e).values)
+    → MeetByStamp x other (stamp_of rows x e) (link_of_id rows e (group ps x rows (content_of rows e).values)) (group ps x other (content_of rows e).values)
 group_meets ps x e rows other refs stamps stands up left =
     let p : ℕ → Bool = has_key ps rows (content_of rows e).values in
-    let ids : List ℕ = filter p (by_stamp x rows) in
-    let some : 0 < times e ids = subst (λ n. 0 < n) (sym (times_filter p e (by_stamp x rows) (own_key ps rows e))) stands.2 in
-    let h = neighbours_meet None e ids (once_filter p (by_stamp x rows) stands.1) some in
+    let ids : List ℕ = filter p (ids_by_stamp x rows) in
+    let some : 0 < times e ids = subst (λ n. 0 < n) (sym (times_filter p e (ids_by_stamp x rows) (own_key ps rows e))) stands.2 in
+    let h = neighbours_meet None e ids (once_filter p (ids_by_stamp x rows) stands.1) some in
     let lacks : Lacks e (h.0 ++ h.1) = subst (Lacks e) h.2 (none_is e ids) in
     let before : Lacks e h.0 = lacks_left e h.0 h.1 lacks in
     let behind : Lacks e h.1 = lacks_right e h.0 h.1 lacks in
     let order : ℕ → ℕ → Ordering = on (stamp_of rows x) nat_cmp in
-    let split = rises_split order h.0 e h.1 (subst (Rises order) h.5 (rises_filter order p (by_stamp x rows) up)) in (
+    let split = rises_split order h.0 e h.1 (subst (Rises order) h.5 (rises_filter order p (ids_by_stamp x rows) up)) in (
       h.0,
       h.1,
       left ∙ h.2,
@@ -223,7 +225,7 @@ module _ (e : ℕ) (c : Content) (rows : List (ℕ × Node)) (there : IsThere ro
 
   -- an index with stamps has the row last where its key changes
   abbrev pub MovesLast : ℕ → Order → Type 0
-  MovesLast x o = has_stamps o ≡ true → is_eq (compare_key (parts_of o) old c.values) ≡ false → by_stamp x other ≡ without e (by_stamp x rows) ++ e ∷ []
+  MovesLast x o = has_stamps o ≡ true → is_eq (compare_key (parts_of o) old c.values) ≡ false → ids_by_stamp x other ≡ without e (ids_by_stamp x rows) ++ e ∷ []
 
   place_meets : (x : ℕ) (o : Order) → Stands rows e (listed x rows o) → RisesIn rows x o → MovesLast x o
       → PlaceMeets x other c.values old (old_place x rows e old c.values o (stamp_of rows x e)) o
@@ -234,7 +236,7 @@ module _ (e : ℕ) (c : Content) (rows : List (ℕ × Node)) (there : IsThere ro
       (λ yes. subst (λ t. PlaceMeets x other c.values old (found t) (ByKey ps)) (sym yes) yes)
       (λ isnt. subst (λ t. PlaceMeets x other c.values old (found t) (ByKey ps)) (sym isnt) (isnt, tt))
   place_meets x (ByHash ps) stands up moved =
-      let found : Bool → Option OldPlace = λ t. cond t None (Some (record { stamp = stamp_of rows x e; link = link_of rows e (group ps x rows old) })) in
+      let found : Bool → Option OldPlace = λ t. cond t None (Some (record { stamp = stamp_of rows x e; link = link_of_id rows e (group ps x rows old) })) in
       both_ways (is_eq (compare_key ps old c.values))
       (λ yes. subst (λ t. PlaceMeets x other c.values old (found t) (ByHash ps)) (sym yes) yes)
       (λ isnt. subst (λ t. PlaceMeets x other c.values old (found t) (ByHash ps)) (sym isnt) (

@@ -15,8 +15,8 @@ use Rattle.mi_model.proofs.SortLaws.{both_ways}
 use Rattle.mi_model.proofs.ViewLaws.{Lacks, none_is}
 use Rattle.mi_container.specs.Data.{Node, Order, node_of, NamesDiffer}
 use Rattle.mi_container.specs.Data.Order.{ById, ByKey, ByHash, Listed}
-use Rattle.mi_container.specs.Changes.{in_order, orders_with, ref_of, head_of, next_in, prev_in, link_of, links_from, moved_order, left_out}
-use Rattle.mi_container.specs.Inverse.{id_named, id_at, relinked}
+use Rattle.mi_container.specs.Changes.{in_order, orders_with, ref_of, head_of, next_in, prev_in, link_of_id, links_from, moved_order, left_out}
+use Rattle.mi_container.specs.Inverse.{id_named, id_of_ref, relinked}
 use Rattle.mi_container.specs.Fits.{IsNot, last_or, IsThere, Meet}
 use Rattle.mi_container.proofs.Pairs.{is_itself, is_other, some_is, head_is, head_isnt, lookup_out}
 
@@ -167,7 +167,7 @@ ref_out e rows (Some b) isnt = ap (option_map (λ (n : Node). n.at)) (lookup_out
 -- where the references of other ids stay, the neighbours of one that left meet
 pub link_meets : (rows other : List (ℕ × Node)) (e : ℕ) (ids : List ℕ)
     → ((o : Option ℕ) → IsNot e o → ref_of other o ≡ ref_of rows o) → Once ids → 0 < times e ids
-    → Meet other (link_of rows e ids) (without e ids)
+    → Meet other (link_of_id rows e ids) (without e ids)
 link_meets rows other e ids alike once some =
     let h = neighbours_meet None e ids once some in
     let lacks : Lacks e (h.0 ++ h.1) = subst (Lacks e) h.2 (none_is e ids) in (
@@ -224,11 +224,11 @@ named_again (r ∷ rows) b n differ is =
 
 -- the id of a live id's reference, once another is gone
 found_again : (rows : List (ℕ × Node)) (e : ℕ) (o : Option ℕ) → NamesDiffer (left_out e rows)
-    → OtherThere rows e o → id_at (left_out e rows) (ref_of rows o) ≡ o
+    → OtherThere rows e o → id_of_ref (left_out e rows) (ref_of rows o) ≡ o
 found_again rows e None differ other = refl
 found_again rows e (Some b) differ other =
     let there : node_of (left_out e rows) b ≡ Some other.0.0 = lookup_out b e rows other.1 ∙ other.0.1 in
-    ap (λ q. id_at (left_out e rows) (option_map (λ (n : Node). n.at) q)) other.0.1 ∙ named_again (left_out e rows) b other.0.0 differ there
+    ap (λ q. id_of_ref (left_out e rows) (option_map (λ (n : Node). n.at) q)) other.0.1 ∙ named_again (left_out e rows) b other.0.0 differ there
 
 -- Over the orders of a container
 
@@ -313,7 +313,7 @@ abbrev pub Stands : List (ℕ × Node) → ℕ → List ℕ → Type 0
 Stands rows e ids = AllByRecursion (IsThere rows) ids × Once ids × (0 < times e ids)
 
 relinked_one : (rows : List (ℕ × Node)) (e : ℕ) (ids : List ℕ) → NamesDiffer (left_out e rows) → Stands rows e ids
-    → stand (id_at (left_out e rows) (ref_of rows (next_in e ids))) e (without e ids) ≡ ids
+    → stand (id_of_ref (left_out e rows) (ref_of rows (next_in e ids))) e (without e ids) ≡ ids
 relinked_one rows e ids differ s =
     ap (λ o. stand o e (without e ids)) (found_again rows e (next_in e ids) differ (next_is_other rows e ids s.0 s.1)) ∙ stands_again e ids s.1 s.2
 
@@ -325,7 +325,7 @@ relinked_back x rows e (ById ∷ os) differ all = ap (λ q. ById ∷ q) (relinke
 relinked_back x rows e (ByKey ps ∷ os) differ all = ap (λ q. ByKey ps ∷ q) (relinked_back (suc x) rows e os differ all.1)
 relinked_back x rows e (ByHash ps ∷ os) differ all = ap (λ q. ByHash ps ∷ q) (relinked_back (suc x) rows e os differ all.1)
 relinked_back x rows e (Listed ids ∷ os) differ all =
-    let here : stand (id_at (left_out e rows) (ref_of rows (next_in e ids))) e (without e ids) ≡ ids = relinked_one rows e ids differ all.0 in
+    let here : stand (id_of_ref (left_out e rows) (ref_of rows (next_in e ids))) e (without e ids) ≡ ids = relinked_one rows e ids differ all.0 in
     let rest : relinked (left_out e rows) e (links_from (suc x) rows e os) (map (in_order (without e)) os)
     ≡ os = relinked_back (suc x) rows e os differ all.1 in
     λ i. Listed (here i) ∷ rest i

@@ -19,7 +19,7 @@ use Rattle.mi_model.specs.Change.{stand_before, stand, without, added, insert, m
 use Rattle.mi_model.proofs.SortLaws.{both_ways}
 use Rattle.mi_node.specs.Refs.{Ref}
 use Rattle.mi_container.specs.Data.{Content, Node, Order, Data, parts_of, has_stamps, content_in, content_of, stamp_of}
-use Rattle.mi_container.specs.Data.{by_stamp, listed, lists_from, shown_row, table_of, KindFits, KindsFit, IsData}
+use Rattle.mi_container.specs.Data.{ids_by_stamp, listed, lists_from, shown_row, table_of, KindFits, KindsFit, IsData}
 use Rattle.mi_container.specs.Data.Order.{ById, ByKey, ByHash, Listed}
 use Rattle.mi_container.specs.Changes.{left_out, with_content, new_content, in_order, new_stamp, new_node, orders_with}
 use Rattle.mi_container.specs.Changes.{inserted, replaced, erased_node, erased, moved_order, relocated_in}
@@ -84,7 +84,7 @@ lists_moved rows g x (o ∷ os) (suc k) is = ap (λ q. listed x rows o ∷ q) (l
 -- Insert
 
 stamped_last : (s : Shape) (at : Ref) (r : List Value) (d : Data) → IsData s d → (x : ℕ) → has_stamps (get_or d.orders x ById) ≡ true
-    → by_stamp x (d.rows ++ (d.next, new_node at r d) ∷ []) ≡ stand None d.next (by_stamp x d.rows)
+    → ids_by_stamp x (d.rows ++ (d.next, new_node at r d) ∷ []) ≡ stand None d.next (ids_by_stamp x d.rows)
 stamped_last s at r d is x has_ =
     by_stamp_insert x d.next (new_node at r d) d.rows (no_next s d is) (λ a there.
     let early : stamp_of d.rows x a < d.arrivals = stamp_early s d is x has_ a there in
@@ -187,7 +187,7 @@ row_there e d there =
 
 stamped_put : (s : Shape) (e : ℕ) (r : List Value) (d : Data) → IsData s d → IsThere d.rows e
     → (x : ℕ) → x < length d.orders → has_stamps (get_or d.orders x ById) ≡ true
-    → by_stamp x (replaced e r d).rows ≡ moved_by (parts_of (get_or d.orders x ById)) (content_of d.rows e).values r e (by_stamp x d.rows)
+    → ids_by_stamp x (replaced e r d).rows ≡ moved_by (parts_of (get_or d.orders x ById)) (content_of d.rows e).values r e (ids_by_stamp x d.rows)
 stamped_put s e r d is there x l has_ =
     let was : Content = content_of d.rows e in
     let c : Content = new_content d.orders r d.arrivals was in
@@ -198,21 +198,21 @@ stamped_put s e r d is there x l has_ =
     both_ways (is_eq (compare_key ps was.values r))
     (λ yes.
     by_stamp_stays x e c d.rows there (stamp ∙ ap (λ b. cond b (get_or was.stamps x 0) d.arrivals) yes)
-    ∙ sym (ap (λ b. cond b (by_stamp x d.rows) (without e (by_stamp x d.rows) ++ e ∷ [])) yes))
+    ∙ sym (ap (λ b. cond b (ids_by_stamp x d.rows) (without e (ids_by_stamp x d.rows) ++ e ∷ [])) yes))
     (λ isnt.
     let newest : get_or c.stamps x 0 ≡ d.arrivals = stamp ∙ ap (λ b. cond b (get_or was.stamps x 0) d.arrivals) isnt in
     by_stamp_moves x e d.next c d.rows (rows_climb s d is) there
     (λ a here. subst (λ n. stamp_of d.rows x a < n) (sym newest) (stamp_early s d is x has_ a here))
-    ∙ sym (ap (λ b. cond b (by_stamp x d.rows) (without e (by_stamp x d.rows) ++ e ∷ [])) isnt))
+    ∙ sym (ap (λ b. cond b (ids_by_stamp x d.rows) (without e (ids_by_stamp x d.rows) ++ e ∷ [])) isnt))
 
 put_one : (s : Shape) (e : ℕ) (r : List Value) (d : Data) → IsData s d → IsThere d.rows e
     → (x : ℕ) → x < length d.orders → (o : Order) → get_or d.orders x ById ≡ o
     → Moves (content_of d.rows e).values r e d.rows (replaced e r d).rows x o
 put_one s e r d is there x l ById here = ids_with e (new_content d.orders r d.arrivals (content_of d.rows e)) d.rows
 put_one s e r d is there x l (ByKey ps) here =
-    stamped_put s e r d is there x l (ap has_stamps here) ∙ ap (λ o. moved_by (parts_of o) (content_of d.rows e).values r e (by_stamp x d.rows)) here
+    stamped_put s e r d is there x l (ap has_stamps here) ∙ ap (λ o. moved_by (parts_of o) (content_of d.rows e).values r e (ids_by_stamp x d.rows)) here
 put_one s e r d is there x l (ByHash ps) here =
-    stamped_put s e r d is there x l (ap has_stamps here) ∙ ap (λ o. moved_by (parts_of o) (content_of d.rows e).values r e (by_stamp x d.rows)) here
+    stamped_put s e r d is there x l (ap has_stamps here) ∙ ap (λ o. moved_by (parts_of o) (content_of d.rows e).values r e (ids_by_stamp x d.rows)) here
 put_one s e r d is there x l (Listed ids) here = refl
 
 pub table_replaced : (s : Shape) (e : ℕ) (r : List Value) (d : Data) → IsData s d → IsThere d.rows e → table_of (replaced e r d) ≡ put s e r (table_of d)

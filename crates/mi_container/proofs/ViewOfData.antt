@@ -23,10 +23,11 @@ use Rattle.mi_model.proofs.StampLaws.{Rises, rises_once, sorted-rises}
 use Rattle.mi_model.proofs.ViewLaws.{Lacks, compare_ids_total}
 use Rattle.mi_model.proofs.TableLaws.{all_get}
 use Rattle.mi_model.proofs.PlaceLaws.{each_in_view}
-use Rattle.mi_container.specs.Data.{Node, Order, Data, has_stamps, stamp_of, by_stamp, ids_of, listed, lists_from, table_of, KindFits, KindsFit, Climbs, IsData}
+use Rattle.mi_container.specs.Data.{Node, Order, Data, has_stamps, stamp_of, ids_by_stamp, ids_of}
+use Rattle.mi_container.specs.Data.{listed, lists_from, table_of, KindFits, KindsFit, Climbs, IsData}
 use Rattle.mi_container.specs.Data.Order.{ById, ByKey, ByHash, Listed}
 use Rattle.mi_container.specs.Fits.{IsThere}
-use Rattle.mi_container.specs.Laws.{Rise, stands_before, SortedIsShown, HashedIsShown, IdsAreShown}
+use Rattle.mi_container.specs.Laws.{RiseBy, stands_before, SortedIsShown, HashedIsShown, IdsAreShown}
 use Rattle.mi_container.proofs.Sequences.{Once}
 use Rattle.mi_container.proofs.Facts.{rows_climb, each_there, each_once, stamp_there}
 
@@ -55,7 +56,7 @@ module _ (order : ℕ → ℕ → Ordering) (o : IsTotalOrder order) (P : ℕ �
   rises_strict (a ∷ ids) all once up = (all_less a ids all.0 all.1 once.0 up.0, rises_strict ids all.1 once.1 up.1)
 
 -- the same by the word of the laws
-rise_is : (order : ℕ → ℕ → Ordering) (ids : List ℕ) → Rise order ids → Rises order ids
+rise_is : (order : ℕ → ℕ → Ordering) (ids : List ℕ) → RiseBy order ids → Rises order ids
 rise_is order [] up = tt
 rise_is order (a ∷ ids) up = (up.0, rise_is order ids up.1)
 
@@ -113,13 +114,14 @@ module _ (s : Shape) (d : Data) (is : IsData s d) (x : ℕ) (l : x < length d.or
       let stamps : stamp_of d.rows x a ≡ stamp_of d.rows x b = ranked (stamp_of d.rows x a) (stamp_of d.rows x b) Equal (sym same) in
       ne (is.apart a b p.0 q.0 x p.1 q.1 has_ (sym (stamp_there d.rows x a p) ∙ stamps ∙ stamp_there d.rows x b q))
 
-  stamps_rise : has_stamps (get_or d.orders x ById) ≡ true → ListsEach t (by_stamp x d.rows) → Rises (on (stamp_of d.rows x) nat_cmp) (by_stamp x d.rows)
+  stamps_rise : has_stamps (get_or d.orders x ById) ≡ true → ListsEach t (ids_by_stamp x d.rows)
+      → Rises (on (stamp_of d.rows x) nat_cmp) (ids_by_stamp x d.rows)
   stamps_rise has_ each =
-      rises_strict (on (stamp_of d.rows x) nat_cmp) (on_total (stamp_of d.rows x) nat_cmp_total) (IsThere d.rows) (stamps_differ has_) (by_stamp x d.rows)
-      (each_there d (by_stamp x d.rows) each) (each_once t (by_stamp x d.rows) each)
+      rises_strict (on (stamp_of d.rows x) nat_cmp) (on_total (stamp_of d.rows x) nat_cmp_total) (IsThere d.rows) (stamps_differ has_) (ids_by_stamp x d.rows)
+      (each_there d (ids_by_stamp x d.rows) each) (each_once t (ids_by_stamp x d.rows) each)
       (ascends_sorted (on_total (stamp_of d.rows x) nat_cmp_total) (ids_of d.rows))
 
-one_stamped : (o : Order) (x : ℕ) (rows : List (ℕ × Node)) → has_stamps o ≡ true → listed x rows o ≡ by_stamp x rows
+one_stamped : (o : Order) (x : ℕ) (rows : List (ℕ × Node)) → has_stamps o ≡ true → listed x rows o ≡ ids_by_stamp x rows
 one_stamped ById x rows has_ = absurd (false≢true has_)
 one_stamped (ByKey ps) x rows has_ = refl
 one_stamped (ByHash ps) x rows has_ = refl
@@ -127,7 +129,7 @@ one_stamped (Listed ids) x rows has_ = absurd (false≢true has_)
 
 -- the stamps of an index that has them rise
 pub stamps_rise_in : (s : Shape) (d : Data) → IsData s d → (x : ℕ) → x < length d.orders
-    → has_stamps (get_or d.orders x ById) ≡ true → Rises (on (stamp_of d.rows x) nat_cmp) (by_stamp x d.rows)
+    → has_stamps (get_or d.orders x ById) ≡ true → Rises (on (stamp_of d.rows x) nat_cmp) (ids_by_stamp x d.rows)
 stamps_rise_in s d is x l has_ =
     stamps_rise s d is x l has_ (subst (ListsEach (table_of d)) (list_at s d is x l ∙ one_stamped (get_or d.orders x ById) x d.rows has_) (each_at s d is x l))
 
@@ -136,13 +138,14 @@ keyed_rises : (s : Shape) (d : Data) (is : IsData s d) (x : ℕ) (ps : List KeyP
     → get_or d.orders x ById ≡ ByKey ps → Rises (stands_before s d x) (view s (table_of d) x)
 keyed_rises s d is x ps l here =
     let fits : KindFits (index_at s x) (ByKey ps) = subst (KindFits (index_at s x)) here (no_index_sorted s.indexes d.orders x _ is.kinds l) in
-    let list : list_of (table_of d) x ≡ by_stamp x d.rows = list_at s d is x l ∙ ap (listed x d.rows) here in
-    let each : ListsEach (table_of d) (by_stamp x d.rows) = subst (ListsEach (table_of d)) list (each_at s d is x l) in
+    let list : list_of (table_of d) x ≡ ids_by_stamp x d.rows = list_at s d is x l ∙ ap (listed x d.rows) here in
+    let each : ListsEach (table_of d) (ids_by_stamp x d.rows) = subst (ListsEach (table_of d)) list (each_at s d is x l) in
     let up = stamps_rise s d is x l (ap has_stamps here) each in
-    let whole : view s (table_of d) x ≡ sorted (compare_ids (index_at s x) (table_of d)) (by_stamp x d.rows) =
+    let whole : view s (table_of d) x ≡ sorted (compare_ids (index_at s x) (table_of d)) (ids_by_stamp x d.rows) =
     shown_sorted (index_at s x).kind (compare_ids (index_at s x) (table_of d)) (list_of (table_of d) x) fits.0
     ∙ ap (sorted (compare_ids (index_at s x) (table_of d))) list in
-    subst (Rises (stands_before s d x)) (sym whole) (sorted-rises (compare_ids_total (index_at s x) (table_of d)) (stamp_of d.rows x) (by_stamp x d.rows) up)
+    subst (Rises (stands_before s d x)) (sym whole)
+    (sorted-rises (compare_ids_total (index_at s x) (table_of d)) (stamp_of d.rows x) (ids_by_stamp x d.rows) up)
 
 pub sorted_is_shown : SortedIsShown
 sorted_is_shown s d x ps ids is l here each up =
@@ -155,9 +158,9 @@ sorted_is_shown s d x ps ids is l here each up =
 pub hashed_is_shown : HashedIsShown
 hashed_is_shown s d x ps ids is l here each up =
     let fits : KindFits (index_at s x) (ByHash ps) = subst (KindFits (index_at s x)) here (no_index_sorted s.indexes d.orders x _ is.kinds l) in
-    let list : list_of (table_of d) x ≡ by_stamp x d.rows = list_at s d is x l ∙ ap (listed x d.rows) here in
-    let all : ListsEach (table_of d) (by_stamp x d.rows) = subst (ListsEach (table_of d)) list (each_at s d is x l) in
-    rises_once (on (stamp_of d.rows x) nat_cmp) (on_total (stamp_of d.rows x) nat_cmp_total) ids (by_stamp x d.rows)
+    let list : list_of (table_of d) x ≡ ids_by_stamp x d.rows = list_at s d is x l ∙ ap (listed x d.rows) here in
+    let all : ListsEach (table_of d) (ids_by_stamp x d.rows) = subst (ListsEach (table_of d)) list (each_at s d is x l) in
+    rises_once (on (stamp_of d.rows x) nat_cmp) (on_total (stamp_of d.rows x) nat_cmp_total) ids (ids_by_stamp x d.rows)
     (rise_is (on (stamp_of d.rows x) nat_cmp) ids up) (stamps_rise s d is x l (ap has_stamps here) all) (λ id. each id ∙ sym (all id))
     ∙ sym list ∙ sym (shown_hashed (index_at s x).kind (compare_ids (index_at s x) (table_of d)) (list_of (table_of d) x) fits.0)
 

@@ -20,7 +20,7 @@ use Rattle.mi_value.proofs.OrderLaws.{compare_key_total, directed_total, prefix_
 use Rattle.mi_value.proofs.Hashes.{equal_hashes}
 use Rattle.mi_index.specs.declared.stored.Stored.{Stored}
 use Rattle.mi_index.specs.Mixing.{mixed}
-use Rattle.mi_index.specs.Orders.{keying_hash, sought_hash, has_one_key, is_whole, is_key, KeyingsAreLawful}
+use Rattle.mi_index.specs.Orders.{keying_hash, sought_hash, has_one_key, is_whole, is_key_of, KeyingsAreLawful}
 
 both_equal : (a b : Ordering) → ordering_then a b ≡ Equal → (a ≡ Equal) × (b ≡ Equal)
 both_equal Less b h = absurd (cc)
@@ -105,20 +105,20 @@ whole ps vs r h =
     let both = two_true (length vs == length ps) (is_eq (compare_prefix ps vs r)) h in
     record { long = eqb-true (length vs) (length ps) both.0; equal = equal_of (compare_prefix ps vs r) both.1 }
 
-key_agrees : (ps : List KeyPart) (x y : Stored) (p : Probe) → has_one_key ps x y ≡ true → is_key ps x p ≡ true → is_key ps y p ≡ true
+key_agrees : (ps : List KeyPart) (x y : Stored) (p : Probe) → has_one_key ps x y ≡ true → is_key_of ps x p ≡ true → is_key_of ps y p ≡ true
 key_agrees ps x y (Key vs) e h =
     sym (ap (λ o. (length vs.now == length ps) && is_eq o) (prefix_alike ps vs.now x.row y.row (equal_of (compare_key ps x.row y.row) e))) ∙ h
 key_agrees ps x y (Of q) e h =
     let o : IsTotalOrder (compare_key ps) = compare_key_total ps in ap is_eq (sym (o.congr x.row y.row q.now (equal_of (compare_key ps x.row y.row) e))) ∙ h
 
-key_alone : (ps : List KeyPart) (x y : Stored) (p : Probe) → is_key ps x p ≡ true → is_key ps y p ≡ true → has_one_key ps x y ≡ true
+key_alone : (ps : List KeyPart) (x y : Stored) (p : Probe) → is_key_of ps x p ≡ true → is_key_of ps y p ≡ true → has_one_key ps x y ≡ true
 key_alone ps x y (Key vs) g h =
     let a = whole ps vs.now x.row g in let b = whole ps vs.now y.row h in ap is_eq (whole_same ps vs.now x.row y.row a.long a.equal b.equal)
 key_alone ps x y (Of q) g h =
     let o : IsTotalOrder (compare_key ps) = compare_key_total ps in
     ap is_eq (o.congr x.row q.now y.row (equal_of (compare_key ps x.row q.now) g) ∙ tied_back o y.row q.now (equal_of (compare_key ps y.row q.now) h))
 
-key_hash : (ps : List KeyPart) (x : Stored) (p : Probe) → is_key ps x p ≡ true → keying_hash ps x ≡ sought_hash ps p
+key_hash : (ps : List KeyPart) (x : Stored) (p : Probe) → is_key_of ps x p ≡ true → keying_hash ps x ≡ sought_hash ps p
 key_hash ps x (Key vs) h = let a = whole ps vs.now x.row h in ap values_hash (whole_values ps vs.now x.row a.long a.equal)
 key_hash ps x (Of q) h = equal_hashes ps x.row q.now (equal_of (compare_key ps x.row q.now) h)
 

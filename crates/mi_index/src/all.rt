@@ -209,7 +209,8 @@ pub(crate) fn add_structures(
     made: &mut Vec<Structure>,
 ) -> Result<(), AllocError>
     requires { slot + length indexes.now < 2 ^ 64 }
-    ensures { IfOk result (λ _. (ys : Seq One) × (made.new.items ≡ made.old.items ++ ys) × opened.AllFor columns.now indexes.now slot ys × opened.AllEmpty ys) }
+    ensures { IfOk result (λ _. (ys : Seq One) × (made.new.items ≡ made.old.items ++ ys)
+        × opened.AllOpenedFor columns.now indexes.now slot ys × opened.AllEmpty ys) }
 {
     if let Some((index, rest)) = indexes.split_first() {
         made.push(Structure::new(alloc, slot, index, columns, secret)?)?;

@@ -41,7 +41,7 @@ impl Structure {
         columns: &[Column],
         secret: u64,
     ) -> Result<Structure, AllocError>
-        ensures { IfOk result (λ x. opened.IsFor columns.now index.now slot x × opened.IsEmpty x) }
+        ensures { IfOk result (λ x. opened.IsOpenedFor columns.now index.now slot x × opened.IsEmpty x) }
     {
         match index.kind {
             IndexKind::Ordered | IndexKind::Ranked => {

@@ -29,7 +29,7 @@ use Rattle.mi_index.specs.Passes.{returned as comes_back, returning}
 use Rattle.mi_container.specs.Data.{Link, Data, Order, kept_of, has_stamps, IsData}
 use Rattle.mi_container.specs.Data.Order.{ById, Listed}
 use Rattle.mi_container.specs.Changes.{entered, left_out}
-use Rattle.mi_container.specs.Inverse.{id_at as id_of_ref, relinked, returned}
+use Rattle.mi_container.specs.Inverse.{id_of_ref, relinked, returned}
 use Rattle.mi_container.specs.Fits.{AllMeet}
 use Rattle.mi_container.proofs.Pairs.{climbs_some, some_is, is_other}
 use Rattle.mi_container.proofs.Sequences.{named_again, lacks_left}

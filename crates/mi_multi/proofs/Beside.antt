@@ -20,8 +20,8 @@ use Rattle.mi_chain.specs.Keying.{same_nodes, same_values}
 use Rattle.mi_index.specs.declared.stored.Stored.{Stored}
 use Rattle.mi_index.specs.Orders.{keying_of, has_one_key}
 use Rattle.mi_index.specs.declared.orders.ByHash.{ByHash as HashedBy}
-use Rattle.mi_container.specs.Data.{Order, node_of, content_of, content_in, by_stamp}
-use Rattle.mi_container.specs.Changes.{link_of as link_at, group}
+use Rattle.mi_container.specs.Data.{Order, node_of, content_of, content_in, ids_by_stamp}
+use Rattle.mi_container.specs.Changes.{link_of_id as link_at, group}
 use Rattle.mi_container.proofs.Sequences.{lacks_left}
 use Rattle.mi_ids.specs.declared.entry.IdEntry.{IdEntry}
 use Rattle.mi_multi.specs.Physical.{id_in, record_in, node_in}
@@ -122,7 +122,7 @@ module _ (ids : FinMap nat_cmp IdEntry) (m n : Pooled Stored) (os : List Order)
     link_listed = link_middle (id_at m) (rows ids m os) e xs r ys (itself id_is) lacks (rows_of ids m os xs before) (rows_of ids m os ys behind)
 
     -- among the nodes of its key
-    pub link_hashed : (h : HashedBy) (x : ℕ) → by_stamp x (rows ids m os) ≡ ids_at m (xs ++ r ∷ ys)
+    pub link_hashed : (h : HashedBy) (x : ℕ) → ids_by_stamp x (rows ids m os) ≡ ids_at m (xs ++ r ∷ ys)
         → link_at (rows ids m os) e (group h.parts x (rows ids m os) (content_of (rows ids m os) e).values)
         ≡ record { back = last_of None (filter (same_nodes (keying_of h) n r) xs); forth = first_of (filter (same_nodes (keying_of h) n r) ys) None }
     link_hashed h x by =

@@ -31,7 +31,7 @@ use Rattle.mi_index.specs.declared.stored.Stored.{Stored}
 use Rattle.mi_index.specs.declared.structure.Structure.{Structure}
 use Rattle.mi_index.specs.declared.structure.Structure.TheVariants.{Ordered, Hashed, Sequenced}
 use Rattle.mi_index.specs.Looks as nodes
-use Rattle.mi_index.specs.Orders.{place_in, is_key as is_key_of}
+use Rattle.mi_index.specs.Orders.{place_in, is_key_of}
 use Rattle.mi_index.specs.Standing.{Stands}
 use Rattle.mi_container.specs.Data.{IsData, table_of}
 use Rattle.mi_ids.specs.declared.entry.IdEntry.{IdEntry}

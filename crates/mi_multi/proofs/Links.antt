@@ -22,9 +22,9 @@ use Rattle.mi_index.specs.declared.orders.ByHash.{ByHash as HashedBy}
 use Rattle.mi_index.specs.Standing.{slot_in, Climb}
 use Rattle.mi_index.specs.Places.{KeepsTags}
 use Rattle.mi_index.specs.Passes.{left}
-use Rattle.mi_container.specs.Data.{Node, Link, has_stamps, by_stamp, content_of, IsData}
+use Rattle.mi_container.specs.Data.{Node, Link, has_stamps, ids_by_stamp, content_of, IsData}
 use Rattle.mi_container.specs.Data.Order.{ByHash, Listed}
-use Rattle.mi_container.specs.Changes.{sorted_order, link_in, links_from, link_of as link_at, group}
+use Rattle.mi_container.specs.Changes.{sorted_order, link_in, links_from, link_of_id as link_at, group}
 use Rattle.mi_ids.specs.declared.entry.IdEntry.{IdEntry}
 use Rattle.mi_multi.specs.Physical.{order_of, orders_of, plan, neighbours_in, all_neighbours}
 use Rattle.mi_multi.specs.Multi.{ids_at, own_list, own_lists, IsFor, AreLive, HasNode, plain_of}
@@ -71,7 +71,7 @@ module _ (s : Shape) (ids : FinMap nat_cmp IdEntry) (m n : Pooled Stored) (xs : 
       → (link_of n r.name k).forth ≡ first_of (filter (same_nodes (keying_of h) n r) bs) None
       → link_in k rws e (order_of i.kind i.parts (own_list m x)) ≡ neighbours_in n r.name k (order_of i.kind i.parts [])
   in_chains k i x y rs us h hashed same climb live num as_ bs parts back forth =
-      let by : by_stamp k rws ≡ ids_at m rs =
+      let by : ids_by_stamp k rws ≡ ids_at m rs =
       by_stamp_is s (plain_of s ids m xs next arrivals) ids m (plan s.indexes) k i.parts rs is_data refl num.fewer num.few
       (num.order_is ∙ hashed_order i.kind i.parts (own_list m x) hashed) (num.plan_is ∙ hashed_order i.kind i.parts [] hashed) live climb in
       let here : link_at rws e (group h.parts k rws (content_of rws e).values)

@@ -10,7 +10,7 @@ use Rattle.mi_model.specs.Change.{stand_before, stand, without}
 use Rattle.mi_model.proofs.ViewLaws.{Lacks}
 use Rattle.mi_node.specs.Refs.{Ref, first_of, last_of}
 use Rattle.mi_container.specs.Data.{Node, node_of}
-use Rattle.mi_container.specs.Changes.{ref_of, head_of, next_in, prev_in, link_of}
+use Rattle.mi_container.specs.Changes.{ref_of, head_of, next_in, prev_in, link_of_id}
 use Rattle.mi_container.specs.Fits.{last_or}
 use Rattle.mi_container.proofs.Pairs.{is_itself, is_other}
 use Rattle.mi_container.proofs.Sequences.{drop_is, drop_isnt, without_lacks}
@@ -103,7 +103,7 @@ module _ (idf : Ref → ℕ) where
     -- the neighbours of a node in the list are those that it stands between
     pub link_middle : (e : ℕ) (xs : List Ref) (r : Ref) (ys : List Ref) → (idf r == e) ≡ true
         → Lacks e (map idf xs) → AllByRecursion IsRow xs → AllByRecursion IsRow ys
-        → link_of rows e (map idf (xs ++ r ∷ ys)) ≡ record { back = last_of None xs; forth = first_of ys None }
+        → link_of_id rows e (map idf (xs ++ r ∷ ys)) ≡ record { back = last_of None xs; forth = first_of ys None }
     link_middle e xs r ys is lacks before behind =
         let back : ref_of rows (prev_in None e (map idf (xs ++ r ∷ ys))) ≡ last_of None xs =
         ap (ref_of rows) (prev_middle None e xs r ys is lacks ∙ last_ids None xs) ∙ ref_back (last_of None xs) (last_row xs before) in

@@ -22,10 +22,10 @@ use Rattle.mi_index.specs.declared.moves.Place.{Place}
 use Rattle.mi_index.specs.declared.structure.Structure.{Structure}
 use Rattle.mi_index.specs.declared.structure.Structure.TheVariants.{Ordered, Hashed, Sequenced}
 use Rattle.mi_index.specs.Standing.{Stands, Climb}
-use Rattle.mi_index.specs.Places.{mark_at, HasNode as Holds}
+use Rattle.mi_index.specs.Places.{mark_at, IsOneOf as Holds}
 use Rattle.mi_index.specs.Looks.{IsPlaceOf}
 use Rattle.mi_container.specs.Data.{Content, Node, Order, Data, has_stamps, parts_of, content_in, content_of}
-use Rattle.mi_container.specs.Data.{stamp_of, by_stamp, KindFits, KindsFit, StampFits, StampsFit}
+use Rattle.mi_container.specs.Data.{stamp_of, ids_by_stamp, KindFits, KindsFit, StampFits, StampsFit}
 use Rattle.mi_container.specs.Data.Order.{ById, ByKey, ByHash, Listed}
 use Rattle.mi_container.specs.Changes.{sorted_order, link_in}
 use Rattle.mi_container.specs.Inverse.{OldPlace, old_place, old_places}
@@ -128,7 +128,7 @@ module _ (s : Shape) (ids : FinMap nat_cmp IdEntry) (m : Pooled Stored) (xs : Li
       let plan_is : get_or os k ById ≡ ByHash c.keys.parts = w.planned
       ∙ hashed_order (index_at s k).kind (index_at s k).parts [] w.stood.for_.0 ∙ ap ByHash (sym parts) in
       let climb : Climb (stamp_at m k) w.stood.rs = subst (λ z. Climb (stamp_at m z) w.stood.rs) slot w.stood.stands.1 in
-      let by : by_stamp k d.rows ≡ ids_at m w.stood.rs = by_stamp_is s d ids m os k c.keys.parts
+      let by : ids_by_stamp k d.rows ≡ ids_at m w.stood.rs = by_stamp_is s d ids m os k c.keys.parts
       w.stood.rs is.is_data refl w.few_orders w.few_plan order_is plan_is w.stood.live climb in
       let link : link_in k d.rows e (get_or d.orders k ById) ≡ record { back = p.back; forth = p.forth } =
       ap (link_in k d.rows e) order_is

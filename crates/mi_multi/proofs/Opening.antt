@@ -21,7 +21,7 @@ use Rattle.mi_index.specs.declared.stored.Stored.{Stored}
 use Rattle.mi_index.specs.declared.structure.Structure.{Structure}
 use Rattle.mi_index.specs.declared.structure.Structure.TheVariants.{Ordered, Hashed, Sequenced}
 use Rattle.mi_index.specs.Pass.{AllStand}
-use Rattle.mi_index.specs.Opened.{IsFor as Opens, AllFor as AllOpen, empties, IsOpened}
+use Rattle.mi_index.specs.Opened.{IsOpenedFor as Opens, AllOpenedFor as AllOpen, empties, IsOpened}
 use Rattle.mi_container.specs.Data.{IsData}
 use Rattle.mi_container.specs.Data.Order.{Listed}
 use Rattle.mi_container.specs.Changes.{order_for, opened_data}

@@ -8,7 +8,7 @@ use Rattle.mi_catalog.specs.Kinds.{is_sequenced}
 use Rattle.mi_container.specs.Data.{Node, Link}
 use Rattle.mi_container.specs.Data.Order.{ById, Listed}
 use Rattle.mi_container.specs.Changes.{in_order, sorted_order}
-use Rattle.mi_container.specs.Inverse.{id_at, relinked}
+use Rattle.mi_container.specs.Inverse.{id_of_ref, relinked}
 use Rattle.mi_model.specs.Change.{stand}
 use Rattle.mi_multi.specs.Physical.{order_of, orders_of}
 use Rattle.mi_multi.specs.Alike.{SeqBy}
@@ -57,7 +57,7 @@ Enough (i ∷ is) (l ∷ ls) = Enough is ls
 
 -- an id stands again before the neighbour that a link names
 pub orders_relinked : (rows : List (ℕ × Node)) (e : ℕ) (links : List Link) (none : Link) (g : ℕ → List ℕ → List ℕ) (is : List Index) (ls us : List (List ℕ))
-    → ((k : ℕ) → g k ≡ stand (id_at rows (get_or links k none).forth) e) → SeqBy g is ls us
+    → ((k : ℕ) → g k ≡ stand (id_of_ref rows (get_or links k none).forth) e) → SeqBy g is ls us
     → Enough is links → orders_of is us ≡ relinked rows e links (orders_of is ls)
 orders_relinked rows e [] none g [] ls us all by long = refl
 orders_relinked rows e (q ∷ links) none g [] ls us all by long = refl
@@ -65,5 +65,5 @@ orders_relinked rows e [] none g (i ∷ is) ls us all by long = absurd long
 orders_relinked rows e (q ∷ links) none g (i ∷ is) [] us all by long = absurd by
 orders_relinked rows e (q ∷ links) none g (i ∷ is) (l ∷ ls) [] all by long = absurd by
 orders_relinked rows e (q ∷ links) none g (i ∷ is) (l ∷ ls) (u ∷ us) all by long =
-    (λ j. order_by i.kind i.parts (stand (id_at rows q.forth) e) l u (λ h. by.0 h ∙ ap (λ (w : List ℕ → List ℕ). w l) (all zero)) j
+    (λ j. order_by i.kind i.parts (stand (id_of_ref rows q.forth) e) l u (λ h. by.0 h ∙ ap (λ (w : List ℕ → List ℕ). w l) (all zero)) j
     ∷ orders_relinked rows e links none (λ k. g (suc k)) is ls us (λ k. all (suc k)) by.1 long j)

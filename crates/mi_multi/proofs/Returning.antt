@@ -27,7 +27,7 @@ use Rattle.mi_index.specs.Standing.{slot_in, AllAbove, AllBelow, Climb, IsLike}
 use Rattle.mi_index.specs.Places.{own_place, CanReturn, HasOldPlace}
 use Rattle.mi_index.specs.Pass.{Gives, AllStand, AllCan, AllDone, AllLike}
 use Rattle.mi_index.specs.Passes.{returning}
-use Rattle.mi_container.specs.Data.{Node, Link, Order, Data, has_stamps, node_of, content_in, content_of, stamp_of, by_stamp, IsData}
+use Rattle.mi_container.specs.Data.{Node, Link, Order, Data, has_stamps, node_of, content_in, content_of, stamp_of, ids_by_stamp, IsData}
 use Rattle.mi_container.specs.Data.Order.{ById, ByKey, ByHash, Listed}
 use Rattle.mi_container.specs.Changes.{sorted_order, in_order, entered, group, ref_of, head_of}
 use Rattle.mi_container.specs.Inverse.{relinked}
@@ -203,7 +203,7 @@ module _ (s : Shape) (ids : FinMap nat_cmp IdEntry) (m : Pooled Stored) (xs : Li
         × ((link_of m r.name k).back ≡ last_of None (filter (same_nodes (keying_of h) m r) us))
         × ((link_of m r.name k).forth ≡ first_of (filter (same_nodes (keying_of h) m r) vs) None)
 
-    in_chains : (k : ℕ) (h : HashedBy) (rs : List Ref) → by_stamp k d.rows ≡ ids_at m rs → AreLive ids m rs
+    in_chains : (k : ℕ) (h : HashedBy) (rs : List Ref) → ids_by_stamp k d.rows ≡ ids_at m rs → AreLive ids m rs
         → Climb (stamp_at m k) rs → k < length os → has_stamps (get_or os k ById) ≡ true
         → (a : ℕ) → a ≡ (link_of m r.name k).tag.stamp
         → MeetByStamp k d.rows a (record { back = (link_of m r.name k).back; forth = (link_of m r.name k).forth })
@@ -279,7 +279,8 @@ module _ (s : Shape) (ids : FinMap nat_cmp IdEntry) (m : Pooled Stored) (xs : Li
         let climb : Climb (stamp_at m k) rs = subst (λ w. Climb (stamp_at m w) rs) slot h.0.was.1 in
         let order_is : get_or d.orders k ById ≡ ByHash i.parts = h.1.order_is ∙ hashed_order i.kind i.parts (own_list m (Hashed c)) hashed in
         let plan_is : get_or os k ById ≡ ByHash i.parts = h.1.plan_is ∙ hashed_order i.kind i.parts [] hashed in
-        let by : by_stamp k d.rows ≡ ids_at m rs = by_stamp_is s d ids m os k i.parts rs is.is_data refl h.1.fewer h.1.few order_is plan_is h.0.live climb in
+        let by : ids_by_stamp k d.rows ≡ ids_at m rs = by_stamp_is s d ids m os k i.parts rs
+        is.is_data refl h.1.fewer h.1.few order_is plan_is h.0.live climb in
         let zeroed : 0 + k ≡ k = omega arith in
         let stamp : get_or (stamps_in m r.name 0 os) k 0 ≡ (link_of m r.name k).tag.stamp =
         stamps_at m r.name 0 os k h.1.few ∙ ap (λ z. stamp_in m r.name z (get_or os k ById)) zeroed ∙ ap (stamp_in m r.name k) plan_is in

@@ -35,7 +35,7 @@ use Rattle.mi_index.specs.Standing.{Climb}
 use Rattle.mi_container.specs.Data.{Node, Order, Data, has_stamps, stamp_of, ids_of, listed, lists_from, table_of, Climbs}
 use Rattle.mi_container.specs.Data.Order.{ById}
 use Rattle.mi_container.specs.Changes.{sorted_order}
-use Rattle.mi_container.specs.Laws.{Rise, stands_before}
+use Rattle.mi_container.specs.Laws.{RiseBy, stands_before}
 use Rattle.mi_container.proofs.Facts.{each_once, rows_climb}
 use Rattle.mi_container.proofs.Sequences.{Once}
 use Rattle.mi_container.proofs.ViewOfData.{sorted_is_shown, hashed_is_shown, ids_are_shown}
@@ -49,7 +49,7 @@ use Rattle.mi_multi.proofs.Every.{own_is, sorted_parts, hashed_order, sequenced_
 use Rattle.mi_multi.proofs.Answers.{record_of}
 use Rattle.mi_multi.proofs.Numbers.{Numbered}
 
-rise_of : (order : ℕ → ℕ → Ordering) (ids : List ℕ) → Rises order ids → Rise order ids
+rise_of : (order : ℕ → ℕ → Ordering) (ids : List ℕ) → Rises order ids → RiseBy order ids
 rise_of order [] up = tt
 rise_of order (a ∷ ids) up = (up.0, rise_of order ids up.1)
 
@@ -134,7 +134,7 @@ module _ (s : Shape) (ids : FinMap nat_cmp IdEntry) (m : Pooled Stored) (xs : Li
 
     keyed_rise : (ps : List KeyPart) → i.parts ≡ ps → has_stamps (sorted_order ps) ≡ true → sorted_order ps ≡ order_of i.kind i.parts []
         → (qs : List Ref) → AllByRecursion (IsLiveRef ids m) qs → Rising (side (stored_order ps) m x) qs
-        → Rise (stands_before s d x) (ids_at m qs)
+        → RiseBy (stands_before s d x) (ids_at m qs)
     keyed_rise ps parts has plan [] live up = tt
     keyed_rise ps parts has plan (q ∷ qs) live up = (all_less ps parts has plan q qs live.0 live.1 up.0, keyed_rise ps parts has plan qs live.1 up.1)
 

@@ -20,7 +20,7 @@ use Rattle.mi_node.specs.Refs.{Ref}
 use Rattle.mi_chain.specs.Keying.{stamp_at}
 use Rattle.mi_index.specs.declared.stored.Stored.{Stored}
 use Rattle.mi_index.specs.Standing.{AllAbove, Climb}
-use Rattle.mi_container.specs.Data.{Node, Order, Data, has_stamps, node_of, content_in, stamp_of, by_stamp, listed, lists_from, table_of, IsData}
+use Rattle.mi_container.specs.Data.{Node, Order, Data, has_stamps, node_of, content_in, stamp_of, ids_by_stamp, listed, lists_from, table_of, IsData}
 use Rattle.mi_container.specs.Data.Order.{ById, ByKey, ByHash, Listed}
 use Rattle.mi_container.proofs.Facts.{lookup_shown}
 use Rattle.mi_container.proofs.ViewOfData.{stamps_rise_in}
@@ -45,12 +45,12 @@ stamp_given m q x (Listed l) h = absurd (false≢true h)
 
 -- the list of a hashed index, as the table has it
 list_in : (P : List ℕ → Type 0) (y : ℕ) (rows : List (ℕ × Node)) (os : List Order) (k : ℕ) (ps : List KeyPart)
-    → AllByRecursion P (lists_from y rows os) → k < length os → get_or os k ById ≡ ByHash ps → P (by_stamp (y + k) rows)
+    → AllByRecursion P (lists_from y rows os) → k < length os → get_or os k ById ≡ ByHash ps → P (ids_by_stamp (y + k) rows)
 list_in P y rows [] k ps all l is = absurd (omega arith)
 list_in P y rows (o ∷ os) zero ps all l is =
-    let here : y ≡ y + 0 = omega arith in subst (λ x. P (by_stamp x rows)) here (subst (λ q. P (listed y rows q)) is all.0)
+    let here : y ≡ y + 0 = omega arith in subst (λ x. P (ids_by_stamp x rows)) here (subst (λ q. P (listed y rows q)) is all.0)
 list_in P y rows (o ∷ os) (suc k) ps all l is =
-    let next : suc y + k ≡ y + suc k = omega arith in subst (λ x. P (by_stamp x rows)) next (list_in P (suc y) rows os k ps all.1 (omega arith) is)
+    let next : suc y + k ≡ y + suc k = omega arith in subst (λ x. P (ids_by_stamp x rows)) next (list_in P (suc y) rows os k ps all.1 (omega arith) is)
 
 less_is : (a b : ℕ) → a < b → nat_cmp a b ≡ Less
 less_is a b l = grind (arith, nat_tests)
@@ -98,13 +98,13 @@ module _ (ids : FinMap nat_cmp IdEntry) (m : Pooled Stored) (os : List Order) wh
 -- the list of a hashed index by its stamps is that of its nodes
 pub by_stamp_is : (s : Shape) (d : Data) (ids : FinMap nat_cmp IdEntry) (m : Pooled Stored) (os : List Order) (x : ℕ) (ps : List KeyPart) (rs : List Ref)
     → IsData s d → d.rows ≡ rows ids m os → x < length d.orders → x < length os
-    → get_or d.orders x ById ≡ ByHash ps → get_or os x ById ≡ ByHash ps → AreLive ids m rs → Climb (stamp_at m x) rs → by_stamp x d.rows ≡ ids_at m rs
+    → get_or d.orders x ById ≡ ByHash ps → get_or os x ById ≡ ByHash ps → AreLive ids m rs → Climb (stamp_at m x) rs → ids_by_stamp x d.rows ≡ ids_at m rs
 by_stamp_is s d ids m os x ps rs is same l k here plan live up =
-    let all : ListsEach (table_of d) (by_stamp x d.rows) =
+    let all : ListsEach (table_of d) (ids_by_stamp x d.rows) =
     (let zeroed : 0 + x ≡ x = omega arith in
-    subst (λ q. ListsEach (table_of d) (by_stamp q d.rows)) zeroed (list_in (ListsEach (table_of d)) 0 d.rows d.orders x ps is.table.complete l here)) in
+    subst (λ q. ListsEach (table_of d) (ids_by_stamp q d.rows)) zeroed (list_in (ListsEach (table_of d)) 0 d.rows d.orders x ps is.table.complete l here)) in
     let each : ListsEach (table_of d) (ids_at m rs) = lists_each ids m os s d rs same live in
     let mine : Rises (on (stamp_of d.rows x) nat_cmp) (ids_at m rs) =
     subst (λ q. Rises (on (stamp_of q x) nat_cmp) (ids_at m rs)) (sym same) (rises_ids ids m os x rs live.rows k (ap has_stamps plan) up) in
-    rises_once (on (stamp_of d.rows x) nat_cmp) (on_total (stamp_of d.rows x) nat_cmp_total) (by_stamp x d.rows)
+    rises_once (on (stamp_of d.rows x) nat_cmp) (on_total (stamp_of d.rows x) nat_cmp_total) (ids_by_stamp x d.rows)
     (ids_at m rs) (stamps_rise_in s d is x l (ap has_stamps here)) mine (λ id. all id ∙ sym (each id))

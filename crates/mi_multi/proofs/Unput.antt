@@ -33,7 +33,7 @@ use Rattle.mi_index.specs.Standing.{AllAbove, AllBelow, Climb}
 use Rattle.mi_index.specs.Places.{given_at}
 use Rattle.mi_index.specs.Pass.{AllCan}
 use Rattle.mi_index.specs.Rekeying.{side_of_value, KeepsKey, CanMoveBackTo, HasOldPlaceFor, returning_to}
-use Rattle.mi_container.specs.Data.{Content, Node, Order, Data, parts_of, has_stamps, node_of, content_in, content_of, stamp_of, by_stamp, IsData}
+use Rattle.mi_container.specs.Data.{Content, Node, Order, Data, parts_of, has_stamps, node_of, content_in, content_of, stamp_of, ids_by_stamp, IsData}
 use Rattle.mi_container.specs.Data.Order.{ById, ByKey, ByHash, Listed}
 use Rattle.mi_container.specs.Changes.{sorted_order, group, ref_of, head_of}
 use Rattle.mi_container.specs.Inverse.{OldPlace, Old, stamp_back, stamps_back, old_content, taken_back}
@@ -268,7 +268,7 @@ module _ (s : Shape) (ids : FinMap nat_cmp IdEntry) (m : Pooled Stored) (xs : Li
     ByStamp ps k was qs = (us : List Ref) × (vs : List Ref) × (qs ≡ us ++ vs) × AllBelow (stamp_at m k) was.stamp us × AllAbove (stamp_at m k) was.stamp vs
         × (was.link.back ≡ last_of None (filter (has_key ps) us)) × (was.link.forth ≡ first_of (filter (has_key ps) vs) None)
 
-    in_chains : (k : ℕ) (ps : List KeyPart) (as_ bs : List Ref) → by_stamp k d.rows ≡ ids_at m (as_ ++ r ∷ bs)
+    in_chains : (k : ℕ) (ps : List KeyPart) (as_ bs : List Ref) → ids_by_stamp k d.rows ≡ ids_at m (as_ ++ r ∷ bs)
         → AllByRecursion (IsLiveRef ids m) (as_ ++ bs) → Lacks e (ids_at m (as_ ++ bs)) → Climb (stamp_at m k) (as_ ++ r ∷ bs) → k < length os
         → has_stamps (get_or os k ById) ≡ true → (was : OldPlace) → place k ≡ Some was → is_eq (compare_key ps old.values now) ≡ false
         → MeetByStamp k d.rows was.stamp was.link (group ps k d.rows old.values) → ByStamp ps k was (as_ ++ bs)
@@ -323,7 +323,8 @@ module _ (s : Shape) (ids : FinMap nat_cmp IdEntry) (m : Pooled Stored) (xs : Li
         let climb : Climb (stamp_at m k) rs = subst (λ w. Climb (stamp_at m w) rs) slot h.0.was.1 in
         let order_is : get_or d.orders k ById ≡ ByHash i.parts = h.1.order_is ∙ hashed_order i.kind i.parts (own_list m (Hashed c)) hashed in
         let plan_is : get_or os k ById ≡ ByHash i.parts = h.1.plan_is ∙ hashed_order i.kind i.parts [] hashed in
-        let by : by_stamp k d.rows ≡ ids_at m rs = by_stamp_is s d ids m os k i.parts rs is.is_data refl h.1.fewer h.1.few order_is plan_is h.0.live climb in
+        let by : ids_by_stamp k d.rows ≡ ids_at m rs = by_stamp_is s d ids m os k i.parts rs
+        is.is_data refl h.1.fewer h.1.few order_is plan_is h.0.live climb in
         let met' : PlaceMeets k d.rows now old.values (Some was) (ByHash i.parts) = subst
         (PlaceMeets k d.rows now old.values (Some was)) (hashed_order i.kind i.parts (own_list m (Hashed c)) hashed) met in
         let got : ByStamp i.parts k was (as_ ++ bs) =
