@@ -162,7 +162,7 @@ module _ (s : Shape) (ids : FinMap nat_cmp IdEntry) (m : Pooled Stored) (xs : Li
   mine : HasNode m e r
   mine = is.held e (record { node = r; live = true }) there
 
-  id : id_at m r ≡ e
+  pub id : id_at m r ≡ e
   id = ap id_in mine.is ∙ mine.id
 
   pub here : node_of d.rows e ≡ Some (node_in m os r)
