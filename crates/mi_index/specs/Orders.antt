@@ -24,10 +24,6 @@ use Rattle.mi_index.specs.Mixing.{mixed}
 use Rattle.mi_chain.specs.Keying.{Keying, IsLawful}
 use Rattle.mi_index.specs.Leads.{lead_tag, lead_probe, is_exact_lead}
 
--- the part that an index without parts goes by: the id alone
-abbrev pub id_part : List KeyPart
-id_part = record { column = 0; descending = false } ∷ []
-
 -- the row that a node holds
 abbrev pub row_in : Stored → Row
 row_in v = (v.id, v.row)

@@ -15,7 +15,7 @@ use Rattle.mi_model.specs.Table.{Table, list_of}
 use Rattle.mi_model.specs.View.{of_key, compare_to_id, compare_ids}
 use Rattle.mi_model.specs.Change.{erase_all, erase_key}
 use Rattle.mi_model.proofs.EraseLaws.{count-shown, in-shown, erase_all-alike}
-use Rattle.mi_plain.specs.IdPart.{id_part}
+use Rattle.mi_model.specs.Key.{id_part}
 
 then_equal : (o : Ordering) → ordering_then o Equal ≡ o
 then_equal Less = refl

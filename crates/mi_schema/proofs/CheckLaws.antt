@@ -14,7 +14,8 @@ use Rattle.mi_catalog.specs.declared.index.IndexKind.TheVariants.{Ordered, Ranke
 use Rattle.mi_schema.specs.Draft.{TableDraft, CatalogDraft}
 use Rattle.mi_catalog.specs.Shape.{Shape}
 use Rattle.mi_catalog.specs.Rules as rules
-use Rattle.mi_schema.specs.Checks.{has_names, has_no_twins, are_no_twins, has_types, has_kinds, has_keys, has_key, has_key_of, has_limits, are_few, has_numbers}
+use Rattle.mi_schema.specs.Checks.{has_names, has_no_twins, are_no_twins, has_types, has_kinds}
+use Rattle.mi_schema.specs.Checks.{has_index_keys, has_key, has_key_of, has_limits, are_few, has_numbers}
 use Rattle.mi_schema.specs.Checks.{are_numbered, is_count, is_most_rows, entries, entry_column, names_each_once, names_columns, kind_or_sequenced, fault_of}
 use Rattle.mi_schema.proofs.ListLaws.{any_of_map, all_of_map, map_map}
 use Rattle.mi_schema.specs.Reading.{column_of, part_of, parts_of, index_of, id_index, shape_of, catalog_of}
@@ -71,7 +72,7 @@ rows_kept (negsuc n) h = absurd (false≢true h)
 
 -- the schema of a table keeps every rule
 schema_kept : (revision : ℕ) (t : TableDraft) → nat_le revision LAST_COUNT ≡ true → has_names t ≡ true → has_no_twins t ≡ true
-    → has_keys t ≡ true → has_limits t ≡ true → has_numbers t ≡ true → rules.is_schema (shape_of revision t) ≡ true
+    → has_index_keys t ≡ true → has_limits t ≡ true → has_numbers t ≡ true → rules.is_schema (shape_of revision t) ≡ true
 schema_kept revision t start names twins keys limits numbers =
     let named = and_parts _ _ names in
     let table = and_parts _ _ named.0 in
@@ -99,7 +100,7 @@ schema_kept revision t start names twins keys limits numbers =
     and_from _ _ (and_from _ _ (and_from _ _ table.0 of_columns) of_indexes) of_numbers
 
 schemas_kept : (revision : ℕ) (ts : List TableDraft) → nat_le revision LAST_COUNT ≡ true → list_all has_names ts ≡ true
-    → list_all has_no_twins ts ≡ true → list_all has_keys ts ≡ true → list_all has_limits ts ≡ true → list_all has_numbers ts ≡ true
+    → list_all has_no_twins ts ≡ true → list_all has_index_keys ts ≡ true → list_all has_limits ts ≡ true → list_all has_numbers ts ≡ true
     → list_all (λ t. rules.is_schema (shape_of revision t)) ts ≡ true
 schemas_kept revision [] start names twins keys limits numbers = refl
 schemas_kept revision (t ∷ ts) start names twins keys limits numbers =
@@ -114,7 +115,7 @@ schemas_kept revision (t ∷ ts) start names twins keys limits numbers =
 pub record Kept (d : CatalogDraft) : Type 0 where
   pub names : list_all has_names d.tables ≡ true
   pub twins : are_no_twins d.tables ≡ true
-  pub keys : list_all has_keys d.tables ≡ true
+  pub keys : list_all has_index_keys d.tables ≡ true
   pub limits : are_few d.tables ≡ true
   pub numbers : are_numbered d ≡ true
 
@@ -129,7 +130,7 @@ kept d h =
     let twins = passes (are_no_twins d.tables) _ _ names.1 in
     let types = passes (list_all has_types d.tables) _ _ twins.1 in
     let kinds = passes (list_all has_kinds d.tables) _ _ types.1 in
-    let keys = passes (list_all has_keys d.tables) _ _ kinds.1 in
+    let keys = passes (list_all has_index_keys d.tables) _ _ kinds.1 in
     let limits = passes (are_few d.tables) _ _ keys.1 in
     let numbers = passes (are_numbered d) _ _ limits.1 in
     record { names = names.0; twins = twins.0; keys = keys.0; limits = limits.0; numbers = numbers.0 }

@@ -92,8 +92,8 @@ kind_or_sequenced word = unwrap_or (kind_of word) Sequenced
 abbrev pub has_key : List DraftColumn → DraftIndex → Bool
 has_key cs i = has_key_of (kind_or_sequenced i.kind) cs i
 
-abbrev pub has_keys : TableDraft → Bool
-has_keys t = list_all (has_key t.columns) t.indexes
+abbrev pub has_index_keys : TableDraft → Bool
+has_index_keys t = list_all (has_key t.columns) t.indexes
 
 -- the sizes of a table, and how many tables there are
 abbrev pub has_limits : TableDraft → Bool
@@ -126,7 +126,7 @@ fault_of d =
     else if not (are_no_twins d.tables) then Some Twice
     else if not (list_all has_types d.tables) then Some ColType
     else if not (list_all has_kinds d.tables) then Some Kind
-    else if not (list_all has_keys d.tables) then Some Key
+    else if not (list_all has_index_keys d.tables) then Some Key
     else if not (are_few d.tables) then Some Limit
     else if not (are_numbered d) then Some Number
     else None

@@ -17,7 +17,7 @@ use Rattle.mi_hub.specs.declared.fault.ServeFault.TheVariants.{Read, Turns, Acce
 use Rattle.mi_hub.proofs.ConnectionLemmas.{some_with_rest}
 use Rattle.mi_hub.proofs.PieceLemmas.{unsent_piece_gone, unsent_close_gone, same_err}
 use Rattle.mi_hub.specs.Turn.{Turn, fed, ended, unread, unanswered, unended, conn_of, outcome, given_in, Made}
-use Rattle.mi_server.specs.Turns.{fresh, with_clients, ByTurns, row_after, fault_of, first_fault, noted}
+use Rattle.mi_server.specs.Turns.{fresh, with_clients, ByTurns, row_after, turn_fault, first_fault, noted}
 use Rattle.mi_server.specs.Turns.{all_noted, client_ids, AllSound, AllAttached, IsNoneOf, AllDiffer, Serves}
 use Rattle.mi_server.specs.declared.listener.Client.{Client}
 
@@ -236,10 +236,10 @@ and_ok : (a : Result ⊤ ServeFault) → result_and a (Ok tt) ≡ a
 and_ok (Ok tt) = refl
 and_ok (Err e) = refl
 
-pub fault_more : (turns : List Turn) (turn : Turn) → first_fault (turns ++ turn ∷ []) ≡ result_and (first_fault turns) (fault_of (outcome turn))
-fault_more [] turn = and_ok (fault_of (outcome turn))
-fault_more (t ∷ turns) turn = ap (result_and (fault_of (outcome t))) (fault_more turns turn)
-    ∙ and_assoc (fault_of (outcome t)) (first_fault turns) (fault_of (outcome turn))
+pub fault_more : (turns : List Turn) (turn : Turn) → first_fault (turns ++ turn ∷ []) ≡ result_and (first_fault turns) (turn_fault (outcome turn))
+fault_more [] turn = and_ok (turn_fault (outcome turn))
+fault_more (t ∷ turns) turn = ap (result_and (turn_fault (outcome t))) (fault_more turns turn)
+    ∙ and_assoc (turn_fault (outcome t)) (first_fault turns) (turn_fault (outcome turn))
 
 pub not_zero : (n : ℕ) (b : Bool) → b ≡ nat_eq n 0 → b ≡ false → 0 < n
 not_zero n b is h = grind arith
