@@ -99,7 +99,7 @@ module _ (i : Inside) (is : AreMulti i) (w : Seen) (seen : seen_of i ≡ w) wher
     in_order h = (rs, n.stood.stands, known.sorts i.schema i.ids.entries m items i.next i.arrivals is x y n (sorts_shape x h))
 
     -- how many nodes there are
-    long : length rs ≡ size (table_of w.plain)
+    pub long : length rs ≡ size (table_of w.plain)
     long =
         sym (length_ids (id_at m) rs) ∙ ap length (known.ids_shown i.schema i.ids.entries m items i.next i.arrivals is x y n)
         ∙ length-view i.schema (table_of (seen_of i).plain) x is.is_data.table n.few ∙ ap (λ (v : Seen). size (table_of v.plain)) seen
