@@ -90,7 +90,7 @@ impl Bench {
         let mut done = Done::default();
         let count = self.owners.len() as u64;
         for owner in self.owners.iter() {
-            let balance = random.below(count) as i64;
+            let balance = random.below(count).cast_signed();
             let vip = random.below(10) < 3;
             done.add(self.accounts.insert(alloc, owner.as_str(), balance, vip));
         }
@@ -114,7 +114,7 @@ impl Bench {
         let size = self.accounts.size();
         for _ in 0..calls {
             let id = random.below(size);
-            let more = (random.below(101) as i64).wrapping_sub(50);
+            let more = random.below(101).cast_signed().wrapping_sub(50);
             done.add(self.accounts.add(alloc, id, more).then_some(id));
         }
         done
@@ -126,7 +126,7 @@ impl Bench {
         let size = self.accounts.size();
         for _ in 0..calls {
             let id = random.below(size);
-            let more = (random.below(101) as i64).wrapping_sub(50);
+            let more = random.below(101).cast_signed().wrapping_sub(50);
             done.add(self.accounts.add_and_unwind(alloc, id, more).then_some(id));
         }
         done

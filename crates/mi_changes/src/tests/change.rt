@@ -49,7 +49,7 @@ pub(super) enum Change {
 pub(super) type Answer = Result<Option<u64>, Refusal>;
 
 fn number(random: &mut Random) -> Value {
-    Value::Int(random.below(60) as i64)
+    Value::Int(random.below(60).cast_signed())
 }
 
 fn text(alloc: Global, random: &mut Random) -> Result<Value, AllocError> {
@@ -63,7 +63,7 @@ fn flag(random: &mut Random) -> Value {
 }
 
 fn sum(random: &mut Random) -> i64 {
-    (random.below(30) as i64).saturating_sub(9)
+    random.below(30).cast_signed().saturating_sub(9)
 }
 
 fn line(random: &mut Random) -> usize {
