@@ -84,7 +84,10 @@ impl Accounts {
     /// Adds to the balance of an account, and tells whether it did.
     pub(crate) fn add(&mut self, alloc: Global, id: u64, more: i64) -> bool {
         self.rows.keeps_rules();
-        match self.rows.modify(alloc, id, &[Edit::Add(BALANCE, more)], true) {
+        match self
+            .rows
+            .modify(alloc, id, &[Edit::Add(BALANCE, more)], true)
+        {
             Ok(inverse) => {
                 self.rows.settle(inverse);
                 true
@@ -96,7 +99,10 @@ impl Accounts {
     /// Adds to the balance of an account and takes that back, and tells whether it did.
     pub(crate) fn add_and_unwind(&mut self, alloc: Global, id: u64, more: i64) -> bool {
         self.rows.keeps_rules();
-        match self.rows.modify(alloc, id, &[Edit::Add(BALANCE, more)], true) {
+        match self
+            .rows
+            .modify(alloc, id, &[Edit::Add(BALANCE, more)], true)
+        {
             Ok(inverse) => {
                 self.rows.unwind(inverse);
                 true
@@ -133,7 +139,11 @@ impl Accounts {
             .walk(alloc, index, false, first, usize::MAX, &mut Steps::new())?;
         for (id, row) in rows.iter() {
             let balance = balance_of(row).cast_unsigned();
-            sum = sum.wrapping_mul(31).wrapping_add(*id).wrapping_mul(31).wrapping_add(balance);
+            sum = sum
+                .wrapping_mul(31)
+                .wrapping_add(*id)
+                .wrapping_mul(31)
+                .wrapping_add(balance);
         }
         Ok(sum)
     }

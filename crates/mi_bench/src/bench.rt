@@ -46,7 +46,11 @@ impl Bench {
     }
 
     /// Runs the workload of a line, a word and a number. What is no such line does nothing.
-    pub(crate) fn run(&mut self, rt: &(impl CpuClock + AllocGlobal), line: &str) -> io::Result<Done> {
+    pub(crate) fn run(
+        &mut self,
+        rt: &(impl CpuClock + AllocGlobal),
+        line: &str,
+    ) -> io::Result<Done> {
         let Some((word, number)) = line.split_once(' ') else {
             return Ok(Done::default());
         };
@@ -65,7 +69,12 @@ impl Bench {
         Ok(done)
     }
 
-    fn repeat(&mut self, alloc: Global, workload: Workload, calls: u64) -> Result<Done, AllocError> {
+    fn repeat(
+        &mut self,
+        alloc: Global,
+        workload: Workload,
+        calls: u64,
+    ) -> Result<Done, AllocError> {
         match workload {
             Workload::Prepare => self.prepare(alloc, calls),
             Workload::Insert => Ok(self.insert(alloc)),
@@ -82,7 +91,10 @@ impl Bench {
         for n in 0..calls {
             self.owners.push(format!(in alloc; "owner {n}")?)?;
         }
-        Ok(Done { count: calls, sum: 0 })
+        Ok(Done {
+            count: calls,
+            sum: 0,
+        })
     }
 
     fn insert(&mut self, alloc: Global) -> Done {

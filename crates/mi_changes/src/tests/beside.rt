@@ -209,7 +209,14 @@ fn check_beside<C: Container>(rt: &impl Abort, alloc: Global, seed: u64) -> Resu
         if step % 100 == 0 {
             compare(rt, alloc, &undoable, &reference)?;
         }
-        step_both(rt, alloc, &mut undoable, &mut reference, &mut random, &mut tally)?;
+        step_both(
+            rt,
+            alloc,
+            &mut undoable,
+            &mut reference,
+            &mut random,
+            &mut tally,
+        )?;
     }
     compare(rt, alloc, &undoable, &reference)?;
     unwind_both(rt, &mut undoable, &mut reference, STEPS, &mut tally);

@@ -85,7 +85,11 @@ fn edits(alloc: Global, random: &mut Random) -> Result<Vec<Edit>, AllocError> {
         0 | 1 => vec![in alloc; Edit::Put(K, number(random))]?,
         2 | 3 => {
             let s = text(alloc, random)?;
-            vec![in alloc; Edit::Add(N, sum(random)), Edit::Put(S, s), Edit::Put(F, flag(random))]?
+            vec![in alloc;
+                Edit::Add(N, sum(random)),
+                Edit::Put(S, s),
+                Edit::Put(F, flag(random)),
+            ]?
         }
         4 | 5 => vec![in alloc; Edit::Add(N, sum(random))]?,
         6 => vec![in alloc; Edit::Add(N, i64::MAX)]?,

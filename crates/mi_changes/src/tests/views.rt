@@ -166,8 +166,16 @@ fn compare_key<C: Container>(
     let rows = &undoable.rows;
     assert!(rt; undoable.is_keyed(index));
     assert!(rt; undoable.is_key(index, key));
-    assert_eq!(rt; rows.find(index, key), reference.find(rt, index, key), "{key:?}");
-    assert_eq!(rt; rows.count(index, key), reference.count(rt, index, key), "{key:?}");
+    assert_eq!(rt;
+        rows.find(index, key),
+        reference.find(rt, index, key),
+        "{key:?}"
+    );
+    assert_eq!(rt;
+        rows.count(index, key),
+        reference.count(rt, index, key),
+        "{key:?}"
+    );
     if undoable.is_sorted(index) {
         compare_bounds(rt, undoable, reference, index, key);
         if let Some((first, _)) = key.split_first() {
