@@ -3,7 +3,7 @@ use Rattle.std.proofs.Common.{◌≡◌, ◌∙◌, ap, sym, subst, List, [], �
 use Rattle.mi_container.specs.Inverse.{Inverse, lost_to}
 use Rattle.mi_changes.specs.Undone.{Holds}
 use Rattle.mi_changes.proofs.Undone.{makes_modify}
-use Rattle.mi_changes.proofs.tests.undoable.Undoable.add.Goals as goal
+use Rattle.mi_changes.proofs.tests.undoable.Undoable.modify.Goals as goal
 
 pub returns-in-Some : goal.returns-in-Some
 returns-in-Some g c =
@@ -16,8 +16,8 @@ returns-in-Some g c =
     (makes_modify was.schema (shape was.rows) (shape c.modify.new.self) (lost_to c.in-Ok.inverse) c.args.id (plain was.rows)
     (plain c.modify.new.self) c.in-Ok.inverse was.inverses.items c.keeps_rules.ensures c.modify.ensures.shape c.in-Ok.ensures.made c.requires)
 
-pub returns-in-Ok : goal.returns-in-Ok
-returns-in-Ok g c =
+pub returns-in-None : goal.returns-in-None
+returns-in-None g c =
     let was = c.args.self.now in
     let shape = g.C.Container.shape in
     let plain = g.C.Container.plain in
