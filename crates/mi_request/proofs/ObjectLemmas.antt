@@ -1,5 +1,5 @@
 -- Members of objects: which names they have, what one of a name is, and one taken out.
-use Rattle.std.proofs.Common.{◌≡◌, ◌≢◌, ℕ, zero, suc, List, [], ◌∷◌, ◌++◌, length, map, get_or, set, Bool, true, false, cond, Option, Some, None, Global, Bor, refl, sym, ap, ap₂, ◌∙◌, ◌&&◌, ◌||◌, ◌⊎◌, inl, inr, true≢false, Ordering, Less, Equal, Greater, nat_cmp, rules}
+use Rattle.std.proofs.Common.{◌≡◌, ℕ, zero, suc, List, [], ◌∷◌, ◌++◌, length, map, get_or, set, Bool, true, false, cond, Option, Some, None, Global, Bor, refl, sym, ap, ap₂, ◌∙◌, ◌&&◌, ◌||◌, ◌⊎◌, inl, inr, true≢false, Ordering, Less, Equal, Greater, nat_cmp, rules}
 use Rattle.std.specs.List.{list_any, list_all}
 use Rattle.std.specs.Ordering.{match_ordering, is_eq}
 use Rattle.std.specs.Cmp.Lexicographic.{slice_cmp}
@@ -214,7 +214,7 @@ present name [] found i n is = absurd (cc)
 present name (m ∷ ms) found i n is = elim (or_some _ (last_at name ms) i is) [
   | inl p ↦ present name ms (put m.0.now (seen m.1) found) p.0 n p.1 ∙ ap (λ j. Some (seen (get_or (m ∷ ms) j n).1)) (sym p.2)
   | inr p ↦ absent name ms (put m.0.now (seen m.1) found) p.0 ∙ get_member-put name m.0.now (seen m.1) found
-    ∙ ap (λ b. cond b (Some (seen m.1)) (get_member name found)) p.1 ∙ ap (λ j. Some (seen (get_or (m ∷ ms) j n).1)) (sym p.2)
+      ∙ ap (λ b. cond b (Some (seen m.1)) (get_member name found)) p.1 ∙ ap (λ j. Some (seen (get_or (m ∷ ms) j n).1)) (sym p.2)
 ]
 
 -- ---- null written over a member's value
@@ -233,14 +233,14 @@ pub set_to_null : (name : List ℕ) (ms : List Member) (found : Members) (i : �
 set_to_null name [] found i n is = absurd (cc)
 set_to_null name (m ∷ ms) found i n is = elim (or_some _ (last_at name ms) i is) [
   | inl p ↦ ap (λ j. onto (set (m ∷ ms) j ((get_or (m ∷ ms) j n).0, Null)) found) p.2
-    ∙ set_to_null name ms (put m.0.now (seen m.1) found) p.0 n p.1
+      ∙ set_to_null name ms (put m.0.now (seen m.1) found) p.0 n p.1
   | inr p ↦
-    let same : name ≡ m.0.now = same_name name m.0.now p.1 in
-    ap (λ j. onto (set (m ∷ ms) j ((get_or (m ∷ ms) j n).0, Null)) found) p.2
-    ∙ ap (λ d. onto ms (put m.0.now d found)) seen-Null
-    ∙ ap (onto ms) (sym (emptied-put m.0.now (seen m.1) found))
-    ∙ ap (λ k. onto ms (emptied k (put m.0.now (seen m.1) found))) (sym same)
-    ∙ sym (emptied-absent name ms (put m.0.now (seen m.1) found) p.0)
+      let same : name ≡ m.0.now = same_name name m.0.now p.1 in
+      ap (λ j. onto (set (m ∷ ms) j ((get_or (m ∷ ms) j n).0, Null)) found) p.2
+      ∙ ap (λ d. onto ms (put m.0.now d found)) seen-Null
+      ∙ ap (onto ms) (sym (emptied-put m.0.now (seen m.1) found))
+      ∙ ap (λ k. onto ms (emptied k (put m.0.now (seen m.1) found))) (sym same)
+      ∙ sym (emptied-absent name ms (put m.0.now (seen m.1) found) p.0)
 ]
 
 -- ---- members of other names

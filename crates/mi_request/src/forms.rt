@@ -219,7 +219,11 @@ fn size_request<'a>(object: Object<'a>) -> Option<Request<'a>>
 }
 
 /// The request that the members of a command are.
-pub(crate) fn request_by<'a>(alloc: Global, name: CommandName, object: Object<'a>) -> Option<Request<'a>>
+pub(crate) fn request_by<'a>(
+    alloc: Global,
+    name: CommandName,
+    object: Object<'a>,
+) -> Option<Request<'a>>
     ensures { result ≡ lines.request_by object.entry (form_of name) }
 {
     if !object.has_only(name.members()) {

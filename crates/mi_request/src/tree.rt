@@ -1,11 +1,9 @@
 //! From bytes to the JSON value that they are, as a tree over borrowed text.
 ghost use Rattle.std.specs.Prelude.{◌≡◌, ◌⊎◌, is_some, Some, None, IfOk, IfErr};
-ghost use Rattle.std.specs.Option.{ok_or};
 ghost use Rattle.json.specs.Json.{value};
 ghost use Rattle.json.specs.Value.{value_view, items_view, members_view};
 ghost use Rattle.serde_json.specs.Data.{no_members};
 ghost use Rattle.serde_json.specs.Read.{of_json, of_items, of_members};
-ghost use Rattle.mi_request.specs.Answers.{IsAnswer, NamesNoIndex};
 ghost use Rattle.mi_request.specs.Lines.{json_of};
 
 use crate::numbers::is_number;
@@ -67,9 +65,13 @@ fn first_value<'a>(alloc: Global, reader: &mut Reader<'a>) -> Result<Value<'a>, 
 }
 
 /// The value that bytes are. Refusals: `Json` where they are not UTF-8 or no JSON, and `Memory`.
-pub(crate) fn read_value<'a>(alloc: Global, scratch: &'a mut Scratch, bytes: &'a [u8]) -> Result<Json<'a>, Refusal>
-    ensures answer { IsAnswer result (ok_or (json_of bytes.now) Refusal.Json) }
-    ensures refusal { IfErr result NamesNoIndex }
+pub(crate) fn read_value<'a>(
+    alloc: Global,
+    scratch: &'a mut Scratch,
+    bytes: &'a [u8],
+) -> Result<Json<'a>, Refusal>
+    ensures ok { IfOk result (λ v. json_of bytes.now ≡ Some v) }
+    ensures err { IfErr result (λ e. (e ≡ Refusal.Memory) ⊎ ((e ≡ Refusal.Json) × (json_of bytes.now ≡ None))) }
 {
     let Ok(text) = simdutf8::compat::from_utf8(bytes) else {
         return Err(Refusal::Json);

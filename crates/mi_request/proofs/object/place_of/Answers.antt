@@ -23,6 +23,6 @@ returns-then-eq-clause-found c =
 pub places-preserved : goal.places-preserved
 places-preserved c = (
   step c.args.name.now c.args.members.now c.places.left (c.places.left - 1) c.index-members-left.result false
-  (omega arith) (omega arith) c.index-members-left.is (grind arith) c.places.invariant.0,
+      (omega arith) (omega arith) c.index-members-left.is (grind arith) c.places.invariant.0,
   omega arith,
 )

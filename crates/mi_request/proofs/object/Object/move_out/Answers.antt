@@ -1,5 +1,5 @@
 -- What is taken is the value of the last member of this name, and null is written there.
-use Rattle.std.proofs.Common.{◌≡◌, None, Some, get_or, set, length, sym, ap, ◌∙◌}
+use Rattle.std.proofs.Common.{Some, get_or, set, length, sym, ap, ◌∙◌}
 use Rattle.std.proofs.lemmas.List.{with_items_is, length-set}
 use Rattle.json.specs.declared.value.Value.{Null}
 use Rattle.serde_json.specs.Data.{no_members}

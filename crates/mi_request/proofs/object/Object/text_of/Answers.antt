@@ -1,10 +1,9 @@
-use Rattle.std.proofs.Common.{◌≡◌, None, Some, option_map, option_and_then, get_or, rules, sym, ap, ◌∙◌}
-use Rattle.json.specs.declared.value.Value.{Null}
+use Rattle.std.proofs.Common.{option_map, option_and_then, sym, ap, ◌∙◌}
 use Rattle.serde_json.specs.Data.{no_members}
-use Rattle.serde_json.specs.Find.{get_member, as_str}
+use Rattle.serde_json.specs.Find.{as_str}
 use Rattle.mi_request.specs.Json.{needed}
 use Rattle.mi_request.specs.Meant.{last_at, seen}
-use Rattle.mi_request.proofs.ObjectLemmas.{Member, absent, present, as_str-seen}
+use Rattle.mi_request.proofs.ObjectLemmas.{absent, present, as_str-seen}
 use Rattle.mi_request.proofs.object.Object.text_of.Goals as goal
 
 pub returns-in_err-at : goal.returns-in_err-at
@@ -19,8 +18,7 @@ pub returns : goal.returns
 returns c =
     let name = c.args.name.now in
     let ms = c.self.inside.members.items in
-    let n : Member = (c.args.name, Null) in
+    let m = c.index.result.now in
     let found = c.in_ok-at.ensures.found ∙ ap (last_at name) c.as_slice.ensures.value in
-    let at : c.index.result.now ≡ get_or ms c.in_ok-at.at n = search rules in
-    c.as_str.ensures ∙ sym (as_str-seen c.index.result.now.1) ∙ ap (λ m. as_str (seen m.1)) at
-    ∙ ap (option_and_then as_str) (sym (present name ms no_members c.in_ok-at.at n (sym found))) ∙ ap (needed as_str name) c.self.view_is
+    c.as_str.ensures ∙ sym (as_str-seen m.1) ∙ ap (λ n. as_str (seen n.1)) c.index.ensures
+    ∙ ap (option_and_then as_str) (sym (present name ms no_members c.in_ok-at.at m (sym found))) ∙ ap (needed as_str name) c.self.view_is
