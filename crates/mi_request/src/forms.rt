@@ -15,8 +15,8 @@ use crate::request::Request;
 use mi_value::limits::{MAX_RESERVED_CHANGES, MAX_RESERVED_SESSIONS};
 use std::alloc::Global;
 
-fn insert_request(object: Object) -> Option<Request>
-    ensures { result ≡ (form_of name.Insert).request object }
+fn insert_request<'a>(object: Object<'a>) -> Option<Request<'a>>
+    ensures { result ≡ (form_of name.Insert).request object.entry }
 {
     let members = RowMembers::of(object);
     let table = text_if_there(members.table)?;
@@ -25,8 +25,8 @@ fn insert_request(object: Object) -> Option<Request>
     Some(Request::Insert { table, row, before })
 }
 
-fn replace_request(object: Object) -> Option<Request>
-    ensures { result ≡ (form_of name.Replace).request object }
+fn replace_request<'a>(object: Object<'a>) -> Option<Request<'a>>
+    ensures { result ≡ (form_of name.Replace).request object.entry }
 {
     let members = RowMembers::of(object);
     let table = text_if_there(members.table)?;
@@ -35,8 +35,8 @@ fn replace_request(object: Object) -> Option<Request>
     Some(Request::Replace { table, id, row })
 }
 
-fn modify_request(alloc: Global, object: Object) -> Option<Request>
-    ensures { result ≡ (form_of name.Modify).request object }
+fn modify_request<'a>(alloc: Global, object: Object<'a>) -> Option<Request<'a>>
+    ensures { result ≡ (form_of name.Modify).request object.entry }
 {
     let members = RowMembers::of(object);
     let table = text_if_there(members.table)?;
@@ -53,8 +53,8 @@ fn modify_request(alloc: Global, object: Object) -> Option<Request>
     })
 }
 
-fn erase_request(object: Object) -> Option<Request>
-    ensures { result ≡ (form_of name.Erase).request object }
+fn erase_request<'a>(object: Object<'a>) -> Option<Request<'a>>
+    ensures { result ≡ (form_of name.Erase).request object.entry }
 {
     let members = RowMembers::of(object);
     let table = text_if_there(members.table)?;
@@ -62,8 +62,8 @@ fn erase_request(object: Object) -> Option<Request>
     Some(Request::Erase { table, id })
 }
 
-fn erase_key_request(object: Object) -> Option<Request>
-    ensures { result ≡ (form_of name.EraseKey).request object }
+fn erase_key_request<'a>(object: Object<'a>) -> Option<Request<'a>>
+    ensures { result ≡ (form_of name.EraseKey).request object.entry }
 {
     let members = IndexMembers::of(object);
     let table = text_if_there(members.table)?;
@@ -72,8 +72,8 @@ fn erase_key_request(object: Object) -> Option<Request>
     Some(Request::EraseKey { table, index, key })
 }
 
-fn relocate_request(object: Object) -> Option<Request>
-    ensures { result ≡ (form_of name.Relocate).request object }
+fn relocate_request<'a>(object: Object<'a>) -> Option<Request<'a>>
+    ensures { result ≡ (form_of name.Relocate).request object.entry }
 {
     let members = IndexMembers::of(object);
     let table = text_if_there(members.table)?;
@@ -88,16 +88,16 @@ fn relocate_request(object: Object) -> Option<Request>
     })
 }
 
-fn commit_request(object: Object) -> Option<Request>
-    ensures { result ≡ (form_of name.Commit).request object }
+fn commit_request<'a>(object: Object<'a>) -> Option<Request<'a>>
+    ensures { result ≡ (form_of name.Commit).request object.entry }
 {
     let mut object = object;
     let revision = natural(object.move_out("revision"))?;
     Some(Request::Commit { revision })
 }
 
-fn reserve_request(object: Object) -> Option<Request>
-    ensures { result ≡ (form_of name.Reserve).request object }
+fn reserve_request<'a>(object: Object<'a>) -> Option<Request<'a>>
+    ensures { result ≡ (form_of name.Reserve).request object.entry }
 {
     let members = RoomMembers::of(object);
     let changes = up_to(members.changes, MAX_RESERVED_CHANGES)?;
@@ -105,8 +105,8 @@ fn reserve_request(object: Object) -> Option<Request>
     Some(Request::Reserve { changes, sessions })
 }
 
-fn get_request(object: Object) -> Option<Request>
-    ensures { result ≡ (form_of name.Get).request object }
+fn get_request<'a>(object: Object<'a>) -> Option<Request<'a>>
+    ensures { result ≡ (form_of name.Get).request object.entry }
 {
     let members = RowMembers::of(object);
     let table = text_if_there(members.table)?;
@@ -114,8 +114,8 @@ fn get_request(object: Object) -> Option<Request>
     Some(Request::Get { table, id })
 }
 
-fn find_request(object: Object) -> Option<Request>
-    ensures { result ≡ (form_of name.Find).request object }
+fn find_request<'a>(object: Object<'a>) -> Option<Request<'a>>
+    ensures { result ≡ (form_of name.Find).request object.entry }
 {
     let members = IndexMembers::of(object);
     let table = text_if_there(members.table)?;
@@ -124,8 +124,8 @@ fn find_request(object: Object) -> Option<Request>
     Some(Request::Find { table, index, key })
 }
 
-fn nth_request(object: Object) -> Option<Request>
-    ensures { result ≡ (form_of name.Nth).request object }
+fn nth_request<'a>(object: Object<'a>) -> Option<Request<'a>>
+    ensures { result ≡ (form_of name.Nth).request object.entry }
 {
     let members = IndexMembers::of(object);
     let table = text_if_there(members.table)?;
@@ -134,8 +134,8 @@ fn nth_request(object: Object) -> Option<Request>
     Some(Request::Nth { table, index, n })
 }
 
-fn count_request(object: Object) -> Option<Request>
-    ensures { result ≡ (form_of name.Count).request object }
+fn count_request<'a>(object: Object<'a>) -> Option<Request<'a>>
+    ensures { result ≡ (form_of name.Count).request object.entry }
 {
     let members = IndexMembers::of(object);
     let table = text_if_there(members.table)?;
@@ -144,8 +144,8 @@ fn count_request(object: Object) -> Option<Request>
     Some(Request::Count { table, index, key })
 }
 
-fn range_request(object: Object) -> Option<Request>
-    ensures { result ≡ (form_of name.Range).request object }
+fn range_request<'a>(object: Object<'a>) -> Option<Request<'a>>
+    ensures { result ≡ (form_of name.Range).request object.entry }
 {
     let members = PageMembers::of(object);
     let table = text_if_there(members.table)?;
@@ -164,8 +164,8 @@ fn range_request(object: Object) -> Option<Request>
     })
 }
 
-fn list_request(object: Object) -> Option<Request>
-    ensures { result ≡ (form_of name.List).request object }
+fn list_request<'a>(object: Object<'a>) -> Option<Request<'a>>
+    ensures { result ≡ (form_of name.List).request object.entry }
 {
     let members = PageMembers::of(object);
     let table = text_if_there(members.table)?;
@@ -180,8 +180,8 @@ fn list_request(object: Object) -> Option<Request>
     })
 }
 
-fn rank_request(object: Object) -> Option<Request>
-    ensures { result ≡ (form_of name.Rank).request object }
+fn rank_request<'a>(object: Object<'a>) -> Option<Request<'a>>
+    ensures { result ≡ (form_of name.Rank).request object.entry }
 {
     let members = IndexMembers::of(object);
     let table = text_if_there(members.table)?;
@@ -190,8 +190,8 @@ fn rank_request(object: Object) -> Option<Request>
     Some(Request::Rank { table, index, id })
 }
 
-fn lower_rank_request(object: Object) -> Option<Request>
-    ensures { result ≡ (form_of name.LowerRank).request object }
+fn lower_rank_request<'a>(object: Object<'a>) -> Option<Request<'a>>
+    ensures { result ≡ (form_of name.LowerRank).request object.entry }
 {
     let members = IndexMembers::of(object);
     let table = text_if_there(members.table)?;
@@ -200,8 +200,8 @@ fn lower_rank_request(object: Object) -> Option<Request>
     Some(Request::LowerRank { table, index, key })
 }
 
-fn upper_rank_request(object: Object) -> Option<Request>
-    ensures { result ≡ (form_of name.UpperRank).request object }
+fn upper_rank_request<'a>(object: Object<'a>) -> Option<Request<'a>>
+    ensures { result ≡ (form_of name.UpperRank).request object.entry }
 {
     let members = IndexMembers::of(object);
     let table = text_if_there(members.table)?;
@@ -210,8 +210,8 @@ fn upper_rank_request(object: Object) -> Option<Request>
     Some(Request::UpperRank { table, index, key })
 }
 
-fn size_request(object: Object) -> Option<Request>
-    ensures { result ≡ (form_of name.Size).request object }
+fn size_request<'a>(object: Object<'a>) -> Option<Request<'a>>
+    ensures { result ≡ (form_of name.Size).request object.entry }
 {
     let mut object = object;
     let table = text_if_there(object.move_out("table"))?;
@@ -219,8 +219,12 @@ fn size_request(object: Object) -> Option<Request>
 }
 
 /// The request that the members of a command are.
-pub(crate) fn request_by(alloc: Global, name: CommandName, object: Object) -> Option<Request>
-    ensures { result ≡ lines.request_by object (form_of name) }
+pub(crate) fn request_by<'a>(
+    alloc: Global,
+    name: CommandName,
+    object: Object<'a>,
+) -> Option<Request<'a>>
+    ensures { result ≡ lines.request_by object.entry (form_of name) }
 {
     if !object.has_only(name.members()) {
         return None;

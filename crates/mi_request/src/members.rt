@@ -1,33 +1,32 @@
 //! The members of a command, moved out of its object. It reads none of them.
-ghost use Rattle.std.specs.Prelude.{◌≡◌, codes, option_map};
+ghost use Rattle.std.specs.Prelude.{◌≡◌, codes};
 ghost use Rattle.serde_json.specs.Find.{get_member};
-ghost use Rattle.serde_json.specs.View.{view};
 
 use crate::object::Object;
-use serde_json::Value as Json;
+use crate::value::Json;
 
 /// The members of commands over a record or its row, those that are there.
 #[derive(Debug, Drop)]
-pub(crate) struct RowMembers {
-    pub(crate) table: Option<Json>,
-    pub(crate) id: Option<Json>,
-    pub(crate) row: Option<Json>,
-    pub(crate) before: Option<Json>,
-    pub(crate) set: Option<Json>,
-    pub(crate) add: Option<Json>,
-    pub(crate) rollback: Option<Json>,
+pub(crate) struct RowMembers<'a> {
+    pub(crate) table: Option<Json<'a>>,
+    pub(crate) id: Option<Json<'a>>,
+    pub(crate) row: Option<Json<'a>>,
+    pub(crate) before: Option<Json<'a>>,
+    pub(crate) set: Option<Json<'a>>,
+    pub(crate) add: Option<Json<'a>>,
+    pub(crate) rollback: Option<Json<'a>>,
 }
 
-impl RowMembers {
+impl<'a> RowMembers<'a> {
     /// Those of an object.
-    pub(crate) fn of(object: Object) -> RowMembers
-        ensures table { option_map view result.table ≡ get_member (codes "table") object }
-        ensures id { option_map view result.id ≡ get_member (codes "id") object }
-        ensures row { option_map view result.row ≡ get_member (codes "row") object }
-        ensures before { option_map view result.before ≡ get_member (codes "before") object }
-        ensures set { option_map view result.set ≡ get_member (codes "set") object }
-        ensures add { option_map view result.add ≡ get_member (codes "add") object }
-        ensures rollback { option_map view result.rollback ≡ get_member (codes "rollback") object }
+    pub(crate) fn of(object: Object<'a>) -> RowMembers<'a>
+        ensures table { result.table ≡ get_member (codes "table") object.entry }
+        ensures id { result.id ≡ get_member (codes "id") object.entry }
+        ensures row { result.row ≡ get_member (codes "row") object.entry }
+        ensures before { result.before ≡ get_member (codes "before") object.entry }
+        ensures set { result.set ≡ get_member (codes "set") object.entry }
+        ensures add { result.add ≡ get_member (codes "add") object.entry }
+        ensures rollback { result.rollback ≡ get_member (codes "rollback") object.entry }
     {
         let mut left = object;
         RowMembers {
@@ -44,24 +43,24 @@ impl RowMembers {
 
 /// The members of commands over an index, and of a place, those that are there.
 #[derive(Debug, Drop)]
-pub(crate) struct IndexMembers {
-    pub(crate) table: Option<Json>,
-    pub(crate) index: Option<Json>,
-    pub(crate) id: Option<Json>,
-    pub(crate) before: Option<Json>,
-    pub(crate) key: Option<Json>,
-    pub(crate) n: Option<Json>,
+pub(crate) struct IndexMembers<'a> {
+    pub(crate) table: Option<Json<'a>>,
+    pub(crate) index: Option<Json<'a>>,
+    pub(crate) id: Option<Json<'a>>,
+    pub(crate) before: Option<Json<'a>>,
+    pub(crate) key: Option<Json<'a>>,
+    pub(crate) n: Option<Json<'a>>,
 }
 
-impl IndexMembers {
+impl<'a> IndexMembers<'a> {
     /// Those of an object.
-    pub(crate) fn of(object: Object) -> IndexMembers
-        ensures table { option_map view result.table ≡ get_member (codes "table") object }
-        ensures index { option_map view result.index ≡ get_member (codes "index") object }
-        ensures id { option_map view result.id ≡ get_member (codes "id") object }
-        ensures before { option_map view result.before ≡ get_member (codes "before") object }
-        ensures key { option_map view result.key ≡ get_member (codes "key") object }
-        ensures n { option_map view result.n ≡ get_member (codes "n") object }
+    pub(crate) fn of(object: Object<'a>) -> IndexMembers<'a>
+        ensures table { result.table ≡ get_member (codes "table") object.entry }
+        ensures index { result.index ≡ get_member (codes "index") object.entry }
+        ensures id { result.id ≡ get_member (codes "id") object.entry }
+        ensures before { result.before ≡ get_member (codes "before") object.entry }
+        ensures key { result.key ≡ get_member (codes "key") object.entry }
+        ensures n { result.n ≡ get_member (codes "n") object.entry }
     {
         let mut left = object;
         IndexMembers {
@@ -77,26 +76,26 @@ impl IndexMembers {
 
 /// The members of commands that show several rows, those that are there.
 #[derive(Debug, Drop)]
-pub(crate) struct PageMembers {
-    pub(crate) table: Option<Json>,
-    pub(crate) index: Option<Json>,
-    pub(crate) lower: Option<Json>,
-    pub(crate) upper: Option<Json>,
-    pub(crate) reverse: Option<Json>,
-    pub(crate) limit: Option<Json>,
-    pub(crate) after: Option<Json>,
+pub(crate) struct PageMembers<'a> {
+    pub(crate) table: Option<Json<'a>>,
+    pub(crate) index: Option<Json<'a>>,
+    pub(crate) lower: Option<Json<'a>>,
+    pub(crate) upper: Option<Json<'a>>,
+    pub(crate) reverse: Option<Json<'a>>,
+    pub(crate) limit: Option<Json<'a>>,
+    pub(crate) after: Option<Json<'a>>,
 }
 
-impl PageMembers {
+impl<'a> PageMembers<'a> {
     /// Those of an object.
-    pub(crate) fn of(object: Object) -> PageMembers
-        ensures table { option_map view result.table ≡ get_member (codes "table") object }
-        ensures index { option_map view result.index ≡ get_member (codes "index") object }
-        ensures lower { option_map view result.lower ≡ get_member (codes "lower") object }
-        ensures upper { option_map view result.upper ≡ get_member (codes "upper") object }
-        ensures reverse { option_map view result.reverse ≡ get_member (codes "reverse") object }
-        ensures limit { option_map view result.limit ≡ get_member (codes "limit") object }
-        ensures after { option_map view result.after ≡ get_member (codes "after") object }
+    pub(crate) fn of(object: Object<'a>) -> PageMembers<'a>
+        ensures table { result.table ≡ get_member (codes "table") object.entry }
+        ensures index { result.index ≡ get_member (codes "index") object.entry }
+        ensures lower { result.lower ≡ get_member (codes "lower") object.entry }
+        ensures upper { result.upper ≡ get_member (codes "upper") object.entry }
+        ensures reverse { result.reverse ≡ get_member (codes "reverse") object.entry }
+        ensures limit { result.limit ≡ get_member (codes "limit") object.entry }
+        ensures after { result.after ≡ get_member (codes "after") object.entry }
     {
         let mut left = object;
         PageMembers {
@@ -113,16 +112,16 @@ impl PageMembers {
 
 /// The members of a reserve, those that are there.
 #[derive(Debug, Drop)]
-pub(crate) struct RoomMembers {
-    pub(crate) changes: Option<Json>,
-    pub(crate) sessions: Option<Json>,
+pub(crate) struct RoomMembers<'a> {
+    pub(crate) changes: Option<Json<'a>>,
+    pub(crate) sessions: Option<Json<'a>>,
 }
 
-impl RoomMembers {
+impl<'a> RoomMembers<'a> {
     /// Those of an object.
-    pub(crate) fn of(object: Object) -> RoomMembers
-        ensures changes { option_map view result.changes ≡ get_member (codes "changes") object }
-        ensures sessions { option_map view result.sessions ≡ get_member (codes "sessions") object }
+    pub(crate) fn of(object: Object<'a>) -> RoomMembers<'a>
+        ensures changes { result.changes ≡ get_member (codes "changes") object.entry }
+        ensures sessions { result.sessions ≡ get_member (codes "sessions") object.entry }
     {
         let mut left = object;
         RoomMembers {
@@ -134,20 +133,20 @@ impl RoomMembers {
 
 /// The members of an end of a range, those that are there.
 #[derive(Debug, Drop)]
-pub(crate) struct EndMembers {
-    pub(crate) ge: Option<Json>,
-    pub(crate) gt: Option<Json>,
-    pub(crate) le: Option<Json>,
-    pub(crate) lt: Option<Json>,
+pub(crate) struct EndMembers<'a> {
+    pub(crate) ge: Option<Json<'a>>,
+    pub(crate) gt: Option<Json<'a>>,
+    pub(crate) le: Option<Json<'a>>,
+    pub(crate) lt: Option<Json<'a>>,
 }
 
-impl EndMembers {
+impl<'a> EndMembers<'a> {
     /// Those of an object.
-    pub(crate) fn of(object: Object) -> EndMembers
-        ensures ge { option_map view result.ge ≡ get_member (codes "ge") object }
-        ensures gt { option_map view result.gt ≡ get_member (codes "gt") object }
-        ensures le { option_map view result.le ≡ get_member (codes "le") object }
-        ensures lt { option_map view result.lt ≡ get_member (codes "lt") object }
+    pub(crate) fn of(object: Object<'a>) -> EndMembers<'a>
+        ensures ge { result.ge ≡ get_member (codes "ge") object.entry }
+        ensures gt { result.gt ≡ get_member (codes "gt") object.entry }
+        ensures le { result.le ≡ get_member (codes "le") object.entry }
+        ensures lt { result.lt ≡ get_member (codes "lt") object.entry }
     {
         let mut left = object;
         EndMembers {

@@ -1,8 +1,7 @@
 //! What each kind of member is. It knows no command.
-ghost use Rattle.std.specs.Prelude.{◌≡◌, option_map, option_and_then, None, false};
+ghost use Rattle.std.specs.Prelude.{◌≡◌, option_and_then, None, false};
 ghost use Rattle.serde_json.specs.Data.{no_members};
 ghost use Rattle.serde_json.specs.Find.{as_str, as_array, as_bool, as_object};
-ghost use Rattle.serde_json.specs.View.{view};
 ghost use Rattle.mi_request.specs.Commands as commands;
 ghost use Rattle.mi_request.specs.Json as kinds;
 ghost use Rattle.mi_request.specs.Json.{if_there, default_if};
@@ -11,42 +10,21 @@ ghost use Rattle.mi_value.specs.declared.limits.TheConstants.{MAX_PAGE};
 
 use crate::array::Array;
 use crate::members::{EndMembers, IndexMembers};
+use crate::name::Name;
 use crate::object::Object;
 use crate::request::{End, Place};
-use mi_value::Text;
+use crate::value::Json;
 use mi_value::limits::MAX_PAGE;
-use serde_json::{Map, Value as Json};
 use std::alloc::Global;
 
-pub(crate) fn text_of(value: Json) -> Option<Text>
-    ensures { result ≡ as_str (view value) }
+fn name_of<'a>(value: &Json<'a>) -> Option<Name<'a>>
+    ensures { result ≡ as_str value.now }
 {
-    match value {
-        Json::String(text) => Some(Text::new(text)),
-        _other => None,
-    }
+    Some(Name::new(value.as_str()?))
 }
 
-pub(crate) fn object_of(value: Json) -> Option<Object>
-    ensures { result ≡ as_object (view value) }
-{
-    match value {
-        Json::Object(members) => Some(Object::new(members)),
-        _other => None,
-    }
-}
-
-fn array_of(value: Json) -> Option<Array>
-    ensures { result ≡ as_array (view value) }
-{
-    match value {
-        Json::Array(items) => Some(Array::new(items)),
-        _other => None,
-    }
-}
-
-fn natural_of(value: &Json) -> Option<u64>
-    ensures { result ≡ kinds.natural (view value.now) }
+fn natural_of(value: &Json<'_>) -> Option<u64>
+    ensures { result ≡ kinds.natural value.now }
 {
     match value.as_i64() {
         Some(n) if n >= 0 => Some(n as u64),
@@ -55,40 +33,49 @@ fn natural_of(value: &Json) -> Option<u64>
 }
 
 /// A whole number from 0.
-pub(crate) fn natural(member: Option<Json>) -> Option<u64>
-    ensures { result ≡ option_and_then kinds.natural (option_map view member) }
+pub(crate) fn natural(member: Option<Json<'_>>) -> Option<u64>
+    ensures { result ≡ option_and_then kinds.natural member.entry }
 {
     natural_of(&member?)
 }
 
+fn natural_or_null(value: &Json<'_>) -> Option<Option<u64>>
+    ensures { result ≡ commands.natural_or_null value.now }
+{
+    if value.is_null() {
+        return Some(None);
+    }
+    Some(Some(natural_of(value)?))
+}
+
 /// A whole number from 0; null is as absent.
-pub(crate) fn natural_if_there(member: Option<Json>) -> Option<Option<u64>>
-    ensures { result ≡ default_if None commands.natural_or_null (option_map view member) }
+pub(crate) fn natural_if_there(member: Option<Json<'_>>) -> Option<Option<u64>>
+    ensures { result ≡ default_if None commands.natural_or_null member.entry }
 {
     match member {
-        None | Some(Json::Null) => Some(None),
-        Some(value) => Some(Some(natural_of(&value)?)),
+        Some(value) => natural_or_null(&value),
+        None => Some(None),
     }
 }
 
-pub(crate) fn text(member: Option<Json>) -> Option<Text>
-    ensures { result ≡ option_and_then as_str (option_map view member) }
+pub(crate) fn text<'a>(member: Option<Json<'a>>) -> Option<Name<'a>>
+    ensures { result ≡ option_and_then as_str member.entry }
 {
-    text_of(member?)
+    name_of(&member?)
 }
 
-pub(crate) fn text_if_there(member: Option<Json>) -> Option<Option<Text>>
-    ensures { result ≡ if_there as_str (option_map view member) }
+pub(crate) fn text_if_there<'a>(member: Option<Json<'a>>) -> Option<Option<Name<'a>>>
+    ensures { result ≡ if_there as_str member.entry }
 {
     match member {
-        Some(value) => Some(Some(text_of(value)?)),
+        Some(value) => Some(Some(name_of(&value)?)),
         None => Some(None),
     }
 }
 
 /// True or false; absent it is false.
-pub(crate) fn flag(member: Option<Json>) -> Option<bool>
-    ensures { result ≡ default_if false as_bool (option_map view member) }
+pub(crate) fn flag(member: Option<Json<'_>>) -> Option<bool>
+    ensures { result ≡ default_if false as_bool member.entry }
 {
     match member {
         Some(value) => value.as_bool(),
@@ -96,31 +83,31 @@ pub(crate) fn flag(member: Option<Json>) -> Option<bool>
     }
 }
 
-pub(crate) fn needed_object(member: Option<Json>) -> Option<Object>
-    ensures { result ≡ option_and_then as_object (option_map view member) }
+pub(crate) fn needed_object<'a>(member: Option<Json<'a>>) -> Option<Object<'a>>
+    ensures { result ≡ option_and_then as_object member.entry }
 {
-    object_of(member?)
+    member?.into_object()
 }
 
 /// An object; absent it has no members.
-pub(crate) fn object_or_empty(alloc: Global, member: Option<Json>) -> Option<Object>
-    ensures { result ≡ default_if no_members as_object (option_map view member) }
+pub(crate) fn object_or_empty<'a>(alloc: Global, member: Option<Json<'a>>) -> Option<Object<'a>>
+    ensures { result ≡ default_if no_members as_object member.entry }
 {
     match member {
-        Some(value) => object_of(value),
-        None => Some(Object::new(Map::new(alloc))),
+        Some(value) => value.into_object(),
+        None => Some(Object::new(Vec::new(alloc))),
     }
 }
 
-pub(crate) fn array(member: Option<Json>) -> Option<Array>
-    ensures { result ≡ option_and_then as_array (option_map view member) }
+pub(crate) fn array<'a>(member: Option<Json<'a>>) -> Option<Array<'a>>
+    ensures { result ≡ option_and_then as_array member.entry }
 {
-    array_of(member?)
+    member?.into_array()
 }
 
 /// The place that an object with exactly `index` and `id` names.
-fn place_of(object: Object) -> Option<Place>
-    ensures { result ≡ commands.place_of object }
+fn place_of<'a>(object: Object<'a>) -> Option<Place<'a>>
+    ensures { result ≡ commands.place_of object.entry }
 {
     if !object.has_only(&["index", "id"]) {
         return None;
@@ -131,19 +118,18 @@ fn place_of(object: Object) -> Option<Place>
     Some(Place { index, id })
 }
 
-fn place_or_null(value: Json) -> Option<Option<Place>>
-    ensures { result ≡ commands.place (view value) }
+fn place_or_null<'a>(value: Json<'a>) -> Option<Option<Place<'a>>>
+    ensures { result ≡ commands.place value.entry }
 {
-    match value {
-        Json::Null => Some(None),
-        Json::Object(members) => Some(Some(place_of(Object::new(members))?)),
-        _other => None,
+    if value.is_null() {
+        return Some(None);
     }
+    Some(Some(place_of(value.into_object()?)?))
 }
 
 /// The place before which a record is inserted; null is as absent.
-pub(crate) fn place(member: Option<Json>) -> Option<Option<Place>>
-    ensures { result ≡ default_if None commands.place (option_map view member) }
+pub(crate) fn place<'a>(member: Option<Json<'a>>) -> Option<Option<Place<'a>>>
+    ensures { result ≡ default_if None commands.place member.entry }
 {
     match member {
         Some(value) => place_or_null(value),
@@ -152,8 +138,8 @@ pub(crate) fn place(member: Option<Json>) -> Option<Option<Place>>
 }
 
 /// A whole number from 0 that may be absent.
-pub(crate) fn natural_or_absent(member: Option<Json>) -> Option<Option<u64>>
-    ensures { result ≡ if_there kinds.natural (option_map view member) }
+pub(crate) fn natural_or_absent(member: Option<Json<'_>>) -> Option<Option<u64>>
+    ensures { result ≡ if_there kinds.natural member.entry }
 {
     match member {
         Some(value) => Some(Some(natural_of(&value)?)),
@@ -161,22 +147,22 @@ pub(crate) fn natural_or_absent(member: Option<Json>) -> Option<Option<u64>>
     }
 }
 
-fn up_to_of(value: &Json, most: u64) -> Option<u64>
-    ensures { result ≡ commands.up_to most (view value.now) }
+fn up_to_of(value: &Json<'_>, most: u64) -> Option<u64>
+    ensures { result ≡ commands.up_to most value.now }
 {
     let n = natural_of(value)?;
     if n <= most { Some(n) } else { None }
 }
 
 /// A whole number from 0 to `most`.
-pub(crate) fn up_to(member: Option<Json>, most: u64) -> Option<u64>
-    ensures { result ≡ option_and_then (commands.up_to most) (option_map view member) }
+pub(crate) fn up_to(member: Option<Json<'_>>, most: u64) -> Option<u64>
+    ensures { result ≡ option_and_then (commands.up_to most) member.entry }
 {
     up_to_of(&member?, most)
 }
 
-fn page_of(value: &Json) -> Option<usize>
-    ensures { result ≡ commands.page (view value.now) }
+fn page_of(value: &Json<'_>) -> Option<usize>
+    ensures { result ≡ commands.page value.now }
 {
     let n = natural_of(value)?;
     if 1 <= n && n <= MAX_PAGE as u64 {
@@ -187,8 +173,8 @@ fn page_of(value: &Json) -> Option<usize>
 }
 
 /// A number of rows, 1 to 1,000; absent it is 1,000.
-pub(crate) fn page(member: Option<Json>) -> Option<usize>
-    ensures { result ≡ default_if MAX_PAGE commands.page (option_map view member) }
+pub(crate) fn page(member: Option<Json<'_>>) -> Option<usize>
+    ensures { result ≡ default_if MAX_PAGE commands.page member.entry }
 {
     match member {
         Some(value) => page_of(&value),
@@ -197,20 +183,20 @@ pub(crate) fn page(member: Option<Json>) -> Option<usize>
 }
 
 /// An end of a range by a key that is in it, or by one that isn't, and not both.
-fn one_end(with: Option<Json>, without: Option<Json>) -> Option<End>
-    ensures { result ≡ commands.one_end (option_map view with) (option_map view without) }
+fn one_end<'a>(with: Option<Json<'a>>, without: Option<Json<'a>>) -> Option<End<'a>>
+    ensures { result ≡ commands.one_end with.entry without.entry }
 {
     match (with, without) {
-        (Some(value), None) => Some(End::With(array_of(value)?)),
-        (None, Some(value)) => Some(End::Without(array_of(value)?)),
+        (Some(value), None) => Some(End::With(value.into_array()?)),
+        (None, Some(value)) => Some(End::Without(value.into_array()?)),
         _ => None,
     }
 }
 
-fn lower_end(value: Json) -> Option<End>
-    ensures { result ≡ commands.lower_end (view value) }
+fn lower_end<'a>(value: Json<'a>) -> Option<End<'a>>
+    ensures { result ≡ commands.lower_end value.entry }
 {
-    let object = object_of(value)?;
+    let object = value.into_object()?;
     if !object.has_only(&["ge", "gt"]) {
         return None;
     }
@@ -218,10 +204,10 @@ fn lower_end(value: Json) -> Option<End>
     one_end(members.ge, members.gt)
 }
 
-fn upper_end(value: Json) -> Option<End>
-    ensures { result ≡ commands.upper_end (view value) }
+fn upper_end<'a>(value: Json<'a>) -> Option<End<'a>>
+    ensures { result ≡ commands.upper_end value.entry }
 {
-    let object = object_of(value)?;
+    let object = value.into_object()?;
     if !object.has_only(&["le", "lt"]) {
         return None;
     }
@@ -230,8 +216,8 @@ fn upper_end(value: Json) -> Option<End>
 }
 
 /// The lower end of a range: an object with exactly `ge` or `gt`, an array. Absent it is open.
-pub(crate) fn lower(member: Option<Json>) -> Option<End>
-    ensures { result ≡ default_if Open commands.lower_end (option_map view member) }
+pub(crate) fn lower<'a>(member: Option<Json<'a>>) -> Option<End<'a>>
+    ensures { result ≡ default_if Open commands.lower_end member.entry }
 {
     match member {
         Some(value) => lower_end(value),
@@ -240,8 +226,8 @@ pub(crate) fn lower(member: Option<Json>) -> Option<End>
 }
 
 /// The upper end of a range: an object with exactly `le` or `lt`, an array. Absent it is open.
-pub(crate) fn upper(member: Option<Json>) -> Option<End>
-    ensures { result ≡ default_if Open commands.upper_end (option_map view member) }
+pub(crate) fn upper<'a>(member: Option<Json<'a>>) -> Option<End<'a>>
+    ensures { result ≡ default_if Open commands.upper_end member.entry }
 {
     match member {
         Some(value) => upper_end(value),
