@@ -27,9 +27,10 @@ pub shown_members-with_member : (id : ℕ) (vs : List Value) (m : Member) (ns : 
     → shown_members id vs (with_member m ns) ≡ put m.name.now (source_data id vs m.source) (shown_members id vs ns)
 shown_members-with_member id vs m [] = refl
 shown_members-with_member id vs m (n ∷ ns) =
-    by_order id vs (slice_cmp nat_cmp m.name.now n.name.now) (m ∷ n ∷ ns) (record n { source = m.source } ∷ ns) (n ∷ with_member m ns)
-    ∙ ap (λ ms. match_ordering (slice_cmp nat_cmp m.name.now n.name.now) (shown_members id vs (m ∷ n ∷ ns)) (shown_members id vs (record n { source = m.source } ∷ ns))
-        (member n.name.now (source_data id vs n.source) ms)) (shown_members-with_member id vs m ns)
+    let taken : Member = record n { source = m.source } in
+    by_order id vs (slice_cmp nat_cmp m.name.now n.name.now) (m ∷ n ∷ ns) (taken ∷ ns) (n ∷ with_member m ns)
+    ∙ ap (match_ordering (slice_cmp nat_cmp m.name.now n.name.now) (shown_members id vs (m ∷ n ∷ ns)) (shown_members id vs (taken ∷ ns)))
+    (ap (member n.name.now (source_data id vs n.source)) (shown_members-with_member id vs m ns))
 
 -- one element in place of another
 slice_set-parts : {X : Type 0} (xs : List X) (i : ℕ) (y : X) → i < length xs → slice_set xs i y ≡ take i xs ++ y ∷ drop (i + 1) xs

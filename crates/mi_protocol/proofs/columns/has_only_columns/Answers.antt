@@ -5,4 +5,6 @@ use Rattle.mi_request.proofs.ObjectLemmas.{has_only-names}
 use Rattle.mi_protocol.proofs.columns.has_only_columns.Goals as goal
 
 pub returns : goal.returns
-returns c = c.are_columns.ensures ∙ has_only-names (λ (x : Column). x.name) c.args.columns.now _ ∙ ap (has_only (map (λ x. x.name) c.args.columns.now)) c.members.ensures
+returns c =
+    c.are_columns.ensures ∙ has_only-names (λ (x : Column). x.name) c.args.columns.now _
+    ∙ ap (has_only (map (λ x. x.name) c.args.columns.now)) c.members.ensures

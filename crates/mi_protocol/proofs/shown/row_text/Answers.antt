@@ -14,5 +14,5 @@ returns c =
     let tokens : c.write_row.new.writer.tokens ≡ json_tokens (outline row) = search rules in
     let closed = c.in_ok-push.ensures.items in
     text_between row c.write_row.new.writer.tokens front c.write_row.new.writer.before c.into_inner-text.result.items c.push.new.self.items (codes "}")
-        begun tokens c.into_inner-text.ensures.items closed
+    begun tokens c.into_inner-text.ensures.items closed
     ∙ row_reply row

@@ -14,5 +14,5 @@ returns c =
     let tokens : c.write_rows.new.writer.tokens ≡ json_tokens (outline rows) = search rules in
     let closed = c.in_ok-push.ensures.items in
     text_between rows c.write_rows.new.writer.tokens (rows_front c.args.more) c.write_rows.new.writer.before c.into_inner-text.result.items
-        c.push.new.self.items (codes "}") begun tokens c.into_inner-text.ensures.items closed
+    c.push.new.self.items (codes "}") begun tokens c.into_inner-text.ensures.items closed
     ∙ rows_reply c.args.more rows
