@@ -1,19 +1,18 @@
 -- Members of objects: which names they have, what one of a name is, and one taken out.
-use Rattle.std.proofs.Common.{◌≡◌, ℕ, zero, suc, List, [], ◌∷◌, ◌++◌, length, map, get_or, set, Bool, true, false, cond, Option, Some, None, Global, Bor, refl, sym, ap, ap₂, ◌∙◌, ◌&&◌, ◌||◌, ◌⊎◌, inl, inr, true≢false, Ordering, Less, Equal, Greater, nat_cmp, rules}
+use Rattle.std.proofs.Common.{◌≡◌, ℕ, zero, suc, List, [], ◌∷◌, ◌++◌, length, map, get_or, set, Bool, true, false, cond, Option, Some, None}
+use Rattle.std.proofs.Common.{Global, Bor, refl, sym, ap, ap₂, ◌∙◌, ◌&&◌, ◌||◌, ◌⊎◌, inl, inr, true≢false, Ordering, Less, Equal, Greater, nat_cmp, rules}
 use Rattle.std.specs.List.{list_any, list_all}
 use Rattle.std.specs.Ordering.{match_ordering, is_eq}
 use Rattle.std.specs.Cmp.Lexicographic.{slice_cmp}
 use Rattle.std.specs.Str.{bytes_eq}
 use Rattle.std.proofs.lemmas.Map.Text.{is_eq-slice_cmp}
 use Rattle.std.proofs.lemmas.Slice.Eq.{bytes_eq-Decides}
-use Rattle.json.specs.Find as json
-use Rattle.json.specs.Json as tree
 use Rattle.json.specs.Value.{value_view, members_view}
 use Rattle.json.specs.declared.value.Value.{Value, Null, the_lemmas}
 use Rattle.serde_json.specs.Data.{Data, null, Members, no_members, member, put}
-use Rattle.serde_json.specs.Find.{get_member, as_str}
+use Rattle.serde_json.specs.Find.{get_member}
 use Rattle.mi_request.specs.Json.{has_only, emptied}
-use Rattle.mi_request.specs.Meant.{meant, meant_members, seen, members_seen, or_first, last_at}
+use Rattle.mi_request.specs.Meant.{meant_members, seen, members_seen, or_first, last_at}
 
 -- ---- names
 
@@ -66,7 +65,7 @@ get_put_at Greater name k l d e ms is later =
     ∙ crossed (bytes_eq name k) (bytes_eq name l) (Some d) (Some e) (get_member name ms) (apart name k l (sym (eq_of k l Greater is)))
     ∙ ap (cond (bytes_eq name k) (Some d)) (sym (get_front name l e ms))
 
-pub get_member-put : (name k : List ℕ) (d : Data) (ms : Members) → get_member name (put k d ms) ≡ cond (bytes_eq name k) (Some d) (get_member name ms)
+get_member-put : (name k : List ℕ) (d : Data) (ms : Members) → get_member name (put k d ms) ≡ cond (bytes_eq name k) (Some d) (get_member name ms)
 get_member-put name k d no_members = get_front name k d no_members
 get_member-put name k d (member l e ms) = get_put_at _ name k l d e ms refl (get_member-put name k d ms)
 
@@ -181,7 +180,7 @@ or_none true None e = absurd (cc)
 or_none false None e = (refl, refl)
 
 -- the member of which i tells is behind the first, or it is the first
-pub or_some : (b : Bool) (r : Option ℕ) (i : ℕ) → or_first b r ≡ Some i → ((j : ℕ) × (r ≡ Some j) × (i ≡ suc j)) ⊎ ((r ≡ None) × (b ≡ true) × (i ≡ zero))
+or_some : (b : Bool) (r : Option ℕ) (i : ℕ) → or_first b r ≡ Some i → ((j : ℕ) × (r ≡ Some j) × (i ≡ suc j)) ⊎ ((r ≡ None) × (b ≡ true) × (i ≡ zero))
 or_some b (Some j) i e = inl (j, refl, cc)
 or_some true None i e = inr (refl, refl, cc)
 or_some false None i e = absurd (cc)
@@ -266,33 +265,3 @@ get_member-emptied k l (member n d ms) other = emptied_at _ k l n d ms refl othe
 -- the same after a call that moved a value out
 pub kept : (k l : List ℕ) (ms left : Members) → left ≡ emptied l ms → bytes_eq k l ≡ false → get_member k left ≡ get_member k ms
 kept k l ms left is other = ap (get_member k) is ∙ get_member-emptied k l ms other
-
--- the members with null at these names, the last one emptied first
-abbrev pub emptied_all : List (List ℕ) → Members → Members
-emptied_all [] ms = ms
-emptied_all (n ∷ ns) ms = emptied n (emptied_all ns ms)
-
-not_named : (a b : Bool) → (a || b) ≡ false → (a ≡ false) × (b ≡ false)
-not_named true b h = absurd (true≢false h)
-not_named false b h = (refl, h)
-
--- a member of another name keeps its value where several are moved out
-pub stays : (k : List ℕ) (ns : List (List ℕ)) (ms left : Members) → left ≡ emptied_all ns ms → list_any (λ n. bytes_eq k n) ns ≡ false → get_member k left ≡ get_member k ms
-stays k [] ms left is other = ap (get_member k) is
-stays k (n ∷ ns) ms left is other =
-    let p = not_named (bytes_eq k n) _ other in
-    kept k n (emptied_all ns ms) left is p.0 ∙ stays k ns ms (emptied_all ns ms) refl p.1
-
--- ---- texts
-
--- a value is the text that it is written as
-pub as_str-seen : {A : Type 0} (v : Value A) → as_str (seen v) ≡ json.as_str (value_view v)
-as_str-seen v = text_of (value_view v)
-  where
-    text_of : (j : tree.Json) → as_str (meant j) ≡ json.as_str j
-    text_of tree.null = refl
-    text_of (tree.boolean b) = refl
-    text_of (tree.number s) = refl
-    text_of (tree.string s) = refl
-    text_of (tree.array js) = refl
-    text_of (tree.object ms) = refl

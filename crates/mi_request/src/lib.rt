@@ -6,7 +6,6 @@ mod array;
 mod command;
 mod forms;
 mod line_reader;
-mod members;
 mod name;
 mod numbers;
 mod object;

@@ -66,10 +66,10 @@ fn taken<'a>(members: &mut [(&'a str, Value<'a>)], at: usize) -> Value<'a>
 }
 
 impl<'a> Object<'a> {
-    ghost use Rattle.std.specs.Prelude.{◌≡◌, map, option_map};
-    ghost use Rattle.serde_json.specs.Find.{get_member, as_str};
-    ghost use Rattle.mi_request.specs.Json.{has_only, emptied, needed};
-    ghost use Rattle.mi_request.specs.Meant.{members_seen};
+    ghost use Rattle.std.specs.Prelude.{◌≡◌, map, option_map, bytes_eq, false};
+    ghost use Rattle.serde_json.specs.Find.{get_member};
+    ghost use Rattle.mi_request.specs.Json.{has_only, emptied};
+    ghost use Rattle.mi_request.specs.Meant.{seen, members_seen};
 
     /// The object of these members.
     pub(crate) fn new(members: Vec<(&'a str, Value<'a>)>) -> Object<'a>
@@ -78,12 +78,12 @@ impl<'a> Object<'a> {
         Object { members }
     }
 
-    /// The text that the member of this name is.
-    pub(crate) fn text_of(&self, name: &str) -> Option<&'a str>
-        ensures { option_map (λ s. s.now) result ≡ needed as_str name.now self.now }
+    /// The value of the member of this name, as it was read.
+    pub(crate) fn get(&self, name: &str) -> Option<&Value<'a>>
+        ensures { option_map (λ v. seen v.now) result ≡ get_member name.now self.now }
     {
         let at = place_of(self.members.as_slice(), name)?;
-        self.members[at].1.as_str()
+        Some(&self.members[at].1)
     }
 
     /// Moves the value of the member of this name out. Null stands in its place.
@@ -93,6 +93,17 @@ impl<'a> Object<'a> {
     {
         let at = place_of(self.members.as_slice(), name)?;
         Some(Json::new(taken(self.members.as_mut_slice(), at)))
+    }
+
+    /// The values of the members of two names, moved out.
+    pub(crate) fn into_two(self, first: &str, second: &str) -> (Option<Json<'a>>, Option<Json<'a>>)
+        requires { bytes_eq second.now first.now ≡ false }
+        ensures first { result.0 ≡ get_member first.now self.entry }
+        ensures second { result.1 ≡ get_member second.now self.entry }
+    {
+        let mut left = self;
+        let value = left.move_out(first);
+        (value, left.move_out(second))
     }
 
     /// Whether no member has another name than these.

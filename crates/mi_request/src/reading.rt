@@ -4,43 +4,36 @@ ghost use Rattle.serde_json.specs.Data.{no_members};
 ghost use Rattle.serde_json.specs.Find.{as_str, as_array, as_bool, as_object};
 ghost use Rattle.mi_request.specs.Commands as commands;
 ghost use Rattle.mi_request.specs.Json as kinds;
-ghost use Rattle.mi_request.specs.Json.{if_there, default_if};
+ghost use Rattle.mi_request.specs.Json.{needed, optional, default, default_if};
+ghost use Rattle.mi_request.specs.Meant.{seen};
 ghost use Rattle.mi_request.specs.declared.request.End.TheVariants.{Open};
 ghost use Rattle.mi_value.specs.declared.limits.TheConstants.{MAX_PAGE};
 
 use crate::array::Array;
-use crate::members::{EndMembers, IndexMembers};
 use crate::name::Name;
+use crate::numbers::whole_number;
 use crate::object::Object;
 use crate::request::{End, Place};
 use crate::value::Json;
+use json::Value;
 use mi_value::limits::MAX_PAGE;
 use std::alloc::Global;
 
-fn name_of<'a>(value: &Json<'a>) -> Option<Name<'a>>
-    ensures { result ≡ as_str value.now }
+fn name_of<'a>(value: &Value<'a>) -> Option<Name<'a>>
+    ensures { result ≡ as_str (seen value.now) }
 {
     Some(Name::new(value.as_str()?))
 }
 
-fn natural_of(value: &Json<'_>) -> Option<u64>
-    ensures { result ≡ kinds.natural value.now }
+fn natural_of(value: &Value<'_>) -> Option<u64>
+    ensures { result ≡ kinds.natural (seen value.now) }
 {
-    match value.as_i64() {
-        Some(n) if n >= 0 => Some(n as u64),
-        _ => None,
-    }
+    let n = whole_number(value.as_number()?)?;
+    if n >= 0 { Some(n as u64) } else { None }
 }
 
-/// A whole number from 0.
-pub(crate) fn natural(member: Option<Json<'_>>) -> Option<u64>
-    ensures { result ≡ option_and_then kinds.natural member.entry }
-{
-    natural_of(&member?)
-}
-
-fn natural_or_null(value: &Json<'_>) -> Option<Option<u64>>
-    ensures { result ≡ commands.natural_or_null value.now }
+fn natural_or_null(value: &Value<'_>) -> Option<Option<u64>>
+    ensures { result ≡ commands.natural_or_null (seen value.now) }
 {
     if value.is_null() {
         return Some(None);
@@ -48,38 +41,98 @@ fn natural_or_null(value: &Json<'_>) -> Option<Option<u64>>
     Some(Some(natural_of(value)?))
 }
 
-/// A whole number from 0; null is as absent.
-pub(crate) fn natural_if_there(member: Option<Json<'_>>) -> Option<Option<u64>>
-    ensures { result ≡ default_if None commands.natural_or_null member.entry }
+fn flag_of(value: &Value<'_>) -> Option<bool>
+    ensures { result ≡ as_bool (seen value.now) }
 {
-    match member {
-        Some(value) => natural_or_null(&value),
+    value.as_bool()
+}
+
+/// The text of a member.
+pub(crate) fn text<'a>(object: &Object<'a>, name: &str) -> Option<Name<'a>>
+    ensures { result ≡ needed as_str name.now object.now }
+{
+    name_of(object.get(name)?)
+}
+
+/// The text of a member that may be absent.
+pub(crate) fn text_if_there<'a>(object: &Object<'a>, name: &str) -> Option<Option<Name<'a>>>
+    ensures { result ≡ optional as_str name.now object.now }
+{
+    match object.get(name) {
+        Some(value) => Some(Some(name_of(value)?)),
         None => Some(None),
     }
 }
 
-pub(crate) fn text<'a>(member: Option<Json<'a>>) -> Option<Name<'a>>
-    ensures { result ≡ option_and_then as_str member.entry }
+/// A whole number from 0.
+pub(crate) fn natural(object: &Object<'_>, name: &str) -> Option<u64>
+    ensures { result ≡ needed kinds.natural name.now object.now }
 {
-    name_of(&member?)
+    natural_of(object.get(name)?)
 }
 
-pub(crate) fn text_if_there<'a>(member: Option<Json<'a>>) -> Option<Option<Name<'a>>>
-    ensures { result ≡ if_there as_str member.entry }
+/// A whole number from 0; null is as absent.
+pub(crate) fn natural_if_there(object: &Object<'_>, name: &str) -> Option<Option<u64>>
+    ensures { result ≡ default None commands.natural_or_null name.now object.now }
 {
-    match member {
-        Some(value) => Some(Some(name_of(&value)?)),
+    match object.get(name) {
+        Some(value) => natural_or_null(value),
+        None => Some(None),
+    }
+}
+
+/// A whole number from 0 that may be absent.
+pub(crate) fn natural_or_absent(object: &Object<'_>, name: &str) -> Option<Option<u64>>
+    ensures { result ≡ optional kinds.natural name.now object.now }
+{
+    match object.get(name) {
+        Some(value) => Some(Some(natural_of(value)?)),
         None => Some(None),
     }
 }
 
 /// True or false; absent it is false.
-pub(crate) fn flag(member: Option<Json<'_>>) -> Option<bool>
-    ensures { result ≡ default_if false as_bool member.entry }
+pub(crate) fn flag(object: &Object<'_>, name: &str) -> Option<bool>
+    ensures { result ≡ default false as_bool name.now object.now }
 {
-    match member {
-        Some(value) => value.as_bool(),
+    match object.get(name) {
+        Some(value) => flag_of(value),
         None => Some(false),
+    }
+}
+
+fn up_to_of(value: &Value<'_>, most: u64) -> Option<u64>
+    ensures { result ≡ commands.up_to most (seen value.now) }
+{
+    let n = natural_of(value)?;
+    if n <= most { Some(n) } else { None }
+}
+
+/// A whole number from 0 to `most`.
+pub(crate) fn up_to(object: &Object<'_>, name: &str, most: u64) -> Option<u64>
+    ensures { result ≡ needed (commands.up_to most) name.now object.now }
+{
+    up_to_of(object.get(name)?, most)
+}
+
+fn page_of(value: &Value<'_>) -> Option<usize>
+    ensures { result ≡ commands.page (seen value.now) }
+{
+    let n = natural_of(value)?;
+    if 1 <= n && n <= MAX_PAGE as u64 {
+        Some(n as usize)
+    } else {
+        None
+    }
+}
+
+/// A number of rows, 1 to 1,000; absent it is 1,000.
+pub(crate) fn page(object: &Object<'_>, name: &str) -> Option<usize>
+    ensures { result ≡ default MAX_PAGE commands.page name.now object.now }
+{
+    match object.get(name) {
+        Some(value) => page_of(value),
+        None => Some(MAX_PAGE),
     }
 }
 
@@ -106,15 +159,14 @@ pub(crate) fn array<'a>(member: Option<Json<'a>>) -> Option<Array<'a>>
 }
 
 /// The place that an object with exactly `index` and `id` names.
-fn place_of<'a>(object: Object<'a>) -> Option<Place<'a>>
-    ensures { result ≡ commands.place_of object.entry }
+fn place_of<'a>(object: &Object<'a>) -> Option<Place<'a>>
+    ensures { result ≡ commands.place_of object.now }
 {
     if !object.has_only(&["index", "id"]) {
         return None;
     }
-    let members = IndexMembers::of(object);
-    let index = text(members.index)?;
-    let id = natural(members.id)?;
+    let index = text(object, "index")?;
+    let id = natural(object, "id")?;
     Some(Place { index, id })
 }
 
@@ -124,7 +176,7 @@ fn place_or_null<'a>(value: Json<'a>) -> Option<Option<Place<'a>>>
     if value.is_null() {
         return Some(None);
     }
-    Some(Some(place_of(value.into_object()?)?))
+    Some(Some(place_of(&value.into_object()?)?))
 }
 
 /// The place before which a record is inserted; null is as absent.
@@ -134,51 +186,6 @@ pub(crate) fn place<'a>(member: Option<Json<'a>>) -> Option<Option<Place<'a>>>
     match member {
         Some(value) => place_or_null(value),
         None => Some(None),
-    }
-}
-
-/// A whole number from 0 that may be absent.
-pub(crate) fn natural_or_absent(member: Option<Json<'_>>) -> Option<Option<u64>>
-    ensures { result ≡ if_there kinds.natural member.entry }
-{
-    match member {
-        Some(value) => Some(Some(natural_of(&value)?)),
-        None => Some(None),
-    }
-}
-
-fn up_to_of(value: &Json<'_>, most: u64) -> Option<u64>
-    ensures { result ≡ commands.up_to most value.now }
-{
-    let n = natural_of(value)?;
-    if n <= most { Some(n) } else { None }
-}
-
-/// A whole number from 0 to `most`.
-pub(crate) fn up_to(member: Option<Json<'_>>, most: u64) -> Option<u64>
-    ensures { result ≡ option_and_then (commands.up_to most) member.entry }
-{
-    up_to_of(&member?, most)
-}
-
-fn page_of(value: &Json<'_>) -> Option<usize>
-    ensures { result ≡ commands.page value.now }
-{
-    let n = natural_of(value)?;
-    if 1 <= n && n <= MAX_PAGE as u64 {
-        Some(n as usize)
-    } else {
-        None
-    }
-}
-
-/// A number of rows, 1 to 1,000; absent it is 1,000.
-pub(crate) fn page(member: Option<Json<'_>>) -> Option<usize>
-    ensures { result ≡ default_if MAX_PAGE commands.page member.entry }
-{
-    match member {
-        Some(value) => page_of(&value),
-        None => Some(MAX_PAGE),
     }
 }
 
@@ -200,8 +207,8 @@ fn lower_end<'a>(value: Json<'a>) -> Option<End<'a>>
     if !object.has_only(&["ge", "gt"]) {
         return None;
     }
-    let members = EndMembers::of(object);
-    one_end(members.ge, members.gt)
+    let (with, without) = object.into_two("ge", "gt");
+    one_end(with, without)
 }
 
 fn upper_end<'a>(value: Json<'a>) -> Option<End<'a>>
@@ -211,8 +218,8 @@ fn upper_end<'a>(value: Json<'a>) -> Option<End<'a>>
     if !object.has_only(&["le", "lt"]) {
         return None;
     }
-    let members = EndMembers::of(object);
-    one_end(members.le, members.lt)
+    let (with, without) = object.into_two("le", "lt");
+    one_end(with, without)
 }
 
 /// The lower end of a range: an object with exactly `ge` or `gt`, an array. Absent it is open.
