@@ -15,10 +15,11 @@ returns-clause-tokens c =
     let start : Members = put (codes "id") (number (unsigned c.args.id)) no_members in
     let front : c.split_at.result.0.now ≡ take (length vs) c.args.columns.now = c.split_at.ensures.front in
     let fits : length c.split_at.result.0.now ≤ length vs = omega (arith, c.split_at.ensures.front_len) in
-    let shown : shown_members c.args.id vs c.in_ok-own_order.own_order.entries ≡ row_members c.split_at.result.0.now c.args.id vs =
-    c.in_ok-own_order.ensures c.args.id vs fits in
-    let is : shown_members c.args.id vs c.in_ok-own_order.own_order.entries ≡ row_members c.args.columns.now c.args.id c.args.row.now =
+    let shown : shown_members c.args.id vs c.row_order-own_order.result.items ≡ row_members c.split_at.result.0.now c.args.id vs =
+    c.row_order-own_order.ensures c.args.id vs fits in
+    let is : shown_members c.args.id vs c.row_order-own_order.result.items ≡ row_members c.args.columns.now c.args.id c.args.row.now =
     shown ∙ ap (λ cs. with_values cs vs start) front ∙ with_values-known c.args.columns.now vs start
     ∙ ap (λ ws. with_values c.args.columns.now ws start) c.values-values.ensures in
+    let lent : c.as_slice.result.now ≡ c.row_order-own_order.result.items = c.as_slice.ensures.value in
     subst (λ ms. OnOk c.write_ordered-2.result (c.write_ordered-2.new.writer.tokens ≡ c.args.writer.now.tokens ++ json_tokens (outline (object ms))))
-    is c.write_ordered-2.ensures.tokens
+    (ap (shown_members c.args.id vs) lent ∙ is) c.write_ordered-2.ensures.tokens
