@@ -120,7 +120,8 @@ fn conflict(id: u64, index: &str, after: &[u8]) -> ReplyText
 
 /// The text of the sessions that are open and that are held, and of the revision.
 fn status(depth: u64, held: u64, revision: u64) -> ReplyText
-    ensures text { text_bytes result ≡ codes "{\"depth\":" ++ decimal depth ++ codes ",\"held\":" ++ decimal held ++ codes ",\"ok\":true,\"revision\":" ++ decimal revision ++ codes "}" }
+    ensures text { text_bytes result ≡ codes "{\"depth\":" ++ decimal depth ++ codes ",\"held\":"
+        ++ decimal held ++ codes ",\"ok\":true,\"revision\":" ++ decimal revision ++ codes "}" }
     ensures form { is_short_text result ≡ true }
 {
     let mut out = ArrayVec::new();

@@ -79,6 +79,7 @@ fn add_member<'a>(order: &mut Order<'a>, member: Member<'a>)
 }
 
 /// Where the members of a row stand, by their names: `id` and all columns.
+#[inline(always)]
 fn row_order<'a>(columns: &'a [Column]) -> Order<'a>
     requires { length columns.now ≤ MAX_COLUMNS }
     ensures { (id : ℕ) (vs : List ValueSpec) → length columns.now ≤ length vs
@@ -149,8 +150,26 @@ fn write_ordered(
     Ok(())
 }
 
-/// Writes a row as an object, in the order of the columns that is given. A row without a value for each column shows those
-/// that it has.
+/// Writes a row that has fewer values than there are columns: it shows those that it has.
+#[cold]
+#[inline(never)]
+fn write_short_row(
+    writer: &mut Writer,
+    id: u64,
+    values: &[Value],
+    columns: &[Column],
+) -> Result<(), AllocError>
+    requires few { length columns.now ≤ MAX_COLUMNS }
+    requires shorter { length values.now ≤ length columns.now }
+    ensures tokens { OnOk result (writer.new.tokens ≡ writer.old.tokens ++ json_tokens (outline (row_data columns.now id values.now))) }
+    ensures before { OnOk result (writer.new.before ≡ writer.old.before) }
+{
+    let (known, _) = columns.split_at(values.len());
+    let order = row_order(known);
+    write_ordered(writer, id, values, order.as_slice())
+}
+
+/// Writes a row as an object, in the order of the columns that is given.
 fn write_row(
     writer: &mut Writer,
     id: u64,
@@ -164,12 +183,10 @@ fn write_row(
     ensures before { OnOk result (writer.new.before ≡ writer.old.before) }
 {
     let values = row.values();
-    if values.len() >= columns.len() {
-        return write_ordered(writer, id, values, order);
+    if values.len() < columns.len() {
+        return write_short_row(writer, id, values, columns);
     }
-    let (known, _) = columns.split_at(values.len());
-    let own_order = row_order(known);
-    write_ordered(writer, id, values, own_order.as_slice())
+    write_ordered(writer, id, values, order)
 }
 
 /// The text of the reply that shows a row.
