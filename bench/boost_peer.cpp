@@ -1,56 +1,17 @@
-// The table `accounts` as a Boost.MultiIndex container with the same six indexes, and sessions as in chainbase: a change inside a
-// session keeps the old value of the record, and an undo puts the old values back, the newest first.
+// The table `accounts` as a Boost.MultiIndex container, and sessions as in chainbase: a change inside a session keeps the old value of
+// the record, and an undo puts the old values back, the newest first.
 //
-// Equals stand in the order in which they came to their key, and an undo puts them back there. Boost promises neither for an
-// element whose key is changed, so each key has a stamp as its last part. The list remembers before whom an erased or moved
-// record stood.
-//
-// `by_vip` is ordered here and not hashed: a hashed index of Boost walks the records of one key whenever one of them is modified,
-// and most of the table has one key.
+// The list remembers before whom an erased or moved record stood; `accounts.hpp` says how the other indexes keep their places.
+#include "accounts.hpp"
 #include "front.hpp"
 
 #include <algorithm>
 #include <cstdio>
 
-#include <boost/multi_index/composite_key.hpp>
-#include <boost/multi_index/hashed_index.hpp>
-#include <boost/multi_index/key.hpp>
-#include <boost/multi_index/ordered_index.hpp>
-#include <boost/multi_index/ranked_index.hpp>
-#include <boost/multi_index/sequenced_index.hpp>
-#include <boost/multi_index_container.hpp>
 #include <boost/tuple/tuple.hpp>
 #include <boost/version.hpp>
 
-namespace mi = boost::multi_index;
-
-struct Account {
-    std::int64_t id;
-    std::string owner;
-    std::int64_t balance;
-    bool vip;
-    std::int64_t balance_at, vip_at, class_at;
-
-    RowView view() const { return {id, owner, balance, vip}; }
-};
-
-struct ById {};
-struct ByOwner {};
-struct ByBalance {};
-struct ByVip {};
-struct ByClass {};
-struct Line {};
-
-using Accounts = mi::multi_index_container<
-    Account,
-    mi::indexed_by<
-        mi::ranked_unique<mi::tag<ById>, mi::key<&Account::id>>,
-        mi::hashed_unique<mi::tag<ByOwner>, mi::key<&Account::owner>>,
-        mi::ranked_unique<mi::tag<ByBalance>, mi::key<&Account::balance, &Account::balance_at>>,
-        mi::ordered_unique<mi::tag<ByVip>, mi::key<&Account::vip, &Account::vip_at>>,
-        mi::ordered_unique<mi::tag<ByClass>, mi::key<&Account::vip, &Account::balance, &Account::class_at>,
-                           mi::composite_key_compare<std::greater<bool>, std::less<std::int64_t>, std::less<std::int64_t>>>,
-        mi::sequenced<mi::tag<Line>>>>;
+RowView view(const Account &it) { return {it.id, it.owner, it.balance, it.vip}; }
 
 constexpr std::int64_t AT_END = -1;
 
@@ -375,7 +336,7 @@ private:
     template <class Place, class Emit>
     static bool show(bool is_there, Place it, Emit &emit) {
         if (is_there) {
-            emit(it->view());
+            emit(view(*it));
         }
         return is_there;
     }
@@ -383,7 +344,7 @@ private:
     template <class Place, class Emit>
     static bool walk(Place it, Place end, std::int64_t limit, Emit &emit) {
         for (; it != end && limit > 0; ++it, --limit) {
-            emit(it->view());
+            emit(view(*it));
         }
         return it != end;
     }

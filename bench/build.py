@@ -10,6 +10,7 @@ OUT = f"{TOP}/out/bench"
 
 # For each peer the headers that it needs with their packages, and the libraries.
 PEERS = {
+    "container_peer": ({"boost/multi_index_container.hpp": "libboost-dev"}, []),
     "boost_peer": ({"boost/multi_index_container.hpp": "libboost-dev", "simdjson.h": "libsimdjson-dev"}, ["-lsimdjson"]),
     "sqlite_peer": ({"sqlite3.h": "libsqlite3-dev", "simdjson.h": "libsimdjson-dev"}, ["-lsimdjson", "-lsqlite3"]),
 }
@@ -35,7 +36,7 @@ def has_header(cxx, name):
 def peer(name):
     """The path of a peer, built where it is older than its sources. `Missing` where it can't be."""
     made = f"{OUT}/{name}"
-    parts = [f"{FOLDER}/{name}.cpp", f"{FOLDER}/front.hpp"]
+    parts = [f"{FOLDER}/{it}" for it in (f"{name}.cpp", "accounts.hpp", "front.hpp")]
     if os.path.isfile(made) and all(os.path.getmtime(it) <= os.path.getmtime(made) for it in parts):
         return made
     cxx = compiler()

@@ -1,12 +1,14 @@
 """That the workloads can be compared at all, and the arithmetic of the report."""
 import json
 import os
+import subprocess
 import sys
 import unittest
 
 FOLDER = os.path.dirname(os.path.dirname(os.path.realpath(__file__)))
 sys.path[:0] = [FOLDER, f"{os.path.dirname(FOLDER)}/scripts"]
 
+import build  # noqa: E402
 import report  # noqa: E402
 import run  # noqa: E402
 import systems  # noqa: E402
@@ -15,6 +17,18 @@ from fuzz import ACCOUNTS  # noqa: E402
 from reference import Reference  # noqa: E402
 
 ROWS = 60
+
+
+class Containers(unittest.TestCase):
+    def test_the_peer_answers_what_the_gate_wants_of_the_other(self):
+        try:
+            peer = build.peer("container_peer")
+        except build.Missing as why:
+            self.skipTest(str(why))
+        with open(f"{build.TOP}/crates/mi_bench/stdin", encoding="ascii") as lines:
+            answered = subprocess.run([peer], stdin=lines, capture_output=True, check=True).stdout
+        with open(f"{build.TOP}/crates/mi_bench/stdout", "rb") as wanted:
+            self.assertEqual(answered, wanted.read())
 
 
 class Workloads(unittest.TestCase):

@@ -10,12 +10,12 @@ use Rattle.mi_catalog.specs.declared.index.IndexKind.TheVariants.{Hashed}
 use Rattle.mi_catalog.specs.Shape.{Shape, CatalogShape, schema_at, index_at}
 use Rattle.mi_catalog.specs.Rules.{is_name, are_distinct, are_columns, are_indexes, is_id_index, is_declared_index, are_numbers, is_schema, is_catalog}
 
-pub is_name-short : (name : List ℕ) → is_name name ≡ true → length name ≤ MAX_NAME
+is_name-short : (name : List ℕ) → is_name name ≡ true → length name ≤ MAX_NAME
 is_name-short [] h = absurd (cc)
 is_name-short (b ∷ bs) h = leb-true _ _ (and_parts _ _ h).1
 
 -- texts that pass the test are equal
-pub bytes_eq-true : (xs ys : List ℕ) → bytes_eq xs ys ≡ true → xs ≡ ys
+bytes_eq-true : (xs ys : List ℕ) → bytes_eq xs ys ≡ true → xs ≡ ys
 bytes_eq-true xs ys h = (bytes_eq-Decides xs ys).0 h
 
 abbrev none : Index
@@ -40,14 +40,14 @@ indexes_short columns (i ∷ is) (suc k) h = declared_short columns is k (and_pa
 pub index_name_short : (s : Shape) (x : ℕ) → is_schema s ≡ true → length (index_at s x).name ≤ MAX_NAME
 index_name_short s x h = indexes_short (length s.columns) s.indexes x (and_parts _ _ (and_parts _ _ h).0).1
 
-pub columns_kept : (s : Shape) → is_schema s ≡ true → are_columns s.columns ≡ true
+columns_kept : (s : Shape) → is_schema s ≡ true → are_columns s.columns ≡ true
 columns_kept s h = (and_parts _ _ (and_parts _ _ (and_parts _ _ h).0).0).1
 
 -- no two columns have one name
 pub columns_distinct : (s : Shape) → is_schema s ≡ true → are_distinct (map (λ c. c.name) s.columns) ≡ true
 columns_distinct s h = (and_parts _ _ (columns_kept s h)).1
 
-pub numbers_kept : (s : Shape) → is_schema s ≡ true → are_numbers s ≡ true
+numbers_kept : (s : Shape) → is_schema s ≡ true → are_numbers s ≡ true
 numbers_kept s h = (and_parts _ _ h).1
 
 -- the counters are at most 2^63 - 1, and the rows at most 2^24

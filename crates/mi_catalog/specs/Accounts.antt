@@ -18,7 +18,12 @@ accounts = record {
       ∷ record { name = codes "by_owner"; kind = Hashed; «unique» = true; parts = record { column = 0; descending = false } ∷ [] }
       ∷ record { name = codes "by_balance"; kind = Ranked; «unique» = false; parts = record { column = 1; descending = false } ∷ [] }
       ∷ record { name = codes "by_vip"; kind = Hashed; «unique» = false; parts = record { column = 2; descending = false } ∷ [] }
-      ∷ record { name = codes "by_class"; kind = Ordered; «unique» = false; parts = record { column = 2; descending = true } ∷ record { column = 1; descending = false } ∷ [] }
+      ∷ record {
+        name = codes "by_class";
+        kind = Ordered;
+        «unique» = false;
+        parts = record { column = 2; descending = true } ∷ record { column = 1; descending = false } ∷ [];
+      }
       ∷ record { name = codes "line"; kind = Sequenced; «unique» = false; parts = [] }
       ∷ [];
   first_id = 0;

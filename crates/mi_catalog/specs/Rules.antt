@@ -65,7 +65,8 @@ are_columns cs = nat_lt 0 (length cs) && nat_le (length cs) MAX_COLUMNS && list_
 
 -- counters from 0 to 2^63 - 1, and 1 to 2^24 rows at most
 abbrev pub are_numbers : Shape → Bool
-are_numbers s = nat_le s.first_id LAST_COUNT && nat_le s.first_arrival LAST_COUNT && nat_le s.first_revision LAST_COUNT && nat_lt 0 s.max_rows && nat_le s.max_rows MAX_ROWS
+are_numbers s = nat_le s.first_id LAST_COUNT && nat_le s.first_arrival LAST_COUNT
+    && nat_le s.first_revision LAST_COUNT && nat_lt 0 s.max_rows && nat_le s.max_rows MAX_ROWS
 
 abbrev pub is_schema : Shape → Bool
 is_schema s = is_name s.table_name && are_columns s.columns && are_indexes (length s.columns) s.indexes && are_numbers s

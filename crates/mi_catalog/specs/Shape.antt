@@ -23,7 +23,8 @@ pub record CatalogShape : Type 0 where
 
 -- the schema of a table's number
 abbrev pub schema_at : CatalogShape → ℕ → Shape
-schema_at c n = slice_index_or c.tables n (record { table_name = []; columns = []; indexes = []; first_id = 0; first_arrival = 0; first_revision = 0; max_rows = 0 })
+schema_at c n = slice_index_or c.tables n
+    (record { table_name = []; columns = []; indexes = []; first_id = 0; first_arrival = 0; first_revision = 0; max_rows = 0 })
 
 -- the number of the first column, index or table of a name
 abbrev pub find_column : Shape → List ℕ → Option ℕ

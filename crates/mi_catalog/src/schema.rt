@@ -24,9 +24,26 @@ impl Model for Schema {
 
     ghost Value = { Shape };
 
-    ghost view = { λ a. record { table_name = a.name; columns = a.columns.items; indexes = a.indexes.items; first_id = a.first_id; first_arrival = a.first_arrival; first_revision = a.first_revision; max_rows = a.max_rows } };
+    ghost view = { λ a. record {
+      table_name = a.name;
+      columns = a.columns.items;
+      indexes = a.indexes.items;
+      first_id = a.first_id;
+      first_arrival = a.first_arrival;
+      first_revision = a.first_revision;
+      max_rows = a.max_rows;
+    } };
 
-    ghost invariant = { λ a. IsTrue (is_schema (record { table_name = a.name; columns = a.columns.items; indexes = a.indexes.items; first_id = a.first_id; first_arrival = a.first_arrival; first_revision = a.first_revision; max_rows = a.max_rows })) };
+    ghost invariant = { λ a. IsTrue (is_schema
+        (record {
+          table_name = a.name;
+          columns = a.columns.items;
+          indexes = a.indexes.items;
+          first_id = a.first_id;
+          first_arrival = a.first_arrival;
+          first_revision = a.first_revision;
+          max_rows = a.max_rows;
+        })) };
 }
 
 /// The first counters of a table and the most rows that it takes.
@@ -39,15 +56,31 @@ pub struct Counts {
 }
 
 impl Schema {
-    ghost use Rattle.std.specs.Prelude.{◌≡◌, ◌<◌, ◌≤◌, IfOk, IsTrue, length, slice_get, Some};
+    ghost use Rattle.std.specs.Prelude.{◌≡◌, ◌<◌, ◌≤◌, IfOk, IsTrue, length};
     ghost use Rattle.mi_value.specs.declared.limits.TheConstants.{MAX_NAME, MAX_ROWS, LAST_COUNT};
     ghost use Rattle.mi_catalog.specs.Rules.{is_schema};
     ghost use Rattle.mi_catalog.specs.Shape.{find_column, find_index, index_at};
 
     /// The schema of these parts, which keep the rules. Takes no memory.
     pub fn new(name: Text, columns: Vec<Column>, indexes: Vec<Index>, counts: Counts) -> Schema
-        requires { IsTrue (is_schema (record { table_name = name; columns = columns.items; indexes = indexes.items; first_id = counts.first_id; first_arrival = counts.first_arrival; first_revision = counts.first_revision; max_rows = counts.max_rows })) }
-        ensures { result ≡ record { table_name = name; columns = columns.items; indexes = indexes.items; first_id = counts.first_id; first_arrival = counts.first_arrival; first_revision = counts.first_revision; max_rows = counts.max_rows } }
+        requires { IsTrue (is_schema (record {
+          table_name = name;
+          columns = columns.items;
+          indexes = indexes.items;
+          first_id = counts.first_id;
+          first_arrival = counts.first_arrival;
+          first_revision = counts.first_revision;
+          max_rows = counts.max_rows;
+        })) }
+        ensures { result ≡ record {
+          table_name = name;
+          columns = columns.items;
+          indexes = indexes.items;
+          first_id = counts.first_id;
+          first_arrival = counts.first_arrival;
+          first_revision = counts.first_revision;
+          max_rows = counts.max_rows;
+        } }
     {
         Schema {
             name,

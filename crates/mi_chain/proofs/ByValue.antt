@@ -3,7 +3,7 @@ use Rattle.std.proofs.Common.{◌≡◌, ℕ, true, Option, Some, None, refl, ap
 use Rattle.mi_node.specs.Pool.{Pooled, value_of}
 use Rattle.mi_node.specs.Refs.{Ref}
 use Rattle.mi_value.specs.declared.bound.Probe.{Probe}
-use Rattle.mi_chain.specs.Keying.{Keying, IsLawful, same_values, number_of, passes, same_nodes, hash_node, has_key}
+use Rattle.mi_chain.specs.Keying.{Keying, IsLawful, same_values, number_or_zero, passes, same_nodes, hash_node, has_key}
 use Rattle.mi_chain.proofs.Classes.{IsAlike, IsOfKey}
 
 module _ {T : Type 0} (k : Keying T) (m : Pooled T) where
@@ -17,7 +17,7 @@ module _ {T : Type 0} (k : Keying T) (m : Pooled T) where
 
   pub hash_is : (a : Ref) (x : T) → value_of m a.name ≡ Some x → hash_node k m a ≡ k.hash x
   unfolding hash_node
-  hash_is a x e = ap (number_of k.hash) e
+  hash_is a x e = ap (number_or_zero k.hash) e
 
   module _ (w : IsLawful k) where
     reflexive : (o : Option T) → same_values k.same o o ≡ true
@@ -38,7 +38,7 @@ module _ {T : Type 0} (k : Keying T) (m : Pooled T) where
     transitive (Some x) (Some y) None g h = h
     transitive (Some x) (Some y) (Some z) g h = w.transitive x y z g h
 
-    one_hash : (o p : Option T) → same_values k.same o p ≡ true → number_of k.hash o ≡ number_of k.hash p
+    one_hash : (o p : Option T) → same_values k.same o p ≡ true → number_or_zero k.hash o ≡ number_or_zero k.hash p
     one_hash None None h = refl
     one_hash None (Some y) h = absurd (cc)
     one_hash (Some x) None h = absurd (cc)
@@ -54,7 +54,7 @@ module _ {T : Type 0} (k : Keying T) (m : Pooled T) where
     one_key p (Some x) None g h = absurd (cc)
     one_key p (Some x) (Some y) g h = w.one_key x y p g h
 
-    probe_hash : (p : Probe) (o : Option T) → passes (λ y. k.same_key y p) o ≡ true → number_of k.hash o ≡ k.hash_key p
+    probe_hash : (p : Probe) (o : Option T) → passes (λ y. k.same_key y p) o ≡ true → number_or_zero k.hash o ≡ k.hash_key p
     probe_hash p None h = absurd (cc)
     probe_hash p (Some x) h = w.probe_hash x p h
 
@@ -72,7 +72,10 @@ module _ {T : Type 0} (k : Keying T) (m : Pooled T) where
 
     pub of_probe : (p : Probe) → IsOfKey (same_nodes k m) alike (has_key k m p)
     unfolding same_nodes has_key
-    of_probe p = record { agrees = λ a b h t. agrees p (value_of m a.name) (value_of m b.name) h t; one_key = λ a b g h. one_key p (value_of m a.name) (value_of m b.name) g h }
+    of_probe p = record {
+      agrees = λ a b h t. agrees p (value_of m a.name) (value_of m b.name) h t;
+      one_key = λ a b g h. one_key p (value_of m a.name) (value_of m b.name) g h;
+    }
 
     pub hash_of_probe : (p : Probe) (a : Ref) → has_key k m p a ≡ true → hash_node k m a ≡ k.hash_key p
     unfolding has_key hash_node
@@ -86,4 +89,4 @@ module _ {T : Type 0} (k : Keying T) (m n : Pooled T) (e : (q : ℕ) → value_o
 
   pub hash_kept : hash_node k n ≡ hash_node k m
   unfolding hash_node
-  hash_kept = λ i a. number_of k.hash (e a.name i)
+  hash_kept = λ i a. number_or_zero k.hash (e a.name i)

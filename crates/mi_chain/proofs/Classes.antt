@@ -28,21 +28,24 @@ pub filter_both : (f g : Test) (rs : List Ref) → ((q : Ref) → f q ≡ true �
 filter_both f g [] h = refl
 filter_both f g (r ∷ rs) h = (elim (g r) as (λ b. g r ≡ b → filter f (cond b (r ∷ filter g rs) (filter g rs)) ≡ cond (f r) (r ∷ filter f rs) (filter f rs)) [
   | true ↦ λ e. ap (λ z. cond (f r) (r ∷ z) z) (filter_both f g rs h)
-  | false ↦ λ e. let no : f r ≡ false = no_is_false (f r) (λ t. not_both (g r) (h r t) e) in filter_both f g rs h ∙ ap (λ b. cond b (r ∷ filter f rs) (filter f rs)) (sym no)
+  | false ↦ λ e.
+      let no : f r ≡ false = no_is_false (f r) (λ t. not_both (g r) (h r t) e) in
+      filter_both f g rs h ∙ ap (λ b. cond b (r ∷ filter f rs) (filter f rs)) (sym no)
 ]) refl
 
 pub filter_swap : (f g : Test) (rs : List Ref) → filter f (filter g rs) ≡ filter g (filter f rs)
 filter_swap f g [] = refl
-filter_swap f g (r ∷ rs) = (elim (f r) as (λ b. f r ≡ b → filter f (cond (g r) (r ∷ filter g rs) (filter g rs)) ≡ filter g (cond b (r ∷ filter f rs) (filter f rs))) [
-  | true ↦ λ e. (elim (g r) as (λ c. filter f (cond c (r ∷ filter g rs) (filter g rs)) ≡ cond c (r ∷ filter g (filter f rs)) (filter g (filter f rs))) [
-    | true ↦ ap (λ b. cond b (r ∷ filter f (filter g rs)) (filter f (filter g rs))) e ∙ ap (λ z. r ∷ z) (filter_swap f g rs)
-    | false ↦ filter_swap f g rs
-  ])
-  | false ↦ λ e. (elim (g r) as (λ c. filter f (cond c (r ∷ filter g rs) (filter g rs)) ≡ filter g (filter f rs)) [
-    | true ↦ ap (λ b. cond b (r ∷ filter f (filter g rs)) (filter f (filter g rs))) e ∙ filter_swap f g rs
-    | false ↦ filter_swap f g rs
-  ])
-]) refl
+filter_swap f g (r ∷ rs) = (elim (f r)
+    as (λ b. f r ≡ b → filter f (cond (g r) (r ∷ filter g rs) (filter g rs)) ≡ filter g (cond b (r ∷ filter f rs) (filter f rs))) [
+      | true ↦ λ e. (elim (g r) as (λ c. filter f (cond c (r ∷ filter g rs) (filter g rs)) ≡ cond c (r ∷ filter g (filter f rs)) (filter g (filter f rs))) [
+        | true ↦ ap (λ b. cond b (r ∷ filter f (filter g rs)) (filter f (filter g rs))) e ∙ ap (λ z. r ∷ z) (filter_swap f g rs)
+        | false ↦ filter_swap f g rs
+      ])
+      | false ↦ λ e. (elim (g r) as (λ c. filter f (cond c (r ∷ filter g rs) (filter g rs)) ≡ filter g (filter f rs)) [
+        | true ↦ ap (λ b. cond b (r ∷ filter f (filter g rs)) (filter f (filter g rs))) e ∙ filter_swap f g rs
+        | false ↦ filter_swap f g rs
+      ])
+    ]) refl
 
 pub filter_with : (f : Test) (xs : List Ref) (r : Ref) (ys : List Ref) → f r ≡ true → filter f (xs ++ r ∷ ys) ≡ filter f xs ++ r ∷ filter f ys
 filter_with f xs r ys e = filter-append f xs (r ∷ ys) ∙ ap (λ b. filter f xs ++ cond b (r ∷ filter f ys) (filter f ys)) e
@@ -51,12 +54,13 @@ pub filter_without : (f : Test) (xs : List Ref) (r : Ref) (ys : List Ref) → f 
 filter_without f xs r ys e = filter-append f xs (r ∷ ys) ∙ ap (λ b. filter f xs ++ cond b (r ∷ filter f ys) (filter f ys)) e ∙ sym (filter-append f xs ys)
 
 -- where no node passes, all nodes pass the opposite
-pub filter_rest : (f : Test) (rs : List Ref) → filter f rs ≡ [] → filter (λ q. not (f q)) rs ≡ rs
+filter_rest : (f : Test) (rs : List Ref) → filter f rs ≡ [] → filter (λ q. not (f q)) rs ≡ rs
 filter_rest f [] e = refl
-filter_rest f (r ∷ rs) e = (elim (f r) as (λ b. cond b (r ∷ filter f rs) (filter f rs) ≡ [] → cond (not b) (r ∷ filter (λ q. not (f q)) rs) (filter (λ q. not (f q)) rs) ≡ r ∷ rs) [
-  | true ↦ λ h. absurd (cc)
-  | false ↦ λ h. ap (λ z. r ∷ z) (filter_rest f rs h)
-]) e
+filter_rest f (r ∷ rs) e = (elim (f r)
+    as (λ b. cond b (r ∷ filter f rs) (filter f rs) ≡ [] → cond (not b) (r ∷ filter (λ q. not (f q)) rs) (filter (λ q. not (f q)) rs) ≡ r ∷ rs) [
+      | true ↦ λ h. absurd (cc)
+      | false ↦ λ h. ap (λ z. r ∷ z) (filter_rest f rs h)
+    ]) e
 
 pub first_passes : (f : Test) (rs g : List Ref) (y : Ref) → filter f rs ≡ g → first_of g None ≡ Some y → f y ≡ true
 first_passes f [] g y e h = absurd (let n : None ≡ Some y = ap (λ z. first_of z None) e ∙ h in cc)
@@ -76,7 +80,8 @@ last_passes f rs z e = from f rs None z (λ q d. absurd cc) e
     ]) refl e
 
 -- a group that was there was not passed
-pub passed_not : (K : Test) (gs : List (List Ref)) → ArePassed K gs → (X : List (List Ref)) (g : List Ref) (Y : List (List Ref)) (y : Ref) → gs ≡ X ++ g ∷ Y → first_of g None ≡ Some y → K y ≡ true → ⊥
+pub passed_not : (K : Test) (gs : List (List Ref)) → ArePassed K gs
+    → (X : List (List Ref)) (g : List Ref) (Y : List (List Ref)) (y : Ref) → gs ≡ X ++ g ∷ Y → first_of g None ≡ Some y → K y ≡ true → ⊥
 passed_not K gs p X g Y y e f t = at X (subst (ArePassed K) e p)
   where
     at : (X : List (List Ref)) → ArePassed K (X ++ g ∷ Y) → ⊥
@@ -120,14 +125,15 @@ are_out_filter f (r ∷ rs) ys h = elim (f r) as (λ b. AreOut (cond b (r ∷ fi
 pub apart_tests : (f g : Test) (rs : List Ref) → ((q : Ref) → f q ≡ true → g q ≡ false) → IsApart rs → AreOut (filter f rs) (filter g rs)
 apart_tests f g [] h a = tt
 apart_tests f g (r ∷ rs) h a = (elim (f r) as (λ b. f r ≡ b → AreOut (cond b (r ∷ filter f rs) (filter f rs)) (cond (g r) (r ∷ filter g rs) (filter g rs))) [
-  | true ↦ λ e. subst (λ c. AreOut (r ∷ filter f rs) (cond c (r ∷ filter g rs) (filter g rs))) (sym (h r e)) (out_filter g r.name rs a.0, apart_tests f g rs h a.1)
+  | true ↦ λ e. subst (λ c. AreOut (r ∷ filter f rs) (cond c (r ∷ filter g rs) (filter g rs)))
+      (sym (h r e)) (out_filter g r.name rs a.0, apart_tests f g rs h a.1)
   | false ↦ λ e. (elim (g r) as (λ c. AreOut (filter f rs) (cond c (r ∷ filter g rs) (filter g rs))) [
     | true ↦ are_out_cons (filter f rs) r (filter g rs) (out_filter f r.name rs a.0) (apart_tests f g rs h a.1)
     | false ↦ apart_tests f g rs h a.1
   ])
 ]) refl
 
-pub are_out_left : (xs ys zs : List Ref) → AreOut xs zs → AreOut ys zs → AreOut (xs ++ ys) zs
+are_out_left : (xs ys zs : List Ref) → AreOut xs zs → AreOut ys zs → AreOut (xs ++ ys) zs
 are_out_left [] ys zs g h = h
 are_out_left (x ∷ xs) ys zs g h = (g.0, are_out_left xs ys zs g.1 h)
 
@@ -152,12 +158,14 @@ module _ (R : Ref → Ref → Bool) (A : IsAlike R) where
   pub grouped_out : (k : ℕ) (gs : List (List Ref)) (rs : List Ref) → IsGrouped R gs rs → IsOut k rs → IsOut k (members gs)
   grouped_out k [] rs h o = tt
   grouped_out k (g ∷ gs) rs h o =
-      out_both k g (members gs) (subst (IsOut k) h.2 (out_filter (R h.0) k rs o)) (grouped_out k gs (others R h.0 rs) h.3 (out_filter (λ q. not (R h.0 q)) k rs o))
+      out_both k g (members gs) (subst (IsOut k) h.2 (out_filter (R h.0) k rs o))
+      (grouped_out k gs (others R h.0 rs) h.3 (out_filter (λ q. not (R h.0 q)) k rs o))
 
   pub grouped_are_out : (gs : List (List Ref)) (rs ys : List Ref) → IsGrouped R gs rs → AreOut rs ys → AreOut (members gs) ys
   grouped_are_out [] rs ys h o = tt
   grouped_are_out (g ∷ gs) rs ys h o =
-      are_out_left g (members gs) ys (subst (λ z. AreOut z ys) h.2 (are_out_filter (R h.0) rs ys o)) (grouped_are_out gs (others R h.0 rs) ys h.3 (are_out_filter (λ q. not (R h.0 q)) rs ys o))
+      are_out_left g (members gs) ys (subst (λ z. AreOut z ys) h.2 (are_out_filter (R h.0) rs ys o))
+      (grouped_are_out gs (others R h.0 rs) ys h.3 (are_out_filter (λ q. not (R h.0 q)) rs ys o))
 
   not_true : (b : Bool) → b ≡ true → not b ≡ false
   not_true b e = ap not e
@@ -175,13 +183,18 @@ module _ (R : Ref → Ref → Bool) (A : IsAlike R) where
   grouped_full (g ∷ gs) rs h = (h.1, grouped_full gs (others R h.0 rs) h.3)
 
   -- the groups of a list are those of any list that has the same nodes of each key in the same order
-  pub grouped_alike : (gs : List (List Ref)) (us vs : List Ref) → IsGrouped R gs us → ((x : Ref) → filter (R x) us ≡ filter (R x) vs) → IsGrouped R gs vs
+  grouped_alike : (gs : List (List Ref)) (us vs : List Ref) → IsGrouped R gs us → ((x : Ref) → filter (R x) us ≡ filter (R x) vs) → IsGrouped R gs vs
   grouped_alike [] us [] h e = refl
   grouped_alike [] us (v ∷ vs) h e =
-      let here : v ∷ filter (R v) vs ≡ [] = ap (λ b. cond b (v ∷ filter (R v) vs) (filter (R v) vs)) (sym (A.reflexive v)) ∙ sym (e v) ∙ ap (filter (R v)) h in absurd (cc)
+      let here : v ∷ filter (R v) vs ≡ [] = ap (λ b. cond b (v ∷ filter (R v) vs) (filter (R v) vs)) (sym (A.reflexive v)) ∙ sym (e v) ∙ ap (filter (R v)) h in
+      absurd (cc)
   grouped_alike (g ∷ gs) us vs h e =
-      let N : Test = λ q. not (R h.0 q) in
-      (h.0, h.1, sym (e h.0) ∙ h.2, grouped_alike gs (filter N us) (filter N vs) h.3 (λ x. filter_swap (R x) N us ∙ ap (filter N) (e x) ∙ filter_swap N (R x) vs))
+      let N : Test = λ q. not (R h.0 q) in (
+        h.0,
+        h.1,
+        sym (e h.0) ∙ h.2,
+        grouped_alike gs (filter N us) (filter N vs) h.3 (λ x. filter_swap (R x) N us ∙ ap (filter N) (e x) ∙ filter_swap N (R x) vs),
+      )
 
   -- a test that nodes of one key pass alike, and nodes of two keys not both
   pub record IsOfKey (K : Test) : Type 0 where
@@ -199,17 +212,21 @@ module _ (R : Ref → Ref → Bool) (A : IsAlike R) where
     pub key_of_none : (gs : List (List Ref)) (rs : List Ref) → IsGrouped R gs rs → ArePassed K gs → filter K rs ≡ []
     key_of_none [] rs h p = ap (filter K) h
     key_of_none (g ∷ gs) rs h p =
-        sym (filter_both K (λ q. not (R h.0 q)) rs (passed_class h.0 p.0.0 (first_passes (R h.0) rs g p.0.0 h.2 p.0.1) p.0.2)) ∙ key_of_none gs (others R h.0 rs) h.3 p.1
+        sym (filter_both K (λ q. not (R h.0 q)) rs (passed_class h.0 p.0.0 (first_passes (R h.0) rs g p.0.0 h.2 p.0.1) p.0.2))
+        ∙ key_of_none gs (others R h.0 rs) h.3 p.1
 
     class_is : (x y : Ref) → R x y ≡ true → K y ≡ true → (q : Ref) → K q ≡ R x q
-    class_is x y e t q = same_bool (K q) (R x q) (λ h. A.transitive x y q e (O.one_key y q t h)) (λ h. O.agrees y q (A.transitive y x q (A.symmetric x y e) h) t)
+    class_is x y e t q = same_bool (K q) (R x q) (λ h. A.transitive x y q e (O.one_key y q t h))
+        (λ h. O.agrees y q (A.transitive y x q (A.symmetric x y e) h) t)
 
     -- the first group that was not passed has all nodes of the key
-    pub key_of_group : (gs : List (List Ref)) (g : List Ref) (hs : List (List Ref)) (rs : List Ref) (y : Ref) → IsGrouped R (gs ++ g ∷ hs) rs → ArePassed K gs → first_of g None ≡ Some y → K y ≡ true
+    pub key_of_group : (gs : List (List Ref)) (g : List Ref) (hs : List (List Ref)) (rs : List Ref) (y : Ref)
+        → IsGrouped R (gs ++ g ∷ hs) rs → ArePassed K gs → first_of g None ≡ Some y → K y ≡ true
         → filter K rs ≡ g
     key_of_group [] g hs rs y h p f t = filter_same K (R h.0) (class_is h.0 y (first_passes (R h.0) rs g y h.2 f) t) rs ∙ h.2
     key_of_group (g' ∷ gs) g hs rs y h p f t =
-        sym (filter_both K (λ q. not (R h.0 q)) rs (passed_class h.0 p.0.0 (first_passes (R h.0) rs g' p.0.0 h.2 p.0.1) p.0.2)) ∙ key_of_group gs g hs (others R h.0 rs) y h.3 p.1 f t
+        sym (filter_both K (λ q. not (R h.0 q)) rs (passed_class h.0 p.0.0 (first_passes (R h.0) rs g' p.0.0 h.2 p.0.1) p.0.2))
+        ∙ key_of_group gs g hs (others R h.0 rs) y h.3 p.1 f t
 
   -- where no node has the key, all groups are passed
   pub passed_all : (r : Ref) (gs : List (List Ref)) (rs : List Ref) → IsGrouped R gs rs → filter (R r) rs ≡ [] → ArePassed (R r) gs
@@ -217,7 +234,8 @@ module _ (R : Ref → Ref → Bool) (A : IsAlike R) where
   passed_all r ([] ∷ gs) rs h none = absurd (h.1 refl)
   passed_all r ((y ∷ g) ∷ gs) rs h none =
       let inside : filter (R r) (y ∷ g) ≡ [] = ap (filter (R r)) (sym h.2) ∙ filter_swap (R r) (R h.0) rs ∙ ap (filter (R h.0)) none in
-      let not_it : R r y ≡ false = no_is_false (R r y) (λ t. let full : y ∷ filter (R r) g ≡ [] = ap (λ b. cond b (y ∷ filter (R r) g) (filter (R r) g)) (sym t) ∙ inside in cc) in
+      let not_it : R r y ≡ false = no_is_false (R r y)
+      (λ t. let full : y ∷ filter (R r) g ≡ [] = ap (λ b. cond b (y ∷ filter (R r) g) (filter (R r) g)) (sym t) ∙ inside in cc) in
       ((y, refl, not_it), passed_all r gs (others R h.0 rs) h.3 (filter_swap (R r) (λ q. not (R h.0 q)) rs ∙ ap (filter (λ q. not (R h.0 q))) none))
 
   no_true : (b : Bool) → not b ≡ true → b ≡ false
@@ -225,12 +243,15 @@ module _ (R : Ref → Ref → Bool) (A : IsAlike R) where
   no_true false e = refl
 
   -- the first node of a group passes what all nodes passed
-  later : (X : List (List Ref)) (g : List Ref) (Y : List (List Ref)) (y : Ref) → first_of g None ≡ Some y → (N : Test) (rs : List Ref) → IsGrouped R (X ++ g ∷ Y) (filter N rs) → N y ≡ true
+  later : (X : List (List Ref)) (g : List Ref) (Y : List (List Ref)) (y : Ref) → first_of g None ≡ Some y
+      → (N : Test) (rs : List Ref) → IsGrouped R (X ++ g ∷ Y) (filter N rs) → N y ≡ true
   later [] g Y y f N rs k = first_passes N (filter (R k.0) rs) g y (sym (filter_swap (R k.0) N rs) ∙ k.2) f
-  later (x ∷ X) g Y y f N rs k = later X g Y y f N (filter (λ q. not (R k.0 q)) rs) (subst (IsGrouped R (X ++ g ∷ Y)) (filter_swap (λ q. not (R k.0 q)) N rs) k.3)
+  later (x ∷ X) g Y y f N rs k = later X g Y y f N (filter (λ q. not (R k.0 q)) rs)
+      (subst (IsGrouped R (X ++ g ∷ Y)) (filter_swap (λ q. not (R k.0 q)) N rs) k.3)
 
   -- the groups before that of a key are of other keys
-  pub passed_before : (r : Ref) (X : List (List Ref)) (g : List Ref) (Y : List (List Ref)) (rs : List Ref) (y : Ref) → IsGrouped R (X ++ g ∷ Y) rs → first_of g None ≡ Some y → R r y ≡ true → ArePassed (R r) X
+  pub passed_before : (r : Ref) (X : List (List Ref)) (g : List Ref) (Y : List (List Ref)) (rs : List Ref) (y : Ref)
+      → IsGrouped R (X ++ g ∷ Y) rs → first_of g None ≡ Some y → R r y ≡ true → ArePassed (R r) X
   passed_before r [] g Y rs y h f t = tt
   passed_before r ([] ∷ X) g Y rs y h f t = absurd (h.1 refl)
   passed_before r ((x ∷ g1) ∷ X) g Y rs y h f t =
@@ -248,10 +269,12 @@ module _ (R : Ref → Ref → Bool) (A : IsAlike R) where
     not_class x n q h = ap not (no_is_false (R x q) (λ t. not_both (R r x) (A.transitive r q x h (A.symmetric x q t)) n))
 
     class_else : (x : Ref) (rs us : List Ref) → R r x ≡ false → others R r us ≡ others R r rs → filter (R x) us ≡ filter (R x) rs
-    class_else x rs us n e = sym (filter_both (R x) (λ q. not (R r q)) us (keeps_class x n)) ∙ ap (filter (R x)) e ∙ filter_both (R x) (λ q. not (R r q)) rs (keeps_class x n)
+    class_else x rs us n e = sym (filter_both (R x) (λ q. not (R r q)) us (keeps_class x n))
+        ∙ ap (filter (R x)) e ∙ filter_both (R x) (λ q. not (R r q)) rs (keeps_class x n)
 
     rest_else : (x : Ref) (rs us : List Ref) → others R r us ≡ others R r rs → others R r (others R x us) ≡ others R r (others R x rs)
-    rest_else x rs us e = filter_swap (λ q. not (R r q)) (λ q. not (R x q)) us ∙ ap (filter (λ q. not (R x q))) e ∙ filter_swap (λ q. not (R x q)) (λ q. not (R r q)) rs
+    rest_else x rs us e = filter_swap (λ q. not (R r q)) (λ q. not (R x q)) us
+        ∙ ap (filter (λ q. not (R x q))) e ∙ filter_swap (λ q. not (R x q)) (λ q. not (R r q)) rs
 
     rest_here : (x y : Ref) (rs us : List Ref) → R x y ≡ true → R r y ≡ true → others R r us ≡ others R r rs → others R x us ≡ others R x rs
     rest_here x y rs us e t h =
@@ -259,52 +282,67 @@ module _ (R : Ref → Ref → Bool) (A : IsAlike R) where
         filter_same (λ q. not (R x q)) (λ q. not (R r q)) same us ∙ h ∙ sym (filter_same (λ q. not (R x q)) (λ q. not (R r q)) same rs)
 
     -- a group is another
-    pub group_other : (gs : List (List Ref)) (g : List Ref) (hs : List (List Ref)) (g' rs us : List Ref) (y : Ref) → IsGrouped R (gs ++ g ∷ hs) rs → ArePassed (R r) gs → first_of g None ≡ Some y
+    pub group_other : (gs : List (List Ref)) (g : List Ref) (hs : List (List Ref)) (g' rs us : List Ref) (y : Ref)
+        → IsGrouped R (gs ++ g ∷ hs) rs → ArePassed (R r) gs → first_of g None ≡ Some y
         → R r y ≡ true → others R r us ≡ others R r rs → filter (R r) us ≡ g' → (g' ≡ [] → ⊥) → IsGrouped R (gs ++ g' ∷ hs) us
-    group_other [] g hs g' rs us y h p f t e now full = let xy = first_passes (R h.0) rs g y h.2 f in
-        (h.0, full, filter_same (R h.0) (R r) (λ q. like h.0 y q xy ∙ sym (like r y q t)) us ∙ now, subst (IsGrouped R hs) (sym (rest_here h.0 y rs us xy t e)) h.3)
+    group_other [] g hs g' rs us y h p f t e now full = let xy = first_passes (R h.0) rs g y h.2 f in (
+      h.0,
+      full,
+      filter_same (R h.0) (R r) (λ q. like h.0 y q xy ∙ sym (like r y q t)) us ∙ now,
+      subst (IsGrouped R hs) (sym (rest_here h.0 y rs us xy t e)) h.3,
+    )
     group_other (g1 ∷ gs) g hs g' rs us y h p f t e now full = let n = unlike h.0 p.0.0 r (first_passes (R h.0) rs g1 p.0.0 h.2 p.0.1) p.0.2 in (
       h.0,
       h.1,
       class_else h.0 rs us n e ∙ h.2,
-      group_other gs g hs g' (others R h.0 rs) (others R h.0 us) y h.3 p.1 f t (rest_else h.0 rs us e) (filter_both (R r) (λ q. not (R h.0 q)) us (not_class h.0 n) ∙ now) full,
+      group_other gs g hs g' (others R h.0 rs) (others R h.0 us) y h.3 p.1 f t (rest_else h.0 rs us e)
+          (filter_both (R r) (λ q. not (R h.0 q)) us (not_class h.0 n) ∙ now) full,
     )
 
     -- a group is gone
-    pub group_gone : (gs : List (List Ref)) (g : List Ref) (hs : List (List Ref)) (rs us : List Ref) (y : Ref) → IsGrouped R (gs ++ g ∷ hs) rs → ArePassed (R r) gs → first_of g None ≡ Some y → R r y ≡ true
+    pub group_gone : (gs : List (List Ref)) (g : List Ref) (hs : List (List Ref)) (rs us : List Ref) (y : Ref)
+        → IsGrouped R (gs ++ g ∷ hs) rs → ArePassed (R r) gs → first_of g None ≡ Some y → R r y ≡ true
         → others R r us ≡ others R r rs → filter (R r) us ≡ [] → IsGrouped R (gs ++ hs) us
     group_gone [] g hs rs us y h p f t e now = let xy = first_passes (R h.0) rs g y h.2 f in
-        subst (IsGrouped R hs) (sym (rest_here h.0 y rs us xy t e) ∙ filter_rest (R h.0) us (filter_same (R h.0) (R r) (λ q. like h.0 y q xy ∙ sym (like r y q t)) us ∙ now)) h.3
+        subst (IsGrouped R hs)
+        (sym (rest_here h.0 y rs us xy t e) ∙ filter_rest (R h.0) us (filter_same (R h.0) (R r) (λ q. like h.0 y q xy ∙ sym (like r y q t)) us ∙ now)) h.3
     group_gone (g1 ∷ gs) g hs rs us y h p f t e now = let n = unlike h.0 p.0.0 r (first_passes (R h.0) rs g1 p.0.0 h.2 p.0.1) p.0.2 in (
       h.0,
       h.1,
       class_else h.0 rs us n e ∙ h.2,
-      group_gone gs g hs (others R h.0 rs) (others R h.0 us) y h.3 p.1 f t (rest_else h.0 rs us e) (filter_both (R r) (λ q. not (R h.0 q)) us (not_class h.0 n) ∙ now),
+      group_gone gs g hs (others R h.0 rs) (others R h.0 us) y h.3 p.1 f t (rest_else h.0 rs us e)
+          (filter_both (R r) (λ q. not (R h.0 q)) us (not_class h.0 n) ∙ now),
     )
 
     -- a group is new
-    pub group_new : (gs : List (List Ref)) (g' rs us : List Ref) → IsGrouped R gs rs → ArePassed (R r) gs → others R r us ≡ others R r rs → filter (R r) us ≡ g' → (g' ≡ [] → ⊥) → IsGrouped R (g' ∷ gs) us
+    pub group_new : (gs : List (List Ref)) (g' rs us : List Ref) → IsGrouped R gs rs → ArePassed (R r) gs
+        → others R r us ≡ others R r rs → filter (R r) us ≡ g' → (g' ≡ [] → ⊥) → IsGrouped R (g' ∷ gs) us
     group_new gs g' rs us h p e now full = (r, full, now, subst (IsGrouped R gs) (sym (e ∙ filter_rest (R r) rs (key_of_none (R r) (of_key_of r) gs rs h p))) h)
 
     -- the group of a node that has one
     pub class_found : (gs : List (List Ref)) (rs : List Ref) → IsGrouped R gs rs → (filter (R r) rs ≡ [] → ⊥)
-        → (X : List (List Ref)) × (g : List Ref) × (Y : List (List Ref)) × (y : Ref) × (gs ≡ X ++ g ∷ Y) × ArePassed (R r) X × (first_of g None ≡ Some y) × (R r y ≡ true)
+        → (X : List (List Ref)) × (g : List Ref) × (Y : List (List Ref)) × (y : Ref)
+        × (gs ≡ X ++ g ∷ Y) × ArePassed (R r) X × (first_of g None ≡ Some y) × (R r y ≡ true)
     class_found [] rs h some = absurd (some (ap (filter (R r)) h))
     class_found ([] ∷ gs) rs h some = absurd (h.1 refl)
-    class_found ((y ∷ g) ∷ gs) rs h some = (elim (R r y) as (λ b. R r y ≡ b → (X : List (List Ref)) × (g1 : List Ref) × (Y : List (List Ref)) × (y1 : Ref) × ((y ∷ g) ∷ gs ≡ X ++ g1 ∷ Y) × ArePassed (R r) X × (first_of g1 None ≡ Some y1) × (R r y1 ≡ true)) [
-      | true ↦ λ e. ([], y ∷ g, gs, y, refl, tt, refl, e)
-      | false ↦ λ e.
-          let n = unlike h.0 y r (first_passes (R h.0) rs (y ∷ g) y h.2 refl) e in
-          let w = class_found gs (others R h.0 rs) h.3 (λ z. some (sym (filter_both (R r) (λ q. not (R h.0 q)) rs (not_class h.0 n)) ∙ z)) in
-          ((y ∷ g) ∷ w.0, w.1, w.2, w.3, ap (λ z. (y ∷ g) ∷ z) w.4, ((y, refl, e), w.5), w.6, w.7)
-    ]) refl
+    class_found ((y ∷ g) ∷ gs) rs h some = (elim (R r y)
+        as (λ b. R r y ≡ b
+        → (X : List (List Ref)) × (g1 : List Ref) × (Y : List (List Ref)) × (y1 : Ref)
+        × ((y ∷ g) ∷ gs ≡ X ++ g1 ∷ Y) × ArePassed (R r) X × (first_of g1 None ≡ Some y1) × (R r y1 ≡ true)) [
+          | true ↦ λ e. ([], y ∷ g, gs, y, refl, tt, refl, e)
+          | false ↦ λ e.
+              let n = unlike h.0 y r (first_passes (R h.0) rs (y ∷ g) y h.2 refl) e in
+              let w = class_found gs (others R h.0 rs) h.3 (λ z. some (sym (filter_both (R r) (λ q. not (R h.0 q)) rs (not_class h.0 n)) ∙ z)) in
+              ((y ∷ g) ∷ w.0, w.1, w.2, w.3, ap (λ z. (y ∷ g) ∷ z) w.4, ((y, refl, e), w.5), w.6, w.7)
+        ]) refl
 
     pub not_true_is : (b : Bool) → not b ≡ true → b ≡ false
     not_true_is true e = sym e
     not_true_is false e = refl
 
     -- the first node of the next group is of another key
-    pub next_unlike : (X : List (List Ref)) (g : List Ref) (Y : List (List Ref)) (rs : List Ref) (y a : Ref) → IsGrouped R (X ++ g ∷ Y) rs → first_of g None ≡ Some y → R r y ≡ true → first_in Y None ≡ Some a → R r a ≡ false
+    next_unlike : (X : List (List Ref)) (g : List Ref) (Y : List (List Ref)) (rs : List Ref) (y a : Ref)
+        → IsGrouped R (X ++ g ∷ Y) rs → first_of g None ≡ Some y → R r y ≡ true → first_in Y None ≡ Some a → R r a ≡ false
     next_unlike [] g [] rs y a h f t e = absurd (cc)
     next_unlike [] g ([] ∷ Y) rs y a h f t e = absurd (h.3.1 refl)
     next_unlike [] g ((z ∷ w) ∷ Y) rs y a h f t e =

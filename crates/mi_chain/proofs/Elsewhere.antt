@@ -4,13 +4,15 @@
 --     chained_elsewhere      for a pool after `take`, `give` or `swap_value`, or after a call on another structure
 --     chained_taken      for a pool with one more node
 --     chained_swapped      for a pool after a value was exchanged for one of an equal key
-use Rattle.std.proofs.Common.{◌≡◌, ℕ, ◌+◌, ◌<◌, ◌%◌, ◌==◌, Bool, true, false, not, cond, option_map, List, [], ◌∷◌, ◌++◌, Option, Some, None, vec_len, refl, sym, ap, ◌∙◌, subst, arith}
+use Rattle.std.proofs.Common.{◌≡◌, ℕ, ◌+◌, ◌<◌, ◌%◌, ◌==◌, Bool, true, false, not, cond, option_map, List}
+use Rattle.std.proofs.Common.{[], ◌∷◌, ◌++◌, Option, Some, None, vec_len, refl, sym, ap, ◌∙◌, subst, arith}
 use Rattle.std.specs.List.{filter}
 use Rattle.mi_node.specs.Pool.{Pooled, ref_of, value_of, link_of, no_link, taken, with_value, IsHeld}
 use Rattle.mi_node.specs.Neighbours.{AreHeld, IsLinked}
 use Rattle.mi_node.specs.declared.link.Link.{Link}
 use Rattle.mi_node.specs.Refs.{Ref, last_of}
-use Rattle.mi_node.proofs.Callers.{held_has, held-taken, apart_of_free, link-taken, value-taken, slots-taken, same_name, value-with_value, value_there, ref-with_value, link-with_value, slots-with_value}
+use Rattle.mi_node.proofs.Callers.{held_has, held-taken, apart_of_free, link-taken, value-taken, slots-taken, same_name}
+use Rattle.mi_node.proofs.Callers.{value-with_value, value_there, ref-with_value, link-with_value, slots-with_value}
 use Rattle.mi_value.specs.declared.bound.Probe.{Probe}
 use Rattle.mi_chain.specs.Keying.{Keying, IsLawful, same_nodes, hash_node, has_key, stamp_at}
 use Rattle.mi_chain.specs.Groups.{members, first_in, others, has_none, key_count, IsChained, IsGrouped}
@@ -30,7 +32,7 @@ both_ways false true h g = g refl
 both_ways false false h g = refl
 
 module _ (P : Ref → Type 0) where
-  pub all_filter : (f : Ref → Bool) (rs : List Ref) → AllOf P rs → AllOf P (filter f rs)
+  all_filter : (f : Ref → Bool) (rs : List Ref) → AllOf P rs → AllOf P (filter f rs)
   all_filter f [] h = tt
   all_filter f (r ∷ rs) h = elim (f r) as (λ b. AllOf P (cond b (r ∷ filter f rs) (filter f rs))) [
     | true ↦ (h.0, all_filter f rs h.1)
@@ -53,8 +55,12 @@ module _ (P : Ref → Type 0) where
         let x = h.0 in let xy = first_passes (R x) rs (y ∷ ys) y h.2 refl in
         let here = subst (AllOf P) h.2 (all_filter (R x) rs all) in
         let same : (q : Ref) → P q → Q y q ≡ R x q = λ q p. agree y q here.0 p ∙ sym (like R A x y q xy) in
-        let rest = filter_on (λ q. not (Q y q)) (λ q. not (R x q)) (λ q p. ap not (same q p)) rs all in
-        (y, h.1, filter_on (Q y) (R x) same rs all ∙ h.2, subst (IsGrouped Q gs) (sym rest) (grouped_on gs (others R x rs) (all_filter (λ q. not (R x q)) rs all) h.3))
+        let rest = filter_on (λ q. not (Q y q)) (λ q. not (R x q)) (λ q p. ap not (same q p)) rs all in (
+          y,
+          h.1,
+          filter_on (Q y) (R x) same rs all ∙ h.2,
+          subst (IsGrouped Q gs) (sym rest) (grouped_on gs (others R x rs) (all_filter (λ q. not (R x q)) rs all) h.3),
+        )
 
     count_on : (rs : List Ref) → AllOf P rs → key_count Q rs ≡ key_count R rs
     count_on [] all = refl
@@ -64,7 +70,8 @@ module _ (P : Ref → Type 0) where
 
     grouped_all : (gs : List (List Ref)) (rs : List Ref) → AllOf P rs → IsGrouped R gs rs → AllOf P (members gs)
     grouped_all [] rs all h = tt
-    grouped_all (g ∷ gs) rs all h = all_both g (members gs) (subst (AllOf P) h.2 (all_filter (R h.0) rs all)) (grouped_all gs (others R h.0 rs) (all_filter (λ q. not (R h.0 q)) rs all) h.3)
+    grouped_all (g ∷ gs) rs all h = all_both g (members gs) (subst (AllOf P) h.2 (all_filter (R h.0) rs all))
+        (grouped_all gs (others R h.0 rs) (all_filter (λ q. not (R h.0 q)) rs all) h.3)
 
     module _ (stamp stamp2 : Ref → ℕ) (stamps : (q : Ref) → P q → stamp2 q ≡ stamp q) where
       after_on : (q : Ref) (rs : List Ref) → P q → AllOf P rs → AreAfter R stamp q (stamp q) rs → AreAfter Q stamp2 q (stamp2 q) rs
@@ -74,7 +81,7 @@ module _ (P : Ref → Type 0) where
         after_on q rs p all.1 h.1,
       )
 
-      pub rising_on : (rs : List Ref) → AllOf P rs → IsRising R stamp rs → IsRising Q stamp2 rs
+      rising_on : (rs : List Ref) → AllOf P rs → IsRising R stamp rs → IsRising Q stamp2 rs
       rising_on [] all h = tt
       rising_on (r ∷ rs) all h = (after_on r rs all.0 all.1 h.0, rising_on rs all.1 h.1)
 
@@ -85,7 +92,9 @@ module _ (P : Ref → Type 0) where
   module _ {T : Type 0} (m n : Pooled T) (s : ℕ) (held : (q : Ref) → P q → IsHeld n q) (link : (q : Ref) → P q → link_of n q.name s ≡ link_of m q.name s) where
     linked_on : (b : Option Ref) (rs : List Ref) (f : Option Ref) → AllOf P rs → IsLinked m s b rs f → IsLinked n s b rs f
     linked_on b [] f all h = tt
-    linked_on b (r ∷ rs) f all h = let same = link r all.0 in (held r all.0, ap (λ (l : Link). l.back) same ∙ h.1, ap (λ (l : Link). l.forth) same ∙ h.2, linked_on (Some r) rs f all.1 h.3)
+    linked_on b (r ∷ rs) f all h =
+        let same = link r all.0 in
+        (held r all.0, ap (λ (l : Link). l.back) same ∙ h.1, ap (λ (l : Link). l.forth) same ∙ h.2, linked_on (Some r) rs f all.1 h.3)
 
     tagged_on : (hash hash2 : Ref → ℕ) → ((q : Ref) → P q → hash2 q ≡ hash q) → (rs : List Ref) → AllOf P rs → AreTagged hash m s rs → AreTagged hash2 n s rs
     tagged_on hash hash2 same [] all h = tt
@@ -101,7 +110,10 @@ module _ (P : Ref → Type 0) where
 
     chained_on : (gs : List (List Ref)) (f : Option Ref) → AllOf P (members gs) → IsChained m s gs f → IsChained n s gs f
     chained_on [] f all h = tt
-    chained_on (g ∷ gs) f all h = (linked_on (last_of None g) g (first_in gs f) (all_left g (members gs) all) h.0, chained_on gs f (all_right g (members gs) all) h.1)
+    chained_on (g ∷ gs) f all h = (
+      linked_on (last_of None g) g (first_in gs f) (all_left g (members gs) all) h.0,
+      chained_on gs f (all_right g (members gs) all) h.1,
+    )
 
     held_on : (rs : List Ref) → AllOf P rs → AreHeld n rs
     held_on [] all = tt
@@ -120,8 +132,10 @@ pub record IsSame {T : Type 0} (k : Keying T) (m n : Pooled T) (s : ℕ) (r : Re
 module _ {T : Type 0} (k : Keying T) (w : IsLawful k) (m n : Pooled T) (s : ℕ) where
   agreed : (a b : Ref) → IsSame k m n s a → IsSame k m n s b → same_nodes k n a b ≡ same_nodes k m a b
   agreed a b p q = same_nodes_is k n a b p.new q.new p.is q.is
-      ∙ both_ways (k.same p.new q.new) (k.same p.old q.old) (λ e. w.transitive p.old p.new q.old p.one_key (w.transitive p.new q.new q.old e (w.symmetric q.old q.new q.one_key)))
-      (λ e. w.transitive p.new p.old q.new (w.symmetric p.old p.new p.one_key) (w.transitive p.old q.old q.new e q.one_key)) ∙ sym (same_nodes_is k m a b p.old q.old p.was q.was)
+      ∙ both_ways (k.same p.new q.new) (k.same p.old q.old)
+      (λ e. w.transitive p.old p.new q.old p.one_key (w.transitive p.new q.new q.old e (w.symmetric q.old q.new q.one_key)))
+      (λ e. w.transitive p.new p.old q.new (w.symmetric p.old p.new p.one_key) (w.transitive p.old q.old q.new e q.one_key))
+      ∙ sym (same_nodes_is k m a b p.old q.old p.was q.was)
 
   stamps_agree : (a : Ref) → IsSame k m n s a → stamp_at n s a ≡ stamp_at m s a
   stamps_agree a p = ap (λ (l : Link). l.tag.stamp) p.link
@@ -129,10 +143,12 @@ module _ {T : Type 0} (k : Keying T) (w : IsLawful k) (m n : Pooled T) (s : ℕ)
   hashes_agree : (a : Ref) → IsSame k m n s a → hash_node k n a ≡ hash_node k m a
   hashes_agree a p = hash_is k n a p.new p.is ∙ sym (w.one_hash p.old p.new p.one_key) ∙ sym (hash_is k m a p.old p.was)
 
-  pub rising_elsewhere : (rs : List Ref) → AllOf (IsSame k m n s) rs → IsRising (same_nodes k m) (stamp_at m s) rs → IsRising (same_nodes k n) (stamp_at n s) rs
-  rising_elsewhere rs all h = rising_on (IsSame k m n s) (same_nodes k m) (same_nodes k n) (alike k m w) agreed (stamp_at m s) (stamp_at n s) stamps_agree rs all h
+  rising_elsewhere : (rs : List Ref) → AllOf (IsSame k m n s) rs → IsRising (same_nodes k m) (stamp_at m s) rs → IsRising (same_nodes k n) (stamp_at n s) rs
+  rising_elsewhere rs all h = rising_on (IsSame k m n s) (same_nodes k m) (same_nodes k n)
+      (alike k m w) agreed (stamp_at m s) (stamp_at n s) stamps_agree rs all h
 
-  pub buckets_elsewhere : (heads : List (Option Ref)) (count : ℕ) (rs : List Ref) → n.slots ≡ m.slots → AllOf (IsSame k m n s) rs → AreBuckets (same_nodes k m) (stamp_at m s) (hash_node k m) m s heads count rs
+  buckets_elsewhere : (heads : List (Option Ref)) (count : ℕ) (rs : List Ref) → n.slots ≡ m.slots
+      → AllOf (IsSame k m n s) rs → AreBuckets (same_nodes k m) (stamp_at m s) (hash_node k m) m s heads count rs
       → AreBuckets (same_nodes k n) (stamp_at n s) (hash_node k n) n s heads count rs
   buckets_elsewhere heads count rs slots all h = let P = IsSame k m n s in record {
     slot = subst (λ z. s < z) (sym slots) h.slot;
@@ -143,15 +159,20 @@ module _ {T : Type 0} (k : Keying T) (w : IsLawful k) (m n : Pooled T) (s : ℕ)
     each = λ i lt.
         let b = h.each i lt in let I = in_bucket (hash_node k m) count i in
         let part = all_filter P I rs all in
-        let same : filter (in_bucket (hash_node k n) count i) rs ≡ filter I rs = filter_on P (in_bucket (hash_node k n) count i) I (λ q p. in_same P (hash_node k m) (hash_node k n) count i q (hashes_agree q p)) rs all in record {
+        let same : filter (in_bucket (hash_node k n) count i) rs ≡ filter I rs = filter_on P (in_bucket (hash_node k n) count i)
+        I (λ q p. in_same P (hash_node k m) (hash_node k n) count i q (hashes_agree q p)) rs all in
+        record {
           groups = b.groups;
           first_is = b.first_is;
-          chained = chained_on P m n s (λ q p. p.held) (λ q p. p.link) b.groups None (grouped_all P (same_nodes k m) (same_nodes k n) (alike k m w) agreed b.groups (filter I rs) part b.grouped) b.chained;
-          grouped = subst (IsGrouped (same_nodes k n) b.groups) (sym same) (grouped_on P (same_nodes k m) (same_nodes k n) (alike k m w) agreed b.groups (filter I rs) part b.grouped);
+          chained = chained_on P m n s (λ q p. p.held) (λ q p. p.link) b.groups None
+              (grouped_all P (same_nodes k m) (same_nodes k n) (alike k m w) agreed b.groups (filter I rs) part b.grouped) b.chained;
+          grouped = subst (IsGrouped (same_nodes k n) b.groups) (sym same)
+              (grouped_on P (same_nodes k m) (same_nodes k n) (alike k m w) agreed b.groups (filter I rs) part b.grouped);
         };
   }
 
-pub chained_elsewhere : {T H : Type 0} (c : Chains H) (k : Keying T) (w : IsLawful k) (m n : Pooled T) (rs : List Ref) → n.slots ≡ m.slots → AllOf (IsSame k m n c.slot) rs → AreChained c k m rs → AreChained c k n rs
+pub chained_elsewhere : {T H : Type 0} (c : Chains H) (k : Keying T) (w : IsLawful k) (m n : Pooled T) (rs : List Ref)
+    → n.slots ≡ m.slots → AllOf (IsSame k m n c.slot) rs → AreChained c k m rs → AreChained c k n rs
 chained_elsewhere c k w m n rs slots all h = let P = IsSame k m n c.slot in record {
   buckets = buckets_elsewhere k w m n c.slot c.buckets.items (vec_len c.buckets) rs slots all h.buckets;
   tagged = tagged_on P m n c.slot (λ q p. p.held) (λ q p. p.link) (hash_node k m) (hash_node k n) (hashes_agree k w m n c.slot) rs all h.tagged;

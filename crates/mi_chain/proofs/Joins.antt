@@ -7,7 +7,8 @@ use Rattle.mi_node.specs.declared.link.Link.{Link}
 use Rattle.mi_node.proofs.Callers.{flip, ref-with_link, link_here}
 use Rattle.mi_node.proofs.Keeping.{keeps_none, keeps_link, keeps_then}
 use Rattle.mi_node.proofs.Refs.{out_left, out_right, apart_left, apart_right, apart_across, are_out_flip, last_push, first_push, last_both}
-use Rattle.mi_node.proofs.NeighbourLaws.{IsOutIf, IsNot, linked_left, linked_right, linked_both, linked_held, frame, frame_forth, frame_back, retail, rehead, ref-joined, joined_there}
+use Rattle.mi_node.proofs.NeighbourLaws.{IsOutIf, IsNot, linked_left, linked_right, linked_both, linked_held}
+use Rattle.mi_node.proofs.NeighbourLaws.{frame, frame_forth, frame_back, retail, rehead, ref-joined, joined_there}
 use Rattle.mi_chain.specs.Groups.{members, first_in, last_in, AreFull, IsChained}
 
 -- the node that is named, if one is
@@ -32,7 +33,7 @@ pub are_out_ys : (xs ys zs : List Ref) → AreOut (xs ++ ys) zs → AreOut ys zs
 are_out_ys [] ys zs h = h
 are_out_ys (x ∷ xs) ys zs h = are_out_ys xs ys zs h.1
 
-pub out_of_xs : (zs xs ys : List Ref) → AreOut zs (xs ++ ys) → AreOut zs xs
+out_of_xs : (zs xs ys : List Ref) → AreOut zs (xs ++ ys) → AreOut zs xs
 out_of_xs [] xs ys h = tt
 out_of_xs (z ∷ zs) xs ys h = (out_left z.name xs ys h.0, out_of_xs zs xs ys h.1)
 
@@ -40,19 +41,21 @@ pub out_of_ys : (zs xs ys : List Ref) → AreOut zs (xs ++ ys) → AreOut zs ys
 out_of_ys [] xs ys h = tt
 out_of_ys (z ∷ zs) xs ys h = (out_right z.name xs ys h.0, out_of_ys zs xs ys h.1)
 
-pub last_in_are_out : (b : Option Ref) (gs : List (List Ref)) (zs : List Ref) → AreOut (list_of b) zs → AreOut (members gs) zs → AreOut (list_of (last_in b gs)) zs
+last_in_are_out : (b : Option Ref) (gs : List (List Ref)) (zs : List Ref)
+    → AreOut (list_of b) zs → AreOut (members gs) zs → AreOut (list_of (last_in b gs)) zs
 last_in_are_out b [] zs g h = g
-last_in_are_out b (u ∷ gs) zs g h = last_in_are_out (last_of b u) gs zs (last_are_out b u zs g (are_out_xs u (members gs) zs h)) (are_out_ys u (members gs) zs h)
+last_in_are_out b (u ∷ gs) zs g h = last_in_are_out (last_of b u) gs zs
+    (last_are_out b u zs g (are_out_xs u (members gs) zs h)) (are_out_ys u (members gs) zs h)
 
 pub last_out : (k : ℕ) (b : Option Ref) (us : List Ref) → IsOut k (list_of b) → IsOut k us → IsOut k (list_of (last_of b us))
 last_out k b [] g h = g
 last_out k b (u ∷ us) g h = last_out k (Some u) us (h.0, tt) h.1
 
-pub first_out : (k : ℕ) (us : List Ref) (f : Option Ref) → IsOut k (list_of f) → IsOut k us → IsOut k (list_of (first_of us f))
+first_out : (k : ℕ) (us : List Ref) (f : Option Ref) → IsOut k (list_of f) → IsOut k us → IsOut k (list_of (first_of us f))
 first_out k [] f g h = g
 first_out k (u ∷ us) f g h = (h.0, tt)
 
-pub last_in_out : (k : ℕ) (b : Option Ref) (gs : List (List Ref)) → IsOut k (list_of b) → IsOut k (members gs) → IsOut k (list_of (last_in b gs))
+last_in_out : (k : ℕ) (b : Option Ref) (gs : List (List Ref)) → IsOut k (list_of b) → IsOut k (members gs) → IsOut k (list_of (last_in b gs))
 last_in_out k b [] g h = g
 last_in_out k b (u ∷ gs) g h = last_in_out k (last_of b u) gs (last_out k b u g (out_left k u (members gs) h)) (out_right k u (members gs) h)
 
@@ -70,12 +73,14 @@ some_last_in b [] = (b, refl)
 some_last_in b (g ∷ gs) = let z = some_last b g in let w = some_last_in z.0 gs in (w.0, ap (λ o. last_in o gs) z.1 ∙ w.1)
 
 -- a head changes where the place is at the front of the bucket
-pub kept_head : {A : Type 0} (gs : List (List Ref)) (us : List Ref) (a b : A) → AreFull gs → (gs ≡ [] → us ≡ [] → b ≡ a) → kept_if (last_of (last_in None gs) us) a b ≡ a
+pub kept_head : {A : Type 0} (gs : List (List Ref)) (us : List Ref) (a b : A) → AreFull gs
+    → (gs ≡ [] → us ≡ [] → b ≡ a) → kept_if (last_of (last_in None gs) us) a b ≡ a
 kept_head [] [] a b full e = e refl refl
 kept_head [] (u ∷ us) a b full e = ap (λ o. kept_if o a b) (some_last u us).1
 kept_head ([] ∷ gs) us a b full e = absurd (full.0 refl)
 kept_head ((y ∷ ys) ∷ gs) us a b full e =
-    let z = some_last y ys in let w = some_last_in z.0 gs in let v = some_last w.0 us in ap (λ o. kept_if o a b) (ap (λ o. last_of o us) (ap (λ o. last_in o gs) z.1 ∙ w.1) ∙ v.1)
+    let z = some_last y ys in let w = some_last_in z.0 gs in let v = some_last w.0 us in
+    ap (λ o. kept_if o a b) (ap (λ o. last_of o us) (ap (λ o. last_in o gs) z.1 ∙ w.1) ∙ v.1)
 
 pub members-append : (gs hs : List (List Ref)) → members (gs ++ hs) ≡ members gs ++ members hs
 members-append [] hs = refl
@@ -83,7 +88,8 @@ members-append (g ∷ gs) hs = ap (λ z. g ++ z) (members-append gs hs) ∙ sym 
 
 -- the nodes around a place in a group
 pub members_at : (gs : List (List Ref)) (us vs : List Ref) (hs : List (List Ref)) → members (gs ++ (us ++ vs) ∷ hs) ≡ (members gs ++ us) ++ (vs ++ members hs)
-members_at gs us vs hs = members-append gs ((us ++ vs) ∷ hs) ∙ ap (λ z. members gs ++ z) (append_assoc us vs (members hs)) ∙ sym (append_assoc (members gs) us (vs ++ members hs))
+members_at gs us vs hs = members-append gs ((us ++ vs) ∷ hs)
+    ∙ ap (λ z. members gs ++ z) (append_assoc us vs (members hs)) ∙ sym (append_assoc (members gs) us (vs ++ members hs))
 
 pub first_in-append : (gs hs : List (List Ref)) (f : Option Ref) → first_in (gs ++ hs) f ≡ first_in gs (first_in hs f)
 first_in-append [] hs f = refl
@@ -106,7 +112,8 @@ pub record AreParted (gs : List (List Ref)) (us vs : List Ref) (hs : List (List 
 
 pub parted : (gs : List (List Ref)) (us vs : List Ref) (hs : List (List Ref)) → IsApart ((members gs ++ us) ++ (vs ++ members hs)) → AreParted gs us vs hs
 parted gs us vs hs a =
-    let G = members gs in let H = members hs in let l = apart_left (G ++ us) (vs ++ H) a in let r = apart_right (G ++ us) (vs ++ H) a in let across = apart_across (G ++ us) (vs ++ H) a in
+    let G = members gs in let H = members hs in let l = apart_left (G ++ us) (vs ++ H) a in let r = apart_right (G ++ us) (vs ++ H) a in
+    let across = apart_across (G ++ us) (vs ++ H) a in
     let gu = apart_across G us l in let left = are_out_xs G us (vs ++ H) across in let right = are_out_ys G us (vs ++ H) across in record {
       gs_us = gu;
       gs_vs = out_of_xs G vs H left;
@@ -134,9 +141,12 @@ left_of gs us = last_of (last_in None gs) us
 abbrev pub right_of : List Ref → List Ref → Option Ref
 right_of us vs = first_of vs (first_of us None)
 
-pub place_out : (gs : List (List Ref)) (us vs : List Ref) (k : ℕ) → IsOut k (members gs ++ us) → IsOut k vs → IsOut k (list_of (left_of gs us)) × IsOut k (list_of (right_of us vs))
-place_out gs us vs k g h = let u = out_right k (members gs) us g in
-    (last_out k (last_in None gs) us (last_in_out k None gs tt (out_left k (members gs) us g)) u, first_out k vs (first_of us None) (first_out k us None tt u) h)
+pub place_out : (gs : List (List Ref)) (us vs : List Ref) (k : ℕ) → IsOut k (members gs ++ us)
+    → IsOut k vs → IsOut k (list_of (left_of gs us)) × IsOut k (list_of (right_of us vs))
+place_out gs us vs k g h = let u = out_right k (members gs) us g in (
+  last_out k (last_in None gs) us (last_in_out k None gs tt (out_left k (members gs) us g)) u,
+  first_out k vs (first_of us None) (first_out k us None tt u) h,
+)
 
 -- the last node of a group around a node
 last_around : (us : List Ref) (r : Ref) (vs : List Ref) → last_of None (us ++ r ∷ vs) ≡ last_of (Some r) vs
@@ -161,11 +171,11 @@ is_not : (o : Option Ref) (k : ℕ) → IsOut k (list_of o) → IsNot o k
 is_not None k h = tt
 is_not (Some r) k h = flip r.name k ∙ h.0
 
-pub same_first : (h : List Ref) (f w : Option Ref) → (h ≡ [] → ⊥) → first_of h f ≡ first_of h w
+same_first : (h : List Ref) (f w : Option Ref) → (h ≡ [] → ⊥) → first_of h f ≡ first_of h w
 same_first [] f w n = absurd (n refl)
 same_first (y ∷ ys) f w n = refl
 
-pub same_last : (h : List Ref) (b c : Option Ref) → (h ≡ [] → ⊥) → last_of b h ≡ last_of c h
+same_last : (h : List Ref) (b c : Option Ref) → (h ≡ [] → ⊥) → last_of b h ≡ last_of c h
 same_last [] b c n = absurd (n refl)
 same_last (y ∷ ys) b c n = refl
 
@@ -178,7 +188,8 @@ module _ {T : Type 0} (s : ℕ) where
   chained_right m [] hs f h = h
   chained_right m (g ∷ gs) hs f h = chained_right m gs hs f h.1
 
-  pub chained_both : (m : Pooled T) (gs hs : List (List Ref)) (f : Option Ref) → IsChained m s gs (first_in hs f) → IsChained m s hs f → IsChained m s (gs ++ hs) f
+  chained_both : (m : Pooled T) (gs hs : List (List Ref)) (f : Option Ref)
+      → IsChained m s gs (first_in hs f) → IsChained m s hs f → IsChained m s (gs ++ hs) f
   chained_both m [] hs f g h = h
   chained_both m (g' ∷ gs) hs f g h = (subst (IsLinked m s (last_of None g') g') (sym (first_in-append gs hs f)) g.0, chained_both m gs hs f g.1 h)
 
@@ -203,35 +214,45 @@ module _ {T : Type 0} (s : ℕ) where
   last_in_held m b (u ∷ gs) f g h = last_in_held m (last_of b u) gs f (last_held m b u g (linked_held s m (last_of None u) u (first_in gs f) h.0)) h.1
 
   -- a link of a node outside is set
-  pub chained_still : (m : Pooled T) (k : ℕ) (l : Link) (gs : List (List Ref)) (f : Option Ref) → IsOut k (members gs) → IsChained m s gs f → IsChained (with_link m k s l) s gs f
+  chained_still : (m : Pooled T) (k : ℕ) (l : Link) (gs : List (List Ref)) (f : Option Ref)
+      → IsOut k (members gs) → IsChained m s gs f → IsChained (with_link m k s l) s gs f
   chained_still m k l [] f o h = tt
-  chained_still m k l (g ∷ gs) f o h = (frame s m k l (last_of None g) g (first_in gs f) (out_left k g (members gs) o) h.0, chained_still m k l gs f (out_right k g (members gs) o) h.1)
+  chained_still m k l (g ∷ gs) f o h = (
+    frame s m k l (last_of None g) g (first_in gs f) (out_left k g (members gs) o) h.0,
+    chained_still m k l gs f (out_right k g (members gs) o) h.1,
+  )
 
-  linked_forth : (m : Pooled T) (o : Option Ref) (w b : Option Ref) (rs : List Ref) (f : Option Ref) → AreOut (list_of o) rs → IsLinked m s b rs f → IsLinked (with_forth_if m s o w) s b rs f
+  linked_forth : (m : Pooled T) (o : Option Ref) (w b : Option Ref) (rs : List Ref) (f : Option Ref)
+      → AreOut (list_of o) rs → IsLinked m s b rs f → IsLinked (with_forth_if m s o w) s b rs f
   linked_forth m o w b rs f a h = frame_forth s m o w b rs f (out_if o rs a) h
 
-  linked_back : (m : Pooled T) (o : Option Ref) (w b : Option Ref) (rs : List Ref) (f : Option Ref) → AreOut (list_of o) rs → IsLinked m s b rs f → IsLinked (with_back_if m s o w) s b rs f
+  linked_back : (m : Pooled T) (o : Option Ref) (w b : Option Ref) (rs : List Ref) (f : Option Ref)
+      → AreOut (list_of o) rs → IsLinked m s b rs f → IsLinked (with_back_if m s o w) s b rs f
   linked_back m o w b rs f a h = frame_back s m o w b rs f (out_if o rs a) h
 
-  chained_forth : (m : Pooled T) (o : Option Ref) (w : Option Ref) (gs : List (List Ref)) (f : Option Ref) → AreOut (list_of o) (members gs) → IsChained m s gs f → IsChained (with_forth_if m s o w) s gs f
+  chained_forth : (m : Pooled T) (o : Option Ref) (w : Option Ref) (gs : List (List Ref)) (f : Option Ref)
+      → AreOut (list_of o) (members gs) → IsChained m s gs f → IsChained (with_forth_if m s o w) s gs f
   unfolding with_forth
   chained_forth m None w gs f o h = h
   chained_forth m (Some r) w gs f o h = chained_still m r.name _ gs f o.0 h
 
-  chained_back : (m : Pooled T) (o : Option Ref) (w : Option Ref) (gs : List (List Ref)) (f : Option Ref) → AreOut (list_of o) (members gs) → IsChained m s gs f → IsChained (with_back_if m s o w) s gs f
+  chained_back : (m : Pooled T) (o : Option Ref) (w : Option Ref) (gs : List (List Ref)) (f : Option Ref)
+      → AreOut (list_of o) (members gs) → IsChained m s gs f → IsChained (with_back_if m s o w) s gs f
   unfolding with_back
   chained_back m None w gs f o h = h
   chained_back m (Some r) w gs f o h = chained_still m r.name _ gs f o.0 h
 
   -- what follows the last group changes
-  pub new_end : (m : Pooled T) (gs : List (List Ref)) (f w : Option Ref) → AreFull gs → IsApart (members gs) → IsChained m s gs f → IsChained (with_forth_if m s (last_in None gs) w) s gs w
+  new_end : (m : Pooled T) (gs : List (List Ref)) (f w : Option Ref) → AreFull gs → IsApart (members gs)
+      → IsChained m s gs f → IsChained (with_forth_if m s (last_in None gs) w) s gs w
   new_end m [] f w full a h = tt
   new_end m (g ∷ []) f w full a h = (retail s m (last_of None g) g f w (apart_left g [] a) h.0, tt)
   new_end m (g ∷ h' ∷ gs) f w full a h =
       let end : last_in None (g ∷ h' ∷ gs) ≡ last_in None (h' ∷ gs) = ap (λ o. last_in o gs) (same_last h' (last_of None g) None full.1.0) in
       let far = last_in_are_out None (h' ∷ gs) g tt (are_out_flip g (members (h' ∷ gs)) (apart_across g (members (h' ∷ gs)) a)) in
       subst (λ o. IsChained (with_forth_if m s o w) s (g ∷ h' ∷ gs) w) (sym end) (
-        subst (IsLinked (with_forth_if m s (last_in None (h' ∷ gs)) w) s (last_of None g) g) (same_first h' (first_in gs f) (first_in gs w) full.1.0) (linked_forth m (last_in None (h' ∷ gs)) w (last_of None g) g (first_in (h' ∷ gs) f) far h.0),
+        subst (IsLinked (with_forth_if m s (last_in None (h' ∷ gs)) w) s (last_of None g) g) (same_first h' (first_in gs f) (first_in gs w) full.1.0)
+            (linked_forth m (last_in None (h' ∷ gs)) w (last_of None g) g (first_in (h' ∷ gs) f) far h.0),
         new_end m (h' ∷ gs) f w full.1 (apart_right g (members (h' ∷ gs)) a) h.1,
       )
 
@@ -242,7 +263,8 @@ module _ {T : Type 0} (s : ℕ) where
     pub rest : IsLinked m s c vs x
     pub right : IsChained m s hs None
 
-  after_forth : (m : Pooled T) (gs : List (List Ref)) (us vs : List Ref) (hs : List (List Ref)) (f b w c x z : Option Ref) → AreFull gs → AreParted gs us vs hs → Parts m gs us vs hs (first_of us f) b w c x
+  after_forth : (m : Pooled T) (gs : List (List Ref)) (us vs : List Ref) (hs : List (List Ref)) (f b w c x z : Option Ref)
+      → AreFull gs → AreParted gs us vs hs → Parts m gs us vs hs (first_of us f) b w c x
       → Parts (with_forth_if m s (last_of (last_in None gs) us) z) gs us vs hs (first_of us z) b z c x
   after_forth m gs [] vs hs f b w c x z full a h = let o = last_in None gs in record {
     left = new_end m gs f z full a.gs_apart h.left;
@@ -257,7 +279,8 @@ module _ {T : Type 0} (s : ℕ) where
     right = chained_forth m o z hs None (last_are_out None (u ∷ us) (members hs) tt a.us_hs) h.right;
   }
 
-  after_back : (m : Pooled T) (gs : List (List Ref)) (us vs : List Ref) (hs : List (List Ref)) (f b w c x z : Option Ref) → AreParted gs us vs hs → Parts m gs us vs hs f b w c x
+  after_back : (m : Pooled T) (gs : List (List Ref)) (us vs : List Ref) (hs : List (List Ref)) (f b w c x z : Option Ref)
+      → AreParted gs us vs hs → Parts m gs us vs hs f b w c x
       → Parts (with_back_if m s (first_of vs (first_of us None)) z) gs us vs hs f (back_of vs z b) w z x
   after_back m gs [] [] hs f b w c x z a h = record { left = h.left; front = tt; rest = tt; right = h.right }
   after_back m gs (u ∷ us) [] hs f b w c x z a h = record {
@@ -273,9 +296,11 @@ module _ {T : Type 0} (s : ℕ) where
     right = chained_back m (Some v) z hs None (a.vs_hs.0, tt) h.right;
   }
 
-  pub after_join : (m : Pooled T) (gs : List (List Ref)) (us vs : List Ref) (hs : List (List Ref)) (f b w c x y z : Option Ref) → AreFull gs → AreParted gs us vs hs → Parts m gs us vs hs (first_of us f) b w c x
+  after_join : (m : Pooled T) (gs : List (List Ref)) (us vs : List Ref) (hs : List (List Ref)) (f b w c x y z : Option Ref)
+      → AreFull gs → AreParted gs us vs hs → Parts m gs us vs hs (first_of us f) b w c x
       → Parts (joined m s (left_of gs us) y (right_of us vs) z) gs us vs hs (first_of us y) (back_of vs z b) y z x
-  after_join m gs us vs hs f b w c x y z full a h = after_back (with_forth_if m s (left_of gs us) y) gs us vs hs (first_of us y) b y c x z a (after_forth m gs us vs hs f b w c x y full a h)
+  after_join m gs us vs hs f b w c x y z full a h = after_back (with_forth_if m s (left_of gs us) y)
+      gs us vs hs (first_of us y) b y c x z a (after_forth m gs us vs hs f b w c x y full a h)
 
   link_outside : (m : Pooled T) (p y q z : Option Ref) (k : ℕ) → IsOut k (list_of p) → IsOut k (list_of q) → link_of (joined m s p y q z) k s ≡ link_of m k s
   link_outside m p y q z k g h = joined_there s m p y q z k s (is_not p k g) (is_not q k h)
@@ -290,12 +315,16 @@ module _ {T : Type 0} (s : ℕ) where
   keeps_back m None y = keeps_none s m []
   keeps_back m (Some p) y = keeps_link s m p _
 
-  pub keeps_joined : (m : Pooled T) (p y q z : Option Ref) (ws : List Ref) → ((k : ℕ) → IsOut k ws → IsOut k (list_of p) × IsOut k (list_of q)) → Keeps m (joined m s p y q z) s ws
-  keeps_joined m p y q z ws among = keeps_then s m (with_forth_if m s p y) (joined m s p y q z) (list_of p) (list_of q) ws (keeps_forth m p y) (keeps_back (with_forth_if m s p y) q z) among
+  pub keeps_joined : (m : Pooled T) (p y q z : Option Ref) (ws : List Ref)
+      → ((k : ℕ) → IsOut k ws → IsOut k (list_of p) × IsOut k (list_of q)) → Keeps m (joined m s p y q z) s ws
+  keeps_joined m p y q z ws among = keeps_then s m (with_forth_if m s p y) (joined m s p y q z)
+      (list_of p) (list_of q) ws (keeps_forth m p y) (keeps_back (with_forth_if m s p y) q z) among
 
   -- a node is put in
-  pub is_put : (m : Pooled T) (gs : List (List Ref)) (us vs : List Ref) (hs : List (List Ref)) (f : Option Ref) (r : Ref) (l : Link) → AreFull gs → AreParted gs us vs hs → IsHeld m r
-      → IsOut r.name (members gs ++ us) → IsOut r.name (vs ++ members hs) → Parts m gs us vs hs (first_of us f) (last_of None (us ++ vs)) (first_of vs (first_in hs None)) (last_of (last_of None (us ++ vs)) us) (first_in hs None)
+  pub is_put : (m : Pooled T) (gs : List (List Ref)) (us vs : List Ref) (hs : List (List Ref)) (f : Option Ref) (r : Ref) (l : Link)
+      → AreFull gs → AreParted gs us vs hs → IsHeld m r
+      → IsOut r.name (members gs ++ us) → IsOut r.name (vs ++ members hs)
+      → Parts m gs us vs hs (first_of us f) (last_of None (us ++ vs)) (first_of vs (first_in hs None)) (last_of (last_of None (us ++ vs)) us) (first_in hs None)
       → l.back ≡ back_between us r vs → l.forth ≡ forth_between vs hs
       → IsChained (joined (with_link m r.name s l) s (left_of gs us) (Some r) (right_of us vs) (Some r)) s (gs ++ (us ++ r ∷ vs) ∷ hs) None
   is_put m gs us vs hs f r l full a held ol or h lb lf =
@@ -321,7 +350,8 @@ module _ {T : Type 0} (s : ℕ) where
 
   -- the parts of a chain around a node in a group
   pub parts_of : (m : Pooled T) (gs : List (List Ref)) (us vs : List Ref) (hs : List (List Ref)) → IsChained m s (gs ++ (us ++ vs) ∷ hs) None
-      → Parts m gs us vs hs (first_of us (first_of vs (first_in hs None))) (last_of None (us ++ vs)) (first_of vs (first_in hs None)) (last_of (last_of None (us ++ vs)) us) (first_in hs None)
+      → Parts m gs us vs hs (first_of us (first_of vs (first_in hs None))) (last_of None (us ++ vs))
+      (first_of vs (first_in hs None)) (last_of (last_of None (us ++ vs)) us) (first_in hs None)
   parts_of m gs us vs hs h = let on = chained_right m gs ((us ++ vs) ∷ hs) None h in record {
     left = subst (IsChained m s gs) (first_push us vs (first_in hs None)) (chained_left m gs ((us ++ vs) ∷ hs) None h);
     front = linked_left s m (last_of None (us ++ vs)) us vs (first_in hs None) on.0;
@@ -329,16 +359,19 @@ module _ {T : Type 0} (s : ℕ) where
     right = on.1;
   }
 
-  front_left : (us : List Ref) (r : Ref) (vs : List Ref) (n : Pooled T) (w : Option Ref) → IsLinked n s (back_of vs (last_of (last_of (Some r) vs) us) (last_of None (us ++ r ∷ vs))) us w → IsLinked n s (last_of None (us ++ vs)) us w
+  front_left : (us : List Ref) (r : Ref) (vs : List Ref) (n : Pooled T) (w : Option Ref)
+      → IsLinked n s (back_of vs (last_of (last_of (Some r) vs) us) (last_of None (us ++ r ∷ vs))) us w → IsLinked n s (last_of None (us ++ vs)) us w
   front_left [] r vs n w h = tt
   front_left (u ∷ us) r [] n w h = subst (λ b. IsLinked n s b (u ∷ us) w) (sym (last_both None (u ∷ us) [])) h
   front_left (u ∷ us) r (v ∷ vs) n w h = subst (λ b. IsLinked n s b (u ∷ us) w) (last_around (u ∷ us) r (v ∷ vs) ∙ sym (last_around (u ∷ us) v vs)) h
 
-  rest_left : (us : List Ref) (r : Ref) (vs : List Ref) (n : Pooled T) (x : Option Ref) → IsLinked n s (last_of (last_of (Some r) vs) us) vs x → IsLinked n s (last_of (last_of None (us ++ vs)) us) vs x
+  rest_left : (us : List Ref) (r : Ref) (vs : List Ref) (n : Pooled T) (x : Option Ref)
+      → IsLinked n s (last_of (last_of (Some r) vs) us) vs x → IsLinked n s (last_of (last_of None (us ++ vs)) us) vs x
   rest_left us r [] n x h = tt
   rest_left us r (v ∷ vs) n x h = subst (λ b. IsLinked n s (last_of b us) (v ∷ vs) x) (sym (last_around us v vs)) h
 
-  module _ (m : Pooled T) (gs : List (List Ref)) (us : List Ref) (r : Ref) (vs : List Ref) (hs : List (List Ref)) (full : AreFull gs) (a : AreParted gs us vs hs)
+  module _ (m : Pooled T) (gs : List (List Ref)) (us : List Ref) (r : Ref) (vs : List Ref)
+      (hs : List (List Ref)) (full : AreFull gs) (a : AreParted gs us vs hs)
       (h : IsChained m s (gs ++ (us ++ r ∷ vs) ∷ hs) None) where
     abbrev back_r : Option Ref
     back_r = last_of (last_of (Some r) vs) us
@@ -357,13 +390,17 @@ module _ {T : Type 0} (s : ℕ) where
 
     parts_left : Parts taken_out gs us vs hs (first_of us forth_r) (back_of vs back_r (last_of None (us ++ r ∷ vs))) forth_r back_r (first_in hs None)
     parts_left = let p = parts_of m gs us (r ∷ vs) hs h in
-        after_join m gs us vs hs (Some r) (last_of None (us ++ r ∷ vs)) (Some r) (Some r) (first_in hs None) forth_r back_r full a (record { left = p.left; front = p.front; rest = p.rest.3; right = p.right })
+        after_join m gs us vs hs (Some r) (last_of None (us ++ r ∷ vs)) (Some r) (Some r) (first_in hs None)
+        forth_r back_r full a (record { left = p.left; front = p.front; rest = p.rest.3; right = p.right })
 
     -- a node is taken out of a group that has others
     pub is_taken : IsChained taken_out s (gs ++ (us ++ vs) ∷ hs) None
     is_taken = let p = parts_left in
-        chained_both taken_out gs ((us ++ vs) ∷ hs) None (subst (IsChained taken_out s gs) (sym (first_push us vs (first_in hs None))) p.left)
-        (linked_both s taken_out (last_of None (us ++ vs)) us vs (first_in hs None) (front_left us r vs taken_out forth_r p.front) (rest_left us r vs taken_out (first_in hs None) p.rest), p.right)
+        chained_both taken_out gs ((us ++ vs) ∷ hs) None (subst (IsChained taken_out s gs) (sym (first_push us vs (first_in hs None))) p.left) (
+          linked_both s taken_out (last_of None (us ++ vs)) us vs (first_in hs None)
+              (front_left us r vs taken_out forth_r p.front) (rest_left us r vs taken_out (first_in hs None) p.rest),
+          p.right,
+        )
 
     -- a group is taken out with its one node
     pub is_gone : us ≡ [] → vs ≡ [] → IsChained taken_out s (gs ++ hs) None

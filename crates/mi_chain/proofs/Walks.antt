@@ -1,7 +1,8 @@
 -- What the searches in a chain keep, and that they end.
 --     Walked      the groups so far were passed
 --     Gapped      the nodes so far, from the newest on, have no lower stamp
-use Rattle.std.proofs.Common.{◌≡◌, ◌⊎◌, inl, inr, ℕ, zero, suc, ◌+◌, ◌==◌, ◌<◌, ◌≤◌, Bool, true, false, cond, List, [], ◌∷◌, ◌++◌, length, Option, Some, None, refl, sym, ap, ◌∙◌, subst, append_assoc, arith, length-append}
+use Rattle.std.proofs.Common.{◌≡◌, ◌⊎◌, inl, inr, ℕ, zero, suc, ◌+◌, ◌==◌, ◌<◌, ◌≤◌, Bool, true, false, cond, List, [], ◌∷◌}
+use Rattle.std.proofs.Common.{◌++◌, length, Option, Some, None, refl, sym, ap, ◌∙◌, subst, append_assoc, arith, length-append}
 use Rattle.std.proofs.lemmas.List.{append-nil}
 use Rattle.mi_node.specs.Pool.{Pooled, link_of, IsHeld, IsHeldIf, node_count}
 use Rattle.mi_node.specs.Neighbours.{IsLinked}
@@ -15,7 +16,7 @@ use Rattle.mi_chain.specs.Places.{is_named, Found, AreNotBelow, IsGap, forth_of,
 use Rattle.mi_chain.specs.Moves.{hops, next_group}
 use Rattle.mi_chain.proofs.Joins.{list_of, chained_right, chained_held, last_held, some_last, last_out, first_in_out, out_of_ys}
 
-pub some_is : (x y : Ref) → Some x ≡ Some y → x ≡ y
+some_is : (x y : Ref) → Some x ≡ Some y → x ≡ y
 some_is x y e = cc
 
 -- the groups passed, and those to come
@@ -37,7 +38,7 @@ pub record Gapped (stamp : Ref → ℕ) (n : ℕ) (g : List Ref) (at next : Opti
   pub above : AreNotBelow stamp n vs
 
 -- a list that has a last
-pub unpush : (us : List Ref) (z : Ref) → last_of None us ≡ Some z → (ws : List Ref) × (us ≡ ws ++ z ∷ [])
+unpush : (us : List Ref) (z : Ref) → last_of None us ≡ Some z → (ws : List Ref) × (us ≡ ws ++ z ∷ [])
 unpush [] z e = absurd (cc)
 unpush (u ∷ []) z e = ([], ap (λ w. w ∷ []) (some_is u z e))
 unpush (u ∷ v ∷ us) z e = let w = unpush (v ∷ us) z e in (u ∷ w.0, ap (λ l. u ∷ l) w.1)
@@ -50,7 +51,8 @@ pub full_left : (xs ys : List (List Ref)) → AreFull (xs ++ ys) → AreFull xs
 full_left [] ys h = tt
 full_left (x ∷ xs) ys h = (h.0, full_left xs ys h.1)
 
-passed_push : (K : Ref → Bool) (xs : List (List Ref)) (g : List Ref) (y : Ref) → ArePassed K xs → first_of g None ≡ Some y → K y ≡ false → ArePassed K (xs ++ g ∷ [])
+passed_push : (K : Ref → Bool) (xs : List (List Ref)) (g : List Ref) (y : Ref) → ArePassed K xs
+    → first_of g None ≡ Some y → K y ≡ false → ArePassed K (xs ++ g ∷ [])
 passed_push K [] g y p f n = ((y, f, n), tt)
 passed_push K (x ∷ xs) g y p f n = (p.0, passed_push K xs g y p.1 f n)
 
@@ -79,19 +81,22 @@ right_length xs ys = omega (arith, length-append xs ys)
 
 module _ {T : Type 0} where
   -- what follows the last node
-  pub after_last : (m : Pooled T) (s : ℕ) (b : Option Ref) (y : Ref) (ys : List Ref) (f : Option Ref) → IsLinked m s b (y ∷ ys) f → forth_of m s (last_of (Some y) ys) ≡ f
+  pub after_last : (m : Pooled T) (s : ℕ) (b : Option Ref) (y : Ref) (ys : List Ref) (f : Option Ref)
+      → IsLinked m s b (y ∷ ys) f → forth_of m s (last_of (Some y) ys) ≡ f
   after_last m s b y [] f h = h.2
   after_last m s b y (z ∷ ys) f h = after_last m s (Some y) z ys f h.3
 
   pub next_group_is : (m : Pooled T) (s : ℕ) (y : Ref) (ys : List Ref) (f : Option Ref) → IsLinked m s (last_of None (y ∷ ys)) (y ∷ ys) f → next_group m s y ≡ f
   next_group_is m s y ys f h = ap (forth_of m s) h.1 ∙ after_last m s (last_of None (y ∷ ys)) y ys f h
 
-  pub hops_groups : (m : Pooled T) (s k : ℕ) (gs : List (List Ref)) → AreFull gs → IsChained m s gs None → length gs ≤ k → hops (next_group m s) k (first_in gs None) ≡ length gs
+  pub hops_groups : (m : Pooled T) (s k : ℕ) (gs : List (List Ref)) → AreFull gs
+      → IsChained m s gs None → length gs ≤ k → hops (next_group m s) k (first_in gs None) ≡ length gs
   hops_groups m s zero [] full h le = refl
   hops_groups m s (suc k) [] full h le = refl
   hops_groups m s zero (g ∷ gs) full h le = absurd (omega arith)
   hops_groups m s (suc k) ([] ∷ gs) full h le = absurd (full.0 refl)
-  hops_groups m s (suc k) ((y ∷ ys) ∷ gs) full h le = ap (λ o. suc (hops (next_group m s) k o)) (next_group_is m s y ys (first_in gs None) h.0) ∙ ap suc (hops_groups m s k gs full.1 h.1 (omega arith))
+  hops_groups m s (suc k) ((y ∷ ys) ∷ gs) full h le = ap (λ o. suc (hops (next_group m s) k o)) (next_group_is m s y ys (first_in gs None) h.0)
+      ∙ ap suc (hops_groups m s k gs full.1 h.1 (omega arith))
 
   module _ (m : Pooled T) (s : ℕ) (head : Option Ref) (gs : List (List Ref)) (h : IsChain m s head gs) (K : Ref → Bool) where
     pub walk_start : Walked K gs None head
@@ -134,10 +139,14 @@ module _ {T : Type 0} where
         }
 
     pub walk_held : (before at : Option Ref) (y : Ref) → Walked K gs before at → at ≡ Some y → IsHeld m y × IsHeldIf m (back_of m s y)
-    walk_held before at y w e = let o = opened before at y w e in
-        (o.linked.0, subst (IsHeldIf m) (sym o.linked.1) (last_held s m None (y ∷ o.ws) tt (linked_held s m (last_of None (y ∷ o.ws)) (y ∷ o.ws) (first_in o.zs None) o.linked)))
+    walk_held before at y w e = let o = opened before at y w e in (
+      o.linked.0,
+      subst (IsHeldIf m) (sym o.linked.1) (last_held s m None (y ∷ o.ws) tt
+          (linked_held s m (last_of None (y ∷ o.ws)) (y ∷ o.ws) (first_in o.zs None) o.linked)),
+    )
 
-    pub walk_step : (before at : Option Ref) (y : Ref) → Walked K gs before at → at ≡ Some y → K y ≡ false → Walked K gs (back_of m s y) (forth_of m s (back_of m s y))
+    pub walk_step : (before at : Option Ref) (y : Ref) → Walked K gs before at → at ≡ Some y
+        → K y ≡ false → Walked K gs (back_of m s y) (forth_of m s (back_of m s y))
     walk_step before at y w e n = let o = opened before at y w e in record {
       xs = o.xs ++ (y ∷ o.ws) ∷ [];
       ys = o.zs;
@@ -156,11 +165,13 @@ module _ {T : Type 0} where
         let none = ends_none w.ys (full_right w.xs w.ys (subst AreFull w.parts h.full)) (sym w.at_is ∙ e) in
         subst (ArePassed K) (sym (w.parts ∙ ap (λ z. w.xs ++ z) none ∙ append-nil w.xs)) w.passed
 
-    pub walk_less : (before at : Option Ref) (y : Ref) → Walked K gs before at → at ≡ Some y → hops (next_group m s) (node_count m) (forth_of m s (back_of m s y)) < hops (next_group m s) (node_count m) at
+    pub walk_less : (before at : Option Ref) (y : Ref) → Walked K gs before at → at ≡ Some y
+        → hops (next_group m s) (node_count m) (forth_of m s (back_of m s y)) < hops (next_group m s) (node_count m) at
     walk_less before at y w e =
         let o = opened before at y w e in let n = node_count m in
         let next : hops (next_group m s) n (next_group m s y) ≡ length o.zs =
-        ap (hops (next_group m s) n) (next_group_is m s y o.ws (first_in o.zs None) o.linked) ∙ hops_groups m s n o.zs o.full o.chained (let f = o.fits in omega arith) in
+        ap (hops (next_group m s) n) (next_group_is m s y o.ws (first_in o.zs None) o.linked)
+        ∙ hops_groups m s n o.zs o.full o.chained (let f = o.fits in omega arith) in
         let here : hops (next_group m s) n at ≡ length ((y ∷ o.ws) ∷ o.zs) =
         ap (hops (next_group m s) n) e ∙ hops_groups m s n ((y ∷ o.ws) ∷ o.zs) (λ z. cc, o.full) (o.linked, o.chained) (let f = o.fits in omega arith) in
         omega arith
@@ -169,7 +180,8 @@ module _ {T : Type 0} where
   abbrev pub step_back : Pooled T → ℕ → Ref → Ref → Option Ref
   step_back m s first r = prev_in first r (back_of m s r)
 
-  pub prev_is : (m : Pooled T) (s : ℕ) (first : Ref) (us : List Ref) (r : Ref) (vs : List Ref) (f : Option Ref) → IsLinked m s (last_of None (us ++ r ∷ vs)) (us ++ r ∷ vs) f → IsApart (us ++ r ∷ vs)
+  prev_is : (m : Pooled T) (s : ℕ) (first : Ref) (us : List Ref) (r : Ref) (vs : List Ref) (f : Option Ref)
+      → IsLinked m s (last_of None (us ++ r ∷ vs)) (us ++ r ∷ vs) f → IsApart (us ++ r ∷ vs)
       → first_of (us ++ r ∷ vs) None ≡ Some first → step_back m s first r ≡ last_of None us
   prev_is m s first [] r vs f h a e = ap (λ b. cond b None (back_of m s r)) (ap (λ (q : Ref). r.name == q.name) (sym (some_is r first e)) ∙ same_refl r.name)
   prev_is m s first (u ∷ us) r vs f h a e =
@@ -177,15 +189,18 @@ module _ {T : Type 0} where
       let there : (r.name == first.name) ≡ false = ap (λ (q : Ref). r.name == q.name) (sym (some_is u first e)) ∙ flip r.name u.name ∙ out in
       ap (λ b. cond b None (back_of m s r)) there ∙ (linked_right s m (last_of None (u ∷ us ++ r ∷ vs)) (u ∷ us) (r ∷ vs) f h).1
 
-  held_at : (m : Pooled T) (s : ℕ) (first : Ref) (b : Option Ref) (g : List Ref) (f : Option Ref) → IsLinked m s b g f → first_of g None ≡ Some first → IsHeld m first
+  held_at : (m : Pooled T) (s : ℕ) (first : Ref) (b : Option Ref) (g : List Ref) (f : Option Ref)
+      → IsLinked m s b g f → first_of g None ≡ Some first → IsHeld m first
   held_at m s first b [] f h e = absurd (cc)
   held_at m s first b (y ∷ ys) f h e = subst (IsHeld m) (some_is y first e) h.0
 
-  pub back_at : (m : Pooled T) (s : ℕ) (first : Ref) (b : Option Ref) (g : List Ref) (f : Option Ref) → IsLinked m s b g f → first_of g None ≡ Some first → back_of m s first ≡ b
+  pub back_at : (m : Pooled T) (s : ℕ) (first : Ref) (b : Option Ref) (g : List Ref) (f : Option Ref)
+      → IsLinked m s b g f → first_of g None ≡ Some first → back_of m s first ≡ b
   back_at m s first b [] f h e = absurd (cc)
   back_at m s first b (y ∷ ys) f h e = ap (back_of m s) (sym (some_is y first e)) ∙ h.1
 
-  module _ (m : Pooled T) (s : ℕ) (first : Ref) (g : List Ref) (f : Option Ref) (h : IsLinked m s (last_of None g) g f) (a : IsApart g) (e : first_of g None ≡ Some first) where
+  module _ (m : Pooled T) (s : ℕ) (first : Ref) (g : List Ref) (f : Option Ref)
+      (h : IsLinked m s (last_of None g) g f) (a : IsApart g) (e : first_of g None ≡ Some first) where
     hops_back : (k : ℕ) (us vs : List Ref) → g ≡ us ++ vs → length us ≤ k → hops (step_back m s first) k (last_of None us) ≡ length us
     hops_back zero [] vs p le = refl
     hops_back zero (u ∷ us) vs p le = absurd (omega arith)
@@ -193,9 +208,11 @@ module _ {T : Type 0} where
     hops_back (suc k) (u ∷ us) vs p le =
         let z = some_last u us in let w = unpush (u ∷ us) z.0 z.1 in
         let q : g ≡ w.0 ++ z.0 ∷ vs = p ∙ ap (λ l. l ++ vs) w.1 ∙ append_assoc w.0 (z.0 ∷ []) vs in
-        let back = prev_is m s first w.0 z.0 vs f (subst (λ l. IsLinked m s (last_of None l) l f) q h) (subst IsApart q a) (subst (λ l. first_of l None ≡ Some first) q e) in
+        let back = prev_is m s first w.0 z.0 vs f (subst (λ l. IsLinked m s (last_of None l) l f) q h)
+        (subst IsApart q a) (subst (λ l. first_of l None ≡ Some first) q e) in
         let n : length (u ∷ us) ≡ length w.0 + 1 = ap length w.1 ∙ omega (arith, length-append w.0 (z.0 ∷ [])) in
-        ap (hops (step_back m s first) (suc k)) z.1 ∙ ap (λ o. suc (hops (step_back m s first) k o)) back ∙ ap suc (hops_back k w.0 (z.0 ∷ vs) q (omega arith)) ∙ omega arith
+        ap (hops (step_back m s first) (suc k)) z.1 ∙ ap (λ o. suc (hops (step_back m s first) k o)) back
+        ∙ ap suc (hops_back k w.0 (z.0 ∷ vs) q (omega arith)) ∙ omega arith
 
     pub first_is_held : IsHeld m first
     first_is_held = held_at m s first (last_of None g) g f h e
@@ -242,18 +259,30 @@ module _ {T : Type 0} where
       gap_held at next z w i = (at_node at next z w i).held
 
       pub gap_step : (at next : Option Ref) (z : Ref) → Gapped stamp n g at next → at ≡ Some z → n ≤ stamp z → Gapped stamp n g (step_back m s first z) (Some z)
-      gap_step at next z w i le = let o = at_node at next z w i in record { us = o.ws; vs = z ∷ o.vs; parts = o.parts; at_is = o.back; next_is = refl; above = (le, o.above) }
+      gap_step at next z w i le =
+          let o = at_node at next z w i in record { us = o.ws; vs = z ∷ o.vs; parts = o.parts; at_is = o.back; next_is = refl; above = (le, o.above) }
 
-      pub gap_less : (at next : Option Ref) (z : Ref) → Gapped stamp n g at next → at ≡ Some z → hops (step_back m s first) (node_count m) (step_back m s first z) < hops (step_back m s first) (node_count m) at
+      pub gap_less : (at next : Option Ref) (z : Ref) → Gapped stamp n g at next → at ≡ Some z
+          → hops (step_back m s first) (node_count m) (step_back m s first z) < hops (step_back m s first) (node_count m) at
       gap_less at next z w i =
           let o = at_node at next z w i in let k = node_count m in let fits = o.fits in
-          let there : hops (step_back m s first) k (step_back m s first z) ≡ length o.ws = ap (hops (step_back m s first) k) o.back ∙ hops_back k o.ws (z ∷ o.vs) o.parts (omega arith) in
+          let there : hops (step_back m s first) k (step_back m s first z) ≡ length o.ws =
+          ap (hops (step_back m s first) k) o.back ∙ hops_back k o.ws (z ∷ o.vs) o.parts (omega arith) in
           let count : length o.was.0 ≡ length o.ws + 1 = ap length o.was.1 ∙ omega (arith, length-append o.ws (z ∷ [])) in
-          let here : hops (step_back m s first) k at ≡ length o.was.0 = ap (hops (step_back m s first) k) o.was.3 ∙ hops_back k o.was.0 o.vs o.was.2 (omega arith) in
+          let here : hops (step_back m s first) k at ≡ length o.was.0 =
+          ap (hops (step_back m s first) k) o.was.3 ∙ hops_back k o.was.0 o.vs o.was.2 (omega arith) in
           omega arith
 
       pub gap_found : (at next : Option Ref) (z : Ref) → Gapped stamp n g at next → at ≡ Some z → stamp z < n → IsGap stamp n g (Some z) next
-      gap_found at next z w i less = record { us = w.us; vs = w.vs; parts = w.parts; prev_is = sym i ∙ w.at_is; next_is = w.next_is; below = less; above = w.above }
+      gap_found at next z w i less = record {
+        us = w.us;
+        vs = w.vs;
+        parts = w.parts;
+        prev_is = sym i ∙ w.at_is;
+        next_is = w.next_is;
+        below = less;
+        above = w.above;
+      }
 
       pub gap_end : (at next : Option Ref) → Gapped stamp n g at next → at ≡ None → IsGap stamp n g None next
       gap_end at next w i = record { us = w.us; vs = w.vs; parts = w.parts; prev_is = sym i ∙ w.at_is; next_is = w.next_is; below = tt; above = w.above }
@@ -263,13 +292,15 @@ is_named_if k None h = refl
 is_named_if k (Some r) h = h.0
 
 -- what the links of a node in a group say of its neighbours
-module _ {T : Type 0} (m : Pooled T) (s : ℕ) (us : List Ref) (r : Ref) (vs : List Ref) (hs : List (List Ref)) (full : AreFull hs) (a : IsApart ((us ++ r ∷ vs) ++ members hs))
+module _ {T : Type 0} (m : Pooled T) (s : ℕ) (us : List Ref) (r : Ref) (vs : List Ref)
+    (hs : List (List Ref)) (full : AreFull hs) (a : IsApart ((us ++ r ∷ vs) ++ members hs))
     (h : IsLinked m s (last_of None (us ++ r ∷ vs)) (us ++ r ∷ vs) (first_in hs None)) (c : IsChained m s hs None) where
   group_apart : IsApart (us ++ r ∷ vs)
   group_apart = apart_left (us ++ r ∷ vs) (members hs) a
 
   out_of_rest : IsOut r.name (members hs)
-  out_of_rest = (are_out_tail (members hs) r vs (out_of_ys (members hs) us (r ∷ vs) (are_out_flip (us ++ r ∷ vs) (members hs) (apart_across (us ++ r ∷ vs) (members hs) a)))).1
+  out_of_rest = (are_out_tail (members hs) r vs
+      (out_of_ys (members hs) us (r ∷ vs) (are_out_flip (us ++ r ∷ vs) (members hs) (apart_across (us ++ r ∷ vs) (members hs) a)))).1
 
   after_it : IsLinked m s (last_of (last_of None (us ++ r ∷ vs)) us) (r ∷ vs) (first_in hs None)
   after_it = linked_right s m (last_of None (us ++ r ∷ vs)) us (r ∷ vs) (first_in hs None) h
@@ -278,11 +309,17 @@ module _ {T : Type 0} (m : Pooled T) (s : ℕ) (us : List Ref) (r : Ref) (vs : L
   forth_is = after_it.2
 
   -- the next node leads back to it, and a node of the next group doesn't
-  pub next_leads : (q : Ref) → first_of vs (first_in hs None) ≡ Some q → IsHeld m q × (((is_named r.name (back_of m s q) ≡ true) × (first_of vs None ≡ Some q)) ⊎ ((is_named r.name (back_of m s q) ≡ false) × (first_of vs None ≡ None)))
+  pub next_leads : (q : Ref) → first_of vs (first_in hs None) ≡ Some q
+      → IsHeld m q
+      × (((is_named r.name (back_of m s q) ≡ true) × (first_of vs None ≡ Some q)) ⊎ ((is_named r.name (back_of m s q) ≡ false) × (first_of vs None ≡ None)))
   next_leads = leads vs hs full out_of_rest after_it c
     where
-      leads : (vs : List Ref) (hs : List (List Ref)) → AreFull hs → IsOut r.name (members hs) → IsLinked m s (last_of (last_of None (us ++ r ∷ vs)) us) (r ∷ vs) (first_in hs None) → IsChained m s hs None
-          → (q : Ref) → first_of vs (first_in hs None) ≡ Some q → IsHeld m q × (((is_named r.name (back_of m s q) ≡ true) × (first_of vs None ≡ Some q)) ⊎ ((is_named r.name (back_of m s q) ≡ false) × (first_of vs None ≡ None)))
+      leads : (vs : List Ref) (hs : List (List Ref)) → AreFull hs → IsOut r.name (members hs)
+          → IsLinked m s (last_of (last_of None (us ++ r ∷ vs)) us) (r ∷ vs) (first_in hs None) → IsChained m s hs None
+          → (q : Ref) → first_of vs (first_in hs None) ≡ Some q
+          → IsHeld m q
+          × (((is_named r.name (back_of m s q) ≡ true) × (first_of vs None ≡ Some q))
+          ⊎ ((is_named r.name (back_of m s q) ≡ false) × (first_of vs None ≡ None)))
       leads (v ∷ vs) hs full o h c q e =
           let same : v ≡ q = some_is v q e in
           (subst (IsHeld m) same h.3.0, inl (ap (λ (z : Ref). is_named r.name (back_of m s z)) (sym same) ∙ ap (is_named r.name) h.3.1 ∙ same_refl r.name, e))
@@ -294,16 +331,26 @@ module _ {T : Type 0} (m : Pooled T) (s : ℕ) (us : List Ref) (r : Ref) (vs : L
           (subst (IsHeld m) same c.0.0, inr (ap (λ (z : Ref). is_named r.name (back_of m s z)) (sym same) ∙ ap (is_named r.name) c.0.1 ∙ not_it, refl))
 
   -- the node before leads forth to it, and the last node of the group doesn't
-  pub prev_leads : ((is_named r.name (forth_of m s (link_of m r.name s).back) ≡ true) × ((link_of m r.name s).back ≡ last_of None us)) ⊎ ((is_named r.name (forth_of m s (link_of m r.name s).back) ≡ false) × (last_of None us ≡ None))
+  pub prev_leads : ((is_named r.name (forth_of m s (link_of m r.name s).back) ≡ true) × ((link_of m r.name s).back ≡ last_of None us))
+      ⊎ ((is_named r.name (forth_of m s (link_of m r.name s).back) ≡ false) × (last_of None us ≡ None))
   prev_leads = leads us refl
     where
-      leads : (ws : List Ref) → us ≡ ws → ((is_named r.name (forth_of m s (link_of m r.name s).back) ≡ true) × ((link_of m r.name s).back ≡ last_of None us)) ⊎ ((is_named r.name (forth_of m s (link_of m r.name s).back) ≡ false) × (last_of None us ≡ None))
+      leads : (ws : List Ref) → us ≡ ws
+          → ((is_named r.name (forth_of m s (link_of m r.name s).back) ≡ true) × ((link_of m r.name s).back ≡ last_of None us))
+          ⊎ ((is_named r.name (forth_of m s (link_of m r.name s).back) ≡ false) × (last_of None us ≡ None))
       leads [] e =
-          let top : (link_of m r.name s).back ≡ last_of (Some r) vs = after_it.1 ∙ ap (λ ws. last_of (last_of None (us ++ r ∷ vs)) ws) e ∙ last_push None us r vs in
+          let top : (link_of m r.name s).back ≡ last_of (Some r) vs = after_it.1
+          ∙ ap (λ ws. last_of (last_of None (us ++ r ∷ vs)) ws) e ∙ last_push None us r vs in
           let next : forth_of m s (last_of (Some r) vs) ≡ first_in hs None = after_last m s _ r vs (first_in hs None) after_it in
-          inr (ap (λ o. is_named r.name (forth_of m s o)) top ∙ ap (is_named r.name) next ∙ is_named_if r.name (first_in hs None) (first_in_out r.name hs out_of_rest), ap (last_of None) e)
+          inr (
+            ap (λ o. is_named r.name (forth_of m s o)) top ∙ ap (is_named r.name) next
+                ∙ is_named_if r.name (first_in hs None) (first_in_out r.name hs out_of_rest),
+            ap (last_of None) e,
+          )
       leads (w ∷ ws) e =
-          let top : (link_of m r.name s).back ≡ last_of None us = after_it.1 ∙ ap (λ ts. last_of (last_of None (us ++ r ∷ vs)) ts) e ∙ sym (ap (last_of None) e) in
-          let left = subst (λ ts. IsLinked m s (last_of None (us ++ r ∷ vs)) ts (Some r)) e (linked_left s m (last_of None (us ++ r ∷ vs)) us (r ∷ vs) (first_in hs None) h) in
+          let top : (link_of m r.name s).back ≡ last_of None us = after_it.1
+          ∙ ap (λ ts. last_of (last_of None (us ++ r ∷ vs)) ts) e ∙ sym (ap (last_of None) e) in
+          let left = subst (λ ts. IsLinked m s (last_of None (us ++ r ∷ vs)) ts (Some r)) e
+          (linked_left s m (last_of None (us ++ r ∷ vs)) us (r ∷ vs) (first_in hs None) h) in
           let next : forth_of m s (last_of None us) ≡ Some r = ap (λ ts. forth_of m s (last_of None ts)) e ∙ after_last m s _ w ws (Some r) left in
           inl (ap (λ o. is_named r.name (forth_of m s o)) top ∙ ap (is_named r.name) next ∙ same_refl r.name, top)

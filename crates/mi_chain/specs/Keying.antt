@@ -33,9 +33,9 @@ module _ {T : Type 0} where
   same_values f (Some x) None = false
   same_values f (Some x) (Some y) = f x y
 
-  abbrev pub number_of : (T → ℕ) → Option T → ℕ
-  number_of f None = 0
-  number_of f (Some x) = f x
+  abbrev pub number_or_zero : (T → ℕ) → Option T → ℕ
+  number_or_zero f None = 0
+  number_or_zero f (Some x) = f x
 
   abbrev pub passes : (T → Bool) → Option T → Bool
   passes f None = false
@@ -46,7 +46,7 @@ module _ {T : Type 0} where
   same_nodes k m a b = same_values k.same (value_of m a.name) (value_of m b.name)
 
   unfoldable pub hash_node : Keying T → Pooled T → Ref → ℕ
-  hash_node k m a = number_of k.hash (value_of m a.name)
+  hash_node k m a = number_or_zero k.hash (value_of m a.name)
 
   unfoldable pub has_key : Keying T → Pooled T → Probe → Ref → Bool
   has_key k m p a = passes (λ x. k.same_key x p) (value_of m a.name)

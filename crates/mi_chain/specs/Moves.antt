@@ -31,7 +31,8 @@ abbrev pub in_old : (Ref → ℕ) → ℕ → ℕ → (Ref → Bool) → Ref →
 in_old hash n i moved q = cond (moved q) false (in_bucket hash n i q)
 
 -- of the nodes rs, those that have moved are linked in new buckets, and the others in old ones
-pub record AreParted {T : Type 0} (R : Ref → Ref → Bool) (stamp hash : Ref → ℕ) (m : Pooled T) (s : ℕ) (news : Seq (Option Ref)) (j : ℕ) (olds : Seq (Option Ref)) (n : ℕ) (rs : Seq Ref) (moved : Ref → Bool) : Type 0 where
+pub record AreParted {T : Type 0} (R : Ref → Ref → Bool) (stamp hash : Ref → ℕ) (m : Pooled T) (s : ℕ)
+    (news : Seq (Option Ref)) (j : ℕ) (olds : Seq (Option Ref)) (n : ℕ) (rs : Seq Ref) (moved : Ref → Bool) : Type 0 where
   pub slot : s < m.slots
   pub many : 0 < j
   pub some : 0 < n

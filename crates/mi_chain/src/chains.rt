@@ -1,7 +1,8 @@
 //! The chains: their slot, their keys, their buckets, and how many groups stand in them.
 //! Each call is passed the pool that they stand in. It sets links of this slot alone, and never a value. Where an optional
 //! reference is used again, it is passed as a copy, `*&x`: by its name it would be moved.
-ghost use Rattle.std.specs.Prelude.{◌≡◌, ◌<◌, ◌≤◌, ◌%◌, ◌*◌, ◌+◌, ◌^◌, ◌==◌, max, cond, ℕ, List as Seq, ◌∷◌, ◌++◌, [], None, Some, IsOk, IfOk, IfErr, vec_len, slice_index_or};
+ghost use Rattle.std.specs.Prelude.{◌≡◌, ◌<◌, ◌≤◌, ◌%◌, ◌*◌, ◌+◌, ◌^◌, ◌==◌, max, cond, ℕ, List as Seq};
+ghost use Rattle.std.specs.Prelude.{◌∷◌, ◌++◌, None, Some, IsOk, IfOk, IfErr, vec_len, slice_index_or};
 ghost use Rattle.std.specs.Int.{IsPowerOfTwo};
 ghost use Rattle.std.specs.List.{filter};
 ghost use Rattle.mi_node.specs.Pool.{IsHeld, IsHeldIf, Keeps, with_link, link_of, node_count};
@@ -76,7 +77,8 @@ impl<H> Chains<H> {
     where
         H: KeyHash<T>,
         requires { (rs : Seq Ref) × AreChained self.now (H.keying self.now.keys) p.now rs }
-        ensures { (rs : Seq Ref) → AreChained self.now (H.keying self.now.keys) p.now rs → result ≡ first_of (filter (has_key (H.keying self.now.keys) p.now key.entry) rs) None }
+        ensures { (rs : Seq Ref) → AreChained self.now (H.keying self.now.keys) p.now rs
+            → result ≡ first_of (filter (has_key (H.keying self.now.keys) p.now key.entry) rs) None }
     {
         let hash = self.keys.hash_key(key);
         let bucket = self.bucket(hash);
@@ -88,7 +90,8 @@ impl<H> Chains<H> {
     where
         H: KeyHash<T>,
         requires { (xs : Seq Ref) × (ys : Seq Ref) × AreChained self.now (H.keying self.now.keys) p.now (xs ++ node ∷ ys) }
-        ensures { (xs : Seq Ref) (ys : Seq Ref) → AreChained self.now (H.keying self.now.keys) p.now (xs ++ node ∷ ys) → result ≡ first_of (filter (same_nodes (H.keying self.now.keys) p.now node) ys) None }
+        ensures { (xs : Seq Ref) (ys : Seq Ref) → AreChained self.now (H.keying self.now.keys) p.now (xs ++ node ∷ ys)
+            → result ≡ first_of (filter (same_nodes (H.keying self.now.keys) p.now node) ys) None }
     {
         let link = p.link(node, self.slot);
         let Some(next) = link.forth else {
@@ -107,7 +110,8 @@ impl<H> Chains<H> {
     where
         H: KeyHash<T>,
         requires { (xs : Seq Ref) × (ys : Seq Ref) × AreChained self.now (H.keying self.now.keys) p.now (xs ++ node ∷ ys) }
-        ensures { (xs : Seq Ref) (ys : Seq Ref) → AreChained self.now (H.keying self.now.keys) p.now (xs ++ node ∷ ys) → result ≡ last_of None (filter (same_nodes (H.keying self.now.keys) p.now node) xs) }
+        ensures { (xs : Seq Ref) (ys : Seq Ref) → AreChained self.now (H.keying self.now.keys) p.now (xs ++ node ∷ ys)
+            → result ≡ last_of None (filter (same_nodes (H.keying self.now.keys) p.now node) xs) }
     {
         let link = p.link(node, self.slot);
         let forth = after(p, self.slot, link.back);
@@ -134,10 +138,13 @@ impl<H> Chains<H> {
     pub fn insert<T>(&mut self, p: &mut Pool<T>, node: NodeRef, stamp: u64)
     where
         H: KeyHash<T>,
-        requires { (xs : Seq Ref) × (ys : Seq Ref) × AreChained self.old (H.keying self.old.keys) p.old (xs ++ ys) × IsPlaced (H.keying self.old.keys) p.old self.old.slot node stamp xs ys }
-        ensures list { (xs : Seq Ref) (ys : Seq Ref) → AreChained self.old (H.keying self.old.keys) p.old (xs ++ ys) → IsPlaced (H.keying self.old.keys) p.old self.old.slot node stamp xs ys
+        requires { (xs : Seq Ref) × (ys : Seq Ref) × AreChained self.old (H.keying self.old.keys) p.old (xs ++ ys)
+            × IsPlaced (H.keying self.old.keys) p.old self.old.slot node stamp xs ys }
+        ensures list { (xs : Seq Ref) (ys : Seq Ref) → AreChained self.old (H.keying self.old.keys) p.old (xs ++ ys)
+            → IsPlaced (H.keying self.old.keys) p.old self.old.slot node stamp xs ys
             → AreChained self.new (H.keying self.old.keys) p.new (xs ++ node ∷ ys) }
-        ensures keeps { (xs : Seq Ref) (ys : Seq Ref) → AreChained self.old (H.keying self.old.keys) p.old (xs ++ ys) → IsPlaced (H.keying self.old.keys) p.old self.old.slot node stamp xs ys
+        ensures keeps { (xs : Seq Ref) (ys : Seq Ref) → AreChained self.old (H.keying self.old.keys) p.old (xs ++ ys)
+            → IsPlaced (H.keying self.old.keys) p.old self.old.slot node stamp xs ys
             → Keeps p.old p.new self.old.slot (node ∷ (xs ++ ys)) }
         ensures tags { (q : ℕ) → (link_of p.new q self.old.slot).tag
             ≡ cond (node.name == q) (record { key = hash_node (H.keying self.old.keys) p.old node; stamp = stamp }) (link_of p.old q self.old.slot).tag }
@@ -172,8 +179,10 @@ impl<H> Chains<H> {
     where
         H: KeyHash<T>,
         requires { (xs : Seq Ref) × (ys : Seq Ref) × AreChained self.old (H.keying self.old.keys) p.old (xs ++ node ∷ ys) }
-        ensures list { (xs : Seq Ref) (ys : Seq Ref) → AreChained self.old (H.keying self.old.keys) p.old (xs ++ node ∷ ys) → AreChained self.new (H.keying self.old.keys) p.new (xs ++ ys) }
-        ensures keeps { (xs : Seq Ref) (ys : Seq Ref) → AreChained self.old (H.keying self.old.keys) p.old (xs ++ node ∷ ys) → Keeps p.old p.new self.old.slot (xs ++ node ∷ ys) }
+        ensures list { (xs : Seq Ref) (ys : Seq Ref) → AreChained self.old (H.keying self.old.keys) p.old (xs ++ node ∷ ys)
+            → AreChained self.new (H.keying self.old.keys) p.new (xs ++ ys) }
+        ensures keeps { (xs : Seq Ref) (ys : Seq Ref) → AreChained self.old (H.keying self.old.keys) p.old (xs ++ node ∷ ys)
+            → Keeps p.old p.new self.old.slot (xs ++ node ∷ ys) }
         ensures remembers { (xs : Seq Ref) (ys : Seq Ref) → AreChained self.old (H.keying self.old.keys) p.old (xs ++ node ∷ ys)
             → FitsBetween (H.keying self.old.keys) p.new self.old.slot node (link_of p.new node.name self.old.slot) xs ys }
         ensures tags { (q : ℕ) → (link_of p.new q self.old.slot).tag ≡ (link_of p.old q self.old.slot).tag }
@@ -213,10 +222,13 @@ impl<H> Chains<H> {
     pub fn relink<T>(&mut self, p: &mut Pool<T>, node: NodeRef, remembered: Link)
     where
         H: KeyHash<T>,
-        requires { (xs : Seq Ref) × (ys : Seq Ref) × AreChained self.old (H.keying self.old.keys) p.old (xs ++ ys) × FitsBetween (H.keying self.old.keys) p.old self.old.slot node remembered xs ys }
-        ensures list { (xs : Seq Ref) (ys : Seq Ref) → AreChained self.old (H.keying self.old.keys) p.old (xs ++ ys) → FitsBetween (H.keying self.old.keys) p.old self.old.slot node remembered xs ys
+        requires { (xs : Seq Ref) × (ys : Seq Ref) × AreChained self.old (H.keying self.old.keys) p.old (xs ++ ys)
+            × FitsBetween (H.keying self.old.keys) p.old self.old.slot node remembered xs ys }
+        ensures list { (xs : Seq Ref) (ys : Seq Ref) → AreChained self.old (H.keying self.old.keys) p.old (xs ++ ys)
+            → FitsBetween (H.keying self.old.keys) p.old self.old.slot node remembered xs ys
             → AreChained self.new (H.keying self.old.keys) p.new (xs ++ node ∷ ys) }
-        ensures keeps { (xs : Seq Ref) (ys : Seq Ref) → AreChained self.old (H.keying self.old.keys) p.old (xs ++ ys) → FitsBetween (H.keying self.old.keys) p.old self.old.slot node remembered xs ys
+        ensures keeps { (xs : Seq Ref) (ys : Seq Ref) → AreChained self.old (H.keying self.old.keys) p.old (xs ++ ys)
+            → FitsBetween (H.keying self.old.keys) p.old self.old.slot node remembered xs ys
             → Keeps p.old p.new self.old.slot (node ∷ (xs ++ ys)) }
         ensures tags { (q : ℕ) → (link_of p.new q self.old.slot).tag ≡ cond (node.name == q) remembered.tag (link_of p.old q self.old.slot).tag }
         ensures count { vec_len self.new.buckets ≡ vec_len self.old.buckets }
@@ -278,8 +290,10 @@ impl<H> Chains<H> {
     where
         H: KeyHash<T>,
         requires { (rs : Seq Ref) × AreBetween self.old old.old.items (vec_len old.old) (H.keying self.old.keys) p.old rs }
-        ensures list { (rs : Seq Ref) → AreBetween self.old old.old.items (vec_len old.old) (H.keying self.old.keys) p.old rs → AreChained self.new (H.keying self.old.keys) p.new rs }
-        ensures keeps { (rs : Seq Ref) → AreBetween self.old old.old.items (vec_len old.old) (H.keying self.old.keys) p.old rs → Keeps p.old p.new self.old.slot rs }
+        ensures list { (rs : Seq Ref) → AreBetween self.old old.old.items (vec_len old.old) (H.keying self.old.keys) p.old rs
+            → AreChained self.new (H.keying self.old.keys) p.new rs }
+        ensures keeps { (rs : Seq Ref) → AreBetween self.old old.old.items (vec_len old.old) (H.keying self.old.keys) p.old rs
+            → Keeps p.old p.new self.old.slot rs }
         ensures tags { (q : ℕ) → (link_of p.new q self.old.slot).tag ≡ (link_of p.old q self.old.slot).tag }
         ensures count { vec_len self.new.buckets ≡ vec_len self.old.buckets }
         ensures slot { self.new.slot ≡ self.old.slot }
@@ -298,7 +312,8 @@ impl<H> Chains<H> {
         requires bucket { bucket < vec_len old.old }
         ensures moving { (rs : Seq Ref) → AreBetween self.old old.old.items (vec_len old.old) (H.keying self.old.keys) p.old rs
             → AreBetween self.new old.new.items (vec_len old.new) (H.keying self.old.keys) p.new rs }
-        ensures keeps { (rs : Seq Ref) → AreBetween self.old old.old.items (vec_len old.old) (H.keying self.old.keys) p.old rs → Keeps p.old p.new self.old.slot rs }
+        ensures keeps { (rs : Seq Ref) → AreBetween self.old old.old.items (vec_len old.old) (H.keying self.old.keys) p.old rs
+            → Keeps p.old p.new self.old.slot rs }
         ensures tags { (q : ℕ) → (link_of p.new q self.old.slot).tag ≡ (link_of p.old q self.old.slot).tag }
         ensures empty { slice_index_or old.new.items bucket None ≡ None }
         ensures others { (i : ℕ) → i < vec_len old.old → slice_index_or old.old.items i None ≡ None → slice_index_or old.new.items i None ≡ None }
@@ -327,10 +342,12 @@ impl<H> Chains<H> {
         requires first { slice_index_or old.old.items bucket None ≡ Some first }
         ensures moving { (rs : Seq Ref) → AreBetween self.old old.old.items (vec_len old.old) (H.keying self.old.keys) p.old rs
             → AreBetween self.new old.new.items (vec_len old.new) (H.keying self.old.keys) p.new rs }
-        ensures keeps { (rs : Seq Ref) → AreBetween self.old old.old.items (vec_len old.old) (H.keying self.old.keys) p.old rs → Keeps p.old p.new self.old.slot rs }
+        ensures keeps { (rs : Seq Ref) → AreBetween self.old old.old.items (vec_len old.old) (H.keying self.old.keys) p.old rs
+            → Keeps p.old p.new self.old.slot rs }
         ensures tags { (q : ℕ) → (link_of p.new q self.old.slot).tag ≡ (link_of p.old q self.old.slot).tag }
         ensures fewer { (rs : Seq Ref) → AreBetween self.old old.old.items (vec_len old.old) (H.keying self.old.keys) p.old rs
-            → hops (next_group p.new self.old.slot) (node_count p.new) (slice_index_or old.new.items bucket None) < hops (next_group p.old self.old.slot) (node_count p.old) (slice_index_or old.old.items bucket None) }
+            → hops (next_group p.new self.old.slot) (node_count p.new) (slice_index_or old.new.items bucket None)
+            < hops (next_group p.old self.old.slot) (node_count p.old) (slice_index_or old.old.items bucket None) }
         ensures others { (i : ℕ) → (i ≡ bucket → ⊥) → slice_index_or old.new.items i None ≡ slice_index_or old.old.items i None }
         ensures left { vec_len old.new ≡ vec_len old.old }
         ensures count { vec_len self.new.buckets ≡ vec_len self.old.buckets }
@@ -351,7 +368,8 @@ impl<H> Chains<H> {
         requires bucket { bucket < vec_len self.now.buckets }
         requires slot { self.now.slot < p.now.slots }
         requires chain { (gs : Seq (Seq Ref)) × IsChain p.now self.now.slot (slice_index_or self.now.buckets.items bucket None) gs }
-        ensures { (gs : Seq (Seq Ref)) (z : Ref) → IsChain p.now self.now.slot (slice_index_or self.now.buckets.items bucket None) gs → IsEnd gap.now.prev gap.now.next → end ≡ Some z
+        ensures { (gs : Seq (Seq Ref)) (z : Ref) → IsChain p.now self.now.slot (slice_index_or self.now.buckets.items bucket None) gs
+            → IsEnd gap.now.prev gap.now.next → end ≡ Some z
             → IsFound (ends_with p.now self.now.slot z.name) gs result.before result.first }
     {
         match end {
@@ -371,7 +389,8 @@ impl<H> Chains<H> {
         requires slot { self.old.slot < p.old.slots }
         requires bucket { bucket < vec_len self.old.buckets }
         requires few { self.old.groups < 2 ^ 32 }
-        ensures pool { p.new ≡ with_link p.old node.name self.old.slot (record { back = Some node; forth = slice_index_or self.old.buckets.items bucket None; size = 0; height = 0; tag = tag }) }
+        ensures pool { p.new ≡ with_link p.old node.name self.old.slot
+            (record { back = Some node; forth = slice_index_or self.old.buckets.items bucket None; size = 0; height = 0; tag = tag }) }
         ensures heads { self.new.buckets.items ≡ heads_joined None self.old.buckets.items bucket (Some node) }
         ensures groups { self.new.groups ≡ self.old.groups + 1 }
         ensures count { vec_len self.new.buckets ≡ vec_len self.old.buckets }
@@ -401,7 +420,8 @@ impl<H> Chains<H> {
         requires slot { self.old.slot < p.old.slots }
         requires bucket { bucket < vec_len self.old.buckets }
         ensures pool { p.new
-            ≡ joined (with_link p.old node.name self.old.slot (record { back = back; forth = forth; size = 0; height = 0; tag = tag })) self.old.slot left (Some node) right (Some node) }
+            ≡ joined (with_link p.old node.name self.old.slot (record { back = back; forth = forth; size = 0; height = 0; tag = tag }))
+            self.old.slot left (Some node) right (Some node) }
         ensures heads { self.new.buckets.items ≡ heads_joined left self.old.buckets.items bucket (Some node) }
         ensures groups { self.new.groups ≡ self.old.groups }
         ensures count { vec_len self.new.buckets ≡ vec_len self.old.buckets }

@@ -1,4 +1,10 @@
 //! The container that is served: what each call answers and leaves.
 
+mod beside;
+mod change;
 mod container;
+mod fitting;
+mod random;
+mod reference;
 mod undoable;
+mod views;

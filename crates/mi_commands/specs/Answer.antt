@@ -28,6 +28,11 @@ request_answer s conn (Ok r) =
     else command_answer s conn (bound_command s.database.catalog r)
 request_answer s conn (Err e) = refusal s e
 
+-- the command that a request is, unless the connection is kept out
+abbrev pub command_of : Held → ℕ → Result Request Refusal → Result Command Refusal
+command_of s conn (Ok r) = if keeps_out r && is_busy s.holder conn then Err Busy else bound_command s.database.catalog r
+command_of s conn (Err e) = Err e
+
 -- the answer to a line of a connection
 abbrev pub answer : Held → ℕ → Asked → Said × Held
 answer s conn (text t) = request_answer s conn (command_line t)

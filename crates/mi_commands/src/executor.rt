@@ -1,16 +1,17 @@
 //! Commands, one line at a time, over the database: parsed, kept out where another connection holds sessions, bound, done, said.
 //! It reads and writes no stream, and knows of the database what `Sessions` says.
-ghost use Rattle.std.specs.Prelude.{◌≡◌, ◌≢◌, ◌≤◌, true, None, Ok, option_map};
+ghost use Rattle.std.specs.Prelude.{◌≡◌, ◌≢◌, ◌≤◌, true, None, Err, IfOk, IfErr, codes, option_map};
 ghost use Rattle.mi_model.specs.Database.{depth, undone_times};
 ghost use Rattle.mi_protocol.specs.Binding.{FitsCatalog};
-ghost use Rattle.mi_request.specs.Answers.{NamesNoIndex};
+ghost use Rattle.mi_request.specs.Answers.{IsAnswer, NamesNoIndex};
+ghost use Rattle.mi_request.specs.Lines.{command_line};
 ghost use Rattle.mi_protocol.specs.Replies.{reply_text, refused, said, is_short, IsSaidOf};
 ghost use Rattle.mi_protocol.specs.Text.{text_bytes};
 
 use crate::holder::{Holder, held_by, is_busy, without_holder};
 use crate::line::Line;
 use mi_catalog::Catalog;
-use mi_protocol::{Command, LineReader, Reply, ReplyText, Request, bind};
+use mi_protocol::{Command, LineReader, Reply, ReplyText, bind};
 use mi_sessions::Sessions;
 use mi_value::Refusal;
 use std::alloc::Global;
@@ -40,7 +41,7 @@ impl<D: Sessions + Drop> Model for Executor<D> {
 impl<D: Sessions + Drop> Executor<D> {
     ghost use Rattle.mi_commands.specs.Holder.{released};
     ghost use Rattle.mi_commands.specs.Performed.{performed};
-    ghost use Rattle.mi_commands.specs.Answer.{request_answer, GivenOrMemory, MayGive};
+    ghost use Rattle.mi_commands.specs.Answer.{command_of, GivenOrMemory, MayGive};
     ghost use Rattle.mi_commands.specs.Asked.{text, asked_of};
 
     /// A database that nobody holds sessions of.
@@ -147,25 +148,27 @@ impl<D: Sessions + Drop> Executor<D> {
         }
     }
 
-    /// Does a request, unless another connection keeps it out. An undo takes no memory.
-    fn answer_request(&mut self, conn: u64, request: Request) -> ReplyText
-        ensures { GivenOrMemory (request ≢ Request.Undo) (request_answer self.old conn (Ok request)) self.old (text_bytes result) self.new }
+    /// The command that a line is, unless another connection keeps it out. The exact undo line takes no memory.
+    fn read(&mut self, conn: u64, bytes: &[u8]) -> Result<Command, Refusal>
+        ensures kept { self.new ≡ self.old }
+        ensures answer { IsAnswer result (command_of self.old conn (command_line bytes.now)) }
+        ensures refusal { IfErr result NamesNoIndex }
+        ensures fits { IfOk result (λ command. FitsCatalog self.old.database.catalog command) }
+        ensures memory { result ≡ Err Refusal.Memory → bytes.now ≢ codes "{\"cmd\":\"undo\"}" }
     {
+        let request = self.lines.parse(bytes)?;
         if request.keeps_out() && is_busy(&self.holder, conn) {
-            return self.refuse(Refusal::Busy);
+            return Err(Refusal::Busy);
         }
-        match bind(self.alloc, request, self.database.catalog()) {
-            Ok(command) => self.perform(conn, command),
-            Err(refusal) => self.refuse(refusal),
-        }
+        bind(self.alloc, request, self.database.catalog())
     }
 
     /// Answers a line that is not over-long. The exact undo line takes no memory.
     fn answer_text(&mut self, conn: u64, bytes: &[u8]) -> ReplyText
         ensures { MayGive conn self.old (text bytes.now) (text_bytes result) self.new }
     {
-        match self.lines.parse(bytes) {
-            Ok(request) => self.answer_request(conn, request),
+        match self.read(conn, bytes) {
+            Ok(command) => self.perform(conn, command),
             Err(refusal) => self.refuse(refusal),
         }
     }

@@ -7,7 +7,8 @@ use Rattle.mi_container.specs.Data.{Content, Node, node_of, content_in, content_
 use Rattle.mi_container.specs.Changes.{with_content}
 use Rattle.mi_container.proofs.Pairs.{other_id, head_is, head_isnt}
 
-content_here : (e : ℕ) (c : Content) (r : ℕ × Node) (rows : List (ℕ × Node)) → (r.0 == e) ≡ true → with_content e c (r ∷ rows) ≡ (r.0, record { at = r.1.at; content = c }) ∷ rows
+content_here : (e : ℕ) (c : Content) (r : ℕ × Node) (rows : List (ℕ × Node)) → (r.0 == e) ≡ true
+    → with_content e c (r ∷ rows) ≡ (r.0, record { at = r.1.at; content = c }) ∷ rows
 content_here e c r rows same = ap (λ b. cond b ((r.0, record { at = r.1.at; content = c }) ∷ rows) (r ∷ with_content e c rows)) same
 
 content_on : (e : ℕ) (c : Content) (r : ℕ × Node) (rows : List (ℕ × Node)) → (r.0 == e) ≡ false → with_content e c (r ∷ rows) ≡ r ∷ with_content e c rows
@@ -30,7 +31,8 @@ content_back e c (r ∷ rows) =
     ∙ ap (λ q. r ∷ q) (content_back e c rows))
 
 -- the node of e with the other content
-pub node_with : (e : ℕ) (c : Content) (rows : List (ℕ × Node)) (n : Node) → node_of rows e ≡ Some n → node_of (with_content e c rows) e ≡ Some (record { at = n.at; content = c })
+pub node_with : (e : ℕ) (c : Content) (rows : List (ℕ × Node)) (n : Node) → node_of rows e ≡ Some n
+    → node_of (with_content e c rows) e ≡ Some (record { at = n.at; content = c })
 node_with e c [] n is = absurd (cc)
 node_with e c (r ∷ rows) n is =
     both_ways (r.0 == e)

@@ -1,5 +1,6 @@
 -- Each change keeps what holds of data, and a container opens with data.
-use Rattle.std.proofs.Common.{◌≡◌, ◌≢◌, ℕ, ◌+◌, ◌<◌, zero, suc, true, cond, ◌⊎◌, inl, inr, List, [], ◌∷◌, ◌++◌, map, length, get_or, set, ap, sym, ◌∙◌, subst, arith}
+use Rattle.std.proofs.Common.{◌≡◌, ◌≢◌, ℕ, ◌+◌, ◌<◌, zero, suc, true, cond, ◌⊎◌, inl, inr, List}
+use Rattle.std.proofs.Common.{[], ◌∷◌, ◌++◌, map, length, get_or, set, ap, sym, ◌∙◌, subst, arith}
 use Rattle.std.specs.Ordering.{is_eq}
 use Rattle.std.proofs.lemmas.Bool.Decides.{eqb_tells}
 use Rattle.std.specs.declared.option.Option.{Option}
@@ -16,15 +17,19 @@ use Rattle.mi_model.proofs.SortLaws.{both_ways}
 use Rattle.mi_model.proofs.TableLaws.{is_table_insert, is_table_erase, is_table_put, is_table_relocate}
 use Rattle.mi_model.proofs.UniqueLaws.{unique_insert, unique_put, unique_erase}
 use Rattle.mi_node.specs.Refs.{Ref}
-use Rattle.mi_container.specs.Data.{Content, Node, Order, Data, parts_of, has_stamps, node_of, content_in, content_of, stamp_of, table_of, KindFits, KindsFit, StampsFit, IsData}
+use Rattle.mi_container.specs.Data.{Content, Node, Order, Data, parts_of, has_stamps, node_of, content_in}
+use Rattle.mi_container.specs.Data.{content_of, stamp_of, table_of, KindFits, KindsFit, StampsFit, IsData}
 use Rattle.mi_container.specs.Data.Order.{ById, ByKey, ByHash, Listed}
-use Rattle.mi_container.specs.Changes.{left_out, with_content, new_content, in_order, new_stamp, new_node, orders_with, inserted, replaced, kept_node, erased_node, erased, moved_order, relocated_in}
+use Rattle.mi_container.specs.Changes.{left_out, with_content, new_content, in_order, new_stamp, new_node, orders_with}
+use Rattle.mi_container.specs.Changes.{inserted, replaced, kept_node, erased_node, erased, moved_order, relocated_in}
 use Rattle.mi_container.specs.Inverse.{id_named}
 use Rattle.mi_container.specs.Fits.{IsThere, IsListed}
 use Rattle.mi_container.specs.Run.{PlaceFits}
-use Rattle.mi_container.proofs.Pairs.{none_some, some_is, lookup_out, lookup_out_same, lookup_push, lookup_push_same, lookup_entered, climbs_more, climbs_some, climbs_entered}
+use Rattle.mi_container.proofs.Pairs.{none_some, some_is, lookup_out, lookup_out_same, lookup_push}
+use Rattle.mi_container.proofs.Pairs.{lookup_push_same, lookup_entered, climbs_more, climbs_some, climbs_entered}
 use Rattle.mi_container.proofs.Contents.{node_with, node_beside}
-use Rattle.mi_container.proofs.StampLaws.{fits_early, fits_new, new_at, fits_later, fits_put, fits_map, fits_with, fits_moved, stamps_map, stamps_with, stamps_moved}
+use Rattle.mi_container.proofs.StampLaws.{fits_early, fits_new, new_at, fits_later, fits_put, fits_map}
+use Rattle.mi_container.proofs.StampLaws.{fits_with, fits_moved, stamps_map, stamps_with, stamps_moved}
 use Rattle.mi_container.proofs.NameLaws.{names_out, names_with, names_push}
 use Rattle.mi_container.proofs.Facts.{rows_climb, no_next, has_there, unkept, stamp_there, stamps_long}
 use Rattle.mi_container.proofs.Stamped.{restamped_at}
@@ -42,7 +47,8 @@ kinds_map [] f (o ∷ os) k = absurd k
 kinds_map (i ∷ is) f [] k = absurd k
 kinds_map (i ∷ is) f (o ∷ os) k = (kind_changed i f o k.0, kinds_map is f os k.1)
 
-kinds_set : (is : List Index) (f g : List ℕ → List ℕ) (os : List Order) (x : ℕ) → KindsFit is os → KindsFit is (set (map (in_order f) os) x (in_order g (get_or os x ById)))
+kinds_set : (is : List Index) (f g : List ℕ → List ℕ) (os : List Order) (x : ℕ) → KindsFit is os
+    → KindsFit is (set (map (in_order f) os) x (in_order g (get_or os x ById)))
 kinds_set [] f g [] x k = tt
 kinds_set [] f g (o ∷ os) x k = absurd k
 kinds_set (i ∷ is) f g [] x k = absurd k
@@ -70,13 +76,15 @@ pushed e m rows a n none is =
       | inr other ↦ inr (other.1, sym (lookup_push a e m rows other.1) ∙ is)
     ]
 
-pub is_data_inserted : (s : Shape) (p : Option (ℕ × ℕ)) (at : Ref) (r : List Value) (d : Data) → IsData s d → PlaceFits p d.orders → id_named at.name d.rows ≡ None
+pub is_data_inserted : (s : Shape) (p : Option (ℕ × ℕ)) (at : Ref) (r : List Value) (d : Data)
+    → IsData s d → PlaceFits p d.orders → id_named at.name d.rows ≡ None
     → conflict s (table_of d) r None ≡ None → IsData s (inserted p at r d)
 is_data_inserted s p at r d is fits new_name none_refuses =
     let m : Node = new_node at r d in
     let none : node_of d.rows d.next ≡ None = no_next s d is in
     let table = table_inserted s p at r d is fits in
-    let has_was : (x : ℕ) → has_stamps (get_or (orders_with p d.next d.orders) x ById) ≡ true → has_stamps (get_or d.orders x ById) ≡ true = λ x h. sym (stamps_with p d.next d.orders x) ∙ h in
+    let has_was : (x : ℕ) → has_stamps (get_or (orders_with p d.next d.orders) x ById) ≡ true
+    → has_stamps (get_or d.orders x ById) ≡ true = λ x h. sym (stamps_with p d.next d.orders x) ∙ h in
     let mine : (n : Node) (x : ℕ) → m ≡ n → has_stamps (get_or d.orders x ById) ≡ true → get_or n.content.stamps x 0 ≡ d.arrivals =
     λ n x new h. ap (λ (q : Node). get_or q.content.stamps x 0) (sym new) ∙ new_at d.arrivals d.orders x h in
     record {
@@ -96,13 +104,17 @@ is_data_inserted s p at r d is fits new_name none_refuses =
                   | inl too ↦ new.0 ∙ sym too.0
                   | inr old ↦
                       let newest : get_or n.content.stamps x 0 ≡ d.arrivals = mine n x new.1 (has_was x has_) in
-                      let was : get_or k.content.stamps x 0 < d.arrivals = fits_early d.arrivals d.orders k.content.stamps x (is.stamped b k old.1) (has_was x has_) in absurd (omega arith)
+                      let was : get_or k.content.stamps x 0 < d.arrivals = fits_early d.arrivals
+                      d.orders k.content.stamps x (is.stamped b k old.1) (has_was x has_) in
+                      absurd (omega arith)
                 ]
             | inr old ↦
                 elim (pushed d.next m d.rows b k none g) [
                   | inl new ↦
                       let newest : get_or k.content.stamps x 0 ≡ d.arrivals = mine k x new.1 (has_was x has_) in
-                      let was : get_or n.content.stamps x 0 < d.arrivals = fits_early d.arrivals d.orders n.content.stamps x (is.stamped a n old.1) (has_was x has_) in absurd (omega arith)
+                      let was : get_or n.content.stamps x 0 < d.arrivals = fits_early d.arrivals
+                      d.orders n.content.stamps x (is.stamped a n old.1) (has_was x has_) in
+                      absurd (omega arith)
                   | inr too ↦ is.apart a b n k x old.1 too.1 (has_was x has_) same
                 ]
           ];
@@ -125,7 +137,8 @@ put_in e c rows a n there is =
 
 -- the stamp of the row in an index is its old one, or the newest
 stamp_put : (s : Shape) (e : ℕ) (r : List Value) (d : Data) → IsData s d → IsThere d.rows e → (x : ℕ) → x < length d.orders
-    → (get_or (new_content d.orders r d.arrivals (content_of d.rows e)).stamps x 0 ≡ stamp_of d.rows x e) ⊎ (get_or (new_content d.orders r d.arrivals (content_of d.rows e)).stamps x 0 ≡ d.arrivals)
+    → (get_or (new_content d.orders r d.arrivals (content_of d.rows e)).stamps x 0 ≡ stamp_of d.rows x e)
+    ⊎ (get_or (new_content d.orders r d.arrivals (content_of d.rows e)).stamps x 0 ≡ d.arrivals)
 stamp_put s e r d is there x l =
     let was : Content = content_of d.rows e in
     let long : length was.stamps ≡ length d.orders = stamps_long s d is e there in
@@ -141,27 +154,32 @@ within (o ∷ os) zero has_ = omega arith
 within (o ∷ os) (suc x) has_ = let l : x < length os = within os x has_ in omega arith
 
 -- a row with that stamp and another one are apart
-put_apart : (s : Shape) (e : ℕ) (r : List Value) (d : Data) → IsData s d → IsThere d.rows e → (b : ℕ) (m : Node) (x : ℕ) → node_of d.rows b ≡ Some m → has_stamps (get_or d.orders x ById) ≡ true
+put_apart : (s : Shape) (e : ℕ) (r : List Value) (d : Data) → IsData s d → IsThere d.rows e
+    → (b : ℕ) (m : Node) (x : ℕ) → node_of d.rows b ≡ Some m → has_stamps (get_or d.orders x ById) ≡ true
     → get_or (new_content d.orders r d.arrivals (content_of d.rows e)).stamps x 0 ≡ get_or m.content.stamps x 0 → e ≡ b
 put_apart s e r d is there b m x here has_ same =
     elim (stamp_put s e r d is there x (within d.orders x has_)) [
       | inl old ↦ is.apart e b there.0 m x there.1 here has_ (sym (stamp_there d.rows x e there) ∙ sym old ∙ same)
-      | inr new ↦ (let was : get_or m.content.stamps x 0 < d.arrivals = fits_early d.arrivals d.orders m.content.stamps x (is.stamped b m here) has_ in absurd (omega (arith, new, same)))
+      | inr new ↦ (let was : get_or m.content.stamps x 0 < d.arrivals = fits_early d.arrivals d.orders m.content.stamps x (is.stamped b m here) has_ in
+          absurd (omega (arith, new, same)))
     ]
 
-pub is_data_replaced : (s : Shape) (e : ℕ) (r : List Value) (d : Data) → IsData s d → IsThere d.rows e → conflict s (table_of d) r (Some e) ≡ None → IsData s (replaced e r d)
+pub is_data_replaced : (s : Shape) (e : ℕ) (r : List Value) (d : Data) → IsData s d
+    → IsThere d.rows e → conflict s (table_of d) r (Some e) ≡ None → IsData s (replaced e r d)
 is_data_replaced s e r d is there none_refuses =
     let was : Content = content_of d.rows e in
     let c : Content = new_content d.orders r d.arrivals was in
     let table = table_replaced s e r d is there in
-    let old_fit : StampsFit d.arrivals d.orders was.stamps = subst (λ o. StampsFit d.arrivals d.orders (content_in o).stamps) (sym there.1) (is.stamped e there.0 there.1) in
+    let old_fit : StampsFit d.arrivals d.orders was.stamps = subst
+    (λ o. StampsFit d.arrivals d.orders (content_in o).stamps) (sym there.1) (is.stamped e there.0 there.1) in
     record {
       table = subst (IsTable s) (sym table) (is_table_put s e r (table_of d) (has_there d e there) is.table);
       unique_keys = subst (HasUniqueKeys s) (sym table) (unique_put s e r (table_of d) (has_there d e there) is.unique_keys none_refuses);
       kinds = is.kinds;
       stamped = λ a n h.
           elim (put_in e c d.rows a n there h) [
-            | inl new ↦ subst (λ (q : Content). StampsFit (d.arrivals + 1) d.orders q.stamps) new.1 (fits_put d.arrivals d.orders was.values r was.stamps old_fit)
+            | inl new ↦ subst (λ (q : Content). StampsFit (d.arrivals + 1) d.orders q.stamps)
+                new.1 (fits_put d.arrivals d.orders was.values r was.stamps old_fit)
             | inr old ↦ fits_later d.arrivals d.orders n.content.stamps (is.stamped a n old.1)
           ];
       apart = λ a b n k x h g has_ same.
@@ -182,7 +200,8 @@ is_data_replaced s e r d is there none_refuses =
           ];
       names = names_with e c d.rows is.names;
       kept = is.kept;
-      gone = λ a k h. node_beside a e c d.rows (λ same. none_some (sym (is.gone a k h) ∙ subst (λ q. node_of d.rows q ≡ Some there.0) (sym same) there.1)) ∙ is.gone a k h;
+      gone = λ a k h. node_beside a e c d.rows (λ same. none_some (sym (is.gone a k h) ∙ subst (λ q. node_of d.rows q ≡ Some there.0) (sym same) there.1))
+          ∙ is.gone a k h;
     }
 
 -- Erase
@@ -194,10 +213,12 @@ left_in e rows a n is =
       | inr other ↦ (other.1, sym (lookup_out a e rows other.1) ∙ is)
     ]
 
-erased_data : (s : Shape) (e : ℕ) (d : Data) (is : IsData s d) (n : Node) → node_of d.rows e ≡ Some n → IsTable s (table_of (erased_node e (Some n) d)) → HasUniqueKeys s (table_of (erased_node e (Some n) d))
+erased_data : (s : Shape) (e : ℕ) (d : Data) (is : IsData s d) (n : Node) → node_of d.rows e ≡ Some n
+    → IsTable s (table_of (erased_node e (Some n) d)) → HasUniqueKeys s (table_of (erased_node e (Some n) d))
     → IsData s (erased_node e (Some n) d)
 erased_data s e d is n here table keys =
-    let has_was : (x : ℕ) → has_stamps (get_or (map (in_order (without e)) d.orders) x ById) ≡ true → has_stamps (get_or d.orders x ById) ≡ true = λ x h. sym (stamps_map (without e) d.orders x) ∙ h in
+    let has_was : (x : ℕ) → has_stamps (get_or (map (in_order (without e)) d.orders) x ById) ≡ true
+    → has_stamps (get_or d.orders x ById) ≡ true = λ x h. sym (stamps_map (without e) d.orders x) ∙ h in
     record {
       table = table;
       unique_keys = keys;
@@ -219,11 +240,13 @@ is_data_erased s e d is there =
     let table : IsTable s (table_of (erased e d)) = subst (IsTable s) (sym same) (is_table_erase s e (table_of d) is.table) in
     let keys : HasUniqueKeys s (table_of (erased e d)) = subst (HasUniqueKeys s) (sym same) (unique_erase s e (table_of d) is.unique_keys) in
     subst (λ o. IsData s (erased_node e o d)) (sym there.1)
-    (erased_data s e d is there.0 there.1 (subst (λ o. IsTable s (table_of (erased_node e o d))) there.1 table) (subst (λ o. HasUniqueKeys s (table_of (erased_node e o d))) there.1 keys))
+    (erased_data s e d is there.0 there.1 (subst (λ o. IsTable s (table_of (erased_node e o d))) there.1 table)
+    (subst (λ o. HasUniqueKeys s (table_of (erased_node e o d))) there.1 keys))
 
 -- Relocate
 
-pub is_data_relocated : (s : Shape) (x e : ℕ) (b : Option ℕ) (d : Data) → IsData s d → IsThere d.rows e → IsListed (get_or d.orders x ById) → IsData s (relocated_in x e b d)
+pub is_data_relocated : (s : Shape) (x e : ℕ) (b : Option ℕ) (d : Data) → IsData s d
+    → IsThere d.rows e → IsListed (get_or d.orders x ById) → IsData s (relocated_in x e b d)
 is_data_relocated s x e b d is there l =
     record {
       table = subst (IsTable s) (sym (table_relocated x e b d l)) (is_table_relocate s x e b (table_of d) (has_there d e there) is.table);

@@ -11,7 +11,8 @@ use Rattle.mi_model.specs.Key.{Row}
 use Rattle.mi_model.specs.Table.{Table, times, has, Rise, ListsEach}
 use Rattle.mi_model.proofs.SortLaws.{both_ways}
 use Rattle.mi_model.proofs.ViewLaws.{Lacks}
-use Rattle.mi_container.specs.Data.{Node, Kept, Order, Data, has_stamps, node_of, kept_of, content_in, content_of, stamp_of, shown_row, lists_from, table_of, Climbs, IsData}
+use Rattle.mi_container.specs.Data.{Node, Kept, Order, Data, has_stamps, node_of, kept_of, content_in}
+use Rattle.mi_container.specs.Data.{content_of, stamp_of, shown_row, lists_from, table_of, Climbs, IsData}
 use Rattle.mi_container.specs.Data.Order.{ById, ByKey, ByHash, Listed}
 use Rattle.mi_container.specs.Fits.{IsThere}
 use Rattle.mi_container.proofs.Pairs.{is_itself, none_some, climbs_none}
@@ -46,7 +47,8 @@ lookup_shown e (r ∷ rows) =
 pub has_there : (d : Data) (e : ℕ) → IsThere d.rows e → has (table_of d) e ≡ true
 has_there d e there = ap is_some (lookup_shown e d.rows ∙ ap (option_map (λ (n : Node). n.content.values)) there.1)
 
-there_of : (rows : List (ℕ × Node)) (e : ℕ) (o : Option Node) → node_of rows e ≡ o → is_some (option_map (λ (n : Node). n.content.values) o) ≡ true → IsThere rows e
+there_of : (rows : List (ℕ × Node)) (e : ℕ) (o : Option Node) → node_of rows e ≡ o
+    → is_some (option_map (λ (n : Node). n.content.values) o) ≡ true → IsThere rows e
 there_of rows e None is h = absurd (cc)
 there_of rows e (Some n) is h = (n, is)
 
@@ -54,7 +56,7 @@ pub there_has : (d : Data) (e : ℕ) → has (table_of d) e ≡ true → IsThere
 there_has d e h = there_of d.rows e (node_of d.rows e) refl (sym (ap is_some (lookup_shown e d.rows)) ∙ h)
 
 -- a claim on each id that stands in a list
-pub all_standing : (P : ℕ → Type 0) (ids : List ℕ) → ((a : ℕ) → 0 < times a ids → P a) → AllByRecursion P ids
+all_standing : (P : ℕ → Type 0) (ids : List ℕ) → ((a : ℕ) → 0 < times a ids → P a) → AllByRecursion P ids
 all_standing P [] f = tt
 all_standing P (a ∷ ids) f = (
   f a (let one : cond {A = ℕ} (a == a) 1 0 ≡ 1 = ap (λ b. cond {A = ℕ} b 1 0) (is_itself a) in omega arith),
@@ -72,9 +74,12 @@ pub each_once : (t : Table) (ids : List ℕ) → ListsEach t ids → Once ids
 each_once t ids each =
     once_of_times ids (λ id. subst (λ n. n ≤ 1) (sym (each id)) (elim (has t id) as (λ b. cond {A = ℕ} b 1 0 ≤ 1) [ true ↦ omega arith | false ↦ omega arith ]))
 
-pub stands_of : (d : Data) (e : ℕ) (ids : List ℕ) → IsThere d.rows e → ListsEach (table_of d) ids → Stands d.rows e ids
-stands_of d e ids there each =
-    (each_there d ids each, each_once (table_of d) ids each, (let n : times e ids ≡ 1 = each e ∙ ap (λ b. cond {A = ℕ} b 1 0) (has_there d e there) in omega arith))
+stands_of : (d : Data) (e : ℕ) (ids : List ℕ) → IsThere d.rows e → ListsEach (table_of d) ids → Stands d.rows e ids
+stands_of d e ids there each = (
+  each_there d ids each,
+  each_once (table_of d) ids each,
+  (let n : times e ids ≡ 1 = each e ∙ ap (λ b. cond {A = ℕ} b 1 0) (has_there d e there) in omega arith),
+)
 
 each_listed : (t : Table) (x : ℕ) (rows : List (ℕ × Node)) (os : List Order) → AllByRecursion (ListsEach t) (lists_from x rows os) → OfLists (ListsEach t) os
 each_listed t x rows [] all = tt
@@ -84,7 +89,7 @@ each_listed t x rows (ByHash ps ∷ os) all = (tt, each_listed t (suc x) rows os
 each_listed t x rows (Listed ids ∷ os) all = (all.0, each_listed t (suc x) rows os all.1)
 
 -- each index's own list has each live id once
-pub lists_each : (s : Shape) (d : Data) → IsData s d → OfLists (ListsEach (table_of d)) d.orders
+lists_each : (s : Shape) (d : Data) → IsData s d → OfLists (ListsEach (table_of d)) d.orders
 lists_each s d is = each_listed (table_of d) 0 d.rows d.orders is.table.complete
 
 pub lists_stand : (s : Shape) (e : ℕ) (d : Data) → IsData s d → IsThere d.rows e → OfLists (Stands d.rows e) d.orders
@@ -96,11 +101,13 @@ all_lists f (ids ∷ lists) all = (f ids all.0, all_lists f lists all.1)
 
 -- so has the list of every index
 pub all_stand : (s : Shape) (e : ℕ) (d : Data) → IsData s d → IsThere d.rows e → AllByRecursion (Stands d.rows e) (lists_from 0 d.rows d.orders)
-all_stand s e d is there = all_lists {P = ListsEach (table_of d)} {Q = Stands d.rows e} (λ ids each. stands_of d e ids there each) (lists_from 0 d.rows d.orders) is.table.complete
+all_stand s e d is there = all_lists {P = ListsEach (table_of d)} {Q = Stands d.rows e}
+    (λ ids each. stands_of d e ids there each) (lists_from 0 d.rows d.orders) is.table.complete
 
 lacks_next : (s : Shape) (d : Data) → IsData s d → (ids : List ℕ) → ListsEach (table_of d) ids → Lacks d.next ids
 lacks_next s d is ids each =
-    lacks_of_times d.next ids (each d.next ∙ ap (λ o. cond {A = ℕ} (is_some o) 1 0) (lookup_shown d.next d.rows ∙ ap (option_map (λ (n : Node). n.content.values)) (no_next s d is)))
+    lacks_of_times d.next ids (each d.next
+    ∙ ap (λ o. cond {A = ℕ} (is_some o) 1 0) (lookup_shown d.next d.rows ∙ ap (option_map (λ (n : Node). n.content.values)) (no_next s d is)))
 
 -- and the next id not at all
 pub lists_lack : (s : Shape) (d : Data) → IsData s d → OfLists (Lacks d.next) d.orders
@@ -120,10 +127,13 @@ pub stamp_there : (rows : List (ℕ × Node)) (x a : ℕ) (there : IsThere rows 
 stamp_there rows x a there = ap (λ o. get_or (content_in o).stamps x 0) there.1
 
 -- are earlier than the next arrival
-pub stamp_early : (s : Shape) (d : Data) → IsData s d → (x : ℕ) → has_stamps (get_or d.orders x ById) ≡ true → (a : ℕ) → IsThere d.rows a → stamp_of d.rows x a < d.arrivals
+pub stamp_early : (s : Shape) (d : Data) → IsData s d → (x : ℕ) → has_stamps (get_or d.orders x ById) ≡ true
+    → (a : ℕ) → IsThere d.rows a → stamp_of d.rows x a < d.arrivals
 stamp_early s d is x has_ a there =
-    subst (λ n. n < d.arrivals) (sym (stamp_there d.rows x a there)) (fits_early d.arrivals d.orders there.0.content.stamps x (is.stamped a there.0 there.1) has_)
+    subst (λ n. n < d.arrivals) (sym (stamp_there d.rows x a there))
+    (fits_early d.arrivals d.orders there.0.content.stamps x (is.stamped a there.0 there.1) has_)
 
 -- and as many as indexes
 pub stamps_long : (s : Shape) (d : Data) → IsData s d → (a : ℕ) → IsThere d.rows a → length (content_of d.rows a).stamps ≡ length d.orders
-stamps_long s d is a there = ap (λ o. length (content_in o).stamps) there.1 ∙ fits_length d.arrivals d.orders there.0.content.stamps (is.stamped a there.0 there.1)
+stamps_long s d is a there = ap (λ o. length (content_in o).stamps) there.1
+    ∙ fits_length d.arrivals d.orders there.0.content.stamps (is.stamped a there.0 there.1)

@@ -63,7 +63,7 @@ settled_ready (Relocated x a b) j d differ r = r
 settled_ready Nothing j d differ r = r
 
 -- what is kept after one is left out was kept before, and is another
-pub kept_still : (a e : ℕ) (kept : List (ℕ × Kept)) (k : Kept) → kept_of (left_out a kept) e ≡ Some k → (e ≢ a) × (kept_of kept e ≡ Some k)
+kept_still : (a e : ℕ) (kept : List (ℕ × Kept)) (k : Kept) → kept_of (left_out a kept) e ≡ Some k → (e ≢ a) × (kept_of kept e ≡ Some k)
 kept_still a e kept k is =
     elim (eqb_tells e a) [
       | inl same ↦ absurd (none_some (sym (lookup_out_same a kept) ∙ subst (λ q. kept_of (left_out a kept) q ≡ Some k) same.1 is))
@@ -100,7 +100,8 @@ settled_table (Relocated x e b) d = refl
 settled_table Nothing d = refl
 
 -- what is kept after an inverse is taken back was kept before, and not by it
-returned_later : (a e : ℕ) (d : Data) (k : Kept) (o : Option Kept) → kept_of d.kept a ≡ o → kept_of (returned a o d).kept e ≡ Some k → (a ≢ e) × (kept_of d.kept e ≡ Some k)
+returned_later : (a e : ℕ) (d : Data) (k : Kept) (o : Option Kept) → kept_of d.kept a ≡ o
+    → kept_of (returned a o d).kept e ≡ Some k → (a ≢ e) × (kept_of d.kept e ≡ Some k)
 returned_later a e d k None was is = (λ same. none_some (sym was ∙ subst (λ q. kept_of d.kept q ≡ Some k) (sym same) is), is)
 returned_later a e d k (Some m) was is = let h : (e ≢ a) × (kept_of d.kept e ≡ Some k) = kept_still a e d.kept k is in (λ same. h.0 (sym same), h.1)
 
@@ -162,7 +163,8 @@ pub fits_back : (s : Shape) (i : Inverse) (is : List Inverse) (t : Table) (ts : 
 fits_back s i is t ts d fits = (fits.2, fits.1, fits.3)
 
 -- the oldest settled keeps the table, and the rest fits
-pub fits_settled : (s : Shape) (f : Inverse) (is : List Inverse) (t : Table) (ts : List Table) (d : Data) → Fits s (is ++ f ∷ []) (ts ++ t ∷ []) d → Fits s is ts (settled f d)
+pub fits_settled : (s : Shape) (f : Inverse) (is : List Inverse) (t : Table) (ts : List Table) (d : Data)
+    → Fits s (is ++ f ∷ []) (ts ++ t ∷ []) d → Fits s is ts (settled f d)
 fits_settled s f [] t [] d fits = none_kept f d fits.0 fits.3
 fits_settled s f [] t (u ∷ []) d fits = absurd fits.3
 fits_settled s f [] t (u ∷ v ∷ ts) d fits = absurd fits.3
@@ -190,7 +192,8 @@ unnamed_one s e (Relocated x a (Some b)) d is k other r = (apart_from s e a d is
 unnamed_one s e Nothing d is k other r = tt
 
 -- a row whose node an inverse keeps is named by no later one
-pub unnamed : (s : Shape) (e : RowRef) (why : Option (ℕ × ℕ)) (later older : List Inverse) (ts : List Table) (d : Data) → IsData s d → Fits s (later ++ Erased e why ∷ older) ts d → AllByRecursion (Unnamed e.id) later
+pub unnamed : (s : Shape) (e : RowRef) (why : Option (ℕ × ℕ)) (later older : List Inverse) (ts : List Table) (d : Data)
+    → IsData s d → Fits s (later ++ Erased e why ∷ older) ts d → AllByRecursion (Unnamed e.id) later
 unnamed s e why [] older ts d is_data fits = tt
 unnamed s e why (j ∷ later) older [] d is_data fits = absurd fits
 unnamed s e why (j ∷ later) older (t ∷ ts) d is_data fits =
@@ -217,11 +220,13 @@ held_back (Erased q why) d a r =
       | inl same ↦
           let one : cond {A = ℕ} (e == a) 1 0 ≡ 1 = ap (λ b. cond {A = ℕ} b 1 0) same.0 in
           let was : held d a ≡ 1 = ap (λ o. cond {A = ℕ} (is_some o) 1 0) (subst (λ p. kept_of d.kept p ≡ Some r.0.0) same.1 r.0.1) in
-          let is : cond {A = ℕ} (is_some (kept_of (left_out e d.kept) a)) 1 0 ≡ 0 = ap (λ o. cond {A = ℕ} (is_some o) 1 0) (subst (λ p. kept_of (left_out e d.kept) p ≡ None) same.1 (lookup_out_same e d.kept)) in
+          let is : cond {A = ℕ} (is_some (kept_of (left_out e d.kept) a)) 1 0 ≡ 0 = ap (λ o. cond {A = ℕ} (is_some o) 1 0)
+          (subst (λ p. kept_of (left_out e d.kept) p ≡ None) same.1 (lookup_out_same e d.kept)) in
           omega arith
       | inr other ↦
           let zero_ : cond {A = ℕ} (e == a) 1 0 ≡ 0 = ap (λ b. cond {A = ℕ} b 1 0) other.0 in
-          let is : cond {A = ℕ} (is_some (kept_of (left_out e d.kept) a)) 1 0 ≡ held d a = ap (λ o. cond {A = ℕ} (is_some o) 1 0) (lookup_out a e d.kept (λ same. other.1 (sym same))) in
+          let is : cond {A = ℕ} (is_some (kept_of (left_out e d.kept) a)) 1 0 ≡ held d a = ap
+          (λ o. cond {A = ℕ} (is_some o) 1 0) (lookup_out a e d.kept (λ same. other.1 (sym same))) in
           omega arith
     ]
 held_back (Relocated x e b) d a r = omega arith
@@ -233,4 +238,5 @@ fits_names s [] [] d fits a = sym (ap (λ kept. cond {A = ℕ} (is_some (kept_of
 fits_names s [] (t ∷ ts) d fits a = absurd fits
 fits_names s (i ∷ is) [] d fits a = absurd fits
 fits_names s (i ∷ is) (t ∷ ts) d fits a =
-    times-append a (kept_ids is) (kept_id (keeps i)) ∙ ap (λ n. n + times a (kept_id (keeps i))) (fits_names s is ts (taken_back i d) fits.3 a) ∙ sym (held_back i d a fits.0)
+    times-append a (kept_ids is) (kept_id (keeps i))
+    ∙ ap (λ n. n + times a (kept_id (keeps i))) (fits_names s is ts (taken_back i d) fits.3 a) ∙ sym (held_back i d a fits.0)

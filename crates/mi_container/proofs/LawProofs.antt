@@ -25,7 +25,12 @@ pub newest_is_back : NewestIsBack
 newest_is_back s i is t ts d fits = (fits.0, fits.1, fits.2, fits.3)
 
 pub oldest_is_settled : OldestIsSettled
-oldest_is_settled s f is t ts d holds fits = (keeps_still s f is [] (ts ++ t ∷ []) d fits, settled_data s f d holds, settled_table f d, fits_settled s f is t ts d fits)
+oldest_is_settled s f is t ts d holds fits = (
+  keeps_still s f is [] (ts ++ t ∷ []) d fits,
+  settled_data s f d holds,
+  settled_table f d,
+  fits_settled s f is t ts d fits,
+)
 
 keeps_other : (o : Option ℕ) (j : Inverse) → KeepOthers o j → DifferFrom o j
 keeps_other None j others = tt
@@ -35,4 +40,7 @@ pub settled_later : SettledLater
 settled_later f j d others = settled_back f j d (keeps_other (keeps f) j others)
 
 pub kept_by_one : KeptByOne
-kept_by_one s is ts d holds fits = (fits_names s is ts d fits, λ later older r why same. unnamed s r why later older ts d holds (subst (λ q. Fits s q ts d) same fits))
+kept_by_one s is ts d holds fits = (
+  fits_names s is ts d fits,
+  λ later older r why same. unnamed s r why later older ts d holds (subst (λ q. Fits s q ts d) same fits),
+)

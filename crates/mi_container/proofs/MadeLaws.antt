@@ -11,6 +11,7 @@ use Rattle.mi_container.proofs.LawProofs.{change_is_undone}
 pub made_is_undone : MadeIsUndone
 made_is_undone s c old i new is made =
     let undone = change_is_undone s c old is made.allowed in
-    let ready : Ready i new = subst (λ (d : Data). Ready i d) (sym made.changed_data) (subst (λ (j : Inverse). Ready j (changed c old)) (sym made.inverse) undone.0) in
+    let ready : Ready i new = subst (λ (d : Data). Ready i d) (sym made.changed_data)
+    (subst (λ (j : Inverse). Ready j (changed c old)) (sym made.inverse) undone.0) in
     let back : taken_back i new ≡ old = (λ n. taken_back (made.inverse n) (made.changed_data n)) ∙ undone.1 in
     (ready, subst (IsData s) (sym back) is, ready_keeps i new ready, back)

@@ -10,7 +10,8 @@ use Rattle.mi_container.specs.Changes.{left_out, with_content}
 use Rattle.mi_container.specs.Inverse.{id_named}
 use Rattle.mi_container.proofs.Pairs.{none_some}
 
-others_out : (m e : ℕ) (rows : List (ℕ × Node)) → AllByRecursion (λ (q : ℕ × Node). q.1.at.name ≢ m) rows → AllByRecursion (λ (q : ℕ × Node). q.1.at.name ≢ m) (left_out e rows)
+others_out : (m e : ℕ) (rows : List (ℕ × Node)) → AllByRecursion (λ (q : ℕ × Node). q.1.at.name ≢ m) rows
+    → AllByRecursion (λ (q : ℕ × Node). q.1.at.name ≢ m) (left_out e rows)
 others_out m e [] all = tt
 others_out m e (r ∷ rows) all =
     elim (r.0 == e) as (λ b. AllByRecursion (λ (q : ℕ × Node). q.1.at.name ≢ m) (cond (not b) (r ∷ left_out e rows) (left_out e rows))) [
@@ -26,10 +27,12 @@ names_out e (r ∷ rows) differ =
       | false ↦ (others_out r.1.at.name e rows differ.0, names_out e rows differ.1)
     ]
 
-others_with : (m e : ℕ) (c : Content) (rows : List (ℕ × Node)) → AllByRecursion (λ (q : ℕ × Node). q.1.at.name ≢ m) rows → AllByRecursion (λ (q : ℕ × Node). q.1.at.name ≢ m) (with_content e c rows)
+others_with : (m e : ℕ) (c : Content) (rows : List (ℕ × Node)) → AllByRecursion (λ (q : ℕ × Node). q.1.at.name ≢ m) rows
+    → AllByRecursion (λ (q : ℕ × Node). q.1.at.name ≢ m) (with_content e c rows)
 others_with m e c [] all = tt
 others_with m e c (r ∷ rows) all =
-    elim (r.0 == e) as (λ b. AllByRecursion (λ (q : ℕ × Node). q.1.at.name ≢ m) (cond b ((r.0, record { at = r.1.at; content = c }) ∷ rows) (r ∷ with_content e c rows))) [
+    elim (r.0 == e)
+    as (λ b. AllByRecursion (λ (q : ℕ × Node). q.1.at.name ≢ m) (cond b ((r.0, record { at = r.1.at; content = c }) ∷ rows) (r ∷ with_content e c rows))) [
       | true ↦ all
       | false ↦ (all.0, others_with m e c rows all.1)
     ]
@@ -42,7 +45,8 @@ names_with e c (r ∷ rows) differ =
       | false ↦ (others_with r.1.at.name e c rows differ.0, names_with e c rows differ.1)
     ]
 
-others_push : (m e : ℕ) (n : Node) (rows : List (ℕ × Node)) → n.at.name ≢ m → AllByRecursion (λ (q : ℕ × Node). q.1.at.name ≢ m) rows → AllByRecursion (λ (q : ℕ × Node). q.1.at.name ≢ m) (rows ++ (e, n) ∷ [])
+others_push : (m e : ℕ) (n : Node) (rows : List (ℕ × Node)) → n.at.name ≢ m → AllByRecursion (λ (q : ℕ × Node). q.1.at.name ≢ m) rows
+    → AllByRecursion (λ (q : ℕ × Node). q.1.at.name ≢ m) (rows ++ (e, n) ∷ [])
 others_push m e n [] ne all = (ne, tt)
 others_push m e n (r ∷ rows) ne all = (all.0, others_push m e n rows ne all.1)
 

@@ -18,7 +18,8 @@ use Rattle.mi_container.proofs.Pairs.{none_some}
 
 -- Kinds
 
-kind_kept : (columns : ℕ) (i : Index) (kind : IndexKind) (one_each : Bool) (ps : List KeyPart) → i.kind ≡ kind → i.parts ≡ ps → keeps_kind columns kind one_each ps ≡ true → KindFits i (order_for kind ps)
+kind_kept : (columns : ℕ) (i : Index) (kind : IndexKind) (one_each : Bool) (ps : List KeyPart) → i.kind ≡ kind
+    → i.parts ≡ ps → keeps_kind columns kind one_each ps ≡ true → KindFits i (order_for kind ps)
 kind_kept columns i Ordered one_each [] is parts kept = (ap is_sorted is, parts)
 kind_kept columns i Ordered one_each (p ∷ ps) is parts kept = (ap is_sorted is, parts)
 kind_kept columns i Ranked one_each [] is parts kept = (ap is_sorted is, parts)
@@ -33,7 +34,8 @@ ranked_kept i Ranked (p ∷ ps) is parts kept = (ap is_sorted is, parts)
 ranked_kept i Hashed ps is parts kept = absurd (false≢true kept)
 ranked_kept i Sequenced ps is parts kept = absurd (false≢true kept)
 
-declared_kept : (columns : ℕ) (is : List Index) → list_all (is_declared_index columns) is ≡ true → KindsFit is (map (λ (i : Index). order_for i.kind i.parts) is)
+declared_kept : (columns : ℕ) (is : List Index) → list_all (is_declared_index columns) is ≡ true
+    → KindsFit is (map (λ (i : Index). order_for i.kind i.parts) is)
 declared_kept columns [] kept = tt
 declared_kept columns (i ∷ is) kept =
     (kind_kept columns i i.kind i.«unique» i.parts refl refl (and_parts _ _ (and_parts _ _ kept).0).1, declared_kept columns is (and_parts _ _ kept).1)
@@ -44,7 +46,7 @@ indexes_kept columns (i ∷ is) kept =
     let parts = and_parts _ _ (and_parts _ _ (and_parts _ _ kept).0).0 in
     (ranked_kept i i.kind i.parts refl refl (and_parts _ _ (and_parts _ _ (and_parts _ _ parts.0).0).0).1, declared_kept columns is parts.1)
 
-pub opened_kinds : (s : Shape) → is_schema s ≡ true → KindsFit s.indexes (opened_data s).orders
+opened_kinds : (s : Shape) → is_schema s ≡ true → KindsFit s.indexes (opened_data s).orders
 opened_kinds s kept = indexes_kept _ s.indexes (and_parts _ _ (and_parts _ _ kept).0).1
 
 -- The table

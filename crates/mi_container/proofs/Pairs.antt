@@ -66,7 +66,7 @@ module _ {A : Type 0} where
       (λ isnt. head_isnt e r (rows ++ (e, n) ∷ []) isnt ∙ lookup_push_same e n rows (sym (head_isnt e r rows isnt) ∙ none))
 
   -- one that isn't there is left out for nothing
-  pub out_of : (e : ℕ) (rows : List (ℕ × A)) → lookup (λ k. k == e) rows ≡ None → left_out e rows ≡ rows
+  out_of : (e : ℕ) (rows : List (ℕ × A)) → lookup (λ k. k == e) rows ≡ None → left_out e rows ≡ rows
   out_of e [] none = refl
   out_of e (r ∷ rows) none =
       both_ways (r.0 == e)
@@ -88,7 +88,8 @@ module _ {A : Type 0} where
       (λ isb. ap (left_out a) (out_is b r rows isb) ∙ out_swap a b rows ∙ sym (ap (left_out b) (out_is a r rows isa)))
       (λ notb. ap (left_out a) (out_isnt b r rows notb) ∙ out_is a r (left_out b rows) isa ∙ out_swap a b rows ∙ sym (ap (left_out b) (out_is a r rows isa))))
       (λ nota. both_ways (r.0 == b)
-      (λ isb. ap (left_out a) (out_is b r rows isb) ∙ out_swap a b rows ∙ sym (out_is b r (left_out a rows) isb) ∙ sym (ap (left_out b) (out_isnt a r rows nota)))
+      (λ isb. ap (left_out a) (out_is b r rows isb) ∙ out_swap a b rows
+      ∙ sym (out_is b r (left_out a rows) isb) ∙ sym (ap (left_out b) (out_isnt a r rows nota)))
       (λ notb. ap (left_out a) (out_isnt b r rows notb) ∙ out_isnt a r (left_out b rows) nota ∙ ap (λ q. r ∷ q) (out_swap a b rows)
       ∙ sym (out_isnt b r (left_out a rows) notb) ∙ sym (ap (left_out b) (out_isnt a r rows nota))))
 
@@ -159,18 +160,23 @@ module _ {A : Type 0} where
       (λ isnt.
       let rest : lookup (λ k. k == e) rows ≡ Some n = sym (head_isnt e r rows isnt) ∙ some in
       let l : r.0 < e = above_some r.0 e n rows up.1 rest in
-      ap (entered e n) (out_isnt e r rows isnt) ∙ enter_on e n r (left_out e rows) (le-ltb e r.0 (omega arith)) ∙ ap (λ q. r ∷ q) (entered_back next e n rows up.2 rest))
+      ap (entered e n) (out_isnt e r rows isnt) ∙ enter_on e n r (left_out e rows) (le-ltb e r.0 (omega arith))
+      ∙ ap (λ q. r ∷ q) (entered_back next e n rows up.2 rest))
 
   above_entered : (a e : ℕ) (n : A) (rows : List (ℕ × A)) → a < e → Above a rows → Above a (entered e n rows)
   above_entered a e n [] l all = (l, tt)
   above_entered a e n (r ∷ rows) l all =
-      elim (nat_lt e r.0) as (λ b. Above a (cond b ((e, n) ∷ r ∷ rows) (r ∷ entered e n rows))) [ true ↦ (l, all) | false ↦ (all.0, above_entered a e n rows l all.1) ]
+      elim (nat_lt e r.0) as (λ b. Above a (cond b ((e, n) ∷ r ∷ rows) (r ∷ entered e n rows))) [
+        | true ↦ (l, all)
+        | false ↦ (all.0, above_entered a e n rows l all.1)
+      ]
 
   above_lower : (a b : ℕ) (rows : List (ℕ × A)) → a < b → Above b rows → Above a rows
   above_lower a b [] l all = tt
   above_lower a b (r ∷ rows) l all = (let m : b < r.0 = all.0 in omega arith, above_lower a b rows l all.1)
 
-  pub climbs_entered : (next e : ℕ) (n : A) (rows : List (ℕ × A)) → Climbs next rows → e < next → lookup (λ k. k == e) rows ≡ None → Climbs next (entered e n rows)
+  pub climbs_entered : (next e : ℕ) (n : A) (rows : List (ℕ × A)) → Climbs next rows → e < next
+      → lookup (λ k. k == e) rows ≡ None → Climbs next (entered e n rows)
   climbs_entered next e n [] up l none = (l, tt, tt)
   climbs_entered next e n (r ∷ rows) up l none =
       both_ways (r.0 == e)
@@ -184,7 +190,10 @@ module _ {A : Type 0} where
 
   above_out : (a e : ℕ) (rows : List (ℕ × A)) → Above a rows → Above a (left_out e rows)
   above_out a e [] all = tt
-  above_out a e (r ∷ rows) all = elim (r.0 == e) as (λ b. Above a (cond (not b) (r ∷ left_out e rows) (left_out e rows))) [ true ↦ above_out a e rows all.1 | false ↦ (all.0, above_out a e rows all.1) ]
+  above_out a e (r ∷ rows) all = elim (r.0 == e) as (λ b. Above a (cond (not b) (r ∷ left_out e rows) (left_out e rows))) [
+    | true ↦ above_out a e rows all.1
+    | false ↦ (all.0, above_out a e rows all.1)
+  ]
 
   pub climbs_out : (next e : ℕ) (rows : List (ℕ × A)) → Climbs next rows → Climbs next (left_out e rows)
   climbs_out next e [] up = tt

@@ -40,7 +40,8 @@ change_data s (Erase e why) d is a = is_data_erased s e d is a
 change_data s (Relocate x e b) d is a = is_data_relocated s x e b d is a.0 a.1
 
 -- a change extends a fitting list by its inverse, with the table before
-pub change_fits : (s : Shape) (c : Change) (is : List Inverse) (ts : List Table) (d : Data) → IsData s d → Allowed s c d → Fits s is ts d → Fits s (inverse_of c d ∷ is) (table_of d ∷ ts) (changed c d)
+pub change_fits : (s : Shape) (c : Change) (is : List Inverse) (ts : List Table) (d : Data) → IsData s d
+    → Allowed s c d → Fits s is ts d → Fits s (inverse_of c d ∷ is) (table_of d ∷ ts) (changed c d)
 change_fits s c is ts d holds a fits = fits_more s (inverse_of c d) is ts d (changed c d) (change_ready s c d holds a) (change_back s c d holds a) holds fits
 
 back-append : (is js : List Inverse) (d : Data) → all_back (is ++ js) d ≡ all_back js (all_back is d)

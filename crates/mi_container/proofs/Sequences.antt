@@ -1,5 +1,6 @@
 -- The list of a sequenced index: an id that left it stands again before the neighbour that it remembers.
-use Rattle.std.proofs.Common.{◌≡◌, ◌≢◌, ℕ, ◌+◌, ◌<◌, ◌≤◌, zero, suc, true, false, cond, not, inl, inr, List, [], ◌∷◌, ◌++◌, map, get_or, set, refl, ap, sym, ◌∙◌, subst, arith}
+use Rattle.std.proofs.Common.{◌≡◌, ◌≢◌, ℕ, ◌+◌, ◌<◌, ◌≤◌, zero, suc, true, false, cond, not, inl, inr}
+use Rattle.std.proofs.Common.{List, [], ◌∷◌, ◌++◌, map, get_or, set, refl, ap, sym, ◌∙◌, subst, arith}
 use Rattle.std.specs.Prelude.{◌==◌}
 use Rattle.std.specs.List.{AllByRecursion}
 use Rattle.std.specs.Option.{option_map}
@@ -14,8 +15,8 @@ use Rattle.mi_model.proofs.SortLaws.{both_ways}
 use Rattle.mi_model.proofs.ViewLaws.{Lacks, none_is}
 use Rattle.mi_container.specs.Data.{Node, Order, node_of, NamesDiffer}
 use Rattle.mi_container.specs.Data.Order.{ById, ByKey, ByHash, Listed}
-use Rattle.mi_container.specs.Changes.{in_order, orders_with, ref_of, head_of, next_in, prev_in, link_of, links_from, moved_order, left_out}
-use Rattle.mi_container.specs.Inverse.{id_named, id_at, relinked}
+use Rattle.mi_container.specs.Changes.{in_order, orders_with, ref_of, head_of, next_in, prev_in, link_of_id, links_from, moved_order, left_out}
+use Rattle.mi_container.specs.Inverse.{id_named, id_of_ref, relinked}
 use Rattle.mi_container.specs.Fits.{IsNot, last_or, IsThere, Meet}
 use Rattle.mi_container.proofs.Pairs.{is_itself, is_other, some_is, head_is, head_isnt, lookup_out}
 
@@ -28,19 +29,24 @@ pub lacks_of_times : (e : ℕ) (ids : List ℕ) → times e ids ≡ 0 → Lacks 
 lacks_of_times e [] none = tt
 lacks_of_times e (a ∷ ids) none =
     elim (eqb_tells a e) [
-      | inl is ↦ absurd (let n : cond (a == e) 1 0 + times e ids ≡ 0 = none in let one : cond (a == e) 1 0 ≡ 1 = ap (λ b. cond {A = ℕ} b 1 0) is.0 in omega arith)
+      | inl is ↦ absurd
+          (let n : cond (a == e) 1 0 + times e ids ≡ 0 = none in let one : cond (a == e) 1 0 ≡ 1 = ap (λ b. cond {A = ℕ} b 1 0) is.0 in omega arith)
       | inr isnt ↦ (isnt.1, lacks_of_times e ids (let n : cond (a == e) 1 0 + times e ids ≡ 0 = none in omega arith))
     ]
 
-pub times_of_lacks : (e : ℕ) (ids : List ℕ) → Lacks e ids → times e ids ≡ 0
+times_of_lacks : (e : ℕ) (ids : List ℕ) → Lacks e ids → times e ids ≡ 0
 times_of_lacks e [] lacks = refl
 times_of_lacks e (a ∷ ids) lacks =
-    let z : cond {A = ℕ} (a == e) 1 0 ≡ 0 = ap (λ b. cond {A = ℕ} b 1 0) (is_other a e lacks.0) in let n : times e ids ≡ 0 = times_of_lacks e ids lacks.1 in omega arith
+    let z : cond {A = ℕ} (a == e) 1 0 ≡ 0 = ap (λ b. cond {A = ℕ} b 1 0) (is_other a e lacks.0) in
+    let n : times e ids ≡ 0 = times_of_lacks e ids lacks.1 in
+    omega arith
 
 pub once_of_times : (ids : List ℕ) → ((id : ℕ) → times id ids ≤ 1) → Once ids
 once_of_times [] few = tt
 once_of_times (a ∷ ids) few = (
-  lacks_of_times a ids (let n : cond {A = ℕ} (a == a) 1 0 + times a ids ≤ 1 = few a in let one : cond {A = ℕ} (a == a) 1 0 ≡ 1 = ap (λ b. cond {A = ℕ} b 1 0) (is_itself a) in omega arith),
+  lacks_of_times a ids (let n : cond {A = ℕ} (a == a) 1 0 + times a ids ≤ 1 = few a in
+      let one : cond {A = ℕ} (a == a) 1 0 ≡ 1 = ap (λ b. cond {A = ℕ} b 1 0) (is_itself a) in
+      omega arith),
   once_of_times ids (λ id. let n : cond {A = ℕ} (a == id) 1 0 + times id ids ≤ 1 = few id in omega arith),
 )
 
@@ -67,7 +73,7 @@ without_before b e (a ∷ ids) lacks =
     ∙ drop_isnt e a (stand_before b e ids) (is_other a e lacks.0) ∙ ap (λ q. a ∷ q) (without_before b e ids lacks.1))
 
 -- what was put in is taken out again
-pub without_stand : (b : Option ℕ) (e : ℕ) (ids : List ℕ) → Lacks e ids → without e (stand b e ids) ≡ ids
+without_stand : (b : Option ℕ) (e : ℕ) (ids : List ℕ) → Lacks e ids → without e (stand b e ids) ≡ ids
 without_stand None e ids lacks = without_push e ids lacks
 without_stand (Some b) e ids lacks = without_before b e ids lacks
 
@@ -87,7 +93,7 @@ next_isnot a e (b ∷ ids) lacks =
     elim (b == e) as (λ t. IsNot a (cond t (head_of ids) (next_in e ids))) [ true ↦ head_isnot a ids lacks.1 | false ↦ next_isnot a e ids lacks.1 ]
 
 -- the id behind e isn't e
-pub next_other : (e : ℕ) (ids : List ℕ) → Once ids → IsNot e (next_in e ids)
+next_other : (e : ℕ) (ids : List ℕ) → Once ids → IsNot e (next_in e ids)
 next_other e [] once = tt
 next_other e (a ∷ ids) once =
     both_ways (a == e)
@@ -103,16 +109,19 @@ stand_behind a e None ids other = refl
 stand_behind a e (Some b) ids other = ap (λ t. cond t (e ∷ a ∷ ids) (a ∷ stand_before b e ids)) (is_other a b (λ same. other (sym same)))
 
 -- an id that left a list stands again before the one that was behind it
-pub stands_again : (e : ℕ) (ids : List ℕ) → Once ids → 0 < times e ids → stand (next_in e ids) e (without e ids) ≡ ids
+stands_again : (e : ℕ) (ids : List ℕ) → Once ids → 0 < times e ids → stand (next_in e ids) e (without e ids) ≡ ids
 stands_again e [] once some = absurd (omega arith)
 stands_again e (a ∷ ids) once some =
     both_ways (a == e)
     (λ yes.
     let same : a ≡ e = eqb-true a e yes in
     let lacks : Lacks e ids = subst (λ k. Lacks k ids) same once.0 in
-    ap (λ o. stand o e (without e (a ∷ ids))) (next_is e a ids yes) ∙ ap (stand (head_of ids) e) (drop_is e a ids yes ∙ without_lacks e ids lacks) ∙ stand_first e ids ∙ ap (λ k. k ∷ ids) (sym same))
+    ap (λ o. stand o e (without e (a ∷ ids))) (next_is e a ids yes)
+    ∙ ap (stand (head_of ids) e) (drop_is e a ids yes ∙ without_lacks e ids lacks) ∙ stand_first e ids ∙ ap (λ k. k ∷ ids) (sym same))
     (λ isnt.
-    let rest : 0 < times e ids = (let z : cond {A = ℕ} (a == e) 1 0 ≡ 0 = ap (λ b. cond {A = ℕ} b 1 0) isnt in let n : 0 < cond {A = ℕ} (a == e) 1 0 + times e ids = some in omega arith) in
+    let rest : 0 < times e ids = (let z : cond {A = ℕ} (a == e) 1 0 ≡ 0 = ap (λ b. cond {A = ℕ} b 1 0) isnt in
+    let n : 0 < cond {A = ℕ} (a == e) 1 0 + times e ids = some in
+    omega arith) in
     ap (λ o. stand o e (without e (a ∷ ids))) (next_isnt e a ids isnt) ∙ ap (stand (next_in e ids) e) (drop_isnt e a ids isnt)
     ∙ stand_behind a e (next_in e ids) (without e ids) (next_isnot a e ids once.0) ∙ ap (λ q. a ∷ q) (stands_again e ids once.1 rest))
 
@@ -132,7 +141,9 @@ neighbours_meet p e (a ∷ ids) once some =
     let lacks : Lacks e ids = subst (λ k. Lacks k ids) (eqb-true a e yes) once.0 in
     ([], ids, drop_is e a ids yes ∙ without_lacks e ids lacks, prev_is p e a ids yes, next_is e a ids yes, ap (λ k. k ∷ ids) (eqb-true a e yes)))
     (λ isnt.
-    let rest : 0 < times e ids = (let z : cond {A = ℕ} (a == e) 1 0 ≡ 0 = ap (λ b. cond {A = ℕ} b 1 0) isnt in let n : 0 < cond {A = ℕ} (a == e) 1 0 + times e ids = some in omega arith) in
+    let rest : 0 < times e ids = (let z : cond {A = ℕ} (a == e) 1 0 ≡ 0 = ap (λ b. cond {A = ℕ} b 1 0) isnt in
+    let n : 0 < cond {A = ℕ} (a == e) 1 0 + times e ids = some in
+    omega arith) in
     let h = neighbours_meet (Some a) e ids once.1 rest in
     (a ∷ h.0, h.1, drop_isnt e a ids isnt ∙ ap (λ q. a ∷ q) h.2, prev_isnt p e a ids isnt ∙ h.3, next_isnt e a ids isnt ∙ h.4, ap (λ q. a ∷ q) h.5))
 
@@ -154,8 +165,9 @@ ref_out e rows None isnt = refl
 ref_out e rows (Some b) isnt = ap (option_map (λ (n : Node). n.at)) (lookup_out b e rows isnt)
 
 -- where the references of other ids stay, the neighbours of one that left meet
-pub link_meets : (rows other : List (ℕ × Node)) (e : ℕ) (ids : List ℕ) → ((o : Option ℕ) → IsNot e o → ref_of other o ≡ ref_of rows o) → Once ids → 0 < times e ids
-    → Meet other (link_of rows e ids) (without e ids)
+pub link_meets : (rows other : List (ℕ × Node)) (e : ℕ) (ids : List ℕ)
+    → ((o : Option ℕ) → IsNot e o → ref_of other o ≡ ref_of rows o) → Once ids → 0 < times e ids
+    → Meet other (link_of_id rows e ids) (without e ids)
 link_meets rows other e ids alike once some =
     let h = neighbours_meet None e ids once some in
     let lacks : Lacks e (h.0 ++ h.1) = subst (Lacks e) h.2 (none_is e ids) in (
@@ -211,11 +223,12 @@ named_again (r ∷ rows) b n differ is =
     ap (λ t. cond t (Some r.0) (id_named n.at.name rows)) (is_other r.1.at.name n.at.name (λ same. other (sym same))) ∙ named_again rows b n differ.1 there)
 
 -- the id of a live id's reference, once another is gone
-pub found_again : (rows : List (ℕ × Node)) (e : ℕ) (o : Option ℕ) → NamesDiffer (left_out e rows) → OtherThere rows e o → id_at (left_out e rows) (ref_of rows o) ≡ o
+found_again : (rows : List (ℕ × Node)) (e : ℕ) (o : Option ℕ) → NamesDiffer (left_out e rows)
+    → OtherThere rows e o → id_of_ref (left_out e rows) (ref_of rows o) ≡ o
 found_again rows e None differ other = refl
 found_again rows e (Some b) differ other =
     let there : node_of (left_out e rows) b ≡ Some other.0.0 = lookup_out b e rows other.1 ∙ other.0.1 in
-    ap (λ q. id_at (left_out e rows) (option_map (λ (n : Node). n.at) q)) other.0.1 ∙ named_again (left_out e rows) b other.0.0 differ there
+    ap (λ q. id_of_ref (left_out e rows) (option_map (λ (n : Node). n.at) q)) other.0.1 ∙ named_again (left_out e rows) b other.0.0 differ there
 
 -- Over the orders of a container
 
@@ -230,7 +243,7 @@ abbrev pub OfLists : (List ℕ → Type 0) → List Order → Type 0
 OfLists P [] = Unit {0}
 OfLists P (o ∷ os) = OfList P o × OfLists P os
 
-pub of_list : (P Q : List ℕ → Type 0) → ((ids : List ℕ) → P ids → Q ids) → (o : Order) → OfList P o → OfList Q o
+of_list : (P Q : List ℕ → Type 0) → ((ids : List ℕ) → P ids → Q ids) → (o : Order) → OfList P o → OfList Q o
 of_list P Q f ById p = tt
 of_list P Q f (ByKey ps) p = tt
 of_list P Q f (ByHash ps) p = tt
@@ -260,7 +273,8 @@ in_order_same f (Listed ids) p = ap Listed p
 back_map : (e : ℕ) (os : List Order) → OfLists (Lacks e) os → map (in_order (without e)) (map (in_order (stand None e)) os) ≡ os
 back_map e [] lacks = refl
 back_map e (o ∷ os) lacks =
-    let here : in_order (without e) (in_order (stand None e) o) ≡ o = in_order_back (without e) (stand None e) o (of_list (Lacks e) (λ ids. without e (stand None e ids) ≡ ids) (λ ids l. without_stand None e ids l) o lacks.0) in
+    let here : in_order (without e) (in_order (stand None e) o) ≡ o = in_order_back (without e) (stand None e) o
+    (of_list (Lacks e) (λ ids. without e (stand None e ids) ≡ ids) (λ ids l. without_stand None e ids l) o lacks.0) in
     let rest : map (in_order (without e)) (map (in_order (stand None e)) os) ≡ os = back_map e os lacks.1 in
     λ i. here i ∷ rest i
 
@@ -268,12 +282,15 @@ back_set : (b e : ℕ) (os : List Order) (x : ℕ) → OfLists (Lacks e) os
     → map (in_order (without e)) (set (map (in_order (stand None e)) os) x (in_order (stand_before b e) (get_or os x ById))) ≡ os
 back_set b e [] x lacks = refl
 back_set b e (o ∷ os) zero lacks =
-    let here : in_order (without e) (in_order (stand_before b e) o) ≡ o = in_order_back (without e) (stand_before b e) o (of_list (Lacks e) (λ ids. without e (stand_before b e ids) ≡ ids) (λ ids l. without_stand (Some b) e ids l) o lacks.0) in
+    let here : in_order (without e) (in_order (stand_before b e) o) ≡ o = in_order_back (without e) (stand_before b e) o
+    (of_list (Lacks e) (λ ids. without e (stand_before b e ids) ≡ ids) (λ ids l. without_stand (Some b) e ids l) o lacks.0) in
     let rest : map (in_order (without e)) (map (in_order (stand None e)) os) ≡ os = back_map e os lacks.1 in
     λ i. here i ∷ rest i
 back_set b e (o ∷ os) (suc x) lacks =
-    let here : in_order (without e) (in_order (stand None e) o) ≡ o = in_order_back (without e) (stand None e) o (of_list (Lacks e) (λ ids. without e (stand None e ids) ≡ ids) (λ ids l. without_stand None e ids l) o lacks.0) in
-    let rest : map (in_order (without e)) (set (map (in_order (stand None e)) os) x (in_order (stand_before b e) (get_or os x ById))) ≡ os = back_set b e os x lacks.1 in
+    let here : in_order (without e) (in_order (stand None e) o) ≡ o = in_order_back (without e) (stand None e) o
+    (of_list (Lacks e) (λ ids. without e (stand None e ids) ≡ ids) (λ ids l. without_stand None e ids l) o lacks.0) in
+    let rest : map (in_order (without e)) (set (map (in_order (stand None e)) os) x (in_order (stand_before b e) (get_or os x ById)))
+    ≡ os = back_set b e os x lacks.1 in
     λ i. here i ∷ rest i
 
 -- an insert taken back
@@ -282,7 +299,8 @@ orders_back None e os lacks = back_map e os lacks
 orders_back (Some p) e os lacks = back_set p.1 e os p.0 lacks
 
 -- one list changed and changed back
-pub order_back : (f g : List ℕ → List ℕ) (os : List Order) (x : ℕ) → OfList (λ ids. f (g ids) ≡ ids) (get_or os x ById) → moved_order x f (moved_order x g os) ≡ os
+pub order_back : (f g : List ℕ → List ℕ) (os : List Order) (x : ℕ)
+    → OfList (λ ids. f (g ids) ≡ ids) (get_or os x ById) → moved_order x f (moved_order x g os) ≡ os
 order_back f g [] x p = refl
 order_back f g (o ∷ os) zero p = ap (λ q. q ∷ os) (in_order_back f g o p)
 order_back f g (o ∷ os) (suc x) p = ap (λ q. o ∷ q) (order_back f g os x p)
@@ -295,7 +313,7 @@ abbrev pub Stands : List (ℕ × Node) → ℕ → List ℕ → Type 0
 Stands rows e ids = AllByRecursion (IsThere rows) ids × Once ids × (0 < times e ids)
 
 relinked_one : (rows : List (ℕ × Node)) (e : ℕ) (ids : List ℕ) → NamesDiffer (left_out e rows) → Stands rows e ids
-    → stand (id_at (left_out e rows) (ref_of rows (next_in e ids))) e (without e ids) ≡ ids
+    → stand (id_of_ref (left_out e rows) (ref_of rows (next_in e ids))) e (without e ids) ≡ ids
 relinked_one rows e ids differ s =
     ap (λ o. stand o e (without e ids)) (found_again rows e (next_in e ids) differ (next_is_other rows e ids s.0 s.1)) ∙ stands_again e ids s.1 s.2
 
@@ -307,8 +325,9 @@ relinked_back x rows e (ById ∷ os) differ all = ap (λ q. ById ∷ q) (relinke
 relinked_back x rows e (ByKey ps ∷ os) differ all = ap (λ q. ByKey ps ∷ q) (relinked_back (suc x) rows e os differ all.1)
 relinked_back x rows e (ByHash ps ∷ os) differ all = ap (λ q. ByHash ps ∷ q) (relinked_back (suc x) rows e os differ all.1)
 relinked_back x rows e (Listed ids ∷ os) differ all =
-    let here : stand (id_at (left_out e rows) (ref_of rows (next_in e ids))) e (without e ids) ≡ ids = relinked_one rows e ids differ all.0 in
-    let rest : relinked (left_out e rows) e (links_from (suc x) rows e os) (map (in_order (without e)) os) ≡ os = relinked_back (suc x) rows e os differ all.1 in
+    let here : stand (id_of_ref (left_out e rows) (ref_of rows (next_in e ids))) e (without e ids) ≡ ids = relinked_one rows e ids differ all.0 in
+    let rest : relinked (left_out e rows) e (links_from (suc x) rows e os) (map (in_order (without e)) os)
+    ≡ os = relinked_back (suc x) rows e os differ all.1 in
     λ i. Listed (here i) ∷ rest i
 
 -- a relocation taken back

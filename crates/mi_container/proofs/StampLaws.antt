@@ -22,7 +22,8 @@ one_early now (ByKey ps) a fit has = fit
 one_early now (ByHash ps) a fit has = fit
 one_early now (Listed ids) a fit has = absurd (cc)
 
-pub fits_early : (now : ℕ) (os : List Order) (stamps : List ℕ) (x : ℕ) → StampsFit now os stamps → has_stamps (get_or os x ById) ≡ true → get_or stamps x 0 < now
+pub fits_early : (now : ℕ) (os : List Order) (stamps : List ℕ) (x : ℕ) → StampsFit now os stamps
+    → has_stamps (get_or os x ById) ≡ true → get_or stamps x 0 < now
 fits_early now [] stamps x fit has = absurd (cc)
 fits_early now (o ∷ os) [] x fit has = absurd fit
 fits_early now (o ∷ os) (a ∷ stamps) zero fit has = one_early now o a fit.0 has
@@ -65,7 +66,8 @@ fits_later now (o ∷ os) (a ∷ stamps) fit = (one_later now o a fit.0, fits_la
 
 -- after a put
 
-one_put : (now : ℕ) (o : Order) (old new : List Value) (a : ℕ) → StampFits now o a → StampFits (now + 1) o (cond (is_eq (compare_key (parts_of o) old new)) a now)
+one_put : (now : ℕ) (o : Order) (old new : List Value) (a : ℕ) → StampFits now o a
+    → StampFits (now + 1) o (cond (is_eq (compare_key (parts_of o) old new)) a now)
 one_put now ById old new a fit = fit
 one_put now (ByKey ps) old new a fit =
     let l : a < now = fit in elim (is_eq (compare_key ps old new)) as (λ b. cond {A = ℕ} b a now < now + 1) [ true ↦ omega arith | false ↦ omega arith ]
@@ -73,7 +75,8 @@ one_put now (ByHash ps) old new a fit =
     let l : a < now = fit in elim (is_eq (compare_key ps old new)) as (λ b. cond {A = ℕ} b a now < now + 1) [ true ↦ omega arith | false ↦ omega arith ]
 one_put now (Listed ids) old new a fit = fit
 
-pub fits_put : (now : ℕ) (os : List Order) (old new : List Value) (stamps : List ℕ) → StampsFit now os stamps → StampsFit (now + 1) os (restamped os old new now stamps)
+pub fits_put : (now : ℕ) (os : List Order) (old new : List Value) (stamps : List ℕ)
+    → StampsFit now os stamps → StampsFit (now + 1) os (restamped os old new now stamps)
 fits_put now [] old new [] fit = tt
 fits_put now [] old new (a ∷ stamps) fit = absurd fit
 fits_put now (o ∷ os) old new [] fit = absurd fit
@@ -93,7 +96,8 @@ fits_map now f [] (a ∷ stamps) fit = absurd fit
 fits_map now f (o ∷ os) [] fit = absurd fit
 fits_map now f (o ∷ os) (a ∷ stamps) fit = (one_in_order now f o a fit.0, fits_map now f os stamps fit.1)
 
-fits_set : (now : ℕ) (f g : List ℕ → List ℕ) (os : List Order) (x : ℕ) (stamps : List ℕ) → StampsFit now os stamps → StampsFit now (set (map (in_order f) os) x (in_order g (get_or os x ById))) stamps
+fits_set : (now : ℕ) (f g : List ℕ → List ℕ) (os : List Order) (x : ℕ) (stamps : List ℕ) → StampsFit now os stamps
+    → StampsFit now (set (map (in_order f) os) x (in_order g (get_or os x ById))) stamps
 fits_set now f g [] x [] fit = tt
 fits_set now f g [] x (a ∷ stamps) fit = absurd fit
 fits_set now f g (o ∷ os) x [] fit = absurd fit
@@ -104,7 +108,8 @@ pub fits_with : (now : ℕ) (p : Option (ℕ × ℕ)) (e : ℕ) (os : List Order
 fits_with now None e os stamps fit = fits_map now (stand None e) os stamps fit
 fits_with now (Some p) e os stamps fit = fits_set now (stand None e) (stand_before p.1 e) os p.0 stamps fit
 
-pub fits_moved : (now : ℕ) (g : List ℕ → List ℕ) (os : List Order) (x : ℕ) (stamps : List ℕ) → StampsFit now os stamps → StampsFit now (moved_order x g os) stamps
+pub fits_moved : (now : ℕ) (g : List ℕ → List ℕ) (os : List Order) (x : ℕ) (stamps : List ℕ)
+    → StampsFit now os stamps → StampsFit now (moved_order x g os) stamps
 fits_moved now g [] x [] fit = tt
 fits_moved now g [] x (a ∷ stamps) fit = absurd fit
 fits_moved now g (o ∷ os) x [] fit = absurd fit
@@ -124,7 +129,8 @@ stamps_map f [] x = refl
 stamps_map f (o ∷ os) zero = stamps_of_one f o
 stamps_map f (o ∷ os) (suc x) = stamps_map f os x
 
-stamps_set : (f g : List ℕ → List ℕ) (os : List Order) (y x : ℕ) → has_stamps (get_or (set (map (in_order f) os) y (in_order g (get_or os y ById))) x ById) ≡ has_stamps (get_or os x ById)
+stamps_set : (f g : List ℕ → List ℕ) (os : List Order) (y x : ℕ)
+    → has_stamps (get_or (set (map (in_order f) os) y (in_order g (get_or os y ById))) x ById) ≡ has_stamps (get_or os x ById)
 stamps_set f g [] y x = refl
 stamps_set f g (o ∷ os) zero zero = stamps_of_one g o
 stamps_set f g (o ∷ os) zero (suc x) = stamps_map f os x

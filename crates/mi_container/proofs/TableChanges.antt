@@ -1,5 +1,6 @@
 -- The table of changed data is the changed table.
-use Rattle.std.proofs.Common.{◌≡◌, ℕ, ◌+◌, ◌<◌, zero, suc, true, false, cond, not, List, [], ◌∷◌, ◌++◌, map, length, get_or, set, refl, ap, sym, ◌∙◌, subst, arith}
+use Rattle.std.proofs.Common.{◌≡◌, ℕ, ◌+◌, ◌<◌, zero, suc, true, false, cond, not, List, [], ◌∷◌}
+use Rattle.std.proofs.Common.{◌++◌, map, length, get_or, set, refl, ap, sym, ◌∙◌, subst, arith}
 use Rattle.std.specs.Prelude.{◌==◌}
 use Rattle.std.specs.List.{filter}
 use Rattle.std.specs.Option.{option_map, unwrap_or}
@@ -17,9 +18,11 @@ use Rattle.mi_model.specs.Table.{row}
 use Rattle.mi_model.specs.Change.{stand_before, stand, without, added, insert, moved_in, moved, put, erase, relocated, relocate}
 use Rattle.mi_model.proofs.SortLaws.{both_ways}
 use Rattle.mi_node.specs.Refs.{Ref}
-use Rattle.mi_container.specs.Data.{Content, Node, Order, Data, parts_of, has_stamps, content_in, content_of, stamp_of, by_stamp, listed, lists_from, shown_row, table_of, KindFits, KindsFit, IsData}
+use Rattle.mi_container.specs.Data.{Content, Node, Order, Data, parts_of, has_stamps, content_in, content_of, stamp_of}
+use Rattle.mi_container.specs.Data.{ids_by_stamp, listed, lists_from, shown_row, table_of, KindFits, KindsFit, IsData}
 use Rattle.mi_container.specs.Data.Order.{ById, ByKey, ByHash, Listed}
-use Rattle.mi_container.specs.Changes.{left_out, with_content, new_content, in_order, new_stamp, new_node, orders_with, inserted, replaced, erased_node, erased, moved_order, relocated_in}
+use Rattle.mi_container.specs.Changes.{left_out, with_content, new_content, in_order, new_stamp, new_node, orders_with}
+use Rattle.mi_container.specs.Changes.{inserted, replaced, erased_node, erased, moved_order, relocated_in}
 use Rattle.mi_container.specs.Fits.{IsThere, IsListed}
 use Rattle.mi_container.specs.Run.{PlaceFits}
 use Rattle.mi_container.proofs.StampLaws.{new_at}
@@ -32,14 +35,16 @@ use Rattle.mi_container.proofs.Stamped.{ids_out, ids_with, ids_push, by_stamp_in
 abbrev Becomes : (rows other : List (ℕ × Node)) (f : List ℕ → List ℕ) → ℕ → Order → Type 0
 Becomes rows other f x o = listed x other (in_order f o) ≡ f (listed x rows o)
 
-lists_changed : (rows other : List (ℕ × Node)) (f : List ℕ → List ℕ) (x : ℕ) (os : List Order) → ((k : ℕ) → k < length os → Becomes rows other f (x + k) (get_or os k ById))
+lists_changed : (rows other : List (ℕ × Node)) (f : List ℕ → List ℕ) (x : ℕ) (os : List Order)
+    → ((k : ℕ) → k < length os → Becomes rows other f (x + k) (get_or os k ById))
     → lists_from x other (map (in_order f) os) ≡ map f (lists_from x rows os)
 lists_changed rows other f x [] each = refl
 lists_changed rows other f x (o ∷ os) each =
     let same : x + 0 ≡ x = omega arith in
     let here : listed x other (in_order f o) ≡ f (listed x rows o) = subst (λ n. Becomes rows other f n o) same (each zero (omega arith)) in
     let rest : lists_from (suc x) other (map (in_order f) os) ≡ map f (lists_from (suc x) rows os) =
-    lists_changed rows other f (suc x) os (λ k l. let next : x + suc k ≡ suc x + k = omega arith in subst (λ n. Becomes rows other f n (get_or os k ById)) next (each (suc k) (omega arith))) in
+    lists_changed rows other f (suc x) os (λ k l.
+    let next : x + suc k ≡ suc x + k = omega arith in subst (λ n. Becomes rows other f n (get_or os k ById)) next (each (suc k) (omega arith))) in
     λ i. here i ∷ rest i
 
 -- and one of them, a list of its own, by another
@@ -49,19 +54,25 @@ one_set rows other g x (ByKey ps) is = absurd is
 one_set rows other g x (ByHash ps) is = absurd is
 one_set rows other g x (Listed ids) is = refl
 
-lists_set : (rows other : List (ℕ × Node)) (f g : List ℕ → List ℕ) (x : ℕ) (os : List Order) (k : ℕ) → ((j : ℕ) → j < length os → Becomes rows other f (x + j) (get_or os j ById)) → IsListed (get_or os k ById)
-    → lists_from x other (set (map (in_order f) os) k (in_order g (get_or os k ById))) ≡ set (map f (lists_from x rows os)) k (g (get_or (lists_from x rows os) k []))
+lists_set : (rows other : List (ℕ × Node)) (f g : List ℕ → List ℕ) (x : ℕ) (os : List Order) (k : ℕ)
+    → ((j : ℕ) → j < length os → Becomes rows other f (x + j) (get_or os j ById)) → IsListed (get_or os k ById)
+    → lists_from x other (set (map (in_order f) os) k (in_order g (get_or os k ById)))
+    ≡ set (map f (lists_from x rows os)) k (g (get_or (lists_from x rows os) k []))
 lists_set rows other f g x [] k each is = absurd is
 lists_set rows other f g x (o ∷ os) zero each is =
     let here : listed x other (in_order g o) ≡ g (listed x rows o) = one_set rows other g x o is in
     let rest : lists_from (suc x) other (map (in_order f) os) ≡ map f (lists_from (suc x) rows os) =
-    lists_changed rows other f (suc x) os (λ j l. let next : x + suc j ≡ suc x + j = omega arith in subst (λ n. Becomes rows other f n (get_or os j ById)) next (each (suc j) (omega arith))) in
+    lists_changed rows other f (suc x) os (λ j l.
+    let next : x + suc j ≡ suc x + j = omega arith in subst (λ n. Becomes rows other f n (get_or os j ById)) next (each (suc j) (omega arith))) in
     λ i. here i ∷ rest i
 lists_set rows other f g x (o ∷ os) (suc k) each is =
     let same : x + 0 ≡ x = omega arith in
     let here : listed x other (in_order f o) ≡ f (listed x rows o) = subst (λ n. Becomes rows other f n o) same (each zero (omega arith)) in
-    let rest : lists_from (suc x) other (set (map (in_order f) os) k (in_order g (get_or os k ById))) ≡ set (map f (lists_from (suc x) rows os)) k (g (get_or (lists_from (suc x) rows os) k [])) =
-    lists_set rows other f g (suc x) os k (λ j l. let next : x + suc j ≡ suc x + j = omega arith in subst (λ n. Becomes rows other f n (get_or os j ById)) next (each (suc j) (omega arith))) is in
+    let rest : lists_from (suc x) other (set (map (in_order f) os) k (in_order g (get_or os k ById)))
+    ≡ set (map f (lists_from (suc x) rows os)) k (g (get_or (lists_from (suc x) rows os) k [])) =
+    lists_set rows other f g (suc x) os k (λ j l.
+    let next : x + suc j ≡ suc x + j = omega arith in subst (λ n. Becomes rows other f n (get_or os j ById)) next (each (suc j) (omega arith)))
+    is in
     λ i. here i ∷ rest i
 
 lists_moved : (rows : List (ℕ × Node)) (g : List ℕ → List ℕ) (x : ℕ) (os : List Order) (k : ℕ) → IsListed (get_or os k ById)
@@ -73,7 +84,7 @@ lists_moved rows g x (o ∷ os) (suc k) is = ap (λ q. listed x rows o ∷ q) (l
 -- Insert
 
 stamped_last : (s : Shape) (at : Ref) (r : List Value) (d : Data) → IsData s d → (x : ℕ) → has_stamps (get_or d.orders x ById) ≡ true
-    → by_stamp x (d.rows ++ (d.next, new_node at r d) ∷ []) ≡ stand None d.next (by_stamp x d.rows)
+    → ids_by_stamp x (d.rows ++ (d.next, new_node at r d) ∷ []) ≡ stand None d.next (ids_by_stamp x d.rows)
 stamped_last s at r d is x has_ =
     by_stamp_insert x d.next (new_node at r d) d.rows (no_next s d is) (λ a there.
     let early : stamp_of d.rows x a < d.arrivals = stamp_early s d is x has_ a there in
@@ -91,15 +102,19 @@ inserted_lists : (s : Shape) (p : Option (ℕ × ℕ)) (at : Ref) (r : List Valu
 inserted_lists s None at r d is fits =
     lists_changed d.rows (d.rows ++ (d.next, new_node at r d) ∷ []) (stand None d.next) 0 d.orders
     (λ k l. let same : 0 + k ≡ k = omega arith in
-    subst (λ n. Becomes d.rows (d.rows ++ (d.next, new_node at r d) ∷ []) (stand None d.next) n (get_or d.orders k ById)) (sym same) (inserted_one s at r d is k (get_or d.orders k ById) refl))
+    subst (λ n. Becomes d.rows (d.rows ++ (d.next, new_node at r d) ∷ []) (stand None d.next) n (get_or d.orders k ById))
+    (sym same) (inserted_one s at r d is k (get_or d.orders k ById) refl))
 inserted_lists s (Some p) at r d is fits =
     lists_set d.rows (d.rows ++ (d.next, new_node at r d) ∷ []) (stand None d.next) (stand_before p.1 d.next) 0 d.orders p.0
     (λ k l. let same : 0 + k ≡ k = omega arith in
-    subst (λ n. Becomes d.rows (d.rows ++ (d.next, new_node at r d) ∷ []) (stand None d.next) n (get_or d.orders k ById)) (sym same) (inserted_one s at r d is k (get_or d.orders k ById) refl)) fits
+    subst (λ n. Becomes d.rows (d.rows ++ (d.next, new_node at r d) ∷ []) (stand None d.next) n (get_or d.orders k ById))
+    (sym same) (inserted_one s at r d is k (get_or d.orders k ById) refl)) fits
 
-pub table_inserted : (s : Shape) (p : Option (ℕ × ℕ)) (at : Ref) (r : List Value) (d : Data) → IsData s d → PlaceFits p d.orders → table_of (inserted p at r d) ≡ insert p r (table_of d)
+pub table_inserted : (s : Shape) (p : Option (ℕ × ℕ)) (at : Ref) (r : List Value) (d : Data)
+    → IsData s d → PlaceFits p d.orders → table_of (inserted p at r d) ≡ insert p r (table_of d)
 table_inserted s p at r d is fits =
-    let rows : map shown_row (d.rows ++ (d.next, new_node at r d) ∷ []) ≡ map shown_row d.rows ++ (d.next, r) ∷ [] = map-append shown_row d.rows ((d.next, new_node at r d) ∷ []) in
+    let rows : map shown_row (d.rows ++ (d.next, new_node at r d) ∷ []) ≡ map shown_row d.rows ++ (d.next, r) ∷ [] =
+    map-append shown_row d.rows ((d.next, new_node at r d) ∷ []) in
     let lists = inserted_lists s p at r d is fits in
     λ i. record { rows = rows i; lists = lists i; next = d.next + 1; arrivals = d.arrivals + 1 }
 
@@ -108,7 +123,8 @@ table_inserted s p at r d is fits =
 rows_out : (e : ℕ) (rows : List (ℕ × Node)) → map shown_row (left_out e rows) ≡ filter (λ r. not (r.0 == e)) (map shown_row rows)
 rows_out e [] = refl
 rows_out e (r ∷ rows) =
-    elim (r.0 == e) as (λ b. map shown_row (cond (not b) (r ∷ left_out e rows) (left_out e rows)) ≡ cond (not b) (shown_row r ∷ filter (λ r. not (r.0 == e)) (map shown_row rows)) (filter (λ r. not (r.0 == e)) (map shown_row rows))) [
+    elim (r.0 == e) as (λ b. map shown_row (cond (not b) (r ∷ left_out e rows) (left_out e rows))
+    ≡ cond (not b) (shown_row r ∷ filter (λ r. not (r.0 == e)) (map shown_row rows)) (filter (λ r. not (r.0 == e)) (map shown_row rows))) [
       | true ↦ rows_out e rows
       | false ↦ ap (λ q. shown_row r ∷ q) (rows_out e rows)
     ]
@@ -157,7 +173,8 @@ lists_put old new e rows other (j ∷ is) x [] kinds each = refl
 lists_put old new e rows other (j ∷ is) x (o ∷ os) kinds each =
     let same : x + 0 ≡ x = omega arith in
     let first : Moves old new e rows other x o = subst (λ n. Moves old new e rows other n o) same (each zero (omega arith)) in
-    let here : listed x other o ≡ moved_in j old new e (listed x rows o) = first ∙ sym (ap (λ ps. moved_by ps old new e (listed x rows o)) (parts_fit j o kinds.0)) in
+    let here : listed x other o ≡ moved_in j old new e (listed x rows o) = first
+    ∙ sym (ap (λ ps. moved_by ps old new e (listed x rows o)) (parts_fit j o kinds.0)) in
     let rest : lists_from (suc x) other os ≡ moved is old new e (lists_from (suc x) rows os) =
     lists_put old new e rows other is (suc x) os kinds.1 (λ k l.
     let next : x + suc k ≡ suc x + k = omega arith in subst (λ n. Moves old new e rows other n (get_or os k ById)) next (each (suc k) (omega arith))) in
@@ -168,30 +185,34 @@ row_there : (e : ℕ) (d : Data) → IsThere d.rows e → (row (table_of d) e).1
 row_there e d there =
     ap (λ o. unwrap_or o []) (lookup_shown e d.rows ∙ ap (option_map (λ (n : Node). n.content.values)) there.1) ∙ sym (ap (λ o. (content_in o).values) there.1)
 
-stamped_put : (s : Shape) (e : ℕ) (r : List Value) (d : Data) → IsData s d → IsThere d.rows e → (x : ℕ) → x < length d.orders → has_stamps (get_or d.orders x ById) ≡ true
-    → by_stamp x (replaced e r d).rows ≡ moved_by (parts_of (get_or d.orders x ById)) (content_of d.rows e).values r e (by_stamp x d.rows)
+stamped_put : (s : Shape) (e : ℕ) (r : List Value) (d : Data) → IsData s d → IsThere d.rows e
+    → (x : ℕ) → x < length d.orders → has_stamps (get_or d.orders x ById) ≡ true
+    → ids_by_stamp x (replaced e r d).rows ≡ moved_by (parts_of (get_or d.orders x ById)) (content_of d.rows e).values r e (ids_by_stamp x d.rows)
 stamped_put s e r d is there x l has_ =
     let was : Content = content_of d.rows e in
     let c : Content = new_content d.orders r d.arrivals was in
     let ps : List KeyPart = parts_of (get_or d.orders x ById) in
     let long : length was.stamps ≡ length d.orders = stamps_long s d is e there in
-    let stamp : get_or c.stamps x 0 ≡ cond (is_eq (compare_key ps was.values r)) (get_or was.stamps x 0) d.arrivals = restamped_at d.orders ById was.values r d.arrivals was.stamps x l (omega arith) in
+    let stamp : get_or c.stamps x 0 ≡ cond (is_eq (compare_key ps was.values r)) (get_or was.stamps x 0) d.arrivals =
+    restamped_at d.orders ById was.values r d.arrivals was.stamps x l (omega arith) in
     both_ways (is_eq (compare_key ps was.values r))
     (λ yes.
     by_stamp_stays x e c d.rows there (stamp ∙ ap (λ b. cond b (get_or was.stamps x 0) d.arrivals) yes)
-    ∙ sym (ap (λ b. cond b (by_stamp x d.rows) (without e (by_stamp x d.rows) ++ e ∷ [])) yes))
+    ∙ sym (ap (λ b. cond b (ids_by_stamp x d.rows) (without e (ids_by_stamp x d.rows) ++ e ∷ [])) yes))
     (λ isnt.
     let newest : get_or c.stamps x 0 ≡ d.arrivals = stamp ∙ ap (λ b. cond b (get_or was.stamps x 0) d.arrivals) isnt in
-    by_stamp_moves x e d.next c d.rows (rows_climb s d is) there (λ a here. subst (λ n. stamp_of d.rows x a < n) (sym newest) (stamp_early s d is x has_ a here))
-    ∙ sym (ap (λ b. cond b (by_stamp x d.rows) (without e (by_stamp x d.rows) ++ e ∷ [])) isnt))
+    by_stamp_moves x e d.next c d.rows (rows_climb s d is) there
+    (λ a here. subst (λ n. stamp_of d.rows x a < n) (sym newest) (stamp_early s d is x has_ a here))
+    ∙ sym (ap (λ b. cond b (ids_by_stamp x d.rows) (without e (ids_by_stamp x d.rows) ++ e ∷ [])) isnt))
 
-put_one : (s : Shape) (e : ℕ) (r : List Value) (d : Data) → IsData s d → IsThere d.rows e → (x : ℕ) → x < length d.orders → (o : Order) → get_or d.orders x ById ≡ o
+put_one : (s : Shape) (e : ℕ) (r : List Value) (d : Data) → IsData s d → IsThere d.rows e
+    → (x : ℕ) → x < length d.orders → (o : Order) → get_or d.orders x ById ≡ o
     → Moves (content_of d.rows e).values r e d.rows (replaced e r d).rows x o
 put_one s e r d is there x l ById here = ids_with e (new_content d.orders r d.arrivals (content_of d.rows e)) d.rows
 put_one s e r d is there x l (ByKey ps) here =
-    stamped_put s e r d is there x l (ap has_stamps here) ∙ ap (λ o. moved_by (parts_of o) (content_of d.rows e).values r e (by_stamp x d.rows)) here
+    stamped_put s e r d is there x l (ap has_stamps here) ∙ ap (λ o. moved_by (parts_of o) (content_of d.rows e).values r e (ids_by_stamp x d.rows)) here
 put_one s e r d is there x l (ByHash ps) here =
-    stamped_put s e r d is there x l (ap has_stamps here) ∙ ap (λ o. moved_by (parts_of o) (content_of d.rows e).values r e (by_stamp x d.rows)) here
+    stamped_put s e r d is there x l (ap has_stamps here) ∙ ap (λ o. moved_by (parts_of o) (content_of d.rows e).values r e (ids_by_stamp x d.rows)) here
 put_one s e r d is there x l (Listed ids) here = refl
 
 pub table_replaced : (s : Shape) (e : ℕ) (r : List Value) (d : Data) → IsData s d → IsThere d.rows e → table_of (replaced e r d) ≡ put s e r (table_of d)

@@ -17,7 +17,7 @@ use Rattle.mi_catalog.specs.declared.index.IndexKind.TheVariants.{Ordered, Ranke
 use Rattle.mi_catalog.specs.Shape.{Shape}
 use Rattle.mi_model.specs.Change.{stand_before, stand, without, relocated}
 use Rattle.mi_node.specs.Refs.{Ref}
-use Rattle.mi_container.specs.Data.{Content, Node, Link, Kept, Order, Data, order_at, parts_of, node_of, content_of, by_stamp}
+use Rattle.mi_container.specs.Data.{Content, Node, Link, Kept, Order, Data, order_at, parts_of, node_of, content_of, ids_by_stamp}
 use Rattle.mi_container.specs.Data.Order.{ById, ByKey, ByHash, Listed}
 
 -- a pair at its place among ids that ascend
@@ -102,19 +102,19 @@ prev_in p e [] = None
 prev_in p e (a ∷ ids) = if a == e then p else prev_in (Some a) e ids
 
 -- the references of the neighbours of e in a list
-abbrev pub link_of : List (ℕ × Node) → ℕ → List ℕ → Link
-link_of rows e ids = record { back = ref_of rows (prev_in None e ids); forth = ref_of rows (next_in e ids) }
+abbrev pub link_of_id : List (ℕ × Node) → ℕ → List ℕ → Link
+link_of_id rows e ids = record { back = ref_of rows (prev_in None e ids); forth = ref_of rows (next_in e ids) }
 
 -- the ids that have r's key in the hashed index of number x, by their stamps
 abbrev pub group : List KeyPart → ℕ → List (ℕ × Node) → List Value → List ℕ
-group ps x rows r = filter (λ a. is_eq (compare_key ps r (content_of rows a).values)) (by_stamp x rows)
+group ps x rows r = filter (λ a. is_eq (compare_key ps r (content_of rows a).values)) (ids_by_stamp x rows)
 
 -- what e remembers in the index of number x: its neighbours in the list, or of its key where the index is hashed
 abbrev pub link_in : ℕ → List (ℕ × Node) → ℕ → Order → Link
 link_in x rows e ById = record { back = None; forth = None }
 link_in x rows e (ByKey ps) = record { back = None; forth = None }
-link_in x rows e (ByHash ps) = link_of rows e (group ps x rows (content_of rows e).values)
-link_in x rows e (Listed ids) = link_of rows e ids
+link_in x rows e (ByHash ps) = link_of_id rows e (group ps x rows (content_of rows e).values)
+link_in x rows e (Listed ids) = link_of_id rows e ids
 
 abbrev pub links_from : ℕ → List (ℕ × Node) → ℕ → List Order → List Link
 links_from x rows e [] = []

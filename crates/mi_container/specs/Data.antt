@@ -92,14 +92,14 @@ abbrev pub ids_of : {A : Type 0} → List (ℕ × A) → List ℕ
 ids_of rows = map (λ r. r.0) rows
 
 -- the ids by their stamps in the index of number x
-abbrev pub by_stamp : ℕ → List (ℕ × Node) → List ℕ
-by_stamp x rows = sorted (on (stamp_of rows x) nat_cmp) (ids_of rows)
+abbrev pub ids_by_stamp : ℕ → List (ℕ × Node) → List ℕ
+ids_by_stamp x rows = sorted (on (stamp_of rows x) nat_cmp) (ids_of rows)
 
 -- the list of the index of number x
 abbrev pub listed : ℕ → List (ℕ × Node) → Order → List ℕ
 listed x rows ById = ids_of rows
-listed x rows (ByKey ps) = by_stamp x rows
-listed x rows (ByHash ps) = by_stamp x rows
+listed x rows (ByKey ps) = ids_by_stamp x rows
+listed x rows (ByHash ps) = ids_by_stamp x rows
 listed x rows (Listed ids) = ids
 
 -- those of each index from number x on

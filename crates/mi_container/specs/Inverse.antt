@@ -112,15 +112,15 @@ abbrev pub id_named : ℕ → List (ℕ × Node) → Option ℕ
 id_named name [] = None
 id_named name (r ∷ rows) = if r.1.at.name == name then Some r.0 else id_named name rows
 
-abbrev pub id_at : List (ℕ × Node) → Option Ref → Option ℕ
-id_at rows None = None
-id_at rows (Some r) = id_named r.name rows
+abbrev pub id_of_ref : List (ℕ × Node) → Option Ref → Option ℕ
+id_of_ref rows None = None
+id_of_ref rows (Some r) = id_named r.name rows
 
 -- e stands again before the neighbour that its node remembers
 abbrev pub relinked : List (ℕ × Node) → ℕ → List Link → List Order → List Order
 relinked rows e [] os = []
 relinked rows e (l ∷ ls) [] = []
-relinked rows e (l ∷ ls) (o ∷ os) = in_order (stand (id_at rows l.forth) e) o ∷ relinked rows e ls os
+relinked rows e (l ∷ ls) (o ∷ os) = in_order (stand (id_of_ref rows l.forth) e) o ∷ relinked rows e ls os
 
 abbrev pub returned : ℕ → Option Kept → Data → Data
 returned e None d = d

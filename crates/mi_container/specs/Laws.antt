@@ -76,9 +76,9 @@ KeptByOne = (s : Shape) (is : List Inverse) (ts : List Table) (d : Data) → IsD
 -- What indexes show
 
 -- each id is before those after it
-abbrev pub Rise : (ℕ → ℕ → Ordering) → List ℕ → Type 0
-Rise order [] = Unit {0}
-Rise order (a ∷ ids) = AllByRecursion (λ b. order a b ≡ Less) ids × Rise order ids
+abbrev pub RiseBy : (ℕ → ℕ → Ordering) → List ℕ → Type 0
+RiseBy order [] = Unit {0}
+RiseBy order (a ∷ ids) = AllByRecursion (λ b. order a b ≡ Less) ids × RiseBy order ids
 
 -- by the keys of the index of number x, and then by the stamps
 abbrev pub stands_before : Shape → Data → ℕ → ℕ → ℕ → Ordering
@@ -87,12 +87,12 @@ stands_before s d x = then_cmp (compare_ids (index_at s x) (table_of d)) (on (st
 -- the live ids by their keys and then by their stamps are what a sorted index with keys shows
 abbrev pub SortedIsShown : Type 0
 SortedIsShown = (s : Shape) (d : Data) (x : ℕ) (ps : List KeyPart) (ids : List ℕ) → IsData s d → x < length d.orders → order_at d.orders x ≡ ByKey ps
-    → ListsEach (table_of d) ids → Rise (stands_before s d x) ids → ids ≡ view s (table_of d) x
+    → ListsEach (table_of d) ids → RiseBy (stands_before s d x) ids → ids ≡ view s (table_of d) x
 
 -- and by their stamps what a hashed one does, which shows those of each key
 abbrev pub HashedIsShown : Type 0
 HashedIsShown = (s : Shape) (d : Data) (x : ℕ) (ps : List KeyPart) (ids : List ℕ) → IsData s d → x < length d.orders → order_at d.orders x ≡ ByHash ps
-    → ListsEach (table_of d) ids → Rise (on (stamp_of d.rows x) nat_cmp) ids → ids ≡ view s (table_of d) x
+    → ListsEach (table_of d) ids → RiseBy (on (stamp_of d.rows x) nat_cmp) ids → ids ≡ view s (table_of d) x
 
 -- the index of the ids shows the live ids in their order
 abbrev pub IdsAreShown : Type 0

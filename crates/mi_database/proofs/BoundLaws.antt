@@ -13,7 +13,7 @@ halvings_reach (suc most) (suc n) le =
     let twice : 2 ^ suc (halvings most (suc n / 2)) ≡ 2 ^ halvings most (suc n / 2) * 2 = pow-suc 2 (halvings most (suc n / 2)) in
     omega (arith, half, twice)
 
-pub below_digits : (n : ℕ) → n < 2 ^ binary_digits n
+below_digits : (n : ℕ) → n < 2 ^ binary_digits n
 below_digits n = halvings_reach n n (omega arith)
 
 below_table : (t u : Table) → t ≡ u → size t < 2 ^ binary_digits (size u)

@@ -95,10 +95,10 @@ module _ {X : Type 0} (shape : X → Shape) (plain : X → Data) (c : CatalogSha
   after_datas : Made shape plain cs after n k k' i j noted_ → map plain after ≡ kept_datas n i j (set (map plain cs) n (plain k'))
   after_datas made = made.datas ∙ ap (kept_datas n i j) (map-set plain cs n k')
 
-  pub made_shapes : Made shape plain cs after n k k' i j noted_ → map shape cs ≡ c.tables → map shape after ≡ c.tables
+  made_shapes : Made shape plain cs after n k k' i j noted_ → map shape cs ≡ c.tables → map shape after ≡ c.tables
   made_shapes made shapes = made.shapes ∙ same_shapes shape cs n k k' made.within made.was made.same ∙ shapes
 
-  pub made_linked : Made shape plain cs after n k k' i j noted_ → map shape cs ≡ c.tables → IsLinked c (map plain cs) j → IsLinked c (map plain after) noted_
+  made_linked : Made shape plain cs after n k k' i j noted_ → map shape cs ≡ c.tables → IsLinked c (map plain cs) j → IsLinked c (map plain after) noted_
   made_linked made shapes linked =
       let t = takes made shapes linked in
       subst (λ q. IsLinked c q noted_) (sym (after_datas made)) (subst (IsLinked c (kept_datas n i j (set (map plain cs) n (plain k')))) (sym made.journal)
@@ -110,7 +110,7 @@ module _ {X : Type 0} (shape : X → Shape) (plain : X → Data) (c : CatalogSha
       let t = takes made shapes linked in
       ap₂ (λ p q. state_of c p q r) (after_datas made) made.journal ∙ kept_state c (map plain cs) j n i (plain k') r t.within t.back
 
-  pub made_many : Made shape plain cs after n k k' i j noted_ → length (map plain after) ≡ length (map plain cs)
+  made_many : Made shape plain cs after n k k' i j noted_ → length (map plain after) ≡ length (map plain cs)
   made_many made = ap length (after_datas made) ∙ kept_length j n i _ ∙ length-set (map plain cs) n (plain k')
 
   pub made_held : (r changes starts changes' starts' : ℕ) → Made shape plain cs after n k k' i j noted_

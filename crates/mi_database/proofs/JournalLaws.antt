@@ -27,7 +27,7 @@ at_same ds n d l = get_or-set_same ds n d _ l
 at_other : (ds : List Data) (n m : ℕ) (d : Data) → m ≢ n → data_at (set ds n d) m ≡ data_at ds m
 at_other ds n m d ne = get_or-set_other ds n m d _ ne
 
-pub tables_set : (ds : List Data) (n : ℕ) (d : Data) → tables_of (set ds n d) ≡ set (tables_of ds) n (table_of d)
+tables_set : (ds : List Data) (n : ℕ) (d : Data) → tables_of (set ds n d) ≡ set (tables_of ds) n (table_of d)
 tables_set ds n d = map-set table_of ds n d
 
 -- the table of a number is that of its container
@@ -96,7 +96,7 @@ linked_alone c ds n i new is l ready back holds =
           ];
     }
 
-pub holds_back : (c : CatalogShape) (es rest : List Entry) (ds : List Data) → AllData c ds → Holds c (es ++ rest) ds → AllData c (unwound es ds)
+holds_back : (c : CatalogShape) (es rest : List Entry) (ds : List Data) → AllData c ds → Holds c (es ++ rest) ds → AllData c (unwound es ds)
     × Holds c rest (unwound es ds)
 holds_back c [] rest ds all holds = (all, holds)
 holds_back c (e ∷ es) rest ds all holds = holds_back c es rest (entry_back e ds) (all_data_set c ds e.0 _ all holds.0 holds.2) holds.3
@@ -112,7 +112,7 @@ linked_popped c ds e es older is = record { each = all_data_set c ds e.0 _ is.ea
 
 -- Squash of one session into another
 
-pub unwound-append : (es fs : List Entry) (ds : List Data) → unwound (es ++ fs) ds ≡ unwound fs (unwound es ds)
+unwound-append : (es fs : List Entry) (ds : List Data) → unwound (es ++ fs) ds ≡ unwound fs (unwound es ds)
 unwound-append [] fs ds = refl
 unwound-append (e ∷ es) fs ds = unwound-append es fs (entry_back e ds)
 
@@ -194,7 +194,7 @@ tables_settled f ds =
     tables_set ds f.0 (settled f.1 (data_at ds f.0)) ∙ ap (set (tables_of ds) f.0) (settled_table f.1 (data_at ds f.0))
     ∙ sym (tables_set ds f.0 (data_at ds f.0)) ∙ ap tables_of (set-get_or ds f.0 _)
 
-pub unwound_settled : (f : Entry) (es : List Entry) (ds : List Data) → AllByRecursion (Beside (length ds) f) es
+unwound_settled : (f : Entry) (es : List Entry) (ds : List Data) → AllByRecursion (Beside (length ds) f) es
     → unwound es (entry_settled f ds) ≡ entry_settled f (unwound es ds)
 unwound_settled f [] ds all = refl
 unwound_settled f (e ∷ es) ds all =

@@ -135,7 +135,7 @@ met_refusal step e old new never m = m.0
 pub plain_keeps : (n : ℕ) (h new : Held) (i : Inverse) → keeps i ≡ None → new.journal ≡ noted (n, i) h.journal → kept_rows new ≡ kept_more [] (kept_rows h)
 plain_keeps n h new i keeps_ journal = ap (map kept_in) journal ∙ note_keeps n i h.journal ∙ ap (λ o. kept_more (kept_by n o) (map kept_in h.journal)) keeps_
 
-pub same_keeps : (h new : Held) → new.journal ≡ h.journal → kept_rows new ≡ kept_more [] (kept_rows h)
+same_keeps : (h new : Held) → new.journal ≡ h.journal → kept_rows new ≡ kept_more [] (kept_rows h)
 same_keeps h new journal = ap (map kept_in) journal ∙ sym (none_more (map kept_in h.journal))
 
 nothing_or : (b : Bool) (x e : ℕ) (d : Data) → keeps (cond {A = Inverse} b Nothing (moved_back x e d)) ≡ None

@@ -24,7 +24,7 @@ newest_split ([] ∷ older) e is = absurd (let h : None ≡ Some e = is in cc)
 newest_split ((x ∷ es) ∷ older) e is = let same : x ≡ e = (let h : Some x ≡ Some e = is in cc) in (es, older, ap (λ q. (q ∷ es) ∷ older) same)
 
 -- without the last
-pub newer_than_push : {A : Type 0} (xs : List A) (y : A) → newer_than_oldest (xs ++ y ∷ []) ≡ xs
+newer_than_push : {A : Type 0} (xs : List A) (y : A) → newer_than_oldest (xs ++ y ∷ []) ≡ xs
 newer_than_push xs y =
     let long : length (xs ++ y ∷ []) ≡ length xs + 1 = length_push xs y in
     let less : length xs ≡ length (xs ++ y ∷ []) - 1 = omega arith in
@@ -68,7 +68,7 @@ module _ {X : Type 0} (shape : X → Shape) (plain : X → Data) (c : CatalogSha
 entries_push : (newer : Journal) (es : List Entry) → entries (newer ++ es ∷ []) ≡ entries newer ++ es
 entries_push newer es = entries-append newer (es ∷ []) ∙ ap (λ q. entries newer ++ q) (append-nil es)
 
-pub entries_oldest : (newer : Journal) (rest : List Entry) (e : Entry) → entries (newer ++ (rest ++ e ∷ []) ∷ []) ≡ entries (newer ++ rest ∷ []) ++ e ∷ []
+entries_oldest : (newer : Journal) (rest : List Entry) (e : Entry) → entries (newer ++ (rest ++ e ∷ []) ∷ []) ≡ entries (newer ++ rest ∷ []) ++ e ∷ []
 entries_oldest newer rest e = entries_push newer (rest ++ e ∷ []) ∙ sym (append_assoc (entries newer) rest (e ∷ []))
     ∙ ap (λ q. q ++ e ∷ []) (sym (entries_push newer rest))
 

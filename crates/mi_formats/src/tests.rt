@@ -1,5 +1,6 @@
 //! Tables of what is read and written.
 
+mod alike;
 mod bound;
 mod lines;
 mod replies;

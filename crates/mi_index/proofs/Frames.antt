@@ -59,17 +59,25 @@ same_stamp order m n s r y = ap (λ (l : Link). l.tag.stamp) y.link
 above_on : (order : Stored → Stored → Ordering) (m n : Pooled Stored) (s : ℕ) (r : Ref) (rs : List Ref) → IsAlike order m n s r → AreAlike order m n s rs
     → AllAbove (stamp_at m s) (stamp_at m s r) rs → AllAbove (stamp_at n s) (stamp_at n s r) rs
 above_on order m n s r [] p all h = tt
-above_on order m n s r (q ∷ rs) p all h = ((let a = h.0 in let b = same_stamp order m n s r p in let c = same_stamp order m n s q all.0 in omega arith), above_on order m n s r rs p all.1 h.1)
+above_on order m n s r (q ∷ rs) p all h = (
+  (let a = h.0 in let b = same_stamp order m n s r p in let c = same_stamp order m n s q all.0 in omega arith),
+  above_on order m n s r rs p all.1 h.1,
+)
 
-climb_on : (order : Stored → Stored → Ordering) (m n : Pooled Stored) (s : ℕ) (rs : List Ref) → AreAlike order m n s rs → Climb (stamp_at m s) rs → Climb (stamp_at n s) rs
+climb_on : (order : Stored → Stored → Ordering) (m n : Pooled Stored) (s : ℕ) (rs : List Ref)
+    → AreAlike order m n s rs → Climb (stamp_at m s) rs → Climb (stamp_at n s) rs
 climb_on order m n s [] all h = tt
 climb_on order m n s (r ∷ rs) all h = (above_on order m n s r rs all.0 all.1 h.0, climb_on order m n s rs all.1 h.1)
 
-pub stands_alike : (x : Structure) (m n : Pooled Stored) (rs : List Ref) → n.slots ≡ m.slots → AreAlike (order_of x) m n (slot_in x) rs → Stands x m rs → Stands x n rs
+pub stands_alike : (x : Structure) (m n : Pooled Stored) (rs : List Ref) → n.slots ≡ m.slots
+    → AreAlike (order_of x) m n (slot_in x) rs → Stands x m rs → Stands x n rs
 stands_alike (Ordered t) m n rs slots y h =
-    tree_where (stored_order t.order.parts) (stored_tag t.order.types t.order.parts) (stored_total t.order.parts) (is_tagged t.order.types t.order.parts).tag_below t m n rs h y (subst (λ k. t.slot < k) (sym slots) h.has_slot)
-stands_alike (Hashed c) m n rs slots y h =
-    (chained_elsewhere c (keying_of c.keys) (keyings_are_lawful c.keys) m n rs slots (all_same c.keys m n c.slot rs h.0.buckets.held y) h.0, climb_on (order_of (Hashed c)) m n c.slot rs y h.1)
+    tree_where (stored_order t.order.parts) (stored_tag t.order.types t.order.parts) (stored_total t.order.parts)
+    (is_tagged t.order.types t.order.parts).tag_below t m n rs h y (subst (λ k. t.slot < k) (sym slots) h.has_slot)
+stands_alike (Hashed c) m n rs slots y h = (
+  chained_elsewhere c (keying_of c.keys) (keyings_are_lawful c.keys) m n rs slots (all_same c.keys m n c.slot rs h.0.buckets.held y) h.0,
+  climb_on (order_of (Hashed c)) m n c.slot rs y h.1,
+)
 stands_alike (Sequenced l) m n rs slots y h = listed_same l m n rs slots (alike_links (Sequenced l) m n (slot_of l) rs y) h
 
 -- the same values compare Equal
@@ -88,7 +96,14 @@ pub record Agree (s : ℕ) (m n : Pooled Stored) : Type 0 where
 
 are_alike : (x : Structure) (m n : Pooled Stored) (rs : List Ref) → Agree (slot_in x) m n → AreAlike (order_of x) m n (slot_in x) rs
 are_alike x m n [] a = tt
-are_alike x m n (r ∷ rs) a = (record { ref = a.refs r.name; link = a.links r.name; value = ap (compared (order_of x) (value_of m r.name)) (a.values r.name) ∙ itself x (value_of m r.name) }, are_alike x m n rs a)
+are_alike x m n (r ∷ rs) a = (
+  record {
+    ref = a.refs r.name;
+    link = a.links r.name;
+    value = ap (compared (order_of x) (value_of m r.name)) (a.values r.name) ∙ itself x (value_of m r.name);
+  },
+  are_alike x m n rs a,
+)
 
 pub stands_same : (x : Structure) (m n : Pooled Stored) (rs : List Ref) → Agree (slot_in x) m n → Stands x m rs → Stands x n rs
 stands_same x m n rs a h = stands_alike x m n rs a.slots (are_alike x m n rs a) h

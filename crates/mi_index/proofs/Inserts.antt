@@ -1,7 +1,7 @@
 -- A new node comes into every index.
 --     like_both      what is like a like one is like it
 --     can_insert, is_inserted      from chains that have grown and a node that was taken
-use Rattle.std.proofs.Common.{◌≡◌, ℕ, ◌+◌, ◌==◌, false, cond, List, [], ◌∷◌, Option, Some, None, refl, sym, ap, ◌∙◌, subst, ◌≤◌, arith}
+use Rattle.std.proofs.Common.{◌≡◌, ℕ, ◌+◌, ◌==◌, false, cond, List, [], ◌∷◌, Option, Some, None, refl, sym, ap, ◌∙◌, subst, arith}
 use Rattle.mi_node.specs.Pool.{Pooled, ref_of, value_of, link_of, taken}
 use Rattle.mi_node.specs.Refs.{Ref}
 use Rattle.mi_node.specs.declared.link.Link.{Link}
@@ -65,9 +65,11 @@ roomy_all (x ∷ xs) [] n g h = absurd g
 roomy_all (x ∷ xs) (y ∷ ys) n g h = (roomy_one x y n g.0 h.0, roomy_all xs ys n g.1 h.1)
 
 -- a place in one is a place in the other
-pub place_like : (x y : Structure) (m : Pooled Stored) (v : Stored) (t : ℕ) (b : Option Ref) (rs : List Ref) → IsLike x y → HasPlaceFor x m v t b rs → HasPlaceFor y m v t b rs
+pub place_like : (x y : Structure) (m : Pooled Stored) (v : Stored) (t : ℕ) (b : Option Ref) (rs : List Ref)
+    → IsLike x y → HasPlaceFor x m v t b rs → HasPlaceFor y m v t b rs
 place_like (Ordered a) (Ordered c) m v t b rs g h =
-    subst (λ s. NoneAre (side_of_value (stored_order c.order.parts) m s v t) Equal rs) (sym g.0) (subst (λ (o : ByKey). NoneAre (side_of_value (stored_order o.parts) m a.slot v t) Equal rs) (sym g.1) h)
+    subst (λ s. NoneAre (side_of_value (stored_order c.order.parts) m s v t) Equal rs) (sym g.0)
+    (subst (λ (o : ByKey). NoneAre (side_of_value (stored_order o.parts) m a.slot v t) Equal rs) (sym g.1) h)
 place_like (Ordered a) (Hashed c) m v t b rs g h = absurd g
 place_like (Ordered a) (Sequenced c) m v t b rs g h = absurd g
 place_like (Hashed a) (Ordered c) m v t b rs g h = absurd g
@@ -99,14 +101,16 @@ tags_but (Sequenced a) k m n o h g = tt
 pub stamp_over : (x y : Structure) (m n o : Pooled Stored) (r : Ref) (t : ℕ) → IsLike x y → OtherTags x r.name m n → HasStamp y n o r t → HasStamp x m o r t
 stamp_over (Ordered a) (Ordered c) m n o r t g tags h =
     let own : stamp_at o a.slot r ≡ t = subst (λ s. stamp_at o s r ≡ t) g.0 h.0 in
-    let others : (q : ℕ) → (r.name == q) ≡ false → (link_of o q a.slot).tag ≡ (link_of n q a.slot).tag = subst (λ s. (q : ℕ) → (r.name == q) ≡ false → (link_of o q s).tag ≡ (link_of n q s).tag) g.0 h.1 in
+    let others : (q : ℕ) → (r.name == q) ≡ false → (link_of o q a.slot).tag ≡ (link_of n q a.slot).tag =
+    subst (λ s. (q : ℕ) → (r.name == q) ≡ false → (link_of o q s).tag ≡ (link_of n q s).tag) g.0 h.1 in
     (own, λ q e. others q e ∙ tags q e)
 stamp_over (Ordered a) (Hashed c) m n o r t g tags h = absurd g
 stamp_over (Ordered a) (Sequenced c) m n o r t g tags h = absurd g
 stamp_over (Hashed a) (Ordered c) m n o r t g tags h = absurd g
 stamp_over (Hashed a) (Hashed c) m n o r t g tags h =
     let own : stamp_at o a.slot r ≡ t = subst (λ s. stamp_at o s r ≡ t) g.0 h.0 in
-    let others : (q : ℕ) → (r.name == q) ≡ false → (link_of o q a.slot).tag ≡ (link_of n q a.slot).tag = subst (λ s. (q : ℕ) → (r.name == q) ≡ false → (link_of o q s).tag ≡ (link_of n q s).tag) g.0 h.1 in
+    let others : (q : ℕ) → (r.name == q) ≡ false → (link_of o q a.slot).tag ≡ (link_of n q a.slot).tag =
+    subst (λ s. (q : ℕ) → (r.name == q) ≡ false → (link_of o q s).tag ≡ (link_of n q s).tag) g.0 h.1 in
     (own, λ q e. others q e ∙ tags q e)
 stamp_over (Hashed a) (Sequenced c) m n o r t g tags h = absurd g
 stamp_over (Sequenced a) (Ordered c) m n o r t g tags h = absurd g
@@ -120,8 +124,13 @@ put_like (Sequenced a) (Ordered c) b ys g h = absurd g
 put_like (Sequenced a) (Hashed c) b ys g h = absurd g
 put_like (Sequenced a) (Sequenced c) b ys g h = h
 
-joined_over : (x y : Structure) (m n o : Pooled Stored) (r : Ref) (t : ℕ) (b : Option Ref) (rs us : List Ref) → IsLike x y → OtherTags x r.name m n → IsJoined y n o r t b rs us → IsJoined x m o r t b rs us
-joined_over x y m n o r t b rs us g tags h = record { joined = h.joined; put = put_like x y b h.joined.ys g h.put; stamped = stamp_over x y m n o r t g tags h.stamped }
+joined_over : (x y : Structure) (m n o : Pooled Stored) (r : Ref) (t : ℕ) (b : Option Ref) (rs us : List Ref)
+    → IsLike x y → OtherTags x r.name m n → IsJoined y n o r t b rs us → IsJoined x m o r t b rs us
+joined_over x y m n o r t b rs us g tags h = record {
+  joined = h.joined;
+  put = put_like x y b h.joined.ys g h.put;
+  stamped = stamp_over x y m n o r t g tags h.stamped;
+}
 
 -- All structures
 
@@ -149,7 +158,8 @@ module _ (m n : Pooled Stored) (r : Ref) (v : Stored) (values : (k : ℕ) → va
   others : (q : ℕ) → (r.name == q) ≡ false → value_of o q ≡ value_of m q
   others q e = (but_taken n r v).values q e ∙ values q
 
-  can_all : (t : ℕ) (b : Option (ℕ × Ref)) (xs ys : List Structure) (s : ℕ) (rss uss : List (List Ref)) → AllLike xs ys → AllDone grown xs s m n rss uss → AllStand ys s n rss → AllCan (inserting v t b) xs s m rss
+  can_all : (t : ℕ) (b : Option (ℕ × Ref)) (xs ys : List Structure) (s : ℕ) (rss uss : List (List Ref))
+      → AllLike xs ys → AllDone grown xs s m n rss uss → AllStand ys s n rss → AllCan (inserting v t b) xs s m rss
       → AllCan (joining All r t b) ys s o rss
   can_all t b [] [] s rss uss like d h c = tt
   can_all t b [] (y ∷ ys) s rss uss like d h c = absurd like
@@ -168,7 +178,8 @@ module _ (m n : Pooled Stored) (r : Ref) (v : Stored) (values : (k : ℕ) → va
         can_all t b xs ys (s + 1) rss uss like.1 d.1 h.2 c.1,
       )
 
-  done_all : (t : ℕ) (b : Option (ℕ × Ref)) (xs ys : List Structure) (s : ℕ) (p : Pooled Stored) (rss uss wss : List (List Ref)) → AllLike xs ys → AllDone grown xs s m n rss uss → AllDone (joined All r t b) ys s o p rss wss
+  done_all : (t : ℕ) (b : Option (ℕ × Ref)) (xs ys : List Structure) (s : ℕ) (p : Pooled Stored) (rss uss wss : List (List Ref))
+      → AllLike xs ys → AllDone grown xs s m n rss uss → AllDone (joined All r t b) ys s o p rss wss
       → AllDone (inserted r t b) xs s m p rss wss
   done_all t b [] [] s p rss uss wss like d j = nothing_done rss wss j
     where
@@ -186,7 +197,8 @@ module _ (m n : Pooled Stored) (r : Ref) (v : Stored) (values : (k : ℕ) → va
     done_all t b xs ys (s + 1) p rss uss wss like.1 d.1 j.1,
   )
 
-module _ (m n : Pooled Stored) (r : Ref) (v : Stored) (t : ℕ) (b : Option (ℕ × Ref)) (xs ys : List Structure) (like : AllLike xs ys) (grow : (q : Ref) → IsPass nothing_asked grown q 0 xs ys m n) (free : ref_of n r.name ≡ None) where
+module _ (m n : Pooled Stored) (r : Ref) (v : Stored) (t : ℕ) (b : Option (ℕ × Ref)) (xs ys : List Structure)
+    (like : AllLike xs ys) (grow : (q : Ref) → IsPass nothing_asked grown q 0 xs ys m n) (free : ref_of n r.name ≡ None) where
   pub can_insert : AreReady (inserting v t b) 0 xs m → AreReady (joining All r t b) 0 ys (taken n r v)
   can_insert q =
       let g = grow r q.rss q.stand (nothing_all xs 0 m q.rss) in
@@ -197,12 +209,14 @@ module _ (m n : Pooled Stored) (r : Ref) (v : Stored) (t : ℕ) (b : Option (ℕ
         can = can_all m n r v g.keeps.values free t b xs ys 0 q.rss g.uss like g.done h q.can;
       }
 
-  pub is_inserted : (zs : List Structure) (p : Pooled Stored) → IsPass (joining All r t b) (joined All r t b) r 0 ys zs (taken n r v) p → (rss : List (List Ref)) → AllStand xs 0 m rss → AllCan (inserting v t b) xs 0 m rss
+  pub is_inserted : (zs : List Structure) (p : Pooled Stored) → IsPass (joining All r t b) (joined All r t b) r 0 ys zs (taken n r v) p
+      → (rss : List (List Ref)) → AllStand xs 0 m rss → AllCan (inserting v t b) xs 0 m rss
       → IsInserted r v t b xs zs m p rss
   is_inserted zs p pass rss stand can =
       let g = grow r rss stand (nothing_all xs 0 m rss) in
       let h = subst (AllStand ys 0 n) (grown_same xs 0 m n rss g.uss g.done) g.stand in
-      let a = pass rss (all_but ys 0 r.name n (taken n r v) rss (but_taken n r v) (out_of_all ys 0 n r.name rss free h) h) (can_all m n r v g.keeps.values free t b xs ys 0 rss g.uss like g.done h can) in
+      let a = pass rss (all_but ys 0 r.name n (taken n r v) rss (but_taken n r v) (out_of_all ys 0 n r.name rss free h) h)
+      (can_all m n r v g.keeps.values free t b xs ys 0 rss g.uss like g.done h can) in
       let k = a.keeps in
       record {
         uss = a.uss;

@@ -2,7 +2,8 @@
 --     cut_at      a list of rising stamps, cut at one that isn't there
 --     chain_placed, fits_again      where a node may join chains, and where it may come back to
 --     chains_stand      chains after a change
-use Rattle.std.proofs.Common.{◌≡◌, ℕ, ◌<◌, ◌≤◌, ◌+◌, ◌^◌, ◌==◌, nat_lt, ◌⊎◌, inl, inr, Bool, true, false, cond, List, [], ◌∷◌, ◌++◌, length, refl, sym, ap, ◌∙◌, subst, arith}
+use Rattle.std.proofs.Common.{◌≡◌, ℕ, ◌<◌, ◌≤◌, ◌+◌, ◌^◌, ◌==◌, nat_lt, ◌⊎◌, inl, inr, Bool, true, false}
+use Rattle.std.proofs.Common.{cond, List, [], ◌∷◌, ◌++◌, length, refl, sym, ap, ◌∙◌, subst, arith}
 use Rattle.std.proofs.lemmas.Bool.{ltb-true, ltb-false}
 use Rattle.mi_node.specs.Pool.{Pooled, link_of, IsHeld, Keeps}
 use Rattle.mi_node.specs.Refs.{Ref, IsOut}
@@ -61,11 +62,15 @@ above_right f n (x ∷ xs) ys h = above_right f n xs ys h.1
 
 climb_with : (f : Ref → ℕ) (r : Ref) (xs ys : List Ref) → Climb f (xs ++ ys) → AllBelow f (f r) xs → AllAbove f (f r) ys → Climb f (xs ++ r ∷ ys)
 climb_with f r [] ys h b a = (a, h)
-climb_with f r (x ∷ xs) ys h b a = (above_both f (f x) xs (r ∷ ys) (above_left f (f x) xs ys h.0) (b.0, above_right f (f x) xs ys h.0), climb_with f r xs ys h.1 b.1 a)
+climb_with f r (x ∷ xs) ys h b a = (
+  above_both f (f x) xs (r ∷ ys) (above_left f (f x) xs ys h.0) (b.0, above_right f (f x) xs ys h.0),
+  climb_with f r xs ys h.1 b.1 a,
+)
 
 pub climb_without : (f : Ref → ℕ) (r : Ref) (xs ys : List Ref) → Climb f (xs ++ r ∷ ys) → Climb f (xs ++ ys)
 climb_without f r [] ys h = h.1
-climb_without f r (x ∷ xs) ys h = (above_both f (f x) xs ys (above_left f (f x) xs (r ∷ ys) h.0) (above_right f (f x) xs (r ∷ ys) h.0).1, climb_without f r xs ys h.1)
+climb_without f r (x ∷ xs) ys h =
+    (above_both f (f x) xs ys (above_left f (f x) xs (r ∷ ys) h.0) (above_right f (f x) xs (r ∷ ys) h.0).1, climb_without f r xs ys h.1)
 
 -- stamps that nodes of other names keep
 module _ (f g : Ref → ℕ) (k : ℕ) (same : (q : Ref) → (k == q.name) ≡ false → g q ≡ f q) where
@@ -81,8 +86,10 @@ module _ (f g : Ref → ℕ) (k : ℕ) (same : (q : Ref) → (k == q.name) ≡ f
   climb_on [] o h = tt
   climb_on (q ∷ rs) o h = (above_on (f q) (g q) rs o.1 (same q o.0) h.0, climb_on rs o.1 h.1)
 
-  climb_in : (r : Ref) (stamp : ℕ) (xs ys : List Ref) → IsOut k (xs ++ ys) → g r ≡ stamp → Climb f (xs ++ ys) → AllBelow f stamp xs → AllAbove f stamp ys → Climb g (xs ++ r ∷ ys)
-  climb_in r stamp xs ys o e h b a = climb_with g r xs ys (climb_on (xs ++ ys) o h) (below_on stamp (g r) xs (out_left k xs ys o) e b) (above_on stamp (g r) ys (out_right k xs ys o) e a)
+  climb_in : (r : Ref) (stamp : ℕ) (xs ys : List Ref) → IsOut k (xs ++ ys) → g r ≡ stamp
+      → Climb f (xs ++ ys) → AllBelow f stamp xs → AllAbove f stamp ys → Climb g (xs ++ r ∷ ys)
+  climb_in r stamp xs ys o e h b a = climb_with g r xs ys (climb_on (xs ++ ys) o h)
+      (below_on stamp (g r) xs (out_left k xs ys o) e b) (above_on stamp (g r) ys (out_right k xs ys o) e a)
 
 -- Chains
 
@@ -98,7 +105,8 @@ pub long_with : (xs ys : List Ref) (r : Ref) → length (xs ++ r ∷ ys) ≡ len
 long_with [] ys r = omega arith
 long_with (x ∷ xs) ys r = let e = long_with xs ys r in omega (arith, e)
 
-pub chain_placed : (k : Keying Stored) (m : Pooled Stored) (s : ℕ) (r : Ref) (stamp : ℕ) (rs xs ys : List Ref) → IsHeld m r → IsOut r.name rs → length rs + 1 < 2 ^ 32 → rs ≡ xs ++ ys
+pub chain_placed : (k : Keying Stored) (m : Pooled Stored) (s : ℕ) (r : Ref) (stamp : ℕ) (rs xs ys : List Ref)
+    → IsHeld m r → IsOut r.name rs → length rs + 1 < 2 ^ 32 → rs ≡ xs ++ ys
     → AllBelow (stamp_at m s) stamp xs → AllAbove (stamp_at m s) stamp ys → IsPlaced k m s r stamp xs ys
 chain_placed k m s r stamp rs xs ys held out few parts below above = record {
   held = held;
@@ -109,22 +117,29 @@ chain_placed k m s r stamp rs xs ys held out few parts below above = record {
 }
 
 -- chains that have become others, of the same slot and keys
-chains_same : (c d : Chains ByHash) (n : Pooled Stored) (us : List Ref) → d.slot ≡ c.slot → d.keys ≡ c.keys → AreChained d (keying_of c.keys) n us → Climb (stamp_at n c.slot) us → Stands (Hashed d) n us
+chains_same : (c d : Chains ByHash) (n : Pooled Stored) (us : List Ref) → d.slot ≡ c.slot → d.keys ≡ c.keys
+    → AreChained d (keying_of c.keys) n us → Climb (stamp_at n c.slot) us → Stands (Hashed d) n us
 chains_same c d n us slot keys h w = (subst (λ (k : ByHash). AreChained d (keying_of k) n us) (sym keys) h, subst (λ s. Climb (stamp_at n s) us) (sym slot) w)
 
 -- after a change that keeps all tags
-pub chains_kept : (c d : Chains ByHash) (m n : Pooled Stored) (us : List Ref) → d.slot ≡ c.slot → d.keys ≡ c.keys → ((k : ℕ) → (link_of n k c.slot).tag ≡ (link_of m k c.slot).tag)
+pub chains_kept : (c d : Chains ByHash) (m n : Pooled Stored) (us : List Ref) → d.slot ≡ c.slot
+    → d.keys ≡ c.keys → ((k : ℕ) → (link_of n k c.slot).tag ≡ (link_of m k c.slot).tag)
     → AreChained d (keying_of c.keys) n us → Climb (stamp_at m c.slot) us → Stands (Hashed d) n us
 chains_kept c d m n us slot keys tags h w = chains_same c d n us slot keys h (subst (λ f. Climb f us) (λ i q. (sym (tags q.name) i).stamp) w)
 
 -- with a node of another stamp
 pub chains_with : (c d : Chains ByHash) (m n : Pooled Stored) (r : Ref) (tag : Tag) (rs xs ys : List Ref) → d.slot ≡ c.slot → d.keys ≡ c.keys
-    → ((k : ℕ) → (link_of n k c.slot).tag ≡ cond (r.name == k) tag (link_of m k c.slot).tag) → (r.name == r.name) ≡ true → IsOut r.name rs → rs ≡ xs ++ ys → Climb (stamp_at m c.slot) rs
-    → AllBelow (stamp_at m c.slot) tag.stamp xs → AllAbove (stamp_at m c.slot) tag.stamp ys → AreChained d (keying_of c.keys) n (xs ++ r ∷ ys) → Stands (Hashed d) n (xs ++ r ∷ ys)
+    → ((k : ℕ) → (link_of n k c.slot).tag ≡ cond (r.name == k) tag (link_of m k c.slot).tag)
+    → (r.name == r.name) ≡ true → IsOut r.name rs → rs ≡ xs ++ ys → Climb (stamp_at m c.slot) rs
+    → AllBelow (stamp_at m c.slot) tag.stamp xs → AllAbove (stamp_at m c.slot) tag.stamp ys
+    → AreChained d (keying_of c.keys) n (xs ++ r ∷ ys) → Stands (Hashed d) n (xs ++ r ∷ ys)
 chains_with c d m n r tag rs xs ys slot keys tags itself out parts climb below above h =
-    let other : (q : Ref) → (r.name == q.name) ≡ false → stamp_at n c.slot q ≡ stamp_at m c.slot q = λ q e. ap (λ (t : Tag). t.stamp) (tags q.name ∙ ap (λ b. cond b tag (link_of m q.name c.slot).tag) e) in
+    let other : (q : Ref) → (r.name == q.name) ≡ false → stamp_at n c.slot q ≡ stamp_at m c.slot q = λ q e.
+    ap (λ (t : Tag). t.stamp) (tags q.name ∙ ap (λ b. cond b tag (link_of m q.name c.slot).tag) e) in
     let own : stamp_at n c.slot r ≡ tag.stamp = ap (λ (t : Tag). t.stamp) (tags r.name ∙ ap (λ b. cond b tag (link_of m r.name c.slot).tag) itself) in
-    chains_same c d n (xs ++ r ∷ ys) slot keys h (climb_in (stamp_at m c.slot) (stamp_at n c.slot) r.name other r tag.stamp xs ys (subst (IsOut r.name) parts out) own (subst (Climb (stamp_at m c.slot)) parts climb) below above)
+    chains_same c d n (xs ++ r ∷ ys) slot keys h
+    (climb_in (stamp_at m c.slot) (stamp_at n c.slot) r.name other r tag.stamp xs ys
+    (subst (IsOut r.name) parts out) own (subst (Climb (stamp_at m c.slot)) parts climb) below above)
 
 -- what a call keeps of the nodes that stay, it keeps of them and the node
 pub keeps_with : (s : ℕ) (m n : Pooled Stored) (r : Ref) (rs xs ys : List Ref) → rs ≡ xs ++ r ∷ ys → Keeps m n s (xs ++ ys) → Keeps m n s (r ∷ rs)

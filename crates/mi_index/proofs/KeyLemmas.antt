@@ -9,7 +9,7 @@ use Rattle.std.specs.declared.cmp.Ordering.TheVariants.{Less, Equal, Greater}
 use Rattle.mi_value.specs.declared.value.Value.{Value}
 use Rattle.mi_value.specs.declared.value.Value.TheVariants.{Int}
 use Rattle.mi_value.specs.Order.{compare_value, compare_prefix}
-use Rattle.mi_index.specs.Orders.{id_part}
+use Rattle.mi_model.specs.Key.{id_part}
 
 then_equal : (o : Ordering) → ordering_then o Equal ≡ o
 then_equal Less = refl
@@ -22,10 +22,12 @@ no_parts [] h = refl
 no_parts (p ∷ ps) h = absurd (let e : length (p ∷ ps) ≡ 0 = eqb-true (length (p ∷ ps)) 0 h in omega (arith, e))
 
 -- a key of one value compares as the value, and one of more values is never an id
-pub one_value : (first : Value) (rest : List Value) (id : ℕ) → (length rest == 0) ≡ true → compare_prefix id_part (first ∷ rest) (Int (pos id) ∷ []) ≡ compare_value first (Int (pos id))
+pub one_value : (first : Value) (rest : List Value) (id : ℕ) → (length rest == 0) ≡ true
+    → compare_prefix id_part (first ∷ rest) (Int (pos id) ∷ []) ≡ compare_value first (Int (pos id))
 one_value first [] id h = then_equal (compare_value first (Int (pos id)))
 one_value first (v ∷ vs) id h = absurd (let e : length (v ∷ vs) ≡ 0 = eqb-true (length (v ∷ vs)) 0 h in omega (arith, e))
 
-pub more_values : (first : Value) (rest : List Value) (id : ℕ) → (length rest == 0) ≡ false → compare_prefix id_part (first ∷ rest) (Int (pos id) ∷ []) ≡ ordering_then (compare_value first (Int (pos id))) Greater
+pub more_values : (first : Value) (rest : List Value) (id : ℕ) → (length rest == 0) ≡ false
+    → compare_prefix id_part (first ∷ rest) (Int (pos id) ∷ []) ≡ ordering_then (compare_value first (Int (pos id))) Greater
 more_values first [] id h = absurd (eqb-false 0 0 h refl)
 more_values first (v ∷ vs) id h = refl

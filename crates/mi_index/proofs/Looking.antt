@@ -15,7 +15,10 @@ use Rattle.mi_index.proofs.Others.{nodes_held}
 
 pub first_filter : (f : Ref → Bool) (rs : List Ref) → first_of (filter f rs) None ≡ first_where f rs
 first_filter f [] = refl
-first_filter f (r ∷ rs) = (elim (f r) as (λ b. first_of (cond b (r ∷ filter f rs) (filter f rs)) None ≡ cond b (Some r) (first_where f rs)) [ true ↦ refl | false ↦ first_filter f rs ])
+first_filter f (r ∷ rs) = (elim (f r) as (λ b. first_of (cond b (r ∷ filter f rs) (filter f rs)) None ≡ cond b (Some r) (first_where f rs)) [
+  | true ↦ refl
+  | false ↦ first_filter f rs
+])
 
 pub none_where : (rs : List Ref) → None ≡ first_where (λ q. false) rs
 none_where [] = refl

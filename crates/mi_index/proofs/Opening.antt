@@ -21,7 +21,7 @@ use Rattle.mi_index.specs.Pass.{AllStand, AllCan, AreReady}
 use Rattle.mi_index.specs.Inserting.{inserting}
 use Rattle.mi_index.specs.Rekeying.{HasPlaceFor}
 use Rattle.std.specs.declared.option.Option.TheVariants.{None}
-use Rattle.mi_index.specs.Opened.{IsFor, AllFor, IsEmpty, AllEmpty, empties, IsOpened}
+use Rattle.mi_index.specs.Opened.{IsOpenedFor, AllOpenedFor, IsEmpty, AllEmpty, empties, IsOpened}
 use Rattle.mi_index.specs.declared.stored.Stored.{Stored}
 use Rattle.mi_index.specs.declared.structure.Structure.{Structure}
 use Rattle.mi_index.specs.declared.structure.Structure.TheVariants.{Ordered, Hashed, Sequenced}
@@ -36,19 +36,25 @@ few_of n (i ∷ is) h = let few : length is ≤ MAX_INDEXES = leb-true (length i
 pub few_indexes : (s : Shape) → is_schema s ≡ true → length s.indexes ≤ 16
 few_indexes s h = few_of (length s.columns) s.indexes (and_parts _ _ (and_parts _ _ h).0).1
 
-stands_empty : (cs : List Column) (i : Index) (s : ℕ) (x : Structure) (m : Pooled Stored) → IsFor cs i s x → IsEmpty x → s < m.slots → (slot_in x ≡ s) × Stands x m []
-stands_empty cs i s (Ordered t) m f e l = (f.3, tree_empty t m (stored_order t.order.parts) (stored_tag t.order.types t.order.parts) e (subst (λ k. k < m.slots) (sym f.3) l))
+stands_empty : (cs : List Column) (i : Index) (s : ℕ) (x : Structure) (m : Pooled Stored)
+    → IsOpenedFor cs i s x → IsEmpty x → s < m.slots → (slot_in x ≡ s) × Stands x m []
+stands_empty cs i s (Ordered t) m f e l = (
+  f.3,
+  tree_empty t m (stored_order t.order.parts) (stored_tag t.order.types t.order.parts) e (subst (λ k. k < m.slots) (sym f.3) l),
+)
 stands_empty cs i s (Hashed c) m f e l = (f.2, (new_chains c c.slot c.keys (keying_of c.keys) m e (subst (λ k. k < m.slots) (sym f.2) l), tt))
 stands_empty cs i s (Sequenced q) m f e l = (f.1, listed_new q (slot_of q) m e (subst (λ k. k < m.slots) (sym f.1) l))
 
-all_empty : (cs : List Column) (is : List Index) (s : ℕ) (xs : List Structure) (m : Pooled Stored) → AllFor cs is s xs → AllEmpty xs → s + length is ≤ m.slots → AllStand xs s m (empties xs)
+all_empty : (cs : List Column) (is : List Index) (s : ℕ) (xs : List Structure) (m : Pooled Stored)
+    → AllOpenedFor cs is s xs → AllEmpty xs → s + length is ≤ m.slots → AllStand xs s m (empties xs)
 all_empty cs [] s [] m f e l = tt
 all_empty cs [] s (x ∷ xs) m f e l = absurd f
 all_empty cs (i ∷ is) s [] m f e l = absurd f
 all_empty cs (i ∷ is) s (x ∷ xs) m f e l =
     let h = stands_empty cs i s x m f.0 e.0 (omega (arith, l)) in (h.0, h.1, all_empty cs is (s + 1) xs m f.1 e.1 (omega (arith, l)))
 
-pub is_opened : (s : Shape) (xs : List Structure) (m : Pooled Stored) → m ≡ no_nodes (length s.indexes) → AllFor s.columns s.indexes 0 xs → AllEmpty xs → IsOpened s m xs
+pub is_opened : (s : Shape) (xs : List Structure) (m : Pooled Stored) → m ≡ no_nodes (length s.indexes)
+    → AllOpenedFor s.columns s.indexes 0 xs → AllEmpty xs → IsOpened s m xs
 is_opened s xs m is f e =
     let slots : m.slots ≡ length s.indexes = ap (λ (n : Pooled Stored). n.slots) is ∙ slots-no_nodes Stored (length s.indexes) in
     record { pool = is; kinds = f; stand = all_empty s.columns s.indexes 0 xs m f e (omega (arith, slots)) }

@@ -11,7 +11,8 @@ use Rattle.mi_node.specs.Refs.{Ref, first_of, last_of, IsOut, IsApart}
 use Rattle.mi_node.specs.Neighbours.{AreHeld}
 use Rattle.mi_node.specs.declared.link.Tag.{Tag}
 use Rattle.mi_node.proofs.Refs.{out_left, out_right}
-use Rattle.mi_node.proofs.Callers.{slots-taken, ref-taken, value-taken, link-taken, slots-without, ref-without, value-without, link-without, slots-with_value, ref-with_value, value_there, link-with_value}
+use Rattle.mi_node.proofs.Callers.{slots-taken, ref-taken, value-taken, link-taken, slots-without, ref-without, value-without}
+use Rattle.mi_node.proofs.Callers.{link-without, slots-with_value, ref-with_value, value_there, link-with_value}
 use Rattle.mi_node.proofs.Keeping.{absent_out}
 use Rattle.mi_list.proofs.Frames.{listed_held}
 use Rattle.mi_tree.specs.Sorted.{NoneAre, compared, by_stamp, stamped, item_of, side_of_new}
@@ -64,14 +65,19 @@ but_value m k v = record {
 alike_but : (x : Structure) (k : ℕ) (m n : Pooled Stored) (rs : List Ref) → AgreeBut k m n → IsOut k rs → AreAlike (order_of x) m n (slot_in x) rs
 alike_but x k m n [] a o = tt
 alike_but x k m n (q ∷ rs) a o = (
-  record { ref = a.refs q.name o.0; link = a.links q.name (slot_in x) o.0; value = ap (compared (order_of x) (value_of m q.name)) (a.values q.name o.0) ∙ itself x (value_of m q.name) },
+  record {
+    ref = a.refs q.name o.0;
+    link = a.links q.name (slot_in x) o.0;
+    value = ap (compared (order_of x) (value_of m q.name)) (a.values q.name o.0) ∙ itself x (value_of m q.name);
+  },
   alike_but x k m n rs a o.1,
 )
 
 pub stands_but : (x : Structure) (k : ℕ) (m n : Pooled Stored) (rs : List Ref) → AgreeBut k m n → IsOut k rs → Stands x m rs → Stands x n rs
 stands_but x k m n rs a o h = stands_alike x m n rs a.slots (alike_but x k m n rs a o) h
 
-pub all_but : (xs : List Structure) (s k : ℕ) (m n : Pooled Stored) (rss : List (List Ref)) → AgreeBut k m n → IsOutOfAll k rss → AllStand xs s m rss → AllStand xs s n rss
+pub all_but : (xs : List Structure) (s k : ℕ) (m n : Pooled Stored) (rss : List (List Ref))
+    → AgreeBut k m n → IsOutOfAll k rss → AllStand xs s m rss → AllStand xs s n rss
 all_but [] s k m n [] a o h = tt
 all_but [] s k m n (rs ∷ rss) a o h = absurd h
 all_but (x ∷ xs) s k m n [] a o h = absurd h
@@ -106,7 +112,8 @@ OtherTags (Sequenced l) k m n = Unit {0}
 
 -- what holds of functions that are alike for all other nodes
 module _ (k : ℕ) where
-  none_on : (f g : Ref → Ordering) (o : Ordering) (rs : List Ref) → ((q : Ref) → (k == q.name) ≡ false → g q ≡ f q) → IsOut k rs → NoneAre f o rs → NoneAre g o rs
+  none_on : (f g : Ref → Ordering) (o : Ordering) (rs : List Ref)
+      → ((q : Ref) → (k == q.name) ≡ false → g q ≡ f q) → IsOut k rs → NoneAre f o rs → NoneAre g o rs
   none_on f g o [] same out h = tt
   none_on f g o (q ∷ rs) same out h = ((λ e. h.0 (sym (same q out.0) ∙ e)), none_on f g o rs same out.1 h.1)
 
@@ -127,14 +134,18 @@ module _ (k : ℕ) where
   filter_on f g (q ∷ rs) same out = λ i. cond (same q out.0 i) (q ∷ filter_on f g rs same out.1 i) (filter_on f g rs same out.1 i)
 
 -- the node r has the value v in n, and all other nodes have there the values that they have in m
-module _ (m n : Pooled Stored) (r : Ref) (v : Stored) (own : value_of n r.name ≡ Some v) (values : (q : ℕ) → (r.name == q) ≡ false → value_of n q ≡ value_of m q) where
-  side_seen : (order : Stored → Stored → Ordering) (s t : ℕ) → ((q : ℕ) → (r.name == q) ≡ false → (link_of n q s).tag ≡ (link_of m q s).tag) → (q : Ref) → (r.name == q.name) ≡ false
+module _ (m n : Pooled Stored) (r : Ref) (v : Stored) (own : value_of n r.name ≡ Some v)
+    (values : (q : ℕ) → (r.name == q) ≡ false → value_of n q ≡ value_of m q) where
+  side_seen : (order : Stored → Stored → Ordering) (s t : ℕ)
+      → ((q : ℕ) → (r.name == q) ≡ false → (link_of n q s).tag ≡ (link_of m q s).tag) → (q : Ref) → (r.name == q.name) ≡ false
       → side_of_new order n s r t q ≡ side_of_value order m s v t q
   unfolding side_of_new item_of
   side_seen order s t tags q e = λ i. compared (by_stamp order) (stamped (own i) t) (stamped (values q.name e i) (tags q.name e i).stamp)
 
-  pub place_seen : (x : Structure) (t : ℕ) (b : Option Ref) (rs : List Ref) → OtherTags x r.name m n → IsOut r.name rs → HasPlaceFor x m v t b rs → HasPlace x n r t b rs
-  place_seen (Ordered u) t b rs tags out h = none_on r.name (side_of_value (stored_order u.order.parts) m u.slot v t) (side_of_new (stored_order u.order.parts) n u.slot r t) Equal rs (side_seen (stored_order u.order.parts) u.slot t tags) out h
+  pub place_seen : (x : Structure) (t : ℕ) (b : Option Ref) (rs : List Ref)
+      → OtherTags x r.name m n → IsOut r.name rs → HasPlaceFor x m v t b rs → HasPlace x n r t b rs
+  place_seen (Ordered u) t b rs tags out h = none_on r.name (side_of_value (stored_order u.order.parts) m u.slot v t)
+      (side_of_new (stored_order u.order.parts) n u.slot r t) Equal rs (side_seen (stored_order u.order.parts) u.slot t tags) out h
   place_seen (Hashed c) t b rs tags out h = has_on r.name (stamp_at m c.slot) (stamp_at n c.slot) t rs (λ q e. ap (λ (z : Tag). z.stamp) (tags q.name e)) out h
   place_seen (Sequenced l) t b rs tags out h = h
 
@@ -142,9 +153,11 @@ module _ (m n : Pooled Stored) (r : Ref) (v : Stored) (own : value_of n r.name �
   unfolding same_nodes
   key_seen c q e = λ i. same_values (has_one_key c.keys.parts) (own i) (values q.name e i)
 
-  pub old_place_seen : (x : Structure) (p : Place) (rs : List Ref) → OtherTags x r.name m n → IsOut r.name rs → HasOldPlaceFor x m v p rs → HasOldPlace x n r p rs
+  pub old_place_seen : (x : Structure) (p : Place) (rs : List Ref) → OtherTags x r.name m n
+      → IsOut r.name rs → HasOldPlaceFor x m v p rs → HasOldPlace x n r p rs
   old_place_seen (Ordered u) p rs tags out h =
-      none_on r.name (side_of_value (stored_order u.order.parts) m u.slot v p.stamp) (side_of_new (stored_order u.order.parts) n u.slot r p.stamp) Equal rs (side_seen (stored_order u.order.parts) u.slot p.stamp tags) out h
+      none_on r.name (side_of_value (stored_order u.order.parts) m u.slot v p.stamp) (side_of_new (stored_order u.order.parts) n u.slot r p.stamp)
+      Equal rs (side_seen (stored_order u.order.parts) u.slot p.stamp tags) out h
   old_place_seen (Hashed c) p rs tags out h =
       let o = subst (IsOut r.name) h.parts out in
       let left = out_left r.name h.xs h.ys o in let right = out_right r.name h.xs h.ys o in

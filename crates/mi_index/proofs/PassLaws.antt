@@ -16,11 +16,17 @@ differs : (s t : ℕ) → s < t → (s == t) ≡ false
 differs s t l = grind arith
 
 -- the slot of a structure from a place on, after a change in an earlier slot
-pub agree_later : (x : Structure) (t i : ℕ) (m n : Pooled Stored) (us : List Ref) → Keeps m n i us → i < t → slot_in x ≡ t → Agree (slot_in x) m n
-agree_later x t i m n us g l e = record { refs = g.refs; values = g.values; slots = g.slots; links = λ k. g.other_slots k (slot_in x) (ap (λ j. i == j) e ∙ differs i t l) }
+agree_later : (x : Structure) (t i : ℕ) (m n : Pooled Stored) (us : List Ref) → Keeps m n i us → i < t → slot_in x ≡ t → Agree (slot_in x) m n
+agree_later x t i m n us g l e = record {
+  refs = g.refs;
+  values = g.values;
+  slots = g.slots;
+  links = λ k. g.other_slots k (slot_in x) (ap (λ j. i == j) e ∙ differs i t l);
+}
 
 -- the slot of the first, after changes in later ones
-pub agree_first : (x : Structure) (s : ℕ) (n o : Pooled Stored) (r : Ref) (rss : List (List Ref)) → KeepsFrom n o (s + 1) r rss → slot_in x ≡ s → Agree (slot_in x) n o
+agree_first : (x : Structure) (s : ℕ) (n o : Pooled Stored) (r : Ref) (rss : List (List Ref))
+    → KeepsFrom n o (s + 1) r rss → slot_in x ≡ s → Agree (slot_in x) n o
 agree_first x s n o r rss q e = record { refs = q.refs; values = q.values; slots = q.slots; links = λ k. q.earlier_slots k (slot_in x) (omega (arith, e)) }
 
 pub like_slot : (x y : Structure) → IsLike x y → slot_in y ≡ slot_in x
@@ -34,14 +40,20 @@ like_slot (Sequenced l) (Ordered u) h = absurd h
 like_slot (Sequenced l) (Hashed d) h = absurd h
 like_slot (Sequenced l) (Sequenced k) h = h
 
-pub all_stand : (xs : List Structure) (t i : ℕ) (m n : Pooled Stored) (us : List Ref) (rss : List (List Ref)) → Keeps m n i us → i < t → AllStand xs t m rss → AllStand xs t n rss
+all_stand : (xs : List Structure) (t i : ℕ) (m n : Pooled Stored) (us : List Ref) (rss : List (List Ref))
+    → Keeps m n i us → i < t → AllStand xs t m rss → AllStand xs t n rss
 all_stand [] t i m n us [] g l h = tt
 all_stand [] t i m n us (rs ∷ rss) g l h = absurd h
 all_stand (x ∷ xs) t i m n us [] g l h = absurd h
-all_stand (x ∷ xs) t i m n us (rs ∷ rss) g l h = (h.0, stands_same x m n rs (agree_later x t i m n us g l h.0) h.1, all_stand xs (t + 1) i m n us rss g (omega arith) h.2)
+all_stand (x ∷ xs) t i m n us (rs ∷ rss) g l h = (
+  h.0,
+  stands_same x m n rs (agree_later x t i m n us g l h.0) h.1,
+  all_stand xs (t + 1) i m n us rss g (omega arith) h.2,
+)
 
 -- links that were set, in both parts
-pub both_keep : (s i : ℕ) (m n o : Pooled Stored) (r : Ref) (rs : List Ref) (rss : List (List Ref)) → i ≡ s → Keeps m n i (r ∷ rs) → KeepsFrom n o (s + 1) r rss → KeepsFrom m o s r (rs ∷ rss)
+both_keep : (s i : ℕ) (m n o : Pooled Stored) (r : Ref) (rs : List Ref) (rss : List (List Ref))
+    → i ≡ s → Keeps m n i (r ∷ rs) → KeepsFrom n o (s + 1) r rss → KeepsFrom m o s r (rs ∷ rss)
 both_keep s i m n o r rs rss e g q = record {
   refs = λ k. q.refs k ∙ g.refs k;
   values = λ k. q.values k ∙ g.values k;
@@ -54,18 +66,26 @@ both_keep s i m n o r rs rss e g q = record {
     later s t l = grind arith
 
 module _ (P : Asks) (Q : Gives) (stays : Stays P) (before : Before Q) (after : After Q) where
-  all_can : (xs : List Structure) (t i : ℕ) (m n : Pooled Stored) (us : List Ref) (rss : List (List Ref)) → Keeps m n i us → i < t → AllStand xs t m rss → AllCan P xs t m rss → AllCan P xs t n rss
+  all_can : (xs : List Structure) (t i : ℕ) (m n : Pooled Stored) (us : List Ref) (rss : List (List Ref))
+      → Keeps m n i us → i < t → AllStand xs t m rss → AllCan P xs t m rss → AllCan P xs t n rss
   all_can [] t i m n us rss g l h c = tt
   all_can (x ∷ xs) t i m n us [] g l h c = tt
-  all_can (x ∷ xs) t i m n us (rs ∷ rss) g l h c = (stays t x m n rs h.0 (agree_later x t i m n us g l h.0) c.0, all_can xs (t + 1) i m n us rss g (omega arith) h.2 c.1)
+  all_can (x ∷ xs) t i m n us (rs ∷ rss) g l h c = (
+    stays t x m n rs h.0 (agree_later x t i m n us g l h.0) c.0,
+    all_can xs (t + 1) i m n us rss g (omega arith) h.2 c.1,
+  )
 
-  all_done : (xs : List Structure) (t i : ℕ) (k m n : Pooled Stored) (us : List Ref) (rss uss : List (List Ref)) → Keeps k m i us → i < t → AllStand xs t k rss → AllDone Q xs t m n rss uss → AllDone Q xs t k n rss uss
+  all_done : (xs : List Structure) (t i : ℕ) (k m n : Pooled Stored) (us : List Ref) (rss uss : List (List Ref))
+      → Keeps k m i us → i < t → AllStand xs t k rss → AllDone Q xs t m n rss uss → AllDone Q xs t k n rss uss
   all_done [] t i k m n us [] [] g l h d = tt
   all_done [] t i k m n us [] (ws ∷ uss) g l h d = absurd d
   all_done [] t i k m n us (rs ∷ rss) uss g l h d = absurd h
   all_done (x ∷ xs) t i k m n us [] uss g l h d = absurd h
   all_done (x ∷ xs) t i k m n us (rs ∷ rss) [] g l h d = absurd d
-  all_done (x ∷ xs) t i k m n us (rs ∷ rss) (ws ∷ uss) g l h d = (before t x k m n rs ws h.0 (agree_later x t i k m us g l h.0) d.0, all_done xs (t + 1) i k m n us rss uss g (omega arith) h.2 d.1)
+  all_done (x ∷ xs) t i k m n us (rs ∷ rss) (ws ∷ uss) g l h d = (
+    before t x k m n rs ws h.0 (agree_later x t i k m us g l h.0) d.0,
+    all_done xs (t + 1) i k m n us rss uss g (omega arith) h.2 d.1,
+  )
 
   module _ (r : Ref) (x : Structure) (xs : List Structure) (s : ℕ) (m : Pooled Stored) where
     pub head_ready : AreReady P s (x ∷ xs) m → IsReady P s x m
@@ -83,7 +103,11 @@ module _ (P : Asks) (Q : Gives) (stays : Stays P) (before : Before Q) (after : A
           at_tail [] h c = absurd h
           at_tail (rs ∷ rss) h c =
               let g = (step rs h.1 c.0).keeps in let l : slot_in x < s + 1 = (let e = h.0 in omega arith) in
-              record { rss = rss; stand = all_stand xs (s + 1) (slot_in x) m n (r ∷ rs) rss g l h.2; can = all_can xs (s + 1) (slot_in x) m n (r ∷ rs) rss g l h.2 c.1 }
+              record {
+                rss = rss;
+                stand = all_stand xs (s + 1) (slot_in x) m n (r ∷ rs) rss g l h.2;
+                can = all_can xs (s + 1) (slot_in x) m n (r ∷ rs) rss g l h.2 c.1;
+              }
 
       pub passed : (ys : List Structure) (o : Pooled Stored) → IsLike x y → IsPass P Q r (s + 1) xs ys n o → IsPass P Q r s (x ∷ xs) (y ∷ ys) m o
       passed ys o like tail [] h c = absurd h
@@ -93,13 +117,21 @@ module _ (P : Asks) (Q : Gives) (stays : Stays P) (before : Before Q) (after : A
           let e : slot_in y ≡ s = like_slot x y like ∙ h.0 in
           record {
             uss = a.us ∷ z.uss;
-            done = (after s x m n o rs a.us h.0 (agree_first x s n o r rss z.keeps h.0) a.done, all_done xs (s + 1) (slot_in x) m n o (r ∷ rs) rss z.uss g l h.2 z.done);
+            done = (
+              after s x m n o rs a.us h.0 (agree_first x s n o r rss z.keeps h.0) a.done,
+              all_done xs (s + 1) (slot_in x) m n o (r ∷ rs) rss z.uss g l h.2 z.done,
+            );
             stand = (e, stands_same y n o a.us (agree_first y s n o r rss z.keeps e) a.stands, z.stand);
             keeps = both_keep s (slot_in x) m n o r rs rss h.0 g z.keeps;
           }
 
   -- no structure is left
   pub none_left : (r : Ref) (xs : List Structure) (s : ℕ) (m : Pooled Stored) → xs ≡ [] → IsPass P Q r s xs xs m m
-  none_left r [] s m none [] h c = record { uss = []; done = tt; stand = tt; keeps = record { refs = λ k. refl; values = λ k. refl; slots = refl; earlier_slots = λ k t l. refl; other_nodes = λ k t d out. refl } }
+  none_left r [] s m none [] h c = record {
+    uss = [];
+    done = tt;
+    stand = tt;
+    keeps = record { refs = λ k. refl; values = λ k. refl; slots = refl; earlier_slots = λ k t l. refl; other_nodes = λ k t d out. refl };
+  }
   none_left r [] s m none (rs ∷ rss) h c = absurd h
   none_left r (x ∷ xs) s m none rss h c = absurd (cc)

@@ -2,7 +2,8 @@
 --     cut_once      a list without doubles is cut at a node in one way
 --     can_leave, can_rejoin, is_rekeyed      with a new stamp
 --     can_leave_for, can_return, is_returned      to the places that are given
-use Rattle.std.proofs.Common.{◌≡◌, ℕ, ◌+◌, ◌<◌, ◌^◌, ◌==◌, Bool, true, false, cond, List, [], ◌∷◌, ◌++◌, length, Option, Some, None, option_map, refl, sym, ap, ◌∙◌, subst, arith}
+use Rattle.std.proofs.Common.{◌≡◌, ℕ, ◌+◌, ◌<◌, ◌^◌, ◌==◌, Bool, true, false, cond, List, [], ◌∷◌, ◌++◌}
+use Rattle.std.proofs.Common.{length, Option, Some, None, option_map, refl, sym, ap, ◌∙◌, subst, arith}
 use Rattle.std.specs.declared.cmp.Ordering.TheVariants.{Equal}
 use Rattle.mi_node.specs.Pool.{Pooled, ref_of, value_of, link_of, IsHeld, with_value}
 use Rattle.mi_node.specs.Refs.{Ref, first_of, last_of, IsOut, IsApart}
@@ -43,7 +44,7 @@ head_of e = cc
 tail_of : {a b : Ref} {xs ys : List Ref} → (a ∷ xs) ≡ (b ∷ ys) → xs ≡ ys
 tail_of e = cc
 
-pub cut_once : (r : Ref) (xs ys us vs : List Ref) → IsApart (xs ++ r ∷ ys) → xs ++ r ∷ ys ≡ us ++ r ∷ vs → (xs ++ ys) ≡ (us ++ vs)
+cut_once : (r : Ref) (xs ys us vs : List Ref) → IsApart (xs ++ r ∷ ys) → xs ++ r ∷ ys ≡ us ++ r ∷ vs → (xs ++ ys) ≡ (us ++ vs)
 cut_once r [] ys [] vs a e = tail_of e
 cut_once r [] ys (u ∷ us) vs a e = absurd (not_out r us vs (subst (IsOut r.name) (tail_of e) a.0))
 cut_once r (x ∷ xs) ys [] vs a e = absurd (not_out r xs ys (subst (λ (z : Ref). IsOut z.name (xs ++ r ∷ ys)) (head_of e) a.0))
@@ -64,7 +65,8 @@ order_like (Sequenced a) (Sequenced c) g = refl
 
 -- the node's own value may be exchanged for one that compares Equal
 module _ (m : Pooled Stored) (r : Ref) (v : Stored) where
-  alike_own : (x : Structure) (q : Ref) → ((old : Stored) → value_of m r.name ≡ Some old → order_of x old v ≡ Equal) → IsAlike (order_of x) m (with_value m r.name v) (slot_in x) q
+  alike_own : (x : Structure) (q : Ref) → ((old : Stored) → value_of m r.name ≡ Some old → order_of x old v ≡ Equal)
+      → IsAlike (order_of x) m (with_value m r.name v) (slot_in x) q
   alike_own x q e = record {
     ref = ref-with_value m r.name v q.name;
     link = link-with_value m r.name v q.name (slot_in x);
@@ -79,18 +81,22 @@ module _ (m : Pooled Stored) (r : Ref) (v : Stored) where
       here None is = refl
       here (Some old) is = e old is
 
-  alike_all : (x : Structure) (us : List Ref) → ((old : Stored) → value_of m r.name ≡ Some old → order_of x old v ≡ Equal) → AreAlike (order_of x) m (with_value m r.name v) (slot_in x) us
+  alike_all : (x : Structure) (us : List Ref) → ((old : Stored) → value_of m r.name ≡ Some old → order_of x old v ≡ Equal)
+      → AreAlike (order_of x) m (with_value m r.name v) (slot_in x) us
   alike_all x [] e = tt
   alike_all x (q ∷ us) e = (alike_own x q e, alike_all x us e)
 
-  stands_own : (x : Structure) (us : List Ref) → ((old : Stored) → value_of m r.name ≡ Some old → order_of x old v ≡ Equal) → Stands x m us → Stands x (with_value m r.name v) us
+  stands_own : (x : Structure) (us : List Ref) → ((old : Stored) → value_of m r.name ≡ Some old → order_of x old v ≡ Equal)
+      → Stands x m us → Stands x (with_value m r.name v) us
   stands_own x us e h = stands_alike x m (with_value m r.name v) us (slots-with_value m r.name v) (alike_all x us e) h
 
 -- Places in a structure of one kind
 
-old_place_like : (x y : Structure) (m : Pooled Stored) (v : Stored) (p : Place) (rs : List Ref) → IsLike x y → HasOldPlaceFor x m v p rs → HasOldPlaceFor y m v p rs
+old_place_like : (x y : Structure) (m : Pooled Stored) (v : Stored) (p : Place) (rs : List Ref)
+    → IsLike x y → HasOldPlaceFor x m v p rs → HasOldPlaceFor y m v p rs
 old_place_like (Ordered a) (Ordered c) m v p rs g h =
-    subst (λ s. NoneAre (side_of_value (stored_order c.order.parts) m s v p.stamp) Equal rs) (sym g.0) (subst (λ (o : ByKey). NoneAre (side_of_value (stored_order o.parts) m a.slot v p.stamp) Equal rs) (sym g.1) h)
+    subst (λ s. NoneAre (side_of_value (stored_order c.order.parts) m s v p.stamp) Equal rs) (sym g.0)
+    (subst (λ (o : ByKey). NoneAre (side_of_value (stored_order o.parts) m a.slot v p.stamp) Equal rs) (sym g.1) h)
 old_place_like (Ordered a) (Hashed c) m v p rs g h = absurd g
 old_place_like (Ordered a) (Sequenced c) m v p rs g h = absurd g
 old_place_like (Hashed a) (Ordered c) m v p rs g h = absurd g
@@ -111,7 +117,8 @@ old_place_like (Sequenced a) (Ordered c) m v p rs g h = absurd g
 old_place_like (Sequenced a) (Hashed c) m v p rs g h = absurd g
 old_place_like (Sequenced a) (Sequenced c) m v p rs g h = h
 
-beside_over : (x y : Structure) (o p : Pooled Stored) (r : Ref) (b f : Option Ref) (xs ys : List Ref) → IsLike x y → ((k : ℕ) → value_of p k ≡ value_of o k) → IsBeside y o r b f xs ys → IsBeside x p r b f xs ys
+beside_over : (x y : Structure) (o p : Pooled Stored) (r : Ref) (b f : Option Ref) (xs ys : List Ref)
+    → IsLike x y → ((k : ℕ) → value_of p k ≡ value_of o k) → IsBeside y o r b f xs ys → IsBeside x p r b f xs ys
 unfolding same_nodes
 beside_over (Ordered a) y o p r b f xs ys g values h = tt
 beside_over (Hashed a) (Ordered c) o p r b f xs ys g values h = absurd g
@@ -130,13 +137,15 @@ leave_one : (b : Bool) (x : Structure) (m : Pooled Stored) (r : Ref) (v : Stored
 leave_one true x m r v t rs c = record { xs = c.xs; ys = c.ys; parts = c.parts }
 leave_one false x m r v t rs c = tt
 
-leave_for : (g : Option Place) (x : Structure) (m : Pooled Stored) (r : Ref) (v : Stored) (rs : List Ref) → CanMoveBackTo g x m r v rs → HasNodeIf (is_given g) r rs
+leave_for : (g : Option Place) (x : Structure) (m : Pooled Stored) (r : Ref) (v : Stored) (rs : List Ref)
+    → CanMoveBackTo g x m r v rs → HasNodeIf (is_given g) r rs
 leave_for (Some w) x m r v rs c = record { xs = c.xs; ys = c.ys; parts = c.parts }
 leave_for None x m r v rs c = tt
 
 -- One structure: x has become y as the node left it, from pool m to n, and then the node got the value v
 
-module _ (m n : Pooled Stored) (r : Ref) (v : Stored) (refs : (k : ℕ) → ref_of n k ≡ ref_of m k) (values : (k : ℕ) → value_of n k ≡ value_of m k) (held : IsHeld m r) where
+module _ (m n : Pooled Stored) (r : Ref) (v : Stored) (refs : (k : ℕ) → ref_of n k ≡ ref_of m k)
+    (values : (k : ℕ) → value_of n k ≡ value_of m k) (held : IsHeld m r) where
   abbrev o : Pooled Stored
   o = with_value n r.name v
 
@@ -153,10 +162,12 @@ module _ (m n : Pooled Stored) (r : Ref) (v : Stored) (refs : (k : ℕ) → ref_
   left_out x rs us h d = subst (IsOut r.name) (sym d.left.was) (apart_remove d.left.xs r d.left.ys (subst IsApart d.left.now (nodes_apart x m rs h))).1
 
   left_few : (x : Structure) (rs us : List Ref) → length rs < 2 ^ 32 → IsLeft x m n r rs us → length us + 1 < 2 ^ 32
-  left_few x rs us few d = let e = long_with d.left.xs d.left.ys r in let f = ap length d.left.now in let g = ap length d.left.was in omega (arith, e, f, g, few)
+  left_few x rs us few d =
+      let e = long_with d.left.xs d.left.ys r in let f = ap length d.left.now in let g = ap length d.left.was in omega (arith, e, f, g, few)
 
   left_same : (x : Structure) (rs us xs ys : List Ref) → Stands x m rs → IsLeft x m n r rs us → rs ≡ xs ++ r ∷ ys → xs ++ ys ≡ us
-  left_same x rs us xs ys h d parts = cut_once r xs ys d.left.xs d.left.ys (subst IsApart parts (nodes_apart x m rs h)) (sym parts ∙ d.left.now) ∙ sym d.left.was
+  left_same x rs us xs ys h d parts =
+      cut_once r xs ys d.left.xs d.left.ys (subst IsApart parts (nodes_apart x m rs h)) (sym parts ∙ d.left.now) ∙ sym d.left.was
 
   left_tags : (x y : Structure) (rs us : List Ref) → IsLike x y → IsLeft x m n r rs us → OtherTags y r.name m o
   left_tags x y rs us like d = tags_like x y r.name m o like (tags_but x r.name m n o d.tags (but_value n r.name v))
@@ -167,22 +178,33 @@ module _ (m n : Pooled Stored) (r : Ref) (v : Stored) (refs : (k : ℕ) → ref_
   same_over : (x y : Structure) (p : Pooled Stored) (rs us ws : List Ref) → IsLike x y → IsSame x m n rs us → IsSame y o p us ws → IsSame x m p rs ws
   same_over x y p rs us ws like d e =
       let slot = like_slot x y like in
-      record { list = e.list ∙ d.list; links = λ k. subst (λ s. link_of p k s ≡ link_of o k s) slot (e.links k) ∙ link-with_value n r.name v k (slot_in x) ∙ d.links k }
+      record {
+        list = e.list ∙ d.list;
+        links = λ k. subst (λ s. link_of p k s ≡ link_of o k s) slot (e.links k) ∙ link-with_value n r.name v k (slot_in x) ∙ d.links k;
+      }
 
   -- by a new stamp
   module _ (t : ℕ) where
-    stand_one : (b : Bool) (x y : Structure) (rs us : List Ref) → IsLike x y → Stands x m rs → Stands y n us → CanMoveIf b x m r v t rs → IsLeftIf b x m n r rs us → Stands y o us
+    stand_one : (b : Bool) (x y : Structure) (rs us : List Ref) → IsLike x y → Stands x m rs
+        → Stands y n us → CanMoveIf b x m r v t rs → IsLeftIf b x m n r rs us → Stands y o us
     stand_one true x y rs us like g h c d = stands_but y r.name n o us (but_value n r.name v) (left_out x rs us g d) h
     stand_one false x y rs us like g h c d = stands_own n r v y us (stays_own x y like c) h
 
-    rejoin_one : (b : Bool) (x y : Structure) (rs us : List Ref) → IsLike x y → Stands x m rs → CanMoveIf b x m r v t rs → IsLeftIf b x m n r rs us → CanJoinIf b y o r t None us
+    rejoin_one : (b : Bool) (x y : Structure) (rs us : List Ref) → IsLike x y → Stands x m rs
+        → CanMoveIf b x m r v t rs → IsLeftIf b x m n r rs us → CanJoinIf b y o r t None us
     rejoin_one true x y rs us like g c d =
         let out = left_out x rs us g d in
         let place = subst (HasPlaceFor x m v t None) (left_same x rs us c.xs c.ys g d c.parts) c.place in
-        record { held = held_still; out = out; few = left_few x rs us c.few d; place = place_seen m o r v own others y t None us (left_tags x y rs us like d) out (place_like x y m v t None us like place) }
+        record {
+          held = held_still;
+          out = out;
+          few = left_few x rs us c.few d;
+          place = place_seen m o r v own others y t None us (left_tags x y rs us like d) out (place_like x y m v t None us like place);
+        }
     rejoin_one false x y rs us like g c d = tt
 
-    moved_one : (b : Bool) (x y : Structure) (p : Pooled Stored) (rs us ws : List Ref) → IsLike x y → Stands x m rs → CanMoveIf b x m r v t rs → IsLeftIf b x m n r rs us → IsJoinedIf b y o p r t None us ws
+    moved_one : (b : Bool) (x y : Structure) (p : Pooled Stored) (rs us ws : List Ref) → IsLike x y
+        → Stands x m rs → CanMoveIf b x m r v t rs → IsLeftIf b x m n r rs us → IsJoinedIf b y o p r t None us ws
         → HasMovedIf b x m p r t rs ws
     moved_one true x y p rs us ws like g c d e = record {
       xs = d.left.xs;
@@ -194,18 +216,26 @@ module _ (m n : Pooled Stored) (r : Ref) (v : Stored) (refs : (k : ℕ) → ref_
     moved_one false x y p rs us ws like g c d e = same_over x y p rs us ws like d e
 
   -- to the place that is given
-  stand_for : (g : Option Place) (x y : Structure) (rs us : List Ref) → IsLike x y → Stands x m rs → Stands y n us → CanMoveBackTo g x m r v rs → IsLeftIf (is_given g) x m n r rs us → Stands y o us
+  stand_for : (g : Option Place) (x y : Structure) (rs us : List Ref) → IsLike x y → Stands x m rs
+      → Stands y n us → CanMoveBackTo g x m r v rs → IsLeftIf (is_given g) x m n r rs us → Stands y o us
   stand_for (Some w) x y rs us like a h c d = stands_but y r.name n o us (but_value n r.name v) (left_out x rs us a d) h
   stand_for None x y rs us like a h c d = stands_own n r v y us (stays_own x y like c) h
 
-  return_one : (g : Option Place) (x y : Structure) (rs us : List Ref) → IsLike x y → Stands x m rs → CanMoveBackTo g x m r v rs → IsLeftIf (is_given g) x m n r rs us → CanReturnTo g y o r us
+  return_one : (g : Option Place) (x y : Structure) (rs us : List Ref) → IsLike x y → Stands x m rs
+      → CanMoveBackTo g x m r v rs → IsLeftIf (is_given g) x m n r rs us → CanReturnTo g y o r us
   return_one (Some w) x y rs us like a c d =
       let out = left_out x rs us a d in
       let place = subst (HasOldPlaceFor x m v w) (left_same x rs us c.xs c.ys a d c.parts) c.place in
-      record { held = held_still; out = out; few = left_few x rs us c.few d; place = old_place_seen m o r v own others y w us (left_tags x y rs us like d) out (old_place_like x y m v w us like place) }
+      record {
+        held = held_still;
+        out = out;
+        few = left_few x rs us c.few d;
+        place = old_place_seen m o r v own others y w us (left_tags x y rs us like d) out (old_place_like x y m v w us like place);
+      }
   return_one None x y rs us like a c d = tt
 
-  back_one : (g : Option Place) (x y : Structure) (p : Pooled Stored) (rs us ws : List Ref) → ((k : ℕ) → value_of p k ≡ value_of o k) → IsLike x y → CanMoveBackTo g x m r v rs → IsLeftIf (is_given g) x m n r rs us → IsBackAt g y o p r us ws
+  back_one : (g : Option Place) (x y : Structure) (p : Pooled Stored) (rs us ws : List Ref) → ((k : ℕ) → value_of p k ≡ value_of o k)
+      → IsLike x y → CanMoveBackTo g x m r v rs → IsLeftIf (is_given g) x m n r rs us → IsBackAt g y o p r us ws
       → HasMovedBackTo g x m p r rs ws
   back_one (Some w) x y p rs us ws kept like c d e =
       record {
@@ -229,7 +259,8 @@ module _ (P L J : Asks) (D E Q : Gives) (m n o : Pooled Stored) where
 
   module _ (stand : (s : ℕ) (x y : Structure) (rs us : List Ref) → IsLike x y → Stands x m rs → Stands y n us → P s x m rs → D s x m n rs us → Stands y o us)
       (rejoin : (s : ℕ) (x y : Structure) (rs us : List Ref) → IsLike x y → Stands x m rs → P s x m rs → D s x m n rs us → J s y o us) where
-    all_ready : (xs ys : List Structure) (s : ℕ) (rss uss : List (List Ref)) → AllLike xs ys → AllStand xs s m rss → AllStand ys s n uss → AllCan P xs s m rss → AllDone D xs s m n rss uss → AllStand ys s o uss × AllCan J ys s o uss
+    all_ready : (xs ys : List Structure) (s : ℕ) (rss uss : List (List Ref)) → AllLike xs ys → AllStand xs s m rss
+        → AllStand ys s n uss → AllCan P xs s m rss → AllDone D xs s m n rss uss → AllStand ys s o uss × AllCan J ys s o uss
     all_ready [] [] s rss [] like a h c d = (tt, tt)
     all_ready [] [] s rss (us ∷ uss) like a h c d = absurd h
     all_ready [] (y ∷ ys) s rss uss like a h c d = absurd like
@@ -240,8 +271,10 @@ module _ (P L J : Asks) (D E Q : Gives) (m n o : Pooled Stored) where
         let rest = all_ready xs ys (s + 1) rss uss like.1 a.2 h.2 c.1 d.1 in
         ((h.0, stand s x y rs us like.0 a.1 h.1 c.0 d.0, rest.0), (rejoin s x y rs us like.0 a.1 c.0 d.0, rest.1))
 
-  module _ (p : Pooled Stored) (combine : (s : ℕ) (x y : Structure) (rs us ws : List Ref) → IsLike x y → Stands x m rs → P s x m rs → D s x m n rs us → E s y o p us ws → Q s x m p rs ws) where
-    all_over : (xs ys : List Structure) (s : ℕ) (rss uss wss : List (List Ref)) → AllLike xs ys → AllStand xs s m rss → AllCan P xs s m rss → AllDone D xs s m n rss uss → AllDone E ys s o p uss wss → AllDone Q xs s m p rss wss
+  module _ (p : Pooled Stored) (combine : (s : ℕ) (x y : Structure) (rs us ws : List Ref) → IsLike x y
+      → Stands x m rs → P s x m rs → D s x m n rs us → E s y o p us ws → Q s x m p rs ws) where
+    all_over : (xs ys : List Structure) (s : ℕ) (rss uss wss : List (List Ref)) → AllLike xs ys → AllStand xs s m rss
+        → AllCan P xs s m rss → AllDone D xs s m n rss uss → AllDone E ys s o p uss wss → AllDone Q xs s m p rss wss
     all_over [] [] s [] [] [] like a c d e = tt
     all_over [] [] s [] [] (ws ∷ wss) like a c d e = absurd e
     all_over [] [] s [] (us ∷ uss) wss like a c d e = absurd d
@@ -251,7 +284,8 @@ module _ (P L J : Asks) (D E Q : Gives) (m n o : Pooled Stored) where
     all_over (x ∷ xs) (y ∷ ys) s [] uss wss like a c d e = absurd a
     all_over (x ∷ xs) (y ∷ ys) s (rs ∷ rss) [] wss like a c d e = absurd d
     all_over (x ∷ xs) (y ∷ ys) s (rs ∷ rss) (us ∷ uss) [] like a c d e = absurd e
-    all_over (x ∷ xs) (y ∷ ys) s (rs ∷ rss) (us ∷ uss) (ws ∷ wss) like a c d e = (combine s x y rs us ws like.0 a.1 c.0 d.0 e.0, all_over xs ys (s + 1) rss uss wss like.1 a.2 c.1 d.1 e.1)
+    all_over (x ∷ xs) (y ∷ ys) s (rs ∷ rss) (us ∷ uss) (ws ∷ wss) like a c d e =
+        (combine s x y rs us ws like.0 a.1 c.0 d.0 e.0, all_over xs ys (s + 1) rss uss wss like.1 a.2 c.1 d.1 e.1)
 
   module _ (k : ℕ) (outs : (s : ℕ) (x : Structure) (rs us : List Ref) → D s x m n rs us → IsOut k rs → IsOut k us) where
     all_outs : (xs : List Structure) (s : ℕ) (rss uss : List (List Ref)) → AllDone D xs s m n rss uss → IsOutOfAll k rss → IsOutOfAll k uss
@@ -268,7 +302,8 @@ left_outs true x m n r k rs us d h = subst (IsOut k) (sym d.left.was) (out_among
 left_outs false x m n r k rs us d h = subst (IsOut k) (sym d.list) h
 
 -- the values once the node has the other one
-values_with : (m n : Pooled Stored) (r : Ref) (v : Stored) → ((k : ℕ) → ref_of n k ≡ ref_of m k) → ((k : ℕ) → value_of n k ≡ value_of m k) → IsHeld m r → (k : ℕ)
+values_with : (m n : Pooled Stored) (r : Ref) (v : Stored) → ((k : ℕ) → ref_of n k ≡ ref_of m k)
+    → ((k : ℕ) → value_of n k ≡ value_of m k) → IsHeld m r → (k : ℕ)
     → value_of (with_value n r.name v) k ≡ cond (r.name == k) (Some v) (value_of m k)
 values_with m n r v refs values held k = (elim (r.name == k) as (λ b. (r.name == k) ≡ b → value_of (with_value n r.name v) k ≡ cond b (Some v) (value_of m k)) [
   | true ↦ λ e. subst (λ z. value_of (with_value n r.name v) z ≡ Some v) (same_name r.name k e) (value_here n r v (refs r.name ∙ held))
@@ -303,29 +338,37 @@ module _ (flag : ℕ → Bool) (r : Ref) (v : Stored) (t : ℕ) where
   can_leave xs m q = record { rss = q.rss; stand = q.stand; can = leaves_all xs m q.rss q.can }
 
   module _ (xs ys : List Structure) (m n : Pooled Stored) (held : IsHeld m r) (like : AllLike xs ys) (out : IsPass leaves is_left r 0 xs ys m n) where
-    ready : (rss uss : List (List Ref)) → AllStand xs 0 m rss → AllStand ys 0 n uss → ((k : ℕ) → ref_of n k ≡ ref_of m k) → ((k : ℕ) → value_of n k ≡ value_of m k) → AllCan asks xs 0 m rss → AllDone is_left xs 0 m n rss uss
+    ready : (rss uss : List (List Ref)) → AllStand xs 0 m rss → AllStand ys 0 n uss → ((k : ℕ) → ref_of n k ≡ ref_of m k)
+        → ((k : ℕ) → value_of n k ≡ value_of m k) → AllCan asks xs 0 m rss → AllDone is_left xs 0 m n rss uss
         → AllStand ys 0 (with_value n r.name v) uss × AllCan comes ys 0 (with_value n r.name v) uss
-    ready rss uss g h refs values c d = all_ready asks leaves comes is_left has_come gives m n (with_value n r.name v) (λ s x y rs us w g h c d. stand_one m n r v refs values held t (flag s) x y rs us w g h c d) (λ s x y rs us w g c d. rejoin_one m n r v refs values held t (flag s) x y rs us w g c d) xs ys 0 rss uss like g h c d
+    ready rss uss g h refs values c d = all_ready asks leaves comes is_left has_come gives m n (with_value n r.name v)
+        (λ s x y rs us w g h c d. stand_one m n r v refs values held t (flag s) x y rs us w g h c d)
+        (λ s x y rs us w g c d. rejoin_one m n r v refs values held t (flag s) x y rs us w g c d) xs ys 0 rss uss like g h c d
 
     pub can_come : AreReady asks 0 xs m → AreReady comes 0 ys (with_value n r.name v)
     can_come q =
         let a = out q.rss q.stand (leaves_all xs m q.rss q.can) in let both = ready q.rss a.uss q.stand a.stand a.keeps.refs a.keeps.values q.can a.done in
         record { rss = a.uss; stand = both.0; can = both.1 }
 
-    pub is_rekeyed : (zs : List Structure) (p : Pooled Stored) → IsPass comes has_come r 0 ys zs (with_value n r.name v) p → (rss : List (List Ref)) → AllStand xs 0 m rss → AllCan asks xs 0 m rss → IsRekeyed gives r v xs zs m p rss
+    pub is_rekeyed : (zs : List Structure) (p : Pooled Stored) → IsPass comes has_come r 0 ys zs (with_value n r.name v) p
+        → (rss : List (List Ref)) → AllStand xs 0 m rss → AllCan asks xs 0 m rss → IsRekeyed gives r v xs zs m p rss
     is_rekeyed zs p back rss stand can =
         let a = out rss stand (leaves_all xs m rss can) in let refs = a.keeps.refs in let values = a.keeps.values in
         let both = ready rss a.uss stand a.stand refs values can a.done in
         let b = back a.uss both.0 both.1 in
         record {
           uss = b.uss;
-          done = all_over asks leaves comes is_left has_come gives m n (with_value n r.name v) p (λ s x y rs us ws w g c d e. moved_one m n r v refs values held t (flag s) x y p rs us ws w g c d e) xs ys 0 rss a.uss b.uss like stand can a.done b.done;
+          done = all_over asks leaves comes is_left has_come gives m n (with_value n r.name v) p
+              (λ s x y rs us ws w g c d e. moved_one m n r v refs values held t (flag s) x y p rs us ws w g c d e)
+              xs ys 0 rss a.uss b.uss like stand can a.done b.done;
           stand = b.stand;
           refs = λ k. b.keeps.refs k ∙ ref-with_value n r.name v k ∙ refs k;
           values = λ k. b.keeps.values k ∙ values_with m n r v refs values held k;
           slots = b.keeps.slots ∙ slots-with_value n r.name v ∙ a.keeps.slots;
           other_nodes = λ k t d o.
-              b.keeps.other_nodes k t d (all_outs asks leaves comes is_left has_come gives m n n k (λ s x rs us d h. left_outs (flag s) x m n r k rs us d h) xs 0 rss a.uss a.done o) ∙ link-with_value n r.name v k t ∙ a.keeps.other_nodes k t d o;
+              b.keeps.other_nodes k t d (all_outs asks leaves comes is_left has_come gives m n n k
+              (λ s x rs us d h. left_outs (flag s) x m n r k rs us d h) xs 0 rss a.uss a.done o)
+              ∙ link-with_value n r.name v k t ∙ a.keeps.other_nodes k t d o;
         }
 
 -- back to the places that are given
@@ -350,33 +393,42 @@ module _ (given : ℕ → Option Place) (r : Ref) (v : Stored) where
   back_has_come s x m n rs us = IsBackAt (given s) x m n r rs us
 
   goes_all : (xs : List Structure) (m : Pooled Stored) (rss : List (List Ref)) → AllCan back_asks xs 0 m rss → AllCan back_leaves xs 0 m rss
-  goes_all xs m rss c = all_leave back_asks back_leaves back_comes back_is_left back_has_come back_gives m m m (λ s x rs c. leave_for (given s) x m r v rs c) xs 0 rss c
+  goes_all xs m rss c = all_leave back_asks back_leaves back_comes back_is_left back_has_come
+      back_gives m m m (λ s x rs c. leave_for (given s) x m r v rs c) xs 0 rss c
 
   pub can_go_leave : (xs : List Structure) (m : Pooled Stored) → AreReady back_asks 0 xs m → AreReady back_leaves 0 xs m
   can_go_leave xs m q = record { rss = q.rss; stand = q.stand; can = goes_all xs m q.rss q.can }
 
   module _ (xs ys : List Structure) (m n : Pooled Stored) (held : IsHeld m r) (like : AllLike xs ys) (out : IsPass back_leaves back_is_left r 0 xs ys m n) where
-    ready_back : (rss uss : List (List Ref)) → AllStand xs 0 m rss → AllStand ys 0 n uss → ((k : ℕ) → ref_of n k ≡ ref_of m k) → ((k : ℕ) → value_of n k ≡ value_of m k) → AllCan back_asks xs 0 m rss → AllDone back_is_left xs 0 m n rss uss
+    ready_back : (rss uss : List (List Ref)) → AllStand xs 0 m rss → AllStand ys 0 n uss → ((k : ℕ) → ref_of n k ≡ ref_of m k)
+        → ((k : ℕ) → value_of n k ≡ value_of m k) → AllCan back_asks xs 0 m rss → AllDone back_is_left xs 0 m n rss uss
         → AllStand ys 0 (with_value n r.name v) uss × AllCan back_comes ys 0 (with_value n r.name v) uss
-    ready_back rss uss g h refs values c d = all_ready back_asks back_leaves back_comes back_is_left back_has_come back_gives m n (with_value n r.name v) (λ s x y rs us w g h c d. stand_for m n r v refs values held (given s) x y rs us w g h c d) (λ s x y rs us w g c d. return_one m n r v refs values held (given s) x y rs us w g c d) xs ys 0 rss uss like g h c d
+    ready_back rss uss g h refs values c d = all_ready back_asks back_leaves back_comes back_is_left back_has_come back_gives m
+        n (with_value n r.name v) (λ s x y rs us w g h c d. stand_for m n r v refs values held (given s) x y rs us w g h c d)
+        (λ s x y rs us w g c d. return_one m n r v refs values held (given s) x y rs us w g c d) xs ys 0 rss uss like g h c d
 
     pub can_go_come : AreReady back_asks 0 xs m → AreReady back_comes 0 ys (with_value n r.name v)
     can_go_come q =
         let a = out q.rss q.stand (goes_all xs m q.rss q.can) in let both = ready_back q.rss a.uss q.stand a.stand a.keeps.refs a.keeps.values q.can a.done in
         record { rss = a.uss; stand = both.0; can = both.1 }
 
-    pub is_given_back : (zs : List Structure) (p : Pooled Stored) → IsPass back_comes back_has_come r 0 ys zs (with_value n r.name v) p → (rss : List (List Ref)) → AllStand xs 0 m rss → AllCan back_asks xs 0 m rss → IsRekeyed back_gives r v xs zs m p rss
+    pub is_given_back : (zs : List Structure) (p : Pooled Stored) → IsPass back_comes back_has_come r 0 ys zs (with_value n r.name v) p
+        → (rss : List (List Ref)) → AllStand xs 0 m rss → AllCan back_asks xs 0 m rss → IsRekeyed back_gives r v xs zs m p rss
     is_given_back zs p back rss stand can =
         let a = out rss stand (goes_all xs m rss can) in let refs = a.keeps.refs in let values = a.keeps.values in
         let both = ready_back rss a.uss stand a.stand refs values can a.done in
         let b = back a.uss both.0 both.1 in
         record {
           uss = b.uss;
-          done = all_over back_asks back_leaves back_comes back_is_left back_has_come back_gives m n (with_value n r.name v) p (λ s x y rs us ws w g c d e. back_one m n r v refs values held (given s) x y p rs us ws b.keeps.values w c d e) xs ys 0 rss a.uss b.uss like stand can a.done b.done;
+          done = all_over back_asks back_leaves back_comes back_is_left back_has_come back_gives m n (with_value n r.name v) p
+              (λ s x y rs us ws w g c d e. back_one m n r v refs values held (given s) x y p rs us ws b.keeps.values w c d e)
+              xs ys 0 rss a.uss b.uss like stand can a.done b.done;
           stand = b.stand;
           refs = λ k. b.keeps.refs k ∙ ref-with_value n r.name v k ∙ refs k;
           values = λ k. b.keeps.values k ∙ values_with m n r v refs values held k;
           slots = b.keeps.slots ∙ slots-with_value n r.name v ∙ a.keeps.slots;
           other_nodes = λ k t d o.
-              b.keeps.other_nodes k t d (all_outs back_asks back_leaves back_comes back_is_left back_has_come back_gives m n n k (λ s x rs us d h. left_outs (is_given (given s)) x m n r k rs us d h) xs 0 rss a.uss a.done o) ∙ link-with_value n r.name v k t ∙ a.keeps.other_nodes k t d o;
+              b.keeps.other_nodes k t d (all_outs back_asks back_leaves back_comes back_is_left back_has_come back_gives m
+              n n k (λ s x rs us d h. left_outs (is_given (given s)) x m n r k rs us d h) xs 0 rss a.uss a.done o)
+              ∙ link-with_value n r.name v k t ∙ a.keeps.other_nodes k t d o;
         }

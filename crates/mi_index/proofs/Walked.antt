@@ -1,5 +1,6 @@
 -- A walk along nodes, one after another.
-use Rattle.std.proofs.Common.{◌≡◌, ℕ, ◌+◌, ◌≤◌, zero, suc, ◌⊎◌, inl, inr, List, [], ◌∷◌, ◌++◌, map, length, take, drop, reverse, Option, Some, None, refl, ap, sym, ◌∙◌, subst, append_assoc, arith}
+use Rattle.std.proofs.Common.{◌≡◌, ℕ, ◌+◌, ◌≤◌, zero, suc, ◌⊎◌, inl, inr, List, [], ◌∷◌, ◌++◌, map, length, take}
+use Rattle.std.proofs.Common.{drop, reverse, Option, Some, None, refl, ap, sym, ◌∙◌, subst, append_assoc, arith}
 use Rattle.std.proofs.lemmas.List.{take_all, map-append, reverse-append, reverse-reverse}
 use Rattle.mi_node.specs.Pool.{Pooled, value_of, link_of, IsHeld}
 use Rattle.mi_node.specs.Refs.{Ref, first_of, last_of}
@@ -43,7 +44,8 @@ held_next m (u ∷ us) zero r h e = let same : u ≡ r = cc in subst (IsHeld m) 
 held_next m (u ∷ us) (suc k) r h e = held_next m us k r h.1 e
 
 -- its row is the next
-pub row_next : (m : Pooled Stored) (us : List Ref) (k n : ℕ) (r : Ref) (v : Stored) → n ≡ k + 1 → first_of (drop k us) None ≡ Some r → value_of m r.name ≡ Some v
+pub row_next : (m : Pooled Stored) (us : List Ref) (k n : ℕ) (r : Ref) (v : Stored) → n ≡ k + 1
+    → first_of (drop k us) None ≡ Some r → value_of m r.name ≡ Some v
     → map (shown_row m) (take n us) ≡ map (shown_row m) (take k us) ++ (v.id, v.row) ∷ []
 row_next m us k n r v e is has =
     ap (λ i. map (shown_row m) (take i us)) (let s : n ≡ suc k = omega arith in s)
@@ -66,7 +68,8 @@ last_push : (b : Option Ref) (us : List Ref) (z : Ref) → last_of b (us ++ z �
 last_push b [] z = refl
 last_push b (u ∷ us) z = last_push (Some u) us z
 
-follow_back : (l : Listing) (m : Pooled Stored) (zs : List Ref) (r : Ref) (ys : List Ref) → IsListed l m (reverse zs ++ r ∷ ys) → Follow m l.slot Descending (r ∷ zs)
+follow_back : (l : Listing) (m : Pooled Stored) (zs : List Ref) (r : Ref) (ys : List Ref)
+    → IsListed l m (reverse zs ++ r ∷ ys) → Follow m l.slot Descending (r ∷ zs)
 follow_back l m [] r ys h = let k = knows l m [] r ys h in (k.held, k.back_is, tt)
 follow_back l m (z ∷ zs) r ys h =
     let parts : reverse (z ∷ zs) ≡ reverse zs ++ z ∷ [] = reverse-append (z ∷ []) zs in
@@ -74,7 +77,8 @@ follow_back l m (z ∷ zs) r ys h =
     let rest : IsListed l m (reverse zs ++ z ∷ (r ∷ ys)) = subst (IsListed l m) (ap (λ q. q ++ r ∷ ys) parts ∙ append_assoc (reverse zs) (z ∷ []) (r ∷ ys)) h in
     (k.held, k.back_is ∙ ap (last_of None) parts ∙ last_push None (reverse zs) z, follow_back l m zs z (r ∷ ys) rest)
 
-pub list_follows : (l : Listing) (m : Pooled Stored) (d : Direction) (xs : List Ref) (r : Ref) (ys : List Ref) → IsListed l m (xs ++ r ∷ ys) → Follow m l.slot d (r ∷ beyond d xs ys)
+pub list_follows : (l : Listing) (m : Pooled Stored) (d : Direction) (xs : List Ref) (r : Ref) (ys : List Ref)
+    → IsListed l m (xs ++ r ∷ ys) → Follow m l.slot d (r ∷ beyond d xs ys)
 list_follows l m Ascending xs r ys h = linked_follow m l.slot (last_of None xs) (r ∷ ys) (linked_right l.slot m None xs (r ∷ ys) None h.linked)
 list_follows l m Descending xs r ys h = follow_back l m (reverse xs) r ys (subst (λ q. IsListed l m (q ++ r ∷ ys)) (sym (reverse-reverse xs)) h)
 
@@ -83,7 +87,8 @@ follow_held m s d [] h = tt
 follow_held m s d (r ∷ rs) h = (h.0, follow_held m s d rs h.2)
 
 -- the link of the next node names the one after it
-pub follow_next : (m : Pooled Stored) (s : ℕ) (d : Direction) (us : List Ref) (k n : ℕ) (r : Ref) → n ≡ k + 1 → Follow m s d us → first_of (drop k us) None ≡ Some r
+pub follow_next : (m : Pooled Stored) (s : ℕ) (d : Direction) (us : List Ref) (k n : ℕ) (r : Ref)
+    → n ≡ k + 1 → Follow m s d us → first_of (drop k us) None ≡ Some r
     → far_of d (link_of m r.name s) ≡ first_of (drop n us) None
 follow_next m s d us k n r e h is = next us k h is ∙ ap (λ i. first_of (drop i us) None) (let q : suc k ≡ n = omega arith in q)
   where

@@ -19,9 +19,8 @@ use Rattle.mi_value.specs.Hash.{values_hash, key_values}
 use Rattle.mi_value.proofs.OrderLaws.{compare_key_total, directed_total, prefix_alike}
 use Rattle.mi_value.proofs.Hashes.{equal_hashes}
 use Rattle.mi_index.specs.declared.stored.Stored.{Stored}
-use Rattle.mi_index.specs.declared.orders.ByHash.{ByHash}
 use Rattle.mi_index.specs.Mixing.{mixed}
-use Rattle.mi_index.specs.Orders.{keying_hash, sought_hash, has_one_key, is_whole, is_key, KeyingsAreLawful}
+use Rattle.mi_index.specs.Orders.{keying_hash, sought_hash, has_one_key, is_whole, is_key_of, KeyingsAreLawful}
 
 both_equal : (a b : Ordering) → ordering_then a b ≡ Equal → (a ≡ Equal) × (b ≡ Equal)
 both_equal Less b h = absurd (cc)
@@ -74,14 +73,16 @@ suc_inj : {m n : ℕ} → suc m ≡ suc n → m ≡ n
 suc_inj {m} {n} e = cc
 
 -- values, one for each part, are of one key alone, and are what its records have there
-whole_same : (ps : List KeyPart) (vs r s : List Value) → length vs ≡ length ps → compare_prefix ps vs r ≡ Equal → compare_prefix ps vs s ≡ Equal → compare_key ps r s ≡ Equal
+whole_same : (ps : List KeyPart) (vs r s : List Value) → length vs ≡ length ps
+    → compare_prefix ps vs r ≡ Equal → compare_prefix ps vs s ≡ Equal → compare_key ps r s ≡ Equal
 whole_same [] vs r s n g h = refl
 whole_same (p ∷ ps) [] r s n g h = absurd (none_suc (length ps) n)
 whole_same (p ∷ ps) (v ∷ vs) r s n g h =
     let o = directed_total p.descending in
     let left = both_equal (compare_to_part p v r) (compare_prefix ps vs r) g in
     let right = both_equal (compare_to_part p v s) (compare_prefix ps vs s) h in
-    let here : compare_part p r s ≡ Equal = o.congr (slice_get r p.column) (Some v) (slice_get s p.column) (tied_back o (Some v) (slice_get r p.column) left.0) ∙ right.0 in
+    let here : compare_part p r s ≡ Equal =
+    o.congr (slice_get r p.column) (Some v) (slice_get s p.column) (tied_back o (Some v) (slice_get r p.column) left.0) ∙ right.0 in
     ap (λ z. ordering_then z (compare_key ps r s)) here ∙ whole_same ps vs r s (suc_inj n) left.1 right.1
 
 whole_values : (ps : List KeyPart) (vs r : List Value) → length vs ≡ length ps → compare_prefix ps vs r ≡ Equal → key_values ps r ≡ vs
@@ -90,7 +91,8 @@ whole_values [] (v ∷ vs) r n h = absurd (none_suc (length vs) (sym n))
 whole_values (p ∷ ps) [] r n h = absurd (none_suc (length ps) n)
 whole_values (p ∷ ps) (v ∷ vs) r n h =
     let both = both_equal (compare_to_part p v r) (compare_prefix ps vs r) h in
-    let here : Some v ≡ slice_get r p.column = there_equal v (slice_get r p.column) (directed_equal p.descending (compare_missing (Some v) (slice_get r p.column)) both.0) in
+    let here : Some v ≡ slice_get r p.column = there_equal v (slice_get r p.column)
+    (directed_equal p.descending (compare_missing (Some v) (slice_get r p.column)) both.0) in
     λ i. cons_option (sym here i) (whole_values ps vs r (suc_inj n) both.1 i)
 
 -- a probe of a whole key
@@ -99,19 +101,24 @@ record IsWhole (ps : List KeyPart) (vs r : List Value) : Type 0 where
   equal : compare_prefix ps vs r ≡ Equal
 
 whole : (ps : List KeyPart) (vs r : List Value) → is_whole ps vs r ≡ true → IsWhole ps vs r
-whole ps vs r h = let both = two_true (length vs == length ps) (is_eq (compare_prefix ps vs r)) h in record { long = eqb-true (length vs) (length ps) both.0; equal = equal_of (compare_prefix ps vs r) both.1 }
+whole ps vs r h =
+    let both = two_true (length vs == length ps) (is_eq (compare_prefix ps vs r)) h in
+    record { long = eqb-true (length vs) (length ps) both.0; equal = equal_of (compare_prefix ps vs r) both.1 }
 
-key_agrees : (ps : List KeyPart) (x y : Stored) (p : Probe) → has_one_key ps x y ≡ true → is_key ps x p ≡ true → is_key ps y p ≡ true
-key_agrees ps x y (Key vs) e h = sym (ap (λ o. (length vs.now == length ps) && is_eq o) (prefix_alike ps vs.now x.row y.row (equal_of (compare_key ps x.row y.row) e))) ∙ h
-key_agrees ps x y (Of q) e h = let o : IsTotalOrder (compare_key ps) = compare_key_total ps in ap is_eq (sym (o.congr x.row y.row q.now (equal_of (compare_key ps x.row y.row) e))) ∙ h
+key_agrees : (ps : List KeyPart) (x y : Stored) (p : Probe) → has_one_key ps x y ≡ true → is_key_of ps x p ≡ true → is_key_of ps y p ≡ true
+key_agrees ps x y (Key vs) e h =
+    sym (ap (λ o. (length vs.now == length ps) && is_eq o) (prefix_alike ps vs.now x.row y.row (equal_of (compare_key ps x.row y.row) e))) ∙ h
+key_agrees ps x y (Of q) e h =
+    let o : IsTotalOrder (compare_key ps) = compare_key_total ps in ap is_eq (sym (o.congr x.row y.row q.now (equal_of (compare_key ps x.row y.row) e))) ∙ h
 
-key_alone : (ps : List KeyPart) (x y : Stored) (p : Probe) → is_key ps x p ≡ true → is_key ps y p ≡ true → has_one_key ps x y ≡ true
-key_alone ps x y (Key vs) g h = let a = whole ps vs.now x.row g in let b = whole ps vs.now y.row h in ap is_eq (whole_same ps vs.now x.row y.row a.long a.equal b.equal)
+key_alone : (ps : List KeyPart) (x y : Stored) (p : Probe) → is_key_of ps x p ≡ true → is_key_of ps y p ≡ true → has_one_key ps x y ≡ true
+key_alone ps x y (Key vs) g h =
+    let a = whole ps vs.now x.row g in let b = whole ps vs.now y.row h in ap is_eq (whole_same ps vs.now x.row y.row a.long a.equal b.equal)
 key_alone ps x y (Of q) g h =
     let o : IsTotalOrder (compare_key ps) = compare_key_total ps in
     ap is_eq (o.congr x.row q.now y.row (equal_of (compare_key ps x.row q.now) g) ∙ tied_back o y.row q.now (equal_of (compare_key ps y.row q.now) h))
 
-key_hash : (ps : List KeyPart) (x : Stored) (p : Probe) → is_key ps x p ≡ true → keying_hash ps x ≡ sought_hash ps p
+key_hash : (ps : List KeyPart) (x : Stored) (p : Probe) → is_key_of ps x p ≡ true → keying_hash ps x ≡ sought_hash ps p
 key_hash ps x (Key vs) h = let a = whole ps vs.now x.row h in ap values_hash (whole_values ps vs.now x.row a.long a.equal)
 key_hash ps x (Of q) h = equal_hashes ps x.row q.now (equal_of (compare_key ps x.row q.now) h)
 

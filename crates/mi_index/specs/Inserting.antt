@@ -22,7 +22,8 @@ abbrev pub inserted : Ref → ℕ → Option (ℕ × Ref) → Gives
 inserted r stamp before s x m n rs us = IsJoined x m n r stamp (before_at s before) rs us
 
 -- the node r is new, has the value v, and has come into every index
-pub record IsInserted (r : Ref) (v : Stored) (stamp : ℕ) (before : Option (ℕ × Ref)) (xs ys : List Structure) (m n : Pooled Stored) (rss : List (List Ref)) : Type 0 where
+pub record IsInserted (r : Ref) (v : Stored) (stamp : ℕ) (before : Option (ℕ × Ref))
+    (xs ys : List Structure) (m n : Pooled Stored) (rss : List (List Ref)) : Type 0 where
   pub uss : List (List Ref)
   pub done : AllDone (inserted r stamp before) xs 0 m n rss uss
   pub stand : AllStand ys 0 n uss

@@ -34,16 +34,17 @@ abbrev pub lead_types : List Column → List KeyPart → LeadTypes
 lead_types columns ps = record { first = type_of columns (slice_get ps 0); second = type_of columns (slice_get ps 1) }
 
 -- a structure of the kind, the key and the slot of an index
-abbrev pub IsFor : List Column → Index → ℕ → Structure → Type 0
-IsFor columns i s (Ordered t) = ((i.kind ≡ kinds.Ordered) ⊎ (i.kind ≡ kinds.Ranked)) × (t.order.parts ≡ i.parts) × (t.order.types ≡ lead_types columns i.parts) × (t.slot ≡ s)
-IsFor columns i s (Hashed c) = (i.kind ≡ kinds.Hashed) × (c.keys.parts ≡ i.parts) × (c.slot ≡ s)
-IsFor columns i s (Sequenced l) = (i.kind ≡ kinds.Sequenced) × (slot_of l ≡ s)
+abbrev pub IsOpenedFor : List Column → Index → ℕ → Structure → Type 0
+IsOpenedFor columns i s (Ordered t) = ((i.kind ≡ kinds.Ordered) ⊎ (i.kind ≡ kinds.Ranked))
+    × (t.order.parts ≡ i.parts) × (t.order.types ≡ lead_types columns i.parts) × (t.slot ≡ s)
+IsOpenedFor columns i s (Hashed c) = (i.kind ≡ kinds.Hashed) × (c.keys.parts ≡ i.parts) × (c.slot ≡ s)
+IsOpenedFor columns i s (Sequenced l) = (i.kind ≡ kinds.Sequenced) × (slot_of l ≡ s)
 
-abbrev pub AllFor : List Column → List Index → ℕ → List Structure → Type 0
-AllFor columns [] s [] = Unit {0}
-AllFor columns [] s (x ∷ xs) = ⊥
-AllFor columns (i ∷ is) s [] = ⊥
-AllFor columns (i ∷ is) s (x ∷ xs) = IsFor columns i s x × AllFor columns is (s + 1) xs
+abbrev pub AllOpenedFor : List Column → List Index → ℕ → List Structure → Type 0
+AllOpenedFor columns [] s [] = Unit {0}
+AllOpenedFor columns [] s (x ∷ xs) = ⊥
+AllOpenedFor columns (i ∷ is) s [] = ⊥
+AllOpenedFor columns (i ∷ is) s (x ∷ xs) = IsOpenedFor columns i s x × AllOpenedFor columns is (s + 1) xs
 
 abbrev pub IsEmpty : Structure → Type 0
 IsEmpty (Ordered t) = t.root ≡ None
@@ -62,5 +63,5 @@ empties (x ∷ xs) = [] ∷ empties xs
 -- a pool of as many slots as there are indexes, without nodes, and a structure for each index
 pub record IsOpened (s : Shape) (m : Pooled Stored) (xs : List Structure) : Type 0 where
   pub pool : m ≡ no_nodes (length s.indexes)
-  pub kinds : AllFor s.columns s.indexes 0 xs
+  pub kinds : AllOpenedFor s.columns s.indexes 0 xs
   pub stand : AllStand xs 0 m (empties xs)

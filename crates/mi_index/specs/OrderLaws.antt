@@ -1,5 +1,5 @@
 -- The orders, tags and keys of indexes are lawful.
-use Rattle.std.proofs.Common.{◌≡◌, ℕ, ◌<◌, ◌≤◌, suc, Bool, true, false, cond, List, [], ◌∷◌, length, refl, sym, ap, ◌∙◌, subst, arith}
+use Rattle.std.proofs.Common.{◌≡◌, ℕ, ◌<◌, Bool, true, false, cond, List, [], ◌∷◌, length, refl, sym, ap, ◌∙◌, subst, arith}
 use Rattle.std.specs.Prelude.{pos, negsuc, nat_le, nat_lt}
 use Rattle.std.proofs.lemmas.Bool.{false≢true, lt-ltb, leb-true}
 use Rattle.std.specs.declared.option.Option.{Option}
@@ -22,13 +22,8 @@ use Rattle.mi_tree.specs.Order.{IsNoLater, IsMonotone}
 use Rattle.mi_index.specs.declared.stored.Stored.{Stored}
 use Rattle.mi_index.specs.Leads.{lead_tag, lead_probe, is_exact_lead}
 use Rattle.mi_index.specs.Orders.{row_in, stored_order, stored_tag, key_tag, record_tag, is_decided, IsTagged, IsSought, place_in, Rises, OrdersAreLawful}
-use Rattle.mi_index.specs.LeadLaws.{leads_order_keys, exact_leads_are_keys, leads_order_probes, exact_leads_are_probes}
-
-none_some : {A : Type 0} {x : A} → None ≡ Some x → ⊥
-none_some h = cc
-
-some_is : {A : Type 0} {x y : A} → Some x ≡ Some y → x ≡ y
-some_is h = cc
+use Rattle.mi_index.specs.TagLaws.{self_equal}
+use Rattle.mi_index.specs.LeadLaws.{none_some, some_is, leads_order_keys, exact_leads_are_keys, leads_order_probes, exact_leads_are_probes}
 
 pub stored_total : (ps : List KeyPart) → IsTotalOrder (stored_order ps)
 stored_total ps = on_total row_in (on_total (record_or_id ps) (compare_key_total (parts_or_id ps)))
@@ -41,11 +36,6 @@ ids_below m n l = ap (λ b. cond b Less (cond (nat_lt n m) Greater Equal)) (lt-l
 ids_above : (m n : ℕ) → n < m → int_cmp (pos m) (pos n) ≡ Greater
 ids_above m n l = int_cmp_total.antisymm (pos m) (pos n) ∙ ap ordering_reverse (ids_below n m l)
 
-self_equal : (o : Ordering) → o ≡ ordering_reverse o → o ≡ Equal
-self_equal Less h = absurd (cc)
-self_equal Equal h = refl
-self_equal Greater h = absurd (cc)
-
 ids_equal : (m n : ℕ) → m ≡ n → int_cmp (pos m) (pos n) ≡ Equal
 ids_equal m n same = ap (λ k. int_cmp (pos m) (pos k)) (sym same) ∙ self_equal (int_cmp (pos m) (pos m)) (int_cmp_total.antisymm (pos m) (pos m))
 
@@ -55,7 +45,8 @@ below : (c : LeadTypes) (ps : List KeyPart) (x y : Stored) → stored_tag c ps x
 below c [] x y l = ap (λ o. ordering_then o Equal) (ids_below x.id y.id l)
 below c (p ∷ ps) x y l = leads_order_keys c p ps x.row y.row l
 
-exact : (c : LeadTypes) (ps : List KeyPart) (x y : Stored) → is_decided c ps (stored_tag c ps x) ≡ true → stored_tag c ps x ≡ stored_tag c ps y → stored_order ps x y ≡ Equal
+exact : (c : LeadTypes) (ps : List KeyPart) (x y : Stored) → is_decided c ps (stored_tag c ps x) ≡ true
+    → stored_tag c ps x ≡ stored_tag c ps y → stored_order ps x y ≡ Equal
 exact c [] x y decided same = ap (λ o. ordering_then o Equal) (ids_equal x.id y.id same)
 exact c (p ∷ ps) x y decided same = exact_leads_are_keys c p ps x.row y.row decided same
 
@@ -69,7 +60,8 @@ given : {A : Type 0} (b : Bool) (x : Option A) (t : A) → cond b x None ≡ Som
 given true x t h = (refl, h)
 given false x t h = absurd (none_some h)
 
-key_below : (c : LeadTypes) (ps : List KeyPart) (vs : List Value) (t : ℕ) → key_tag c ps vs ≡ Some t → (x : Stored) → stored_tag c ps x < t → compare_to_row ps vs (row_in x) ≡ Greater
+key_below : (c : LeadTypes) (ps : List KeyPart) (vs : List Value) (t : ℕ) → key_tag c ps vs ≡ Some t
+    → (x : Stored) → stored_tag c ps x < t → compare_to_row ps vs (row_in x) ≡ Greater
 key_below c ps [] t h x l = absurd (none_some h)
 key_below c [] (Int (pos n) ∷ []) t h x l = let is : n ≡ t = some_is h in ap (λ o. ordering_then o Equal) (ids_above n x.id (omega arith))
 key_below c [] (Int (negsuc n) ∷ []) t h x l = absurd (none_some h)
@@ -78,7 +70,8 @@ key_below c [] (Flag b ∷ []) t h x l = absurd (none_some h)
 key_below c [] (v ∷ w ∷ vs) t h x l = absurd (none_some h)
 key_below c (p ∷ ps) (v ∷ vs) t h x l = (leads_order_probes c p ps v vs t x.row (given (nat_le (length vs) (length ps)) (lead_probe c p ps v vs) t h).1).0 l
 
-key_above : (c : LeadTypes) (ps : List KeyPart) (vs : List Value) (t : ℕ) → key_tag c ps vs ≡ Some t → (x : Stored) → t < stored_tag c ps x → compare_to_row ps vs (row_in x) ≡ Less
+key_above : (c : LeadTypes) (ps : List KeyPart) (vs : List Value) (t : ℕ) → key_tag c ps vs ≡ Some t
+    → (x : Stored) → t < stored_tag c ps x → compare_to_row ps vs (row_in x) ≡ Less
 key_above c ps [] t h x l = absurd (none_some h)
 key_above c [] (Int (pos n) ∷ []) t h x l = let is : n ≡ t = some_is h in ap (λ o. ordering_then o Equal) (ids_below n x.id (omega arith))
 key_above c [] (Int (negsuc n) ∷ []) t h x l = absurd (none_some h)
@@ -87,7 +80,8 @@ key_above c [] (Flag b ∷ []) t h x l = absurd (none_some h)
 key_above c [] (v ∷ w ∷ vs) t h x l = absurd (none_some h)
 key_above c (p ∷ ps) (v ∷ vs) t h x l = (leads_order_probes c p ps v vs t x.row (given (nat_le (length vs) (length ps)) (lead_probe c p ps v vs) t h).1).1 l
 
-key_exact : (c : LeadTypes) (ps : List KeyPart) (vs : List Value) (t : ℕ) → key_tag c ps vs ≡ Some t → is_decided c ps t ≡ true → (x : Stored) → stored_tag c ps x ≡ t → compare_to_row ps vs (row_in x) ≡ Equal
+key_exact : (c : LeadTypes) (ps : List KeyPart) (vs : List Value) (t : ℕ) → key_tag c ps vs ≡ Some t
+    → is_decided c ps t ≡ true → (x : Stored) → stored_tag c ps x ≡ t → compare_to_row ps vs (row_in x) ≡ Equal
 key_exact c ps [] t h decided x same = absurd (none_some h)
 key_exact c [] (Int (pos n) ∷ []) t h decided x same = let is : n ≡ t = some_is h in ap (λ o. ordering_then o Equal) (ids_equal n x.id (is ∙ sym same))
 key_exact c [] (Int (negsuc n) ∷ []) t h decided x same = absurd (none_some h)
@@ -98,18 +92,22 @@ key_exact c (p ∷ ps) (v ∷ vs) t h decided x same =
     let is = given (nat_le (length vs) (length ps)) (lead_probe c p ps v vs) t h in
     exact_leads_are_probes c p ps v vs t x.row (leb-true (length vs) (length ps) is.0) is.1 decided same
 
-record_below : (c : LeadTypes) (ps : List KeyPart) (r : List Value) (t : ℕ) → record_tag c ps r ≡ Some t → (x : Stored) → stored_tag c ps x < t → compare_key ps x.row r ≡ Less
+record_below : (c : LeadTypes) (ps : List KeyPart) (r : List Value) (t : ℕ)
+    → record_tag c ps r ≡ Some t → (x : Stored) → stored_tag c ps x < t → compare_key ps x.row r ≡ Less
 record_below c [] r t h x l = absurd (none_some h)
-record_below c (p ∷ ps) r t h x l = let is : lead_tag c p ps r ≡ t = some_is h in leads_order_keys c p ps x.row r (subst (λ n. lead_tag c p ps x.row < n) (sym is) l)
+record_below c (p ∷ ps) r t h x l =
+    let is : lead_tag c p ps r ≡ t = some_is h in leads_order_keys c p ps x.row r (subst (λ n. lead_tag c p ps x.row < n) (sym is) l)
 
-record_above : (c : LeadTypes) (ps : List KeyPart) (r : List Value) (t : ℕ) → record_tag c ps r ≡ Some t → (x : Stored) → t < stored_tag c ps x → compare_key ps x.row r ≡ Greater
+record_above : (c : LeadTypes) (ps : List KeyPart) (r : List Value) (t : ℕ) → record_tag c ps r ≡ Some t
+    → (x : Stored) → t < stored_tag c ps x → compare_key ps x.row r ≡ Greater
 record_above c [] r t h x l = absurd (none_some h)
 record_above c (p ∷ ps) r t h x l =
     let is : lead_tag c p ps r ≡ t = some_is h in
     let o : IsTotalOrder (compare_key (p ∷ ps)) = compare_key_total (p ∷ ps) in
     o.antisymm x.row r ∙ ap ordering_reverse (leads_order_keys c p ps r x.row (subst (λ n. n < lead_tag c p ps x.row) (sym is) l))
 
-record_exact : (c : LeadTypes) (ps : List KeyPart) (r : List Value) (t : ℕ) → record_tag c ps r ≡ Some t → is_decided c ps t ≡ true → (x : Stored) → stored_tag c ps x ≡ t → compare_key ps x.row r ≡ Equal
+record_exact : (c : LeadTypes) (ps : List KeyPart) (r : List Value) (t : ℕ) → record_tag c ps r ≡ Some t
+    → is_decided c ps t ≡ true → (x : Stored) → stored_tag c ps x ≡ t → compare_key ps x.row r ≡ Equal
 record_exact c [] r t h decided x same = absurd (none_some h)
 record_exact c (p ∷ ps) r t h decided x same =
     let is : lead_tag c p ps r ≡ t = some_is h in exact_leads_are_keys c p ps x.row r (ap (is_exact_lead c p ps) same ∙ decided) (same ∙ sym is)
@@ -134,12 +132,14 @@ reversed_greater Less h = refl
 reversed_greater Equal h = absurd (cc)
 reversed_greater Greater h = absurd (cc)
 
-record_rises : (ps : List KeyPart) (r : List Value) (x y : Stored) → is_gt (stored_order ps x y) ≡ false → (compare_key ps y.row r ≡ Less → compare_key ps x.row r ≡ Less) × (compare_key ps x.row r ≡ Greater → compare_key ps y.row r ≡ Greater)
+record_rises : (ps : List KeyPart) (r : List Value) (x y : Stored) → is_gt (stored_order ps x y) ≡ false
+    → (compare_key ps y.row r ≡ Less → compare_key ps x.row r ≡ Less) × (compare_key ps x.row r ≡ Greater → compare_key ps y.row r ≡ Greater)
 record_rises [] r x y upto = ((λ h. h), λ h. h)
 record_rises (p ∷ ps) r x y upto =
     let o : IsTotalOrder (compare_key (p ∷ ps)) = compare_key_total (p ∷ ps) in
     elim (compare_key (p ∷ ps) x.row y.row) as (λ q. compare_key (p ∷ ps) x.row y.row ≡ q → is_gt q ≡ false
-    → (compare_key (p ∷ ps) y.row r ≡ Less → compare_key (p ∷ ps) x.row r ≡ Less) × (compare_key (p ∷ ps) x.row r ≡ Greater → compare_key (p ∷ ps) y.row r ≡ Greater)) [
+    → (compare_key (p ∷ ps) y.row r ≡ Less → compare_key (p ∷ ps) x.row r ≡ Less)
+    × (compare_key (p ∷ ps) x.row r ≡ Greater → compare_key (p ∷ ps) y.row r ≡ Greater)) [
       | Less ↦ λ is _. (
         (λ h. o.trans x.row y.row r is h),
         λ h. o.antisymm y.row r ∙ ap ordering_reverse (o.trans r x.row y.row (o.antisymm r x.row ∙ ap ordering_reverse h) is),
@@ -150,7 +150,8 @@ record_rises (p ∷ ps) r x y upto =
 
 rises : (ps : List KeyPart) (k : Probe) (x y : Stored) → is_gt (stored_order ps x y) ≡ false → Rises ps k x y
 rises ps (Key vs) x y upto =
-    let falls : NotBelow (compare_to_row ps vs.now (row_in x)) (compare_to_row ps vs.now (row_in y)) = prefix_falls (parts_or_id ps) vs.now (record_or_id ps (row_in x)) (record_or_id ps (row_in y)) upto in
+    let falls : NotBelow (compare_to_row ps vs.now (row_in x)) (compare_to_row ps vs.now (row_in y)) =
+    prefix_falls (parts_or_id ps) vs.now (record_or_id ps (row_in x)) (record_or_id ps (row_in y)) upto in
     record {
       less = λ h. ap ordering_reverse (falls.0 (reversed_less (compare_to_row ps vs.now (row_in y)) h));
       greater = λ h. ap ordering_reverse (falls.1 (reversed_greater (compare_to_row ps vs.now (row_in x)) h));

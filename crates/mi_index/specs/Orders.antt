@@ -1,7 +1,7 @@
 -- How an index sees what nodes hold. Stamps stand in the links of nodes, and are no part of it.
 --     stored_order, place_in      two nodes by their keys, and one beside a probe
 --     stored_tag, sought_tag, is_decided      the tags of both, and whether a tag says all of its key
---     keying_hash, sought_hash, has_one_key, is_key, keying_of      hashes and equality of keys in a hashed index
+--     keying_hash, sought_hash, has_one_key, is_key_of, keying_of      hashes and equality of keys in a hashed index
 use Rattle.std.specs.Prelude.{◌≡◌, ◌<◌, ℕ, pos, negsuc, ◌==◌, ◌&&◌, nat_le, Bool, true, false, if◌then◌else◌, List, [], ◌∷◌, length}
 use Rattle.std.specs.declared.option.Option.{Option}
 use Rattle.std.specs.declared.option.Option.TheVariants.{None, Some}
@@ -23,10 +23,6 @@ use Rattle.mi_index.specs.declared.orders.ByHash.{ByHash}
 use Rattle.mi_index.specs.Mixing.{mixed}
 use Rattle.mi_chain.specs.Keying.{Keying, IsLawful}
 use Rattle.mi_index.specs.Leads.{lead_tag, lead_probe, is_exact_lead}
-
--- the part that an index without parts goes by: the id alone
-abbrev pub id_part : List KeyPart
-id_part = record { column = 0; descending = false } ∷ []
 
 -- the row that a node holds
 abbrev pub row_in : Stored → Row
@@ -90,9 +86,9 @@ has_one_key ps x y = is_eq (compare_key ps x.row y.row)
 abbrev pub is_whole : List KeyPart → List Value → List Value → Bool
 is_whole ps vs r = (length vs == length ps) && is_eq (compare_prefix ps vs r)
 
-abbrev pub is_key : List KeyPart → Stored → Probe → Bool
-is_key ps v (Key vs) = is_whole ps vs.now v.row
-is_key ps v (Of q) = is_eq (compare_key ps v.row q.now)
+abbrev pub is_key_of : List KeyPart → Stored → Probe → Bool
+is_key_of ps v (Key vs) = is_whole ps vs.now v.row
+is_key_of ps v (Of q) = is_eq (compare_key ps v.row q.now)
 
 -- all of it, as chains see it
 abbrev pub keying_of : ByHash → Keying Stored
@@ -100,7 +96,7 @@ keying_of h = record {
   hash = λ v. mixed h.secret (keying_hash h.parts v);
   hash_key = λ k. mixed h.secret (sought_hash h.parts k);
   same = has_one_key h.parts;
-  same_key = is_key h.parts;
+  same_key = is_key_of h.parts;
 }
 
 -- What an order and its tags owe

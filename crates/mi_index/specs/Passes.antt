@@ -3,7 +3,7 @@ use Rattle.std.specs.Prelude.{◌≡◌, ℕ, Bool, true, false, List, Option, S
 use Rattle.mi_node.specs.Pool.{Pooled, link_of}
 use Rattle.mi_node.specs.Refs.{Ref}
 use Rattle.mi_index.specs.Standing.{slot_in}
-use Rattle.mi_index.specs.Places.{is_moved, place_for, before_at, HasNode, CanJoin, IsJoined, IsLeft, CanReturn, IsBack, KeepsTags}
+use Rattle.mi_index.specs.Places.{is_moved, place_for, before_at, IsOneOf, CanJoin, IsJoined, IsLeft, CanReturn, IsBack, KeepsTags}
 use Rattle.mi_index.specs.Pass.{Asks, Gives}
 use Rattle.mi_index.specs.declared.stored.Stored.{Stored}
 use Rattle.mi_index.specs.declared.moves.Place.{Place}
@@ -34,7 +34,7 @@ joined moves r stamp before s x m n rs us = IsJoinedIf (is_moved moves s) x m n 
 -- A node goes
 
 abbrev pub HasNodeIf : Bool → Ref → List Ref → Type 0
-HasNodeIf true r rs = HasNode r rs
+HasNodeIf true r rs = IsOneOf r rs
 HasNodeIf false r rs = Unit {0}
 
 abbrev pub IsLeftIf : Bool → Structure → Pooled Stored → Pooled Stored → Ref → List Ref → List Ref → Type 0

@@ -1,7 +1,7 @@
 -- Where a node may come into an index, and what changes there as it comes, leaves or comes back.
 --     is_moved, place_for      which indexes a pass changes, and the place that a node comes back to
 --     CanJoin, IsJoined      a node may come in with a stamp; it has come in
---     HasNode, IsLeft      a node stands there; it has left, and remembers its neighbours
+--     IsOneOf, IsLeft      a node stands there; it has left, and remembers its neighbours
 --     CanReturn, IsBack      a node may come back to a place; it has come back
 use Rattle.std.specs.Prelude.{◌≡◌, ℕ, ◌+◌, ◌<◌, ◌^◌, ◌==◌, Bool, true, false, cond, List, [], ◌∷◌, ◌++◌, length, Option, Some, None, slice_index_or}
 use Rattle.std.specs.List.{filter}
@@ -66,7 +66,7 @@ pub record IsWith (r : Ref) (rs us : List Ref) : Type 0 where
   pub was : rs ≡ xs ++ ys
   pub now : us ≡ xs ++ r ∷ ys
 
-pub record HasNode (r : Ref) (rs : List Ref) : Type 0 where
+pub record IsOneOf (r : Ref) (rs : List Ref) : Type 0 where
   pub xs : List Ref
   pub ys : List Ref
   pub parts : rs ≡ xs ++ r ∷ ys

@@ -68,4 +68,5 @@ IsRoomy (Sequenced l) n = Unit {0}
 
 -- a structure stands wherever each of its nodes has the same reference, the same link of its slot, and a value of the same key
 abbrev pub StandWhereAlike : Type 0
-StandWhereAlike = (x : Structure) (m n : Pooled Stored) (rs : List Ref) → n.slots ≡ m.slots → AreAlike (order_of x) m n (slot_in x) rs → Stands x m rs → Stands x n rs
+StandWhereAlike = (x : Structure) (m n : Pooled Stored) (rs : List Ref) → n.slots ≡ m.slots
+    → AreAlike (order_of x) m n (slot_in x) rs → Stands x m rs → Stands x n rs

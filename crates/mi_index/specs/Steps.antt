@@ -1,7 +1,7 @@
 -- What a step on one structure asks, and what it gives: a node joins it, leaves it, or comes back to it.
 use Rattle.std.specs.Prelude.{ℕ, Option}
 use Rattle.mi_node.specs.Refs.{Ref}
-use Rattle.mi_index.specs.Places.{HasNode, CanJoin, IsJoined, IsLeft, CanReturn, IsBack}
+use Rattle.mi_index.specs.Places.{IsOneOf, CanJoin, IsJoined, IsLeft, CanReturn, IsBack}
 use Rattle.mi_index.specs.Pass.{Asks, Gives}
 use Rattle.mi_index.specs.declared.moves.Place.{Place}
 
@@ -12,7 +12,7 @@ abbrev pub joined : Ref → ℕ → Option Ref → Gives
 joined r stamp b s x m n rs us = IsJoined x m n r stamp b rs us
 
 abbrev pub leaving : Ref → Asks
-leaving r s x m rs = HasNode r rs
+leaving r s x m rs = IsOneOf r rs
 
 abbrev pub left : Ref → Gives
 left r s x m n rs us = IsLeft x m n r rs us

@@ -1,5 +1,6 @@
 -- Tags stand in the order of what they stand for.
-use Rattle.std.proofs.Common.{◌≡◌, ℕ, ◌+◌, ◌-◌, ◌*◌, ◌<◌, ◌≤◌, zero, suc, Bool, true, false, cond, inl, inr, List, [], ◌∷◌, slice_get, refl, ap, sym, ◌∙◌, subst, arith}
+use Rattle.std.proofs.Common.{◌≡◌, ℕ, ◌+◌, ◌-◌, ◌*◌, ◌<◌, ◌≤◌, zero, suc, Bool, true, false, cond}
+use Rattle.std.proofs.Common.{inl, inr, List, [], ◌∷◌, slice_get, refl, ap, sym, ◌∙◌, subst, arith}
 use Rattle.std.specs.Prelude.{ℤ, pos, negsuc, nat_lt}
 use Rattle.std.specs.Cmp.{IsTotalOrder, nat_cmp_is}
 use Rattle.std.specs.Cmp.Lexicographic.{slice_cmp}
@@ -17,7 +18,8 @@ use Rattle.mi_value.specs.declared.value.ColumnType.TheVariants as column
 use Rattle.mi_value.specs.Order.{compare_missing, directed, compare_key, compare_prefix}
 use Rattle.mi_value.proofs.OrderLaws.{directed_total}
 use Rattle.mi_model.proofs.SortLaws.{both_ways}
-use Rattle.mi_index.specs.Tags.{high, int_tag, worth, lead, value_tag, directed_tag, is_exact_value, TagsOrderKeys, ExactTagsAreKeys, TagsOrderProbes, ExactTagsAreProbes}
+use Rattle.mi_index.specs.Tags.{high, int_tag, worth, lead, value_tag, directed_tag, is_exact_value}
+use Rattle.mi_index.specs.Tags.{TagsOrderKeys, ExactTagsAreKeys, TagsOrderProbes, ExactTagsAreProbes}
 
 -- Whole numbers
 
@@ -166,14 +168,17 @@ none_exact column.Flag h = false≢true h
 high_exact : is_exact_value column.Int high ≡ true → ⊥
 high_exact h = false≢true h
 
-ints_equal : (a b : Value) → is_exact_value column.Int (value_tag column.Int (Some a)) ≡ true → value_tag column.Int (Some a) ≡ value_tag column.Int (Some b) → a ≡ b
-ints_equal (Int m) (Int n) exact same = let both = and_parts _ _ exact in ap Int (int_same m n (ltb-true 0 (int_tag m) both.0) (ltb-true (int_tag m) high both.1) same)
+ints_equal : (a b : Value) → is_exact_value column.Int (value_tag column.Int (Some a)) ≡ true
+    → value_tag column.Int (Some a) ≡ value_tag column.Int (Some b) → a ≡ b
+ints_equal (Int m) (Int n) exact same =
+    let both = and_parts _ _ exact in ap Int (int_same m n (ltb-true 0 (int_tag m) both.0) (ltb-true (int_tag m) high both.1) same)
 ints_equal (Int m) (Text bs) exact same = absurd (high_exact (sym (ap (is_exact_value column.Int) same) ∙ exact))
 ints_equal (Int m) (Flag b) exact same = absurd (high_exact (sym (ap (is_exact_value column.Int) same) ∙ exact))
 ints_equal (Text ts) b exact same = absurd (high_exact exact)
 ints_equal (Flag f) b exact same = absurd (high_exact exact)
 
-flags_equal : (a b : Value) → is_exact_value column.Flag (value_tag column.Flag (Some a)) ≡ true → value_tag column.Flag (Some a) ≡ value_tag column.Flag (Some b) → a ≡ b
+flags_equal : (a b : Value) → is_exact_value column.Flag (value_tag column.Flag (Some a)) ≡ true
+    → value_tag column.Flag (Some a) ≡ value_tag column.Flag (Some b) → a ≡ b
 flags_equal (Int m) b exact same = absurd (none_exact column.Flag exact)
 flags_equal (Text ts) b exact same = absurd (none_exact column.Flag exact)
 flags_equal (Flag f) (Int n) exact same = absurd (none_exact column.Flag (sym (ap (is_exact_value column.Flag) same) ∙ exact))
@@ -192,14 +197,16 @@ value_same column.Flag (Some a) (Some b) exact same = ap Some (flags_equal a b e
 
 -- Turned round where a part descends
 
-pub turned_below : (descending : Bool) (c : ColumnType) (x y : Option Value) → directed_tag descending (value_tag c x) < directed_tag descending (value_tag c y) → directed descending (compare_missing x y) ≡ Less
+pub turned_below : (descending : Bool) (c : ColumnType) (x y : Option Value)
+    → directed_tag descending (value_tag c x) < directed_tag descending (value_tag c y) → directed descending (compare_missing x y) ≡ Less
 turned_below false c x y l = value_below c x y l
 turned_below true c x y l =
     let o : IsTotalOrder compare_missing = directed_total false in
     let less : compare_missing y x ≡ Less = value_below c y x (omega arith) in
     ap ordering_reverse (o.antisymm x y ∙ ap ordering_reverse less)
 
-pub turned_above : (descending : Bool) (c : ColumnType) (x y : Option Value) → directed_tag descending (value_tag c y) < directed_tag descending (value_tag c x) → directed descending (compare_missing x y) ≡ Greater
+pub turned_above : (descending : Bool) (c : ColumnType) (x y : Option Value)
+    → directed_tag descending (value_tag c y) < directed_tag descending (value_tag c x) → directed descending (compare_missing x y) ≡ Greater
 turned_above descending c x y l =
     let o : IsTotalOrder (λ a b. directed descending (compare_missing a b)) = directed_total descending in
     o.antisymm x y ∙ ap ordering_reverse (turned_below descending c y x l)
@@ -208,12 +215,13 @@ twice : (descending : Bool) (t : ℕ) → t ≤ high → directed_tag descending
 twice false t l = refl
 twice true t l = omega arith
 
-self_equal : (o : Ordering) → o ≡ ordering_reverse o → o ≡ Equal
+pub self_equal : (o : Ordering) → o ≡ ordering_reverse o → o ≡ Equal
 self_equal Less h = absurd (cc)
 self_equal Equal h = refl
 self_equal Greater h = absurd (cc)
 
-pub turned_same : (descending : Bool) (c : ColumnType) (x y : Option Value) → is_exact_value c (directed_tag descending (directed_tag descending (value_tag c x))) ≡ true
+pub turned_same : (descending : Bool) (c : ColumnType) (x y : Option Value)
+    → is_exact_value c (directed_tag descending (directed_tag descending (value_tag c x))) ≡ true
     → directed_tag descending (value_tag c x) ≡ directed_tag descending (value_tag c y) → directed descending (compare_missing x y) ≡ Equal
 turned_same descending c x y exact same =
     let back : directed_tag descending (directed_tag descending (value_tag c x)) ≡ value_tag c x = twice descending (value_tag c x) (value_high c x) in

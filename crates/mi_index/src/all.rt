@@ -1,9 +1,9 @@
 //! Passes over the structures of all indexes, one after another. A change in one leaves all others standing, since each
 //! sets links of its own slot alone.
-ghost use Rattle.std.specs.Prelude.{◌≡◌, ◌+◌, ◌<◌, ◌^◌, List as Seq, ◌∷◌, ◌++◌, length, IfOk};
+ghost use Rattle.std.specs.Prelude.{◌≡◌, ◌+◌, ◌<◌, ◌^◌, List as Seq, ◌++◌, length, IfOk};
 ghost use Rattle.mi_node.specs.Pool.{IsHeld};
 ghost use Rattle.mi_node.specs.Refs.{Ref};
-ghost use Rattle.mi_index.specs.Standing.{slot_in, IsLike};
+ghost use Rattle.mi_index.specs.Standing.{IsLike};
 ghost use Rattle.mi_index.specs.Pass.{IsReady, IsStep, AreReady, IsPass, AllLike, AllRoomy};
 ghost use Rattle.mi_index.specs.Passes as pass;
 ghost use Rattle.mi_index.specs.Inserting as insert;
@@ -28,7 +28,8 @@ fn link_one(
     before: Option<(usize, NodeRef)>,
 )
     requires { IsReady (pass.joining moves node stamp before) slot structure.old p.old }
-    ensures step { IsStep (pass.joining moves.entry node stamp before) (pass.joined moves.entry node stamp before) node slot structure.old structure.new p.old p.new }
+    ensures step { IsStep (pass.joining moves.entry node stamp before)
+        (pass.joined moves.entry node stamp before) node slot structure.old structure.new p.old p.new }
     ensures like { IsLike structure.old structure.new }
 {
     if moves.moves_in(slot) {
@@ -104,7 +105,8 @@ pub fn link_all(
 )
     requires all { AreReady (pass.joining moves node stamp before) slot structures.old p.old }
     requires few { slot + length structures.old < 2 ^ 64 }
-    ensures pass { IsPass (pass.joining moves.entry node stamp before) (pass.joined moves.entry node stamp before) node slot structures.old structures.new p.old p.new }
+    ensures pass { IsPass (pass.joining moves.entry node stamp before)
+        (pass.joined moves.entry node stamp before) node slot structures.old structures.new p.old p.new }
     ensures like { AllLike structures.old structures.new }
 {
     if let Some((first, rest)) = structures.split_first_mut() {
@@ -207,7 +209,8 @@ pub(crate) fn add_structures(
     made: &mut Vec<Structure>,
 ) -> Result<(), AllocError>
     requires { slot + length indexes.now < 2 ^ 64 }
-    ensures { IfOk result (λ _. (ys : Seq One) × (made.new.items ≡ made.old.items ++ ys) × opened.AllFor columns.now indexes.now slot ys × opened.AllEmpty ys) }
+    ensures { IfOk result (λ _. (ys : Seq One) × (made.new.items ≡ made.old.items ++ ys)
+        × opened.AllOpenedFor columns.now indexes.now slot ys × opened.AllEmpty ys) }
 {
     if let Some((index, rest)) = indexes.split_first() {
         made.push(Structure::new(alloc, slot, index, columns, secret)?)?;

@@ -1,9 +1,9 @@
 //! How keys and rows compare. It reads rows and takes no memory.
 ghost use Rattle.std.specs.Prelude.{◌≡◌, pos, [], ◌∷◌};
-ghost use Rattle.std.specs.Ordering.{is_eq};
 ghost use Rattle.mi_value.specs.declared.value.Value.TheVariants.{Int};
 ghost use Rattle.mi_value.specs.Order.{compare_value, compare_prefix as compare_prefix_to};
-ghost use Rattle.mi_index.specs.Orders.{id_part, is_whole};
+ghost use Rattle.mi_index.specs.Orders.{is_whole};
+ghost use Rattle.mi_model.specs.Key.{id_part};
 ghost use Rattle.mi_index.specs.Orders as orders;
 ghost use Rattle.mi_model.specs.Key as meaning;
 

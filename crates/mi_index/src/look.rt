@@ -245,7 +245,8 @@ fn find_in_chains(chains: &Chains<ByHash>, p: &Pool<Stored>, probe: Probe<'_>) -
 
 fn next_in_chains(chains: &Chains<ByHash>, p: &Pool<Stored>, node: NodeRef) -> Option<NodeRef>
     requires { (xs : Seq Ref) × (ys : Seq Ref) × Stands (Hashed chains.now) p.now (xs ++ node ∷ ys) }
-    ensures { (xs ys : Seq Ref) → Stands (Hashed chains.now) p.now (xs ++ node ∷ ys) → result ≡ first_of (filter (look.has_same_key (Hashed chains.now) p.now node) ys) None }
+    ensures { (xs ys : Seq Ref) → Stands (Hashed chains.now) p.now (xs ++ node ∷ ys)
+        → result ≡ first_of (filter (look.has_same_key (Hashed chains.now) p.now node) ys) None }
 {
     chains.next_of(p, node)
 }

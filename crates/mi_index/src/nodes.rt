@@ -1,10 +1,10 @@
 //! The nodes of one table: a pool, and the structure of each index over it, through the slot of its number.
 //! What holds of both is said by relations between the structures, the pool and the lists of the nodes; this knows no rows
 //! but the values of nodes, and no counters.
-ghost use Rattle.std.specs.Prelude.{◌≡◌, ◌<◌, ◌≤◌, ◌+◌, ◌^◌, Some, None, List as Seq, length, IfOk, IfErr};
+ghost use Rattle.std.specs.Prelude.{◌≡◌, ◌≤◌, Some, List as Seq, length, IfOk, IfErr};
 ghost use Rattle.mi_node.specs.Pool.{IsHeld, value_of, without};
 ghost use Rattle.mi_node.specs.Refs.{Ref};
-ghost use Rattle.mi_index.specs.Pass.{AreReady, IsPass, AllLike, AllRoomy, AllStand, AllCan, AreChanged, IsOutOfAll, KeepsFrom};
+ghost use Rattle.mi_index.specs.Pass.{AreReady, IsPass, AllLike, AllRoomy, AllStand, AllCan, IsOutOfAll};
 ghost use Rattle.mi_index.specs.Passes as pass;
 ghost use Rattle.mi_index.specs.Rekeying as rekey;
 ghost use Rattle.mi_index.specs.Inserting as insert;
@@ -63,11 +63,13 @@ impl Nodes {
         before: Option<(usize, NodeRef)>,
     ) -> Result<NodeRef, (AllocError, Stored)>
         requires room { AreReady (insert.inserting stored stamp before) 0 self.old.structures.items self.old.pool }
-        ensures ok { IfOk result (λ r. (rss : Seq (Seq Ref)) → AllStand self.old.structures.items 0 self.old.pool rss → AllCan (insert.inserting stored stamp before) self.old.structures.items 0 self.old.pool rss
+        ensures ok { IfOk result (λ r. (rss : Seq (Seq Ref)) → AllStand self.old.structures.items 0 self.old.pool rss
+            → AllCan (insert.inserting stored stamp before) self.old.structures.items 0 self.old.pool rss
             → insert.IsInserted r stored stamp before self.old.structures.items self.new.structures.items self.old.pool self.new.pool rss) }
         ensures room { IfOk result (λ _. AllRoomy self.new.structures.items n) }
         ensures returned { IfErr result (λ e. e.1 ≡ stored) }
-        ensures err { IfErr result (λ _. (r : Ref) → IsPass pass.nothing_asked pass.grown r 0 self.old.structures.items self.new.structures.items self.old.pool self.new.pool) }
+        ensures err { IfErr result (λ _. (r : Ref)
+            → IsPass pass.nothing_asked pass.grown r 0 self.old.structures.items self.new.structures.items self.old.pool self.new.pool) }
         ensures like { AllLike self.old.structures.items self.new.structures.items }
     {
         if let Err(refused) = grow_each(&mut self.structures, alloc, &mut self.pool, n) {
@@ -88,7 +90,8 @@ impl Nodes {
     /// Takes a node out of every index. It keeps its value, and its links remember its places. Takes no memory.
     pub fn take_out(&mut self, node: NodeRef)
         requires { AreReady (pass.leaving All node) 0 self.old.structures.items self.old.pool }
-        ensures pass { IsPass (pass.leaving All node) (pass.left All node) node 0 self.old.structures.items self.new.structures.items self.old.pool self.new.pool }
+        ensures pass { IsPass (pass.leaving All node) (pass.left All node) node 0
+            self.old.structures.items self.new.structures.items self.old.pool self.new.pool }
         ensures like { AllLike self.old.structures.items self.new.structures.items }
     {
         unlink_each(&mut self.structures, &mut self.pool, node, Moves::All);
@@ -98,7 +101,8 @@ impl Nodes {
     pub fn put_back(&mut self, node: NodeRef)
         requires held { IsHeld self.old.pool node }
         requires places { AreReady (pass.returning All node) 0 self.old.structures.items self.old.pool }
-        ensures pass { IsPass (pass.returning All node) (pass.returned All node) node 0 self.old.structures.items self.new.structures.items self.old.pool self.new.pool }
+        ensures pass { IsPass (pass.returning All node) (pass.returned All node) node 0
+            self.old.structures.items self.new.structures.items self.old.pool self.new.pool }
         ensures like { AllLike self.old.structures.items self.new.structures.items }
     {
         relink_each(&mut self.structures, &mut self.pool, node, Moves::All);
@@ -110,8 +114,10 @@ impl Nodes {
         requires held { IsHeld self.old.pool node }
         requires places { AreReady (rekey.rekeying marks.now node stored stamp) 0 self.old.structures.items self.old.pool }
         ensures value { value_of self.old.pool node.name ≡ Some result }
-        ensures rekeyed { (rss : Seq (Seq Ref)) → AllStand self.old.structures.items 0 self.old.pool rss → AllCan (rekey.rekeying marks.now node stored stamp) self.old.structures.items 0 self.old.pool rss
-            → rekey.IsRekeyed (rekey.rekeyed marks.now node stamp) node stored self.old.structures.items self.new.structures.items self.old.pool self.new.pool rss }
+        ensures rekeyed { (rss : Seq (Seq Ref)) → AllStand self.old.structures.items 0 self.old.pool rss
+            → AllCan (rekey.rekeying marks.now node stored stamp) self.old.structures.items 0 self.old.pool rss
+            → rekey.IsRekeyed (rekey.rekeyed marks.now node stamp) node stored
+            self.old.structures.items self.new.structures.items self.old.pool self.new.pool rss }
         ensures like { AllLike self.old.structures.items self.new.structures.items }
     {
         let moves = Moves::Marked(marks);
@@ -134,8 +140,10 @@ impl Nodes {
         requires held { IsHeld self.old.pool node }
         requires places { AreReady (rekey.returning_to places.now node stored) 0 self.old.structures.items self.old.pool }
         ensures value { value_of self.old.pool node.name ≡ Some result }
-        ensures rekeyed { (rss : Seq (Seq Ref)) → AllStand self.old.structures.items 0 self.old.pool rss → AllCan (rekey.returning_to places.now node stored) self.old.structures.items 0 self.old.pool rss
-            → rekey.IsRekeyed (rekey.returned_to places.now node) node stored self.old.structures.items self.new.structures.items self.old.pool self.new.pool rss }
+        ensures rekeyed { (rss : Seq (Seq Ref)) → AllStand self.old.structures.items 0 self.old.pool rss
+            → AllCan (rekey.returning_to places.now node stored) self.old.structures.items 0 self.old.pool rss
+            → rekey.IsRekeyed (rekey.returned_to places.now node) node stored
+            self.old.structures.items self.new.structures.items self.old.pool self.new.pool rss }
         ensures like { AllLike self.old.structures.items self.new.structures.items }
     {
         let moves = Moves::Placed(places);
@@ -149,7 +157,8 @@ impl Nodes {
     /// where both are one node. Takes no memory.
     pub fn relocate(&mut self, index: usize, node: NodeRef, before: Option<NodeRef>)
         requires { AreReady (insert.relocating index node before) 0 self.old.structures.items self.old.pool }
-        ensures pass { IsPass (insert.relocating index node before) (insert.relocated index node before) node 0 self.old.structures.items self.new.structures.items self.old.pool self.new.pool }
+        ensures pass { IsPass (insert.relocating index node before) (insert.relocated index node before)
+            node 0 self.old.structures.items self.new.structures.items self.old.pool self.new.pool }
         ensures like { AllLike self.old.structures.items self.new.structures.items }
     {
         relocate_all(
@@ -168,7 +177,8 @@ impl Nodes {
         ensures value { value_of self.old.pool node.name ≡ Some result }
         ensures pool { self.new.pool ≡ without self.old.pool node.name }
         ensures structures { self.new.structures ≡ self.old.structures }
-        ensures stand { (rss : Seq (Seq Ref)) → AllStand self.old.structures.items 0 self.old.pool rss → IsOutOfAll node.name rss → AllStand self.new.structures.items 0 self.new.pool rss }
+        ensures stand { (rss : Seq (Seq Ref)) → AllStand self.old.structures.items 0 self.old.pool rss
+            → IsOutOfAll node.name rss → AllStand self.new.structures.items 0 self.new.pool rss }
     {
         self.pool.give(node)
     }
@@ -192,7 +202,8 @@ fn link_each(
     before: Option<(usize, NodeRef)>,
 )
     requires { AreReady (pass.joining moves node stamp before) 0 structures.old.items p.old }
-    ensures pass { IsPass (pass.joining moves.entry node stamp before) (pass.joined moves.entry node stamp before) node 0 structures.old.items structures.new.items p.old p.new }
+    ensures pass { IsPass (pass.joining moves.entry node stamp before) (pass.joined moves.entry node stamp before)
+        node 0 structures.old.items structures.new.items p.old p.new }
     ensures like { AllLike structures.old.items structures.new.items }
 {
     link_all(structures.as_mut_slice(), 0, p, node, moves, stamp, before);

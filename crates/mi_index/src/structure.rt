@@ -1,14 +1,9 @@
 //! The structure of one index over the pool's nodes: the only match on the kind of an index.
 //! It links nodes through its own slot, and never reads another; what it knows of values are their keys.
-ghost use Rattle.std.specs.Prelude.{◌≡◌, ℕ, ◌+◌, ◌<◌, ◌≤◌, ◌^◌, ◌⊎◌, List as Seq, ◌∷◌, ◌++◌, [], Some, None, length, IfOk, IfErr, IsOk, false, true};
-ghost use Rattle.std.specs.List.{filter};
+ghost use Rattle.std.specs.Prelude.{◌≡◌, ℕ, IfOk, IfErr, IsOk};
 ghost use Rattle.std.specs.Option.{option_copied};
-ghost use Rattle.mi_node.specs.Refs.{Ref, first_of, last_of};
-ghost use Rattle.mi_node.specs.Pool.{link_of};
-ghost use Rattle.mi_chain.specs.Keying.{same_nodes, has_key};
-ghost use Rattle.mi_index.specs.Orders.{keying_of, place_in};
+ghost use Rattle.mi_node.specs.Refs.{Ref};
 ghost use Rattle.mi_index.specs.Standing.{IsLike, IsRoomy};
-ghost use Rattle.mi_index.specs.Places as places;
 ghost use Rattle.mi_index.specs.Pass.{IsReady, IsStep};
 ghost use Rattle.mi_index.specs.Passes as pass;
 ghost use Rattle.mi_index.specs.Steps as step;
@@ -46,7 +41,7 @@ impl Structure {
         columns: &[Column],
         secret: u64,
     ) -> Result<Structure, AllocError>
-        ensures { IfOk result (λ x. opened.IsFor columns.now index.now slot x × opened.IsEmpty x) }
+        ensures { IfOk result (λ x. opened.IsOpenedFor columns.now index.now slot x × opened.IsEmpty x) }
     {
         match index.kind {
             IndexKind::Ordered | IndexKind::Ranked => {

@@ -1,7 +1,7 @@
 //! A walk along what an index shows, from one of its nodes on, in either direction. It lends the records of the nodes, and
 //! changes nothing; the vector of what is lent is the one memory that it takes.
-ghost use Rattle.std.specs.Prelude.{◌≡◌, ℕ, ◌+◌, ◌*◌, ◌<◌, ◌≤◌, ◌^◌, List as Seq, ◌∷◌, ◌++◌, Some, None, length, map, take, IfOk};
-ghost use Rattle.mi_node.specs.Refs.{Ref, first_of};
+ghost use Rattle.std.specs.Prelude.{◌≡◌, ℕ, ◌+◌, ◌*◌, ◌<◌, ◌≤◌, ◌^◌, List as Seq, ◌∷◌, ◌++◌, length, map, take, IfOk};
+ghost use Rattle.mi_node.specs.Refs.{Ref};
 ghost use Rattle.mi_node.specs.Neighbours.{AreHeld};
 ghost use Rattle.mi_tree.specs.Walking.{IsWalk, beyond, far_of};
 ghost use Rattle.mi_index.specs.Standing.{slot_in, Stands};

@@ -10,7 +10,8 @@ use Rattle.mi_node.specs.Neighbours.{IsLinked, kept_if, joined}
 use Rattle.mi_list.specs.Named.{IsNamed}
 use Rattle.mi_list.specs.Listed.{IsListed, FitsBetween}
 use Rattle.mi_list.specs.declared.list.List.{List}
-use Rattle.mi_node.proofs.NeighbourLaws.{last_differs, first_differs, linked_left, linked_right, frame, unlinks, relinks, held_last, held_first, slots-joined, keeps_joined, joined_there, ref-joined, linked_unique}
+use Rattle.mi_node.proofs.NeighbourLaws.{last_differs, first_differs, linked_left, linked_right, frame, unlinks, relinks, held_last}
+use Rattle.mi_node.proofs.NeighbourLaws.{held_first, slots-joined, keeps_joined, joined_there, ref-joined, linked_unique}
 use Rattle.mi_list.proofs.Ends.{first_kept, last_unlinked, last_relinked}
 
 pub nothing_after : (rs : Seq Ref) → rs ++ [] ≡ rs
@@ -36,10 +37,14 @@ module _ {T : Type 0} where
   }
 
   pub ends_held : (l : List) (m : Pooled T) (xs ys : Seq Ref) → IsListed l m (xs ++ ys) → IsHeldIf m (last_of None xs) × IsHeldIf m (first_of ys None)
-  ends_held l m xs ys h = (held_last l.slot m None xs (first_of ys None) tt (linked_left l.slot m None xs ys None h.linked), held_first l.slot m (last_of None xs) ys (linked_right l.slot m None xs ys None h.linked))
+  ends_held l m xs ys h = (
+    held_last l.slot m None xs (first_of ys None) tt (linked_left l.slot m None xs ys None h.linked),
+    held_first l.slot m (last_of None xs) ys (linked_right l.slot m None xs ys None h.linked),
+  )
 
   -- the node before a place
-  pub back_some : (l : List) (m : Pooled T) (xs ys : Seq Ref) (q : Ref) → IsListed l m (xs ++ ys) → first_of ys None ≡ Some q → IsHeld m q × ((link_of m q.name l.slot).back ≡ last_of None xs)
+  pub back_some : (l : List) (m : Pooled T) (xs ys : Seq Ref) (q : Ref) → IsListed l m (xs ++ ys)
+      → first_of ys None ≡ Some q → IsHeld m q × ((link_of m q.name l.slot).back ≡ last_of None xs)
   back_some l m xs [] q h e = absurd cc
   back_some l m xs (y ∷ ys) q h e =
       let same : y ≡ q = cc in let on = knows l m xs y ys h in
@@ -58,18 +63,22 @@ module _ {T : Type 0} where
 
   -- the slot that a list has in a pool stays
   fits_still : (l k : List) (m n : Pooled T) (b w f p : Option Ref) → l.slot < m.slots → Joined l k m n b w f p → k.slot < n.slots
-  fits_still l k m n b w f p h j = subst (λ (z : ℕ × ℕ). z.0 < z.1) (λ i. (sym j.slot i, sym (ap (λ (q : Pooled T). q.slots) j.pool ∙ slots-joined l.slot m b w f p) i)) h
+  fits_still l k m n b w f p h j = subst (λ (z : ℕ × ℕ). z.0 < z.1)
+      (λ i. (sym j.slot i, sym (ap (λ (q : Pooled T). q.slots) j.pool ∙ slots-joined l.slot m b w f p) i)) h
 
-  pub unlinked : (l k : List) (m n : Pooled T) (xs : Seq Ref) (x : Ref) (ys : Seq Ref) → IsListed l m (xs ++ x ∷ ys) → Joined l k m n (last_of None xs) (first_of ys None) (first_of ys None) (last_of None xs)
+  pub unlinked : (l k : List) (m n : Pooled T) (xs : Seq Ref) (x : Ref) (ys : Seq Ref) → IsListed l m (xs ++ x ∷ ys)
+      → Joined l k m n (last_of None xs) (first_of ys None) (first_of ys None) (last_of None xs)
       → FitsBetween k n x xs ys
   unlinked l k m n xs x ys h j =
       let b = last_of None xs in let f = first_of ys None in let out = (apart_remove xs x ys h.apart).1 in let on = knows l m xs x ys h in
       let same : link_of n x.name k.slot ≡ link_of m x.name l.slot = (λ i. link_of (j.pool i) x.name (j.slot i))
-      ∙ joined_there l.slot m b f f b x.name l.slot (last_differs None xs x.name tt (out_left x.name xs ys out)) (first_differs ys x.name (out_right x.name xs ys out)) in
+      ∙ joined_there l.slot m b f f b x.name l.slot (last_differs None xs x.name tt (out_left x.name xs ys out))
+      (first_differs ys x.name (out_right x.name xs ys out)) in
       record {
         listed = record {
           slot_fits = fits_still l k m n b f f b h.slot_fits j;
-          linked = subst (λ (z : Pooled T × ℕ). IsLinked z.0 z.1 None (xs ++ ys) None) (λ i. (sym j.pool i, sym j.slot i)) (unlinks l.slot m xs x ys h.apart h.linked);
+          linked = subst (λ (z : Pooled T × ℕ). IsLinked z.0 z.1 None (xs ++ ys) None)
+              (λ i. (sym j.pool i, sym j.slot i)) (unlinks l.slot m xs x ys h.apart h.linked);
           apart = (apart_remove xs x ys h.apart).0;
           first_is = j.first ∙ ap (λ o. kept_if b o f) h.first_is ∙ first_kept xs (x ∷ ys) ys;
           last_is = j.last ∙ ap (λ o. kept_if f o b) h.last_is ∙ last_unlinked xs x ys;
@@ -80,17 +89,20 @@ module _ {T : Type 0} where
         forth_is = ap (λ (y : Link). y.forth) same ∙ on.forth_is;
       }
 
-  pub relinked : (l k : List) (m n : Pooled T) (xs : Seq Ref) (x : Ref) (ys : Seq Ref) → FitsBetween l m x xs ys → Joined l k m n (last_of None xs) (Some x) (first_of ys None) (Some x) → IsListed k n (xs ++ x ∷ ys)
+  pub relinked : (l k : List) (m n : Pooled T) (xs : Seq Ref) (x : Ref) (ys : Seq Ref) → FitsBetween l m x xs ys
+      → Joined l k m n (last_of None xs) (Some x) (first_of ys None) (Some x) → IsListed k n (xs ++ x ∷ ys)
   relinked l k m n xs x ys h j = let b = last_of None xs in let f = first_of ys None in record {
     slot_fits = fits_still l k m n b (Some x) f (Some x) h.listed.slot_fits j;
-    linked = subst (λ (z : Pooled T × ℕ). IsLinked z.0 z.1 None (xs ++ x ∷ ys) None) (λ i. (sym j.pool i, sym j.slot i)) (relinks l.slot m xs x ys h.listed.apart h.out h.listed.linked h.held h.back_is h.forth_is);
+    linked = subst (λ (z : Pooled T × ℕ). IsLinked z.0 z.1 None (xs ++ x ∷ ys) None) (λ i. (sym j.pool i, sym j.slot i))
+        (relinks l.slot m xs x ys h.listed.apart h.out h.listed.linked h.held h.back_is h.forth_is);
     apart = apart_insert xs x ys h.listed.apart h.out;
     first_is = j.first ∙ ap (λ p. kept_if b p (Some x)) h.listed.first_is ∙ first_kept xs ys (x ∷ ys);
     last_is = j.last ∙ ap (λ p. kept_if f p (Some x)) h.listed.last_is ∙ last_relinked xs x ys;
   }
 
   -- a node that is not in the list gets a link
-  pub placed : (l : List) (m : Pooled T) (x : Ref) (y : Link) (xs ys : Seq Ref) → IsListed l m (xs ++ ys) → IsOut x.name (xs ++ ys) → IsHeld m x → y.back ≡ last_of None xs → y.forth ≡ first_of ys None
+  pub placed : (l : List) (m : Pooled T) (x : Ref) (y : Link) (xs ys : Seq Ref) → IsListed l m (xs ++ ys)
+      → IsOut x.name (xs ++ ys) → IsHeld m x → y.back ≡ last_of None xs → y.forth ≡ first_of ys None
       → FitsBetween l (with_link m x.name l.slot y) x xs ys
   placed l m x y xs ys h out held eb ef = let here = link_here m x l.slot y held in record {
     listed = record {
@@ -109,7 +121,8 @@ module _ {T : Type 0} where
   pub keeps_placed : (s : ℕ) (m : Pooled T) (x : Ref) (y : Link) (xs ys : Seq Ref)
       → Keeps m (joined (with_link m x.name s y) s (last_of None xs) (Some x) (first_of ys None) (Some x)) s (x ∷ xs ++ ys)
   keeps_placed s m x y xs ys = let n = with_link m x.name s y in
-      keeps_then s m n (joined n s (last_of None xs) (Some x) (first_of ys None) (Some x)) (x ∷ []) (xs ++ ys) (x ∷ xs ++ ys) (keeps_link s m x y) (keeps_joined s n xs ys (Some x) (Some x)) (λ k o. ((o.0, tt), o.1))
+      keeps_then s m n (joined n s (last_of None xs) (Some x) (first_of ys None) (Some x)) (x ∷ []) (xs ++ ys)
+      (x ∷ xs ++ ys) (keeps_link s m x y) (keeps_joined s n xs ys (Some x) (Some x)) (λ k o. ((o.0, tt), o.1))
 
   -- one list stands for one list of nodes
   pub listed_unique : (l : List) (m : Pooled T) (rs ts : Seq Ref) → IsListed l m rs → IsListed l m ts → rs ≡ ts
@@ -120,7 +133,7 @@ pub out_among : (k : ℕ) (xs : Seq Ref) (x : Ref) (ys : Seq Ref) → IsOut k (x
 out_among k xs x ys o = let at = out_right k xs (x ∷ ys) o in let both = out_both k xs ys (out_left k xs (x ∷ ys) o) at.1 in ((at.0, both), both)
 
 -- the first of a list is of no name that is out of it
-pub first_out : (vs : Seq Ref) (q : Ref) (k : ℕ) → IsOut k vs → first_of vs None ≡ Some q → q.name ≡ k → ⊥
+first_out : (vs : Seq Ref) (q : Ref) (k : ℕ) → IsOut k vs → first_of vs None ≡ Some q → q.name ≡ k → ⊥
 first_out [] q k o e n = cc
 first_out (v ∷ vs) q k o e n = let same : v ≡ q = cc in let named : v.name ≡ k = ap (λ (z : Ref). z.name) same ∙ n in grind (arith, o.0, named)
 

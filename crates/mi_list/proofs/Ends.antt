@@ -13,7 +13,8 @@ pub first_kept : (xs zs ws : List Ref) → kept_if (last_of None xs) (first_of (
 first_kept [] zs ws = refl
 first_kept (x ∷ xs) zs ws = last_is_some x xs (Some x) (first_of ws None)
 
-pub last_unlinked : (xs : List Ref) (x : Ref) (ys : List Ref) → kept_if (first_of ys None) (last_of None (xs ++ x ∷ ys)) (last_of None xs) ≡ last_of None (xs ++ ys)
+pub last_unlinked : (xs : List Ref) (x : Ref) (ys : List Ref)
+    → kept_if (first_of ys None) (last_of None (xs ++ x ∷ ys)) (last_of None xs) ≡ last_of None (xs ++ ys)
 last_unlinked xs x [] = sym (last_both None xs [])
 last_unlinked xs x (y ∷ ys) = last_push None xs x (y ∷ ys) ∙ sym (last_push None xs y ys)
 

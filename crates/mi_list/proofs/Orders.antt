@@ -18,4 +18,5 @@ module _ {T : Type 0} where
 
   pub order-listed : (l : List) (m : Pooled T) (rs : Seq Ref) → IsListed l m rs → order l m ≡ names rs
   unfolding order
-  order-listed l m rs h = ap (follow m l.slot (node_count m)) h.first_is ∙ followed m l.slot (node_count m) None rs (node_count-least m rs h.apart (listed_held l m rs h)) h.linked
+  order-listed l m rs h = ap (follow m l.slot (node_count m)) h.first_is
+      ∙ followed m l.slot (node_count m) None rs (node_count-least m rs h.apart (listed_held l m rs h)) h.linked

@@ -1,5 +1,6 @@
 -- Commands answer alike in databases that show the same, and leave them so.
-use Rattle.std.proofs.Common.{◌≡◌, ℕ, ◌+◌, ◌-◌, zero, suc, Bool, true, false, cond, not, ◌&&◌, List, [], ◌∷◌, length, get_or, set, take, min, refl, ap, sym, ◌∙◌, subst}
+use Rattle.std.proofs.Common.{◌≡◌, ℕ, ◌+◌, ◌-◌, zero, suc, Bool, true, false, cond, not, ◌&&◌, List}
+use Rattle.std.proofs.Common.{[], ◌∷◌, length, get_or, set, take, min, refl, ap, sym, ◌∙◌, subst}
 use Rattle.std.specs.Prelude.{◌==◌, if◌then◌else◌, IfSome}
 use Rattle.std.specs.List.{AllZip, AllByRecursion}
 use Rattle.std.specs.Option.{option_map, option_map_or}
@@ -19,10 +20,11 @@ use Rattle.mi_model.specs.Key.{Row, IsWholeKey}
 use Rattle.mi_model.specs.Table.{Table, IsTable, has, row}
 use Rattle.mi_model.specs.Conflict.{conflict}
 use Rattle.mi_model.specs.Change.{insert, put, erase, relocate}
-use Rattle.mi_model.specs.Verdict.{Outcome, is_spent, has_place, as_unique, unless, insert_refusal, insert_outcome, replace_outcome, refused_modify, modified, modify_outcome, erase_outcome, erase_key_outcome, relocate_outcome}
+use Rattle.mi_model.specs.Verdict.{Outcome, is_spent, has_place, as_unique, unless, insert_refusal, insert_outcome, replace_outcome}
+use Rattle.mi_model.specs.Verdict.{refused_modify, modified, modify_outcome, erase_outcome, erase_key_outcome, relocate_outcome}
 use Rattle.mi_model.specs.Database.{Database, IsDatabase, on_table, table_of, depth, started, undone, undone_times, squashed, committed}
 use Rattle.mi_model.specs.Same.{SameTable, SameTables, SameDatabase}
-use Rattle.mi_model.specs.Run.{Command, after}
+use Rattle.mi_model.specs.Run.{Command, after_command}
 use Rattle.mi_model.specs.Run.Command.{Insert, Replace, Modify, Erase, EraseKey, Relocate, Start, Undo, Squash, Commit, UndoAll}
 use Rattle.mi_model.specs.Alike.{IsCommandOf, AnswersAlike, CommandsAnswerAlike, RunsAnswerAlike}
 use Rattle.mi_model.proofs.TableLaws.{fresh_of_table, is_table_opened}
@@ -50,7 +52,8 @@ module _ {A : Type 0} (s : Shape) where
   either_same true x y z w f g = f refl
   either_same false x y z w f g = g refl
 
-  unless_same : (o : Option Refusal) (answer : A) (changed other t u : Table) → SameTable s t u → SameTable s changed other → SameOutcome s (unless o answer changed t) (unless o answer other u)
+  unless_same : (o : Option Refusal) (answer : A) (changed other t u : Table) → SameTable s t u
+      → SameTable s changed other → SameOutcome s (unless o answer changed t) (unless o answer other u)
   unless_same None answer changed other t u was is = (refl, is)
   unless_same (Some e) answer changed other t u was is = (refl, was)
 
@@ -64,34 +67,44 @@ long s t u is iu = is.one_each ∙ sym iu.one_each
 inserted : (s : Shape) (at : Option (ℕ × ℕ)) (r : List Value) (t u : Table) → IfSome at (λ p. (index_at s p.0).kind ≡ Sequenced) → IsTable s t → IsTable s u
     → SameTable s t u → SameTable s (insert at r t) (insert at r u)
 inserted s None r t u placed is iu same = same_insert s r t u (long s t u is iu) (fresh_of_table s t is) (fresh_of_table s u iu) same
-inserted s (Some at) r t u placed is iu same = same_insert_before s at.0 at.1 r t u (long s t u is iu) placed (fresh_of_table s t is) (fresh_of_table s u iu) same
+inserted s (Some at) r t u placed is iu same = same_insert_before s at.0 at.1 r t u
+    (long s t u is iu) placed (fresh_of_table s t is) (fresh_of_table s u iu) same
 
-insert_same : (s : Shape) (at : Option (ℕ × ℕ)) (r : List Value) → IfSome at (λ p. (index_at s p.0).kind ≡ Sequenced) → (t u : Table) → SameTable s t u → OfTables s (insert_outcome s at r) t u
+insert_same : (s : Shape) (at : Option (ℕ × ℕ)) (r : List Value) → IfSome at (λ p. (index_at s p.0).kind ≡ Sequenced)
+    → (t u : Table) → SameTable s t u → OfTables s (insert_outcome s at r) t u
 insert_same s at r placed =
     in_lists (OfTables s (insert_outcome s at r)) s (λ rows next arrivals l m same is iu.
     let t : Table = with_lists rows l next arrivals in
     let u : Table = with_lists rows m next arrivals in
     unless_same s (insert_refusal s at r t) next (insert at r t) (insert at r u) t u same (inserted s at r t u placed is iu same))
 
-replaced_same : (s : Shape) (e : ℕ) (r : List Value) (t u : Table) (there : Bool) → has t e ≡ there → (rest : Option Refusal) → IsTable s t → IsTable s u → SameTable s t u
-    → SameOutcome {A = Unit {0}} s (unless (if not there then Some NoId else rest) tt (put s e r t) t) (unless (if not there then Some NoId else rest) tt (put s e r u) u)
-replaced_same s e r t u true there rest is iu same = unless_same s rest tt (put s e r t) (put s e r u) t u same (same_put s e r t u (long s t u is iu) there same)
+replaced_same : (s : Shape) (e : ℕ) (r : List Value) (t u : Table) (there : Bool)
+    → has t e ≡ there → (rest : Option Refusal) → IsTable s t → IsTable s u → SameTable s t u
+    → SameOutcome {A = Unit {0}} s (unless (if not there then Some NoId else rest) tt (put s e r t) t)
+    (unless (if not there then Some NoId else rest) tt (put s e r u) u)
+replaced_same s e r t u true there rest is iu same = unless_same s rest tt (put s e r t)
+    (put s e r u) t u same (same_put s e r t u (long s t u is iu) there same)
 replaced_same s e r t u false there rest is iu same = (refl, same)
 
 replace_same : (s : Shape) (e : ℕ) (r : List Value) (t u : Table) → SameTable s t u → OfTables s (replace_outcome s e r) t u
 replace_same s e r =
     in_lists (OfTables s (replace_outcome s e r)) s (λ rows next arrivals l m same is iu.
     let t : Table = with_lists rows l next arrivals in
-    replaced_same s e r t (with_lists rows m next arrivals) (has t e) refl (if is_spent arrivals then Some Spent else option_map as_unique (conflict s t r (Some e))) is iu same)
+    replaced_same s e r t (with_lists rows m next arrivals) (has t e) refl
+    (if is_spent arrivals then Some Spent else option_map as_unique (conflict s t r (Some e))) is iu same)
 
-refused_same : (s : Shape) (e : ℕ) (r : List Value) (rollback : Bool) (t u : Table) (at : Option (ℕ × ℕ)) → has t e ≡ true → IsTable s t → IsTable s u → SameTable s t u
-    → SameOutcome s (option_map_or (λ at. refused_modify rollback e at t) at (Ok tt, put s e r t)) (option_map_or (λ at. refused_modify rollback e at u) at (Ok tt, put s e r u))
+refused_same : (s : Shape) (e : ℕ) (r : List Value) (rollback : Bool) (t u : Table) (at : Option (ℕ × ℕ))
+    → has t e ≡ true → IsTable s t → IsTable s u → SameTable s t u
+    → SameOutcome s (option_map_or (λ at. refused_modify rollback e at t) at (Ok tt, put s e r t))
+    (option_map_or (λ at. refused_modify rollback e at u) at (Ok tt, put s e r u))
 refused_same s e r rollback t u None there is iu same = (refl, same_put s e r t u (long s t u is iu) there same)
 refused_same s e r true t u (Some at) there is iu same = (refl, same)
 refused_same s e r false t u (Some at) there is iu same = (refl, same_erase s e t u same)
 
-modified_same : (s : Shape) (e : ℕ) (rollback : Bool) (r : Option (List Value)) (rows : List Row) (next arrivals : ℕ) (l m : List (List ℕ)) → has (with_lists rows l next arrivals) e ≡ true
-    → IsTable s (with_lists rows l next arrivals) → IsTable s (with_lists rows m next arrivals) → SameTable s (with_lists rows l next arrivals) (with_lists rows m next arrivals)
+modified_same : (s : Shape) (e : ℕ) (rollback : Bool) (r : Option (List Value)) (rows : List Row) (next arrivals : ℕ) (l m : List (List ℕ))
+    → has (with_lists rows l next arrivals) e ≡ true
+    → IsTable s (with_lists rows l next arrivals) → IsTable s (with_lists rows m next arrivals)
+    → SameTable s (with_lists rows l next arrivals) (with_lists rows m next arrivals)
     → SameOutcome s (modified s e rollback r (with_lists rows l next arrivals)) (modified s e rollback r (with_lists rows m next arrivals))
 modified_same s e rollback None rows next arrivals l m there is iu same = (refl, same)
 modified_same s e rollback (Some r) rows next arrivals l m there is iu same =
@@ -116,13 +129,18 @@ erase_same s e =
     in_lists (OfTables s (erase_outcome e)) s (λ rows next arrivals l m same is iu.
     let t : Table = with_lists rows l next arrivals in
     let u : Table = with_lists rows m next arrivals in
-    either_same {A = Unit {0}} s (has t e) (Ok tt, erase e t) (Err NoId, t) (Ok tt, erase e u) (Err NoId, u) (λ _. (refl, same_erase s e t u same)) (λ _. (refl, same)))
+    either_same {A = Unit {0}} s (has t e) (Ok tt, erase e t) (Err NoId, t) (Ok tt, erase e u)
+    (Err NoId, u) (λ _. (refl, same_erase s e t u same)) (λ _. (refl, same)))
 
-erase_key_same : (s : Shape) (x : ℕ) (key : List Value) → IsWholeKey (index_at s x).parts key → (t u : Table) → SameTable s t u → OfTables s (erase_key_outcome s x key) t u
-erase_key_same s x key whole t u same is iu =
-    (ap (λ ids. Ok (length ids)) (same_of_key s x key t u (asked (index_at s x).kind (index_at s x).parts key whole) same), same_erase_key s x key t u whole same)
+erase_key_same : (s : Shape) (x : ℕ) (key : List Value) → IsWholeKey (index_at s x).parts key
+    → (t u : Table) → SameTable s t u → OfTables s (erase_key_outcome s x key) t u
+erase_key_same s x key whole t u same is iu = (
+  ap (λ ids. Ok (length ids)) (same_of_key s x key t u (asked (index_at s x).kind (index_at s x).parts key whole) same),
+  same_erase_key s x key t u whole same,
+)
 
-relocate_same : (s : Shape) (x e : ℕ) (b : Option ℕ) → (index_at s x).kind ≡ Sequenced → (t u : Table) → SameTable s t u → OfTables s (relocate_outcome x e b) t u
+relocate_same : (s : Shape) (x e : ℕ) (b : Option ℕ) → (index_at s x).kind ≡ Sequenced
+    → (t u : Table) → SameTable s t u → OfTables s (relocate_outcome x e b) t u
 relocate_same s x e b placed =
     in_lists (OfTables s (relocate_outcome x e b)) s (λ rows next arrivals l m same is iu.
     let t : Table = with_lists rows l next arrivals in
@@ -131,14 +149,16 @@ relocate_same s x e b placed =
     (λ _. (refl, same_relocate s x e b t u (long s t u is iu) placed same)) (λ _. (refl, same)))
 
 -- tables by number
-is_table_at : (shapes : List Shape) (ts : List Table) (n : ℕ) (ds : Shape) (dt : Table) → IsTable ds dt → AllZip IsTable shapes ts → IsTable (get_or shapes n ds) (get_or ts n dt)
+is_table_at : (shapes : List Shape) (ts : List Table) (n : ℕ) (ds : Shape) (dt : Table)
+    → IsTable ds dt → AllZip IsTable shapes ts → IsTable (get_or shapes n ds) (get_or ts n dt)
 is_table_at [] [] n ds dt past all = past
 is_table_at [] (t ∷ ts) n ds dt past all = absurd all
 is_table_at (s ∷ shapes) [] n ds dt past all = absurd all
 is_table_at (s ∷ shapes) (t ∷ ts) zero ds dt past all = all.0
 is_table_at (s ∷ shapes) (t ∷ ts) (suc n) ds dt past all = is_table_at shapes ts n ds dt past all.1
 
-same_set : (shapes : List Shape) (ts us : List Table) (n : ℕ) (ds : Shape) (t u : Table) → AllZip IsTable shapes ts → SameTables shapes ts us → SameTable (get_or shapes n ds) t u
+same_set : (shapes : List Shape) (ts us : List Table) (n : ℕ) (ds : Shape) (t u : Table)
+    → AllZip IsTable shapes ts → SameTables shapes ts us → SameTable (get_or shapes n ds) t u
     → SameTables shapes (set ts n t) (set us n u)
 same_set [] [] us n ds t u all same new = subst (λ l. set [] n t ≡ set l n u) same refl
 same_set [] (v ∷ ts) us n ds t u all same new = absurd all
@@ -152,7 +172,8 @@ db c ts old r = record { catalog = c; tables = ts; old = old; revision = r }
 
 -- databases that show the same differ at most in their tables
 in_tables : (P : Database → Database → Type 0)
-    → ((c : CatalogShape) (ts us : List Table) (old others : List (List Table)) (r : ℕ) → SameDatabase (db c ts old r) (db c us others r) → P (db c ts old r) (db c us others r))
+    → ((c : CatalogShape) (ts us : List Table) (old others : List (List Table)) (r : ℕ)
+    → SameDatabase (db c ts old r) (db c us others r) → P (db c ts old r) (db c us others r))
     → (d e : Database) → SameDatabase d e → P d e
 in_tables P f d e same =
     subst (λ k. SameDatabase d (db k.0 e.tables e.old k.1) → P d (db k.0 e.tables e.old k.1))
@@ -173,8 +194,16 @@ module _ (c : CatalogShape) (ts us : List Table) (old others : List (List Table)
       let t : Table = table_of (db c ts old r) n in
       let u : Table = table_of (db c us others r) n in
       let o : SameOutcome s (change s t) (change s u) =
-      alike t u (same_at c.tables ts us n _ _ same.tables) (is_table_at c.tables ts n _ _ (is_table_opened _) is.tables) (is_table_at c.tables us n _ _ (is_table_opened _) iu.tables) in
-      (o.0, record { catalog = refl; tables = same_set c.tables ts us n _ (change s t).1 (change s u).1 is.tables same.tables o.1; old = same.old; revision = refl })
+      alike t u (same_at c.tables ts us n _ _ same.tables) (is_table_at c.tables ts n _ _ (is_table_opened _) is.tables)
+      (is_table_at c.tables us n _ _ (is_table_opened _) iu.tables) in (
+        o.0,
+        record {
+          catalog = refl;
+          tables = same_set c.tables ts us n _ (change s t).1 (change s u).1 is.tables same.tables o.1;
+          old = same.old;
+          revision = refl;
+        },
+      )
 
 -- steps of sessions
 same_depth : (d e : Database) → SameDatabase d e → depth d ≡ depth e
@@ -185,19 +214,23 @@ either_way true x y z w p q = p
 either_way false x y z w p q = q
 
 -- the same by a test of the depth, which is equal in both
-by_depth : {A : Type 0} (k m n : ℕ) (x y z w : A × Database) → m ≡ n → SameStep x z → SameStep y w → SameStep (if m == k then x else y) (if n == k then z else w)
+by_depth : {A : Type 0} (k m n : ℕ) (x y z w : A × Database) → m ≡ n → SameStep x z
+    → SameStep y w → SameStep (if m == k then x else y) (if n == k then z else w)
 by_depth k m n x y z w e p q = subst (λ n. SameStep (if m == k then x else y) (if n == k then z else w)) e (either_way (m == k) x y z w p q)
 
-started_same : (c : CatalogShape) (ts us : List Table) (old others : List (List Table)) (r : ℕ) → SameDatabase (db c ts old r) (db c us others r) → SameDatabase (started (db c ts old r)) (started (db c us others r))
+started_same : (c : CatalogShape) (ts us : List Table) (old others : List (List Table)) (r : ℕ)
+    → SameDatabase (db c ts old r) (db c us others r) → SameDatabase (started (db c ts old r)) (started (db c us others r))
 started_same c ts us old others r same = record { catalog = refl; tables = same.tables; old = (same.tables, same.old); revision = refl }
 
-undone_pair : (c : CatalogShape) (ts us : List Table) (old others : List (List Table)) (r : ℕ) → SameDatabase (db c ts old r) (db c us others r) → SameDatabase (undone (db c ts old r)) (undone (db c us others r))
+undone_pair : (c : CatalogShape) (ts us : List Table) (old others : List (List Table)) (r : ℕ)
+    → SameDatabase (db c ts old r) (db c us others r) → SameDatabase (undone (db c ts old r)) (undone (db c us others r))
 undone_pair c ts us [] [] r same = same
 undone_pair c ts us [] (o ∷ others) r same = absurd same.old
 undone_pair c ts us (o ∷ old) [] r same = absurd same.old
 undone_pair c ts us (o ∷ old) (p ∷ others) r same = record { catalog = refl; tables = same.old.0; old = same.old.1; revision = refl }
 
-squashed_pair : (c : CatalogShape) (ts us : List Table) (old others : List (List Table)) (r : ℕ) → SameDatabase (db c ts old r) (db c us others r) → SameDatabase (squashed (db c ts old r)) (squashed (db c us others r))
+squashed_pair : (c : CatalogShape) (ts us : List Table) (old others : List (List Table)) (r : ℕ)
+    → SameDatabase (db c ts old r) (db c us others r) → SameDatabase (squashed (db c ts old r)) (squashed (db c us others r))
 squashed_pair c ts us [] [] r same = same
 squashed_pair c ts us [] (o ∷ others) r same = absurd same.old
 squashed_pair c ts us (o ∷ old) [] r same = absurd same.old
@@ -224,47 +257,58 @@ committed_same x c ts us old others r same =
     record {
       catalog = refl;
       tables = same.tables;
-      old = subst (λ k. AllZip (SameTables c.tables) (take (length old - ended x r (length old)) old) (take (k - ended x r k) others)) (same_depth (db c ts old r) (db c us others r) same)
+      old = subst (λ k. AllZip (SameTables c.tables) (take (length old - ended x r (length old)) old) (take (k - ended x r k) others))
+          (same_depth (db c ts old r) (db c us others r) same)
           (zip_take (SameTables c.tables) (length old - ended x r (length old)) old others same.old);
       revision = refl;
     }
 
 -- each command, in databases of one catalog and one revision
 abbrev WorksInBoth : Command → Database → Database → Type 0
-WorksInBoth c d e = IsDatabase d → IsDatabase e → IsCommandOf d.catalog c → AnswersAlike c d e × SameDatabase (after c d) (after c e)
+WorksInBoth c d e = IsDatabase d → IsDatabase e → IsCommandOf d.catalog c → AnswersAlike c d e × SameDatabase (after_command c d) (after_command c e)
 
 works : (command : Command) (c : CatalogShape) (ts us : List Table) (old others : List (List Table)) (r : ℕ) → SameDatabase (db c ts old r) (db c us others r)
     → WorksInBoth command (db c ts old r) (db c us others r)
-works (Insert n at v) c ts us old others r same is iu placed = on_table_same c ts us old others r is iu same n (λ s t. insert_outcome s at v t) (insert_same (schema_at c n) at v placed)
-works (Replace n e v) c ts us old others r same is iu placed = on_table_same c ts us old others r is iu same n (λ s t. replace_outcome s e v t) (replace_same (schema_at c n) e v)
+works (Insert n at v) c ts us old others r same is iu placed = on_table_same c ts us old others
+    r is iu same n (λ s t. insert_outcome s at v t) (insert_same (schema_at c n) at v placed)
+works (Replace n e v) c ts us old others r same is iu placed = on_table_same c ts us old others
+    r is iu same n (λ s t. replace_outcome s e v t) (replace_same (schema_at c n) e v)
 works (Modify n e edits rollback) c ts us old others r same is iu placed =
     on_table_same c ts us old others r is iu same n (λ s t. modify_outcome s e edits rollback t) (modify_same (schema_at c n) e edits rollback)
-works (Erase n e) c ts us old others r same is iu placed = on_table_same c ts us old others r is iu same n (λ s t. erase_outcome e t) (erase_same (schema_at c n) e)
-works (EraseKey n x key) c ts us old others r same is iu placed = on_table_same c ts us old others r is iu same n (λ s t. erase_key_outcome s x key t) (erase_key_same (schema_at c n) x key placed)
-works (Relocate n x e b) c ts us old others r same is iu placed = on_table_same c ts us old others r is iu same n (λ s t. relocate_outcome x e b t) (relocate_same (schema_at c n) x e b placed)
+works (Erase n e) c ts us old others r same is iu placed = on_table_same c ts us old others r is
+    iu same n (λ s t. erase_outcome e t) (erase_same (schema_at c n) e)
+works (EraseKey n x key) c ts us old others r same is iu placed = on_table_same c ts us old others r
+    is iu same n (λ s t. erase_key_outcome s x key t) (erase_key_same (schema_at c n) x key placed)
+works (Relocate n x e b) c ts us old others r same is iu placed = on_table_same c ts us old others
+    r is iu same n (λ s t. relocate_outcome x e b t) (relocate_same (schema_at c n) x e b placed)
 works Start c ts us old others r same is iu placed =
     let d : Database = db c ts old r in
     let e : Database = db c us others r in
     either_way {A = Result ℕ Refusal} (is_spent r) (Err Spent, d) (if depth d == 1024 then (Err Depth, d) else (Ok (r + 1), started d)) (Err Spent, e)
     (if depth e == 1024 then (Err Depth, e) else (Ok (r + 1), started e)) (refl, same)
-    (by_depth {A = Result ℕ Refusal} 1024 (depth d) (depth e) (Err Depth, d) (Ok (r + 1), started d) (Err Depth, e) (Ok (r + 1), started e) (same_depth d e same) (refl, same)
+    (by_depth {A = Result ℕ Refusal} 1024 (depth d) (depth e) (Err Depth, d) (Ok (r + 1), started d)
+    (Err Depth, e) (Ok (r + 1), started e) (same_depth d e same) (refl, same)
     (refl, started_same c ts us old others r same))
 works Undo c ts us old others r same is iu placed =
     let d : Database = db c ts old r in
     let e : Database = db c us others r in
-    by_depth {A = Result ℕ NoSession} 0 (depth d) (depth e) (Err (record {}), d) (Ok (r - 1), undone d) (Err (record {}), e) (Ok (r - 1), undone e) (same_depth d e same) (refl, same)
+    by_depth {A = Result ℕ NoSession} 0 (depth d) (depth e) (Err (record {}), d) (Ok (r - 1), undone d)
+    (Err (record {}), e) (Ok (r - 1), undone e) (same_depth d e same) (refl, same)
     (refl, undone_pair c ts us old others r same)
 works Squash c ts us old others r same is iu placed =
     let d : Database = db c ts old r in
     let e : Database = db c us others r in
-    by_depth {A = Result ℕ NoSession} 0 (depth d) (depth e) (Err (record {}), d) (Ok (r - 1), squashed d) (Err (record {}), e) (Ok (r - 1), squashed e) (same_depth d e same) (refl, same)
+    by_depth {A = Result ℕ NoSession} 0 (depth d) (depth e) (Err (record {}), d) (Ok (r - 1), squashed d)
+    (Err (record {}), e) (Ok (r - 1), squashed e) (same_depth d e same) (refl, same)
     (refl, squashed_pair c ts us old others r same)
 works (Commit x) c ts us old others r same is iu placed =
     (ap (λ k. Ok (ended x r k)) (same_depth (db c ts old r) (db c us others r) same), committed_same x c ts us old others r same)
 works UndoAll c ts us old others r same is iu placed =
     let d : Database = db c ts old r in
-    let e : Database = db c us others r in
-    (ap Ok (same_depth d e same), subst (λ k. SameDatabase (undone_times (depth d) d) (undone_times k e)) (same_depth d e same) (undone_times_same (depth d) d e same))
+    let e : Database = db c us others r in (
+      ap Ok (same_depth d e same),
+      subst (λ k. SameDatabase (undone_times (depth d) d) (undone_times k e)) (same_depth d e same) (undone_times_same (depth d) d e same),
+    )
 
 pub commands_answer_alike : CommandsAnswerAlike
 commands_answer_alike c d e is iu placed same = in_tables (WorksInBoth c) (works c) d e same is iu placed
@@ -286,22 +330,25 @@ undone_times_catalog : (k : ℕ) (d : Database) → (undone_times k d).catalog �
 undone_times_catalog zero d = refl
 undone_times_catalog (suc k) d = undone_times_catalog k (undone d) ∙ undone_catalog d.catalog d.tables d.old d.revision
 
-catalog_after : (c : Command) (d : Database) → (after c d).catalog ≡ d.catalog
+catalog_after : (c : Command) (d : Database) → (after_command c d).catalog ≡ d.catalog
 catalog_after Start d =
-    catalog_either {A = Result ℕ Refusal} d.catalog (is_spent d.revision) (Err Spent, d) (if depth d == 1024 then (Err Depth, d) else (Ok (d.revision + 1), started d)) refl
+    catalog_either {A = Result ℕ Refusal} d.catalog (is_spent d.revision) (Err Spent, d)
+    (if depth d == 1024 then (Err Depth, d) else (Ok (d.revision + 1), started d)) refl
     (catalog_either {A = Result ℕ Refusal} d.catalog (depth d == 1024) (Err Depth, d) (Ok (d.revision + 1), started d) refl refl)
 catalog_after Undo d =
-    catalog_either {A = Result ℕ NoSession} d.catalog (depth d == 0) (Err (record {}), d) (Ok (d.revision - 1), undone d) refl (undone_catalog d.catalog d.tables d.old d.revision)
+    catalog_either {A = Result ℕ NoSession} d.catalog (depth d == 0) (Err (record {}), d)
+    (Ok (d.revision - 1), undone d) refl (undone_catalog d.catalog d.tables d.old d.revision)
 catalog_after Squash d =
-    catalog_either {A = Result ℕ NoSession} d.catalog (depth d == 0) (Err (record {}), d) (Ok (d.revision - 1), squashed d) refl (squashed_catalog d.catalog d.tables d.old d.revision)
+    catalog_either {A = Result ℕ NoSession} d.catalog (depth d == 0) (Err (record {}), d)
+    (Ok (d.revision - 1), squashed d) refl (squashed_catalog d.catalog d.tables d.old d.revision)
 catalog_after UndoAll d = undone_times_catalog (depth d) d
 catalog_after c d = refl
 
 pub runs_answer_alike : RunsAnswerAlike
 runs_answer_alike [] d e is iu placed same = same
 runs_answer_alike (c ∷ cs) d e is iu placed same =
-    let step : AnswersAlike c d e × SameDatabase (after c d) (after c e) = commands_answer_alike c d e is iu placed.0 same in (
+    let step : AnswersAlike c d e × SameDatabase (after_command c d) (after_command c e) = commands_answer_alike c d e is iu placed.0 same in (
       step.0,
-      runs_answer_alike cs (after c d) (after c e) (is_database_after c d is) (is_database_after c e iu)
+      runs_answer_alike cs (after_command c d) (after_command c e) (is_database_after c d is) (is_database_after c e iu)
           (subst (λ shapes. AllByRecursion (IsCommandOf shapes) cs) (sym (catalog_after c d)) placed.1) step.1,
     )

@@ -68,7 +68,8 @@ key_of_row [] e r all = record { key = Int (pos e) ∷ []; whole = refl; compare
 key_of_row (p ∷ ps) e r all = let k : KeyOf (p ∷ ps) r = whole_key (p ∷ ps) r all in record { key = k.key; whole = k.long; compares = λ q. k.compares q.1 }
 
 -- the ids of a row's key are the ids of the key of its values
-ids_beside : (s : Shape) (x e : ℕ) (t : Table) (key : List Value) → ((q : Row) → compare_rows (index_at s x).parts (row t e) q ≡ compare_to_row (index_at s x).parts key q)
+ids_beside : (s : Shape) (x e : ℕ) (t : Table) (key : List Value)
+    → ((q : Row) → compare_rows (index_at s x).parts (row t e) q ≡ compare_to_row (index_at s x).parts key q)
     → filter (λ id. is_eq (compare_ids (index_at s x) t e id)) (view s t x) ≡ of_key s t x key
 ids_beside s x e t key same = λ i. filter (λ id. is_eq (same (row t id) i)) (view s t x)
 
@@ -119,7 +120,8 @@ module _ (s : Shape) (x : ℕ) (t u : Table) (rows : t.rows ≡ u.rows) (shows :
   list_alike (Some e) limit = ap (λ ids. page_of limit (after_first (λ a. a == e) ids)) shows
 
   between_alike : (low : Lower) (high : Upper) → between s t x low high ≡ between s u x low high
-  between_alike low high = λ i. filter (λ id. meets_lower_alike (index_at s x) t u rows low id i && meets_upper_alike (index_at s x) t u rows high id i) (shows i)
+  between_alike low high = λ i. filter
+      (λ id. meets_lower_alike (index_at s x) t u rows low id i && meets_upper_alike (index_at s x) t u rows high id i) (shows i)
 
   listed_alike : ListedAlike s x t u
   listed_alike =
@@ -139,7 +141,7 @@ module _ (s : Shape) (x : ℕ) (t u : Table) (rows : t.rows ≡ u.rows) (shows :
         list = list_alike;
       }
 
-pub tables_alike : (s : Shape) (t u : Table) → SameTable s t u → TablesAlike s t u
+tables_alike : (s : Shape) (t u : Table) → SameTable s t u → TablesAlike s t u
 tables_alike s t u same =
     record {
       get = λ id. ap (λ rs. get (with_lists rs [] 0 0) id) same.rows;
@@ -150,7 +152,8 @@ tables_alike s t u same =
     }
 
 -- table by table
-pub same_at : (shapes : List Shape) (ts us : List Table) (n : ℕ) (ds : Shape) (dt : Table) → SameTables shapes ts us → SameTable (get_or shapes n ds) (get_or ts n dt) (get_or us n dt)
+pub same_at : (shapes : List Shape) (ts us : List Table) (n : ℕ) (ds : Shape) (dt : Table)
+    → SameTables shapes ts us → SameTable (get_or shapes n ds) (get_or ts n dt) (get_or us n dt)
 same_at [] ts us n ds dt same = subst (SameTable ds (get_or ts n dt)) (ap (λ l. get_or l n dt) same) (same_refl ds (get_or ts n dt))
 same_at (s ∷ shapes) [] [] n ds dt same = same_refl (get_or (s ∷ shapes) n ds) dt
 same_at (s ∷ shapes) [] (u ∷ us) n ds dt same = absurd same

@@ -1,5 +1,6 @@
 -- Each command takes databases to databases.
-use Rattle.std.proofs.Common.{◌≡◌, ℕ, ◌+◌, ◌-◌, ◌<◌, ◌≤◌, zero, suc, Bool, true, false, cond, not, ◌&&◌, Option, Some, None, List, [], ◌∷◌, length, take, get_or, set, refl, arith}
+use Rattle.std.proofs.Common.{◌≡◌, ℕ, ◌+◌, ◌-◌, ◌<◌, ◌≤◌, zero, suc, Bool, true, false, cond, not, ◌&&◌}
+use Rattle.std.proofs.Common.{Option, Some, None, List, [], ◌∷◌, length, take, get_or, set, refl, arith}
 use Rattle.std.specs.Prelude.{◌==◌, if◌then◌else◌}
 use Rattle.std.specs.List.{AllZip, AllByRecursion}
 use Rattle.std.specs.Option.{option_map, option_map_or}
@@ -16,13 +17,15 @@ use Rattle.mi_model.specs.Table.{Table, IsTable, has, row}
 use Rattle.mi_model.specs.View.{of_key}
 use Rattle.mi_model.specs.Conflict.{conflict}
 use Rattle.mi_model.specs.Change.{insert, put, erase, erase_all, relocate}
-use Rattle.mi_model.specs.Verdict.{Outcome, is_spent, has_place, unless, insert_refusal, insert_outcome, as_unique, replace_outcome, refused_modify, modified, modify_outcome, erase_outcome, erase_key_outcome, relocate_outcome}
+use Rattle.mi_model.specs.Verdict.{Outcome, is_spent, has_place, unless, insert_refusal, insert_outcome, as_unique, replace_outcome}
+use Rattle.mi_model.specs.Verdict.{refused_modify, modified, modify_outcome, erase_outcome, erase_key_outcome, relocate_outcome}
 use Rattle.mi_model.specs.Database.{Database, IsDatabase, schema_of, table_of, on_table, depth, started, undone, undone_times, squashed, ending, committed}
-use Rattle.mi_model.specs.Run.{Command, after, run}
+use Rattle.mi_model.specs.Run.{Command, after_command, run}
 use Rattle.mi_model.specs.Run.Command.{Insert, Replace, Modify, Erase, EraseKey, Relocate, Start, Undo, Squash, Commit, UndoAll}
 use Rattle.mi_model.proofs.TableLaws.{is_table_insert, is_table_erase, is_table_put, is_table_relocate}
 
-unless_keeps : {A : Type 0} (s : Shape) (o : Option Refusal) (answer : A) (changed t : Table) → IsTable s changed → IsTable s t → IsTable s (unless o answer changed t).1
+unless_keeps : {A : Type 0} (s : Shape) (o : Option Refusal) (answer : A) (changed t : Table)
+    → IsTable s changed → IsTable s t → IsTable s (unless o answer changed t).1
 unless_keeps s None answer changed t is was = is
 unless_keeps s (Some e) answer changed t is was = was
 
@@ -31,7 +34,7 @@ either_keeps : {A : Type 0} (s : Shape) (b : Bool) (x y : Outcome A) → (b ≡ 
 either_keeps s true x y f g = f refl
 either_keeps s false x y f g = g refl
 
-pub insert_keeps : (s : Shape) (at : Option (ℕ × ℕ)) (r : List Value) (t : Table) → IsTable s t → IsTable s (insert_outcome s at r t).1
+insert_keeps : (s : Shape) (at : Option (ℕ × ℕ)) (r : List Value) (t : Table) → IsTable s t → IsTable s (insert_outcome s at r t).1
 insert_keeps s at r t is = unless_keeps s (insert_refusal s at r t) t.next (insert at r t) t (is_table_insert s at r t is) is
 
 pub not_not : (b : Bool) → not b ≡ false → b ≡ true
@@ -43,7 +46,7 @@ replaced_keeps : (s : Shape) (e : ℕ) (r : List Value) (t : Table) (there : Boo
 replaced_keeps s e r t true there rest is = unless_keeps {A = Unit {0}} s rest tt (put s e r t) t (is_table_put s e r t there is) is
 replaced_keeps s e r t false there rest is = is
 
-pub replace_keeps : (s : Shape) (e : ℕ) (r : List Value) (t : Table) → IsTable s t → IsTable s (replace_outcome s e r t).1
+replace_keeps : (s : Shape) (e : ℕ) (r : List Value) (t : Table) → IsTable s t → IsTable s (replace_outcome s e r t).1
 replace_keeps s e r t is = replaced_keeps s e r t (has t e) refl (if is_spent t.arrivals then Some Spent else option_map as_unique (conflict s t r (Some e))) is
 
 lost_keeps : (s : Shape) (e : ℕ) (r : List Value) (rollback : Bool) (t : Table) (at : Option (ℕ × ℕ)) → has t e ≡ true → IsTable s t
@@ -52,44 +55,48 @@ lost_keeps s e r rollback t None there is = is_table_put s e r t there is
 lost_keeps s e r true t (Some at) there is = is
 lost_keeps s e r false t (Some at) there is = is_table_erase s e t is
 
-modified_keeps : (s : Shape) (e : ℕ) (rollback : Bool) (r : Option (List Value)) (t : Table) → has t e ≡ true → IsTable s t → IsTable s (modified s e rollback r t).1
+modified_keeps : (s : Shape) (e : ℕ) (rollback : Bool) (r : Option (List Value)) (t : Table)
+    → has t e ≡ true → IsTable s t → IsTable s (modified s e rollback r t).1
 modified_keeps s e rollback None t there is = is
 modified_keeps s e rollback (Some r) t there is =
-    either_keeps {A = Unit {0}} s (is_spent t.arrivals) (Err Spent, t) (option_map_or (λ at. refused_modify rollback e at t) (conflict s t r (Some e)) (Ok tt, put s e r t))
+    either_keeps {A = Unit {0}} s (is_spent t.arrivals) (Err Spent, t)
+    (option_map_or (λ at. refused_modify rollback e at t) (conflict s t r (Some e)) (Ok tt, put s e r t))
     (λ _. is) (λ _. lost_keeps s e r rollback t (conflict s t r (Some e)) there is)
 
-pub modify_keeps : (s : Shape) (e : ℕ) (edits : List Edit) (rollback : Bool) (t : Table) → IsTable s t → IsTable s (modify_outcome s e edits rollback t).1
+modify_keeps : (s : Shape) (e : ℕ) (edits : List Edit) (rollback : Bool) (t : Table) → IsTable s t → IsTable s (modify_outcome s e edits rollback t).1
 modify_keeps s e edits rollback t is =
     either_keeps {A = Unit {0}} s (not (has t e)) (Err NoId, t) (modified s e rollback (apply edits (row t e).1) t) (λ _. is)
     (λ there. modified_keeps s e rollback (apply edits (row t e).1) t (not_not (has t e) there) is)
 
-pub erase_keeps : (s : Shape) (e : ℕ) (t : Table) → IsTable s t → IsTable s (erase_outcome e t).1
+erase_keeps : (s : Shape) (e : ℕ) (t : Table) → IsTable s t → IsTable s (erase_outcome e t).1
 erase_keeps s e t is = either_keeps {A = Unit {0}} s (has t e) (Ok tt, erase e t) (Err NoId, t) (λ _. is_table_erase s e t is) (λ _. is)
 
-pub is_table_erase_all : (s : Shape) (ids : List ℕ) (t : Table) → IsTable s t → IsTable s (erase_all ids t)
+is_table_erase_all : (s : Shape) (ids : List ℕ) (t : Table) → IsTable s t → IsTable s (erase_all ids t)
 is_table_erase_all s [] t is = is
 is_table_erase_all s (e ∷ ids) t is = is_table_erase_all s ids (erase e t) (is_table_erase s e t is)
 
-pub erase_key_keeps : (s : Shape) (x : ℕ) (key : List Value) (t : Table) → IsTable s t → IsTable s (erase_key_outcome s x key t).1
+erase_key_keeps : (s : Shape) (x : ℕ) (key : List Value) (t : Table) → IsTable s t → IsTable s (erase_key_outcome s x key t).1
 erase_key_keeps s x key t is = is_table_erase_all s (of_key s t x key) t is
 
 both_true : (a b : Bool) → (a && b) ≡ true → a ≡ true
 both_true true b e = refl
 both_true false b e = absurd (cc)
 
-pub relocate_keeps : (s : Shape) (x e : ℕ) (b : Option ℕ) (t : Table) → IsTable s t → IsTable s (relocate_outcome x e b t).1
+relocate_keeps : (s : Shape) (x e : ℕ) (b : Option ℕ) (t : Table) → IsTable s t → IsTable s (relocate_outcome x e b t).1
 relocate_keeps s x e b t is =
     either_keeps {A = Unit {0}} s (has t e && has_place t b) (Ok tt, relocate x e b t) (Err NoId, t)
     (λ there. is_table_relocate s x e b t (both_true (has t e) (has_place t b) there) is) (λ _. is)
 
-pub zip_get : (R : Shape → Table → Type 0) (xs : List Shape) (ys : List Table) (n : ℕ) (d : Shape) (e : Table) → AllZip R xs ys → n < length ys → R (get_or xs n d) (get_or ys n e)
+pub zip_get : (R : Shape → Table → Type 0) (xs : List Shape) (ys : List Table) (n : ℕ) (d : Shape) (e : Table)
+    → AllZip R xs ys → n < length ys → R (get_or xs n d) (get_or ys n e)
 zip_get R [] [] n d e all l = absurd (omega arith)
 zip_get R [] (y ∷ ys) n d e all l = absurd all
 zip_get R (x ∷ xs) [] n d e all l = absurd all
 zip_get R (x ∷ xs) (y ∷ ys) zero d e all l = all.0
 zip_get R (x ∷ xs) (y ∷ ys) (suc n) d e all l = zip_get R xs ys n d e all.1 (omega arith)
 
-pub zip_set : (R : Shape → Table → Type 0) (xs : List Shape) (ys : List Table) (n : ℕ) (d : Shape) (u : Table) → AllZip R xs ys → (n < length ys → R (get_or xs n d) u) → AllZip R xs (set ys n u)
+pub zip_set : (R : Shape → Table → Type 0) (xs : List Shape) (ys : List Table) (n : ℕ) (d : Shape) (u : Table)
+    → AllZip R xs ys → (n < length ys → R (get_or xs n d) u) → AllZip R xs (set ys n u)
 zip_set R [] [] n d u all p = all
 zip_set R [] (y ∷ ys) n d u all p = absurd all
 zip_set R (x ∷ xs) [] n d u all p = absurd all
@@ -97,7 +104,8 @@ zip_set R (x ∷ xs) (y ∷ ys) zero d u all p = (p (omega arith), all.1)
 zip_set R (x ∷ xs) (y ∷ ys) (suc n) d u all p = (all.0, zip_set R xs ys n d u all.1 (λ l. p (omega arith)))
 
 -- a change that keeps tables keeps databases
-pub on_table_keeps : {A : Type 0} (n : ℕ) (change : Shape → Table → Outcome A) → ((s : Shape) (t : Table) → IsTable s t → IsTable s (change s t).1) → (d : Database) → IsDatabase d → IsDatabase (on_table n change d).1
+on_table_keeps : {A : Type 0} (n : ℕ) (change : Shape → Table → Outcome A)
+    → ((s : Shape) (t : Table) → IsTable s t → IsTable s (change s t).1) → (d : Database) → IsDatabase d → IsDatabase (on_table n change d).1
 on_table_keeps n change keeps d is =
     record {
       tables = zip_set IsTable d.catalog.tables d.tables n _ (change (schema_of d n) (table_of d n)).1 is.tables
@@ -139,7 +147,9 @@ committed_is x d is =
     record {
       tables = is.tables;
       old = all_take (AllZip IsTable d.catalog.tables) _ d.old is.old;
-      numbered = (let l : length d.old ≤ d.revision = is.numbered in let m : length (take (depth d - ending x d) d.old) ≤ length d.old = length_take _ d.old in omega arith);
+      numbered = (let l : length d.old ≤ d.revision = is.numbered in
+          let m : length (take (depth d - ending x d) d.old) ≤ length d.old = length_take _ d.old in
+          omega arith);
     }
 
 -- whichever way a test goes
@@ -148,21 +158,24 @@ either_is true x y p q = p
 either_is false x y p q = q
 
 -- each command, accepted or refused, takes databases to databases
-pub is_database_after : (c : Command) (d : Database) → IsDatabase d → IsDatabase (after c d)
+pub is_database_after : (c : Command) (d : Database) → IsDatabase d → IsDatabase (after_command c d)
 is_database_after (Insert n at r) d is = on_table_keeps n (λ s t. insert_outcome s at r t) (λ s t. insert_keeps s at r t) d is
 is_database_after (Replace n e r) d is = on_table_keeps n (λ s t. replace_outcome s e r t) (λ s t. replace_keeps s e r t) d is
-is_database_after (Modify n e edits rollback) d is = on_table_keeps n (λ s t. modify_outcome s e edits rollback t) (λ s t. modify_keeps s e edits rollback t) d is
+is_database_after (Modify n e edits rollback) d is = on_table_keeps n
+    (λ s t. modify_outcome s e edits rollback t) (λ s t. modify_keeps s e edits rollback t) d is
 is_database_after (Erase n e) d is = on_table_keeps n (λ s t. erase_outcome e t) (λ s t. erase_keeps s e t) d is
 is_database_after (EraseKey n x key) d is = on_table_keeps n (λ s t. erase_key_outcome s x key t) (λ s t. erase_key_keeps s x key t) d is
 is_database_after (Relocate n x e b) d is = on_table_keeps n (λ s t. relocate_outcome x e b t) (λ s t. relocate_keeps s x e b t) d is
 is_database_after Start d is =
     either_is {A = Result ℕ Refusal} (is_spent d.revision) (Err Spent, d) (if depth d == 1024 then (Err Depth, d) else (Ok (d.revision + 1), started d)) is
     (either_is {A = Result ℕ Refusal} (depth d == 1024) (Err Depth, d) (Ok (d.revision + 1), started d) is (started_is d is))
-is_database_after Undo d is = either_is {A = Result ℕ NoSession} (depth d == 0) (Err (record {}), d) (Ok (d.revision - 1), undone d) is (undone_is d.catalog d.tables d.old d.revision is)
-is_database_after Squash d is = either_is {A = Result ℕ NoSession} (depth d == 0) (Err (record {}), d) (Ok (d.revision - 1), squashed d) is (squashed_is d.catalog d.tables d.old d.revision is)
+is_database_after Undo d is = either_is {A = Result ℕ NoSession} (depth d == 0) (Err (record {}), d)
+    (Ok (d.revision - 1), undone d) is (undone_is d.catalog d.tables d.old d.revision is)
+is_database_after Squash d is = either_is {A = Result ℕ NoSession} (depth d == 0) (Err (record {}), d)
+    (Ok (d.revision - 1), squashed d) is (squashed_is d.catalog d.tables d.old d.revision is)
 is_database_after (Commit x) d is = committed_is x d is
 is_database_after UndoAll d is = undone_times_is (depth d) d is
 
 pub is_database_run : (cs : List Command) (d : Database) → IsDatabase d → IsDatabase (run cs d)
 is_database_run [] d is = is
-is_database_run (c ∷ cs) d is = is_database_run cs (after c d) (is_database_after c d is)
+is_database_run (c ∷ cs) d is = is_database_run cs (after_command c d) (is_database_after c d is)

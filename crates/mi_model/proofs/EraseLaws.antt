@@ -30,7 +30,8 @@ or_end : (x : Bool) → (x || false) ≡ x
 or_end true = refl
 or_end false = refl
 
-any_step : (b : Bool) (q : ℕ → Bool) (e a : ℕ) (xs placed : List ℕ) → list_any q placed ≡ (q e || list_any q xs) → list_any q (cond b (e ∷ a ∷ xs) (a ∷ placed)) ≡ (q e || list_any q (a ∷ xs))
+any_step : (b : Bool) (q : ℕ → Bool) (e a : ℕ) (xs placed : List ℕ) → list_any q placed ≡ (q e || list_any q xs)
+    → list_any q (cond b (e ∷ a ∷ xs) (a ∷ placed)) ≡ (q e || list_any q (a ∷ xs))
 any_step true q e a xs placed h = refl
 any_step false q e a xs placed h = ap (λ b. q a || b) h ∙ or_swap (q a) (q e) (list_any q xs)
 
@@ -38,7 +39,8 @@ any-place : (q : ℕ → Bool) (order : ℕ → ℕ → Ordering) (e : ℕ) (xs 
 any-place q order e [] = refl
 any-place q order e (a ∷ xs) = any_step (is_lt (order e a)) q e a xs (place order e xs) (any-place q order e xs)
 
-any_from : (q : ℕ → Bool) (order : ℕ → ℕ → Ordering) (done ids : List ℕ) → list_any q (fold (λ d e. place order e d) done ids) ≡ (list_any q done || list_any q ids)
+any_from : (q : ℕ → Bool) (order : ℕ → ℕ → Ordering) (done ids : List ℕ)
+    → list_any q (fold (λ d e. place order e d) done ids) ≡ (list_any q done || list_any q ids)
 any_from q order done [] = sym (or_end (list_any q done))
 any_from q order done (e ∷ ids) =
     any_from q order (place order e done) ids ∙ ap (λ b. b || list_any q ids) (any-place q order e done) ∙ or_left (q e) (list_any q done) (list_any q ids)
@@ -46,7 +48,8 @@ any_from q order done (e ∷ ids) =
 any-sorted : (q : ℕ → Bool) (order : ℕ → ℕ → Ordering) (ids : List ℕ) → list_any q (sorted order ids) ≡ list_any q ids
 any-sorted q order ids = any_from q order [] ids
 
-any_filter_step : (b : Bool) (q : ℕ → Bool) (x : ℕ) (kept rest : List ℕ) (r : Bool) → list_any q kept ≡ r → list_any q (cond b (x ∷ kept) kept) ≡ ((b && q x) || r)
+any_filter_step : (b : Bool) (q : ℕ → Bool) (x : ℕ) (kept rest : List ℕ) (r : Bool)
+    → list_any q kept ≡ r → list_any q (cond b (x ∷ kept) kept) ≡ ((b && q x) || r)
 any_filter_step true q x kept rest r h = ap (λ b. q x || b) h
 any_filter_step false q x kept rest r h = h
 
@@ -62,7 +65,8 @@ unfolding one
 count_filter true x kept = omega arith
 count_filter false x kept = omega arith
 
-count_step : (b : Bool) (p : ℕ → Bool) (e a : ℕ) (xs placed : List ℕ) → length (filter p placed) ≡ one (p e) + length (filter p xs) → length (filter p (cond b (e ∷ a ∷ xs) (a ∷ placed))) ≡ one (p e) + length (filter p (a ∷ xs))
+count_step : (b : Bool) (p : ℕ → Bool) (e a : ℕ) (xs placed : List ℕ) → length (filter p placed) ≡ one (p e) + length (filter p xs)
+    → length (filter p (cond b (e ∷ a ∷ xs) (a ∷ placed))) ≡ one (p e) + length (filter p (a ∷ xs))
 count_step true p e a xs placed h = count_filter (p e) e (filter p (a ∷ xs))
 count_step false p e a xs placed h =
     let left : length (filter p (a ∷ placed)) ≡ one (p a) + length (filter p placed) = count_filter (p a) a (filter p placed) in
@@ -73,10 +77,12 @@ count-place : (p : ℕ → Bool) (order : ℕ → ℕ → Ordering) (e : ℕ) (x
 count-place p order e [] = count_filter (p e) e []
 count-place p order e (a ∷ xs) = count_step (is_lt (order e a)) p e a xs (place order e xs) (count-place p order e xs)
 
-count_from : (p : ℕ → Bool) (order : ℕ → ℕ → Ordering) (done ids : List ℕ) → length (filter p (fold (λ d e. place order e d) done ids)) ≡ length (filter p done) + length (filter p ids)
+count_from : (p : ℕ → Bool) (order : ℕ → ℕ → Ordering) (done ids : List ℕ)
+    → length (filter p (fold (λ d e. place order e d) done ids)) ≡ length (filter p done) + length (filter p ids)
 count_from p order done [] = omega arith
 count_from p order done (e ∷ ids) =
-    let later : length (filter p (fold (λ d e. place order e d) (place order e done) ids)) ≡ length (filter p (place order e done)) + length (filter p ids) = count_from p order (place order e done) ids in
+    let later : length (filter p (fold (λ d e. place order e d) (place order e done) ids))
+    ≡ length (filter p (place order e done)) + length (filter p ids) = count_from p order (place order e done) ids in
     let placed : length (filter p (place order e done)) ≡ one (p e) + length (filter p done) = count-place p order e done in
     let first : length (filter p (e ∷ ids)) ≡ one (p e) + length (filter p ids) = count_filter (p e) e (filter p ids) in
     omega (arith, later, placed, first)
@@ -94,7 +100,8 @@ any-shown q Ranked order ids = any-sorted q order ids
 any-shown q Hashed order ids = refl
 any-shown q Sequenced order ids = refl
 
-pub in-shown : (p : ℕ → Bool) (kind : IndexKind) (order : ℕ → ℕ → Ordering) (ids : List ℕ) (a : ℕ) → is_in (filter p (shown kind order ids)) a ≡ is_in (filter p ids) a
+pub in-shown : (p : ℕ → Bool) (kind : IndexKind) (order : ℕ → ℕ → Ordering) (ids : List ℕ) (a : ℕ)
+    → is_in (filter p (shown kind order ids)) a ≡ is_in (filter p ids) a
 in-shown p kind order ids a =
     any-filter p (λ b. a == b) (shown kind order ids) ∙ any-shown (λ b. p b && (a == b)) kind order ids ∙ sym (any-filter p (λ b. a == b) ids)
 
@@ -103,7 +110,8 @@ module _ {X : Type 0} where
   filter_all [] = refl
   filter_all (x ∷ xs) = ap (λ ys. x ∷ ys) (filter_all xs)
 
-  filter_twice_step : (b : Bool) (p : X → Bool) (x : X) (kept rest : List X) → filter p kept ≡ rest → filter p (cond b (x ∷ kept) kept) ≡ cond (b && p x) (x ∷ rest) rest
+  filter_twice_step : (b : Bool) (p : X → Bool) (x : X) (kept rest : List X)
+      → filter p kept ≡ rest → filter p (cond b (x ∷ kept) kept) ≡ cond (b && p x) (x ∷ rest) rest
   filter_twice_step true p x kept rest h = ap (λ ys. cond (p x) (x ∷ ys) ys) h
   filter_twice_step false p x kept rest h = h
 
@@ -138,7 +146,8 @@ erase_all-is [] t = sym (ap₂ (with_both t) (filter_all t.rows) (map_all t.list
 erase_all-is (e ∷ ids) t =
     erase_all-is ids (erase e t)
     ∙ ap₂ (with_both t)
-    (filter_twice (λ r. not (is_in ids r.0)) (λ r. not (r.0 == e)) t.rows ∙ filter_alike (λ r. not (r.0 == e) && not (is_in ids r.0)) (λ r. not (is_in (e ∷ ids) r.0)) (λ r. neither (r.0 == e) (is_in ids r.0)) t.rows)
+    (filter_twice (λ r. not (is_in ids r.0)) (λ r. not (r.0 == e)) t.rows
+    ∙ filter_alike (λ r. not (r.0 == e) && not (is_in ids r.0)) (λ r. not (is_in (e ∷ ids) r.0)) (λ r. neither (r.0 == e) (is_in ids r.0)) t.rows)
     (map_twice (λ a. not (is_in ids a)) (λ a. not (a == e)) (λ a. not (is_in (e ∷ ids) a)) (λ a. neither (a == e) (is_in ids a)) t.lists)
 
 map_alike : (p q : ℕ → Bool) → ((a : ℕ) → p a ≡ q a) → (lists : List (List ℕ)) → map (filter p) lists ≡ map (filter q) lists

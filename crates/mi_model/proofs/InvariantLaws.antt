@@ -1,5 +1,5 @@
 -- What a change of one table leaves of a database.
-use Rattle.std.proofs.Common.{◌≡◌, ℕ, sym, subst, ap, refl, zero, suc, ◌<◌, length, List, [], ◌∷◌, get_or, arith}
+use Rattle.std.proofs.Common.{◌≡◌, ℕ, sym, subst, ap, refl, suc, ◌<◌, length, List, [], ◌∷◌, arith}
 use Rattle.std.specs.List.{AllZip}
 use Rattle.std.specs.declared.result.Result.{Result}
 use Rattle.std.specs.declared.result.Result.TheVariants.{Ok, Err}
@@ -17,7 +17,8 @@ refused_is step Memory old new is after m = subst IsDatabase (sym m) is
 refused_is step e old new is after m = subst IsDatabase (sym m.1) after
 
 -- what meets a step that keeps databases is a database
-pub met_is : {A : Type 0} (step : Step A) (r : Result A Refusal) (old new : Database) → IsDatabase old → IsDatabase step.1 → Meets step r old new → IsDatabase new
+pub met_is : {A : Type 0} (step : Step A) (r : Result A Refusal) (old new : Database)
+    → IsDatabase old → IsDatabase step.1 → Meets step r old new → IsDatabase new
 met_is step (Ok v) old new is after m = subst IsDatabase (sym m.1) after
 met_is step (Err e) old new is after m = refused_is step e old new is after m
 

@@ -1,5 +1,6 @@
 -- Ranks and neighbours in a list that rises by an order, and the ends of what sorting gives.
-use Rattle.std.proofs.Common.{◌≡◌, ◌≢◌, ℕ, zero, suc, ◌+◌, ◌<◌, ◌≤◌, Bool, true, false, cond, not, inl, inr, Option, Some, None, List, [], ◌∷◌, length, slice_get, refl, ap, sym, ◌∙◌, subst, arith}
+use Rattle.std.proofs.Common.{◌≡◌, ◌≢◌, ℕ, zero, suc, ◌+◌, ◌<◌, ◌≤◌, Bool, true, false, cond, not, inl, inr, Option}
+use Rattle.std.proofs.Common.{Some, None, List, [], ◌∷◌, length, slice_get, refl, ap, sym, ◌∙◌, subst, arith}
 use Rattle.std.specs.Prelude.{◌==◌}
 use Rattle.std.specs.List.{filter, AllByRecursion}
 use Rattle.std.specs.Ordering.{is_lt, ordering_reverse, nat_cmp, on}
@@ -74,7 +75,9 @@ rank_at zero e (a ∷ xs) once h = let k : Some a ≡ Some e = h in let is : a �
 rank_at (suc n) e (a ∷ xs) once h =
     let some : 0 < times e xs = stands e n xs h in
     elim (eqb_tells a e) [
-      | inl is ↦ absurd (let o : cond {A = ℕ} (a == e) 1 0 + times e xs ≤ 1 = once e in let c : cond {A = ℕ} (a == e) 1 0 ≡ 1 = ap (λ b. cond {A = ℕ} b 1 0) is.0 in omega (arith, o, c, some))
+      | inl is ↦ absurd (let o : cond {A = ℕ} (a == e) 1 0 + times e xs ≤ 1 = once e in
+          let c : cond {A = ℕ} (a == e) 1 0 ≡ 1 = ap (λ b. cond {A = ℕ} b 1 0) is.0 in
+          omega (arith, o, c, some))
       | inr isnt ↦
           let later : rank_in xs e ≡ n = rank_at n e xs (λ id. let o : cond {A = ℕ} (a == id) 1 0 + times id xs ≤ 1 = once id in omega (arith, o)) h in
           let more : 1 + rank_in xs e ≡ suc n = omega (arith, later) in
@@ -88,10 +91,14 @@ less_of m n l = ap (λ b. cond b Less (cond (m == n) Equal Greater)) (lt-ltb m n
 pub places_rise : (xs : List ℕ) → ((id : ℕ) → times id xs ≤ 1) → Rises (on (rank_in xs) nat_cmp) xs
 places_rise [] once = tt
 places_rise (a ∷ xs) once =
-    let others : Lacks a xs = lacks_of_count a xs (let n : cond {A = ℕ} (a == a) 1 0 + times a xs ≤ 1 = once a in let c : cond {A = ℕ} (a == a) 1 0 ≡ 1 = ap (λ b. cond {A = ℕ} b 1 0) (count_itself a) in omega (arith, n, c)) in (
+    let others : Lacks a xs =
+    lacks_of_count a xs (let n : cond {A = ℕ} (a == a) 1 0 + times a xs ≤ 1 = once a in
+    let c : cond {A = ℕ} (a == a) 1 0 ≡ 1 = ap (λ b. cond {A = ℕ} b 1 0) (count_itself a) in
+    omega (arith, n, c)) in (
       each (λ b ne.
           let r : rank_in (a ∷ xs) a ≡ 0 = rank_first a a xs (count_itself a) in
-          let q : rank_in (a ∷ xs) b ≡ 1 + rank_in xs b = rank_next b a xs (not_same a b (λ e. ne (sym e))) in less_of (rank_in (a ∷ xs) a) (rank_in (a ∷ xs) b) (omega (arith, r, q))) xs others,
+          let q : rank_in (a ∷ xs) b ≡ 1 + rank_in xs b = rank_next b a xs (not_same a b (λ e. ne (sym e))) in
+          less_of (rank_in (a ∷ xs) a) (rank_in (a ∷ xs) b) (omega (arith, r, q))) xs others,
       rises_further xs others (places_rise xs (λ id. let n : cond {A = ℕ} (a == id) 1 0 + times id xs ≤ 1 = once id in omega (arith, n))),
     )
   where
@@ -102,7 +109,8 @@ places_rise (a ∷ xs) once =
         let k : rank_in xs b < rank_in xs c = ranked (rank_in xs b) (rank_in xs c) Less (sym l) in
         less_of (rank_in (a ∷ xs) b) (rank_in (a ∷ xs) c) (omega (arith, q, r, k))
 
-    all_further : (b : ℕ) → b ≢ a → (ys : List ℕ) → Lacks a ys → AllByRecursion (λ c. nat_cmp (rank_in xs b) (rank_in xs c) ≡ Less) ys → AllByRecursion (λ c. nat_cmp (rank_in (a ∷ xs) b) (rank_in (a ∷ xs) c) ≡ Less) ys
+    all_further : (b : ℕ) → b ≢ a → (ys : List ℕ) → Lacks a ys → AllByRecursion (λ c. nat_cmp (rank_in xs b) (rank_in xs c) ≡ Less) ys
+        → AllByRecursion (λ c. nat_cmp (rank_in (a ∷ xs) b) (rank_in (a ∷ xs) c) ≡ Less) ys
     all_further b nb [] others all = tt
     all_further b nb (c ∷ ys) others all = (further b c nb others.0 all.0, all_further b nb ys others.1 all.1)
 
@@ -144,7 +152,8 @@ module _ {order : ℕ → ℕ → Ordering} (o : IsTotalOrder order) where
       elim (eqb_tells a e) [
         | inl is ↦
             ap length (filter_yes (λ a. not (is_lt (order e a))) a xs (ap not (itself e a (sym is.1))))
-            ∙ ap (λ ys. length (a ∷ ys)) (filter_none (λ a. not (is_lt (order e a))) xs (each (λ b l. ap (λ r. not (is_lt r)) l) xs (later_than e a xs is.1 up.0)))
+            ∙ ap (λ ys. length (a ∷ ys)) (filter_none (λ a. not (is_lt (order e a))) xs
+            (each (λ b l. ap (λ r. not (is_lt r)) l) xs (later_than e a xs is.1 up.0)))
             ∙ ap (λ n. n + 1) (sym (rank_first e a xs is.0))
         | inr isnt ↦
             let there : 0 < times e xs = behind_first e a xs isnt.0 some in
@@ -158,15 +167,19 @@ module _ {order : ℕ → ℕ → Ordering} (o : IsTotalOrder order) where
   abbrev pub HoldsBefore : (ℕ → Bool) → Type 0
   HoldsBefore p = (a b : ℕ) → order a b ≡ Less → p b ≡ true → p a ≡ true
 
-  none_behind : (p : ℕ → Bool) → HoldsBefore p → (a : ℕ) (xs : List ℕ) → p a ≡ false → AllByRecursion (λ b. order a b ≡ Less) xs → AllByRecursion (λ b. p b ≡ false) xs
-  none_behind p holds a xs isnt all = each (λ b l. both_ways (p b) (λ yes. absurd (let h : p a ≡ true = holds a b l yes in let k : true ≡ false = sym h ∙ isnt in cc)) (λ no. no)) xs all
+  none_behind : (p : ℕ → Bool) → HoldsBefore p → (a : ℕ) (xs : List ℕ) → p a ≡ false
+      → AllByRecursion (λ b. order a b ≡ Less) xs → AllByRecursion (λ b. p b ≡ false) xs
+  none_behind p holds a xs isnt all = each
+      (λ b l. both_ways (p b) (λ yes. absurd (let h : p a ≡ true = holds a b l yes in let k : true ≡ false = sym h ∙ isnt in cc)) (λ no. no)) xs all
 
   -- the first for which it doesn't hold has as many before it as there are for which it does
-  pub first_past : (p : ℕ → Bool) → HoldsBefore p → (xs : List ℕ) → Rises order xs → slice_get (filter (λ a. not (p a)) xs) 0 ≡ slice_get xs (length (filter p xs))
+  pub first_past : (p : ℕ → Bool) → HoldsBefore p → (xs : List ℕ) → Rises order xs
+      → slice_get (filter (λ a. not (p a)) xs) 0 ≡ slice_get xs (length (filter p xs))
   first_past p holds [] up = refl
   first_past p holds (a ∷ xs) up =
       both_ways (p a)
-      (λ yes. ap (λ ys. slice_get ys 0) (filter_no (λ a. not (p a)) a xs (ap not yes)) ∙ first_past p holds xs up.1 ∙ ap (λ ys. slice_get (a ∷ xs) (length ys)) (sym (filter_yes p a xs yes)))
+      (λ yes. ap (λ ys. slice_get ys 0) (filter_no (λ a. not (p a)) a xs (ap not yes))
+      ∙ first_past p holds xs up.1 ∙ ap (λ ys. slice_get (a ∷ xs) (length ys)) (sym (filter_yes p a xs yes)))
       (λ isnt. ap (λ ys. slice_get ys 0) (filter_yes (λ a. not (p a)) a xs (ap not isnt))
       ∙ ap (λ ys. slice_get (a ∷ xs) (length ys)) (sym (filter_no p a xs isnt ∙ filter_none p xs (none_behind p holds a xs isnt up.0))))
 
@@ -175,11 +188,13 @@ module _ {order : ℕ → ℕ → Ordering} (o : IsTotalOrder order) where
   one_further a (suc n) xs ys h = h
 
   -- the last for which it holds stands there too
-  pub last_before : (p : ℕ → Bool) → HoldsBefore p → (xs : List ℕ) → Rises order xs → before_place (filter p xs) (length (filter p xs)) ≡ before_place xs (length (filter p xs))
+  pub last_before : (p : ℕ → Bool) → HoldsBefore p → (xs : List ℕ) → Rises order xs
+      → before_place (filter p xs) (length (filter p xs)) ≡ before_place xs (length (filter p xs))
   last_before p holds [] up = refl
   last_before p holds (a ∷ xs) up =
       both_ways (p a)
-      (λ yes. ap (λ ys. before_place ys (length ys)) (filter_yes p a xs yes) ∙ one_further a (length (filter p xs)) (filter p xs) xs (last_before p holds xs up.1)
+      (λ yes. ap (λ ys. before_place ys (length ys)) (filter_yes p a xs yes)
+      ∙ one_further a (length (filter p xs)) (filter p xs) xs (last_before p holds xs up.1)
       ∙ ap (λ ys. before_place (a ∷ xs) (length ys)) (sym (filter_yes p a xs yes)))
       (λ isnt.
       let none : filter p (a ∷ xs) ≡ [] = filter_no p a xs isnt ∙ filter_none p xs (none_behind p holds a xs isnt up.0) in
@@ -196,7 +211,8 @@ later order e (Some b) = cond (is_lt (order e b)) (Some b) (Some e)
 
 pub first-place : (order : ℕ → ℕ → Ordering) (e : ℕ) (ids : List ℕ) → slice_get (place order e ids) 0 ≡ sooner order e (slice_get ids 0)
 first-place order e [] = refl
-first-place order e (a ∷ ids) = elim (is_lt (order e a)) as (λ b. slice_get (cond b (e ∷ a ∷ ids) (a ∷ place order e ids)) 0 ≡ cond b (Some e) (Some a)) [ true ↦ refl | false ↦ refl ]
+first-place order e (a ∷ ids) = elim (is_lt (order e a))
+    as (λ b. slice_get (cond b (e ∷ a ∷ ids) (a ∷ place order e ids)) 0 ≡ cond b (Some e) (Some a)) [ true ↦ refl | false ↦ refl ]
 
 -- the last of a list
 abbrev pub last_in : List ℕ → Option ℕ
@@ -204,7 +220,10 @@ last_in ids = before_place ids (length ids)
 
 length-place : (order : ℕ → ℕ → Ordering) (e : ℕ) (ids : List ℕ) → length (place order e ids) ≡ suc (length ids)
 length-place order e [] = refl
-length-place order e (a ∷ ids) = elim (is_lt (order e a)) as (λ b. length (cond b (e ∷ a ∷ ids) (a ∷ place order e ids)) ≡ suc (suc (length ids))) [ true ↦ refl | false ↦ ap suc (length-place order e ids) ]
+length-place order e (a ∷ ids) = elim (is_lt (order e a)) as (λ b. length (cond b (e ∷ a ∷ ids) (a ∷ place order e ids)) ≡ suc (suc (length ids))) [
+  | true ↦ refl
+  | false ↦ ap suc (length-place order e ids)
+]
 
 last_behind : (a : ℕ) (ids : List ℕ) → 0 < length ids → last_in (a ∷ ids) ≡ last_in ids
 last_behind a [] some = absurd (omega arith)
@@ -235,7 +254,10 @@ times_filter : (id : ℕ) (ids : List ℕ) → times id ids ≡ length (filter (
 times_filter id [] = refl
 times_filter id (a ∷ ids) =
     let n : times id ids ≡ length (filter (λ a. a == id) ids) = times_filter id ids in
-    elim (a == id) as (λ b. cond b 1 0 + times id ids ≡ length (cond b (a ∷ filter (λ a. a == id) ids) (filter (λ a. a == id) ids))) [ true ↦ omega (arith, n) | false ↦ omega (arith, n) ]
+    elim (a == id) as (λ b. cond b 1 0 + times id ids ≡ length (cond b (a ∷ filter (λ a. a == id) ids) (filter (λ a. a == id) ids))) [
+      | true ↦ omega (arith, n)
+      | false ↦ omega (arith, n)
+    ]
 
 -- sorting keeps how many pass a test, and how often an id stands
 pub count-sorted : (p : ℕ → Bool) (order : ℕ → ℕ → Ordering) (ids : List ℕ) → length (filter p (sorted order ids)) ≡ length (filter p ids)

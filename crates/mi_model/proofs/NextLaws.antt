@@ -31,7 +31,7 @@ both_equal Equal b h = (refl, h)
 both_equal Greater b h = absurd (cc)
 
 -- two records that equal one whole key are equal at it
-pub whole_alike : (ps : List KeyPart) (key r s : List Value) → length key ≡ length ps
+whole_alike : (ps : List KeyPart) (key r s : List Value) → length key ≡ length ps
     → compare_prefix ps key r ≡ Equal → compare_prefix ps key s ≡ Equal → compare_key ps r s ≡ Equal
 whole_alike [] key r s long e f = refl
 whole_alike (p ∷ ps) [] r s long e f = absurd (omega arith)
@@ -73,20 +73,25 @@ key_test : (i : Index) (t : Table) (key : List Value) (e : ℕ) → length key �
     → (a : ℕ) → is_eq (compare_ids i t e a) ≡ is_eq (compare_to_id i t key a)
 key_test i t key e long at a =
     same_test (is_eq (compare_ids i t e a)) (is_eq (compare_to_id i t key a))
-    (λ is. ap is_eq (sym (prefix_alike (parts_or_id i.parts) key (record_or_id i.parts (row t e)) (record_or_id i.parts (row t a)) (is_equal (compare_ids i t e a) is)) ∙ at))
-    (λ is. ap is_eq (whole_alike (parts_or_id i.parts) key (record_or_id i.parts (row t e)) (record_or_id i.parts (row t a)) long at (is_equal (compare_to_id i t key a) is)))
+    (λ is. ap is_eq (sym (prefix_alike (parts_or_id i.parts) key (record_or_id i.parts (row t e))
+    (record_or_id i.parts (row t a)) (is_equal (compare_ids i t e a) is))
+    ∙ at))
+    (λ is. ap is_eq (whole_alike (parts_or_id i.parts) key (record_or_id i.parts (row t e))
+    (record_or_id i.parts (row t a)) long at (is_equal (compare_to_id i t key a) is)))
 
 passes_at : (p : ℕ → Bool) (ids : List ℕ) (k e : ℕ) → slice_get (filter p ids) k ≡ Some e → p e ≡ true
 passes_at p [] k e at = absurd (cc)
 passes_at p (a ∷ ids) k e at = go (passes_at p ids) (p a) refl k at
   where
-    go : ((k e : ℕ) → slice_get (filter p ids) k ≡ Some e → p e ≡ true) → (b : Bool) → p a ≡ b → (k : ℕ) → slice_get (cond b (a ∷ filter p ids) (filter p ids)) k ≡ Some e → p e ≡ true
+    go : ((k e : ℕ) → slice_get (filter p ids) k ≡ Some e → p e ≡ true) → (b : Bool) → p a ≡ b
+        → (k : ℕ) → slice_get (cond b (a ∷ filter p ids) (filter p ids)) k ≡ Some e → p e ≡ true
     go rest true is zero at = let same : a ≡ e = cc in ap p (sym same) ∙ is
     go rest true is (suc k) at = rest k e at
     go rest false is k at = rest k e at
 
 -- in a table an id that has a key is there
-pub key_is_there : (s : Shape) (t : Table) (x : ℕ) (key : List Value) → ListsEach t (view s t x) → (k e : ℕ) → slice_get (of_key s t x key) k ≡ Some e → has t e ≡ true
+pub key_is_there : (s : Shape) (t : Table) (x : ℕ) (key : List Value) → ListsEach t (view s t x)
+    → (k e : ℕ) → slice_get (of_key s t x key) k ≡ Some e → has t e ≡ true
 key_is_there s t x key each k e at =
     let listed : 0 < times e (of_key s t x key) = stands e k (of_key s t x key) at in
     let fewer : times e (of_key s t x key) ≤ times e (view s t x) = times-filter-le _ e (view s t x) in

@@ -13,7 +13,8 @@ use Rattle.mi_model.specs.Sessions.{numbered, SessionsAreNumbered, CommitsEndByN
 use Rattle.mi_model.proofs.SessionLaws.{Holds, run_keeps, get_within}
 
 -- the session with j above it has a number that is j below the newest
-number_of_place : (j n : ℕ) (old : List (List Table)) (r : ℕ) (tables : List Table) → r ≡ j + n → slice_get old j ≡ Some tables → lookup (λ m. m == n) (numbered r old) ≡ Some tables
+number_of_place : (j n : ℕ) (old : List (List Table)) (r : ℕ) (tables : List Table) → r ≡ j + n
+    → slice_get old j ≡ Some tables → lookup (λ m. m == n) (numbered r old) ≡ Some tables
 number_of_place j n [] r tables e at = absurd (let h : None ≡ Some tables = at in cc)
 number_of_place zero n (o ∷ old) r tables e at =
     elim (eqb_tells r n) [
@@ -58,10 +59,12 @@ committed_numbers x [] r l = ap (λ m. numbered r (take m [])) (let none : 0 - m
 committed_numbers x (o ∷ old) r l =
     elim (cases_lt x r) [
       | inl below ↦
-          let one_more : length (o ∷ old) - min (length (o ∷ old)) (x + length (o ∷ old) - r) ≡ suc (length old - min (length old) (x + length old - (r - 1))) = omega arith in
+          let one_more : length (o ∷ old) - min (length (o ∷ old)) (x + length (o ∷ old) - r)
+          ≡ suc (length old - min (length old) (x + length old - (r - 1))) = omega arith in
           ap (λ m. numbered r (take m (o ∷ old))) one_more
           ∙ ap (λ rest. (r, o) ∷ rest) (committed_numbers x old (r - 1) (omega arith))
-          ∙ sym (ap (λ b. cond b ((r, o) ∷ filter (λ s. nat_lt x s.0) (numbered (r - 1) old)) (filter (λ s. nat_lt x s.0) (numbered (r - 1) old))) (lt-ltb x r below))
+          ∙ sym (ap (λ b. cond b ((r, o) ∷ filter (λ s. nat_lt x s.0) (numbered (r - 1) old)) (filter (λ s. nat_lt x s.0) (numbered (r - 1) old)))
+          (lt-ltb x r below))
       | inr above ↦
           let none : length (o ∷ old) - min (length (o ∷ old)) (x + length (o ∷ old) - r) ≡ 0 = omega arith in
           ap (λ m. numbered r (take m (o ∷ old))) none ∙ sym (none_above x (o ∷ old) r above)

@@ -1,5 +1,6 @@
 -- Places in a list of distinct ids, and that an index shows each record of its table once.
-use Rattle.std.proofs.Common.{◌≡◌, ◌≢◌, ℕ, ◌+◌, ◌-◌, ◌<◌, ◌≤◌, zero, suc, Bool, true, false, cond, not, inl, inr, List, [], ◌∷◌, length, reverse, refl, ap, sym, ◌∙◌, subst, arith}
+use Rattle.std.proofs.Common.{◌≡◌, ◌≢◌, ℕ, ◌+◌, ◌-◌, ◌<◌, ◌≤◌, zero, suc, Bool, true, false, cond, not}
+use Rattle.std.proofs.Common.{inl, inr, List, [], ◌∷◌, length, reverse, refl, ap, sym, ◌∙◌, subst, arith}
 use Rattle.std.specs.Prelude.{◌==◌, slice_get, IsTrue}
 use Rattle.std.specs.List.{filter, AllByRecursion}
 use Rattle.std.specs.Option.{is_some}
@@ -76,7 +77,7 @@ once-filter p ids once id =
     omega arith
 
 -- what an index shows has each id as often as its list
-pub times-shown : (id : ℕ) (kind : IndexKind) (order : ℕ → ℕ → Ordering) (ids : List ℕ) → times id (shown kind order ids) ≡ times id ids
+times-shown : (id : ℕ) (kind : IndexKind) (order : ℕ → ℕ → Ordering) (ids : List ℕ) → times id (shown kind order ids) ≡ times id ids
 times-shown id Ordered order ids = times-sorted id order ids
 times-shown id Ranked order ids = times-sorted id order ids
 times-shown id Hashed order ids = refl
@@ -128,7 +129,8 @@ times-without_same e [] = refl
 times-without_same e (a ∷ ids) =
     elim (a == e) as (λ b. a == e ≡ b → times e (cond (not b) (a ∷ without e ids) (without e ids)) ≡ 0) [
       | true ↦ λ _. times-without_same e ids
-      | false ↦ λ isnt. ap (λ b. cond {A = ℕ} b 1 0 + times e (without e ids)) isnt ∙ (let rest : times e (without e ids) ≡ 0 = times-without_same e ids in omega arith)
+      | false ↦ λ isnt. ap (λ b. cond {A = ℕ} b 1 0 + times e (without e ids)) isnt
+          ∙ (let rest : times e (without e ids) ≡ 0 = times-without_same e ids in omega arith)
     ] refl
 
 times-without_other : (id e : ℕ) (ids : List ℕ) → id ≢ e → times id (without e ids) ≡ times id ids
@@ -174,7 +176,8 @@ here_behind id r rows all ids is =
 
 length_each : (next : ℕ) (rows : List Row) → Rise next rows → (ids : List ℕ) → ((id : ℕ) → times id ids ≡ here id rows) → length ids ≡ length rows
 length_each next [] up [] each = refl
-length_each next [] up (a ∷ ids) each = absurd (let some : 0 < times a (a ∷ ids) = stands a 0 (a ∷ ids) refl in let none : times a (a ∷ ids) ≡ 0 = each a in omega arith)
+length_each next [] up (a ∷ ids) each = absurd
+    (let some : 0 < times a (a ∷ ids) = stands a 0 (a ∷ ids) refl in let none : times a (a ∷ ids) ≡ 0 = each a in omega arith)
 length_each next (r ∷ rows) up ids each =
     let one : times r.0 ids ≡ 1 = each r.0 ∙ ap (λ b. cond {A = ℕ} (is_some (cond b (Some r.1) (lookup (λ k. k == r.0) rows))) 1 0) (count_itself r.0) in
     let rest : length (without r.0 ids) ≡ length rows = length_each next rows up.2 (without r.0 ids) (λ id. here_behind id r rows up.1 ids (each id)) in
@@ -190,7 +193,8 @@ pub listed_within : (s : Shape) (x : ℕ) → IsTrue (shows_one_list (index_at s
 listed_within s x is =
     elim (cases_lt x (length s.indexes)) [
       | inl within ↦ within
-      | inr past ↦ absurd (let none : shows_one_list (index_at s x).kind ≡ false = ap (λ (i : Index). shows_one_list i.kind) (get_or_past s.indexes x _ past) in cc)
+      | inr past ↦ absurd
+          (let none : shows_one_list (index_at s x).kind ≡ false = ap (λ (i : Index). shows_one_list i.kind) (get_or_past s.indexes x _ past) in cc)
     ]
 
 -- a sorted index shows one list

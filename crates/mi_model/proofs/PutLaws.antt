@@ -1,5 +1,6 @@
 -- What another record for a row changes in what the indexes show.
-use Rattle.std.proofs.Common.{◌≡◌, ◌≢◌, ℕ, ◌<◌, zero, suc, Bool, true, false, cond, not, inl, inr, List, [], ◌∷◌, ◌++◌, length, get_or, refl, ap, sym, ◌∙◌, subst, arith}
+use Rattle.std.proofs.Common.{◌≡◌, ◌≢◌, ℕ, ◌<◌, zero, suc, Bool, true, false, cond, not, inl, inr}
+use Rattle.std.proofs.Common.{List, [], ◌∷◌, ◌++◌, length, get_or, refl, ap, sym, ◌∙◌, subst, arith}
 use Rattle.std.specs.Prelude.{◌==◌}
 use Rattle.std.specs.List.{filter, AllByRecursion}
 use Rattle.std.specs.Option.{unwrap_or, is_some}
@@ -29,17 +30,20 @@ use Rattle.mi_value.proofs.OrderLaws.{prefix_alike}
 -- the list of each index after a put
 list_moved : (is : List Index) (old new : List Value) (e : ℕ) (lists : List (List ℕ)) (x : ℕ) (d : Index) → d.parts ≡ [] → x < length lists
     → get_or (moved is old new e lists) x [] ≡ moved_in (get_or is x d) old new e (get_or lists x [])
-list_moved [] old new e lists x d none l = sym (ap (λ ps. cond (is_eq (compare_key ps old new)) (get_or lists x []) (without e (get_or lists x []) ++ e ∷ [])) none)
+list_moved [] old new e lists x d none l = sym
+    (ap (λ ps. cond (is_eq (compare_key ps old new)) (get_or lists x []) (without e (get_or lists x []) ++ e ∷ [])) none)
 list_moved (i ∷ is) old new e [] x d none l = absurd (omega arith)
 list_moved (i ∷ is) old new e (ids ∷ lists) zero d none l = refl
 list_moved (i ∷ is) old new e (ids ∷ lists) (suc x) d none l = list_moved is old new e lists x d none (omega arith)
 
 -- the record of e is the new one
-pub lookup_set_same : (e : ℕ) (r : List Value) (rows : List Row) → is_some (lookup (λ k. k == e) rows) ≡ true → lookup (λ k. k == e) (set_value (λ k. k == e) rows r) ≡ Some r
+pub lookup_set_same : (e : ℕ) (r : List Value) (rows : List Row) → is_some (lookup (λ k. k == e) rows) ≡ true
+    → lookup (λ k. k == e) (set_value (λ k. k == e) rows r) ≡ Some r
 lookup_set_same e r [] there = absurd (cc)
 lookup_set_same e r (s ∷ rows) there =
     both_ways (s.0 == e)
-    (λ yes. ap (λ b. lookup (λ k. k == e) (cond b ((s.0, r) ∷ rows) (s ∷ set_value (λ k. k == e) rows r))) yes ∙ ap (λ b. cond b (Some r) (lookup (λ k. k == e) rows)) yes)
+    (λ yes. ap (λ b. lookup (λ k. k == e) (cond b ((s.0, r) ∷ rows) (s ∷ set_value (λ k. k == e) rows r))) yes
+    ∙ ap (λ b. cond b (Some r) (lookup (λ k. k == e) rows)) yes)
     (λ isnt. ap (λ b. lookup (λ k. k == e) (cond b ((s.0, r) ∷ rows) (s ∷ set_value (λ k. k == e) rows r))) isnt
     ∙ ap (λ b. cond b (Some s.1) (lookup (λ k. k == e) (set_value (λ k. k == e) rows r))) isnt
     ∙ lookup_set_same e r rows (sym (ap (λ b. is_some (cond b (Some s.1) (lookup (λ k. k == e) rows))) isnt) ∙ there))
@@ -61,7 +65,8 @@ row_alike s i e r t there same a =
     elim (eqb_tells a e) [
       | inl is ↦ subst (λ b. compare_rows i.parts (row t b) (row (put s e r t) b) ≡ Equal) (sym is.1)
           (ap (λ o. compare_rows i.parts (row t e) (e, unwrap_or o [])) (lookup_set_same e r t.rows there) ∙ rows_alike i.parts e (row t e).1 r same)
-      | inr isnt ↦ ap (λ o. compare_rows i.parts (row t a) (a, unwrap_or o [])) (lookup_set a e r t.rows isnt.1) ∙ tied_itself (compare_rows_total i.parts) (row t a)
+      | inr isnt ↦ ap (λ o. compare_rows i.parts (row t a) (a, unwrap_or o [])) (lookup_set a e r t.rows isnt.1)
+          ∙ tied_itself (compare_rows_total i.parts) (row t a)
     ]
 
 -- all ids compare as before
@@ -76,7 +81,8 @@ anything : (ids : List ℕ) → AllByRecursion (λ _. Unit {0}) ids
 anything [] = tt
 anything (a ∷ ids) = (tt, anything ids)
 
-by_kind_kept : (kind : IndexKind) (order other : ℕ → ℕ → Ordering) → ((a b : ℕ) → order a b ≡ other a b) → (ids : List ℕ) → shown kind order ids ≡ shown kind other ids
+by_kind_kept : (kind : IndexKind) (order other : ℕ → ℕ → Ordering) → ((a b : ℕ) → order a b ≡ other a b)
+    → (ids : List ℕ) → shown kind order ids ≡ shown kind other ids
 by_kind_kept Ordered order other same ids = sorted_alike (λ _. Unit {0}) order other (λ a b _ _. same a b) ids (anything ids)
 by_kind_kept Ranked order other same ids = sorted_alike (λ _. Unit {0}) order other (λ a b _ _. same a b) ids (anything ids)
 by_kind_kept Hashed order other same ids = refl
@@ -100,7 +106,8 @@ sorted_moved s i e r t ids =
     ∙ sym (filter-sorted (compare_ids_total i t) (λ a. not (a == e)) ids))
 
 by_kind_moved : (kind : IndexKind) (s : Shape) (i : Index) (e : ℕ) (r : List Value) (t : Table) (ids : List ℕ)
-    → shown kind (compare_ids i (put s e r t)) (without e ids ++ e ∷ []) ≡ arrived kind (compare_ids i (put s e r t)) e (without e (shown kind (compare_ids i t) ids))
+    → shown kind (compare_ids i (put s e r t)) (without e ids ++ e ∷ [])
+    ≡ arrived kind (compare_ids i (put s e r t)) e (without e (shown kind (compare_ids i t) ids))
 by_kind_moved Ordered s i e r t ids = sorted_moved s i e r t ids
 by_kind_moved Ranked s i e r t ids = sorted_moved s i e r t ids
 by_kind_moved Hashed s i e r t ids = refl
@@ -116,7 +123,8 @@ view-put_moves s e r t x within changes =
     ∙ by_kind_moved (index_at s x).kind s (index_at s x) e r t (list_of t x)
 
 -- a key compares alike with the row of one id with two records of one key
-key_alike : (ps : List KeyPart) (key : List Value) (e : ℕ) (old new : List Value) → is_eq (compare_key ps old new) ≡ true → compare_to_row ps key (e, old) ≡ compare_to_row ps key (e, new)
+key_alike : (ps : List KeyPart) (key : List Value) (e : ℕ) (old new : List Value)
+    → is_eq (compare_key ps old new) ≡ true → compare_to_row ps key (e, old) ≡ compare_to_row ps key (e, new)
 key_alike [] key e old new same = refl
 key_alike (p ∷ ps) key e old new same = prefix_alike (p ∷ ps) key old new (is_equal (compare_key (p ∷ ps) old new) same)
 
@@ -131,7 +139,8 @@ key_kept s i key e r t there same a =
 
 filter_same : (p q : ℕ → Bool) → ((a : ℕ) → p a ≡ q a) → (ids : List ℕ) → filter p ids ≡ filter q ids
 filter_same p q same [] = refl
-filter_same p q same (a ∷ ids) = ap (λ b. cond b (a ∷ filter p ids) (filter p ids)) (same a) ∙ ap (λ rest. cond (q a) (a ∷ rest) rest) (filter_same p q same ids)
+filter_same p q same (a ∷ ids) = ap (λ b. cond b (a ∷ filter p ids) (filter p ids)) (same a)
+    ∙ ap (λ rest. cond (q a) (a ∷ rest) rest) (filter_same p q same ids)
 
 -- where the key stays, so do the ids of each key
 pub of_key-put_stays : (s : Shape) (e : ℕ) (r : List Value) (t : Table) (x : ℕ) (key : List Value) → x < length t.lists → has t e ≡ true
@@ -147,8 +156,10 @@ pub of_key-put_moves : (s : Shape) (e : ℕ) (r : List Value) (t : Table) (x : �
 of_key-put_moves s e r t x key hashed within changes =
     let there : ℕ → Bool = λ id. is_eq (compare_to_id (index_at s x) (put s e r t) key id) in
     let here : ℕ → Bool = λ id. is_eq (compare_to_id (index_at s x) t key id) in
-    ap (filter there) (view-put_moves s e r t x within changes ∙ ap (λ k. arrived k (compare_ids (index_at s x) (put s e r t)) e (without e (view s t x))) hashed)
+    ap (filter there) (view-put_moves s e r t x within changes
+    ∙ ap (λ k. arrived k (compare_ids (index_at s x) (put s e r t)) e (without e (view s t x))) hashed)
     ∙ filter-append there (without e (view s t x)) (e ∷ [])
     ∙ ap (λ ids. ids ++ filter there (e ∷ []))
-    (filter_alike e there here (λ a ne. ap is_eq (key_from (index_at s x) (put s e r t) t key a (lookup_set a e r t.rows ne))) (without e (view s t x)) (none_is e (view s t x))
+    (filter_alike e there here (λ a ne. ap is_eq (key_from (index_at s x) (put s e r t) t key a (lookup_set a e r t.rows ne)))
+    (without e (view s t x)) (none_is e (view s t x))
     ∙ filter_swap here (λ a. not (a == e)) (view s t x))

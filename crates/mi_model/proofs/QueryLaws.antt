@@ -1,5 +1,6 @@
 -- Look-ups and ranges over what a sorted index shows: the ids between two bounds stand between two ranks.
-use Rattle.std.proofs.Common.{◌≡◌, ℕ, ◌-◌, ◌<◌, ◌≤◌, zero, suc, Bool, true, false, cond, not, ◌&&◌, ◌≢◌, inl, inr, min, get_or, List, [], ◌∷◌, length, take, drop, refl, ap, sym, ◌∙◌, arith}
+use Rattle.std.proofs.Common.{◌≡◌, ℕ, ◌-◌, ◌<◌, ◌≤◌, zero, suc, Bool, true, false, cond, not, ◌&&◌, ◌≢◌, inl}
+use Rattle.std.proofs.Common.{inr, min, get_or, List, [], ◌∷◌, length, take, drop, refl, ap, sym, ◌∙◌, arith}
 use Rattle.std.specs.Prelude.{slice_get, IsTrue}
 use Rattle.std.specs.List.{filter, count_by, AllByRecursion}
 use Rattle.std.specs.Ordering.{is_lt, is_le, is_gt, is_ge, is_eq, ordering_reverse}
@@ -50,14 +51,16 @@ not_above Equal h = refl
 not_above Greater h = refl
 
 -- along ascending ids a key that is looked for falls
-falls_along : (i : Index) (t : Table) (key : List Value) (a b : ℕ) → is_lt (compare_ids i t b a) ≡ false → Falls (compare_to_id i t key a) (compare_to_id i t key b)
+falls_along : (i : Index) (t : Table) (key : List Value) (a b : ℕ)
+    → is_lt (compare_ids i t b a) ≡ false → Falls (compare_to_id i t key a) (compare_to_id i t key b)
 falls_along i t key a b up =
     let total : IsTotalOrder (compare_ids i t) = compare_ids_total i t in
     falls_of (compare_to_id i t key a) (compare_to_id i t key b)
     (key_falls i t key a b (ap is_gt (total.antisymm a b) ∙ not_above (compare_ids i t b a) up))
 
 -- what a sorted index shows ascends
-shown_ascends : (kind : IndexKind) (order : ℕ → ℕ → Ordering) → IsTotalOrder order → (ids : List ℕ) → IsTrue (is_sorted kind) → Ascends order (shown kind order ids)
+shown_ascends : (kind : IndexKind) (order : ℕ → ℕ → Ordering) → IsTotalOrder order
+    → (ids : List ℕ) → IsTrue (is_sorted kind) → Ascends order (shown kind order ids)
 shown_ascends Ordered order total ids is = ascends_sorted total ids
 shown_ascends Ranked order total ids is = ascends_sorted total ids
 shown_ascends Hashed order total ids is = absurd (cc)
@@ -90,7 +93,8 @@ module _ (order : ℕ → ℕ → Ordering) (q p : ℕ → Bool)
       → filter (λ id. q id && p id) ids ≡ drop (length (filter (λ id. not (q id)) ids)) (take (length (filter p ids)) ids)
       → (b c : Bool) → p a ≡ b → q a ≡ c
       → cond (c && b) (a ∷ filter (λ id. q id && p id) ids) (filter (λ id. q id && p id) ids)
-      ≡ drop (length (cond (not c) (a ∷ filter (λ id. not (q id)) ids) (filter (λ id. not (q id)) ids))) (take (length (cond b (a ∷ filter p ids) (filter p ids))) (a ∷ ids))
+      ≡ drop (length (cond (not c) (a ∷ filter (λ id. not (q id)) ids) (filter (λ id. not (q id)) ids)))
+      (take (length (cond b (a ∷ filter p ids) (filter p ids))) (a ∷ ids))
   step a ids up rest true true e f =
       let none : filter (λ id. not (q id)) ids ≡ [] = all_pass q ids (each (λ b n. stays a b n f) ids up) in
       ap (λ xs. a ∷ xs) (rest ∙ ap (λ (xs : List ℕ). drop (length xs) (take (length (filter p ids)) ids)) none)
@@ -103,7 +107,8 @@ module _ (order : ℕ → ℕ → Ordering) (q p : ℕ → Bool)
       ap (λ b. cond b (a ∷ filter (λ id. q id && p id) ids) (filter (λ id. q id && p id) ids)) (and_no c false refl)
       ∙ neither
       ∙ sym (drop-nil _)
-      ∙ sym (ap (λ (xs : List ℕ). drop (length (cond (not c) (a ∷ filter (λ id. not (q id)) ids) (filter (λ id. not (q id)) ids))) (take (length xs) (a ∷ ids))) none)
+      ∙ sym (ap (λ (xs : List ℕ). drop (length (cond (not c) (a ∷ filter (λ id. not (q id)) ids) (filter (λ id. not (q id)) ids))) (take (length xs) (a ∷ ids)))
+      none)
     where
       and_no : (b c : Bool) → c ≡ false → (b && c) ≡ false
       and_no true c fails = fails
@@ -114,7 +119,7 @@ module _ (order : ℕ → ℕ → Ordering) (q p : ℕ → Bool)
   segment_of [] up = sym (drop-nil 0)
   segment_of (a ∷ ids) up = step a ids up.0 (segment_of ids up.1) (p a) (q a) refl refl
 
-  pub segment : (ids : List ℕ) → Ascends order ids
+  segment : (ids : List ℕ) → Ascends order ids
       → filter (λ id. q id && p id) ids ≡ drop (count_by (λ id. not (q id)) ids) (take (count_by p ids) ids)
   segment ids up =
       segment_of ids up
@@ -128,16 +133,20 @@ low_stays i t (lower.From key) a b up h = (falls_along i t key a b up).1 h
 low_stays i t (lower.Beyond key) a b up h = (falls_along i t key a b up).0 h
 
 back_ge : (o later : Ordering) → Falls o later → is_ge later ≡ true → is_ge o ≡ true
-back_ge Less later f h = absurd (let less : is_lt later ≡ true = f.0 refl in elim later as (λ l. is_lt l ≡ true → is_ge l ≡ true → ⊥) [ Less ↦ λ x y. cc | Equal ↦ λ x y. cc | Greater ↦ λ x y. cc ] less h)
+back_ge Less later f h = absurd (let less : is_lt later ≡ true = f.0 refl in
+    elim later as (λ l. is_lt l ≡ true → is_ge l ≡ true → ⊥) [ Less ↦ λ x y. cc | Equal ↦ λ x y. cc | Greater ↦ λ x y. cc ] less h)
 back_ge Equal later f h = refl
 back_ge Greater later f h = refl
 
 back_gt : (o later : Ordering) → Falls o later → is_gt later ≡ true → is_gt o ≡ true
-back_gt Less later f h = absurd (let less : is_le later ≡ true = f.1 refl in elim later as (λ l. is_le l ≡ true → is_gt l ≡ true → ⊥) [ Less ↦ λ x y. cc | Equal ↦ λ x y. cc | Greater ↦ λ x y. cc ] less h)
-back_gt Equal later f h = absurd (let less : is_le later ≡ true = f.1 refl in elim later as (λ l. is_le l ≡ true → is_gt l ≡ true → ⊥) [ Less ↦ λ x y. cc | Equal ↦ λ x y. cc | Greater ↦ λ x y. cc ] less h)
+back_gt Less later f h = absurd (let less : is_le later ≡ true = f.1 refl in
+    elim later as (λ l. is_le l ≡ true → is_gt l ≡ true → ⊥) [ Less ↦ λ x y. cc | Equal ↦ λ x y. cc | Greater ↦ λ x y. cc ] less h)
+back_gt Equal later f h = absurd (let less : is_le later ≡ true = f.1 refl in
+    elim later as (λ l. is_le l ≡ true → is_gt l ≡ true → ⊥) [ Less ↦ λ x y. cc | Equal ↦ λ x y. cc | Greater ↦ λ x y. cc ] less h)
 back_gt Greater later f h = refl
 
-high_began : (i : Index) (t : Table) (high : Upper) (a b : ℕ) → is_lt (compare_ids i t b a) ≡ false → meets_upper i t high b ≡ true → meets_upper i t high a ≡ true
+high_began : (i : Index) (t : Table) (high : Upper) (a b : ℕ) → is_lt (compare_ids i t b a) ≡ false
+    → meets_upper i t high b ≡ true → meets_upper i t high a ≡ true
 high_began i t upper.All a b up h = refl
 high_began i t (upper.UpTo key) a b up h = back_ge _ _ (falls_along i t key a b up) h
 high_began i t (upper.Below key) a b up h = back_gt _ _ (falls_along i t key a b up) h
@@ -187,7 +196,7 @@ not_lt Greater = refl
 pub from_all : (s : Shape) (t : Table) (x : ℕ) → rank_from s t x lower.All ≡ 0
 from_all s t x = count_none (view s t x)
 
-pub from_key : (s : Shape) (t : Table) (x : ℕ) (key : List Value) → rank_from s t x (lower.From key) ≡ look.lower_rank s t x key
+from_key : (s : Shape) (t : Table) (x : ℕ) (key : List Value) → rank_from s t x (lower.From key) ≡ look.lower_rank s t x key
 from_key s t x key = count_same _ _ (λ id. not_le (compare_to_id (index_at s x) t key id)) (view s t x)
 
 pub from_beyond : (s : Shape) (t : Table) (x : ℕ) (key : List Value) → rank_from s t x (lower.Beyond key) ≡ look.upper_rank s t x key
@@ -205,7 +214,7 @@ le_and_ge Equal = refl
 le_and_ge Greater = refl
 
 -- the ids of a key stand between its ranks
-pub of_key_ranks : (s : Shape) (t : Table) (x : ℕ) (key : List Value) → IsTrue (is_sorted (index_at s x).kind)
+of_key_ranks : (s : Shape) (t : Table) (x : ℕ) (key : List Value) → IsTrue (is_sorted (index_at s x).kind)
     → of_key s t x key ≡ drop (look.lower_rank s t x key) (take (look.upper_rank s t x key) (view s t x))
 of_key_ranks s t x key is =
     filter_like _ _ (λ id. le_and_ge (compare_to_id (index_at s x) t key id)) (view s t x)
@@ -232,7 +241,8 @@ pub lower-le-upper : (s : Shape) (t : Table) (x : ℕ) (key : List Value) → lo
 lower-le-upper s t x key =
     let p : ℕ → Bool = λ id. is_gt (compare_to_id (index_at s x) t key id) in
     let q : ℕ → Bool = λ id. is_ge (compare_to_id (index_at s x) t key id) in
-    let less : length (filter p (view s t x)) ≤ length (filter q (view s t x)) = fewer p q (λ id. gt_is_ge (compare_to_id (index_at s x) t key id)) (view s t x) in
+    let less : length (filter p (view s t x)) ≤ length (filter q (view s t x)) =
+    fewer p q (λ id. gt_is_ge (compare_to_id (index_at s x) t key id)) (view s t x) in
     let low : length (filter p (view s t x)) ≡ look.lower_rank s t x key = length-filter p (view s t x) in
     let high : length (filter q (view s t x)) ≡ look.upper_rank s t x key = length-filter q (view s t x) in
     omega arith
@@ -240,7 +250,7 @@ lower-le-upper s t x key =
 pub upper-le-length : (s : Shape) (t : Table) (x : ℕ) (key : List Value) → look.upper_rank s t x key ≤ length (view s t x)
 upper-le-length s t x key = count_by-le-length _ (view s t x)
 
-pub length-segment : (from to : ℕ) (ids : List ℕ) → to ≤ length ids → length (drop from (take to ids)) ≡ to - from
+length-segment : (from to : ℕ) (ids : List ℕ) → to ≤ length ids → length (drop from (take to ids)) ≡ to - from
 length-segment from to ids within =
     let dropped : length (drop from (take to ids)) ≡ length (take to ids) - from = length-drop from (take to ids) in
     let taken : length (take to ids) ≡ min to (length ids) = length-take to ids in

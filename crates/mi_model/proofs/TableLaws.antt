@@ -1,5 +1,6 @@
 -- Each change takes tables to tables.
-use Rattle.std.proofs.Common.{◌≡◌, ◌≢◌, ℕ, ◌+◌, ◌<◌, ◌≤◌, zero, suc, Bool, true, false, cond, not, inl, inr, List, [], ◌∷◌, ◌++◌, map, length, get_or, set, refl, ap, sym, ◌∙◌, subst, arith}
+use Rattle.std.proofs.Common.{◌≡◌, ◌≢◌, ℕ, ◌+◌, ◌<◌, ◌≤◌, zero, suc, Bool, true, false, cond, not, inl, inr}
+use Rattle.std.proofs.Common.{List, [], ◌∷◌, ◌++◌, map, length, get_or, set, refl, ap, sym, ◌∙◌, subst, arith}
 use Rattle.std.specs.Prelude.{◌==◌}
 use Rattle.std.specs.List.{filter, AllByRecursion}
 use Rattle.std.specs.Option.{is_some}
@@ -39,7 +40,8 @@ pub lacks_of_count : (e : ℕ) (ids : List ℕ) → times e ids ≡ 0 → Lacks 
 lacks_of_count e [] none = tt
 lacks_of_count e (a ∷ ids) none =
     elim (eqb_tells a e) [
-      | inl is ↦ absurd (let n : cond (a == e) 1 0 + times e ids ≡ 0 = none in let one : cond (a == e) 1 0 ≡ 1 = ap (λ b. cond {A = ℕ} b 1 0) is.0 in omega arith)
+      | inl is ↦ absurd
+          (let n : cond (a == e) 1 0 + times e ids ≡ 0 = none in let one : cond (a == e) 1 0 ≡ 1 = ap (λ b. cond {A = ℕ} b 1 0) is.0 in omega arith)
       | inr isnt ↦ (isnt.1, lacks_of_count e ids (let n : cond (a == e) 1 0 + times e ids ≡ 0 = none in omega arith))
     ]
 
@@ -53,7 +55,8 @@ pub fresh_of_table : (s : Shape) (t : Table) → IsTable s t → (x : ℕ) → L
 fresh_of_table s t is x =
     elim (cases_lt x (length t.lists)) [
       | inl within ↦ lacks_of_count t.next (list_of t x)
-          (all_get (ListsEach t) t.lists x is.complete within t.next ∙ ap (λ o. cond (is_some o) 1 0) (above_next t.next t.next t.rows is.ordered (omega arith)))
+          (all_get (ListsEach t) t.lists x is.complete within t.next
+          ∙ ap (λ o. cond (is_some o) 1 0) (above_next t.next t.next t.rows is.ordered (omega arith)))
       | inr past ↦ subst (Lacks t.next) (sym (get_or_past t.lists x [] past)) tt
     ]
 
@@ -93,11 +96,13 @@ count-without id e (a ∷ ids) ne =
     (λ isnt. ap (λ b. times id (cond (not b) (a ∷ without e ids) (without e ids))) isnt ∙ ap (λ n. cond (a == id) 1 0 + n) (count-without id e ids ne))
 
 -- claims on every list
-all_map : (P Q : List ℕ → Type 0) (f : List ℕ → List ℕ) → ((ids : List ℕ) → P ids → Q (f ids)) → (lists : List (List ℕ)) → AllByRecursion P lists → AllByRecursion Q (map f lists)
+all_map : (P Q : List ℕ → Type 0) (f : List ℕ → List ℕ) → ((ids : List ℕ) → P ids → Q (f ids))
+    → (lists : List (List ℕ)) → AllByRecursion P lists → AllByRecursion Q (map f lists)
 all_map P Q f g [] all = tt
 all_map P Q f g (ids ∷ lists) all = (g ids all.0, all_map P Q f g lists all.1)
 
-all_set : (P : List ℕ → Type 0) (lists : List (List ℕ)) (x : ℕ) (ids : List ℕ) → AllByRecursion P lists → (x < length lists → P ids) → AllByRecursion P (set lists x ids)
+all_set : (P : List ℕ → Type 0) (lists : List (List ℕ)) (x : ℕ) (ids : List ℕ)
+    → AllByRecursion P lists → (x < length lists → P ids) → AllByRecursion P (set lists x ids)
 all_set P [] x ids all p = tt
 all_set P (l ∷ lists) zero ids all p = (p (omega arith), all.1)
 all_set P (l ∷ lists) (suc x) ids all p = (all.0, all_set P lists x ids all.1 (λ w. p (omega arith)))
@@ -119,7 +124,10 @@ rise_push next (q ∷ rows) r up =
 all_filter : (P : Row → Type 0) (p : Row → Bool) (rows : List Row) → AllByRecursion P rows → AllByRecursion P (filter p rows)
 all_filter P p [] all = tt
 all_filter P p (r ∷ rows) all =
-    elim (p r) as (λ b. AllByRecursion P (cond b (r ∷ filter p rows) (filter p rows))) [ true ↦ (all.0, all_filter P p rows all.1) | false ↦ all_filter P p rows all.1 ]
+    elim (p r) as (λ b. AllByRecursion P (cond b (r ∷ filter p rows) (filter p rows))) [
+      | true ↦ (all.0, all_filter P p rows all.1)
+      | false ↦ all_filter P p rows all.1
+    ]
 
 pub rise_filter : (next : ℕ) (p : Row → Bool) (rows : List Row) → Rise next rows → Rise next (filter p rows)
 rise_filter next p [] up = tt
@@ -129,7 +137,8 @@ rise_filter next p (r ∷ rows) up =
       | false ↦ rise_filter next p rows up.2
     ]
 
-all_set_value : (n e : ℕ) (r : List Value) (rows : List Row) → AllByRecursion (λ (q : Row). n < q.0) rows → AllByRecursion (λ (q : Row). n < q.0) (set_value (λ k. k == e) rows r)
+all_set_value : (n e : ℕ) (r : List Value) (rows : List Row) → AllByRecursion (λ (q : Row). n < q.0) rows
+    → AllByRecursion (λ (q : Row). n < q.0) (set_value (λ k. k == e) rows r)
 all_set_value n e r [] all = tt
 all_set_value n e r (q ∷ rows) all =
     elim (q.0 == e) as (λ b. AllByRecursion (λ (q : Row). n < q.0) (cond b ((q.0, r) ∷ rows) (q ∷ set_value (λ k. k == e) rows r))) [
@@ -157,7 +166,8 @@ pub lookup_without_same : (e : ℕ) (rows : List Row) → lookup (λ k. k == e) 
 lookup_without_same e [] = refl
 lookup_without_same e (q ∷ rows) =
     both_ways (q.0 == e)
-    (λ yes. ap (λ b. lookup (λ k. k == e) (cond (not b) (q ∷ filter (λ r. not (r.0 == e)) rows) (filter (λ r. not (r.0 == e)) rows))) yes ∙ lookup_without_same e rows)
+    (λ yes. ap (λ b. lookup (λ k. k == e) (cond (not b) (q ∷ filter (λ r. not (r.0 == e)) rows) (filter (λ r. not (r.0 == e)) rows))) yes
+    ∙ lookup_without_same e rows)
     (λ isnt. ap (λ b. lookup (λ k. k == e) (cond (not b) (q ∷ filter (λ r. not (r.0 == e)) rows) (filter (λ r. not (r.0 == e)) rows))) isnt
     ∙ ap (λ b. cond b (Some q.1) (lookup (λ k. k == e) (filter (λ r. not (r.0 == e)) rows))) isnt ∙ lookup_without_same e rows)
 
@@ -165,7 +175,8 @@ lookup_without_same e (q ∷ rows) =
 abbrev one_if : {A : Type 0} → Option A → ℕ
 one_if o = cond (is_some o) 1 0
 
-each_stood : (at : Option (ℕ × ℕ)) (r : List Value) (t : Table) (b : Option ℕ) (ids : List ℕ) → Rise t.next t.rows → ListsEach t ids → ListsEach (insert at r t) (stand b t.next ids)
+each_stood : (at : Option (ℕ × ℕ)) (r : List Value) (t : Table) (b : Option ℕ) (ids : List ℕ)
+    → Rise t.next t.rows → ListsEach t ids → ListsEach (insert at r t) (stand b t.next ids)
 each_stood at r t b ids up each id =
     elim (eqb_tells id t.next) [
       | inl is ↦
@@ -173,7 +184,8 @@ each_stood at r t b ids up each id =
           let was : times id ids ≡ 0 = each id ∙ ap one_if none in
           let one : cond {A = ℕ} (t.next == id) 1 0 ≡ 1 = ap (λ n. cond {A = ℕ} (t.next == n) 1 0) is.1 ∙ ap (λ b. cond {A = ℕ} b 1 0) (count_itself t.next) in
           let now : one_if (lookup (λ k. k == id) (t.rows ++ (t.next, r) ∷ [])) ≡ 1 =
-          ap one_if (subst (λ n. lookup (λ k. k == n) (t.rows ++ (t.next, r) ∷ []) ≡ Some r) (sym is.1) (lookup_push_same t.next r t.rows (subst (λ n. lookup (λ k. k == n) t.rows ≡ None) is.1 none))) in
+          ap one_if (subst (λ n. lookup (λ k. k == n) (t.rows ++ (t.next, r) ∷ []) ≡ Some r) (sym is.1)
+          (lookup_push_same t.next r t.rows (subst (λ n. lookup (λ k. k == n) t.rows ≡ None) is.1 none))) in
           let n : times id (stand b t.next ids) ≡ times id ids + cond (t.next == id) 1 0 = count-stand id t.next b ids in
           let e : times id (stand b t.next ids) ≡ 1 = omega arith in e ∙ sym now
       | inr isnt ↦
@@ -183,8 +195,10 @@ each_stood at r t b ids up each id =
           e ∙ each id ∙ ap one_if (sym (lookup_push id t.next r t.rows isnt.1))
     ]
 
-all_added : (at : Option (ℕ × ℕ)) (r : List Value) (t : Table) → Rise t.next t.rows → AllByRecursion (ListsEach t) t.lists → AllByRecursion (ListsEach (insert at r t)) (added at t.next t.lists)
-all_added None r t up all = all_map (ListsEach t) (ListsEach (insert None r t)) (stand None t.next) (λ ids each. each_stood None r t None ids up each) t.lists all
+all_added : (at : Option (ℕ × ℕ)) (r : List Value) (t : Table) → Rise t.next t.rows
+    → AllByRecursion (ListsEach t) t.lists → AllByRecursion (ListsEach (insert at r t)) (added at t.next t.lists)
+all_added None r t up all = all_map (ListsEach t) (ListsEach (insert None r t))
+    (stand None t.next) (λ ids each. each_stood None r t None ids up each) t.lists all
 all_added (Some at) r t up all =
     all_set (ListsEach (insert (Some at) r t)) (map (stand None t.next) t.lists) at.0 _
     (all_map (ListsEach t) (ListsEach (insert (Some at) r t)) (stand None t.next) (λ ids each. each_stood (Some at) r t None ids up each) t.lists all)
@@ -197,7 +211,11 @@ length-added (Some at) e lists = length-set (map (stand None e) lists) at.0 _ �
 
 pub is_table_insert : (s : Shape) (at : Option (ℕ × ℕ)) (r : List Value) (t : Table) → IsTable s t → IsTable s (insert at r t)
 is_table_insert s at r t is =
-    record { ordered = rise_push t.next t.rows r is.ordered; one_each = length-added at t.next t.lists ∙ is.one_each; complete = all_added at r t is.ordered is.complete }
+    record {
+      ordered = rise_push t.next t.rows r is.ordered;
+      one_each = length-added at t.next t.lists ∙ is.one_each;
+      complete = all_added at r t is.ordered is.complete;
+    }
 
 each_erased : (e : ℕ) (t : Table) (ids : List ℕ) → ListsEach t ids → ListsEach (erase e t) (without e ids)
 each_erased e t ids each id =
@@ -232,18 +250,21 @@ times_moved id e b ids one =
 has_put : (s : Shape) (e : ℕ) (r : List Value) (t : Table) → has t e ≡ true → (id : ℕ) → one_if (get (put s e r t) id) ≡ one_if (get t id)
 has_put s e r t there id =
     elim (eqb_tells id e) [
-      | inl is ↦ subst (λ n. one_if (get (put s e r t) n) ≡ one_if (get t n)) (sym is.1) (ap one_if (lookup_set_same e r t.rows there) ∙ sym (ap (λ b. cond {A = ℕ} b 1 0) there))
+      | inl is ↦ subst (λ n. one_if (get (put s e r t) n) ≡ one_if (get t n)) (sym is.1)
+          (ap one_if (lookup_set_same e r t.rows there) ∙ sym (ap (λ b. cond {A = ℕ} b 1 0) there))
       | inr isnt ↦ ap one_if (lookup_set id e r t.rows isnt.1)
     ]
 
-each_moved_in : (i : Index) (old new : List Value) (e : ℕ) (t : Table) (ids : List ℕ) → has t e ≡ true → ListsEach t ids → ListsEach t (moved_in i old new e ids)
+each_moved_in : (i : Index) (old new : List Value) (e : ℕ) (t : Table) (ids : List ℕ)
+    → has t e ≡ true → ListsEach t ids → ListsEach t (moved_in i old new e ids)
 each_moved_in i old new e t ids there each id =
     elim (is_eq (compare_key i.parts old new)) as (λ b. times id (cond b ids (without e ids ++ e ∷ [])) ≡ one_if (get t id)) [
       | true ↦ each id
       | false ↦ times_moved id e None ids (each e ∙ ap (λ b. cond {A = ℕ} b 1 0) there) ∙ each id
     ]
 
-all_moved : (is : List Index) (old new : List Value) (e : ℕ) (t : Table) (lists : List (List ℕ)) → has t e ≡ true → AllByRecursion (ListsEach t) lists → AllByRecursion (ListsEach t) (moved is old new e lists)
+all_moved : (is : List Index) (old new : List Value) (e : ℕ) (t : Table) (lists : List (List ℕ)) → has t e ≡ true
+    → AllByRecursion (ListsEach t) lists → AllByRecursion (ListsEach t) (moved is old new e lists)
 all_moved [] old new e t lists there all = all
 all_moved (i ∷ is) old new e t [] there all = tt
 all_moved (i ∷ is) old new e t (ids ∷ lists) there all = (each_moved_in i old new e t ids there all.0, all_moved is old new e t lists there all.1)

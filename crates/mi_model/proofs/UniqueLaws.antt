@@ -1,5 +1,6 @@
 -- No command gives two rows one key in a unique index.
-use Rattle.std.proofs.Common.{◌≡◌, ◌≢◌, ℕ, zero, suc, ◌+◌, ◌-◌, ◌<◌, Bool, true, false, cond, not, ◌&&◌, inl, inr, List, [], ◌∷◌, map, get_or, drop, refl, ap, sym, ◌∙◌, subst, arith}
+use Rattle.std.proofs.Common.{◌≡◌, ◌≢◌, ℕ, zero, suc, ◌+◌, ◌-◌, ◌<◌, Bool, true, false, cond, not, ◌&&◌}
+use Rattle.std.proofs.Common.{inl, inr, List, [], ◌∷◌, map, get_or, drop, refl, ap, sym, ◌∙◌, subst, arith}
 use Rattle.std.specs.Prelude.{◌==◌, if◌then◌else◌, ◌||◌}
 use Rattle.std.specs.List.{AllZip}
 use Rattle.std.specs.Option.{is_some, unwrap_or, option_or, option_map, option_map_or}
@@ -27,9 +28,10 @@ use Rattle.mi_model.specs.Table.{Table, IsTable, get, has, row, size, opened}
 use Rattle.mi_model.specs.View.{of_key}
 use Rattle.mi_model.specs.Conflict.{is_rival, rival, conflict_from, conflict}
 use Rattle.mi_model.specs.Change.{insert, put, erase, erase_all, relocate}
-use Rattle.mi_model.specs.Verdict.{Outcome, is_spent, has_place, as_unique, unless, insert_refusal, insert_outcome, replace_refusal, replace_outcome, refused_modify, modified, modify_outcome, erase_outcome, erase_key_outcome, relocate_outcome}
+use Rattle.mi_model.specs.Verdict.{Outcome, is_spent, has_place, as_unique, unless, insert_refusal, insert_outcome, replace_refusal}
+use Rattle.mi_model.specs.Verdict.{replace_outcome, refused_modify, modified, modify_outcome, erase_outcome, erase_key_outcome, relocate_outcome}
 use Rattle.mi_model.specs.Database.{Database, IsDatabase, opened_database, schema_of, table_of, on_table, depth, started, undone, undone_times, squashed}
-use Rattle.mi_model.specs.Run.{Command, after, run}
+use Rattle.mi_model.specs.Run.{Command, after_command, run}
 use Rattle.mi_model.specs.Run.Command.{Insert, Replace, Modify, Erase, EraseKey, Relocate, Start, Undo, Squash, Commit, UndoAll}
 use Rattle.mi_model.specs.Unique.{HasUniqueKeys, UniqueEverywhere, UniqueKeysStayUnique, TablesStayWellFormed}
 use Rattle.mi_model.proofs.ViewLaws.{compare_rows_total, lookup_without, lookup_push, lookup_set}
@@ -52,9 +54,11 @@ Apart ps f = (a b : ℕ) → is_some (f a) ≡ true → is_some (f b) ≡ true �
 
 -- a record for e alone is other than before, and it has a key of its own
 module _ (ps : List KeyPart) (f g : ℕ → Option (List Value)) (e : ℕ) (apart : Apart ps f) (same : (a : ℕ) → a ≢ e → g a ≡ f a)
-    (own : (b : ℕ) → b ≢ e → is_some (g e) ≡ true → is_some (f b) ≡ true → is_eq (compare_rows ps (e, unwrap_or (g e) []) (b, unwrap_or (f b) [])) ≡ false) where
+    (own : (b : ℕ) → b ≢ e → is_some (g e) ≡ true → is_some (f b) ≡ true
+    → is_eq (compare_rows ps (e, unwrap_or (g e) []) (b, unwrap_or (f b) [])) ≡ false) where
   with_e : (b : ℕ) → b ≢ e → is_some (g e) ≡ true → is_some (g b) ≡ true → is_eq (compare_rows ps (e, unwrap_or (g e) []) (b, unwrap_or (g b) [])) ≡ false
-  with_e b ne ge gb = ap (λ o. is_eq (compare_rows ps (e, unwrap_or (g e) []) (b, unwrap_or o []))) (same b ne) ∙ own b ne ge (sym (ap is_some (same b ne)) ∙ gb)
+  with_e b ne ge gb = ap (λ o. is_eq (compare_rows ps (e, unwrap_or (g e) []) (b, unwrap_or o []))) (same b ne)
+      ∙ own b ne ge (sym (ap is_some (same b ne)) ∙ gb)
 
   one_new : Apart ps g
   one_new a b ga gb ne =
@@ -76,7 +80,8 @@ none_first : (b : Bool) (id : ℕ) (rest : Option ℕ) → cond b (Some id) rest
 none_first true id rest h = absurd (cc)
 none_first false id rest h = (refl, h)
 
-no_rival : (ps : List KeyPart) (r : List Value) (except : Option ℕ) (rows : List Row) (b : ℕ) → rival rows ps r except ≡ None → is_some (lookup (λ k. k == b) rows) ≡ true
+no_rival : (ps : List KeyPart) (r : List Value) (except : Option ℕ) (rows : List Row) (b : ℕ)
+    → rival rows ps r except ≡ None → is_some (lookup (λ k. k == b) rows) ≡ true
     → is_rival ps r except (b, unwrap_or (lookup (λ k. k == b) rows) []) ≡ false
 no_rival ps r except [] b none there = absurd (cc)
 no_rival ps r except (q ∷ rows) b none there =
@@ -130,7 +135,8 @@ keys_differ [] e b r v differ = absurd (cc)
 keys_differ (p ∷ ps) e b r v differ = turned (p ∷ ps) (e, r) (b, v) ∙ differ
 
 -- e gets the record r, with which nothing conflicts
-one_record : (s : Shape) (t u : Table) (e : ℕ) (r : List Value) (except : Option ℕ) → HasUniqueKeys s t → get u e ≡ Some r → ((a : ℕ) → a ≢ e → get u a ≡ get t a)
+one_record : (s : Shape) (t u : Table) (e : ℕ) (r : List Value) (except : Option ℕ)
+    → HasUniqueKeys s t → get u e ≡ Some r → ((a : ℕ) → a ≢ e → get u a ≡ get t a)
     → conflict s t r except ≡ None
     → ((ps : List KeyPart) (b : ℕ) (v : List Value) → b ≢ e → is_rival ps r except (b, v) ≡ false → is_eq (compare_key ps v r) ≡ false)
     → HasUniqueKeys s u
@@ -139,14 +145,17 @@ one_record s t u e r except unique now others none rivals x a b p is =
     (λ b ne here there.
     ap (λ o. is_eq (compare_rows (index_at s x).parts (e, unwrap_or o []) (b, unwrap_or (get t b) []))) now
     ∙ keys_differ (index_at s x).parts e b r (unwrap_or (get t b) [])
-    (rivals (index_at s x).parts b (unwrap_or (get t b) []) ne (no_rival (index_at s x).parts r except t.rows b (no_rival_in s t r except x none p is) there))) a b
+    (rivals (index_at s x).parts b (unwrap_or (get t b) []) ne (no_rival (index_at s x).parts r except t.rows b (no_rival_in s t r except x none p is) there)))
+    a b
 
-pub unique_insert : (s : Shape) (at : Option (ℕ × ℕ)) (r : List Value) (t : Table) → IsTable s t → HasUniqueKeys s t → conflict s t r None ≡ None → HasUniqueKeys s (insert at r t)
+pub unique_insert : (s : Shape) (at : Option (ℕ × ℕ)) (r : List Value) (t : Table) → IsTable s t
+    → HasUniqueKeys s t → conflict s t r None ≡ None → HasUniqueKeys s (insert at r t)
 unique_insert s at r t is unique none =
     one_record s t (insert at r t) t.next r None unique (lookup_push_same t.next r t.rows (above_next t.next t.next t.rows is.ordered (omega arith)))
     (λ a ne. lookup_push a t.next r t.rows ne) none (λ ps b v ne differ. differ)
 
-pub unique_put : (s : Shape) (e : ℕ) (r : List Value) (t : Table) → has t e ≡ true → HasUniqueKeys s t → conflict s t r (Some e) ≡ None → HasUniqueKeys s (put s e r t)
+pub unique_put : (s : Shape) (e : ℕ) (r : List Value) (t : Table) → has t e ≡ true
+    → HasUniqueKeys s t → conflict s t r (Some e) ≡ None → HasUniqueKeys s (put s e r t)
 unique_put s e r t there unique none =
     one_record s t (put s e r t) e r (Some e) unique (lookup_set_same e r t.rows there) (λ a ne. lookup_set a e r t.rows ne) none
     (λ ps b v ne differ. sym (ap (λ c. not c && is_eq (compare_key ps v r)) (not_same b e ne)) ∙ differ)
@@ -167,7 +176,8 @@ module _ {A : Type 0} (s : Shape) where
   either true x y f g = f refl
   either false x y f g = g refl
 
-  unless_refused : (o : Option Refusal) (answer : A) (changed t : Table) → HasUniqueKeys s t → (o ≡ None → HasUniqueKeys s changed) → HasUniqueKeys s (unless o answer changed t).1
+  unless_refused : (o : Option Refusal) (answer : A) (changed t : Table) → HasUniqueKeys s t
+      → (o ≡ None → HasUniqueKeys s changed) → HasUniqueKeys s (unless o answer changed t).1
   unless_refused None answer changed t was f = f refl
   unless_refused (Some e) answer changed t was f = was
 
@@ -198,19 +208,23 @@ replace_unique s e r t unique =
     (λ h. unique_put s e r t (not_not (has t e) (none_after (not (has t e)) NoId late h).0) unique
     (none_mapped as_unique (conflict s t r (Some e)) (none_after (is_spent t.arrivals) Spent found (none_after (not (has t e)) NoId late h).1).1))
 
-refused_unique : (s : Shape) (e : ℕ) (r : List Value) (rollback : Bool) (t : Table) (at : Option (ℕ × ℕ)) → conflict s t r (Some e) ≡ at → has t e ≡ true → HasUniqueKeys s t
+refused_unique : (s : Shape) (e : ℕ) (r : List Value) (rollback : Bool) (t : Table) (at : Option (ℕ × ℕ))
+    → conflict s t r (Some e) ≡ at → has t e ≡ true → HasUniqueKeys s t
     → HasUniqueKeys s (option_map_or (λ at. refused_modify rollback e at t) at (Ok tt, put s e r t)).1
 refused_unique s e r rollback t None is there unique = unique_put s e r t there unique is
 refused_unique s e r true t (Some at) is there unique = unique
 refused_unique s e r false t (Some at) is there unique = unique_erase s e t unique
 
-modified_unique : (s : Shape) (e : ℕ) (rollback : Bool) (r : Option (List Value)) (t : Table) → has t e ≡ true → HasUniqueKeys s t → HasUniqueKeys s (modified s e rollback r t).1
+modified_unique : (s : Shape) (e : ℕ) (rollback : Bool) (r : Option (List Value)) (t : Table)
+    → has t e ≡ true → HasUniqueKeys s t → HasUniqueKeys s (modified s e rollback r t).1
 modified_unique s e rollback None t there unique = unique
 modified_unique s e rollback (Some r) t there unique =
-    either {A = Unit {0}} s (is_spent t.arrivals) (Err Spent, t) (option_map_or (λ at. refused_modify rollback e at t) (conflict s t r (Some e)) (Ok tt, put s e r t))
+    either {A = Unit {0}} s (is_spent t.arrivals) (Err Spent, t)
+    (option_map_or (λ at. refused_modify rollback e at t) (conflict s t r (Some e)) (Ok tt, put s e r t))
     (λ _. unique) (λ _. refused_unique s e r rollback t (conflict s t r (Some e)) refl there unique)
 
-modify_unique : (s : Shape) (e : ℕ) (edits : List Edit) (rollback : Bool) (t : Table) → HasUniqueKeys s t → HasUniqueKeys s (modify_outcome s e edits rollback t).1
+modify_unique : (s : Shape) (e : ℕ) (edits : List Edit) (rollback : Bool) (t : Table)
+    → HasUniqueKeys s t → HasUniqueKeys s (modify_outcome s e edits rollback t).1
 modify_unique s e edits rollback t unique =
     either {A = Unit {0}} s (not (has t e)) (Err NoId, t) (modified s e rollback (apply edits (row t e).1) t) (λ _. unique)
     (λ there. modified_unique s e rollback (apply edits (row t e).1) t (not_not (has t e) there) unique)
@@ -222,23 +236,27 @@ relocate_unique : (s : Shape) (x e : ℕ) (b : Option ℕ) (t : Table) → HasUn
 relocate_unique s x e b t unique = either {A = Unit {0}} s (has t e && has_place t b) (Ok tt, relocate x e b t) (Err NoId, t) (λ _. unique) (λ _. unique)
 
 -- a change that keeps tables so keeps databases so
-on_table_unique : {A : Type 0} (n : ℕ) (change : Shape → Table → Outcome A) → ((s : Shape) (t : Table) → IsTable s t → HasUniqueKeys s t → HasUniqueKeys s (change s t).1)
+on_table_unique : {A : Type 0} (n : ℕ) (change : Shape → Table → Outcome A)
+    → ((s : Shape) (t : Table) → IsTable s t → HasUniqueKeys s t → HasUniqueKeys s (change s t).1)
     → (d : Database) → IsDatabase d → UniqueEverywhere d → UniqueEverywhere (on_table n change d).1
 on_table_unique n change keeps d is unique =
     record {
       tables = zip_set HasUniqueKeys d.catalog.tables d.tables n _ (change (schema_of d n) (table_of d n)).1 unique.tables
-          (λ within. keeps (schema_of d n) (table_of d n) (zip_get IsTable d.catalog.tables d.tables n _ _ is.tables within) (zip_get HasUniqueKeys d.catalog.tables d.tables n _ _ unique.tables within));
+          (λ within. keeps (schema_of d n) (table_of d n) (zip_get IsTable d.catalog.tables d.tables n _ _ is.tables within)
+          (zip_get HasUniqueKeys d.catalog.tables d.tables n _ _ unique.tables within));
       old = unique.old;
     }
 
 abbrev db : CatalogShape → List Table → List (List Table) → ℕ → Database
 db c ts old r = record { catalog = c; tables = ts; old = old; revision = r }
 
-undone_unique : (c : CatalogShape) (ts : List Table) (old : List (List Table)) (r : ℕ) → UniqueEverywhere (db c ts old r) → UniqueEverywhere (undone (db c ts old r))
+undone_unique : (c : CatalogShape) (ts : List Table) (old : List (List Table)) (r : ℕ)
+    → UniqueEverywhere (db c ts old r) → UniqueEverywhere (undone (db c ts old r))
 undone_unique c ts [] r unique = unique
 undone_unique c ts (o ∷ old) r unique = record { tables = unique.old.0; old = unique.old.1 }
 
-squashed_unique : (c : CatalogShape) (ts : List Table) (old : List (List Table)) (r : ℕ) → UniqueEverywhere (db c ts old r) → UniqueEverywhere (squashed (db c ts old r))
+squashed_unique : (c : CatalogShape) (ts : List Table) (old : List (List Table)) (r : ℕ)
+    → UniqueEverywhere (db c ts old r) → UniqueEverywhere (squashed (db c ts old r))
 squashed_unique c ts [] r unique = unique
 squashed_unique c ts (o ∷ old) r unique = record { tables = unique.tables; old = unique.old.1 }
 
@@ -251,26 +269,31 @@ either_way true x y p q = p
 either_way false x y p q = q
 
 -- each command, accepted or refused
-pub unique_after : (c : Command) (d : Database) → IsDatabase d → UniqueEverywhere d → UniqueEverywhere (after c d)
+unique_after : (c : Command) (d : Database) → IsDatabase d → UniqueEverywhere d → UniqueEverywhere (after_command c d)
 unique_after (Insert n at r) d is unique = on_table_unique n (λ s t. insert_outcome s at r t) (λ s t. insert_unique s at r t) d is unique
 unique_after (Replace n e r) d is unique = on_table_unique n (λ s t. replace_outcome s e r t) (λ s t _. replace_unique s e r t) d is unique
-unique_after (Modify n e edits rollback) d is unique = on_table_unique n (λ s t. modify_outcome s e edits rollback t) (λ s t _. modify_unique s e edits rollback t) d is unique
+unique_after (Modify n e edits rollback) d is unique = on_table_unique n
+    (λ s t. modify_outcome s e edits rollback t) (λ s t _. modify_unique s e edits rollback t) d is unique
 unique_after (Erase n e) d is unique = on_table_unique n (λ s t. erase_outcome e t) (λ s t _. erase_unique s e t) d is unique
-unique_after (EraseKey n x key) d is unique = on_table_unique n (λ s t. erase_key_outcome s x key t) (λ s t _. unique_erase_all s (of_key s t x key) t) d is unique
+unique_after (EraseKey n x key) d is unique = on_table_unique n (λ s t. erase_key_outcome s x key t)
+    (λ s t _. unique_erase_all s (of_key s t x key) t) d is unique
 unique_after (Relocate n x e b) d is unique = on_table_unique n (λ s t. relocate_outcome x e b t) (λ s t _. relocate_unique s x e b t) d is unique
 unique_after Start d is unique =
     either_way {A = Result ℕ Refusal} (is_spent d.revision) (Err Spent, d) (if depth d == 1024 then (Err Depth, d) else (Ok (d.revision + 1), started d)) unique
-    (either_way {A = Result ℕ Refusal} (depth d == 1024) (Err Depth, d) (Ok (d.revision + 1), started d) unique (record { tables = unique.tables; old = (unique.tables, unique.old) }))
+    (either_way {A = Result ℕ Refusal} (depth d == 1024) (Err Depth, d) (Ok (d.revision + 1), started d)
+    unique (record { tables = unique.tables; old = (unique.tables, unique.old) }))
 unique_after Undo d is unique =
-    either_way {A = Result ℕ NoSession} (depth d == 0) (Err (record {}), d) (Ok (d.revision - 1), undone d) unique (undone_unique d.catalog d.tables d.old d.revision unique)
+    either_way {A = Result ℕ NoSession} (depth d == 0) (Err (record {}), d)
+    (Ok (d.revision - 1), undone d) unique (undone_unique d.catalog d.tables d.old d.revision unique)
 unique_after Squash d is unique =
-    either_way {A = Result ℕ NoSession} (depth d == 0) (Err (record {}), d) (Ok (d.revision - 1), squashed d) unique (squashed_unique d.catalog d.tables d.old d.revision unique)
+    either_way {A = Result ℕ NoSession} (depth d == 0) (Err (record {}), d) (Ok (d.revision - 1), squashed d)
+    unique (squashed_unique d.catalog d.tables d.old d.revision unique)
 unique_after (Commit x) d is unique = record { tables = unique.tables; old = all_take (AllZip HasUniqueKeys d.catalog.tables) _ d.old unique.old }
 unique_after UndoAll d is unique = undone_times_unique (depth d) d unique
 
 unique_run : (cs : List Command) (d : Database) → IsDatabase d → UniqueEverywhere d → UniqueEverywhere (run cs d)
 unique_run [] d is unique = unique
-unique_run (c ∷ cs) d is unique = unique_run cs (after c d) (is_database_after c d is) (unique_after c d is unique)
+unique_run (c ∷ cs) d is unique = unique_run cs (after_command c d) (is_database_after c d is) (unique_after c d is unique)
 
 -- an opened database has empty tables
 opened_whole : (shapes : List Shape) → AllZip IsTable shapes (map opened shapes)
@@ -281,7 +304,7 @@ opened_unique : (shapes : List Shape) → AllZip HasUniqueKeys shapes (map opene
 opened_unique [] = tt
 opened_unique (s ∷ shapes) = (λ x a b p is here there ne. absurd (let h : false ≡ true = here in cc), opened_unique shapes)
 
-pub opened_is_database : (c : CatalogShape) → IsDatabase (opened_database c)
+opened_is_database : (c : CatalogShape) → IsDatabase (opened_database c)
 opened_is_database c = record { tables = opened_whole c.tables; old = tt; numbered = (omega arith) }
 
 pub tables_stay_well_formed : TablesStayWellFormed

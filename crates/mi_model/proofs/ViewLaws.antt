@@ -138,8 +138,10 @@ view-insert_other s y b r t x ne =
     ap (λ ids. shown (index_at s x).kind (compare_ids (index_at s x) (insert None r t)) ids) (get_or-set_other _ y x _ [] ne)
 
 -- in the index that the place names, the new id stands before the id that is named
-pub list-insert_before : (y b : ℕ) (r : List Value) (t : Table) → y < length t.lists → list_of (insert (Some (y, b)) r t) y ≡ stand_before b t.next (list_of t y)
-list-insert_before y b r t within = get_or-set_same (map (stand None t.next) t.lists) y _ [] (subst (λ n. y < n) (sym (length-map t.lists (stand None t.next))) within)
+pub list-insert_before : (y b : ℕ) (r : List Value) (t : Table) → y < length t.lists
+    → list_of (insert (Some (y, b)) r t) y ≡ stand_before b t.next (list_of t y)
+list-insert_before y b r t within = get_or-set_same (map (stand None t.next) t.lists) y _ []
+    (subst (λ n. y < n) (sym (length-map t.lists (stand None t.next))) within)
 
 -- ids filtered by tests that agree on ids other than e
 pub filter_alike : (e : ℕ) (p q : ℕ → Bool) → ((a : ℕ) → a ≢ e → p a ≡ q a) → (ids : List ℕ) → Lacks e ids → filter p ids ≡ filter q ids
@@ -150,7 +152,8 @@ filter_alike e p q same (a ∷ ids) lacks =
 swap_step : (p q : ℕ → Bool) (a : ℕ) (ids : List ℕ) (b c : Bool) → p a ≡ b → q a ≡ c → filter p (filter q ids) ≡ filter q (filter p ids)
     → filter p (cond c (a ∷ filter q ids) (filter q ids)) ≡ filter q (cond b (a ∷ filter p ids) (filter p ids))
 swap_step p q a ids true true e f ih =
-    ap (λ b. cond b (a ∷ filter p (filter q ids)) (filter p (filter q ids))) e ∙ ap (λ rest. a ∷ rest) ih ∙ sym (ap (λ b. cond b (a ∷ filter q (filter p ids)) (filter q (filter p ids))) f)
+    ap (λ b. cond b (a ∷ filter p (filter q ids)) (filter p (filter q ids))) e ∙ ap (λ rest. a ∷ rest) ih
+    ∙ sym (ap (λ b. cond b (a ∷ filter q (filter p ids)) (filter q (filter p ids))) f)
 swap_step p q a ids true false e f ih = ih ∙ sym (ap (λ b. cond b (a ∷ filter q (filter p ids)) (filter q (filter p ids))) f)
 swap_step p q a ids false true e f ih = ap (λ b. cond b (a ∷ filter p (filter q ids)) (filter p (filter q ids))) e ∙ ih
 swap_step p q a ids false false e f ih = ih

@@ -1,5 +1,6 @@
 -- A walk along what an index shows, step by step and whole.
-use Rattle.std.proofs.Common.{◌≡◌, ℕ, ◌+◌, ◌-◌, ◌<◌, ◌≤◌, zero, suc, Bool, true, false, cond, ◌⊎◌, inl, inr, get_or, List, [], ◌∷◌, ◌++◌, map, length, take, drop, reverse, refl, ap, sym, ◌∙◌, subst, append_assoc, arith}
+use Rattle.std.proofs.Common.{◌≡◌, ℕ, ◌+◌, ◌-◌, ◌<◌, ◌≤◌, zero, suc, Bool, true, false, cond, ◌⊎◌, inl, inr, get_or, List, []}
+use Rattle.std.proofs.Common.{◌∷◌, ◌++◌, map, length, take, drop, reverse, refl, ap, sym, ◌∙◌, subst, append_assoc, arith}
 use Rattle.std.specs.Prelude.{slice_get, IsTrue, IfSome}
 use Rattle.std.specs.Option.{unwrap_or}
 use Rattle.std.specs.declared.option.Option.{Option}
@@ -20,7 +21,7 @@ use Rattle.mi_model.proofs.PlaceLaws.{IsOnce, after_at, before_at, before_first,
 
 -- how often an id stands in two lists, and in a reversed one
 
-pub times-append : (id : ℕ) (xs ys : List ℕ) → times id (xs ++ ys) ≡ times id xs + times id ys
+times-append : (id : ℕ) (xs ys : List ℕ) → times id (xs ++ ys) ≡ times id xs + times id ys
 times-append id [] ys = omega arith
 times-append id (x ∷ xs) ys = let rest : times id (xs ++ ys) ≡ times id xs + times id ys = times-append id xs ys in omega arith
 
@@ -32,7 +33,7 @@ times-reverse id (x ∷ xs) =
     let rest : times id (reverse xs) ≡ times id xs = times-reverse id xs in
     omega arith
 
-pub times-turned : (reversed : Bool) (id : ℕ) (ids : List ℕ) → times id (turned reversed ids) ≡ times id ids
+times-turned : (reversed : Bool) (id : ℕ) (ids : List ℕ) → times id (turned reversed ids) ≡ times id ids
 times-turned true id ids = times-reverse id ids
 times-turned false id ids = refl
 
@@ -53,7 +54,7 @@ pub from_at : (ids : List ℕ) → IsOnce ids → (k e : ℕ) → slice_get ids 
 from_at ids once k e at = ap (λ n. drop n ids) (rank_at k e ids once at)
 
 -- from one between others on
-pub from_middle : (xs : List ℕ) (e : ℕ) (ys : List ℕ) → IsOnce (xs ++ e ∷ ys) → from_in (xs ++ e ∷ ys) e ≡ e ∷ ys
+from_middle : (xs : List ℕ) (e : ℕ) (ys : List ℕ) → IsOnce (xs ++ e ∷ ys) → from_in (xs ++ e ∷ ys) e ≡ e ∷ ys
 from_middle xs e ys once =
     let at : slice_get (xs ++ e ∷ ys) (length xs) ≡ Some e = middle xs in
     from_at (xs ++ e ∷ ys) once (length xs) e at ∙ drop-append_seam xs (e ∷ ys)
@@ -63,7 +64,8 @@ from_middle xs e ys once =
     middle (u ∷ us) = middle us
 
 -- what one shows from one of its nodes on, in either direction
-pub turned_middle : (reversed : Bool) (xs : List ℕ) (e : ℕ) (ys : List ℕ) → IsOnce (xs ++ e ∷ ys) → from_in (turned reversed (xs ++ e ∷ ys)) e ≡ e ∷ cond reversed (reverse xs) ys
+pub turned_middle : (reversed : Bool) (xs : List ℕ) (e : ℕ) (ys : List ℕ) → IsOnce (xs ++ e ∷ ys)
+    → from_in (turned reversed (xs ++ e ∷ ys)) e ≡ e ∷ cond reversed (reverse xs) ys
 turned_middle true xs e ys once =
     let parts : reverse (xs ++ e ∷ ys) ≡ reverse ys ++ e ∷ reverse xs =
     reverse-append xs (e ∷ ys) ∙ ap (λ zs. zs ++ reverse xs) (reverse-append (e ∷ []) ys) ∙ append_assoc (reverse ys) (e ∷ []) (reverse xs) in
@@ -86,11 +88,13 @@ module _ (t : Table) (ids : List ℕ) (each : ListsEach t ids) where
         | suc n ↦ λ is. subst (λ o. IfSome o (λ id. IsTrue (has t id))) (sym (before_other ids e n is)) (listed n)
       ] refl
 
-  pub next_forth : (reversed : Bool) (e : ℕ) → reversed ≡ false → (k : ℕ) → slice_get (turned reversed ids) k ≡ Some e → after_in ids e ≡ slice_get (turned reversed ids) (k + 1)
+  pub next_forth : (reversed : Bool) (e : ℕ) → reversed ≡ false → (k : ℕ)
+      → slice_get (turned reversed ids) k ≡ Some e → after_in ids e ≡ slice_get (turned reversed ids) (k + 1)
   next_forth true e forth k at = absurd (cc)
   next_forth false e forth k at = after_at ids (once_of_each t ids each) k e at
 
-  pub next_back : (reversed : Bool) (e : ℕ) → reversed ≡ true → (k : ℕ) → slice_get (turned reversed ids) k ≡ Some e → before_in ids e ≡ slice_get (turned reversed ids) (k + 1)
+  pub next_back : (reversed : Bool) (e : ℕ) → reversed ≡ true → (k : ℕ)
+      → slice_get (turned reversed ids) k ≡ Some e → before_in ids e ≡ slice_get (turned reversed ids) (k + 1)
   next_back true e back k at = before_at ids (once_of_each t ids each) k e at
   next_back false e back k at = absurd (cc)
 

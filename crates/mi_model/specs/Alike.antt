@@ -14,12 +14,13 @@ use Rattle.mi_catalog.specs.Rules.{is_schema}
 use Rattle.mi_model.specs.Key.{IsWholeKey, IsAskedBy}
 use Rattle.mi_model.specs.Table.{Table, get, row, size}
 use Rattle.mi_model.specs.Conflict.{conflict}
-use Rattle.mi_model.specs.Lookup.{rank, nth, lower_rank, upper_rank, find, count, lower, upper, first, last, after as row_after, before as row_before, first_of, next_of}
+use Rattle.mi_model.specs.Lookup.{rank, nth, lower_rank, upper_rank, find, count, lower, upper, first}
+use Rattle.mi_model.specs.Lookup.{last, after as row_after, before as row_before, first_of, next_of}
 use Rattle.mi_model.specs.Page.{range, list}
 use Rattle.mi_model.specs.Database.{Database, IsDatabase, schema_of, table_of, depth, start_step, undo_step, squash_step, commit_step, undo_all_step}
 use Rattle.mi_model.specs.Steps.{insert_step, replace_step, modify_step, erase_step, erase_key_step, relocate_step}
 use Rattle.mi_model.specs.Same.{SameDatabase}
-use Rattle.mi_model.specs.Run.{Command, after}
+use Rattle.mi_model.specs.Run.{Command, after_command}
 use Rattle.mi_model.specs.Run.Command.{Insert, Replace, Modify, Erase, EraseKey, Relocate, Start, Undo, Squash, Commit, UndoAll}
 
 -- the record of an id has a value for each part of the index, as one that fits the columns has
@@ -91,12 +92,12 @@ AnswersAlike UndoAll d e = (undo_all_step d).0 ≡ (undo_all_step e).0
 -- a command answers the same in databases that show the same, and they still do
 abbrev pub CommandsAnswerAlike : Type 0
 CommandsAnswerAlike = (c : Command) (d e : Database) → IsDatabase d → IsDatabase e → IsCommandOf d.catalog c → SameDatabase d e
-    → AnswersAlike c d e × SameDatabase (after c d) (after c e)
+    → AnswersAlike c d e × SameDatabase (after_command c d) (after_command c e)
 
 -- each of several commands answers the same in both, and after the last they show the same
 abbrev pub AllAnswerAlike : List Command → Database → Database → Type 0
 AllAnswerAlike [] d e = SameDatabase d e
-AllAnswerAlike (c ∷ cs) d e = AnswersAlike c d e × AllAnswerAlike cs (after c d) (after c e)
+AllAnswerAlike (c ∷ cs) d e = AnswersAlike c d e × AllAnswerAlike cs (after_command c d) (after_command c e)
 
 abbrev pub RunsAnswerAlike : Type 0
 RunsAnswerAlike = (cs : List Command) (d e : Database) → IsDatabase d → IsDatabase e → AllByRecursion (IsCommandOf d.catalog) cs → SameDatabase d e

@@ -63,7 +63,8 @@ abbrev pub RanksEnd : Type 0
 RanksEnd = (nth accounts (table equals) 2 2 ≡ Some 2) × (nth accounts (table equals) 2 3 ≡ None)
 
 abbrev pub BoundsOfEqualKeys : Type 0
-BoundsOfEqualKeys = (lower_rank accounts (table equals) 2 (number 5) ≡ 0) × (upper_rank accounts (table equals) 2 (number 5) ≡ 3) × (count accounts (table equals) 2 (number 5) ≡ 3)
+BoundsOfEqualKeys = (lower_rank accounts (table equals) 2 (number 5) ≡ 0)
+    × (upper_rank accounts (table equals) 2 (number 5) ≡ 3) × (count accounts (table equals) 2 (number 5) ≡ 3)
 
 abbrev pub ViewsOfEqualKeys : Type 0
 ViewsOfEqualKeys = (class (table equals) ≡ 2 ∷ 0 ∷ 1 ∷ []) × (find accounts (table equals) 3 (flag false) ≡ Some 0)
@@ -76,7 +77,8 @@ abbrev pub there_and_back : List Command
 there_and_back = same_balance ++ Replace 0 0 (account (codes "a") 6 true) ∷ Replace 0 0 (account (codes "a") 5 true) ∷ []
 
 abbrev pub KeyThatStaysKeepsItsPlace : Type 0
-KeyThatStaysKeepsItsPlace = (view accounts (table same_balance) 2 ≡ 0 ∷ 1 ∷ 2 ∷ []) × (find accounts (table same_balance) 3 (flag true) ≡ Some 2) × (line (table same_balance) ≡ 0 ∷ 1 ∷ 2 ∷ [])
+KeyThatStaysKeepsItsPlace = (view accounts (table same_balance) 2 ≡ 0 ∷ 1 ∷ 2 ∷ [])
+    × (find accounts (table same_balance) 3 (flag true) ≡ Some 2) × (line (table same_balance) ≡ 0 ∷ 1 ∷ 2 ∷ [])
 
 abbrev pub KeyThatChangesGoesLast : Type 0
 KeyThatChangesGoesLast = (view accounts (table there_and_back) 2 ≡ 1 ∷ 2 ∷ 0 ∷ []) × (class (table there_and_back) ≡ 2 ∷ 0 ∷ 1 ∷ [])
@@ -108,7 +110,8 @@ abbrev pub rich : List Command
 rich = ins (codes "a") 9223372036854775806 false ∷ Modify 0 0 (Add 1 (pos 1) ∷ []) false ∷ []
 
 abbrev pub AdditionToTheLastNumber : Type 0
-AdditionToTheLastNumber = (get (table rich) 0 ≡ Some (account (codes "a") 9223372036854775807 false)) × ((modify_outcome accounts 0 (Add 1 (pos 1) ∷ []) false (table rich)).0 ≡ Err Range)
+AdditionToTheLastNumber = (get (table rich) 0 ≡ Some (account (codes "a") 9223372036854775807 false))
+    × ((modify_outcome accounts 0 (Add 1 (pos 1) ∷ []) false (table rich)).0 ≡ Err Range)
 
 abbrev pub Relocations : Type 0
 Relocations = (line (table (three ++ Relocate 0 5 0 (Some 0) ∷ [])) ≡ 0 ∷ 1 ∷ 2 ∷ [])
@@ -139,7 +142,8 @@ abbrev pub thinned : List Command
 thinned = four ++ Start ∷ Erase 0 1 ∷ Erase 0 2 ∷ Relocate 0 5 3 (Some 0) ∷ []
 
 abbrev pub ErasedRowsComeBack : Type 0
-ErasedRowsComeBack = (line (table thinned) ≡ 3 ∷ 0 ∷ []) × (line (table (thinned ++ Undo ∷ [])) ≡ 0 ∷ 1 ∷ 2 ∷ 3 ∷ []) × (view accounts (table (thinned ++ Undo ∷ [])) 2 ≡ 0 ∷ 1 ∷ 2 ∷ 3 ∷ [])
+ErasedRowsComeBack = (line (table thinned) ≡ 3 ∷ 0 ∷ []) × (line (table (thinned ++ Undo ∷ [])) ≡ 0 ∷ 1 ∷ 2 ∷ 3 ∷ [])
+    × (view accounts (table (thinned ++ Undo ∷ [])) 2 ≡ 0 ∷ 1 ∷ 2 ∷ 3 ∷ [])
 
 -- a squash, an undo, and an undo with none open
 abbrev pub squashing : List Command
@@ -173,7 +177,8 @@ abbrev pub erasing : List Command
 erasing = vips ++ Start ∷ EraseKey 0 3 (flag true) ∷ Start ∷ EraseKey 0 3 (flag true) ∷ []
 
 abbrev pub UndoAllOfErasesByKey : Type 0
-UndoAllOfErasesByKey = ((erase_key_outcome accounts 3 (flag true) (table vips)).0 ≡ Ok 2) × ((erase_key_outcome accounts 3 (flag true) (table erasing)).0 ≡ Ok 0)
+UndoAllOfErasesByKey = ((erase_key_outcome accounts 3 (flag true) (table vips)).0 ≡ Ok 2)
+    × ((erase_key_outcome accounts 3 (flag true) (table erasing)).0 ≡ Ok 0)
     × ((undo_all_step (db erasing)).0 ≡ Ok 2) × (db (erasing ++ UndoAll ∷ []) ≡ db vips)
     × (line (table (erasing ++ UndoAll ∷ [])) ≡ 0 ∷ 1 ∷ 2 ∷ []) × (rank accounts (table (erasing ++ UndoAll ∷ [])) 2 2 ≡ 2)
 
@@ -229,12 +234,16 @@ TablesUnderOneStack = ((on_table 1 (λ s t. insert_outcome s None (Text (codes "
 
 -- the rows that are kept for a session, and after it
 abbrev pub RowsKeptForASession : Type 0
-RowsKeptForASession = (kept_after (Erase 0 2) (db (four ++ Start ∷ Erase 0 1 ∷ [])) (kept_after (Erase 0 1) (db (four ++ Start ∷ [])) (kept_after Start (db four) [])) ≡ ((0, 1) ∷ (0, 2) ∷ []) ∷ [])
-    × (kept_after Undo (db thinned) (((0, 1) ∷ (0, 2) ∷ []) ∷ []) ≡ []) × (kept_after (Modify 0 1 to_a false) (db (three ++ Start ∷ [])) ([] ∷ []) ≡ ((0, 1) ∷ []) ∷ [])
+RowsKeptForASession = (kept_after (Erase 0 2) (db (four ++ Start ∷ Erase 0 1 ∷ []))
+    (kept_after (Erase 0 1) (db (four ++ Start ∷ [])) (kept_after Start (db four) []))
+    ≡ ((0, 1) ∷ (0, 2) ∷ []) ∷ [])
+    × (kept_after Undo (db thinned) (((0, 1) ∷ (0, 2) ∷ []) ∷ []) ≡ [])
+    × (kept_after (Modify 0 1 to_a false) (db (three ++ Start ∷ [])) ([] ∷ []) ≡ ((0, 1) ∷ []) ∷ [])
 
 -- the ids of one key of a hashed index, one after another
 abbrev pub NeighboursOfOneKey : Type 0
-NeighboursOfOneKey = (first_of accounts (table vips) 3 (flag true) ≡ Some 0) × (next_of accounts (table vips) 3 0 ≡ Some 1) × (next_of accounts (table vips) 3 1 ≡ None)
+NeighboursOfOneKey = (first_of accounts (table vips) 3 (flag true) ≡ Some 0)
+    × (next_of accounts (table vips) 3 0 ≡ Some 1) × (next_of accounts (table vips) 3 1 ≡ None)
     × (after accounts (table vips) 2 1 ≡ Some 2) × (before accounts (table vips) 2 0 ≡ None) × (last accounts (table vips) 5 ≡ Some 2)
     × (last accounts (table (vips ++ Erase 0 0 ∷ [])) 5 ≡ Some 2)
 
@@ -246,7 +255,8 @@ abbrev pub both_from_zero : Database
 both_from_zero = run (Insert 0 None (number 1) ∷ Insert 1 None (Text (codes "x") ∷ []) ∷ Erase 0 0 ∷ []) (opened_database (from_zero two_tables.catalog))
 
 abbrev pub OneIdInTwoTables : Type 0
-OneIdInTwoTables = (get (table_of both_from_zero 0) 0 ≡ None) × (get (table_of both_from_zero 1) 0 ≡ Some (Text (codes "x") ∷ [])) × (size (table_of both_from_zero 1) ≡ 1)
+OneIdInTwoTables = (get (table_of both_from_zero 0) 0 ≡ None)
+    × (get (table_of both_from_zero 1) 0 ≡ Some (Text (codes "x") ∷ [])) × (size (table_of both_from_zero 1) ≡ 1)
 
 -- two rows of different keys, in either order in the list of a hashed index
 abbrev pub one_vip : Table

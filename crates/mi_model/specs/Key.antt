@@ -12,6 +12,10 @@ use Rattle.mi_catalog.specs.declared.index.IndexKind.TheVariants.{Hashed}
 abbrev pub Row : Type 0
 Row = ℕ × List Value
 
+-- the part that an index without parts goes by: the id alone
+abbrev pub id_part : List KeyPart
+id_part = record { column = 0; descending = false } ∷ []
+
 -- the parts to compare by: those of the index, or the id alone where it has none
 abbrev pub parts_or_id : List KeyPart → List KeyPart
 parts_or_id [] = record { column = 0; descending = false } ∷ []

@@ -23,7 +23,8 @@ tables_at_start n d = lookup (λ m. m == n) (sessions d)
 
 -- so the session with k above it has the number revision - k
 abbrev pub SessionsAreNumbered : Type 0
-SessionsAreNumbered = (d : Database) (k : ℕ) (tables : List Table) → IsDatabase d → slice_get d.old k ≡ Some tables → tables_at_start (d.revision - k) d ≡ Some tables
+SessionsAreNumbered = (d : Database) (k : ℕ) (tables : List Table) → IsDatabase d
+    → slice_get d.old k ≡ Some tables → tables_at_start (d.revision - k) d ≡ Some tables
 
 -- a commit ends the sessions of numbers up to x, and no other
 abbrev pub CommitsEndByNumber : Type 0

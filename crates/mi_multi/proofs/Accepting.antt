@@ -1,5 +1,6 @@
 -- What is known of a record that no rule refuses.
-use Rattle.std.proofs.Common.{◌≡◌, ◌≢◌, ℕ, ◌+◌, ◌≤◌, zero, suc, IfSome, Bool, true, false, cond, not, ◌||◌, inl, inr, List, [], ◌∷◌, get_or, refl, ap, sym, ◌∙◌, subst, arith}
+use Rattle.std.proofs.Common.{◌≡◌, ◌≢◌, ℕ, ◌+◌, ◌≤◌, zero, suc, IfSome, Bool, true, false, cond, not}
+use Rattle.std.proofs.Common.{◌||◌, inl, inr, List, [], ◌∷◌, get_or, refl, ap, sym, ◌∙◌, subst, arith}
 use Rattle.std.specs.Prelude.{◌==◌}
 use Rattle.std.specs.Option.{option_map, is_some}
 use Rattle.std.specs.Ordering.{nat_cmp}
@@ -11,7 +12,8 @@ use Rattle.std.specs.declared.option.Option.TheVariants.{None, Some}
 use Rattle.std.specs.declared.result.Result.TheVariants.{Ok, Err}
 use Rattle.mi_value.specs.declared.value.Value.{Value}
 use Rattle.mi_value.specs.declared.refusal.Refusal.{Refusal}
-use Rattle.mi_value.specs.declared.refusal.Refusal.TheVariants.{Line, Json, Form, Busy, NoTable, Index as RIndex, Kind, Row as RRow, Key, NoId, Range, Full, Spent, Unique, Lost, Depth, Session, Memory}
+use Rattle.mi_value.specs.declared.refusal.Refusal.TheVariants.{Line, Json, Form, Busy, NoTable, Index as RIndex, Kind, Row as RRow}
+use Rattle.mi_value.specs.declared.refusal.Refusal.TheVariants.{Key, NoId, Range, Full, Spent, Unique, Lost, Depth, Session, Memory}
 use Rattle.mi_value.specs.declared.limits.TheConstants.{LAST_COUNT}
 use Rattle.mi_catalog.specs.declared.index.Index.{Index}
 use Rattle.mi_catalog.specs.Kinds.{is_sequenced}
@@ -41,7 +43,7 @@ use Rattle.mi_multi.proofs.Every.{sequenced_order}
 use Rattle.mi_multi.proofs.Answers.{live_is, none_has, row_is}
 use Rattle.mi_multi.proofs.Coming.{IsBefore}
 
-pub tested : (a b : ℕ) → a ≡ b → (a == b) ≡ true
+tested : (a b : ℕ) → a ≡ b → (a == b) ≡ true
 tested a b same = elim (eqb_tells a b) [ inl is ↦ is.0 | inr isnt ↦ absurd (isnt.1 same) ]
 
 pub record Accepted (s : Shape) (at : Option (ℕ × ℕ)) (r : List Value) (t : Table) : Type 0 where
@@ -50,7 +52,8 @@ pub record Accepted (s : Shape) (at : Option (ℕ × ℕ)) (r : List Value) (t :
   pub arrivals : t.arrivals ≢ LAST_COUNT
   pub alone : conflict s t r None ≡ None
 
-none_applies : (a b c : Bool) (o : Option (ℕ × ℕ)) → cond (not a) (Some NoId) (cond b (Some Full) (cond c (Some Spent) (option_map as_unique o))) ≡ None → (a ≡ true) × (c ≡ false) × (o ≡ None)
+none_applies : (a b c : Bool) (o : Option (ℕ × ℕ))
+    → cond (not a) (Some NoId) (cond b (Some Full) (cond c (Some Spent) (option_map as_unique o))) ≡ None → (a ≡ true) × (c ≡ false) × (o ≡ None)
 none_applies false b c o h = absurd (none_some (sym h))
 none_applies true true c o h = absurd (none_some (sym h))
 none_applies true false true o h = absurd (none_some (sym h))
@@ -89,14 +92,17 @@ module _ (s : Shape) (at : Option (ℕ × ℕ)) (r : List Value) (t : Table) whe
   passed_size h f = passed_place h ∙ ap (λ n. cond n (Some Full) others) (is_other (size t) s.max_rows f)
 
   pub next_spent : not (has_place t (option_map (λ p. p.1) at)) ≡ false → (size t ≡ s.max_rows → ⊥) → t.next ≡ LAST_COUNT → insert_refusal s at r t ≡ Some Spent
-  next_spent h f n = passed_size h f ∙ ap (λ a. cond (a || is_spent t.arrivals) (Some Spent) (option_map as_unique (conflict s t r None))) (tested t.next LAST_COUNT n)
+  next_spent h f n = passed_size h f
+      ∙ ap (λ a. cond (a || is_spent t.arrivals) (Some Spent) (option_map as_unique (conflict s t r None))) (tested t.next LAST_COUNT n)
 
-  pub arrivals_spent : not (has_place t (option_map (λ p. p.1) at)) ≡ false → (size t ≡ s.max_rows → ⊥) → (t.next ≡ LAST_COUNT → ⊥) → t.arrivals ≡ LAST_COUNT → insert_refusal s at r t ≡ Some Spent
+  pub arrivals_spent : not (has_place t (option_map (λ p. p.1) at)) ≡ false → (size t ≡ s.max_rows → ⊥)
+      → (t.next ≡ LAST_COUNT → ⊥) → t.arrivals ≡ LAST_COUNT → insert_refusal s at r t ≡ Some Spent
   arrivals_spent h f n a =
       passed_size h f ∙ ap (λ w. cond (w || is_spent t.arrivals) (Some Spent) (option_map as_unique (conflict s t r None))) (is_other t.next LAST_COUNT n)
       ∙ ap (λ w. cond w (Some Spent) (option_map as_unique (conflict s t r None))) (tested t.arrivals LAST_COUNT a)
 
-  pub unique_refuses : not (has_place t (option_map (λ p. p.1) at)) ≡ false → (size t ≡ s.max_rows → ⊥) → (t.next ≡ LAST_COUNT → ⊥) → (t.arrivals ≡ LAST_COUNT → ⊥)
+  pub unique_refuses : not (has_place t (option_map (λ p. p.1) at)) ≡ false
+      → (size t ≡ s.max_rows → ⊥) → (t.next ≡ LAST_COUNT → ⊥) → (t.arrivals ≡ LAST_COUNT → ⊥)
       → insert_refusal s at r t ≡ option_map as_unique (conflict s t r None)
   unique_refuses h f n a =
       passed_size h f ∙ ap (λ w. cond (w || is_spent t.arrivals) (Some Spent) (option_map as_unique (conflict s t r None))) (is_other t.next LAST_COUNT n)
@@ -124,10 +130,12 @@ refused_meets A Depth t = (refl, refl)
 refused_meets A Session t = (refl, refl)
 refused_meets A Memory t = refl
 
-pub insert_refused : (s : Shape) (at : Option (ℕ × ℕ)) (r : List Value) (t : Table) (e : Refusal) → insert_refusal s at r t ≡ Some e → MeetsRefusal (insert_outcome s at r t) e t t
+pub insert_refused : (s : Shape) (at : Option (ℕ × ℕ)) (r : List Value) (t : Table) (e : Refusal)
+    → insert_refusal s at r t ≡ Some e → MeetsRefusal (insert_outcome s at r t) e t t
 insert_refused s at r t e h = subst (λ o. MeetsRefusal (unless o t.next (insert at r t) t) e t t) (sym h) (refused_meets _ e t)
 
-pub insert_meets : (s : Shape) (at : Option (ℕ × ℕ)) (r : List Value) (t : Table) (id : ℕ) (new : Table) → insert_refusal s at r t ≡ None → id ≡ t.next → new ≡ insert at r t
+pub insert_meets : (s : Shape) (at : Option (ℕ × ℕ)) (r : List Value) (t : Table) (id : ℕ) (new : Table)
+    → insert_refusal s at r t ≡ None → id ≡ t.next → new ≡ insert at r t
     → ((insert_outcome s at r t).0 ≡ Ok id) × (new ≡ (insert_outcome s at r t).1)
 insert_meets s at r t id new h same is =
     (ap (λ o. (unless o t.next (insert at r t) t).0) h ∙ ap Ok (sym same), is ∙ sym (ap (λ o. (unless o t.next (insert at r t) t).1) h))
@@ -137,7 +145,8 @@ rises a b l ne = omega arith
 
 -- The place
 
-listed_at : (is : List Index) (ls : List (List ℕ)) (x : ℕ) (none : Index) → is_sequenced none.kind ≡ false → is_sequenced (get_or is x none).kind ≡ true → IsListed (get_or (orders_of is ls) x ById)
+listed_at : (is : List Index) (ls : List (List ℕ)) (x : ℕ) (none : Index) → is_sequenced none.kind ≡ false
+    → is_sequenced (get_or is x none).kind ≡ true → IsListed (get_or (orders_of is ls) x ById)
 listed_at [] ls x none no_ h = absurd (false≢true (sym no_ ∙ h))
 listed_at (i ∷ is) [] zero none no_ h = subst IsListed (sym (sequenced_order i.kind i.parts [] h)) tt
 listed_at (i ∷ is) [] (suc x) none no_ h = listed_at is [] x none no_ h
@@ -149,7 +158,7 @@ module _ (s : Shape) (ids : FinMap nat_cmp IdEntry) (m : Pooled Stored) (xs : Li
   d = plain_of s ids m xs next arrivals
 
   -- a sequenced index has a list of its own
-  pub has_list : (x : ℕ) → IsSequenced s x → IsListed (get_or d.orders x ById)
+  has_list : (x : ℕ) → IsSequenced s x → IsListed (get_or d.orders x ById)
   has_list x h = listed_at s.indexes (own_lists m xs) x _ refl (ap is_sequenced h)
 
   pub place_fits : (at : Option (ℕ × ℕ)) → IfSome at (λ p. IsSequenced s p.0) → PlaceFits at d.orders

@@ -60,7 +60,8 @@ module _ (s : Shape) (ids : FinMap nat_cmp IdEntry) (m : Pooled Stored) (xs : Li
   d = plain_of s ids m xs next arrivals
 
   pub none_has : live_node ids e ≡ None → has (table_of d) e ≡ false
-  none_has h = ap is_some (lookup_shown e d.rows ∙ ap (option_map (λ (n : Node). n.content.values)) (get_picked (live_in m (plan s.indexes)) ids e ∙ no_node m (plan s.indexes) (get ids e) h))
+  none_has h = ap is_some (lookup_shown e d.rows
+      ∙ ap (option_map (λ (n : Node). n.content.values)) (get_picked (live_in m (plan s.indexes)) ids e ∙ no_node m (plan s.indexes) (get ids e) h))
 
   pub row_is : (r : Ref) → live_node ids e ≡ Some r → node_of d.rows e ≡ Some (node_in m (plan s.indexes) r)
   row_is r h = get_picked (live_in m (plan s.indexes)) ids e ∙ ap (option_and_then (live_in m (plan s.indexes))) (live_is ids e r h)
@@ -73,7 +74,8 @@ module _ (s : Shape) (ids : FinMap nat_cmp IdEntry) (m : Pooled Stored) (xs : Li
       outcome : Bool → Outcome (Unit {0})
       outcome b = cond b (Ok tt, erase e (table_of d)) (Err NoId, table_of d)
 
-  pub erase_meets : (r : Ref) (new : Data) → live_node ids e ≡ Some r → new ≡ erased e d → ((erase_outcome e (table_of d)).0 ≡ Ok tt) × (table_of new ≡ (erase_outcome e (table_of d)).1)
+  pub erase_meets : (r : Ref) (new : Data) → live_node ids e ≡ Some r → new ≡ erased e d
+      → ((erase_outcome e (table_of d)).0 ≡ Ok tt) × (table_of new ≡ (erase_outcome e (table_of d)).1)
   erase_meets r new h is =
       let there : IsThere d.rows e = (node_in m (plan s.indexes) r, row_is r h) in
       let yes_ : has (table_of d) e ≡ true = has_there d e there in
@@ -82,7 +84,8 @@ module _ (s : Shape) (ids : FinMap nat_cmp IdEntry) (m : Pooled Stored) (xs : Li
       outcome : Bool → Outcome (Unit {0})
       outcome b = cond b (Ok tt, erase e (table_of d)) (Err NoId, table_of d)
 
-  pub erase_made : (why : Option (ℕ × ℕ)) (r : Ref) (new : Data) → live_node ids e ≡ Some r → new ≡ erased e d → Makes s (Erase e why) d (Erased (record { id = e; at = r }) why) new
+  pub erase_made : (why : Option (ℕ × ℕ)) (r : Ref) (new : Data) → live_node ids e ≡ Some r
+      → new ≡ erased e d → Makes s (Erase e why) d (Erased (record { id = e; at = r }) why) new
   erase_made why r new h is = record {
     allowed = (node_in m (plan s.indexes) r, row_is r h);
     changed_data = is;
@@ -94,12 +97,14 @@ module _ (s : Shape) (ids : FinMap nat_cmp IdEntry) (m : Pooled Stored) (xs : Li
   pub kept_there : (r : RowRef) → IsKept d.kept r → get ids r.id ≡ Some (record { node = r.at; live = false })
   kept_there r k = let h = entry_kept ids m (plan s.indexes) r.id k.0 k.1 in h.0 ∙ ap (λ w. Some (record { node = w; live = false })) k.2
 
-  pub back_meets : (r : RowRef) (why : Option (ℕ × ℕ)) → Ready (Erased r why) d → AllMeet 0 d.rows (node_in m (plan s.indexes) r.at).content (all_neighbours m r.at.name 0 (plan s.indexes)) d.orders
+  pub back_meets : (r : RowRef) (why : Option (ℕ × ℕ)) → Ready (Erased r why) d
+      → AllMeet 0 d.rows (node_in m (plan s.indexes) r.at).content (all_neighbours m r.at.name 0 (plan s.indexes)) d.orders
   back_meets r why ready =
       let h = entry_kept ids m (plan s.indexes) r.id ready.0.0 ready.0.1 in
       subst (λ (w : Kept). AllMeet 0 d.rows w.node.content w.links d.orders) (h.1 ∙ ap (kept_node_in m (plan s.indexes)) ready.0.2) ready.1
 
-  pub back_is : (r : RowRef) (why : Option (ℕ × ℕ)) → IsKept d.kept r → taken_back (Erased r why) d ≡ returned r.id (Some (kept_node_in m (plan s.indexes) r.at)) d
+  pub back_is : (r : RowRef) (why : Option (ℕ × ℕ)) → IsKept d.kept r
+      → taken_back (Erased r why) d ≡ returned r.id (Some (kept_node_in m (plan s.indexes) r.at)) d
   back_is r why k =
       let h = entry_kept ids m (plan s.indexes) r.id k.0 k.1 in
       ap (λ o. returned r.id o d) (k.1 ∙ ap Some (h.1 ∙ ap (kept_node_in m (plan s.indexes)) k.2))
@@ -107,7 +112,8 @@ module _ (s : Shape) (ids : FinMap nat_cmp IdEntry) (m : Pooled Stored) (xs : Li
   -- Reading
 
   pub no_record : live_node ids e ≡ None → get_row (table_of d) e ≡ None
-  no_record h = lookup_shown e d.rows ∙ ap (option_map (λ (n : Node). n.content.values)) (get_picked (live_in m (plan s.indexes)) ids e ∙ no_node m (plan s.indexes) (get ids e) h)
+  no_record h = lookup_shown e d.rows
+      ∙ ap (option_map (λ (n : Node). n.content.values)) (get_picked (live_in m (plan s.indexes)) ids e ∙ no_node m (plan s.indexes) (get ids e) h)
 
   pub record_of : (r : Ref) (v : Stored) → live_node ids e ≡ Some r → value_of m r.name ≡ Some v → get_row (table_of d) e ≡ Some v.row
   record_of r v h is = lookup_shown e d.rows ∙ ap (option_map (λ (n : Node). n.content.values)) (row_is r h) ∙ ap (λ o. Some (record_in o)) is

@@ -1,5 +1,6 @@
 -- A row comes back: what the passes leave are the data with it, and all stands again.
-use Rattle.std.proofs.Common.{◌≡◌, ◌≢◌, ℕ, ◌+◌, ◌^◌, ◌<◌, ◌≤◌, zero, suc, true, false, cond, inl, inr, List, [], ◌∷◌, ◌++◌, get_or, length, refl, ap, sym, ◌∙◌, subst, arith}
+use Rattle.std.proofs.Common.{◌≡◌, ◌≢◌, ℕ, ◌+◌, ◌^◌, ◌<◌, ◌≤◌, zero, suc, true, false, cond, inl, inr}
+use Rattle.std.proofs.Common.{List, [], ◌∷◌, ◌++◌, get_or, length, refl, ap, sym, ◌∙◌, subst, arith}
 use Rattle.std.specs.Prelude.{◌==◌}
 use Rattle.std.specs.List.{AllByRecursion}
 use Rattle.std.specs.Option.{option_map, option_and_then}
@@ -28,7 +29,7 @@ use Rattle.mi_index.specs.Passes.{returned as comes_back, returning}
 use Rattle.mi_container.specs.Data.{Link, Data, Order, kept_of, has_stamps, IsData}
 use Rattle.mi_container.specs.Data.Order.{ById, Listed}
 use Rattle.mi_container.specs.Changes.{entered, left_out}
-use Rattle.mi_container.specs.Inverse.{id_at as id_of_ref, relinked, returned}
+use Rattle.mi_container.specs.Inverse.{id_of_ref, relinked, returned}
 use Rattle.mi_container.specs.Fits.{AllMeet}
 use Rattle.mi_container.proofs.Pairs.{climbs_some, some_is, is_other}
 use Rattle.mi_container.proofs.Sequences.{named_again, lacks_left}
@@ -43,8 +44,10 @@ use Rattle.mi_multi.proofs.Rows.{picked_lost, picked_entered}
 use Rattle.mi_multi.proofs.Lists.{LacksIf, stand_there, times_middle}
 use Rattle.mi_multi.proofs.Says.{node_same, live_alike, kept_alike}
 use Rattle.mi_multi.proofs.OrdersBy.{Enough, orders_relinked}
-use Rattle.mi_multi.proofs.Every.{Turned, Every, At, at, every, at_plan, Known, all_known, all_for, seq_known, length_orders, has_plan, no_stamps_past, sequenced_order, sorted_not_sequenced, hashed_not_sequenced, one, none}
-use Rattle.mi_multi.proofs.Lives.{IsLiveRef, node_live, marked_here, marked_beside, len_marked, names_apart, lacks_middle, out_of_all, ids_same, all_left, all_right, all_append}
+use Rattle.mi_multi.proofs.Every.{Turned, Every, At, at, every, at_plan, Known, all_known, all_for, seq_known, length_orders}
+use Rattle.mi_multi.proofs.Every.{has_plan, no_stamps_past, sequenced_order, sorted_not_sequenced, hashed_not_sequenced, one, none}
+use Rattle.mi_multi.proofs.Lives.{IsLiveRef, node_live, marked_here, marked_beside, len_marked, names_apart}
+use Rattle.mi_multi.proofs.Lives.{lacks_middle, out_of_all, ids_same, all_left, all_right, all_append}
 use Rattle.mi_multi.proofs.Beside.{ids_append}
 use Rattle.mi_multi.proofs.Returning.{can_return, length_neighbours, has_relinked}
 
@@ -54,10 +57,12 @@ itself {a} {b} same = elim (eqb_tells a b) [ inl is ↦ is.0 | inr isnt ↦ absu
 no_link_seen : Link
 no_link_seen = record { back = None; forth = None }
 
-neighbours_at : (m : Pooled Stored) (q y : ℕ) (os : List Order) (k : ℕ) → k < length os → get_or (all_neighbours m q y os) k no_link_seen ≡ neighbours_in m q (y + k) (get_or os k ById)
+neighbours_at : (m : Pooled Stored) (q y : ℕ) (os : List Order) (k : ℕ) → k < length os
+    → get_or (all_neighbours m q y os) k no_link_seen ≡ neighbours_in m q (y + k) (get_or os k ById)
 neighbours_at m q y [] k l = absurd (omega arith)
 neighbours_at m q y (o ∷ os) zero l = let here : y ≡ y + 0 = omega arith in ap (λ x. neighbours_in m q x o) here
-neighbours_at m q y (o ∷ os) (suc k) l = let next : suc y + k ≡ y + suc k = omega arith in neighbours_at m q (suc y) os k (omega arith) ∙ ap (λ x. neighbours_in m q x (get_or os k ById)) next
+neighbours_at m q y (o ∷ os) (suc k) l =
+    let next : suc y + k ≡ y + suc k = omega arith in neighbours_at m q (suc y) os k (omega arith) ∙ ap (λ x. neighbours_in m q x (get_or os k ById)) next
 
 enough : (is : List Index) (links : List Link) → length links ≡ length is → Enough is links
 enough [] links long = tt
@@ -65,7 +70,8 @@ enough (i ∷ is) [] long = absurd (let bad : zero ≡ suc (length is) = long in
 enough (i ∷ is) (l ∷ links) long = enough is links (let h : suc (length links) ≡ suc (length is) = long in omega arith)
 
 -- stamps after a node came in with one that it had
-pub stamp_still : (i : Index) (x : Structure) (m n : Pooled Stored) (r : Ref) (l : List ℕ) (stamp : ℕ) → IsFor i x → HasStamp x m n r stamp → has_stamps (order_of i.kind i.parts l) ≡ true
+stamp_still : (i : Index) (x : Structure) (m n : Pooled Stored) (r : Ref) (l : List ℕ) (stamp : ℕ)
+    → IsFor i x → HasStamp x m n r stamp → has_stamps (order_of i.kind i.parts l) ≡ true
     → stamp ≡ (link_of m r.name (slot_in x)).tag.stamp → (k : ℕ) → (link_of n k (slot_in x)).tag.stamp ≡ (link_of m k (slot_in x)).tag.stamp
 stamp_still i (Ordered t) m n r l stamp f h has own k =
     elim (eqb_tells r.name k) [
@@ -79,7 +85,8 @@ stamp_still i (Hashed c) m n r l stamp f h has own k =
     ]
 stamp_still i (Sequenced q) m n r l stamp f h has own k = absurd (false≢true (sym (ap has_stamps (sequenced_order i.kind i.parts l f)) ∙ has))
 
-module _ (s : Shape) (ids : FinMap nat_cmp IdEntry) (m n : Pooled Stored) (xs ys : List Structure) (next arrivals : ℕ) (is : IsMulti s ids m xs next arrivals) (e : ℕ) (r : Ref)
+module _ (s : Shape) (ids : FinMap nat_cmp IdEntry) (m n : Pooled Stored) (xs ys : List Structure)
+    (next arrivals : ℕ) (is : IsMulti s ids m xs next arrivals) (e : ℕ) (r : Ref)
     (there : get ids e ≡ Some (record { node = r; live = false })) where
   abbrev os : List Order
   os = plan s.indexes
@@ -94,16 +101,18 @@ module _ (s : Shape) (ids : FinMap nat_cmp IdEntry) (m n : Pooled Stored) (xs ys
   abbrev b : Data
   b = returned e (Some (kept_node_in m os r)) d
 
-  pub kept_is : kept_of d.kept e ≡ Some (kept_node_in m os r)
+  kept_is : kept_of d.kept e ≡ Some (kept_node_in m os r)
   kept_is = get_picked (kept_in m os) ids e ∙ ap (option_and_then (kept_in m os)) there
 
   pub has_back : (k : ℕ) → has_stamps (get_or b.orders k ById) ≡ has_stamps (get_or os k ById)
   has_back k =
-      has_relinked d.rows e links d.orders k (let p : length links ≡ length os = length_neighbours m r.name 0 os in let q : length os ≡ length s.indexes = length_orders s.indexes [] in
+      has_relinked d.rows e links d.orders k (let p : length links ≡ length os = length_neighbours m r.name 0 os in
+      let q : length os ≡ length s.indexes = length_orders s.indexes [] in
       let w : length d.orders ≡ length s.indexes = length_orders s.indexes (own_lists m xs) in omega arith)
       ∙ has_plan s.indexes (own_lists m xs) k
 
-  module _ (meet : AllMeet 0 d.rows (node_in m os r).content links d.orders) (back : IsData s b) (like : AllLike xs ys) (pass : IsPass (returning All r) (comes_back All r) r 0 xs ys m n) where
+  module _ (meet : AllMeet 0 d.rows (node_in m os r).content links d.orders) (back : IsData s b)
+      (like : AllLike xs ys) (pass : IsPass (returning All r) (comes_back All r) r 0 xs ys m n) where
     changed : AreChanged (comes_back All r) r 0 xs ys m n is.rss
     changed = pass is.rss is.stand (can_return s ids m xs next arrivals is e r there meet b refl has_back back)
 
@@ -124,10 +133,12 @@ module _ (s : Shape) (ids : FinMap nat_cmp IdEntry) (m n : Pooled Stored) (xs ys
         let both : record { node = r; live = false } ≡ record { node = q; live = true } = some_is (sym there ∙ sym (ap (get ids) same) ∙ live) in
         false≢true (ap (λ (a : IdEntry). a.live) both)
 
-    stamp_of_slot : (x : ℕ) (o : Order) → At (Turned (comes_back All r) ids m n) x o → has_stamps o ≡ true → (k : ℕ) → (link_of n k x).tag.stamp ≡ (link_of m k x).tag.stamp
+    stamp_of_slot : (x : ℕ) (o : Order) → At (Turned (comes_back All r) ids m n) x o
+        → has_stamps o ≡ true → (k : ℕ) → (link_of n k x).tag.stamp ≡ (link_of m k x).tag.stamp
     stamp_of_slot x o (at i a c rs us l t is_order) has k =
         subst (λ w. (link_of n k w).tag.stamp ≡ (link_of m k w).tag.stamp) t.slot
-        (stamp_still i a m n r l (link_of m r.name x).tag.stamp t.for_ t.done.stamped (sym (ap has_stamps is_order) ∙ has) (ap (λ w. (link_of m r.name w).tag.stamp) (sym t.slot)) k)
+        (stamp_still i a m n r l (link_of m r.name x).tag.stamp t.for_ t.done.stamped
+        (sym (ap has_stamps is_order) ∙ has) (ap (λ w. (link_of m r.name w).tag.stamp) (sym t.slot)) k)
 
     says : (k : ℕ) → SaysSame os m n k
     says k = record {
@@ -135,13 +146,15 @@ module _ (s : Shape) (ids : FinMap nat_cmp IdEntry) (m n : Pooled Stored) (xs ys
       stamps = λ x has.
           let l : x < length s.indexes = no_stamps_past s.indexes x has in
           let same : 0 + x ≡ x = omega arith in
-          subst (λ w. (link_of n k w).tag.stamp ≡ (link_of m k w).tag.stamp) same (stamp_of_slot (0 + x) (get_or os x ById) (at_plan (Turned (comes_back All r) ids m n) turns x l) has k);
+          subst (λ w. (link_of n k w).tag.stamp ≡ (link_of m k w).tag.stamp) same
+          (stamp_of_slot (0 + x) (get_or os x ById) (at_plan (Turned (comes_back All r) ids m n) turns x l) has k);
     }
 
     altered : IsAltered os ids m n e
     altered = record {
       says = λ q a ne here. says a.node.name;
-      kept = λ q a ne here dead t. changed.keeps.other_nodes a.node.name t (names_apart m q e a.node r (is.held q a here) mine ne) (out_of_all ids m q a is.rss here dead (is.held q a here) is.live);
+      kept = λ q a ne here dead t. changed.keeps.other_nodes a.node.name t (names_apart m q e a.node r (is.held q a here) mine ne)
+          (out_of_all ids m q a is.rss here dead (is.held q a here) is.live);
     }
 
     others : (q : ℕ) → q ≢ e → get new_ids q ≡ get ids q
@@ -152,12 +165,14 @@ module _ (s : Shape) (ids : FinMap nat_cmp IdEntry) (m n : Pooled Stored) (xs ys
 
     rows_back : picked (live_in n os) (entries new_ids) ≡ entered e (node_in m os r) d.rows
     rows_back =
-        picked_entered (live_in m os) (live_in n os) ids new_ids e others (live_alike os ids m n e altered) next (node_in n os r) (rows_climb s d is.is_data) (climbs_some next e (kept_node_in m os r) d.kept is.is_data.kept kept_is)
+        picked_entered (live_in m os) (live_in n os) ids new_ids e others (live_alike os ids m n e altered) next (node_in n os r)
+        (rows_climb s d is.is_data) (climbs_some next e (kept_node_in m os r) d.kept is.is_data.kept kept_is)
         (ap (option_and_then (live_in m os)) there) (ap (option_and_then (live_in n os)) now)
         ∙ ap (λ w. entered e w d.rows) (node_same os m n r (says r.name))
 
     kept_back : picked (kept_in n os) (entries new_ids) ≡ left_out e d.kept
-    kept_back = picked_lost (kept_in m os) (kept_in n os) ids new_ids e others (kept_alike os ids m n e altered) next is.is_data.kept (ap (option_and_then (kept_in n os)) now)
+    kept_back = picked_lost (kept_in m os) (kept_in n os) ids new_ids e others
+        (kept_alike os ids m n e altered) next is.is_data.kept (ap (option_and_then (kept_in n os)) now)
 
     -- the id of the neighbour behind it
     named : (vs : List Ref) → AllByRecursion (IsLiveRef ids m) vs → id_of_ref d.rows (first_of vs None) ≡ option_map (id_at m) (first_of vs None)
@@ -168,12 +183,14 @@ module _ (s : Shape) (ids : FinMap nat_cmp IdEntry) (m n : Pooled Stored) (xs ys
     lacks_first us [] live = tt
     lacks_first us (q ∷ vs) live =
         let here : AllByRecursion (IsLiveRef ids m) (q ∷ vs) = all_right (IsLiveRef ids m) us (q ∷ vs) live.rows in
-        lacks_left (id_at m q) (ids_at m us) (ids_at m vs) (subst (Lacks (id_at m q)) (ids_append (id_at m) us vs) (lacks_middle ids m (id_at m q) q us vs refl here.0 live))
+        lacks_left (id_at m q) (ids_at m us) (ids_at m vs)
+        (subst (Lacks (id_at m q)) (ids_append (id_at m) us vs) (lacks_middle ids m (id_at m q) q us vs refl here.0 live))
 
     abbrev moves : ℕ → List ℕ → List ℕ
     moves k = stand (id_of_ref d.rows (get_or links k no_link_seen).forth) e
 
-    ids_back : (k : ℕ) (rs us : List Ref) (w : IsWith r rs us) → AreLive ids m rs → (get_or links k no_link_seen).forth ≡ first_of w.ys None → ids_at n us ≡ moves k (ids_at m rs)
+    ids_back : (k : ℕ) (rs us : List Ref) (w : IsWith r rs us) → AreLive ids m rs
+        → (get_or links k no_link_seen).forth ≡ first_of w.ys None → ids_at n us ≡ moves k (ids_at m rs)
     ids_back k rs us w live forth =
         let whole : AreLive ids m (w.xs ++ w.ys) = subst (AreLive ids m) w.was live in
         let behind : AllByRecursion (IsLiveRef ids m) w.ys = all_right (IsLiveRef ids m) w.xs w.ys whole.rows in
@@ -182,12 +199,14 @@ module _ (s : Shape) (ids : FinMap nat_cmp IdEntry) (m n : Pooled Stored) (xs ys
         ∙ (λ i. stand (sym (named w.ys behind) i) (id i) (ids_at m (sym w.was i)))
         ∙ ap (λ o. stand (id_of_ref d.rows o) e (ids_at m rs)) (sym forth)
 
-    step : (k : ℕ) (i : Index) (x y : Structure) (rs us : List Ref) → is_sequenced i.kind ≡ true → Known (comes_back All r) ids m n os (orders_of s.indexes (own_lists m xs)) (0 + k) i x y rs us → ids_at n us ≡ moves k (ids_at m rs)
+    step : (k : ℕ) (i : Index) (x y : Structure) (rs us : List Ref) → is_sequenced i.kind ≡ true
+        → Known (comes_back All r) ids m n os (orders_of s.indexes (own_lists m xs)) (0 + k) i x y rs us → ids_at n us ≡ moves k (ids_at m rs)
     step k i (Sequenced l) y rs us seq h =
         let zeroed : 0 + k ≡ k = omega arith in
         let few : k < length os = subst (λ w. w < length os) zeroed h.1.few in
         let link : get_or links k no_link_seen ≡ neighbours_in m r.name (0 + k) (Listed []) =
-        neighbours_at m r.name 0 os k few ∙ ap (λ o. neighbours_in m r.name (0 + k) o) (ap (λ w. get_or os w ById) (sym zeroed) ∙ h.1.plan_is ∙ sequenced_order i.kind i.parts [] seq) in
+        neighbours_at m r.name 0 os k few
+        ∙ ap (λ o. neighbours_in m r.name (0 + k) o) (ap (λ w. get_or os w ById) (sym zeroed) ∙ h.1.plan_is ∙ sequenced_order i.kind i.parts [] seq) in
         ids_back k rs us h.0.done.back h.0.live (ap (λ (w : Link). w.forth) link ∙ h.0.done.beside.1)
     step k i (Ordered t) y rs us seq h = absurd (sorted_not_sequenced i.kind h.0.for_.0 seq)
     step k i (Hashed c) y rs us seq h = absurd (hashed_not_sequenced i.kind h.0.for_.0 seq)
@@ -214,17 +233,21 @@ module _ (s : Shape) (ids : FinMap nat_cmp IdEntry) (m n : Pooled Stored) (xs ys
     each_back : (rs us : List Ref) → AreLive ids m rs → IsWith r rs us → (q : ℕ) → times q (ids_at n us) ≡ cond (is_live (get new_ids q)) 1 0
     each_back rs us live w q =
         let same : times q (ids_at n us) ≡ times q (ids_at m (w.xs ++ r ∷ w.ys)) = ap (times q) (ids_same m n us changed.keeps.values ∙ ap (ids_at m) w.now) in
-        let parts : times q (ids_at m (w.xs ++ r ∷ w.ys)) ≡ cond (id_at m r == q) 1 0 + times q (ids_at m (w.xs ++ w.ys)) = times_middle (id_at m) q w.xs r w.ys in
+        let parts : times q (ids_at m (w.xs ++ r ∷ w.ys))
+        ≡ cond (id_at m r == q) 1 0 + times q (ids_at m (w.xs ++ w.ys)) = times_middle (id_at m) q w.xs r w.ys in
         let was : times q (ids_at m (w.xs ++ w.ys)) ≡ cond (is_live (get ids q)) 1 0 = ap (λ k. times q (ids_at m k)) (sym w.was) ∙ live.each q in
         elim (eqb_tells q e) [
           | inl it ↦
-              let none_ : cond {A = ℕ} (is_live (get ids q)) 1 0 ≡ 0 = ap (λ k. cond {A = ℕ} (is_live (get ids k)) 1 0) it.1 ∙ ap (λ o. cond {A = ℕ} (is_live o) 1 0) there in
+              let none_ : cond {A = ℕ} (is_live (get ids q)) 1 0 ≡ 0 =
+              ap (λ k. cond {A = ℕ} (is_live (get ids k)) 1 0) it.1 ∙ ap (λ o. cond {A = ℕ} (is_live o) 1 0) there in
               let here : cond {A = ℕ} (id_at m r == q) 1 0 ≡ 1 = ap (λ t. cond {A = ℕ} t 1 0) (itself (id ∙ sym it.1)) in
-              let one_ : cond {A = ℕ} (is_live (get new_ids q)) 1 0 ≡ 1 = ap (λ k. cond {A = ℕ} (is_live (get new_ids k)) 1 0) it.1 ∙ ap (λ o. cond {A = ℕ} (is_live o) 1 0) now in
+              let one_ : cond {A = ℕ} (is_live (get new_ids q)) 1 0 ≡ 1 =
+              ap (λ k. cond {A = ℕ} (is_live (get new_ids k)) 1 0) it.1 ∙ ap (λ o. cond {A = ℕ} (is_live o) 1 0) now in
               omega arith
           | inr isnt ↦
               let here : cond {A = ℕ} (id_at m r == q) 1 0 ≡ 0 = ap (λ t. cond {A = ℕ} t 1 0) (is_other (id_at m r) q (λ k. isnt.1 (sym k ∙ id))) in
-              let still : cond {A = ℕ} (is_live (get new_ids q)) 1 0 ≡ cond {A = ℕ} (is_live (get ids q)) 1 0 = ap (λ o. cond {A = ℕ} (is_live o) 1 0) (others q isnt.1) in
+              let still : cond {A = ℕ} (is_live (get new_ids q)) 1 0 ≡ cond {A = ℕ} (is_live (get ids q)) 1 0 =
+              ap (λ o. cond {A = ℕ} (is_live o) 1 0) (others q isnt.1) in
               omega arith
         ]
 
@@ -234,11 +257,13 @@ module _ (s : Shape) (ids : FinMap nat_cmp IdEntry) (m n : Pooled Stored) (xs ys
         let itself_ : IsLiveRef new_ids n r = ap (get new_ids) (ap id_in (changed.keeps.values r.name) ∙ id) ∙ now in
         record {
           rows = subst (AllByRecursion (IsLiveRef new_ids n)) (sym w.now)
-              (all_append (IsLiveRef new_ids n) w.xs (r ∷ w.ys) (all_still w.xs (all_left (IsLiveRef ids m) w.xs w.ys was)) (itself_, all_still w.ys (all_right (IsLiveRef ids m) w.xs w.ys was)));
+              (all_append (IsLiveRef new_ids n) w.xs (r ∷ w.ys) (all_still w.xs (all_left (IsLiveRef ids m) w.xs w.ys was))
+              (itself_, all_still w.ys (all_right (IsLiveRef ids m) w.xs w.ys was)));
           each = each_back rs us live w;
         }
 
-    all_live_back : {k : ℕ} {js : List Index} {as_ bs : List Structure} {rss uss : List (List Ref)} → Every (Turned (comes_back All r) ids m n) k js as_ bs rss uss → AllByRecursion (AreLive new_ids n) uss
+    all_live_back : {k : ℕ} {js : List Index} {as_ bs : List Structure} {rss uss : List (List Ref)}
+        → Every (Turned (comes_back All r) ids m n) k js as_ bs rss uss → AllByRecursion (AreLive new_ids n) uss
     all_live_back none = tt
     all_live_back (one {rs = rs} {us = us} t rest) = (live_back rs us t.live t.done.back, all_live_back rest)
 
@@ -270,5 +295,8 @@ module _ (s : Shape) (ids : FinMap nat_cmp IdEntry) (m n : Pooled Stored) (xs ys
       is_data = subst (IsData s) (sym back_seen) back;
       next_fits = is.next_fits;
       arrivals_fit = is.arrivals_fit;
-      few = let same : len new_ids ≡ len ids = len_marked ids e (record { node = r; live = false }) true there in let f : len ids ≤ 2 ^ 31 = is.few in omega arith;
+      few =
+          let same : len new_ids ≡ len ids = len_marked ids e (record { node = r; live = false }) true there in
+          let f : len ids ≤ 2 ^ 31 = is.few in
+          omega arith;
     }

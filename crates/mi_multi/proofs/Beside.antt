@@ -20,8 +20,8 @@ use Rattle.mi_chain.specs.Keying.{same_nodes, same_values}
 use Rattle.mi_index.specs.declared.stored.Stored.{Stored}
 use Rattle.mi_index.specs.Orders.{keying_of, has_one_key}
 use Rattle.mi_index.specs.declared.orders.ByHash.{ByHash as HashedBy}
-use Rattle.mi_container.specs.Data.{Order, node_of, content_of, content_in, by_stamp}
-use Rattle.mi_container.specs.Changes.{link_of as link_at, group}
+use Rattle.mi_container.specs.Data.{Order, node_of, content_of, content_in, ids_by_stamp}
+use Rattle.mi_container.specs.Changes.{link_of_id as link_at, group}
 use Rattle.mi_container.proofs.Sequences.{lacks_left}
 use Rattle.mi_ids.specs.declared.entry.IdEntry.{IdEntry}
 use Rattle.mi_multi.specs.Physical.{id_in, record_in, node_in}
@@ -47,12 +47,16 @@ filter_eq p q (x ∷ xs) all = (λ i. cond (all.0 i) (x ∷ filter_eq p q xs all
 
 all_filter : {A : Type 0} (P : A → Type 0) (p : A → Bool) (xs : List A) → AllByRecursion P xs → AllByRecursion P (filter p xs)
 all_filter P p [] all = tt
-all_filter P p (x ∷ xs) all = elim (p x) as (λ b. AllByRecursion P (cond b (x ∷ filter p xs) (filter p xs))) [ true ↦ (all.0, all_filter P p xs all.1) | false ↦ all_filter P p xs all.1 ]
+all_filter P p (x ∷ xs) all =
+    elim (p x) as (λ b. AllByRecursion P (cond b (x ∷ filter p xs) (filter p xs))) [ true ↦ (all.0, all_filter P p xs all.1) | false ↦ all_filter P p xs all.1 ]
 
 pub lacks_filter : (idf : Ref → ℕ) (p : Ref → Bool) (e : ℕ) (xs : List Ref) → Lacks e (map idf xs) → Lacks e (map idf (filter p xs))
 lacks_filter idf p e [] lacks = tt
 lacks_filter idf p e (x ∷ xs) lacks =
-    elim (p x) as (λ b. Lacks e (map idf (cond b (x ∷ filter p xs) (filter p xs)))) [ true ↦ (lacks.0, lacks_filter idf p e xs lacks.1) | false ↦ lacks_filter idf p e xs lacks.1 ]
+    elim (p x) as (λ b. Lacks e (map idf (cond b (x ∷ filter p xs) (filter p xs)))) [
+      | true ↦ (lacks.0, lacks_filter idf p e xs lacks.1)
+      | false ↦ lacks_filter idf p e xs lacks.1
+    ]
 
 pub ids_append : (idf : Ref → ℕ) (xs ys : List Ref) → map idf (xs ++ ys) ≡ map idf xs ++ map idf ys
 ids_append idf [] ys = refl
@@ -66,7 +70,8 @@ self_equal Greater h = absurd (cc)
 pub own_key : (ps : List KeyPart) (r : List Value) → is_eq (compare_key ps r r) ≡ true
 own_key ps r = let o : IsTotalOrder (compare_key ps) = compare_key_total ps in self_equal (compare_key ps r r) (o.antisymm r r)
 
-module _ (ids : FinMap nat_cmp IdEntry) (m n : Pooled Stored) (os : List Order) (held : (e : ℕ) (a : IdEntry) → get ids e ≡ Some a → HasNode m e a.node) (values : (k : ℕ) → value_of n k ≡ value_of m k) (e : ℕ) (r : Ref)
+module _ (ids : FinMap nat_cmp IdEntry) (m n : Pooled Stored) (os : List Order)
+    (held : (e : ℕ) (a : IdEntry) → get ids e ≡ Some a → HasNode m e a.node) (values : (k : ℕ) → value_of n k ≡ value_of m k) (e : ℕ) (r : Ref)
     (there : get ids e ≡ Some (record { node = r; live = true })) where
   abbrev pub has : HasNode m e r
   has = held e (record { node = r; live = true }) there
@@ -91,12 +96,14 @@ module _ (ids : FinMap nat_cmp IdEntry) (m n : Pooled Stored) (os : List Order) 
   unfolding same_nodes
   key_at h q live =
       let its : HasNode m (id_at m q) q = held (id_at m q) (record { node = q; live = true }) live in
-      let its_values : (content_of (rows ids m os) (id_at m q)).values ≡ record_in (value_of m q.name) = ap (λ o. (content_in o).values) (node_live ids m os q live) in
+      let its_values : (content_of (rows ids m os) (id_at m q)).values ≡ record_in (value_of m q.name) =
+      ap (λ o. (content_in o).values) (node_live ids m os q live) in
       (λ i. is_eq (compare_key h.parts (own_values i) (its_values i)))
       ∙ (λ i. is_eq (compare_key h.parts (record_in (has.is i)) (record_in (its.is i))))
       ∙ sym ((λ i. same_values (has_one_key h.parts) (values r.name i) (values q.name i)) ∙ (λ i. same_values (has_one_key h.parts) (has.is i) (its.is i)))
 
-  keys_at : (h : HashedBy) (qs : List Ref) → AllByRecursion (IsLiveRef ids m) qs → AllByRecursion (λ q. key_of h.parts (id_at m q) ≡ same_nodes (keying_of h) n r q) qs
+  keys_at : (h : HashedBy) (qs : List Ref) → AllByRecursion (IsLiveRef ids m) qs
+      → AllByRecursion (λ q. key_of h.parts (id_at m q) ≡ same_nodes (keying_of h) n r q) qs
   keys_at h [] all = tt
   keys_at h (q ∷ qs) all = (key_at h q all.0, keys_at h qs all.1)
 
@@ -115,18 +122,20 @@ module _ (ids : FinMap nat_cmp IdEntry) (m n : Pooled Stored) (os : List Order) 
     link_listed = link_middle (id_at m) (rows ids m os) e xs r ys (itself id_is) lacks (rows_of ids m os xs before) (rows_of ids m os ys behind)
 
     -- among the nodes of its key
-    pub link_hashed : (h : HashedBy) (x : ℕ) → by_stamp x (rows ids m os) ≡ ids_at m (xs ++ r ∷ ys)
+    pub link_hashed : (h : HashedBy) (x : ℕ) → ids_by_stamp x (rows ids m os) ≡ ids_at m (xs ++ r ∷ ys)
         → link_at (rows ids m os) e (group h.parts x (rows ids m os) (content_of (rows ids m os) e).values)
         ≡ record { back = last_of None (filter (same_nodes (keying_of h) n r) xs); forth = first_of (filter (same_nodes (keying_of h) n r) ys) None }
     link_hashed h x by =
         let p : Ref → Bool = λ q. key_of h.parts (id_at m q) in
         let p' : Ref → Bool = same_nodes (keying_of h) n r in
         let mine : p r ≡ true = ap (key_of h.parts) id_is ∙ own_key h.parts (content_of (rows ids m os) e).values in
-        let parts : filter p (xs ++ r ∷ ys) ≡ filter p xs ++ r ∷ filter p ys = filter_append p xs (r ∷ ys) ∙ ap (λ b. filter p xs ++ cond b (r ∷ filter p ys) (filter p ys)) mine in
+        let parts : filter p (xs ++ r ∷ ys) ≡ filter p xs ++ r ∷ filter p ys = filter_append p xs (r ∷ ys)
+        ∙ ap (λ b. filter p xs ++ cond b (r ∷ filter p ys) (filter p ys)) mine in
         let left : filter p xs ≡ filter p' xs = filter_eq p p' xs (keys_at h xs before) in
         let right : filter p ys ≡ filter p' ys = filter_eq p p' ys (keys_at h ys behind) in
         let whole : group h.parts x (rows ids m os) (content_of (rows ids m os) e).values ≡ ids_at m (filter p' xs ++ r ∷ filter p' ys) =
         ap (filter (key_of h.parts)) by ∙ filter_ids (id_at m) (key_of h.parts) (xs ++ r ∷ ys) ∙ ap (ids_at m) (parts ∙ (λ i. left i ++ r ∷ right i)) in
         ap (link_at (rows ids m os) e) whole
         ∙ link_middle (id_at m) (rows ids m os) e (filter p' xs) r (filter p' ys) (itself id_is) (lacks_filter (id_at m) p' e xs lacks)
-        (all_filter (IsRow (id_at m) (rows ids m os)) p' xs (rows_of ids m os xs before)) (all_filter (IsRow (id_at m) (rows ids m os)) p' ys (rows_of ids m os ys behind))
+        (all_filter (IsRow (id_at m) (rows ids m os)) p' xs (rows_of ids m os xs before))
+        (all_filter (IsRow (id_at m) (rows ids m os)) p' ys (rows_of ids m os ys behind))

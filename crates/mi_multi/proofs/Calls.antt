@@ -1,5 +1,6 @@
 -- What the calls that read ask of an index and answer, by what contracts see of the container.
-use Rattle.std.proofs.Common.{◌≡◌, ℕ, ◌+◌, ◌*◌, ◌^◌, ◌<◌, ◌≤◌, Bool, true, false, ◌&&◌, get_or, List, [], ◌∷◌, ◌++◌, length, slice_get, refl, ap, sym, ◌∙◌, subst, arith}
+use Rattle.std.proofs.Common.{◌≡◌, ℕ, ◌+◌, ◌*◌, ◌^◌, ◌<◌, ◌≤◌, Bool, true, false, ◌&&◌, get_or, List}
+use Rattle.std.proofs.Common.{[], ◌∷◌, ◌++◌, length, slice_get, refl, ap, sym, ◌∙◌, subst, arith}
 use Rattle.std.specs.Prelude.{IsTrue, IfSome}
 use Rattle.std.specs.List.{AllByRecursion}
 use Rattle.std.specs.Option.{option_map}
@@ -72,11 +73,13 @@ module _ (i : Inside) (is : AreMulti i) (w : Seen) (seen : seen_of i ≡ w) wher
   listed_reaches x h = reaches i.schema i.ids.entries m items i.next i.arrivals is x (listed_within i.schema x (lists_shape x h))
 
   pub sorted_reaches : (x : ℕ) → IsSorted w.shape x → x < length items
-  sorted_reaches x h = reaches i.schema i.ids.entries m items i.next i.arrivals is x (listed_within i.schema x (sorted_listed (index_at i.schema x).kind (sorts_shape x h)))
+  sorted_reaches x h = reaches i.schema i.ids.entries m items i.next i.arrivals is x
+      (listed_within i.schema x (sorted_listed (index_at i.schema x).kind (sorts_shape x h)))
 
   -- an id without a node isn't there
   pub absent : (e : ℕ) → live_node i.ids.entries e ≡ None → IsTrue (has (table_of w.plain) e) → ⊥
-  absent e none h = false≢true (sym (none_has i.schema i.ids.entries m items i.next i.arrivals e none) ∙ subst (λ (v : Seen). IsTrue (has (table_of v.plain) e)) (sym seen) h)
+  absent e none h = false≢true (sym (none_has i.schema i.ids.entries m items i.next i.arrivals e none)
+      ∙ subst (λ (v : Seen). IsTrue (has (table_of v.plain) e)) (sym seen) h)
 
   -- the index of the ids is sorted
   pub id_sorted : IsTrue (is_schema i.schema) → IsSorted w.shape 0
@@ -114,7 +117,8 @@ module _ (i : Inside) (is : AreMulti i) (w : Seen) (seen : seen_of i ≡ w) wher
     nth_past k h l =
         let few : length rs < 2 ^ 32 = fits y (known.sorts i.schema i.ids.entries m items i.next i.arrivals is x y n (sorts_shape x h)) n.stood.stands in
         subst (λ (v : Seen). None ≡ look.nth v.shape (table_of v.plain) x k) seen
-        (sym (ap (λ ids. slice_get ids k) (sym (known.ids_shown i.schema i.ids.entries m items i.next i.arrivals is x y n)) ∙ none_past (id_at m) rs k (omega arith)))
+        (sym (ap (λ ids. slice_get ids k) (sym (known.ids_shown i.schema i.ids.entries m items i.next i.arrivals is x y n))
+        ∙ none_past (id_at m) rs k (omega arith)))
 
     alls : AllByRecursion (IsHeld m) rs
     alls = known.held i.schema i.ids.entries m items i.next i.arrivals is x y n
@@ -124,7 +128,8 @@ module _ (i : Inside) (is : AreMulti i) (w : Seen) (seen : seen_of i ≡ w) wher
     pub first_held : (o : Option Ref) → ((qs : List Ref) → Stands y m qs → o ≡ first_of qs None) → IfSome o (IsHeld m)
     first_held o h = subst (λ k. IfSome k (IsHeld m)) (sym (h rs n.stood.stands)) (all_first (IsHeld m) rs alls)
 
-    pub first_is : (o : Option Ref) → ((qs : List Ref) → Stands y m qs → o ≡ first_of qs None) → option_map (id_at m) o ≡ look.first w.shape (table_of w.plain) x
+    pub first_is : (o : Option Ref) → ((qs : List Ref) → Stands y m qs → o ≡ first_of qs None)
+        → option_map (id_at m) o ≡ look.first w.shape (table_of w.plain) x
     first_is o h =
         ap (option_map (id_at m)) (h rs n.stood.stands)
         ∙ known.first_seen i.schema i.ids.entries m items i.next i.arrivals is x y n ∙ ap (λ (v : Seen). look.first v.shape (table_of v.plain) x) seen
@@ -140,7 +145,8 @@ module _ (i : Inside) (is : AreMulti i) (w : Seen) (seen : seen_of i ≡ w) wher
     pub nth_held : (k : ℕ) (o : Option Ref) → ((qs : List Ref) → Stands y m qs → o ≡ nth_of qs k) → IfSome o (IsHeld m)
     nth_held k o h = subst (λ q. IfSome q (IsHeld m)) (sym (h rs n.stood.stands)) (all_nth (IsHeld m) rs k alls)
 
-    pub nth_is : (k : ℕ) (o : Option Ref) → ((qs : List Ref) → Stands y m qs → o ≡ nth_of qs k) → option_map (id_at m) o ≡ look.nth w.shape (table_of w.plain) x k
+    pub nth_is : (k : ℕ) (o : Option Ref) → ((qs : List Ref) → Stands y m qs → o ≡ nth_of qs k)
+        → option_map (id_at m) o ≡ look.nth w.shape (table_of w.plain) x k
     nth_is k o h =
         ap (option_map (id_at m)) (h rs n.stood.stands)
         ∙ known.nth_seen i.schema i.ids.entries m items i.next i.arrivals is x y n k ∙ ap (λ (v : Seen). look.nth v.shape (table_of v.plain) x k) seen
@@ -163,32 +169,39 @@ module _ (i : Inside) (is : AreMulti i) (w : Seen) (seen : seen_of i ≡ w) wher
       pub after_held : (o : Option Ref) → ((xs ys : List Ref) → Stands y m (xs ++ r ∷ ys) → o ≡ first_of ys None) → IfSome o (IsHeld m)
       after_held o h = subst (λ k. IfSome k (IsHeld m)) (sym (h a.xs a.ys a.stands)) (all_first (IsHeld m) a.ys (all_behind (IsHeld m) a.xs r a.ys both))
 
-      pub after_is : (o : Option Ref) → ((xs ys : List Ref) → Stands y m (xs ++ r ∷ ys) → o ≡ first_of ys None) → option_map (id_at m) o ≡ look.after w.shape (table_of w.plain) x e
+      pub after_is : (o : Option Ref) → ((xs ys : List Ref) → Stands y m (xs ++ r ∷ ys) → o ≡ first_of ys None)
+          → option_map (id_at m) o ≡ look.after w.shape (table_of w.plain) x e
       after_is o h =
           ap (option_map (id_at m)) (h a.xs a.ys a.stands)
-          ∙ known.after_seen i.schema i.ids.entries m items i.next i.arrivals is x y n e r there ∙ ap (λ (v : Seen). look.after v.shape (table_of v.plain) x e) seen
+          ∙ known.after_seen i.schema i.ids.entries m items i.next i.arrivals is x y n e r there
+          ∙ ap (λ (v : Seen). look.after v.shape (table_of v.plain) x e) seen
 
       pub before_held : (o : Option Ref) → ((xs ys : List Ref) → Stands y m (xs ++ r ∷ ys) → o ≡ last_of None xs) → IfSome o (IsHeld m)
       before_held o h = subst (λ k. IfSome k (IsHeld m)) (sym (h a.xs a.ys a.stands)) (all_last (IsHeld m) a.xs (all_before (IsHeld m) a.xs (r ∷ a.ys) both))
 
-      pub before_is : (o : Option Ref) → ((xs ys : List Ref) → Stands y m (xs ++ r ∷ ys) → o ≡ last_of None xs) → option_map (id_at m) o ≡ look.before w.shape (table_of w.plain) x e
+      pub before_is : (o : Option Ref) → ((xs ys : List Ref) → Stands y m (xs ++ r ∷ ys) → o ≡ last_of None xs)
+          → option_map (id_at m) o ≡ look.before w.shape (table_of w.plain) x e
       before_is o h =
           ap (option_map (id_at m)) (h a.xs a.ys a.stands)
-          ∙ known.before_seen i.schema i.ids.entries m items i.next i.arrivals is x y n e r there ∙ ap (λ (v : Seen). look.before v.shape (table_of v.plain) x e) seen
+          ∙ known.before_seen i.schema i.ids.entries m items i.next i.arrivals is x y n e r there
+          ∙ ap (λ (v : Seen). look.before v.shape (table_of v.plain) x e) seen
 
       pub rank_is : (k : ℕ) → ((xs ys : List Ref) → Stands y m (xs ++ r ∷ ys) → k ≡ length xs) → k ≡ look.rank w.shape (table_of w.plain) x e
       rank_is k h =
           h a.xs a.ys a.stands
-          ∙ known.rank_seen i.schema i.ids.entries m items i.next i.arrivals is x y n e r there ∙ ap (λ (v : Seen). look.rank v.shape (table_of v.plain) x e) seen
+          ∙ known.rank_seen i.schema i.ids.entries m items i.next i.arrivals is x y n e r there
+          ∙ ap (λ (v : Seen). look.rank v.shape (table_of v.plain) x e) seen
 
     -- one look-up, and what the contracts of calls with one or two allow
 
-    pub one_look : (old new : ℕ) → ((qs : List Ref) → Stands y m qs → (b : ℕ) → length qs < 2 ^ b → new ≤ old + 2 * b) → (b : ℕ) → size (table_of w.plain) < 2 ^ b → new ≤ old + (2 * b + 1)
+    pub one_look : (old new : ℕ) → ((qs : List Ref) → Stands y m qs → (b : ℕ) → length qs < 2 ^ b → new ≤ old + 2 * b)
+        → (b : ℕ) → size (table_of w.plain) < 2 ^ b → new ≤ old + (2 * b + 1)
     one_look old new h b l =
         let less : length rs < 2 ^ b = subst (λ k. k < 2 ^ b) (sym long) l in
         let few : new ≤ old + 2 * b = h rs n.stood.stands b less in omega arith
 
-    pub two_looks : (old new : ℕ) → ((qs : List Ref) → Stands y m qs → (b : ℕ) → length qs < 2 ^ b → new ≤ old + 2 * b) → (b : ℕ) → size (table_of w.plain) < 2 ^ b → new ≤ old + 2 * (2 * b + 1)
+    pub two_looks : (old new : ℕ) → ((qs : List Ref) → Stands y m qs → (b : ℕ) → length qs < 2 ^ b → new ≤ old + 2 * b)
+        → (b : ℕ) → size (table_of w.plain) < 2 ^ b → new ≤ old + 2 * (2 * b + 1)
     two_looks old new h b l =
         let less : length rs < 2 ^ b = subst (λ k. k < 2 ^ b) (sym long) l in
         let few : new ≤ old + 2 * b = h rs n.stood.stands b less in omega arith

@@ -1,5 +1,6 @@
 -- A row has come in: what the pool and the structures say then are the data with it, and all stands again.
-use Rattle.std.proofs.Common.{◌≡◌, ◌≢◌, ℕ, suc, ◌+◌, ◌^◌, ◌<◌, ◌≤◌, true, false, cond, inl, inr, List, [], ◌∷◌, ◌++◌, map, get_or, length, refl, ap, sym, ◌∙◌, subst, arith}
+use Rattle.std.proofs.Common.{◌≡◌, ◌≢◌, ℕ, suc, ◌+◌, ◌^◌, ◌<◌, ◌≤◌, true, false, cond, inl, inr, List}
+use Rattle.std.proofs.Common.{[], ◌∷◌, ◌++◌, map, get_or, length, refl, ap, sym, ◌∙◌, subst, arith}
 use Rattle.std.specs.Prelude.{◌==◌}
 use Rattle.std.specs.List.{AllByRecursion}
 use Rattle.std.specs.Option.{option_map, option_and_then, is_some}
@@ -48,7 +49,8 @@ use Rattle.mi_multi.proofs.Rows.{picked_pushed, picked_still, get_here, get_besi
 use Rattle.mi_multi.proofs.Lists.{LacksIf, stand_there, times_middle}
 use Rattle.mi_multi.proofs.Says.{live_alike, kept_alike}
 use Rattle.mi_multi.proofs.OrdersBy.{orders_map, orders_set}
-use Rattle.mi_multi.proofs.Every.{Turned, Every, At, at, every, at_plan, all_for, seq_by, sorted_parts, hashed_order, sequenced_order, sorted_not_sequenced, hashed_not_sequenced, no_stamps_past, one, none}
+use Rattle.mi_multi.proofs.Every.{Turned, Every, At, at, every, at_plan, all_for, seq_by, sorted_parts, hashed_order}
+use Rattle.mi_multi.proofs.Every.{sequenced_order, sorted_not_sequenced, hashed_not_sequenced, no_stamps_past, one, none}
 use Rattle.mi_multi.proofs.Lives.{IsLiveRef, lacks_middle, id_of, out_of_all, all_left, all_right, all_append}
 use Rattle.mi_multi.proofs.Beside.{ids_append}
 use Rattle.mi_multi.proofs.Settled.{entry_live}
@@ -74,20 +76,23 @@ not_named name (r ∷ rows) up each =
 
 -- Stamps where a node has come in
 
-pub stamp_others : (i : Index) (x : Structure) (m n : Pooled Stored) (r : Ref) (l : List ℕ) (stamp : ℕ) → IsFor i x → HasStamp x m n r stamp → has_stamps (order_of i.kind i.parts l) ≡ true
+pub stamp_others : (i : Index) (x : Structure) (m n : Pooled Stored) (r : Ref) (l : List ℕ) (stamp : ℕ)
+    → IsFor i x → HasStamp x m n r stamp → has_stamps (order_of i.kind i.parts l) ≡ true
     → (k : ℕ) → (r.name == k) ≡ false → (link_of n k (slot_in x)).tag.stamp ≡ (link_of m k (slot_in x)).tag.stamp
 stamp_others i (Ordered t) m n r l stamp f h has k ne = ap (λ (w : Tag). w.stamp) (h.1 k ne)
 stamp_others i (Hashed c) m n r l stamp f h has k ne = ap (λ (w : Tag). w.stamp) (h.1 k ne)
 stamp_others i (Sequenced q) m n r l stamp f h has k ne = absurd (false≢true (sym (ap has_stamps (sequenced_order i.kind i.parts l f)) ∙ has))
 
-sorted_new : (n : Pooled Stored) (k x now : ℕ) (ps : List KeyPart) → (link_of n k x).tag.stamp ≡ now → stamp_in n k x (sorted_order ps) ≡ new_stamp now (sorted_order ps)
+sorted_new : (n : Pooled Stored) (k x now : ℕ) (ps : List KeyPart) → (link_of n k x).tag.stamp ≡ now
+    → stamp_in n k x (sorted_order ps) ≡ new_stamp now (sorted_order ps)
 sorted_new n k x now [] is = refl
 sorted_new n k x now (p ∷ ps) is = is
 
 pub one_new : (i : Index) (x : Structure) (m n : Pooled Stored) (r : Ref) (k now : ℕ) → IsFor i x → slot_in x ≡ k → HasStamp x m n r now
     → stamp_in n r.name k (order_of i.kind i.parts []) ≡ new_stamp now (order_of i.kind i.parts (own_list m x))
 one_new i (Ordered t) m n r k now f slot h =
-    ap (stamp_in n r.name k) (sorted_parts i.kind i.parts [] f.0) ∙ sorted_new n r.name k now i.parts (ap (λ w. (link_of n r.name w).tag.stamp) (sym slot) ∙ h.0)
+    ap (stamp_in n r.name k) (sorted_parts i.kind i.parts [] f.0)
+    ∙ sorted_new n r.name k now i.parts (ap (λ w. (link_of n r.name w).tag.stamp) (sym slot) ∙ h.0)
     ∙ ap (new_stamp now) (sym (sorted_parts i.kind i.parts [] f.0))
 one_new i (Hashed c) m n r k now f slot h =
     ap (stamp_in n r.name k) (hashed_order i.kind i.parts [] f.0) ∙ ap (λ w. (link_of n r.name w).tag.stamp) (sym slot) ∙ h.0
@@ -95,8 +100,10 @@ one_new i (Hashed c) m n r k now f slot h =
 one_new i (Sequenced l) m n r k now f slot h =
     ap (stamp_in n r.name k) (sequenced_order i.kind i.parts [] f) ∙ ap (new_stamp now) (sym (sequenced_order i.kind i.parts (own_list m (Sequenced l)) f))
 
-module _ (s : Shape) (ids : FinMap nat_cmp IdEntry) (m n : Pooled Stored) (xs ys : List Structure) (next arrivals : ℕ) (is : IsMulti s ids m xs next arrivals) (v : Stored) (new : v.id ≡ next)
-    (at_ : Option (ℕ × ℕ)) (before : Option (ℕ × Ref)) (place : IsBefore ids at_ before) (r : Ref) (like : AllLike xs ys) (came : IsInserted r v arrivals before xs ys m n is.rss) where
+module _ (s : Shape) (ids : FinMap nat_cmp IdEntry) (m n : Pooled Stored) (xs ys : List Structure)
+    (next arrivals : ℕ) (is : IsMulti s ids m xs next arrivals) (v : Stored) (new : v.id ≡ next)
+    (at_ : Option (ℕ × ℕ)) (before : Option (ℕ × Ref)) (place : IsBefore ids at_ before) (r : Ref)
+    (like : AllLike xs ys) (came : IsInserted r v arrivals before xs ys m n is.rss) where
   abbrev os : List Order
   os = plan s.indexes
 
@@ -137,9 +144,11 @@ module _ (s : Shape) (ids : FinMap nat_cmp IdEntry) (m n : Pooled Stored) (xs ys
 
   -- Rows
 
-  stamp_of_slot : (x : ℕ) (o : Order) → At (Turned Q ids m n) x o → has_stamps o ≡ true → (k : ℕ) → (r.name == k) ≡ false → (link_of n k x).tag.stamp ≡ (link_of m k x).tag.stamp
+  stamp_of_slot : (x : ℕ) (o : Order) → At (Turned Q ids m n) x o → has_stamps o ≡ true
+      → (k : ℕ) → (r.name == k) ≡ false → (link_of n k x).tag.stamp ≡ (link_of m k x).tag.stamp
   stamp_of_slot x o (at i a c rs us l t is_order) has k ne =
-      subst (λ w. (link_of n k w).tag.stamp ≡ (link_of m k w).tag.stamp) t.slot (stamp_others i a m n r l arrivals t.for_ t.done.stamped (sym (ap has_stamps is_order) ∙ has) k ne)
+      subst (λ w. (link_of n k w).tag.stamp ≡ (link_of m k w).tag.stamp) t.slot
+      (stamp_others i a m n r l arrivals t.for_ t.done.stamped (sym (ap has_stamps is_order) ∙ has) k ne)
 
   says : (q : Ref) → IsHeld m q → SaysSame os m n q.name
   says q held = record {
@@ -147,7 +156,8 @@ module _ (s : Shape) (ids : FinMap nat_cmp IdEntry) (m n : Pooled Stored) (xs ys
     stamps = λ x has.
         let l : x < length s.indexes = no_stamps_past s.indexes x has in
         let same : 0 + x ≡ x = omega arith in
-        subst (λ w. (link_of n q.name w).tag.stamp ≡ (link_of m q.name w).tag.stamp) same (stamp_of_slot (0 + x) (get_or os x ById) (at_plan (Turned Q ids m n) turns x l) has q.name (apart q held));
+        subst (λ w. (link_of n q.name w).tag.stamp ≡ (link_of m q.name w).tag.stamp) same
+        (stamp_of_slot (0 + x) (get_or os x ById) (at_plan (Turned Q ids m n) turns x l) has q.name (apart q held));
   }
 
   turned_false : (a b : ℕ) → (a == b) ≡ false → (b == a) ≡ false
@@ -156,7 +166,8 @@ module _ (s : Shape) (ids : FinMap nat_cmp IdEntry) (m n : Pooled Stored) (xs ys
   altered : IsAltered os ids m n next
   altered = record {
     says = λ q a ne here. says a.node (is.held q a here).held;
-    kept = λ q a ne here dead t. came.other_nodes a.node.name t (turned_false r.name a.node.name (apart a.node (is.held q a here).held)) (out_of_all ids m q a is.rss here dead (is.held q a here) is.live);
+    kept = λ q a ne here dead t. came.other_nodes a.node.name t (turned_false r.name a.node.name (apart a.node (is.held q a here).held))
+        (out_of_all ids m q a is.rss here dead (is.held q a here) is.live);
   }
 
   others : (q : ℕ) → q ≢ next → get new_ids q ≡ get ids q
@@ -168,7 +179,8 @@ module _ (s : Shape) (ids : FinMap nat_cmp IdEntry) (m n : Pooled Stored) (xs ys
   was : get ids next ≡ None
   was = fresh s ids m xs next arrivals is
 
-  stamps_new : {k : ℕ} {js : List Index} {as_ bs : List Structure} {rss uss : List (List Ref)} → Every (Turned Q ids m n) k js as_ bs rss uss → stamps_in n r.name k (plan js) ≡ map (new_stamp arrivals) (orders_of js (own_lists m as_))
+  stamps_new : {k : ℕ} {js : List Index} {as_ bs : List Structure} {rss uss : List (List Ref)} → Every (Turned Q ids m n) k js as_ bs rss uss
+      → stamps_in n r.name k (plan js) ≡ map (new_stamp arrivals) (orders_of js (own_lists m as_))
   stamps_new none = refl
   stamps_new (one {s = k} {i = i} {x = x} {is = js} {xs = as_} t rest) =
       let next_ : k + 1 ≡ suc k = omega arith in
@@ -200,7 +212,8 @@ module _ (s : Shape) (ids : FinMap nat_cmp IdEntry) (m n : Pooled Stored) (xs ys
       let here : AllByRecursion (IsLiveRef ids m) (q ∷ vs) = all_right (IsLiveRef ids m) us (q ∷ vs) live.rows in
       let before_ : AllByRecursion (IsLiveRef ids m) us = all_left (IsLiveRef ids m) us (q ∷ vs) live.rows in
       let lacks : Lacks (id_at m q) (ids_at m us) =
-      lacks_left (id_at m q) (ids_at m us) (ids_at m vs) (subst (Lacks (id_at m q)) (ids_append (id_at m) us vs) (lacks_middle ids m (id_at m q) q us vs refl here.0 live)) in
+      lacks_left (id_at m q) (ids_at m us) (ids_at m vs)
+      (subst (Lacks (id_at m q)) (ids_append (id_at m) us vs) (lacks_middle ids m (id_at m q) q us vs refl here.0 live)) in
       subst (λ w. Lacks w (ids_at n us)) (sym (id_still q here.0)) (subst (Lacks (id_at m q)) (sym (ids_still us before_)) lacks)
 
   first_id : (vs : List Ref) → AllByRecursion (IsLiveRef ids m) vs → option_map (id_at n) (first_of vs None) ≡ option_map (id_at m) (first_of vs None)
@@ -219,22 +232,26 @@ module _ (s : Shape) (ids : FinMap nat_cmp IdEntry) (m n : Pooled Stored) (xs ys
       ∙ (λ i. stand (first_id w.ys behind i) (id_here i) (ids_still (w.xs ++ w.ys) whole.rows i))
       ∙ (λ i. stand (option_map (id_at m) (put i)) next (ids_at m (sym w.was i)))
 
-  step : (k : ℕ) (i : Index) (x y : Structure) (rs us : List Ref) → is_sequenced i.kind ≡ true → Turned Q ids m n (0 + k) i x y rs us → ids_at n us ≡ moves k (ids_at m rs)
-  step k i (Sequenced l) y rs us seq t = let zeroed : 0 + k ≡ k = omega arith in ids_with k rs us t.done.joined t.live (t.done.put ∙ ap (λ w. before_at w before) zeroed)
+  step : (k : ℕ) (i : Index) (x y : Structure) (rs us : List Ref) → is_sequenced i.kind ≡ true
+      → Turned Q ids m n (0 + k) i x y rs us → ids_at n us ≡ moves k (ids_at m rs)
+  step k i (Sequenced l) y rs us seq t =
+      let zeroed : 0 + k ≡ k = omega arith in ids_with k rs us t.done.joined t.live (t.done.put ∙ ap (λ w. before_at w before) zeroed)
   step k i (Ordered t) y rs us seq h = absurd (sorted_not_sequenced i.kind h.for_.0 seq)
   step k i (Hashed c) y rs us seq h = absurd (hashed_not_sequenced i.kind h.for_.0 seq)
 
   by : SeqBy moves s.indexes (own_lists m xs) (own_lists n ys)
   by = seq_by Q ids m n moves turns step
 
-  orders_by : (a : Option (ℕ × ℕ)) (b : Option (ℕ × Ref)) → IsBefore ids a b → SeqBy (λ k. stand (option_map (id_at m) (before_at k b)) next) s.indexes (own_lists m xs) (own_lists n ys)
+  orders_by : (a : Option (ℕ × ℕ)) (b : Option (ℕ × Ref)) → IsBefore ids a b
+      → SeqBy (λ k. stand (option_map (id_at m) (before_at k b)) next) s.indexes (own_lists m xs) (own_lists n ys)
       → orders_of s.indexes (own_lists n ys) ≡ orders_with a next d.orders
   orders_by None None f g = orders_map (stand None next) (λ _. stand None next) s.indexes (own_lists m xs) (own_lists n ys) (λ k. refl) g
   orders_by None (Some b) f g = absurd f
   orders_by (Some p) None f g = absurd f
   orders_by (Some p) (Some b) f g =
       let id : id_at m b.1 ≡ p.1 = id_of ids m p.1 (record { node = b.1; live = true }) (is.held p.1 (record { node = b.1; live = true }) f.1) in
-      orders_set (stand None next) (stand_before p.1 next) p.0 (λ k. stand (option_map (id_at m) (cond (b.0 == k) (Some b.1) None)) next) s.indexes (own_lists m xs) (own_lists n ys)
+      orders_set (stand None next) (stand_before p.1 next) p.0
+      (λ k. stand (option_map (id_at m) (cond (b.0 == k) (Some b.1) None)) next) s.indexes (own_lists m xs) (own_lists n ys)
       (ap (λ t. stand (option_map (id_at m) (cond t (Some b.1) None)) next) (itself f.0) ∙ ap (λ w. stand (Some w) next) id)
       (λ k ne. ap (λ t. stand (option_map (id_at m) (cond t (Some b.1) None)) next) (is_other b.0 k (λ same. ne (sym same ∙ f.0))))
       g
@@ -268,17 +285,22 @@ module _ (s : Shape) (ids : FinMap nat_cmp IdEntry) (m n : Pooled Stored) (xs ys
   each_with rs us live w q =
       let rows_ : AllByRecursion (IsLiveRef ids m) (w.xs ++ w.ys) = subst (AllByRecursion (IsLiveRef ids m)) w.was live.rows in
       let same : times q (ids_at n us) ≡ times q (ids_at n (w.xs ++ r ∷ w.ys)) = ap (λ k. times q (ids_at n k)) w.now in
-      let parts : times q (ids_at n (w.xs ++ r ∷ w.ys)) ≡ cond (id_at n r == q) 1 0 + times q (ids_at n (w.xs ++ w.ys)) = times_middle (id_at n) q w.xs r w.ys in
-      let before_ : times q (ids_at n (w.xs ++ w.ys)) ≡ cond (is_live (get ids q)) 1 0 = ap (times q) (ids_still (w.xs ++ w.ys) rows_) ∙ ap (λ k. times q (ids_at m k)) (sym w.was) ∙ live.each q in
+      let parts : times q (ids_at n (w.xs ++ r ∷ w.ys))
+      ≡ cond (id_at n r == q) 1 0 + times q (ids_at n (w.xs ++ w.ys)) = times_middle (id_at n) q w.xs r w.ys in
+      let before_ : times q (ids_at n (w.xs ++ w.ys)) ≡ cond (is_live (get ids q)) 1 0 =
+      ap (times q) (ids_still (w.xs ++ w.ys) rows_) ∙ ap (λ k. times q (ids_at m k)) (sym w.was) ∙ live.each q in
       elim (eqb_tells q next) [
         | inl it ↦
-            let none_ : cond {A = ℕ} (is_live (get ids q)) 1 0 ≡ 0 = ap (λ k. cond {A = ℕ} (is_live (get ids k)) 1 0) it.1 ∙ ap (λ o. cond {A = ℕ} (is_live o) 1 0) was in
+            let none_ : cond {A = ℕ} (is_live (get ids q)) 1 0 ≡ 0 =
+            ap (λ k. cond {A = ℕ} (is_live (get ids k)) 1 0) it.1 ∙ ap (λ o. cond {A = ℕ} (is_live o) 1 0) was in
             let here : cond {A = ℕ} (id_at n r == q) 1 0 ≡ 1 = ap (λ t. cond {A = ℕ} t 1 0) (itself (id_here ∙ sym it.1)) in
-            let one_ : cond {A = ℕ} (is_live (get new_ids q)) 1 0 ≡ 1 = ap (λ k. cond {A = ℕ} (is_live (get new_ids k)) 1 0) it.1 ∙ ap (λ o. cond {A = ℕ} (is_live o) 1 0) now in
+            let one_ : cond {A = ℕ} (is_live (get new_ids q)) 1 0 ≡ 1 =
+            ap (λ k. cond {A = ℕ} (is_live (get new_ids k)) 1 0) it.1 ∙ ap (λ o. cond {A = ℕ} (is_live o) 1 0) now in
             omega arith
         | inr isnt ↦
             let here : cond {A = ℕ} (id_at n r == q) 1 0 ≡ 0 = ap (λ t. cond {A = ℕ} t 1 0) (is_other (id_at n r) q (λ k. isnt.1 (sym k ∙ id_here))) in
-            let still : cond {A = ℕ} (is_live (get new_ids q)) 1 0 ≡ cond {A = ℕ} (is_live (get ids q)) 1 0 = ap (λ o. cond {A = ℕ} (is_live o) 1 0) (others q isnt.1) in
+            let still : cond {A = ℕ} (is_live (get new_ids q)) 1 0 ≡ cond {A = ℕ} (is_live (get ids q)) 1 0 =
+            ap (λ o. cond {A = ℕ} (is_live o) 1 0) (others q isnt.1) in
             omega arith
       ]
 
@@ -288,11 +310,13 @@ module _ (s : Shape) (ids : FinMap nat_cmp IdEntry) (m n : Pooled Stored) (xs ys
       let itself_ : IsLiveRef new_ids n r = ap (get new_ids) id_here ∙ now in
       record {
         rows = subst (AllByRecursion (IsLiveRef new_ids n)) (sym w.now)
-            (all_append (IsLiveRef new_ids n) w.xs (r ∷ w.ys) (all_still w.xs (all_left (IsLiveRef ids m) w.xs w.ys rows_)) (itself_, all_still w.ys (all_right (IsLiveRef ids m) w.xs w.ys rows_)));
+            (all_append (IsLiveRef new_ids n) w.xs (r ∷ w.ys) (all_still w.xs (all_left (IsLiveRef ids m) w.xs w.ys rows_))
+            (itself_, all_still w.ys (all_right (IsLiveRef ids m) w.xs w.ys rows_)));
         each = each_with rs us live w;
       }
 
-  all_live : {k : ℕ} {js : List Index} {as_ bs : List Structure} {rss uss : List (List Ref)} → Every (Turned Q ids m n) k js as_ bs rss uss → AllByRecursion (AreLive new_ids n) uss
+  all_live : {k : ℕ} {js : List Index} {as_ bs : List Structure} {rss uss : List (List Ref)}
+      → Every (Turned Q ids m n) k js as_ bs rss uss → AllByRecursion (AreLive new_ids n) uss
   all_live none = tt
   all_live (one {rs = rs} {us = us} t rest) = (live_with rs us t.live t.done.joined, all_live rest)
 
@@ -308,14 +332,20 @@ module _ (s : Shape) (ids : FinMap nat_cmp IdEntry) (m n : Pooled Stored) (xs ys
   owner : (a : Ref) → IsHeld n a → (e : ℕ) × (w : IdEntry) × (get new_ids e ≡ Some w) × (w.node ≡ a)
   owner a h =
       elim (eqb_tells r.name a.name) [
-        | inl same ↦ (next, record { node = r; live = true }, now, some_is (sym (ap (λ b. cond b (Some r) (ref_of m a.name)) same.0) ∙ sym (came.refs a.name) ∙ h))
+        | inl same ↦ (
+          next,
+          record { node = r; live = true },
+          now,
+          some_is (sym (ap (λ b. cond b (Some r) (ref_of m a.name)) same.0) ∙ sym (came.refs a.name) ∙ h),
+        )
         | inr isnt ↦
             let old = is.owned a (sym (came.refs a.name ∙ ap (λ b. cond b (Some r) (ref_of m a.name)) isnt.0) ∙ h) in
             (old.0, old.1, others old.0 (λ same. none_some (sym was ∙ ap (get ids) (sym same) ∙ old.2)) ∙ old.2, old.3)
       ]
 
   -- all stands after it
-  pub come_multi : next + 1 ≤ LAST_COUNT → arrivals + 1 ≤ LAST_COUNT → len ids + 1 ≤ 2 ^ 31 → PlaceFits at_ d.orders → conflict s (table_of d) v.row None ≡ None → IsMulti s new_ids n ys (next + 1) (arrivals + 1)
+  pub come_multi : next + 1 ≤ LAST_COUNT → arrivals + 1 ≤ LAST_COUNT → len ids + 1 ≤ 2 ^ 31 → PlaceFits at_ d.orders
+      → conflict s (table_of d) v.row None ≡ None → IsMulti s new_ids n ys (next + 1) (arrivals + 1)
   come_multi next_fits arrivals_fit few fits alone = record {
     rss = came.uss;
     stand = came.stand;
@@ -332,5 +362,8 @@ module _ (s : Shape) (ids : FinMap nat_cmp IdEntry) (m n : Pooled Stored) (xs ys
     is_data = subst (IsData s) (sym come_seen) (change_is_tables s (Insert at_ r v.row) d is.is_data (fits, unnamed, alone)).0;
     next_fits = next_fits;
     arrivals_fit = arrivals_fit;
-    few = let l : len new_ids ≡ len ids + 1 = len-insert nat_cmp_total ids next (record { node = r; live = true }) ∙ ap (λ o. cond (is_some o) (len ids) (len ids + 1)) was in omega arith;
+    few =
+        let l : len new_ids ≡ len ids + 1 = len-insert nat_cmp_total ids next (record { node = r; live = true })
+        ∙ ap (λ o. cond (is_some o) (len ids) (len ids + 1)) was in
+        omega arith;
   }

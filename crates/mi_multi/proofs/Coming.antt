@@ -46,11 +46,13 @@ IsBefore ids None (Some b) = ⊥
 IsBefore ids (Some p) None = ⊥
 IsBefore ids (Some p) (Some b) = (b.0 ≡ p.0) × (get ids p.1 ≡ Some (record { node = b.1; live = true }))
 
-neither : (m : Pooled Stored) (os : List Order) (a : IdEntry) (b : Bool) → cond b (Some (node_in m os a.node)) None ≡ None → cond b None (Some (kept_node_in m os a.node)) ≡ None → ⊥
+neither : (m : Pooled Stored) (os : List Order) (a : IdEntry) (b : Bool)
+    → cond b (Some (node_in m os a.node)) None ≡ None → cond b None (Some (kept_node_in m os a.node)) ≡ None → ⊥
 neither m os a true p q = none_some (sym p)
 neither m os a false p q = none_some (sym q)
 
-no_entry : (m : Pooled Stored) (os : List Order) (o : Option IdEntry) → option_and_then (live_in m os) o ≡ None → option_and_then (kept_in m os) o ≡ None → o ≡ None
+no_entry : (m : Pooled Stored) (os : List Order) (o : Option IdEntry)
+    → option_and_then (live_in m os) o ≡ None → option_and_then (kept_in m os) o ≡ None → o ≡ None
 no_entry m os None p q = refl
 no_entry m os (Some a) p q = absurd (neither m os a a.live p q)
 
@@ -80,22 +82,26 @@ module _ (s : Shape) (ids : FinMap nat_cmp IdEntry) (m : Pooled Stored) (xs : Li
   later k q live l has same = let e : (link_of m q.name k).tag.stamp < arrivals = early k q live l has in absurd (omega arith)
 
   module _ (v : Stored) (new : v.id ≡ next) (at : Option (ℕ × ℕ)) (before : Option (ℕ × Ref)) (place : IsBefore ids at before) where
-    none_are : (ps : List KeyPart) (k : ℕ) (qs : List Ref) → AllByRecursion (IsLiveRef ids m) qs → (ps ≢ [] → has_stamps (get_or os k ById) ≡ true) → k < length os
+    none_are : (ps : List KeyPart) (k : ℕ) (qs : List Ref) → AllByRecursion (IsLiveRef ids m) qs
+        → (ps ≢ [] → has_stamps (get_or os k ById) ≡ true) → k < length os
         → NoneAre (side_of_value (stored_order ps) m k v arrivals) Equal qs
     none_are ps k [] all has l = tt
     none_are ps k (q ∷ qs) all has l = (
-      value_not_equal ps m k q arrivals v (id_at m q) (is.held (id_at m q) (record { node = q; live = true }) all.0) (λ same. not_next q all.0 (sym new ∙ same)) (λ some. later k q all.0 l (has some)),
+      value_not_equal ps m k q arrivals v (id_at m q) (is.held (id_at m q) (record { node = q; live = true }) all.0)
+          (λ same. not_next q all.0 (sym new ∙ same)) (λ some. later k q all.0 l (has some)),
       none_are ps k qs all.1 has l,
     )
 
-    none_has : (k : ℕ) (qs : List Ref) → AllByRecursion (IsLiveRef ids m) qs → has_stamps (get_or os k ById) ≡ true → k < length os → NoneHas (stamp_at m k) arrivals qs
+    none_has : (k : ℕ) (qs : List Ref) → AllByRecursion (IsLiveRef ids m) qs
+        → has_stamps (get_or os k ById) ≡ true → k < length os → NoneHas (stamp_at m k) arrivals qs
     none_has k [] all has l = tt
     none_has k (q ∷ qs) all has l = (later k q all.0 l has, none_has k qs all.1 has l)
 
     abbrev Spot : Option Ref → List Ref → Type 0
     Spot b rs = (us : List Ref) × (vs : List Ref) × (rs ≡ us ++ vs) × (first_of vs None ≡ b)
 
-    spot_at : (p : ℕ × ℕ) (b : ℕ × Ref) → get ids p.1 ≡ Some (record { node = b.1; live = true }) → (rs : List Ref) → AreLive ids m rs → (t : Bool) → Spot (cond t (Some b.1) None) rs
+    spot_at : (p : ℕ × ℕ) (b : ℕ × Ref) → get ids p.1 ≡ Some (record { node = b.1; live = true })
+        → (rs : List Ref) → AreLive ids m rs → (t : Bool) → Spot (cond t (Some b.1) None) rs
     spot_at p b there rs live true = let h = holds ids m p.1 b.1 rs there live in (h.xs, b.1 ∷ h.ys, h.parts, refl)
     spot_at p b there rs live false = (rs, [], sym (append-nil rs), refl)
 
@@ -105,7 +111,8 @@ module _ (s : Shape) (ids : FinMap nat_cmp IdEntry) (m : Pooled Stored) (xs : Li
     spot k rs live (Some p) None f = absurd f
     spot k rs live (Some p) (Some b) f = spot_at p b f.1 rs live (b.0 == k)
 
-    place_in : (k : ℕ) (i : Index) (x y : Structure) (rs us : List Ref) → Now s ids m xs next arrivals is k i x y rs us → HasPlaceFor x m v arrivals (before_at k before) rs
+    place_in : (k : ℕ) (i : Index) (x y : Structure) (rs us : List Ref)
+        → Now s ids m xs next arrivals is k i x y rs us → HasPlaceFor x m v arrivals (before_at k before) rs
     place_in k i (Ordered t) y rs us h =
         let slot : t.slot ≡ k = h.0.slot in
         let parts : t.order.parts ≡ i.parts = h.0.for_.1 in
@@ -118,7 +125,8 @@ module _ (s : Shape) (ids : FinMap nat_cmp IdEntry) (m : Pooled Stored) (xs : Li
         subst (λ w. NoneHas (stamp_at m w) arrivals rs) (sym slot) (none_has k rs h.0.live.rows (ap has_stamps plan_is) h.1.few)
     place_in k i (Sequenced l) y rs us h = spot k rs h.0.live at before place
 
-    all_come : {k : ℕ} {js : List Index} {us vs : List Structure} {rss uss : List (List Ref)} → Every (Now s ids m xs next arrivals is) k js us vs rss uss → AllCan (inserting v arrivals before) us k m rss
+    all_come : {k : ℕ} {js : List Index} {us vs : List Structure} {rss uss : List (List Ref)}
+        → Every (Now s ids m xs next arrivals is) k js us vs rss uss → AllCan (inserting v arrivals before) us k m rss
     all_come none = tt
     all_come (one {s = k} {i = i} {x = x} {y = y} {rs = rs} {us = us} h rest) = (
       record {

@@ -21,14 +21,20 @@ length_without : (e : ℕ) (ids : List ℕ) → length ids ≡ times e ids + len
 length_without e [] = refl
 length_without e (a ∷ ids) =
     let rest : length ids ≡ times e ids + length (without e ids) = length_without e ids in
-    elim (a == e) as (λ b. suc (length ids) ≡ (cond {A = ℕ} b 1 0 + times e ids) + length (cond (not b) (a ∷ without e ids) (without e ids))) [ true ↦ omega arith | false ↦ omega arith ]
+    elim (a == e) as (λ b. suc (length ids) ≡ (cond {A = ℕ} b 1 0 + times e ids) + length (cond (not b) (a ∷ without e ids) (without e ids))) [
+      | true ↦ omega arith
+      | false ↦ omega arith
+    ]
 
 times_gone : (e : ℕ) (ids : List ℕ) → times e (without e ids) ≡ 0
 times_gone e [] = refl
 times_gone e (a ∷ ids) =
     elim (eqb_tells a e) [
       | inl is ↦ ap (times e) (drop_is e a ids is.0) ∙ times_gone e ids
-      | inr isnt ↦ ap (times e) (drop_isnt e a ids isnt.0) ∙ (let rest : times e (without e ids) ≡ 0 = times_gone e ids in let z : cond {A = ℕ} (a == e) 1 0 ≡ 0 = ap (λ b. cond {A = ℕ} b 1 0) isnt.0 in omega arith)
+      | inr isnt ↦ ap (times e) (drop_isnt e a ids isnt.0)
+          ∙ (let rest : times e (without e ids) ≡ 0 = times_gone e ids in
+          let z : cond {A = ℕ} (a == e) 1 0 ≡ 0 = ap (λ b. cond {A = ℕ} b 1 0) isnt.0 in
+          omega arith)
     ]
 
 times_left : (q e : ℕ) (ids : List ℕ) → q ≢ e → times q (without e ids) ≡ times q ids
@@ -51,7 +57,8 @@ above_absent e (r ∷ es) all = head_isnt e r es (is_other r.0 e (λ same. let l
 some_times : (a : ℕ) (ids : List ℕ) → 0 < times a (a ∷ ids)
 some_times a ids = let one : cond {A = ℕ} (a == a) 1 0 ≡ 1 = ap (λ b. cond {A = ℕ} b 1 0) (is_itself a) in omega arith
 
-counted : (es : List (ℕ × IdEntry)) → Up es → (ids : List ℕ) → ((q : ℕ) → times q ids ≡ cond (is_live (lookup (λ k. k == q) es)) 1 0) → length ids ≡ live_count es
+counted : (es : List (ℕ × IdEntry)) → Up es → (ids : List ℕ)
+    → ((q : ℕ) → times q ids ≡ cond (is_live (lookup (λ k. k == q) es)) 1 0) → length ids ≡ live_count es
 counted [] up [] each = refl
 counted [] up (a ∷ ids) each = absurd (let some : 0 < times a (a ∷ ids) = some_times a ids in let none : times a (a ∷ ids) ≡ 0 = each a in omega arith)
 counted (r ∷ es) up ids each =
@@ -92,14 +99,20 @@ length_ids m (r ∷ rs) = ap suc (length_ids m rs)
 
 module _ (ids : FinMap nat_cmp IdEntry) (m : Pooled Stored) (rs : List Ref) (live : AreLive ids m rs) where
   long : length rs ≡ live_count (entries ids)
-  long = sym (length_ids m rs) ∙ counted (entries ids) (up_entries ids) (ids_at m rs) (λ q. live.each q ∙ ap (λ o. cond {A = ℕ} (is_live o) 1 0) (sym (get_lookup ids q)))
+  long = sym (length_ids m rs)
+      ∙ counted (entries ids) (up_entries ids) (ids_at m rs) (λ q. live.each q ∙ ap (λ o. cond {A = ℕ} (is_live o) 1 0) (sym (get_lookup ids q)))
 
   -- no more nodes than ids
   pub no_longer : length rs ≤ len ids
-  no_longer = let a : length rs ≡ live_count (entries ids) = long in let b : live_count (entries ids) ≤ length (entries ids) = few_live (entries ids) in let c : len ids ≡ length (entries ids) = len-entries ids in omega arith
+  no_longer =
+      let a : length rs ≡ live_count (entries ids) = long in
+      let b : live_count (entries ids) ≤ length (entries ids) = few_live (entries ids) in
+      let c : len ids ≡ length (entries ids) = len-entries ids in
+      omega arith
 
   -- and fewer where a node is only kept
   pub shorter : (e : ℕ) (a : IdEntry) → get ids e ≡ Some a → a.live ≡ false → length rs + 1 ≤ len ids
   shorter e a there dead =
-      let l : length rs ≡ live_count (entries ids) = long in let f : live_count (entries ids) + 1 ≤ length (entries ids) = fewer_live e a (entries ids) (get_lookup ids e ∙ there) dead in
+      let l : length rs ≡ live_count (entries ids) = long in
+      let f : live_count (entries ids) + 1 ≤ length (entries ids) = fewer_live e a (entries ids) (get_lookup ids e ∙ there) dead in
       let c : len ids ≡ length (entries ids) = len-entries ids in omega arith

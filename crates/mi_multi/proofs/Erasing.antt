@@ -1,5 +1,6 @@
 -- A row leaves: what the passes leave are the data without it, and all stands again.
-use Rattle.std.proofs.Common.{◌≡◌, ◌≢◌, ℕ, ◌+◌, ◌^◌, ◌<◌, ◌≤◌, true, false, cond, inl, inr, List, [], ◌∷◌, ◌++◌, map, get_or, length, refl, ap, sym, ◌∙◌, subst, arith}
+use Rattle.std.proofs.Common.{◌≡◌, ◌≢◌, ℕ, ◌+◌, ◌^◌, ◌<◌, ◌≤◌, true, false, cond, inl, inr, List}
+use Rattle.std.proofs.Common.{[], ◌∷◌, ◌++◌, map, get_or, length, refl, ap, sym, ◌∙◌, subst, arith}
 use Rattle.std.specs.Prelude.{◌==◌}
 use Rattle.std.specs.List.{AllByRecursion}
 use Rattle.std.specs.Option.{option_and_then}
@@ -38,7 +39,8 @@ use Rattle.mi_multi.proofs.Lists.{without_middle, times_middle}
 use Rattle.mi_multi.proofs.Says.{node_same, live_alike, kept_alike}
 use Rattle.mi_multi.proofs.OrdersBy.{orders_map}
 use Rattle.mi_multi.proofs.Every.{Turned, Every, At, at, every, at_plan, all_known, all_for, seq_by, no_stamps_past, one, none}
-use Rattle.mi_multi.proofs.Lives.{IsLiveRef, holds, marked_here, marked_beside, len_marked, names_apart, lacks_middle, out_of_all, ids_same, all_left, all_right, all_append}
+use Rattle.mi_multi.proofs.Lives.{IsLiveRef, holds, marked_here, marked_beside, len_marked, names_apart}
+use Rattle.mi_multi.proofs.Lives.{lacks_middle, out_of_all, ids_same, all_left, all_right, all_append}
 use Rattle.mi_multi.proofs.Beside.{id_is}
 use Rattle.mi_multi.proofs.Links.{tags_at, links_seen}
 
@@ -46,17 +48,20 @@ itself : {a b : ℕ} → a ≡ b → (a == b) ≡ true
 itself {a} {b} same = elim (eqb_tells a b) [ inl is ↦ is.0 | inr isnt ↦ absurd (isnt.1 same) ]
 
 -- the node stands in every index
-can_from : (ids : FinMap nat_cmp IdEntry) (m : Pooled Stored) (e : ℕ) (r : Ref) → get ids e ≡ Some (record { node = r; live = true }) → (s : ℕ) (xs : List Structure) (rss : List (List Ref)) → AllByRecursion (AreLive ids m) rss
+can_from : (ids : FinMap nat_cmp IdEntry) (m : Pooled Stored) (e : ℕ) (r : Ref) → get ids e ≡ Some (record { node = r; live = true })
+    → (s : ℕ) (xs : List Structure) (rss : List (List Ref)) → AllByRecursion (AreLive ids m) rss
     → AllCan (leaving All r) xs s m rss
 can_from ids m e r there s [] rss all = tt
 can_from ids m e r there s (x ∷ xs) [] all = tt
 can_from ids m e r there s (x ∷ xs) (rs ∷ rss) all = (holds ids m e r rs there all.0, can_from ids m e r there (s + 1) xs rss all.1)
 
-pub can_leave : (s : Shape) (ids : FinMap nat_cmp IdEntry) (m : Pooled Stored) (xs : List Structure) (next arrivals : ℕ) (is : IsMulti s ids m xs next arrivals) (e : ℕ) (r : Ref)
+pub can_leave : (s : Shape) (ids : FinMap nat_cmp IdEntry) (m : Pooled Stored) (xs : List Structure)
+    (next arrivals : ℕ) (is : IsMulti s ids m xs next arrivals) (e : ℕ) (r : Ref)
     → get ids e ≡ Some (record { node = r; live = true }) → AllCan (leaving All r) xs 0 m is.rss
 can_leave s ids m xs next arrivals is e r there = can_from ids m e r there 0 xs is.rss is.live
 
-module _ (s : Shape) (ids : FinMap nat_cmp IdEntry) (m n : Pooled Stored) (xs ys : List Structure) (next arrivals : ℕ) (is : IsMulti s ids m xs next arrivals) (e : ℕ) (r : Ref)
+module _ (s : Shape) (ids : FinMap nat_cmp IdEntry) (m n : Pooled Stored) (xs ys : List Structure)
+    (next arrivals : ℕ) (is : IsMulti s ids m xs next arrivals) (e : ℕ) (r : Ref)
     (there : get ids e ≡ Some (record { node = r; live = true })) (like : AllLike xs ys) (pass : IsPass (leaving All r) (left All r) r 0 xs ys m n) where
   abbrev os : List Order
   os = plan s.indexes
@@ -92,7 +97,8 @@ module _ (s : Shape) (ids : FinMap nat_cmp IdEntry) (m n : Pooled Stored) (xs ys
   altered = record {
     says = λ q a ne here. says a.node.name;
     kept = λ q a ne here dead t.
-        changed.keeps.other_nodes a.node.name t (names_apart m q e a.node r (is.held q a here) (is.held e (record { node = r; live = true }) there) ne) (out_of_all ids m q a is.rss here dead (is.held q a here) is.live);
+        changed.keeps.other_nodes a.node.name t (names_apart m q e a.node r (is.held q a here) (is.held e (record { node = r; live = true }) there) ne)
+        (out_of_all ids m q a is.rss here dead (is.held q a here) is.live);
   }
 
   others : (q : ℕ) → q ≢ e → get new_ids q ≡ get ids q
@@ -102,7 +108,8 @@ module _ (s : Shape) (ids : FinMap nat_cmp IdEntry) (m n : Pooled Stored) (xs ys
   now = marked_here ids e (record { node = r; live = true }) false there
 
   rows_left : picked (live_in n os) (entries new_ids) ≡ left_out e d.rows
-  rows_left = picked_lost (live_in m os) (live_in n os) ids new_ids e others (live_alike os ids m n e altered) next (rows_climb s d is.is_data) (ap (option_and_then (live_in n os)) now)
+  rows_left = picked_lost (live_in m os) (live_in n os) ids new_ids e others (live_alike os ids m n e altered)
+      next (rows_climb s d is.is_data) (ap (option_and_then (live_in n os)) now)
 
   pub row_is : node_of d.rows e ≡ Some (node_in m os r)
   row_is = get_picked (live_in m os) ids e ∙ ap (option_and_then (live_in m os)) there
@@ -115,7 +122,8 @@ module _ (s : Shape) (ids : FinMap nat_cmp IdEntry) (m n : Pooled Stored) (xs ys
 
   kept_now : picked (kept_in n os) (entries new_ids) ≡ entered e (kept_node e (node_in m os r) d) d.kept
   kept_now =
-      picked_entered (kept_in m os) (kept_in n os) ids new_ids e others (kept_alike os ids m n e altered) next (kept_node_in n os r) is.is_data.kept (climbs_some next e (node_in m os r) d.rows (rows_climb s d is.is_data) row_is)
+      picked_entered (kept_in m os) (kept_in n os) ids new_ids e others (kept_alike os ids m n e altered) next
+      (kept_node_in n os r) is.is_data.kept (climbs_some next e (node_in m os r) d.rows (rows_climb s d is.is_data) row_is)
       (ap (option_and_then (kept_in m os)) there) (ap (option_and_then (kept_in n os)) now)
       ∙ ap (λ k. entered e k d.kept) kept_is
 
@@ -123,7 +131,8 @@ module _ (s : Shape) (ids : FinMap nat_cmp IdEntry) (m n : Pooled Stored) (xs ys
   ids_left rs us live w =
       let id : id_at m r ≡ e = id_is ids m n os is.held changed.keeps.values e r there in
       ids_same m n us changed.keeps.values ∙ ap (ids_at m) w.was
-      ∙ sym (ap (λ q. without e (ids_at m q)) w.now ∙ without_middle (id_at m) e w.xs r w.ys (itself id) (lacks_middle ids m e r w.xs w.ys id there (subst (AreLive ids m) w.now live)))
+      ∙ sym (ap (λ q. without e (ids_at m q)) w.now
+      ∙ without_middle (id_at m) e w.xs r w.ys (itself id) (lacks_middle ids m e r w.xs w.ys id there (subst (AreLive ids m) w.now live)))
 
   orders_left : orders_of s.indexes (own_lists n ys) ≡ map (in_order (without e)) d.orders
   orders_left =
@@ -149,17 +158,21 @@ module _ (s : Shape) (ids : FinMap nat_cmp IdEntry) (m n : Pooled Stored) (xs ys
   each_left rs us live w q =
       let id : id_at m r ≡ e = id_is ids m n os is.held changed.keeps.values e r there in
       let same : times q (ids_at n us) ≡ times q (ids_at m (w.xs ++ w.ys)) = ap (times q) (ids_same m n us changed.keeps.values ∙ ap (ids_at m) w.was) in
-      let parts : times q (ids_at m rs) ≡ cond (id_at m r == q) 1 0 + times q (ids_at m (w.xs ++ w.ys)) = ap (λ k. times q (ids_at m k)) w.now ∙ times_middle (id_at m) q w.xs r w.ys in
+      let parts : times q (ids_at m rs) ≡ cond (id_at m r == q) 1 0 + times q (ids_at m (w.xs ++ w.ys)) =
+      ap (λ k. times q (ids_at m k)) w.now ∙ times_middle (id_at m) q w.xs r w.ys in
       let was : times q (ids_at m rs) ≡ cond (is_live (get ids q)) 1 0 = live.each q in
       elim (eqb_tells q e) [
         | inl it ↦
-            let one : cond {A = ℕ} (is_live (get ids q)) 1 0 ≡ 1 = ap (λ k. cond {A = ℕ} (is_live (get ids k)) 1 0) it.1 ∙ ap (λ o. cond {A = ℕ} (is_live o) 1 0) there in
+            let one : cond {A = ℕ} (is_live (get ids q)) 1 0 ≡ 1 =
+            ap (λ k. cond {A = ℕ} (is_live (get ids k)) 1 0) it.1 ∙ ap (λ o. cond {A = ℕ} (is_live o) 1 0) there in
             let here : cond {A = ℕ} (id_at m r == q) 1 0 ≡ 1 = ap (λ b. cond {A = ℕ} b 1 0) (itself (id ∙ sym it.1)) in
-            let gone : cond {A = ℕ} (is_live (get new_ids q)) 1 0 ≡ 0 = ap (λ k. cond {A = ℕ} (is_live (get new_ids k)) 1 0) it.1 ∙ ap (λ o. cond {A = ℕ} (is_live o) 1 0) now in
+            let gone : cond {A = ℕ} (is_live (get new_ids q)) 1 0 ≡ 0 =
+            ap (λ k. cond {A = ℕ} (is_live (get new_ids k)) 1 0) it.1 ∙ ap (λ o. cond {A = ℕ} (is_live o) 1 0) now in
             omega arith
         | inr isnt ↦
             let here : cond {A = ℕ} (id_at m r == q) 1 0 ≡ 0 = ap (λ b. cond {A = ℕ} b 1 0) (is_other (id_at m r) q (λ k. isnt.1 (sym k ∙ id))) in
-            let still : cond {A = ℕ} (is_live (get new_ids q)) 1 0 ≡ cond {A = ℕ} (is_live (get ids q)) 1 0 = ap (λ o. cond {A = ℕ} (is_live o) 1 0) (others q isnt.1) in
+            let still : cond {A = ℕ} (is_live (get new_ids q)) 1 0 ≡ cond {A = ℕ} (is_live (get ids q)) 1 0 =
+            ap (λ o. cond {A = ℕ} (is_live o) 1 0) (others q isnt.1) in
             omega arith
       ]
 
@@ -168,13 +181,16 @@ module _ (s : Shape) (ids : FinMap nat_cmp IdEntry) (m n : Pooled Stored) (xs ys
       let id : id_at m r ≡ e = id_is ids m n os is.held changed.keeps.values e r there in
       let was : AllByRecursion (IsLiveRef ids m) (w.xs ++ r ∷ w.ys) = subst (AllByRecursion (IsLiveRef ids m)) w.now live.rows in
       let tail : AllByRecursion (IsLiveRef ids m) (r ∷ w.ys) = all_right (IsLiveRef ids m) w.xs (r ∷ w.ys) was in
-      let both : AllByRecursion (IsLiveRef ids m) (w.xs ++ w.ys) = all_append (IsLiveRef ids m) w.xs w.ys (all_left (IsLiveRef ids m) w.xs (r ∷ w.ys) was) tail.1 in
+      let both : AllByRecursion (IsLiveRef ids m) (w.xs ++ w.ys) = all_append (IsLiveRef ids m)
+      w.xs w.ys (all_left (IsLiveRef ids m) w.xs (r ∷ w.ys) was) tail.1 in
       record {
-        rows = subst (AllByRecursion (IsLiveRef new_ids n)) (sym w.was) (all_still (w.xs ++ w.ys) both (lacks_middle ids m e r w.xs w.ys id there (subst (AreLive ids m) w.now live)));
+        rows = subst (AllByRecursion (IsLiveRef new_ids n)) (sym w.was)
+            (all_still (w.xs ++ w.ys) both (lacks_middle ids m e r w.xs w.ys id there (subst (AreLive ids m) w.now live)));
         each = each_left rs us live w;
       }
 
-  all_live_left : {k : ℕ} {js : List Index} {as_ bs : List Structure} {rss uss : List (List Ref)} → Every (Turned (left All r) ids m n) k js as_ bs rss uss → AllByRecursion (AreLive new_ids n) uss
+  all_live_left : {k : ℕ} {js : List Index} {as_ bs : List Structure} {rss uss : List (List Ref)}
+      → Every (Turned (left All r) ids m n) k js as_ bs rss uss → AllByRecursion (AreLive new_ids n) uss
   all_live_left none = tt
   all_live_left (one {rs = rs} {us = us} t rest) = (live_left rs us t.live t.done.left, all_live_left rest)
 
@@ -192,7 +208,8 @@ module _ (s : Shape) (ids : FinMap nat_cmp IdEntry) (m n : Pooled Stored) (xs ys
         elim (eqb_tells q e) [
           | inl it ↦
               let same : record { node = r; live = false } ≡ a = some_is (sym now ∙ sym (ap (get new_ids) it.1) ∙ here) in
-              subst (λ (w : IdEntry). HasNode n q w.node) same (has_still q r (subst (λ k. HasNode m k r) (sym it.1) (is.held e (record { node = r; live = true }) there)))
+              subst (λ (w : IdEntry). HasNode n q w.node) same
+              (has_still q r (subst (λ k. HasNode m k r) (sym it.1) (is.held e (record { node = r; live = true }) there)))
           | inr isnt ↦ has_still q a.node (is.held q a (sym (others q isnt.1) ∙ here))
         ];
     owned = λ b h.
@@ -206,5 +223,6 @@ module _ (s : Shape) (ids : FinMap nat_cmp IdEntry) (m n : Pooled Stored) (xs ys
     is_data = subst (IsData s) (sym erased_seen) (change_is_tables s (Erase e None) d is.is_data (node_in m os r, row_is)).0;
     next_fits = is.next_fits;
     arrivals_fit = is.arrivals_fit;
-    few = let same : len new_ids ≡ len ids = len_marked ids e (record { node = r; live = true }) false there in let f : len ids ≤ 2 ^ 31 = is.few in omega arith;
+    few =
+        let same : len new_ids ≡ len ids = len_marked ids e (record { node = r; live = true }) false there in let f : len ids ≤ 2 ^ 31 = is.few in omega arith;
   }

@@ -1,5 +1,6 @@
 -- Look-ups in the ids of a list of nodes.
-use Rattle.std.proofs.Common.{◌≡◌, ℕ, ◌+◌, ◌≤◌, zero, suc, Bool, true, false, cond, List, [], ◌∷◌, ◌++◌, map, slice_get, length, refl, ap, sym, ◌∙◌, subst, arith}
+use Rattle.std.proofs.Common.{◌≡◌, ℕ, ◌+◌, ◌≤◌, zero, suc, Bool, true, false, cond, List, [], ◌∷◌}
+use Rattle.std.proofs.Common.{◌++◌, map, slice_get, length, refl, ap, sym, ◌∙◌, subst, arith}
 use Rattle.std.specs.Prelude.{◌==◌, IfSome}
 use Rattle.std.specs.List.{AllByRecursion, filter}
 use Rattle.std.specs.Option.{option_map}
@@ -38,7 +39,8 @@ module _ (P : Ref → Type 0) where
 
   pub all_filter : (f : Ref → Bool) (rs : List Ref) → AllByRecursion P rs → AllByRecursion P (filter f rs)
   all_filter f [] all = tt
-  all_filter f (r ∷ rs) all = elim (f r) as (λ b. AllByRecursion P (cond b (r ∷ filter f rs) (filter f rs))) [ true ↦ (all.0, all_filter f rs all.1) | false ↦ all_filter f rs all.1 ]
+  all_filter f (r ∷ rs) all =
+      elim (f r) as (λ b. AllByRecursion P (cond b (r ∷ filter f rs) (filter f rs))) [ true ↦ (all.0, all_filter f rs all.1) | false ↦ all_filter f rs all.1 ]
 
   pub all_before : (xs : List Ref) (ys : List Ref) → AllByRecursion P (xs ++ ys) → AllByRecursion P xs
   all_before [] ys all = tt
@@ -86,15 +88,21 @@ module _ (idf : Ref → ℕ) where
   none_past (r ∷ rs) zero l = absurd (omega arith)
   none_past (r ∷ rs) (suc n) l = none_past rs n (omega arith)
 
-  pub where_ids : (f : Ref → Bool) (p : ℕ → Bool) (rs : List Ref) → AllByRecursion (λ r. f r ≡ p (idf r)) rs → option_map idf (first_where f rs) ≡ slice_get (filter p (map idf rs)) 0
+  pub where_ids : (f : Ref → Bool) (p : ℕ → Bool) (rs : List Ref) → AllByRecursion (λ r. f r ≡ p (idf r)) rs
+      → option_map idf (first_where f rs) ≡ slice_get (filter p (map idf rs)) 0
   where_ids f p [] all = refl
   where_ids f p (r ∷ rs) all =
       ap (λ b. option_map idf (cond b (Some r) (first_where f rs))) all.0
-      ∙ elim (p (idf r)) as (λ b. option_map idf (cond b (Some r) (first_where f rs)) ≡ slice_get (cond b (idf r ∷ filter p (map idf rs)) (filter p (map idf rs))) 0) [ true ↦ refl | false ↦ where_ids f p rs all.1 ]
+      ∙ elim (p (idf r))
+      as (λ b. option_map idf (cond b (Some r) (first_where f rs)) ≡ slice_get (cond b (idf r ∷ filter p (map idf rs)) (filter p (map idf rs))) 0) [
+        | true ↦ refl
+        | false ↦ where_ids f p rs all.1
+      ]
 
   -- a node between others
 
-  pub rank_middle : (e : ℕ) (xs : List Ref) (r : Ref) (ys : List Ref) → (idf r == e) ≡ true → Lacks e (map idf xs) → rank_in (map idf (xs ++ r ∷ ys)) e ≡ length xs
+  pub rank_middle : (e : ℕ) (xs : List Ref) (r : Ref) (ys : List Ref) → (idf r == e) ≡ true
+      → Lacks e (map idf xs) → rank_in (map idf (xs ++ r ∷ ys)) e ≡ length xs
   rank_middle e [] r ys is lacks = rank_first e (idf r) (map idf ys) is
   rank_middle e (x ∷ xs) r ys is lacks =
       let rest : rank_in (map idf (xs ++ r ∷ ys)) e ≡ length xs = rank_middle e xs r ys is lacks.1 in
@@ -105,11 +113,13 @@ module _ (idf : Ref → ℕ) where
   after_got [] r ys = refl
   after_got (x ∷ xs) r ys = after_got xs r ys
 
-  pub after_middle : (e : ℕ) (xs : List Ref) (r : Ref) (ys : List Ref) → (idf r == e) ≡ true → Lacks e (map idf xs) → option_map idf (first_of ys None) ≡ after_in (map idf (xs ++ r ∷ ys)) e
+  pub after_middle : (e : ℕ) (xs : List Ref) (r : Ref) (ys : List Ref) → (idf r == e) ≡ true
+      → Lacks e (map idf xs) → option_map idf (first_of ys None) ≡ after_in (map idf (xs ++ r ∷ ys)) e
   after_middle e xs r ys is lacks =
       let rank : rank_in (map idf (xs ++ r ∷ ys)) e ≡ length xs = rank_middle e xs r ys is lacks in
       let place : rank_in (map idf (xs ++ r ∷ ys)) e + 1 ≡ suc (length xs) = omega arith in
       first_ids ys ∙ sym (ap (slice_get (map idf (xs ++ r ∷ ys))) place ∙ after_got xs r ys)
 
-  pub before_middle : (e : ℕ) (xs : List Ref) (r : Ref) (ys : List Ref) → (idf r == e) ≡ true → Lacks e (map idf xs) → option_map idf (last_of None xs) ≡ before_in (map idf (xs ++ r ∷ ys)) e
+  pub before_middle : (e : ℕ) (xs : List Ref) (r : Ref) (ys : List Ref) → (idf r == e) ≡ true
+      → Lacks e (map idf xs) → option_map idf (last_of None xs) ≡ before_in (map idf (xs ++ r ∷ ys)) e
   before_middle e xs r ys is lacks = sym (ap (before_place (map idf (xs ++ r ∷ ys))) (rank_middle e xs r ys is lacks) ∙ before_got xs (r ∷ ys))

@@ -39,7 +39,8 @@ all_nothing (x ∷ xs) s m (rs ∷ rss) = (tt, all_nothing xs (s + 1) m rss)
 abbrev other : ℕ → Ref
 other k = record { name = k + 1; mark = 0 }
 
-module _ (s : Shape) (ids : FinMap nat_cmp IdEntry) (m n : Pooled Stored) (xs ys : List Structure) (next arrivals : ℕ) (is : IsMulti s ids m xs next arrivals) (like : AllLike xs ys)
+module _ (s : Shape) (ids : FinMap nat_cmp IdEntry) (m n : Pooled Stored) (xs ys : List Structure)
+    (next arrivals : ℕ) (is : IsMulti s ids m xs next arrivals) (like : AllLike xs ys)
     (pass : (r : Ref) → IsPass nothing_asked grown r 0 xs ys m n) where
   abbrev os : List Order
   os = plan s.indexes
@@ -67,14 +68,16 @@ module _ (s : Shape) (ids : FinMap nat_cmp IdEntry) (m n : Pooled Stored) (xs ys
     stamps = λ x has.
         let l : x < length s.indexes = no_stamps_past s.indexes x has in
         let same : 0 + x ≡ x = omega arith in
-        subst (λ w. (link_of n k w).tag.stamp ≡ (link_of m k w).tag.stamp) same (tag_of (0 + x) (get_or os x ById) (at_plan (Turned grown ids m n) turns x l) has k);
+        subst (λ w. (link_of n k w).tag.stamp ≡ (link_of m k w).tag.stamp) same
+        (tag_of (0 + x) (get_or os x ById) (at_plan (Turned grown ids m n) turns x l) has k);
   }
 
   altered : IsAltered os ids m n next
   altered = record {
     says = λ q a ne here. says a.node.name;
     kept = λ q a ne here dead t.
-        (grew a.node.name).keeps.other_nodes a.node.name t (is_other a.node.name (a.node.name + 1) (λ same. let bad : a.node.name ≡ a.node.name + 1 = same in absurd (omega arith)))
+        (grew a.node.name).keeps.other_nodes a.node.name t
+        (is_other a.node.name (a.node.name + 1) (λ same. let bad : a.node.name ≡ a.node.name + 1 = same in absurd (omega arith)))
         (out_of_all ids m q a is.rss here dead (is.held q a here) is.live);
   }
 
@@ -83,11 +86,13 @@ module _ (s : Shape) (ids : FinMap nat_cmp IdEntry) (m n : Pooled Stored) (xs ys
 
   rows_still : picked (live_in n os) (entries ids) ≡ d.rows
   rows_still =
-      picked_still (live_in m os) (live_in n os) ids ids next (λ q ne. refl) (live_alike os ids m n next altered) (ap (option_and_then (live_in n os)) was ∙ sym (ap (option_and_then (live_in m os)) was))
+      picked_still (live_in m os) (live_in n os) ids ids next (λ q ne. refl) (live_alike os ids m n next altered)
+      (ap (option_and_then (live_in n os)) was ∙ sym (ap (option_and_then (live_in m os)) was))
 
   kept_still : picked (kept_in n os) (entries ids) ≡ d.kept
   kept_still =
-      picked_still (kept_in m os) (kept_in n os) ids ids next (λ q ne. refl) (kept_alike os ids m n next altered) (ap (option_and_then (kept_in n os)) was ∙ sym (ap (option_and_then (kept_in m os)) was))
+      picked_still (kept_in m os) (kept_in n os) ids ids next (λ q ne. refl) (kept_alike os ids m n next altered)
+      (ap (option_and_then (kept_in n os)) was ∙ sym (ap (option_and_then (kept_in m os)) was))
 
   orders_same : orders_of s.indexes (own_lists n ys) ≡ d.orders
   orders_same =
@@ -102,7 +107,8 @@ module _ (s : Shape) (ids : FinMap nat_cmp IdEntry) (m n : Pooled Stored) (xs ys
   live_still [] all = tt
   live_still (q ∷ qs) all = (ap (get ids) (ap id_in (changed.keeps.values q.name)) ∙ all.0, live_still qs all.1)
 
-  all_live : {k : ℕ} {js : List Index} {as_ bs : List Structure} {rss uss : List (List Ref)} → Every (Turned grown ids m n) k js as_ bs rss uss → AllByRecursion (AreLive ids n) uss
+  all_live : {k : ℕ} {js : List Index} {as_ bs : List Structure} {rss uss : List (List Ref)}
+      → Every (Turned grown ids m n) k js as_ bs rss uss → AllByRecursion (AreLive ids n) uss
   all_live none = tt
   all_live (one {rs = rs} {us = us} t rest) = (
     record {
@@ -119,7 +125,8 @@ module _ (s : Shape) (ids : FinMap nat_cmp IdEntry) (m n : Pooled Stored) (xs ys
     stand = changed.stand;
     kinds = all_for s.indexes xs ys like is.kinds;
     live = all_live turns;
-    held = λ q a here. (let h : HasNode m q a.node = is.held q a here in record { value = h.value; is = changed.keeps.values a.node.name ∙ h.is; id = h.id; held = changed.keeps.refs a.node.name ∙ h.held });
+    held = λ q a here. (let h : HasNode m q a.node = is.held q a here in
+        record { value = h.value; is = changed.keeps.values a.node.name ∙ h.is; id = h.id; held = changed.keeps.refs a.node.name ∙ h.held });
     owned = λ a h. is.owned a (sym (changed.keeps.refs a.name) ∙ h);
     is_data = subst (IsData s) (sym grown_seen) is.is_data;
     next_fits = is.next_fits;

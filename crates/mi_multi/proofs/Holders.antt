@@ -31,7 +31,7 @@ use Rattle.mi_index.specs.declared.stored.Stored.{Stored}
 use Rattle.mi_index.specs.declared.structure.Structure.{Structure}
 use Rattle.mi_index.specs.declared.structure.Structure.TheVariants.{Ordered, Hashed, Sequenced}
 use Rattle.mi_index.specs.Looks as nodes
-use Rattle.mi_index.specs.Orders.{place_in, is_key as is_key_of}
+use Rattle.mi_index.specs.Orders.{place_in, is_key_of}
 use Rattle.mi_index.specs.Standing.{Stands}
 use Rattle.mi_container.specs.Data.{IsData, table_of}
 use Rattle.mi_ids.specs.declared.entry.IdEntry.{IdEntry}
@@ -56,29 +56,34 @@ unique_kept columns kind.Hashed u [] h one = absurd (cc)
 unique_kept columns kind.Hashed u (p ∷ ps) h one = (refl, λ same. absurd (cc))
 unique_kept columns kind.Sequenced u ps h one = absurd (false≢true (sym (ap not one) ∙ (and_parts (not u) _ h).0))
 
-declared_kept : (columns : ℕ) (is : List Index) (k : ℕ) (none : Index) → k < length is → list_all (is_declared_index columns) is ≡ true → (get_or is k none).«unique» ≡ true
+declared_kept : (columns : ℕ) (is : List Index) (k : ℕ) (none : Index) → k < length is
+    → list_all (is_declared_index columns) is ≡ true → (get_or is k none).«unique» ≡ true
     → (has_keys (get_or is k none).kind ≡ true) × ((get_or is k none).parts ≢ [])
 declared_kept columns [] k none l h one = absurd (omega arith)
 declared_kept columns (i ∷ is) zero none l h one = unique_kept columns i.kind i.«unique» i.parts (and_parts _ _ (and_parts _ _ h).0).1 one
 declared_kept columns (i ∷ is) (suc k) none l h one = declared_kept columns is k none (omega arith) (and_parts _ _ h).1 one
 
-unique_keyed : (columns : ℕ) (is : List Index) (k : ℕ) (none : Index) → 0 < k → k < length is → are_indexes columns is ≡ true → (get_or is k none).«unique» ≡ true
+unique_keyed : (columns : ℕ) (is : List Index) (k : ℕ) (none : Index) → 0 < k → k < length is
+    → are_indexes columns is ≡ true → (get_or is k none).«unique» ≡ true
     → (has_keys (get_or is k none).kind ≡ true) × ((get_or is k none).parts ≢ [])
 unique_keyed columns [] k none p l h one = absurd (omega arith)
 unique_keyed columns (i ∷ is) zero none p l h one = absurd (omega arith)
 unique_keyed columns (i ∷ is) (suc k) none p l h one = declared_kept columns is k none (omega arith) (and_parts _ _ (and_parts _ _ (and_parts _ _ h).0).0).1 one
 
-pub schema_keyed : (s : Shape) (x : ℕ) → IsTrue (is_schema s) → 0 < x → x < length s.indexes → (index_at s x).«unique» ≡ true → (has_keys (index_at s x).kind ≡ true) × ((index_at s x).parts ≢ [])
+schema_keyed : (s : Shape) (x : ℕ) → IsTrue (is_schema s) → 0 < x → x < length s.indexes
+    → (index_at s x).«unique» ≡ true → (has_keys (index_at s x).kind ≡ true) × ((index_at s x).parts ≢ [])
 schema_keyed s x rules p l one = unique_keyed (length s.columns) s.indexes x _ p l (and_parts _ _ (and_parts _ _ rules).0).1 one
 
-module _ (s : Shape) (ids : FinMap nat_cmp IdEntry) (m : Pooled Stored) (xs : List Structure) (next arrivals : ℕ) (is : IsMulti s ids m xs next arrivals) (x : ℕ) (y : Structure) (n : Numbered s ids m xs x y) (k : Bor (List Value)) where
+module _ (s : Shape) (ids : FinMap nat_cmp IdEntry) (m : Pooled Stored) (xs : List Structure) (next arrivals : ℕ)
+    (is : IsMulti s ids m xs next arrivals) (x : ℕ) (y : Structure) (n : Numbered s ids m xs x y) (k : Bor (List Value)) where
   abbrev t : Table
   t = table_of (plain_of s ids m xs next arrivals)
 
   abbrev i : Index
   i = index_at s x
 
-  sought_is : (w : Structure) → IsFor i w → has_keys i.kind ≡ true → (q : Ref) → IsLiveRef ids m q → nodes.has_sought w m (Of k) q ≡ has_key_of i.parts t k.now (id_at m q)
+  sought_is : (w : Structure) → IsFor i w → has_keys i.kind ≡ true → (q : Ref) → IsLiveRef ids m q
+      → nodes.has_sought w m (Of k) q ≡ has_key_of i.parts t k.now (id_at m q)
   unfolding is_node_at has_key
   sought_is (Ordered u) f keyed q live =
       let has = node_of_row s ids m xs next arrivals is x y n q live in
@@ -92,22 +97,27 @@ module _ (s : Shape) (ids : FinMap nat_cmp IdEntry) (m : Pooled Stored) (xs : Li
       ∙ ap (λ (w : Row). is_eq (compare_key i.parts w.1 k.now)) (sym (row_at s ids m xs next arrivals is q has.value live has has.is))
   sought_is (Sequenced l) f keyed q live = absurd (no_keys i.kind keyed f)
 
-  holder_seen : 0 < x → i.«unique» ≡ true → has_keys i.kind ≡ true → i.parts ≢ [] → option_map (id_at m) (first_where (nodes.has_sought y m (Of k)) n.stood.rs) ≡ rival t.rows i.parts k.now None
+  holder_seen : 0 < x → i.«unique» ≡ true → has_keys i.kind ≡ true → i.parts ≢ []
+      → option_map (id_at m) (first_where (nodes.has_sought y m (Of k)) n.stood.rs) ≡ rival t.rows i.parts k.now None
   holder_seen p one keyed some =
       where_ids (id_at m) (nodes.has_sought y m (Of k)) (has_key_of i.parts t k.now) n.stood.rs
-      (each_of s ids m xs next arrivals is x y n (λ q. nodes.has_sought y m (Of k) q ≡ has_key_of i.parts t k.now (id_at m q)) (λ q live. sought_is y n.stood.for_ keyed q live) n.stood.rs n.stood.live.rows)
+      (each_of s ids m xs next arrivals is x y n (λ q. nodes.has_sought y m (Of k) q ≡ has_key_of i.parts t k.now (id_at m q))
+      (λ q live. sought_is y n.stood.for_ keyed q live) n.stood.rs n.stood.live.rows)
       ∙ ap (λ l. slice_get (filter (has_key_of i.parts t k.now) l) 0) (shows s ids m xs next arrivals is x y n)
       ∙ rival_is_first s t x k.now is.is_data.table is.is_data.unique_keys p one some (view s t x) (each_in_view s t x is.is_data.table n.few)
 
 module _ (i : Inside) (is : AreMulti i) (w : Seen) (seen : seen_of i ≡ w) (x : ℕ) (p : 0 < x) (l : x < length w.shape.indexes) where
   pub unique_reaches : x < length i.nodes.structures.items
-  unique_reaches = reaches i.schema i.ids.entries i.nodes.pool i.nodes.structures.items i.next i.arrivals is x (subst (λ (v : Seen). x < length v.shape.indexes) (sym seen) l)
+  unique_reaches = reaches i.schema i.ids.entries i.nodes.pool i.nodes.structures.items i.next
+      i.arrivals is x (subst (λ (v : Seen). x < length v.shape.indexes) (sym seen) l)
 
-  pub holder_is : (y : Structure) (at : slice_get i.nodes.structures.items x ≡ Some y) (k : Bor (List Value)) (o : Option Ref) → IsTrue (is_schema i.schema) → (index_at w.shape x).«unique» ≡ true
+  pub holder_is : (y : Structure) (at : slice_get i.nodes.structures.items x ≡ Some y) (k : Bor (List Value)) (o : Option Ref)
+      → IsTrue (is_schema i.schema) → (index_at w.shape x).«unique» ≡ true
       → ((qs : List Ref) → Stands y i.nodes.pool qs → o ≡ first_where (nodes.has_sought y i.nodes.pool (Of k)) qs)
       → option_map (id_at i.nodes.pool) o ≡ rival (table_of w.plain).rows (index_at w.shape x).parts k.now None
   holder_is y at k o rules one h =
-      let n : Numbered i.schema i.ids.entries i.nodes.pool i.nodes.structures.items x y = numbered i.schema i.ids.entries i.nodes.pool i.nodes.structures.items i.next i.arrivals is x y at in
+      let n : Numbered i.schema i.ids.entries i.nodes.pool i.nodes.structures.items x y = numbered
+      i.schema i.ids.entries i.nodes.pool i.nodes.structures.items i.next i.arrivals is x y at in
       let mine : (index_at i.schema x).«unique» ≡ true = subst (λ (v : Seen). (index_at v.shape x).«unique» ≡ true) (sym seen) one in
       let keyed = schema_keyed i.schema x rules p n.few mine in
       ap (option_map (id_at i.nodes.pool)) (h n.stood.rs n.stood.stands)
@@ -122,13 +132,17 @@ module _ (i : Inside) (is : AreMulti i) (w : Seen) (seen : seen_of i ≡ w) (x :
 
     some : (index_at w.shape x).parts ≢ []
     some = subst (λ (v : Seen). (index_at v.shape x).parts ≢ []) seen
-        (schema_keyed i.schema x rules p (subst (λ (v : Seen). x < length v.shape.indexes) (sym seen) l) (subst (λ (v : Seen). (index_at v.shape x).«unique» ≡ true) (sym seen) one)).1
+        (schema_keyed i.schema x rules p (subst (λ (v : Seen). x < length v.shape.indexes) (sym seen) l)
+        (subst (λ (v : Seen). (index_at v.shape x).«unique» ≡ true) (sym seen) one)).1
 
-    pub none_is : (except : Option ℕ) → rival (table_of w.plain).rows (index_at w.shape x).parts r None ≡ None → rival (table_of w.plain).rows (index_at w.shape x).parts r except ≡ None
+    pub none_is : (except : Option ℕ) → rival (table_of w.plain).rows (index_at w.shape x).parts r None ≡ None
+        → rival (table_of w.plain).rows (index_at w.shape x).parts r except ≡ None
     none_is = no_rival w.shape (table_of w.plain) x r data_is.table data_is.unique_keys p one some
 
-    pub own_is_none : (own : ℕ) → rival (table_of w.plain).rows (index_at w.shape x).parts r None ≡ Some own → rival (table_of w.plain).rows (index_at w.shape x).parts r (Some own) ≡ None
+    pub own_is_none : (own : ℕ) → rival (table_of w.plain).rows (index_at w.shape x).parts r None ≡ Some own
+        → rival (table_of w.plain).rows (index_at w.shape x).parts r (Some own) ≡ None
     own_is_none = own_row w.shape (table_of w.plain) x r data_is.table data_is.unique_keys p one some
 
-    pub other_is : (own e : ℕ) → own ≢ e → rival (table_of w.plain).rows (index_at w.shape x).parts r None ≡ Some e → rival (table_of w.plain).rows (index_at w.shape x).parts r (Some own) ≡ Some e
+    pub other_is : (own e : ℕ) → own ≢ e → rival (table_of w.plain).rows (index_at w.shape x).parts r None ≡ Some e
+        → rival (table_of w.plain).rows (index_at w.shape x).parts r (Some own) ≡ Some e
     other_is = other_row w.shape (table_of w.plain) x r data_is.table data_is.unique_keys p one some

@@ -20,7 +20,8 @@ use Rattle.mi_container.proofs.Pairs.{is_other}
 
 above : (a next : ℕ) (rows : List Row) → AllByRecursion (λ q. a < q.0) rows → Rise next rows → a < next → length rows + a < next
 above a next [] all up l = omega (arith, l)
-above a next (r ∷ rows) all up l = let rest : length rows + r.0 < next = above r.0 next rows up.1 up.2 up.0 in let first : a < r.0 = all.0 in omega (arith, rest, first)
+above a next (r ∷ rows) all up l =
+    let rest : length rows + r.0 < next = above r.0 next rows up.1 up.2 up.0 in let first : a < r.0 = all.0 in omega (arith, rest, first)
 
 -- there are no more rows than ids were given
 rows_short : (next : ℕ) (rows : List Row) → Rise next rows → length rows ≤ next
@@ -41,7 +42,8 @@ key_short s t x key is l =
 pub whole_is_prefix : (cs : List Column) (ps : List KeyPart) (key : List Value) → IsTrue (fits_key cs ps true key) → IsTrue (fits_key cs ps false key)
 whole_is_prefix cs [] key h = h
 whole_is_prefix cs (p ∷ ps) [] h = let same : 0 ≡ length (p ∷ ps) = eqb-true 0 (length (p ∷ ps)) (and_parts _ _ h).0 in absurd (omega (arith, same))
-whole_is_prefix cs (p ∷ ps) (v ∷ vs) h = ap (λ b. not b && fits_parts cs (p ∷ ps) (v ∷ vs)) (is_other (length (v ∷ vs)) 0 (λ same. absurd (omega (arith, same)))) ∙ (and_parts _ _ h).1
+whole_is_prefix cs (p ∷ ps) (v ∷ vs) h =
+    ap (λ b. not b && fits_parts cs (p ∷ ps) (v ∷ vs)) (is_other (length (v ∷ vs)) 0 (λ same. absurd (omega (arith, same)))) ∙ (and_parts _ _ h).1
 
 -- an index with keys that isn't hashed is sorted
 pub keyed_sorted : (k : IndexKind) → has_keys k ≡ true → is_hashed k ≡ false → is_sorted k ≡ true

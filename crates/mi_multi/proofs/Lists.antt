@@ -10,7 +10,7 @@ use Rattle.mi_model.specs.Change.{stand_before, stand, without}
 use Rattle.mi_model.proofs.ViewLaws.{Lacks}
 use Rattle.mi_node.specs.Refs.{Ref, first_of, last_of}
 use Rattle.mi_container.specs.Data.{Node, node_of}
-use Rattle.mi_container.specs.Changes.{ref_of, head_of, next_in, prev_in, link_of}
+use Rattle.mi_container.specs.Changes.{ref_of, head_of, next_in, prev_in, link_of_id}
 use Rattle.mi_container.specs.Fits.{last_or}
 use Rattle.mi_container.proofs.Pairs.{is_itself, is_other}
 use Rattle.mi_container.proofs.Sequences.{drop_is, drop_isnt, without_lacks}
@@ -26,37 +26,44 @@ module _ (idf : Ref → ℕ) where
       turned a b n = omega arith
 
   -- the list without a node
-  pub without_middle : (e : ℕ) (xs : List Ref) (r : Ref) (ys : List Ref) → (idf r == e) ≡ true → Lacks e (map idf (xs ++ ys)) → without e (map idf (xs ++ r ∷ ys)) ≡ map idf (xs ++ ys)
+  pub without_middle : (e : ℕ) (xs : List Ref) (r : Ref) (ys : List Ref) → (idf r == e) ≡ true
+      → Lacks e (map idf (xs ++ ys)) → without e (map idf (xs ++ r ∷ ys)) ≡ map idf (xs ++ ys)
   without_middle e [] r ys is lacks = drop_is e (idf r) (map idf ys) is ∙ without_lacks e (map idf ys) lacks
-  without_middle e (x ∷ xs) r ys is lacks = drop_isnt e (idf x) (map idf (xs ++ r ∷ ys)) (is_other (idf x) e lacks.0) ∙ ap (λ q. idf x ∷ q) (without_middle e xs r ys is lacks.1)
+  without_middle e (x ∷ xs) r ys is lacks = drop_isnt e (idf x) (map idf (xs ++ r ∷ ys)) (is_other (idf x) e lacks.0)
+      ∙ ap (λ q. idf x ∷ q) (without_middle e xs r ys is lacks.1)
 
   -- and with one at its end, or before another node
-  pub stand_last : (xs : List Ref) (r : Ref) → stand None (idf r) (map idf (xs ++ [])) ≡ map idf (xs ++ r ∷ [])
+  stand_last : (xs : List Ref) (r : Ref) → stand None (idf r) (map idf (xs ++ [])) ≡ map idf (xs ++ r ∷ [])
   stand_last [] r = refl
   stand_last (x ∷ xs) r = ap (λ q. idf x ∷ q) (stand_last xs r)
 
-  pub stand_middle : (xs : List Ref) (r y : Ref) (ys : List Ref) → Lacks (idf y) (map idf xs) → stand_before (idf y) (idf r) (map idf (xs ++ y ∷ ys)) ≡ map idf (xs ++ r ∷ y ∷ ys)
+  stand_middle : (xs : List Ref) (r y : Ref) (ys : List Ref) → Lacks (idf y) (map idf xs)
+      → stand_before (idf y) (idf r) (map idf (xs ++ y ∷ ys)) ≡ map idf (xs ++ r ∷ y ∷ ys)
   stand_middle [] r y ys lacks = ap (λ b. cond b (idf r ∷ idf y ∷ map idf ys) (idf y ∷ stand_before (idf y) (idf r) (map idf ys))) (is_itself (idf y))
   stand_middle (x ∷ xs) r y ys lacks =
-      ap (λ b. cond b (idf r ∷ idf x ∷ map idf (xs ++ y ∷ ys)) (idf x ∷ stand_before (idf y) (idf r) (map idf (xs ++ y ∷ ys)))) (is_other (idf x) (idf y) lacks.0)
+      ap (λ b. cond b (idf r ∷ idf x ∷ map idf (xs ++ y ∷ ys)) (idf x ∷ stand_before (idf y) (idf r) (map idf (xs ++ y ∷ ys))))
+      (is_other (idf x) (idf y) lacks.0)
       ∙ ap (λ q. idf x ∷ q) (stand_middle xs r y ys lacks.1)
 
   abbrev pub LacksIf : Option Ref → List Ref → Type 0
   LacksIf None xs = Unit {0}
   LacksIf (Some y) xs = Lacks (idf y) (map idf xs)
 
-  pub stand_there : (xs : List Ref) (r : Ref) (ys : List Ref) → LacksIf (first_of ys None) xs → stand (option_map idf (first_of ys None)) (idf r) (map idf (xs ++ ys)) ≡ map idf (xs ++ r ∷ ys)
+  pub stand_there : (xs : List Ref) (r : Ref) (ys : List Ref) → LacksIf (first_of ys None) xs
+      → stand (option_map idf (first_of ys None)) (idf r) (map idf (xs ++ ys)) ≡ map idf (xs ++ r ∷ ys)
   stand_there xs r [] lacks = stand_last xs r
   stand_there xs r (y ∷ ys) lacks = stand_middle xs r y ys lacks
 
   -- Neighbours
 
-  pub prev_middle : (p : Option ℕ) (e : ℕ) (xs : List Ref) (r : Ref) (ys : List Ref) → (idf r == e) ≡ true → Lacks e (map idf xs) → prev_in p e (map idf (xs ++ r ∷ ys)) ≡ last_or p (map idf xs)
+  prev_middle : (p : Option ℕ) (e : ℕ) (xs : List Ref) (r : Ref) (ys : List Ref) → (idf r == e) ≡ true
+      → Lacks e (map idf xs) → prev_in p e (map idf (xs ++ r ∷ ys)) ≡ last_or p (map idf xs)
   prev_middle p e [] r ys is lacks = ap (λ t. cond t p (prev_in (Some (idf r)) e (map idf ys))) is
   prev_middle p e (x ∷ xs) r ys is lacks =
       ap (λ t. cond t p (prev_in (Some (idf x)) e (map idf (xs ++ r ∷ ys)))) (is_other (idf x) e lacks.0) ∙ prev_middle (Some (idf x)) e xs r ys is lacks.1
 
-  pub next_middle : (e : ℕ) (xs : List Ref) (r : Ref) (ys : List Ref) → (idf r == e) ≡ true → Lacks e (map idf xs) → next_in e (map idf (xs ++ r ∷ ys)) ≡ head_of (map idf ys)
+  pub next_middle : (e : ℕ) (xs : List Ref) (r : Ref) (ys : List Ref) → (idf r == e) ≡ true
+      → Lacks e (map idf xs) → next_in e (map idf (xs ++ r ∷ ys)) ≡ head_of (map idf ys)
   next_middle e [] r ys is lacks = ap (λ t. cond t (head_of (map idf ys)) (next_in e (map idf ys))) is
   next_middle e (x ∷ xs) r ys is lacks =
       ap (λ t. cond t (head_of (map idf (xs ++ r ∷ ys))) (next_in e (map idf (xs ++ r ∷ ys)))) (is_other (idf x) e lacks.0) ∙ next_middle e xs r ys is lacks.1
@@ -94,8 +101,9 @@ module _ (idf : Ref → ℕ) where
     ref_back (Some q) is = ap (option_map (λ (n : Node). n.at)) is.1 ∙ ap Some is.2
 
     -- the neighbours of a node in the list are those that it stands between
-    pub link_middle : (e : ℕ) (xs : List Ref) (r : Ref) (ys : List Ref) → (idf r == e) ≡ true → Lacks e (map idf xs) → AllByRecursion IsRow xs → AllByRecursion IsRow ys
-        → link_of rows e (map idf (xs ++ r ∷ ys)) ≡ record { back = last_of None xs; forth = first_of ys None }
+    pub link_middle : (e : ℕ) (xs : List Ref) (r : Ref) (ys : List Ref) → (idf r == e) ≡ true
+        → Lacks e (map idf xs) → AllByRecursion IsRow xs → AllByRecursion IsRow ys
+        → link_of_id rows e (map idf (xs ++ r ∷ ys)) ≡ record { back = last_of None xs; forth = first_of ys None }
     link_middle e xs r ys is lacks before behind =
         let back : ref_of rows (prev_in None e (map idf (xs ++ r ∷ ys))) ≡ last_of None xs =
         ap (ref_of rows) (prev_middle None e xs r ys is lacks ∙ last_ids None xs) ∙ ref_back (last_of None xs) (last_row xs before) in
@@ -117,7 +125,8 @@ module _ (idf : Ref → ℕ) where
   pub filter_ids : (p : ℕ → Bool) (rs : List Ref) → filter p (map idf rs) ≡ map idf (filter (λ q. p (idf q)) rs)
   filter_ids p [] = refl
   filter_ids p (r ∷ rs) =
-      elim (p (idf r)) as (λ b. cond b (idf r ∷ filter p (map idf rs)) (filter p (map idf rs)) ≡ map idf (cond b (r ∷ filter (λ q. p (idf q)) rs) (filter (λ q. p (idf q)) rs))) [
+      elim (p (idf r)) as (λ b. cond b (idf r ∷ filter p (map idf rs)) (filter p (map idf rs))
+      ≡ map idf (cond b (r ∷ filter (λ q. p (idf q)) rs) (filter (λ q. p (idf q)) rs))) [
         | true ↦ ap (λ q. idf r ∷ q) (filter_ids p rs)
         | false ↦ filter_ids p rs
       ]

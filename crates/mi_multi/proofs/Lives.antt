@@ -14,7 +14,7 @@ use Rattle.mi_model.proofs.ViewLaws.{Lacks}
 use Rattle.mi_node.specs.Pool.{Pooled, value_of}
 use Rattle.mi_node.specs.Refs.{Ref, IsOut}
 use Rattle.mi_index.specs.declared.stored.Stored.{Stored}
-use Rattle.mi_index.specs.Places.{HasNode as Holds}
+use Rattle.mi_index.specs.Places.{IsOneOf as Holds}
 use Rattle.mi_index.specs.Pass.{IsOutOfAll}
 use Rattle.mi_container.specs.Data.{Order, node_of}
 use Rattle.mi_container.proofs.Pairs.{is_other, some_is}
@@ -31,7 +31,8 @@ abbrev entry : Ref → Bool → IdEntry
 entry r b = record { node = r; live = b }
 
 -- an entry that says live or not
-pub with_live_is : (ids : FinMap nat_cmp IdEntry) (e : ℕ) (a : IdEntry) (b : Bool) → get ids e ≡ Some a → with_live ids e b ≡ insert ids e (record { node = a.node; live = b })
+with_live_is : (ids : FinMap nat_cmp IdEntry) (e : ℕ) (a : IdEntry) (b : Bool)
+    → get ids e ≡ Some a → with_live ids e b ≡ insert ids e (record { node = a.node; live = b })
 unfolding with_live
 with_live_is ids e a b is = ap (marked ids e b) is
 
@@ -44,7 +45,8 @@ module _ (ids : FinMap nat_cmp IdEntry) (e : ℕ) (a : IdEntry) (b : Bool) (is :
 
 pub len_marked : (ids : FinMap nat_cmp IdEntry) (e : ℕ) (a : IdEntry) (b : Bool) → get ids e ≡ Some a → len (with_live ids e b) ≡ len ids
 len_marked ids e a b is =
-    ap len (with_live_is ids e a b is) ∙ len-insert nat_cmp_total ids e (record { node = a.node; live = b }) ∙ ap (λ o. cond (is_some o) (len ids) (len ids + 1)) is
+    ap len (with_live_is ids e a b is) ∙ len-insert nat_cmp_total ids e (record { node = a.node; live = b })
+    ∙ ap (λ o. cond (is_some o) (len ids) (len ids + 1)) is
 
 entry_is : (ids : FinMap nat_cmp IdEntry) (e : ℕ) (a b : IdEntry) → get ids e ≡ Some a → get ids e ≡ Some b → a ≡ b
 entry_is ids e a b g h = some_is (sym g ∙ h)
@@ -67,7 +69,8 @@ module _ (ids : FinMap nat_cmp IdEntry) (m : Pooled Stored) where
       let both : Some (entry q true) ≡ Some (entry r true) = sym live ∙ ap (get ids) is ∙ there in ap (λ (a : IdEntry). a.node) (some_is both)
 
   -- the node of a live id stands in the list
-  pub found : (e : ℕ) (r : Ref) (rs : List Ref) → get ids e ≡ Some (record { node = r; live = true }) → AllByRecursion IsLiveRef rs → 0 < times e (ids_at m rs) → Holds r rs
+  pub found : (e : ℕ) (r : Ref) (rs : List Ref) → get ids e ≡ Some (record { node = r; live = true })
+      → AllByRecursion IsLiveRef rs → 0 < times e (ids_at m rs) → Holds r rs
   found e r [] there all some = absurd (omega arith)
   found e r (q ∷ qs) there all some =
       elim (eqb_tells (id_at m q) e) [
@@ -79,21 +82,25 @@ module _ (ids : FinMap nat_cmp IdEntry) (m : Pooled Stored) where
       ]
 
   pub holds : (e : ℕ) (r : Ref) (rs : List Ref) → get ids e ≡ Some (record { node = r; live = true }) → AreLive ids m rs → Holds r rs
-  holds e r rs there live = found e r rs there live.rows (let one : times e (ids_at m rs) ≡ 1 = live.each e ∙ ap (λ o. cond {A = ℕ} (is_live o) 1 0) there in omega arith)
+  holds e r rs there live = found e r rs there live.rows
+      (let one : times e (ids_at m rs) ≡ 1 = live.each e ∙ ap (λ o. cond {A = ℕ} (is_live o) 1 0) there in omega arith)
 
   -- of a list with it between xs and ys, those have other ids
-  pub lacks_middle : (e : ℕ) (r : Ref) (xs ys : List Ref) → id_at m r ≡ e → get ids e ≡ Some (record { node = r; live = true }) → AreLive ids m (xs ++ r ∷ ys) → Lacks e (ids_at m (xs ++ ys))
+  pub lacks_middle : (e : ℕ) (r : Ref) (xs ys : List Ref) → id_at m r ≡ e
+      → get ids e ≡ Some (record { node = r; live = true }) → AreLive ids m (xs ++ r ∷ ys) → Lacks e (ids_at m (xs ++ ys))
   lacks_middle e r xs ys is there live =
       lacks_of_times e (ids_at m (xs ++ ys))
       (let one : times e (ids_at m (xs ++ r ∷ ys)) ≡ 1 = live.each e ∙ ap (λ o. cond {A = ℕ} (is_live o) 1 0) there in
       let here : cond {A = ℕ} (id_at m r == e) 1 0 ≡ 1 = ap (λ b. cond {A = ℕ} b 1 0) (itself is) in
-      let parts : times e (ids_at m (xs ++ r ∷ ys)) ≡ cond (id_at m r == e) 1 0 + times e (ids_at m (xs ++ ys)) = times_middle (id_at m) e xs r ys in omega arith)
+      let parts : times e (ids_at m (xs ++ r ∷ ys)) ≡ cond (id_at m r == e) 1 0 + times e (ids_at m (xs ++ ys)) = times_middle (id_at m) e xs r ys in
+      omega arith)
     where
       itself : {a b : ℕ} → a ≡ b → (a == b) ≡ true
       itself {a} {b} same = elim (eqb_tells a b) [ inl is ↦ is.0 | inr isnt ↦ absurd (isnt.1 same) ]
 
   -- a node that is only kept stands in no list
-  pub out_of : (e : ℕ) (a : IdEntry) (rs : List Ref) → get ids e ≡ Some a → a.live ≡ false → HasNode m e a.node → AllByRecursion IsLiveRef rs → IsOut a.node.name rs
+  pub out_of : (e : ℕ) (a : IdEntry) (rs : List Ref) → get ids e ≡ Some a → a.live ≡ false
+      → HasNode m e a.node → AllByRecursion IsLiveRef rs → IsOut a.node.name rs
   out_of e a [] there dead has all = tt
   out_of e a (q ∷ qs) there dead has all = (
     is_other a.node.name q.name (λ same.
@@ -103,7 +110,8 @@ module _ (ids : FinMap nat_cmp IdEntry) (m : Pooled Stored) where
     out_of e a qs there dead has all.1,
   )
 
-  pub out_of_all : (e : ℕ) (a : IdEntry) (rss : List (List Ref)) → get ids e ≡ Some a → a.live ≡ false → HasNode m e a.node → AllByRecursion (AreLive ids m) rss → IsOutOfAll a.node.name rss
+  pub out_of_all : (e : ℕ) (a : IdEntry) (rss : List (List Ref)) → get ids e ≡ Some a → a.live ≡ false
+      → HasNode m e a.node → AllByRecursion (AreLive ids m) rss → IsOutOfAll a.node.name rss
   out_of_all e a [] there dead has all = tt
   out_of_all e a (rs ∷ rss) there dead has all = (out_of e a rs there dead has all.0.rows, out_of_all e a rss there dead has all.1)
 
@@ -111,7 +119,7 @@ module _ (ids : FinMap nat_cmp IdEntry) (m : Pooled Stored) where
   pub node_live : (os : List Order) (r : Ref) → IsLiveRef r → node_of (picked (live_in m os) (entries ids)) (id_at m r) ≡ Some (node_in m os r)
   node_live os r live = get_picked (live_in m os) ids (id_at m r) ∙ ap (option_and_then (live_in m os)) live
 
-  pub row_of : (os : List Order) (r : Ref) → IsLiveRef r → IsRow (id_at m) (picked (live_in m os) (entries ids)) r
+  row_of : (os : List Order) (r : Ref) → IsLiveRef r → IsRow (id_at m) (picked (live_in m os) (entries ids)) r
   row_of os r live = (node_in m os r, node_live os r live, refl)
 
   pub rows_of : (os : List Order) (rs : List Ref) → AllByRecursion IsLiveRef rs → AllByRecursion (IsRow (id_at m) (picked (live_in m os) (entries ids))) rs

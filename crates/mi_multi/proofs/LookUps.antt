@@ -4,7 +4,7 @@ use Rattle.std.specs.Prelude.{◌==◌, IsTrue}
 use Rattle.std.specs.List.{AllByRecursion}
 use Rattle.std.specs.Option.{option_map}
 use Rattle.std.specs.Ordering.{nat_cmp}
-use Rattle.std.specs.FinMap.{FinMap, get}
+use Rattle.std.specs.FinMap.{FinMap}
 use Rattle.std.proofs.lemmas.Bool.{false≢true}
 use Rattle.std.specs.declared.option.Option.TheVariants.{None, Some}
 use Rattle.mi_catalog.specs.declared.index.IndexKind.{IndexKind}
@@ -67,7 +67,8 @@ pub record Among (ids : FinMap nat_cmp IdEntry) (m : Pooled Stored) (y : Structu
   pub here : (id_at m r == e) ≡ true
   pub id : id_at m r ≡ e
 
-module _ (s : Shape) (ids : FinMap nat_cmp IdEntry) (m : Pooled Stored) (xs : List Structure) (next arrivals : ℕ) (is : IsMulti s ids m xs next arrivals) (x : ℕ) (y : Structure) (n : Numbered s ids m xs x y) where
+module _ (s : Shape) (ids : FinMap nat_cmp IdEntry) (m : Pooled Stored) (xs : List Structure) (next arrivals : ℕ)
+    (is : IsMulti s ids m xs next arrivals) (x : ℕ) (y : Structure) (n : Numbered s ids m xs x y) where
   abbrev t : Table
   t = table_of (plain_of s ids m xs next arrivals)
 
@@ -121,7 +122,8 @@ module _ (s : Shape) (ids : FinMap nat_cmp IdEntry) (m : Pooled Stored) (xs : Li
           ys = h.ys;
           parts = h.parts;
           stands = subst (Stands y m) h.parts n.stood.stands;
-          lacks = lacks_left e (ids_at m h.xs) (ids_at m h.ys) (subst (Lacks e) (ids_append (id_at m) h.xs h.ys) (lacks_middle ids m e r h.xs h.ys id entry parted));
+          lacks = lacks_left e (ids_at m h.xs) (ids_at m h.ys)
+              (subst (Lacks e) (ids_append (id_at m) h.xs h.ys) (lacks_middle ids m e r h.xs h.ys id entry parted));
           here = subst (λ k. (k == e) ≡ true) (sym id) (count_itself e);
           id = id;
         }

@@ -1,5 +1,6 @@
 -- A row moves in one sequenced index: what the pool and the structures say then are the data with it there, and all stands.
-use Rattle.std.proofs.Common.{◌≡◌, ◌≢◌, ℕ, ◌+◌, ◌<◌, ◌≤◌, Bool, true, false, cond, inl, inr, List, [], ◌∷◌, ◌++◌, map, get_or, set, length, refl, ap, sym, ◌∙◌, subst, arith}
+use Rattle.std.proofs.Common.{◌≡◌, ◌≢◌, ℕ, ◌+◌, ◌<◌, ◌≤◌, Bool, true, false, cond, inl, inr, List, []}
+use Rattle.std.proofs.Common.{◌∷◌, ◌++◌, map, get_or, set, length, refl, ap, sym, ◌∙◌, subst, arith}
 use Rattle.std.specs.Prelude.{◌==◌}
 use Rattle.std.specs.List.{AllByRecursion}
 use Rattle.std.specs.Option.{option_map, option_and_then}
@@ -45,7 +46,8 @@ use Rattle.mi_multi.proofs.Rows.{picked_still}
 use Rattle.mi_multi.proofs.Lists.{LacksIf, stand_there, times_middle, without_middle}
 use Rattle.mi_multi.proofs.Says.{node_same, live_alike, kept_alike}
 use Rattle.mi_multi.proofs.OrdersBy.{orders_set}
-use Rattle.mi_multi.proofs.Every.{Turned, Every, At, at, every, at_plan, all_for, seq_by, has_plan, no_stamps_past, sorted_not_sequenced, hashed_not_sequenced, one, none}
+use Rattle.mi_multi.proofs.Every.{Turned, Every, At, at, every, at_plan, all_for, seq_by, has_plan}
+use Rattle.mi_multi.proofs.Every.{no_stamps_past, sorted_not_sequenced, hashed_not_sequenced, one, none}
 use Rattle.mi_multi.proofs.Lives.{IsLiveRef, found, holds, id_of, lacks_middle, names_apart, out_of_all, ids_same, all_left, all_right, all_append}
 use Rattle.mi_multi.proofs.Beside.{ids_append}
 use Rattle.mi_multi.proofs.Returning.{Now, standing}
@@ -89,8 +91,10 @@ IsOtherNode ids e None (Some f) = ⊥
 IsOtherNode ids e (Some q) None = ⊥
 IsOtherNode ids e (Some q) (Some f) = (get ids q ≡ Some (record { node = f; live = true })) × (q ≢ e)
 
-module _ (s : Shape) (ids : FinMap nat_cmp IdEntry) (m : Pooled Stored) (xs : List Structure) (next arrivals : ℕ) (is : IsMulti s ids m xs next arrivals) (e : ℕ) (r : Ref)
-    (there : get ids e ≡ Some (record { node = r; live = true })) (x : ℕ) (listed : IsListed (get_or (plain_of s ids m xs next arrivals).orders x ById)) (q : Option ℕ) (b : Option Ref) (other : IsOtherNode ids e q b) where
+module _ (s : Shape) (ids : FinMap nat_cmp IdEntry) (m : Pooled Stored) (xs : List Structure)
+    (next arrivals : ℕ) (is : IsMulti s ids m xs next arrivals) (e : ℕ) (r : Ref)
+    (there : get ids e ≡ Some (record { node = r; live = true })) (x : ℕ) (listed : IsListed (get_or (plain_of s ids m xs next arrivals).orders x ById))
+    (q : Option ℕ) (b : Option Ref) (other : IsOtherNode ids e q b) where
   abbrev os : List Order
   os = plan s.indexes
 
@@ -119,13 +123,15 @@ module _ (s : Shape) (ids : FinMap nat_cmp IdEntry) (m : Pooled Stored) (xs : Li
   spot rs as_ bs live parts None (Some f) o = absurd o
   spot rs as_ bs live parts (Some w) None o = absurd o
   spot rs as_ bs live parts (Some w) (Some f) o =
-      let one_ : times w (ids_at m (as_ ++ r ∷ bs)) ≡ 1 = ap (λ k. times w (ids_at m k)) (sym parts) ∙ live.each w ∙ ap (λ a. cond {A = ℕ} (is_live a) 1 0) o.0 in
+      let one_ : times w (ids_at m (as_ ++ r ∷ bs)) ≡ 1 = ap (λ k. times w (ids_at m k)) (sym parts)
+      ∙ live.each w ∙ ap (λ a. cond {A = ℕ} (is_live a) 1 0) o.0 in
       let none_ : cond {A = ℕ} (id_at m r == w) 1 0 ≡ 0 = ap (λ t. cond {A = ℕ} t 1 0) (is_other (id_at m r) w (λ same. o.1 (sym same ∙ id))) in
       let all : times w (ids_at m (as_ ++ r ∷ bs)) ≡ cond (id_at m r == w) 1 0 + times w (ids_at m (as_ ++ bs)) = times_others w as_ bs in
       let h = found ids m w f (as_ ++ bs) o.0 (all_others as_ bs (subst (AllByRecursion (IsLiveRef ids m)) parts live.rows)) (omega arith) in
       inr (h.xs, f ∷ h.ys, h.parts, refl)
 
-  can_here : (i : Index) (y : Structure) (rs : List Ref) → IsListed (order_of i.kind i.parts (own_list m y)) → AreLive ids m rs → (k : ℕ) (z : Structure) (us : List Ref) → Now s ids m xs next arrivals is k i y z rs us → CanRelocate y r b rs
+  can_here : (i : Index) (y : Structure) (rs : List Ref) → IsListed (order_of i.kind i.parts (own_list m y)) → AreLive ids m rs
+      → (k : ℕ) (z : Structure) (us : List Ref) → Now s ids m xs next arrivals is k i y z rs us → CanRelocate y r b rs
   can_here i (Ordered t) rs l live k z us h = absurd (sorted_not_sequenced i.kind h.0.for_.0 (listed_kind i.kind i.parts (own_list m (Ordered t)) l))
   can_here i (Hashed c) rs l live k z us h = absurd (hashed_not_sequenced i.kind h.0.for_.0 (listed_kind i.kind i.parts (own_list m (Hashed c)) l))
   can_here i (Sequenced a) rs l live k z us h = let w = holds ids m e r rs there live in (w.xs, w.ys, w.parts, spot rs w.xs w.ys live w.parts q b other)
@@ -133,11 +139,13 @@ module _ (s : Shape) (ids : FinMap nat_cmp IdEntry) (m : Pooled Stored) (xs : Li
   can_in : (k : ℕ) (i : Index) (y z : Structure) (rs us : List Ref) → Now s ids m xs next arrivals is k i y z rs us → CanRelocateIf (k == x) y r b rs
   can_in k i y z rs us h =
       elim (eqb_tells k x) [
-        | inl same ↦ subst (λ t. CanRelocateIf t y r b rs) (sym same.0) (can_here i y rs (subst IsListed (ap (λ w. get_or d.orders w ById) (sym same.1) ∙ h.1.order_is) listed) h.0.live k z us h)
+        | inl same ↦ subst (λ t. CanRelocateIf t y r b rs) (sym same.0)
+            (can_here i y rs (subst IsListed (ap (λ w. get_or d.orders w ById) (sym same.1) ∙ h.1.order_is) listed) h.0.live k z us h)
         | inr isnt ↦ subst (λ t. CanRelocateIf t y r b rs) (sym isnt.0) tt
       ]
 
-  all_can : {k : ℕ} {js : List Index} {as_ bs : List Structure} {rss uss : List (List Ref)} → Every (Now s ids m xs next arrivals is) k js as_ bs rss uss → AllCan (relocating x r b) as_ k m rss
+  all_can : {k : ℕ} {js : List Index} {as_ bs : List Structure} {rss uss : List (List Ref)}
+      → Every (Now s ids m xs next arrivals is) k js as_ bs rss uss → AllCan (relocating x r b) as_ k m rss
   all_can none = tt
   all_can (one {s = k} {i = i} {x = y} {y = z} {rs = rs} {us = us} h rest) = (can_in k i y z rs us h, all_can rest)
 
@@ -154,7 +162,8 @@ module _ (s : Shape) (ids : FinMap nat_cmp IdEntry) (m : Pooled Stored) (xs : Li
     turns : Every (Turned (moves_to x r b) ids m n) 0 s.indexes xs ys is.rss changed.uss
     turns = every (moves_to x r b) ids m n 0 s.indexes xs ys is.rss changed.uss is.kinds like is.stand changed.stand changed.done is.live
 
-    link_still : (t : Bool) (y : Structure) (rs us : List Ref) (k w : ℕ) → t ≡ false → slot_in y ≡ w → IsRelocatedIf t y m n r b rs us → link_of n k w ≡ link_of m k w
+    link_still : (t : Bool) (y : Structure) (rs us : List Ref) (k w : ℕ) → t ≡ false
+        → slot_in y ≡ w → IsRelocatedIf t y m n r b rs us → link_of n k w ≡ link_of m k w
     link_still true y rs us k w no_ slot done = absurd (false≢true (sym no_))
     link_still false y rs us k w no_ slot done = subst (λ a. link_of n k a ≡ link_of m k a) slot (done.links k)
 
@@ -167,15 +176,18 @@ module _ (s : Shape) (ids : FinMap nat_cmp IdEntry) (m : Pooled Stored) (xs : Li
       stamps = λ y has.
           let l : y < length s.indexes = no_stamps_past s.indexes y has in
           let zeroed : 0 + y ≡ y = omega arith in
-          let ne : y ≢ x = λ same. false≢true (sym (unstamped (get_or d.orders x ById) listed) ∙ ap (λ w. has_stamps (get_or d.orders w ById)) (sym same) ∙ has_plan s.indexes (own_lists m xs) y ∙ has) in
+          let ne : y ≢ x = λ same. false≢true (sym (unstamped (get_or d.orders x ById) listed)
+          ∙ ap (λ w. has_stamps (get_or d.orders w ById)) (sym same) ∙ has_plan s.indexes (own_lists m xs) y ∙ has) in
           ap (λ (w : Line). w.tag.stamp)
-          (subst (λ w. link_of n k w ≡ link_of m k w) zeroed (stamp_of_slot (0 + y) (get_or os y ById) (at_plan (Turned (moves_to x r b) ids m n) turns y l) (λ same. ne (sym zeroed ∙ same)) k));
+          (subst (λ w. link_of n k w ≡ link_of m k w) zeroed
+          (stamp_of_slot (0 + y) (get_or os y ById) (at_plan (Turned (moves_to x r b) ids m n) turns y l) (λ same. ne (sym zeroed ∙ same)) k));
     }
 
     altered : IsAltered os ids m n e
     altered = record {
       says = λ w a ne here. says a.node.name;
-      kept = λ w a ne here dead t. changed.keeps.other_nodes a.node.name t (names_apart m w e a.node r (is.held w a here) mine ne) (out_of_all ids m w a is.rss here dead (is.held w a here) is.live);
+      kept = λ w a ne here dead t. changed.keeps.other_nodes a.node.name t (names_apart m w e a.node r (is.held w a here) mine ne)
+          (out_of_all ids m w a is.rss here dead (is.held w a here) is.live);
     }
 
     rows_still : picked (live_in n os) (entries ids) ≡ d.rows
@@ -221,7 +233,8 @@ module _ (s : Shape) (ids : FinMap nat_cmp IdEntry) (m : Pooled Stored) (xs : Li
     ids_moved rs us live (inr w) =
         let whole : AreLive ids m (w.xs ++ r ∷ w.ys) = subst (AreLive ids m) w.was live in
         let left : without e (ids_at m rs) ≡ ids_at m (w.ps ++ w.qs) =
-        ap (λ k. without e (ids_at m k)) w.was ∙ without_middle (id_at m) e w.xs r w.ys (itself id) (lacks_middle ids m e r w.xs w.ys id there whole) ∙ ap (ids_at m) w.others in
+        ap (λ k. without e (ids_at m k)) w.was
+        ∙ without_middle (id_at m) e w.xs r w.ys (itself id) (lacks_middle ids m e r w.xs w.ys id there whole) ∙ ap (ids_at m) w.others in
         let named : option_map (id_at m) (first_of w.qs None) ≡ q = ap (option_map (id_at m)) w.at ∙ names_it q b other in
         ids_same m n us changed.keeps.values ∙ ap (ids_at m) w.now
         ∙ sym (stand_there (id_at m) w.ps r w.qs (lacks_first rs w.xs w.ys w.ps w.qs live w.was w.others))
@@ -230,12 +243,15 @@ module _ (s : Shape) (ids : FinMap nat_cmp IdEntry) (m : Pooled Stored) (xs : Li
     abbrev goes : ℕ → List ℕ → List ℕ
     goes k = cond {A = List ℕ → List ℕ} (k == x) (λ ids_. stand q e (without e ids_)) (λ ids_. ids_)
 
-    one_goes : (t : Bool) (y : Structure) (rs us : List Ref) → AreLive ids m rs → IsRelocatedIf t y m n r b rs us → ids_at n us ≡ cond {A = List ℕ → List ℕ} t (λ ids_. stand q e (without e ids_)) (λ ids_. ids_) (ids_at m rs)
+    one_goes : (t : Bool) (y : Structure) (rs us : List Ref) → AreLive ids m rs → IsRelocatedIf t y m n r b rs us
+        → ids_at n us ≡ cond {A = List ℕ → List ℕ} t (λ ids_. stand q e (without e ids_)) (λ ids_. ids_) (ids_at m rs)
     one_goes true y rs us live done = ids_moved rs us live done
     one_goes false y rs us live done = ids_same m n us changed.keeps.values ∙ ap (ids_at m) done.list
 
-    step : (k : ℕ) (i : Index) (y z : Structure) (rs us : List Ref) → is_sequenced i.kind ≡ true → Turned (moves_to x r b) ids m n (0 + k) i y z rs us → ids_at n us ≡ goes k (ids_at m rs)
-    step k i y z rs us seq t = let zeroed : 0 + k ≡ k = omega arith in one_goes (k == x) y rs us t.live (subst (λ w. moves_to x r b w y m n rs us) zeroed t.done)
+    step : (k : ℕ) (i : Index) (y z : Structure) (rs us : List Ref) → is_sequenced i.kind ≡ true
+        → Turned (moves_to x r b) ids m n (0 + k) i y z rs us → ids_at n us ≡ goes k (ids_at m rs)
+    step k i y z rs us seq t =
+        let zeroed : 0 + k ≡ k = omega arith in one_goes (k == x) y rs us t.live (subst (λ w. moves_to x r b w y m n rs us) zeroed t.done)
 
     orders_moved : orders_of s.indexes (own_lists n ys) ≡ moved_order x (λ ids_. stand q e (without e ids_)) d.orders
     orders_moved =
@@ -265,17 +281,20 @@ module _ (s : Shape) (ids : FinMap nat_cmp IdEntry) (m : Pooled Stored) (xs : Li
     live_moved false y rs us live done = live_same rs us live done.list
     live_moved true y rs us live (inl no_) = live_same rs us live no_.1
     live_moved true y rs us live (inr w) =
-        let rows_ : AllByRecursion (IsLiveRef ids m) (w.ps ++ w.qs) = subst (AllByRecursion (IsLiveRef ids m)) w.others (all_others w.xs w.ys (subst (AllByRecursion (IsLiveRef ids m)) w.was live.rows)) in
+        let rows_ : AllByRecursion (IsLiveRef ids m) (w.ps ++ w.qs) = subst (AllByRecursion (IsLiveRef ids m))
+        w.others (all_others w.xs w.ys (subst (AllByRecursion (IsLiveRef ids m)) w.was live.rows)) in
         let here : IsLiveRef ids m r = ap (get ids) id ∙ there in
         let now_ : AllByRecursion (IsLiveRef ids m) us = subst (AllByRecursion (IsLiveRef ids m)) (sym w.now)
         (all_append (IsLiveRef ids m) w.ps (r ∷ w.qs) (all_left (IsLiveRef ids m) w.ps w.qs rows_) (here, all_right (IsLiveRef ids m) w.ps w.qs rows_)) in
         record {
           rows = live_still us now_;
           each = λ k. ap (times k) (ids_same m n us changed.keeps.values ∙ ap (ids_at m) w.now) ∙ times_middle (id_at m) k w.ps r w.qs
-              ∙ ap (λ a. cond (id_at m r == k) 1 0 + times k (ids_at m a)) (sym w.others) ∙ sym (times_others k w.xs w.ys) ∙ ap (λ a. times k (ids_at m a)) (sym w.was) ∙ live.each k;
+              ∙ ap (λ a. cond (id_at m r == k) 1 0 + times k (ids_at m a)) (sym w.others)
+              ∙ sym (times_others k w.xs w.ys) ∙ ap (λ a. times k (ids_at m a)) (sym w.was) ∙ live.each k;
         }
 
-    all_live : {k : ℕ} {js : List Index} {as_ bs : List Structure} {rss uss : List (List Ref)} → Every (Turned (moves_to x r b) ids m n) k js as_ bs rss uss → AllByRecursion (AreLive ids n) uss
+    all_live : {k : ℕ} {js : List Index} {as_ bs : List Structure} {rss uss : List (List Ref)}
+        → Every (Turned (moves_to x r b) ids m n) k js as_ bs rss uss → AllByRecursion (AreLive ids n) uss
     all_live none = tt
     all_live (one {s = k} {x = y} {rs = rs} {us = us} t rest) = (live_moved (k == x) y rs us t.live t.done, all_live rest)
 
@@ -286,7 +305,8 @@ module _ (s : Shape) (ids : FinMap nat_cmp IdEntry) (m : Pooled Stored) (xs : Li
       stand = changed.stand;
       kinds = all_for s.indexes xs ys like is.kinds;
       live = all_live turns;
-      held = λ w a here. (let h : HasNode m w a.node = is.held w a here in record { value = h.value; is = changed.keeps.values a.node.name ∙ h.is; id = h.id; held = changed.keeps.refs a.node.name ∙ h.held });
+      held = λ w a here. (let h : HasNode m w a.node = is.held w a here in
+          record { value = h.value; is = changed.keeps.values a.node.name ∙ h.is; id = h.id; held = changed.keeps.refs a.node.name ∙ h.held });
       owned = λ a h. is.owned a (sym (changed.keeps.refs a.name) ∙ h);
       is_data = subst (IsData s) (sym moved_seen) data_;
       next_fits = is.next_fits;
@@ -295,7 +315,8 @@ module _ (s : Shape) (ids : FinMap nat_cmp IdEntry) (m : Pooled Stored) (xs : Li
     }
 
 -- the row that an inverse names
-pub other_node : (s : Shape) (ids : FinMap nat_cmp IdEntry) (m : Pooled Stored) (xs : List Structure) (next arrivals : ℕ) (e : ℕ) (w : Option Row) → IsOther (plain_of s ids m xs next arrivals).rows e (option_map row_seen w)
+pub other_node : (s : Shape) (ids : FinMap nat_cmp IdEntry) (m : Pooled Stored) (xs : List Structure) (next arrivals : ℕ) (e : ℕ) (w : Option Row)
+    → IsOther (plain_of s ids m xs next arrivals).rows e (option_map row_seen w)
     → IsOtherNode ids e (option_map (λ (p : RowRef). p.id) (option_map row_seen w)) (option_map (λ r. (row_seen r).at) w)
 other_node s ids m xs next arrivals e None o = tt
 other_node s ids m xs next arrivals e (Some w) o = (live_there s ids m xs next arrivals (row_seen w) o.0, o.1)

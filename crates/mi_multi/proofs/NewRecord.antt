@@ -1,5 +1,6 @@
 -- Another record in a live row: in each index where its key changes its node may move by the next stamp, and then it holds what the data say.
-use Rattle.std.proofs.Common.{◌≡◌, ◌≢◌, ℕ, ◌+◌, ◌^◌, ◌<◌, ◌≤◌, suc, Bool, true, false, cond, not, inl, inr, List, [], ◌∷◌, ◌++◌, get_or, length, refl, ap, sym, ◌∙◌, subst, arith}
+use Rattle.std.proofs.Common.{◌≡◌, ◌≢◌, ℕ, ◌+◌, ◌^◌, ◌<◌, ◌≤◌, suc, Bool, true, false, cond, not, inl}
+use Rattle.std.proofs.Common.{inr, List, [], ◌∷◌, ◌++◌, get_or, length, refl, ap, sym, ◌∙◌, subst, arith}
 use Rattle.std.specs.Prelude.{pos}
 use Rattle.std.specs.List.{AllByRecursion}
 use Rattle.std.specs.Option.{option_and_then}
@@ -83,7 +84,8 @@ changed_stamp (Listed l) a b now h = absurd (false≢true (sym h))
 
 rows_equal : (ps : List KeyPart) (v w : Stored) → v.id ≡ w.id → is_eq (compare_key ps v.row w.row) ≡ true → stored_order ps v w ≡ Equal
 rows_equal [] v w id same =
-    ap (λ k. compare_key (parts_or_id []) (Int (pos v.id) ∷ []) (Int (pos k) ∷ [])) (sym id) ∙ equal_of (compare_key (parts_or_id []) (Int (pos v.id) ∷ []) (Int (pos v.id) ∷ [])) (own_key (parts_or_id []) (Int (pos v.id) ∷ []))
+    ap (λ k. compare_key (parts_or_id []) (Int (pos v.id) ∷ []) (Int (pos k) ∷ [])) (sym id)
+    ∙ equal_of (compare_key (parts_or_id []) (Int (pos v.id) ∷ []) (Int (pos v.id) ∷ [])) (own_key (parts_or_id []) (Int (pos v.id) ∷ []))
 rows_equal (p ∷ ps) v w id same = equal_of (compare_key (p ∷ ps) v.row w.row) same
 
 stamp_same : (m n : Pooled Stored) (k x : ℕ) (o : Order) → link_of n k x ≡ link_of m k x → stamp_in n k x o ≡ stamp_in m k x o
@@ -92,7 +94,8 @@ stamp_same m n k x (ByKey ps) same = ap (λ (w : Line). w.tag.stamp) same
 stamp_same m n k x (ByHash ps) same = ap (λ (w : Line). w.tag.stamp) same
 stamp_same m n k x (Listed l) same = refl
 
-module _ (s : Shape) (ids : FinMap nat_cmp IdEntry) (m : Pooled Stored) (xs : List Structure) (next arrivals : ℕ) (is : IsMulti s ids m xs next arrivals) (e : ℕ) (r : Ref)
+module _ (s : Shape) (ids : FinMap nat_cmp IdEntry) (m : Pooled Stored) (xs : List Structure)
+    (next arrivals : ℕ) (is : IsMulti s ids m xs next arrivals) (e : ℕ) (r : Ref)
     (there : get ids e ≡ Some (record { node = r; live = true })) (v : Stored) (named : v.id ≡ e) where
   abbrev os : List Order
   os = plan s.indexes
@@ -130,19 +133,23 @@ module _ (s : Shape) (ids : FinMap nat_cmp IdEntry) (m : Pooled Stored) (xs : Li
   others_lack : (rs as_ bs : List Ref) → AreLive ids m rs → rs ≡ as_ ++ r ∷ bs → Lacks e (ids_at m (as_ ++ bs))
   others_lack rs as_ bs live parts = lacks_middle ids m e r as_ bs id there (subst (AreLive ids m) parts live)
 
-  none_are : (ps : List KeyPart) (k : ℕ) (qs : List Ref) → AllByRecursion (IsLiveRef ids m) qs → Lacks e (ids_at m qs) → (ps ≢ [] → has_stamps (get_or os k ById) ≡ true) → k < length os
+  none_are : (ps : List KeyPart) (k : ℕ) (qs : List Ref) → AllByRecursion (IsLiveRef ids m) qs
+      → Lacks e (ids_at m qs) → (ps ≢ [] → has_stamps (get_or os k ById) ≡ true) → k < length os
       → NoneAre (side_of_value (stored_order ps) m k v arrivals) Equal qs
   none_are ps k [] all lacks has l = tt
   none_are ps k (q ∷ qs) all lacks has l = (
-    value_not_equal ps m k q arrivals v (id_at m q) (is.held (id_at m q) (record { node = q; live = true }) all.0) (λ same. lacks.0 (sym same ∙ named)) (λ some. later s ids m xs next arrivals is k q all.0 l (has some)),
+    value_not_equal ps m k q arrivals v (id_at m q) (is.held (id_at m q) (record { node = q; live = true }) all.0)
+        (λ same. lacks.0 (sym same ∙ named)) (λ some. later s ids m xs next arrivals is k q all.0 l (has some)),
     none_are ps k qs all.1 lacks.1 has l,
   )
 
-  none_has : (k : ℕ) (qs : List Ref) → AllByRecursion (IsLiveRef ids m) qs → has_stamps (get_or os k ById) ≡ true → k < length os → NoneHas (stamp_at m k) arrivals qs
+  none_has : (k : ℕ) (qs : List Ref) → AllByRecursion (IsLiveRef ids m) qs
+      → has_stamps (get_or os k ById) ≡ true → k < length os → NoneHas (stamp_at m k) arrivals qs
   none_has k [] all has l = tt
   none_has k (q ∷ qs) all has l = (later s ids m xs next arrivals is k q all.0 l has, none_has k qs all.1 has l)
 
-  place_for : (k : ℕ) (i : Index) (x y : Structure) (rs us : List Ref) → Now s ids m xs next arrivals is k i x y rs us → (qs : List Ref) → AllByRecursion (IsLiveRef ids m) qs → Lacks e (ids_at m qs) → HasPlaceFor x m v arrivals None qs
+  place_for : (k : ℕ) (i : Index) (x y : Structure) (rs us : List Ref) → Now s ids m xs next arrivals is k i x y rs us
+      → (qs : List Ref) → AllByRecursion (IsLiveRef ids m) qs → Lacks e (ids_at m qs) → HasPlaceFor x m v arrivals None qs
   place_for k i (Ordered t) y rs us h qs all lacks =
       let slot : t.slot ≡ k = h.0.slot in
       let parts : t.order.parts ≡ i.parts = h.0.for_.1 in
@@ -166,7 +173,8 @@ module _ (s : Shape) (ids : FinMap nat_cmp IdEntry) (m : Pooled Stored) (xs : Li
         place = place_for k i x y rs us h (w.xs ++ w.ys) (others_live rs w.xs w.ys h.0.live w.parts) (others_lack rs w.xs w.ys h.0.live w.parts);
       }
 
-  keeps : (k : ℕ) (i : Index) (x y : Structure) (rs us : List Ref) → Now s ids m xs next arrivals is k i x y rs us → stays (get_or d.orders k ById) was v.row ≡ true → KeepsKey x m r v
+  keeps : (k : ℕ) (i : Index) (x y : Structure) (rs us : List Ref) → Now s ids m xs next arrivals is k i x y rs us
+      → stays (get_or d.orders k ById) was v.row ≡ true → KeepsKey x m r v
   keeps k i (Ordered t) y rs us h same old is_ =
       let parts : t.order.parts ≡ i.parts = h.0.for_.1 in
       let order_is : get_or d.orders k ById ≡ sorted_order i.parts = h.1.order_is ∙ sorted_parts i.kind i.parts (own_list m (Ordered t)) h.0.for_.0 in
@@ -182,11 +190,13 @@ module _ (s : Shape) (ids : FinMap nat_cmp IdEntry) (m : Pooled Stored) (xs : Li
       equal_of (compare_key c.keys.parts old.row v.row) ((λ j. is_eq (compare_key (sym by j) (sym value j) v.row)) ∙ same)
   keeps k i (Sequenced l) y rs us h same old is_ = refl
 
-  can_if : (k : ℕ) (i : Index) (x y : Structure) (rs us : List Ref) → Now s ids m xs next arrivals is k i x y rs us → (b : Bool) → stays (get_or d.orders k ById) was v.row ≡ b → CanMoveIf (not b) x m r v arrivals rs
+  can_if : (k : ℕ) (i : Index) (x y : Structure) (rs us : List Ref) → Now s ids m xs next arrivals is k i x y rs us
+      → (b : Bool) → stays (get_or d.orders k ById) was v.row ≡ b → CanMoveIf (not b) x m r v arrivals rs
   can_if k i x y rs us h true same = keeps k i x y rs us h same
   can_if k i x y rs us h false other = goes k i x y rs us h
 
-  all_can : (marks : List Bool) → Marked marks → {k : ℕ} {js : List Index} {as_ bs : List Structure} {rss uss : List (List Ref)} → Every (Now s ids m xs next arrivals is) k js as_ bs rss uss → AllCan (rekeying marks r v arrivals) as_ k m rss
+  all_can : (marks : List Bool) → Marked marks → {k : ℕ} {js : List Index} {as_ bs : List Structure} {rss uss : List (List Ref)}
+      → Every (Now s ids m xs next arrivals is) k js as_ bs rss uss → AllCan (rekeying marks r v arrivals) as_ k m rss
   all_can marks marked none = tt
   all_can marks marked (one {s = k} {i = i} {x = x} {y = y} {rs = rs} {us = us} h rest) = (
     subst (λ t. CanMoveIf t x m r v arrivals rs) (sym (marked k h.1.fewer)) (can_if k i x y rs us h (stays (get_or d.orders k ById) was v.row) refl),
@@ -199,11 +209,13 @@ module _ (s : Shape) (ids : FinMap nat_cmp IdEntry) (m : Pooled Stored) (xs : Li
 
   -- After
 
-  module _ (marks : List Bool) (marked : Marked marks) (n : Pooled Stored) (ys : List Structure) (like : AllLike xs ys) (given : IsRekeyed (rekeyed marks r arrivals) r v xs ys m n is.rss) where
+  module _ (marks : List Bool) (marked : Marked marks) (n : Pooled Stored) (ys : List Structure)
+      (like : AllLike xs ys) (given : IsRekeyed (rekeyed marks r arrivals) r v xs ys m n is.rss) where
     abbrev Moves : ℕ → Index → Structure → Structure → List Ref → List Ref → Type 0
     Moves = Known (rekeyed marks r arrivals) ids m n os d.orders
 
-    shift_if : (k : ℕ) (i : Index) (x y : Structure) (rs us : List Ref) → Moves k i x y rs us → (b : Bool) → stays (get_or d.orders k ById) was v.row ≡ b → HasMovedIf (not b) x m n r arrivals rs us → Shift m n r k i rs us
+    shift_if : (k : ℕ) (i : Index) (x y : Structure) (rs us : List Ref) → Moves k i x y rs us → (b : Bool)
+        → stays (get_or d.orders k ById) was v.row ≡ b → HasMovedIf (not b) x m n r arrivals rs us → Shift m n r k i rs us
     shift_if k i x y rs us h true same done = record {
       shifted = inl done.list;
       own = λ seq. done.list;
@@ -212,10 +224,12 @@ module _ (s : Shape) (ids : FinMap nat_cmp IdEntry) (m : Pooled Stored) (xs : Li
     shift_if k i x y rs us h false other done = record {
       shifted = inr (done.xs, done.ys, done.parts, done.moved);
       own = λ seq. absurd (false≢true (sym other ∙ sequenced_stays i (own_list m x) (get_or d.orders k ById) was v.row seq h.1.order_is));
-      stamps = λ l has q ne. subst (λ w. (link_of n q w).tag.stamp ≡ (link_of m q w).tag.stamp) h.0.slot (stamp_others i x m n r l arrivals h.0.for_ done.stamped has q ne);
+      stamps = λ l has q ne. subst (λ w. (link_of n q w).tag.stamp ≡ (link_of m q w).tag.stamp)
+          h.0.slot (stamp_others i x m n r l arrivals h.0.for_ done.stamped has q ne);
     }
 
-    done_at : (k : ℕ) (i : Index) (x y : Structure) (rs us : List Ref) → Moves k i x y rs us → HasMovedIf (not (stays (get_or d.orders k ById) was v.row)) x m n r arrivals rs us
+    done_at : (k : ℕ) (i : Index) (x y : Structure) (rs us : List Ref) → Moves k i x y rs us
+        → HasMovedIf (not (stays (get_or d.orders k ById) was v.row)) x m n r arrivals rs us
     done_at k i x y rs us h = subst (λ t. HasMovedIf t x m n r arrivals rs us) (marked k h.1.fewer) h.0.done
 
     shifts : (k : ℕ) (i : Index) (x y : Structure) (rs us : List Ref) → Moves k i x y rs us → Shift m n r k i rs us
@@ -223,14 +237,17 @@ module _ (s : Shape) (ids : FinMap nat_cmp IdEntry) (m : Pooled Stored) (xs : Li
 
     -- Stamps
 
-    stamp_if : (k : ℕ) (i : Index) (x y : Structure) (rs us : List Ref) → Moves k i x y rs us → (b : Bool) → stays (order_of i.kind i.parts (own_list m x)) was v.row ≡ b → HasMovedIf (not b) x m n r arrivals rs us
+    stamp_if : (k : ℕ) (i : Index) (x y : Structure) (rs us : List Ref) → Moves k i x y rs us → (b : Bool)
+        → stays (order_of i.kind i.parts (own_list m x)) was v.row ≡ b → HasMovedIf (not b) x m n r arrivals rs us
         → stamp_in n r.name k (order_of i.kind i.parts []) ≡ cond b (stamp_in m r.name k (order_of i.kind i.parts [])) arrivals
-    stamp_if k i x y rs us h true same done = stamp_same m n r.name k (order_of i.kind i.parts []) (subst (λ w. link_of n r.name w ≡ link_of m r.name w) h.0.slot (done.links r.name))
+    stamp_if k i x y rs us h true same done = stamp_same m n r.name k (order_of i.kind i.parts [])
+        (subst (λ w. link_of n r.name w ≡ link_of m r.name w) h.0.slot (done.links r.name))
     stamp_if k i x y rs us h false other done =
         one_new i x m n r k arrivals h.0.for_ h.0.slot done.stamped ∙ changed_stamp (order_of i.kind i.parts (own_list m x)) was v.row arrivals other
 
     one_stamp : (k : ℕ) (i : Index) (x y : Structure) (rs us : List Ref) → Moves k i x y rs us
-        → stamp_in n r.name k (order_of i.kind i.parts []) ≡ cond (stays (order_of i.kind i.parts (own_list m x)) was v.row) (stamp_in m r.name k (order_of i.kind i.parts [])) arrivals
+        → stamp_in n r.name k (order_of i.kind i.parts [])
+        ≡ cond (stays (order_of i.kind i.parts (own_list m x)) was v.row) (stamp_in m r.name k (order_of i.kind i.parts [])) arrivals
     one_stamp k i x y rs us h =
         stamp_if k i x y rs us h (stays (order_of i.kind i.parts (own_list m x)) was v.row) refl
         (subst (λ o. HasMovedIf (not (stays o was v.row)) x m n r arrivals rs us) h.1.order_is (done_at k i x y rs us h))
@@ -241,7 +258,8 @@ module _ (s : Shape) (ids : FinMap nat_cmp IdEntry) (m : Pooled Stored) (xs : Li
     stamps_put (one {s = k} {i = i} {x = x} {y = y} {rs = rs} {us = us} {is = js} {xs = as_} h rest) =
         let next_ : k + 1 ≡ suc k = omega arith in
         let tail : stamps_in n r.name (suc k) (plan js) ≡ restamped (orders_of js (own_lists m as_)) was v.row arrivals (stamps_in m r.name (suc k) (plan js)) =
-        subst (λ w. stamps_in n r.name w (plan js) ≡ restamped (orders_of js (own_lists m as_)) was v.row arrivals (stamps_in m r.name w (plan js))) next_ (stamps_put rest) in
+        subst (λ w. stamps_in n r.name w (plan js) ≡ restamped (orders_of js (own_lists m as_)) was v.row arrivals (stamps_in m r.name w (plan js)))
+        next_ (stamps_put rest) in
         (λ j. one_stamp k i x y rs us h j ∷ tail j)
 
     -- it holds what the data say
@@ -253,7 +271,8 @@ module _ (s : Shape) (ids : FinMap nat_cmp IdEntry) (m : Pooled Stored) (xs : Li
 
     -- the data after it
     pub put_seen : plain_of s ids n ys next (arrivals + 1) ≡ replaced e v.row d
-    put_seen = revalued_seen s ids m xs next arrivals is e r there (rekeyed marks r arrivals) v named n ys like given shifts (arrivals + 1) (new_content d.orders v.row arrivals (content_of d.rows e)) content_put
+    put_seen = revalued_seen s ids m xs next arrivals is e r there (rekeyed marks r arrivals) v named n ys like
+        given shifts (arrivals + 1) (new_content d.orders v.row arrivals (content_of d.rows e)) content_put
 
     -- all stands after it
     pub put_multi : arrivals < LAST_COUNT → Allowed s (Replace e v.row) d → IsMulti s ids n ys next (arrivals + 1)
@@ -262,7 +281,8 @@ module _ (s : Shape) (ids : FinMap nat_cmp IdEntry) (m : Pooled Stored) (xs : Li
         (subst (IsData s) (sym put_seen) (change_is_tables s (Replace e v.row) d is.is_data allowed).0)
 
   -- what takes it back
-  pub put_inverse_is : (w : Stored) → value_of m r.name ≡ Some w → (ps : List (Option OldPlace)) → ps ≡ old_places 0 d.rows e (content_of d.rows e).values v.row d.orders (content_of d.rows e).stamps
+  pub put_inverse_is : (w : Stored) → value_of m r.name ≡ Some w → (ps : List (Option OldPlace))
+      → ps ≡ old_places 0 d.rows e (content_of d.rows e).values v.row d.orders (content_of d.rows e).stamps
       → Put (record { id = e; at = r }) (record { values = w.row; places = ps }) ≡ put_inverse e v.row d
   put_inverse_is w w_is ps same =
       let node = row_here in

@@ -26,7 +26,8 @@ pub record Stood (ids : FinMap nat_cmp IdEntry) (m : Pooled Stored) (s : ℕ) (i
   pub stands : Stands y m rs
   pub live : AreLive ids m rs
 
-stood : (ids : FinMap nat_cmp IdEntry) (m : Pooled Stored) (s : ℕ) (is : List Index) (xs : List Structure) (rss : List (List Ref)) → AllFor is xs → AllStand xs s m rss → AllByRecursion (AreLive ids m) rss
+stood : (ids : FinMap nat_cmp IdEntry) (m : Pooled Stored) (s : ℕ) (is : List Index) (xs : List Structure) (rss : List (List Ref))
+    → AllFor is xs → AllStand xs s m rss → AllByRecursion (AreLive ids m) rss
     → (k : ℕ) (none : Index) (y : Structure) → slice_get xs k ≡ Some y → Stood ids m (s + k) (get_or is k none) y
 stood ids m s [] [] rss f a v k none y at = absurd (none_some at)
 stood ids m s [] (x ∷ xs) rss f a v k none y at = absurd f
@@ -37,7 +38,8 @@ stood ids m s (i ∷ is) (x ∷ xs) (rs ∷ rss) f a v zero none y at =
     let here : s ≡ s + 0 = omega arith in
     subst (λ w. Stood ids m (s + 0) i w) same (subst (λ w. Stood ids m w i x) here (record { rs = rs; slot = a.0; for_ = f.0; stands = a.1; live = v.0 }))
 stood ids m s (i ∷ is) (x ∷ xs) (rs ∷ rss) f a v (suc k) none y at =
-    let next : (s + 1) + k ≡ s + suc k = omega arith in subst (λ w. Stood ids m w (get_or is k none) y) next (stood ids m (s + 1) is xs rss f.1 a.2 v.1 k none y at)
+    let next : (s + 1) + k ≡ s + suc k = omega arith in
+    subst (λ w. Stood ids m w (get_or is k none) y) next (stood ids m (s + 1) is xs rss f.1 a.2 v.1 k none y at)
 
 order_is : (m : Pooled Stored) (is : List Index) (xs : List Structure) → AllFor is xs → (k : ℕ) (none : Index) (y : Structure) → slice_get xs k ≡ Some y
     → get_or (orders_of is (own_lists m xs)) k ById ≡ order_of (get_or is k none).kind (get_or is k none).parts (own_list m y)
@@ -52,7 +54,7 @@ plan_is [] k none l = absurd (omega arith)
 plan_is (i ∷ is) zero none l = refl
 plan_is (i ∷ is) (suc k) none l = plan_is is k none (omega arith)
 
-pub length_for : (is : List Index) (xs : List Structure) → AllFor is xs → length is ≡ length xs
+length_for : (is : List Index) (xs : List Structure) → AllFor is xs → length is ≡ length xs
 length_for [] [] f = refl
 length_for [] (x ∷ xs) f = absurd f
 length_for (i ∷ is) [] f = absurd f

@@ -1,5 +1,6 @@
 -- The places that a row had, as its structures answer them, are those that the data say.
-use Rattle.std.proofs.Common.{◌≡◌, ℕ, ◌+◌, ◌^◌, ◌<◌, ◌≤◌, zero, suc, Bool, true, false, cond, not, List, [], ◌∷◌, ◌++◌, map, take, get_or, length, slice_get, refl, ap, sym, ◌∙◌, subst, arith}
+use Rattle.std.proofs.Common.{◌≡◌, ℕ, ◌+◌, ◌^◌, ◌<◌, ◌≤◌, zero, suc, Bool, true, false, cond, not, List, []}
+use Rattle.std.proofs.Common.{◌∷◌, ◌++◌, map, take, get_or, length, slice_get, refl, ap, sym, ◌∙◌, subst, arith}
 use Rattle.std.specs.Option.{option_map, is_some}
 use Rattle.std.specs.Ordering.{nat_cmp, is_eq}
 use Rattle.std.specs.FinMap.{FinMap, get}
@@ -21,9 +22,10 @@ use Rattle.mi_index.specs.declared.moves.Place.{Place}
 use Rattle.mi_index.specs.declared.structure.Structure.{Structure}
 use Rattle.mi_index.specs.declared.structure.Structure.TheVariants.{Ordered, Hashed, Sequenced}
 use Rattle.mi_index.specs.Standing.{Stands, Climb}
-use Rattle.mi_index.specs.Places.{mark_at, HasNode as Holds}
+use Rattle.mi_index.specs.Places.{mark_at, IsOneOf as Holds}
 use Rattle.mi_index.specs.Looks.{IsPlaceOf}
-use Rattle.mi_container.specs.Data.{Content, Node, Order, Data, has_stamps, parts_of, content_in, content_of, stamp_of, by_stamp, KindFits, KindsFit, StampFits, StampsFit}
+use Rattle.mi_container.specs.Data.{Content, Node, Order, Data, has_stamps, parts_of, content_in, content_of}
+use Rattle.mi_container.specs.Data.{stamp_of, ids_by_stamp, KindFits, KindsFit, StampFits, StampsFit}
 use Rattle.mi_container.specs.Data.Order.{ById, ByKey, ByHash, Listed}
 use Rattle.mi_container.specs.Changes.{sorted_order, link_in}
 use Rattle.mi_container.specs.Inverse.{OldPlace, old_place, old_places}
@@ -46,7 +48,8 @@ kind_parts i (ByKey ps) f = sym f.1
 kind_parts i (ByHash ps) f = sym f.1
 kind_parts i (Listed l) f = sym f.1
 
-pub parts_at : (is : List Index) (os : List Order) → KindsFit is os → (k : ℕ) (none : Index) → k < length is → parts_of (get_or os k ById) ≡ (get_or is k none).parts
+pub parts_at : (is : List Index) (os : List Order) → KindsFit is os → (k : ℕ) (none : Index)
+    → k < length is → parts_of (get_or os k ById) ≡ (get_or is k none).parts
 parts_at [] os f k none l = absurd (omega arith)
 parts_at (i ∷ is) [] f k none l = absurd f
 parts_at (i ∷ is) (o ∷ os) f zero none l = kind_parts i o f.0
@@ -76,7 +79,8 @@ unlinked : (x : ℕ) (rws : List (ℕ × Node)) (e : ℕ) (ps : List KeyPart) �
 unlinked x rws e [] = refl
 unlinked x rws e (p ∷ ps) = refl
 
-module _ (s : Shape) (ids : FinMap nat_cmp IdEntry) (m : Pooled Stored) (xs : List Structure) (next arrivals : ℕ) (is : IsMulti s ids m xs next arrivals) (e : ℕ) (r : Ref)
+module _ (s : Shape) (ids : FinMap nat_cmp IdEntry) (m : Pooled Stored) (xs : List Structure)
+    (next arrivals : ℕ) (is : IsMulti s ids m xs next arrivals) (e : ℕ) (r : Ref)
     (there : get ids e ≡ Some (record { node = r; live = true })) where
   abbrev os : List Order
   os = plan s.indexes
@@ -101,7 +105,8 @@ module _ (s : Shape) (ids : FinMap nat_cmp IdEntry) (m : Pooled Stored) (xs : Li
         ∙ stamp_row ids m os k r (ap (get ids) id ∙ there) w.few_plan (sym (has_plan s.indexes (own_lists m xs) k) ∙ changed_has (get_or d.orders k ById) a b h)
 
   -- what is kept of its place where its key changes
-  pub place_is : (k : ℕ) (y : Structure) (w : Numbered s ids m xs k y) (p : Place) → ((as_ bs : List Ref) → Stands y m (as_ ++ r ∷ bs) → IsPlaceOf y m r p as_ bs) → (a b : List Value) → stays (get_or d.orders k ById) a b ≡ false
+  pub place_is : (k : ℕ) (y : Structure) (w : Numbered s ids m xs k y) (p : Place)
+      → ((as_ bs : List Ref) → Stands y m (as_ ++ r ∷ bs) → IsPlaceOf y m r p as_ bs) → (a b : List Value) → stays (get_or d.orders k ById) a b ≡ false
       → place_kept y p ≡ record { stamp = stamp_of d.rows k e; link = link_in k d.rows e (get_or d.orders k ById) }
   place_is k (Ordered t) w p given a b h =
       let h_ = has_it k (Ordered t) w in
@@ -109,7 +114,8 @@ module _ (s : Shape) (ids : FinMap nat_cmp IdEntry) (m : Pooled Stored) (xs : Li
       let slot : t.slot ≡ k = w.stood.slot in
       let stamp : p.stamp ≡ stamp_of d.rows k e = its.stamp ∙ ap (λ z. stamp_at m z r) slot ∙ sym (stamp_is k (Ordered t) w a b h) in
       let link : link_in k d.rows e (get_or d.orders k ById) ≡ record { back = None; forth = None } =
-      ap (link_in k d.rows e) (w.ordered ∙ sorted_parts (index_at s k).kind (index_at s k).parts (own_list m (Ordered t)) w.stood.for_.0) ∙ unlinked k d.rows e (index_at s k).parts in
+      ap (link_in k d.rows e) (w.ordered ∙ sorted_parts (index_at s k).kind (index_at s k).parts (own_list m (Ordered t)) w.stood.for_.0)
+      ∙ unlinked k d.rows e (index_at s k).parts in
       (λ j. record { stamp = stamp j; link = sym link j })
   place_is k (Hashed c) w p given a b h =
       let h_ = has_it k (Hashed c) w in
@@ -117,15 +123,21 @@ module _ (s : Shape) (ids : FinMap nat_cmp IdEntry) (m : Pooled Stored) (xs : Li
       let slot : c.slot ≡ k = w.stood.slot in
       let parts : c.keys.parts ≡ (index_at s k).parts = w.stood.for_.1 in
       let stamp : p.stamp ≡ stamp_of d.rows k e = its.stamp ∙ ap (λ z. stamp_at m z r) slot ∙ sym (stamp_is k (Hashed c) w a b h) in
-      let order_is : get_or d.orders k ById ≡ ByHash c.keys.parts = w.ordered ∙ hashed_order (index_at s k).kind (index_at s k).parts (own_list m (Hashed c)) w.stood.for_.0 ∙ ap ByHash (sym parts) in
-      let plan_is : get_or os k ById ≡ ByHash c.keys.parts = w.planned ∙ hashed_order (index_at s k).kind (index_at s k).parts [] w.stood.for_.0 ∙ ap ByHash (sym parts) in
+      let order_is : get_or d.orders k ById ≡ ByHash c.keys.parts = w.ordered
+      ∙ hashed_order (index_at s k).kind (index_at s k).parts (own_list m (Hashed c)) w.stood.for_.0 ∙ ap ByHash (sym parts) in
+      let plan_is : get_or os k ById ≡ ByHash c.keys.parts = w.planned
+      ∙ hashed_order (index_at s k).kind (index_at s k).parts [] w.stood.for_.0 ∙ ap ByHash (sym parts) in
       let climb : Climb (stamp_at m k) w.stood.rs = subst (λ z. Climb (stamp_at m z) w.stood.rs) slot w.stood.stands.1 in
-      let by : by_stamp k d.rows ≡ ids_at m w.stood.rs = by_stamp_is s d ids m os k c.keys.parts w.stood.rs is.is_data refl w.few_orders w.few_plan order_is plan_is w.stood.live climb in
+      let by : ids_by_stamp k d.rows ≡ ids_at m w.stood.rs = by_stamp_is s d ids m os k c.keys.parts
+      w.stood.rs is.is_data refl w.few_orders w.few_plan order_is plan_is w.stood.live climb in
       let link : link_in k d.rows e (get_or d.orders k ById) ≡ record { back = p.back; forth = p.forth } =
-      ap (link_in k d.rows e) order_is ∙ link_hashed ids m m os is.held (λ z. refl) e r there h_.xs h_.ys (subst (AreLive ids m) h_.parts w.stood.live) c.keys k (by ∙ ap (ids_at m) h_.parts)
+      ap (link_in k d.rows e) order_is
+      ∙ link_hashed ids m m os is.held (λ z. refl) e r there h_.xs h_.ys
+      (subst (AreLive ids m) h_.parts w.stood.live) c.keys k (by ∙ ap (ids_at m) h_.parts)
       ∙ (λ j. record { back = sym its.beside.0 j; forth = sym its.beside.1 j }) in
       (λ j. record { stamp = stamp j; link = sym link j })
-  place_is k (Sequenced l) w p given a b h = absurd (false≢true (sym h ∙ sequenced_stays (index_at s k) (own_list m (Sequenced l)) (get_or d.orders k ById) a b w.stood.for_ w.ordered))
+  place_is k (Sequenced l) w p given a b h = absurd
+      (false≢true (sym h ∙ sequenced_stays (index_at s k) (own_list m (Sequenced l)) (get_or d.orders k ById) a b w.stood.for_ w.ordered))
 
   -- the old place in the index of a number
   module _ (k : ℕ) (few : k < length s.indexes) (v : Stored) (v_is : value_of m r.name ≡ Some v) (new : List Value) where
@@ -145,13 +157,16 @@ module _ (s : Shape) (ids : FinMap nat_cmp IdEntry) (m : Pooled Stored) (xs : Li
     its_place = old_place k d.rows e old new (get_or d.orders k ById) (stamp_of d.rows k e)
 
     pub no_place : true ≡ is_eq (compare_key (index_at s k).parts v.row new) → None ≡ its_place
-    no_place same = ap (λ t. cond t None (Some (record { stamp = stamp_of d.rows k e; link = link_in k d.rows e (get_or d.orders k ById) }))) (sym (stays_is true same))
+    no_place same = ap (λ t. cond t None (Some (record { stamp = stamp_of d.rows k e; link = link_in k d.rows e (get_or d.orders k ById) })))
+        (sym (stays_is true same))
 
     -- its stamp is below 2^63
-    pub few_stamp : false ≡ is_eq (compare_key (index_at s k).parts v.row new) → (y : Structure) → slice_get xs k ≡ Some y → (p : Place) → ((as_ bs : List Ref) → Stands y m (as_ ++ r ∷ bs) → IsPlaceOf y m r p as_ bs)
+    pub few_stamp : false ≡ is_eq (compare_key (index_at s k).parts v.row new) → (y : Structure) → slice_get xs k ≡ Some y
+        → (p : Place) → ((as_ bs : List Ref) → Stands y m (as_ ++ r ∷ bs) → IsPlaceOf y m r p as_ bs)
         → (place_kept y p).stamp < 2 ^ 63
     few_stamp other y at p given =
-        let same : (place_kept y p).stamp ≡ stamp_of d.rows k e = ap (λ (q : OldPlace). q.stamp) (place_is k y (numbered s ids m xs next arrivals is k y at) p given old new (stays_is false other)) in
+        let same : (place_kept y p).stamp ≡ stamp_of d.rows k e = ap (λ (q : OldPlace). q.stamp)
+        (place_is k y (numbered s ids m xs next arrivals is k y at) p given old new (stays_is false other)) in
         let here = row_here s ids m xs next arrivals is e r there v (ap id_in (sym v_is) ∙ id) in
         let content : content_of d.rows e ≡ (node_in m os r).content = ap content_in here in
         let stamps = now_stamps arrivals d.orders (node_in m os r).content.stamps (is.is_data.stamped e (node_in m os r) here) k in
@@ -159,7 +174,8 @@ module _ (s : Shape) (ids : FinMap nat_cmp IdEntry) (m : Pooled Stored) (xs : Li
         let fit : arrivals ≤ 9223372036854775807 = is.arrivals_fit in
         omega (arith, same, now, fit)
 
-    pub some_place : false ≡ is_eq (compare_key (index_at s k).parts v.row new) → (y : Structure) → slice_get xs k ≡ Some y → (p : Place) → ((as_ bs : List Ref) → Stands y m (as_ ++ r ∷ bs) → IsPlaceOf y m r p as_ bs)
+    pub some_place : false ≡ is_eq (compare_key (index_at s k).parts v.row new) → (y : Structure) → slice_get xs k ≡ Some y
+        → (p : Place) → ((as_ bs : List Ref) → Stands y m (as_ ++ r ∷ bs) → IsPlaceOf y m r p as_ bs)
         → Some (place_kept y p) ≡ its_place
     some_place other y at p given =
         ap Some (place_is k y (numbered s ids m xs next arrivals is k y at) p given old new (stays_is false other))
@@ -173,28 +189,37 @@ module _ (rws : List (ℕ × Node)) (e : ℕ) (old new : List Value) where
   length_places x (o ∷ os) [] long = absurd (let bad : zero ≡ suc (length os) = long in omega arith)
   length_places x (o ∷ os) (a ∷ stamps) long = ap suc (length_places (suc x) os stamps (let h : suc (length stamps) ≡ suc (length os) = long in omega arith))
 
-  place_from : (x : ℕ) (os : List Order) (stamps : List ℕ) (k : ℕ) → k < length os → length stamps ≡ length os → get_or (old_places x rws e old new os stamps) k None ≡ old_place (x + k) rws e old new (get_or os k ById) (get_or stamps k 0)
+  place_from : (x : ℕ) (os : List Order) (stamps : List ℕ) (k : ℕ) → k < length os → length stamps ≡ length os
+      → get_or (old_places x rws e old new os stamps) k None ≡ old_place (x + k) rws e old new (get_or os k ById) (get_or stamps k 0)
   place_from x [] stamps k l long = absurd (omega arith)
   place_from x (o ∷ os) [] k l long = absurd (let bad : zero ≡ suc (length os) = long in omega arith)
   place_from x (o ∷ os) (a ∷ stamps) zero l long = let here : x ≡ x + 0 = omega arith in ap (λ z. old_place z rws e old new o a) here
   place_from x (o ∷ os) (a ∷ stamps) (suc k) l long =
       let next : suc x + k ≡ x + suc k = omega arith in
-      place_from (suc x) os stamps k (omega arith) (let h : suc (length stamps) ≡ suc (length os) = long in omega arith) ∙ ap (λ z. old_place z rws e old new (get_or os k ById) (get_or stamps k 0)) next
+      place_from (suc x) os stamps k (omega arith) (let h : suc (length stamps) ≡ suc (length os) = long in omega arith)
+      ∙ ap (λ z. old_place z rws e old new (get_or os k ById) (get_or stamps k 0)) next
 
   -- the one of a number
-  pub place_of : (os : List Order) (stamps : List ℕ) (k : ℕ) → k < length os → length stamps ≡ length os → get_or (old_places 0 rws e old new os stamps) k None ≡ old_place k rws e old new (get_or os k ById) (get_or stamps k 0)
-  place_of os stamps k l long = let here : 0 + k ≡ k = omega arith in place_from 0 os stamps k l long ∙ ap (λ z. old_place z rws e old new (get_or os k ById) (get_or stamps k 0)) here
+  pub place_of : (os : List Order) (stamps : List ℕ) (k : ℕ) → k < length os → length stamps ≡ length os
+      → get_or (old_places 0 rws e old new os stamps) k None ≡ old_place k rws e old new (get_or os k ById) (get_or stamps k 0)
+  place_of os stamps k l long =
+      let here : 0 + k ≡ k = omega arith in place_from 0 os stamps k l long ∙ ap (λ z. old_place z rws e old new (get_or os k ById) (get_or stamps k 0)) here
 
   -- those before a number, and the one of that number
-  pub places_more : {A : Type 0} (f : A → OldPlace) (ps qs : List (Option A)) (p : Option A) (os : List Order) (stamps : List ℕ) (k : ℕ) → length stamps ≡ length os → k < length os → map (option_map f) ps ≡ take k (old_places 0 rws e old new os stamps)
-      → option_map f p ≡ old_place k rws e old new (get_or os k ById) (get_or stamps k 0) → qs ≡ ps ++ p ∷ [] → map (option_map f) qs ≡ take (k + 1) (old_places 0 rws e old new os stamps)
+  pub places_more : {A : Type 0} (f : A → OldPlace) (ps qs : List (Option A)) (p : Option A) (os : List Order) (stamps : List ℕ) (k : ℕ)
+      → length stamps ≡ length os → k < length os → map (option_map f) ps ≡ take k (old_places 0 rws e old new os stamps)
+      → option_map f p ≡ old_place k rws e old new (get_or os k ById) (get_or stamps k 0)
+      → qs ≡ ps ++ p ∷ [] → map (option_map f) qs ≡ take (k + 1) (old_places 0 rws e old new os stamps)
   places_more f ps qs p os stamps k long l before one_ same =
       let all : length (old_places 0 rws e old new os stamps) ≡ length os = length_places 0 os stamps long in
       let last : option_map f p ≡ get_or (old_places 0 rws e old new os stamps) k None = one_ ∙ sym (place_of os stamps k l long) in
-      ap (map (option_map f)) same ∙ map-append (option_map f) ps (p ∷ []) ∙ (λ i. before i ++ last i ∷ []) ∙ sym (take_more (old_places 0 rws e old new os stamps) k None (omega arith))
+      ap (map (option_map f)) same ∙ map-append (option_map f) ps (p ∷ []) ∙ (λ i. before i ++ last i ∷ [])
+      ∙ sym (take_more (old_places 0 rws e old new os stamps) k None (omega arith))
 
-  pub places_all : (os : List Order) (stamps : List ℕ) (k : ℕ) → length stamps ≡ length os → k ≡ length os → take k (old_places 0 rws e old new os stamps) ≡ old_places 0 rws e old new os stamps
-  places_all os stamps k long end = ap (λ n. take n (old_places 0 rws e old new os stamps)) (end ∙ sym (length_places 0 os stamps long)) ∙ take-length (old_places 0 rws e old new os stamps)
+  pub places_all : (os : List Order) (stamps : List ℕ) (k : ℕ) → length stamps ≡ length os → k ≡ length os
+      → take k (old_places 0 rws e old new os stamps) ≡ old_places 0 rws e old new os stamps
+  places_all os stamps k long end = ap (λ n. take n (old_places 0 rws e old new os stamps)) (end ∙ sym (length_places 0 os stamps long))
+      ∙ take-length (old_places 0 rws e old new os stamps)
 
 pub length_stamps : (m : Pooled Stored) (q y : ℕ) (os : List Order) → length (stamps_in m q y os) ≡ length os
 length_stamps m q y [] = refl
@@ -216,10 +241,12 @@ mark_of f (p ∷ ps) zero = sym (mapped_some f p)
 mark_of f (p ∷ ps) (suc k) = mark_of f ps k
 
 -- an index is marked where its place is kept
-pub mark_is : {A : Type 0} (f : A → OldPlace) (ps : List (Option A)) (all : List (Option OldPlace)) (k : ℕ) → map (option_map f) ps ≡ all → mark_at (map is_some ps) k ≡ is_some (get_or all k None)
+pub mark_is : {A : Type 0} (f : A → OldPlace) (ps : List (Option A)) (all : List (Option OldPlace)) (k : ℕ)
+    → map (option_map f) ps ≡ all → mark_at (map is_some ps) k ≡ is_some (get_or all k None)
 mark_is f ps all k same = mark_of f ps k ∙ ap (λ w. is_some (get_or w k None)) same
 
-module _ (s : Shape) (ids : FinMap nat_cmp IdEntry) (m : Pooled Stored) (xs : List Structure) (next arrivals : ℕ) (is : IsMulti s ids m xs next arrivals) (e : ℕ) (r : Ref)
+module _ (s : Shape) (ids : FinMap nat_cmp IdEntry) (m : Pooled Stored) (xs : List Structure)
+    (next arrivals : ℕ) (is : IsMulti s ids m xs next arrivals) (e : ℕ) (r : Ref)
     (there : get ids e ≡ Some (record { node = r; live = true })) (v : Stored) (named : v.id ≡ e) where
   abbrev plain : Data
   plain = plain_of s ids m xs next arrivals
@@ -233,7 +260,8 @@ module _ (s : Shape) (ids : FinMap nat_cmp IdEntry) (m : Pooled Stored) (xs : Li
       ∙ length_orders s.indexes [] ∙ sym (length_orders s.indexes (own_lists m xs))
 
   -- the marks are those of the indexes in which its key changes
-  pub marked_by : {A : Type 0} (f : A → OldPlace) (ps : List (Option A)) → map (option_map f) ps ≡ old_places 0 plain.rows e its.values v.row plain.orders its.stamps
+  pub marked_by : {A : Type 0} (f : A → OldPlace) (ps : List (Option A))
+      → map (option_map f) ps ≡ old_places 0 plain.rows e its.values v.row plain.orders its.stamps
       → Marked s ids m xs next arrivals is e r there v named (map is_some ps)
   marked_by f ps same k l =
       mark_is f ps (old_places 0 plain.rows e its.values v.row plain.orders its.stamps) k same

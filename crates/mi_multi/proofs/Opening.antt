@@ -21,7 +21,7 @@ use Rattle.mi_index.specs.declared.stored.Stored.{Stored}
 use Rattle.mi_index.specs.declared.structure.Structure.{Structure}
 use Rattle.mi_index.specs.declared.structure.Structure.TheVariants.{Ordered, Hashed, Sequenced}
 use Rattle.mi_index.specs.Pass.{AllStand}
-use Rattle.mi_index.specs.Opened.{IsFor as Opens, AllFor as AllOpen, empties, IsOpened}
+use Rattle.mi_index.specs.Opened.{IsOpenedFor as Opens, AllOpenedFor as AllOpen, empties, IsOpened}
 use Rattle.mi_container.specs.Data.{IsData}
 use Rattle.mi_container.specs.Data.Order.{Listed}
 use Rattle.mi_container.specs.Changes.{order_for, opened_data}
@@ -50,7 +50,8 @@ one_order kinds.Ranked ps l none_ = refl
 one_order kinds.Hashed ps l none_ = refl
 one_order kinds.Sequenced ps l none_ = ap Listed (none_ refl)
 
-all_orders : (is : List Index) (s : ℕ) (m : Pooled Stored) (xs : List Structure) → AllFor is xs → AllStand xs s m (empties xs) → orders_of is (own_lists m xs) ≡ map (λ (i : Index). order_for i.kind i.parts) is
+all_orders : (is : List Index) (s : ℕ) (m : Pooled Stored) (xs : List Structure) → AllFor is xs
+    → AllStand xs s m (empties xs) → orders_of is (own_lists m xs) ≡ map (λ (i : Index). order_for i.kind i.parts) is
 all_orders [] s m [] f a = refl
 all_orders [] s m (x ∷ xs) f a = absurd f
 all_orders (i ∷ is) s m [] f a = absurd f
@@ -61,7 +62,8 @@ none_there e a ids same h = none_some (sym (ap (λ q. get q e) same ∙ get-empt
 
 nothing_picked : {B : Type 0} (f : IdEntry → Option B) (ids : FinMap nat_cmp IdEntry) → ids ≡ empty → picked f (entries ids) ≡ []
 nothing_picked f ids same =
-    same_pairs (picked f (entries ids)) [] (up_picked f (entries ids) (up_entries ids)) tt (λ e. get_picked f ids e ∙ ap (option_and_then f) (ap (λ q. get q e) same ∙ get-empty nat_cmp e))
+    same_pairs (picked f (entries ids)) [] (up_picked f (entries ids) (up_entries ids)) tt
+    (λ e. get_picked f ids e ∙ ap (option_and_then f) (ap (λ q. get q e) same ∙ get-empty nat_cmp e))
 
 all_live : (ids : FinMap nat_cmp IdEntry) (m : Pooled Stored) (xs : List Structure) → ids ≡ empty → AllByRecursion (AreLive ids m) (empties xs)
 all_live ids m [] same = tt
@@ -71,11 +73,18 @@ all_live ids m (x ∷ xs) same =
 no_refs : (n k : ℕ) → ref_of {T = Stored} (no_nodes n) k ≡ None
 no_refs n k = ref-no_nodes Stored n k
 
-module _ (s : Shape) (ids : FinMap nat_cmp IdEntry) (m : Pooled Stored) (xs : List Structure) (kept : is_schema s ≡ true) (none_ : ids ≡ empty) (opened : IsOpened s m xs) where
+module _ (s : Shape) (ids : FinMap nat_cmp IdEntry) (m : Pooled Stored) (xs : List Structure)
+    (kept : is_schema s ≡ true) (none_ : ids ≡ empty) (opened : IsOpened s m xs) where
   pub opened_seen : plain_of s ids m xs s.first_id s.first_arrival ≡ opened_data s
   opened_seen =
       let orders = all_orders s.indexes 0 m xs (all_for s.columns s.indexes 0 xs opened.kinds) opened.stand in
-      (λ i. record { rows = nothing_picked (live_in m (plan s.indexes)) ids none_ i; orders = orders i; next = s.first_id; arrivals = s.first_arrival; kept = nothing_picked (kept_in m (plan s.indexes)) ids none_ i })
+      (λ i. record {
+        rows = nothing_picked (live_in m (plan s.indexes)) ids none_ i;
+        orders = orders i;
+        next = s.first_id;
+        arrivals = s.first_arrival;
+        kept = nothing_picked (kept_in m (plan s.indexes)) ids none_ i;
+      })
 
   pub opened_multi : IsMulti s ids m xs s.first_id s.first_arrival
   opened_multi = record {

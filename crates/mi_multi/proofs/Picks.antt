@@ -37,7 +37,7 @@ both_true true b p = (tt, p)
 both_true false b p = absurd p
 
 module _ {A : Type 0} where
-  pub find_lookup : (q : ℕ) (es : List (ℕ × A)) → find nat_cmp q es ≡ lookup (λ k. k == q) es
+  find_lookup : (q : ℕ) (es : List (ℕ × A)) → find nat_cmp q es ≡ lookup (λ k. k == q) es
   find_lookup q [] = refl
   find_lookup q (r ∷ es) = (λ i. cond (eq_cmp q r.0 i) (Some r.1) (find_lookup q es i))
 
@@ -71,7 +71,8 @@ module _ {A : Type 0} where
             (λ i. (ids i, val i) ∷ tails i)
         | inr other ↦
             let up : y.0 < x.0 = above_some y.0 x.0 x.1 ys uy.0 (sym (head_isnt x.0 y ys other.0) ∙ sym (is x.0) ∙ head_is x.0 x xs (is_itself x.0)) in
-            let down : x.0 < y.0 = above_some x.0 y.0 y.1 xs ux.0 (sym (head_isnt y.0 x xs (is_other x.0 y.0 (λ h. other.1 (sym h)))) ∙ is y.0 ∙ head_is y.0 y ys (is_itself y.0)) in
+            let down : x.0 < y.0 = above_some x.0 y.0 y.1 xs ux.0
+            (sym (head_isnt y.0 x xs (is_other x.0 y.0 (λ h. other.1 (sym h)))) ∙ is y.0 ∙ head_is y.0 y ys (is_itself y.0)) in
             absurd (omega arith)
       ]
 
@@ -92,7 +93,8 @@ module _ {A B : Type 0} (f : A → Option B) where
   up_picked [] up = tt
   up_picked (r ∷ es) up = up_joined r.0 (f r.1) (picked f es) (above_picked r.0 es up.0) (up_picked es up.1)
 
-  found_here : (e : ℕ) (o : Option B) (a : ℕ) (rest : List (ℕ × B)) → (a == e) ≡ true → lookup (λ k. k == e) rest ≡ None → lookup (λ k. k == e) (joined a o rest) ≡ o
+  found_here : (e : ℕ) (o : Option B) (a : ℕ) (rest : List (ℕ × B)) → (a == e) ≡ true
+      → lookup (λ k. k == e) rest ≡ None → lookup (λ k. k == e) (joined a o rest) ≡ o
   found_here e None a rest is none = none
   found_here e (Some b) a rest is none = head_is e (a, b) rest is
 
@@ -100,11 +102,12 @@ module _ {A B : Type 0} (f : A → Option B) where
   found_on e None a rest isnt = refl
   found_on e (Some b) a rest isnt = head_isnt e (a, b) rest isnt
 
-  pub lookup_picked : (e : ℕ) (es : List (ℕ × A)) → Up es → lookup (λ k. k == e) (picked f es) ≡ option_and_then f (lookup (λ k. k == e) es)
+  lookup_picked : (e : ℕ) (es : List (ℕ × A)) → Up es → lookup (λ k. k == e) (picked f es) ≡ option_and_then f (lookup (λ k. k == e) es)
   lookup_picked e [] up = refl
   lookup_picked e (r ∷ es) up =
       both_ways (r.0 == e)
-      (λ yes. found_here e (f r.1) r.0 (picked f es) yes (above_none e (picked f es) (subst (λ n. Above n (picked f es)) (eqb-true r.0 e yes) (above_picked r.0 es up.0)))
+      (λ yes. found_here e (f r.1) r.0 (picked f es) yes
+      (above_none e (picked f es) (subst (λ n. Above n (picked f es)) (eqb-true r.0 e yes) (above_picked r.0 es up.0)))
       ∙ sym (ap (option_and_then f) (head_is e r es yes)))
       (λ isnt. found_on e (f r.1) r.0 (picked f es) isnt ∙ lookup_picked e es up.1 ∙ sym (ap (option_and_then f) (head_isnt e r es isnt)))
 

@@ -42,12 +42,15 @@ unfolding side_of_new item_of
 side_is ps m s r q stamp v w p k = (λ i. compared (side_by (stored_order ps)) (stamped (p i) stamp) (stamped (k i) (link_of m q.name s).tag.stamp))
 
 -- the stamps differ, or where an index has no parts the ids do
-pub not_equal : (ps : List KeyPart) (m : Pooled Stored) (s : ℕ) (r q : Ref) (stamp a b : ℕ) → HasNode m a r → HasNode m b q → a ≢ b → (ps ≢ [] → stamp ≢ (link_of m q.name s).tag.stamp) → side_of_new (stored_order ps) m s r stamp q ≡ Equal → ⊥
+pub not_equal : (ps : List KeyPart) (m : Pooled Stored) (s : ℕ) (r q : Ref) (stamp a b : ℕ) → HasNode m a r → HasNode m b q
+    → a ≢ b → (ps ≢ [] → stamp ≢ (link_of m q.name s).tag.stamp) → side_of_new (stored_order ps) m s r stamp q ≡ Equal → ⊥
 not_equal [] m s r q stamp a b f g ne differ is =
-    let both = both_equal (stored_order [] f.value g.value) (nat_cmp stamp (link_of m q.name s).tag.stamp) (sym (side_is [] m s r q stamp f.value g.value f.is g.is) ∙ is) in
+    let both = both_equal (stored_order [] f.value g.value) (nat_cmp stamp (link_of m q.name s).tag.stamp)
+    (sym (side_is [] m s r q stamp f.value g.value f.is g.is) ∙ is) in
     ne (sym f.id ∙ ids_equal f.value g.value both.0 ∙ g.id)
 not_equal (p ∷ ps) m s r q stamp a b f g ne differ is =
-    let both = both_equal (stored_order (p ∷ ps) f.value g.value) (nat_cmp stamp (link_of m q.name s).tag.stamp) (sym (side_is (p ∷ ps) m s r q stamp f.value g.value f.is g.is) ∙ is) in
+    let both = both_equal (stored_order (p ∷ ps) f.value g.value) (nat_cmp stamp (link_of m q.name s).tag.stamp)
+    (sym (side_is (p ∷ ps) m s r q stamp f.value g.value f.is g.is) ∙ is) in
     differ (λ e. (let bad : p ∷ ps ≡ [] = e in cc)) (ranked stamp (link_of m q.name s).tag.stamp Equal (sym both.1))
 
 -- the same of a value that no node has yet
@@ -56,13 +59,15 @@ value_side : (ps : List KeyPart) (m : Pooled Stored) (s : ℕ) (q : Ref) (stamp 
 unfolding item_of
 value_side ps m s q stamp v w k = (λ i. compared (side_by (stored_order ps)) (Some (v, stamp)) (stamped (k i) (link_of m q.name s).tag.stamp))
 
-pub value_not_equal : (ps : List KeyPart) (m : Pooled Stored) (s : ℕ) (q : Ref) (stamp : ℕ) (v : Stored) (b : ℕ) → HasNode m b q → v.id ≢ b → (ps ≢ [] → stamp ≢ (link_of m q.name s).tag.stamp)
+pub value_not_equal : (ps : List KeyPart) (m : Pooled Stored) (s : ℕ) (q : Ref) (stamp : ℕ) (v : Stored) (b : ℕ)
+    → HasNode m b q → v.id ≢ b → (ps ≢ [] → stamp ≢ (link_of m q.name s).tag.stamp)
     → side_of_value (stored_order ps) m s v stamp q ≡ Equal → ⊥
 value_not_equal [] m s q stamp v b g ne differ is =
     let both = both_equal (stored_order [] v g.value) (nat_cmp stamp (link_of m q.name s).tag.stamp) (sym (value_side [] m s q stamp v g.value g.is) ∙ is) in
     ne (ids_equal v g.value both.0 ∙ g.id)
 value_not_equal (p ∷ ps) m s q stamp v b g ne differ is =
-    let both = both_equal (stored_order (p ∷ ps) v g.value) (nat_cmp stamp (link_of m q.name s).tag.stamp) (sym (value_side (p ∷ ps) m s q stamp v g.value g.is) ∙ is) in
+    let both = both_equal (stored_order (p ∷ ps) v g.value) (nat_cmp stamp (link_of m q.name s).tag.stamp)
+    (sym (value_side (p ∷ ps) m s q stamp v g.value g.is) ∙ is) in
     differ (λ e. (let bad : p ∷ ps ≡ [] = e in cc)) (ranked stamp (link_of m q.name s).tag.stamp Equal (sym both.1))
 
 -- A list by its stamps, parted at one that no node has
@@ -85,12 +90,16 @@ pub cut_at : (f : Ref → ℕ) (a : ℕ) (rs : List Ref) → Climb f rs → AllB
 cut_at f a [] up none = record { xs = []; ys = []; parts = refl; below = tt; above = tt }
 cut_at f a (r ∷ rs) up none =
     elim (leb_tells a (f r)) [
-      | inr l ↦ let c = cut_at f a rs up.1 none.1 in record { xs = r ∷ c.xs; ys = c.ys; parts = ap (λ k. r ∷ k) c.parts; below = (l.1, c.below); above = c.above }
-      | inl l ↦ let more : a < f r = (let ne : a ≢ f r = none.0 in let n : a ≤ f r = l.1 in omega arith) in record { xs = []; ys = r ∷ rs; parts = refl; below = tt; above = (more, above_more f a (f r) rs more up.0) }
+      | inr l ↦
+          let c = cut_at f a rs up.1 none.1 in record { xs = r ∷ c.xs; ys = c.ys; parts = ap (λ k. r ∷ k) c.parts; below = (l.1, c.below); above = c.above }
+      | inl l ↦
+          let more : a < f r = (let ne : a ≢ f r = none.0 in let n : a ≤ f r = l.1 in omega arith) in
+          record { xs = []; ys = r ∷ rs; parts = refl; below = tt; above = (more, above_more f a (f r) rs more up.0) }
     ]
 
 -- a list that is parted at a number in two ways is parted in one
-pub one_cut : (f : ℕ → ℕ) (a : ℕ) (xs ys us vs : List ℕ) → xs ++ ys ≡ us ++ vs → AllByRecursion (λ b. f b < a) xs → AllByRecursion (λ b. a < f b) ys → AllByRecursion (λ b. f b < a) us → AllByRecursion (λ b. a < f b) vs → (xs ≡ us) × (ys ≡ vs)
+pub one_cut : (f : ℕ → ℕ) (a : ℕ) (xs ys us vs : List ℕ) → xs ++ ys ≡ us ++ vs → AllByRecursion (λ b. f b < a) xs
+    → AllByRecursion (λ b. a < f b) ys → AllByRecursion (λ b. f b < a) us → AllByRecursion (λ b. a < f b) vs → (xs ≡ us) × (ys ≡ vs)
 one_cut f a [] ys [] vs same p q u v = (refl, same)
 one_cut f a [] [] (b ∷ us) vs same p q u v = absurd (cc)
 one_cut f a [] (c ∷ ys) (b ∷ us) vs same p q u v =

@@ -1,5 +1,6 @@
 -- What a key finds in an index.
-use Rattle.std.proofs.Common.{Bor, ◌≡◌, ℕ, ◌<◌, zero, suc, Bool, true, false, cond, not, ◌&&◌, List, [], ◌∷◌, ◌++◌, slice_get, get_or, length, refl, ap, sym, ◌∙◌, subst, arith}
+use Rattle.std.proofs.Common.{Bor, ◌≡◌, ℕ, ◌<◌, zero, suc, Bool, true, false, cond, not, ◌&&◌, List, []}
+use Rattle.std.proofs.Common.{◌∷◌, ◌++◌, slice_get, get_or, length, refl, ap, sym, ◌∙◌, subst, arith}
 use Rattle.std.specs.Prelude.{◌==◌, ◌≢◌}
 use Rattle.std.specs.List.{AllByRecursion, filter, list_all}
 use Rattle.std.specs.Option.{option_map}
@@ -38,7 +39,7 @@ use Rattle.mi_index.specs.declared.stored.Stored.{Stored}
 use Rattle.mi_index.specs.declared.structure.Structure.{Structure}
 use Rattle.mi_index.specs.declared.structure.Structure.TheVariants.{Ordered, Hashed, Sequenced}
 use Rattle.mi_index.specs.Looks as nodes
-use Rattle.mi_index.specs.Orders.{place_in, row_in, keying_of, has_one_key, is_whole, is_key as is_key_of}
+use Rattle.mi_index.specs.Orders.{place_in, row_in, keying_of, has_one_key, is_whole, is_key_of}
 use Rattle.mi_index.specs.declared.orders.ByHash.{ByHash as HashedBy}
 use Rattle.mi_container.specs.Asked.{IsSorted}
 use Rattle.mi_container.specs.Data.{table_of}
@@ -93,8 +94,11 @@ not_above Less h = absurd (cc)
 not_above Equal h = refl
 not_above Greater h = refl
 
-falls : (i : Index) (t : Table) (key : List Value) (a b : ℕ) → is_lt (compare_ids i t b a) ≡ false → NotBelow (compare_to_id i t key a) (compare_to_id i t key b)
-falls i t key a b up = let total : IsTotalOrder (compare_ids i t) = compare_ids_total i t in key_falls i t key a b (ap is_gt (total.antisymm a b) ∙ not_above (compare_ids i t b a) up)
+falls : (i : Index) (t : Table) (key : List Value) (a b : ℕ) → is_lt (compare_ids i t b a) ≡ false
+    → NotBelow (compare_to_id i t key a) (compare_to_id i t key b)
+falls i t key a b up =
+    let total : IsTotalOrder (compare_ids i t) = compare_ids_total i t in
+    key_falls i t key a b (ap is_gt (total.antisymm a b) ∙ not_above (compare_ids i t b a) up)
 
 past_lower : (o : Ordering) → past false (ordering_reverse o) ≡ not (is_gt o)
 past_lower Less = refl
@@ -132,17 +136,22 @@ ranked_hashed kind.Ranked a b = cc
 ranked_hashed kind.Hashed a b = cc
 ranked_hashed kind.Sequenced a b = cc
 
-declared_parts : (columns : ℕ) (is : List Index) (k : ℕ) (none : Index) → k < length is → list_all (is_declared_index columns) is ≡ true → is_hashed (get_or is k none).kind ≡ true → (get_or is k none).parts ≢ []
+declared_parts : (columns : ℕ) (is : List Index) (k : ℕ) (none : Index) → k < length is
+    → list_all (is_declared_index columns) is ≡ true → is_hashed (get_or is k none).kind ≡ true → (get_or is k none).parts ≢ []
 declared_parts columns [] k none l h hashed = absurd (omega arith)
 declared_parts columns (i ∷ is) zero none l h hashed = parts_there columns i.kind i.«unique» i.parts (and_parts _ _ (and_parts _ _ h).0).1 hashed
 declared_parts columns (i ∷ is) (suc k) none l h hashed = declared_parts columns is k none (omega arith) (and_parts _ _ h).1 hashed
 
-pub hashed_parts : (columns : ℕ) (is : List Index) (k : ℕ) (none : Index) → k < length is → are_indexes columns is ≡ true → is_hashed (get_or is k none).kind ≡ true → (get_or is k none).parts ≢ []
+pub hashed_parts : (columns : ℕ) (is : List Index) (k : ℕ) (none : Index) → k < length is
+    → are_indexes columns is ≡ true → is_hashed (get_or is k none).kind ≡ true → (get_or is k none).parts ≢ []
 hashed_parts columns [] k none l h hashed = absurd (omega arith)
-hashed_parts columns (i ∷ is) zero none l h hashed = absurd (ranked_hashed i.kind (and_parts _ _ (and_parts _ _ (and_parts _ _ (and_parts _ _ (and_parts _ _ (and_parts _ _ h).0).0).0).0).0).1 hashed)
-hashed_parts columns (i ∷ is) (suc k) none l h hashed = declared_parts columns is k none (omega arith) (and_parts _ _ (and_parts _ _ (and_parts _ _ h).0).0).1 hashed
+hashed_parts columns (i ∷ is) zero none l h hashed = absurd
+    (ranked_hashed i.kind (and_parts _ _ (and_parts _ _ (and_parts _ _ (and_parts _ _ (and_parts _ _ (and_parts _ _ h).0).0).0).0).0).1 hashed)
+hashed_parts columns (i ∷ is) (suc k) none l h hashed = declared_parts columns is k none
+    (omega arith) (and_parts _ _ (and_parts _ _ (and_parts _ _ h).0).0).1 hashed
 
-module _ (s : Shape) (ids : FinMap nat_cmp IdEntry) (m : Pooled Stored) (xs : List Structure) (next arrivals : ℕ) (is : IsMulti s ids m xs next arrivals) (x : ℕ) (y : Structure) (n : Numbered s ids m xs x y) where
+module _ (s : Shape) (ids : FinMap nat_cmp IdEntry) (m : Pooled Stored) (xs : List Structure) (next arrivals : ℕ)
+    (is : IsMulti s ids m xs next arrivals) (x : ℕ) (y : Structure) (n : Numbered s ids m xs x y) where
   abbrev t : Table
   t = table_of (plain_of s ids m xs next arrivals)
 
@@ -160,11 +169,14 @@ module _ (s : Shape) (ids : FinMap nat_cmp IdEntry) (m : Pooled Stored) (xs : Li
   shown_ids = ids_shown s ids m xs next arrivals is x y n
 
   -- how a node stands to a key
-  place_is : (vs : List Value) (q : Ref) (v : Stored) → IsLiveRef ids m q → value_of m q.name ≡ Some v → compare_to_row i.parts vs (row_in v) ≡ compare_to_id i t vs (id_at m q)
-  place_is vs q v live at = ap (compare_to_row i.parts vs) (sym (row_at s ids m xs next arrivals is q v live (node_of_row s ids m xs next arrivals is x y n q live) at))
+  place_is : (vs : List Value) (q : Ref) (v : Stored) → IsLiveRef ids m q → value_of m q.name ≡ Some v
+      → compare_to_row i.parts vs (row_in v) ≡ compare_to_id i t vs (id_at m q)
+  place_is vs q v live at = ap (compare_to_row i.parts vs)
+      (sym (row_at s ids m xs next arrivals is q v live (node_of_row s ids m xs next arrivals is x y n q live) at))
 
   module _ (k : Bor (List Value)) where
-    past_is : (strict : Bool) (w : Structure) → IsFor i w → nodes.IsSorted w → (q : Ref) → IsLiveRef ids m q → nodes.is_past strict w m (Key k) q ≡ past strict (ordering_reverse (compare_to_id i t k.now (id_at m q)))
+    past_is : (strict : Bool) (w : Structure) → IsFor i w → nodes.IsSorted w → (q : Ref) → IsLiveRef ids m q
+        → nodes.is_past strict w m (Key k) q ≡ past strict (ordering_reverse (compare_to_id i t k.now (id_at m q)))
     unfolding is_past_node
     past_is strict (Ordered u) f sorted q live =
         let has = node_of_row s ids m xs next arrivals is x y n q live in
@@ -178,7 +190,8 @@ module _ (s : Shape) (ids : FinMap nat_cmp IdEntry) (m : Pooled Stored) (xs : Li
     lower_seen sorts sorted =
         let p : ℕ → Bool = λ id. is_gt (compare_to_id i t k.now id) in
         where_ids (id_at m) (nodes.is_past false y m (Key k)) (λ id. not (p id)) rs
-        (each_of (λ q. nodes.is_past false y m (Key k) q ≡ not (p (id_at m q))) (λ q live. past_is false y n.stood.for_ sorted q live ∙ past_lower (compare_to_id i t k.now (id_at m q))) rs n.stood.live.rows)
+        (each_of (λ q. nodes.is_past false y m (Key k) q ≡ not (p (id_at m q)))
+        (λ q live. past_is false y n.stood.for_ sorted q live ∙ past_lower (compare_to_id i t k.now (id_at m q))) rs n.stood.live.rows)
         ∙ ap (λ l. slice_get (filter (λ id. not (p id)) l) 0) shown_ids
         ∙ first_past (compare_ids i t) p (λ a b up yes. gt_back _ _ (falls i t k.now a b up) yes) (view s t x) (view_ascends s t x sorts)
         ∙ ap (slice_get (view s t x)) (length-filter p (view s t x))
@@ -187,14 +200,16 @@ module _ (s : Shape) (ids : FinMap nat_cmp IdEntry) (m : Pooled Stored) (xs : Li
     upper_seen sorts sorted =
         let p : ℕ → Bool = λ id. is_ge (compare_to_id i t k.now id) in
         where_ids (id_at m) (nodes.is_past true y m (Key k)) (λ id. not (p id)) rs
-        (each_of (λ q. nodes.is_past true y m (Key k) q ≡ not (p (id_at m q))) (λ q live. past_is true y n.stood.for_ sorted q live ∙ past_upper (compare_to_id i t k.now (id_at m q))) rs n.stood.live.rows)
+        (each_of (λ q. nodes.is_past true y m (Key k) q ≡ not (p (id_at m q)))
+        (λ q live. past_is true y n.stood.for_ sorted q live ∙ past_upper (compare_to_id i t k.now (id_at m q))) rs n.stood.live.rows)
         ∙ ap (λ l. slice_get (filter (λ id. not (p id)) l) 0) shown_ids
         ∙ first_past (compare_ids i t) p (λ a b up yes. ge_back _ _ (falls i t k.now a b up) yes) (view s t x) (view_ascends s t x sorts)
         ∙ ap (slice_get (view s t x)) (length-filter p (view s t x))
 
   -- Whole keys
 
-  whole_is : (ps : List KeyPart) (vs : List Value) (v : Stored) → ps ≢ [] → length vs ≡ length (parts_or_id ps) → is_whole ps vs v.row ≡ is_eq (compare_to_row ps vs (row_in v))
+  whole_is : (ps : List KeyPart) (vs : List Value) (v : Stored) → ps ≢ []
+      → length vs ≡ length (parts_or_id ps) → is_whole ps vs v.row ≡ is_eq (compare_to_row ps vs (row_in v))
   whole_is [] vs v some long = absurd (some refl)
   whole_is (p ∷ ps) vs v some long = ap (λ b. b && is_eq (compare_prefix (p ∷ ps) vs v.row)) (itself long)
     where
@@ -202,7 +217,8 @@ module _ (s : Shape) (ids : FinMap nat_cmp IdEntry) (m : Pooled Stored) (xs : Li
       itself {a} same = subst (λ c. (a == c) ≡ true) same (count_itself a)
 
   module _ (k : Bor (List Value)) (long : length k.now ≡ length (parts_or_id i.parts)) (parts : is_hashed i.kind ≡ true → i.parts ≢ []) where
-    sought_is : (w : Structure) → IsFor i w → (has_keys i.kind ≡ true) → (q : Ref) → IsLiveRef ids m q → nodes.has_sought w m (Key k) q ≡ is_eq (compare_to_id i t k.now (id_at m q))
+    sought_is : (w : Structure) → IsFor i w → (has_keys i.kind ≡ true) → (q : Ref) → IsLiveRef ids m q
+        → nodes.has_sought w m (Key k) q ≡ is_eq (compare_to_id i t k.now (id_at m q))
     unfolding is_node_at has_key
     sought_is (Ordered u) f keyed q live =
         let has = node_of_row s ids m xs next arrivals is x y n q live in
@@ -221,7 +237,8 @@ module _ (s : Shape) (ids : FinMap nat_cmp IdEntry) (m : Pooled Stored) (xs : Li
     pub find_seen : has_keys i.kind ≡ true → option_map (id_at m) (first_where (nodes.has_sought y m (Key k)) rs) ≡ look.find s t x k.now
     find_seen keyed =
         where_ids (id_at m) (nodes.has_sought y m (Key k)) (λ id. is_eq (compare_to_id i t k.now id)) rs
-        (each_of (λ q. nodes.has_sought y m (Key k) q ≡ is_eq (compare_to_id i t k.now (id_at m q))) (λ q live. sought_is y n.stood.for_ keyed q live) rs n.stood.live.rows)
+        (each_of (λ q. nodes.has_sought y m (Key k) q ≡ is_eq (compare_to_id i t k.now (id_at m q)))
+        (λ q live. sought_is y n.stood.for_ keyed q live) rs n.stood.live.rows)
         ∙ ap (λ l. slice_get (filter (λ id. is_eq (compare_to_id i t k.now id)) l) 0) shown_ids
 
   -- Those of one key
@@ -250,7 +267,8 @@ module _ (s : Shape) (ids : FinMap nat_cmp IdEntry) (m : Pooled Stored) (xs : Li
         ∙ ap (λ k. is_eq (compare_key k mine.value.row its.value.row)) (sym same)
         ∙ sym ((λ j. same_values (has_one_key h.parts) (mine.is j) (value_of m q.name)) ∙ (λ j. same_values (has_one_key h.parts) (Some mine.value) (its.is j)))
 
-    pub next_of_seen : (w : Structure) → IsFor i w → nodes.IsHashed w → option_map (id_at m) (first_of (filter (nodes.has_same_key w m r) a.ys) None) ≡ look.next_of s t x e
+    pub next_of_seen : (w : Structure) → IsFor i w → nodes.IsHashed w
+        → option_map (id_at m) (first_of (filter (nodes.has_same_key w m r) a.ys) None) ≡ look.next_of s t x e
     next_of_seen (Ordered u) f hashed = absurd hashed
     next_of_seen (Sequenced l) f hashed = absurd hashed
     next_of_seen (Hashed c) f hashed =
@@ -258,11 +276,14 @@ module _ (s : Shape) (ids : FinMap nat_cmp IdEntry) (m : Pooled Stored) (xs : Li
         let p : ℕ → Bool = λ id. is_eq (compare_ids i t e id) in
         let pr : Ref → Bool = λ q. p (id_at m q) in
         let live = subst (AllByRecursion (IsLiveRef ids m)) a.parts n.stood.live.rows in
-        let left : filter pr a.xs ≡ filter g a.xs = filter_eq pr g a.xs (each_of (λ q. pr q ≡ g q) (key_is c.keys f.1) a.xs (all_before (IsLiveRef ids m) a.xs (r ∷ a.ys) live)) in
-        let right : filter pr a.ys ≡ filter g a.ys = filter_eq pr g a.ys (each_of (λ q. pr q ≡ g q) (key_is c.keys f.1) a.ys (all_behind (IsLiveRef ids m) a.xs r a.ys live)) in
+        let left : filter pr a.xs ≡ filter g a.xs = filter_eq pr g a.xs
+        (each_of (λ q. pr q ≡ g q) (key_is c.keys f.1) a.xs (all_before (IsLiveRef ids m) a.xs (r ∷ a.ys) live)) in
+        let right : filter pr a.ys ≡ filter g a.ys = filter_eq pr g a.ys
+        (each_of (λ q. pr q ≡ g q) (key_is c.keys f.1) a.ys (all_behind (IsLiveRef ids m) a.xs r a.ys live)) in
         let mine : pr r ≡ true = ap p a.id ∙ ap is_eq (tied_itself (compare_ids_total i t) e) in
         let whole : filter p (view s t x) ≡ ids_at m (filter g a.xs ++ r ∷ filter g a.ys) =
         ap (filter p) (sym shown_ids ∙ ap (ids_at m) a.parts) ∙ filter_ids (id_at m) p (a.xs ++ r ∷ a.ys)
-        ∙ ap (ids_at m) (filter_append pr a.xs (r ∷ a.ys) ∙ ap (λ b. filter pr a.xs ++ cond b (r ∷ filter pr a.ys) (filter pr a.ys)) mine ∙ (λ j. left j ++ r ∷ right j)) in
+        ∙ ap (ids_at m) (filter_append pr a.xs (r ∷ a.ys)
+        ∙ ap (λ b. filter pr a.xs ++ cond b (r ∷ filter pr a.ys) (filter pr a.ys)) mine ∙ (λ j. left j ++ r ∷ right j)) in
         after_middle (id_at m) e (filter g a.xs) r (filter g a.ys) a.here (lacks_filter (id_at m) g e a.xs a.lacks)
         ∙ ap (λ l. look.after_in l e) (sym whole)

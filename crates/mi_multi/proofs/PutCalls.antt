@@ -49,8 +49,9 @@ module _ (i : Inside) (is : AreMulti i) (w : Seen) (seen : seen_of i ≡ w) (row
   abbrev items : List Structure
   items = i.nodes.structures.items
 
-  pub row_there : get i.ids.entries row.id ≡ Some (record { node = row.node; live = true })
-  row_there = live_there i.schema i.ids.entries m items i.next i.arrivals (row_seen row) (subst (λ (v : Seen). IsLive v.plain.rows (row_seen row)) (sym seen) live)
+  row_there : get i.ids.entries row.id ≡ Some (record { node = row.node; live = true })
+  row_there = live_there i.schema i.ids.entries m items i.next i.arrivals (row_seen row)
+      (subst (λ (v : Seen). IsLive v.plain.rows (row_seen row)) (sym seen) live)
 
   pub row_held : IsHeld m row.node
   row_held = (is.held row.id (record { node = row.node; live = true }) row_there).held
@@ -62,10 +63,11 @@ module _ (i : Inside) (is : AreMulti i) (w : Seen) (seen : seen_of i ≡ w) (row
   pub long_stamps : length (content_of w.plain.rows row.id).stamps ≡ length w.plain.orders
   long_stamps =
       let h = is.held row.id (record { node = row.node; live = true }) row_there in
-      subst (λ (v : Seen). length (content_of v.plain.rows row.id).stamps ≡ length v.plain.orders) seen (old.long_stamps i.schema i.ids.entries m items i.next i.arrivals is row.id row.node row_there h.value h.id)
+      subst (λ (v : Seen). length (content_of v.plain.rows row.id).stamps ≡ length v.plain.orders) seen
+      (old.long_stamps i.schema i.ids.entries m items i.next i.arrivals is row.id row.node row_there h.value h.id)
 
   module _ (k : ℕ) (few : k < length w.shape.indexes) where
-    pub few_here : k < length i.schema.indexes
+    few_here : k < length i.schema.indexes
     few_here = subst (λ (v : Seen). k < length v.shape.indexes) (sym seen) few
 
     pub few_items : k < length items
@@ -84,25 +86,31 @@ module _ (i : Inside) (is : AreMulti i) (w : Seen) (seen : seen_of i ≡ w) (row
           (h.xs, h.ys, old.stands_with i.schema i.ids.entries m items i.next i.arrivals is row.id row.node row_there k y n)
 
     abbrev ItsPlace : List Value → Option OldPlace → Type 0
-    ItsPlace new p = p ≡ old_place k w.plain.rows row.id (content_of w.plain.rows row.id).values new (order_at w.plain.orders k) (stamp_of w.plain.rows k row.id)
+    ItsPlace new p = p ≡ old_place k w.plain.rows row.id (content_of w.plain.rows row.id).values
+        new (order_at w.plain.orders k) (stamp_of w.plain.rows k row.id)
 
     module _ (v : Stored) (v_is : value_of m row.node.name ≡ Some v) (new : List Value) where
       pub no_place : true ≡ is_eq (compare_key (index_at i.schema k).parts v.row new) → ItsPlace new None
       no_place same =
-          subst (λ (u : Seen). None ≡ old_place k u.plain.rows row.id (content_of u.plain.rows row.id).values new (order_at u.plain.orders k) (stamp_of u.plain.rows k row.id)) seen
+          subst (λ (u : Seen). None ≡ old_place k u.plain.rows row.id (content_of u.plain.rows row.id).values
+          new (order_at u.plain.orders k) (stamp_of u.plain.rows k row.id))
+          seen
           (old.no_place i.schema i.ids.entries m items i.next i.arrivals is row.id row.node row_there k few_here v v_is new same)
 
       pub some_place : false ≡ is_eq (compare_key (index_at i.schema k).parts v.row new) → (y : Structure) → slice_get items k ≡ Some y → (p : Place)
           → ((xs ys : List Ref) → Stands y m (xs ++ row.node ∷ ys) → IsPlaceOf y m row.node p xs ys) → ItsPlace new (Some (place_kept y p))
       some_place other y at p given =
-          subst (λ (u : Seen). Some (place_kept y p) ≡ old_place k u.plain.rows row.id (content_of u.plain.rows row.id).values new (order_at u.plain.orders k) (stamp_of u.plain.rows k row.id)) seen
+          subst (λ (u : Seen). Some (place_kept y p)
+          ≡ old_place k u.plain.rows row.id (content_of u.plain.rows row.id).values new (order_at u.plain.orders k) (stamp_of u.plain.rows k row.id))
+          seen
           (old.some_place i.schema i.ids.entries m items i.next i.arrivals is row.id row.node row_there k few_here v v_is new other y at p given)
 
       -- the stamp of what is kept is below 2^63
       pub kept_stamp : false ≡ is_eq (compare_key (index_at i.schema k).parts v.row new) → (y : Structure) → slice_get items k ≡ Some y → (p : Place)
           → ((xs ys : List Ref) → Stands y m (xs ++ row.node ∷ ys) → IsPlaceOf y m row.node p xs ys) → (q : OldPlace) → q ≡ place_kept y p → q.stamp < 2 ^ 63
       kept_stamp other y at p given q same =
-          subst (λ (a : OldPlace). a.stamp < 2 ^ 63) (sym same) (old.few_stamp i.schema i.ids.entries m items i.next i.arrivals is row.id row.node row_there k few_here v v_is new other y at p given)
+          subst (λ (a : OldPlace). a.stamp < 2 ^ 63) (sym same)
+          (old.few_stamp i.schema i.ids.entries m items i.next i.arrivals is row.id row.node row_there k few_here v v_is new other y at p given)
 
 -- The put
 
@@ -121,15 +129,24 @@ module _ (i : Inside) (is : AreMulti i) (w : Seen) (seen : seen_of i ≡ w) (e :
 
     pub live_row : IsLive w.plain.rows (record { id = e; at = r })
     live_row =
-        subst (λ (u : Seen). IsLive u.plain.rows (record { id = e; at = r })) seen
-        (node_in i.nodes.pool (plan i.schema.indexes) r, row_here i.schema i.ids.entries i.nodes.pool i.nodes.structures.items i.next i.arrivals is e r there v refl, refl)
+        subst (λ (u : Seen). IsLive u.plain.rows (record { id = e; at = r })) seen (
+          node_in i.nodes.pool (plan i.schema.indexes) r,
+          row_here i.schema i.ids.entries i.nodes.pool i.nodes.structures.items i.next i.arrivals is e r there v refl,
+          refl,
+        )
 
     pub node_held : IsHeld i.nodes.pool r
     node_held = (is.held e (record { node = r; live = true }) there).held
 
-    module _ (ps : List (Option Was)) (places : map (option_map place_seen) ps ≡ old_places 0 w.plain.rows e (content_of w.plain.rows e).values row w.plain.orders (content_of w.plain.rows e).stamps) (marks : List Bool) (marks_are : marks ≡ map is_some ps) where
-      places_here : map (option_map place_seen) ps ≡ old_places 0 (seen_of i).plain.rows e (content_of (seen_of i).plain.rows e).values row (seen_of i).plain.orders (content_of (seen_of i).plain.rows e).stamps
-      places_here = subst (λ (u : Seen). map (option_map place_seen) ps ≡ old_places 0 u.plain.rows e (content_of u.plain.rows e).values row u.plain.orders (content_of u.plain.rows e).stamps) (sym seen) places
+    module _ (ps : List (Option Was)) (places : map (option_map place_seen) ps
+        ≡ old_places 0 w.plain.rows e (content_of w.plain.rows e).values row w.plain.orders (content_of w.plain.rows e).stamps)
+        (marks : List Bool) (marks_are : marks ≡ map is_some ps) where
+      places_here : map (option_map place_seen) ps
+          ≡ old_places 0 (seen_of i).plain.rows e (content_of (seen_of i).plain.rows e).values
+          row (seen_of i).plain.orders (content_of (seen_of i).plain.rows e).stamps
+      places_here = subst (λ (u : Seen). map (option_map place_seen) ps
+          ≡ old_places 0 u.plain.rows e (content_of u.plain.rows e).values row u.plain.orders (content_of u.plain.rows e).stamps)
+          (sym seen) places
 
       marked : Marked i.schema i.ids.entries i.nodes.pool i.nodes.structures.items i.next i.arrivals is e r there v refl marks
       marked =
@@ -143,22 +160,29 @@ module _ (i : Inside) (is : AreMulti i) (w : Seen) (seen : seen_of i ≡ w) (e :
       put_ready = record { rss = is.rss; stand = is.stand; can = can }
 
       module _ (n : Pooled Stored) (ys : List Structure) (like : AllLike i.nodes.structures.items ys)
-          (done : (rss : List (List Ref)) → AllStand i.nodes.structures.items 0 i.nodes.pool rss → AllCan (rekeying marks r v i.arrivals) i.nodes.structures.items 0 i.nodes.pool rss → IsRekeyed (rekeyed marks r i.arrivals) r v i.nodes.structures.items ys i.nodes.pool n rss) where
+          (done : (rss : List (List Ref)) → AllStand i.nodes.structures.items 0 i.nodes.pool rss
+          → AllCan (rekeying marks r v i.arrivals) i.nodes.structures.items 0 i.nodes.pool rss
+          → IsRekeyed (rekeyed marks r i.arrivals) r v i.nodes.structures.items ys i.nodes.pool n rss) where
         here : Allowed i.schema (Replace e row) (seen_of i).plain
         here = subst (λ (u : Seen). Allowed u.shape (Replace e row) u.plain) (sym seen) allowed
 
         -- all stands after it
         pub now_multi : w.plain.arrivals < LAST_COUNT → IsMulti i.schema i.ids.entries n ys i.next (i.arrivals + 1)
         now_multi few =
-            put_multi i.schema i.ids.entries i.nodes.pool i.nodes.structures.items i.next i.arrivals is e r there v refl marks marked n ys like (done is.rss is.stand can) (subst (λ (u : Seen). u.plain.arrivals < LAST_COUNT) (sym seen) few) here
+            put_multi i.schema i.ids.entries i.nodes.pool i.nodes.structures.items i.next i.arrivals is e r there v refl marks marked
+            n ys like (done is.rss is.stand can) (subst (λ (u : Seen). u.plain.arrivals < LAST_COUNT) (sym seen) few) here
 
         -- the change and its inverse
-        pub now_made : (old_ : Stored) → value_of i.nodes.pool r.name ≡ Some old_ → (undo : Inverse) → undo ≡ Put (record { id = e; at = r }) (record { values = old_.row; places = map (option_map place_seen) ps })
+        pub now_made : (old_ : Stored) → value_of i.nodes.pool r.name ≡ Some old_ → (undo : Inverse)
+            → undo ≡ Put (record { id = e; at = r }) (record { values = old_.row; places = map (option_map place_seen) ps })
             → Makes w.shape (Replace e row) w.plain undo (plain_of i.schema i.ids.entries n ys i.next (i.arrivals + 1))
         now_made old_ old_is undo undo_is =
             subst (λ (u : Seen). Makes u.shape (Replace e row) u.plain undo (plain_of i.schema i.ids.entries n ys i.next (i.arrivals + 1))) seen
             (record {
               allowed = here;
-              changed_data = put_seen i.schema i.ids.entries i.nodes.pool i.nodes.structures.items i.next i.arrivals is e r there v refl marks marked n ys like (done is.rss is.stand can);
-              inverse = undo_is ∙ put_inverse_is i.schema i.ids.entries i.nodes.pool i.nodes.structures.items i.next i.arrivals is e r there v refl old_ old_is (map (option_map place_seen) ps) places_here;
+              changed_data = put_seen i.schema i.ids.entries i.nodes.pool i.nodes.structures.items i.next
+                  i.arrivals is e r there v refl marks marked n ys like (done is.rss is.stand can);
+              inverse = undo_is
+                  ∙ put_inverse_is i.schema i.ids.entries i.nodes.pool i.nodes.structures.items i.next
+                  i.arrivals is e r there v refl old_ old_is (map (option_map place_seen) ps) places_here;
             })

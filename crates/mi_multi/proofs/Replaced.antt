@@ -30,7 +30,8 @@ module _ (s : Shape) (e : ℕ) (r : List Value) (t : Table) where
   pub replace_refused : (x : Refusal) → replace_refusal s e r t ≡ Some x → MeetsRefusal (replace_outcome s e r t) x t t
   replace_refused x h = subst (λ o. MeetsRefusal (unless o tt (put s e r t) t) x t t) (sym h) (refused_meets (Unit {0}) x t)
 
-  pub replace_meets : (new : Table) → replace_refusal s e r t ≡ None → new ≡ put s e r t → ((replace_outcome s e r t).0 ≡ Ok tt) × (new ≡ (replace_outcome s e r t).1)
+  pub replace_meets : (new : Table) → replace_refusal s e r t ≡ None → new ≡ put s e r t
+      → ((replace_outcome s e r t).0 ≡ Ok tt) × (new ≡ (replace_outcome s e r t).1)
   replace_meets new h is = (ap (λ o. (unless o tt (put s e r t) t).0) h, is ∙ sym (ap (λ o. (unless o tt (put s e r t) t).1) h))
 
 no_memory : (a b : Bool) (o : Option (ℕ × ℕ)) (x : Refusal) → cond (not a) (Some NoId) (cond b (Some Spent) (option_map as_unique o)) ≡ Some x → x ≢ Memory
@@ -52,7 +53,8 @@ pub replaceable : (s : Shape) (e : ℕ) (r : List Value) (t : Table) → replace
 replaceable s e r t h = none_applies (has t e) (is_spent t.arrivals) (conflict s t r (Some e)) h
 
 -- the table that a put leaves
-pub put_table : (s : Shape) (e : ℕ) (r : List Value) (old : Data) (i : Inverse) (new : Data) → IsData s old → Makes s (Replace e r) old i new → table_of new ≡ put s e r (table_of old)
+pub put_table : (s : Shape) (e : ℕ) (r : List Value) (old : Data) (i : Inverse) (new : Data)
+    → IsData s old → Makes s (Replace e r) old i new → table_of new ≡ put s e r (table_of old)
 put_table s e r old i new is made = ap table_of made.changed_data ∙ (change_is_tables s (Replace e r) old is made.allowed).1
 
 -- Modify
@@ -64,10 +66,11 @@ module _ (s : Shape) (e : ℕ) (edits : List Edit) (rollback : Bool) (t : Table)
       outcome : Bool → Outcome (Unit {0})
       outcome b = cond (not b) (Err NoId, t) (modified s e rollback (apply edits (row t e).1) t)
 
-  pub modify_there : has t e ≡ true → modify_outcome s e edits rollback t ≡ modified s e rollback (apply edits (row t e).1) t
+  modify_there : has t e ≡ true → modify_outcome s e edits rollback t ≡ modified s e rollback (apply edits (row t e).1) t
   modify_there h = ap (λ b. cond (not b) (Err NoId, t) (modified s e rollback (apply edits (row t e).1) t)) h
 
-  pub edits_refused : (x : Refusal) → has t e ≡ true → (x ≡ Range → apply edits (row t e).1 ≡ None) → (x ≡ Range) ⊎ (x ≡ Memory) → MeetsRefusal (modify_outcome s e edits rollback t) x t t
+  edits_refused : (x : Refusal) → has t e ≡ true → (x ≡ Range → apply edits (row t e).1 ≡ None)
+      → (x ≡ Range) ⊎ (x ≡ Memory) → MeetsRefusal (modify_outcome s e edits rollback t) x t t
   edits_refused x h range (inl is) =
       subst (λ k. MeetsRefusal (modify_outcome s e edits rollback t) k t t) (sym is)
       (subst (λ o. MeetsRefusal o Range t t) (sym (modify_there h ∙ ap (λ o. modified s e rollback o t) (range is))) (refl, refl))
@@ -75,7 +78,8 @@ module _ (s : Shape) (e : ℕ) (edits : List Edit) (rollback : Bool) (t : Table)
 
 -- what the edits make of a record that was got
 module _ (s : Shape) (e : ℕ) (edits : List Edit) (t : Table) (r : List Value) (at : get t e ≡ Some r) (res : Result (List Value) Refusal)
-    (ok : IfOk res (λ edited. apply edits r ≡ Some edited)) (range : res ≡ Err Range → apply edits r ≡ None) (only : IfErr res (λ x. (x ≡ Range) ⊎ (x ≡ Memory))) where
+    (ok : IfOk res (λ edited. apply edits r ≡ Some edited)) (range : res ≡ Err Range → apply edits r ≡ None)
+    (only : IfErr res (λ x. (x ≡ Range) ⊎ (x ≡ Memory))) where
   there : has t e ≡ true
   there = ap is_some at
 
@@ -88,7 +92,8 @@ module _ (s : Shape) (e : ℕ) (edits : List Edit) (t : Table) (r : List Value) 
   pub got_edited : IfOk res (λ edited. apply edits (row t e).1 ≡ Some edited)
   got_edited = subst (λ v. IfOk res (λ edited. apply edits v ≡ Some edited)) (sym same) ok
 
-  refused_of : (k : Result (List Value) Refusal) → res ≡ k → IfErr k (λ x. (x ≡ Range) ⊎ (x ≡ Memory)) → (rollback : Bool) → IfErr k (λ x. MeetsRefusal (modify_outcome s e edits rollback t) x t t)
+  refused_of : (k : Result (List Value) Refusal) → res ≡ k → IfErr k (λ x. (x ≡ Range) ⊎ (x ≡ Memory))
+      → (rollback : Bool) → IfErr k (λ x. MeetsRefusal (modify_outcome s e edits rollback t) x t t)
   refused_of (Ok edited) is which rollback = tt
   refused_of (Err x) is which rollback = edits_refused s e edits rollback t x there (λ ranged. ap (apply edits) same ∙ range (is ∙ ap Err ranged)) which
 
@@ -110,7 +115,8 @@ module _ (s : Shape) (e : ℕ) (r : List Value) (rollback : Bool) (t : Table) wh
   unspent_is : t.arrivals ≢ LAST_COUNT → modified s e rollback (Some r) t ≡ later
   unspent_is a = ap (λ b. cond b (Err Spent, t) later) (is_other t.arrivals LAST_COUNT a)
 
-  none_is : t.arrivals ≢ LAST_COUNT → (o : Option (ℕ × ℕ)) → conflict s t r (Some e) ≡ o → modified s e rollback (Some r) t ≡ option_map_or (λ at. refused_modify rollback e at t) o (Ok tt, put s e r t)
+  none_is : t.arrivals ≢ LAST_COUNT → (o : Option (ℕ × ℕ)) → conflict s t r (Some e) ≡ o
+      → modified s e rollback (Some r) t ≡ option_map_or (λ at. refused_modify rollback e at t) o (Ok tt, put s e r t)
   none_is a o h = unspent_is a ∙ ap (λ o. option_map_or (λ at. refused_modify rollback e at t) o (Ok tt, put s e r t)) h
 
 module _ (s : Shape) (e : ℕ) (r : List Value) (rollback : Bool) (old : Data) (is : IsData s old) (unspent : (table_of old).arrivals ≢ LAST_COUNT) where
@@ -125,4 +131,5 @@ module _ (s : Shape) (e : ℕ) (r : List Value) (rollback : Bool) (old : Data) (
     pub put_meets : MeetsOn (modified s e rollback (Some r)) (modify_answer (Ok i)) old new
     put_meets =
         subst (λ o. Meets (modified s e rollback (Some r) t) (lost_answer o) t (table_of new)) (sym kept)
-        (subst (λ (o : Outcome (Unit {0})). Meets o (Ok tt) t (table_of new)) (sym (none_is s e r rollback t unspent None none)) (refl, put_table s e r old i new is made))
+        (subst (λ (o : Outcome (Unit {0})). Meets o (Ok tt) t (table_of new))
+        (sym (none_is s e r rollback t unspent None none)) (refl, put_table s e r old i new is made))

@@ -1,5 +1,6 @@
 -- A node that left may come back to the places that it remembers.
-use Rattle.std.proofs.Common.{◌≡◌, ◌≢◌, ℕ, ◌+◌, ◌^◌, ◌<◌, ◌≤◌, zero, suc, Bool, true, false, cond, List, [], ◌∷◌, ◌++◌, get_or, length, refl, ap, sym, ◌∙◌, subst, arith}
+use Rattle.std.proofs.Common.{◌≡◌, ◌≢◌, ℕ, ◌+◌, ◌^◌, ◌<◌, ◌≤◌, zero, suc, Bool, true, false, cond}
+use Rattle.std.proofs.Common.{List, [], ◌∷◌, ◌++◌, get_or, length, refl, ap, sym, ◌∙◌, subst, arith}
 use Rattle.std.specs.List.{AllByRecursion, filter}
 use Rattle.std.specs.Option.{option_and_then}
 use Rattle.std.specs.Ordering.{nat_cmp, is_eq}
@@ -26,7 +27,7 @@ use Rattle.mi_index.specs.Standing.{slot_in, AllAbove, AllBelow, Climb, IsLike}
 use Rattle.mi_index.specs.Places.{own_place, CanReturn, HasOldPlace}
 use Rattle.mi_index.specs.Pass.{Gives, AllStand, AllCan, AllDone, AllLike}
 use Rattle.mi_index.specs.Passes.{returning}
-use Rattle.mi_container.specs.Data.{Node, Link, Order, Data, has_stamps, node_of, content_in, content_of, stamp_of, by_stamp, IsData}
+use Rattle.mi_container.specs.Data.{Node, Link, Order, Data, has_stamps, node_of, content_in, content_of, stamp_of, ids_by_stamp, IsData}
 use Rattle.mi_container.specs.Data.Order.{ById, ByKey, ByHash, Listed}
 use Rattle.mi_container.specs.Changes.{sorted_order, in_order, entered, group, ref_of, head_of}
 use Rattle.mi_container.specs.Inverse.{relinked}
@@ -52,7 +53,8 @@ one_has f (ByKey ps) = refl
 one_has f (ByHash ps) = refl
 one_has f (Listed l) = refl
 
-pub has_relinked : (rws : List (ℕ × Node)) (e : ℕ) (links : List Link) (os : List Order) (k : ℕ) → length links ≡ length os → has_stamps (get_or (relinked rws e links os) k ById) ≡ has_stamps (get_or os k ById)
+pub has_relinked : (rws : List (ℕ × Node)) (e : ℕ) (links : List Link) (os : List Order) (k : ℕ)
+    → length links ≡ length os → has_stamps (get_or (relinked rws e links os) k ById) ≡ has_stamps (get_or os k ById)
 has_relinked rws e [] [] k long = refl
 has_relinked rws e [] (o ∷ os) k long = absurd (let bad : zero ≡ suc (length os) = long in omega arith)
 has_relinked rws e (l ∷ links) [] k long = absurd (let bad : suc (length links) ≡ zero = long in omega arith)
@@ -72,7 +74,7 @@ has_sorted (p ∷ ps) some = refl
 abbrev pub nothing : Gives
 nothing s x m n rs us = Unit {0}
 
-pub like_self : (x : Structure) → IsLike x x
+like_self : (x : Structure) → IsLike x x
 like_self (Ordered t) = (refl, refl)
 like_self (Hashed c) = (refl, refl, omega arith)
 like_self (Sequenced l) = refl
@@ -99,27 +101,32 @@ module _ (s : Shape) (ids : FinMap nat_cmp IdEntry) (m : Pooled Stored) (xs : Li
 
   -- what is known of each index
   pub standing : Every Now 0 s.indexes xs xs is.rss is.rss
-  standing = all_known nothing ids m m (every nothing ids m m 0 s.indexes xs xs is.rss is.rss is.kinds (all_like_self xs) is.stand is.stand (done_nothing 0 m xs is.rss is.stand) is.live)
+  standing = all_known nothing ids m m (every nothing ids m m 0 s.indexes xs xs is.rss is.rss
+      is.kinds (all_like_self xs) is.stand is.stand (done_nothing 0 m xs is.rss is.stand) is.live)
 
-  module _ (e : ℕ) (r : Ref) (there : get ids e ≡ Some (record { node = r; live = false })) (meet : AllMeet 0 d.rows (node_in m os r).content (all_neighbours m r.name 0 os) d.orders) (b : Data)
-      (b_rows : b.rows ≡ entered e (node_in m os r) d.rows) (b_orders : (k : ℕ) → has_stamps (get_or b.orders k ById) ≡ has_stamps (get_or os k ById)) (back : IsData s b) where
+  module _ (e : ℕ) (r : Ref) (there : get ids e ≡ Some (record { node = r; live = false }))
+      (meet : AllMeet 0 d.rows (node_in m os r).content (all_neighbours m r.name 0 os) d.orders) (b : Data)
+      (b_rows : b.rows ≡ entered e (node_in m os r) d.rows)
+      (b_orders : (k : ℕ) → has_stamps (get_or b.orders k ById) ≡ has_stamps (get_or os k ById)) (back : IsData s b) where
     abbrev mine : HasNode m e r
     mine = is.held e (record { node = r; live = false }) there
 
-    pub not_here : (q : Ref) → IsLiveRef ids m q → e ≢ id_at m q
+    not_here : (q : Ref) → IsLiveRef ids m q → e ≢ id_at m q
     not_here q live same =
         let both : record { node = r; live = false } ≡ record { node = q; live = true } = some_is (sym there ∙ ap (get ids) same ∙ live) in
         false≢true (ap (λ (a : IdEntry). a.live) both)
 
-    pub gone : node_of d.rows e ≡ None
+    gone : node_of d.rows e ≡ None
     gone = get_picked (live_in m os) ids e ∙ ap (option_and_then (live_in m os)) there
 
     -- no live node has its stamp
-    differ : (k : ℕ) (q : Ref) → IsLiveRef ids m q → k < length os → has_stamps (get_or os k ById) ≡ true → (link_of m r.name k).tag.stamp ≢ (link_of m q.name k).tag.stamp
+    differ : (k : ℕ) (q : Ref) → IsLiveRef ids m q → k < length os → has_stamps (get_or os k ById) ≡ true
+        → (link_of m r.name k).tag.stamp ≢ (link_of m q.name k).tag.stamp
     differ k q live l has same =
         let ne : id_at m q ≢ e = (λ h. not_here q live (sym h)) in
         let zeroed : 0 + k ≡ k = omega arith in
-        let its : (w : Ref) → get_or (stamps_in m w.name 0 os) k 0 ≡ (link_of m w.name k).tag.stamp = λ w. stamps_at m w.name 0 os k l ∙ ap (λ z. stamp_in m w.name z (get_or os k ById)) zeroed ∙ given w (get_or os k ById) has in
+        let its : (w : Ref) → get_or (stamps_in m w.name 0 os) k 0 ≡ (link_of m w.name k).tag.stamp = λ w.
+        stamps_at m w.name 0 os k l ∙ ap (λ z. stamp_in m w.name z (get_or os k ById)) zeroed ∙ given w (get_or os k ById) has in
         not_here q live
         (back.apart e (id_at m q) (node_in m os r) (node_in m os q) k (ap (λ z. node_of z e) b_rows ∙ lookup_entered_same e (node_in m os r) d.rows gone)
         (ap (λ z. node_of z (id_at m q)) b_rows ∙ lookup_entered (id_at m q) e (node_in m os r) d.rows ne ∙ node_live ids m os q live) (b_orders k ∙ has)
@@ -131,23 +138,27 @@ module _ (s : Shape) (ids : FinMap nat_cmp IdEntry) (m : Pooled Stored) (xs : Li
         given w (ByHash ps) h = refl
         given w (Listed z) h = absurd (false≢true h)
 
-    all_differ : (k : ℕ) (qs : List Ref) → AllByRecursion (IsLiveRef ids m) qs → k < length os → has_stamps (get_or os k ById) ≡ true → AllByRecursion (λ q. (link_of m r.name k).tag.stamp ≢ stamp_at m k q) qs
+    all_differ : (k : ℕ) (qs : List Ref) → AllByRecursion (IsLiveRef ids m) qs → k < length os
+        → has_stamps (get_or os k ById) ≡ true → AllByRecursion (λ q. (link_of m r.name k).tag.stamp ≢ stamp_at m k q) qs
     all_differ k [] all l has = tt
     all_differ k (q ∷ qs) all l has = (differ k q all.0 l has, all_differ k qs all.1 l has)
 
     -- In a tree
 
-    none_are : (ps : List KeyPart) (k : ℕ) (qs : List Ref) → AllByRecursion (IsLiveRef ids m) qs → (ps ≢ [] → has_stamps (get_or os k ById) ≡ true) → k < length os
+    none_are : (ps : List KeyPart) (k : ℕ) (qs : List Ref) → AllByRecursion (IsLiveRef ids m) qs
+        → (ps ≢ [] → has_stamps (get_or os k ById) ≡ true) → k < length os
         → NoneAre (side_of_new (stored_order ps) m k r (link_of m r.name k).tag.stamp) Equal qs
     none_are ps k [] all has l = tt
     none_are ps k (q ∷ qs) all has l = (
-      not_equal ps m k r q (link_of m r.name k).tag.stamp e (id_at m q) mine (is.held (id_at m q) (record { node = q; live = true }) all.0) (not_here q all.0) (λ some. differ k q all.0 l (has some)),
+      not_equal ps m k r q (link_of m r.name k).tag.stamp e (id_at m q) mine
+          (is.held (id_at m q) (record { node = q; live = true }) all.0) (not_here q all.0) (λ some. differ k q all.0 l (has some)),
       none_are ps k qs all.1 has l,
     )
 
     -- In chains
 
-    key_for : (h : HashedBy) (q : Ref) → IsLiveRef ids m q → is_eq (compare_key h.parts (record_in (value_of m r.name)) (content_of d.rows (id_at m q)).values) ≡ same_nodes (keying_of h) m r q
+    key_for : (h : HashedBy) (q : Ref) → IsLiveRef ids m q
+        → is_eq (compare_key h.parts (record_in (value_of m r.name)) (content_of d.rows (id_at m q)).values) ≡ same_nodes (keying_of h) m r q
     unfolding same_nodes
     key_for h q live =
         let its : HasNode m (id_at m q) q = is.held (id_at m q) (record { node = q; live = true }) live in
@@ -157,15 +168,18 @@ module _ (s : Shape) (ids : FinMap nat_cmp IdEntry) (m : Pooled Stored) (xs : Li
         ∙ sym (λ i. same_values (has_one_key h.parts) (mine.is i) (its.is i))
 
     keys_for : (h : HashedBy) (qs : List Ref) → AllByRecursion (IsLiveRef ids m) qs
-        → AllByRecursion (λ q. is_eq (compare_key h.parts (record_in (value_of m r.name)) (content_of d.rows (id_at m q)).values) ≡ same_nodes (keying_of h) m r q) qs
+        → AllByRecursion
+        (λ q. is_eq (compare_key h.parts (record_in (value_of m r.name)) (content_of d.rows (id_at m q)).values) ≡ same_nodes (keying_of h) m r q) qs
     keys_for h [] all = tt
     keys_for h (q ∷ qs) all = (key_for h q all.0, keys_for h qs all.1)
 
     filtered : (P : Ref → Type 0) (p : Ref → Bool) (qs : List Ref) → AllByRecursion P qs → AllByRecursion P (filter p qs)
     filtered P p [] all = tt
-    filtered P p (q ∷ qs) all = elim (p q) as (λ t. AllByRecursion P (cond t (q ∷ filter p qs) (filter p qs))) [ true ↦ (all.0, filtered P p qs all.1) | false ↦ filtered P p qs all.1 ]
+    filtered P p (q ∷ qs) all =
+        elim (p q) as (λ t. AllByRecursion P (cond t (q ∷ filter p qs) (filter p qs))) [ true ↦ (all.0, filtered P p qs all.1) | false ↦ filtered P p qs all.1 ]
 
-    below_ids : (k a : ℕ) (qs : List Ref) → AllByRecursion (IsLiveRef ids m) qs → k < length os → has_stamps (get_or os k ById) ≡ true → AllBelow (stamp_at m k) a qs → (p : Ref → Bool) → AllByRecursion (λ w. stamp_of d.rows k w < a) (ids_at m (filter p qs))
+    below_ids : (k a : ℕ) (qs : List Ref) → AllByRecursion (IsLiveRef ids m) qs → k < length os → has_stamps (get_or os k ById) ≡ true
+        → AllBelow (stamp_at m k) a qs → (p : Ref → Bool) → AllByRecursion (λ w. stamp_of d.rows k w < a) (ids_at m (filter p qs))
     below_ids k a [] all l has below p = tt
     below_ids k a (q ∷ qs) all l has below p =
         elim (p q) as (λ t. AllByRecursion (λ w. stamp_of d.rows k w < a) (ids_at m (cond t (q ∷ filter p qs) (filter p qs)))) [
@@ -173,7 +187,8 @@ module _ (s : Shape) (ids : FinMap nat_cmp IdEntry) (m : Pooled Stored) (xs : Li
           | false ↦ below_ids k a qs all.1 l has below.1 p
         ]
 
-    above_ids : (k a : ℕ) (qs : List Ref) → AllByRecursion (IsLiveRef ids m) qs → k < length os → has_stamps (get_or os k ById) ≡ true → AllAbove (stamp_at m k) a qs → (p : Ref → Bool) → AllByRecursion (λ w. a < stamp_of d.rows k w) (ids_at m (filter p qs))
+    above_ids : (k a : ℕ) (qs : List Ref) → AllByRecursion (IsLiveRef ids m) qs → k < length os → has_stamps (get_or os k ById) ≡ true
+        → AllAbove (stamp_at m k) a qs → (p : Ref → Bool) → AllByRecursion (λ w. a < stamp_of d.rows k w) (ids_at m (filter p qs))
     above_ids k a [] all l has above p = tt
     above_ids k a (q ∷ qs) all l has above p =
         elim (p q) as (λ t. AllByRecursion (λ w. a < stamp_of d.rows k w) (ids_at m (cond t (q ∷ filter p qs) (filter p qs)))) [
@@ -183,11 +198,17 @@ module _ (s : Shape) (ids : FinMap nat_cmp IdEntry) (m : Pooled Stored) (xs : Li
 
     -- where it stands by its stamp, and beside which nodes of its key
     abbrev ByStamp : HashedBy → ℕ → List Ref → Type 0
-    ByStamp h k rs = (us : List Ref) × (vs : List Ref) × (rs ≡ us ++ vs) × AllBelow (stamp_at m k) (link_of m r.name k).tag.stamp us × AllAbove (stamp_at m k) (link_of m r.name k).tag.stamp vs
-        × ((link_of m r.name k).back ≡ last_of None (filter (same_nodes (keying_of h) m r) us)) × ((link_of m r.name k).forth ≡ first_of (filter (same_nodes (keying_of h) m r) vs) None)
+    ByStamp h k rs = (us : List Ref) × (vs : List Ref) × (rs ≡ us ++ vs)
+        × AllBelow (stamp_at m k) (link_of m r.name k).tag.stamp us × AllAbove (stamp_at m k) (link_of m r.name k).tag.stamp vs
+        × ((link_of m r.name k).back ≡ last_of None (filter (same_nodes (keying_of h) m r) us))
+        × ((link_of m r.name k).forth ≡ first_of (filter (same_nodes (keying_of h) m r) vs) None)
 
-    in_chains : (k : ℕ) (h : HashedBy) (rs : List Ref) → by_stamp k d.rows ≡ ids_at m rs → AreLive ids m rs → Climb (stamp_at m k) rs → k < length os → has_stamps (get_or os k ById) ≡ true
-        → (a : ℕ) → a ≡ (link_of m r.name k).tag.stamp → MeetByStamp k d.rows a (record { back = (link_of m r.name k).back; forth = (link_of m r.name k).forth }) (group h.parts k d.rows (record_in (value_of m r.name))) → ByStamp h k rs
+    in_chains : (k : ℕ) (h : HashedBy) (rs : List Ref) → ids_by_stamp k d.rows ≡ ids_at m rs → AreLive ids m rs
+        → Climb (stamp_at m k) rs → k < length os → has_stamps (get_or os k ById) ≡ true
+        → (a : ℕ) → a ≡ (link_of m r.name k).tag.stamp
+        → MeetByStamp k d.rows a (record { back = (link_of m r.name k).back; forth = (link_of m r.name k).forth })
+        (group h.parts k d.rows (record_in (value_of m r.name)))
+        → ByStamp h k rs
     in_chains k h rs by live climb l has a a_is meets =
         let c = cut_at (stamp_at m k) (link_of m r.name k).tag.stamp rs climb (all_differ k rs live.rows l has) in
         let p : ℕ → Bool = λ w. is_eq (compare_key h.parts (record_in (value_of m r.name)) (content_of d.rows w).values) in
@@ -198,26 +219,32 @@ module _ (s : Shape) (ids : FinMap nat_cmp IdEntry) (m : Pooled Stored) (xs : Li
         let alike : filter (λ q. p (id_at m q)) (c.xs ++ c.ys) ≡ filter p' c.xs ++ filter p' c.ys =
         filter_eq (λ q. p (id_at m q)) p' (c.xs ++ c.ys) (keys_for h (c.xs ++ c.ys) both) ∙ filter_append p' c.xs c.ys in
         let whole : group h.parts k d.rows (record_in (value_of m r.name)) ≡ ids_at m (filter p' c.xs) ++ ids_at m (filter p' c.ys) =
-        ap (filter p) (by ∙ ap (ids_at m) c.parts) ∙ filter_ids (id_at m) p (c.xs ++ c.ys) ∙ ap (ids_at m) alike ∙ ids_append (id_at m) (filter p' c.xs) (filter p' c.ys) in
+        ap (filter p) (by ∙ ap (ids_at m) c.parts) ∙ filter_ids (id_at m) p (c.xs ++ c.ys)
+        ∙ ap (ids_at m) alike ∙ ids_append (id_at m) (filter p' c.xs) (filter p' c.ys) in
         let one_way = one_cut (stamp_of d.rows k) a (ids_at m (filter p' c.xs)) (ids_at m (filter p' c.ys)) meets.0 meets.1 (sym whole ∙ meets.2)
-        (below_ids k a c.xs left l has (subst (λ w. AllBelow (stamp_at m k) w c.xs) (sym a_is) c.below) p') (above_ids k a c.ys right l has (subst (λ w. AllAbove (stamp_at m k) w c.ys) (sym a_is) c.above) p') meets.5 meets.6 in (
+        (below_ids k a c.xs left l has (subst (λ w. AllBelow (stamp_at m k) w c.xs) (sym a_is) c.below) p')
+        (above_ids k a c.ys right l has (subst (λ w. AllAbove (stamp_at m k) w c.ys) (sym a_is) c.above) p') meets.5 meets.6 in (
           c.xs,
           c.ys,
           c.parts,
           c.below,
           c.above,
           meets.3 ∙ ap (λ w. ref_of d.rows (last_or None w)) (sym one_way.0) ∙ ap (ref_of d.rows) (last_ids (id_at m) None (filter p' c.xs))
-              ∙ ref_back (id_at m) d.rows (last_of None (filter p' c.xs)) (last_row (id_at m) d.rows (filter p' c.xs) (filtered (IsRow (id_at m) d.rows) p' c.xs (rows_of ids m os c.xs left))),
+              ∙ ref_back (id_at m) d.rows (last_of None (filter p' c.xs))
+              (last_row (id_at m) d.rows (filter p' c.xs) (filtered (IsRow (id_at m) d.rows) p' c.xs (rows_of ids m os c.xs left))),
           meets.4 ∙ ap (λ w. ref_of d.rows (head_of w)) (sym one_way.1) ∙ ap (ref_of d.rows) (head_ids (id_at m) (filter p' c.ys))
-              ∙ ref_back (id_at m) d.rows (first_of (filter p' c.ys) None) (first_row (id_at m) d.rows (filter p' c.ys) (filtered (IsRow (id_at m) d.rows) p' c.ys (rows_of ids m os c.ys right))),
+              ∙ ref_back (id_at m) d.rows (first_of (filter p' c.ys) None)
+              (first_row (id_at m) d.rows (filter p' c.ys) (filtered (IsRow (id_at m) d.rows) p' c.ys (rows_of ids m os c.ys right))),
         )
 
     -- In a list
 
     abbrev Between : ℕ → List Ref → Type 0
-    Between k rs = (us : List Ref) × (vs : List Ref) × (rs ≡ us ++ vs) × ((link_of m r.name k).back ≡ last_of None us) × ((link_of m r.name k).forth ≡ first_of vs None)
+    Between k rs = (us : List Ref) × (vs : List Ref) × (rs ≡ us ++ vs)
+        × ((link_of m r.name k).back ≡ last_of None us) × ((link_of m r.name k).forth ≡ first_of vs None)
 
-    in_list : (k : ℕ) (rs : List Ref) (ls : List ℕ) → ls ≡ ids_at m rs → AreLive ids m rs → Meet d.rows (record { back = (link_of m r.name k).back; forth = (link_of m r.name k).forth }) ls → Between k rs
+    in_list : (k : ℕ) (rs : List Ref) (ls : List ℕ) → ls ≡ ids_at m rs → AreLive ids m rs
+        → Meet d.rows (record { back = (link_of m r.name k).back; forth = (link_of m r.name k).forth }) ls → Between k rs
     in_list k rs ls own live meets =
         let h = parted (id_at m) rs meets.0 meets.1 (sym own ∙ meets.2) in
         let both : AllByRecursion (IsLiveRef ids m) (h.0 ++ h.1) = subst (AllByRecursion (IsLiveRef ids m)) h.2 live.rows in (
@@ -227,15 +254,18 @@ module _ (s : Shape) (ids : FinMap nat_cmp IdEntry) (m : Pooled Stored) (xs : Li
           meets.3 ∙ ap (λ w. ref_of d.rows (last_or None w)) (sym h.3) ∙ ap (ref_of d.rows) (last_ids (id_at m) None h.0)
               ∙ ref_back (id_at m) d.rows (last_of None h.0) (last_row (id_at m) d.rows h.0 (rows_of ids m os h.0 (all_left (IsLiveRef ids m) h.0 h.1 both))),
           meets.4 ∙ ap (λ w. ref_of d.rows (head_of w)) (sym h.4) ∙ ap (ref_of d.rows) (head_ids (id_at m) h.1)
-              ∙ ref_back (id_at m) d.rows (first_of h.1 None) (first_row (id_at m) d.rows h.1 (rows_of ids m os h.1 (all_right (IsLiveRef ids m) h.0 h.1 both))),
+              ∙ ref_back (id_at m) d.rows (first_of h.1 None)
+              (first_row (id_at m) d.rows h.1 (rows_of ids m os h.1 (all_right (IsLiveRef ids m) h.0 h.1 both))),
         )
 
     -- In any index
 
     abbrev MeetsAt : ℕ → Index → Structure → Type 0
-    MeetsAt k i x = MeetIn k d.rows (record_in (value_of m r.name)) (get_or (stamps_in m r.name 0 os) k 0) (neighbours_in m r.name k (order_of i.kind i.parts [])) (order_of i.kind i.parts (own_list m x))
+    MeetsAt k i x = MeetIn k d.rows (record_in (value_of m r.name)) (get_or (stamps_in m r.name 0 os) k 0)
+        (neighbours_in m r.name k (order_of i.kind i.parts [])) (order_of i.kind i.parts (own_list m x))
 
-    place_in : (k : ℕ) (i : Index) (x y : Structure) (rs us : List Ref) → Now k i x y rs us → MeetsAt k i x → HasOldPlace x m r (own_place (link_of m r.name k)) rs
+    place_in : (k : ℕ) (i : Index) (x y : Structure) (rs us : List Ref) → Now k i x y rs us
+        → MeetsAt k i x → HasOldPlace x m r (own_place (link_of m r.name k)) rs
     place_in k i (Ordered t) y rs us h meets =
         let slot : t.slot ≡ k = h.0.slot in
         let parts : t.order.parts ≡ i.parts = h.0.for_.1 in
@@ -249,15 +279,22 @@ module _ (s : Shape) (ids : FinMap nat_cmp IdEntry) (m : Pooled Stored) (xs : Li
         let climb : Climb (stamp_at m k) rs = subst (λ w. Climb (stamp_at m w) rs) slot h.0.was.1 in
         let order_is : get_or d.orders k ById ≡ ByHash i.parts = h.1.order_is ∙ hashed_order i.kind i.parts (own_list m (Hashed c)) hashed in
         let plan_is : get_or os k ById ≡ ByHash i.parts = h.1.plan_is ∙ hashed_order i.kind i.parts [] hashed in
-        let by : by_stamp k d.rows ≡ ids_at m rs = by_stamp_is s d ids m os k i.parts rs is.is_data refl h.1.fewer h.1.few order_is plan_is h.0.live climb in
+        let by : ids_by_stamp k d.rows ≡ ids_at m rs = by_stamp_is s d ids m os k i.parts rs
+        is.is_data refl h.1.fewer h.1.few order_is plan_is h.0.live climb in
         let zeroed : 0 + k ≡ k = omega arith in
         let stamp : get_or (stamps_in m r.name 0 os) k 0 ≡ (link_of m r.name k).tag.stamp =
         stamps_at m r.name 0 os k h.1.few ∙ ap (λ z. stamp_in m r.name z (get_or os k ById)) zeroed ∙ ap (stamp_in m r.name k) plan_is in
-        let met : MeetIn k d.rows (record_in (value_of m r.name)) (get_or (stamps_in m r.name 0 os) k 0) (neighbours_in m r.name k (ByHash i.parts)) (ByHash i.parts) =
-        subst (λ w. MeetIn k d.rows (record_in (value_of m r.name)) (get_or (stamps_in m r.name 0 os) k 0) (neighbours_in m r.name k (ByHash i.parts)) w) (hashed_order i.kind i.parts (own_list m (Hashed c)) hashed)
-        (subst (λ w. MeetIn k d.rows (record_in (value_of m r.name)) (get_or (stamps_in m r.name 0 os) k 0) (neighbours_in m r.name k w) (order_of i.kind i.parts (own_list m (Hashed c)))) (hashed_order i.kind i.parts [] hashed) meets) in
+        let met : MeetIn k d.rows (record_in (value_of m r.name)) (get_or (stamps_in m r.name 0 os) k 0)
+        (neighbours_in m r.name k (ByHash i.parts)) (ByHash i.parts) =
+        subst (λ w. MeetIn k d.rows (record_in (value_of m r.name)) (get_or (stamps_in m r.name 0 os) k 0) (neighbours_in m r.name k (ByHash i.parts)) w)
+        (hashed_order i.kind i.parts (own_list m (Hashed c)) hashed)
+        (subst (λ w. MeetIn k d.rows (record_in (value_of m r.name)) (get_or (stamps_in m r.name 0 os) k 0)
+        (neighbours_in m r.name k w) (order_of i.kind i.parts (own_list m (Hashed c))))
+        (hashed_order i.kind i.parts [] hashed) meets) in
         let same : ByStamp c.keys k rs = in_chains k c.keys rs by h.0.live climb h.1.few (ap has_stamps plan_is) (get_or (stamps_in m r.name 0 os) k 0) stamp
-        (subst (λ w. MeetByStamp k d.rows (get_or (stamps_in m r.name 0 os) k 0) (record { back = (link_of m r.name k).back; forth = (link_of m r.name k).forth }) (group w k d.rows (record_in (value_of m r.name)))) (sym parts) met) in
+        (subst (λ w. MeetByStamp k d.rows (get_or (stamps_in m r.name 0 os) k 0)
+        (record { back = (link_of m r.name k).back; forth = (link_of m r.name k).forth }) (group w k d.rows (record_in (value_of m r.name))))
+        (sym parts) met) in
         record {
           xs = same.0;
           ys = same.1;
@@ -270,16 +307,23 @@ module _ (s : Shape) (ids : FinMap nat_cmp IdEntry) (m : Pooled Stored) (xs : Li
         let slot : slot_in (Sequenced l) ≡ k = h.0.slot in
         let seq : is_sequenced i.kind ≡ true = h.0.for_ in
         let met : Meet d.rows (record { back = (link_of m r.name k).back; forth = (link_of m r.name k).forth }) (own_list m (Sequenced l)) =
-        subst (λ w. MeetIn k d.rows (record_in (value_of m r.name)) (get_or (stamps_in m r.name 0 os) k 0) (neighbours_in m r.name k (Listed [])) w) (sequenced_order i.kind i.parts (own_list m (Sequenced l)) seq)
-        (subst (λ w. MeetIn k d.rows (record_in (value_of m r.name)) (get_or (stamps_in m r.name 0 os) k 0) (neighbours_in m r.name k w) (order_of i.kind i.parts (own_list m (Sequenced l)))) (sequenced_order i.kind i.parts [] seq) meets) in
+        subst (λ w. MeetIn k d.rows (record_in (value_of m r.name)) (get_or (stamps_in m r.name 0 os) k 0) (neighbours_in m r.name k (Listed [])) w)
+        (sequenced_order i.kind i.parts (own_list m (Sequenced l)) seq)
+        (subst (λ w. MeetIn k d.rows (record_in (value_of m r.name)) (get_or (stamps_in m r.name 0 os) k 0)
+        (neighbours_in m r.name k w) (order_of i.kind i.parts (own_list m (Sequenced l))))
+        (sequenced_order i.kind i.parts [] seq) meets) in
         let got : Between k rs = in_list k rs (own_list m (Sequenced l)) (own_is i (Sequenced l) m rs seq h.0.was seq) h.0.live met in
         record { own = ap (λ w. own_place (link_of m r.name w)) (sym slot); xs = got.0; ys = got.1; parts = got.2; beside = (got.3, got.4) }
 
-    one_return : (k : ℕ) (i : Index) (x y : Structure) (rs us : List Ref) → Now k i x y rs us → MeetsAt k i x → CanReturn x m r (own_place (link_of m r.name k)) rs
+    one_return : (k : ℕ) (i : Index) (x y : Structure) (rs us : List Ref) → Now k i x y rs us
+        → MeetsAt k i x → CanReturn x m r (own_place (link_of m r.name k)) rs
     one_return k i x y rs us h meets = record {
       held = mine.held;
       out = out_of ids m e (record { node = r; live = false }) rs there refl mine h.0.live.rows;
-      few = let l : length rs + 1 ≤ len ids = shorter ids m rs h.0.live e (record { node = r; live = false }) there refl in let f : len ids ≤ 2 ^ 31 = is.few in omega arith;
+      few =
+          let l : length rs + 1 ≤ len ids = shorter ids m rs h.0.live e (record { node = r; live = false }) there refl in
+          let f : len ids ≤ 2 ^ 31 = is.few in
+          omega arith;
       place = place_in k i x y rs us h meets;
     }
 
@@ -289,7 +333,8 @@ module _ (s : Shape) (ids : FinMap nat_cmp IdEntry) (m : Pooled Stored) (xs : Li
     all_return (one {s = k} {i = i} {x = x} {y = y} {rs = rs} {us = us} {is = js} {xs = xs'} {rss = rss} h rest) meets =
         let next_ : suc k ≡ k + 1 = omega arith in (
           one_return k i x y rs us h meets.0,
-          all_return rest (subst (λ w. AllMeet w d.rows (node_in m os r).content (all_neighbours m r.name w (plan js)) (orders_of js (own_lists m xs'))) next_ meets.1),
+          all_return rest (subst
+              (λ w. AllMeet w d.rows (node_in m os r).content (all_neighbours m r.name w (plan js)) (orders_of js (own_lists m xs'))) next_ meets.1),
         )
 
     -- it may come back in every index

@@ -1,6 +1,7 @@
 -- A row's node has another value, and may have moved in some indexes: what the pool says then are the data with another content, and all stands.
 --     IsShifted, Shift      what this takes of one index
-use Rattle.std.proofs.Common.{◌≡◌, ℕ, ◌+◌, ◌<◌, ◌≤◌, true, false, cond, ◌⊎◌, inl, inr, List, [], ◌∷◌, ◌++◌, map, get_or, length, refl, ap, sym, ◌∙◌, subst, arith}
+use Rattle.std.proofs.Common.{◌≡◌, ℕ, ◌+◌, ◌<◌, ◌≤◌, true, false, cond, ◌⊎◌, inl, inr, List, []}
+use Rattle.std.proofs.Common.{◌∷◌, ◌++◌, map, get_or, length, refl, ap, sym, ◌∙◌, subst, arith}
 use Rattle.std.specs.Prelude.{◌==◌}
 use Rattle.std.specs.List.{AllByRecursion}
 use Rattle.std.specs.Option.{option_and_then}
@@ -43,7 +44,8 @@ IsShifted r rs us = (us ≡ rs) ⊎ ((as_ bs : List Ref) × (rs ≡ as_ ++ r ∷
 pub record Shift (m n : Pooled Stored) (r : Ref) (k : ℕ) (i : Index) (rs us : List Ref) : Type 0 where
   pub shifted : IsShifted r rs us
   pub own : is_sequenced i.kind ≡ true → us ≡ rs
-  pub stamps : (l : List ℕ) → has_stamps (order_of i.kind i.parts l) ≡ true → (q : ℕ) → (r.name == q) ≡ false → (link_of n q k).tag.stamp ≡ (link_of m q k).tag.stamp
+  pub stamps : (l : List ℕ) → has_stamps (order_of i.kind i.parts l) ≡ true → (q : ℕ)
+      → (r.name == q) ≡ false → (link_of n q k).tag.stamp ≡ (link_of m q k).tag.stamp
 
 order_same : (o : Order) → in_order (λ l. l) o ≡ o
 order_same ById = refl
@@ -55,9 +57,12 @@ orders_same : (os : List Order) → map (in_order (λ l. l)) os ≡ os
 orders_same [] = refl
 orders_same (o ∷ os) = (λ i. order_same o i ∷ orders_same os i)
 
-module _ (s : Shape) (ids : FinMap nat_cmp IdEntry) (m : Pooled Stored) (xs : List Structure) (next arrivals : ℕ) (is : IsMulti s ids m xs next arrivals) (e : ℕ) (r : Ref)
-    (there : get ids e ≡ Some (record { node = r; live = true })) (Q : Gives) (v : Stored) (named : v.id ≡ e) (n : Pooled Stored) (ys : List Structure) (like : AllLike xs ys) (given : IsRekeyed Q r v xs ys m n is.rss)
-    (shifts : (k : ℕ) (i : Index) (x y : Structure) (rs us : List Ref) → Known Q ids m n (plan s.indexes) (orders_of s.indexes (own_lists m xs)) k i x y rs us → Shift m n r k i rs us) where
+module _ (s : Shape) (ids : FinMap nat_cmp IdEntry) (m : Pooled Stored) (xs : List Structure)
+    (next arrivals : ℕ) (is : IsMulti s ids m xs next arrivals) (e : ℕ) (r : Ref)
+    (there : get ids e ≡ Some (record { node = r; live = true })) (Q : Gives) (v : Stored) (named : v.id ≡ e)
+    (n : Pooled Stored) (ys : List Structure) (like : AllLike xs ys) (given : IsRekeyed Q r v xs ys m n is.rss)
+    (shifts : (k : ℕ) (i : Index) (x y : Structure) (rs us : List Ref)
+    → Known Q ids m n (plan s.indexes) (orders_of s.indexes (own_lists m xs)) k i x y rs us → Shift m n r k i rs us) where
   abbrev os : List Order
   os = plan s.indexes
 
@@ -87,7 +92,8 @@ module _ (s : Shape) (ids : FinMap nat_cmp IdEntry) (m : Pooled Stored) (xs : Li
   id_still q =
       elim (eqb_tells r.name q) [
         | inl same ↦
-            ap id_in (given.values q ∙ ap (λ b. cond b (Some v) (value_of m q)) same.0) ∙ named ∙ sym (id_of ids m e (record { node = r; live = true }) mine) ∙ ap (λ k. id_in (value_of m k)) same.1
+            ap id_in (given.values q ∙ ap (λ b. cond b (Some v) (value_of m q)) same.0) ∙ named
+            ∙ sym (id_of ids m e (record { node = r; live = true }) mine) ∙ ap (λ k. id_in (value_of m k)) same.1
         | inr isnt ↦ ap id_in (value_still q isnt.0)
       ]
 
@@ -97,7 +103,8 @@ module _ (s : Shape) (ids : FinMap nat_cmp IdEntry) (m : Pooled Stored) (xs : Li
 
   -- Rows
 
-  stamp_of_slot : (x : ℕ) (o : Order) → At (Known Q ids m n os d.orders) x o → has_stamps o ≡ true → (q : ℕ) → (r.name == q) ≡ false → (link_of n q x).tag.stamp ≡ (link_of m q x).tag.stamp
+  stamp_of_slot : (x : ℕ) (o : Order) → At (Known Q ids m n os d.orders) x o → has_stamps o ≡ true
+      → (q : ℕ) → (r.name == q) ≡ false → (link_of n q x).tag.stamp ≡ (link_of m q x).tag.stamp
   stamp_of_slot x o (at i a c rs us l h is_order) has q ne = (shifts x i a c rs us h).stamps l (sym (ap has_stamps is_order) ∙ has) q ne
 
   says : (q : ℕ) → (r.name == q) ≡ false → SaysSame os m n q
@@ -106,18 +113,21 @@ module _ (s : Shape) (ids : FinMap nat_cmp IdEntry) (m : Pooled Stored) (xs : Li
     stamps = λ x has.
         let l : x < length s.indexes = no_stamps_past s.indexes x has in
         let same : 0 + x ≡ x = omega arith in
-        subst (λ w. (link_of n q w).tag.stamp ≡ (link_of m q w).tag.stamp) same (stamp_of_slot (0 + x) (get_or os x ById) (at_plan (Known Q ids m n os d.orders) known x l) has q ne);
+        subst (λ w. (link_of n q w).tag.stamp ≡ (link_of m q w).tag.stamp) same
+        (stamp_of_slot (0 + x) (get_or os x ById) (at_plan (Known Q ids m n os d.orders) known x l) has q ne);
   }
 
   altered : IsAltered os ids m n e
   altered = record {
     says = λ q a ne here. says a.node.name (names_apart m e q r a.node mine (is.held q a here) (λ same. ne (sym same)));
-    kept = λ q a ne here dead t. given.other_nodes a.node.name t (names_apart m q e a.node r (is.held q a here) mine ne) (out_of_all ids m q a is.rss here dead (is.held q a here) is.live);
+    kept = λ q a ne here dead t. given.other_nodes a.node.name t (names_apart m q e a.node r (is.held q a here) mine ne)
+        (out_of_all ids m q a is.rss here dead (is.held q a here) is.live);
   }
 
   rows_with : (c : Content) → (node_in n os r).content ≡ c → picked (live_in n os) (entries ids) ≡ with_content e c d.rows
   rows_with c same =
-      picked_with (live_in m os) (live_in n os) ids ids e (λ q ne. refl) (live_alike os ids m n e altered) (node_in m os r) c (ap (option_and_then (live_in m os)) there)
+      picked_with (live_in m os) (live_in n os) ids ids e (λ q ne. refl) (live_alike os ids m n e altered)
+      (node_in m os r) c (ap (option_and_then (live_in m os)) there)
       (ap (option_and_then (live_in n os)) there ∙ ap (λ w. Some (record { at = r; content = w })) same)
 
   kept_still : picked (kept_in n os) (entries ids) ≡ d.kept
@@ -132,7 +142,8 @@ module _ (s : Shape) (ids : FinMap nat_cmp IdEntry) (m : Pooled Stored) (xs : Li
       ∙ orders_same d.orders
 
   -- the data with that content
-  pub revalued_seen : (now : ℕ) (c : Content) → (node_in n os r).content ≡ c → plain_of s ids n ys next now ≡ record d { rows = with_content e c d.rows; arrivals = now }
+  pub revalued_seen : (now : ℕ) (c : Content) → (node_in n os r).content ≡ c
+      → plain_of s ids n ys next now ≡ record d { rows = with_content e c d.rows; arrivals = now }
   revalued_seen now c same =
       let rows = rows_with c same in
       let orders = orders_still in
@@ -156,15 +167,19 @@ module _ (s : Shape) (ids : FinMap nat_cmp IdEntry) (m : Pooled Stored) (xs : Li
       let w = moved.3 in
       let was : AllByRecursion (IsLiveRef ids m) (as_ ++ r ∷ bs) = subst (AllByRecursion (IsLiveRef ids m)) moved.2 live.rows in
       let tail : AllByRecursion (IsLiveRef ids m) (r ∷ bs) = all_right (IsLiveRef ids m) as_ (r ∷ bs) was in
-      let both : AllByRecursion (IsLiveRef ids m) (w.xs ++ w.ys) = subst (AllByRecursion (IsLiveRef ids m)) w.was (all_append (IsLiveRef ids m) as_ bs (all_left (IsLiveRef ids m) as_ (r ∷ bs) was) tail.1) in
-      let now_ : AllByRecursion (IsLiveRef ids m) (w.xs ++ r ∷ w.ys) = all_append (IsLiveRef ids m) w.xs (r ∷ w.ys) (all_left (IsLiveRef ids m) w.xs w.ys both) (tail.0, all_right (IsLiveRef ids m) w.xs w.ys both) in
+      let both : AllByRecursion (IsLiveRef ids m) (w.xs ++ w.ys) = subst (AllByRecursion (IsLiveRef ids m))
+      w.was (all_append (IsLiveRef ids m) as_ bs (all_left (IsLiveRef ids m) as_ (r ∷ bs) was) tail.1) in
+      let now_ : AllByRecursion (IsLiveRef ids m) (w.xs ++ r ∷ w.ys) = all_append (IsLiveRef ids m) w.xs (r ∷ w.ys)
+      (all_left (IsLiveRef ids m) w.xs w.ys both) (tail.0, all_right (IsLiveRef ids m) w.xs w.ys both) in
       record {
         rows = live_still us (subst (AllByRecursion (IsLiveRef ids m)) (sym w.now) now_);
-        each = λ k. ap (times k) (ids_still us ∙ ap (ids_at m) w.now) ∙ times_middle (id_at m) k w.xs r w.ys ∙ ap (λ a. cond (id_at m r == k) 1 0 + times k (ids_at m a)) (sym w.was)
+        each = λ k. ap (times k) (ids_still us ∙ ap (ids_at m) w.now) ∙ times_middle (id_at m) k w.xs r w.ys
+            ∙ ap (λ a. cond (id_at m r == k) 1 0 + times k (ids_at m a)) (sym w.was)
             ∙ sym (times_middle (id_at m) k as_ r bs) ∙ ap (λ a. times k (ids_at m a)) (sym moved.2) ∙ live.each k;
       }
 
-  all_live : {k : ℕ} {js : List Index} {as_ bs : List Structure} {rss uss : List (List Ref)} → Every (Known Q ids m n os d.orders) k js as_ bs rss uss → AllByRecursion (AreLive ids n) uss
+  all_live : {k : ℕ} {js : List Index} {as_ bs : List Structure} {rss uss : List (List Ref)}
+      → Every (Known Q ids m n os d.orders) k js as_ bs rss uss → AllByRecursion (AreLive ids n) uss
   all_live none = tt
   all_live (one {s = k} {i = i} {x = x} {y = y} {rs = rs} {us = us} h rest) = (live_shifted rs us h.0.live (shifts k i x y rs us h).shifted, all_live rest)
 

@@ -1,5 +1,6 @@
 -- The only row of a table that can have a record's key in a unique index.
-use Rattle.std.proofs.Common.{◌≡◌, ◌≢◌, ℕ, ◌+◌, ◌<◌, ◌≤◌, Bool, true, false, cond, not, ◌&&◌, inl, inr, List, [], ◌∷◌, slice_get, refl, ap, sym, ◌∙◌, subst, arith}
+use Rattle.std.proofs.Common.{◌≡◌, ◌≢◌, ℕ, ◌+◌, ◌<◌, ◌≤◌, Bool, true, false, cond, not, ◌&&◌, inl}
+use Rattle.std.proofs.Common.{inr, List, [], ◌∷◌, slice_get, refl, ap, sym, ◌∙◌, subst, arith}
 use Rattle.std.specs.Prelude.{◌==◌}
 use Rattle.std.specs.List.{AllByRecursion, filter}
 use Rattle.std.specs.Map.{lookup}
@@ -61,7 +62,8 @@ module _ (ps : List KeyPart) (r : List Value) (except : Option ℕ) where
       record { values = rest.values; there = head_isnt e q rows (is_other q.0 e (λ same. absurd (omega (arith, same)))) ∙ rest.there; is = rest.is })
 
   -- where there is none no row that is there is one
-  none_found : (rows : List Row) (e : ℕ) (v : List Value) → rival rows ps r except ≡ None → lookup (λ k. k == e) rows ≡ Some v → is_rival ps r except (e, v) ≡ false
+  none_found : (rows : List Row) (e : ℕ) (v : List Value) → rival rows ps r except ≡ None
+      → lookup (λ k. k == e) rows ≡ Some v → is_rival ps r except (e, v) ≡ false
   none_found [] e v none at = absurd (none_some at)
   none_found (q ∷ rows) e v none at =
       both_ways (is_rival ps r except q)
@@ -113,7 +115,8 @@ value_there (Some v) h = (v, refl)
 abbrev pub has_key_of : List KeyPart → Table → List Value → ℕ → Bool
 has_key_of ps t r id = is_eq (compare_key ps (row t id).1 r)
 
-module _ (s : Shape) (t : Table) (x : ℕ) (r : List Value) (is : IsTable s t) (unique : HasUniqueKeys s t) (p : 0 < x) (one : (index_at s x).«unique» ≡ true) (some : (index_at s x).parts ≢ []) where
+module _ (s : Shape) (t : Table) (x : ℕ) (r : List Value) (is : IsTable s t) (unique : HasUniqueKeys s t)
+    (p : 0 < x) (one : (index_at s x).«unique» ≡ true) (some : (index_at s x).parts ≢ []) where
   abbrev ps : List KeyPart
   ps = (index_at s x).parts
 
@@ -124,7 +127,8 @@ module _ (s : Shape) (t : Table) (x : ℕ) (r : List Value) (is : IsTable s t) (
   one_row a b ha hb ka kb =
       elim (eqb_tells a b) [
         | inl same ↦ same.1
-        | inr isnt ↦ absurd (false≢true (sym (unique x a b p one ha hb isnt.1) ∙ ap is_eq (rows_key ps a b (row t a).1 (row t b).1 some) ∙ same_keys ps (row t a).1 (row t b).1 r ka kb))
+        | inr isnt ↦ absurd (false≢true (sym (unique x a b p one ha hb isnt.1)
+            ∙ ap is_eq (rows_key ps a b (row t a).1 (row t b).1 some) ∙ same_keys ps (row t a).1 (row t b).1 r ka kb))
       ]
 
   key_is : (e : ℕ) (v : List Value) → lookup (λ k. k == e) t.rows ≡ Some v → key e ≡ is_eq (compare_key ps v r)
@@ -193,7 +197,8 @@ module _ (s : Shape) (t : Table) (x : ℕ) (r : List Value) (is : IsTable s t) (
   other_but own e None h ne is_e =
       let f : Found ps r None t.rows e = found ps r None t.next t.rows is.ordered e is_e in
       let no_ : (not (e == own) && is_eq (compare_key ps f.values r)) ≡ false = none_found ps r (Some own) t.rows e f.values h f.there in
-      let yes : (not (e == own) && is_eq (compare_key ps f.values r)) ≡ true = ap (λ b. not b && is_eq (compare_key ps f.values r)) (is_other e own (λ same. ne (sym same))) ∙ f.is in
+      let yes : (not (e == own) && is_eq (compare_key ps f.values r)) ≡ true =
+      ap (λ b. not b && is_eq (compare_key ps f.values r)) (is_other e own (λ same. ne (sym same))) ∙ f.is in
       absurd (false≢true (sym no_ ∙ yes))
   other_but own e (Some b) h ne is_e =
       let a = found_key (Some own) b h in

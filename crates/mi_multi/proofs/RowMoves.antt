@@ -62,11 +62,13 @@ module _ (s : Shape) (ids : FinMap nat_cmp IdEntry) (m : Pooled Stored) (xs : Li
   pub live_row_is : (e : ℕ) (r : Ref) → live_node ids e ≡ Some r → IsLive d.rows (record { id = e; at = r })
   live_row_is e r there = (_, row_is s ids m xs next arrivals e r there, refl)
 
-  rows_named : (qs : List Ref) → AllByRecursion (IsLiveRef ids m) qs → option_map (row_at m) (first_of qs None) ≡ option_map (row_ref d.rows) (option_map (id_at m) (first_of qs None))
+  rows_named : (qs : List Ref) → AllByRecursion (IsLiveRef ids m) qs
+      → option_map (row_at m) (first_of qs None) ≡ option_map (row_ref d.rows) (option_map (id_at m) (first_of qs None))
   rows_named [] all = refl
   rows_named (q ∷ qs) all = ap (λ o. Some (record { id = id_at m q; at = at_in o })) (sym (node_live ids m (plan s.indexes) q all.0))
 
-  module _ (is : IsMulti s ids m xs next arrivals) (x : ℕ) (y : Structure) (n : Numbered s ids m xs x y) (seq : IsSequenced s x) (e : ℕ) (r : Ref) (there : live_node ids e ≡ Some r) where
+  module _ (is : IsMulti s ids m xs next arrivals) (x : ℕ) (y : Structure) (n : Numbered s ids m xs x y)
+      (seq : IsSequenced s x) (e : ℕ) (r : Ref) (there : live_node ids e ≡ Some r) where
     abbrev a : known.Among ids m y n.stood.rs e r
     a = known.among s ids m xs next arrivals is x y n e r there
 
@@ -76,9 +78,12 @@ module _ (s : Shape) (ids : FinMap nat_cmp IdEntry) (m : Pooled Stored) (xs : Li
         ∙ ap Listed (own_is (index_at s x) y m n.stood.rs n.stood.for_ n.stood.stands (ap is_sequenced seq) ∙ ap (ids_at m) a.parts)
 
     behind : AllByRecursion (IsLiveRef ids m) a.ys
-    behind = let rest : AllByRecursion (IsLiveRef ids m) (r ∷ a.ys) = all_right (IsLiveRef ids m) a.xs (r ∷ a.ys) (subst (AllByRecursion (IsLiveRef ids m)) a.parts n.stood.live.rows) in rest.1
+    behind =
+        let rest : AllByRecursion (IsLiveRef ids m) (r ∷ a.ys) = all_right (IsLiveRef ids m) a.xs
+        (r ∷ a.ys) (subst (AllByRecursion (IsLiveRef ids m)) a.parts n.stood.live.rows) in
+        rest.1
 
-    pub behind_is : option_map (row_at m) (first_of a.ys None) ≡ option_map (row_ref d.rows) (next_in_order e (get_or d.orders x ById))
+    behind_is : option_map (row_at m) (first_of a.ys None) ≡ option_map (row_ref d.rows) (next_in_order e (get_or d.orders x ById))
     behind_is =
         rows_named a.ys behind
         ∙ ap (option_map (row_ref d.rows)) (sym (ap (next_in_order e) list_is ∙ next_middle (id_at m) e a.xs r a.ys a.here a.lacks ∙ head_ids (id_at m) a.ys))
@@ -86,17 +91,21 @@ module _ (s : Shape) (ids : FinMap nat_cmp IdEntry) (m : Pooled Stored) (xs : Li
 module _ (i : Inside) (w : Seen) (seen : seen_of i ≡ w) where
   -- the node of a live row
   pub live_named : (r : RowRef) → IsLive w.plain.rows r → live_node i.ids.entries r.id ≡ Some r.at
-  live_named r live = ap node_if_live (live_there i.schema i.ids.entries i.nodes.pool i.nodes.structures.items i.next i.arrivals r (subst (λ (v : Seen). IsLive v.plain.rows r) (sym seen) live))
+  live_named r live = ap node_if_live (live_there i.schema i.ids.entries i.nodes.pool i.nodes.structures.items
+      i.next i.arrivals r (subst (λ (v : Seen). IsLive v.plain.rows r) (sym seen) live))
 
-module _ (i : Inside) (is : AreMulti i) (w : Seen) (seen : seen_of i ≡ w) (x : ℕ) (y : Structure) (at : slice_get i.nodes.structures.items x ≡ Some y) (seq : IsSequenced w.shape x) where
-  pub row_behind_is : (r : RowRef) → IsLive w.plain.rows r → (o : Option Ref) → ((xs ys : List Ref) → Stands y i.nodes.pool (xs ++ r.at ∷ ys) → o ≡ first_of ys None)
+module _ (i : Inside) (is : AreMulti i) (w : Seen) (seen : seen_of i ≡ w) (x : ℕ) (y : Structure)
+    (at : slice_get i.nodes.structures.items x ≡ Some y) (seq : IsSequenced w.shape x) where
+  pub row_behind_is : (r : RowRef) → IsLive w.plain.rows r → (o : Option Ref)
+      → ((xs ys : List Ref) → Stands y i.nodes.pool (xs ++ r.at ∷ ys) → o ≡ first_of ys None)
       → option_map (row_at i.nodes.pool) o ≡ option_map (row_ref w.plain.rows) (next_in_order r.id (get_or w.plain.orders x ById))
   row_behind_is r live o next_is =
       let n = numbered i.schema i.ids.entries i.nodes.pool i.nodes.structures.items i.next i.arrivals is x y at in
       let there = live_named i w seen r live in
       let a = known.among i.schema i.ids.entries i.nodes.pool i.nodes.structures.items i.next i.arrivals is x y n r.id r.at there in
       ap (option_map (row_at i.nodes.pool)) (next_is a.xs a.ys a.stands)
-      ∙ behind_is i.schema i.ids.entries i.nodes.pool i.nodes.structures.items i.next i.arrivals is x y n (subst (λ (v : Seen). IsSequenced v.shape x) (sym seen) seq) r.id r.at there
+      ∙ behind_is i.schema i.ids.entries i.nodes.pool i.nodes.structures.items i.next i.arrivals
+      is x y n (subst (λ (v : Seen). IsSequenced v.shape x) (sym seen) seq) r.id r.at there
       ∙ ap (λ (v : Seen). option_map (row_ref v.plain.rows) (next_in_order r.id (get_or v.plain.orders x ById))) seen
 
 -- An index with a list of its own
@@ -107,14 +116,15 @@ kind_listed i (ByKey ps) f seq = sorted_not_sequenced i.kind f.0 seq
 kind_listed i (ByHash ps) f seq = hashed_not_sequenced i.kind f.0 seq
 kind_listed i (Listed l) f seq = tt
 
-kinds_listed : (is : List Index) (os : List Order) (x : ℕ) (none : Index) → is_sequenced none.kind ≡ false → KindsFit is os → is_sequenced (get_or is x none).kind ≡ true → IsListed (get_or os x ById)
+kinds_listed : (is : List Index) (os : List Order) (x : ℕ) (none : Index) → is_sequenced none.kind ≡ false
+    → KindsFit is os → is_sequenced (get_or is x none).kind ≡ true → IsListed (get_or os x ById)
 kinds_listed [] os x none no_ f seq = absurd (false≢true (sym no_ ∙ seq))
 kinds_listed (i ∷ is) [] x none no_ f seq = absurd f
 kinds_listed (i ∷ is) (o ∷ os) zero none no_ f seq = kind_listed i o f.0 seq
 kinds_listed (i ∷ is) (o ∷ os) (suc x) none no_ f seq = kinds_listed is os x none no_ f.1 seq
 
 module _ (s : Shape) (d : Data) (is : IsData s d) (x : ℕ) (seq : IsSequenced s x) where
-  pub has_list : IsListed (get_or d.orders x ById)
+  has_list : IsListed (get_or d.orders x ById)
   has_list = kinds_listed s.indexes d.orders x _ refl is.kinds (ap is_sequenced seq)
 
   -- A row goes before another one, or last
@@ -147,7 +157,9 @@ module _ (s : Shape) (d : Data) (is : IsData s d) (x : ℕ) (seq : IsSequenced s
     one_inverse None o = refl
     one_inverse (Some q) o = ap (λ t. cond t Nothing (moved_back x r.id d)) (sym (is_other q.id r.id o.1))
 
-    pub move_made : (following : Option RowRef) (i : Inverse) (new : Data) → following ≡ option_map (row_ref d.rows) (next_in_order r.id (get_or d.orders x ById)) → i ≡ Relocated x r following → new ≡ taken_back (Relocated x r b) d
+    pub move_made : (following : Option RowRef) (i : Inverse) (new : Data)
+        → following ≡ option_map (row_ref d.rows) (next_in_order r.id (get_or d.orders x ById))
+        → i ≡ Relocated x r following → new ≡ taken_back (Relocated x r b) d
         → Makes s (Relocate x r.id (named b)) d i new
     move_made following i new following_is i_is new_is = record {
       allowed = (there, has_list);
@@ -168,11 +180,13 @@ module _ (s : Shape) (d : Data) (is : IsData s d) (x : ℕ) (seq : IsSequenced s
         ap table_of made.changed_data ∙ (change_is_tables s (Relocate x e b) d is made.allowed).1 ∙ sym (ap (λ t. (answer e b t).1) both),
       )
 
-  pub relocate_answers : (e f : ℕ) (b c : Option ℕ) (i : Inverse) (new : Data) → e ≡ f → b ≡ c → has_place (table_of d) b ≡ true → Makes s (Relocate x e b) d i new
+  pub relocate_answers : (e f : ℕ) (b c : Option ℕ) (i : Inverse) (new : Data) → e ≡ f → b ≡ c
+      → has_place (table_of d) b ≡ true → Makes s (Relocate x e b) d i new
       → ((relocate_outcome x f c (table_of d)).0 ≡ Ok tt) × (table_of new ≡ (relocate_outcome x f c (table_of d)).1)
   relocate_answers e f b c i new same same' h made =
       subst (λ q. ((relocate_outcome x f q (table_of d)).0 ≡ Ok tt) × (table_of new ≡ (relocate_outcome x f q (table_of d)).1)) same'
-      (subst (λ a. ((relocate_outcome x a b (table_of d)).0 ≡ Ok tt) × (table_of new ≡ (relocate_outcome x a b (table_of d)).1)) same (relocate_meets e b i new h made))
+      (subst (λ a. ((relocate_outcome x a b (table_of d)).0 ≡ Ok tt) × (table_of new ≡ (relocate_outcome x a b (table_of d)).1))
+      same (relocate_meets e b i new h made))
 
   -- where both are one row nothing changes
   same_order : (e : ℕ) (o : Order) → OfList (λ ids. relocated (Some e) e ids ≡ ids) o

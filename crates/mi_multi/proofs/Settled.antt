@@ -46,22 +46,26 @@ itself {a} {b} same = elim (eqb_tells a b) [ inl is ↦ is.0 | inr isnt ↦ absu
 
 -- Entries
 
-live_entry : (m : Pooled Stored) (os : List Order) (a : IdEntry) (b : Bool) (n : Node) → cond b (Some (node_in m os a.node)) None ≡ Some n → (b ≡ true) × (node_in m os a.node ≡ n)
+live_entry : (m : Pooled Stored) (os : List Order) (a : IdEntry) (b : Bool) (n : Node)
+    → cond b (Some (node_in m os a.node)) None ≡ Some n → (b ≡ true) × (node_in m os a.node ≡ n)
 live_entry m os a true n h = (refl, some_is h)
 live_entry m os a false n h = absurd (cc)
 
-kept_entry : (m : Pooled Stored) (os : List Order) (a : IdEntry) (b : Bool) (k : Kept) → cond b None (Some (kept_node_in m os a.node)) ≡ Some k → (b ≡ false) × (kept_node_in m os a.node ≡ k)
+kept_entry : (m : Pooled Stored) (os : List Order) (a : IdEntry) (b : Bool) (k : Kept)
+    → cond b None (Some (kept_node_in m os a.node)) ≡ Some k → (b ≡ false) × (kept_node_in m os a.node ≡ k)
 kept_entry m os a true k h = absurd (cc)
 kept_entry m os a false k h = (refl, some_is h)
 
-live_of : (m : Pooled Stored) (os : List Order) (o : Option IdEntry) (n : Node) → option_and_then (live_in m os) o ≡ Some n → (o ≡ Some (record { node = n.at; live = true })) × (n ≡ node_in m os n.at)
+live_of : (m : Pooled Stored) (os : List Order) (o : Option IdEntry) (n : Node) → option_and_then (live_in m os) o ≡ Some n
+    → (o ≡ Some (record { node = n.at; live = true })) × (n ≡ node_in m os n.at)
 live_of m os None n h = absurd (cc)
 live_of m os (Some a) n h =
     let e = live_entry m os a a.live n h in
     let at : a.node ≡ n.at = ap (λ (k : Node). k.at) e.1 in
     ((λ i. Some (record { node = at i; live = e.0 i })), sym e.1 ∙ ap (node_in m os) at)
 
-kept_of_entry : (m : Pooled Stored) (os : List Order) (o : Option IdEntry) (k : Kept) → option_and_then (kept_in m os) o ≡ Some k → (o ≡ Some (record { node = k.node.at; live = false })) × (k ≡ kept_node_in m os k.node.at)
+kept_of_entry : (m : Pooled Stored) (os : List Order) (o : Option IdEntry) (k : Kept) → option_and_then (kept_in m os) o ≡ Some k
+    → (o ≡ Some (record { node = k.node.at; live = false })) × (k ≡ kept_node_in m os k.node.at)
 kept_of_entry m os None k h = absurd (cc)
 kept_of_entry m os (Some a) k h =
     let e = kept_entry m os a a.live k h in
@@ -69,11 +73,13 @@ kept_of_entry m os (Some a) k h =
     ((λ i. Some (record { node = at i; live = e.0 i })), sym e.1 ∙ ap (kept_node_in m os) at)
 
 -- a live row's entry, and that of a kept node
-pub entry_live : (ids : FinMap nat_cmp IdEntry) (m : Pooled Stored) (os : List Order) (e : ℕ) (n : Node) → node_of (picked (live_in m os) (entries ids)) e ≡ Some n
+pub entry_live : (ids : FinMap nat_cmp IdEntry) (m : Pooled Stored) (os : List Order) (e : ℕ) (n : Node)
+    → node_of (picked (live_in m os) (entries ids)) e ≡ Some n
     → (get ids e ≡ Some (record { node = n.at; live = true })) × (n ≡ node_in m os n.at)
 entry_live ids m os e n h = live_of m os (get ids e) n (sym (get_picked (live_in m os) ids e) ∙ h)
 
-pub entry_kept : (ids : FinMap nat_cmp IdEntry) (m : Pooled Stored) (os : List Order) (e : ℕ) (k : Kept) → kept_of (picked (kept_in m os) (entries ids)) e ≡ Some k
+pub entry_kept : (ids : FinMap nat_cmp IdEntry) (m : Pooled Stored) (os : List Order) (e : ℕ) (k : Kept)
+    → kept_of (picked (kept_in m os) (entries ids)) e ≡ Some k
     → (get ids e ≡ Some (record { node = k.node.at; live = false })) × (k ≡ kept_node_in m os k.node.at)
 entry_kept ids m os e k h = kept_of_entry m os (get ids e) k (sym (get_picked (kept_in m os) ids e) ∙ h)
 
@@ -85,7 +91,8 @@ order_still kinds.Ranked ps l u same = refl
 order_still kinds.Hashed ps l u same = refl
 order_still kinds.Sequenced ps l u same = ap Listed (same refl)
 
-pub orders_still : (g : ℕ → List ℕ → List ℕ) (is : List Index) (ls us : List (List ℕ)) → ((k : ℕ) (l : List ℕ) → g k l ≡ l) → SeqBy g is ls us → orders_of is us ≡ orders_of is ls
+pub orders_still : (g : ℕ → List ℕ → List ℕ) (is : List Index) (ls us : List (List ℕ))
+    → ((k : ℕ) (l : List ℕ) → g k l ≡ l) → SeqBy g is ls us → orders_of is us ≡ orders_of is ls
 orders_still g [] ls us all by = refl
 orders_still g (i ∷ is) [] us all by = absurd by
 orders_still g (i ∷ is) (l ∷ ls) [] all by = absurd by
@@ -101,7 +108,8 @@ done_any s m n [] (rs ∷ rss) a = absurd a
 done_any s m n (x ∷ xs) [] a = absurd a
 done_any s m n (x ∷ xs) (rs ∷ rss) a = (refl, done_any (s + 1) m n xs rss a.2)
 
-module _ (s : Shape) (ids : FinMap nat_cmp IdEntry) (m : Pooled Stored) (xs : List Structure) (next arrivals : ℕ) (is : IsMulti s ids m xs next arrivals) (e : ℕ) (r : Ref)
+module _ (s : Shape) (ids : FinMap nat_cmp IdEntry) (m : Pooled Stored) (xs : List Structure)
+    (next arrivals : ℕ) (is : IsMulti s ids m xs next arrivals) (e : ℕ) (r : Ref)
     (there : get ids e ≡ Some (record { node = r; live = false })) where
   abbrev os : List Order
   os = plan s.indexes
@@ -133,7 +141,10 @@ module _ (s : Shape) (ids : FinMap nat_cmp IdEntry) (m : Pooled Stored) (xs : Li
 
   altered : IsAltered os ids m n e
   altered = record {
-    says = λ q a ne here. record { value = value_beside a.node.name (apart q a ne here); stamps = λ x has. ap (λ (l : Line). l.tag.stamp) (link_beside a.node.name x (apart q a ne here)) };
+    says = λ q a ne here. record {
+      value = value_beside a.node.name (apart q a ne here);
+      stamps = λ x has. ap (λ (l : Line). l.tag.stamp) (link_beside a.node.name x (apart q a ne here));
+    };
     kept = λ q a ne here dead t. link_beside a.node.name t (apart q a ne here);
   }
 
@@ -141,10 +152,12 @@ module _ (s : Shape) (ids : FinMap nat_cmp IdEntry) (m : Pooled Stored) (xs : Li
   others q ne = get_left ids e q ne
 
   rows_still : picked (live_in n os) (entries new_ids) ≡ d.rows
-  rows_still = picked_still (live_in m os) (live_in n os) ids new_ids e others (live_alike os ids m n e altered) (ap (option_and_then (live_in n os)) (get_gone ids e) ∙ sym (ap (option_and_then (live_in m os)) there))
+  rows_still = picked_still (live_in m os) (live_in n os) ids new_ids e others (live_alike os ids m n e altered)
+      (ap (option_and_then (live_in n os)) (get_gone ids e) ∙ sym (ap (option_and_then (live_in m os)) there))
 
   kept_left : picked (kept_in n os) (entries new_ids) ≡ left_out e d.kept
-  kept_left = picked_lost (kept_in m os) (kept_in n os) ids new_ids e others (kept_alike os ids m n e altered) next is.is_data.kept (ap (option_and_then (kept_in n os)) (get_gone ids e))
+  kept_left = picked_lost (kept_in m os) (kept_in n os) ids new_ids e others (kept_alike os ids m n e altered)
+      next is.is_data.kept (ap (option_and_then (kept_in n os)) (get_gone ids e))
 
   ids_still : (rs : List Ref) → IsOut r.name rs → ids_at n rs ≡ ids_at m rs
   ids_still [] out_ = refl
@@ -194,7 +207,12 @@ module _ (s : Shape) (ids : FinMap nat_cmp IdEntry) (m : Pooled Stored) (xs : Li
     all_freed (rs ∷ rss) all = (live_freed rs all.0, all_freed rss all.1)
 
     has_still : (q : ℕ) (a : Ref) → (r.name == a.name) ≡ false → HasNode m q a → HasNode n q a
-    has_still q a ne h = record { value = h.value; is = value_beside a.name ne ∙ h.is; id = h.id; held = ref-without m r.name a.name ∙ ap (λ b. cond b None (ref_of m a.name)) ne ∙ h.held }
+    has_still q a ne h = record {
+      value = h.value;
+      is = value_beside a.name ne ∙ h.is;
+      id = h.id;
+      held = ref-without m r.name a.name ∙ ap (λ b. cond b None (ref_of m a.name)) ne ∙ h.held;
+    }
 
     not_gone : (a : IdEntry) → get new_ids e ≡ Some a → ⊥
     not_gone a here = none_some (sym (get_gone ids e) ∙ here)
@@ -233,6 +251,8 @@ module _ (s : Shape) (ids : FinMap nat_cmp IdEntry) (m : Pooled Stored) (xs : Li
       is_data = subst (IsData s) (sym freed_seen) (settled_data s (Erased (record { id = e; at = r }) None) d is.is_data);
       next_fits = is.next_fits;
       arrivals_fit = is.arrivals_fit;
-      few = let less : len new_ids ≤ len ids = subst (λ w. w ≤ len ids) (sym (len-remove nat_cmp_total ids e)) (elim (is_some (get ids e)) as (λ b. cond {A = ℕ} b (len ids - 1) (len ids) ≤ len ids) [ true ↦ omega arith | false ↦ omega arith ]) in
+      few =
+          let less : len new_ids ≤ len ids = subst (λ w. w ≤ len ids) (sym (len-remove nat_cmp_total ids e))
+          (elim (is_some (get ids e)) as (λ b. cond {A = ℕ} b (len ids - 1) (len ids) ≤ len ids) [ true ↦ omega arith | false ↦ omega arith ]) in
           let f : len ids ≤ 2 ^ 31 = is.few in omega arith;
     }

@@ -31,11 +31,13 @@ use Rattle.mi_multi.proofs.Erasing.{row_is, erased_seen, erased_multi}
 use Rattle.mi_multi.proofs.Settled.{entry_live, out, freed_seen, freed_multi}
 
 -- the entry of a live row that an inverse names
-pub live_there : (s : Shape) (ids : FinMap nat_cmp IdEntry) (m : Pooled Stored) (xs : List Structure) (next arrivals : ℕ) (r : RowRef) → IsLive (plain_of s ids m xs next arrivals).rows r
+pub live_there : (s : Shape) (ids : FinMap nat_cmp IdEntry) (m : Pooled Stored) (xs : List Structure) (next arrivals : ℕ) (r : RowRef)
+    → IsLive (plain_of s ids m xs next arrivals).rows r
     → get ids r.id ≡ Some (record { node = r.at; live = true })
 live_there s ids m xs next arrivals r l = (entry_live ids m (plan s.indexes) r.id l.0 l.1).0 ∙ ap (λ w. Some (record { node = w; live = true })) l.2
 
-module _ (s : Shape) (ids : FinMap nat_cmp IdEntry) (m n : Pooled Stored) (xs ys : List Structure) (next arrivals : ℕ) (is : IsMulti s ids m xs next arrivals) (e : ℕ) (r : Ref)
+module _ (s : Shape) (ids : FinMap nat_cmp IdEntry) (m n : Pooled Stored) (xs ys : List Structure)
+    (next arrivals : ℕ) (is : IsMulti s ids m xs next arrivals) (e : ℕ) (r : Ref)
     (there : get ids e ≡ Some (record { node = r; live = true })) (like : AllLike xs ys) (pass : IsPass (leaving All r) (left All r) r 0 xs ys m n) where
   abbrev d : Data
   d = plain_of s ids m xs next arrivals
@@ -55,7 +57,8 @@ module _ (s : Shape) (ids : FinMap nat_cmp IdEntry) (m n : Pooled Stored) (xs ys
       same_map nat_cmp_total nat_cmp-IsAntisymmetric (remove (with_live ids e false) e) (remove ids e)
       (λ q. elim (eqb_tells q e) [
         | inl it ↦ ap (get (remove (with_live ids e false) e)) it.1 ∙ get_gone (with_live ids e false) e ∙ sym (ap (get (remove ids e)) it.1 ∙ get_gone ids e)
-        | inr isnt ↦ get_left (with_live ids e false) e q isnt.1 ∙ marked_beside ids e (record { node = r; live = true }) false there q isnt.1 ∙ sym (get_left ids e q isnt.1)
+        | inr isnt ↦ get_left (with_live ids e false) e q isnt.1
+            ∙ marked_beside ids e (record { node = r; live = true }) false there q isnt.1 ∙ sym (get_left ids e q isnt.1)
       ])
 
   module _ (stands : AllStand ys 0 (freed n r.name) left_multi.rss) where
@@ -65,21 +68,25 @@ module _ (s : Shape) (ids : FinMap nat_cmp IdEntry) (m n : Pooled Stored) (xs ys
     there_is : node_of d.rows e ≡ Some (node_in m (plan s.indexes) r)
     there_is = row_is s ids m n xs ys next arrivals is e r there like pass
 
-    pub gone_seen : gone ≡ record d { rows = left_out e d.rows; orders = map (in_order (without e)) d.orders }
+    gone_seen : gone ≡ record d { rows = left_out e d.rows; orders = map (in_order (without e)) d.orders }
     gone_seen =
         ap (λ q. plain_of s q (freed n r.name) ys next arrivals) (sym same_ids)
         ∙ freed_seen s (with_live ids e false) n ys next arrivals left_multi e r kept_now stands
-        ∙ (let seen = erased_seen s ids m n xs ys next arrivals is e r there like pass ∙ ap (λ o. erased_node e o d) there_is in (λ i. record (seen i) { kept = left_out e (seen i).kept }))
-        ∙ ap (λ k. record d { rows = left_out e d.rows; orders = map (in_order (without e)) d.orders; kept = k }) (out_entered e (kept_node e (node_in m (plan s.indexes) r) d) d.kept (unkept s e d is.is_data (node_in m (plan s.indexes) r, there_is)))
+        ∙ (let seen = erased_seen s ids m n xs ys next arrivals is e r there like pass ∙ ap (λ o. erased_node e o d) there_is in
+        (λ i. record (seen i) { kept = left_out e (seen i).kept }))
+        ∙ ap (λ k. record d { rows = left_out e d.rows; orders = map (in_order (without e)) d.orders; kept = k })
+        (out_entered e (kept_node e (node_in m (plan s.indexes) r) d) d.kept (unkept s e d is.is_data (node_in m (plan s.indexes) r, there_is)))
 
     gone_multi : IsMulti s (remove ids e) (freed n r.name) ys next arrivals
-    gone_multi = subst (λ q. IsMulti s q (freed n r.name) ys next arrivals) same_ids (freed_multi s (with_live ids e false) n ys next arrivals left_multi e r kept_now stands)
+    gone_multi = subst (λ q. IsMulti s q (freed n r.name) ys next arrivals) same_ids
+        (freed_multi s (with_live ids e false) n ys next arrivals left_multi e r kept_now stands)
 
     -- the data before it came
     pub back_seen : (at : Ref) → plain_of s (remove ids e) (freed n r.name) ys (next - 1) (arrivals - 1) ≡ taken_back (Inserted (record { id = e; at = at })) d
     back_seen at = ap (λ (w : Data). record w { next = next - 1; arrivals = arrivals - 1 }) gone_seen
 
-    pub back_multi : (at : Ref) → IsData s (taken_back (Inserted (record { id = e; at = at })) d) → IsMulti s (remove ids e) (freed n r.name) ys (next - 1) (arrivals - 1)
+    pub back_multi : (at : Ref) → IsData s (taken_back (Inserted (record { id = e; at = at })) d)
+        → IsMulti s (remove ids e) (freed n r.name) ys (next - 1) (arrivals - 1)
     back_multi at data_ = record {
       rss = gone_multi.rss;
       stand = gone_multi.stand;

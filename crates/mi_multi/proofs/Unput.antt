@@ -1,5 +1,6 @@
 -- A node may go back to the places that its record had before a put.
-use Rattle.std.proofs.Common.{◌≡◌, ◌≢◌, ℕ, ◌+◌, ◌^◌, ◌<◌, ◌≤◌, zero, suc, Bool, true, false, cond, List, [], ◌∷◌, ◌++◌, map, get_or, length, refl, ap, sym, ◌∙◌, subst, arith}
+use Rattle.std.proofs.Common.{◌≡◌, ◌≢◌, ℕ, ◌+◌, ◌^◌, ◌<◌, ◌≤◌, zero, suc, Bool, true, false, cond, List}
+use Rattle.std.proofs.Common.{[], ◌∷◌, ◌++◌, map, get_or, length, refl, ap, sym, ◌∙◌, subst, arith}
 use Rattle.std.specs.Prelude.{pos}
 use Rattle.std.specs.List.{AllByRecursion, filter}
 use Rattle.std.specs.Option.{option_map}
@@ -27,12 +28,13 @@ use Rattle.mi_chain.specs.Keying.{same_values, stamp_at}
 use Rattle.mi_index.specs.declared.stored.Stored.{Stored}
 use Rattle.mi_index.specs.declared.structure.Structure.{Structure}
 use Rattle.mi_index.specs.declared.structure.Structure.TheVariants.{Ordered, Hashed, Sequenced}
-use Rattle.mi_index.specs.Orders.{id_part, stored_order, has_one_key}
+use Rattle.mi_model.specs.Key.{id_part}
+use Rattle.mi_index.specs.Orders.{stored_order, has_one_key}
 use Rattle.mi_index.specs.Standing.{AllAbove, AllBelow, Climb}
 use Rattle.mi_index.specs.Places.{given_at}
 use Rattle.mi_index.specs.Pass.{AllCan}
 use Rattle.mi_index.specs.Rekeying.{side_of_value, KeepsKey, CanMoveBackTo, HasOldPlaceFor, returning_to}
-use Rattle.mi_container.specs.Data.{Content, Node, Order, Data, parts_of, has_stamps, node_of, content_in, content_of, stamp_of, by_stamp, IsData}
+use Rattle.mi_container.specs.Data.{Content, Node, Order, Data, parts_of, has_stamps, node_of, content_in, content_of, stamp_of, ids_by_stamp, IsData}
 use Rattle.mi_container.specs.Data.Order.{ById, ByKey, ByHash, Listed}
 use Rattle.mi_container.specs.Changes.{sorted_order, group, ref_of, head_of}
 use Rattle.mi_container.specs.Inverse.{OldPlace, Old, stamp_back, stamps_back, old_content, taken_back}
@@ -77,15 +79,18 @@ same_ids w u h =
 
 -- Places
 
-pub meets_at : (y : ℕ) (rows : List (ℕ × Node)) (now old : List Value) (ps : List (Option OldPlace)) (os : List Order) → PlacesMeet y rows now old ps os → (k : ℕ) → k < length os → PlaceMeets (y + k) rows now old (get_or ps k None) (get_or os k ById)
+pub meets_at : (y : ℕ) (rows : List (ℕ × Node)) (now old : List Value) (ps : List (Option OldPlace)) (os : List Order)
+    → PlacesMeet y rows now old ps os → (k : ℕ) → k < length os → PlaceMeets (y + k) rows now old (get_or ps k None) (get_or os k ById)
 meets_at y rows now old [] [] meet k l = absurd (omega arith)
 meets_at y rows now old [] (o ∷ os) meet k l = absurd meet
 meets_at y rows now old (p ∷ ps) [] meet k l = absurd meet
 meets_at y rows now old (p ∷ ps) (o ∷ os) meet zero l = let here : y ≡ y + 0 = omega arith in subst (λ n. PlaceMeets n rows now old p o) here meet.0
 meets_at y rows now old (p ∷ ps) (o ∷ os) meet (suc k) l =
-    let next : suc y + k ≡ y + suc k = omega arith in subst (λ n. PlaceMeets n rows now old (get_or ps k None) (get_or os k ById)) next (meets_at (suc y) rows now old ps os meet.1 k (omega arith))
+    let next : suc y + k ≡ y + suc k = omega arith in
+    subst (λ n. PlaceMeets n rows now old (get_or ps k None) (get_or os k ById)) next (meets_at (suc y) rows now old ps os meet.1 k (omega arith))
 
-pub places_long : (y : ℕ) (rows : List (ℕ × Node)) (now old : List Value) (ps : List (Option OldPlace)) (os : List Order) → PlacesMeet y rows now old ps os → length ps ≡ length os
+pub places_long : (y : ℕ) (rows : List (ℕ × Node)) (now old : List Value) (ps : List (Option OldPlace)) (os : List Order)
+    → PlacesMeet y rows now old ps os → length ps ≡ length os
 places_long y rows now old [] [] meet = refl
 places_long y rows now old [] (o ∷ os) meet = absurd meet
 places_long y rows now old (p ∷ ps) [] meet = absurd meet
@@ -103,13 +108,14 @@ placed x rows now old was (ByKey ps) meet = refl
 placed x rows now old was (ByHash ps) meet = refl
 placed x rows now old was (Listed l) meet = sym meet.0
 
-pub stamp_back_at : (ps : List (Option OldPlace)) (stamps : List ℕ) (k : ℕ) → length ps ≡ length stamps → get_or (stamps_back ps stamps) k 0 ≡ stamp_back (get_or ps k None) (get_or stamps k 0)
+stamp_back_at : (ps : List (Option OldPlace)) (stamps : List ℕ) (k : ℕ) → length ps ≡ length stamps
+    → get_or (stamps_back ps stamps) k 0 ≡ stamp_back (get_or ps k None) (get_or stamps k 0)
 stamp_back_at [] stamps k long = refl
 stamp_back_at (p ∷ ps) [] k long = absurd (let bad : suc (length ps) ≡ zero = long in omega arith)
 stamp_back_at (p ∷ ps) (a ∷ stamps) zero long = refl
 stamp_back_at (p ∷ ps) (a ∷ stamps) (suc k) long = stamp_back_at ps stamps k (let h : suc (length ps) ≡ suc (length stamps) = long in omega arith)
 
-pub length_stamps : (m : Pooled Stored) (q y : ℕ) (os : List Order) → length (stamps_in m q y os) ≡ length os
+length_stamps : (m : Pooled Stored) (q y : ℕ) (os : List Order) → length (stamps_in m q y os) ≡ length os
 length_stamps m q y [] = refl
 length_stamps m q y (o ∷ os) = ap suc (length_stamps m q (suc y) os)
 
@@ -129,9 +135,11 @@ filter_out p r (a ∷ as_) bs no_ = ap (λ q. cond (p a) (a ∷ q) q) (filter_ou
 
 filtered : (P : Ref → Type 0) (p : Ref → Bool) (qs : List Ref) → AllByRecursion P qs → AllByRecursion P (filter p qs)
 filtered P p [] all = tt
-filtered P p (q ∷ qs) all = elim (p q) as (λ t. AllByRecursion P (cond t (q ∷ filter p qs) (filter p qs))) [ true ↦ (all.0, filtered P p qs all.1) | false ↦ filtered P p qs all.1 ]
+filtered P p (q ∷ qs) all =
+    elim (p q) as (λ t. AllByRecursion P (cond t (q ∷ filter p qs) (filter p qs))) [ true ↦ (all.0, filtered P p qs all.1) | false ↦ filtered P p qs all.1 ]
 
-module _ (s : Shape) (ids : FinMap nat_cmp IdEntry) (m : Pooled Stored) (xs : List Structure) (next arrivals : ℕ) (is : IsMulti s ids m xs next arrivals) (e : ℕ) (r : Ref)
+module _ (s : Shape) (ids : FinMap nat_cmp IdEntry) (m : Pooled Stored) (xs : List Structure)
+    (next arrivals : ℕ) (is : IsMulti s ids m xs next arrivals) (e : ℕ) (r : Ref)
     (there : get ids e ≡ Some (record { node = r; live = true })) (old : Old) where
   abbrev os : List Order
   os = plan s.indexes
@@ -164,30 +172,38 @@ module _ (s : Shape) (ids : FinMap nat_cmp IdEntry) (m : Pooled Stored) (xs : Li
   now_is : now ≡ mine.value.row
   now_is = ap (λ o. (content_in o).values) here ∙ ap record_in mine.is
 
-  pub back_there : node_of b.rows e ≡ Some (record { at = r; content = content })
-  back_there = node_with e (old_content old (content_of d.rows e)) d.rows (node_in m os r) here ∙ ap (λ o. Some (record { at = r; content = old_content old (content_in o) })) here
+  back_there : node_of b.rows e ≡ Some (record { at = r; content = content })
+  back_there = node_with e (old_content old (content_of d.rows e)) d.rows (node_in m os r) here
+      ∙ ap (λ o. Some (record { at = r; content = old_content old (content_in o) })) here
 
   module _ (meet : PlacesMeet 0 d.rows now old.values old.places d.orders) (back : IsData s b) where
     abbrev place : ℕ → Option OldPlace
     place k = get_or old.places k None
 
-    meets : (k : ℕ) (i : Index) (x y : Structure) (rs us : List Ref) → Now s ids m xs next arrivals is k i x y rs us → PlaceMeets k d.rows now old.values (place k) (order_of i.kind i.parts (own_list m x))
+    meets : (k : ℕ) (i : Index) (x y : Structure) (rs us : List Ref) → Now s ids m xs next arrivals is k i x y rs us
+        → PlaceMeets k d.rows now old.values (place k) (order_of i.kind i.parts (own_list m x))
     meets k i x y rs us h =
         let zeroed : 0 + k ≡ k = omega arith in
         subst (λ o. PlaceMeets k d.rows now old.values (place k) o) h.1.order_is
-        (subst (λ n. PlaceMeets n d.rows now old.values (place k) (get_or d.orders k ById)) zeroed (meets_at 0 d.rows now old.values old.places d.orders meet k h.1.fewer))
+        (subst (λ n. PlaceMeets n d.rows now old.values (place k) (get_or d.orders k ById))
+        zeroed (meets_at 0 d.rows now old.values old.places d.orders meet k h.1.fewer))
 
     long : length old.places ≡ length (stamps_in m r.name 0 os)
     long =
-        places_long 0 d.rows now old.values old.places d.orders meet ∙ length_orders s.indexes (own_lists m xs) ∙ sym (length_orders s.indexes []) ∙ sym (length_stamps m r.name 0 os)
+        places_long 0 d.rows now old.values old.places d.orders meet ∙ length_orders s.indexes (own_lists m xs)
+        ∙ sym (length_orders s.indexes []) ∙ sym (length_stamps m r.name 0 os)
 
     -- no other live node has the old stamp
-    differ : (k : ℕ) (q : Ref) → IsLiveRef ids m q → id_at m q ≢ e → k < length os → has_stamps (get_or os k ById) ≡ true → (was : OldPlace) → place k ≡ Some was → was.stamp ≢ (link_of m q.name k).tag.stamp
+    differ : (k : ℕ) (q : Ref) → IsLiveRef ids m q → id_at m q ≢ e → k < length os → has_stamps (get_or os k ById) ≡ true
+        → (was : OldPlace) → place k ≡ Some was → was.stamp ≢ (link_of m q.name k).tag.stamp
     differ k q live ne l has was is_ same =
         let zeroed : 0 + k ≡ k = omega arith in
-        let its : get_or (stamps_in m q.name 0 os) k 0 ≡ (link_of m q.name k).tag.stamp = stamps_at m q.name 0 os k l ∙ ap (λ z. stamp_in m q.name z (get_or os k ById)) zeroed ∙ given (get_or os k ById) has in
-        let mine_ : get_or content.stamps k 0 ≡ was.stamp = stamp_back_at old.places (stamps_in m r.name 0 os) k long ∙ ap (λ o. stamp_back o (get_or (stamps_in m r.name 0 os) k 0)) is_ in
-        ne (sym (back.apart e (id_at m q) (record { at = r; content = content }) (node_in m os q) k back_there (node_beside (id_at m q) e (old_content old (content_of d.rows e)) d.rows ne ∙ node_live ids m os q live)
+        let its : get_or (stamps_in m q.name 0 os) k 0 ≡ (link_of m q.name k).tag.stamp = stamps_at m q.name 0 os k l
+        ∙ ap (λ z. stamp_in m q.name z (get_or os k ById)) zeroed ∙ given (get_or os k ById) has in
+        let mine_ : get_or content.stamps k 0 ≡ was.stamp = stamp_back_at old.places (stamps_in m r.name 0 os) k long
+        ∙ ap (λ o. stamp_back o (get_or (stamps_in m r.name 0 os) k 0)) is_ in
+        ne (sym (back.apart e (id_at m q) (record { at = r; content = content }) (node_in m os q) k back_there
+        (node_beside (id_at m q) e (old_content old (content_of d.rows e)) d.rows ne ∙ node_live ids m os q live)
         (has_plan s.indexes (own_lists m xs) k ∙ has) (mine_ ∙ same ∙ sym its)))
       where
         given : (o : Order) → has_stamps o ≡ true → stamp_in m q.name k o ≡ (link_of m q.name k).tag.stamp
@@ -196,17 +212,20 @@ module _ (s : Shape) (ids : FinMap nat_cmp IdEntry) (m : Pooled Stored) (xs : Li
         given (ByHash ps) h = refl
         given (Listed z) h = absurd (false≢true h)
 
-    all_differ : (k : ℕ) (qs : List Ref) → AllByRecursion (IsLiveRef ids m) qs → Lacks e (ids_at m qs) → k < length os → has_stamps (get_or os k ById) ≡ true → (was : OldPlace) → place k ≡ Some was → AllByRecursion (λ q. was.stamp ≢ stamp_at m k q) qs
+    all_differ : (k : ℕ) (qs : List Ref) → AllByRecursion (IsLiveRef ids m) qs → Lacks e (ids_at m qs) → k < length os
+        → has_stamps (get_or os k ById) ≡ true → (was : OldPlace) → place k ≡ Some was → AllByRecursion (λ q. was.stamp ≢ stamp_at m k q) qs
     all_differ k [] all others l has was is_ = tt
     all_differ k (q ∷ qs) all others l has was is_ = (differ k q all.0 others.0 l has was is_, all_differ k qs all.1 others.1 l has was is_)
 
     -- In a tree
 
-    none_are : (ps : List KeyPart) (k : ℕ) (qs : List Ref) → AllByRecursion (IsLiveRef ids m) qs → Lacks e (ids_at m qs) → (ps ≢ [] → has_stamps (get_or os k ById) ≡ true) → k < length os → (was : OldPlace) → place k ≡ Some was
+    none_are : (ps : List KeyPart) (k : ℕ) (qs : List Ref) → AllByRecursion (IsLiveRef ids m) qs → Lacks e (ids_at m qs)
+        → (ps ≢ [] → has_stamps (get_or os k ById) ≡ true) → k < length os → (was : OldPlace) → place k ≡ Some was
         → NoneAre (side_of_value (stored_order ps) m k v was.stamp) Equal qs
     none_are ps k [] all others has l was is_ = tt
     none_are ps k (q ∷ qs) all others has l was is_ = (
-      value_not_equal ps m k q was.stamp v (id_at m q) (is.held (id_at m q) (record { node = q; live = true }) all.0) (λ same. others.0 (sym same)) (λ some. differ k q all.0 others.0 l (has some) was is_),
+      value_not_equal ps m k q was.stamp v (id_at m q) (is.held (id_at m q) (record { node = q; live = true }) all.0)
+          (λ same. others.0 (sym same)) (λ some. differ k q all.0 others.0 l (has some) was is_),
       none_are ps k qs all.1 others.1 has l was is_,
     )
 
@@ -219,13 +238,16 @@ module _ (s : Shape) (ids : FinMap nat_cmp IdEntry) (m : Pooled Stored) (xs : Li
     key_for ps q live =
         let its : HasNode m (id_at m q) q = is.held (id_at m q) (record { node = q; live = true }) live in
         let its_values : (content_of d.rows (id_at m q)).values ≡ record_in (value_of m q.name) = ap (λ o. (content_in o).values) (node_live ids m os q live) in
-        (λ i. is_eq (compare_key ps old.values (its_values i))) ∙ (λ i. is_eq (compare_key ps old.values (record_in (its.is i)))) ∙ sym (λ i. same_values (has_one_key ps) (Some v) (its.is i))
+        (λ i. is_eq (compare_key ps old.values (its_values i))) ∙ (λ i. is_eq (compare_key ps old.values (record_in (its.is i))))
+        ∙ sym (λ i. same_values (has_one_key ps) (Some v) (its.is i))
 
-    keys_for : (ps : List KeyPart) (qs : List Ref) → AllByRecursion (IsLiveRef ids m) qs → AllByRecursion (λ q. is_eq (compare_key ps old.values (content_of d.rows (id_at m q)).values) ≡ has_key ps q) qs
+    keys_for : (ps : List KeyPart) (qs : List Ref) → AllByRecursion (IsLiveRef ids m) qs
+        → AllByRecursion (λ q. is_eq (compare_key ps old.values (content_of d.rows (id_at m q)).values) ≡ has_key ps q) qs
     keys_for ps [] all = tt
     keys_for ps (q ∷ qs) all = (key_for ps q all.0, keys_for ps qs all.1)
 
-    below_ids : (k a : ℕ) (qs : List Ref) → AllByRecursion (IsLiveRef ids m) qs → k < length os → has_stamps (get_or os k ById) ≡ true → AllBelow (stamp_at m k) a qs → (p : Ref → Bool) → AllByRecursion (λ w. stamp_of d.rows k w < a) (ids_at m (filter p qs))
+    below_ids : (k a : ℕ) (qs : List Ref) → AllByRecursion (IsLiveRef ids m) qs → k < length os → has_stamps (get_or os k ById) ≡ true
+        → AllBelow (stamp_at m k) a qs → (p : Ref → Bool) → AllByRecursion (λ w. stamp_of d.rows k w < a) (ids_at m (filter p qs))
     below_ids k a [] all l has below p = tt
     below_ids k a (q ∷ qs) all l has below p =
         elim (p q) as (λ t. AllByRecursion (λ w. stamp_of d.rows k w < a) (ids_at m (cond t (q ∷ filter p qs) (filter p qs)))) [
@@ -233,7 +255,8 @@ module _ (s : Shape) (ids : FinMap nat_cmp IdEntry) (m : Pooled Stored) (xs : Li
           | false ↦ below_ids k a qs all.1 l has below.1 p
         ]
 
-    above_ids : (k a : ℕ) (qs : List Ref) → AllByRecursion (IsLiveRef ids m) qs → k < length os → has_stamps (get_or os k ById) ≡ true → AllAbove (stamp_at m k) a qs → (p : Ref → Bool) → AllByRecursion (λ w. a < stamp_of d.rows k w) (ids_at m (filter p qs))
+    above_ids : (k a : ℕ) (qs : List Ref) → AllByRecursion (IsLiveRef ids m) qs → k < length os → has_stamps (get_or os k ById) ≡ true
+        → AllAbove (stamp_at m k) a qs → (p : Ref → Bool) → AllByRecursion (λ w. a < stamp_of d.rows k w) (ids_at m (filter p qs))
     above_ids k a [] all l has above p = tt
     above_ids k a (q ∷ qs) all l has above p =
         elim (p q) as (λ t. AllByRecursion (λ w. a < stamp_of d.rows k w) (ids_at m (cond t (q ∷ filter p qs) (filter p qs)))) [
@@ -246,8 +269,10 @@ module _ (s : Shape) (ids : FinMap nat_cmp IdEntry) (m : Pooled Stored) (xs : Li
     ByStamp ps k was qs = (us : List Ref) × (vs : List Ref) × (qs ≡ us ++ vs) × AllBelow (stamp_at m k) was.stamp us × AllAbove (stamp_at m k) was.stamp vs
         × (was.link.back ≡ last_of None (filter (has_key ps) us)) × (was.link.forth ≡ first_of (filter (has_key ps) vs) None)
 
-    in_chains : (k : ℕ) (ps : List KeyPart) (as_ bs : List Ref) → by_stamp k d.rows ≡ ids_at m (as_ ++ r ∷ bs) → AllByRecursion (IsLiveRef ids m) (as_ ++ bs) → Lacks e (ids_at m (as_ ++ bs)) → Climb (stamp_at m k) (as_ ++ r ∷ bs) → k < length os
-        → has_stamps (get_or os k ById) ≡ true → (was : OldPlace) → place k ≡ Some was → is_eq (compare_key ps old.values now) ≡ false → MeetByStamp k d.rows was.stamp was.link (group ps k d.rows old.values) → ByStamp ps k was (as_ ++ bs)
+    in_chains : (k : ℕ) (ps : List KeyPart) (as_ bs : List Ref) → ids_by_stamp k d.rows ≡ ids_at m (as_ ++ r ∷ bs)
+        → AllByRecursion (IsLiveRef ids m) (as_ ++ bs) → Lacks e (ids_at m (as_ ++ bs)) → Climb (stamp_at m k) (as_ ++ r ∷ bs) → k < length os
+        → has_stamps (get_or os k ById) ≡ true → (was : OldPlace) → place k ≡ Some was → is_eq (compare_key ps old.values now) ≡ false
+        → MeetByStamp k d.rows was.stamp was.link (group ps k d.rows old.values) → ByStamp ps k was (as_ ++ bs)
     in_chains k ps as_ bs by live others climb l has was is_ changed meets_ =
         let c = cut_at (stamp_at m k) was.stamp (as_ ++ bs) (climb_left (stamp_at m k) r as_ bs climb) (all_differ k (as_ ++ bs) live others l has was is_) in
         let p : ℕ → Bool = λ w. is_eq (compare_key ps old.values (content_of d.rows w).values) in
@@ -259,7 +284,8 @@ module _ (s : Shape) (ids : FinMap nat_cmp IdEntry) (m : Pooled Stored) (xs : Li
         filter_eq (λ q. p (id_at m q)) p' (c.xs ++ c.ys) (keys_for ps (c.xs ++ c.ys) both) ∙ filter_append p' c.xs c.ys in
         let own_ : p (id_at m r) ≡ false = ap p id ∙ changed in
         let whole : group ps k d.rows old.values ≡ ids_at m (filter p' c.xs) ++ ids_at m (filter p' c.ys) =
-        ap (filter p) by ∙ filter_ids (id_at m) p (as_ ++ r ∷ bs) ∙ ap (ids_at m) (filter_out (λ q. p (id_at m q)) r as_ bs own_ ∙ ap (filter (λ q. p (id_at m q))) c.parts ∙ alike)
+        ap (filter p) by ∙ filter_ids (id_at m) p (as_ ++ r ∷ bs)
+        ∙ ap (ids_at m) (filter_out (λ q. p (id_at m q)) r as_ bs own_ ∙ ap (filter (λ q. p (id_at m q))) c.parts ∙ alike)
         ∙ ids_append (id_at m) (filter p' c.xs) (filter p' c.ys) in
         let one_way = one_cut (stamp_of d.rows k) was.stamp (ids_at m (filter p' c.xs)) (ids_at m (filter p' c.ys)) meets_.0 meets_.1 (sym whole ∙ meets_.2)
         (below_ids k was.stamp c.xs left l has c.below p') (above_ids k was.stamp c.ys right l has c.above p') meets_.5 meets_.6 in (
@@ -269,9 +295,11 @@ module _ (s : Shape) (ids : FinMap nat_cmp IdEntry) (m : Pooled Stored) (xs : Li
           c.below,
           c.above,
           meets_.3 ∙ ap (λ w. ref_of d.rows (last_or None w)) (sym one_way.0) ∙ ap (ref_of d.rows) (last_ids (id_at m) None (filter p' c.xs))
-              ∙ ref_back (id_at m) d.rows (last_of None (filter p' c.xs)) (last_row (id_at m) d.rows (filter p' c.xs) (filtered (IsRow (id_at m) d.rows) p' c.xs (rows_of ids m os c.xs left))),
+              ∙ ref_back (id_at m) d.rows (last_of None (filter p' c.xs))
+              (last_row (id_at m) d.rows (filter p' c.xs) (filtered (IsRow (id_at m) d.rows) p' c.xs (rows_of ids m os c.xs left))),
           meets_.4 ∙ ap (λ w. ref_of d.rows (head_of w)) (sym one_way.1) ∙ ap (ref_of d.rows) (head_ids (id_at m) (filter p' c.ys))
-              ∙ ref_back (id_at m) d.rows (first_of (filter p' c.ys) None) (first_row (id_at m) d.rows (filter p' c.ys) (filtered (IsRow (id_at m) d.rows) p' c.ys (rows_of ids m os c.ys right))),
+              ∙ ref_back (id_at m) d.rows (first_of (filter p' c.ys) None)
+              (first_row (id_at m) d.rows (filter p' c.ys) (filtered (IsRow (id_at m) d.rows) p' c.ys (rows_of ids m os c.ys right))),
         )
 
     -- In any index
@@ -279,8 +307,10 @@ module _ (s : Shape) (ids : FinMap nat_cmp IdEntry) (m : Pooled Stored) (xs : Li
     abbrev Meets : ℕ → Index → Structure → Option OldPlace → Type 0
     Meets k i x o = PlaceMeets k d.rows now old.values o (order_of i.kind i.parts (own_list m x))
 
-    place_in : (k : ℕ) (i : Index) (x y : Structure) (rs us : List Ref) → Now s ids m xs next arrivals is k i x y rs us → (was : OldPlace) → place k ≡ Some was → Meets k i x (Some was)
-        → (as_ bs : List Ref) → rs ≡ as_ ++ r ∷ bs → AllByRecursion (IsLiveRef ids m) (as_ ++ bs) → Lacks e (ids_at m (as_ ++ bs)) → HasOldPlaceFor x m v (to_place was) (as_ ++ bs)
+    place_in : (k : ℕ) (i : Index) (x y : Structure) (rs us : List Ref) → Now s ids m xs next arrivals is k i x y rs us
+        → (was : OldPlace) → place k ≡ Some was → Meets k i x (Some was)
+        → (as_ bs : List Ref) → rs ≡ as_ ++ r ∷ bs → AllByRecursion (IsLiveRef ids m) (as_ ++ bs)
+        → Lacks e (ids_at m (as_ ++ bs)) → HasOldPlaceFor x m v (to_place was) (as_ ++ bs)
     place_in k i (Ordered t) y rs us h was is_ met as_ bs parts live others =
         let slot : t.slot ≡ k = h.0.slot in
         let same : t.order.parts ≡ i.parts = h.0.for_.1 in
@@ -294,10 +324,13 @@ module _ (s : Shape) (ids : FinMap nat_cmp IdEntry) (m : Pooled Stored) (xs : Li
         let climb : Climb (stamp_at m k) rs = subst (λ w. Climb (stamp_at m w) rs) slot h.0.was.1 in
         let order_is : get_or d.orders k ById ≡ ByHash i.parts = h.1.order_is ∙ hashed_order i.kind i.parts (own_list m (Hashed c)) hashed in
         let plan_is : get_or os k ById ≡ ByHash i.parts = h.1.plan_is ∙ hashed_order i.kind i.parts [] hashed in
-        let by : by_stamp k d.rows ≡ ids_at m rs = by_stamp_is s d ids m os k i.parts rs is.is_data refl h.1.fewer h.1.few order_is plan_is h.0.live climb in
-        let met' : PlaceMeets k d.rows now old.values (Some was) (ByHash i.parts) = subst (PlaceMeets k d.rows now old.values (Some was)) (hashed_order i.kind i.parts (own_list m (Hashed c)) hashed) met in
+        let by : ids_by_stamp k d.rows ≡ ids_at m rs = by_stamp_is s d ids m os k i.parts rs
+        is.is_data refl h.1.fewer h.1.few order_is plan_is h.0.live climb in
+        let met' : PlaceMeets k d.rows now old.values (Some was) (ByHash i.parts) = subst
+        (PlaceMeets k d.rows now old.values (Some was)) (hashed_order i.kind i.parts (own_list m (Hashed c)) hashed) met in
         let got : ByStamp i.parts k was (as_ ++ bs) =
-        in_chains k i.parts as_ bs (by ∙ ap (ids_at m) parts) live others (subst (Climb (stamp_at m k)) parts climb) h.1.few (ap has_stamps plan_is) was is_ met'.0 met'.1 in
+        in_chains k i.parts as_ bs (by ∙ ap (ids_at m) parts) live others
+        (subst (Climb (stamp_at m k)) parts climb) h.1.few (ap has_stamps plan_is) was is_ met'.0 met'.1 in
         let it : ByStamp c.keys.parts k was (as_ ++ bs) = subst (λ w. ByStamp w k was (as_ ++ bs)) (sym same) got in
         record {
           xs = it.0;
@@ -310,14 +343,16 @@ module _ (s : Shape) (ids : FinMap nat_cmp IdEntry) (m : Pooled Stored) (xs : Li
         }
     place_in k i (Sequenced q) y rs us h was is_ met as_ bs parts live others =
         let seq : is_sequenced i.kind ≡ true = h.0.for_ in
-        false≢true (ap has_stamps (sym (sequenced_order i.kind i.parts (own_list m (Sequenced q)) seq)) ∙ placed k d.rows now old.values was (order_of i.kind i.parts (own_list m (Sequenced q))) met)
+        false≢true (ap has_stamps (sym (sequenced_order i.kind i.parts (own_list m (Sequenced q)) seq))
+        ∙ placed k d.rows now old.values was (order_of i.kind i.parts (own_list m (Sequenced q))) met)
 
     -- a key that is the same
     same_key : (k : ℕ) (i : Index) (x y : Structure) (rs us : List Ref) → Now s ids m xs next arrivals is k i x y rs us → Meets k i x None → KeepsKey x m r v
     same_key k i (Ordered t) y rs us h met w w_is =
         let own_ : w ≡ mine.value = (let both : Some w ≡ Some mine.value = sym w_is ∙ mine.is in cc) in
         let order_is : order_of i.kind i.parts (own_list m (Ordered t)) ≡ sorted_order i.parts = sorted_parts i.kind i.parts [] h.0.for_.0 in
-        let met' : is_eq (compare_key (parts_of (sorted_order i.parts)) old.values now) ≡ true = subst (λ o. is_eq (compare_key (parts_of o) old.values now) ≡ true) order_is met in
+        let met' : is_eq (compare_key (parts_of (sorted_order i.parts)) old.values now) ≡ true =
+        subst (λ o. is_eq (compare_key (parts_of o) old.values now) ≡ true) order_is met in
         ap (λ q. stored_order t.order.parts q v) own_ ∙ ap (λ ps. stored_order ps mine.value v) h.0.for_.1 ∙ sorted_same i.parts met'
       where
         sorted_same : (ps : List KeyPart) → is_eq (compare_key (parts_of (sorted_order ps)) old.values now) ≡ true → stored_order ps mine.value v ≡ Equal
@@ -327,16 +362,19 @@ module _ (s : Shape) (ids : FinMap nat_cmp IdEntry) (m : Pooled Stored) (xs : Li
         let own_ : w ≡ mine.value = (let both : Some w ≡ Some mine.value = sym w_is ∙ mine.is in cc) in
         let order_is : order_of i.kind i.parts (own_list m (Hashed c)) ≡ ByHash i.parts = hashed_order i.kind i.parts (own_list m (Hashed c)) h.0.for_.0 in
         let met' : is_eq (compare_key i.parts old.values now) ≡ true = subst (λ o. is_eq (compare_key (parts_of o) old.values now) ≡ true) order_is met in
-        ap (λ (q : Stored). compare_key c.keys.parts q.row old.values) own_ ∙ ap (λ ps. compare_key ps mine.value.row old.values) h.0.for_.1 ∙ ap (λ q. compare_key i.parts q old.values) (sym now_is) ∙ equal_back i.parts old.values now met'
+        ap (λ (q : Stored). compare_key c.keys.parts q.row old.values) own_ ∙ ap (λ ps. compare_key ps mine.value.row old.values) h.0.for_.1
+        ∙ ap (λ q. compare_key i.parts q old.values) (sym now_is) ∙ equal_back i.parts old.values now met'
     same_key k i (Sequenced q) y rs us h met w w_is = refl
 
-    one_back : (k : ℕ) (i : Index) (x y : Structure) (rs us : List Ref) → Now s ids m xs next arrivals is k i x y rs us → (o : Option OldPlace) → place k ≡ o → Meets k i x o → CanMoveBackTo (option_map to_place o) x m r v rs
+    one_back : (k : ℕ) (i : Index) (x y : Structure) (rs us : List Ref) → Now s ids m xs next arrivals is k i x y rs us
+        → (o : Option OldPlace) → place k ≡ o → Meets k i x o → CanMoveBackTo (option_map to_place o) x m r v rs
     one_back k i x y rs us h None is_ met = same_key k i x y rs us h met
     one_back k i x y rs us h (Some was) is_ met =
         let w = holds ids m e r rs there h.0.live in
         let whole : AreLive ids m (w.xs ++ r ∷ w.ys) = subst (AreLive ids m) w.parts h.0.live in
         let behind : AllByRecursion (IsLiveRef ids m) (r ∷ w.ys) = all_right (IsLiveRef ids m) w.xs (r ∷ w.ys) whole.rows in
-        let live : AllByRecursion (IsLiveRef ids m) (w.xs ++ w.ys) = all_append (IsLiveRef ids m) w.xs w.ys (all_left (IsLiveRef ids m) w.xs (r ∷ w.ys) whole.rows) behind.1 in
+        let live : AllByRecursion (IsLiveRef ids m) (w.xs ++ w.ys) = all_append (IsLiveRef ids m)
+        w.xs w.ys (all_left (IsLiveRef ids m) w.xs (r ∷ w.ys) whole.rows) behind.1 in
         record {
           xs = w.xs;
           ys = w.ys;
@@ -345,10 +383,13 @@ module _ (s : Shape) (ids : FinMap nat_cmp IdEntry) (m : Pooled Stored) (xs : Li
           place = place_in k i x y rs us h was is_ met w.xs w.ys w.parts live (lacks_middle ids m e r w.xs w.ys id there whole);
         }
 
-    one_can : (k : ℕ) (i : Index) (x y : Structure) (rs us : List Ref) → Now s ids m xs next arrivals is k i x y rs us → CanMoveBackTo (given_at (map (option_map to_place) old.places) k) x m r v rs
-    one_can k i x y rs us h = subst (λ o. CanMoveBackTo o x m r v rs) (sym (given_is old.places k)) (one_back k i x y rs us h (place k) refl (meets k i x y rs us h))
+    one_can : (k : ℕ) (i : Index) (x y : Structure) (rs us : List Ref) → Now s ids m xs next arrivals is k i x y rs us
+        → CanMoveBackTo (given_at (map (option_map to_place) old.places) k) x m r v rs
+    one_can k i x y rs us h = subst (λ o. CanMoveBackTo o x m r v rs) (sym (given_is old.places k))
+        (one_back k i x y rs us h (place k) refl (meets k i x y rs us h))
 
-    all_can : {k : ℕ} {js : List Index} {us vs : List Structure} {rss uss : List (List Ref)} → Every (Now s ids m xs next arrivals is) k js us vs rss uss → AllCan (returning_to (map (option_map to_place) old.places) r v) us k m rss
+    all_can : {k : ℕ} {js : List Index} {us vs : List Structure} {rss uss : List (List Ref)}
+        → Every (Now s ids m xs next arrivals is) k js us vs rss uss → AllCan (returning_to (map (option_map to_place) old.places) r v) us k m rss
     all_can none = tt
     all_can (one {s = k} {i = i} {x = x} {y = y} {rs = rs} {us = us} h rest) = (one_can k i x y rs us h, all_can rest)
 

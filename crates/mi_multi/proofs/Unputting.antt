@@ -1,5 +1,6 @@
 -- A row has its old record again: what the indexes leave are the data before the put, and all stands.
-use Rattle.std.proofs.Common.{◌≡◌, ℕ, ◌+◌, ◌-◌, ◌<◌, zero, suc, true, false, cond, inl, inr, List, [], ◌∷◌, ◌++◌, map, get_or, length, refl, ap, sym, ◌∙◌, subst, arith}
+use Rattle.std.proofs.Common.{◌≡◌, ℕ, ◌+◌, ◌-◌, ◌<◌, zero, suc, true, false, cond, inl, inr, List}
+use Rattle.std.proofs.Common.{[], ◌∷◌, ◌++◌, map, get_or, length, refl, ap, sym, ◌∙◌, subst, arith}
 use Rattle.std.specs.Prelude.{◌==◌}
 use Rattle.std.specs.List.{AllByRecursion}
 use Rattle.std.specs.Option.{option_map, option_and_then}
@@ -39,7 +40,8 @@ use Rattle.mi_multi.proofs.Rows.{picked_still, picked_with}
 use Rattle.mi_multi.proofs.Lists.{times_middle}
 use Rattle.mi_multi.proofs.Says.{live_alike, kept_alike}
 use Rattle.mi_multi.proofs.Settled.{orders_still}
-use Rattle.mi_multi.proofs.Every.{Turned, Known, Every, At, at, every, all_known, at_plan, all_for, seq_known, sequenced_order, one_plan, no_stamps_past, length_orders, one, none}
+use Rattle.mi_multi.proofs.Every.{Turned, Known, Every, At, at, every, all_known, at_plan, all_for, seq_known}
+use Rattle.mi_multi.proofs.Every.{sequenced_order, one_plan, no_stamps_past, length_orders, one, none}
 use Rattle.mi_multi.proofs.Lives.{IsLiveRef, names_apart, out_of_all, all_left, all_right, all_append}
 use Rattle.mi_multi.proofs.Unput.{b, here, meets_at, places_long, given_is, placed}
 
@@ -52,16 +54,20 @@ stamps_put m n q y [] (o ∷ os) long each = absurd (let bad : zero ≡ suc (len
 stamps_put m n q y (p ∷ ps) [] long each = absurd (let bad : suc (length ps) ≡ zero = long in omega arith)
 stamps_put m n q y (p ∷ ps) (o ∷ os) long each =
     let same : y + 0 ≡ y = omega arith in
-    let first : stamp_in n q y o ≡ stamp_back p (stamp_in m q y o) = subst (λ k. stamp_in n q k o ≡ stamp_back p (stamp_in m q k o)) same (each zero (omega arith)) in
+    let first : stamp_in n q y o ≡ stamp_back p (stamp_in m q y o) = subst
+    (λ k. stamp_in n q k o ≡ stamp_back p (stamp_in m q k o)) same (each zero (omega arith)) in
     let rest : stamps_in n q (suc y) os ≡ stamps_back ps (stamps_in m q (suc y) os) =
     stamps_put m n q (suc y) ps os (let h : suc (length ps) ≡ suc (length os) = long in omega arith)
-    (λ k l. let next : y + suc k ≡ suc y + k = omega arith in subst (λ z. stamp_in n q z (get_or os k ById) ≡ stamp_back (get_or ps k None) (stamp_in m q z (get_or os k ById))) next (each (suc k) (omega arith))) in
+    (λ k l.
+    let next : y + suc k ≡ suc y + k = omega arith in
+    subst (λ z. stamp_in n q z (get_or os k ById) ≡ stamp_back (get_or ps k None) (stamp_in m q z (get_or os k ById))) next (each (suc k) (omega arith))) in
     (λ i. first i ∷ rest i)
 
 itself : {a b : ℕ} → a ≡ b → (a == b) ≡ true
 itself {a} {b} same = elim (eqb_tells a b) [ inl is ↦ is.0 | inr isnt ↦ absurd (isnt.1 same) ]
 
-module _ (s : Shape) (ids : FinMap nat_cmp IdEntry) (m n : Pooled Stored) (xs ys : List Structure) (next arrivals : ℕ) (is : IsMulti s ids m xs next arrivals) (e : ℕ) (r : Ref)
+module _ (s : Shape) (ids : FinMap nat_cmp IdEntry) (m n : Pooled Stored) (xs ys : List Structure)
+    (next arrivals : ℕ) (is : IsMulti s ids m xs next arrivals) (e : ℕ) (r : Ref)
     (there : get ids e ≡ Some (record { node = r; live = true })) (old : Old) where
   abbrev os : List Order
   os = plan s.indexes
@@ -116,11 +122,13 @@ module _ (s : Shape) (ids : FinMap nat_cmp IdEntry) (m n : Pooled Stored) (xs ys
     abbrev place : ℕ → Option OldPlace
     place k = get_or old.places k None
 
-    meets : (k : ℕ) (i : Index) (x y : Structure) (rs us : List Ref) → Has k i x y rs us → PlaceMeets k d.rows (content_of d.rows e).values old.values (place k) (order_of i.kind i.parts (own_list m x))
+    meets : (k : ℕ) (i : Index) (x y : Structure) (rs us : List Ref) → Has k i x y rs us
+        → PlaceMeets k d.rows (content_of d.rows e).values old.values (place k) (order_of i.kind i.parts (own_list m x))
     meets k i x y rs us h =
         let zeroed : 0 + k ≡ k = omega arith in
         subst (λ o. PlaceMeets k d.rows (content_of d.rows e).values old.values (place k) o) h.1.order_is
-        (subst (λ w. PlaceMeets w d.rows (content_of d.rows e).values old.values (place k) (get_or d.orders k ById)) zeroed (meets_at 0 d.rows (content_of d.rows e).values old.values old.places d.orders meet k h.1.fewer))
+        (subst (λ w. PlaceMeets w d.rows (content_of d.rows e).values old.values (place k) (get_or d.orders k ById))
+        zeroed (meets_at 0 d.rows (content_of d.rows e).values old.values old.places d.orders meet k h.1.fewer))
 
     has_done : (k : ℕ) (i : Index) (x y : Structure) (rs us : List Ref) → Has k i x y rs us → HasMovedBackTo (option_map to_place (place k)) x m n r rs us
     has_done k i x y rs us h = subst (λ o. HasMovedBackTo o x m n r rs us) (given_is old.places k) h.0.done
@@ -132,7 +140,8 @@ module _ (s : Shape) (ids : FinMap nat_cmp IdEntry) (m n : Pooled Stored) (xs ys
     unstamped i l seq has = false≢true (sym (ap has_stamps (sequenced_order i.kind i.parts l seq)) ∙ has)
 
     -- the stamps of other nodes
-    tag_beside : (o : Option OldPlace) (i : Index) (x : Structure) (rs us : List Ref) (l : List ℕ) → IsFor i x → HasMovedBackTo (option_map to_place o) x m n r rs us → has_stamps (order_of i.kind i.parts l) ≡ true → (k : ℕ) → (k == r.name) ≡ false
+    tag_beside : (o : Option OldPlace) (i : Index) (x : Structure) (rs us : List Ref) (l : List ℕ) → IsFor i x
+        → HasMovedBackTo (option_map to_place o) x m n r rs us → has_stamps (order_of i.kind i.parts l) ≡ true → (k : ℕ) → (k == r.name) ≡ false
         → (link_of n k (slot_in x)).tag.stamp ≡ (link_of m k (slot_in x)).tag.stamp
     tag_beside None i x rs us l f moved has k ne = ap (λ (w : Line). w.tag.stamp) (moved.links k)
     tag_beside (Some was) i (Ordered t) rs us l f moved has k ne = ap (λ (w : Tag). w.stamp) (moved.stamped.1 k (apart k ne))
@@ -140,16 +149,19 @@ module _ (s : Shape) (ids : FinMap nat_cmp IdEntry) (m n : Pooled Stored) (xs ys
     tag_beside (Some was) i (Sequenced q) rs us l f moved has k ne = absurd (unstamped i l f has)
 
     -- and its own
-    own_tag : (was : OldPlace) (i : Index) (x : Structure) (rs us : List Ref) (l : List ℕ) → IsFor i x → HasMovedBack x m n r (to_place was) rs us → has_stamps (order_of i.kind i.parts l) ≡ true → (link_of n r.name (slot_in x)).tag.stamp ≡ was.stamp
+    own_tag : (was : OldPlace) (i : Index) (x : Structure) (rs us : List Ref) (l : List ℕ) → IsFor i x → HasMovedBack x m n r (to_place was) rs us
+        → has_stamps (order_of i.kind i.parts l) ≡ true → (link_of n r.name (slot_in x)).tag.stamp ≡ was.stamp
     own_tag was i (Ordered t) rs us l f moved has = moved.stamped.0
     own_tag was i (Hashed c) rs us l f moved has = moved.stamped.0
     own_tag was i (Sequenced q) rs us l f moved has = absurd (unstamped i l f has)
 
     -- What the pool says of nodes
 
-    stamp_beside : (x : ℕ) (o : Order) → At Has x o → has_stamps o ≡ true → (k : ℕ) → (k == r.name) ≡ false → (link_of n k x).tag.stamp ≡ (link_of m k x).tag.stamp
+    stamp_beside : (x : ℕ) (o : Order) → At Has x o → has_stamps o ≡ true → (k : ℕ)
+        → (k == r.name) ≡ false → (link_of n k x).tag.stamp ≡ (link_of m k x).tag.stamp
     stamp_beside x o (at i a c rs us l h is_order) has k ne =
-        subst (λ w. (link_of n k w).tag.stamp ≡ (link_of m k w).tag.stamp) h.0.slot (tag_beside (place x) i a rs us l h.0.for_ (has_done x i a c rs us h) (sym (ap has_stamps is_order) ∙ has) k ne)
+        subst (λ w. (link_of n k w).tag.stamp ≡ (link_of m k w).tag.stamp) h.0.slot
+        (tag_beside (place x) i a rs us l h.0.for_ (has_done x i a c rs us h) (sym (ap has_stamps is_order) ∙ has) k ne)
 
     says : (k : ℕ) → (k == r.name) ≡ false → SaysSame os m n k
     says k ne = record {
@@ -163,7 +175,8 @@ module _ (s : Shape) (ids : FinMap nat_cmp IdEntry) (m n : Pooled Stored) (xs ys
     altered : IsAltered os ids m n e
     altered = record {
       says = λ q a ne there_. says a.node.name (names_apart m q e a.node r (is.held q a there_) mine ne);
-      kept = λ q a ne there_ dead t. done.other_nodes a.node.name t (names_apart m q e a.node r (is.held q a there_) mine ne) (out_of_all ids m q a is.rss there_ dead (is.held q a there_) is.live);
+      kept = λ q a ne there_ dead t. done.other_nodes a.node.name t (names_apart m q e a.node r (is.held q a there_) mine ne)
+          (out_of_all ids m q a is.rss there_ dead (is.held q a there_) is.live);
     }
 
     given : (p : Pooled Stored) (x : ℕ) (o : Order) → has_stamps o ≡ true → stamp_in p r.name x o ≡ (link_of p r.name x).tag.stamp
@@ -178,35 +191,43 @@ module _ (s : Shape) (ids : FinMap nat_cmp IdEntry) (m n : Pooled Stored) (xs ys
     same_stamp x (ByHash ps) same = ap (λ (w : Line). w.tag.stamp) same
     same_stamp x (Listed l) same = refl
 
-    stamp_by : (k : ℕ) (o : Order) (i : Index) (x y : Structure) (rs us : List Ref) (l : List ℕ) → Has k i x y rs us → o ≡ order_of i.kind i.parts l → (p : Option OldPlace) → place k ≡ p → stamp_in n r.name k o ≡ stamp_back p (stamp_in m r.name k o)
+    stamp_by : (k : ℕ) (o : Order) (i : Index) (x y : Structure) (rs us : List Ref) (l : List ℕ) → Has k i x y rs us
+        → o ≡ order_of i.kind i.parts l → (p : Option OldPlace) → place k ≡ p → stamp_in n r.name k o ≡ stamp_back p (stamp_in m r.name k o)
     stamp_by k o i x y rs us l h is_order None is_ =
         let same : HasMovedBackTo None x m n r rs us = subst (λ q. HasMovedBackTo (option_map to_place q) x m n r rs us) is_ (has_done k i x y rs us h) in
         same_stamp k o (subst (λ w. link_of n r.name w ≡ link_of m r.name w) h.0.slot (same.links r.name))
     stamp_by k o i x y rs us l h is_order (Some was) is_ =
-        let moved : HasMovedBack x m n r (to_place was) rs us = subst (λ q. HasMovedBackTo (option_map to_place q) x m n r rs us) is_ (has_done k i x y rs us h) in
-        let met = subst (λ q. PlaceMeets k d.rows (content_of d.rows e).values old.values q (order_of i.kind i.parts (own_list m x))) is_ (meets k i x y rs us h) in
-        let has_ : has_stamps (order_of i.kind i.parts (own_list m x)) ≡ true = placed k d.rows (content_of d.rows e).values old.values was (order_of i.kind i.parts (own_list m x)) met in
+        let moved : HasMovedBack x m n r (to_place was) rs us = subst
+        (λ q. HasMovedBackTo (option_map to_place q) x m n r rs us) is_ (has_done k i x y rs us h) in
+        let met = subst (λ q. PlaceMeets k d.rows (content_of d.rows e).values old.values q (order_of i.kind i.parts (own_list m x)))
+        is_ (meets k i x y rs us h) in
+        let has_ : has_stamps (order_of i.kind i.parts (own_list m x)) ≡ true = placed k d.rows
+        (content_of d.rows e).values old.values was (order_of i.kind i.parts (own_list m x)) met in
         let has : has_stamps o ≡ true = ap has_stamps is_order ∙ one_plan i.kind i.parts l (own_list m x) ∙ has_ in
-        given n k o has ∙ subst (λ w. (link_of n r.name w).tag.stamp ≡ was.stamp) h.0.slot (own_tag was i x rs us l h.0.for_ moved (sym (ap has_stamps is_order) ∙ has))
+        given n k o has
+        ∙ subst (λ w. (link_of n r.name w).tag.stamp ≡ was.stamp) h.0.slot (own_tag was i x rs us l h.0.for_ moved (sym (ap has_stamps is_order) ∙ has))
 
     stamp_of : (k : ℕ) (o : Order) → At Has k o → stamp_in n r.name k o ≡ stamp_back (place k) (stamp_in m r.name k o)
     stamp_of k o (at i x y rs us l h is_order) = stamp_by k o i x y rs us l h is_order (place k) refl
 
     own_stamps : stamps_in n r.name 0 os ≡ stamps_back old.places (stamps_in m r.name 0 os)
     own_stamps =
-        stamps_put m n r.name 0 old.places os (places_long 0 d.rows (content_of d.rows e).values old.values old.places d.orders meet ∙ length_orders s.indexes (own_lists m xs) ∙ sym (length_orders s.indexes []))
+        stamps_put m n r.name 0 old.places os (places_long 0 d.rows (content_of d.rows e).values old.values old.places d.orders meet
+        ∙ length_orders s.indexes (own_lists m xs) ∙ sym (length_orders s.indexes []))
         (λ k l.
         let zeroed : 0 + k ≡ k = omega arith in
         let long : length os ≡ length s.indexes = length_orders s.indexes [] in
         let l' : k < length s.indexes = omega arith in
-        subst (λ w. stamp_in n r.name (0 + k) (get_or os k ById) ≡ stamp_back (get_or old.places w None) (stamp_in m r.name (0 + k) (get_or os k ById))) zeroed (stamp_of (0 + k) (get_or os k ById) (at_plan Has known k l')))
+        subst (λ w. stamp_in n r.name (0 + k) (get_or os k ById) ≡ stamp_back (get_or old.places w None) (stamp_in m r.name (0 + k) (get_or os k ById)))
+        zeroed (stamp_of (0 + k) (get_or os k ById) (at_plan Has known k l')))
 
     own_node_is : node_in n os r ≡ record { at = r; content = old_content old (node_in m os r).content }
     own_node_is = (λ i. record { at = r; content = record { values = record_in (value_here i); stamps = own_stamps i } })
 
     rows_back : picked (live_in n os) (entries ids) ≡ back_to.rows
     rows_back =
-        picked_with (live_in m os) (live_in n os) ids ids e (λ q ne. refl) (live_alike os ids m n e altered) (node_in m os r) (old_content old (node_in m os r).content)
+        picked_with (live_in m os) (live_in n os) ids ids e (λ q ne. refl)
+        (live_alike os ids m n e altered) (node_in m os r) (old_content old (node_in m os r).content)
         (ap (option_and_then (live_in m os)) there) (ap (option_and_then (live_in n os)) there ∙ ap Some own_node_is)
         ∙ ap (λ o. with_content e (old_content old (content_in o)) d.rows) (sym (here s ids m xs next arrivals is e r there old))
 
@@ -217,21 +238,24 @@ module _ (s : Shape) (ids : FinMap nat_cmp IdEntry) (m n : Pooled Stored) (xs ys
 
     -- Lists
 
-    list_still : (p : Option OldPlace) (i : Index) (x : Structure) (rs us : List Ref) → is_sequenced i.kind ≡ true → (k : ℕ) → PlaceMeets k d.rows (content_of d.rows e).values old.values p (order_of i.kind i.parts (own_list m x))
+    list_still : (p : Option OldPlace) (i : Index) (x : Structure) (rs us : List Ref) → is_sequenced i.kind ≡ true
+        → (k : ℕ) → PlaceMeets k d.rows (content_of d.rows e).values old.values p (order_of i.kind i.parts (own_list m x))
         → HasMovedBackTo (option_map to_place p) x m n r rs us → us ≡ rs
     list_still None i x rs us seq k met moved = moved.list
     list_still (Some was) i x rs us seq k met moved =
         absurd (unstamped i (own_list m x) seq (placed k d.rows (content_of d.rows e).values old.values was (order_of i.kind i.parts (own_list m x)) met))
 
     step : (k : ℕ) (i : Index) (x y : Structure) (rs us : List Ref) → is_sequenced i.kind ≡ true → Has (0 + k) i x y rs us → ids_at n us ≡ ids_at m rs
-    step k i x y rs us seq h = ids_kept us ∙ ap (ids_at m) (list_still (place (0 + k)) i x rs us seq (0 + k) (meets (0 + k) i x y rs us h) (has_done (0 + k) i x y rs us h))
+    step k i x y rs us seq h = ids_kept us
+        ∙ ap (ids_at m) (list_still (place (0 + k)) i x rs us seq (0 + k) (meets (0 + k) i x y rs us h) (has_done (0 + k) i x y rs us h))
 
     abbrev stays : ℕ → List ℕ → List ℕ
     stays k l = l
 
     orders_back : orders_of s.indexes (own_lists n ys) ≡ d.orders
     orders_back =
-        orders_still stays s.indexes (own_lists m xs) (own_lists n ys) (λ k l. refl) (seq_known (returned_to places r) ids m n os (orders_of s.indexes (own_lists m xs)) stays known step)
+        orders_still stays s.indexes (own_lists m xs) (own_lists n ys) (λ k l. refl)
+        (seq_known (returned_to places r) ids m n os (orders_of s.indexes (own_lists m xs)) stays known step)
 
     -- the data before the put
     pub unput_seen : plain_of s ids n ys next (arrivals - 1) ≡ back_to
@@ -241,7 +265,8 @@ module _ (s : Shape) (ids : FinMap nat_cmp IdEntry) (m n : Pooled Stored) (xs ys
     live_still [] all = tt
     live_still (w ∷ us) all = (ap (get ids) (id_kept w.name) ∙ all.0, live_still us all.1)
 
-    live_back : (p : Option OldPlace) (x : Structure) (rs us : List Ref) → AreLive ids m rs → HasMovedBackTo (option_map to_place p) x m n r rs us → AreLive ids n us
+    live_back : (p : Option OldPlace) (x : Structure) (rs us : List Ref) → AreLive ids m rs
+        → HasMovedBackTo (option_map to_place p) x m n r rs us → AreLive ids n us
     live_back None x rs us live moved = record {
       rows = live_still us (subst (AllByRecursion (IsLiveRef ids m)) (sym moved.list) live.rows);
       each = λ w. ap (times w) (ids_kept us ∙ ap (ids_at m) moved.list) ∙ live.each w;
@@ -251,16 +276,20 @@ module _ (s : Shape) (ids : FinMap nat_cmp IdEntry) (m n : Pooled Stored) (xs ys
         let whole : AllByRecursion (IsLiveRef ids m) (moved.xs ++ r ∷ moved.ys) = subst (AllByRecursion (IsLiveRef ids m)) moved.parts live.rows in
         let tail : AllByRecursion (IsLiveRef ids m) (r ∷ moved.ys) = all_right (IsLiveRef ids m) moved.xs (r ∷ moved.ys) whole in
         let others : AllByRecursion (IsLiveRef ids m) (it.xs ++ it.ys) =
-        subst (AllByRecursion (IsLiveRef ids m)) it.was (all_append (IsLiveRef ids m) moved.xs moved.ys (all_left (IsLiveRef ids m) moved.xs (r ∷ moved.ys) whole) tail.1) in
+        subst (AllByRecursion (IsLiveRef ids m)) it.was
+        (all_append (IsLiveRef ids m) moved.xs moved.ys (all_left (IsLiveRef ids m) moved.xs (r ∷ moved.ys) whole) tail.1) in
         let now_ : AllByRecursion (IsLiveRef ids m) us = subst (AllByRecursion (IsLiveRef ids m)) (sym it.now)
-        (all_append (IsLiveRef ids m) it.xs (r ∷ it.ys) (all_left (IsLiveRef ids m) it.xs it.ys others) (tail.0, all_right (IsLiveRef ids m) it.xs it.ys others)) in
+        (all_append (IsLiveRef ids m) it.xs (r ∷ it.ys) (all_left (IsLiveRef ids m) it.xs it.ys others)
+        (tail.0, all_right (IsLiveRef ids m) it.xs it.ys others)) in
         record {
           rows = live_still us now_;
           each = λ k. ap (times k) (ids_kept us ∙ ap (ids_at m) it.now) ∙ times_middle (id_at m) k it.xs r it.ys
-              ∙ ap (λ a. cond (id_at m r == k) 1 0 + times k (ids_at m a)) (sym it.was) ∙ sym (times_middle (id_at m) k moved.xs r moved.ys) ∙ ap (λ a. times k (ids_at m a)) (sym moved.parts) ∙ live.each k;
+              ∙ ap (λ a. cond (id_at m r == k) 1 0 + times k (ids_at m a)) (sym it.was)
+              ∙ sym (times_middle (id_at m) k moved.xs r moved.ys) ∙ ap (λ a. times k (ids_at m a)) (sym moved.parts) ∙ live.each k;
         }
 
-    all_live : {k : ℕ} {js : List Index} {as_ bs : List Structure} {rss uss : List (List Ref)} → Every Has k js as_ bs rss uss → AllByRecursion (AreLive ids n) uss
+    all_live : {k : ℕ} {js : List Index} {as_ bs : List Structure} {rss uss : List (List Ref)}
+        → Every Has k js as_ bs rss uss → AllByRecursion (AreLive ids n) uss
     all_live none = tt
     all_live (one {s = k} {i = i} {x = x} {y = y} {rs = rs} {us = us} h rest) = (live_back (place k) x rs us h.0.live (has_done k i x y rs us h), all_live rest)
 

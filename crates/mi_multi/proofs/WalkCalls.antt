@@ -43,7 +43,8 @@ module _ (P : Ref → Type 0) where
   all_on [] vs all = all
   all_on (u ∷ us) vs all = all_on us vs all.1
 
-  all_beyond : (reversed : Bool) (us : List Ref) (r : Ref) (vs : List Ref) → AllByRecursion P (us ++ r ∷ vs) → AllByRecursion P (r ∷ beyond (direction_of reversed) us vs)
+  all_beyond : (reversed : Bool) (us : List Ref) (r : Ref) (vs : List Ref)
+      → AllByRecursion P (us ++ r ∷ vs) → AllByRecursion P (r ∷ beyond (direction_of reversed) us vs)
   all_beyond true us r vs all = ((all_on us (r ∷ vs) all).0, all_back us (r ∷ vs) all)
   all_beyond false us r vs all = all_on us (r ∷ vs) all
 
@@ -52,13 +53,15 @@ module _ (P : Ref → Type 0) where
 ids_reverse : (f : Ref → ℕ) (us : List Ref) → map f (reverse us) ≡ reverse (map f us)
 ids_reverse f [] = refl
 ids_reverse f (u ∷ us) =
-    ap (map f) (reverse-append (u ∷ []) us) ∙ ids_append f (reverse us) (u ∷ []) ∙ ap (λ q. q ++ f u ∷ []) (ids_reverse f us) ∙ sym (reverse-append (f u ∷ []) (map f us))
+    ap (map f) (reverse-append (u ∷ []) us) ∙ ids_append f (reverse us) (u ∷ [])
+    ∙ ap (λ q. q ++ f u ∷ []) (ids_reverse f us) ∙ sym (reverse-append (f u ∷ []) (map f us))
 
 ids_beyond : (f : Ref → ℕ) (reversed : Bool) (us vs : List Ref) → map f (beyond (direction_of reversed) us vs) ≡ cond reversed (reverse (map f us)) (map f vs)
 ids_beyond f true us vs = ids_reverse f us
 ids_beyond f false us vs = refl
 
-module _ (i : Inside) (is : AreMulti i) (w : Seen) (seen : seen_of i ≡ w) (x : ℕ) (y : Structure) (at : slice_get i.nodes.structures.items x ≡ Some y) (e : ℕ) (r : Ref) (there : live_node i.ids.entries e ≡ Some r) where
+module _ (i : Inside) (is : AreMulti i) (w : Seen) (seen : seen_of i ≡ w) (x : ℕ) (y : Structure)
+    (at : slice_get i.nodes.structures.items x ≡ Some y) (e : ℕ) (r : Ref) (there : live_node i.ids.entries e ≡ Some r) where
   abbrev pub m : Pooled Stored
   m = i.nodes.pool
 
@@ -95,7 +98,8 @@ module _ (i : Inside) (is : AreMulti i) (w : Seen) (seen : seen_of i ≡ w) (x :
       ∙ ap (λ q. from_in (turned reversed q) e) parts
 
   -- so are their rows
-  pub rows_are : (reversed : Bool) (limit : ℕ) → map (shown_row m) (take limit (r ∷ beyond (direction_of reversed) a.xs a.ys)) ≡ rows_from w.shape (table_of w.plain) x reversed e limit
+  pub rows_are : (reversed : Bool) (limit : ℕ)
+      → map (shown_row m) (take limit (r ∷ beyond (direction_of reversed) a.xs a.ys)) ≡ rows_from w.shape (table_of w.plain) x reversed e limit
   rows_are reversed limit =
       let us : List Ref = r ∷ beyond (direction_of reversed) a.xs a.ys in
       let live = all_beyond (IsLiveRef i.ids.entries m) reversed a.xs r a.ys (subst (AllByRecursion (IsLiveRef i.ids.entries m)) a.parts n.stood.live.rows) in

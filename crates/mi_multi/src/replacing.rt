@@ -9,7 +9,6 @@ ghost use Rattle.mi_model.specs.Verdict.{replace_refusal, replace_outcome, modif
 ghost use Rattle.mi_container.specs.Asked.{RecordFits, EditsFit};
 ghost use Rattle.mi_container.specs.Data.{table_of};
 ghost use Rattle.mi_container.specs.Inverse.{lost_to};
-ghost use Rattle.mi_container.specs.Run.{Allowed};
 ghost use Rattle.mi_container.specs.Run.Change.{Replace};
 ghost use Rattle.mi_container.specs.Makes.{Makes, MakesModify, MeetsOn, replace_answer, modify_answer, IsNoLoss};
 
@@ -58,7 +57,8 @@ impl MultiIndex {
         ensures there { IfOk result (λ r. has_row (table_of self.now.plain) id ≡ true) }
         ensures edited { IfOk result (λ r. apply_edits edits.now (row_of (table_of self.now.plain) id).1 ≡ Some r) }
         ensures refused { (rollback : Bool) → IfErr result (λ e.
-            MeetsRefusal (modify_outcome self.now.shape id edits.now rollback (table_of self.now.plain)) e (table_of self.now.plain) (table_of self.now.plain)) }
+            MeetsRefusal (modify_outcome self.now.shape id edits.now rollback (table_of self.now.plain))
+            e (table_of self.now.plain) (table_of self.now.plain)) }
         ensures loss { IfErr result IsNoLoss }
     {
         let Some(row) = self.get(id, &mut Steps::new()) else {

@@ -1,8 +1,8 @@
 //! Taking changes of a container back, each by its inverse.
-ghost use Rattle.std.specs.Prelude.{◌≡◌, ◌≤◌, length, map};
+ghost use Rattle.std.specs.Prelude.{◌≡◌, map};
 ghost use Rattle.std.specs.Option.{option_map};
 ghost use Rattle.mi_container.specs.Data.{IsData};
-ghost use Rattle.mi_container.specs.Inverse.{Old, taken_back};
+ghost use Rattle.mi_container.specs.Inverse.{taken_back};
 ghost use Rattle.mi_container.specs.Inverse.Inverse.{Put};
 ghost use Rattle.mi_container.specs.Fits.{Ready};
 ghost use Rattle.mi_container.specs.Backs.{row_seen, place_seen};

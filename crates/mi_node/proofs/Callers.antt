@@ -1,5 +1,6 @@
 -- What a call on a pool gives of the parts of each entry, for a caller's proofs.
---     ref-.., value-.., link-.., slots-..      the reference, the value and the links of each name, and the number of slots, after `set_link`, `swap_value`, `take` and `give`
+--     ref-.., value-.., link-.., slots-..      the reference, the value and the links of
+--     each name, and the number of slots, after `set_link`, `swap_value`, `take` and `give`
 --     refs, values, links, slot_counts      these as sets for `grind (arith, refs)`
 --     link_here, link_there, link_beside      a link after `set_link` at its own name and slot, at another name, and in another slot
 --     name_of_ref, held_of_ref, same_node      the reference of a name has that name, is held, and is the only one held of it
@@ -7,11 +8,13 @@
 --     held-.., held          a held node stays held after a call, as a set for `grind (arith, held)`
 --     apart_of_free   a place that no node has is not the place of a held one
 --     fewer           a pool without one of its nodes has fewer
-use Rattle.std.proofs.Common.{◌≡◌, ℕ, zero, suc, ◌-◌, ◌<◌, ◌==◌, Bool, true, false, cond, List, [], ◌∷◌, option_map, slice_index_or, replicate, Option, Some, None, refl, sym, ap, subst, ◌∙◌, arith, is_some}
+use Rattle.std.proofs.Common.{◌≡◌, ℕ, zero, suc, ◌-◌, ◌<◌, ◌==◌, Bool, true, false, cond, List, [], ◌∷◌, option_map}
+use Rattle.std.proofs.Common.{slice_index_or, replicate, Option, Some, None, refl, sym, ap, subst, ◌∙◌, arith, is_some}
 use Rattle.std.specs.Ordering.{nat_cmp}
 use Rattle.std.specs.Cmp.{nat_cmp_total, unsigned_tied}
 use Rattle.std.specs.FinMap.{FinMap, get, len, contains_key, get-insert, get-remove, get-empty, len-empty, len-remove, empty_of_len}
-use Rattle.mi_node.specs.Pool.{Entry, Pooled, node_at, ref_of, value_of, link_of, node_count, entry_link, no_link, put_link, IsHeld, change, changed, no_nodes, taken, without, with_link, with_value}
+use Rattle.mi_node.specs.Pool.{Entry, Pooled, node_at, ref_of, value_of, link_of, node_count, entry_link, no_link}
+use Rattle.mi_node.specs.Pool.{put_link, IsHeld, change, changed, no_nodes, taken, without, with_link, with_value}
 use Rattle.mi_node.specs.Refs.{Ref}
 use Rattle.mi_node.specs.declared.link.Link.{Link}
 
@@ -85,18 +88,21 @@ module _ {T : Type 0} where
   same_node m r q g h e = some_inj r q (sym g ∙ ap (ref_of m) e ∙ h)
 
   -- the entry of each name, after a change of one
-  found : (m : FinMap nat_cmp (Entry T)) (k q : ℕ) (h : Entry T → Entry T) (o : Option (Entry T)) → get m k ≡ o → get (changed m k h o) q ≡ cond (k == q) (option_map h (get m q)) (get m q)
+  found : (m : FinMap nat_cmp (Entry T)) (k q : ℕ) (h : Entry T → Entry T) (o : Option (Entry T))
+      → get m k ≡ o → get (changed m k h o) q ≡ cond (k == q) (option_map h (get m q)) (get m q)
   found m k q h None e = (elim (k == q) as (λ y. (k == q) ≡ y → get m q ≡ cond y (option_map h (get m q)) (get m q)) [
     | true ↦ λ t. let here = ap (get m) (sym (same_name k q t)) ∙ e in here ∙ ap (option_map h) (sym here)
     | false ↦ λ t. refl
   ]) refl
-  found m k q h (Some x) e = get-insert nat_cmp_total m k (h x) q ∙ ap (λ y. cond y (Some (h x)) (get m q)) (unsigned_tied q k ∙ flip q k) ∙ (elim (k == q) as (λ y. (k == q) ≡ y
+  found m k q h (Some x) e = get-insert nat_cmp_total m k (h x) q
+      ∙ ap (λ y. cond y (Some (h x)) (get m q)) (unsigned_tied q k ∙ flip q k) ∙ (elim (k == q) as (λ y. (k == q) ≡ y
       → cond y (Some (h x)) (get m q) ≡ cond y (option_map h (get m q)) (get m q)) [
         | true ↦ λ t. ap (option_map h) (sym e ∙ ap (get m) (same_name k q t))
         | false ↦ λ t. refl
       ]) refl
 
-  get-change : (m : Pooled T) (k q : ℕ) (h : Entry T → Entry T) → get (change m k h).entries q ≡ cond (k == q) (option_map h (get m.entries q)) (get m.entries q)
+  get-change : (m : Pooled T) (k q : ℕ) (h : Entry T → Entry T)
+      → get (change m k h).entries q ≡ cond (k == q) (option_map h (get m.entries q)) (get m.entries q)
   unfolding change
   get-change m k q h = found m.entries k q h (get m.entries k) refl
 
@@ -104,7 +110,8 @@ module _ {T : Type 0} where
   unfolding change
   slots-change m k h = refl
 
-  kept : {X : Type 0} (f : Entry T → X) (h : Entry T → Entry T) → ((e : Entry T) → f (h e) ≡ f e) → (b : Bool) (o : Option (Entry T)) → option_map f (cond b (option_map h o) o) ≡ option_map f o
+  kept : {X : Type 0} (f : Entry T → X) (h : Entry T → Entry T) → ((e : Entry T) → f (h e) ≡ f e)
+      → (b : Bool) (o : Option (Entry T)) → option_map f (cond b (option_map h o) o) ≡ option_map f o
   kept f h same true None = refl
   kept f h same true (Some e) = ap Some (same e)
   kept f h same false o = refl
@@ -139,21 +146,27 @@ module _ {T : Type 0} where
     unfolding link_of with_link
     link_beside q t e = ap (λ o. entry_link o t) (get-change m k q puts) ∙ beside_at t e (k == q) (get m.entries q)
 
-    links_at : (t : ℕ) (b : Bool) (o : Option (Entry T)) (f : Entry T → Ref) (r : Ref) → option_map f o ≡ Some r → entry_link (cond b (option_map puts o) o) t ≡ cond b (cond (s == t) l (entry_link o t)) (entry_link o t)
+    links_at : (t : ℕ) (b : Bool) (o : Option (Entry T)) (f : Entry T → Ref) (r : Ref) → option_map f o ≡ Some r
+        → entry_link (cond b (option_map puts o) o) t ≡ cond b (cond (s == t) l (entry_link o t)) (entry_link o t)
     links_at t b None f r e = absurd (none_some r e)
     links_at t true (Some x) f r e = index-put x.links s t l
     links_at t false (Some x) f r e = refl
 
-  pub link-with_link : (m : Pooled T) (r : Ref) (s : ℕ) (l : Link) → IsHeld m r → (q t : ℕ) → link_of (with_link m r.name s l) q t ≡ cond (r.name == q) (cond (s == t) l (link_of m q t)) (link_of m q t)
+  pub link-with_link : (m : Pooled T) (r : Ref) (s : ℕ) (l : Link) → IsHeld m r → (q t : ℕ)
+      → link_of (with_link m r.name s l) q t ≡ cond (r.name == q) (cond (s == t) l (link_of m q t)) (link_of m q t)
   unfolding link_of with_link ref_of
   link-with_link m r s l held q t = ap (λ o. entry_link o t) (get-change m r.name q (puts m r.name s l))
-      ∙ (elim (r.name == q) as (λ b. (r.name == q) ≡ b → entry_link (cond b (option_map (puts m r.name s l) (get m.entries q)) (get m.entries q)) t ≡ cond b (cond (s == t) l (entry_link (get m.entries q) t)) (entry_link (get m.entries q) t)) [
-        | true ↦ λ e. links_at m r.name s l t true (get m.entries q) (node_at r.name) r (ap (λ z. option_map (node_at r.name) (get m.entries z)) (sym (same_name r.name q e)) ∙ held)
+      ∙ (elim (r.name == q) as (λ b. (r.name == q) ≡ b
+      → entry_link (cond b (option_map (puts m r.name s l) (get m.entries q)) (get m.entries q)) t
+      ≡ cond b (cond (s == t) l (entry_link (get m.entries q) t)) (entry_link (get m.entries q) t)) [
+        | true ↦ λ e. links_at m r.name s l t true (get m.entries q) (node_at r.name) r
+            (ap (λ z. option_map (node_at r.name) (get m.entries z)) (sym (same_name r.name q e)) ∙ held)
         | false ↦ λ e. refl
       ]) refl
 
   pub link_here : (m : Pooled T) (r : Ref) (s : ℕ) (l : Link) → IsHeld m r → link_of (with_link m r.name s l) r.name s ≡ l
-  link_here m r s l held = link-with_link m r s l held r.name s ∙ ap (λ b. cond b (cond (s == s) l (link_of m r.name s)) (link_of m r.name s)) (same_refl r.name) ∙ ap (λ b. cond b l (link_of m r.name s)) (same_refl s)
+  link_here m r s l held = link-with_link m r s l held r.name s
+      ∙ ap (λ b. cond b (cond (s == s) l (link_of m r.name s)) (link_of m r.name s)) (same_refl r.name) ∙ ap (λ b. cond b l (link_of m r.name s)) (same_refl s)
 
   -- after `swap_value`
   module _ (m : Pooled T) (k : ℕ) (v : T) where
@@ -168,7 +181,9 @@ module _ {T : Type 0} where
     unfolding ref_of with_value
     ref-with_value q = ap (option_map (node_at q)) (get-change m k q swaps) ∙ kept (node_at q) swaps (λ e. refl) (k == q) (get m.entries q)
 
-    swapped : (b : Bool) (o : Option (Entry T)) → option_map (λ (e : Entry T). e.value) (cond b (option_map swaps o) o) ≡ cond b (option_map (λ (_ : T). v) (option_map (λ (e : Entry T). e.value) o)) (option_map (λ (e : Entry T). e.value) o)
+    swapped : (b : Bool) (o : Option (Entry T))
+        → option_map (λ (e : Entry T). e.value) (cond b (option_map swaps o) o)
+        ≡ cond b (option_map (λ (_ : T). v) (option_map (λ (e : Entry T). e.value) o)) (option_map (λ (e : Entry T). e.value) o)
     swapped true None = refl
     swapped true (Some e) = refl
     swapped false o = refl
@@ -186,13 +201,15 @@ module _ {T : Type 0} where
     unfolding link_of with_value
     link-with_value q t = ap (λ o. entry_link o t) (get-change m k q swaps) ∙ same_links t (k == q) (get m.entries q)
 
-  held_value : (v : T) (o : Option (Entry T)) (r : Ref) → option_map (node_at r.name) o ≡ Some r → option_map (λ (_ : T). v) (option_map (λ (e : Entry T). e.value) o) ≡ Some v
+  held_value : (v : T) (o : Option (Entry T)) (r : Ref) → option_map (node_at r.name) o ≡ Some r
+      → option_map (λ (_ : T). v) (option_map (λ (e : Entry T). e.value) o) ≡ Some v
   held_value v None r e = absurd (none_some r e)
   held_value v (Some x) r e = refl
 
   pub value_here : (m : Pooled T) (r : Ref) (v : T) → IsHeld m r → value_of (with_value m r.name v) r.name ≡ Some v
   unfolding ref_of value_of
-  value_here m r v held = value-with_value m r.name v r.name ∙ ap (λ b. cond b (option_map (λ (_ : T). v) (value_of m r.name)) (value_of m r.name)) (same_refl r.name) ∙ held_value v (get m.entries r.name) r held
+  value_here m r v held = value-with_value m r.name v r.name
+      ∙ ap (λ b. cond b (option_map (λ (_ : T). v) (value_of m r.name)) (value_of m r.name)) (same_refl r.name) ∙ held_value v (get m.entries r.name) r held
 
   pub value_there : (m : Pooled T) (k : ℕ) (v : T) (q : ℕ) → (k == q) ≡ false → value_of (with_value m k v) q ≡ value_of m q
   value_there m k v q e = value-with_value m k v q ∙ ap (λ b. cond b (option_map (λ (_ : T). v) (value_of m q)) (value_of m q)) e
@@ -223,7 +240,8 @@ module _ {T : Type 0} where
   unfolding ref_of value_of
   held_has m r held = some_value (get m.entries r.name) r held
 
-  of_cond : {X : Type 0} (f : Entry T → X) (b : Bool) (x : Entry T) (o : Option (Entry T)) → option_map f (cond b (Some x) o) ≡ cond b (Some (f x)) (option_map f o)
+  of_cond : {X : Type 0} (f : Entry T → X) (b : Bool) (x : Entry T) (o : Option (Entry T))
+      → option_map f (cond b (Some x) o) ≡ cond b (Some (f x)) (option_map f o)
   of_cond f true x o = refl
   of_cond f false x o = refl
 
@@ -238,7 +256,8 @@ module _ {T : Type 0} where
 
     get-taken : (q : ℕ) → get (taken m r v).entries q ≡ cond (r.name == q) (Some new_entry) (get m.entries q)
     unfolding taken
-    get-taken q = get-insert nat_cmp_total m.entries r.name new_entry q ∙ ap (λ b. cond b (Some new_entry) (get m.entries q)) (unsigned_tied q r.name ∙ flip q r.name)
+    get-taken q = get-insert nat_cmp_total m.entries r.name new_entry q
+        ∙ ap (λ b. cond b (Some new_entry) (get m.entries q)) (unsigned_tied q r.name ∙ flip q r.name)
 
     pub slots-taken : (taken m r v).slots ≡ m.slots
     unfolding taken
@@ -247,7 +266,8 @@ module _ {T : Type 0} where
     pub ref-taken : (q : ℕ) → ref_of (taken m r v) q ≡ cond (r.name == q) (Some r) (ref_of m q)
     unfolding ref_of
     ref-taken q = ap (option_map (node_at q)) (get-taken q) ∙ of_cond (node_at q) (r.name == q) new_entry (get m.entries q)
-        ∙ (elim (r.name == q) as (λ b. (r.name == q) ≡ b → cond b (Some (node_at q new_entry)) (option_map (node_at q) (get m.entries q)) ≡ cond b (Some r) (option_map (node_at q) (get m.entries q))) [
+        ∙ (elim (r.name == q) as (λ b. (r.name == q) ≡ b
+        → cond b (Some (node_at q new_entry)) (option_map (node_at q) (get m.entries q)) ≡ cond b (Some r) (option_map (node_at q) (get m.entries q))) [
           | true ↦ λ e. ap (λ n. Some (node_at n new_entry)) (sym (same_name r.name q e))
           | false ↦ λ e. refl
         ]) refl
@@ -347,5 +367,8 @@ less n false e h = absurd cc
 pub fewer : {T : Type 0} (m : Pooled T) (r : Ref) → IsHeld m r → node_count (without m r.name) < node_count m
 unfolding ref_of node_count without
 fewer {T} m r h =
-    subst (λ n. n < len m.entries) (sym (len-remove nat_cmp_total m.entries r.name)) (less (len m.entries) (contains_key m.entries r.name) (not_none (get m.entries r.name) _ refl r (node_at r.name) h)
-    (λ z. none_some r (sym (ap (option_map (node_at {T = T} r.name)) (ap (λ (n : FinMap nat_cmp (Entry T)). get n r.name) (empty_of_len m.entries z) ∙ get-empty nat_cmp r.name)) ∙ h)))
+    subst (λ n. n < len m.entries) (sym (len-remove nat_cmp_total m.entries r.name))
+    (less (len m.entries) (contains_key m.entries r.name) (not_none (get m.entries r.name) _ refl r (node_at r.name) h)
+    (λ z. none_some r (sym (ap (option_map (node_at {T = T} r.name))
+    (ap (λ (n : FinMap nat_cmp (Entry T)). get n r.name) (empty_of_len m.entries z) ∙ get-empty nat_cmp r.name))
+    ∙ h)))

@@ -2,7 +2,8 @@
 --     small_of, split_of, in_chunks      where an index lies
 --     full_at, index-flat, set-flat, flat-end      a chunk, an element, another in its place, and a chunk more
 --     length-flat, IsChunked-set, IsChunked-end      how many there are, and that chunks stay full
-use Rattle.std.proofs.Common.{◌≡◌, ℕ, zero, suc, ◌+◌, ◌*◌, ◌/◌, ◌%◌, ◌<◌, ◌≤◌, List, [], ◌∷◌, ◌++◌, length, slice_set, slice_index_or, refl, sym, ap, ◌∙◌, subst, arith}
+use Rattle.std.proofs.Common.{◌≡◌, ℕ, zero, suc, ◌+◌, ◌*◌, ◌/◌, ◌%◌, ◌<◌, ◌≤◌, List, [], ◌∷◌, ◌++◌}
+use Rattle.std.proofs.Common.{length, slice_set, slice_index_or, refl, sym, ap, ◌∙◌, subst, arith}
 use Rattle.std.proofs.Math.ListN.{length-set}
 use Rattle.mi_node.specs.Chunks.{flat, AreFull, IsChunked}
 
@@ -51,21 +52,25 @@ module _ {C E : Type 0} (items : C → List E) where
   index-flat q r i [] c d full less at small is = absurd (omega (arith, less))
   index-flat zero r i (x ∷ cs) c d full less at small is =
       let e = full.0 in let f : i ≡ r = omega (arith, is) in let inside : r < length (items x) = omega (arith, small, e) in
-      ap (λ m. slice_index_or (items x ++ flat items cs) m d) f ∙ in_left (items x) (flat items cs) r d inside ∙ ap (λ (v : C). slice_index_or (items v) r d) (sym at)
+      ap (λ m. slice_index_or (items x ++ flat items cs) m d) f ∙ in_left (items x) (flat items cs) r d inside
+      ∙ ap (λ (v : C). slice_index_or (items v) r d) (sym at)
   index-flat (suc q) r i (x ∷ cs) c d full less at small is =
       let e = full.0 in let f : i ≡ length (items x) + (4096 * q + r) = omega (arith, is, e) in
       in_right (items x) (flat items cs) (4096 * q + r) i d f ∙ index-flat q r (4096 * q + r) cs c d full.1 (omega (arith, less)) at small refl
 
   -- the chunk e is c with another element
-  pub set-flat : (q r i : ℕ) (cs : List C) (c e : C) (w : E) → AreFull items 4096 cs → q < length cs → c ≡ slice_index_or cs q c → items e ≡ slice_set (items c) r w → r < 4096 → i ≡ 4096 * q + r
+  pub set-flat : (q r i : ℕ) (cs : List C) (c e : C) (w : E) → AreFull items 4096 cs → q < length cs
+      → c ≡ slice_index_or cs q c → items e ≡ slice_set (items c) r w → r < 4096 → i ≡ 4096 * q + r
       → flat items (slice_set cs q e) ≡ slice_set (flat items cs) i w
   set-flat q r i [] c e w full less at put small is = absurd (omega (arith, less))
   set-flat zero r i (x ∷ cs) c e w full less at put small is =
       let long = full.0 in let f : r ≡ i = omega (arith, is) in let inside : r < length (items x) = omega (arith, small, long) in
-      ap (λ l. l ++ flat items cs) put ∙ ap (λ (v : C). slice_set (items v) r w ++ flat items cs) at ∙ sym (set_left (items x) (flat items cs) r w inside) ∙ ap (λ m. slice_set (items x ++ flat items cs) m w) f
+      ap (λ l. l ++ flat items cs) put ∙ ap (λ (v : C). slice_set (items v) r w ++ flat items cs) at
+      ∙ sym (set_left (items x) (flat items cs) r w inside) ∙ ap (λ m. slice_set (items x ++ flat items cs) m w) f
   set-flat (suc q) r i (x ∷ cs) c e w full less at put small is =
       let long = full.0 in let f : i ≡ length (items x) + (4096 * q + r) = omega (arith, is, long) in
-      ap (λ l. items x ++ l) (set-flat q r (4096 * q + r) cs c e w full.1 (omega (arith, less)) at put small refl) ∙ sym (set_right (items x) (flat items cs) (4096 * q + r) i w f)
+      ap (λ l. items x ++ l) (set-flat q r (4096 * q + r) cs c e w full.1 (omega (arith, less)) at put small refl)
+      ∙ sym (set_right (items x) (flat items cs) (4096 * q + r) i w f)
 
   AreFull-set : (n q : ℕ) (cs : List C) (c : C) → AreFull items n cs → length (items c) ≡ n → AreFull items n (slice_set cs q c)
   AreFull-set n q [] c full size = tt

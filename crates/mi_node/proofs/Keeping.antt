@@ -7,7 +7,8 @@ use Rattle.mi_node.specs.Pool.{Pooled, ref_of, link_of, no_link, node_count, IsH
 use Rattle.mi_node.specs.Neighbours.{AreHeld}
 use Rattle.mi_node.specs.Refs.{Ref, IsOut, IsApart, AreOut}
 use Rattle.mi_node.specs.declared.link.Link.{Link}
-use Rattle.mi_node.proofs.Callers.{flip, same_name, none_some, fewer, ref-taken, link-taken, ref-without, link-without, ref-with_value, link-with_value, slots-with_link, ref-with_link, value-with_link, link_there, link_beside}
+use Rattle.mi_node.proofs.Callers.{flip, same_name, none_some, fewer, ref-taken, link-taken, ref-without, link-without, ref-with_value}
+use Rattle.mi_node.proofs.Callers.{link-with_value, slots-with_link, ref-with_link, value-with_link, link_there, link_beside}
 
 module _ {T : Type 0} where
   -- a change that changes nothing
@@ -25,7 +26,8 @@ module _ {T : Type 0} where
   }
 
   -- one change after another, of nodes among ws
-  pub keeps_then : (s : ℕ) (m n o : Pooled T) (us vs ws : List Ref) → Keeps m n s us → Keeps n o s vs → ((k : ℕ) → IsOut k ws → IsOut k us × IsOut k vs) → Keeps m o s ws
+  pub keeps_then : (s : ℕ) (m n o : Pooled T) (us vs ws : List Ref) → Keeps m n s us
+      → Keeps n o s vs → ((k : ℕ) → IsOut k ws → IsOut k us × IsOut k vs) → Keeps m o s ws
   keeps_then s m n o us vs ws g h among = record {
     refs = λ k. h.refs k ∙ g.refs k;
     values = λ k. h.values k ∙ g.values k;
@@ -51,11 +53,12 @@ SameLinks m n s [] = Unit {0}
 SameLinks m n s (r ∷ rs) = (ref_of n r.name ≡ ref_of m r.name) × (link_of n r.name s ≡ link_of m r.name s) × SameLinks m n s rs
 
 module _ {T : Type 0} where
-  pub same_where : (m n : Pooled T) (s : ℕ) (rs : List Ref) → ((k : ℕ) → ref_of n k ≡ ref_of m k) → ((k : ℕ) → link_of n k s ≡ link_of m k s) → SameLinks m n s rs
+  same_where : (m n : Pooled T) (s : ℕ) (rs : List Ref) → ((k : ℕ) → ref_of n k ≡ ref_of m k)
+      → ((k : ℕ) → link_of n k s ≡ link_of m k s) → SameLinks m n s rs
   same_where m n s [] refs links = tt
   same_where m n s (r ∷ rs) refs links = (refs r.name, links r.name, same_where m n s rs refs links)
 
-  pub same_append : (m n : Pooled T) (s : ℕ) (xs ys : List Ref) → SameLinks m n s xs → SameLinks m n s ys → SameLinks m n s (xs ++ ys)
+  same_append : (m n : Pooled T) (s : ℕ) (xs ys : List Ref) → SameLinks m n s xs → SameLinks m n s ys → SameLinks m n s (xs ++ ys)
   same_append m n s [] ys g h = h
   same_append m n s (x ∷ xs) ys g h = (g.0, g.1, same_append m n s xs ys g.2 h)
 
@@ -74,14 +77,20 @@ module _ {T : Type 0} where
   -- after `take`
   pub same_taken : (m : Pooled T) (r : Ref) (v : T) (s : ℕ) (rs : List Ref) → IsOut r.name rs → SameLinks m (taken m r v) s rs
   same_taken m r v s [] o = tt
-  same_taken m r v s (x ∷ rs) o =
-      (ref-taken m r v x.name ∙ ap (λ b. cond b (Some r) (ref_of m x.name)) o.0, link-taken m r v x.name s ∙ ap (λ b. cond b no_link (link_of m x.name s)) o.0, same_taken m r v s rs o.1)
+  same_taken m r v s (x ∷ rs) o = (
+    ref-taken m r v x.name ∙ ap (λ b. cond b (Some r) (ref_of m x.name)) o.0,
+    link-taken m r v x.name s ∙ ap (λ b. cond b no_link (link_of m x.name s)) o.0,
+    same_taken m r v s rs o.1,
+  )
 
   -- after `give`
   pub same_without : (m : Pooled T) (k s : ℕ) (rs : List Ref) → IsOut k rs → SameLinks m (without m k) s rs
   same_without m k s [] o = tt
-  same_without m k s (x ∷ rs) o =
-      (ref-without m k x.name ∙ ap (λ b. cond b None (ref_of m x.name)) o.0, link-without m k x.name s ∙ ap (λ b. cond b no_link (link_of m x.name s)) o.0, same_without m k s rs o.1)
+  same_without m k s (x ∷ rs) o = (
+    ref-without m k x.name ∙ ap (λ b. cond b None (ref_of m x.name)) o.0,
+    link-without m k x.name s ∙ ap (λ b. cond b no_link (link_of m x.name s)) o.0,
+    same_without m k s rs o.1,
+  )
 
   -- a name of no node is out of any list of held nodes
   pub absent_out : (m : Pooled T) (k : ℕ) (rs : List Ref) → ref_of m k ≡ None → AreHeld m rs → IsOut k rs

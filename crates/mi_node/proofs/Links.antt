@@ -4,7 +4,8 @@
 --     links-more                   a longer column changes no link
 --     cleared-..                   columns that are cleared one by one
 --     long-..                      that columns stay long
-use Rattle.std.proofs.Common.{◌≡◌, ℕ, zero, suc, ◌+◌, ◌<◌, ◌≤◌, ◌==◌, Bool, true, false, cond, List, [], ◌∷◌, ◌++◌, length, replicate, slice_set, slice_index_or, refl, sym, ap, ◌∙◌, subst, arith}
+use Rattle.std.proofs.Common.{◌≡◌, ℕ, zero, suc, ◌+◌, ◌<◌, ◌≤◌, ◌==◌, Bool, true, false, cond, List, [], ◌∷◌, ◌++◌}
+use Rattle.std.proofs.Common.{length, replicate, slice_set, slice_index_or, refl, sym, ap, ◌∙◌, subst, arith}
 use Rattle.std.proofs.Math.ListN.{length-set}
 use Rattle.mi_node.specs.Cells.{link_in, empty_cell}
 use Rattle.mi_node.specs.Columns.{cell_at, column, links_at, AreLong, cleared}
@@ -17,7 +18,7 @@ index-any [] s d e less = absurd (omega (arith, less))
 index-any (x ∷ xs) zero d e less = refl
 index-any (x ∷ xs) (suc s) d e less = index-any xs s d e (omega (arith, less))
 
-pub index-set : {X : Type 0} (xs : List X) (s t : ℕ) (x d : X) → s < length xs → slice_index_or (slice_set xs s x) t d ≡ cond (t == s) x (slice_index_or xs t d)
+index-set : {X : Type 0} (xs : List X) (s t : ℕ) (x d : X) → s < length xs → slice_index_or (slice_set xs s x) t d ≡ cond (t == s) x (slice_index_or xs t d)
 index-set [] s t x d less = absurd (omega (arith, less))
 index-set (y ∷ xs) zero zero x d less = refl
 index-set (y ∷ xs) zero (suc t) x d less = grind arith
@@ -31,12 +32,12 @@ index-end [] (suc n) (suc k) d = index-end [] n k d
 index-end (x ∷ xs) n zero d = refl
 index-end (x ∷ xs) n (suc k) d = index-end xs n k d
 
-pub index-links : (cs : List (List Cell)) (k s : ℕ) → s < length cs → slice_index_or (links_at cs k) s no_link ≡ link_in (cell_at k (column cs s))
+index-links : (cs : List (List Cell)) (k s : ℕ) → s < length cs → slice_index_or (links_at cs k) s no_link ≡ link_in (cell_at k (column cs s))
 index-links [] k s less = absurd (omega (arith, less))
 index-links (c ∷ cs) k zero less = refl
 index-links (c ∷ cs) k (suc s) less = index-links cs k s (omega (arith, less))
 
-pub links-length : (cs : List (List Cell)) (k : ℕ) → length (links_at cs k) ≡ length cs
+links-length : (cs : List (List Cell)) (k : ℕ) → length (links_at cs k) ≡ length cs
 links-length [] k = refl
 links-length (c ∷ cs) k = ap suc (links-length cs k)
 
@@ -52,7 +53,8 @@ at_there (y ∷ c) zero (suc q) x e = refl
 at_there (y ∷ c) (suc k) zero x e = refl
 at_there (y ∷ c) (suc k) (suc q) x e = at_there c k q x (grind (arith, e))
 
-pub links-here : (cs : List (List Cell)) (s k : ℕ) (x : Cell) → s < length cs → k < length (column cs s) → links_at (slice_set cs s (slice_set (column cs s) k x)) k ≡ put_link (links_at cs k) s (link_in x)
+pub links-here : (cs : List (List Cell)) (s k : ℕ) (x : Cell) → s < length cs → k < length (column cs s)
+    → links_at (slice_set cs s (slice_set (column cs s) k x)) k ≡ put_link (links_at cs k) s (link_in x)
 links-here [] s k x less inside = absurd (omega (arith, less))
 links-here (c ∷ cs) zero k x less inside = ap (λ y. link_in y ∷ links_at cs k) (at_here c k x inside)
 links-here (c ∷ cs) (suc s) k x less inside = ap (λ ls. link_in (cell_at k c) ∷ ls) (links-here cs s k x (omega (arith, less)) inside)
@@ -62,13 +64,14 @@ links-there [] s k q x e = refl
 links-there (c ∷ cs) zero k q x e = ap (λ y. link_in y ∷ links_at cs q) (at_there c k q x e)
 links-there (c ∷ cs) (suc s) k q x e = ap (λ ls. link_in (cell_at q c) ∷ ls) (links-there cs s k q x e)
 
-pub links-more : (cs : List (List Cell)) (s n k : ℕ) → links_at (slice_set cs s (column cs s ++ replicate n empty_cell)) k ≡ links_at cs k
+links-more : (cs : List (List Cell)) (s n k : ℕ) → links_at (slice_set cs s (column cs s ++ replicate n empty_cell)) k ≡ links_at cs k
 links-more [] s n k = refl
 links-more (c ∷ cs) zero n k = ap (λ y. link_in y ∷ links_at cs k) (index-end c n k empty_cell)
 links-more (c ∷ cs) (suc s) n k = ap (λ ls. link_in (cell_at k c) ∷ ls) (links-more cs s n k)
 
 -- one column more is cleared
-pub cleared-next : (cs : List (List Cell)) (s k : ℕ) → s < length cs → slice_set (cleared s k cs) s (slice_set (column (cleared s k cs) s) k empty_cell) ≡ cleared (suc s) k cs
+cleared-next : (cs : List (List Cell)) (s k : ℕ) → s < length cs
+    → slice_set (cleared s k cs) s (slice_set (column (cleared s k cs) s) k empty_cell) ≡ cleared (suc s) k cs
 cleared-next [] s k less = absurd (omega (arith, less))
 cleared-next (c ∷ cs) zero k less = refl
 cleared-next (c ∷ cs) (suc s) k less = ap (λ ds. slice_set c k empty_cell ∷ ds) (cleared-next cs s k (omega (arith, less)))
@@ -78,7 +81,7 @@ cleared-length cs zero k = refl
 cleared-length [] (suc s) k = refl
 cleared-length (c ∷ cs) (suc s) k = ap suc (cleared-length cs s k)
 
-pub cleared-column : (cs : List (List Cell)) (s k t : ℕ) → length (column (cleared s k cs) t) ≡ length (column cs t)
+cleared-column : (cs : List (List Cell)) (s k t : ℕ) → length (column (cleared s k cs) t) ≡ length (column cs t)
 cleared-column cs zero k t = refl
 cleared-column [] (suc s) k t = refl
 cleared-column (c ∷ cs) (suc s) k zero = length-set c k empty_cell
@@ -106,12 +109,13 @@ longer : (m : ℕ) (b : Bool) (x y : List Cell) → m ≤ length x → m ≤ len
 longer m true x y g h = g
 longer m false x y g h = h
 
-pub long-set : (cs : List (List Cell)) (s m : ℕ) (c : List Cell) → s < length cs → AreLong m cs → m ≤ length c → AreLong m (slice_set cs s c)
+long-set : (cs : List (List Cell)) (s m : ℕ) (c : List Cell) → s < length cs → AreLong m cs → m ≤ length c → AreLong m (slice_set cs s c)
 long-set cs s m c there long size t less =
-    subst (λ (d : List Cell). m ≤ length d) (sym (index-set cs s t c [] there)) (longer m (t == s) c (column cs t) size (long t (subst (λ n. t < n) (length-set cs s c) less)))
+    subst (λ (d : List Cell). m ≤ length d) (sym (index-set cs s t c [] there))
+    (longer m (t == s) c (column cs t) size (long t (subst (λ n. t < n) (length-set cs s c) less)))
 
 -- a column as an index finds it
-pub found_column : (cs : List (List Cell)) (s : ℕ) (x : List Cell) → s < length cs → x ≡ slice_index_or cs s x → x ≡ column cs s
+found_column : (cs : List (List Cell)) (s : ℕ) (x : List Cell) → s < length cs → x ≡ slice_index_or cs s x → x ≡ column cs s
 found_column cs s x less is = is ∙ index-any cs s x [] less
 
 pub read_cell : (cs : List (List Cell)) (s k : ℕ) (x : List Cell) (y : Cell) → s < length cs → x ≡ slice_index_or cs s x → y ≡ cell_at k x
@@ -119,7 +123,8 @@ pub read_cell : (cs : List (List Cell)) (s k : ℕ) (x : List Cell) (y : Cell) �
 read_cell cs s k x y less is at = ap link_in (at ∙ ap (cell_at k) (found_column cs s x less is)) ∙ sym (index-links cs k s less)
 
 -- a column with another cell, as it is put back
-pub put_column : (cs : List (List Cell)) (s k : ℕ) (x w : List Cell) (y : Cell) → s < length cs → x ≡ slice_index_or cs s x → w ≡ slice_set x k y → slice_set cs s w ≡ slice_set cs s (slice_set (column cs s) k y)
+pub put_column : (cs : List (List Cell)) (s k : ℕ) (x w : List Cell) (y : Cell) → s < length cs
+    → x ≡ slice_index_or cs s x → w ≡ slice_set x k y → slice_set cs s w ≡ slice_set cs s (slice_set (column cs s) k y)
 put_column cs s k x w y less is at = ap (slice_set cs s) (at ∙ ap (λ (c : List Cell). slice_set c k y) (found_column cs s x less is))
 
 -- a column of which more is known than its length
@@ -127,16 +132,19 @@ pub long_put : (cs : List (List Cell)) (s k m : ℕ) (y : Cell) → s < length c
 long_put cs s k m y less long = long-set cs s m (slice_set (column cs s) k y) less long (subst (λ n. m ≤ n) (sym (length-set (column cs s) k y)) (long s less))
 
 -- while columns are cleared
-pub cleared_room : (cs : List (List Cell)) (s k : ℕ) (x : List Cell) → s < length cs → AreLong (k + 1) cs → x ≡ slice_index_or (cleared s k cs) s x → k < length x
+pub cleared_room : (cs : List (List Cell)) (s k : ℕ) (x : List Cell) → s < length cs
+    → AreLong (k + 1) cs → x ≡ slice_index_or (cleared s k cs) s x → k < length x
 cleared_room cs s k x less long is =
     let there : s < length (cleared s k cs) = subst (λ n. s < n) (sym (cleared-length cs s k)) less in
     let size : length x ≡ length (column cs s) = ap (λ (c : List Cell). length c) (found_column (cleared s k cs) s x there is) ∙ cleared-column cs s k s in
     let more = long s less in omega (arith, size, more)
 
-pub cleared_put : (cs ds : List (List Cell)) (s k : ℕ) (x w : List Cell) → ds ≡ cleared s k cs → s < length cs → x ≡ slice_index_or ds s x → w ≡ slice_set x k empty_cell → slice_set ds s w ≡ cleared (s + 1) k cs
+pub cleared_put : (cs ds : List (List Cell)) (s k : ℕ) (x w : List Cell) → ds ≡ cleared s k cs → s < length cs
+    → x ≡ slice_index_or ds s x → w ≡ slice_set x k empty_cell → slice_set ds s w ≡ cleared (s + 1) k cs
 cleared_put cs ds s k x w so less is at =
     let there : s < length (cleared s k cs) = subst (λ n. s < n) (sym (cleared-length cs s k)) less in let next : suc s ≡ s + 1 = omega arith in
-    ap (λ es. slice_set es s w) so ∙ put_column (cleared s k cs) s k x w empty_cell there (is ∙ ap (λ es. slice_index_or es s x) so) at ∙ cleared-next cs s k less ∙ ap (λ n. cleared n k cs) next
+    ap (λ es. slice_set es s w) so ∙ put_column (cleared s k cs) s k x w empty_cell there (is ∙ ap (λ es. slice_index_or es s x) so) at
+    ∙ cleared-next cs s k less ∙ ap (λ n. cleared n k cs) next
 
 -- all columns are cleared
 pub all_cleared : (cs ds : List (List Cell)) (s e k : ℕ) → ds ≡ cleared s k cs → e ≡ length cs → s ≤ e → e ≤ s → ds ≡ cleared (length cs) k cs
@@ -156,7 +164,8 @@ pub record Lengthened (places n : ℕ) (cs ds : List (List Cell)) : Type 0 where
   pub count : length ds ≡ length cs
   pub long : (m : ℕ) → AreLong m cs → AreLong m ds
 
-at_column : (P : ℕ → Type 0) (ds : List (List Cell)) (s t : ℕ) (w : List Cell) → s < length ds → ((t == s) ≡ true → P (length w)) → ((t == s) ≡ false → P (length (column ds t))) → P (length (column (slice_set ds s w) t))
+at_column : (P : ℕ → Type 0) (ds : List (List Cell)) (s t : ℕ) (w : List Cell) → s < length ds → ((t == s) ≡ true → P (length w))
+    → ((t == s) ≡ false → P (length (column ds t))) → P (length (column (slice_set ds s w) t))
 at_column P ds s t w less g h =
     subst (λ (d : List Cell). P (length d)) (sym (index-set ds s t w [] less))
     ((elim (t == s) as (λ b. (t == s) ≡ b → P (length (cond b w (column ds t)))) [ true ↦ g | false ↦ h ]) refl)
@@ -165,7 +174,8 @@ pub lengthened_start : (places : ℕ) (cs : List (List Cell)) → ((s : ℕ) →
 lengthened_start places cs near = record { done = λ s less. absurd (omega (arith, less)); near = near; links = λ k. refl; count = refl; long = λ m long. long }
 
 -- a column is put back that is as long or longer, and has the same cells
-pub put_longer : (places n : ℕ) (cs ds : List (List Cell)) (x w : List Cell) → Lengthened places n cs ds → n < length ds → x ≡ slice_index_or ds n x → ((k : ℕ) → cell_at k w ≡ cell_at k x) → length x ≤ length w
+pub put_longer : (places n : ℕ) (cs ds : List (List Cell)) (x w : List Cell) → Lengthened places n cs ds
+    → n < length ds → x ≡ slice_index_or ds n x → ((k : ℕ) → cell_at k w ≡ cell_at k x) → length x ≤ length w
     → Lengthened places n cs (slice_set ds n w)
 put_longer places n cs ds x w all less is cells longer =
     let found : x ≡ column ds n = found_column ds n x less is in
@@ -180,7 +190,8 @@ put_longer places n cs ds x w all less is cells longer =
           (λ e. let h = all.long m long n less in omega (arith, h, size, longer)) (λ e. all.long m long s (subst (λ j. s < j) (length-set ds n w) there));
     }
 
-pub lengthened_next : (places n : ℕ) (cs ds : List (List Cell)) (w : List Cell) → Lengthened places n cs (slice_set ds n w) → n < length ds → places ≤ length w → Lengthened places (n + 1) cs (slice_set ds n w)
+pub lengthened_next : (places n : ℕ) (cs ds : List (List Cell)) (w : List Cell) → Lengthened places n cs (slice_set ds n w)
+    → n < length ds → places ≤ length w → Lengthened places (n + 1) cs (slice_set ds n w)
 lengthened_next places n cs ds w all less size = record {
   done = λ s early. at_column (λ m. places ≤ m) ds n s w less (λ e. size) (λ e. still s early e);
   near = all.near;

@@ -3,7 +3,8 @@
 --     value-seen, link-seen        what is read of a node
 --     seen-..                      the map after a change
 --     sound-..                     that places stay sound
-use Rattle.std.proofs.Common.{◌≡◌, ℕ, zero, suc, ◌+◌, ◌<◌, ◌≤◌, ◌==◌, true, false, cond, List, [], ◌∷◌, ◌++◌, length, option_map, replicate, slice_set, slice_index_or, Option, Some, None, refl, sym, ap, ◌∙◌, subst, arith}
+use Rattle.std.proofs.Common.{◌≡◌, ℕ, zero, suc, ◌+◌, ◌<◌, ◌≤◌, ◌==◌, true, false, cond, List, [], ◌∷◌, ◌++◌, length, option_map}
+use Rattle.std.proofs.Common.{replicate, slice_set, slice_index_or, Option, Some, None, refl, sym, ap, ◌∙◌, subst, arith}
 use Rattle.std.specs.Prelude.{IsTrue, is_some}
 use Rattle.std.specs.Ordering.{nat_cmp}
 use Rattle.std.specs.Cmp.{nat_cmp_total, unsigned_tied}
@@ -12,7 +13,8 @@ use Rattle.std.proofs.Math.ListN.{length-set}
 use Rattle.mi_node.specs.Refs.{Ref}
 use Rattle.mi_node.specs.Columns.{links_at, AreLong}
 use Rattle.mi_node.specs.Homes.{node_in, value_in, IsFree, AreFree, home_at, IsFreeIf, IsFreeAt}
-use Rattle.mi_node.specs.Pool.{Entry, no_link, no_nodes, node_at, ref_of, value_of, link_of, entry_link, put_link, IsHeld, change, changed, taken, without, with_link, with_value}
+use Rattle.mi_node.specs.Pool.{Entry, no_link, no_nodes, node_at, ref_of, value_of, link_of, entry_link}
+use Rattle.mi_node.specs.Pool.{put_link, IsHeld, change, changed, taken, without, with_link, with_value}
 use Rattle.mi_node.specs.Seen.{put_home, map_from, seen, IsNamed, IsSound}
 use Rattle.mi_node.specs.declared.link.Link.{Link}
 use Rattle.mi_node.specs.declared.cell.Cell.{Cell}
@@ -83,7 +85,8 @@ module _ {T : Type 0} where
 
   put_same : (cs : List (List Cell)) (k : ℕ) (h : Home T) (m : FinMap nat_cmp (Entry T)) → get m k ≡ None → get (put_home cs k h m) k ≡ entry_at cs k h
   put_same cs k (Free r n) m e = e
-  put_same cs k (Held r v) m e = get-insert nat_cmp_total m k (made cs k r v) k ∙ ap (λ b. cond b (Some (made cs k r v)) (get m k)) (unsigned_tied k k ∙ itself k)
+  put_same cs k (Held r v) m e = get-insert nat_cmp_total m k (made cs k r v) k
+      ∙ ap (λ b. cond b (Some (made cs k r v)) (get m k)) (unsigned_tied k k ∙ itself k)
 
   put_other : (cs : List (List Cell)) (k q : ℕ) (h : Home T) (m : FinMap nat_cmp (Entry T)) → (q == k) ≡ false → get (put_home cs k h m) q ≡ get m q
   put_other cs k q (Free r n) m e = refl
@@ -100,7 +103,8 @@ module _ {T : Type 0} where
       subst (λ q. get (map_from cs k (h ∷ hs)) q ≡ entry_at cs q h) here (put_same cs k h (map_from cs (suc k) hs) (below cs k (suc k) hs (omega arith)))
   get-from cs k (suc j) (h ∷ hs) =
       let on : suc k + j ≡ k + suc j = omega arith in let apart : (k + suc j == k) ≡ false = grind arith in
-      put_other cs k (k + suc j) h (map_from cs (suc k) hs) apart ∙ subst (λ q. get (map_from cs (suc k) hs) q ≡ entry_of cs q (home_at hs j)) on (get-from cs (suc k) j hs)
+      put_other cs k (k + suc j) h (map_from cs (suc k) hs) apart
+      ∙ subst (λ q. get (map_from cs (suc k) hs) q ≡ entry_of cs q (home_at hs j)) on (get-from cs (suc k) j hs)
 
   get-map : (cs : List (List Cell)) (hs : List (Home T)) (q : ℕ) → get (map_from cs 0 hs) q ≡ entry_of cs q (home_at hs q)
   get-map cs hs q = subst (λ k. get (map_from cs 0 hs) k ≡ entry_of cs k (home_at hs q)) (from_zero q) (get-from cs 0 q hs)
@@ -124,7 +128,9 @@ module _ {T : Type 0} where
 
   named_at : (k j : ℕ) (hs : List (Home T)) (h : Home T) → IsNamed k hs → home_at hs j ≡ Some h → (node_in h).name ≡ k + j
   named_at k j [] h all is = absurd (none_some h is)
-  named_at k zero (x ∷ hs) h all is = let e : x ≡ h = some_inj x h is in let f = all.0 in let g : (node_in x).name ≡ k + 0 = omega (arith, f) in ap (λ (w : Home T). (node_in w).name) (sym e) ∙ g
+  named_at k zero (x ∷ hs) h all is =
+      let e : x ≡ h = some_inj x h is in let f = all.0 in let g : (node_in x).name ≡ k + 0 = omega (arith, f) in
+      ap (λ (w : Home T). (node_in w).name) (sym e) ∙ g
   named_at k (suc j) (x ∷ hs) h all is = let e = named_at (suc k) j hs h all.1 is in omega (arith, e)
 
   named_set : (k j : ℕ) (hs : List (Home T)) (h : Home T) → IsNamed k hs → (node_in h).name ≡ k + j → IsNamed k (slice_set hs j h)
@@ -137,7 +143,8 @@ module _ {T : Type 0} where
   named_both k [] (f ∷ fs) all free =
       let e = free.0 in let is : (node_in f).name ≡ k = omega (arith, e) in let on : suc (k + 0) ≡ suc k + 0 = omega arith in
       (is, named_both (suc k) [] fs tt (subst (λ q. AreFree q fs) on free.2))
-  named_both k (h ∷ hs) fs all free = let on : k + suc (length hs) ≡ suc k + length hs = omega arith in (all.0, named_both (suc k) hs fs all.1 (subst (λ q. AreFree q fs) on free))
+  named_both k (h ∷ hs) fs all free =
+      let on : k + suc (length hs) ≡ suc k + length hs = omega arith in (all.0, named_both (suc k) hs fs all.1 (subst (λ q. AreFree q fs) on free))
 
   -- the node of a held reference stands at its place
   pub record There (cs : List (List Cell)) (hs : List (Home T)) (r : Ref) : Type 0 where
@@ -145,7 +152,8 @@ module _ {T : Type 0} where
     pub value : T
     pub at : home_at hs r.name ≡ Some (Held r value)
 
-  held_home : (cs : List (List Cell)) (hs : List (Home T)) (r : Ref) (o : Option (Home T)) → home_at hs r.name ≡ o → IsNamed 0 hs → option_map (node_at r.name) (entry_of cs r.name o) ≡ Some r → There cs hs r
+  held_home : (cs : List (List Cell)) (hs : List (Home T)) (r : Ref) (o : Option (Home T)) → home_at hs r.name ≡ o
+      → IsNamed 0 hs → option_map (node_at r.name) (entry_of cs r.name o) ≡ Some r → There cs hs r
   held_home cs hs r None is all e = absurd (none_some r e)
   held_home cs hs r (Some (Free q n)) is all e = absurd (none_some r e)
   held_home cs hs r (Some (Held q v)) is all e =
@@ -158,17 +166,20 @@ module _ {T : Type 0} where
   there n cs hs r sound h = held_home cs hs r (home_at hs r.name) refl sound.named (ap (option_map (node_at r.name)) (sym (get-map cs hs r.name)) ∙ h)
 
   -- as an index finds it
-  pub found : (cs : List (List Cell)) (hs : List (Home T)) (r : Ref) (t : There cs hs r) (k : ℕ) (h : Home T) → k ≡ r.name → h ≡ slice_index_or hs k h → h ≡ Held r t.value
+  pub found : (cs : List (List Cell)) (hs : List (Home T)) (r : Ref) (t : There cs hs r) (k : ℕ) (h : Home T)
+      → k ≡ r.name → h ≡ slice_index_or hs k h → h ≡ Held r t.value
   found cs hs r t k h name is = is ∙ ap (λ q. slice_index_or hs q h) name ∙ some_inj _ _ (sym (at_index hs r.name h t.less) ∙ t.at)
 
-  pub held_some : (cs : List (List Cell)) (hs : List (Home T)) (r : Ref) (t : There cs hs r) (k : ℕ) (h : Home T) → k ≡ r.name → h ≡ slice_index_or hs k h → IsTrue (is_some (value_in h))
+  pub held_some : (cs : List (List Cell)) (hs : List (Home T)) (r : Ref) (t : There cs hs r) (k : ℕ) (h : Home T)
+      → k ≡ r.name → h ≡ slice_index_or hs k h → IsTrue (is_some (value_in h))
   held_some cs hs r t k h name is = subst (λ (w : Home T). IsTrue (is_some (value_in w))) (sym (found cs hs r t k h name is)) refl
 
   pub value-seen : (n : ℕ) (cs : List (List Cell)) (hs : List (Home T)) (r : Ref) (t : There cs hs r) → value_of (seen n cs hs) r.name ≡ Some t.value
   unfolding value_of seen
   value-seen n cs hs r t = ap (option_map (λ (e : Entry T). e.value)) (get-map cs hs r.name ∙ ap (entry_of cs r.name) t.at)
 
-  pub link-seen : (n : ℕ) (cs : List (List Cell)) (hs : List (Home T)) (r : Ref) (s : ℕ) (t : There cs hs r) → link_of (seen n cs hs) r.name s ≡ slice_index_or (links_at cs r.name) s no_link
+  pub link-seen : (n : ℕ) (cs : List (List Cell)) (hs : List (Home T)) (r : Ref) (s : ℕ) (t : There cs hs r)
+      → link_of (seen n cs hs) r.name s ≡ slice_index_or (links_at cs r.name) s no_link
   unfolding link_of seen
   link-seen n cs hs r s t = ap (λ o. entry_link o s) (get-map cs hs r.name ∙ ap (entry_of cs r.name) t.at)
 
@@ -178,12 +189,14 @@ module _ {T : Type 0} where
   same_entry cs ds q (Some (Held r v)) e = λ i. Some (record { mark = r.mark; value = v; links = e i })
 
   -- what becomes of the map where all places but j stay as they are
-  get-one : (cs ds : List (List Cell)) (hs gs : List (Home T)) (j : ℕ) → ((q : ℕ) → (q == j) ≡ false → links_at ds q ≡ links_at cs q) → ((q : ℕ) → (q == j) ≡ false → home_at gs q ≡ home_at hs q)
+  get-one : (cs ds : List (List Cell)) (hs gs : List (Home T)) (j : ℕ)
+      → ((q : ℕ) → (q == j) ≡ false → links_at ds q ≡ links_at cs q) → ((q : ℕ) → (q == j) ≡ false → home_at gs q ≡ home_at hs q)
       → (q : ℕ) → get (map_from ds 0 gs) q ≡ cond (q == j) (entry_of ds j (home_at gs j)) (get (map_from cs 0 hs) q)
-  get-one cs ds hs gs j links homes q = get-map ds gs q ∙ (elim (q == j) as (λ y. (q == j) ≡ y → entry_of ds q (home_at gs q) ≡ cond y (entry_of ds j (home_at gs j)) (get (map_from cs 0 hs) q)) [
-    | true ↦ λ e. ap (λ k. entry_of ds k (home_at gs k)) (same q j e)
-    | false ↦ λ e. ap (entry_of ds q) (homes q e) ∙ same_entry cs ds q (home_at hs q) (links q e) ∙ sym (get-map cs hs q)
-  ]) refl
+  get-one cs ds hs gs j links homes q = get-map ds gs q
+      ∙ (elim (q == j) as (λ y. (q == j) ≡ y → entry_of ds q (home_at gs q) ≡ cond y (entry_of ds j (home_at gs j)) (get (map_from cs 0 hs) q)) [
+        | true ↦ λ e. ap (λ k. entry_of ds k (home_at gs k)) (same q j e)
+        | false ↦ λ e. ap (entry_of ds q) (homes q e) ∙ same_entry cs ds q (home_at hs q) (links q e) ∙ sym (get-map cs hs q)
+      ]) refl
 
   other_home : (hs : List (Home T)) (j : ℕ) (h : Home T) → j < length hs → (q : ℕ) → (q == j) ≡ false → home_at (slice_set hs j h) q ≡ home_at hs q
   other_home hs j h less q e = at_set hs j q h less ∙ ap (λ b. cond b (Some h) (home_at hs q)) e
@@ -191,7 +204,8 @@ module _ {T : Type 0} where
   this_home : (hs : List (Home T)) (j : ℕ) (h : Home T) → j < length hs → home_at (slice_set hs j h) j ≡ Some h
   this_home hs j h less = at_set hs j j h less ∙ ap (λ b. cond b (Some h) (home_at hs j)) (itself j)
 
-  pub seen-vacated : (n : ℕ) (cs : List (List Cell)) (hs : List (Home T)) (r : Ref) (next : ℕ) → r.name < length hs → seen n cs (slice_set hs r.name (Free r next)) ≡ without (seen n cs hs) r.name
+  pub seen-vacated : (n : ℕ) (cs : List (List Cell)) (hs : List (Home T)) (r : Ref) (next : ℕ)
+      → r.name < length hs → seen n cs (slice_set hs r.name (Free r next)) ≡ without (seen n cs hs) r.name
   unfolding seen without
   seen-vacated n cs hs r next less = ap (λ m. record { entries = m; slots = n }) (same_map nat_cmp_total nat_cmp-IsAntisymmetric _ _ (λ q.
       get-one cs cs hs (slice_set hs r.name (Free r next)) r.name (λ k e. refl) (other_home hs r.name (Free r next) less) q
@@ -202,35 +216,44 @@ module _ {T : Type 0} where
   abbrev blank : ℕ → Ref → T → Entry T
   blank n r v = record { mark = r.mark; value = v; links = replicate n no_link }
 
-  pub seen-settled : (n : ℕ) (cs ds : List (List Cell)) (hs : List (Home T)) (r : Ref) (v : T) → r.name < length hs → ((q : ℕ) → (q == r.name) ≡ false → links_at ds q ≡ links_at cs q)
+  pub seen-settled : (n : ℕ) (cs ds : List (List Cell)) (hs : List (Home T)) (r : Ref) (v : T)
+      → r.name < length hs → ((q : ℕ) → (q == r.name) ≡ false → links_at ds q ≡ links_at cs q)
       → links_at ds r.name ≡ replicate n no_link → seen n ds (slice_set hs r.name (Held r v)) ≡ taken (seen n cs hs) r v
   unfolding seen taken
   seen-settled n cs ds hs r v less others here = ap (λ m. record { entries = m; slots = n }) (same_map nat_cmp_total nat_cmp-IsAntisymmetric _ _ (λ q.
       get-one cs ds hs (slice_set hs r.name (Held r v)) r.name others (other_home hs r.name (Held r v) less) q
       ∙ ap (λ o. cond (q == r.name) (entry_of ds r.name o) (get (map_from cs 0 hs) q)) (this_home hs r.name (Held r v) less)
       ∙ ap (λ ls. cond (q == r.name) (Some (record { mark = r.mark; value = v; links = ls })) (get (map_from cs 0 hs) q)) here
-      ∙ sym (get-insert nat_cmp_total (map_from cs 0 hs) r.name (blank n r v) q ∙ ap (λ b. cond b (Some (blank n r v)) (get (map_from cs 0 hs) q)) (unsigned_tied q r.name))))
+      ∙ sym (get-insert nat_cmp_total (map_from cs 0 hs) r.name (blank n r v) q
+      ∙ ap (λ b. cond b (Some (blank n r v)) (get (map_from cs 0 hs) q)) (unsigned_tied q r.name))))
 
-  change_found : (f : Entry T → Entry T) (m : FinMap nat_cmp (Entry T)) (k q : ℕ) (o : Option (Entry T)) → get m k ≡ o → get (changed m k f o) q ≡ cond (q == k) (option_map f o) (get m q)
+  change_found : (f : Entry T → Entry T) (m : FinMap nat_cmp (Entry T)) (k q : ℕ) (o : Option (Entry T))
+      → get m k ≡ o → get (changed m k f o) q ≡ cond (q == k) (option_map f o) (get m q)
   change_found f m k q None e = (elim (q == k) as (λ y. (q == k) ≡ y → get m q ≡ cond y None (get m q)) [
     | true ↦ λ t. ap (get m) (same q k t) ∙ e
     | false ↦ λ t. refl
   ]) refl
   change_found f m k q (Some x) e = get-insert nat_cmp_total m k (f x) q ∙ ap (λ y. cond y (Some (f x)) (get m q)) (unsigned_tied q k)
 
-  seen-change : (n : ℕ) (f : Entry T → Entry T) (cs ds : List (List Cell)) (hs gs : List (Home T)) (j : ℕ) → ((q : ℕ) → (q == j) ≡ false → links_at ds q ≡ links_at cs q)
-      → ((q : ℕ) → (q == j) ≡ false → home_at gs q ≡ home_at hs q) → entry_of ds j (home_at gs j) ≡ option_map f (entry_of cs j (home_at hs j)) → seen n ds gs ≡ change (seen n cs hs) j f
+  seen-change : (n : ℕ) (f : Entry T → Entry T) (cs ds : List (List Cell)) (hs gs : List (Home T)) (j : ℕ)
+      → ((q : ℕ) → (q == j) ≡ false → links_at ds q ≡ links_at cs q)
+      → ((q : ℕ) → (q == j) ≡ false → home_at gs q ≡ home_at hs q)
+      → entry_of ds j (home_at gs j) ≡ option_map f (entry_of cs j (home_at hs j)) → seen n ds gs ≡ change (seen n cs hs) j f
   unfolding seen change
   seen-change n f cs ds hs gs j links homes is = ap (λ m. record { entries = m; slots = n }) (same_map nat_cmp_total nat_cmp-IsAntisymmetric _ _ (λ q.
       get-one cs ds hs gs j links homes q ∙ ap (λ o. cond (q == j) o (get (map_from cs 0 hs) q)) (is ∙ ap (option_map f) (sym (get-map cs hs j)))
       ∙ sym (change_found f (map_from cs 0 hs) j q (get (map_from cs 0 hs) j) refl)))
 
-  pub seen-value : (n : ℕ) (cs : List (List Cell)) (hs : List (Home T)) (r : Ref) (v : T) → There cs hs r → seen n cs (slice_set hs r.name (Held r v)) ≡ with_value (seen n cs hs) r.name v
+  pub seen-value : (n : ℕ) (cs : List (List Cell)) (hs : List (Home T)) (r : Ref) (v : T)
+      → There cs hs r → seen n cs (slice_set hs r.name (Held r v)) ≡ with_value (seen n cs hs) r.name v
   unfolding with_value
-  seen-value n cs hs r v t = seen-change n (λ e. record e { value = v }) cs cs hs (slice_set hs r.name (Held r v)) r.name (λ k e. refl) (other_home hs r.name (Held r v) t.less)
-      (ap (entry_of cs r.name) (this_home hs r.name (Held r v) t.less) ∙ ap (λ o. option_map (λ (e : Entry T). record e { value = v }) (entry_of cs r.name o)) (sym t.at))
+  seen-value n cs hs r v t = seen-change n (λ e. record e { value = v }) cs cs hs
+      (slice_set hs r.name (Held r v)) r.name (λ k e. refl) (other_home hs r.name (Held r v) t.less)
+      (ap (entry_of cs r.name) (this_home hs r.name (Held r v) t.less)
+      ∙ ap (λ o. option_map (λ (e : Entry T). record e { value = v }) (entry_of cs r.name o)) (sym t.at))
 
-  pub seen-link : (n : ℕ) (cs ds : List (List Cell)) (hs : List (Home T)) (r : Ref) (s : ℕ) (l : Link) → There cs hs r → ((q : ℕ) → (q == r.name) ≡ false → links_at ds q ≡ links_at cs q)
+  pub seen-link : (n : ℕ) (cs ds : List (List Cell)) (hs : List (Home T)) (r : Ref) (s : ℕ) (l : Link)
+      → There cs hs r → ((q : ℕ) → (q == r.name) ≡ false → links_at ds q ≡ links_at cs q)
       → links_at ds r.name ≡ put_link (links_at cs r.name) s l → seen n ds hs ≡ with_link (seen n cs hs) r.name s l
   unfolding with_link
   seen-link n cs ds hs r s l t others here = seen-change n (λ e. record e { links = put_link e.links s l }) cs ds hs hs r.name others (λ k e. refl)
@@ -310,9 +333,11 @@ module _ {T : Type 0} where
 
   -- places stay sound
   pub sound-none : (n : ℕ) (cs : List (List Cell)) → cs ≡ [] → IsSound {T = T} n cs []
-  sound-none n cs e = subst (λ (ds : List (List Cell)). IsSound {T = T} n ds []) (sym e) (record { named = tt; few = omega arith; wide = λ less. absurd (omega (arith, less)); long = λ s less. absurd (omega (arith, less)) })
+  sound-none n cs e = subst (λ (ds : List (List Cell)). IsSound {T = T} n ds []) (sym e)
+      (record { named = tt; few = omega arith; wide = λ less. absurd (omega (arith, less)); long = λ s less. absurd (omega (arith, less)) })
 
-  pub sound-set : (n : ℕ) (cs : List (List Cell)) (hs : List (Home T)) (j : ℕ) (h : Home T) → IsSound n cs hs → (node_in h).name ≡ j → IsSound n cs (slice_set hs j h)
+  pub sound-set : (n : ℕ) (cs : List (List Cell)) (hs : List (Home T)) (j : ℕ) (h : Home T)
+      → IsSound n cs hs → (node_in h).name ≡ j → IsSound n cs (slice_set hs j h)
   sound-set n cs hs j h sound name = record {
     named = named_set 0 j hs h sound.named (name ∙ sym (from_zero j));
     few = sound.few;
@@ -320,7 +345,8 @@ module _ {T : Type 0} where
     long = subst (λ k. AreLong k cs) (sym (length-set hs j h)) sound.long;
   }
 
-  pub sound-columns : (n : ℕ) (cs ds : List (List Cell)) (hs : List (Home T)) → IsSound n cs hs → length ds ≡ length cs → ((m : ℕ) → AreLong m cs → AreLong m ds) → IsSound n ds hs
+  pub sound-columns : (n : ℕ) (cs ds : List (List Cell)) (hs : List (Home T)) → IsSound n cs hs
+      → length ds ≡ length cs → ((m : ℕ) → AreLong m cs → AreLong m ds) → IsSound n ds hs
   sound-columns n cs ds hs sound count long = record {
     named = sound.named;
     few = subst (λ k. k ≤ n) (sym count) sound.few;
@@ -336,7 +362,8 @@ module _ {T : Type 0} where
   length_both [] fs = omega arith
   length_both (h ∷ hs) fs = let e = length_both hs fs in omega (arith, e)
 
-  pub sound-more : (n : ℕ) (cs : List (List Cell)) (hs fs : List (Home T)) → IsSound n cs hs → length cs ≡ n → AreFree (length hs) fs → AreLong (length hs + length fs) cs → IsSound n cs (hs ++ fs)
+  pub sound-more : (n : ℕ) (cs : List (List Cell)) (hs fs : List (Home T)) → IsSound n cs hs → length cs ≡ n
+      → AreFree (length hs) fs → AreLong (length hs + length fs) cs → IsSound n cs (hs ++ fs)
   sound-more n cs hs fs sound wide free long = record {
     named = named_both 0 hs fs sound.named (subst (λ k. AreFree k fs) (sym (from_zero (length hs))) free);
     few = sound.few;
@@ -354,7 +381,8 @@ module _ {T : Type 0} where
   -- one free place more
   pub free-next : (k : ℕ) (hs : List (Home T)) (h : Home T) → AreFree k hs → (node_in h).name ≡ k + length hs → IsFree h → AreFree k (hs ++ h ∷ [])
   free-next k [] h all name free = let is : (node_in h).name ≡ k = omega (arith, name) in (is, free, tt)
-  free-next k (x ∷ hs) h all name free = let is : (node_in h).name ≡ suc k + length hs = omega (arith, name) in (all.0, all.1, free-next (suc k) hs h all.2 is free)
+  free-next k (x ∷ hs) h all name free =
+      let is : (node_in h).name ≡ suc k + length hs = omega (arith, name) in (all.0, all.1, free-next (suc k) hs h all.2 is free)
 
   pub length-next : (hs : List (Home T)) (h : Home T) → length (hs ++ h ∷ []) ≡ length hs + 1
   length-next hs h = length_both hs (h ∷ [])

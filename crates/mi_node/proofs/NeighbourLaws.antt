@@ -9,7 +9,8 @@ use Rattle.mi_node.specs.Pool.{Pooled, ref_of, value_of, link_of, IsHeld, IsHeld
 use Rattle.mi_node.specs.Refs.{Ref, first_of, last_of, IsOut, IsApart, AreOut}
 use Rattle.mi_node.specs.Neighbours.{AreHeld, IsLinked, joined, with_back, with_forth, with_back_if, with_forth_if}
 use Rattle.mi_node.specs.declared.link.Link.{Link}
-use Rattle.mi_node.proofs.Callers.{absent_link, name_of_ref, held_of_ref, flip, same_name, slots-with_link, ref-with_link, value-with_link, link_here, link_there, link_beside}
+use Rattle.mi_node.proofs.Callers.{absent_link, name_of_ref, held_of_ref, flip, same_name, slots-with_link}
+use Rattle.mi_node.proofs.Callers.{ref-with_link, value-with_link, link_here, link_there, link_beside}
 use Rattle.mi_node.proofs.Keeping.{SameLinks}
 use Rattle.mi_node.proofs.Refs.{out_left, out_right, are_out_tail, apart_left, apart_right, apart_across, apart_remove, first_push}
 
@@ -18,7 +19,7 @@ abbrev pub IsOutIf : Option Ref → List Ref → Type 0
 IsOutIf None rs = Unit {0}
 IsOutIf (Some r) rs = IsOut r.name rs
 
-pub last_out : (b : Option Ref) (xs ys : List Ref) → IsOutIf b ys → AreOut xs ys → IsOutIf (last_of b xs) ys
+last_out : (b : Option Ref) (xs ys : List Ref) → IsOutIf b ys → AreOut xs ys → IsOutIf (last_of b xs) ys
 last_out b [] ys h a = h
 last_out b (x ∷ xs) ys h a = last_out (Some x) xs ys a.0 a.1
 
@@ -47,55 +48,61 @@ module _ {T : Type 0} (s : ℕ) where
   linked_right m b [] ys f h = h
   linked_right m b (x ∷ xs) ys f h = linked_right m (Some x) xs ys f h.3
 
-  pub linked_both : (m : Pooled T) (b : Option Ref) (xs ys : List Ref) (f : Option Ref) → IsLinked m s b xs (first_of ys f) → IsLinked m s (last_of b xs) ys f → IsLinked m s b (xs ++ ys) f
+  pub linked_both : (m : Pooled T) (b : Option Ref) (xs ys : List Ref) (f : Option Ref)
+      → IsLinked m s b xs (first_of ys f) → IsLinked m s (last_of b xs) ys f → IsLinked m s b (xs ++ ys) f
   linked_both m b [] ys f g h = h
   linked_both m b (x ∷ xs) ys f g h = (g.0, g.1, g.2 ∙ sym (first_push xs ys f), linked_both m (Some x) xs ys f g.3 h)
 
   -- a link of a node that is not in the chain is changed
-  pub frame : (m : Pooled T) (k : ℕ) (l : Link) (b : Option Ref) (xs : List Ref) (f : Option Ref) → IsOut k xs → IsLinked m s b xs f → IsLinked (with_link m k s l) s b xs f
+  pub frame : (m : Pooled T) (k : ℕ) (l : Link) (b : Option Ref) (xs : List Ref) (f : Option Ref)
+      → IsOut k xs → IsLinked m s b xs f → IsLinked (with_link m k s l) s b xs f
   frame m k l b [] f o h = tt
   frame m k l b (x ∷ xs) f o h = let same = link_there m k s l x.name s o.0 in
       (ref-with_link m k s l x.name ∙ h.0, ap (λ (y : Link). y.back) same ∙ h.1, ap (λ (y : Link). y.forth) same ∙ h.2, frame m k l (Some x) xs f o.1 h.3)
 
-  pub frame_back : (m : Pooled T) (o c : Option Ref) (b : Option Ref) (xs : List Ref) (f : Option Ref) → IsOutIf o xs → IsLinked m s b xs f → IsLinked (with_back_if m s o c) s b xs f
+  pub frame_back : (m : Pooled T) (o c : Option Ref) (b : Option Ref) (xs : List Ref) (f : Option Ref)
+      → IsOutIf o xs → IsLinked m s b xs f → IsLinked (with_back_if m s o c) s b xs f
   unfolding with_back
   frame_back m None c b xs f h l = l
   frame_back m (Some r) c b xs f h l = frame m r.name (record (link_of m r.name s) { back = c }) b xs f h l
 
-  pub frame_forth : (m : Pooled T) (o c : Option Ref) (b : Option Ref) (xs : List Ref) (f : Option Ref) → IsOutIf o xs → IsLinked m s b xs f → IsLinked (with_forth_if m s o c) s b xs f
+  pub frame_forth : (m : Pooled T) (o c : Option Ref) (b : Option Ref) (xs : List Ref) (f : Option Ref)
+      → IsOutIf o xs → IsLinked m s b xs f → IsLinked (with_forth_if m s o c) s b xs f
   unfolding with_forth
   frame_forth m None c b xs f h l = l
   frame_forth m (Some r) c b xs f h l = frame m r.name (record (link_of m r.name s) { forth = c }) b xs f h l
 
-  pub ref-forth : (m : Pooled T) (o c : Option Ref) (q : ℕ) → ref_of (with_forth_if m s o c) q ≡ ref_of m q
+  ref-forth : (m : Pooled T) (o c : Option Ref) (q : ℕ) → ref_of (with_forth_if m s o c) q ≡ ref_of m q
   unfolding with_forth
   ref-forth m None c q = refl
   ref-forth m (Some r) c q = ref-with_link m r.name s (record (link_of m r.name s) { forth = c }) q
 
-  pub ref-back : (m : Pooled T) (o c : Option Ref) (q : ℕ) → ref_of (with_back_if m s o c) q ≡ ref_of m q
+  ref-back : (m : Pooled T) (o c : Option Ref) (q : ℕ) → ref_of (with_back_if m s o c) q ≡ ref_of m q
   unfolding with_back
   ref-back m None c q = refl
   ref-back m (Some r) c q = ref-with_link m r.name s (record (link_of m r.name s) { back = c }) q
 
-  pub forth_there : (m : Pooled T) (o c : Option Ref) (q t : ℕ) → IsNot o q → link_of (with_forth_if m s o c) q t ≡ link_of m q t
+  forth_there : (m : Pooled T) (o c : Option Ref) (q t : ℕ) → IsNot o q → link_of (with_forth_if m s o c) q t ≡ link_of m q t
   unfolding with_forth
   forth_there m None c q t h = refl
   forth_there m (Some r) c q t h = link_there m r.name s (record (link_of m r.name s) { forth = c }) q t h
 
-  pub back_there : (m : Pooled T) (o c : Option Ref) (q t : ℕ) → IsNot o q → link_of (with_back_if m s o c) q t ≡ link_of m q t
+  back_there : (m : Pooled T) (o c : Option Ref) (q t : ℕ) → IsNot o q → link_of (with_back_if m s o c) q t ≡ link_of m q t
   unfolding with_back
   back_there m None c q t h = refl
   back_there m (Some r) c q t h = link_there m r.name s (record (link_of m r.name s) { back = c }) q t h
 
   -- the first node has another before it
-  pub rehead : (m : Pooled T) (b c : Option Ref) (ys : List Ref) (f : Option Ref) → IsApart ys → IsLinked m s b ys f → IsLinked (with_back_if m s (first_of ys None) c) s c ys f
+  pub rehead : (m : Pooled T) (b c : Option Ref) (ys : List Ref) (f : Option Ref) → IsApart ys
+      → IsLinked m s b ys f → IsLinked (with_back_if m s (first_of ys None) c) s c ys f
   unfolding with_back
   rehead m b c [] f a h = tt
   rehead m b c (y ∷ ys) f a h = let l : Link = record (link_of m y.name s) { back = c } in let here = link_here m y s l h.0 in
       (ref-with_link m y.name s l y.name ∙ h.0, ap (λ (z : Link). z.back) here, ap (λ (z : Link). z.forth) here ∙ h.2, frame m y.name l (Some y) ys f a.0 h.3)
 
   -- the last node has another after it
-  pub retail : (m : Pooled T) (b : Option Ref) (xs : List Ref) (f g : Option Ref) → IsApart xs → IsLinked m s b xs f → IsLinked (with_forth_if m s (last_of None xs) g) s b xs g
+  pub retail : (m : Pooled T) (b : Option Ref) (xs : List Ref) (f g : Option Ref) → IsApart xs
+      → IsLinked m s b xs f → IsLinked (with_forth_if m s (last_of None xs) g) s b xs g
   unfolding with_forth
   retail m b [] f g a h = tt
   retail m b (x ∷ []) f g a h = let l : Link = record (link_of m x.name s) { forth = g } in let here = link_here m x s l h.0 in
@@ -106,7 +113,7 @@ module _ {T : Type 0} (s : ℕ) where
       (ref-forth m (last_of None (y ∷ xs)) g x.name ∙ h.0, ap (λ (z : Link). z.back) same ∙ h.1, ap (λ (z : Link). z.forth) same ∙ h.2, on)
 
   -- both sides of a gap learn of other neighbours
-  pub joins : (m : Pooled T) (xs ys : List Ref) (f b l r : Option Ref) → IsApart (xs ++ ys) → IsLinked m s None xs f → IsLinked m s b ys None
+  joins : (m : Pooled T) (xs ys : List Ref) (f b l r : Option Ref) → IsApart (xs ++ ys) → IsLinked m s None xs f → IsLinked m s b ys None
       → IsLinked (joined m s (last_of None xs) l (first_of ys None) r) s None xs l × IsLinked (joined m s (last_of None xs) l (first_of ys None) r) s r ys None
   joins m xs ys f b l r a g h =
       let n = with_forth_if m s (last_of None xs) l in let across = apart_across xs ys a in (
@@ -163,7 +170,8 @@ module _ {T : Type 0} (s : ℕ) where
   }
 
   -- what follows a node is what its links say
-  pub linked_unique : (m : Pooled T) (b c : Option Ref) (rs ts : List Ref) → IsLinked m s b rs None → IsLinked m s c ts None → first_of rs None ≡ first_of ts None → rs ≡ ts
+  pub linked_unique : (m : Pooled T) (b c : Option Ref) (rs ts : List Ref) → IsLinked m s b rs None
+      → IsLinked m s c ts None → first_of rs None ≡ first_of ts None → rs ≡ ts
   linked_unique m b c [] [] g h e = refl
   linked_unique m b c [] (t ∷ ts) g h e = absurd cc
   linked_unique m b c (r ∷ rs) [] g h e = absurd cc
@@ -175,7 +183,8 @@ module _ {T : Type 0} (s : ℕ) where
   pub unlinks : (m : Pooled T) (xs : List Ref) (x : Ref) (ys : List Ref) → IsApart (xs ++ x ∷ ys) → IsLinked m s None (xs ++ x ∷ ys) None
       → IsLinked (joined m s (last_of None xs) (first_of ys None) (first_of ys None) (last_of None xs)) s None (xs ++ ys) None
   unlinks m xs x ys a h =
-      let on = joins m xs ys (Some x) (Some x) (first_of ys None) (last_of None xs) (apart_remove xs x ys a).0 (linked_left m None xs (x ∷ ys) None h) (linked_right m None xs (x ∷ ys) None h).3 in
+      let on = joins m xs ys (Some x) (Some x) (first_of ys None) (last_of None xs) (apart_remove xs x ys a).0
+      (linked_left m None xs (x ∷ ys) None h) (linked_right m None xs (x ∷ ys) None h).3 in
       linked_both (joined m s (last_of None xs) (first_of ys None) (first_of ys None) (last_of None xs)) None xs ys None on.0 on.1
 
   pub relinks : (m : Pooled T) (xs : List Ref) (x : Ref) (ys : List Ref) → IsApart (xs ++ ys) → IsOut x.name (xs ++ ys) → IsLinked m s None (xs ++ ys) None
@@ -184,12 +193,18 @@ module _ {T : Type 0} (s : ℕ) where
   relinks m xs x ys a o h held back forth =
       let n = joined m s (last_of None xs) (Some x) (first_of ys None) (Some x) in
       let on = joins m xs ys (first_of ys None) (last_of None xs) (Some x) (Some x) a (linked_left m None xs ys None h) (linked_right m None xs ys None h) in
-      let same = joined_there m (last_of None xs) (Some x) (first_of ys None) (Some x) x.name s (last_differs None xs x.name tt (out_left x.name xs ys o)) (first_differs ys x.name (out_right x.name xs ys o)) in
-      linked_both n None xs (x ∷ ys) None on.0
-      (ref-joined m (last_of None xs) (Some x) (first_of ys None) (Some x) x.name ∙ held, ap (λ (z : Link). z.back) same ∙ back, ap (λ (z : Link). z.forth) same ∙ forth, on.1)
+      let same = joined_there m (last_of None xs) (Some x) (first_of ys None) (Some x) x.name s
+      (last_differs None xs x.name tt (out_left x.name xs ys o)) (first_differs ys x.name (out_right x.name xs ys o)) in
+      linked_both n None xs (x ∷ ys) None on.0 (
+        ref-joined m (last_of None xs) (Some x) (first_of ys None) (Some x) x.name ∙ held,
+        ap (λ (z : Link). z.back) same ∙ back,
+        ap (λ (z : Link). z.forth) same ∙ forth,
+        on.1,
+      )
 
 -- who is held in a chain
-pub held_last : {T : Type 0} (s : ℕ) (m : Pooled T) (b : Option Ref) (xs : List Ref) (f : Option Ref) → IsHeldIf m b → IsLinked m s b xs f → IsHeldIf m (last_of b xs)
+pub held_last : {T : Type 0} (s : ℕ) (m : Pooled T) (b : Option Ref) (xs : List Ref) (f : Option Ref)
+    → IsHeldIf m b → IsLinked m s b xs f → IsHeldIf m (last_of b xs)
 held_last s m b [] f g h = g
 held_last s m b (x ∷ xs) f g h = held_last s m (Some x) xs f h.0 h.3
 
@@ -205,7 +220,12 @@ module _ {T : Type 0} (s : ℕ) where
   -- in a pool where the nodes have the same links
   pub linked_same : (m n : Pooled T) (b : Option Ref) (rs : List Ref) (f : Option Ref) → SameLinks m n s rs → IsLinked m s b rs f → IsLinked n s b rs f
   linked_same m n b [] f same h = tt
-  linked_same m n b (r ∷ rs) f same h = (same.0 ∙ h.0, ap (λ (y : Link). y.back) same.1 ∙ h.1, ap (λ (y : Link). y.forth) same.1 ∙ h.2, linked_same m n (Some r) rs f same.2 h.3)
+  linked_same m n b (r ∷ rs) f same h = (
+    same.0 ∙ h.0,
+    ap (λ (y : Link). y.back) same.1 ∙ h.1,
+    ap (λ (y : Link). y.forth) same.1 ∙ h.2,
+    linked_same m n (Some r) rs f same.2 h.3,
+  )
 
   -- the tags stay, of the nodes that are set too
   pub tag-with_link : (m : Pooled T) (k : ℕ) (l : Link) (q t : ℕ) → l.tag ≡ (link_of m k s).tag → (link_of (with_link m k s l) q t).tag ≡ (link_of m q t).tag
@@ -218,7 +238,8 @@ module _ {T : Type 0} (s : ℕ) where
           ap (λ z. (link_of (with_link m z s l) z s).tag) (sym name) ∙ ap (λ (z : Link). z.tag) (link_here m r s l (held_of_ref m k r some)) ∙ e
 
       by_slot : (b : Bool) → (s == t) ≡ b → k ≡ q → (link_of (with_link m k s l) q t).tag ≡ (link_of m q t).tag
-      by_slot true d n = (λ i. (link_of (with_link m k s l) (sym n i) (sym (same_name s t d) i)).tag) ∙ here (ref_of m k) refl ∙ (λ i. (link_of m (n i) (same_name s t d i)).tag)
+      by_slot true d n = (λ i. (link_of (with_link m k s l) (sym n i) (sym (same_name s t d) i)).tag)
+          ∙ here (ref_of m k) refl ∙ (λ i. (link_of m (n i) (same_name s t d i)).tag)
       by_slot false d n = ap (λ (z : Link). z.tag) (link_beside m k s l q t d)
 
       by_name : (b : Bool) → (k == q) ≡ b → (link_of (with_link m k s l) q t).tag ≡ (link_of m q t).tag
@@ -230,7 +251,7 @@ module _ {T : Type 0} (s : ℕ) where
   tag-forth m None c q t = refl
   tag-forth m (Some r) c q t = tag-with_link m r.name (record (link_of m r.name s) { forth = c }) q t refl
 
-  pub tag-back : (m : Pooled T) (o c : Option Ref) (q t : ℕ) → (link_of (with_back_if m s o c) q t).tag ≡ (link_of m q t).tag
+  tag-back : (m : Pooled T) (o c : Option Ref) (q t : ℕ) → (link_of (with_back_if m s o c) q t).tag ≡ (link_of m q t).tag
   unfolding with_back
   tag-back m None c q t = refl
   tag-back m (Some r) c q t = tag-with_link m r.name (record (link_of m r.name s) { back = c }) q t refl

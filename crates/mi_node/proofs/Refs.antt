@@ -52,7 +52,8 @@ apart_both [] ys g h a = h
 apart_both (x ∷ xs) ys g h a = (out_both x.name xs ys g.0 a.0, apart_both xs ys g.1 h a.1)
 
 pub apart_insert : (xs : List Ref) (r : Ref) (ys : List Ref) → IsApart (xs ++ ys) → IsOut r.name (xs ++ ys) → IsApart (xs ++ r ∷ ys)
-apart_insert xs r ys h o = apart_both xs (r ∷ ys) (apart_left xs ys h) (out_right r.name xs ys o, apart_right xs ys h) (are_out_cons xs r ys (out_left r.name xs ys o) (apart_across xs ys h))
+apart_insert xs r ys h o = apart_both xs (r ∷ ys) (apart_left xs ys h) (out_right r.name xs ys o, apart_right xs ys h)
+    (are_out_cons xs r ys (out_left r.name xs ys o) (apart_across xs ys h))
 
 pub apart_remove : (xs : List Ref) (r : Ref) (ys : List Ref) → IsApart (xs ++ r ∷ ys) → IsApart (xs ++ ys) × IsOut r.name (xs ++ ys)
 apart_remove xs r ys h =
@@ -89,7 +90,7 @@ pub last_both : (b : Option Ref) (xs ys : List Ref) → last_of b (xs ++ ys) ≡
 last_both b [] ys = refl
 last_both b (x ∷ xs) ys = last_both (Some x) xs ys
 
-pub names-append : (xs ys : List Ref) → names (xs ++ ys) ≡ names xs ++ names ys
+names-append : (xs ys : List Ref) → names (xs ++ ys) ≡ names xs ++ names ys
 names-append [] ys = refl
 names-append (x ∷ xs) ys = ap (λ l. x.name ∷ l) (names-append xs ys)
 

@@ -30,7 +30,8 @@ pub record Pooled (T : Type 0) : Type 0 where
 
 abbrev pub pooled_code : {T : Type 0} → Coded T → Coded (Pooled T)
 pooled_code {T} t =
-    code_by (FinMap nat_cmp (Entry T) × ℕ) (coded× (code coded_ℕ (entry_code t)) coded_ℕ) (λ m. (m.entries, m.slots)) (λ p. record { entries = p.0; slots = p.1 }) (λ _. refl)
+    code_by (FinMap nat_cmp (Entry T) × ℕ) (coded× (code coded_ℕ (entry_code t)) coded_ℕ)
+    (λ m. (m.entries, m.slots)) (λ p. record { entries = p.0; slots = p.1 }) (λ _. refl)
 
 -- the tag of a slot that was never set
 abbrev pub no_tag : Tag

@@ -1,6 +1,6 @@
 //! The form in which a link is stored: 32 bytes, where a `Link` takes more.
 //! Plain data: it owns no node and never follows a reference.
-ghost use Rattle.std.specs.Prelude.{◌≡◌, ◌<◌, ⊤};
+ghost use Rattle.std.specs.Prelude.{◌≡◌, ⊤};
 ghost use Rattle.mi_node.specs.Cells.{link_in, ref_in};
 
 use crate::link::{Link, Tag};

@@ -29,7 +29,6 @@ pub(crate) struct Column {
 
 impl Model for Column {
     ghost use Rattle.std.specs.Prelude.{List};
-    ghost use Rattle.std.specs.Coded.{coded_list};
     ghost use Rattle.mi_node.specs.declared.cell.Cell.{Cell as CellValue};
 
     ghost Value = { List CellValue };

@@ -18,7 +18,6 @@ pub struct Counted<'a, T> {
 }
 
 impl<'a, T> Model for Counted<'a, T> {
-    ghost use Rattle.mi_node.specs.Pool.{Pooled, pooled_code};
     ghost use Rattle.mi_node.specs.Counted.{CountedPool, counted_code};
 
     ghost Value = { CountedPool T };

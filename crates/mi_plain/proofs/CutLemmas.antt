@@ -1,5 +1,6 @@
 -- What stands before a cut, and what an index then shows there.
-use Rattle.std.proofs.Common.{◌≡◌, ℕ, ◌<◌, ◌≤◌, Bool, true, false, cond, not, inl, inr, List, [], ◌∷◌, ◌++◌, length, slice_get, refl, ap, sym, ◌∙◌, subst, arith}
+use Rattle.std.proofs.Common.{◌≡◌, ℕ, ◌<◌, ◌≤◌, Bool, true, false, cond, not, inl, inr, List, []}
+use Rattle.std.proofs.Common.{◌∷◌, ◌++◌, length, slice_get, refl, ap, sym, ◌∙◌, subst, arith}
 use Rattle.std.specs.List.{filter, fold}
 use Rattle.std.specs.Ordering.{is_lt, is_gt, is_ge, ordering_then}
 use Rattle.std.specs.Cmp.{IsTotalOrder, then_total, on_total, nat_cmp_total}
@@ -77,10 +78,13 @@ module _ (i : Index) (t : Table) (ids : List ℕ) (each : ListsEach t ids) where
   rises = sorted-rises (order_in_total i t) (rank_in ids) ids (places_rise ids (once t ids each))
 
   -- the first past a cut, the last before it, and how many are before it
-  pub shown_past : (p : ℕ → Bool) → HoldsBefore (by_place_total i t ids) p → slice_get (sorted (order_in i t) (filter (λ a. not (p a)) ids)) 0 ≡ slice_get all (length (filter p all))
-  shown_past p holds = ap (λ xs. slice_get xs 0) (sym (filter-sorted (order_in_total i t) (λ a. not (p a)) ids)) ∙ first_past (by_place_total i t ids) p holds all rises
+  pub shown_past : (p : ℕ → Bool) → HoldsBefore (by_place_total i t ids) p
+      → slice_get (sorted (order_in i t) (filter (λ a. not (p a)) ids)) 0 ≡ slice_get all (length (filter p all))
+  shown_past p holds = ap (λ xs. slice_get xs 0) (sym (filter-sorted (order_in_total i t) (λ a. not (p a)) ids))
+      ∙ first_past (by_place_total i t ids) p holds all rises
 
-  pub shown_before : (p : ℕ → Bool) → HoldsBefore (by_place_total i t ids) p → last_in (sorted (order_in i t) (filter p ids)) ≡ before_place all (length (filter p all))
+  shown_before : (p : ℕ → Bool) → HoldsBefore (by_place_total i t ids) p
+      → last_in (sorted (order_in i t) (filter p ids)) ≡ before_place all (length (filter p all))
   shown_before p holds = ap last_in (sym (filter-sorted (order_in_total i t) p ids)) ∙ last_before (by_place_total i t ids) p holds all rises
 
   pub shown_count : (p : ℕ → Bool) → length (filter p ids) ≡ length (filter p all)
@@ -95,7 +99,9 @@ module _ (i : Index) (t : Table) (ids : List ℕ) (each : ListsEach t ids) where
   holds_behind : (e : ℕ) → HoldsBefore (by_place_total i t ids) (λ a. not (is_lt (by_place i t ids e a)))
   holds_behind e a b l isnt =
       both_ways (is_lt (by_place i t ids e a))
-      (λ less. absurd (let h : is_lt (by_place i t ids e b) ≡ true = ap is_lt ((by_place_total i t ids).trans e a b (is_less _ less) l) in let k : false ≡ true = sym (ap not h) ∙ isnt in cc))
+      (λ less. absurd (let h : is_lt (by_place i t ids e b) ≡ true = ap is_lt ((by_place_total i t ids).trans e a b (is_less _ less) l) in
+      let k : false ≡ true = sym (ap not h) ∙ isnt in
+      cc))
       (λ no. ap not no)
 
   -- the neighbours of an id, and its rank
@@ -112,7 +118,8 @@ module _ (i : Index) (t : Table) (ids : List ℕ) (each : ListsEach t ids) where
       ∙ ap (before_place all) (rank_counts (by_place_total i t ids) e all rises (stands_in_all e there))
 
   pub rank_is : (key : List Value) (e : ℕ) → has t e ≡ true → length (filter (λ a. is_before i t ids key (Before e (rank_in ids e)) a) ids) ≡ rank_in all e
-  rank_is key e there = shown_count (is_before i t ids key (Before e (rank_in ids e))) ∙ rank_counts (by_place_total i t ids) e all rises (stands_in_all e there)
+  rank_is key e there = shown_count (is_before i t ids key (Before e (rank_in ids e)))
+      ∙ rank_counts (by_place_total i t ids) e all rises (stands_in_all e there)
 
   none_pass : (xs : List ℕ) → filter (λ a. false) xs ≡ []
   none_pass [] = refl
@@ -160,14 +167,18 @@ module _ (i : Index) (t : Table) (ids : List ℕ) (sorts : is_sorted i.kind ≡ 
   pub holds_upper : HoldsBefore (by_place_total i t ids) (is_before i t ids key Upper)
   holds_upper a b l above =
       both_ways (is_ge (compare_to_id i t key a)) (λ is. is)
-      (λ below. absurd (let h : compare_to_id i t key b ≡ Less = (key_falls i t key a b (follows a b l)).1 (less_or_ge _ below) in let k : false ≡ true = sym (ap is_ge h) ∙ above in cc))
+      (λ below. absurd (let h : compare_to_id i t key b ≡ Less = (key_falls i t key a b (follows a b l)).1 (less_or_ge _ below) in
+      let k : false ≡ true = sym (ap is_ge h) ∙ above in
+      cc))
 
 -- an index that shows one list is one of the schema
 within_shape : (P : IndexKind → Bool) (s : Shape) (x : ℕ) → P Hashed ≡ false → P (index_at s x).kind ≡ true → x < length s.indexes
 within_shape P s x none is =
     elim (cases_lt x (length s.indexes)) [
       | inl within ↦ within
-      | inr past ↦ absurd (let h : P (index_at s x).kind ≡ P Hashed = ap (λ (i : Index). P i.kind) (get_or_past s.indexes x _ past) in let k : true ≡ false = sym is ∙ h ∙ none in cc)
+      | inr past ↦ absurd (let h : P (index_at s x).kind ≡ P Hashed = ap (λ (i : Index). P i.kind) (get_or_past s.indexes x _ past) in
+          let k : true ≡ false = sym is ∙ h ∙ none in
+          cc)
     ]
 
 -- each index of a table lists each row once

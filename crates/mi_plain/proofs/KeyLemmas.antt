@@ -15,7 +15,7 @@ use Rattle.mi_model.specs.Table.{Table, list_of}
 use Rattle.mi_model.specs.View.{of_key, compare_to_id, compare_ids}
 use Rattle.mi_model.specs.Change.{erase_all, erase_key}
 use Rattle.mi_model.proofs.EraseLaws.{count-shown, in-shown, erase_all-alike}
-use Rattle.mi_plain.specs.IdPart.{id_part}
+use Rattle.mi_model.specs.Key.{id_part}
 
 then_equal : (o : Ordering) → ordering_then o Equal ≡ o
 then_equal Less = refl
@@ -28,11 +28,13 @@ no_parts [] h = refl
 no_parts (p ∷ ps) h = absurd (let e : length (p ∷ ps) ≡ 0 = eqb-true (length (p ∷ ps)) 0 h in omega (arith, e))
 
 -- a key of one value compares as the value, and one of more values is never an id
-pub one_value : (first : Value) (rest : List Value) (id : ℕ) → (length rest == 0) ≡ true → compare_prefix id_part (first ∷ rest) (Int (pos id) ∷ []) ≡ compare_value first (Int (pos id))
+pub one_value : (first : Value) (rest : List Value) (id : ℕ) → (length rest == 0) ≡ true
+    → compare_prefix id_part (first ∷ rest) (Int (pos id) ∷ []) ≡ compare_value first (Int (pos id))
 one_value first [] id h = then_equal (compare_value first (Int (pos id)))
 one_value first (v ∷ vs) id h = absurd (let e : length (v ∷ vs) ≡ 0 = eqb-true (length (v ∷ vs)) 0 h in omega (arith, e))
 
-pub more_values : (first : Value) (rest : List Value) (id : ℕ) → (length rest == 0) ≡ false → compare_prefix id_part (first ∷ rest) (Int (pos id) ∷ []) ≡ ordering_then (compare_value first (Int (pos id))) Greater
+pub more_values : (first : Value) (rest : List Value) (id : ℕ) → (length rest == 0) ≡ false
+    → compare_prefix id_part (first ∷ rest) (Int (pos id) ∷ []) ≡ ordering_then (compare_value first (Int (pos id))) Greater
 more_values first [] id h = absurd (eqb-false 0 0 h refl)
 more_values first (v ∷ vs) id h = refl
 
@@ -46,4 +48,5 @@ count-of_key s t x key = count-shown (has_key s t x key) (index_at s x).kind (co
 -- taking out the ids of its list is taking out the key
 pub erase_key-is : (s : Shape) (t : Table) (x : ℕ) (key : List Value) → erase_key s x key t ≡ erase_all (filter (has_key s t x key) (list_of t x)) t
 erase_key-is s t x key =
-    erase_all-alike (of_key s t x key) (filter (has_key s t x key) (list_of t x)) (in-shown (has_key s t x key) (index_at s x).kind (compare_ids (index_at s x) t) (list_of t x)) t
+    erase_all-alike (of_key s t x key) (filter (has_key s t x key) (list_of t x))
+    (in-shown (has_key s t x key) (index_at s x).kind (compare_ids (index_at s x) t) (list_of t x)) t

@@ -1,5 +1,6 @@
 -- One pass over a list of ids: the first, and the last, of those that pass a test.
-use Rattle.std.proofs.Common.{◌≡◌, ℕ, zero, suc, ◌<◌, ◌≤◌, Bool, true, false, cond, not, Option, Some, None, List, [], ◌∷◌, length, slice_get, get_or, take, drop, refl, ap, sym, ◌∙◌, subst, arith}
+use Rattle.std.proofs.Common.{◌≡◌, ℕ, zero, suc, ◌<◌, ◌≤◌, Bool, true, false, cond, not, Option, Some, None, List}
+use Rattle.std.proofs.Common.{[], ◌∷◌, length, slice_get, get_or, take, drop, refl, ap, sym, ◌∙◌, subst, arith}
 use Rattle.std.proofs.lemmas.List.{drop_all}
 use Rattle.std.proofs.lemmas.List.Sums.{prefix_len-le-length}
 use Rattle.std.proofs.lemmas.Bool.{ltb-false}
@@ -23,30 +24,37 @@ first_kept order q best (a ∷ ids) = first_kept order q (if q a then (if option
 -- and the last
 abbrev pub last_kept : (ℕ → ℕ → Ordering) → (ℕ → Bool) → Option ℕ → List ℕ → Option ℕ
 last_kept order q best [] = best
-last_kept order q best (a ∷ ids) = last_kept order q (if q a then (if option_map_or (λ b. not (is_lt (order a b))) best true then Some a else best) else best) ids
+last_kept order q best (a ∷ ids) = last_kept order q
+    (if q a then (if option_map_or (λ b. not (is_lt (order a b))) best true then Some a else best) else best) ids
 
 is_sooner : (order : ℕ → ℕ → Ordering) (a : ℕ) (best : Option ℕ) → cond (option_map_or (λ b. is_lt (order a b)) best true) (Some a) best ≡ sooner order a best
 is_sooner order a None = refl
 is_sooner order a (Some b) = refl
 
-is_later : (order : ℕ → ℕ → Ordering) (a : ℕ) (best : Option ℕ) → cond (option_map_or (λ b. not (is_lt (order a b))) best true) (Some a) best ≡ later order a best
+is_later : (order : ℕ → ℕ → Ordering) (a : ℕ) (best : Option ℕ)
+    → cond (option_map_or (λ b. not (is_lt (order a b))) best true) (Some a) best ≡ later order a best
 is_later order a None = refl
 is_later order a (Some b) = elim (is_lt (order a b)) as (λ l. cond (not l) (Some a) (Some b) ≡ cond l (Some b) (Some a)) [ true ↦ refl | false ↦ refl ]
 
-first_fold : (order : ℕ → ℕ → Ordering) (q : ℕ → Bool) (done ids : List ℕ) → first_kept order q (slice_get done 0) ids ≡ slice_get (fold (λ d e. place order e d) done (filter q ids)) 0
+first_fold : (order : ℕ → ℕ → Ordering) (q : ℕ → Bool) (done ids : List ℕ)
+    → first_kept order q (slice_get done 0) ids ≡ slice_get (fold (λ d e. place order e d) done (filter q ids)) 0
 first_fold order q done [] = refl
 first_fold order q done (a ∷ ids) =
     both_ways (q a)
-    (λ passes. ap (λ b. first_kept order q (cond b (cond (option_map_or (λ c. is_lt (order a c)) (slice_get done 0) true) (Some a) (slice_get done 0)) (slice_get done 0)) ids) passes
+    (λ passes. ap (λ b. first_kept order q
+    (cond b (cond (option_map_or (λ c. is_lt (order a c)) (slice_get done 0) true) (Some a) (slice_get done 0)) (slice_get done 0)) ids)
+    passes
     ∙ ap (λ best. first_kept order q best ids) (is_sooner order a (slice_get done 0) ∙ sym (first-place order a done))
     ∙ first_fold order q (place order a done) ids
     ∙ ap (λ b. slice_get (fold (λ d e. place order e d) done (cond b (a ∷ filter q ids) (filter q ids))) 0) (sym passes))
-    (λ isnt. ap (λ b. first_kept order q (cond b (cond (option_map_or (λ c. is_lt (order a c)) (slice_get done 0) true) (Some a) (slice_get done 0)) (slice_get done 0)) ids) isnt
+    (λ isnt. ap (λ b. first_kept order q
+    (cond b (cond (option_map_or (λ c. is_lt (order a c)) (slice_get done 0) true) (Some a) (slice_get done 0)) (slice_get done 0)) ids)
+    isnt
     ∙ first_fold order q done ids
     ∙ ap (λ b. slice_get (fold (λ d e. place order e d) done (cond b (a ∷ filter q ids) (filter q ids))) 0) (sym isnt))
 
 -- the pass gives the first of those that pass, sorted
-pub first_kept-is : (order : ℕ → ℕ → Ordering) (q : ℕ → Bool) (ids : List ℕ) → first_kept order q None ids ≡ slice_get (sorted order (filter q ids)) 0
+first_kept-is : (order : ℕ → ℕ → Ordering) (q : ℕ → Bool) (ids : List ℕ) → first_kept order q None ids ≡ slice_get (sorted order (filter q ids)) 0
 first_kept-is order q ids = first_fold order q [] ids
 
 pub first_ends : (order : ℕ → ℕ → Ordering) (q : ℕ → Bool) (best : Option ℕ) (ids others : List ℕ) (i : ℕ) → others ≡ ids → length others ≤ i
@@ -55,20 +63,25 @@ first_ends order q best ids others i same past left =
     sym (ap (first_kept order q best) (drop_all i others past)) ∙ left ∙ ap (first_kept order q None) same ∙ first_kept-is order q ids
 
 module _ {order : ℕ → ℕ → Ordering} (o : IsTotalOrder order) where
-  last_fold : (q : ℕ → Bool) (done ids : List ℕ) → Ascends order done → last_kept order q (last_in done) ids ≡ last_in (fold (λ d e. place order e d) done (filter q ids))
+  last_fold : (q : ℕ → Bool) (done ids : List ℕ) → Ascends order done
+      → last_kept order q (last_in done) ids ≡ last_in (fold (λ d e. place order e d) done (filter q ids))
   last_fold q done [] up = refl
   last_fold q done (a ∷ ids) up =
       both_ways (q a)
-      (λ passes. ap (λ b. last_kept order q (cond b (cond (option_map_or (λ c. not (is_lt (order a c))) (last_in done) true) (Some a) (last_in done)) (last_in done)) ids) passes
+      (λ passes. ap (λ b. last_kept order q
+      (cond b (cond (option_map_or (λ c. not (is_lt (order a c))) (last_in done) true) (Some a) (last_in done)) (last_in done)) ids)
+      passes
       ∙ ap (λ best. last_kept order q best ids) (is_later order a (last_in done) ∙ sym (last-place o a done up))
       ∙ last_fold q (place order a done) ids (ascends_place o a done up)
       ∙ ap (λ b. last_in (fold (λ d e. place order e d) done (cond b (a ∷ filter q ids) (filter q ids)))) (sym passes))
-      (λ isnt. ap (λ b. last_kept order q (cond b (cond (option_map_or (λ c. not (is_lt (order a c))) (last_in done) true) (Some a) (last_in done)) (last_in done)) ids) isnt
+      (λ isnt. ap (λ b. last_kept order q
+      (cond b (cond (option_map_or (λ c. not (is_lt (order a c))) (last_in done) true) (Some a) (last_in done)) (last_in done)) ids)
+      isnt
       ∙ last_fold q done ids up
       ∙ ap (λ b. last_in (fold (λ d e. place order e d) done (cond b (a ∷ filter q ids) (filter q ids)))) (sym isnt))
 
   -- and the last of them
-  pub last_kept-is : (q : ℕ → Bool) (ids : List ℕ) → last_kept order q None ids ≡ last_in (sorted order (filter q ids))
+  last_kept-is : (q : ℕ → Bool) (ids : List ℕ) → last_kept order q None ids ≡ last_in (sorted order (filter q ids))
   last_kept-is q ids = last_fold q [] ids tt
 
   pub last_ends : (q : ℕ → Bool) (best : Option ℕ) (ids others : List ℕ) (i : ℕ) → others ≡ ids → length others ≤ i
@@ -118,4 +131,5 @@ no_place_step false m n beyond within h = let l : n ≤ m = beyond refl in omega
 -- an id that has no place in a list has its length for a rank
 pub no_place : (id : ℕ) (ids : List ℕ) → position (λ a. a == id) ids ≡ None → length ids ≡ rank_in ids id
 no_place id ids h =
-    no_place_step (nat_lt (rank_in ids id) (length ids)) (rank_in ids id) (length ids) (ltb-false (rank_in ids id) (length ids)) (prefix_len-le-length (λ a. not (a == id)) ids) h
+    no_place_step (nat_lt (rank_in ids id) (length ids)) (rank_in ids id) (length ids)
+    (ltb-false (rank_in ids id) (length ids)) (prefix_len-le-length (λ a. not (a == id)) ids) h

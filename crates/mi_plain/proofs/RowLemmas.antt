@@ -22,7 +22,8 @@ use Rattle.mi_model.specs.Verdict.{replace_refusal, is_spent, as_unique}
 abbrev pub named : ℕ → Row → Bool
 named e r = r.0 == e
 
-there_step : (b : Bool) (w : Row) (rows set : List Row) (e : ℕ) (r : List Value) (p : ℕ) → (b ≡ true → w.0 ≡ e) → (p < length rows → set ≡ slice_set rows p (e, r))
+there_step : (b : Bool) (w : Row) (rows set : List Row) (e : ℕ) (r : List Value) (p : ℕ)
+    → (b ≡ true → w.0 ≡ e) → (p < length rows → set ≡ slice_set rows p (e, r))
     → cond (not b) (1 + p) 0 < length (w ∷ rows) → cond b ((w.0, r) ∷ rows) (w ∷ set) ≡ slice_set (w ∷ rows) (cond (not b) (1 + p) 0) (e, r)
 there_step true w rows set e r p same later within = ap (λ k. (k, r) ∷ rows) (same refl)
 there_step false w rows set e r p same later within =
@@ -30,30 +31,37 @@ there_step false w rows set e r p same later within =
     subst (λ n. w ∷ set ≡ slice_set (w ∷ rows) n (e, r)) (sym one) (ap (λ xs. w ∷ xs) (later (omega arith)))
 
 -- setting the value of the first row of an id is setting that row
-pub set_value-there : (e : ℕ) (r : List Value) (rows : List Row) → position_or_len (named e) rows < length rows → set_value (λ a. a == e) rows r ≡ slice_set rows (position_or_len (named e) rows) (e, r)
+set_value-there : (e : ℕ) (r : List Value) (rows : List Row) → position_or_len (named e) rows < length rows
+    → set_value (λ a. a == e) rows r ≡ slice_set rows (position_or_len (named e) rows) (e, r)
 set_value-there e r [] within = absurd (omega arith)
-set_value-there e r (w ∷ rows) within = there_step (w.0 == e) w rows (set_value (λ a. a == e) rows r) e r (position_or_len (named e) rows) (λ h. eqb-true w.0 e h) (set_value-there e r rows) within
+set_value-there e r (w ∷ rows) within = there_step (w.0 == e) w rows (set_value (λ a. a == e) rows r)
+    e r (position_or_len (named e) rows) (λ h. eqb-true w.0 e h) (set_value-there e r rows) within
 
-absent_step : (b : Bool) (w : Row) (rows set : List Row) (r : List Value) (p : ℕ) → (length rows ≤ p → set ≡ rows) → length (w ∷ rows) ≤ cond (not b) (1 + p) 0 → cond b ((w.0, r) ∷ rows) (w ∷ set) ≡ w ∷ rows
+absent_step : (b : Bool) (w : Row) (rows set : List Row) (r : List Value) (p : ℕ) → (length rows ≤ p → set ≡ rows)
+    → length (w ∷ rows) ≤ cond (not b) (1 + p) 0 → cond b ((w.0, r) ∷ rows) (w ∷ set) ≡ w ∷ rows
 absent_step true w rows set r p later beyond = absurd (omega arith)
 absent_step false w rows set r p later beyond = ap (λ xs. w ∷ xs) (later (omega arith))
 
 -- where no row has the id nothing is set
-pub set_value-absent : (e : ℕ) (r : List Value) (rows : List Row) → length rows ≤ position_or_len (named e) rows → set_value (λ a. a == e) rows r ≡ rows
+set_value-absent : (e : ℕ) (r : List Value) (rows : List Row) → length rows ≤ position_or_len (named e) rows → set_value (λ a. a == e) rows r ≡ rows
 set_value-absent e r [] beyond = refl
-set_value-absent e r (w ∷ rows) beyond = absent_step (w.0 == e) w rows (set_value (λ a. a == e) rows r) r (position_or_len (named e) rows) (set_value-absent e r rows) beyond
+set_value-absent e r (w ∷ rows) beyond = absent_step (w.0 == e) w rows (set_value (λ a. a == e) rows r)
+    r (position_or_len (named e) rows) (set_value-absent e r rows) beyond
 
-position_cases : (b : Bool) (m n : ℕ) (found : Option ℕ) → (b ≡ true → m < n) → (b ≡ false → n ≤ m) → cond b (Some m) None ≡ found → MatchOption found (n ≤ m) (λ i. (m < n) × (m ≡ i))
+position_cases : (b : Bool) (m n : ℕ) (found : Option ℕ) → (b ≡ true → m < n) → (b ≡ false → n ≤ m)
+    → cond b (Some m) None ≡ found → MatchOption found (n ≤ m) (λ i. (m < n) × (m ≡ i))
 position_cases true m n (Some i) within beyond h = (within refl, cc)
 position_cases true m n None within beyond h = absurd (cc)
 position_cases false m n (Some i) within beyond h = absurd (cc)
 position_cases false m n None within beyond h = beyond refl
 
 -- setting the value at the place of an id
-pub set_value-found : (e : ℕ) (r : List Value) (rows : List Row) (i : ℕ) → position (named e) rows ≡ Some i → set_value (λ a. a == e) rows r ≡ slice_set rows i (e, r)
+pub set_value-found : (e : ℕ) (r : List Value) (rows : List Row) (i : ℕ)
+    → position (named e) rows ≡ Some i → set_value (λ a. a == e) rows r ≡ slice_set rows i (e, r)
 set_value-found e r rows i h =
     let m : ℕ = position_or_len (named e) rows in
-    let at : (m < length rows) × (m ≡ i) = position_cases (nat_lt m (length rows)) m (length rows) (Some i) (ltb-true m (length rows)) (ltb-false m (length rows)) h in
+    let at : (m < length rows) × (m ≡ i) = position_cases (nat_lt m (length rows)) m
+    (length rows) (Some i) (ltb-true m (length rows)) (ltb-false m (length rows)) h in
     subst (λ k. set_value (λ a. a == e) rows r ≡ slice_set rows k (e, r)) at.1 (set_value-there e r rows at.0)
 
 pub set_value-missing : (e : ℕ) (r : List Value) (rows : List Row) → position (named e) rows ≡ None → set_value (λ a. a == e) rows r ≡ rows
@@ -62,11 +70,12 @@ set_value-missing e r rows h =
     set_value-absent e r rows (position_cases (nat_lt m (length rows)) m (length rows) None (ltb-true m (length rows)) (ltb-false m (length rows)) h)
 
 -- where no list is left none is moved
-pub moved-none : (is : List Index) (old new : List Value) (e : ℕ) → moved is old new e [] ≡ []
+moved-none : (is : List Index) (old new : List Value) (e : ℕ) → moved is old new e [] ≡ []
 moved-none [] old new e = refl
 moved-none (i ∷ is) old new e = refl
 
-pub moved-end : (all lists whole : List (List ℕ)) (is : List Index) (old new : List Value) (e i : ℕ) → length lists ≤ i → all ++ moved is old new e (drop i lists) ≡ whole → all ≡ whole
+pub moved-end : (all lists whole : List (List ℕ)) (is : List Index) (old new : List Value) (e i : ℕ)
+    → length lists ≤ i → all ++ moved is old new e (drop i lists) ≡ whole → all ≡ whole
 moved-end all lists whole is old new e i past h =
     sym (append-nil all) ∙ ap (λ ms. all ++ ms) (sym (ap (moved is old new e) (drop_all i lists past) ∙ moved-none is old new e)) ∙ h
 

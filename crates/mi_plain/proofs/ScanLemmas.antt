@@ -1,5 +1,6 @@
 -- Ids looked for one after another: by rank, and by key in a hashed index.
-use Rattle.std.proofs.Common.{◌≡◌, ◌≢◌, ℕ, zero, suc, ◌+◌, ◌<◌, ◌≤◌, Bool, true, cond, inl, inr, Option, Some, None, List, [], ◌∷◌, length, slice_get, get_or, drop, refl, ap, sym, ◌∙◌, subst, arith}
+use Rattle.std.proofs.Common.{◌≡◌, ◌≢◌, ℕ, zero, suc, ◌+◌, ◌<◌, ◌≤◌, Bool, true, cond, inl, inr, Option, Some, None}
+use Rattle.std.proofs.Common.{List, [], ◌∷◌, length, slice_get, get_or, drop, refl, ap, sym, ◌∙◌, subst, arith}
 use Rattle.std.specs.Prelude.{◌==◌}
 use Rattle.std.specs.List.{filter}
 use Rattle.std.specs.Ordering.{is_eq}
@@ -25,14 +26,17 @@ times_shown : (s : Shape) (t : Table) (x e : ℕ) → times e (view s t x) ≡ t
 times_shown s t x e = ap (times e) (view_is s t x) ∙ times-sorted e (order_in (index_at s x) t) (list_of t x)
 
 -- an id of the list is shown at its rank
-pub nth_found : (s : Shape) (t : Table) (x : ℕ) (ids : List ℕ) (k n : ℕ) → ids ≡ list_of t x → ListsEach t (list_of t x) → k < length ids → look.rank s t x (get_or ids k 0) ≡ n
+pub nth_found : (s : Shape) (t : Table) (x : ℕ) (ids : List ℕ) (k n : ℕ) → ids ≡ list_of t x
+    → ListsEach t (list_of t x) → k < length ids → look.rank s t x (get_or ids k 0) ≡ n
     → Some (get_or ids k 0) ≡ look.nth s t x n
 nth_found s t x ids k n same each within is =
     let e : ℕ = get_or ids k 0 in
-    let some : 0 < times e (view s t x) = subst (λ m. 0 < m) (sym (times_shown s t x e)) (stands_once t (list_of t x) e each (there_is t (list_of t x) ids k 0 same each within)) in
+    let some : 0 < times e (view s t x) = subst (λ m. 0 < m) (sym (times_shown s t x e))
+    (stands_once t (list_of t x) e each (there_is t (list_of t x) ids k 0 same each within)) in
     sym (at_rank e (view s t x) some) ∙ ap (slice_get (view s t x)) is
 
-none_at : (s : Shape) (t : Table) (x n : ℕ) (found : Option ℕ) → ListsEach t (list_of t x) → ((k : ℕ) → k < length (list_of t x) → look.rank s t x (get_or (list_of t x) k 0) ≢ n)
+none_at : (s : Shape) (t : Table) (x n : ℕ) (found : Option ℕ) → ListsEach t (list_of t x)
+    → ((k : ℕ) → k < length (list_of t x) → look.rank s t x (get_or (list_of t x) k 0) ≢ n)
     → slice_get (view s t x) n ≡ found → None ≡ found
 none_at s t x n None each others is = refl
 none_at s t x n (Some e) each others is =
@@ -42,7 +46,8 @@ none_at s t x n (Some e) each others is =
     let within : k < length (list_of t x) = rank_within e (list_of t x) some in
     let at : Some (get_or (list_of t x) k 0) ≡ Some e = sym (slice_get_or (list_of t x) k 0 within) ∙ at_rank e (list_of t x) some in
     let id : get_or (list_of t x) k 0 ≡ e = cc in
-    absurd (others k within (ap (look.rank s t x) id ∙ rank_at n e (view s t x) (λ a. subst (λ m. m ≤ 1) (sym (times_shown s t x a)) (once t (list_of t x) each a)) is))
+    absurd (others k within (ap (look.rank s t x) id
+    ∙ rank_at n e (view s t x) (λ a. subst (λ m. m ≤ 1) (sym (times_shown s t x a)) (once t (list_of t x) each a)) is))
 
 -- where no id has a rank nothing is shown there
 pub nth_none : (s : Shape) (t : Table) (x : ℕ) (ids : List ℕ) (i n : ℕ) → ids ≡ list_of t x → ListsEach t (list_of t x) → length ids ≤ i
@@ -55,27 +60,32 @@ nth_none s t x ids i n same each past others =
 hashed_view : (s : Shape) (t : Table) (x : ℕ) → (index_at s x).kind ≡ Hashed → view s t x ≡ list_of t x
 hashed_view s t x is = ap (λ (kind : IndexKind). shown kind (compare_ids (index_at s x) t) (list_of t x)) is
 
-pub first_of_all : (s : Shape) (t : Table) (x : ℕ) (key : List Value) (i : Index) (ids : List ℕ) → (index_at s x).kind ≡ Hashed → i ≡ index_at s x → ids ≡ list_of t x
+pub first_of_all : (s : Shape) (t : Table) (x : ℕ) (key : List Value) (i : Index) (ids : List ℕ)
+    → (index_at s x).kind ≡ Hashed → i ≡ index_at s x → ids ≡ list_of t x
     → slice_get (filter (λ id. is_eq (compare_to_id i t key id)) ids) 0 ≡ look.first_of s t x key
 first_of_all s t x key i ids hashed same are =
     ap (λ (j : Index). slice_get (filter (λ id. is_eq (compare_to_id j t key id)) ids) 0) same
     ∙ ap (λ xs. slice_get (filter (λ id. is_eq (compare_to_id (index_at s x) t key id)) xs) 0) (are ∙ sym (hashed_view s t x hashed))
 
 -- the first behind an id that passes a test, where the id passes too
-behind_itself : (q : ℕ → Bool) (e : ℕ) (ids : List ℕ) → q e ≡ true → 0 < times e ids → slice_get (filter q (drop (rank_in ids e + 1) ids)) 0 ≡ after_in (filter q ids) e
+behind_itself : (q : ℕ → Bool) (e : ℕ) (ids : List ℕ) → q e ≡ true → 0 < times e ids
+    → slice_get (filter q (drop (rank_in ids e + 1) ids)) 0 ≡ after_in (filter q ids) e
 behind_itself q e [] passes some = absurd (omega arith)
 behind_itself q e (a ∷ ids) passes some =
     elim (eqb_tells a e) [
       | inl is ↦
           let yes_a : q a ≡ true = ap q is.1 ∙ passes in
           let one : rank_in (a ∷ ids) e + 1 ≡ suc zero = let r : rank_in (a ∷ ids) e ≡ 0 = rank_first e a ids is.0 in omega (arith, r) in
-          let also : rank_in (a ∷ filter q ids) e + 1 ≡ suc zero = let r : rank_in (a ∷ filter q ids) e ≡ 0 = rank_first e a (filter q ids) is.0 in omega (arith, r) in
+          let also : rank_in (a ∷ filter q ids) e + 1 ≡ suc zero =
+          let r : rank_in (a ∷ filter q ids) e ≡ 0 = rank_first e a (filter q ids) is.0 in omega (arith, r) in
           ap (λ n. slice_get (filter q (drop n (a ∷ ids))) 0) one
           ∙ sym (ap (λ b. after_in (cond b (a ∷ filter q ids) (filter q ids)) e) yes_a ∙ ap (slice_get (a ∷ filter q ids)) also)
       | inr isnt ↦
           let there : 0 < times e ids = (let z : cond {A = ℕ} (a == e) 1 0 ≡ 0 = ap (λ b. cond {A = ℕ} b 1 0) isnt.0 in omega (arith, z, some)) in
-          let more : rank_in (a ∷ ids) e + 1 ≡ suc (rank_in ids e + 1) = let r : rank_in (a ∷ ids) e ≡ 1 + rank_in ids e = rank_next e a ids isnt.0 in omega (arith, r) in
-          let further : rank_in (a ∷ filter q ids) e + 1 ≡ suc (rank_in (filter q ids) e + 1) = let r : rank_in (a ∷ filter q ids) e ≡ 1 + rank_in (filter q ids) e = rank_next e a (filter q ids) isnt.0 in omega (arith, r) in
+          let more : rank_in (a ∷ ids) e + 1 ≡ suc (rank_in ids e + 1) =
+          let r : rank_in (a ∷ ids) e ≡ 1 + rank_in ids e = rank_next e a ids isnt.0 in omega (arith, r) in
+          let further : rank_in (a ∷ filter q ids) e + 1 ≡ suc (rank_in (filter q ids) e + 1) =
+          let r : rank_in (a ∷ filter q ids) e ≡ 1 + rank_in (filter q ids) e = rank_next e a (filter q ids) isnt.0 in omega (arith, r) in
           ap (λ n. slice_get (filter q (drop n (a ∷ ids))) 0) more
           ∙ behind_itself q e ids passes there
           ∙ both_ways (q a)
@@ -83,13 +93,15 @@ behind_itself q e (a ∷ ids) passes some =
           (λ no. sym (ap (λ b. after_in (cond b (a ∷ filter q ids) (filter q ids)) e) no))
     ]
 
-pub next_of_rest : (s : Shape) (t : Table) (x e : ℕ) (i : Index) (ids : List ℕ) (at : ℕ) → (index_at s x).kind ≡ Hashed → i ≡ index_at s x → ids ≡ list_of t x → at ≡ rank_in (list_of t x) e
+pub next_of_rest : (s : Shape) (t : Table) (x e : ℕ) (i : Index) (ids : List ℕ) (at : ℕ)
+    → (index_at s x).kind ≡ Hashed → i ≡ index_at s x → ids ≡ list_of t x → at ≡ rank_in (list_of t x) e
     → ListsEach t (list_of t x) → has t e ≡ true → slice_get (filter (λ id. is_eq (compare_ids i t e id)) (drop (at + 1) ids)) 0 ≡ look.next_of s t x e
 next_of_rest s t x e i ids at hashed same are place each there =
     ap (λ (j : Index). slice_get (filter (λ id. is_eq (compare_ids j t e id)) (drop (at + 1) ids)) 0) same
     ∙ ap (λ n. slice_get (filter (λ id. is_eq (compare_ids (index_at s x) t e id)) (drop (n + 1) ids)) 0) place
     ∙ ap (λ xs. slice_get (filter (λ id. is_eq (compare_ids (index_at s x) t e id)) (drop (rank_in (list_of t x) e + 1) xs)) 0) are
-    ∙ behind_itself (λ id. is_eq (compare_ids (index_at s x) t e id)) e (list_of t x) (ap is_eq (tied_itself (compare_ids_total (index_at s x) t) e)) (stands_once t (list_of t x) e each there)
+    ∙ behind_itself (λ id. is_eq (compare_ids (index_at s x) t e id)) e (list_of t x)
+    (ap is_eq (tied_itself (compare_ids_total (index_at s x) t) e)) (stands_once t (list_of t x) e each there)
     ∙ ap (λ xs. after_in (filter (λ id. is_eq (compare_ids (index_at s x) t e id)) xs) e) (sym (hashed_view s t x hashed))
 
 -- the place of an id that is there

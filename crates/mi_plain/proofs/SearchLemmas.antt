@@ -1,5 +1,6 @@
 -- What a binary search finds among rows in the order of their ids.
-use Rattle.std.proofs.Common.{◌≡◌, ◌≢◌, ℕ, zero, suc, ◌<◌, ◌≤◌, cond, List, [], ◌∷◌, length, Some, None, Result, Ok, Err, IfOk, IfErr, inl, inr, refl, ap, sym, ◌∙◌, arith}
+use Rattle.std.proofs.Common.{◌≡◌, ◌≢◌, ℕ, zero, suc, ◌<◌, ◌≤◌, cond, List, [], ◌∷◌, length, Some}
+use Rattle.std.proofs.Common.{None, Result, Ok, Err, IfOk, IfErr, inl, inr, refl, ap, sym, ◌∙◌, arith}
 use Rattle.std.specs.Prelude.{◌==◌}
 use Rattle.std.specs.List.{AllByRecursion}
 use Rattle.std.specs.List.Sorted.{IsSearchInRange, IsBinarySearchResult, IsNonDecreasingBy}
@@ -28,7 +29,8 @@ in_order next (r ∷ rows) up (suc i) zero l within = absurd (omega (arith, l))
 in_order next (r ∷ rows) up (suc i) (suc j) l within = in_order next rows up.2 i j (omega (arith, l)) (omega (arith, within))
 
 found_first : (id : ℕ) (r : Row) (rows : List Row) → r.0 ≡ id → lookup (λ a. a == id) (r ∷ rows) ≡ Some r.1
-found_first id r rows is = ap (λ k. cond (k == id) (Some r.1) (lookup (λ a. a == id) rows)) is ∙ ap (λ b. cond b (Some r.1) (lookup (λ a. a == id) rows)) (count_itself id)
+found_first id r rows is = ap (λ k. cond (k == id) (Some r.1) (lookup (λ a. a == id) rows)) is
+    ∙ ap (λ b. cond b (Some r.1) (lookup (λ a. a == id) rows)) (count_itself id)
 
 found_later : (id : ℕ) (r : Row) (rows : List Row) → r.0 ≢ id → lookup (λ a. a == id) (r ∷ rows) ≡ lookup (λ a. a == id) rows
 found_later id r rows other = ap (λ b. cond b (Some r.1) (lookup (λ a. a == id) rows)) (not_same r.0 id other)
@@ -37,7 +39,8 @@ find_absent : (rows : List Row) (id : ℕ) → ((j : ℕ) → j < length rows �
 find_absent [] id others = refl
 find_absent (r ∷ rows) id others = found_later id r rows (others zero (omega arith)) ∙ find_absent rows id (λ j l. others (suc j) (omega (arith, l)))
 
-find_present : (rows : List Row) (id i : ℕ) → i < length rows → (row_at rows i).0 ≡ id → ((j : ℕ) → j < i → (row_at rows j).0 ≢ id) → lookup (λ a. a == id) rows ≡ Some (row_at rows i).1
+find_present : (rows : List Row) (id i : ℕ) → i < length rows → (row_at rows i).0 ≡ id
+    → ((j : ℕ) → j < i → (row_at rows j).0 ≢ id) → lookup (λ a. a == id) rows ≡ Some (row_at rows i).1
 find_present [] id i within is others = absurd (omega (arith, within))
 find_present (r ∷ rows) id zero within is others = found_first id r rows is
 find_present (r ∷ rows) id (suc i) within is others =
@@ -55,14 +58,20 @@ module _ (rows : List Row) (ordered : AreInOrder rows) (id : ℕ) where
   searched (Ok at) within equal =
       let is : (row_at rows at).0 ≡ id = ranked _ id _ (sym (equal (0, []))) in
       record {
-        found = record { within = within; found = find_present rows id at within is (λ j l same. let k : (row_at rows j).0 < (row_at rows at).0 = ordered j at l within in absurd (omega (arith, k, same, is))) };
+        found = record {
+          within = within;
+          found = find_present rows id at within is
+              (λ j l same. let k : (row_at rows j).0 < (row_at rows at).0 = ordered j at l within in absurd (omega (arith, k, same, is)));
+        };
         absent = tt;
       }
   searched (Err at) within parted = record {
     found = tt;
     absent = find_absent rows id (λ j l same.
         elim (cases_lt j at) [
-          | inl before ↦ absurd (let k : (row_at rows j).0 < id = ranked _ id _ (sym ((parted comparisons_rise).0 j (0, []) (omega arith) before)) in omega (arith, k, same))
-          | inr behind ↦ absurd (let k : id < (row_at rows j).0 = ranked _ id _ (sym ((parted comparisons_rise).1 j (0, []) behind l)) in omega (arith, k, same))
+          | inl before ↦ absurd (let k : (row_at rows j).0 < id = ranked _ id _ (sym ((parted comparisons_rise).0 j (0, []) (omega arith) before)) in
+              omega (arith, k, same))
+          | inr behind ↦ absurd (let k : id < (row_at rows j).0 = ranked _ id _ (sym ((parted comparisons_rise).1 j (0, []) behind l)) in
+              omega (arith, k, same))
         ]);
   }

@@ -10,11 +10,12 @@ use Rattle.mi_model.specs.Table.{Table, IsTable, has, list_of}
 use Rattle.mi_model.specs.View.{sorted, compare_to_id}
 use Rattle.mi_catalog.specs.Kinds.{is_sorted, shows_one_list}
 use Rattle.mi_model.specs.Lookup as look
-use Rattle.mi_model.specs.Lookup.{rank_in, before_place}
+use Rattle.mi_model.specs.Lookup.{rank_in}
 use Rattle.mi_plain.specs.declared.pass.Cut.{Cut}
 use Rattle.mi_plain.specs.declared.pass.Cut.TheVariants.{Start, End, Lower, Upper, Before, Behind}
 use Rattle.mi_plain.specs.Cut.{order_in, is_before, last_in}
-use Rattle.mi_plain.proofs.CutLemmas.{view_is, listed_shown, listed_sorted, after_is, before_is, rank_is, first_is, last_is, shown_past, shown_count, holds_lower, holds_upper}
+use Rattle.mi_plain.proofs.CutLemmas.{view_is, listed_shown, listed_sorted, after_is, before_is, rank_is}
+use Rattle.mi_plain.proofs.CutLemmas.{first_is, last_is, shown_past, shown_count, holds_lower, holds_upper}
 
 abbrev pub past : Index → Table → ℕ → List Value → Cut → Option ℕ
 past i t x key cut = slice_get (sorted (order_in i t) (filter (λ a. not (is_before i t (list_of t x) key cut a)) (list_of t x))) 0
@@ -28,11 +29,13 @@ count_of i t x key cut = length (filter (λ a. is_before i t (list_of t x) key c
 module _ (s : Shape) (t : Table) (x : ℕ) (is : IsTable s t) (i : Index) (same : i ≡ index_at s x) (key : List Value) where
   pub first_shown : shows_one_list (index_at s x).kind ≡ true → past i t x key Start ≡ look.first s t x
   first_shown shows =
-      ap (λ (j : Index). past j t x key Start) same ∙ first_is (index_at s x) t (list_of t x) (listed_shown s t x is shows) key ∙ ap (λ ids. slice_get ids 0) (sym (view_is s t x))
+      ap (λ (j : Index). past j t x key Start) same ∙ first_is (index_at s x) t (list_of t x) (listed_shown s t x is shows) key
+      ∙ ap (λ ids. slice_get ids 0) (sym (view_is s t x))
 
   pub last_shown : shows_one_list (index_at s x).kind ≡ true → last_of i t x key End ≡ look.last s t x
   last_shown shows =
-      ap (λ (j : Index). last_of j t x key End) same ∙ last_is (index_at s x) t (list_of t x) (listed_shown s t x is shows) key ∙ ap last_in (sym (view_is s t x))
+      ap (λ (j : Index). last_of j t x key End) same
+      ∙ last_is (index_at s x) t (list_of t x) (listed_shown s t x is shows) key ∙ ap last_in (sym (view_is s t x))
 
   module _ (e : ℕ) (there : has t e ≡ true) (at : ℕ) (place : at ≡ rank_in (list_of t x) e) where
     pub after_shown : shows_one_list (index_at s x).kind ≡ true → past i t x key (Behind e at) ≡ look.after s t x e
@@ -68,13 +71,15 @@ module _ (s : Shape) (t : Table) (x : ℕ) (is : IsTable s t) (i : Index) (same 
     pub lower_shown : past i t x key Lower ≡ look.lower s t x key
     lower_shown =
         ap (λ (j : Index). past j t x key Lower) same
-        ∙ shown_past (index_at s x) t (list_of t x) (listed_sorted s t x is sorts) (is_before (index_at s x) t (list_of t x) key Lower) (holds_lower (index_at s x) t (list_of t x) sorts key)
+        ∙ shown_past (index_at s x) t (list_of t x) (listed_sorted s t x is sorts)
+        (is_before (index_at s x) t (list_of t x) key Lower) (holds_lower (index_at s x) t (list_of t x) sorts key)
         ∙ ap (λ n. slice_get (sorted (order_in (index_at s x) t) (list_of t x)) n) (length-filter (λ id. is_gt (compare_to_id (index_at s x) t key id)) _)
         ∙ ap (λ ids. slice_get ids (count_by (λ id. is_gt (compare_to_id (index_at s x) t key id)) ids)) (sym (view_is s t x))
 
     pub upper_shown : past i t x key Upper ≡ look.upper s t x key
     upper_shown =
         ap (λ (j : Index). past j t x key Upper) same
-        ∙ shown_past (index_at s x) t (list_of t x) (listed_sorted s t x is sorts) (is_before (index_at s x) t (list_of t x) key Upper) (holds_upper (index_at s x) t (list_of t x) sorts key)
+        ∙ shown_past (index_at s x) t (list_of t x) (listed_sorted s t x is sorts)
+        (is_before (index_at s x) t (list_of t x) key Upper) (holds_upper (index_at s x) t (list_of t x) sorts key)
         ∙ ap (λ n. slice_get (sorted (order_in (index_at s x) t) (list_of t x)) n) (length-filter (λ id. is_ge (compare_to_id (index_at s x) t key id)) _)
         ∙ ap (λ ids. slice_get ids (count_by (λ id. is_ge (compare_to_id (index_at s x) t key id)) ids)) (sym (view_is s t x))

@@ -1,3 +1,2 @@
-pub mod IdPart
 pub mod Cut
 pub mod Rows

@@ -3,7 +3,7 @@ ghost use Rattle.std.specs.Prelude.{◌≡◌, pos, [], ◌∷◌};
 ghost use Rattle.std.specs.Ordering.{is_eq};
 ghost use Rattle.mi_value.specs.declared.value.Value.TheVariants.{Int};
 ghost use Rattle.mi_value.specs.Order.{compare_value, compare_prefix as compare_prefix_to};
-ghost use Rattle.mi_plain.specs.IdPart.{id_part};
+ghost use Rattle.mi_model.specs.Key.{id_part};
 ghost use Rattle.mi_model.specs.Key as meaning;
 
 use mi_value::{KeyPart, Record, Value, compare_key, compare_prefix};

@@ -35,7 +35,6 @@ fn find_in(ids: &[u64], id: u64) -> Option<usize>
 
 impl PlainTable {
     ghost use Rattle.std.specs.Prelude.{◌≡◌, not, true, Some, if◌then◌else◌, IsTrue, IfSome, length, slice_get};
-    ghost use Rattle.std.specs.declared.option.Option.TheVariants.{None};
     ghost use Rattle.std.specs.List.{filter};
     ghost use Rattle.std.specs.Option.{option_map_or};
     ghost use Rattle.std.specs.Ordering.{is_lt, nat_cmp, ordering_then};
@@ -137,7 +136,9 @@ impl PlainTable {
     pub(crate) fn first_past(&self, index: &Index, x: usize, key: &[Value], cut: Cut) -> Option<u64>
         requires listed { ListsEach self.now (list_of self.now x) }
         requires cut { StandsIn self.now cut }
-        ensures { result ≡ slice_get (sorted (order_in index.now self.now) (filter (λ a. not (stands_before index.now self.now (list_of self.now x) key.now cut a)) (list_of self.now x))) 0 }
+        ensures { result ≡ slice_get (sorted (order_in index.now self.now)
+            (filter (λ a. not (stands_before index.now self.now (list_of self.now x) key.now cut a)) (list_of self.now x)))
+            0 }
     {
         let ids = self.ids(x);
         let mut best = None;
@@ -159,7 +160,8 @@ impl PlainTable {
     ) -> Option<u64>
         requires listed { ListsEach self.now (list_of self.now x) }
         requires cut { StandsIn self.now cut }
-        ensures { result ≡ last_in (sorted (order_in index.now self.now) (filter (λ a. stands_before index.now self.now (list_of self.now x) key.now cut a) (list_of self.now x))) }
+        ensures { result ≡ last_in (sorted (order_in index.now self.now)
+            (filter (λ a. stands_before index.now self.now (list_of self.now x) key.now cut a) (list_of self.now x))) }
     {
         let ids = self.ids(x);
         let mut best = None;

@@ -40,7 +40,8 @@ impl Model for Plain {
 
     ghost view = { λ a. record { catalog = a.catalog; tables = a.tables.items; old = reverse a.old.items; revision = a.revision } };
 
-    ghost invariant = { λ a. IsDatabase (record { catalog = a.catalog; tables = a.tables.items; old = reverse a.old.items; revision = a.revision }) × (length a.tables.items ≡ length a.catalog.tables) × (length a.old.items ≤ a.revision) × (a.revision ≤ LAST_COUNT) };
+    ghost invariant = { λ a. IsDatabase (record { catalog = a.catalog; tables = a.tables.items; old = reverse a.old.items; revision = a.revision })
+        × (length a.tables.items ≡ length a.catalog.tables) × (length a.old.items ≤ a.revision) × (a.revision ≤ LAST_COUNT) };
 }
 
 ghost use Rattle.std.specs.Prelude.{◌≡◌, IfOk, map};

@@ -1,5 +1,6 @@
 -- A command that is bound fits the catalog.
-use Rattle.std.proofs.Common.{◌≡◌, ℕ, ◌<◌, zero, suc, List, [], ◌∷◌, length, map, drop, slice_get, nat_le, nat_lt, Bool, true, false, cond, Option, Some, None, option_map, option_and_then, IfSome, Result, Ok, Err, IfOk, ℤ, refl, sym, ap, subst, ◌∙◌, ◌&&◌, rules}
+use Rattle.std.proofs.Common.{◌≡◌, ℕ, ◌<◌, zero, suc, List, [], ◌∷◌, length, map, drop, slice_get, nat_le, nat_lt, Bool, true, false, cond, Option}
+use Rattle.std.proofs.Common.{Some, None, option_map, option_and_then, IfSome, Result, Ok, Err, IfOk, ℤ, refl, sym, ap, subst, ◌∙◌, ◌&&◌, rules}
 use Rattle.std.specs.List.{list_all, position, position_or_len}
 use Rattle.std.specs.Str.{bytes_eq}
 use Rattle.std.proofs.lemmas.Bool.{ltb-true}
@@ -34,7 +35,8 @@ use Rattle.mi_request.specs.Json.{has_only, option_map₂}
 use Rattle.mi_protocol.specs.Keys.{plain_values, if_key, bound_key, bound_lower, bound_upper}
 use Rattle.mi_catalog.specs.Kinds.{has_keys, is_sequenced, is_sorted, is_ranked, is_hashed}
 use Rattle.mi_protocol.specs.Rows.{short_text, fitting, values_of, bound_row}
-use Rattle.mi_protocol.specs.Binding.{and_then, table_number, of_kind, index_number, bound_place, bound_insert, bound_replace, bound_modify, named_key, bound_ends, bound_range, bound_relocate, bound_command, FitsCatalog}
+use Rattle.mi_protocol.specs.Binding.{and_then, table_number, of_kind, index_number, bound_place, bound_insert, bound_replace}
+use Rattle.mi_protocol.specs.Binding.{bound_modify, named_key, bound_ends, bound_range, bound_relocate, bound_command, FitsCatalog}
 use Rattle.mi_request.specs.declared.request.End.{End}
 use Rattle.mi_request.specs.declared.request.End.TheVariants.{Open, With, Without}
 use Rattle.mi_request.specs.declared.request.Place.{Place}
@@ -67,7 +69,8 @@ value-fits column.Int (Some d) = int-fits (option_and_then as_i64 (as_number d))
 value-fits column.Text (Some d) = text-fits (as_str d)
 value-fits column.Flag (Some d) = flag-fits (as_bool d)
 
-step-fits : (c : Column) (cs : List Column) (o : Option Value) (r : Option (List Value)) → IfSome o (λ v. fits_type c.kind v ≡ true) → IfSome r (λ vs. fits_record cs vs ≡ true)
+step-fits : (c : Column) (cs : List Column) (o : Option Value) (r : Option (List Value))
+    → IfSome o (λ v. fits_type c.kind v ≡ true) → IfSome r (λ vs. fits_record cs vs ≡ true)
     → IfSome (option_map₂ (λ v vs. v ∷ vs) o r) (λ vs. fits_record (c ∷ cs) vs ≡ true)
 step-fits c cs None r h g = tt
 step-fits c cs (Some v) None h g = tt
@@ -77,7 +80,8 @@ values-fit : (cs : List Column) (ms : Members) → IfSome (values_of cs ms) (λ 
 values-fit [] ms = refl
 values-fit (c ∷ cs) ms = step-fits c cs _ _ (value-fits c.kind (get_member c.name ms)) (values-fit cs ms)
 
-if-fits : (b : Bool) (cs : List Column) (r : Option (List Value)) → IfSome r (λ vs. fits_record cs vs ≡ true) → IfSome (cond b r None) (λ vs. fits_record cs vs ≡ true)
+if-fits : (b : Bool) (cs : List Column) (r : Option (List Value))
+    → IfSome r (λ vs. fits_record cs vs ≡ true) → IfSome (cond b r None) (λ vs. fits_record cs vs ≡ true)
 if-fits true cs r h = h
 if-fits false cs r h = tt
 
@@ -111,7 +115,8 @@ put-fits : (cs : List Column) (x : ℕ) (c : Column) (o : Option Value) → slic
 put-fits cs x c None at h = tt
 put-fits cs x c (Some v) at h = ap (λ o. option_map_or (λ c. fits_type c.kind v) o false) at ∙ h
 
-addition-fits : (cs : List Column) (x : ℕ) (c : Column) (k : ColumnType) (d : Data) → slice_get cs x ≡ Some c → c.kind ≡ k → IfSome (option_map Some (addition x k d)) (λ e. IfSome e (λ e. fits_edit cs e ≡ true))
+addition-fits : (cs : List Column) (x : ℕ) (c : Column) (k : ColumnType) (d : Data) → slice_get cs x ≡ Some c
+    → c.kind ≡ k → IfSome (option_map Some (addition x k d)) (λ e. IfSome e (λ e. fits_edit cs e ≡ true))
 addition-fits cs x c column.Int d at is = by_number (option_and_then as_i64 (as_number d))
   where
     by_number : (z : Option ℤ) → IfSome (option_map Some (option_map (edit.Add x) z)) (λ e. IfSome e (λ e. fits_edit cs e ≡ true))
@@ -120,13 +125,15 @@ addition-fits cs x c column.Int d at is = by_number (option_and_then as_i64 (as_
 addition-fits cs x c column.Text d at is = tt
 addition-fits cs x c column.Flag d at is = tt
 
-edit-fits : (cs : List Column) (x : ℕ) (c : Column) (set add : Option Data) → slice_get cs x ≡ Some c → IfSome (edit_of x c.kind set add) (λ e. IfSome e (λ e. fits_edit cs e ≡ true))
+edit-fits : (cs : List Column) (x : ℕ) (c : Column) (set add : Option Data) → slice_get cs x ≡ Some c
+    → IfSome (edit_of x c.kind set add) (λ e. IfSome e (λ e. fits_edit cs e ≡ true))
 edit-fits cs x c None None at = tt
 edit-fits cs x c (Some d) None at = put-fits cs x c (fitting c.kind d) at (value-fits c.kind (Some d))
 edit-fits cs x c None (Some d) at = addition-fits cs x c c.kind d at refl
 edit-fits cs x c (Some d) (Some e) at = tt
 
-one-more : (cs : List Column) (o : Option (Option Edit)) (r : Option (List Edit)) → IfSome o (λ e. IfSome e (λ e. fits_edit cs e ≡ true)) → IfSome r (λ es. list_all (fits_edit cs) es ≡ true)
+one-more : (cs : List Column) (o : Option (Option Edit)) (r : Option (List Edit))
+    → IfSome o (λ e. IfSome e (λ e. fits_edit cs e ≡ true)) → IfSome r (λ es. list_all (fits_edit cs) es ≡ true)
     → IfSome (option_map₂ with_edit o r) (λ es. list_all (fits_edit cs) es ≡ true)
 one-more cs None r h g = tt
 one-more cs (Some e) None h g = tt
@@ -134,10 +141,12 @@ one-more cs (Some None) (Some es) h g = g
 one-more cs (Some (Some e)) (Some es) h g = ap (λ b. b && list_all (fits_edit cs) es) h ∙ g
 
 -- the columns from x on are those of all
-from-fit : (cs : List Column) (x : ℕ) (more : List Column) (set add : Members) → drop x cs ≡ more → IfSome (edits_from x more set add) (λ es. list_all (fits_edit cs) es ≡ true)
+from-fit : (cs : List Column) (x : ℕ) (more : List Column) (set add : Members) → drop x cs ≡ more
+    → IfSome (edits_from x more set add) (λ es. list_all (fits_edit cs) es ≡ true)
 from-fit cs x [] set add is = refl
 from-fit cs x (c ∷ more) set add is =
-    one-more cs _ _ (edit-fits cs x c (get_member c.name set) (get_member c.name add) (at-front cs x ∙ ap first is)) (from-fit cs (suc x) more set add (drop-more cs x ∙ ap others is))
+    one-more cs _ _ (edit-fits cs x c (get_member c.name set) (get_member c.name add) (at-front cs x ∙ ap first is))
+    (from-fit cs (suc x) more set add (drop-more cs x ∙ ap others is))
 
 -- each is of a column of its type, and no column is named twice
 abbrev AreEdits : List Column → List Edit → Type 0
@@ -160,7 +169,8 @@ edits-fit cs set add = both-fit cs (bound_edits cs set add) (each-fits cs set ad
 -- ---- one after another
 
 -- what holds of a value, and then of what follows
-then : {A B : Type 0} (P : A → Type 0) (Q : B → Type 0) (f : A → Result B Refusal) (r : Result A Refusal) → IfOk r P → ((a : A) → P a → IfOk (f a) Q) → IfOk (and_then f r) Q
+then : {A B : Type 0} (P : A → Type 0) (Q : B → Type 0) (f : A → Result B Refusal) (r : Result A Refusal)
+    → IfOk r P → ((a : A) → P a → IfOk (f a) Q) → IfOk (and_then f r) Q
 then P Q f (Ok a) h more = more a h
 then P Q f (Err e) h more = tt
 
@@ -206,7 +216,8 @@ IsPlaceOf s at = IfSome at (λ p. (index_at s p.0).kind ≡ Sequenced)
 
 place-fits : (s : Shape) (p : Option Place) → IfOk (bound_place s p) (IsPlaceOf s)
 place-fits s None = tt
-place-fits s (Some p) = then (IsIndexOf is_sequenced s) (IsPlaceOf s) _ (index_number is_sequenced s p.index) (index-fits is_sequenced s p.index) (λ x h. sequenced (index_at s x).kind h.1)
+place-fits s (Some p) = then (IsIndexOf is_sequenced s) (IsPlaceOf s) _ (index_number is_sequenced s p.index)
+    (index-fits is_sequenced s p.index) (λ x h. sequenced (index_at s x).kind h.1)
 
 -- ---- a key
 
@@ -215,7 +226,8 @@ if-key-fits : (s : Shape) (x : ℕ) (whole b : Bool) (vs : List Value) → fits_
 if-key-fits s x whole true vs e = e
 if-key-fits s x whole false vs e = tt
 
-values-key-fits : (s : Shape) (x : ℕ) (whole : Bool) (o : Option (List Value)) → IfSome (option_and_then (if_key s x whole) o) (λ key. fits_key s.columns (index_at s x).parts whole key ≡ true)
+values-key-fits : (s : Shape) (x : ℕ) (whole : Bool) (o : Option (List Value))
+    → IfSome (option_and_then (if_key s x whole) o) (λ key. fits_key s.columns (index_at s x).parts whole key ≡ true)
 values-key-fits s x whole None = tt
 values-key-fits s x whole (Some vs) = if-key-fits s x whole _ vs refl
 
@@ -233,7 +245,8 @@ AreEditsOf s edits = AreEdits s.columns edits
 abbrev IsKeyOf : Shape → ℕ → Bool → List Value → Type 0
 IsKeyOf s x whole key = fits_key s.columns (index_at s x).parts whole key ≡ true
 
-insert-fits : (c : CatalogShape) (n : ℕ) (row : Members) (before : Option Place) → n < length c.tables → IfOk (bound_insert (schema_at c n) n row before) (FitsCatalog c)
+insert-fits : (c : CatalogShape) (n : ℕ) (row : Members) (before : Option Place)
+    → n < length c.tables → IfOk (bound_insert (schema_at c n) n row before) (FitsCatalog c)
 insert-fits c n row before there =
     then (IsPlaceOf (schema_at c n)) (FitsCatalog c) _ (bound_place (schema_at c n) before) (place-fits (schema_at c n) before)
     (λ at place. then (IsRowOf (schema_at c n)) (FitsCatalog c) _ (ok_or (bound_row (schema_at c n).columns row) Row)
@@ -244,31 +257,39 @@ replace-fits c n id row there =
     then (IsRowOf (schema_at c n)) (FitsCatalog c) _ (ok_or (bound_row (schema_at c n).columns row) Row)
     (some (IsRowOf (schema_at c n)) Row (bound_row (schema_at c n).columns row) (row-fits (schema_at c n).columns row)) (λ values fits. (there, fits))
 
-modify-fits : (c : CatalogShape) (n id : ℕ) (set add : Members) (rollback : Bool) → n < length c.tables → IfOk (bound_modify (schema_at c n) n id set add rollback) (FitsCatalog c)
+modify-fits : (c : CatalogShape) (n id : ℕ) (set add : Members) (rollback : Bool)
+    → n < length c.tables → IfOk (bound_modify (schema_at c n) n id set add rollback) (FitsCatalog c)
 modify-fits c n id set add rollback there =
     then (AreEditsOf (schema_at c n)) (FitsCatalog c) _ (ok_or (bound_edits (schema_at c n).columns set add) Row)
-    (some (AreEditsOf (schema_at c n)) Row (bound_edits (schema_at c n).columns set add) (edits-fit (schema_at c n).columns set add)) (λ edits fits. (there, fits))
+    (some (AreEditsOf (schema_at c n)) Row (bound_edits (schema_at c n).columns set add) (edits-fit (schema_at c n).columns set add))
+    (λ edits fits. (there, fits))
 
 -- an index of one of these kinds, and a key of it
 abbrev IsNamedKeyOf : (IndexKind → Bool) → (IndexKind → Bool) → Shape → ℕ × List Value → Type 0
 IsNamedKeyOf kinds whole s k = IsIndexOf kinds s k.0 × IsKeyOf s k.0 (whole (index_at s k.0).kind) k.1
 
-named_key-fits : (kinds whole : IndexKind → Bool) (s : Shape) (index : List ℕ) (key : Items) → IfOk (named_key kinds whole s index key) (IsNamedKeyOf kinds whole s)
+named_key-fits : (kinds whole : IndexKind → Bool) (s : Shape) (index : List ℕ) (key : Items)
+    → IfOk (named_key kinds whole s index key) (IsNamedKeyOf kinds whole s)
 named_key-fits kinds whole s index key =
     then (IsIndexOf kinds s) (IsNamedKeyOf kinds whole s) _ (index_number kinds s index) (index-fits kinds s index)
     (λ x at. then (IsKeyOf s x (whole (index_at s x).kind)) (IsNamedKeyOf kinds whole s) _ (ok_or (bound_key s x (whole (index_at s x).kind) key) Key)
-    (some (IsKeyOf s x (whole (index_at s x).kind)) Key (bound_key s x (whole (index_at s x).kind) key) (key-fits s x (whole (index_at s x).kind) key)) (λ values fits. (at, fits)))
+    (some (IsKeyOf s x (whole (index_at s x).kind)) Key (bound_key s x (whole (index_at s x).kind) key) (key-fits s x (whole (index_at s x).kind) key))
+    (λ values fits. (at, fits)))
 
 -- what is made of a named key
 by_key : (c : CatalogShape) (n : ℕ) (kinds whole : IndexKind → Bool) (index : List ℕ) (key : Items) (f : ℕ × List Value → Result Command Refusal)
-    → ((k : ℕ × List Value) → IsNamedKeyOf kinds whole (schema_at c n) k → IfOk (f k) (FitsCatalog c)) → IfOk (and_then f (named_key kinds whole (schema_at c n) index key)) (FitsCatalog c)
+    → ((k : ℕ × List Value) → IsNamedKeyOf kinds whole (schema_at c n) k → IfOk (f k) (FitsCatalog c))
+    → IfOk (and_then f (named_key kinds whole (schema_at c n) index key)) (FitsCatalog c)
 by_key c n kinds whole index key f more =
-    then (IsNamedKeyOf kinds whole (schema_at c n)) (FitsCatalog c) f (named_key kinds whole (schema_at c n) index key) (named_key-fits kinds whole (schema_at c n) index key) more
+    then (IsNamedKeyOf kinds whole (schema_at c n)) (FitsCatalog c) f
+    (named_key kinds whole (schema_at c n) index key) (named_key-fits kinds whole (schema_at c n) index key) more
 
 -- what is made of a named index
-by_index : (c : CatalogShape) (n : ℕ) (kinds : IndexKind → Bool) (index : List ℕ) (f : ℕ → Result Command Refusal) → ((x : ℕ) → IsIndexOf kinds (schema_at c n) x → IfOk (f x) (FitsCatalog c))
+by_index : (c : CatalogShape) (n : ℕ) (kinds : IndexKind → Bool) (index : List ℕ) (f : ℕ → Result Command Refusal)
+    → ((x : ℕ) → IsIndexOf kinds (schema_at c n) x → IfOk (f x) (FitsCatalog c))
     → IfOk (and_then f (index_number kinds (schema_at c n) index)) (FitsCatalog c)
-by_index c n kinds index f more = then (IsIndexOf kinds (schema_at c n)) (FitsCatalog c) f (index_number kinds (schema_at c n) index) (index-fits kinds (schema_at c n) index) more
+by_index c n kinds index f more = then (IsIndexOf kinds (schema_at c n)) (FitsCatalog c) f
+    (index_number kinds (schema_at c n) index) (index-fits kinds (schema_at c n) index) more
 
 -- bounds of a range in index x
 abbrev IsLowerOf : Shape → ℕ → Lower → Type 0
@@ -309,17 +330,22 @@ AreBoundsOf s x e = IsLowerOf s x e.0 × IsUpperOf s x e.1
 ends-fit : (s : Shape) (x : ℕ) (lower upper : End) → IfOk (bound_ends s x lower upper) (AreBoundsOf s x)
 ends-fit s x lower upper =
     then (IsLowerOf s x) (AreBoundsOf s x) _ (ok_or (bound_lower s x lower) Key) (some (IsLowerOf s x) Key (bound_lower s x lower) (lower-fits s x lower))
-    (λ l below. then (IsUpperOf s x) (AreBoundsOf s x) _ (ok_or (bound_upper s x upper) Key) (some (IsUpperOf s x) Key (bound_upper s x upper) (upper-fits s x upper)) (λ u above. (below, above)))
+    (λ l below. then (IsUpperOf s x) (AreBoundsOf s x) _ (ok_or (bound_upper s x upper) Key)
+    (some (IsUpperOf s x) Key (bound_upper s x upper) (upper-fits s x upper)) (λ u above. (below, above)))
 
-range-fits : (c : CatalogShape) (n : ℕ) (index : List ℕ) (lower upper : End) (reverse : Bool) (limit : ℕ) → n < length c.tables → IfOk (bound_range (schema_at c n) n index lower upper reverse limit) (FitsCatalog c)
+range-fits : (c : CatalogShape) (n : ℕ) (index : List ℕ) (lower upper : End) (reverse : Bool) (limit : ℕ)
+    → n < length c.tables → IfOk (bound_range (schema_at c n) n index lower upper reverse limit) (FitsCatalog c)
 range-fits c n index lower upper reverse limit there =
     by_index c n is_sorted index _
-    (λ x at. then (AreBoundsOf (schema_at c n) x) (FitsCatalog c) _ (bound_ends (schema_at c n) x lower upper) (ends-fit (schema_at c n) x lower upper) (λ e fit. (there, at.1, fit.0, fit.1)))
+    (λ x at. then (AreBoundsOf (schema_at c n) x) (FitsCatalog c) _ (bound_ends (schema_at c n) x lower upper)
+    (ends-fit (schema_at c n) x lower upper) (λ e fit. (there, at.1, fit.0, fit.1)))
 
-relocate-fits : (c : CatalogShape) (n : ℕ) (index : List ℕ) (id : ℕ) (before : Option ℕ) → n < length c.tables → IfOk (bound_relocate (schema_at c n) n index id before) (FitsCatalog c)
+relocate-fits : (c : CatalogShape) (n : ℕ) (index : List ℕ) (id : ℕ) (before : Option ℕ)
+    → n < length c.tables → IfOk (bound_relocate (schema_at c n) n index id before) (FitsCatalog c)
 relocate-fits c n index id before there = by_index c n is_sequenced index _ (λ x at. (there, sequenced (index_at (schema_at c n) x).kind at.1))
 
-over-table : (c : CatalogShape) (name : Option (List ℕ)) (f : ℕ → Result Command Refusal) → is_catalog c ≡ true → ((n : ℕ) → n < length c.tables → IfOk (f n) (FitsCatalog c)) → IfOk (and_then f (table_number c name)) (FitsCatalog c)
+over-table : (c : CatalogShape) (name : Option (List ℕ)) (f : ℕ → Result Command Refusal) → is_catalog c ≡ true
+    → ((n : ℕ) → n < length c.tables → IfOk (f n) (FitsCatalog c)) → IfOk (and_then f (table_number c name)) (FitsCatalog c)
 over-table c name f h more = then (IsTableOf c) (FitsCatalog c) f (table_number c name) (table-there c name h) more
 
 bound-fits : (c : CatalogShape) (r : Request) → is_catalog c ≡ true → IfOk (bound_command c r) (FitsCatalog c)
@@ -327,7 +353,8 @@ bound-fits c (request.Insert table row before) h = over-table c table _ h (λ n 
 bound-fits c (request.Replace table id row) h = over-table c table _ h (λ n there. replace-fits c n id row there)
 bound-fits c (request.Modify table id set add rollback) h = over-table c table _ h (λ n there. modify-fits c n id set add rollback there)
 bound-fits c (request.Erase table id) h = over-table c table _ h (λ n there. there)
-bound-fits c (request.EraseKey table index key) h = over-table c table _ h (λ n there. by_key c n has_keys (λ kind. true) index key _ (λ k fits. (there, fits.0, fits.1)))
+bound-fits c (request.EraseKey table index key) h = over-table c table _ h
+    (λ n there. by_key c n has_keys (λ kind. true) index key _ (λ k fits. (there, fits.0, fits.1)))
 bound-fits c (request.Relocate table index id before) h = over-table c table _ h (λ n there. relocate-fits c n index id before there)
 bound-fits c request.Start h = tt
 bound-fits c request.Undo h = tt
@@ -338,19 +365,27 @@ bound-fits c request.Push h = tt
 bound-fits c (request.Reserve changes sessions) h = tt
 bound-fits c request.Revision h = tt
 bound-fits c (request.Get table id) h = over-table c table _ h (λ n there. there)
-bound-fits c (request.Find table index key) h = over-table c table _ h (λ n there. by_key c n has_keys is_hashed index key _ (λ k fits. (there, fits.0, fits.1)))
-bound-fits c (request.Nth table index n) h = over-table c table _ h (λ t there. by_index c t is_ranked index _ (λ x at. (there, ranked (index_at (schema_at c t) x).kind at.1)))
-bound-fits c (request.Count table index key) h = over-table c table _ h (λ n there. by_key c n has_keys is_hashed index key _ (λ k fits. (there, fits.0, fits.1)))
+bound-fits c (request.Find table index key) h = over-table c table _ h
+    (λ n there. by_key c n has_keys is_hashed index key _ (λ k fits. (there, fits.0, fits.1)))
+bound-fits c (request.Nth table index n) h = over-table c table _ h
+    (λ t there. by_index c t is_ranked index _ (λ x at. (there, ranked (index_at (schema_at c t) x).kind at.1)))
+bound-fits c (request.Count table index key) h = over-table c table _ h
+    (λ n there. by_key c n has_keys is_hashed index key _ (λ k fits. (there, fits.0, fits.1)))
 bound-fits c (request.Range table index lower upper reverse limit) h = over-table c table _ h (λ n there. range-fits c n index lower upper reverse limit there)
-bound-fits c (request.List table index after limit) h = over-table c table _ h (λ n there. by_index c n is_sequenced index _ (λ x at. (there, sequenced (index_at (schema_at c n) x).kind at.1)))
-bound-fits c (request.Rank table index id) h = over-table c table _ h (λ n there. by_index c n is_ranked index _ (λ x at. (there, ranked (index_at (schema_at c n) x).kind at.1)))
+bound-fits c (request.List table index after limit) h = over-table c table _ h
+    (λ n there. by_index c n is_sequenced index _ (λ x at. (there, sequenced (index_at (schema_at c n) x).kind at.1)))
+bound-fits c (request.Rank table index id) h = over-table c table _ h
+    (λ n there. by_index c n is_ranked index _ (λ x at. (there, ranked (index_at (schema_at c n) x).kind at.1)))
 bound-fits c (request.LowerRank table index key) h =
-    over-table c table _ h (λ n there. by_key c n is_ranked (λ kind. false) index key _ (λ k fits. (there, ranked (index_at (schema_at c n) k.0).kind fits.0.1, fits.1)))
+    over-table c table _ h (λ n there. by_key c n is_ranked (λ kind. false) index key
+    _ (λ k fits. (there, ranked (index_at (schema_at c n) k.0).kind fits.0.1, fits.1)))
 bound-fits c (request.UpperRank table index key) h =
-    over-table c table _ h (λ n there. by_key c n is_ranked (λ kind. false) index key _ (λ k fits. (there, ranked (index_at (schema_at c n) k.0).kind fits.0.1, fits.1)))
+    over-table c table _ h (λ n there. by_key c n is_ranked (λ kind. false) index key
+    _ (λ k fits. (there, ranked (index_at (schema_at c n) k.0).kind fits.0.1, fits.1)))
 bound-fits c (request.Size table) h = over-table c table _ h (λ n there. there)
 
 -- the answer of the code
-pub answer-fits : (c : CatalogShape) (request : Request) (r : Result Command Refusal) → is_catalog c ≡ true → IsAnswer r (bound_command c request) → IfOk r (FitsCatalog c)
+pub answer-fits : (c : CatalogShape) (request : Request) (r : Result Command Refusal)
+    → is_catalog c ≡ true → IsAnswer r (bound_command c request) → IfOk r (FitsCatalog c)
 answer-fits c request (Ok command) h is = subst (λ d. IfOk d (FitsCatalog c)) is (bound-fits c request h)
 answer-fits c request (Err e) h is = tt

@@ -25,7 +25,8 @@ edits_from-emptied n x [] set add h = refl
 edits_from-emptied n x (c ∷ cs) set add h =
     let p = not_or (bytes_eq n c.name) _ h in
     let other = bytes_eq-sym n c.name p.0 in
-    λ i. option_map₂ with_edit (edit_of x c.kind (get_member-emptied c.name n set other i) (get_member-emptied c.name n add other i)) (edits_from-emptied n (suc x) cs set add p.1 i)
+    λ i. option_map₂ with_edit (edit_of x c.kind (get_member-emptied c.name n set other i) (get_member-emptied c.name n add other i))
+    (edits_from-emptied n (suc x) cs set add p.1 i)
 
 -- of columns with names of their own
 pub moved_all : (x : ℕ) (cs : List Column) (set add : Members) → are_distinct (map (λ c. c.name) cs) ≡ true → moved x cs set add ≡ edits_from x cs set add

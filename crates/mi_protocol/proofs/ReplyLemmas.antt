@@ -1,5 +1,6 @@
 -- The text of each reply is the compact text of its object.
-use Rattle.std.proofs.Common.{◌≡◌, ◌≢◌, ℕ, zero, suc, ◌<◌, ◌≤◌, List, [], ◌∷◌, ◌++◌, length, slice_index_or, nat_le, ◌==◌, Bool, true, false, not, ◌&&◌, ◌||◌, ◌⊎◌, inl, inr, refl, sym, ap, ◌∙◌, arith, append_assoc, codes, decimal, true≢false, rules}
+use Rattle.std.proofs.Common.{◌≡◌, ◌≢◌, ℕ, zero, suc, ◌<◌, ◌≤◌, List, [], ◌∷◌, ◌++◌, length, slice_index_or, nat_le, ◌==◌, Bool, true, false}
+use Rattle.std.proofs.Common.{not, ◌&&◌, ◌||◌, ◌⊎◌, inl, inr, refl, sym, ap, ◌∙◌, arith, append_assoc, codes, decimal, true≢false, rules}
 use Rattle.std.specs.List.{list_all}
 use Rattle.std.specs.Str.{bytes_eq}
 use Rattle.std.proofs.lemmas.Bool.{leb-true, eqb-true}
@@ -13,7 +14,8 @@ use Rattle.mi_value.specs.declared.limits.TheConstants.{MAX_NAME}
 use Rattle.mi_catalog.specs.Shape.{Shape, CatalogShape, schema_at}
 use Rattle.mi_catalog.specs.Rules.{starts_name, continues_name, is_name, is_declared_index, is_schema, is_catalog, are_columns, are_indexes, are_numbers}
 use Rattle.mi_catalog.specs.declared.index.Index.{Index}
-use Rattle.mi_protocol.specs.Replies.{Said, inserted, done, erased, shown, revised, committed, undone, pushed, status, counted, ranked, sized, rows, refused_modify, refused, index_name, refusal_text, modify_refusal_text, reply_text, IsRefusalOf, IsSaidOf}
+use Rattle.mi_protocol.specs.Replies.{Said, inserted, done, erased, shown, revised, committed, undone, pushed, status, counted, ranked, sized, rows}
+use Rattle.mi_protocol.specs.Replies.{refused_modify, refused, index_name, refusal_text, modify_refusal_text, reply_text, IsRefusalOf, IsSaidOf}
 use Rattle.mi_protocol.specs.ReplyJson.{refusal_data, modify_refusal_data, reply_data}
 
 -- ---- tests
@@ -82,10 +84,12 @@ plain_name (b ∷ bs) h =
 of_name : (name : List ℕ) → is_name name ≡ true → list_all continues_name name ≡ true
 of_name [] h = absurd (true≢false (sym h))
 of_name (b ∷ bs) h =
-    let p = and_true (starts_name b) (list_all continues_name bs) (and_true (starts_name b && list_all continues_name bs) (nat_le (length (b ∷ bs)) MAX_NAME) h).0 in
+    let p = and_true (starts_name b) (list_all continues_name bs)
+    (and_true (starts_name b && list_all continues_name bs) (nat_le (length (b ∷ bs)) MAX_NAME) h).0 in
     ap (λ t. (t || (nat_le 48 b && nat_le b 57)) && list_all continues_name bs) p.0 ∙ p.1
 
-index_plain : (n : ℕ) (is : List Index) (x : ℕ) (d : Index) → are_indexes n is ≡ true → x < length is → list_all continues_name (slice_index_or is x d).name ≡ true
+index_plain : (n : ℕ) (is : List Index) (x : ℕ) (d : Index) → are_indexes n is ≡ true
+    → x < length is → list_all continues_name (slice_index_or is x d).name ≡ true
 index_plain n [] x d h lt = absurd (omega arith)
 index_plain n (i ∷ is) zero d h lt =
     let id : bytes_eq i.name (codes "id") ≡ true = search rules in
@@ -101,7 +105,8 @@ schema_indexes s h =
     let named = is_name s.table_name && are_columns s.columns in
     (and_true named (are_indexes (length s.columns) s.indexes) (and_true (named && are_indexes (length s.columns) s.indexes) (are_numbers s) h).0).1
 
-name_plain : (c : CatalogShape) (n x : ℕ) → is_catalog c ≡ true → n < length c.tables → x < length (schema_at c n).indexes → escape (index_name c n x) ≡ index_name c n x
+name_plain : (c : CatalogShape) (n x : ℕ) → is_catalog c ≡ true → n < length c.tables
+    → x < length (schema_at c n).indexes → escape (index_name c n x) ≡ index_name c n x
 name_plain c n x h there within =
     let schemas : list_all is_schema c.tables ≡ true = search rules in
     let schema : is_schema (schema_at c n) ≡ true = all_at is_schema c.tables n _ schemas there in
@@ -121,15 +126,19 @@ conflict_is id name more plain =
 refusal_is : (c : CatalogShape) (n : ℕ) (e : Refusal) → is_catalog c ≡ true → IsRefusalOf c n e → refusal_text c n e ≡ compact_text (refusal_data c n e)
 unfolding escape_byte
 refusal_is c n (Unique x id) h said =
-    ap (λ t. codes "{\"error\":\"unique\",\"id\":" ++ t) (conflict_is (decimal id) (index_name c n x) (codes ",\"ok\":false}") (name_plain c n x h said.0 said.1))
+    ap (λ t. codes "{\"error\":\"unique\",\"id\":" ++ t)
+    (conflict_is (decimal id) (index_name c n x) (codes ",\"ok\":false}") (name_plain c n x h said.0 said.1))
 refusal_is c n (Lost x id) h said =
-    ap (λ t. codes "{\"error\":\"unique\",\"id\":" ++ t) (conflict_is (decimal id) (index_name c n x) (codes ",\"lost\":true,\"ok\":false}") (name_plain c n x h said.0 said.1))
+    ap (λ t. codes "{\"error\":\"unique\",\"id\":" ++ t)
+    (conflict_is (decimal id) (index_name c n x) (codes ",\"lost\":true,\"ok\":false}") (name_plain c n x h said.0 said.1))
 refusal_is c n e h said = refl
 
-modify_refusal_is : (c : CatalogShape) (n : ℕ) (e : Refusal) → is_catalog c ≡ true → IsRefusalOf c n e → modify_refusal_text c n e ≡ compact_text (modify_refusal_data c n e)
+modify_refusal_is : (c : CatalogShape) (n : ℕ) (e : Refusal) → is_catalog c ≡ true
+    → IsRefusalOf c n e → modify_refusal_text c n e ≡ compact_text (modify_refusal_data c n e)
 unfolding escape_byte
 modify_refusal_is c n (Unique x id) h said =
-    ap (λ t. codes "{\"error\":\"unique\",\"id\":" ++ t) (conflict_is (decimal id) (index_name c n x) (codes ",\"lost\":false,\"ok\":false}") (name_plain c n x h said.0 said.1))
+    ap (λ t. codes "{\"error\":\"unique\",\"id\":" ++ t)
+    (conflict_is (decimal id) (index_name c n x) (codes ",\"lost\":false,\"ok\":false}") (name_plain c n x h said.0 said.1))
 modify_refusal_is c n e h said = refusal_is c n e h said
 
 three_numbers : (a h b o r e : List ℕ) → ((((a ++ h) ++ b) ++ o) ++ r) ++ e ≡ a ++ (h ++ (b ++ (o ++ (r ++ e))))
@@ -145,7 +154,8 @@ reply_is c (revised n) h said = refl
 reply_is c (committed n) h said = refl
 reply_is c (undone n) h said = refl
 reply_is c (pushed n) h said = refl
-reply_is c (status depth held revision) h said = ap (λ t. codes "{\"depth\":" ++ t) (three_numbers (decimal depth) (codes ",\"held\":") (decimal held) (codes ",\"ok\":true,\"revision\":") (decimal revision) (codes "}"))
+reply_is c (status depth held revision) h said = ap (λ t. codes "{\"depth\":" ++ t)
+    (three_numbers (decimal depth) (codes ",\"held\":") (decimal held) (codes ",\"ok\":true,\"revision\":") (decimal revision) (codes "}"))
 reply_is c (counted n) h said = refl
 reply_is c (ranked n) h said = refl
 reply_is c (sized n) h said = refl

@@ -35,15 +35,18 @@ bytes_eq-sym a b h = by_test (bytes_eq b a) refl
     by_test false is = refl
 
 -- other columns' values stay where a member is moved out
-values_of-emptied : (n : List ℕ) (cs : List Column) (ms : Members) → not (list_any (λ m. bytes_eq n m) (map (λ c. c.name) cs)) ≡ true → values_of cs (emptied n ms) ≡ values_of cs ms
+values_of-emptied : (n : List ℕ) (cs : List Column) (ms : Members)
+    → not (list_any (λ m. bytes_eq n m) (map (λ c. c.name) cs)) ≡ true → values_of cs (emptied n ms) ≡ values_of cs ms
 values_of-emptied n [] ms h = refl
 values_of-emptied n (c ∷ cs) ms h =
     let p = not_or (bytes_eq n c.name) _ h in
-    λ i. option_map₂ (λ v vs. v ∷ vs) (option_and_then (fitting c.kind) (get_member-emptied c.name n ms (bytes_eq-sym n c.name p.0) i)) (values_of-emptied n cs ms p.1 i)
+    λ i. option_map₂ (λ v vs. v ∷ vs) (option_and_then (fitting c.kind) (get_member-emptied c.name n ms (bytes_eq-sym n c.name p.0) i))
+    (values_of-emptied n cs ms p.1 i)
 
 -- of columns with names of their own
 pub moved_all : (cs : List Column) (ms : Members) → are_distinct (map (λ c. c.name) cs) ≡ true → moved cs ms ≡ values_of cs ms
 moved_all [] ms h = refl
 moved_all (c ∷ cs) ms h =
     let p = and_true _ _ h in
-    ap (option_map₂ (λ v vs. v ∷ vs) (option_and_then (fitting c.kind) (get_member c.name ms))) (moved_all cs (emptied c.name ms) p.1 ∙ values_of-emptied c.name cs ms p.0)
+    ap (option_map₂ (λ v vs. v ∷ vs) (option_and_then (fitting c.kind) (get_member c.name ms)))
+    (moved_all cs (emptied c.name ms) p.1 ∙ values_of-emptied c.name cs ms p.0)

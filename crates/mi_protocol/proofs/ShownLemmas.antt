@@ -1,36 +1,55 @@
 -- Rows that are lent to the writer.
-use Rattle.std.proofs.Common.{◌≡◌, ℕ, List, [], ◌∷◌, ◌++◌, length, take, map, Bor}
-use Rattle.std.proofs.Common.{Ordering, Less, Equal, Greater, nat_cmp, refl, sym, ap, ◌∙◌, append_assoc, append-nil}
+use Rattle.std.proofs.Common.{◌≡◌, ◌+◌, ◌<◌, ℕ, Bool, true, false, codes, List, [], ◌∷◌, ◌++◌, length, take, drop, get_or, slice_set, slice_index_or}
+use Rattle.std.proofs.Common.{Ordering, Less, Equal, Greater, nat_cmp, refl, sym, ap, ap₂, ◌∙◌}
+use Rattle.std.proofs.lemmas.List.{take-append-drop, take-set, drop-set, drop_more, get_or_default}
 use Rattle.std.specs.Ordering.{match_ordering}
 use Rattle.std.specs.Cmp.Lexicographic.{slice_cmp}
-use Rattle.std.specs.BTreeMap.{insert_entry}
-use Rattle.std.specs.Map.Iter.{deref_pair}
-use Rattle.json.specs.Token.{Token, key, begin_object, end_object}
-use Rattle.json.specs.Print.{print}
-use Rattle.json.specs.Tree.{json_tokens, members_tokens}
-use Rattle.serde_json.specs.Data.{Data, Members, object, put}
-use Rattle.serde_json.specs.Written.{outline, members_outline, compact_text}
+use Rattle.json.specs.Token.{Token}
+use Rattle.json.specs.Print.{print, escape_byte}
+use Rattle.json.specs.Tree.{json_tokens}
+use Rattle.serde_json.specs.Data.{Data, boolean, object, Members, no_members, member, put}
+use Rattle.serde_json.specs.Written.{outline, compact_text}
 use Rattle.serde_json.proofs.Texts.{print-outline}
 use Rattle.mi_value.specs.declared.value.Value.{Value}
 use Rattle.mi_catalog.specs.declared.index.Column.{Column}
 use Rattle.mi_protocol.specs.Rows.{value_data, with_values}
-use Rattle.mi_protocol.specs.Shown.{source_data, shown_members}
-use Rattle.mi_protocol.specs.declared.shown.Source.{Source}
+use Rattle.mi_protocol.specs.Shown.{source_data, shown_members, with_member, rows_front}
+use Rattle.mi_protocol.specs.declared.shown.Member.{Member}
 
-abbrev Entry : Type 0
-Entry = Bor (List ℕ) × Source
-
-by_order : (id : ℕ) (vs : List Value) (o : Ordering) (a b c : List Entry)
+by_order : (id : ℕ) (vs : List Value) (o : Ordering) (a b c : List Member)
     → shown_members id vs (match_ordering o a b c) ≡ match_ordering o (shown_members id vs a) (shown_members id vs b) (shown_members id vs c)
 by_order id vs Less a b c = refl
 by_order id vs Equal a b c = refl
 by_order id vs Greater a b c = refl
 
--- an entry that is inserted is a member that is put
-pub shown_members_insert : (id : ℕ) (vs : List Value) (es : List Entry) (k : Bor (List ℕ)) (s : Source)
-    → shown_members id vs (insert_entry (λ a b. slice_cmp nat_cmp a.now b.now) es k s) ≡ put k.now (source_data id vs s) (shown_members id vs es)
-shown_members_insert id vs [] k s = refl
-shown_members_insert id vs (e ∷ es) k s = by_order id vs (slice_cmp nat_cmp k.now e.0.now) _ _ _ ∙ rw (shown_members_insert id vs es k s)
+-- a member that is added is put
+pub shown_members-with_member : (id : ℕ) (vs : List Value) (m : Member) (ns : List Member)
+    → shown_members id vs (with_member m ns) ≡ put m.name.now (source_data id vs m.source) (shown_members id vs ns)
+shown_members-with_member id vs m [] = refl
+shown_members-with_member id vs m (n ∷ ns) =
+    let taken : Member = record n { source = m.source } in
+    by_order id vs (slice_cmp nat_cmp m.name.now n.name.now) (m ∷ n ∷ ns) (taken ∷ ns) (n ∷ with_member m ns)
+    ∙ ap (match_ordering (slice_cmp nat_cmp m.name.now n.name.now) (shown_members id vs (m ∷ n ∷ ns)) (shown_members id vs (taken ∷ ns)))
+    (ap (member n.name.now (source_data id vs n.source)) (shown_members-with_member id vs m ns))
+
+-- one element in place of another
+slice_set-parts : {X : Type 0} (xs : List X) (i : ℕ) (y : X) → i < length xs → slice_set xs i y ≡ take i xs ++ y ∷ drop (i + 1) xs
+slice_set-parts xs i y within =
+    sym (take-append-drop i (slice_set xs i y)) ∙ ap₂ (λ front rest. front ++ rest) (take-set xs i y) (drop-set xs i y within)
+
+-- a member that has the name of the one at i takes its place
+pub with_member-same : (m : Member) (ns : List Member) (i : ℕ) (d : Member) → i < length ns → with_member m ns ≡ take i ns ++ with_member m (drop i ns)
+    → Equal ≡ slice_cmp nat_cmp m.name.now (get_or ns i d).name.now
+    → with_member m ns ≡ slice_set ns i (record (slice_index_or ns i m) { source = m.source })
+with_member-same m ns i d within behind same =
+    let n = get_or ns i m in
+    let rest = drop (i + 1) ns in
+    let taken = record n { source = m.source } in
+    let there : drop i ns ≡ n ∷ rest = drop_more ns i m within in
+    let equal : slice_cmp nat_cmp m.name.now n.name.now ≡ Equal =
+    sym (same ∙ ap (λ (e : Member). slice_cmp nat_cmp m.name.now e.name.now) (get_or_default ns i d m within)) in
+    let takes : with_member m (n ∷ rest) ≡ taken ∷ rest = ap (λ o. match_ordering o (m ∷ n ∷ rest) (taken ∷ rest) (n ∷ with_member m rest)) equal in
+    behind ∙ ap (λ es. take i ns ++ with_member m es) there ∙ ap (λ es. take i ns ++ es) takes ∙ sym (slice_set-parts ns i taken within)
 
 -- columns behind those that have values show nothing
 pub with_values-known : (cs : List Column) (vs : List Value) (ms : Members) → with_values (take (length vs) cs) vs ms ≡ with_values cs vs ms
@@ -39,50 +58,21 @@ with_values-known [] (v ∷ vs) ms = refl
 with_values-known (c ∷ cs) [] ms = refl
 with_values-known (c ∷ cs) (v ∷ vs) ms = with_values-known cs vs (put c.name (value_data v) ms)
 
--- ---- the tokens of members that were lent one after another
+-- ---- texts
 
-abbrev Lent : Type 0
-Lent = Bor (Bor (List ℕ)) × Bor Source
+-- a value that is written between two texts
+pub text_between : (d : Data) (ts : List Token) (front before text whole back : List ℕ) → before ≡ front → ts ≡ json_tokens (outline d)
+    → text ≡ before ++ print ts → whole ≡ text ++ back → whole ≡ (front ++ compact_text d) ++ back
+text_between d ts front before text whole back begun tokens written closed =
+    closed ∙ ap (λ t. t ++ back) (written ∙ ap₂ (λ b t. b ++ t) begun (ap print tokens ∙ print-outline d))
 
-abbrev source_tokens : ℕ → List Value → Lent → List Token
-source_tokens id vs y = json_tokens (outline (source_data id vs y.1.now))
+pub row_reply : (d : Data) → (codes "{\"ok\":true,\"row\":" ++ compact_text d) ++ codes "}"
+    ≡ compact_text (object (member (codes "ok") (boolean true) (member (codes "row") d no_members)))
+unfolding escape_byte
+row_reply d = refl
 
-abbrev pub member_tokens : ℕ → List Value → List Lent → List Token
-member_tokens id vs [] = []
-member_tokens id vs (y ∷ ys) = key y.0.now.now ∷ (source_tokens id vs y ++ member_tokens id vs ys)
-
-pub member_tokens-push : (id : ℕ) (vs : List Value) (ys : List Lent) (y : Lent)
-    → member_tokens id vs (ys ++ y ∷ []) ≡ member_tokens id vs ys ++ (key y.0.now.now ∷ source_tokens id vs y)
-member_tokens-push id vs [] y = ap (λ ts. key y.0.now.now ∷ ts) (append-nil (source_tokens id vs y))
-member_tokens-push id vs (x ∷ ys) y =
-    ap (λ ts. key x.0.now.now ∷ (source_tokens id vs x ++ ts)) (member_tokens-push id vs ys y)
-    ∙ ap (λ ts. key x.0.now.now ∷ ts) (sym (append_assoc (source_tokens id vs x) (member_tokens id vs ys) _))
-
-pub member_tokens-end : (id : ℕ) (vs : List Value) (ys : List Lent)
-    → member_tokens id vs ys ++ end_object ∷ [] ≡ members_tokens (members_outline (shown_members id vs (map deref_pair ys)))
-member_tokens-end id vs [] = refl
-member_tokens-end id vs (y ∷ ys) =
-    ap (λ ts. key y.0.now.now ∷ ts) (append_assoc (source_tokens id vs y) (member_tokens id vs ys) (end_object ∷ [])
-    ∙ ap (λ ts. source_tokens id vs y ++ ts) (member_tokens-end id vs ys))
-
--- a member behind those written
-pub one_member : (id : ℕ) (vs : List Value) (old before mid new : List Token) (ys : List Lent) (y : Lent) → old ≡ before ++ member_tokens id vs ys
-    → mid ≡ old ++ key y.0.now.now ∷ [] → new ≡ mid ++ source_tokens id vs y → new ≡ before ++ member_tokens id vs (ys ++ y ∷ [])
-one_member id vs old before mid new ys y first named valued =
-    valued ∙ ap (λ ts. ts ++ source_tokens id vs y) named ∙ append_assoc old (key y.0.now.now ∷ []) _
-    ∙ ap (λ ts. ts ++ (key y.0.now.now ∷ source_tokens id vs y)) first ∙ append_assoc before (member_tokens id vs ys) _
-    ∙ ap (λ ts. before ++ ts) (sym (member_tokens-push id vs ys y))
-
--- all members, between their braces
-pub all_members : (id : ℕ) (vs : List Value) (start opened old new : List Token) (ys : List Lent) (es : List Entry) → opened ≡ start ++ begin_object ∷ []
-    → old ≡ opened ++ member_tokens id vs ys → new ≡ old ++ end_object ∷ []
-    → map deref_pair ys ≡ es → new ≡ start ++ json_tokens (outline (object (shown_members id vs es)))
-all_members id vs start opened old new ys es begun written closed all =
-    closed ∙ ap (λ ts. ts ++ end_object ∷ []) (written ∙ ap (λ ts. ts ++ member_tokens id vs ys) begun)
-    ∙ append_assoc (start ++ begin_object ∷ []) (member_tokens id vs ys) (end_object ∷ []) ∙ append_assoc start (begin_object ∷ []) _
-    ∙ ap (λ ts. start ++ begin_object ∷ ts) (member_tokens-end id vs ys ∙ ap (λ xs. members_tokens (members_outline (shown_members id vs xs))) all)
-
--- the tokens of a value are its text
-pub text_of_tokens : (d : Data) (ts : List Token) (before text : List ℕ)
-    → text ≡ before ++ print ts → before ≡ [] → ts ≡ json_tokens (outline d) → text ≡ compact_text d
-text_of_tokens d ts before text is empty tokens = is ∙ ap (λ bs. bs ++ print ts) empty ∙ ap print tokens ∙ print-outline d
+pub rows_reply : (more : Bool) (d : Data) → (rows_front more ++ compact_text d) ++ codes "}"
+    ≡ compact_text (object (member (codes "more") (boolean more) (member (codes "ok") (boolean true) (member (codes "rows") d no_members))))
+unfolding escape_byte
+rows_reply true d = refl
+rows_reply false d = refl

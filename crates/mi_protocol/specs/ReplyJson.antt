@@ -8,7 +8,8 @@ use Rattle.mi_value.specs.declared.refusal.Refusal.TheVariants.{Unique, Lost}
 use Rattle.mi_catalog.specs.Shape.{CatalogShape, schema_at}
 use Rattle.mi_catalog.specs.Rules.{is_catalog}
 use Rattle.mi_protocol.specs.Rows.{row_data, rows_items}
-use Rattle.mi_protocol.specs.Replies.{Said, inserted, done, erased, shown, revised, committed, undone, pushed, status, counted, ranked, sized, rows, refused_modify, refused, index_name, reply_text, IsSaidOf}
+use Rattle.mi_protocol.specs.Replies.{Said, inserted, done, erased, shown, revised, committed, undone, pushed, status}
+use Rattle.mi_protocol.specs.Replies.{counted, ranked, sized, rows, refused_modify, refused, index_name, reply_text, IsSaidOf}
 
 -- the object of a refusal
 abbrev pub refusal_data : CatalogShape → ℕ → Refusal → Data

@@ -14,8 +14,8 @@ use crate::look_ups::{
     bind_size, bind_upper_rank,
 };
 use mi_catalog::Catalog;
-use mi_request::Request;
-use mi_value::{Key, Lower, Record, Refusal, Text, Upper};
+use mi_request::{Name, Request};
+use mi_value::{Key, Lower, Record, Refusal, Upper};
 use std::alloc::Global;
 
 /// A command that fits a catalog: tables, indexes and columns by number, a row as a record. An insert's `before` is a
@@ -127,8 +127,8 @@ pub enum Command {
 }
 
 /// The number of the table that is named; without a name it is the first.
-pub(crate) fn table_number(table: Option<Text>, catalog: &Catalog) -> Result<usize, Refusal>
-    ensures { result ≡ binding.table_number catalog.now table }
+pub(crate) fn table_number(table: Option<Name>, catalog: &Catalog) -> Result<usize, Refusal>
+    ensures { result ≡ binding.table_number catalog.now table.entry }
 {
     match table {
         Some(name) => catalog.find_table(name.as_str()).ok_or(Refusal::NoTable),
@@ -138,9 +138,9 @@ pub(crate) fn table_number(table: Option<Text>, catalog: &Catalog) -> Result<usi
 
 /// The command that a request is.
 fn command_of(alloc: Global, request: Request, catalog: &Catalog) -> Result<Command, Refusal>
-    ensures answer { IsAnswer result (bound_command catalog.now request) }
+    ensures answer { IsAnswer result (bound_command catalog.now request.entry) }
     ensures refusal { IfErr result NamesNoIndex }
-    ensures undo { request ≡ Request.Undo → result ≡ Ok Command.Undo }
+    ensures undo { request.entry ≡ Request.Undo → result ≡ Ok Command.Undo }
 {
     match request {
         Request::Insert { table, row, before } => bind_insert(alloc, table, row, before, catalog),
@@ -202,10 +202,10 @@ fn command_of(alloc: Global, request: Request, catalog: &Catalog) -> Result<Comm
 /// The command that a request is over this catalog. Refusals, in this order: `NoTable`, `Index`, `Kind`, `Row`, `Key`, and
 /// `Memory`. A command that is answered fits the catalog. An undo takes no memory.
 pub fn bind(alloc: Global, request: Request, catalog: &Catalog) -> Result<Command, Refusal>
-    ensures answer { IsAnswer result (bound_command catalog.now request) }
+    ensures answer { IsAnswer result (bound_command catalog.now request.entry) }
     ensures refusal { IfErr result NamesNoIndex }
     ensures fits { IfOk result (λ command. FitsCatalog catalog.now command) }
-    ensures undo { request ≡ Request.Undo → result ≡ Ok Command.Undo }
+    ensures undo { request.entry ≡ Request.Undo → result ≡ Ok Command.Undo }
 {
     catalog.keeps_rules();
     command_of(alloc, request, catalog)

@@ -9,19 +9,19 @@ use crate::edits::bind_edits;
 use crate::indexes::{bind_place, sequenced_index, whole_key};
 use crate::row::bind_row;
 use mi_catalog::Catalog;
-use mi_request::{Array, Object, Place};
-use mi_value::{Refusal, Text};
+use mi_request::{Array, Name, Object, Place};
+use mi_value::Refusal;
 use std::alloc::Global;
 
 /// A record, and a place of its own where one is named. Refusals, in this order: `NoTable`, `Index`, `Kind`, `Row`, and `Memory`.
 pub(crate) fn bind_insert(
     alloc: Global,
-    table: Option<Text>,
+    table: Option<Name>,
     row: Object,
     before: Option<Place>,
     catalog: &Catalog,
 ) -> Result<Command, Refusal>
-    ensures answer { IsAnswer result (bound_command catalog.now (request.Insert table row before)) }
+    ensures answer { IsAnswer result (bound_command catalog.now (request.Insert table.entry row.entry before.entry)) }
     ensures refusal { IfErr result NamesNoIndex }
 {
     catalog.keeps_rules();
@@ -35,12 +35,12 @@ pub(crate) fn bind_insert(
 /// Another record for an id. Refusals, in this order: `NoTable`, `Row`, and `Memory`.
 pub(crate) fn bind_replace(
     alloc: Global,
-    table: Option<Text>,
+    table: Option<Name>,
     id: u64,
     row: Object,
     catalog: &Catalog,
 ) -> Result<Command, Refusal>
-    ensures answer { IsAnswer result (bound_command catalog.now (request.Replace table id row)) }
+    ensures answer { IsAnswer result (bound_command catalog.now (request.Replace table.entry id row.entry)) }
     ensures refusal { IfErr result NamesNoIndex }
 {
     catalog.keeps_rules();
@@ -52,14 +52,14 @@ pub(crate) fn bind_replace(
 /// Edits of columns. Refusals, in this order: `NoTable`, `Row`, and `Memory`.
 pub(crate) fn bind_modify(
     alloc: Global,
-    table: Option<Text>,
+    table: Option<Name>,
     id: u64,
     set: Object,
     add: Object,
     rollback: bool,
     catalog: &Catalog,
 ) -> Result<Command, Refusal>
-    ensures answer { IsAnswer result (bound_command catalog.now (request.Modify table id set add rollback)) }
+    ensures answer { IsAnswer result (bound_command catalog.now (request.Modify table.entry id set.entry add.entry rollback)) }
     ensures refusal { IfErr result NamesNoIndex }
 {
     catalog.keeps_rules();
@@ -75,11 +75,11 @@ pub(crate) fn bind_modify(
 
 /// Refusal: `NoTable`.
 pub(crate) fn bind_erase(
-    table: Option<Text>,
+    table: Option<Name>,
     id: u64,
     catalog: &Catalog,
 ) -> Result<Command, Refusal>
-    ensures answer { IsAnswer result (bound_command catalog.now (request.Erase table id)) }
+    ensures answer { IsAnswer result (bound_command catalog.now (request.Erase table.entry id)) }
     ensures refusal { IfErr result NamesNoIndex }
 {
     catalog.keeps_rules();
@@ -90,12 +90,12 @@ pub(crate) fn bind_erase(
 /// A whole key. Refusals, in this order: `NoTable`, `Index`, `Kind`, `Key`, and `Memory`.
 pub(crate) fn bind_erase_key(
     alloc: Global,
-    table: Option<Text>,
-    index: Text,
+    table: Option<Name>,
+    index: Name,
     key: Array,
     catalog: &Catalog,
 ) -> Result<Command, Refusal>
-    ensures answer { IsAnswer result (bound_command catalog.now (request.EraseKey table index key)) }
+    ensures answer { IsAnswer result (bound_command catalog.now (request.EraseKey table.entry index.entry key.entry)) }
     ensures refusal { IfErr result NamesNoIndex }
 {
     catalog.keeps_rules();
@@ -106,13 +106,13 @@ pub(crate) fn bind_erase_key(
 
 /// Refusals, in this order: `NoTable`, `Index`, `Kind`.
 pub(crate) fn bind_relocate(
-    table: Option<Text>,
-    index: Text,
+    table: Option<Name>,
+    index: Name,
     id: u64,
     before: Option<u64>,
     catalog: &Catalog,
 ) -> Result<Command, Refusal>
-    ensures answer { IsAnswer result (bound_command catalog.now (request.Relocate table index id before)) }
+    ensures answer { IsAnswer result (bound_command catalog.now (request.Relocate table.entry index.entry id before)) }
     ensures refusal { IfErr result NamesNoIndex }
 {
     catalog.keeps_rules();

@@ -1,12 +1,11 @@
 //! Members against columns by name. It reads no member's value.
-ghost use Rattle.std.specs.Prelude.{◌≡◌, map, bytes_eq, string_bytes};
+ghost use Rattle.std.specs.Prelude.{◌≡◌, map, bytes_eq};
 ghost use Rattle.std.specs.List.{list_any, list_all};
-ghost use Rattle.std.specs.BTreeMap.{keys};
 ghost use Rattle.mi_request.specs.Json.{has_only};
 
+use json::Value;
 use mi_catalog::Column;
 use mi_request::Object;
-use serde_json::{Map, Value as Json};
 
 /// Whether a name is that of one of these columns.
 fn is_column(columns: &[Column], name: &str) -> bool
@@ -15,11 +14,11 @@ fn is_column(columns: &[Column], name: &str) -> bool
     columns.iter().any(|c| name == c.name.as_str())
 }
 
-/// Whether each key is the name of one of these columns.
-fn are_columns(columns: &[Column], members: &Map<String, Json>) -> bool
-    ensures { result ≡ list_all (λ k. list_any (λ c. bytes_eq (string_bytes k) c.name) columns.now) (keys members.now) }
+/// Whether each member has the name of one of these columns.
+fn are_columns(columns: &[Column], members: &[(&str, Value<'_>)]) -> bool
+    ensures { result ≡ list_all (λ m. list_any (λ c. bytes_eq m.0.now c.name) columns.now) members.now }
 {
-    members.keys().all(|k| is_column(columns, k.as_str()))
+    members.iter().all(|m| is_column(columns, m.0))
 }
 
 /// Whether no member has another name than these columns.

@@ -1,7 +1,6 @@
 //! Edits: from the members `set` and `add` of a modify to edits of columns by number.
-ghost use Rattle.std.specs.Prelude.{◌≡◌, map, option_map, IsTrue};
+ghost use Rattle.std.specs.Prelude.{◌≡◌, map, IsTrue};
 ghost use Rattle.std.specs.Option.{ok_or};
-ghost use Rattle.serde_json.specs.View.{view};
 ghost use Rattle.mi_catalog.specs.Rules.{are_distinct};
 ghost use Rattle.mi_request.specs.Answers.{IsAnswer};
 ghost use Rattle.mi_protocol.specs.Edits as edits;
@@ -10,9 +9,8 @@ ghost use Rattle.mi_protocol.specs.Edits.{edits_from, bound_edits};
 use crate::columns::has_only_columns;
 use crate::row::fit;
 use mi_catalog::{Column, Schema};
-use mi_request::Object;
+use mi_request::{Json, Object};
 use mi_value::{ColumnType, Edit, Refusal};
-use serde_json::Value as Json;
 use std::alloc::Global;
 use std::marker::Model;
 
@@ -51,7 +49,7 @@ impl Edits {
 
 /// An addition of a whole number to a column, which must be an `int`.
 fn addition(i: usize, kind: ColumnType, value: &Json) -> Option<Edit>
-    ensures { result ≡ edits.addition i kind (view value.now) }
+    ensures { result ≡ edits.addition i kind value.now }
 {
     match kind {
         ColumnType::Int => Some(Edit::Add(i, value.as_i64()?)),
@@ -59,37 +57,39 @@ fn addition(i: usize, kind: ColumnType, value: &Json) -> Option<Edit>
     }
 }
 
-/// The edit of column i, if there is one, from its members of `set` and `add`; none where it doesn't fit or has both.
-fn edit_of(i: usize, kind: ColumnType, set: Option<Json>, add: Option<Json>) -> Option<Option<Edit>>
-    ensures { result ≡ edits.edit_of i kind (option_map view set) (option_map view add) }
+/// The edit of column i, if there is one, from its members of `set` and `add`. Refusals: `Row`, where it doesn't fit or has
+/// both, and `Memory`.
+fn edit_of(
+    alloc: Global,
+    i: usize,
+    kind: ColumnType,
+    set: Option<Json>,
+    add: Option<Json>,
+) -> Result<Option<Edit>, Refusal>
+    ensures { IsAnswer result (ok_or (edits.edit_of i kind set.entry add.entry) Refusal.Row) }
 {
     match (set, add) {
-        (None, None) => Some(None),
-        (Some(value), None) => Some(Some(Edit::Put(i, fit(kind, value)?))),
-        (None, Some(value)) => Some(Some(addition(i, kind, &value)?)),
-        (Some(_), Some(_)) => None,
+        (None, None) => Ok(None),
+        (Some(value), None) => Ok(Some(Edit::Put(i, fit(alloc, kind, &value)?))),
+        (None, Some(value)) => Ok(Some(addition(i, kind, &value).ok_or(Refusal::Row)?)),
+        (Some(_), Some(_)) => Err(Refusal::Row),
     }
 }
 
 /// The edits of the columns' members, whose values are moved out one by one.
 fn take_edits(alloc: Global, set: Object, add: Object, columns: &[Column]) -> Result<Edits, Refusal>
     requires { IsTrue (are_distinct (map (λ c. c.name) columns.now)) }
-    ensures { IsAnswer result (ok_or (edits_from 0 columns.now set add) Refusal.Row) }
+    ensures { IsAnswer result (ok_or (edits_from 0 columns.now set.entry add.entry) Refusal.Row) }
 {
     let mut set_left = set;
     let mut add_left = add;
     let mut edits = Vec::new(alloc);
     'columns: for (i, column) in columns.iter().enumerate() {
         let name = column.name.as_str();
-        match edit_of(
-            i,
-            column.kind,
-            set_left.move_out(name),
-            add_left.move_out(name),
-        ) {
-            Some(Some(edit)) => edits.push(edit)?,
-            Some(None) => {}
-            None => return Err(Refusal::Row),
+        let set = set_left.move_out(name);
+        let add = add_left.move_out(name);
+        if let Some(edit) = edit_of(alloc, i, column.kind, set, add)? {
+            edits.push(edit)?;
         }
     }
     Ok(Edits::new(edits))
@@ -103,7 +103,7 @@ pub(crate) fn bind_edits(
     add: Object,
     schema: &Schema,
 ) -> Result<Edits, Refusal>
-    ensures { IsAnswer result (ok_or (bound_edits schema.now.columns set add) Refusal.Row) }
+    ensures { IsAnswer result (ok_or (bound_edits schema.now.columns set.entry add.entry) Refusal.Row) }
 {
     schema.keeps_rules();
     let columns = schema.columns();

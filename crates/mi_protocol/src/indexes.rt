@@ -9,12 +9,12 @@ ghost use Rattle.mi_catalog.specs.Kinds as kinds;
 
 use crate::keys::bind_key;
 use mi_catalog::Schema;
-use mi_request::{Array, Place};
-use mi_value::{Key, Refusal, Text};
+use mi_request::{Array, Name, Place};
+use mi_value::{Key, Refusal};
 use std::alloc::Global;
 
 /// The number of the index that is named. Refusal: `Index`.
-fn find_index(name: &Text, schema: &Schema) -> Result<usize, Refusal>
+fn find_index(name: &Name, schema: &Schema) -> Result<usize, Refusal>
     ensures number { result ≡ ok_or (find_index schema.now name.now) Refusal.Index }
     ensures there { IfOk result (λ i. i < length schema.now.indexes) }
 {
@@ -22,7 +22,7 @@ fn find_index(name: &Text, schema: &Schema) -> Result<usize, Refusal>
 }
 
 /// The number of the sequenced index that is named. Refusals, in this order: `Index`, `Kind`.
-pub(crate) fn sequenced_index(name: &Text, schema: &Schema) -> Result<usize, Refusal>
+pub(crate) fn sequenced_index(name: &Name, schema: &Schema) -> Result<usize, Refusal>
     ensures { result ≡ index_number kinds.is_sequenced schema.now name.now }
 {
     let index = find_index(name, schema)?;
@@ -34,7 +34,7 @@ pub(crate) fn sequenced_index(name: &Text, schema: &Schema) -> Result<usize, Ref
 }
 
 /// The number of the index with keys that is named. Refusals, in this order: `Index`, `Kind`.
-fn keyed_index(name: &Text, schema: &Schema) -> Result<usize, Refusal>
+fn keyed_index(name: &Name, schema: &Schema) -> Result<usize, Refusal>
     ensures number { result ≡ index_number kinds.has_keys schema.now name.now }
     ensures there { IfOk result (λ i. i < length schema.now.indexes) }
 {
@@ -47,7 +47,7 @@ fn keyed_index(name: &Text, schema: &Schema) -> Result<usize, Refusal>
 }
 
 /// The number of the ordered or ranked index that is named. Refusals, in this order: `Index`, `Kind`.
-pub(crate) fn sorted_index(name: &Text, schema: &Schema) -> Result<usize, Refusal>
+pub(crate) fn sorted_index(name: &Name, schema: &Schema) -> Result<usize, Refusal>
     ensures number { result ≡ index_number kinds.is_sorted schema.now name.now }
     ensures there { IfOk result (λ i. i < length schema.now.indexes) }
 {
@@ -60,7 +60,7 @@ pub(crate) fn sorted_index(name: &Text, schema: &Schema) -> Result<usize, Refusa
 }
 
 /// The number of the ranked index that is named. Refusals, in this order: `Index`, `Kind`.
-pub(crate) fn ranked_index(name: &Text, schema: &Schema) -> Result<usize, Refusal>
+pub(crate) fn ranked_index(name: &Name, schema: &Schema) -> Result<usize, Refusal>
     ensures number { result ≡ index_number kinds.is_ranked schema.now name.now }
     ensures there { IfOk result (λ i. i < length schema.now.indexes) }
 {
@@ -75,11 +75,11 @@ pub(crate) fn ranked_index(name: &Text, schema: &Schema) -> Result<usize, Refusa
 /// An index with keys and a whole key of it. Refusals, in this order: `Index`, `Kind`, `Key`, and `Memory`.
 pub(crate) fn whole_key(
     alloc: Global,
-    index: &Text,
+    index: &Name,
     key: Array,
     schema: &Schema,
 ) -> Result<(usize, Key), Refusal>
-    ensures { IsAnswer result (binding.whole_key schema.now index.now key) }
+    ensures { IsAnswer result (binding.whole_key schema.now index.now key.entry) }
 {
     let index = keyed_index(index, schema)?;
     Ok((index, bind_key(alloc, key, schema, index, true)?))
@@ -89,11 +89,11 @@ pub(crate) fn whole_key(
 /// `Kind`, `Key`, and `Memory`.
 pub(crate) fn key_or_prefix(
     alloc: Global,
-    index: &Text,
+    index: &Name,
     key: Array,
     schema: &Schema,
 ) -> Result<(usize, Key), Refusal>
-    ensures { IsAnswer result (binding.key_or_prefix schema.now index.now key) }
+    ensures { IsAnswer result (binding.key_or_prefix schema.now index.now key.entry) }
 {
     let index = keyed_index(index, schema)?;
     let whole = schema.kind(index).is_hashed();
@@ -103,11 +103,11 @@ pub(crate) fn key_or_prefix(
 /// A ranked index and a key of it or the first values of one. Refusals, in this order: `Index`, `Kind`, `Key`, and `Memory`.
 pub(crate) fn ranked_key(
     alloc: Global,
-    index: &Text,
+    index: &Name,
     key: Array,
     schema: &Schema,
 ) -> Result<(usize, Key), Refusal>
-    ensures { IsAnswer result (binding.ranked_key schema.now index.now key) }
+    ensures { IsAnswer result (binding.ranked_key schema.now index.now key.entry) }
 {
     let index = ranked_index(index, schema)?;
     Ok((index, bind_key(alloc, key, schema, index, false)?))
@@ -118,7 +118,7 @@ pub(crate) fn bind_place(
     place: Option<Place>,
     schema: &Schema,
 ) -> Result<Option<(usize, u64)>, Refusal>
-    ensures { result ≡ bound_place schema.now place }
+    ensures { result ≡ bound_place schema.now place.entry }
 {
     let Some(place) = place else {
         return Ok(None);

@@ -1,40 +1,40 @@
 //! Keys: from a JSON array to the values of a key of an index, and from the ends of a range to its bounds.
 ghost use Rattle.std.specs.Prelude.{◌≡◌, ◌<◌, length};
 ghost use Rattle.std.specs.Option.{ok_or};
-ghost use Rattle.serde_json.specs.View.{view, items_view};
 ghost use Rattle.mi_request.specs.Answers.{IsAnswer};
 ghost use Rattle.mi_protocol.specs.Binding.{bound_ends};
 ghost use Rattle.mi_protocol.specs.Keys as keys;
 ghost use Rattle.mi_protocol.specs.Keys.{plain_values, bound_key, bound_lower, bound_upper};
 
 use mi_catalog::Schema;
-use mi_request::{Array, End};
+use mi_request::{Array, End, Json};
 use mi_value::{Key, Lower, Refusal, Text, Upper, Value};
-use serde_json::Value as Json;
 use std::alloc::Global;
 
-/// The value that a JSON value is: a whole number, a text, which is moved, or true or false.
-fn plain_value(value: Json) -> Option<Value>
-    ensures { result ≡ keys.plain_value (view value) }
+/// The value that a JSON value is: a whole number, a text, which is copied, or true or false. Refusals: `Key` and `Memory`.
+fn plain_value(alloc: Global, value: &Json) -> Result<Value, Refusal>
+    ensures { IsAnswer result (ok_or (keys.plain_value value.now) Refusal.Key) }
 {
-    match value {
-        Json::Number(number) => Some(Value::Int(number.as_i64()?)),
-        Json::String(text) => Some(Value::Text(Text::new(text))),
-        Json::Bool(b) => Some(Value::Flag(b)),
-        _other => None,
+    if let Some(text) = value.as_str() {
+        return Ok(Value::Text(Text::of(alloc, text)?));
+    }
+    if let Some(n) = value.as_i64() {
+        return Ok(Value::Int(n));
+    }
+    match value.as_bool() {
+        Some(b) => Ok(Value::Flag(b)),
+        None => Err(Refusal::Key),
     }
 }
 
-/// The key of these values. Refusals: `Key` and `Memory`.
-fn key_of(alloc: Global, items: Vec<Json>) -> Result<Key, Refusal>
-    ensures { IsAnswer result (ok_or (plain_values (items_view items.items)) Refusal.Key) }
+/// The key of the values that the items of an array are. Refusals: `Key` and `Memory`.
+fn key_of(alloc: Global, key: Array) -> Result<Key, Refusal>
+    ensures { IsAnswer result (ok_or (plain_values key.entry) Refusal.Key) }
 {
+    let items = key.into_items();
     let mut values = Vec::with_capacity(alloc, items.len())?;
     'items: for item in items {
-        let Some(value) = plain_value(item) else {
-            return Err(Refusal::Key);
-        };
-        values.push(value)?;
+        values.push(plain_value(alloc, &Json::new(item))?)?;
     }
     Ok(Key::new(values))
 }
@@ -49,9 +49,9 @@ pub(crate) fn bind_key(
     whole: bool,
 ) -> Result<Key, Refusal>
     requires { i < length schema.now.indexes }
-    ensures { IsAnswer result (ok_or (bound_key schema.now i whole key) Refusal.Key) }
+    ensures { IsAnswer result (ok_or (bound_key schema.now i whole key.entry) Refusal.Key) }
 {
-    let key = key_of(alloc, key.into_items())?;
+    let key = key_of(alloc, key)?;
     if schema.fits_key(i, key.values(), whole) {
         Ok(key)
     } else {
@@ -62,7 +62,7 @@ pub(crate) fn bind_key(
 /// The lower bound of a range in index i. Refusals: `Key` and `Memory`.
 fn bind_lower(alloc: Global, end: End, schema: &Schema, i: usize) -> Result<Lower, Refusal>
     requires { i < length schema.now.indexes }
-    ensures { IsAnswer result (ok_or (bound_lower schema.now i end) Refusal.Key) }
+    ensures { IsAnswer result (ok_or (bound_lower schema.now i end.entry) Refusal.Key) }
 {
     match end {
         End::Open => Ok(Lower::All),
@@ -74,7 +74,7 @@ fn bind_lower(alloc: Global, end: End, schema: &Schema, i: usize) -> Result<Lowe
 /// The upper bound of a range in index i. Refusals: `Key` and `Memory`.
 fn bind_upper(alloc: Global, end: End, schema: &Schema, i: usize) -> Result<Upper, Refusal>
     requires { i < length schema.now.indexes }
-    ensures { IsAnswer result (ok_or (bound_upper schema.now i end) Refusal.Key) }
+    ensures { IsAnswer result (ok_or (bound_upper schema.now i end.entry) Refusal.Key) }
 {
     match end {
         End::Open => Ok(Upper::All),
@@ -92,7 +92,7 @@ pub(crate) fn bind_bounds(
     schema: &Schema,
 ) -> Result<(Lower, Upper), Refusal>
     requires { i < length schema.now.indexes }
-    ensures { IsAnswer result (bound_ends schema.now i lower upper) }
+    ensures { IsAnswer result (bound_ends schema.now i lower.entry upper.entry) }
 {
     let lower = bind_lower(alloc, lower, schema, i)?;
     let upper = bind_upper(alloc, upper, schema, i)?;

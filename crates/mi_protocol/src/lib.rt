@@ -18,6 +18,6 @@ mod text;
 pub use binding::{Command, bind};
 pub use edits::Edits;
 pub use laws::{lines_edit_columns_once, lines_without_a_table, replies_are_compact_json};
-pub use mi_request::{Array, End, LineReader, Object, Place, Request, parse_line};
+pub use mi_request::{Array, End, Json, LineReader, Name, Object, Place, Request};
 pub use reply::Reply;
 pub use text::ReplyText;

@@ -8,13 +8,13 @@ use crate::binding::{Command, table_number};
 use crate::indexes::{key_or_prefix, ranked_index, ranked_key, sequenced_index, sorted_index};
 use crate::keys::bind_bounds;
 use mi_catalog::Catalog;
-use mi_request::{Array, End};
-use mi_value::{Refusal, Text};
+use mi_request::{Array, End, Name};
+use mi_value::Refusal;
 use std::alloc::Global;
 
 /// Refusal: `NoTable`.
-pub(crate) fn bind_get(table: Option<Text>, id: u64, catalog: &Catalog) -> Result<Command, Refusal>
-    ensures answer { IsAnswer result (bound_command catalog.now (request.Get table id)) }
+pub(crate) fn bind_get(table: Option<Name>, id: u64, catalog: &Catalog) -> Result<Command, Refusal>
+    ensures answer { IsAnswer result (bound_command catalog.now (request.Get table.entry id)) }
     ensures refusal { IfErr result NamesNoIndex }
 {
     catalog.keeps_rules();
@@ -25,12 +25,12 @@ pub(crate) fn bind_get(table: Option<Text>, id: u64, catalog: &Catalog) -> Resul
 /// A key, or the first values of one. Refusals, in this order: `NoTable`, `Index`, `Kind`, `Key`, and `Memory`.
 pub(crate) fn bind_find(
     alloc: Global,
-    table: Option<Text>,
-    index: Text,
+    table: Option<Name>,
+    index: Name,
     key: Array,
     catalog: &Catalog,
 ) -> Result<Command, Refusal>
-    ensures answer { IsAnswer result (bound_command catalog.now (request.Find table index key)) }
+    ensures answer { IsAnswer result (bound_command catalog.now (request.Find table.entry index.entry key.entry)) }
     ensures refusal { IfErr result NamesNoIndex }
 {
     catalog.keeps_rules();
@@ -42,12 +42,12 @@ pub(crate) fn bind_find(
 /// A key, or the first values of one. Refusals, in this order: `NoTable`, `Index`, `Kind`, `Key`, and `Memory`.
 pub(crate) fn bind_count(
     alloc: Global,
-    table: Option<Text>,
-    index: Text,
+    table: Option<Name>,
+    index: Name,
     key: Array,
     catalog: &Catalog,
 ) -> Result<Command, Refusal>
-    ensures answer { IsAnswer result (bound_command catalog.now (request.Count table index key)) }
+    ensures answer { IsAnswer result (bound_command catalog.now (request.Count table.entry index.entry key.entry)) }
     ensures refusal { IfErr result NamesNoIndex }
 {
     catalog.keeps_rules();
@@ -58,12 +58,12 @@ pub(crate) fn bind_count(
 
 /// Refusals, in this order: `NoTable`, `Index`, `Kind`.
 pub(crate) fn bind_nth(
-    table: Option<Text>,
-    index: Text,
+    table: Option<Name>,
+    index: Name,
     n: u64,
     catalog: &Catalog,
 ) -> Result<Command, Refusal>
-    ensures answer { IsAnswer result (bound_command catalog.now (request.Nth table index n)) }
+    ensures answer { IsAnswer result (bound_command catalog.now (request.Nth table.entry index.entry n)) }
     ensures refusal { IfErr result NamesNoIndex }
 {
     catalog.keeps_rules();
@@ -75,15 +75,15 @@ pub(crate) fn bind_nth(
 /// Two bounds. Refusals, in this order: `NoTable`, `Index`, `Kind`, `Key`, and `Memory`.
 pub(crate) fn bind_range(
     alloc: Global,
-    table: Option<Text>,
-    index: Text,
+    table: Option<Name>,
+    index: Name,
     lower: End,
     upper: End,
     reverse: bool,
     limit: usize,
     catalog: &Catalog,
 ) -> Result<Command, Refusal>
-    ensures answer { IsAnswer result (bound_command catalog.now (request.Range table index lower upper reverse limit)) }
+    ensures answer { IsAnswer result (bound_command catalog.now (request.Range table.entry index.entry lower.entry upper.entry reverse limit)) }
     ensures refusal { IfErr result NamesNoIndex }
 {
     catalog.keeps_rules();
@@ -103,13 +103,13 @@ pub(crate) fn bind_range(
 
 /// Refusals, in this order: `NoTable`, `Index`, `Kind`.
 pub(crate) fn bind_list(
-    table: Option<Text>,
-    index: Text,
+    table: Option<Name>,
+    index: Name,
     after: Option<u64>,
     limit: usize,
     catalog: &Catalog,
 ) -> Result<Command, Refusal>
-    ensures answer { IsAnswer result (bound_command catalog.now (request.List table index after limit)) }
+    ensures answer { IsAnswer result (bound_command catalog.now (request.List table.entry index.entry after limit)) }
     ensures refusal { IfErr result NamesNoIndex }
 {
     catalog.keeps_rules();
@@ -125,12 +125,12 @@ pub(crate) fn bind_list(
 
 /// Refusals, in this order: `NoTable`, `Index`, `Kind`.
 pub(crate) fn bind_rank(
-    table: Option<Text>,
-    index: Text,
+    table: Option<Name>,
+    index: Name,
     id: u64,
     catalog: &Catalog,
 ) -> Result<Command, Refusal>
-    ensures answer { IsAnswer result (bound_command catalog.now (request.Rank table index id)) }
+    ensures answer { IsAnswer result (bound_command catalog.now (request.Rank table.entry index.entry id)) }
     ensures refusal { IfErr result NamesNoIndex }
 {
     catalog.keeps_rules();
@@ -142,12 +142,12 @@ pub(crate) fn bind_rank(
 /// A key, or the first values of one. Refusals, in this order: `NoTable`, `Index`, `Kind`, `Key`, and `Memory`.
 pub(crate) fn bind_lower_rank(
     alloc: Global,
-    table: Option<Text>,
-    index: Text,
+    table: Option<Name>,
+    index: Name,
     key: Array,
     catalog: &Catalog,
 ) -> Result<Command, Refusal>
-    ensures answer { IsAnswer result (bound_command catalog.now (request.LowerRank table index key)) }
+    ensures answer { IsAnswer result (bound_command catalog.now (request.LowerRank table.entry index.entry key.entry)) }
     ensures refusal { IfErr result NamesNoIndex }
 {
     catalog.keeps_rules();
@@ -159,12 +159,12 @@ pub(crate) fn bind_lower_rank(
 /// A key, or the first values of one. Refusals, in this order: `NoTable`, `Index`, `Kind`, `Key`, and `Memory`.
 pub(crate) fn bind_upper_rank(
     alloc: Global,
-    table: Option<Text>,
-    index: Text,
+    table: Option<Name>,
+    index: Name,
     key: Array,
     catalog: &Catalog,
 ) -> Result<Command, Refusal>
-    ensures answer { IsAnswer result (bound_command catalog.now (request.UpperRank table index key)) }
+    ensures answer { IsAnswer result (bound_command catalog.now (request.UpperRank table.entry index.entry key.entry)) }
     ensures refusal { IfErr result NamesNoIndex }
 {
     catalog.keeps_rules();
@@ -174,8 +174,8 @@ pub(crate) fn bind_upper_rank(
 }
 
 /// Refusal: `NoTable`.
-pub(crate) fn bind_size(table: Option<Text>, catalog: &Catalog) -> Result<Command, Refusal>
-    ensures answer { IsAnswer result (bound_command catalog.now (request.Size table)) }
+pub(crate) fn bind_size(table: Option<Name>, catalog: &Catalog) -> Result<Command, Refusal>
+    ensures answer { IsAnswer result (bound_command catalog.now (request.Size table.entry)) }
     ensures refusal { IfErr result NamesNoIndex }
 {
     catalog.keeps_rules();

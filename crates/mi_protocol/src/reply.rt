@@ -120,7 +120,8 @@ fn conflict(id: u64, index: &str, after: &[u8]) -> ReplyText
 
 /// The text of the sessions that are open and that are held, and of the revision.
 fn status(depth: u64, held: u64, revision: u64) -> ReplyText
-    ensures text { text_bytes result ≡ codes "{\"depth\":" ++ decimal depth ++ codes ",\"held\":" ++ decimal held ++ codes ",\"ok\":true,\"revision\":" ++ decimal revision ++ codes "}" }
+    ensures text { text_bytes result ≡ codes "{\"depth\":" ++ decimal depth ++ codes ",\"held\":"
+        ++ decimal held ++ codes ",\"ok\":true,\"revision\":" ++ decimal revision ++ codes "}" }
     ensures form { is_short_text result ≡ true }
 {
     let mut out = ArrayVec::new();
@@ -188,7 +189,9 @@ impl Reply<'_> {
             Reply::Done => Ok(short(b"{\"ok\":", b"true", b"}")),
             Reply::Erased(n) => Ok(short_number(b"{\"erased\":", *n, b",\"ok\":true}")),
             Reply::Shown { table, id, row } => {
-                let columns = catalog.table(*table).columns();
+                let schema = catalog.table(*table);
+                schema.keeps_rules();
+                let columns = schema.columns();
                 Ok(ReplyText::Long(row_text(alloc, *id, row, columns)?))
             }
             Reply::Revised(n) => Ok(short_number(b"{\"ok\":true,\"revision\":", *n, b"}")),
@@ -204,7 +207,9 @@ impl Reply<'_> {
             Reply::Ranked(n) => Ok(short_number(b"{\"ok\":true,\"rank\":", *n, b"}")),
             Reply::Sized(n) => Ok(short_number(b"{\"ok\":true,\"size\":", *n, b"}")),
             Reply::Rows { table, rows, more } => {
-                let columns = catalog.table(*table).columns();
+                let schema = catalog.table(*table);
+                schema.keeps_rules();
+                let columns = schema.columns();
                 let text = rows_text(alloc, rows.as_slice(), *more, columns)?;
                 Ok(ReplyText::Long(text))
             }

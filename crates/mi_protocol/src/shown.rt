@@ -1,20 +1,25 @@
-//! Rows to text, token by token: the order of the members by their names is found once for all rows, and values are lent to
-//! the writer. It knows columns and values, and no tables.
-ghost use Rattle.std.specs.Prelude.{◌≡◌, ◌++◌, ◌≤◌, ℕ, List, length, map, codes, true, OnOk, IfOk};
+//! Rows to text, token by token: the order of the members by their names is found once for all rows, without memory, and
+//! values are lent to the writer. It knows columns and values, and no tables.
+ghost use Rattle.std.specs.Prelude.{◌≡◌, ◌++◌, ◌+◌, ◌≤◌, ◌<◌, ℕ, List, length, map, insert, slice_set, slice_index_or, codes, true, OnOk, IfOk, IfErr};
 ghost use Rattle.json.specs.Tree.{json_tokens};
+ghost use Rattle.mi_value.specs.declared.limits.TheConstants.{MAX_COLUMNS};
 ghost use Rattle.mi_value.specs.declared.value.Value.{Value as ValueSpec};
-ghost use Rattle.serde_json.specs.Data.{array, object, boolean, member, no_members};
+ghost use Rattle.serde_json.specs.Data.{array, object, boolean, member, no_members, put};
 ghost use Rattle.serde_json.specs.Written.{compact_text, outline};
+ghost use Rattle.arrayvec.specs.ArrayVec.{array_vec_len};
 ghost use Rattle.mi_protocol.specs.Rows as rows;
 ghost use Rattle.mi_protocol.specs.Rows.{row_data, rows_items};
-ghost use Rattle.mi_protocol.specs.Shown.{source_data, shown_members};
+ghost use Rattle.mi_protocol.specs.declared.shown.Member.{Member as MemberSpec};
+ghost use Rattle.mi_protocol.specs.Shown as shown;
+ghost use Rattle.mi_protocol.specs.Shown.{source_data, shown_members, with_member};
 
+use arrayvec::ArrayVec;
 use json::Writer;
 use mi_catalog::Column;
-use mi_value::limits::MAX_PAGE;
+use mi_value::limits::{MAX_COLUMNS, MAX_PAGE};
 use mi_value::{Record, Value};
 use std::alloc::{AllocError, Global};
-use std::collections::BTreeMap;
+use std::cmp::Ordering;
 
 /// Room for the text of a reply that shows a row of a few columns.
 const REPLY_ROOM: usize = 192;
@@ -22,28 +27,78 @@ const REPLY_ROOM: usize = 192;
 /// Room for one more row of a few short columns.
 const ROW_ROOM: usize = 64;
 
+/// Members of a row, at most: `id` and one for each column.
+const MAX_MEMBERS: usize = MAX_COLUMNS + 1;
+
 /// Where a member of a row stands: it is the row's id, or the value of a column.
-#[derive(Clone, Copy, Drop)]
+#[derive(Clone, Copy, Default)]
 enum Source {
+    #[default]
     Id,
     Column(usize),
 }
 
-/// Where the members of a row stand, by their names: `id` and all columns.
-#[tactic(auto, using(crate::proofs::ShownLemmas::shown_members_insert))]
-fn row_order<'a>(
-    alloc: Global,
-    columns: &'a [Column],
-) -> Result<BTreeMap<&'a str, Source>, AllocError>
-    ensures { IfOk result (λ m. (id : ℕ) (vs : List ValueSpec) → length columns.now ≤ length vs
-        → shown_members id vs m.entries ≡ rows.row_members columns.now id vs) }
+/// A member of a row: its name, and where its value stands.
+#[derive(Clone, Copy, Default)]
+struct Member<'a> {
+    name: &'a str,
+    source: Source,
+}
+
+/// The members of a row by their names.
+type Order<'a> = ArrayVec<Member<'a>, MAX_MEMBERS>;
+
+/// Where the member of this name stands, or else the place that is kept for it.
+fn find_place(members: &[Member], name: &str) -> Result<usize, usize>
+    ensures found { IfOk result (λ i. (i < length members.now)
+        × ((m : MemberSpec) → m.name.now ≡ name.now → with_member m members.now
+        ≡ slice_set members.now i (record (slice_index_or members.now i m) { source = m.source }))) }
+    ensures free { IfErr result (λ i. (i ≤ length members.now)
+        × ((m : MemberSpec) → m.name.now ≡ name.now → with_member m members.now ≡ insert members.now i m)) }
 {
-    let mut order = BTreeMap::new(alloc);
-    order.insert("id", Source::Id)?;
-    'columns: for (i, column) in columns.iter().enumerate() {
-        order.insert(column.name.as_str(), Source::Column(i))?;
+    'members: for (i, member) in members.iter().enumerate() {
+        match name.cmp(member.name) {
+            Ordering::Less => return Err(i),
+            Ordering::Equal => return Ok(i),
+            Ordering::Greater => {}
+        }
     }
-    Ok(order)
+    Err(members.len())
+}
+
+/// Adds a member at the place of its name; one that has the name takes its value.
+fn add_member<'a>(order: &mut Order<'a>, member: Member<'a>)
+    requires { array_vec_len order.old < MAX_MEMBERS }
+    ensures members { order.new.items ≡ with_member member.entry order.old.items }
+    ensures len { array_vec_len order.new ≤ array_vec_len order.old + 1 }
+{
+    match find_place(order.as_slice(), member.name) {
+        Ok(i) => order.as_mut_slice()[i].source = member.source,
+        Err(i) => order.insert(i, member),
+    }
+}
+
+/// Where the members of a row stand, by their names: `id` and all columns.
+#[inline(always)]
+fn row_order<'a>(columns: &'a [Column]) -> Order<'a>
+    requires { length columns.now ≤ MAX_COLUMNS }
+    ensures { (id : ℕ) (vs : List ValueSpec) → length columns.now ≤ length vs
+        → shown_members id vs result.items ≡ rows.row_members columns.now id vs }
+{
+    let mut order = ArrayVec::new();
+    let id = Member {
+        name: "id",
+        source: Source::Id,
+    };
+    add_member(&mut order, id);
+    'columns: for (i, column) in columns.iter().enumerate() {
+        let value = Member {
+            name: column.name.as_str(),
+            source: Source::Column(i),
+        };
+        add_member(&mut order, value);
+    }
+    order
 }
 
 fn write_value(writer: &mut Writer, value: &Value) -> Result<(), AllocError>
@@ -81,41 +136,57 @@ fn write_ordered(
     writer: &mut Writer,
     id: u64,
     values: &[Value],
-    order: &BTreeMap<&str, Source>,
+    order: &[Member],
 ) -> Result<(), AllocError>
-    ensures tokens { OnOk result (writer.new.tokens ≡ writer.old.tokens ++ json_tokens (outline (object (shown_members id values.now order.now.entries)))) }
+    ensures tokens { OnOk result (writer.new.tokens ≡ writer.old.tokens ++ json_tokens (outline (object (shown_members id values.now order.now)))) }
     ensures before { OnOk result (writer.new.before ≡ writer.old.before) }
 {
     writer.begin_object()?;
-    'members: for (name, source) in order {
-        writer.key(name)?;
-        write_source(writer, id, values, *source)?;
+    'members: for member in order {
+        writer.key(member.name)?;
+        write_source(writer, id, values, member.source)?;
     }
     writer.end_object()?;
     Ok(())
 }
 
-/// Writes a row as an object, in the order of the columns that is given. A row without a value for each column shows those
-/// that it has.
+/// Writes a row that has fewer values than there are columns: it shows those that it has.
+#[cold]
+#[inline(never)]
+fn write_short_row(
+    writer: &mut Writer,
+    id: u64,
+    values: &[Value],
+    columns: &[Column],
+) -> Result<(), AllocError>
+    requires few { length columns.now ≤ MAX_COLUMNS }
+    requires shorter { length values.now ≤ length columns.now }
+    ensures tokens { OnOk result (writer.new.tokens ≡ writer.old.tokens ++ json_tokens (outline (row_data columns.now id values.now))) }
+    ensures before { OnOk result (writer.new.before ≡ writer.old.before) }
+{
+    let (known, _) = columns.split_at(values.len());
+    let order = row_order(known);
+    write_ordered(writer, id, values, order.as_slice())
+}
+
+/// Writes a row as an object, in the order of the columns that is given.
 fn write_row(
-    alloc: Global,
     writer: &mut Writer,
     id: u64,
     row: &Record,
     columns: &[Column],
-    order: &BTreeMap<&str, Source>,
+    order: &[Member],
 ) -> Result<(), AllocError>
-    requires { (n : ℕ) (vs : List ValueSpec) → length columns.now ≤ length vs → shown_members n vs order.now.entries ≡ rows.row_members columns.now n vs }
+    requires few { length columns.now ≤ MAX_COLUMNS }
+    requires order { (n : ℕ) (vs : List ValueSpec) → length columns.now ≤ length vs → shown_members n vs order.now ≡ rows.row_members columns.now n vs }
     ensures tokens { OnOk result (writer.new.tokens ≡ writer.old.tokens ++ json_tokens (outline (row_data columns.now id row.now))) }
     ensures before { OnOk result (writer.new.before ≡ writer.old.before) }
 {
     let values = row.values();
-    if values.len() >= columns.len() {
-        return write_ordered(writer, id, values, order);
+    if values.len() < columns.len() {
+        return write_short_row(writer, id, values, columns);
     }
-    let (known, _) = columns.split_at(values.len());
-    let own_order = row_order(alloc, known)?;
-    write_ordered(writer, id, values, &own_order)
+    write_ordered(writer, id, values, order)
 }
 
 /// The text of the reply that shows a row.
@@ -125,27 +196,27 @@ pub(crate) fn row_text(
     row: &Record,
     columns: &[Column],
 ) -> Result<Vec<u8>, AllocError>
+    requires { length columns.now ≤ MAX_COLUMNS }
     ensures { IfOk result (λ t. t.items
         ≡ compact_text (object (member (codes "ok") (boolean true) (member (codes "row") (row_data columns.now id row.now) no_members)))) }
 {
-    let order = row_order(alloc, columns)?;
-    let mut writer = Writer::new(Vec::with_capacity(alloc, REPLY_ROOM)?);
-    writer.begin_object()?;
-    writer.key("ok")?;
-    writer.boolean(true)?;
-    writer.key("row")?;
-    write_row(alloc, &mut writer, id, row, columns, &order)?;
-    writer.end_object()?;
-    Ok(writer.into_inner())
+    let order = row_order(columns);
+    let mut text = Vec::with_capacity(alloc, REPLY_ROOM)?;
+    text.extend_from_slice(b"{\"ok\":true,\"row\":")?;
+    let mut writer = Writer::new(text);
+    write_row(&mut writer, id, row, columns, order.as_slice())?;
+    let mut text = writer.into_inner();
+    text.push(b'}')?;
+    Ok(text)
 }
 
 /// Writes rows as an array.
 fn write_rows(
-    alloc: Global,
     writer: &mut Writer,
     rows: &[(u64, &Record)],
     columns: &[Column],
 ) -> Result<(), AllocError>
+    requires { length columns.now ≤ MAX_COLUMNS }
     ensures tokens { OnOk result (writer.new.tokens
         ≡ writer.old.tokens ++ json_tokens (outline (array (rows_items columns.now (map (λ r. (r.0, r.1.now)) rows.now))))) }
     ensures before { OnOk result (writer.new.before ≡ writer.old.before) }
@@ -155,13 +226,24 @@ fn write_rows(
         writer.end_array()?;
         return Ok(());
     }
-    let order = row_order(alloc, columns)?;
+    let order = row_order(columns);
     'rows: for row in rows {
         let (id, row) = *row;
-        write_row(alloc, writer, id, row, columns, &order)?;
+        write_row(writer, id, row, columns, order.as_slice())?;
     }
     writer.end_array()?;
     Ok(())
+}
+
+/// The text before the rows of a reply, by whether more follow.
+fn rows_front(more: bool) -> &'static [u8]
+    ensures { result.now ≡ shown.rows_front more }
+{
+    if more {
+        b"{\"more\":true,\"ok\":true,\"rows\":"
+    } else {
+        b"{\"more\":false,\"ok\":true,\"rows\":"
+    }
 }
 
 /// The text of the reply that shows several rows, and whether more follow.
@@ -171,19 +253,17 @@ pub(crate) fn rows_text(
     more: bool,
     columns: &[Column],
 ) -> Result<Vec<u8>, AllocError>
+    requires { length columns.now ≤ MAX_COLUMNS }
     ensures { IfOk result (λ t. t.items
         ≡ compact_text (object (member (codes "more") (boolean more) (member (codes "ok") (boolean true)
         (member (codes "rows") (array (rows_items columns.now (map (λ r. (r.0, r.1.now)) rows.now))) no_members))))) }
 {
     let room = REPLY_ROOM + rows.len().min(MAX_PAGE) * ROW_ROOM;
-    let mut writer = Writer::new(Vec::with_capacity(alloc, room)?);
-    writer.begin_object()?;
-    writer.key("more")?;
-    writer.boolean(more)?;
-    writer.key("ok")?;
-    writer.boolean(true)?;
-    writer.key("rows")?;
-    write_rows(alloc, &mut writer, rows, columns)?;
-    writer.end_object()?;
-    Ok(writer.into_inner())
+    let mut text = Vec::with_capacity(alloc, room)?;
+    text.extend_from_slice(rows_front(more))?;
+    let mut writer = Writer::new(text);
+    write_rows(&mut writer, rows, columns)?;
+    let mut text = writer.into_inner();
+    text.push(b'}')?;
+    Ok(text)
 }

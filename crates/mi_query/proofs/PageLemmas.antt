@@ -1,5 +1,6 @@
 -- Pages that are walked, and the segments that they are of.
-use Rattle.std.proofs.Common.{◌≡◌, ℕ, suc, ◌+◌, ◌-◌, ◌<◌, ◌≤◌, min, Bool, true, false, ◌⊎◌, inl, inr, List, [], ◌∷◌, ◌++◌, map, length, take, drop, reverse, refl, ap, ap₂, sym, ◌∙◌, subst, arith}
+use Rattle.std.proofs.Common.{◌≡◌, ℕ, suc, ◌+◌, ◌-◌, ◌<◌, ◌≤◌, min, Bool, true, false, ◌⊎◌, inl, inr, List, []}
+use Rattle.std.proofs.Common.{◌∷◌, ◌++◌, map, length, take, drop, reverse, refl, ap, ap₂, sym, ◌∙◌, subst, arith}
 use Rattle.std.specs.Prelude.{if◌then◌else◌, nat_lt, slice_get, IsTrue}
 use Rattle.std.specs.declared.option.Option.{Option}
 use Rattle.std.specs.declared.option.Option.TheVariants.{None, Some}
@@ -31,7 +32,8 @@ start reversed from to ids = if reversed then length ids - to else from
 segment_forth : (from to : ℕ) (ids : List ℕ) → from ≤ to → drop from (take to ids) ≡ take (to - from) (drop from ids)
 segment_forth from to ids le = ap (λ n. drop from (take n ids)) (let e : to ≡ from + (to - from) = omega arith in e) ∙ drop-take from (to - from) ids
 
-segment_back : (from to : ℕ) (ids : List ℕ) → from ≤ to → to ≤ length ids → reverse (drop from (take to ids)) ≡ take (to - from) (drop (length ids - to) (reverse ids))
+segment_back : (from to : ℕ) (ids : List ℕ) → from ≤ to → to ≤ length ids
+    → reverse (drop from (take to ids)) ≡ take (to - from) (drop (length ids - to) (reverse ids))
 segment_back from to ids le within =
     let front : List ℕ = take to ids in
     let piece : List ℕ = drop from front in
@@ -39,19 +41,21 @@ segment_back from to ids le within =
     let ends : length (reverse (drop to ids)) ≡ length ids - to = length-reverse (drop to ids) ∙ length-drop to ids in
     let mine : length (reverse piece) ≡ to - from = length-reverse piece ∙ length-drop from front ∙ omega arith in
     let whole : reverse ids ≡ reverse (drop to ids) ++ reverse front = ap reverse (sym (take-append-drop to ids)) ∙ reverse-append front (drop to ids) in
-    let cut : drop (length ids - to) (reverse ids) ≡ reverse front = ap (drop (length ids - to)) whole ∙ ap (λ n. drop n (reverse (drop to ids) ++ reverse front)) (sym ends) ∙ drop-append_seam (reverse (drop to ids)) (reverse front) in
-    let parts : reverse front ≡ reverse piece ++ reverse (take from front) = ap reverse (sym (take-append-drop from front)) ∙ reverse-append (take from front) piece in
+    let cut : drop (length ids - to) (reverse ids) ≡ reverse front = ap (drop (length ids - to)) whole
+    ∙ ap (λ n. drop n (reverse (drop to ids) ++ reverse front)) (sym ends) ∙ drop-append_seam (reverse (drop to ids)) (reverse front) in
+    let parts : reverse front ≡ reverse piece ++ reverse (take from front) =
+    ap reverse (sym (take-append-drop from front)) ∙ reverse-append (take from front) piece in
     sym (take-append_seam (reverse piece) (reverse (take from front)))
     ∙ ap (λ n. take n (reverse piece ++ reverse (take from front))) mine
     ∙ ap (take (to - from)) (sym parts ∙ sym cut)
 
-pub turned_segment : (reversed : Bool) (from to : ℕ) (ids : List ℕ) → from ≤ to → to ≤ length ids
+turned_segment : (reversed : Bool) (from to : ℕ) (ids : List ℕ) → from ≤ to → to ≤ length ids
     → turned reversed (drop from (take to ids)) ≡ take (to - from) (drop (start reversed from to ids) (turned reversed ids))
 turned_segment true from to ids le within = segment_back from to ids le within
 turned_segment false from to ids le within = segment_forth from to ids le
 
 -- the first id of a segment
-pub turned_first : (reversed : Bool) (from to : ℕ) (ids : List ℕ) → from < to → to ≤ length ids
+turned_first : (reversed : Bool) (from to : ℕ) (ids : List ℕ) → from < to → to ≤ length ids
     → slice_get ids (if reversed then to - 1 else from) ≡ slice_get (turned reversed ids) (start reversed from to ids)
 turned_first true from to ids l within =
     let inside : length ids - to < length ids = omega arith in
@@ -73,7 +77,7 @@ length-turned true ids = length-reverse ids
 length-turned false ids = refl
 
 -- the page of a segment
-pub segment_page : (reversed : Bool) (from to limit : ℕ) (ids between page : List ℕ) → between ≡ drop from (take to ids) → from < to → to ≤ length ids
+segment_page : (reversed : Bool) (from to limit : ℕ) (ids between page : List ℕ) → between ≡ drop from (take to ids) → from < to → to ≤ length ids
     → page ≡ take (min limit (to - from)) (drop (start reversed from to ids) (turned reversed ids))
     → record { ids = page; more = nat_lt limit (to - from) } ≡ page_of limit (turned reversed between)
 segment_page reversed from to limit ids between page is l within given =
@@ -81,14 +85,15 @@ segment_page reversed from to limit ids between page is l within given =
     let taken : length (take to ids) ≡ min to (length ids) = length-take to ids in
     let long : length (turned reversed between) ≡ to - from = length-turned reversed between ∙ ap length is ∙ omega arith in
     same_page _ _
-    (given ∙ sym (take_both limit (to - from) _) ∙ ap (take limit) (sym (turned_segment reversed from to ids (omega arith) within) ∙ ap (turned reversed) (sym is)))
+    (given ∙ sym (take_both limit (to - from) _)
+    ∙ ap (take limit) (sym (turned_segment reversed from to ids (omega arith) within) ∙ ap (turned reversed) (sym is)))
     (ap (nat_lt limit) (sym long))
 
 page_of_none : (limit : ℕ) → page_of limit [] ≡ record { ids = []; more = false }
 page_of_none limit = same_page _ _ (take_all limit [] (omega arith)) (le-ltb limit 0 (omega arith))
 
 -- an empty one
-pub empty_page : (reversed : Bool) (limit : ℕ) (between : List ℕ) → between ≡ [] → page_of limit (turned reversed between) ≡ record { ids = []; more = false }
+empty_page : (reversed : Bool) (limit : ℕ) (between : List ℕ) → between ≡ [] → page_of limit (turned reversed between) ≡ record { ids = []; more = false }
 empty_page true limit between is = ap (λ ids. page_of limit (reverse ids)) is ∙ page_of_none limit
 empty_page false limit between is = ap (page_of limit) is ∙ page_of_none limit
 
@@ -105,12 +110,12 @@ module _ (s : Shape) (t : Table) (x : ℕ) (low : Lower) (high : Upper) (sorted 
   range_empty reversed limit le = empty_page reversed limit (page.between s t x low high) (between_is ∙ segment_empty from to (view s t x) le)
 
   -- where the walk of a range begins
-  pub range_first : (reversed : Bool) → from < to
+  range_first : (reversed : Bool) → from < to
       → slice_get (view s t x) (if reversed then to - 1 else from) ≡ slice_get (turned reversed (view s t x)) (start reversed from to (view s t x))
   range_first reversed l = turned_first reversed from to (view s t x) l to_within_view
 
   -- the page of a range
-  pub range_page : (reversed : Bool) (limit : ℕ) (ids : List ℕ) → from < to
+  range_page : (reversed : Bool) (limit : ℕ) (ids : List ℕ) → from < to
       → ids ≡ take (min limit (to - from)) (drop (start reversed from to (view s t x)) (turned reversed (view s t x)))
       → record { ids = ids; more = nat_lt limit (to - from) } ≡ page.range s t x low high reversed limit
   range_page reversed limit ids l given =
@@ -118,15 +123,21 @@ module _ (s : Shape) (t : Table) (x : ℕ) (low : Lower) (high : Upper) (sorted 
 
   -- there is a record where it begins
   pub range_begins : (reversed : Bool) (n : ℕ) → from < to → n ≡ (if reversed then to - 1 else from) → slice_get (view s t x) n ≡ None → ⊥
-  range_begins true n l is none = let past : length (view s t x) ≤ n = none_means_past (view s t x) n none in let few : to ≤ length (view s t x) = to_within_view in omega arith
-  range_begins false n l is none = let past : length (view s t x) ≤ n = none_means_past (view s t x) n none in let few : to ≤ length (view s t x) = to_within_view in omega arith
+  range_begins true n l is none =
+      let past : length (view s t x) ≤ n = none_means_past (view s t x) n none in let few : to ≤ length (view s t x) = to_within_view in omega arith
+  range_begins false n l is none =
+      let past : length (view s t x) ≤ n = none_means_past (view s t x) n none in let few : to ≤ length (view s t x) = to_within_view in omega arith
 
-  module _ (reversed : Bool) (limit n first : ℕ) (l : from < to) (place : n ≡ (if reversed then to - 1 else from)) (at : slice_get (view s t x) n ≡ Some first) (once : IsOnce (view s t x)) where
-    same_page_is : record { ids = ids_from s t x reversed first (min limit (to - from)); more = nat_lt limit (to - from) } ≡ page.range s t x low high reversed limit
+  module _ (reversed : Bool) (limit n first : ℕ) (l : from < to) (place : n ≡ (if reversed then to - 1 else from))
+      (at : slice_get (view s t x) n ≡ Some first) (once : IsOnce (view s t x)) where
+    same_page_is : record { ids = ids_from s t x reversed first (min limit (to - from)); more = nat_lt limit (to - from) }
+        ≡ page.range s t x low high reversed limit
     same_page_is =
-        let begins : slice_get (turned reversed (view s t x)) (start reversed from to (view s t x)) ≡ Some first = sym (range_first reversed l) ∙ ap (slice_get (view s t x)) (sym place) ∙ at in
+        let begins : slice_get (turned reversed (view s t x)) (start reversed from to (view s t x))
+        ≡ Some first = sym (range_first reversed l) ∙ ap (slice_get (view s t x)) (sym place) ∙ at in
         range_page reversed limit (ids_from s t x reversed first (min limit (to - from))) l
-        (ap (take (min limit (to - from))) (from_at (turned reversed (view s t x)) (once_turned reversed (view s t x) once) (start reversed from to (view s t x)) first begins))
+        (ap (take (min limit (to - from))) (from_at (turned reversed (view s t x))
+        (once_turned reversed (view s t x) once) (start reversed from to (view s t x)) first begins))
 
     -- the rows of the walk are those of the range
     pub range_rows : rows_from s t x reversed first (min limit (to - from)) ≡ map (row t) (page.range s t x low high reversed limit).ids
@@ -182,7 +193,8 @@ module _ (s : Shape) (t : Table) (x : ℕ) (after : Option ℕ) (limit : ℕ) wh
         ∙ ap (map (row t)) (take-take limit more (drop at (view s t x)) le)
         ∙ ap (λ (p : Page). map (row t) p.ids) (list_is after)
 
-    pub list_more : (n : ℕ) → n ≡ length (rows_from s t x false first more) → (limit < more) ⊎ (length (view s t x) ≤ limit) → nat_lt limit n ≡ (page.list s t x after limit).more
+    pub list_more : (n : ℕ) → n ≡ length (rows_from s t x false first more)
+        → (limit < more) ⊎ (length (view s t x) ≤ limit) → nat_lt limit n ≡ (page.list s t x after limit).more
     list_more n is enough =
         let rest : length (drop at (view s t x)) ≡ length (view s t x) - at = length-drop at (view s t x) in
         ap (nat_lt limit) (is ∙ ap length walked ∙ length-map_rows (row t) (take more (drop at (view s t x))))

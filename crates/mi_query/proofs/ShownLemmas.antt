@@ -11,13 +11,16 @@ use Rattle.mi_model.proofs.InvariantLaws.{table_is}
 use Rattle.mi_model.proofs.PlaceLaws.{each_in_view, length-view, listed_within, there_at}
 
 -- an index of a database shows each record of its table once, as many as there are
-pub each_shown : (d : Database) (n x : ℕ) → IsDatabase d → n < length d.catalog.tables → x < length (schema_of d n).indexes → ListsEach (table_of d n) (view (schema_of d n) (table_of d n) x)
+pub each_shown : (d : Database) (n x : ℕ) → IsDatabase d → n < length d.catalog.tables
+    → x < length (schema_of d n).indexes → ListsEach (table_of d n) (view (schema_of d n) (table_of d n) x)
 each_shown d n x is there within = each_in_view (schema_of d n) (table_of d n) x (table_is d n is there) within
 
-pub all_shown : (d : Database) (n x : ℕ) → IsDatabase d → n < length d.catalog.tables → x < length (schema_of d n).indexes → length (view (schema_of d n) (table_of d n) x) ≡ size (table_of d n)
+pub all_shown : (d : Database) (n x : ℕ) → IsDatabase d → n < length d.catalog.tables
+    → x < length (schema_of d n).indexes → length (view (schema_of d n) (table_of d n) x) ≡ size (table_of d n)
 all_shown d n x is there within = length-view (schema_of d n) (table_of d n) x (table_is d n is there) within
 
-pub each_listed : (d : Database) (n x : ℕ) → IsDatabase d → n < length d.catalog.tables → IsTrue (shows_one_list (index_at (schema_of d n) x).kind) → ListsEach (table_of d n) (view (schema_of d n) (table_of d n) x)
+pub each_listed : (d : Database) (n x : ℕ) → IsDatabase d → n < length d.catalog.tables
+    → IsTrue (shows_one_list (index_at (schema_of d n) x).kind) → ListsEach (table_of d n) (view (schema_of d n) (table_of d n) x)
 each_listed d n x is there one = each_shown d n x is there (listed_within (schema_of d n) x one)
 
 -- an id that an index shows is there

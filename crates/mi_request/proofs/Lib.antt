@@ -1,4 +1,4 @@
+pub mod NumberLemmas
 pub mod ObjectLemmas
 pub mod Parsing
 pub mod ShortLemmas
-pub mod TokenLemmas

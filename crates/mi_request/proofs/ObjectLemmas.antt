@@ -1,70 +1,248 @@
--- Members of objects: which names they have, and one taken out.
-use Rattle.std.proofs.Common.{◌≡◌, ℕ, List, [], ◌∷◌, map, Bool, true, false, cond, Option, Some, None, option_map, String, Global, Bor, string_bytes, refl, sym, ap, ◌∙◌, ◌&&◌, ◌||◌, true≢false, Ordering, Less, Equal, Greater, nat_cmp}
+-- Members of objects: which names they have, what one of a name is, and one taken out.
+use Rattle.std.proofs.Common.{◌≡◌, ℕ, zero, suc, List, [], ◌∷◌, ◌++◌, length, map, get_or, set, Bool, true, false, cond, Option, Some, None}
+use Rattle.std.proofs.Common.{Global, Bor, refl, sym, ap, ap₂, ◌∙◌, ◌&&◌, ◌||◌, ◌⊎◌, inl, inr, true≢false, Ordering, Less, Equal, Greater, nat_cmp, rules}
 use Rattle.std.specs.List.{list_any, list_all}
-use Rattle.std.specs.Map.{keys_of, set_value, lookup}
-use Rattle.std.specs.BTreeMap.{is_at}
 use Rattle.std.specs.Ordering.{match_ordering, is_eq}
 use Rattle.std.specs.Cmp.Lexicographic.{slice_cmp}
 use Rattle.std.specs.Str.{bytes_eq}
-use Rattle.std.proofs.lemmas.Option.{none-some}
 use Rattle.std.proofs.lemmas.Map.Text.{is_eq-slice_cmp}
 use Rattle.std.proofs.lemmas.Slice.Eq.{bytes_eq-Decides}
-use Rattle.serde_json.specs.Data.{Data, null, Members, no_members, member}
+use Rattle.json.specs.Value.{value_view, members_view}
+use Rattle.json.specs.declared.value.Value.{Value, Null, the_lemmas}
+use Rattle.serde_json.specs.Data.{Data, null, Members, no_members, member, put}
 use Rattle.serde_json.specs.Find.{get_member}
-use Rattle.serde_json.specs.View.{view, members_view}
-use Rattle.serde_json.specs.declared.value.Value.{Value as Json}
-use Rattle.serde_json.proofs.Views.{view-lookup, view_of_ref}
 use Rattle.mi_request.specs.Json.{has_only, emptied}
+use Rattle.mi_request.specs.Meant.{meant_members, seen, members_seen, or_first, last_at}
+
+-- ---- names
+
+by_order : {A : Type 0} (o : Ordering) (a b : A) → match_ordering o a b a ≡ cond (is_eq o) b a
+by_order Less a b = refl
+by_order Equal a b = refl
+by_order Greater a b = refl
+
+same_name : (k l : List ℕ) → bytes_eq k l ≡ true → k ≡ l
+same_name k l e = (bytes_eq-Decides k l).0 e
+
+eq_self : (k : List ℕ) → bytes_eq k k ≡ true
+eq_self k = (bytes_eq-Decides k k).1 refl
+
+-- what the order of two names says of their being the same
+eq_of : (k l : List ℕ) (o : Ordering) → slice_cmp nat_cmp k l ≡ o → is_eq o ≡ bytes_eq k l
+eq_of k l o is = ap is_eq (sym is) ∙ is_eq-slice_cmp k l
+
+apart : (name k l : List ℕ) → bytes_eq k l ≡ false → bytes_eq name k ≡ true → bytes_eq name l ≡ true → ⊥
+apart name k l other same_k same_l =
+    true≢false (sym same_l ∙ ap (λ n. bytes_eq n l) (same_name name k same_k) ∙ other)
+
+-- ---- a member put into an object
+
+-- the member in front is the one of its name
+get_front : (name l : List ℕ) (e : Data) (ms : Members) → get_member name (member l e ms) ≡ cond (bytes_eq name l) (Some e) (get_member name ms)
+get_front name l e ms =
+    by_order (slice_cmp nat_cmp name l) (get_member name ms) (Some e) ∙ ap (λ b. cond b (Some e) (get_member name ms)) (is_eq-slice_cmp name l)
+
+first_wins : {A : Type 0} (b : Bool) (x y z : A) → cond b x z ≡ cond b x (cond b y z)
+first_wins true x y z = refl
+first_wins false x y z = refl
+
+crossed : {A : Type 0} (b c : Bool) (x y z : A) → (b ≡ true → c ≡ true → ⊥) → cond c y (cond b x z) ≡ cond b x (cond c y z)
+crossed true true x y z never = absurd (never refl refl)
+crossed true false x y z never = refl
+crossed false c x y z never = refl
+
+get_put_at : (o : Ordering) (name k l : List ℕ) (d e : Data) (ms : Members) → slice_cmp nat_cmp k l ≡ o
+    → get_member name (put k d ms) ≡ cond (bytes_eq name k) (Some d) (get_member name ms)
+    → get_member name (match_ordering o (member k d (member l e ms)) (member l d ms) (member l e (put k d ms)))
+    ≡ cond (bytes_eq name k) (Some d) (get_member name (member l e ms))
+get_put_at Less name k l d e ms is later = get_front name k d (member l e ms)
+get_put_at Equal name k l d e ms is later =
+    let same : k ≡ l = same_name k l (sym (eq_of k l Equal is)) in
+    get_front name l d ms ∙ first_wins (bytes_eq name l) (Some d) (Some e) (get_member name ms)
+    ∙ ap₂ (λ b m. cond b (Some d) m) (ap (bytes_eq name) (sym same)) (sym (get_front name l e ms))
+get_put_at Greater name k l d e ms is later =
+    get_front name l e (put k d ms) ∙ ap (cond (bytes_eq name l) (Some e)) later
+    ∙ crossed (bytes_eq name k) (bytes_eq name l) (Some d) (Some e) (get_member name ms) (apart name k l (sym (eq_of k l Greater is)))
+    ∙ ap (cond (bytes_eq name k) (Some d)) (sym (get_front name l e ms))
+
+get_member-put : (name k : List ℕ) (d : Data) (ms : Members) → get_member name (put k d ms) ≡ cond (bytes_eq name k) (Some d) (get_member name ms)
+get_member-put name k d no_members = get_front name k d no_members
+get_member-put name k d (member l e ms) = get_put_at _ name k l d e ms refl (get_member-put name k d ms)
+
+-- ---- null in place of a member's value
+
+emptied_put_at : (o : Ordering) (k l : List ℕ) (d e : Data) (ms : Members) → slice_cmp nat_cmp k l ≡ o → emptied k (put k d ms) ≡ put k null ms
+    → emptied k (match_ordering o (member k d (member l e ms)) (member l d ms) (member l e (put k d ms)))
+    ≡ match_ordering o (member k null (member l e ms)) (member l null ms) (member l e (put k null ms))
+emptied_put_at Less k l d e ms is later =
+    ap (λ b. cond b (member k null (member l e ms)) (member k d (emptied k (member l e ms)))) (eq_self k)
+emptied_put_at Equal k l d e ms is later = ap (λ b. cond b (member l null ms) (member l d (emptied k ms))) (sym (eq_of k l Equal is))
+emptied_put_at Greater k l d e ms is later =
+    ap (λ b. cond b (member l null (put k d ms)) (member l e (emptied k (put k d ms)))) (sym (eq_of k l Greater is)) ∙ ap (member l e) later
+
+-- of the one that was put
+emptied-put : (k : List ℕ) (d : Data) (ms : Members) → emptied k (put k d ms) ≡ put k null ms
+emptied-put k d no_members = ap (λ b. cond b (member k null no_members) (member k d no_members)) (eq_self k)
+emptied-put k d (member l e ms) = emptied_put_at _ k l d e ms refl (emptied-put k d ms)
+
+emptied_other_at : (t : Bool) (o : Ordering) (name k l : List ℕ) (d e : Data) (ms : Members) → bytes_eq name k ≡ false
+    → bytes_eq name l ≡ t → slice_cmp nat_cmp k l ≡ o → emptied name (put k d ms) ≡ put k d (emptied name ms)
+    → emptied name (match_ordering o (member k d (member l e ms)) (member l d ms) (member l e (put k d ms)))
+    ≡ put k d (cond t (member l null ms) (member l e (emptied name ms)))
+emptied_other_at true Less name k l d e ms other here is later = rw (other, here, is) refl
+emptied_other_at false Less name k l d e ms other here is later = rw (other, here, is) refl
+emptied_other_at true Equal name k l d e ms other here is later =
+    absurd (true≢false (sym here ∙ ap (bytes_eq name) (sym (same_name k l (sym (eq_of k l Equal is)))) ∙ other))
+emptied_other_at false Equal name k l d e ms other here is later = rw (here, is) refl
+emptied_other_at true Greater name k l d e ms other here is later = rw (here, is) refl
+emptied_other_at false Greater name k l d e ms other here is later = rw (here, is) (ap (member l e) later)
+
+-- of another
+emptied-put_other : (name k : List ℕ) (d : Data) (ms : Members) → bytes_eq name k ≡ false → emptied name (put k d ms) ≡ put k d (emptied name ms)
+emptied-put_other name k d no_members other = ap (λ b. cond b (member k null no_members) (member k d no_members)) other
+emptied-put_other name k d (member l e ms) other = emptied_other_at _ _ name k l d e ms other refl refl (emptied-put_other name k d ms other)
+
+-- ---- which names there are
+
+swapped : (b c d : Bool) → (b && (c && d)) ≡ (c && (b && d))
+swapped true c d = refl
+swapped false true d = refl
+swapped false false d = refl
+
+twice : (b c : Bool) → (b && c) ≡ (b && (b && c))
+twice true c = refl
+twice false c = refl
+
+has_put_at : (o : Ordering) (names : List (List ℕ)) (k l : List ℕ) (d e : Data) (ms : Members) → slice_cmp nat_cmp k l ≡ o
+    → has_only names (put k d ms) ≡ (list_any (λ n. bytes_eq k n) names && has_only names ms)
+    → has_only names (match_ordering o (member k d (member l e ms)) (member l d ms) (member l e (put k d ms)))
+    ≡ (list_any (λ n. bytes_eq k n) names && has_only names (member l e ms))
+unfolding has_only
+has_put_at Less names k l d e ms is later = refl
+has_put_at Equal names k l d e ms is later =
+    let same : k ≡ l = same_name k l (sym (eq_of k l Equal is)) in
+    twice (list_any (λ n. bytes_eq l n) names) (has_only names ms)
+    ∙ ap (λ x. list_any (λ n. bytes_eq x n) names && (list_any (λ n. bytes_eq l n) names && has_only names ms)) (sym same)
+has_put_at Greater names k l d e ms is later =
+    ap (λ b. list_any (λ n. bytes_eq l n) names && b) later
+    ∙ swapped (list_any (λ n. bytes_eq l n) names) (list_any (λ n. bytes_eq k n) names) (has_only names ms)
+
+has_only-put : (names : List (List ℕ)) (k : List ℕ) (d : Data) (ms : Members)
+    → has_only names (put k d ms) ≡ (list_any (λ n. bytes_eq k n) names && has_only names ms)
+unfolding has_only
+has_only-put names k d no_members = refl
+has_only-put names k d (member l e ms) = has_put_at _ names k l d e ms refl (has_only-put names k d ms)
+
+-- ---- members as they were read
+
+abbrev pub Member : Type 0
+Member = Bor (List ℕ) × Value Global
+
+-- these members, put after those that were found
+abbrev onto : List Member → Members → Members
+onto ms found = meant_members (members_view ms) found
 
 list_any-map : {A : Type 0} (f : A → List ℕ) (k : List ℕ) (xs : List A) → list_any (λ x. bytes_eq k (f x)) xs ≡ list_any (λ n. bytes_eq k n) (map f xs)
 list_any-map f k [] = refl
 list_any-map f k (x ∷ xs) = ap (λ b. bytes_eq k (f x) || b) (list_any-map f k xs)
 
--- each key is one of the names, so no member has another name
-pub has_only-keys : {A : Type 0} (f : A → List ℕ) (xs : List A) (es : List (String Global × Json)) → list_all (λ k. list_any (λ x. bytes_eq (string_bytes k) (f x)) xs) (keys_of es) ≡ has_only (map f xs) (members_view es)
-unfolding has_only
-has_only-keys f xs [] = refl
-has_only-keys f xs (e ∷ es) =
-    ap (λ b. b && list_all (λ k. list_any (λ x. bytes_eq (string_bytes k) (f x)) xs) (keys_of es)) (list_any-map f (string_bytes e.0) xs)
-    ∙ ap (λ b. list_any (λ n. bytes_eq (string_bytes e.0) n) (map f xs) && b) (has_only-keys f xs es)
+both_true : (b : Bool) → b ≡ (b && true)
+both_true true = refl
+both_true false = refl
 
--- the member that a look-up finds
-pub looked_up : (name : List ℕ) (es : List (String Global × Json)) (r : Option Json) → r ≡ lookup (is_at (λ k. slice_cmp nat_cmp name (string_bytes k))) es → option_map view r ≡ get_member name (members_view es)
-looked_up name es r is = ap (option_map view) is ∙ view-lookup name es
-
--- the members after null was written through what `get_mut` lends
-pub set_to_null : (name : List ℕ) (es : List (String Global × Json)) (w : Json) → view w ≡ null
-    → members_view (set_value (is_at (λ k. slice_cmp nat_cmp name (string_bytes k))) es w) ≡ emptied name (members_view es)
-set_to_null name [] w is = refl
-set_to_null name (e ∷ es) w is =
-    by_test _ (is_eq-slice_cmp name (string_bytes e.0))
-    ∙ ap (λ d. cond (bytes_eq name key) (member key d (members_view es)) (member key (view e.1) (members_view rest))) is
-    ∙ ap (λ ms. cond (bytes_eq name key) (member key null (members_view es)) (member key (view e.1) ms)) (set_to_null name es w is)
+has_only-onto : {A : Type 0} (f : A → List ℕ) (xs : List A) (ms : List Member) (found : Members)
+    → (list_all (λ m. list_any (λ x. bytes_eq m.0.now (f x)) xs) ms && has_only (map f xs) found) ≡ has_only (map f xs) (onto ms found)
+has_only-onto f xs [] found = refl
+has_only-onto f xs (m ∷ ms) found =
+    let mine = list_any (λ x. bytes_eq m.0.now (f x)) xs in
+    let others = list_all (λ y. list_any (λ x. bytes_eq y.0.now (f x)) xs) ms in
+    moved mine others (has_only (map f xs) found)
+    ∙ ap (λ b. others && (b && has_only (map f xs) found)) (list_any-map f m.0.now xs)
+    ∙ ap (λ b. others && b) (sym (has_only-put (map f xs) m.0.now (seen m.1) found))
+    ∙ has_only-onto f xs ms (put m.0.now (seen m.1) found)
   where
-    key : List ℕ
-    key = string_bytes e.0
+    moved : (b c d : Bool) → ((b && c) && d) ≡ (c && (b && d))
+    moved true c d = refl
+    moved false true d = refl
+    moved false false d = refl
 
-    rest : List (String Global × Json)
-    rest = set_value (is_at (λ k. slice_cmp nat_cmp name (string_bytes k))) es w
+-- each name is one of these, so no member has another name
+pub has_only-names : {A : Type 0} (f : A → List ℕ) (xs : List A) (ms : List Member)
+    → list_all (λ m. list_any (λ x. bytes_eq m.0.now (f x)) xs) ms ≡ has_only (map f xs) (members_seen ms)
+unfolding has_only
+has_only-names f xs ms = both_true _ ∙ has_only-onto f xs ms no_members
 
-    by_test : (t : Bool) → t ≡ bytes_eq name (string_bytes e.0) → members_view (cond t ((e.0, w) ∷ es) (e ∷ rest))
-        ≡ cond (bytes_eq name key) (member key (view w) (members_view es)) (member key (view e.1) (members_view rest))
-    by_test true same = ap (λ t. cond t (member key (view w) (members_view es)) (member key (view e.1) (members_view rest))) same
-    by_test false same = ap (λ t. cond t (member key (view w) (members_view es)) (member key (view e.1) (members_view rest))) same
+-- ---- the last member of a name
 
-absent_at : (o : Ordering) (name n : List ℕ) (d : Data) (ms : Members) → slice_cmp nat_cmp name n ≡ o
-    → None ≡ match_ordering o (get_member name ms) (Some d) (get_member name ms) → (None ≡ get_member name ms → ms ≡ emptied name ms)
-    → member n d ms ≡ cond (bytes_eq name n) (member n null ms) (member n d (emptied name ms))
-absent_at Less name n d ms is none later =
-    ap (member n d) (later none) ∙ ap (λ t. cond t (member n null ms) (member n d (emptied name ms))) (sym (ap is_eq is) ∙ is_eq-slice_cmp name n)
-absent_at Equal name n d ms is none later = absurd (none-some d none)
-absent_at Greater name n d ms is none later =
-    ap (member n d) (later none) ∙ ap (λ t. cond t (member n null ms) (member n d (emptied name ms))) (sym (ap is_eq is) ∙ is_eq-slice_cmp name n)
+or_none : (b : Bool) (r : Option ℕ) → or_first b r ≡ None → (b ≡ false) × (r ≡ None)
+or_none b (Some i) e = absurd (cc)
+or_none true None e = absurd (cc)
+or_none false None e = (refl, refl)
 
--- where there is no such member nothing changes
-pub emptied-absent : (name : List ℕ) (ms : Members) → None ≡ get_member name ms → ms ≡ emptied name ms
-emptied-absent name no_members none = refl
-emptied-absent name (member n d ms) none = absent_at _ name n d ms refl none (emptied-absent name ms)
+-- the member of which i tells is behind the first, or it is the first
+or_some : (b : Bool) (r : Option ℕ) (i : ℕ) → or_first b r ≡ Some i → ((j : ℕ) × (r ≡ Some j) × (i ≡ suc j)) ⊎ ((r ≡ None) × (b ≡ true) × (i ≡ zero))
+or_some b (Some j) i e = inl (j, refl, cc)
+or_some true None i e = inr (refl, refl, cc)
+or_some false None i e = absurd (cc)
+
+put_first : (b : Bool) → or_first b None ≡ cond b (Some zero) None
+put_first true = refl
+put_first false = refl
+
+put_behind : (b c : Bool) (i : ℕ) (r : Option ℕ) → or_first b (cond c (Some i) r) ≡ cond c (Some (suc i)) (or_first b r)
+put_behind b true i r = refl
+put_behind b false i r = refl
+
+-- a member behind the others is the last of its name
+pub last_at-push : (name : List ℕ) (ms : List Member) (m : Member) → last_at name (ms ++ m ∷ []) ≡ cond (bytes_eq name m.0.now) (Some (length ms)) (last_at name ms)
+last_at-push name [] m = put_first (bytes_eq name m.0.now)
+last_at-push name (n ∷ ms) m =
+    ap (or_first (bytes_eq name n.0.now)) (last_at-push name ms m)
+    ∙ put_behind (bytes_eq name n.0.now) (bytes_eq name m.0.now) (length ms) (last_at name ms)
+
+pub absent : (name : List ℕ) (ms : List Member) (found : Members) → last_at name ms ≡ None → get_member name (onto ms found) ≡ get_member name found
+absent name [] found is = refl
+absent name (m ∷ ms) found is =
+    let p = or_none _ (last_at name ms) is in
+    absent name ms (put m.0.now (seen m.1) found) p.1 ∙ get_member-put name m.0.now (seen m.1) found
+    ∙ ap (λ b. cond b (Some (seen m.1)) (get_member name found)) p.0
+
+pub present : (name : List ℕ) (ms : List Member) (found : Members) (i : ℕ) (n : Member) → last_at name ms ≡ Some i
+    → get_member name (onto ms found) ≡ Some (seen (get_or ms i n).1)
+present name [] found i n is = absurd (cc)
+present name (m ∷ ms) found i n is = elim (or_some _ (last_at name ms) i is) [
+  | inl p ↦ present name ms (put m.0.now (seen m.1) found) p.0 n p.1 ∙ ap (λ j. Some (seen (get_or (m ∷ ms) j n).1)) (sym p.2)
+  | inr p ↦ absent name ms (put m.0.now (seen m.1) found) p.0 ∙ get_member-put name m.0.now (seen m.1) found
+      ∙ ap (λ b. cond b (Some (seen m.1)) (get_member name found)) p.1 ∙ ap (λ j. Some (seen (get_or (m ∷ ms) j n).1)) (sym p.2)
+]
+
+-- ---- null written over a member's value
+
+pub emptied-absent : (name : List ℕ) (ms : List Member) (found : Members) → last_at name ms ≡ None → emptied name (onto ms found) ≡ onto ms (emptied name found)
+emptied-absent name [] found is = refl
+emptied-absent name (m ∷ ms) found is =
+    let p = or_none _ (last_at name ms) is in
+    emptied-absent name ms (put m.0.now (seen m.1) found) p.1 ∙ ap (onto ms) (emptied-put_other name m.0.now (seen m.1) found p.0)
+
+seen-Null : seen {A = Global} Null ≡ null
+seen-Null = search (rules, the_lemmas)
+
+pub set_to_null : (name : List ℕ) (ms : List Member) (found : Members) (i : ℕ) (n : Member) → last_at name ms ≡ Some i
+    → onto (set ms i ((get_or ms i n).0, Null)) found ≡ emptied name (onto ms found)
+set_to_null name [] found i n is = absurd (cc)
+set_to_null name (m ∷ ms) found i n is = elim (or_some _ (last_at name ms) i is) [
+  | inl p ↦ ap (λ j. onto (set (m ∷ ms) j ((get_or (m ∷ ms) j n).0, Null)) found) p.2
+      ∙ set_to_null name ms (put m.0.now (seen m.1) found) p.0 n p.1
+  | inr p ↦
+      let same : name ≡ m.0.now = same_name name m.0.now p.1 in
+      ap (λ j. onto (set (m ∷ ms) j ((get_or (m ∷ ms) j n).0, Null)) found) p.2
+      ∙ ap (λ d. onto ms (put m.0.now d found)) seen-Null
+      ∙ ap (onto ms) (sym (emptied-put m.0.now (seen m.1) found))
+      ∙ ap (λ k. onto ms (emptied k (put m.0.now (seen m.1) found))) (sym same)
+      ∙ sym (emptied-absent name ms (put m.0.now (seen m.1) found) p.0)
+]
+
+-- ---- members of other names
 
 either : {A : Type 0} (o : Ordering) (a b : A) → is_eq o ≡ false → match_ordering o a b a ≡ a
 either Less a b e = refl
@@ -87,23 +265,3 @@ get_member-emptied k l (member n d ms) other = emptied_at _ k l n d ms refl othe
 -- the same after a call that moved a value out
 pub kept : (k l : List ℕ) (ms left : Members) → left ≡ emptied l ms → bytes_eq k l ≡ false → get_member k left ≡ get_member k ms
 kept k l ms left is other = ap (get_member k) is ∙ get_member-emptied k l ms other
-
--- the member that a look-up lends
-pub lent : (name : List ℕ) (es : List (String Global × Json)) (r : Option (Bor Json)) → option_map (λ x. x.now) r ≡ lookup (is_at (λ k. slice_cmp nat_cmp name (string_bytes k))) es → option_map (λ v. view v.now) r ≡ get_member name (members_view es)
-lent name es r is = view_of_ref r ∙ looked_up name es _ is
-
--- the members with null at these names, the last one emptied first
-abbrev pub emptied_all : List (List ℕ) → Members → Members
-emptied_all [] ms = ms
-emptied_all (n ∷ ns) ms = emptied n (emptied_all ns ms)
-
-not_named : (a b : Bool) → (a || b) ≡ false → (a ≡ false) × (b ≡ false)
-not_named true b h = absurd (true≢false h)
-not_named false b h = (refl, h)
-
--- a member of another name keeps its value where several are moved out
-pub stays : (k : List ℕ) (ns : List (List ℕ)) (ms left : Members) → left ≡ emptied_all ns ms → list_any (λ n. bytes_eq k n) ns ≡ false → get_member k left ≡ get_member k ms
-stays k [] ms left is other = ap (get_member k) is
-stays k (n ∷ ns) ms left is other =
-    let p = not_named (bytes_eq k n) _ other in
-    kept k n (emptied_all ns ms) left is p.0 ∙ stays k ns ms (emptied_all ns ms) refl p.1

@@ -2,6 +2,6 @@ pub mod Answers
 pub mod Commands
 pub mod Json
 pub mod Lines
+pub mod Meant
 pub mod ObjectCode
 pub mod Short
-pub mod Tokens

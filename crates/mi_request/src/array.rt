@@ -1,39 +1,39 @@
 //! A JSON array, seen by contracts as its items. It hands them out by moving them, and copies none.
-use serde_json::Value as Json;
+use json::Value;
 use std::marker::Model;
 
-/// A JSON array, seen as its items.
+/// A JSON array, seen as what its items mean.
 #[derive(Debug, Drop)]
-pub struct Array {
-    items: Vec<Json>,
+pub struct Array<'a> {
+    items: Vec<Value<'a>>,
 }
 
-impl Model for Array {
+impl<'a> Model for Array<'a> {
     ghost use Rattle.serde_json.specs.Data.{Items};
-    ghost use Rattle.serde_json.specs.View.{items_view};
+    ghost use Rattle.mi_request.specs.Meant.{items_seen};
     ghost use Rattle.mi_request.specs.ObjectCode.{items_code};
 
     ghost Value = { Items };
 
     ghost coded = { items_code };
 
-    ghost view = { λ a. items_view a.items.items };
+    ghost view = { λ a. items_seen a.items.items };
 }
 
-impl Array {
+impl<'a> Array<'a> {
     ghost use Rattle.std.specs.Prelude.{◌≡◌};
-    ghost use Rattle.serde_json.specs.View.{items_view};
+    ghost use Rattle.mi_request.specs.Meant.{items_seen};
 
     /// The array of these items.
-    pub(crate) fn new(items: Vec<Json>) -> Array
-        ensures { result ≡ items_view items.items }
+    pub(crate) fn new(items: Vec<Value<'a>>) -> Array<'a>
+        ensures { result ≡ items_seen items.entry.items }
     {
         Array { items }
     }
 
     /// Its items in order, moved out.
-    pub fn into_items(self) -> Vec<Json>
-        ensures { items_view result.items ≡ self }
+    pub fn into_items(self) -> Vec<Value<'a>>
+        ensures { items_seen result.items ≡ self.entry }
     {
         self.items
     }

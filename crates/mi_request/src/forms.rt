@@ -5,7 +5,6 @@ ghost use Rattle.mi_request.specs.Lines as lines;
 ghost use Rattle.mi_request.specs.declared.command.CommandName.TheVariants as name;
 
 use crate::command::CommandName;
-use crate::members::{IndexMembers, PageMembers, RoomMembers, RowMembers};
 use crate::object::Object;
 use crate::reading::{
     array, flag, lower, natural, natural_if_there, natural_or_absent, needed_object,
@@ -15,35 +14,36 @@ use crate::request::Request;
 use mi_value::limits::{MAX_RESERVED_CHANGES, MAX_RESERVED_SESSIONS};
 use std::alloc::Global;
 
-fn insert_request(object: Object) -> Option<Request>
-    ensures { result ≡ (form_of name.Insert).request object }
+fn insert_request<'a>(object: Object<'a>) -> Option<Request<'a>>
+    ensures { result ≡ (form_of name.Insert).request object.entry }
 {
-    let members = RowMembers::of(object);
-    let table = text_if_there(members.table)?;
-    let row = needed_object(members.row)?;
-    let before = place(members.before)?;
+    let table = text_if_there(&object, "table")?;
+    let (row, before) = object.into_two("row", "before");
+    let row = needed_object(row)?;
+    let before = place(before)?;
     Some(Request::Insert { table, row, before })
 }
 
-fn replace_request(object: Object) -> Option<Request>
-    ensures { result ≡ (form_of name.Replace).request object }
+fn replace_request<'a>(object: Object<'a>) -> Option<Request<'a>>
+    ensures { result ≡ (form_of name.Replace).request object.entry }
 {
-    let members = RowMembers::of(object);
-    let table = text_if_there(members.table)?;
-    let id = natural(members.id)?;
-    let row = needed_object(members.row)?;
+    let mut object = object;
+    let table = text_if_there(&object, "table")?;
+    let id = natural(&object, "id")?;
+    let row = needed_object(object.move_out("row"))?;
     Some(Request::Replace { table, id, row })
 }
 
-fn modify_request(alloc: Global, object: Object) -> Option<Request>
-    ensures { result ≡ (form_of name.Modify).request object }
+fn modify_request<'a>(alloc: Global, object: Object<'a>) -> Option<Request<'a>>
+    ensures { result ≡ (form_of name.Modify).request object.entry }
 {
-    let members = RowMembers::of(object);
-    let table = text_if_there(members.table)?;
-    let id = natural(members.id)?;
-    let set = object_or_empty(alloc, members.set)?;
-    let add = object_or_empty(alloc, members.add)?;
-    let rollback = flag(members.rollback)?;
+    let table = text_if_there(&object, "table")?;
+    let id = natural(&object, "id")?;
+    let rollback = flag(&object, "rollback");
+    let (set, add) = object.into_two("set", "add");
+    let set = object_or_empty(alloc, set)?;
+    let add = object_or_empty(alloc, add)?;
+    let rollback = rollback?;
     Some(Request::Modify {
         table,
         id,
@@ -53,33 +53,31 @@ fn modify_request(alloc: Global, object: Object) -> Option<Request>
     })
 }
 
-fn erase_request(object: Object) -> Option<Request>
-    ensures { result ≡ (form_of name.Erase).request object }
+fn erase_request<'a>(object: &Object<'a>) -> Option<Request<'a>>
+    ensures { result ≡ (form_of name.Erase).request object.now }
 {
-    let members = RowMembers::of(object);
-    let table = text_if_there(members.table)?;
-    let id = natural(members.id)?;
+    let table = text_if_there(object, "table")?;
+    let id = natural(object, "id")?;
     Some(Request::Erase { table, id })
 }
 
-fn erase_key_request(object: Object) -> Option<Request>
-    ensures { result ≡ (form_of name.EraseKey).request object }
+fn erase_key_request<'a>(object: Object<'a>) -> Option<Request<'a>>
+    ensures { result ≡ (form_of name.EraseKey).request object.entry }
 {
-    let members = IndexMembers::of(object);
-    let table = text_if_there(members.table)?;
-    let index = text(members.index)?;
-    let key = array(members.key)?;
+    let mut object = object;
+    let table = text_if_there(&object, "table")?;
+    let index = text(&object, "index")?;
+    let key = array(object.move_out("key"))?;
     Some(Request::EraseKey { table, index, key })
 }
 
-fn relocate_request(object: Object) -> Option<Request>
-    ensures { result ≡ (form_of name.Relocate).request object }
+fn relocate_request<'a>(object: &Object<'a>) -> Option<Request<'a>>
+    ensures { result ≡ (form_of name.Relocate).request object.now }
 {
-    let members = IndexMembers::of(object);
-    let table = text_if_there(members.table)?;
-    let index = text(members.index)?;
-    let id = natural(members.id)?;
-    let before = natural_if_there(members.before)?;
+    let table = text_if_there(object, "table")?;
+    let index = text(object, "index")?;
+    let id = natural(object, "id")?;
+    let before = natural_if_there(object, "before")?;
     Some(Request::Relocate {
         table,
         index,
@@ -88,72 +86,70 @@ fn relocate_request(object: Object) -> Option<Request>
     })
 }
 
-fn commit_request(object: Object) -> Option<Request>
-    ensures { result ≡ (form_of name.Commit).request object }
+fn commit_request<'a>(object: &Object<'a>) -> Option<Request<'a>>
+    ensures { result ≡ (form_of name.Commit).request object.now }
 {
-    let mut object = object;
-    let revision = natural(object.move_out("revision"))?;
+    let revision = natural(object, "revision")?;
     Some(Request::Commit { revision })
 }
 
-fn reserve_request(object: Object) -> Option<Request>
-    ensures { result ≡ (form_of name.Reserve).request object }
+fn reserve_request<'a>(object: &Object<'a>) -> Option<Request<'a>>
+    ensures { result ≡ (form_of name.Reserve).request object.now }
 {
-    let members = RoomMembers::of(object);
-    let changes = up_to(members.changes, MAX_RESERVED_CHANGES)?;
-    let sessions = up_to(members.sessions, MAX_RESERVED_SESSIONS)?;
+    let changes = up_to(object, "changes", MAX_RESERVED_CHANGES)?;
+    let sessions = up_to(object, "sessions", MAX_RESERVED_SESSIONS)?;
     Some(Request::Reserve { changes, sessions })
 }
 
-fn get_request(object: Object) -> Option<Request>
-    ensures { result ≡ (form_of name.Get).request object }
+fn get_request<'a>(object: &Object<'a>) -> Option<Request<'a>>
+    ensures { result ≡ (form_of name.Get).request object.now }
 {
-    let members = RowMembers::of(object);
-    let table = text_if_there(members.table)?;
-    let id = natural(members.id)?;
+    let table = text_if_there(object, "table")?;
+    let id = natural(object, "id")?;
     Some(Request::Get { table, id })
 }
 
-fn find_request(object: Object) -> Option<Request>
-    ensures { result ≡ (form_of name.Find).request object }
+fn find_request<'a>(object: Object<'a>) -> Option<Request<'a>>
+    ensures { result ≡ (form_of name.Find).request object.entry }
 {
-    let members = IndexMembers::of(object);
-    let table = text_if_there(members.table)?;
-    let index = text(members.index)?;
-    let key = array(members.key)?;
+    let mut object = object;
+    let table = text_if_there(&object, "table")?;
+    let index = text(&object, "index")?;
+    let key = array(object.move_out("key"))?;
     Some(Request::Find { table, index, key })
 }
 
-fn nth_request(object: Object) -> Option<Request>
-    ensures { result ≡ (form_of name.Nth).request object }
+fn nth_request<'a>(object: &Object<'a>) -> Option<Request<'a>>
+    ensures { result ≡ (form_of name.Nth).request object.now }
 {
-    let members = IndexMembers::of(object);
-    let table = text_if_there(members.table)?;
-    let index = text(members.index)?;
-    let n = natural(members.n)?;
+    let table = text_if_there(object, "table")?;
+    let index = text(object, "index")?;
+    let n = natural(object, "n")?;
     Some(Request::Nth { table, index, n })
 }
 
-fn count_request(object: Object) -> Option<Request>
-    ensures { result ≡ (form_of name.Count).request object }
+fn count_request<'a>(object: Object<'a>) -> Option<Request<'a>>
+    ensures { result ≡ (form_of name.Count).request object.entry }
 {
-    let members = IndexMembers::of(object);
-    let table = text_if_there(members.table)?;
-    let index = text(members.index)?;
-    let key = array(members.key)?;
+    let mut object = object;
+    let table = text_if_there(&object, "table")?;
+    let index = text(&object, "index")?;
+    let key = array(object.move_out("key"))?;
     Some(Request::Count { table, index, key })
 }
 
-fn range_request(object: Object) -> Option<Request>
-    ensures { result ≡ (form_of name.Range).request object }
+fn range_request<'a>(object: Object<'a>) -> Option<Request<'a>>
+    ensures { result ≡ (form_of name.Range).request object.entry }
 {
-    let members = PageMembers::of(object);
-    let table = text_if_there(members.table)?;
-    let index = text(members.index)?;
-    let lower = lower(members.lower)?;
-    let upper = upper(members.upper)?;
-    let reverse = flag(members.reverse)?;
-    let limit = page(members.limit)?;
+    let table = text_if_there(&object, "table")?;
+    let index = text(&object, "index")?;
+    let reverse = flag(&object, "reverse");
+    let limit = page(&object, "limit");
+    let (lower_member, upper_member) = object.into_two("lower", "upper");
+    let lower = lower(lower_member)?;
+    let upper = upper(upper_member)?;
+    let reverse = reverse?;
+    let limit = limit?;
     Some(Request::Range {
         table,
         index,
@@ -164,14 +160,13 @@ fn range_request(object: Object) -> Option<Request>
     })
 }
 
-fn list_request(object: Object) -> Option<Request>
-    ensures { result ≡ (form_of name.List).request object }
+fn list_request<'a>(object: &Object<'a>) -> Option<Request<'a>>
+    ensures { result ≡ (form_of name.List).request object.now }
 {
-    let members = PageMembers::of(object);
-    let table = text_if_there(members.table)?;
-    let index = text(members.index)?;
-    let after = natural_or_absent(members.after)?;
-    let limit = page(members.limit)?;
+    let table = text_if_there(object, "table")?;
+    let index = text(object, "index")?;
+    let after = natural_or_absent(object, "after")?;
+    let limit = page(object, "limit")?;
     Some(Request::List {
         table,
         index,
@@ -180,47 +175,49 @@ fn list_request(object: Object) -> Option<Request>
     })
 }
 
-fn rank_request(object: Object) -> Option<Request>
-    ensures { result ≡ (form_of name.Rank).request object }
+fn rank_request<'a>(object: &Object<'a>) -> Option<Request<'a>>
+    ensures { result ≡ (form_of name.Rank).request object.now }
 {
-    let members = IndexMembers::of(object);
-    let table = text_if_there(members.table)?;
-    let index = text(members.index)?;
-    let id = natural(members.id)?;
+    let table = text_if_there(object, "table")?;
+    let index = text(object, "index")?;
+    let id = natural(object, "id")?;
     Some(Request::Rank { table, index, id })
 }
 
-fn lower_rank_request(object: Object) -> Option<Request>
-    ensures { result ≡ (form_of name.LowerRank).request object }
+fn lower_rank_request<'a>(object: Object<'a>) -> Option<Request<'a>>
+    ensures { result ≡ (form_of name.LowerRank).request object.entry }
 {
-    let members = IndexMembers::of(object);
-    let table = text_if_there(members.table)?;
-    let index = text(members.index)?;
-    let key = array(members.key)?;
+    let mut object = object;
+    let table = text_if_there(&object, "table")?;
+    let index = text(&object, "index")?;
+    let key = array(object.move_out("key"))?;
     Some(Request::LowerRank { table, index, key })
 }
 
-fn upper_rank_request(object: Object) -> Option<Request>
-    ensures { result ≡ (form_of name.UpperRank).request object }
+fn upper_rank_request<'a>(object: Object<'a>) -> Option<Request<'a>>
+    ensures { result ≡ (form_of name.UpperRank).request object.entry }
 {
-    let members = IndexMembers::of(object);
-    let table = text_if_there(members.table)?;
-    let index = text(members.index)?;
-    let key = array(members.key)?;
+    let mut object = object;
+    let table = text_if_there(&object, "table")?;
+    let index = text(&object, "index")?;
+    let key = array(object.move_out("key"))?;
     Some(Request::UpperRank { table, index, key })
 }
 
-fn size_request(object: Object) -> Option<Request>
-    ensures { result ≡ (form_of name.Size).request object }
+fn size_request<'a>(object: &Object<'a>) -> Option<Request<'a>>
+    ensures { result ≡ (form_of name.Size).request object.now }
 {
-    let mut object = object;
-    let table = text_if_there(object.move_out("table"))?;
+    let table = text_if_there(object, "table")?;
     Some(Request::Size { table })
 }
 
 /// The request that the members of a command are.
-pub(crate) fn request_by(alloc: Global, name: CommandName, object: Object) -> Option<Request>
-    ensures { result ≡ lines.request_by object (form_of name) }
+pub(crate) fn request_by<'a>(
+    alloc: Global,
+    name: CommandName,
+    object: Object<'a>,
+) -> Option<Request<'a>>
+    ensures { result ≡ lines.request_by object.entry (form_of name) }
 {
     if !object.has_only(name.members()) {
         return None;
@@ -229,26 +226,26 @@ pub(crate) fn request_by(alloc: Global, name: CommandName, object: Object) -> Op
         CommandName::Insert => insert_request(object),
         CommandName::Replace => replace_request(object),
         CommandName::Modify => modify_request(alloc, object),
-        CommandName::Erase => erase_request(object),
+        CommandName::Erase => erase_request(&object),
         CommandName::EraseKey => erase_key_request(object),
-        CommandName::Relocate => relocate_request(object),
+        CommandName::Relocate => relocate_request(&object),
         CommandName::Start => Some(Request::Start),
         CommandName::Undo => Some(Request::Undo),
         CommandName::Squash => Some(Request::Squash),
-        CommandName::Commit => commit_request(object),
+        CommandName::Commit => commit_request(&object),
         CommandName::UndoAll => Some(Request::UndoAll),
         CommandName::Push => Some(Request::Push),
-        CommandName::Reserve => reserve_request(object),
+        CommandName::Reserve => reserve_request(&object),
         CommandName::Revision => Some(Request::Revision),
-        CommandName::Get => get_request(object),
+        CommandName::Get => get_request(&object),
         CommandName::Find => find_request(object),
-        CommandName::Nth => nth_request(object),
+        CommandName::Nth => nth_request(&object),
         CommandName::Count => count_request(object),
         CommandName::Range => range_request(object),
-        CommandName::List => list_request(object),
-        CommandName::Rank => rank_request(object),
+        CommandName::List => list_request(&object),
+        CommandName::Rank => rank_request(&object),
         CommandName::LowerRank => lower_rank_request(object),
         CommandName::UpperRank => upper_rank_request(object),
-        CommandName::Size => size_request(object),
+        CommandName::Size => size_request(&object),
     }
 }

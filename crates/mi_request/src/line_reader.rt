@@ -6,9 +6,9 @@ ghost use Rattle.mi_request.specs.Short.{short_line};
 ghost use Rattle.mi_request.specs.declared.request.Request.{Request as Asked};
 ghost use Rattle.mi_request.specs.declared.request.Request.TheVariants as request;
 
-use crate::request::{Request, read_line, request_of};
+use crate::request::{Request, request_of};
 use crate::short::short_request;
-use crate::tokens::read_value;
+use crate::tree::read_value;
 use json::Scratch;
 use mi_value::Refusal;
 use std::alloc::Global;
@@ -29,22 +29,19 @@ impl LineReader {
         }
     }
 
-    /// The request that a line is: by tokens where its numbers are whole, else by `serde_json`.
-    fn read(&mut self, line: &[u8]) -> Result<Request, Refusal>
+    /// The request that a line is, whatever its length.
+    fn read<'a>(&'a mut self, line: &'a [u8]) -> Result<Request<'a>, Refusal>
         ensures answer { IsAnswer result (command_line line.now) }
         ensures refusal { IfErr result NamesNoIndex }
     {
-        match read_value(self.alloc, &mut self.scratch, line) {
-            Some(value) => request_of(self.alloc, value).ok_or(Refusal::Form),
-            None => read_line(self.alloc, line),
-        }
+        let value = read_value(self.alloc, &mut self.scratch, line)?;
+        request_of(self.alloc, value).ok_or(Refusal::Form)
     }
 
-    /// The request that a line, without its newline, is, as `parse_line` gives it. Lines whose numbers are whole are read here,
-    /// by tokens; each other, also one that is no JSON, is read by `serde_json`, which decides what it is. Refusals: `Json`,
-    /// `Form` and `Memory`. The line of a request that has no text, written as `short_line` says, takes no memory: so
-    /// `{"cmd":"undo"}`, byte for byte.
-    pub fn parse(&mut self, line: &[u8]) -> Result<Request, Refusal>
+    /// The request that a line, without its newline, is. Its names and values are borrowed from the line and from this reader.
+    /// Refusals: `Json` where the bytes are not UTF-8 or no JSON, `Form` where the value is no command, and `Memory`. The line of a
+    /// request that has no text, written as `short_line` says, takes no memory: so `{"cmd":"undo"}`, byte for byte.
+    pub fn parse<'a>(&'a mut self, line: &'a [u8]) -> Result<Request<'a>, Refusal>
         ensures answer { IsAnswer result (command_line line.now) }
         ensures refusal { IfErr result NamesNoIndex }
         ensures undo { line.now ≡ codes "{\"cmd\":\"undo\"}" → result ≡ Ok request.Undo }

@@ -1,27 +1,30 @@
 //! A JSON object, seen by contracts as its members. It hands members out by moving them, and copies none.
-ghost use Rattle.std.specs.Prelude.{◌≡◌, bytes_eq, string_bytes};
-ghost use Rattle.std.specs.List.{list_any, list_all};
-ghost use Rattle.std.specs.BTreeMap.{keys};
+ghost use Rattle.std.specs.Prelude.{◌≡◌, ◌<◌, length, bytes_eq, slice_index_or, IfSome};
+ghost use Rattle.std.specs.List.{list_any, list_all, slice_set};
+ghost use Rattle.json.specs.declared.value.Value.{Null};
+ghost use Rattle.mi_request.specs.Meant.{last_at};
 
-use serde_json::{Map, Value as Json};
+use crate::value::Json;
+use json::Value;
 use std::marker::Model;
+use std::mem;
 
-/// A JSON object, seen as its members.
+/// A JSON object, seen as what its members mean: the last of a name is its value.
 #[derive(Debug, Drop)]
-pub struct Object {
-    members: Map<String, Json>,
+pub struct Object<'a> {
+    members: Vec<(&'a str, Value<'a>)>,
 }
 
-impl Model for Object {
+impl<'a> Model for Object<'a> {
     ghost use Rattle.serde_json.specs.Data.{Members};
-    ghost use Rattle.serde_json.specs.View.{members_view};
+    ghost use Rattle.mi_request.specs.Meant.{members_seen};
     ghost use Rattle.mi_request.specs.ObjectCode.{members_code};
 
     ghost Value = { Members };
 
     ghost coded = { members_code };
 
-    ghost view = { λ a. members_view a.members.entries };
+    ghost view = { λ a. members_seen a.members.items };
 }
 
 /// Whether a name is one of these.
@@ -31,52 +34,89 @@ fn is_named(names: &[&str], name: &str) -> bool
     names.iter().any(|n| name == *n)
 }
 
-/// Whether each key is one of these names.
-fn are_named(names: &[&str], members: &Map<String, Json>) -> bool
-    ensures { result ≡ list_all (λ k. list_any (λ n. bytes_eq (string_bytes k) n.now) names.now) (keys members.now) }
+/// Whether each member has one of these names.
+fn are_named(names: &[&str], members: &[(&str, Value<'_>)]) -> bool
+    ensures { result ≡ list_all (λ m. list_any (λ n. bytes_eq m.0.now n.now) names.now) members.now }
 {
-    members.keys().all(|k| is_named(names, k.as_str()))
+    members.iter().all(|m| is_named(names, m.0))
 }
 
-impl Object {
-    ghost use Rattle.std.specs.Prelude.{◌≡◌, map, option_map};
+/// Where the last member of this name stands.
+fn place_of(members: &[(&str, Value<'_>)], name: &str) -> Option<usize>
+    ensures found { result ≡ last_at name.now members.now }
+    ensures within { IfSome result (λ i. i < length members.now) }
+{
+    let mut left = members.len();
+    'places: while left > 0 {
+        left -= 1;
+        if name == members[left].0 {
+            return Some(left);
+        }
+    }
+    None
+}
+
+/// Moves a member's value out, with null in its place.
+fn taken<'a>(members: &mut [(&'a str, Value<'a>)], at: usize) -> Value<'a>
+    requires { at < length members.old }
+    ensures value { (d : _) → result ≡ (slice_index_or members.old at d).1 }
+    ensures left { (d : _) → members.new ≡ slice_set members.old at ((slice_index_or members.old at d).0, Null) }
+{
+    mem::replace(&mut members[at].1, Value::Null)
+}
+
+impl<'a> Object<'a> {
+    ghost use Rattle.std.specs.Prelude.{◌≡◌, map, option_map, bytes_eq, false};
     ghost use Rattle.serde_json.specs.Find.{get_member};
-    ghost use Rattle.serde_json.specs.View.{view, members_view};
     ghost use Rattle.mi_request.specs.Json.{has_only, emptied};
+    ghost use Rattle.mi_request.specs.Meant.{seen, members_seen};
 
     /// The object of these members.
-    pub(crate) fn new(members: Map<String, Json>) -> Object
-        ensures { result ≡ members_view members.entries }
+    pub(crate) fn new(members: Vec<(&'a str, Value<'a>)>) -> Object<'a>
+        ensures { result ≡ members_seen members.entry.items }
     {
         Object { members }
     }
 
-    /// The member of this name.
-    pub(crate) fn get(&self, name: &str) -> Option<&Json>
-        ensures { option_map (λ v. view v.now) result ≡ get_member name.now self.now }
+    /// The value of the member of this name, as it was read.
+    pub(crate) fn get(&self, name: &str) -> Option<&Value<'a>>
+        ensures { option_map (λ v. seen v.now) result ≡ get_member name.now self.now }
     {
-        self.members.get(name)
+        let at = place_of(self.members.as_slice(), name)?;
+        Some(&self.members[at].1)
     }
 
     /// Moves the value of the member of this name out. Null stands in its place.
-    pub fn move_out(&mut self, name: &str) -> Option<Json>
-        ensures value { option_map view result ≡ get_member name.now self.old }
+    pub fn move_out(&mut self, name: &str) -> Option<Json<'a>>
+        ensures value { result ≡ get_member name.now self.old }
         ensures rest { self.new ≡ emptied name.now self.old }
     {
-        Some(self.members.get_mut(name)?.take())
+        let at = place_of(self.members.as_slice(), name)?;
+        Some(Json::new(taken(self.members.as_mut_slice(), at)))
+    }
+
+    /// The values of the members of two names, moved out.
+    pub(crate) fn into_two(self, first: &str, second: &str) -> (Option<Json<'a>>, Option<Json<'a>>)
+        requires { bytes_eq second.now first.now ≡ false }
+        ensures first { result.0 ≡ get_member first.now self.entry }
+        ensures second { result.1 ≡ get_member second.now self.entry }
+    {
+        let mut left = self;
+        let value = left.move_out(first);
+        (value, left.move_out(second))
     }
 
     /// Whether no member has another name than these.
     pub(crate) fn has_only(&self, names: &[&str]) -> bool
         ensures { result ≡ has_only (map (λ n. n.now) names.now) self.now }
     {
-        are_named(names, &self.members)
+        are_named(names, self.members.as_slice())
     }
 
-    /// Its members as `serde_json` has them.
-    pub fn members(&self) -> &Map<String, Json>
-        ensures { members_view result.now.entries ≡ self.now }
+    /// Its members in order, as they were read.
+    pub fn members(&self) -> &[(&'a str, Value<'a>)]
+        ensures { members_seen result.now ≡ self.now }
     {
-        &self.members
+        self.members.as_slice()
     }
 }

@@ -1,182 +1,122 @@
 //! What each kind of member is. It knows no command.
-ghost use Rattle.std.specs.Prelude.{◌≡◌, option_map, option_and_then, None, false};
+ghost use Rattle.std.specs.Prelude.{◌≡◌, option_and_then, None, false};
 ghost use Rattle.serde_json.specs.Data.{no_members};
 ghost use Rattle.serde_json.specs.Find.{as_str, as_array, as_bool, as_object};
-ghost use Rattle.serde_json.specs.View.{view};
 ghost use Rattle.mi_request.specs.Commands as commands;
 ghost use Rattle.mi_request.specs.Json as kinds;
-ghost use Rattle.mi_request.specs.Json.{if_there, default_if};
+ghost use Rattle.mi_request.specs.Json.{needed, optional, default, default_if};
+ghost use Rattle.mi_request.specs.Meant.{seen};
 ghost use Rattle.mi_request.specs.declared.request.End.TheVariants.{Open};
 ghost use Rattle.mi_value.specs.declared.limits.TheConstants.{MAX_PAGE};
 
 use crate::array::Array;
-use crate::members::{EndMembers, IndexMembers};
+use crate::name::Name;
+use crate::numbers::whole_number;
 use crate::object::Object;
 use crate::request::{End, Place};
-use mi_value::Text;
+use crate::value::Json;
+use json::Value;
 use mi_value::limits::MAX_PAGE;
-use serde_json::{Map, Value as Json};
 use std::alloc::Global;
 
-pub(crate) fn text_of(value: Json) -> Option<Text>
-    ensures { result ≡ as_str (view value) }
+fn name_of<'a>(value: &Value<'a>) -> Option<Name<'a>>
+    ensures { result ≡ as_str (seen value.now) }
 {
-    match value {
-        Json::String(text) => Some(Text::new(text)),
-        _other => None,
+    Some(Name::new(value.as_str()?))
+}
+
+fn natural_of(value: &Value<'_>) -> Option<u64>
+    ensures { result ≡ kinds.natural (seen value.now) }
+{
+    let n = whole_number(value.as_number()?)?;
+    if n >= 0 { Some(n as u64) } else { None }
+}
+
+fn natural_or_null(value: &Value<'_>) -> Option<Option<u64>>
+    ensures { result ≡ commands.natural_or_null (seen value.now) }
+{
+    if value.is_null() {
+        return Some(None);
     }
+    Some(Some(natural_of(value)?))
 }
 
-pub(crate) fn object_of(value: Json) -> Option<Object>
-    ensures { result ≡ as_object (view value) }
+fn flag_of(value: &Value<'_>) -> Option<bool>
+    ensures { result ≡ as_bool (seen value.now) }
 {
-    match value {
-        Json::Object(members) => Some(Object::new(members)),
-        _other => None,
-    }
+    value.as_bool()
 }
 
-fn array_of(value: Json) -> Option<Array>
-    ensures { result ≡ as_array (view value) }
+/// The text of a member.
+pub(crate) fn text<'a>(object: &Object<'a>, name: &str) -> Option<Name<'a>>
+    ensures { result ≡ needed as_str name.now object.now }
 {
-    match value {
-        Json::Array(items) => Some(Array::new(items)),
-        _other => None,
-    }
+    name_of(object.get(name)?)
 }
 
-fn natural_of(value: &Json) -> Option<u64>
-    ensures { result ≡ kinds.natural (view value.now) }
+/// The text of a member that may be absent.
+pub(crate) fn text_if_there<'a>(object: &Object<'a>, name: &str) -> Option<Option<Name<'a>>>
+    ensures { result ≡ optional as_str name.now object.now }
 {
-    match value.as_i64() {
-        Some(n) if n >= 0 => Some(n as u64),
-        _ => None,
-    }
-}
-
-/// A whole number from 0.
-pub(crate) fn natural(member: Option<Json>) -> Option<u64>
-    ensures { result ≡ option_and_then kinds.natural (option_map view member) }
-{
-    natural_of(&member?)
-}
-
-/// A whole number from 0; null is as absent.
-pub(crate) fn natural_if_there(member: Option<Json>) -> Option<Option<u64>>
-    ensures { result ≡ default_if None commands.natural_or_null (option_map view member) }
-{
-    match member {
-        None | Some(Json::Null) => Some(None),
-        Some(value) => Some(Some(natural_of(&value)?)),
-    }
-}
-
-pub(crate) fn text(member: Option<Json>) -> Option<Text>
-    ensures { result ≡ option_and_then as_str (option_map view member) }
-{
-    text_of(member?)
-}
-
-pub(crate) fn text_if_there(member: Option<Json>) -> Option<Option<Text>>
-    ensures { result ≡ if_there as_str (option_map view member) }
-{
-    match member {
-        Some(value) => Some(Some(text_of(value)?)),
+    match object.get(name) {
+        Some(value) => Some(Some(name_of(value)?)),
         None => Some(None),
     }
 }
 
-/// True or false; absent it is false.
-pub(crate) fn flag(member: Option<Json>) -> Option<bool>
-    ensures { result ≡ default_if false as_bool (option_map view member) }
+/// A whole number from 0.
+pub(crate) fn natural(object: &Object<'_>, name: &str) -> Option<u64>
+    ensures { result ≡ needed kinds.natural name.now object.now }
 {
-    match member {
-        Some(value) => value.as_bool(),
-        None => Some(false),
-    }
+    natural_of(object.get(name)?)
 }
 
-pub(crate) fn needed_object(member: Option<Json>) -> Option<Object>
-    ensures { result ≡ option_and_then as_object (option_map view member) }
+/// A whole number from 0; null is as absent.
+pub(crate) fn natural_if_there(object: &Object<'_>, name: &str) -> Option<Option<u64>>
+    ensures { result ≡ default None commands.natural_or_null name.now object.now }
 {
-    object_of(member?)
-}
-
-/// An object; absent it has no members.
-pub(crate) fn object_or_empty(alloc: Global, member: Option<Json>) -> Option<Object>
-    ensures { result ≡ default_if no_members as_object (option_map view member) }
-{
-    match member {
-        Some(value) => object_of(value),
-        None => Some(Object::new(Map::new(alloc))),
-    }
-}
-
-pub(crate) fn array(member: Option<Json>) -> Option<Array>
-    ensures { result ≡ option_and_then as_array (option_map view member) }
-{
-    array_of(member?)
-}
-
-/// The place that an object with exactly `index` and `id` names.
-fn place_of(object: Object) -> Option<Place>
-    ensures { result ≡ commands.place_of object }
-{
-    if !object.has_only(&["index", "id"]) {
-        return None;
-    }
-    let members = IndexMembers::of(object);
-    let index = text(members.index)?;
-    let id = natural(members.id)?;
-    Some(Place { index, id })
-}
-
-fn place_or_null(value: Json) -> Option<Option<Place>>
-    ensures { result ≡ commands.place (view value) }
-{
-    match value {
-        Json::Null => Some(None),
-        Json::Object(members) => Some(Some(place_of(Object::new(members))?)),
-        _other => None,
-    }
-}
-
-/// The place before which a record is inserted; null is as absent.
-pub(crate) fn place(member: Option<Json>) -> Option<Option<Place>>
-    ensures { result ≡ default_if None commands.place (option_map view member) }
-{
-    match member {
-        Some(value) => place_or_null(value),
+    match object.get(name) {
+        Some(value) => natural_or_null(value),
         None => Some(None),
     }
 }
 
 /// A whole number from 0 that may be absent.
-pub(crate) fn natural_or_absent(member: Option<Json>) -> Option<Option<u64>>
-    ensures { result ≡ if_there kinds.natural (option_map view member) }
+pub(crate) fn natural_or_absent(object: &Object<'_>, name: &str) -> Option<Option<u64>>
+    ensures { result ≡ optional kinds.natural name.now object.now }
 {
-    match member {
-        Some(value) => Some(Some(natural_of(&value)?)),
+    match object.get(name) {
+        Some(value) => Some(Some(natural_of(value)?)),
         None => Some(None),
     }
 }
 
-fn up_to_of(value: &Json, most: u64) -> Option<u64>
-    ensures { result ≡ commands.up_to most (view value.now) }
+/// True or false; absent it is false.
+pub(crate) fn flag(object: &Object<'_>, name: &str) -> Option<bool>
+    ensures { result ≡ default false as_bool name.now object.now }
+{
+    match object.get(name) {
+        Some(value) => flag_of(value),
+        None => Some(false),
+    }
+}
+
+fn up_to_of(value: &Value<'_>, most: u64) -> Option<u64>
+    ensures { result ≡ commands.up_to most (seen value.now) }
 {
     let n = natural_of(value)?;
     if n <= most { Some(n) } else { None }
 }
 
 /// A whole number from 0 to `most`.
-pub(crate) fn up_to(member: Option<Json>, most: u64) -> Option<u64>
-    ensures { result ≡ option_and_then (commands.up_to most) (option_map view member) }
+pub(crate) fn up_to(object: &Object<'_>, name: &str, most: u64) -> Option<u64>
+    ensures { result ≡ needed (commands.up_to most) name.now object.now }
 {
-    up_to_of(&member?, most)
+    up_to_of(object.get(name)?, most)
 }
 
-fn page_of(value: &Json) -> Option<usize>
-    ensures { result ≡ commands.page (view value.now) }
+fn page_of(value: &Value<'_>) -> Option<usize>
+    ensures { result ≡ commands.page (seen value.now) }
 {
     let n = natural_of(value)?;
     if 1 <= n && n <= MAX_PAGE as u64 {
@@ -187,51 +127,104 @@ fn page_of(value: &Json) -> Option<usize>
 }
 
 /// A number of rows, 1 to 1,000; absent it is 1,000.
-pub(crate) fn page(member: Option<Json>) -> Option<usize>
-    ensures { result ≡ default_if MAX_PAGE commands.page (option_map view member) }
+pub(crate) fn page(object: &Object<'_>, name: &str) -> Option<usize>
+    ensures { result ≡ default MAX_PAGE commands.page name.now object.now }
 {
-    match member {
-        Some(value) => page_of(&value),
+    match object.get(name) {
+        Some(value) => page_of(value),
         None => Some(MAX_PAGE),
     }
 }
 
+pub(crate) fn needed_object<'a>(member: Option<Json<'a>>) -> Option<Object<'a>>
+    ensures { result ≡ option_and_then as_object member.entry }
+{
+    member?.into_object()
+}
+
+/// An object; absent it has no members.
+pub(crate) fn object_or_empty<'a>(alloc: Global, member: Option<Json<'a>>) -> Option<Object<'a>>
+    ensures { result ≡ default_if no_members as_object member.entry }
+{
+    match member {
+        Some(value) => value.into_object(),
+        None => Some(Object::new(Vec::new(alloc))),
+    }
+}
+
+pub(crate) fn array<'a>(member: Option<Json<'a>>) -> Option<Array<'a>>
+    ensures { result ≡ option_and_then as_array member.entry }
+{
+    member?.into_array()
+}
+
+/// The place that an object with exactly `index` and `id` names.
+fn place_of<'a>(object: &Object<'a>) -> Option<Place<'a>>
+    ensures { result ≡ commands.place_of object.now }
+{
+    if !object.has_only(&["index", "id"]) {
+        return None;
+    }
+    let index = text(object, "index")?;
+    let id = natural(object, "id")?;
+    Some(Place { index, id })
+}
+
+fn place_or_null<'a>(value: Json<'a>) -> Option<Option<Place<'a>>>
+    ensures { result ≡ commands.place value.entry }
+{
+    if value.is_null() {
+        return Some(None);
+    }
+    Some(Some(place_of(&value.into_object()?)?))
+}
+
+/// The place before which a record is inserted; null is as absent.
+pub(crate) fn place<'a>(member: Option<Json<'a>>) -> Option<Option<Place<'a>>>
+    ensures { result ≡ default_if None commands.place member.entry }
+{
+    match member {
+        Some(value) => place_or_null(value),
+        None => Some(None),
+    }
+}
+
 /// An end of a range by a key that is in it, or by one that isn't, and not both.
-fn one_end(with: Option<Json>, without: Option<Json>) -> Option<End>
-    ensures { result ≡ commands.one_end (option_map view with) (option_map view without) }
+fn one_end<'a>(with: Option<Json<'a>>, without: Option<Json<'a>>) -> Option<End<'a>>
+    ensures { result ≡ commands.one_end with.entry without.entry }
 {
     match (with, without) {
-        (Some(value), None) => Some(End::With(array_of(value)?)),
-        (None, Some(value)) => Some(End::Without(array_of(value)?)),
+        (Some(value), None) => Some(End::With(value.into_array()?)),
+        (None, Some(value)) => Some(End::Without(value.into_array()?)),
         _ => None,
     }
 }
 
-fn lower_end(value: Json) -> Option<End>
-    ensures { result ≡ commands.lower_end (view value) }
+fn lower_end<'a>(value: Json<'a>) -> Option<End<'a>>
+    ensures { result ≡ commands.lower_end value.entry }
 {
-    let object = object_of(value)?;
+    let object = value.into_object()?;
     if !object.has_only(&["ge", "gt"]) {
         return None;
     }
-    let members = EndMembers::of(object);
-    one_end(members.ge, members.gt)
+    let (with, without) = object.into_two("ge", "gt");
+    one_end(with, without)
 }
 
-fn upper_end(value: Json) -> Option<End>
-    ensures { result ≡ commands.upper_end (view value) }
+fn upper_end<'a>(value: Json<'a>) -> Option<End<'a>>
+    ensures { result ≡ commands.upper_end value.entry }
 {
-    let object = object_of(value)?;
+    let object = value.into_object()?;
     if !object.has_only(&["le", "lt"]) {
         return None;
     }
-    let members = EndMembers::of(object);
-    one_end(members.le, members.lt)
+    let (with, without) = object.into_two("le", "lt");
+    one_end(with, without)
 }
 
 /// The lower end of a range: an object with exactly `ge` or `gt`, an array. Absent it is open.
-pub(crate) fn lower(member: Option<Json>) -> Option<End>
-    ensures { result ≡ default_if Open commands.lower_end (option_map view member) }
+pub(crate) fn lower<'a>(member: Option<Json<'a>>) -> Option<End<'a>>
+    ensures { result ≡ default_if Open commands.lower_end member.entry }
 {
     match member {
         Some(value) => lower_end(value),
@@ -240,8 +233,8 @@ pub(crate) fn lower(member: Option<Json>) -> Option<End>
 }
 
 /// The upper end of a range: an object with exactly `le` or `lt`, an array. Absent it is open.
-pub(crate) fn upper(member: Option<Json>) -> Option<End>
-    ensures { result ≡ default_if Open commands.upper_end (option_map view member) }
+pub(crate) fn upper<'a>(member: Option<Json<'a>>) -> Option<End<'a>>
+    ensures { result ≡ default_if Open commands.upper_end member.entry }
 {
     match member {
         Some(value) => upper_end(value),

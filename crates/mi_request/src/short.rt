@@ -37,7 +37,7 @@ fn number_behind(front: &[u8], line: &[u8]) -> Option<u64>
 }
 
 /// The request without members that a line is.
-fn bare_request(line: &[u8]) -> Option<Request>
+fn bare_request<'a>(line: &[u8]) -> Option<Request<'a>>
     ensures value { result ≡ bare_line line.now }
 {
     if line == b"{\"cmd\":\"undo\"}".as_slice() {
@@ -60,7 +60,7 @@ fn bare_request(line: &[u8]) -> Option<Request>
 }
 
 /// The request that a line is, where it is written as `short_line` writes it.
-pub(crate) fn short_request(line: &[u8]) -> Option<Request>
+pub(crate) fn short_request<'a>(line: &[u8]) -> Option<Request<'a>>
     ensures value { IfSome result (λ r. short_line r ≡ Some line.now) }
     ensures whole { (r : Asked) → short_line r ≡ Some line.now → IsSome result }
 {

@@ -1,5 +1,6 @@
 -- Members of TOML tables, and lists read item by item.
-use Rattle.std.proofs.Common.{◌≡◌, ℕ, ◌+◌, ◌<◌, ◌≤◌, List, [], ◌∷◌, ◌++◌, length, map, drop, get_or, Option, Some, None, option_map, String, Global, string_bytes, refl, sym, ap, ◌∙◌, ◌&&◌, append_assoc, cond, inl, inr}
+use Rattle.std.proofs.Common.{◌≡◌, ℕ, ◌+◌, ◌<◌, ◌≤◌, List, [], ◌∷◌, ◌++◌, length, map, drop, get_or, Option, Some, None}
+use Rattle.std.proofs.Common.{option_map, String, Global, string_bytes, refl, sym, ap, ◌∙◌, ◌&&◌, append_assoc, cond, inl, inr}
 use Rattle.std.proofs.lemmas.List.{append-nil}
 use Rattle.std.proofs.Math.ListN.{drop_of_length-le}
 use Rattle.std.proofs.lemmas.Bool.{cases_Bool}
@@ -19,7 +20,8 @@ use Rattle.mi_schema.specs.Members.{has_only, each, in_front, Fails}
 use Rattle.mi_schema.specs.Reading.{document}
 
 -- each key is one of the names, so no member has another name
-pub has_only-keys : {A : Type 0} (f : A → List ℕ) (xs : List A) (es : List (String Global × Value)) → list_all (λ k. list_any (λ x. bytes_eq (string_bytes k) (f x)) xs) (keys_of es) ≡ has_only (map f xs) (members_view es)
+pub has_only-keys : {A : Type 0} (f : A → List ℕ) (xs : List A) (es : List (String Global × Value))
+    → list_all (λ k. list_any (λ x. bytes_eq (string_bytes k) (f x)) xs) (keys_of es) ≡ has_only (map f xs) (members_view es)
 unfolding has_only
 has_only-keys f xs [] = refl
 has_only-keys f xs (e ∷ es) =
@@ -38,7 +40,8 @@ pub begins : {A : Type 0} (read : Option (List A)) → with_front [] read ≡ re
 begins (Some xs) = refl
 begins None = refl
 
-pub goes_on : {A : Type 0} (kind : Data → Option A) (front : List A) (vs : List Value) (i : ℕ) (v : Value) (x : A) (total : Option (List A)) → i < length vs → v ≡ get_or vs i v → kind (view v) ≡ Some x
+pub goes_on : {A : Type 0} (kind : Data → Option A) (front : List A) (vs : List Value) (i : ℕ) (v : Value) (x : A) (total : Option (List A))
+    → i < length vs → v ≡ get_or vs i v → kind (view v) ≡ Some x
     → with_front front (each kind (items_view (drop i vs))) ≡ total → with_front (front ++ x ∷ []) (each kind (items_view (drop (i + 1) vs))) ≡ total
 unfolding each
 goes_on kind front vs i v x total lt is reads so_far =
@@ -49,7 +52,8 @@ goes_on kind front vs i v x total lt is reads so_far =
     ∙ regroup front x (each kind (items_view (drop (i + 1) vs))) in
     sym one ∙ so_far
 
-pub ends : {A : Type 0} (kind : Data → Option A) (e : Misread) (front : List A) (vs : List Value) (i : ℕ) (v : Value) (total : Option (List A)) → i < length vs → v ≡ get_or vs i v → Fails e (kind (view v))
+pub ends : {A : Type 0} (kind : Data → Option A) (e : Misread) (front : List A) (vs : List Value) (i : ℕ) (v : Value) (total : Option (List A))
+    → i < length vs → v ≡ get_or vs i v → Fails e (kind (view v))
     → with_front front (each kind (items_view (drop i vs))) ≡ total → Fails e total
 unfolding each
 ends kind misread.Memory front vs i v total lt is fails so_far = tt

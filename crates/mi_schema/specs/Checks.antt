@@ -1,5 +1,6 @@
 -- What is checked of a draft, check by check in their order, each over all tables.
-use Rattle.std.specs.Prelude.{ℕ, ℤ, pos, negsuc, Bool, true, false, not, ◌&&◌, ◌==◌, nat_le, nat_lt, bytes_eq, codes, List, [], ◌∷◌, length, map, if◌then◌else◌, Option, Some, None, unwrap_or}
+use Rattle.std.specs.Prelude.{ℕ, ℤ, pos, negsuc, Bool, true, false, not, ◌&&◌, ◌==◌, nat_le, nat_lt, bytes_eq}
+use Rattle.std.specs.Prelude.{codes, List, [], ◌∷◌, length, map, if◌then◌else◌, Option, Some, None, unwrap_or}
 use Rattle.std.specs.Option.{is_some, is_none}
 use Rattle.std.specs.List.{list_all, list_any, position}
 use Rattle.mi_value.specs.declared.value.ColumnType.{ColumnType}
@@ -91,8 +92,8 @@ kind_or_sequenced word = unwrap_or (kind_of word) Sequenced
 abbrev pub has_key : List DraftColumn → DraftIndex → Bool
 has_key cs i = has_key_of (kind_or_sequenced i.kind) cs i
 
-abbrev pub has_keys : TableDraft → Bool
-has_keys t = list_all (has_key t.columns) t.indexes
+abbrev pub has_index_keys : TableDraft → Bool
+has_index_keys t = list_all (has_key t.columns) t.indexes
 
 -- the sizes of a table, and how many tables there are
 abbrev pub has_limits : TableDraft → Bool
@@ -125,7 +126,7 @@ fault_of d =
     else if not (are_no_twins d.tables) then Some Twice
     else if not (list_all has_types d.tables) then Some ColType
     else if not (list_all has_kinds d.tables) then Some Kind
-    else if not (list_all has_keys d.tables) then Some Key
+    else if not (list_all has_index_keys d.tables) then Some Key
     else if not (are_few d.tables) then Some Limit
     else if not (are_numbered d) then Some Number
     else None

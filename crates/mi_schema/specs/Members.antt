@@ -1,5 +1,6 @@
 -- What a document says before its rules are checked: which members each level has, and of which kind each is.
-use Rattle.std.specs.Prelude.{◌≡◌, ℕ, ℤ, pos, List, [], ◌∷◌, Bool, true, false, ◌&&◌, if◌then◌else◌, Option, Some, None, option_map, option_and_then, Result, Ok, Err, bytes_eq, codes}
+use Rattle.std.specs.Prelude.{◌≡◌, ℕ, ℤ, pos, List, [], ◌∷◌, Bool, true, false, ◌&&◌, if◌then◌else◌, Option}
+use Rattle.std.specs.Prelude.{Some, None, option_map, option_and_then, Result, Ok, Err, bytes_eq, codes}
 use Rattle.std.specs.List.{list_any}
 use Rattle.std.specs.Ordering.{int_eq}
 use Rattle.toml.specs.Data.{Data, Items, no_items, item, Members, no_members, member, get_member, as_str, as_integer, as_bool, as_array, as_table}
@@ -37,12 +38,12 @@ abbrev pub needed : {A : Type 0} → (Data → Option A) → List ℕ → Member
 needed kind k ms = option_and_then kind (get_member k ms)
 
 -- a member that may be absent, and what stands for it then
-abbrev pub found_or : {A : Type 0} → A → (Data → Option A) → Option Data → Option A
-found_or absent kind None = Some absent
-found_or absent kind (Some d) = kind d
+abbrev pub default_if : {A : Type 0} → A → (Data → Option A) → Option Data → Option A
+default_if absent kind None = Some absent
+default_if absent kind (Some d) = kind d
 
-abbrev pub optional : {A : Type 0} → A → (Data → Option A) → List ℕ → Members → Option A
-optional absent kind k ms = found_or absent kind (get_member k ms)
+abbrev pub default : {A : Type 0} → A → (Data → Option A) → List ℕ → Members → Option A
+default absent kind k ms = default_if absent kind (get_member k ms)
 
 -- all items, each read alike
 abbrev pub in_front : {A : Type 0} → Option A → Option (List A) → Option (List A)
@@ -76,18 +77,18 @@ index_draft d = do
   ms ← only (codes "name" ∷ codes "kind" ∷ codes "unique" ∷ codes "key" ∷ []) all
   name ← needed as_str (codes "name") ms
   kind ← needed as_str (codes "kind") ms
-  one_each ← optional false as_bool (codes "unique") ms
-  key ← optional None key_draft (codes "key") ms
+  one_each ← default false as_bool (codes "unique") ms
+  key ← default None key_draft (codes "key") ms
   Some (record { name = name; kind = kind; «unique» = one_each; key = key })
 
 -- a table of this name
 unfoldable pub table_draft : List ℕ → Members → Option TableDraft
 table_draft name ms = do
   columns ← needed (list column_draft) (codes "column") ms
-  indexes ← optional [] (list index_draft) (codes "index") ms
-  first_id ← optional (pos 0) as_integer (codes "first_id") ms
-  first_arrival ← optional (pos 0) as_integer (codes "first_arrival") ms
-  max_rows ← optional (pos DEFAULT_MAX_ROWS) as_integer (codes "max_rows") ms
+  indexes ← default [] (list index_draft) (codes "index") ms
+  first_id ← default (pos 0) as_integer (codes "first_id") ms
+  first_arrival ← default (pos 0) as_integer (codes "first_arrival") ms
+  max_rows ← default (pos DEFAULT_MAX_ROWS) as_integer (codes "max_rows") ms
   Some (record { name = name; columns = columns; indexes = indexes; first_id = first_id; first_arrival = first_arrival; max_rows = max_rows })
 
 -- a document of one table, which is the table's own, but that its name is the member `table`
@@ -95,7 +96,7 @@ unfoldable pub one_table : Members → Option CatalogDraft
 one_table ms = do
   name ← needed as_str (codes "table") ms
   table ← table_draft name ms
-  first_revision ← optional (pos 0) as_integer (codes "first_revision") ms
+  first_revision ← default (pos 0) as_integer (codes "first_revision") ms
   Some (record { tables = table ∷ []; first_revision = first_revision })
 
 -- a table among several
@@ -111,7 +112,7 @@ unfoldable pub several_tables : Members → Option CatalogDraft
 several_tables all = do
   ms ← only (codes "format" ∷ codes "table" ∷ codes "first_revision" ∷ []) all
   tables ← needed (list named_table) (codes "table") ms
-  first_revision ← optional (pos 0) as_integer (codes "first_revision") ms
+  first_revision ← default (pos 0) as_integer (codes "first_revision") ms
   Some (record { tables = tables; first_revision = first_revision })
 
 -- the members of a document of one table
@@ -131,4 +132,4 @@ abbrev pub in_format : ℤ → Members → Option CatalogDraft
 in_format format all = if int_eq format (pos 1) then first_format all else if int_eq format (pos 2) then several_tables all else None
 
 unfoldable pub catalog_draft : Members → Option CatalogDraft
-catalog_draft all = optional (pos 1) as_integer (codes "format") all >>= (λ format. in_format format all)
+catalog_draft all = default (pos 1) as_integer (codes "format") all >>= (λ format. in_format format all)

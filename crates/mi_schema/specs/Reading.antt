@@ -20,9 +20,9 @@ use Rattle.mi_schema.specs.Members.{schema_draft, catalog_draft}
 use Rattle.mi_schema.specs.Checks.{type_of, kind_or_sequenced, descends, entries, entry_column, fault_of}
 
 -- The answer is what the definition gives, or in its place a fault for memory.
-abbrev pub IsAnswer : {A : Type 0} → Result A SchemaFault → Result A SchemaFault → Type 0
-IsAnswer (Ok x) defined = defined ≡ Ok x
-IsAnswer (Err e) defined = (e ≡ Memory) ⊎ (defined ≡ Err e)
+abbrev pub IsSchemaAnswer : {A : Type 0} → Result A SchemaFault → Result A SchemaFault → Type 0
+IsSchemaAnswer (Ok x) defined = defined ≡ Ok x
+IsSchemaAnswer (Err e) defined = (e ≡ Memory) ⊎ (defined ≡ Err e)
 
 -- the fault of a draft that isn't read
 abbrev pub misread_fault : Misread → SchemaFault

@@ -303,7 +303,7 @@ impl DraftTable {
     }
 
     fn has_keys(&self) -> bool
-        ensures { result ≡ checks.has_keys self.now }
+        ensures { result ≡ checks.has_index_keys self.now }
     {
         self.indexes
             .iter()
@@ -351,7 +351,7 @@ fn have_kinds(tables: &[DraftTable]) -> bool
 }
 
 fn have_keys(tables: &[DraftTable]) -> bool
-    ensures { result ≡ list_all checks.has_keys tables.now }
+    ensures { result ≡ list_all checks.has_index_keys tables.now }
 {
     tables.iter().all(|t| t.has_keys())
 }

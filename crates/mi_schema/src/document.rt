@@ -4,7 +4,8 @@ ghost use Rattle.std.specs.List.{list_any, list_all};
 ghost use Rattle.std.specs.BTreeMap.{keys};
 ghost use Rattle.toml.specs.Data.{get_member, as_str, as_array, as_table, as_integer, as_bool};
 ghost use Rattle.toml.specs.View.{view, table_view, array_view, items_view};
-ghost use Rattle.mi_schema.specs.Members.{Gives, has_only, needed, optional, each, list, key_draft, column_draft, index_draft, table_draft, one_table, named_table, several_tables, schema_draft, first_format, catalog_draft};
+ghost use Rattle.mi_schema.specs.Members.{Gives, has_only, needed, default, each, list, key_draft, column_draft, index_draft};
+ghost use Rattle.mi_schema.specs.Members.{table_draft, one_table, named_table, several_tables, schema_draft, first_format, catalog_draft};
 ghost use Rattle.mi_schema.specs.declared.document.Misread.TheVariants as misread;
 
 use crate::draft::{Draft, DraftColumn, DraftIndex, DraftTable, Texts};
@@ -91,7 +92,7 @@ fn needed_text(alloc: Global, members: &Table, name: &str) -> Result<Text, Misre
 
 /// The whole number of a member that may be absent.
 fn optional_number(members: &Table, name: &str, absent: i64) -> Result<i64, Misread>
-    ensures { Gives (λ n. n) result (optional absent as_integer name.now (table_view members.now)) }
+    ensures { Gives (λ n. n) result (default absent as_integer name.now (table_view members.now)) }
 {
     match member(members, name) {
         Some(value) => value.as_integer().ok_or(Misread::Shape),
@@ -101,7 +102,7 @@ fn optional_number(members: &Table, name: &str, absent: i64) -> Result<i64, Misr
 
 /// Whether a member that may be absent is true.
 fn optional_flag(members: &Table, name: &str) -> Result<bool, Misread>
-    ensures { Gives (λ b. b) result (optional false as_bool name.now (table_view members.now)) }
+    ensures { Gives (λ b. b) result (default false as_bool name.now (table_view members.now)) }
 {
     match member(members, name) {
         Some(value) => value.as_bool().ok_or(Misread::Shape),
@@ -127,7 +128,7 @@ fn texts(alloc: Global, values: &[Value]) -> Result<Vec<Text>, Misread>
 
 /// The key of an index, if it has one.
 fn key(alloc: Global, members: &Table) -> Result<Option<Texts>, Misread>
-    ensures { Gives (λ k. k) result (optional None key_draft (codes "key") (table_view members.now)) }
+    ensures { Gives (λ k. k) result (default None key_draft (codes "key") (table_view members.now)) }
 {
     match member(members, "key") {
         Some(value) => Ok(Some(Texts::new(texts(alloc, array(value)?)?))),
@@ -200,7 +201,7 @@ fn needed_columns(alloc: Global, members: &Table) -> Result<Vec<DraftColumn>, Mi
 
 /// The indexes, none where there is no such member.
 fn optional_indexes(alloc: Global, members: &Table) -> Result<Vec<DraftIndex>, Misread>
-    ensures { Gives (λ is. is.items) result (optional [] (list index_draft) (codes "index") (table_view members.now)) }
+    ensures { Gives (λ is. is.items) result (default [] (list index_draft) (codes "index") (table_view members.now)) }
 {
     match member(members, "index") {
         Some(value) => indexes(alloc, array(value)?),

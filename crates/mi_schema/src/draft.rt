@@ -64,7 +64,14 @@ impl Model for DraftTable {
 
     ghost Value = { TableDraft };
 
-    ghost view = { λ a. record { name = a.name; columns = a.columns.items; indexes = a.indexes.items; first_id = a.first_id; first_arrival = a.first_arrival; max_rows = a.max_rows } };
+    ghost view = { λ a. record {
+      name = a.name;
+      columns = a.columns.items;
+      indexes = a.indexes.items;
+      first_id = a.first_id;
+      first_arrival = a.first_arrival;
+      max_rows = a.max_rows;
+    } };
 }
 
 /// The tables in order, and the revision that the database opens with.

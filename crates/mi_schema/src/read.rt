@@ -1,10 +1,9 @@
 //! From the text of a document to a schema or a catalog.
-ghost use Rattle.std.specs.Prelude.{◌≡◌, ◌⊎◌, Err, IfErr, Some, None, IfOk};
+ghost use Rattle.std.specs.Prelude.{◌≡◌, ◌⊎◌, IfErr, Some, None, IfOk};
 ghost use Rattle.toml.specs.View.{table_view};
-ghost use Rattle.mi_schema.specs.Members.{Gives};
 ghost use Rattle.mi_schema.specs.Checks.{fault_of};
 ghost use Rattle.mi_schema.specs.Reading as reading;
-ghost use Rattle.mi_schema.specs.Reading.{IsAnswer, misread_fault, catalog_read, schema_read};
+ghost use Rattle.mi_schema.specs.Reading.{IsSchemaAnswer, misread_fault, catalog_read, schema_read};
 ghost use Rattle.mi_schema.specs.declared.fault.SchemaFault.TheVariants as fault;
 
 use crate::document::{Misread, catalog_draft, schema_draft};
@@ -44,7 +43,7 @@ fn document(alloc: Global, text: &[u8]) -> Result<Table, SchemaFault>
 
 /// The catalog of a draft, or the fault of the first check that fails.
 fn checked(alloc: Global, draft: &Draft) -> Result<Catalog, SchemaFault>
-    ensures { IsAnswer result (reading.checked draft.now (fault_of draft.now)) }
+    ensures { IsSchemaAnswer result (reading.checked draft.now (fault_of draft.now)) }
 {
     if let Some(fault) = draft.fault() {
         return Err(fault);
@@ -56,7 +55,7 @@ fn checked(alloc: Global, draft: &Draft) -> Result<Catalog, SchemaFault>
 ///
 /// The fault is that of the first check that fails over the whole text, in the order of `SchemaFault`, or `Memory`.
 pub fn read_catalog(alloc: Global, text: &[u8]) -> Result<Catalog, SchemaFault>
-    ensures { IsAnswer result (catalog_read text.now) }
+    ensures { IsSchemaAnswer result (catalog_read text.now) }
 {
     let members = document(alloc, text)?;
     let draft = catalog_draft(alloc, &members)?;
@@ -67,7 +66,7 @@ pub fn read_catalog(alloc: Global, text: &[u8]) -> Result<Catalog, SchemaFault>
 ///
 /// The fault is that of the first check that fails over the whole text, in the order of `SchemaFault`, or `Memory`.
 pub fn read_schema(alloc: Global, text: &[u8]) -> Result<Schema, SchemaFault>
-    ensures { IsAnswer result (schema_read text.now) }
+    ensures { IsSchemaAnswer result (schema_read text.now) }
 {
     let members = document(alloc, text)?;
     let draft = schema_draft(alloc, &members)?;

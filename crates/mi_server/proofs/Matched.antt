@@ -1,5 +1,6 @@
 -- What was matched of an option that is a number: it passed its bounds, and the typed getters read it.
-use Rattle.std.proofs.Common.{◌||◌, ◌&&◌, ◌≡◌, ◌∙◌, ◌<◌, ap, ap₂, ℕ, Bool, true, false, List, [], ◌∷◌, length, Option, Some, None, refl, sym, subst, inl, inr, arith}
+use Rattle.std.proofs.Common.{◌||◌, ◌&&◌, ◌≡◌, ◌∙◌, ◌<◌, ap, ap₂, ℕ, Bool, true, false, List, []}
+use Rattle.std.proofs.Common.{◌∷◌, length, Option, Some, None, refl, sym, subst, inl, inr, arith}
 use Rattle.std.specs.List.{All, slice_index_or}
 use Rattle.std.specs.Str.{bytes_eq}
 use Rattle.std.specs.Prelude.{option_map, slice_get, unwrap_or, Result, Ok, Err, IfOk, IfErr}
@@ -26,7 +27,7 @@ use Rattle.clap.specs.declared.parser.matches.ArgMatches.{ArgMatches}
 use Rattle.clap.specs.declared.parser.matches.MatchedArg.{MatchedArg}
 
 -- the entry of an id that is no group's: its values passed the parsers of the arguments of this id, and are read as one of them says
-pub entry_passes : (c : Command) (f : Found) (id : List ℕ) (x : MatchedArg) → ValuesPass c f → groups_of c ≡ [] → (id ≡ [] → ⊥) → matched_of f id ≡ Some x
+entry_passes : (c : Command) (f : Found) (id : List ℕ) (x : MatchedArg) → ValuesPass c f → groups_of c ≡ [] → (id ≡ [] → ⊥) → matched_of f id ≡ Some x
     → All (λ v. PassesArg c id v.now) x.vals.items × HasReading c id x.reading
 entry_passes c f id x values no_groups named found = go (entry_by_id (EntryPasses c) f.entries.items id x values found)
   where
@@ -57,7 +58,7 @@ pub record IsOnly (old : Command) (k : ℕ) (d : Arg) : Type 0 where
   pub own : IsAuto (slice_index_or (args_of old) k d) → ⊥
 
 -- what passes an argument of its id passes its parser
-pub passes_own : (old : Command) (m : ArgMatches) (p : IsParsedFrom old m) (k : ℕ) (d : Arg) → IsOnly old k d
+passes_own : (old : Command) (m : ArgMatches) (p : IsParsedFrom old m) (k : ℕ) (d : Arg) → IsOnly old k d
     → (q : ValueParser) → (slice_index_or (args_of old) k d).value_parser ≡ Some q
     → (text : List ℕ) → PassesArg p.built (slice_index_or (args_of old) k d).id.now text
     → Accepts (slice_index_or (args_of old) k d).ignore_case q text
@@ -67,7 +68,7 @@ passes_own old m p k d only q parser text pass =
     subst (λ (b : Bool). Accepts b q text) s.ignore_case (subst (λ (w : ValueParser). Accepts pass.1.ignore_case w text) is_q pass.4.1)
 
 -- and is read as its parser says
-pub reads_own : (old : Command) (m : ArgMatches) (p : IsParsedFrom old m) (k : ℕ) (d : Arg) → IsOnly old k d
+reads_own : (old : Command) (m : ArgMatches) (p : IsParsedFrom old m) (k : ℕ) (d : Arg) → IsOnly old k d
     → (q : ValueParser) → (slice_index_or (args_of old) k d).value_parser ≡ Some q
     → (how : Reading) → HasReading p.built (slice_index_or (args_of old) k d).id.now how → how ≡ reading_of q
 reads_own old m p k d only q parser how any =
@@ -98,7 +99,8 @@ taken old m p k d only plain globals named q parser read is = go (matched_of (fo
       passes_own old m p k d only q parser v.now (All-get_or (λ v. PassesArg p.built id v.now) (v ∷ vs) 0 v (omega arith) all),
     )
 
-    go : (o : Option MatchedArg) → matched_of (found_of m) id ≡ o → one_text (found_of m) id ≡ Some read → IsTaken (slice_index_or (args_of old) k d).ignore_case q read
+    go : (o : Option MatchedArg) → matched_of (found_of m) id ≡ o → one_text (found_of m) id ≡ Some read
+        → IsTaken (slice_index_or (args_of old) k d).ignore_case q read
     go None e h =
         let bad : None ≡ Some read = rw e at h in
         cc

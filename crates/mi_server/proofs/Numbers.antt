@@ -1,5 +1,6 @@
 -- The numbers that are matched of the program's command line.
-use Rattle.std.proofs.Common.{◌≡◌, ◌∙◌, ◌<◌, ◌≤◌, ap, ℕ, Bool, true, false, List, [], ◌∷◌, length, Option, Some, None, refl, sym, subst, inl, inr, arith, zero, suc, codes}
+use Rattle.std.proofs.Common.{◌≡◌, ◌∙◌, ◌<◌, ◌≤◌, ap, ℕ, Bool, true, false, List, [], ◌∷◌, length}
+use Rattle.std.proofs.Common.{Option, Some, None, refl, sym, subst, inl, inr, arith, zero, suc, codes}
 use Rattle.std.specs.Prelude.{Result, Ok, Err, is_some, slice_index}
 use Rattle.std.specs.List.{slice_index_or}
 use Rattle.std.specs.Str.{bytes_eq}
@@ -38,7 +39,7 @@ pub record IsOption (k : ℕ) (id : List ℕ) (q : ValueParser) : Type 0 where
   pub no_version : id ≡ codes "version" → ⊥
 
 -- a text that is read of such an option passed its parser
-pub number_taken : (m : ArgMatches) → AreGiven m → (k : ℕ) (id : List ℕ) (q : ValueParser) → IsOption k id q
+number_taken : (m : ArgMatches) → AreGiven m → (k : ℕ) (id : List ℕ) (q : ValueParser) → IsOption k id q
     → (read : List ℕ) → one_text (found_of m) id ≡ Some read → IsTaken false q read
 number_taken m given k id q o read is = go (args_of c) refl
   where
@@ -81,7 +82,7 @@ number_taken m given k id q o read is = go (args_of c) refl
 first_of_text : (s t : List ℕ) → s ≡ t → slice_index s 0 ≡ slice_index t 0
 first_of_text s t e = ap (λ u. slice_index u 0) e
 
-pub listen_option : IsOption 2 (codes "listen") port_parser
+listen_option : IsOption 2 (codes "listen") port_parser
 listen_option = record {
   there = omega arith;
   id_is = λ r. refl;
@@ -100,7 +101,7 @@ listen_option = record {
     only (suc (suc (suc zero))) r lt same = cc
     only (suc (suc (suc (suc n)))) r lt same = absurd (omega arith)
 
-pub clients_option : IsOption 3 (codes "clients") clients_parser
+clients_option : IsOption 3 (codes "clients") clients_parser
 clients_option = record {
   there = omega arith;
   id_is = λ r. refl;
@@ -120,7 +121,7 @@ clients_option = record {
     only (suc (suc (suc (suc n)))) r lt same = absurd (omega arith)
 
 -- a port that was matched is read
-pub port_read : (E : Type 0) (G : List ℕ → Result ℕ E → Type 0) → ((u : List ℕ) (x : Result ℕ E) → G u x → ParsesUnsigned 16 10 u x)
+port_read : (E : Type 0) (G : List ℕ → Result ℕ E → Type 0) → ((u : List ℕ) (x : Result ℕ E) → G u x → ParsesUnsigned 16 10 u x)
     → (value : Option (List ℕ)) (read : Option ℕ) → (value ≡ None → read ≡ None) → ((t : List ℕ) → value ≡ Some t → ReadsOne G t read)
     → ((t : List ℕ) → value ≡ Some t → IsTaken false port_parser t) → IsNumber 1 65535 value read
 port_read E G parses None read none some passed = subst (IsNumber 1 65535 None) (sym (none refl)) tt
@@ -132,7 +133,7 @@ port_read E G parses (Some t) read none some passed =
     subst (IsNumber 1 65535 (Some t)) (sym got.1) ((parses t (Ok got.0) value).1, got.2, got.3)
 
 -- and a number of clients
-pub count_read : (E : Type 0) (G : List ℕ → Result ℕ E → Type 0) → ((u : List ℕ) (x : Result ℕ E) → G u x → ParsesUnsigned 64 10 u x)
+count_read : (E : Type 0) (G : List ℕ → Result ℕ E → Type 0) → ((u : List ℕ) (x : Result ℕ E) → G u x → ParsesUnsigned 64 10 u x)
     → (value : Option (List ℕ)) (read : Option ℕ) → (value ≡ None → read ≡ None) → ((t : List ℕ) → value ≡ Some t → ReadsOne G t read)
     → ((t : List ℕ) → value ≡ Some t → IsTaken false clients_parser t) → IsNumber 1 MAX_CONNECTIONS value read
 count_read E G parses None read none some passed = subst (IsNumber 1 MAX_CONNECTIONS None) (sym (none refl)) tt

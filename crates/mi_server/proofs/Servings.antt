@@ -12,7 +12,8 @@ use Rattle.mi_server.specs.Status.{served_failure, status_of}
 use Rattle.mi_server.specs.declared.failure.Failure.{Failure}
 use Rattle.mi_server.specs.declared.failure.Failure.TheVariants.{SchemaFile, Schema, Read, Write, Listen, Accept, Memory, Turns}
 
-pub has_come : (database : Database) (old new : HubState) → old ≡ record { held = record { database = database; holder = None }; attached = [] } → Done old (attach 1) [] new
+pub has_come : (database : Database) (old new : HubState)
+    → old ≡ record { held = record { database = database; holder = None }; attached = [] } → Done old (attach 1) [] new
     → new ≡ come database
 has_come database old new is done = done.3 ∙ ap (with_connection 1) is
 
@@ -50,7 +51,8 @@ serving_late (Err Memory) h = refl
 serving_late (Err Turns) h = refl
 
 -- what comes late isn't the schema's
-pub late_not_early : (r : Result ⊤ Failure) (P : Failure → Type 0) → IfErr r (λ failure. status_of failure ≡ 4) → IfErr r (λ failure. status_of failure ≡ 3 → P failure)
+pub late_not_early : (r : Result ⊤ Failure) (P : Failure → Type 0)
+    → IfErr r (λ failure. status_of failure ≡ 4) → IfErr r (λ failure. status_of failure ≡ 3 → P failure)
 late_not_early (Ok done) P late = tt
 late_not_early (Err failure) P late = λ early. absurd (four_three (sym late ∙ early))
   where
@@ -61,5 +63,6 @@ pub refused_early : (r : Result ⊤ Failure) (f g : Failure) (P : Failure → Ty
 refused_early r f g P is same p = subst (λ (s : Result ⊤ Failure). IfErr s P) (sym is) (subst P (sym same) p)
 
 -- a schema's file is named where it is said to be
-pub same_naming : {F : Type 0} (remaining : F → Option (List ℕ)) (a b : Bool) (r : Result CatalogShape Failure) → a ≡ b → IsCatalog remaining a r → IsCatalog remaining b r
+pub same_naming : {F : Type 0} (remaining : F → Option (List ℕ)) (a b : Bool) (r : Result CatalogShape Failure)
+    → a ≡ b → IsCatalog remaining a r → IsCatalog remaining b r
 same_naming remaining a b r same p = subst (λ (named : Bool). IsCatalog remaining named r) same p

@@ -3,7 +3,7 @@ use Rattle.std.proofs.Common.{◌≡◌, ◌≤◌, ◌+◌, ◌++◌, ◌∙◌
 use Rattle.std.specs.Prelude.{IfSome, option_map, Result, Err, min}
 use Rattle.std.proofs.lemmas.List.{length-take, take_all}
 use Rattle.mi_value.specs.declared.limits.TheConstants.{MAX_SCHEMA_FILE}
-use Rattle.mi_schema.specs.Reading.{catalog_read, IsAnswer}
+use Rattle.mi_schema.specs.Reading.{catalog_read, IsSchemaAnswer}
 use Rattle.mi_catalog.specs.Shape.{CatalogShape}
 use Rattle.mi_schema.specs.declared.fault.SchemaFault.{SchemaFault}
 use Rattle.mi_server.specs.Source.{IsRead, IsUnread}
@@ -27,12 +27,13 @@ unread (Some bytes) answer failure is why = rw is (inl why)
 
 -- a fault of the reading, as the failure that it becomes
 pub refused : (bytes : List ℕ) (answer : Result CatalogShape Failure) (fault : SchemaFault) → answer ≡ Err (Schema fault) → length bytes ≤ MAX_SCHEMA_FILE
-    → IsAnswer {A = CatalogShape} (Err fault) (catalog_read bytes) → IsRead bytes answer
+    → IsSchemaAnswer {A = CatalogShape} (Err fault) (catalog_read bytes) → IsRead bytes answer
 refused bytes answer fault is fits (inl memory) = rw is (inl (inr (ap Schema memory)))
 refused bytes answer fault is fits (inr read) = rw is (inr (fits, fault, refl, read))
 
 -- the answer to a text that is the whole file
-pub whole : (known : Option (List ℕ)) (text : List ℕ) (limit : ℕ) (answer : Result CatalogShape Failure) → IfSome known (λ bytes. (text ≡ bytes) × (length bytes ≤ limit))
+pub whole : (known : Option (List ℕ)) (text : List ℕ) (limit : ℕ) (answer : Result CatalogShape Failure)
+    → IfSome known (λ bytes. (text ≡ bytes) × (length bytes ≤ limit))
     → (length text ≤ limit → IsRead text answer) → IfSome known (λ bytes. IsRead bytes answer)
 whole None text limit answer is read = tt
 whole (Some bytes) text limit answer is read = subst (λ bs. IsRead bs answer) is.0 (read (subst (λ bs. length bs ≤ limit) (sym is.0) is.1))

@@ -1,5 +1,6 @@
 -- Clients by turns: which connections stay, and how turns come one behind another.
-use Rattle.std.proofs.Common.{◌≡◌, ◌⊎◌, ℕ, zero, suc, ◌+◌, ◌<◌, ◌≤◌, List, [], ◌∷◌, ◌++◌, length, map, Bool, true, false, cond, nat_eq, Option, Some, None, IsSome, is_some, Result, Ok, Err, refl, sym, ap, ◌∙◌, subst, arith, inl, inr, length-append}
+use Rattle.std.proofs.Common.{◌≡◌, ◌⊎◌, ℕ, zero, suc, ◌+◌, ◌<◌, ◌≤◌, List, [], ◌∷◌, ◌++◌, length, map, Bool, true, false, cond, nat_eq}
+use Rattle.std.proofs.Common.{Option, Some, None, IsSome, is_some, Result, Ok, Err, refl, sym, ap, ◌∙◌, subst, arith, inl, inr, length-append}
 use Rattle.std.specs.Prelude.{⊤, ◌||◌, OnOk, OnErr}
 use Rattle.mi_hub.specs.Watching.{has_failed}
 use Rattle.mi_hub.specs.IoNotes.{reads_fail, writes_fail, with_read, with_write}
@@ -16,7 +17,8 @@ use Rattle.mi_hub.specs.declared.fault.ServeFault.TheVariants.{Read, Turns, Acce
 use Rattle.mi_hub.proofs.ConnectionLemmas.{some_with_rest}
 use Rattle.mi_hub.proofs.PieceLemmas.{unsent_piece_gone, unsent_close_gone, same_err}
 use Rattle.mi_hub.specs.Turn.{Turn, fed, ended, unread, unanswered, unended, conn_of, outcome, given_in, Made}
-use Rattle.mi_server.specs.Turns.{fresh, with_clients, ByTurns, row_after, fault_of, first_fault, noted, all_noted, client_ids, AllSound, AllAttached, IsNoneOf, AllDiffer, Serves}
+use Rattle.mi_server.specs.Turns.{fresh, with_clients, ByTurns, row_after, turn_fault, first_fault, noted}
+use Rattle.mi_server.specs.Turns.{all_noted, client_ids, AllSound, AllAttached, IsNoneOf, AllDiffer, Serves}
 use Rattle.mi_server.specs.declared.listener.Client.{Client}
 
 -- ---- attached connections
@@ -142,7 +144,8 @@ all_fresh (k ∷ row) = (ap is_some (rest_at_here k (fresh k) (map fresh row) (s
 
 pub come_one : (n j : ℕ) (s t : HubState) → j ≡ n + 1 → t ≡ with_clients n s → with_connection j t ≡ with_clients (n + 1) s
 come_one n j s t is h =
-    ap (with_connection j) h ∙ ap (λ cs. record { held = s.held; attached = cs }) (sym (map-append fresh (range_with_len 1 n) (j ∷ [])) ∙ ap (map fresh) (sym (one_longer n j is)))
+    ap (with_connection j) h
+    ∙ ap (λ cs. record { held = s.held; attached = cs }) (sym (map-append fresh (range_with_len 1 n) (j ∷ [])) ∙ ap (map fresh) (sym (one_longer n j is)))
 
 pub not_come : (n j : ℕ) (s t : HubState) → j ≡ n + 1 → t ≡ with_clients n s → rest_at j t.attached ≡ None
 not_come n j s t is h = ap (λ (u : HubState). rest_at j u.attached) h ∙ none_yet j 1 n (omega arith)
@@ -157,14 +160,16 @@ serves_come row n s t is h =
     }))
 
 -- turns of the clients that have come
-pub turns_of_come : (row : List ℕ) (n : ℕ) (s t new : HubState) (turns : List Turn) (left : List ℕ) → row ≡ range_with_len 1 n → t ≡ with_clients n s → ByTurns row t turns left new
+pub turns_of_come : (row : List ℕ) (n : ℕ) (s t new : HubState) (turns : List Turn) (left : List ℕ)
+    → row ≡ range_with_len 1 n → t ≡ with_clients n s → ByTurns row t turns left new
     → ByTurns (range_with_len 1 n) (with_clients n s) turns left new
-turns_of_come row n s t new turns left is come made = subst (λ u. ByTurns (range_with_len 1 n) u turns left new) come (subst (λ xs. ByTurns xs t turns left new) is made)
+turns_of_come row n s t new turns left is come made = subst (λ u. ByTurns (range_with_len 1 n) u turns left new)
+    come (subst (λ xs. ByTurns xs t turns left new) is made)
 
 -- ---- turns
 
 -- the first of the row is gone
-pub serves_gone : (conn : ℕ) (row : List ℕ) (cs ds : List Connection) → Serves (conn ∷ row) cs → ds ≡ others conn cs → Serves row ds
+serves_gone : (conn : ℕ) (row : List ℕ) (cs ds : List Connection) → Serves (conn ∷ row) cs → ds ≡ others conn cs → Serves row ds
 serves_gone conn row cs ds p is = subst (Serves row) (sym is) (record {
   there = all_but conn row cs p.differ.0 p.there.1;
   count = less (length (others conn cs)) (length cs) (length row) (length_others conn cs p.there.0) p.count;
@@ -175,9 +180,11 @@ serves_gone conn row cs ds p is = subst (Serves row) (sym is) (record {
     less a b n h k = omega arith
 
 -- the row and the hub after a turn of its first
-pub serves_after : (turn : Turn) (row out : List ℕ) (old new : HubState) → Serves (conn_of turn ∷ row) old.attached → Made old turn out new → Serves (row_after turn row) new.attached
+serves_after : (turn : Turn) (row out : List ℕ) (old new : HubState)
+    → Serves (conn_of turn ∷ row) old.attached → Made old turn out new → Serves (row_after turn row) new.attached
 serves_after (fed conn bytes) row out old new p made = subst (Serves (row ++ conn ∷ [])) (sym made.0.3) (record {
-  there = all_same (row ++ conn ∷ []) old.attached (with_rest conn _ old.attached) (λ k. some_with_rest k conn _ old.attached) (all_last row conn old.attached p.there.1 p.there.0);
+  there = all_same (row ++ conn ∷ []) old.attached (with_rest conn _ old.attached)
+      (λ k. some_with_rest k conn _ old.attached) (all_last row conn old.attached p.there.1 p.there.0);
   count = length_with_rest conn _ old.attached ∙ p.count ∙ one_end row;
   differ = differ_last row conn p.differ.1 p.differ.0;
 })
@@ -195,20 +202,31 @@ none_left row [] p h = refl
 none_left row (c ∷ cs) p h = absurd (omega (arith, p.count))
 
 -- one turn more
-pub serves_next : (turn : Turn) (row others later out : List ℕ) (old new : HubState) → Serves row old.attached → row ≡ conn_of turn ∷ others → Made old turn out new
+pub serves_next : (turn : Turn) (row others later out : List ℕ) (old new : HubState)
+    → Serves row old.attached → row ≡ conn_of turn ∷ others → Made old turn out new
     → later ≡ row_after turn others → Serves later new.attached
 serves_next turn row others later out old new p first made after =
     subst (λ xs. Serves xs new.attached) (sym after) (serves_after turn others out old new (subst (λ xs. Serves xs old.attached) first p) made)
 
-turns_more : (turns : List Turn) (turn : Turn) (row others out : List ℕ) (old mid new : HubState) → ByTurns row old turns (conn_of turn ∷ others) mid → Made mid turn out new
+turns_more : (turns : List Turn) (turn : Turn) (row others out : List ℕ) (old mid new : HubState)
+    → ByTurns row old turns (conn_of turn ∷ others) mid → Made mid turn out new
     → ByTurns row old (turns ++ turn ∷ []) (row_after turn others) new
 turns_more [] turn row others out old mid new p made = (others, out, new, sym p.0, subst (λ s. Made s turn out new) p.1 made, (refl, refl))
-turns_more (t ∷ turns) turn row others out old mid new p made = (p.0, p.1, p.2, p.3, p.4, turns_more turns turn (row_after t p.0) others out p.2 mid new p.5 made)
+turns_more (t ∷ turns) turn row others out old mid new p made = (
+  p.0,
+  p.1,
+  p.2,
+  p.3,
+  p.4,
+  turns_more turns turn (row_after t p.0) others out p.2 mid new p.5 made,
+)
 
-pub turns_next : (turns : List Turn) (turn : Turn) (row now others later out : List ℕ) (old mid new : HubState) → ByTurns row old turns now mid → now ≡ conn_of turn ∷ others
+pub turns_next : (turns : List Turn) (turn : Turn) (row now others later out : List ℕ) (old mid new : HubState)
+    → ByTurns row old turns now mid → now ≡ conn_of turn ∷ others
     → Made mid turn out new → later ≡ row_after turn others → ByTurns row old (turns ++ turn ∷ []) later new
 turns_next turns turn row now others later out old mid new p first made after =
-    subst (λ xs. ByTurns row old (turns ++ turn ∷ []) xs new) (sym after) (turns_more turns turn row others out old mid new (subst (λ xs. ByTurns row old turns xs mid) first p) made)
+    subst (λ xs. ByTurns row old (turns ++ turn ∷ []) xs new) (sym after)
+    (turns_more turns turn row others out old mid new (subst (λ xs. ByTurns row old turns xs mid) first p) made)
 
 and_assoc : (a b c : Result ⊤ ServeFault) → result_and a (result_and b c) ≡ result_and (result_and a b) c
 and_assoc (Ok x) b c = refl
@@ -218,9 +236,10 @@ and_ok : (a : Result ⊤ ServeFault) → result_and a (Ok tt) ≡ a
 and_ok (Ok tt) = refl
 and_ok (Err e) = refl
 
-pub fault_more : (turns : List Turn) (turn : Turn) → first_fault (turns ++ turn ∷ []) ≡ result_and (first_fault turns) (fault_of (outcome turn))
-fault_more [] turn = and_ok (fault_of (outcome turn))
-fault_more (t ∷ turns) turn = ap (result_and (fault_of (outcome t))) (fault_more turns turn) ∙ and_assoc (fault_of (outcome t)) (first_fault turns) (fault_of (outcome turn))
+pub fault_more : (turns : List Turn) (turn : Turn) → first_fault (turns ++ turn ∷ []) ≡ result_and (first_fault turns) (turn_fault (outcome turn))
+fault_more [] turn = and_ok (turn_fault (outcome turn))
+fault_more (t ∷ turns) turn = ap (result_and (turn_fault (outcome t))) (fault_more turns turn)
+    ∙ and_assoc (turn_fault (outcome t)) (first_fault turns) (turn_fault (outcome turn))
 
 pub not_zero : (n : ℕ) (b : Bool) → b ≡ nat_eq n 0 → b ≡ false → 0 < n
 not_zero n b is h = grind arith
@@ -255,7 +274,8 @@ module _ {S : Type 0} where
   no_ids (c ∷ clients) h = absurd (omega arith)
 
   -- the next client has come
-  pub ids_one : (clients : List (Client S)) (n : ℕ) (x : Client S) → client_ids clients ≡ range_with_len 1 n → x.conn ≡ n + 1 → client_ids (clients ++ x ∷ []) ≡ range_with_len 1 (n + 1)
+  pub ids_one : (clients : List (Client S)) (n : ℕ) (x : Client S) → client_ids clients ≡ range_with_len 1 n
+      → x.conn ≡ n + 1 → client_ids (clients ++ x ∷ []) ≡ range_with_len 1 (n + 1)
   ids_one clients n x h is = map-append (λ c. c.conn) clients (x ∷ []) ∙ ap (λ ns. ns ++ x.conn ∷ []) h ∙ sym (one_longer n x.conn is)
 
   -- the first client is gone

@@ -1,5 +1,5 @@
 -- How one input is served: the hub at its start, and how it may end.
-use Rattle.std.specs.Prelude.{⊤, ℕ, List, [], ◌∷◌, Bool, Option, Some, None, Result, Ok, Err}
+use Rattle.std.specs.Prelude.{⊤, ℕ, List, [], ◌∷◌, Bool, Option, None, Result, Ok, Err}
 use Rattle.std.specs.Io.KnownBytes.{IsAtEnd}
 use Rattle.mi_catalog.specs.Shape.{CatalogShape}
 use Rattle.mi_model.specs.Database.{Database, opened_database}

@@ -1,5 +1,5 @@
 -- Where the catalog comes from: the built-in schema, or what a named file is read as.
-use Rattle.std.specs.Prelude.{◌≡◌, ◌⊎◌, ◌≤◌, ℕ, List, [], ◌∷◌, length, Bool, true, false, Option, Some, None, IfSome, Result, Ok, Err}
+use Rattle.std.specs.Prelude.{◌≡◌, ◌⊎◌, ◌≤◌, ℕ, List, [], ◌∷◌, length, Bool, true, false, Option, IfSome, Result, Ok, Err}
 use Rattle.mi_value.specs.declared.limits.TheConstants.{MAX_SCHEMA_FILE}
 use Rattle.mi_schema.specs.Reading.{catalog_read}
 use Rattle.mi_catalog.specs.Shape.{CatalogShape}
@@ -16,7 +16,8 @@ IsUnread failure = (failure ≡ SchemaFile) ⊎ (failure ≡ Schema fault.Memory
 -- The answer to a file of these bytes: what they are read as, where they are no more than a file may have.
 abbrev pub IsRead : List ℕ → Result CatalogShape Failure → Type 0
 IsRead bytes (Ok catalog) = (length bytes ≤ MAX_SCHEMA_FILE) × (catalog_read bytes ≡ Ok catalog)
-IsRead bytes (Err failure) = IsUnread failure ⊎ ((length bytes ≤ MAX_SCHEMA_FILE) × (fault : SchemaFault) × (failure ≡ Schema fault) × (catalog_read bytes ≡ Err fault))
+IsRead bytes (Err failure) = IsUnread failure
+    ⊎ ((length bytes ≤ MAX_SCHEMA_FILE) × (fault : SchemaFault) × (failure ≡ Schema fault) × (catalog_read bytes ≡ Err fault))
 
 -- The catalog of the built-in schema; memory for it may be wanting.
 abbrev pub IsBuiltIn : Result CatalogShape Failure → Type 0

@@ -35,17 +35,18 @@ row_after (unended conn) others = others
 abbrev pub ByTurns : List ℕ → HubState → List Turn → List ℕ → HubState → Type 0
 ByTurns row old [] left new = (left ≡ row) × (new ≡ old)
 ByTurns row old (turn ∷ turns) left new =
-    (others : List ℕ) × (out : List ℕ) × (mid : HubState) × (row ≡ conn_of turn ∷ others) × Made old turn out mid × ByTurns (row_after turn others) mid turns left new
+    (others : List ℕ) × (out : List ℕ) × (mid : HubState) × (row ≡ conn_of turn ∷ others)
+    × Made old turn out mid × ByTurns (row_after turn others) mid turns left new
 
 -- a fault, or none
-abbrev pub fault_of : Result Bool ServeFault → Result ⊤ ServeFault
-fault_of (Ok is_open) = Ok tt
-fault_of (Err fault) = Err fault
+abbrev pub turn_fault : Result Bool ServeFault → Result ⊤ ServeFault
+turn_fault (Ok is_open) = Ok tt
+turn_fault (Err fault) = Err fault
 
 -- the first fault of these turns, or none
 abbrev pub first_fault : List Turn → Result ⊤ ServeFault
 first_fault [] = Ok tt
-first_fault (turn ∷ turns) = result_and (fault_of (outcome turn)) (first_fault turns)
+first_fault (turn ∷ turns) = result_and (turn_fault (outcome turn)) (first_fault turns)
 
 -- what is noted of the errors of streams by a turn with this outcome: a failed read, or a failed write or flush
 abbrev pub noted : Result Bool ServeFault → IoErrors → IoErrors

@@ -1,5 +1,6 @@
 -- The program's command line, and what words say by it.
-use Rattle.std.specs.Prelude.{◌≡◌, ◌≢◌, ◌&&◌, ◌≤◌, ⊤, ℕ, pos, Bool, false, not, if◌then◌else◌, List, [], Option, Some, None, is_some, codes, bytes_eq, option_map}
+use Rattle.std.specs.Prelude.{◌≡◌, ◌≢◌, ◌&&◌, ◌≤◌, ⊤, ℕ, pos, Bool, false, not, if◌then◌else◌}
+use Rattle.std.specs.Prelude.{List, [], Option, Some, None, is_some, codes, bytes_eq, option_map}
 use Rattle.std.specs.Str.Parse.{digits_value, without_leading_plus}
 use Rattle.clap.specs.Built.{IsPlain, IsParsedFrom}
 use Rattle.clap.specs.declared.builder.command.Command.{Command}
@@ -87,7 +88,8 @@ both m n = None
 pub record AreValues (options : Options) (rows : List Row) : Type 0 where
   pub schema : option_map string_bytes options.schema ≡ first_of (codes "schema") rows
   pub check : options.check ≡ is_set (one_of (codes "check") rows)
-  pub listen : (port clients : Option ℕ) × IsNumber 1 65535 (one_of (codes "listen") rows) port × IsNumber 1 MAX_CONNECTIONS (one_of (codes "clients") rows) clients
+  pub listen : (port clients : Option ℕ) × IsNumber 1 65535 (one_of (codes "listen") rows) port
+      × IsNumber 1 MAX_CONNECTIONS (one_of (codes "clients") rows) clients
       × (options.listen ≡ both port clients)
 
 -- The words are refused by one of these kinds, or break a rule between options, or there is no memory for reading them.

@@ -212,7 +212,8 @@ pub fn run_over<R: Files + Net + AllocGlobal + RandomSource, S: AsStr, I: Read, 
     // Where they ask neither for a check nor for a port, the whole input is served.
     ensures served { result ≡ 0 → asks_check (matches_of command_line (map S.text words.now)) ≡ false →
         asks_port (matches_of command_line (map S.text words.now)) ≡ false →
-        IsServed R.File.remaining (names_schema (matches_of command_line (map S.text words.now))) I.remaining O.contents reader.old reader.new writer.old writer.new }
+        IsServed R.File.remaining (names_schema (matches_of command_line (map S.text words.now)))
+        I.remaining O.contents reader.old reader.new writer.old writer.new }
 
     // The schema is at fault, and nothing is read or written.
     ensures schema { result ≡ 3 → (failure : Failure) × (status_of failure ≡ 3)

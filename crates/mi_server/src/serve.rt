@@ -1,5 +1,5 @@
 //! Serves one input to one output over a database, as the bytes of one connection.
-ghost use Rattle.std.specs.Prelude.{◌≡◌, ◌⊎◌, ◌≤◌, ◌≢◌, ℕ, List, [], ◌∷◌, ◌++◌, Err, OnOk, length, true};
+ghost use Rattle.std.specs.Prelude.{◌≡◌, ◌⊎◌, ◌≤◌, ℕ, List, [], ◌∷◌, ◌++◌, Err, OnOk, length, true};
 ghost use Rattle.std.specs.Io.KnownBytes.{IsAtEnd};
 ghost use Rattle.mi_value.specs.declared.limits.TheConstants.{MAX_READS, PIECE};
 ghost use Rattle.mi_hub.specs.Run.{HubState, piece, close, cut, AllDone, DoneToFault};

@@ -6,7 +6,8 @@ ghost use Rattle.clap.specs.Words.{app_of, rule_of, rows_of, found_of, matches_o
 ghost use Rattle.clap.specs.Faults.{fault_of};
 ghost use Rattle.clap.specs.Built.{IsPlainArg, IsParsedFrom};
 ghost use Rattle.mi_server.specs.Words as spec;
-ghost use Rattle.mi_server.specs.Words.{option_rule, number_rule, flag_rule, command_line, keeps_rules, go_together, both, Stands, AreGiven, AreValues, IsRefusal};
+ghost use Rattle.mi_server.specs.Words.{option_rule, number_rule, flag_rule, command_line, keeps_rules};
+ghost use Rattle.mi_server.specs.Words.{go_together, both, Stands, AreGiven, AreValues, IsRefusal};
 ghost use Rattle.mi_server.specs.declared.words.WordsFault.TheVariants as fault;
 
 use clap::builder::ValueParser;
@@ -147,7 +148,8 @@ fn matched<'a, S: AsStr>(command: Command<'a>, words: &'a [S]) -> Result<ArgMatc
     requires { is_simple_and_free (app_of command) ≡ true }
     ensures ok { IfOk result (λ m. (fault_of (app_of command.entry) (map S.text words.entry.now) ≡ [])
         × (rows_of (found_of m) ≡ matches_of (app_of command.entry) (map S.text words.entry.now)) × IsParsedFrom command.entry m) }
-    ensures refused { IfErr result (IsRefusal (fault_of (app_of command.entry) (map S.text words.entry.now)) (matches_of (app_of command.entry) (map S.text words.entry.now))) }
+    ensures refused { IfErr result (IsRefusal (fault_of (app_of command.entry) (map S.text words.entry.now))
+        (matches_of (app_of command.entry) (map S.text words.entry.now))) }
 {
     match command.try_get_matches_from(words) {
         Ok(matches) => Ok(matches),

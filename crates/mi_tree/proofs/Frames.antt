@@ -4,7 +4,8 @@
 --     tree_swapped      a tree after a value was exchanged for one of an equal key
 --     tree_kept      a tree after a change of another structure, by what that change keeps
 --     tree_listed      the list that a tree is, by its links
-use Rattle.std.proofs.Common.{◌≡◌, ◌==◌, true, false, ℕ, zero, suc, ◌<◌, ◌≤◌, inl, inr, cond, option_map, List, [], ◌∷◌, ◌++◌, Some, refl, sym, ap, ◌∙◌, subst, arith}
+use Rattle.std.proofs.Common.{◌≡◌, ◌==◌, true, false, ℕ, zero, suc, ◌<◌, ◌≤◌, inl, inr, cond}
+use Rattle.std.proofs.Common.{option_map, List, [], ◌∷◌, ◌++◌, Some, refl, sym, ap, ◌∙◌, subst, arith}
 use Rattle.std.specs.declared.cmp.Ordering.{Ordering}
 use Rattle.std.specs.declared.cmp.Ordering.TheVariants.{Less, Equal}
 use Rattle.std.specs.Cmp.{IsTotalOrder}
@@ -54,13 +55,16 @@ module _ {T : Type 0} (order : T → T → Ordering) (tag : T → ℕ) (total : 
         let va = held_has m a ha in let vb = held_has m b hb in let wa = held_has n a (ya.ref ∙ ha) in let wb = held_has n b (yb.ref ∙ hb) in
         let ea : order va.0 wa.0 ≡ Equal = (λ i. compared order (sym va.1 i) (sym wa.1 i)) ∙ ya.value in
         let eb : order vb.0 wb.0 ≡ Equal = (λ i. compared order (sym vb.1 i) (sym wb.1 i)) ∙ yb.value in
-        let ia = (link_of m a.name s).tag.stamp in let ib = (link_of m b.name s).tag.stamp in let ja = (link_of n a.name s).tag.stamp in let jb = (link_of n b.name s).tag.stamp in
+        let ia = (link_of m a.name s).tag.stamp in let ib = (link_of m b.name s).tag.stamp in let ja = (link_of n a.name s).tag.stamp in
+        let jb = (link_of n b.name s).tag.stamp in
         let fa = tied_item va.0 wa.0 ia ja ea (ap (λ (y : Link). y.tag.stamp) ya.link) in
         let fb = tied_item vb.0 wb.0 ib jb eb (ap (λ (y : Link). y.tag.stamp) yb.link) in
         let whole = by_stamp_total order total in
-        side_at n s a b wa.0 wb.0 wa.1 wb.1 ∙ sym (alike_right whole (vb.0, ib) (wb.0, jb) (wa.0, ja) fb) ∙ sym (whole.congr (va.0, ia) (wa.0, ja) (vb.0, ib) fa) ∙ sym (side_at m s a b va.0 vb.0 va.1 vb.1)
+        side_at n s a b wa.0 wb.0 wa.1 wb.1 ∙ sym (alike_right whole (vb.0, ib) (wb.0, jb) (wa.0, ja) fb)
+        ∙ sym (whole.congr (va.0, ia) (wa.0, ja) (vb.0, ib) fa) ∙ sym (side_at m s a b va.0 vb.0 va.1 vb.1)
 
-    alike_all : (r : Ref) (rs : List Ref) → IsAlike order m n s r → IsHeld m r → AreAlike order m n s rs → AreHeld m rs → AllAre (side order m s r) Less rs → AllAre (side order n s r) Less rs
+    alike_all : (r : Ref) (rs : List Ref) → IsAlike order m n s r → IsHeld m r → AreAlike order m n s rs
+        → AreHeld m rs → AllAre (side order m s r) Less rs → AllAre (side order n s r) Less rs
     alike_all r [] y h ys hs a = tt
     alike_all r (q ∷ rs) y h ys hs a = (alike_side r q y ys.0 h hs.0 ∙ a.0, alike_all r rs y h ys.1 hs.1 a.1)
 
@@ -90,8 +94,12 @@ module _ {T : Type 0} (order : T → T → Ordering) (m n : Pooled T) (s : ℕ) 
   alike_stands : (t : Shape) → AreAlike order m n s (nodes t) → Stands m s t → Stands n s t
   alike_stands Tip y h = tt
   alike_stands (Fork l r q) y h =
-      let right = alike_rest (nodes l) (r ∷ nodes q) y in
-      (right.0.ref ∙ h.0, link_kept m n s r (fork_link l q) right.0.link h.1, alike_stands l (alike_left (nodes l) (r ∷ nodes q) y) h.2, alike_stands q right.1 h.3)
+      let right = alike_rest (nodes l) (r ∷ nodes q) y in (
+        right.0.ref ∙ h.0,
+        link_kept m n s r (fork_link l q) right.0.link h.1,
+        alike_stands l (alike_left (nodes l) (r ∷ nodes q) y) h.2,
+        alike_stands q right.1 h.3,
+      )
 
 module _ {T : Type 0} (m : Pooled T) (s : ℕ) where
   listed_nodes : (t : Shape) (levels : ℕ) → height t ≤ levels → Stands m s t → listed_in m s levels (top t) ≡ nodes t
@@ -106,7 +114,8 @@ module _ {T : Type 0} (m : Pooled T) (s : ℕ) where
       λ i. left i ++ r ∷ right i
 
 module _ {T : Type 0} where
-  alike_kept : (order : T → T → Ordering) → IsTotalOrder order → (m n : Pooled T) (s k : ℕ) (us rs : List Ref) → Keeps m n s us → (s == k) ≡ false → AreHeld m rs → AreAlike order m n k rs
+  alike_kept : (order : T → T → Ordering) → IsTotalOrder order → (m n : Pooled T) (s k : ℕ) (us rs : List Ref)
+      → Keeps m n s us → (s == k) ≡ false → AreHeld m rs → AreAlike order m n k rs
   alike_kept order total m n s k us [] g e h = tt
   alike_kept order total m n s k us (r ∷ rs) g e h =
       let v = held_has m r h.0 in (
@@ -123,14 +132,19 @@ module _ {T : Type 0} where
   value_now m k v q old is e = value-with_value m k v q ∙ (λ i. cond (is i) (option_map (λ (_ : T). v) (e i)) (e i))
 
   -- a value exchanged for one of an equal key
-  value_swapped : (order : T → T → Ordering) → IsTotalOrder order → (m : Pooled T) (k q : ℕ) (old new v : T) → value_of m k ≡ Some old → order old new ≡ Equal → value_of m q ≡ Some v
+  value_swapped : (order : T → T → Ordering) → IsTotalOrder order → (m : Pooled T) (k q : ℕ) (old new v : T)
+      → value_of m k ≡ Some old → order old new ≡ Equal → value_of m q ≡ Some v
       → compared order (value_of m q) (value_of (with_value m k new) q) ≡ Equal
-  value_swapped order total m k q old new v e f g = (elim (k == q) as (λ b. (k == q) ≡ b → compared order (value_of m q) (value_of (with_value m k new) q) ≡ Equal) [
-    | true ↦ λ is. let at = same_name k q is in (λ i. compared order ((ap (value_of m) (sym at) ∙ e) i) ((value_now m k new q old is (ap (value_of m) (sym at) ∙ e)) i)) ∙ f
-    | false ↦ λ is. (λ i. compared order (g i) ((value_there m k new q is ∙ g) i)) ∙ tied_itself total v
-  ]) refl
+  value_swapped order total m k q old new v e f g = (elim (k == q)
+      as (λ b. (k == q) ≡ b → compared order (value_of m q) (value_of (with_value m k new) q) ≡ Equal) [
+        | true ↦ λ is.
+            let at = same_name k q is in
+            (λ i. compared order ((ap (value_of m) (sym at) ∙ e) i) ((value_now m k new q old is (ap (value_of m) (sym at) ∙ e)) i)) ∙ f
+        | false ↦ λ is. (λ i. compared order (g i) ((value_there m k new q is ∙ g) i)) ∙ tied_itself total v
+      ]) refl
 
-  alike_swapped : (order : T → T → Ordering) → IsTotalOrder order → (m : Pooled T) (k : ℕ) (old new : T) (s : ℕ) (rs : List Ref) → value_of m k ≡ Some old → order old new ≡ Equal → AreHeld m rs
+  alike_swapped : (order : T → T → Ordering) → IsTotalOrder order → (m : Pooled T) (k : ℕ) (old new : T) (s : ℕ) (rs : List Ref)
+      → value_of m k ≡ Some old → order old new ≡ Equal → AreHeld m rs
       → AreAlike order m (with_value m k new) s rs
   alike_swapped order total m k old new s [] e f h = tt
   alike_swapped order total m k old new s (r ∷ rs) e f h = let v = held_has m r h.0 in (
@@ -140,7 +154,17 @@ module _ {T : Type 0} where
 
 module _ {T O : Type 0} where
   pub tree_empty : StandsEmpty T O
-  tree_empty l m order tag e f = record { shape = Tip; rooted = record { root = e; stands = tt }; even = tt; nodes_are = refl; apart = tt; rising = tt; tagged = tt; fits = omega arith; has_slot = f }
+  tree_empty l m order tag e f = record {
+    shape = Tip;
+    rooted = record { root = e; stands = tt };
+    even = tt;
+    nodes_are = refl;
+    apart = tt;
+    rising = tt;
+    tagged = tt;
+    fits = omega arith;
+    has_slot = f;
+  }
 
   tree_held : (l : Tree O) (m : Pooled T) (order : T → T → Ordering) (tag : T → ℕ) (rs : List Ref) → IsTree l m order tag rs → AreHeld m rs
   tree_held l m order tag rs h = subst (AreHeld m) h.nodes_are (all_held m l.slot h.shape h.rooted.stands)
@@ -160,13 +184,17 @@ module _ {T O : Type 0} where
 
   pub tree_swapped : (order : T → T → Ordering) (tag : T → ℕ) → IsTotalOrder order → IsTagBelow order tag → StandsWhereSwapped T O order tag
   tree_swapped order tag total below l m rs x old new h e f =
-      tree_where order tag total below l m (with_value m x.name new) rs h (alike_swapped order total m x.name old new l.slot rs e f (tree_held l m order tag rs h)) (subst (λ k. l.slot < k) (sym (slots-with_value m x.name new)) h.has_slot)
+      tree_where order tag total below l m (with_value m x.name new) rs h
+      (alike_swapped order total m x.name old new l.slot rs e f (tree_held l m order tag rs h))
+      (subst (λ k. l.slot < k) (sym (slots-with_value m x.name new)) h.has_slot)
 
   -- a change of a structure in another slot
-  pub tree_kept : (order : T → T → Ordering) (tag : T → ℕ) → IsTotalOrder order → IsTagBelow order tag → (l : Tree O) (m n : Pooled T) (s : ℕ) (us rs : List Ref) → Keeps m n s us → (s == l.slot) ≡ false
+  pub tree_kept : (order : T → T → Ordering) (tag : T → ℕ) → IsTotalOrder order → IsTagBelow order tag
+      → (l : Tree O) (m n : Pooled T) (s : ℕ) (us rs : List Ref) → Keeps m n s us → (s == l.slot) ≡ false
       → IsTree l m order tag rs → IsTree l n order tag rs
   tree_kept order tag total below l m n s us rs g e h =
-      tree_where order tag total below l m n rs h (alike_kept order total m n s l.slot us rs g e (tree_held l m order tag rs h)) (subst (λ k. l.slot < k) (sym g.slots) h.has_slot)
+      tree_where order tag total below l m n rs h (alike_kept order total m n s l.slot us rs g e (tree_held l m order tag rs h))
+      (subst (λ k. l.slot < k) (sym g.slots) h.has_slot)
 
   pub tree_listed : IsListed T O
   unfolding listed

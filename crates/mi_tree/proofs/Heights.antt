@@ -53,7 +53,10 @@ passed (suc b) (suc (suc n)) e =
 pub short : (t : Shape) → IsEven t → (b : ℕ) → size t < 2 ^ b → height t ≤ 2 * b
 short t e b h = elim (at_most_or_more (height t) (2 * b)) [
   | inl i ↦ i
-  | inr i ↦ let p = passed b (2 * b) refl in let j = has_enough t e in let k = (fib_mono (suc (suc (suc (2 * b)))) (suc (suc (height t))) (omega arith)).0 in absurd (omega arith)
+  | inr i ↦
+      let p = passed b (2 * b) refl in let j = has_enough t e in
+      let k = (fib_mono (suc (suc (suc (2 * b)))) (suc (suc (height t))) (omega arith)).0 in
+      absurd (omega arith)
 ]
 
 -- one level less than that, where there is a node
@@ -63,13 +66,17 @@ passed_less zero (suc n) e = absurd (omega arith)
 passed_less (suc b) zero e = absurd (omega arith)
 passed_less (suc b) (suc zero) e = absurd (omega arith)
 passed_less (suc b) (suc (suc n)) e =
-    let i = passed_less b n (omega arith) in let j = fib_two (suc (suc (suc (suc n)))) in let k = fib_two (suc (suc (suc n))) in let p = pow-suc 2 (suc b) in omega arith
+    let i = passed_less b n (omega arith) in let j = fib_two (suc (suc (suc (suc n)))) in let k = fib_two (suc (suc (suc n))) in let p = pow-suc 2 (suc b) in
+    omega arith
 
 pub shorter : (t : Shape) → IsEven t → (b : ℕ) → size t < 2 ^ b → 1 ≤ size t → height t + 1 ≤ 2 * b
 shorter t e zero h k = absurd (omega arith)
 shorter t e (suc b) h k = elim (at_most_or_more (height t + 1) (2 * suc b)) [
   | inl i ↦ i
-  | inr i ↦ let p = passed_less b (2 * b) refl in let j = has_enough t e in let f = (fib_mono (suc (suc (suc (suc (2 * b))))) (suc (suc (height t))) (omega arith)).0 in absurd (omega arith)
+  | inr i ↦
+      let p = passed_less b (2 * b) refl in let j = has_enough t e in
+      let f = (fib_mono (suc (suc (suc (suc (2 * b))))) (suc (suc (height t))) (omega arith)).0 in
+      absurd (omega arith)
 ]
 
 pub low_enough : (t : Shape) → IsEven t → size t < 2 ^ 32 → height t ≤ 45

@@ -13,7 +13,8 @@ use Rattle.mi_tree.proofs.Sorts.{none_left, none_right, rising_left, rising_righ
 
 -- the names of a list with one more
 pub put_out : (k : ℕ) (R : Ref → Ref → Ordering) (x : Ref) (rs us : List Ref) → IsPutIn (R x) x rs us → IsOut k (x ∷ rs) → IsOut k us
-put_out k R x rs us p o = let w = subst (IsOut k) p.was o.1 in subst (IsOut k) (sym p.now) (out_both k p.xs (x ∷ p.ys) (out_left k p.xs p.ys w) (o.0, out_right k p.xs p.ys w))
+put_out k R x rs us p o =
+    let w = subst (IsOut k) p.was o.1 in subst (IsOut k) (sym p.now) (out_both k p.xs (x ∷ p.ys) (out_left k p.xs p.ys w) (o.0, out_right k p.xs p.ys w))
 
 pub put_length : (R : Ref → Ref → Ordering) (x : Ref) (rs us : List Ref) → IsPutIn (R x) x rs us → length us ≡ length rs + 1
 put_length R x rs us p =
@@ -23,7 +24,7 @@ pub put_apart : (R : Ref → Ref → Ordering) (x : Ref) (rs us : List Ref) → 
 put_apart R x rs us p a o = subst IsApart (sym p.now) (apart_insert p.xs x p.ys (subst IsApart p.was a) (subst (IsOut x.name) p.was o))
 
 -- no name of xs stands right of r
-pub cut_right : (xs : List Ref) (r : Ref) (ys : List Ref) → AreOut xs (r ∷ ys) → AreOut xs ys
+cut_right : (xs : List Ref) (r : Ref) (ys : List Ref) → AreOut xs (r ∷ ys) → AreOut xs ys
 cut_right [] r ys a = tt
 cut_right (x ∷ xs) r ys a = (a.0.1, cut_right xs r ys a.1)
 
@@ -47,11 +48,13 @@ module _ {T : Type 0} where
     pub height_is : y.height ≡ max (height A) (height B) + 1
     pub tag_is : y.tag ≡ (link_of m root.name s).tag
 
-  pub put_opened : (m : Pooled T) (s : ℕ) (R : Ref → Ref → Ordering) (at : Option Ref) (root x : Ref) (y : Link) (t : Shape) → CanPut m s R at x t → at ≡ Some root → y ≡ link_of m root.name s → PutOpened m s R root x y t
+  pub put_opened : (m : Pooled T) (s : ℕ) (R : Ref → Ref → Ordering) (at : Option Ref) (root x : Ref) (y : Link) (t : Shape)
+      → CanPut m s R at x t → at ≡ Some root → y ≡ link_of m root.name s → PutOpened m s R root x y t
   put_opened m s R at root x y t h e i =
       let o = opened m s root t (moved m m s at (Some root) t refl e h.rooted) in
       let A = nodes o.left in let B = nodes o.right in
-      let names = ap nodes o.is in let even = subst IsEven o.is h.even in let apart = subst IsApart names h.apart in let rising = subst (Rising R) names h.rising in
+      let names = ap nodes o.is in let even = subst IsEven o.is h.even in let apart = subst IsApart names h.apart in
+      let rising = subst (Rising R) names h.rising in
       let out = subst (IsOut x.name) names h.out in let differs = subst (NoneAre (R x) Equal) names h.differs in
       let a = moved m m s _ y.back o.left refl (sym (ap (λ (z : Link). z.back) i)) o.left_is in
       let b = moved m m s _ y.forth o.right refl (sym (ap (λ (z : Link). z.forth) i)) o.right_is in
@@ -61,8 +64,26 @@ module _ {T : Type 0} where
         A = o.left;
         B = o.right;
         is = o.is;
-        left = record { rooted = a; even = even.1; apart = w.left; rising = rising_left R A (root ∷ B) rising; alone = h.alone; out = out_left x.name A (root ∷ B) out; differs = none_left (R x) Equal A (root ∷ B) differs; fits = omega arith };
-        right = record { rooted = b; even = even.2; apart = w.right; rising = (rising_right R A (root ∷ B) rising).1; alone = h.alone; out = (out_right x.name A (root ∷ B) out).1; differs = (none_right (R x) Equal A (root ∷ B) differs).1; fits = omega arith };
+        left = record {
+          rooted = a;
+          even = even.1;
+          apart = w.left;
+          rising = rising_left R A (root ∷ B) rising;
+          alone = h.alone;
+          out = out_left x.name A (root ∷ B) out;
+          differs = none_left (R x) Equal A (root ∷ B) differs;
+          fits = omega arith;
+        };
+        right = record {
+          rooted = b;
+          even = even.2;
+          apart = w.right;
+          rising = (rising_right R A (root ∷ B) rising).1;
+          alone = h.alone;
+          out = (out_right x.name A (root ∷ B) out).1;
+          differs = (none_right (R x) Equal A (root ∷ B) differs).1;
+          fits = omega arith;
+        };
         held_root = o.held;
         even = even;
         apart = apart;

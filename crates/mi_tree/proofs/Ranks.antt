@@ -1,5 +1,6 @@
 -- The way to a node of the tree, whose rank is counted.
-use Rattle.std.proofs.Common.{◌≡◌, ℕ, ◌+◌, ◌-◌, ◌*◌, ◌^◌, ◌<◌, ◌≤◌, List, ◌∷◌, ◌++◌, length, Option, Some, None, refl, sym, ap, ◌∙◌, subst, arith, length-append}
+use Rattle.std.proofs.Common.{◌≡◌, ℕ, ◌+◌, ◌-◌, ◌*◌, ◌^◌, ◌<◌, ◌≤◌, List, ◌∷◌, ◌++◌, length}
+use Rattle.std.proofs.Common.{Option, Some, None, refl, sym, ap, ◌∙◌, subst, arith, length-append}
 use Rattle.std.specs.declared.cmp.Ordering.{Ordering}
 use Rattle.std.specs.declared.cmp.Ordering.TheVariants.{Less, Equal, Greater}
 use Rattle.std.specs.Cmp.{IsTotalOrder}
@@ -20,7 +21,8 @@ pub record IsPart (node : Ref) (us : List Ref) (before : ℕ) (xs : List Ref) : 
   pub count : before + length vs ≡ length xs
 
 module _ {T : Type 0} where
-  pub record Ranking (m : Pooled T) (s : ℕ) (order : T → T → Ordering) (tag : T → ℕ) (node : Ref) (root at : Option Ref) (before read0 read step0 step : ℕ) : Type 0 where
+  pub record Ranking (m : Pooled T) (s : ℕ) (order : T → T → Ordering) (tag : T → ℕ)
+      (node : Ref) (root at : Option Ref) (before read0 read step0 step : ℕ) : Type 0 where
     pub t : Shape
     pub u : Shape
     pub whole : IsRooted m s root t
@@ -39,7 +41,8 @@ module _ {T : Type 0} where
   tag_in m s tag xs x ys us e h = (tagged_right tag m s xs (x ∷ ys) (subst (AreTagged tag m s) e h)).0
 
   module _ (m : Pooled T) (s : ℕ) (order : T → T → Ordering) (tag : T → ℕ) (node : Ref) (root : Option Ref) where
-    pub rank_start : (t : Shape) (xs ys : List Ref) → IsRooted m s root t → size t < 2 ^ 32 → Rising (side order m s) (nodes t) → AreTagged tag m s (nodes t) → nodes t ≡ xs ++ node ∷ ys → (a b : ℕ)
+    pub rank_start : (t : Shape) (xs ys : List Ref) → IsRooted m s root t → size t < 2 ^ 32
+        → Rising (side order m s) (nodes t) → AreTagged tag m s (nodes t) → nodes t ≡ xs ++ node ∷ ys → (a b : ℕ)
         → Ranking m s order tag node root root 0 a a b b
     rank_start t xs ys h f up tags e a b = record {
       t = t;
@@ -57,7 +60,8 @@ module _ {T : Type 0} where
       steps = omega arith;
     }
 
-    module _ (at : Option Ref) (r : Ref) (y : Link) (n a b c d : ℕ) (h : Ranking m s order tag node root at n a b c d) (e : at ≡ Some r) (i : y ≡ link_of m r.name s) where
+    module _ (at : Option Ref) (r : Ref) (y : Link) (n a b c d : ℕ)
+        (h : Ranking m s order tag node root at n a b c d) (e : at ≡ Some r) (i : y ≡ link_of m r.name s) where
       abbrev o : Sides m s r y h.u
       o = sides m s at r y h.u h.rooted e i
 
@@ -88,16 +92,22 @@ module _ {T : Type 0} where
       -- the part of the node on either side
       module _ (total : IsTotalOrder order) where
         left_part : side order m s node r ≡ Less → (xs : List Ref) → IsPart node (nodes h.u) n xs → IsPart node (nodes (o).A) n xs
-        left_part less xs p = let on = go_left (side order m s) (side_order order m s total) (nodes (o).A) r (nodes (o).B) p.vs node p.ws rank_all less (where_is (nodes (o).A) r (nodes (o).B) p.vs node p.ws (sym rank_names ∙ p.is)) in
+        left_part less xs p =
+            let on = go_left (side order m s) (side_order order m s total) (nodes (o).A) r (nodes (o).B) p.vs node
+            p.ws rank_all less (where_is (nodes (o).A) r (nodes (o).B) p.vs node p.ws (sym rank_names ∙ p.is)) in
             record { vs = p.vs; ws = on.0; is = on.1; count = p.count }
 
         right_part : side order m s node r ≡ Greater → (xs : List Ref) → IsPart node (nodes h.u) n xs → IsPart node (nodes (o).B) (n + (size (o).A + 1)) xs
-        right_part more xs p = let on = go_right (side order m s) (side_order order m s total) (nodes (o).A) r (nodes (o).B) p.vs node p.ws rank_all more (where_is (nodes (o).A) r (nodes (o).B) p.vs node p.ws (sym rank_names ∙ p.is)) in
+        right_part more xs p =
+            let on = go_right (side order m s) (side_order order m s total) (nodes (o).A) r (nodes (o).B) p.vs node
+            p.ws rank_all more (where_is (nodes (o).A) r (nodes (o).B) p.vs node p.ws (sym rank_names ∙ p.is)) in
             let long = ap length on.1 in let parts = length-append (nodes (o).A) (r ∷ on.0) in let count = p.count in let k = size-nodes (o).A in
             record { vs = on.0; ws = p.ws; is = on.2; count = omega arith }
 
         here_part : side order m s node r ≡ Equal → (xs : List Ref) → IsPart node (nodes h.u) n xs → n + size_at m s y.back ≡ length xs
-        here_part same xs p = let on = go_here (side order m s) (side_order order m s total) (nodes (o).A) r (nodes (o).B) p.vs node p.ws rank_all same (where_is (nodes (o).A) r (nodes (o).B) p.vs node p.ws (sym rank_names ∙ p.is)) in
+        here_part same xs p =
+            let on = go_here (side order m s) (side_order order m s total) (nodes (o).A) r (nodes (o).B) p.vs node
+            p.ws rank_all same (where_is (nodes (o).A) r (nodes (o).B) p.vs node p.ws (sym rank_names ∙ p.is)) in
             let long = ap length on.0 in let count = p.count in let k = size-nodes (o).A in let j = size-root m s y.back (o).A (o).left in omega arith
 
         module _ (f : ℕ) (low : f ≤ b + 2) (g : ℕ) (ticks : g ≡ d + 1) where
@@ -118,7 +128,8 @@ module _ {T : Type 0} where
             steps = omega arith;
           }
 
-          pub rank_right : side order m s node r ≡ Greater → (k : ℕ) → k ≡ n + (y.size - size_at m s y.forth) → Ranking m s order tag node root y.forth k a f c g
+          pub rank_right : side order m s node r ≡ Greater → (k : ℕ)
+              → k ≡ n + (y.size - size_at m s y.forth) → Ranking m s order tag node root y.forth k a f c g
           rank_right more k is =
               let z = h.reads in let j = h.steps in let w = (o).height_is in let p = (o).size_is in let q = size-root m s y.forth (o).B (o).right in
               let at_k : n + (size (o).A + 1) ≡ k = omega arith in record {
@@ -137,7 +148,8 @@ module _ {T : Type 0} where
                 steps = omega arith;
               }
 
-          pub rank_here : side order m s node r ≡ Equal → (t : Shape) → IsRooted m s root t → ((xs ys : List Ref) → nodes t ≡ xs ++ node ∷ ys → n + size_at m s y.back ≡ length xs) × (f ≤ a + 2 * height t) × (g ≤ c + height t)
+          pub rank_here : side order m s node r ≡ Equal → (t : Shape) → IsRooted m s root t
+              → ((xs ys : List Ref) → nodes t ≡ xs ++ node ∷ ys → n + size_at m s y.back ≡ length xs) × (f ≤ a + 2 * height t) × (g ≤ c + height t)
           rank_here same t w =
               let eq = same_tree m s root t h.t w h.whole in let tall = ap height eq in let z = h.reads in let j = h.steps in let v = (o).height_is in
               (λ xs ys q. here_part same xs (h.part xs ys (sym (ap nodes eq) ∙ q)), omega arith, omega arith)
@@ -145,11 +157,16 @@ module _ {T : Type 0} where
         -- no sum is too large
         pub rank_fits_here : side order m s node r ≡ Equal → n + size_at m s y.back < 2 ^ 32
         rank_fits_here same =
-            let w = h.some in let p = here_part same w.0 (h.part w.0 w.1 w.2) in let long = ap length w.2 in let parts = length-append w.0 (node ∷ w.1) in let k = size-nodes h.t in let f = h.few in omega arith
+            let w = h.some in let p = here_part same w.0 (h.part w.0 w.1 w.2) in let long = ap length w.2 in
+            let parts = length-append w.0 (node ∷ w.1) in let k = size-nodes h.t in let f = h.few in
+            omega arith
 
         pub rank_fits_right : side order m s node r ≡ Greater → n + (y.size - size_at m s y.forth) < 2 ^ 32
         rank_fits_right more =
-            let w = h.some in let p = (right_part more w.0 (h.part w.0 w.1 w.2)).count in let long = ap length w.2 in let parts = length-append w.0 (node ∷ w.1) in let k = size-nodes h.t in let f = h.few in
+            let w = h.some in
+            let p = (right_part more w.0 (h.part w.0 w.1 w.2)).count in
+            let long = ap length w.2 in let parts = length-append w.0 (node ∷ w.1) in let k = size-nodes h.t in
+            let f = h.few in
             let j = (o).size_is in let q = size-root m s y.forth (o).B (o).right in omega arith
 
       pub rank_not_less : size_at m s y.forth ≤ y.size
@@ -158,4 +175,5 @@ module _ {T : Type 0} where
     -- the node is there
     pub rank_end : (at : Option Ref) (n a b c d : ℕ) → Ranking m s order tag node root at n a b c d → at ≡ None → ⊥
     rank_end at n a b c d h e =
-        let w = h.some in let p = h.part w.0 w.1 w.2 in none_here p.vs node p.ws (sym (ap nodes (tip_is m s h.u (moved m m s at None h.u refl e h.rooted))) ∙ p.is)
+        let w = h.some in let p = h.part w.0 w.1 w.2 in
+        none_here p.vs node p.ws (sym (ap nodes (tip_is m s h.u (moved m m s at None h.u refl e h.rooted))) ∙ p.is)

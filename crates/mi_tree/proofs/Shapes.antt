@@ -1,5 +1,6 @@
 -- What a tree that stands says of each node.
-use Rattle.std.proofs.Common.{◌≡◌, ℕ, zero, suc, ◌+◌, ◌<◌, max, List, [], ◌∷◌, ◌++◌, length, Option, Some, None, refl, sym, ap, ◌∙◌, subst, arith, length-append}
+use Rattle.std.proofs.Common.{◌≡◌, ℕ, zero, suc, ◌+◌, ◌<◌, max, List, [], ◌∷◌, ◌++◌, length}
+use Rattle.std.proofs.Common.{Option, Some, None, refl, sym, ap, ◌∙◌, subst, arith, length-append}
 use Rattle.mi_node.specs.Neighbours.{AreHeld}
 use Rattle.mi_node.specs.Pool.{Pooled, link_of, IsHeld, IsHeldIf}
 use Rattle.mi_node.specs.Refs.{Ref, first_of, last_of}
@@ -59,15 +60,15 @@ module _ {T : Type 0} where
   pub moved : (m n : Pooled T) (s : ℕ) (o p : Option Ref) (t : Shape) → m ≡ n → o ≡ p → IsRooted m s o t → IsRooted n s p t
   moved m n s o p t e f h = subst (λ (z : Pooled T × Option Ref). IsRooted z.0 s z.1 t) (λ i. (e i, f i)) h
 
-  pub size-top : (m : Pooled T) (s : ℕ) (t : Shape) → Stands m s t → size_at m s (top t) ≡ size t
+  size-top : (m : Pooled T) (s : ℕ) (t : Shape) → Stands m s t → size_at m s (top t) ≡ size t
   size-top m s Tip h = refl
   size-top m s (Fork l r q) h = ap (λ (y : Link). y.size) h.1
 
-  pub height-top : (m : Pooled T) (s : ℕ) (t : Shape) → Stands m s t → height_at m s (top t) ≡ height t
+  height-top : (m : Pooled T) (s : ℕ) (t : Shape) → Stands m s t → height_at m s (top t) ≡ height t
   height-top m s Tip h = refl
   height-top m s (Fork l r q) h = ap (λ (y : Link). y.height) h.1
 
-  pub held-top : (m : Pooled T) (s : ℕ) (t : Shape) → Stands m s t → IsHeldIf m (top t)
+  held-top : (m : Pooled T) (s : ℕ) (t : Shape) → Stands m s t → IsHeldIf m (top t)
   held-top m s Tip h = tt
   held-top m s (Fork l r q) h = h.0
 
@@ -133,7 +134,8 @@ module _ {T : Type 0} where
     pub left_lower : height_at m s y.back < height u
     pub right_lower : height_at m s y.forth < height u
 
-  pub sides : (m : Pooled T) (s : ℕ) (at : Option Ref) (r : Ref) (y : Link) (u : Shape) → IsRooted m s at u → at ≡ Some r → y ≡ link_of m r.name s → Sides m s r y u
+  pub sides : (m : Pooled T) (s : ℕ) (at : Option Ref) (r : Ref) (y : Link) (u : Shape)
+      → IsRooted m s at u → at ≡ Some r → y ≡ link_of m r.name s → Sides m s r y u
   sides m s at r y u h e i =
       let o = opened m s r u (moved m m s at (Some r) u refl e h) in let heights = ap height o.is in
       let a = moved m m s _ y.back o.left refl (sym (ap (λ (z : Link). z.back) i)) o.left_is in

@@ -31,7 +31,8 @@ module _ {X : Type 0} where
   compared_antisymm order o (Some x) None = refl
   compared_antisymm order o (Some x) (Some y) = o.antisymm x y
 
-  compared_trans : (order : X → X → Ordering) → IsTotalOrder order → (a b c : Option X) → compared order a b ≡ Less → compared order b c ≡ Less → compared order a c ≡ Less
+  compared_trans : (order : X → X → Ordering) → IsTotalOrder order → (a b c : Option X)
+      → compared order a b ≡ Less → compared order b c ≡ Less → compared order a c ≡ Less
   compared_trans order o None b c e f = absurd (less_equal (sym e))
   compared_trans order o (Some x) None c e f = absurd (less_equal (sym e))
   compared_trans order o (Some x) (Some y) None e f = absurd (less_equal (sym f))
@@ -59,11 +60,13 @@ module _ {T : Type 0} where
   unfolding item_of
   item_kept m n s k e f = λ i. stamped (e i) (f i).stamp
 
-  pub side_kept : (order : T → T → Ordering) (m n : Pooled T) (s : ℕ) (a b : Ref) → item_of n s a.name ≡ item_of m s a.name → item_of n s b.name ≡ item_of m s b.name → side order n s a b ≡ side order m s a b
+  pub side_kept : (order : T → T → Ordering) (m n : Pooled T) (s : ℕ) (a b : Ref) → item_of n s a.name ≡ item_of m s a.name
+      → item_of n s b.name ≡ item_of m s b.name → side order n s a b ≡ side order m s a b
   unfolding side
   side_kept order m n s a b e f = λ i. compared (by_stamp order) (e i) (f i)
 
-  pub has_tag_kept : (tag : T → ℕ) (m n : Pooled T) (s : ℕ) (r : Ref) → value_of n r.name ≡ value_of m r.name → (link_of n r.name s).tag ≡ (link_of m r.name s).tag → HasTag tag m s r → HasTag tag n s r
+  pub has_tag_kept : (tag : T → ℕ) (m n : Pooled T) (s : ℕ) (r : Ref) → value_of n r.name ≡ value_of m r.name
+      → (link_of n r.name s).tag ≡ (link_of m r.name s).tag → HasTag tag m s r → HasTag tag n s r
   has_tag_kept tag m n s r e f h = subst (λ (z : Option T × Tag). IsTagOf tag z.0 z.1.key) (λ i. (sym e i, sym f i)) h
 
 -- tags of a list's parts
@@ -127,7 +130,7 @@ module _ (R : Ref → Ref → Ordering) (o : IsOrder R) where
   above_all x r (y ∷ ys) e h = (o.trans x r y e h.0, above_all x r ys e h.1)
 
   -- in rising nodes, r is after all that stand to its left
-  pub left_below : (xs : List Ref) (r : Ref) (ys : List Ref) → Rising R (xs ++ r ∷ ys) → AllAre (R r) Greater xs
+  left_below : (xs : List Ref) (r : Ref) (ys : List Ref) → Rising R (xs ++ r ∷ ys) → AllAre (R r) Greater xs
   left_below [] r ys h = tt
   left_below (x ∷ xs) r ys h = (turned x r (are_right (R x) Less xs (r ∷ ys) h.0).0, left_below xs r ys h.1)
 
@@ -135,7 +138,8 @@ module _ (R : Ref → Ref → Ordering) (o : IsOrder R) where
   below_all x r [] e h = tt
   below_all x r (y ∷ ys) e h = (turned y x (o.trans y r x (turned_back r y h.0) (turned_back x r e)), below_all x r ys e h.1)
 
-  pub put_left : (x : Ref) (L : List Ref) (r : Ref) (Q us : List Ref) → Rising R (L ++ r ∷ Q) → R x r ≡ Less → IsPutIn (R x) x L us → IsPutIn (R x) x (L ++ r ∷ Q) (us ++ r ∷ Q)
+  pub put_left : (x : Ref) (L : List Ref) (r : Ref) (Q us : List Ref) → Rising R (L ++ r ∷ Q)
+      → R x r ≡ Less → IsPutIn (R x) x L us → IsPutIn (R x) x (L ++ r ∷ Q) (us ++ r ∷ Q)
   put_left x L r Q us h e p = record {
     xs = p.xs;
     ys = p.ys ++ r ∷ Q;
@@ -145,7 +149,8 @@ module _ (R : Ref → Ref → Ordering) (o : IsOrder R) where
     above = are_both (R x) Less p.ys (r ∷ Q) p.above (e, above_all x r Q e (rising_right R L (r ∷ Q) h).0);
   }
 
-  pub put_right : (x : Ref) (L : List Ref) (r : Ref) (Q us : List Ref) → Rising R (L ++ r ∷ Q) → R x r ≡ Greater → IsPutIn (R x) x Q us → IsPutIn (R x) x (L ++ r ∷ Q) (L ++ r ∷ us)
+  pub put_right : (x : Ref) (L : List Ref) (r : Ref) (Q us : List Ref) → Rising R (L ++ r ∷ Q)
+      → R x r ≡ Greater → IsPutIn (R x) x Q us → IsPutIn (R x) x (L ++ r ∷ Q) (L ++ r ∷ us)
   put_right x L r Q us h e p = record {
     xs = L ++ r ∷ p.xs;
     ys = p.ys;
@@ -158,7 +163,10 @@ module _ (R : Ref → Ref → Ordering) (o : IsOrder R) where
   -- what was in order is still
   rising_both : (xs ys : List Ref) (x : Ref) → Rising R (xs ++ ys) → AllAre (R x) Greater xs → AllAre (R x) Less ys → Rising R (xs ++ x ∷ ys)
   rising_both [] ys x h b a = (a, h)
-  rising_both (y ∷ xs) ys x h b a = (are_both (R y) Less xs (x ∷ ys) (are_left (R y) Less xs ys h.0) (turned_back x y b.0, are_right (R y) Less xs ys h.0), rising_both xs ys x h.1 b.1 a)
+  rising_both (y ∷ xs) ys x h b a = (
+    are_both (R y) Less xs (x ∷ ys) (are_left (R y) Less xs ys h.0) (turned_back x y b.0, are_right (R y) Less xs ys h.0),
+    rising_both xs ys x h.1 b.1 a,
+  )
 
   pub rising_put : (x : Ref) (rs us : List Ref) → Rising R rs → IsPutIn (R x) x rs us → Rising R us
   rising_put x rs us h p = subst (Rising R) (sym p.now) (rising_both p.xs p.ys x (subst (Rising R) p.was h) p.below p.above)
@@ -169,7 +177,8 @@ pub data Where (A : List Ref) (r : Ref) (C xs : List Ref) (x : Ref) (ys : List R
   Here : A ≡ xs → r ≡ x → C ≡ ys → Where A r C xs x ys
   InRight : (zs : List Ref) → xs ≡ A ++ r ∷ zs → C ≡ zs ++ x ∷ ys → Where A r C xs x ys
 
-later : (a : Ref) (A : List Ref) (r : Ref) (C : List Ref) (z : Ref) (xs : List Ref) (x : Ref) (ys : List Ref) → a ≡ z → Where A r C xs x ys → Where (a ∷ A) r C (z ∷ xs) x ys
+later : (a : Ref) (A : List Ref) (r : Ref) (C : List Ref) (z : Ref) (xs : List Ref) (x : Ref) (ys : List Ref)
+    → a ≡ z → Where A r C xs x ys → Where (a ∷ A) r C (z ∷ xs) x ys
 later a A r C z xs x ys e (InLeft zs f g) = InLeft zs (λ i. e i ∷ f i) g
 later a A r C z xs x ys e (Here f g h) = Here (λ i. e i ∷ f i) g h
 later a A r C z xs x ys e (InRight zs f g) = InRight zs (λ i. sym e i ∷ f i) g
@@ -184,7 +193,8 @@ pub where_is : (A : List Ref) (r : Ref) (C xs : List Ref) (x : Ref) (ys : List R
 where_is [] r C [] x ys e = Here refl (first_same r x C ys e) (rest_same r x C ys e)
 where_is [] r C (z ∷ xs) x ys e = InRight xs (ap (λ k. k ∷ xs) (sym (first_same r z C (xs ++ x ∷ ys) e))) (rest_same r z C (xs ++ x ∷ ys) e)
 where_is (a ∷ A) r C [] x ys e = InLeft A (ap (λ k. k ∷ A) (first_same a x (A ++ r ∷ C) ys e)) (sym (rest_same a x (A ++ r ∷ C) ys e))
-where_is (a ∷ A) r C (z ∷ xs) x ys e = later a A r C z xs x ys (first_same a z (A ++ r ∷ C) (xs ++ x ∷ ys) e) (where_is A r C xs x ys (rest_same a z (A ++ r ∷ C) (xs ++ x ∷ ys) e))
+where_is (a ∷ A) r C (z ∷ xs) x ys e = later a A r C z xs x ys (first_same a z (A ++ r ∷ C) (xs ++ x ∷ ys) e)
+    (where_is A r C xs x ys (rest_same a z (A ++ r ∷ C) (xs ++ x ∷ ys) e))
 
 reversed_less : (o : Ordering) → o ≡ ordering_reverse o → o ≡ Equal
 reversed_less Less e = absurd (less_greater e)

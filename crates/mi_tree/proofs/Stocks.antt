@@ -1,5 +1,6 @@
 -- Nodes for tests, in a tree or out of it: what the calls need and what they leave.
-use Rattle.std.proofs.Common.{◌≡◌, ◌==◌, ℕ, zero, suc, ◌+◌, ◌<◌, ◌≤◌, Bool, true, false, cond, ◌⊎◌, inl, inr, List, [], ◌∷◌, ◌++◌, length, Option, Some, None, refl, sym, ap, ◌∙◌, subst, arith, append_assoc, length-append}
+use Rattle.std.proofs.Common.{◌≡◌, ◌==◌, ℕ, zero, suc, ◌+◌, ◌<◌, ◌≤◌, Bool, true, false, cond, ◌⊎◌, inl, inr, List, [], ◌∷◌}
+use Rattle.std.proofs.Common.{◌++◌, length, Option, Some, None, refl, sym, ap, ◌∙◌, subst, arith, append_assoc, length-append}
 use Rattle.std.specs.declared.cmp.Ordering.{Ordering}
 use Rattle.std.specs.declared.cmp.Ordering.TheVariants.{Less, Equal, Greater}
 use Rattle.std.specs.Ordering.{nat_cmp, ordering_then}
@@ -9,7 +10,8 @@ use Rattle.mi_node.specs.Neighbours.{AreHeld}
 use Rattle.mi_node.specs.Pool.{Pooled, ref_of, value_of, link_of, no_link, IsHeld, IsHeldIf, Keeps, no_nodes, taken}
 use Rattle.mi_node.specs.Refs.{Ref, IsOut, IsApart, first_of, last_of}
 use Rattle.mi_node.specs.declared.link.Link.{Link}
-use Rattle.mi_node.proofs.Callers.{held_has, held_taken, ref-taken, value-taken, link-taken, slots-taken, ref-no_nodes, slots-no_nodes, same_name, same_refl, flip}
+use Rattle.mi_node.proofs.Callers.{held_has, held_taken, ref-taken, value-taken, link-taken, slots-taken}
+use Rattle.mi_node.proofs.Callers.{ref-no_nodes, slots-no_nodes, same_name, same_refl, flip}
 use Rattle.mi_node.proofs.Refs.{out_right, apart_insert, apart_remove}
 use Rattle.mi_tree.specs.Shape.{nth_of}
 use Rattle.mi_tree.specs.Sorted.{NoneAre, IsPutIn, compared, stamped, by_stamp, item_of, side_of_new}
@@ -77,21 +79,24 @@ names_free : (m : Pool) (k : ℕ) (rs : List Ref) → ref_of m k ≡ None → Al
 names_free m k [] e h = tt
 names_free m k (q ∷ rs) e h = (name_free m k q e h.0, names_free m k rs e h.1)
 
-pub nth_split : (rs : List Ref) (n : ℕ) (r : Ref) → Some r ≡ nth_of rs n → (xs : List Ref) × (ys : List Ref) × (rs ≡ xs ++ r ∷ ys)
+nth_split : (rs : List Ref) (n : ℕ) (r : Ref) → Some r ≡ nth_of rs n → (xs : List Ref) × (ys : List Ref) × (rs ≡ xs ++ r ∷ ys)
 nth_split [] n r e = absurd (none_ref r (sym e))
 nth_split (q ∷ rs) zero r e = ([], rs, ap (λ k. k ∷ rs) (some_ref q r (sym e)))
 nth_split (q ∷ rs) (suc n) r e = let i = nth_split rs n r e in (q ∷ i.0, i.1, ap (λ k. q ∷ k) i.2)
 
 -- a node that would stand beside another has its stamp
-equal_stamp : (m : Pool) (s : ℕ) (x q : Ref) (stamp : ℕ) → IsHeld m x → IsHeld m q → side_of_new keyed_order m s x stamp q ≡ Equal → stamp ≡ (link_of m q.name s).tag.stamp
+equal_stamp : (m : Pool) (s : ℕ) (x q : Ref) (stamp : ℕ) → IsHeld m x → IsHeld m q
+    → side_of_new keyed_order m s x stamp q ≡ Equal → stamp ≡ (link_of m q.name s).tag.stamp
 unfolding side_of_new item_of
 equal_stamp m s x q stamp f g e =
     let v = held_has m x f in let w = held_has m q g in let t = (link_of m q.name s).tag.stamp in
-    let at : compared (by_stamp keyed_order) (stamped (Some v.0) stamp) (stamped (Some w.0) t) ≡ Equal = (λ i. compared (by_stamp keyed_order) (stamped (sym v.1 i) stamp) (stamped (sym w.1 i) t)) ∙ e in
+    let at : compared (by_stamp keyed_order) (stamped (Some v.0) stamp) (stamped (Some w.0) t) ≡ Equal =
+    (λ i. compared (by_stamp keyed_order) (stamped (sym v.1 i) stamp) (stamped (sym w.1 i) t)) ∙ e in
     ranked stamp t Equal (sym (then_equal (keyed_order v.0 w.0) (nat_cmp stamp t) at))
 
 -- a new node
-module _ {O : Type 0} (b : Bool) (l : Tree O) (m n : Pool) (out : List Ref) (next : ℕ) (r : Ref) (v : ℕ × ℕ) (h : IsStock b l m out next) (is : n ≡ taken m r v) (free : ref_of m r.name ≡ None) (room : next < 1000000) where
+module _ {O : Type 0} (b : Bool) (l : Tree O) (m n : Pool) (out : List Ref) (next : ℕ) (r : Ref) (v : ℕ × ℕ)
+    (h : IsStock b l m out next) (is : n ≡ taken m r v) (free : ref_of m r.name ≡ None) (room : next < 1000000) where
   here : AllHeldIn m h.rs
   here = tree_held b l m h.rs h.tree
 
@@ -128,18 +133,23 @@ module _ {O : Type 0} (b : Bool) (l : Tree O) (m n : Pool) (out : List Ref) (nex
 
   pub tree_added : IsTree l n keyed_order (key_tag b) h.rs
   tree_added = subst (λ k. IsTree l k keyed_order (key_tag b) h.rs) (sym is)
-      (tree_where keyed_order (key_tag b) keyed_total (tag_below b) l m (taken m r v) h.rs h.tree (alike_new h.rs here) (subst (λ k. l.slot < k) (sym (slots-taken m r v)) h.tree.has_slot))
+      (tree_where keyed_order (key_tag b) keyed_total (tag_below b) l m (taken m r v) h.rs h.tree
+      (alike_new h.rs here) (subst (λ k. l.slot < k) (sym (slots-taken m r v)) h.tree.has_slot))
 
   pub may_add : IsNew n l.slot keyed_order r next h.rs
-  may_add = let few = h.few in let c = h.counted in subst (λ k. IsNew k l.slot keyed_order r next h.rs) (sym is) (subst (λ s. IsNew (taken m r v) s keyed_order r next h.rs) (sym h.slot) (record {
-    held = held_taken m r v;
-    out = names_free m r.name h.rs free here;
-    differs = differs_new h.rs here;
-    fits = omega arith;
-  }))
+  may_add =
+      let few = h.few in let c = h.counted in
+      subst (λ k. IsNew k l.slot keyed_order r next h.rs) (sym is) (subst (λ s. IsNew (taken m r v) s keyed_order r next h.rs) (sym h.slot) (record {
+        held = held_taken m r v;
+        out = names_free m r.name h.rs free here;
+        differs = differs_new h.rs here;
+        fits = omega arith;
+      }))
 
-  pub has_added : (j : Tree O) (p : Pool) (us : List Ref) → IsPutIn (side_of_new keyed_order n l.slot r next) r h.rs us → IsTree j p keyed_order (key_tag b) us → Keeps n p l.slot (r ∷ h.rs)
-      → (link_of p r.name l.slot).tag.stamp ≡ next → ((k : ℕ) → (k == r.name) ≡ false → (link_of p k l.slot).tag ≡ (link_of n k l.slot).tag) → j.slot ≡ l.slot → IsStock b j p out (next + 1)
+  pub has_added : (j : Tree O) (p : Pool) (us : List Ref) → IsPutIn (side_of_new keyed_order n l.slot r next) r h.rs us
+      → IsTree j p keyed_order (key_tag b) us → Keeps n p l.slot (r ∷ h.rs)
+      → (link_of p r.name l.slot).tag.stamp ≡ next → ((k : ℕ) → (k == r.name) ≡ false → (link_of p k l.slot).tag ≡ (link_of n k l.slot).tag)
+      → j.slot ≡ l.slot → IsStock b j p out (next + 1)
   has_added j p us put tree keeps stamp tags slot = record {
     rs = us;
     tree = tree;
@@ -149,7 +159,10 @@ module _ {O : Type 0} (b : Bool) (l : Tree O) (m n : Pool) (out : List Ref) (nex
     unique = unique;
     below = below;
     few = let few = h.few in omega arith;
-    counted = let c = h.counted in let i = ap length put.was in let j = length-append put.xs put.ys in let k = ap length put.now in let f = length-append put.xs (r ∷ put.ys) in omega arith;
+    counted =
+        let c = h.counted in let i = ap length put.was in let j = length-append put.xs put.ys in
+        let k = ap length put.now in let f = length-append put.xs (r ∷ put.ys) in
+        omega arith;
   }
     where
       refs : (k : ℕ) → ref_of p k ≡ ref_of (taken m r v) k
@@ -159,17 +172,22 @@ module _ {O : Type 0} (b : Bool) (l : Tree O) (m n : Pool) (out : List Ref) (nex
       apart =
           let e = ap (λ z. out ++ z) put.was ∙ sym (append_assoc out put.xs put.ys) in
           subst IsApart (append_assoc out put.xs (r ∷ put.ys) ∙ ap (λ z. out ++ z) (sym put.now))
-          (apart_insert (out ++ put.xs) r put.ys (subst IsApart e h.apart) (subst (IsOut r.name) e (names_free m r.name (out ++ h.rs) free (held_both m out h.rs h.held here))))
+          (apart_insert (out ++ put.xs) r put.ys (subst IsApart e h.apart)
+          (subst (IsOut r.name) e (names_free m r.name (out ++ h.rs) free (held_both m out h.rs h.held here))))
 
       which : (x : Ref) → IsHeld p x → ((x.name ≡ r.name) × (stamp_of p x ≡ next)) ⊎ (IsHeld m x × (stamp_of p x ≡ stamp_of m x))
-      which x w = (elim (r.name == x.name) as (λ z. (r.name == x.name) ≡ z → ((x.name ≡ r.name) × (stamp_of p x ≡ next)) ⊎ (IsHeld m x × (stamp_of p x ≡ stamp_of m x))) [
-        | true ↦ λ f. let same = sym (same_name r.name x.name f) in inl (same, ap (λ k. (link_of p k 1).tag.stamp) same ∙ subst (λ s. (link_of p r.name s).tag.stamp ≡ next) h.slot stamp)
-        | false ↦ λ f. inr (
-          ap (λ z. cond z (Some r) (ref_of m x.name)) (sym f) ∙ sym (ref-taken m r v x.name) ∙ sym (refs x.name) ∙ w,
-          ap (λ t. t.stamp) (subst (λ s. (link_of p x.name s).tag ≡ (link_of n x.name s).tag) h.slot (tags x.name (flip x.name r.name ∙ f)))
-              ∙ ap (λ z. (link_of z x.name 1).tag.stamp) is ∙ ap (λ (y : Link). y.tag.stamp) (link-taken m r v x.name 1 ∙ ap (λ z. cond z no_link (link_of m x.name 1)) f),
-        )
-      ]) refl
+      which x w = (elim (r.name == x.name)
+          as (λ z. (r.name == x.name) ≡ z → ((x.name ≡ r.name) × (stamp_of p x ≡ next)) ⊎ (IsHeld m x × (stamp_of p x ≡ stamp_of m x))) [
+            | true ↦ λ f.
+                let same = sym (same_name r.name x.name f) in
+                inl (same, ap (λ k. (link_of p k 1).tag.stamp) same ∙ subst (λ s. (link_of p r.name s).tag.stamp ≡ next) h.slot stamp)
+            | false ↦ λ f. inr (
+              ap (λ z. cond z (Some r) (ref_of m x.name)) (sym f) ∙ sym (ref-taken m r v x.name) ∙ sym (refs x.name) ∙ w,
+              ap (λ t. t.stamp) (subst (λ s. (link_of p x.name s).tag ≡ (link_of n x.name s).tag) h.slot (tags x.name (flip x.name r.name ∙ f)))
+                  ∙ ap (λ z. (link_of z x.name 1).tag.stamp) is
+                  ∙ ap (λ (y : Link). y.tag.stamp) (link-taken m r v x.name 1 ∙ ap (λ z. cond z no_link (link_of m x.name 1)) f),
+            )
+          ]) refl
 
       below : (x : Ref) → IsHeld p x → stamp_of p x < next + 1
       below x w = elim (which x w) [
@@ -190,11 +208,13 @@ module _ {O : Type 0} (b : Bool) (l : Tree O) (m n : Pool) (out : List Ref) (nex
       ]
 
 -- each node keeps its stamp
-module _ {O : Type 0} (b : Bool) (l j : Tree O) (m p : Pool) (out : List Ref) (next : ℕ) (h : IsStock b l m out next) (refs : (k : ℕ) → ref_of p k ≡ ref_of m k) (stamps : (k : ℕ) → (link_of p k l.slot).tag.stamp ≡ (link_of m k l.slot).tag.stamp) (slot : j.slot ≡ l.slot) where
+module _ {O : Type 0} (b : Bool) (l j : Tree O) (m p : Pool) (out : List Ref) (next : ℕ) (h : IsStock b l m out next) (refs : (k : ℕ) → ref_of p k ≡ ref_of m k)
+    (stamps : (k : ℕ) → (link_of p k l.slot).tag.stamp ≡ (link_of m k l.slot).tag.stamp) (slot : j.slot ≡ l.slot) where
   same_stamp : (x : Ref) → stamp_of p x ≡ stamp_of m x
   same_stamp x = subst (λ s. (link_of p x.name s).tag.stamp ≡ (link_of m x.name s).tag.stamp) h.slot (stamps x.name)
 
-  stock_kept : (os us : List Ref) → IsTree j p keyed_order (key_tag b) us → AllHeldIn m os → IsApart (os ++ us) → length os + length us ≤ next → IsStock b j p os next
+  stock_kept : (os us : List Ref) → IsTree j p keyed_order (key_tag b) us → AllHeldIn m os
+      → IsApart (os ++ us) → length os + length us ≤ next → IsStock b j p os next
   stock_kept os us tree held apart counted = record {
     rs = us;
     tree = tree;
@@ -208,7 +228,8 @@ module _ {O : Type 0} (b : Bool) (l j : Tree O) (m p : Pool) (out : List Ref) (n
   }
 
 -- a node that goes back into the tree
-module _ {O : Type 0} (b : Bool) (l : Tree O) (m : Pool) (out os : List Ref) (next : ℕ) (r : Ref) (stamp : ℕ) (h : IsStock b l m out next) (is : out ≡ os ++ r ∷ []) (had : stamp ≡ stamp_of m r) where
+module _ {O : Type 0} (b : Bool) (l : Tree O) (m : Pool) (out os : List Ref) (next : ℕ) (r : Ref)
+    (stamp : ℕ) (h : IsStock b l m out next) (is : out ≡ os ++ r ∷ []) (had : stamp ≡ stamp_of m r) where
   put_held : AllHeldIn m (os ++ r ∷ [])
   put_held = subst (AllHeldIn m) is h.held
 
@@ -222,7 +243,9 @@ module _ {O : Type 0} (b : Bool) (l : Tree O) (m : Pool) (out os : List Ref) (ne
   differs_put [] w o = tt
   differs_put (q ∷ rs) w o = (
     λ e. (let f = equal_stamp m 1 r q stamp last_held w.0 e in
-        let same : r.name ≡ q.name = h.unique r q last_held w.0 (sym had ∙ f) in let g : true ≡ false = sym (same_refl r.name) ∙ ap (λ k. r.name == k) same ∙ o.0 in cc),
+        let same : r.name ≡ q.name = h.unique r q last_held w.0 (sym had ∙ f) in
+        let g : true ≡ false = sym (same_refl r.name) ∙ ap (λ k. r.name == k) same ∙ o.0 in
+        cc),
     differs_put rs w.1 o.1,
   )
 
@@ -230,47 +253,58 @@ module _ {O : Type 0} (b : Bool) (l : Tree O) (m : Pool) (out os : List Ref) (ne
   out_put = out_right r.name os h.rs (apart_remove os r h.rs put_apart).1
 
   pub may_put : IsNew m l.slot keyed_order r stamp h.rs
-  may_put = let few = h.few in let c = h.counted in let long = ap length is in let j = length-append os (r ∷ []) in subst (λ s. IsNew m s keyed_order r stamp h.rs) (sym h.slot) (record {
-    held = last_held;
-    out = out_put;
-    differs = differs_put h.rs (tree_held b l m h.rs h.tree) out_put;
-    fits = omega arith;
-  })
+  may_put =
+      let few = h.few in let c = h.counted in let long = ap length is in let j = length-append os (r ∷ []) in
+      subst (λ s. IsNew m s keyed_order r stamp h.rs) (sym h.slot) (record {
+        held = last_held;
+        out = out_put;
+        differs = differs_put h.rs (tree_held b l m h.rs h.tree) out_put;
+        fits = omega arith;
+      })
 
-  pub has_put : (j : Tree O) (p : Pool) (us : List Ref) → IsPutIn (side_of_new keyed_order m l.slot r stamp) r h.rs us → IsTree j p keyed_order (key_tag b) us → Keeps m p l.slot (r ∷ h.rs)
-      → (link_of p r.name l.slot).tag.stamp ≡ stamp → ((k : ℕ) → (k == r.name) ≡ false → (link_of p k l.slot).tag ≡ (link_of m k l.slot).tag) → j.slot ≡ l.slot → IsStock b j p os next
+  pub has_put : (j : Tree O) (p : Pool) (us : List Ref) → IsPutIn (side_of_new keyed_order m l.slot r stamp) r h.rs us
+      → IsTree j p keyed_order (key_tag b) us → Keeps m p l.slot (r ∷ h.rs)
+      → (link_of p r.name l.slot).tag.stamp ≡ stamp
+      → ((k : ℕ) → (k == r.name) ≡ false → (link_of p k l.slot).tag ≡ (link_of m k l.slot).tag) → j.slot ≡ l.slot → IsStock b j p os next
   has_put j p us put tree keeps now tags slot =
       let cut = apart_remove os r h.rs put_apart in let e = ap (λ z. os ++ z) put.was ∙ sym (append_assoc os put.xs put.ys) in
       let apart = apart_insert (os ++ put.xs) r put.ys (subst IsApart e cut.0) (subst (IsOut r.name) e cut.1) in
       let long = ap length is in let i = length-append os (r ∷ []) in let c = h.counted in
       let a = ap length put.was in let d = length-append put.xs put.ys in let f = ap length put.now in let g = length-append put.xs (r ∷ put.ys) in
-      stock_kept b l j m p out next h keeps.refs stamps slot os us tree (held_left m os (r ∷ []) put_held) (subst IsApart (append_assoc os put.xs (r ∷ put.ys) ∙ ap (λ z. os ++ z) (sym put.now)) apart) (omega arith)
+      stock_kept b l j m p out next h keeps.refs stamps slot os us tree (held_left m os (r ∷ []) put_held)
+      (subst IsApart (append_assoc os put.xs (r ∷ put.ys) ∙ ap (λ z. os ++ z) (sym put.now)) apart) (omega arith)
     where
       stamps : (k : ℕ) → (link_of p k l.slot).tag.stamp ≡ (link_of m k l.slot).tag.stamp
       stamps k = (elim (k == r.name) as (λ z. (k == r.name) ≡ z → (link_of p k l.slot).tag.stamp ≡ (link_of m k l.slot).tag.stamp) [
-        | true ↦ λ f. subst (λ q. (link_of p q l.slot).tag.stamp ≡ (link_of m q l.slot).tag.stamp) (sym (same_name k r.name f)) (now ∙ had ∙ ap (λ s. (link_of m r.name s).tag.stamp) (sym h.slot))
+        | true ↦ λ f. subst (λ q. (link_of p q l.slot).tag.stamp ≡ (link_of m q l.slot).tag.stamp)
+            (sym (same_name k r.name f)) (now ∙ had ∙ ap (λ s. (link_of m r.name s).tag.stamp) (sym h.slot))
         | false ↦ λ f. ap (λ t. t.stamp) (tags k f)
       ]) refl
 
 -- a node that comes out of the tree
-module _ {O : Type 0} (b : Bool) (l j : Tree O) (m p : Pool) (out : List Ref) (next : ℕ) (r : Ref) (h : IsStock b l m out next) (xs ys : List Ref) (is : h.rs ≡ xs ++ r ∷ ys) (tree : IsTree j p keyed_order (key_tag b) (xs ++ ys)) (keeps : Keeps m p l.slot (xs ++ ys))
+module _ {O : Type 0} (b : Bool) (l j : Tree O) (m p : Pool) (out : List Ref) (next : ℕ) (r : Ref) (h : IsStock b l m out next)
+    (xs ys : List Ref) (is : h.rs ≡ xs ++ r ∷ ys) (tree : IsTree j p keyed_order (key_tag b) (xs ++ ys)) (keeps : Keeps m p l.slot (xs ++ ys))
     (tags : (k : ℕ) → (link_of p k l.slot).tag ≡ (link_of m k l.slot).tag) (slot : j.slot ≡ l.slot) where
   pull_cut : IsApart (out ++ (xs ++ ys)) × IsOut r.name (out ++ (xs ++ ys))
   pull_cut =
-      let e = ap (λ z. out ++ z) is ∙ sym (append_assoc out xs (r ∷ ys)) in let cut = apart_remove (out ++ xs) r ys (subst IsApart e h.apart) in let f = append_assoc out xs ys in
+      let e = ap (λ z. out ++ z) is ∙ sym (append_assoc out xs (r ∷ ys)) in
+      let cut = apart_remove (out ++ xs) r ys (subst IsApart e h.apart) in
+      let f = append_assoc out xs ys in
       (subst IsApart f cut.0, subst (IsOut r.name) f cut.1)
 
   kept : (os : List Ref) → AllHeldIn m os → IsApart (os ++ (xs ++ ys)) → length os + length (xs ++ ys) ≤ next → IsStock b j p os next
   kept os held apart counted = stock_kept b l j m p out next h keeps.refs (λ k. ap (λ t. t.stamp) (tags k)) slot os (xs ++ ys) tree held apart counted
 
   pulled_none : IsStock b j p out next
-  pulled_none = let c = h.counted in let a = ap length is in let i = length-append xs (r ∷ ys) in let d = length-append xs ys in kept out h.held pull_cut.0 (omega arith)
+  pulled_none =
+      let c = h.counted in let a = ap length is in let i = length-append xs (r ∷ ys) in let d = length-append xs ys in kept out h.held pull_cut.0 (omega arith)
 
   pulled_one : IsStock b j p (out ++ r ∷ []) next
   pulled_one =
       let c = h.counted in let a = ap length is in let i = length-append xs (r ∷ ys) in let d = length-append xs ys in let e = length-append out (r ∷ []) in
       let held = held_right m xs (r ∷ ys) (subst (AllHeldIn m) is (tree_held b l m h.rs h.tree)) in
-      kept (out ++ r ∷ []) (held_both m out (r ∷ []) h.held (held.0, tt)) (subst IsApart (sym (append_assoc out (r ∷ []) (xs ++ ys))) (apart_insert out r (xs ++ ys) pull_cut.0 pull_cut.1)) (omega arith)
+      kept (out ++ r ∷ []) (held_both m out (r ∷ []) h.held (held.0, tt))
+      (subst IsApart (sym (append_assoc out (r ∷ []) (xs ++ ys))) (apart_insert out r (xs ++ ys) pull_cut.0 pull_cut.1)) (omega arith)
 
   -- whether the push was refused or not
   pub pulled : (items : List Ref) (done : Bool) → items ≡ cond done (out ++ r ∷ []) out → IsStock b j p items next
@@ -294,10 +328,12 @@ stock_new b l m out root slot e none =
     }
 
 -- the node of a rank stands in the tree
-pub nth_tree : {O : Type 0} (b : Bool) (l : Tree O) (m z : Pool) (rs : List Ref) (n : ℕ) (r : Ref) → IsTree l m keyed_order (key_tag b) rs → z ≡ m → Some r ≡ nth_of rs n
+pub nth_tree : {O : Type 0} (b : Bool) (l : Tree O) (m z : Pool) (rs : List Ref) (n : ℕ) (r : Ref)
+    → IsTree l m keyed_order (key_tag b) rs → z ≡ m → Some r ≡ nth_of rs n
     → (xs : List Ref) × (ys : List Ref) × IsTree l z keyed_order (key_tag b) (xs ++ r ∷ ys) × (rs ≡ xs ++ r ∷ ys)
 nth_tree b l m z rs n r h e f =
-    let i = nth_split rs n r f in (i.0, i.1, subst (λ k. IsTree l k keyed_order (key_tag b) (i.0 ++ r ∷ i.1)) (sym e) (subst (IsTree l m keyed_order (key_tag b)) i.2 h), i.2)
+    let i = nth_split rs n r f in
+    (i.0, i.1, subst (λ k. IsTree l k keyed_order (key_tag b) (i.0 ++ r ∷ i.1)) (sym e) (subst (IsTree l m keyed_order (key_tag b)) i.2 h), i.2)
 
 -- what a look-up gives is held
 pub nth_held : (m : Pool) (rs : List Ref) (n : ℕ) → AllHeldIn m rs → IsHeldIf m (nth_of rs n)
@@ -329,5 +365,6 @@ pending_held m s d levels (x ∷ xs) h = h.0
 -- and what a walk gives
 pub walk_held : (m z : Pool) (w : Walk) (levels : ℕ) (us : List Ref) (o : Option Ref) → IsWalk w z levels us → z ≡ m → o ≡ first_of us None → IsHeldIf m o
 walk_held m z w levels us o h e f =
-    let at : IsHeldIf z (first_of us None) = subst (λ k. IsHeldIf z (first_of k None)) h.ahead_is (pending_held z w.slot w.direction levels h.xs h.goes.pending) in
+    let at : IsHeldIf z (first_of us None) = subst (λ k. IsHeldIf z (first_of k None))
+    h.ahead_is (pending_held z w.slot w.direction levels h.xs h.goes.pending) in
     subst (IsHeldIf m) (sym f) (subst (λ k. IsHeldIf k (first_of us None)) e at)

@@ -12,13 +12,16 @@ use Rattle.mi_tree.proofs.Shapes.{moved, opened, tip_is, height-root, size-nodes
 use Rattle.mi_tree.proofs.Joins.{rooted_kept}
 
 -- heights after the first node of the right side became the root
-pub met : (l q u t : ℕ) → DifferByAtMost 1 l q → u ≤ q → q ≤ u + 1 → max l u ≤ t → t ≤ max l u + 1 → (DifferByAtMost 1 l u → t ≡ max l u + 1) → (l ≤ t) × (q ≤ t) × (t ≤ max l q + 1)
+met : (l q u t : ℕ) → DifferByAtMost 1 l q → u ≤ q → q ≤ u + 1 → max l u ≤ t → t ≤ max l u + 1
+    → (DifferByAtMost 1 l u → t ≡ max l u + 1) → (l ≤ t) × (q ≤ t) × (t ≤ max l q + 1)
 met l q u t d a b low high tight = (grind arith, grind arith, grind arith)
 
 -- one node less is one less in size
-pub less_size : (t u : Shape) (xs : List Ref) (x : Ref) (ys : List Ref) → nodes t ≡ xs ++ x ∷ ys → nodes u ≡ xs ++ ys → size t ≡ size u + 1
+less_size : (t u : Shape) (xs : List Ref) (x : Ref) (ys : List Ref) → nodes t ≡ xs ++ x ∷ ys → nodes u ≡ xs ++ ys → size t ≡ size u + 1
 less_size t u xs x ys e f =
-    let a = size-nodes t in let b = size-nodes u in let c = ap length e in let d = ap length f in let i = length-append xs (x ∷ ys) in let j = length-append xs ys in omega arith
+    let a = size-nodes t in let b = size-nodes u in let c = ap length e in
+    let d = ap length f in let i = length-append xs (x ∷ ys) in let j = length-append xs ys in
+    omega arith
 
 -- what is out of a list is out of it without a node
 pub out_less : (k : ℕ) (xs : List Ref) (x : Ref) (ys : List Ref) → IsOut k (xs ++ x ∷ ys) → IsOut k (xs ++ ys)
@@ -56,7 +59,7 @@ module _ {T : Type 0} where
   all_held m s Tip h = tt
   all_held m s (Fork l r q) h = held_both m (nodes l) r (nodes q) (all_held m s l h.2) h.0 (all_held m s q h.3)
 
-  pub held_first : (m : Pooled T) (s : ℕ) (t : Shape) (r : Ref) (rs : List Ref) → nodes t ≡ r ∷ rs → Stands m s t → IsHeld m r
+  held_first : (m : Pooled T) (s : ℕ) (t : Shape) (r : Ref) (rs : List Ref) → nodes t ≡ r ∷ rs → Stands m s t → IsHeld m r
   held_first m s t r rs e h = (subst (AreHeld m) e (all_held m s t h)).0
 
   pub held_in : (m : Pooled T) (s : ℕ) (t : Shape) (xs : List Ref) (r : Ref) (ys : List Ref) → nodes t ≡ xs ++ r ∷ ys → Stands m s t → IsHeld m r
@@ -78,7 +81,8 @@ module _ {T : Type 0} where
     pub height_is : y.height ≡ max (height A) (height B) + 1
     pub tag_is : y.tag ≡ (link_of m root.name s).tag
 
-  pub take_opened : (m : Pooled T) (s : ℕ) (at : Option Ref) (root : Ref) (y : Link) (t : Shape) → CanTake m s at t → at ≡ Some root → y ≡ link_of m root.name s → TakeOpened m s root y t
+  pub take_opened : (m : Pooled T) (s : ℕ) (at : Option Ref) (root : Ref) (y : Link) (t : Shape)
+      → CanTake m s at t → at ≡ Some root → y ≡ link_of m root.name s → TakeOpened m s root y t
   take_opened m s at root y t h e i =
       let o = opened m s root t (moved m m s at (Some root) t refl e h.rooted) in
       let A = nodes o.left in let B = nodes o.right in
@@ -106,7 +110,8 @@ module _ {T : Type 0} where
 
   -- two trees
   pub ends_take : (m : Pooled T) (s : ℕ) (left right : Option Ref) (l q : Shape) → AreEnds m s left right l q → CanTake m s right q
-  ends_take m s left right l q h = let f = h.fits in record { rooted = h.right_is; even = h.right_even; apart = apart_right (nodes l) (nodes q) h.apart; fits = omega arith }
+  ends_take m s left right l q h =
+      let f = h.fits in record { rooted = h.right_is; even = h.right_even; apart = apart_right (nodes l) (nodes q) h.apart; fits = omega arith }
 
   pub ends_none : (m : Pooled T) (s : ℕ) (left right : Option Ref) (l q : Shape) → AreEnds m s left right l q → right ≡ None → AreAppended m m s l q left l
   ends_none m s left right l q h e =
@@ -120,12 +125,14 @@ module _ {T : Type 0} where
         tags = λ k. refl;
       }
 
-  module _ (m n : Pooled T) (s : ℕ) (left right : Option Ref) (l q : Shape) (h : AreEnds m s left right l q) (first : Ref) (rs : List Ref) (rest : Option Ref) (u : Shape) (is : nodes q ≡ first ∷ rs) (k : HasTaken m n s q rs rest u) where
+  module _ (m n : Pooled T) (s : ℕ) (left right : Option Ref) (l q : Shape) (h : AreEnds m s left right l q) (first : Ref)
+      (rs : List Ref) (rest : Option Ref) (u : Shape) (is : nodes q ≡ first ∷ rs) (k : HasTaken m n s q rs rest u) where
     pub ends_sides : AreSides n s left first rest l u
     ends_sides =
         let size_is = less_size q u [] first rs is k.nodes_are in let e0 = h.near in let f = h.fits in let lo = k.not_lower in let hi = k.not_higher in
         let all = subst IsApart (ap (λ v. nodes l ++ v) is) h.apart in record {
-          left_is = rooted_kept s m n (nodes q) left l (keeps_more s m n rs (nodes q) k.keeps (λ j out. (subst (IsOut j) is out).1)) (apart_across (nodes l) (nodes q) h.apart) h.left_is;
+          left_is = rooted_kept s m n (nodes q) left l (keeps_more s m n rs (nodes q) k.keeps (λ j out. (subst (IsOut j) is out).1))
+              (apart_across (nodes l) (nodes q) h.apart) h.left_is;
           held = held_kept s m n rs first k.keeps (held_first m s q first rs is (h.right_is.stands));
           right_is = k.rooted;
           apart = subst (λ v. IsApart (nodes l ++ first ∷ v)) (sym k.nodes_are) all;
@@ -137,7 +144,9 @@ module _ {T : Type 0} where
 
     pub ends_appended : (v : Pooled T) (result : Ref) (z : Shape) → IsBalanced n v s l first u result z → AreAppended m v s l q (Some result) z
     ends_appended v result z b =
-        let r = b.rebalanced in let g = met (height l) (height q) (height u) (height z) h.near k.not_higher k.not_lower r.not_lower r.not_higher r.as_high in record {
+        let r = b.rebalanced in
+        let g = met (height l) (height q) (height u) (height z) h.near k.not_higher k.not_lower r.not_lower r.not_higher r.as_high in
+        record {
           rooted = b.rooted;
           even = r.even;
           nodes_are = r.nodes_are ∙ ap (λ w. nodes l ++ first ∷ w) k.nodes_are ∙ sym (ap (λ w. nodes l ++ w) is);
@@ -145,11 +154,17 @@ module _ {T : Type 0} where
           not_higher = g.2;
           tags = λ j. b.tags j ∙ k.tags j;
           keeps = keeps_then s m n v rs (nodes l ++ first ∷ nodes u) (nodes l ++ nodes q) k.keeps b.keeps
-              (λ j out. let right = out_right j (nodes l) (nodes q) out in ((subst (IsOut j) is right).1, out_both j (nodes l) (first ∷ nodes u) (out_left j (nodes l) (nodes q) out) (subst (λ w. IsOut j (first ∷ w)) (sym k.nodes_are) (subst (IsOut j) is right))));
+              (λ j out.
+              let right = out_right j (nodes l) (nodes q) out in (
+                (subst (IsOut j) is right).1,
+                out_both j (nodes l) (first ∷ nodes u) (out_left j (nodes l) (nodes q) out)
+                    (subst (λ w. IsOut j (first ∷ w)) (sym k.nodes_are) (subst (IsOut j) is right)),
+              ));
         }
 
   -- the sides of a fork, which is known already
-  pub side_take : (m : Pooled T) (s : ℕ) (at : Option Ref) (root : Ref) (y : Link) (t : Shape) → CanTake m s at t → at ≡ Some root → y ≡ link_of m root.name s → (l q : Shape) → t ≡ Fork l root q → CanTake m s y.back l × CanTake m s y.forth q
+  pub side_take : (m : Pooled T) (s : ℕ) (at : Option Ref) (root : Ref) (y : Link) (t : Shape) → CanTake m s at t → at ≡ Some root
+      → y ≡ link_of m root.name s → (l q : Shape) → t ≡ Fork l root q → CanTake m s y.back l × CanTake m s y.forth q
   side_take m s at root y t h e i l q is =
       let o = take_opened m s at root y t h e i in let same = sym o.is ∙ is in
       (subst (CanTake m s y.back) (fork_left o.A root o.B l root q same) o.left, subst (CanTake m s y.forth) (fork_right o.A root o.B l root q same) o.right)

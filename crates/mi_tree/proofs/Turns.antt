@@ -11,10 +11,11 @@ use Rattle.mi_tree.specs.Joining.{Two, Three, Four, Rebalanced, AreSides, IsBala
 use Rattle.mi_tree.proofs.Heights.{low_enough}
 use Rattle.mi_tree.proofs.Shapes.{moved, opened}
 
-pub turn_plain : (l : Shape) (x : Ref) (q : Shape) → IsEven l → IsEven q → DifferByAtMost 1 (height l) (height q) → Rebalanced l x q (Fork l x q)
+turn_plain : (l : Shape) (x : Ref) (q : Shape) → IsEven l → IsEven q → DifferByAtMost 1 (height l) (height q) → Rebalanced l x q (Fork l x q)
 turn_plain l x q el eq d = record { nodes_are = refl; even = (d, el, eq); not_lower = omega arith; not_higher = omega arith; as_high = λ h. refl }
 
-pub turn_down : (A : Shape) (x : Ref) (B : Shape) (y : Ref) (C : Shape) → IsEven (Fork A x B) → IsEven C → DifferByAtMost 2 (height (Fork A x B)) (height C) → height C + 1 < height (Fork A x B) → height B ≤ height A
+turn_down : (A : Shape) (x : Ref) (B : Shape) (y : Ref) (C : Shape) → IsEven (Fork A x B) → IsEven C
+    → DifferByAtMost 2 (height (Fork A x B)) (height C) → height C + 1 < height (Fork A x B) → height B ≤ height A
     → Rebalanced (Fork A x B) y C (Fork A x (Fork B y C))
 turn_down A x B y C e f d h w = let e0 = e.0 in record {
   nodes_are = sym (append_assoc (nodes A) (x ∷ nodes B) (y ∷ nodes C));
@@ -24,7 +25,8 @@ turn_down A x B y C e f d h w = let e0 = e.0 in record {
   as_high = λ k. absurd (omega arith);
 }
 
-pub turn_up : (A : Shape) (x : Ref) (B : Shape) (y : Ref) (C : Shape) → IsEven A → IsEven (Fork B y C) → DifferByAtMost 2 (height A) (height (Fork B y C)) → height A + 1 < height (Fork B y C) → height B ≤ height C
+turn_up : (A : Shape) (x : Ref) (B : Shape) (y : Ref) (C : Shape) → IsEven A → IsEven (Fork B y C)
+    → DifferByAtMost 2 (height A) (height (Fork B y C)) → height A + 1 < height (Fork B y C) → height B ≤ height C
     → Rebalanced A x (Fork B y C) (Fork (Fork A x B) y C)
 turn_up A x B y C e f d h w = let f0 = f.0 in record {
   nodes_are = append_assoc (nodes A) (x ∷ nodes B) (y ∷ nodes C);
@@ -35,10 +37,13 @@ turn_up A x B y C e f d h w = let f0 = f.0 in record {
 }
 
 -- from the left: A x (B y C) is too high
-pub turn_left_both : (A : Shape) (x : Ref) (B : Shape) (y : Ref) (C : Shape) (z : Ref) (D : Shape) → IsEven (Fork A x (Fork B y C)) → IsEven D → DifferByAtMost 2 (height (Fork A x (Fork B y C))) (height D)
+turn_left_both : (A : Shape) (x : Ref) (B : Shape) (y : Ref) (C : Shape) (z : Ref) (D : Shape)
+    → IsEven (Fork A x (Fork B y C)) → IsEven D → DifferByAtMost 2 (height (Fork A x (Fork B y C))) (height D)
     → height D + 1 < height (Fork A x (Fork B y C)) → height A < height (Fork B y C) → Rebalanced (Fork A x (Fork B y C)) z D (Fork (Fork A x B) y (Fork C z D))
 turn_left_both A x B y C z D e f d h w = let e0 = e.0 in let e2 = e.2.0 in record {
-  nodes_are = append_assoc (nodes A) (x ∷ nodes B) (y ∷ nodes C ++ z ∷ nodes D) ∙ sym (append_assoc (nodes A) (x ∷ nodes B ++ y ∷ nodes C) (z ∷ nodes D) ∙ ap (λ u. nodes A ++ x ∷ u) (append_assoc (nodes B) (y ∷ nodes C) (z ∷ nodes D)));
+  nodes_are = append_assoc (nodes A) (x ∷ nodes B) (y ∷ nodes C ++ z ∷ nodes D)
+      ∙ sym (append_assoc (nodes A) (x ∷ nodes B ++ y ∷ nodes C) (z ∷ nodes D)
+      ∙ ap (λ u. nodes A ++ x ∷ u) (append_assoc (nodes B) (y ∷ nodes C) (z ∷ nodes D)));
   even = ((omega arith, omega arith), ((omega arith, omega arith), e.1, e.2.1), ((omega arith, omega arith), e.2.2, f));
   not_lower = omega arith;
   not_higher = omega arith;
@@ -46,10 +51,12 @@ turn_left_both A x B y C z D e f d h w = let e0 = e.0 in let e2 = e.2.0 in recor
 }
 
 -- from the right: (B y C) z D is too high
-pub turn_right_both : (A : Shape) (x : Ref) (B : Shape) (y : Ref) (C : Shape) (z : Ref) (D : Shape) → IsEven A → IsEven (Fork (Fork B y C) z D) → DifferByAtMost 2 (height A) (height (Fork (Fork B y C) z D))
+turn_right_both : (A : Shape) (x : Ref) (B : Shape) (y : Ref) (C : Shape) (z : Ref) (D : Shape) → IsEven A
+    → IsEven (Fork (Fork B y C) z D) → DifferByAtMost 2 (height A) (height (Fork (Fork B y C) z D))
     → height A + 1 < height (Fork (Fork B y C) z D) → height D < height (Fork B y C) → Rebalanced A x (Fork (Fork B y C) z D) (Fork (Fork A x B) y (Fork C z D))
 turn_right_both A x B y C z D e f d h w = let f0 = f.0 in let f1 = f.1.0 in record {
-  nodes_are = append_assoc (nodes A) (x ∷ nodes B) (y ∷ nodes C ++ z ∷ nodes D) ∙ ap (λ u. nodes A ++ x ∷ u) (sym (append_assoc (nodes B) (y ∷ nodes C) (z ∷ nodes D)));
+  nodes_are = append_assoc (nodes A) (x ∷ nodes B) (y ∷ nodes C ++ z ∷ nodes D)
+      ∙ ap (λ u. nodes A ++ x ∷ u) (sym (append_assoc (nodes B) (y ∷ nodes C) (z ∷ nodes D)));
   even = ((omega arith, omega arith), ((omega arith, omega arith), e, f.1.1), ((omega arith, omega arith), f.1.2, f.2));
   not_lower = omega arith;
   not_higher = omega arith;
@@ -62,10 +69,13 @@ out_two k A x B y C h = ((out_right k A (x ∷ B) (out_left k (A ++ x ∷ B) (y 
 out_two_right : (k : ℕ) (A : List Ref) (x : Ref) (B : List Ref) (y : Ref) (C : List Ref) → IsOut k (A ++ x ∷ (B ++ y ∷ C)) → IsOut k (x ∷ y ∷ [])
 out_two_right k A x B y C h = let o = out_right k A (x ∷ B ++ y ∷ C) h in (o.0, ((out_right k B (y ∷ C) o.1).0, tt))
 
-out_three_left : (k : ℕ) (A : List Ref) (x : Ref) (B : List Ref) (y : Ref) (C : List Ref) (z : Ref) (D : List Ref) → IsOut k ((A ++ x ∷ (B ++ y ∷ C)) ++ z ∷ D) → IsOut k (x ∷ y ∷ z ∷ [])
-out_three_left k A x B y C z D h = let o = out_two_right k A x B y C (out_left k (A ++ x ∷ (B ++ y ∷ C)) (z ∷ D) h) in (o.0, (o.1.0, ((out_right k (A ++ x ∷ (B ++ y ∷ C)) (z ∷ D) h).0, tt)))
+out_three_left : (k : ℕ) (A : List Ref) (x : Ref) (B : List Ref) (y : Ref) (C : List Ref) (z : Ref) (D : List Ref)
+    → IsOut k ((A ++ x ∷ (B ++ y ∷ C)) ++ z ∷ D) → IsOut k (x ∷ y ∷ z ∷ [])
+out_three_left k A x B y C z D h =
+    let o = out_two_right k A x B y C (out_left k (A ++ x ∷ (B ++ y ∷ C)) (z ∷ D) h) in (o.0, (o.1.0, ((out_right k (A ++ x ∷ (B ++ y ∷ C)) (z ∷ D) h).0, tt)))
 
-out_three_right : (k : ℕ) (A : List Ref) (x : Ref) (B : List Ref) (y : Ref) (C : List Ref) (z : Ref) (D : List Ref) → IsOut k (A ++ x ∷ ((B ++ y ∷ C) ++ z ∷ D)) → IsOut k (x ∷ y ∷ z ∷ [])
+out_three_right : (k : ℕ) (A : List Ref) (x : Ref) (B : List Ref) (y : Ref) (C : List Ref) (z : Ref) (D : List Ref)
+    → IsOut k (A ++ x ∷ ((B ++ y ∷ C) ++ z ∷ D)) → IsOut k (x ∷ y ∷ z ∷ [])
 out_three_right k A x B y C z D h = let o = out_right k A (x ∷ (B ++ y ∷ C) ++ z ∷ D) h in (o.0, out_two k B y C z D o.1)
 
 module _ {T : Type 0} where
@@ -137,7 +147,8 @@ module _ {T : Type 0} where
     pub is : M ≡ Fork B y C
     pub parts : Four m s a x w.back y w.forth z d A B C D
 
-  pub middle_opened : (m : Pooled T) (s : ℕ) (a : Option Ref) (x : Ref) (b : Option Ref) (y z : Ref) (d : Option Ref) (w : Link) (A M D : Shape) → Three m s a x b z d A M D → b ≡ Some y → w ≡ link_of m y.name s
+  pub middle_opened : (m : Pooled T) (s : ℕ) (a : Option Ref) (x : Ref) (b : Option Ref) (y z : Ref) (d : Option Ref) (w : Link) (A M D : Shape)
+      → Three m s a x b z d A M D → b ≡ Some y → w ≡ link_of m y.name s
       → MiddleOpened m s a x y z d w A M D
   middle_opened m s a x b y z d w A M D h e i =
       let o = opened m s y M (moved m m s b (Some y) M refl e h.second) in
@@ -153,64 +164,77 @@ module _ {T : Type 0} where
           third = moved m m s _ w.forth o.right refl (sym (ap (λ (u : Link). u.forth) i)) o.right_is;
           held_z = h.held_y;
           fourth = h.third;
-          apart = subst IsApart (ap (λ t. nodes A ++ x ∷ (nodes t ++ z ∷ nodes D)) o.is ∙ ap (λ u. nodes A ++ x ∷ u) (append_assoc (nodes o.left) (y ∷ nodes o.right) (z ∷ nodes D))) h.apart;
+          apart = subst IsApart (ap (λ t. nodes A ++ x ∷ (nodes t ++ z ∷ nodes D)) o.is
+              ∙ ap (λ u. nodes A ++ x ∷ u) (append_assoc (nodes o.left) (y ∷ nodes o.right) (z ∷ nodes D)))
+              h.apart;
           fits = omega arith;
           low = (omega arith, omega arith, omega arith, omega arith);
         };
       }
 
   -- what the calls give
-  pub downs : (m n : Pooled T) (s : ℕ) (A : Shape) (r : Ref) (B : Shape) (x : Ref) (l q : Shape) → l ≡ Fork A r B → IsEven l → IsEven q → DifferByAtMost 2 (height l) (height q) → height q + 1 < height l → height B ≤ height A
+  pub downs : (m n : Pooled T) (s : ℕ) (A : Shape) (r : Ref) (B : Shape) (x : Ref) (l q : Shape) → l ≡ Fork A r B
+      → IsEven l → IsEven q → DifferByAtMost 2 (height l) (height q) → height q + 1 < height l → height B ≤ height A
       → IsRooted n s (Some r) (Fork A r (Fork B x q)) → Keeps m n s (r ∷ x ∷ []) → SameTags m n s → (t : Shape) × IsBalanced m n s l x q r t
   downs m n s A r B x l q is el eq near more higher rooted keeps tags = subst (λ k. (t : Shape) × IsBalanced m n s k x q r t) (sym is) (
     Fork A r (Fork B x q),
     record {
       rooted = rooted;
-      rebalanced = turn_down A r B x q (subst IsEven is el) eq (subst (λ k. DifferByAtMost 2 (height k) (height q)) is near) (subst (λ k. height q + 1 < height k) is more) higher;
+      rebalanced = turn_down A r B x q (subst IsEven is el) eq (subst (λ k. DifferByAtMost 2 (height k) (height q)) is near)
+          (subst (λ k. height q + 1 < height k) is more) higher;
       keeps = keeps_more s m n (r ∷ x ∷ []) _ keeps (λ k o. out_two k (nodes A) r (nodes B) x (nodes q) o);
       tags = tags;
     },
   )
 
-  pub ups : (m n : Pooled T) (s : ℕ) (B : Shape) (r : Ref) (C : Shape) (x : Ref) (l q : Shape) → q ≡ Fork B r C → IsEven l → IsEven q → DifferByAtMost 2 (height l) (height q) → height l + 1 < height q → height B ≤ height C
+  pub ups : (m n : Pooled T) (s : ℕ) (B : Shape) (r : Ref) (C : Shape) (x : Ref) (l q : Shape) → q ≡ Fork B r C
+      → IsEven l → IsEven q → DifferByAtMost 2 (height l) (height q) → height l + 1 < height q → height B ≤ height C
       → IsRooted n s (Some r) (Fork (Fork l x B) r C) → Keeps m n s (x ∷ r ∷ []) → SameTags m n s → (t : Shape) × IsBalanced m n s l x q r t
   ups m n s B r C x l q is el eq near more higher rooted keeps tags = subst (λ k. (t : Shape) × IsBalanced m n s l x k r t) (sym is) (
     Fork (Fork l x B) r C,
     record {
       rooted = rooted;
-      rebalanced = turn_up l x B r C el (subst IsEven is eq) (subst (λ k. DifferByAtMost 2 (height l) (height k)) is near) (subst (λ k. height l + 1 < height k) is more) higher;
+      rebalanced = turn_up l x B r C el (subst IsEven is eq) (subst (λ k. DifferByAtMost 2 (height l) (height k)) is near)
+          (subst (λ k. height l + 1 < height k) is more) higher;
       keeps = keeps_more s m n (x ∷ r ∷ []) _ keeps (λ k o. out_two_right k (nodes l) x (nodes B) r (nodes C) o);
       tags = tags;
     },
   )
 
-  pub left_boths : (m n : Pooled T) (s : ℕ) (A : Shape) (r : Ref) (B : Shape) (y : Ref) (C M : Shape) (x : Ref) (l q : Shape) → l ≡ Fork A r M → M ≡ Fork B y C → IsEven l → IsEven q → DifferByAtMost 2 (height l) (height q)
-      → height q + 1 < height l → height A < height M → IsRooted n s (Some y) (Fork (Fork A r B) y (Fork C x q)) → Keeps m n s (r ∷ y ∷ x ∷ []) → SameTags m n s → (t : Shape) × IsBalanced m n s l x q y t
+  pub left_boths : (m n : Pooled T) (s : ℕ) (A : Shape) (r : Ref) (B : Shape) (y : Ref) (C M : Shape) (x : Ref) (l q : Shape)
+      → l ≡ Fork A r M → M ≡ Fork B y C → IsEven l → IsEven q → DifferByAtMost 2 (height l) (height q)
+      → height q + 1 < height l → height A < height M → IsRooted n s (Some y) (Fork (Fork A r B) y (Fork C x q))
+      → Keeps m n s (r ∷ y ∷ x ∷ []) → SameTags m n s → (t : Shape) × IsBalanced m n s l x q y t
   left_boths m n s A r B y C M x l q is has el eq near more higher rooted keeps tags =
       let whole = is ∙ ap (Fork A r) has in subst (λ k. (t : Shape) × IsBalanced m n s k x q y t) (sym whole) (
         Fork (Fork A r B) y (Fork C x q),
         record {
           rooted = rooted;
-          rebalanced = turn_left_both A r B y C x q (subst IsEven whole el) eq (subst (λ k. DifferByAtMost 2 (height k) (height q)) whole near) (subst (λ k. height q + 1 < height k) whole more) (subst (λ k. height A < height k) has higher);
+          rebalanced = turn_left_both A r B y C x q (subst IsEven whole el) eq (subst (λ k. DifferByAtMost 2 (height k) (height q)) whole near)
+              (subst (λ k. height q + 1 < height k) whole more) (subst (λ k. height A < height k) has higher);
           keeps = keeps_more s m n (r ∷ y ∷ x ∷ []) _ keeps (λ k o. out_three_left k (nodes A) r (nodes B) y (nodes C) x (nodes q) o);
           tags = tags;
         },
       )
 
-  pub right_boths : (m n : Pooled T) (s : ℕ) (B : Shape) (y : Ref) (C M : Shape) (r : Ref) (D : Shape) (x : Ref) (l q : Shape) → q ≡ Fork M r D → M ≡ Fork B y C → IsEven l → IsEven q → DifferByAtMost 2 (height l) (height q)
-      → height l + 1 < height q → height D < height M → IsRooted n s (Some y) (Fork (Fork l x B) y (Fork C r D)) → Keeps m n s (x ∷ y ∷ r ∷ []) → SameTags m n s → (t : Shape) × IsBalanced m n s l x q y t
+  pub right_boths : (m n : Pooled T) (s : ℕ) (B : Shape) (y : Ref) (C M : Shape) (r : Ref) (D : Shape) (x : Ref) (l q : Shape)
+      → q ≡ Fork M r D → M ≡ Fork B y C → IsEven l → IsEven q → DifferByAtMost 2 (height l) (height q)
+      → height l + 1 < height q → height D < height M → IsRooted n s (Some y) (Fork (Fork l x B) y (Fork C r D))
+      → Keeps m n s (x ∷ y ∷ r ∷ []) → SameTags m n s → (t : Shape) × IsBalanced m n s l x q y t
   right_boths m n s B y C M r D x l q is has el eq near more higher rooted keeps tags =
       let whole = is ∙ ap (λ k. Fork k r D) has in subst (λ k. (t : Shape) × IsBalanced m n s l x k y t) (sym whole) (
         Fork (Fork l x B) y (Fork C r D),
         record {
           rooted = rooted;
-          rebalanced = turn_right_both l x B y C r D el (subst IsEven whole eq) (subst (λ k. DifferByAtMost 2 (height l) (height k)) whole near) (subst (λ k. height l + 1 < height k) whole more) (subst (λ k. height D < height k) has higher);
+          rebalanced = turn_right_both l x B y C r D el (subst IsEven whole eq) (subst (λ k. DifferByAtMost 2 (height l) (height k)) whole near)
+              (subst (λ k. height l + 1 < height k) whole more) (subst (λ k. height D < height k) has higher);
           keeps = keeps_more s m n (x ∷ y ∷ r ∷ []) _ keeps (λ k o. out_three_right k (nodes l) x (nodes B) y (nodes C) r (nodes D) o);
           tags = tags;
         },
       )
 
-  pub plains : (m n : Pooled T) (s : ℕ) (left : Option Ref) (x : Ref) (right : Option Ref) (l q : Shape) → AreSides m s left x right l q → DifferByAtMost 1 (height l) (height q)
+  pub plains : (m n : Pooled T) (s : ℕ) (left : Option Ref) (x : Ref) (right : Option Ref) (l q : Shape)
+      → AreSides m s left x right l q → DifferByAtMost 1 (height l) (height q)
       → IsRooted n s (Some x) (Fork l x q) → Keeps m n s (x ∷ []) → SameTags m n s → (t : Shape) × IsBalanced m n s l x q x t
   plains m n s left x right l q h near rooted keeps tags = (
     Fork l x q,
@@ -222,7 +246,17 @@ module _ {T : Type 0} where
     },
   )
 
-  pub plain_parts : (m : Pooled T) (s : ℕ) (left : Option Ref) (x : Ref) (right : Option Ref) (l q : Shape) → AreSides m s left x right l q → Two m s left x right l q
+  pub plain_parts : (m : Pooled T) (s : ℕ) (left : Option Ref) (x : Ref) (right : Option Ref) (l q : Shape)
+      → AreSides m s left x right l q → Two m s left x right l q
   plain_parts m s left x right l q h =
-      let f = h.fits in let hl = low_enough l h.left_even (omega arith) in let hq = low_enough q h.right_even (omega arith) in let b = between (nodes l) x (nodes q) h.apart in
-      record { first = h.left_is; held = h.held; second = h.right_is; out_first = b.out_left; out_second = b.out_right; fits = f; low = (omega arith, omega arith) }
+      let f = h.fits in let hl = low_enough l h.left_even (omega arith) in let hq = low_enough q h.right_even (omega arith) in
+      let b = between (nodes l) x (nodes q) h.apart in
+      record {
+        first = h.left_is;
+        held = h.held;
+        second = h.right_is;
+        out_first = b.out_left;
+        out_second = b.out_right;
+        fits = f;
+        low = (omega arith, omega arith);
+      }

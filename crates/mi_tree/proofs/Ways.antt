@@ -1,5 +1,6 @@
 -- What a way says of the whole tree.
-use Rattle.std.proofs.Common.{◌≡◌, ◌==◌, ℕ, Bool, true, false, cond, ◌+◌, ◌-◌, ◌^◌, ◌<◌, ◌≤◌, max, List, [], ◌∷◌, ◌++◌, length, take, Option, Some, None, refl, sym, ap, ◌∙◌, subst, arith, length-append}
+use Rattle.std.proofs.Common.{◌≡◌, ◌==◌, ℕ, Bool, true, false, cond, ◌+◌, ◌-◌, ◌^◌, ◌<◌, ◌≤◌, max, List, [], ◌∷◌}
+use Rattle.std.proofs.Common.{◌++◌, length, take, Option, Some, None, refl, sym, ap, ◌∙◌, subst, arith, length-append}
 use Rattle.std.specs.List.{slice_get}
 use Rattle.std.specs.Option.{option_flatten}
 use Rattle.std.proofs.lemmas.Option.{slice_get-get_or}
@@ -18,7 +19,8 @@ use Rattle.mi_node.proofs.Refs.{out_left, out_right, between, are_out_cons, are_
 use Rattle.mi_tree.specs.Shape.{Shape, Tip, Fork, nodes, top, size, height, DifferByAtMost, IsEven, Stands, IsRooted, height_at}
 use Rattle.mi_tree.specs.Joining.{AreSides, IsBalanced}
 use Rattle.mi_tree.specs.Sorted.{AreTagged, SameTags, IsPutIn, CanPut, HasPut, side}
-use Rattle.mi_tree.specs.Ways.{Frame, path_of, forked, forked_size, forked_height, forked_link, rehung, plug, risen, IsLevel, AreEven, IsRootOf, Above, Falls, HasFallen, Climbs, HasClimbed}
+use Rattle.mi_tree.specs.Ways.{Frame, way_of, forked, forked_size, forked_height, forked_link, rehung, plug}
+use Rattle.mi_tree.specs.Ways.{risen, IsLevel, AreEven, IsRootOf, Above, Falls, HasFallen, Climbs, HasClimbed}
 use Rattle.mi_tree.specs.declared.way.Turn.{Turn}
 use Rattle.mi_tree.proofs.Shapes.{moved, tip_is, size-nodes, height-root}
 use Rattle.mi_tree.proofs.Joins.{link_kept, stands_kept, rooted_past, tags_set}
@@ -31,9 +33,9 @@ use Rattle.mi_tree.proofs.Stands.{tagged_kept}
 abbrev pub turn_of : Frame → Turn
 turn_of f = record { node = f.node; left = f.left }
 
-pub path_length : (fs : List Frame) → length (path_of fs) ≡ length fs
+pub path_length : (fs : List Frame) → length (way_of fs) ≡ length fs
 path_length [] = refl
-path_length (f ∷ fs) = let i = path_length fs in let j = length-append (path_of fs) (Some (turn_of f) ∷ []) in omega arith
+path_length (f ∷ fs) = let i = path_length fs in let j = length-append (way_of fs) (Some (turn_of f) ∷ []) in omega arith
 
 some_two : (a b : Turn) → Some a ≡ Some b → a ≡ b
 some_two a b e = cc
@@ -45,30 +47,37 @@ pub record IsTurned (fs : List Frame) (new : List (Option Turn)) (turn : Turn) :
   pub other : Shape
   pub rest : List Frame
   pub was : fs ≡ frame turn other ∷ rest
-  pub now : new ≡ path_of rest
+  pub now : new ≡ way_of rest
 
-last_length : (items : List (Option Turn)) (f : Frame) (fs : List Frame) → items ≡ path_of (f ∷ fs) → length items - 1 ≡ length (path_of fs)
-last_length items f fs e = let i = ap length e in let j = length-append (path_of fs) (Some (turn_of f) ∷ []) in omega arith
+last_length : (items : List (Option Turn)) (f : Frame) (fs : List Frame) → items ≡ way_of (f ∷ fs) → length items - 1 ≡ length (way_of fs)
+last_length items f fs e = let i = ap length e in let j = length-append (way_of fs) (Some (turn_of f) ∷ []) in omega arith
 
-last_is : (items : List (Option Turn)) (f : Frame) (fs : List Frame) → items ≡ path_of (f ∷ fs) → slice_get items (length items - 1) ≡ Some (Some (turn_of f))
+last_is : (items : List (Option Turn)) (f : Frame) (fs : List Frame) → items ≡ way_of (f ∷ fs) → slice_get items (length items - 1) ≡ Some (Some (turn_of f))
 last_is items f fs e =
-    let n = last_length items f fs e in let ps = path_of fs in let j = length-append ps (Some (turn_of f) ∷ []) in
-    (λ i. slice_get (e i) (n i)) ∙ slice_get-get_or (ps ++ Some (turn_of f) ∷ []) (length ps) (Some (turn_of f)) (omega arith) ∙ ap (λ k. Some k) (get_or-append_seam ps (Some (turn_of f)) [] (Some (turn_of f)))
+    let n = last_length items f fs e in let ps = way_of fs in let j = length-append ps (Some (turn_of f) ∷ []) in
+    (λ i. slice_get (e i) (n i)) ∙ slice_get-get_or (ps ++ Some (turn_of f) ∷ []) (length ps) (Some (turn_of f)) (omega arith)
+    ∙ ap (λ k. Some k) (get_or-append_seam ps (Some (turn_of f)) [] (Some (turn_of f)))
 
-pub turned_back : (items new : List (Option Turn)) (last : Option (Option Turn)) (fs : List Frame) (turn : Turn) → items ≡ path_of fs → new ≡ take (length items - 1) items → last ≡ slice_get items (length items - 1)
+pub turned_back : (items new : List (Option Turn)) (last : Option (Option Turn)) (fs : List Frame) (turn : Turn)
+    → items ≡ way_of fs → new ≡ take (length items - 1) items → last ≡ slice_get items (length items - 1)
     → option_flatten last ≡ Some turn → IsTurned fs new turn
-turned_back items new last [] r e n l g = let i : last ≡ None = l ∙ (λ k. slice_get (e k) (length (e k) - 1)) in let j : None ≡ Some r = sym (ap option_flatten i) ∙ g in absurd cc
-turned_back items new last (f ∷ fs) r e n l g = let same : r ≡ turn_of f = some_two r (turn_of f) (sym g ∙ ap option_flatten (l ∙ last_is items f fs e)) in record {
-  other = f.other;
-  rest = fs;
-  was = ap (λ (z : Turn). frame z f.other ∷ fs) (sym same);
-  now = n ∙ (λ i. take (last_length items f fs e i) (e i)) ∙ take-append_seam (path_of fs) (Some (turn_of f) ∷ []);
-}
+turned_back items new last [] r e n l g =
+    let i : last ≡ None = l ∙ (λ k. slice_get (e k) (length (e k) - 1)) in let j : None ≡ Some r = sym (ap option_flatten i) ∙ g in absurd cc
+turned_back items new last (f ∷ fs) r e n l g =
+    let same : r ≡ turn_of f = some_two r (turn_of f) (sym g ∙ ap option_flatten (l ∙ last_is items f fs e)) in record {
+      other = f.other;
+      rest = fs;
+      was = ap (λ (z : Turn). frame z f.other ∷ fs) (sym same);
+      now = n ∙ (λ i. take (last_length items f fs e i) (e i)) ∙ take-append_seam (way_of fs) (Some (turn_of f) ∷ []);
+    }
 
-pub shorter_way : (items new : List (Option Turn)) (fs : List Frame) (turn : Turn) → items ≡ path_of fs → IsTurned fs new turn → length new < length items
-shorter_way items new fs turn e w = let a = ap length e in let b = path_length fs in let c = ap (λ (k : List Frame). length k) w.was in let d = ap length w.now in let f = path_length w.rest in omega arith
+pub shorter_way : (items new : List (Option Turn)) (fs : List Frame) (turn : Turn) → items ≡ way_of fs → IsTurned fs new turn → length new < length items
+shorter_way items new fs turn e w =
+    let a = ap length e in let b = path_length fs in let c = ap (λ (k : List Frame). length k) w.was in let d = ap length w.now in let f = path_length w.rest in
+    omega arith
 
-pub no_turn : (items : List (Option Turn)) (last : Option (Option Turn)) (fs : List Frame) → items ≡ path_of fs → last ≡ slice_get items (length items - 1) → option_flatten last ≡ None → fs ≡ []
+pub no_turn : (items : List (Option Turn)) (last : Option (Option Turn)) (fs : List Frame)
+    → items ≡ way_of fs → last ≡ slice_get items (length items - 1) → option_flatten last ≡ None → fs ≡ []
 no_turn items last [] e l g = refl
 no_turn items last (f ∷ fs) e l g = let j : Some (turn_of f) ≡ None = sym (ap option_flatten (l ∙ last_is items f fs e)) ∙ g in absurd cc
 
@@ -84,8 +93,11 @@ record Apart (r : Ref) (q t : Shape) : Type 0 where
   pub across : AreOut (nodes q) (nodes t)
 
 forked_apart : (b : Bool) (r : Ref) (q t : Shape) → IsApart (nodes (forked b t r q)) → Apart r q t
-forked_apart true r q t a = let w = between (nodes t) r (nodes q) a in record { tree = w.left; out_tree = w.out_left; out_other = w.out_right; across = are_out_flip (nodes t) (nodes q) w.across }
-forked_apart false r q t a = let w = between (nodes q) r (nodes t) a in record { tree = w.right; out_tree = w.out_right; out_other = w.out_left; across = w.across }
+forked_apart true r q t a =
+    let w = between (nodes t) r (nodes q) a in
+    record { tree = w.left; out_tree = w.out_left; out_other = w.out_right; across = are_out_flip (nodes t) (nodes q) w.across }
+forked_apart false r q t a =
+    let w = between (nodes q) r (nodes t) a in record { tree = w.right; out_tree = w.out_right; out_other = w.out_left; across = w.across }
 
 pub plug_apart : (fs : List Frame) (t : Shape) → IsApart (nodes (plug fs t)) → IsApart (nodes t)
 plug_apart [] t a = a
@@ -121,7 +133,7 @@ forked_nodes : (b : Bool) (r : Ref) (q t u : Shape) → nodes t ≡ nodes u → 
 forked_nodes true r q t u e = ap (λ k. k ++ r ∷ nodes q) e
 forked_nodes false r q t u e = ap (λ k. nodes q ++ r ∷ k) e
 
-pub plug_nodes : (fs : List Frame) (t u : Shape) → nodes t ≡ nodes u → nodes (plug fs t) ≡ nodes (plug fs u)
+plug_nodes : (fs : List Frame) (t u : Shape) → nodes t ≡ nodes u → nodes (plug fs t) ≡ nodes (plug fs u)
 plug_nodes [] t u e = e
 plug_nodes (f ∷ fs) t u e = plug_nodes fs (forked f.left t f.node f.other) (forked f.left u f.node f.other) (forked_nodes f.left f.node f.other t u e)
 
@@ -142,7 +154,7 @@ pub root_above : (root : Option Ref) (fs : List Frame) (t : Shape) → root ≡ 
 root_above root [] t e = tt
 root_above root (f ∷ fs) t e = e ∙ top_plug f fs t Tip
 
-pub root_top : (root : Option Ref) (fs : List Frame) → root ≡ top (plug fs Tip) → IsRootOf root fs
+root_top : (root : Option Ref) (fs : List Frame) → root ≡ top (plug fs Tip) → IsRootOf root fs
 root_top root [] e = tt
 root_top root (f ∷ fs) e = e
 
@@ -158,7 +170,8 @@ not_lifted true h k u z a f = grind arith
 not_lifted false h k u z a f = grind arith
 
 -- heights after one side changed by at most one
-lifted : (b : Bool) (h k u z : ℕ) → DifferByAtMost 1 u h → DifferByAtMost 1 h k → max u k ≤ z → z ≤ max u k + 1 → (DifferByAtMost 1 u k → z ≡ max u k + 1) → DifferByAtMost 1 z (forked_height b h k)
+lifted : (b : Bool) (h k u z : ℕ) → DifferByAtMost 1 u h → DifferByAtMost 1 h k → max u k ≤ z
+    → z ≤ max u k + 1 → (DifferByAtMost 1 u k → z ≡ max u k + 1) → DifferByAtMost 1 z (forked_height b h k)
 lifted true h k u z a b low high tight = (grind arith, grind arith)
 lifted false h k u z a b low high tight = (grind arith, grind arith)
 
@@ -185,16 +198,19 @@ rehung_is true y at bt n h q e = λ i. record { back = bt; forth = (e i).forth; 
 rehung_is false y at bt n h q e = λ i. record { back = (e i).back; forth = bt; size = (e i).size; height = (e i).height; tag = y.tag }
 
 -- the whole is balanced
-pub plug_even : (fs : List Frame) (t : Shape) → IsEven t → AreEven fs (height t) → IsEven (plug fs t)
+plug_even : (fs : List Frame) (t : Shape) → IsEven t → AreEven fs (height t) → IsEven (plug fs t)
 plug_even [] t e a = e
-plug_even (f ∷ fs) t e a = plug_even fs (forked f.left t f.node f.other) (even_forked f.left f.node f.other t a.0 e a.1) (even_moved fs _ _ (sym (height_forked f.left f.node f.other t)) a.2)
+plug_even (f ∷ fs) t e a = plug_even fs (forked f.left t f.node f.other) (even_forked f.left f.node f.other t a.0 e a.1)
+    (even_moved fs _ _ (sym (height_forked f.left f.node f.other t)) a.2)
 
 module _ {T : Type 0} where
-  pub above_moved : (m : Pooled T) (s : ℕ) (fs : List Frame) (at bt : Option Ref) (n k h j : ℕ) → at ≡ bt → n ≡ k → h ≡ j → Above m s fs at n h → Above m s fs bt k j
+  pub above_moved : (m : Pooled T) (s : ℕ) (fs : List Frame) (at bt : Option Ref) (n k h j : ℕ)
+      → at ≡ bt → n ≡ k → h ≡ j → Above m s fs at n h → Above m s fs bt k j
   above_moved m s fs at bt n k h j e f g a = subst (λ (z : Option Ref × ℕ × ℕ). Above m s fs z.0 z.1 z.2) (λ i. (e i, f i, g i)) a
 
   -- a change below the way
-  pub above_kept : (s : ℕ) (m n : Pooled T) (us : List Ref) (fs : List Frame) (t : Shape) (at : Option Ref) (k h : ℕ) → Keeps m n s us → IsApart (nodes (plug fs t)) → ((i : ℕ) → IsOut i (nodes t) → IsOut i us)
+  pub above_kept : (s : ℕ) (m n : Pooled T) (us : List Ref) (fs : List Frame) (t : Shape) (at : Option Ref) (k h : ℕ)
+      → Keeps m n s us → IsApart (nodes (plug fs t)) → ((i : ℕ) → IsOut i (nodes t) → IsOut i us)
       → Above m s fs at k h → Above n s fs at k h
   above_kept s m n us [] t at k h g a among w = tt
   above_kept s m n us (f ∷ fs) t at k h g a among w =
@@ -205,15 +221,17 @@ module _ {T : Type 0} where
         above_kept s m n us fs (forked f.left t f.node f.other) _ _ _ g a (λ i out. among i (forked_out f.left f.node f.other t i out).0) w.3,
       )
 
-  stands_forked : (m : Pooled T) (s : ℕ) (b : Bool) (r : Ref) (q t : Shape) → Stands m s t → IsHeld m r → link_of m r.name s ≡ forked_link b (top t) (size t) (height t) q (link_of m r.name s).tag → Stands m s q → Stands m s (forked b t r q)
+  stands_forked : (m : Pooled T) (s : ℕ) (b : Bool) (r : Ref) (q t : Shape) → Stands m s t → IsHeld m r
+      → link_of m r.name s ≡ forked_link b (top t) (size t) (height t) q (link_of m r.name s).tag → Stands m s q → Stands m s (forked b t r q)
   stands_forked m s true r q t h held link other = (held, link, h, other)
   stands_forked m s false r q t h held link other = (held, link, other, h)
 
   -- the whole stands
-  pub plug_stands : (m : Pooled T) (s : ℕ) (fs : List Frame) (t : Shape) → Stands m s t → Above m s fs (top t) (size t) (height t) → Stands m s (plug fs t)
+  plug_stands : (m : Pooled T) (s : ℕ) (fs : List Frame) (t : Shape) → Stands m s t → Above m s fs (top t) (size t) (height t) → Stands m s (plug fs t)
   plug_stands m s [] t h a = h
   plug_stands m s (f ∷ fs) t h a = plug_stands m s fs (forked f.left t f.node f.other) (stands_forked m s f.left f.node f.other t h a.0 a.1 a.2)
-      (above_moved m s fs _ _ _ _ _ _ (sym (top_forked f.left f.node f.other t)) (sym (size_forked f.left f.node f.other t)) (sym (height_forked f.left f.node f.other t)) a.3)
+      (above_moved m s fs _ _ _ _ _ _ (sym (top_forked f.left f.node f.other t))
+      (sym (size_forked f.left f.node f.other t)) (sym (height_forked f.left f.node f.other t)) a.3)
 
   -- the two sides of a node on the way, with another tree on the side of the way
   pub record Sided (m : Pooled T) (s : ℕ) (back forth : Option Ref) (r : Ref) (b : Bool) (q u l z : Shape) : Type 0 where
@@ -221,13 +239,24 @@ module _ {T : Type 0} where
     pub names : nodes l ++ r ∷ nodes z ≡ nodes (forked b u r q)
     pub heights : (max (height l) (height z) ≡ max (height u) (height q)) × (DifferByAtMost 1 (height u) (height q) → DifferByAtMost 1 (height l) (height z))
 
-  sided : (m : Pooled T) (s : ℕ) (b : Bool) (r : Ref) (q u : Shape) (below : Option Ref) (y : Link) (at : Option Ref) (n h : ℕ) (t : Tag) → IsRooted m s below u → IsEven u → DifferByAtMost 1 (height u) h → DifferByAtMost 1 h (height q) → IsEven q → IsHeld m r
-      → y ≡ forked_link b at n h q t → Stands m s q → IsApart (nodes (forked b u r q)) → size (forked b u r q) < 2 ^ 32 → (l : Shape) × (z : Shape) × Sided m s (cond b below y.back) (cond b y.forth below) r b q u l z
+  sided : (m : Pooled T) (s : ℕ) (b : Bool) (r : Ref) (q u : Shape) (below : Option Ref) (y : Link) (at : Option Ref) (n h : ℕ) (t : Tag)
+      → IsRooted m s below u → IsEven u → DifferByAtMost 1 (height u) h → DifferByAtMost 1 h (height q) → IsEven q → IsHeld m r
+      → y ≡ forked_link b at n h q t → Stands m s q → IsApart (nodes (forked b u r q)) → size (forked b u r q) < 2 ^ 32
+      → (l : Shape) × (z : Shape) × Sided m s (cond b below y.back) (cond b y.forth below) r b q u l z
   sided m s true r q u below y at n h t rooted even near beside other held link stands apart fits = (
     u,
     q,
     record {
-      sides = record { left_is = rooted; held = held; right_is = record { root = ap (λ (z : Link). z.forth) link; stands = stands }; apart = apart; left_even = even; right_even = other; near = (omega arith, omega arith); fits = fits };
+      sides = record {
+        left_is = rooted;
+        held = held;
+        right_is = record { root = ap (λ (z : Link). z.forth) link; stands = stands };
+        apart = apart;
+        left_even = even;
+        right_even = other;
+        near = (omega arith, omega arith);
+        fits = fits;
+      };
       names = refl;
       heights = (refl, λ d. d);
     },
@@ -236,20 +265,39 @@ module _ {T : Type 0} where
     q,
     u,
     record {
-      sides = record { left_is = record { root = ap (λ (z : Link). z.back) link; stands = stands }; held = held; right_is = rooted; apart = apart; left_even = other; right_even = even; near = (omega arith, omega arith); fits = fits };
+      sides = record {
+        left_is = record { root = ap (λ (z : Link). z.back) link; stands = stands };
+        held = held;
+        right_is = rooted;
+        apart = apart;
+        left_even = other;
+        right_even = even;
+        near = (omega arith, omega arith);
+        fits = fits;
+      };
       names = refl;
       heights = (max_turned (height q) (height u), λ d. (d.1, d.0));
     },
   )
 
   -- nothing is above
-  pub climbed_none : (m : Pooled T) (s : ℕ) (root below : Option Ref) (items : List (Option Turn)) (fs : List Frame) (at : Option Ref) (h : ℕ) (u : Shape) → Climbs m s root below items fs at h u → fs ≡ [] → HasClimbed m m s (plug fs u) below u
-  climbed_none m s root below items fs at h u c e = record { rooted = c.rooted; even = c.even; nodes_are = sym (ap (λ k. nodes (plug k u)) e); keeps = keeps_none s m (nodes (plug fs u)); tags = λ k. refl }
+  pub climbed_none : (m : Pooled T) (s : ℕ) (root below : Option Ref) (items : List (Option Turn)) (fs : List Frame) (at : Option Ref) (h : ℕ) (u : Shape)
+      → Climbs m s root below items fs at h u → fs ≡ [] → HasClimbed m m s (plug fs u) below u
+  climbed_none m s root below items fs at h u c e = record {
+    rooted = c.rooted;
+    even = c.even;
+    nodes_are = sym (ap (λ k. nodes (plug k u)) e);
+    keeps = keeps_none s m (nodes (plug fs u));
+    tags = λ k. refl;
+  }
 
-  pub level_none : (m : Pooled T) (s : ℕ) (root below : Option Ref) (items : List (Option Turn)) (fs : List Frame) (at : Option Ref) (h : ℕ) (u : Shape) → Climbs m s root below items fs at h u → fs ≡ [] → IsLevel (height u) h (height_at m s below) (risen fs h)
-  level_none m s root below items fs at h u c e = subst (λ (z : ℕ × ℕ). IsLevel (height u) h z.0 z.1) (λ i. (sym (height-root m s below u c.rooted) i, ap (λ k. risen k h) (sym e) i)) (c.near, λ f. f)
+  pub level_none : (m : Pooled T) (s : ℕ) (root below : Option Ref) (items : List (Option Turn)) (fs : List Frame) (at : Option Ref) (h : ℕ) (u : Shape)
+      → Climbs m s root below items fs at h u → fs ≡ [] → IsLevel (height u) h (height_at m s below) (risen fs h)
+  level_none m s root below items fs at h u c e = subst (λ (z : ℕ × ℕ). IsLevel (height u) h z.0 z.1)
+      (λ i. (sym (height-root m s below u c.rooted) i, ap (λ k. risen k h) (sym e) i)) (c.near, λ f. f)
 
-  module _ (m : Pooled T) (s : ℕ) (root below : Option Ref) (items new : List (Option Turn)) (fs : List Frame) (at : Option Ref) (h : ℕ) (u : Shape) (c : Climbs m s root below items fs at h u) (turn : Turn) (w : IsTurned fs new turn)
+  module _ (m : Pooled T) (s : ℕ) (root below : Option Ref) (items new : List (Option Turn)) (fs : List Frame) (at : Option Ref)
+      (h : ℕ) (u : Shape) (c : Climbs m s root below items fs at h u) (turn : Turn) (w : IsTurned fs new turn)
       (y : Link) (i : y ≡ link_of m turn.node.name s) where
     abbrev whole : Shape
     whole = forked turn.left u turn.node w.other
@@ -280,10 +328,12 @@ module _ {T : Type 0} where
 
     pub climb_sides : (l : Shape) × (z : Shape) × Sided m s (cond turn.left below y.back) (cond turn.left y.forth below) turn.node turn.left w.other u l z
     climb_sides = let f = plug_size w.rest whole in let k = open_fits in
-        sided m s turn.left turn.node w.other u below y at (size u) h y.tag c.rooted c.even c.near open_beside.0 open_beside.1 open_above.0 link_is open_above.2 (plug_apart w.rest whole open_apart) (omega arith)
+        sided m s turn.left turn.node w.other u below y at (size u) h y.tag c.rooted c.even c.near open_beside.0
+        open_beside.1 open_above.0 link_is open_above.2 (plug_apart w.rest whole open_apart) (omega arith)
 
     -- the next node of the way
-    module _ (n : Pooled T) (back forth : Option Ref) (l q : Shape) (o : Sided m s back forth turn.node turn.left w.other u l q) (next : Ref) (z : Shape) (k : IsBalanced m n s l turn.node q next z) where
+    module _ (n : Pooled T) (back forth : Option Ref) (l q : Shape) (o : Sided m s back forth turn.node turn.left w.other u l q)
+        (next : Ref) (z : Shape) (k : IsBalanced m n s l turn.node q next z) where
       names_are : nodes z ≡ nodes whole
       names_are = k.rebalanced.nodes_are ∙ o.names
 
@@ -292,19 +342,23 @@ module _ {T : Type 0} where
           let r = k.rebalanced in let hs = o.heights in let same = plug_nodes w.rest z whole names_are in record {
             path_is = w.now;
             above = above_moved n s w.rest _ _ _ _ _ _ refl (sym (same_size z whole names_are ∙ size_forked turn.left turn.node w.other u)) refl
-                (above_kept s m n (nodes l ++ turn.node ∷ nodes q) w.rest whole _ _ _ k.keeps open_apart (λ j out. subst (IsOut j) (sym o.names) out) open_above.3);
+                (above_kept s m n (nodes l ++ turn.node ∷ nodes q) w.rest whole _ _ _ k.keeps
+                open_apart (λ j out. subst (IsOut j) (sym o.names) out) open_above.3);
             beside = open_beside.2;
             rooted = k.rooted;
             even = r.even;
-            near = lifted turn.left h (height w.other) (height u) (height z) c.near open_beside.0 (subst (λ j. j ≤ height z) hs.0 r.not_lower) (subst (λ j. height z ≤ j + 1) hs.0 r.not_higher) (λ d. r.as_high (hs.1 d) ∙ ap (λ j. j + 1) hs.0);
+            near = lifted turn.left h (height w.other) (height u) (height z) c.near open_beside.0 (subst (λ j. j ≤ height z) hs.0 r.not_lower)
+                (subst (λ j. height z ≤ j + 1) hs.0 r.not_higher) (λ d. r.as_high (hs.1 d) ∙ ap (λ j. j + 1) hs.0);
             apart = subst IsApart (sym same) open_apart;
             fits = subst (λ j. j < 2 ^ 32) (sym (same_size (plug w.rest z) (plug w.rest whole) same)) open_fits;
             root_is = root_next root (frame turn w.other) w.rest (subst (IsRootOf root) w.was c.root_is);
           }
 
-      pub level_on : (j : ℕ) → IsLevel (height z) (forked_height turn.left h (height w.other)) j (risen w.rest (forked_height turn.left h (height w.other))) → IsLevel (height u) h j (risen fs h)
+      pub level_on : (j : ℕ) → IsLevel (height z) (forked_height turn.left h (height w.other)) j (risen w.rest (forked_height turn.left h (height w.other)))
+          → IsLevel (height u) h j (risen fs h)
       level_on j d = let high = subst (λ i. height z ≤ i + 1) o.heights.0 k.rebalanced.not_higher in
-          subst (λ (i : List Frame). IsLevel (height u) h j (risen i h)) (sym w.was) (d.0, λ f. d.1 (not_lifted turn.left h (height w.other) (height u) (height z) f high))
+          subst (λ (i : List Frame). IsLevel (height u) h j (risen i h)) (sym w.was)
+          (d.0, λ f. d.1 (not_lifted turn.left h (height w.other) (height u) (height z) f high))
 
       pub climbed_on : (v : Pooled T) (result : Option Ref) (t : Shape) → HasClimbed n v s (plug w.rest z) result t → HasClimbed m v s (plug fs u) result t
       climbed_on v result t d =
@@ -318,8 +372,10 @@ module _ {T : Type 0} where
           }
 
   -- the last change
-  pub hung : (m n : Pooled T) (s : ℕ) (root : Option Ref) (next : Ref) (items new : List (Option Turn)) (fs : List Frame) (at : Option Ref) (u : Shape) → Climbs m s root (Some next) items fs at (height u) u → (turn : Turn) → IsTurned fs new turn
-      → (y : Link) → y ≡ link_of m turn.node.name s → n ≡ with_link m turn.node.name s (rehung turn.left (Some next) y) → HasClimbed m n s (plug fs u) root (plug fs u)
+  pub hung : (m n : Pooled T) (s : ℕ) (root : Option Ref) (next : Ref) (items new : List (Option Turn)) (fs : List Frame) (at : Option Ref) (u : Shape)
+      → Climbs m s root (Some next) items fs at (height u) u → (turn : Turn) → IsTurned fs new turn
+      → (y : Link) → y ≡ link_of m turn.node.name s → n ≡ with_link m turn.node.name s (rehung turn.left (Some next) y)
+      → HasClimbed m n s (plug fs u) root (plug fs u)
   hung m n s root next items new fs at u c turn w y i set =
       let r = turn.node in let b = turn.left in let q = w.other in let h = height u in let t = forked b u r q in
       let above : Above m s (frame turn q ∷ w.rest) at (size u) h = subst (λ k. Above m s k at (size u) h) w.was c.above in
@@ -338,10 +394,14 @@ module _ {T : Type 0} where
       ) in
       let all = plug_stands n s (frame turn q ∷ w.rest) u tree (above_moved n s (frame turn q ∷ w.rest) _ _ _ _ _ _ c.rooted.root refl refl now) in
       let root_is = subst (IsRootOf root) w.was c.root_is in record {
-        rooted = record { root = root_is ∙ top_plug (frame turn q) w.rest Tip u ∙ ap (λ k. top (plug k u)) (sym w.was); stands = subst (λ k. Stands n s (plug k u)) (sym w.was) all };
+        rooted = record {
+          root = root_is ∙ top_plug (frame turn q) w.rest Tip u ∙ ap (λ k. top (plug k u)) (sym w.was);
+          stands = subst (λ k. Stands n s (plug k u)) (sym w.was) all;
+        };
         even = plug_even fs u c.even c.beside;
         nodes_are = refl;
-        keeps = keeps_more s m n (r ∷ []) (nodes (plug fs u)) keeps (λ k out. ((forked_out b r q u k (plug_out w.rest t k (subst (λ j. IsOut k (nodes (plug j u))) w.was out))).1, tt));
+        keeps = keeps_more s m n (r ∷ []) (nodes (plug fs u)) keeps
+            (λ k out. ((forked_out b r q u k (plug_out w.rest t k (subst (λ j. IsOut k (nodes (plug j u))) w.was out))).1, tt));
         tags = tags_set s m n r (rehung b (Some next) y) set above.0 (ap (λ (z : Link). z.tag) i);
       }
 
@@ -353,12 +413,15 @@ leaf_put : (R : Ref → Ref → Ordering) (x : Ref) → IsPutIn (R x) x [] (node
 leaf_put R x = record { xs = []; ys = []; was = refl; now = refl; below = tt; above = tt }
 
 module _ {T : Type 0} where
-  pub falls_start : (m : Pooled T) (s : ℕ) (R : Ref → Ref → Ordering) (tag : T → ℕ) (at : Option Ref) (x : Ref) (t : Shape) → CanPut m s R at x t → AreTagged tag m s (x ∷ nodes t) → Falls m s R tag [] at x [] t
+  pub falls_start : (m : Pooled T) (s : ℕ) (R : Ref → Ref → Ordering) (tag : T → ℕ) (at : Option Ref) (x : Ref) (t : Shape)
+      → CanPut m s R at x t → AreTagged tag m s (x ∷ nodes t) → Falls m s R tag [] at x [] t
   falls_start m s R tag at x t c g = let f = c.fits in let low = low_enough t c.even (omega arith) in
       record { path_is = refl; can = c; tagged = g; above = tt; beside = tt; apart = c.apart; places = λ u p. p; room = omega arith }
 
   -- the end of the way down
-  pub fallen_none : (m : Pooled T) (s : ℕ) (R : Ref → Ref → Ordering) (tag : T → ℕ) (items : List (Option Turn)) (at : Option Ref) (x : Ref) (fs : List Frame) (t : Shape) → Falls m s R tag items at x fs t → at ≡ None
+  pub fallen_none : (m : Pooled T) (s : ℕ) (R : Ref → Ref → Ordering) (tag : T → ℕ)
+      (items : List (Option Turn)) (at : Option Ref) (x : Ref) (fs : List Frame) (t : Shape)
+      → Falls m s R tag items at x fs t → at ≡ None
       → HasFallen m m s R items x (plug fs t) fs
   fallen_none m s R tag items at x fs t h e =
       let tip = tip_is m s t (moved m m s at None t refl e h.can.rooted) in record {
@@ -372,8 +435,10 @@ module _ {T : Type 0} where
         tags = λ k. refl;
       }
 
-  module _ (order : T → T → Ordering) (total : IsTotalOrder order) (tag : T → ℕ) (m n : Pooled T) (s : ℕ) (items : List (Option Turn)) (at : Option Ref) (here x : Ref) (y : Link) (fs : List Frame) (t : Shape)
-      (h : Falls m s (side order m s) tag items at x fs t) (e : at ≡ Some here) (i : y ≡ link_of m here.name s) (set : n ≡ with_link m here.name s (grown_link y)) where
+  module _ (order : T → T → Ordering) (total : IsTotalOrder order) (tag : T → ℕ) (m n : Pooled T) (s : ℕ)
+      (items : List (Option Turn)) (at : Option Ref) (here x : Ref) (y : Link) (fs : List Frame) (t : Shape)
+      (h : Falls m s (side order m s) tag items at x fs t) (e : at ≡ Some here)
+      (i : y ≡ link_of m here.name s) (set : n ≡ with_link m here.name s (grown_link y)) where
     abbrev R : Ref → Ref → Ordering
     R = side order m s
 
@@ -387,7 +452,8 @@ module _ {T : Type 0} where
     tags_here = tags_set s m n here (grown_link y) set o.held_root (ap (λ (z : Link). z.tag) i)
 
     same : side order n s ≡ R
-    same = λ j a b. side_kept order m n s a b (item_kept m n s a.name (keeps_here.values a.name) (tags_here a.name)) (item_kept m n s b.name (keeps_here.values b.name) (tags_here b.name)) j
+    same = λ j a b. side_kept order m n s a b (item_kept m n s a.name (keeps_here.values a.name) (tags_here a.name))
+        (item_kept m n s b.name (keeps_here.values b.name) (tags_here b.name)) j
 
     here_link : link_of n here.name s ≡ grown_link y
     here_link = ap (λ k. link_of k here.name s) set ∙ link_here m here s (grown_link y) o.held_root
@@ -415,7 +481,8 @@ module _ {T : Type 0} where
 
     above_here : (bt : Option Ref) (k j : ℕ) → at ≡ bt → size t + 1 ≡ k → height t ≡ j → Above n s fs bt k j
     above_here bt k j f p q = above_moved n s fs _ _ _ _ _ _ f p q
-        (above_kept s m n (here ∷ []) fs t _ _ _ keeps_here h.apart (λ w out. let u = subst (λ z. IsOut w (nodes z)) o.is out in ((out_right w (nodes o.A) (here ∷ nodes o.B) u).0, tt)) h.above)
+        (above_kept s m n (here ∷ []) fs t _ _ _ keeps_here h.apart
+        (λ w out. let u = subst (λ z. IsOut w (nodes z)) o.is out in ((out_right w (nodes o.A) (here ∷ nodes o.B) u).0, tt)) h.above)
 
     abbrev turn : Bool → Turn
     turn b = record { node = here; left = b }
@@ -429,9 +496,12 @@ module _ {T : Type 0} where
 
     stepped_left : R x here ≡ Less → Stepped true
     stepped_left less =
-        let A = o.A in let B = o.B in let w = between (nodes A) here (nodes B) o.apart in let sizes = ap size o.is in let heights = ap height o.is in let room = h.room in
+        let A = o.A in let B = o.B in let w = between (nodes A) here (nodes B) o.apart in let sizes = ap size o.is in let heights = ap height o.is in
+        let room = h.room in
         let link : grown_link y ≡ forked_link true y.back (size A + 1) (height A) B y.tag =
-        let z = o.size_is in let long : y.size + 1 ≡ size A + 1 + size B + 1 = omega arith in (λ j. record { back = y.back; forth = o.right.rooted.root j; size = long j; height = o.height_is j; tag = y.tag }) in
+        let z = o.size_is in
+        let long : y.size + 1 ≡ size A + 1 + size B + 1 = omega arith in
+        (λ j. record { back = y.back; forth = o.right.rooted.root j; size = long j; height = o.height_is j; tag = y.tag }) in
         let can = can_kept y.back A w.out_left o.left in let ha = height-root n s y.back A can.rooted in let ht = height-root m s at t h.can.rooted in
         let falls : Falls n s R tag (items ++ Some (turn true) ∷ []) y.back x (frame (turn true) B ∷ fs) A = record {
           path_is = ap (λ k. k ++ Some (turn true) ∷ []) h.path_is;
@@ -446,15 +516,25 @@ module _ {T : Type 0} where
           beside = (o.even.0, o.even.2, even_moved fs _ _ heights h.beside);
           apart = subst (λ k. IsApart (nodes (plug fs k))) o.is h.apart;
           places = λ u p. subst (λ k. IsPutIn (R x) x (nodes (plug fs k)) (nodes (plug fs (Fork u here B)))) o.is
-              (h.places (Fork u here B) (subst (λ k. IsPutIn (R x) x k (nodes u ++ here ∷ nodes B)) (sym (ap nodes o.is)) (put_left R (side_order order m s total) x (nodes A) here (nodes B) (nodes u) o.rising less p)));
+              (h.places (Fork u here B) (subst (λ k. IsPutIn (R x) x k (nodes u ++ here ∷ nodes B)) (sym (ap nodes o.is))
+              (put_left R (side_order order m s total) x (nodes A) here (nodes B) (nodes u) o.rising less p)));
           room = omega arith;
-        } in record { sub = A; other = B; is = o.is; falls = subst (λ Q. Falls n s Q tag (items ++ Some (turn true) ∷ []) y.back x (frame (turn true) B ∷ fs) A) (sym same) falls; lower = omega arith }
+        } in record {
+          sub = A;
+          other = B;
+          is = o.is;
+          falls = subst (λ Q. Falls n s Q tag (items ++ Some (turn true) ∷ []) y.back x (frame (turn true) B ∷ fs) A) (sym same) falls;
+          lower = omega arith;
+        }
 
     stepped_right : R x here ≡ Greater → Stepped false
     stepped_right more =
-        let A = o.A in let B = o.B in let w = between (nodes A) here (nodes B) o.apart in let sizes = ap size o.is in let heights = ap height o.is in let room = h.room in
+        let A = o.A in let B = o.B in let w = between (nodes A) here (nodes B) o.apart in let sizes = ap size o.is in let heights = ap height o.is in
+        let room = h.room in
         let link : grown_link y ≡ forked_link false y.forth (size B + 1) (height B) A y.tag =
-        let z = o.size_is in let long : y.size + 1 ≡ size A + (size B + 1) + 1 = omega arith in (λ j. record { back = o.left.rooted.root j; forth = y.forth; size = long j; height = o.height_is j; tag = y.tag }) in
+        let z = o.size_is in
+        let long : y.size + 1 ≡ size A + (size B + 1) + 1 = omega arith in
+        (λ j. record { back = o.left.rooted.root j; forth = y.forth; size = long j; height = o.height_is j; tag = y.tag }) in
         let can = can_kept y.forth B w.out_right o.right in let hb = height-root n s y.forth B can.rooted in let ht = height-root m s at t h.can.rooted in
         let falls : Falls n s R tag (items ++ Some (turn false) ∷ []) y.forth x (frame (turn false) A ∷ fs) B = record {
           path_is = ap (λ k. k ++ Some (turn false) ∷ []) h.path_is;
@@ -469,9 +549,16 @@ module _ {T : Type 0} where
           beside = ((o.even.0.1, o.even.0.0), o.even.1, even_moved fs _ _ heights h.beside);
           apart = subst (λ k. IsApart (nodes (plug fs k))) o.is h.apart;
           places = λ u p. subst (λ k. IsPutIn (R x) x (nodes (plug fs k)) (nodes (plug fs (Fork A here u)))) o.is
-              (h.places (Fork A here u) (subst (λ k. IsPutIn (R x) x k (nodes A ++ here ∷ nodes u)) (sym (ap nodes o.is)) (put_right R (side_order order m s total) x (nodes A) here (nodes B) (nodes u) o.rising more p)));
+              (h.places (Fork A here u) (subst (λ k. IsPutIn (R x) x k (nodes A ++ here ∷ nodes u)) (sym (ap nodes o.is))
+              (put_right R (side_order order m s total) x (nodes A) here (nodes B) (nodes u) o.rising more p)));
           room = omega arith;
-        } in record { sub = B; other = A; is = o.is; falls = subst (λ Q. Falls n s Q tag (items ++ Some (turn false) ∷ []) y.forth x (frame (turn false) A ∷ fs) B) (sym same) falls; lower = omega arith }
+        } in record {
+          sub = B;
+          other = A;
+          is = o.is;
+          falls = subst (λ Q. Falls n s Q tag (items ++ Some (turn false) ∷ []) y.forth x (frame (turn false) A ∷ fs) B) (sym same) falls;
+          lower = omega arith;
+        }
 
     less_is : (k : Ordering) → is_lt k ≡ true → k ≡ Less
     less_is Less f = refl
@@ -499,7 +586,8 @@ module _ {T : Type 0} where
     pub room_here : length items < 45
     room_here = let a = h.room in let b = ap length h.path_is in let c = path_length fs in let d = ap height o.is in omega arith
 
-    pub fallen_on : (b : Bool) (k : Stepped b) (v : Pooled T) (last : List (Option Turn)) (gs : List Frame) → HasFallen n v s (side order n s) last x (plug (frame (turn b) k.other ∷ fs) k.sub) gs → HasFallen m v s R last x (plug fs t) gs
+    pub fallen_on : (b : Bool) (k : Stepped b) (v : Pooled T) (last : List (Option Turn)) (gs : List Frame)
+        → HasFallen n v s (side order n s) last x (plug (frame (turn b) k.other ∷ fs) k.sub) gs → HasFallen m v s R last x (plug fs t) gs
     fallen_on b k v last gs f =
         let whole : plug fs t ≡ plug fs (forked b k.sub here k.other) = ap (plug fs) k.is in record {
           path_is = f.path_is;
@@ -507,35 +595,45 @@ module _ {T : Type 0} where
           alone = f.alone;
           above = f.above;
           beside = f.beside;
-          places = λ u p. subst (λ (z : Shape × (Ref → Ref → Ordering)). IsPutIn (z.1 x) x (nodes z.0) (nodes (plug gs u))) (λ j. (sym whole j, same j)) (f.places u (subst (λ (Q : Ref → Ref → Ordering). IsPutIn (Q x) x [] (nodes u)) (sym same) p));
+          places = λ u p. subst (λ (z : Shape × (Ref → Ref → Ordering)). IsPutIn (z.1 x) x (nodes z.0) (nodes (plug gs u)))
+              (λ j. (sym whole j, same j)) (f.places u (subst (λ (Q : Ref → Ref → Ordering). IsPutIn (Q x) x [] (nodes u)) (sym same) p));
           keeps = keeps_then s m n v (here ∷ []) (nodes (plug fs (forked b k.sub here k.other))) (nodes (plug fs t)) keeps_here f.keeps
-              (λ j out. (((out_right j (nodes o.A) (here ∷ nodes o.B) (subst (λ z. IsOut j (nodes z)) o.is (plug_out fs t j out))).0, tt), subst (λ z. IsOut j (nodes z)) whole out));
+              (λ j out. (
+                ((out_right j (nodes o.A) (here ∷ nodes o.B) (subst (λ z. IsOut j (nodes z)) o.is (plug_out fs t j out))).0, tt),
+                subst (λ z. IsOut j (nodes z)) whole out,
+              ));
           tags = λ j. f.tags j ∙ tags_here j;
         }
 
   -- from the way down to the way up, and the whole
-  module _ (m n : Pooled T) (s : ℕ) (R : Ref → Ref → Ordering) (items : List (Option Turn)) (at : Option Ref) (x : Ref) (t : Shape) (c : CanPut m s R at x t) (gs : List Frame) (f : HasFallen m n s R items x t gs) where
+  module _ (m n : Pooled T) (s : ℕ) (R : Ref → Ref → Ordering) (items : List (Option Turn)) (at : Option Ref)
+      (x : Ref) (t : Shape) (c : CanPut m s R at x t) (gs : List Frame) (f : HasFallen m n s R items x t gs) where
     placed : IsPutIn (R x) x (nodes t) (nodes (plug gs (Fork Tip x Tip)))
     placed = f.places (Fork Tip x Tip) (leaf_put R x)
 
     pub climbs_start : Climbs n s at (Some x) items gs None 0 (Fork Tip x Tip)
-    climbs_start = let fits = c.fits in let a = size-nodes (plug gs (Fork Tip x Tip)) in let b = put_length R x (nodes t) (nodes (plug gs (Fork Tip x Tip))) placed in let d = size-nodes t in record {
-      path_is = f.path_is;
-      above = f.above;
-      beside = f.beside;
-      rooted = f.alone;
-      even = ((omega arith, omega arith), tt, tt);
-      near = (omega arith, omega arith);
-      apart = put_apart R x (nodes t) (nodes (plug gs (Fork Tip x Tip))) placed c.apart c.out;
-      fits = omega arith;
-      root_is = root_top at gs (c.rooted.root ∙ ap top (sym f.whole_is));
-    }
+    climbs_start =
+        let fits = c.fits in let a = size-nodes (plug gs (Fork Tip x Tip)) in
+        let b = put_length R x (nodes t) (nodes (plug gs (Fork Tip x Tip))) placed in
+        let d = size-nodes t in
+        record {
+          path_is = f.path_is;
+          above = f.above;
+          beside = f.beside;
+          rooted = f.alone;
+          even = ((omega arith, omega arith), tt, tt);
+          near = (omega arith, omega arith);
+          apart = put_apart R x (nodes t) (nodes (plug gs (Fork Tip x Tip))) placed c.apart c.out;
+          fits = omega arith;
+          root_is = root_top at gs (c.rooted.root ∙ ap top (sym f.whole_is));
+        }
 
     pub has_put : (v : Pooled T) (root : Option Ref) (u : Shape) → HasClimbed n v s (plug gs (Fork Tip x Tip)) root u → HasPut m v s R x t root u
     has_put v root u d = record {
       rooted = d.rooted;
       even = d.even;
       placed = subst (IsPutIn (R x) x (nodes t)) (sym d.nodes_are) placed;
-      keeps = keeps_then s m n v (nodes t) (nodes (plug gs (Fork Tip x Tip))) (x ∷ nodes t) f.keeps d.keeps (λ k out. (out.1, put_out k R x (nodes t) (nodes (plug gs (Fork Tip x Tip))) placed out));
+      keeps = keeps_then s m n v (nodes t) (nodes (plug gs (Fork Tip x Tip))) (x ∷ nodes t) f.keeps d.keeps
+          (λ k out. (out.1, put_out k R x (nodes t) (nodes (plug gs (Fork Tip x Tip))) placed out));
       tags = λ k. d.tags k ∙ f.tags k;
     }

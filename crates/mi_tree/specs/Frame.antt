@@ -34,7 +34,8 @@ module _ {T O : Type 0} where
 
 -- a tree stands wherever its nodes are alike to it
 abbrev pub StandsWhereAlike : (T O : Type 0) → (T → T → Ordering) → (T → ℕ) → Type 0
-StandsWhereAlike T O order tag = (l : Tree O) (m n : Pooled T) (rs : List Ref) → IsTree l m order tag rs → AreAlike order m n l.slot rs → l.slot < n.slots → IsTree l n order tag rs
+StandsWhereAlike T O order tag = (l : Tree O) (m n : Pooled T) (rs : List Ref) → IsTree l m order tag rs
+    → AreAlike order m n l.slot rs → l.slot < n.slots → IsTree l n order tag rs
 
 -- a node's value may be exchanged for one of an equal key
 abbrev pub StandsWhereSwapped : (T O : Type 0) → (T → T → Ordering) → (T → ℕ) → Type 0

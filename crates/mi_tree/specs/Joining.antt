@@ -35,7 +35,8 @@ module _ {T : Type 0} where
     pub fits : size A + size B + size C + 2 < 2 ^ 32
     pub low : (height A < 254) × (height B < 254) × (height C < 254)
 
-  pub record Four (m : Pooled T) (s : ℕ) (a : Option Ref) (x : Ref) (b : Option Ref) (y : Ref) (c : Option Ref) (z : Ref) (d : Option Ref) (A B C D : Shape) : Type 0 where
+  pub record Four (m : Pooled T) (s : ℕ) (a : Option Ref) (x : Ref) (b : Option Ref) (y : Ref)
+      (c : Option Ref) (z : Ref) (d : Option Ref) (A B C D : Shape) : Type 0 where
     pub first : IsRooted m s a A
     pub held_x : IsHeld m x
     pub second : IsRooted m s b B

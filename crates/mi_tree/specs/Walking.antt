@@ -49,14 +49,16 @@ module _ {T : Type 0} where
   -- each is held, with its subtree after it, of which every way down has room on a path of that many levels
   abbrev pub ArePending : Pooled T → ℕ → Direction → ℕ → List Pending → Type 0
   ArePending m s d levels [] = Unit {0}
-  ArePending m s d levels (x ∷ xs) = IsHeld m x.node × IsRooted m s (far_of d (link_of m x.node.name s)) x.after × (height x.after + length xs + 1 ≤ levels) × ArePending m s d levels xs
+  ArePending m s d levels (x ∷ xs) = IsHeld m x.node × IsRooted m s (far_of d (link_of m x.node.name s)) x.after
+      × (height x.after + length xs + 1 ≤ levels) × ArePending m s d levels xs
 
   pub record Goes (m : Pooled T) (s : ℕ) (d : Direction) (levels : ℕ) (items : List (Option Ref)) (xs : List Pending) : Type 0 where
     pub path_is : items ≡ path_of xs
     pub pending : ArePending m s d levels xs
 
   -- a path from which the walk goes down into a subtree first
-  pub record Enters (m : Pooled T) (s : ℕ) (d : Direction) (levels : ℕ) (items : List (Option Ref)) (at : Option Ref) (xs : List Pending) (t : Shape) : Type 0 where
+  pub record Enters (m : Pooled T) (s : ℕ) (d : Direction) (levels : ℕ)
+      (items : List (Option Ref)) (at : Option Ref) (xs : List Pending) (t : Shape) : Type 0 where
     pub goes : Goes m s d levels items xs
     pub rooted : IsRooted m s at t
     pub room : height t + length xs ≤ levels

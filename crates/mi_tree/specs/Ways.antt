@@ -22,9 +22,9 @@ pub record Frame : Type 0 where
   pub left : Bool
   pub other : Shape
 
-abbrev pub path_of : List Frame → List (Option Turn)
-path_of [] = []
-path_of (f ∷ fs) = path_of fs ++ Some (record { node = f.node; left = f.left }) ∷ []
+abbrev pub way_of : List Frame → List (Option Turn)
+way_of [] = []
+way_of (f ∷ fs) = way_of fs ++ Some (record { node = f.node; left = f.left }) ∷ []
 
 -- a node above a tree, which is to its left or to its right
 abbrev pub forked : Bool → Shape → Ref → Shape → Shape
@@ -79,8 +79,9 @@ module _ {T : Type 0} where
       × Above m s fs (Some f.node) (forked_size f.left n (size f.other)) (forked_height f.left h (height f.other))
 
   -- t stands at the end of the way; above it each size counts one more
-  pub record Falls (m : Pooled T) (s : ℕ) (R : Ref → Ref → Ordering) (tag : T → ℕ) (items : List (Option Turn)) (at : Option Ref) (x : Ref) (fs : List Frame) (t : Shape) : Type 0 where
-    pub path_is : items ≡ path_of fs
+  pub record Falls (m : Pooled T) (s : ℕ) (R : Ref → Ref → Ordering) (tag : T → ℕ)
+      (items : List (Option Turn)) (at : Option Ref) (x : Ref) (fs : List Frame) (t : Shape) : Type 0 where
+    pub path_is : items ≡ way_of fs
     pub can : CanPut m s R at x t
     pub tagged : AreTagged tag m s (x ∷ nodes t)
     pub above : Above m s fs at (size t + 1) (height t)
@@ -90,8 +91,9 @@ module _ {T : Type 0} where
     pub room : height t + length fs ≤ 45
 
   -- the way of the whole tree to where x belongs
-  pub record HasFallen (m n : Pooled T) (s : ℕ) (R : Ref → Ref → Ordering) (items : List (Option Turn)) (x : Ref) (whole : Shape) (gs : List Frame) : Type 0 where
-    pub path_is : items ≡ path_of gs
+  pub record HasFallen (m n : Pooled T) (s : ℕ) (R : Ref → Ref → Ordering)
+      (items : List (Option Turn)) (x : Ref) (whole : Shape) (gs : List Frame) : Type 0 where
+    pub path_is : items ≡ way_of gs
     pub whole_is : plug gs Tip ≡ whole
     pub alone : IsRooted n s (Some x) (Fork Tip x Tip)
     pub above : Above n s gs None 1 0
@@ -101,8 +103,9 @@ module _ {T : Type 0} where
     pub tags : SameTags m n s
 
   -- t, in which x is between xs and ys, stands at the end of the way; above it each size counts one less. Without x the whole is vs and ws
-  pub record Sinks (m : Pooled T) (s : ℕ) (items : List (Option Turn)) (at : Option Ref) (fs : List Frame) (t : Shape) (xs : List Ref) (x : Ref) (ys vs ws : List Ref) : Type 0 where
-    pub path_is : items ≡ path_of fs
+  pub record Sinks (m : Pooled T) (s : ℕ) (items : List (Option Turn)) (at : Option Ref)
+      (fs : List Frame) (t : Shape) (xs : List Ref) (x : Ref) (ys vs ws : List Ref) : Type 0 where
+    pub path_is : items ≡ way_of fs
     pub can : CanTake m s at t
     pub has : nodes t ≡ xs ++ x ∷ ys
     pub above : Above m s fs at (size t - 1) (height t)
@@ -112,8 +115,9 @@ module _ {T : Type 0} where
     pub room : height t + length fs ≤ 45
 
   -- the way of the whole tree to x, which has the sides A and B
-  pub record HasSunk (m n : Pooled T) (s : ℕ) (items : List (Option Turn)) (xs : List Ref) (x : Ref) (ys vs ws : List Ref) (whole : Shape) (gs : List Frame) (A B : Shape) : Type 0 where
-    pub path_is : items ≡ path_of gs
+  pub record HasSunk (m n : Pooled T) (s : ℕ) (items : List (Option Turn)) (xs : List Ref) (x : Ref)
+      (ys vs ws : List Ref) (whole : Shape) (gs : List Frame) (A B : Shape) : Type 0 where
+    pub path_is : items ≡ way_of gs
     pub whole_is : plug gs (Fork A x B) ≡ whole
     pub rooted : IsRooted n s (Some x) (Fork A x B)
     pub even : IsEven (Fork A x B)
@@ -124,8 +128,9 @@ module _ {T : Type 0} where
     pub tags : SameTags m n s
 
   -- u is to stand where a tree of nearly its height is; above it each size counts the nodes of u
-  pub record Climbs (m : Pooled T) (s : ℕ) (root below : Option Ref) (items : List (Option Turn)) (fs : List Frame) (at : Option Ref) (h : ℕ) (u : Shape) : Type 0 where
-    pub path_is : items ≡ path_of fs
+  pub record Climbs (m : Pooled T) (s : ℕ) (root below : Option Ref) (items : List (Option Turn))
+      (fs : List Frame) (at : Option Ref) (h : ℕ) (u : Shape) : Type 0 where
+    pub path_is : items ≡ way_of fs
     pub above : Above m s fs at (size u) h
     pub beside : AreEven fs h
     pub rooted : IsRooted m s below u

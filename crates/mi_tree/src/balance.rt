@@ -47,7 +47,8 @@ fn lean_left<T>(
     requires slot { slot < p.old.slots }
     requires sides { (l : Shape) × (q : Shape) × AreSides p.old slot left node right l q × (height_of q + 1 < height_of l) }
     ensures slots { p.new.slots ≡ p.old.slots }
-    ensures tree { (l : Shape) (q : Shape) → AreSides p.old slot left node right l q → height_of q + 1 < height_of l → (t : Shape) × IsBalanced p.old p.new slot l node q result t }
+    ensures tree { (l : Shape) (q : Shape) → AreSides p.old slot left node right l q
+        → height_of q + 1 < height_of l → (t : Shape) × IsBalanced p.old p.new slot l node q result t }
 {
     let Some(left) = left else { unreachable!() };
     let link = p.link(left, slot);
@@ -84,7 +85,8 @@ fn lean_right<T>(
     requires slot { slot < p.old.slots }
     requires sides { (l : Shape) × (q : Shape) × AreSides p.old slot left node right l q × (height_of l + 1 < height_of q) }
     ensures slots { p.new.slots ≡ p.old.slots }
-    ensures tree { (l : Shape) (q : Shape) → AreSides p.old slot left node right l q → height_of l + 1 < height_of q → (t : Shape) × IsBalanced p.old p.new slot l node q result t }
+    ensures tree { (l : Shape) (q : Shape) → AreSides p.old slot left node right l q
+        → height_of l + 1 < height_of q → (t : Shape) × IsBalanced p.old p.new slot l node q result t }
 {
     let Some(right) = right else { unreachable!() };
     let link = p.link(right, slot);

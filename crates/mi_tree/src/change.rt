@@ -26,9 +26,11 @@ pub(crate) fn put_in<T, O: NodeOrder<T>>(
 ) -> Option<NodeRef>
     requires slot { slot < p.old.slots }
     requires tag { tag ≡ (link_of p.old node.name slot).tag }
-    requires tree { (t : Shape) × CanPut p.old slot (side (O.order order.now) p.old slot) root node t × AreTagged (O.tag_of order.now) p.old slot (node ∷ nodes t) }
+    requires tree { (t : Shape) × CanPut p.old slot (side (O.order order.now) p.old slot) root node t
+        × AreTagged (O.tag_of order.now) p.old slot (node ∷ nodes t) }
     ensures slots { p.new.slots ≡ p.old.slots }
-    ensures tree { (t : Shape) → CanPut p.old slot (side (O.order order.now) p.old slot) root node t → AreTagged (O.tag_of order.now) p.old slot (node ∷ nodes t)
+    ensures tree { (t : Shape) → CanPut p.old slot (side (O.order order.now) p.old slot) root node t
+        → AreTagged (O.tag_of order.now) p.old slot (node ∷ nodes t)
         → (u : Shape) × HasPut p.old p.new slot (side (O.order order.now) p.old slot) node t result u }
 {
     let above = Link {
@@ -94,7 +96,8 @@ pub(crate) fn take_out<T, O: NodeOrder<T>>(
     requires tree { (t : Shape) × (xs : List Ref) × (ys : List Ref) × CanTake p.old slot root t × Rising (side (O.order order.now) p.old slot) (nodes t)
         × AreTagged (O.tag_of order.now) p.old slot (nodes t) × (nodes t ≡ xs ++ node ∷ ys) }
     ensures slots { p.new.slots ≡ p.old.slots }
-    ensures tree { (t : Shape) (xs : List Ref) (ys : List Ref) → CanTake p.old slot root t → Rising (side (O.order order.now) p.old slot) (nodes t) → nodes t ≡ xs ++ node ∷ ys
+    ensures tree { (t : Shape) (xs : List Ref) (ys : List Ref) → CanTake p.old slot root t
+        → Rising (side (O.order order.now) p.old slot) (nodes t) → nodes t ≡ xs ++ node ∷ ys
         → (u : Shape) × HasTaken p.old p.new slot t (xs ++ ys) result u }
 {
     let above = Link {

@@ -23,7 +23,8 @@ pub(crate) fn compare_nodes<T, O: NodeOrder<T>>(
 ) -> Ordering
     requires left { IsHeld p.now.pool left × IsTagOf (O.tag_of order.now) (value_of p.now.pool left.name) left_tag.key }
     requires right { IsHeld p.now.pool right × IsTagOf (O.tag_of order.now) (value_of p.now.pool right.name) right_tag.key }
-    ensures result { result ≡ compared (by_stamp (O.order order.now)) (stamped (value_of p.now.pool left.name) left_tag.stamp) (stamped (value_of p.now.pool right.name) right_tag.stamp) }
+    ensures result { result ≡ compared (by_stamp (O.order order.now))
+        (stamped (value_of p.now.pool left.name) left_tag.stamp) (stamped (value_of p.now.pool right.name) right_tag.stamp) }
     ensures steps { steps.new.count ≡ steps.old.count + 1 }
 {
     if left_tag.key != right_tag.key {

@@ -89,9 +89,11 @@ pub(crate) fn rank_in<T, O: NodeOrder<T>>(
 ) -> u32
     requires slot { slot < p.old.pool.slots }
     requires tag { tag ≡ (link_of p.old.pool node.name slot).tag }
-    requires tree { (t : Shape) × (xs : List Ref) × (ys : List Ref) × CanTake p.old.pool slot root t × Rising (side (O.order order.now) p.old.pool slot) (nodes t)
+    requires tree { (t : Shape) × (xs : List Ref) × (ys : List Ref) × CanTake p.old.pool slot root t
+        × Rising (side (O.order order.now) p.old.pool slot) (nodes t)
         × AreTagged (O.tag_of order.now) p.old.pool slot (nodes t) × (nodes t ≡ xs ++ node ∷ ys) }
-    ensures rank { (t : Shape) (xs : List Ref) (ys : List Ref) → CanTake p.old.pool slot root t → Rising (side (O.order order.now) p.old.pool slot) (nodes t) → nodes t ≡ xs ++ node ∷ ys
+    ensures rank { (t : Shape) (xs : List Ref) (ys : List Ref) → CanTake p.old.pool slot root t
+        → Rising (side (O.order order.now) p.old.pool slot) (nodes t) → nodes t ≡ xs ++ node ∷ ys
         → result ≡ length xs }
     ensures pool { p.new.pool ≡ p.old.pool }
     ensures reads { (t : Shape) → IsRooted p.old.pool slot root t → p.new.reads ≤ p.old.reads + 2 * height t }
@@ -123,7 +125,8 @@ pub(crate) fn seek_in<T, O: NodeOrder<T>>(
     steps: &mut Steps,
 ) -> Option<NodeRef>
     requires slot { slot < p.old.pool.slots }
-    requires tree { (t : Shape) × IsRooted p.old.pool slot root t × AreTagged (O.tag_of order.now) p.old.pool slot (nodes t) × IsSteady (is_past_node strict (λ v. O.place order.now v probe) p.old.pool) (nodes t) }
+    requires tree { (t : Shape) × IsRooted p.old.pool slot root t × AreTagged (O.tag_of order.now) p.old.pool slot (nodes t)
+        × IsSteady (is_past_node strict (λ v. O.place order.now v probe) p.old.pool) (nodes t) }
     ensures node { (t : Shape) → IsRooted p.old.pool slot root t
         → result ≡ first_where (is_past_node strict (λ v. O.place order.now v probe.entry) p.old.pool) (nodes t) }
     ensures pool { p.new.pool ≡ p.old.pool }

@@ -123,7 +123,8 @@ pub(crate) fn join_both<T>(
 )
     requires slot { slot < p.old.slots }
     requires parts { (A : Shape) × (B : Shape) × (C : Shape) × (D : Shape) × Four p.old slot a x b y c z d A B C D }
-    ensures tree { (A : Shape) (B : Shape) (C : Shape) (D : Shape) → Four p.old slot a x b y c z d A B C D → IsRooted p.new slot (Some y) (Fork (Fork A x B) y (Fork C z D)) }
+    ensures tree { (A : Shape) (B : Shape) (C : Shape) (D : Shape) → Four p.old slot a x b y c z d A B C D
+        → IsRooted p.new slot (Some y) (Fork (Fork A x B) y (Fork C z D)) }
     ensures slots { p.new.slots ≡ p.old.slots }
     ensures keeps { Keeps p.old p.new slot (x ∷ y ∷ z ∷ []) }
     ensures tags { SameTags p.old p.new slot }

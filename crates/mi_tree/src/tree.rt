@@ -59,10 +59,14 @@ impl<O> Tree<O> {
     pub fn insert<T>(&mut self, p: &mut Pool<T>, node: NodeRef, stamp: u64, steps: &mut Steps)
     where
         O: NodeOrder<T>,
-        requires { (rs : List Ref) × IsTree self.old p.old (O.order self.old.order) (O.tag_of self.old.order) rs × IsNew p.old self.old.slot (O.order self.old.order) node stamp rs }
-        ensures tree { (rs : List Ref) → IsTree self.old p.old (O.order self.old.order) (O.tag_of self.old.order) rs → IsNew p.old self.old.slot (O.order self.old.order) node stamp rs
-            → (us : List Ref) × IsPutIn (side_of_new (O.order self.old.order) p.old self.old.slot node stamp) node rs us × IsTree self.new p.new (O.order self.old.order) (O.tag_of self.old.order) us }
-        ensures keeps { (rs : List Ref) → IsTree self.old p.old (O.order self.old.order) (O.tag_of self.old.order) rs → IsNew p.old self.old.slot (O.order self.old.order) node stamp rs
+        requires { (rs : List Ref) × IsTree self.old p.old (O.order self.old.order) (O.tag_of self.old.order) rs
+            × IsNew p.old self.old.slot (O.order self.old.order) node stamp rs }
+        ensures tree { (rs : List Ref) → IsTree self.old p.old (O.order self.old.order) (O.tag_of self.old.order) rs
+            → IsNew p.old self.old.slot (O.order self.old.order) node stamp rs
+            → (us : List Ref) × IsPutIn (side_of_new (O.order self.old.order) p.old self.old.slot node stamp) node rs us
+            × IsTree self.new p.new (O.order self.old.order) (O.tag_of self.old.order) us }
+        ensures keeps { (rs : List Ref) → IsTree self.old p.old (O.order self.old.order) (O.tag_of self.old.order) rs
+            → IsNew p.old self.old.slot (O.order self.old.order) node stamp rs
             → Keeps p.old p.new self.old.slot (node ∷ rs) }
         ensures stamp { (link_of p.new node.name self.old.slot).tag.stamp ≡ stamp }
         ensures tags { (k : ℕ) → (k == node.name) ≡ false → (link_of p.new k self.old.slot).tag ≡ (link_of p.old k self.old.slot).tag }
@@ -96,7 +100,8 @@ impl<O> Tree<O> {
         requires { (xs : List Ref) × (ys : List Ref) × IsTree self.old p.old (O.order self.old.order) (O.tag_of self.old.order) (xs ++ node ∷ ys) }
         ensures tree { (xs : List Ref) (ys : List Ref) → IsTree self.old p.old (O.order self.old.order) (O.tag_of self.old.order) (xs ++ node ∷ ys)
             → IsTree self.new p.new (O.order self.old.order) (O.tag_of self.old.order) (xs ++ ys) }
-        ensures keeps { (xs : List Ref) (ys : List Ref) → IsTree self.old p.old (O.order self.old.order) (O.tag_of self.old.order) (xs ++ node ∷ ys) → Keeps p.old p.new self.old.slot (xs ++ ys) }
+        ensures keeps { (xs : List Ref) (ys : List Ref) → IsTree self.old p.old (O.order self.old.order) (O.tag_of self.old.order) (xs ++ node ∷ ys)
+            → Keeps p.old p.new self.old.slot (xs ++ ys) }
         ensures tags { (k : ℕ) → (link_of p.new k self.old.slot).tag ≡ (link_of p.old k self.old.slot).tag }
         ensures slot { self.new.slot ≡ self.old.slot }
         ensures order { self.new.order ≡ self.old.order }
@@ -119,7 +124,8 @@ impl<O> Tree<O> {
         requires { (order : T → T → Side) × (tag : T → ℕ) × (rs : List Ref) × IsTree self.now p.old.pool order tag rs }
         ensures node { (order : T → T → Side) (tag : T → ℕ) (rs : List Ref) → IsTree self.now p.old.pool order tag rs → result ≡ nth_of rs n }
         ensures pool { p.new.pool ≡ p.old.pool }
-        ensures reads { (order : T → T → Side) (tag : T → ℕ) (rs : List Ref) → IsTree self.now p.old.pool order tag rs → (b : ℕ) → length rs < 2 ^ b → p.new.reads ≤ p.old.reads + 4 * b }
+        ensures reads { (order : T → T → Side) (tag : T → ℕ) (rs : List Ref) → IsTree self.now p.old.pool order tag rs
+            → (b : ℕ) → length rs < 2 ^ b → p.new.reads ≤ p.old.reads + 4 * b }
     {
         nth_in(p, self.slot, self.root, n)
     }
@@ -129,10 +135,13 @@ impl<O> Tree<O> {
     where
         O: NodeOrder<T>,
         requires { (xs : List Ref) × (ys : List Ref) × IsTree self.now p.old.pool (O.order self.now.order) (O.tag_of self.now.order) (xs ++ node ∷ ys) }
-        ensures rank { (xs : List Ref) (ys : List Ref) → IsTree self.now p.old.pool (O.order self.now.order) (O.tag_of self.now.order) (xs ++ node ∷ ys) → result ≡ length xs }
+        ensures rank { (xs : List Ref) (ys : List Ref)
+            → IsTree self.now p.old.pool (O.order self.now.order) (O.tag_of self.now.order) (xs ++ node ∷ ys) → result ≡ length xs }
         ensures pool { p.new.pool ≡ p.old.pool }
-        ensures reads { (order : T → T → Side) (tag : T → ℕ) (rs : List Ref) → IsTree self.now p.old.pool order tag rs → (b : ℕ) → length rs < 2 ^ b → p.new.reads ≤ p.old.reads + 4 * b }
-        ensures steps { (order : T → T → Side) (tag : T → ℕ) (rs : List Ref) → IsTree self.now p.old.pool order tag rs → (b : ℕ) → length rs < 2 ^ b → steps.new.count ≤ steps.old.count + 2 * b }
+        ensures reads { (order : T → T → Side) (tag : T → ℕ) (rs : List Ref) → IsTree self.now p.old.pool order tag rs
+            → (b : ℕ) → length rs < 2 ^ b → p.new.reads ≤ p.old.reads + 4 * b }
+        ensures steps { (order : T → T → Side) (tag : T → ℕ) (rs : List Ref) → IsTree self.now p.old.pool order tag rs
+            → (b : ℕ) → length rs < 2 ^ b → steps.new.count ≤ steps.old.count + 2 * b }
     {
         let tag = p.link(node, self.slot).tag;
         rank_in(p, self.slot, &self.order, self.root, node, tag, steps)
@@ -151,8 +160,10 @@ impl<O> Tree<O> {
         ensures node { (rs : List Ref) → IsTree self.now p.old.pool (O.order self.now.order) (O.tag_of self.now.order) rs
             → result ≡ first_where (is_past_node false (λ v. O.place self.now.order v probe.entry) p.old.pool) rs }
         ensures pool { p.new.pool ≡ p.old.pool }
-        ensures reads { (order : T → T → Side) (tag : T → ℕ) (rs : List Ref) → IsTree self.now p.old.pool order tag rs → (b : ℕ) → length rs < 2 ^ b → p.new.reads ≤ p.old.reads + 2 * b }
-        ensures steps { (order : T → T → Side) (tag : T → ℕ) (rs : List Ref) → IsTree self.now p.old.pool order tag rs → (b : ℕ) → length rs < 2 ^ b → steps.new.count ≤ steps.old.count + 2 * b }
+        ensures reads { (order : T → T → Side) (tag : T → ℕ) (rs : List Ref) → IsTree self.now p.old.pool order tag rs
+            → (b : ℕ) → length rs < 2 ^ b → p.new.reads ≤ p.old.reads + 2 * b }
+        ensures steps { (order : T → T → Side) (tag : T → ℕ) (rs : List Ref) → IsTree self.now p.old.pool order tag rs
+            → (b : ℕ) → length rs < 2 ^ b → steps.new.count ≤ steps.old.count + 2 * b }
     {
         seek_in(p, self.slot, &self.order, self.root, probe, false, steps)
     }
@@ -170,8 +181,10 @@ impl<O> Tree<O> {
         ensures node { (rs : List Ref) → IsTree self.now p.old.pool (O.order self.now.order) (O.tag_of self.now.order) rs
             → result ≡ first_where (is_past_node true (λ v. O.place self.now.order v probe.entry) p.old.pool) rs }
         ensures pool { p.new.pool ≡ p.old.pool }
-        ensures reads { (order : T → T → Side) (tag : T → ℕ) (rs : List Ref) → IsTree self.now p.old.pool order tag rs → (b : ℕ) → length rs < 2 ^ b → p.new.reads ≤ p.old.reads + 2 * b }
-        ensures steps { (order : T → T → Side) (tag : T → ℕ) (rs : List Ref) → IsTree self.now p.old.pool order tag rs → (b : ℕ) → length rs < 2 ^ b → steps.new.count ≤ steps.old.count + 2 * b }
+        ensures reads { (order : T → T → Side) (tag : T → ℕ) (rs : List Ref) → IsTree self.now p.old.pool order tag rs
+            → (b : ℕ) → length rs < 2 ^ b → p.new.reads ≤ p.old.reads + 2 * b }
+        ensures steps { (order : T → T → Side) (tag : T → ℕ) (rs : List Ref) → IsTree self.now p.old.pool order tag rs
+            → (b : ℕ) → length rs < 2 ^ b → steps.new.count ≤ steps.old.count + 2 * b }
     {
         seek_in(p, self.slot, &self.order, self.root, probe, true, steps)
     }
@@ -189,8 +202,10 @@ impl<O> Tree<O> {
         ensures node { (rs : List Ref) → IsTree self.now p.old.pool (O.order self.now.order) (O.tag_of self.now.order) rs
             → result ≡ first_where (is_node_at (λ v. O.place self.now.order v probe.entry) p.old.pool) rs }
         ensures pool { p.new.pool ≡ p.old.pool }
-        ensures reads { (order : T → T → Side) (tag : T → ℕ) (rs : List Ref) → IsTree self.now p.old.pool order tag rs → (b : ℕ) → length rs < 2 ^ b → p.new.reads ≤ p.old.reads + 4 * b }
-        ensures steps { (order : T → T → Side) (tag : T → ℕ) (rs : List Ref) → IsTree self.now p.old.pool order tag rs → (b : ℕ) → length rs < 2 ^ b → steps.new.count ≤ steps.old.count + (2 * b + 1) }
+        ensures reads { (order : T → T → Side) (tag : T → ℕ) (rs : List Ref) → IsTree self.now p.old.pool order tag rs
+            → (b : ℕ) → length rs < 2 ^ b → p.new.reads ≤ p.old.reads + 4 * b }
+        ensures steps { (order : T → T → Side) (tag : T → ℕ) (rs : List Ref) → IsTree self.now p.old.pool order tag rs
+            → (b : ℕ) → length rs < 2 ^ b → steps.new.count ≤ steps.old.count + (2 * b + 1) }
     {
         let Some(node) = self.lower(p, probe, steps) else {
             return None;
@@ -207,10 +222,13 @@ impl<O> Tree<O> {
     where
         O: NodeOrder<T>,
         requires { (xs : List Ref) × (ys : List Ref) × IsTree self.now p.old.pool (O.order self.now.order) (O.tag_of self.now.order) (xs ++ node ∷ ys) }
-        ensures node { (xs : List Ref) (ys : List Ref) → IsTree self.now p.old.pool (O.order self.now.order) (O.tag_of self.now.order) (xs ++ node ∷ ys) → result ≡ first_of ys None }
+        ensures node { (xs : List Ref) (ys : List Ref)
+            → IsTree self.now p.old.pool (O.order self.now.order) (O.tag_of self.now.order) (xs ++ node ∷ ys) → result ≡ first_of ys None }
         ensures pool { p.new.pool ≡ p.old.pool }
-        ensures reads { (order : T → T → Side) (tag : T → ℕ) (rs : List Ref) → IsTree self.now p.old.pool order tag rs → (b : ℕ) → length rs < 2 ^ b → p.new.reads ≤ p.old.reads + 8 * b }
-        ensures steps { (order : T → T → Side) (tag : T → ℕ) (rs : List Ref) → IsTree self.now p.old.pool order tag rs → (b : ℕ) → length rs < 2 ^ b → steps.new.count ≤ steps.old.count + 2 * b }
+        ensures reads { (order : T → T → Side) (tag : T → ℕ) (rs : List Ref) → IsTree self.now p.old.pool order tag rs
+            → (b : ℕ) → length rs < 2 ^ b → p.new.reads ≤ p.old.reads + 8 * b }
+        ensures steps { (order : T → T → Side) (tag : T → ℕ) (rs : List Ref) → IsTree self.now p.old.pool order tag rs
+            → (b : ℕ) → length rs < 2 ^ b → steps.new.count ≤ steps.old.count + 2 * b }
     {
         let rank = self.rank(p, node, steps);
         self.nth(p, rank + 1)
@@ -221,10 +239,13 @@ impl<O> Tree<O> {
     where
         O: NodeOrder<T>,
         requires { (xs : List Ref) × (ys : List Ref) × IsTree self.now p.old.pool (O.order self.now.order) (O.tag_of self.now.order) (xs ++ node ∷ ys) }
-        ensures node { (xs : List Ref) (ys : List Ref) → IsTree self.now p.old.pool (O.order self.now.order) (O.tag_of self.now.order) (xs ++ node ∷ ys) → result ≡ last_of None xs }
+        ensures node { (xs : List Ref) (ys : List Ref)
+            → IsTree self.now p.old.pool (O.order self.now.order) (O.tag_of self.now.order) (xs ++ node ∷ ys) → result ≡ last_of None xs }
         ensures pool { p.new.pool ≡ p.old.pool }
-        ensures reads { (order : T → T → Side) (tag : T → ℕ) (rs : List Ref) → IsTree self.now p.old.pool order tag rs → (b : ℕ) → length rs < 2 ^ b → p.new.reads ≤ p.old.reads + 8 * b }
-        ensures steps { (order : T → T → Side) (tag : T → ℕ) (rs : List Ref) → IsTree self.now p.old.pool order tag rs → (b : ℕ) → length rs < 2 ^ b → steps.new.count ≤ steps.old.count + 2 * b }
+        ensures reads { (order : T → T → Side) (tag : T → ℕ) (rs : List Ref) → IsTree self.now p.old.pool order tag rs
+            → (b : ℕ) → length rs < 2 ^ b → p.new.reads ≤ p.old.reads + 8 * b }
+        ensures steps { (order : T → T → Side) (tag : T → ℕ) (rs : List Ref) → IsTree self.now p.old.pool order tag rs
+            → (b : ℕ) → length rs < 2 ^ b → steps.new.count ≤ steps.old.count + 2 * b }
     {
         let rank = self.rank(p, node, steps);
         if rank == 0 {
@@ -240,9 +261,11 @@ impl<O> Tree<O> {
     pub fn walk<T>(&self, p: &mut Counted<T>, direction: Direction, passed: u32) -> Walk
         requires { (order : T → T → Side) × (tag : T → ℕ) × (rs : List Ref) × IsTree self.now p.old.pool order tag rs }
         ensures walk { (order : T → T → Side) (tag : T → ℕ) (rs : List Ref) → IsTree self.now p.old.pool order tag rs
-            → (levels : ℕ) × IsWalk result p.old.pool levels (beyond direction (take passed rs) (drop passed rs)) × ((b : ℕ) → length rs < 2 ^ b → levels ≤ 2 * b) }
+            → (levels : ℕ) × IsWalk result p.old.pool levels (beyond direction (take passed rs) (drop passed rs))
+            × ((b : ℕ) → length rs < 2 ^ b → levels ≤ 2 * b) }
         ensures pool { p.new.pool ≡ p.old.pool }
-        ensures reads { (order : T → T → Side) (tag : T → ℕ) (rs : List Ref) → IsTree self.now p.old.pool order tag rs → (b : ℕ) → length rs < 2 ^ b → p.new.reads ≤ p.old.reads + 4 * b }
+        ensures reads { (order : T → T → Side) (tag : T → ℕ) (rs : List Ref) → IsTree self.now p.old.pool order tag rs
+            → (b : ℕ) → length rs < 2 ^ b → p.new.reads ≤ p.old.reads + 4 * b }
     {
         Walk::start(p, self.slot, direction, self.root, passed)
     }
@@ -262,8 +285,10 @@ impl<O> Tree<O> {
         ensures walk { (xs : List Ref) (ys : List Ref) → IsTree self.now p.old.pool (O.order self.now.order) (O.tag_of self.now.order) (xs ++ node ∷ ys)
             → (levels : ℕ) × IsWalk result p.old.pool levels (node ∷ beyond direction xs ys) × ((b : ℕ) → length (xs ++ node ∷ ys) < 2 ^ b → levels ≤ 2 * b) }
         ensures pool { p.new.pool ≡ p.old.pool }
-        ensures reads { (order : T → T → Side) (tag : T → ℕ) (rs : List Ref) → IsTree self.now p.old.pool order tag rs → (b : ℕ) → length rs < 2 ^ b → p.new.reads ≤ p.old.reads + 4 * b }
-        ensures steps { (order : T → T → Side) (tag : T → ℕ) (rs : List Ref) → IsTree self.now p.old.pool order tag rs → (b : ℕ) → length rs < 2 ^ b → steps.new.count ≤ steps.old.count + 2 * b }
+        ensures reads { (order : T → T → Side) (tag : T → ℕ) (rs : List Ref) → IsTree self.now p.old.pool order tag rs
+            → (b : ℕ) → length rs < 2 ^ b → p.new.reads ≤ p.old.reads + 4 * b }
+        ensures steps { (order : T → T → Side) (tag : T → ℕ) (rs : List Ref) → IsTree self.now p.old.pool order tag rs
+            → (b : ℕ) → length rs < 2 ^ b → steps.new.count ≤ steps.old.count + 2 * b }
     {
         let tag = p.link(node, self.slot).tag;
         Walk::start_at(

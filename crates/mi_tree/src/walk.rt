@@ -109,10 +109,14 @@ impl Walk {
     ) -> Walk
         requires slot { slot < p.old.pool.slots }
         requires tag { tag ≡ (link_of p.old.pool node.name slot).tag }
-        requires tree { (levels : ℕ) × (t : Shape) × (xs : List Ref) × (ys : List Ref) × Enters p.old.pool slot direction levels [] root [] t × CanTake p.old.pool slot root t
-            × Rising (side (O.order order.now) p.old.pool slot) (nodes t) × AreTagged (O.tag_of order.now) p.old.pool slot (nodes t) × (nodes t ≡ xs ++ node ∷ ys) }
-        ensures walk { (levels : ℕ) (t : Shape) (xs : List Ref) (ys : List Ref) → Enters p.old.pool slot direction levels [] root [] t → CanTake p.old.pool slot root t
-            → Rising (side (O.order order.now) p.old.pool slot) (nodes t) → nodes t ≡ xs ++ node ∷ ys → IsWalk result p.old.pool levels (node ∷ beyond direction xs ys) }
+        requires tree { (levels : ℕ) × (t : Shape) × (xs : List Ref) × (ys : List Ref)
+            × Enters p.old.pool slot direction levels [] root [] t × CanTake p.old.pool slot root t
+            × Rising (side (O.order order.now) p.old.pool slot) (nodes t)
+            × AreTagged (O.tag_of order.now) p.old.pool slot (nodes t) × (nodes t ≡ xs ++ node ∷ ys) }
+        ensures walk { (levels : ℕ) (t : Shape) (xs : List Ref) (ys : List Ref)
+            → Enters p.old.pool slot direction levels [] root [] t → CanTake p.old.pool slot root t
+            → Rising (side (O.order order.now) p.old.pool slot) (nodes t) → nodes t ≡ xs ++ node ∷ ys
+            → IsWalk result p.old.pool levels (node ∷ beyond direction xs ys) }
         ensures pool { p.new.pool ≡ p.old.pool }
         ensures reads { (t : Shape) → IsRooted p.old.pool slot root t → p.new.reads ≤ p.old.reads + height t }
         ensures steps { (t : Shape) → IsRooted p.old.pool slot root t → steps.new.count ≤ steps.old.count + height t }
@@ -158,7 +162,8 @@ fn go_down<T>(
     requires slot { slot < p.old.pool.slots }
     requires way { (levels : ℕ) × (xs : List Pending) × (t : Shape) × Enters p.old.pool slot direction levels path.old.items at xs t }
     ensures way { (levels : ℕ) (xs : List Pending) (t : Shape) → Enters p.old.pool slot direction levels path.old.items at xs t
-        → (ys : List Pending) × Goes p.old.pool slot direction levels path.new.items ys × (ahead direction ys ≡ onward direction (nodes t) ++ ahead direction xs) }
+        → (ys : List Pending) × Goes p.old.pool slot direction levels path.new.items ys
+        × (ahead direction ys ≡ onward direction (nodes t) ++ ahead direction xs) }
     ensures pool { p.new.pool ≡ p.old.pool }
     ensures reads { p.new.reads + length path.old.items ≡ p.old.reads + length path.new.items }
 {
@@ -217,11 +222,14 @@ fn find_down<T, O: NodeOrder<T>>(
 )
     requires slot { slot < p.old.pool.slots }
     requires tag { tag ≡ (link_of p.old.pool node.name slot).tag }
-    requires way { (levels : ℕ) × (xs : List Pending) × (t : Shape) × (vs : List Ref) × (ws : List Ref) × Enters p.old.pool slot direction levels path.old.items at xs t × CanTake p.old.pool slot at t
+    requires way { (levels : ℕ) × (xs : List Pending) × (t : Shape) × (vs : List Ref) × (ws : List Ref)
+        × Enters p.old.pool slot direction levels path.old.items at xs t × CanTake p.old.pool slot at t
         × Rising (side (O.order order.now) p.old.pool slot) (nodes t) × AreTagged (O.tag_of order.now) p.old.pool slot (nodes t) × (nodes t ≡ vs ++ node ∷ ws) }
-    ensures way { (levels : ℕ) (xs : List Pending) (t : Shape) (vs : List Ref) (ws : List Ref) → Enters p.old.pool slot direction levels path.old.items at xs t → CanTake p.old.pool slot at t
+    ensures way { (levels : ℕ) (xs : List Pending) (t : Shape) (vs : List Ref) (ws : List Ref)
+        → Enters p.old.pool slot direction levels path.old.items at xs t → CanTake p.old.pool slot at t
         → Rising (side (O.order order.now) p.old.pool slot) (nodes t) → nodes t ≡ vs ++ node ∷ ws
-        → (ys : List Pending) × Goes p.old.pool slot direction levels path.new.items ys × (ahead direction ys ≡ node ∷ (beyond direction vs ws ++ ahead direction xs)) }
+        → (ys : List Pending) × Goes p.old.pool slot direction levels path.new.items ys
+        × (ahead direction ys ≡ node ∷ (beyond direction vs ws ++ ahead direction xs)) }
     ensures pool { p.new.pool ≡ p.old.pool }
     ensures reads { (t : Shape) → IsRooted p.old.pool slot at t → p.new.reads ≤ p.old.reads + height t }
     ensures steps { (t : Shape) → IsRooted p.old.pool slot at t → steps.new.count ≤ steps.old.count + height t }

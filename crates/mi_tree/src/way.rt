@@ -81,11 +81,14 @@ pub(crate) fn go_to<T, O: NodeOrder<T>>(
 )
     requires slot { slot < p.old.slots }
     requires tag { tag ≡ (link_of p.old node.name slot).tag }
-    requires way { (fs : List Frame) × (t : Shape) × (xs : List Ref) × (ys : List Ref) × (vs : List Ref) × (ws : List Ref) × Sinks p.old slot way.old.items at fs t xs node ys vs ws
+    requires way { (fs : List Frame) × (t : Shape) × (xs : List Ref) × (ys : List Ref)
+        × (vs : List Ref) × (ws : List Ref) × Sinks p.old slot way.old.items at fs t xs node ys vs ws
         × Rising (side (O.order order.now) p.old slot) (nodes t) × AreTagged (O.tag_of order.now) p.old slot (nodes t) }
     ensures slots { p.new.slots ≡ p.old.slots }
-    ensures way { (fs : List Frame) (t : Shape) (xs : List Ref) (ys : List Ref) (vs : List Ref) (ws : List Ref) → Sinks p.old slot way.old.items at fs t xs node ys vs ws
-        → Rising (side (O.order order.now) p.old slot) (nodes t) → (gs : List Frame) × (A : Shape) × (B : Shape) × HasSunk p.old p.new slot way.new.items xs node ys vs ws (plug fs t) gs A B }
+    ensures way { (fs : List Frame) (t : Shape) (xs : List Ref) (ys : List Ref) (vs : List Ref) (ws : List Ref)
+        → Sinks p.old slot way.old.items at fs t xs node ys vs ws
+        → Rising (side (O.order order.now) p.old slot) (nodes t)
+        → (gs : List Frame) × (A : Shape) × (B : Shape) × HasSunk p.old p.new slot way.new.items xs node ys vs ws (plug fs t) gs A B }
 {
     let Some(here) = at else { unreachable!() };
     let seen = p.link(here, slot);
@@ -112,9 +115,11 @@ pub(crate) fn go_to<T, O: NodeOrder<T>>(
 /// less: the first node is about to leave. That node.
 pub(crate) fn go_first<T>(p: &mut Pool<T>, slot: usize, at: NodeRef, way: &mut Way) -> NodeRef
     requires slot { slot < p.old.slots }
-    requires way { (fs : List Frame) × (t : Shape) × (x : Ref) × (ys : List Ref) × (vs : List Ref) × (ws : List Ref) × Sinks p.old slot way.old.items (Some at) fs t [] x ys vs ws }
+    requires way { (fs : List Frame) × (t : Shape) × (x : Ref) × (ys : List Ref) × (vs : List Ref)
+        × (ws : List Ref) × Sinks p.old slot way.old.items (Some at) fs t [] x ys vs ws }
     ensures slots { p.new.slots ≡ p.old.slots }
-    ensures way { (fs : List Frame) (t : Shape) (x : Ref) (ys : List Ref) (vs : List Ref) (ws : List Ref) → Sinks p.old slot way.old.items (Some at) fs t [] x ys vs ws
+    ensures way { (fs : List Frame) (t : Shape) (x : Ref) (ys : List Ref) (vs : List Ref) (ws : List Ref)
+        → Sinks p.old slot way.old.items (Some at) fs t [] x ys vs ws
         → (result ≡ x) × (gs : List Frame) × (B : Shape) × HasSunk p.old p.new slot way.new.items [] x ys vs ws (plug fs t) gs Tip B }
 {
     let link = p.link(at, slot);

@@ -12,11 +12,13 @@ use Rattle.mi_value.specs.Order.{compare_value, compare_missing, directed, compa
 use Rattle.mi_value.specs.declared.compare.KeyPart.{KeyPart}
 use Rattle.mi_value.specs.Hash.{after_if, after_values, key_values, values_hash, EqualKeysHaveEqualHashes, KeysHaveTheirRecordsHash}
 
-pub one_part : (state : DefaultHasher) (p : KeyPart) (ps : List KeyPart) (r : List Value) → after_values state (key_values (p ∷ ps) r) ≡ after_values (after_if state (slice_get r p.column)) (key_values ps r)
-one_part state p ps r = elim (slice_get r p.column) as (λ o. after_values state (cons_option o (key_values ps r)) ≡ after_values (after_if state o) (key_values ps r)) [
-  | None ↦ refl
-  | Some v ↦ refl
-]
+pub one_part : (state : DefaultHasher) (p : KeyPart) (ps : List KeyPart) (r : List Value)
+    → after_values state (key_values (p ∷ ps) r) ≡ after_values (after_if state (slice_get r p.column)) (key_values ps r)
+one_part state p ps r = elim (slice_get r p.column)
+    as (λ o. after_values state (cons_option o (key_values ps r)) ≡ after_values (after_if state o) (key_values ps r)) [
+      | None ↦ refl
+      | Some v ↦ refl
+    ]
 
 reversed_equal : (o : Ordering) → ordering_reverse o ≡ Equal → o ≡ Equal
 reversed_equal Less h = absurd (cc)
@@ -56,11 +58,12 @@ then_equal Equal b h = (refl, h)
 then_equal Greater b h = absurd (cc)
 
 -- records of one key have the same values there
-pub equal_keys : (ps : List KeyPart) (r s : List Value) → compare_key ps r s ≡ Equal → key_values ps r ≡ key_values ps s
+equal_keys : (ps : List KeyPart) (r s : List Value) → compare_key ps r s ≡ Equal → key_values ps r ≡ key_values ps s
 equal_keys [] r s h = refl
 equal_keys (p ∷ ps) r s h =
     let both = then_equal (compare_part p r s) (compare_key ps r s) h in
-    let here : slice_get r p.column ≡ slice_get s p.column = missing_equal (slice_get r p.column) (slice_get s p.column) (directed_equal p.descending (compare_missing (slice_get r p.column) (slice_get s p.column)) both.0) in
+    let here : slice_get r p.column ≡ slice_get s p.column = missing_equal (slice_get r p.column) (slice_get s p.column)
+    (directed_equal p.descending (compare_missing (slice_get r p.column) (slice_get s p.column)) both.0) in
     λ i. cons_option (here i) (equal_keys ps r s both.1 i)
 
 -- and so one hash
@@ -74,7 +77,8 @@ whole_key [] (v ∷ key) r long h = absurd (cc)
 whole_key (p ∷ ps) [] r long h = absurd (omega arith)
 whole_key (p ∷ ps) (v ∷ key) r long h =
     let both : (compare_to_part p v r ≡ Equal) × (compare_prefix ps key r ≡ Equal) = then_equal (compare_to_part p v r) (compare_prefix ps key r) h in
-    let here : Some v ≡ slice_get r p.column = missing_equal (Some v) (slice_get r p.column) (directed_equal p.descending (compare_missing (Some v) (slice_get r p.column)) both.0) in
+    let here : Some v ≡ slice_get r p.column = missing_equal (Some v) (slice_get r p.column)
+    (directed_equal p.descending (compare_missing (Some v) (slice_get r p.column)) both.0) in
     λ i. cons_option (here i) (whole_key ps key r (omega arith) both.1 i)
 
 pub key_hashes : KeysHaveTheirRecordsHash

@@ -52,10 +52,11 @@ in_turn_is (Flag b) (Flag c) = refl
 same_total : {K : Type 0} (R S : K → K → Ordering) → ((x y : K) → R x y ≡ S x y) → IsTotalOrder R → IsTotalOrder S
 same_total R S same o = subst IsTotalOrder (λ i x y. same x y i) o
 
-pub compare_value_total : IsTotalOrder compare_value
+compare_value_total : IsTotalOrder compare_value
 compare_value_total =
     same_total in_turn compare_value in_turn_is
-    (then_total (on_total type_number nat_cmp_total) (then_total (on_total int_of int_cmp_total) (then_total (on_total text_of nat_list_cmp_total) (on_total flag_of bool_cmp_total))))
+    (then_total (on_total type_number nat_cmp_total)
+    (then_total (on_total int_of int_cmp_total) (then_total (on_total text_of nat_list_cmp_total) (on_total flag_of bool_cmp_total))))
 
 -- values that may be missing, in either direction
 pub directed_total : (descending : Bool) → IsTotalOrder (λ a b. directed descending (compare_missing a b))
@@ -64,7 +65,7 @@ directed_total true =
     let up : IsTotalOrder compare_missing = options_total compare_value_total in
     same_total (flip_args compare_missing) (λ a b. ordering_reverse (compare_missing a b)) (λ a b. up.antisymm b a) (back_total up)
 
-pub compare_part_total : (p : KeyPart) → IsTotalOrder (compare_part p)
+compare_part_total : (p : KeyPart) → IsTotalOrder (compare_part p)
 compare_part_total p = on_total (λ (r : List Value). slice_get r p.column) (directed_total p.descending)
 
 equal_total : {K : Type 0} → IsTotalOrder (λ (x y : K). Equal)
@@ -85,5 +86,6 @@ prefix_alike ps [] r s same = refl
 prefix_alike [] (v ∷ vs) r s same = refl
 prefix_alike (p ∷ ps) (v ∷ vs) r s same =
     let parts : (compare_part p r s ≡ Equal) × (compare_key ps r s ≡ Equal) = both_equal (compare_part p r s) (compare_key ps r s) same in
-    ap (λ o. ordering_then o (compare_prefix ps vs r)) (alike_right (directed_total p.descending) (slice_get r p.column) (slice_get s p.column) (Some v) parts.0)
+    ap (λ o. ordering_then o (compare_prefix ps vs r))
+    (alike_right (directed_total p.descending) (slice_get r p.column) (slice_get s p.column) (Some v) parts.0)
     ∙ ap (ordering_then (compare_to_part p v s)) (prefix_alike ps vs r s parts.1)

@@ -1,7 +1,8 @@
 -- The word of each refusal, as replies carry it.
 use Rattle.std.specs.Prelude.{ℕ, List, codes}
 use Rattle.mi_value.specs.declared.refusal.Refusal.{Refusal}
-use Rattle.mi_value.specs.declared.refusal.Refusal.TheVariants.{Line, Json, Form, Busy, NoTable, Index, Kind, Row, Key, NoId, Range, Full, Spent, Unique, Lost, Depth, Session, Memory}
+use Rattle.mi_value.specs.declared.refusal.Refusal.TheVariants.{Line, Json, Form, Busy, NoTable, Index, Kind, Row, Key, NoId}
+use Rattle.mi_value.specs.declared.refusal.Refusal.TheVariants.{Range, Full, Spent, Unique, Lost, Depth, Session, Memory}
 
 -- a record that a unique index refuses has one word, whether its row was erased or not
 abbrev pub word_of : Refusal → List ℕ

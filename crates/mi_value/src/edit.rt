@@ -1,5 +1,5 @@
 //! Edits: what a modify does to the columns of one record.
-ghost use Rattle.std.specs.Prelude.{◌≡◌, ◌⊎◌, Some, None, Ok, Err, IfOk, IfErr, OnOk, slice_get};
+ghost use Rattle.std.specs.Prelude.{◌≡◌, ◌⊎◌, Some, None, Err, IfOk, IfErr, OnOk, slice_get};
 ghost use Rattle.mi_value.specs.Edits as meaning;
 
 use crate::refusal::Refusal;

@@ -1,5 +1,5 @@
 //! Rows by calls of a database, without lines: nested sessions on both forms, and a block that was reserved for.
-ghost use Rattle.std.specs.Prelude.{◌≡◌, IsTrue, [], ◌∷◌, pos};
+ghost use Rattle.std.specs.Prelude.{IsTrue, [], ◌∷◌, pos};
 ghost use Rattle.mi_value.specs.declared.edit.Edit.TheVariants.{Add};
 ghost use Rattle.mi_catalog.specs.Fitting.{HasTable, EditsFit};
 

@@ -1,5 +1,5 @@
 //! Nodes of one key: who comes first and next, when one leaves and comes back, and after room was made.
-ghost use Rattle.std.specs.Prelude.{◌≡◌, ◌==◌, ◌<◌, false, List as Seq, [], ◌∷◌};
+ghost use Rattle.std.specs.Prelude.{◌≡◌, ◌==◌, false, List as Seq, [], ◌∷◌};
 ghost use Rattle.mi_node.specs.Pool.{IsHeld};
 ghost use Rattle.mi_node.specs.Refs.{Ref};
 ghost use Rattle.mi_chain.specs.Chained.{AreChained};

@@ -1,15 +1,15 @@
 //! A container with the inverses of its changes, which are taken back or settled. Each call asks at run time what the container's own
 //! call wants of its arguments.
-ghost use Rattle.std.specs.Prelude.{◌≡◌, [], ◌∷◌, IsTrue, IfOk, IfSome};
-ghost use Rattle.mi_value.specs.declared.edit.Edit.TheVariants.{Add};
+ghost use Rattle.std.specs.Prelude.{◌≡◌, IsTrue, IfOk, IfSome};
 ghost use Rattle.mi_model.specs.Table.{has as has_row};
 ghost use Rattle.mi_container.specs.Asked.{IsKeyed, IsHashed, IsSorted, IsSequenced, ShowsOneList, RecordFits, EditsFit, WholeKey, KeyPrefix};
 ghost use Rattle.mi_container.specs.Data.{table_of};
 ghost use Rattle.mi_changes.specs.Undone.{Holds};
 
+use super::fitting::fits_edits;
 use mi_catalog::Schema;
 use mi_container::{Container, Inverse};
-use mi_value::{ColumnType, Edit, Record, Refusal, Steps, Value};
+use mi_value::{Edit, Record, Refusal, Steps, Value};
 use std::alloc::{AllocError, Global};
 use std::collections::VecDeque;
 use std::process::Abort;
@@ -43,16 +43,12 @@ impl<C: Container> Undoable<C> {
         self.schema.fits_record(row)
     }
 
-    /// Whether a column has numbers, to which one can be added.
-    fn has_sums(&self, column: usize, n: i64) -> bool
+    /// Whether edits do.
+    fn fits_edits(&self, edits: &[Edit]) -> bool
         requires { Holds self.now.schema (C.shape self.now.rows) (C.plain self.now.rows) self.now.inverses.items }
-        ensures { IsTrue result → EditsFit (C.shape self.now.rows) (Add column n ∷ []) }
+        ensures { IsTrue result → EditsFit (C.shape self.now.rows) edits.now }
     {
-        let _ = n;
-        match self.schema.columns().get(column) {
-            Some(column) => column.kind == ColumnType::Int,
-            None => false,
-        }
+        fits_edits(self.schema.columns(), edits)
     }
 
     /// Whether an index is there and has keys.
@@ -170,7 +166,35 @@ impl<C: Container> Undoable<C> {
         }
     }
 
-    /// Adds a number to a column; where that loses the record its refusal is `Lost`.
+    /// Changes columns of a record; where that loses the record its refusal is `Lost`.
+    pub(super) fn modify(
+        &mut self,
+        rt: &impl Abort,
+        alloc: Global,
+        id: u64,
+        edits: &[Edit],
+        rollback: bool,
+    ) -> Result<(), Refusal>
+        requires { Holds self.old.schema (C.shape self.old.rows) (C.plain self.old.rows) self.old.inverses.items }
+        ensures { Holds self.new.schema (C.shape self.new.rows) (C.plain self.new.rows) self.new.inverses.items }
+    {
+        self.inverses.reserve(1)?;
+        self.rows.keeps_rules();
+        assert!(rt; self.fits_edits(edits));
+        match self.rows.modify(alloc, id, edits, rollback) {
+            Ok(inverse) => {
+                let lost = inverse.lost();
+                self.inverses.push_back_reserved(inverse);
+                match lost {
+                    Some((index, id)) => Err(Refusal::Lost { index, id }),
+                    None => Ok(()),
+                }
+            }
+            Err(refusal) => Err(refusal),
+        }
+    }
+
+    /// Adds a number to a column.
     pub(super) fn add(
         &mut self,
         rt: &impl Abort,
@@ -183,23 +207,7 @@ impl<C: Container> Undoable<C> {
         requires { Holds self.old.schema (C.shape self.old.rows) (C.plain self.old.rows) self.old.inverses.items }
         ensures { Holds self.new.schema (C.shape self.new.rows) (C.plain self.new.rows) self.new.inverses.items }
     {
-        self.inverses.reserve(1)?;
-        self.rows.keeps_rules();
-        assert!(rt; self.has_sums(column, n));
-        match self
-            .rows
-            .modify(alloc, id, &[Edit::Add(column, n)], rollback)
-        {
-            Ok(inverse) => {
-                let lost = inverse.lost();
-                self.inverses.push_back_reserved(inverse);
-                match lost {
-                    Some((index, id)) => Err(Refusal::Lost { index, id }),
-                    None => Ok(()),
-                }
-            }
-            Err(refusal) => Err(refusal),
-        }
+        self.modify(rt, alloc, id, &[Edit::Add(column, n)], rollback)
     }
 
     /// Erases a record.
@@ -253,6 +261,11 @@ impl<C: Container> Undoable<C> {
             }
             None => false,
         }
+    }
+
+    /// How many changes can be taken back or settled.
+    pub(super) fn depth(&self) -> u64 {
+        self.inverses.len() as u64
     }
 
     /// Settles the oldest change, and tells whether there was one.

@@ -1,6 +1,6 @@
 //! Which lines are commands over the schema of accounts, and the word by which the others are refused.
 use mi_catalog::{Catalog, built_in};
-use mi_protocol::{Command, bind, parse_line};
+use mi_protocol::{Command, LineReader, bind};
 use mi_value::Refusal;
 use std::alloc::Global;
 use std::test::Fail;
@@ -121,7 +121,8 @@ form {"cmd":"size","table":0}
 "#;
 
 fn command_of(alloc: Global, line: &[u8], catalog: &Catalog) -> Result<Command, Refusal> {
-    bind(alloc, parse_line(alloc, line)?, catalog)
+    let mut lines = LineReader::new(alloc);
+    bind(alloc, lines.parse(line)?, catalog)
 }
 
 /// The refusal's word, or `ok`.

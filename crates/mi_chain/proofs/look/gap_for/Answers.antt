@@ -10,27 +10,34 @@ link-at-requires-clause-held g c = let w = c.requires.group in first_is_held c.a
 
 pub loop-at-init : goal.loop-at-init
 loop-at-init g c q f h a e = let v = c.args in
-    subst (λ (l : Link). Gapped (stamp_at v.p.now v.slot) v.stamp q l.back None) (sym c.link-at.ensures) (gap_start v.p.now v.slot v.first q f h a e (stamp_at v.p.now v.slot) v.stamp)
+    subst (λ (l : Link). Gapped (stamp_at v.p.now v.slot) v.stamp q l.back None) (sym c.link-at.ensures)
+    (gap_start v.p.now v.slot v.first q f h a e (stamp_at v.p.now v.slot) v.stamp)
 
 pub link-link-requires-clause-held : goal.link-link-requires-clause-held
 link-link-requires-clause-held g c = let v = c.args in let w = c.requires.group in
-    gap_held v.p.now v.slot v.first w.0 w.1 w.2 w.3 w.4 (stamp_at v.p.now v.slot) v.stamp c.loop-at.at c.loop-at.next c.in-Some.prev (c.loop-at.invariant w.0 w.1 w.2 w.3 w.4) c.in-Some.is
+    gap_held v.p.now v.slot v.first w.0 w.1 w.2 w.3 w.4 (stamp_at v.p.now v.slot) v.stamp c.loop-at.at
+    c.loop-at.next c.in-Some.prev (c.loop-at.invariant w.0 w.1 w.2 w.3 w.4) c.in-Some.is
 
 pub loop-at-smaller : goal.loop-at-smaller
 loop-at-smaller g c = let v = c.args in let w = c.requires.group in
     let step = c.before-at.ensures ∙ ap (λ (l : Link). prev_in v.first c.in-Some.prev l.back) c.link-link.ensures in
-    rw step (gap_less v.p.now v.slot v.first w.0 w.1 w.2 w.3 w.4 (stamp_at v.p.now v.slot) v.stamp c.loop-at.at c.loop-at.next c.in-Some.prev (c.loop-at.invariant w.0 w.1 w.2 w.3 w.4) c.in-Some.is)
+    rw step (gap_less v.p.now v.slot v.first w.0 w.1 w.2 w.3 w.4 (stamp_at v.p.now v.slot) v.stamp
+    c.loop-at.at c.loop-at.next c.in-Some.prev (c.loop-at.invariant w.0 w.1 w.2 w.3 w.4) c.in-Some.is)
 
 pub loop-at-preserved : goal.loop-at-preserved
 loop-at-preserved g c q f h a e = let v = c.args in
     let step = c.before-at.ensures ∙ ap (λ (l : Link). prev_in v.first c.in-Some.prev l.back) c.link-link.ensures in
     let le : v.stamp ≤ c.link-link.result.tag.stamp = c.if-link-stamp.false in
-    rw step (gap_step v.p.now v.slot v.first q f h a e (stamp_at v.p.now v.slot) v.stamp c.loop-at.at c.loop-at.next c.in-Some.prev (c.loop-at.invariant q f h a e) c.in-Some.is (subst (λ (l : Link). v.stamp ≤ l.tag.stamp) c.link-link.ensures le))
+    rw step (gap_step v.p.now v.slot v.first q f h a e (stamp_at v.p.now v.slot) v.stamp c.loop-at.at c.loop-at.next c.in-Some.prev
+    (c.loop-at.invariant q f h a e) c.in-Some.is (subst (λ (l : Link). v.stamp ≤ l.tag.stamp) c.link-link.ensures le))
 
 pub returns-then-link-stamp : goal.returns-then-link-stamp
 returns-then-link-stamp g c q f h a e = let v = c.args in
     let less : c.link-link.result.tag.stamp < v.stamp = c.if-link-stamp.true in
-    gap_found v.p.now v.slot v.first q f h a e (stamp_at v.p.now v.slot) v.stamp c.loop-at.at c.loop-at.next c.in-Some.prev (c.loop-at.invariant q f h a e) c.in-Some.is (subst (λ (l : Link). l.tag.stamp < v.stamp) c.link-link.ensures less)
+    gap_found v.p.now v.slot v.first q f h a e (stamp_at v.p.now v.slot) v.stamp c.loop-at.at c.loop-at.next c.in-Some.prev
+    (c.loop-at.invariant q f h a e) c.in-Some.is (subst (λ (l : Link). l.tag.stamp < v.stamp) c.link-link.ensures less)
 
 pub returns : goal.returns
-returns g c q f h a e = let v = c.args in gap_end v.p.now v.slot v.first q f h a e (stamp_at v.p.now v.slot) v.stamp c.loop-at.at c.loop-at.next (c.loop-at.invariant q f h a e) c.in_default.is
+returns g c q f h a e =
+    let v = c.args in
+    gap_end v.p.now v.slot v.first q f h a e (stamp_at v.p.now v.slot) v.stamp c.loop-at.at c.loop-at.next (c.loop-at.invariant q f h a e) c.in_default.is

@@ -9,7 +9,8 @@ use Rattle.mi_chain.proofs.Walks.{Gapped, step_back}
 use Rattle.mi_chain.proofs.look.gap_for.Given as goal
 
 abbrev pub invariant-loop-at : goal.invariant-loop-at
-invariant-loop-at g l = (group : Seq Ref) (f : Option Ref) → IsLinked l.p l.slot (last_of None group) group f → IsApart group → first_of group None ≡ Some l.first
+invariant-loop-at g l = (group : Seq Ref) (f : Option Ref)
+    → IsLinked l.p l.slot (last_of None group) group f → IsApart group → first_of group None ≡ Some l.first
     → Gapped (stamp_at l.p l.slot) l.stamp group l.at l.next
 
 abbrev pub decreases-loop-at : goal.decreases-loop-at

@@ -11,21 +11,25 @@ loop-at-init g c gs h = walk_start c.args.p.now c.args.slot c.args.head gs h (en
 
 pub link-last-requires-clause-held : goal.link-last-requires-clause-held
 link-last-requires-clause-held g c = let v = c.args in let ch = c.requires in
-    (walk_held v.p.now v.slot v.head ch.chain.0 ch.chain.1 (ends_with v.p.now v.slot v.end.name) c.loop-at.before c.loop-at.at c.in-Some.first (c.loop-at.invariant ch.chain.0 ch.chain.1) c.in-Some.is).0
+    (walk_held v.p.now v.slot v.head ch.chain.0 ch.chain.1 (ends_with v.p.now v.slot v.end.name) c.loop-at.before
+    c.loop-at.at c.in-Some.first (c.loop-at.invariant ch.chain.0 ch.chain.1) c.in-Some.is).0
 
 pub after-at-requires-clause-held : goal.after-at-requires-clause-held
 after-at-requires-clause-held g c = let v = c.args in let ch = c.requires in
     subst (λ (l : Link). IsHeldIf v.p.now l.back) (sym c.link-last.ensures)
-    (walk_held v.p.now v.slot v.head ch.chain.0 ch.chain.1 (ends_with v.p.now v.slot v.end.name) c.loop-at.before c.loop-at.at c.in-Some.first (c.loop-at.invariant ch.chain.0 ch.chain.1) c.in-Some.is).1
+    (walk_held v.p.now v.slot v.head ch.chain.0 ch.chain.1 (ends_with v.p.now v.slot v.end.name) c.loop-at.before
+    c.loop-at.at c.in-Some.first (c.loop-at.invariant ch.chain.0 ch.chain.1) c.in-Some.is).1
 
 pub returns-then-is_node : goal.returns-then-is_node
 returns-then-is_node g c gs h = let v = c.args in
-    walk_found v.p.now v.slot v.head gs h (ends_with v.p.now v.slot v.end.name) c.loop-at.before c.loop-at.at c.in-Some.first (c.loop-at.invariant gs h) c.in-Some.is
+    walk_found v.p.now v.slot v.head gs h (ends_with v.p.now v.slot v.end.name) c.loop-at.before
+    c.loop-at.at c.in-Some.first (c.loop-at.invariant gs h) c.in-Some.is
     (ap (λ (l : Link). is_named v.end.name l.back) (sym c.link-last.ensures) ∙ sym c.is_node.ensures ∙ c.if-is_node.true)
 
 pub loop-at-smaller : goal.loop-at-smaller
 loop-at-smaller g c = let v = c.args in let ch = c.requires in
-    let less = walk_less v.p.now v.slot v.head ch.chain.0 ch.chain.1 (ends_with v.p.now v.slot v.end.name) c.loop-at.before c.loop-at.at c.in-Some.first (c.loop-at.invariant ch.chain.0 ch.chain.1) c.in-Some.is in
+    let less = walk_less v.p.now v.slot v.head ch.chain.0 ch.chain.1 (ends_with v.p.now v.slot v.end.name)
+    c.loop-at.before c.loop-at.at c.in-Some.first (c.loop-at.invariant ch.chain.0 ch.chain.1) c.in-Some.is in
     let next = c.after-at.ensures ∙ ap (λ (l : Link). forth_of v.p.now v.slot l.back) c.link-last.ensures in
     rw next less
 
@@ -33,7 +37,8 @@ pub loop-at-preserved : goal.loop-at-preserved
 loop-at-preserved g c gs h = let v = c.args in
     let back = ap (λ (l : Link). l.back) c.link-last.ensures in
     let next = c.after-at.ensures ∙ ap (λ (l : Link). forth_of v.p.now v.slot l.back) c.link-last.ensures in
-    rw (next, back) (walk_step v.p.now v.slot v.head gs h (ends_with v.p.now v.slot v.end.name) c.loop-at.before c.loop-at.at c.in-Some.first (c.loop-at.invariant gs h) c.in-Some.is
+    rw (next, back) (walk_step v.p.now v.slot v.head gs h (ends_with v.p.now v.slot v.end.name)
+    c.loop-at.before c.loop-at.at c.in-Some.first (c.loop-at.invariant gs h) c.in-Some.is
     (ap (λ (l : Link). is_named v.end.name l.back) (sym c.link-last.ensures) ∙ sym c.is_node.ensures ∙ c.if-is_node.false))
 
 pub returns : goal.returns

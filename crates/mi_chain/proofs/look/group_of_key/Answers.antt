@@ -12,37 +12,51 @@ loop-at-init g c gs h = (None, walk_start c.args.p.now c.args.slot c.args.head g
 
 pub is_of_key-requires-clause-first : goal.is_of_key-requires-clause-first
 is_of_key-requires-clause-first g c = let v = c.args in let ch = c.requires.chain in
-    (walk_held v.p.now v.slot v.head ch.0 ch.1 (has_key (g.H.KeyHash.keying v.keys.now) v.p.now v.key) (c.loop-at.invariant ch.0 ch.1).0 c.loop-at.at c.in-Some.first (c.loop-at.invariant ch.0 ch.1).1 c.in-Some.is).0
+    (walk_held v.p.now v.slot v.head ch.0 ch.1 (has_key (g.H.KeyHash.keying v.keys.now) v.p.now v.key)
+    (c.loop-at.invariant ch.0 ch.1).0 c.loop-at.at c.in-Some.first (c.loop-at.invariant ch.0 ch.1).1 c.in-Some.is).0
 
 pub is_of_key-requires-clause-tag : goal.is_of_key-requires-clause-tag
 is_of_key-requires-clause-tag g c = let v = c.args in let ch = c.requires.chain in
-    walk_tag (hash_node (g.H.KeyHash.keying v.keys.now) v.p.now) v.p.now v.slot v.head ch.0 ch.1 (has_key (g.H.KeyHash.keying v.keys.now) v.p.now v.key) (c.loop-at.invariant ch.0 ch.1).0 c.loop-at.at c.in-Some.first (c.loop-at.invariant ch.0 ch.1).1 c.in-Some.is ch.2
+    walk_tag (hash_node (g.H.KeyHash.keying v.keys.now) v.p.now) v.p.now v.slot v.head ch.0 ch.1 (has_key (g.H.KeyHash.keying v.keys.now) v.p.now v.key)
+    (c.loop-at.invariant ch.0 ch.1).0 c.loop-at.at c.in-Some.first (c.loop-at.invariant ch.0 ch.1).1 c.in-Some.is ch.2
 
 pub returns-then-is_of_key : goal.returns-then-is_of_key
-returns-then-is_of_key g c gs h t = let v = c.args in let k = g.H.KeyHash.keying v.keys.now in
-    ((c.loop-at.invariant gs h).0, walk_found v.p.now v.slot v.head gs h (has_key k v.p.now v.key) (c.loop-at.invariant gs h).0 c.loop-at.at c.in-Some.first (c.loop-at.invariant gs h).1 c.in-Some.is (sym c.is_of_key.ensures ∙ c.if-is_of_key.true))
+returns-then-is_of_key g c gs h t = let v = c.args in let k = g.H.KeyHash.keying v.keys.now in (
+  (c.loop-at.invariant gs h).0,
+  walk_found v.p.now v.slot v.head gs h (has_key k v.p.now v.key) (c.loop-at.invariant gs h).0 c.loop-at.at
+      c.in-Some.first (c.loop-at.invariant gs h).1 c.in-Some.is (sym c.is_of_key.ensures ∙ c.if-is_of_key.true),
+)
 
 pub link-last-requires-clause-held : goal.link-last-requires-clause-held
 link-last-requires-clause-held g c = let v = c.args in let ch = c.requires.chain in
-    (walk_held v.p.now v.slot v.head ch.0 ch.1 (has_key (g.H.KeyHash.keying v.keys.now) v.p.now v.key) (c.loop-at.invariant ch.0 ch.1).0 c.loop-at.at c.in-Some.first (c.loop-at.invariant ch.0 ch.1).1 c.in-Some.is).0
+    (walk_held v.p.now v.slot v.head ch.0 ch.1 (has_key (g.H.KeyHash.keying v.keys.now) v.p.now v.key)
+    (c.loop-at.invariant ch.0 ch.1).0 c.loop-at.at c.in-Some.first (c.loop-at.invariant ch.0 ch.1).1 c.in-Some.is).0
 
 pub after-at-requires-clause-held : goal.after-at-requires-clause-held
 after-at-requires-clause-held g c = let v = c.args in let ch = c.requires.chain in
     subst (λ (l : Link). IsHeldIf v.p.now l.back) (sym c.link-last.ensures)
-    (walk_held v.p.now v.slot v.head ch.0 ch.1 (has_key (g.H.KeyHash.keying v.keys.now) v.p.now v.key) (c.loop-at.invariant ch.0 ch.1).0 c.loop-at.at c.in-Some.first (c.loop-at.invariant ch.0 ch.1).1 c.in-Some.is).1
+    (walk_held v.p.now v.slot v.head ch.0 ch.1 (has_key (g.H.KeyHash.keying v.keys.now) v.p.now v.key)
+    (c.loop-at.invariant ch.0 ch.1).0 c.loop-at.at c.in-Some.first (c.loop-at.invariant ch.0 ch.1).1 c.in-Some.is).1
 
 pub loop-at-smaller : goal.loop-at-smaller
 loop-at-smaller g c = let v = c.args in let ch = c.requires.chain in
-    let less = walk_less v.p.now v.slot v.head ch.0 ch.1 (has_key (g.H.KeyHash.keying v.keys.now) v.p.now v.key) (c.loop-at.invariant ch.0 ch.1).0 c.loop-at.at c.in-Some.first (c.loop-at.invariant ch.0 ch.1).1 c.in-Some.is in
+    let less = walk_less v.p.now v.slot v.head ch.0 ch.1 (has_key (g.H.KeyHash.keying v.keys.now) v.p.now v.key)
+    (c.loop-at.invariant ch.0 ch.1).0 c.loop-at.at c.in-Some.first (c.loop-at.invariant ch.0 ch.1).1 c.in-Some.is in
     let next = c.after-at.ensures ∙ ap (λ (l : Link). forth_of v.p.now v.slot l.back) c.link-last.ensures in
     rw next less
 
 pub loop-at-preserved : goal.loop-at-preserved
 loop-at-preserved g c gs h = let v = c.args in let k = g.H.KeyHash.keying v.keys.now in
     let back = ap (λ (l : Link). l.back) c.link-last.ensures in
-    let next = c.after-at.ensures ∙ ap (λ (l : Link). forth_of v.p.now v.slot l.back) c.link-last.ensures in
-    (c.link-last.result.back, rw (next, back) (walk_step v.p.now v.slot v.head gs h (has_key k v.p.now v.key) (c.loop-at.invariant gs h).0 c.loop-at.at c.in-Some.first (c.loop-at.invariant gs h).1 c.in-Some.is (sym c.is_of_key.ensures ∙ c.if-is_of_key.false)))
+    let next = c.after-at.ensures ∙ ap (λ (l : Link). forth_of v.p.now v.slot l.back) c.link-last.ensures in (
+      c.link-last.result.back,
+      rw (next, back) (walk_step v.p.now v.slot v.head gs h (has_key k v.p.now v.key) (c.loop-at.invariant gs h).0 c.loop-at.at
+          c.in-Some.first (c.loop-at.invariant gs h).1 c.in-Some.is (sym c.is_of_key.ensures ∙ c.if-is_of_key.false)),
+    )
 
 pub returns : goal.returns
-returns g c gs h t = let v = c.args in
-    ((c.loop-at.invariant gs h).0, walk_end v.p.now v.slot v.head gs h (has_key (g.H.KeyHash.keying v.keys.now) v.p.now v.key) (c.loop-at.invariant gs h).0 c.loop-at.at (c.loop-at.invariant gs h).1 c.in_default.is)
+returns g c gs h t = let v = c.args in (
+  (c.loop-at.invariant gs h).0,
+  walk_end v.p.now v.slot v.head gs h (has_key (g.H.KeyHash.keying v.keys.now) v.p.now v.key)
+      (c.loop-at.invariant gs h).0 c.loop-at.at (c.loop-at.invariant gs h).1 c.in_default.is,
+)

@@ -9,7 +9,8 @@ use Rattle.mi_chain.specs.Keying.{has_key}
 use Rattle.mi_chain.proofs.look.group_of_key.Given as goal
 
 abbrev pub invariant-loop-at : goal.invariant-loop-at
-invariant-loop-at g l = (gs : Seq (Seq Ref)) → IsChain l.p l.slot l.fn.head gs → (before : Option Ref) × Walked (has_key (g.H.KeyHash.keying l.keys) l.p l.key) gs before l.at
+invariant-loop-at g l = (gs : Seq (Seq Ref)) → IsChain l.p l.slot l.fn.head gs
+    → (before : Option Ref) × Walked (has_key (g.H.KeyHash.keying l.keys) l.p l.key) gs before l.at
 
 abbrev pub decreases-loop-at : goal.decreases-loop-at
 decreases-loop-at g l = hops (next_group l.p l.slot) (node_count l.p) l.at

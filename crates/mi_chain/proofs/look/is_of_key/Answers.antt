@@ -12,4 +12,5 @@ returns-then-link-hash g c = let v = c.args in let m = v.p.now in let k = g.H.Ke
     sym (no_is_false (has_key k m v.key v.first) (λ e. c.if-link-hash.true (tag ∙ hash_of_probe k m w v.key v.first e ∙ sym c.requires.hash)))
 
 pub returns : goal.returns
-returns g c = let v = c.args in let k = g.H.KeyHash.keying v.keys.now in c.same_key.ensures ∙ sym (has_key_is k v.p.now v.key v.first c.value.result.now c.value.ensures)
+returns g c =
+    let v = c.args in let k = g.H.KeyHash.keying v.keys.now in c.same_key.ensures ∙ sym (has_key_is k v.p.now v.key v.first c.value.result.now c.value.ensures)

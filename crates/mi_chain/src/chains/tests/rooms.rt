@@ -1,6 +1,6 @@
 //! Seven nodes of four keys through growing rooms, and as two of one key leave and come back.
 //! They reach the chains through their contracts alone.
-ghost use Rattle.std.specs.Prelude.{◌≡◌, ◌<◌, ◌+◌, length, List as Seq, []};
+ghost use Rattle.std.specs.Prelude.{◌≡◌, ◌<◌, ◌+◌, List as Seq, []};
 ghost use Rattle.mi_node.specs.Refs.{Ref};
 ghost use Rattle.mi_chain.specs.Chained.{AreChained};
 ghost use Rattle.mi_chain.specs.Numbered.{number_keying, AreNumbered, IsPulled, AreSeenAlike};

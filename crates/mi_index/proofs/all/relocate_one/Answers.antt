@@ -15,7 +15,8 @@ returns-then-slot-index-clause-step c rs h j =
 pub returns-else-slot-index-clause-step : goal.returns-else-slot-index-clause-step
 returns-else-slot-index-clause-step c rs h j =
     let x = c.args.structure.now in let m = c.args.p.now in let r = c.args.node in let b = c.args.before in
-    let no_ : (c.args.slot == c.args.index) ≡ false = elim (eqb_tells c.args.slot c.args.index) [ inl is ↦ absurd (c.if-slot-index.false is.1) | inr isnt ↦ isnt.0 ] in
+    let no_ : (c.args.slot == c.args.index) ≡ false = elim (eqb_tells c.args.slot c.args.index)
+    [ inl is ↦ absurd (c.if-slot-index.false is.1) | inr isnt ↦ isnt.0 ] in
     record {
       us = rs;
       done = subst (λ z. IsRelocatedIf z x m m r b rs rs) (sym no_) (record { list = refl; links = λ k. refl });

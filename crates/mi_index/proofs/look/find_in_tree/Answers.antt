@@ -10,4 +10,7 @@ pub find-requires : goal.find-requires
 find-requires c = let t = c.args.tree.now in let q = c.requires in (q.0, subst (λ z. Stands (Ordered t) z q.0) (sym c.new.ensures.pool) q.1)
 
 pub returns : goal.returns
-returns c rs h = let t = c.args.tree.now in c.find.ensures.node rs (subst (λ z. Stands (Ordered t) z rs) (sym c.new.ensures.pool) h) ∙ ap (λ z. first_where (is_node_at (λ v. place_in t.order.parts v c.args.probe) z) rs) c.new.ensures.pool
+returns c rs h =
+    let t = c.args.tree.now in
+    c.find.ensures.node rs (subst (λ z. Stands (Ordered t) z rs) (sym c.new.ensures.pool) h)
+    ∙ ap (λ z. first_where (is_node_at (λ v. place_in t.order.parts v c.args.probe) z) rs) c.new.ensures.pool

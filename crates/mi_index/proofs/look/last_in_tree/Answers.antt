@@ -8,7 +8,9 @@ use Rattle.mi_index.proofs.Looking.{last_nth}
 use Rattle.mi_index.proofs.look.last_in_tree.Goals as goal
 
 pub returns-then-len-eq0 : goal.returns-then-len-eq0
-returns-then-len-eq0 c rs h = let t = c.args.tree.now in last-none rs (sym (c.len-len.ensures (stored_order t.order.parts) (stored_tag t.order.types t.order.parts) rs h) ∙ c.if-len-eq0.true)
+returns-then-len-eq0 c rs h =
+    let t = c.args.tree.now in
+    last-none rs (sym (c.len-len.ensures (stored_order t.order.parts) (stored_tag t.order.types t.order.parts) rs h) ∙ c.if-len-eq0.true)
 
 pub returns : goal.returns
 returns c rs h =
@@ -16,4 +18,6 @@ returns c rs h =
     let long = c.len-len.ensures (stored_order t.order.parts) (stored_tag t.order.types t.order.parts) rs h in
     let some = c.if-len-eq0.false in
     let e : length rs ≡ suc (c.len-len.result - 1) = omega (arith, long, some) in
-    c.nth.ensures.node (stored_order t.order.parts) (stored_tag t.order.types t.order.parts) rs (subst (λ z. Stands (Ordered t) z rs) (sym c.new.ensures.pool) h) ∙ last_nth rs (c.len-len.result - 1) e
+    c.nth.ensures.node (stored_order t.order.parts) (stored_tag t.order.types t.order.parts) rs
+    (subst (λ z. Stands (Ordered t) z rs) (sym c.new.ensures.pool) h)
+    ∙ last_nth rs (c.len-len.result - 1) e

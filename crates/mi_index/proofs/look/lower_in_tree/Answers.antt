@@ -12,7 +12,11 @@ lower-requires c = let t = c.args.tree.now in let q = c.requires in (q.0, subst 
 pub returns-clause-node : goal.returns-clause-node
 returns-clause-node c rs h =
     let t = c.args.tree.now in
-    c.lower.ensures.node rs (subst (λ z. Stands (Ordered t) z rs) (sym c.new.ensures.pool) h) ∙ ap (λ z. first_where (is_past_node false (λ v. place_in t.order.parts v c.args.probe) z) rs) c.new.ensures.pool
+    c.lower.ensures.node rs (subst (λ z. Stands (Ordered t) z rs) (sym c.new.ensures.pool) h)
+    ∙ ap (λ z. first_where (is_past_node false (λ v. place_in t.order.parts v c.args.probe) z) rs) c.new.ensures.pool
 
 pub returns-clause-steps : goal.returns-clause-steps
-returns-clause-steps c rs h b l = let t = c.args.tree.now in c.lower.ensures.steps (stored_order t.order.parts) (stored_tag t.order.types t.order.parts) rs (subst (λ z. Stands (Ordered t) z rs) (sym c.new.ensures.pool) h) b l
+returns-clause-steps c rs h b l =
+    let t = c.args.tree.now in
+    c.lower.ensures.steps (stored_order t.order.parts) (stored_tag t.order.types t.order.parts)
+    rs (subst (λ z. Stands (Ordered t) z rs) (sym c.new.ensures.pool) h) b l

@@ -12,8 +12,12 @@ use Rattle.mi_index.proofs.structure.link_chains.Goals as goal
 pub insert-requires : goal.insert-requires
 insert-requires c =
     let d = c.args.chains.now in let m = c.args.p.now in let q = c.requires in let j = q.can in
-    let u = cut_at (stamp_at m d.slot) c.args.stamp q.rs q.stands.1 j.place in
-    (u.xs, u.ys, subst (AreChained d (keying_of d.keys) m) u.parts q.stands.0, chain_placed (keying_of d.keys) m d.slot c.args.node c.args.stamp q.rs u.xs u.ys j.held j.out j.few u.parts u.below u.above)
+    let u = cut_at (stamp_at m d.slot) c.args.stamp q.rs q.stands.1 j.place in (
+      u.xs,
+      u.ys,
+      subst (AreChained d (keying_of d.keys) m) u.parts q.stands.0,
+      chain_placed (keying_of d.keys) m d.slot c.args.node c.args.stamp q.rs u.xs u.ys j.held j.out j.few u.parts u.below u.above,
+    )
 
 pub returns-clause-step : goal.returns-clause-step
 returns-clause-step c rs h j =
@@ -33,6 +37,7 @@ returns-clause-step c rs h j =
           λ q f. e.tags q ∙ ap (λ z. cond z tag (link_of m q d.slot).tag) f,
         );
       };
-      stands = chains_with d c.insert.new.self m n r tag rs u.xs u.ys e.slot e.keys e.tags (same_refl r.name) j.out u.parts h.1 u.below u.above (e.list u.xs u.ys a b);
+      stands = chains_with d c.insert.new.self m n r tag rs u.xs u.ys e.slot e.keys e.tags
+          (same_refl r.name) j.out u.parts h.1 u.below u.above (e.list u.xs u.ys a b);
       keeps = subst (λ l. Keeps m n d.slot (r ∷ l)) (sym u.parts) (e.keeps u.xs u.ys a b);
     }

@@ -10,7 +10,8 @@ insert_before-requires-clause-held c = c.requires.can.held
 
 pub insert_before-requires-clause-place : goal.insert_before-requires-clause-place
 insert_before-requires-clause-place c =
-    let q = c.requires in let p = q.can.place in (p.0, p.1, subst (IsListed c.args.list.now c.args.p.now) p.2 q.stands, subst (IsOut c.args.node.name) p.2 q.can.out, p.3)
+    let q = c.requires in let p = q.can.place in
+    (p.0, p.1, subst (IsListed c.args.list.now c.args.p.now) p.2 q.stands, subst (IsOut c.args.node.name) p.2 q.can.out, p.3)
 
 pub returns-clause-step : goal.returns-clause-step
 returns-clause-step c rs h j =

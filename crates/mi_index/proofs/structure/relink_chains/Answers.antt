@@ -18,7 +18,12 @@ relink-requires c =
       p.xs,
       p.ys,
       subst (AreChained d k m) p.parts q.stands.0,
-      record { placed = chain_placed k m d.slot c.args.node c.args.place.stamp q.rs p.xs p.ys j.held j.out j.few p.parts p.below p.above; hash_is = c.hash_of-hash.ensures; back_is = p.beside.0; forth_is = p.beside.1 },
+      record {
+        placed = chain_placed k m d.slot c.args.node c.args.place.stamp q.rs p.xs p.ys j.held j.out j.few p.parts p.below p.above;
+        hash_is = c.hash_of-hash.ensures;
+        back_is = p.beside.0;
+        forth_is = p.beside.1;
+      },
     )
 
 pub returns-clause-step : goal.returns-clause-step
@@ -29,7 +34,12 @@ returns-clause-step c rs h j =
     let tag : Tag = record { key = c.hash_of-hash.result; stamp = c.args.place.stamp } in
     let l : Link = record { back = c.args.place.back; forth = c.args.place.forth; size = 0; height = 0; tag = tag } in
     let b : FitsBetween k m d.slot r l p.xs p.ys =
-    record { placed = chain_placed k m d.slot r c.args.place.stamp rs p.xs p.ys j.held j.out j.few p.parts p.below p.above; hash_is = c.hash_of-hash.ensures; back_is = p.beside.0; forth_is = p.beside.1 } in
+    record {
+      placed = chain_placed k m d.slot r c.args.place.stamp rs p.xs p.ys j.held j.out j.few p.parts p.below p.above;
+      hash_is = c.hash_of-hash.ensures;
+      back_is = p.beside.0;
+      forth_is = p.beside.1;
+    } in
     record {
       us = p.xs ++ r ∷ p.ys;
       done = record {
@@ -40,6 +50,7 @@ returns-clause-step c rs h j =
           λ q f. e.tags q ∙ ap (λ z. cond z tag (link_of m q d.slot).tag) f,
         );
       };
-      stands = chains_with d c.relink.new.self m n r tag rs p.xs p.ys e.slot e.keys e.tags (same_refl r.name) j.out p.parts h.1 p.below p.above (e.list p.xs p.ys a b);
+      stands = chains_with d c.relink.new.self m n r tag rs p.xs p.ys e.slot e.keys e.tags
+          (same_refl r.name) j.out p.parts h.1 p.below p.above (e.list p.xs p.ys a b);
       keeps = subst (λ l. Keeps m n d.slot (r ∷ l)) (sym p.parts) (e.keeps p.xs p.ys a b);
     }

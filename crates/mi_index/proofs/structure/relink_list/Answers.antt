@@ -36,5 +36,6 @@ returns-clause-step c rs h j =
       us = p.xs ++ r ∷ p.ys;
       done = record { back = record { xs = p.xs; ys = p.ys; was = p.parts; now = refl }; beside = p.beside; stamped = tt };
       stands = e.list p.xs p.ys f;
-      keeps = subst (λ k. Keeps m c.relink.new.p (slot_of l) (r ∷ k)) (sym p.parts) (keeps_more (slot_of l) m c.relink.new.p (p.xs ++ p.ys) (r ∷ (p.xs ++ p.ys)) (e.keeps p.xs p.ys f) (λ k o. o.1));
+      keeps = subst (λ k. Keeps m c.relink.new.p (slot_of l) (r ∷ k)) (sym p.parts)
+          (keeps_more (slot_of l) m c.relink.new.p (p.xs ++ p.ys) (r ∷ (p.xs ++ p.ys)) (e.keeps p.xs p.ys f) (λ k o. o.1));
     }

@@ -12,11 +12,16 @@ insert-requires c = let q = c.requires in let j = q.can in (q.rs, q.stands, reco
 pub returns-clause-step : goal.returns-clause-step
 returns-clause-step c rs h j =
     let t = c.args.tree.now in let n = c.insert.new.p in let e = c.insert.ensures in
-    let w : IsNew c.args.p.now t.slot (stored_order t.order.parts) c.args.node c.args.place.stamp rs = record { held = j.held; out = j.out; differs = j.place; fits = j.few } in
+    let w : IsNew c.args.p.now t.slot (stored_order t.order.parts) c.args.node c.args.place.stamp
+    rs = record { held = j.held; out = j.out; differs = j.place; fits = j.few } in
     let g = e.tree rs h w in
     record {
       us = g.0;
-      done = record { back = record { xs = g.1.xs; ys = g.1.ys; was = g.1.was; now = g.1.now }; beside = tt; stamped = (e.stamp, λ k d. e.tags k (flip k c.args.node.name ∙ d)) };
+      done = record {
+        back = record { xs = g.1.xs; ys = g.1.ys; was = g.1.was; now = g.1.now };
+        beside = tt;
+        stamped = (e.stamp, λ k d. e.tags k (flip k c.args.node.name ∙ d));
+      };
       stands = subst (λ (o : ByKey). IsTree c.insert.new.self n (stored_order o.parts) (stored_tag o.types o.parts) g.0) (sym e.order) g.2;
       keeps = e.keeps rs h w;
     }

@@ -16,7 +16,11 @@ returns-clause-step c rs h j =
     let at = ap (link_of n c.args.node.name) (sym e.slot) in
     record {
       us = j.xs ++ j.ys;
-      done = record { left = record { xs = j.xs; ys = j.ys; was = refl; now = j.parts }; remembers = (ap (λ y. y.back) at ∙ f.back_is, ap (λ y. y.forth) at ∙ f.forth_is); tags = tt };
+      done = record {
+        left = record { xs = j.xs; ys = j.ys; was = refl; now = j.parts };
+        remembers = (ap (λ y. y.back) at ∙ f.back_is, ap (λ y. y.forth) at ∙ f.forth_is);
+        tags = tt;
+      };
       stands = f.listed;
       keeps = keeps_with (slot_of l) c.args.p.now n c.args.node rs j.xs j.ys j.parts (e.keeps j.xs j.ys w);
     }

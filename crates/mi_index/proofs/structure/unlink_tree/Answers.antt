@@ -18,6 +18,7 @@ returns-clause-step c rs h j =
     record {
       us = j.xs ++ j.ys;
       done = record { left = record { xs = j.xs; ys = j.ys; was = refl; now = j.parts }; remembers = tt; tags = e.tags };
-      stands = subst (λ (o : ByKey). IsTree c.remove.new.self n (stored_order o.parts) (stored_tag o.types o.parts) (j.xs ++ j.ys)) (sym e.order) (e.tree j.xs j.ys w);
+      stands = subst (λ (o : ByKey). IsTree c.remove.new.self n (stored_order o.parts) (stored_tag o.types o.parts) (j.xs ++ j.ys))
+          (sym e.order) (e.tree j.xs j.ys w);
       keeps = keeps_with t.slot c.args.p.now n c.args.node rs j.xs j.ys j.parts (e.keeps j.xs j.ys w);
     }

@@ -18,7 +18,8 @@ value-stored-requires c =
     let q = c.requires in
     let k = length c.nodes.rows.items in
     let same : c.next.new.p.pool ≡ c.args.p.now.pool = c.next.ensures.pool ∙ c.nodes.invariant.pool in
-    let first : first_of (drop k q.1) None ≡ Some c.in-Some.node = sym (c.next.ensures.node q.0 (drop k q.1) (c.nodes.invariant.ahead q.0 q.1 q.2)) ∙ c.in-Some.is in
+    let first : first_of (drop k q.1) None ≡ Some c.in-Some.node =
+    sym (c.next.ensures.node q.0 (drop k q.1) (c.nodes.invariant.ahead q.0 q.1 q.2)) ∙ c.in-Some.is in
     subst (λ (z : Pooled Stored). IsHeld z c.in-Some.node) (sym same) (held_next c.args.p.now.pool q.1 k c.in-Some.node q.3 first)
 
 pub nodes-preserved : goal.nodes-preserved
@@ -33,12 +34,14 @@ nodes-preserved c =
     record {
       pool = same;
       ahead = λ levels us h.
-          subst (IsWalk c.next.new.self c.next.new.p.pool levels) (dropped us k (length c.push.new.self.items) long) (c.next.ensures.walk levels (drop k us) (c.nodes.invariant.ahead levels us h));
+          subst (IsWalk c.next.new.self c.next.new.p.pool levels) (dropped us k (length c.push.new.self.items) long)
+          (c.next.ensures.walk levels (drop k us) (c.nodes.invariant.ahead levels us h));
       taken = λ levels us h.
           ap (map (λ r. (r.0, r.1.now))) pushed
           ∙ map-append (λ r. (r.0, r.1.now)) c.nodes.rows.items _
           ∙ ap (λ rows. rows ++ (v.id, v.row) ∷ []) (c.nodes.invariant.taken levels us h)
-          ∙ sym (row_next m us k (length c.push.new.self.items) c.in-Some.node v long (sym (c.next.ensures.node levels (drop k us) (c.nodes.invariant.ahead levels us h)) ∙ c.in-Some.is) has);
+          ∙ sym (row_next m us k (length c.push.new.self.items) c.in-Some.node v long
+          (sym (c.next.ensures.node levels (drop k us) (c.nodes.invariant.ahead levels us h)) ∙ c.in-Some.is) has);
       within = omega arith;
       reads = let step = c.next.ensures.reads in let so_far = c.nodes.invariant.reads in omega arith;
       low = λ levels us h. inr (c.next.ensures.depth levels (drop k us) (c.nodes.invariant.ahead levels us h));

@@ -10,10 +10,12 @@ invariant-nodes l =
     record {
       pool : l.p.pool ≡ l.fn.p.pool;
       ahead : (levels : ℕ) (us : List Ref) → IsWalk l.fn.walk l.fn.p.pool levels us → IsWalk l.walk l.p.pool levels (drop (length l.rows.items) us);
-      taken : (levels : ℕ) (us : List Ref) → IsWalk l.fn.walk l.fn.p.pool levels us → map (λ r. (r.0, r.1.now)) l.rows.items ≡ map (shown_row l.fn.p.pool) (take (length l.rows.items) us);
+      taken : (levels : ℕ) (us : List Ref) → IsWalk l.fn.walk l.fn.p.pool levels us
+          → map (λ r. (r.0, r.1.now)) l.rows.items ≡ map (shown_row l.fn.p.pool) (take (length l.rows.items) us);
       within : length l.rows.items ≤ l.limit;
       reads : l.p.reads + length l.fn.walk.path.items ≤ (l.fn.p.reads + length l.walk.path.items) + 2 * length l.rows.items;
-      low : (levels : ℕ) (us : List Ref) → IsWalk l.fn.walk l.fn.p.pool levels us → (length l.walk.path.items ≤ length l.fn.walk.path.items) ⊎ (length l.walk.path.items ≤ levels);
+      low : (levels : ℕ) (us : List Ref) → IsWalk l.fn.walk l.fn.p.pool levels us
+          → (length l.walk.path.items ≤ length l.fn.walk.path.items) ⊎ (length l.walk.path.items ≤ levels);
     }
 
 abbrev pub decreases-nodes : goal.decreases-nodes

@@ -28,7 +28,8 @@ value-stored-requires c =
     let us = c.args.first ∷ q.0 in
     let k = length c.nodes.rows.items in
     let first : first_of (drop k us) None ≡ Some c.in-Some.node = sym (c.nodes.invariant.next q.0 q.1) ∙ c.in-Some.is in
-    subst (λ (z : Pooled Stored). IsHeld z c.in-Some.node) (sym c.nodes.invariant.pool) (held_next m us k c.in-Some.node (follow_held m c.args.slot c.args.direction us q.1) first)
+    subst (λ (z : Pooled Stored). IsHeld z c.in-Some.node) (sym c.nodes.invariant.pool)
+    (held_next m us k c.in-Some.node (follow_held m c.args.slot c.args.direction us q.1) first)
 
 pub nodes-preserved : goal.nodes-preserved
 nodes-preserved c =
@@ -39,12 +40,14 @@ nodes-preserved c =
     let pushed = c.in_ok-push.ensures.items in
     let long : length c.push.new.self.items ≡ k + 1 = ap length pushed ∙ length-append c.nodes.rows.items _ in
     let has : value_of m node.name ≡ Some v = ap (λ (z : Pooled Stored). value_of z node.name) (sym c.nodes.invariant.pool) ∙ c.value-stored.ensures in
-    let linked : c.link.result ≡ link_of m node.name c.args.slot = c.link.ensures.link ∙ ap (λ (z : Pooled Stored). link_of z node.name c.args.slot) c.nodes.invariant.pool in
+    let linked : c.link.result ≡ link_of m node.name c.args.slot = c.link.ensures.link
+    ∙ ap (λ (z : Pooled Stored). link_of z node.name c.args.slot) c.nodes.invariant.pool in
     record {
       pool = c.link.ensures.pool ∙ c.nodes.invariant.pool;
       next = λ us h.
           c.far-next.ensures ∙ ap (far_of c.args.direction) linked
-          ∙ follow_next m c.args.slot c.args.direction (c.args.first ∷ us) k (length c.push.new.self.items) node long h (sym (c.nodes.invariant.next us h) ∙ c.in-Some.is);
+          ∙ follow_next m c.args.slot c.args.direction (c.args.first ∷ us) k (length c.push.new.self.items)
+          node long h (sym (c.nodes.invariant.next us h) ∙ c.in-Some.is);
       taken = λ us h.
           ap (map (λ r. (r.0, r.1.now))) pushed
           ∙ map-append (λ r. (r.0, r.1.now)) c.nodes.rows.items _
@@ -71,7 +74,8 @@ link-requires-clause-held c =
     let us = c.args.first ∷ q.0 in
     let k = length c.nodes.rows.items in
     let first : first_of (drop k us) None ≡ Some c.in-Some.node = sym (c.nodes.invariant.next q.0 q.1) ∙ c.in-Some.is in
-    subst (λ (z : Pooled Stored). IsHeld z c.in-Some.node) (sym c.nodes.invariant.pool) (held_next m us k c.in-Some.node (follow_held m c.args.slot c.args.direction us q.1) first)
+    subst (λ (z : Pooled Stored). IsHeld z c.in-Some.node) (sym c.nodes.invariant.pool)
+    (held_next m us k c.in-Some.node (follow_held m c.args.slot c.args.direction us q.1) first)
 
 pub link-requires-clause-slot : goal.link-requires-clause-slot
 link-requires-clause-slot c = subst (λ (z : Pooled Stored). c.args.slot < z.slots) (sym c.nodes.invariant.pool) c.requires.slot

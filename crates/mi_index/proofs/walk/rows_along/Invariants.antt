@@ -10,7 +10,8 @@ invariant-nodes l =
     record {
       pool : l.p.pool ≡ l.fn.p.pool;
       next : (us : List Ref) → Follow l.fn.p.pool l.slot l.direction (l.fn.first ∷ us) → l.next ≡ first_of (drop (length l.rows.items) (l.fn.first ∷ us)) None;
-      taken : (us : List Ref) → Follow l.fn.p.pool l.slot l.direction (l.fn.first ∷ us) → map (λ r. (r.0, r.1.now)) l.rows.items ≡ map (shown_row l.fn.p.pool) (take (length l.rows.items) (l.fn.first ∷ us));
+      taken : (us : List Ref) → Follow l.fn.p.pool l.slot l.direction (l.fn.first ∷ us)
+          → map (λ r. (r.0, r.1.now)) l.rows.items ≡ map (shown_row l.fn.p.pool) (take (length l.rows.items) (l.fn.first ∷ us));
       within : length l.rows.items ≤ l.limit;
       reads : l.p.reads ≤ l.fn.p.reads + length l.rows.items;
     }

@@ -22,7 +22,8 @@ rows_ahead-requires c =
       w.0,
       us,
       subst (λ (z : Pooled Stored). IsWalk c.walk_from-walk.result z w.0 us) same w.1,
-      subst (λ (z : Pooled Stored). AreHeld z us) same (held_beyond m c.args.direction q.0 c.args.node q.1 (nodes_held (Ordered c.args.tree.now) m (q.0 ++ c.args.node ∷ q.1) q.2)),
+      subst (λ (z : Pooled Stored). AreHeld z us) same
+          (held_beyond m c.args.direction q.0 c.args.node q.1 (nodes_held (Ordered c.args.tree.now) m (q.0 ++ c.args.node ∷ q.1) q.2)),
     )
 
 pub returns-clause-rows : goal.returns-clause-rows
@@ -45,4 +46,5 @@ returns-clause-reads c xs ys h b l =
     (c.rows_ahead.ensures.reads w.0 us (subst (λ (z : Pooled Stored). IsWalk c.walk_from-walk.result z w.0 us) same w.1))
 
 pub returns-clause-steps : goal.returns-clause-steps
-returns-clause-steps c rs h b l = let t = c.args.tree.now in c.walk_from-walk.ensures.steps (stored_order t.order.parts) (stored_tag t.order.types t.order.parts) rs h b l
+returns-clause-steps c rs h b l =
+    let t = c.args.tree.now in c.walk_from-walk.ensures.steps (stored_order t.order.parts) (stored_tag t.order.types t.order.parts) rs h b l

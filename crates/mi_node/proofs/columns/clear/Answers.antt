@@ -6,7 +6,8 @@ use Rattle.mi_node.proofs.columns.clear.Goals as goal
 pub set-requires : goal.set-requires
 set-requires c =
     let x = c.index_mut.result.now in
-    cleared_room c.args.columns.now.items c.loop-slot.slot c.args.place x (subst (λ n. c.loop-slot.slot < n) (c.len-slot-end.ensures ∙ c.args.columns.now.ok.0) c.loop-slot-test.true) c.requires
+    cleared_room c.args.columns.now.items c.loop-slot.slot c.args.place x
+    (subst (λ n. c.loop-slot.slot < n) (c.len-slot-end.ensures ∙ c.args.columns.now.ok.0) c.loop-slot-test.true) c.requires
     (c.index_mut.ensures.value ∙ ap (λ ds. slice_index_or ds c.loop-slot.slot x) c.loop-slot.invariant)
 
 pub loop-slot-preserved : goal.loop-slot-preserved
@@ -15,10 +16,15 @@ loop-slot-preserved c =
     (subst (λ n. c.loop-slot.slot < n) (c.len-slot-end.ensures ∙ c.args.columns.now.ok.0) c.loop-slot-test.true) c.index_mut.ensures.value c.set.ensures
 
 pub returns-clause-links : goal.returns-clause-links
-returns-clause-links c = let cs = c.args.columns.now.items in ap (λ ds. links_at ds c.args.place) (all_cleared c.args.columns.now.items c.loop-slot.columns.items c.loop-slot.slot c.len-slot-end.result c.args.place c.loop-slot.invariant (c.len-slot-end.ensures ∙ c.args.columns.now.ok.0) c.loop-slot.auto.slot-end c.loop-slot-test.false) ∙ cleared-here cs c.args.place
+returns-clause-links c =
+    let cs = c.args.columns.now.items in
+    ap (λ ds. links_at ds c.args.place) (all_cleared c.args.columns.now.items c.loop-slot.columns.items c.loop-slot.slot c.len-slot-end.result
+    c.args.place c.loop-slot.invariant (c.len-slot-end.ensures ∙ c.args.columns.now.ok.0) c.loop-slot.auto.slot-end c.loop-slot-test.false)
+    ∙ cleared-here cs c.args.place
 
 pub returns-clause-others : goal.returns-clause-others
-returns-clause-others c k e = let cs = c.args.columns.now.items in ap (λ ds. links_at ds k) c.loop-slot.invariant ∙ cleared-there cs c.loop-slot.slot c.args.place k e
+returns-clause-others c k e =
+    let cs = c.args.columns.now.items in ap (λ ds. links_at ds k) c.loop-slot.invariant ∙ cleared-there cs c.loop-slot.slot c.args.place k e
 
 pub returns-clause-count : goal.returns-clause-count
 returns-clause-count c = ap (λ ds. length ds) c.loop-slot.invariant ∙ cleared-length c.args.columns.now.items c.loop-slot.slot c.args.place

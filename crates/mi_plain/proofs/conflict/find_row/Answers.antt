@@ -6,4 +6,5 @@ use Rattle.mi_plain.proofs.conflict.find_row.Goals as goal
 
 pub returns-in-Ok : goal.returns-in-Ok
 returns-in-Ok c =
-    ap (λ (r : Row). Some r.1) (get_or_default c.args.rows.now c.in-Ok.i c.index-rows-i.result (0, []) c.in-Ok.ensures.found.within) ∙ sym c.in-Ok.ensures.found.found
+    ap (λ (r : Row). Some r.1) (get_or_default c.args.rows.now c.in-Ok.i c.index-rows-i.result (0, []) c.in-Ok.ensures.found.within)
+    ∙ sym c.in-Ok.ensures.found.found

@@ -1,7 +1,12 @@
-use Rattle.std.proofs.Common.{◌≡◌, ◌++◌}
-use Rattle.mi_protocol.proofs.ShownLemmas.{member_tokens}
+use Rattle.std.proofs.Common.{◌≡◌, ◌++◌, drop}
+use Rattle.json.specs.Tree.{members_tokens}
+use Rattle.serde_json.specs.Written.{members_outline}
+use Rattle.mi_protocol.specs.Shown.{shown_members}
 use Rattle.mi_protocol.proofs.shown.write_ordered.Given as goal
 
--- the members so far are written
+-- the members so far are written: with those to come they are all
 abbrev pub invariant-members : goal.invariant-members
-invariant-members l = (l.writer.tokens ≡ l.initial.writer.tokens ++ member_tokens l.id l.values l.yielded) × (l.writer.before ≡ l.initial.writer.before)
+invariant-members l =
+    (l.writer.tokens ++ members_tokens (members_outline (shown_members l.id l.values (drop l.member-index l.order)))
+    ≡ l.initial.writer.tokens ++ members_tokens (members_outline (shown_members l.id l.values l.order)))
+    × (l.writer.before ≡ l.initial.writer.before)

@@ -9,33 +9,39 @@ use Rattle.mi_query.proofs.look_ups.count_hashed.Goals as goal
 pub overflow_add-count : goal.overflow_add-count
 overflow_add-count g c =
     let d = g.D.Sessions.state c.args.db.now in
-    let within = slice_get_within (of_key (schema_of d c.args.table) (table_of d c.args.table) c.args.index c.args.key.now) c.ids.count c.in-Some.id (sym c.ids.invariant.next ∙ c.in-Some.is) in
+    let within = slice_get_within (of_key (schema_of d c.args.table) (table_of d c.args.table) c.args.index c.args.key.now)
+    c.ids.count c.in-Some.id (sym c.ids.invariant.next ∙ c.in-Some.is) in
     let short = of_key_short (schema_of d c.args.table) (table_of d c.args.table) c.args.index c.args.key.now in
     omega (arith, within, short, c.shows_each.ensures.long, c.shows_each.ensures.few)
 
 pub next_of-next-requires-clause-id : goal.next_of-next-requires-clause-id
 next_of-next-requires-clause-id g c =
     let d = g.D.Sessions.state c.args.db.now in
-    key_is_there (schema_of d c.args.table) (table_of d c.args.table) c.args.index c.args.key.now c.shows_each.ensures.each c.ids.count c.in-Some.id (sym c.ids.invariant.next ∙ c.in-Some.is)
+    key_is_there (schema_of d c.args.table) (table_of d c.args.table) c.args.index c.args.key.now
+    c.shows_each.ensures.each c.ids.count c.in-Some.id (sym c.ids.invariant.next ∙ c.in-Some.is)
 
 pub ids-smaller : goal.ids-smaller
 ids-smaller g c =
     let d = g.D.Sessions.state c.args.db.now in
-    let within = slice_get_within (of_key (schema_of d c.args.table) (table_of d c.args.table) c.args.index c.args.key.now) c.ids.count c.in-Some.id (sym c.ids.invariant.next ∙ c.in-Some.is) in
+    let within = slice_get_within (of_key (schema_of d c.args.table) (table_of d c.args.table) c.args.index c.args.key.now)
+    c.ids.count c.in-Some.id (sym c.ids.invariant.next ∙ c.in-Some.is) in
     omega (arith, within)
 
 pub ids-preserved : goal.ids-preserved
 ids-preserved g c =
     let d = g.D.Sessions.state c.args.db.now in
-    let within = slice_get_within (of_key (schema_of d c.args.table) (table_of d c.args.table) c.args.index c.args.key.now) c.ids.count c.in-Some.id (sym c.ids.invariant.next ∙ c.in-Some.is) in
+    let within = slice_get_within (of_key (schema_of d c.args.table) (table_of d c.args.table) c.args.index c.args.key.now)
+    c.ids.count c.in-Some.id (sym c.ids.invariant.next ∙ c.in-Some.is) in
     record {
       next = c.next_of-next.ensures
-          ∙ next_of_key (schema_of d c.args.table) (table_of d c.args.table) c.args.index c.args.key.now c.shows_each.ensures.each c.requires.key c.ids.count c.in-Some.id (sym c.ids.invariant.next ∙ c.in-Some.is);
+          ∙ next_of_key (schema_of d c.args.table) (table_of d c.args.table) c.args.index c.args.key.now
+          c.shows_each.ensures.each c.requires.key c.ids.count c.in-Some.id (sym c.ids.invariant.next ∙ c.in-Some.is);
       within = omega (arith, within);
     }
 
 pub returns : goal.returns
 returns g c =
     let d = g.D.Sessions.state c.args.db.now in
-    let past = none_means_past (of_key (schema_of d c.args.table) (table_of d c.args.table) c.args.index c.args.key.now) c.ids.count (sym c.ids.invariant.next ∙ c.in_default.is) in
+    let past = none_means_past (of_key (schema_of d c.args.table) (table_of d c.args.table) c.args.index c.args.key.now)
+    c.ids.count (sym c.ids.invariant.next ∙ c.in_default.is) in
     omega (arith, past, c.ids.invariant.within)

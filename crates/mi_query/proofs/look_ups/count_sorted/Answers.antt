@@ -6,7 +6,12 @@ use Rattle.mi_query.proofs.look_ups.count_sorted.Goals as goal
 pub overflow_sub-result : goal.overflow_sub-result
 overflow_sub-result g c =
     let d = g.D.Sessions.state c.args.db.now in
-    omega (arith, lower-le-upper (schema_of d c.args.table) (table_of d c.args.table) c.args.index c.args.key.now, c.lower_rank-lower.ensures.rank, c.upper_rank-upper.ensures.rank)
+    omega (
+      arith,
+      lower-le-upper (schema_of d c.args.table) (table_of d c.args.table) c.args.index c.args.key.now,
+      c.lower_rank-lower.ensures.rank,
+      c.upper_rank-upper.ensures.rank,
+    )
 
 pub returns-clause-count : goal.returns-clause-count
 returns-clause-count g c =

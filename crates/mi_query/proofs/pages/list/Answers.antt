@@ -38,7 +38,8 @@ walk-requires-clause-first g c =
     let d = g.D.Sessions.state c.args.db.now in
     let t = table_of d c.args.table in
     let first = (ok_then (has_place t c.args.after) _ _ _ c.in_ok-first.ensures.first).1 in
-    place_is_there d c.args.table c.args.index c.keeps_rules.ensures c.requires.table (ap shows_one_list c.requires.index) (place_behind (view (schema_of d c.args.table) t c.args.index) c.args.after) c.in-Some.first
+    place_is_there d c.args.table c.args.index c.keeps_rules.ensures c.requires.table (ap shows_one_list c.requires.index)
+    (place_behind (view (schema_of d c.args.table) t c.args.index) c.args.after) c.in-Some.first
     (sym first ∙ c.in-Some.is)
 
 pub returns-clause-rows : goal.returns-clause-rows
@@ -51,7 +52,8 @@ returns-clause-rows g c =
     ap (map (λ r. (r.0, r.1.now))) c.truncate.ensures.items
     ∙ sym (take-map (λ r. (r.0, r.1.now)) c.args.limit c.in_ok-rows.rows.items)
     ∙ ap (take c.args.limit) c.in_ok-rows.ensures.rows
-    ∙ list_rows s t c.args.index c.args.after c.args.limit c.in-Some.first c.saturating_add.result (sym first ∙ c.in-Some.is) (once_of_each t _ c.shows_each.ensures.each) enough
+    ∙ list_rows s t c.args.index c.args.after c.args.limit c.in-Some.first c.saturating_add.result
+    (sym first ∙ c.in-Some.is) (once_of_each t _ c.shows_each.ensures.each) enough
 
 pub returns-clause-more : goal.returns-clause-more
 returns-clause-more g c =
@@ -69,4 +71,5 @@ returns-clause-more g c =
       | inl beyond ↦ inl beyond
       | inr all ↦ inr (omega (arith, c.saturating_add.ensures, c.shows_each.ensures.long, c.shows_each.ensures.few))
     ] in
-    list_more s t c.args.index c.args.after c.args.limit c.in-Some.first more (sym first ∙ c.in-Some.is) (once_of_each t _ c.shows_each.ensures.each) c.len.result long enough
+    list_more s t c.args.index c.args.after c.args.limit c.in-Some.first more (sym first ∙ c.in-Some.is)
+    (once_of_each t _ c.shows_each.ensures.each) c.len.result long enough

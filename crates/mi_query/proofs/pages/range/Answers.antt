@@ -35,13 +35,15 @@ unreachable-requires g c =
       | else-reverse w ↦ picked_else c.args.reverse c.if-reverse.place (c.rank_to-to.result - 1) c.rank_from-from.result w.if-reverse.false w.place-is
     ] in
     range_begins (schema_of d c.args.table) (table_of d c.args.table) c.args.index c.args.lower.now c.args.upper.now c.requires.index
-    c.rank_from-from.result c.rank_to-to.result c.rank_from-from.ensures.rank c.rank_to-to.ensures.rank c.args.reverse c.if-reverse.place c.if-to-from.false place
+    c.rank_from-from.result c.rank_to-to.result c.rank_from-from.ensures.rank
+    c.rank_to-to.ensures.rank c.args.reverse c.if-reverse.place c.if-to-from.false place
     (sym c.nth.ensures ∙ c.in_default.is)
 
 pub walk-requires-clause-first : goal.walk-requires-clause-first
 walk-requires-clause-first g c =
     let d = g.D.Sessions.state c.args.db.now in
-    place_is_there d c.args.table c.args.index c.keeps_rules.ensures c.requires.table (sorted_listed _ c.requires.index) c.if-reverse.place c.in-Some.first (sym c.nth.ensures ∙ c.in-Some.is)
+    place_is_there d c.args.table c.args.index c.keeps_rules.ensures c.requires.table
+    (sorted_listed _ c.requires.index) c.if-reverse.place c.in-Some.first (sym c.nth.ensures ∙ c.in-Some.is)
 
 pub returns-clause-rows : goal.returns-clause-rows
 returns-clause-rows g c =
@@ -55,7 +57,8 @@ returns-clause-rows g c =
     ] in
     c.in_ok-rows.ensures.rows
     ∙ ap (rows_from s t c.args.index c.args.reverse c.in-Some.first) c.min.ensures
-    ∙ range_rows s t c.args.index c.args.lower.now c.args.upper.now c.requires.index c.rank_from-from.result c.rank_to-to.result c.rank_from-from.ensures.rank c.rank_to-to.ensures.rank
+    ∙ range_rows s t c.args.index c.args.lower.now c.args.upper.now c.requires.index
+    c.rank_from-from.result c.rank_to-to.result c.rank_from-from.ensures.rank c.rank_to-to.ensures.rank
     c.args.reverse c.args.limit c.if-reverse.place c.in-Some.first c.if-to-from.false place (sym c.nth.ensures ∙ c.in-Some.is)
     (once_of_each t _ (each_listed d c.args.table c.args.index c.keeps_rules.ensures c.requires.table (sorted_listed _ c.requires.index)))
 
@@ -69,6 +72,7 @@ returns-clause-more g c =
       | then-reverse w ↦ picked_then c.args.reverse c.if-reverse.place (c.rank_to-to.result - 1) c.rank_from-from.result w.if-reverse.true w.place-is
       | else-reverse w ↦ picked_else c.args.reverse c.if-reverse.place (c.rank_to-to.result - 1) c.rank_from-from.result w.if-reverse.false w.place-is
     ] in
-    range_more s t c.args.index c.args.lower.now c.args.upper.now c.requires.index c.rank_from-from.result c.rank_to-to.result c.rank_from-from.ensures.rank c.rank_to-to.ensures.rank
+    range_more s t c.args.index c.args.lower.now c.args.upper.now c.requires.index c.rank_from-from.result
+    c.rank_to-to.result c.rank_from-from.ensures.rank c.rank_to-to.ensures.rank
     c.args.reverse c.args.limit c.if-reverse.place c.in-Some.first c.if-to-from.false place (sym c.nth.ensures ∙ c.in-Some.is)
     (once_of_each t _ (each_listed d c.args.table c.args.index c.keeps_rules.ensures c.requires.table (sorted_listed _ c.requires.index)))

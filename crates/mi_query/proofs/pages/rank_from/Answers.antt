@@ -6,4 +6,5 @@ use Rattle.mi_query.proofs.pages.rank_from.Goals as goal
 pub returns-in-All-clause-rank : goal.returns-in-All-clause-rank
 returns-in-All-clause-rank g c =
     let d = g.D.Sessions.state c.args.db.now in
-    sym (ap (rank_from (schema_of d c.args.table) (table_of d c.args.table) c.args.index) c.in-All.is ∙ from_all (schema_of d c.args.table) (table_of d c.args.table) c.args.index)
+    sym (ap (rank_from (schema_of d c.args.table) (table_of d c.args.table) c.args.index) c.in-All.is
+    ∙ from_all (schema_of d c.args.table) (table_of d c.args.table) c.args.index)

@@ -7,4 +7,5 @@ pub returns-in-All-clause-rank : goal.returns-in-All-clause-rank
 returns-in-All-clause-rank g c =
     let d = g.D.Sessions.state c.args.db.now in
     c.all_of.ensures
-    ∙ sym (ap (rank_to (schema_of d c.args.table) (table_of d c.args.table) c.args.index) c.in-All.is ∙ to_all (schema_of d c.args.table) (table_of d c.args.table) c.args.index)
+    ∙ sym (ap (rank_to (schema_of d c.args.table) (table_of d c.args.table) c.args.index) c.in-All.is
+    ∙ to_all (schema_of d c.args.table) (table_of d c.args.table) c.args.index)

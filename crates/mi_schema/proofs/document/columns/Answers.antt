@@ -8,11 +8,15 @@ use Rattle.mi_schema.proofs.document.columns.Goals as goal
 pub returns-in_err-column : goal.returns-in_err-column
 returns-in_err-column c =
     let p = err_from_is_err_and c.from_residual.result c.from_residual.ensures.1 in
-    rw (p.1, p.2) (ends column_draft c.in_err-column.field-0.0 c.loop-value.columns.items c.args.values.now c.loop-value.value-index c.value-item.result (each column_draft (items_view c.args.values.now)) c.loop-value-test.true c.value-item.is c.in_err-column.ensures c.loop-value.invariant)
+    rw (p.1, p.2) (ends column_draft c.in_err-column.field-0.0 c.loop-value.columns.items c.args.values.now c.loop-value.value-index c.value-item.result
+    (each column_draft (items_view c.args.values.now)) c.loop-value-test.true c.value-item.is c.in_err-column.ensures c.loop-value.invariant)
 
 pub loop-value-preserved : goal.loop-value-preserved
 loop-value-preserved c =
-    rw c.in_ok-push.ensures.items (goes_on column_draft c.loop-value.columns.items c.args.values.now c.loop-value.value-index c.value-item.result c.in_ok-column.field-0 (each column_draft (items_view c.args.values.now)) c.loop-value-test.true c.value-item.is c.in_ok-column.ensures c.loop-value.invariant)
+    rw c.in_ok-push.ensures.items (goes_on column_draft c.loop-value.columns.items c.args.values.now c.loop-value.value-index
+    c.value-item.result c.in_ok-column.field-0 (each column_draft (items_view c.args.values.now)) c.loop-value-test.true
+    c.value-item.is c.in_ok-column.ensures c.loop-value.invariant)
 
 pub returns : goal.returns
-returns c = is_done column_draft c.loop-value.columns.items c.args.values.now c.loop-value.value-index (each column_draft (items_view c.args.values.now)) c.loop-value-test.false c.loop-value.invariant
+returns c = is_done column_draft c.loop-value.columns.items c.args.values.now c.loop-value.value-index
+    (each column_draft (items_view c.args.values.now)) c.loop-value-test.false c.loop-value.invariant

@@ -8,11 +8,15 @@ use Rattle.mi_schema.proofs.document.indexes.Goals as goal
 pub returns-in_err-index : goal.returns-in_err-index
 returns-in_err-index c =
     let p = err_from_is_err_and c.from_residual.result c.from_residual.ensures.1 in
-    rw (p.1, p.2) (ends index_draft c.in_err-index.field-0.0 c.loop-value.indexes.items c.args.values.now c.loop-value.value-index c.value-item.result (each index_draft (items_view c.args.values.now)) c.loop-value-test.true c.value-item.is c.in_err-index.ensures c.loop-value.invariant)
+    rw (p.1, p.2) (ends index_draft c.in_err-index.field-0.0 c.loop-value.indexes.items c.args.values.now c.loop-value.value-index c.value-item.result
+    (each index_draft (items_view c.args.values.now)) c.loop-value-test.true c.value-item.is c.in_err-index.ensures c.loop-value.invariant)
 
 pub loop-value-preserved : goal.loop-value-preserved
 loop-value-preserved c =
-    rw c.in_ok-push.ensures.items (goes_on index_draft c.loop-value.indexes.items c.args.values.now c.loop-value.value-index c.value-item.result c.in_ok-index.field-0 (each index_draft (items_view c.args.values.now)) c.loop-value-test.true c.value-item.is c.in_ok-index.ensures c.loop-value.invariant)
+    rw c.in_ok-push.ensures.items (goes_on index_draft c.loop-value.indexes.items c.args.values.now c.loop-value.value-index
+    c.value-item.result c.in_ok-index.field-0 (each index_draft (items_view c.args.values.now)) c.loop-value-test.true
+    c.value-item.is c.in_ok-index.ensures c.loop-value.invariant)
 
 pub returns : goal.returns
-returns c = is_done index_draft c.loop-value.indexes.items c.args.values.now c.loop-value.value-index (each index_draft (items_view c.args.values.now)) c.loop-value-test.false c.loop-value.invariant
+returns c = is_done index_draft c.loop-value.indexes.items c.args.values.now c.loop-value.value-index
+    (each index_draft (items_view c.args.values.now)) c.loop-value-test.false c.loop-value.invariant

@@ -20,7 +20,8 @@ returns-then-is_empty-clause-served g c = λ _.
     let last = c.next_turn.ensures.turn in
     let none : length c.next_turn.new.row.items ≡ 0 = search rules in (
       before.turns ++ last.0 ∷ [],
-      turns_next before.turns last.0 _ _ last.1 [] last.2 c.args.hub.now c.turns.hub c.next_turn.new.hub before.made last.3 last.4 (sym (no_ids c.next_turn.new.row.items none) ∙ last.5),
+      turns_next before.turns last.0 _ _ last.1 [] last.2 c.args.hub.now c.turns.hub c.next_turn.new.hub
+          before.made last.3 last.4 (sym (no_ids c.next_turn.new.row.items none) ∙ last.5),
       c.and-first.ensures ∙ ap (λ first. result_and first c.next_turn.result) before.first
           ∙ ap (result_and _) last.6 ∙ sym (fault_more before.turns last.0),
       last.7 ∙ ap (noted (outcome last.0)) before.noted ∙ sym (noted_more before.turns last.0 _),
@@ -31,7 +32,8 @@ returns-then-is_empty-clause-turns g c = λ is.
     let before = c.turns.invariant in
     let last = c.next_turn.ensures.turn in
     absurd (not_turns (before.turns ++ last.0 ∷ [])
-    (fault_more before.turns last.0 ∙ sym (ap (result_and _) last.6) ∙ sym (ap (λ first. result_and first c.next_turn.result) before.first) ∙ sym c.and-first.ensures ∙ is))
+    (fault_more before.turns last.0 ∙ sym (ap (result_and _) last.6)
+    ∙ sym (ap (λ first. result_and first c.next_turn.result) before.first) ∙ sym c.and-first.ensures ∙ is))
 
 pub turns-preserved : goal.turns-preserved
 turns-preserved g c =

@@ -18,8 +18,14 @@ returns-in-Ok-clause-served g c = λ _ _ not_turns.
 pub returns-in-Ok-clause-turns : goal.returns-in-Ok-clause-turns
 returns-in-Ok-clause-turns g c = λ is.
     let come = c.in-Ok.ensures.ok in
-    let done = c.serve_all.ensures.turns is in
-    (done.0, done.1, done.2, turns_of_come (client_ids c.in-Ok.row.items) c.args.clients c.args.hub.now c.accept_all.new.hub _ _ _ come.0 come.1 done.3, done.4, done.5)
+    let done = c.serve_all.ensures.turns is in (
+      done.0,
+      done.1,
+      done.2,
+      turns_of_come (client_ids c.in-Ok.row.items) c.args.clients c.args.hub.now c.accept_all.new.hub _ _ _ come.0 come.1 done.3,
+      done.4,
+      done.5,
+    )
 
 pub returns-in-Ok-clause-unserved : goal.returns-in-Ok-clause-unserved
 returns-in-Ok-clause-unserved g c = λ early. elim early [

@@ -1,6 +1,7 @@
 use Rattle.std.proofs.Common.{sym, ap, ◌∙◌}
 use Rattle.mi_hub.specs.IoNotes.{reads_fail, writes_fail}
-use Rattle.mi_server.proofs.TurnLemmas.{read_noted, write_noted, none_noted, read_accept, read_memory, read_turns, write_accept, write_memory, write_turns, ok_accept, ok_memory, ok_turns, on_ok}
+use Rattle.mi_server.proofs.TurnLemmas.{read_noted, write_noted, none_noted, read_accept, read_memory, read_turns}
+use Rattle.mi_server.proofs.TurnLemmas.{write_accept, write_memory, write_turns, ok_accept, ok_memory, ok_turns, on_ok}
 use Rattle.mi_server.proofs.listener.serve_listener.Goals as goal
 
 pub returns-clause-read : goal.returns-clause-read

@@ -10,7 +10,8 @@ use Rattle.mi_server.proofs.words.values.Goals as goal
 pub returns-clause-ok : goal.returns-clause-ok
 returns-clause-ok c =
     let m = c.args.matches.now in
-    let check = c.unwrap_or-check.ensures ∙ flag_read _ _ c.get_one.result c.get_one.ensures.none c.get_one.ensures.value ∙ ap is_set (one_text-rows (found_of m) (codes "check")) in
+    let check = c.unwrap_or-check.ensures ∙ flag_read _ _ c.get_one.result c.get_one.ensures.none c.get_one.ensures.value
+    ∙ ap is_set (one_text-rows (found_of m) (codes "check")) in
     let port = listen_read m c.requires c.get_one-port.result c.get_one-port.ensures.none c.get_one-port.ensures.value in
     let clients = clients_read m c.requires c.get_one-clients.result c.get_one-clients.ensures.none c.get_one-clients.ensures.value in
     let rules = sym (together _ _ _ _ _ _ (number_there _ _ _ _ port) (number_there _ _ _ _ clients) check) ∙ c.in_ok-listen.ensures.ok.0 in (
@@ -25,7 +26,8 @@ returns-clause-ok c =
 pub returns-in_err-listen-clause-err : goal.returns-in_err-listen-clause-err
 returns-in_err-listen-clause-err c =
     let m = c.args.matches.now in
-    let check = c.unwrap_or-check.ensures ∙ flag_read _ _ c.get_one.result c.get_one.ensures.none c.get_one.ensures.value ∙ ap is_set (one_text-rows (found_of m) (codes "check")) in
+    let check = c.unwrap_or-check.ensures ∙ flag_read _ _ c.get_one.result c.get_one.ensures.none c.get_one.ensures.value
+    ∙ ap is_set (one_text-rows (found_of m) (codes "check")) in
     let port = listen_read m c.requires c.get_one-port.result c.get_one-port.ensures.none c.get_one-port.ensures.value in
     let clients = clients_read m c.requires c.get_one-clients.result c.get_one-clients.ensures.none c.get_one-clients.ensures.value in
     let p = err_from_is_err_and c.from_residual-in_err-listen.result c.from_residual-in_err-listen.ensures.1 in

@@ -39,7 +39,8 @@ returns-then-height-clause-tree g c l q h more =
     let i = c.height.ensures ∙ height-root m s c.link-link.result.back o.A o.parts.first in
     let j = c.height-2.ensures ∙ height-root m s c.link-link.result.forth o.B o.parts.second in
     let higher : height o.B ≤ height o.A = omega (arith, c.if-height.true) in
-    downs m c.join_down.new.p s o.A c.in-Some.left o.B v.node l q o.is h.left_even h.right_even h.near more higher (c.join_down.ensures.tree o.A o.B q o.parts) c.join_down.ensures.keeps c.join_down.ensures.tags
+    downs m c.join_down.new.p s o.A c.in-Some.left o.B v.node l q o.is h.left_even h.right_even h.near more
+    higher (c.join_down.ensures.tree o.A o.B q o.parts) c.join_down.ensures.keeps c.join_down.ensures.tags
 
 pub link-inner-requires-clause-held : goal.link-inner-requires-clause-held
 link-inner-requires-clause-held g c =
@@ -51,15 +52,18 @@ pub join_both-requires-clause-parts : goal.join_both-requires-clause-parts
 join_both-requires-clause-parts g c =
     let w = c.requires.sides in let v = c.args in
     let o = left_opened v.p.now v.slot v.left v.node v.right w.0 w.1 c.in-Some.left c.link-link.result w.2 c.in-Some.is c.link-link.ensures in
-    let u = middle_opened v.p.now v.slot _ c.in-Some.left _ c.in-Some-forth.middle v.node v.right c.link-inner.result o.A o.B w.1 o.parts c.in-Some-forth.is c.link-inner.ensures in
+    let u = middle_opened v.p.now v.slot _ c.in-Some.left _ c.in-Some-forth.middle v.node v.right
+    c.link-inner.result o.A o.B w.1 o.parts c.in-Some-forth.is c.link-inner.ensures in
     (o.A, u.B, u.C, w.1, u.parts)
 
 pub returns-clause-tree : goal.returns-clause-tree
 returns-clause-tree g c l q h more =
     let v = c.args in let m = v.p.now in let s = v.slot in
     let o = left_opened m s v.left v.node v.right l q c.in-Some.left c.link-link.result h c.in-Some.is c.link-link.ensures in
-    let u = middle_opened m s _ c.in-Some.left _ c.in-Some-forth.middle v.node v.right c.link-inner.result o.A o.B q o.parts c.in-Some-forth.is c.link-inner.ensures in
+    let u = middle_opened m s _ c.in-Some.left _ c.in-Some-forth.middle v.node v.right
+    c.link-inner.result o.A o.B q o.parts c.in-Some-forth.is c.link-inner.ensures in
     let i = c.height.ensures ∙ height-root m s c.link-link.result.back o.A o.parts.first in
     let j = c.height-2.ensures ∙ height-root m s c.link-link.result.forth o.B o.parts.second in
     let higher : height o.A < height o.B = omega (arith, c.if-height.false) in
-    left_boths m c.join_both.new.p s o.A c.in-Some.left u.B c.in-Some-forth.middle u.C o.B v.node l q o.is u.is h.left_even h.right_even h.near more higher (c.join_both.ensures.tree o.A u.B u.C q u.parts) c.join_both.ensures.keeps c.join_both.ensures.tags
+    left_boths m c.join_both.new.p s o.A c.in-Some.left u.B c.in-Some-forth.middle u.C o.B v.node l q o.is u.is h.left_even h.right_even
+    h.near more higher (c.join_both.ensures.tree o.A u.B u.C q u.parts) c.join_both.ensures.keeps c.join_both.ensures.tags

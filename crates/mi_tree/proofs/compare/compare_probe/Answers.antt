@@ -6,5 +6,8 @@ use Rattle.mi_tree.proofs.compare.compare_probe.Goals as goal
 pub returns-then-tag-sought-clause-result : goal.returns-then-tag-sought-clause-result
 returns-then-tag-sought-clause-result g c =
     let v = c.args in let m = v.p.now.pool in let o = v.order.now in let w = c.requires in let a = held_has m v.node w.node.0 in
-    c.cmp.ensures ∙ by_probe (g.O.NodeOrder.order o) (g.O.NodeOrder.tag_of o) (λ (x : g.row.T.Denot). g.O.NodeOrder.place o x v.probe) (g.O.NodeOrder.probe_tag_of o v.probe) (g.met.O.NodeOrder.probe_below o v.probe) (g.met.O.NodeOrder.probe_above o v.probe) _ a.0 v.tag.key c.in-Some.sought
+    c.cmp.ensures
+    ∙ by_probe (g.O.NodeOrder.order o) (g.O.NodeOrder.tag_of o) (λ (x : g.row.T.Denot). g.O.NodeOrder.place o x v.probe)
+    (g.O.NodeOrder.probe_tag_of o v.probe) (g.met.O.NodeOrder.probe_below o v.probe)
+    (g.met.O.NodeOrder.probe_above o v.probe) _ a.0 v.tag.key c.in-Some.sought
     a.1 w.node.1 (sym w.probe ∙ c.in-Some.is) c.if-tag-sought.true

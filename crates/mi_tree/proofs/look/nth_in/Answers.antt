@@ -37,7 +37,8 @@ loop-at-smaller-then-left-before-2 g c =
     let n = c.loop-at.left in let a = v.p.now.reads in let b = c.loop-at.p.reads in let at = c.loop-at.at in let y = c.loop-at.link in
     let f = c.link_ahead-before.ensures in let w = c.link_ahead-before.result in let i = f.link ∙ ap (λ (z : Pooled g.row.T.Denot). link_at z s y.back) same in
     let e = c.link_ahead-before.new.p.reads in let read = f.pool ∙ same in
-    subst (λ (z : Pooled g.row.T.Denot × Pooled g.row.T.Denot). height_at z.0 s y.back < height_at z.1 s at) (λ t. (sym read t, sym same t)) (carry_lower m s v.root v.n at y.back y.forth r n a b h c.in-Some.is).0
+    subst (λ (z : Pooled g.row.T.Denot × Pooled g.row.T.Denot). height_at z.0 s y.back < height_at z.1 s at)
+    (λ t. (sym read t, sym same t)) (carry_lower m s v.root v.n at y.back y.forth r n a b h c.in-Some.is).0
 
 pub loop-at-preserved-then-left-before-2 : goal.loop-at-preserved-then-left-before-2
 loop-at-preserved-then-left-before-2 g c =
@@ -45,7 +46,8 @@ loop-at-preserved-then-left-before-2 g c =
     let n = c.loop-at.left in let a = v.p.now.reads in let b = c.loop-at.p.reads in let at = c.loop-at.at in let y = c.loop-at.link in
     let f = c.link_ahead-before.ensures in let w = c.link_ahead-before.result in let i = f.link ∙ ap (λ (z : Pooled g.row.T.Denot). link_at z s y.back) same in
     let e = c.link_ahead-before.new.p.reads in let read = f.pool ∙ same in
-    let less : n < w.size = omega (arith, c.if-left-before-2.true) in (read, carry_left m s v.root v.n at y.back y.forth r n a b h c.in-Some.is w i e f.reads less)
+    let less : n < w.size = omega (arith, c.if-left-before-2.true) in
+    (read, carry_left m s v.root v.n at y.back y.forth r n a b h c.in-Some.is w i e f.reads less)
 
 pub link_ahead-link-requires-else-left-before-2-clause-held : goal.link_ahead-link-requires-else-left-before-2-clause-held
 link_ahead-link-requires-else-left-before-2-clause-held g c =
@@ -61,8 +63,11 @@ loop-at-smaller g c =
     let n = c.loop-at.left in let a = v.p.now.reads in let b = c.loop-at.p.reads in let at = c.loop-at.at in let y = c.loop-at.link in
     let f = c.link_ahead-before.ensures in let w = c.link_ahead-before.result in let i = f.link ∙ ap (λ (z : Pooled g.row.T.Denot). link_at z s y.back) same in
     let e = c.link_ahead-before.new.p.reads in let read = f.pool ∙ same in
-    let z = c.link_ahead-link-else-left-before-2 in let j = z.ensures.link ∙ ap (λ (z : Pooled g.row.T.Denot). link_at z s y.forth) read in let on = z.ensures.pool ∙ read in
-    subst (λ (z : Pooled g.row.T.Denot × Pooled g.row.T.Denot). height_at z.0 s y.forth < height_at z.1 s at) (λ t. (sym on t, sym same t)) (carry_lower m s v.root v.n at y.back y.forth r n a b h c.in-Some.is).1
+    let z = c.link_ahead-link-else-left-before-2 in
+    let j = z.ensures.link ∙ ap (λ (z : Pooled g.row.T.Denot). link_at z s y.forth) read in
+    let on = z.ensures.pool ∙ read in
+    subst (λ (z : Pooled g.row.T.Denot × Pooled g.row.T.Denot). height_at z.0 s y.forth < height_at z.1 s at)
+    (λ t. (sym on t, sym same t)) (carry_lower m s v.root v.n at y.back y.forth r n a b h c.in-Some.is).1
 
 pub loop-at-preserved : goal.loop-at-preserved
 loop-at-preserved g c =
@@ -70,14 +75,20 @@ loop-at-preserved g c =
     let n = c.loop-at.left in let a = v.p.now.reads in let b = c.loop-at.p.reads in let at = c.loop-at.at in let y = c.loop-at.link in
     let f = c.link_ahead-before.ensures in let w = c.link_ahead-before.result in let i = f.link ∙ ap (λ (z : Pooled g.row.T.Denot). link_at z s y.back) same in
     let e = c.link_ahead-before.new.p.reads in let read = f.pool ∙ same in
-    let z = c.link_ahead-link-else-left-before-2 in let j = z.ensures.link ∙ ap (λ (z : Pooled g.row.T.Denot). link_at z s y.forth) read in let on = z.ensures.pool ∙ read in
+    let z = c.link_ahead-link-else-left-before-2 in
+    let j = z.ensures.link ∙ ap (λ (z : Pooled g.row.T.Denot). link_at z s y.forth) read in
+    let on = z.ensures.pool ∙ read in
     let d = n - w.size - 1 in let past : n ≡ suc (w.size + d) = omega (arith, c.if-left-before-2.false, c.if-left-before.false) in
     (on, carry_right m s v.root v.n at y.back y.forth r n a b h c.in-Some.is w i e f.reads d past z.result j z.new.p.reads z.ensures.reads)
 
 pub returns-clause-node : goal.returns-clause-node
 returns-clause-node g c t w =
-    let v = c.args in (carry_none v.p.now.pool v.slot v.root v.n c.loop-at.at c.loop-at.link.back c.loop-at.link.forth c.loop-at.left v.p.now.reads c.loop-at.p.reads c.loop-at.invariant.1 c.in_default.is t w).0
+    let v = c.args in
+    (carry_none v.p.now.pool v.slot v.root v.n c.loop-at.at c.loop-at.link.back c.loop-at.link.forth
+    c.loop-at.left v.p.now.reads c.loop-at.p.reads c.loop-at.invariant.1 c.in_default.is t w).0
 
 pub returns-clause-reads : goal.returns-clause-reads
 returns-clause-reads g c t w =
-    let v = c.args in (carry_none v.p.now.pool v.slot v.root v.n c.loop-at.at c.loop-at.link.back c.loop-at.link.forth c.loop-at.left v.p.now.reads c.loop-at.p.reads c.loop-at.invariant.1 c.in_default.is t w).1
+    let v = c.args in
+    (carry_none v.p.now.pool v.slot v.root v.n c.loop-at.at c.loop-at.link.back c.loop-at.link.forth
+    c.loop-at.left v.p.now.reads c.loop-at.p.reads c.loop-at.invariant.1 c.in_default.is t w).1

@@ -6,7 +6,8 @@ use Rattle.mi_tree.proofs.look.seek_in.Given as goal
 
 abbrev pub invariant-loop-at : goal.invariant-loop-at
 invariant-loop-at g l = (l.p.pool ≡ l.fn.p.pool)
-    × Seeking l.fn.p.pool l.slot (g.O.NodeOrder.tag_of l.order) (is_past_node l.strict (λ v. g.O.NodeOrder.place l.order v l.probe) l.fn.p.pool) l.fn.root l.at l.found l.fn.p.reads l.p.reads l.fn.steps.count l.steps.count
+    × Seeking l.fn.p.pool l.slot (g.O.NodeOrder.tag_of l.order) (is_past_node l.strict (λ v. g.O.NodeOrder.place l.order v l.probe) l.fn.p.pool)
+    l.fn.root l.at l.found l.fn.p.reads l.p.reads l.fn.steps.count l.steps.count
 
 abbrev pub decreases-loop-at : goal.decreases-loop-at
 decreases-loop-at g l = height_at l.p.pool l.slot l.at

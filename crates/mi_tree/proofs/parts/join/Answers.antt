@@ -14,28 +14,36 @@ height-requires-2-clause-held g c = let h = c.requires.parts.2 in held-root c.ar
 pub overflow_add-link : goal.overflow_add-link
 overflow_add-link g c =
     let h = c.requires.parts.2 in let f = h.fits in let m = c.args.p.now in let s = c.args.slot in
-    let i = c.size.ensures ∙ size-root m s c.args.a c.requires.parts.0 h.first in let j = c.size-2.ensures ∙ size-root m s c.args.b c.requires.parts.1 h.second in omega arith
+    let i = c.size.ensures ∙ size-root m s c.args.a c.requires.parts.0 h.first in
+    let j = c.size-2.ensures ∙ size-root m s c.args.b c.requires.parts.1 h.second in
+    omega arith
 
 pub overflow_add-link-2 : goal.overflow_add-link-2
 overflow_add-link-2 g c =
     let h = c.requires.parts.2 in let f = h.fits in let m = c.args.p.now in let s = c.args.slot in
-    let i = c.size.ensures ∙ size-root m s c.args.a c.requires.parts.0 h.first in let j = c.size-2.ensures ∙ size-root m s c.args.b c.requires.parts.1 h.second in omega arith
+    let i = c.size.ensures ∙ size-root m s c.args.a c.requires.parts.0 h.first in
+    let j = c.size-2.ensures ∙ size-root m s c.args.b c.requires.parts.1 h.second in
+    omega arith
 
 pub overflow_add-link-3 : goal.overflow_add-link-3
 overflow_add-link-3 g c =
     let h = c.requires.parts.2 in let f = h.low in let m = c.args.p.now in let s = c.args.slot in
-    let i = c.height.ensures ∙ height-root m s c.args.a c.requires.parts.0 h.first in let j = c.height-2.ensures ∙ height-root m s c.args.b c.requires.parts.1 h.second in grind arith
+    let i = c.height.ensures ∙ height-root m s c.args.a c.requires.parts.0 h.first in
+    let j = c.height-2.ensures ∙ height-root m s c.args.b c.requires.parts.1 h.second in
+    grind arith
 
 pub set_fork-requires-clause-parts : goal.set_fork-requires-clause-parts
 set_fork-requires-clause-parts g c =
     let w = c.requires.parts in let v = c.args in let m = v.p.now in let s = v.slot in
     let top : c.max.result ≡ max c.height.result c.height-2.result = grind arith in
-    let high : c.max.result + 1 ≡ max (height_at m s v.a) (height_at m s v.b) + 1 = ap (λ k. k + 1) (top ∙ (λ i. max (c.height.ensures i) (c.height-2.ensures i))) in
+    let high : c.max.result + 1 ≡ max (height_at m s v.a) (height_at m s v.b) + 1 =
+    ap (λ k. k + 1) (top ∙ (λ i. max (c.height.ensures i) (c.height-2.ensures i))) in
     (w.0, w.1, fork_of s m v.x _ w.0 w.1 w.2 (λ i. c.size.ensures i + c.size-2.ensures i + 1) high (ap (λ (y : Link). y.tag) c.link-link.ensures))
 
 pub returns-clause-tree : goal.returns-clause-tree
 returns-clause-tree g c A B h =
     let v = c.args in let m = v.p.now in let s = v.slot in
     let top : c.max.result ≡ max c.height.result c.height-2.result = grind arith in
-    let high : c.max.result + 1 ≡ max (height_at m s v.a) (height_at m s v.b) + 1 = ap (λ k. k + 1) (top ∙ (λ i. max (c.height.ensures i) (c.height-2.ensures i))) in
+    let high : c.max.result + 1 ≡ max (height_at m s v.a) (height_at m s v.b) + 1 =
+    ap (λ k. k + 1) (top ∙ (λ i. max (c.height.ensures i) (c.height-2.ensures i))) in
     c.set_fork.ensures.tree A B (fork_of s m v.x _ A B h (λ i. c.size.ensures i + c.size-2.ensures i + 1) high (ap (λ (y : Link). y.tag) c.link-link.ensures))

@@ -9,10 +9,12 @@ pub returns-clause-tree : goal.returns-clause-tree
 returns-clause-tree g c A B h = let v = c.args in joined v.slot v.p.now c.set_link.new.self v.x v.link A B c.set_link.ensures h
 
 pub returns-clause-keeps : goal.returns-clause-keeps
-returns-clause-keeps g c = subst (λ o. Keeps c.args.p.now o c.args.slot (c.args.x ∷ [])) (sym c.set_link.ensures) (keeps_link c.args.slot c.args.p.now c.args.x _)
+returns-clause-keeps g c = subst (λ o. Keeps c.args.p.now o c.args.slot (c.args.x ∷ []))
+    (sym c.set_link.ensures) (keeps_link c.args.slot c.args.p.now c.args.x _)
 
 pub returns-clause-slots : goal.returns-clause-slots
 returns-clause-slots g c = ap (λ o. o.slots) c.set_link.ensures ∙ slots-with_link c.args.p.now _ c.args.slot _
 
 pub returns-clause-tags : goal.returns-clause-tags
-returns-clause-tags g c = let v = c.args in let h = c.requires.parts.2 in tags_set v.slot v.p.now c.set_link.new.self v.x v.link c.set_link.ensures h.two.held h.tag_is
+returns-clause-tags g c =
+    let v = c.args in let h = c.requires.parts.2 in tags_set v.slot v.p.now c.set_link.new.self v.x v.link c.set_link.ensures h.two.held h.tag_is

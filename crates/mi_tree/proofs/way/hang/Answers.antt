@@ -15,11 +15,13 @@ returns-in_default-clause-tree g c fs at u h =
 
 pub link-requires-clause-held : goal.link-requires-clause-held
 link-requires-clause-held g c =
-    let v = c.args in let w = c.requires.way in let t = turned_back v.way.now.items _ _ w.0 c.in-Some.turn w.3.path_is c.pop.ensures.rest c.pop.ensures.value (sym c.flatten.ensures ∙ c.in-Some.is) in
+    let v = c.args in let w = c.requires.way in
+    let t = turned_back v.way.now.items _ _ w.0 c.in-Some.turn w.3.path_is c.pop.ensures.rest c.pop.ensures.value (sym c.flatten.ensures ∙ c.in-Some.is) in
     turn_held v.p.now v.slot v.root (Some v.top) v.way.now.items _ w.0 w.1 (height w.2) w.2 w.3 c.in-Some.turn t _ refl
 
 pub returns-clause-slots : goal.returns-clause-slots
-returns-clause-slots g c = let v = c.args in ap (λ (z : Pooled g.row.T.Denot). z.slots) c.set_link.ensures ∙ slots-with_link v.p.now c.in-Some.turn.node.name v.slot _
+returns-clause-slots g c =
+    let v = c.args in ap (λ (z : Pooled g.row.T.Denot). z.slots) c.set_link.ensures ∙ slots-with_link v.p.now c.in-Some.turn.node.name v.slot _
 
 pub returns-clause-tree : goal.returns-clause-tree
 returns-clause-tree g c fs at u h =

@@ -15,12 +15,15 @@ loop-bucket-preserved g c = let v = c.args in let l = v.self.now in let a = c.lo
     let lt : a.bucket < c.len-bucket-end.result = c.loop-bucket-test.true in (
       λ rs b.
           let on = a.invariant.0 rs b in
-          let here : AreBetween a.self a.old.items (vec_len a.old) (g.H.KeyHash.keying a.self.keys) a.p rs = subst (λ q. AreBetween a.self a.old.items (vec_len a.old) (g.H.KeyHash.keying q) a.p rs) (sym a.invariant.5) on.0 in
+          let here : AreBetween a.self a.old.items (vec_len a.old) (g.H.KeyHash.keying a.self.keys) a.p rs = subst
+          (λ q. AreBetween a.self a.old.items (vec_len a.old) (g.H.KeyHash.keying q) a.p rs) (sym a.invariant.5) on.0 in
           let keeps : Keeps a.p z.p l.slot rs = subst (λ t. Keeps a.p z.p t rs) a.invariant.4 (c.move_bucket.ensures.keeps rs here) in (
             subst (λ q. AreBetween z.self z.old.items (vec_len z.old) (g.H.KeyHash.keying q) z.p rs) a.invariant.5 (c.move_bucket.ensures.moving rs here),
             keeps_then l.slot v.p.now a.p z.p rs rs rs on.1 keeps (λ q out. (out, out)),
           ),
-      all_below (λ i. slice_index_or z.old.items i None ≡ None) a.bucket (λ i less. c.move_bucket.ensures.others i (let top = subst (λ n. a.bucket < n) (sym count) lt in omega arith) (a.invariant.1 i less)) c.move_bucket.ensures.empty,
+      all_below (λ i. slice_index_or z.old.items i None ≡ None) a.bucket
+          (λ i less. c.move_bucket.ensures.others i (let top = subst (λ n. a.bucket < n) (sym count) lt in omega arith) (a.invariant.1 i less))
+          c.move_bucket.ensures.empty,
       c.move_bucket.ensures.left ∙ a.invariant.2,
       c.move_bucket.ensures.count ∙ a.invariant.3,
       c.move_bucket.ensures.slot ∙ a.invariant.4,
@@ -32,7 +35,8 @@ pub returns-clause-list : goal.returns-clause-list
 returns-clause-list g c rs b = let l = c.args.self.now in let a = c.loop-bucket in
     let count : vec_len a.old ≡ c.len-bucket-end.result = a.invariant.2 ∙ sym c.len-bucket-end.ensures in
     let end = c.loop-bucket-test.false in
-    all_moved (g.H.KeyHash.keying l.keys) (g.met.H.KeyHash.lawful l.keys) a.self a.old.items (vec_len a.old) a.p rs (a.invariant.0 rs b).0 (λ i lt. a.invariant.1 i (let less = subst (λ n. i < n) count lt in omega arith))
+    all_moved (g.H.KeyHash.keying l.keys) (g.met.H.KeyHash.lawful l.keys) a.self a.old.items (vec_len a.old) a.p rs
+    (a.invariant.0 rs b).0 (λ i lt. a.invariant.1 i (let less = subst (λ n. i < n) count lt in omega arith))
 
 pub returns-clause-keeps : goal.returns-clause-keeps
 returns-clause-keeps g c rs b = (c.loop-bucket.invariant.0 rs b).1

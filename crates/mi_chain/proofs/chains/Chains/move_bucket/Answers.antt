@@ -16,25 +16,32 @@ pub move_group-requires-clause-first : goal.move_group-requires-clause-first
 move_group-requires-clause-first g c = let v = c.args in let a = c.loop-first in let o = a.old in
     let count : vec_len o ≡ length o.items = search rules in
     let lt : v.bucket < vec_len o = subst (λ z. v.bucket < z) (sym a.invariant.2) c.requires.bucket in
-    let at : slice_index_or o.items v.bucket None ≡ Some c.in-Some.first = sym (c.index.ensures ∙ any_head o.items v.bucket _ None (subst (λ z. v.bucket < z) count lt)) ∙ c.in-Some.is in
+    let at : slice_index_or o.items v.bucket None ≡ Some c.in-Some.first =
+    sym (c.index.ensures ∙ any_head o.items v.bucket _ None (subst (λ z. v.bucket < z) count lt)) ∙ c.in-Some.is in
     at
 
 pub loop-first-smaller : goal.loop-first-smaller
 loop-first-smaller g c = let v = c.args in let a = c.loop-first in let o = a.old in let z = c.move_group.new in let rs = c.requires.moving.0 in
     let b = subst (λ q. AreBetween a.self o.items (vec_len o) (g.H.KeyHash.keying q) a.p rs) (sym a.invariant.5) (a.invariant.0 rs c.requires.moving.1).0 in
-    subst (λ t. hops (next_group z.p t) (node_count z.p) (slice_index_or z.old.items v.bucket None) < hops (next_group a.p t) (node_count a.p) (slice_index_or o.items v.bucket None)) a.invariant.4 (c.move_group.ensures.fewer rs b)
+    subst (λ t. hops (next_group z.p t) (node_count z.p) (slice_index_or z.old.items v.bucket None)
+    < hops (next_group a.p t) (node_count a.p) (slice_index_or o.items v.bucket None))
+    a.invariant.4 (c.move_group.ensures.fewer rs b)
 
 pub loop-first-preserved : goal.loop-first-preserved
 loop-first-preserved g c = let v = c.args in let a = c.loop-first in let o = a.old in
     let count : vec_len o ≡ length o.items = search rules in
     let lt : v.bucket < vec_len o = subst (λ z. v.bucket < z) (sym a.invariant.2) c.requires.bucket in
-    let at : slice_index_or o.items v.bucket None ≡ Some c.in-Some.first = sym (c.index.ensures ∙ any_head o.items v.bucket _ None (subst (λ z. v.bucket < z) count lt)) ∙ c.in-Some.is in
+    let at : slice_index_or o.items v.bucket None ≡ Some c.in-Some.first =
+    sym (c.index.ensures ∙ any_head o.items v.bucket _ None (subst (λ z. v.bucket < z) count lt)) ∙ c.in-Some.is in
     let l = v.self.now in let k = g.H.KeyHash.keying l.keys in let z = c.move_group.new in (
       λ rs b.
           let on = a.invariant.0 rs b in
-          let now : AreBetween a.self o.items (vec_len o) (g.H.KeyHash.keying a.self.keys) a.p rs = subst (λ q. AreBetween a.self o.items (vec_len o) (g.H.KeyHash.keying q) a.p rs) (sym a.invariant.5) on.0 in
-          let keeps : Keeps a.p z.p l.slot rs = subst (λ t. Keeps a.p z.p t rs) a.invariant.4 (c.move_group.ensures.keeps rs now) in
-          (subst (λ q. AreBetween z.self z.old.items (vec_len z.old) (g.H.KeyHash.keying q) z.p rs) a.invariant.5 (c.move_group.ensures.moving rs now), keeps_then l.slot v.p.now a.p z.p rs rs rs on.1 keeps (λ q out. (out, out))),
+          let now : AreBetween a.self o.items (vec_len o) (g.H.KeyHash.keying a.self.keys) a.p rs = subst
+          (λ q. AreBetween a.self o.items (vec_len o) (g.H.KeyHash.keying q) a.p rs) (sym a.invariant.5) on.0 in
+          let keeps : Keeps a.p z.p l.slot rs = subst (λ t. Keeps a.p z.p t rs) a.invariant.4 (c.move_group.ensures.keeps rs now) in (
+            subst (λ q. AreBetween z.self z.old.items (vec_len z.old) (g.H.KeyHash.keying q) z.p rs) a.invariant.5 (c.move_group.ensures.moving rs now),
+            keeps_then l.slot v.p.now a.p z.p rs rs rs on.1 keeps (λ q out. (out, out)),
+          ),
       λ j less e.
           let was = a.invariant.1 j less e in
           c.move_group.ensures.others j (λ same. let f : None ≡ Some c.in-Some.first = sym was ∙ ap (λ d. slice_index_or o.items d None) same ∙ at in cc) ∙ was,

@@ -7,11 +7,14 @@ use Rattle.mi_chain.proofs.Whole.{held_it, back_held, prev_of_it}
 use Rattle.mi_chain.proofs.chains.Chains.prev_of.Goals as goal
 
 pub link-link-requires-clause-held : goal.link-link-requires-clause-held
-link-link-requires-clause-held g c = let l = c.args.self.now in held_it l (g.H.KeyHash.keying l.keys) (g.met.H.KeyHash.lawful l.keys) c.args.p.now c.requires.0 c.args.node c.requires.1 c.requires.2
+link-link-requires-clause-held g c =
+    let l = c.args.self.now in
+    held_it l (g.H.KeyHash.keying l.keys) (g.met.H.KeyHash.lawful l.keys) c.args.p.now c.requires.0 c.args.node c.requires.1 c.requires.2
 
 pub after-forth-requires-clause-held : goal.after-forth-requires-clause-held
 after-forth-requires-clause-held g c = let l = c.args.self.now in
-    subst (λ (y : Link). IsHeldIf c.args.p.now y.back) (sym c.link-link.ensures) (back_held l (g.H.KeyHash.keying l.keys) (g.met.H.KeyHash.lawful l.keys) c.args.p.now c.requires.0 c.args.node c.requires.1 c.requires.2)
+    subst (λ (y : Link). IsHeldIf c.args.p.now y.back) (sym c.link-link.ensures)
+    (back_held l (g.H.KeyHash.keying l.keys) (g.met.H.KeyHash.lawful l.keys) c.args.p.now c.requires.0 c.args.node c.requires.1 c.requires.2)
 
 pub returns-then-is_node : goal.returns-then-is_node
 returns-then-is_node g c xs ys h = let l = c.args.self.now in let m = c.args.p.now in let k = c.args.node.name in

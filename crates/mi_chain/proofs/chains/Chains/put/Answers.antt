@@ -10,4 +10,7 @@ join-requires-clause-held g c = let v = c.args in
     (held_link v.self.now.slot v.p.now v.node.name _ v.left c.requires.held.0, held_link v.self.now.slot v.p.now v.node.name _ v.right c.requires.held.1)
 
 pub join-requires-clause-slot : goal.join-requires-clause-slot
-join-requires-clause-slot g c = let v = c.args in subst (λ n. v.self.now.slot < n.slots) (sym c.set_link.ensures) (subst (λ n. v.self.now.slot < n) (sym (slots-with_link v.p.now v.node.name v.self.now.slot _)) c.requires.slot)
+join-requires-clause-slot g c =
+    let v = c.args in
+    subst (λ n. v.self.now.slot < n.slots) (sym c.set_link.ensures)
+    (subst (λ n. v.self.now.slot < n) (sym (slots-with_link v.p.now v.node.name v.self.now.slot _)) c.requires.slot)

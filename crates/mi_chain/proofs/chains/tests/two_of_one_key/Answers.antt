@@ -5,4 +5,6 @@ use Rattle.mi_chain.proofs.Whole.{new_chains}
 use Rattle.mi_chain.proofs.chains.tests.two_of_one_key.Goals as goal
 
 pub fill-requires-clause-chained : goal.fill-requires-clause-chained
-fill-requires-clause-chained g c = let fits : 1 < c.take-2.new.self.slots = grind (arith, slot_counts) in new_chains c.in-Ok-new.chains 1 _ one_keying c.take-2.new.self c.in-Ok-new.ensures fits
+fill-requires-clause-chained g c =
+    let fits : 1 < c.take-2.new.self.slots = grind (arith, slot_counts) in
+    new_chains c.in-Ok-new.chains 1 _ one_keying c.take-2.new.self c.in-Ok-new.ensures fits

@@ -3,7 +3,7 @@ use Rattle.std.proofs.Common.{◌≡◌, ◌++◌, List, ap, subst, sym, ◌∙�
 use Rattle.mi_catalog.specs.declared.index.Column.{Column}
 use Rattle.mi_catalog.specs.declared.index.Index.{Index}
 use Rattle.mi_node.specs.Pool.{no_nodes}
-use Rattle.mi_index.specs.Opened.{AllFor, IsOpened}
+use Rattle.mi_index.specs.Opened.{AllOpenedFor, IsOpened}
 use Rattle.mi_index.specs.declared.stored.Stored.{Stored}
 use Rattle.mi_index.specs.declared.structure.Structure.{Structure}
 use Rattle.mi_index.proofs.Opening.{is_opened}
@@ -14,6 +14,7 @@ returns c =
     let s = c.args.schema.now in
     let q = c.in_ok-add_structures.ensures in
     let is : c.add_structures.new.made.items ≡ q.0 = q.1 ∙ ap (λ (l : List Structure). l ++ q.0) c.new-structures.ensures.items in
-    let kinds : AllFor s.columns s.indexes 0 q.0 = subst (λ (l : List Index). AllFor s.columns l 0 q.0) c.indexes.ensures (subst (λ (l : List Column). AllFor l c.indexes.result.now 0 q.0) c.columns.ensures q.2) in
+    let kinds : AllOpenedFor s.columns s.indexes 0 q.0 = subst (λ (l : List Index). AllOpenedFor s.columns l 0 q.0)
+    c.indexes.ensures (subst (λ (l : List Column). AllOpenedFor l c.indexes.result.now 0 q.0) c.columns.ensures q.2) in
     let pool : c.with_slots.result ≡ no_nodes (length s.indexes) = c.with_slots.ensures ∙ ap (no_nodes {T = Stored}) c.index_count-slots.ensures in
     subst (IsOpened s c.with_slots.result) (sym is) (is_opened s q.0 c.with_slots.result pool kinds q.3)

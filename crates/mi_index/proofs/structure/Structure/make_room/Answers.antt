@@ -7,4 +7,5 @@ use Rattle.mi_index.proofs.structure.Structure.make_room.Goals as goal
 
 pub returns-in-Hashed-clause-step : goal.returns-in-Hashed-clause-step
 returns-in-Hashed-clause-step c r s =
-    subst (λ x. IsStep nothing_asked grown r s x (Hashed c.room_in_chains.new.chains) c.args.p.now c.room_in_chains.new.p) (sym c.in-Hashed.is) (c.room_in_chains.ensures.step r s)
+    subst (λ x. IsStep nothing_asked grown r s x (Hashed c.room_in_chains.new.chains) c.args.p.now c.room_in_chains.new.p)
+    (sym c.in-Hashed.is) (c.room_in_chains.ensures.step r s)

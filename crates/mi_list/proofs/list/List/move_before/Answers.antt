@@ -9,7 +9,8 @@ use Rattle.mi_list.proofs.list.List.move_before.Goals as goal
 
 pub returns-then-is_node-clause-list : goal.returns-then-is_node-clause-list
 returns-then-is_node-clause-list g c xs ys us vs h same e =
-    absurd (named_out c.args.before vs c.args.node.name (out_right c.args.node.name us vs (subst (IsOut c.args.node.name) same (apart_remove xs c.args.node ys h.apart).1)) e (c.if-is_node.ensures.0 refl))
+    absurd (named_out c.args.before vs c.args.node.name
+    (out_right c.args.node.name us vs (subst (IsOut c.args.node.name) same (apart_remove xs c.args.node ys h.apart).1)) e (c.if-is_node.ensures.0 refl))
 
 pub insert_before-requires-clause-place : goal.insert_before-requires-clause-place
 insert_before-requires-clause-place g c =
@@ -20,13 +21,18 @@ insert_before-requires-clause-place g c =
 
 pub returns-clause-keeps : goal.returns-clause-keeps
 returns-clause-keeps g c xs ys h =
-    let l = c.args.self.now in let m = c.args.p.now in let x = c.args.node in let k = c.unlink.new.self in let n = c.unlink.new.p in let o = c.insert_before.new.p in
+    let l = c.args.self.now in let m = c.args.p.now in let x = c.args.node in let k = c.unlink.new.self in let n = c.unlink.new.p in
+    let o = c.insert_before.new.p in
     let left = c.unlink.ensures.list c.requires.0 c.requires.1 c.requires.2 in
-    let only : c.requires.0 ++ c.requires.1 ≡ xs ++ ys = listed_unique k n (c.requires.0 ++ c.requires.1) (xs ++ ys) left.listed (c.unlink.ensures.list xs ys h).listed in
+    let only : c.requires.0 ++ c.requires.1 ≡ xs ++ ys = listed_unique k n
+    (c.requires.0 ++ c.requires.1) (xs ++ ys) left.listed (c.unlink.ensures.list xs ys h).listed in
     elim c.requires.3 [
       | inl e ↦ absurd (true≢false (sym (c.if-is_node.ensures.1 (named_itself c.args.before x e))))
       | inr z ↦
-          let put : Keeps n o k.slot (x ∷ z.0 ++ z.1) = c.insert_before.ensures.keeps z.0 z.1 (subst (IsListed k n) z.2 left.listed) (subst (IsOut x.name) z.2 left.out) z.3 in
-          let put_in : Keeps n o l.slot (x ∷ xs ++ ys) = subst (λ (ts : Seq Ref). Keeps n o l.slot (x ∷ ts)) (sym z.2 ∙ only) (subst (λ s. Keeps n o s (x ∷ z.0 ++ z.1)) c.unlink.ensures.slot put) in
-          keeps_then l.slot m n o (xs ++ ys) (x ∷ xs ++ ys) (xs ++ x ∷ ys) (c.unlink.ensures.keeps xs ys h) put_in (λ q out. let on = out_among q xs x ys out in (on.1, on.0))
+          let put : Keeps n o k.slot (x ∷ z.0 ++ z.1) = c.insert_before.ensures.keeps z.0 z.1
+          (subst (IsListed k n) z.2 left.listed) (subst (IsOut x.name) z.2 left.out) z.3 in
+          let put_in : Keeps n o l.slot (x ∷ xs ++ ys) = subst (λ (ts : Seq Ref). Keeps n o l.slot (x ∷ ts))
+          (sym z.2 ∙ only) (subst (λ s. Keeps n o s (x ∷ z.0 ++ z.1)) c.unlink.ensures.slot put) in
+          keeps_then l.slot m n o (xs ++ ys) (x ∷ xs ++ ys) (xs ++ x ∷ ys) (c.unlink.ensures.keeps xs ys h)
+          put_in (λ q out. let on = out_among q xs x ys out in (on.1, on.0))
     ]

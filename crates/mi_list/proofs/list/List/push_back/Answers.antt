@@ -7,7 +7,8 @@ use Rattle.mi_list.proofs.list.List.push_back.Goals as goal
 
 pub returns-clause-list : goal.returns-clause-list
 returns-clause-list g c rs h out =
-    c.insert_before.ensures.list rs [] (subst (IsListed c.args.self.now c.args.p.now) (sym (nothing_after rs)) h) (subst (IsOut c.args.node.name) (sym (nothing_after rs)) out) refl
+    c.insert_before.ensures.list rs [] (subst (IsListed c.args.self.now c.args.p.now) (sym (nothing_after rs)) h)
+    (subst (IsOut c.args.node.name) (sym (nothing_after rs)) out) refl
 
 pub returns-clause-keeps : goal.returns-clause-keeps
 returns-clause-keeps g c rs h out =

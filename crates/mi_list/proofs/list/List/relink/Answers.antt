@@ -19,10 +19,16 @@ join-requires-clause-forth g c =
 
 pub returns-clause-list : goal.returns-clause-list
 returns-clause-list g c xs ys h =
-    let l = c.args.self.now in let m = c.args.p.now in let x = c.args.node in let k = c.join.new.self in let n = c.join.new.p in let link = c.link-link.result in
+    let l = c.args.self.now in let m = c.args.p.now in let x = c.args.node in let k = c.join.new.self in let n = c.join.new.p in
+    let link = c.link-link.result in
     let b : link.back ≡ last_of None xs = ap (λ (y : Link). y.back) c.link-link.ensures ∙ h.back_is in
     let f : link.forth ≡ first_of ys None = ap (λ (y : Link). y.forth) c.link-link.ensures ∙ h.forth_is in
-    let told : Joined l k m n link.back (Some x) link.forth (Some x) = record { pool = c.join.ensures.pool; first = c.join.ensures.first; last = c.join.ensures.last; slot = c.join.ensures.slot } in
+    let told : Joined l k m n link.back (Some x) link.forth (Some x) = record {
+      pool = c.join.ensures.pool;
+      first = c.join.ensures.first;
+      last = c.join.ensures.last;
+      slot = c.join.ensures.slot;
+    } in
     relinked l k m n xs x ys h (subst (λ (z : Option Ref × Option Ref). Joined l k m n z.0 (Some x) z.1 (Some x)) (λ i. (b i, f i)) told)
 
 pub returns-clause-keeps : goal.returns-clause-keeps
@@ -30,4 +36,5 @@ returns-clause-keeps g c xs ys h =
     let l = c.args.self.now in let m = c.args.p.now in let x = c.args.node in let link = c.link-link.result in
     let b : link.back ≡ last_of None xs = ap (λ (y : Link). y.back) c.link-link.ensures ∙ h.back_is in
     let f : link.forth ≡ first_of ys None = ap (λ (y : Link). y.forth) c.link-link.ensures ∙ h.forth_is in
-    subst (λ n. Keeps m n l.slot (xs ++ ys)) (sym (c.join.ensures.pool ∙ (λ i. joined m l.slot (b i) (Some x) (f i) (Some x)))) (keeps_joined l.slot m xs ys (Some x) (Some x))
+    subst (λ n. Keeps m n l.slot (xs ++ ys)) (sym (c.join.ensures.pool ∙ (λ i. joined m l.slot (b i) (Some x) (f i) (Some x))))
+    (keeps_joined l.slot m xs ys (Some x) (Some x))

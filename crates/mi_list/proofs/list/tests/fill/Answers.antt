@@ -18,8 +18,13 @@ insert_before-requires-clause-held c =
 
 pub insert_before-requires-clause-place : goal.insert_before-requires-clause-place
 insert_before-requires-clause-place c =
-    let one = c.args.one in let three = c.args.three in let out = c.requires.names.1 in
-    (one ∷ [], three ∷ [], c.push_back-2.ensures.list (one ∷ []) (c.push_back.ensures.list [] c.requires.listed tt) (out, tt), (c.requires.names.0, (c.requires.names.2, tt)), refl)
+    let one = c.args.one in let three = c.args.three in let out = c.requires.names.1 in (
+      one ∷ [],
+      three ∷ [],
+      c.push_back-2.ensures.list (one ∷ []) (c.push_back.ensures.list [] c.requires.listed tt) (out, tt),
+      (c.requires.names.0, (c.requires.names.2, tt)),
+      refl,
+    )
 
 pub returns : goal.returns
 returns c =
@@ -27,4 +32,5 @@ returns c =
     let out = c.requires.names.1 in
     let before = c.requires.names.0 in
     let after = c.requires.names.2 in
-    c.insert_before.ensures.list (one ∷ []) (three ∷ []) (c.push_back-2.ensures.list (one ∷ []) (c.push_back.ensures.list [] c.requires.listed tt) (out, tt)) (before, (after, tt)) refl
+    c.insert_before.ensures.list (one ∷ []) (three ∷ [])
+    (c.push_back-2.ensures.list (one ∷ []) (c.push_back.ensures.list [] c.requires.listed tt) (out, tt)) (before, (after, tt)) refl

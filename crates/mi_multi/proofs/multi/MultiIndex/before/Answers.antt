@@ -3,7 +3,8 @@ use Rattle.mi_multi.proofs.Calls.{listed_reaches, absent, between, before_held, 
 use Rattle.mi_multi.proofs.multi.MultiIndex.before.Goals as goal
 
 pub returns-in_default : goal.returns-in_default
-returns-in_default c = absurd (absent c.self.inside c.self.invariant c.args.self.now c.self.view_is c.args.id (sym c.live.ensures ∙ c.in_default.is) c.requires.id)
+returns-in_default c = absurd (absent c.self.inside c.self.invariant c.args.self.now
+    c.self.view_is c.args.id (sym c.live.ensures ∙ c.in_default.is) c.requires.id)
 
 pub structure_at-requires : goal.structure_at-requires
 structure_at-requires c = listed_reaches c.self.inside c.self.invariant c.args.self.now c.self.view_is c.args.index c.requires.index

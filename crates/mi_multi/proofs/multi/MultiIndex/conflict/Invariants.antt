@@ -6,4 +6,5 @@ use Rattle.mi_multi.proofs.multi.MultiIndex.conflict.Given as goal
 
 abbrev pub invariant-loop-index : goal.invariant-loop-index
 invariant-loop-index l =
-    conflict_from l.index (drop l.index l.self.shape.indexes) (table_of l.self.plain).rows l.row l.except ≡ conflict l.self.shape (table_of l.self.plain) l.row l.except
+    conflict_from l.index (drop l.index l.self.shape.indexes) (table_of l.self.plain).rows l.row l.except
+    ≡ conflict l.self.shape (table_of l.self.plain) l.row l.except

@@ -6,14 +6,21 @@ use Rattle.mi_multi.proofs.KeyCounts.{whole_is_prefix}
 use Rattle.mi_multi.proofs.multi.MultiIndex.count_sorted.Goals as goal
 
 pub lower_rank-lower-requires-clause-key : goal.lower_rank-lower-requires-clause-key
-lower_rank-lower-requires-clause-key c = whole_is_prefix c.args.self.now.shape.columns (index_at c.args.self.now.shape c.args.index).parts c.args.key.now c.requires.key
+lower_rank-lower-requires-clause-key c = whole_is_prefix c.args.self.now.shape.columns
+    (index_at c.args.self.now.shape c.args.index).parts c.args.key.now c.requires.key
 
 pub upper_rank-upper-requires-clause-key : goal.upper_rank-upper-requires-clause-key
-upper_rank-upper-requires-clause-key c = whole_is_prefix c.args.self.now.shape.columns (index_at c.args.self.now.shape c.args.index).parts c.args.key.now c.requires.key
+upper_rank-upper-requires-clause-key c = whole_is_prefix c.args.self.now.shape.columns
+    (index_at c.args.self.now.shape c.args.index).parts c.args.key.now c.requires.key
 
 pub overflow_sub-result : goal.overflow_sub-result
 overflow_sub-result c =
-    omega (arith, lower-le-upper c.args.self.now.shape (table_of c.args.self.now.plain) c.args.index c.args.key.now, c.lower_rank-lower.ensures.rank, c.upper_rank-upper.ensures.rank)
+    omega (
+      arith,
+      lower-le-upper c.args.self.now.shape (table_of c.args.self.now.plain) c.args.index c.args.key.now,
+      c.lower_rank-lower.ensures.rank,
+      c.upper_rank-upper.ensures.rank,
+    )
 
 pub returns : goal.returns
 returns c =

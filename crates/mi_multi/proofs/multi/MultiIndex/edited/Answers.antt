@@ -6,20 +6,25 @@ use Rattle.mi_multi.proofs.multi.MultiIndex.edited.Goals as goal
 
 pub returns-in_default-clause-refused : goal.returns-in_default-clause-refused
 returns-in_default-clause-refused c rollback =
-    modify_no_row c.args.self.now.shape c.args.id c.args.edits.now rollback (table_of c.args.self.now.plain) (ap is_some (sym c.get.ensures.record ∙ ap option_copied c.in_default.is))
+    modify_no_row c.args.self.now.shape c.args.id c.args.edits.now rollback (table_of c.args.self.now.plain)
+    (ap is_some (sym c.get.ensures.record ∙ ap option_copied c.in_default.is))
 
 pub returns-clause-there : goal.returns-clause-there
 returns-clause-there c =
-    got_there c.args.self.now.shape c.args.id c.args.edits.now (table_of c.args.self.now.plain) c.in-Some.row.now (sym c.get.ensures.record ∙ ap option_copied c.in-Some.is) c.apply.result c.apply.ensures.ok c.apply.ensures.range c.apply.ensures.only
+    got_there c.args.self.now.shape c.args.id c.args.edits.now (table_of c.args.self.now.plain) c.in-Some.row.now
+    (sym c.get.ensures.record ∙ ap option_copied c.in-Some.is) c.apply.result c.apply.ensures.ok c.apply.ensures.range c.apply.ensures.only
 
 pub returns-clause-edited : goal.returns-clause-edited
 returns-clause-edited c =
-    got_edited c.args.self.now.shape c.args.id c.args.edits.now (table_of c.args.self.now.plain) c.in-Some.row.now (sym c.get.ensures.record ∙ ap option_copied c.in-Some.is) c.apply.result c.apply.ensures.ok c.apply.ensures.range c.apply.ensures.only
+    got_edited c.args.self.now.shape c.args.id c.args.edits.now (table_of c.args.self.now.plain) c.in-Some.row.now
+    (sym c.get.ensures.record ∙ ap option_copied c.in-Some.is) c.apply.result c.apply.ensures.ok c.apply.ensures.range c.apply.ensures.only
 
 pub returns-clause-refused : goal.returns-clause-refused
 returns-clause-refused c =
-    got_refused c.args.self.now.shape c.args.id c.args.edits.now (table_of c.args.self.now.plain) c.in-Some.row.now (sym c.get.ensures.record ∙ ap option_copied c.in-Some.is) c.apply.result c.apply.ensures.ok c.apply.ensures.range c.apply.ensures.only
+    got_refused c.args.self.now.shape c.args.id c.args.edits.now (table_of c.args.self.now.plain) c.in-Some.row.now
+    (sym c.get.ensures.record ∙ ap option_copied c.in-Some.is) c.apply.result c.apply.ensures.ok c.apply.ensures.range c.apply.ensures.only
 
 pub returns-clause-loss : goal.returns-clause-loss
 returns-clause-loss c =
-    got_loss c.args.self.now.shape c.args.id c.args.edits.now (table_of c.args.self.now.plain) c.in-Some.row.now (sym c.get.ensures.record ∙ ap option_copied c.in-Some.is) c.apply.result c.apply.ensures.ok c.apply.ensures.range c.apply.ensures.only
+    got_loss c.args.self.now.shape c.args.id c.args.edits.now (table_of c.args.self.now.plain) c.in-Some.row.now
+    (sym c.get.ensures.record ∙ ap option_copied c.in-Some.is) c.apply.result c.apply.ensures.ok c.apply.ensures.range c.apply.ensures.only

@@ -19,7 +19,8 @@ pub returns-in_default-clause-outcome : goal.returns-in_default-clause-outcome
 returns-in_default-clause-outcome c =
     let i = c.self.inside in
     let none_ : live_node i.ids.entries c.args.id ≡ None = sym c.live.ensures ∙ c.in_default.is in
-    subst (λ (w : Seen). ((erase_outcome c.args.id (table_of w.plain)).0 ≡ Err NoId) × (table_of w.plain ≡ (erase_outcome c.args.id (table_of w.plain)).1)) c.self.view_is
+    subst (λ (w : Seen). ((erase_outcome c.args.id (table_of w.plain)).0 ≡ Err NoId) × (table_of w.plain ≡ (erase_outcome c.args.id (table_of w.plain)).1))
+    c.self.view_is
     (erase_refused i.schema i.ids.entries i.nodes.pool i.nodes.structures.items i.next i.arrivals c.args.id none_)
 
 pub take_out-requires : goal.take_out-requires
@@ -27,30 +28,40 @@ take_out-requires c =
     let i = c.self.inside in
     let is = c.self.invariant in
     let there = live_is i.ids.entries c.args.id c.in-Some.node (sym c.live.ensures ∙ c.in-Some.is) in
-    record { rss = is.rss; stand = is.stand; can = can_leave i.schema i.ids.entries i.nodes.pool i.nodes.structures.items i.next i.arrivals is c.args.id c.in-Some.node there }
+    record {
+      rss = is.rss;
+      stand = is.stand;
+      can = can_leave i.schema i.ids.entries i.nodes.pool i.nodes.structures.items i.next i.arrivals is c.args.id c.in-Some.node there;
+    }
 
 pub invariant_of-self : goal.invariant_of-self
 invariant_of-self c =
     let i = c.self.inside in
     let there = live_is i.ids.entries c.args.id c.in-Some.node (sym c.live.ensures ∙ c.in-Some.is) in
     subst (λ w. IsMulti i.schema w c.take_out.new.self.pool c.take_out.new.self.structures.items i.next i.arrivals) (sym c.keep.ensures.entries)
-    (erased_multi i.schema i.ids.entries i.nodes.pool c.take_out.new.self.pool i.nodes.structures.items c.take_out.new.self.structures.items i.next i.arrivals c.self.invariant c.args.id c.in-Some.node there c.take_out.ensures.like c.take_out.ensures.pass)
+    (erased_multi i.schema i.ids.entries i.nodes.pool c.take_out.new.self.pool i.nodes.structures.items c.take_out.new.self.structures.items
+    i.next i.arrivals c.self.invariant c.args.id c.in-Some.node there c.take_out.ensures.like c.take_out.ensures.pass)
 
 -- the data after it
-now_is : (c : goal.After-new) → plain_of c.self.inside.schema c.keep.new.self.entries c.take_out.new.self.pool c.take_out.new.self.structures.items c.self.inside.next c.self.inside.arrivals
+now_is : (c : goal.After-new)
+    → plain_of c.self.inside.schema c.keep.new.self.entries c.take_out.new.self.pool
+    c.take_out.new.self.structures.items c.self.inside.next c.self.inside.arrivals
     ≡ erased c.args.id (seen_of c.self.inside).plain
 now_is c =
     let i = c.self.inside in
     let there = live_is i.ids.entries c.args.id c.in-Some.node (sym c.live.ensures ∙ c.in-Some.is) in
     ap (λ w. plain_of i.schema w c.take_out.new.self.pool c.take_out.new.self.structures.items i.next i.arrivals) c.keep.ensures.entries
-    ∙ erased_seen i.schema i.ids.entries i.nodes.pool c.take_out.new.self.pool i.nodes.structures.items c.take_out.new.self.structures.items i.next i.arrivals c.self.invariant c.args.id c.in-Some.node there c.take_out.ensures.like c.take_out.ensures.pass
+    ∙ erased_seen i.schema i.ids.entries i.nodes.pool c.take_out.new.self.pool i.nodes.structures.items c.take_out.new.self.structures.items
+    i.next i.arrivals c.self.invariant c.args.id c.in-Some.node there c.take_out.ensures.like c.take_out.ensures.pass
 
 pub returns-clause-outcome : goal.returns-clause-outcome
 returns-clause-outcome c =
     let i = c.self.inside in
     let new : Data = plain_of i.schema c.keep.new.self.entries c.take_out.new.self.pool c.take_out.new.self.structures.items i.next i.arrivals in
-    subst (λ (w : Seen). ((erase_outcome c.args.id (table_of w.plain)).0 ≡ Ok tt) × (table_of new ≡ (erase_outcome c.args.id (table_of w.plain)).1)) c.self.view_is
-    (erase_meets i.schema i.ids.entries i.nodes.pool i.nodes.structures.items i.next i.arrivals c.args.id c.in-Some.node new (sym c.live.ensures ∙ c.in-Some.is) (now_is c))
+    subst (λ (w : Seen). ((erase_outcome c.args.id (table_of w.plain)).0 ≡ Ok tt) × (table_of new ≡ (erase_outcome c.args.id (table_of w.plain)).1))
+    c.self.view_is
+    (erase_meets i.schema i.ids.entries i.nodes.pool i.nodes.structures.items i.next i.arrivals
+    c.args.id c.in-Some.node new (sym c.live.ensures ∙ c.in-Some.is) (now_is c))
 
 pub returns-clause-made : goal.returns-clause-made
 returns-clause-made c =
@@ -58,4 +69,5 @@ returns-clause-made c =
     let new : Data = plain_of i.schema c.keep.new.self.entries c.take_out.new.self.pool c.take_out.new.self.structures.items i.next i.arrivals in
     subst (λ (w : Seen). Makes w.shape (Erase c.args.id c.args.why) w.plain c.new.result new) c.self.view_is
     (subst (λ (w : Inverse). Makes i.schema (Erase c.args.id c.args.why) (seen_of i).plain w new) (sym c.new.ensures)
-    (erase_made i.schema i.ids.entries i.nodes.pool i.nodes.structures.items i.next i.arrivals c.args.id c.args.why c.in-Some.node new (sym c.live.ensures ∙ c.in-Some.is) (now_is c)))
+    (erase_made i.schema i.ids.entries i.nodes.pool i.nodes.structures.items i.next i.arrivals
+    c.args.id c.args.why c.in-Some.node new (sym c.live.ensures ∙ c.in-Some.is) (now_is c)))

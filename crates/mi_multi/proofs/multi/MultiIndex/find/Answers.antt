@@ -8,7 +8,8 @@ pub structure_at-structure-requires : goal.structure_at-structure-requires
 structure_at-structure-requires c = keyed_reaches c.self.inside c.self.invariant c.args.self.now c.self.view_is c.args.index c.requires.index
 
 pub find-node-requires : goal.find-node-requires
-find-node-requires c = in_some c.self.inside c.self.invariant c.args.self.now c.self.view_is c.args.index c.structure_at-structure.result.now c.structure_at-structure.ensures
+find-node-requires c = in_some c.self.inside c.self.invariant c.args.self.now c.self.view_is
+    c.args.index c.structure_at-structure.result.now c.structure_at-structure.ensures
 
 pub id_of-requires : goal.id_of-requires
 id_of-requires c =

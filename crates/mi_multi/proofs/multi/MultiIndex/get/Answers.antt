@@ -22,4 +22,5 @@ pub returns-clause-record : goal.returns-clause-record
 returns-clause-record c =
     let i = c.self.inside in
     subst (λ (w : Seen). Some c.value.result.now.row ≡ get_row (table_of w.plain) c.args.id) c.self.view_is
-    (sym (record_of i.schema i.ids.entries i.nodes.pool i.nodes.structures.items i.next i.arrivals c.args.id c.in-Some.node c.value.result.now (sym c.live.ensures ∙ c.in-Some.is) c.value.ensures))
+    (sym (record_of i.schema i.ids.entries i.nodes.pool i.nodes.structures.items i.next i.arrivals
+    c.args.id c.in-Some.node c.value.result.now (sym c.live.ensures ∙ c.in-Some.is) c.value.ensures))

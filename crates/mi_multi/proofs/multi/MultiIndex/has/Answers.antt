@@ -11,4 +11,5 @@ pub returns : goal.returns
 returns c =
     let i = c.self.inside in
     c.is_some.ensures ∙ ap is_some c.live.ensures
-    ∙ subst (λ (w : Seen). is_some (live_node i.ids.entries c.args.id) ≡ has_row (table_of w.plain) c.args.id) c.self.view_is (has_live i.schema i.ids.entries i.nodes.pool i.nodes.structures.items i.next i.arrivals c.args.id)
+    ∙ subst (λ (w : Seen). is_some (live_node i.ids.entries c.args.id) ≡ has_row (table_of w.plain) c.args.id)
+    c.self.view_is (has_live i.schema i.ids.entries i.nodes.pool i.nodes.structures.items i.next i.arrivals c.args.id)

@@ -6,7 +6,8 @@ use Rattle.mi_multi.proofs.Accepting.{insert_refused, insert_meets}
 use Rattle.mi_multi.proofs.multi.MultiIndex.insert.Goals as goal
 
 pub returns-in-Some-clause-outcome : goal.returns-in-Some-clause-outcome
-returns-in-Some-clause-outcome c = insert_refused c.args.self.now.shape c.args.before c.args.row (table_of c.args.self.now.plain) c.in-Some.refusal (sym c.insert_refusal.ensures ∙ c.in-Some.is)
+returns-in-Some-clause-outcome c = insert_refused c.args.self.now.shape c.args.before c.args.row
+    (table_of c.args.self.now.plain) c.in-Some.refusal (sym c.insert_refusal.ensures ∙ c.in-Some.is)
 
 pub insert_accepted-requires-clause-accepted : goal.insert_accepted-requires-clause-accepted
 insert_accepted-requires-clause-accepted c = sym c.insert_refusal.ensures ∙ c.in_default.is
@@ -15,5 +16,7 @@ pub returns-in-Ok-clause-outcome : goal.returns-in-Ok-clause-outcome
 returns-in-Ok-clause-outcome c =
     let now = c.args.self.now in
     let made = c.in-Ok.ensures.made in
-    let table = ap table_of made.1.changed_data ∙ (change_is_tables now.shape (Insert c.args.before made.0 c.args.row) now.plain c.keeps_rules.ensures made.1.allowed).1 in
-    insert_meets now.shape c.args.before c.args.row (table_of now.plain) c.in-Ok.inserted.0 (table_of c.insert_accepted.new.self.plain) (sym c.insert_refusal.ensures ∙ c.in_default.is) c.in-Ok.ensures.id table
+    let table = ap table_of made.1.changed_data
+    ∙ (change_is_tables now.shape (Insert c.args.before made.0 c.args.row) now.plain c.keeps_rules.ensures made.1.allowed).1 in
+    insert_meets now.shape c.args.before c.args.row (table_of now.plain) c.in-Ok.inserted.0
+    (table_of c.insert_accepted.new.self.plain) (sym c.insert_refusal.ensures ∙ c.in_default.is) c.in-Ok.ensures.id table

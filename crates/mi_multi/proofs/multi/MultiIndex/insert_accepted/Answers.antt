@@ -20,10 +20,12 @@ link_in-requires c =
     let i = c.self.inside in
     let is = c.self.invariant in
     let before = c.args.before in
-    let acc = accepted i.schema before c.args.row (table_of (seen_of i).plain) (subst (λ (w : Seen). insert_refusal w.shape before c.args.row (table_of w.plain) ≡ None) (sym c.self.view_is) c.requires.accepted) in
+    let acc = accepted i.schema before c.args.row (table_of (seen_of i).plain)
+    (subst (λ (w : Seen). insert_refusal w.shape before c.args.row (table_of w.plain) ≡ None) (sym c.self.view_is) c.requires.accepted) in
     let place = c.node_at-place.ensures ∙ ap (λ w. node_before w before) c.make_room.ensures.entries in
     let there : IsBefore i.ids.entries before c.node_at-place.result =
-    subst (IsBefore i.ids.entries before) (sym place) (before_is i.schema i.ids.entries i.nodes.pool i.nodes.structures.items i.next i.arrivals before acc.there) in
+    subst (IsBefore i.ids.entries before) (sym place)
+    (before_is i.schema i.ids.entries i.nodes.pool i.nodes.structures.items i.next i.arrivals before acc.there) in
     let v : Stored = record { id = i.next; row = c.args.row } in
     let can = can_come i.schema i.ids.entries i.nodes.pool i.nodes.structures.items i.next i.arrivals is v refl before c.node_at-place.result there in
     record { room = record { rss = is.rss; stand = is.stand; can = can } }
@@ -33,46 +35,69 @@ invariant_of-self-in-Ok-link_in c =
     let i = c.self.inside in
     let is = c.self.invariant in
     let before = c.args.before in
-    let acc = accepted i.schema before c.args.row (table_of (seen_of i).plain) (subst (λ (w : Seen). insert_refusal w.shape before c.args.row (table_of w.plain) ≡ None) (sym c.self.view_is) c.requires.accepted) in
+    let acc = accepted i.schema before c.args.row (table_of (seen_of i).plain)
+    (subst (λ (w : Seen). insert_refusal w.shape before c.args.row (table_of w.plain) ≡ None) (sym c.self.view_is) c.requires.accepted) in
     let place = c.node_at-place.ensures ∙ ap (λ w. node_before w before) c.make_room.ensures.entries in
     let there : IsBefore i.ids.entries before c.node_at-place.result =
-    subst (IsBefore i.ids.entries before) (sym place) (before_is i.schema i.ids.entries i.nodes.pool i.nodes.structures.items i.next i.arrivals before acc.there) in
+    subst (IsBefore i.ids.entries before) (sym place)
+    (before_is i.schema i.ids.entries i.nodes.pool i.nodes.structures.items i.next i.arrivals before acc.there) in
     let v : Stored = record { id = i.next; row = c.args.row } in
     let can = can_come i.schema i.ids.entries i.nodes.pool i.nodes.structures.items i.next i.arrivals is v refl before c.node_at-place.result there in
     let r = c.in-Ok-link_in.node in
     let came = c.in-Ok-link_in.ensures.ok is.rss is.stand can in
     let entries = c.insert.ensures.entries ∙ ap (λ w. insert w i.next (record { node = r; live = true })) c.make_room.ensures.entries in
-    let fits = place_fits i.schema i.ids.entries i.nodes.pool i.nodes.structures.items i.next i.arrivals before (subst (λ (w : Seen). IfSome before (λ p. IsSequenced w.shape p.0)) (sym c.self.view_is) c.requires.before) in
-    let few : len i.ids.entries + 1 ≤ 2 ^ 31 = (let l : c.len.result ≡ len i.ids.entries = c.len.ensures in let k = c.if-len-ge-MOST_NODES.false in omega (arith, k)) in
+    let fits = place_fits i.schema i.ids.entries i.nodes.pool i.nodes.structures.items i.next i.arrivals before
+    (subst (λ (w : Seen). IfSome before (λ p. IsSequenced w.shape p.0)) (sym c.self.view_is) c.requires.before) in
+    let few : len i.ids.entries + 1 ≤ 2 ^ 31 =
+    (let l : c.len.result ≡ len i.ids.entries = c.len.ensures in let k = c.if-len-ge-MOST_NODES.false in omega (arith, k)) in
     subst (λ w. IsMulti i.schema w c.link_in.new.self.pool c.link_in.new.self.structures.items (i.next + 1) (i.arrivals + 1)) (sym entries)
-    (come_multi i.schema i.ids.entries i.nodes.pool c.link_in.new.self.pool i.nodes.structures.items c.link_in.new.self.structures.items i.next i.arrivals is v refl before c.node_at-place.result there r c.link_in.ensures.like came (rises i.next _ is.next_fits acc.next) (rises i.arrivals _ is.arrivals_fit acc.arrivals) few fits acc.alone)
+    (come_multi i.schema i.ids.entries i.nodes.pool c.link_in.new.self.pool i.nodes.structures.items
+    c.link_in.new.self.structures.items i.next i.arrivals is v refl before c.node_at-place.result there r c.link_in.ensures.like
+    came (rises i.next _ is.next_fits acc.next) (rises i.arrivals _ is.arrivals_fit acc.arrivals) few fits acc.alone)
 
 pub invariant_of-self-in-Err : goal.invariant_of-self-in-Err
 invariant_of-self-in-Err c =
     let i = c.self.inside in
     let is = c.self.invariant in
     subst (λ w. IsMulti i.schema w c.link_in.new.self.pool c.link_in.new.self.structures.items i.next i.arrivals) (sym c.make_room.ensures.entries)
-    (grown_multi i.schema i.ids.entries i.nodes.pool c.link_in.new.self.pool i.nodes.structures.items c.link_in.new.self.structures.items i.next i.arrivals is c.link_in.ensures.like c.in-Err.ensures.err)
+    (grown_multi i.schema i.ids.entries i.nodes.pool c.link_in.new.self.pool i.nodes.structures.items
+    c.link_in.new.self.structures.items i.next i.arrivals is c.link_in.ensures.like c.in-Err.ensures.err)
 
 pub returns-in-Ok-link_in-clause-made : goal.returns-in-Ok-link_in-clause-made
 returns-in-Ok-link_in-clause-made c =
     let i = c.self.inside in
     let is = c.self.invariant in
     let before = c.args.before in
-    let acc = accepted i.schema before c.args.row (table_of (seen_of i).plain) (subst (λ (w : Seen). insert_refusal w.shape before c.args.row (table_of w.plain) ≡ None) (sym c.self.view_is) c.requires.accepted) in
+    let acc = accepted i.schema before c.args.row (table_of (seen_of i).plain)
+    (subst (λ (w : Seen). insert_refusal w.shape before c.args.row (table_of w.plain) ≡ None) (sym c.self.view_is) c.requires.accepted) in
     let place = c.node_at-place.ensures ∙ ap (λ w. node_before w before) c.make_room.ensures.entries in
     let there : IsBefore i.ids.entries before c.node_at-place.result =
-    subst (IsBefore i.ids.entries before) (sym place) (before_is i.schema i.ids.entries i.nodes.pool i.nodes.structures.items i.next i.arrivals before acc.there) in
+    subst (IsBefore i.ids.entries before) (sym place)
+    (before_is i.schema i.ids.entries i.nodes.pool i.nodes.structures.items i.next i.arrivals before acc.there) in
     let v : Stored = record { id = i.next; row = c.args.row } in
     let can = can_come i.schema i.ids.entries i.nodes.pool i.nodes.structures.items i.next i.arrivals is v refl before c.node_at-place.result there in
     let r = c.in-Ok-link_in.node in
     let came = c.in-Ok-link_in.ensures.ok is.rss is.stand can in
     let entries = c.insert.ensures.entries ∙ ap (λ w. insert w i.next (record { node = r; live = true })) c.make_room.ensures.entries in
-    let fits = place_fits i.schema i.ids.entries i.nodes.pool i.nodes.structures.items i.next i.arrivals before (subst (λ (w : Seen). IfSome before (λ p. IsSequenced w.shape p.0)) (sym c.self.view_is) c.requires.before) in
+    let fits = place_fits i.schema i.ids.entries i.nodes.pool i.nodes.structures.items i.next i.arrivals before
+    (subst (λ (w : Seen). IfSome before (λ p. IsSequenced w.shape p.0)) (sym c.self.view_is) c.requires.before) in
     let new : Data = plain_of i.schema c.insert.new.self.entries c.link_in.new.self.pool c.link_in.new.self.structures.items (i.next + 1) (i.arrivals + 1) in
-    let seen = ap (λ w. plain_of i.schema w c.link_in.new.self.pool c.link_in.new.self.structures.items (i.next + 1) (i.arrivals + 1)) entries ∙ come_seen i.schema i.ids.entries i.nodes.pool c.link_in.new.self.pool i.nodes.structures.items c.link_in.new.self.structures.items i.next i.arrivals is v refl before c.node_at-place.result there r c.link_in.ensures.like came in
-    subst (λ (w : Seen). MakesInsert w.shape before c.args.row w.plain c.new.result new) c.self.view_is
-    (r, record { allowed = (fits, unnamed i.schema i.ids.entries i.nodes.pool c.link_in.new.self.pool i.nodes.structures.items c.link_in.new.self.structures.items i.next i.arrivals is v refl before c.node_at-place.result there r c.link_in.ensures.like came, acc.alone); changed_data = seen; inverse = c.new.ensures })
+    let seen = ap (λ w. plain_of i.schema w c.link_in.new.self.pool c.link_in.new.self.structures.items (i.next + 1) (i.arrivals + 1)) entries
+    ∙ come_seen i.schema i.ids.entries i.nodes.pool c.link_in.new.self.pool i.nodes.structures.items c.link_in.new.self.structures.items
+    i.next i.arrivals is v refl before c.node_at-place.result there r c.link_in.ensures.like came in
+    subst (λ (w : Seen). MakesInsert w.shape before c.args.row w.plain c.new.result new) c.self.view_is (
+      r,
+      record {
+        allowed = (
+          fits,
+          unnamed i.schema i.ids.entries i.nodes.pool c.link_in.new.self.pool i.nodes.structures.items c.link_in.new.self.structures.items
+              i.next i.arrivals is v refl before c.node_at-place.result there r c.link_in.ensures.like came,
+          acc.alone,
+        );
+        changed_data = seen;
+        inverse = c.new.ensures;
+      },
+    )
 
 pub returns-in-Err-clause-refused : goal.returns-in-Err-clause-refused
 returns-in-Err-clause-refused c =
@@ -80,4 +105,6 @@ returns-in-Err-clause-refused c =
     let is = c.self.invariant in
     let new : Data = plain_of i.schema c.make_room.new.self.entries c.link_in.new.self.pool c.link_in.new.self.structures.items i.next i.arrivals in
     subst (λ (w : Seen). new ≡ w.plain) c.self.view_is
-    (ap (λ w. plain_of i.schema w c.link_in.new.self.pool c.link_in.new.self.structures.items i.next i.arrivals) c.make_room.ensures.entries ∙ grown_seen i.schema i.ids.entries i.nodes.pool c.link_in.new.self.pool i.nodes.structures.items c.link_in.new.self.structures.items i.next i.arrivals is c.link_in.ensures.like c.in-Err.ensures.err)
+    (ap (λ w. plain_of i.schema w c.link_in.new.self.pool c.link_in.new.self.structures.items i.next i.arrivals) c.make_room.ensures.entries
+    ∙ grown_seen i.schema i.ids.entries i.nodes.pool c.link_in.new.self.pool i.nodes.structures.items
+    c.link_in.new.self.structures.items i.next i.arrivals is c.link_in.ensures.like c.in-Err.ensures.err)

@@ -17,7 +17,8 @@ pub returns-then-size-max_rows : goal.returns-then-size-max_rows
 returns-then-size-max_rows c =
     let missing = sym c.is_missing.ensures ∙ c.if-is_missing.false in
     let limit = c.max_rows.ensures.value ∙ ap (λ (w : Seen). w.shape.max_rows) c.self.view_is in
-    sym (is_full c.args.self.now.shape c.args.before c.args.row.now (table_of c.args.self.now.plain) missing (sym c.size.ensures ∙ c.if-size-max_rows.true ∙ limit))
+    sym (is_full c.args.self.now.shape c.args.before c.args.row.now (table_of c.args.self.now.plain)
+    missing (sym c.size.ensures ∙ c.if-size-max_rows.true ∙ limit))
 
 pub returns-then-self-eq-LAST_COUNT : goal.returns-then-self-eq-LAST_COUNT
 returns-then-self-eq-LAST_COUNT c =
@@ -25,7 +26,8 @@ returns-then-self-eq-LAST_COUNT c =
     let limit = c.max_rows.ensures.value ∙ ap (λ (w : Seen). w.shape.max_rows) c.self.view_is in
     let smaller : size (table_of c.args.self.now.plain) ≡ c.args.self.now.shape.max_rows → ⊥ = λ e. c.if-size-max_rows.false (c.size.ensures ∙ e ∙ sym limit) in
     let next = ap (λ (w : Seen). w.plain.next) c.self.view_is in
-    sym (next_spent c.args.self.now.shape c.args.before c.args.row.now (table_of c.args.self.now.plain) missing smaller (sym next ∙ c.if-self-eq-LAST_COUNT.true))
+    sym (next_spent c.args.self.now.shape c.args.before c.args.row.now
+    (table_of c.args.self.now.plain) missing smaller (sym next ∙ c.if-self-eq-LAST_COUNT.true))
 
 pub returns-then-self-eq-LAST_COUNT-2 : goal.returns-then-self-eq-LAST_COUNT-2
 returns-then-self-eq-LAST_COUNT-2 c =
@@ -35,7 +37,8 @@ returns-then-self-eq-LAST_COUNT-2 c =
     let next = ap (λ (w : Seen). w.plain.next) c.self.view_is in
     let unspent : c.args.self.now.plain.next ≡ LAST_COUNT → ⊥ = λ e. c.if-self-eq-LAST_COUNT.false (next ∙ e) in
     let arrivals = ap (λ (w : Seen). w.plain.arrivals) c.self.view_is in
-    sym (arrivals_spent c.args.self.now.shape c.args.before c.args.row.now (table_of c.args.self.now.plain) missing smaller unspent (sym arrivals ∙ c.if-self-eq-LAST_COUNT-2.true))
+    sym (arrivals_spent c.args.self.now.shape c.args.before c.args.row.now (table_of c.args.self.now.plain)
+    missing smaller unspent (sym arrivals ∙ c.if-self-eq-LAST_COUNT-2.true))
 
 pub returns : goal.returns
 returns c =

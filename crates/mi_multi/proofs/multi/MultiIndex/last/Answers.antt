@@ -6,11 +6,15 @@ pub structure_at-requires : goal.structure_at-requires
 structure_at-requires c = listed_reaches c.self.inside c.self.invariant c.args.self.now c.self.view_is c.args.index c.requires
 
 pub last-node-requires : goal.last-node-requires
-last-node-requires c = in_list c.self.inside c.self.invariant c.args.self.now c.self.view_is c.args.index c.structure_at.result.now c.structure_at.ensures c.requires
+last-node-requires c = in_list c.self.inside c.self.invariant c.args.self.now c.self.view_is
+    c.args.index c.structure_at.result.now c.structure_at.ensures c.requires
 
 pub id_of-requires : goal.id_of-requires
-id_of-requires c = last_held c.self.inside c.self.invariant c.args.self.now c.self.view_is c.args.index c.structure_at.result.now c.structure_at.ensures c.last-node.result c.last-node.ensures
+id_of-requires c = last_held c.self.inside c.self.invariant c.args.self.now c.self.view_is c.args.index
+    c.structure_at.result.now c.structure_at.ensures c.last-node.result c.last-node.ensures
 
 pub returns : goal.returns
 returns c =
-    c.id_of.ensures ∙ last_is c.self.inside c.self.invariant c.args.self.now c.self.view_is c.args.index c.structure_at.result.now c.structure_at.ensures c.last-node.result c.last-node.ensures
+    c.id_of.ensures
+    ∙ last_is c.self.inside c.self.invariant c.args.self.now c.self.view_is c.args.index
+    c.structure_at.result.now c.structure_at.ensures c.last-node.result c.last-node.ensures

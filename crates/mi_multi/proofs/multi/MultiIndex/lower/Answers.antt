@@ -9,7 +9,8 @@ pub structure_at-structure-requires : goal.structure_at-structure-requires
 structure_at-structure-requires c = sorted_reaches c.self.inside c.self.invariant c.args.self.now c.self.view_is c.args.index c.requires.index
 
 pub lower-node-requires : goal.lower-node-requires
-lower-node-requires c = in_order c.self.inside c.self.invariant c.args.self.now c.self.view_is c.args.index c.structure_at-structure.result.now c.structure_at-structure.ensures c.requires.index
+lower-node-requires c = in_order c.self.inside c.self.invariant c.args.self.now c.self.view_is
+    c.args.index c.structure_at-structure.result.now c.structure_at-structure.ensures c.requires.index
 
 pub id_of-requires : goal.id_of-requires
 id_of-requires c =
@@ -19,7 +20,8 @@ id_of-requires c =
 pub returns-clause-id : goal.returns-clause-id
 returns-clause-id c =
     c.id_of.ensures
-    ∙ lower_is c.self.inside c.self.invariant c.args.self.now c.self.view_is c.args.index c.structure_at-structure.result.now c.structure_at-structure.ensures c.args.key c.lower-node.result c.requires.index c.lower-node.ensures.node
+    ∙ lower_is c.self.inside c.self.invariant c.args.self.now c.self.view_is c.args.index c.structure_at-structure.result.now
+    c.structure_at-structure.ensures c.args.key c.lower-node.result c.requires.index c.lower-node.ensures.node
 
 pub returns-clause-steps : goal.returns-clause-steps
 returns-clause-steps c =

@@ -12,4 +12,5 @@ pub returns-in-None-clause-outcome : goal.returns-in-None-clause-outcome
 returns-in-None-clause-outcome c =
     let now = c.args.self.now in
     let unspent : now.plain.arrivals ≢ LAST_COUNT = λ spent. c.if-self-eq-LAST_COUNT.false (ap (λ (w : Seen). w.plain.arrivals) c.self.view_is ∙ spent) in
-    put_meets now.shape c.args.id c.args.row c.args.rollback now.plain c.keeps_rules.ensures unspent (sym c.conflict.ensures ∙ c.in-None.is) c.put.result c.put.new.self.plain c.put.ensures.made
+    put_meets now.shape c.args.id c.args.row c.args.rollback now.plain c.keeps_rules.ensures unspent
+    (sym c.conflict.ensures ∙ c.in-None.is) c.put.result c.put.new.self.plain c.put.ensures.made

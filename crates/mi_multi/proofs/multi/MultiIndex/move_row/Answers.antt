@@ -9,17 +9,20 @@ use Rattle.mi_multi.proofs.multi.MultiIndex.move_row.Goals as goal
 pub stand_before-requires-clause-ready : goal.stand_before-requires-clause-ready
 stand_before-requires-clause-ready c =
     let now = c.args.self.now in
-    move_ready now.shape now.plain c.keeps_rules.ensures c.args.index c.requires.index (row_seen c.args.row) c.requires.row (option_map row_seen c.args.before) c.requires.before
+    move_ready now.shape now.plain c.keeps_rules.ensures c.args.index c.requires.index
+    (row_seen c.args.row) c.requires.row (option_map row_seen c.args.before) c.requires.before
 
 pub stand_before-requires-clause-before : goal.stand_before-requires-clause-before
 stand_before-requires-clause-before c =
     let now = c.args.self.now in
-    move_kept now.shape now.plain c.keeps_rules.ensures c.args.index c.requires.index (row_seen c.args.row) c.requires.row (option_map row_seen c.args.before) c.requires.before
+    move_kept now.shape now.plain c.keeps_rules.ensures c.args.index c.requires.index
+    (row_seen c.args.row) c.requires.row (option_map row_seen c.args.before) c.requires.before
 
 pub returns-clause-made : goal.returns-clause-made
 returns-clause-made c =
     let now = c.args.self.now in
     let new = c.stand_before.new.self.plain in
     subst (λ b. Makes now.shape (Relocate c.args.index c.args.row.id b) now.plain c.new.result new) (names_same c.args.before)
-    (move_made now.shape now.plain c.keeps_rules.ensures c.args.index c.requires.index (row_seen c.args.row) c.requires.row (option_map row_seen c.args.before) c.requires.before
+    (move_made now.shape now.plain c.keeps_rules.ensures c.args.index c.requires.index
+    (row_seen c.args.row) c.requires.row (option_map row_seen c.args.before) c.requires.before
     _ c.new.result new c.row_behind-behind.ensures c.new.ensures c.stand_before.ensures.plain)

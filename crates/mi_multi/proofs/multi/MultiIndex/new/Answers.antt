@@ -8,9 +8,12 @@ pub invariant_of-result : goal.invariant_of-result
 invariant_of-result c =
     let s = c.args.schema in
     let opened : IsOpened s c.in_ok-nodes.nodes.pool c.in_ok-nodes.nodes.structures.items = rw c.in_ok-nodes.was at c.new.ensures in
-    let made = opened_multi s c.new-2.result.entries c.in_ok-nodes.nodes.pool c.in_ok-nodes.nodes.structures.items c.keeps_rules.ensures c.new-2.ensures opened in
-    subst (λ a. IsMulti s c.new-2.result.entries c.in_ok-nodes.nodes.pool c.in_ok-nodes.nodes.structures.items c.first_id-next.result a) (sym c.first_arrival-arrivals.ensures.value)
-    (subst (λ n. IsMulti s c.new-2.result.entries c.in_ok-nodes.nodes.pool c.in_ok-nodes.nodes.structures.items n s.first_arrival) (sym c.first_id-next.ensures.value) made)
+    let made = opened_multi s c.new-2.result.entries c.in_ok-nodes.nodes.pool
+    c.in_ok-nodes.nodes.structures.items c.keeps_rules.ensures c.new-2.ensures opened in
+    subst (λ a. IsMulti s c.new-2.result.entries c.in_ok-nodes.nodes.pool c.in_ok-nodes.nodes.structures.items c.first_id-next.result a)
+    (sym c.first_arrival-arrivals.ensures.value)
+    (subst (λ n. IsMulti s c.new-2.result.entries c.in_ok-nodes.nodes.pool c.in_ok-nodes.nodes.structures.items n s.first_arrival)
+    (sym c.first_id-next.ensures.value) made)
 
 pub returns-clause-plain : goal.returns-clause-plain
 returns-clause-plain c =

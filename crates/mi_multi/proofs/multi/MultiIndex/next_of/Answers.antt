@@ -4,7 +4,8 @@ use Rattle.mi_multi.proofs.KeyCalls.{hashed_reaches, in_chains, next_of_held, ne
 use Rattle.mi_multi.proofs.multi.MultiIndex.next_of.Goals as goal
 
 pub returns-in_default : goal.returns-in_default
-returns-in_default c = absurd (absent c.self.inside c.self.invariant c.args.self.now c.self.view_is c.args.id (sym c.live.ensures ∙ c.in_default.is) c.requires.id)
+returns-in_default c = absurd (absent c.self.inside c.self.invariant c.args.self.now
+    c.self.view_is c.args.id (sym c.live.ensures ∙ c.in_default.is) c.requires.id)
 
 pub structure_at-requires : goal.structure_at-requires
 structure_at-requires c = hashed_reaches c.self.inside c.self.invariant c.args.self.now c.self.view_is c.args.index c.requires.index

@@ -11,7 +11,8 @@ returns-then-n c =
     c.args.n c.requires (let l = c.if-n.true in omega arith)
 
 pub nth-node-requires : goal.nth-node-requires
-nth-node-requires c = in_order c.self.inside c.self.invariant c.args.self.now c.self.view_is c.args.index c.structure_at-structure.result.now c.structure_at-structure.ensures c.requires
+nth-node-requires c = in_order c.self.inside c.self.invariant c.args.self.now c.self.view_is
+    c.args.index c.structure_at-structure.result.now c.structure_at-structure.ensures c.requires
 
 pub id_of-requires : goal.id_of-requires
 id_of-requires c =

@@ -14,23 +14,28 @@ pub returns-then-same_key : goal.returns-then-same_key
 returns-then-same_key c =
     let same = sym c.if-same_key.true ∙ c.same_key.ensures ∙ ap (λ ps. is_eq (compare_key ps c.value.result.now.row c.args.new.now)) c.parts.ensures in
     ap (option_map place_seen) c.none.ensures
-    ∙ no_place c.self.inside c.self.invariant c.args.self.now c.self.view_is c.args.row c.requires.row c.args.index c.requires.index c.value.result.now c.value.ensures c.args.new.now same
+    ∙ no_place c.self.inside c.self.invariant c.args.self.now c.self.view_is c.args.row c.requires.row
+    c.args.index c.requires.index c.value.result.now c.value.ensures c.args.new.now same
 
 pub structure_at-structure-requires : goal.structure_at-structure-requires
-structure_at-structure-requires c = few_items c.self.inside c.self.invariant c.args.self.now c.self.view_is c.args.row c.requires.row c.args.index c.requires.index
+structure_at-structure-requires c = few_items c.self.inside c.self.invariant c.args.self.now
+    c.self.view_is c.args.row c.requires.row c.args.index c.requires.index
 
 pub place-place-requires-clause-slot : goal.place-place-requires-clause-slot
 place-place-requires-clause-slot c =
-    its_slot c.self.inside c.self.invariant c.args.self.now c.self.view_is c.args.row c.requires.row c.args.index c.requires.index c.structure_at-structure.result.now c.structure_at-structure.ensures
+    its_slot c.self.inside c.self.invariant c.args.self.now c.self.view_is c.args.row c.requires.row
+    c.args.index c.requires.index c.structure_at-structure.result.now c.structure_at-structure.ensures
 
 pub place-place-requires-clause-node : goal.place-place-requires-clause-node
 place-place-requires-clause-node c =
-    its_node c.self.inside c.self.invariant c.args.self.now c.self.view_is c.args.row c.requires.row c.args.index c.requires.index c.structure_at-structure.result.now c.structure_at-structure.ensures
+    its_node c.self.inside c.self.invariant c.args.self.now c.self.view_is c.args.row c.requires.row
+    c.args.index c.requires.index c.structure_at-structure.result.now c.structure_at-structure.ensures
 
 pub new-requires : goal.new-requires
 new-requires c =
     let other = sym c.if-same_key.false ∙ c.same_key.ensures ∙ ap (λ ps. is_eq (compare_key ps c.value.result.now.row c.args.new.now)) c.parts.ensures in
-    kept_stamp c.self.inside c.self.invariant c.args.self.now c.self.view_is c.args.row c.requires.row c.args.index c.requires.index c.value.result.now c.value.ensures c.args.new.now other
+    kept_stamp c.self.inside c.self.invariant c.args.self.now c.self.view_is c.args.row c.requires.row
+    c.args.index c.requires.index c.value.result.now c.value.ensures c.args.new.now other
     c.structure_at-structure.result.now c.structure_at-structure.ensures c.place-place.result c.place-place.ensures _ c.kept_place.ensures
 
 pub returns : goal.returns
@@ -38,5 +43,6 @@ returns c =
     let other = sym c.if-same_key.false ∙ c.same_key.ensures ∙ ap (λ ps. is_eq (compare_key ps c.value.result.now.row c.args.new.now)) c.parts.ensures in
     ap (option_map place_seen) c.new.ensures
     ∙ ap Some c.kept_place.ensures
-    ∙ some_place c.self.inside c.self.invariant c.args.self.now c.self.view_is c.args.row c.requires.row c.args.index c.requires.index c.value.result.now c.value.ensures c.args.new.now other
+    ∙ some_place c.self.inside c.self.invariant c.args.self.now c.self.view_is c.args.row c.requires.row
+    c.args.index c.requires.index c.value.result.now c.value.ensures c.args.new.now other
     c.structure_at-structure.result.now c.structure_at-structure.ensures c.place-place.result c.place-place.ensures

@@ -4,7 +4,8 @@ use Rattle.mi_multi.proofs.PutCalls.{has_node, live_row, node_held, put_ready, n
 use Rattle.mi_multi.proofs.multi.MultiIndex.put.Goals as goal
 
 pub unwrap-node-requires : goal.unwrap-node-requires
-unwrap-node-requires c = has_node c.self.inside c.self.invariant c.args.self.now c.self.view_is c.args.id c.args.row c.requires.allowed c.live.result c.live.ensures
+unwrap-node-requires c = has_node c.self.inside c.self.invariant c.args.self.now c.self.view_is
+    c.args.id c.args.row c.requires.allowed c.live.result c.live.ensures
 
 pub old_places-places-requires : goal.old_places-places-requires
 old_places-places-requires c =

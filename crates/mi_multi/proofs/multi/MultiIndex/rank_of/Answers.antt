@@ -3,7 +3,8 @@ use Rattle.mi_multi.proofs.Calls.{sorted_reaches, absent, ranked, rank_is, two_l
 use Rattle.mi_multi.proofs.multi.MultiIndex.rank_of.Goals as goal
 
 pub returns-in_default-clause-rank : goal.returns-in_default-clause-rank
-returns-in_default-clause-rank c = absurd (absent c.self.inside c.self.invariant c.args.self.now c.self.view_is c.args.id (sym c.live.ensures ∙ c.in_default.is) c.requires.id)
+returns-in_default-clause-rank c = absurd
+    (absent c.self.inside c.self.invariant c.args.self.now c.self.view_is c.args.id (sym c.live.ensures ∙ c.in_default.is) c.requires.id)
 
 pub structure_at-requires : goal.structure_at-requires
 structure_at-requires c = sorted_reaches c.self.inside c.self.invariant c.args.self.now c.self.view_is c.args.index c.requires.index

@@ -5,10 +5,12 @@ use Rattle.mi_multi.proofs.Replaced.{replace_refused, replace_no_memory, replace
 use Rattle.mi_multi.proofs.multi.MultiIndex.replace.Goals as goal
 
 pub returns-in-Some-clause-outcome : goal.returns-in-Some-clause-outcome
-returns-in-Some-clause-outcome c = replace_refused c.args.self.now.shape c.args.id c.args.row (table_of c.args.self.now.plain) c.in-Some.refusal (sym c.replace_refusal.ensures.refusal ∙ c.in-Some.is)
+returns-in-Some-clause-outcome c = replace_refused c.args.self.now.shape c.args.id c.args.row
+    (table_of c.args.self.now.plain) c.in-Some.refusal (sym c.replace_refusal.ensures.refusal ∙ c.in-Some.is)
 
 pub returns-in-Some-clause-memory : goal.returns-in-Some-clause-memory
-returns-in-Some-clause-memory c = replace_no_memory c.args.self.now.shape c.args.id c.args.row (table_of c.args.self.now.plain) c.in-Some.refusal (sym c.replace_refusal.ensures.refusal ∙ c.in-Some.is)
+returns-in-Some-clause-memory c = replace_no_memory c.args.self.now.shape c.args.id c.args.row
+    (table_of c.args.self.now.plain) c.in-Some.refusal (sym c.replace_refusal.ensures.refusal ∙ c.in-Some.is)
 
 pub put-requires-clause-allowed : goal.put-requires-clause-allowed
 put-requires-clause-allowed c =

@@ -28,8 +28,10 @@ invariant_of-self c =
     let there = kept_there i.schema i.ids.entries i.nodes.pool i.nodes.structures.items i.next i.arrivals c.args.row.id (row_seen c.args.row) kept in
     let f = c.free-freed.ensures in
     let items = ap (λ v. v.items) f.structures in
-    let was = f.stand c.self.invariant.rss c.self.invariant.stand (out i.schema i.ids.entries i.nodes.pool i.nodes.structures.items i.next i.arrivals c.self.invariant c.args.row.id c.args.row.node there) in
-    let stands = subst (λ v. AllStand v 0 (without i.nodes.pool c.args.row.node.name) c.self.invariant.rss) items (subst (λ p. AllStand c.free-freed.new.self.structures.items 0 p c.self.invariant.rss) f.pool was) in
+    let was = f.stand c.self.invariant.rss c.self.invariant.stand
+    (out i.schema i.ids.entries i.nodes.pool i.nodes.structures.items i.next i.arrivals c.self.invariant c.args.row.id c.args.row.node there) in
+    let stands = subst (λ v. AllStand v 0 (without i.nodes.pool c.args.row.node.name) c.self.invariant.rss) items
+    (subst (λ p. AllStand c.free-freed.new.self.structures.items 0 p c.self.invariant.rss) f.pool was) in
     subst (λ w. IsMulti i.schema w c.free-freed.new.self.pool c.free-freed.new.self.structures.items i.next i.arrivals) (sym c.remove.ensures.entries)
     (subst (λ p. IsMulti i.schema (remove i.ids.entries c.args.row.id) p c.free-freed.new.self.structures.items i.next i.arrivals) (sym f.pool)
     (subst (λ v. IsMulti i.schema (remove i.ids.entries c.args.row.id) (without i.nodes.pool c.args.row.node.name) v i.next i.arrivals) (sym items)
@@ -42,8 +44,10 @@ returns-clause-plain c =
     let there = kept_there i.schema i.ids.entries i.nodes.pool i.nodes.structures.items i.next i.arrivals c.args.row.id (row_seen c.args.row) kept in
     let f = c.free-freed.ensures in
     let items = ap (λ v. v.items) f.structures in
-    let was = f.stand c.self.invariant.rss c.self.invariant.stand (out i.schema i.ids.entries i.nodes.pool i.nodes.structures.items i.next i.arrivals c.self.invariant c.args.row.id c.args.row.node there) in
-    let stands = subst (λ v. AllStand v 0 (without i.nodes.pool c.args.row.node.name) c.self.invariant.rss) items (subst (λ p. AllStand c.free-freed.new.self.structures.items 0 p c.self.invariant.rss) f.pool was) in
+    let was = f.stand c.self.invariant.rss c.self.invariant.stand
+    (out i.schema i.ids.entries i.nodes.pool i.nodes.structures.items i.next i.arrivals c.self.invariant c.args.row.id c.args.row.node there) in
+    let stands = subst (λ v. AllStand v 0 (without i.nodes.pool c.args.row.node.name) c.self.invariant.rss) items
+    (subst (λ p. AllStand c.free-freed.new.self.structures.items 0 p c.self.invariant.rss) f.pool was) in
     let pool = f.pool in
     let entries = c.remove.ensures.entries in
     let new : Data = plain_of i.schema c.remove.new.self.entries c.free-freed.new.self.pool c.free-freed.new.self.structures.items i.next i.arrivals in

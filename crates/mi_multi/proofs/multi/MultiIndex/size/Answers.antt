@@ -7,4 +7,5 @@ node_count-requires c =
     (id_sorted c.self.inside c.self.invariant c.args.self.now c.self.view_is c.keeps_rules.ensures)
 
 pub returns : goal.returns
-returns c = count_is c.self.inside c.self.invariant c.args.self.now c.self.view_is 0 c.structure_at.result.now c.structure_at.ensures c.node_count.result c.node_count.ensures
+returns c = count_is c.self.inside c.self.invariant c.args.self.now c.self.view_is 0
+    c.structure_at.result.now c.structure_at.ensures c.node_count.result c.node_count.ensures

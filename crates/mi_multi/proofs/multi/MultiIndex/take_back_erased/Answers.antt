@@ -29,12 +29,16 @@ put_back-requires-clause-places c =
     let before = subst (λ (w : Seen). IsData w.shape (taken_back (Erased (row_seen c.args.row) None) w.plain)) (sym c.self.view_is) c.requires.before in
     let there = kept_there i.schema i.ids.entries i.nodes.pool i.nodes.structures.items i.next i.arrivals c.args.row.id r ready.0 in
     let meets = back_meets i.schema i.ids.entries i.nodes.pool i.nodes.structures.items i.next i.arrivals c.args.row.id r None ready in
-    let back = subst (IsData i.schema) (back_is i.schema i.ids.entries i.nodes.pool i.nodes.structures.items i.next i.arrivals c.args.row.id r None ready.0) before in
+    let back = subst (IsData i.schema)
+    (back_is i.schema i.ids.entries i.nodes.pool i.nodes.structures.items i.next i.arrivals c.args.row.id r None ready.0) before in
     record {
       rss = is.rss;
       stand = is.stand;
-      can = can_return i.schema i.ids.entries i.nodes.pool i.nodes.structures.items i.next i.arrivals is c.args.row.id c.args.row.node there meets (returned c.args.row.id (Some (kept_node_in i.nodes.pool (plan i.schema.indexes) c.args.row.node)) (seen_of i).plain) refl
-          (has_back i.schema i.ids.entries i.nodes.pool i.nodes.pool i.nodes.structures.items i.nodes.structures.items i.next i.arrivals is c.args.row.id c.args.row.node there) back;
+      can = can_return i.schema i.ids.entries i.nodes.pool i.nodes.structures.items i.next i.arrivals is c.args.row.id c.args.row.node there
+          meets (returned c.args.row.id (Some (kept_node_in i.nodes.pool (plan i.schema.indexes) c.args.row.node)) (seen_of i).plain) refl
+          (has_back i.schema i.ids.entries i.nodes.pool i.nodes.pool i.nodes.structures.items
+          i.nodes.structures.items i.next i.arrivals is c.args.row.id c.args.row.node there)
+          back;
     }
 
 pub invariant_of-self : goal.invariant_of-self
@@ -45,9 +49,11 @@ invariant_of-self c =
     let before = subst (λ (w : Seen). IsData w.shape (taken_back (Erased (row_seen c.args.row) None) w.plain)) (sym c.self.view_is) c.requires.before in
     let there = kept_there i.schema i.ids.entries i.nodes.pool i.nodes.structures.items i.next i.arrivals c.args.row.id r ready.0 in
     let meets = back_meets i.schema i.ids.entries i.nodes.pool i.nodes.structures.items i.next i.arrivals c.args.row.id r None ready in
-    let back = subst (IsData i.schema) (back_is i.schema i.ids.entries i.nodes.pool i.nodes.structures.items i.next i.arrivals c.args.row.id r None ready.0) before in
+    let back = subst (IsData i.schema)
+    (back_is i.schema i.ids.entries i.nodes.pool i.nodes.structures.items i.next i.arrivals c.args.row.id r None ready.0) before in
     subst (λ w. IsMulti i.schema w c.put_back.new.self.pool c.put_back.new.self.structures.items i.next i.arrivals) (sym c.revive.ensures.entries)
-    (back_multi i.schema i.ids.entries i.nodes.pool c.put_back.new.self.pool i.nodes.structures.items c.put_back.new.self.structures.items i.next i.arrivals c.self.invariant c.args.row.id c.args.row.node there meets back
+    (back_multi i.schema i.ids.entries i.nodes.pool c.put_back.new.self.pool i.nodes.structures.items
+    c.put_back.new.self.structures.items i.next i.arrivals c.self.invariant c.args.row.id c.args.row.node there meets back
     c.put_back.ensures.like c.put_back.ensures.pass)
 
 pub returns-clause-plain : goal.returns-clause-plain
@@ -63,6 +69,7 @@ returns-clause-plain c =
     let new : Data = plain_of i.schema c.revive.new.self.entries c.put_back.new.self.pool c.put_back.new.self.structures.items i.next i.arrivals in
     subst (λ (w : Seen). new ≡ taken_back (Erased (row_seen c.args.row) None) w.plain) c.self.view_is
     (ap (λ w. plain_of i.schema w c.put_back.new.self.pool c.put_back.new.self.structures.items i.next i.arrivals) c.revive.ensures.entries
-    ∙ back_seen i.schema i.ids.entries i.nodes.pool c.put_back.new.self.pool i.nodes.structures.items c.put_back.new.self.structures.items i.next i.arrivals c.self.invariant c.args.row.id c.args.row.node there meets back
+    ∙ back_seen i.schema i.ids.entries i.nodes.pool c.put_back.new.self.pool i.nodes.structures.items
+    c.put_back.new.self.structures.items i.next i.arrivals c.self.invariant c.args.row.id c.args.row.node there meets back
     c.put_back.ensures.like c.put_back.ensures.pass
     ∙ sym same)

@@ -3,7 +3,6 @@ use Rattle.std.proofs.lemmas.Result.{IfOk-weaker}
 use Rattle.mi_node.specs.Pool.{Pooled}
 use Rattle.mi_tree.specs.Walking.{beyond}
 use Rattle.mi_tree.specs.declared.walk.Direction.{Direction}
-use Rattle.mi_index.specs.Looks as nodes
 use Rattle.mi_index.specs.Standing.{Stands}
 use Rattle.mi_index.specs.Walks.{shown_row}
 use Rattle.mi_index.specs.declared.stored.Stored.{Stored}
@@ -12,7 +11,8 @@ use Rattle.mi_multi.proofs.WalkCalls.{a, slot_is, rows_are, stood}
 use Rattle.mi_multi.proofs.multi.MultiIndex.walk.Goals as goal
 
 pub returns-in_default-clause-rows : goal.returns-in_default-clause-rows
-returns-in_default-clause-rows c = absurd (absent c.self.inside c.self.invariant c.args.self.now c.self.view_is c.args.first (sym c.live.ensures ∙ c.in_default.is) c.requires.first)
+returns-in_default-clause-rows c = absurd
+    (absent c.self.inside c.self.invariant c.args.self.now c.self.view_is c.args.first (sym c.live.ensures ∙ c.in_default.is) c.requires.first)
 
 pub structure_at-structure-requires : goal.structure_at-structure-requires
 structure_at-structure-requires c = listed_reaches c.self.inside c.self.invariant c.args.self.now c.self.view_is c.args.index c.requires.index
@@ -43,11 +43,13 @@ returns-clause-rows c =
     is
     ∙ ap (λ (z : Pooled Stored). map (shown_row z) (take c.args.limit (node ∷ beyond c.direction-way.result around.xs around.ys))) c.new-pool.ensures.pool
     ∙ ap (λ (d : Direction). map (shown_row i.nodes.pool) (take c.args.limit (node ∷ beyond d around.xs around.ys))) c.direction-way.ensures
-    ∙ rows_are i c.self.invariant c.args.self.now c.self.view_is c.args.index y c.structure_at-structure.ensures c.args.first node there c.args.reverse c.args.limit)
+    ∙ rows_are i c.self.invariant c.args.self.now c.self.view_is c.args.index y
+    c.structure_at-structure.ensures c.args.first node there c.args.reverse c.args.limit)
     (c.walk.ensures.rows around.xs around.ys (subst (λ (z : Pooled Stored). Stands y z (around.xs ++ node ∷ around.ys)) (sym c.new-pool.ensures.pool) stands))
 
 pub returns-clause-steps : goal.returns-clause-steps
 returns-clause-steps c =
     let y = c.structure_at-structure.result.now in
-    one_look c.self.inside c.self.invariant c.args.self.now c.self.view_is c.args.index y c.structure_at-structure.ensures c.args.steps.now.count c.walk.new.steps.count
+    one_look c.self.inside c.self.invariant c.args.self.now c.self.view_is c.args.index y
+    c.structure_at-structure.ensures c.args.steps.now.count c.walk.new.steps.count
     (λ qs h. c.walk.ensures.steps qs (subst (λ (z : Pooled Stored). Stands y z qs) (sym c.new-pool.ensures.pool) h))

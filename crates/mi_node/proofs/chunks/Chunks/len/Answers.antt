@@ -6,4 +6,5 @@ use Rattle.mi_node.proofs.chunks.Chunks.len.Goals as goal
 pub returns : goal.returns
 returns g c =
     let cs = c.self.inside.chunks.items in
-    times c.len.result (length cs) (c.len.ensures ∙ c.self.inside.chunks.ok.0) ∙ sym (length-flat in_vec cs c.self.invariant.full) ∙ ap (λ (l : List g.row.E.Denot). length l) c.self.view_is
+    times c.len.result (length cs) (c.len.ensures ∙ c.self.inside.chunks.ok.0)
+    ∙ sym (length-flat in_vec cs c.self.invariant.full) ∙ ap (λ (l : List g.row.E.Denot). length l) c.self.view_is

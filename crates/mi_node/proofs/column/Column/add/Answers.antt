@@ -9,9 +9,11 @@ pub invariant_of-self-2 : goal.invariant_of-self-2
 invariant_of-self-2 c =
     let bs = c.self.inside.blocks.items in let b = c.in_ok-empty_block.field-0 in
     subst (IsChunked in_block) (sym (c.push_reserved.ensures.items ∙ ap (λ xs. xs ++ b ∷ []) c.reserve.ensures.items))
-    (IsChunked-end in_block bs b c.self.invariant (ap (λ xs. length xs) c.in_ok-empty_block.ensures ∙ length-replicate 4096 empty_cell) (subst (λ n. n < 524288) (c.len.ensures ∙ c.self.inside.blocks.ok.0) c.if-len-ge-MAX_CHUNKS.false))
+    (IsChunked-end in_block bs b c.self.invariant (ap (λ xs. length xs) c.in_ok-empty_block.ensures ∙ length-replicate 4096 empty_cell)
+    (subst (λ n. n < 524288) (c.len.ensures ∙ c.self.inside.blocks.ok.0) c.if-len-ge-MAX_CHUNKS.false))
 
 pub returns-clause-ok : goal.returns-clause-ok
 returns-clause-ok c =
     let bs = c.self.inside.blocks.items in let b = c.in_ok-empty_block.field-0 in
-    ap (flat in_block) (c.push_reserved.ensures.items ∙ ap (λ xs. xs ++ b ∷ []) c.reserve.ensures.items) ∙ flat-end in_block bs b ∙ ap (λ l. l ++ in_block b) c.self.view_is ∙ ap (λ xs. c.args.self.now ++ xs) c.in_ok-empty_block.ensures
+    ap (flat in_block) (c.push_reserved.ensures.items ∙ ap (λ xs. xs ++ b ∷ []) c.reserve.ensures.items) ∙ flat-end in_block bs b
+    ∙ ap (λ l. l ++ in_block b) c.self.view_is ∙ ap (λ xs. c.args.self.now ++ xs) c.in_ok-empty_block.ensures

@@ -7,4 +7,5 @@ use Rattle.mi_node.proofs.column.Column.len.Goals as goal
 pub returns : goal.returns
 returns c =
     let bs = c.self.inside.blocks.items in
-    times c.len.result (length bs) (c.len.ensures ∙ c.self.inside.blocks.ok.0) ∙ sym (length-flat in_block bs c.self.invariant.full) ∙ ap (λ (l : List Cell). length l) c.self.view_is
+    times c.len.result (length bs) (c.len.ensures ∙ c.self.inside.blocks.ok.0)
+    ∙ sym (length-flat in_block bs c.self.invariant.full) ∙ ap (λ (l : List Cell). length l) c.self.view_is

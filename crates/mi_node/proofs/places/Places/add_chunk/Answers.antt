@@ -6,7 +6,9 @@ use Rattle.mi_node.proofs.Maps.{seen-wide, seen-columns, seen-more, sound-wide, 
 use Rattle.mi_node.proofs.places.Places.add_chunk.Goals as goal
 
 pub returns-in_err-add_columns-clause-nodes : goal.returns-in_err-add_columns-clause-nodes
-returns-in_err-add_columns-clause-nodes g c = let p = c.args.self.now in let n = p.slots in let cs = p.columns.items in let hs = p.homes in let ds = c.add_columns.new.columns.items in seen-wide n cs ds hs c.requires c.add_columns.ensures.full
+returns-in_err-add_columns-clause-nodes g c =
+    let p = c.args.self.now in let n = p.slots in let cs = p.columns.items in let hs = p.homes in let ds = c.add_columns.new.columns.items in
+    seen-wide n cs ds hs c.requires c.add_columns.ensures.full
 
 pub returns-in_err-lengthen-clause-nodes : goal.returns-in_err-lengthen-clause-nodes
 returns-in_err-lengthen-clause-nodes g c =
@@ -20,12 +22,14 @@ returns-in_err-free_chunk-clause-nodes g c =
 
 pub returns-in_err-add-clause-nodes : goal.returns-in_err-add-clause-nodes
 returns-in_err-add-clause-nodes g c =
-    let p = c.args.self.now in let n = p.slots in let cs = p.columns.items in let hs = p.homes in let ds = c.add_columns.new.columns.items in let es = c.lengthen.new.columns.items in
+    let p = c.args.self.now in let n = p.slots in let cs = p.columns.items in let hs = p.homes in let ds = c.add_columns.new.columns.items in
+    let es = c.lengthen.new.columns.items in
     ap (seen n es) c.in_err-add.ensures.err ∙ seen-columns n ds es hs c.lengthen.ensures.links ∙ seen-wide n cs ds hs c.requires c.add_columns.ensures.full
 
 pub returns-clause-place : goal.returns-clause-place
 returns-clause-place g c =
-    let p = c.args.self.now in let n = p.slots in let cs = p.columns.items in let hs = p.homes in let ds = c.add_columns.new.columns.items in let es = c.lengthen.new.columns.items in
+    let p = c.args.self.now in let n = p.slots in let cs = p.columns.items in let hs = p.homes in let ds = c.add_columns.new.columns.items in
+    let es = c.lengthen.new.columns.items in
     let fs = c.in_ok-free_chunk.field-0.items in
     let free : AreFree (length hs) fs = subst (λ k. AreFree k fs) c.len-first.ensures c.in_ok-free_chunk.ensures.free in
     subst (λ gs. IsFreeAt gs c.len-first.result) (sym c.in_ok-add.ensures.ok)
@@ -33,16 +37,21 @@ returns-clause-place g c =
 
 pub returns-clause-nodes : goal.returns-clause-nodes
 returns-clause-nodes g c =
-    let p = c.args.self.now in let n = p.slots in let cs = p.columns.items in let hs = p.homes in let ds = c.add_columns.new.columns.items in let es = c.lengthen.new.columns.items in
+    let p = c.args.self.now in let n = p.slots in let cs = p.columns.items in let hs = p.homes in let ds = c.add_columns.new.columns.items in
+    let es = c.lengthen.new.columns.items in
     let fs = c.in_ok-free_chunk.field-0.items in
     let free : AreFree (length hs) fs = subst (λ k. AreFree k fs) c.len-first.ensures c.in_ok-free_chunk.ensures.free in
-    ap (seen n es) c.in_ok-add.ensures.ok ∙ seen-more n (length hs) es hs fs free ∙ seen-columns n ds es hs c.lengthen.ensures.links ∙ seen-wide n cs ds hs c.requires c.add_columns.ensures.full
+    ap (seen n es) c.in_ok-add.ensures.ok ∙ seen-more n (length hs) es hs fs free
+    ∙ seen-columns n ds es hs c.lengthen.ensures.links ∙ seen-wide n cs ds hs c.requires c.add_columns.ensures.full
 
 pub returns-clause-sound : goal.returns-clause-sound
 returns-clause-sound g c =
-    let p = c.args.self.now in let n = p.slots in let cs = p.columns.items in let hs = p.homes in let ds = c.add_columns.new.columns.items in let es = c.lengthen.new.columns.items in
+    let p = c.args.self.now in let n = p.slots in let cs = p.columns.items in let hs = p.homes in let ds = c.add_columns.new.columns.items in
+    let es = c.lengthen.new.columns.items in
     let fs = c.in_ok-free_chunk.field-0.items in
     let free : AreFree (length hs) fs = subst (λ k. AreFree k fs) c.len-first.ensures c.in_ok-free_chunk.ensures.free in
-    let sound = sound-columns n ds es hs (sound-wide n cs ds hs c.requires c.add_columns.ensures.few c.add_columns.ensures.full) c.lengthen.ensures.count c.lengthen.ensures.long in
-    let long : AreLong (length hs + length fs) es = subst (λ k. AreLong k es) (room_of c.len-first.result (length hs) (length fs) c.len-first.ensures c.in_ok-free_chunk.ensures.length) c.in_ok-lengthen.ensures.ok in
+    let sound = sound-columns n ds es hs (sound-wide n cs ds hs c.requires c.add_columns.ensures.few c.add_columns.ensures.full)
+    c.lengthen.ensures.count c.lengthen.ensures.long in
+    let long : AreLong (length hs + length fs) es = subst (λ k. AreLong k es)
+    (room_of c.len-first.result (length hs) (length fs) c.len-first.ensures c.in_ok-free_chunk.ensures.length) c.in_ok-lengthen.ensures.ok in
     subst (IsSound n es) (sym c.in_ok-add.ensures.ok) (sound-more n es hs fs sound (c.lengthen.ensures.count ∙ c.in_ok-add_columns.ensures.ok) free long)

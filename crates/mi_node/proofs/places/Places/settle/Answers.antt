@@ -13,7 +13,8 @@ pub next_at-node-requires : goal.next_at-node-requires
 next_at-node-requires g c = free_found c.args.self.now.homes c.args.place c.at.result.now c.requires.free c.at.ensures
 
 pub clear-requires : goal.clear-requires
-clear-requires g c s there = let p = c.args.self.now in up_to c.args.place (length p.homes) _ (free_less p.homes c.args.place c.requires.free) (c.requires.sound.long s there)
+clear-requires g c s there =
+    let p = c.args.self.now in up_to c.args.place (length p.homes) _ (free_less p.homes c.args.place c.requires.free) (c.requires.sound.long s there)
 
 pub set-requires : goal.set-requires
 set-requires g c = free_less c.args.self.now.homes c.args.place c.requires.free
@@ -21,20 +22,28 @@ set-requires g c = free_less c.args.self.now.homes c.args.place c.requires.free
 pub returns-clause-free : goal.returns-clause-free
 returns-clause-free g c =
     let p = c.args.self.now in
-    ap (ref_of (seen p.slots p.columns.items p.homes)) (c.next_at-node.ensures ∙ named_found p.homes c.args.place c.at.result.now c.requires.sound.named (free_less p.homes c.args.place c.requires.free) c.at.ensures) ∙ free-seen p.slots p.columns.items p.homes c.args.place c.requires.free
+    ap (ref_of (seen p.slots p.columns.items p.homes))
+    (c.next_at-node.ensures
+    ∙ named_found p.homes c.args.place c.at.result.now c.requires.sound.named (free_less p.homes c.args.place c.requires.free) c.at.ensures)
+    ∙ free-seen p.slots p.columns.items p.homes c.args.place c.requires.free
 
 pub returns-clause-nodes : goal.returns-clause-nodes
 returns-clause-nodes g c =
     let p = c.args.self.now in let r = c.next_at-node.result.0 in let ds = c.clear.new.columns.items in
-    let name : r.name ≡ c.args.place = c.next_at-node.ensures ∙ named_found p.homes c.args.place c.at.result.now c.requires.sound.named (free_less p.homes c.args.place c.requires.free) c.at.ensures in
-    let wide : length p.columns.items ≡ p.slots = some_wide p.slots p.columns.items p.homes c.args.place c.requires.sound (free_less p.homes c.args.place c.requires.free) in
+    let name : r.name ≡ c.args.place = c.next_at-node.ensures
+    ∙ named_found p.homes c.args.place c.at.result.now c.requires.sound.named (free_less p.homes c.args.place c.requires.free) c.at.ensures in
+    let wide : length p.columns.items ≡ p.slots = some_wide p.slots p.columns.items p.homes
+    c.args.place c.requires.sound (free_less p.homes c.args.place c.requires.free) in
     ap (seen p.slots ds) (c.set.ensures ∙ ap (λ k. slice_set p.homes k (Held r c.args.value)) (sym name))
-    ∙ seen-settled p.slots p.columns.items ds p.homes r c.args.value (subst (λ k. k < length p.homes) (sym name) (free_less p.homes c.args.place c.requires.free))
+    ∙ seen-settled p.slots p.columns.items ds p.homes r c.args.value
+    (subst (λ k. k < length p.homes) (sym name) (free_less p.homes c.args.place c.requires.free))
     (λ q e. c.clear.ensures.others q (ap (λ k. q == k) (sym name) ∙ e)) (ap (links_at ds) name ∙ c.clear.ensures.links ∙ ap (λ n. replicate n no_link) wide)
 
 pub returns-clause-sound : goal.returns-clause-sound
 returns-clause-sound g c =
     let p = c.args.self.now in let r = c.next_at-node.result.0 in let ds = c.clear.new.columns.items in
-    let name : r.name ≡ c.args.place = c.next_at-node.ensures ∙ named_found p.homes c.args.place c.at.result.now c.requires.sound.named (free_less p.homes c.args.place c.requires.free) c.at.ensures in
+    let name : r.name ≡ c.args.place = c.next_at-node.ensures
+    ∙ named_found p.homes c.args.place c.at.result.now c.requires.sound.named (free_less p.homes c.args.place c.requires.free) c.at.ensures in
     subst (λ hs. IsSound p.slots ds hs) (sym c.set.ensures)
-    (sound-set p.slots ds p.homes c.args.place (Held r c.args.value) (sound-columns p.slots p.columns.items ds p.homes c.requires.sound c.clear.ensures.count c.clear.ensures.long) name)
+    (sound-set p.slots ds p.homes c.args.place (Held r c.args.value)
+    (sound-columns p.slots p.columns.items ds p.homes c.requires.sound c.clear.ensures.count c.clear.ensures.long) name)

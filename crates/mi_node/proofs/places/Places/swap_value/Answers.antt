@@ -7,16 +7,24 @@ use Rattle.mi_node.proofs.Maps.{there, found, held_some, value-seen, seen-value,
 use Rattle.mi_node.proofs.places.Places.swap_value.Goals as goal
 
 pub replace-requires : goal.replace-requires
-replace-requires g c = let p = c.args.self.now in let t = there p.slots p.columns.items p.homes c.args.node c.requires.sound c.requires.held in subst (λ k. k < length c.args.self.now.homes) (sym c.name.ensures) t.less
+replace-requires g c =
+    let p = c.args.self.now in
+    let t = there p.slots p.columns.items p.homes c.args.node c.requires.sound c.requires.held in
+    subst (λ k. k < length c.args.self.now.homes) (sym c.name.ensures) t.less
 
 pub into_value-requires : goal.into_value-requires
-into_value-requires g c = let p = c.args.self.now in let t = there p.slots p.columns.items p.homes c.args.node c.requires.sound c.requires.held in held_some p.columns.items p.homes c.args.node t c.name.result c.replace.result c.name.ensures c.replace.ensures.item
+into_value-requires g c =
+    let p = c.args.self.now in
+    let t = there p.slots p.columns.items p.homes c.args.node c.requires.sound c.requires.held in
+    held_some p.columns.items p.homes c.args.node t c.name.result c.replace.result c.name.ensures c.replace.ensures.item
 
 pub returns-clause-value : goal.returns-clause-value
 returns-clause-value g c =
     let p = c.args.self.now in let t = there p.slots p.columns.items p.homes c.args.node c.requires.sound c.requires.held in
     value-seen p.slots p.columns.items p.homes c.args.node t
-    ∙ sym (ap (λ (h : Home g.row.T.Denot). value_in h) (found p.columns.items p.homes c.args.node t c.name.result c.replace.result c.name.ensures c.replace.ensures.item)) ∙ c.into_value.ensures
+    ∙ sym (ap (λ (h : Home g.row.T.Denot). value_in h)
+    (found p.columns.items p.homes c.args.node t c.name.result c.replace.result c.name.ensures c.replace.ensures.item))
+    ∙ c.into_value.ensures
 
 pub returns-clause-nodes : goal.returns-clause-nodes
 returns-clause-nodes g c =

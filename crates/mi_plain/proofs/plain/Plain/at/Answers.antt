@@ -11,7 +11,9 @@ use Rattle.mi_plain.proofs.plain.Plain.at.Goals as goal
 pub returns-clause-is : goal.returns-clause-is
 returns-clause-is c =
     let within : c.args.n < length c.self.inside.catalog.tables = omega (arith, c.requires, ap (λ (d : Database). length d.catalog.tables) c.self.view_is) in
-    let is : IsTable (schema_at c.self.inside.catalog c.args.n) (table_of (the_view c.self.inside) c.args.n) = table_is (the_view c.self.inside) c.args.n c.self.invariant.0 within in
+    let is : IsTable (schema_at c.self.inside.catalog c.args.n) (table_of (the_view c.self.inside) c.args.n) =
+    table_is (the_view c.self.inside) c.args.n c.self.invariant.0 within in
     let few : c.args.n < length c.self.inside.tables.items = omega (arith, within, c.self.invariant.1) in
     let found : c.index.result.now ≡ table_of (the_view c.self.inside) c.args.n = c.index.ensures ∙ get_or_default _ _ _ _ few in
-    subst (λ (s : Shape). IsTable s c.index.result.now) (sym c.table.ensures) (subst (λ (t : Table). IsTable (schema_at c.self.inside.catalog c.args.n) t) (sym found) is)
+    subst (λ (s : Shape). IsTable s c.index.result.now) (sym c.table.ensures)
+    (subst (λ (t : Table). IsTable (schema_at c.self.inside.catalog c.args.n) t) (sym found) is)

@@ -13,7 +13,13 @@ invariant_of-result c =
     let none : length c.new.result.items ≡ 0 = ap length c.new.ensures.items in
     let is : IsDatabase (record { catalog = c.args.catalog; tables = c.in_ok-tables.tables.items; old = []; revision = c.first_revision-revision.result }) =
     record { tables = all; old = tt; numbered = (omega arith) } in (
-      subst (λ old. IsDatabase (record { catalog = c.args.catalog; tables = c.in_ok-tables.tables.items; old = reverse old; revision = c.first_revision-revision.result })) (sym c.new.ensures.items) is,
+      subst (λ old. IsDatabase (record {
+        catalog = c.args.catalog;
+        tables = c.in_ok-tables.tables.items;
+        old = reverse old;
+        revision = c.first_revision-revision.result;
+      }))
+          (sym c.new.ensures.items) is,
       zip_length _ _ all,
       omega (arith, none),
       c.first_revision-revision.ensures.within,

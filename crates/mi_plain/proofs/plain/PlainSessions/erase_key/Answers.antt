@@ -16,16 +16,23 @@ returns c =
     let within : c.args.table < length c.self.inside.tables.items = omega (arith, ap (λ (d : Database). length d.catalog.tables) c.self.view_is) in
     let found : c.index_mut.result.now ≡ get_or c.self.inside.tables.items c.args.table (record { rows = []; lists = []; next = 0; arrivals = 0 }) =
     c.index_mut.ensures.value ∙ get_or_default _ _ _ _ within in
-    subst (λ (d : Database). Meets (erase_key_step c.args.table c.args.index c.args.key.now d) c.erase_key.result d (with_table c.args.table c.erase_key.new.self (the_view c.self.inside))) c.self.view_is
-    (meets_on_table c.args.table (λ s t. erase_key_outcome s c.args.index c.args.key.now t) (the_view c.self.inside) _ _ _ _ c.table-schema.ensures found c.erase_key.ensures)
+    subst (λ (d : Database). Meets (erase_key_step c.args.table c.args.index c.args.key.now d)
+    c.erase_key.result d (with_table c.args.table c.erase_key.new.self (the_view c.self.inside)))
+    c.self.view_is
+    (meets_on_table c.args.table (λ s t. erase_key_outcome s c.args.index c.args.key.now t)
+    (the_view c.self.inside) _ _ _ _ c.table-schema.ensures found c.erase_key.ensures)
 
 pub invariant_of-self : goal.invariant_of-self
 invariant_of-self c =
-    let within : c.args.table < length c.self.inside.tables.items = omega (arith, c.self.invariant.1, ap (λ (d : Database). length d.catalog.tables) c.self.view_is) in
+    let within : c.args.table < length c.self.inside.tables.items = omega
+    (arith, c.self.invariant.1, ap (λ (d : Database). length d.catalog.tables) c.self.view_is) in
     let found : c.index_mut.result.now ≡ get_or c.self.inside.tables.items c.args.table (record { rows = []; lists = []; next = 0; arrivals = 0 }) =
     c.index_mut.ensures.value ∙ get_or_default _ _ _ _ within in
-    let meets : Meets (erase_key_step c.args.table c.args.index c.args.key.now (the_view c.self.inside)) (c.erase_key.result) (the_view c.self.inside) (with_table c.args.table c.erase_key.new.self (the_view c.self.inside)) =
-    meets_on_table c.args.table (λ s t. erase_key_outcome s c.args.index c.args.key.now t) (the_view c.self.inside) _ _ _ _ c.table-schema.ensures found c.erase_key.ensures in
+    let meets : Meets (erase_key_step c.args.table c.args.index c.args.key.now (the_view c.self.inside)) (c.erase_key.result)
+    (the_view c.self.inside) (with_table c.args.table c.erase_key.new.self (the_view c.self.inside)) =
+    meets_on_table c.args.table (λ s t. erase_key_outcome s c.args.index c.args.key.now t)
+    (the_view c.self.inside) _ _ _ _ c.table-schema.ensures found c.erase_key.ensures in
     let is : IsDatabase (with_table c.args.table c.erase_key.new.self (the_view c.self.inside)) =
-    met_is _ _ _ _ c.self.invariant.0 (is_database_after (EraseKey c.args.table c.args.index c.args.key.now) (the_view c.self.inside) c.self.invariant.0) meets in
+    met_is _ _ _ _ c.self.invariant.0
+    (is_database_after (EraseKey c.args.table c.args.index c.args.key.now) (the_view c.self.inside) c.self.invariant.0) meets in
     (is, zip_length _ _ is.tables, c.self.invariant.2, c.self.invariant.3)

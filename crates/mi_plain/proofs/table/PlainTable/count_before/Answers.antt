@@ -14,6 +14,9 @@ is_before-requires-clause-id c = there_is c.args.self.now _ c.ids-ids.result.now
 
 pub overflow_add-n : goal.overflow_add-n
 overflow_add-n c =
-    let few = count-take (λ a. is_before c.args.index.now c.args.self.now (list_of c.args.self.now c.args.x) c.args.key.now c.args.cut a) c.loop-i.i c.ids-ids.result.now in
-    let counted : c.loop-i.n ≡ length (filter (λ a. is_before c.args.index.now c.args.self.now (list_of c.args.self.now c.args.x) c.args.key.now c.args.cut a) (take c.loop-i.i c.ids-ids.result.now)) = c.loop-i.invariant in
+    let few = count-take (λ a. is_before c.args.index.now c.args.self.now (list_of c.args.self.now c.args.x) c.args.key.now c.args.cut a)
+    c.loop-i.i c.ids-ids.result.now in
+    let counted : c.loop-i.n
+    ≡ length (filter (λ a. is_before c.args.index.now c.args.self.now (list_of c.args.self.now c.args.x) c.args.key.now c.args.cut a)
+    (take c.loop-i.i c.ids-ids.result.now)) = c.loop-i.invariant in
     omega (arith, few, counted, c.loop-i-test.true)

@@ -13,5 +13,6 @@ invariant_of-self-2 c =
     let pushed = c.in_default-push.ensures.items in (
       counters.0,
       counters.1,
-      subst (λ (rows : List Row). Rise (c.self.inside.next + 1) rows) (sym pushed) (rise_push c.self.inside.next c.self.inside.rows.items c.args.row c.self.invariant.2),
+      subst (λ (rows : List Row). Rise (c.self.inside.next + 1) rows) (sym pushed)
+          (rise_push c.self.inside.next c.self.inside.rows.items c.args.row c.self.invariant.2),
     )

@@ -13,4 +13,5 @@ pub later-best-requires-clause-id : goal.later-best-requires-clause-id
 later-best-requires-clause-id c = there_is c.args.self.now _ c.ids-ids.result.now c.loop-i.i 0 c.ids-ids.ensures c.requires.listed c.loop-i-test.true
 
 pub returns : goal.returns
-returns c = last_ends (order_in_total c.args.index.now c.args.self.now) _ c.loop-i.best _ c.ids-ids.result.now c.loop-i.i c.ids-ids.ensures c.loop-i-test.false c.loop-i.invariant.left
+returns c = last_ends (order_in_total c.args.index.now c.args.self.now) _ c.loop-i.best
+    _ c.ids-ids.result.now c.loop-i.i c.ids-ids.ensures c.loop-i-test.false c.loop-i.invariant.left

@@ -9,6 +9,7 @@ use Rattle.mi_plain.proofs.table.PlainTable.last_before.Given as goal
 abbrev pub invariant-loop-i : goal.invariant-loop-i
 invariant-loop-i l =
     record {
-      left : last_kept (order_in l.index l.self) (λ a. is_before l.index l.self (list_of l.self l.x) l.key l.cut a) l.best (drop l.i l.ids) ≡ last_kept (order_in l.index l.self) (λ a. is_before l.index l.self (list_of l.self l.x) l.key l.cut a) None l.ids;
+      left : last_kept (order_in l.index l.self) (λ a. is_before l.index l.self (list_of l.self l.x) l.key l.cut a) l.best (drop l.i l.ids)
+          ≡ last_kept (order_in l.index l.self) (λ a. is_before l.index l.self (list_of l.self l.x) l.key l.cut a) None l.ids;
       there : IfSome l.best (λ b. IsTrue (has l.self b));
     }

@@ -4,4 +4,5 @@ use Rattle.mi_plain.proofs.ShownLemmas.{lower_shown}
 use Rattle.mi_plain.proofs.table.PlainTable.lower.Goals as goal
 
 pub returns : goal.returns
-returns c = c.first_past.ensures ∙ lower_shown c.args.schema.now c.args.self.now c.args.x c.requires.is c.index.result.now c.index.ensures c.args.key.now c.requires.kind
+returns c = c.first_past.ensures
+    ∙ lower_shown c.args.schema.now c.args.self.now c.args.x c.requires.is c.index.result.now c.index.ensures c.args.key.now c.requires.kind

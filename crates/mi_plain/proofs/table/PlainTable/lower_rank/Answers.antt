@@ -4,4 +4,5 @@ use Rattle.mi_plain.proofs.ShownLemmas.{lower_rank_shown}
 use Rattle.mi_plain.proofs.table.PlainTable.lower_rank.Goals as goal
 
 pub returns : goal.returns
-returns c = c.count_before.ensures ∙ lower_rank_shown c.args.schema.now c.args.self.now c.args.x c.requires.is c.index.result.now c.index.ensures c.args.key.now c.requires.kind
+returns c = c.count_before.ensures
+    ∙ lower_rank_shown c.args.schema.now c.args.self.now c.args.x c.requires.is c.index.result.now c.index.ensures c.args.key.now c.requires.kind

@@ -12,5 +12,6 @@ invariant_of-self c =
     let arrivals : c.self.inside.arrivals + 1 ≤ LAST_COUNT = grind (arith, common_steps) in (
       c.self.invariant.0,
       arrivals,
-      subst (λ (rows : List Row). Rise c.self.inside.next rows) (sym c.set_row.ensures) (rise_set_value c.self.inside.next c.args.id c.args.row c.self.inside.rows.items c.self.invariant.2),
+      subst (λ (rows : List Row). Rise c.self.inside.next rows) (sym c.set_row.ensures)
+          (rise_set_value c.self.inside.next c.args.id c.args.row c.self.inside.rows.items c.self.invariant.2),
     )

@@ -10,5 +10,6 @@ pub invariant_of-self : goal.invariant_of-self
 invariant_of-self c = (
   c.self.invariant.0,
   c.self.invariant.1,
-  subst (λ (rows : List Row). Rise c.self.inside.next rows) (sym c.remove_row.ensures) (rise_filter c.self.inside.next (λ (r : Row). not (r.0 == c.args.id)) c.self.inside.rows.items c.self.invariant.2),
+  subst (λ (rows : List Row). Rise c.self.inside.next rows) (sym c.remove_row.ensures)
+      (rise_filter c.self.inside.next (λ (r : Row). not (r.0 == c.args.id)) c.self.inside.rows.items c.self.invariant.2),
 )

@@ -20,7 +20,8 @@ ids-init c =
     record {
       there = c.requires.first;
       taken = ap (map (λ r. (r.0, r.1.now))) c.new-rows.ensures.items ∙ sym (ap (λ n. map (row t) (take n (drop (rank_in shown c.args.first) shown))) none);
-      next = sym (at_rank_there t shown each c.args.first c.requires.first) ∙ ap (slice_get shown) (let e : rank_in shown c.args.first ≡ rank_in shown c.args.first + length c.new-rows.result.items = omega arith in e);
+      next = sym (at_rank_there t shown each c.args.first c.requires.first)
+          ∙ ap (slice_get shown) (let e : rank_in shown c.args.first ≡ rank_in shown c.args.first + length c.new-rows.result.items = omega arith in e);
       within = omega arith;
     }
 

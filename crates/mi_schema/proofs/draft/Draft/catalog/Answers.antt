@@ -15,4 +15,5 @@ pub new-requires : goal.new-requires
 new-requires c =
     let d : CatalogDraft = record { tables = c.self.inside.tables.items; first_revision = c.self.inside.first_revision } in
     let opens : c.unsigned_abs-first_revision.result ≡ unsigned_abs c.self.inside.first_revision = search rules in
-    catalog_holds d c.unsigned_abs-first_revision.result c.in_ok-tables.tables.items c.as_slice.result.now (ap fault_of c.self.view_is ∙ c.requires) opens c.as_slice.ensures.value c.in_ok-tables.ensures
+    catalog_holds d c.unsigned_abs-first_revision.result c.in_ok-tables.tables.items c.as_slice.result.now
+    (ap fault_of c.self.view_is ∙ c.requires) opens c.as_slice.ensures.value c.in_ok-tables.ensures

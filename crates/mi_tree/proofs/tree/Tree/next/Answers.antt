@@ -19,10 +19,12 @@ pub returns-clause-node : goal.returns-clause-node
 returns-clause-node g c xs ys h =
     let v = c.args in let ord = g.O.NodeOrder.order v.self.now.order in let tag = g.O.NodeOrder.tag_of v.self.now.order in
     let at : c.rank-rank.result + 1 ≡ suc (length xs + 0) = let e = c.rank-rank.ensures.rank xs ys h in omega arith in
-    c.nth.ensures.node ord tag (xs ++ v.node ∷ ys) (subst (λ (z : Pooled g.row.T.Denot). IsTree v.self.now z ord tag (xs ++ v.node ∷ ys)) (sym c.rank-rank.ensures.pool) h)
+    c.nth.ensures.node ord tag (xs ++ v.node ∷ ys)
+    (subst (λ (z : Pooled g.row.T.Denot). IsTree v.self.now z ord tag (xs ++ v.node ∷ ys)) (sym c.rank-rank.ensures.pool) h)
     ∙ ap (nth_of (xs ++ v.node ∷ ys)) at ∙ nth-after xs v.node ys 0 ∙ nth-first ys
 
 pub returns-clause-reads : goal.returns-clause-reads
 returns-clause-reads g c order tag rs h b f =
     let v = c.args in let i = c.rank-rank.ensures.reads order tag rs h b f in
-    let j = c.nth.ensures.reads order tag rs (subst (λ (z : Pooled g.row.T.Denot). IsTree v.self.now z order tag rs) (sym c.rank-rank.ensures.pool) h) b f in omega arith
+    let j = c.nth.ensures.reads order tag rs (subst (λ (z : Pooled g.row.T.Denot). IsTree v.self.now z order tag rs) (sym c.rank-rank.ensures.pool) h) b f in
+    omega arith

@@ -38,11 +38,13 @@ insert-requires g c =
     let one = c.args.one in let ys = c.args.two ∷ c.args.three ∷ [] in let h = c.requires.list in
     let gone = c.remove.ensures.list [] ys h in let fits = c.remove.ensures.remembers [] ys h in
     let list = c.make_room.ensures.list ys gone in let keeps = c.make_room.ensures.keeps ys gone in
-    let had : c.link-stamp.result.tag.stamp ≡ (link_of c.remove.new.p one.name c.args.chains.now.slot).tag.stamp = ap (λ (z : Link). z.tag.stamp) c.link-stamp.ensures ∙ ap (λ s. (link_of c.remove.new.p one.name s).tag.stamp) (sym c.requires.slot) in
+    let had : c.link-stamp.result.tag.stamp ≡ (link_of c.remove.new.p one.name c.args.chains.now.slot).tag.stamp =
+    ap (λ (z : Link). z.tag.stamp) c.link-stamp.ensures ∙ ap (λ s. (link_of c.remove.new.p one.name s).tag.stamp) (sym c.requires.slot) in
     let before : IsPlaced number_keying c.remove.new.p c.remove.new.self.slot one c.link-stamp.result.tag.stamp [] ys
     = subst (λ s. IsPlaced number_keying c.remove.new.p s one c.link-stamp.result.tag.stamp [] ys) (sym c.remove.ensures.slot)
     (subst (λ t. IsPlaced number_keying c.remove.new.p c.args.chains.now.slot one t [] ys) (sym had) fits.placed) in
-    let at = placed_kept c.remove.new.p c.make_room.new.p c.remove.new.self.slot c.make_room.new.self.slot ys c.make_room.ensures.slot keeps c.make_room.ensures.tags one c.link-stamp.result.tag.stamp [] ys before in
+    let at = placed_kept c.remove.new.p c.make_room.new.p c.remove.new.self.slot c.make_room.new.self.slot ys
+    c.make_room.ensures.slot keeps c.make_room.ensures.tags one c.link-stamp.result.tag.stamp [] ys before in
     ([], ys, list, at)
 
 pub returns-clause-list : goal.returns-clause-list
@@ -50,9 +52,11 @@ returns-clause-list g c =
     let one = c.args.one in let ys = c.args.two ∷ c.args.three ∷ [] in let h = c.requires.list in
     let gone = c.remove.ensures.list [] ys h in let fits = c.remove.ensures.remembers [] ys h in
     let list = c.make_room.ensures.list ys gone in let keeps = c.make_room.ensures.keeps ys gone in
-    let had : c.link-stamp.result.tag.stamp ≡ (link_of c.remove.new.p one.name c.args.chains.now.slot).tag.stamp = ap (λ (z : Link). z.tag.stamp) c.link-stamp.ensures ∙ ap (λ s. (link_of c.remove.new.p one.name s).tag.stamp) (sym c.requires.slot) in
+    let had : c.link-stamp.result.tag.stamp ≡ (link_of c.remove.new.p one.name c.args.chains.now.slot).tag.stamp =
+    ap (λ (z : Link). z.tag.stamp) c.link-stamp.ensures ∙ ap (λ s. (link_of c.remove.new.p one.name s).tag.stamp) (sym c.requires.slot) in
     let before : IsPlaced number_keying c.remove.new.p c.remove.new.self.slot one c.link-stamp.result.tag.stamp [] ys
     = subst (λ s. IsPlaced number_keying c.remove.new.p s one c.link-stamp.result.tag.stamp [] ys) (sym c.remove.ensures.slot)
     (subst (λ t. IsPlaced number_keying c.remove.new.p c.args.chains.now.slot one t [] ys) (sym had) fits.placed) in
-    let at = placed_kept c.remove.new.p c.make_room.new.p c.remove.new.self.slot c.make_room.new.self.slot ys c.make_room.ensures.slot keeps c.make_room.ensures.tags one c.link-stamp.result.tag.stamp [] ys before in
+    let at = placed_kept c.remove.new.p c.make_room.new.p c.remove.new.self.slot c.make_room.new.self.slot ys
+    c.make_room.ensures.slot keeps c.make_room.ensures.tags one c.link-stamp.result.tag.stamp [] ys before in
     c.insert.ensures.list [] ys list at

@@ -30,7 +30,8 @@ pub relink-requires : goal.relink-requires
 relink-requires g c =
     let two = c.args.two in let xs = c.args.one ∷ [] in let ys = c.args.three ∷ [] in let h = c.requires.list in
     let gone = c.remove.ensures.list xs ys h in let was = c.remove.ensures.remembers xs ys h in
-    let same : link_of c.remove.new.p two.name c.args.chains.now.slot ≡ c.link-remembered.result = ap (link_of c.remove.new.p two.name) c.requires.slot ∙ sym c.link-remembered.ensures in
+    let same : link_of c.remove.new.p two.name c.args.chains.now.slot ≡ c.link-remembered.result =
+    ap (link_of c.remove.new.p two.name) c.requires.slot ∙ sym c.link-remembered.ensures in
     let fits : FitsBetween number_keying c.remove.new.p c.remove.new.self.slot two c.link-remembered.result xs ys =
     subst (λ (z : ℕ × Link). FitsBetween number_keying c.remove.new.p z.0 two z.1 xs ys) (λ i. (sym c.remove.ensures.slot i, same i)) was in
     (xs, ys, gone, fits)
@@ -39,7 +40,8 @@ pub returns-clause-list : goal.returns-clause-list
 returns-clause-list g c =
     let two = c.args.two in let xs = c.args.one ∷ [] in let ys = c.args.three ∷ [] in let h = c.requires.list in
     let gone = c.remove.ensures.list xs ys h in let was = c.remove.ensures.remembers xs ys h in
-    let same : link_of c.remove.new.p two.name c.args.chains.now.slot ≡ c.link-remembered.result = ap (link_of c.remove.new.p two.name) c.requires.slot ∙ sym c.link-remembered.ensures in
+    let same : link_of c.remove.new.p two.name c.args.chains.now.slot ≡ c.link-remembered.result =
+    ap (link_of c.remove.new.p two.name) c.requires.slot ∙ sym c.link-remembered.ensures in
     let fits : FitsBetween number_keying c.remove.new.p c.remove.new.self.slot two c.link-remembered.result xs ys =
     subst (λ (z : ℕ × Link). FitsBetween number_keying c.remove.new.p z.0 two z.1 xs ys) (λ i. (sym c.remove.ensures.slot i, same i)) was in
     c.relink.ensures.list xs ys gone fits

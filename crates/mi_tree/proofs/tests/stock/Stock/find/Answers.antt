@@ -6,7 +6,9 @@ use Rattle.mi_tree.proofs.Stocks.{tree_held, first_held}
 use Rattle.mi_tree.proofs.tests.stock.Stock.find.Goals as goal
 
 pub find-node-requires : goal.find-node-requires
-find-node-requires c = let h = c.self.invariant in let s = c.self.inside in (h.rs, subst (λ z. IsTree s.tree z keyed_order (key_tag s.tree.order.tagged) h.rs) (sym c.new.ensures.pool) h.tree)
+find-node-requires c =
+    let h = c.self.invariant in let s = c.self.inside in
+    (h.rs, subst (λ z. IsTree s.tree z keyed_order (key_tag s.tree.order.tagged) h.rs) (sym c.new.ensures.pool) h.tree)
 
 pub id_of-requires : goal.id_of-requires
 id_of-requires c =

@@ -6,7 +6,9 @@ use Rattle.mi_tree.proofs.Stocks.{tree_held, nth_held}
 use Rattle.mi_tree.proofs.tests.stock.Stock.nth.Goals as goal
 
 pub nth-node-requires : goal.nth-node-requires
-nth-node-requires c = let h = c.self.invariant in let s = c.self.inside in let tag = key_tag s.tree.order.tagged in (keyed_order, tag, h.rs, subst (λ z. IsTree s.tree z keyed_order tag h.rs) (sym c.new.ensures.pool) h.tree)
+nth-node-requires c =
+    let h = c.self.invariant in let s = c.self.inside in let tag = key_tag s.tree.order.tagged in
+    (keyed_order, tag, h.rs, subst (λ z. IsTree s.tree z keyed_order tag h.rs) (sym c.new.ensures.pool) h.tree)
 
 pub id_of-requires : goal.id_of-requires
 id_of-requires c =

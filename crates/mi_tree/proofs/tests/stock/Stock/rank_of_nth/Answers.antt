@@ -5,7 +5,9 @@ use Rattle.mi_tree.proofs.Stocks.{nth_tree}
 use Rattle.mi_tree.proofs.tests.stock.Stock.rank_of_nth.Goals as goal
 
 pub nth-requires : goal.nth-requires
-nth-requires c = let h = c.self.invariant in let s = c.self.inside in let tag = key_tag s.tree.order.tagged in (keyed_order, tag, h.rs, subst (λ z. IsTree s.tree z keyed_order tag h.rs) (sym c.new-read.ensures.pool) h.tree)
+nth-requires c =
+    let h = c.self.invariant in let s = c.self.inside in let tag = key_tag s.tree.order.tagged in
+    (keyed_order, tag, h.rs, subst (λ z. IsTree s.tree z keyed_order tag h.rs) (sym c.new-read.ensures.pool) h.tree)
 
 pub rank-requires : goal.rank-requires
 rank-requires c =

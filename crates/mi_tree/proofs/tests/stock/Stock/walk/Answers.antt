@@ -5,7 +5,9 @@ use Rattle.mi_tree.specs.Walking.{IsWalk, beyond}
 use Rattle.mi_tree.proofs.tests.stock.Stock.walk.Goals as goal
 
 pub walk-walk-requires : goal.walk-walk-requires
-walk-walk-requires c = let h = c.self.invariant in let s = c.self.inside in let tag = key_tag s.tree.order.tagged in (keyed_order, tag, h.rs, subst (λ z. IsTree s.tree z keyed_order tag h.rs) (sym c.new-read.ensures.pool) h.tree)
+walk-walk-requires c =
+    let h = c.self.invariant in let s = c.self.inside in let tag = key_tag s.tree.order.tagged in
+    (keyed_order, tag, h.rs, subst (λ z. IsTree s.tree z keyed_order tag h.rs) (sym c.new-read.ensures.pool) h.tree)
 
 pub three_of-requires-clause-walk : goal.three_of-requires-clause-walk
 three_of-requires-clause-walk c =

@@ -1,0 +1,47 @@
+// The table `accounts` as a Boost.MultiIndex container with the same six indexes.
+//
+// Equals stand in the order in which they came to their key, and what takes a change back puts them back there. Boost promises
+// neither for an element whose key is changed, so each key has a stamp as its last part.
+//
+// `by_vip` is ordered here and not hashed: a hashed index of Boost walks the records of one key whenever one of them is modified,
+// and most of the table has one key.
+#pragma once
+#include <cstdint>
+#include <functional>
+#include <string>
+
+#include <boost/multi_index/composite_key.hpp>
+#include <boost/multi_index/hashed_index.hpp>
+#include <boost/multi_index/key.hpp>
+#include <boost/multi_index/ordered_index.hpp>
+#include <boost/multi_index/ranked_index.hpp>
+#include <boost/multi_index/sequenced_index.hpp>
+#include <boost/multi_index_container.hpp>
+
+namespace mi = boost::multi_index;
+
+struct Account {
+    std::int64_t id;
+    std::string owner;
+    std::int64_t balance;
+    bool vip;
+    std::int64_t balance_at, vip_at, class_at;
+};
+
+struct ById {};
+struct ByOwner {};
+struct ByBalance {};
+struct ByVip {};
+struct ByClass {};
+struct Line {};
+
+using Accounts = mi::multi_index_container<
+    Account,
+    mi::indexed_by<
+        mi::ranked_unique<mi::tag<ById>, mi::key<&Account::id>>,
+        mi::hashed_unique<mi::tag<ByOwner>, mi::key<&Account::owner>>,
+        mi::ranked_unique<mi::tag<ByBalance>, mi::key<&Account::balance, &Account::balance_at>>,
+        mi::ordered_unique<mi::tag<ByVip>, mi::key<&Account::vip, &Account::vip_at>>,
+        mi::ordered_unique<mi::tag<ByClass>, mi::key<&Account::vip, &Account::balance, &Account::class_at>,
+                           mi::composite_key_compare<std::greater<bool>, std::less<std::int64_t>, std::less<std::int64_t>>>,
+        mi::sequenced<mi::tag<Line>>>>;

@@ -1,0 +1,158 @@
+//! The built-in table in a container. Each call is one of the container's, and its inverse is settled or taken back at once.
+ghost use Rattle.std.specs.Prelude.{◌≡◌, ◌≤◌, IsTrue, IfOk, length};
+ghost use Rattle.mi_value.specs.declared.limits.TheConstants.{MAX_TEXT};
+ghost use Rattle.mi_catalog.specs.Accounts.{accounts};
+ghost use Rattle.mi_container.specs.Asked.{RecordFits, ShowsOneList};
+
+use mi_catalog::built_in;
+use mi_multi::MultiIndex;
+use mi_value::limits::MAX_TEXT;
+use mi_value::{Edit, Record, Steps, Text, Value};
+use std::alloc::{AllocError, Global};
+
+/// The columns.
+const BALANCE: usize = 1;
+
+/// The indexes that show one list.
+const BY_BALANCE: usize = 2;
+
+const BY_CLASS: usize = 4;
+
+const LINE: usize = 5;
+
+/// The table of accounts.
+#[derive(Drop)]
+pub(crate) struct Accounts {
+    rows: MultiIndex,
+    ghost built_in: { rows.shape ≡ accounts },
+}
+
+/// The record of an account.
+fn account(alloc: Global, owner: &str, balance: i64, vip: bool) -> Result<Record, AllocError>
+    requires { length owner.now ≤ MAX_TEXT }
+    ensures { IfOk result (λ row. RecordFits accounts row) }
+{
+    let owner = Value::Text(Text::of(alloc, owner)?);
+    Ok(Record::new(vec![in alloc; owner, Value::Int(balance), Value::Flag(vip)]?))
+}
+
+/// The balance of a record.
+fn balance_of(row: &Record) -> i64 {
+    match row.values() {
+        [_, Value::Int(balance), _] => *balance,
+        _ => 0,
+    }
+}
+
+impl Accounts {
+    pub(crate) fn new(alloc: Global) -> Result<Accounts, AllocError> {
+        let rows = MultiIndex::new(alloc, built_in(alloc)?, 1)?;
+        Ok(Accounts { rows })
+    }
+
+    pub(crate) fn size(&self) -> u64 {
+        self.rows.size()
+    }
+
+    /// Adds an account, whose id is answered if it is added.
+    pub(crate) fn insert(
+        &mut self,
+        alloc: Global,
+        owner: &str,
+        balance: i64,
+        vip: bool,
+    ) -> Option<u64> {
+        if owner.len() > MAX_TEXT {
+            return None;
+        }
+        let row = account(alloc, owner, balance, vip).ok()?;
+        self.rows.keeps_rules();
+        match self.rows.insert(alloc, row, None) {
+            Ok((id, inverse)) => {
+                self.rows.settle(inverse);
+                Some(id)
+            }
+            Err(_) => None,
+        }
+    }
+
+    /// The balance of an account.
+    pub(crate) fn balance(&self, id: u64) -> Option<i64> {
+        Some(balance_of(self.rows.get(id, &mut Steps::new())?))
+    }
+
+    /// Adds to the balance of an account, and tells whether it did.
+    pub(crate) fn add(&mut self, alloc: Global, id: u64, more: i64) -> bool {
+        self.rows.keeps_rules();
+        match self
+            .rows
+            .modify(alloc, id, &[Edit::Add(BALANCE, more)], true)
+        {
+            Ok(inverse) => {
+                self.rows.settle(inverse);
+                true
+            }
+            Err(_) => false,
+        }
+    }
+
+    /// Adds to the balance of an account and takes that back, and tells whether it did.
+    pub(crate) fn add_and_unwind(&mut self, alloc: Global, id: u64, more: i64) -> bool {
+        self.rows.keeps_rules();
+        match self
+            .rows
+            .modify(alloc, id, &[Edit::Add(BALANCE, more)], true)
+        {
+            Ok(inverse) => {
+                self.rows.unwind(inverse);
+                true
+            }
+            Err(_) => false,
+        }
+    }
+
+    /// Erases an account and takes that back, and tells whether it did.
+    pub(crate) fn erase_and_unwind(&mut self, id: u64) -> bool {
+        self.rows.keeps_rules();
+        match self.rows.erase(id) {
+            Ok(inverse) => {
+                self.rows.unwind(inverse);
+                true
+            }
+            Err(_) => false,
+        }
+    }
+
+    /// What the ids and balances make, in the order of an index.
+    fn digest_of(&self, alloc: Global, index: usize) -> Result<u64, AllocError>
+        requires { ShowsOneList accounts index }
+    {
+        let mut sum = 0u64;
+        let Some(first) = self.rows.first(index) else {
+            return Ok(sum);
+        };
+        if self.rows.get(first, &mut Steps::new()).is_none() {
+            return Ok(sum);
+        }
+        let rows = self
+            .rows
+            .walk(alloc, index, false, first, usize::MAX, &mut Steps::new())?;
+        for (id, row) in rows.iter() {
+            let balance = balance_of(row).cast_unsigned();
+            sum = sum
+                .wrapping_mul(31)
+                .wrapping_add(*id)
+                .wrapping_mul(31)
+                .wrapping_add(balance);
+        }
+        Ok(sum)
+    }
+
+    /// The same of the indexes by balance, by class and of the line.
+    pub(crate) fn digest(&self, alloc: Global) -> Result<u64, AllocError> {
+        let by_balance = self.digest_of(alloc, BY_BALANCE)?;
+        let by_class = self.digest_of(alloc, BY_CLASS)?;
+        let line = self.digest_of(alloc, LINE)?;
+        Ok(by_balance ^ by_class.rotate_left(1) ^ line.rotate_left(2))
+    }
+}

@@ -1,0 +1,453 @@
+//! Random lines, read into borrowed trees and by `serde_json` alone: both read the same.
+use json::Value;
+use mi_request::{Array, End, LineReader, Name, Object, Place, Request};
+use mi_value::Refusal;
+use serde_json::{Map, Value as Json};
+use std::alloc::{AllocError, Global};
+use std::test::Fail;
+
+/// Lines of each command, with members and texts of each kind.
+const LINES: [&str; 20] = [
+    "{\"cmd\":\"undo\"}",
+    "{\"cmd\":\"size\",\"table\":\"accounts\"}",
+    "{\"cmd\":\"get\",\"id\":7}",
+    "{\"cmd\":\"insert\",\"row\":{\"owner\":\"ann\",\"balance\":-5,\"vip\":true}}",
+    "{\"cmd\":\"insert\",\"row\":{\"a\\u0062\":\"\\ud83d\\ude00\"},\"before\":{\"index\":\"line\",\"id\":3}}",
+    "{\"cmd\":\"replace\",\"id\":9223372036854775807,\"row\":{}}",
+    "{\"cmd\":\"modify\",\"id\":0,\"set\":{\"owner\":\"b\"},\"add\":{\"balance\":18446744073709551615},\"rollback\":true}",
+    "{\"cmd\":\"erase_key\",\"index\":\"by_class\",\"key\":[true,1]}",
+    "{\"cmd\":\"relocate\",\"index\":\"line\",\"id\":1,\"before\":null}",
+    "{\"cmd\":\"commit\",\"revision\":3}",
+    "{\"cmd\":\"reserve\",\"changes\":3,\"sessions\":1}",
+    "{\"cmd\":\"nth\",\"index\":\"by_balance\",\"n\":0}",
+    "{\"cmd\":\"range\",\"index\":\"by_class\",\"lower\":{\"ge\":[true,-3]},\"upper\":{\"lt\":[false]},\"limit\":10}",
+    "{\"cmd\":\"list\",\"index\":\"line\",\"after\":4,\"limit\":1000}",
+    "{ \"cmd\" : \"rank\" , \"index\" : \"id\" , \"id\" : 2 }",
+    "{\"cmd\":\"count\",\"index\":\"by_owner\",\"key\":[\"\\\"\\n\"]}",
+    "{\"cmd\":\"revision\",\"cmd\":\"push\"}",
+    "{\"cmd\":\"squash\"}",
+    "{\"cmd\":\"erase\",\"id\":90}",
+    "{\"cmd\":\"size\"}",
+];
+
+/// What is put into a line.
+const PIECES: [&str; 20] = [
+    "",
+    " ",
+    "\"",
+    "\\",
+    "{",
+    "}",
+    "[",
+    "]",
+    ",",
+    ":",
+    "0",
+    "-",
+    "1.0",
+    "1e400",
+    "-0",
+    "null",
+    "\\u0063",
+    "\"id\":1,",
+    "\"cmd\":\"get\",",
+    "\u{e9}",
+];
+
+/// The next number of a linear congruential generator, 0 to 2^31 - 1.
+fn next(state: &mut u64) -> usize {
+    *state = state
+        .wrapping_mul(6_364_136_223_846_793_005)
+        .wrapping_add(1_442_695_040_888_963_407);
+    (*state >> 33) as usize
+}
+
+/// The line with a piece at a place, in which some bytes may have stood.
+fn with_piece(
+    alloc: Global,
+    line: &[u8],
+    at: usize,
+    left_out: usize,
+    piece: &[u8],
+) -> Result<Vec<u8>, AllocError> {
+    let (front, back) = line.split_at(at.min(line.len()));
+    let mut damaged = front.to_vec(alloc)?;
+    damaged.extend_from_slice(piece)?;
+    damaged.extend_from_slice(back.split_at(left_out.min(back.len())).1)?;
+    Ok(damaged)
+}
+
+fn random_line(alloc: Global, state: &mut u64) -> Result<Vec<u8>, AllocError> {
+    let mut line = LINES[next(state) % 20].as_bytes().to_vec(alloc)?;
+    for _ in 0..next(state) % 4 {
+        let at = next(state) % 96;
+        let left_out = next(state) % 3;
+        let piece = PIECES[next(state) % 20].as_bytes();
+        line = with_piece(alloc, line.as_slice(), at, left_out, piece)?;
+    }
+    Ok(line)
+}
+
+/// A number, read by `serde_json`.
+fn owned_number(alloc: Global, text: &str) -> Result<Json, AllocError> {
+    match Json::from_str(alloc, text) {
+        Ok(number) => Ok(number),
+        Err(_) => Err(AllocError),
+    }
+}
+
+/// A borrowed tree as a value of `serde_json`.
+#[cycle(owned)]
+fn owned(alloc: Global, value: &Value<'_>) -> Result<Json, AllocError> {
+    match value {
+        Value::Null => Ok(Json::Null),
+        Value::Bool(b) => Ok(Json::Bool(*b)),
+        Value::Number(text) => owned_number(alloc, *text),
+        Value::String(text) => Ok(Json::String(String::from_str(alloc, *text)?)),
+        Value::Array(items) => Ok(Json::Array(owned_items(alloc, items.as_slice())?)),
+        Value::Object(members) => Ok(Json::Object(owned_members(alloc, members.as_slice())?)),
+    }
+}
+
+#[cycle(owned)]
+fn owned_items(alloc: Global, items: &[Value<'_>]) -> Result<Vec<Json>, AllocError> {
+    let mut all = Vec::new(alloc);
+    for item in items {
+        all.push(owned(alloc, item)?)?;
+    }
+    Ok(all)
+}
+
+#[cycle(owned)]
+fn owned_members(
+    alloc: Global,
+    members: &[(&str, Value<'_>)],
+) -> Result<Map<String, Json>, AllocError> {
+    let mut all = Map::new(alloc);
+    for member in members {
+        let value = owned(alloc, &member.1)?;
+        serde_json::put(&mut all, alloc, member.0, value)?;
+    }
+    Ok(all)
+}
+
+/// A name that may be absent.
+fn is_name(member: Option<&Json>, name: Option<&Name<'_>>) -> bool {
+    match (member, name) {
+        (Some(value), Some(name)) => value.as_str() == Some(name.as_str()),
+        (None, None) => true,
+        _ => false,
+    }
+}
+
+fn is_number(member: Option<&Json>, n: u64) -> bool {
+    match member {
+        Some(value) => value.as_u64() == Some(n),
+        None => false,
+    }
+}
+
+/// A number that may be absent or null.
+fn is_optional(member: Option<&Json>, n: Option<u64>) -> bool {
+    match n {
+        Some(n) => is_number(member, n),
+        None => match member {
+            Some(value) => value.is_null(),
+            None => true,
+        },
+    }
+}
+
+/// A number of rows, which absent is 1,000.
+fn is_limit(member: Option<&Json>, limit: usize) -> bool {
+    match member {
+        Some(value) => value.as_u64() == Some(limit as u64),
+        None => limit == 1_000,
+    }
+}
+
+/// A flag, which absent is false.
+fn is_flag(member: Option<&Json>, flag: bool) -> bool {
+    match member {
+        Some(value) => value.as_bool() == Some(flag),
+        None => !flag,
+    }
+}
+
+/// An object, which absent has no members.
+fn is_object(
+    alloc: Global,
+    member: Option<&Json>,
+    object: &Object<'_>,
+) -> Result<bool, AllocError> {
+    let members = Json::Object(owned_members(alloc, object.members())?);
+    match member {
+        Some(value) => Ok(*value == members),
+        None => Ok(object.members().is_empty()),
+    }
+}
+
+fn is_array(alloc: Global, member: Option<&Json>, array: Array<'_>) -> Result<bool, AllocError> {
+    let items = array.into_items();
+    let items = Json::Array(owned_items(alloc, items.as_slice())?);
+    match member {
+        Some(value) => Ok(*value == items),
+        None => Ok(false),
+    }
+}
+
+fn is_end(
+    alloc: Global,
+    member: Option<&Json>,
+    with: &str,
+    without: &str,
+    end: End<'_>,
+) -> Result<bool, AllocError> {
+    match (member, end) {
+        (None, End::Open) => Ok(true),
+        (Some(value), End::With(key)) => is_array(alloc, value.get(with), key),
+        (Some(value), End::Without(key)) => is_array(alloc, value.get(without), key),
+        _ => Ok(false),
+    }
+}
+
+fn is_place(member: Option<&Json>, place: Option<&Place<'_>>) -> bool {
+    match (member, place) {
+        (Some(value), Some(place)) => is_name(value.get("index"), Some(&place.index))
+            && is_number(value.get("id"), place.id),
+        (Some(value), None) => value.is_null(),
+        (None, None) => true,
+        (None, Some(_)) => false,
+    }
+}
+
+/// The word of a request, and its table and index where it may have them.
+fn is_named(read: &Json, cmd: &str, table: Option<&Name<'_>>, index: Option<&Name<'_>>) -> bool {
+    let is_cmd = match read.get("cmd") {
+        Some(value) => value.as_str() == Some(cmd),
+        None => false,
+    };
+    is_cmd && is_name(read.get("table"), table) && is_name(read.get("index"), index)
+}
+
+fn is_keyed(
+    alloc: Global,
+    read: &Json,
+    cmd: &str,
+    table: Option<&Name<'_>>,
+    index: &Name<'_>,
+    key: Array<'_>,
+) -> Result<bool, AllocError> {
+    Ok(is_named(read, cmd, table, Some(index)) && is_array(alloc, read.get("key"), key)?)
+}
+
+/// Whether a look-up is that of the members that `serde_json` read.
+fn is_look_up(alloc: Global, read: &Json, request: Request<'_>) -> Result<bool, AllocError> {
+    match request {
+        Request::Revision => Ok(is_named(read, "revision", None, None)),
+        Request::Get { table, id } => Ok(
+            is_named(read, "get", table.as_ref(), None) && is_number(read.get("id"), id),
+        ),
+        Request::Find { table, index, key } => is_keyed(
+            alloc,
+            read,
+            "find",
+            table.as_ref(),
+            &index,
+            key,
+        ),
+        Request::Nth { table, index, n } => Ok(
+            is_named(read, "nth", table.as_ref(), Some(&index)) && is_number(read.get("n"), n),
+        ),
+        Request::Count { table, index, key } => is_keyed(
+            alloc,
+            read,
+            "count",
+            table.as_ref(),
+            &index,
+            key,
+        ),
+        Request::Range {
+            table,
+            index,
+            lower,
+            upper,
+            reverse,
+            limit,
+        } => Ok(
+            is_named(read, "range", table.as_ref(), Some(&index))
+                && is_end(alloc, read.get("lower"), "ge", "gt", lower)?
+                && is_end(alloc, read.get("upper"), "le", "lt", upper)?
+                && is_flag(read.get("reverse"), reverse)
+                && is_limit(read.get("limit"), limit),
+        ),
+        Request::List {
+            table,
+            index,
+            after,
+            limit,
+        } => Ok(
+            is_named(read, "list", table.as_ref(), Some(&index))
+                && is_optional(read.get("after"), after)
+                && is_limit(read.get("limit"), limit),
+        ),
+        Request::Rank { table, index, id } => Ok(
+            is_named(read, "rank", table.as_ref(), Some(&index)) && is_number(read.get("id"), id),
+        ),
+        Request::LowerRank { table, index, key } => is_keyed(
+            alloc,
+            read,
+            "lower_rank",
+            table.as_ref(),
+            &index,
+            key,
+        ),
+        Request::UpperRank { table, index, key } => is_keyed(
+            alloc,
+            read,
+            "upper_rank",
+            table.as_ref(),
+            &index,
+            key,
+        ),
+        Request::Size { table } => Ok(is_named(read, "size", table.as_ref(), None)),
+        _other => Ok(false),
+    }
+}
+
+/// Whether a session command or reserve is that of the members that `serde_json` read, or else the look-up is.
+fn is_step(alloc: Global, read: &Json, request: Request<'_>) -> Result<bool, AllocError> {
+    match request {
+        Request::Start => Ok(is_named(read, "start", None, None)),
+        Request::Undo => Ok(is_named(read, "undo", None, None)),
+        Request::Squash => Ok(is_named(read, "squash", None, None)),
+        Request::Commit { revision } => Ok(
+            is_named(read, "commit", None, None) && is_number(read.get("revision"), revision),
+        ),
+        Request::UndoAll => Ok(is_named(read, "undo_all", None, None)),
+        Request::Push => Ok(is_named(read, "push", None, None)),
+        Request::Reserve { changes, sessions } => Ok(
+            is_named(read, "reserve", None, None)
+                && is_number(read.get("changes"), changes)
+                && is_number(read.get("sessions"), sessions),
+        ),
+        other => is_look_up(alloc, read, other),
+    }
+}
+
+/// Whether a request is that of the members that `serde_json` read.
+fn is_request(alloc: Global, read: &Json, request: Request<'_>) -> Result<bool, AllocError> {
+    match request {
+        Request::Insert { table, row, before } => Ok(
+            is_named(read, "insert", table.as_ref(), None)
+                && is_object(alloc, read.get("row"), &row)?
+                && is_place(read.get("before"), before.as_ref()),
+        ),
+        Request::Replace { table, id, row } => Ok(
+            is_named(read, "replace", table.as_ref(), None)
+                && is_number(read.get("id"), id)
+                && is_object(alloc, read.get("row"), &row)?,
+        ),
+        Request::Modify {
+            table,
+            id,
+            set,
+            add,
+            rollback,
+        } => Ok(
+            is_named(read, "modify", table.as_ref(), None)
+                && is_number(read.get("id"), id)
+                && is_object(alloc, read.get("set"), &set)?
+                && is_object(alloc, read.get("add"), &add)?
+                && is_flag(read.get("rollback"), rollback),
+        ),
+        Request::Erase { table, id } => Ok(
+            is_named(read, "erase", table.as_ref(), None) && is_number(read.get("id"), id),
+        ),
+        Request::EraseKey { table, index, key } => is_keyed(
+            alloc,
+            read,
+            "erase_key",
+            table.as_ref(),
+            &index,
+            key,
+        ),
+        Request::Relocate {
+            table,
+            index,
+            id,
+            before,
+        } => Ok(
+            is_named(read, "relocate", table.as_ref(), Some(&index))
+                && is_number(read.get("id"), id)
+                && is_optional(read.get("before"), before),
+        ),
+        other => is_step(alloc, read, other),
+    }
+}
+
+/// How a line was read: a request, no command, or no JSON.
+#[derive(Clone, Copy, Debug, PartialEq, Eq)]
+enum Reading {
+    Request,
+    NoCommand,
+    NoJson,
+    Differs,
+}
+
+/// How both read a line.
+fn read_beside(
+    alloc: Global,
+    reader: &mut LineReader,
+    line: &[u8],
+    alone: Option<&Json>,
+) -> Result<Reading, AllocError> {
+    match (reader.parse(line), alone) {
+        (Ok(request), Some(read)) => if is_request(alloc, read, request)? {
+            Ok(Reading::Request)
+        } else {
+            Ok(Reading::Differs)
+        },
+        (Err(Refusal::Form), Some(_)) => Ok(Reading::NoCommand),
+        (Err(Refusal::Json), None) => Ok(Reading::NoJson),
+        _ => Ok(Reading::Differs),
+    }
+}
+
+/// How a line is read that means the same: as `serde_json` writes its value.
+fn rewritten(
+    alloc: Global,
+    reader: &mut LineReader,
+    alone: Option<&Json>,
+) -> Result<Reading, AllocError> {
+    match alone {
+        Some(read) => read_beside(alloc, reader, read.to_string(alloc)?.as_bytes(), alone),
+        None => Ok(Reading::NoJson),
+    }
+}
+
+/// 100,000 random lines, of which three in four are damaged: the kept reader finds the values that `serde_json` finds, and
+/// finds in a line the same as in it written anew.
+#[test]
+fn both_readers_read_the_same(rt: HostRuntime) -> Result<(), Fail> {
+    let alloc = rt.alloc();
+    let mut reader = LineReader::new(alloc);
+    let mut state = 2_026;
+    let mut counts = [0_usize; 3];
+    for _ in 0..100_000 {
+        let line = random_line(alloc, &mut state)?;
+        let alone = Json::from_slice(alloc, line.as_slice()).ok();
+        let kept = read_beside(alloc, &mut reader, line.as_slice(), alone.as_ref())?;
+        assert_ne!(rt; kept, Reading::Differs, "{line:?}");
+        assert_eq!(rt;
+            rewritten(alloc, &mut reader, alone.as_ref())?,
+            kept,
+            "{line:?}"
+        );
+        counts[kept as usize % 3] = counts[kept as usize % 3].wrapping_add(1);
+    }
+    for count in counts {
+        assert!(rt; count > 1_000, "{counts:?}");
+    }
+    Ok(())
+}

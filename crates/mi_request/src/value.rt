@@ -1,0 +1,86 @@
+//! A JSON value, seen by contracts as what it means. Its texts are borrowed from where it was read, and its numbers are read when
+//! they are asked for.
+use crate::array::Array;
+use crate::numbers::whole_number;
+use crate::object::Object;
+use json::Value;
+use std::marker::Model;
+
+/// A JSON value, seen as what it means.
+#[derive(Debug, Drop)]
+pub struct Json<'a> {
+    value: Value<'a>,
+}
+
+impl<'a> Model for Json<'a> {
+    ghost use Rattle.serde_json.specs.Data.{Data};
+    ghost use Rattle.mi_request.specs.Meant.{seen};
+    ghost use Rattle.mi_request.specs.ObjectCode.{data_code};
+
+    ghost Value = { Data };
+
+    ghost coded = { data_code };
+
+    ghost view = { λ a. seen a.value };
+}
+
+impl<'a> Json<'a> {
+    ghost use Rattle.std.specs.Prelude.{◌≡◌, is_some, option_map, option_and_then};
+    ghost use Rattle.serde_json.specs.Find.{as_null, as_bool, as_number, as_i64, as_str, as_array, as_object};
+    ghost use Rattle.mi_request.specs.Meant.{seen};
+
+    /// What a value means.
+    pub fn new(value: Value<'a>) -> Json<'a>
+        ensures { result ≡ seen value.entry }
+    {
+        Json { value }
+    }
+
+    /// Whether it is null.
+    pub fn is_null(&self) -> bool
+        ensures { result ≡ is_some (as_null self.now) }
+    {
+        self.value.is_null()
+    }
+
+    /// The whole number that it is, from -2^63 to 2^63 - 1, written without point and exponent.
+    pub fn as_i64(&self) -> Option<i64>
+        ensures { result ≡ option_and_then as_i64 (as_number self.now) }
+    {
+        whole_number(self.value.as_number()?)
+    }
+
+    /// Which of true and false it is.
+    pub fn as_bool(&self) -> Option<bool>
+        ensures { result ≡ as_bool self.now }
+    {
+        self.value.as_bool()
+    }
+
+    /// The text that it is.
+    pub fn as_str(&self) -> Option<&'a str>
+        ensures { option_map (λ s. s.now) result ≡ as_str self.now }
+    {
+        self.value.as_str()
+    }
+
+    /// The array that it is.
+    pub fn into_array(self) -> Option<Array<'a>>
+        ensures { result ≡ as_array self.entry }
+    {
+        match self.value {
+            Value::Array(items) => Some(Array::new(items)),
+            _other => None,
+        }
+    }
+
+    /// The object that it is.
+    pub fn into_object(self) -> Option<Object<'a>>
+        ensures { result ≡ as_object self.entry }
+    {
+        match self.value {
+            Value::Object(members) => Some(Object::new(members)),
+            _other => None,
+        }
+    }
+}
