@@ -71,6 +71,7 @@ mutual
   of_members-meant : (ms : json.Members) (found : Members) → is_some (of_members ms found) ≡ true → of_members ms found ≡ Some (meant_members ms found)
   of_members-meant json.no_members found e = refl
   of_members-meant (json.member k j ms) found e =
-      let p = both (is_some (of_json j)) (is_some (of_members ms no_members)) (sym (some-member k j ms) ∙ some-after (json.member k j ms) no_members found ∙ e) in
+      let all = sym (some-member k j ms) ∙ some-after (json.member k j ms) no_members found ∙ e in
+      let p = both (is_some (of_json j)) (is_some (of_members ms no_members)) all in
       ap (option_and_then (λ d. of_members ms (put k d found))) (of_json-meant j p.0)
       ∙ of_members-meant ms (put k (meant j) found) (some-after ms (put k (meant j) found) no_members ∙ p.1)

@@ -7,7 +7,7 @@ use Rattle.std.specs.Cmp.Lexicographic.{slice_cmp}
 use Rattle.std.specs.Str.{bytes_eq}
 use Rattle.std.proofs.lemmas.Map.Text.{is_eq-slice_cmp}
 use Rattle.std.proofs.lemmas.Slice.Eq.{bytes_eq-Decides}
-use Rattle.json.specs.Value.{value_view, members_view}
+use Rattle.json.specs.Value.{members_view}
 use Rattle.json.specs.declared.value.Value.{Value, Null, the_lemmas}
 use Rattle.serde_json.specs.Data.{Data, null, Members, no_members, member, put}
 use Rattle.serde_json.specs.Find.{get_member}
@@ -194,7 +194,8 @@ put_behind b true i r = refl
 put_behind b false i r = refl
 
 -- a member behind the others is the last of its name
-pub last_at-push : (name : List ℕ) (ms : List Member) (m : Member) → last_at name (ms ++ m ∷ []) ≡ cond (bytes_eq name m.0.now) (Some (length ms)) (last_at name ms)
+pub last_at-push : (name : List ℕ) (ms : List Member) (m : Member)
+    → last_at name (ms ++ m ∷ []) ≡ cond (bytes_eq name m.0.now) (Some (length ms)) (last_at name ms)
 last_at-push name [] m = put_first (bytes_eq name m.0.now)
 last_at-push name (n ∷ ms) m =
     ap (or_first (bytes_eq name n.0.now)) (last_at-push name ms m)

@@ -19,4 +19,5 @@ returns-else-has_minus c =
     let s = c.as_bytes-bytes.result.now in
     let plain : (get_or s 0 0 == 45) ≡ false = sym c.if-has_minus.ensures.value in
     let read : number_from false (scan s) ≡ number_of s = rw plain in
-    c.unsigned.ensures ∙ ap (option_and_then as_i64) (ap (number_from false) c.scan-else-has_minus.ensures.parts ∙ read ∙ ap number_of c.as_bytes-bytes.ensures.value)
+    let parts = ap (number_from false) c.scan-else-has_minus.ensures.parts in
+    c.unsigned.ensures ∙ ap (option_and_then as_i64) (parts ∙ read ∙ ap number_of c.as_bytes-bytes.ensures.value)

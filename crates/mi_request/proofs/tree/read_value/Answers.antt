@@ -18,5 +18,6 @@ returns-clause-ok c =
     let empty : c.first_value.new.reader ≡ [] = grind arith in
     let good : is_some (of_json (value_view v)) ≡ true = grind arith in
     let found : json.value 127 (tokens bytes) ≡ Some (value_view v, []) =
-    ap (json.value 127) (sym (c.in-Ok-new.ensures.ok ∙ ap tokens text.0)) ∙ c.in_ok-value.ensures.ok ∙ ap (λ (ts : List Token). Some (value_view v, ts)) empty in
+    ap (json.value 127) (sym (c.in-Ok-new.ensures.ok ∙ ap tokens text.0)) ∙ c.in_ok-value.ensures.ok
+    ∙ ap (λ (ts : List Token). Some (value_view v, ts)) empty in
     json-found bytes _ text.1 (text-read bytes (value_view v) found good) ∙ ap Some (sym c.new-2.ensures)

@@ -2,4 +2,6 @@ use Rattle.mi_request.proofs.Parsing.{answer-value}
 use Rattle.mi_request.proofs.line_reader.LineReader.read.Goals as goal
 
 pub returns-clause-answer : goal.returns-clause-answer
-returns-clause-answer c = rw c.ok_or.ensures.value (answer-value c.request_of.result c.args.line.now c.in_ok-value.value c.in_ok-value.ensures.ok c.request_of.ensures)
+returns-clause-answer c =
+    rw c.ok_or.ensures.value
+    (answer-value c.request_of.result c.args.line.now c.in_ok-value.value c.in_ok-value.ensures.ok c.request_of.ensures)

@@ -4,4 +4,5 @@ use Rattle.mi_request.proofs.ObjectLemmas.{kept}
 use Rattle.mi_request.proofs.object.Object.into_two.Goals as goal
 
 pub returns-clause-second : goal.returns-clause-second
-returns-clause-second c = c.move_out.ensures.value ∙ kept c.args.second.now c.args.first.now c.args.self c.move_out-value.new.self c.move_out-value.ensures.rest c.requires
+returns-clause-second c =
+    c.move_out.ensures.value ∙ kept c.args.second.now c.args.first.now c.args.self c.move_out-value.new.self c.move_out-value.ensures.rest c.requires
