@@ -1,5 +1,6 @@
 -- The refusals of a change name an index that is there.
-use Rattle.std.proofs.Common.{◌≡◌, ℕ, ◌+◌, ◌<◌, ◌≤◌, List, [], ◌∷◌, length, drop, Bool, true, false, cond, not, ◌||◌, ◌&&◌, ◌==◌, Option, Some, None, Result, Ok, Err, refl, sym, ap, ◌∙◌, subst, arith, inl, inr, ◌⊎◌}
+use Rattle.std.proofs.Common.{◌≡◌, ℕ, ◌+◌, ◌<◌, ◌≤◌, List, [], ◌∷◌, length, drop, Bool, true, false, cond, not, ◌||◌, ◌&&◌}
+use Rattle.std.proofs.Common.{◌==◌, Option, Some, None, Result, Ok, Err, refl, sym, ap, ◌∙◌, subst, arith, inl, inr, ◌⊎◌}
 use Rattle.std.specs.Option.{option_map, option_map_or, option_or}
 use Rattle.mi_value.specs.declared.value.Value.{Value}
 use Rattle.mi_value.specs.declared.refusal.Refusal.{Refusal}
@@ -12,7 +13,8 @@ use Rattle.mi_model.specs.Conflict.{rival, conflict_from, conflict}
 use Rattle.mi_value.specs.declared.edit.Edit.{Edit}
 use Rattle.mi_value.specs.Edits.{apply}
 use Rattle.mi_model.specs.Table.{has, row}
-use Rattle.mi_model.specs.Verdict.{Outcome, has_place, is_spent, as_unique, unless, insert_refusal, insert_outcome, replace_refusal, replace_outcome, refused_modify, modified, modify_outcome, erase_outcome, relocate_outcome}
+use Rattle.mi_model.specs.Verdict.{Outcome, has_place, is_spent, as_unique, unless, insert_refusal, insert_outcome, replace_refusal}
+use Rattle.mi_model.specs.Verdict.{replace_outcome, refused_modify, modified, modify_outcome, erase_outcome, relocate_outcome}
 use Rattle.mi_model.specs.Database.{Database, Step, schema_of, table_of}
 use Rattle.mi_model.specs.Steps.{MeetsRefusal, insert_step, replace_step, modify_step, erase_step, relocate_step, erase_key_step}
 use Rattle.mi_protocol.specs.Replies.{IsRefusalOf}
@@ -25,12 +27,14 @@ within_more : (m n : ℕ) (o : Option (ℕ × ℕ)) → m ≤ n → Within m o �
 within_more m n None le h = tt
 within_more m n (Some at) le h = omega arith
 
-within_first : (n m : ℕ) (b : Bool) (o : Option ℕ) (rest : Option (ℕ × ℕ)) → n < m → Within m rest → Within m (option_or (cond b (option_map (λ id. (n, id)) o) None) rest)
+within_first : (n m : ℕ) (b : Bool) (o : Option ℕ) (rest : Option (ℕ × ℕ)) → n < m
+    → Within m rest → Within m (option_or (cond b (option_map (λ id. (n, id)) o) None) rest)
 within_first n m true None rest lt h = h
 within_first n m true (Some id) rest lt h = lt
 within_first n m false o rest lt h = h
 
-conflict_from-within : (n : ℕ) (is : List Index) (rows : List Row) (r : List Value) (except : Option ℕ) → Within (n + length is) (conflict_from n is rows r except)
+conflict_from-within : (n : ℕ) (is : List Index) (rows : List Row) (r : List Value) (except : Option ℕ)
+    → Within (n + length is) (conflict_from n is rows r except)
 conflict_from-within n [] rows r except = tt
 conflict_from-within n (i ∷ is) rows r except =
     within_first n (n + length (i ∷ is)) i.«unique» (rival rows i.parts r except) (conflict_from (n + 1) is rows r except) (omega arith)
@@ -151,8 +155,10 @@ module _ (d new : Database) (table : ℕ) (e : Refusal) (there : table < length 
   pub replace_refusal_said : (id : ℕ) (row : List Value) → MeetsRefusal (replace_step table id row d) e d new → IsRefusalOf new.catalog table e
   replace_refusal_said id row = refusal_said (replace_step table id row d) refl (replace-within (schema_of d table) id row (table_of d table))
 
-  pub modify_refusal_said : (id : ℕ) (edits : List Edit) (rollback : Bool) → MeetsRefusal (modify_step table id edits rollback d) e d new → IsRefusalOf new.catalog table e
-  modify_refusal_said id edits rollback = refusal_said (modify_step table id edits rollback d) refl (modify-within (schema_of d table) id edits rollback (table_of d table))
+  pub modify_refusal_said : (id : ℕ) (edits : List Edit) (rollback : Bool)
+      → MeetsRefusal (modify_step table id edits rollback d) e d new → IsRefusalOf new.catalog table e
+  modify_refusal_said id edits rollback = refusal_said (modify_step table id edits rollback d)
+      refl (modify-within (schema_of d table) id edits rollback (table_of d table))
 
   pub erase_refusal_said : (id : ℕ) → MeetsRefusal (erase_step table id d) e d new → IsRefusalOf new.catalog table e
   erase_refusal_said id = refusal_said (erase_step table id d) refl (erase-within (length (schema_of d table).indexes) id (table_of d table))
@@ -160,5 +166,7 @@ module _ (d new : Database) (table : ℕ) (e : Refusal) (there : table < length 
   pub erase_key_refusal_said : (index : ℕ) (key : List Value) → MeetsRefusal (erase_key_step table index key d) e d new → IsRefusalOf new.catalog table e
   erase_key_refusal_said index key = refusal_said (erase_key_step table index key d) refl tt
 
-  pub relocate_refusal_said : (index id : ℕ) (before : Option ℕ) → MeetsRefusal (relocate_step table index id before d) e d new → IsRefusalOf new.catalog table e
-  relocate_refusal_said index id before = refusal_said (relocate_step table index id before d) refl (relocate-within (length (schema_of d table).indexes) index id before (table_of d table))
+  pub relocate_refusal_said : (index id : ℕ) (before : Option ℕ)
+      → MeetsRefusal (relocate_step table index id before d) e d new → IsRefusalOf new.catalog table e
+  relocate_refusal_said index id before = refusal_said (relocate_step table index id before d) refl
+      (relocate-within (length (schema_of d table).indexes) index id before (table_of d table))

@@ -21,7 +21,8 @@ impl<D: Sessions + Drop> Executor<D> {
         before: Option<(usize, u64)>,
     ) -> ReplyText
         requires { FitsCatalog self.old.database.catalog (Command.Insert table row before) }
-        ensures { GivenOrMemory (Unit {0}) (changed inserted (refused table) (insert_step table before row self.old.database) self.old) self.old (text_bytes result) self.new }
+        ensures { GivenOrMemory (Unit {0}) (changed inserted (refused table) (insert_step table before row self.old.database) self.old)
+            self.old (text_bytes result) self.new }
     {
         match self.database.insert(self.alloc, table, row, before) {
             Ok(id) => self.say(Reply::Inserted(id)),
@@ -32,7 +33,8 @@ impl<D: Sessions + Drop> Executor<D> {
     /// Sets another record for an id.
     pub(crate) fn replace(&mut self, table: usize, id: u64, row: Record) -> ReplyText
         requires { FitsCatalog self.old.database.catalog (Command.Replace table id row) }
-        ensures { GivenOrMemory (Unit {0}) (changed all_done (refused table) (replace_step table id row self.old.database) self.old) self.old (text_bytes result) self.new }
+        ensures { GivenOrMemory (Unit {0}) (changed all_done (refused table) (replace_step table id row self.old.database) self.old)
+            self.old (text_bytes result) self.new }
     {
         match self.database.replace(self.alloc, table, id, row) {
             Ok(()) => self.say(Reply::Done),
@@ -49,7 +51,8 @@ impl<D: Sessions + Drop> Executor<D> {
         rollback: bool,
     ) -> ReplyText
         requires { FitsCatalog self.old.database.catalog (Command.Modify table id edits.now rollback) }
-        ensures { GivenOrMemory (Unit {0}) (changed all_done (refused_modify table) (modify_step table id edits.now rollback self.old.database) self.old) self.old (text_bytes result) self.new }
+        ensures { GivenOrMemory (Unit {0}) (changed all_done (refused_modify table) (modify_step table id edits.now rollback self.old.database) self.old)
+            self.old (text_bytes result) self.new }
     {
         match self.database.modify(self.alloc, table, id, edits, rollback) {
             Ok(()) => self.say(Reply::Done),
@@ -60,7 +63,8 @@ impl<D: Sessions + Drop> Executor<D> {
     /// Erases a record.
     pub(crate) fn erase(&mut self, table: usize, id: u64) -> ReplyText
         requires { FitsCatalog self.old.database.catalog (Command.Erase table id) }
-        ensures { GivenOrMemory (Unit {0}) (changed all_done (refused table) (erase_step table id self.old.database) self.old) self.old (text_bytes result) self.new }
+        ensures { GivenOrMemory (Unit {0}) (changed all_done (refused table) (erase_step table id self.old.database) self.old)
+            self.old (text_bytes result) self.new }
     {
         match self.database.erase(self.alloc, table, id) {
             Ok(()) => self.say(Reply::Done),
@@ -71,7 +75,8 @@ impl<D: Sessions + Drop> Executor<D> {
     /// Erases every record with a key.
     pub(crate) fn erase_key(&mut self, table: usize, index: usize, key: &[Value]) -> ReplyText
         requires { FitsCatalog self.old.database.catalog (Command.EraseKey table index key.now) }
-        ensures { GivenOrMemory (Unit {0}) (changed erased (refused table) (erase_key_step table index key.now self.old.database) self.old) self.old (text_bytes result) self.new }
+        ensures { GivenOrMemory (Unit {0}) (changed erased (refused table) (erase_key_step table index key.now self.old.database) self.old)
+            self.old (text_bytes result) self.new }
     {
         match self.database.erase_key(self.alloc, table, index, key) {
             Ok(count) => self.say(Reply::Erased(count)),
@@ -88,7 +93,8 @@ impl<D: Sessions + Drop> Executor<D> {
         before: Option<u64>,
     ) -> ReplyText
         requires { FitsCatalog self.old.database.catalog (Command.Relocate table index id before) }
-        ensures { GivenOrMemory (Unit {0}) (changed all_done (refused table) (relocate_step table index id before self.old.database) self.old) self.old (text_bytes result) self.new }
+        ensures { GivenOrMemory (Unit {0}) (changed all_done (refused table) (relocate_step table index id before self.old.database) self.old)
+            self.old (text_bytes result) self.new }
     {
         match self.database.relocate(self.alloc, table, index, id, before) {
             Ok(()) => self.say(Reply::Done),

@@ -78,7 +78,8 @@ impl<D: Sessions + Drop> Executor<D> {
         limit: usize,
     ) -> ReplyText
         requires { FitsCatalog self.now.database.catalog (Command.Range table index lower.now upper.now reverse limit) }
-        ensures { GivenOrMemory (Unit {0}) (done self.now 0 (Command.Range table index lower.now upper.now reverse limit)) self.now (text_bytes result) self.now }
+        ensures { GivenOrMemory (Unit {0}) (done self.now 0 (Command.Range table index lower.now upper.now reverse limit))
+            self.now (text_bytes result) self.now }
     {
         let mut steps = Steps::new();
         match range(

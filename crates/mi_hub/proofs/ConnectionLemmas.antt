@@ -1,5 +1,6 @@
 -- Finding, changing and taking out a connection.
-use Rattle.std.proofs.Common.{◌≡◌, ℕ, zero, suc, ◌<◌, List, [], ◌∷◌, ◌++◌, length, get_or, Bool, true, false, cond, nat_eq, Option, Some, None, is_some, refl, sym, ap, ◌∙◌, arith, inl, inr, ◌⊎◌}
+use Rattle.std.proofs.Common.{◌≡◌, ℕ, zero, suc, ◌<◌, List, [], ◌∷◌, ◌++◌, length, get_or, Bool, true, false}
+use Rattle.std.proofs.Common.{cond, nat_eq, Option, Some, None, is_some, refl, sym, ap, ◌∙◌, arith, inl, inr, ◌⊎◌}
 use Rattle.mi_hub.specs.Lines.{Rest}
 use Rattle.mi_hub.specs.Connections.{rest_at, with_rest, others}
 use Rattle.mi_hub.specs.Places.{StandsAt}
@@ -26,7 +27,8 @@ there conn (y ∷ xs) zero lt same h =
       same = same;
       rest = λ d. ap (λ b. cond b (Some y.rest) (rest_at conn xs)) test;
       removed = sym (ap (λ b. cond b xs (y ∷ others conn xs)) test);
-      written = λ r. ap (λ n. record { id = n; rest = r } ∷ xs) (sym (same y)) ∙ sym (ap (λ b. cond b (record { id = y.id; rest = r } ∷ xs) (y ∷ with_rest conn r xs)) test);
+      written = λ r. ap (λ n. record { id = n; rest = r } ∷ xs) (sym (same y))
+          ∙ sym (ap (λ b. cond b (record { id = y.id; rest = r } ∷ xs) (y ∷ with_rest conn r xs)) test);
     }
 there conn (y ∷ xs) (suc i) lt same h =
     let test = other_test y.id conn (h 0 y (omega arith)) in
@@ -38,7 +40,8 @@ there conn (y ∷ xs) (suc i) lt same h =
       written = λ r. ap (λ ls. y ∷ ls) (p.written r) ∙ sym (ap (λ b. cond b (record { id = y.id; rest = r } ∷ xs) (y ∷ with_rest conn r xs)) test);
     }
 
-pub same_at : (conn : ℕ) (xs : List Connection) (i : ℕ) (x : Connection) → i < length xs → x ≡ get_or xs i x → x.id ≡ conn → (d : Connection) → (get_or xs i d).id ≡ conn
+pub same_at : (conn : ℕ) (xs : List Connection) (i : ℕ) (x : Connection) → i < length xs
+    → x ≡ get_or xs i x → x.id ≡ conn → (d : Connection) → (get_or xs i d).id ≡ conn
 same_at conn [] i x lt is same d = absurd (omega arith)
 same_at conn (y ∷ xs) zero x lt is same d = ap (λ (z : Connection). z.id) (sym is) ∙ same
 same_at conn (y ∷ xs) (suc i) x lt is same d = same_at conn xs i x (omega arith) is same d

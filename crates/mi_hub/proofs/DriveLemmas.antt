@@ -13,7 +13,8 @@ module _ (events : List Given) (i : ℕ) (e : Given) (inside : i < length events
     (so_far : AllDone old (map event_of (take i events)) first mid) where
   pub run_next : Done mid (event_of e) later new → AllDone old (map event_of (take (i + 1) events)) (first ++ later) new
   run_next done =
-      subst (λ es. AllDone old es (first ++ later) new) (sym (map_more event_of events i e inside ∙ ap (λ x. map event_of (take i events) ++ event_of x ∷ []) (sym is)))
+      subst (λ es. AllDone old es (first ++ later) new)
+      (sym (map_more event_of events i e inside ∙ ap (λ x. map event_of (take i events) ++ event_of x ∷ []) (sym is)))
       (run_append Done (map event_of (take i events)) (event_of e ∷ []) old mid new first later so_far (one Done (event_of e) mid new later done))
 
   pub stopped_here : (fault : HubFault) → NotDone mid (event_of e) fault later new → Stopped old (map event_of events) i fault (first ++ later) new

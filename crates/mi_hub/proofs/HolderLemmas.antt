@@ -1,5 +1,6 @@
 -- Whoever holds sessions is attached: each answer keeps that, and so does each event.
-use Rattle.std.proofs.Common.{◌≡◌, ℕ, ◌-◌, min, List, [], ◌∷◌, ◌++◌, Bool, true, false, ◌&&◌, cond, nat_eq, nat_le, get_or, set, remove, Option, Some, None, IsSome, is_some, Result, Ok, Err, OnOk, OnErr, refl, sym, ap, ◌∙◌, subst, inl, inr, arith}
+use Rattle.std.proofs.Common.{◌≡◌, ℕ, ◌-◌, min, List, [], ◌∷◌, ◌++◌, Bool, true, false, ◌&&◌, cond, nat_eq, nat_le, get_or, set, remove}
+use Rattle.std.proofs.Common.{Option, Some, None, IsSome, is_some, Result, Ok, Err, OnOk, OnErr, refl, sym, ap, ◌∙◌, subst, inl, inr, arith}
 use Rattle.mi_value.specs.declared.refusal.Refusal.{Refusal}
 use Rattle.mi_value.specs.declared.refusal.Refusal.TheVariants.{Busy}
 use Rattle.mi_protocol.specs.Lines.{command_line}
@@ -82,7 +83,8 @@ module _ (cs : List Connection) where
     by_bound s (Ok c) h = by_command s c h
     by_bound s (Err e) h = h
 
-    by_request : (s : Held) (r : Result Request Refusal) → holder_is_attached s.holder cs ≡ true → holder_is_attached (request_answer s conn r).1.holder cs ≡ true
+    by_request : (s : Held) (r : Result Request Refusal) → holder_is_attached s.holder cs ≡ true
+        → holder_is_attached (request_answer s conn r).1.holder cs ≡ true
     by_request s (Ok r) h = kept (keeps_out r && is_busy s.holder conn)
       where
         kept : (b : Bool) → holder_is_attached (cond b (refusal s Busy) (command_answer s conn (bound_command s.database.catalog r))).1.holder cs ≡ true
@@ -94,25 +96,30 @@ module _ (cs : List Connection) where
     by_answer s (text t) h = by_request s (command_line t) h
     by_answer s too_long h = h
 
-    by_reply : (s t : Held) (line : Asked) (reply : List ℕ) → MayGive conn s line reply t → holder_is_attached s.holder cs ≡ true → holder_is_attached t.holder cs ≡ true
+    by_reply : (s t : Held) (line : Asked) (reply : List ℕ) → MayGive conn s line reply t
+        → holder_is_attached s.holder cs ≡ true → holder_is_attached t.holder cs ≡ true
     by_reply s t line reply (inl p) h = ap (λ (u : Held). holder_is_attached u.holder cs) p.1 ∙ by_answer s line h
     by_reply s t line reply (inr p) h = ap (λ (u : Held). holder_is_attached u.holder cs) p.1.1 ∙ h
 
-    in_turn : (lines : List Asked) (replies : List (List ℕ)) (s t : Held) → InTurn (MayGive conn) s lines replies t → holder_is_attached s.holder cs ≡ true → holder_is_attached t.holder cs ≡ true
+    in_turn : (lines : List Asked) (replies : List (List ℕ)) (s t : Held) → InTurn (MayGive conn) s lines replies t
+        → holder_is_attached s.holder cs ≡ true → holder_is_attached t.holder cs ≡ true
     in_turn [] [] s t p h = ap (λ (u : Held). holder_is_attached u.holder cs) p ∙ h
     in_turn [] (r ∷ replies) s t p h = absurd p
     in_turn (l ∷ lines) [] s t p h = absurd p
     in_turn (l ∷ lines) (r ∷ replies) s t p h = in_turn lines replies p.0 t p.2 (by_reply s p.0 l r p.1 h)
 
-    pub served_holder : (lines : List Asked) (out : List ℕ) (s t : Held) → Served (MayGive conn) s lines out t → holder_is_attached s.holder cs ≡ true → holder_is_attached t.holder cs ≡ true
+    pub served_holder : (lines : List Asked) (out : List ℕ) (s t : Held) → Served (MayGive conn) s lines out t
+        → holder_is_attached s.holder cs ≡ true → holder_is_attached t.holder cs ≡ true
     served_holder lines out s t p h = in_turn lines p.replies s t p.in_turn h
 
-    pub cut_holder : (lines : List Asked) (out : List ℕ) (s t : Held) → CutOff (MayGive conn) s lines out t → holder_is_attached s.holder cs ≡ true → holder_is_attached t.holder cs ≡ true
+    pub cut_holder : (lines : List Asked) (out : List ℕ) (s t : Held) → CutOff (MayGive conn) s lines out t
+        → holder_is_attached s.holder cs ≡ true → holder_is_attached t.holder cs ≡ true
     cut_holder lines out s t p h = in_turn (p.asked ++ p.line ∷ []) (p.replies ++ p.reply ∷ []) s t p.in_turn h
 
 -- ---- events
 
-pub gone_holder : (conn : ℕ) (o : Option Holder) (cs : List Connection) → holder_is_attached o cs ≡ true → holder_is_attached (without_holder conn o) (others conn cs) ≡ true
+pub gone_holder : (conn : ℕ) (o : Option Holder) (cs : List Connection) → holder_is_attached o cs ≡ true
+    → holder_is_attached (without_holder conn o) (others conn cs) ≡ true
 gone_holder conn None cs h = refl
 gone_holder conn (Some x) cs h = by_test (nat_eq x.conn conn) refl
   where
@@ -127,13 +134,15 @@ pub more_attached : (o : Option Holder) (cs ds : List Connection) → holder_is_
 more_attached None cs ds h = refl
 more_attached (Some x) cs ds h = some_append x.conn cs ds h
 
-pub another_rest : (conn : ℕ) (r : Rest) (o : Option Holder) (cs : List Connection) → holder_is_attached o cs ≡ true → holder_is_attached o (with_rest conn r cs) ≡ true
+pub another_rest : (conn : ℕ) (r : Rest) (o : Option Holder) (cs : List Connection)
+    → holder_is_attached o cs ≡ true → holder_is_attached o (with_rest conn r cs) ≡ true
 another_rest conn r None cs h = refl
 another_rest conn r (Some x) cs h = some_with_rest x.conn conn r cs ∙ h
 
 -- ---- the hub's own calls: its fields, and the state that they are
 
-pub pushed_holder : (b : Bool) (o : Option Holder) (cs ds new : List Connection) → new ≡ cond b (cs ++ ds) cs → holder_is_attached o cs ≡ true → holder_is_attached o new ≡ true
+pub pushed_holder : (b : Bool) (o : Option Holder) (cs ds new : List Connection)
+    → new ≡ cond b (cs ++ ds) cs → holder_is_attached o cs ≡ true → holder_is_attached o new ≡ true
 pushed_holder true o cs ds new is h = ap (holder_is_attached o) is ∙ more_attached o cs ds h
 pushed_holder false o cs ds new is h = ap (holder_is_attached o) is ∙ h
 
@@ -152,8 +161,10 @@ module _ (conn at : ℕ) (old : HubState) (h : Held) (cs : List Connection) (vie
     pub lines_holder : {T E : Type 0} (W V : List ℕ → Type 0) (new : Held) (lines : List Asked) (r : Result T E)
         → OnOk r ((out : List ℕ) × W out × Served (MayGive conn) h lines out new) → OnErr r ((out : List ℕ) × V out × CutOff (MayGive conn) h lines out new)
         → holder_is_attached h.holder cs ≡ true → holder_is_attached new.holder cs ≡ true
-    lines_holder W V new lines (Ok v) ok err kept = served_holder cs conn (ap is_some (stands_here.rest (record { id = 0; rest = None }))) lines ok.0 h new ok.2 kept
-    lines_holder W V new lines (Err e) ok err kept = cut_holder cs conn (ap is_some (stands_here.rest (record { id = 0; rest = None }))) lines err.0 h new err.2 kept
+    lines_holder W V new lines (Ok v) ok err kept = served_holder cs conn
+        (ap is_some (stands_here.rest (record { id = 0; rest = None }))) lines ok.0 h new ok.2 kept
+    lines_holder W V new lines (Err e) ok err kept = cut_holder cs conn
+        (ap is_some (stands_here.rest (record { id = 0; rest = None }))) lines err.0 h new err.2 kept
 
     module _ (x : Connection) (is : x ≡ get_or cs at x) (kept_rest : Rest) where
       another : set cs at (record { id = x.id; rest = kept_rest }) ≡ with_rest conn kept_rest cs
@@ -163,4 +174,5 @@ module _ (conn at : ℕ) (old : HubState) (h : Held) (cs : List Connection) (vie
       fed_holder o kept = ap (holder_is_attached o) another ∙ another_rest conn kept_rest o cs kept
 
       pub fed_leaves : remove (set cs at (record { id = x.id; rest = kept_rest })) at ≡ others conn (set cs at (record { id = x.id; rest = kept_rest }))
-      fed_leaves = remove-set cs at (record { id = x.id; rest = kept_rest }) ∙ stands_here.removed ∙ sym (ap (others conn) another ∙ others-with_rest conn kept_rest cs)
+      fed_leaves = remove-set cs at (record { id = x.id; rest = kept_rest }) ∙ stands_here.removed
+          ∙ sym (ap (others conn) another ∙ others-with_rest conn kept_rest cs)

@@ -1,5 +1,6 @@
 -- How the lines of bytes come together from those of their parts.
-use Rattle.std.proofs.Common.{◌≡◌, ℕ, zero, suc, ◌<◌, List, [], ◌∷◌, ◌++◌, length, take, drop, get_or, Bool, true, false, cond, nat_lt, nat_eq, Option, Some, None, map, option_to_list, refl, sym, ap, ◌∙◌, arith, rules, append_assoc, append-nil, length-append, inl, inr, ◌⊎◌}
+use Rattle.std.proofs.Common.{◌≡◌, ℕ, zero, suc, ◌<◌, List, [], ◌∷◌, ◌++◌, length, take, drop, get_or, Bool, true, false, cond, nat_lt, nat_eq, Option}
+use Rattle.std.proofs.Common.{Some, None, map, option_to_list, refl, sym, ap, ◌∙◌, arith, rules, append_assoc, append-nil, length-append, inl, inr, ◌⊎◌}
 use Rattle.std.specs.List.{filter_map, cons_option}
 use Rattle.std.proofs.lemmas.List.Elements.{filter_map-append}
 use Rattle.std.proofs.lemmas.List.{map-append}
@@ -284,7 +285,8 @@ filter_map-map (t ∷ ts) = ap (cons_option (ended_line (marked t))) (filter_map
 
 behind-joined : (x : List ℕ) (ts : List (List ℕ)) → filter_map kept_line (put_text x ts) ≡ filter_map ended_line (behind (marked x) ts)
 behind-joined x [] = refl
-behind-joined x (t ∷ ts) = ap (λ m. cons_option (ended_line m) (filter_map kept_line ts)) (sym (extended-marked x t)) ∙ ap (cons_option (ended_line (extended (marked x) t))) (filter_map-map ts)
+behind-joined x (t ∷ ts) = ap (λ m. cons_option (ended_line m) (filter_map kept_line ts)) (sym (extended-marked x t))
+    ∙ ap (cons_option (ended_line (extended (marked x) t))) (filter_map-map ts)
 
 -- nothing before
 pub lines_from-nothing : (b : List ℕ) → lines_from (Some []) b ≡ lines_of b
@@ -322,22 +324,26 @@ from_ended r front back h = (
   ap (λ ts. filter_map ended_line (behind r ts)) (ended-at front back h)
       ∙ first (ended_line (extended r front)) (filter_map ended_line (map marked (ended back)))
       ∙ ap (λ ls. option_to_list (ended_line (extended r front)) ++ ls) (sym (filter_map-map (ended back)) ∙ sym (lines_from-nothing back)),
-  if_none-some (ended (front ++ 10 ∷ back)) _ _ (λ e. some_is (sym (ended-at front back h) ∙ e)) ∙ ap marked (after-at front back h) ∙ sym (rest_from-nothing back),
+  if_none-some (ended (front ++ 10 ∷ back)) _ _ (λ e. some_is (sym (ended-at front back h) ∙ e))
+      ∙ ap marked (after-at front back h) ∙ sym (rest_from-nothing back),
 )
   where
     first : (o : Option Asked) (ls : List Asked) → cons_option o ls ≡ option_to_list o ++ ls
     first None ls = refl
     first (Some l) ls = refl
 
-behind-append : (r : Option (List ℕ)) (t : List ℕ) (ts us : List (List ℕ)) → filter_map ended_line (behind r ((t ∷ ts) ++ us)) ≡ filter_map ended_line (behind r (t ∷ ts)) ++ filter_map ended_line (map marked us)
+behind-append : (r : Option (List ℕ)) (t : List ℕ) (ts us : List (List ℕ))
+    → filter_map ended_line (behind r ((t ∷ ts) ++ us)) ≡ filter_map ended_line (behind r (t ∷ ts)) ++ filter_map ended_line (map marked us)
 behind-append r t ts us =
     ap (λ ms. filter_map ended_line (extended r t ∷ ms)) (map-append marked ts us) ∙ filter_map-append ended_line (extended r t ∷ map marked ts) (map marked us)
 
-behind-extended : (r : Option (List ℕ)) (a : List ℕ) (ts : List (List ℕ)) → filter_map ended_line (behind r (put_text a ts)) ≡ filter_map ended_line (behind (extended r a) ts)
+behind-extended : (r : Option (List ℕ)) (a : List ℕ) (ts : List (List ℕ))
+    → filter_map ended_line (behind r (put_text a ts)) ≡ filter_map ended_line (behind (extended r a) ts)
 behind-extended r a [] = refl
 behind-extended r a (t ∷ ts) = ap (λ m. cons_option (ended_line m) (filter_map ended_line (map marked ts))) (sym (extended-twice r a t))
 
-pub cut_in_two : (r : Option (List ℕ)) (a b : List ℕ) → (lines_from r (a ++ b) ≡ lines_from r a ++ lines_from (rest_from r a) b) × (rest_from r (a ++ b) ≡ rest_from (rest_from r a) b)
+pub cut_in_two : (r : Option (List ℕ)) (a b : List ℕ)
+    → (lines_from r (a ++ b) ≡ lines_from r a ++ lines_from (rest_from r a) b) × (rest_from r (a ++ b) ≡ rest_from (rest_from r a) b)
 cut_in_two r a b = elim (none_or (ended a)) [ inl none ↦ whole none | inr some ↦ apart (ended a) refl some ]
   where
     whole : ended a ≡ [] → (lines_from r (a ++ b) ≡ lines_from r a ++ lines_from (rest_from r a) b) × (rest_from r (a ++ b) ≡ rest_from (rest_from r a) b)
@@ -355,12 +361,14 @@ cut_in_two r a b = elim (none_or (ended a)) [ inl none ↦ whole none | inr some
           ],
         )
 
-    apart : (ts : List (List ℕ)) → ended a ≡ ts → (ended a ≡ [] → ⊥) → (lines_from r (a ++ b) ≡ lines_from r a ++ lines_from (rest_from r a) b) × (rest_from r (a ++ b) ≡ rest_from (rest_from r a) b)
+    apart : (ts : List (List ℕ)) → ended a ≡ ts → (ended a ≡ [] → ⊥)
+        → (lines_from r (a ++ b) ≡ lines_from r a ++ lines_from (rest_from r a) b) × (rest_from r (a ++ b) ≡ rest_from (rest_from r a) b)
     apart [] e some = absurd (some e)
     apart (t ∷ ts) e some =
         let kept : rest_from r a ≡ rest_of a = if_none-some (ended a) _ _ some in
         let x = after_newlines a in
-        let joined : ended (a ++ b) ≡ (t ∷ ts) ++ put_text x (ended b) = ended-append a b ∙ ap (λ us. us ++ ended (x ++ b)) e ∙ ap (λ us. (t ∷ ts) ++ us) (ended-joined x b (ended-after a)) in (
+        let joined : ended (a ++ b) ≡ (t ∷ ts) ++ put_text x (ended b) = ended-append a b
+        ∙ ap (λ us. us ++ ended (x ++ b)) e ∙ ap (λ us. (t ∷ ts) ++ us) (ended-joined x b (ended-after a)) in (
           ap (λ us. filter_map ended_line (behind r us)) joined ∙ behind-append r t ts (put_text x (ended b))
               ∙ ap (λ us. filter_map ended_line (behind r us) ++ filter_map ended_line (map marked (put_text x (ended b)))) (sym e)
               ∙ ap (λ ls. lines_from r a ++ ls) (sym (filter_map-map (put_text x (ended b))) ∙ behind-joined x (ended b) ∙ ap (λ q. lines_from q b) (sym kept)),

@@ -1,5 +1,6 @@
 -- Pieces of one connection, one after another, come together to one.
-use Rattle.std.proofs.Common.{◌≡◌, ◌↔◌, ◌⊎◌, ℕ, List, [], ◌∷◌, ◌++◌, Option, Some, None, IsSome, IfSome, is_some, true, false, Result, Ok, Err, OnOk, OnErr, refl, sym, ap, ◌∙◌, subst, append-nil, append_assoc, inl, inr}
+use Rattle.std.proofs.Common.{◌≡◌, ◌↔◌, ◌⊎◌, ℕ, List, [], ◌∷◌, ◌++◌, Option, Some, None, IsSome, IfSome, is_some, true, false}
+use Rattle.std.proofs.Common.{Result, Ok, Err, OnOk, OnErr, refl, sym, ap, ◌∙◌, subst, append-nil, append_assoc, inl, inr}
 use Rattle.mi_hub.specs.declared.fault.HubFault.{HubFault}
 use Rattle.mi_hub.specs.declared.fault.HubFault.TheVariants.{NotAttached, AlreadyAttached, TooMany, Memory, Write}
 use Rattle.mi_hub.specs.Lines.{Rest, extended, lines_from, rest_from}
@@ -16,7 +17,8 @@ same_rest : {r s : Rest} → Some r ≡ Some s → r ≡ s
 same_rest h = cc
 
 -- the rest after the first piece
-rest_then : (conn : ℕ) (r q s : Rest) (old mid : HubState) → rest_at conn old.attached ≡ Some r → mid.attached ≡ with_rest conn q old.attached → rest_at conn mid.attached ≡ Some s → s ≡ q
+rest_then : (conn : ℕ) (r q s : Rest) (old mid : HubState) → rest_at conn old.attached ≡ Some r
+    → mid.attached ≡ with_rest conn q old.attached → rest_at conn mid.attached ≡ Some s → s ≡ q
 rest_then conn r q s old mid p kept here = same_rest (sym here ∙ ap (rest_at conn) kept ∙ rest_at-with_rest conn q r old.attached p)
 
 pub piece_none : (conn : ℕ) (r : Rest) (s : HubState) → rest_at conn s.attached ≡ Some r → extended r [] ≡ r → Done s (piece conn []) [] s
@@ -28,13 +30,15 @@ piece_none conn r s here fits =
       sym (with_rest-same conn r s.attached here) ∙ ap (λ q. with_rest conn q s.attached) (sym fits ∙ sym none.1),
     )
 
-pub piece_more : (conn : ℕ) (a b out more : List ℕ) (old mid new : HubState) → Done old (piece conn a) out mid → Done mid (piece conn b) more new → Done old (piece conn (a ++ b)) (out ++ more) new
+pub piece_more : (conn : ℕ) (a b out more : List ℕ) (old mid new : HubState) → Done old (piece conn a) out mid
+    → Done mid (piece conn b) more new → Done old (piece conn (a ++ b)) (out ++ more) new
 piece_more conn a b out more old mid new p q =
     let two = cut_in_two p.0 a b in
     let then = rest_then conn p.0 (rest_from p.0 a) q.0 old mid p.1 p.3 q.1 in (
       p.0,
       p.1,
-      subst (λ ls. Served (MayGive conn) old.held ls (out ++ more) new.held) (ap (λ r. lines_from p.0 a ++ lines_from r b) then ∙ sym two.0) (served_more (MayGive conn) p.2 q.2),
+      subst (λ ls. Served (MayGive conn) old.held ls (out ++ more) new.held)
+          (ap (λ r. lines_from p.0 a ++ lines_from r b) then ∙ sym two.0) (served_more (MayGive conn) p.2 q.2),
       q.3 ∙ ap (λ r. with_rest conn (rest_from r b) mid.attached) then ∙ ap (λ cs. with_rest conn (rest_from (rest_from p.0 a) b) cs) p.3
           ∙ with_rest-twice conn _ _ old.attached ∙ ap (λ r. with_rest conn r old.attached) (sym two.1),
     )
@@ -43,7 +47,8 @@ pub piece_split : (conn : ℕ) (a b out : List ℕ) (old new : HubState) → Don
     → (mid : HubState) × (first : List ℕ) × (later : List ℕ) × Done old (piece conn a) first mid × Done mid (piece conn b) later new × (out ≡ first ++ later)
 piece_split conn a b out old new p =
     let two = cut_in_two p.0 a b in
-    let parts = served_split (MayGive conn) (lines_from p.0 a) (lines_from (rest_from p.0 a) b) (subst (λ ls. Served (MayGive conn) old.held ls out new.held) two.0 p.2) in (
+    let parts = served_split (MayGive conn) (lines_from p.0 a) (lines_from (rest_from p.0 a) b)
+    (subst (λ ls. Served (MayGive conn) old.held ls out new.held) two.0 p.2) in (
       record { held = parts.0; attached = with_rest conn (rest_from p.0 a) old.attached },
       parts.1,
       parts.2,
@@ -63,10 +68,12 @@ module _ (Makes : HubState → Event → List ℕ → HubState → Type 0) where
   pub one : (e : Event) (old new : HubState) (out : List ℕ) → Makes old e out new → OneByOne Makes old (e ∷ []) out new
   one e old new out p = (new, out, [], p, (refl, refl), sym (append-nil out))
 
-  pub two : (e f : Event) (old mid new : HubState) (first later : List ℕ) → Makes old e first mid → Makes mid f later new → OneByOne Makes old (e ∷ f ∷ []) (first ++ later) new
+  pub two : (e f : Event) (old mid new : HubState) (first later : List ℕ) → Makes old e first mid
+      → Makes mid f later new → OneByOne Makes old (e ∷ f ∷ []) (first ++ later) new
   two e f old mid new first later p q = (mid, first, later, p, one f mid new later q, refl)
 
-  pub run_append : (xs ys : List Event) (old mid new : HubState) (first later : List ℕ) → OneByOne Makes old xs first mid → OneByOne Makes mid ys later new → OneByOne Makes old (xs ++ ys) (first ++ later) new
+  pub run_append : (xs ys : List Event) (old mid new : HubState) (first later : List ℕ) → OneByOne Makes old xs first mid
+      → OneByOne Makes mid ys later new → OneByOne Makes old (xs ++ ys) (first ++ later) new
   run_append [] ys old mid new first later p q =
       subst (λ t. OneByOne Makes old ys (t ++ later) new) (sym p.0) (subst (λ s. OneByOne Makes s ys later new) p.1 q)
   run_append (x ∷ xs) ys old mid new first later p q =
@@ -93,14 +100,16 @@ step_split conn a b out old new (inr p) =
     (old, [], [], inr (p.0, p.1, refl, refl), inr (p.0, p.1, refl, p.3), p.2)
 
 -- the connection of a piece that is done is attached, so the next piece isn't refused
-pub not_refused : (conn : ℕ) (bytes : List ℕ) (r : Rest) (fault : HubFault) (s : HubState) → rest_at conn s.attached ≡ Some r → Refused s (piece conn bytes) fault → ⊥
+pub not_refused : (conn : ℕ) (bytes : List ℕ) (r : Rest) (fault : HubFault) (s : HubState)
+    → rest_at conn s.attached ≡ Some r → Refused s (piece conn bytes) fault → ⊥
 not_refused conn bytes r NotAttached s here refused = some_none (sym here ∙ refused)
 not_refused conn bytes r AlreadyAttached s here refused = refused
 not_refused conn bytes r TooMany s here refused = refused
 not_refused conn bytes r Memory s here refused = refused
 not_refused conn bytes r Write s here refused = refused
 
-step_join : (conn : ℕ) (a b out more : List ℕ) (old mid new : HubState) → Step old (piece conn a) out mid → Step mid (piece conn b) more new → Step old (piece conn (a ++ b)) (out ++ more) new
+step_join : (conn : ℕ) (a b out more : List ℕ) (old mid new : HubState) → Step old (piece conn a) out mid
+    → Step mid (piece conn b) more new → Step old (piece conn (a ++ b)) (out ++ more) new
 step_join conn a b out more old mid new (inl p) (inl q) = inl (piece_more conn a b out more old mid new p q)
 step_join conn a b out more old mid new (inl p) (inr q) =
     absurd (not_refused conn b (rest_from p.0 a) q.0 mid (ap (rest_at conn) p.3 ∙ rest_at-with_rest conn (rest_from p.0 a) p.0 old.attached p.1) q.1)
@@ -109,12 +118,14 @@ step_join conn a b out more old mid new (inr p) (inl q) =
 step_join conn a b out more old mid new (inr p) (inr q) =
     inr (p.0, p.1, ap (λ t. t ++ more) p.2 ∙ q.2, q.3 ∙ p.3)
 
-cut_first : (conn : ℕ) (a b : List ℕ) (later : List Event) (old new : HubState) (out : List ℕ) → Run old (piece conn (a ++ b) ∷ later) out new → Run old (piece conn a ∷ piece conn b ∷ later) out new
+cut_first : (conn : ℕ) (a b : List ℕ) (later : List Event) (old new : HubState) (out : List ℕ)
+    → Run old (piece conn (a ++ b) ∷ later) out new → Run old (piece conn a ∷ piece conn b ∷ later) out new
 cut_first conn a b later old new out p =
     let parts = step_split conn a b p.1 old p.0 p.3 in
     (parts.0, parts.1, parts.2 ++ p.2, parts.3, (p.0, parts.2, p.2, parts.4, p.4, refl), p.5 ∙ ap (λ t. t ++ p.2) parts.5 ∙ append_assoc parts.1 parts.2 p.2)
 
-join_first : (conn : ℕ) (a b : List ℕ) (later : List Event) (old new : HubState) (out : List ℕ) → Run old (piece conn a ∷ piece conn b ∷ later) out new → Run old (piece conn (a ++ b) ∷ later) out new
+join_first : (conn : ℕ) (a b : List ℕ) (later : List Event) (old new : HubState) (out : List ℕ)
+    → Run old (piece conn a ∷ piece conn b ∷ later) out new → Run old (piece conn (a ++ b) ∷ later) out new
 join_first conn a b later old new out p =
     let q = p.4 in
     (q.0, p.1 ++ q.1, q.2, step_join conn a b p.1 q.1 old p.0 q.0 p.3 q.3, q.4, p.5 ∙ ap (λ t. p.1 ++ t) q.5 ∙ sym (append_assoc p.1 q.1 q.2))
@@ -134,7 +145,8 @@ pub still_attached : (conn : ℕ) (bytes out : List ℕ) (old mid : HubState) �
 still_attached conn bytes out old mid p = ap is_some (ap (rest_at conn) p.3 ∙ rest_at-with_rest conn (rest_from p.0 bytes) p.0 old.attached p.1)
 
 -- nothing was read yet
-pub piece_start : (conn : ℕ) (s : HubState) → IsSome (rest_at conn s.attached) → IfSome (rest_at conn s.attached) (λ r. extended r [] ≡ r) → Done s (piece conn []) [] s
+pub piece_start : (conn : ℕ) (s : HubState) → IsSome (rest_at conn s.attached)
+    → IfSome (rest_at conn s.attached) (λ r. extended r [] ≡ r) → Done s (piece conn []) [] s
 piece_start conn s = by_rest (rest_at conn s.attached) refl
   where
     by_rest : (o : Option Rest) → rest_at conn s.attached ≡ o → IsSome o → IfSome o (λ r. extended r [] ≡ r) → Done s (piece conn []) [] s
@@ -145,7 +157,8 @@ piece_start conn s = by_rest (rest_at conn s.attached) refl
     by_rest (Some r) is some fits = piece_none conn r s is fits
 
 -- a cut of an attached connection is done
-pub cut_done : (r : Result (Unit {0}) HubFault) (o : Option Rest) (P Q : Type 0) → OnOk r P → ((r ≡ Err NotAttached) ↔ (o ≡ None)) → OnErr r ((r ≡ Err NotAttached) × Q) → IsSome o → P
+pub cut_done : (r : Result (Unit {0}) HubFault) (o : Option Rest) (P Q : Type 0) → OnOk r P
+    → ((r ≡ Err NotAttached) ↔ (o ≡ None)) → OnErr r ((r ≡ Err NotAttached) × Q) → IsSome o → P
 cut_done (Ok v) o P Q p none refused some = p
 cut_done (Err e) o P Q p none refused some = absurd (false_true (sym (ap is_some (none.0 refused.0)) ∙ some))
   where

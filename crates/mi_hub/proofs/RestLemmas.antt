@@ -47,23 +47,27 @@ module _ (conn : ℕ) (r : Rest) where
   unchanged : (old mid : HubState) → mid ≡ old → rest_at conn old.attached ≡ Some r → rest_at conn mid.attached ≡ Some r
   unchanged old mid is here = ap (λ (s : HubState). rest_at conn s.attached) is ∙ here
 
-  other_piece : (c : ℕ) (bytes out : List ℕ) (old mid : HubState) → nat_eq c conn ≡ false → rest_at conn old.attached ≡ Some r → Step old (piece c bytes) out mid
+  other_piece : (c : ℕ) (bytes out : List ℕ) (old mid : HubState) → nat_eq c conn ≡ false
+      → rest_at conn old.attached ≡ Some r → Step old (piece c bytes) out mid
       → rest_at conn mid.attached ≡ Some r
   other_piece c bytes out old mid is here (inl p) =
       ap (rest_at conn) p.3 ∙ rest_at-with_other conn c (rest_from p.0 bytes) old.attached (other c conn is) ∙ here
   other_piece c bytes out old mid is here (inr p) = unchanged old mid p.3 here
 
-  any_attach : (c : ℕ) (out : List ℕ) (old mid : HubState) → rest_at conn old.attached ≡ Some r → Step old (attach c) out mid → rest_at conn mid.attached ≡ Some r
+  any_attach : (c : ℕ) (out : List ℕ) (old mid : HubState) → rest_at conn old.attached ≡ Some r
+      → Step old (attach c) out mid → rest_at conn mid.attached ≡ Some r
   any_attach c out old mid here (inl p) =
       ap (λ (s : HubState). rest_at conn s.attached) p.3 ∙ rest_at-append conn r old.attached (record { id = c; rest = Some [] } ∷ []) here
   any_attach c out old mid here (inr p) = unchanged old mid p.3 here
 
-  other_close : (c : ℕ) (out : List ℕ) (old mid : HubState) → (c ≡ conn → ⊥) → rest_at conn old.attached ≡ Some r → Step old (close c) out mid → rest_at conn mid.attached ≡ Some r
+  other_close : (c : ℕ) (out : List ℕ) (old mid : HubState) → (c ≡ conn → ⊥)
+      → rest_at conn old.attached ≡ Some r → Step old (close c) out mid → rest_at conn mid.attached ≡ Some r
   other_close c out old mid not here (inl p) =
       ap (λ (s : HubState). rest_at conn s.attached) p.4 ∙ rest_at-others conn c old.attached not ∙ here
   other_close c out old mid not here (inr p) = unchanged old mid p.3 here
 
-  other_cut : (c : ℕ) (out : List ℕ) (old mid : HubState) → (c ≡ conn → ⊥) → rest_at conn old.attached ≡ Some r → Step old (cut c) out mid → rest_at conn mid.attached ≡ Some r
+  other_cut : (c : ℕ) (out : List ℕ) (old mid : HubState) → (c ≡ conn → ⊥)
+      → rest_at conn old.attached ≡ Some r → Step old (cut c) out mid → rest_at conn mid.attached ≡ Some r
   other_cut c out old mid not here (inl p) =
       ap (λ (s : HubState). rest_at conn s.attached) p.2 ∙ rest_at-others conn c old.attached not ∙ here
   other_cut c out old mid not here (inr p) = unchanged old mid p.3 here
@@ -90,5 +94,6 @@ left_of conn (cut c ∷ events) r old new out fits here stays run =
 pub rest_of_all_bytes : RestOfAllBytes
 unfolding ended
 rest_of_all_bytes conn events old come new out done stays run =
-    left_of conn events (Some []) come new out refl (ap (λ (s : HubState). rest_at conn s.attached) done.3 ∙ rest_at-last conn (Some []) old.attached done.0) stays run
+    left_of conn events (Some []) come new out refl
+    (ap (λ (s : HubState). rest_at conn s.attached) done.3 ∙ rest_at-last conn (Some []) old.attached done.0) stays run
     ∙ ap Some (rest_from-nothing (bytes_of conn events))

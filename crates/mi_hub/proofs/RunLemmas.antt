@@ -1,5 +1,6 @@
 -- From what a call does to one connection, to the event that it is.
-use Rattle.std.proofs.Common.{◌≡◌, ℕ, zero, suc, List, [], ◌∷◌, get_or, set, remove, Option, Some, None, is_some, true, MatchOption, option_to_list, refl, sym, ap, ◌∙◌, subst}
+use Rattle.std.proofs.Common.{◌≡◌, ℕ, zero, suc, List, [], ◌∷◌, get_or, set, remove, Option, Some, None}
+use Rattle.std.proofs.Common.{is_some, true, MatchOption, option_to_list, refl, sym, ap, ◌∙◌, subst}
 use Rattle.mi_hub.specs.Lines.{Rest, lines_from, rest_from, last_line}
 use Rattle.mi_commands.specs.Holder.{Held, released}
 use Rattle.mi_hub.specs.Connections.{rest_at, with_rest}
@@ -18,7 +19,8 @@ not_none p q = none_some (sym p ∙ q)
     none_some : {A : Type 0} {x : A} → Some x ≡ None → ⊥
     none_some h = cc
 
-pub found_there : (o : Option ℕ) (conn : ℕ) (cs : List Connection) → MatchOption o (rest_at conn cs ≡ None) (λ i. StandsAt conn i cs) → is_some o ≡ true → (d : Connection) → (r : Rest) × (rest_at conn cs ≡ Some r)
+pub found_there : (o : Option ℕ) (conn : ℕ) (cs : List Connection) → MatchOption o (rest_at conn cs ≡ None) (λ i. StandsAt conn i cs)
+    → is_some o ≡ true → (d : Connection) → (r : Rest) × (rest_at conn cs ≡ Some r)
 found_there None conn cs p h d = absurd (false_true h)
   where
     false_true : is_some {T = ℕ} None ≡ true → ⊥
@@ -39,7 +41,9 @@ pub piece_done : (conn at : ℕ) (old : HubState) (before new : Held) (cs : List
     → Served (MayGive conn) before (lines_from x.rest bytes) out new → kept ≡ rest_from x.rest bytes
     → Done old (piece conn bytes) out (record { held = new; attached = set cs at (record { id = x.id; rest = kept }) })
 piece_done conn at old before new cs x bytes out kept view stands is served rest =
-    subst (λ (s : HubState). StandsAt conn at s.attached → Done s (piece conn bytes) out (record { held = new; attached = set cs at (record { id = x.id; rest = kept }) })) view
+    subst (λ (s : HubState). StandsAt conn at s.attached
+    → Done s (piece conn bytes) out (record { held = new; attached = set cs at (record { id = x.id; rest = kept }) }))
+    view
     (λ p. let e = element conn at cs x p is in (
       x.rest,
       e.1,

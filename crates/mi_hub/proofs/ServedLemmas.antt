@@ -8,7 +8,8 @@ use Rattle.mi_hub.specs.Served.{InTurn, with_newline, sent, Served, CutOff}
 use Rattle.mi_hub.proofs.LineLemmas.{from_ended, from_unended}
 
 module _ {S : Type 0} (Gives : S → Asked → List ℕ → S → Type 0) where
-  pub in_turn_append : (xs : List Asked) (rs : List (List ℕ)) (ys : List Asked) (qs : List (List ℕ)) (old mid new : S) → InTurn Gives old xs rs mid → InTurn Gives mid ys qs new → InTurn Gives old (xs ++ ys) (rs ++ qs) new
+  pub in_turn_append : (xs : List Asked) (rs : List (List ℕ)) (ys : List Asked) (qs : List (List ℕ)) (old mid new : S)
+      → InTurn Gives old xs rs mid → InTurn Gives mid ys qs new → InTurn Gives old (xs ++ ys) (rs ++ qs) new
   in_turn_append [] [] ys qs old mid new p q = subst (λ s. InTurn Gives s ys qs new) p q
   in_turn_append [] (r ∷ rs) ys qs old mid new p q = absurd p
   in_turn_append (x ∷ xs) [] ys qs old mid new p q = absurd p
@@ -24,14 +25,16 @@ module _ {S : Type 0} (Gives : S → Asked → List ℕ → S → Type 0) where
     written = sym (append-nil (with_newline reply));
   }
 
-  pub served_more : {old mid new : S} {xs ys : List Asked} {out more : List ℕ} → Served Gives old xs out mid → Served Gives mid ys more new → Served Gives old (xs ++ ys) (out ++ more) new
+  pub served_more : {old mid new : S} {xs ys : List Asked} {out more : List ℕ} → Served Gives old xs out mid
+      → Served Gives mid ys more new → Served Gives old (xs ++ ys) (out ++ more) new
   served_more {old} {mid} {new} {xs} {ys} {out} {more} p q = record {
     replies = p.replies ++ q.replies;
     in_turn = in_turn_append xs p.replies ys q.replies old mid new p.in_turn q.in_turn;
     written = ap (λ t. t ++ more) p.written ∙ ap (λ t. sent p.replies ++ t) q.written ∙ sym (flat_map-append with_newline p.replies q.replies);
   }
 
-  pub cut_one : (old new : S) (line : Asked) (reply : List ℕ) (n : ℕ) → Gives old line reply new → n < length (with_newline reply) → CutOff Gives old (line ∷ []) (take n (with_newline reply)) new
+  pub cut_one : (old new : S) (line : Asked) (reply : List ℕ) (n : ℕ) → Gives old line reply new
+      → n < length (with_newline reply) → CutOff Gives old (line ∷ []) (take n (with_newline reply)) new
   cut_one old new line reply n step short = record {
     asked = [];
     line = line;
@@ -59,7 +62,8 @@ module _ {S : Type 0} (Gives : S → Asked → List ℕ → S → Type 0) where
     written = p.written;
   }
 
-  pub cut_more : {old mid new : S} {xs ys : List Asked} {out more : List ℕ} → Served Gives old xs out mid → CutOff Gives mid ys more new → CutOff Gives old (xs ++ ys) (out ++ more) new
+  pub cut_more : {old mid new : S} {xs ys : List Asked} {out more : List ℕ} → Served Gives old xs out mid
+      → CutOff Gives mid ys more new → CutOff Gives old (xs ++ ys) (out ++ more) new
   cut_more {old} {mid} {new} {xs} {ys} {out} {more} p q = record {
     asked = xs ++ q.asked;
     line = q.line;
@@ -73,11 +77,13 @@ module _ {S : Type 0} (Gives : S → Asked → List ℕ → S → Type 0) where
     front = q.front;
     short = q.short;
     written = ap (λ t. t ++ more) p.written ∙ ap (λ t. sent p.replies ++ t) q.written
-        ∙ sym (append_assoc (sent p.replies) (sent q.replies) _) ∙ ap (λ t. t ++ take q.front (with_newline q.reply)) (sym (flat_map-append with_newline p.replies q.replies));
+        ∙ sym (append_assoc (sent p.replies) (sent q.replies) _)
+        ∙ ap (λ t. t ++ take q.front (with_newline q.reply)) (sym (flat_map-append with_newline p.replies q.replies));
   }
 
 -- What a loop over a piece has done: these lines were asked, and those of what is left follow.
-pub record SoFar {S : Type 0} (Gives : S → Asked → List ℕ → S → Type 0) (old : S) (out : List ℕ) (now : S) (rest piece_rest : Rest) (left piece : List ℕ) : Type 0 where
+pub record SoFar {S : Type 0} (Gives : S → Asked → List ℕ → S → Type 0) (old : S) (out : List ℕ)
+    (now : S) (rest piece_rest : Rest) (left piece : List ℕ) : Type 0 where
   pub done : List Asked
   pub served : Served Gives old done out now
   pub lines : done ++ lines_from rest left ≡ lines_from piece_rest piece

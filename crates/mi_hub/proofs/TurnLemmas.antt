@@ -1,5 +1,6 @@
 -- What a turn was, by what it answered.
-use Rattle.std.proofs.Common.{◌≡◌, ◌↔◌, ◌||◌, ◌∙◌, ◌⊎◌, ℕ, ◌<◌, ◌≤◌, List, [], ◌∷◌, ◌++◌, length, take, Bool, true, false, Option, Some, None, Result, Ok, Err, OnErr, refl, sym, ap, subst, inl, inr, arith}
+use Rattle.std.proofs.Common.{◌≡◌, ◌↔◌, ◌||◌, ◌∙◌, ◌⊎◌, ℕ, ◌<◌, ◌≤◌, List, [], ◌∷◌, ◌++◌, length, take, Bool, true}
+use Rattle.std.proofs.Common.{false, Option, Some, None, Result, Ok, Err, OnErr, refl, sym, ap, subst, inl, inr, arith}
 use Rattle.std.specs.Io.KnownBytes.{IsAtEnd}
 use Rattle.std.proofs.lemmas.List.{length-take}
 use Rattle.mi_value.specs.declared.limits.TheConstants.{PIECE}
@@ -25,7 +26,8 @@ pub never_read : (P : Type 0) (r : Result Bool ServeFault) → OnErr r ((r ≡ E
 never_read P (Ok b) w is = ok_isnt_err b Read is
 never_read P (Err fault) w is = read_isnt_write (sym is ∙ w.0)
 
-pub not_read : {X : Type 0} (P : Type 0) (r : Result Bool ServeFault) (read : Option X) (x : X) → read ≡ Some x → OnErr r ((r ≡ Err Write) × P) → (r ≡ Err Read) ↔ (read ≡ None)
+pub not_read : {X : Type 0} (P : Type 0) (r : Result Bool ServeFault) (read : Option X) (x : X)
+    → read ≡ Some x → OnErr r ((r ≡ Err Write) × P) → (r ≡ Err Read) ↔ (read ≡ None)
 not_read P r read x is w = (λ h. absurd (never_read P r w h), λ n. absurd (some_isnt_none (sym is ∙ n)))
   where
     some_isnt_none : Some x ≡ None → ⊥
@@ -84,7 +86,12 @@ module _ {T : Type 0} (remaining : T → Option (List ℕ)) (before later : Watc
     was_unsent (fed k bytes) is answer gave made = absurd (ok_isnt_err true Write (sym answer))
     was_unsent (ended k) is answer gave made = absurd (ok_isnt_err false Write (sym answer))
     was_unsent (unread k) is answer gave made = absurd (read_isnt_write (sym answer))
-    was_unsent (unanswered k bytes) is answer gave made = (bytes, made.1.1, gave_bytes bytes gave, inl (subst (λ n. Unsent old (piece n bytes) out new) is made.0))
+    was_unsent (unanswered k bytes) is answer gave made = (
+      bytes,
+      made.1.1,
+      gave_bytes bytes gave,
+      inl (subst (λ n. Unsent old (piece n bytes) out new) is made.0),
+    )
     was_unsent (unended k) is answer gave made = ([], omega arith, gave.0, inr (gave.1, refl, subst (λ n. Unsent old (close n) out new) is made))
 
 -- its replies don't go out behind a piece that was done

@@ -1,5 +1,6 @@
 -- What several writes append together.
-use Rattle.std.proofs.Common.{◌≡◌, ℕ, ◌+◌, Option, List, ◌++◌, length, take, Bool, true, false, ◌||◌, ◌&&◌, nat_eq, ◌<◌, refl, sym, subst, ap, ◌∙◌, arith, length-append, append-nil, []}
+use Rattle.std.proofs.Common.{◌≡◌, ℕ, ◌+◌, Option, List, ◌++◌, length, take, Bool, true, false, ◌||◌, ◌&&◌}
+use Rattle.std.proofs.Common.{nat_eq, ◌<◌, refl, sym, subst, ap, ◌∙◌, arith, length-append, append-nil, []}
 use Rattle.std.proofs.Math.Seq.{take-append-add}
 use Rattle.std.proofs.KnownBytes.{Appends-trans, Consumes-trans}
 use Rattle.std.specs.Io.KnownBytes.{Appends, Consumes}

@@ -27,7 +27,8 @@ fn drive_one<D: Sessions + Drop, W: Write>(
 ) -> Result<(), HubFault>
     ensures ok { OnOk result ((out : List ℕ) × Writes W.contents writer.old writer.new out × Done hub.old (event_of event.now) out hub.new) }
     ensures sound { OnOk result (has_failed writer.new ≡ has_failed writer.old) }
-    ensures fault { IfErr result (λ fault. (out : List ℕ) × Writes W.contents writer.old writer.new out × NotDone hub.old (event_of event.now) fault out hub.new) }
+    ensures fault { IfErr result (λ fault. (out : List ℕ) × Writes W.contents writer.old writer.new out
+        × NotDone hub.old (event_of event.now) fault out hub.new) }
     ensures failed { IfErr result (λ fault. fault ≡ HubFault.Write → has_failed writer.new ≡ true) }
 {
     match event {
@@ -49,7 +50,8 @@ pub fn drive<D: Sessions + Drop, W: Write>(
 ) -> Result<(), (usize, HubFault)>
     ensures ok { OnOk result ((out : List ℕ) × Writes W.contents writer.old writer.new out × AllDone hub.old (map event_of events.now) out hub.new) }
     ensures sound { OnOk result (has_failed writer.new ≡ has_failed writer.old) }
-    ensures fault { IfErr result (λ e. (out : List ℕ) × Writes W.contents writer.old writer.new out × Stopped hub.old (map event_of events.now) e.0 e.1 out hub.new) }
+    ensures fault { IfErr result (λ e. (out : List ℕ) × Writes W.contents writer.old writer.new out
+        × Stopped hub.old (map event_of events.now) e.0 e.1 out hub.new) }
     ensures failed { IfErr result (λ e. e.1 ≡ HubFault.Write → has_failed writer.new ≡ true) }
 {
     for (i, event) in events.iter().enumerate() {

@@ -1,5 +1,6 @@
 //! Connections by turns over one database. A call does one event of one connection, and nothing else changes.
-ghost use Rattle.std.specs.Prelude.{◌≡◌, ◌≢◌, ◌↔◌, ◌⊎◌, ◌≤◌, ℕ, List, [], true, None, Some, Err, MatchOption, IfSome, IsSome, OnOk, OnErr, length, ◌<◌, option_map};
+ghost use Rattle.std.specs.Prelude.{◌≡◌, ◌≢◌, ◌↔◌, ◌⊎◌, ◌≤◌, ℕ, List, [], true, None, Some, Err};
+ghost use Rattle.std.specs.Prelude.{MatchOption, IfSome, IsSome, OnOk, OnErr, length, ◌<◌, option_map};
 ghost use Rattle.std.specs.List.{remove};
 ghost use Rattle.mi_value.specs.declared.limits.TheConstants.{MAX_CONNECTIONS};
 ghost use Rattle.mi_hub.specs.Lines.{extended};
@@ -119,7 +120,8 @@ impl<D: Sessions + Drop> Hub<D> {
         ensures sound { OnOk result (has_failed writer.new ≡ has_failed writer.old) }
         ensures not_attached { (result ≡ Err HubFault.NotAttached) ↔ (rest_at conn self.old.attached ≡ None) }
         ensures unchanged { result ≡ Err HubFault.NotAttached → (self.new ≡ self.old) × (writer.new ≡ writer.old) }
-        ensures write { result ≡ Err HubFault.Write → (out : List ℕ) × Writes W.contents writer.old writer.new out × Failed self.old (piece conn bytes.now) out self.new }
+        ensures write { result ≡ Err HubFault.Write
+            → (out : List ℕ) × Writes W.contents writer.old writer.new out × Failed self.old (piece conn bytes.now) out self.new }
         ensures failed { result ≡ Err HubFault.Write → has_failed writer.new ≡ true }
         ensures no_other { OnErr result ((result ≡ Err HubFault.NotAttached) ⊎ (result ≡ Err HubFault.Write)) }
     {

@@ -78,7 +78,8 @@ pub fn take_turn<D: Sessions + Drop, W: Write>(
 ) -> Result<bool, ServeFault>
     requires attached { IsSome (rest_at conn hub.old.attached) }
     requires piece { IfSome read (λ bytes. length bytes.now ≤ PIECE) }
-    ensures turn { (turn : Turn) × (out : List ℕ) × (conn_of turn ≡ conn) × (given_in turn ≡ option_map (λ bytes. bytes.now) read.entry) × (result ≡ outcome turn)
+    ensures turn { (turn : Turn) × (out : List ℕ) × (conn_of turn ≡ conn)
+        × (given_in turn ≡ option_map (λ bytes. bytes.now) read.entry) × (result ≡ outcome turn)
         × Writes W.contents writer.old writer.new out × Made hub.old turn out hub.new }
     ensures sound { OnOk result (has_failed writer.new ≡ has_failed writer.old) }
     ensures read { (result ≡ Err ServeFault.Read) ↔ (read.entry ≡ None) }

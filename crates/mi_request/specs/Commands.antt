@@ -1,5 +1,6 @@
 -- The table of commands: the members of each, and the request that they are.
-use Rattle.std.specs.Prelude.{ℕ, List, [], ◌∷◌, Bool, true, false, ◌&&◌, nat_le, if◌then◌else◌, Option, Some, None, option_map, option_and_then, codes, bytes_eq}
+use Rattle.std.specs.Prelude.{ℕ, List, [], ◌∷◌, Bool, true, false, ◌&&◌, nat_le, if◌then◌else◌}
+use Rattle.std.specs.Prelude.{Option, Some, None, option_map, option_and_then, codes, bytes_eq}
 use Rattle.serde_json.specs.Data.{Data, null, boolean, number, string, array, object, Items, Members, no_members}
 use Rattle.serde_json.specs.Find.{get_member, as_str, as_array, as_bool, as_object}
 use Rattle.mi_request.specs.Json.{has_only, natural, needed, optional, default, option_map₂, option_map₃, option_map₄, option_map₅, option_map₆}
@@ -164,7 +165,8 @@ form_of name.UndoAll = record { members = []; request = λ ms. Some request.Undo
 form_of name.Push = record { members = []; request = λ ms. Some request.Push }
 form_of name.Reserve = record {
   members = codes "changes" ∷ codes "sessions" ∷ [];
-  request = λ ms. option_map₂ request.Reserve (needed (up_to MAX_RESERVED_CHANGES) (codes "changes") ms) (needed (up_to MAX_RESERVED_SESSIONS) (codes "sessions") ms);
+  request = λ ms. option_map₂ request.Reserve (needed (up_to MAX_RESERVED_CHANGES) (codes "changes") ms)
+      (needed (up_to MAX_RESERVED_SESSIONS) (codes "sessions") ms);
 }
 form_of name.Revision = record { members = []; request = λ ms. Some request.Revision }
 form_of name.Get = record {

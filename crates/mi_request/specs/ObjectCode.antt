@@ -3,7 +3,8 @@ use Rattle.std.specs.Prelude.{◌≡◌, ℕ, ◌==◌, ℤ, List, [], ◌∷◌
 use Rattle.std.specs.Coded.{Coded, code_by, coded×, coded⊎, coded_list, coded_ℕ, coded_ℤ}
 use Rattle.std.proofs.Common.{inl, inr, ap, ◌∙◌}
 use base.Stored.{coded_float}
-use Rattle.serde_json.specs.Data.{Num, unsigned, negative, float, Data, null, boolean, number, string, array, object, Items, no_items, item, Members, no_members, member}
+use Rattle.serde_json.specs.Data.{Num, unsigned, negative, float, Data, null, boolean, number, string}
+use Rattle.serde_json.specs.Data.{array, object, Items, no_items, item, Members, no_members, member}
 
 abbrev num_parts : Num → ℕ ⊎ (ℤ ⊎ Float)
 num_parts (unsigned n) = inl n
@@ -108,14 +109,16 @@ first_items (items ds ∷ ps) = ds
 first_items ps = no_items
 
 abbrev pub items_code : Coded Items
-items_code = code_by (List Piece) (coded_list (coded⊎ (coded× coded_ℕ (coded_list coded_ℕ)) num_code)) (λ ds. items_pieces ds []) (λ ps. first_items (parts ps)) (λ ds. ap first_items (parts-items_pieces ds []))
+items_code = code_by (List Piece) (coded_list (coded⊎ (coded× coded_ℕ (coded_list coded_ℕ)) num_code))
+    (λ ds. items_pieces ds []) (λ ps. first_items (parts ps)) (λ ds. ap first_items (parts-items_pieces ds []))
 
 abbrev first_members : List Part → Members
 first_members (members ms ∷ ps) = ms
 first_members ps = no_members
 
 abbrev pub members_code : Coded Members
-members_code = code_by (List Piece) (coded_list (coded⊎ (coded× coded_ℕ (coded_list coded_ℕ)) num_code)) (λ ms. members_pieces ms []) (λ ps. first_members (parts ps)) (λ ms. ap first_members (parts-members_pieces ms []))
+members_code = code_by (List Piece) (coded_list (coded⊎ (coded× coded_ℕ (coded_list coded_ℕ)) num_code))
+    (λ ms. members_pieces ms []) (λ ps. first_members (parts ps)) (λ ms. ap first_members (parts-members_pieces ms []))
 
 abbrev first_value : List Part → Data
 first_value (value d ∷ ps) = d

@@ -9,7 +9,8 @@ returns-in-Err-clause-fault g c =
     let last = c.in-Err.ensures.fault in (
       so_far.out ++ last.0,
       Appends-trans _ _ _ _ _ so_far.written last.1,
-      stopped_here c.args.events.now c.loop-i.i c.index-events-i.result c.loop-i-test.true c.index-events-i.is _ _ _ so_far.out last.0 so_far.run c.in-Err.fault last.2,
+      stopped_here c.args.events.now c.loop-i.i c.index-events-i.result c.loop-i-test.true
+          c.index-events-i.is _ _ _ so_far.out last.0 so_far.run c.in-Err.fault last.2,
     )
 
 pub loop-i-preserved : goal.loop-i-preserved

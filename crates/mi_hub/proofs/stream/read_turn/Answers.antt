@@ -8,7 +8,8 @@ pub returns-in-Ok-clause-turn : goal.returns-in-Ok-clause-turn
 returns-in-Ok-clause-turn g c =
     let made = c.take_turn.ensures.turn in
     let room : 0 < length c.read.new.buf = omega (arith, c.requires.room, c.read.auto.buf) in
-    let gave = gave_read g.R.Read.remaining c.args.reader.now c.read.new.self _ c.read.new.buf c.in-Ok.n refl c.in-Ok.ensures.bound.0 room c.in-Ok.ensures.bytes in
+    let gave = gave_read g.R.Read.remaining c.args.reader.now c.read.new.self _ c.read.new.buf
+    c.in-Ok.n refl c.in-Ok.ensures.bound.0 room c.in-Ok.ensures.bytes in
     (made.0, made.1, made.2, made.4, subst (Gave g.R.Read.remaining c.args.reader.now c.read.new.self) (sym made.3) gave, made.5, made.6)
 
 pub returns-in-Err-clause-turn : goal.returns-in-Err-clause-turn

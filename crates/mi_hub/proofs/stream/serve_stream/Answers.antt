@@ -26,7 +26,9 @@ pub reads-preserved : goal.reads-preserved
 reads-preserved g c =
     let before = c.reads.invariant in
     let turn = c.in_ok-read_turn.ensures.turn in
-    let more = was_fed g.R.Read.remaining c.reads.reader c.read_turn.new.reader c.args.conn c.reads.hub c.read_turn.new.hub turn.1 turn.0 turn.2 (ap Ok (sym c.if-branch.true) ∙ turn.3) turn.4 turn.6 in record {
+    let more = was_fed g.R.Read.remaining c.reads.reader c.read_turn.new.reader c.args.conn c.reads.hub
+    c.read_turn.new.hub turn.1 turn.0 turn.2 (ap Ok (sym c.if-branch.true) ∙ turn.3) turn.4 turn.6 in
+    record {
       bytes = before.bytes ++ more.0;
       out = before.out ++ turn.1;
       read = Consumes-trans _ _ _ _ _ before.read more.2;
@@ -84,7 +86,8 @@ pub returns-in-reads-clause-ok : goal.returns-in-reads-clause-ok
 returns-in-reads-clause-ok g c =
     let before = c.reads.invariant in
     let turn = c.in_ok-read_turn.ensures.turn in
-    let last = was_ended g.R.Read.remaining c.reads.reader c.read_turn.new.reader c.args.conn c.reads.hub c.read_turn.new.hub turn.1 turn.0 turn.2 (ap Ok (sym c.if-branch.false) ∙ turn.3) turn.4 turn.6 in (
+    let last = was_ended g.R.Read.remaining c.reads.reader c.read_turn.new.reader c.args.conn c.reads.hub
+    c.read_turn.new.hub turn.1 turn.0 turn.2 (ap Ok (sym c.if-branch.false) ∙ turn.3) turn.4 turn.6 in (
       before.bytes,
       before.out ++ turn.1,
       consumes_no_more _ _ _ _ before.read last.0,

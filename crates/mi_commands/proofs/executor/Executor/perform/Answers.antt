@@ -24,13 +24,17 @@ returns-in-LowerRank g c =
     let asks = λ (key : List Value). performed c.args.self.now c.args.conn (command.LowerRank c.in-LowerRank.table c.in-LowerRank.index key) in
     subst (λ k. GivenOrMemory (k ≢ command.Undo) (performed c.args.self.now c.args.conn k) c.args.self.now (text_bytes c.lower_rank.result) c.args.self.now)
     (sym c.in-LowerRank.is)
-    (may_lack (asks c.in-LowerRank.key) c.args.self.now (text_bytes c.lower_rank.result) c.args.self.now (lower_isnt c.in-LowerRank.table c.in-LowerRank.index c.in-LowerRank.key)
-    (subst (λ key. GivenOrMemory (Unit {0}) (asks key) c.args.self.now (text_bytes c.lower_rank.result) c.args.self.now) c.values-in-LowerRank.ensures c.lower_rank.ensures))
+    (may_lack (asks c.in-LowerRank.key) c.args.self.now (text_bytes c.lower_rank.result)
+    c.args.self.now (lower_isnt c.in-LowerRank.table c.in-LowerRank.index c.in-LowerRank.key)
+    (subst (λ key. GivenOrMemory (Unit {0}) (asks key) c.args.self.now (text_bytes c.lower_rank.result) c.args.self.now)
+    c.values-in-LowerRank.ensures c.lower_rank.ensures))
 
 pub returns-in-UpperRank : goal.returns-in-UpperRank
 returns-in-UpperRank g c =
     let asks = λ (key : List Value). performed c.args.self.now c.args.conn (command.UpperRank c.in-UpperRank.table c.in-UpperRank.index key) in
     subst (λ k. GivenOrMemory (k ≢ command.Undo) (performed c.args.self.now c.args.conn k) c.args.self.now (text_bytes c.upper_rank.result) c.args.self.now)
     (sym c.in-UpperRank.is)
-    (may_lack (asks c.in-UpperRank.key) c.args.self.now (text_bytes c.upper_rank.result) c.args.self.now (upper_isnt c.in-UpperRank.table c.in-UpperRank.index c.in-UpperRank.key)
-    (subst (λ key. GivenOrMemory (Unit {0}) (asks key) c.args.self.now (text_bytes c.upper_rank.result) c.args.self.now) c.values-in-UpperRank.ensures c.upper_rank.ensures))
+    (may_lack (asks c.in-UpperRank.key) c.args.self.now (text_bytes c.upper_rank.result)
+    c.args.self.now (upper_isnt c.in-UpperRank.table c.in-UpperRank.index c.in-UpperRank.key)
+    (subst (λ key. GivenOrMemory (Unit {0}) (asks key) c.args.self.now (text_bytes c.upper_rank.result) c.args.self.now)
+    c.values-in-UpperRank.ensures c.upper_rank.ensures))

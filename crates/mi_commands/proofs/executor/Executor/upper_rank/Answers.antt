@@ -8,4 +8,7 @@ use Rattle.mi_commands.proofs.executor.Executor.upper_rank.Goals as goal
 pub returns : goal.returns
 returns g c =
     let ranks = λ (s : Held). upper_rank (schema_of s.database c.args.table) (table_of s.database c.args.table) c.args.index c.args.key.now in
-    inl (c.say.ensures ∙ ap (λ n. reply_text c.args.self.now.database.catalog (ranked n)) (c.upper_rank-not_greater.ensures.rank ∙ ap ranks c.self.view_is), refl)
+    inl (
+      c.say.ensures ∙ ap (λ n. reply_text c.args.self.now.database.catalog (ranked n)) (c.upper_rank-not_greater.ensures.rank ∙ ap ranks c.self.view_is),
+      refl,
+    )

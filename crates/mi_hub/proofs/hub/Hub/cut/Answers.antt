@@ -5,8 +5,11 @@ use Rattle.mi_hub.proofs.hub.Hub.cut.Goals as goal
 
 pub returns-clause-ok : goal.returns-clause-ok
 returns-clause-ok g c =
-    let stands = c.in-Some.ensures in
-    (ap is_some (stands.rest (record { id = 0; rest = None })), refl, c.leave.ensures ∙ ap (λ cs. record { held = released c.args.conn c.args.self.now.held; attached = cs }) stands.removed)
+    let stands = c.in-Some.ensures in (
+      ap is_some (stands.rest (record { id = 0; rest = None })),
+      refl,
+      c.leave.ensures ∙ ap (λ cs. record { held = released c.args.conn c.args.self.now.held; attached = cs }) stands.removed,
+    )
 
 pub returns-clause-not_attached : goal.returns-clause-not_attached
 returns-clause-not_attached g c = neither (λ h. cc) (not_none (c.in-Some.ensures.rest (record { id = 0; rest = None })))
