@@ -7,7 +7,7 @@ ghost use Rattle.mi_container.specs.Asked.{RecordFits, ShowsOneList};
 use mi_catalog::built_in;
 use mi_multi::MultiIndex;
 use mi_value::limits::MAX_TEXT;
-use mi_value::{Edit, Record, Steps, Text, Value};
+use mi_value::{Edit, Record, Steps, Text, Value, ValueRef};
 use std::alloc::{AllocError, Global};
 
 /// The columns.
@@ -32,14 +32,14 @@ fn account(alloc: Global, owner: &str, balance: i64, vip: bool) -> Result<Record
     requires { length owner.now ≤ MAX_TEXT }
     ensures { IfOk result (λ row. RecordFits accounts row) }
 {
-    let owner = Value::Text(Text::of(alloc, owner)?);
-    Ok(Record::new(vec![in alloc; owner, Value::Int(balance), Value::Flag(vip)]?))
+    let owner = ValueRef::Text(owner);
+    Record::new(alloc, &[owner, ValueRef::Int(balance), ValueRef::Flag(vip)])
 }
 
 /// The balance of a record.
 fn balance_of(row: &Record) -> i64 {
-    match row.values() {
-        [_, Value::Int(balance), _] => *balance,
+    match row.get(BALANCE) {
+        Some(ValueRef::Int(balance)) => balance,
         _ => 0,
     }
 }

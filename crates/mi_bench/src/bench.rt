@@ -1,10 +1,13 @@
 //! The loops, and the time that each takes.
 use crate::accounts::Accounts;
-use crate::random::Random;
 use crate::workload::Workload;
+use mi_random::Random;
 use std::alloc::{AllocError, Global};
 use std::io;
 use std::time::{CpuClock, Duration};
+
+/// What each loop begins to draw from, as those of `bench/container_peer.cpp`.
+const SEED: u64 = 1;
 
 /// The accounts, the owners of those to be inserted, and how long the last workload was on a processor.
 #[derive(Drop)]
@@ -98,7 +101,7 @@ impl Bench {
     }
 
     fn insert(&mut self, alloc: Global) -> Done {
-        let mut random = Random::new();
+        let mut random = Random::new(SEED);
         let mut done = Done::default();
         let count = self.owners.len() as u64;
         for owner in self.owners.iter() {
@@ -110,7 +113,7 @@ impl Bench {
     }
 
     fn get(&self, calls: u64) -> Done {
-        let mut random = Random::new();
+        let mut random = Random::new(SEED);
         let mut done = Done::default();
         let size = self.accounts.size();
         for _ in 0..calls {
@@ -121,7 +124,7 @@ impl Bench {
     }
 
     fn modify(&mut self, alloc: Global, calls: u64) -> Done {
-        let mut random = Random::new();
+        let mut random = Random::new(SEED);
         let mut done = Done::default();
         let size = self.accounts.size();
         for _ in 0..calls {
@@ -133,7 +136,7 @@ impl Bench {
     }
 
     fn modify_back(&mut self, alloc: Global, calls: u64) -> Done {
-        let mut random = Random::new();
+        let mut random = Random::new(SEED);
         let mut done = Done::default();
         let size = self.accounts.size();
         for _ in 0..calls {
@@ -145,7 +148,7 @@ impl Bench {
     }
 
     fn erase_back(&mut self, calls: u64) -> Done {
-        let mut random = Random::new();
+        let mut random = Random::new(SEED);
         let mut done = Done::default();
         let size = self.accounts.size();
         for _ in 0..calls {

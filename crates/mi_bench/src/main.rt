@@ -5,7 +5,6 @@
 
 mod accounts;
 mod bench;
-mod random;
 mod workload;
 
 use bench::Bench;

@@ -1,34 +1,36 @@
 //! Whether records and keys fit a schema. It reads both and takes no memory.
 ghost use Rattle.std.specs.Prelude.{◌≡◌};
 ghost use Rattle.mi_catalog.specs.Fits as meaning;
+ghost use Rattle.mi_value.specs.Lent.{lent};
 
 use crate::index::Column;
 use crate::schema::Schema;
 use mi_value::limits::MAX_TEXT;
-use mi_value::{ColumnType, KeyPart, Record, Value};
+use mi_value::{ColumnType, KeyPart, Record, Value, ValueRef};
 
 /// Whether a value is of this type, and if it is a text has at most 1,024 bytes.
-fn fits_type(kind: ColumnType, value: &Value) -> bool
-    ensures { result ≡ meaning.fits_type kind value.now }
+fn fits_type(kind: ColumnType, value: ValueRef<'_>) -> bool
+    ensures { result ≡ meaning.fits_type kind (lent value.entry) }
 {
     match (kind, value) {
-        (ColumnType::Int, Value::Int(_)) | (ColumnType::Flag, Value::Flag(_)) => true,
-        (ColumnType::Text, Value::Text(text)) => text.as_str().len() <= MAX_TEXT,
+        (ColumnType::Int, ValueRef::Int(_)) | (ColumnType::Flag, ValueRef::Flag(_)) => true,
+        (ColumnType::Text, ValueRef::Text(text)) => text.len() <= MAX_TEXT,
         _ => false,
     }
 }
 
 /// Whether there is a fitting value for each column, and no more.
-fn fits_columns(columns: &[Column], values: &[Value]) -> bool
-    ensures { result ≡ meaning.fits_record columns.now values.now }
+fn fits_columns(columns: &[Column], row: &Record) -> bool
+    ensures { result ≡ meaning.fits_record columns.now row.now }
 {
-    match (columns.split_first(), values.split_first()) {
-        (None, None) => true,
-        (Some((column, columns)), Some((value, values))) => {
-            fits_type(column.kind, value) && fits_columns(columns, values)
+    let mut values = row.values();
+    'columns: for column in columns {
+        match values.next() {
+            Some(value) if fits_type(column.kind, value) => {}
+            _ => return false,
         }
-        _ => false,
     }
+    values.next().is_none()
 }
 
 /// Whether each value fits the column of its part, and no value goes past the last part.
@@ -49,7 +51,7 @@ fn fits_part(columns: &[Column], part: KeyPart, value: &Value) -> bool
     ensures { result ≡ meaning.fits_part columns.now part value.now }
 {
     match columns.get(part.column) {
-        Some(column) => fits_type(column.kind, value),
+        Some(column) => fits_type(column.kind, value.lend()),
         None => false,
     }
 }
@@ -69,7 +71,7 @@ impl Schema {
     pub fn fits_record(&self, row: &Record) -> bool
         ensures { result ≡ meaning.fits_record self.now.columns row.now }
     {
-        fits_columns(self.columns(), row.values())
+        fits_columns(self.columns(), row)
     }
 
     /// Whether values are a key of index i: one for each part where the whole key is wanted, else one up to one for each

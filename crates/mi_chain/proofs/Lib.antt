@@ -5,8 +5,6 @@ pub mod Counts
 pub mod Elsewhere
 pub mod Joins
 pub mod Moving
-pub mod Sevens
 pub mod Stands
-pub mod Threes
 pub mod Walks
 pub mod Whole

@@ -486,6 +486,3 @@ impl<H> Chains<H> {
         }
     }
 }
-
-#[cfg(test)]
-mod tests;

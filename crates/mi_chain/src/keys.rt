@@ -28,6 +28,3 @@ pub trait KeyHash<T> {
 
     ghost lawful: { (h : Self) → IsLawful (keying h) };
 }
-
-#[cfg(test)]
-pub(crate) mod one_key;

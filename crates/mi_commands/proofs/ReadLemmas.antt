@@ -4,26 +4,14 @@ use Rattle.mi_value.specs.declared.refusal.Refusal.{Refusal}
 use Rattle.mi_value.specs.declared.refusal.Refusal.TheVariants.{Busy, Memory}
 use Rattle.mi_request.specs.Answers.{IsAnswer}
 use Rattle.mi_request.specs.Lines.{command_line}
-use Rattle.mi_request.specs.declared.request.Request.{Request}
 use Rattle.mi_request.specs.declared.request.Request.TheVariants as request
 use Rattle.mi_request.proofs.ShortLemmas.{short_means, undo_is_short}
-use Rattle.mi_protocol.specs.Binding.{bound_command}
 use Rattle.mi_protocol.specs.Replies.{refused, reply_text}
 use Rattle.mi_protocol.specs.declared.binding.Command.{Command}
 use Rattle.mi_protocol.specs.declared.binding.Command.TheVariants as command
-use Rattle.mi_commands.specs.Answer.{refusal, command_answer, request_answer, command_of, GivenOrMemory}
+use Rattle.mi_commands.specs.Answer.{command_answer, command_of, GivenOrMemory}
 use Rattle.mi_commands.specs.Holder.{Held, is_busy}
 use Rattle.mi_commands.specs.Performed.{performed}
-
--- a request is answered as the command that it is
-answered : (s : Held) (conn : ℕ) (r : Result Request Refusal) → request_answer s conn r ≡ command_answer s conn (command_of s conn r)
-answered s conn (Err e) = refl
-answered s conn (Ok r) = by_test _
-  where
-    by_test : (kept_out : Bool) → cond kept_out (refusal s Busy) (command_answer s conn (bound_command s.database.catalog r))
-        ≡ command_answer s conn (cond kept_out (Err Busy) (bound_command s.database.catalog r))
-    by_test true = refl
-    by_test false = refl
 
 module _ (s : Held) (conn : ℕ) (bytes reply : List ℕ) where
   -- the exact undo line is an undo, where it is a command
@@ -38,11 +26,10 @@ module _ (s : Held) (conn : ℕ) (bytes reply : List ℕ) where
   -- a command is done
   pub given : (c : Command) (old new : Held) → old ≡ s → command_of s conn (command_line bytes) ≡ Ok c
       → GivenOrMemory (c ≢ command.Undo) (performed old conn c) old reply new
-      → GivenOrMemory (bytes ≢ codes "{\"cmd\":\"undo\"}") (request_answer s conn (command_line bytes)) s reply new
+      → GivenOrMemory (bytes ≢ codes "{\"cmd\":\"undo\"}") (command_answer s conn (command_of s conn (command_line bytes))) s reply new
   given c old new same is done =
-      let answer = answered s conn (command_line bytes) ∙ ap (command_answer s conn) is in
       let here = subst (λ o. GivenOrMemory (c ≢ command.Undo) (performed o conn c) o reply new) same done in
-      subst (λ a. GivenOrMemory (bytes ≢ codes "{\"cmd\":\"undo\"}") a s reply new) (sym answer)
+      subst (λ a. GivenOrMemory (bytes ≢ codes "{\"cmd\":\"undo\"}") a s reply new) (sym (ap (command_answer s conn) is))
       (elim here [ inl p ↦ inl p | inr p ↦ inr (λ undo. p.0 (undo_line c is undo), p.1) ])
 
   memory_or : (e : Refusal) (d : Result Command Refusal) → IsAnswer (Err e) d → (e ≡ Memory) ⊎ (d ≡ Err e)
@@ -52,12 +39,11 @@ module _ (s : Held) (conn : ℕ) (bytes reply : List ℕ) where
   -- a refusal is said
   pub refused_line : (e : Refusal) (new : Held) → new ≡ s → IsAnswer (Err e) (command_of s conn (command_line bytes))
       → (e ≡ Memory → bytes ≢ codes "{\"cmd\":\"undo\"}") → reply ≡ reply_text new.database.catalog (refused 0 e)
-      → GivenOrMemory (bytes ≢ codes "{\"cmd\":\"undo\"}") (request_answer s conn (command_line bytes)) s reply new
+      → GivenOrMemory (bytes ≢ codes "{\"cmd\":\"undo\"}") (command_answer s conn (command_of s conn (command_line bytes))) s reply new
   refused_line e new same is lacks said =
       let here = said ∙ ap (λ (o : Held). reply_text o.database.catalog (refused 0 e)) same in
       elim (memory_or e _ is) [
         | inl memory ↦ inr (lacks memory, (here ∙ ap (λ x. reply_text s.database.catalog (refused 0 x)) memory, same))
         | inr other ↦
-            let answer = answered s conn (command_line bytes) ∙ ap (command_answer s conn) other in
-            subst (λ a. GivenOrMemory (bytes ≢ codes "{\"cmd\":\"undo\"}") a s reply new) (sym answer) (inl (here, same))
+            subst (λ a. GivenOrMemory (bytes ≢ codes "{\"cmd\":\"undo\"}") a s reply new) (sym (ap (command_answer s conn) other)) (inl (here, same))
       ]

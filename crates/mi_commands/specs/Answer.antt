@@ -21,21 +21,14 @@ abbrev pub command_answer : Held → ℕ → Result Command Refusal → Said × 
 command_answer s conn (Ok c) = performed s conn c
 command_answer s conn (Err e) = refusal s e
 
--- a request is kept out as `busy` before its names, row and key are looked at
-abbrev pub request_answer : Held → ℕ → Result Request Refusal → Said × Held
-request_answer s conn (Ok r) =
-    if keeps_out r && is_busy s.holder conn then refusal s Busy
-    else command_answer s conn (bound_command s.database.catalog r)
-request_answer s conn (Err e) = refusal s e
-
--- the command that a request is, unless the connection is kept out
+-- the command that a request is, unless it is kept out as `busy`, before its names, row and key are looked at
 abbrev pub command_of : Held → ℕ → Result Request Refusal → Result Command Refusal
 command_of s conn (Ok r) = if keeps_out r && is_busy s.holder conn then Err Busy else bound_command s.database.catalog r
 command_of s conn (Err e) = Err e
 
 -- the answer to a line of a connection
 abbrev pub answer : Held → ℕ → Asked → Said × Held
-answer s conn (text t) = request_answer s conn (command_line t)
+answer s conn (text t) = command_answer s conn (command_of s conn (command_line t))
 answer s conn too_long = refusal s Line
 
 -- the reply is the text of this answer, and what it leaves is left

@@ -1,19 +1,15 @@
 -- Whoever holds sessions is attached: each answer keeps that, and so does each event.
-use Rattle.std.proofs.Common.{◌≡◌, ℕ, ◌-◌, min, List, [], ◌∷◌, ◌++◌, Bool, true, false, ◌&&◌, cond, nat_eq, nat_le, get_or, set, remove}
+use Rattle.std.proofs.Common.{◌≡◌, ℕ, ◌-◌, min, List, [], ◌∷◌, ◌++◌, Bool, true, false, cond, nat_eq, nat_le, get_or, set, remove}
 use Rattle.std.proofs.Common.{Option, Some, None, IsSome, is_some, Result, Ok, Err, OnOk, OnErr, refl, sym, ap, ◌∙◌, subst, inl, inr, arith}
 use Rattle.mi_value.specs.declared.refusal.Refusal.{Refusal}
-use Rattle.mi_value.specs.declared.refusal.Refusal.TheVariants.{Busy}
 use Rattle.mi_protocol.specs.Lines.{command_line}
-use Rattle.mi_protocol.specs.Commands.{keeps_out}
-use Rattle.mi_protocol.specs.Binding.{bound_command}
-use Rattle.mi_request.specs.declared.request.Request.{Request}
 use Rattle.mi_protocol.specs.declared.binding.Command.{Command}
 use Rattle.mi_protocol.specs.declared.binding.Command.TheVariants as command
 use Rattle.mi_commands.specs.Asked.{Asked, text, too_long}
 use Rattle.mi_hub.specs.Lines.{Rest}
-use Rattle.mi_commands.specs.Holder.{Held, is_busy, one_more, one_less, at_most, without_holder, released}
+use Rattle.mi_commands.specs.Holder.{Held, one_more, one_less, at_most, without_holder, released}
 use Rattle.mi_commands.specs.Performed.{performed, moved}
-use Rattle.mi_commands.specs.Answer.{command_answer, request_answer, refusal, answer, MayGive}
+use Rattle.mi_commands.specs.Answer.{command_answer, command_of, answer, MayGive}
 use Rattle.mi_hub.specs.Served.{InTurn, Served, CutOff}
 use Rattle.mi_hub.specs.Connections.{rest_at, with_rest, others, holder_is_attached}
 use Rattle.mi_hub.specs.Places.{StandsAt}
@@ -83,17 +79,8 @@ module _ (cs : List Connection) where
     by_bound s (Ok c) h = by_command s c h
     by_bound s (Err e) h = h
 
-    by_request : (s : Held) (r : Result Request Refusal) → holder_is_attached s.holder cs ≡ true
-        → holder_is_attached (request_answer s conn r).1.holder cs ≡ true
-    by_request s (Ok r) h = kept (keeps_out r && is_busy s.holder conn)
-      where
-        kept : (b : Bool) → holder_is_attached (cond b (refusal s Busy) (command_answer s conn (bound_command s.database.catalog r))).1.holder cs ≡ true
-        kept true = h
-        kept false = by_bound s (bound_command s.database.catalog r) h
-    by_request s (Err e) h = h
-
     by_answer : (s : Held) (line : Asked) → holder_is_attached s.holder cs ≡ true → holder_is_attached (answer s conn line).1.holder cs ≡ true
-    by_answer s (text t) h = by_request s (command_line t) h
+    by_answer s (text t) h = by_bound s (command_of s conn (command_line t)) h
     by_answer s too_long h = h
 
     by_reply : (s t : Held) (line : Asked) (reply : List ℕ) → MayGive conn s line reply t

@@ -1,12 +1,12 @@
 //! Tags of keys of several parts. A flag says little: where a key's first part is a flag and it has a second, its tag is two
 //! bits of the flag and 62 of the second part's tag. The tag of any other key is that of its first part.
-ghost use Rattle.std.specs.Prelude.{◌≡◌, ◌<◌};
-ghost use Rattle.std.specs.Option.{option_copied};
+ghost use Rattle.std.specs.Prelude.{◌≡◌, ◌<◌, option_map};
 ghost use Rattle.mi_index.specs.Tags as tags;
 ghost use Rattle.mi_index.specs.Leads as leads;
+ghost use Rattle.mi_value.specs.Lent.{lent};
 
 use crate::tags::{directed_tag, is_exact, part_tag, probe_tag, value_tag};
-use mi_value::{ColumnType, KeyPart, Record, Value};
+use mi_value::{ColumnType, KeyPart, Record, Value, ValueRef};
 
 /// How many tags 62 bits tell apart.
 const SHORTS: u64 = 1 << 62;
@@ -40,8 +40,8 @@ fn flag_rank(descending: bool, flag: bool) -> u64
 }
 
 /// The tag of a value in a column of that type, or of a missing one.
-fn column_tag(column: ColumnType, value: Option<&Value>) -> u64
-    ensures { result ≡ tags.value_tag column (option_copied value.entry) }
+fn column_tag(column: ColumnType, value: Option<ValueRef<'_>>) -> u64
+    ensures { result ≡ tags.value_tag column (option_map lent value.entry) }
 {
     match value {
         None => 0,
@@ -50,12 +50,12 @@ fn column_tag(column: ColumnType, value: Option<&Value>) -> u64
 }
 
 /// The tag of a part in a column of flags, with what follows in 62 bits, which counts behind a flag alone.
-fn pair_tag(descending: bool, value: Option<&Value>, rest: u64) -> u64
+fn pair_tag(descending: bool, value: Option<ValueRef<'_>>, rest: u64) -> u64
     requires { rest < leads.shorts }
-    ensures { result ≡ leads.pair_tag descending (option_copied value.entry) rest }
+    ensures { result ≡ leads.pair_tag descending (option_map lent value.entry) rest }
 {
     match value {
-        Some(Value::Flag(flag)) => flag_rank(descending, *flag) * SHORTS + rest,
+        Some(ValueRef::Flag(flag)) => flag_rank(descending, flag) * SHORTS + rest,
         _ => directed_tag(descending, 0),
     }
 }
@@ -65,10 +65,10 @@ fn two_tag(
     types: &LeadTypes,
     part: &KeyPart,
     next: &KeyPart,
-    value: Option<&Value>,
-    following: Option<&Value>,
+    value: Option<ValueRef<'_>>,
+    following: Option<ValueRef<'_>>,
 ) -> u64
-    ensures { result ≡ leads.two_tag types.now.first types.now.second part.now next.now (option_copied value.entry) (option_copied following.entry) }
+    ensures { result ≡ leads.two_tag types.now.first types.now.second part.now next.now (option_map lent value.entry) (option_map lent following.entry) }
 {
     match types.first {
         ColumnType::Flag => {
@@ -89,8 +89,8 @@ pub fn lead_tag(types: &LeadTypes, part: &KeyPart, rest: &[KeyPart], row: &Recor
             types,
             part,
             next,
-            row.values().get(part.column),
-            row.values().get(next.column),
+            row.get(part.column),
+            row.get(next.column),
         ),
     }
 }
@@ -120,7 +120,13 @@ pub fn lead_probe(
         ([], _) => Some(probe_tag(types.first, part, value)),
         ([_, ..], []) => first_probe(types.first, part, value),
         ([next, ..], [following, ..]) => {
-            Some(two_tag(types, part, next, Some(value), Some(following)))
+            Some(two_tag(
+                types,
+                part,
+                next,
+                Some(value.lend()),
+                Some(following.lend()),
+            ))
         }
     }
 }

@@ -17,6 +17,7 @@ mod structure;
 pub mod tags;
 mod walk;
 
+pub use mixing::mixed;
 pub use moves::{Moves, Place};
 pub use nodes::Nodes;
 pub use orders::{ByHash, ByKey};

@@ -17,11 +17,8 @@ fn folded(n: u64) -> u64
 /// The hash mixed with the secret, so that hashes which end alike no longer do. That it spreads them is tested: the clause
 /// says only which number it is.
 #[tactic(auto, unfolding(crate::specs::Mixing::mixed))]
-pub(crate) fn mixed(secret: u64, hash: u64) -> u64
+pub fn mixed(secret: u64, hash: u64) -> u64
     ensures { result ≡ mixing.mixed secret hash }
 {
     folded(folded(hash ^ secret) ^ secret)
 }
-
-#[cfg(test)]
-mod tests;

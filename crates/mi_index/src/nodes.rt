@@ -252,6 +252,3 @@ fn grow_each(
 {
     make_room_all(structures.as_mut_slice(), 0, alloc, p, n)
 }
-
-#[cfg(test)]
-mod tests;

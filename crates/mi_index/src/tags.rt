@@ -2,8 +2,9 @@
 //! They read values alone, and take no memory. An index's tag is that of the first part of its keys.
 ghost use Rattle.std.specs.Prelude.{◌≡◌, slice_index};
 ghost use Rattle.mi_index.specs.Tags as tags;
+ghost use Rattle.mi_value.specs.Lent.{lent};
 
-use mi_value::{ColumnType, KeyPart, Record, Value};
+use mi_value::{ColumnType, KeyPart, Record, Value, ValueRef};
 
 /// The tag of a whole number: its distance from the least.
 fn int_tag(n: i64) -> u64
@@ -44,17 +45,17 @@ fn text_tag(text: &str) -> u64
 }
 
 /// The tag of a value in a column of that type. One of another type is below or above all of the column.
-pub(crate) fn value_tag(column: ColumnType, value: &Value) -> u64
-    ensures { result ≡ tags.value_tag column (Some value.now) }
+pub(crate) fn value_tag(column: ColumnType, value: ValueRef<'_>) -> u64
+    ensures { result ≡ tags.value_tag column (Some (lent value.entry)) }
 {
     match (column, value) {
-        (ColumnType::Int, Value::Int(n)) => int_tag(*n),
+        (ColumnType::Int, ValueRef::Int(n)) => int_tag(n),
         (ColumnType::Int, _) => u64::MAX,
-        (ColumnType::Text, Value::Int(_)) => 0,
-        (ColumnType::Text, Value::Text(text)) => text_tag(text.as_str()),
-        (ColumnType::Text, Value::Flag(_)) => u64::MAX,
-        (ColumnType::Flag, Value::Flag(false)) => 1,
-        (ColumnType::Flag, Value::Flag(true)) => 2,
+        (ColumnType::Text, ValueRef::Int(_)) => 0,
+        (ColumnType::Text, ValueRef::Text(text)) => text_tag(text),
+        (ColumnType::Text, ValueRef::Flag(_)) => u64::MAX,
+        (ColumnType::Flag, ValueRef::Flag(false)) => 1,
+        (ColumnType::Flag, ValueRef::Flag(true)) => 2,
         (ColumnType::Flag, _) => 0,
     }
 }
@@ -71,7 +72,7 @@ pub(crate) fn directed_tag(descending: bool, tag: u64) -> u64
 pub fn part_tag(column: ColumnType, part: &KeyPart, row: &Record) -> u64
     ensures { result ≡ tags.part_tag column part.now row.now }
 {
-    match row.values().get(part.column) {
+    match row.get(part.column) {
         None => directed_tag(part.descending, 0),
         Some(value) => directed_tag(part.descending, value_tag(column, value)),
     }
@@ -82,7 +83,7 @@ pub fn part_tag(column: ColumnType, part: &KeyPart, row: &Record) -> u64
 pub fn probe_tag(column: ColumnType, part: &KeyPart, value: &Value) -> u64
     ensures { result ≡ tags.probe_tag column part.now value.now }
 {
-    directed_tag(part.descending, value_tag(column, value))
+    directed_tag(part.descending, value_tag(column, value.lend()))
 }
 
 /// Whether all values that have this tag by that part are equal: whole numbers but the least and the greatest, and

@@ -17,6 +17,9 @@ use mi_tree::{Direction, Tree, Walk};
 use mi_value::{Record, Steps};
 use std::alloc::{AllocError, Global};
 
+/// For how many rows there is room before the first is found: short pages grow no vector.
+const FIRST_ROOM: usize = 16;
+
 /// Rows by their ids, lent.
 type Rows<'a> = Vec<(u64, &'a Record)>;
 
@@ -88,7 +91,7 @@ fn rows_ahead<'a>(
     ensures reads { (levels : ℕ) (us : Seq Ref) → IsWalk walk.old p.old.pool levels us
         → IfOk result (λ rows. p.new.reads ≤ p.old.reads + (2 * length rows.items + levels + 2)) }
 {
-    let mut rows = Vec::new(alloc);
+    let mut rows = Vec::with_capacity(alloc, limit.min(FIRST_ROOM))?;
     'nodes: while rows.len() < limit {
         let Some(node) = walk.next(p) else { break };
         let stored = p.value(node);
@@ -112,7 +115,7 @@ fn rows_along<'a>(
         → IfOk result (λ rows. map (λ r. (r.0, r.1.now)) rows.items ≡ map (shown_row p.old.pool) (take limit (first ∷ us))) }
     ensures reads { IfOk result (λ rows. p.new.reads ≤ p.old.reads + length rows.items) }
 {
-    let mut rows = Vec::new(alloc);
+    let mut rows = Vec::with_capacity(alloc, limit.min(FIRST_ROOM))?;
     let mut next = Some(first);
     'nodes: while rows.len() < limit {
         let Some(node) = next else { break };

@@ -158,6 +158,3 @@ impl<T> Journal<T> {
         )
     }
 }
-
-#[cfg(test)]
-mod tests;

@@ -207,6 +207,3 @@ fn is_node(reference: Option<NodeRef>, node: NodeRef) -> bool
         None => false,
     }
 }
-
-#[cfg(test)]
-mod tests;

@@ -6,6 +6,7 @@ ghost use Rattle.mi_node.specs.Cells.{link_in, ref_in};
 use crate::link::{Link, Tag};
 use crate::node_ref::{NOBODY, NodeRef};
 use std::alloc::AllocError;
+use std::mem::size_of;
 
 /// A `Link` whose neighbours are the bits of their references.
 ///
@@ -18,6 +19,8 @@ pub(crate) struct Cell {
     height: u8,
     stamp: u64,
 }
+
+const _: () = prove!(size_of::<Cell>() == 32);
 
 /// The stored form of a link that was never set.
 pub(crate) const EMPTY: Cell = Cell {

@@ -6,6 +6,7 @@ ghost use Rattle.mi_node.specs.Homes.{IsFree, AreFree, node_in, value_in};
 use crate::chunks::CHUNK;
 use crate::node_ref::{NodeRef, PLACES};
 use std::alloc::{AllocError, Global};
+use std::mem::size_of;
 
 /// What stands at a place: a node, or nothing, with the number of the next free place. A free place
 /// keeps the reference of the last node that stood there.
@@ -14,6 +15,8 @@ pub(crate) enum Home<T> {
     Free { node: NodeRef, next: u32 },
     Held { node: NodeRef, value: T },
 }
+
+const _: () = prove!(size_of::<Home<u64>>() == 16);
 
 /// A reference for the next node at a free place, and the number of the free place after it.
 pub(crate) fn next_at<T>(home: &Home<T>) -> (NodeRef, u32)

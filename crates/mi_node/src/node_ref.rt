@@ -1,6 +1,6 @@
 //! A reference of four bytes: 31 bits of the node's place, and one bit that no clause of the pool
 //! specifies. Plain data: it owns no node.
-ghost use Rattle.std.specs.Prelude.{◌≡◌, ⊤, ◌<◌, ◌/◌, ◌%◌};
+ghost use Rattle.std.specs.Prelude.{◌≡◌, ⊤, ◌<◌, ◌/◌, ◌%◌, ◌-◌};
 
 use std::alloc::AllocError;
 use std::marker::Model;
@@ -64,9 +64,10 @@ impl NodeRef {
         self.bits / 2
     }
 
-    /// The reference to another node at the same place. Its mark is the other one, which no clause says.
+    /// The reference to another node at the same place. Its mark is the other one.
     pub(crate) fn renewed(self) -> NodeRef
-        ensures { result.name ≡ self.name }
+        ensures name { result.name ≡ self.name }
+        ensures mark { self.name < PLACES → result.mark ≡ 1 - self.mark }
     {
         let mark = 1 - self.bits % 2;
         let bits = self.bits / 2 * 2 + mark;

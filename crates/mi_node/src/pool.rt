@@ -131,6 +131,3 @@ impl<T> Pool<T> {
         self.places.set_link(node, slot, link);
     }
 }
-
-#[cfg(test)]
-mod tests;

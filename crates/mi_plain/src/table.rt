@@ -336,7 +336,7 @@ impl PlainTable {
     ) -> Result<Vec<u64>, AllocError>
         ensures { IfOk result (λ ids. ids.items ≡ filter (λ id. is_eq (compare_to_id index.now self.now key.now id)) (list_of self.now x)) }
     {
-        let none = Record::new(Vec::new(alloc));
+        let none = Record::new(alloc, &[])?;
         let mut ids = Vec::new(alloc);
         let Some(list) = self.lists.get(x) else {
             return Ok(ids);

@@ -1,11 +1,14 @@
 -- Rows, column by column.
-use Rattle.std.proofs.Common.{◌≡◌, ℕ, List, [], ◌∷◌, map, not, ◌&&◌, Bool, true, false, Option, Some, option_and_then, refl, sym, ap, ◌∙◌, ◌||◌, true≢false}
+use Rattle.std.proofs.Common.{◌≡◌, ℕ, List, [], ◌∷◌, map, not, ◌&&◌, Bool, true, false}
+use Rattle.std.proofs.Common.{Option, Some, None, ◌++◌, option_map, option_and_then, refl, sym, ap, ◌∙◌, ◌||◌, true≢false}
 use Rattle.std.specs.List.{list_any}
 use Rattle.std.specs.Str.{bytes_eq}
 use Rattle.std.proofs.lemmas.Slice.Eq.{bytes_eq-Decides}
 use Rattle.serde_json.specs.Data.{Members}
 use Rattle.serde_json.specs.Find.{get_member}
 use Rattle.mi_value.specs.declared.value.Value.{Value}
+use Rattle.mi_value.specs.declared.value.ValueRef.{ValueRef}
+use Rattle.mi_value.specs.Lent.{lent}
 use Rattle.mi_catalog.specs.declared.index.Column.{Column}
 use Rattle.mi_catalog.specs.Rules.{are_distinct}
 use Rattle.mi_request.proofs.ObjectLemmas.{get_member-emptied}
@@ -18,6 +21,16 @@ use Rattle.mi_protocol.specs.Rows.{fitting, values_of}
 abbrev pub moved : List Column → Members → Option (List Value)
 moved [] ms = Some []
 moved (c ∷ cs) ms = option_map₂ (λ v vs. v ∷ vs) (option_and_then (fitting c.kind) (get_member c.name ms)) (moved cs (emptied c.name ms))
+
+append_one : (front : List ValueRef) (v : ValueRef) (vs : List Value) → map lent (front ++ v ∷ []) ++ vs ≡ map lent front ++ (lent v ∷ vs)
+append_one [] v vs = refl
+append_one (w ∷ front) v vs = ap (λ us. lent w ∷ us) (append_one front v vs)
+
+-- one value more in front
+pub one_more : (front : List ValueRef) (v : ValueRef) (r : Option (List Value))
+    → option_map (λ vs. map lent (front ++ v ∷ []) ++ vs) r ≡ option_map (λ vs. map lent front ++ vs) (option_map₂ (λ w vs. w ∷ vs) (Some (lent v)) r)
+one_more front v None = refl
+one_more front v (Some vs) = ap Some (append_one front v vs)
 
 pub not_or : (a b : Bool) → not (a || b) ≡ true → (a ≡ false) × (not b ≡ true)
 not_or true b h = absurd (true≢false (sym h))

@@ -1,5 +1,6 @@
 -- Rows that are lent to the writer.
-use Rattle.std.proofs.Common.{◌≡◌, ◌+◌, ◌<◌, ℕ, Bool, true, false, codes, List, [], ◌∷◌, ◌++◌, length, take, drop, get_or, slice_set, slice_index_or}
+use Rattle.std.proofs.Common.{◌≡◌, ◌+◌, ◌<◌, ℕ, zero, suc, Some, None, slice_get, Bool, true, false}
+use Rattle.std.proofs.Common.{codes, List, [], ◌∷◌, ◌++◌, length, take, drop, get_or, slice_set, slice_index_or, unwrap_or}
 use Rattle.std.proofs.Common.{Ordering, Less, Equal, Greater, nat_cmp, refl, sym, ap, ap₂, ◌∙◌}
 use Rattle.std.proofs.lemmas.List.{take-append-drop, take-set, drop-set, drop_more, get_or_default}
 use Rattle.std.specs.Ordering.{match_ordering}
@@ -7,14 +8,29 @@ use Rattle.std.specs.Cmp.Lexicographic.{slice_cmp}
 use Rattle.json.specs.Token.{Token}
 use Rattle.json.specs.Print.{print, escape_byte}
 use Rattle.json.specs.Tree.{json_tokens}
-use Rattle.serde_json.specs.Data.{Data, boolean, object, Members, no_members, member, put}
+use Rattle.serde_json.specs.Data.{Data, null, boolean, object, Members, no_members, member, put}
 use Rattle.serde_json.specs.Written.{outline, compact_text}
 use Rattle.serde_json.proofs.Texts.{print-outline}
 use Rattle.mi_value.specs.declared.value.Value.{Value}
 use Rattle.mi_catalog.specs.declared.index.Column.{Column}
 use Rattle.mi_protocol.specs.Rows.{value_data, with_values}
-use Rattle.mi_protocol.specs.Shown.{source_data, shown_members, with_member, rows_front}
+use Rattle.mi_protocol.specs.Shown.{first_data, source_data, shown_members, with_member, rows_front}
 use Rattle.mi_protocol.specs.declared.shown.Member.{Member}
+
+some_same : (v w : Value) → Some v ≡ Some w → v ≡ w
+some_same v w is = ap (λ o. unwrap_or o v) is
+
+-- the first of the values that are left is the value that stands there
+pub data_there : (vs : List Value) (i : ℕ) (v : Value) → Some v ≡ slice_get vs i → first_data (drop i vs) ≡ value_data v
+data_there [] i v is = absurd (cc)
+data_there (w ∷ vs) zero v is = ap value_data (sym (some_same v w is))
+data_there (w ∷ vs) (suc i) v is = data_there vs i v is
+
+pub data_missing : (vs : List Value) (i : ℕ) → None ≡ slice_get vs i → first_data (drop i vs) ≡ null
+data_missing [] zero is = refl
+data_missing [] (suc i) is = refl
+data_missing (w ∷ vs) zero is = absurd (cc)
+data_missing (w ∷ vs) (suc i) is = data_missing vs i is
 
 by_order : (id : ℕ) (vs : List Value) (o : Ordering) (a b c : List Member)
     → shown_members id vs (match_ordering o a b c) ≡ match_ordering o (shown_members id vs a) (shown_members id vs b) (shown_members id vs c)

@@ -3,9 +3,8 @@ ghost use Rattle.std.specs.Prelude.{◌≡◌, map, bytes_eq};
 ghost use Rattle.std.specs.List.{list_any, list_all};
 ghost use Rattle.mi_request.specs.Json.{has_only};
 
-use json::Value;
 use mi_catalog::Column;
-use mi_request::Object;
+use mi_request::{Object, Tree};
 
 /// Whether a name is that of one of these columns.
 fn is_column(columns: &[Column], name: &str) -> bool
@@ -15,7 +14,7 @@ fn is_column(columns: &[Column], name: &str) -> bool
 }
 
 /// Whether each member has the name of one of these columns.
-fn are_columns(columns: &[Column], members: &[(&str, Value<'_>)]) -> bool
+fn are_columns(columns: &[Column], members: &[(&str, Tree<'_>)]) -> bool
     ensures { result ≡ list_all (λ m. list_any (λ c. bytes_eq m.0.now c.name) columns.now) members.now }
 {
     members.iter().all(|m| is_column(columns, m.0))

@@ -12,8 +12,8 @@ use mi_value::{Key, Lower, Refusal, Text, Upper, Value};
 use std::alloc::Global;
 
 /// The value that a JSON value is: a whole number, a text, which is copied, or true or false. Refusals: `Key` and `Memory`.
-fn plain_value(alloc: Global, value: &Json) -> Result<Value, Refusal>
-    ensures { IsAnswer result (ok_or (keys.plain_value value.now) Refusal.Key) }
+fn plain_value(alloc: Global, value: Json) -> Result<Value, Refusal>
+    ensures { IsAnswer result (ok_or (keys.plain_value value.entry) Refusal.Key) }
 {
     if let Some(text) = value.as_str() {
         return Ok(Value::Text(Text::of(alloc, text)?));
@@ -27,14 +27,20 @@ fn plain_value(alloc: Global, value: &Json) -> Result<Value, Refusal>
     }
 }
 
-/// The key of the values that the items of an array are. Refusals: `Key` and `Memory`.
+/// The key of the values that the items of an array are; that of a single one takes no vector. Refusals: `Key` and `Memory`.
 fn key_of(alloc: Global, key: Array) -> Result<Key, Refusal>
     ensures { IsAnswer result (ok_or (plain_values key.entry) Refusal.Key) }
 {
-    let items = key.into_items();
+    let mut items = key.into_items();
+    if items.len() == 1 {
+        let Some(item) = items.pop() else {
+            unreachable!()
+        };
+        return Ok(Key::one(plain_value(alloc, Json::new(item))?));
+    }
     let mut values = Vec::with_capacity(alloc, items.len())?;
     'items: for item in items {
-        values.push(plain_value(alloc, &Json::new(item))?)?;
+        values.push(plain_value(alloc, Json::new(item))?)?;
     }
     Ok(Key::new(values))
 }

@@ -2,6 +2,7 @@
 //! values are lent to the writer. It knows columns and values, and no tables.
 ghost use Rattle.std.specs.Prelude.{◌≡◌, ◌++◌, ◌+◌, ◌≤◌, ◌<◌, ℕ, List, length, map, insert, slice_set, slice_index_or, codes, true, OnOk, IfOk, IfErr};
 ghost use Rattle.json.specs.Tree.{json_tokens};
+ghost use Rattle.mi_value.specs.Lent.{lent};
 ghost use Rattle.mi_value.specs.declared.limits.TheConstants.{MAX_COLUMNS};
 ghost use Rattle.mi_value.specs.declared.value.Value.{Value as ValueSpec};
 ghost use Rattle.serde_json.specs.Data.{array, object, boolean, member, no_members, put};
@@ -17,7 +18,7 @@ use arrayvec::ArrayVec;
 use json::Writer;
 use mi_catalog::Column;
 use mi_value::limits::{MAX_COLUMNS, MAX_PAGE};
-use mi_value::{Record, Value};
+use mi_value::{Record, ValueRef};
 use std::alloc::{AllocError, Global};
 use std::cmp::Ordering;
 
@@ -101,14 +102,14 @@ fn row_order<'a>(columns: &'a [Column]) -> Order<'a>
     order
 }
 
-fn write_value(writer: &mut Writer, value: &Value) -> Result<(), AllocError>
-    ensures tokens { OnOk result (writer.new.tokens ≡ writer.old.tokens ++ json_tokens (outline (rows.value_data value.now))) }
+fn write_value(writer: &mut Writer, value: ValueRef<'_>) -> Result<(), AllocError>
+    ensures tokens { OnOk result (writer.new.tokens ≡ writer.old.tokens ++ json_tokens (outline (rows.value_data (lent value.entry)))) }
     ensures before { writer.new.before ≡ writer.old.before }
 {
     match value {
-        Value::Int(n) => writer.i64(*n),
-        Value::Text(text) => writer.string(text.as_str()),
-        Value::Flag(b) => writer.boolean(*b),
+        ValueRef::Int(n) => writer.i64(n),
+        ValueRef::Text(text) => writer.string(text),
+        ValueRef::Flag(b) => writer.boolean(b),
     }
 }
 
@@ -116,15 +117,15 @@ fn write_value(writer: &mut Writer, value: &Value) -> Result<(), AllocError>
 fn write_source(
     writer: &mut Writer,
     id: u64,
-    values: &[Value],
+    row: &Record,
     source: Source,
 ) -> Result<(), AllocError>
-    ensures tokens { OnOk result (writer.new.tokens ≡ writer.old.tokens ++ json_tokens (outline (source_data id values.now source))) }
+    ensures tokens { OnOk result (writer.new.tokens ≡ writer.old.tokens ++ json_tokens (outline (source_data id row.now source))) }
     ensures before { writer.new.before ≡ writer.old.before }
 {
     match source {
         Source::Id => writer.u64(id),
-        Source::Column(i) => match values.get(i) {
+        Source::Column(i) => match row.get(i) {
             Some(value) => write_value(writer, value),
             None => writer.null(),
         },
@@ -135,16 +136,16 @@ fn write_source(
 fn write_ordered(
     writer: &mut Writer,
     id: u64,
-    values: &[Value],
+    row: &Record,
     order: &[Member],
 ) -> Result<(), AllocError>
-    ensures tokens { OnOk result (writer.new.tokens ≡ writer.old.tokens ++ json_tokens (outline (object (shown_members id values.now order.now)))) }
+    ensures tokens { OnOk result (writer.new.tokens ≡ writer.old.tokens ++ json_tokens (outline (object (shown_members id row.now order.now)))) }
     ensures before { OnOk result (writer.new.before ≡ writer.old.before) }
 {
     writer.begin_object()?;
     'members: for member in order {
         writer.key(member.name)?;
-        write_source(writer, id, values, member.source)?;
+        write_source(writer, id, row, member.source)?;
     }
     writer.end_object()?;
     Ok(())
@@ -156,17 +157,17 @@ fn write_ordered(
 fn write_short_row(
     writer: &mut Writer,
     id: u64,
-    values: &[Value],
+    row: &Record,
     columns: &[Column],
 ) -> Result<(), AllocError>
     requires few { length columns.now ≤ MAX_COLUMNS }
-    requires shorter { length values.now ≤ length columns.now }
-    ensures tokens { OnOk result (writer.new.tokens ≡ writer.old.tokens ++ json_tokens (outline (row_data columns.now id values.now))) }
+    requires shorter { length row.now ≤ length columns.now }
+    ensures tokens { OnOk result (writer.new.tokens ≡ writer.old.tokens ++ json_tokens (outline (row_data columns.now id row.now))) }
     ensures before { OnOk result (writer.new.before ≡ writer.old.before) }
 {
-    let (known, _) = columns.split_at(values.len());
+    let (known, _) = columns.split_at(row.column_count());
     let order = row_order(known);
-    write_ordered(writer, id, values, order.as_slice())
+    write_ordered(writer, id, row, order.as_slice())
 }
 
 /// Writes a row as an object, in the order of the columns that is given.
@@ -182,11 +183,10 @@ fn write_row(
     ensures tokens { OnOk result (writer.new.tokens ≡ writer.old.tokens ++ json_tokens (outline (row_data columns.now id row.now))) }
     ensures before { OnOk result (writer.new.before ≡ writer.old.before) }
 {
-    let values = row.values();
-    if values.len() < columns.len() {
-        return write_short_row(writer, id, values, columns);
+    if row.column_count() < columns.len() {
+        return write_short_row(writer, id, row, columns);
     }
-    write_ordered(writer, id, values, order)
+    write_ordered(writer, id, row, order)
 }
 
 /// The text of the reply that shows a row.

@@ -1,6 +1,6 @@
 -- Members of objects: which names they have, what one of a name is, and one taken out.
 use Rattle.std.proofs.Common.{◌≡◌, ℕ, zero, suc, List, [], ◌∷◌, ◌++◌, length, map, get_or, set, Bool, true, false, cond, Option, Some, None}
-use Rattle.std.proofs.Common.{Global, Bor, refl, sym, ap, ap₂, ◌∙◌, ◌&&◌, ◌||◌, ◌⊎◌, inl, inr, true≢false, Ordering, Less, Equal, Greater, nat_cmp, rules}
+use Rattle.std.proofs.Common.{Bor, refl, sym, ap, ap₂, ◌∙◌, ◌&&◌, ◌||◌, ◌⊎◌, inl, inr, true≢false, Ordering, Less, Equal, Greater, nat_cmp, rules}
 use Rattle.std.specs.List.{list_any, list_all}
 use Rattle.std.specs.Ordering.{match_ordering, is_eq}
 use Rattle.std.specs.Cmp.Lexicographic.{slice_cmp}
@@ -135,11 +135,11 @@ has_only-put names k d (member l e ms) = has_put_at _ names k l d e ms refl (has
 
 -- ---- members as they were read
 
-abbrev pub Member : Type 0
-Member = Bor (List ℕ) × Value Global
+abbrev pub Member : Type 0 → Type 0
+Member A = Bor (List ℕ) × Value A
 
 -- these members, put after those that were found
-abbrev onto : List Member → Members → Members
+abbrev onto : {A : Type 0} → List (Member A) → Members → Members
 onto ms found = meant_members (members_view ms) found
 
 list_any-map : {A : Type 0} (f : A → List ℕ) (k : List ℕ) (xs : List A) → list_any (λ x. bytes_eq k (f x)) xs ≡ list_any (λ n. bytes_eq k n) (map f xs)
@@ -150,7 +150,7 @@ both_true : (b : Bool) → b ≡ (b && true)
 both_true true = refl
 both_true false = refl
 
-has_only-onto : {A : Type 0} (f : A → List ℕ) (xs : List A) (ms : List Member) (found : Members)
+has_only-onto : {A B : Type 0} (f : A → List ℕ) (xs : List A) (ms : List (Member B)) (found : Members)
     → (list_all (λ m. list_any (λ x. bytes_eq m.0.now (f x)) xs) ms && has_only (map f xs) found) ≡ has_only (map f xs) (onto ms found)
 has_only-onto f xs [] found = refl
 has_only-onto f xs (m ∷ ms) found =
@@ -167,7 +167,7 @@ has_only-onto f xs (m ∷ ms) found =
     moved false false d = refl
 
 -- each name is one of these, so no member has another name
-pub has_only-names : {A : Type 0} (f : A → List ℕ) (xs : List A) (ms : List Member)
+pub has_only-names : {A B : Type 0} (f : A → List ℕ) (xs : List A) (ms : List (Member B))
     → list_all (λ m. list_any (λ x. bytes_eq m.0.now (f x)) xs) ms ≡ has_only (map f xs) (members_seen ms)
 unfolding has_only
 has_only-names f xs ms = both_true _ ∙ has_only-onto f xs ms no_members
@@ -194,21 +194,21 @@ put_behind b true i r = refl
 put_behind b false i r = refl
 
 -- a member behind the others is the last of its name
-pub last_at-push : (name : List ℕ) (ms : List Member) (m : Member)
+pub last_at-push : {A : Type 0} (name : List ℕ) (ms : List (Member A)) (m : Member A)
     → last_at name (ms ++ m ∷ []) ≡ cond (bytes_eq name m.0.now) (Some (length ms)) (last_at name ms)
 last_at-push name [] m = put_first (bytes_eq name m.0.now)
 last_at-push name (n ∷ ms) m =
     ap (or_first (bytes_eq name n.0.now)) (last_at-push name ms m)
     ∙ put_behind (bytes_eq name n.0.now) (bytes_eq name m.0.now) (length ms) (last_at name ms)
 
-pub absent : (name : List ℕ) (ms : List Member) (found : Members) → last_at name ms ≡ None → get_member name (onto ms found) ≡ get_member name found
+pub absent : {A : Type 0} (name : List ℕ) (ms : List (Member A)) (found : Members) → last_at name ms ≡ None → get_member name (onto ms found) ≡ get_member name found
 absent name [] found is = refl
 absent name (m ∷ ms) found is =
     let p = or_none _ (last_at name ms) is in
     absent name ms (put m.0.now (seen m.1) found) p.1 ∙ get_member-put name m.0.now (seen m.1) found
     ∙ ap (λ b. cond b (Some (seen m.1)) (get_member name found)) p.0
 
-pub present : (name : List ℕ) (ms : List Member) (found : Members) (i : ℕ) (n : Member) → last_at name ms ≡ Some i
+pub present : {A : Type 0} (name : List ℕ) (ms : List (Member A)) (found : Members) (i : ℕ) (n : Member A) → last_at name ms ≡ Some i
     → get_member name (onto ms found) ≡ Some (seen (get_or ms i n).1)
 present name [] found i n is = absurd (cc)
 present name (m ∷ ms) found i n is = elim (or_some _ (last_at name ms) i is) [
@@ -219,16 +219,16 @@ present name (m ∷ ms) found i n is = elim (or_some _ (last_at name ms) i is) [
 
 -- ---- null written over a member's value
 
-pub emptied-absent : (name : List ℕ) (ms : List Member) (found : Members) → last_at name ms ≡ None → emptied name (onto ms found) ≡ onto ms (emptied name found)
+pub emptied-absent : {A : Type 0} (name : List ℕ) (ms : List (Member A)) (found : Members) → last_at name ms ≡ None → emptied name (onto ms found) ≡ onto ms (emptied name found)
 emptied-absent name [] found is = refl
 emptied-absent name (m ∷ ms) found is =
     let p = or_none _ (last_at name ms) is in
     emptied-absent name ms (put m.0.now (seen m.1) found) p.1 ∙ ap (onto ms) (emptied-put_other name m.0.now (seen m.1) found p.0)
 
-seen-Null : seen {A = Global} Null ≡ null
-seen-Null = search (rules, the_lemmas)
+seen-Null : (A : Type 0) → seen {A = A} Null ≡ null
+seen-Null A = search (rules, the_lemmas)
 
-pub set_to_null : (name : List ℕ) (ms : List Member) (found : Members) (i : ℕ) (n : Member) → last_at name ms ≡ Some i
+pub set_to_null : {A : Type 0} (name : List ℕ) (ms : List (Member A)) (found : Members) (i : ℕ) (n : Member A) → last_at name ms ≡ Some i
     → onto (set ms i ((get_or ms i n).0, Null)) found ≡ emptied name (onto ms found)
 set_to_null name [] found i n is = absurd (cc)
 set_to_null name (m ∷ ms) found i n is = elim (or_some _ (last_at name ms) i is) [
@@ -237,7 +237,7 @@ set_to_null name (m ∷ ms) found i n is = elim (or_some _ (last_at name ms) i i
   | inr p ↦
       let same : name ≡ m.0.now = same_name name m.0.now p.1 in
       ap (λ j. onto (set (m ∷ ms) j ((get_or (m ∷ ms) j n).0, Null)) found) p.2
-      ∙ ap (λ d. onto ms (put m.0.now d found)) seen-Null
+      ∙ ap (λ d. onto ms (put m.0.now d found)) (seen-Null _)
       ∙ ap (onto ms) (sym (emptied-put m.0.now (seen m.1) found))
       ∙ ap (λ k. onto ms (emptied k (put m.0.now (seen m.1) found))) (sym same)
       ∙ sym (emptied-absent name ms (put m.0.now (seen m.1) found) p.0)

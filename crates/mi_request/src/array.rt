@@ -1,11 +1,12 @@
 //! A JSON array, seen by contracts as its items. It hands them out by moving them, and copies none.
-use json::Value;
+use crate::tree::Tree;
+use bumpalo::Bump;
 use std::marker::Model;
 
 /// A JSON array, seen as what its items mean.
 #[derive(Debug, Drop)]
 pub struct Array<'a> {
-    items: Vec<Value<'a>>,
+    items: Vec<Tree<'a>, &'a Bump>,
 }
 
 impl<'a> Model for Array<'a> {
@@ -25,14 +26,14 @@ impl<'a> Array<'a> {
     ghost use Rattle.mi_request.specs.Meant.{items_seen};
 
     /// The array of these items.
-    pub(crate) fn new(items: Vec<Value<'a>>) -> Array<'a>
+    pub(crate) fn new(items: Vec<Tree<'a>, &'a Bump>) -> Array<'a>
         ensures { result ≡ items_seen items.entry.items }
     {
         Array { items }
     }
 
     /// Its items in order, moved out.
-    pub fn into_items(self) -> Vec<Value<'a>>
+    pub fn into_items(self) -> Vec<Tree<'a>, &'a Bump>
         ensures { items_seen result.items ≡ self.entry }
     {
         self.items

@@ -11,8 +11,8 @@ use crate::reading::{
     object_or_empty, page, place, text, text_if_there, up_to, upper,
 };
 use crate::request::Request;
+use bumpalo::Bump;
 use mi_value::limits::{MAX_RESERVED_CHANGES, MAX_RESERVED_SESSIONS};
-use std::alloc::Global;
 
 fn insert_request<'a>(object: Object<'a>) -> Option<Request<'a>>
     ensures { result ≡ (form_of name.Insert).request object.entry }
@@ -34,15 +34,15 @@ fn replace_request<'a>(object: Object<'a>) -> Option<Request<'a>>
     Some(Request::Replace { table, id, row })
 }
 
-fn modify_request<'a>(alloc: Global, object: Object<'a>) -> Option<Request<'a>>
+fn modify_request<'a>(arena: &'a Bump, object: Object<'a>) -> Option<Request<'a>>
     ensures { result ≡ (form_of name.Modify).request object.entry }
 {
     let table = text_if_there(&object, "table")?;
     let id = natural(&object, "id")?;
     let rollback = flag(&object, "rollback");
     let (set, add) = object.into_two("set", "add");
-    let set = object_or_empty(alloc, set)?;
-    let add = object_or_empty(alloc, add)?;
+    let set = object_or_empty(arena, set)?;
+    let add = object_or_empty(arena, add)?;
     let rollback = rollback?;
     Some(Request::Modify {
         table,
@@ -213,7 +213,7 @@ fn size_request<'a>(object: &Object<'a>) -> Option<Request<'a>>
 
 /// The request that the members of a command are.
 pub(crate) fn request_by<'a>(
-    alloc: Global,
+    arena: &'a Bump,
     name: CommandName,
     object: Object<'a>,
 ) -> Option<Request<'a>>
@@ -225,7 +225,7 @@ pub(crate) fn request_by<'a>(
     match name {
         CommandName::Insert => insert_request(object),
         CommandName::Replace => replace_request(object),
-        CommandName::Modify => modify_request(alloc, object),
+        CommandName::Modify => modify_request(arena, object),
         CommandName::Erase => erase_request(&object),
         CommandName::EraseKey => erase_key_request(object),
         CommandName::Relocate => relocate_request(&object),

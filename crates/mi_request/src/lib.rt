@@ -20,4 +20,5 @@ pub use line_reader::LineReader;
 pub use name::Name;
 pub use object::Object;
 pub use request::{End, Place, Request};
+pub use tree::Tree;
 pub use value::Json;

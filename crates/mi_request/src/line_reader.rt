@@ -1,4 +1,4 @@
-//! Lines to requests, with memory that is kept from line to line.
+//! Lines to requests, with memory that is kept from line to line: a scratch for texts, and an arena for arrays and objects.
 ghost use Rattle.std.specs.Prelude.{◌≡◌, codes, Some, Ok, IfErr};
 ghost use Rattle.mi_request.specs.Answers.{IsAnswer, NamesNoIndex};
 ghost use Rattle.mi_request.specs.Lines.{command_line};
@@ -9,15 +9,21 @@ ghost use Rattle.mi_request.specs.declared.request.Request.TheVariants as reques
 use crate::request::{Request, request_of};
 use crate::short::short_request;
 use crate::tree::read_value;
+use bumpalo::Bump;
 use json::Scratch;
 use mi_value::Refusal;
 use std::alloc::Global;
 
-/// Reads lines, and keeps the memory that reading took: at most the length of the longest line.
+/// Bytes that the arena keeps between lines, at most.
+const KEPT_ARENA: usize = 64 * 1024;
+
+/// Reads lines, and keeps the memory that reading took: at most the length of the longest line for texts, and 64 KiB for
+/// arrays and objects.
 #[derive(Drop)]
 pub struct LineReader {
     alloc: Global,
     scratch: Scratch,
+    arena: Bump,
 }
 
 impl LineReader {
@@ -26,6 +32,14 @@ impl LineReader {
         LineReader {
             alloc,
             scratch: Scratch::new(alloc),
+            arena: Bump::new(alloc),
+        }
+    }
+
+    /// Makes the arena empty. One that has grown past what is kept is given up.
+    fn empty_arena(&mut self) {
+        if self.arena.reset().is_err() || self.arena.allocated_bytes() > KEPT_ARENA {
+            self.arena = Bump::new(self.alloc);
         }
     }
 
@@ -34,8 +48,10 @@ impl LineReader {
         ensures answer { IsAnswer result (command_line line.now) }
         ensures refusal { IfErr result NamesNoIndex }
     {
-        let value = read_value(self.alloc, &mut self.scratch, line)?;
-        request_of(self.alloc, value).ok_or(Refusal::Form)
+        self.empty_arena();
+        let arena = &self.arena;
+        let value = read_value(arena, &mut self.scratch, line)?;
+        request_of(arena, value).ok_or(Refusal::Form)
     }
 
     /// The request that a line, without its newline, is. Its names and values are borrowed from the line and from this reader.

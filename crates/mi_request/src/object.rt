@@ -4,7 +4,9 @@ ghost use Rattle.std.specs.List.{list_any, list_all, slice_set};
 ghost use Rattle.json.specs.declared.value.Value.{Null};
 ghost use Rattle.mi_request.specs.Meant.{last_at};
 
+use crate::tree::Tree;
 use crate::value::Json;
+use bumpalo::Bump;
 use json::Value;
 use std::marker::Model;
 use std::mem;
@@ -12,7 +14,7 @@ use std::mem;
 /// A JSON object, seen as what its members mean: the last of a name is its value.
 #[derive(Debug, Drop)]
 pub struct Object<'a> {
-    members: Vec<(&'a str, Value<'a>)>,
+    members: Vec<(&'a str, Tree<'a>), &'a Bump>,
 }
 
 impl<'a> Model for Object<'a> {
@@ -35,14 +37,14 @@ fn is_named(names: &[&str], name: &str) -> bool
 }
 
 /// Whether each member has one of these names.
-fn are_named(names: &[&str], members: &[(&str, Value<'_>)]) -> bool
+fn are_named(names: &[&str], members: &[(&str, Tree<'_>)]) -> bool
     ensures { result ≡ list_all (λ m. list_any (λ n. bytes_eq m.0.now n.now) names.now) members.now }
 {
     members.iter().all(|m| is_named(names, m.0))
 }
 
 /// Where the last member of this name stands.
-fn place_of(members: &[(&str, Value<'_>)], name: &str) -> Option<usize>
+fn place_of(members: &[(&str, Tree<'_>)], name: &str) -> Option<usize>
     ensures found { result ≡ last_at name.now members.now }
     ensures within { IfSome result (λ i. i < length members.now) }
 {
@@ -57,7 +59,7 @@ fn place_of(members: &[(&str, Value<'_>)], name: &str) -> Option<usize>
 }
 
 /// Moves a member's value out, with null in its place.
-fn taken<'a>(members: &mut [(&'a str, Value<'a>)], at: usize) -> Value<'a>
+fn taken<'a>(members: &mut [(&'a str, Tree<'a>)], at: usize) -> Tree<'a>
     requires { at < length members.old }
     ensures value { (d : _) → result ≡ (slice_index_or members.old at d).1 }
     ensures left { (d : _) → members.new ≡ slice_set members.old at ((slice_index_or members.old at d).0, Null) }
@@ -72,14 +74,14 @@ impl<'a> Object<'a> {
     ghost use Rattle.mi_request.specs.Meant.{seen, members_seen};
 
     /// The object of these members.
-    pub(crate) fn new(members: Vec<(&'a str, Value<'a>)>) -> Object<'a>
+    pub(crate) fn new(members: Vec<(&'a str, Tree<'a>), &'a Bump>) -> Object<'a>
         ensures { result ≡ members_seen members.entry.items }
     {
         Object { members }
     }
 
     /// The value of the member of this name, as it was read.
-    pub(crate) fn get(&self, name: &str) -> Option<&Value<'a>>
+    pub(crate) fn get(&self, name: &str) -> Option<&Tree<'a>>
         ensures { option_map (λ v. seen v.now) result ≡ get_member name.now self.now }
     {
         let at = place_of(self.members.as_slice(), name)?;
@@ -114,7 +116,7 @@ impl<'a> Object<'a> {
     }
 
     /// Its members in order, as they were read.
-    pub fn members(&self) -> &[(&'a str, Value<'a>)]
+    pub fn members(&self) -> &[(&'a str, Tree<'a>)]
         ensures { members_seen result.now ≡ self.now }
     {
         self.members.as_slice()

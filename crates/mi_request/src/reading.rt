@@ -14,25 +14,25 @@ use crate::name::Name;
 use crate::numbers::whole_number;
 use crate::object::Object;
 use crate::request::{End, Place};
+use crate::tree::Tree;
 use crate::value::Json;
-use json::Value;
+use bumpalo::Bump;
 use mi_value::limits::MAX_PAGE;
-use std::alloc::Global;
 
-fn name_of<'a>(value: &Value<'a>) -> Option<Name<'a>>
+fn name_of<'a>(value: &Tree<'a>) -> Option<Name<'a>>
     ensures { result ≡ as_str (seen value.now) }
 {
     Some(Name::new(value.as_str()?))
 }
 
-fn natural_of(value: &Value<'_>) -> Option<u64>
+fn natural_of(value: &Tree<'_>) -> Option<u64>
     ensures { result ≡ kinds.natural (seen value.now) }
 {
     let n = whole_number(value.as_number()?)?;
     if n >= 0 { Some(n as u64) } else { None }
 }
 
-fn natural_or_null(value: &Value<'_>) -> Option<Option<u64>>
+fn natural_or_null(value: &Tree<'_>) -> Option<Option<u64>>
     ensures { result ≡ commands.natural_or_null (seen value.now) }
 {
     if value.is_null() {
@@ -41,7 +41,7 @@ fn natural_or_null(value: &Value<'_>) -> Option<Option<u64>>
     Some(Some(natural_of(value)?))
 }
 
-fn flag_of(value: &Value<'_>) -> Option<bool>
+fn flag_of(value: &Tree<'_>) -> Option<bool>
     ensures { result ≡ as_bool (seen value.now) }
 {
     value.as_bool()
@@ -101,7 +101,7 @@ pub(crate) fn flag(object: &Object<'_>, name: &str) -> Option<bool>
     }
 }
 
-fn up_to_of(value: &Value<'_>, most: u64) -> Option<u64>
+fn up_to_of(value: &Tree<'_>, most: u64) -> Option<u64>
     ensures { result ≡ commands.up_to most (seen value.now) }
 {
     let n = natural_of(value)?;
@@ -115,7 +115,7 @@ pub(crate) fn up_to(object: &Object<'_>, name: &str, most: u64) -> Option<u64>
     up_to_of(object.get(name)?, most)
 }
 
-fn page_of(value: &Value<'_>) -> Option<usize>
+fn page_of(value: &Tree<'_>) -> Option<usize>
     ensures { result ≡ commands.page (seen value.now) }
 {
     let n = natural_of(value)?;
@@ -143,12 +143,12 @@ pub(crate) fn needed_object<'a>(member: Option<Json<'a>>) -> Option<Object<'a>>
 }
 
 /// An object; absent it has no members.
-pub(crate) fn object_or_empty<'a>(alloc: Global, member: Option<Json<'a>>) -> Option<Object<'a>>
+pub(crate) fn object_or_empty<'a>(arena: &'a Bump, member: Option<Json<'a>>) -> Option<Object<'a>>
     ensures { result ≡ default_if no_members as_object member.entry }
 {
     match member {
         Some(value) => value.into_object(),
-        None => Some(Object::new(Vec::new(alloc))),
+        None => Some(Object::new(Vec::new(arena))),
     }
 }
 

@@ -1,11 +1,10 @@
 //! From a JSON value to a request. It knows no catalog.
-ghost use Rattle.std.specs.Prelude.{◌≡◌, codes, option_map, option_and_then};
+ghost use Rattle.std.specs.Prelude.{◌≡◌, codes, option_and_then};
 ghost use Rattle.serde_json.specs.Find.{as_str};
 ghost use Rattle.mi_request.specs.Commands as commands;
 ghost use Rattle.mi_request.specs.Commands.{command_named};
 ghost use Rattle.mi_request.specs.Json.{needed};
 ghost use Rattle.mi_request.specs.Lines as lines;
-ghost use Rattle.mi_request.specs.Meant.{seen};
 
 use crate::array::Array;
 use crate::command::CommandName;
@@ -13,8 +12,7 @@ use crate::forms::request_by;
 use crate::name::Name;
 use crate::object::Object;
 use crate::value::Json;
-use json::Value;
-use std::alloc::Global;
+use bumpalo::Bump;
 
 /// A place in a sequenced index, by its name: directly before the record of this id, 0 to 2^63 - 1.
 #[derive(Debug, Drop)]
@@ -173,24 +171,18 @@ impl<'a> Request<'a> {
     }
 }
 
-fn text_of<'a>(value: &Value<'a>) -> Option<&'a str>
-    ensures { option_map (λ s. s.now) result ≡ as_str (seen value.now) }
-{
-    value.as_str()
-}
-
 /// The command that `cmd` names.
 fn name_in(object: &Object<'_>) -> Option<CommandName>
     ensures { result ≡ option_and_then command_named (needed as_str (codes "cmd") object.now) }
 {
-    CommandName::of(text_of(object.get("cmd")?)?)
+    CommandName::of(object.get("cmd")?.as_str()?)
 }
 
 /// The request that a JSON value is.
-pub(crate) fn request_of<'a>(alloc: Global, value: Json<'a>) -> Option<Request<'a>>
+pub(crate) fn request_of<'a>(arena: &'a Bump, value: Json<'a>) -> Option<Request<'a>>
     ensures { result ≡ lines.request_of value.entry }
 {
     let object = value.into_object()?;
     let name = name_in(&object)?;
-    request_by(alloc, name, object)
+    request_by(arena, name, object)
 }

@@ -1,4 +1,4 @@
-//! From bytes to the JSON value that they are, as a tree over borrowed text.
+//! From bytes to the JSON value that they are, as a tree over borrowed text whose arrays and objects lie in an arena.
 ghost use Rattle.std.specs.Prelude.{◌≡◌, ◌⊎◌, is_some, Some, None, IfOk, IfErr};
 ghost use Rattle.json.specs.Json.{value};
 ghost use Rattle.json.specs.Value.{value_view, items_view, members_view};
@@ -8,16 +8,19 @@ ghost use Rattle.mi_request.specs.Lines.{json_of};
 
 use crate::numbers::is_number;
 use crate::value::Json;
+use bumpalo::Bump;
 use json::{Error, Reader, Scratch, Value};
 use mi_value::Refusal;
-use std::alloc::Global;
+
+/// A JSON value as a tree. Its texts are borrowed from where it was read, and its arrays and objects lie in an arena.
+pub type Tree<'a> = Value<'a, &'a Bump>;
 
 /// How deep arrays and objects may nest, as in `serde_json`.
 const MAX_DEPTH: usize = 127;
 
 /// Whether each number in a value is one for `serde_json`.
 #[cycle(numbers)]
-fn has_numbers(value: &Value<'_>) -> bool
+fn has_numbers(value: &Tree<'_>) -> bool
     ensures { result ≡ is_some (of_json (value_view value.now)) }
 {
     match value {
@@ -29,7 +32,7 @@ fn has_numbers(value: &Value<'_>) -> bool
 }
 
 #[cycle(numbers)]
-fn items_have_numbers(items: &[Value<'_>]) -> bool
+fn items_have_numbers(items: &[Tree<'_>]) -> bool
     ensures { result ≡ is_some (of_items (items_view items.now)) }
 {
     'items: for item in items {
@@ -41,7 +44,7 @@ fn items_have_numbers(items: &[Value<'_>]) -> bool
 }
 
 #[cycle(numbers)]
-fn members_have_numbers(members: &[(&str, Value<'_>)]) -> bool
+fn members_have_numbers(members: &[(&str, Tree<'_>)]) -> bool
     ensures { result ≡ is_some (of_members (members_view members.now) no_members) }
 {
     'members: for member in members {
@@ -53,11 +56,11 @@ fn members_have_numbers(members: &[(&str, Value<'_>)]) -> bool
 }
 
 /// The value that comes first. Refusals: `Json` and `Memory`.
-fn first_value<'a>(alloc: Global, reader: &mut Reader<'a>) -> Result<Value<'a>, Refusal>
+fn first_value<'a>(arena: &'a Bump, reader: &mut Reader<'a>) -> Result<Tree<'a>, Refusal>
     ensures ok { IfOk result (λ v. value 127 reader.old ≡ Some (value_view v, reader.new)) }
     ensures err { IfErr result (λ e. (e ≡ Refusal.Memory) ⊎ ((e ≡ Refusal.Json) × (value 127 reader.old ≡ None))) }
 {
-    match Value::read(alloc, reader, MAX_DEPTH) {
+    match Value::read(arena, reader, MAX_DEPTH) {
         Ok(value) => Ok(value),
         Err(Error::OutOfMemory) => Err(Refusal::Memory),
         Err(_) => Err(Refusal::Json),
@@ -66,7 +69,7 @@ fn first_value<'a>(alloc: Global, reader: &mut Reader<'a>) -> Result<Value<'a>, 
 
 /// The value that bytes are. Refusals: `Json` where they are not UTF-8 or no JSON, and `Memory`.
 pub(crate) fn read_value<'a>(
-    alloc: Global,
+    arena: &'a Bump,
     scratch: &'a mut Scratch,
     bytes: &'a [u8],
 ) -> Result<Json<'a>, Refusal>
@@ -79,7 +82,7 @@ pub(crate) fn read_value<'a>(
     let Ok(mut reader) = Reader::new(text, scratch) else {
         return Err(Refusal::Memory);
     };
-    let value = first_value(alloc, &mut reader)?;
+    let value = first_value(arena, &mut reader)?;
     if reader.next().is_some() || !has_numbers(&value) {
         return Err(Refusal::Json);
     }

@@ -3,13 +3,14 @@
 use crate::array::Array;
 use crate::numbers::whole_number;
 use crate::object::Object;
+use crate::tree::Tree;
 use json::Value;
 use std::marker::Model;
 
 /// A JSON value, seen as what it means.
 #[derive(Debug, Drop)]
 pub struct Json<'a> {
-    value: Value<'a>,
+    value: Tree<'a>,
 }
 
 impl<'a> Model for Json<'a> {
@@ -30,7 +31,7 @@ impl<'a> Json<'a> {
     ghost use Rattle.mi_request.specs.Meant.{seen};
 
     /// What a value means.
-    pub fn new(value: Value<'a>) -> Json<'a>
+    pub fn new(value: Tree<'a>) -> Json<'a>
         ensures { result ≡ seen value.entry }
     {
         Json { value }

@@ -10,7 +10,6 @@ pub mod Shapes
 pub mod Sinks
 pub mod Sorts
 pub mod Stands
-pub mod Stocks
 pub mod Takes
 pub mod Turns
 pub mod Walks

@@ -17,14 +17,15 @@ use Rattle.mi_node.proofs.Callers.{flip, link_here}
 use Rattle.mi_node.proofs.Keeping.{keeps_none, keeps_link, keeps_then, keeps_more, held_kept}
 use Rattle.mi_node.proofs.Refs.{out_left, out_right, between, are_out_cons, are_out_none, are_out_flip}
 use Rattle.mi_tree.specs.Shape.{Shape, Tip, Fork, nodes, top, size, height, DifferByAtMost, IsEven, Stands, IsRooted, height_at}
-use Rattle.mi_tree.specs.Joining.{AreSides, IsBalanced}
+use Rattle.mi_tree.specs.Joining.{AreSides, IsBalanced, IsSettled}
 use Rattle.mi_tree.specs.Sorted.{AreTagged, SameTags, IsPutIn, CanPut, HasPut, side}
 use Rattle.mi_tree.specs.Ways.{Frame, way_of, forked, forked_size, forked_height, forked_link, rehung, plug}
-use Rattle.mi_tree.specs.Ways.{risen, IsLevel, AreEven, IsRootOf, Above, Falls, HasFallen, Climbs, HasClimbed}
+use Rattle.mi_tree.specs.Ways.{risen, IsLevel, AreEven, IsRootOf, Above, Falls, HasFallen, Climbs, HasClimbed, AreRejoined}
 use Rattle.mi_tree.specs.declared.way.Turn.{Turn}
 use Rattle.mi_tree.proofs.Shapes.{moved, tip_is, size-nodes, height-root}
 use Rattle.mi_tree.proofs.Joins.{link_kept, stands_kept, rooted_past, tags_set}
 use Rattle.mi_tree.proofs.Heights.{low_enough}
+use Rattle.mi_tree.proofs.Turns.{plain_parts}
 use Rattle.mi_tree.proofs.Puts.{PutOpened, put_opened, put_apart, put_length, put_out}
 use Rattle.mi_tree.proofs.Sorts.{side_order, side_kept, item_kept, put_left, put_right, tagged_left, tagged_right}
 use Rattle.mi_tree.proofs.Stands.{tagged_kept}
@@ -112,6 +113,10 @@ size_forked : (b : Bool) (r : Ref) (q t : Shape) → size (forked b t r q) ≡ f
 size_forked true r q t = refl
 size_forked false r q t = refl
 
+size_part : (b : Bool) (r : Ref) (q t : Shape) → size t ≤ size (forked b t r q)
+size_part true r q t = omega arith
+size_part false r q t = omega arith
+
 height_forked : (b : Bool) (r : Ref) (q t : Shape) → height (forked b t r q) ≡ forked_height b (height t) (height q)
 height_forked true r q t = refl
 height_forked false r q t = refl
@@ -177,6 +182,9 @@ lifted false h k u z a b low high tight = (grind arith, grind arith)
 
 max_turned : (a b : ℕ) → max a b ≡ max b a
 max_turned a b = omega arith
+
+settled_heights : (h k u y : ℕ) → y ≡ max h k + 1 → u + 1 ≡ y → DifferByAtMost 1 h k → (y ≡ max u k + 1) × DifferByAtMost 1 u k
+settled_heights h k u y e high near = let n = near.0 in let f = near.1 in (omega arith, (omega arith, omega arith))
 
 are_out_less : (zs xs ys : List Ref) → ((k : ℕ) → IsOut k xs → IsOut k ys) → AreOut zs xs → AreOut zs ys
 are_out_less [] xs ys among a = tt
@@ -280,6 +288,39 @@ module _ {T : Type 0} where
     },
   )
 
+  -- the link is right for them where the other tree is one level lower than before the node
+  settled : (m : Pooled T) (s : ℕ) (b : Bool) (r : Ref) (q u : Shape) (below : Option Ref) (y : Link) (at : Option Ref) (h : ℕ) (t : Tag)
+      → (rooted : IsRooted m s below u) (even : IsEven u) (near : DifferByAtMost 1 (height u) h) (beside : DifferByAtMost 1 h (height q))
+      (other : IsEven q) (held : IsHeld m r) (link : y ≡ forked_link b at (size u) h q t) (stands : Stands m s q)
+      (apart : IsApart (nodes (forked b u r q))) (fits : size (forked b u r q) < 2 ^ 32)
+      → y.tag ≡ (link_of m r.name s).tag → height u + 1 ≡ y.height
+      → let o = sided m s b r q u below y at (size u) h t rooted even near beside other held link stands apart fits in
+      IsSettled m s r (rehung b below y) o.0 o.1
+  unfolding sided
+  settled m s true r q u below y at h t rooted even near beside other held link stands apart fits tag high =
+      let o = sided m s true r q u below y at (size u) h t rooted even near beside other held link stands apart fits in
+      let e = settled_heights h (height q) (height u) y.height (ap (λ (z : Link). z.height) link) high beside in (
+        record {
+          two = plain_parts m s below r y.forth u q o.2.sides;
+          size_is = ap (λ (z : Link). z.size) link;
+          height_is = e.0;
+          tag_is = tag;
+        },
+        e.1,
+      )
+  settled m s false r q u below y at h t rooted even near beside other held link stands apart fits tag high =
+      let o = sided m s false r q u below y at (size u) h t rooted even near beside other held link stands apart fits in
+      let e = settled_heights h (height q) (height u) y.height
+      (ap (λ (z : Link). z.height) link ∙ ap (λ j. j + 1) (max_turned (height q) h)) high beside in (
+        record {
+          two = plain_parts m s y.back r below q u o.2.sides;
+          size_is = ap (λ (z : Link). z.size) link;
+          height_is = e.0 ∙ ap (λ j. j + 1) (max_turned (height u) (height q));
+          tag_is = tag;
+        },
+        (e.1.1, e.1.0),
+      )
+
   -- nothing is above
   pub climbed_none : (m : Pooled T) (s : ℕ) (root below : Option Ref) (items : List (Option Turn)) (fs : List Frame) (at : Option Ref) (h : ℕ) (u : Shape)
       → Climbs m s root below items fs at h u → fs ≡ [] → HasClimbed m m s (plug fs u) below u
@@ -330,6 +371,23 @@ module _ {T : Type 0} where
     climb_sides = let f = plug_size w.rest whole in let k = open_fits in
         sided m s turn.left turn.node w.other u below y at (size u) h y.tag c.rooted c.even c.near open_beside.0
         open_beside.1 open_above.0 link_is open_above.2 (plug_apart w.rest whole open_apart) (omega arith)
+
+    climb_settled : height u + 1 ≡ y.height → IsSettled m s turn.node (rehung turn.left below y) climb_sides.0 climb_sides.1
+    unfolding climb_sides sided
+    climb_settled = let f = plug_size w.rest whole in let k = open_fits in
+        settled m s turn.left turn.node w.other u below y at h y.tag c.rooted c.even c.near open_beside.0
+        open_beside.1 open_above.0 link_is open_above.2 (plug_apart w.rest whole open_apart) (omega arith) (ap (λ (z : Link). z.tag) i)
+
+    pub climb_rejoined : AreRejoined m s turn below y climb_sides.0 climb_sides.1
+    climb_rejoined = record {
+      sides = climb_sides.2.sides;
+      settled = λ e. climb_settled (ap (λ j. j + 1) (sym (height-root m s below u c.rooted)) ∙ e);
+    }
+
+    pub low_below : height_at m s below + 1 < 256
+    low_below = let f = plug_size w.rest whole in let k = open_fits in let j = size_part turn.left turn.node w.other u in
+        let fits : size u < 2 ^ 32 = omega arith in let l = low_enough u c.even fits in
+        let e = height-root m s below u c.rooted in omega arith
 
     -- the next node of the way
     module _ (n : Pooled T) (back forth : Option Ref) (l q : Shape) (o : Sided m s back forth turn.node turn.left w.other u l q)

@@ -1,5 +1,6 @@
 -- What is put together, and what comes of it.
 --     Two, Three, Four      subtrees with nodes between them, which may be put together
+--     IsSettled      a node's link is right for two sides of nearly one height
 --     AreSides, IsBalanced      two balanced subtrees of nearly one height, and the balanced tree that they give
 use Rattle.std.specs.Prelude.{◌≡◌, ℕ, ◌+◌, ◌^◌, ◌<◌, ◌≤◌, max, ◌∷◌, ◌++◌, Option, Some}
 use Rattle.mi_node.specs.Pool.{Pooled, IsHeld, Keeps, link_of}
@@ -24,6 +25,9 @@ module _ {T : Type 0} where
     pub size_is : y.size ≡ size A + size B + 1
     pub height_is : y.height ≡ max (height A) (height B) + 1
     pub tag_is : y.tag ≡ (link_of m x.name s).tag
+
+  abbrev pub IsSettled : (m : Pooled T) (s : ℕ) (x : Ref) (y : Link) (A B : Shape) → Type 0
+  IsSettled m s x y A B = IsFork m s x y A B × DifferByAtMost 1 (height A) (height B)
 
   pub record Three (m : Pooled T) (s : ℕ) (a : Option Ref) (x : Ref) (b : Option Ref) (y : Ref) (c : Option Ref) (A B C : Shape) : Type 0 where
     pub first : IsRooted m s a A

@@ -1,13 +1,10 @@
 pub mod Frame
 pub mod Height
 pub mod Joining
-pub mod Keyed
-pub mod KeyedLaws
 pub mod Order
 pub mod Probed
 pub mod Shape
 pub mod Sorted
 pub mod Standing
-pub mod Stock
 pub mod Walking
 pub mod Ways

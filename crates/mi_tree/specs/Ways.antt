@@ -6,13 +6,15 @@
 --     Sinks, HasSunk      a way to a subtree, and the way down to a node of it that is about to leave
 --     risen, IsLevel      the height of the whole tree above one of that height, and how it differs from another
 --     Climbs, HasClimbed      a way with another tree at its end, and the whole tree
+--     AreRejoined      a node of a way over its two sides, of which one is another tree
 use Rattle.std.specs.Prelude.{◌≡◌, ℕ, ◌+◌, ◌-◌, ◌^◌, ◌<◌, ◌≤◌, max, Bool, true, false, cond, List, [], ◌∷◌, ◌++◌, length, Option, Some, None}
 use Rattle.std.specs.declared.cmp.Ordering.{Ordering}
 use Rattle.mi_node.specs.Pool.{Pooled, link_of, IsHeld, Keeps}
 use Rattle.mi_node.specs.Refs.{Ref, IsApart}
 use Rattle.mi_node.specs.declared.link.Link.{Link}
 use Rattle.mi_node.specs.declared.link.Tag.{Tag}
-use Rattle.mi_tree.specs.Shape.{Shape, Tip, Fork, nodes, top, size, height, DifferByAtMost, IsEven, Stands, IsRooted}
+use Rattle.mi_tree.specs.Shape.{Shape, Tip, Fork, nodes, top, size, height, DifferByAtMost, IsEven, Stands, IsRooted, height_at}
+use Rattle.mi_tree.specs.Joining.{AreSides, IsSettled}
 use Rattle.mi_tree.specs.Sorted.{AreTagged, SameTags, IsPutIn, CanPut, CanTake}
 use Rattle.mi_tree.specs.declared.way.Turn.{Turn}
 
@@ -146,3 +148,8 @@ module _ {T : Type 0} where
     pub nodes_are : nodes v ≡ nodes whole
     pub keeps : Keeps m n s (nodes whole)
     pub tags : SameTags m n s
+
+  -- another tree is to stand below a node of the way, whose link's size counts it: where it is one level lower than the node, the link is right
+  pub record AreRejoined (m : Pooled T) (s : ℕ) (turn : Turn) (below : Option Ref) (y : Link) (l q : Shape) : Type 0 where
+    pub sides : AreSides m s (cond turn.left below y.back) turn.node (cond turn.left y.forth below) l q
+    pub settled : height_at m s below + 1 ≡ y.height → IsSettled m s turn.node (rehung turn.left below y) l q

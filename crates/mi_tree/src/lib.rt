@@ -9,8 +9,6 @@ pub mod laws;
 mod look;
 mod order;
 mod parts;
-#[cfg(test)]
-mod tests;
 mod tree;
 mod walk;
 mod way;

@@ -1,19 +1,20 @@
 //! The way from a tree's root down to a place in it, and back up as far as heights change.
 //! Sizes change on the way down, so that a change visits no link above the last whose height it changes.
-ghost use Rattle.std.specs.Prelude.{◌≡◌, ℕ, ◌<◌, List, [], Option, cond, Some};
-ghost use Rattle.mi_node.specs.Pool.{link_of};
+ghost use Rattle.std.specs.Prelude.{◌≡◌, ℕ, ◌<◌, List, [], Option, cond, Some, ◌+◌};
+ghost use Rattle.mi_node.specs.Pool.{link_of, IsHeldIf};
 ghost use Rattle.mi_node.specs.Refs.{Ref};
 ghost use Rattle.mi_tree.specs.Shape.{Shape, Tip, nodes, height as height_of, height_at};
 ghost use Rattle.mi_tree.specs.Sorted.{side, AreTagged, Rising};
-ghost use Rattle.mi_tree.specs.Ways.{Frame, plug, risen, rehung, Falls, HasFallen, Sinks, HasSunk, Climbs, HasClimbed, IsLevel};
+ghost use Rattle.mi_tree.specs.Ways.{Frame, plug, risen, rehung, Falls, HasFallen, Sinks, HasSunk, Climbs, HasClimbed, IsLevel, AreRejoined};
+ghost use Rattle.mi_tree.specs.Joining.{IsBalanced};
 
 use crate::balance::balance;
 use crate::compare::compare_nodes;
 use crate::order::NodeOrder;
-use crate::parts::height;
+use crate::parts::{height, set_fork};
 use crate::walk::MAX_LEVELS;
 use arrayvec::ArrayVec;
-use mi_node::{Counted, Link, NodeRef, Pool, Tag};
+use mi_node::{Counted, Link, NO_LINK, NodeRef, Pool, Tag};
 use mi_value::Steps;
 
 /// A node on a way down, and whether the way goes on to the left.
@@ -186,13 +187,36 @@ pub(crate) fn climb<T>(
     let Some(turn) = way.pop().flatten() else {
         return below;
     };
-    let link = with_child(p.link(turn.node, slot), turn.left, below);
-    let top = balance(p, slot, link.back, turn.node, link.forth);
-    if height(p, slot, Some(top)) == link.height {
+    let before = p.link(turn.node, slot).height;
+    let top = rejoin(p, slot, turn, below);
+    if height(p, slot, Some(top)) == before {
         hang(p, slot, root, top, way)
     } else {
         climb(p, slot, root, Some(top), way)
     }
+}
+
+/// Puts a node of the way over its two sides again, of which `below` is another tree than before. Where it is one level lower
+/// than the node, the two are balanced and the node's size and height are right: the other side isn't read. The root of
+/// what they give.
+fn rejoin<T>(p: &mut Pool<T>, slot: usize, turn: Turn, below: Option<NodeRef>) -> NodeRef
+    requires slot { slot < p.old.slots }
+    requires below { IsHeldIf p.old below × (height_at p.old slot below + 1 < 256) }
+    requires sides { (l : Shape) × (q : Shape) × AreRejoined p.old slot turn below (link_of p.old turn.node.name slot) l q }
+    ensures slots { p.new.slots ≡ p.old.slots }
+    ensures tree { (l : Shape) (q : Shape) → AreRejoined p.old slot turn below (link_of p.old turn.node.name slot) l q
+        → (t : Shape) × IsBalanced p.old p.new slot l turn.node q result t }
+{
+    let under = Link {
+        back: below,
+        ..NO_LINK
+    };
+    let link = with_child(p.link(turn.node, slot), turn.left, under.back);
+    if height(p, slot, under.back) + 1 == link.height {
+        set_fork(p, slot, turn.node, link);
+        return turn.node;
+    }
+    balance(p, slot, link.back, turn.node, link.forth)
 }
 
 /// Puts the tree of that root in place of the one at the end of the way, which is as high. The tree's root.

@@ -2,3 +2,6 @@ pub mod Order
 pub mod Edits
 pub mod Words
 pub mod Hash
+pub mod Lent
+pub mod Block
+pub mod Keys

@@ -1,10 +1,11 @@
 //! The order of values and keys. It reads records and takes no memory.
-ghost use Rattle.std.specs.Prelude.{◌≡◌};
+ghost use Rattle.std.specs.Prelude.{◌≡◌, option_map};
 ghost use Rattle.std.specs.Ordering.{is_eq};
-ghost use Rattle.std.specs.Option.{option_copied};
+ghost use Rattle.mi_value.specs.Lent.{lent};
 ghost use Rattle.mi_value.specs.Order as order;
 
-use crate::value::{Record, Value};
+use crate::record::Record;
+use crate::value::{Value, ValueRef};
 use std::cmp::Ordering;
 
 /// One part of an index's key: a column by its number, and whether it descends.
@@ -15,23 +16,23 @@ pub struct KeyPart {
 }
 
 /// Two values: numbers by value, texts by their bytes, false before true; of two types Int, then Text, then Flag.
-pub fn compare_value(a: &Value, b: &Value) -> Ordering
-    ensures { result ≡ order.compare_value a.now b.now }
+fn compare_value(a: ValueRef<'_>, b: ValueRef<'_>) -> Ordering
+    ensures { result ≡ order.compare_value (lent a.entry) (lent b.entry) }
 {
     match (a, b) {
-        (Value::Int(x), Value::Int(y)) => x.cmp(y),
-        (Value::Int(_), _) => Ordering::Less,
-        (Value::Text(_), Value::Int(_)) => Ordering::Greater,
-        (Value::Text(x), Value::Text(y)) => x.as_str().cmp(y.as_str()),
-        (Value::Text(_), Value::Flag(_)) => Ordering::Less,
-        (Value::Flag(x), Value::Flag(y)) => x.cmp(y),
-        (Value::Flag(_), _) => Ordering::Greater,
+        (ValueRef::Int(x), ValueRef::Int(y)) => x.cmp(&y),
+        (ValueRef::Int(_), _) => Ordering::Less,
+        (ValueRef::Text(_), ValueRef::Int(_)) => Ordering::Greater,
+        (ValueRef::Text(x), ValueRef::Text(y)) => x.cmp(y),
+        (ValueRef::Text(_), ValueRef::Flag(_)) => Ordering::Less,
+        (ValueRef::Flag(x), ValueRef::Flag(y)) => x.cmp(&y),
+        (ValueRef::Flag(_), _) => Ordering::Greater,
     }
 }
 
 /// Two values that may be missing; a missing one is less than any other.
-fn compare_missing(a: Option<&Value>, b: Option<&Value>) -> Ordering
-    ensures { result ≡ order.compare_missing (option_copied a.entry) (option_copied b.entry) }
+fn compare_missing(a: Option<ValueRef<'_>>, b: Option<ValueRef<'_>>) -> Ordering
+    ensures { result ≡ order.compare_missing (option_map lent a.entry) (option_map lent b.entry) }
 {
     match (a, b) {
         (None, None) => Ordering::Equal,
@@ -54,7 +55,7 @@ fn compare_part(a: &Record, b: &Record, part: &KeyPart) -> Ordering
 {
     directed(
         part.descending,
-        compare_missing(a.values().get(part.column), b.values().get(part.column)),
+        compare_missing(a.get(part.column), b.get(part.column)),
     )
 }
 
@@ -64,7 +65,7 @@ fn compare_to_part(value: &Value, row: &Record, part: &KeyPart) -> Ordering
 {
     directed(
         part.descending,
-        compare_missing(Some(value), row.values().get(part.column)),
+        compare_missing(Some(value.lend()), row.get(part.column)),
     )
 }
 

@@ -1,9 +1,12 @@
 //! Edits: what a modify does to the columns of one record.
-ghost use Rattle.std.specs.Prelude.{◌≡◌, ◌⊎◌, Some, None, Err, IfOk, IfErr, OnOk, slice_get};
+ghost use Rattle.std.specs.Prelude.{◌≡◌, ◌⊎◌, Some, None, Err, IfOk, IfErr, OnOk, map, option_map, slice_set};
+ghost use Rattle.mi_value.specs.Lent.{lent};
 ghost use Rattle.mi_value.specs.Edits as meaning;
+ghost use Rattle.mi_value.specs.declared.value.Value.TheVariants.{Int};
 
+use crate::record::Record;
 use crate::refusal::Refusal;
-use crate::value::{Record, Value};
+use crate::value::{Value, ValueRef};
 use std::alloc::Global;
 
 /// A change of one column, named by its number.
@@ -15,33 +18,40 @@ pub enum Edit {
     Add(usize, i64),
 }
 
-/// The sum of the number in a column and another, unless it leaves -2^63 to 2^63 - 1 or there is no number.
-fn sum(row: &Record, column: usize, n: i64) -> Option<Value>
-    ensures { result ≡ meaning.add_to (slice_get row.now column) n }
+/// The sum of a value and a number, unless it leaves -2^63 to 2^63 - 1 or there is no number.
+fn sum(value: Option<&ValueRef<'_>>, n: i64) -> Option<i64>
+    ensures { option_map Int result ≡ meaning.add_to (option_map (λ v. lent v.now) value.entry) n }
 {
-    match row.values().get(column) {
-        Some(Value::Int(m)) => Some(Value::Int(m.checked_add(n)?)),
+    match value {
+        Some(ValueRef::Int(m)) => m.checked_add(n),
         _ => None,
     }
 }
 
-/// Changes one column. Refusals: `Range` and `Memory`, each of which leaves the record as it was.
-fn edit_one(alloc: Global, row: &mut Record, edit: &Edit) -> Result<(), Refusal>
-    ensures ok { OnOk result (meaning.edited edit.now row.old ≡ Some row.new) }
-    ensures range { result ≡ Err Refusal.Range → meaning.edited edit.now row.old ≡ None }
-    ensures only { IfErr result (λ e. (e ≡ Refusal.Range) ⊎ (e ≡ Refusal.Memory)) }
+/// Another value in a column; where there is no such column, the values stay as they are.
+fn set<'a>(values: &mut [ValueRef<'a>], column: usize, value: ValueRef<'a>)
+    ensures { map lent values.new ≡ slice_set (map lent values.old) column (lent value.entry) }
+{
+    if column < values.len() {
+        values[column] = value;
+    }
+}
+
+/// Changes one column. Refuses `Range`, and then leaves the values as they were.
+fn edit_one<'a>(values: &mut [ValueRef<'a>], edit: &'a Edit) -> Result<(), Refusal>
+    ensures ok { OnOk result (meaning.edited edit.now (map lent values.old) ≡ Some (map lent values.new)) }
+    ensures err { IfErr result (λ e. (e ≡ Refusal.Range) × (meaning.edited edit.now (map lent values.old) ≡ None)) }
 {
     match edit {
         Edit::Put(column, value) => {
-            let value = value.copy(alloc)?;
-            row.set(*column, value);
+            set(values, *column, value.lend());
             Ok(())
         }
         Edit::Add(column, n) => {
-            let Some(value) = sum(row, *column, *n) else {
+            let Some(value) = sum(values.get(*column), *n) else {
                 return Err(Refusal::Range);
             };
-            row.set(*column, value);
+            set(values, *column, ValueRef::Int(value));
             Ok(())
         }
     }
@@ -57,9 +67,9 @@ pub fn apply(alloc: Global, row: &Record, edits: &[Edit]) -> Result<Record, Refu
     ensures range { result ≡ Err Refusal.Range → meaning.apply edits.now row.now ≡ None }
     ensures only { IfErr result (λ e. (e ≡ Refusal.Range) ⊎ (e ≡ Refusal.Memory)) }
 {
-    let mut edited = row.copy(alloc)?;
+    let mut values: Vec<ValueRef<'_>> = row.values().collect(alloc)?;
     for edit in edits {
-        edit_one(alloc, &mut edited, edit)?;
+        edit_one(values.as_mut_slice(), edit)?;
     }
-    Ok(edited)
+    Ok(Record::new(alloc, values.as_slice())?)
 }

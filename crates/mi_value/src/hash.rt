@@ -2,10 +2,12 @@
 //! Who lets strangers choose keys mixes a secret into them.
 ghost use Rattle.std.specs.Prelude.{◌≡◌, fold, slice_get};
 ghost use Rattle.std.specs.Hash.DefaultHasher as sip;
+ghost use Rattle.mi_value.specs.Lent.{lent};
 ghost use Rattle.mi_value.specs.Hash.{value_input, values_hash, key_values, after_if};
 
 use crate::compare::KeyPart;
-use crate::value::{Record, Value};
+use crate::record::Record;
+use crate::value::{Value, ValueRef};
 use std::hash::{DefaultHasher, Hash, Hasher};
 
 /// The hash of a list of values, over their types and contents.
@@ -15,7 +17,7 @@ pub fn hash_values(values: &[Value]) -> u64
 {
     let mut state = DefaultHasher::new();
     for value in values {
-        feed(value, &mut state);
+        feed(value.lend(), &mut state);
     }
     state.finish()
 }
@@ -39,26 +41,26 @@ impl Record {
 fn feed_at(source: &Record, column: usize, state: &mut DefaultHasher)
     ensures { state.new ≡ after_if state.old (slice_get source.now column) }
 {
-    match source.values().get(column) {
+    match source.get(column) {
         None => {}
         Some(value) => feed(value, state),
     }
 }
 
 /// Puts the value's type and content into the hash.
-fn feed(value: &Value, state: &mut DefaultHasher)
-    ensures { state.new ≡ fold sip.write state.old (value_input value.now) }
+fn feed(value: ValueRef<'_>, state: &mut DefaultHasher)
+    ensures { state.new ≡ fold sip.write state.old (value_input (lent value.entry)) }
 {
     match value {
-        Value::Int(n) => {
+        ValueRef::Int(n) => {
             state.write_u8(0);
             n.hash(state);
         }
-        Value::Text(text) => {
+        ValueRef::Text(text) => {
             state.write_u8(1);
-            text.as_str().hash(state);
+            text.hash(state);
         }
-        Value::Flag(b) => {
+        ValueRef::Flag(b) => {
             state.write_u8(2);
             b.hash(state);
         }

@@ -8,14 +8,16 @@ mod edit;
 mod hash;
 pub mod laws;
 pub mod limits;
+mod record;
 mod refusal;
 mod steps;
 mod value;
 
 pub use bound::{Key, Lower, Probe, Upper};
-pub use compare::{KeyPart, compare_key, compare_prefix, compare_value, same_key};
+pub use compare::{KeyPart, compare_key, compare_prefix, same_key};
 pub use edit::{Edit, apply};
 pub use hash::hash_values;
+pub use record::{Record, Values};
 pub use refusal::{NoSession, Refusal};
 pub use steps::Steps;
-pub use value::{ColumnType, Record, Text, Value};
+pub use value::{ColumnType, Text, Value, ValueRef};

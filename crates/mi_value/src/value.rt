@@ -1,5 +1,4 @@
-//! Values and records, seen by contracts as plain data: where a text or a list lies in memory is not shown.
-use crate::refusal::Refusal;
+//! Values, seen by contracts as plain data: where a text lies in memory is not shown.
 use std::alloc::{AllocError, Global};
 use std::marker::Model;
 
@@ -59,7 +58,7 @@ impl Text {
     }
 }
 
-/// A value of a record or a key.
+/// A value of a key, of an edit or of a row that is being made.
 #[derive(Debug, Drop)]
 pub enum Value {
     Int(i64),
@@ -67,69 +66,56 @@ pub enum Value {
     Flag(bool),
 }
 
+/// A value that is lent by its owner: by a record, a key or a line.
+#[derive(Clone, Copy, Debug, Drop, PartialEq, Eq)]
+pub enum ValueRef<'a> {
+    Int(i64),
+    Text(&'a str),
+    Flag(bool),
+}
+
+/// What an array of values holds where none was put yet: false.
+impl Default for ValueRef<'_> {
+    fn default() -> Self {
+        ValueRef::Flag(false)
+    }
+}
+
+impl<'a> ValueRef<'a> {
+    ghost use Rattle.std.specs.Prelude.{◌≡◌, IfOk};
+    ghost use Rattle.mi_value.specs.Lent.{lent};
+
+    /// A value of its own, whose text is copied.
+    pub fn to_value(self, alloc: Global) -> Result<Value, AllocError>
+        ensures { IfOk result (λ owned. owned ≡ lent self.entry) }
+    {
+        match self {
+            ValueRef::Int(n) => Ok(Value::Int(n)),
+            ValueRef::Text(text) => Ok(Value::Text(Text::of(alloc, text)?)),
+            ValueRef::Flag(b) => Ok(Value::Flag(b)),
+        }
+    }
+}
+
 impl Value {
     ghost use Rattle.std.specs.Prelude.{◌≡◌, IfOk};
+    ghost use Rattle.mi_value.specs.Lent.{lent};
+
+    /// The value itself, without its text's memory.
+    pub fn lend(&self) -> ValueRef<'_>
+        ensures { lent result ≡ self.now }
+    {
+        match self {
+            Value::Int(n) => ValueRef::Int(*n),
+            Value::Text(text) => ValueRef::Text(text.as_str()),
+            Value::Flag(b) => ValueRef::Flag(*b),
+        }
+    }
 
     /// An equal value.
     pub fn copy(&self, alloc: Global) -> Result<Value, AllocError>
         ensures { IfOk result (λ copied. copied ≡ self.now) }
     {
-        match self {
-            Value::Int(n) => Ok(Value::Int(*n)),
-            Value::Text(text) => Ok(Value::Text(text.copy(alloc)?)),
-            Value::Flag(b) => Ok(Value::Flag(*b)),
-        }
-    }
-}
-
-/// A record, seen as the list of its values, one per column.
-#[derive(Debug, Drop)]
-pub struct Record {
-    values: Vec<Value>,
-}
-
-impl Model for Record {
-    ghost use Rattle.std.specs.Prelude.{List};
-    ghost use Rattle.mi_value.specs.declared.value.Value.{Value as ValueSpec};
-
-    ghost Value = { List ValueSpec };
-
-    ghost view = { λ a. a.values.items };
-}
-
-impl Record {
-    ghost use Rattle.std.specs.Prelude.{◌≡◌, slice_set, IfOk, IfErr};
-
-    /// An equal record, with room for its values and no more. Answers `Memory` where memory is refused, and nothing else.
-    pub fn copy(&self, alloc: Global) -> Result<Record, Refusal>
-        ensures ok { IfOk result (λ copied. copied ≡ self.now) }
-        ensures err { IfErr result (λ e. e ≡ Refusal.Memory) }
-    {
-        let mut values = Vec::with_capacity(alloc, self.values.len())?;
-        for value in self.values.iter() {
-            values.push(value.copy(alloc)?)?;
-        }
-        Ok(Record { values })
-    }
-
-    pub fn new(values: Vec<Value>) -> Record
-        ensures { result ≡ values.items }
-    {
-        Record { values }
-    }
-
-    pub fn values(&self) -> &[Value]
-        ensures { result.now ≡ self.now }
-    {
-        self.values.as_slice()
-    }
-
-    /// Another value in a column; a record without that column stays as it is.
-    pub(crate) fn set(&mut self, column: usize, value: Value)
-        ensures { self.new ≡ slice_set self.old column value }
-    {
-        if column < self.values.len() {
-            self.values[column] = value;
-        }
+        self.lend().to_value(alloc)
     }
 }

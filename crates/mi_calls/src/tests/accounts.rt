@@ -1,5 +1,5 @@
 //! Records of the built-in schema.
-use mi_value::{Record, Text, Value};
+use mi_value::{Record, ValueRef};
 use std::alloc::{AllocError, Global};
 
 pub(super) fn account(
@@ -8,16 +8,14 @@ pub(super) fn account(
     balance: i64,
     vip: bool,
 ) -> Result<Record, AllocError> {
-    let owner = Value::Text(Text::of(alloc, owner)?);
-    Ok(Record::new(vec![in alloc; owner, Value::Int(balance), Value::Flag(vip)]?))
+    let owner = ValueRef::Text(owner);
+    Record::new(alloc, &[owner, ValueRef::Int(balance), ValueRef::Flag(vip)])
 }
 
 /// Whether a record is this account.
 pub(super) fn is_account(row: &Record, owner: &str, balance: i64, vip: bool) -> bool {
-    match row.values() {
-        [Value::Text(o), Value::Int(b), Value::Flag(v)] => {
-            o.as_str() == owner && *b == balance && *v == vip
-        }
-        _ => false,
-    }
+    row.column_count() == 3
+        && row.get(0) == Some(ValueRef::Text(owner))
+        && row.get(1) == Some(ValueRef::Int(balance))
+        && row.get(2) == Some(ValueRef::Flag(vip))
 }

@@ -76,7 +76,7 @@ fn record(alloc: Global, random: &mut Random) -> Result<Record, AllocError> {
     let s = text(alloc, random)?;
     let f = flag(random);
     let n = Value::Int(sum(random));
-    Ok(Record::new(vec![in alloc; k, s, f, n]?))
+    Record::new(alloc, &[k.lend(), s.lend(), f.lend(), n.lend()])
 }
 
 /// Edits of no column, of one or of three; a sum may leave the numbers.

@@ -5,7 +5,7 @@ use super::undoable::Undoable;
 use mi_container::Container;
 use mi_multi::MultiIndex;
 use mi_schema::{Schema, read_schema};
-use mi_value::{Record, Refusal, Steps, Text, Value};
+use mi_value::{Record, Refusal, Steps, Value, ValueRef};
 use std::alloc::{AllocError, Global};
 use std::process::Abort;
 use std::test::Fail;
@@ -59,8 +59,9 @@ pub(super) fn record(
     f: bool,
     n: i64,
 ) -> Result<Record, AllocError> {
-    let s = Value::Text(Text::of(alloc, s)?);
-    Ok(Record::new(vec![in alloc; Value::Int(k), s, Value::Flag(f), Value::Int(n)]?))
+    let k = ValueRef::Int(k);
+    let s = ValueRef::Text(s);
+    Record::new(alloc, &[k, s, ValueRef::Flag(f), ValueRef::Int(n)])
 }
 
 /// Whether the record of an id is this one.
@@ -68,12 +69,11 @@ fn shows<C: Container>(undoable: &Undoable<C>, id: u64, k: i64, s: &str, f: bool
     let Some(row) = undoable.rows.get(id, &mut Steps::new()) else {
         return false;
     };
-    match row.values() {
-        [Value::Int(a), Value::Text(b), Value::Flag(c), Value::Int(d)] => {
-            *a == k && b.as_str() == s && *c == f && *d == n
-        }
-        _ => false,
-    }
+    row.column_count() == 4
+        && row.get(0) == Some(ValueRef::Int(k))
+        && row.get(1) == Some(ValueRef::Text(s))
+        && row.get(2) == Some(ValueRef::Flag(f))
+        && row.get(3) == Some(ValueRef::Int(n))
 }
 
 /// The ids that an index shows, by steps from the first to the last.
@@ -273,7 +273,7 @@ fn check_walks<C: Container>(
         assert_eq!(rt; walked.len(), want.len());
         for ((id, row), (want, k)) in walked.iter().zip(want) {
             assert_eq!(rt; id, want);
-            assert!(rt; matches!(row.values().first(), Some(Value::Int(got)) if got == k));
+            assert!(rt; row.get(0) == Some(ValueRef::Int(*k)));
         }
     }
     Ok(())

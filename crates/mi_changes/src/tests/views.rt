@@ -14,22 +14,9 @@ use std::test::Fail;
 /// More rows than there are.
 const ALL: usize = 1_000;
 
-fn is_same_value(one: &Value, other: &Value) -> bool {
-    match (one, other) {
-        (Value::Int(a), Value::Int(b)) => a == b,
-        (Value::Text(a), Value::Text(b)) => a.as_str() == b.as_str(),
-        (Value::Flag(a), Value::Flag(b)) => a == b,
-        _ => false,
-    }
-}
-
 fn is_same(one: &Record, other: &Record) -> bool {
-    one.values().len() == other.values().len()
-        && one
-            .values()
-            .iter()
-            .zip(other.values())
-            .all(|(a, b)| is_same_value(a, b))
+    one.column_count() == other.column_count()
+        && one.values().zip(other.values()).all(|(a, b)| a == b)
 }
 
 /// The key that a record has in an index: that of `id` is its id.
@@ -45,8 +32,8 @@ fn key_of(
         return Ok(key);
     };
     for part in index.parts.as_slice() {
-        if let Some(value) = row.values().get(part.column) {
-            key.push(value.copy(alloc)?)?;
+        if let Some(value) = row.get(part.column) {
+            key.push(value.to_value(alloc)?)?;
         }
     }
     if key.is_empty() {

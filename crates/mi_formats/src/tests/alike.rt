@@ -1,6 +1,7 @@
 //! Random lines, read into borrowed trees and by `serde_json` alone: both read the same.
 use json::Value;
-use mi_request::{Array, End, LineReader, Name, Object, Place, Request};
+use mi_random::Random;
+use mi_request::{Array, End, LineReader, Name, Object, Place, Request, Tree};
 use mi_value::Refusal;
 use serde_json::{Map, Value as Json};
 use std::alloc::{AllocError, Global};
@@ -54,14 +55,6 @@ const PIECES: [&str; 20] = [
     "\u{e9}",
 ];
 
-/// The next number of a linear congruential generator, 0 to 2^31 - 1.
-fn next(state: &mut u64) -> usize {
-    *state = state
-        .wrapping_mul(6_364_136_223_846_793_005)
-        .wrapping_add(1_442_695_040_888_963_407);
-    (*state >> 33) as usize
-}
-
 /// The line with a piece at a place, in which some bytes may have stood.
 fn with_piece(
     alloc: Global,
@@ -77,12 +70,12 @@ fn with_piece(
     Ok(damaged)
 }
 
-fn random_line(alloc: Global, state: &mut u64) -> Result<Vec<u8>, AllocError> {
-    let mut line = LINES[next(state) % 20].as_bytes().to_vec(alloc)?;
-    for _ in 0..next(state) % 4 {
-        let at = next(state) % 96;
-        let left_out = next(state) % 3;
-        let piece = PIECES[next(state) % 20].as_bytes();
+fn random_line(alloc: Global, random: &mut Random) -> Result<Vec<u8>, AllocError> {
+    let mut line = LINES[random.below(20) as usize].as_bytes().to_vec(alloc)?;
+    for _ in 0..random.below(4) {
+        let at = random.below(96) as usize;
+        let left_out = random.below(3) as usize;
+        let piece = PIECES[random.below(20) as usize].as_bytes();
         line = with_piece(alloc, line.as_slice(), at, left_out, piece)?;
     }
     Ok(line)
@@ -98,7 +91,7 @@ fn owned_number(alloc: Global, text: &str) -> Result<Json, AllocError> {
 
 /// A borrowed tree as a value of `serde_json`.
 #[cycle(owned)]
-fn owned(alloc: Global, value: &Value<'_>) -> Result<Json, AllocError> {
+fn owned(alloc: Global, value: &Tree<'_>) -> Result<Json, AllocError> {
     match value {
         Value::Null => Ok(Json::Null),
         Value::Bool(b) => Ok(Json::Bool(*b)),
@@ -110,7 +103,7 @@ fn owned(alloc: Global, value: &Value<'_>) -> Result<Json, AllocError> {
 }
 
 #[cycle(owned)]
-fn owned_items(alloc: Global, items: &[Value<'_>]) -> Result<Vec<Json>, AllocError> {
+fn owned_items(alloc: Global, items: &[Tree<'_>]) -> Result<Vec<Json>, AllocError> {
     let mut all = Vec::new(alloc);
     for item in items {
         all.push(owned(alloc, item)?)?;
@@ -121,7 +114,7 @@ fn owned_items(alloc: Global, items: &[Value<'_>]) -> Result<Vec<Json>, AllocErr
 #[cycle(owned)]
 fn owned_members(
     alloc: Global,
-    members: &[(&str, Value<'_>)],
+    members: &[(&str, Tree<'_>)],
 ) -> Result<Map<String, Json>, AllocError> {
     let mut all = Map::new(alloc);
     for member in members {
@@ -432,10 +425,10 @@ fn rewritten(
 fn both_readers_read_the_same(rt: HostRuntime) -> Result<(), Fail> {
     let alloc = rt.alloc();
     let mut reader = LineReader::new(alloc);
-    let mut state = 2_026;
+    let mut random = Random::new(2_026);
     let mut counts = [0_usize; 3];
     for _ in 0..100_000 {
-        let line = random_line(alloc, &mut state)?;
+        let line = random_line(alloc, &mut random)?;
         let alone = Json::from_slice(alloc, line.as_slice()).ok();
         let kept = read_beside(alloc, &mut reader, line.as_slice(), alone.as_ref())?;
         assert_ne!(rt; kept, Reading::Differs, "{line:?}");

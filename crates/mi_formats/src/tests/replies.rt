@@ -6,7 +6,7 @@ ghost use Rattle.mi_protocol.specs.declared.reply.Reply.TheVariants as replies;
 
 use mi_catalog::{Catalog, built_in};
 use mi_protocol::Reply;
-use mi_value::{Record, Refusal, Text, Value};
+use mi_value::{Record, Refusal, ValueRef};
 use std::alloc::{AllocError, Global};
 use std::process::Abort;
 use std::test::Fail;
@@ -18,8 +18,8 @@ fn catalog_of_accounts(alloc: Global) -> Result<Catalog, AllocError>
 }
 
 fn account(alloc: Global, owner: &str, balance: i64, vip: bool) -> Result<Record, AllocError> {
-    let owner = Value::Text(Text::of(alloc, owner)?);
-    Ok(Record::new(vec![in alloc; owner, Value::Int(balance), Value::Flag(vip)]?))
+    let owner = ValueRef::Text(owner);
+    Record::new(alloc, &[owner, ValueRef::Int(balance), ValueRef::Flag(vip)])
 }
 
 fn assert_text(rt: &impl Abort, alloc: Global, catalog: &Catalog, given: &Reply<'_>, want: &str)

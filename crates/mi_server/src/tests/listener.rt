@@ -3,7 +3,7 @@ use super::serving::{opened, serve_all};
 use mi_hub::{Hub, ServeFault};
 use mi_plain::Plain;
 use mi_sessions::Sessions;
-use mi_value::{Record, Steps, Value};
+use mi_value::{Steps, ValueRef};
 use std::alloc::Global;
 use std::cell::Cell;
 use std::io;
@@ -24,8 +24,8 @@ fn first_owner(database: &Plain) -> Option<&str> {
     if database.catalog().table_count() == 0 {
         return None;
     }
-    match database.get(0, 0, &mut Steps::new())?.values() {
-        [Value::Text(owner), ..] => Some(owner.as_str()),
+    match database.get(0, 0, &mut Steps::new())?.get(0) {
+        Some(ValueRef::Text(owner)) => Some(owner),
         _ => None,
     }
 }

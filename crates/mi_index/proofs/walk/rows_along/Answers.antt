@@ -12,11 +12,11 @@ use Rattle.mi_index.proofs.walk.rows_along.Goals.{else-nodes-test, then-nodes-te
 pub nodes-init : goal.nodes-init
 nodes-init c =
     let m = c.args.p.now.pool in
-    let none : length c.new-rows.result.items ≡ 0 = ap length c.new-rows.ensures.items in
+    let none : length c.in_ok-rows.rows.items ≡ 0 = ap length c.in_ok-rows.ensures.items in
     record {
       pool = refl;
       next = λ us h. sym (ap (λ n. first_of (drop n (c.args.first ∷ us)) None) none);
-      taken = λ us h. ap (map (λ r. (r.0, r.1.now))) c.new-rows.ensures.items ∙ sym (ap (λ n. map (shown_row m) (take n (c.args.first ∷ us))) none);
+      taken = λ us h. ap (map (λ r. (r.0, r.1.now))) c.in_ok-rows.ensures.items ∙ sym (ap (λ n. map (shown_row m) (take n (c.args.first ∷ us))) none);
       within = omega arith;
       reads = omega arith;
     }

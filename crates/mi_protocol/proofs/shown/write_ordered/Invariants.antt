@@ -7,6 +7,6 @@ use Rattle.mi_protocol.proofs.shown.write_ordered.Given as goal
 -- the members so far are written: with those to come they are all
 abbrev pub invariant-members : goal.invariant-members
 invariant-members l =
-    (l.writer.tokens ++ members_tokens (members_outline (shown_members l.id l.values (drop l.member-index l.order)))
-    ≡ l.initial.writer.tokens ++ members_tokens (members_outline (shown_members l.id l.values l.order)))
+    (l.writer.tokens ++ members_tokens (members_outline (shown_members l.id l.row (drop l.member-index l.order)))
+    ≡ l.initial.writer.tokens ++ members_tokens (members_outline (shown_members l.id l.row l.order)))
     × (l.writer.before ≡ l.initial.writer.before)

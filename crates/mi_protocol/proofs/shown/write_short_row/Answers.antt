@@ -11,10 +11,11 @@ use Rattle.mi_protocol.proofs.shown.write_short_row.Goals as goal
 
 pub returns-clause-tokens : goal.returns-clause-tokens
 returns-clause-tokens c =
-    let vs = c.args.values.now in
+    let vs = c.args.row.now in
     let start : Members = put (codes "id") (number (unsigned c.args.id)) no_members in
-    let front : c.split_at.result.0.now ≡ take (length vs) c.args.columns.now = c.split_at.ensures.front in
-    let fits : length c.split_at.result.0.now ≤ length vs = omega (arith, c.split_at.ensures.front_len) in
+    let front : c.split_at.result.0.now ≡ take (length vs) c.args.columns.now = c.split_at.ensures.front
+    ∙ ap (λ n. take n c.args.columns.now) c.column_count.ensures in
+    let fits : length c.split_at.result.0.now ≤ length vs = omega (arith, c.split_at.ensures.front_len, c.column_count.ensures) in
     let shown : shown_members c.args.id vs c.row_order-order.result.items ≡ row_members c.split_at.result.0.now c.args.id vs =
     c.row_order-order.ensures c.args.id vs fits in
     let is : shown_members c.args.id vs c.row_order-order.result.items ≡ row_members c.args.columns.now c.args.id vs =

@@ -6,7 +6,7 @@ use Rattle.mi_request.proofs.ObjectLemmas.{last_at-push, Member}
 use Rattle.mi_request.proofs.object.place_of.Goals as goal
 
 -- the members up to the one that is looked at
-module _ (name : List ℕ) (xs : List Member) (left i : ℕ) (m : Member) where
+module _ {A : Type 0} (name : List ℕ) (xs : List (Member A)) (left i : ℕ) (m : Member A) where
   step : (b : Bool) → left ≡ i + 1 → i < length xs → m ≡ get_or xs i m → bytes_eq name m.0.now ≡ b → last_at name xs ≡ last_at name (take left xs)
       → last_at name xs ≡ cond b (Some i) (last_at name (take i xs))
   step b next within here same before =

@@ -26,7 +26,7 @@ returns-clause-value c =
     let name = c.args.name.now in
     let ms = c.self.inside.members.items in
     let i = c.in_ok-at.at in
-    let n : Member = (c.args.name, Null) in
+    let n : Member _ = (c.args.name, Null) in
     let found = c.in_ok-at.ensures.found ∙ ap (last_at name) c.as_slice.ensures.value in
     ap Some (c.new.ensures ∙ ap seen (c.taken.ensures.value n ∙ ap (λ xs. (get_or xs i n).1) c.as_mut_slice.ensures.value))
     ∙ sym (present name ms no_members i n (sym found)) ∙ ap (get_member name) c.self.view_is
@@ -36,7 +36,7 @@ returns-clause-rest c =
     let name = c.args.name.now in
     let ms = c.self.inside.members.items in
     let i = c.in_ok-at.at in
-    let n : Member = (c.args.name, Null) in
+    let n : Member _ = (c.args.name, Null) in
     let found = c.in_ok-at.ensures.found ∙ ap (last_at name) c.as_slice.ensures.value in
     let written = c.taken.ensures.left n ∙ ap (λ xs. set xs i ((get_or xs i n).0, Null)) c.as_mut_slice.ensures.value in
     ap members_seen (with_items_is c.self.inside.members c.taken.new.members (ap length written ∙ length-set ms i _ ∙ sym c.self.inside.members.ok.0) ∙ written)

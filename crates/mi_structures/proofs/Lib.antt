@@ -1,0 +1,3 @@
+pub mod Sevens
+pub mod Stocks
+pub mod Threes

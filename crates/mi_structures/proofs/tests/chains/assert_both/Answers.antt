@@ -1,0 +1,11 @@
+use Rattle.std.proofs.Common.{[], ◌∷◌}
+use Rattle.mi_structures.proofs.tests.chains.assert_both.Goals as goal
+
+pub assert_first-requires : goal.assert_first-requires
+assert_first-requires g c = (c.args.one ∷ c.args.two ∷ [], c.requires)
+
+pub next_of-requires : goal.next_of-requires
+next_of-requires g c = ([], c.args.two ∷ [], c.requires)
+
+pub next_of-requires-2 : goal.next_of-requires-2
+next_of-requires-2 g c = (c.args.one ∷ [], [], c.requires)

@@ -1,0 +1,10 @@
+use Rattle.std.proofs.Common.{◌<◌, arith, refl}
+use Rattle.mi_node.proofs.Callers.{slot_counts}
+use Rattle.mi_structures.specs.Numbered.{number_keying}
+use Rattle.mi_chain.proofs.Whole.{new_chains}
+use Rattle.mi_structures.proofs.tests.chains.rooms.rooms_and_pulls_change_no_list.Goals as goal
+
+pub add_all-names-requires-clause-numbered : goal.add_all-names-requires-clause-numbered
+add_all-names-requires-clause-numbered g c =
+    let fits : 1 < c.with_slots-p.result.slots = grind (arith, slot_counts) in
+    record { chained = new_chains c.in-Ok.chains 1 _ number_keying c.with_slots-p.result c.in-Ok.ensures fits; below = tt; count = refl }

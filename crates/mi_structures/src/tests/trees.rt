@@ -1,0 +1,141 @@
+//! The answers of a small tree, and how many comparisons look-ups really make.
+use std::cell::Cell;
+use std::process::Abort;
+
+mod stock;
+
+use mi_tree::Direction;
+use stock::Stock;
+
+/// Asserts the ids in order.
+fn assert_ids(rt: &impl Abort, stock: &Stock<'_>, ids: [Option<u32>; 4]) {
+    let found = [stock.nth(0), stock.nth(1), stock.nth(2), stock.nth(3)];
+    assert_eq!(rt; found, ids);
+}
+
+#[test]
+fn nodes_of_one_key_stand_by_their_stamps(rt: HostRuntime) {
+    for tagged in [false, true] {
+        let calls = Cell::new(0);
+        let mut stock = Stock::new(rt.alloc(), &calls, tagged);
+        for (id, key) in [(10, 5), (11, 5), (12, 3)] {
+            assert!(rt; stock.add(key, id));
+        }
+        assert_eq!(rt; stock.len(), 3);
+        assert_ids(&rt, &stock, [Some(12), Some(10), Some(11), None]);
+        assert_eq!(rt; stock.rank_of_nth(2), Some(2));
+        for (key, lower, upper, found) in [
+            (2, Some(12), Some(12), None),
+            (3, Some(12), Some(10), Some(12)),
+            (4, Some(10), Some(10), None),
+            (5, Some(10), None, Some(10)),
+            (6, None, None, None),
+        ] {
+            assert_eq!(rt; stock.lower(key), lower);
+            assert_eq!(rt; stock.upper(key), upper);
+            assert_eq!(rt; stock.find(key), found);
+        }
+        for (rank, before, after) in [
+            (0, None, Some(10)),
+            (1, Some(12), Some(11)),
+            (2, Some(10), None),
+        ] {
+            assert_eq!(rt; stock.beside(rank), (before, after));
+        }
+        assert!(rt; stock.pull(1));
+        assert_ids(&rt, &stock, [Some(12), Some(11), None, None]);
+        assert!(rt; stock.put());
+        assert_ids(&rt, &stock, [Some(12), Some(10), Some(11), None]);
+    }
+}
+
+#[test]
+fn walks_go_both_ways(rt: HostRuntime) {
+    let (up, down) = (Direction::Ascending, Direction::Descending);
+    for tagged in [false, true] {
+        let calls = Cell::new(0);
+        let mut stock = Stock::new(rt.alloc(), &calls, tagged);
+        for (id, key) in [(10, 5), (11, 5), (12, 3), (13, 9)] {
+            assert!(rt; stock.add(key, id));
+        }
+        assert_eq!(rt; stock.walk(up, 0), [Some(12), Some(10), Some(11)]);
+        assert_eq!(rt; stock.walk(up, 2), [Some(11), Some(13), None]);
+        assert_eq!(rt; stock.walk(down, 4), [Some(13), Some(11), Some(10)]);
+        assert_eq!(rt; stock.walk(down, 2), [Some(10), Some(12), None]);
+        assert_eq!(rt; stock.walk_from(up, 1), [Some(10), Some(11), Some(13)]);
+        assert_eq!(rt; stock.walk_from(up, 3), [Some(13), None, None]);
+        assert_eq!(rt; stock.walk_from(down, 2), [Some(11), Some(10), Some(12)]);
+        assert_eq!(rt; stock.walk_from(down, 0), [Some(12), None, None]);
+    }
+}
+
+/// Asserts that no look-up makes more calls of the order than `most`.
+fn look_up_all(rt: &impl Abort, stock: &Stock<'_>, calls: &Cell<u64>, most: u64) {
+    for key in -1..1001 {
+        let start = calls.get();
+        let _ = stock.find(key);
+        assert!(rt; calls.get().wrapping_sub(start) <= most);
+        let start = calls.get();
+        let _ = stock.lower(key);
+        assert!(rt; calls.get().wrapping_sub(start) <= most);
+        let start = calls.get();
+        let _ = stock.upper(key);
+        assert!(rt; calls.get().wrapping_sub(start) <= most);
+    }
+    for rank in 0..stock.len() {
+        let start = calls.get();
+        assert_eq!(rt; stock.rank_of_nth(rank), Some(rank));
+        assert!(rt; calls.get().wrapping_sub(start) <= most);
+    }
+}
+
+/// Takes half of the nodes out and puts them back: the ids stand in order again.
+fn leave_and_return(rt: &impl Abort, stock: &mut Stock<'_>, calls: &Cell<u64>, n: u32, less: u64) {
+    for _ in 0..n / 2 {
+        assert!(rt; stock.pull(n / 4));
+    }
+    assert_eq!(rt; stock.len(), n - n / 2);
+    look_up_all(rt, stock, calls, less);
+    for _ in 0..n / 2 {
+        assert!(rt; stock.put());
+    }
+    assert_eq!(rt; stock.len(), n);
+    for rank in 0..n {
+        assert_eq!(rt; stock.nth(rank), Some(rank));
+    }
+}
+
+#[test]
+fn look_ups_make_few_calls(rt: HostRuntime) {
+    for (n, most, less) in [(0u32, 1u64, 1u64), (1, 3, 3), (1000, 21, 19)] {
+        // keys from below, mixed, and from above
+        for step in [1u32, 617, 999] {
+            let calls = Cell::new(0);
+            let mut stock = Stock::new(rt.alloc(), &calls, false);
+            for i in 0..n {
+                let key = i.wrapping_mul(step) % 1000;
+                assert!(rt; stock.add(key, key));
+            }
+            look_up_all(&rt, &stock, &calls, most);
+            leave_and_return(&rt, &mut stock, &calls, n, less);
+            look_up_all(&rt, &stock, &calls, most);
+        }
+    }
+}
+
+/// Of 1023 nodes in order the left edge of their tree stays: ten nodes, which are low again.
+#[test]
+fn a_tree_gets_lower(rt: HostRuntime) {
+    let calls = Cell::new(0);
+    let mut stock = Stock::new(rt.alloc(), &calls, false);
+    for key in 0..1023 {
+        assert!(rt; stock.add(key, key));
+    }
+    for top in [511u32, 255, 127, 63, 31, 15, 7, 3, 1] {
+        for _ in 0..top {
+            assert!(rt; stock.pull(top.wrapping_add(1)));
+        }
+    }
+    assert_eq!(rt; stock.len(), 10);
+    look_up_all(&rt, &stock, &calls, 9);
+}

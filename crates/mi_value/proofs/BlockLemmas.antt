@@ -1,0 +1,128 @@
+-- What the bytes of a record hold.
+use Rattle.std.proofs.Common.{◌≡◌, ◌≤◌, ◌<◌, ◌+◌, ◌++◌, ◌^◌, ℕ, true, false, FitsSigned, zero, suc, ℤ, Option, Some, None}
+use Rattle.std.proofs.Common.{List, [], ◌∷◌, length, take, drop, if◌then◌else◌, Result, Ok, Err, is_ok, OnOk, refl, ap, sym, ◌∙◌, arith}
+use Rattle.std.specs.Int.{w32, w64, from_le_bytes, to_le_bytes, cast_signed, cast_unsigned}
+use Rattle.std.proofs.lemmas.Bool.{le-ltb}
+use Rattle.std.proofs.lemmas.Int.{to_z-of_z}
+use Rattle.std.proofs.lemmas.List.{append-nil, append_assoc, length-append, drop_at}
+use Rattle.std.proofs.lemmas.Nat.{from_le_bytes-to_le_bytes_4, from_le_bytes-to_le_bytes_8}
+use Rattle.std.proofs.Math.Facts.{Fits-of_z, Fits-lt-pow}
+use Rattle.std.proofs.Math.Seq.{take-append_seam}
+use Rattle.mi_value.specs.declared.value.Value.{Value}
+use Rattle.mi_value.specs.declared.value.Value.TheVariants.{Int, Text, Flag}
+use Rattle.mi_value.specs.Block.{packed_value, packed, IsPackable, ArePackable, int_at, text_of_length, text_at}
+use Rattle.mi_value.specs.Block.{value_at, begun_by, unpacked_behind, unpacked, BeginsWith, IsText, HasTexts}
+
+behind : (n : ℕ) (bs : List ℕ) → unpacked_behind n bs ≡ unpacked (drop n bs)
+behind zero bs = refl
+behind (suc n) [] = refl
+behind (suc n) (b ∷ bs) = behind n bs
+
+-- the first value, and those that the bytes behind it hold
+pub first : (bytes : List ℕ) (tag : ℕ) (content rest : List ℕ) (v : Value) → bytes ≡ tag ∷ content → BeginsWith (value_at tag content) content v rest
+    → unpacked bytes ≡ v ∷ unpacked rest
+first bytes tag content rest v is at =
+    ap unpacked is ∙ ap (λ o. begun_by o (λ n. unpacked_behind n content)) at.1 ∙ ap (λ vs. v ∷ vs) (behind at.0 content ∙ ap unpacked (sym at.2))
+
+carried : {vs ws : List Value} → vs ≡ ws → HasTexts vs → HasTexts ws
+carried same texts = rw (← same) texts
+
+pub texts : (bytes : List ℕ) (tag : ℕ) (content rest : List ℕ) (v : Value) → bytes ≡ tag ∷ content → BeginsWith (value_at tag content) content v rest
+    → HasTexts (unpacked bytes) → HasTexts (v ∷ unpacked rest)
+texts bytes tag content rest v is at have = carried (first bytes tag content rest v is at) have
+
+-- so one less is left
+pub shorter : (vs : List Value) (v : Value) (ws : List Value) → vs ≡ v ∷ ws → length ws < length vs
+shorter vs v ws is = rw is (omega arith)
+
+-- each value takes a byte at least
+within_begun : (first : Option (Value × ℕ)) (bs : List ℕ) → ((n : ℕ) → length (unpacked_behind n bs) ≤ length bs)
+    → length (begun_by first (λ n. unpacked_behind n bs)) ≤ suc (length bs)
+within_begun None bs behind = omega arith
+within_begun (Some p) bs behind = omega (arith, behind p.1)
+
+within_behind : (n : ℕ) (bs : List ℕ) → length (unpacked_behind n bs) ≤ length bs
+within_behind n [] = omega arith
+within_behind (suc n) (b ∷ bs) = omega (arith, within_behind n bs)
+within_behind zero (b ∷ bs) = within_begun (value_at b bs) bs (λ n. within_behind n bs)
+
+pub within : (bs : List ℕ) → length (unpacked bs) ≤ length bs
+within bs = within_behind 0 bs
+
+-- a text is one, where the bytes hold texts
+pub is_text : (bytes : List ℕ) (tag : ℕ) (content : List ℕ) → bytes ≡ tag ∷ content → HasTexts (unpacked bytes)
+    → (v : Value) (n : ℕ) → value_at tag content ≡ Some (v, n) → IsText v
+is_text bytes tag content is have v n at = (texts bytes tag content (drop n content) v is (n, at, refl) have).0
+
+-- a number of eight bytes
+pub int_begins : (bs rest : List ℕ) (n : ℤ) → length rest + 8 ≡ length bs → rest ≡ drop 8 bs → n ≡ cast_signed w64 (from_le_bytes w64 (take 8 bs))
+    → BeginsWith (int_at bs) bs (Int n) rest
+int_begins bs rest n long is_rest is = (
+  8,
+  ap (λ b. if b then None else Some (Int (cast_signed w64 (from_le_bytes w64 (take 8 bs))), 8)) (le-ltb (length bs) 8 (omega arith))
+      ∙ ap (λ z. Some (Int z, 8)) (sym is),
+  is_rest,
+)
+
+-- bytes hold what they were packed of
+int_unpacked : (n : ℤ) (rest : List ℕ) → FitsSigned w64 n → unpacked (packed_value (Int n) ++ rest) ≡ Int n ∷ unpacked rest
+int_unpacked n rest fits =
+    let eight = to_le_bytes w64 (cast_unsigned w64 n) in
+    let whole = ap (cast_signed w64) (from_le_bytes-to_le_bytes_8 (cast_unsigned w64 n) (Fits-lt-pow (Fits-of_z {w = w64} {z = n} fits)))
+    ∙ to_z-of_z w64 n fits in
+    first (0 ∷ eight ++ rest) 0 (eight ++ rest) rest (Int n) refl (int_begins (eight ++ rest) rest n (omega arith) refl (sym whole))
+
+long : (bytes rest : List ℕ) → 4 + length bytes ≤ length (to_le_bytes w32 (length bytes) ++ (bytes ++ rest))
+long bytes rest = rw (length-append bytes rest) (omega arith)
+
+text_begins : (bytes rest : List ℕ) → length bytes < 2 ^ 32 → text_at (to_le_bytes w32 (length bytes) ++ (bytes ++ rest)) ≡ Some (Text bytes, 4 + length bytes)
+text_begins bytes rest short =
+    let four = to_le_bytes w32 (length bytes) in
+    ap (λ n. text_of_length n (four ++ (bytes ++ rest))) (from_le_bytes-to_le_bytes_4 (length bytes) short)
+    ∙ ap (λ b. if b then None else Some (Text (take (length bytes) (bytes ++ rest)), 4 + length bytes))
+    (le-ltb (length (four ++ (bytes ++ rest))) (4 + length bytes) (long bytes rest))
+    ∙ ap (λ t. Some (Text t, 4 + length bytes)) (take-append_seam bytes rest)
+
+text_unpacked : (bytes rest : List ℕ) → length bytes < 2 ^ 32 → unpacked (packed_value (Text bytes) ++ rest) ≡ Text bytes ∷ unpacked rest
+text_unpacked bytes rest short =
+    let behind_tag = to_le_bytes w32 (length bytes) ++ (bytes ++ rest) in
+    let is_rest = sym (drop_at (to_le_bytes w32 (length bytes) ++ bytes) rest (4 + length bytes) (omega arith)) in
+    first (1 ∷ behind_tag) 1 behind_tag rest (Text bytes) refl (4 + length bytes, text_begins bytes rest short, is_rest)
+
+value_unpacked : (v : Value) (rest : List ℕ) → IsPackable v → unpacked (packed_value v ++ rest) ≡ v ∷ unpacked rest
+value_unpacked (Int n) rest packable = int_unpacked n rest packable
+value_unpacked (Text bytes) rest packable = text_unpacked bytes rest packable.1
+value_unpacked (Flag false) rest packable = refl
+value_unpacked (Flag true) rest packable = refl
+
+packed_unpacked : (vs : List Value) → ArePackable vs → unpacked (packed vs) ≡ vs
+packed_unpacked [] packable = refl
+packed_unpacked (v ∷ vs) packable = value_unpacked v (packed vs) packable.0 ∙ ap (λ ws. v ∷ ws) (packed_unpacked vs packable.1)
+
+packable_text : (v : Value) → IsPackable v → IsText v
+packable_text (Int n) packable = tt
+packable_text (Text bytes) packable = packable.0
+packable_text (Flag b) packable = tt
+
+packable_texts : (vs : List Value) → ArePackable vs → HasTexts vs
+packable_texts [] packable = tt
+packable_texts (v ∷ vs) packable = (packable_text v packable.0, packable_texts vs packable.1)
+
+-- when no value is left to be packed
+left_packable : (left : List Value) → left ≡ [] → ArePackable left
+left_packable left none = rw none tt
+
+pub holds_all : (bytes : List ℕ) (vs left : List Value) → left ≡ [] → bytes ++ packed left ≡ packed vs → (ArePackable left → ArePackable vs)
+    → unpacked bytes ≡ vs
+holds_all bytes vs left none are packable =
+    ap unpacked (sym (append-nil bytes) ∙ ap (λ ws. bytes ++ packed ws) (sym none) ∙ are) ∙ packed_unpacked vs (packable (left_packable left none))
+
+pub holds_texts : (bytes : List ℕ) (vs left : List Value) → left ≡ [] → bytes ++ packed left ≡ packed vs → (ArePackable left → ArePackable vs)
+    → HasTexts (unpacked bytes)
+holds_texts bytes vs left none are packable = carried (sym (holds_all bytes vs left none are packable)) (packable_texts vs (packable (left_packable left none)))
+
+-- what was put behind a byte that was put behind others
+pub put_behind : {E : Type 0} (r : Result (Unit {0}) E) (P : Type 0) (old mid new : List ℕ) (x : ℕ) (zs ys : List ℕ) → mid ≡ old ++ x ∷ []
+    → new ≡ (if is_ok r then mid ++ zs else mid) → zs ≡ ys → P → OnOk r ((new ≡ old ++ x ∷ ys) × P)
+put_behind (Ok u) P old mid new x zs ys one more same p = (more ∙ ap (λ bs. bs ++ zs) one ∙ append_assoc old (x ∷ []) zs ∙ ap (λ bs. old ++ x ∷ bs) same, p)
+put_behind (Err e) P old mid new x zs ys one more same p = tt
