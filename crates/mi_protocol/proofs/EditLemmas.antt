@@ -64,11 +64,11 @@ moved_step {key} front edits i cs c name set add sets adds put more found here w
     let rest = moved (suc i) (drop (i + 1) cs) (emptied c.name set) (emptied c.name add) in
     let next : drop i cs ≡ c ∷ drop (i + 1) cs = drop_more cs i c within ∙ ap (λ d. d ∷ drop (i + 1) cs) (sym here) in
     let one : edit_of i c.kind (get_member c.name set) (get_member c.name add) ≡ Some found =
-        (λ j. edit_of i c.kind ((ap (λ n. get_member n set) (sym named) ∙ sym put_is) j) ((ap (λ n. get_member n add) (sym named) ∙ sym more_is) j))
-        ∙ is_edit (edit_of i c.kind put more) good in
+    (λ j. edit_of i c.kind ((ap (λ n. get_member n set) (sym named) ∙ sym put_is) j) ((ap (λ n. get_member n add) (sym named) ∙ sym more_is) j))
+    ∙ is_edit (edit_of i c.kind put more) good in
     let left : moved (i + 1) (drop (i + 1) cs) sets adds ≡ rest =
-        ap (λ n. moved n (drop (i + 1) cs) sets adds) (next_place i)
-        ∙ λ j. moved (suc i) (drop (i + 1) cs) ((sets_are ∙ ap (λ n. emptied n set) named) j) ((adds_are ∙ ap (λ n. emptied n add) named) j) in
+    ap (λ n. moved n (drop (i + 1) cs) sets adds) (next_place i)
+    ∙ λ j. moved (suc i) (drop (i + 1) cs) ((sets_are ∙ ap (λ n. emptied n set) named) j) ((adds_are ∙ ap (λ n. emptied n add) named) j) in
     ap (λ o. option_map (λ es. edits ++ es) o) left ∙ ap (λ (ds : List Edit). option_map (λ es. ds ++ es) rest) pushed ∙ moved_front front found rest
     ∙ ap (λ o. option_map (λ es. front ++ es) (option_map₂ with_edit o rest)) (sym one)
     ∙ ap (λ (ds : List Column). option_map (λ es. front ++ es) (moved i ds set add)) (sym next) ∙ before

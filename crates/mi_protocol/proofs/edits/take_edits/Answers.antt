@@ -22,4 +22,5 @@ columns-preserved c =
       | in_default w ↦ moved_step l.edits.items c.match-branch-2.edits.items l.i c.args.columns.now column name l.set_left l.add_left
           set.new.self add.new.self set.result add.result None c.index-columns-i.is c.columns-test.true c.as_str-name.ensures
           set.ensures.value set.ensures.rest add.ensures.value add.ensures.rest (good ∙ ap Ok w.in_default.is)
-          (ap (λ (z : Vec Edit Global). z.items) w.edits-is ∙ sym (append-nil l.edits.items)) l.invariant ]
+          (ap (λ (z : Vec Edit Global). z.items) w.edits-is ∙ sym (append-nil l.edits.items)) l.invariant
+    ]
