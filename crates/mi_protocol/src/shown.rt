@@ -1,6 +1,7 @@
 //! Rows to text, token by token: the order of the members by their names is found once for all rows, without memory, and
 //! values are lent to the writer. It knows columns and values, and no tables.
-ghost use Rattle.std.specs.Prelude.{◌≡◌, ◌++◌, ◌+◌, ◌≤◌, ◌<◌, ℕ, List, length, map, insert, slice_set, slice_index_or, codes, true, OnOk, IfOk, IfErr};
+ghost use Rattle.std.specs.Prelude.{◌≡◌, ◌++◌, ◌+◌, ◌≤◌, ◌<◌, ℕ, List, length, map, insert, slice_set, slice_index_or, codes, nat_le, true, OnOk, IfOk, IfErr};
+ghost use Rattle.std.specs.List.{list_all};
 ghost use Rattle.json.specs.Tree.{json_tokens};
 ghost use Rattle.mi_value.specs.Lent.{lent};
 ghost use Rattle.mi_value.specs.declared.limits.TheConstants.{MAX_COLUMNS};
@@ -170,20 +171,23 @@ fn write_short_row(
     write_ordered(writer, id, row, order.as_slice())
 }
 
-/// Writes a row as an object, in the order of the columns that is given.
+/// Writes a row as an object, in the order of the columns that is given. A row that is known to have a value for every
+/// column isn't asked again.
 fn write_row(
     writer: &mut Writer,
     id: u64,
     row: &Record,
     columns: &[Column],
     order: &[Member],
+    is_whole: bool,
 ) -> Result<(), AllocError>
     requires few { length columns.now ≤ MAX_COLUMNS }
+    requires whole { is_whole ≡ true → length columns.now ≤ length row.now }
     requires order { (n : ℕ) (vs : List ValueSpec) → length columns.now ≤ length vs → shown_members n vs order.now ≡ rows.row_members columns.now n vs }
     ensures tokens { OnOk result (writer.new.tokens ≡ writer.old.tokens ++ json_tokens (outline (row_data columns.now id row.now))) }
     ensures before { OnOk result (writer.new.before ≡ writer.old.before) }
 {
-    if row.column_count() < columns.len() {
+    if !is_whole && row.column_count() < columns.len() {
         return write_short_row(writer, id, row, columns);
     }
     write_ordered(writer, id, row, order)
@@ -204,10 +208,18 @@ pub(crate) fn row_text(
     let mut text = Vec::with_capacity(alloc, REPLY_ROOM)?;
     text.extend_from_slice(b"{\"ok\":true,\"row\":")?;
     let mut writer = Writer::new(text);
-    write_row(&mut writer, id, row, columns, order.as_slice())?;
+    write_row(&mut writer, id, row, columns, order.as_slice(), false)?;
     let mut text = writer.into_inner();
     text.push(b'}')?;
     Ok(text)
+}
+
+/// Whether each row has a value for every column. It reads the records one right behind another, so that the processor
+/// fetches those that lie far apart in memory side by side, before the first of them is written.
+fn are_whole(rows: &[(u64, &Record)], columns: &[Column]) -> bool
+    ensures { result ≡ list_all (λ r. nat_le (length columns.now) (length r.1.now)) rows.now }
+{
+    rows.iter().all(|row| row.1.column_count() >= columns.len())
 }
 
 /// Writes rows as an array.
@@ -227,9 +239,10 @@ fn write_rows(
         return Ok(());
     }
     let order = row_order(columns);
+    let are_whole = are_whole(rows, columns);
     'rows: for row in rows {
         let (id, row) = *row;
-        write_row(writer, id, row, columns, order.as_slice())?;
+        write_row(writer, id, row, columns, order.as_slice(), are_whole)?;
     }
     writer.end_array()?;
     Ok(())
