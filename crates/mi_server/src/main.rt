@@ -1,19 +1,7 @@
-//! The program: it hands its arguments and the standard streams to `run`. The crate knows the program's options, where the
-//! schema comes from, the order in which things are opened and the words of its failures, and nothing of commands.
+//! The program: it hands its arguments and the standard streams to `run` of `mi_program`, and knows nothing else.
 #![tactic(auto)]
 
-mod buffered;
-mod failure;
-mod listener;
-mod program;
-mod secret;
-mod serve;
-mod source;
-#[cfg(test)]
-mod tests;
-mod words;
-
-use program::{refuse_arguments, run};
+use mi_program::{refuse_arguments, run};
 use std::process::ExitCode;
 use std::{env, io};
 

@@ -1,0 +1,48 @@
+use Rattle.std.proofs.Common.{◌≡◌, ◌∙◌, Result, Bool, ap, refl, subst, sym, false}
+use Rattle.std.specs.Prelude.{OnOk}
+use Rattle.std.proofs.lemmas.Result.{on_ok_weaker}
+use Rattle.mi_hub.specs.Watching.{has_failed}
+use Rattle.mi_hub.specs.IoNotes.{with_write}
+use Rattle.mi_hub.specs.declared.fault.ServeFault.{ServeFault}
+use Rattle.mi_program.specs.Turns.{noted}
+use Rattle.mi_program.proofs.TurnLemmas.{answered_fault, written_noted, on_err_kept, on_err_of}
+use Rattle.mi_program.proofs.listener.client_turn.Goals as goal
+
+pub returns-in-Ok-clause-turn : goal.returns-in-Ok-clause-turn
+returns-in-Ok-clause-turn g c =
+    let made = c.take_turn-is_open.ensures.turn in
+    (made.0, made.1, made.2, made.4, made.6)
+
+pub returns-in-Ok-clause-failed : goal.returns-in-Ok-clause-failed
+returns-in-Ok-clause-failed g c =
+    let made = c.take_turn-is_open.ensures.turn in
+    on_err_kept _ _ _ (answered_fault made.0 _ _ _ made.3 made.4 c.take_turn-is_open.ensures.write)
+
+pub returns-in-Ok-clause-sound : goal.returns-in-Ok-clause-sound
+returns-in-Ok-clause-sound g c = on_ok_weaker c.take_turn-is_open.result (λ e. e ∙ c.in-Ok.ensures.failed) c.take_turn-is_open.ensures.sound
+
+pub returns-in-Ok-clause-noted : goal.returns-in-Ok-clause-noted
+returns-in-Ok-clause-noted g c =
+    let made = c.take_turn-is_open.ensures.turn in
+    let failed = has_failed c.take_turn-is_open.new.writer in
+    c.note_write.ensures ∙ ap (with_write failed) c.in-Ok.ensures.noted
+    ∙ written_noted c.take_turn-is_open.result failed c.args.errors.now
+    (on_ok_weaker c.take_turn-is_open.result (λ e. e ∙ c.in-Ok.ensures.failed) c.take_turn-is_open.ensures.sound)
+    (answered_fault made.0 _ _ _ made.3 made.4 c.take_turn-is_open.ensures.write)
+
+pub returns-in-Err-clause-turn : goal.returns-in-Err-clause-turn
+returns-in-Err-clause-turn g c =
+    let made = c.take_turn.ensures.turn in
+    (made.0, made.1, made.2, made.4, made.6)
+
+pub returns-in-Err-clause-failed : goal.returns-in-Err-clause-failed
+returns-in-Err-clause-failed g c =
+    let fault = c.take_turn.ensures.read.1 refl in
+    on_err_of _ _ (ap has_failed (c.take_turn.ensures.unread fault) ∙ c.in-Err.ensures.failed)
+
+pub returns-in-Err-clause-sound : goal.returns-in-Err-clause-sound
+returns-in-Err-clause-sound g c =
+    subst (λ (r : Result Bool ServeFault). OnOk r (has_failed c.take_turn.new.writer ≡ false)) (sym (c.take_turn.ensures.read.1 refl)) tt
+
+pub returns-in-Err-clause-noted : goal.returns-in-Err-clause-noted
+returns-in-Err-clause-noted g c = c.in-Err.ensures.noted ∙ sym (ap (λ r. noted r c.args.errors.now) (c.take_turn.ensures.read.1 refl))

@@ -1,0 +1,44 @@
+use Rattle.std.proofs.Common.{Err, ap, sym, ◌∙◌, inl, inr}
+use Rattle.mi_hub.proofs.PieceLemmas.{same_err}
+use Rattle.mi_program.specs.Turns.{client_ids}
+use Rattle.mi_program.proofs.TurnLemmas.{serves_come, turns_of_come, accept_turns, memory_turns, not_accept, not_memory}
+use Rattle.mi_program.proofs.listener.serve_clients.Goals as goal
+
+pub serve_all-requires-clause-served : goal.serve_all-requires-clause-served
+serve_all-requires-clause-served g c =
+    let come = c.in-Ok.ensures.ok in
+    serves_come (client_ids c.in-Ok.row.items) c.args.clients c.args.hub.now c.accept_all.new.hub come.0 come.1
+
+pub returns-in-Ok-clause-served : goal.returns-in-Ok-clause-served
+returns-in-Ok-clause-served g c = λ _ _ not_turns.
+    let come = c.in-Ok.ensures.ok in
+    let done = c.serve_all.ensures.served not_turns in
+    (done.0, turns_of_come (client_ids c.in-Ok.row.items) c.args.clients c.args.hub.now c.accept_all.new.hub _ _ _ come.0 come.1 done.1, done.2, done.3)
+
+pub returns-in-Ok-clause-turns : goal.returns-in-Ok-clause-turns
+returns-in-Ok-clause-turns g c = λ is.
+    let come = c.in-Ok.ensures.ok in
+    let done = c.serve_all.ensures.turns is in (
+      done.0,
+      done.1,
+      done.2,
+      turns_of_come (client_ids c.in-Ok.row.items) c.args.clients c.args.hub.now c.accept_all.new.hub _ _ _ come.0 come.1 done.3,
+      done.4,
+      done.5,
+    )
+
+pub returns-in-Ok-clause-unserved : goal.returns-in-Ok-clause-unserved
+returns-in-Ok-clause-unserved g c = λ early. elim early [
+  | inl is ↦
+      let done = c.serve_all.ensures.served (λ k. accept_turns (sym is ∙ k)) in
+      absurd (not_accept done.0 (sym done.2 ∙ is))
+  | inr is ↦
+      let done = c.serve_all.ensures.served (λ k. memory_turns (sym is ∙ k)) in
+      absurd (not_memory done.0 (sym done.2 ∙ is))
+]
+
+pub returns-in-Err-clause-served : goal.returns-in-Err-clause-served
+returns-in-Err-clause-served g c = λ not_accepted no_memory _. elim c.in-Err.ensures.no_other [
+  | inl is ↦ absurd (not_accepted (ap Err (same_err is)))
+  | inr is ↦ absurd (no_memory (ap Err (same_err is)))
+]

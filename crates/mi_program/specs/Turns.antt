@@ -1,0 +1,93 @@
+-- What serving connections by turns does to a hub. The connections 1 and 2 are open, in this row. 1 gives a piece and goes behind 2;
+-- then the write of a reply to 2 fails, and then 1 ends: fed 1 "{\"cmd\":\"start\"}⏎", unanswered 2 "{\"cmd\":\"undo\"}⏎", ended 1.
+use Rattle.std.specs.Prelude.{◌≡◌, ℕ, List, [], ◌∷◌, ◌++◌, length, map, Bool, true, false, ◌==◌, Result, Ok, Err, Some, IsSome, ⊤}
+use Rattle.std.specs.Result.{result_and}
+use Rattle.std.specs.List.{range_with_len}
+use Rattle.mi_hub.specs.Connections.{rest_at}
+use Rattle.mi_hub.specs.Run.{HubState}
+use Rattle.mi_hub.specs.Turn.{Turn, fed, ended, unread, unanswered, unended, conn_of, outcome, Made}
+use Rattle.mi_hub.specs.declared.connection.Connection.{Connection}
+use Rattle.mi_hub.specs.declared.fault.ServeFault.{ServeFault}
+use Rattle.mi_hub.specs.declared.fault.ServeFault.TheVariants.{Read, Write, Accept, Memory, Turns}
+use Rattle.mi_hub.specs.Watching.{has_failed}
+use Rattle.mi_hub.specs.IoNotes.{with_read, with_write}
+use Rattle.mi_hub.specs.declared.io_errors.IoErrors.{IoErrors}
+use Rattle.mi_program.specs.declared.listener.Client.{Client}
+
+-- a connection that has come, with no bytes
+abbrev pub fresh : ℕ → Connection
+fresh conn = record { id = conn; rest = Some [] }
+
+-- n connections have come to a hub with none, numbered from 1 in this order
+abbrev pub with_clients : ℕ → HubState → HubState
+with_clients n s = record { held = s.held; attached = map fresh (range_with_len 1 n) }
+
+-- a connection that stays open goes behind the others
+abbrev pub row_after : Turn → List ℕ → List ℕ
+row_after (fed conn bytes) others = others ++ conn ∷ []
+row_after (ended conn) others = others
+row_after (unread conn) others = others
+row_after (unanswered conn bytes) others = others
+row_after (unended conn) others = others
+
+-- From a row of open connections and from old, these turns are made, each by the first of the row then; left is the row that is left, and
+-- new the hub.
+abbrev pub ByTurns : List ℕ → HubState → List Turn → List ℕ → HubState → Type 0
+ByTurns row old [] left new = (left ≡ row) × (new ≡ old)
+ByTurns row old (turn ∷ turns) left new =
+    (others : List ℕ) × (out : List ℕ) × (mid : HubState) × (row ≡ conn_of turn ∷ others)
+    × Made old turn out mid × ByTurns (row_after turn others) mid turns left new
+
+-- a fault, or none
+abbrev pub turn_fault : Result Bool ServeFault → Result ⊤ ServeFault
+turn_fault (Ok is_open) = Ok tt
+turn_fault (Err fault) = Err fault
+
+-- the first fault of these turns, or none
+abbrev pub first_fault : List Turn → Result ⊤ ServeFault
+first_fault [] = Ok tt
+first_fault (turn ∷ turns) = result_and (turn_fault (outcome turn)) (first_fault turns)
+
+-- what is noted of the errors of streams by a turn with this outcome: a failed read, or a failed write or flush
+abbrev pub noted : Result Bool ServeFault → IoErrors → IoErrors
+noted (Ok is_open) e = e
+noted (Err Read) e = with_read true e
+noted (Err Write) e = with_write true e
+noted (Err Accept) e = e
+noted (Err Memory) e = e
+noted (Err Turns) e = e
+
+-- what is noted by these turns, one after another
+abbrev pub all_noted : List Turn → IoErrors → IoErrors
+all_noted [] e = e
+all_noted (turn ∷ turns) e = all_noted turns (noted (outcome turn) e)
+
+-- no stream of these clients has failed
+abbrev pub AllSound : {S : Type 0} → List (Client S) → Type 0
+AllSound [] = Unit {0}
+AllSound (c ∷ clients) = (has_failed c.stream ≡ false) × AllSound clients
+
+-- the numbers of clients, in order
+abbrev pub client_ids : {S : Type 0} → List (Client S) → List ℕ
+client_ids clients = map (λ c. c.conn) clients
+
+-- all of these are attached
+abbrev pub AllAttached : List ℕ → List Connection → Type 0
+AllAttached [] cs = Unit {0}
+AllAttached (conn ∷ row) cs = IsSome (rest_at conn cs) × AllAttached row cs
+
+-- none of these is this number
+abbrev pub IsNoneOf : ℕ → List ℕ → Type 0
+IsNoneOf k [] = Unit {0}
+IsNoneOf k (x ∷ xs) = ((k == x) ≡ false) × IsNoneOf k xs
+
+-- no two are the same
+abbrev pub AllDiffer : List ℕ → Type 0
+AllDiffer [] = Unit {0}
+AllDiffer (x ∷ xs) = IsNoneOf x xs × AllDiffer xs
+
+-- the open connections of this row are those that are attached, and no two are the same
+pub record Serves (row : List ℕ) (cs : List Connection) : Type 0 where
+  pub there : AllAttached row cs
+  pub count : length cs ≡ length row
+  pub differ : AllDiffer row

@@ -1,0 +1,120 @@
+//! A stream whose writes are gathered and go out together: where it is flushed, or where its buffer has no room for the next.
+//! It doesn't look at the bytes.
+ghost use Rattle.std.specs.Prelude.{◌≡◌, [], IfOk, OnOk, ◌+◌, ◌≤◌, length, vec_len, vec_capacity};
+ghost use Rattle.std.specs.Io.{WritesAtMost};
+ghost use Rattle.std.specs.Io.KnownBytes.{Appends, WriteAppends, Keeps};
+
+use std::alloc::{AllocError, Global};
+use std::io;
+use std::io::{Error, ErrorKind, Read, Write};
+
+/// Bytes that are gathered before they go out; more than the replies to most pieces take.
+const ROOM: usize = 8192;
+
+/// A stream and the bytes that were written to it and haven't gone out yet, from `sent` on. It takes its room at the start.
+#[derive(Drop)]
+pub struct Buffered<S> {
+    inner: S,
+    gathered: Vec<u8>,
+    sent: usize,
+    ghost within: { sent ≤ length gathered.items },
+}
+
+impl<S> Buffered<S> {
+    ghost use Rattle.mi_program.specs.Buffer.{stream_of, waiting};
+
+    /// Nothing is gathered yet.
+    pub fn new(alloc: Global, inner: S) -> Result<Buffered<S>, AllocError>
+    where
+        S: Drop,
+        ensures inner { IfOk result (λ b. stream_of b ≡ inner) }
+        ensures none { IfOk result (λ b. waiting b ≡ []) }
+    {
+        Ok(Buffered {
+            inner,
+            gathered: Vec::with_capacity(alloc, ROOM)?,
+            sent: 0,
+        })
+    }
+
+    /// The stream itself.
+    pub fn inner(&self) -> &S
+        ensures { result.now ≡ stream_of self.now }
+    {
+        &self.inner
+    }
+}
+
+impl<S: Write> Buffered<S> {
+    ghost use Rattle.mi_program.specs.Buffer.{waiting, contents_of};
+
+    /// All that is gathered goes out; what a failure leaves stays gathered.
+    fn send_out(&mut self) -> io::Result<()>
+        ensures none { OnOk result (self.new.gathered.items ≡ []) }
+        ensures bytes { Keeps (contents_of S.contents self.old) (contents_of S.contents self.new) }
+    {
+        'out: while self.sent < self.gathered.len() {
+            let (_, left) = self.gathered.as_slice().split_at(self.sent);
+            let taken = self.inner.write(left)?;
+            if taken == 0 {
+                return Err(Error::from(ErrorKind::WriteZero));
+            }
+            self.sent += taken;
+        }
+        self.gathered.clear();
+        self.sent = 0;
+        Ok(())
+    }
+
+    /// Bytes that there is room for wait behind those that do already.
+    fn gather(&mut self, bytes: &[u8])
+        requires { length bytes.now + vec_len self.old.gathered ≤ vec_capacity self.old.gathered }
+        ensures { Appends (contents_of S.contents self.old) (contents_of S.contents self.new) bytes.now }
+    {
+        self.gathered.extend_from_slice(bytes).unwrap();
+    }
+
+    /// Where nothing waits, bytes go to the stream as they are.
+    fn pass(&mut self, bytes: &[u8]) -> io::Result<usize>
+        requires { self.old.gathered.items ≡ [] }
+        ensures bound { WritesAtMost result bytes.now }
+        ensures bytes { WriteAppends (contents_of S.contents self.old) (contents_of S.contents self.new) result bytes.now }
+    {
+        self.inner.write(bytes)
+    }
+}
+
+impl<S: Read> Read for Buffered<S> {
+    ghost use Rattle.mi_program.specs.Buffer.{stream_of};
+
+    ghost remaining = { λ b. S.remaining (stream_of b) };
+
+    fn read(&mut self, buf: &mut [u8]) -> io::Result<usize> {
+        self.inner.read(buf)
+    }
+}
+
+impl<S: Write> Write for Buffered<S> {
+    ghost use Rattle.mi_program.specs.Buffer.{waiting, contents_of};
+
+    ghost contents = { contents_of S.contents };
+
+    fn write(&mut self, buf: &[u8]) -> io::Result<usize> {
+        if buf.len() > self.gathered.capacity() - self.gathered.len() {
+            self.send_out()?;
+            if buf.len() > self.gathered.capacity() {
+                return self.pass(buf);
+            }
+        }
+        self.gather(buf);
+        Ok(buf.len())
+    }
+
+    fn flush(&mut self) -> io::Result<()>
+        ensures bytes { Keeps (contents_of S.contents self.old) (contents_of S.contents self.new) }
+        ensures none { OnOk result (waiting self.new ≡ []) }
+    {
+        self.send_out()?;
+        self.inner.flush()
+    }
+}

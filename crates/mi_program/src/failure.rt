@@ -1,0 +1,75 @@
+//! Why the program ends early: the line on standard error and the exit status.
+ghost use Rattle.std.specs.Prelude.{◌≡◌};
+ghost use Rattle.mi_program.specs.Status.{status_of, failure_of, served_failure};
+
+use mi_hub::ServeFault;
+use mi_schema::SchemaFault;
+use thiserror::Error;
+
+/// Why the program ends before its work is done. The text is its line on standard error.
+#[derive(Clone, Copy, Debug, PartialEq, Eq, Error)]
+pub enum Failure {
+    /// The schema's file can't be read, or has more than 65,536 bytes.
+    #[error("schema: file")]
+    SchemaFile,
+    /// The schema is refused, or was refused memory.
+    #[error("schema: {0}")]
+    Schema(SchemaFault),
+    /// A read of the input failed.
+    #[error("fault: read")]
+    Read,
+    /// A write of the output failed.
+    #[error("fault: write")]
+    Write,
+    /// The port can't be listened on.
+    #[error("fault: listen")]
+    Listen,
+    /// A connection could not be accepted.
+    #[error("fault: accept")]
+    Accept,
+    /// The words, the database, the connection or a buffer was refused memory.
+    #[error("fault: memory")]
+    Memory,
+    /// The input was not at its end after 2^40 reads.
+    #[error("fault: turns")]
+    Turns,
+}
+
+impl Failure {
+    /// The failure that a fault of serving is. Its status is 4.
+    pub fn of_serving(fault: ServeFault) -> Failure
+        ensures is { result ≡ served_failure fault }
+        ensures status { status_of result ≡ 4 }
+    {
+        match fault {
+            ServeFault::Read => Failure::Read,
+            ServeFault::Write => Failure::Write,
+            ServeFault::Accept => Failure::Accept,
+            ServeFault::Memory => Failure::Memory,
+            ServeFault::Turns => Failure::Turns,
+        }
+    }
+
+    /// The exit status: 3 where the schema is at fault, else 4.
+    pub fn status(&self) -> u8
+        ensures { result ≡ status_of self.now }
+    {
+        match self {
+            Failure::SchemaFile | Failure::Schema(_) => 3,
+            Failure::Read
+            | Failure::Write
+            | Failure::Listen
+            | Failure::Accept
+            | Failure::Memory
+            | Failure::Turns => 4,
+        }
+    }
+}
+
+impl From<SchemaFault> for Failure {
+    ghost from_gives = { λ fault e. e ≡ failure_of fault };
+
+    fn from(fault: SchemaFault) -> Failure {
+        Failure::Schema(fault)
+    }
+}

@@ -1,0 +1,49 @@
+//! What the tests serve with. The calls have no contract of their own, so that a test that makes one carries none of what the
+//! call below promises.
+ghost use Rattle.std.specs.Prelude.{◌≡◌, ◌≤◌, [], IfOk};
+ghost use Rattle.mi_value.specs.declared.limits.TheConstants.{MAX_CONNECTIONS};
+
+use mi_hub::{Hub, IoErrors, ServeFault};
+use mi_plain::Plain;
+use mi_program::{run, serve_listener};
+use mi_schema::{Catalog, built_in};
+use std::alloc::{AllocError, Global};
+use std::io::{Read, Write};
+use std::net::OpenListener;
+
+/// A hub with no connection over the built-in table.
+pub(super) fn opened(alloc: Global) -> Result<Hub<Plain>, AllocError>
+    ensures { IfOk result (λ hub. hub.attached ≡ []) }
+{
+    let catalog = Catalog::of(alloc, built_in(alloc)?)?;
+    Ok(Hub::new(alloc, Plain::new(alloc, catalog)?))
+}
+
+/// Serves so many connections of a listener, and answers what that answered, and whether a read and whether a write has failed.
+pub(super) fn serve_all<L: OpenListener>(
+    alloc: Global,
+    hub: &mut Hub<Plain>,
+    listener: &L,
+    clients: usize,
+) -> (Result<(), ServeFault>, bool, bool)
+where
+    L::Stream: Read + Write,
+    requires clients { (1 ≤ clients) × (clients ≤ MAX_CONNECTIONS) }
+    requires none { hub.old.attached ≡ [] }
+{
+    let mut errors = IoErrors::none();
+    let served = serve_listener(alloc, hub, listener, clients, &mut errors);
+    (served, errors.read(), errors.write())
+}
+
+/// The exit status of the program with these words over these streams, and what it wrote on the third one.
+pub(super) fn ended<I: Read + Drop, O: Write + Drop>(
+    rt: &HostRuntime,
+    words: &[&str],
+    input: I,
+    output: O,
+) -> (u8, Vec<u8>) {
+    let mut errors = Vec::new(rt.alloc());
+    let status = run(rt, words, input, output, &mut errors);
+    (status, errors)
+}

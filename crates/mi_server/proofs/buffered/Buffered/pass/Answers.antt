@@ -1,5 +1,0 @@
-use Rattle.mi_server.proofs.Buffers.{stream_takes, none_waits}
-use Rattle.mi_server.proofs.buffered.Buffered.pass.Goals as goal
-
-pub returns-clause-bytes : goal.returns-clause-bytes
-returns-clause-bytes g c = stream_takes _ _ _ _ _ (none_waits c.args.self.now.gathered.items c.args.self.now.sent c.requires) c.write.ensures.bytes
