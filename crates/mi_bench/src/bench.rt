@@ -18,7 +18,7 @@ pub(crate) struct Bench {
 }
 
 /// How many calls did something, and a sum of what they did.
-#[derive(Clone, Copy, Debug, Default)]
+#[derive(Clone, Copy, Default)]
 pub(crate) struct Done {
     pub(crate) count: u64,
     pub(crate) sum: u64,

@@ -1,7 +1,7 @@
 //! The workloads by their words.
 
 /// What is done in a loop.
-#[derive(Clone, Copy, Debug)]
+#[derive(Clone, Copy)]
 pub(crate) enum Workload {
     /// Makes the owners of the records to be inserted.
     Prepare,
