@@ -1,34 +1,53 @@
 //! Devices that fail in the middle: what was executed, what was written, and the status.
+ghost use Rattle.std.specs.Prelude.{IsSome};
+ghost use Rattle.mi_hub.specs.Connections.{rest_at};
+
 use super::devices::{AtEnd, Narrow, Pieces};
 use super::serving::{ended, opened};
-use mi_hub::{HubFault, ServeFault, Watched, serve_stream};
+use mi_hub::{Hub, HubFault, ServeFault, Watched, serve_stream};
+use mi_plain::Plain;
 use mi_sessions::Sessions;
+use std::alloc::Global;
 use std::test::Fail;
 
 const TWO_STARTS: &[u8] = b"{\"cmd\":\"start\"}\n{\"cmd\":\"start\"}\n";
+
+/// Serves connection 1 two lines that start a session each, with a writer that fails or takes nothing once its room is used up.
+/// Answers what serving answered, whether the reader has failed, and the writer.
+fn serve_narrowly(
+    alloc: Global,
+    hub: &mut Hub<Plain>,
+    step: usize,
+    at_end: AtEnd,
+) -> (Result<(), ServeFault>, bool, Watched<Narrow>)
+    requires { IsSome (rest_at 1 hub.old.attached) }
+{
+    let mut reader = Watched::new(Pieces {
+        left: TWO_STARTS,
+        size: 4096,
+        sound: true,
+    });
+    let mut writer = Watched::new(Narrow {
+        taken: Vec::new(alloc),
+        step,
+        room: 10,
+        at_end,
+    });
+    let served = serve_stream(hub, 1, &mut reader, &mut writer);
+    (served, reader.failed(), writer)
+}
 
 /// A write that fails or takes nothing cuts the connection: its line was executed and the later ones not, and what it held is
 /// undone.
 #[test]
 fn failing_write(rt: HostRuntime) -> Result<(), Fail> {
-    for (step, room, at_end) in [(64, 10, AtEnd::Fail), (1, 10, AtEnd::TakeNone)] {
+    for (step, at_end) in [(64, AtEnd::Fail), (1, AtEnd::TakeNone)] {
         let mut hub = opened(rt.alloc())?;
         assert_eq!(rt; hub.attach(1), Ok(()));
         assert_eq!(rt; hub.attach(1), Err(HubFault::AlreadyAttached));
-        let mut reader = Watched::new(Pieces {
-            left: TWO_STARTS,
-            size: 4096,
-            sound: true,
-        });
-        let mut writer = Watched::new(Narrow {
-            taken: Vec::new(rt.alloc()),
-            step,
-            room,
-            at_end,
-        });
-        let served = serve_stream(&mut hub, 1, &mut reader, &mut writer);
+        let (served, reader_failed, writer) = serve_narrowly(rt.alloc(), &mut hub, step, at_end);
         assert_eq!(rt; served, Err(ServeFault::Write));
-        assert!(rt; writer.failed() && !reader.failed());
+        assert!(rt; writer.failed() && !reader_failed);
         assert_eq!(rt; writer.inner().taken.as_slice(), b"{\"ok\":true".as_slice());
         assert_eq!(rt; hub.database().depth(), 0);
         assert_eq!(rt; hub.database().revision(), 0);

@@ -1,14 +1,24 @@
 //! The program by its words: its options, schemas from files, and how it ends.
 use super::serving::ended;
 use mi_program::{WordsFault, read_words};
+use std::alloc::{AllocError, Global};
 use std::fs;
 use std::net::{Ipv4Addr, TcpListener};
 use std::test::Fail;
 
-/// The files that the tests write and read.
+/// The files that the tests write and read, one for each test.
 const FILE: &str = "mi_server_checked.toml";
 
+const LONG_FILE: &str = "mi_server_long.toml";
+
 const OTHER_FILE: &str = "mi_server_served.toml";
+
+/// How a run ends, and what it writes on the output and on the third stream.
+struct Ending {
+    status: u8,
+    output: &'static str,
+    errors: &'static str,
+}
 
 /// One table of one column.
 const ONE: &str = r#"table = "t"
@@ -27,46 +37,73 @@ max_rows = 1
 column = [{name = "t", type = "text"}]
 "#;
 
-/// What `--check` makes of a file: the text, the status, the output and the line on the third stream.
-const CHECKED: [(&str, u8, &str, &str); 2] = [
-    (ONE, 0, "ok\n", ""),
+/// What `--check` makes of a file.
+const CHECKED: &[(&str, Ending)] = &[
+    (
+        ONE,
+        Ending {
+            status: 0,
+            output: "ok\n",
+            errors: "",
+        },
+    ),
     (
         r#"table = "t"
 column = [{name = "id", type = "float"}]
 "#,
-        3,
-        "",
-        "schema: name\n",
+        Ending {
+            status: 3,
+            output: "",
+            errors: "schema: name\n",
+        },
     ),
 ];
 
+/// The rules between options are broken.
+const RULES: Ending = Ending {
+    status: 2,
+    output: "",
+    errors: "usage: --listen and --clients go together; --check stands alone\n",
+};
+
 /// Words that name no file that is there.
-const CALLED: [(&[&str], u8, &str, &str); 6] = [
-    (
-        &["mi_server", "--listen", "8000"],
-        2,
-        "",
-        "usage: --listen and --clients go together; --check stands alone\n",
-    ),
+const CALLED: &[(&[&str], Ending)] = &[
+    (&["mi_server", "--listen", "8000"], RULES),
     (
         &["mi_server", "--check", "--listen", "8000", "--clients", "1"],
-        2,
-        "",
-        "usage: --listen and --clients go together; --check stands alone\n",
+        RULES,
     ),
-    (&["mi_server", "--check"], 0, "ok\n", ""),
-    (&["mi_server"], 0, "", ""),
+    (
+        &["mi_server", "--check"],
+        Ending {
+            status: 0,
+            output: "ok\n",
+            errors: "",
+        },
+    ),
+    (
+        &["mi_server"],
+        Ending {
+            status: 0,
+            output: "",
+            errors: "",
+        },
+    ),
     (
         &["mi_server", "--check", "--schema=mi_server_none.toml"],
-        3,
-        "",
-        "schema: file\n",
+        Ending {
+            status: 3,
+            output: "",
+            errors: "schema: file\n",
+        },
     ),
     (
         &["mi_server", "--what", "--check"],
-        2,
-        "",
-        "error: unexpected argument '--what' found\n\nUsage: mi_server [OPTIONS]\n\nFor more information, try '--help'.\n",
+        Ending {
+            status: 2,
+            output: "",
+            errors: "error: unexpected argument '--what' found\n\nUsage: mi_server [OPTIONS]\n\nFor more information, try '--help'.\n",
+        },
     ),
 ];
 
@@ -98,31 +135,57 @@ fn called(rt: &HostRuntime, words: &[&str], input: &str) -> (u8, Vec<u8>, Vec<u8
     (status, output, errors)
 }
 
+/// What of a run of the program with these words over no input isn't as it is wanted, if anything.
+fn difference(rt: &HostRuntime, words: &[&str], want: &Ending) -> Option<&'static str> {
+    let (status, output, errors) = called(rt, words, "");
+    if status != want.status {
+        Some("the status")
+    } else if output.as_slice() != want.output.as_bytes() {
+        Some("the output")
+    } else if errors.as_slice() != want.errors.as_bytes() {
+        Some("the third stream")
+    } else {
+        None
+    }
+}
+
 #[test]
 fn schemas_are_checked(rt: HostRuntime) -> Result<(), Fail> {
-    for (text, status, output, errors) in CHECKED {
-        fs::write(&rt, FILE, text)?;
-        let got = called(&rt, &["mi_server", "--check", "--schema", FILE], "");
-        assert_eq!(rt; got.0, status, "status of {text}");
-        assert_eq!(rt; got.1.as_slice(), output.as_bytes(), "of {text}");
-        assert_eq!(rt; got.2.as_slice(), errors.as_bytes(), "of {text}");
-    }
-    for (words, status, output, errors) in CALLED {
-        let got = called(&rt, words, "");
-        assert_eq!(rt; got.0, status, "status of {words:?}");
-        assert_eq!(rt; got.1.as_slice(), output.as_bytes(), "of {words:?}");
-        assert_eq!(rt; got.2.as_slice(), errors.as_bytes(), "of {words:?}");
-    }
-    for (length, status) in [(65_536, 0), (65_537, 3)] {
-        let mut text = String::from_str(rt.alloc(), ONE)?;
-        for _ in text.len()..length {
-            text.push('\n')?;
-        }
-        fs::write(&rt, FILE, text.as_str())?;
-        let got = called(&rt, &["mi_server", "--check", "--schema", FILE], "");
-        assert_eq!(rt; got.0, status, "status of {length} bytes");
+    for (text, want) in CHECKED {
+        fs::write(&rt, FILE, *text)?;
+        let words = ["mi_server", "--check", "--schema", FILE];
+        assert_eq!(rt; difference(&rt, &words, want), None, "of {text}");
     }
     fs::remove_file(&rt, FILE)?;
+    Ok(())
+}
+
+#[test]
+fn words_are_judged(rt: HostRuntime) {
+    for (words, want) in CALLED {
+        assert_eq!(rt; difference(&rt, words, want), None, "of {words:?}");
+    }
+}
+
+/// A schema of one column, and newlines up to this length.
+fn padded(alloc: Global, length: usize) -> Result<String, AllocError> {
+    let mut text = String::from_str(alloc, ONE)?;
+    for _ in text.len()..length {
+        text.push('\n')?;
+    }
+    Ok(text)
+}
+
+#[test]
+fn long_schemas_are_refused(rt: HostRuntime) -> Result<(), Fail> {
+    for (length, status) in [(65_536, 0), (65_537, 3)] {
+        let text = padded(rt.alloc(), length)?;
+        fs::write(&rt, LONG_FILE, text.as_str())?;
+        let words = ["mi_server", "--check", "--schema", LONG_FILE];
+        let got = called(&rt, &words, "").0;
+        assert!(rt; got == status, "status {got} of {length} bytes");
+    }
+    fs::remove_file(&rt, LONG_FILE)?;
     Ok(())
 }
 
