@@ -1,10 +1,15 @@
 //! The request that each command's members are. It knows the table of commands and no catalog.
-ghost use Rattle.std.specs.Prelude.{◌≡◌};
-ghost use Rattle.mi_request.specs.Commands.{form_of};
+ghost use Rattle.std.specs.Prelude.{◌≡◌, ℕ, List, Option, option_map};
+ghost use Rattle.serde_json.specs.Data.{Items};
+ghost use Rattle.mi_request.specs.Commands.{form_of, table_in, index_in, key_in};
+ghost use Rattle.mi_request.specs.Json.{option_map₃};
 ghost use Rattle.mi_request.specs.Lines as lines;
+ghost use Rattle.mi_request.specs.declared.request.Request.{Request as Asked};
 ghost use Rattle.mi_request.specs.declared.command.CommandName.TheVariants as name;
 
+use crate::array::Array;
 use crate::command::CommandName;
+use crate::name::Name;
 use crate::object::Object;
 use crate::reading::{
     array, flag, lower, natural, natural_if_there, natural_or_absent, needed_object,
@@ -13,6 +18,26 @@ use crate::reading::{
 use crate::request::Request;
 use bumpalo::Bump;
 use mi_value::limits::{MAX_RESERVED_CHANGES, MAX_RESERVED_SESSIONS};
+
+/// The members of a command over a key of an index.
+#[derive(Drop)]
+struct KeyMembers<'a> {
+    table: Option<Name<'a>>,
+    index: Name<'a>,
+    key: Array<'a>,
+}
+
+/// Its members of the names `table`, `index` and `key`.
+fn key_members<'a>(object: Object<'a>) -> Option<KeyMembers<'a>>
+    ensures { (make : Option (List ℕ) → List ℕ → Items → Asked) → option_map (λ m. make m.table m.index m.key) result
+        ≡ option_map₃ make (table_in object.entry) (index_in object.entry) (key_in object.entry) }
+{
+    let mut object = object;
+    let table = text_if_there(&object, "table")?;
+    let index = text(&object, "index")?;
+    let key = array(object.move_out("key"))?;
+    Some(KeyMembers { table, index, key })
+}
 
 fn insert_request<'a>(object: Object<'a>) -> Option<Request<'a>>
     ensures { result ≡ (form_of name.Insert).request object.entry }
@@ -64,10 +89,7 @@ fn erase_request<'a>(object: &Object<'a>) -> Option<Request<'a>>
 fn erase_key_request<'a>(object: Object<'a>) -> Option<Request<'a>>
     ensures { result ≡ (form_of name.EraseKey).request object.entry }
 {
-    let mut object = object;
-    let table = text_if_there(&object, "table")?;
-    let index = text(&object, "index")?;
-    let key = array(object.move_out("key"))?;
+    let KeyMembers { table, index, key } = key_members(object)?;
     Some(Request::EraseKey { table, index, key })
 }
 
@@ -112,10 +134,7 @@ fn get_request<'a>(object: &Object<'a>) -> Option<Request<'a>>
 fn find_request<'a>(object: Object<'a>) -> Option<Request<'a>>
     ensures { result ≡ (form_of name.Find).request object.entry }
 {
-    let mut object = object;
-    let table = text_if_there(&object, "table")?;
-    let index = text(&object, "index")?;
-    let key = array(object.move_out("key"))?;
+    let KeyMembers { table, index, key } = key_members(object)?;
     Some(Request::Find { table, index, key })
 }
 
@@ -131,10 +150,7 @@ fn nth_request<'a>(object: &Object<'a>) -> Option<Request<'a>>
 fn count_request<'a>(object: Object<'a>) -> Option<Request<'a>>
     ensures { result ≡ (form_of name.Count).request object.entry }
 {
-    let mut object = object;
-    let table = text_if_there(&object, "table")?;
-    let index = text(&object, "index")?;
-    let key = array(object.move_out("key"))?;
+    let KeyMembers { table, index, key } = key_members(object)?;
     Some(Request::Count { table, index, key })
 }
 
@@ -187,20 +203,14 @@ fn rank_request<'a>(object: &Object<'a>) -> Option<Request<'a>>
 fn lower_rank_request<'a>(object: Object<'a>) -> Option<Request<'a>>
     ensures { result ≡ (form_of name.LowerRank).request object.entry }
 {
-    let mut object = object;
-    let table = text_if_there(&object, "table")?;
-    let index = text(&object, "index")?;
-    let key = array(object.move_out("key"))?;
+    let KeyMembers { table, index, key } = key_members(object)?;
     Some(Request::LowerRank { table, index, key })
 }
 
 fn upper_rank_request<'a>(object: Object<'a>) -> Option<Request<'a>>
     ensures { result ≡ (form_of name.UpperRank).request object.entry }
 {
-    let mut object = object;
-    let table = text_if_there(&object, "table")?;
-    let index = text(&object, "index")?;
-    let key = array(object.move_out("key"))?;
+    let KeyMembers { table, index, key } = key_members(object)?;
     Some(Request::UpperRank { table, index, key })
 }
 

@@ -33,14 +33,24 @@ impl<'a> Model for Object<'a> {
 fn is_named(names: &[&str], name: &str) -> bool
     ensures { result ≡ list_any (λ n. bytes_eq name.now n.now) names.now }
 {
-    names.iter().any(|n| name == *n)
+    'names: for n in names {
+        if name == *n {
+            return true;
+        }
+    }
+    false
 }
 
 /// Whether each member has one of these names.
 fn are_named(names: &[&str], members: &[(&str, Tree<'_>)]) -> bool
     ensures { result ≡ list_all (λ m. list_any (λ n. bytes_eq m.0.now n.now) names.now) members.now }
 {
-    members.iter().all(|m| is_named(names, m.0))
+    'members: for member in members {
+        if !is_named(names, member.0) {
+            return false;
+        }
+    }
+    true
 }
 
 /// Where the last member of this name stands.
