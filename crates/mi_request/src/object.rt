@@ -107,15 +107,18 @@ impl<'a> Object<'a> {
         Some(Json::new(taken(self.members.as_mut_slice(), at)))
     }
 
-    /// The values of the members of two names, moved out.
-    pub(crate) fn into_two(self, first: &str, second: &str) -> (Option<Json<'a>>, Option<Json<'a>>)
+    /// Moves the values of the members of two names out. Null stands in their places.
+    pub(crate) fn move_two_out(
+        &mut self,
+        first: &str,
+        second: &str,
+    ) -> (Option<Json<'a>>, Option<Json<'a>>)
         requires { bytes_eq second.now first.now ≡ false }
-        ensures first { result.0 ≡ get_member first.now self.entry }
-        ensures second { result.1 ≡ get_member second.now self.entry }
+        ensures first { result.0 ≡ get_member first.now self.old }
+        ensures second { result.1 ≡ get_member second.now self.old }
     {
-        let mut left = self;
-        let value = left.move_out(first);
-        (value, left.move_out(second))
+        let value = self.move_out(first);
+        (value, self.move_out(second))
     }
 
     /// Whether no member has another name than these.
