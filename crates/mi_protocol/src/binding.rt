@@ -20,7 +20,7 @@ use std::alloc::Global;
 
 /// A command that fits a catalog: tables, indexes and columns by number, a row as a record. An insert's `before` is a
 /// sequenced index and the id of the record before which it stands.
-#[derive(Debug, Drop)]
+#[derive(Drop)]
 pub enum Command {
     Insert {
         table: usize,

@@ -10,14 +10,24 @@ use mi_request::{Object, Tree};
 fn is_column(columns: &[Column], name: &str) -> bool
     ensures { result ≡ list_any (λ c. bytes_eq name.now c.name) columns.now }
 {
-    columns.iter().any(|c| name == c.name.as_str())
+    'columns: for column in columns {
+        if name == column.name.as_str() {
+            return true;
+        }
+    }
+    false
 }
 
 /// Whether each member has the name of one of these columns.
 fn are_columns(columns: &[Column], members: &[(&str, Tree<'_>)]) -> bool
     ensures { result ≡ list_all (λ m. list_any (λ c. bytes_eq m.0.now c.name) columns.now) members.now }
 {
-    members.iter().all(|m| is_column(columns, m.0))
+    'members: for member in members {
+        if !is_column(columns, member.0) {
+            return false;
+        }
+    }
+    true
 }
 
 /// Whether no member has another name than these columns.

@@ -17,7 +17,7 @@ use std::alloc::Global;
 
 /// What a command is answered. `table` is the number of the table that the command is over; of a refusal it matters for a
 /// conflict alone.
-#[derive(Debug, Drop)]
+#[derive(Drop)]
 pub enum Reply<'a> {
     /// The id of the record that an insert added.
     Inserted(u64),

@@ -219,7 +219,12 @@ pub(crate) fn row_text(
 fn are_whole(rows: &[(u64, &Record)], columns: &[Column]) -> bool
     ensures { result ≡ list_all (λ r. nat_le (length columns.now) (length r.1.now)) rows.now }
 {
-    rows.iter().all(|row| row.1.column_count() >= columns.len())
+    'rows: for row in rows {
+        if row.1.column_count() < columns.len() {
+            return false;
+        }
+    }
+    true
 }
 
 /// Writes rows as an array.

@@ -3,7 +3,7 @@ ghost use Rattle.std.specs.Prelude.{◌≡◌, ◌∷◌, map, codes};
 ghost use Rattle.mi_request.specs.Commands.{look_up_named, step_named, command_named, form_of};
 
 /// The commands.
-#[derive(Clone, Copy, Debug, PartialEq, Eq)]
+#[derive(Clone, Copy)]
 pub(crate) enum CommandName {
     Insert,
     Replace,
@@ -36,30 +36,19 @@ pub(crate) enum CommandName {
 fn look_up_of(text: &str) -> Option<CommandName>
     ensures { result ≡ look_up_named text.now }
 {
-    if text == "revision" {
-        Some(CommandName::Revision)
-    } else if text == "get" {
-        Some(CommandName::Get)
-    } else if text == "find" {
-        Some(CommandName::Find)
-    } else if text == "nth" {
-        Some(CommandName::Nth)
-    } else if text == "count" {
-        Some(CommandName::Count)
-    } else if text == "range" {
-        Some(CommandName::Range)
-    } else if text == "list" {
-        Some(CommandName::List)
-    } else if text == "rank" {
-        Some(CommandName::Rank)
-    } else if text == "lower_rank" {
-        Some(CommandName::LowerRank)
-    } else if text == "upper_rank" {
-        Some(CommandName::UpperRank)
-    } else if text == "size" {
-        Some(CommandName::Size)
-    } else {
-        None
+    match text {
+        "revision" => Some(CommandName::Revision),
+        "get" => Some(CommandName::Get),
+        "find" => Some(CommandName::Find),
+        "nth" => Some(CommandName::Nth),
+        "count" => Some(CommandName::Count),
+        "range" => Some(CommandName::Range),
+        "list" => Some(CommandName::List),
+        "rank" => Some(CommandName::Rank),
+        "lower_rank" => Some(CommandName::LowerRank),
+        "upper_rank" => Some(CommandName::UpperRank),
+        "size" => Some(CommandName::Size),
+        _ => None,
     }
 }
 
@@ -68,22 +57,15 @@ fn look_up_of(text: &str) -> Option<CommandName>
 fn step_of(text: &str) -> Option<CommandName>
     ensures { result ≡ step_named text.now }
 {
-    if text == "start" {
-        Some(CommandName::Start)
-    } else if text == "undo" {
-        Some(CommandName::Undo)
-    } else if text == "squash" {
-        Some(CommandName::Squash)
-    } else if text == "commit" {
-        Some(CommandName::Commit)
-    } else if text == "undo_all" {
-        Some(CommandName::UndoAll)
-    } else if text == "push" {
-        Some(CommandName::Push)
-    } else if text == "reserve" {
-        Some(CommandName::Reserve)
-    } else {
-        look_up_of(text)
+    match text {
+        "start" => Some(CommandName::Start),
+        "undo" => Some(CommandName::Undo),
+        "squash" => Some(CommandName::Squash),
+        "commit" => Some(CommandName::Commit),
+        "undo_all" => Some(CommandName::UndoAll),
+        "push" => Some(CommandName::Push),
+        "reserve" => Some(CommandName::Reserve),
+        _ => look_up_of(text),
     }
 }
 
@@ -92,20 +74,14 @@ impl CommandName {
     pub(crate) fn of(text: &str) -> Option<CommandName>
         ensures { result ≡ command_named text.now }
     {
-        if text == "insert" {
-            Some(CommandName::Insert)
-        } else if text == "replace" {
-            Some(CommandName::Replace)
-        } else if text == "modify" {
-            Some(CommandName::Modify)
-        } else if text == "erase" {
-            Some(CommandName::Erase)
-        } else if text == "erase_key" {
-            Some(CommandName::EraseKey)
-        } else if text == "relocate" {
-            Some(CommandName::Relocate)
-        } else {
-            step_of(text)
+        match text {
+            "insert" => Some(CommandName::Insert),
+            "replace" => Some(CommandName::Replace),
+            "modify" => Some(CommandName::Modify),
+            "erase" => Some(CommandName::Erase),
+            "erase_key" => Some(CommandName::EraseKey),
+            "relocate" => Some(CommandName::Relocate),
+            _ => step_of(text),
         }
     }
 

@@ -1,46 +1,102 @@
 //! The request that each command's members are. It knows the table of commands and no catalog.
-ghost use Rattle.std.specs.Prelude.{◌≡◌};
-ghost use Rattle.mi_request.specs.Commands.{form_of};
+ghost use Rattle.std.specs.Prelude.{◌≡◌, ℕ, Bool, false, List, Option, option_map, codes};
+ghost use Rattle.serde_json.specs.Data.{Items};
+ghost use Rattle.serde_json.specs.Find.{as_bool};
+ghost use Rattle.mi_request.specs.Commands.{form_of, table_in, index_in, key_in, limit_in, lower_end, upper_end};
+ghost use Rattle.mi_request.specs.Json.{default, option_map₃, option_map₄};
 ghost use Rattle.mi_request.specs.Lines as lines;
+ghost use Rattle.mi_request.specs.declared.request.End.{End as EndSpec};
+ghost use Rattle.mi_request.specs.declared.request.End.TheVariants.{Open};
+ghost use Rattle.mi_request.specs.declared.request.Request.{Request as Asked};
 ghost use Rattle.mi_request.specs.declared.command.CommandName.TheVariants as name;
 
+use crate::array::Array;
 use crate::command::CommandName;
+use crate::name::Name;
 use crate::object::Object;
 use crate::reading::{
     array, flag, lower, natural, natural_if_there, natural_or_absent, needed_object,
     object_or_empty, page, place, text, text_if_there, up_to, upper,
 };
-use crate::request::Request;
+use crate::request::{End, Request};
 use bumpalo::Bump;
 use mi_value::limits::{MAX_RESERVED_CHANGES, MAX_RESERVED_SESSIONS};
 
-fn insert_request<'a>(object: Object<'a>) -> Option<Request<'a>>
-    ensures { result ≡ (form_of name.Insert).request object.entry }
+/// The members of a command over a key of an index.
+#[derive(Drop)]
+struct KeyMembers<'a> {
+    table: Option<Name<'a>>,
+    index: Name<'a>,
+    key: Array<'a>,
+}
+
+/// Its members of the names `table`, `index` and `key`.
+fn key_members<'a>(object: &mut Object<'a>) -> Option<KeyMembers<'a>>
+    ensures { (make : Option (List ℕ) → List ℕ → Items → Asked) → option_map (λ m. make m.table m.index m.key) result
+        ≡ option_map₃ make (table_in object.old) (index_in object.old) (key_in object.old) }
 {
-    let table = text_if_there(&object, "table")?;
-    let (row, before) = object.into_two("row", "before");
+    let table = text_if_there(object, "table")?;
+    let index = text(object, "index")?;
+    let key = array(object.move_out("key"))?;
+    Some(KeyMembers { table, index, key })
+}
+
+/// The members that a range alone has.
+#[derive(Drop)]
+struct RangeMembers<'a> {
+    lower: End<'a>,
+    upper: End<'a>,
+    reverse: bool,
+    limit: usize,
+}
+
+/// Its members of the names `lower`, `upper`, `reverse` and `limit`.
+fn range_members<'a>(object: &mut Object<'a>) -> Option<RangeMembers<'a>>
+    ensures { (make : EndSpec → EndSpec → Bool → ℕ → Asked) → option_map (λ m. make m.lower m.upper m.reverse m.limit) result
+        ≡ option_map₄ make (default Open lower_end (codes "lower") object.old) (default Open upper_end (codes "upper") object.old)
+        (default false as_bool (codes "reverse") object.old) (limit_in object.old) }
+{
+    let reverse = flag(object, "reverse");
+    let limit = page(object, "limit");
+    let (lower_member, upper_member) = object.move_two_out("lower", "upper");
+    let lower = lower(lower_member)?;
+    let upper = upper(upper_member)?;
+    let reverse = reverse?;
+    let limit = limit?;
+    Some(RangeMembers {
+        lower,
+        upper,
+        reverse,
+        limit,
+    })
+}
+
+fn insert_request<'a>(object: &mut Object<'a>) -> Option<Request<'a>>
+    ensures { result ≡ (form_of name.Insert).request object.old }
+{
+    let table = text_if_there(object, "table")?;
+    let (row, before) = object.move_two_out("row", "before");
     let row = needed_object(row)?;
     let before = place(before)?;
     Some(Request::Insert { table, row, before })
 }
 
-fn replace_request<'a>(object: Object<'a>) -> Option<Request<'a>>
-    ensures { result ≡ (form_of name.Replace).request object.entry }
+fn replace_request<'a>(object: &mut Object<'a>) -> Option<Request<'a>>
+    ensures { result ≡ (form_of name.Replace).request object.old }
 {
-    let mut object = object;
-    let table = text_if_there(&object, "table")?;
-    let id = natural(&object, "id")?;
+    let table = text_if_there(object, "table")?;
+    let id = natural(object, "id")?;
     let row = needed_object(object.move_out("row"))?;
     Some(Request::Replace { table, id, row })
 }
 
-fn modify_request<'a>(arena: &'a Bump, object: Object<'a>) -> Option<Request<'a>>
-    ensures { result ≡ (form_of name.Modify).request object.entry }
+fn modify_request<'a>(arena: &'a Bump, object: &mut Object<'a>) -> Option<Request<'a>>
+    ensures { result ≡ (form_of name.Modify).request object.old }
 {
-    let table = text_if_there(&object, "table")?;
-    let id = natural(&object, "id")?;
-    let rollback = flag(&object, "rollback");
-    let (set, add) = object.into_two("set", "add");
+    let table = text_if_there(object, "table")?;
+    let id = natural(object, "id")?;
+    let rollback = flag(object, "rollback");
+    let (set, add) = object.move_two_out("set", "add");
     let set = object_or_empty(arena, set)?;
     let add = object_or_empty(arena, add)?;
     let rollback = rollback?;
@@ -61,13 +117,10 @@ fn erase_request<'a>(object: &Object<'a>) -> Option<Request<'a>>
     Some(Request::Erase { table, id })
 }
 
-fn erase_key_request<'a>(object: Object<'a>) -> Option<Request<'a>>
-    ensures { result ≡ (form_of name.EraseKey).request object.entry }
+fn erase_key_request<'a>(object: &mut Object<'a>) -> Option<Request<'a>>
+    ensures { result ≡ (form_of name.EraseKey).request object.old }
 {
-    let mut object = object;
-    let table = text_if_there(&object, "table")?;
-    let index = text(&object, "index")?;
-    let key = array(object.move_out("key"))?;
+    let KeyMembers { table, index, key } = key_members(object)?;
     Some(Request::EraseKey { table, index, key })
 }
 
@@ -109,13 +162,10 @@ fn get_request<'a>(object: &Object<'a>) -> Option<Request<'a>>
     Some(Request::Get { table, id })
 }
 
-fn find_request<'a>(object: Object<'a>) -> Option<Request<'a>>
-    ensures { result ≡ (form_of name.Find).request object.entry }
+fn find_request<'a>(object: &mut Object<'a>) -> Option<Request<'a>>
+    ensures { result ≡ (form_of name.Find).request object.old }
 {
-    let mut object = object;
-    let table = text_if_there(&object, "table")?;
-    let index = text(&object, "index")?;
-    let key = array(object.move_out("key"))?;
+    let KeyMembers { table, index, key } = key_members(object)?;
     Some(Request::Find { table, index, key })
 }
 
@@ -128,28 +178,24 @@ fn nth_request<'a>(object: &Object<'a>) -> Option<Request<'a>>
     Some(Request::Nth { table, index, n })
 }
 
-fn count_request<'a>(object: Object<'a>) -> Option<Request<'a>>
-    ensures { result ≡ (form_of name.Count).request object.entry }
+fn count_request<'a>(object: &mut Object<'a>) -> Option<Request<'a>>
+    ensures { result ≡ (form_of name.Count).request object.old }
 {
-    let mut object = object;
-    let table = text_if_there(&object, "table")?;
-    let index = text(&object, "index")?;
-    let key = array(object.move_out("key"))?;
+    let KeyMembers { table, index, key } = key_members(object)?;
     Some(Request::Count { table, index, key })
 }
 
-fn range_request<'a>(object: Object<'a>) -> Option<Request<'a>>
-    ensures { result ≡ (form_of name.Range).request object.entry }
+fn range_request<'a>(object: &mut Object<'a>) -> Option<Request<'a>>
+    ensures { result ≡ (form_of name.Range).request object.old }
 {
-    let table = text_if_there(&object, "table")?;
-    let index = text(&object, "index")?;
-    let reverse = flag(&object, "reverse");
-    let limit = page(&object, "limit");
-    let (lower_member, upper_member) = object.into_two("lower", "upper");
-    let lower = lower(lower_member)?;
-    let upper = upper(upper_member)?;
-    let reverse = reverse?;
-    let limit = limit?;
+    let table = text_if_there(object, "table")?;
+    let index = text(object, "index")?;
+    let RangeMembers {
+        lower,
+        upper,
+        reverse,
+        limit,
+    } = range_members(object)?;
     Some(Request::Range {
         table,
         index,
@@ -184,23 +230,17 @@ fn rank_request<'a>(object: &Object<'a>) -> Option<Request<'a>>
     Some(Request::Rank { table, index, id })
 }
 
-fn lower_rank_request<'a>(object: Object<'a>) -> Option<Request<'a>>
-    ensures { result ≡ (form_of name.LowerRank).request object.entry }
+fn lower_rank_request<'a>(object: &mut Object<'a>) -> Option<Request<'a>>
+    ensures { result ≡ (form_of name.LowerRank).request object.old }
 {
-    let mut object = object;
-    let table = text_if_there(&object, "table")?;
-    let index = text(&object, "index")?;
-    let key = array(object.move_out("key"))?;
+    let KeyMembers { table, index, key } = key_members(object)?;
     Some(Request::LowerRank { table, index, key })
 }
 
-fn upper_rank_request<'a>(object: Object<'a>) -> Option<Request<'a>>
-    ensures { result ≡ (form_of name.UpperRank).request object.entry }
+fn upper_rank_request<'a>(object: &mut Object<'a>) -> Option<Request<'a>>
+    ensures { result ≡ (form_of name.UpperRank).request object.old }
 {
-    let mut object = object;
-    let table = text_if_there(&object, "table")?;
-    let index = text(&object, "index")?;
-    let key = array(object.move_out("key"))?;
+    let KeyMembers { table, index, key } = key_members(object)?;
     Some(Request::UpperRank { table, index, key })
 }
 
@@ -215,9 +255,9 @@ fn size_request<'a>(object: &Object<'a>) -> Option<Request<'a>>
 pub(crate) fn request_by<'a>(
     arena: &'a Bump,
     name: CommandName,
-    object: Object<'a>,
+    object: &mut Object<'a>,
 ) -> Option<Request<'a>>
-    ensures { result ≡ lines.request_by object.entry (form_of name) }
+    ensures { result ≡ lines.request_by object.old (form_of name) }
 {
     if !object.has_only(name.members()) {
         return None;
@@ -226,26 +266,26 @@ pub(crate) fn request_by<'a>(
         CommandName::Insert => insert_request(object),
         CommandName::Replace => replace_request(object),
         CommandName::Modify => modify_request(arena, object),
-        CommandName::Erase => erase_request(&object),
+        CommandName::Erase => erase_request(object),
         CommandName::EraseKey => erase_key_request(object),
-        CommandName::Relocate => relocate_request(&object),
+        CommandName::Relocate => relocate_request(object),
         CommandName::Start => Some(Request::Start),
         CommandName::Undo => Some(Request::Undo),
         CommandName::Squash => Some(Request::Squash),
-        CommandName::Commit => commit_request(&object),
+        CommandName::Commit => commit_request(object),
         CommandName::UndoAll => Some(Request::UndoAll),
         CommandName::Push => Some(Request::Push),
-        CommandName::Reserve => reserve_request(&object),
+        CommandName::Reserve => reserve_request(object),
         CommandName::Revision => Some(Request::Revision),
-        CommandName::Get => get_request(&object),
+        CommandName::Get => get_request(object),
         CommandName::Find => find_request(object),
-        CommandName::Nth => nth_request(&object),
+        CommandName::Nth => nth_request(object),
         CommandName::Count => count_request(object),
         CommandName::Range => range_request(object),
-        CommandName::List => list_request(&object),
-        CommandName::Rank => rank_request(&object),
+        CommandName::List => list_request(object),
+        CommandName::Rank => rank_request(object),
         CommandName::LowerRank => lower_rank_request(object),
         CommandName::UpperRank => upper_rank_request(object),
-        CommandName::Size => size_request(&object),
+        CommandName::Size => size_request(object),
     }
 }

@@ -33,14 +33,24 @@ impl<'a> Model for Object<'a> {
 fn is_named(names: &[&str], name: &str) -> bool
     ensures { result ≡ list_any (λ n. bytes_eq name.now n.now) names.now }
 {
-    names.iter().any(|n| name == *n)
+    'names: for n in names {
+        if name == *n {
+            return true;
+        }
+    }
+    false
 }
 
 /// Whether each member has one of these names.
 fn are_named(names: &[&str], members: &[(&str, Tree<'_>)]) -> bool
     ensures { result ≡ list_all (λ m. list_any (λ n. bytes_eq m.0.now n.now) names.now) members.now }
 {
-    members.iter().all(|m| is_named(names, m.0))
+    'members: for member in members {
+        if !is_named(names, member.0) {
+            return false;
+        }
+    }
+    true
 }
 
 /// Where the last member of this name stands.
@@ -97,15 +107,18 @@ impl<'a> Object<'a> {
         Some(Json::new(taken(self.members.as_mut_slice(), at)))
     }
 
-    /// The values of the members of two names, moved out.
-    pub(crate) fn into_two(self, first: &str, second: &str) -> (Option<Json<'a>>, Option<Json<'a>>)
+    /// Moves the values of the members of two names out. Null stands in their places.
+    pub(crate) fn move_two_out(
+        &mut self,
+        first: &str,
+        second: &str,
+    ) -> (Option<Json<'a>>, Option<Json<'a>>)
         requires { bytes_eq second.now first.now ≡ false }
-        ensures first { result.0 ≡ get_member first.now self.entry }
-        ensures second { result.1 ≡ get_member second.now self.entry }
+        ensures first { result.0 ≡ get_member first.now self.old }
+        ensures second { result.1 ≡ get_member second.now self.old }
     {
-        let mut left = self;
-        let value = left.move_out(first);
-        (value, left.move_out(second))
+        let value = self.move_out(first);
+        (value, self.move_out(second))
     }
 
     /// Whether no member has another name than these.

@@ -203,22 +203,22 @@ fn one_end<'a>(with: Option<Json<'a>>, without: Option<Json<'a>>) -> Option<End<
 fn lower_end<'a>(value: Json<'a>) -> Option<End<'a>>
     ensures { result ≡ commands.lower_end value.entry }
 {
-    let object = value.into_object()?;
+    let mut object = value.into_object()?;
     if !object.has_only(&["ge", "gt"]) {
         return None;
     }
-    let (with, without) = object.into_two("ge", "gt");
+    let (with, without) = object.move_two_out("ge", "gt");
     one_end(with, without)
 }
 
 fn upper_end<'a>(value: Json<'a>) -> Option<End<'a>>
     ensures { result ≡ commands.upper_end value.entry }
 {
-    let object = value.into_object()?;
+    let mut object = value.into_object()?;
     if !object.has_only(&["le", "lt"]) {
         return None;
     }
-    let (with, without) = object.into_two("le", "lt");
+    let (with, without) = object.move_two_out("le", "lt");
     one_end(with, without)
 }
 

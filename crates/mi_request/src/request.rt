@@ -15,14 +15,14 @@ use crate::value::Json;
 use bumpalo::Bump;
 
 /// A place in a sequenced index, by its name: directly before the record of this id, 0 to 2^63 - 1.
-#[derive(Debug, Drop)]
+#[derive(Drop)]
 pub struct Place<'a> {
     pub index: Name<'a>,
     pub id: u64,
 }
 
 /// An end of a range: none, a key that is in it, or a key that isn't.
-#[derive(Debug, Drop)]
+#[derive(Drop)]
 pub enum End<'a> {
     Open,
     With(Array<'a>),
@@ -31,7 +31,7 @@ pub enum End<'a> {
 
 /// A command as it is asked, whatever the catalog: names as they were written, ids 0 to 2^63 - 1. An absent `table` is the
 /// first.
-#[derive(Debug, Drop)]
+#[derive(Drop)]
 pub enum Request<'a> {
     Insert {
         table: Option<Name<'a>>,
@@ -182,7 +182,7 @@ fn name_in(object: &Object<'_>) -> Option<CommandName>
 pub(crate) fn request_of<'a>(arena: &'a Bump, value: Json<'a>) -> Option<Request<'a>>
     ensures { result ≡ lines.request_of value.entry }
 {
-    let object = value.into_object()?;
+    let mut object = value.into_object()?;
     let name = name_in(&object)?;
-    request_by(arena, name, object)
+    request_by(arena, name, &mut object)
 }

@@ -36,23 +36,30 @@ fn number_behind(front: &[u8], line: &[u8]) -> Option<u64>
     natural_text(text)
 }
 
+/// Whether a line is this text.
+fn is_text(line: &[u8], text: &[u8]) -> bool
+    ensures { result ≡ bytes_eq line.now text.now }
+{
+    line == text
+}
+
 /// The request without members that a line is.
 fn bare_request<'a>(line: &[u8]) -> Option<Request<'a>>
     ensures value { result ≡ bare_line line.now }
 {
-    if line == b"{\"cmd\":\"undo\"}".as_slice() {
+    if is_text(line, b"{\"cmd\":\"undo\"}") {
         Some(Request::Undo)
-    } else if line == b"{\"cmd\":\"start\"}".as_slice() {
+    } else if is_text(line, b"{\"cmd\":\"start\"}") {
         Some(Request::Start)
-    } else if line == b"{\"cmd\":\"squash\"}".as_slice() {
+    } else if is_text(line, b"{\"cmd\":\"squash\"}") {
         Some(Request::Squash)
-    } else if line == b"{\"cmd\":\"undo_all\"}".as_slice() {
+    } else if is_text(line, b"{\"cmd\":\"undo_all\"}") {
         Some(Request::UndoAll)
-    } else if line == b"{\"cmd\":\"push\"}".as_slice() {
+    } else if is_text(line, b"{\"cmd\":\"push\"}") {
         Some(Request::Push)
-    } else if line == b"{\"cmd\":\"revision\"}".as_slice() {
+    } else if is_text(line, b"{\"cmd\":\"revision\"}") {
         Some(Request::Revision)
-    } else if line == b"{\"cmd\":\"size\"}".as_slice() {
+    } else if is_text(line, b"{\"cmd\":\"size\"}") {
         Some(Request::Size { table: None })
     } else {
         None
