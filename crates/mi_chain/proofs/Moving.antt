@@ -1,6 +1,6 @@
 -- Groups move from old buckets to new ones.
 use Rattle.std.proofs.Common.{◌≡◌, ℕ, ◌==◌, ◌<◌, ◌%◌, ◌+◌, Bool, true, false, not, cond, List, [], ◌∷◌, length, slice_index_or}
-use Rattle.std.proofs.Common.{slice_set, vec_len, replicate, Vec, Global, Option, Some, None, refl, sym, ap, ◌∙◌, subst, arith, rules}
+use Rattle.std.proofs.Common.{slice_set, vec_len, replicate, Vec, Global, Option, Some, None, refl, sym, ap, ◌∙◌, subst, arith}
 use Rattle.std.specs.List.{filter}
 use Rattle.std.specs.Int.{IsPowerOfTwo}
 use Rattle.std.proofs.Math.Nat.{mod-lt}
@@ -413,7 +413,7 @@ module _ {T H : Type 0} (k : Keying T) (w : IsLawful k) where
     room_there = let p = P in mod-lt (hash_node k m first) p.many
 
     count_is : vec_len c.buckets ≡ length c.buckets.items
-    count_is = search rules
+    count_is = c.buckets.ok.0
 
     em' : m2 ≡ with_forth_if m c.slot (last_of None
         (G R (alike k m w) (stamp_at m c.slot) (hash_node k m) (same_hash k m w) m c.slot c.buckets.items (vec_len c.buckets) heads n rs q.0 P i lt first at))

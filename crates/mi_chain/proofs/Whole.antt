@@ -1,6 +1,6 @@
 -- The same by keys and pools: what the calls of the chains cite.
 use Rattle.std.proofs.Common.{◌≡◌, ℕ, ◌+◌, ◌-◌, ◌==◌, ◌<◌, ◌≤◌, ◌%◌, ◌^◌, ◌⊎◌, inl, inr, Bool, true, false, not, cond, List, [], ◌∷◌, ◌++◌}
-use Rattle.std.proofs.Common.{length, slice_index_or, vec_len, Option, Some, None, refl, sym, ap, ◌∙◌, subst, arith, rules, length-append}
+use Rattle.std.proofs.Common.{length, slice_index_or, vec_len, Option, Some, None, refl, sym, ap, ◌∙◌, subst, arith, length-append}
 use Rattle.std.specs.List.{filter}
 use Rattle.std.specs.Int.{IsPowerOfTwo}
 use Rattle.std.specs.Option.{option_or}
@@ -140,7 +140,7 @@ module _ {T H : Type 0} (c : Chains H) (k : Keying T) (w : IsLawful k) (m : Pool
   heads = c.buckets.items
 
   count_is : n ≡ length heads
-  count_is = search rules
+  count_is = c.buckets.ok.0
 
   pub here : (rs : List Ref) (x : ℕ) → AreChained c k m rs → x % n < n
   here rs x h = let b = h.buckets in mod-lt x b.some

@@ -17,7 +17,7 @@ more_cmp : (k l : ℕ) → l < k → nat_cmp k l ≡ Greater
 more_cmp k l h = grind (arith, nat_tests)
 
 module _ {T : Type 0} (order : T → T → Ordering) (tag : T → ℕ) where
-  at_values : (a b : Option T) (x y : T) (i j : ℕ) → a ≡ Some x → b ≡ Some y
+  pub at_values : (a b : Option T) (x y : T) (i j : ℕ) → a ≡ Some x → b ≡ Some y
       → compared (by_stamp order) (stamped a i) (stamped b j) ≡ by_stamp order (x, i) (y, j)
   at_values a b x y i j e f = λ t. compared (by_stamp order) (stamped (e t) i) (stamped (f t) j)
 

@@ -1,4 +1,4 @@
-use Rattle.std.proofs.Common.{◌+◌, ◌-◌, ◌<◌, ◌≤◌, ◌^◌, refl, sym, ap, ◌∙◌, subst, arith, rules}
+use Rattle.std.proofs.Common.{◌+◌, ◌-◌, ◌<◌, ◌≤◌, ◌^◌, refl, sym, ap, ◌∙◌, subst, arith}
 use Rattle.mi_node.specs.Pool.{Pooled, link_of, value_of, IsHeld, IsHeldIf}
 use Rattle.mi_node.specs.declared.link.Link.{Link}
 use Rattle.mi_tree.specs.Shape.{size_at, height_at}
@@ -101,7 +101,8 @@ overflow_add-result g c =
     let size = c.size.ensures.size ∙ ap (λ (z : Pooled g.row.T.Denot). size_at z s y.back) read in
     let most = rank_fits_here m s ord tag v.node v.root at r y n v.p.now.reads c.loop-at.p.reads
     v.steps.now.count c.loop-at.steps.count h c.in-Some.is i total (is ∙ c.in-Equal.is) in
-    let fits : n + c.size.result < 2 ^ 32 = omega arith in search rules
+    let fits : n + c.size.result < 2 ^ 32 = omega arith in
+    record { fits = fits }
 
 pub returns-in-Equal-clause-rank : goal.returns-in-Equal-clause-rank
 returns-in-Equal-clause-rank g c t xs ys h0 up q =
@@ -200,7 +201,8 @@ overflow_add-before g c =
     let size = c.size-in-Greater.ensures.size ∙ ap (λ (z : Pooled g.row.T.Denot). size_at z s y.forth) read in
     let most = rank_fits_right m s ord tag v.node v.root at r y n v.p.now.reads c.loop-at.p.reads
     v.steps.now.count c.loop-at.steps.count h c.in-Some.is i total (is ∙ c.in-Greater.is) in
-    let fits : n + (y.size - c.size-in-Greater.result) < 2 ^ 32 = subst (λ k. n + (y.size - k) < 2 ^ 32) (sym size) most in search rules
+    let fits : n + (y.size - c.size-in-Greater.result) < 2 ^ 32 = subst (λ k. n + (y.size - k) < 2 ^ 32) (sym size) most in
+    record { fits = fits }
 
 pub loop-at-smaller : goal.loop-at-smaller
 loop-at-smaller g c =

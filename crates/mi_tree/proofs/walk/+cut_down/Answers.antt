@@ -1,4 +1,4 @@
-use Rattle.std.proofs.Common.{◌≡◌, ℕ, suc, ◌+◌, ◌-◌, ◌<◌, ◌≤◌, cond, not, List, [], ◌∷◌, ◌++◌, length, Option, Some, sym, ap, ◌∙◌, subst, arith, rules}
+use Rattle.std.proofs.Common.{◌≡◌, ℕ, suc, ◌+◌, ◌-◌, ◌<◌, ◌≤◌, cond, not, List, [], ◌∷◌, ◌++◌, length, Option, Some, sym, ap, ◌∙◌, subst, arith}
 use Rattle.mi_node.specs.Pool.{Pooled}
 use Rattle.mi_node.specs.Refs.{Ref}
 use Rattle.mi_tree.specs.Shape.{Shape, nodes, size, size_at, height_at}
@@ -35,7 +35,8 @@ cut_down-requires g t c κs within =
     let falls : height_at c.size-before.new.p.pool s y.back < height_at m s v.at =
     subst (λ (z : Pooled g.row.T.Denot × Option Ref). height_at z.0 s y.back < height_at m s z.1)
     (λ i. (sym here i, sym c.in-Some.is i)) (enters_lower m s w.0 items items r y w.1 w.2 d o).0 in
-    let slots : s < c.size-before.new.p.pool.slots = subst (λ (z : Pooled g.row.T.Denot). s < z.slots) (sym here) c.requires.slot in search rules
+    let slots : s < c.size-before.new.p.pool.slots = subst (λ (z : Pooled g.row.T.Denot). s < z.slots) (sym here) c.requires.slot in
+    (omega (arith, c.decreases, falls), (within, (slots, way)))
 
 pub cut_down-requires-else-passed-before : goal.cut_down-requires-else-passed-before
 cut_down-requires-else-passed-before g t c κs within =
@@ -53,7 +54,8 @@ cut_down-requires-else-passed-before g t c κs within =
     let falls : height_at c.size-before.new.p.pool s y.forth < height_at m s v.at =
     subst (λ (z : Pooled g.row.T.Denot × Option Ref). height_at z.0 s y.forth < height_at m s z.1)
     (λ i. (sym here i, sym c.in-Some.is i)) (enters_lower m s w.0 items items r y w.1 w.2 d o).1 in
-    let slots : s < c.size-before.new.p.pool.slots = subst (λ (z : Pooled g.row.T.Denot). s < z.slots) (sym here) c.requires.slot in search rules
+    let slots : s < c.size-before.new.p.pool.slots = subst (λ (z : Pooled g.row.T.Denot). s < z.slots) (sym here) c.requires.slot in
+    (omega (arith, c.decreases, falls), (within, (slots, way)))
 
 pub returns-then-passed-before-clause-way : goal.returns-then-passed-before-clause-way
 returns-then-passed-before-clause-way g t c levels xs u h =

@@ -1,4 +1,4 @@
-use Rattle.std.proofs.Common.{◌≡◌, ℕ, ◌<◌, cond, not, List, [], ◌∷◌, ◌++◌, Option, Some, None, refl, sym, ap, ◌∙◌, subst, rules}
+use Rattle.std.proofs.Common.{◌≡◌, ℕ, ◌<◌, cond, not, List, [], ◌∷◌, ◌++◌, Option, Some, None, refl, sym, ap, ◌∙◌, subst, arith}
 use Rattle.mi_node.specs.Pool.{Pooled, link_of, value_of, IsHeld}
 use Rattle.mi_node.specs.Refs.{Ref}
 use Rattle.mi_node.specs.declared.link.Link.{Link}
@@ -109,7 +109,8 @@ find_down-requires g t c κs within =
     (λ i. (sym read i, sym c.in-Some.is i)) (enters_lower m s w.0 items items r y w.1 w.2 d o).0 in
     let same : v.tag ≡ (link_of c.link-link.new.self.pool v.node.name s).tag = c.requires.tag
     ∙ ap (λ (z : Pooled g.row.T.Denot). (link_of z v.node.name s).tag) (sym read) in
-    let slots : s < c.link-link.new.self.pool.slots = subst (λ (z : Pooled g.row.T.Denot). s < z.slots) (sym read) c.requires.slot in search rules
+    let slots : s < c.link-link.new.self.pool.slots = subst (λ (z : Pooled g.row.T.Denot). s < z.slots) (sym read) c.requires.slot in
+    (omega (arith, c.decreases, falls), (within.0, (within.1, (slots, (same, way)))))
 
 pub find_down-requires-in-Greater : goal.find_down-requires-in-Greater
 find_down-requires-in-Greater g t c κs within =
@@ -146,7 +147,8 @@ find_down-requires-in-Greater g t c κs within =
     (λ i. (sym read i, sym c.in-Some.is i)) (enters_lower m s w.0 items items r y w.1 w.2 d o).1 in
     let same : v.tag ≡ (link_of c.link-link.new.self.pool v.node.name s).tag = c.requires.tag
     ∙ ap (λ (z : Pooled g.row.T.Denot). (link_of z v.node.name s).tag) (sym read) in
-    let slots : s < c.link-link.new.self.pool.slots = subst (λ (z : Pooled g.row.T.Denot). s < z.slots) (sym read) c.requires.slot in search rules
+    let slots : s < c.link-link.new.self.pool.slots = subst (λ (z : Pooled g.row.T.Denot). s < z.slots) (sym read) c.requires.slot in
+    (omega (arith, c.decreases, falls), (within.0, (within.1, (slots, (same, way)))))
 
 pub returns-in-Less-clause-way : goal.returns-in-Less-clause-way
 returns-in-Less-clause-way g t c levels xs u vs ws h can up e =

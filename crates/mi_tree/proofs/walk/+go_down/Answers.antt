@@ -1,4 +1,4 @@
-use Rattle.std.proofs.Common.{ℕ, ◌<◌, List, ◌∷◌, length, Option, refl, sym, subst, rules}
+use Rattle.std.proofs.Common.{ℕ, ◌<◌, List, ◌∷◌, length, Option, refl, sym, subst, arith}
 use Rattle.mi_node.specs.Pool.{Pooled}
 use Rattle.mi_node.specs.Refs.{Ref}
 use Rattle.mi_tree.specs.Shape.{Shape, height_at}
@@ -11,7 +11,8 @@ push-requires g t c =
     let v = c.args in let m = v.p.now.pool in let s = v.slot in let d = v.direction in let items = v.path.now.items in let r = c.in-Some.node in
     let w = c.requires.way in
     let o = entered m s d w.0 items v.at r _ w.1 w.2 w.3 c.in-Some.is refl in
-    let room : length v.path.now.items < 45 = o.room in search rules
+    let room : length v.path.now.items < 45 = o.room in
+    (omega arith, room)
 
 pub go_down-requires : goal.go_down-requires
 go_down-requires g t c κs within =
@@ -30,7 +31,8 @@ go_down-requires g t c κs within =
     let falls : height_at c.link.new.self.pool s c.near-before.result < height_at m s v.at =
     subst (λ (z : Pooled g.row.T.Denot × Option Ref × Option Ref). height_at z.0 s z.1 < height_at m s z.2)
     (λ i. (sym c.link.ensures.pool i, sym c.near-before.ensures i, sym c.in-Some.is i)) o.near_lower in
-    let slots : s < c.link.new.self.pool.slots = subst (λ (z : Pooled g.row.T.Denot). s < z.slots) (sym c.link.ensures.pool) c.requires.slot in search rules
+    let slots : s < c.link.new.self.pool.slots = subst (λ (z : Pooled g.row.T.Denot). s < z.slots) (sym c.link.ensures.pool) c.requires.slot in
+    (omega (arith, c.decreases, falls), (within, (slots, way)))
 
 pub returns-clause-way : goal.returns-clause-way
 returns-clause-way g t c levels xs u h =

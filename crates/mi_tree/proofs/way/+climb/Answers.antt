@@ -1,4 +1,4 @@
-use Rattle.std.proofs.Common.{ℕ, ◌<◌, List, length, Option, Some, refl, sym, ◌∙◌, ap, subst, rules}
+use Rattle.std.proofs.Common.{ℕ, ◌<◌, List, length, Option, Some, refl, sym, ◌∙◌, ap, subst, arith}
 use Rattle.mi_node.specs.Refs.{Ref}
 use Rattle.mi_node.specs.declared.link.Link.{Link}
 use Rattle.mi_tree.specs.Shape.{Shape, height, height_at}
@@ -75,7 +75,8 @@ climb-requires g t c κs within =
     let way : (gs : List Frame) × (bt : Option Ref) × (j : ℕ) × (x : Shape)
     × Climbs n s v.root (Some top) new gs bt j x = (back.rest, Some turn.node, _, z, on) in
     let falls : length new < length items = shorter_way items new fs turn k.path_is back in
-    let slots : s < n.slots = subst (λ j. s < j) (sym c.rejoin-top.ensures.slots) c.requires.slot in search rules
+    let slots : s < n.slots = subst (λ j. s < j) (sym c.rejoin-top.ensures.slots) c.requires.slot in
+    (omega (arith, c.decreases, falls), (within, (slots, way)))
 
 pub returns-then-height-before-clause-tree : goal.returns-then-height-before-clause-tree
 returns-then-height-before-clause-tree g t c fs at h u k =

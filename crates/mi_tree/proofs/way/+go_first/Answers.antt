@@ -1,4 +1,4 @@
-use Rattle.std.proofs.Common.{◌<◌, List, [], ◌∷◌, length, Option, Some, true, refl, sym, ◌∙◌, subst, rules}
+use Rattle.std.proofs.Common.{◌<◌, List, [], ◌∷◌, length, Option, Some, true, refl, sym, ◌∙◌, subst, arith}
 use Rattle.mi_node.specs.Refs.{Ref}
 use Rattle.mi_node.specs.Pool.{with_link}
 use Rattle.mi_tree.specs.Shape.{Shape, Tip, height_at}
@@ -17,7 +17,7 @@ push-requires g t c =
     let w = c.requires.way in
     let room : length items < 45 = room_here m (with_link m v.at.name s (shrunk_link y)) s items
     (Some v.at) v.at y w.0 w.1 [] w.2 w.3 w.4 w.5 w.6 refl i refl in
-    search rules
+    (omega arith, room)
 
 pub go_first-requires : goal.go_first-requires
 go_first-requires g t c κs within =
@@ -34,7 +34,7 @@ go_first-requires g t c κs within =
     let slots : s < n.slots = subst (λ j. s < j) (sym (keeps_here m n s items (Some v.at) v.at y fs u [] x ys vs ws h refl i set).slots) c.requires.slot in
     let lower : height_at n s (Some c.in-Some.left) < height_at m s (Some v.at) = subst
     (λ (z : Option Ref). height_at n s z < height_at m s (Some v.at)) c.in-Some.is k.lower in
-    search rules
+    (omega (arith, c.decreases, lower), (within, (slots, way)))
 
 pub returns-clause-slots : goal.returns-clause-slots
 returns-clause-slots g t c =

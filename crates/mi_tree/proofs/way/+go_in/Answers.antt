@@ -1,4 +1,4 @@
-use Rattle.std.proofs.Common.{◌≡◌, ◌<◌, List, ◌∷◌, length, Option, refl, sym, ap, ◌∙◌, subst, rules}
+use Rattle.std.proofs.Common.{◌≡◌, ◌<◌, List, ◌∷◌, length, Option, refl, sym, ap, ◌∙◌, subst, arith}
 use Rattle.mi_node.specs.Pool.{Pooled, value_of, link_of, with_link, IsHeld}
 use Rattle.mi_node.specs.Refs.{Ref}
 use Rattle.mi_node.specs.declared.link.Link.{Link}
@@ -33,7 +33,8 @@ push-requires g t c =
     let items = v.way.now.items in let here = c.in-Some.here in let x = v.node in let y = c.link-link.result in let e = c.in-Some.is in
     let i = c.link-link.ensures in
     let w = c.requires.way in let fs = w.0 in let u = w.1 in let h = w.2 in
-    let room : length items < 45 = room_here ord total tag m (with_link m here.name s (grown_link y)) s items v.at here x y fs u h e i refl in search rules
+    let room : length items < 45 = room_here ord total tag m (with_link m here.name s (grown_link y)) s items v.at here x y fs u h e i refl in
+    (omega arith, room)
 
 pub go_in-requires : goal.go_in-requires
 go_in-requires g t c κs within =
@@ -57,7 +58,7 @@ go_in-requires g t c κs within =
     let slots : s < n.slots = subst (λ j. s < j) (sym (keeps_here ord total tag m n s items v.at here x y fs u h e i set).slots) c.requires.slot in
     let lower : height_at n s c.child-next.result < height_at m s v.at =
     subst (λ k. height_at n s k < height_at m s v.at) (sym c.child-next.ensures) st.lower in
-    search rules
+    (omega (arith, c.decreases, lower), (within.0, (within.1, (slots, (same, way)))))
 
 pub returns-clause-slots : goal.returns-clause-slots
 returns-clause-slots g t c =

@@ -1,4 +1,4 @@
-use Rattle.std.proofs.Common.{◌≡◌, ◌<◌, List, ◌∷◌, length, Option, None, refl, sym, ap, ◌∙◌, subst, rules}
+use Rattle.std.proofs.Common.{◌≡◌, ◌<◌, List, ◌∷◌, length, Option, None, refl, sym, ap, ◌∙◌, subst, arith}
 use Rattle.mi_node.specs.Pool.{Pooled, value_of, link_of, with_link, IsHeld}
 use Rattle.mi_node.specs.Refs.{Ref}
 use Rattle.mi_node.specs.declared.link.Link.{Link}
@@ -54,7 +54,7 @@ push-requires g t c =
     let w = c.requires.way in
     let room : length items < 45 = room_here m (with_link m here.name s (shrunk_link y)) s items
     v.at here y w.0 w.1 w.2 v.node w.3 w.4 w.5 w.6 c.in-Some.is c.link-link.ensures refl in
-    search rules
+    (omega arith, room)
 
 pub go_to-requires : goal.go_to-requires
 go_to-requires g t c κs within =
@@ -84,7 +84,7 @@ go_to-requires g t c κs within =
     let slots : s < n.slots = subst (λ j. s < j) (sym (keeps_here m n s items v.at here y fs u xs x ys vs ws h e i set).slots) c.requires.slot in
     let lower : height_at n s c.child-next.result < height_at m s v.at = subst
     (λ (z : Option Ref). height_at n s z < height_at m s v.at) (sym c.child-next.ensures) k.lower in
-    search rules
+    (omega (arith, c.decreases, lower), (within.0, (within.1, (slots, (same, way)))))
 
 pub returns-clause-slots : goal.returns-clause-slots
 returns-clause-slots g t c =

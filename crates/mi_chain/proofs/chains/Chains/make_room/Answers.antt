@@ -11,7 +11,7 @@ move_all-requires g c =
     let some : 0 < n = search rules in
     let power : IsPowerOfTwo n = search rules in
     let items : new.items ≡ replicate n None = search rules in
-    let count : vec_len new ≡ n = search rules in
+    let count : vec_len new ≡ n = c.in_ok-old.ensures.len in
     let rs = c.requires.0 in (
       rs,
       none_moved k w (record l { buckets = x }) l c.swap.new.y n c.args.p.now rs c.requires.1 refl c.swap.ensures.y_after
@@ -26,7 +26,7 @@ returns-clause-list g c rs h =
     let some : 0 < n = search rules in
     let power : IsPowerOfTwo n = search rules in
     let items : new.items ≡ replicate n None = search rules in
-    let count : vec_len new ≡ n = search rules in
+    let count : vec_len new ≡ n = c.in_ok-old.ensures.len in
     c.move_all.ensures.list rs (none_moved k w (record l { buckets = x }) l c.swap.new.y n c.args.p.now rs h refl c.swap.ensures.y_after
     (ap (λ (z : _). z.items) c.swap.ensures.x_after ∙ items) (ap vec_len c.swap.ensures.x_after ∙ count) some power refl)
 
@@ -38,6 +38,6 @@ returns-clause-keeps g c rs h =
     let some : 0 < n = search rules in
     let power : IsPowerOfTwo n = search rules in
     let items : new.items ≡ replicate n None = search rules in
-    let count : vec_len new ≡ n = search rules in
+    let count : vec_len new ≡ n = c.in_ok-old.ensures.len in
     c.move_all.ensures.keeps rs (none_moved k w (record l { buckets = x }) l c.swap.new.y n c.args.p.now rs h refl c.swap.ensures.y_after
     (ap (λ (z : _). z.items) c.swap.ensures.x_after ∙ items) (ap vec_len c.swap.ensures.x_after ∙ count) some power refl)

@@ -1,4 +1,4 @@
-use Rattle.std.proofs.Common.{◌≡◌, ◌<◌, length, rules, ◌∙◌, sym, ap, subst, vec_len, slice_index_or, Some, None}
+use Rattle.std.proofs.Common.{◌≡◌, ◌<◌, length, ◌∙◌, sym, ap, subst, vec_len, slice_index_or, Some, None}
 use Rattle.mi_node.specs.Pool.{Keeps, node_count, link_of}
 use Rattle.mi_node.proofs.Keeping.{keeps_then}
 use Rattle.mi_chain.specs.Moves.{AreBetween, hops, next_group}
@@ -14,7 +14,7 @@ move_group-requires-clause-bucket g c = subst (λ z. c.args.bucket < z) (sym c.l
 
 pub move_group-requires-clause-first : goal.move_group-requires-clause-first
 move_group-requires-clause-first g c = let v = c.args in let a = c.loop-first in let o = a.old in
-    let count : vec_len o ≡ length o.items = search rules in
+    let count : vec_len o ≡ length o.items = o.ok.0 in
     let lt : v.bucket < vec_len o = subst (λ z. v.bucket < z) (sym a.invariant.2) c.requires.bucket in
     let at : slice_index_or o.items v.bucket None ≡ Some c.in-Some.first =
     sym (c.index.ensures ∙ any_head o.items v.bucket _ None (subst (λ z. v.bucket < z) count lt)) ∙ c.in-Some.is in
@@ -29,7 +29,7 @@ loop-first-smaller g c = let v = c.args in let a = c.loop-first in let o = a.old
 
 pub loop-first-preserved : goal.loop-first-preserved
 loop-first-preserved g c = let v = c.args in let a = c.loop-first in let o = a.old in
-    let count : vec_len o ≡ length o.items = search rules in
+    let count : vec_len o ≡ length o.items = o.ok.0 in
     let lt : v.bucket < vec_len o = subst (λ z. v.bucket < z) (sym a.invariant.2) c.requires.bucket in
     let at : slice_index_or o.items v.bucket None ≡ Some c.in-Some.first =
     sym (c.index.ensures ∙ any_head o.items v.bucket _ None (subst (λ z. v.bucket < z) count lt)) ∙ c.in-Some.is in

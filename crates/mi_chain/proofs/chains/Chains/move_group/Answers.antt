@@ -1,4 +1,4 @@
-use Rattle.std.proofs.Common.{◌≡◌, ◌<◌, ◌%◌, sym, ap, ◌∙◌, subst, refl, rules, length, vec_len, slice_index_or, slice_set, Some, None}
+use Rattle.std.proofs.Common.{◌≡◌, ◌<◌, ◌%◌, sym, ap, ◌∙◌, subst, refl, length, vec_len, slice_index_or, slice_set, Some, None}
 use Rattle.std.specs.Vec.{with_item}
 use Rattle.mi_node.specs.Pool.{Pooled, IsHeldIf, link_of}
 use Rattle.mi_node.specs.Neighbours.{with_forth_if}
@@ -53,7 +53,7 @@ returns-clause-moving g c rs q = let v = c.args in let m = v.p.now in let l = v.
     let w = g.met.H.KeyHash.lawful l.keys in
     let eh : c.bucket-target.result ≡ hash_node k m v.first % vec_len l.buckets = c.bucket-target.ensures ∙ ap (λ (y : Link). y.tag.key % vec_len l.buckets)
     c.link-link.ensures ∙ ap (λ z. z % vec_len l.buckets) (group_tag k w l m o.items (vec_len o) v.bucket c.requires.bucket v.first c.requires.first rs q) in
-    let count : vec_len o ≡ length o.items = search rules in
+    let count : vec_len o ≡ length o.items = o.ok.0 in
     let fo : v.bucket < length o.items = subst (λ z. v.bucket < z) count c.requires.bucket in
     let head = c.head-head.ensures ∙ ap (λ z. slice_index_or l.buckets.items z None) eh in
     let em = c.set_forth.ensures ∙ (λ i. with_forth_if m l.slot (c.link-link.ensures i).back (head i)) in
@@ -67,7 +67,7 @@ returns-clause-fewer g c rs q = let v = c.args in let m = v.p.now in let l = v.s
     let w = g.met.H.KeyHash.lawful l.keys in
     let eh : c.bucket-target.result ≡ hash_node k m v.first % vec_len l.buckets = c.bucket-target.ensures ∙ ap (λ (y : Link). y.tag.key % vec_len l.buckets)
     c.link-link.ensures ∙ ap (λ z. z % vec_len l.buckets) (group_tag k w l m o.items (vec_len o) v.bucket c.requires.bucket v.first c.requires.first rs q) in
-    let count : vec_len o ≡ length o.items = search rules in
+    let count : vec_len o ≡ length o.items = o.ok.0 in
     let fo : v.bucket < length o.items = subst (λ z. v.bucket < z) count c.requires.bucket in
     let head = c.head-head.ensures ∙ ap (λ z. slice_index_or l.buckets.items z None) eh in
     let em = c.set_forth.ensures ∙ (λ i. with_forth_if m l.slot (c.link-link.ensures i).back (head i)) in
@@ -81,7 +81,7 @@ returns-clause-keeps g c rs q = let v = c.args in let m = v.p.now in let l = v.s
     let w = g.met.H.KeyHash.lawful l.keys in
     let eh : c.bucket-target.result ≡ hash_node k m v.first % vec_len l.buckets = c.bucket-target.ensures ∙ ap (λ (y : Link). y.tag.key % vec_len l.buckets)
     c.link-link.ensures ∙ ap (λ z. z % vec_len l.buckets) (group_tag k w l m o.items (vec_len o) v.bucket c.requires.bucket v.first c.requires.first rs q) in
-    let count : vec_len o ≡ length o.items = search rules in
+    let count : vec_len o ≡ length o.items = o.ok.0 in
     let fo : v.bucket < length o.items = subst (λ z. v.bucket < z) count c.requires.bucket in
     let head = c.head-head.ensures ∙ ap (λ z. slice_index_or l.buckets.items z None) eh in
     let em = c.set_forth.ensures ∙ (λ i. with_forth_if m l.slot (c.link-link.ensures i).back (head i)) in

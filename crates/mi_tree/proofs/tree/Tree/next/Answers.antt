@@ -1,4 +1,4 @@
-use Rattle.std.proofs.Common.{◌≡◌, ◌+◌, ◌<◌, ◌^◌, suc, ◌∷◌, ◌++◌, length, sym, ap, ◌∙◌, subst, arith, rules, length-append}
+use Rattle.std.proofs.Common.{◌≡◌, ◌+◌, ◌<◌, ◌^◌, suc, ◌∷◌, ◌++◌, length, sym, ap, ◌∙◌, subst, arith, length-append}
 use Rattle.mi_node.specs.Pool.{Pooled}
 use Rattle.mi_tree.specs.Shape.{nth_of}
 use Rattle.mi_tree.specs.Standing.{IsTree}
@@ -8,7 +8,7 @@ use Rattle.mi_tree.proofs.tree.Tree.next.Goals as goal
 pub overflow_add-rank : goal.overflow_add-rank
 overflow_add-rank g c =
     let w = c.requires in let e = c.rank-rank.ensures.rank w.0 w.1 w.2 in let f = w.2.fits in let a = length-append w.0 (c.args.node ∷ w.1) in
-    let fits : c.rank-rank.result + 1 < 2 ^ 32 = omega arith in search rules
+    let fits : c.rank-rank.result + 1 < 2 ^ 32 = omega arith in record { fits = fits }
 
 pub nth-requires : goal.nth-requires
 nth-requires g c =

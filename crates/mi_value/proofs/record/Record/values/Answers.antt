@@ -1,8 +1,8 @@
-use Rattle.std.proofs.Common.{◌<◌, ◌^◌, length, arith, rules}
+use Rattle.std.proofs.Common.{ℕ, ◌<◌, ◌^◌, List, length, subst, arith}
 use Rattle.mi_value.proofs.BlockLemmas.{within}
 use Rattle.mi_value.proofs.record.Record.values.Goals as goal
 
 pub returns-clause-countable : goal.returns-clause-countable
 returns-clause-countable c =
-    let few : length c.self.inside.bytes.items < 2 ^ 64 = search rules in
+    let few : length c.self.inside.bytes.items < 2 ^ 64 = subst (λ (bytes : List ℕ). length bytes < 2 ^ 64) c.as_slice.ensures.value c.as_slice.type_inv.0 in
     rw (← c.self.view_is) (omega (arith, within c.self.inside.bytes.items, few))
