@@ -14,46 +14,57 @@ use std::cmp::Ordering;
 use std::process::Abort;
 use std::test::Fail;
 
+/// The class of accounts: by the flag, those with it first, and by the balance.
+const CLASS: [KeyPart; 2] = [
+    KeyPart {
+        column: 2,
+        descending: true,
+    },
+    KeyPart {
+        column: 1,
+        descending: false,
+    },
+];
+
+const OWNER: [KeyPart; 1] = [KeyPart {
+    column: 0,
+    descending: false,
+}];
+
+/// Asserts how two records compare by their class.
+fn assert_compared(rt: &impl Abort, a: &Record, b: &Record, want: Ordering) {
+    assert!(rt; compare_key(a, b, &CLASS) == want);
+    assert!(rt; same_key(a, b, &CLASS) == (want == Ordering::Equal));
+}
+
 #[test]
 fn keys_compare(rt: HostRuntime) -> Result<(), Fail> {
     let alloc = rt.alloc();
-    let parts = [
-        KeyPart {
-            column: 2,
-            descending: true,
-        },
-        KeyPart {
-            column: 1,
-            descending: false,
-        },
-    ];
     let a = account(alloc, "a", 1, true)?;
-    for (owner, balance, vip, want) in [
-        ("b", 2, false, Ordering::Less),
-        ("b", 3, true, Ordering::Less),
-        ("b", 1, true, Ordering::Equal),
-    ] {
-        let b = account(alloc, owner, balance, vip)?;
-        assert_eq!(rt;
-            compare_key(&a, &b, &parts),
-            want,
-            "against {owner} {balance} {vip}"
-        );
-        assert_eq!(rt; same_key(&a, &b, &parts), want == Ordering::Equal);
-    }
-    let third = account(alloc, "b", 3, true)?;
+    assert_compared(&rt, &a, &account(alloc, "b", 2, false)?, Ordering::Less);
+    assert_compared(&rt, &a, &account(alloc, "b", 3, true)?, Ordering::Less);
+    assert_compared(&rt, &a, &account(alloc, "b", 1, true)?, Ordering::Equal);
+    Ok(())
+}
+
+#[test]
+fn prefixes_compare(rt: HostRuntime) -> Result<(), Fail> {
+    let third = account(rt.alloc(), "b", 3, true)?;
     let prefix = [Value::Flag(true)];
-    assert_eq!(rt; compare_prefix(&prefix, &third, &parts), Ordering::Equal);
+    assert!(rt; compare_prefix(&prefix, &third, &CLASS) == Ordering::Equal);
+    let key = Key::new(vec![in rt.alloc(); Value::Int(3)]?);
+    assert_eq!(rt; key.values().len(), 1);
+    Ok(())
+}
+
+#[test]
+fn keys_are_hashed(rt: HostRuntime) -> Result<(), Fail> {
+    let alloc = rt.alloc();
+    let a = account(alloc, "a", 1, true)?;
     assert!(rt; is_account(&a.copy(alloc)?, "a", 1, true));
-    let owner = [KeyPart {
-        column: 0,
-        descending: false,
-    }];
     let other = account(alloc, "a", 2, false)?;
     let hash = hash_values(&[Value::Text(Text::of(alloc, "a")?)]);
-    assert!(rt; a.key_hash(&owner) == hash && other.key_hash(&owner) == hash);
-    let key = Key::new(vec![in alloc; Value::Int(3)]?);
-    assert_eq!(rt; key.values().len(), 1);
+    assert!(rt; a.key_hash(&OWNER) == hash && other.key_hash(&OWNER) == hash);
     Ok(())
 }
 
@@ -67,45 +78,123 @@ fn same_index(a: &Schema, b: &Schema, i: usize) -> bool {
         && a.parts(i) == b.parts(i)
 }
 
-fn same_schema(a: &Schema, b: &Schema) -> bool {
-    let columns = a.columns().iter().zip(b.columns());
-    let mut same = a.table_name() == b.table_name()
-        && a.columns().len() == b.columns().len()
-        && a.index_count() == b.index_count()
-        && a.first_id() == b.first_id()
+fn same_column(a: &Schema, b: &Schema, i: usize) -> bool {
+    match (a.columns().get(i), b.columns().get(i)) {
+        (Some(c), Some(d)) => c.name.as_str() == d.name.as_str() && c.kind == d.kind,
+        _ => false,
+    }
+}
+
+fn same_numbers(a: &Schema, b: &Schema) -> bool {
+    a.first_id() == b.first_id()
         && a.first_arrival() == b.first_arrival()
         && a.first_revision() == b.first_revision()
-        && a.max_rows() == b.max_rows();
-    for (c, d) in columns {
-        same = same && c.name.as_str() == d.name.as_str() && c.kind == d.kind;
+        && a.max_rows() == b.max_rows()
+}
+
+fn assert_same_schema(rt: &impl Abort, a: &Schema, b: &Schema) {
+    assert!(rt; a.table_name() == b.table_name() && same_numbers(a, b));
+    let columns = a.columns().len();
+    assert_eq!(rt; b.columns().len(), columns);
+    for i in 0..columns {
+        assert!(rt; same_column(a, b, i), "column {i}");
     }
-    for i in 0..a.index_count() {
-        same = same && same_index(a, b, i);
+    let indexes = a.index_count();
+    assert_eq!(rt; b.index_count(), indexes);
+    for i in 0..indexes {
+        assert!(rt; same_index(a, b, i), "index {i}");
     }
-    same
+}
+
+fn accounts(alloc: Global) -> Result<Schema, AllocError> {
+    built_in(alloc)
+}
+
+/// Whether a schema has the columns and indexes of accounts, found by name.
+fn finds_accounts(schema: &Schema) -> bool {
+    schema.find_index("by_class") == Some(4)
+        && schema.find_column("vip") == Some(2)
+        && schema.find_column("id").is_none()
+        && schema.indexes().len() == 6
+}
+
+/// Whether the last of six indexes is a sequence, and the one before it is asked by a flag, which isn't a whole key.
+fn has_class(schema: &Schema) -> bool {
+    let class = [Value::Flag(true)];
+    schema.index_count() == 6
+        && schema.kind(5) == IndexKind::Sequenced
+        && schema.fits_key(4, &class, false)
+        && !schema.fits_key(4, &class, true)
 }
 
 #[test]
 fn schemas_are_read_and_copied(rt: HostRuntime) -> Result<(), Fail> {
     let alloc = rt.alloc();
-    let schema = built_in(alloc)?;
-    assert!(rt; same_schema(&schema, &schema.copy(alloc)?));
-    assert_eq!(rt; schema.find_index("by_class"), Some(4));
-    assert_eq!(rt; schema.find_column("vip"), Some(2));
-    assert_eq!(rt; schema.find_column("id"), None);
-    assert_eq!(rt; schema.indexes().len(), 6);
+    let schema = accounts(alloc)?;
+    assert_same_schema(&rt, &schema, &schema.copy(alloc)?);
+    assert!(rt; finds_accounts(&schema));
+    assert!(rt; has_class(&schema));
     assert!(rt; schema.fits_record(&account(alloc, "a", 1, true)?));
-    let class = [Value::Flag(true)];
-    assert!(rt; schema.index_count() == 6);
-    assert!(rt; schema.kind(5) == IndexKind::Sequenced);
-    assert!(rt; schema.fits_key(4, &class, false) && !schema.fits_key(4, &class, true));
-    let catalog = Catalog::of(alloc, schema)?;
+    Ok(())
+}
+
+fn opened(alloc: Global) -> Result<Catalog, AllocError> {
+    Catalog::of(alloc, built_in(alloc)?)
+}
+
+#[test]
+fn catalogs_are_copied(rt: HostRuntime) -> Result<(), Fail> {
+    let alloc = rt.alloc();
+    let catalog = opened(alloc)?;
     let copy = catalog.copy(alloc)?;
     assert_eq!(rt; copy.table_count(), 1);
-    assert_eq!(rt; copy.find_table("accounts"), Some(0));
+    assert!(rt; copy.find_table("accounts") == Some(0));
     assert_eq!(rt; copy.first_revision(), 0);
-    assert!(rt; same_schema(catalog.table(0), copy.table(0)));
+    assert_same_schema(&rt, catalog.table(0), copy.table(0));
     Ok(())
+}
+
+/// Adds an account and answers its id, or the refusal where the account is handed back with it.
+fn insert<D: Sessions>(
+    rt: &impl Abort,
+    alloc: Global,
+    database: &mut D,
+    balance: i64,
+    vip: bool,
+) -> Result<Result<u64, Refusal>, Fail> {
+    let row = account(alloc, "a", balance, vip)?;
+    assert_eq!(rt; database.catalog().table_count(), 1);
+    assert!(rt; database.catalog().table(0).fits_record(&row));
+    match database.insert(alloc, 0, row, None) {
+        Ok(id) => Ok(Ok(id)),
+        Err((refusal, row)) => {
+            assert!(rt; is_account(&row, "a", balance, vip));
+            Ok(Err(refusal))
+        }
+    }
+}
+
+fn started<D: Sessions>(alloc: Global, database: &mut D) -> Option<u64> {
+    database.start(alloc).ok()
+}
+
+fn undone<D: Sessions>(database: &mut D) -> Result<u64, NoSession> {
+    database.undo()
+}
+
+fn is_reserved<D: Sessions>(database: &mut D) -> bool {
+    database.reserve(3, 1).is_ok()
+}
+
+/// Whether the first record is there as it was added.
+fn shows_first<D: Sessions>(database: &D) -> bool {
+    if database.catalog().table_count() != 1 {
+        return false;
+    }
+    match database.get(0, 0, &mut Steps::new()) {
+        Some(row) => is_account(row, "a", 1, false),
+        None => false,
+    }
 }
 
 /// What a database of the built-in schema answers that has just been opened.
@@ -114,48 +203,31 @@ fn check_database<D: Sessions>(
     alloc: Global,
     database: &mut D,
 ) -> Result<(), Fail> {
-    assert_eq!(rt; database.catalog().table_count(), 1);
-    assert_eq!(rt; database.undo(), Err(NoSession));
-    let ann = account(alloc, "a", 1, false)?;
-    assert!(rt; database.catalog().table(0).fits_record(&ann));
-    match database.insert(alloc, 0, ann, None) {
-        Ok(id) => assert_eq!(rt; id, 0),
-        Err((refusal, _row)) => assert_eq!(rt; refusal.word(), "none"),
-    }
-    assert_eq!(rt; database.start(alloc), Ok(1));
-    let again = account(alloc, "a", 2, true)?;
-    assert!(rt; database.catalog().table(0).fits_record(&again));
-    match database.insert(alloc, 0, again, None) {
-        Ok(_id) => assert!(rt; false, "a second owner of one name"),
-        Err((refusal, row)) => {
-            assert_eq!(rt; refusal, Refusal::Unique { index: 1, id: 0 });
-            assert!(rt; is_account(&row, "a", 2, true));
-        }
-    }
+    assert!(rt; undone(database) == Err(NoSession));
+    let id = insert(rt, alloc, database, 1, false)?;
+    assert!(rt; matches!(id, Ok(0)));
+    assert!(rt; started(alloc, database) == Some(1));
+    let second = insert(rt, alloc, database, 2, true)?;
+    assert!(rt; matches!(second, Err(Refusal::Unique { index: 1, id: 0 })));
     assert_eq!(rt; database.depth(), 1);
-    assert_eq!(rt; database.undo(), Ok(0));
+    assert!(rt; undone(database) == Ok(0));
     assert_eq!(rt; database.revision(), 0);
-    assert_eq!(rt; database.reserve(3, 1), Ok(()));
-    assert_eq!(rt; database.catalog().table_count(), 1);
-    match database.get(0, 0, &mut Steps::new()) {
-        Some(row) => assert!(rt; is_account(row, "a", 1, false)),
-        None => assert!(rt; false, "the record is there"),
-    }
+    assert!(rt; is_reserved(database));
+    assert!(rt; shows_first(database));
     Ok(())
 }
 
 #[test]
 fn plain_is_a_database(rt: HostRuntime) -> Result<(), Fail> {
     let alloc = rt.alloc();
-    let mut database = Plain::new(alloc, Catalog::of(alloc, built_in(alloc)?)?)?;
+    let mut database = Plain::new(alloc, opened(alloc)?)?;
     check_database(&rt, alloc, &mut database)
 }
 
 #[test]
 fn linked_is_a_database(rt: HostRuntime) -> Result<(), Fail> {
     let alloc = rt.alloc();
-    let catalog = Catalog::of(alloc, built_in(alloc)?)?;
-    let mut database = Linked::<MultiIndex>::new(alloc, catalog, 7)?;
+    let mut database = Linked::<MultiIndex>::new(alloc, opened(alloc)?, 7)?;
     check_database(&rt, alloc, &mut database)?;
     let (changes, sessions) = database.room();
     assert!(rt; changes >= 3 && sessions >= 1, "{changes} and {sessions}");

@@ -7,6 +7,7 @@ use mi_plain::Plain;
 use mi_schema::{Catalog, built_in};
 use mi_sessions::Sessions;
 use std::alloc::{AllocError, Global};
+use std::process::Abort;
 use std::test::Fail;
 
 /// As many accounts of one balance.
@@ -30,6 +31,13 @@ fn insert(alloc: Global, database: &mut Counting<Plain>, n: i64, balance: i64) -
     database.insert(alloc, 0, row, None).ok()
 }
 
+/// A hub over a database, with connection 1.
+fn served(rt: &impl Abort, alloc: Global, database: Counting<Plain>) -> Hub<Counting<Plain>> {
+    let mut hub = Hub::new(alloc, database);
+    assert!(rt; hub.attach(1).is_ok());
+    hub
+}
+
 /// What connection 1 is answered to a line, and how many look-ups that made.
 fn answer(
     alloc: Global,
@@ -50,25 +58,43 @@ fn answer(
 fn equal_keys_are_counted(rt: HostRuntime) -> Result<(), Fail> {
     let mut database = opened(rt.alloc())?;
     for n in 0..EQUALS {
-        assert!(rt;
-            insert(rt.alloc(), &mut database, n, 7).is_some(),
-            "owner {n}"
-        );
+        let id = insert(rt.alloc(), &mut database, n, 7);
+        assert!(rt; id.is_some(), "owner {n}");
     }
-    let mut hub = Hub::new(rt.alloc(), database);
-    assert_eq!(rt; hub.attach(1), Ok(()));
+    let mut hub = served(&rt, rt.alloc(), database);
     for line in [
         "{\"cmd\":\"count\",\"index\":\"by_balance\",\"key\":[7]}\n",
         "{\"cmd\":\"count\",\"index\":\"by_class\",\"key\":[true]}\n",
     ] {
         let (reply, asked) = answer(rt.alloc(), &mut hub, line)?;
-        assert_eq!(rt;
-            reply.as_slice(),
-            b"{\"count\":10000,\"ok\":true}\n".as_slice()
-        );
+        assert!(rt; reply.as_slice() == b"{\"count\":10000,\"ok\":true}\n".as_slice());
         assert!(rt; (1..=4).contains(&asked), "{asked} look-ups");
     }
     Ok(())
+}
+
+/// Adds the row of the account of a number.
+fn push_row(alloc: Global, page: &mut String, n: u64) -> Result<(), AllocError> {
+    let row = format!(in alloc; "{{\"balance\":{n},\"id\":{n},\"owner\":\"o{n}\",\"vip\":true}}")?;
+    page.push_str(row.as_str())
+}
+
+/// The reply of ten rows up from the account of 2,000, or of ten rows down from that of 2,499.
+fn page(alloc: Global, reverse: bool) -> Result<String, AllocError> {
+    let mut page = String::from_str(alloc, "{\"more\":true,\"ok\":true,\"rows\":[")?;
+    for k in 0..10u64 {
+        if k > 0 {
+            page.push(',')?;
+        }
+        let n = if reverse {
+            2499u64.saturating_sub(k)
+        } else {
+            2000u64.saturating_add(k)
+        };
+        push_row(alloc, &mut page, n)?;
+    }
+    page.push_str("]}\n")?;
+    Ok(page)
 }
 
 /// Ten rows from the middle of four thousand, from the lower bound on and from the upper one back: a look-up for each bound,
@@ -77,33 +103,23 @@ fn equal_keys_are_counted(rt: HostRuntime) -> Result<(), Fail> {
 fn pages_begin_in_the_middle(rt: HostRuntime) -> Result<(), Fail> {
     let mut database = opened(rt.alloc())?;
     for n in 0..ROWS {
-        assert!(rt;
-            insert(rt.alloc(), &mut database, n, n).is_some(),
-            "owner {n}"
-        );
+        let id = insert(rt.alloc(), &mut database, n, n);
+        assert!(rt; id.is_some(), "owner {n}");
     }
-    let mut hub = Hub::new(rt.alloc(), database);
-    assert_eq!(rt; hub.attach(1), Ok(()));
-    for reverse in [false, true] {
-        let line = format!(in rt.alloc();
-            "{{\"cmd\":\"range\",\"index\":\"by_balance\",\"limit\":10,\"lower\":{{\"ge\":[2000]}},\"reverse\":{reverse},\"upper\":{{\"lt\":[2500]}}}}\n"
-        )?;
-        let mut want = String::from_str(rt.alloc(), "{\"more\":true,\"ok\":true,\"rows\":[")?;
-        for k in 0..10u64 {
-            let comma = if k > 0 { "," } else { "" };
-            let n = if reverse {
-                2499u64.saturating_sub(k)
-            } else {
-                2000u64.saturating_add(k)
-            };
-            write!(
-                want,
-                "{comma}{{\"balance\":{n},\"id\":{n},\"owner\":\"o{n}\",\"vip\":true}}"
-            )?;
-        }
-        want.push_str("]}\n")?;
-        let (reply, asked) = answer(rt.alloc(), &mut hub, line.as_str())?;
-        assert_eq!(rt; reply.as_slice(), want.as_bytes());
+    let mut hub = served(&rt, rt.alloc(), database);
+    for (reverse, line) in [
+        (
+            false,
+            "{\"cmd\":\"range\",\"index\":\"by_balance\",\"limit\":10,\"lower\":{\"ge\":[2000]},\"reverse\":false,\"upper\":{\"lt\":[2500]}}\n",
+        ),
+        (
+            true,
+            "{\"cmd\":\"range\",\"index\":\"by_balance\",\"limit\":10,\"lower\":{\"ge\":[2000]},\"reverse\":true,\"upper\":{\"lt\":[2500]}}\n",
+        ),
+    ] {
+        let want = page(rt.alloc(), reverse)?;
+        let (reply, asked) = answer(rt.alloc(), &mut hub, line)?;
+        assert!(rt; reply.as_slice() == want.as_bytes());
         assert!(rt; asked == 4, "{asked} look-ups");
     }
     Ok(())

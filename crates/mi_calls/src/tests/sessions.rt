@@ -15,13 +15,19 @@ use std::process::Abort;
 use std::test::Fail;
 
 /// Whether the table shows this account for an id.
-fn shows<D: Sessions>(database: &D, id: u64, owner: &str, balance: i64, vip: bool) -> bool
-    requires { HasTable (D.state database.now).catalog 0 }
-{
+fn shows<D: Sessions>(database: &D, id: u64, owner: &str, balance: i64, vip: bool) -> bool {
+    if database.catalog().table_count() != 1 {
+        return false;
+    }
     match database.get(0, id, &mut Steps::new()) {
         Some(row) => is_account(row, owner, balance, vip),
         None => false,
     }
+}
+
+/// Whether the table has one record.
+fn has_one<D: Sessions>(database: &D) -> bool {
+    database.catalog().table_count() == 1 && database.size(0) == 1
 }
 
 /// Whether the second column of the table has numbers, to which four can be added.
@@ -52,28 +58,57 @@ fn add<D: Sessions>(
     Ok(())
 }
 
+/// Adds four to the balance of the record 0.
+fn add_four<D: Sessions>(rt: &impl Abort, alloc: Global, database: &mut D) {
+    assert_eq!(rt; database.catalog().table_count(), 1);
+    assert!(rt; has_sums(database));
+    let edited = database.modify(alloc, 0, 0, &[Edit::Add(1, 4)], false);
+    assert!(rt; edited.is_ok());
+}
+
+/// Sets another record for an id.
+fn replace<D: Sessions>(rt: &impl Abort, alloc: Global, database: &mut D, id: u64, row: Record) {
+    assert_eq!(rt; database.catalog().table_count(), 1);
+    assert!(rt; database.catalog().table(0).fits_record(&row));
+    assert!(rt; database.replace(alloc, 0, id, row).is_ok());
+}
+
+fn erase<D: Sessions>(rt: &impl Abort, alloc: Global, database: &mut D, id: u64) {
+    assert_eq!(rt; database.catalog().table_count(), 1);
+    assert!(rt; database.erase(alloc, 0, id).is_ok());
+}
+
+fn started<D: Sessions>(alloc: Global, database: &mut D) -> Option<u64> {
+    database.start(alloc).ok()
+}
+
+fn undone<D: Sessions>(database: &mut D) -> Result<u64, NoSession> {
+    database.undo()
+}
+
+fn squashed<D: Sessions>(database: &mut D) -> Result<u64, NoSession> {
+    database.squash()
+}
+
+fn is_reserved<D: Sessions>(database: &mut D, changes: u64, sessions: u64) -> bool {
+    database.reserve(changes, sessions).is_ok()
+}
+
 /// Nested sessions: an inner one is squashed into the outer one, whose undo takes back what both changed.
 fn check_nested<D: Sessions>(rt: &impl Abort, alloc: Global, database: &mut D) -> Result<(), Fail> {
     add(rt, alloc, database, account(alloc, "a", 1, false)?, 0)?;
-    assert_eq!(rt; database.start(alloc), Ok(1));
+    assert!(rt; started(alloc, database) == Some(1));
     add(rt, alloc, database, account(alloc, "b", 1, false)?, 1)?;
-    assert_eq!(rt; database.start(alloc), Ok(2));
-    assert_eq!(rt; database.catalog().table_count(), 1);
-    assert!(rt; has_sums(database));
-    assert_eq!(rt;
-        database.modify(alloc, 0, 0, &[Edit::Add(1, 4)], false),
-        Ok(())
-    );
-    assert_eq!(rt; database.squash(), Ok(1));
-    assert_eq!(rt; database.catalog().table_count(), 1);
+    assert!(rt; started(alloc, database) == Some(2));
+    add_four(rt, alloc, database);
+    assert!(rt; squashed(database) == Ok(1));
     assert!(rt; shows(database, 0, "a", 5, false));
-    assert_eq!(rt; database.undo(), Ok(0));
-    assert_eq!(rt; database.catalog().table_count(), 1);
+    assert!(rt; undone(database) == Ok(0));
     assert!(rt; shows(database, 0, "a", 1, false));
-    assert_eq!(rt; database.size(0), 1);
-    assert_eq!(rt; database.undo(), Err(NoSession));
+    assert!(rt; has_one(database));
+    assert!(rt; undone(database) == Err(NoSession));
     add(rt, alloc, database, account(alloc, "b", 1, false)?, 1)?;
-    assert_eq!(rt; database.reserve(3, 1), Ok(()));
+    assert!(rt; is_reserved(database, 3, 1));
     Ok(())
 }
 
@@ -97,27 +132,28 @@ fn nested_sessions_by_calls(rt: HostRuntime) -> Result<(), Fail> {
 /// A request for so many bytes is the mark from which `scripts/faults.py` refuses memory.
 const MARK: usize = 1_234_567;
 
+/// A block of changes in a session that is undone, behind a reserve for it.
+fn check_block<D: Sessions>(rt: &impl Abort, alloc: Global, database: &mut D) -> Result<(), Fail> {
+    add(rt, alloc, database, account(alloc, "a", 1, false)?, 0)?;
+    add(rt, alloc, database, account(alloc, "b", 2, false)?, 1)?;
+    let row = account(alloc, "b", 3, true)?;
+    assert!(rt; is_reserved(database, 2, 1));
+    drop(Vec::<u8>::with_capacity(alloc, MARK)?);
+    assert!(rt; started(alloc, database) == Some(1));
+    replace(rt, alloc, database, 1, row);
+    assert!(rt; shows(database, 1, "b", 3, true));
+    erase(rt, alloc, database, 0);
+    assert!(rt; undone(database) == Ok(0));
+    assert!(rt; shows(database, 0, "a", 1, false));
+    assert!(rt; shows(database, 1, "b", 2, false));
+    Ok(())
+}
+
 /// Behind a reserve for two changes and a session, a start, a replacement, an erase and an undo are never refused; by itself this
 /// test has memory, and `make faults` runs it with each request behind the mark refused.
 #[test]
 fn a_reserved_block_needs_no_memory(rt: HostRuntime) -> Result<(), Fail> {
     let alloc = rt.alloc();
     let mut database = Linked::<MultiIndex>::new(alloc, accounts(alloc)?, 7)?;
-    add(&rt, alloc, &mut database, account(alloc, "a", 1, false)?, 0)?;
-    add(&rt, alloc, &mut database, account(alloc, "b", 2, false)?, 1)?;
-    let row = account(alloc, "b", 3, true)?;
-    assert_eq!(rt; database.reserve(2, 1), Ok(()));
-    drop(Vec::<u8>::with_capacity(alloc, MARK)?);
-    assert_eq!(rt; database.start(alloc), Ok(1));
-    assert_eq!(rt; database.catalog().table_count(), 1);
-    assert!(rt; database.catalog().table(0).fits_record(&row));
-    assert!(rt; database.replace(alloc, 0, 1, row).is_ok());
-    assert_eq!(rt; database.catalog().table_count(), 1);
-    assert!(rt; shows(&database, 1, "b", 3, true));
-    assert_eq!(rt; database.erase(alloc, 0, 0), Ok(()));
-    assert_eq!(rt; database.undo(), Ok(0));
-    assert_eq!(rt; database.catalog().table_count(), 1);
-    assert!(rt; shows(&database, 0, "a", 1, false));
-    assert!(rt; shows(&database, 1, "b", 2, false));
-    Ok(())
+    check_block(&rt, alloc, &mut database)
 }

@@ -137,9 +137,10 @@ fn verdict(alloc: Global, line: &[u8], catalog: &Catalog) -> &'static str {
 fn lines_are_bound_or_refused(rt: HostRuntime) -> Result<(), Fail> {
     let alloc = rt.alloc();
     let catalog = Catalog::of(alloc, built_in(alloc)?)?;
-    for (want, line) in LINES.lines().filter_map(|text| text.split_once(' ')) {
-        let word = verdict(alloc, line.as_bytes(), &catalog);
-        assert_eq!(rt; word, want, "{line}");
+    for text in LINES.lines() {
+        if let Some((want, line)) = text.split_once(' ') {
+            assert_eq!(rt; verdict(alloc, line.as_bytes(), &catalog), want, "{line}");
+        }
     }
     Ok(())
 }

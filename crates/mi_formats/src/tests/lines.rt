@@ -3,6 +3,45 @@ use mi_request::LineReader;
 use std::alloc::{AllocError, Global};
 use std::test::Fail;
 
+/// The word, or `ok`, and the line.
+const LINES: &str = r#"json {"cmd":"undo"
+form []
+form {"cmd":"fly"}
+form {"cmd":"get","id":0,"x":1}
+ok { "cmd" : "undo" }
+ok {"cmd":"undo"}
+ok {"cmd":"start"}
+form {"cmd":"start","table":"a"}
+ok {"cmd":"squash"}
+form {"cmd":"squash","table":"accounts"}
+ok {"cmd":"commit","revision":0}
+form {"cmd":"commit"}
+form {"cmd":"commit","revision":-1}
+form {"cmd":"commit","revision":null}
+ok {"cmd":"undo_all"}
+ok {"cmd":"push"}
+ok {"cmd":"reserve","changes":1000000,"sessions":1024}
+form {"cmd":"reserve","changes":1000001,"sessions":1}
+form {"cmd":"reserve","changes":3,"sessions":1025}
+form {"cmd":"reserve","changes":3}
+ok {"cmd":"revision"}
+form {"cmd":"revision","table":"accounts"}
+ok {"cmd":"get","id":0}
+form {"cmd":"get","id":-1}
+ok {"cmd":"get","id":9223372036854775807}
+form {"cmd":"get","id":9223372036854775808}
+json {"cmd":"get","id":07}
+json {"cmd":"get","id":+7}
+form {"cmd":"get","id":7.0}
+json {"cmd":"erase","id":}
+json {"cmd":"erase","id":7}}
+form {"cmd":"erase","id":18446744073709551616}
+ok {"cmd":"get","table":"accounts","id":0}
+ok {"cmd":"get","table":"c","id":0}
+form {"cmd":"get","table":0,"id":0}
+form {"cmd":"insert"}
+"#;
+
 fn verdict(alloc: Global, line: &[u8]) -> &'static str {
     match LineReader::new(alloc).parse(line) {
         Ok(_request) => "ok",
@@ -17,59 +56,23 @@ fn brackets(alloc: Global, n: usize) -> Result<Vec<u8>, AllocError> {
 }
 
 #[test]
-fn lines_are_requests_or_refused(rt: HostRuntime) -> Result<(), Fail> {
+fn lines_are_requests_or_refused(rt: HostRuntime) {
     let alloc = rt.alloc();
-    for (line, want) in [
-        ("{\"cmd\":\"undo\"", "json"),
-        ("[]", "form"),
-        ("{\"cmd\":\"fly\"}", "form"),
-        ("{\"cmd\":\"get\",\"id\":0,\"x\":1}", "form"),
-        ("{ \"cmd\" : \"undo\" }", "ok"),
-        ("{\"cmd\":\"undo\"}", "ok"),
-        ("{\"cmd\":\"start\"}", "ok"),
-        ("{\"cmd\":\"start\",\"table\":\"a\"}", "form"),
-        ("{\"cmd\":\"squash\"}", "ok"),
-        ("{\"cmd\":\"squash\",\"table\":\"accounts\"}", "form"),
-        ("{\"cmd\":\"commit\",\"revision\":0}", "ok"),
-        ("{\"cmd\":\"commit\"}", "form"),
-        ("{\"cmd\":\"commit\",\"revision\":-1}", "form"),
-        ("{\"cmd\":\"commit\",\"revision\":null}", "form"),
-        ("{\"cmd\":\"undo_all\"}", "ok"),
-        ("{\"cmd\":\"push\"}", "ok"),
-        (
-            "{\"cmd\":\"reserve\",\"changes\":1000000,\"sessions\":1024}",
-            "ok",
-        ),
-        (
-            "{\"cmd\":\"reserve\",\"changes\":1000001,\"sessions\":1}",
-            "form",
-        ),
-        (
-            "{\"cmd\":\"reserve\",\"changes\":3,\"sessions\":1025}",
-            "form",
-        ),
-        ("{\"cmd\":\"reserve\",\"changes\":3}", "form"),
-        ("{\"cmd\":\"revision\"}", "ok"),
-        ("{\"cmd\":\"revision\",\"table\":\"accounts\"}", "form"),
-        ("{\"cmd\":\"get\",\"id\":0}", "ok"),
-        ("{\"cmd\":\"get\",\"id\":-1}", "form"),
-        ("{\"cmd\":\"get\",\"id\":9223372036854775807}", "ok"),
-        ("{\"cmd\":\"get\",\"id\":9223372036854775808}", "form"),
-        ("{\"cmd\":\"get\",\"id\":07}", "json"),
-        ("{\"cmd\":\"get\",\"id\":+7}", "json"),
-        ("{\"cmd\":\"get\",\"id\":7.0}", "form"),
-        ("{\"cmd\":\"erase\",\"id\":}", "json"),
-        ("{\"cmd\":\"erase\",\"id\":7}}", "json"),
-        ("{\"cmd\":\"erase\",\"id\":18446744073709551616}", "form"),
-        ("{\"cmd\":\"get\",\"table\":\"accounts\",\"id\":0}", "ok"),
-        ("{\"cmd\":\"get\",\"table\":\"c\",\"id\":0}", "ok"),
-        ("{\"cmd\":\"get\",\"table\":0,\"id\":0}", "form"),
-        ("{\"cmd\":\"insert\"}", "form"),
-    ] {
-        assert_eq!(rt; verdict(alloc, line.as_bytes()), want, "{line}");
+    for text in LINES.lines() {
+        if let Some((want, line)) = text.split_once(' ') {
+            assert_eq!(rt; verdict(alloc, line.as_bytes()), want, "{line}");
+        }
     }
     assert_eq!(rt; verdict(alloc, b"\xff"), "json");
-    assert_eq!(rt; verdict(alloc, brackets(alloc, 100)?.as_slice()), "form");
-    assert_eq!(rt; verdict(alloc, brackets(alloc, 1000)?.as_slice()), "json");
+}
+
+/// Brackets are read to a depth that is bounded: few are no command, many no JSON.
+#[test]
+fn brackets_have_a_limit(rt: HostRuntime) -> Result<(), Fail> {
+    let alloc = rt.alloc();
+    for (n, want) in [(100, "form"), (1000, "json")] {
+        let line = brackets(alloc, n)?;
+        assert_eq!(rt; verdict(alloc, line.as_slice()), want);
+    }
     Ok(())
 }

@@ -1,60 +1,249 @@
 //! Worked documents: which are schemas and catalogs, and what the others lack.
+//!
+//! A table of documents has the word of the fault, or `ok`, behind a mark, and from the next line on the document.
 use mi_schema::{Catalog, Schema, SchemaFault, built_in, read_catalog, read_schema};
 use std::alloc::{AllocError, Global};
 use std::process::Abort;
 use std::test::Fail;
 
-const ACCOUNTS: &str = "table = \"accounts\"
+/// A schema for each word.
+const FAULTS: &str = r#"
+=== toml
+table =
+=== shape
+
+=== name
+table = "t"
+column = [{name = "id", type = "float"}]
+=== twice
+table = "t"
+column = [{name = "a", type = "int"}, {name = "a", type = "text"}]
+=== type
+table = "t"
+column = [{name = "a", type = "float"}]
+=== kind
+table = "t"
+column = [{name = "a", type = "int"}]
+index = [{name = "i", kind = "btree", key = ["a"]}]
+=== key
+table = "t"
+column = [{name = "a", type = "int"}]
+index = [{name = "i", kind = "hashed", key = ["-a"]}]
+=== key
+table = "t"
+column = [{name = "a", type = "int"}]
+index = [{name = "i", kind = "sequenced", key = ["a"]}]
+=== key
+table = "t"
+column = [{name = "a", type = "int"}]
+index = [{name = "i", kind = "ordered", key = ["b"]}]
+=== key
+table = "t"
+column = [{name = "a", type = "int"}]
+index = [{name = "i", kind = "ordered"}]
+=== limit
+table = "t"
+column = []
+=== number
+max_rows = 0
+table = "t"
+column = [{name = "a", type = "int"}]
+=== ok
+table = "t"
+column = [{name = "a", type = "int"}]"#;
+
+/// A schema knows no format; each kind of value, and each name beside its rule.
+const SHAPES: &str = r#"
+=== shape
+format = 1
+table = "t"
+column = [{name = "a", type = "int"}]
+=== shape
+table = "t"
+max_rows = 1.0
+column = [{name = "a", type = "int"}]
+=== shape
+table = "t"
+column = [{name = "a", type = "int", key = 1}]
+=== name
+table = "T"
+column = [{name = "a", type = "int"}]
+=== ok
+table = "id"
+column = [{name = "a", type = "int"}]
+=== ok
+table = "_1234567890123456789012345678901"
+column = [{name = "a", type = "int"}]
+=== name
+table = "_12345678901234567890123456789012"
+column = [{name = "a", type = "int"}]"#;
+
+const KEYS: &str = r#"
+=== key
+table = "t"
+column = [{name = "a", type = "int"}]
+index = [{name = "i", kind = "ordered", key = []}]
+=== key
+table = "t"
+column = [{name = "a", type = "int"}]
+index = [{name = "i", kind = "ranked", key = ["a", "-a"]}]
+=== key
+table = "t"
+column = [{name = "a", type = "int"}]
+index = [{name = "i", kind = "ranked", key = ["--a"]}]
+=== key
+table = "t"
+column = [{name = "a", type = "int"}]
+index = [{name = "i", kind = "sequenced", unique = true}]
+=== key
+table = "t"
+column = [{name = "a", type = "int"}]
+index = [{name = "i", kind = "sequenced", key = []}]"#;
+
+const NUMBERS: &str = r#"
+=== number
+table = "t"
+first_id = -1
+column = [{name = "a", type = "int"}]
+=== number
+table = "t"
+first_arrival = -1
+column = [{name = "a", type = "int"}]
+=== number
+table = "t"
+first_revision = -1
+column = [{name = "a", type = "int"}]
+=== ok
+table = "t"
+max_rows = 16777216
+column = [{name = "a", type = "int"}]
+=== number
+table = "t"
+max_rows = 16777217
+column = [{name = "a", type = "int"}]"#;
+
+/// Of two faults the first in the order of checks.
+const TWO_FAULTS: &str = r#"
+=== shape
+table = 1
+column = [{name = "id", type = "int"}]
+=== twice
+table = "t"
+column = [{name = "a", type = "int"}, {name = "a", type = "float"}]
+=== type
+table = "t"
+column = [{name = "a", type = "float"}]
+index = [{name = "i", kind = "btree"}]
+=== kind
+table = "t"
+column = [{name = "a", type = "int"}]
+index = [{name = "i", kind = "ordered"}, {name = "j", kind = "btree"}]
+=== key
+table = "t"
+column = []
+index = [{name = "i", kind = "ordered"}]
+=== limit
+table = "t"
+max_rows = 0
+column = []"#;
+
+const CATALOGS: &str = r#"
+=== shape
+format = 2
+table = "t"
+=== shape
+format = "2"
+table = []
+=== limit
+format = 2
+table = []
+=== twice
+format = 2
+[[table]]
+name = "a"
+column = [{name = "k", type = "int"}]
+[[table]]
+name = "a"
+column = [{name = "t", type = "text"}]
+=== shape
+format = 2
+[[table]]
+name = "a"
+first_revision = 0
+column = [{name = "k", type = "int"}]
+=== number
+format = 2
+first_revision = -1
+[[table]]
+name = "a"
+column = [{name = "k", type = "int"}]
+=== name
+format = 2
+[[table]]
+name = "a"
+column = [{name = "k", type = "real"}]
+[[table]]
+name = "B"
+column = [{name = "t", type = "text"}]"#;
+
+const ACCOUNTS: &str = r#"table = "accounts"
 
 [[column]]
-name = \"owner\"
-type = \"text\"
+name = "owner"
+type = "text"
 
 [[column]]
-name = \"balance\"
-type = \"int\"
+name = "balance"
+type = "int"
 
 [[column]]
-name = \"vip\"
-type = \"flag\"
+name = "vip"
+type = "flag"
 
 [[index]]
-name = \"by_owner\"
-kind = \"hashed\"
+name = "by_owner"
+kind = "hashed"
 unique = true
-key = [\"owner\"]
+key = ["owner"]
 
 [[index]]
-name = \"by_balance\"
-kind = \"ranked\"
-key = [\"balance\"]
+name = "by_balance"
+kind = "ranked"
+key = ["balance"]
 
 [[index]]
-name = \"by_vip\"
-kind = \"hashed\"
-key = [\"vip\"]
+name = "by_vip"
+kind = "hashed"
+key = ["vip"]
 
 [[index]]
-name = \"by_class\"
-kind = \"ordered\"
-key = [\"-vip\", \"balance\"]
+name = "by_class"
+kind = "ordered"
+key = ["-vip", "balance"]
 
 [[index]]
-name = \"line\"
-kind = \"sequenced\"
-";
+name = "line"
+kind = "sequenced"
+"#;
 
-const TWO: &str = "format = 2
+const TWO: &str = r#"format = 2
 [[table]]
-name = \"a\"
-column = [{name = \"k\", type = \"int\"}]
-index = [{name = \"u\", kind = \"ordered\", unique = true, key = [\"k\"]}]
+name = "a"
+column = [{name = "k", type = "int"}]
+index = [{name = "u", kind = "ordered", unique = true, key = ["k"]}]
 [[table]]
-name = \"b\"
+name = "b"
 first_id = 10
 max_rows = 1
-column = [{name = \"t\", type = \"text\"}]
-";
+column = [{name = "t", type = "text"}]
+"#;
+
+/// What documents are read as.
+#[derive(Clone, Copy)]
+enum Documents {
+    Schemas,
+    Catalogs,
+}
 
 /// The word of the fault, or `ok`.
 fn schema_verdict(alloc: Global, text: &str) -> &'static str {
@@ -71,28 +260,84 @@ fn catalog_verdict(alloc: Global, text: &str) -> &'static str {
     }
 }
 
+fn verdict(alloc: Global, documents: Documents, text: &str) -> &'static str {
+    match documents {
+        Documents::Schemas => schema_verdict(alloc, text),
+        Documents::Catalogs => catalog_verdict(alloc, text),
+    }
+}
+
+/// Asserts the word of each document in a table.
+fn assert_verdicts(rt: &impl Abort, alloc: Global, documents: Documents, table: &str) {
+    for part in table.split("\n=== ") {
+        if let Some((want, text)) = part.split_once('\n') {
+            assert_eq!(rt; verdict(alloc, documents, text), want, "{text}");
+        }
+    }
+}
+
+/// Whether a text is refused since it isn't TOML.
+fn is_no_toml(alloc: Global, text: &[u8]) -> bool {
+    matches!(read_schema(alloc, text), Err(SchemaFault::Toml))
+}
+
+fn schema_of(alloc: Global, text: &str) -> Result<Schema, SchemaFault> {
+    read_schema(alloc, text.as_bytes())
+}
+
+fn catalog_of(alloc: Global, text: &str) -> Result<Catalog, SchemaFault> {
+    read_catalog(alloc, text.as_bytes())
+}
+
+/// Whether two schemas have the same column of a number, which is found by its name.
+fn same_column(a: &Schema, b: &Schema, i: usize) -> bool {
+    match (a.columns().get(i), b.columns().get(i)) {
+        (Some(column), Some(other)) => column.kind == other.kind
+            && b.find_column(column.name.as_str()) == Some(i),
+        _ => false,
+    }
+}
+
+/// Whether two schemas have the same index of a number.
+fn same_index(a: &Schema, b: &Schema, i: usize) -> bool {
+    i < a.index_count()
+        && i < b.index_count()
+        && a.index_name(i) == b.index_name(i)
+        && a.kind(i) == b.kind(i)
+        && a.unique(i) == b.unique(i)
+        && a.parts(i) == b.parts(i)
+        && b.find_index(a.index_name(i)) == Some(i)
+}
+
+fn same_numbers(a: &Schema, b: &Schema) -> bool {
+    a.first_id() == b.first_id()
+        && a.first_arrival() == b.first_arrival()
+        && a.first_revision() == b.first_revision()
+        && a.max_rows() == b.max_rows()
+}
+
+fn assert_same_columns(rt: &impl Abort, a: &Schema, b: &Schema) {
+    let count = a.columns().len();
+    assert_eq!(rt; count, b.columns().len());
+    for i in 0..count {
+        assert!(rt; same_column(a, b, i), "column {i}");
+    }
+}
+
+fn assert_same_indexes(rt: &impl Abort, a: &Schema, b: &Schema) {
+    let count = a.index_count();
+    assert_eq!(rt; count, b.index_count());
+    for i in 0..count {
+        assert!(rt; same_index(a, b, i), "index {i}");
+    }
+}
+
 /// Asserts that two schemas are equal in every reader.
 fn assert_same_schema(rt: &impl Abort, a: &Schema, b: &Schema) {
     assert_eq!(rt; a.table_name(), b.table_name());
-    assert_eq!(rt; a.columns().len(), b.columns().len());
-    for (i, column) in a.columns().iter().enumerate() {
-        assert_eq!(rt; b.find_column(column.name.as_str()), Some(i));
-    }
-    for (column, other) in a.columns().iter().zip(b.columns()) {
-        assert_eq!(rt; column.kind, other.kind);
-    }
-    assert_eq!(rt; a.index_count(), b.index_count());
-    for i in 0..a.index_count() {
-        assert_eq!(rt; a.index_name(i), b.index_name(i));
-        assert_eq!(rt; a.kind(i), b.kind(i));
-        assert_eq!(rt; a.unique(i), b.unique(i));
-        assert_eq!(rt; a.parts(i), b.parts(i));
-        assert_eq!(rt; b.find_index(a.index_name(i)), Some(i));
-    }
-    assert_eq!(rt; a.first_id(), b.first_id());
-    assert_eq!(rt; a.first_arrival(), b.first_arrival());
-    assert_eq!(rt; a.first_revision(), b.first_revision());
-    assert_eq!(rt; a.max_rows(), b.max_rows());
+    assert_same_columns(rt, a, b);
+    assert_same_indexes(rt, a, b);
+    assert!(rt; same_numbers(a, b), "numbers");
 }
 
 /// Asserts that two catalogs are equal in every reader.
@@ -118,212 +363,77 @@ fn many_indexes(alloc: Global, n: usize) -> Result<String, AllocError> {
     Ok(text)
 }
 
+/// The schema of accounts as a catalog of a format.
+fn accounts_in_format(alloc: Global, format: u64) -> Result<String, AllocError> {
+    format!(in alloc; "format = {format}\n{ACCOUNTS}")
+}
+
 #[test]
-fn schemas_are_read_or_refused(rt: HostRuntime) -> Result<(), Fail> {
-    let alloc = rt.alloc();
-    for (text, want) in [
-        (ACCOUNTS, "ok"),
-        ("table =", "toml"),
-        ("", "shape"),
-        (
-            "table = \"t\"\ncolumn = [{name = \"id\", type = \"float\"}]",
-            "name",
-        ),
-        (
-            "table = \"t\"\ncolumn = [{name = \"a\", type = \"int\"}, {name = \"a\", type = \"text\"}]",
-            "twice",
-        ),
-        (
-            "table = \"t\"\ncolumn = [{name = \"a\", type = \"float\"}]",
-            "type",
-        ),
-        (
-            "table = \"t\"\ncolumn = [{name = \"a\", type = \"int\"}]\nindex = [{name = \"i\", kind = \"btree\", key = [\"a\"]}]",
-            "kind",
-        ),
-        (
-            "table = \"t\"\ncolumn = [{name = \"a\", type = \"int\"}]\nindex = [{name = \"i\", kind = \"hashed\", key = [\"-a\"]}]",
-            "key",
-        ),
-        (
-            "table = \"t\"\ncolumn = [{name = \"a\", type = \"int\"}]\nindex = [{name = \"i\", kind = \"sequenced\", key = [\"a\"]}]",
-            "key",
-        ),
-        (
-            "table = \"t\"\ncolumn = [{name = \"a\", type = \"int\"}]\nindex = [{name = \"i\", kind = \"ordered\", key = [\"b\"]}]",
-            "key",
-        ),
-        (
-            "table = \"t\"\ncolumn = [{name = \"a\", type = \"int\"}]\nindex = [{name = \"i\", kind = \"ordered\"}]",
-            "key",
-        ),
-        ("table = \"t\"\ncolumn = []", "limit"),
-        (
-            "max_rows = 0\ntable = \"t\"\ncolumn = [{name = \"a\", type = \"int\"}]",
-            "number",
-        ),
-        (
-            "table = \"t\"\ncolumn = [{name = \"a\", type = \"int\"}]",
-            "ok",
-        ),
-        // a schema knows no format
-        (
-            "format = 1\ntable = \"t\"\ncolumn = [{name = \"a\", type = \"int\"}]",
-            "shape",
-        ),
-        // each kind of value, and each name beside its rule
-        (
-            "table = \"t\"\nmax_rows = 1.0\ncolumn = [{name = \"a\", type = \"int\"}]",
-            "shape",
-        ),
-        (
-            "table = \"t\"\ncolumn = [{name = \"a\", type = \"int\", key = 1}]",
-            "shape",
-        ),
-        (
-            "table = \"T\"\ncolumn = [{name = \"a\", type = \"int\"}]",
-            "name",
-        ),
-        (
-            "table = \"id\"\ncolumn = [{name = \"a\", type = \"int\"}]",
-            "ok",
-        ),
-        (
-            "table = \"_1234567890123456789012345678901\"\ncolumn = [{name = \"a\", type = \"int\"}]",
-            "ok",
-        ),
-        (
-            "table = \"_12345678901234567890123456789012\"\ncolumn = [{name = \"a\", type = \"int\"}]",
-            "name",
-        ),
-        // keys
-        (
-            "table = \"t\"\ncolumn = [{name = \"a\", type = \"int\"}]\nindex = [{name = \"i\", kind = \"ordered\", key = []}]",
-            "key",
-        ),
-        (
-            "table = \"t\"\ncolumn = [{name = \"a\", type = \"int\"}]\nindex = [{name = \"i\", kind = \"ranked\", key = [\"a\", \"-a\"]}]",
-            "key",
-        ),
-        (
-            "table = \"t\"\ncolumn = [{name = \"a\", type = \"int\"}]\nindex = [{name = \"i\", kind = \"ranked\", key = [\"--a\"]}]",
-            "key",
-        ),
-        (
-            "table = \"t\"\ncolumn = [{name = \"a\", type = \"int\"}]\nindex = [{name = \"i\", kind = \"sequenced\", unique = true}]",
-            "key",
-        ),
-        (
-            "table = \"t\"\ncolumn = [{name = \"a\", type = \"int\"}]\nindex = [{name = \"i\", kind = \"sequenced\", key = []}]",
-            "key",
-        ),
-        // numbers
-        (
-            "table = \"t\"\nfirst_id = -1\ncolumn = [{name = \"a\", type = \"int\"}]",
-            "number",
-        ),
-        (
-            "table = \"t\"\nfirst_arrival = -1\ncolumn = [{name = \"a\", type = \"int\"}]",
-            "number",
-        ),
-        (
-            "table = \"t\"\nfirst_revision = -1\ncolumn = [{name = \"a\", type = \"int\"}]",
-            "number",
-        ),
-        (
-            "table = \"t\"\nmax_rows = 16777216\ncolumn = [{name = \"a\", type = \"int\"}]",
-            "ok",
-        ),
-        (
-            "table = \"t\"\nmax_rows = 16777217\ncolumn = [{name = \"a\", type = \"int\"}]",
-            "number",
-        ),
-        // of two faults the first in the order of checks
-        (
-            "table = 1\ncolumn = [{name = \"id\", type = \"int\"}]",
-            "shape",
-        ),
-        (
-            "table = \"t\"\ncolumn = [{name = \"a\", type = \"int\"}, {name = \"a\", type = \"float\"}]",
-            "twice",
-        ),
-        (
-            "table = \"t\"\ncolumn = [{name = \"a\", type = \"float\"}]\nindex = [{name = \"i\", kind = \"btree\"}]",
-            "type",
-        ),
-        (
-            "table = \"t\"\ncolumn = [{name = \"a\", type = \"int\"}]\nindex = [{name = \"i\", kind = \"ordered\"}, {name = \"j\", kind = \"btree\"}]",
-            "kind",
-        ),
-        (
-            "table = \"t\"\ncolumn = []\nindex = [{name = \"i\", kind = \"ordered\"}]",
-            "key",
-        ),
-        ("table = \"t\"\nmax_rows = 0\ncolumn = []", "limit"),
-    ] {
-        assert_eq!(rt; schema_verdict(alloc, text), want, "{text}");
+fn schemas_are_read_or_refused(rt: HostRuntime) {
+    for table in [FAULTS, SHAPES, KEYS, NUMBERS, TWO_FAULTS] {
+        assert_verdicts(&rt, rt.alloc(), Documents::Schemas, table);
     }
-    assert_eq!(rt;
-        read_schema(alloc, b"table = \"\xff\"").err(),
-        Some(SchemaFault::Toml)
-    );
-    assert_eq!(rt;
-        schema_verdict(alloc, many_indexes(alloc, 15)?.as_str()),
-        "ok"
-    );
-    assert_eq!(rt;
-        schema_verdict(alloc, many_indexes(alloc, 16)?.as_str()),
-        "limit"
-    );
-    let shown = format!(in alloc; "schema: {}", SchemaFault::ColType)?;
+    assert!(rt; is_no_toml(rt.alloc(), b"table = \"\xff\""));
+}
+
+#[test]
+fn indexes_have_a_limit(rt: HostRuntime) -> Result<(), Fail> {
+    let alloc = rt.alloc();
+    for (n, want) in [(15, "ok"), (16, "limit")] {
+        let text = many_indexes(alloc, n)?;
+        assert_eq!(rt; schema_verdict(alloc, text.as_str()), want);
+    }
+    Ok(())
+}
+
+#[test]
+fn faults_are_shown(rt: HostRuntime) -> Result<(), Fail> {
+    let shown = format!(in rt.alloc(); "schema: {}", SchemaFault::ColType)?;
     assert_eq!(rt; shown.as_str(), "schema: type");
-    assert_same_schema(
-        &rt,
-        &read_schema(alloc, ACCOUNTS.as_bytes())?,
-        &built_in(alloc)?,
-    );
+    Ok(())
+}
+
+#[test]
+fn accounts_are_built_in(rt: HostRuntime) -> Result<(), Fail> {
+    let alloc = rt.alloc();
+    let read = schema_of(alloc, ACCOUNTS)?;
+    assert_same_schema(&rt, &read, &built_in(alloc)?);
     Ok(())
 }
 
 #[test]
 fn catalogs_are_read_or_refused(rt: HostRuntime) -> Result<(), Fail> {
     let alloc = rt.alloc();
-    let first = format!(in alloc; "format = 1\n{ACCOUNTS}")?;
-    let third = format!(in alloc; "format = 3\n{ACCOUNTS}")?;
-    for (text, want) in [
-        (ACCOUNTS, "ok"),
-        (TWO, "ok"),
-        (first.as_str(), "ok"),
-        (third.as_str(), "shape"),
-        ("format = 2\ntable = \"t\"", "shape"),
-        ("format = \"2\"\ntable = []", "shape"),
-        ("format = 2\ntable = []", "limit"),
-        (
-            "format = 2\n[[table]]\nname = \"a\"\ncolumn = [{name = \"k\", type = \"int\"}]\n[[table]]\nname = \"a\"\ncolumn = [{name = \"t\", type = \"text\"}]",
-            "twice",
-        ),
-        (
-            "format = 2\n[[table]]\nname = \"a\"\nfirst_revision = 0\ncolumn = [{name = \"k\", type = \"int\"}]",
-            "shape",
-        ),
-        (
-            "format = 2\nfirst_revision = -1\n[[table]]\nname = \"a\"\ncolumn = [{name = \"k\", type = \"int\"}]",
-            "number",
-        ),
-        (
-            "format = 2\n[[table]]\nname = \"a\"\ncolumn = [{name = \"k\", type = \"real\"}]\n[[table]]\nname = \"B\"\ncolumn = [{name = \"t\", type = \"text\"}]",
-            "name",
-        ),
-    ] {
-        assert_eq!(rt; catalog_verdict(alloc, text), want, "{text}");
-    }
-    let two = read_catalog(alloc, TWO.as_bytes())?;
-    assert_eq!(rt; two.table_count(), 2);
-    assert_eq!(rt; two.find_table("b"), Some(1));
-    assert_eq!(rt; two.table(1).first_id(), 10);
-    assert_eq!(rt; two.table(1).max_rows(), 1);
+    assert_verdicts(&rt, alloc, Documents::Catalogs, CATALOGS);
+    assert_eq!(rt; catalog_verdict(alloc, ACCOUNTS), "ok");
+    let third = accounts_in_format(alloc, 3)?;
+    assert_eq!(rt; catalog_verdict(alloc, third.as_str()), "shape");
+    Ok(())
+}
+
+/// Whether the second of two tables is `b` with its numbers.
+fn has_second_table(catalog: &Catalog) -> bool {
+    catalog.table_count() == 2
+        && catalog.find_table("b") == Some(1)
+        && catalog.table(1).first_id() == 10
+        && catalog.table(1).max_rows() == 1
+}
+
+#[test]
+fn catalogs_are_copied(rt: HostRuntime) -> Result<(), Fail> {
+    let alloc = rt.alloc();
+    let two = catalog_of(alloc, TWO)?;
+    assert!(rt; has_second_table(&two));
     assert_same_catalog(&rt, &two.copy(alloc)?, &two);
+    Ok(())
+}
+
+#[test]
+fn accounts_are_a_catalog(rt: HostRuntime) -> Result<(), Fail> {
+    let alloc = rt.alloc();
     let accounts = Catalog::of(alloc, built_in(alloc)?)?;
-    assert_same_catalog(&rt, &accounts, &read_catalog(alloc, first.as_bytes())?);
+    let first = accounts_in_format(alloc, 1)?;
+    let read = catalog_of(alloc, first.as_str())?;
+    assert_same_catalog(&rt, &accounts, &read);
     Ok(())
 }
