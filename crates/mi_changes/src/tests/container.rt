@@ -166,7 +166,15 @@ fn check_four<C: Container>(
     )
 }
 
-/// Four records, the last of them in the list before the second.
+/// Four records and their ids, the last of them in the list before the second.
+const FOUR: [(u64, i64, &str, bool, i64, Option<(usize, u64)>); 4] = [
+    (0, 10, "a", false, 1, None),
+    (1, 11, "b", false, 2, None),
+    (2, 12, "c", true, 2, None),
+    (3, 13, "d", true, 0, Some((LINE, 1))),
+];
+
+/// Puts them in.
 fn fill<C: Container>(
     rt: &impl Abort,
     alloc: Global,
@@ -175,72 +183,127 @@ fn fill<C: Container>(
     requires { Holds undoable.old.schema (C.shape undoable.old.rows) (C.plain undoable.old.rows) undoable.old.inverses.items }
     ensures { Holds undoable.new.schema (C.shape undoable.new.rows) (C.plain undoable.new.rows) undoable.new.inverses.items }
 {
-    for (id, k, s, f, n, before) in [
-        (0, 10, "a", false, 1, None),
-        (1, 11, "b", false, 2, None),
-        (2, 12, "c", true, 2, None),
-        (3, 13, "d", true, 0, Some((LINE, 1))),
-    ] {
-        let row = record(alloc, k, s, f, n)?;
-        assert_eq!(rt; undoable.insert(rt, alloc, row, before), Ok(id));
+    for (id, k, s, f, n, before) in &FOUR {
+        let row = record(alloc, *k, s, *f, *n)?;
+        assert_eq!(rt; undoable.insert(rt, alloc, row, *before), Ok(*id));
     }
     Ok(())
 }
 
-/// Looks up each record and each bound.
-fn check_look_ups<C: Container>(rt: &impl Abort, undoable: &Undoable<C>) -> Result<(), Fail>
+/// Keys of indexes: the first record of each, and how many there are.
+const KEYS: [(usize, ValueRef<'static>, Option<u64>, u64); 5] = [
+    (BY_ID, ValueRef::Int(2), Some(2), 1),
+    (BY_K, ValueRef::Int(11), Some(1), 1),
+    (BY_K, ValueRef::Int(14), None, 0),
+    (BY_N, ValueRef::Int(2), Some(1), 2),
+    (BY_F, ValueRef::Flag(true), Some(2), 2),
+];
+
+/// Looks up each record.
+fn check_look_ups<C: Container>(
+    rt: &impl Abort,
+    alloc: Global,
+    undoable: &Undoable<C>,
+) -> Result<(), Fail>
     requires { Holds undoable.now.schema (C.shape undoable.now.rows) (C.plain undoable.now.rows) undoable.now.inverses.items }
 {
     let rows = &undoable.rows;
     assert!(rt; shows(undoable, 3, 13, "d", true, 0));
     assert!(rt; !undoable.has(4));
-    for (index, key, found, count) in [
-        (BY_ID, Value::Int(2), Some(2), 1),
-        (BY_K, Value::Int(11), Some(1), 1),
-        (BY_K, Value::Int(14), None, 0),
-        (BY_N, Value::Int(2), Some(1), 2),
-        (BY_F, Value::Flag(true), Some(2), 2),
-    ] {
-        let key = [key];
-        assert!(rt; undoable.is_keyed(index));
-        assert!(rt; undoable.is_key(index, &key));
-        assert_eq!(rt; rows.find(index, &key), found);
-        assert_eq!(rt; rows.count(index, &key), count);
+    for (index, key, found, count) in &KEYS {
+        let key = [key.to_value(alloc)?];
+        assert!(rt; undoable.is_keyed(*index));
+        assert!(rt; undoable.is_key(*index, &key));
+        assert_eq!(rt; rows.find(*index, &key), *found);
+        assert_eq!(rt; rows.count(*index, &key), *count);
     }
     Ok(())
 }
 
-/// Looks up bounds and ranks.
-fn check_bounds<C: Container>(rt: &impl Abort, undoable: &Undoable<C>) -> Result<(), Fail>
+/// Keys of sorted indexes: the first record not before each and its rank, and the first behind it and that one's rank.
+const BOUNDS: [(
+    usize,
+    ValueRef<'static>,
+    (Option<u64>, u64),
+    (Option<u64>, u64),
+); 4] = [
+    (BY_N, ValueRef::Int(1), (Some(0), 1), (Some(1), 2)),
+    (BY_N, ValueRef::Int(2), (Some(1), 2), (None, 4)),
+    (BY_F_S, ValueRef::Flag(true), (Some(2), 0), (Some(0), 2)),
+    (BY_F_S, ValueRef::Flag(false), (Some(0), 2), (None, 4)),
+];
+
+/// Looks up bounds.
+fn check_bounds<C: Container>(
+    rt: &impl Abort,
+    alloc: Global,
+    undoable: &Undoable<C>,
+) -> Result<(), Fail>
     requires { Holds undoable.now.schema (C.shape undoable.now.rows) (C.plain undoable.now.rows) undoable.now.inverses.items }
 {
     let rows = &undoable.rows;
-    for (index, key, lower, upper, lower_rank, upper_rank) in [
-        (BY_N, Value::Int(1), Some(0), Some(1), 1, 2),
-        (BY_N, Value::Int(2), Some(1), None, 2, 4),
-        (BY_F_S, Value::Flag(true), Some(2), Some(0), 0, 2),
-        (BY_F_S, Value::Flag(false), Some(0), None, 2, 4),
-    ] {
-        let key = [key];
-        assert!(rt; undoable.is_sorted(index));
-        assert!(rt; undoable.is_prefix(index, &key));
-        assert_eq!(rt; rows.lower(index, &key, &mut Steps::new()), lower);
-        assert_eq!(rt; rows.upper(index, &key, &mut Steps::new()), upper);
-        assert_eq!(rt; rows.lower_rank(index, &key, &mut Steps::new()), lower_rank);
-        assert_eq!(rt; rows.upper_rank(index, &key, &mut Steps::new()), upper_rank);
+    for (index, key, lower, upper) in &BOUNDS {
+        let key = [key.to_value(alloc)?];
+        assert!(rt; undoable.is_sorted(*index));
+        assert!(rt; undoable.is_prefix(*index, &key));
+        assert_eq!(rt; rows.lower(*index, &key, &mut Steps::new()), lower.0);
+        assert_eq!(rt; rows.lower_rank(*index, &key, &mut Steps::new()), lower.1);
+        assert_eq!(rt; rows.upper(*index, &key, &mut Steps::new()), upper.0);
+        assert_eq!(rt; rows.upper_rank(*index, &key, &mut Steps::new()), upper.1);
     }
-    for (n, id) in [(0, 3), (1, 0), (2, 1), (3, 2)] {
-        assert!(rt; undoable.is_sorted(BY_N));
-        assert_eq!(rt; rows.nth(BY_N, n), Some(id));
-        assert!(rt; undoable.has(id));
-        assert_eq!(rt; rows.rank_of(BY_N, id, &mut Steps::new()), n);
-    }
-    assert!(rt; undoable.is_sorted(BY_N));
-    assert_eq!(rt; rows.nth(BY_N, 4), None);
     Ok(())
 }
 
-/// Steps back, and walks both ways.
+/// The ids in the order of `n`.
+const RANKED: [u64; 4] = [3, 0, 1, 2];
+
+/// Looks up ranks.
+fn check_ranks<C: Container>(rt: &impl Abort, undoable: &Undoable<C>)
+    requires { Holds undoable.now.schema (C.shape undoable.now.rows) (C.plain undoable.now.rows) undoable.now.inverses.items }
+{
+    let rows = &undoable.rows;
+    assert!(rt; undoable.is_sorted(BY_N));
+    let mut rank = 0u64;
+    for id in &RANKED {
+        assert_eq!(rt; rows.nth(BY_N, rank), Some(*id));
+        assert!(rt; undoable.has(*id));
+        assert_eq!(rt; rows.rank_of(BY_N, *id, &mut Steps::new()), rank);
+        rank = rank.saturating_add(1);
+    }
+    assert_eq!(rt; rows.nth(BY_N, 4), None);
+}
+
+/// Indexes: the first record, the last, and the one before the record 1.
+const ENDS: [(usize, u64, u64, u64); 5] = [
+    (BY_ID, 0, 3, 0),
+    (BY_N, 3, 2, 0),
+    (BY_F_S, 2, 1, 0),
+    (BY_S_N, 0, 3, 0),
+    (LINE, 0, 2, 3),
+];
+
+/// Steps from both ends.
+fn check_ends<C: Container>(rt: &impl Abort, undoable: &Undoable<C>)
+    requires { Holds undoable.now.schema (C.shape undoable.now.rows) (C.plain undoable.now.rows) undoable.now.inverses.items }
+{
+    let rows = &undoable.rows;
+    for (index, first, last, before_one) in &ENDS {
+        assert!(rt; undoable.is_listed(*index));
+        assert_eq!(rt; rows.first(*index), Some(*first));
+        assert_eq!(rt; rows.last(*index), Some(*last));
+        assert!(rt; undoable.has(1));
+        assert_eq!(rt; rows.before(*index, 1), Some(*before_one));
+    }
+}
+
+/// Walks by `f` and `s`, in reverse or not, from a record on: so many records, by their ids and `k`.
+const WALKS: [(bool, u64, usize, &[(u64, i64)]); 3] = [
+    (false, 3, 2, &[(3, 13), (0, 10)]),
+    (false, 2, 0, &[]),
+    (true, 0, 9, &[(0, 10), (3, 13), (2, 12)]),
+];
+
+/// Walks both ways.
 fn check_walks<C: Container>(
     rt: &impl Abort,
     alloc: Global,
@@ -249,29 +312,12 @@ fn check_walks<C: Container>(
     requires { Holds undoable.now.schema (C.shape undoable.now.rows) (C.plain undoable.now.rows) undoable.now.inverses.items }
 {
     let rows = &undoable.rows;
-    for (index, first, last, before_one) in [
-        (BY_ID, 0, 3, Some(0)),
-        (BY_N, 3, 2, Some(0)),
-        (BY_F_S, 2, 1, Some(0)),
-        (BY_S_N, 0, 3, Some(0)),
-        (LINE, 0, 2, Some(3)),
-    ] {
-        assert!(rt; undoable.is_listed(index));
-        assert_eq!(rt; rows.first(index), Some(first));
-        assert_eq!(rt; rows.last(index), Some(last));
-        assert!(rt; undoable.has(1));
-        assert_eq!(rt; rows.before(index, 1), before_one);
-    }
-    for (reverse, first, limit, want) in [
-        (false, 3, 2, [(3, 13), (0, 10)].as_slice()),
-        (false, 2, 0, [].as_slice()),
-        (true, 0, 9, [(0, 10), (3, 13), (2, 12)].as_slice()),
-    ] {
+    for (reverse, first, limit, want) in &WALKS {
         assert!(rt; undoable.is_listed(BY_F_S));
-        assert!(rt; undoable.has(first));
-        let walked = rows.walk(alloc, BY_F_S, reverse, first, limit, &mut Steps::new())?;
+        assert!(rt; undoable.has(*first));
+        let walked = rows.walk(alloc, BY_F_S, *reverse, *first, *limit, &mut Steps::new())?;
         assert_eq!(rt; walked.len(), want.len());
-        for ((id, row), (want, k)) in walked.iter().zip(want) {
+        for ((id, row), (want, k)) in walked.iter().zip(want.iter()) {
             assert_eq!(rt; id, want);
             assert!(rt; row.get(0) == Some(ValueRef::Int(*k)));
         }
@@ -322,6 +368,13 @@ fn check_puts<C: Container>(
     check_four(rt, alloc, undoable)
 }
 
+/// Moves in the list before a record or to its end: the list afterwards.
+const MOVES: [(u64, Option<u64>, [u64; 4]); 3] = [
+    (0, Some(2), [3, 1, 0, 2]),
+    (3, None, [0, 1, 2, 3]),
+    (1, Some(1), [0, 3, 1, 2]),
+];
+
 /// Moves and an erase, each taken back; then an id that is used again.
 fn check_moves<C: Container>(
     rt: &impl Abort,
@@ -331,12 +384,8 @@ fn check_moves<C: Container>(
     requires { Holds undoable.old.schema (C.shape undoable.old.rows) (C.plain undoable.old.rows) undoable.old.inverses.items }
     ensures { Holds undoable.new.schema (C.shape undoable.new.rows) (C.plain undoable.new.rows) undoable.new.inverses.items }
 {
-    for (id, before, line) in [
-        (0, Some(2), [3, 1, 0, 2]),
-        (3, None, [0, 1, 2, 3]),
-        (1, Some(1), [0, 3, 1, 2]),
-    ] {
-        assert_eq!(rt; undoable.relocate(rt, LINE, id, before), Ok(()));
+    for (id, before, line) in &MOVES {
+        assert_eq!(rt; undoable.relocate(rt, LINE, *id, *before), Ok(()));
         let got = ids(rt, alloc, undoable, LINE)?;
         assert_eq!(rt; got.as_slice(), line.as_slice());
         assert!(rt; undoable.unwind());
@@ -381,34 +430,53 @@ fn check_settled<C: Container>(
     )
 }
 
-#[test]
-fn each_call_of_the_container(rt: HostRuntime) -> Result<(), Fail> {
-    let alloc = rt.alloc();
-    let mut undoable = Undoable::<MultiIndex>::open(alloc, schema(alloc)?)?;
-    fill(&rt, alloc, &mut undoable)?;
-    check_four(&rt, alloc, &undoable)?;
-    check_look_ups(&rt, &undoable)?;
-    check_bounds(&rt, &undoable)?;
-    check_walks(&rt, alloc, &undoable)?;
-    check_puts(&rt, alloc, &mut undoable)?;
-    check_moves(&rt, alloc, &mut undoable)?;
-    check_settled(&rt, alloc, &mut undoable)
+fn check_each_call<C: Container>(rt: &impl Abort, alloc: Global) -> Result<(), Fail> {
+    let mut undoable = Undoable::<C>::open(alloc, schema(alloc)?)?;
+    fill(rt, alloc, &mut undoable)?;
+    check_four(rt, alloc, &undoable)?;
+    check_look_ups(rt, alloc, &undoable)?;
+    check_bounds(rt, alloc, &undoable)?;
+    check_ranks(rt, &undoable);
+    check_ends(rt, &undoable);
+    check_walks(rt, alloc, &undoable)?;
+    check_puts(rt, alloc, &mut undoable)?;
+    check_moves(rt, alloc, &mut undoable)?;
+    check_settled(rt, alloc, &mut undoable)
 }
 
-/// An insert and a modify, both taken back: the id is used again.
 #[test]
-fn an_id_is_used_again(rt: HostRuntime) -> Result<(), Fail> {
-    let alloc = rt.alloc();
-    let mut undoable = Undoable::<MultiIndex>::open(alloc, schema(alloc)?)?;
+fn each_call_of_the_container(rt: HostRuntime) -> Result<(), Fail> {
+    check_each_call::<MultiIndex>(&rt, rt.alloc())
+}
+
+/// Puts the first record in.
+fn insert_first<C: Container>(
+    rt: &impl Abort,
+    alloc: Global,
+    undoable: &mut Undoable<C>,
+) -> Result<(), Fail>
+    requires { Holds undoable.old.schema (C.shape undoable.old.rows) (C.plain undoable.old.rows) undoable.old.inverses.items }
+    ensures { Holds undoable.new.schema (C.shape undoable.new.rows) (C.plain undoable.new.rows) undoable.new.inverses.items }
+{
     let row = record(alloc, 1, "a", false, 1)?;
-    assert_eq!(rt; undoable.insert(&rt, alloc, row, None), Ok(0));
-    assert_eq!(rt; undoable.add(&rt, alloc, 0, N, 4, false), Ok(()));
+    assert_eq!(rt; undoable.insert(rt, alloc, row, None), Ok(0));
+    Ok(())
+}
+
+fn check_reuse<C: Container>(rt: &impl Abort, alloc: Global) -> Result<(), Fail> {
+    let mut undoable = Undoable::<C>::open(alloc, schema(alloc)?)?;
+    insert_first(rt, alloc, &mut undoable)?;
+    assert_eq!(rt; undoable.add(rt, alloc, 0, N, 4, false), Ok(()));
     assert!(rt; shows(&undoable, 0, 1, "a", false, 5));
     assert!(rt; undoable.unwind());
     assert!(rt; shows(&undoable, 0, 1, "a", false, 1));
     assert!(rt; undoable.unwind());
     assert!(rt; !undoable.has(0));
-    let row = record(alloc, 1, "a", false, 1)?;
-    assert_eq!(rt; undoable.insert(&rt, alloc, row, None), Ok(0));
-    Ok(())
+    insert_first(rt, alloc, &mut undoable)
+}
+
+/// An insert and a modify, both taken back: the id is used again.
+#[test]
+fn an_id_is_used_again(rt: HostRuntime) -> Result<(), Fail> {
+    check_reuse::<MultiIndex>(&rt, rt.alloc())
 }

@@ -1,8 +1,9 @@
 //! The plain database of one table, asked as a container is: each change in a session of its own. Each call asks at run time what the
 //! database's own call wants of its arguments.
 ghost use Rattle.std.specs.Prelude.{◌≡◌, IsTrue, IfSome};
+ghost use Rattle.mi_catalog.specs.Shape.{schema_at};
 ghost use Rattle.mi_catalog.specs.Fitting.{HasTable, IsKeyedIndex, IsHashedIndex, IsSortedIndex, IsSequencedIndex, IsListedIndex};
-ghost use Rattle.mi_catalog.specs.Fitting.{FitsTable, EditsFit, FitsWhole, FitsPrefix, FitsLookUp};
+ghost use Rattle.mi_catalog.specs.Fitting.{FitsWhole, FitsPrefix, FitsLookUp};
 ghost use Rattle.mi_model.specs.Database.{table_of};
 ghost use Rattle.mi_model.specs.Table.{has as has_row};
 
@@ -29,118 +30,106 @@ impl Reference {
         Ok(Reference { plain })
     }
 
-    /// Whether there is a table.
-    fn is_there(&self) -> bool
-        ensures { IsTrue result → HasTable self.now.plain.catalog 0 }
+    /// Its schema; stops where there is no table.
+    fn schema(&self, rt: &impl Abort) -> &Schema
+        ensures table { HasTable self.now.plain.catalog 0 }
+        ensures schema { result.now ≡ schema_at self.now.plain.catalog 0 }
     {
-        self.plain.catalog().table_count() > 0
+        let catalog = self.plain.catalog();
+        assert!(rt; catalog.table_count() > 0);
+        catalog.table(0)
     }
 
-    /// Whether index i has keys.
-    fn is_keyed(&self, i: usize) -> bool
-        requires { HasTable self.now.plain.catalog 0 }
-        ensures { IsTrue result → IsKeyedIndex self.now.plain.catalog 0 i }
+    /// Stops unless index i has keys, and is asked by these values: whole keys if it is hashed, and else also the first values of one.
+    fn want_look_up(&self, rt: &impl Abort, i: usize, key: &[Value])
+        ensures table { HasTable self.now.plain.catalog 0 }
+        ensures index { IsKeyedIndex self.now.plain.catalog 0 i }
+        ensures key { FitsLookUp self.now.plain.catalog 0 i key.now }
     {
-        let schema = self.plain.catalog().table(0);
-        i < schema.index_count() && schema.kind(i).has_keys()
+        let schema = self.schema(rt);
+        assert!(rt; i < schema.index_count());
+        let kind = schema.kind(i);
+        assert!(rt; kind.has_keys());
+        assert!(rt; schema.fits_key(i, key, kind.is_hashed()));
     }
 
-    /// Whether it is hashed.
-    fn is_hashed(&self, i: usize) -> bool
-        requires { HasTable self.now.plain.catalog 0 }
-        ensures { IsTrue result → IsHashedIndex self.now.plain.catalog 0 i }
+    /// Stops unless it is hashed.
+    fn want_hashed(&self, rt: &impl Abort, i: usize)
+        ensures table { HasTable self.now.plain.catalog 0 }
+        ensures index { IsHashedIndex self.now.plain.catalog 0 i }
     {
-        let schema = self.plain.catalog().table(0);
-        i < schema.index_count() && schema.kind(i).is_hashed()
+        let schema = self.schema(rt);
+        assert!(rt; i < schema.index_count());
+        assert!(rt; schema.kind(i).is_hashed());
     }
 
-    /// Whether it is ordered or ranked.
-    fn is_sorted(&self, i: usize) -> bool
-        requires { HasTable self.now.plain.catalog 0 }
-        ensures { IsTrue result → IsSortedIndex self.now.plain.catalog 0 i }
+    /// Stops unless it is hashed, and values are a whole key of it.
+    fn want_key(&self, rt: &impl Abort, i: usize, key: &[Value])
+        ensures table { HasTable self.now.plain.catalog 0 }
+        ensures index { IsHashedIndex self.now.plain.catalog 0 i }
+        ensures key { FitsWhole self.now.plain.catalog 0 i key.now }
     {
-        let schema = self.plain.catalog().table(0);
-        i < schema.index_count() && schema.kind(i).is_sorted()
+        self.want_hashed(rt, i);
+        assert!(rt; self.schema(rt).fits_key(i, key, true));
     }
 
-    /// Whether it is sequenced.
-    fn is_sequenced(&self, i: usize) -> bool
-        requires { HasTable self.now.plain.catalog 0 }
-        ensures { IsTrue result → IsSequencedIndex self.now.plain.catalog 0 i }
+    /// Stops unless it is ordered or ranked.
+    fn want_sorted(&self, rt: &impl Abort, i: usize)
+        ensures table { HasTable self.now.plain.catalog 0 }
+        ensures index { IsSortedIndex self.now.plain.catalog 0 i }
     {
-        let schema = self.plain.catalog().table(0);
-        i < schema.index_count() && schema.kind(i).is_sequenced()
+        let schema = self.schema(rt);
+        assert!(rt; i < schema.index_count());
+        assert!(rt; schema.kind(i).is_sorted());
     }
 
-    /// Whether it shows one list.
-    fn is_listed(&self, i: usize) -> bool
-        requires { HasTable self.now.plain.catalog 0 }
-        ensures { IsTrue result → IsListedIndex self.now.plain.catalog 0 i }
+    /// Stops unless it is ordered or ranked, and values are a key of it, or the first values of one.
+    fn want_prefix(&self, rt: &impl Abort, i: usize, key: &[Value])
+        ensures table { HasTable self.now.plain.catalog 0 }
+        ensures index { IsSortedIndex self.now.plain.catalog 0 i }
+        ensures key { FitsPrefix self.now.plain.catalog 0 i key.now }
     {
-        let schema = self.plain.catalog().table(0);
-        i < schema.index_count() && schema.kind(i).shows_one_list()
+        let schema = self.schema(rt);
+        assert!(rt; i < schema.index_count());
+        assert!(rt; schema.kind(i).is_sorted());
+        assert!(rt; schema.fits_key(i, key, false));
     }
 
-    /// Whether values are a whole key of index i.
-    fn is_key(&self, i: usize, key: &[Value]) -> bool
-        requires { HasTable self.now.plain.catalog 0 }
-        ensures { IsTrue result → FitsWhole self.now.plain.catalog 0 i key.now }
+    /// Stops unless it is sequenced.
+    fn want_sequenced(&self, rt: &impl Abort, i: usize)
+        ensures table { HasTable self.now.plain.catalog 0 }
+        ensures index { IsSequencedIndex self.now.plain.catalog 0 i }
     {
-        let schema = self.plain.catalog().table(0);
-        i < schema.index_count() && schema.fits_key(i, key, true)
+        let schema = self.schema(rt);
+        assert!(rt; i < schema.index_count());
+        assert!(rt; schema.kind(i).is_sequenced());
     }
 
-    /// Whether they are a key of it, or the first values of one.
-    fn is_prefix(&self, i: usize, key: &[Value]) -> bool
-        requires { HasTable self.now.plain.catalog 0 }
-        ensures { IsTrue result → FitsPrefix self.now.plain.catalog 0 i key.now }
+    /// Stops unless it shows one list.
+    fn want_listed(&self, rt: &impl Abort, i: usize)
+        ensures table { HasTable self.now.plain.catalog 0 }
+        ensures index { IsListedIndex self.now.plain.catalog 0 i }
     {
-        let schema = self.plain.catalog().table(0);
-        i < schema.index_count() && schema.fits_key(i, key, false)
+        let schema = self.schema(rt);
+        assert!(rt; i < schema.index_count());
+        assert!(rt; schema.kind(i).shows_one_list());
     }
 
-    /// Whether index i is asked by these values: whole keys if it is hashed, and else also the first values of one.
-    fn is_look_up(&self, i: usize, key: &[Value]) -> bool
-        requires { HasTable self.now.plain.catalog 0 }
-        ensures { IsTrue result → FitsLookUp self.now.plain.catalog 0 i key.now }
+    /// Stops unless a record may be placed there.
+    fn want_place(&self, rt: &impl Abort, before: Option<(usize, u64)>)
+        ensures { IfSome before (λ at. IsSequencedIndex self.now.plain.catalog 0 at.0) }
     {
-        let schema = self.plain.catalog().table(0);
-        i < schema.index_count() && schema.fits_key(i, key, schema.kind(i).is_hashed())
-    }
-
-    /// Whether a record fits the columns.
-    fn fits(&self, row: &Record) -> bool
-        requires { HasTable self.now.plain.catalog 0 }
-        ensures { IsTrue result → FitsTable self.now.plain.catalog 0 row.now }
-    {
-        self.plain.catalog().table(0).fits_record(row)
-    }
-
-    /// Whether edits do.
-    fn fits_edits(&self, edits: &[Edit]) -> bool
-        requires { HasTable self.now.plain.catalog 0 }
-        ensures { IsTrue result → EditsFit self.now.plain.catalog 0 edits.now }
-    {
-        fits_edits(self.plain.catalog().table(0).columns(), edits)
-    }
-
-    /// Whether a record may be placed there.
-    fn is_place(&self, before: Option<(usize, u64)>) -> bool
-        requires { HasTable self.now.plain.catalog 0 }
-        ensures { IsTrue result → IfSome before (λ at. IsSequencedIndex self.now.plain.catalog 0 at.0) }
-    {
-        match before {
-            Some((index, _)) => self.is_sequenced(index),
-            None => true,
+        if let Some((index, _)) = before {
+            self.want_sequenced(rt, index);
         }
     }
 
-    /// Whether there is a record of this id.
-    fn has(&self, id: u64) -> bool
+    /// Stops unless there is a record of this id.
+    fn want_record(&self, rt: &impl Abort, id: u64)
         requires { HasTable self.now.plain.catalog 0 }
-        ensures { IsTrue result → IsTrue (has_row (table_of self.now.plain 0) id) }
+        ensures { IsTrue (has_row (table_of self.now.plain 0) id) }
     {
-        self.plain.get(0, id, &mut Steps::new()).is_some()
+        assert!(rt; self.plain.get(0, id, &mut Steps::new()).is_some());
     }
 
     fn insert(
@@ -150,9 +139,8 @@ impl Reference {
         row: Record,
         before: Option<(usize, u64)>,
     ) -> Answer {
-        assert!(rt; self.is_there());
-        assert!(rt; self.fits(&row));
-        assert!(rt; self.is_place(before));
+        assert!(rt; self.schema(rt).fits_record(&row));
+        self.want_place(rt, before);
         match self.plain.insert(alloc, 0, row, before) {
             Ok(id) => Ok(Some(id)),
             Err((refusal, _)) => Err(refusal),
@@ -160,8 +148,7 @@ impl Reference {
     }
 
     fn replace(&mut self, rt: &impl Abort, alloc: Global, id: u64, row: Record) -> Answer {
-        assert!(rt; self.is_there());
-        assert!(rt; self.fits(&row));
+        assert!(rt; self.schema(rt).fits_record(&row));
         match self.plain.replace(alloc, 0, id, row) {
             Ok(()) => Ok(None),
             Err((refusal, _)) => Err(refusal),
@@ -176,14 +163,13 @@ impl Reference {
         edits: &[Edit],
         rollback: bool,
     ) -> Answer {
-        assert!(rt; self.is_there());
-        assert!(rt; self.fits_edits(edits));
+        assert!(rt; fits_edits(self.schema(rt).columns(), edits));
         self.plain.modify(alloc, 0, id, edits, rollback)?;
         Ok(None)
     }
 
     fn erase(&mut self, rt: &impl Abort, alloc: Global, id: u64) -> Answer {
-        assert!(rt; self.is_there());
+        let _ = self.schema(rt);
         self.plain.erase(alloc, 0, id)?;
         Ok(None)
     }
@@ -196,8 +182,7 @@ impl Reference {
         id: u64,
         before: Option<u64>,
     ) -> Answer {
-        assert!(rt; self.is_there());
-        assert!(rt; self.is_sequenced(index));
+        self.want_sequenced(rt, index);
         self.plain.relocate(alloc, 0, index, id, before)?;
         Ok(None)
     }
@@ -242,33 +227,29 @@ impl Reference {
     }
 
     pub(super) fn size(&self, rt: &impl Abort) -> u64 {
-        assert!(rt; self.is_there());
+        let _ = self.schema(rt);
         self.plain.size(0)
     }
 
     pub(super) fn first(&self, rt: &impl Abort, index: usize) -> Option<u64> {
-        assert!(rt; self.is_there());
-        assert!(rt; self.is_listed(index));
+        self.want_listed(rt, index);
         self.plain.first(0, index)
     }
 
     pub(super) fn last(&self, rt: &impl Abort, index: usize) -> Option<u64> {
-        assert!(rt; self.is_there());
-        assert!(rt; self.is_listed(index));
+        self.want_listed(rt, index);
         self.plain.last(0, index)
     }
 
     pub(super) fn after(&self, rt: &impl Abort, index: usize, id: u64) -> Option<u64> {
-        assert!(rt; self.is_there());
-        assert!(rt; self.is_listed(index));
-        assert!(rt; self.has(id));
+        self.want_listed(rt, index);
+        self.want_record(rt, id);
         self.plain.after(0, index, id)
     }
 
     pub(super) fn before(&self, rt: &impl Abort, index: usize, id: u64) -> Option<u64> {
-        assert!(rt; self.is_there());
-        assert!(rt; self.is_listed(index));
-        assert!(rt; self.has(id));
+        self.want_listed(rt, index);
+        self.want_record(rt, id);
         self.plain.before(0, index, id)
     }
 
@@ -281,79 +262,61 @@ impl Reference {
         first: u64,
         limit: usize,
     ) -> Result<Vec<(u64, &Record)>, Refusal> {
-        assert!(rt; self.is_there());
-        assert!(rt; self.is_listed(index));
-        assert!(rt; self.has(first));
+        self.want_listed(rt, index);
+        self.want_record(rt, first);
         self.plain
             .walk(alloc, 0, index, reverse, first, limit, &mut Steps::new())
     }
 
     pub(super) fn find(&self, rt: &impl Abort, index: usize, key: &[Value]) -> Option<u64> {
-        assert!(rt; self.is_there());
-        assert!(rt; self.is_keyed(index));
-        assert!(rt; self.is_look_up(index, key));
+        self.want_look_up(rt, index, key);
         find(&self.plain, 0, index, key, &mut Steps::new())
     }
 
     pub(super) fn count(&self, rt: &impl Abort, index: usize, key: &[Value]) -> u64 {
-        assert!(rt; self.is_there());
-        assert!(rt; self.is_keyed(index));
-        assert!(rt; self.is_look_up(index, key));
+        self.want_look_up(rt, index, key);
         count(&self.plain, 0, index, key, &mut Steps::new())
     }
 
     pub(super) fn first_of(&self, rt: &impl Abort, index: usize, key: &[Value]) -> Option<u64> {
-        assert!(rt; self.is_there());
-        assert!(rt; self.is_hashed(index));
-        assert!(rt; self.is_key(index, key));
+        self.want_key(rt, index, key);
         self.plain.first_of(0, index, key)
     }
 
     pub(super) fn next_of(&self, rt: &impl Abort, index: usize, id: u64) -> Option<u64> {
-        assert!(rt; self.is_there());
-        assert!(rt; self.is_hashed(index));
-        assert!(rt; self.has(id));
+        self.want_hashed(rt, index);
+        self.want_record(rt, id);
         self.plain.next_of(0, index, id)
     }
 
     pub(super) fn nth(&self, rt: &impl Abort, index: usize, n: u64) -> Option<u64> {
-        assert!(rt; self.is_there());
-        assert!(rt; self.is_sorted(index));
+        self.want_sorted(rt, index);
         self.plain.nth(0, index, n)
     }
 
     pub(super) fn rank_of(&self, rt: &impl Abort, index: usize, id: u64) -> u64 {
-        assert!(rt; self.is_there());
-        assert!(rt; self.is_sorted(index));
-        assert!(rt; self.has(id));
+        self.want_sorted(rt, index);
+        self.want_record(rt, id);
         self.plain.rank_of(0, index, id, &mut Steps::new())
     }
 
     pub(super) fn lower(&self, rt: &impl Abort, index: usize, key: &[Value]) -> Option<u64> {
-        assert!(rt; self.is_there());
-        assert!(rt; self.is_sorted(index));
-        assert!(rt; self.is_prefix(index, key));
+        self.want_prefix(rt, index, key);
         self.plain.lower(0, index, key, &mut Steps::new())
     }
 
     pub(super) fn upper(&self, rt: &impl Abort, index: usize, key: &[Value]) -> Option<u64> {
-        assert!(rt; self.is_there());
-        assert!(rt; self.is_sorted(index));
-        assert!(rt; self.is_prefix(index, key));
+        self.want_prefix(rt, index, key);
         self.plain.upper(0, index, key, &mut Steps::new())
     }
 
     pub(super) fn lower_rank(&self, rt: &impl Abort, index: usize, key: &[Value]) -> u64 {
-        assert!(rt; self.is_there());
-        assert!(rt; self.is_sorted(index));
-        assert!(rt; self.is_prefix(index, key));
+        self.want_prefix(rt, index, key);
         self.plain.lower_rank(0, index, key, &mut Steps::new())
     }
 
     pub(super) fn upper_rank(&self, rt: &impl Abort, index: usize, key: &[Value]) -> u64 {
-        assert!(rt; self.is_there());
-        assert!(rt; self.is_sorted(index));
-        assert!(rt; self.is_prefix(index, key));
+        self.want_prefix(rt, index, key);
         self.plain.upper_rank(0, index, key, &mut Steps::new())
     }
 }

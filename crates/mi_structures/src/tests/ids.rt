@@ -6,23 +6,41 @@ use std::mem::size_of;
 use std::process::Abort;
 use std::test::Fail;
 
+/// A call for an id; nodes are numbered.
 #[derive(Clone, Copy)]
 enum Call {
-    Insert(NodeRef),
+    Insert(usize),
     Keep,
     Revive,
     Remove,
 }
 
-/// What an id has: its node's name, and whether it is live.
-type Has = Option<(u32, bool)>;
+/// What an id has: the number of its node, and whether it is live.
+type Has = Option<(usize, bool)>;
+
+/// Calls for two ids: what each of them has afterwards, and how many there are.
+const CALLS: [(Call, u64, Has, Has, usize); 13] = [
+    (Call::Keep, 1, None, None, 0),
+    (Call::Insert(0), 1, Some((0, true)), None, 1),
+    (Call::Insert(1), 2, Some((0, true)), Some((1, true)), 2),
+    (Call::Keep, 1, Some((0, false)), Some((1, true)), 2),
+    (Call::Keep, 1, Some((0, false)), Some((1, true)), 2),
+    (Call::Keep, 2, Some((0, false)), Some((1, false)), 2),
+    (Call::Revive, 1, Some((0, true)), Some((1, false)), 2),
+    (Call::Revive, 1, Some((0, true)), Some((1, false)), 2),
+    (Call::Remove, 2, Some((0, true)), None, 1),
+    (Call::Revive, 2, Some((0, true)), None, 1),
+    (Call::Remove, 2, Some((0, true)), None, 1),
+    (Call::Insert(1), 1, Some((1, true)), None, 1),
+    (Call::Remove, 1, None, None, 0),
+];
 
 /// Makes a call for an id.
-fn make(ids: &mut Ids, call: Call, id: u64) -> Result<(), AllocError> {
+fn make(ids: &mut Ids, nodes: &[NodeRef; 2], call: Call, id: u64) -> Result<(), AllocError> {
     match call {
-        Call::Insert(node) => {
+        Call::Insert(n) => {
             ids.make_room()?;
-            ids.insert(id, node);
+            ids.insert(id, nodes[n.min(1)]);
         }
         Call::Keep => ids.keep(id),
         Call::Revive => ids.revive(id),
@@ -31,77 +49,60 @@ fn make(ids: &mut Ids, call: Call, id: u64) -> Result<(), AllocError> {
     Ok(())
 }
 
-/// Asserts what an id has, after the call of this row.
-fn assert_has(rt: &impl Abort, ids: &Ids, id: u64, has: Has, row: usize) {
-    let entry = ids.get(id);
-    assert_eq!(rt;
-        entry.map(|e| (e.node.name(), e.live)),
-        has,
-        "id {id} in row {row}"
-    );
-    let live = has.filter(|h| h.1).map(|h| h.0);
-    assert_eq!(rt;
-        ids.live(id).map(|node| node.name()),
-        live,
-        "id {id} in row {row}"
-    );
+/// Asserts that an id is there or not, and live or not.
+fn assert_has(rt: &impl Abort, ids: &Ids, nodes: &[NodeRef; 2], id: u64, has: Has) {
+    let Some((n, live)) = has else {
+        assert!(rt; ids.get(id).is_none());
+        assert!(rt; ids.live(id).is_none());
+        return;
+    };
+    let Some(entry) = ids.get(id) else {
+        panic!(rt; "id {id} is not there");
+    };
+    assert_eq!(rt; entry.node.name(), nodes[n.min(1)].name());
+    assert_eq!(rt; entry.live, live);
+    assert_live(rt, ids, id, entry);
 }
 
-/// Two ids through each call: what each of them has after it, and how many there are.
+/// Asserts that an id is live if its entry is, and has the entry's node.
+fn assert_live(rt: &impl Abort, ids: &Ids, id: u64, entry: IdEntry) {
+    match ids.live(id) {
+        None => assert!(rt; !entry.live),
+        Some(node) => {
+            assert!(rt; entry.live);
+            assert_eq!(rt; node.name(), entry.node.name());
+        }
+    }
+}
+
+/// Makes each call, and asserts what it leaves.
+fn make_all(rt: &impl Abort, ids: &mut Ids, nodes: &[NodeRef; 2]) -> Result<(), AllocError> {
+    for (call, id, one, two, count) in &CALLS {
+        make(ids, nodes, *call, *id)?;
+        assert_has(rt, ids, nodes, 1, *one);
+        assert_has(rt, ids, nodes, 2, *two);
+        assert!(rt; ids.len() == *count);
+    }
+    Ok(())
+}
+
+/// Two ids through each call.
 #[test]
 fn two_ids_through_each_call(rt: HostRuntime) -> Result<(), Fail> {
     let mut pool: Pool<u8> = Pool::with_slots(rt.alloc(), 1);
-    let (Ok(a), Ok(b)) = (pool.take(0), pool.take(1)) else {
+    let (Ok(one), Ok(two)) = (pool.take(0), pool.take(1)) else {
         panic!(rt; "no memory");
     };
-    let (first, second) = (a.name(), b.name());
-    let mut ids = Ids::new(rt.alloc());
-    let rows = [
-        (Call::Keep, 1, None, None, 0),
-        (Call::Insert(a), 1, Some((first, true)), None, 1),
-        (
-            Call::Insert(b),
-            2,
-            Some((first, true)),
-            Some((second, true)),
-            2,
-        ),
-        (Call::Keep, 1, Some((first, false)), Some((second, true)), 2),
-        (Call::Keep, 1, Some((first, false)), Some((second, true)), 2),
-        (
-            Call::Keep,
-            2,
-            Some((first, false)),
-            Some((second, false)),
-            2,
-        ),
-        (
-            Call::Revive,
-            1,
-            Some((first, true)),
-            Some((second, false)),
-            2,
-        ),
-        (
-            Call::Revive,
-            1,
-            Some((first, true)),
-            Some((second, false)),
-            2,
-        ),
-        (Call::Remove, 2, Some((first, true)), None, 1),
-        (Call::Revive, 2, Some((first, true)), None, 1),
-        (Call::Remove, 2, Some((first, true)), None, 1),
-        (Call::Insert(b), 1, Some((second, true)), None, 1),
-        (Call::Remove, 1, None, None, 0),
-    ];
-    for (row, (call, id, one, two, count)) in rows.into_iter().enumerate() {
-        make(&mut ids, call, id)?;
-        assert_has(&rt, &ids, 1, one, row);
-        assert_has(&rt, &ids, 2, two, row);
-        assert_eq!(rt; ids.len(), count, "row {row}");
-    }
+    make_all(&rt, &mut Ids::new(rt.alloc()), &[one, two])?;
     Ok(())
+}
+
+/// Asserts that the ids below this one are there, and it is not.
+fn assert_below(rt: &impl Abort, ids: &Ids, id: u64) {
+    for old in 0..id {
+        assert!(rt; ids.live(old).is_some(), "id {old}");
+    }
+    assert!(rt; ids.get(id).is_none());
 }
 
 /// Run with an allocation that fails, it sees that refused room leaves the ids as they were, and can be asked for again.
@@ -114,10 +115,7 @@ fn refused_room_leaves_the_ids(rt: HostRuntime) -> Result<(), Fail> {
     let mut ids = Ids::new(rt.alloc());
     for id in 0..20u64 {
         if ids.make_room().is_err() {
-            for old in 0..id {
-                assert!(rt; ids.live(old).is_some(), "id {old}");
-            }
-            assert!(rt; ids.get(id).is_none(), "id {id}");
+            assert_below(&rt, &ids, id);
             ids.make_room()?;
         }
         ids.insert(id, node);

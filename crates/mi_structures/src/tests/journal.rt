@@ -1,13 +1,29 @@
 //! Worked journals of numbers: sessions joined and taken back from the newest, and ended from the oldest.
+ghost use Rattle.std.specs.Prelude.{◌≡◌};
+ghost use Rattle.mi_journal.specs.Noted.{without_entry};
+
 use mi_journal::Journal;
 use std::process::Abort;
 use std::test::Fail;
+
+fn assert_depth(rt: &impl Abort, journal: &Journal<u64>, depth: usize) {
+    assert_eq!(rt; journal.depth(), depth);
+}
+
+/// Takes back two entries, after which there is none.
+fn pop_two(rt: &impl Abort, journal: &mut Journal<u64>)
+    ensures { journal.new.sessions ≡ without_entry (without_entry (without_entry journal.old.sessions)) }
+{
+    assert_eq!(rt; journal.pop(), Some((1, 8)));
+    assert_eq!(rt; journal.pop(), Some((0, 7)));
+    assert_eq!(rt; journal.pop(), None);
+}
 
 /// Room for two entries and two sessions is taken, and one session joins another.
 #[test]
 fn joins_and_pops(rt: HostRuntime) -> Result<(), Fail> {
     let mut journal: Journal<u64> = Journal::new(rt.alloc());
-    assert_eq!(&rt; journal.depth(), 0);
+    assert_depth(&rt, &journal, 0);
     journal.reserve(2, 2)?;
     let (changes, sessions) = journal.room();
     assert!(&rt; changes >= 2 && sessions >= 2);
@@ -16,12 +32,10 @@ fn joins_and_pops(rt: HostRuntime) -> Result<(), Fail> {
     journal.open_session();
     journal.note(1, 8);
     journal.join_top();
-    assert_eq!(&rt; journal.depth(), 1);
-    assert_eq!(&rt; journal.pop(), Some((1, 8)));
-    assert_eq!(&rt; journal.pop(), Some((0, 7)));
-    assert_eq!(&rt; journal.pop(), None);
+    assert_depth(&rt, &journal, 1);
+    pop_two(&rt, &mut journal);
     journal.end_session();
-    assert_eq!(&rt; journal.depth(), 0);
+    assert_depth(&rt, &journal, 0);
     Ok(())
 }
 
@@ -38,6 +52,6 @@ fn ends_the_oldest(rt: HostRuntime) -> Result<(), Fail> {
     assert_eq!(&rt; journal.take_oldest(), Some((0, 7)));
     assert_eq!(&rt; journal.take_oldest(), Some((1, 8)));
     assert_eq!(&rt; journal.take_oldest(), None);
-    assert_eq!(&rt; journal.depth(), 2);
+    assert_depth(&rt, &journal, 2);
     Ok(())
 }

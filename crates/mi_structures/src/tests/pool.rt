@@ -1,71 +1,116 @@
 //! Nodes of a pool: their values and links, places that are used again, and refused memory.
 #![tactic(auto, using(mi_node::proofs::Callers::held, mi_node::proofs::Callers::slot_counts))]
 
+ghost use Rattle.std.specs.Prelude.{◌≡◌, None};
+ghost use Rattle.mi_node.specs.Pool.{IsHeld, ref_of, taken, without, with_value};
+
 use mi_node::{Counted, Link, NO_LINK, NodeRef, Pool, Tag};
 use std::cell::Cell;
 use std::mem::size_of;
+use std::process::Abort;
+
+/// A new node of a value.
+fn take<T>(rt: &impl Abort, pool: &mut Pool<T>, value: T) -> NodeRef
+where
+    T: Drop,
+    ensures free { ref_of pool.old result.name ≡ None }
+    ensures pool { pool.new ≡ taken pool.old result value }
+{
+    let Ok(node) = pool.take(value) else {
+        panic!(rt; "no memory");
+    };
+    node
+}
+
+/// The text "x" of a node makes room for another, which is given back.
+fn swap_and_give(rt: &impl Abort, pool: &mut Pool<&'static str>, node: NodeRef, text: &'static str)
+    requires { IsHeld pool.old node }
+    ensures { pool.new ≡ without (with_value pool.old node.name text.entry) node.name }
+{
+    assert_eq!(rt; pool.swap_value(node, text), "x");
+    assert_eq!(rt; pool.give(node), text);
+}
+
+/// Asserts the text of a node.
+fn assert_text(rt: &impl Abort, pool: &Pool<&'static str>, node: NodeRef, text: &str)
+    requires { IsHeld pool.now node }
+{
+    assert_eq!(rt; *pool.value(node), text);
+}
 
 #[test]
 fn texts_are_kept_by_reference(rt: HostRuntime) {
     let mut pool: Pool<&'static str> = Pool::new(rt.alloc());
-    let Ok(r) = pool.take("x") else {
-        panic!(rt; "no memory");
-    };
-    let Ok(s) = pool.take("y") else {
-        panic!(rt; "no memory");
-    };
-    assert_eq!(rt; *pool.value(r), "x");
-    assert_eq!(rt; pool.swap_value(r, "z"), "x");
-    assert_eq!(rt; pool.give(r), "z");
-    let Ok(t) = pool.take("w") else {
-        panic!(rt; "no memory");
-    };
-    assert_eq!(rt; *pool.value(s), "y");
-    assert_eq!(rt; *pool.value(t), "w");
+    let one = take(&rt, &mut pool, "x");
+    let two = take(&rt, &mut pool, "y");
+    assert_text(&rt, &pool, one, "x");
+    swap_and_give(&rt, &mut pool, one, "z");
+    let three = take(&rt, &mut pool, "w");
+    assert_text(&rt, &pool, two, "y");
+    assert_text(&rt, &pool, three, "w");
     assert_eq!(rt; pool.slots(), 16);
+}
+
+/// A link to a node that has the greatest numbers.
+fn full_link(node: NodeRef) -> Link {
+    let tag = Tag {
+        key: u64::MAX,
+        stamp: 7,
+    };
+    Link {
+        forth: Some(node),
+        size: u32::MAX,
+        height: u8::MAX,
+        tag,
+        ..NO_LINK
+    }
+}
+
+/// Asserts that a link is that one.
+fn assert_full(rt: &impl Abort, link: Link) {
+    assert_eq!(rt; (link.size, link.height), (u32::MAX, u8::MAX));
+    assert_eq!(rt; (link.tag.key, link.tag.stamp), (u64::MAX, 7));
+    assert!(rt; link.back.is_none());
+    assert!(rt; link.forth.is_some());
 }
 
 #[test]
 fn links_are_kept_by_slot(rt: HostRuntime) {
     let mut pool: Pool<u8> = Pool::with_slots(rt.alloc(), 3);
-    let Ok(r) = pool.take(10) else {
-        panic!(rt; "no memory");
-    };
-    let mut link = NO_LINK;
-    link.forth = Some(r);
-    link.size = u32::MAX;
-    link.height = u8::MAX;
-    link.tag = Tag {
-        key: u64::MAX,
-        stamp: 7,
-    };
-    pool.set_link(r, 2, link);
-    let last = pool.link(r, 2);
-    assert_eq!(rt; (last.size, last.height), (u32::MAX, u8::MAX));
-    assert_eq!(rt; (last.tag.key, last.tag.stamp), (u64::MAX, 7));
-    assert_eq!(rt; last.back.is_some(), false);
-    assert_eq!(rt; last.forth.is_some(), true);
-    assert_eq!(rt; pool.link(r, 1).size, 0);
+    let node = take(&rt, &mut pool, 10);
+    pool.set_link(node, 2, full_link(node));
+    assert_full(&rt, pool.link(node, 2));
+    assert_eq!(rt; pool.link(node, 1).size, 0);
+}
+
+/// They are read as well through a counter of reads.
+#[test]
+fn links_are_read_counted(rt: HostRuntime) {
+    let mut pool: Pool<u8> = Pool::with_slots(rt.alloc(), 3);
+    let node = take(&rt, &mut pool, 10);
+    pool.set_link(node, 2, full_link(node));
     let mut counted = Counted::new(&pool);
-    assert_eq!(rt; counted.link(r, 2).size, u32::MAX);
-    assert_eq!(rt; *counted.value(r), 10);
-    let _ = pool.give(r);
-    let Ok(s) = pool.take(11) else {
-        panic!(rt; "no memory");
-    };
-    assert_eq!(rt; pool.link(s, 2).size, 0);
+    assert_full(&rt, counted.link(node, 2));
+    assert_eq!(rt; *counted.value(node), 10);
+}
+
+/// A node of a place that is used again has no links.
+#[test]
+fn links_are_given_back(rt: HostRuntime) {
+    let mut pool: Pool<u8> = Pool::with_slots(rt.alloc(), 3);
+    let one = take(&rt, &mut pool, 10);
+    pool.set_link(one, 2, full_link(one));
+    let _ = pool.give(one);
+    let two = take(&rt, &mut pool, 11);
+    assert_eq!(rt; pool.link(two, 2).size, 0);
 }
 
 /// Each place has its own links.
 #[test]
 fn links_are_kept_by_place(rt: HostRuntime) {
     let mut pool: Pool<u8> = Pool::with_slots(rt.alloc(), 2);
-    let Ok(one) = pool.take(1) else {
-        panic!(rt; "no memory");
-    };
-    let Ok(two) = pool.take(2) else {
-        panic!(rt; "no memory");
-    };
+    let one = take(&rt, &mut pool, 1);
+    let two = take(&rt, &mut pool, 2);
     pool.set_link(one, 1, Link { size: 3, ..NO_LINK });
     pool.set_link(two, 1, Link { size: 5, ..NO_LINK });
     assert_eq!(rt; (pool.link(one, 1).size, pool.link(two, 1).size), (3, 5));
@@ -75,21 +120,13 @@ fn links_are_kept_by_place(rt: HostRuntime) {
 #[test]
 fn places_are_used_again(rt: HostRuntime) {
     let mut pool: Pool<u8> = Pool::with_slots(rt.alloc(), 1);
-    let Ok(one) = pool.take(1) else {
-        panic!(rt; "no memory");
-    };
-    let Ok(two) = pool.take(2) else {
-        panic!(rt; "no memory");
-    };
-    let Ok(three) = pool.take(3) else {
-        panic!(rt; "no memory");
-    };
+    let one = take(&rt, &mut pool, 1);
+    let two = take(&rt, &mut pool, 2);
+    let three = take(&rt, &mut pool, 3);
     let (last, first, middle) = (pool.give(three), pool.give(one), pool.give(two));
     assert_eq!(rt; (first, middle, last), (1, 2, 3));
     for value in 0..3 {
-        let Ok(node) = pool.take(value) else {
-            panic!(rt; "no memory");
-        };
+        let node = take(&rt, &mut pool, value);
         assert!(rt; node.name() < 3);
     }
 }
@@ -98,18 +135,13 @@ fn places_are_used_again(rt: HostRuntime) {
 #[test]
 fn many_nodes_stand_in_chunks(rt: HostRuntime) {
     let mut pool: Pool<u32> = Pool::with_slots(rt.alloc(), 2);
-    let Ok(first) = pool.take(7) else {
-        panic!(rt; "no memory");
-    };
+    let first = take(&rt, &mut pool, 7);
     let mut link = NO_LINK;
     link.back = Some(first);
     pool.set_link(first, 1, link);
     let mut last = first.name();
     for value in 0..9000 {
-        let Ok(node) = pool.take(value) else {
-            panic!(rt; "no memory");
-        };
-        last = node.name();
+        last = take(&rt, &mut pool, value).name();
     }
     assert_eq!(rt; last, 9000);
 }
@@ -142,15 +174,9 @@ impl Drop for Counting<'_> {
 fn each_value_is_dropped_once(rt: HostRuntime) {
     let drops = Cell::new(0);
     let mut pool = Pool::with_slots(rt.alloc(), 2);
-    let Ok(_) = pool.take(Counting { drops: &drops }) else {
-        panic!(rt; "no memory");
-    };
-    let Ok(two) = pool.take(Counting { drops: &drops }) else {
-        panic!(rt; "no memory");
-    };
-    let Ok(three) = pool.take(Counting { drops: &drops }) else {
-        panic!(rt; "no memory");
-    };
+    let _ = take(&rt, &mut pool, Counting { drops: &drops });
+    let two = take(&rt, &mut pool, Counting { drops: &drops });
+    let three = take(&rt, &mut pool, Counting { drops: &drops });
     drop(pool.give(two));
     assert_eq!(rt; drops.get(), 1);
     drop(pool.swap_value(three, Counting { drops: &drops }));

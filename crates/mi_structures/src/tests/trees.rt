@@ -13,6 +13,37 @@ fn assert_ids(rt: &impl Abort, stock: &Stock<'_>, ids: [Option<u32>; 4]) {
     assert_eq!(rt; found, ids);
 }
 
+/// Keys of a small tree of the ids 12, 10 and 11: the first node not before each, the first behind it, and its own.
+const AT_KEYS: [(i64, Option<u32>, Option<u32>, Option<u32>); 5] = [
+    (2, Some(12), Some(12), None),
+    (3, Some(12), Some(10), Some(12)),
+    (4, Some(10), Some(10), None),
+    (5, Some(10), None, Some(10)),
+    (6, None, None, None),
+];
+
+fn assert_keys(rt: &impl Abort, stock: &Stock<'_>) {
+    for (key, lower, upper, found) in &AT_KEYS {
+        assert_eq!(rt; stock.lower(*key), *lower);
+        assert_eq!(rt; stock.upper(*key), *upper);
+        assert_eq!(rt; stock.find(*key), *found);
+    }
+}
+
+/// Its ranks: the nodes before and after each.
+const AT_RANKS: [(u32, Option<u32>, Option<u32>); 3] = [
+    (0, None, Some(10)),
+    (1, Some(12), Some(11)),
+    (2, Some(10), None),
+];
+
+fn assert_neighbours(rt: &impl Abort, stock: &Stock<'_>) {
+    for (rank, before, after) in &AT_RANKS {
+        assert_eq!(rt; stock.before(*rank), *before);
+        assert_eq!(rt; stock.after(*rank), *after);
+    }
+}
+
 #[test]
 fn nodes_of_one_key_stand_by_their_stamps(rt: HostRuntime) {
     for tagged in [false, true] {
@@ -24,24 +55,8 @@ fn nodes_of_one_key_stand_by_their_stamps(rt: HostRuntime) {
         assert_eq!(rt; stock.len(), 3);
         assert_ids(&rt, &stock, [Some(12), Some(10), Some(11), None]);
         assert_eq!(rt; stock.rank_of_nth(2), Some(2));
-        for (key, lower, upper, found) in [
-            (2, Some(12), Some(12), None),
-            (3, Some(12), Some(10), Some(12)),
-            (4, Some(10), Some(10), None),
-            (5, Some(10), None, Some(10)),
-            (6, None, None, None),
-        ] {
-            assert_eq!(rt; stock.lower(key), lower);
-            assert_eq!(rt; stock.upper(key), upper);
-            assert_eq!(rt; stock.find(key), found);
-        }
-        for (rank, before, after) in [
-            (0, None, Some(10)),
-            (1, Some(12), Some(11)),
-            (2, Some(10), None),
-        ] {
-            assert_eq!(rt; stock.beside(rank), (before, after));
-        }
+        assert_keys(&rt, &stock);
+        assert_neighbours(&rt, &stock);
         assert!(rt; stock.pull(1));
         assert_ids(&rt, &stock, [Some(12), Some(11), None, None]);
         assert!(rt; stock.put());
@@ -49,43 +64,62 @@ fn nodes_of_one_key_stand_by_their_stamps(rt: HostRuntime) {
     }
 }
 
+/// Walks of a tree of the ids 12, 10, 11 and 13, from the place behind the first nodes or from the node of a rank: their first ids.
+const WALKS: [(Direction, u32, [Option<u32>; 3]); 4] = [
+    (Direction::Ascending, 0, [Some(12), Some(10), Some(11)]),
+    (Direction::Ascending, 2, [Some(11), Some(13), None]),
+    (Direction::Descending, 4, [Some(13), Some(11), Some(10)]),
+    (Direction::Descending, 2, [Some(10), Some(12), None]),
+];
+
+const WALKS_FROM: [(Direction, u32, [Option<u32>; 3]); 4] = [
+    (Direction::Ascending, 1, [Some(10), Some(11), Some(13)]),
+    (Direction::Ascending, 3, [Some(13), None, None]),
+    (Direction::Descending, 2, [Some(11), Some(10), Some(12)]),
+    (Direction::Descending, 0, [Some(12), None, None]),
+];
+
+fn assert_walks(rt: &impl Abort, stock: &Stock<'_>) {
+    for (direction, passed, ids) in &WALKS {
+        assert_eq!(rt; stock.walk(*direction, *passed), *ids);
+    }
+    for (direction, rank, ids) in &WALKS_FROM {
+        assert_eq!(rt; stock.walk_from(*direction, *rank), *ids);
+    }
+}
+
 #[test]
 fn walks_go_both_ways(rt: HostRuntime) {
-    let (up, down) = (Direction::Ascending, Direction::Descending);
     for tagged in [false, true] {
         let calls = Cell::new(0);
         let mut stock = Stock::new(rt.alloc(), &calls, tagged);
         for (id, key) in [(10, 5), (11, 5), (12, 3), (13, 9)] {
             assert!(rt; stock.add(key, id));
         }
-        assert_eq!(rt; stock.walk(up, 0), [Some(12), Some(10), Some(11)]);
-        assert_eq!(rt; stock.walk(up, 2), [Some(11), Some(13), None]);
-        assert_eq!(rt; stock.walk(down, 4), [Some(13), Some(11), Some(10)]);
-        assert_eq!(rt; stock.walk(down, 2), [Some(10), Some(12), None]);
-        assert_eq!(rt; stock.walk_from(up, 1), [Some(10), Some(11), Some(13)]);
-        assert_eq!(rt; stock.walk_from(up, 3), [Some(13), None, None]);
-        assert_eq!(rt; stock.walk_from(down, 2), [Some(11), Some(10), Some(12)]);
-        assert_eq!(rt; stock.walk_from(down, 0), [Some(12), None, None]);
+        assert_walks(&rt, &stock);
     }
+}
+
+/// Asserts that no more calls of the order were counted than `most`, and counts from zero again.
+fn assert_few(rt: &impl Abort, calls: &Cell<u64>, most: u64) {
+    assert!(rt; calls.get() <= most);
+    calls.set(0);
 }
 
 /// Asserts that no look-up makes more calls of the order than `most`.
 fn look_up_all(rt: &impl Abort, stock: &Stock<'_>, calls: &Cell<u64>, most: u64) {
+    calls.set(0);
     for key in -1..1001 {
-        let start = calls.get();
         let _ = stock.find(key);
-        assert!(rt; calls.get().wrapping_sub(start) <= most);
-        let start = calls.get();
+        assert_few(rt, calls, most);
         let _ = stock.lower(key);
-        assert!(rt; calls.get().wrapping_sub(start) <= most);
-        let start = calls.get();
+        assert_few(rt, calls, most);
         let _ = stock.upper(key);
-        assert!(rt; calls.get().wrapping_sub(start) <= most);
+        assert_few(rt, calls, most);
     }
     for rank in 0..stock.len() {
-        let start = calls.get();
         assert_eq!(rt; stock.rank_of_nth(rank), Some(rank));
-        assert!(rt; calls.get().wrapping_sub(start) <= most);
+        assert_few(rt, calls, most);
     }
 }
 

@@ -202,16 +202,24 @@ impl<'a> Stock<'a> {
         Some(self.tree.rank(&mut read, node, &mut Steps::new()))
     }
 
-    /// The ids of the nodes before and after the one of a rank.
-    pub(crate) fn beside(&self, rank: u32) -> (Option<u32>, Option<u32>) {
+    /// The id of the node before the one of a rank.
+    pub(crate) fn before(&self, rank: u32) -> Option<u32> {
         let mut read = Counted::new(&self.pool);
         let Some(node) = self.tree.nth(&mut read, rank) else {
-            return (None, None);
+            return None;
         };
-        let mut steps = Steps::new();
-        let before = self.tree.prev(&mut read, node, &mut steps);
-        let after = self.tree.next(&mut read, node, &mut steps);
-        (id_of(&self.pool, before), id_of(&self.pool, after))
+        let before = self.tree.prev(&mut read, node, &mut Steps::new());
+        id_of(&self.pool, before)
+    }
+
+    /// The id of the node after it.
+    pub(crate) fn after(&self, rank: u32) -> Option<u32> {
+        let mut read = Counted::new(&self.pool);
+        let Some(node) = self.tree.nth(&mut read, rank) else {
+            return None;
+        };
+        let after = self.tree.next(&mut read, node, &mut Steps::new());
+        id_of(&self.pool, after)
     }
 
     /// The first three ids of a walk from the place behind the first `passed` nodes.
