@@ -7,7 +7,7 @@ use mi_value::Value;
 use std::cmp::Ordering;
 
 /// A place between the ids that an index shows.
-#[derive(Clone, Copy, Debug)]
+#[derive(Clone, Copy)]
 pub(crate) enum Cut {
     /// Before all of them.
     Start,

@@ -8,7 +8,7 @@ use std::alloc::{AllocError, Global};
 use std::marker::Model;
 
 /// All tables as they were at the start of a session.
-#[derive(Debug, Drop)]
+#[derive(Drop)]
 struct Copies {
     tables: Vec<PlainTable>,
 }
@@ -23,7 +23,7 @@ impl Model for Copies {
 }
 
 /// A database as tables of rows and whole copies of them, the newest last.
-#[derive(Debug, Drop)]
+#[derive(Drop)]
 pub struct Plain {
     catalog: Catalog,
     tables: Vec<PlainTable>,

@@ -11,7 +11,7 @@ use std::alloc::{AllocError, Global};
 use std::marker::Model;
 
 /// A table as its rows in the order of their ids, the ids of each index, and its two counters.
-#[derive(Debug, Drop)]
+#[derive(Drop)]
 pub(crate) struct PlainTable {
     rows: Vec<Row>,
     lists: Vec<Ids>,

@@ -8,6 +8,13 @@ use Rattle.mi_model.proofs.InvariantLaws.{table_is}
 use Rattle.mi_plain.specs.contracts.plain.Plain.{the_view}
 use Rattle.mi_plain.proofs.plain.Plain.at.Goals as goal
 
+pub returns-clause-table : goal.returns-clause-table
+returns-clause-table c =
+    let within : c.args.n < length c.self.inside.catalog.tables = omega (arith, c.requires, ap (λ (d : Database). length d.catalog.tables) c.self.view_is) in
+    let few : c.args.n < length c.self.inside.tables.items = omega (arith, within, c.self.invariant.1) in
+    let found : c.index.result.now ≡ table_of (the_view c.self.inside) c.args.n = c.index.ensures ∙ get_or_default _ _ _ _ few in
+    found ∙ ap (λ (d : Database). table_of d c.args.n) c.self.view_is
+
 pub returns-clause-is : goal.returns-clause-is
 returns-clause-is c =
     let within : c.args.n < length c.self.inside.catalog.tables = omega (arith, c.requires, ap (λ (d : Database). length d.catalog.tables) c.self.view_is) in
