@@ -125,6 +125,36 @@ fn ids_of<C: Container>(
     Ok(ids)
 }
 
+/// Asserts the ids that an index shows.
+fn assert_ids<C: Container>(
+    rt: &impl Abort,
+    alloc: Global,
+    undoable: &Undoable<C>,
+    index: usize,
+    want: &[u64],
+) -> Result<(), Fail>
+    requires { Holds undoable.now.schema (C.shape undoable.now.rows) (C.plain undoable.now.rows) undoable.now.inverses.items }
+{
+    let got = ids(rt, alloc, undoable, index)?;
+    assert_eq!(rt; got.as_slice(), want);
+    Ok(())
+}
+
+/// Asserts the ids of a key of the index by `f`.
+fn assert_flagged<C: Container>(
+    rt: &impl Abort,
+    alloc: Global,
+    undoable: &Undoable<C>,
+    f: bool,
+    want: &[u64],
+) -> Result<(), Fail>
+    requires { Holds undoable.now.schema (C.shape undoable.now.rows) (C.plain undoable.now.rows) undoable.now.inverses.items }
+{
+    let got = ids_of(rt, alloc, undoable, BY_F, Value::Flag(f))?;
+    assert_eq!(rt; got.as_slice(), want);
+    Ok(())
+}
+
 /// What the list, the index by `n`, and of the index by `f` each key show.
 fn check_views<C: Container>(
     rt: &impl Abort,
@@ -136,14 +166,10 @@ fn check_views<C: Container>(
 ) -> Result<(), Fail>
     requires { Holds undoable.now.schema (C.shape undoable.now.rows) (C.plain undoable.now.rows) undoable.now.inverses.items }
 {
-    let got = ids(rt, alloc, undoable, LINE)?;
-    assert_eq!(rt; got.as_slice(), line);
-    let got = ids(rt, alloc, undoable, BY_N)?;
-    assert_eq!(rt; got.as_slice(), by_n);
-    let got = ids_of(rt, alloc, undoable, BY_F, Value::Flag(false))?;
-    assert_eq!(rt; got.as_slice(), by_f.0);
-    let got = ids_of(rt, alloc, undoable, BY_F, Value::Flag(true))?;
-    assert_eq!(rt; got.as_slice(), by_f.1);
+    assert_ids(rt, alloc, undoable, LINE, line)?;
+    assert_ids(rt, alloc, undoable, BY_N, by_n)?;
+    assert_flagged(rt, alloc, undoable, false, by_f.0)?;
+    assert_flagged(rt, alloc, undoable, true, by_f.1)?;
     assert_eq!(rt; undoable.rows.size(), line.len() as u64);
     Ok(())
 }
@@ -233,6 +259,38 @@ const BOUNDS: [(
     (BY_F_S, ValueRef::Flag(false), (Some(0), 2), (None, 4)),
 ];
 
+/// The first record not before a key, and its rank.
+fn lower_of<C: Container>(
+    rt: &impl Abort,
+    undoable: &Undoable<C>,
+    index: usize,
+    key: &[Value],
+) -> (Option<u64>, u64)
+    requires { Holds undoable.now.schema (C.shape undoable.now.rows) (C.plain undoable.now.rows) undoable.now.inverses.items }
+{
+    assert!(rt; undoable.is_sorted(index));
+    assert!(rt; undoable.is_prefix(index, key));
+    let id = undoable.rows.lower(index, key, &mut Steps::new());
+    let rank = undoable.rows.lower_rank(index, key, &mut Steps::new());
+    (id, rank)
+}
+
+/// The first record behind a key, and its rank.
+fn upper_of<C: Container>(
+    rt: &impl Abort,
+    undoable: &Undoable<C>,
+    index: usize,
+    key: &[Value],
+) -> (Option<u64>, u64)
+    requires { Holds undoable.now.schema (C.shape undoable.now.rows) (C.plain undoable.now.rows) undoable.now.inverses.items }
+{
+    assert!(rt; undoable.is_sorted(index));
+    assert!(rt; undoable.is_prefix(index, key));
+    let id = undoable.rows.upper(index, key, &mut Steps::new());
+    let rank = undoable.rows.upper_rank(index, key, &mut Steps::new());
+    (id, rank)
+}
+
 /// Looks up bounds.
 fn check_bounds<C: Container>(
     rt: &impl Abort,
@@ -241,15 +299,10 @@ fn check_bounds<C: Container>(
 ) -> Result<(), Fail>
     requires { Holds undoable.now.schema (C.shape undoable.now.rows) (C.plain undoable.now.rows) undoable.now.inverses.items }
 {
-    let rows = &undoable.rows;
     for (index, key, lower, upper) in &BOUNDS {
         let key = [key.to_value(alloc)?];
-        assert!(rt; undoable.is_sorted(*index));
-        assert!(rt; undoable.is_prefix(*index, &key));
-        assert_eq!(rt; rows.lower(*index, &key, &mut Steps::new()), lower.0);
-        assert_eq!(rt; rows.lower_rank(*index, &key, &mut Steps::new()), lower.1);
-        assert_eq!(rt; rows.upper(*index, &key, &mut Steps::new()), upper.0);
-        assert_eq!(rt; rows.upper_rank(*index, &key, &mut Steps::new()), upper.1);
+        assert_eq!(rt; lower_of(rt, undoable, *index, &key), *lower);
+        assert_eq!(rt; upper_of(rt, undoable, *index, &key), *upper);
     }
     Ok(())
 }
@@ -386,8 +439,7 @@ fn check_moves<C: Container>(
 {
     for (id, before, line) in &MOVES {
         assert_eq!(rt; undoable.relocate(rt, LINE, *id, *before), Ok(()));
-        let got = ids(rt, alloc, undoable, LINE)?;
-        assert_eq!(rt; got.as_slice(), line.as_slice());
+        assert_ids(rt, alloc, undoable, LINE, line.as_slice())?;
         assert!(rt; undoable.unwind());
         check_four(rt, alloc, undoable)?;
     }
@@ -430,23 +482,31 @@ fn check_settled<C: Container>(
     )
 }
 
-fn check_each_call<C: Container>(rt: &impl Abort, alloc: Global) -> Result<(), Fail> {
-    let mut undoable = Undoable::<C>::open(alloc, schema(alloc)?)?;
-    fill(rt, alloc, &mut undoable)?;
-    check_four(rt, alloc, &undoable)?;
-    check_look_ups(rt, alloc, &undoable)?;
-    check_bounds(rt, alloc, &undoable)?;
-    check_ranks(rt, &undoable);
-    check_ends(rt, &undoable);
-    check_walks(rt, alloc, &undoable)?;
-    check_puts(rt, alloc, &mut undoable)?;
-    check_moves(rt, alloc, &mut undoable)?;
-    check_settled(rt, alloc, &mut undoable)
+/// Fills a container without a record, and makes each call.
+fn check_each_call<C: Container>(
+    rt: &impl Abort,
+    alloc: Global,
+    undoable: &mut Undoable<C>,
+) -> Result<(), Fail>
+    requires { Holds undoable.old.schema (C.shape undoable.old.rows) (C.plain undoable.old.rows) undoable.old.inverses.items }
+{
+    fill(rt, alloc, undoable)?;
+    check_four(rt, alloc, undoable)?;
+    check_look_ups(rt, alloc, undoable)?;
+    check_bounds(rt, alloc, undoable)?;
+    check_ranks(rt, undoable);
+    check_ends(rt, undoable);
+    check_walks(rt, alloc, undoable)?;
+    check_puts(rt, alloc, undoable)?;
+    check_moves(rt, alloc, undoable)?;
+    check_settled(rt, alloc, undoable)
 }
 
 #[test]
 fn each_call_of_the_container(rt: HostRuntime) -> Result<(), Fail> {
-    check_each_call::<MultiIndex>(&rt, rt.alloc())
+    let alloc = rt.alloc();
+    let mut undoable = Undoable::<MultiIndex>::open(alloc, schema(alloc)?)?;
+    check_each_call(&rt, alloc, &mut undoable)
 }
 
 /// Puts the first record in.
@@ -463,20 +523,27 @@ fn insert_first<C: Container>(
     Ok(())
 }
 
-fn check_reuse<C: Container>(rt: &impl Abort, alloc: Global) -> Result<(), Fail> {
-    let mut undoable = Undoable::<C>::open(alloc, schema(alloc)?)?;
-    insert_first(rt, alloc, &mut undoable)?;
+fn check_reuse<C: Container>(
+    rt: &impl Abort,
+    alloc: Global,
+    undoable: &mut Undoable<C>,
+) -> Result<(), Fail>
+    requires { Holds undoable.old.schema (C.shape undoable.old.rows) (C.plain undoable.old.rows) undoable.old.inverses.items }
+{
+    insert_first(rt, alloc, undoable)?;
     assert_eq!(rt; undoable.add(rt, alloc, 0, N, 4, false), Ok(()));
-    assert!(rt; shows(&undoable, 0, 1, "a", false, 5));
+    assert!(rt; shows(undoable, 0, 1, "a", false, 5));
     assert!(rt; undoable.unwind());
-    assert!(rt; shows(&undoable, 0, 1, "a", false, 1));
+    assert!(rt; shows(undoable, 0, 1, "a", false, 1));
     assert!(rt; undoable.unwind());
     assert!(rt; !undoable.has(0));
-    insert_first(rt, alloc, &mut undoable)
+    insert_first(rt, alloc, undoable)
 }
 
 /// An insert and a modify, both taken back: the id is used again.
 #[test]
 fn an_id_is_used_again(rt: HostRuntime) -> Result<(), Fail> {
-    check_reuse::<MultiIndex>(&rt, rt.alloc())
+    let alloc = rt.alloc();
+    let mut undoable = Undoable::<MultiIndex>::open(alloc, schema(alloc)?)?;
+    check_reuse(&rt, alloc, &mut undoable)
 }
