@@ -5,6 +5,7 @@ mod cuts;
 mod damage;
 mod databases;
 mod devices;
+mod forms;
 mod long_rows;
 mod random;
 mod rows;

@@ -1,5 +1,6 @@
 //! Two forms of the database beside one another: the same random lines, and every reply compared.
 use super::databases::{Opens, Served, opened};
+use super::forms::filled;
 use super::random::{CHANGES, READS, Random, TABLES, number_behind};
 use mi_hub::{Hub, Watched};
 use mi_plain::Plain;
@@ -38,7 +39,12 @@ impl<A: Opens, B: Opens> Both<A, B> {
     }
 
     /// What both are answered to a line.
-    fn ask(&mut self, rt: &impl Abort, alloc: Global, line: &str) -> Result<String, Fail> {
+    pub(super) fn ask(
+        &mut self,
+        rt: &impl Abort,
+        alloc: Global,
+        line: &str,
+    ) -> Result<String, Fail> {
         self.ask_bytes(rt, alloc, line.as_bytes())
     }
 
@@ -65,7 +71,7 @@ impl<A: Opens, B: Opens> Both<A, B> {
         for table in ["a", "b"] {
             let line = filled(alloc, IDS, table, "")?;
             let page = self.ask(rt, alloc, line.as_str())?;
-            random.see(table == "b", page.as_str())?;
+            random.see(alloc, table == "b", page.as_str())?;
         }
         Ok(())
     }
@@ -147,23 +153,6 @@ impl<A: Opens, B: Opens> Both<A, B> {
         let _ = self.ask(rt, alloc, "{\"cmd\":\"undo\"}\n")?;
         Ok(())
     }
-}
-
-/// A form with a table for `$t` and a value for `$i`, and a newline.
-fn filled(alloc: Global, form: &str, table: &str, value: &str) -> Result<String, AllocError> {
-    let mut line = String::new(alloc);
-    let mut is_letter = false;
-    for byte in form.bytes() {
-        match (is_letter, byte) {
-            (true, b't') => line.push_str(table)?,
-            (true, _) => line.push_str(value)?,
-            (false, b'$') => {}
-            (false, _) => line.push(byte as char)?,
-        }
-        is_letter = !is_letter && byte == b'$';
-    }
-    line.push('\n')?;
-    Ok(line)
 }
 
 /// The ids of all records of a table.

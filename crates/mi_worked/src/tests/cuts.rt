@@ -70,67 +70,125 @@ impl Line<'_> {
         form: Form,
         catalog: &Catalog,
     ) -> Result<(), Fail> {
-        let before = self.script.replies_before(alloc, self.step)?;
-        let unsent = self.closed_behind(alloc, Form::Plain, catalog, b"")?;
         let ended = [self.text, b"\n"].concat(alloc)?;
-        let whole = self.closed_behind(alloc, Form::Plain, catalog, ended.as_slice())?;
-        for length in 0..=self.text.len() {
-            let (front, behind) = self.text.split_at(length);
-            let (reply, left) = match (front.is_empty(), behind.is_empty()) {
-                (true, _) => ("", &unsent),
-                (_, false) => (JSON, &unsent),
-                (_, true) => (self.reply, &whole),
-            };
-            let want = format!(in alloc; "{before}{reply}")?;
-            let ended = self.closed_behind(alloc, form, catalog, front)?;
-            assert!(rt;
-                ended.answer.is_ok()
-                    && ended.written.as_slice() == want.as_bytes()
-                    && ended.seen.as_slice() == left.seen.as_slice(),
-                "{} cut at {length} of step {}",
-                self.script.name,
-                self.step
-            );
+        let none = self.after(alloc, catalog, b"", "")?;
+        self.check_front(rt, alloc, form, catalog, 0, &none)?;
+        self.check_fronts(rt, alloc, form, catalog)?;
+        let whole = self.after(alloc, catalog, ended.as_slice(), self.reply)?;
+        self.check_front(rt, alloc, form, catalog, self.text.len(), &whole)
+    }
+
+    /// Each front but the empty one and the whole line.
+    fn check_fronts(
+        &self,
+        rt: &impl Abort,
+        alloc: Global,
+        form: Form,
+        catalog: &Catalog,
+    ) -> Result<(), Fail> {
+        let front = self.after(alloc, catalog, b"", JSON)?;
+        for length in 1..self.text.len() {
+            self.check_front(rt, alloc, form, catalog, length, &front)?;
         }
+        Ok(())
+    }
+
+    /// What is wanted where this is the reply, and these bytes leave the same behind them in the plain database.
+    fn after(
+        &self,
+        alloc: Global,
+        catalog: &Catalog,
+        bytes: &[u8],
+        reply: &str,
+    ) -> Result<Wanted, Fail> {
+        let mut written = self.script.replies_before(alloc, self.step)?;
+        written.push_str(reply)?;
+        let seen = self.closed_behind(alloc, Form::Plain, catalog, bytes)?.seen;
+        Ok(Wanted { written, seen })
+    }
+
+    /// The row ends as wanted where so many bytes of the line are the last that its connection sends.
+    fn check_front(
+        &self,
+        rt: &impl Abort,
+        alloc: Global,
+        form: Form,
+        catalog: &Catalog,
+        length: usize,
+        wanted: &Wanted,
+    ) -> Result<(), Fail> {
+        let (front, _) = self.text.split_at(length.min(self.text.len()));
+        let ended = self.closed_behind(alloc, form, catalog, front)?;
+        assert!(rt;
+            ended.is_whole(wanted.written.as_bytes(), wanted.seen.as_slice()),
+            "{} cut at {length} of step {}",
+            self.script.name,
+            self.step
+        );
         Ok(())
     }
 }
 
-/// Checks each valid line of a row from one step on; answers how many there are, and how many bytes they have.
+/// What is to be written, and what another connection is to see then.
+#[derive(Drop)]
+struct Wanted {
+    written: String,
+    seen: Vec<u8>,
+}
+
+/// How many lines were checked, and how many bytes they have.
+#[derive(Drop)]
+struct Checked {
+    lines: usize,
+    bytes: usize,
+}
+
+/// Checks each valid line of a row from one step on.
 fn check_row(
     rt: &impl Abort,
     alloc: Global,
     form: Form,
     script: &Script,
     from: usize,
-) -> Result<(usize, usize), Fail> {
+    checked: &mut Checked,
+) -> Result<(), Fail> {
     let catalog = read_catalog(alloc, script.tables.as_bytes())?;
-    let (mut lines, mut bytes) = (0usize, 0usize);
     for step in from..script.steps.len() {
         if let Some(line) = Line::at(script, step) {
             line.check(rt, alloc, form, &catalog)?;
-            lines = lines.saturating_add(1);
-            bytes = bytes.saturating_add(line.text.len());
+            checked.lines = checked.lines.saturating_add(1);
+            checked.bytes = checked.bytes.saturating_add(line.text.len());
         }
     }
-    Ok((lines, bytes))
+    Ok(())
+}
+
+/// Checks the last two lines of a row with many sessions.
+fn check_deep(
+    rt: &impl Abort,
+    alloc: Global,
+    form: Form,
+    checked: &mut Checked,
+) -> Result<(), Fail> {
+    let deep = deep_sessions(alloc)?;
+    let last = deep.steps.len().saturating_sub(2);
+    check_row(rt, alloc, form, &deep, last, checked)
 }
 
 /// All rows that are written down, one with many records, and the last two lines of one with many sessions.
 fn check_cuts(rt: &impl Abort, alloc: Global, form: Form) -> Result<(), Fail> {
+    let mut checked = Checked { lines: 0, bytes: 0 };
     let mut rows = scripts(alloc)?;
     rows.push(many_records(alloc, 50)?)?;
-    let deep = deep_sessions(alloc)?;
-    let last = deep.steps.len().saturating_sub(2);
-    let (mut lines, mut bytes) = check_row(rt, alloc, form, &deep, last)?;
+    check_deep(rt, alloc, form, &mut checked)?;
     for script in &rows {
-        let (some, long) = check_row(rt, alloc, form, script, 0)?;
-        lines = lines.saturating_add(some);
-        bytes = bytes.saturating_add(long);
+        check_row(rt, alloc, form, script, 0, &mut checked)?;
     }
     assert!(rt;
-        lines > 250 && bytes > 12_000,
-        "{lines} lines of {bytes} bytes"
+        checked.lines > 250 && checked.bytes > 12_000,
+        "{} lines of {} bytes",
+        checked.lines,
+        checked.bytes
     );
     Ok(())
 }

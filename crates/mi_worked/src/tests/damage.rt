@@ -90,12 +90,9 @@ fn replaced(
     to: usize,
     with: &[u8],
 ) -> Result<Vec<u8>, AllocError> {
-    let (front, _) = line.split_at(from.min(line.len()));
-    let (_, back) = line.split_at(to.min(line.len()));
-    let mut bytes = front.to_vec(alloc)?;
-    bytes.extend_from_slice(with)?;
-    bytes.extend_from_slice(back)?;
-    Ok(bytes)
+    let front = between(line, 0, from);
+    let back = between(line, to, line.len());
+    [front, with, back].concat(alloc)
 }
 
 /// The bytes from one place to another.
@@ -141,38 +138,41 @@ fn value_end(line: &[u8], from: usize) -> usize {
     }
 }
 
-/// So many of a byte before a text, and so many of another behind it.
-fn wrapped(
-    alloc: Global,
-    before: u8,
-    text: &[u8],
-    after: u8,
-    count: usize,
-) -> Result<Vec<u8>, AllocError> {
-    let mut bytes = vec![in alloc; before; count]?;
-    bytes.extend_from_slice(text)?;
-    bytes.extend_from_slice(vec![in alloc; after; count]?.as_slice())?;
-    Ok(bytes)
+/// So many of a byte.
+fn repeated(alloc: Global, byte: u8, count: usize) -> Result<Vec<u8>, AllocError> {
+    vec![in alloc; byte; count]
 }
 
-/// Another value in the place of one: of any type, of a text as long as can be or longer, or the same one deep in brackets.
+/// A value so deep in brackets.
+fn bracketed(alloc: Global, value: &[u8], depth: usize) -> Result<Vec<u8>, AllocError> {
+    let before = repeated(alloc, b'[', depth)?;
+    let behind = repeated(alloc, b']', depth)?;
+    [before.as_slice(), value, behind.as_slice()].concat(alloc)
+}
+
+/// A text so long.
+fn text(alloc: Global, length: usize) -> Result<Vec<u8>, AllocError> {
+    let mut text = repeated(alloc, b'"', 1)?;
+    text.extend_from_slice(repeated(alloc, b'a', length)?.as_slice())?;
+    text.push(b'"')?;
+    Ok(text)
+}
+
+/// A value of any type, a text as long as can be or longer, or this value deep in brackets.
+fn other_value(alloc: Global, random: &mut Random, value: &[u8]) -> Result<Vec<u8>, AllocError> {
+    match random.below(6) {
+        0 => bracketed(alloc, value, one_of(random, &DEPTHS, 0)),
+        1 => text(alloc, one_of(random, &LENGTHS, 0)),
+        _ => one_of(random, &VALUES, b"").to_vec(alloc),
+    }
+}
+
+/// Another value in the place of one.
 fn with_value(alloc: Global, random: &mut Random, line: &[u8]) -> Result<Vec<u8>, AllocError> {
     let from = behind(random, line, b":[");
     let to = value_end(line, from);
-    match random.below(6) {
-        0 => {
-            let depth = one_of(random, &DEPTHS, 0);
-            let value = wrapped(alloc, b'[', between(line, from, to), b']', depth)?;
-            replaced(alloc, line, from, to, value.as_slice())
-        }
-        1 => {
-            let length = one_of(random, &LENGTHS, 0);
-            let text = vec![in alloc; b'a'; length]?;
-            let value = wrapped(alloc, b'"', text.as_slice(), b'"', 1)?;
-            replaced(alloc, line, from, to, value.as_slice())
-        }
-        _ => replaced(alloc, line, from, to, one_of(random, &VALUES, b"")),
-    }
+    let value = other_value(alloc, random, between(line, from, to))?;
+    replaced(alloc, line, from, to, value.as_slice())
 }
 
 /// A member left out, twice there, or behind the next one.
@@ -183,46 +183,63 @@ fn with_members(alloc: Global, random: &mut Random, line: &[u8]) -> Result<Vec<u
     let next = to.saturating_add(1);
     match random.below(3) {
         0 => replaced(alloc, line, from, next, b""),
-        1 => {
-            let mut twice = member.to_vec(alloc)?;
-            twice.push(b',')?;
-            replaced(alloc, line, from, from, twice.as_slice())
-        }
+        1 => with_both(alloc, line, member, from, from, b""),
         _ => {
             let end = next_of(line, next, b",}");
-            let mut both = between(line, next, end).to_vec(alloc)?;
-            both.push(b',')?;
-            both.extend_from_slice(member)?;
-            replaced(alloc, line, from, end, both.as_slice())
+            with_both(alloc, line, between(line, next, end), from, end, member)
         }
     }
+}
+
+/// The line with a member, a comma and another member from one place to another.
+fn with_both(
+    alloc: Global,
+    line: &[u8],
+    member: &[u8],
+    from: usize,
+    to: usize,
+    other: &[u8],
+) -> Result<Vec<u8>, AllocError> {
+    let both = [member, b",", other].concat(alloc)?;
+    replaced(alloc, line, from, to, both.as_slice())
 }
 
 /// The line as long as can be by spaces, or longer by one.
 fn padded(alloc: Global, random: &mut Random, line: &[u8]) -> Result<Vec<u8>, AllocError> {
     let length = one_of(random, &LINES, 0);
-    let spaces = vec![in alloc; b' '; length.saturating_sub(line.len())]?;
-    replaced(alloc, line, line.len(), line.len(), spaces.as_slice())
+    let spaces = repeated(alloc, b' ', length.saturating_sub(line.len()))?;
+    [line, spaces.as_slice()].concat(alloc)
+}
+
+/// Any byte but a newline.
+fn one_byte(random: &mut Random) -> u8 {
+    let byte = (random.below(256) & 0xff) as u8;
+    if byte == b'\n' { b'\r' } else { byte }
+}
+
+/// The line with another byte at a place, cut off there, without its byte, or with bytes that don't belong before it.
+fn with_bytes(
+    alloc: Global,
+    random: &mut Random,
+    line: &[u8],
+    at: usize,
+    kind: u64,
+) -> Result<Vec<u8>, AllocError> {
+    let next = at.saturating_add(1);
+    match kind {
+        0..10 => replaced(alloc, line, at, next, &[one_byte(random)]),
+        10..20 => replaced(alloc, line, at, line.len(), b""),
+        20..30 => replaced(alloc, line, at, next, b""),
+        _ => replaced(alloc, line, at, at, one_of(random, &BYTES, b"")),
+    }
 }
 
 /// The line with one thing wrong or odd; neither has a newline at its end.
 fn damaged(alloc: Global, random: &mut Random, line: &[u8]) -> Result<Vec<u8>, AllocError> {
     let at = random.below(line.len() as u64) as usize;
-    let next = at.saturating_add(1);
-    match random.below(100) {
-        0..10 => {
-            let byte = (random.below(256) & 0xff) as u8;
-            replaced(
-                alloc,
-                line,
-                at,
-                next,
-                &[if byte == b'\n' { b'\r' } else { byte }],
-            )
-        }
-        10..20 => replaced(alloc, line, at, line.len(), b""),
-        20..30 => replaced(alloc, line, at, next, b""),
-        30..45 => replaced(alloc, line, at, at, one_of(random, &BYTES, b"")),
+    let kind = random.below(100);
+    match kind {
+        0..45 => with_bytes(alloc, random, line, at, kind),
         45..75 => with_value(alloc, random, line),
         75..99 => with_members(alloc, random, line),
         _ => padded(alloc, random, line),
@@ -260,40 +277,87 @@ const WORDS: [&str; 9] = [
     "\"error\":\"key\"",
 ];
 
-/// Counts the words that a reply has.
-fn count_words(counts: &mut [u64; 9], reply: &str) {
-    for (count, word) in counts.iter_mut().zip(WORDS.iter()) {
-        if reply.contains(*word) {
-            *count = count.saturating_add(1);
+/// Notes which words a reply has.
+fn note_words(heard: &mut [bool; 9], reply: &str) {
+    for at in 0..9 {
+        if reply.contains(WORDS[at]) {
+            heard[at] = true;
         }
     }
 }
 
-/// Both forms answer so many damaged lines alike, each with at most one line, and show the same at the end. Each fourth line or so
-/// is whole, so that there are records and sessions to speak of. Each word is among the replies.
-fn check_damaged(rt: &impl Abort, alloc: Global, seed: u64, steps: u64) -> Result<(), Fail> {
-    let mut both: Both<Plain, Served> = Both::open(alloc)?;
+/// Each word was among the replies.
+fn check_heard(rt: &impl Abort, heard: &[bool; 9]) {
+    for at in 0..9 {
+        assert!(rt; heard[at], "no reply has {}", WORDS[at]);
+    }
+}
+
+/// Both forms answer a whole line alike.
+fn ask_whole(
+    rt: &impl Abort,
+    alloc: Global,
+    both: &mut Both<Plain, Served>,
+    random: &mut Random,
+) -> Result<(), Fail> {
+    let line = line(alloc, random)?;
+    let reply = both.ask(rt, alloc, line.as_str())?;
+    random.hear(reply.as_str());
+    Ok(())
+}
+
+/// Both forms answer a damaged line alike, with at most one line.
+fn ask_damaged(
+    rt: &impl Abort,
+    alloc: Global,
+    both: &mut Both<Plain, Served>,
+    random: &mut Random,
+) -> Result<String, Fail> {
+    let bytes = damaged_line(alloc, random)?;
+    let reply = both.ask_bytes(rt, alloc, bytes.as_slice())?;
+    check_one_line(rt, bytes.as_slice(), reply.as_str());
+    random.hear(reply.as_str());
+    Ok(reply)
+}
+
+/// A reply to a line has at most one line.
+fn check_one_line(rt: &impl Abort, line: &[u8], reply: &str) {
+    let ends = match reply.split_once('\n') {
+        Some((_, behind)) => behind.is_empty(),
+        None => true,
+    };
+    assert!(rt; ends, "to {line:?}: {reply}");
+}
+
+/// Both forms answer so many damaged lines alike. Each fourth line or so is whole, so that there are records and sessions to speak of.
+/// Each word is among the replies to damaged lines.
+fn ask_lines(
+    rt: &impl Abort,
+    alloc: Global,
+    both: &mut Both<Plain, Served>,
+    seed: u64,
+    steps: u64,
+) -> Result<(), Fail> {
     let mut random = Random::new(alloc, seed);
-    let mut counts = [0u64; 9];
+    let mut heard = [false; 9];
     for step in 0..steps {
         if step % 100 == 0 {
             both.look(rt, alloc, &mut random)?;
         }
         if random.below(3) == 0 {
-            let whole = line(alloc, &mut random)?;
-            let reply = both.ask_bytes(rt, alloc, whole.as_bytes())?;
-            random.hear(reply.as_str());
+            ask_whole(rt, alloc, both, &mut random)?;
         }
-        let bytes = damaged_line(alloc, &mut random)?;
-        let reply = both.ask_bytes(rt, alloc, bytes.as_slice())?;
-        let newlines = reply.bytes().filter(|byte| *byte == b'\n').count();
-        assert!(rt; newlines <= 1, "to {bytes:?}: {reply}");
-        random.hear(reply.as_str());
-        count_words(&mut counts, reply.as_str());
+        let reply = ask_damaged(rt, alloc, both, &mut random)?;
+        note_words(&mut heard, reply.as_str());
     }
-    for (count, word) in counts.iter().zip(WORDS.iter()) {
-        assert!(rt; *count > 0, "no reply has {word}");
-    }
+    check_heard(rt, &heard);
+    Ok(())
+}
+
+/// Both forms answer damaged lines alike, and show the same at the end.
+fn check_damaged(rt: &impl Abort, alloc: Global, seed: u64) -> Result<(), Fail> {
+    let mut both = Both::open(alloc)?;
+    ask_lines(rt, alloc, &mut both, seed, 20_000)?;
     both.view(rt, alloc, "a")?;
     both.view(rt, alloc, "b")
 }
@@ -301,7 +365,7 @@ fn check_damaged(rt: &impl Abort, alloc: Global, seed: u64, steps: u64) -> Resul
 #[test]
 fn both_forms_answer_damaged_lines_alike(rt: HostRuntime) -> Result<(), Fail> {
     for seed in 11..13 {
-        check_damaged(&rt, rt.alloc(), seed, 20_000)?;
+        check_damaged(&rt, rt.alloc(), seed)?;
     }
     Ok(())
 }
@@ -309,7 +373,7 @@ fn both_forms_answer_damaged_lines_alike(rt: HostRuntime) -> Result<(), Fail> {
 #[test]
 fn both_forms_answer_damaged_lines_alike_by_more_seeds(rt: HostRuntime) -> Result<(), Fail> {
     for seed in 13..16 {
-        check_damaged(&rt, rt.alloc(), seed, 20_000)?;
+        check_damaged(&rt, rt.alloc(), seed)?;
     }
     Ok(())
 }

@@ -35,7 +35,7 @@ impl<C: Container> Opens for Linked<C> {
 }
 
 /// Which form a row is run on.
-#[derive(Clone, Copy, Debug)]
+#[derive(Clone, Copy)]
 pub(super) enum Form {
     Plain,
     Served,
@@ -49,6 +49,18 @@ pub(super) struct Ended {
     pub(super) written: Vec<u8>,
     pub(super) left: usize,
     pub(super) seen: Vec<u8>,
+}
+
+impl Ended {
+    /// Whether nothing failed, these bytes were written, and another connection sees these.
+    pub(super) fn is_whole(&self, written: &[u8], seen: &[u8]) -> bool {
+        self.answer.is_ok() && self.shows(written, seen)
+    }
+
+    /// Whether these bytes were written, and another connection sees these.
+    pub(super) fn shows(&self, written: &[u8], seen: &[u8]) -> bool {
+        self.written.as_slice() == written && self.seen.as_slice() == seen
+    }
 }
 
 /// What another connection asks at the end: the sessions, the tables, and their next ids. What a row's tables haven't got is refused.
@@ -108,6 +120,37 @@ fn seen<D: Opens>(alloc: Global, hub: &mut Hub<D>) -> Result<Vec<u8>, Fail> {
     Ok(writer.inner().to_vec(alloc)?)
 }
 
+/// How the events or the stream of a hub ended, after which another connection looks.
+fn end_of<D: Opens>(
+    alloc: Global,
+    hub: &mut Hub<D>,
+    answer: Result<(), ServeFault>,
+    sink: &Sink,
+    left: usize,
+) -> Result<Ended, Fail> {
+    Ok(Ended {
+        answer,
+        written: sink.taken.to_vec(alloc)?,
+        left,
+        seen: seen(alloc, hub)?,
+    })
+}
+
+/// Has events happen: the answer, and how many weren't begun.
+fn drive_all<D: Opens>(
+    hub: &mut Hub<D>,
+    events: &[Event],
+    writer: &mut Watched<Sink>,
+) -> Result<(Result<(), ServeFault>, usize), Fail> {
+    match drive(hub, events, writer) {
+        Ok(()) => Ok((Ok(()), 0)),
+        Err((at, HubFault::Write)) => {
+            Ok((Err(ServeFault::Write), events.len().saturating_sub(at)))
+        }
+        Err(_) => Err(Fail::from("an event is refused")),
+    }
+}
+
 fn driven<D: Opens>(
     alloc: Global,
     catalog: &Catalog,
@@ -116,17 +159,8 @@ fn driven<D: Opens>(
 ) -> Result<Ended, Fail> {
     let mut hub = opened::<D>(alloc, catalog)?;
     let mut writer = Watched::new(sink);
-    let (answer, left) = match drive(&mut hub, events, &mut writer) {
-        Ok(()) => (Ok(()), 0),
-        Err((at, HubFault::Write)) => (Err(ServeFault::Write), events.len().saturating_sub(at)),
-        Err(_) => return Err(Fail::from("an event is refused")),
-    };
-    Ok(Ended {
-        answer,
-        written: writer.inner().taken.to_vec(alloc)?,
-        left,
-        seen: seen(alloc, &mut hub)?,
-    })
+    let (answer, left) = drive_all(&mut hub, events, &mut writer)?;
+    end_of(alloc, &mut hub, answer, writer.inner(), left)
 }
 
 fn served<D: Opens>(
@@ -143,10 +177,11 @@ fn served<D: Opens>(
     let mut reader = Watched::new(source);
     let mut writer = Watched::new(sink);
     let answer = serve_stream(&mut hub, 1, &mut reader, &mut writer);
-    Ok(Ended {
+    end_of(
+        alloc,
+        &mut hub,
         answer,
-        written: writer.inner().taken.to_vec(alloc)?,
-        left: reader.inner().left.len(),
-        seen: seen(alloc, &mut hub)?,
-    })
+        writer.inner(),
+        reader.inner().left.len(),
+    )
 }

@@ -49,10 +49,10 @@ impl Course<'_> {
 
     /// Whether what was written is the replies to so many steps, and another connection sees what they leave.
     fn ends_behind(&self, steps: usize, ended: &Ended) -> bool {
-        self.states.get(steps).is_some_and(|state| {
-            state.replies.as_bytes() == ended.written.as_slice()
-                && state.seen.as_slice() == ended.seen.as_slice()
-        })
+        match self.states.get(steps) {
+            Some(state) => ended.shows(state.replies.as_bytes(), state.seen.as_slice()),
+            None => false,
+        }
     }
 
     /// Whether all was done.
@@ -69,15 +69,26 @@ impl Course<'_> {
 
     /// Whether a proper front of the replies was written, and the line whose reply isn't whole was the last to be asked.
     fn ends_behind_write(&self, ended: &Ended) -> bool {
-        let written = ended.written.as_slice();
+        let length = ended.written.len();
         let states = self
             .states
             .iter()
-            .filter(|state| state.replies.len() <= written.len());
-        self.states.get(states.count()).is_some_and(|state| {
-            state.replies.as_bytes().starts_with(written)
-                && state.seen.as_slice() == ended.seen.as_slice()
-        })
+            .filter(|state| state.replies.len() <= length);
+        match self.states.get(states.count()) {
+            Some(state) => {
+                state
+                    .replies
+                    .as_bytes()
+                    .starts_with(ended.written.as_slice())
+                    && state.seen.as_slice() == ended.seen.as_slice()
+            }
+            None => false,
+        }
+    }
+
+    /// Whether so many bytes weren't read as stand behind so many reads of a size.
+    fn is_read(&self, reads: usize, size: usize, ended: &Ended) -> bool {
+        ended.left == self.bytes.len().saturating_sub(reads.saturating_mul(size))
     }
 }
 
@@ -112,6 +123,35 @@ enum Breaking {
 }
 
 impl Breaking {
+    /// The reader of a row's bytes, whose read behind so many calls fails where that is the one.
+    fn source(self, bytes: &[u8], calls: usize) -> Source<'_> {
+        let (size, reads) = match self {
+            Breaking::Read(size) => (size, calls),
+            Breaking::Write(_, _) => (usize::MAX, usize::MAX),
+            Breaking::Flush(size) => (size, usize::MAX),
+        };
+        Source {
+            left: bytes,
+            size,
+            reads,
+        }
+    }
+
+    /// The writer, whose write or flush behind so many calls fails where that is the one.
+    fn sink(self, alloc: Global, calls: usize) -> Sink {
+        let mut sink = Sink::sound(alloc);
+        match self {
+            Breaking::Read(_) => {}
+            Breaking::Write(size, full) => {
+                sink.size = size;
+                sink.full = full;
+                sink.writes = calls;
+            }
+            Breaking::Flush(_) => sink.flushes = calls,
+        }
+        sink
+    }
+
     /// Serves a row whose device fails behind so many calls.
     fn run(
         self,
@@ -120,55 +160,41 @@ impl Breaking {
         course: &Course<'_>,
         calls: usize,
     ) -> Result<Ended, Fail> {
-        let mut source = Source {
-            left: course.bytes.as_slice(),
-            size: usize::MAX,
-            reads: usize::MAX,
-        };
-        let mut sink = Sink::sound(alloc);
-        match self {
-            Breaking::Read(size) => {
-                source.size = size;
-                source.reads = calls;
-            }
-            Breaking::Write(size, full) => {
-                sink.size = size;
-                sink.full = full;
-                sink.writes = calls;
-            }
-            Breaking::Flush(size) => {
-                source.size = size;
-                sink.flushes = calls;
-            }
-        }
+        let sink = self.sink(alloc, calls);
         if course.script.is_of_one() {
+            let source = self.source(course.bytes.as_slice(), calls);
             form.served(alloc, &course.catalog, source, sink)
         } else {
             form.driven(alloc, &course.catalog, course.events.as_slice(), sink)
         }
     }
 
-    /// Whether a row whose device failed behind so many calls ended as it must.
-    fn holds(self, course: &Course<'_>, calls: usize, ended: &Ended) -> bool {
+    /// What a hub answers whose device failed.
+    fn fault(self) -> ServeFault {
+        match self {
+            Breaking::Read(_) => ServeFault::Read,
+            Breaking::Write(_, _) | Breaking::Flush(_) => ServeFault::Write,
+        }
+    }
+
+    /// Whether a row whose device failed behind so many calls left what it must.
+    fn leaves(self, course: &Course<'_>, calls: usize, ended: &Ended) -> bool {
         match self {
             Breaking::Read(size) => {
-                ended.answer == Err(ServeFault::Read)
-                    && ended.left
-                        == course
-                            .bytes
-                            .len()
-                            .saturating_sub(calls.saturating_mul(size))
-                    && course.ends_behind_read(ended)
+                course.is_read(calls, size, ended) && course.ends_behind_read(ended)
             }
             Breaking::Write(size, _) => {
-                ended.answer == Err(ServeFault::Write)
-                    && (size > 1 || ended.written.len() == calls)
-                    && course.ends_behind_write(ended)
+                (size > 1 || ended.written.len() == calls) && course.ends_behind_write(ended)
             }
-            Breaking::Flush(_) => {
-                ended.answer == Err(ServeFault::Write)
-                    && (course.ends_behind_read(ended) || course.ends_whole(ended))
-            }
+            Breaking::Flush(_) => course.ends_behind_read(ended) || course.ends_whole(ended),
+        }
+    }
+
+    /// Whether a row whose device failed behind so many calls, or met none that fails, ended as it must.
+    fn holds(self, course: &Course<'_>, calls: usize, ended: &Ended) -> bool {
+        match ended.answer {
+            Ok(()) => course.ends_whole(ended),
+            Err(fault) => fault == self.fault() && self.leaves(course, calls, ended),
         }
     }
 
@@ -182,18 +208,13 @@ impl Breaking {
     ) -> Result<usize, Fail> {
         for calls in 0..1_000_000 {
             let ended = self.run(alloc, form, course, calls)?;
-            let is_whole = ended.answer.is_ok();
+            let holds = self.holds(course, calls, &ended);
             assert!(rt;
-                if is_whole {
-                    course.ends_whole(&ended)
-                } else {
-                    self.holds(course, calls, &ended)
-                },
-                "{}: {self:?} behind {calls} calls: {:?}",
-                course.script.name,
-                ended.answer
+                holds,
+                "{}: {self:?} behind {calls} calls",
+                course.script.name
             );
-            if is_whole {
+            if ended.answer.is_ok() {
                 return Ok(calls);
             }
         }
@@ -221,29 +242,40 @@ fn check_rows(
     Ok(faults)
 }
 
+/// Devices of every size a call.
+const WAYS: [Breaking; 8] = [
+    Breaking::Read(1),
+    Breaking::Read(7),
+    Breaking::Read(4096),
+    Breaking::Write(1, Full::Fails),
+    Breaking::Write(4096, Full::Fails),
+    Breaking::Write(4096, Full::TakesNone),
+    Breaking::Flush(7),
+    Breaking::Flush(4096),
+];
+
+/// Devices that give or take much a call.
+const LARGE: [Breaking; 3] = [
+    Breaking::Read(4096),
+    Breaking::Write(4096, Full::Fails),
+    Breaking::Flush(4096),
+];
+
 /// Devices of every size a call, on the rows that are written down and on one with many records; and large ones on long rows.
 fn check_devices(rt: &impl Abort, alloc: Global, form: Form) -> Result<(), Fail> {
-    let ways = [
-        Breaking::Read(1),
-        Breaking::Read(7),
-        Breaking::Read(4096),
-        Breaking::Write(1, Full::Fails),
-        Breaking::Write(4096, Full::Fails),
-        Breaking::Write(4096, Full::TakesNone),
-        Breaking::Flush(7),
-        Breaking::Flush(4096),
-    ];
     let mut rows = scripts(alloc)?;
     rows.push(many_records(alloc, 5)?)?;
-    let faults = check_rows(rt, alloc, form, rows.as_slice(), &ways)?;
+    let faults = check_rows(rt, alloc, form, rows.as_slice(), &WAYS)?;
     assert!(rt; faults > 22_000, "{faults} faults");
-    let long = vec![in alloc; deep_sessions(alloc)?, odd_lines(alloc)?]?;
-    let large = [
-        Breaking::Read(4096),
-        Breaking::Write(4096, Full::Fails),
-        Breaking::Flush(4096),
-    ];
-    let faults = check_rows(rt, alloc, form, long.as_slice(), &large)?;
+    check_long(rt, alloc, form)
+}
+
+/// Large devices on long rows.
+fn check_long(rt: &impl Abort, alloc: Global, form: Form) -> Result<(), Fail> {
+    let mut rows = Vec::new(alloc);
+    rows.push(deep_sessions(alloc)?)?;
+    rows.push(odd_lines(alloc)?)?;
+    let faults = check_rows(rt, alloc, form, rows.as_slice(), &LARGE)?;
     assert!(rt; faults > 1_000, "{faults} faults of long rows");
     Ok(())
 }

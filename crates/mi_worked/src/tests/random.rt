@@ -196,10 +196,7 @@ impl Random {
 
     /// One of these forms, as often as they say.
     fn form(&mut self, forms: &[(u64, &'static str)]) -> &'static str {
-        let all = forms
-            .iter()
-            .fold(0u64, |all, form| all.saturating_add(form.0));
-        let mut left = self.below(all);
+        let mut left = self.below(total(forms));
         for (often, form) in forms {
             match left.checked_sub(*often) {
                 Some(less) => left = less,
@@ -233,18 +230,28 @@ impl Random {
     /// Writes what a letter stands for.
     fn put(&mut self, line: &mut String, letter: u8) -> Result<(), AllocError> {
         match letter {
-            b't' => {
-                self.is_other = self.below(3) == 0;
-                line.push(if self.is_other { 'b' } else { 'a' })
-            }
-            b'i' => write!(line, "{}", self.id()),
-            b'k' => write!(line, "{}", self.below(40)),
-            b's' => write!(line, "{}", self.one_of(&TEXTS)),
-            b'n' => write!(line, "{}", self.one_of(&NUMBERS)),
-            b'q' => write!(line, "{}", self.one_of(&["i3", "i6"])),
-            b'r' => write!(line, "{}", self.revision.saturating_sub(self.below(6))),
-            b'l' => write!(line, "{}", self.below(20).saturating_add(1)),
-            _ => write!(line, "{}", self.below(2) == 0),
+            b't' => line.push_str(self.table()),
+            b's' => line.push_str(self.one_of(&TEXTS)),
+            b'n' => line.push_str(self.one_of(&NUMBERS)),
+            b'q' => line.push_str(self.one_of(&["i3", "i6"])),
+            b'i' | b'k' | b'r' | b'l' => write!(line, "{}", self.number_for(letter)),
+            _ => line.push_str(if self.below(2) == 0 { "true" } else { "false" }),
+        }
+    }
+
+    /// Names a table.
+    fn table(&mut self) -> &'static str {
+        self.is_other = self.below(3) == 0;
+        if self.is_other { "b" } else { "a" }
+    }
+
+    /// The number that a letter stands for.
+    fn number_for(&mut self, letter: u8) -> u64 {
+        match letter {
+            b'i' => self.id(),
+            b'k' => self.below(40),
+            b'r' => self.revision.saturating_sub(self.below(6)),
+            _ => self.below(20).saturating_add(1),
         }
     }
 
@@ -278,20 +285,40 @@ impl Random {
     }
 
     /// Takes notice of the ids in a page of the first table, or of the other one.
-    pub(super) fn see(&mut self, is_other: bool, page: &str) -> Result<(), AllocError> {
-        let seen = if is_other {
-            &mut self.others
+    pub(super) fn see(
+        &mut self,
+        alloc: Global,
+        is_other: bool,
+        page: &str,
+    ) -> Result<(), AllocError> {
+        let seen = ids_in(alloc, page)?;
+        if is_other {
+            self.others = seen;
         } else {
-            &mut self.ids
-        };
-        seen.clear();
-        for row in page.split("\"id\":") {
-            if let Some(id) = number(row) {
-                seen.push(id)?;
-            }
+            self.ids = seen;
         }
         Ok(())
     }
+}
+
+/// How often all of these forms are asked.
+fn total(forms: &[(u64, &'static str)]) -> u64 {
+    let mut all = 0u64;
+    for (often, _) in forms {
+        all = all.saturating_add(*often);
+    }
+    all
+}
+
+/// The ids of the records in a page.
+fn ids_in(alloc: Global, page: &str) -> Result<Vec<u64>, AllocError> {
+    let mut ids = Vec::new(alloc);
+    for row in page.split("\"id\":") {
+        if let Some(id) = number(row) {
+            ids.push(id)?;
+        }
+    }
+    Ok(ids)
 }
 
 /// The number that a text begins with.

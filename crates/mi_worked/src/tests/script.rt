@@ -1,4 +1,6 @@
 //! Rows as scripts: what each connection sends, one step after another, and what it is answered.
+ghost use Rattle.std.specs.Prelude.{◌<◌};
+
 use super::rows::{ACCOUNTS, ROWS, TWO};
 use mi_hub::Event;
 use std::alloc::{AllocError, Global};
@@ -19,10 +21,11 @@ pub(super) struct Step {
     pub(super) replies: String,
 }
 
-/// A row: its name, the text of its tables' schemas, and what is done and answered.
+/// A row: its name, what it says itself, the text of its tables' schemas, and what is done and answered.
 #[derive(Drop)]
 pub(super) struct Script {
     pub(super) name: &'static str,
+    text: &'static str,
     pub(super) tables: String,
     pub(super) steps: Vec<Step>,
 }
@@ -38,59 +41,80 @@ pub(super) enum Pieces {
     Of(usize),
 }
 
+impl Act {
+    /// What is done where a row says this of a connection.
+    fn of(alloc: Global, text: &str) -> Result<Act, AllocError> {
+        match text {
+            "closes" => Ok(Act::Closes),
+            "breaks off" => Ok(Act::BreaksOff),
+            line => Ok(Act::Sends([line.as_bytes(), b"\n"].concat(alloc)?)),
+        }
+    }
+}
+
+impl Step {
+    /// Has the step happen. What is sent comes behind what the connection sent before.
+    fn happens(&self, sent: &mut Vec<u8>, events: &mut Vec<Event>) -> Result<(), AllocError> {
+        match &self.act {
+            Act::Sends(bytes) => sent.extend_from_slice(bytes.as_slice())?,
+            Act::Closes => events.push(Event::Close(self.conn))?,
+            Act::BreaksOff => events.push(Event::Cut(self.conn))?,
+        }
+        Ok(())
+    }
+}
+
 impl Script {
-    /// A row with nothing done yet, over these tables.
+    /// A row over accounts with nothing done yet, and what it says itself.
     pub(super) fn new(
         alloc: Global,
         name: &'static str,
-        tables: &str,
+        text: &'static str,
     ) -> Result<Script, AllocError> {
         Ok(Script {
             name,
-            tables: String::from_str(alloc, tables)?,
+            text,
+            tables: String::from_str(alloc, ACCOUNTS)?,
             steps: Vec::new(alloc),
         })
     }
 
-    /// A connection sends bytes, and is answered; replies end with a newline.
+    /// The row that a text is, behind the rows that stand before it.
+    fn of_row(alloc: Global, row: &'static str, before: &[Script]) -> Result<Script, AllocError> {
+        let (name, text) = row.split_once('\n').unwrap_or((row, ""));
+        let mut script = Script::new(alloc, name, text)?;
+        if let Some(first) = first_of(text) {
+            script.read_all(alloc, text_of(before, first))?;
+        }
+        script.read_all(alloc, text)?;
+        Ok(script)
+    }
+
+    /// A connection does something, and isn't answered yet.
+    fn push(&mut self, alloc: Global, conn: u64, act: Act) -> Result<(), AllocError> {
+        let replies = String::new(alloc);
+        self.steps.push(Step { conn, act, replies })?;
+        Ok(())
+    }
+
+    /// A connection sends bytes.
     pub(super) fn send(
         &mut self,
         alloc: Global,
         conn: u64,
         bytes: &[u8],
-        replies: &str,
     ) -> Result<(), AllocError> {
-        self.steps.push(Step {
-            conn,
-            act: Act::Sends(bytes.to_vec(alloc)?),
-            replies: String::from_str(alloc, replies)?,
-        })?;
-        Ok(())
-    }
-
-    /// A connection asks a line.
-    pub(super) fn ask(&mut self, alloc: Global, conn: u64, line: &str) -> Result<(), AllocError> {
-        let bytes = format!(in alloc; "{line}\n")?;
-        self.send(alloc, conn, bytes.as_bytes(), "")
-    }
-
-    /// The bytes of a connection end, or it is cut.
-    fn end(&mut self, alloc: Global, conn: u64, act: Act) -> Result<(), AllocError> {
-        self.steps.push(Step {
-            conn,
-            act,
-            replies: String::new(alloc),
-        })?;
-        Ok(())
+        let bytes = bytes.to_vec(alloc)?;
+        self.push(alloc, conn, Act::Sends(bytes))
     }
 
     /// What was done last is answered by this line.
-    pub(super) fn answer(&mut self, reply: &str) -> Result<(), AllocError> {
-        if let Some(step) = self.steps.last_mut() {
-            step.replies.push_str(reply)?;
-            step.replies.push('\n')?;
-        }
-        Ok(())
+    fn answer(&mut self, reply: &str) -> Result<(), AllocError> {
+        let Some(step) = self.steps.last_mut() else {
+            return Ok(());
+        };
+        step.replies.push_str(reply)?;
+        step.replies.push('\n')
     }
 
     /// Does what a line of a row says.
@@ -99,34 +123,27 @@ impl Script {
             return Ok(());
         };
         let conn = if word.starts_with('2') { 2 } else { 1 };
-        match (word, text) {
-            ("=", reply) => self.answer(reply),
-            ("with", line) => {
-                self.tables = format!(in alloc; "{line}\n{ACCOUNTS}")?;
-                Ok(())
-            }
-            ("tables", line) => {
-                self.tables = format!(in alloc; "{TWO}{line}\n")?;
-                Ok(())
-            }
-            ("1" | "2", "closes") => self.end(alloc, conn, Act::Closes),
-            ("1" | "2", "breaks off") => self.end(alloc, conn, Act::BreaksOff),
-            ("1" | "2", line) => self.ask(alloc, conn, line),
-            ("1+" | "2+", bytes) => self.send(alloc, conn, bytes.as_bytes(), ""),
+        match word {
+            "=" => self.answer(text),
+            "with" => self.set_tables(alloc, &[text, "\n", ACCOUNTS]),
+            "tables" => self.set_tables(alloc, &[TWO, text, "\n"]),
+            "1" | "2" => self.push(alloc, conn, Act::of(alloc, text)?),
+            "1+" | "2+" => self.send(alloc, conn, text.as_bytes()),
             _ => Ok(()),
         }
     }
 
-    /// Does what the row of a name says itself.
-    fn read_row(&mut self, alloc: Global, name: &str) -> Result<(), AllocError> {
-        let mut is_meant = false;
-        for line in ROWS.iter().flat_map(|text| text.lines()) {
-            if let Some(begins) = line.strip_prefix("row ") {
-                is_meant = begins == name;
-            } else if is_meant {
-                self.read(alloc, line)?;
-            }
+    /// Does what each line of a text says.
+    pub(super) fn read_all(&mut self, alloc: Global, text: &str) -> Result<(), AllocError> {
+        for line in text.lines() {
+            self.read(alloc, line)?;
         }
+        Ok(())
+    }
+
+    /// The row is over the tables whose schemas these texts are, one behind another.
+    fn set_tables(&mut self, alloc: Global, texts: &[&str]) -> Result<(), AllocError> {
+        self.tables = texts.concat(alloc)?;
         Ok(())
     }
 
@@ -186,18 +203,30 @@ impl Script {
     ) -> Result<Vec<Event>, AllocError> {
         let mut events = vec![in alloc; Event::Attach(1), Event::Attach(2)]?;
         let mut sent = Vec::new(alloc);
-        for (i, step) in self.steps.iter().take(count).enumerate() {
-            match &step.act {
-                Act::Sends(bytes) => sent.extend_from_slice(bytes.as_slice())?,
-                Act::Closes => events.push(Event::Close(step.conn))?,
-                Act::BreaksOff => events.push(Event::Cut(step.conn))?,
-            }
-            if !pieces.joins(self.steps.get(i + 1), step.conn) {
-                push_pieces(alloc, &mut events, step.conn, sent.as_slice(), pieces)?;
-                sent.clear();
-            }
+        for at in 0..count {
+            self.push_step(alloc, at, pieces, &mut sent, &mut events)?;
         }
         Ok(events)
+    }
+
+    /// Has a step happen; what was sent comes in pieces where nothing is joined to it.
+    fn push_step(
+        &self,
+        alloc: Global,
+        at: usize,
+        pieces: Pieces,
+        sent: &mut Vec<u8>,
+        events: &mut Vec<Event>,
+    ) -> Result<(), AllocError> {
+        let Some(step) = self.steps.get(at) else {
+            return Ok(());
+        };
+        step.happens(sent, events)?;
+        if !pieces.joins(self.steps.get(at.saturating_add(1)), step.conn) {
+            pieces.push(alloc, events, step.conn, sent.as_slice())?;
+            sent.clear();
+        }
+        Ok(())
     }
 }
 
@@ -211,39 +240,68 @@ impl Pieces {
             _ => false,
         }
     }
+
+    /// How long a piece of so many bytes is; never 0.
+    fn size(self, length: usize) -> usize
+        ensures { 0 < result }
+    {
+        let size = match self {
+            Pieces::Lines => length,
+            Pieces::Halves => length.div_ceil(2),
+            Pieces::Of(size) => size,
+        };
+        size.max(1)
+    }
+
+    /// The bytes that a connection sends, in pieces.
+    fn push(
+        self,
+        alloc: Global,
+        events: &mut Vec<Event>,
+        conn: u64,
+        bytes: &[u8],
+    ) -> Result<(), AllocError> {
+        for piece in bytes.chunks(self.size(bytes.len())) {
+            events.push(Event::Piece(conn, piece.to_vec(alloc)?))?;
+        }
+        Ok(())
+    }
 }
 
-/// The bytes that a connection sends, in pieces.
-fn push_pieces(
+/// The name of the row behind which a row goes on.
+fn first_of(text: &str) -> Option<&str> {
+    Some(text.strip_prefix("after ")?.split_once('\n')?.0)
+}
+
+/// What the row of a name says itself.
+fn text_of(scripts: &[Script], name: &str) -> &'static str {
+    for script in scripts {
+        if script.name == name {
+            return script.text;
+        }
+    }
+    ""
+}
+
+/// The rows of a text, behind those that stand before it.
+fn read_rows(
     alloc: Global,
-    events: &mut Vec<Event>,
-    conn: u64,
-    bytes: &[u8],
-    pieces: Pieces,
+    text: &'static str,
+    scripts: &mut Vec<Script>,
 ) -> Result<(), AllocError> {
-    let size = match pieces {
-        Pieces::Lines => bytes.len(),
-        Pieces::Halves => bytes.len().div_ceil(2),
-        Pieces::Of(size) => size,
-    };
-    for piece in bytes.chunks(size.max(1)) {
-        events.push(Event::Piece(conn, piece.to_vec(alloc)?))?;
+    let rows = text.strip_prefix("row ").unwrap_or(text);
+    for row in rows.split("\nrow ") {
+        let script = Script::of_row(alloc, row, scripts.as_slice())?;
+        scripts.push(script)?;
     }
     Ok(())
 }
 
 /// The rows that are written down.
 pub(super) fn scripts(alloc: Global) -> Result<Vec<Script>, AllocError> {
-    let mut scripts: Vec<Script> = Vec::new(alloc);
-    for line in ROWS.iter().flat_map(|text| text.lines()) {
-        if let Some(name) = line.strip_prefix("row ") {
-            scripts.push(Script::new(alloc, name, ACCOUNTS)?)?;
-        } else if let Some(script) = scripts.last_mut() {
-            match line.strip_prefix("after ") {
-                Some(first) => script.read_row(alloc, first)?,
-                None => script.read(alloc, line)?,
-            }
-        }
+    let mut scripts = Vec::new(alloc);
+    for text in &ROWS {
+        read_rows(alloc, text, &mut scripts)?;
     }
     Ok(scripts)
 }

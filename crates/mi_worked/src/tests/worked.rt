@@ -1,5 +1,5 @@
 //! The worked rows, cut into pieces in every way.
-use super::databases::Form;
+use super::databases::{Ended, Form};
 use super::long_rows::long_scripts;
 use super::script::{Pieces, Script, scripts};
 use super::streams::Sink;
@@ -8,7 +8,33 @@ use std::alloc::Global;
 use std::process::Abort;
 use std::test::Fail;
 
-/// Each row is answered as it says.
+/// A row in such pieces is answered as it says.
+fn check_script(
+    rt: &impl Abort,
+    alloc: Global,
+    form: Form,
+    script: &Script,
+    pieces: Pieces,
+) -> Result<(), Fail> {
+    let catalog = read_catalog(alloc, script.tables.as_bytes())?;
+    let events = script.events(alloc, pieces)?;
+    let ended = form.driven(alloc, &catalog, events.as_slice(), Sink::sound(alloc))?;
+    assert!(rt; ended.answer.is_ok(), "{} in {pieces:?}", script.name);
+    check_written(rt, script, pieces, &ended, script.replies(alloc)?.as_str());
+    Ok(())
+}
+
+/// What was written is what is wanted.
+fn check_written(rt: &impl Abort, script: &Script, pieces: Pieces, ended: &Ended, want: &str) {
+    assert_eq!(rt;
+        ended.written.as_slice(),
+        want.as_bytes(),
+        "{} in {pieces:?}",
+        script.name
+    );
+}
+
+/// Each row, in pieces of each of these ways, is answered as it says.
 fn check_scripts(
     rt: &impl Abort,
     alloc: Global,
@@ -17,18 +43,8 @@ fn check_scripts(
     cuts: &[Pieces],
 ) -> Result<(), Fail> {
     for script in scripts {
-        let catalog = read_catalog(alloc, script.tables.as_bytes())?;
-        let want = script.replies(alloc)?;
         for pieces in cuts {
-            let events = script.events(alloc, *pieces)?;
-            let ended = form.driven(alloc, &catalog, events.as_slice(), Sink::sound(alloc))?;
-            assert!(rt; ended.answer.is_ok(), "{} in {pieces:?}", script.name);
-            assert_eq!(rt;
-                ended.written.as_slice(),
-                want.as_bytes(),
-                "{} in {pieces:?}",
-                script.name
-            );
+            check_script(rt, alloc, form, script, *pieces)?;
         }
     }
     Ok(())
