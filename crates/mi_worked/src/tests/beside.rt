@@ -11,9 +11,9 @@ use std::test::Fail;
 
 /// Two hubs that are asked the same, each with connection 1.
 #[derive(Drop)]
-pub(super) struct Both<A: Opens, B: Opens> {
-    one: Hub<A>,
-    other: Hub<B>,
+pub(super) struct Both {
+    one: Hub<Plain>,
+    other: Hub<Served>,
 }
 
 /// What connection 1 is answered.
@@ -25,8 +25,8 @@ fn reply<D: Opens>(alloc: Global, hub: &mut Hub<D>, line: &[u8]) -> Result<Strin
     Ok(String::from_utf8(writer.inner().to_vec(alloc)?)?)
 }
 
-impl<A: Opens, B: Opens> Both<A, B> {
-    pub(super) fn open(alloc: Global) -> Result<Both<A, B>, Fail> {
+impl Both {
+    pub(super) fn open(alloc: Global) -> Result<Both, Fail> {
         let catalog = read_catalog(alloc, TABLES.as_bytes())?;
         let mut both = Both {
             one: opened(alloc, &catalog)?,
@@ -94,12 +94,34 @@ impl<A: Opens, B: Opens> Both<A, B> {
         Ok(())
     }
 
-    /// Asks for every view of a table: each index from both ends, the record of each rank, its ranks, and each hashed key.
-    pub(super) fn view(&mut self, rt: &impl Abort, alloc: Global, table: &str) -> Result<(), Fail> {
-        for form in LISTS {
-            let line = filled(alloc, form, table, "")?;
+    /// Asks for every view of both tables: each index from both ends, the record of each rank, its ranks, and each hashed key.
+    pub(super) fn view(&mut self, rt: &impl Abort, alloc: Global) -> Result<(), Fail> {
+        for table in ["a", "b"] {
+            self.ask_forms(rt, alloc, &LISTS, table, "")?;
+            self.view_ranks(rt, alloc, table)?;
+            self.view_keys(rt, alloc, table)?;
+        }
+        Ok(())
+    }
+
+    /// Asks lines of these forms of a table, with a value.
+    fn ask_forms(
+        &mut self,
+        rt: &impl Abort,
+        alloc: Global,
+        forms: &[&str],
+        table: &str,
+        value: &str,
+    ) -> Result<(), Fail> {
+        for form in forms {
+            let line = filled(alloc, form, table, value)?;
             let _ = self.ask(rt, alloc, line.as_str())?;
         }
+        Ok(())
+    }
+
+    /// Asks for the record of each rank, and about it.
+    fn view_ranks(&mut self, rt: &impl Abort, alloc: Global, table: &str) -> Result<(), Fail> {
         for n in 0..300u64 {
             let place = format!(in alloc; "{n}")?;
             let line = filled(alloc, NTH, table, place.as_str())?;
@@ -108,7 +130,12 @@ impl<A: Opens, B: Opens> Both<A, B> {
                 break;
             }
         }
-        for key in KEYS {
+        Ok(())
+    }
+
+    /// Asks for the records of each hashed key.
+    fn view_keys(&mut self, rt: &impl Abort, alloc: Global, table: &str) -> Result<(), Fail> {
+        for key in &KEYS {
             self.view_key(rt, alloc, table, key)?;
         }
         Ok(())
@@ -127,10 +154,7 @@ impl<A: Opens, B: Opens> Both<A, B> {
             return Ok(false);
         };
         let id = format!(in alloc; "{id}")?;
-        for form in forms {
-            let line = filled(alloc, form, table, id.as_str())?;
-            let _ = self.ask(rt, alloc, line.as_str())?;
-        }
+        self.ask_forms(rt, alloc, forms, table, id.as_str())?;
         Ok(true)
     }
 
@@ -206,54 +230,49 @@ const KEYS: [&str; 16] = [
     r#"true,"\ud83d\ude00""#,
 ];
 
-/// Both answer so many random lines alike, and show the same at the end, with sessions open and after undo_all; then the next ids are
-/// the same too.
-fn check_beside<A: Opens, B: Opens>(
-    rt: &impl Abort,
-    alloc: Global,
-    seed: u64,
-    steps: u64,
-) -> Result<(), Fail> {
-    let mut both: Both<A, B> = Both::open(alloc)?;
-    both.run(rt, alloc, seed, steps)?;
-    both.view(rt, alloc, "a")?;
-    both.view(rt, alloc, "b")?;
+/// Both answer random lines alike, and show the same at the end, with sessions open and after undo_all; then the next ids are the
+/// same too.
+fn check_beside(rt: &impl Abort, alloc: Global, seed: u64) -> Result<(), Fail> {
+    let mut both = Both::open(alloc)?;
+    both.run(rt, alloc, seed, STEPS)?;
+    both.view(rt, alloc)?;
     let _ = both.ask(rt, alloc, "{\"cmd\":\"undo_all\"}\n")?;
+    both.view(rt, alloc)?;
     for table in ["a", "b"] {
-        both.view(rt, alloc, table)?;
-        let line = filled(alloc, INSERT, table, "99")?;
-        let _ = both.ask(rt, alloc, line.as_str())?;
+        both.ask_forms(rt, alloc, &INSERT, table, "99")?;
     }
     Ok(())
 }
 
 /// A record of keys that no other has.
-const INSERT: &str = r#"{"cmd":"insert","table":"$t","row":{"k":$i,"s":"new","f":true,"n":0}}"#;
+const INSERT: [&str; 1] = [
+    r#"{"cmd":"insert","table":"$t","row":{"k":$i,"s":"new","f":true,"n":0}}"#,
+];
 
 /// As many random lines as each of the tests below asks of both forms.
 const STEPS: u64 = 20_000;
 
 #[test]
 fn both_forms_answer_alike(rt: HostRuntime) -> Result<(), Fail> {
-    check_beside::<Plain, Served>(&rt, rt.alloc(), 1, STEPS)
+    check_beside(&rt, rt.alloc(), 1)
 }
 
 #[test]
 fn both_forms_answer_alike_by_a_second_seed(rt: HostRuntime) -> Result<(), Fail> {
-    check_beside::<Plain, Served>(&rt, rt.alloc(), 2, STEPS)
+    check_beside(&rt, rt.alloc(), 2)
 }
 
 #[test]
 fn both_forms_answer_alike_by_a_third_seed(rt: HostRuntime) -> Result<(), Fail> {
-    check_beside::<Plain, Served>(&rt, rt.alloc(), 3, STEPS)
+    check_beside(&rt, rt.alloc(), 3)
 }
 
 #[test]
 fn both_forms_answer_alike_by_a_fourth_seed(rt: HostRuntime) -> Result<(), Fail> {
-    check_beside::<Plain, Served>(&rt, rt.alloc(), 4, STEPS)
+    check_beside(&rt, rt.alloc(), 4)
 }
 
 #[test]
 fn both_forms_answer_alike_by_a_fifth_seed(rt: HostRuntime) -> Result<(), Fail> {
-    check_beside::<Plain, Served>(&rt, rt.alloc(), 5, STEPS)
+    check_beside(&rt, rt.alloc(), 5)
 }

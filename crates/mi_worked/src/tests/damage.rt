@@ -1,8 +1,6 @@
 //! Lines with one thing wrong at random, the same for the same seed, to both forms of the database.
 use super::beside::Both;
-use super::databases::Served;
 use super::random::{CHANGES, READS, Random};
-use mi_plain::Plain;
 use std::alloc::{AllocError, Global};
 use std::process::Abort;
 use std::test::Fail;
@@ -297,7 +295,7 @@ fn check_heard(rt: &impl Abort, heard: &[bool; 9]) {
 fn ask_whole(
     rt: &impl Abort,
     alloc: Global,
-    both: &mut Both<Plain, Served>,
+    both: &mut Both,
     random: &mut Random,
 ) -> Result<(), Fail> {
     let line = line(alloc, random)?;
@@ -310,7 +308,7 @@ fn ask_whole(
 fn ask_damaged(
     rt: &impl Abort,
     alloc: Global,
-    both: &mut Both<Plain, Served>,
+    both: &mut Both,
     random: &mut Random,
 ) -> Result<String, Fail> {
     let bytes = damaged_line(alloc, random)?;
@@ -334,7 +332,7 @@ fn check_one_line(rt: &impl Abort, line: &[u8], reply: &str) {
 fn ask_lines(
     rt: &impl Abort,
     alloc: Global,
-    both: &mut Both<Plain, Served>,
+    both: &mut Both,
     seed: u64,
     steps: u64,
 ) -> Result<(), Fail> {
@@ -358,8 +356,7 @@ fn ask_lines(
 fn check_damaged(rt: &impl Abort, alloc: Global, seed: u64) -> Result<(), Fail> {
     let mut both = Both::open(alloc)?;
     ask_lines(rt, alloc, &mut both, seed, 20_000)?;
-    both.view(rt, alloc, "a")?;
-    both.view(rt, alloc, "b")
+    both.view(rt, alloc)
 }
 
 #[test]
