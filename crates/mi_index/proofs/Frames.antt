@@ -22,12 +22,12 @@ use Rattle.mi_tree.specs.Frame.{IsAlike, AreAlike}
 use Rattle.mi_tree.proofs.Frames.{tree_where}
 use Rattle.mi_chain.specs.Keying.{stamp_at}
 use Rattle.mi_chain.proofs.Elsewhere.{AllOf, IsSame, chained_elsewhere}
-use Rattle.mi_index.specs.Orders.{stored_order, stored_tag, keying_of}
-use Rattle.mi_index.specs.OrderLaws.{stored_total, is_tagged}
-use Rattle.mi_index.specs.HashLaws.{keyings_are_lawful}
+use Rattle.mi_order.specs.Orders.{stored_order, stored_tag, keying_of}
+use Rattle.mi_order.specs.OrderLaws.{stored_total, is_tagged}
+use Rattle.mi_order.specs.HashLaws.{keyings_are_lawful}
 use Rattle.mi_index.specs.Standing.{slot_in, order_of, AllAbove, Climb, Stands}
-use Rattle.mi_index.specs.declared.stored.Stored.{Stored}
-use Rattle.mi_index.specs.declared.orders.ByHash.{ByHash}
+use Rattle.mi_order.specs.declared.stored.Stored.{Stored}
+use Rattle.mi_order.specs.declared.orders.ByHash.{ByHash}
 use Rattle.mi_index.specs.declared.structure.Structure.{Structure}
 use Rattle.mi_index.specs.declared.structure.Structure.TheVariants.{Ordered, Hashed, Sequenced}
 

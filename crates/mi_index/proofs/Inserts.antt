@@ -8,7 +8,7 @@ use Rattle.mi_node.specs.declared.link.Link.{Link}
 use Rattle.mi_node.proofs.Callers.{flip, held_taken, same_refl, ref-taken, value-taken}
 use Rattle.mi_tree.specs.Sorted.{NoneAre}
 use Rattle.mi_chain.specs.Keying.{stamp_at}
-use Rattle.mi_index.specs.Orders.{stored_order}
+use Rattle.mi_order.specs.Orders.{stored_order}
 use Rattle.mi_index.specs.Standing.{IsLike, IsRoomy}
 use Rattle.mi_index.specs.Places.{before_at, NoneHas, IsPut, HasStamp, IsJoined, KeepsTags}
 use Rattle.mi_index.specs.Pass.{AllStand, AllCan, AllDone, AllLike, AreReady, IsPass, AllRoomy}
@@ -16,8 +16,8 @@ use Rattle.mi_index.specs.Passes.{joining, joined, nothing_asked, grown}
 use Rattle.std.specs.declared.cmp.Ordering.TheVariants.{Equal}
 use Rattle.mi_index.specs.Rekeying.{side_of_value, HasPlaceFor}
 use Rattle.mi_index.specs.Inserting.{inserting, inserted, IsInserted}
-use Rattle.mi_index.specs.declared.stored.Stored.{Stored}
-use Rattle.mi_index.specs.declared.orders.ByKey.{ByKey}
+use Rattle.mi_order.specs.declared.stored.Stored.{Stored}
+use Rattle.mi_order.specs.declared.orders.ByKey.{ByKey}
 use Rattle.mi_index.specs.declared.moves.Moves.TheVariants.{All}
 use Rattle.mi_index.specs.declared.structure.Structure.{Structure}
 use Rattle.mi_index.specs.declared.structure.Structure.TheVariants.{Ordered, Hashed, Sequenced}

@@ -14,11 +14,11 @@ use Rattle.mi_list.proofs.Changes.{out_among}
 use Rattle.mi_chain.specs.Keying.{Keying, same_nodes, stamp_at}
 use Rattle.mi_chain.specs.Chained.{AreAfter, AreBefore, IsPlaced, AreChained}
 use Rattle.mi_chain.specs.declared.chains.Chains.{Chains}
-use Rattle.mi_index.specs.Orders.{keying_of}
+use Rattle.mi_order.specs.Orders.{keying_of}
 use Rattle.mi_index.specs.Standing.{AllAbove, AllBelow, Climb, Stands}
 use Rattle.mi_index.specs.Places.{NoneHas}
-use Rattle.mi_index.specs.declared.stored.Stored.{Stored}
-use Rattle.mi_index.specs.declared.orders.ByHash.{ByHash}
+use Rattle.mi_order.specs.declared.stored.Stored.{Stored}
+use Rattle.mi_order.specs.declared.orders.ByHash.{ByHash}
 use Rattle.mi_index.specs.declared.structure.Structure.TheVariants.{Hashed}
 
 -- a list of rising stamps, cut at a stamp that isn't there

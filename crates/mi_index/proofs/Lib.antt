@@ -1,4 +1,3 @@
-pub mod KeyLemmas
 pub mod Frames
 pub mod Stays
 pub mod Joining

@@ -9,7 +9,7 @@ use Rattle.mi_tree.specs.Shape.{nth_of}
 use Rattle.mi_tree.specs.Probed.{first_where}
 use Rattle.mi_tree.proofs.Shapes.{nth-last}
 use Rattle.mi_index.specs.Standing.{Stands}
-use Rattle.mi_index.specs.declared.stored.Stored.{Stored}
+use Rattle.mi_order.specs.declared.stored.Stored.{Stored}
 use Rattle.mi_index.specs.declared.structure.Structure.{Structure}
 use Rattle.mi_index.proofs.Others.{nodes_held}
 

@@ -15,14 +15,14 @@ use Rattle.mi_list.specs.Listed.{slot_of}
 use Rattle.mi_list.proofs.Frames.{listed_new}
 use Rattle.mi_tree.proofs.Frames.{tree_empty}
 use Rattle.mi_chain.proofs.Whole.{new_chains}
-use Rattle.mi_index.specs.Orders.{stored_order, stored_tag, keying_of}
+use Rattle.mi_order.specs.Orders.{stored_order, stored_tag, keying_of}
 use Rattle.mi_index.specs.Standing.{slot_in, Stands}
 use Rattle.mi_index.specs.Pass.{AllStand, AllCan, AreReady}
 use Rattle.mi_index.specs.Inserting.{inserting}
 use Rattle.mi_index.specs.Rekeying.{HasPlaceFor}
 use Rattle.std.specs.declared.option.Option.TheVariants.{None}
 use Rattle.mi_index.specs.Opened.{IsOpenedFor, AllOpenedFor, IsEmpty, AllEmpty, empties, IsOpened}
-use Rattle.mi_index.specs.declared.stored.Stored.{Stored}
+use Rattle.mi_order.specs.declared.stored.Stored.{Stored}
 use Rattle.mi_index.specs.declared.structure.Structure.{Structure}
 use Rattle.mi_index.specs.declared.structure.Structure.TheVariants.{Ordered, Hashed, Sequenced}
 

@@ -20,13 +20,13 @@ use Rattle.mi_tree.specs.Frame.{AreAlike}
 use Rattle.mi_tree.proofs.Shapes.{all_held}
 use Rattle.mi_chain.specs.Keying.{stamp_at, same_nodes, same_values}
 use Rattle.mi_chain.specs.declared.chains.Chains.{Chains}
-use Rattle.mi_index.specs.Orders.{stored_order, keying_of, has_one_key}
+use Rattle.mi_order.specs.Orders.{stored_order, keying_of, has_one_key}
 use Rattle.mi_index.specs.Standing.{slot_in, order_of, AllAbove, AllBelow, Stands}
 use Rattle.mi_index.specs.Places.{NoneHas, HasPlace, HasOldPlace}
 use Rattle.mi_index.specs.Pass.{AllStand, IsOutOfAll}
 use Rattle.mi_index.specs.Rekeying.{side_of_value, has_key_of, HasPlaceFor, HasOldPlaceFor}
-use Rattle.mi_index.specs.declared.stored.Stored.{Stored}
-use Rattle.mi_index.specs.declared.orders.ByHash.{ByHash}
+use Rattle.mi_order.specs.declared.stored.Stored.{Stored}
+use Rattle.mi_order.specs.declared.orders.ByHash.{ByHash}
 use Rattle.mi_index.specs.declared.moves.Place.{Place}
 use Rattle.mi_index.specs.declared.structure.Structure.{Structure}
 use Rattle.mi_index.specs.declared.structure.Structure.TheVariants.{Ordered, Hashed, Sequenced}

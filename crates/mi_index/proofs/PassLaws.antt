@@ -6,7 +6,7 @@ use Rattle.mi_node.specs.Pool.{Pooled, Keeps}
 use Rattle.mi_node.specs.Refs.{Ref}
 use Rattle.mi_index.specs.Standing.{slot_in, IsLike}
 use Rattle.mi_index.specs.Pass.{Asks, Gives, AllStand, AllCan, AllDone, KeepsFrom, IsReady, IsStep, AreReady, IsPass}
-use Rattle.mi_index.specs.declared.stored.Stored.{Stored}
+use Rattle.mi_order.specs.declared.stored.Stored.{Stored}
 use Rattle.mi_index.specs.declared.structure.Structure.{Structure}
 use Rattle.mi_index.specs.declared.structure.Structure.TheVariants.{Ordered, Hashed, Sequenced}
 use Rattle.mi_index.proofs.Frames.{Agree, stands_same}

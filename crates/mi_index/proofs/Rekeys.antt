@@ -20,10 +20,10 @@ use Rattle.std.specs.List.{filter}
 use Rattle.mi_list.proofs.Changes.{out_among}
 use Rattle.mi_tree.specs.Sorted.{NoneAre}
 use Rattle.mi_chain.specs.Keying.{stamp_at, same_nodes, same_values}
-use Rattle.mi_index.specs.Orders.{stored_order, keying_of, has_one_key}
-use Rattle.mi_index.specs.declared.stored.Stored.{Stored}
-use Rattle.mi_index.specs.declared.orders.ByKey.{ByKey}
-use Rattle.mi_index.specs.declared.orders.ByHash.{ByHash}
+use Rattle.mi_order.specs.Orders.{stored_order, keying_of, has_one_key}
+use Rattle.mi_order.specs.declared.stored.Stored.{Stored}
+use Rattle.mi_order.specs.declared.orders.ByKey.{ByKey}
+use Rattle.mi_order.specs.declared.orders.ByHash.{ByHash}
 use Rattle.mi_index.specs.declared.moves.Place.{Place}
 use Rattle.mi_index.specs.declared.structure.Structure.{Structure}
 use Rattle.mi_index.specs.declared.structure.Structure.TheVariants.{Ordered, Hashed, Sequenced}

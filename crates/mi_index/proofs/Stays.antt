@@ -10,14 +10,14 @@ use Rattle.std.specs.List.{filter}
 use Rattle.mi_node.specs.declared.link.Link.{Link}
 use Rattle.mi_tree.specs.Sorted.{NoneAre, compared, by_stamp, stamped, item_of, side_of_new}
 use Rattle.mi_chain.specs.Keying.{Keying, same_values, same_nodes, stamp_at}
-use Rattle.mi_index.specs.Orders.{stored_order, keying_of}
+use Rattle.mi_order.specs.Orders.{stored_order, keying_of}
 use Rattle.mi_index.specs.Standing.{slot_in, AllAbove, AllBelow}
 use Rattle.mi_index.specs.Places.{is_moved, place_for, before_at, own_place, NoneHas, HasPlace, CanJoin, HasStamp, IsBeside, KeepsTags, HasOldPlace}
 use Rattle.mi_index.specs.Pass.{Asks, Gives}
 use Rattle.mi_index.specs.Passes.{IsSame, CanJoinIf, IsJoinedIf, joining, joined, IsLeftIf, leaving}
 use Rattle.mi_index.specs.Passes.{left, CanReturnTo, IsBackAt, returning, returned, nothing_asked, grown}
 use Rattle.mi_index.specs.Inserting.{IsRelocatedIf, relocating, relocated}
-use Rattle.mi_index.specs.declared.stored.Stored.{Stored}
+use Rattle.mi_order.specs.declared.stored.Stored.{Stored}
 use Rattle.mi_index.specs.declared.moves.Place.{Place}
 use Rattle.mi_index.specs.declared.moves.Moves.{Moves}
 use Rattle.mi_index.specs.declared.structure.Structure.{Structure}

@@ -12,7 +12,7 @@ use Rattle.mi_list.proofs.Changes.{knows}
 use Rattle.mi_tree.specs.Walking.{beyond, far_of}
 use Rattle.mi_tree.specs.declared.walk.Direction.{Direction}
 use Rattle.mi_tree.specs.declared.walk.Direction.TheVariants.{Ascending, Descending}
-use Rattle.mi_index.specs.declared.stored.Stored.{Stored}
+use Rattle.mi_order.specs.declared.stored.Stored.{Stored}
 use Rattle.mi_index.specs.Walks.{row_if, shown_row, Follow}
 
 -- the next node of a list of which some were taken

@@ -6,7 +6,7 @@ use Rattle.mi_index.specs.Places.{before_at, IsJoined}
 use Rattle.mi_index.specs.Pass.{Asks, Gives, AllStand, AllDone, IsOutOfAll}
 use Rattle.mi_index.specs.Passes.{IsSame}
 use Rattle.mi_index.specs.Rekeying.{HasPlaceFor}
-use Rattle.mi_index.specs.declared.stored.Stored.{Stored}
+use Rattle.mi_order.specs.declared.stored.Stored.{Stored}
 use Rattle.mi_index.specs.declared.structure.Structure.{Structure}
 use Rattle.mi_index.specs.declared.structure.Structure.TheVariants.{Ordered, Hashed, Sequenced}
 

@@ -1,11 +1,3 @@
-pub mod Tags
-pub mod TagLaws
-pub mod Leads
-pub mod LeadLaws
-pub mod Mixing
-pub mod Orders
-pub mod OrderLaws
-pub mod HashLaws
 pub mod Standing
 pub mod Places
 pub mod Pass
@@ -16,3 +8,5 @@ pub mod Inserting
 pub mod Looks
 pub mod Opened
 pub mod Walks
+-- How indexes see records.
+pub use Rattle.mi_order.specs.Orders

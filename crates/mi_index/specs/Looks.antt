@@ -5,9 +5,9 @@ use Rattle.mi_node.specs.Pool.{Pooled}
 use Rattle.mi_node.specs.Refs.{Ref}
 use Rattle.mi_tree.specs.Probed.{is_node_at, is_past_node}
 use Rattle.mi_chain.specs.Keying.{same_nodes, has_key, stamp_at}
-use Rattle.mi_index.specs.Orders.{place_in, keying_of}
+use Rattle.mi_order.specs.Orders.{place_in, keying_of}
 use Rattle.mi_index.specs.Places.{IsBeside}
-use Rattle.mi_index.specs.declared.stored.Stored.{Stored}
+use Rattle.mi_order.specs.declared.stored.Stored.{Stored}
 use Rattle.mi_index.specs.declared.moves.Place.{Place}
 use Rattle.mi_index.specs.declared.structure.Structure.{Structure}
 use Rattle.mi_index.specs.declared.structure.Structure.TheVariants.{Ordered, Hashed, Sequenced}

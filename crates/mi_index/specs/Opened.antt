@@ -14,8 +14,8 @@ use Rattle.mi_node.specs.Refs.{Ref}
 use Rattle.mi_list.specs.Listed.{slot_of, IsNew}
 use Rattle.mi_chain.specs.Chained.{AreNew}
 use Rattle.mi_index.specs.Pass.{AllStand}
-use Rattle.mi_index.specs.declared.stored.Stored.{Stored}
-use Rattle.mi_index.specs.declared.leads.LeadTypes.{LeadTypes}
+use Rattle.mi_order.specs.declared.stored.Stored.{Stored}
+use Rattle.mi_order.specs.declared.leads.LeadTypes.{LeadTypes}
 use Rattle.mi_index.specs.declared.structure.Structure.{Structure}
 use Rattle.mi_index.specs.declared.structure.Structure.TheVariants.{Ordered, Hashed, Sequenced}
 

@@ -7,7 +7,7 @@ use Rattle.std.specs.Prelude.{◌≡◌, ℕ, ◌+◌, ◌<◌, ◌==◌, false,
 use Rattle.mi_node.specs.Pool.{Pooled, ref_of, value_of, link_of, Keeps}
 use Rattle.mi_node.specs.Refs.{Ref, IsOut}
 use Rattle.mi_index.specs.Standing.{slot_in, Stands, IsLike, IsRoomy}
-use Rattle.mi_index.specs.declared.stored.Stored.{Stored}
+use Rattle.mi_order.specs.declared.stored.Stored.{Stored}
 use Rattle.mi_index.specs.declared.structure.Structure.{Structure}
 
 -- what a step asks of a structure with its slot and its list

@@ -5,7 +5,7 @@ use Rattle.mi_node.specs.Refs.{Ref}
 use Rattle.mi_index.specs.Standing.{slot_in}
 use Rattle.mi_index.specs.Places.{is_moved, place_for, before_at, IsOneOf, CanJoin, IsJoined, IsLeft, CanReturn, IsBack, KeepsTags}
 use Rattle.mi_index.specs.Pass.{Asks, Gives}
-use Rattle.mi_index.specs.declared.stored.Stored.{Stored}
+use Rattle.mi_order.specs.declared.stored.Stored.{Stored}
 use Rattle.mi_index.specs.declared.moves.Place.{Place}
 use Rattle.mi_index.specs.declared.moves.Moves.{Moves}
 use Rattle.mi_index.specs.declared.structure.Structure.{Structure}

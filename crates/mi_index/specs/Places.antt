@@ -14,10 +14,10 @@ use Rattle.mi_list.specs.declared.list.List.{List as Listed}
 use Rattle.mi_tree.specs.Sorted.{NoneAre, side_of_new}
 use Rattle.mi_chain.specs.Keying.{same_nodes, stamp_at}
 use Rattle.mi_chain.specs.declared.chains.Chains.{Chains}
-use Rattle.mi_index.specs.Orders.{stored_order, keying_of}
+use Rattle.mi_order.specs.Orders.{stored_order, keying_of}
 use Rattle.mi_index.specs.Standing.{slot_in, AllAbove, AllBelow}
-use Rattle.mi_index.specs.declared.stored.Stored.{Stored}
-use Rattle.mi_index.specs.declared.orders.ByHash.{ByHash}
+use Rattle.mi_order.specs.declared.stored.Stored.{Stored}
+use Rattle.mi_order.specs.declared.orders.ByHash.{ByHash}
 use Rattle.mi_index.specs.declared.moves.Place.{Place}
 use Rattle.mi_index.specs.declared.moves.Moves.{Moves}
 use Rattle.mi_index.specs.declared.moves.Moves.TheVariants.{All, Marked, Placed}

@@ -11,13 +11,13 @@ use Rattle.mi_node.specs.Refs.{Ref, first_of, last_of}
 use Rattle.mi_tree.specs.Sorted.{NoneAre, compared, by_stamp, item_of}
 use Rattle.mi_chain.specs.Keying.{same_values, stamp_at}
 use Rattle.mi_chain.specs.declared.chains.Chains.{Chains}
-use Rattle.mi_index.specs.Orders.{stored_order, has_one_key}
+use Rattle.mi_order.specs.Orders.{stored_order, has_one_key}
 use Rattle.mi_index.specs.Standing.{order_of, AllAbove, AllBelow}
 use Rattle.mi_index.specs.Places.{mark_at, given_at, NoneHas, IsWith, HasStamp, IsBeside}
 use Rattle.mi_index.specs.Pass.{Asks, Gives, AllStand, AllDone, IsOutOfAll}
 use Rattle.mi_index.specs.Passes.{IsSame}
-use Rattle.mi_index.specs.declared.stored.Stored.{Stored}
-use Rattle.mi_index.specs.declared.orders.ByHash.{ByHash}
+use Rattle.mi_order.specs.declared.stored.Stored.{Stored}
+use Rattle.mi_order.specs.declared.orders.ByHash.{ByHash}
 use Rattle.mi_index.specs.declared.moves.Place.{Place}
 use Rattle.mi_index.specs.declared.structure.Structure.{Structure}
 use Rattle.mi_index.specs.declared.structure.Structure.TheVariants.{Ordered, Hashed, Sequenced}

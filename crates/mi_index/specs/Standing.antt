@@ -14,8 +14,8 @@ use Rattle.mi_tree.specs.Standing.{IsTree}
 use Rattle.mi_tree.specs.Frame.{AreAlike}
 use Rattle.mi_chain.specs.Keying.{stamp_at}
 use Rattle.mi_chain.specs.Chained.{AreChained}
-use Rattle.mi_index.specs.Orders.{stored_order, stored_tag, keying_of}
-use Rattle.mi_index.specs.declared.stored.Stored.{Stored}
+use Rattle.mi_order.specs.Orders.{stored_order, stored_tag, keying_of}
+use Rattle.mi_order.specs.declared.stored.Stored.{Stored}
 use Rattle.mi_index.specs.declared.structure.Structure.{Structure}
 use Rattle.mi_index.specs.declared.structure.Structure.TheVariants.{Ordered, Hashed, Sequenced}
 

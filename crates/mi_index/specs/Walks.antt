@@ -5,8 +5,8 @@ use Rattle.mi_node.specs.Pool.{Pooled, value_of, link_of, IsHeld}
 use Rattle.mi_node.specs.Refs.{Ref, first_of}
 use Rattle.mi_tree.specs.Walking.{far_of}
 use Rattle.mi_tree.specs.declared.walk.Direction.{Direction}
-use Rattle.mi_index.specs.Orders.{row_in}
-use Rattle.mi_index.specs.declared.stored.Stored.{Stored}
+use Rattle.mi_order.specs.Orders.{row_in}
+use Rattle.mi_order.specs.declared.stored.Stored.{Stored}
 
 -- the id and the record of a node
 abbrev pub row_if : Option Stored → Row

@@ -11,10 +11,10 @@ ghost use Rattle.mi_index.specs.Opened as opened;
 ghost use Rattle.mi_index.specs.declared.structure.Structure.{Structure as One};
 
 use crate::moves::{Moves, before_in};
-use crate::stored::Stored;
 use crate::structure::Structure;
 use mi_catalog::{Column, Index};
 use mi_node::{NodeRef, Pool};
+use mi_order::Stored;
 use std::alloc::{AllocError, Global};
 
 /// Puts a node into one structure, if it moves there.

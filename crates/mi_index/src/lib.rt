@@ -1,25 +1,17 @@
-//! How indexes stand over one pool of nodes: how they see records (orders, tags and hashes), the structure of each, and
-//! the changes of all of them.
-//! It knows no ids of rows but those in the nodes, and no sessions.
+//! How indexes stand over one pool of nodes: the structure of each, and the changes of all of them.
+//! It knows no ids of rows but those in the nodes, and no sessions. How it sees records stands in `mi_order`, whose types it
+//! hands on.
 #![tactic(auto)]
 
 pub mod all;
-mod key;
 pub mod laws;
-pub mod leads;
 mod look;
-mod mixing;
 mod moves;
 mod nodes;
-mod orders;
-mod stored;
 mod structure;
-pub mod tags;
 mod walk;
 
-pub use mixing::mixed;
+pub use mi_order::{ByHash, ByKey, Stored, mixed};
 pub use moves::{Moves, Place};
 pub use nodes::Nodes;
-pub use orders::{ByHash, ByKey};
-pub use stored::Stored;
 pub use structure::Structure;

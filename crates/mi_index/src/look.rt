@@ -9,12 +9,11 @@ ghost use Rattle.mi_index.specs.Looks as look;
 ghost use Rattle.mi_index.specs.declared.structure.Structure.TheVariants.{Ordered, Hashed, Sequenced};
 
 use crate::moves::Place;
-use crate::orders::{ByHash, ByKey};
-use crate::stored::Stored;
 use crate::structure::Structure;
 use mi_chain::Chains;
 use mi_list::List;
 use mi_node::{Counted, NodeRef, Pool};
+use mi_order::{ByHash, ByKey, Stored};
 use mi_tree::Tree;
 use mi_value::{Probe, Steps};
 

@@ -13,10 +13,10 @@ ghost use Rattle.mi_index.specs.declared.moves.Moves.TheVariants.{All};
 
 use crate::all::{add_structures, link_all, make_room_all, relink_all, relocate_all, unlink_all};
 use crate::moves::{Moves, Place};
-use crate::stored::Stored;
 use crate::structure::Structure;
 use mi_catalog::Schema;
 use mi_node::{NodeRef, Pool};
+use mi_order::Stored;
 use std::alloc::{AllocError, Global};
 
 /// The nodes of one table, and how its indexes stand over them.

@@ -11,14 +11,12 @@ ghost use Rattle.mi_index.specs.Opened as opened;
 ghost use Rattle.mi_index.specs.Inserting as insert;
 ghost use Rattle.mi_index.specs.declared.structure.Structure.TheVariants.{Ordered, Hashed, Sequenced};
 
-use crate::leads::LeadTypes;
 use crate::moves::Place;
-use crate::orders::{ByHash, ByKey};
-use crate::stored::Stored;
 use mi_catalog::{Column, Index, IndexKind, Parts};
 use mi_chain::Chains;
 use mi_list::List;
 use mi_node::{Link, NodeRef, Pool, Tag};
+use mi_order::{ByHash, ByKey, LeadTypes, Stored};
 use mi_tree::Tree;
 use mi_value::{ColumnType, KeyPart, Steps};
 use std::alloc::{AllocError, Global};

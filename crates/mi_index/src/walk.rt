@@ -9,10 +9,9 @@ ghost use Rattle.mi_index.specs.Looks as look;
 ghost use Rattle.mi_index.specs.Walks.{shown_row, Follow};
 ghost use Rattle.mi_index.specs.declared.structure.Structure.TheVariants.{Ordered};
 
-use crate::orders::ByKey;
-use crate::stored::Stored;
 use crate::structure::Structure;
 use mi_node::{Counted, Link, NodeRef};
+use mi_order::{ByKey, Stored};
 use mi_tree::{Direction, Tree, Walk};
 use mi_value::{Record, Steps};
 use std::alloc::{AllocError, Global};

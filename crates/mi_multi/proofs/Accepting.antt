@@ -25,7 +25,7 @@ use Rattle.mi_model.specs.Steps.{MeetsRefusal}
 use Rattle.mi_model.specs.Verdict.{is_spent, has_place, as_unique, unless, insert_refusal, insert_outcome}
 use Rattle.mi_node.specs.Pool.{Pooled}
 use Rattle.mi_node.specs.Refs.{Ref}
-use Rattle.mi_index.specs.declared.stored.Stored.{Stored}
+use Rattle.mi_order.specs.declared.stored.Stored.{Stored}
 use Rattle.mi_index.specs.declared.structure.Structure.{Structure}
 use Rattle.mi_container.specs.Asked.{IsSequenced}
 use Rattle.mi_container.specs.Data.{Data, table_of}

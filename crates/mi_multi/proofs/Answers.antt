@@ -13,7 +13,7 @@ use Rattle.mi_model.specs.Change.{erase}
 use Rattle.mi_model.specs.Verdict.{Outcome, erase_outcome}
 use Rattle.mi_node.specs.Pool.{Pooled, value_of}
 use Rattle.mi_node.specs.Refs.{Ref}
-use Rattle.mi_index.specs.declared.stored.Stored.{Stored}
+use Rattle.mi_order.specs.declared.stored.Stored.{Stored}
 use Rattle.mi_index.specs.declared.structure.Structure.{Structure}
 use Rattle.mi_container.specs.Data.{Node, Kept, Order, Data, node_of, table_of}
 use Rattle.mi_container.specs.Changes.{erased}

@@ -17,9 +17,9 @@ use Rattle.mi_model.proofs.ViewLaws.{Lacks}
 use Rattle.mi_node.specs.Pool.{Pooled, value_of}
 use Rattle.mi_node.specs.Refs.{Ref, first_of, last_of}
 use Rattle.mi_chain.specs.Keying.{same_nodes, same_values}
-use Rattle.mi_index.specs.declared.stored.Stored.{Stored}
+use Rattle.mi_order.specs.declared.stored.Stored.{Stored}
 use Rattle.mi_index.specs.Orders.{keying_of, has_one_key}
-use Rattle.mi_index.specs.declared.orders.ByHash.{ByHash as HashedBy}
+use Rattle.mi_order.specs.declared.orders.ByHash.{ByHash as HashedBy}
 use Rattle.mi_container.specs.Data.{Order, node_of, content_of, content_in, ids_by_stamp}
 use Rattle.mi_container.specs.Changes.{link_of_id as link_at, group}
 use Rattle.mi_container.proofs.Sequences.{lacks_left}

@@ -10,7 +10,7 @@ use Rattle.mi_model.specs.Table.{times}
 use Rattle.mi_model.specs.Change.{without}
 use Rattle.mi_node.specs.Pool.{Pooled}
 use Rattle.mi_node.specs.Refs.{Ref}
-use Rattle.mi_index.specs.declared.stored.Stored.{Stored}
+use Rattle.mi_order.specs.declared.stored.Stored.{Stored}
 use Rattle.mi_container.proofs.Pairs.{is_itself, is_other, head_is, head_isnt, none_some, some_is}
 use Rattle.mi_container.proofs.Sequences.{drop_is, drop_isnt}
 use Rattle.mi_ids.specs.declared.entry.IdEntry.{IdEntry}

@@ -15,7 +15,7 @@ use Rattle.mi_list.specs.Listed.{IsListed}
 use Rattle.mi_list.specs.Order.{order}
 use Rattle.mi_list.specs.declared.list.List.{List as Line}
 use Rattle.mi_list.proofs.Orders.{order-listed}
-use Rattle.mi_index.specs.declared.stored.Stored.{Stored}
+use Rattle.mi_order.specs.declared.stored.Stored.{Stored}
 use Rattle.mi_index.specs.declared.structure.Structure.{Structure}
 use Rattle.mi_index.specs.declared.structure.Structure.TheVariants.{Ordered, Hashed, Sequenced}
 use Rattle.mi_index.specs.Standing.{slot_in, Stands, IsLike}

@@ -11,7 +11,7 @@ use Rattle.mi_model.specs.Table.{times}
 use Rattle.mi_node.specs.Pool.{Pooled, link_of}
 use Rattle.mi_node.specs.Refs.{Ref}
 use Rattle.mi_node.specs.declared.link.Tag.{Tag}
-use Rattle.mi_index.specs.declared.stored.Stored.{Stored}
+use Rattle.mi_order.specs.declared.stored.Stored.{Stored}
 use Rattle.mi_index.specs.declared.structure.Structure.{Structure}
 use Rattle.mi_index.specs.Pass.{AllCan, AllLike, AreChanged, IsPass}
 use Rattle.mi_index.specs.Passes.{nothing_asked, grown}

@@ -13,12 +13,12 @@ use Rattle.mi_catalog.specs.Shape.{Shape}
 use Rattle.mi_node.specs.Pool.{Pooled, value_of, link_of}
 use Rattle.mi_node.specs.Refs.{Ref, first_of, last_of}
 use Rattle.mi_chain.specs.Keying.{same_nodes, stamp_at}
-use Rattle.mi_index.specs.declared.stored.Stored.{Stored}
+use Rattle.mi_order.specs.declared.stored.Stored.{Stored}
 use Rattle.mi_index.specs.declared.structure.Structure.{Structure}
 use Rattle.mi_index.specs.declared.structure.Structure.TheVariants.{Ordered, Hashed, Sequenced}
 use Rattle.mi_index.specs.declared.moves.Moves.TheVariants.{All}
 use Rattle.mi_index.specs.Orders.{keying_of}
-use Rattle.mi_index.specs.declared.orders.ByHash.{ByHash as HashedBy}
+use Rattle.mi_order.specs.declared.orders.ByHash.{ByHash as HashedBy}
 use Rattle.mi_index.specs.Standing.{slot_in, Climb}
 use Rattle.mi_index.specs.Places.{KeepsTags}
 use Rattle.mi_index.specs.Passes.{left}

@@ -13,7 +13,7 @@ use Rattle.mi_model.specs.Table.{times}
 use Rattle.mi_model.proofs.ViewLaws.{Lacks}
 use Rattle.mi_node.specs.Pool.{Pooled, value_of}
 use Rattle.mi_node.specs.Refs.{Ref, IsOut}
-use Rattle.mi_index.specs.declared.stored.Stored.{Stored}
+use Rattle.mi_order.specs.declared.stored.Stored.{Stored}
 use Rattle.mi_index.specs.Places.{IsOneOf as Holds}
 use Rattle.mi_index.specs.Pass.{IsOutOfAll}
 use Rattle.mi_container.specs.Data.{Order, node_of}

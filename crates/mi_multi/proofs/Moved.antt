@@ -22,7 +22,7 @@ use Rattle.mi_model.specs.Change.{stand, without}
 use Rattle.mi_node.specs.Pool.{Pooled, link_of}
 use Rattle.mi_node.specs.Refs.{Ref, first_of}
 use Rattle.mi_node.specs.declared.link.Link.{Link as Line}
-use Rattle.mi_index.specs.declared.stored.Stored.{Stored}
+use Rattle.mi_order.specs.declared.stored.Stored.{Stored}
 use Rattle.mi_index.specs.declared.structure.Structure.{Structure}
 use Rattle.mi_index.specs.declared.structure.Structure.TheVariants.{Ordered, Hashed, Sequenced}
 use Rattle.mi_index.specs.Standing.{slot_in}

@@ -17,7 +17,7 @@ use Rattle.mi_catalog.specs.Shape.{Shape, index_at}
 use Rattle.mi_node.specs.Pool.{Pooled, value_of, link_of}
 use Rattle.mi_node.specs.Refs.{Ref}
 use Rattle.mi_chain.specs.Keying.{stamp_at}
-use Rattle.mi_index.specs.declared.stored.Stored.{Stored}
+use Rattle.mi_order.specs.declared.stored.Stored.{Stored}
 use Rattle.mi_index.specs.declared.moves.Place.{Place}
 use Rattle.mi_index.specs.declared.structure.Structure.{Structure}
 use Rattle.mi_index.specs.declared.structure.Structure.TheVariants.{Ordered, Hashed, Sequenced}

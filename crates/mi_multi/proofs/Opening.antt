@@ -17,7 +17,7 @@ use Rattle.mi_catalog.specs.Shape.{Shape}
 use Rattle.mi_catalog.proofs.RuleLaws.{in_limits}
 use Rattle.mi_node.specs.Pool.{Pooled, no_nodes, ref_of}
 use Rattle.mi_node.proofs.Callers.{ref-no_nodes}
-use Rattle.mi_index.specs.declared.stored.Stored.{Stored}
+use Rattle.mi_order.specs.declared.stored.Stored.{Stored}
 use Rattle.mi_index.specs.declared.structure.Structure.{Structure}
 use Rattle.mi_index.specs.declared.structure.Structure.TheVariants.{Ordered, Hashed, Sequenced}
 use Rattle.mi_index.specs.Pass.{AllStand}

@@ -13,7 +13,7 @@ use Rattle.mi_value.specs.declared.compare.KeyPart.{KeyPart}
 use Rattle.mi_node.specs.Pool.{Pooled, value_of, link_of}
 use Rattle.mi_node.specs.Refs.{Ref}
 use Rattle.mi_tree.specs.Sorted.{side_of_new, item_of, stamped, compared, by_stamp as side_by}
-use Rattle.mi_index.specs.declared.stored.Stored.{Stored}
+use Rattle.mi_order.specs.declared.stored.Stored.{Stored}
 use Rattle.mi_index.specs.Orders.{stored_order}
 use Rattle.mi_index.specs.Rekeying.{side_of_value}
 use Rattle.mi_index.specs.Standing.{AllAbove, AllBelow, Climb}

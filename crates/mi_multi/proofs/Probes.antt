@@ -35,12 +35,12 @@ use Rattle.mi_node.specs.Pool.{Pooled, value_of}
 use Rattle.mi_node.specs.Refs.{Ref, first_of}
 use Rattle.mi_tree.specs.Probed.{first_where, past, past_value, is_value_at, is_past_node, is_node_at}
 use Rattle.mi_chain.specs.Keying.{same_nodes, same_values, has_key, passes}
-use Rattle.mi_index.specs.declared.stored.Stored.{Stored}
+use Rattle.mi_order.specs.declared.stored.Stored.{Stored}
 use Rattle.mi_index.specs.declared.structure.Structure.{Structure}
 use Rattle.mi_index.specs.declared.structure.Structure.TheVariants.{Ordered, Hashed, Sequenced}
 use Rattle.mi_index.specs.Looks as nodes
 use Rattle.mi_index.specs.Orders.{place_in, row_in, keying_of, has_one_key, is_whole, is_key_of}
-use Rattle.mi_index.specs.declared.orders.ByHash.{ByHash as HashedBy}
+use Rattle.mi_order.specs.declared.orders.ByHash.{ByHash as HashedBy}
 use Rattle.mi_container.specs.Asked.{IsSorted}
 use Rattle.mi_container.specs.Data.{table_of}
 use Rattle.mi_ids.specs.IdMap.{live_node}

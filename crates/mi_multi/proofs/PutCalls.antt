@@ -11,7 +11,7 @@ use Rattle.mi_value.specs.Order.{compare_key}
 use Rattle.mi_catalog.specs.Shape.{index_at}
 use Rattle.mi_node.specs.Pool.{Pooled, IsHeld, value_of}
 use Rattle.mi_node.specs.Refs.{Ref}
-use Rattle.mi_index.specs.declared.stored.Stored.{Stored}
+use Rattle.mi_order.specs.declared.stored.Stored.{Stored}
 use Rattle.mi_index.specs.declared.moves.Place.{Place}
 use Rattle.mi_index.specs.declared.structure.Structure.{Structure}
 use Rattle.mi_index.specs.Standing.{slot_in, Stands}

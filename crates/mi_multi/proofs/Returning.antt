@@ -17,12 +17,12 @@ use Rattle.mi_node.specs.Pool.{Pooled, value_of, link_of}
 use Rattle.mi_node.specs.Refs.{Ref, first_of, last_of}
 use Rattle.mi_tree.specs.Sorted.{NoneAre, side_of_new}
 use Rattle.mi_chain.specs.Keying.{same_nodes, same_values, stamp_at}
-use Rattle.mi_index.specs.declared.stored.Stored.{Stored}
+use Rattle.mi_order.specs.declared.stored.Stored.{Stored}
 use Rattle.mi_index.specs.declared.structure.Structure.{Structure}
 use Rattle.mi_index.specs.declared.structure.Structure.TheVariants.{Ordered, Hashed, Sequenced}
 use Rattle.mi_index.specs.declared.moves.Moves.TheVariants.{All}
 use Rattle.mi_index.specs.Orders.{stored_order, keying_of, has_one_key}
-use Rattle.mi_index.specs.declared.orders.ByHash.{ByHash as HashedBy}
+use Rattle.mi_order.specs.declared.orders.ByHash.{ByHash as HashedBy}
 use Rattle.mi_index.specs.Standing.{slot_in, AllAbove, AllBelow, Climb, IsLike}
 use Rattle.mi_index.specs.Places.{own_place, CanReturn, HasOldPlace}
 use Rattle.mi_index.specs.Pass.{Gives, AllStand, AllCan, AllDone, AllLike}

@@ -17,7 +17,7 @@ use Rattle.mi_model.specs.Change.{stand, without, relocated, relocate}
 use Rattle.mi_model.specs.Verdict.{Outcome, has_place, relocate_outcome}
 use Rattle.mi_node.specs.Pool.{Pooled}
 use Rattle.mi_node.specs.Refs.{Ref, first_of}
-use Rattle.mi_index.specs.declared.stored.Stored.{Stored}
+use Rattle.mi_order.specs.declared.stored.Stored.{Stored}
 use Rattle.mi_index.specs.declared.structure.Structure.{Structure}
 use Rattle.mi_index.specs.Standing.{Stands}
 use Rattle.mi_container.specs.Asked.{IsSequenced, ShowsOneList}

@@ -9,7 +9,7 @@ use Rattle.mi_catalog.specs.declared.index.IndexKind.TheVariants.{Ordered, Ranke
 use Rattle.mi_value.specs.declared.compare.KeyPart.{KeyPart}
 use Rattle.mi_node.specs.Pool.{Pooled, link_of}
 use Rattle.mi_node.specs.Refs.{Ref}
-use Rattle.mi_index.specs.declared.stored.Stored.{Stored}
+use Rattle.mi_order.specs.declared.stored.Stored.{Stored}
 use Rattle.mi_container.specs.Data.{Order, has_stamps}
 use Rattle.mi_container.specs.Data.Order.{ById, ByKey, ByHash, Listed}
 use Rattle.mi_ids.specs.declared.entry.IdEntry.{IdEntry}

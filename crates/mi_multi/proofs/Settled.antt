@@ -21,7 +21,7 @@ use Rattle.mi_node.specs.Pool.{Pooled, value_of, link_of, ref_of, no_link, IsHel
 use Rattle.mi_node.specs.declared.link.Link.{Link as Line}
 use Rattle.mi_node.specs.Refs.{Ref, IsOut}
 use Rattle.mi_node.proofs.Callers.{value-without, link-without, ref-without}
-use Rattle.mi_index.specs.declared.stored.Stored.{Stored}
+use Rattle.mi_order.specs.declared.stored.Stored.{Stored}
 use Rattle.mi_index.specs.declared.structure.Structure.{Structure}
 use Rattle.mi_index.specs.Pass.{Gives, AllStand, AllDone, IsOutOfAll}
 use Rattle.mi_container.specs.Data.{Node, Kept, Data, Order, node_of, kept_of, IsData}

@@ -27,7 +27,7 @@ use Rattle.mi_node.specs.Pool.{Pooled, value_of, link_of}
 use Rattle.mi_node.specs.Refs.{Ref}
 use Rattle.mi_tree.specs.Sorted.{Rising, AllAre, side, item_of, stamped, compared, by_stamp as side_by}
 use Rattle.mi_chain.specs.Keying.{stamp_at}
-use Rattle.mi_index.specs.declared.stored.Stored.{Stored}
+use Rattle.mi_order.specs.declared.stored.Stored.{Stored}
 use Rattle.mi_index.specs.declared.structure.Structure.{Structure}
 use Rattle.mi_index.specs.declared.structure.Structure.TheVariants.{Ordered, Hashed, Sequenced}
 use Rattle.mi_index.specs.Orders.{stored_order, row_in}

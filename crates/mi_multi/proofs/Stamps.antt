@@ -18,7 +18,7 @@ use Rattle.mi_model.proofs.StampLaws.{Rises, rises_once}
 use Rattle.mi_node.specs.Pool.{Pooled, link_of}
 use Rattle.mi_node.specs.Refs.{Ref}
 use Rattle.mi_chain.specs.Keying.{stamp_at}
-use Rattle.mi_index.specs.declared.stored.Stored.{Stored}
+use Rattle.mi_order.specs.declared.stored.Stored.{Stored}
 use Rattle.mi_index.specs.Standing.{AllAbove, Climb}
 use Rattle.mi_container.specs.Data.{Node, Order, Data, has_stamps, node_of, content_in, stamp_of, ids_by_stamp, listed, lists_from, table_of, IsData}
 use Rattle.mi_container.specs.Data.Order.{ById, ByKey, ByHash, Listed}

@@ -9,7 +9,7 @@ use Rattle.mi_catalog.specs.Shape.{Shape}
 use Rattle.mi_model.specs.Change.{without}
 use Rattle.mi_node.specs.Pool.{Pooled, without as freed}
 use Rattle.mi_node.specs.Refs.{Ref}
-use Rattle.mi_index.specs.declared.stored.Stored.{Stored}
+use Rattle.mi_order.specs.declared.stored.Stored.{Stored}
 use Rattle.mi_index.specs.declared.structure.Structure.{Structure}
 use Rattle.mi_index.specs.declared.moves.Moves.TheVariants.{All}
 use Rattle.mi_index.specs.Pass.{AllStand, AllLike, IsPass, IsOutOfAll}

@@ -9,7 +9,7 @@ use Rattle.std.specs.declared.option.Option.TheVariants.{Some}
 use Rattle.mi_catalog.specs.declared.index.Index.{Index}
 use Rattle.mi_catalog.specs.Kinds.{is_sequenced}
 use Rattle.mi_node.specs.Pool.{Pooled, value_of, link_of}
-use Rattle.mi_index.specs.declared.stored.Stored.{Stored}
+use Rattle.mi_order.specs.declared.stored.Stored.{Stored}
 use Rattle.mi_container.specs.Data.{Order, order_at, has_stamps}
 use Rattle.mi_ids.specs.declared.entry.IdEntry.{IdEntry}
 

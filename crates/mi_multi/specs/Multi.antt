@@ -18,7 +18,7 @@ use Rattle.mi_model.specs.Table.{times}
 use Rattle.mi_node.specs.Pool.{Pooled, value_of, IsHeld}
 use Rattle.mi_node.specs.Refs.{Ref}
 use Rattle.mi_list.specs.Order.{order}
-use Rattle.mi_index.specs.declared.stored.Stored.{Stored}
+use Rattle.mi_order.specs.declared.stored.Stored.{Stored}
 use Rattle.mi_index.specs.declared.structure.Structure.{Structure}
 use Rattle.mi_index.specs.declared.structure.Structure.TheVariants.{Ordered, Hashed, Sequenced}
 use Rattle.mi_index.specs.Pass.{AllStand}

@@ -1,7 +1,7 @@
 -- The row of a node, as inverses name it.
 use Rattle.mi_node.specs.Pool.{Pooled}
 use Rattle.mi_node.specs.Refs.{Ref}
-use Rattle.mi_index.specs.declared.stored.Stored.{Stored}
+use Rattle.mi_order.specs.declared.stored.Stored.{Stored}
 use Rattle.mi_container.specs.Inverse.{RowRef}
 use Rattle.mi_multi.specs.Multi.{id_at}
 

@@ -1,3 +1,4 @@
 pub mod Sevens
 pub mod Stocks
+pub mod Takes
 pub mod Threes

@@ -1,10 +1,9 @@
 -- Nodes for tests: what the calls need and what they leave.
 use Rattle.std.proofs.Common.{◌≡◌, ◌==◌, ℕ, ℤ, Bool, true, false, cond, List, [], ◌∷◌, ◌++◌, Option, Some, None, sym, ap, ◌∙◌, subst, append_assoc}
 use Rattle.std.specs.List.{filter}
-use Rattle.mi_node.specs.Pool.{Pooled, ref_of, link_of, IsHeld, Keeps, taken}
+use Rattle.mi_node.specs.Pool.{Pooled, link_of, Keeps}
 use Rattle.mi_node.specs.Refs.{Ref, first_of}
 use Rattle.mi_node.specs.declared.link.Tag.{Tag}
-use Rattle.mi_node.proofs.Callers.{held_taken, held-taken}
 use Rattle.mi_node.proofs.Refs.{first_split}
 use Rattle.mi_chain.specs.Keying.{same_nodes, stamp_at}
 use Rattle.mi_chain.specs.Chained.{AreAfter, AreBefore, IsPlaced}
@@ -54,10 +53,3 @@ placed_kept m n s w ws e k tags r t xs ys p =
       after = subst (λ z. AreAfter z (stamp_at n s) r t ys) same (subst (λ z. AreAfter (same_nodes number_keying m) z r t ys) stamps p.after);
       few = p.few;
     })
-
--- which nodes are held after `take`
-pub held_now : (m n : Pooled ℤ) (r : Ref) (v : ℤ) → n ≡ taken m r v → IsHeld n r
-held_now m n r v e = subst (λ z. IsHeld z r) (sym e) (held_taken m r v)
-
-pub held_then : (m n : Pooled ℤ) (q r : Ref) (v : ℤ) → n ≡ taken m r v → ref_of m r.name ≡ None → IsHeld m q → IsHeld n q
-held_then m n q r v e free h = subst (λ z. IsHeld z q) (sym e) (held-taken m q r v h free)

@@ -6,5 +6,6 @@ mod indexes;
 mod journal;
 mod list;
 mod mixing;
+mod nodes;
 mod pool;
 mod trees;

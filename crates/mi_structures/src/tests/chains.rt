@@ -2,19 +2,32 @@
 ghost use Rattle.std.specs.Prelude.{◌≡◌, ◌==◌, false, List as Seq, [], ◌∷◌};
 ghost use Rattle.mi_node.specs.Pool.{IsHeld};
 ghost use Rattle.mi_node.specs.Refs.{Ref};
-ghost use Rattle.mi_chain.specs.Chained.{AreChained};
+ghost use Rattle.mi_chain.specs.Chained.{AreChained, AreNew};
 ghost use Rattle.mi_structures.specs.OneKey.{one_keying};
 
 mod one_key;
 mod rooms;
 mod three;
 
+use super::nodes::take;
 use mi_chain::Chains;
 use mi_node::{NodeRef, Pool};
 use mi_value::{Probe, Value};
 use one_key::OneKey;
 use std::alloc::Global;
 use std::process::Abort;
+
+/// Chains of no node, through slot 1.
+fn no_chains<H>(rt: &impl Abort, alloc: Global, keys: H) -> Chains<H>
+where
+    H: Drop,
+    ensures { AreNew result 1 keys }
+{
+    let Ok(chains) = Chains::new(alloc, 1, keys) else {
+        panic!(rt; "no memory");
+    };
+    chains
+}
 
 /// Puts two nodes of one key into chains of no node, through slot 1.
 fn fill(chains: &mut Chains<OneKey>, p: &mut Pool<u8>, one: NodeRef, two: NodeRef)
@@ -79,15 +92,9 @@ fn leave_and_return(
 #[tactic(auto, using(mi_node::proofs::Callers::refs))]
 fn two_of_one_key(rt: HostRuntime) {
     let mut p: Pool<u8> = Pool::with_slots(rt.alloc(), 2);
-    let Ok(one) = p.take(10) else {
-        panic!(rt; "no memory");
-    };
-    let Ok(two) = p.take(20) else {
-        panic!(rt; "no memory");
-    };
-    let Ok(mut chains) = Chains::new(rt.alloc(), 1, OneKey) else {
-        panic!(rt; "no memory");
-    };
+    let one = take(&rt, &mut p, 10);
+    let two = take(&rt, &mut p, 20);
+    let mut chains = no_chains(&rt, rt.alloc(), OneKey);
     fill(&mut chains, &mut p, one, two);
     leave_and_return(&rt, rt.alloc(), &mut chains, &mut p, one, two);
 }

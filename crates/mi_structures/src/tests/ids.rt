@@ -1,4 +1,5 @@
 //! Worked rows through each call of the map from ids to nodes, and refused room.
+use super::nodes::take;
 use mi_ids::{IdEntry, Ids};
 use mi_node::{NodeRef, Pool};
 use std::alloc::AllocError;
@@ -90,10 +91,8 @@ fn make_all(rt: &impl Abort, ids: &mut Ids, nodes: &[NodeRef; 2]) -> Result<(), 
 #[test]
 fn two_ids_through_each_call(rt: HostRuntime) -> Result<(), Fail> {
     let mut pool: Pool<u8> = Pool::with_slots(rt.alloc(), 1);
-    let (Ok(one), Ok(two)) = (pool.take(0), pool.take(1)) else {
-        panic!(rt; "no memory");
-    };
-    make_all(&rt, &mut Ids::new(rt.alloc()), &[one, two])?;
+    let nodes = [take(&rt, &mut pool, 0), take(&rt, &mut pool, 1)];
+    make_all(&rt, &mut Ids::new(rt.alloc()), &nodes)?;
     Ok(())
 }
 
@@ -105,22 +104,25 @@ fn assert_below(rt: &impl Abort, ids: &Ids, id: u64) {
     assert!(rt; ids.get(id).is_none());
 }
 
-/// Run with an allocation that fails, it sees that refused room leaves the ids as they were, and can be asked for again.
-#[test]
-fn refused_room_leaves_the_ids(rt: HostRuntime) -> Result<(), Fail> {
-    let mut pool: Pool<u8> = Pool::with_slots(rt.alloc(), 1);
-    let Ok(node) = pool.take(0) else {
-        panic!(rt; "no memory");
-    };
-    let mut ids = Ids::new(rt.alloc());
+/// Inserts the ids below 20. Where room for one is refused, those below it are still there, and room is asked for again.
+fn insert_all(rt: &impl Abort, ids: &mut Ids, node: NodeRef) -> Result<(), AllocError> {
     for id in 0..20u64 {
         if ids.make_room().is_err() {
-            assert_below(&rt, &ids, id);
+            assert_below(rt, ids, id);
             ids.make_room()?;
         }
         ids.insert(id, node);
     }
     assert_eq!(rt; ids.len(), 20);
+    Ok(())
+}
+
+/// Run with an allocation that fails, it sees that refused room leaves the ids as they were, and can be asked for again.
+#[test]
+fn refused_room_leaves_the_ids(rt: HostRuntime) -> Result<(), Fail> {
+    let mut pool: Pool<u8> = Pool::with_slots(rt.alloc(), 1);
+    let node = take(&rt, &mut pool, 0);
+    insert_all(&rt, &mut Ids::new(rt.alloc()), node)?;
     Ok(())
 }
 

@@ -10,13 +10,18 @@ fn assert_depth(rt: &impl Abort, journal: &Journal<u64>, depth: usize) {
     assert_eq!(rt; journal.depth(), depth);
 }
 
+/// Asserts which entry left a journal, if one did.
+fn assert_left(rt: &impl Abort, left: Option<(usize, u64)>, want: Option<(usize, u64)>) {
+    assert_eq!(rt; left, want);
+}
+
 /// Takes back two entries, after which there is none.
 fn pop_two(rt: &impl Abort, journal: &mut Journal<u64>)
     ensures { journal.new.sessions ≡ without_entry (without_entry (without_entry journal.old.sessions)) }
 {
-    assert_eq!(rt; journal.pop(), Some((1, 8)));
-    assert_eq!(rt; journal.pop(), Some((0, 7)));
-    assert_eq!(rt; journal.pop(), None);
+    assert_left(rt, journal.pop(), Some((1, 8)));
+    assert_left(rt, journal.pop(), Some((0, 7)));
+    assert_left(rt, journal.pop(), None);
 }
 
 /// Room for two entries and two sessions is taken, and one session joins another.
@@ -49,9 +54,9 @@ fn ends_the_oldest(rt: HostRuntime) -> Result<(), Fail> {
     journal.note(1, 8);
     journal.open_session();
     journal.note(2, 9);
-    assert_eq!(&rt; journal.take_oldest(), Some((0, 7)));
-    assert_eq!(&rt; journal.take_oldest(), Some((1, 8)));
-    assert_eq!(&rt; journal.take_oldest(), None);
+    assert_left(&rt, journal.take_oldest(), Some((0, 7)));
+    assert_left(&rt, journal.take_oldest(), Some((1, 8)));
+    assert_left(&rt, journal.take_oldest(), None);
     assert_depth(&rt, &journal, 2);
     Ok(())
 }

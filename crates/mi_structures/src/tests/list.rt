@@ -3,6 +3,7 @@ ghost use Rattle.mi_node.specs.Pool.{IsHeld};
 ghost use Rattle.mi_node.specs.Refs.{Ref};
 ghost use Rattle.mi_list.specs.Listed.{IsListed};
 
+use super::nodes::take_three;
 use mi_list::List;
 use mi_node::{NodeRef, Pool};
 use std::process::Abort;
@@ -94,15 +95,8 @@ fn move_about(
 #[tactic(auto, using(mi_node::proofs::Callers::refs))]
 fn nodes_leave_and_come_back(rt: HostRuntime) {
     let mut p: Pool<u8> = Pool::with_slots(rt.alloc(), 2);
-    let Ok(one) = p.take(10) else {
-        panic!(rt; "no memory");
-    };
-    let Ok(two) = p.take(20) else {
-        panic!(rt; "no memory");
-    };
-    let Ok(three) = p.take(30) else {
-        panic!(rt; "no memory");
-    };
+    let nodes = take_three(&rt, &mut p, 10, 20, 30);
+    let (one, two, three) = (nodes.one, nodes.two, nodes.three);
     let mut list = List::new(1);
     fill(&mut list, &mut p, one, two, three);
     assert_forth(&rt, &list, &p, &[one.name(), two.name(), three.name()]);

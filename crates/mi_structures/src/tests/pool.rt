@@ -1,25 +1,18 @@
 //! Nodes of a pool: their values and links, places that are used again, and refused memory.
 #![tactic(auto, using(mi_node::proofs::Callers::held, mi_node::proofs::Callers::slot_counts))]
 
-ghost use Rattle.std.specs.Prelude.{◌≡◌, None};
-ghost use Rattle.mi_node.specs.Pool.{IsHeld, ref_of, taken, without, with_value};
+ghost use Rattle.std.specs.Prelude.{◌≡◌};
+ghost use Rattle.mi_node.specs.Pool.{IsHeld, without, with_value};
 
+use super::nodes::take;
 use mi_node::{Counted, Link, NO_LINK, NodeRef, Pool, Tag};
 use std::cell::Cell;
 use std::mem::size_of;
 use std::process::Abort;
 
-/// A new node of a value.
-fn take<T>(rt: &impl Abort, pool: &mut Pool<T>, value: T) -> NodeRef
-where
-    T: Drop,
-    ensures free { ref_of pool.old result.name ≡ None }
-    ensures pool { pool.new ≡ taken pool.old result value }
-{
-    let Ok(node) = pool.take(value) else {
-        panic!(rt; "no memory");
-    };
-    node
+/// Asserts that two texts are the same.
+fn assert_same(rt: &impl Abort, text: &str, want: &str) {
+    assert_eq!(rt; text, want);
 }
 
 /// The text "x" of a node makes room for another, which is given back.
@@ -27,15 +20,15 @@ fn swap_and_give(rt: &impl Abort, pool: &mut Pool<&'static str>, node: NodeRef, 
     requires { IsHeld pool.old node }
     ensures { pool.new ≡ without (with_value pool.old node.name text.entry) node.name }
 {
-    assert_eq!(rt; pool.swap_value(node, text), "x");
-    assert_eq!(rt; pool.give(node), text);
+    assert_same(rt, pool.swap_value(node, text), "x");
+    assert_same(rt, pool.give(node), text);
 }
 
 /// Asserts the text of a node.
 fn assert_text(rt: &impl Abort, pool: &Pool<&'static str>, node: NodeRef, text: &str)
     requires { IsHeld pool.now node }
 {
-    assert_eq!(rt; *pool.value(node), text);
+    assert_same(rt, *pool.value(node), text);
 }
 
 #[test]
@@ -68,10 +61,15 @@ fn full_link(node: NodeRef) -> Link {
 
 /// Asserts that a link is that one.
 fn assert_full(rt: &impl Abort, link: Link) {
-    assert_eq!(rt; (link.size, link.height), (u32::MAX, u8::MAX));
-    assert_eq!(rt; (link.tag.key, link.tag.stamp), (u64::MAX, 7));
+    assert!(rt; link.size == u32::MAX && link.height == u8::MAX);
+    assert!(rt; link.tag.key == u64::MAX && link.tag.stamp == 7);
     assert!(rt; link.back.is_none());
     assert!(rt; link.forth.is_some());
+}
+
+/// Asserts the size that a link has.
+fn assert_size(rt: &impl Abort, link: Link, size: u32) {
+    assert_eq!(rt; link.size, size);
 }
 
 #[test]
@@ -80,7 +78,7 @@ fn links_are_kept_by_slot(rt: HostRuntime) {
     let node = take(&rt, &mut pool, 10);
     pool.set_link(node, 2, full_link(node));
     assert_full(&rt, pool.link(node, 2));
-    assert_eq!(rt; pool.link(node, 1).size, 0);
+    assert_size(&rt, pool.link(node, 1), 0);
 }
 
 /// They are read as well through a counter of reads.
@@ -102,7 +100,7 @@ fn links_are_given_back(rt: HostRuntime) {
     pool.set_link(one, 2, full_link(one));
     let _ = pool.give(one);
     let two = take(&rt, &mut pool, 11);
-    assert_eq!(rt; pool.link(two, 2).size, 0);
+    assert_size(&rt, pool.link(two, 2), 0);
 }
 
 /// Each place has its own links.
@@ -113,7 +111,8 @@ fn links_are_kept_by_place(rt: HostRuntime) {
     let two = take(&rt, &mut pool, 2);
     pool.set_link(one, 1, Link { size: 3, ..NO_LINK });
     pool.set_link(two, 1, Link { size: 5, ..NO_LINK });
-    assert_eq!(rt; (pool.link(one, 1).size, pool.link(two, 1).size), (3, 5));
+    assert_size(&rt, pool.link(one, 1), 3);
+    assert_size(&rt, pool.link(two, 1), 5);
 }
 
 /// Three places that are given back are used again, in whatever order.
@@ -146,16 +145,19 @@ fn many_nodes_stand_in_chunks(rt: HostRuntime) {
     assert_eq!(rt; last, 9000);
 }
 
+/// Asserts that a value that came back is the text "x", and that the pool can go on with it.
+fn take_again(rt: &impl Abort, pool: &mut Pool<&'static str>, value: &'static str) {
+    assert_same(rt, value, "x");
+    let node = take(rt, pool, value);
+    assert_text(rt, pool, node, "x");
+}
+
 /// Run with an allocation that fails, it sees that the value comes back and the pool can go on.
 #[test]
 fn a_refused_take_gives_the_value_back(rt: HostRuntime) {
     let mut pool: Pool<&'static str> = Pool::with_slots(rt.alloc(), 1);
     if let Err((_, value)) = pool.take("x") {
-        assert_eq!(rt; value, "x");
-        let Ok(r) = pool.take(value) else {
-            panic!(rt; "no memory");
-        };
-        assert_eq!(rt; *pool.value(r), "x");
+        take_again(&rt, &mut pool, value);
     }
 }
 

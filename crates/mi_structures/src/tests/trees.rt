@@ -44,23 +44,36 @@ fn assert_neighbours(rt: &impl Abort, stock: &Stock<'_>) {
     }
 }
 
+/// Adds nodes of ids and keys.
+fn add_all(rt: &impl Abort, stock: &mut Stock<'_>, ids_and_keys: &[(u32, u32)]) {
+    for (id, key) in ids_and_keys {
+        assert!(rt; stock.add(*key, *id));
+    }
+}
+
+/// Asserts that of the ids 12, 10 and 11 the second leaves, and comes back to its place.
+fn second_leaves(rt: &impl Abort, stock: &mut Stock<'_>) {
+    assert!(rt; stock.pull(1));
+    assert_ids(rt, stock, [Some(12), Some(11), None, None]);
+    assert!(rt; stock.put());
+    assert_ids(rt, stock, [Some(12), Some(10), Some(11), None]);
+}
+
+fn assert_small_tree(rt: &impl Abort, stock: &mut Stock<'_>) {
+    add_all(rt, stock, &[(10, 5), (11, 5), (12, 3)]);
+    assert_eq!(rt; stock.len(), 3);
+    assert_ids(rt, stock, [Some(12), Some(10), Some(11), None]);
+    assert_eq!(rt; stock.rank_of_nth(2), Some(2));
+    assert_keys(rt, stock);
+    assert_neighbours(rt, stock);
+    second_leaves(rt, stock);
+}
+
 #[test]
 fn nodes_of_one_key_stand_by_their_stamps(rt: HostRuntime) {
     for tagged in [false, true] {
         let calls = Cell::new(0);
-        let mut stock = Stock::new(rt.alloc(), &calls, tagged);
-        for (id, key) in [(10, 5), (11, 5), (12, 3)] {
-            assert!(rt; stock.add(key, id));
-        }
-        assert_eq!(rt; stock.len(), 3);
-        assert_ids(&rt, &stock, [Some(12), Some(10), Some(11), None]);
-        assert_eq!(rt; stock.rank_of_nth(2), Some(2));
-        assert_keys(&rt, &stock);
-        assert_neighbours(&rt, &stock);
-        assert!(rt; stock.pull(1));
-        assert_ids(&rt, &stock, [Some(12), Some(11), None, None]);
-        assert!(rt; stock.put());
-        assert_ids(&rt, &stock, [Some(12), Some(10), Some(11), None]);
+        assert_small_tree(&rt, &mut Stock::new(rt.alloc(), &calls, tagged));
     }
 }
 
@@ -93,9 +106,7 @@ fn walks_go_both_ways(rt: HostRuntime) {
     for tagged in [false, true] {
         let calls = Cell::new(0);
         let mut stock = Stock::new(rt.alloc(), &calls, tagged);
-        for (id, key) in [(10, 5), (11, 5), (12, 3), (13, 9)] {
-            assert!(rt; stock.add(key, id));
-        }
+        add_all(&rt, &mut stock, &[(10, 5), (11, 5), (12, 3), (13, 9)]);
         assert_walks(&rt, &stock);
     }
 }
@@ -139,6 +150,14 @@ fn leave_and_return(rt: &impl Abort, stock: &mut Stock<'_>, calls: &Cell<u64>, n
     }
 }
 
+/// Adds n nodes, each key this many above the one before it, modulo 1,000.
+fn add_steps(rt: &impl Abort, stock: &mut Stock<'_>, n: u32, step: u32) {
+    for i in 0..n {
+        let key = i.wrapping_mul(step) % 1000;
+        assert!(rt; stock.add(key, key));
+    }
+}
+
 #[test]
 fn look_ups_make_few_calls(rt: HostRuntime) {
     for (n, most, less) in [(0u32, 1u64, 1u64), (1, 3, 3), (1000, 21, 19)] {
@@ -146,10 +165,7 @@ fn look_ups_make_few_calls(rt: HostRuntime) {
         for step in [1u32, 617, 999] {
             let calls = Cell::new(0);
             let mut stock = Stock::new(rt.alloc(), &calls, false);
-            for i in 0..n {
-                let key = i.wrapping_mul(step) % 1000;
-                assert!(rt; stock.add(key, key));
-            }
+            add_steps(&rt, &mut stock, n, step);
             look_up_all(&rt, &stock, &calls, most);
             leave_and_return(&rt, &mut stock, &calls, n, less);
             look_up_all(&rt, &stock, &calls, most);

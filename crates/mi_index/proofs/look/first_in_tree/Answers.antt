@@ -1,6 +1,6 @@
 -- The node of rank 0.
 use Rattle.std.proofs.Common.{sym, subst, ◌∙◌}
-use Rattle.mi_index.specs.Orders.{stored_order, stored_tag}
+use Rattle.mi_order.specs.Orders.{stored_order, stored_tag}
 use Rattle.mi_index.specs.Standing.{Stands}
 use Rattle.mi_index.specs.declared.structure.Structure.TheVariants.{Ordered}
 use Rattle.mi_tree.proofs.Shapes.{nth-first}

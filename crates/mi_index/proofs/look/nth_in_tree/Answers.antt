@@ -1,6 +1,6 @@
 -- The node of a rank.
 use Rattle.std.proofs.Common.{sym, subst}
-use Rattle.mi_index.specs.Orders.{stored_order, stored_tag}
+use Rattle.mi_order.specs.Orders.{stored_order, stored_tag}
 use Rattle.mi_index.specs.Standing.{Stands}
 use Rattle.mi_index.specs.declared.structure.Structure.TheVariants.{Ordered}
 use Rattle.mi_index.proofs.look.nth_in_tree.Goals as goal

@@ -1,6 +1,6 @@
 -- How many nodes are before one.
 use Rattle.std.proofs.Common.{sym, subst, ◌++◌, ◌∷◌}
-use Rattle.mi_index.specs.Orders.{stored_order, stored_tag}
+use Rattle.mi_order.specs.Orders.{stored_order, stored_tag}
 use Rattle.mi_index.specs.Standing.{Stands}
 use Rattle.mi_index.specs.declared.structure.Structure.TheVariants.{Ordered}
 use Rattle.mi_index.proofs.look.rank_in_tree.Goals as goal

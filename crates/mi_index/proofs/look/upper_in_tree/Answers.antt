@@ -1,6 +1,6 @@
 -- The first node past a probe.
 use Rattle.std.proofs.Common.{true, sym, subst, ap, ◌∙◌}
-use Rattle.mi_index.specs.Orders.{stored_order, stored_tag, place_in}
+use Rattle.mi_order.specs.Orders.{stored_order, stored_tag, place_in}
 use Rattle.mi_index.specs.Standing.{Stands}
 use Rattle.mi_index.specs.declared.structure.Structure.TheVariants.{Ordered}
 use Rattle.mi_tree.specs.Probed.{first_where, is_past_node}

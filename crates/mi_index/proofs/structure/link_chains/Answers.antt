@@ -5,7 +5,7 @@ use Rattle.mi_node.specs.declared.link.Tag.{Tag}
 use Rattle.mi_node.proofs.Callers.{same_refl}
 use Rattle.mi_chain.specs.Keying.{stamp_at, hash_node}
 use Rattle.mi_chain.specs.Chained.{AreChained}
-use Rattle.mi_index.specs.Orders.{keying_of}
+use Rattle.mi_order.specs.Orders.{keying_of}
 use Rattle.mi_index.proofs.Joining.{cut_at, chain_placed, chains_with}
 use Rattle.mi_index.proofs.structure.link_chains.Goals as goal
 

@@ -2,8 +2,8 @@
 use Rattle.std.proofs.Common.{sym, subst, ◌∙◌}
 use Rattle.mi_node.proofs.Callers.{flip}
 use Rattle.mi_tree.specs.Standing.{IsTree, IsNew}
-use Rattle.mi_index.specs.Orders.{stored_order, stored_tag}
-use Rattle.mi_index.specs.declared.orders.ByKey.{ByKey}
+use Rattle.mi_order.specs.Orders.{stored_order, stored_tag}
+use Rattle.mi_order.specs.declared.orders.ByKey.{ByKey}
 use Rattle.mi_index.proofs.structure.link_tree.Goals as goal
 
 pub insert-requires : goal.insert-requires

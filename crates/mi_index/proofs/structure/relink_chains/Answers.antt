@@ -5,7 +5,7 @@ use Rattle.mi_node.specs.declared.link.Link.{Link}
 use Rattle.mi_node.specs.declared.link.Tag.{Tag}
 use Rattle.mi_node.proofs.Callers.{same_refl}
 use Rattle.mi_chain.specs.Chained.{AreChained, FitsBetween}
-use Rattle.mi_index.specs.Orders.{keying_of}
+use Rattle.mi_order.specs.Orders.{keying_of}
 use Rattle.mi_index.proofs.Joining.{chain_placed, chains_with}
 use Rattle.mi_index.proofs.structure.relink_chains.Goals as goal
 

@@ -4,7 +4,7 @@ use Rattle.mi_node.specs.Pool.{Pooled, value_of, IsHeld}
 use Rattle.mi_node.specs.Refs.{first_of}
 use Rattle.mi_node.specs.Counted.{CountedPool}
 use Rattle.mi_tree.specs.Walking.{IsWalk}
-use Rattle.mi_index.specs.declared.stored.Stored.{Stored}
+use Rattle.mi_order.specs.declared.stored.Stored.{Stored}
 use Rattle.mi_index.specs.Walks.{shown_row}
 use Rattle.mi_index.proofs.Walked.{dropped, held_next, row_next, all_taken}
 use Rattle.mi_index.proofs.walk.rows_ahead.Goals as goal

@@ -4,9 +4,9 @@ use Rattle.std.proofs.lemmas.Result.{IfOk-weaker}
 use Rattle.mi_node.specs.Pool.{Pooled}
 use Rattle.mi_node.specs.Neighbours.{AreHeld}
 use Rattle.mi_tree.specs.Walking.{IsWalk, beyond}
-use Rattle.mi_index.specs.Orders.{stored_order, stored_tag}
+use Rattle.mi_order.specs.Orders.{stored_order, stored_tag}
 use Rattle.mi_index.specs.Walks.{shown_row}
-use Rattle.mi_index.specs.declared.stored.Stored.{Stored}
+use Rattle.mi_order.specs.declared.stored.Stored.{Stored}
 use Rattle.mi_index.specs.declared.structure.Structure.TheVariants.{Ordered}
 use Rattle.mi_index.proofs.Others.{nodes_held}
 use Rattle.mi_index.proofs.Walked.{held_beyond}

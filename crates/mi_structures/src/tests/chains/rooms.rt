@@ -5,6 +5,8 @@ ghost use Rattle.mi_node.specs.Refs.{Ref};
 ghost use Rattle.mi_chain.specs.Chained.{AreChained};
 ghost use Rattle.mi_structures.specs.Numbered.{number_keying, AreNumbered, IsPulled, AreSeenAlike};
 
+use super::super::nodes::take;
+use super::no_chains;
 use super::three::{ByNumber, name_of, next_if};
 use mi_chain::Chains;
 use mi_node::{Link, NodeRef, Pool};
@@ -37,9 +39,7 @@ fn add(
     ensures numbered { (rs : Seq Ref) × AreNumbered chains.new p.new rs (stamp + 1) }
     ensures slot { chains.new.slot ≡ chains.old.slot }
 {
-    let Ok(node) = p.take(number) else {
-        panic!(rt; "no memory");
-    };
+    let node = take(rt, p, number);
     chains.insert(p, node, stamp);
     node.name()
 }
@@ -170,9 +170,7 @@ fn assert_lists(rt: &impl Abort, chains: &Chains<ByNumber>, p: &Pool<i64>, names
 #[tactic(auto, using(mi_node::proofs::Callers::refs))]
 fn rooms_and_pulls_change_no_list(rt: HostRuntime) {
     let mut p: Pool<i64> = Pool::with_slots(rt.alloc(), 2);
-    let Ok(mut chains) = Chains::new(rt.alloc(), 1, ByNumber) else {
-        panic!(rt; "no memory");
-    };
+    let mut chains = no_chains(&rt, rt.alloc(), ByNumber);
     let names = add_all(&rt, rt.alloc(), &mut chains, &mut p);
     assert_eq!(rt; chains.groups(&p), 4);
     ask_rooms(&rt, rt.alloc(), &mut chains, &mut p, &names);

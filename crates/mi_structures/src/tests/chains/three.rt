@@ -6,6 +6,8 @@ ghost use Rattle.mi_node.specs.Refs.{Ref};
 ghost use Rattle.mi_chain.specs.Chained.{AreChained};
 ghost use Rattle.mi_structures.specs.Numbered.{number_keying, IsAmong};
 
+use super::super::nodes::take_three;
+use super::no_chains;
 use mi_chain::{Chains, KeyHash};
 use mi_node::{NodeRef, Pool};
 use mi_value::{Probe, Value};
@@ -155,18 +157,9 @@ fn second_leaves(
 #[tactic(auto, using(mi_node::proofs::Callers::refs))]
 fn three_of_one_key(rt: HostRuntime) {
     let mut p: Pool<i64> = Pool::with_slots(rt.alloc(), 2);
-    let Ok(one) = p.take(7) else {
-        panic!(rt; "no memory");
-    };
-    let Ok(two) = p.take(7) else {
-        panic!(rt; "no memory");
-    };
-    let Ok(three) = p.take(7) else {
-        panic!(rt; "no memory");
-    };
-    let Ok(mut chains) = Chains::new(rt.alloc(), 1, ByNumber) else {
-        panic!(rt; "no memory");
-    };
+    let nodes = take_three(&rt, &mut p, 7, 7, 7);
+    let (one, two, three) = (nodes.one, nodes.two, nodes.three);
+    let mut chains = no_chains(&rt, rt.alloc(), ByNumber);
     fill(&mut chains, &mut p, one, two, three);
     assert_list(&rt, &chains, &p, 7, [Some(one), Some(two), Some(three)]);
     first_leaves(&rt, rt.alloc(), &mut chains, &mut p, one, two, three);
@@ -200,18 +193,9 @@ fn refuse_room(
 #[tactic(auto, using(mi_node::proofs::Callers::refs))]
 fn refused_room_changes_no_list(rt: HostRuntime) {
     let mut p: Pool<i64> = Pool::with_slots(rt.alloc(), 2);
-    let Ok(one) = p.take(5) else {
-        panic!(rt; "no memory");
-    };
-    let Ok(two) = p.take(-5) else {
-        panic!(rt; "no memory");
-    };
-    let Ok(three) = p.take(5) else {
-        panic!(rt; "no memory");
-    };
-    let Ok(mut chains) = Chains::new(rt.alloc(), 1, ByNumber) else {
-        panic!(rt; "no memory");
-    };
+    let nodes = take_three(&rt, &mut p, 5, -5, 5);
+    let (one, two, three) = (nodes.one, nodes.two, nodes.three);
+    let mut chains = no_chains(&rt, rt.alloc(), ByNumber);
     fill(&mut chains, &mut p, one, two, three);
     assert_eq!(rt; chains.groups(&p), 2);
     refuse_room(

@@ -2,7 +2,7 @@ use Rattle.std.proofs.Common.{◌≡◌, ◌+◌, ◌^◌, ◌≤◌, IfSome, tr
 use Rattle.std.specs.FinMap.{insert, len}
 use Rattle.std.specs.declared.option.Option.TheVariants.{None}
 use Rattle.mi_model.specs.Verdict.{insert_refusal}
-use Rattle.mi_index.specs.declared.stored.Stored.{Stored}
+use Rattle.mi_order.specs.declared.stored.Stored.{Stored}
 use Rattle.mi_container.specs.Asked.{IsSequenced}
 use Rattle.mi_container.specs.Data.{Data, table_of}
 use Rattle.mi_container.specs.Makes.{MakesInsert}

@@ -1,5 +1,5 @@
 use Rattle.std.proofs.Common.{◌≡◌, ◌-◌, true, sym, ◌∙◌, subst}
-use Rattle.mi_index.specs.declared.stored.Stored.{Stored}
+use Rattle.mi_order.specs.declared.stored.Stored.{Stored}
 use Rattle.mi_index.specs.Pass.{AllCan}
 use Rattle.mi_index.specs.Rekeying.{returning_to, returned_to, IsRekeyed}
 use Rattle.mi_container.specs.Data.{Data, IsData}

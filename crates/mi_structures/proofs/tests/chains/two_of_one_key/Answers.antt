@@ -1,10 +1,22 @@
 use Rattle.std.proofs.Common.{◌<◌, arith}
-use Rattle.mi_node.proofs.Callers.{slot_counts}
+use Rattle.mi_node.proofs.Callers.{slot_counts, apart_of_free}
 use Rattle.mi_structures.specs.OneKey.{one_keying}
 use Rattle.mi_chain.proofs.Whole.{new_chains}
+use Rattle.mi_structures.proofs.Takes.{held_now, held_then}
 use Rattle.mi_structures.proofs.tests.chains.two_of_one_key.Goals as goal
 
 pub fill-requires-clause-chained : goal.fill-requires-clause-chained
 fill-requires-clause-chained g c =
-    let fits : 1 < c.take-2.new.self.slots = grind (arith, slot_counts) in
-    new_chains c.in-Ok-new.chains 1 _ one_keying c.take-2.new.self c.in-Ok-new.ensures fits
+    let fits : 1 < c.take-two.new.pool.slots = grind (arith, slot_counts) in
+    new_chains c.no_chains-chains.result 1 _ one_keying c.take-two.new.pool c.no_chains-chains.ensures fits
+
+pub fill-requires-clause-held : goal.fill-requires-clause-held
+fill-requires-clause-held g c =
+    let one = c.take-one.result in let two = c.take-two.result in let m = c.take-one.new.pool in let n = c.take-two.new.pool in (
+      held_then m n one two _ c.take-two.ensures.pool c.take-two.ensures.free (held_now _ m one _ c.take-one.ensures.pool),
+      held_now _ n two _ c.take-two.ensures.pool,
+    )
+
+pub fill-requires-clause-names : goal.fill-requires-clause-names
+fill-requires-clause-names g c = apart_of_free c.take-one.new.pool c.take-one.result c.take-two.result
+    (held_now _ c.take-one.new.pool c.take-one.result _ c.take-one.ensures.pool) c.take-two.ensures.free

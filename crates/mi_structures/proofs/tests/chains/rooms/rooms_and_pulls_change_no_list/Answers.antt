@@ -7,4 +7,4 @@ use Rattle.mi_structures.proofs.tests.chains.rooms.rooms_and_pulls_change_no_lis
 pub add_all-names-requires-clause-numbered : goal.add_all-names-requires-clause-numbered
 add_all-names-requires-clause-numbered g c =
     let fits : 1 < c.with_slots-p.result.slots = grind (arith, slot_counts) in
-    record { chained = new_chains c.in-Ok.chains 1 _ number_keying c.with_slots-p.result c.in-Ok.ensures fits; below = tt; count = refl }
+    record { chained = new_chains c.no_chains-chains.result 1 _ number_keying c.with_slots-p.result c.no_chains-chains.ensures fits; below = tt; count = refl }

@@ -1,5 +1,0 @@
-use Rattle.mi_index.specs.HashLaws.{keyings_are_lawful}
-use Rattle.mi_index.proofs.laws.keyings_are_lawful.Goals as goal
-
-pub returns : goal.returns
-returns c = keyings_are_lawful

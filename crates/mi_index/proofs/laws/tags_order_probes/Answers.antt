@@ -1,5 +1,0 @@
-use Rattle.mi_index.specs.TagLaws.{tags_order_probes}
-use Rattle.mi_index.proofs.laws.tags_order_probes.Goals as goal
-
-pub returns : goal.returns
-returns c = tags_order_probes

@@ -1,0 +1,5 @@
+use Rattle.mi_order.specs.TagLaws.{exact_tags_are_keys}
+use Rattle.mi_order.proofs.laws.exact_tags_are_keys.Goals as goal
+
+pub returns : goal.returns
+returns c = exact_tags_are_keys

@@ -1,0 +1,5 @@
+use Rattle.mi_order.specs.HashLaws.{keyings_are_lawful}
+use Rattle.mi_order.proofs.laws.keyings_are_lawful.Goals as goal
+
+pub returns : goal.returns
+returns c = keyings_are_lawful

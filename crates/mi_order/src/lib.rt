@@ -1,0 +1,16 @@
+//! How indexes see records: the order of an index, its tags and its hashes, each of the values of a record and its id.
+//! It reads values alone, and takes no memory. It knows no links, no pool and no structure, and never sees a stamp.
+#![tactic(auto)]
+
+mod key;
+pub mod laws;
+pub mod leads;
+mod mixing;
+mod orders;
+mod stored;
+pub mod tags;
+
+pub use leads::LeadTypes;
+pub use mixing::mixed;
+pub use orders::{ByHash, ByKey};
+pub use stored::Stored;
