@@ -8,7 +8,7 @@ use std::marker::Model;
 ///
 /// Room is what `reserve` took. It falls by one with each entry that is noted and each session that is opened. No other
 /// call takes memory.
-#[derive(Debug, Drop)]
+#[derive(Drop)]
 pub struct Journal<T> {
     entries: VecDeque<(usize, T)>,
     counts: VecDeque<usize>,

@@ -2,7 +2,7 @@
 use Rattle.std.proofs.lemmas.List.{drop_all, append-nil}
 use Rattle.std.proofs.Common.{◌≡◌, ℕ, suc, ◌+◌, ◌<◌, ◌≤◌, Bool, true, false, List, [], ◌∷◌, length, slice_set, refl, ap, sym, subst, cond, arith, ◌∙◌}
 use Rattle.std.specs.Prelude.{◌==◌, not, if◌then◌else◌, nat_lt, MatchOption, drop, ◌++◌}
-use Rattle.std.specs.List.{position_or_len, position}
+use Rattle.std.specs.List.{position_or_len, position, insert}
 use Rattle.std.specs.Option.{option_map}
 use Rattle.std.specs.declared.option.Option.{Option}
 use Rattle.std.specs.declared.option.Option.TheVariants.{None, Some}
@@ -16,7 +16,8 @@ use Rattle.mi_catalog.specs.Shape.{Shape}
 use Rattle.mi_model.specs.Key.{Row}
 use Rattle.mi_model.specs.Table.{Table, has}
 use Rattle.mi_model.specs.Conflict.{conflict}
-use Rattle.mi_model.specs.Change.{moved}
+use Rattle.mi_model.specs.Change.{moved, stand_before}
+use Rattle.mi_model.specs.Lookup.{rank_in}
 use Rattle.mi_model.specs.Verdict.{replace_refusal, is_spent, as_unique}
 
 abbrev pub named : ℕ → Row → Bool
@@ -68,6 +69,18 @@ pub set_value-missing : (e : ℕ) (r : List Value) (rows : List Row) → positio
 set_value-missing e r rows h =
     let m : ℕ = position_or_len (named e) rows in
     set_value-absent e r rows (position_cases (nat_lt m (length rows)) m (length rows) None (ltb-true m (length rows)) (ltb-false m (length rows)) h)
+
+stand_step : (here : Bool) (a e : ℕ) (ids stood : List ℕ) (p : ℕ) → stood ≡ insert ids p e
+    → cond here (e ∷ a ∷ ids) (a ∷ stood) ≡ insert (a ∷ ids) (cond (not here) (1 + p) 0) e
+stand_step true a e ids stood p later = refl
+stand_step false a e ids stood p later =
+    let one : 1 + p ≡ suc p = omega arith in
+    subst (λ n. a ∷ stood ≡ insert (a ∷ ids) n e) (sym one) (ap (λ xs. a ∷ xs) later)
+
+-- standing before b is standing at its place
+pub stand_before-is : (b e : ℕ) (ids : List ℕ) → stand_before b e ids ≡ insert ids (rank_in ids b) e
+stand_before-is b e [] = refl
+stand_before-is b e (a ∷ ids) = stand_step (a == b) a e ids (stand_before b e ids) (rank_in ids b) (stand_before-is b e ids)
 
 -- where no list is left none is moved
 moved-none : (is : List Index) (old new : List Value) (e : ℕ) → moved is old new e [] ≡ []

@@ -1,4 +1,5 @@
 //! The ids of each index. A change makes a new list beside the old one, so a refused growth changes nothing.
+use crate::pass::place_in;
 use mi_catalog::Index;
 use mi_value::{Record, same_key};
 use std::alloc::{AllocError, Global};
@@ -102,33 +103,17 @@ impl Ids {
     fn with_before(&self, alloc: Global, b: u64, e: u64) -> Result<Ids, AllocError>
         ensures { IfOk result (λ ids. ids ≡ stand_before b e self.now) }
     {
-        let ids = ids_before(alloc, self.ids.as_slice(), b, e)?;
+        let mut ids = Vec::from_slice(alloc, self.ids.as_slice())?;
+        let place = place_in(ids.as_slice(), b);
+        ids.insert(place, e)?;
         Ok(Ids { ids })
     }
 }
 
 ghost use Rattle.std.specs.Prelude.{◌≡◌, ◌<◌, [], IfOk, map, length, slice_index_or};
 ghost use Rattle.std.specs.declared.option.Option.TheVariants.{None};
-ghost use Rattle.mi_model.specs.Change.{stand_before, added, stand, without, moved, relocated};
+ghost use Rattle.mi_model.specs.Change.{added, stand, without, moved, relocated};
 ghost use Rattle.mi_catalog.specs.declared.index.Index.{Index as IndexSpec};
-
-fn ids_before(alloc: Global, all: &[u64], b: u64, e: u64) -> Result<Vec<u64>, AllocError>
-    ensures { IfOk result (λ ids. ids.items ≡ stand_before b e all.now) }
-{
-    let mut ids = Vec::new(alloc);
-    let mut placed = false;
-    for a in all {
-        if !placed && *a == b {
-            ids.push(e)?;
-            placed = true;
-        }
-        ids.push(*a)?;
-    }
-    if !placed {
-        ids.push(e)?;
-    }
-    Ok(ids)
-}
 
 /// Each list with e at the end.
 fn all_with_last(alloc: Global, lists: &[Ids], e: u64) -> Result<Vec<Ids>, AllocError>

@@ -25,12 +25,23 @@ pub(crate) enum Cut {
 
 ghost use Rattle.std.specs.Prelude.{◌≡◌, ◌==◌};
 ghost use Rattle.std.specs.List.{position};
+ghost use Rattle.mi_model.specs.Lookup.{rank_in};
 
 /// The place of an id in a list.
 fn find_in(ids: &[u64], id: u64) -> Option<usize>
     ensures { result ≡ position (λ a. a == id) ids.now }
 {
     ids.iter().position(|a| *a == id)
+}
+
+/// The place of an id in a list, or where it isn't there the list's length.
+pub(crate) fn place_in(ids: &[u64], id: u64) -> usize
+    ensures { result ≡ rank_in ids.now id }
+{
+    match find_in(ids, id) {
+        Some(i) => i,
+        None => ids.len(),
+    }
 }
 
 impl PlainTable {
@@ -193,10 +204,6 @@ impl PlainTable {
     pub(crate) fn place_of(&self, x: usize, id: u64) -> usize
         ensures { result ≡ rank_in (list_of self.now x) id }
     {
-        let ids = self.ids(x);
-        match find_in(ids, id) {
-            Some(i) => i,
-            None => ids.len(),
-        }
+        place_in(self.ids(x), id)
     }
 }

@@ -196,6 +196,32 @@ serves_after (unread conn) row out old new p made = serves_gone conn row old.att
 serves_after (unanswered conn bytes) row out old new p made = serves_gone conn row old.attached new.attached p (unsent_piece_gone conn bytes out old new made.0)
 serves_after (unended conn) row out old new p made = serves_gone conn row old.attached new.attached p (unsent_close_gone conn out old new made)
 
+-- a connection that stays open goes behind the others
+pub stays_open : (turn : Turn) (others : List ℕ) → ◌≡◌ {A = Result Bool ServeFault} (Ok true) (outcome turn)
+    → row_after turn others ≡ others ++ conn_of turn ∷ []
+stays_open (fed conn bytes) others is = refl
+stays_open (ended conn) others is = absurd (cc)
+stays_open (unread conn) others is = absurd (cc)
+stays_open (unanswered conn bytes) others is = absurd (cc)
+stays_open (unended conn) others is = absurd (cc)
+
+-- one that has ended is let go
+pub has_ended : (turn : Turn) (others : List ℕ) → ◌≡◌ {A = Result Bool ServeFault} (Ok false) (outcome turn) → row_after turn others ≡ others
+has_ended (fed conn bytes) others is = absurd (cc)
+has_ended (ended conn) others is = refl
+has_ended (unread conn) others is = refl
+has_ended (unanswered conn bytes) others is = refl
+has_ended (unended conn) others is = refl
+
+-- and one whose stream has failed
+pub has_broken : (turn : Turn) (others : List ℕ) (fault : ServeFault) → ◌≡◌ {A = Result Bool ServeFault} (Err fault) (outcome turn)
+    → row_after turn others ≡ others
+has_broken (fed conn bytes) others fault is = absurd (cc)
+has_broken (ended conn) others fault is = refl
+has_broken (unread conn) others fault is = refl
+has_broken (unanswered conn bytes) others fault is = refl
+has_broken (unended conn) others fault is = refl
+
 -- no row, no connections
 pub none_left : (row : List ℕ) (cs : List Connection) → Serves row cs → length row ≡ 0 → cs ≡ []
 none_left row [] p h = refl
@@ -277,6 +303,10 @@ module _ {S : Type 0} where
   pub ids_one : (clients : List (Client S)) (n : ℕ) (x : Client S) → client_ids clients ≡ range_with_len 1 n
       → x.conn ≡ n + 1 → client_ids (clients ++ x ∷ []) ≡ range_with_len 1 (n + 1)
   ids_one clients n x h is = map-append (λ c. c.conn) clients (x ∷ []) ∙ ap (λ ns. ns ++ x.conn ∷ []) h ∙ sym (one_longer n x.conn is)
+
+  -- a client comes behind the others
+  pub ids_last : (clients : List (Client S)) (x : Client S) → client_ids (clients ++ x ∷ []) ≡ client_ids clients ++ x.conn ∷ []
+  ids_last clients x = map-append (λ c. c.conn) clients (x ∷ [])
 
   -- the first client is gone
   pub client_gone : (clients later : List (Client S)) (x : Client S) (cs ds : List Connection) → Serves (client_ids clients) cs → clients ≡ x ∷ later

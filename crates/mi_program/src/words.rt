@@ -104,31 +104,31 @@ fn flag<'a>(alloc: Global, name: &'a str, help: &'a str) -> Arg<'a>
 fn command<'a>(alloc: Global) -> Result<Command<'a>, AllocError>
     ensures { IfOk result (λ c. Stands c command_line) }
 {
-    let schema = option(
+    let with_schema = Command::new(alloc, "mi_server").arg(option(
         alloc,
         "schema",
         "FILE",
         "Reads the schema from this TOML file; without it the table `accounts` is served",
-    );
-    let check = flag(alloc, "check", "Reads the schema alone and prints `ok`");
-    let listen = number(
+    ))?;
+    let with_check = with_schema.arg(flag(
+        alloc,
+        "check",
+        "Reads the schema alone and prints `ok`",
+    ))?;
+    let with_listen = with_check.arg(number(
         alloc,
         "listen",
         "PORT",
         port_parser(),
         "Serves connections on this port of 127.0.0.1 in place of standard input",
-    );
-    let clients = number(
+    ))?;
+    let with_clients = with_listen.arg(number(
         alloc,
         "clients",
         "K",
         clients_parser(),
         "Serves this many connections, all of which come first",
-    );
-    let with_schema = Command::new(alloc, "mi_server").arg(schema)?;
-    let with_check = with_schema.arg(check)?;
-    let with_listen = with_check.arg(listen)?;
-    let with_clients = with_listen.arg(clients)?;
+    ))?;
     Ok(with_clients)
 }
 

@@ -1,6 +1,7 @@
 -- A command that is bound fits the catalog.
 use Rattle.std.proofs.Common.{◌≡◌, ℕ, ◌<◌, zero, suc, List, [], ◌∷◌, length, map, drop, slice_get, nat_le, nat_lt, Bool, true, false, cond, Option}
-use Rattle.std.proofs.Common.{Some, None, option_map, option_and_then, IfSome, Result, Ok, Err, IfOk, ℤ, refl, sym, ap, subst, ◌∙◌, ◌&&◌, rules}
+use Rattle.std.proofs.Common.{Some, None, option_map, option_and_then, IfSome, Result, Ok, Err, ℤ, refl, sym, ap, subst, ◌∙◌, ◌&&◌, rules}
+use Rattle.std.specs.Prelude.{IfOk, IfErr}
 use Rattle.std.specs.List.{list_all, position, position_or_len}
 use Rattle.std.specs.Str.{bytes_eq}
 use Rattle.std.proofs.lemmas.Bool.{ltb-true}
@@ -13,7 +14,7 @@ use Rattle.mi_value.specs.declared.edit.Edit.{Edit}
 use Rattle.mi_value.specs.declared.edit.Edit.TheVariants as edit
 use Rattle.mi_value.specs.declared.limits.TheConstants.{MAX_TEXT}
 use Rattle.mi_value.specs.declared.refusal.Refusal.{Refusal}
-use Rattle.mi_value.specs.declared.refusal.Refusal.TheVariants.{NoTable, Index, Kind, Row, Key}
+use Rattle.mi_value.specs.declared.refusal.Refusal.TheVariants.{NoTable, Index, Kind, Row, Key, Memory}
 use Rattle.mi_value.specs.declared.value.ColumnType.{ColumnType}
 use Rattle.mi_value.specs.declared.value.ColumnType.TheVariants as column
 use Rattle.mi_value.specs.declared.bound.Lower.{Lower}
@@ -29,7 +30,7 @@ use Rattle.mi_catalog.specs.Shape.{Shape, CatalogShape, schema_at, index_at, fin
 use Rattle.mi_catalog.specs.Fits.{fits_type, fits_record, is_int, fits_edit, fits_key, fits_lower, fits_upper}
 use Rattle.mi_catalog.specs.Rules.{is_catalog}
 use Rattle.mi_catalog.proofs.KindLaws.{sequenced, ranked}
-use Rattle.mi_request.specs.Answers.{IsAnswer}
+use Rattle.mi_request.specs.Answers.{IsAnswer, NamesNoIndex}
 use Rattle.mi_protocol.specs.Edits.{addition, edit_of, with_edit, edits_from, bound_edits}
 use Rattle.mi_request.specs.Json.{has_only, option_map₂}
 use Rattle.mi_protocol.specs.Keys.{plain_values, if_key, bound_key, bound_lower, bound_upper}
@@ -168,15 +169,20 @@ edits-fit cs set add = both-fit cs (bound_edits cs set add) (each-fits cs set ad
 
 -- ---- one after another
 
+-- this holds of a value, and a refusal names no index
+abbrev Holds : {A : Type 0} → Result A Refusal → (A → Type 0) → Type 0
+Holds (Ok a) P = P a
+Holds (Err e) P = NamesNoIndex e
+
 -- what holds of a value, and then of what follows
 then : {A B : Type 0} (P : A → Type 0) (Q : B → Type 0) (f : A → Result B Refusal) (r : Result A Refusal)
-    → IfOk r P → ((a : A) → P a → IfOk (f a) Q) → IfOk (and_then f r) Q
+    → Holds r P → ((a : A) → P a → Holds (f a) Q) → Holds (and_then f r) Q
 then P Q f (Ok a) h more = more a h
-then P Q f (Err e) h more = tt
+then P Q f (Err e) h more = h
 
-some : {A : Type 0} (P : A → Type 0) (e : Refusal) (o : Option A) → IfSome o P → IfOk (ok_or o e) P
-some P e None h = tt
-some P e (Some a) h = h
+some : {A : Type 0} (P : A → Type 0) (e : Refusal) → NamesNoIndex e → (o : Option A) → IfSome o P → Holds (ok_or o e) P
+some P e plain None h = plain
+some P e plain (Some a) h = h
 
 -- ---- tables and indexes
 
@@ -190,31 +196,31 @@ found p xs = by_test _ refl
 abbrev IsTableOf : CatalogShape → ℕ → Type 0
 IsTableOf c n = n < length c.tables
 
-table-there : (c : CatalogShape) (name : Option (List ℕ)) → is_catalog c ≡ true → IfOk (table_number c name) (IsTableOf c)
+table-there : (c : CatalogShape) (name : Option (List ℕ)) → is_catalog c ≡ true → Holds (table_number c name) (IsTableOf c)
 table-there c None h = search rules
-table-there c (Some name) h = some (IsTableOf c) NoTable (find_table c name) (found (λ s. bytes_eq s.table_name name) c.tables)
+table-there c (Some name) h = some (IsTableOf c) NoTable tt (find_table c name) (found (λ s. bytes_eq s.table_name name) c.tables)
 
 abbrev IsIndexOf : (IndexKind → Bool) → Shape → ℕ → Type 0
 IsIndexOf kinds s x = (x < length s.indexes) × (kinds (index_at s x).kind ≡ true)
 
-kind-fits : (kinds : IndexKind → Bool) (s : Shape) (x : ℕ) → x < length s.indexes → IfOk (of_kind kinds s x) (IsIndexOf kinds s)
+kind-fits : (kinds : IndexKind → Bool) (s : Shape) (x : ℕ) → x < length s.indexes → Holds (of_kind kinds s x) (IsIndexOf kinds s)
 kind-fits kinds s x there = by_test _ refl
   where
-    by_test : (b : Bool) → kinds (index_at s x).kind ≡ b → IfOk (cond b (Ok x) (Err Kind)) (IsIndexOf kinds s)
+    by_test : (b : Bool) → kinds (index_at s x).kind ≡ b → Holds (cond b (Ok x) (Err Kind)) (IsIndexOf kinds s)
     by_test true e = (there, e)
     by_test false e = tt
 
-index-fits : (kinds : IndexKind → Bool) (s : Shape) (name : List ℕ) → IfOk (index_number kinds s name) (IsIndexOf kinds s)
+index-fits : (kinds : IndexKind → Bool) (s : Shape) (name : List ℕ) → Holds (index_number kinds s name) (IsIndexOf kinds s)
 index-fits kinds s name =
     then (λ x. x < length s.indexes) (IsIndexOf kinds s) (of_kind kinds s) (ok_or (find_index s name) Index)
-    (some (λ x. x < length s.indexes) Index (find_index s name) (found (λ i. bytes_eq i.name name) s.indexes)) (kind-fits kinds s)
+    (some (λ x. x < length s.indexes) Index tt (find_index s name) (found (λ i. bytes_eq i.name name) s.indexes)) (kind-fits kinds s)
 
 -- ---- a place
 
 abbrev IsPlaceOf : Shape → Option (ℕ × ℕ) → Type 0
 IsPlaceOf s at = IfSome at (λ p. (index_at s p.0).kind ≡ Sequenced)
 
-place-fits : (s : Shape) (p : Option Place) → IfOk (bound_place s p) (IsPlaceOf s)
+place-fits : (s : Shape) (p : Option Place) → Holds (bound_place s p) (IsPlaceOf s)
 place-fits s None = tt
 place-fits s (Some p) = then (IsIndexOf is_sequenced s) (IsPlaceOf s) _ (index_number is_sequenced s p.index)
     (index-fits is_sequenced s p.index) (λ x h. sequenced (index_at s x).kind h.1)
@@ -246,22 +252,23 @@ abbrev IsKeyOf : Shape → ℕ → Bool → List Value → Type 0
 IsKeyOf s x whole key = fits_key s.columns (index_at s x).parts whole key ≡ true
 
 insert-fits : (c : CatalogShape) (n : ℕ) (row : Members) (before : Option Place)
-    → n < length c.tables → IfOk (bound_insert (schema_at c n) n row before) (FitsCatalog c)
+    → n < length c.tables → Holds (bound_insert (schema_at c n) n row before) (FitsCatalog c)
 insert-fits c n row before there =
     then (IsPlaceOf (schema_at c n)) (FitsCatalog c) _ (bound_place (schema_at c n) before) (place-fits (schema_at c n) before)
     (λ at place. then (IsRowOf (schema_at c n)) (FitsCatalog c) _ (ok_or (bound_row (schema_at c n).columns row) Row)
-    (some (IsRowOf (schema_at c n)) Row (bound_row (schema_at c n).columns row) (row-fits (schema_at c n).columns row)) (λ values fits. (there, fits, place)))
+    (some (IsRowOf (schema_at c n)) Row tt (bound_row (schema_at c n).columns row) (row-fits (schema_at c n).columns row))
+    (λ values fits. (there, fits, place)))
 
-replace-fits : (c : CatalogShape) (n id : ℕ) (row : Members) → n < length c.tables → IfOk (bound_replace (schema_at c n) n id row) (FitsCatalog c)
+replace-fits : (c : CatalogShape) (n id : ℕ) (row : Members) → n < length c.tables → Holds (bound_replace (schema_at c n) n id row) (FitsCatalog c)
 replace-fits c n id row there =
     then (IsRowOf (schema_at c n)) (FitsCatalog c) _ (ok_or (bound_row (schema_at c n).columns row) Row)
-    (some (IsRowOf (schema_at c n)) Row (bound_row (schema_at c n).columns row) (row-fits (schema_at c n).columns row)) (λ values fits. (there, fits))
+    (some (IsRowOf (schema_at c n)) Row tt (bound_row (schema_at c n).columns row) (row-fits (schema_at c n).columns row)) (λ values fits. (there, fits))
 
 modify-fits : (c : CatalogShape) (n id : ℕ) (set add : Members) (rollback : Bool)
-    → n < length c.tables → IfOk (bound_modify (schema_at c n) n id set add rollback) (FitsCatalog c)
+    → n < length c.tables → Holds (bound_modify (schema_at c n) n id set add rollback) (FitsCatalog c)
 modify-fits c n id set add rollback there =
     then (AreEditsOf (schema_at c n)) (FitsCatalog c) _ (ok_or (bound_edits (schema_at c n).columns set add) Row)
-    (some (AreEditsOf (schema_at c n)) Row (bound_edits (schema_at c n).columns set add) (edits-fit (schema_at c n).columns set add))
+    (some (AreEditsOf (schema_at c n)) Row tt (bound_edits (schema_at c n).columns set add) (edits-fit (schema_at c n).columns set add))
     (λ edits fits. (there, fits))
 
 -- an index of one of these kinds, and a key of it
@@ -269,25 +276,25 @@ abbrev IsNamedKeyOf : (IndexKind → Bool) → (IndexKind → Bool) → Shape �
 IsNamedKeyOf kinds whole s k = IsIndexOf kinds s k.0 × IsKeyOf s k.0 (whole (index_at s k.0).kind) k.1
 
 named_key-fits : (kinds whole : IndexKind → Bool) (s : Shape) (index : List ℕ) (key : Items)
-    → IfOk (named_key kinds whole s index key) (IsNamedKeyOf kinds whole s)
+    → Holds (named_key kinds whole s index key) (IsNamedKeyOf kinds whole s)
 named_key-fits kinds whole s index key =
     then (IsIndexOf kinds s) (IsNamedKeyOf kinds whole s) _ (index_number kinds s index) (index-fits kinds s index)
     (λ x at. then (IsKeyOf s x (whole (index_at s x).kind)) (IsNamedKeyOf kinds whole s) _ (ok_or (bound_key s x (whole (index_at s x).kind) key) Key)
-    (some (IsKeyOf s x (whole (index_at s x).kind)) Key (bound_key s x (whole (index_at s x).kind) key) (key-fits s x (whole (index_at s x).kind) key))
+    (some (IsKeyOf s x (whole (index_at s x).kind)) Key tt (bound_key s x (whole (index_at s x).kind) key) (key-fits s x (whole (index_at s x).kind) key))
     (λ values fits. (at, fits)))
 
 -- what is made of a named key
 by_key : (c : CatalogShape) (n : ℕ) (kinds whole : IndexKind → Bool) (index : List ℕ) (key : Items) (f : ℕ × List Value → Result Command Refusal)
-    → ((k : ℕ × List Value) → IsNamedKeyOf kinds whole (schema_at c n) k → IfOk (f k) (FitsCatalog c))
-    → IfOk (and_then f (named_key kinds whole (schema_at c n) index key)) (FitsCatalog c)
+    → ((k : ℕ × List Value) → IsNamedKeyOf kinds whole (schema_at c n) k → Holds (f k) (FitsCatalog c))
+    → Holds (and_then f (named_key kinds whole (schema_at c n) index key)) (FitsCatalog c)
 by_key c n kinds whole index key f more =
     then (IsNamedKeyOf kinds whole (schema_at c n)) (FitsCatalog c) f
     (named_key kinds whole (schema_at c n) index key) (named_key-fits kinds whole (schema_at c n) index key) more
 
 -- what is made of a named index
 by_index : (c : CatalogShape) (n : ℕ) (kinds : IndexKind → Bool) (index : List ℕ) (f : ℕ → Result Command Refusal)
-    → ((x : ℕ) → IsIndexOf kinds (schema_at c n) x → IfOk (f x) (FitsCatalog c))
-    → IfOk (and_then f (index_number kinds (schema_at c n) index)) (FitsCatalog c)
+    → ((x : ℕ) → IsIndexOf kinds (schema_at c n) x → Holds (f x) (FitsCatalog c))
+    → Holds (and_then f (index_number kinds (schema_at c n) index)) (FitsCatalog c)
 by_index c n kinds index f more = then (IsIndexOf kinds (schema_at c n)) (FitsCatalog c) f
     (index_number kinds (schema_at c n) index) (index-fits kinds (schema_at c n) index) more
 
@@ -327,28 +334,28 @@ upper-fits s x (Without ds) = below-fits s x (bound_key s x false ds) (key-fits 
 abbrev AreBoundsOf : Shape → ℕ → Lower × Upper → Type 0
 AreBoundsOf s x e = IsLowerOf s x e.0 × IsUpperOf s x e.1
 
-ends-fit : (s : Shape) (x : ℕ) (lower upper : End) → IfOk (bound_ends s x lower upper) (AreBoundsOf s x)
+ends-fit : (s : Shape) (x : ℕ) (lower upper : End) → Holds (bound_ends s x lower upper) (AreBoundsOf s x)
 ends-fit s x lower upper =
-    then (IsLowerOf s x) (AreBoundsOf s x) _ (ok_or (bound_lower s x lower) Key) (some (IsLowerOf s x) Key (bound_lower s x lower) (lower-fits s x lower))
+    then (IsLowerOf s x) (AreBoundsOf s x) _ (ok_or (bound_lower s x lower) Key) (some (IsLowerOf s x) Key tt (bound_lower s x lower) (lower-fits s x lower))
     (λ l below. then (IsUpperOf s x) (AreBoundsOf s x) _ (ok_or (bound_upper s x upper) Key)
-    (some (IsUpperOf s x) Key (bound_upper s x upper) (upper-fits s x upper)) (λ u above. (below, above)))
+    (some (IsUpperOf s x) Key tt (bound_upper s x upper) (upper-fits s x upper)) (λ u above. (below, above)))
 
 range-fits : (c : CatalogShape) (n : ℕ) (index : List ℕ) (lower upper : End) (reverse : Bool) (limit : ℕ)
-    → n < length c.tables → IfOk (bound_range (schema_at c n) n index lower upper reverse limit) (FitsCatalog c)
+    → n < length c.tables → Holds (bound_range (schema_at c n) n index lower upper reverse limit) (FitsCatalog c)
 range-fits c n index lower upper reverse limit there =
     by_index c n is_sorted index _
     (λ x at. then (AreBoundsOf (schema_at c n) x) (FitsCatalog c) _ (bound_ends (schema_at c n) x lower upper)
     (ends-fit (schema_at c n) x lower upper) (λ e fit. (there, at.1, fit.0, fit.1)))
 
 relocate-fits : (c : CatalogShape) (n : ℕ) (index : List ℕ) (id : ℕ) (before : Option ℕ)
-    → n < length c.tables → IfOk (bound_relocate (schema_at c n) n index id before) (FitsCatalog c)
+    → n < length c.tables → Holds (bound_relocate (schema_at c n) n index id before) (FitsCatalog c)
 relocate-fits c n index id before there = by_index c n is_sequenced index _ (λ x at. (there, sequenced (index_at (schema_at c n) x).kind at.1))
 
 over-table : (c : CatalogShape) (name : Option (List ℕ)) (f : ℕ → Result Command Refusal) → is_catalog c ≡ true
-    → ((n : ℕ) → n < length c.tables → IfOk (f n) (FitsCatalog c)) → IfOk (and_then f (table_number c name)) (FitsCatalog c)
+    → ((n : ℕ) → n < length c.tables → Holds (f n) (FitsCatalog c)) → Holds (and_then f (table_number c name)) (FitsCatalog c)
 over-table c name f h more = then (IsTableOf c) (FitsCatalog c) f (table_number c name) (table-there c name h) more
 
-bound-fits : (c : CatalogShape) (r : Request) → is_catalog c ≡ true → IfOk (bound_command c r) (FitsCatalog c)
+bound-fits : (c : CatalogShape) (r : Request) → is_catalog c ≡ true → Holds (bound_command c r) (FitsCatalog c)
 bound-fits c (request.Insert table row before) h = over-table c table _ h (λ n there. insert-fits c n row before there)
 bound-fits c (request.Replace table id row) h = over-table c table _ h (λ n there. replace-fits c n id row there)
 bound-fits c (request.Modify table id set add rollback) h = over-table c table _ h (λ n there. modify-fits c n id set add rollback there)
@@ -387,5 +394,12 @@ bound-fits c (request.Size table) h = over-table c table _ h (λ n there. there)
 -- the answer of the code
 pub answer-fits : (c : CatalogShape) (request : Request) (r : Result Command Refusal)
     → is_catalog c ≡ true → IsAnswer r (bound_command c request) → IfOk r (FitsCatalog c)
-answer-fits c request (Ok command) h is = subst (λ d. IfOk d (FitsCatalog c)) is (bound-fits c request h)
+answer-fits c request (Ok command) h is = subst (λ d. Holds d (FitsCatalog c)) is (bound-fits c request h)
 answer-fits c request (Err e) h is = tt
+
+-- its refusal
+pub refusal-plain : (c : CatalogShape) (request : Request) (r : Result Command Refusal)
+    → is_catalog c ≡ true → IsAnswer r (bound_command c request) → IfErr r NamesNoIndex
+refusal-plain c request (Ok command) h is = tt
+refusal-plain c request (Err Memory) h is = tt
+refusal-plain c request (Err e) h is = subst (λ d. Holds d (FitsCatalog c)) is (bound-fits c request h)

@@ -4,7 +4,7 @@ use Rattle.std.proofs.lemmas.List.{drop_more}
 use Rattle.std.specs.Option.{ok_or}
 use Rattle.std.specs.List.{list_any}
 use Rattle.std.specs.Str.{bytes_eq}
-use Rattle.serde_json.specs.Data.{Data, Members}
+use Rattle.serde_json.specs.Data.{Members}
 use Rattle.serde_json.specs.Find.{get_member}
 use Rattle.mi_value.specs.declared.edit.Edit.{Edit}
 use Rattle.mi_value.specs.declared.refusal.Refusal.TheVariants.{Row}
@@ -54,21 +54,29 @@ moved_front front (Some e) (Some es) = ap Some (append_assoc front (e ∷ []) es
 next_place : (i : ℕ) → i + 1 ≡ suc i
 next_place i = omega arith
 
-pub moved_step : {key : Option (List Edit)} (front edits : List Edit) (i : ℕ) (cs : List Column) (c : Column) (name : List ℕ) (set add sets adds : Members)
-    (put more : Option Data) (found : Option Edit) → c ≡ get_or cs i c → i < length cs → name ≡ c.name
-    → put ≡ get_member name set → sets ≡ emptied name set → more ≡ get_member name add → adds ≡ emptied name add
-    → ok_or (edit_of i c.kind put more) Row ≡ Ok found → edits ≡ front ++ with_edit found []
+pub moved_step : {key : Option (List Edit)} (front edits : List Edit) (i : ℕ) (cs : List Column) (c : Column) (set add sets adds : Members)
+    (found : Option Edit) → c ≡ get_or cs i c → i < length cs → sets ≡ emptied c.name set → adds ≡ emptied c.name add
+    → ok_or (edit_of i c.kind (get_member c.name set) (get_member c.name add)) Row ≡ Ok found → edits ≡ front ++ with_edit found []
     → option_map (λ es. front ++ es) (moved i (drop i cs) set add) ≡ key
     → option_map (λ es. edits ++ es) (moved (i + 1) (drop (i + 1) cs) sets adds) ≡ key
-moved_step {key} front edits i cs c name set add sets adds put more found here within named put_is sets_are more_is adds_are good pushed before =
+moved_step {key} front edits i cs c set add sets adds found here within sets_are adds_are good pushed before =
     let rest = moved (suc i) (drop (i + 1) cs) (emptied c.name set) (emptied c.name add) in
     let next : drop i cs ≡ c ∷ drop (i + 1) cs = drop_more cs i c within ∙ ap (λ d. d ∷ drop (i + 1) cs) (sym here) in
     let one : edit_of i c.kind (get_member c.name set) (get_member c.name add) ≡ Some found =
-    (λ j. edit_of i c.kind ((ap (λ n. get_member n set) (sym named) ∙ sym put_is) j) ((ap (λ n. get_member n add) (sym named) ∙ sym more_is) j))
-    ∙ is_edit (edit_of i c.kind put more) good in
+    is_edit (edit_of i c.kind (get_member c.name set) (get_member c.name add)) good in
     let left : moved (i + 1) (drop (i + 1) cs) sets adds ≡ rest =
     ap (λ n. moved n (drop (i + 1) cs) sets adds) (next_place i)
-    ∙ λ j. moved (suc i) (drop (i + 1) cs) ((sets_are ∙ ap (λ n. emptied n set) named) j) ((adds_are ∙ ap (λ n. emptied n add) named) j) in
+    ∙ λ j. moved (suc i) (drop (i + 1) cs) (sets_are j) (adds_are j) in
     ap (λ o. option_map (λ es. edits ++ es) o) left ∙ ap (λ (ds : List Edit). option_map (λ es. ds ++ es) rest) pushed ∙ moved_front front found rest
     ∙ ap (λ o. option_map (λ es. front ++ es) (option_map₂ with_edit o rest)) (sym one)
     ∙ ap (λ (ds : List Column). option_map (λ es. front ++ es) (moved i ds set add)) (sym next) ∙ before
+
+-- a column whose edit is refused
+pub no_step : {key : Option (List Edit)} (front : List Edit) (i : ℕ) (cs : List Column) (c : Column) (set add : Members)
+    → c ≡ get_or cs i c → i < length cs → option_map (λ es. front ++ es) (moved i (drop i cs) set add) ≡ key
+    → edit_of i c.kind (get_member c.name set) (get_member c.name add) ≡ None → key ≡ None
+no_step front i cs c set add here within before none =
+    let rest = moved (suc i) (drop (i + 1) cs) (emptied c.name set) (emptied c.name add) in
+    let next : drop i cs ≡ c ∷ drop (i + 1) cs = drop_more cs i c within ∙ ap (λ d. d ∷ drop (i + 1) cs) (sym here) in
+    sym before ∙ ap (λ (ds : List Column). option_map (λ es. front ++ es) (moved i ds set add)) next
+    ∙ ap (λ o. option_map (λ es. front ++ es) (option_map₂ with_edit o rest)) none

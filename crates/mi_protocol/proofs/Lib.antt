@@ -1,3 +1,4 @@
+pub mod AnswerLemmas
 pub mod BindingLemmas
 pub mod EditLemmas
 pub mod KeyLemmas

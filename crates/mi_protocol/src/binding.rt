@@ -1,5 +1,6 @@
 //! From a request to a command over a catalog: names of tables and indexes become numbers, a row becomes a record.
-ghost use Rattle.std.specs.Prelude.{◌≡◌, ◌<◌, length, Ok, IfOk, IfErr};
+ghost use Rattle.std.specs.Prelude.{◌≡◌, Ok, Err, IfOk, IfErr};
+ghost use Rattle.mi_catalog.specs.Shape.{schema_at};
 ghost use Rattle.mi_request.specs.Answers.{IsAnswer, NamesNoIndex};
 ghost use Rattle.mi_protocol.specs.Binding as binding;
 ghost use Rattle.mi_protocol.specs.Binding.{bound_command, FitsCatalog};
@@ -13,7 +14,7 @@ use crate::look_ups::{
     bind_count, bind_find, bind_get, bind_list, bind_lower_rank, bind_nth, bind_range, bind_rank,
     bind_size, bind_upper_rank,
 };
-use mi_catalog::Catalog;
+use mi_catalog::{Catalog, Schema};
 use mi_request::{Name, Request};
 use mi_value::{Key, Lower, Record, Refusal, Upper};
 use std::alloc::Global;
@@ -136,10 +137,23 @@ pub(crate) fn table_number(table: Option<Name>, catalog: &Catalog) -> Result<usi
     }
 }
 
+/// The table that is named, and its number; without a name it is the first. Refusal: `NoTable`.
+pub(crate) fn named_table<'a>(
+    table: Option<Name>,
+    catalog: &'a Catalog,
+) -> Result<(usize, &'a Schema), Refusal>
+    ensures number { IfOk result (λ t. binding.table_number catalog.now table.entry ≡ Ok t.0) }
+    ensures schema { IfOk result (λ t. t.1.now ≡ schema_at catalog.now t.0) }
+    ensures refusal { IfErr result (λ e. (e ≡ Refusal.NoTable) × (binding.table_number catalog.now table.entry ≡ Err Refusal.NoTable)) }
+{
+    catalog.keeps_rules();
+    let number = table_number(table, catalog)?;
+    Ok((number, catalog.table(number)))
+}
+
 /// The command that a request is.
 fn command_of(alloc: Global, request: Request, catalog: &Catalog) -> Result<Command, Refusal>
     ensures answer { IsAnswer result (bound_command catalog.now request.entry) }
-    ensures refusal { IfErr result NamesNoIndex }
     ensures undo { request.entry ≡ Request.Undo → result ≡ Ok Command.Undo }
 {
     match request {

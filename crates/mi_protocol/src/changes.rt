@@ -1,10 +1,9 @@
 //! The changes of a table: from the members of a request to a command over a catalog.
-ghost use Rattle.std.specs.Prelude.{◌≡◌, IfErr};
-ghost use Rattle.mi_request.specs.Answers.{IsAnswer, NamesNoIndex};
+ghost use Rattle.mi_request.specs.Answers.{IsAnswer};
 ghost use Rattle.mi_request.specs.declared.request.Request.TheVariants as request;
 ghost use Rattle.mi_protocol.specs.Binding.{bound_command};
 
-use crate::binding::{Command, table_number};
+use crate::binding::{Command, named_table, table_number};
 use crate::edits::bind_edits;
 use crate::indexes::{bind_place, sequenced_index, whole_key};
 use crate::row::bind_row;
@@ -21,12 +20,9 @@ pub(crate) fn bind_insert(
     before: Option<Place>,
     catalog: &Catalog,
 ) -> Result<Command, Refusal>
-    ensures answer { IsAnswer result (bound_command catalog.now (request.Insert table.entry row.entry before.entry)) }
-    ensures refusal { IfErr result NamesNoIndex }
+    ensures { IsAnswer result (bound_command catalog.now (request.Insert table.entry row.entry before.entry)) }
 {
-    catalog.keeps_rules();
-    let table = table_number(table, catalog)?;
-    let schema = catalog.table(table);
+    let (table, schema) = named_table(table, catalog)?;
     let before = bind_place(before, schema)?;
     let row = bind_row(alloc, row, schema)?;
     Ok(Command::Insert { table, row, before })
@@ -40,13 +36,14 @@ pub(crate) fn bind_replace(
     row: Object,
     catalog: &Catalog,
 ) -> Result<Command, Refusal>
-    ensures answer { IsAnswer result (bound_command catalog.now (request.Replace table.entry id row.entry)) }
-    ensures refusal { IfErr result NamesNoIndex }
+    ensures { IsAnswer result (bound_command catalog.now (request.Replace table.entry id row.entry)) }
 {
-    catalog.keeps_rules();
-    let table = table_number(table, catalog)?;
-    let row = bind_row(alloc, row, catalog.table(table))?;
-    Ok(Command::Replace { table, id, row })
+    let (table, schema) = named_table(table, catalog)?;
+    Ok(Command::Replace {
+        table,
+        id,
+        row: bind_row(alloc, row, schema)?,
+    })
 }
 
 /// Edits of columns. Refusals, in this order: `NoTable`, `Row`, and `Memory`.
@@ -59,12 +56,10 @@ pub(crate) fn bind_modify(
     rollback: bool,
     catalog: &Catalog,
 ) -> Result<Command, Refusal>
-    ensures answer { IsAnswer result (bound_command catalog.now (request.Modify table.entry id set.entry add.entry rollback)) }
-    ensures refusal { IfErr result NamesNoIndex }
+    ensures { IsAnswer result (bound_command catalog.now (request.Modify table.entry id set.entry add.entry rollback)) }
 {
-    catalog.keeps_rules();
-    let table = table_number(table, catalog)?;
-    let edits = bind_edits(alloc, set, add, catalog.table(table))?;
+    let (table, schema) = named_table(table, catalog)?;
+    let edits = bind_edits(alloc, set, add, schema)?;
     Ok(Command::Modify {
         table,
         id,
@@ -79,10 +74,8 @@ pub(crate) fn bind_erase(
     id: u64,
     catalog: &Catalog,
 ) -> Result<Command, Refusal>
-    ensures answer { IsAnswer result (bound_command catalog.now (request.Erase table.entry id)) }
-    ensures refusal { IfErr result NamesNoIndex }
+    ensures { IsAnswer result (bound_command catalog.now (request.Erase table.entry id)) }
 {
-    catalog.keeps_rules();
     let table = table_number(table, catalog)?;
     Ok(Command::Erase { table, id })
 }
@@ -95,12 +88,10 @@ pub(crate) fn bind_erase_key(
     key: Array,
     catalog: &Catalog,
 ) -> Result<Command, Refusal>
-    ensures answer { IsAnswer result (bound_command catalog.now (request.EraseKey table.entry index.entry key.entry)) }
-    ensures refusal { IfErr result NamesNoIndex }
+    ensures { IsAnswer result (bound_command catalog.now (request.EraseKey table.entry index.entry key.entry)) }
 {
-    catalog.keeps_rules();
-    let table = table_number(table, catalog)?;
-    let (index, key) = whole_key(alloc, &index, key, catalog.table(table))?;
+    let (table, schema) = named_table(table, catalog)?;
+    let (index, key) = whole_key(alloc, &index, key, schema)?;
     Ok(Command::EraseKey { table, index, key })
 }
 
@@ -112,12 +103,10 @@ pub(crate) fn bind_relocate(
     before: Option<u64>,
     catalog: &Catalog,
 ) -> Result<Command, Refusal>
-    ensures answer { IsAnswer result (bound_command catalog.now (request.Relocate table.entry index.entry id before)) }
-    ensures refusal { IfErr result NamesNoIndex }
+    ensures { IsAnswer result (bound_command catalog.now (request.Relocate table.entry index.entry id before)) }
 {
-    catalog.keeps_rules();
-    let table = table_number(table, catalog)?;
-    let index = sequenced_index(&index, catalog.table(table))?;
+    let (table, schema) = named_table(table, catalog)?;
+    let index = sequenced_index(&index, schema)?;
     Ok(Command::Relocate {
         table,
         index,

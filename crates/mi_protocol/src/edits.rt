@@ -2,7 +2,9 @@
 ghost use Rattle.std.specs.Prelude.{◌≡◌, map, IsTrue};
 ghost use Rattle.std.specs.Option.{ok_or};
 ghost use Rattle.mi_catalog.specs.Rules.{are_distinct};
+ghost use Rattle.serde_json.specs.Find.{get_member};
 ghost use Rattle.mi_request.specs.Answers.{IsAnswer};
+ghost use Rattle.mi_request.specs.Json.{emptied};
 ghost use Rattle.mi_protocol.specs.Edits as edits;
 ghost use Rattle.mi_protocol.specs.Edits.{edits_from, bound_edits};
 
@@ -15,7 +17,7 @@ use std::alloc::Global;
 use std::marker::Model;
 
 /// The edits of one modify, each of a column of its own, in the order of the columns; seen as their list.
-#[derive(Debug, Drop)]
+#[derive(Drop)]
 pub struct Edits {
     edits: Vec<Edit>,
 }
@@ -63,17 +65,36 @@ fn edit_of(
     alloc: Global,
     i: usize,
     kind: ColumnType,
-    set: Option<Json>,
-    add: Option<Json>,
+    set: &Option<Json>,
+    add: &Option<Json>,
 ) -> Result<Option<Edit>, Refusal>
-    ensures { IsAnswer result (ok_or (edits.edit_of i kind set.entry add.entry) Refusal.Row) }
+    ensures { IsAnswer result (ok_or (edits.edit_of i kind set.now add.now) Refusal.Row) }
 {
     match (set, add) {
         (None, None) => Ok(None),
-        (Some(value), None) => Ok(Some(Edit::Put(i, fit(alloc, kind, &value)?))),
-        (None, Some(value)) => Ok(Some(addition(i, kind, &value).ok_or(Refusal::Row)?)),
+        (Some(value), None) => Ok(Some(Edit::Put(i, fit(alloc, kind, value)?))),
+        (None, Some(value)) => Ok(Some(addition(i, kind, value).ok_or(Refusal::Row)?)),
         (Some(_), Some(_)) => Err(Refusal::Row),
     }
+}
+
+/// The edit of column i, if there is one, from its members of `set` and `add`, which are moved out.
+fn take_edit(
+    alloc: Global,
+    i: usize,
+    column: &Column,
+    set: &mut Object,
+    add: &mut Object,
+) -> Result<Option<Edit>, Refusal>
+    ensures edit { IsAnswer result (ok_or (edits.edit_of i column.now.kind
+        (get_member column.now.name set.old) (get_member column.now.name add.old)) Refusal.Row) }
+    ensures set { set.new ≡ emptied column.now.name set.old }
+    ensures add { add.new ≡ emptied column.now.name add.old }
+{
+    let name = column.name.as_str();
+    let put = set.move_out(name);
+    let added = add.move_out(name);
+    edit_of(alloc, i, column.kind, &put, &added)
 }
 
 /// The edits of the columns' members, whose values are moved out one by one.
@@ -85,10 +106,7 @@ fn take_edits(alloc: Global, set: Object, add: Object, columns: &[Column]) -> Re
     let mut add_left = add;
     let mut edits = Vec::new(alloc);
     'columns: for (i, column) in columns.iter().enumerate() {
-        let name = column.name.as_str();
-        let set = set_left.move_out(name);
-        let add = add_left.move_out(name);
-        if let Some(edit) = edit_of(alloc, i, column.kind, set, add)? {
+        if let Some(edit) = take_edit(alloc, i, column, &mut set_left, &mut add_left)? {
             edits.push(edit)?;
         }
     }

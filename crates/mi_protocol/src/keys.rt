@@ -1,30 +1,36 @@
 //! Keys: from a JSON array to the values of a key of an index, and from the ends of a range to its bounds.
-ghost use Rattle.std.specs.Prelude.{◌≡◌, ◌<◌, length};
+ghost use Rattle.std.specs.Prelude.{◌≡◌, ◌<◌, length, option_map};
 ghost use Rattle.std.specs.Option.{ok_or};
 ghost use Rattle.mi_request.specs.Answers.{IsAnswer};
+ghost use Rattle.mi_value.specs.Lent.{lent};
 ghost use Rattle.mi_protocol.specs.Binding.{bound_ends};
 ghost use Rattle.mi_protocol.specs.Keys as keys;
 ghost use Rattle.mi_protocol.specs.Keys.{plain_values, bound_key, bound_lower, bound_upper};
 
 use mi_catalog::Schema;
 use mi_request::{Array, End, Json};
-use mi_value::{Key, Lower, Refusal, Text, Upper, Value};
+use mi_value::{Key, Lower, Refusal, Upper, Value, ValueRef};
 use std::alloc::Global;
 
-/// The value that a JSON value is: a whole number, a text, which is copied, or true or false. Refusals: `Key` and `Memory`.
-fn plain_value(alloc: Global, value: Json) -> Result<Value, Refusal>
-    ensures { IsAnswer result (ok_or (keys.plain_value value.entry) Refusal.Key) }
+/// The value that a JSON value is, lent by the line: a whole number, a text, or true or false.
+fn plain<'a>(value: &Json<'a>) -> Option<ValueRef<'a>>
+    ensures { option_map lent result ≡ keys.plain_value value.now }
 {
     if let Some(text) = value.as_str() {
-        return Ok(Value::Text(Text::of(alloc, text)?));
+        return Some(ValueRef::Text(text));
     }
     if let Some(n) = value.as_i64() {
-        return Ok(Value::Int(n));
+        return Some(ValueRef::Int(n));
     }
-    match value.as_bool() {
-        Some(b) => Ok(Value::Flag(b)),
-        None => Err(Refusal::Key),
-    }
+    Some(ValueRef::Flag(value.as_bool()?))
+}
+
+/// The value that a JSON value is. A text is copied. Refusals: `Key` and `Memory`.
+fn plain_value(alloc: Global, value: &Json) -> Result<Value, Refusal>
+    ensures { IsAnswer result (ok_or (keys.plain_value value.now) Refusal.Key) }
+{
+    let value = plain(value).ok_or(Refusal::Key)?;
+    Ok(value.to_value(alloc)?)
 }
 
 /// The key of the values that the items of an array are; that of a single one takes no vector. Refusals: `Key` and `Memory`.
@@ -36,11 +42,11 @@ fn key_of(alloc: Global, key: Array) -> Result<Key, Refusal>
         let Some(item) = items.pop() else {
             unreachable!()
         };
-        return Ok(Key::one(plain_value(alloc, Json::new(item))?));
+        return Ok(Key::one(plain_value(alloc, &Json::new(item))?));
     }
     let mut values = Vec::with_capacity(alloc, items.len())?;
     'items: for item in items {
-        values.push(plain_value(alloc, Json::new(item))?)?;
+        values.push(plain_value(alloc, &Json::new(item))?)?;
     }
     Ok(Key::new(values))
 }

@@ -1,10 +1,9 @@
 //! The look-ups: from the members of a request to a command over a catalog.
-ghost use Rattle.std.specs.Prelude.{◌≡◌, IfErr};
-ghost use Rattle.mi_request.specs.Answers.{IsAnswer, NamesNoIndex};
+ghost use Rattle.mi_request.specs.Answers.{IsAnswer};
 ghost use Rattle.mi_request.specs.declared.request.Request.TheVariants as request;
 ghost use Rattle.mi_protocol.specs.Binding.{bound_command};
 
-use crate::binding::{Command, table_number};
+use crate::binding::{Command, named_table, table_number};
 use crate::indexes::{key_or_prefix, ranked_index, ranked_key, sequenced_index, sorted_index};
 use crate::keys::bind_bounds;
 use mi_catalog::Catalog;
@@ -14,10 +13,8 @@ use std::alloc::Global;
 
 /// Refusal: `NoTable`.
 pub(crate) fn bind_get(table: Option<Name>, id: u64, catalog: &Catalog) -> Result<Command, Refusal>
-    ensures answer { IsAnswer result (bound_command catalog.now (request.Get table.entry id)) }
-    ensures refusal { IfErr result NamesNoIndex }
+    ensures { IsAnswer result (bound_command catalog.now (request.Get table.entry id)) }
 {
-    catalog.keeps_rules();
     let table = table_number(table, catalog)?;
     Ok(Command::Get { table, id })
 }
@@ -30,12 +27,10 @@ pub(crate) fn bind_find(
     key: Array,
     catalog: &Catalog,
 ) -> Result<Command, Refusal>
-    ensures answer { IsAnswer result (bound_command catalog.now (request.Find table.entry index.entry key.entry)) }
-    ensures refusal { IfErr result NamesNoIndex }
+    ensures { IsAnswer result (bound_command catalog.now (request.Find table.entry index.entry key.entry)) }
 {
-    catalog.keeps_rules();
-    let table = table_number(table, catalog)?;
-    let (index, key) = key_or_prefix(alloc, &index, key, catalog.table(table))?;
+    let (table, schema) = named_table(table, catalog)?;
+    let (index, key) = key_or_prefix(alloc, &index, key, schema)?;
     Ok(Command::Find { table, index, key })
 }
 
@@ -47,12 +42,10 @@ pub(crate) fn bind_count(
     key: Array,
     catalog: &Catalog,
 ) -> Result<Command, Refusal>
-    ensures answer { IsAnswer result (bound_command catalog.now (request.Count table.entry index.entry key.entry)) }
-    ensures refusal { IfErr result NamesNoIndex }
+    ensures { IsAnswer result (bound_command catalog.now (request.Count table.entry index.entry key.entry)) }
 {
-    catalog.keeps_rules();
-    let table = table_number(table, catalog)?;
-    let (index, key) = key_or_prefix(alloc, &index, key, catalog.table(table))?;
+    let (table, schema) = named_table(table, catalog)?;
+    let (index, key) = key_or_prefix(alloc, &index, key, schema)?;
     Ok(Command::Count { table, index, key })
 }
 
@@ -63,12 +56,10 @@ pub(crate) fn bind_nth(
     n: u64,
     catalog: &Catalog,
 ) -> Result<Command, Refusal>
-    ensures answer { IsAnswer result (bound_command catalog.now (request.Nth table.entry index.entry n)) }
-    ensures refusal { IfErr result NamesNoIndex }
+    ensures { IsAnswer result (bound_command catalog.now (request.Nth table.entry index.entry n)) }
 {
-    catalog.keeps_rules();
-    let table = table_number(table, catalog)?;
-    let index = ranked_index(&index, catalog.table(table))?;
+    let (table, schema) = named_table(table, catalog)?;
+    let index = ranked_index(&index, schema)?;
     Ok(Command::Nth { table, index, n })
 }
 
@@ -83,12 +74,9 @@ pub(crate) fn bind_range(
     limit: usize,
     catalog: &Catalog,
 ) -> Result<Command, Refusal>
-    ensures answer { IsAnswer result (bound_command catalog.now (request.Range table.entry index.entry lower.entry upper.entry reverse limit)) }
-    ensures refusal { IfErr result NamesNoIndex }
+    ensures { IsAnswer result (bound_command catalog.now (request.Range table.entry index.entry lower.entry upper.entry reverse limit)) }
 {
-    catalog.keeps_rules();
-    let table = table_number(table, catalog)?;
-    let schema = catalog.table(table);
+    let (table, schema) = named_table(table, catalog)?;
     let index = sorted_index(&index, schema)?;
     let (lower, upper) = bind_bounds(alloc, index, lower, upper, schema)?;
     Ok(Command::Range {
@@ -109,12 +97,10 @@ pub(crate) fn bind_list(
     limit: usize,
     catalog: &Catalog,
 ) -> Result<Command, Refusal>
-    ensures answer { IsAnswer result (bound_command catalog.now (request.List table.entry index.entry after limit)) }
-    ensures refusal { IfErr result NamesNoIndex }
+    ensures { IsAnswer result (bound_command catalog.now (request.List table.entry index.entry after limit)) }
 {
-    catalog.keeps_rules();
-    let table = table_number(table, catalog)?;
-    let index = sequenced_index(&index, catalog.table(table))?;
+    let (table, schema) = named_table(table, catalog)?;
+    let index = sequenced_index(&index, schema)?;
     Ok(Command::List {
         table,
         index,
@@ -130,12 +116,10 @@ pub(crate) fn bind_rank(
     id: u64,
     catalog: &Catalog,
 ) -> Result<Command, Refusal>
-    ensures answer { IsAnswer result (bound_command catalog.now (request.Rank table.entry index.entry id)) }
-    ensures refusal { IfErr result NamesNoIndex }
+    ensures { IsAnswer result (bound_command catalog.now (request.Rank table.entry index.entry id)) }
 {
-    catalog.keeps_rules();
-    let table = table_number(table, catalog)?;
-    let index = ranked_index(&index, catalog.table(table))?;
+    let (table, schema) = named_table(table, catalog)?;
+    let index = ranked_index(&index, schema)?;
     Ok(Command::Rank { table, index, id })
 }
 
@@ -147,12 +131,10 @@ pub(crate) fn bind_lower_rank(
     key: Array,
     catalog: &Catalog,
 ) -> Result<Command, Refusal>
-    ensures answer { IsAnswer result (bound_command catalog.now (request.LowerRank table.entry index.entry key.entry)) }
-    ensures refusal { IfErr result NamesNoIndex }
+    ensures { IsAnswer result (bound_command catalog.now (request.LowerRank table.entry index.entry key.entry)) }
 {
-    catalog.keeps_rules();
-    let table = table_number(table, catalog)?;
-    let (index, key) = ranked_key(alloc, &index, key, catalog.table(table))?;
+    let (table, schema) = named_table(table, catalog)?;
+    let (index, key) = ranked_key(alloc, &index, key, schema)?;
     Ok(Command::LowerRank { table, index, key })
 }
 
@@ -164,21 +146,17 @@ pub(crate) fn bind_upper_rank(
     key: Array,
     catalog: &Catalog,
 ) -> Result<Command, Refusal>
-    ensures answer { IsAnswer result (bound_command catalog.now (request.UpperRank table.entry index.entry key.entry)) }
-    ensures refusal { IfErr result NamesNoIndex }
+    ensures { IsAnswer result (bound_command catalog.now (request.UpperRank table.entry index.entry key.entry)) }
 {
-    catalog.keeps_rules();
-    let table = table_number(table, catalog)?;
-    let (index, key) = ranked_key(alloc, &index, key, catalog.table(table))?;
+    let (table, schema) = named_table(table, catalog)?;
+    let (index, key) = ranked_key(alloc, &index, key, schema)?;
     Ok(Command::UpperRank { table, index, key })
 }
 
 /// Refusal: `NoTable`.
 pub(crate) fn bind_size(table: Option<Name>, catalog: &Catalog) -> Result<Command, Refusal>
-    ensures answer { IsAnswer result (bound_command catalog.now (request.Size table.entry)) }
-    ensures refusal { IfErr result NamesNoIndex }
+    ensures { IsAnswer result (bound_command catalog.now (request.Size table.entry)) }
 {
-    catalog.keeps_rules();
     let table = table_number(table, catalog)?;
     Ok(Command::Size { table })
 }

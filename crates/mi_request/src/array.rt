@@ -4,7 +4,7 @@ use bumpalo::Bump;
 use std::marker::Model;
 
 /// A JSON array, seen as what its items mean.
-#[derive(Debug, Drop)]
+#[derive(Drop)]
 pub struct Array<'a> {
     items: Vec<Tree<'a>, &'a Bump>,
 }

@@ -2,7 +2,7 @@
 use std::marker::Model;
 
 /// A name, seen as its bytes.
-#[derive(Debug, Drop)]
+#[derive(Drop)]
 pub struct Name<'a> {
     text: &'a str,
 }

@@ -12,7 +12,7 @@ use std::marker::Model;
 use std::mem;
 
 /// A JSON object, seen as what its members mean: the last of a name is its value.
-#[derive(Debug, Drop)]
+#[derive(Drop)]
 pub struct Object<'a> {
     members: Vec<(&'a str, Tree<'a>), &'a Bump>,
 }

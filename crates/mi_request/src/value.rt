@@ -8,7 +8,7 @@ use json::Value;
 use std::marker::Model;
 
 /// A JSON value, seen as what it means.
-#[derive(Debug, Drop)]
+#[derive(Drop)]
 pub struct Json<'a> {
     value: Tree<'a>,
 }

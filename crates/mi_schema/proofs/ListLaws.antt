@@ -16,7 +16,7 @@ map_map g f [] = refl
 map_map g f (x ∷ xs) = ap (λ ys. g (f x) ∷ ys) (map_map g f xs)
 
 -- a test that holds of each element holds at a place
-all_at : {A : Type 0} (p : A → Bool) (xs : List A) (i : ℕ) (x : A) → list_all p xs ≡ true → i < length xs → x ≡ get_or xs i x → p x ≡ true
+pub all_at : {A : Type 0} (p : A → Bool) (xs : List A) (i : ℕ) (x : A) → list_all p xs ≡ true → i < length xs → x ≡ get_or xs i x → p x ≡ true
 all_at p [] i x h within is = absurd (omega arith)
 all_at p (y ∷ ys) zero x h within is = ap p is ∙ (and_parts _ _ h).0
 all_at p (y ∷ ys) (suc i) x h within is = all_at p ys i x (and_parts _ _ h).1 (omega arith) is

@@ -111,14 +111,11 @@ fn have_free_names<T: Named>(items: &[T]) -> bool
 pub(crate) fn type_of(word: &str) -> Option<ColumnType>
     ensures { result ≡ checks.type_of word.now }
 {
-    if word == "int" {
-        Some(ColumnType::Int)
-    } else if word == "text" {
-        Some(ColumnType::Text)
-    } else if word == "flag" {
-        Some(ColumnType::Flag)
-    } else {
-        None
+    match word {
+        "int" => Some(ColumnType::Int),
+        "text" => Some(ColumnType::Text),
+        "flag" => Some(ColumnType::Flag),
+        _ => None,
     }
 }
 
@@ -126,16 +123,12 @@ pub(crate) fn type_of(word: &str) -> Option<ColumnType>
 pub(crate) fn kind_of(word: &str) -> Option<IndexKind>
     ensures { result ≡ checks.kind_of word.now }
 {
-    if word == "ordered" {
-        Some(IndexKind::Ordered)
-    } else if word == "ranked" {
-        Some(IndexKind::Ranked)
-    } else if word == "hashed" {
-        Some(IndexKind::Hashed)
-    } else if word == "sequenced" {
-        Some(IndexKind::Sequenced)
-    } else {
-        None
+    match word {
+        "ordered" => Some(IndexKind::Ordered),
+        "ranked" => Some(IndexKind::Ranked),
+        "hashed" => Some(IndexKind::Hashed),
+        "sequenced" => Some(IndexKind::Sequenced),
+        _ => None,
     }
 }
 
@@ -176,9 +169,12 @@ pub(crate) fn entry_column(columns: &[DraftColumn], entry: &str) -> usize
 fn names_column(columns: &[DraftColumn], entries: &[Text], column: usize) -> bool
     ensures { result ≡ list_any (λ other. column == checks.entry_column columns.now other) entries.now }
 {
-    entries
-        .iter()
-        .any(|other| column == entry_column(columns, other.as_str()))
+    for other in entries {
+        if column == entry_column(columns, other.as_str()) {
+            return true;
+        }
+    }
+    false
 }
 
 /// Whether no column is named twice.
@@ -198,7 +194,12 @@ fn names_each_once(columns: &[DraftColumn], entries: &[Text]) -> bool
 fn names_known(columns: &[DraftColumn], entries: &[Text]) -> bool
     ensures { result ≡ list_all (λ e. nat_lt (checks.entry_column columns.now e) (length columns.now)) entries.now }
 {
-    entries.iter().all(|entry| entry_column(columns, entry.as_str()) < columns.len())
+    for entry in entries {
+        if entry_column(columns, entry.as_str()) >= columns.len() {
+            return false;
+        }
+    }
+    true
 }
 
 /// Whether there are entries, of columns that are there, none of them named twice.
@@ -329,43 +330,43 @@ impl DraftTable {
 fn have_names(tables: &[DraftTable]) -> bool
     ensures { result ≡ list_all checks.has_names tables.now }
 {
-    tables.iter().all(|t| t.has_names())
+    tables.iter().all(DraftTable::has_names)
 }
 
 fn have_no_twins(tables: &[DraftTable]) -> bool
     ensures { result ≡ list_all checks.has_no_twins tables.now }
 {
-    tables.iter().all(|t| t.has_no_twins())
+    tables.iter().all(DraftTable::has_no_twins)
 }
 
 fn have_types(tables: &[DraftTable]) -> bool
     ensures { result ≡ list_all checks.has_types tables.now }
 {
-    tables.iter().all(|t| t.has_types())
+    tables.iter().all(DraftTable::has_types)
 }
 
 fn have_kinds(tables: &[DraftTable]) -> bool
     ensures { result ≡ list_all checks.has_kinds tables.now }
 {
-    tables.iter().all(|t| t.has_kinds())
+    tables.iter().all(DraftTable::has_kinds)
 }
 
 fn have_keys(tables: &[DraftTable]) -> bool
     ensures { result ≡ list_all checks.has_index_keys tables.now }
 {
-    tables.iter().all(|t| t.has_keys())
+    tables.iter().all(DraftTable::has_keys)
 }
 
 fn have_limits(tables: &[DraftTable]) -> bool
     ensures { result ≡ list_all checks.has_limits tables.now }
 {
-    tables.iter().all(|t| t.has_limits())
+    tables.iter().all(DraftTable::has_limits)
 }
 
 fn have_numbers(tables: &[DraftTable]) -> bool
     ensures { result ≡ list_all checks.has_numbers tables.now }
 {
-    tables.iter().all(|t| t.has_numbers())
+    tables.iter().all(DraftTable::has_numbers)
 }
 
 impl Draft {

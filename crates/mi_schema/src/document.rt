@@ -15,7 +15,7 @@ use std::alloc::{AllocError, AllocFailed, Global};
 use toml::{Table, Value};
 
 /// Why a value isn't read: its shape is another, or a growth was refused.
-#[derive(Clone, Copy, Debug, PartialEq, Eq)]
+#[derive(Clone, Copy)]
 pub(crate) enum Misread {
     Shape,
     Memory,
@@ -41,7 +41,12 @@ impl<T: Drop> From<AllocFailed<T>> for Misread {
 fn is_named(names: &[&str], name: &str) -> bool
     ensures { result ≡ list_any (λ n. bytes_eq name.now n.now) names.now }
 {
-    names.iter().any(|n| name == *n)
+    for n in names {
+        if name == *n {
+            return true;
+        }
+    }
+    false
 }
 
 /// Whether each key is one of these names.
@@ -237,8 +242,10 @@ fn one_table(alloc: Global, members: &Table) -> Result<Draft, Misread>
     let name = needed_text(alloc, members, "table")?;
     let table = table_named(alloc, name, members)?;
     let first_revision = optional_number(members, "first_revision", 0)?;
+    let mut tables = Vec::new(alloc);
+    tables.push(table)?;
     Ok(Draft {
-        tables: vec![in alloc; table]?,
+        tables,
         first_revision,
     })
 }

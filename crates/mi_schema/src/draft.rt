@@ -3,7 +3,7 @@ use mi_value::Text;
 use std::marker::Model;
 
 /// Texts, seen as a list.
-#[derive(Debug, Drop)]
+#[derive(Drop)]
 pub(crate) struct Texts {
     texts: Vec<Text>,
 }
@@ -33,14 +33,14 @@ impl Texts {
 }
 
 /// A column: its name and the word of its type.
-#[derive(Debug, Drop)]
+#[derive(Drop)]
 pub(crate) struct DraftColumn {
     pub(crate) name: Text,
     pub(crate) kind: Text,
 }
 
 /// An index: its name, the word of its kind, whether it is unique, and its key, if it has one.
-#[derive(Debug, Drop)]
+#[derive(Drop)]
 pub(crate) struct DraftIndex {
     pub(crate) name: Text,
     pub(crate) kind: Text,
@@ -49,7 +49,7 @@ pub(crate) struct DraftIndex {
 }
 
 /// A table, with the defaults of what is absent.
-#[derive(Debug, Drop)]
+#[derive(Drop)]
 pub(crate) struct DraftTable {
     pub(crate) name: Text,
     pub(crate) columns: Vec<DraftColumn>,
@@ -75,7 +75,7 @@ impl Model for DraftTable {
 }
 
 /// The tables in order, and the revision that the database opens with.
-#[derive(Debug, Drop)]
+#[derive(Drop)]
 pub(crate) struct Draft {
     pub(crate) tables: Vec<DraftTable>,
     pub(crate) first_revision: i64,

@@ -1,4 +1,6 @@
 //! Connections over the loopback interface, and over streams that fail in the middle.
+ghost use Rattle.std.specs.Prelude.{◌≡◌, []};
+
 use super::serving::{opened, serve_all};
 use mi_hub::{Hub, ServeFault};
 use mi_plain::Plain;
@@ -9,6 +11,7 @@ use std::cell::Cell;
 use std::io;
 use std::io::{Error, ErrorKind, Read, Write};
 use std::net::{Ipv4Addr, Net, OpenListener, Shutdown, SocketAddr, TcpListener, TcpStream};
+use std::process::Abort;
 use std::test::Fail;
 
 const START_AND_INSERT: &[u8] =
@@ -81,6 +84,18 @@ struct Row {
     owner: Option<&'static str>,
 }
 
+fn assert_answers(rt: &impl Abort, first: &[u8], second: &[u8], want: [&[u8]; 2]) {
+    assert_eq!(rt; first, want[0]);
+    assert_eq!(rt; second, want[1]);
+}
+
+/// Asserts the owner of id 0, and that no session is open.
+fn assert_ended(rt: &impl Abort, database: &Plain, owner: Option<&str>) {
+    assert_eq!(rt; first_owner(database), owner);
+    assert_eq!(rt; database.revision(), 0);
+    assert_eq!(rt; database.depth(), 0);
+}
+
 #[test]
 fn two_clients_are_answered(rt: HostRuntime) -> Result<(), Fail> {
     let rows = [
@@ -103,11 +118,8 @@ fn two_clients_are_answered(rt: HostRuntime) -> Result<(), Fail> {
     ];
     for row in &rows {
         let (hub, first, second) = answered(&rt, rt.alloc(), row.sent)?;
-        assert_eq!(rt; first.as_slice(), row.want[0]);
-        assert_eq!(rt; second.as_slice(), row.want[1]);
-        assert_eq!(rt; first_owner(hub.database()), row.owner);
-        assert_eq!(rt; hub.database().revision(), 0);
-        assert_eq!(rt; hub.database().depth(), 0);
+        assert_answers(&rt, first.as_slice(), second.as_slice(), row.want);
+        assert_ended(&rt, hub.database(), row.owner);
     }
     Ok(())
 }
@@ -197,22 +209,31 @@ impl OpenListener for Breaking {
     }
 }
 
+/// Serves two connections of which the first breaks off, and answers what that answered, and whether a read and whether a write
+/// has failed.
+fn serve_breaking(
+    alloc: Global,
+    hub: &mut Hub<Plain>,
+    sound: bool,
+) -> (Result<(), ServeFault>, bool, bool)
+    requires { hub.old.attached ≡ [] }
+{
+    let listener = Breaking {
+        pieces: &[START_AND_INSERT],
+        sound,
+        accepted: Cell::new(false),
+    };
+    serve_all(alloc, hub, &listener, 2)
+}
+
 /// A connection whose read or write fails is cut: what it holds is undone, the other goes on, and the fault is answered at the end.
 #[test]
 fn others_go_on(rt: HostRuntime) -> Result<(), Fail> {
     for (sound, fault) in [(false, ServeFault::Read), (true, ServeFault::Write)] {
         let mut hub = opened(rt.alloc())?;
-        let listener = Breaking {
-            pieces: &[START_AND_INSERT],
-            sound,
-            accepted: Cell::new(false),
-        };
-        let (served, read, write) = serve_all(rt.alloc(), &mut hub, &listener, 2);
-        assert_eq!(rt; served, Err(fault));
-        assert_eq!(rt; (read, write), (!sound, sound));
-        assert_eq!(rt; first_owner(hub.database()), Some("b"));
-        assert_eq!(rt; hub.database().depth(), 0);
-        assert_eq!(rt; hub.database().revision(), 0);
+        let answer = serve_breaking(rt.alloc(), &mut hub, sound);
+        assert_eq!(rt; answer, (Err(fault), !sound, sound));
+        assert_ended(&rt, hub.database(), Some("b"));
     }
     Ok(())
 }

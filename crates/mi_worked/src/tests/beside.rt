@@ -2,6 +2,7 @@
 use super::databases::{Opens, Served, opened};
 use super::forms::filled;
 use super::random::{CHANGES, READS, Random, TABLES, number_behind};
+use mi_catalog::Catalog;
 use mi_hub::{Hub, Watched};
 use mi_plain::Plain;
 use mi_schema::read_catalog;
@@ -25,17 +26,22 @@ fn reply<D: Opens>(alloc: Global, hub: &mut Hub<D>, line: &[u8]) -> Result<Strin
     Ok(String::from_utf8(writer.inner().to_vec(alloc)?)?)
 }
 
+/// A hub with connection 1 over the tables of a catalog.
+fn attached<D: Opens>(alloc: Global, catalog: &Catalog) -> Result<Hub<D>, Fail> {
+    let mut hub = opened(alloc, catalog)?;
+    if hub.attach(1).is_err() {
+        return Err(Fail::from("a connection isn't attached"));
+    }
+    Ok(hub)
+}
+
 impl Both {
     pub(super) fn open(alloc: Global) -> Result<Both, Fail> {
         let catalog = read_catalog(alloc, TABLES.as_bytes())?;
-        let mut both = Both {
-            one: opened(alloc, &catalog)?,
-            other: opened(alloc, &catalog)?,
-        };
-        if both.one.attach(1).is_err() || both.other.attach(1).is_err() {
-            return Err(Fail::from("a connection isn't attached"));
-        }
-        Ok(both)
+        Ok(Both {
+            one: attached(alloc, &catalog)?,
+            other: attached(alloc, &catalog)?,
+        })
     }
 
     /// What both are answered to a line.
@@ -100,6 +106,19 @@ impl Both {
             self.ask_forms(rt, alloc, &LISTS, table, "")?;
             self.view_ranks(rt, alloc, table)?;
             self.view_keys(rt, alloc, table)?;
+        }
+        Ok(())
+    }
+
+    /// Both answer random lines alike, and show the same at the end, with sessions open and after undo_all; then the next ids
+    /// are the same too.
+    fn compare(&mut self, rt: &impl Abort, alloc: Global, seed: u64) -> Result<(), Fail> {
+        self.run(rt, alloc, seed, STEPS)?;
+        self.view(rt, alloc)?;
+        let _ = self.ask(rt, alloc, "{\"cmd\":\"undo_all\"}\n")?;
+        self.view(rt, alloc)?;
+        for table in ["a", "b"] {
+            self.ask_forms(rt, alloc, &INSERT, table, "99")?;
         }
         Ok(())
     }
@@ -230,18 +249,8 @@ const KEYS: [&str; 16] = [
     r#"true,"\ud83d\ude00""#,
 ];
 
-/// Both answer random lines alike, and show the same at the end, with sessions open and after undo_all; then the next ids are the
-/// same too.
 fn check_beside(rt: &impl Abort, alloc: Global, seed: u64) -> Result<(), Fail> {
-    let mut both = Both::open(alloc)?;
-    both.run(rt, alloc, seed, STEPS)?;
-    both.view(rt, alloc)?;
-    let _ = both.ask(rt, alloc, "{\"cmd\":\"undo_all\"}\n")?;
-    both.view(rt, alloc)?;
-    for table in ["a", "b"] {
-        both.ask_forms(rt, alloc, &INSERT, table, "99")?;
-    }
-    Ok(())
+    Both::open(alloc)?.compare(rt, alloc, seed)
 }
 
 /// A record of keys that no other has.

@@ -42,3 +42,15 @@ returns-in-Err-clause-served g c = λ not_accepted no_memory _. elim c.in-Err.en
   | inl is ↦ absurd (not_accepted (ap Err (same_err is)))
   | inr is ↦ absurd (no_memory (ap Err (same_err is)))
 ]
+
+pub returns-in-Err-clause-turns : goal.returns-in-Err-clause-turns
+returns-in-Err-clause-turns g c = λ is. elim c.in-Err.ensures.no_other [
+  | inl early ↦ absurd (accept_turns (sym (ap Err (same_err early)) ∙ is))
+  | inr early ↦ absurd (memory_turns (sym (ap Err (same_err early)) ∙ is))
+]
+
+pub returns-in-Err-clause-none : goal.returns-in-Err-clause-none
+returns-in-Err-clause-none g c = c.in-Err.ensures.none
+
+pub returns-in-Ok-clause-none : goal.returns-in-Ok-clause-none
+returns-in-Ok-clause-none g c = c.serve_all.ensures.none

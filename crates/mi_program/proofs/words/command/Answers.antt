@@ -9,10 +9,10 @@ use Rattle.mi_program.proofs.words.command.Goals as goal
 
 pub returns : goal.returns
 returns c =
-    let schema_is : rule_of c.option-schema.result ≡ option_rule (codes "schema") = search rules in
-    let check_is : rule_of c.flag-check.result ≡ flag_rule (codes "check") = search rules in
-    let listen_is : rule_of c.number-listen.result ≡ number_rule (codes "listen") port_parser = search rules in
-    let clients_is : rule_of c.number-clients.result ≡ number_rule (codes "clients") clients_parser = search rules in
+    let schema_is : rule_of c.option.result ≡ option_rule (codes "schema") = search rules in
+    let check_is : rule_of c.flag.result ≡ flag_rule (codes "check") = search rules in
+    let listen_is : rule_of c.number.result ≡ number_rule (codes "listen") port_parser = search rules in
+    let clients_is : rule_of c.number-2.result ≡ number_rule (codes "clients") clients_parser = search rules in
     let start : Stands c.new.result (new_app (codes "mi_server")) = record {
       is = c.new.ensures.app;
       plain = (subst (All IsPlainArg) (sym c.new.ensures.empty.0) (All-nil IsPlainArg), c.new.ensures.empty.1);
@@ -21,7 +21,7 @@ returns c =
     stands_more _ _ _ _ _ c.in_ok-with_clients.ensures
     (stands_more _ _ _ _ _ c.in_ok-with_listen.ensures
     (stands_more _ _ _ _ _ c.in_ok-with_check.ensures
-    (stands_more _ _ _ _ _ c.in_ok-with_schema.ensures start schema_is c.option-schema.ensures.plain c.option-schema.ensures.local)
-    check_is c.flag-check.ensures.plain c.flag-check.ensures.local)
-    listen_is c.number-listen.ensures.plain c.number-listen.ensures.local)
-    clients_is c.number-clients.ensures.plain c.number-clients.ensures.local
+    (stands_more _ _ _ _ _ c.in_ok-with_schema.ensures start schema_is c.option.ensures.plain c.option.ensures.local)
+    check_is c.flag.ensures.plain c.flag.ensures.local)
+    listen_is c.number.ensures.plain c.number.ensures.local)
+    clients_is c.number-2.ensures.plain c.number-2.ensures.local

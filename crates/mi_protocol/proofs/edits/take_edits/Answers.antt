@@ -1,7 +1,9 @@
 use Rattle.std.proofs.Common.{List, ◌++◌, Vec, Global, None, Ok, option_map, sym, ap, ◌∙◌, append-nil}
+use Rattle.std.proofs.lemmas.Result.{err_from_is_err_and}
 use Rattle.mi_value.specs.declared.edit.Edit.{Edit}
+use Rattle.mi_protocol.proofs.AnswerLemmas.{refused}
 use Rattle.mi_protocol.proofs.KeyLemmas.{in_front_none}
-use Rattle.mi_protocol.proofs.EditLemmas.{moved, moved_all, moved_step}
+use Rattle.mi_protocol.proofs.EditLemmas.{moved, moved_all, moved_step, no_step}
 use Rattle.mi_protocol.proofs.edits.take_edits.Goals as goal
 use Rattle.mi_protocol.proofs.edits.take_edits.Goals.{in-Some+in_ok-push, in_default}
 
@@ -12,15 +14,21 @@ columns-init c =
 
 pub columns-preserved : goal.columns-preserved
 columns-preserved c =
-    let column = c.index-columns-i.result in let name = c.as_str-name.result.now in let l = c.columns in let set = c.move_out-set in let add = c.move_out-add in
-    let good = c.in_ok-edit.ensures in
+    let column = c.index-columns-i.result in let l = c.columns in let took = c.take_edit.ensures in
+    let good = c.in_ok-edit.ensures.edit in
     elim c.match-branch-2.branch [
-      | in-Some+in_ok-push w ↦ moved_step l.edits.items c.match-branch-2.edits.items l.i c.args.columns.now column name l.set_left l.add_left
-          set.new.self add.new.self set.result add.result _ c.index-columns-i.is c.columns-test.true c.as_str-name.ensures
-          set.ensures.value set.ensures.rest add.ensures.value add.ensures.rest (good ∙ ap Ok w.in-Some.is)
+      | in-Some+in_ok-push w ↦ moved_step l.edits.items c.match-branch-2.edits.items l.i c.args.columns.now column l.set_left l.add_left
+          c.take_edit.new.set c.take_edit.new.add _ c.index-columns-i.is c.columns-test.true took.set took.add (good ∙ ap Ok w.in-Some.is)
           (ap (λ (z : Vec Edit Global). z.items) w.edits-is ∙ w.in_ok-push.ensures.items) l.invariant
-      | in_default w ↦ moved_step l.edits.items c.match-branch-2.edits.items l.i c.args.columns.now column name l.set_left l.add_left
-          set.new.self add.new.self set.result add.result None c.index-columns-i.is c.columns-test.true c.as_str-name.ensures
-          set.ensures.value set.ensures.rest add.ensures.value add.ensures.rest (good ∙ ap Ok w.in_default.is)
+      | in_default w ↦ moved_step l.edits.items c.match-branch-2.edits.items l.i c.args.columns.now column l.set_left l.add_left
+          c.take_edit.new.set c.take_edit.new.add None c.index-columns-i.is c.columns-test.true took.set took.add (good ∙ ap Ok w.in_default.is)
           (ap (λ (z : Vec Edit Global). z.items) w.edits-is ∙ sym (append-nil l.edits.items)) l.invariant
     ]
+
+pub returns-in_err-edit : goal.returns-in_err-edit
+returns-in_err-edit c =
+    let column = c.index-columns-i.result in let l = c.columns in
+    let p = err_from_is_err_and c.from_residual.result c.from_residual.ensures.1 in
+    refused c.from_residual.result p.0 _ _ _ _ p.1 p.2
+    (no_step l.edits.items l.i c.args.columns.now column l.set_left l.add_left c.index-columns-i.is c.columns-test.true l.invariant)
+    c.in_err-edit.ensures.edit
