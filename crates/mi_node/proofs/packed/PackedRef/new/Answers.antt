@@ -1,0 +1,4 @@
+use Rattle.mi_node.proofs.packed.PackedRef.new.Goals as goal
+
+pub returns : goal.returns
+returns c = c.bits_of.ensures
