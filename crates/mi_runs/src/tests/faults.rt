@@ -1,13 +1,13 @@
 //! Devices that fail in the middle: what was executed, what was written, and the status.
-ghost use Rattle.std.specs.Prelude.{IsSome};
+ghost use Rattle.std.specs.Prelude.{◌≡◌, [], IsSome};
 ghost use Rattle.mi_hub.specs.Connections.{rest_at};
 
 use super::devices::{AtEnd, Narrow, Pieces};
-use super::serving::{ended, opened};
+use super::serving::{assert_attach, assert_idle, attach_first, ended, opened};
 use mi_hub::{Hub, HubFault, ServeFault, Watched, serve_stream};
 use mi_plain::Plain;
-use mi_sessions::Sessions;
 use std::alloc::Global;
+use std::process::Abort;
 use std::test::Fail;
 
 const TWO_STARTS: &[u8] = b"{\"cmd\":\"start\"}\n{\"cmd\":\"start\"}\n";
@@ -37,94 +37,149 @@ fn serve_narrowly(
     (served, reader.failed(), writer)
 }
 
+/// Connection 1 comes before any other, and can't come again.
+fn attach_once(rt: &impl Abort, hub: &mut Hub<Plain>)
+    requires { hub.old.attached ≡ [] }
+    ensures { IsSome (rest_at 1 hub.new.attached) }
+{
+    attach_first(rt, hub);
+    assert_eq!(rt; hub.attach(1), Err(HubFault::AlreadyAttached));
+}
+
+/// The writer has failed, and took ten bytes.
+fn assert_narrow(rt: &impl Abort, writer: &Watched<Narrow>) {
+    assert!(rt; writer.failed());
+    assert_eq!(rt; writer.inner().taken.as_slice(), b"{\"ok\":true".as_slice());
+}
+
+/// A connection whose writer takes ten bytes is cut, and can come again.
+fn check_write(rt: &impl Abort, alloc: Global, hub: &mut Hub<Plain>, step: usize, at_end: AtEnd)
+    requires { hub.old.attached ≡ [] }
+{
+    attach_once(rt, hub);
+    let (served, reader_failed, writer) = serve_narrowly(alloc, hub, step, at_end);
+    assert_eq!(rt; served, Err(ServeFault::Write));
+    assert!(rt; !reader_failed);
+    assert_narrow(rt, &writer);
+    assert_idle(rt, hub.database());
+    assert_attach(rt, hub, 1, Ok(()));
+}
+
 /// A write that fails or takes nothing cuts the connection: its line was executed and the later ones not, and what it held is
 /// undone.
 #[test]
 fn failing_write(rt: HostRuntime) -> Result<(), Fail> {
-    for (step, at_end) in [(64, AtEnd::Fail), (1, AtEnd::TakeNone)] {
-        let mut hub = opened(rt.alloc())?;
-        assert_eq!(rt; hub.attach(1), Ok(()));
-        assert_eq!(rt; hub.attach(1), Err(HubFault::AlreadyAttached));
-        let (served, reader_failed, writer) = serve_narrowly(rt.alloc(), &mut hub, step, at_end);
-        assert_eq!(rt; served, Err(ServeFault::Write));
-        assert!(rt; writer.failed() && !reader_failed);
-        assert_eq!(rt; writer.inner().taken.as_slice(), b"{\"ok\":true".as_slice());
-        assert_eq!(rt; hub.database().depth(), 0);
-        assert_eq!(rt; hub.database().revision(), 0);
-        assert_eq!(rt; hub.attach(1), Ok(()));
-    }
+    check_write(&rt, rt.alloc(), &mut opened(rt.alloc())?, 64, AtEnd::Fail);
+    check_write(
+        &rt,
+        rt.alloc(),
+        &mut opened(rt.alloc())?,
+        1,
+        AtEnd::TakeNone,
+    );
     Ok(())
 }
 
 /// As many connections as can be, and one more; the place of one that is cut can be taken.
 #[test]
 fn connections_are_limited(rt: HostRuntime) -> Result<(), Fail> {
-    let mut hub = opened(rt.alloc())?;
-    for conn in 1..=64 {
-        assert_eq!(rt; hub.attach(conn), Ok(()));
-    }
-    assert_eq!(rt; hub.attach(1), Err(HubFault::AlreadyAttached));
-    assert_eq!(rt; hub.attach(65), Err(HubFault::TooMany));
-    assert_eq!(rt; hub.cut(64), Ok(()));
-    assert_eq!(rt; hub.attach(65), Ok(()));
-    assert_eq!(rt; hub.cut(64), Err(HubFault::NotAttached));
+    check_limit(&rt, &mut opened(rt.alloc())?);
     Ok(())
+}
+
+/// A connection that is cut is answered so.
+fn assert_cut(rt: &impl Abort, hub: &mut Hub<Plain>, conn: u64, want: Result<(), HubFault>) {
+    assert_eq!(rt; hub.cut(conn), want);
+}
+
+/// A hub with no connection takes 64, and no other before one of them is cut.
+fn check_limit(rt: &impl Abort, hub: &mut Hub<Plain>) {
+    for conn in 1..65 {
+        assert_attach(rt, hub, conn, Ok(()));
+    }
+    assert_attach(rt, hub, 1, Err(HubFault::AlreadyAttached));
+    assert_attach(rt, hub, 65, Err(HubFault::TooMany));
+    assert_cut(rt, hub, 64, Ok(()));
+    assert_attach(rt, hub, 65, Ok(()));
+    assert_cut(rt, hub, 64, Err(HubFault::NotAttached));
 }
 
 /// A piece of two lines whose writer takes 10 bytes: the first line was executed and undone, and the connection is gone.
 #[test]
 fn failing_piece(rt: HostRuntime) -> Result<(), Fail> {
-    let mut hub = opened(rt.alloc())?;
-    assert_eq!(rt; hub.attach(1), Ok(()));
     let mut writer = Watched::new(Narrow {
         taken: Vec::new(rt.alloc()),
         step: 64,
         room: 10,
         at_end: AtEnd::Fail,
     });
-    let piece = b"{\"cmd\":\"start\"}\n{\"cmd\":\"size\"}\n";
-    assert_eq!(rt; hub.feed(1, piece, &mut writer), Err(HubFault::Write));
-    assert_eq!(rt; writer.inner().taken.as_slice(), b"{\"ok\":true".as_slice());
-    assert_eq!(rt; hub.database().depth(), 0);
-    assert_eq!(rt; hub.database().revision(), 0);
-    assert_eq!(rt; hub.feed(1, piece, &mut writer), Err(HubFault::NotAttached));
+    check_piece(&rt, &mut opened(rt.alloc())?, &mut writer);
     Ok(())
+}
+
+/// A piece of connection 1 with two lines is answered so.
+fn assert_feed(
+    rt: &impl Abort,
+    hub: &mut Hub<Plain>,
+    writer: &mut Watched<Narrow>,
+    want: HubFault,
+) {
+    let piece = b"{\"cmd\":\"start\"}\n{\"cmd\":\"size\"}\n";
+    assert_eq!(rt; hub.feed(1, piece, writer), Err(want));
+}
+
+/// A connection whose writer takes ten bytes is cut at its first reply, and has no more pieces.
+fn check_piece(rt: &impl Abort, hub: &mut Hub<Plain>, writer: &mut Watched<Narrow>) {
+    assert_attach(rt, hub, 1, Ok(()));
+    assert_feed(rt, hub, writer, HubFault::Write);
+    assert_narrow(rt, writer);
+    assert_idle(rt, hub.database());
+    assert_feed(rt, hub, writer, HubFault::NotAttached);
 }
 
 /// A read that fails ends the program, and what was read before it is answered; so does a last flush that fails.
 #[test]
-fn failing_streams(rt: HostRuntime) -> Result<(), Fail> {
-    let mut out = Vec::new(rt.alloc());
+fn failing_streams(rt: HostRuntime) {
+    check_read(&rt, &rt);
+    check_flush(&rt, &rt, &["mi_server"]);
+    check_flush(&rt, &rt, &["mi_server", "--check"]);
+}
+
+/// A read fails in the middle of the second line.
+fn check_read(rt: &impl Abort, host: &HostRuntime) {
+    let mut out = Vec::new(host.alloc());
     let input = Pieces {
         left: b"{\"cmd\":\"start\"}\n{\"cmd\":\"st",
         size: 7,
         sound: false,
     };
-    let (status, errors) = ended(&rt, &["mi_server"], input, &mut out);
-    assert_eq!(rt; status, 4);
+    let (status, errors) = ended(host, &["mi_server"], input, &mut out);
+    assert_ended(rt, status, errors.as_slice(), b"fault: read\n");
     assert_eq!(rt;
         out.as_slice(),
         b"{\"ok\":true,\"revision\":1}\n".as_slice()
     );
-    assert_eq!(rt; errors.as_slice(), b"fault: read\n".as_slice());
-    for words in [
-        &["mi_server"].as_slice(),
-        &["mi_server", "--check"].as_slice(),
-    ] {
-        let input = Pieces {
-            left: TWO_STARTS,
-            size: 4096,
-            sound: true,
-        };
-        let output = Narrow {
-            taken: Vec::new(rt.alloc()),
-            step: 64,
-            room: 0,
-            at_end: AtEnd::Fail,
-        };
-        let (status, errors) = ended(&rt, words, input, output);
-        assert_eq!(rt; status, 4);
-        assert_eq!(rt; errors.as_slice(), b"fault: write\n".as_slice());
-    }
-    Ok(())
+}
+
+/// The output of the program with these words takes nothing.
+fn check_flush(rt: &impl Abort, host: &HostRuntime, words: &[&str]) {
+    let input = Pieces {
+        left: TWO_STARTS,
+        size: 4096,
+        sound: true,
+    };
+    let output = Narrow {
+        taken: Vec::new(host.alloc()),
+        step: 64,
+        room: 0,
+        at_end: AtEnd::Fail,
+    };
+    let (status, errors) = ended(host, words, input, output);
+    assert_ended(rt, status, errors.as_slice(), b"fault: write\n");
+}
+
+/// The program ended by a fault, with this line on the third stream.
+fn assert_ended(rt: &impl Abort, status: u8, errors: &[u8], want: &[u8]) {
+    assert_eq!(rt; status, 4);
+    assert_eq!(rt; errors, want);
 }

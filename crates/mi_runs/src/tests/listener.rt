@@ -1,7 +1,7 @@
 //! Connections over the loopback interface, and over streams that fail in the middle.
 ghost use Rattle.std.specs.Prelude.{◌≡◌, []};
 
-use super::serving::{opened, serve_all};
+use super::serving::{assert_attach, assert_idle, opened, serve_all};
 use mi_hub::{Hub, ServeFault};
 use mi_plain::Plain;
 use mi_sessions::Sessions;
@@ -57,68 +57,90 @@ fn replies(alloc: Global, stream: TcpStream) -> io::Result<Vec<u8>> {
     Ok(bytes)
 }
 
-/// What is left of a hub that has served two clients which sent these bytes and no more, and what they are answered.
-fn answered<N: Net<Listener = TcpListener, Stream = TcpStream>>(
-    net: &N,
-    alloc: Global,
-    sent: [&[u8]; 2],
-) -> Result<(Hub<Plain>, Vec<u8>, Vec<u8>), Fail> {
-    let mut hub = opened(alloc)?;
-    let listener = listen(net)?;
-    let first = client(net, &listener, sent[0])?;
-    let second = client(net, &listener, sent[1])?;
+/// Both clients have sent all.
+fn end_both(first: &TcpStream, second: &TcpStream) -> io::Result<()> {
     first.shutdown(Shutdown::Write)?;
-    second.shutdown(Shutdown::Write)?;
-    let (served, _, _) = serve_all(alloc, &mut hub, &listener, 2);
-    if served.is_err() {
-        return Err(Fail::from("a stream failed"));
+    second.shutdown(Shutdown::Write)
+}
+
+/// Serves two clients.
+fn serve_two(alloc: Global, hub: &mut Hub<Plain>, listener: &TcpListener) -> Result<(), Fail>
+    requires { hub.old.attached ≡ [] }
+{
+    let (served, _, _) = serve_all(alloc, hub, listener, 2);
+    match served {
+        Ok(()) => Ok(()),
+        Err(_) => Err(Fail::from("a stream failed")),
     }
-    Ok((hub, replies(alloc, first)?, replies(alloc, second)?))
 }
 
 /// What two clients send and are answered, and the owner of id 0 afterwards.
-#[derive(Drop)]
 struct Row {
     sent: [&'static [u8]; 2],
     want: [&'static [u8]; 2],
     owner: Option<&'static str>,
 }
 
-fn assert_answers(rt: &impl Abort, first: &[u8], second: &[u8], want: [&[u8]; 2]) {
-    assert_eq!(rt; first, want[0]);
-    assert_eq!(rt; second, want[1]);
+/// A client is answered so.
+fn assert_replies(
+    rt: &impl Abort,
+    alloc: Global,
+    stream: TcpStream,
+    want: &[u8],
+) -> Result<(), Fail> {
+    let got = replies(alloc, stream)?;
+    assert_eq!(rt; got.as_slice(), want);
+    Ok(())
 }
 
 /// Asserts the owner of id 0, and that no session is open.
 fn assert_ended(rt: &impl Abort, database: &Plain, owner: Option<&str>) {
     assert_eq!(rt; first_owner(database), owner);
-    assert_eq!(rt; database.revision(), 0);
-    assert_eq!(rt; database.depth(), 0);
+    assert_idle(rt, database);
 }
+
+/// Two clients that send these bytes and no more are answered so.
+fn check_two(
+    rt: &impl Abort,
+    host: &HostRuntime,
+    hub: &mut Hub<Plain>,
+    row: &Row,
+) -> Result<(), Fail>
+    requires { hub.old.attached ≡ [] }
+{
+    let listener = listen(host)?;
+    let first = client(host, &listener, row.sent[0])?;
+    let second = client(host, &listener, row.sent[1])?;
+    end_both(&first, &second)?;
+    serve_two(host.alloc(), hub, &listener)?;
+    assert_replies(rt, host.alloc(), first, row.want[0])?;
+    assert_replies(rt, host.alloc(), second, row.want[1])
+}
+
+const ROWS: [Row; 2] = [
+    Row {
+        sent: [INSERT_A, SIZE],
+        want: [b"{\"id\":0,\"ok\":true}\n", b"{\"ok\":true,\"size\":1}\n"],
+        owner: Some("a"),
+    },
+    Row {
+        sent: [
+            b"{\"cmd\":\"start\"}\n{\"cmd\":\"insert\",\"row\":{\"owner\":\"a\",\"balance\":1,\"vip\":false}}",
+            SIZE,
+        ],
+        want: [
+            b"{\"ok\":true,\"revision\":1}\n{\"id\":0,\"ok\":true}\n",
+            b"{\"ok\":true,\"size\":0}\n",
+        ],
+        owner: None,
+    },
+];
 
 #[test]
 fn two_clients_are_answered(rt: HostRuntime) -> Result<(), Fail> {
-    let rows = [
-        Row {
-            sent: [INSERT_A, SIZE],
-            want: [b"{\"id\":0,\"ok\":true}\n", b"{\"ok\":true,\"size\":1}\n"],
-            owner: Some("a"),
-        },
-        Row {
-            sent: [
-                b"{\"cmd\":\"start\"}\n{\"cmd\":\"insert\",\"row\":{\"owner\":\"a\",\"balance\":1,\"vip\":false}}",
-                SIZE,
-            ],
-            want: [
-                b"{\"ok\":true,\"revision\":1}\n{\"id\":0,\"ok\":true}\n",
-                b"{\"ok\":true,\"size\":0}\n",
-            ],
-            owner: None,
-        },
-    ];
-    for row in &rows {
-        let (hub, first, second) = answered(&rt, rt.alloc(), row.sent)?;
-        assert_answers(&rt, first.as_slice(), second.as_slice(), row.want);
+    for row in &ROWS {
+        let mut hub = opened(rt.alloc())?;
+        check_two(&rt, &rt, &mut hub, row)?;
         assert_ended(&rt, hub.database(), row.owner);
     }
     Ok(())
@@ -127,15 +149,20 @@ fn two_clients_are_answered(rt: HostRuntime) -> Result<(), Fail> {
 /// With no client there to accept the call ends, and the one that had come is cut.
 #[test]
 fn failed_accept_ends_all(rt: HostRuntime) -> Result<(), Fail> {
-    let mut hub = opened(rt.alloc())?;
-    let listener = listen(&rt)?;
+    check_accept(&rt, &rt, &mut opened(rt.alloc())?)
+}
+
+/// One client comes where two are served.
+fn check_accept(rt: &impl Abort, host: &HostRuntime, hub: &mut Hub<Plain>) -> Result<(), Fail>
+    requires { hub.old.attached ≡ [] }
+{
+    let listener = listen(host)?;
     listener.set_nonblocking(true)?;
-    let first = client(&rt, &listener, INSERT_A)?;
-    let (served, _, _) = serve_all(rt.alloc(), &mut hub, &listener, 2);
+    let _first = client(host, &listener, INSERT_A)?;
+    let (served, _, _) = serve_all(host.alloc(), hub, &listener, 2);
     assert_eq!(rt; served, Err(ServeFault::Accept));
     assert!(rt; first_owner(hub.database()).is_none());
-    assert_eq!(rt; hub.attach(1), Ok(()));
-    let _ = first;
+    assert_attach(rt, hub, 1, Ok(()));
     Ok(())
 }
 
@@ -229,11 +256,34 @@ fn serve_breaking(
 /// A connection whose read or write fails is cut: what it holds is undone, the other goes on, and the fault is answered at the end.
 #[test]
 fn others_go_on(rt: HostRuntime) -> Result<(), Fail> {
-    for (sound, fault) in [(false, ServeFault::Read), (true, ServeFault::Write)] {
-        let mut hub = opened(rt.alloc())?;
-        let answer = serve_breaking(rt.alloc(), &mut hub, sound);
-        assert_eq!(rt; answer, (Err(fault), !sound, sound));
-        assert_ended(&rt, hub.database(), Some("b"));
-    }
+    check_breaking(
+        &rt,
+        rt.alloc(),
+        &mut opened(rt.alloc())?,
+        false,
+        ServeFault::Read,
+    );
+    check_breaking(
+        &rt,
+        rt.alloc(),
+        &mut opened(rt.alloc())?,
+        true,
+        ServeFault::Write,
+    );
     Ok(())
+}
+
+/// The first connection breaks off with this fault, and the second inserts.
+fn check_breaking(
+    rt: &impl Abort,
+    alloc: Global,
+    hub: &mut Hub<Plain>,
+    sound: bool,
+    fault: ServeFault,
+)
+    requires { hub.old.attached ≡ [] }
+{
+    let answer = serve_breaking(alloc, hub, sound);
+    assert_eq!(rt; answer, (Err(fault), !sound, sound));
+    assert_ended(rt, hub.database(), Some("b"));
 }

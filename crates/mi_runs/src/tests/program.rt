@@ -4,6 +4,7 @@ use mi_program::{WordsFault, read_words};
 use std::alloc::{AllocError, Global};
 use std::fs;
 use std::net::{Ipv4Addr, TcpListener};
+use std::process::Abort;
 use std::test::Fail;
 
 /// The files that the tests write and read, one for each test.
@@ -108,24 +109,30 @@ const CALLED: &[(&[&str], Ending)] = &[
 ];
 
 /// The text of a file, commands and their replies.
-const SERVED: [(&str, &str, &str); 2] = [
-    (
-        ONE,
-        r#"{"cmd":"insert","row":{"a":5}}
+struct Served {
+    schema: &'static str,
+    input: &'static str,
+    output: &'static str,
+}
+
+const SERVED: [Served; 2] = [
+    Served {
+        schema: ONE,
+        input: r#"{"cmd":"insert","row":{"a":5}}
 {"cmd":"get","id":0,"table":"t"}"#,
-        r#"{"id":0,"ok":true}
+        output: r#"{"id":0,"ok":true}
 {"ok":true,"row":{"a":5,"id":0}}
 "#,
-    ),
-    (
-        TWO,
-        r#"{"cmd":"insert","table":"b","row":{"t":"x"}}
+    },
+    Served {
+        schema: TWO,
+        input: r#"{"cmd":"insert","table":"b","row":{"t":"x"}}
 {"cmd":"insert","table":"b","row":{"t":"y"}}
 "#,
-        r#"{"id":10,"ok":true}
+        output: r#"{"id":10,"ok":true}
 {"error":"full","ok":false}
 "#,
-    ),
+    },
 ];
 
 /// How a run of the program on this input ends, and what it wrote.
@@ -178,54 +185,86 @@ fn padded(alloc: Global, length: usize) -> Result<String, AllocError> {
 
 #[test]
 fn long_schemas_are_refused(rt: HostRuntime) -> Result<(), Fail> {
-    for (length, status) in [(65_536, 0), (65_537, 3)] {
-        let text = padded(rt.alloc(), length)?;
-        fs::write(&rt, LONG_FILE, text.as_str())?;
-        let words = ["mi_server", "--check", "--schema", LONG_FILE];
-        let got = called(&rt, &words, "").0;
-        assert!(rt; got == status, "status {got} of {length} bytes");
-    }
+    check_long(&rt, &rt, 65_536, 0)?;
+    check_long(&rt, &rt, 65_537, 3)?;
     fs::remove_file(&rt, LONG_FILE)?;
+    Ok(())
+}
+
+/// The check of a schema so long ends with this status.
+fn check_long(rt: &impl Abort, host: &HostRuntime, length: usize, want: u8) -> Result<(), Fail> {
+    let text = padded(host.alloc(), length)?;
+    fs::write(host, LONG_FILE, text.as_str())?;
+    let words = ["mi_server", "--check", "--schema", LONG_FILE];
+    let (status, _, _) = called(host, &words, "");
+    assert!(rt; status == want, "status {status} of {length} bytes");
     Ok(())
 }
 
 #[test]
 fn schemas_are_served(rt: HostRuntime) -> Result<(), Fail> {
-    for (text, input, want) in SERVED {
-        fs::write(&rt, OTHER_FILE, text)?;
-        let got = called(&rt, &["mi_server", "--schema", OTHER_FILE], input);
-        assert_eq!(rt; got.0, 0, "status of {text}");
-        assert_eq!(rt; got.1.as_slice(), want.as_bytes(), "of {text}");
+    for served in &SERVED {
+        check_served(&rt, &rt, served)?;
     }
     fs::remove_file(&rt, OTHER_FILE)?;
     Ok(())
 }
 
-#[test]
-fn words_are_read(rt: HostRuntime) -> Result<(), Fail> {
-    match read_words(rt.alloc(), &["mi_server", "--check"]) {
+/// The program with a schema answers commands as it must.
+fn check_served(rt: &impl Abort, host: &HostRuntime, served: &Served) -> Result<(), Fail> {
+    fs::write(host, OTHER_FILE, served.schema)?;
+    let words = ["mi_server", "--schema", OTHER_FILE];
+    let (status, output, _) = called(host, &words, served.input);
+    assert_eq!(rt; status, 0, "status of {}", served.schema);
+    assert_eq!(rt;
+        output.as_slice(),
+        served.output.as_bytes(),
+        "of {}",
+        served.schema
+    );
+    Ok(())
+}
+
+/// The words of a check are read.
+fn check_check(rt: &impl Abort, alloc: Global) {
+    match read_words(alloc, &["mi_server", "--check"]) {
         Ok(options) => {
             assert!(rt; options.schema.is_none() && options.check && options.listen.is_none());
         }
         Err(_) => assert!(rt; false, "the words are the program's"),
     }
-    match read_words(
-        rt.alloc(),
-        &["mi_server", "--listen", "8000", "--clients", "2"],
-    ) {
+}
+
+/// A port and a number of clients are read.
+fn check_listen(rt: &impl Abort, alloc: Global) {
+    match read_words(alloc, &["mi_server", "--listen", "8000", "--clients", "2"]) {
         Ok(options) => assert_eq!(rt; options.listen, Some((8000, 2))),
         Err(_) => assert!(rt; false, "the words are the program's"),
     }
-    let alone = read_words(rt.alloc(), &["mi_server", "--listen", "8000"]);
+}
+
+/// Words break the rules between options.
+fn check_rules(rt: &impl Abort, alloc: Global) {
+    let alone = read_words(alloc, &["mi_server", "--listen", "8000"]);
     assert!(rt; matches!(alone, Err(WordsFault::Rules)));
-    for (port, clients) in [("0", "2"), ("65536", "2"), ("8000", "0"), ("8000", "65")] {
-        let wrong = read_words(
-            rt.alloc(),
-            &["mi_server", "--listen", port, "--clients", clients],
-        );
-        assert!(rt; matches!(wrong, Err(WordsFault::Parse(_))));
-    }
-    Ok(())
+}
+
+/// A port or a number of clients is none.
+fn check_wrong(rt: &impl Abort, alloc: Global, port: &str, clients: &str) {
+    let words = ["mi_server", "--listen", port, "--clients", clients];
+    let wrong = read_words(alloc, &words);
+    assert!(rt; matches!(wrong, Err(WordsFault::Parse(_))));
+}
+
+#[test]
+fn words_are_read(rt: HostRuntime) {
+    check_check(&rt, rt.alloc());
+    check_listen(&rt, rt.alloc());
+    check_rules(&rt, rt.alloc());
+    check_wrong(&rt, rt.alloc(), "0", "2");
+    check_wrong(&rt, rt.alloc(), "65536", "2");
+    check_wrong(&rt, rt.alloc(), "8000", "0");
+    check_wrong(&rt, rt.alloc(), "8000", "65");
 }
 
 /// A port on which another listens already.
@@ -234,8 +273,8 @@ fn taken_ports_are_refused(rt: HostRuntime) -> Result<(), Fail> {
     let taken = TcpListener::bind(&rt, (Ipv4Addr::LOCALHOST, 0))?;
     let port = format!(in rt.alloc(); "{}", taken.local_addr()?.port())?;
     let words = ["mi_server", "--listen", port.as_str(), "--clients", "1"];
-    let got = called(&rt, &words, "");
-    assert_eq!(rt; got.0, 4);
-    assert_eq!(rt; got.2.as_slice(), b"fault: listen\n".as_slice());
+    let (status, _, errors) = called(&rt, &words, "");
+    assert_eq!(rt; status, 4);
+    assert_eq!(rt; errors.as_slice(), b"fault: listen\n".as_slice());
     Ok(())
 }

@@ -1,17 +1,17 @@
 //! Replies are out before more is read, and a consumer that is gone is noticed: over streams, and over connections.
-ghost use Rattle.std.specs.Prelude.{IsSome};
+ghost use Rattle.std.specs.Prelude.{◌≡◌, [], IsSome};
 ghost use Rattle.mi_hub.specs.Connections.{rest_at};
 
-use super::serving::{ended, opened, serve_all};
+use super::serving::{assert_attach, assert_idle, attach_first, ended, opened, serve_all};
 use mi_hub::{Hub, ServeFault, Watched, serve_stream};
 use mi_plain::Plain;
 use mi_program::Buffered;
-use mi_sessions::Sessions;
 use std::alloc::{AllocError, Global};
 use std::cell::Cell;
 use std::io;
 use std::io::{Error, ErrorKind, Read, Write};
 use std::net::{Ipv4Addr, OpenListener, SocketAddr};
+use std::process::Abort;
 use std::test::Fail;
 
 /// What one client and the server have exchanged: the lines that were asked, the replies that were written, and those of them that were
@@ -107,14 +107,11 @@ const SESSION: &[&[u8]] = &[
 #[test]
 fn replies_are_out_before_more_is_read(rt: HostRuntime) -> Result<(), Fail> {
     let talk = Talk::new(100);
-    let (input, output) = (
-        Asker {
-            talk: &talk,
-            pieces: PIECES,
-        },
-        Teller { talk: &talk },
-    );
-    let (status, _) = ended(&rt, &["mi_server"], input, output);
+    let input = Asker {
+        talk: &talk,
+        pieces: PIECES,
+    };
+    let (status, _) = ended(&rt, &["mi_server"], input, Teller { talk: &talk });
     assert_eq!(rt; status, 0);
     assert_eq!(rt; talk.asked.get(), 3);
     assert_eq!(rt; talk.flushed.get(), 4);
@@ -125,14 +122,11 @@ fn replies_are_out_before_more_is_read(rt: HostRuntime) -> Result<(), Fail> {
 #[test]
 fn gone_consumers_end_the_program(rt: HostRuntime) -> Result<(), Fail> {
     let talk = Talk::new(1);
-    let (input, output) = (
-        Asker {
-            talk: &talk,
-            pieces: SESSION,
-        },
-        Teller { talk: &talk },
-    );
-    let (status, errors) = ended(&rt, &["mi_server"], input, output);
+    let input = Asker {
+        talk: &talk,
+        pieces: SESSION,
+    };
+    let (status, errors) = ended(&rt, &["mi_server"], input, Teller { talk: &talk });
     assert_eq!(rt; status, 4);
     assert_eq!(rt; errors.as_slice(), b"fault: write\n".as_slice());
     assert_eq!(rt; talk.asked.get(), 2);
@@ -160,27 +154,35 @@ fn serve_once<R: Read + Drop, W: Write + Drop>(
 #[test]
 fn failed_flush_cuts(rt: HostRuntime) -> Result<(), Fail> {
     let talk = Talk::new(0);
-    let mut hub = opened(rt.alloc())?;
-    assert_eq!(rt; hub.attach(1), Ok(()));
-    let (input, output) = (
-        Asker {
-            talk: &talk,
-            pieces: SESSION,
-        },
-        Teller { talk: &talk },
-    );
+    check_cut(&rt, rt.alloc(), &mut opened(rt.alloc())?, &talk)?;
+    assert_eq!(rt; talk.asked.get(), 1);
+    Ok(())
+}
+
+/// A client whose first flush fails is cut, and can come again.
+fn check_cut(
+    rt: &impl Abort,
+    alloc: Global,
+    hub: &mut Hub<Plain>,
+    talk: &Talk,
+) -> Result<(), AllocError>
+    requires { hub.old.attached ≡ [] }
+{
+    attach_first(rt, hub);
+    let input = Asker {
+        talk,
+        pieces: SESSION,
+    };
     let (served, reader_failed, writer_failed, refused) = serve_once(
-        rt.alloc(),
-        &mut hub,
+        alloc,
+        hub,
         input,
-        output,
+        Teller { talk },
     )?;
     assert_eq!(rt; served, Err(ServeFault::Write));
     assert!(rt; writer_failed && !reader_failed && refused);
-    assert_eq!(rt; talk.asked.get(), 1);
-    assert_eq!(rt; hub.database().depth(), 0);
-    assert_eq!(rt; hub.database().revision(), 0);
-    assert_eq!(rt; hub.attach(1), Ok(()));
+    assert_idle(rt, hub.database());
+    assert_attach(rt, hub, 1, Ok(()));
     Ok(())
 }
 
@@ -238,66 +240,127 @@ impl<'a> OpenListener for Calls<'a> {
 /// Five connections, each answered to its last line before it asks the next; and one of five that is gone, beside which the others go on.
 #[test]
 fn connections_are_answered(rt: HostRuntime) -> Result<(), Fail> {
-    for (third, served) in [(100, Ok(())), (1, Err(ServeFault::Write))] {
-        let talks = [
-            Talk::new(100),
-            Talk::new(100),
-            Talk::new(third),
-            Talk::new(100),
-            Talk::new(100),
-        ];
-        let calls = Calls {
-            talks: &talks,
-            pieces: PIECES,
-            accepted: Cell::new(0),
-        };
-        let mut hub = opened(rt.alloc())?;
-        let (answer, _, _) = serve_all(rt.alloc(), &mut hub, &calls, 5);
-        assert_eq!(rt; answer, served);
-        for (i, talk) in talks.iter().enumerate() {
-            let is_gone = i == 2 && third == 1;
-            assert_eq!(rt;
-                talk.flushed.get(),
-                if is_gone { 2 } else { 4 },
-                "client {i}"
-            );
-        }
-        assert_eq!(rt; hub.database().depth(), 0);
-        assert_eq!(rt; hub.database().revision(), 0);
+    let all = &mut opened(rt.alloc())?;
+    check_five(&rt, rt.alloc(), all, 100, Ok(()), &[4, 4, 4, 4, 4]);
+    let but_one = &mut opened(rt.alloc())?;
+    check_five(
+        &rt,
+        rt.alloc(),
+        but_one,
+        1,
+        Err(ServeFault::Write),
+        &[4, 4, 2, 4, 4],
+    );
+    Ok(())
+}
+
+/// Five clients come, of which the third has patience for so many flushes: what serving answers, and how many replies each gets.
+fn check_five(
+    rt: &impl Abort,
+    alloc: Global,
+    hub: &mut Hub<Plain>,
+    third: usize,
+    served: Result<(), ServeFault>,
+    flushed: &[usize; 5],
+)
+    requires { hub.old.attached ≡ [] }
+{
+    let talks = [
+        Talk::new(100),
+        Talk::new(100),
+        Talk::new(third),
+        Talk::new(100),
+        Talk::new(100),
+    ];
+    assert_eq!(rt; serve_calls(alloc, hub, &talks), served);
+    assert_flushed(rt, &talks, flushed);
+    assert_idle(rt, hub.database());
+}
+
+/// Serves five clients.
+fn serve_calls(alloc: Global, hub: &mut Hub<Plain>, talks: &[Talk; 5]) -> Result<(), ServeFault>
+    requires { hub.old.attached ≡ [] }
+{
+    let calls = Calls {
+        talks,
+        pieces: PIECES,
+        accepted: Cell::new(0),
+    };
+    serve_all(alloc, hub, &calls, 5).0
+}
+
+/// Each client has got so many replies.
+fn assert_flushed(rt: &impl Abort, talks: &[Talk; 5], flushed: &[usize; 5]) {
+    for i in 0..5 {
+        assert_eq!(rt; talks[i].flushed.get(), flushed[i], "client {i}");
     }
+}
+
+/// Lines that insert so many rows, and one that asks for a page of them.
+fn page_asked(alloc: Global, count: u64) -> Result<String, AllocError> {
+    let mut lines = String::new(alloc);
+    for id in 0..count {
+        write!(
+            lines,
+            "{{\"cmd\":\"insert\",\"row\":{{\"owner\":\"o{id}\",\"balance\":7,\"vip\":true}}}}\n"
+        )?;
+    }
+    lines.push_str("{\"cmd\":\"range\",\"index\":\"by_balance\",\"limit\":500}\n")?;
+    Ok(lines)
+}
+
+/// The replies to so many inserts, and what a page of them begins with.
+fn page_begun(alloc: Global, count: u64) -> Result<String, AllocError> {
+    let mut replies = String::new(alloc);
+    for id in 0..count {
+        write!(replies, "{{\"id\":{id},\"ok\":true}}\n")?;
+    }
+    let more = count > 500;
+    write!(replies, "{{\"more\":{more},\"ok\":true,\"rows\":[")?;
+    Ok(replies)
+}
+
+/// The rows of a page of so many, and its end.
+fn page_rows(alloc: Global, count: u64) -> Result<String, AllocError> {
+    let mut rows = String::new(alloc);
+    for id in 0..count {
+        let comma = if id > 0 { "," } else { "" };
+        write!(
+            rows,
+            "{comma}{{\"balance\":7,\"id\":{id},\"owner\":\"o{id}\",\"vip\":true}}"
+        )?;
+    }
+    rows.push_str("]}\n")?;
+    Ok(rows)
+}
+
+/// What such lines are answered.
+fn page_shown(alloc: Global, count: u64) -> Result<String, AllocError> {
+    let mut replies = page_begun(alloc, count)?;
+    replies.push_str(page_rows(alloc, count.min(500))?.as_str())?;
+    Ok(replies)
+}
+
+/// The program answers these lines by these replies, and ends well.
+fn check_answered(rt: &impl Abort, host: &HostRuntime, lines: &str, want: &str) {
+    let mut output = Vec::new(host.alloc());
+    let (status, _) = ended(host, &["mi_server"], lines.as_bytes(), &mut output);
+    assert_eq!(rt; status, 0);
+    assert_eq!(rt; output.as_slice(), want.as_bytes());
+}
+
+/// The rows of a range of so many are shown, as many as a page has at most.
+fn check_page(rt: &impl Abort, host: &HostRuntime, count: u64) -> Result<(), Fail> {
+    let lines = page_asked(host.alloc(), count)?;
+    let want = page_shown(host.alloc(), count)?;
+    check_answered(rt, host, lines.as_str(), want.as_str());
     Ok(())
 }
 
 /// The rows of a range, as many as a page has at most.
 #[test]
 fn long_pages_are_shown(rt: HostRuntime) -> Result<(), Fail> {
-    for count in [31, 500, 501] {
-        let mut input = String::new(rt.alloc());
-        let mut want = String::new(rt.alloc());
-        let mut rows = String::new(rt.alloc());
-        for id in 0..count {
-            let line = format!(in rt.alloc();
-                "{{\"cmd\":\"insert\",\"row\":{{\"owner\":\"o{id}\",\"balance\":7,\"vip\":true}}}}\n"
-            )?;
-            input.push_str(line.as_str())?;
-            let reply = format!(in rt.alloc(); "{{\"id\":{id},\"ok\":true}}\n")?;
-            want.push_str(reply.as_str())?;
-            if id < 500 {
-                let comma = if id > 0 { "," } else { "" };
-                let row = format!(in rt.alloc();
-                    "{comma}{{\"balance\":7,\"id\":{id},\"owner\":\"o{id}\",\"vip\":true}}"
-                )?;
-                rows.push_str(row.as_str())?;
-            }
-        }
-        input.push_str("{\"cmd\":\"range\",\"index\":\"by_balance\",\"limit\":500}\n")?;
-        let more = count > 500;
-        let page = format!(in rt.alloc(); "{{\"more\":{more},\"ok\":true,\"rows\":[{rows}]}}\n")?;
-        want.push_str(page.as_str())?;
-        let mut output = Vec::new(rt.alloc());
-        let (status, _) = ended(&rt, &["mi_server"], input.as_bytes(), &mut output);
-        assert_eq!(rt; status, 0);
-        assert_eq!(rt; output.as_slice(), want.as_bytes(), "{count} rows");
-    }
-    Ok(())
+    check_page(&rt, &rt, 31)?;
+    check_page(&rt, &rt, 500)?;
+    check_page(&rt, &rt, 501)
 }

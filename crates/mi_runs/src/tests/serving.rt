@@ -1,15 +1,18 @@
 //! What the tests serve with. The calls have no contract of their own, so that a test that makes one carries none of what the
 //! call below promises.
-ghost use Rattle.std.specs.Prelude.{◌≡◌, ◌≤◌, [], IfOk};
+ghost use Rattle.std.specs.Prelude.{◌≡◌, ◌≤◌, [], IfOk, IsSome};
+ghost use Rattle.mi_hub.specs.Connections.{rest_at};
 ghost use Rattle.mi_value.specs.declared.limits.TheConstants.{MAX_CONNECTIONS};
 
-use mi_hub::{Hub, IoErrors, ServeFault};
+use mi_hub::{Hub, HubFault, IoErrors, ServeFault};
 use mi_plain::Plain;
 use mi_program::{run, serve_listener};
 use mi_schema::{Catalog, built_in};
+use mi_sessions::Sessions;
 use std::alloc::{AllocError, Global};
 use std::io::{Read, Write};
 use std::net::OpenListener;
+use std::process::Abort;
 
 /// A hub with no connection over the built-in table.
 pub(super) fn opened(alloc: Global) -> Result<Hub<Plain>, AllocError>
@@ -17,6 +20,30 @@ pub(super) fn opened(alloc: Global) -> Result<Hub<Plain>, AllocError>
 {
     let catalog = Catalog::of(alloc, built_in(alloc)?)?;
     Ok(Hub::new(alloc, Plain::new(alloc, catalog)?))
+}
+
+/// No session is open.
+pub(super) fn assert_idle(rt: &impl Abort, database: &Plain) {
+    assert_eq!(rt; database.depth(), 0);
+    assert_eq!(rt; database.revision(), 0);
+}
+
+/// Connection 1 comes before any other.
+pub(super) fn attach_first(rt: &impl Abort, hub: &mut Hub<Plain>)
+    requires { hub.old.attached ≡ [] }
+    ensures { IsSome (rest_at 1 hub.new.attached) }
+{
+    assert_eq!(rt; hub.attach(1), Ok(()));
+}
+
+/// A connection that comes is answered so.
+pub(super) fn assert_attach(
+    rt: &impl Abort,
+    hub: &mut Hub<Plain>,
+    conn: u64,
+    want: Result<(), HubFault>,
+) {
+    assert_eq!(rt; hub.attach(conn), want);
 }
 
 /// Serves so many connections of a listener, and answers what that answered, and whether a read and whether a write has failed.
