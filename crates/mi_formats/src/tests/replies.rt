@@ -100,40 +100,36 @@ fn numbers_have_their_texts(rt: HostRuntime) -> Result<(), Fail> {
     Ok(())
 }
 
-const REFUSED: [(Refusal, &str); 4] = [
-    (Refusal::NoId, "{\"error\":\"id\",\"ok\":false}"),
-    (Refusal::Memory, "{\"error\":\"memory\",\"ok\":false}"),
-    (
-        UNIQUE,
-        "{\"error\":\"unique\",\"id\":0,\"index\":\"by_owner\",\"ok\":false}",
-    ),
-    (
-        LOST,
-        "{\"error\":\"unique\",\"id\":0,\"index\":\"by_owner\",\"lost\":true,\"ok\":false}",
-    ),
-];
-
-const REFUSED_MODIFY: [(Refusal, &str); 3] = [
-    (Refusal::Range, "{\"error\":\"range\",\"ok\":false}"),
-    (
-        UNIQUE,
-        "{\"error\":\"unique\",\"id\":0,\"index\":\"by_owner\",\"lost\":false,\"ok\":false}",
-    ),
-    (
-        LOST,
-        "{\"error\":\"unique\",\"id\":0,\"index\":\"by_owner\",\"lost\":true,\"ok\":false}",
-    ),
-];
-
 #[test]
 fn refusals_have_their_texts(rt: HostRuntime) -> Result<(), Fail> {
     let alloc = rt.alloc();
     let catalog = catalog_of_accounts(alloc)?;
-    for (refusal, want) in &REFUSED {
-        assert_refused(&rt, alloc, &catalog, *refusal, *want);
+    for (refusal, want) in [
+        (Refusal::NoId, "{\"error\":\"id\",\"ok\":false}"),
+        (Refusal::Memory, "{\"error\":\"memory\",\"ok\":false}"),
+        (
+            UNIQUE,
+            "{\"error\":\"unique\",\"id\":0,\"index\":\"by_owner\",\"ok\":false}",
+        ),
+        (
+            LOST,
+            "{\"error\":\"unique\",\"id\":0,\"index\":\"by_owner\",\"lost\":true,\"ok\":false}",
+        ),
+    ] {
+        assert_refused(&rt, alloc, &catalog, refusal, want);
     }
-    for (refusal, want) in &REFUSED_MODIFY {
-        assert_refused_modify(&rt, alloc, &catalog, *refusal, *want);
+    for (refusal, want) in [
+        (Refusal::Range, "{\"error\":\"range\",\"ok\":false}"),
+        (
+            UNIQUE,
+            "{\"error\":\"unique\",\"id\":0,\"index\":\"by_owner\",\"lost\":false,\"ok\":false}",
+        ),
+        (
+            LOST,
+            "{\"error\":\"unique\",\"id\":0,\"index\":\"by_owner\",\"lost\":true,\"ok\":false}",
+        ),
+    ] {
+        assert_refused_modify(&rt, alloc, &catalog, refusal, want);
     }
     Ok(())
 }
