@@ -71,13 +71,11 @@ fn some_id<C: Container>(rt: &impl Abort, undoable: &Undoable<C>, random: &mut R
     requires { Holds undoable.now.schema (C.shape undoable.now.rows) (C.plain undoable.now.rows) undoable.now.inverses.items }
 {
     let n = random.below(undoable.rows.size());
-    assert!(rt; undoable.is_sorted(BY_ID));
-    assert!(rt; undoable.is_listed(BY_ID));
     if random.is_one_in(8) {
-        let last = undoable.rows.last(BY_ID).unwrap_or(0);
+        let last = undoable.last(rt, BY_ID).unwrap_or(0);
         random.below(last.saturating_add(4))
     } else {
-        undoable.rows.nth(BY_ID, n).unwrap_or(0)
+        undoable.nth(rt, BY_ID, n).unwrap_or(0)
     }
 }
 
@@ -87,23 +85,41 @@ fn changed<C: Container>(
     alloc: Global,
     undoable: &mut Undoable<C>,
     change: &Change,
-) -> Result<Answer, Fail>
+) -> Answer
     requires { Holds undoable.old.schema (C.shape undoable.old.rows) (C.plain undoable.old.rows) undoable.old.inverses.items }
     ensures { Holds undoable.new.schema (C.shape undoable.new.rows) (C.plain undoable.new.rows) undoable.new.inverses.items }
 {
-    let done = match change {
-        Change::Insert(row, before) => {
-            let row = row.copy(alloc)?;
-            return Ok(undoable.insert(rt, alloc, row, *before).map(Some));
-        }
+    match change {
+        Change::Insert(row, before) => undoable.insert(rt, alloc, row.copy(alloc)?, *before),
         Change::Replace(id, row) => undoable.replace(rt, *id, row.copy(alloc)?),
         Change::Modify(id, edits, rollback) => {
             undoable.modify(rt, alloc, *id, edits.as_slice(), *rollback)
         }
         Change::Erase(id) => undoable.erase(*id),
         Change::Relocate(index, id, before) => undoable.relocate(rt, *index, *id, *before),
-    };
-    Ok(done.map(|()| None))
+    }
+}
+
+/// Asserts that both answer the same to a change.
+fn assert_answer(rt: &impl Abort, got: &Answer, want: &Answer, change: &Change) {
+    assert_eq!(rt; got, want, "to {change:?}");
+}
+
+/// A change of both.
+fn make_both<C: Container>(
+    rt: &impl Abort,
+    alloc: Global,
+    undoable: &mut Undoable<C>,
+    reference: &mut Reference,
+    change: &Change,
+) -> Result<Answer, Fail>
+    requires { Holds undoable.old.schema (C.shape undoable.old.rows) (C.plain undoable.old.rows) undoable.old.inverses.items }
+    ensures { Holds undoable.new.schema (C.shape undoable.new.rows) (C.plain undoable.new.rows) undoable.new.inverses.items }
+{
+    let got = changed(rt, alloc, undoable, change);
+    let want = reference.change(rt, alloc, change)?;
+    assert_answer(rt, &got, &want, change);
+    Ok(got)
 }
 
 /// The same random change to both.
@@ -121,10 +137,8 @@ fn change_both<C: Container>(
     let id = some_id(rt, undoable, random);
     let other = some_id(rt, undoable, random);
     let change = Change::random(alloc, random, id, other)?;
-    let got = changed(rt, alloc, undoable, &change)?;
-    let want = reference.change(rt, alloc, &change)?;
-    assert_eq!(rt; got, want, "to {change:?}");
-    tally.count(&got);
+    let answer = make_both(rt, alloc, undoable, reference, &change)?;
+    tally.count(&answer);
     Ok(())
 }
 
@@ -197,32 +211,49 @@ fn step_both<C: Container>(
 /// As many steps as each of the tests below makes.
 const STEPS: u64 = 10_000;
 
-/// So many random steps of a container and of the plain database, compared after every hundredth, at the end, and once more when all
-/// that can be taken back is.
-fn check_beside<C: Container>(rt: &impl Abort, alloc: Global, seed: u64) -> Result<(), Fail> {
-    let schema = schema(alloc)?;
-    let mut reference = Reference::open(alloc, schema.copy(alloc)?)?;
-    let mut undoable = Undoable::<C>::open(alloc, schema)?;
+/// Every view compared, and once more when all that can be taken back is.
+fn end_both<C: Container>(
+    rt: &impl Abort,
+    alloc: Global,
+    undoable: &mut Undoable<C>,
+    reference: &mut Reference,
+    tally: &mut Tally,
+) -> Result<(), Fail>
+    requires { Holds undoable.old.schema (C.shape undoable.old.rows) (C.plain undoable.old.rows) undoable.old.inverses.items }
+{
+    compare(rt, alloc, undoable, reference)?;
+    unwind_both(rt, undoable, reference, STEPS, tally);
+    compare(rt, alloc, undoable, reference)
+}
+
+/// So many random steps of both, compared after every hundredth and at the end.
+fn run_both<C: Container>(
+    rt: &impl Abort,
+    alloc: Global,
+    undoable: &mut Undoable<C>,
+    reference: &mut Reference,
+    seed: u64,
+) -> Result<(), Fail>
+    requires { Holds undoable.old.schema (C.shape undoable.old.rows) (C.plain undoable.old.rows) undoable.old.inverses.items }
+{
     let mut random = Random::new(seed);
     let mut tally = Tally::default();
     'steps: for step in 0..STEPS {
         if step % 100 == 0 {
-            compare(rt, alloc, &undoable, &reference)?;
+            compare(rt, alloc, undoable, reference)?;
         }
-        step_both(
-            rt,
-            alloc,
-            &mut undoable,
-            &mut reference,
-            &mut random,
-            &mut tally,
-        )?;
+        step_both(rt, alloc, undoable, reference, &mut random, &mut tally)?;
     }
-    compare(rt, alloc, &undoable, &reference)?;
-    unwind_both(rt, &mut undoable, &mut reference, STEPS, &mut tally);
-    compare(rt, alloc, &undoable, &reference)?;
+    end_both(rt, alloc, undoable, reference, &mut tally)?;
     assert!(rt; tally.has_each(), "{tally:?}");
     Ok(())
+}
+
+/// A container and the plain database of one table.
+fn check_beside<C: Container>(rt: &impl Abort, alloc: Global, seed: u64) -> Result<(), Fail> {
+    let mut reference = Reference::open(alloc, schema(alloc)?)?;
+    let mut undoable = Undoable::<C>::open(alloc, schema(alloc)?)?;
+    run_both(rt, alloc, &mut undoable, &mut reference, seed)
 }
 
 #[test]

@@ -6,7 +6,8 @@ ghost use Rattle.mi_container.specs.Asked.{IsKeyed, IsHashed, IsSorted, IsSequen
 ghost use Rattle.mi_container.specs.Data.{table_of};
 ghost use Rattle.mi_changes.specs.Undone.{Holds};
 
-use super::fitting::fits_edits;
+use super::change::Answer;
+use super::fitting::{fits_edits, is_hashed, is_keyed, is_listed, is_sequenced, is_sorted};
 use mi_catalog::Schema;
 use mi_container::{Container, Inverse};
 use mi_value::{Edit, Record, Refusal, Steps, Value};
@@ -51,71 +52,79 @@ impl<C: Container> Undoable<C> {
         fits_edits(self.schema.columns(), edits)
     }
 
-    /// Whether an index is there and has keys.
-    pub(super) fn is_keyed(&self, index: usize) -> bool
+    /// Stops unless an index is there and has keys.
+    fn want_keyed(&self, rt: &impl Abort, index: usize)
         requires { Holds self.now.schema (C.shape self.now.rows) (C.plain self.now.rows) self.now.inverses.items }
-        ensures { IsTrue result → IsKeyed (C.shape self.now.rows) index }
+        ensures { IsKeyed (C.shape self.now.rows) index }
     {
-        index < self.schema.index_count() && self.schema.kind(index).has_keys()
+        assert!(rt; is_keyed(&self.schema, index));
     }
 
-    /// Whether it is hashed.
-    pub(super) fn is_hashed(&self, index: usize) -> bool
+    /// Stops unless it is hashed.
+    fn want_hashed(&self, rt: &impl Abort, index: usize)
         requires { Holds self.now.schema (C.shape self.now.rows) (C.plain self.now.rows) self.now.inverses.items }
-        ensures { IsTrue result → IsHashed (C.shape self.now.rows) index }
+        ensures { IsHashed (C.shape self.now.rows) index }
     {
-        index < self.schema.index_count() && self.schema.kind(index).is_hashed()
+        assert!(rt; is_hashed(&self.schema, index));
     }
 
-    /// Whether it is ordered or ranked.
-    pub(super) fn is_sorted(&self, index: usize) -> bool
+    /// Stops unless it is ordered or ranked.
+    fn want_sorted(&self, rt: &impl Abort, index: usize)
         requires { Holds self.now.schema (C.shape self.now.rows) (C.plain self.now.rows) self.now.inverses.items }
-        ensures { IsTrue result → IsSorted (C.shape self.now.rows) index }
+        ensures { IsSorted (C.shape self.now.rows) index }
     {
-        index < self.schema.index_count() && self.schema.kind(index).is_sorted()
+        assert!(rt; is_sorted(&self.schema, index));
     }
 
-    /// Whether it is sequenced.
-    pub(super) fn is_sequenced(&self, index: usize) -> bool
+    /// Stops unless it is sequenced.
+    fn want_sequenced(&self, rt: &impl Abort, index: usize)
         requires { Holds self.now.schema (C.shape self.now.rows) (C.plain self.now.rows) self.now.inverses.items }
-        ensures { IsTrue result → IsSequenced (C.shape self.now.rows) index }
+        ensures { IsSequenced (C.shape self.now.rows) index }
     {
-        index < self.schema.index_count() && self.schema.kind(index).is_sequenced()
+        assert!(rt; is_sequenced(&self.schema, index));
     }
 
-    /// Whether a record may be placed there.
-    fn is_place(&self, before: Option<(usize, u64)>) -> bool
+    /// Stops unless it shows one list.
+    fn want_listed(&self, rt: &impl Abort, index: usize)
         requires { Holds self.now.schema (C.shape self.now.rows) (C.plain self.now.rows) self.now.inverses.items }
-        ensures { IsTrue result → IfSome before (λ at. IsSequenced (C.shape self.now.rows) at.0) }
+        ensures { ShowsOneList (C.shape self.now.rows) index }
     {
-        match before {
-            Some((index, _)) => self.is_sequenced(index),
-            None => true,
+        assert!(rt; is_listed(&self.schema, index));
+    }
+
+    /// Stops unless a record may be placed there.
+    fn want_place(&self, rt: &impl Abort, before: Option<(usize, u64)>)
+        requires { Holds self.now.schema (C.shape self.now.rows) (C.plain self.now.rows) self.now.inverses.items }
+        ensures { IfSome before (λ at. IsSequenced (C.shape self.now.rows) at.0) }
+    {
+        if let Some((index, _)) = before {
+            self.want_sequenced(rt, index);
         }
     }
 
-    /// Whether it shows one list.
-    pub(super) fn is_listed(&self, index: usize) -> bool
+    /// Stops unless values are a whole key of an index.
+    fn want_key(&self, rt: &impl Abort, index: usize, key: &[Value])
         requires { Holds self.now.schema (C.shape self.now.rows) (C.plain self.now.rows) self.now.inverses.items }
-        ensures { IsTrue result → ShowsOneList (C.shape self.now.rows) index }
+        ensures { WholeKey (C.shape self.now.rows) index key.now }
     {
-        index < self.schema.index_count() && self.schema.kind(index).shows_one_list()
+        assert!(rt; index < self.schema.index_count());
+        assert!(rt; self.schema.fits_key(index, key, true));
     }
 
-    /// Whether values are a whole key of an index.
-    pub(super) fn is_key(&self, index: usize, key: &[Value]) -> bool
+    /// Stops unless they are a key of it, or the first values of one.
+    fn want_prefix(&self, rt: &impl Abort, index: usize, key: &[Value])
         requires { Holds self.now.schema (C.shape self.now.rows) (C.plain self.now.rows) self.now.inverses.items }
-        ensures { IsTrue result → WholeKey (C.shape self.now.rows) index key.now }
+        ensures { KeyPrefix (C.shape self.now.rows) index key.now }
     {
-        index < self.schema.index_count() && self.schema.fits_key(index, key, true)
+        assert!(rt; index < self.schema.index_count());
+        assert!(rt; self.schema.fits_key(index, key, false));
     }
 
-    /// Whether they are a key of it, or the first values of one.
-    pub(super) fn is_prefix(&self, index: usize, key: &[Value]) -> bool
-        requires { Holds self.now.schema (C.shape self.now.rows) (C.plain self.now.rows) self.now.inverses.items }
-        ensures { IsTrue result → KeyPrefix (C.shape self.now.rows) index key.now }
+    /// Stops unless there is a record of this id.
+    fn want_record(&self, rt: &impl Abort, id: u64)
+        ensures { IsTrue (has_row (table_of (C.plain self.now.rows)) id) }
     {
-        index < self.schema.index_count() && self.schema.fits_key(index, key, false)
+        assert!(rt; self.has(id));
     }
 
     /// Whether there is a record of this id.
@@ -132,25 +141,25 @@ impl<C: Container> Undoable<C> {
         alloc: Global,
         row: Record,
         before: Option<(usize, u64)>,
-    ) -> Result<u64, Refusal>
+    ) -> Answer
         requires { Holds self.old.schema (C.shape self.old.rows) (C.plain self.old.rows) self.old.inverses.items }
         ensures { Holds self.new.schema (C.shape self.new.rows) (C.plain self.new.rows) self.new.inverses.items }
     {
         self.inverses.reserve(1)?;
         self.rows.keeps_rules();
         assert!(rt; self.fits(&row));
-        assert!(rt; self.is_place(before));
+        self.want_place(rt, before);
         match self.rows.insert(alloc, row, before) {
             Ok((id, inverse)) => {
                 self.inverses.push_back_reserved(inverse);
-                Ok(id)
+                Ok(Some(id))
             }
             Err((refusal, _)) => Err(refusal),
         }
     }
 
     /// Sets another record.
-    pub(super) fn replace(&mut self, rt: &impl Abort, id: u64, row: Record) -> Result<(), Refusal>
+    pub(super) fn replace(&mut self, rt: &impl Abort, id: u64, row: Record) -> Answer
         requires { Holds self.old.schema (C.shape self.old.rows) (C.plain self.old.rows) self.old.inverses.items }
         ensures { Holds self.new.schema (C.shape self.new.rows) (C.plain self.new.rows) self.new.inverses.items }
     {
@@ -160,7 +169,7 @@ impl<C: Container> Undoable<C> {
         match self.rows.replace(id, row) {
             Ok(inverse) => {
                 self.inverses.push_back_reserved(inverse);
-                Ok(())
+                Ok(None)
             }
             Err((refusal, _)) => Err(refusal),
         }
@@ -174,7 +183,7 @@ impl<C: Container> Undoable<C> {
         id: u64,
         edits: &[Edit],
         rollback: bool,
-    ) -> Result<(), Refusal>
+    ) -> Answer
         requires { Holds self.old.schema (C.shape self.old.rows) (C.plain self.old.rows) self.old.inverses.items }
         ensures { Holds self.new.schema (C.shape self.new.rows) (C.plain self.new.rows) self.new.inverses.items }
     {
@@ -187,7 +196,7 @@ impl<C: Container> Undoable<C> {
                 self.inverses.push_back_reserved(inverse);
                 match lost {
                     Some((index, id)) => Err(Refusal::Lost { index, id }),
-                    None => Ok(()),
+                    None => Ok(None),
                 }
             }
             Err(refusal) => Err(refusal),
@@ -203,7 +212,7 @@ impl<C: Container> Undoable<C> {
         column: usize,
         n: i64,
         rollback: bool,
-    ) -> Result<(), Refusal>
+    ) -> Answer
         requires { Holds self.old.schema (C.shape self.old.rows) (C.plain self.old.rows) self.old.inverses.items }
         ensures { Holds self.new.schema (C.shape self.new.rows) (C.plain self.new.rows) self.new.inverses.items }
     {
@@ -211,7 +220,7 @@ impl<C: Container> Undoable<C> {
     }
 
     /// Erases a record.
-    pub(super) fn erase(&mut self, id: u64) -> Result<(), Refusal>
+    pub(super) fn erase(&mut self, id: u64) -> Answer
         requires { Holds self.old.schema (C.shape self.old.rows) (C.plain self.old.rows) self.old.inverses.items }
         ensures { Holds self.new.schema (C.shape self.new.rows) (C.plain self.new.rows) self.new.inverses.items }
     {
@@ -220,7 +229,7 @@ impl<C: Container> Undoable<C> {
         match self.rows.erase(id) {
             Ok(inverse) => {
                 self.inverses.push_back_reserved(inverse);
-                Ok(())
+                Ok(None)
             }
             Err(refusal) => Err(refusal),
         }
@@ -233,17 +242,17 @@ impl<C: Container> Undoable<C> {
         index: usize,
         id: u64,
         before: Option<u64>,
-    ) -> Result<(), Refusal>
+    ) -> Answer
         requires { Holds self.old.schema (C.shape self.old.rows) (C.plain self.old.rows) self.old.inverses.items }
         ensures { Holds self.new.schema (C.shape self.new.rows) (C.plain self.new.rows) self.new.inverses.items }
     {
         self.inverses.reserve(1)?;
         self.rows.keeps_rules();
-        assert!(rt; self.is_sequenced(index));
+        self.want_sequenced(rt, index);
         match self.rows.relocate(index, id, before) {
             Ok(inverse) => {
                 self.inverses.push_back_reserved(inverse);
-                Ok(())
+                Ok(None)
             }
             Err(refusal) => Err(refusal),
         }
@@ -281,5 +290,131 @@ impl<C: Container> Undoable<C> {
             }
             None => false,
         }
+    }
+
+    pub(super) fn first(&self, rt: &impl Abort, index: usize) -> Option<u64>
+        requires { Holds self.now.schema (C.shape self.now.rows) (C.plain self.now.rows) self.now.inverses.items }
+    {
+        self.want_listed(rt, index);
+        self.rows.first(index)
+    }
+
+    pub(super) fn last(&self, rt: &impl Abort, index: usize) -> Option<u64>
+        requires { Holds self.now.schema (C.shape self.now.rows) (C.plain self.now.rows) self.now.inverses.items }
+    {
+        self.want_listed(rt, index);
+        self.rows.last(index)
+    }
+
+    pub(super) fn after(&self, rt: &impl Abort, index: usize, id: u64) -> Option<u64>
+        requires { Holds self.now.schema (C.shape self.now.rows) (C.plain self.now.rows) self.now.inverses.items }
+    {
+        self.want_listed(rt, index);
+        self.want_record(rt, id);
+        self.rows.after(index, id)
+    }
+
+    pub(super) fn before(&self, rt: &impl Abort, index: usize, id: u64) -> Option<u64>
+        requires { Holds self.now.schema (C.shape self.now.rows) (C.plain self.now.rows) self.now.inverses.items }
+    {
+        self.want_listed(rt, index);
+        self.want_record(rt, id);
+        self.rows.before(index, id)
+    }
+
+    pub(super) fn walk(
+        &self,
+        rt: &impl Abort,
+        alloc: Global,
+        index: usize,
+        reverse: bool,
+        first: u64,
+        limit: usize,
+    ) -> Result<Vec<(u64, &Record)>, AllocError>
+        requires { Holds self.now.schema (C.shape self.now.rows) (C.plain self.now.rows) self.now.inverses.items }
+    {
+        self.want_listed(rt, index);
+        self.want_record(rt, first);
+        self.rows
+            .walk(alloc, index, reverse, first, limit, &mut Steps::new())
+    }
+
+    pub(super) fn find(&self, rt: &impl Abort, index: usize, key: &[Value]) -> Option<u64>
+        requires { Holds self.now.schema (C.shape self.now.rows) (C.plain self.now.rows) self.now.inverses.items }
+    {
+        self.want_keyed(rt, index);
+        self.want_key(rt, index, key);
+        self.rows.find(index, key)
+    }
+
+    pub(super) fn count(&self, rt: &impl Abort, index: usize, key: &[Value]) -> u64
+        requires { Holds self.now.schema (C.shape self.now.rows) (C.plain self.now.rows) self.now.inverses.items }
+    {
+        self.want_keyed(rt, index);
+        self.want_key(rt, index, key);
+        self.rows.count(index, key)
+    }
+
+    pub(super) fn first_of(&self, rt: &impl Abort, index: usize, key: &[Value]) -> Option<u64>
+        requires { Holds self.now.schema (C.shape self.now.rows) (C.plain self.now.rows) self.now.inverses.items }
+    {
+        self.want_hashed(rt, index);
+        self.want_key(rt, index, key);
+        self.rows.first_of(index, key)
+    }
+
+    pub(super) fn next_of(&self, rt: &impl Abort, index: usize, id: u64) -> Option<u64>
+        requires { Holds self.now.schema (C.shape self.now.rows) (C.plain self.now.rows) self.now.inverses.items }
+    {
+        self.want_hashed(rt, index);
+        self.want_record(rt, id);
+        self.rows.next_of(index, id)
+    }
+
+    pub(super) fn nth(&self, rt: &impl Abort, index: usize, n: u64) -> Option<u64>
+        requires { Holds self.now.schema (C.shape self.now.rows) (C.plain self.now.rows) self.now.inverses.items }
+    {
+        self.want_sorted(rt, index);
+        self.rows.nth(index, n)
+    }
+
+    pub(super) fn rank_of(&self, rt: &impl Abort, index: usize, id: u64) -> u64
+        requires { Holds self.now.schema (C.shape self.now.rows) (C.plain self.now.rows) self.now.inverses.items }
+    {
+        self.want_sorted(rt, index);
+        self.want_record(rt, id);
+        self.rows.rank_of(index, id, &mut Steps::new())
+    }
+
+    pub(super) fn lower(&self, rt: &impl Abort, index: usize, key: &[Value]) -> Option<u64>
+        requires { Holds self.now.schema (C.shape self.now.rows) (C.plain self.now.rows) self.now.inverses.items }
+    {
+        self.want_sorted(rt, index);
+        self.want_prefix(rt, index, key);
+        self.rows.lower(index, key, &mut Steps::new())
+    }
+
+    pub(super) fn upper(&self, rt: &impl Abort, index: usize, key: &[Value]) -> Option<u64>
+        requires { Holds self.now.schema (C.shape self.now.rows) (C.plain self.now.rows) self.now.inverses.items }
+    {
+        self.want_sorted(rt, index);
+        self.want_prefix(rt, index, key);
+        self.rows.upper(index, key, &mut Steps::new())
+    }
+
+    pub(super) fn lower_rank(&self, rt: &impl Abort, index: usize, key: &[Value]) -> u64
+        requires { Holds self.now.schema (C.shape self.now.rows) (C.plain self.now.rows) self.now.inverses.items }
+    {
+        self.want_sorted(rt, index);
+        self.want_prefix(rt, index, key);
+        self.rows.lower_rank(index, key, &mut Steps::new())
+    }
+
+    pub(super) fn upper_rank(&self, rt: &impl Abort, index: usize, key: &[Value]) -> u64
+        requires { Holds self.now.schema (C.shape self.now.rows) (C.plain self.now.rows) self.now.inverses.items }
+    {
+        self.want_sorted(rt, index);
+        self.want_prefix(rt, index, key);
+        self.rows.upper_rank(index, key, &mut Steps::new())
     }
 }

@@ -2,6 +2,7 @@
 ghost use Rattle.mi_changes.specs.Undone.{Holds};
 
 use super::container::BY_ID;
+use super::fitting::{is_hashed, is_keyed, is_listed, is_sorted};
 use super::reference::Reference;
 use super::undoable::Undoable;
 use mi_catalog::Schema;
@@ -42,7 +43,71 @@ fn key_of(
     Ok(key)
 }
 
-/// The rows that an index shows from a record on, and who stands beside each.
+/// Asserts that both answer the same record in an index, or none.
+fn assert_id(rt: &impl Abort, got: Option<u64>, want: Option<u64>, index: usize) {
+    assert_eq!(rt; got, want, "index {index}");
+}
+
+/// Asserts that a record is the same in both.
+fn assert_record(rt: &impl Abort, id: u64, row: &Record, other: &Record) {
+    assert!(rt; is_same(row, other), "record {id}: {row:?} and {other:?}");
+}
+
+/// Asserts that both answer the same record to a key, or none.
+fn assert_found(rt: &impl Abort, got: Option<u64>, want: Option<u64>, key: &[Value]) {
+    assert_eq!(rt; got, want, "{key:?}");
+}
+
+/// Asserts that both answer the same number to a key.
+fn assert_counted(rt: &impl Abort, got: u64, want: u64, key: &[Value]) {
+    assert_eq!(rt; got, want, "{key:?}");
+}
+
+/// Who stands beside a record.
+fn compare_neighbours<C: Container>(
+    rt: &impl Abort,
+    undoable: &Undoable<C>,
+    reference: &Reference,
+    index: usize,
+    id: u64,
+)
+    requires { Holds undoable.now.schema (C.shape undoable.now.rows) (C.plain undoable.now.rows) undoable.now.inverses.items }
+{
+    assert_id(
+        rt,
+        undoable.after(rt, index, id),
+        reference.after(rt, index, id),
+        index,
+    );
+    assert_id(
+        rt,
+        undoable.before(rt, index, id),
+        reference.before(rt, index, id),
+        index,
+    );
+}
+
+/// As many rows as there are, the same of both, and who stands beside each.
+fn compare_rows<C: Container>(
+    rt: &impl Abort,
+    undoable: &Undoable<C>,
+    reference: &Reference,
+    index: usize,
+    got: &[(u64, &Record)],
+    want: &[(u64, &Record)],
+)
+    requires { Holds undoable.now.schema (C.shape undoable.now.rows) (C.plain undoable.now.rows) undoable.now.inverses.items }
+{
+    assert_eq!(rt; got.len() as u64, undoable.rows.size(), "index {index}");
+    assert_eq!(rt; got.len(), want.len(), "index {index}");
+    for ((id, row), (want, other)) in got.iter().zip(want.iter()) {
+        assert_id(rt, Some(*id), Some(*want), index);
+        assert_record(rt, *id, row, other);
+        compare_neighbours(rt, undoable, reference, index, *id);
+    }
+}
+
+/// The rows that an index shows from a record on.
 fn compare_walk<C: Container>(
     rt: &impl Abort,
     alloc: Global,
@@ -54,20 +119,16 @@ fn compare_walk<C: Container>(
 ) -> Result<(), Fail>
     requires { Holds undoable.now.schema (C.shape undoable.now.rows) (C.plain undoable.now.rows) undoable.now.inverses.items }
 {
-    assert!(rt; undoable.is_listed(index));
-    assert!(rt; undoable.has(first));
-    let rows = &undoable.rows;
-    let got = rows.walk(alloc, index, reverse, first, ALL, &mut Steps::new())?;
+    let got = undoable.walk(rt, alloc, index, reverse, first, ALL)?;
     let want = reference.walk(rt, alloc, index, reverse, first, ALL)?;
-    assert_eq!(rt; got.len() as u64, rows.size(), "index {index}");
-    assert_eq!(rt; got.len(), want.len(), "index {index}");
-    for ((id, row), (want, other)) in got.iter().zip(want.iter()) {
-        assert_eq!(rt; id, want, "index {index}");
-        assert!(rt; is_same(row, other), "record {id}: {row:?} and {other:?}");
-        assert!(rt; undoable.has(*id));
-        assert_eq!(rt; rows.after(index, *id), reference.after(rt, index, *id));
-        assert_eq!(rt; rows.before(index, *id), reference.before(rt, index, *id));
-    }
+    compare_rows(
+        rt,
+        undoable,
+        reference,
+        index,
+        got.as_slice(),
+        want.as_slice(),
+    );
     Ok(())
 }
 
@@ -81,11 +142,10 @@ fn compare_list<C: Container>(
 ) -> Result<(), Fail>
     requires { Holds undoable.now.schema (C.shape undoable.now.rows) (C.plain undoable.now.rows) undoable.now.inverses.items }
 {
-    assert!(rt; undoable.is_listed(index));
-    let first = undoable.rows.first(index);
-    let last = undoable.rows.last(index);
-    assert_eq!(rt; first, reference.first(rt, index), "index {index}");
-    assert_eq!(rt; last, reference.last(rt, index), "index {index}");
+    let first = undoable.first(rt, index);
+    let last = undoable.last(rt, index);
+    assert_id(rt, first, reference.first(rt, index), index);
+    assert_id(rt, last, reference.last(rt, index), index);
     if let (Some(first), Some(last)) = (first, last) {
         compare_walk(rt, alloc, undoable, reference, index, false, first)?;
         compare_walk(rt, alloc, undoable, reference, index, true, last)?;
@@ -93,7 +153,7 @@ fn compare_list<C: Container>(
     Ok(())
 }
 
-/// The bounds and ranks of a key, or of the first values of one.
+/// The bounds of a key, or of the first values of one.
 fn compare_bounds<C: Container>(
     rt: &impl Abort,
     undoable: &Undoable<C>,
@@ -103,17 +163,42 @@ fn compare_bounds<C: Container>(
 )
     requires { Holds undoable.now.schema (C.shape undoable.now.rows) (C.plain undoable.now.rows) undoable.now.inverses.items }
 {
-    let rows = &undoable.rows;
-    assert!(rt; undoable.is_sorted(index));
-    assert!(rt; undoable.is_prefix(index, key));
-    let lower = rows.lower(index, key, &mut Steps::new());
-    let upper = rows.upper(index, key, &mut Steps::new());
-    assert_eq!(rt; lower, reference.lower(rt, index, key), "{key:?}");
-    assert_eq!(rt; upper, reference.upper(rt, index, key), "{key:?}");
-    let lower = rows.lower_rank(index, key, &mut Steps::new());
-    let upper = rows.upper_rank(index, key, &mut Steps::new());
-    assert_eq!(rt; lower, reference.lower_rank(rt, index, key), "{key:?}");
-    assert_eq!(rt; upper, reference.upper_rank(rt, index, key), "{key:?}");
+    let (lower, upper) = (
+        undoable.lower(rt, index, key),
+        undoable.upper(rt, index, key),
+    );
+    assert_found(rt, lower, reference.lower(rt, index, key), key);
+    assert_found(rt, upper, reference.upper(rt, index, key), key);
+}
+
+/// Their ranks.
+fn compare_bound_ranks<C: Container>(
+    rt: &impl Abort,
+    undoable: &Undoable<C>,
+    reference: &Reference,
+    index: usize,
+    key: &[Value],
+)
+    requires { Holds undoable.now.schema (C.shape undoable.now.rows) (C.plain undoable.now.rows) undoable.now.inverses.items }
+{
+    let lower = undoable.lower_rank(rt, index, key);
+    let upper = undoable.upper_rank(rt, index, key);
+    assert_counted(rt, lower, reference.lower_rank(rt, index, key), key);
+    assert_counted(rt, upper, reference.upper_rank(rt, index, key), key);
+}
+
+/// All that a sorted index shows of a key, or of the first values of one.
+fn compare_prefix<C: Container>(
+    rt: &impl Abort,
+    undoable: &Undoable<C>,
+    reference: &Reference,
+    index: usize,
+    key: &[Value],
+)
+    requires { Holds undoable.now.schema (C.shape undoable.now.rows) (C.plain undoable.now.rows) undoable.now.inverses.items }
+{
+    compare_bounds(rt, undoable, reference, index, key);
+    compare_bound_ranks(rt, undoable, reference, index, key);
 }
 
 /// The ids of a key in a hashed index.
@@ -126,17 +211,14 @@ fn compare_bucket<C: Container>(
 )
     requires { Holds undoable.now.schema (C.shape undoable.now.rows) (C.plain undoable.now.rows) undoable.now.inverses.items }
 {
-    assert!(rt; undoable.is_hashed(index));
-    assert!(rt; undoable.is_key(index, key));
-    let mut next = undoable.rows.first_of(index, key);
-    assert_eq!(rt; next, reference.first_of(rt, index, key), "{key:?}");
+    let mut next = undoable.first_of(rt, index, key);
+    assert_found(rt, next, reference.first_of(rt, index, key), key);
     for _ in 0..ALL {
         let Some(id) = next else {
             break;
         };
-        assert!(rt; undoable.has(id));
-        next = undoable.rows.next_of(index, id);
-        assert_eq!(rt; next, reference.next_of(rt, index, id), "{key:?}");
+        next = undoable.next_of(rt, index, id);
+        assert_found(rt, next, reference.next_of(rt, index, id), key);
     }
 }
 
@@ -150,26 +232,25 @@ fn compare_key<C: Container>(
 )
     requires { Holds undoable.now.schema (C.shape undoable.now.rows) (C.plain undoable.now.rows) undoable.now.inverses.items }
 {
-    let rows = &undoable.rows;
-    assert!(rt; undoable.is_keyed(index));
-    assert!(rt; undoable.is_key(index, key));
-    assert_eq!(rt;
-        rows.find(index, key),
+    assert_found(
+        rt,
+        undoable.find(rt, index, key),
         reference.find(rt, index, key),
-        "{key:?}"
+        key,
     );
-    assert_eq!(rt;
-        rows.count(index, key),
+    assert_counted(
+        rt,
+        undoable.count(rt, index, key),
         reference.count(rt, index, key),
-        "{key:?}"
+        key,
     );
-    if undoable.is_sorted(index) {
-        compare_bounds(rt, undoable, reference, index, key);
+    if is_sorted(&undoable.schema, index) {
+        compare_prefix(rt, undoable, reference, index, key);
         if let Some((first, _)) = key.split_first() {
-            compare_bounds(rt, undoable, reference, index, std::slice::from_ref(first));
+            compare_prefix(rt, undoable, reference, index, std::slice::from_ref(first));
         }
     }
-    if undoable.is_hashed(index) {
+    if is_hashed(&undoable.schema, index) {
         compare_bucket(rt, undoable, reference, index, key);
     }
 }
@@ -184,9 +265,8 @@ fn compare_keys<C: Container>(
 ) -> Result<(), Fail>
     requires { Holds undoable.now.schema (C.shape undoable.now.rows) (C.plain undoable.now.rows) undoable.now.inverses.items }
 {
-    assert!(rt; undoable.is_sorted(BY_ID));
     for n in 0..undoable.rows.size() {
-        if let Some(id) = undoable.rows.nth(BY_ID, n)
+        if let Some(id) = undoable.nth(rt, BY_ID, n)
             && let Some(row) = undoable.rows.get(id, &mut Steps::new())
         {
             let key = key_of(alloc, &undoable.schema, index, id, row)?;
@@ -205,13 +285,11 @@ fn compare_ranks<C: Container>(
 )
     requires { Holds undoable.now.schema (C.shape undoable.now.rows) (C.plain undoable.now.rows) undoable.now.inverses.items }
 {
-    assert!(rt; undoable.is_sorted(index));
     for n in 0..=undoable.rows.size() {
-        let found = undoable.rows.nth(index, n);
-        assert_eq!(rt; found, reference.nth(rt, index, n), "index {index}");
+        let found = undoable.nth(rt, index, n);
+        assert_id(rt, found, reference.nth(rt, index, n), index);
         if let Some(id) = found {
-            assert!(rt; undoable.has(id));
-            let rank = undoable.rows.rank_of(index, id, &mut Steps::new());
+            let rank = undoable.rank_of(rt, index, id);
             assert_eq!(rt; rank, reference.rank_of(rt, index, id), "index {index}");
         }
     }
@@ -229,13 +307,13 @@ pub(super) fn compare<C: Container>(
     assert_eq!(rt; undoable.rows.size(), reference.size(rt));
     assert_eq!(rt; undoable.depth(), reference.depth());
     for index in 0..undoable.schema.index_count() {
-        if undoable.is_listed(index) {
+        if is_listed(&undoable.schema, index) {
             compare_list(rt, alloc, undoable, reference, index)?;
         }
-        if undoable.is_sorted(index) {
+        if is_sorted(&undoable.schema, index) {
             compare_ranks(rt, undoable, reference, index);
         }
-        if undoable.is_keyed(index) {
+        if is_keyed(&undoable.schema, index) {
             compare_keys(rt, alloc, undoable, reference, index)?;
         }
     }

@@ -243,43 +243,70 @@ fn is_named(read: &Json, cmd: &str, table: Option<&Name<'_>>, index: Option<&Nam
         && is_name(read.get("index"), index)
 }
 
+/// Whether it has an index and a key.
 fn is_keyed(
     alloc: Global,
     read: &Json,
     cmd: &str,
-    table: Option<&Name<'_>>,
-    index: &Name<'_>,
+    table: Option<Name<'_>>,
+    index: Name<'_>,
     key: Array<'_>,
 ) -> Result<bool, AllocError> {
-    Ok(is_named(read, cmd, table, Some(index)) && is_array(alloc, read.get("key"), key)?)
+    Ok(is_named(read, cmd, table.as_ref(), Some(&index)) && is_array(alloc, read.get("key"), key)?)
+}
+
+/// Whether it has an id, and no index.
+fn is_of_id(read: &Json, cmd: &str, table: Option<Name<'_>>, id: u64) -> bool {
+    is_named(read, cmd, table.as_ref(), None) && is_number(read.get("id"), id)
+}
+
+/// Whether it has an index and a number of this name.
+fn is_numbered(
+    read: &Json,
+    cmd: &str,
+    table: Option<Name<'_>>,
+    index: Name<'_>,
+    name: &str,
+    n: u64,
+) -> bool {
+    is_named(read, cmd, table.as_ref(), Some(&index)) && is_number(read.get(name), n)
+}
+
+fn is_range(
+    alloc: Global,
+    read: &Json,
+    table: Option<Name<'_>>,
+    index: Name<'_>,
+    lower: End<'_>,
+    upper: End<'_>,
+) -> Result<bool, AllocError> {
+    Ok(
+        is_named(read, "range", table.as_ref(), Some(&index))
+            && is_end(alloc, read.get("lower"), "ge", "gt", lower)?
+            && is_end(alloc, read.get("upper"), "le", "lt", upper)?,
+    )
+}
+
+fn is_list(
+    read: &Json,
+    table: Option<Name<'_>>,
+    index: Name<'_>,
+    after: Option<u64>,
+    limit: usize,
+) -> bool {
+    is_named(read, "list", table.as_ref(), Some(&index))
+        && is_optional(read.get("after"), after)
+        && is_limit(read.get("limit"), limit)
 }
 
 /// Whether a look-up is that of the members that `serde_json` read.
 fn is_look_up(alloc: Global, read: &Json, request: Request<'_>) -> Result<bool, AllocError> {
     match request {
         Request::Revision => Ok(is_named(read, "revision", None, None)),
-        Request::Get { table, id } => Ok(
-            is_named(read, "get", table.as_ref(), None) && is_number(read.get("id"), id),
-        ),
-        Request::Find { table, index, key } => is_keyed(
-            alloc,
-            read,
-            "find",
-            table.as_ref(),
-            &index,
-            key,
-        ),
-        Request::Nth { table, index, n } => Ok(
-            is_named(read, "nth", table.as_ref(), Some(&index)) && is_number(read.get("n"), n),
-        ),
-        Request::Count { table, index, key } => is_keyed(
-            alloc,
-            read,
-            "count",
-            table.as_ref(),
-            &index,
-            key,
-        ),
+        Request::Get { table, id } => Ok(is_of_id(read, "get", table, id)),
+        Request::Find { table, index, key } => is_keyed(alloc, read, "find", table, index, key),
+        Request::Nth { table, index, n } => Ok(is_numbered(read, "nth", table, index, "n", n)),
+        Request::Count { table, index, key } => is_keyed(alloc, read, "count", table, index, key),
         Request::Range {
             table,
             index,
@@ -288,39 +315,31 @@ fn is_look_up(alloc: Global, read: &Json, request: Request<'_>) -> Result<bool, 
             reverse,
             limit,
         } => Ok(
-            is_named(read, "range", table.as_ref(), Some(&index))
-                && is_end(alloc, read.get("lower"), "ge", "gt", lower)?
-                && is_end(alloc, read.get("upper"), "le", "lt", upper)?
-                && is_flag(read.get("reverse"), reverse)
-                && is_limit(read.get("limit"), limit),
+            is_flag(read.get("reverse"), reverse)
+                && is_limit(read.get("limit"), limit)
+                && is_range(alloc, read, table, index, lower, upper)?,
         ),
         Request::List {
             table,
             index,
             after,
             limit,
-        } => Ok(
-            is_named(read, "list", table.as_ref(), Some(&index))
-                && is_optional(read.get("after"), after)
-                && is_limit(read.get("limit"), limit),
-        ),
-        Request::Rank { table, index, id } => Ok(
-            is_named(read, "rank", table.as_ref(), Some(&index)) && is_number(read.get("id"), id),
-        ),
+        } => Ok(is_list(read, table, index, after, limit)),
+        Request::Rank { table, index, id } => Ok(is_numbered(read, "rank", table, index, "id", id)),
         Request::LowerRank { table, index, key } => is_keyed(
             alloc,
             read,
             "lower_rank",
-            table.as_ref(),
-            &index,
+            table,
+            index,
             key,
         ),
         Request::UpperRank { table, index, key } => is_keyed(
             alloc,
             read,
             "upper_rank",
-            table.as_ref(),
-            &index,
+            table,
+            index,
             key,
         ),
         Request::Size { table } => Ok(is_named(read, "size", table.as_ref(), None)),
@@ -348,19 +367,44 @@ fn is_step(alloc: Global, read: &Json, request: Request<'_>) -> Result<bool, All
     }
 }
 
+fn is_insert(
+    alloc: Global,
+    read: &Json,
+    table: Option<Name<'_>>,
+    row: Object<'_>,
+    before: Option<Place<'_>>,
+) -> Result<bool, AllocError> {
+    Ok(
+        is_named(read, "insert", table.as_ref(), None)
+            && is_place(read.get("before"), before.as_ref())
+            && is_object(alloc, read.get("row"), &row)?,
+    )
+}
+
+fn is_replace(
+    alloc: Global,
+    read: &Json,
+    table: Option<Name<'_>>,
+    id: u64,
+    row: Object<'_>,
+) -> Result<bool, AllocError> {
+    Ok(is_of_id(read, "replace", table, id) && is_object(alloc, read.get("row"), &row)?)
+}
+
+fn is_modify(
+    alloc: Global,
+    read: &Json,
+    set: Object<'_>,
+    add: Object<'_>,
+) -> Result<bool, AllocError> {
+    Ok(is_object(alloc, read.get("set"), &set)? && is_object(alloc, read.get("add"), &add)?)
+}
+
 /// Whether a request is that of the members that `serde_json` read.
 fn is_request(alloc: Global, read: &Json, request: Request<'_>) -> Result<bool, AllocError> {
     match request {
-        Request::Insert { table, row, before } => Ok(
-            is_named(read, "insert", table.as_ref(), None)
-                && is_object(alloc, read.get("row"), &row)?
-                && is_place(read.get("before"), before.as_ref()),
-        ),
-        Request::Replace { table, id, row } => Ok(
-            is_named(read, "replace", table.as_ref(), None)
-                && is_number(read.get("id"), id)
-                && is_object(alloc, read.get("row"), &row)?,
-        ),
+        Request::Insert { table, row, before } => is_insert(alloc, read, table, row, before),
+        Request::Replace { table, id, row } => is_replace(alloc, read, table, id, row),
         Request::Modify {
             table,
             id,
@@ -368,21 +412,17 @@ fn is_request(alloc: Global, read: &Json, request: Request<'_>) -> Result<bool, 
             add,
             rollback,
         } => Ok(
-            is_named(read, "modify", table.as_ref(), None)
-                && is_number(read.get("id"), id)
-                && is_object(alloc, read.get("set"), &set)?
-                && is_object(alloc, read.get("add"), &add)?
-                && is_flag(read.get("rollback"), rollback),
+            is_of_id(read, "modify", table, id)
+                && is_flag(read.get("rollback"), rollback)
+                && is_modify(alloc, read, set, add)?,
         ),
-        Request::Erase { table, id } => Ok(
-            is_named(read, "erase", table.as_ref(), None) && is_number(read.get("id"), id),
-        ),
+        Request::Erase { table, id } => Ok(is_of_id(read, "erase", table, id)),
         Request::EraseKey { table, index, key } => is_keyed(
             alloc,
             read,
             "erase_key",
-            table.as_ref(),
-            &index,
+            table,
+            index,
             key,
         ),
         Request::Relocate {
@@ -391,8 +431,7 @@ fn is_request(alloc: Global, read: &Json, request: Request<'_>) -> Result<bool, 
             id,
             before,
         } => Ok(
-            is_named(read, "relocate", table.as_ref(), Some(&index))
-                && is_number(read.get("id"), id)
+            is_numbered(read, "relocate", table, index, "id", id)
                 && is_optional(read.get("before"), before),
         ),
         other => is_step(alloc, read, other),

@@ -127,9 +127,9 @@ fn command_of(alloc: Global, line: &[u8], catalog: &Catalog) -> Result<Command, 
 
 /// The refusal's word, or `ok`.
 fn verdict(alloc: Global, line: &[u8], catalog: &Catalog) -> &'static str {
-    match command_of(alloc, line, catalog) {
-        Ok(_command) => "ok",
-        Err(refusal) => refusal.word(),
+    match command_of(alloc, line, catalog).err() {
+        Some(refusal) => refusal.word(),
+        None => "ok",
     }
 }
 

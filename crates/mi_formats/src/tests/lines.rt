@@ -1,5 +1,6 @@
 //! Worked lines, over no catalog.
 use mi_request::LineReader;
+use mi_value::Refusal;
 use std::alloc::{AllocError, Global};
 use std::test::Fail;
 
@@ -42,10 +43,15 @@ form {"cmd":"get","table":0,"id":0}
 form {"cmd":"insert"}
 "#;
 
+/// Why a line is refused, if it is.
+fn refusal_of(alloc: Global, line: &[u8]) -> Option<Refusal> {
+    LineReader::new(alloc).parse(line).err()
+}
+
 fn verdict(alloc: Global, line: &[u8]) -> &'static str {
-    match LineReader::new(alloc).parse(line) {
-        Ok(_request) => "ok",
-        Err(refusal) => refusal.word(),
+    match refusal_of(alloc, line) {
+        Some(refusal) => refusal.word(),
+        None => "ok",
     }
 }
 

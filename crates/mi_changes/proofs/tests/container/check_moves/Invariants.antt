@@ -2,8 +2,5 @@
 use Rattle.mi_changes.specs.Undone.{Holds}
 use Rattle.mi_changes.proofs.tests.container.check_moves.Given as goal
 
-abbrev pub invariant-loop-id : goal.invariant-loop-id
-invariant-loop-id g l = Holds l.undoable.schema (g.C.Container.shape l.undoable.rows) (g.C.Container.plain l.undoable.rows) l.undoable.inverses.items
-
-abbrev pub invariant-loop : goal.invariant-loop
-invariant-loop g l = Holds l.undoable.schema (g.C.Container.shape l.undoable.rows) (g.C.Container.plain l.undoable.rows) l.undoable.inverses.items
+abbrev pub invariant-loop-want : goal.invariant-loop-want
+invariant-loop-want g l = Holds l.undoable.schema (g.C.Container.shape l.undoable.rows) (g.C.Container.plain l.undoable.rows) l.undoable.inverses.items

@@ -2,5 +2,5 @@
 use Rattle.mi_changes.specs.Undone.{Holds}
 use Rattle.mi_changes.proofs.tests.container.fill.Given as goal
 
-abbrev pub invariant-loop-id : goal.invariant-loop-id
-invariant-loop-id g l = Holds l.undoable.schema (g.C.Container.shape l.undoable.rows) (g.C.Container.plain l.undoable.rows) l.undoable.inverses.items
+abbrev pub invariant-loop-row : goal.invariant-loop-row
+invariant-loop-row g l = Holds l.undoable.schema (g.C.Container.shape l.undoable.rows) (g.C.Container.plain l.undoable.rows) l.undoable.inverses.items
