@@ -11,7 +11,7 @@ use mi_sessions::Sessions;
 use std::io::Write;
 
 /// What happens to one connection, by its number: it comes, a piece of its bytes comes, its bytes end, or it breaks off.
-#[derive(Debug, Drop)]
+#[derive(Drop)]
 pub enum Event {
     Attach(u64),
     Piece(u64, Vec<u8>),

@@ -10,7 +10,7 @@ use std::io;
 use std::io::Read;
 
 /// Whether a read of some stream has failed, and whether a write or a flush of some stream has.
-#[derive(Clone, Copy, Debug, PartialEq, Eq, Drop)]
+#[derive(Clone, Copy, Drop)]
 pub struct IoErrors {
     read: bool,
     write: bool,

@@ -10,7 +10,7 @@ use mi_protocol::ReplyText;
 use std::io::Write;
 
 /// A write answered an error or 0.
-#[derive(Clone, Copy, Debug, PartialEq, Eq, Drop)]
+#[derive(Drop)]
 pub struct WriteFault;
 
 /// Writes all the bytes, or a front of them and then fails.

@@ -159,6 +159,12 @@ serves_come row n s t is h =
       differ = differ_range 1 n;
     }))
 
+-- some client has come
+pub some_come : {S : Type 0} (row : List (Client S)) (n : ℕ) → client_ids row ≡ range_with_len 1 n → 1 ≤ n → 0 < length row
+some_come [] zero is some = absurd (omega arith)
+some_come [] (suc n) is some = absurd (cc)
+some_come (c ∷ row) n is some = omega arith
+
 -- turns of the clients that have come
 pub turns_of_come : (row : List ℕ) (n : ℕ) (s t new : HubState) (turns : List Turn) (left : List ℕ)
     → row ≡ range_with_len 1 n → t ≡ with_clients n s → ByTurns row t turns left new

@@ -7,7 +7,7 @@ use mi_schema::SchemaFault;
 use thiserror::Error;
 
 /// Why the program ends before its work is done. The text is its line on standard error.
-#[derive(Clone, Copy, Debug, PartialEq, Eq, Error)]
+#[derive(Clone, Copy, Debug, Error)]
 pub enum Failure {
     /// The schema's file can't be read, or has more than 65,536 bytes.
     #[error("schema: file")]

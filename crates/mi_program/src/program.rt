@@ -22,7 +22,7 @@ use crate::serve::serve;
 use crate::source::catalog;
 use crate::words::{Options, WordsFault, read_words};
 use mi_database::Linked;
-use mi_hub::{Hub, IoErrors, Watched};
+use mi_hub::{Hub, IoErrors, ServeFault, Watched};
 use mi_multi::MultiIndex;
 use mi_schema::Catalog;
 use mi_sessions::Sessions;
@@ -51,6 +51,16 @@ fn listen_address(port: u16) -> (Ipv4Addr, u16)
     (Ipv4Addr::LOCALHOST, port)
 }
 
+/// What serving answered, its fault as a failure.
+fn answered(served: Result<(), ServeFault>) -> Result<(), Failure>
+    ensures { IfErr result (λ failure. status_of failure ≡ 4) }
+{
+    match served {
+        Ok(()) => Ok(()),
+        Err(fault) => Err(Failure::of_serving(fault)),
+    }
+}
+
 /// Serves connections to a port over a database.
 fn serve_port<R: Net + AllocGlobal, D: Sessions + Drop>(
     rt: &R,
@@ -66,10 +76,8 @@ fn serve_port<R: Net + AllocGlobal, D: Sessions + Drop>(
     };
     let mut hub = Hub::new(rt.alloc(), database);
     let mut errors = IoErrors::none();
-    match serve_listener(rt.alloc(), &mut hub, &listener, clients, &mut errors) {
-        Ok(()) => Ok(()),
-        Err(fault) => Err(Failure::of_serving(fault)),
-    }
+    let served = serve_listener(rt.alloc(), &mut hub, &listener, clients, &mut errors);
+    answered(served)
 }
 
 /// Writes the line `ok` of a schema that is checked.

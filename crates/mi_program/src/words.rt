@@ -17,7 +17,7 @@ use std::alloc::{AllocError, Global};
 use std::convert::AsStr;
 
 /// What the program is asked to do.
-#[derive(Debug, Drop)]
+#[derive(Drop)]
 pub struct Options {
     /// The file that the schema is read from; without one it is the built-in schema.
     pub schema: Option<String>,
@@ -28,7 +28,7 @@ pub struct Options {
 }
 
 /// Why words give no options.
-#[derive(Debug, Drop)]
+#[derive(Drop)]
 pub enum WordsFault {
     /// The words aren't the program's options, or ask for help. The error has the text for the user.
     Parse(clap::Error),

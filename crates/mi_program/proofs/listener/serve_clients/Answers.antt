@@ -1,8 +1,17 @@
-use Rattle.std.proofs.Common.{Err, ap, sym, ◌∙◌, inl, inr}
+use Rattle.std.proofs.Common.{Err, ap, refl, sym, ◌∙◌, inl, inr}
 use Rattle.mi_hub.proofs.PieceLemmas.{same_err}
 use Rattle.mi_program.specs.Turns.{client_ids}
-use Rattle.mi_program.proofs.TurnLemmas.{serves_come, turns_of_come, accept_turns, memory_turns, not_accept, not_memory}
+use Rattle.mi_program.proofs.TurnLemmas.{some_come, serves_come, turns_of_come, accept_turns, memory_turns, not_accept, not_memory}
 use Rattle.mi_program.proofs.listener.serve_clients.Goals as goal
+
+pub accept_all-requires : goal.accept_all-requires
+accept_all-requires g c = c.requires.none
+
+pub serve_all-requires-clause-some : goal.serve_all-requires-clause-some
+serve_all-requires-clause-some g c = some_come c.in-Ok.row.items c.args.clients c.in-Ok.ensures.ok.0 c.requires.clients
+
+pub serve_all-requires-clause-sound : goal.serve_all-requires-clause-sound
+serve_all-requires-clause-sound g c = c.in-Ok.ensures.ok.2
 
 pub serve_all-requires-clause-served : goal.serve_all-requires-clause-served
 serve_all-requires-clause-served g c =
@@ -54,3 +63,6 @@ returns-in-Err-clause-none g c = c.in-Err.ensures.none
 
 pub returns-in-Ok-clause-none : goal.returns-in-Ok-clause-none
 returns-in-Ok-clause-none g c = c.serve_all.ensures.none
+
+pub returns-in-Err-clause-unserved : goal.returns-in-Err-clause-unserved
+returns-in-Err-clause-unserved g c = λ _. refl
