@@ -1,16 +1,14 @@
 //! Two forms of the database beside one another: the same random lines, and every reply compared.
-use super::databases::{Opens, Served, answered, attach, opened};
+use super::databases::{Opens, Served, opened};
 use super::forms::filled;
-use super::random::{Asked, CHANGES, READS, Random, TABLES, number_behind};
-use mi_hub::Hub;
+use super::random::{CHANGES, READS, Random, TABLES, number_behind};
+use mi_catalog::Catalog;
+use mi_hub::{Hub, Watched};
 use mi_plain::Plain;
 use mi_schema::read_catalog;
-use std::alloc::Global;
+use std::alloc::{AllocError, Global};
 use std::process::Abort;
 use std::test::Fail;
-
-/// The tables that both have.
-const NAMES: [&str; 2] = ["a", "b"];
 
 /// Two hubs that are asked the same, each with connection 1.
 #[derive(Drop)]
@@ -21,27 +19,28 @@ pub(super) struct Both {
 
 /// What connection 1 is answered.
 fn reply<D: Opens>(alloc: Global, hub: &mut Hub<D>, line: &[u8]) -> Result<String, Fail> {
-    Ok(String::from_utf8(answered(alloc, hub, 1, line)?)?)
+    let mut writer = Watched::new(Vec::new(alloc));
+    if hub.feed(1, line, &mut writer).is_err() {
+        return Err(Fail::from("the line isn't answered"));
+    }
+    Ok(String::from_utf8(writer.inner().to_vec(alloc)?)?)
 }
 
-/// A hub with connection 1 over both tables.
-fn attached<D: Opens>(alloc: Global) -> Result<Hub<D>, Fail> {
-    let catalog = read_catalog(alloc, TABLES.as_bytes())?;
-    let mut hub = opened(alloc, &catalog)?;
-    attach(&mut hub, 1)?;
+/// A hub with connection 1 over the tables of a catalog.
+fn attached<D: Opens>(alloc: Global, catalog: &Catalog) -> Result<Hub<D>, Fail> {
+    let mut hub = opened(alloc, catalog)?;
+    if hub.attach(1).is_err() {
+        return Err(Fail::from("a connection isn't attached"));
+    }
     Ok(hub)
-}
-
-/// Both replies to a line are the same.
-fn check_alike(rt: &impl Abort, line: &[u8], got: &str, want: &str) {
-    assert_eq!(rt; got, want, "to {line:?}");
 }
 
 impl Both {
     pub(super) fn open(alloc: Global) -> Result<Both, Fail> {
+        let catalog = read_catalog(alloc, TABLES.as_bytes())?;
         Ok(Both {
-            one: attached(alloc)?,
-            other: attached(alloc)?,
+            one: attached(alloc, &catalog)?,
+            other: attached(alloc, &catalog)?,
         })
     }
 
@@ -64,33 +63,8 @@ impl Both {
     ) -> Result<String, Fail> {
         let got = reply(alloc, &mut self.one, line)?;
         let want = reply(alloc, &mut self.other, line)?;
-        check_alike(rt, line, got.as_str(), want.as_str());
+        assert_eq!(rt; got.as_str(), want.as_str(), "to {line:?}");
         Ok(got)
-    }
-
-    /// What both are answered to a line of this form of a table, with a value.
-    fn ask_form(
-        &mut self,
-        rt: &impl Abort,
-        alloc: Global,
-        form: &str,
-        table: &str,
-        value: &str,
-    ) -> Result<String, Fail> {
-        let line = filled(alloc, form, table, value)?;
-        self.ask(rt, alloc, line.as_str())
-    }
-
-    /// What both are answered to a random line of these forms.
-    fn ask_random(
-        &mut self,
-        rt: &impl Abort,
-        alloc: Global,
-        random: &mut Random,
-        forms: &[Asked],
-    ) -> Result<String, Fail> {
-        let line = random.line(alloc, forms)?;
-        self.ask(rt, alloc, line.as_str())
     }
 
     /// Has the ids of both tables seen.
@@ -100,43 +74,35 @@ impl Both {
         alloc: Global,
         random: &mut Random,
     ) -> Result<(), Fail> {
-        for table in &NAMES {
-            let page = self.ask_form(rt, alloc, IDS, table, "")?;
-            random.see(alloc, *table == "b", page.as_str())?;
+        for table in ["a", "b"] {
+            let line = filled(alloc, IDS, table, "")?;
+            let page = self.ask(rt, alloc, line.as_str())?;
+            random.see(alloc, table == "b", page.as_str())?;
         }
-        Ok(())
-    }
-
-    /// Asks a random line that changes, starts or ends, and reads before some of them.
-    fn step(&mut self, rt: &impl Abort, alloc: Global, random: &mut Random) -> Result<(), Fail> {
-        if random.below(3) == 0 {
-            let _ = self.ask_random(rt, alloc, random, &READS)?;
-        }
-        let reply = self.ask_random(rt, alloc, random, &CHANGES)?;
-        random.hear(reply.as_str());
         Ok(())
     }
 
     /// Asks so many random lines that change, start or end, and reads between them.
-    fn run(
-        &mut self,
-        rt: &impl Abort,
-        alloc: Global,
-        random: &mut Random,
-        steps: u64,
-    ) -> Result<(), Fail> {
+    fn run(&mut self, rt: &impl Abort, alloc: Global, seed: u64, steps: u64) -> Result<(), Fail> {
+        let mut random = Random::new(alloc, seed);
         for step in 0..steps {
             if step % 100 == 0 {
-                self.look(rt, alloc, random)?;
+                self.look(rt, alloc, &mut random)?;
             }
-            self.step(rt, alloc, random)?;
+            if random.below(3) == 0 {
+                let line = random.line(alloc, &READS)?;
+                let _ = self.ask(rt, alloc, line.as_str())?;
+            }
+            let line = random.line(alloc, &CHANGES)?;
+            let reply = self.ask(rt, alloc, line.as_str())?;
+            random.hear(reply.as_str());
         }
         Ok(())
     }
 
     /// Asks for every view of both tables: each index from both ends, the record of each rank, its ranks, and each hashed key.
     pub(super) fn view(&mut self, rt: &impl Abort, alloc: Global) -> Result<(), Fail> {
-        for table in &NAMES {
+        for table in ["a", "b"] {
             self.ask_forms(rt, alloc, &LISTS, table, "")?;
             self.view_ranks(rt, alloc, table)?;
             self.view_keys(rt, alloc, table)?;
@@ -147,11 +113,11 @@ impl Both {
     /// Both answer random lines alike, and show the same at the end, with sessions open and after undo_all; then the next ids
     /// are the same too.
     fn compare(&mut self, rt: &impl Abort, alloc: Global, seed: u64) -> Result<(), Fail> {
-        self.run(rt, alloc, &mut Random::new(alloc, seed), STEPS)?;
+        self.run(rt, alloc, seed, STEPS)?;
         self.view(rt, alloc)?;
         let _ = self.ask(rt, alloc, "{\"cmd\":\"undo_all\"}\n")?;
         self.view(rt, alloc)?;
-        for table in &NAMES {
+        for table in ["a", "b"] {
             self.ask_forms(rt, alloc, &INSERT, table, "99")?;
         }
         Ok(())
@@ -167,7 +133,8 @@ impl Both {
         value: &str,
     ) -> Result<(), Fail> {
         for form in forms {
-            let _ = self.ask_form(rt, alloc, form, table, value)?;
+            let line = filled(alloc, form, table, value)?;
+            let _ = self.ask(rt, alloc, line.as_str())?;
         }
         Ok(())
     }
@@ -175,24 +142,14 @@ impl Both {
     /// Asks for the record of each rank, and about it.
     fn view_ranks(&mut self, rt: &impl Abort, alloc: Global, table: &str) -> Result<(), Fail> {
         for n in 0..300u64 {
-            if !self.view_rank(rt, alloc, table, n)? {
+            let place = format!(in alloc; "{n}")?;
+            let line = filled(alloc, NTH, table, place.as_str())?;
+            let reply = self.ask(rt, alloc, line.as_str())?;
+            if !self.ask_each(rt, alloc, table, reply.as_str(), &OF_RECORD)? {
                 break;
             }
         }
         Ok(())
-    }
-
-    /// Asks for the record of a rank, and about it; answers whether there is one.
-    fn view_rank(
-        &mut self,
-        rt: &impl Abort,
-        alloc: Global,
-        table: &str,
-        n: u64,
-    ) -> Result<bool, Fail> {
-        let place = format!(in alloc; "{n}")?;
-        let reply = self.ask_form(rt, alloc, NTH, table, place.as_str())?;
-        self.ask_each(rt, alloc, table, reply.as_str(), &OF_RECORD)
     }
 
     /// Asks for the records of each hashed key.
@@ -228,26 +185,16 @@ impl Both {
         table: &str,
         key: &str,
     ) -> Result<(), Fail> {
+        let find = filled(alloc, FIND, table, key)?;
         let _ = self.ask(rt, alloc, "{\"cmd\":\"start\"}\n")?;
         for _ in 0..300 {
-            if !self.erase_first(rt, alloc, table, key)? {
+            let reply = self.ask(rt, alloc, find.as_str())?;
+            if !self.ask_each(rt, alloc, table, reply.as_str(), &ERASE)? {
                 break;
             }
         }
         let _ = self.ask(rt, alloc, "{\"cmd\":\"undo\"}\n")?;
         Ok(())
-    }
-
-    /// Erases the first record of a hashed key; answers whether it has one.
-    fn erase_first(
-        &mut self,
-        rt: &impl Abort,
-        alloc: Global,
-        table: &str,
-        key: &str,
-    ) -> Result<bool, Fail> {
-        let reply = self.ask_form(rt, alloc, FIND, table, key)?;
-        self.ask_each(rt, alloc, table, reply.as_str(), &ERASE)
     }
 }
 

@@ -1,24 +1,21 @@
 //! Each valid line of the rows cut short behind each of its bytes, and its connection closed there.
 use super::databases::{Ended, Form};
-use super::long_rows::{deep_sessions, rows_and_many};
-use super::script::{Act, Pieces, Script, push};
+use super::long_rows::{deep_sessions, many_records};
+use super::script::{Act, Pieces, Script, scripts};
 use super::streams::Sink;
 use mi_catalog::Catalog;
 use mi_hub::Event;
 use mi_schema::read_catalog;
-use std::alloc::{AllocError, Global};
+use std::alloc::Global;
 use std::process::Abort;
 use std::test::Fail;
 
 /// What the front of an object is answered.
 const JSON: &str = "{\"error\":\"json\",\"ok\":false}\n";
 
-/// A valid line over a form of the database: the step of a row that sends it, its connection, its text without a newline, and its
-/// reply.
+/// A valid line: the step of a row that sends it, its connection, its text without a newline, and its reply.
 #[derive(Drop)]
 struct Line<'a> {
-    form: Form,
-    catalog: &'a Catalog,
     script: &'a Script,
     step: usize,
     conn: u64,
@@ -26,9 +23,9 @@ struct Line<'a> {
     reply: &'a str,
 }
 
-impl<'a> Line<'a> {
+impl Line<'_> {
     /// The line that a step sends, where that is valid. Where it has no newline its reply comes with the step behind it.
-    fn at(form: Form, catalog: &'a Catalog, script: &'a Script, step: usize) -> Option<Line<'a>> {
+    fn at(script: &Script, step: usize) -> Option<Line<'_>> {
         let sent = script.steps.get(step)?;
         let Act::Sends(bytes) = &sent.act else {
             return None;
@@ -42,8 +39,6 @@ impl<'a> Line<'a> {
             return None;
         }
         Some(Line {
-            form,
-            catalog,
             script,
             step,
             conn: sent.conn,
@@ -52,84 +47,93 @@ impl<'a> Line<'a> {
         })
     }
 
-    /// How the row ends over a form where these bytes of the line are the last that its connection sends.
-    fn closed_behind(&self, alloc: Global, form: Form, bytes: &[u8]) -> Result<Ended, Fail> {
-        let mut events = self.script.events_before(alloc, self.step, Pieces::Lines)?;
-        self.close(alloc, bytes, &mut events)?;
-        form.driven(alloc, self.catalog, events.as_slice(), Sink::sound(alloc))
-    }
-
-    /// The connection sends these bytes, and no more.
-    fn close(
+    /// How the row ends where these bytes of the line are the last that its connection sends.
+    fn closed_behind(
         &self,
         alloc: Global,
+        form: Form,
+        catalog: &Catalog,
         bytes: &[u8],
-        events: &mut Vec<Event>,
-    ) -> Result<(), AllocError> {
-        push(events, Event::Piece(self.conn, bytes.to_vec(alloc)?))?;
-        push(events, Event::Close(self.conn))
+    ) -> Result<Ended, Fail> {
+        let mut events = self.script.events_before(alloc, self.step, Pieces::Lines)?;
+        events.push(Event::Piece(self.conn, bytes.to_vec(alloc)?))?;
+        events.push(Event::Close(self.conn))?;
+        form.driven(alloc, catalog, events.as_slice(), Sink::sound(alloc))
     }
 
     /// Each front of the line is answered `json`, and the empty one by nothing; the whole line has its reply, and nothing else is
     /// written. What a front leaves is what the plain database has where nothing of the line is sent.
-    fn check(&self, rt: &impl Abort, alloc: Global) -> Result<(), Fail> {
-        let length = self.text.len();
+    fn check(
+        &self,
+        rt: &impl Abort,
+        alloc: Global,
+        form: Form,
+        catalog: &Catalog,
+    ) -> Result<(), Fail> {
         let ended = [self.text, b"\n"].concat(alloc)?;
-        self.check_fronts(rt, alloc, 0, 1, b"", "")?;
-        self.check_fronts(rt, alloc, 1, length, b"", JSON)?;
-        let end = length.saturating_add(1);
-        self.check_fronts(rt, alloc, length, end, ended.as_slice(), self.reply)
+        let none = self.after(alloc, catalog, b"", "")?;
+        self.check_front(rt, alloc, form, catalog, 0, &none)?;
+        self.check_fronts(rt, alloc, form, catalog)?;
+        let whole = self.after(alloc, catalog, ended.as_slice(), self.reply)?;
+        self.check_front(rt, alloc, form, catalog, self.text.len(), &whole)
     }
 
-    /// Each front from one length to before another has this reply, and leaves what these bytes leave behind them in the plain database.
+    /// Each front but the empty one and the whole line.
     fn check_fronts(
         &self,
         rt: &impl Abort,
         alloc: Global,
-        from: usize,
-        to: usize,
-        bytes: &[u8],
-        reply: &str,
+        form: Form,
+        catalog: &Catalog,
     ) -> Result<(), Fail> {
-        let written = self.replies_with(alloc, reply)?;
-        let plain = self.closed_behind(alloc, Form::Plain, bytes)?;
-        for length in from..to {
-            self.check_front(rt, alloc, length, written.as_bytes(), plain.seen.as_slice())?;
+        let front = self.after(alloc, catalog, b"", JSON)?;
+        for length in 1..self.text.len() {
+            self.check_front(rt, alloc, form, catalog, length, &front)?;
         }
         Ok(())
     }
 
-    /// The replies before the line, and this one.
-    fn replies_with(&self, alloc: Global, reply: &str) -> Result<String, AllocError> {
-        let mut replies = self.script.replies_before(alloc, self.step)?;
-        replies.push_str(reply)?;
-        Ok(replies)
+    /// What is wanted where this is the reply, and these bytes leave the same behind them in the plain database.
+    fn after(
+        &self,
+        alloc: Global,
+        catalog: &Catalog,
+        bytes: &[u8],
+        reply: &str,
+    ) -> Result<Wanted, Fail> {
+        let mut written = self.script.replies_before(alloc, self.step)?;
+        written.push_str(reply)?;
+        let seen = self.closed_behind(alloc, Form::Plain, catalog, bytes)?.seen;
+        Ok(Wanted { written, seen })
     }
 
-    /// Where so many bytes of the line are the last that its connection sends, this is written, and this is what another connection
-    /// sees then.
+    /// The row ends as wanted where so many bytes of the line are the last that its connection sends.
     fn check_front(
         &self,
         rt: &impl Abort,
         alloc: Global,
+        form: Form,
+        catalog: &Catalog,
         length: usize,
-        written: &[u8],
-        seen: &[u8],
+        wanted: &Wanted,
     ) -> Result<(), Fail> {
         let (front, _) = self.text.split_at(length.min(self.text.len()));
-        let ended = self.closed_behind(alloc, self.form, front)?;
-        self.check_ended(rt, length, ended.is_whole(written, seen));
+        let ended = self.closed_behind(alloc, form, catalog, front)?;
+        assert!(rt;
+            ended.is_whole(wanted.written.as_bytes(), wanted.seen.as_slice()),
+            "{} cut at {length} of step {}",
+            self.script.name,
+            self.step
+        );
         Ok(())
     }
+}
 
-    /// The line was cut there, and the row ended as it must.
-    fn check_ended(&self, rt: &impl Abort, length: usize, holds: bool) {
-        assert!(rt;
-            holds,
-            "{} cut at {length} of step {}",
-            self.script.name, self.step
-        );
-    }
+/// What is to be written, and what another connection is to see then.
+#[derive(Drop)]
+struct Wanted {
+    written: String,
+    seen: Vec<u8>,
 }
 
 /// How many lines were checked, and how many bytes they have.
@@ -137,31 +141,6 @@ impl<'a> Line<'a> {
 struct Checked {
     lines: usize,
     bytes: usize,
-}
-
-impl Checked {
-    /// One line more was checked.
-    fn add(&mut self, bytes: usize) {
-        self.lines = self.lines.saturating_add(1);
-        self.bytes = self.bytes.saturating_add(bytes);
-    }
-}
-
-/// Checks the line that a step sends, where that is valid.
-fn check_step<'a>(
-    rt: &impl Abort,
-    alloc: Global,
-    form: Form,
-    catalog: &'a Catalog,
-    script: &'a Script,
-    step: usize,
-    checked: &mut Checked,
-) -> Result<(), Fail> {
-    if let Some(line) = Line::at(form, catalog, script, step) {
-        line.check(rt, alloc)?;
-        checked.add(line.text.len());
-    }
-    Ok(())
 }
 
 /// Checks each valid line of a row from one step on.
@@ -175,7 +154,11 @@ fn check_row(
 ) -> Result<(), Fail> {
     let catalog = read_catalog(alloc, script.tables.as_bytes())?;
     for step in from..script.steps.len() {
-        check_step(rt, alloc, form, &catalog, &*script, step, checked)?;
+        if let Some(line) = Line::at(script, step) {
+            line.check(rt, alloc, form, &catalog)?;
+            checked.lines = checked.lines.saturating_add(1);
+            checked.bytes = checked.bytes.saturating_add(line.text.len());
+        }
     }
     Ok(())
 }
@@ -192,24 +175,15 @@ fn check_deep(
     check_row(rt, alloc, form, &deep, last, checked)
 }
 
-/// Checks all rows that are written down, and one with many records.
-fn check_rows(
-    rt: &impl Abort,
-    alloc: Global,
-    form: Form,
-    checked: &mut Checked,
-) -> Result<(), Fail> {
-    for script in &rows_and_many(alloc, 50)? {
-        check_row(rt, alloc, form, script, 0, checked)?;
-    }
-    Ok(())
-}
-
 /// All rows that are written down, one with many records, and the last two lines of one with many sessions.
 fn check_cuts(rt: &impl Abort, alloc: Global, form: Form) -> Result<(), Fail> {
     let mut checked = Checked { lines: 0, bytes: 0 };
+    let mut rows = scripts(alloc)?;
+    rows.push(many_records(alloc, 50)?)?;
     check_deep(rt, alloc, form, &mut checked)?;
-    check_rows(rt, alloc, form, &mut checked)?;
+    for script in &rows {
+        check_row(rt, alloc, form, script, 0, &mut checked)?;
+    }
     assert!(rt;
         checked.lines > 250 && checked.bytes > 12_000,
         "{} lines of {} bytes",

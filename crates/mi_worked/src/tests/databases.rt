@@ -1,7 +1,6 @@
 //! The forms of the database that every row is run on, and what a hub over one does. All that is generic over a form stands here,
 //! so that each call of the hub is made once for each form.
-ghost use Rattle.std.specs.Prelude.{◌≡◌, [], IfOk, IsSome, OnOk};
-ghost use Rattle.mi_hub.specs.Connections.{rest_at};
+ghost use Rattle.std.specs.Prelude.{◌≡◌, [], IfOk};
 
 use super::streams::{Sink, Source};
 use mi_catalog::Catalog;
@@ -112,43 +111,13 @@ pub(super) fn opened<D: Opens>(alloc: Global, catalog: &Catalog) -> Result<Hub<D
     Ok(Hub::new(alloc, D::open(alloc, catalog.copy(alloc)?)?))
 }
 
-/// A connection comes.
-pub(super) fn attach<D: Opens>(hub: &mut Hub<D>, conn: u64) -> Result<(), Fail> {
-    match hub.attach(conn) {
-        Ok(()) => Ok(()),
-        Err(_) => Err(Fail::from("a connection isn't attached")),
-    }
-}
-
-/// Connection 1 comes before any other.
-fn attach_first<D: Opens>(hub: &mut Hub<D>) -> Result<(), Fail>
-    requires { hub.old.attached ≡ [] }
-    ensures { OnOk result (IsSome (rest_at 1 hub.new.attached)) }
-{
-    match hub.attach(1) {
-        Ok(()) => Ok(()),
-        Err(_) => Err(Fail::from("a connection isn't attached")),
-    }
-}
-
-/// What a connection is answered to bytes.
-pub(super) fn answered<D: Opens>(
-    alloc: Global,
-    hub: &mut Hub<D>,
-    conn: u64,
-    bytes: &[u8],
-) -> Result<Vec<u8>, Fail> {
-    let mut writer = Watched::new(Vec::new(alloc));
-    match hub.feed(conn, bytes, &mut writer) {
-        Ok(()) => Ok(writer.inner().to_vec(alloc)?),
-        Err(_) => Err(Fail::from("a connection isn't answered")),
-    }
-}
-
 /// What connection 3 is answered when it looks.
 fn seen<D: Opens>(alloc: Global, hub: &mut Hub<D>) -> Result<Vec<u8>, Fail> {
-    attach(hub, 3)?;
-    answered(alloc, hub, 3, LOOK.as_bytes())
+    let mut writer = Watched::new(Vec::new(alloc));
+    if hub.attach(3).is_err() || hub.feed(3, LOOK.as_bytes(), &mut writer).is_err() {
+        return Err(Fail::from("another connection isn't answered"));
+    }
+    Ok(writer.inner().to_vec(alloc)?)
 }
 
 /// How the events or the stream of a hub ended, after which another connection looks.
@@ -159,48 +128,27 @@ fn end_of<D: Opens>(
     sink: &Sink,
     left: usize,
 ) -> Result<Ended, Fail> {
-    let seen = seen(alloc, hub)?;
     Ok(Ended {
         answer,
         written: sink.taken.to_vec(alloc)?,
         left,
-        seen,
+        seen: seen(alloc, hub)?,
     })
 }
 
-/// Has events happen, after which another connection looks.
+/// Has events happen: the answer, and how many weren't begun.
 fn drive_all<D: Opens>(
-    alloc: Global,
     hub: &mut Hub<D>,
     events: &[Event],
     writer: &mut Watched<Sink>,
-) -> Result<Ended, Fail> {
-    let (answer, left) = match drive(hub, events, writer) {
-        Ok(()) => (Ok(()), 0),
-        Err((at, HubFault::Write)) => { (Err(ServeFault::Write), events.len().saturating_sub(at)) }
-        Err(_) => return Err(Fail::from("an event is refused")),
-    };
-    end_of(alloc, hub, answer, writer.inner(), left)
-}
-
-/// Serves a stream as connection 1, after which another connection looks.
-fn serve_all<D: Opens>(
-    alloc: Global,
-    hub: &mut Hub<D>,
-    reader: &mut Watched<Source<'_>>,
-    writer: &mut Watched<Sink>,
-) -> Result<Ended, Fail>
-    requires { hub.old.attached ≡ [] }
-{
-    attach_first(hub)?;
-    let answer = serve_stream(hub, 1, reader, writer);
-    end_of(
-        alloc,
-        hub,
-        answer,
-        writer.inner(),
-        reader.inner().left.len(),
-    )
+) -> Result<(Result<(), ServeFault>, usize), Fail> {
+    match drive(hub, events, writer) {
+        Ok(()) => Ok((Ok(()), 0)),
+        Err((at, HubFault::Write)) => {
+            Ok((Err(ServeFault::Write), events.len().saturating_sub(at)))
+        }
+        Err(_) => Err(Fail::from("an event is refused")),
+    }
 }
 
 fn driven<D: Opens>(
@@ -210,7 +158,9 @@ fn driven<D: Opens>(
     sink: Sink,
 ) -> Result<Ended, Fail> {
     let mut hub = opened::<D>(alloc, catalog)?;
-    drive_all(alloc, &mut hub, events, &mut Watched::new(sink))
+    let mut writer = Watched::new(sink);
+    let (answer, left) = drive_all(&mut hub, events, &mut writer)?;
+    end_of(alloc, &mut hub, answer, writer.inner(), left)
 }
 
 fn served<D: Opens>(
@@ -220,10 +170,18 @@ fn served<D: Opens>(
     sink: Sink,
 ) -> Result<Ended, Fail> {
     let mut hub = opened::<D>(alloc, catalog)?;
-    serve_all(
+    match hub.attach(1) {
+        Ok(()) => {}
+        Err(_) => return Err(Fail::from("a connection isn't attached")),
+    }
+    let mut reader = Watched::new(source);
+    let mut writer = Watched::new(sink);
+    let answer = serve_stream(&mut hub, 1, &mut reader, &mut writer);
+    end_of(
         alloc,
         &mut hub,
-        &mut Watched::new(source),
-        &mut Watched::new(sink),
+        answer,
+        writer.inner(),
+        reader.inner().left.len(),
     )
 }

@@ -1,8 +1,8 @@
 //! The rows with a reader or a writer that fails at each of its calls in turn: those of one connection as a stream, the others as
 //! events with one writer.
 use super::databases::{Ended, Form};
-use super::long_rows::{deep_sessions, odd_lines, rows_and_many};
-use super::script::{Pieces, Script, push};
+use super::long_rows::{deep_sessions, many_records, odd_lines};
+use super::script::{Pieces, Script, scripts};
 use super::streams::{Full, Sink, Source};
 use mi_catalog::Catalog;
 use mi_hub::{Event, ServeFault};
@@ -11,13 +11,13 @@ use std::alloc::Global;
 use std::process::Abort;
 use std::test::Fail;
 
-/// What stands behind some steps of a row: how many bytes were sent, an end as one more; all replies; and how the plain database
-/// ends where the connection of the last step is cut then.
+/// What stands behind some steps of a row: how many bytes were sent, an end as one more; all replies; and what another connection sees
+/// where the connection of the last step is cut then.
 #[derive(Drop)]
 struct State {
     sent: usize,
     replies: String,
-    ended: Ended,
+    seen: Vec<u8>,
 }
 
 /// A row as a stream or as events, and what stands before each of its steps and behind the last.
@@ -33,32 +33,24 @@ struct Course<'a> {
 impl Course<'_> {
     /// The course of a row, by the plain database and the replies that the row says.
     fn of(alloc: Global, script: &Script) -> Result<Course<'_>, Fail> {
-        let mut course = Course {
-            script,
-            catalog: read_catalog(alloc, script.tables.as_bytes())?,
-            bytes: Vec::new(alloc),
-            events: Vec::new(alloc),
-            states: Vec::new(alloc),
-        };
-        course.run(alloc)?;
-        Ok(course)
-    }
-
-    /// Notes what is sent, and what stands before each step and behind the last.
-    fn run(&mut self, alloc: Global) -> Result<(), Fail> {
-        self.bytes = self.script.bytes(alloc)?;
-        self.events = self.script.events(alloc, Pieces::Of(4096))?;
-        for count in 0..=self.script.steps.len() {
-            let state = State::behind(alloc, &self.catalog, self.script, count)?;
-            self.states.push(state)?;
+        let catalog = read_catalog(alloc, script.tables.as_bytes())?;
+        let mut states = Vec::new(alloc);
+        for count in 0..=script.steps.len() {
+            states.push(State::behind(alloc, &catalog, script, count)?)?;
         }
-        Ok(())
+        Ok(Course {
+            script,
+            catalog,
+            bytes: script.bytes(alloc)?,
+            events: script.events(alloc, Pieces::Of(4096))?,
+            states,
+        })
     }
 
     /// Whether what was written is the replies to so many steps, and another connection sees what they leave.
     fn ends_behind(&self, steps: usize, ended: &Ended) -> bool {
         match self.states.get(steps) {
-            Some(state) => ended.shows(state.replies.as_bytes(), state.ended.seen.as_slice()),
+            Some(state) => ended.shows(state.replies.as_bytes(), state.seen.as_slice()),
             None => false,
         }
     }
@@ -71,40 +63,24 @@ impl Course<'_> {
     /// Whether all lines of the bytes that were read are answered, and no other was asked.
     fn ends_behind_read(&self, ended: &Ended) -> bool {
         let read = self.bytes.len().saturating_sub(ended.left);
-        self.ends_behind(self.sent_by(read).saturating_sub(1), ended)
-    }
-
-    /// How many states have no more bytes sent than so many.
-    fn sent_by(&self, read: usize) -> usize {
-        let mut count = 0usize;
-        for state in &self.states {
-            if state.sent <= read {
-                count = count.saturating_add(1);
-            }
-        }
-        count
-    }
-
-    /// How many states have no more bytes of replies than so many.
-    fn answered_by(&self, length: usize) -> usize {
-        let mut count = 0usize;
-        for state in &self.states {
-            if state.replies.len() <= length {
-                count = count.saturating_add(1);
-            }
-        }
-        count
+        let states = self.states.iter().filter(|state| state.sent <= read);
+        self.ends_behind(states.count().saturating_sub(1), ended)
     }
 
     /// Whether a proper front of the replies was written, and the line whose reply isn't whole was the last to be asked.
     fn ends_behind_write(&self, ended: &Ended) -> bool {
-        match self.states.get(self.answered_by(ended.written.len())) {
+        let length = ended.written.len();
+        let states = self
+            .states
+            .iter()
+            .filter(|state| state.replies.len() <= length);
+        match self.states.get(states.count()) {
             Some(state) => {
                 state
                     .replies
                     .as_bytes()
                     .starts_with(ended.written.as_slice())
-                    && state.ended.seen.as_slice() == ended.seen.as_slice()
+                    && state.seen.as_slice() == ended.seen.as_slice()
             }
             None => false,
         }
@@ -124,32 +100,18 @@ impl State {
         script: &Script,
         count: usize,
     ) -> Result<State, Fail> {
-        let ended = State::ended_behind(alloc, catalog, script, count)?;
+        let mut events = script.events_before(alloc, count, Pieces::Lines)?;
+        if !matches!(events.last(), Some(Event::Close(_) | Event::Cut(_))) {
+            let last = script.steps.iter().take(count).last();
+            events.push(Event::Cut(last.map_or(1, |step| step.conn)))?;
+        }
+        let ended = Form::Plain.driven(alloc, catalog, events.as_slice(), Sink::sound(alloc))?;
         Ok(State {
             sent: script.sent_before(count),
             replies: script.replies_before(alloc, count)?,
-            ended,
+            seen: ended.seen,
         })
     }
-
-    /// How the plain database ends behind so many steps where the connection of the last is cut then.
-    fn ended_behind(
-        alloc: Global,
-        catalog: &Catalog,
-        script: &Script,
-        count: usize,
-    ) -> Result<Ended, Fail> {
-        let mut events = script.events_before(alloc, count, Pieces::Lines)?;
-        if !ends(events.as_slice()) {
-            push(&mut events, Event::Cut(script.conn_before(count)))?;
-        }
-        Form::Plain.driven(alloc, catalog, events.as_slice(), Sink::sound(alloc))
-    }
-}
-
-/// Whether the bytes of a connection end with the last of these events.
-fn ends(events: &[Event]) -> bool {
-    matches!(events.last(), Some(Event::Close(_) | Event::Cut(_)))
 }
 
 /// Which call of a device fails behind some that don't, and how many bytes a call gives or takes.
@@ -245,57 +207,22 @@ impl Breaking {
         course: &Course<'_>,
     ) -> Result<usize, Fail> {
         for calls in 0..1_000_000 {
-            if self.check_behind(rt, alloc, form, course, calls)? {
+            let ended = self.run(alloc, form, course, calls)?;
+            let holds = self.holds(course, calls, &ended);
+            assert!(rt;
+                holds,
+                "{}: {self:?} behind {calls} calls",
+                course.script.name
+            );
+            if ended.answer.is_ok() {
                 return Ok(calls);
             }
         }
         Err(Fail::from("a row doesn't end"))
     }
-
-    /// The call of the device behind so many fails; answers whether the run met none.
-    fn check_behind(
-        self,
-        rt: &impl Abort,
-        alloc: Global,
-        form: Form,
-        course: &Course<'_>,
-        calls: usize,
-    ) -> Result<bool, Fail> {
-        let ended = self.run(alloc, form, course, calls)?;
-        self.check_ended(rt, course, calls, self.holds(course, calls, &ended));
-        Ok(ended.answer.is_ok())
-    }
-
-    /// The row ended as it must.
-    fn check_ended(self, rt: &impl Abort, course: &Course<'_>, calls: usize, holds: bool) {
-        assert!(rt;
-            holds,
-            "{}: {self:?} behind {calls} calls",
-            course.script.name
-        );
-    }
 }
 
-/// Checks a row in these ways; answers how many calls failed. What isn't a stream has no reads, and isn't flushed.
-fn check_row(
-    rt: &impl Abort,
-    alloc: Global,
-    form: Form,
-    script: &Script,
-    ways: &[Breaking],
-) -> Result<usize, Fail> {
-    let course = Course::of(alloc, script)?;
-    let is_of_one = script.is_of_one();
-    let mut faults = 0usize;
-    for way in ways {
-        if is_of_one || matches!(way, Breaking::Write(_, _)) {
-            faults = faults.saturating_add(way.check(rt, alloc, form, &course)?);
-        }
-    }
-    Ok(faults)
-}
-
-/// Checks these rows in these ways; answers how many calls failed.
+/// Checks these rows in these ways; answers how many calls failed. What isn't a stream has no reads, and isn't flushed.
 fn check_rows(
     rt: &impl Abort,
     alloc: Global,
@@ -305,7 +232,12 @@ fn check_rows(
 ) -> Result<usize, Fail> {
     let mut faults = 0usize;
     for script in rows {
-        faults = faults.saturating_add(check_row(rt, alloc, form, script, ways)?);
+        let course = Course::of(alloc, script)?;
+        for way in ways {
+            if script.is_of_one() || matches!(way, Breaking::Write(_, _)) {
+                faults = faults.saturating_add(way.check(rt, alloc, form, &course)?);
+            }
+        }
     }
     Ok(faults)
 }
@@ -331,7 +263,8 @@ const LARGE: [Breaking; 3] = [
 
 /// Devices of every size a call, on the rows that are written down and on one with many records; and large ones on long rows.
 fn check_devices(rt: &impl Abort, alloc: Global, form: Form) -> Result<(), Fail> {
-    let rows = rows_and_many(alloc, 5)?;
+    let mut rows = scripts(alloc)?;
+    rows.push(many_records(alloc, 5)?)?;
     let faults = check_rows(rt, alloc, form, rows.as_slice(), &WAYS)?;
     assert!(rt; faults > 22_000, "{faults} faults");
     check_long(rt, alloc, form)
@@ -339,9 +272,10 @@ fn check_devices(rt: &impl Abort, alloc: Global, form: Form) -> Result<(), Fail>
 
 /// Large devices on long rows.
 fn check_long(rt: &impl Abort, alloc: Global, form: Form) -> Result<(), Fail> {
-    let deep = check_row(rt, alloc, form, &deep_sessions(alloc)?, &LARGE)?;
-    let odd = check_row(rt, alloc, form, &odd_lines(alloc)?, &LARGE)?;
-    let faults = deep.saturating_add(odd);
+    let mut rows = Vec::new(alloc);
+    rows.push(deep_sessions(alloc)?)?;
+    rows.push(odd_lines(alloc)?)?;
+    let faults = check_rows(rt, alloc, form, rows.as_slice(), &LARGE)?;
     assert!(rt; faults > 1_000, "{faults} faults of long rows");
     Ok(())
 }

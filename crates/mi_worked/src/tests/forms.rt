@@ -9,13 +9,6 @@ pub(super) fn filled(
     value: &str,
 ) -> Result<String, AllocError> {
     let mut line = String::new(alloc);
-    fill(&mut line, form, table, value)?;
-    line.push('\n')?;
-    Ok(line)
-}
-
-/// Writes a form with a table and a value.
-fn fill(line: &mut String, form: &str, table: &str, value: &str) -> Result<(), AllocError> {
     let mut is_letter = false;
     for byte in form.bytes() {
         match (is_letter, byte) {
@@ -26,5 +19,6 @@ fn fill(line: &mut String, form: &str, table: &str, value: &str) -> Result<(), A
         }
         is_letter = !is_letter && byte == b'$';
     }
-    Ok(())
+    line.push('\n')?;
+    Ok(line)
 }

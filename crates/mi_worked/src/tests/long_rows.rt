@@ -1,6 +1,6 @@
 //! Worked rows that are made: many records, sessions as deep as can be, lines as long as can be, and the ends of lines.
 use super::forms::filled;
-use super::script::{Script, scripts};
+use super::script::Script;
 use std::alloc::{AllocError, Global};
 
 /// Has a script do what a form says, once with each number from one to before another.
@@ -49,19 +49,14 @@ const UNDONE: &str = r#"1 {"cmd":"undo"}
 1 {"cmd":"range","index":"by_balance"}
 = {"more":false,"ok":true,"rows":[{"balance":1,"id":1,"owner":"b","vip":true},{"balance":1,"id":2,"owner":"c","vip":true}]}"#;
 
-/// Has a script insert so many records, count them, and undo all but two.
-fn read_many(script: &mut Script, alloc: Global, count: u64) -> Result<(), AllocError> {
-    let all = count.saturating_add(2);
-    script.read_all(alloc, FIRST)?;
-    read_each(script, alloc, INSERT, 2, all)?;
-    read_each(script, alloc, COUNT, all, all.saturating_add(1))?;
-    script.read_all(alloc, UNDONE)
-}
-
 /// So many records of one key come and are undone; the key has its first two again.
 pub(super) fn many_records(alloc: Global, count: u64) -> Result<Script, AllocError> {
     let mut script = Script::new(alloc, "many records are undone", "")?;
-    read_many(&mut script, alloc, count)?;
+    let all = count.saturating_add(2);
+    script.read_all(alloc, FIRST)?;
+    read_each(&mut script, alloc, INSERT, 2, all)?;
+    read_each(&mut script, alloc, COUNT, all, all.saturating_add(1))?;
+    script.read_all(alloc, UNDONE)?;
     Ok(script)
 }
 
@@ -82,74 +77,38 @@ pub(super) fn deep_sessions(alloc: Global) -> Result<Script, AllocError> {
 }
 
 /// Bytes that are no text, or whose line ends in another way, and how a row says what they are answered.
-struct Odd {
-    bytes: &'static [u8],
-    answer: &'static str,
-}
-
-const ODD: [Odd; 3] = [
-    Odd {
-        bytes: b"\n\r\n",
-        answer: "",
-    },
-    Odd {
-        bytes: b"{\"cmd\":\"size\"}\r\n",
-        answer: r#"= {"ok":true,"size":0}"#,
-    },
-    Odd {
-        bytes: b"\xff\n",
-        answer: r#"= {"error":"json","ok":false}"#,
-    },
+const ODD: [(&[u8], &str); 3] = [
+    (b"\n\r\n", ""),
+    (b"{\"cmd\":\"size\"}\r\n", r#"= {"ok":true,"size":0}"#),
+    (b"\xff\n", r#"= {"error":"json","ok":false}"#),
 ];
 
 /// Lines whose length matters: `$n` stands for so many of a letter.
-struct Long {
-    letter: char,
-    count: usize,
-    form: &'static str,
-}
-
-const LONG: [Long; 8] = [
-    Long {
-        letter: ' ',
-        count: 65_522,
-        form: "1 {\"cmd\":\"size\"}$n\n= {\"ok\":true,\"size\":0}",
-    },
-    Long {
-        letter: ' ',
-        count: 65_523,
-        form: "1 {\"cmd\":\"size\"}$n\n= {\"error\":\"line\",\"ok\":false}",
-    },
-    Long {
-        letter: 'a',
-        count: 1_025,
-        form: "1 {\"cmd\":\"insert\",\"row\":{\"balance\":1,\"vip\":true,\"owner\":\"$n\"}}\n= {\"error\":\"row\",\"ok\":false}",
-    },
-    Long {
-        letter: 'a',
-        count: 1_024,
-        form: "1 {\"cmd\":\"insert\",\"row\":{\"balance\":1,\"vip\":true,\"owner\":\"$n\"}}\n= {\"id\":0,\"ok\":true}",
-    },
-    Long {
-        letter: '[',
-        count: 100,
-        form: "1+ $n",
-    },
-    Long {
-        letter: ']',
-        count: 100,
-        form: "1 $n\n= {\"error\":\"form\",\"ok\":false}",
-    },
-    Long {
-        letter: '[',
-        count: 1_000,
-        form: "1+ $n",
-    },
-    Long {
-        letter: ']',
-        count: 1_000,
-        form: "1 $n\n= {\"error\":\"json\",\"ok\":false}",
-    },
+const LONG: [(char, usize, &str); 8] = [
+    (
+        ' ',
+        65_522,
+        "1 {\"cmd\":\"size\"}$n\n= {\"ok\":true,\"size\":0}",
+    ),
+    (
+        ' ',
+        65_523,
+        "1 {\"cmd\":\"size\"}$n\n= {\"error\":\"line\",\"ok\":false}",
+    ),
+    (
+        'a',
+        1_025,
+        "1 {\"cmd\":\"insert\",\"row\":{\"balance\":1,\"vip\":true,\"owner\":\"$n\"}}\n= {\"error\":\"row\",\"ok\":false}",
+    ),
+    (
+        'a',
+        1_024,
+        "1 {\"cmd\":\"insert\",\"row\":{\"balance\":1,\"vip\":true,\"owner\":\"$n\"}}\n= {\"id\":0,\"ok\":true}",
+    ),
+    ('[', 100, "1+ $n"),
+    (']', 100, "1 $n\n= {\"error\":\"form\",\"ok\":false}"),
+    ('[', 1_000, "1+ $n"),
+    (']', 1_000, "1 $n\n= {\"error\":\"json\",\"ok\":false}"),
 ];
 
 /// So many of a letter.
@@ -162,36 +121,35 @@ fn repeated(alloc: Global, letter: char, count: usize) -> Result<String, AllocEr
 }
 
 /// Has a script do what a form says that has so many of a letter.
-fn read_long(script: &mut Script, alloc: Global, long: &Long) -> Result<(), AllocError> {
-    let letters = repeated(alloc, long.letter, long.count)?;
-    let text = filled(alloc, long.form, "", letters.as_str())?;
+fn read_long(
+    script: &mut Script,
+    alloc: Global,
+    form: &str,
+    letter: char,
+    count: usize,
+) -> Result<(), AllocError> {
+    let letters = repeated(alloc, letter, count)?;
+    let text = filled(alloc, form, "", letters.as_str())?;
     script.read_all(alloc, text.as_str())
-}
-
-/// Has connection 1 send bytes that are odd, and then lines whose length matters.
-fn send_odd(script: &mut Script, alloc: Global) -> Result<(), AllocError> {
-    for odd in &ODD {
-        script.send(alloc, 1, odd.bytes)?;
-        script.read_all(alloc, odd.answer)?;
-    }
-    for long in &LONG {
-        read_long(script, alloc, long)?;
-    }
-    Ok(())
 }
 
 /// Lines whose length matters, and what isn't a line.
 pub(super) fn odd_lines(alloc: Global) -> Result<Script, AllocError> {
     let mut script = Script::new(alloc, "odd lines", "")?;
     send_odd(&mut script, alloc)?;
+    for (letter, count, form) in &LONG {
+        read_long(&mut script, alloc, form, *letter, *count)?;
+    }
     Ok(script)
 }
 
-/// The rows that are written down, and one with so many records.
-pub(super) fn rows_and_many(alloc: Global, count: u64) -> Result<Vec<Script>, AllocError> {
-    let mut rows = scripts(alloc)?;
-    rows.push(many_records(alloc, count)?)?;
-    Ok(rows)
+/// Has connection 1 send bytes that are odd.
+fn send_odd(script: &mut Script, alloc: Global) -> Result<(), AllocError> {
+    for (bytes, answered) in &ODD {
+        script.send(alloc, 1, bytes)?;
+        script.read_all(alloc, answered)?;
+    }
+    Ok(())
 }
 
 /// The rows that are made, one of them with so many records.

@@ -34,167 +34,122 @@ index = [
 ]
 "#;
 
-/// A form of lines, and how often it is asked.
-pub(super) struct Asked {
-    often: u64,
-    form: &'static str,
-}
-
-/// Forms of lines that change or end or begin a session. `$t` stands for a table, `$i` for an id,
+/// Forms of lines that change or end or begin a session, and how often each is asked. `$t` stands for a table, `$i` for an id,
 /// `$k`, `$s`, `$f` and `$n` for a value of a column, `$q` for a sequenced index, `$r` for a revision, `$b` for true or false.
-pub(super) const CHANGES: [Asked; 20] = [
-    Asked {
-        often: 60,
-        form: r#"{"cmd":"insert","table":"$t","row":{"k":$k,"s":"$s","f":$f,"n":$n}}"#,
-    },
-    Asked {
-        often: 6,
-        form: r#"{"cmd":"insert","table":"$t","row":{"k":$k,"s":"$s","f":$f,"n":$n},"before":{"index":"i3","id":$i}}"#,
-    },
-    Asked {
-        often: 12,
-        form: r#"{"cmd":"replace","table":"$t","id":$i,"row":{"k":$k,"s":"$s","f":$f,"n":$n}}"#,
-    },
-    Asked {
-        often: 4,
-        form: r#"{"cmd":"modify","table":"$t","id":$i,"set":{"k":$k},"rollback":$b}"#,
-    },
-    Asked {
-        often: 4,
-        form: r#"{"cmd":"modify","table":"$t","id":$i,"set":{"s":"$s","f":$f},"add":{"n":$n},"rollback":$b}"#,
-    },
-    Asked {
-        often: 3,
-        form: r#"{"cmd":"modify","table":"$t","id":$i,"add":{"n":$n}}"#,
-    },
-    Asked {
-        often: 1,
-        form: r#"{"cmd":"modify","table":"$t","id":$i,"set":{"n":9223372036854775807}}"#,
-    },
-    Asked {
-        often: 1,
-        form: r#"{"cmd":"modify","table":"$t","id":$i}"#,
-    },
-    Asked {
-        often: 7,
-        form: r#"{"cmd":"erase","table":"$t","id":$i}"#,
-    },
-    Asked {
-        often: 3,
-        form: r#"{"cmd":"erase_key","table":"$t","index":"i0","key":[$k,"$s"]}"#,
-    },
-    Asked {
-        often: 2,
-        form: r#"{"cmd":"erase_key","table":"$t","index":"i5","key":[$k]}"#,
-    },
-    Asked {
-        often: 1,
-        form: r#"{"cmd":"erase_key","table":"$t","index":"i2","key":[$f,"$s"]}"#,
-    },
-    Asked {
-        often: 1,
-        form: r#"{"cmd":"erase_key","table":"$t","index":"i4","key":[$f,$k,"$s",$n]}"#,
-    },
-    Asked {
-        often: 1,
-        form: r#"{"cmd":"erase_key","table":"$t","index":"id","key":[$i]}"#,
-    },
-    Asked {
-        often: 7,
-        form: r#"{"cmd":"relocate","table":"$t","index":"i3","id":$i,"before":$i}"#,
-    },
-    Asked {
-        often: 2,
-        form: r#"{"cmd":"relocate","table":"$t","index":"$q","id":$i}"#,
-    },
-    Asked {
-        often: 8,
-        form: r#"{"cmd":"start"}"#,
-    },
-    Asked {
-        often: 3,
-        form: r#"{"cmd":"undo"}"#,
-    },
-    Asked {
-        often: 4,
-        form: r#"{"cmd":"squash"}"#,
-    },
-    Asked {
-        often: 1,
-        form: r#"{"cmd":"commit","revision":$r}"#,
-    },
+pub(super) const CHANGES: [(u64, &str); 20] = [
+    (
+        60,
+        r#"{"cmd":"insert","table":"$t","row":{"k":$k,"s":"$s","f":$f,"n":$n}}"#,
+    ),
+    (
+        6,
+        r#"{"cmd":"insert","table":"$t","row":{"k":$k,"s":"$s","f":$f,"n":$n},"before":{"index":"i3","id":$i}}"#,
+    ),
+    (
+        12,
+        r#"{"cmd":"replace","table":"$t","id":$i,"row":{"k":$k,"s":"$s","f":$f,"n":$n}}"#,
+    ),
+    (
+        4,
+        r#"{"cmd":"modify","table":"$t","id":$i,"set":{"k":$k},"rollback":$b}"#,
+    ),
+    (
+        4,
+        r#"{"cmd":"modify","table":"$t","id":$i,"set":{"s":"$s","f":$f},"add":{"n":$n},"rollback":$b}"#,
+    ),
+    (3, r#"{"cmd":"modify","table":"$t","id":$i,"add":{"n":$n}}"#),
+    (
+        1,
+        r#"{"cmd":"modify","table":"$t","id":$i,"set":{"n":9223372036854775807}}"#,
+    ),
+    (1, r#"{"cmd":"modify","table":"$t","id":$i}"#),
+    (7, r#"{"cmd":"erase","table":"$t","id":$i}"#),
+    (
+        3,
+        r#"{"cmd":"erase_key","table":"$t","index":"i0","key":[$k,"$s"]}"#,
+    ),
+    (
+        2,
+        r#"{"cmd":"erase_key","table":"$t","index":"i5","key":[$k]}"#,
+    ),
+    (
+        1,
+        r#"{"cmd":"erase_key","table":"$t","index":"i2","key":[$f,"$s"]}"#,
+    ),
+    (
+        1,
+        r#"{"cmd":"erase_key","table":"$t","index":"i4","key":[$f,$k,"$s",$n]}"#,
+    ),
+    (
+        1,
+        r#"{"cmd":"erase_key","table":"$t","index":"id","key":[$i]}"#,
+    ),
+    (
+        7,
+        r#"{"cmd":"relocate","table":"$t","index":"i3","id":$i,"before":$i}"#,
+    ),
+    (2, r#"{"cmd":"relocate","table":"$t","index":"$q","id":$i}"#),
+    (8, r#"{"cmd":"start"}"#),
+    (3, r#"{"cmd":"undo"}"#),
+    (4, r#"{"cmd":"squash"}"#),
+    (1, r#"{"cmd":"commit","revision":$r}"#),
 ];
 
 /// Forms of lines that read. `$l` stands for a limit.
-pub(super) const READS: [Asked; 17] = [
-    Asked {
-        often: 2,
-        form: r#"{"cmd":"revision"}"#,
-    },
-    Asked {
-        often: 3,
-        form: r#"{"cmd":"get","table":"$t","id":$i}"#,
-    },
-    Asked {
-        often: 2,
-        form: r#"{"cmd":"find","table":"$t","index":"i0","key":[$k,"$s"]}"#,
-    },
-    Asked {
-        often: 2,
-        form: r#"{"cmd":"find","table":"$t","index":"i1","key":["$s"]}"#,
-    },
-    Asked {
-        often: 2,
-        form: r#"{"cmd":"find","table":"$t","index":"i2","key":[$f,"$s"]}"#,
-    },
-    Asked {
-        often: 1,
-        form: r#"{"cmd":"nth","table":"$t","index":"i1","n":$l}"#,
-    },
-    Asked {
-        often: 2,
-        form: r#"{"cmd":"count","table":"$t","index":"i2","key":[$f,"$s"]}"#,
-    },
-    Asked {
-        often: 1,
-        form: r#"{"cmd":"count","table":"$t","index":"i4","key":[$f,$k]}"#,
-    },
-    Asked {
-        often: 1,
-        form: r#"{"cmd":"range","table":"$t","index":"i1","lower":{"ge":["$s"]},"upper":{"lt":["$s",$n]},"limit":$l,"reverse":$b}"#,
-    },
-    Asked {
-        often: 1,
-        form: r#"{"cmd":"range","table":"$t","index":"i4","lower":{"gt":[$f,$k]},"limit":$l,"reverse":$b}"#,
-    },
-    Asked {
-        often: 1,
-        form: r#"{"cmd":"range","table":"$t","index":"i5","upper":{"le":[$k]},"limit":$l}"#,
-    },
-    Asked {
-        often: 1,
-        form: r#"{"cmd":"range","table":"$t","index":"id","lower":{"ge":[$i]},"limit":$l}"#,
-    },
-    Asked {
-        often: 2,
-        form: r#"{"cmd":"list","table":"$t","index":"$q","after":$i,"limit":$l}"#,
-    },
-    Asked {
-        often: 1,
-        form: r#"{"cmd":"rank","table":"$t","index":"i1","id":$i}"#,
-    },
-    Asked {
-        often: 1,
-        form: r#"{"cmd":"lower_rank","table":"$t","index":"i1","key":["$s"]}"#,
-    },
-    Asked {
-        often: 1,
-        form: r#"{"cmd":"upper_rank","table":"$t","index":"i1","key":["$s",$n]}"#,
-    },
-    Asked {
-        often: 1,
-        form: r#"{"cmd":"size","table":"$t"}"#,
-    },
+pub(super) const READS: [(u64, &str); 17] = [
+    (2, r#"{"cmd":"revision"}"#),
+    (3, r#"{"cmd":"get","table":"$t","id":$i}"#),
+    (
+        2,
+        r#"{"cmd":"find","table":"$t","index":"i0","key":[$k,"$s"]}"#,
+    ),
+    (
+        2,
+        r#"{"cmd":"find","table":"$t","index":"i1","key":["$s"]}"#,
+    ),
+    (
+        2,
+        r#"{"cmd":"find","table":"$t","index":"i2","key":[$f,"$s"]}"#,
+    ),
+    (1, r#"{"cmd":"nth","table":"$t","index":"i1","n":$l}"#),
+    (
+        2,
+        r#"{"cmd":"count","table":"$t","index":"i2","key":[$f,"$s"]}"#,
+    ),
+    (
+        1,
+        r#"{"cmd":"count","table":"$t","index":"i4","key":[$f,$k]}"#,
+    ),
+    (
+        1,
+        r#"{"cmd":"range","table":"$t","index":"i1","lower":{"ge":["$s"]},"upper":{"lt":["$s",$n]},"limit":$l,"reverse":$b}"#,
+    ),
+    (
+        1,
+        r#"{"cmd":"range","table":"$t","index":"i4","lower":{"gt":[$f,$k]},"limit":$l,"reverse":$b}"#,
+    ),
+    (
+        1,
+        r#"{"cmd":"range","table":"$t","index":"i5","upper":{"le":[$k]},"limit":$l}"#,
+    ),
+    (
+        1,
+        r#"{"cmd":"range","table":"$t","index":"id","lower":{"ge":[$i]},"limit":$l}"#,
+    ),
+    (
+        2,
+        r#"{"cmd":"list","table":"$t","index":"$q","after":$i,"limit":$l}"#,
+    ),
+    (1, r#"{"cmd":"rank","table":"$t","index":"i1","id":$i}"#),
+    (
+        1,
+        r#"{"cmd":"lower_rank","table":"$t","index":"i1","key":["$s"]}"#,
+    ),
+    (
+        1,
+        r#"{"cmd":"upper_rank","table":"$t","index":"i1","key":["$s",$n]}"#,
+    ),
+    (1, r#"{"cmd":"size","table":"$t"}"#),
 ];
 
 /// Texts, some of them with an escape, some of several bytes.
@@ -240,12 +195,12 @@ impl Random {
     }
 
     /// One of these forms, as often as they say.
-    fn form(&mut self, forms: &[Asked]) -> &'static str {
+    fn form(&mut self, forms: &[(u64, &'static str)]) -> &'static str {
         let mut left = self.below(total(forms));
-        for asked in forms {
-            match left.checked_sub(asked.often) {
+        for (often, form) in forms {
+            match left.checked_sub(*often) {
                 Some(less) => left = less,
-                None => return asked.form,
+                None => return form,
             }
         }
         ""
@@ -301,7 +256,11 @@ impl Random {
     }
 
     /// A random line of these forms, and its newline.
-    pub(super) fn line(&mut self, alloc: Global, forms: &[Asked]) -> Result<String, AllocError> {
+    pub(super) fn line(
+        &mut self,
+        alloc: Global,
+        forms: &[(u64, &'static str)],
+    ) -> Result<String, AllocError> {
         let mut line = String::new(alloc);
         let mut is_letter = false;
         for byte in self.form(forms).bytes() {
@@ -343,10 +302,10 @@ impl Random {
 }
 
 /// How often all of these forms are asked.
-fn total(forms: &[Asked]) -> u64 {
+fn total(forms: &[(u64, &'static str)]) -> u64 {
     let mut all = 0u64;
-    for asked in forms {
-        all = all.saturating_add(asked.often);
+    for (often, _) in forms {
+        all = all.saturating_add(*often);
     }
     all
 }

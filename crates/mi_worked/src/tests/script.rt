@@ -56,16 +56,11 @@ impl Step {
     /// Has the step happen. What is sent comes behind what the connection sent before.
     fn happens(&self, sent: &mut Vec<u8>, events: &mut Vec<Event>) -> Result<(), AllocError> {
         match &self.act {
-            Act::Sends(bytes) => sent.extend_from_slice(bytes.as_slice()),
-            Act::Closes => push(events, Event::Close(self.conn)),
-            Act::BreaksOff => push(events, Event::Cut(self.conn)),
+            Act::Sends(bytes) => sent.extend_from_slice(bytes.as_slice())?,
+            Act::Closes => events.push(Event::Close(self.conn))?,
+            Act::BreaksOff => events.push(Event::Cut(self.conn))?,
         }
-    }
-
-    /// What was done is answered by this line.
-    fn answer(&mut self, reply: &str) -> Result<(), AllocError> {
-        self.replies.push_str(reply)?;
-        self.replies.push('\n')
+        Ok(())
     }
 }
 
@@ -88,15 +83,11 @@ impl Script {
     fn of_row(alloc: Global, row: &'static str, before: &[Script]) -> Result<Script, AllocError> {
         let (name, text) = row.split_once('\n').unwrap_or((row, ""));
         let mut script = Script::new(alloc, name, text)?;
-        script.read_behind(alloc, before)?;
+        if let Some(first) = first_of(text) {
+            script.read_all(alloc, text_of(before, first))?;
+        }
+        script.read_all(alloc, text)?;
         Ok(script)
-    }
-
-    /// Does what the row says, behind the row that it goes on from.
-    fn read_behind(&mut self, alloc: Global, before: &[Script]) -> Result<(), AllocError> {
-        let text = self.text;
-        self.read_all(alloc, text_before(text, before))?;
-        self.read_all(alloc, text)
     }
 
     /// A connection does something, and isn't answered yet.
@@ -119,10 +110,11 @@ impl Script {
 
     /// What was done last is answered by this line.
     fn answer(&mut self, reply: &str) -> Result<(), AllocError> {
-        match self.steps.last_mut() {
-            Some(step) => step.answer(reply),
-            None => Ok(()),
-        }
+        let Some(step) = self.steps.last_mut() else {
+            return Ok(());
+        };
+        step.replies.push_str(reply)?;
+        step.replies.push('\n')
     }
 
     /// Does what a line of a row says.
@@ -174,14 +166,6 @@ impl Script {
         self.steps.iter().all(|step| step.conn == 1 && !matches!(step.act, Act::BreaksOff))
     }
 
-    /// The connection of the last of so many steps, or connection 1 where there is none.
-    pub(super) fn conn_before(&self, count: usize) -> u64 {
-        match self.steps.iter().take(count).last() {
-            Some(step) => step.conn,
-            None => 1,
-        }
-    }
-
     /// All bytes that are sent.
     pub(super) fn bytes(&self, alloc: Global) -> Result<Vec<u8>, AllocError> {
         let mut all = Vec::new(alloc);
@@ -217,26 +201,12 @@ impl Script {
         count: usize,
         pieces: Pieces,
     ) -> Result<Vec<Event>, AllocError> {
-        let mut events = Vec::new(alloc);
-        self.push_events(alloc, count, pieces, &mut events)?;
-        Ok(events)
-    }
-
-    /// Has both connections come, and do so many steps.
-    fn push_events(
-        &self,
-        alloc: Global,
-        count: usize,
-        pieces: Pieces,
-        events: &mut Vec<Event>,
-    ) -> Result<(), AllocError> {
-        push(events, Event::Attach(1))?;
-        push(events, Event::Attach(2))?;
+        let mut events = vec![in alloc; Event::Attach(1), Event::Attach(2)]?;
         let mut sent = Vec::new(alloc);
         for at in 0..count {
-            self.push_step(alloc, at, pieces, &mut sent, events)?;
+            self.push_step(alloc, at, pieces, &mut sent, &mut events)?;
         }
-        Ok(())
+        Ok(events)
     }
 
     /// Has a step happen; what was sent comes in pieces where nothing is joined to it.
@@ -292,28 +262,15 @@ impl Pieces {
         bytes: &[u8],
     ) -> Result<(), AllocError> {
         for piece in bytes.chunks(self.size(bytes.len())) {
-            push(events, Event::Piece(conn, piece.to_vec(alloc)?))?;
+            events.push(Event::Piece(conn, piece.to_vec(alloc)?))?;
         }
         Ok(())
     }
 }
 
-/// One event more happens.
-pub(super) fn push(events: &mut Vec<Event>, event: Event) -> Result<(), AllocError> {
-    Ok(events.push(event)?)
-}
-
 /// The name of the row behind which a row goes on.
 fn first_of(text: &str) -> Option<&str> {
     Some(text.strip_prefix("after ")?.split_once('\n')?.0)
-}
-
-/// What the row says itself behind which a row goes on, or nothing.
-fn text_before(text: &str, scripts: &[Script]) -> &'static str {
-    match first_of(text) {
-        Some(name) => text_of(scripts, name),
-        None => "",
-    }
 }
 
 /// What the row of a name says itself.
@@ -334,7 +291,8 @@ fn read_rows(
 ) -> Result<(), AllocError> {
     let rows = text.strip_prefix("row ").unwrap_or(text);
     for row in rows.split("\nrow ") {
-        scripts.push(Script::of_row(alloc, row, scripts.as_slice())?)?;
+        let script = Script::of_row(alloc, row, scripts.as_slice())?;
+        scripts.push(script)?;
     }
     Ok(())
 }

@@ -8,13 +8,6 @@ use std::alloc::Global;
 use std::process::Abort;
 use std::test::Fail;
 
-/// How a row in such pieces ends.
-fn ended(alloc: Global, form: Form, script: &Script, pieces: Pieces) -> Result<Ended, Fail> {
-    let catalog = read_catalog(alloc, script.tables.as_bytes())?;
-    let events = script.events(alloc, pieces)?;
-    form.driven(alloc, &catalog, events.as_slice(), Sink::sound(alloc))
-}
-
 /// A row in such pieces is answered as it says.
 fn check_script(
     rt: &impl Abort,
@@ -23,15 +16,16 @@ fn check_script(
     script: &Script,
     pieces: Pieces,
 ) -> Result<(), Fail> {
-    let ended = ended(alloc, form, script, pieces)?;
-    let want = script.replies(alloc)?;
-    check_ended(rt, script, pieces, &ended, want.as_str());
+    let catalog = read_catalog(alloc, script.tables.as_bytes())?;
+    let events = script.events(alloc, pieces)?;
+    let ended = form.driven(alloc, &catalog, events.as_slice(), Sink::sound(alloc))?;
+    assert!(rt; ended.answer.is_ok(), "{} in {pieces:?}", script.name);
+    check_written(rt, script, pieces, &ended, script.replies(alloc)?.as_str());
     Ok(())
 }
 
-/// Nothing failed, and what was written is what is wanted.
-fn check_ended(rt: &impl Abort, script: &Script, pieces: Pieces, ended: &Ended, want: &str) {
-    assert!(rt; ended.answer.is_ok(), "{} in {pieces:?}", script.name);
+/// What was written is what is wanted.
+fn check_written(rt: &impl Abort, script: &Script, pieces: Pieces, ended: &Ended, want: &str) {
     assert_eq!(rt;
         ended.written.as_slice(),
         want.as_bytes(),
