@@ -1,23 +1,18 @@
 -- The keys of a hashed index are lawful, as its chains ask.
 use Rattle.std.proofs.Common.{◌≡◌, ℕ, suc, ◌==◌, ◌&&◌, Bool, true, false, List, [], ◌∷◌, length, slice_get, refl, sym, ap, ◌∙◌}
 use Rattle.std.proofs.lemmas.Bool.{eqb-true}
-use Rattle.std.proofs.lemmas.Map.Lookups.{exact_signed, exact_bytes}
-use Rattle.std.specs.List.{cons_option}
-use Rattle.std.specs.declared.option.Option.{Option}
-use Rattle.std.specs.declared.option.Option.TheVariants.{None, Some}
+use Rattle.std.specs.declared.option.Option.TheVariants.{Some}
 use Rattle.std.specs.declared.cmp.Ordering.{Ordering}
 use Rattle.std.specs.declared.cmp.Ordering.TheVariants.{Less, Equal, Greater}
-use Rattle.std.specs.Ordering.{is_eq, ordering_then, ordering_reverse, bool_cmp, eq_by_cmp}
+use Rattle.std.specs.Ordering.{is_eq, ordering_then, eq_by_cmp}
 use Rattle.std.specs.Cmp.{IsTotalOrder, tied_back, IsEquivalence, eq_by_cmp_equiv}
 use Rattle.mi_value.specs.declared.value.Value.{Value}
-use Rattle.mi_value.specs.declared.value.Value.TheVariants.{Int, Text, Flag}
 use Rattle.mi_value.specs.declared.compare.KeyPart.{KeyPart}
 use Rattle.mi_value.specs.declared.bound.Probe.{Probe}
 use Rattle.mi_value.specs.declared.bound.Probe.TheVariants.{Key, Of}
-use Rattle.mi_value.specs.Order.{compare_value, compare_missing, directed, compare_part, compare_key, compare_prefix, compare_to_part}
-use Rattle.mi_value.specs.Hash.{values_hash, key_values}
+use Rattle.mi_value.specs.Order.{compare_part, compare_key, compare_prefix, compare_to_part}
 use Rattle.mi_value.proofs.OrderLaws.{compare_key_total, directed_total, prefix_alike}
-use Rattle.mi_value.proofs.Hashes.{equal_hashes}
+use Rattle.mi_value.proofs.Hashes.{equal_hashes, key_hashes}
 use Rattle.mi_order.specs.declared.stored.Stored.{Stored}
 use Rattle.mi_order.specs.Mixing.{mixed}
 use Rattle.mi_order.specs.Orders.{keying_hash, sought_hash, has_one_key, is_whole, is_key_of, KeyingsAreLawful}
@@ -36,43 +31,13 @@ equal_of Less h = absurd (let k : false ≡ true = h in cc)
 equal_of Equal h = refl
 equal_of Greater h = absurd (let k : false ≡ true = h in cc)
 
-reversed_equal : (o : Ordering) → ordering_reverse o ≡ Equal → o ≡ Equal
-reversed_equal Less h = absurd (cc)
-reversed_equal Equal h = refl
-reversed_equal Greater h = absurd (cc)
-
-directed_equal : (b : Bool) (o : Ordering) → directed b o ≡ Equal → o ≡ Equal
-directed_equal true o h = reversed_equal o h
-directed_equal false o h = h
-
-bools_equal : (a b : Bool) → bool_cmp a b ≡ Equal → a ≡ b
-bools_equal true true h = refl
-bools_equal true false h = absurd (cc)
-bools_equal false true h = absurd (cc)
-bools_equal false false h = refl
-
-values_equal : (a b : Value) → compare_value a b ≡ Equal → a ≡ b
-values_equal (Int m) (Int n) h = ap Int (exact_signed m n h)
-values_equal (Int m) (Text bs) h = absurd (cc)
-values_equal (Int m) (Flag c) h = absurd (cc)
-values_equal (Text ts) (Int n) h = absurd (cc)
-values_equal (Text ts) (Text bs) h = ap Text (exact_bytes ts bs h)
-values_equal (Text ts) (Flag c) h = absurd (cc)
-values_equal (Flag b) (Int n) h = absurd (cc)
-values_equal (Flag b) (Text bs) h = absurd (cc)
-values_equal (Flag b) (Flag c) h = ap Flag (bools_equal b c h)
-
-there_equal : (v : Value) (o : Option Value) → compare_missing (Some v) o ≡ Equal → Some v ≡ o
-there_equal v None h = absurd (cc)
-there_equal v (Some w) h = ap Some (values_equal v w h)
-
 none_suc : (n : ℕ) → 0 ≡ suc n → ⊥
 none_suc n e = cc
 
 suc_inj : {m n : ℕ} → suc m ≡ suc n → m ≡ n
 suc_inj {m} {n} e = cc
 
--- values, one for each part, are of one key alone, and are what its records have there
+-- values, one for each part, are of one key alone
 whole_same : (ps : List KeyPart) (vs r s : List Value) → length vs ≡ length ps
     → compare_prefix ps vs r ≡ Equal → compare_prefix ps vs s ≡ Equal → compare_key ps r s ≡ Equal
 whole_same [] vs r s n g h = refl
@@ -84,16 +49,6 @@ whole_same (p ∷ ps) (v ∷ vs) r s n g h =
     let here : compare_part p r s ≡ Equal =
     o.congr (slice_get r p.column) (Some v) (slice_get s p.column) (tied_back o (Some v) (slice_get r p.column) left.0) ∙ right.0 in
     ap (λ z. ordering_then z (compare_key ps r s)) here ∙ whole_same ps vs r s (suc_inj n) left.1 right.1
-
-whole_values : (ps : List KeyPart) (vs r : List Value) → length vs ≡ length ps → compare_prefix ps vs r ≡ Equal → key_values ps r ≡ vs
-whole_values [] [] r n h = refl
-whole_values [] (v ∷ vs) r n h = absurd (none_suc (length vs) (sym n))
-whole_values (p ∷ ps) [] r n h = absurd (none_suc (length ps) n)
-whole_values (p ∷ ps) (v ∷ vs) r n h =
-    let both = both_equal (compare_to_part p v r) (compare_prefix ps vs r) h in
-    let here : Some v ≡ slice_get r p.column = there_equal v (slice_get r p.column)
-    (directed_equal p.descending (compare_missing (Some v) (slice_get r p.column)) both.0) in
-    λ i. cons_option (sym here i) (whole_values ps vs r (suc_inj n) both.1 i)
 
 -- a probe of a whole key
 record IsWhole (ps : List KeyPart) (vs r : List Value) : Type 0 where
@@ -119,7 +74,7 @@ key_alone ps x y (Of q) g h =
     ap is_eq (o.congr x.row q.now y.row (equal_of (compare_key ps x.row q.now) g) ∙ tied_back o y.row q.now (equal_of (compare_key ps y.row q.now) h))
 
 key_hash : (ps : List KeyPart) (x : Stored) (p : Probe) → is_key_of ps x p ≡ true → keying_hash ps x ≡ sought_hash ps p
-key_hash ps x (Key vs) h = let a = whole ps vs.now x.row h in ap values_hash (whole_values ps vs.now x.row a.long a.equal)
+key_hash ps x (Key vs) h = let a = whole ps vs.now x.row h in sym (key_hashes ps vs.now x.row a.long a.equal)
 key_hash ps x (Of q) h = equal_hashes ps x.row q.now (equal_of (compare_key ps x.row q.now) h)
 
 pub keyings_are_lawful : KeyingsAreLawful
