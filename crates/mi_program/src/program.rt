@@ -1,11 +1,11 @@
 //! What the program does, in its order: the words are judged, the schema is read, then `ok` is printed or the input is served.
 //! A failure is one line on the third stream; where that can't be written it is passed over.
-ghost use Rattle.std.specs.Prelude.{◌≡◌, ◌≢◌, ◌⊎◌, ◌≤◌, [], ◌∷◌, map, codes, true, false, Err, None, is_some, OnOk, IfErr, IfSome};
+ghost use Rattle.std.specs.Prelude.{◌≡◌, ◌≢◌, ◌⊎◌, ◌≤◌, [], ◌∷◌, map, codes, true, false, Err, None, is_some, OnOk, IsOk, IfErr, IfSome};
 ghost use Rattle.std.specs.Net.Addr.{ipv4_octets};
 ghost use Rattle.std.specs.Io.KnownBytes.{Appends};
 ghost use Rattle.clap.specs.Faults.{fault_of};
 ghost use Rattle.mi_value.specs.declared.limits.TheConstants.{MAX_CONNECTIONS};
-ghost use Rattle.mi_program.specs.Status.{status_of, status_of_words};
+ghost use Rattle.mi_program.specs.Status.{served_failure, status_of, status_of_words};
 ghost use Rattle.clap.specs.Words.{matches_of};
 ghost use Rattle.mi_program.specs.Words.{command_line, keeps_rules, asks_check, asks_port, names_schema};
 ghost use Rattle.mi_program.specs.Source.{IsCatalog};
@@ -53,7 +53,9 @@ fn listen_address(port: u16) -> (Ipv4Addr, u16)
 
 /// What serving answered, its fault as a failure.
 fn answered(served: Result<(), ServeFault>) -> Result<(), Failure>
-    ensures { IfErr result (λ failure. status_of failure ≡ 4) }
+    ensures sound { IsOk served → IsOk result }
+    ensures fault { IfErr served (λ fault. result ≡ Err (served_failure fault)) }
+    ensures late { IfErr result (λ failure. status_of failure ≡ 4) }
 {
     match served {
         Ok(()) => Ok(()),
