@@ -3,16 +3,69 @@ use Rattle.std.specs.Option.{option_or}
 use Rattle.mi_node.specs.Pool.{IsHeldIf, Keeps, link_of}
 use Rattle.mi_node.specs.Refs.{Ref}
 use Rattle.mi_node.specs.declared.link.Link.{Link}
-use Rattle.mi_chain.specs.Chained.{AreChained, IsPlaced}
+use Rattle.mi_chain.specs.Chained.{AreChained, AreTagged, IsPlaced}
 use Rattle.mi_chain.specs.Keying.{same_nodes, stamp_at, hash_node}
 use Rattle.mi_chain.specs.Heads.{heads_joined}
-use Rattle.mi_chain.specs.Places.{IsFound}
+use Rattle.mi_chain.specs.Groups.{members, IsChain}
+use Rattle.mi_chain.specs.Places.{Found, IsFound, IsGap}
 use Rattle.mi_chain.proofs.ByValue.{hash_is}
-use Rattle.mi_chain.proofs.Whole.{held_or, group_at, gap_ends, here, groups_at, chain_here}
+use Rattle.mi_chain.proofs.Whole.{Group, held_or, group_at, gap_ends, here, groups_at, chain_here}
 use Rattle.mi_chain.proofs.Whole.{tags_here, few_groups, none_left, spot_of_gap, inserted_new, inserted_old, tags_put}
-use Rattle.mi_chain.proofs.chains.Chains.insert.Goals.{After-begin_group, After-put}
+use Rattle.mi_chain.proofs.chains.Chains.insert.Goals.{After-bucket-bucket, After-head-head, In-Some, After-gap_for-gap, After-begin_group, After-put}
 use Rattle.mi_chain.proofs.chains.Chains.insert.Given.{Over}
 use Rattle.mi_chain.proofs.chains.Chains.insert.Goals as goal
+
+module _ (g : Over) (c : After-bucket-bucket g) where
+  -- the hash is the node's
+  hash_found : c.hash-hash.result ≡ hash_node (g.H.KeyHash.keying c.args.self.now.keys) c.args.p.now c.args.node
+  hash_found = c.hash-hash.ensures ∙ sym (hash_is (g.H.KeyHash.keying c.args.self.now.keys) c.args.p.now c.args.node c.value.result.now c.value.ensures)
+
+  -- and the bucket is that of the hash
+  bucket_found : c.bucket-bucket.result ≡ hash_node (g.H.KeyHash.keying c.args.self.now.keys) c.args.p.now c.args.node % vec_len c.args.self.now.buckets
+  bucket_found = c.bucket-bucket.ensures ∙ ap (λ z. z % vec_len c.args.self.now.buckets) hash_found
+
+  bucket_inside : c.bucket-bucket.result < vec_len c.args.self.now.buckets
+  bucket_inside = subst (λ i. i < vec_len c.args.self.now.buckets) (sym bucket_found)
+      (here c.args.self.now (g.H.KeyHash.keying c.args.self.now.keys) (g.met.H.KeyHash.lawful c.args.self.now.keys) c.args.p.now (c.requires.0 ++ c.requires.1)
+      (hash_node (g.H.KeyHash.keying c.args.self.now.keys) c.args.p.now c.args.node) c.requires.2)
+
+-- the chain of that bucket, for a list that the chains stand for
+module _ (g : Over) (c : After-head-head g)
+    (bucket : c.bucket-bucket.result ≡ hash_node (g.H.KeyHash.keying c.args.self.now.keys) c.args.p.now c.args.node % vec_len c.args.self.now.buckets)
+    (rs : List Ref) (h : AreChained c.args.self.now (g.H.KeyHash.keying c.args.self.now.keys) c.args.p.now rs) where
+  abbrev groups : List (List Ref)
+  groups = groups_at c.args.self.now (g.H.KeyHash.keying c.args.self.now.keys) (g.met.H.KeyHash.lawful c.args.self.now.keys) c.args.p.now rs h
+      (hash_node (g.H.KeyHash.keying c.args.self.now.keys) c.args.p.now c.args.node)
+
+  chain_found : IsChain c.args.p.now c.args.self.now.slot c.head-head.result groups
+  chain_found = chain_here c.args.self.now (g.H.KeyHash.keying c.args.self.now.keys) (g.met.H.KeyHash.lawful c.args.self.now.keys) c.args.p.now rs h
+      (hash_node (g.H.KeyHash.keying c.args.self.now.keys) c.args.p.now c.args.node) c.head-head.result
+      (c.head-head.ensures ∙ ap (λ i. slice_index_or c.args.self.now.buckets.items i None) bucket)
+
+  tags_found : AreTagged (hash_node (g.H.KeyHash.keying c.args.self.now.keys) c.args.p.now) c.args.p.now c.args.self.now.slot (members groups)
+  tags_found = tags_here c.args.self.now (g.H.KeyHash.keying c.args.self.now.keys) (g.met.H.KeyHash.lawful c.args.self.now.keys) c.args.p.now rs h
+      (hash_node (g.H.KeyHash.keying c.args.self.now.keys) c.args.p.now c.args.node)
+
+-- the group of the node's key in it
+module _ (g : Over) (c : In-Some g) (gs : List (List Ref)) (chain : IsChain c.args.p.now c.args.self.now.slot c.head-head.result gs)
+    (tags : AreTagged (hash_node (g.H.KeyHash.keying c.args.self.now.keys) c.args.p.now) c.args.p.now c.args.self.now.slot (members gs)) where
+  group_found : Found (same_nodes (g.H.KeyHash.keying c.args.self.now.keys) c.args.p.now c.args.node) gs c.group_of-place.result.before c.in-Some.first
+  group_found = subst (IsFound (same_nodes (g.H.KeyHash.keying c.args.self.now.keys) c.args.p.now c.args.node) gs c.group_of-place.result.before) c.in-Some.is
+      (c.group_of-place.ensures gs chain tags)
+
+  group_stands : Group c.args.p.now c.args.self.now.slot c.group_of-place.result.before c.in-Some.first group_found.group
+  group_stands = group_at c.args.p.now c.args.self.now.slot c.head-head.result gs (same_nodes (g.H.KeyHash.keying c.args.self.now.keys) c.args.p.now c.args.node)
+      c.group_of-place.result.before c.in-Some.first chain group_found
+
+-- the gap in the group where the stamp goes
+module _ (g : Over) (c : After-gap_for-gap g) (nodes : List Ref)
+    (group : Group c.args.p.now c.args.self.now.slot c.group_of-place.result.before c.in-Some.first nodes) where
+  gap_found : IsGap (stamp_at c.args.p.now c.args.self.now.slot) c.args.stamp nodes c.gap_for-gap.result.prev c.gap_for-gap.result.next
+  gap_found = c.gap_for-gap.ensures nodes group.rest group.linked group.apart group.first_is
+
+  ends_held : IsHeldIf c.args.p.now c.gap_for-gap.result.prev × IsHeldIf c.args.p.now c.gap_for-gap.result.next
+  ends_held = gap_ends c.args.p.now (stamp_at c.args.p.now c.args.self.now.slot) c.args.stamp nodes c.gap_for-gap.result.prev
+      c.gap_for-gap.result.next group.all_held gap_found
 
 pub value-requires : goal.value-requires
 value-requires g c = c.requires.3.held
@@ -21,11 +74,7 @@ pub bucket-bucket-requires : goal.bucket-bucket-requires
 bucket-bucket-requires g c = c.requires.2.power
 
 pub head-head-requires : goal.head-head-requires
-head-head-requires g c = let v = c.args in let m = v.p.now in let l = v.self.now in let k = g.H.KeyHash.keying l.keys in
-    let w = g.met.H.KeyHash.lawful l.keys in let n = vec_len l.buckets in let r = v.node in let x = hash_node k m r in
-    let ex : c.hash-hash.result ≡ x = c.hash-hash.ensures ∙ sym (hash_is k m r c.value.result.now c.value.ensures) in
-    let eb : c.bucket-bucket.result ≡ x % n = c.bucket-bucket.ensures ∙ ap (λ z. z % n) ex in
-    subst (λ i. i < n) (sym eb) (here l k w m (c.requires.0 ++ c.requires.1) x c.requires.2)
+head-head-requires g c = bucket_inside g (goal.at.head-head-requires g c).After-bucket-bucket
 
 pub group_of-place-requires-clause-held : goal.group_of-place-requires-clause-held
 group_of-place-requires-clause-held g c = c.requires.3.held
@@ -34,22 +83,12 @@ pub group_of-place-requires-clause-slot : goal.group_of-place-requires-clause-sl
 group_of-place-requires-clause-slot g c = let b = c.requires.2.buckets in b.slot
 
 pub group_of-place-requires-clause-hash : goal.group_of-place-requires-clause-hash
-group_of-place-requires-clause-hash g c = let v = c.args in let m = v.p.now in let l = v.self.now in let k = g.H.KeyHash.keying l.keys in
-    let w = g.met.H.KeyHash.lawful l.keys in let n = vec_len l.buckets in let r = v.node in let x = hash_node k m r in
-    let ex : c.hash-hash.result ≡ x = c.hash-hash.ensures ∙ sym (hash_is k m r c.value.result.now c.value.ensures) in
-    let eb : c.bucket-bucket.result ≡ x % n = c.bucket-bucket.ensures ∙ ap (λ z. z % n) ex in
-    ex
+group_of-place-requires-clause-hash g c = hash_found g (goal.at.group_of-place-requires-clause-hash g c).After-bucket-bucket
 
 pub group_of-place-requires-clause-chain : goal.group_of-place-requires-clause-chain
-group_of-place-requires-clause-chain g c = let v = c.args in let m = v.p.now in let l = v.self.now in let k = g.H.KeyHash.keying l.keys in
-    let w = g.met.H.KeyHash.lawful l.keys in let n = vec_len l.buckets in let r = v.node in let x = hash_node k m r in
-    let ex : c.hash-hash.result ≡ x = c.hash-hash.ensures ∙ sym (hash_is k m r c.value.result.now c.value.ensures) in
-    let eb : c.bucket-bucket.result ≡ x % n = c.bucket-bucket.ensures ∙ ap (λ z. z % n) ex in
-    let chain = chain_here l k w m (c.requires.0 ++ c.requires.1) c.requires.2 x c.head-head.result
-    (c.head-head.ensures ∙ ap (λ i. slice_index_or l.buckets.items i None) eb) in
-    let tags = tags_here l k w m (c.requires.0 ++ c.requires.1) c.requires.2 x in
-    let gs = groups_at l k w m (c.requires.0 ++ c.requires.1) c.requires.2 x in
-    (gs, chain, tags)
+group_of-place-requires-clause-chain g c =
+    let o = goal.at.group_of-place-requires-clause-chain g c in let bucket = bucket_found g o.After-bucket-bucket in let h = c.requires.2 in
+    (groups g o.After-head-head bucket _ h, chain_found g o.After-head-head bucket _ h, tags_found g o.After-head-head bucket _ h)
 
 pub begin_group-requires-clause-node : goal.begin_group-requires-clause-node
 begin_group-requires-clause-node g c = c.requires.3.held
@@ -58,11 +97,7 @@ pub begin_group-requires-clause-slot : goal.begin_group-requires-clause-slot
 begin_group-requires-clause-slot g c = let b = c.requires.2.buckets in b.slot
 
 pub begin_group-requires-clause-bucket : goal.begin_group-requires-clause-bucket
-begin_group-requires-clause-bucket g c = let v = c.args in let m = v.p.now in let l = v.self.now in let k = g.H.KeyHash.keying l.keys in
-    let w = g.met.H.KeyHash.lawful l.keys in let n = vec_len l.buckets in let r = v.node in let x = hash_node k m r in
-    let ex : c.hash-hash.result ≡ x = c.hash-hash.ensures ∙ sym (hash_is k m r c.value.result.now c.value.ensures) in
-    let eb : c.bucket-bucket.result ≡ x % n = c.bucket-bucket.ensures ∙ ap (λ z. z % n) ex in
-    subst (λ i. i < n) (sym eb) (here l k w m (c.requires.0 ++ c.requires.1) x c.requires.2)
+begin_group-requires-clause-bucket g c = bucket_inside g (goal.at.begin_group-requires-clause-bucket g c).After-bucket-bucket
 
 pub begin_group-requires-clause-few : goal.begin_group-requires-clause-few
 begin_group-requires-clause-few g c = let l = c.args.self.now in few_groups l (g.H.KeyHash.keying l.keys) (g.met.H.KeyHash.lawful l.keys) c.args.p.now
@@ -72,48 +107,28 @@ pub gap_for-gap-requires-clause-slot : goal.gap_for-gap-requires-clause-slot
 gap_for-gap-requires-clause-slot g c = let b = c.requires.2.buckets in b.slot
 
 pub gap_for-gap-requires-clause-group : goal.gap_for-gap-requires-clause-group
-gap_for-gap-requires-clause-group g c = let v = c.args in let m = v.p.now in let l = v.self.now in let k = g.H.KeyHash.keying l.keys in
-    let w = g.met.H.KeyHash.lawful l.keys in let n = vec_len l.buckets in let r = v.node in let x = hash_node k m r in
-    let ex : c.hash-hash.result ≡ x = c.hash-hash.ensures ∙ sym (hash_is k m r c.value.result.now c.value.ensures) in
-    let eb : c.bucket-bucket.result ≡ x % n = c.bucket-bucket.ensures ∙ ap (λ z. z % n) ex in
-    let chain = chain_here l k w m (c.requires.0 ++ c.requires.1) c.requires.2 x c.head-head.result
-    (c.head-head.ensures ∙ ap (λ i. slice_index_or l.buckets.items i None) eb) in
-    let tags = tags_here l k w m (c.requires.0 ++ c.requires.1) c.requires.2 x in
-    let gs = groups_at l k w m (c.requires.0 ++ c.requires.1) c.requires.2 x in
-    let found = subst (IsFound (same_nodes k m r) gs c.group_of-place.result.before) c.in-Some.is (c.group_of-place.ensures gs chain tags) in
-    let group = group_at m l.slot c.head-head.result gs (same_nodes k m r) c.group_of-place.result.before c.in-Some.first chain found in
-    (found.group, group.rest, group.linked, group.apart, group.first_is)
+gap_for-gap-requires-clause-group g c =
+    let o = goal.at.gap_for-gap-requires-clause-group g c in let bucket = bucket_found g o.After-bucket-bucket in let h = c.requires.2 in
+    let chain = chain_found g o.After-head-head bucket _ h in let tags = tags_found g o.After-head-head bucket _ h in
+    let group = group_stands g o.In-Some _ chain tags in
+    ((group_found g o.In-Some _ chain tags).group, group.rest, group.linked, group.apart, group.first_is)
 
 pub link-link-requires-clause-held : goal.link-link-requires-clause-held
-link-link-requires-clause-held g c = let v = c.args in let m = v.p.now in let l = v.self.now in let k = g.H.KeyHash.keying l.keys in
-    let w = g.met.H.KeyHash.lawful l.keys in let n = vec_len l.buckets in let r = v.node in let x = hash_node k m r in
-    let ex : c.hash-hash.result ≡ x = c.hash-hash.ensures ∙ sym (hash_is k m r c.value.result.now c.value.ensures) in
-    let eb : c.bucket-bucket.result ≡ x % n = c.bucket-bucket.ensures ∙ ap (λ z. z % n) ex in
-    let chain = chain_here l k w m (c.requires.0 ++ c.requires.1) c.requires.2 x c.head-head.result
-    (c.head-head.ensures ∙ ap (λ i. slice_index_or l.buckets.items i None) eb) in
-    let tags = tags_here l k w m (c.requires.0 ++ c.requires.1) c.requires.2 x in
-    let gs = groups_at l k w m (c.requires.0 ++ c.requires.1) c.requires.2 x in
-    let found = subst (IsFound (same_nodes k m r) gs c.group_of-place.result.before) c.in-Some.is (c.group_of-place.ensures gs chain tags) in
-    let group = group_at m l.slot c.head-head.result gs (same_nodes k m r) c.group_of-place.result.before c.in-Some.first chain found in
+link-link-requires-clause-held g c =
+    let o = goal.at.link-link-requires-clause-held g c in let bucket = bucket_found g o.After-bucket-bucket in let h = c.requires.2 in
+    let chain = chain_found g o.After-head-head bucket _ h in let tags = tags_found g o.After-head-head bucket _ h in
+    let group = group_stands g o.In-Some _ chain tags in
     group.first_held
 
 pub link-link-requires-clause-slot : goal.link-link-requires-clause-slot
 link-link-requires-clause-slot g c = let b = c.requires.2.buckets in b.slot
 
 pub after-follower-requires-clause-held : goal.after-follower-requires-clause-held
-after-follower-requires-clause-held g c = let v = c.args in let m = v.p.now in let l = v.self.now in let k = g.H.KeyHash.keying l.keys in
-    let w = g.met.H.KeyHash.lawful l.keys in let n = vec_len l.buckets in let r = v.node in let x = hash_node k m r in
-    let ex : c.hash-hash.result ≡ x = c.hash-hash.ensures ∙ sym (hash_is k m r c.value.result.now c.value.ensures) in
-    let eb : c.bucket-bucket.result ≡ x % n = c.bucket-bucket.ensures ∙ ap (λ z. z % n) ex in
-    let chain = chain_here l k w m (c.requires.0 ++ c.requires.1) c.requires.2 x c.head-head.result
-    (c.head-head.ensures ∙ ap (λ i. slice_index_or l.buckets.items i None) eb) in
-    let tags = tags_here l k w m (c.requires.0 ++ c.requires.1) c.requires.2 x in
-    let gs = groups_at l k w m (c.requires.0 ++ c.requires.1) c.requires.2 x in
-    let found = subst (IsFound (same_nodes k m r) gs c.group_of-place.result.before) c.in-Some.is (c.group_of-place.ensures gs chain tags) in
-    let group = group_at m l.slot c.head-head.result gs (same_nodes k m r) c.group_of-place.result.before c.in-Some.first chain found in
-    let gap = c.gap_for-gap.ensures found.group group.rest group.linked group.apart group.first_is in
-    let ends = gap_ends m (stamp_at m l.slot) v.stamp found.group c.gap_for-gap.result.prev c.gap_for-gap.result.next group.all_held gap in
-    ends.0
+after-follower-requires-clause-held g c =
+    let o = goal.at.after-follower-requires-clause-held g c in let bucket = bucket_found g o.After-bucket-bucket in let h = c.requires.2 in
+    let chain = chain_found g o.After-head-head bucket _ h in let tags = tags_found g o.After-head-head bucket _ h in
+    let group = group_stands g o.In-Some _ chain tags in
+    (ends_held g o.After-gap_for-gap _ group).0
 
 pub after-follower-requires-clause-slot : goal.after-follower-requires-clause-slot
 after-follower-requires-clause-slot g c = let b = c.requires.2.buckets in b.slot
@@ -125,31 +140,21 @@ pub put-requires-clause-slot : goal.put-requires-clause-slot
 put-requires-clause-slot g c = let b = c.requires.2.buckets in b.slot
 
 pub put-requires-clause-bucket : goal.put-requires-clause-bucket
-put-requires-clause-bucket g c = let v = c.args in let m = v.p.now in let l = v.self.now in let k = g.H.KeyHash.keying l.keys in
-    let w = g.met.H.KeyHash.lawful l.keys in let n = vec_len l.buckets in let r = v.node in let x = hash_node k m r in
-    let ex : c.hash-hash.result ≡ x = c.hash-hash.ensures ∙ sym (hash_is k m r c.value.result.now c.value.ensures) in
-    let eb : c.bucket-bucket.result ≡ x % n = c.bucket-bucket.ensures ∙ ap (λ z. z % n) ex in
-    subst (λ i. i < n) (sym eb) (here l k w m (c.requires.0 ++ c.requires.1) x c.requires.2)
+put-requires-clause-bucket g c = bucket_inside g (goal.at.put-requires-clause-bucket g c).After-bucket-bucket
 
 pub put-requires-clause-held : goal.put-requires-clause-held
-put-requires-clause-held g c = let v = c.args in let m = v.p.now in let l = v.self.now in let k = g.H.KeyHash.keying l.keys in
-    let w = g.met.H.KeyHash.lawful l.keys in let n = vec_len l.buckets in let r = v.node in let x = hash_node k m r in
-    let ex : c.hash-hash.result ≡ x = c.hash-hash.ensures ∙ sym (hash_is k m r c.value.result.now c.value.ensures) in
-    let eb : c.bucket-bucket.result ≡ x % n = c.bucket-bucket.ensures ∙ ap (λ z. z % n) ex in
-    let chain = chain_here l k w m (c.requires.0 ++ c.requires.1) c.requires.2 x c.head-head.result
-    (c.head-head.ensures ∙ ap (λ i. slice_index_or l.buckets.items i None) eb) in
-    let tags = tags_here l k w m (c.requires.0 ++ c.requires.1) c.requires.2 x in
-    let gs = groups_at l k w m (c.requires.0 ++ c.requires.1) c.requires.2 x in
-    let found = subst (IsFound (same_nodes k m r) gs c.group_of-place.result.before) c.in-Some.is (c.group_of-place.ensures gs chain tags) in
-    let group = group_at m l.slot c.head-head.result gs (same_nodes k m r) c.group_of-place.result.before c.in-Some.first chain found in
-    let gap = c.gap_for-gap.ensures found.group group.rest group.linked group.apart group.first_is in
-    let ends = gap_ends m (stamp_at m l.slot) v.stamp found.group c.gap_for-gap.result.prev c.gap_for-gap.result.next group.all_held gap in (
+put-requires-clause-held g c =
+    let o = goal.at.put-requires-clause-held g c in let bucket = bucket_found g o.After-bucket-bucket in let h = c.requires.2 in
+    let chain = chain_found g o.After-head-head bucket _ h in let tags = tags_found g o.After-head-head bucket _ h in
+    let group = group_stands g o.In-Some _ chain tags in
+    let m = c.args.p.now in let ends = ends_held g o.After-gap_for-gap _ group in (
       subst (IsHeldIf m) (sym c.or-left.ensures) (held_or m c.gap_for-gap.result.prev c.group_of-place.result.before ends.0 group.before_held),
       subst
           (IsHeldIf m) (sym c.or-right.ensures) (held_or m c.gap_for-gap.result.next (Some c.in-Some.first) ends.1 group.first_held),
     )
 
-module _ (g : Over) (c : After-begin_group g) where
+module _ (g : Over) (c : After-begin_group g) (hash : c.hash-hash.result ≡ hash_node (g.H.KeyHash.keying c.args.self.now.keys) c.args.p.now c.args.node)
+    (bucket : c.bucket-bucket.result ≡ hash_node (g.H.KeyHash.keying c.args.self.now.keys) c.args.p.now c.args.node % vec_len c.args.self.now.buckets) where
   -- the first node of its key is there, for each list that the chains may stand for
   begun : (xs ys : List Ref) → AreChained c.args.self.now (g.H.KeyHash.keying c.args.self.now.keys) c.args.p.now (xs ++ ys)
       → IsPlaced (g.H.KeyHash.keying c.args.self.now.keys) c.args.p.now c.args.self.now.slot c.args.node c.args.stamp xs ys
@@ -157,9 +162,7 @@ module _ (g : Over) (c : After-begin_group g) where
       × Keeps c.args.p.now c.begin_group.new.p c.args.self.now.slot (c.args.node ∷ (xs ++ ys))
   begun xs ys h p = let v = c.args in let m = v.p.now in let l = v.self.now in let k = g.H.KeyHash.keying l.keys in
       let w = g.met.H.KeyHash.lawful l.keys in let n = vec_len l.buckets in let r = v.node in let x = hash_node k m r in
-      let ex : c.hash-hash.result ≡ x = c.hash-hash.ensures ∙ sym (hash_is k m r c.value.result.now c.value.ensures) in
-      let eb : c.bucket-bucket.result ≡ x % n = c.bucket-bucket.ensures ∙ ap (λ z. z % n) ex in
-      let chain = chain_here l k w m (xs ++ ys) h x c.head-head.result (c.head-head.ensures ∙ ap (λ i. slice_index_or l.buckets.items i None) eb) in
+      let chain = chain_here l k w m (xs ++ ys) h x c.head-head.result (c.head-head.ensures ∙ ap (λ i. slice_index_or l.buckets.items i None) bucket) in
       let tags = tags_here l k w m (xs ++ ys) h x in
       let gs = groups_at l k w m (xs ++ ys) h x in
       let made : Link = record {
@@ -170,25 +173,28 @@ module _ (g : Over) (c : After-begin_group g) where
         tag = record
             { key = c.hash-hash.result; stamp = v.stamp };
       } in
-      let on = inserted_new l k w m xs r ys v.stamp made h p refl ex c.begin_group.new.self c.begin_group.new.p c.begin_group.ensures.slot
+      let on = inserted_new l k w m xs r ys v.stamp made h p refl hash c.begin_group.new.self c.begin_group.new.p c.begin_group.ensures.slot
       c.begin_group.ensures.count
       (none_left l k w m xs r ys h
       (subst (IsFound (same_nodes k m r) gs c.group_of-place.result.before) c.in-None.is (c.group_of-place.ensures gs chain tags))) refl
-      (ap (λ i. slice_index_or l.buckets.items i None) eb) c.begin_group.ensures.pool
-      (c.begin_group.ensures.heads ∙ ap (λ i. heads_joined None l.buckets.items i (Some r)) eb) c.begin_group.ensures.groups in
+      (ap (λ i. slice_index_or l.buckets.items i None) bucket) c.begin_group.ensures.pool
+      (c.begin_group.ensures.heads ∙ ap (λ i. heads_joined None l.buckets.items i (Some r)) bucket) c.begin_group.ensures.groups in
       (on.0, on.1)
 
 pub returns-in-None-clause-list : goal.returns-in-None-clause-list
-returns-in-None-clause-list g c xs ys h p = let on = begun g (goal.at.returns-in-None-clause-list g c).After-begin_group xs ys h p in on.0
+returns-in-None-clause-list g c xs ys h p =
+    let o = goal.at.returns-in-None-clause-list g c in
+    let on = begun g o.After-begin_group (hash_found g o.After-bucket-bucket) (bucket_found g o.After-bucket-bucket) xs ys h p in on.0
 
 pub returns-in-None-clause-keeps : goal.returns-in-None-clause-keeps
-returns-in-None-clause-keeps g c xs ys h p = let on = begun g (goal.at.returns-in-None-clause-keeps g c).After-begin_group xs ys h p in on.1
+returns-in-None-clause-keeps g c xs ys h p =
+    let o = goal.at.returns-in-None-clause-keeps g c in
+    let on = begun g o.After-begin_group (hash_found g o.After-bucket-bucket) (bucket_found g o.After-bucket-bucket) xs ys h p in on.1
 
 pub returns-in-None-clause-tags : goal.returns-in-None-clause-tags
 returns-in-None-clause-tags g c q = let v = c.args in let m = v.p.now in let l = v.self.now in let k = g.H.KeyHash.keying l.keys in
-    let w = g.met.H.KeyHash.lawful l.keys in let n = vec_len l.buckets in let r = v.node in let x = hash_node k m r in
-    let ex : c.hash-hash.result ≡ x = c.hash-hash.ensures ∙ sym (hash_is k m r c.value.result.now c.value.ensures) in
-    let eb : c.bucket-bucket.result ≡ x % n = c.bucket-bucket.ensures ∙ ap (λ z. z % n) ex in
+    let w = g.met.H.KeyHash.lawful l.keys in let r = v.node in
+    let hash = hash_found g (goal.at.returns-in-None-clause-tags g c).After-bucket-bucket in
     tags_put l k w m r (record {
       back = Some r;
       forth = slice_index_or l.buckets.items c.bucket-bucket.result None;
@@ -197,9 +203,10 @@ returns-in-None-clause-tags g c q = let v = c.args in let m = v.p.now in let l =
       tag = record
           { key = c.hash-hash.result; stamp = v.stamp };
     }) None None None None c.begin_group.new.p c.requires.3.held c.begin_group.ensures.pool q
-    ∙ ap (λ z. cond (r.name == q) (record { key = z; stamp = v.stamp }) (link_of m q l.slot).tag) ex
+    ∙ ap (λ z. cond (r.name == q) (record { key = z; stamp = v.stamp }) (link_of m q l.slot).tag) hash
 
-module _ (g : Over) (c : After-put g) where
+module _ (g : Over) (c : After-put g) (hash : c.hash-hash.result ≡ hash_node (g.H.KeyHash.keying c.args.self.now.keys) c.args.p.now c.args.node)
+    (bucket : c.bucket-bucket.result ≡ hash_node (g.H.KeyHash.keying c.args.self.now.keys) c.args.p.now c.args.node % vec_len c.args.self.now.buckets) where
   -- a node among those of its key is there, for each list that the chains may stand for
   joined_in : (xs ys : List Ref) → AreChained c.args.self.now (g.H.KeyHash.keying c.args.self.now.keys) c.args.p.now (xs ++ ys)
       → IsPlaced (g.H.KeyHash.keying c.args.self.now.keys) c.args.p.now c.args.self.now.slot c.args.node c.args.stamp xs ys
@@ -207,9 +214,7 @@ module _ (g : Over) (c : After-put g) where
       × Keeps c.args.p.now c.put.new.p c.args.self.now.slot (c.args.node ∷ (xs ++ ys))
   joined_in xs ys h p = let v = c.args in let m = v.p.now in let l = v.self.now in let k = g.H.KeyHash.keying l.keys in
       let w = g.met.H.KeyHash.lawful l.keys in let n = vec_len l.buckets in let r = v.node in let x = hash_node k m r in
-      let ex : c.hash-hash.result ≡ x = c.hash-hash.ensures ∙ sym (hash_is k m r c.value.result.now c.value.ensures) in
-      let eb : c.bucket-bucket.result ≡ x % n = c.bucket-bucket.ensures ∙ ap (λ z. z % n) ex in
-      let chain = chain_here l k w m (xs ++ ys) h x c.head-head.result (c.head-head.ensures ∙ ap (λ i. slice_index_or l.buckets.items i None) eb) in
+      let chain = chain_here l k w m (xs ++ ys) h x c.head-head.result (c.head-head.ensures ∙ ap (λ i. slice_index_or l.buckets.items i None) bucket) in
       let tags = tags_here l k w m (xs ++ ys) h x in
       let gs = groups_at l k w m (xs ++ ys) h x in
       let found = subst (IsFound (same_nodes k m r) gs c.group_of-place.result.before) c.in-Some.is (c.group_of-place.ensures gs chain tags) in
@@ -218,28 +223,31 @@ module _ (g : Over) (c : After-put g) where
       let ends = gap_ends m (stamp_at m l.slot) v.stamp found.group c.gap_for-gap.result.prev c.gap_for-gap.result.next group.all_held gap in
       let made : Link = record
       { back = c.or-back.result; forth = c.or-forth.result; size = 0; height = 0; tag = record { key = c.hash-hash.result; stamp = v.stamp } } in
-      let spot = spot_of_gap l k w m xs r ys v.stamp made h p refl ex c.group_of-place.result.before c.in-Some.first found c.gap_for-gap.result.prev
+      let spot = spot_of_gap l k w m xs r ys v.stamp made h p refl hash c.group_of-place.result.before c.in-Some.first found c.gap_for-gap.result.prev
       c.gap_for-gap.result.next gap in
       let back = c.or-back.ensures ∙ ap (λ (y : Link). option_or c.gap_for-gap.result.prev y.back) c.link-link.ensures in
       let forth = c.or-forth.ensures ∙ ap (λ y. option_or c.gap_for-gap.result.next y) c.after-follower.ensures in
-      let on = inserted_old l k w m xs r ys v.stamp made h p refl ex c.put.new.self c.put.new.p c.put.ensures.slot c.put.ensures.count
+      let on = inserted_old l k w m xs r ys v.stamp made h p refl hash c.put.new.self c.put.new.p c.put.ensures.slot c.put.ensures.count
       c.group_of-place.result.before c.in-Some.first found c.or-left.result c.or-right.result (c.or-left.ensures ∙ spot.0) (c.or-right.ensures ∙ spot.1)
-      (back ∙ spot.2) (forth ∙ spot.3) c.put.ensures.pool (c.put.ensures.heads ∙ ap (λ i. heads_joined c.or-left.result l.buckets.items i (Some r)) eb)
+      (back ∙ spot.2) (forth ∙ spot.3) c.put.ensures.pool (c.put.ensures.heads ∙ ap (λ i. heads_joined c.or-left.result l.buckets.items i (Some r)) bucket)
       c.put.ensures.groups in
       (on.0, on.1)
 
 pub returns-in-Some-clause-list : goal.returns-in-Some-clause-list
-returns-in-Some-clause-list g c xs ys h p = let on = joined_in g (goal.at.returns-in-Some-clause-list g c).After-put xs ys h p in on.0
+returns-in-Some-clause-list g c xs ys h p =
+    let o = goal.at.returns-in-Some-clause-list g c in
+    let on = joined_in g o.After-put (hash_found g o.After-bucket-bucket) (bucket_found g o.After-bucket-bucket) xs ys h p in on.0
 
 pub returns-in-Some-clause-keeps : goal.returns-in-Some-clause-keeps
-returns-in-Some-clause-keeps g c xs ys h p = let on = joined_in g (goal.at.returns-in-Some-clause-keeps g c).After-put xs ys h p in on.1
+returns-in-Some-clause-keeps g c xs ys h p =
+    let o = goal.at.returns-in-Some-clause-keeps g c in
+    let on = joined_in g o.After-put (hash_found g o.After-bucket-bucket) (bucket_found g o.After-bucket-bucket) xs ys h p in on.1
 
 pub returns-in-Some-clause-tags : goal.returns-in-Some-clause-tags
 returns-in-Some-clause-tags g c q = let v = c.args in let m = v.p.now in let l = v.self.now in let k = g.H.KeyHash.keying l.keys in
-    let w = g.met.H.KeyHash.lawful l.keys in let n = vec_len l.buckets in let r = v.node in let x = hash_node k m r in
-    let ex : c.hash-hash.result ≡ x = c.hash-hash.ensures ∙ sym (hash_is k m r c.value.result.now c.value.ensures) in
-    let eb : c.bucket-bucket.result ≡ x % n = c.bucket-bucket.ensures ∙ ap (λ z. z % n) ex in
+    let w = g.met.H.KeyHash.lawful l.keys in let r = v.node in
+    let hash = hash_found g (goal.at.returns-in-Some-clause-tags g c).After-bucket-bucket in
     tags_put l k w m r (record
     { back = c.or-back.result; forth = c.or-forth.result; size = 0; height = 0; tag = record { key = c.hash-hash.result; stamp = v.stamp } }) c.or-left.result
     c.or-right.result (Some r) (Some r) c.put.new.p c.requires.3.held c.put.ensures.pool q
-    ∙ ap (λ z. cond (r.name == q) (record { key = z; stamp = v.stamp }) (link_of m q l.slot).tag) ex
+    ∙ ap (λ z. cond (r.name == q) (record { key = z; stamp = v.stamp }) (link_of m q l.slot).tag) hash

@@ -4,13 +4,32 @@ use Rattle.mi_node.specs.Pool.{Keeps}
 use Rattle.mi_node.specs.Refs.{Ref}
 use Rattle.mi_node.specs.declared.link.Link.{Link}
 use Rattle.mi_chain.specs.Chained.{AreChained, FitsBetween}
+use Rattle.mi_chain.specs.Groups.{IsChain}
 use Rattle.mi_chain.specs.Keying.{hash_node}
 use Rattle.mi_chain.specs.Heads.{heads_joined}
 use Rattle.mi_chain.proofs.Whole.{here, groups_at, chain_here, few_groups, sides_held, none_beside}
 use Rattle.mi_chain.proofs.Whole.{room_for, Room, room_holds, inserted_new, inserted_old, tags_put}
-use Rattle.mi_chain.proofs.chains.Chains.relink.Goals.{After-begin_group, After-put}
+use Rattle.mi_chain.proofs.chains.Chains.relink.Goals.{After-bucket-bucket, After-begin_group, After-put}
 use Rattle.mi_chain.proofs.chains.Chains.relink.Given.{Over}
 use Rattle.mi_chain.proofs.chains.Chains.relink.Goals as goal
+
+module _ (g : Over) (c : After-bucket-bucket g) where
+  -- the bucket is that of the node's hash
+  bucket_found : c.bucket-bucket.result ≡ hash_node (g.H.KeyHash.keying c.args.self.now.keys) c.args.p.now c.args.node % vec_len c.args.self.now.buckets
+  bucket_found = c.bucket-bucket.ensures ∙ ap (λ z. z % vec_len c.args.self.now.buckets) c.requires.3.hash_is
+
+  bucket_inside : c.bucket-bucket.result < vec_len c.args.self.now.buckets
+  bucket_inside = subst (λ i. i < vec_len c.args.self.now.buckets) (sym bucket_found)
+      (here c.args.self.now (g.H.KeyHash.keying c.args.self.now.keys) (g.met.H.KeyHash.lawful c.args.self.now.keys) c.args.p.now (c.requires.0 ++ c.requires.1)
+      (hash_node (g.H.KeyHash.keying c.args.self.now.keys) c.args.p.now c.args.node) c.requires.2)
+
+  -- and its chain is there
+  chain_found : IsChain c.args.p.now c.args.self.now.slot (slice_index_or c.args.self.now.buckets.items c.bucket-bucket.result None)
+      (groups_at c.args.self.now (g.H.KeyHash.keying c.args.self.now.keys) (g.met.H.KeyHash.lawful c.args.self.now.keys) c.args.p.now (c.requires.0 ++ c.requires.1) c.requires.2
+      (hash_node (g.H.KeyHash.keying c.args.self.now.keys) c.args.p.now c.args.node))
+  chain_found = chain_here c.args.self.now (g.H.KeyHash.keying c.args.self.now.keys) (g.met.H.KeyHash.lawful c.args.self.now.keys) c.args.p.now (c.requires.0 ++ c.requires.1) c.requires.2
+      (hash_node (g.H.KeyHash.keying c.args.self.now.keys) c.args.p.now c.args.node) (slice_index_or c.args.self.now.buckets.items c.bucket-bucket.result None)
+      (ap (λ i. slice_index_or c.args.self.now.buckets.items i None) bucket_found)
 
 pub bucket-bucket-requires : goal.bucket-bucket-requires
 bucket-bucket-requires g c = c.requires.2.power
@@ -22,11 +41,7 @@ pub begin_group-requires-clause-slot : goal.begin_group-requires-clause-slot
 begin_group-requires-clause-slot g c = let b = c.requires.2.buckets in b.slot
 
 pub begin_group-requires-clause-bucket : goal.begin_group-requires-clause-bucket
-begin_group-requires-clause-bucket g c = let v = c.args in let m = v.p.now in let l = v.self.now in let k = g.H.KeyHash.keying l.keys in
-    let w = g.met.H.KeyHash.lawful l.keys in let n = vec_len l.buckets in let r = v.node in let x = hash_node k m r in let y = v.remembered in
-    let q = c.requires.3 in
-    let eb : c.bucket-bucket.result ≡ x % n = c.bucket-bucket.ensures ∙ ap (λ z. z % n) q.hash_is in
-    subst (λ i. i < n) (sym eb) (here l k w m (c.requires.0 ++ c.requires.1) x c.requires.2)
+begin_group-requires-clause-bucket g c = bucket_inside g (goal.at.begin_group-requires-clause-bucket g c).After-bucket-bucket
 
 pub begin_group-requires-clause-few : goal.begin_group-requires-clause-few
 begin_group-requires-clause-few g c = let l = c.args.self.now in few_groups l (g.H.KeyHash.keying l.keys) (g.met.H.KeyHash.lawful l.keys) c.args.p.now
@@ -41,25 +56,13 @@ pub end-end-requires-clause-slot : goal.end-end-requires-clause-slot
 end-end-requires-clause-slot g c = let b = c.requires.2.buckets in b.slot
 
 pub place_at-place-requires-clause-bucket : goal.place_at-place-requires-clause-bucket
-place_at-place-requires-clause-bucket g c = let v = c.args in let m = v.p.now in let l = v.self.now in let k = g.H.KeyHash.keying l.keys in
-    let w = g.met.H.KeyHash.lawful l.keys in let n = vec_len l.buckets in let r = v.node in let x = hash_node k m r in let y = v.remembered in
-    let q = c.requires.3 in
-    let eb : c.bucket-bucket.result ≡ x % n = c.bucket-bucket.ensures ∙ ap (λ z. z % n) q.hash_is in
-    subst (λ i. i < n) (sym eb) (here l k w m (c.requires.0 ++ c.requires.1) x c.requires.2)
+place_at-place-requires-clause-bucket g c = bucket_inside g (goal.at.place_at-place-requires-clause-bucket g c).After-bucket-bucket
 
 pub place_at-place-requires-clause-slot : goal.place_at-place-requires-clause-slot
 place_at-place-requires-clause-slot g c = let b = c.requires.2.buckets in b.slot
 
 pub place_at-place-requires-clause-chain : goal.place_at-place-requires-clause-chain
-place_at-place-requires-clause-chain g c = let v = c.args in let m = v.p.now in let l = v.self.now in let k = g.H.KeyHash.keying l.keys in
-    let w = g.met.H.KeyHash.lawful l.keys in let n = vec_len l.buckets in let r = v.node in let x = hash_node k m r in let y = v.remembered in
-    let q = c.requires.3 in
-    let eb : c.bucket-bucket.result ≡ x % n = c.bucket-bucket.ensures ∙ ap (λ z. z % n) q.hash_is in
-    let rs = c.requires.0 ++ c.requires.1 in
-    let chain = chain_here l k w m rs c.requires.2 x (slice_index_or l.buckets.items c.bucket-bucket.result None)
-    (ap (λ i. slice_index_or l.buckets.items i None) eb) in
-    let gs = groups_at l k w m rs c.requires.2 x in
-    (gs, chain)
+place_at-place-requires-clause-chain g c = (_, chain_found g (goal.at.place_at-place-requires-clause-chain g c).After-bucket-bucket)
 
 pub after-follower-requires-clause-held : goal.after-follower-requires-clause-held
 after-follower-requires-clause-held g c = let l = c.args.self.now in
@@ -76,20 +79,13 @@ pub put-requires-clause-slot : goal.put-requires-clause-slot
 put-requires-clause-slot g c = let b = c.requires.2.buckets in b.slot
 
 pub put-requires-clause-bucket : goal.put-requires-clause-bucket
-put-requires-clause-bucket g c = let v = c.args in let m = v.p.now in let l = v.self.now in let k = g.H.KeyHash.keying l.keys in
-    let w = g.met.H.KeyHash.lawful l.keys in let n = vec_len l.buckets in let r = v.node in let x = hash_node k m r in let y = v.remembered in
-    let q = c.requires.3 in
-    let eb : c.bucket-bucket.result ≡ x % n = c.bucket-bucket.ensures ∙ ap (λ z. z % n) q.hash_is in
-    subst (λ i. i < n) (sym eb) (here l k w m (c.requires.0 ++ c.requires.1) x c.requires.2)
+put-requires-clause-bucket g c = bucket_inside g (goal.at.put-requires-clause-bucket g c).After-bucket-bucket
 
 pub put-requires-clause-held : goal.put-requires-clause-held
 put-requires-clause-held g c = let v = c.args in let m = v.p.now in let l = v.self.now in let k = g.H.KeyHash.keying l.keys in
     let w = g.met.H.KeyHash.lawful l.keys in let n = vec_len l.buckets in let r = v.node in let x = hash_node k m r in let y = v.remembered in
     let q = c.requires.3 in
-    let eb : c.bucket-bucket.result ≡ x % n = c.bucket-bucket.ensures ∙ ap (λ z. z % n) q.hash_is in
-    let rs = c.requires.0 ++ c.requires.1 in
-    let chain = chain_here l k w m rs c.requires.2 x (slice_index_or l.buckets.items c.bucket-bucket.result None)
-    (ap (λ i. slice_index_or l.buckets.items i None) eb) in
+    let chain = chain_found g (goal.at.put-requires-clause-held g c).After-bucket-bucket in let rs = c.requires.0 ++ c.requires.1 in
     let gs = groups_at l k w m rs c.requires.2 x in
     let full = sym c.is_empty.ensures ∙ c.if-is_empty.false in
     let found = room_for l k w m c.requires.0 r c.requires.1 y c.requires.2 q c.place_at-place.result.before c.place_at-place.result.first c.end-end.result
