@@ -6,3 +6,4 @@ pub mod CutLemmas
 pub mod ShownLemmas
 pub mod ScanLemmas
 pub mod SearchLemmas
+pub mod ChangeLemmas

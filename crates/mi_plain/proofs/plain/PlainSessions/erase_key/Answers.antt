@@ -1,38 +1,22 @@
 -- What the table's erase_key meets, the database's does.
-use Rattle.std.proofs.Common.{◌≡◌, ◌<◌, [], length, subst, ◌∙◌, ap, arith, get_or}
-use Rattle.std.proofs.lemmas.List.{get_or_default}
-use Rattle.mi_model.specs.Database.{Database, IsDatabase, with_table}
 use Rattle.mi_model.specs.Verdict.{erase_key_outcome}
-use Rattle.mi_model.specs.Steps.{Meets, erase_key_step}
 use Rattle.mi_model.specs.Run.Command.{EraseKey}
-use Rattle.mi_model.proofs.StepLaws.{meets_on_table}
 use Rattle.mi_model.proofs.DatabaseLaws.{is_database_after}
-use Rattle.mi_model.proofs.InvariantLaws.{met_is, zip_length}
 use Rattle.mi_plain.specs.contracts.plain.Plain.{the_view}
+use Rattle.mi_plain.proofs.ChangeLemmas.{database_meets, is_database}
 use Rattle.mi_plain.proofs.plain.PlainSessions.erase_key.Goals as goal
 
 pub returns : goal.returns
 returns c =
-    let within : c.args.table < length c.self.inside.tables.items = omega (arith, ap (λ (d : Database). length d.catalog.tables) c.self.view_is) in
-    let found : c.index_mut.result.now ≡ get_or c.self.inside.tables.items c.args.table (record { rows = []; lists = []; next = 0; arrivals = 0 }) =
-    c.index_mut.ensures.value ∙ get_or_default _ _ _ _ within in
-    subst (λ (d : Database). Meets (erase_key_step c.args.table c.args.index c.args.key.now d)
-    c.erase_key.result d (with_table c.args.table c.erase_key.new.self (the_view c.self.inside)))
-    c.self.view_is
-    (meets_on_table c.args.table (λ s t. erase_key_outcome s c.args.index c.args.key.now t)
-    (the_view c.self.inside) _ _ _ _ c.table-schema.ensures found c.erase_key.ensures)
+    database_meets c.args.table (λ s t. erase_key_outcome s c.args.index c.args.key.now t)
+    (the_view c.self.inside) _ c.self.view_is _ _ _ _ _ c.self.invariant.1 c.requires.table
+    c.index_mut.ensures.value c.table-schema.ensures c.erase_key.ensures
 
 pub invariant_of-self : goal.invariant_of-self
 invariant_of-self c =
-    let within : c.args.table < length c.self.inside.tables.items = omega
-    (arith, c.self.invariant.1, ap (λ (d : Database). length d.catalog.tables) c.self.view_is) in
-    let found : c.index_mut.result.now ≡ get_or c.self.inside.tables.items c.args.table (record { rows = []; lists = []; next = 0; arrivals = 0 }) =
-    c.index_mut.ensures.value ∙ get_or_default _ _ _ _ within in
-    let meets : Meets (erase_key_step c.args.table c.args.index c.args.key.now (the_view c.self.inside)) (c.erase_key.result)
-    (the_view c.self.inside) (with_table c.args.table c.erase_key.new.self (the_view c.self.inside)) =
-    meets_on_table c.args.table (λ s t. erase_key_outcome s c.args.index c.args.key.now t)
-    (the_view c.self.inside) _ _ _ _ c.table-schema.ensures found c.erase_key.ensures in
-    let is : IsDatabase (with_table c.args.table c.erase_key.new.self (the_view c.self.inside)) =
-    met_is _ _ _ _ c.self.invariant.0
-    (is_database_after (EraseKey c.args.table c.args.index c.args.key.now) (the_view c.self.inside) c.self.invariant.0) meets in
-    (is, zip_length _ _ is.tables, c.self.invariant.2, c.self.invariant.3)
+    let d = the_view c.self.inside in
+    let is =
+    is_database c.args.table (λ s t. erase_key_outcome s c.args.index c.args.key.now t)
+    d _ c.self.view_is _ _ _ _ _ c.self.invariant.1 c.requires.table c.index_mut.ensures.value c.table-schema.ensures c.erase_key.ensures
+    c.self.invariant.0 (is_database_after (EraseKey c.args.table c.args.index c.args.key.now) d c.self.invariant.0) in
+    (is.0, is.1, c.self.invariant.2, c.self.invariant.3)
