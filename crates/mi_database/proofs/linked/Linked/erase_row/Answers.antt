@@ -1,4 +1,4 @@
--- what the container answers and leaves, the database does
+-- What the container answers and leaves, the database does.
 use Rattle.std.proofs.Common.{◌≢◌, ◌∙◌, map, set, ap}
 use Rattle.std.specs.Prelude.{Ok, Err}
 use Rattle.std.specs.declared.option.Option.TheVariants.{None}
@@ -10,54 +10,54 @@ use Rattle.mi_container.specs.Inverse.{keeps}
 use Rattle.mi_container.specs.Run.Change.{Erase}
 use Rattle.mi_journal.specs.Noted.{noted}
 use Rattle.mi_database.specs.Held.{Held, meaning}
-use Rattle.mi_database.proofs.HeldLaws.{some_change}
+use Rattle.mi_database.proofs.HeldLaws.{Made, some_change}
 use Rattle.mi_database.proofs.LoopLaws.{held}
 use Rattle.mi_database.proofs.KeptLaws.{erase_keeps, erase_refused, refused_keeps, met_refusal}
-use Rattle.mi_database.proofs.ChangeLaws.{spot, spot_keeps, spot_made, spot_held, spot_outcome, spot_stays, spot_refused}
+use Rattle.mi_database.proofs.ChangeLaws.{Spot, spot, spot_keeps, spot_made, spot_held, spot_outcome, spot_stays, spot_refused}
+use Rattle.mi_database.proofs.linked.Linked.erase_row.Given.{Over}
+use Rattle.mi_database.proofs.linked.Linked.erase_row.Goals.{After-erase, After-keep}
 use Rattle.mi_database.proofs.linked.Linked.erase_row.Goals as goal
+
+module _ (g : Over) (c : After-erase g) where
+  -- the container of the table, as it stood in the database
+  before : Spot g.C.Container.shape g.C.Container.plain c.self.inside.catalog c.self.inside.containers.items
+      c.self.inside.journal c.self.inside.revision c.args.table c.index_mut.result.now c.args.self.now
+  before = spot _ _ c.args.self.now _ _ c.self.invariant c.self.view_is c.requires.table c.index_mut.ensures.value
+
+module _ (g : Over) (c : After-keep g) (at : Spot g.C.Container.shape g.C.Container.plain c.self.inside.catalog c.self.inside.containers.items
+    c.self.inside.journal c.self.inside.revision c.args.table c.index_mut.result.now c.args.self.now) where
+  -- its change was made, and the inverse noted or settled
+  made : Made g.C.Container.shape g.C.Container.plain c.self.inside.containers.items c.keep.new.containers.items c.args.table
+      c.index_mut.result.now c.erase.new.self c.in-Ok.inverse c.self.inside.journal.sessions c.keep.new.journal.sessions
+  made = spot_made _ _ at c.erase.new.self c.in-Ok.inverse c.keep.new.containers.items c.keep.new.journal
+      (some_change (Erase c.args.id None) c.in-Ok.ensures.made) c.erase.ensures.shape
+      c.keep.ensures.datas c.keep.ensures.shapes c.keep.ensures.journal
 
 pub keep-requires-clause-kept : goal.keep-requires-clause-kept
 keep-requires-clause-kept g c =
-    let shape = g.C.Container.shape in
-    let plain = g.C.Container.plain in
-    let at = spot shape plain c.args.self.now _ _ c.self.invariant c.self.view_is c.requires.table c.index_mut.ensures.value in
-    let makes = some_change (Erase c.args.id None) c.in-Ok.ensures.made in
-    spot_keeps shape plain at c.erase.new.self c.in-Ok.inverse makes
+    let o = goal.at.keep-requires-clause-kept g c in let at = before g o.After-erase in
+    spot_keeps _ _ at c.erase.new.self c.in-Ok.inverse (some_change (Erase c.args.id None) c.in-Ok.ensures.made)
 
 pub invariant_of-self : goal.invariant_of-self
 invariant_of-self g c =
-    let shape = g.C.Container.shape in
-    let plain = g.C.Container.plain in
-    let at = spot shape plain c.args.self.now _ _ c.self.invariant c.self.view_is c.requires.table c.index_mut.ensures.value in
-    let makes = some_change (Erase c.args.id None) c.in-Ok.ensures.made in
-    let made = spot_made shape plain at c.erase.new.self c.in-Ok.inverse c.keep.new.containers.items c.keep.new.journal makes c.erase.ensures.shape
-    c.keep.ensures.datas c.keep.ensures.shapes c.keep.ensures.journal in
-    spot_held shape plain at c.erase.new.self c.in-Ok.inverse c.keep.new.containers.items c.keep.new.journal made
+    let o = goal.at.invariant_of-self g c in let at = before g o.After-erase in
+    spot_held _ _ at c.erase.new.self c.in-Ok.inverse c.keep.new.containers.items c.keep.new.journal (made g o.After-keep at)
 
 pub invariant_of-self-in-Err : goal.invariant_of-self-in-Err
 invariant_of-self-in-Err g c =
-    let shape = g.C.Container.shape in
-    let plain = g.C.Container.plain in
-    let at = spot shape plain c.args.self.now _ _ c.self.invariant c.self.view_is c.requires.table c.index_mut.ensures.value in
-    spot_stays shape plain at c.erase.new.self c.in-Err.ensures.refused c.erase.ensures.shape
+    let o = goal.at.invariant_of-self-in-Err g c in let at = before g o.After-erase in
+    spot_stays _ _ at c.erase.new.self c.in-Err.ensures.refused c.erase.ensures.shape
 
 pub returns-in-Ok-clause-outcome : goal.returns-in-Ok-clause-outcome
 returns-in-Ok-clause-outcome g c =
-    let shape = g.C.Container.shape in
-    let plain = g.C.Container.plain in
-    let at = spot shape plain c.args.self.now _ _ c.self.invariant c.self.view_is c.requires.table c.index_mut.ensures.value in
-    let makes = some_change (Erase c.args.id None) c.in-Ok.ensures.made in
-    let made = spot_made shape plain at c.erase.new.self c.in-Ok.inverse c.keep.new.containers.items c.keep.new.journal makes c.erase.ensures.shape
-    c.keep.ensures.datas c.keep.ensures.shapes c.keep.ensures.journal in
-    spot_outcome shape plain at c.erase.new.self c.in-Ok.inverse c.keep.new.containers.items c.keep.new.journal
-    (λ s t. erase_outcome c.args.id t) (Ok tt) made c.in-Ok.ensures.outcome
+    let o = goal.at.returns-in-Ok-clause-outcome g c in let at = before g o.After-erase in
+    spot_outcome _ _ at c.erase.new.self c.in-Ok.inverse c.keep.new.containers.items c.keep.new.journal
+    (λ s t. erase_outcome c.args.id t) (Ok tt) (made g o.After-keep at) c.in-Ok.ensures.outcome
 
 pub returns-in-Err-clause-outcome : goal.returns-in-Err-clause-outcome
 returns-in-Err-clause-outcome g c =
-    let shape = g.C.Container.shape in
-    let plain = g.C.Container.plain in
-    let at = spot shape plain c.args.self.now _ _ c.self.invariant c.self.view_is c.requires.table c.index_mut.ensures.value in
-    spot_refused shape plain at c.erase.new.self
+    let o = goal.at.returns-in-Err-clause-outcome g c in let at = before g o.After-erase in
+    spot_refused _ _ at c.erase.new.self
     (λ s t. erase_outcome c.args.id t) (Err c.in-Err.refused) c.in-Err.ensures.refused c.in-Err.ensures.outcome
 
 pub returns-in-Ok-clause-footprint : goal.returns-in-Ok-clause-footprint

@@ -1,4 +1,4 @@
--- what the container answers and leaves, the database does
+-- What the container answers and leaves, the database does.
 use Rattle.std.proofs.Common.{◌∙◌, map, set, ap, sym, subst}
 use Rattle.std.specs.Prelude.{Err}
 use Rattle.std.specs.declared.result.Result.{Result}
@@ -9,56 +9,56 @@ use Rattle.mi_container.specs.Inverse.{lost_to}
 use Rattle.mi_container.specs.Makes.{MeetsOn}
 use Rattle.mi_journal.specs.Noted.{noted}
 use Rattle.mi_database.specs.Held.{Held, meaning}
-use Rattle.mi_database.proofs.HeldLaws.{some_modify}
+use Rattle.mi_database.proofs.HeldLaws.{Made, some_modify}
 use Rattle.mi_database.proofs.LoopLaws.{held}
 use Rattle.mi_database.proofs.KeptLaws.{modify_keeps, modify_kept, modify_refused}
-use Rattle.mi_database.proofs.ChangeLaws.{spot, spot_keeps, spot_made, spot_held, spot_outcome, spot_stays, spot_refused}
+use Rattle.mi_database.proofs.ChangeLaws.{Spot, spot, spot_keeps, spot_made, spot_held, spot_outcome, spot_stays, spot_refused}
+use Rattle.mi_database.proofs.sessions.LinkedSessions.modify.Given.{Over}
+use Rattle.mi_database.proofs.sessions.LinkedSessions.modify.Goals.{After-modify, After-keep}
 use Rattle.mi_database.proofs.sessions.LinkedSessions.modify.Goals as goal
+
+module _ (g : Over) (c : After-modify g) where
+  -- the container of the table, as it stood in the database
+  before : Spot g.C.Container.shape g.C.Container.plain c.self.inside.catalog c.self.inside.containers.items
+      c.self.inside.journal c.self.inside.revision c.args.table c.index_mut.result.now c.args.self.now
+  before = spot _ _ c.args.self.now _ _ c.self.invariant (c.self.view_is ∙ c.make_room.ensures.same) c.requires.table c.index_mut.ensures.value
+
+module _ (g : Over) (c : After-keep g) (at : Spot g.C.Container.shape g.C.Container.plain c.self.inside.catalog c.self.inside.containers.items
+    c.self.inside.journal c.self.inside.revision c.args.table c.index_mut.result.now c.args.self.now) where
+  -- its change was made, and the inverse noted or settled
+  made : Made g.C.Container.shape g.C.Container.plain c.self.inside.containers.items c.keep.new.containers.items c.args.table
+      c.index_mut.result.now c.modify.new.self c.in-Ok.inverse c.self.inside.journal.sessions c.keep.new.journal.sessions
+  made = spot_made _ _ at c.modify.new.self c.in-Ok.inverse c.keep.new.containers.items c.keep.new.journal
+      (some_modify (lost_to c.in-Ok.inverse) _ c.args.id _ c.in-Ok.inverse _ c.in-Ok.ensures.made) c.modify.ensures.shape
+      c.keep.ensures.datas c.keep.ensures.shapes c.keep.ensures.journal
 
 pub keep-requires-clause-kept : goal.keep-requires-clause-kept
 keep-requires-clause-kept g c =
-    let shape = g.C.Container.shape in
-    let plain = g.C.Container.plain in
-    let at = spot shape plain c.args.self.now _ _ c.self.invariant (c.self.view_is ∙ c.make_room.ensures.same) c.requires.table c.index_mut.ensures.value in
-    let makes = some_modify (lost_to c.in-Ok.inverse) _ c.args.id _ c.in-Ok.inverse _ c.in-Ok.ensures.made in
-    spot_keeps shape plain at c.modify.new.self c.in-Ok.inverse makes
+    let o = goal.at.keep-requires-clause-kept g c in let at = before g o.After-modify in
+    spot_keeps _ _ at c.modify.new.self c.in-Ok.inverse (some_modify (lost_to c.in-Ok.inverse) _ c.args.id _ c.in-Ok.inverse _ c.in-Ok.ensures.made)
 
 pub invariant_of-self : goal.invariant_of-self
 invariant_of-self g c =
-    let shape = g.C.Container.shape in
-    let plain = g.C.Container.plain in
-    let at = spot shape plain c.args.self.now _ _ c.self.invariant (c.self.view_is ∙ c.make_room.ensures.same) c.requires.table c.index_mut.ensures.value in
-    let makes = some_modify (lost_to c.in-Ok.inverse) _ c.args.id _ c.in-Ok.inverse _ c.in-Ok.ensures.made in
-    let made = spot_made shape plain at c.modify.new.self c.in-Ok.inverse c.keep.new.containers.items c.keep.new.journal makes c.modify.ensures.shape
-    c.keep.ensures.datas c.keep.ensures.shapes c.keep.ensures.journal in
-    spot_held shape plain at c.modify.new.self c.in-Ok.inverse c.keep.new.containers.items c.keep.new.journal made
+    let o = goal.at.invariant_of-self g c in let at = before g o.After-modify in
+    spot_held _ _ at c.modify.new.self c.in-Ok.inverse c.keep.new.containers.items c.keep.new.journal (made g o.After-keep at)
 
 pub invariant_of-self-in-Err : goal.invariant_of-self-in-Err
 invariant_of-self-in-Err g c =
-    let shape = g.C.Container.shape in
-    let plain = g.C.Container.plain in
-    let at = spot shape plain c.args.self.now _ _ c.self.invariant (c.self.view_is ∙ c.make_room.ensures.same) c.requires.table c.index_mut.ensures.value in
-    spot_stays shape plain at c.modify.new.self c.in-Err.ensures.refused c.modify.ensures.shape
+    let o = goal.at.invariant_of-self-in-Err g c in let at = before g o.After-modify in
+    spot_stays _ _ at c.modify.new.self c.in-Err.ensures.refused c.modify.ensures.shape
 
 pub returns-in-Ok-clause-outcome : goal.returns-in-Ok-clause-outcome
 returns-in-Ok-clause-outcome g c =
-    let shape = g.C.Container.shape in
-    let plain = g.C.Container.plain in
-    let at = spot shape plain c.args.self.now _ _ c.self.invariant (c.self.view_is ∙ c.make_room.ensures.same) c.requires.table c.index_mut.ensures.value in
-    let makes = some_modify (lost_to c.in-Ok.inverse) _ c.args.id _ c.in-Ok.inverse _ c.in-Ok.ensures.made in
-    let made = spot_made shape plain at c.modify.new.self c.in-Ok.inverse c.keep.new.containers.items c.keep.new.journal makes c.modify.ensures.shape
-    c.keep.ensures.datas c.keep.ensures.shapes c.keep.ensures.journal in
-    spot_outcome shape plain at c.modify.new.self c.in-Ok.inverse c.keep.new.containers.items c.keep.new.journal
-    (λ s t. modify_outcome s c.args.id c.args.edits.now c.args.rollback t) c.modified-answer.result made
-    (subst (λ (a : Result (Unit {0}) Refusal). MeetsOn (modify_outcome (shape c.index_mut.result.now) c.args.id c.args.edits.now c.args.rollback) a
-    (plain c.index_mut.result.now) (plain c.modify.new.self)) (sym c.modified-answer.ensures) c.in-Ok.ensures.outcome)
+    let o = goal.at.returns-in-Ok-clause-outcome g c in let at = before g o.After-modify in
+    spot_outcome _ _ at c.modify.new.self c.in-Ok.inverse c.keep.new.containers.items c.keep.new.journal
+    (λ s t. modify_outcome s c.args.id c.args.edits.now c.args.rollback t) c.modified-answer.result (made g o.After-keep at)
+    (subst (λ (a : Result (Unit {0}) Refusal). MeetsOn (modify_outcome (g.C.Container.shape c.index_mut.result.now) c.args.id c.args.edits.now c.args.rollback) a
+    (g.C.Container.plain c.index_mut.result.now) (g.C.Container.plain c.modify.new.self)) (sym c.modified-answer.ensures) c.in-Ok.ensures.outcome)
 
 pub returns-in-Err-clause-outcome : goal.returns-in-Err-clause-outcome
 returns-in-Err-clause-outcome g c =
-    let shape = g.C.Container.shape in
-    let plain = g.C.Container.plain in
-    let at = spot shape plain c.args.self.now _ _ c.self.invariant (c.self.view_is ∙ c.make_room.ensures.same) c.requires.table c.index_mut.ensures.value in
-    spot_refused shape plain at c.modify.new.self
+    let o = goal.at.returns-in-Err-clause-outcome g c in let at = before g o.After-modify in
+    spot_refused _ _ at c.modify.new.self
     (λ s t. modify_outcome s c.args.id c.args.edits.now c.args.rollback t) (Err c.in-Err.refused) c.in-Err.ensures.refused c.in-Err.ensures.outcome
 
 pub returns-in-Ok-clause-footprint : goal.returns-in-Ok-clause-footprint
