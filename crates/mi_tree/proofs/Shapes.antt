@@ -90,6 +90,10 @@ module _ {T : Type 0} where
       → height_at m s a < height_at m s b → height_at n s a < height_at p s b
   lower-moved n p s a b e f h = subst (λ (z : Pooled T × Pooled T). height_at z.0 s a < height_at z.1 s b) (λ i. (sym e i, sym f i)) h
 
+  -- a slot that m has is one of a pool n that is as m is
+  pub slot-moved : {m n : Pooled T} (s : ℕ) → n ≡ m → s < m.slots → s < n.slots
+  slot-moved s e h = subst (λ (z : Pooled T). s < z.slots) (sym e) h
+
   -- a tree under a node is that node between two trees
   pub record Opened (m : Pooled T) (s : ℕ) (r : Ref) (t : Shape) : Type 0 where
     pub left : Shape

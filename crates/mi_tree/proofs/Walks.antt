@@ -67,10 +67,10 @@ module _ {T : Type 0} where
     pub far_lower : height_at m s (far_of d y) < height_at m s (Some r)
     pub room : length items < 45
 
-  pub entered : (m : Pooled T) (s : ℕ) (d : Direction) (levels : ℕ) (items : List (Option Ref))
-      (at : Option Ref) (r : Ref) (y : Link) (xs : List Pending) (t : Shape)
+  pub entered : {m : Pooled T} {s : ℕ} {d : Direction} {levels : ℕ} {items : List (Option Ref)}
+      {at : Option Ref} {r : Ref} {y : Link} {xs : List Pending} {t : Shape}
       → Enters m s d levels items at xs t → at ≡ Some r → y ≡ link_of m r.name s → Entered m s d levels items r y xs t
-  entered m s d levels items at r y xs t h e i =
+  entered {m} {s} {d} {levels} {items} {at} {r} {y} {xs} {t} h e i =
       let o = opened m s r t (moved m m s at (Some r) t refl e h.rooted) in
       let heights = ap height o.is in let room = h.room in let low = h.low in
       let long : length items ≡ length xs = ap length h.goes.path_is ∙ path_length xs in
@@ -156,21 +156,38 @@ abbrev pub pend_right : Direction → Ref → Shape → List Pending → List Pe
 pend_right Ascending r l xs = xs
 pend_right Descending r l xs = record { node = r; after = l } ∷ xs
 
-module _ {T : Type 0} (m : Pooled T) (s levels : ℕ) (items new : List (Option Ref)) (r : Ref) (y : Link) (xs : List Pending) (t : Shape) where
-  pub enters_left : (d : Direction) → (o : Entered m s d levels items r y xs t)
-      → new ≡ cond (is_ascending d) (items ++ Some r ∷ []) items → Enters m s d levels new y.back (pend_left d r o.right xs) o.left
-  enters_left Ascending o e = subst (λ k. Enters m s Ascending levels k y.back (record { node = r; after = o.right } ∷ xs) o.left) (sym e) o.before
-  enters_left Descending o e = subst (λ k. Enters m s Descending levels k y.back xs o.left) (sym e) o.after
+-- the way into either side, in a pool n that is as m is
+module _ {T : Type 0} {m : Pooled T} {s levels : ℕ} {items : List (Option Ref)} {r : Ref} {y : Link} {xs : List Pending} {t : Shape} where
+  pub enters_left : {n : Pooled T} {new : List (Option Ref)} (d : Direction) (o : Entered m s d levels items r y xs t) → n ≡ m
+      → new ≡ cond (is_ascending d) (items ++ Some r ∷ []) items → Enters n s d levels new y.back (pend_left d r o.right xs) o.left
+  enters_left Ascending o same e =
+      subst (λ (k : Pooled T × List (Option Ref)). Enters k.0 s Ascending levels k.1 y.back (record { node = r; after = o.right } ∷ xs) o.left)
+      (λ i. (sym same i, sym e i)) o.before
+  enters_left Descending o same e =
+      subst (λ (k : Pooled T × List (Option Ref)). Enters k.0 s Descending levels k.1 y.back xs o.left) (λ i. (sym same i, sym e i)) o.after
 
-  pub enters_right : (d : Direction) → (o : Entered m s d levels items r y xs t)
-      → new ≡ cond (not (is_ascending d)) (items ++ Some r ∷ []) items → Enters m s d levels new y.forth (pend_right d r o.left xs) o.right
-  enters_right Ascending o e = subst (λ k. Enters m s Ascending levels k y.forth xs o.right) (sym e) o.after
-  enters_right Descending o e = subst (λ k. Enters m s Descending levels k y.forth (record { node = r; after = o.left } ∷ xs) o.right) (sym e) o.before
+  pub enters_right : {n : Pooled T} {new : List (Option Ref)} (d : Direction) (o : Entered m s d levels items r y xs t) → n ≡ m
+      → new ≡ cond (not (is_ascending d)) (items ++ Some r ∷ []) items → Enters n s d levels new y.forth (pend_right d r o.left xs) o.right
+  enters_right Ascending o same e =
+      subst (λ (k : Pooled T × List (Option Ref)). Enters k.0 s Ascending levels k.1 y.forth xs o.right) (λ i. (sym same i, sym e i)) o.after
+  enters_right Descending o same e =
+      subst (λ (k : Pooled T × List (Option Ref)). Enters k.0 s Descending levels k.1 y.forth (record { node = r; after = o.left } ∷ xs) o.right)
+      (λ i. (sym same i, sym e i)) o.before
 
-  pub enters_lower : (d : Direction) → Entered m s d levels items r y xs t
+  sides_lower : (d : Direction) → Entered m s d levels items r y xs t
       → (height_at m s y.back < height_at m s (Some r)) × (height_at m s y.forth < height_at m s (Some r))
-  enters_lower Ascending o = (o.near_lower, o.far_lower)
-  enters_lower Descending o = (o.far_lower, o.near_lower)
+  sides_lower Ascending o = (o.near_lower, o.far_lower)
+  sides_lower Descending o = (o.far_lower, o.near_lower)
+
+  pub enters_lower : {n : Pooled T} {at : Option Ref} (d : Direction) → Entered m s d levels items r y xs t → n ≡ m → at ≡ Some r
+      → (height_at n s y.back < height_at m s at) × (height_at n s y.forth < height_at m s at)
+  enters_lower d o same e =
+      subst (λ (k : Pooled T × Option Ref). (height_at k.0 s y.back < height_at m s k.1) × (height_at k.0 s y.forth < height_at m s k.1))
+      (λ i. (sym same i, sym e i)) (sides_lower d o)
+
+pub goes_moved : {T : Type 0} {m n : Pooled T} {s : ℕ} {d : Direction} {levels : ℕ} {items : List (Option Ref)} {xs : List Pending}
+    → n ≡ m → Goes n s d levels items xs → Goes m s d levels items xs
+goes_moved {T} {m} {n} {s} {d} {levels} {items} {xs} same h = subst (λ (z : Pooled T). Goes z s d levels items xs) same h
 
 -- the nodes ahead of a place in either side
 pub way_left : (d : Direction) (l : Shape) (r : Ref) (q t : Shape) (xs ys : List Pending) (n : ℕ) → t ≡ Fork l r q → n ≤ length (nodes l)
