@@ -59,12 +59,12 @@ last_is items f fs e =
     (λ i. slice_get (e i) (n i)) ∙ slice_get-get_or (ps ++ Some (turn_of f) ∷ []) (length ps) (Some (turn_of f)) (omega arith)
     ∙ ap (λ k. Some k) (get_or-append_seam ps (Some (turn_of f)) [] (Some (turn_of f)))
 
-pub turned_back : (items new : List (Option Turn)) (last : Option (Option Turn)) (fs : List Frame) (turn : Turn)
+pub turned_back : {items new : List (Option Turn)} {last : Option (Option Turn)} {fs : List Frame} {turn : Turn}
     → items ≡ way_of fs → new ≡ take (length items - 1) items → last ≡ slice_get items (length items - 1)
     → option_flatten last ≡ Some turn → IsTurned fs new turn
-turned_back items new last [] r e n l g =
+turned_back {items} {new} {last} {fs = []} {turn = r} e n l g =
     let i : last ≡ None = l ∙ (λ k. slice_get (e k) (length (e k) - 1)) in let j : None ≡ Some r = sym (ap option_flatten i) ∙ g in absurd cc
-turned_back items new last (f ∷ fs) r e n l g =
+turned_back {items} {new} {last} {fs = f ∷ fs} {turn = r} e n l g =
     let same : r ≡ turn_of f = some_two r (turn_of f) (sym g ∙ ap option_flatten (l ∙ last_is items f fs e)) in record {
       other = f.other;
       rest = fs;
@@ -72,8 +72,8 @@ turned_back items new last (f ∷ fs) r e n l g =
       now = n ∙ (λ i. take (last_length items f fs e i) (e i)) ∙ take-append_seam (way_of fs) (Some (turn_of f) ∷ []);
     }
 
-pub shorter_way : (items new : List (Option Turn)) (fs : List Frame) (turn : Turn) → items ≡ way_of fs → IsTurned fs new turn → length new < length items
-shorter_way items new fs turn e w =
+pub shorter_way : {items new : List (Option Turn)} {fs : List Frame} {turn : Turn} → items ≡ way_of fs → IsTurned fs new turn → length new < length items
+shorter_way {items} {new} {fs} {turn} e w =
     let a = ap length e in let b = path_length fs in let c = ap (λ (k : List Frame). length k) w.was in let d = ap length w.now in let f = path_length w.rest in
     omega arith
 
@@ -322,9 +322,9 @@ module _ {T : Type 0} where
       )
 
   -- nothing is above
-  pub climbed_none : (m : Pooled T) (s : ℕ) (root below : Option Ref) (items : List (Option Turn)) (fs : List Frame) (at : Option Ref) (h : ℕ) (u : Shape)
+  pub climbed_none : {m : Pooled T} {s : ℕ} {root below : Option Ref} {items : List (Option Turn)} {fs : List Frame} {at : Option Ref} {h : ℕ} {u : Shape}
       → Climbs m s root below items fs at h u → fs ≡ [] → HasClimbed m m s (plug fs u) below u
-  climbed_none m s root below items fs at h u c e = record {
+  climbed_none {m} {s} {fs = fs} {u = u} c e = record {
     rooted = c.rooted;
     even = c.even;
     nodes_are = sym (ap (λ k. nodes (plug k u)) e);
@@ -337,9 +337,30 @@ module _ {T : Type 0} where
   level_none m s root below items fs at h u c e = subst (λ (z : ℕ × ℕ). IsLevel (height u) h z.0 z.1)
       (λ i. (sym (height-root m s below u c.rooted) i, ap (λ k. risen k h) (sym e) i)) (c.near, λ f. f)
 
-  module _ (m : Pooled T) (s : ℕ) (root below : Option Ref) (items new : List (Option Turn)) (fs : List Frame) (at : Option Ref)
-      (h : ℕ) (u : Shape) (c : Climbs m s root below items fs at h u) (turn : Turn) (w : IsTurned fs new turn)
-      (y : Link) (i : y ≡ link_of m turn.node.name s) where
+  -- what a step up gives: the tree that is to stand next, and what the rest of the way makes of it
+  pub record NextClimb (m n : Pooled T) (s : ℕ) (root : Option Ref) (new : List (Option Turn)) (fs : List Frame)
+      (h : ℕ) (u : Shape) (turn : Turn) (before : ℕ) (next : Ref) : Type 0 where
+    pub rest : List Frame
+    pub z : Shape
+    pub climbs : Climbs n s root (Some next) new rest (Some turn.node) before z
+    pub level : (j : ℕ) → IsLevel (height z) before j (risen rest before) → IsLevel (height u) h j (risen fs h)
+    pub climbed : (v : Pooled T) (result : Option Ref) (t : Shape) → HasClimbed n v s (plug rest z) result t → HasClimbed m v s (plug fs u) result t
+
+  -- a tree as high as the one before
+  module _ {m n : Pooled T} {s : ℕ} {root : Option Ref} {new : List (Option Turn)} {fs : List Frame}
+      {h : ℕ} {u : Shape} {turn : Turn} {before : ℕ} {next : Ref} (o : NextClimb m n s root new fs h u turn before next) where
+    same_height : before ≡ height_at n s (Some next) → before ≡ height o.z
+    same_height e = e ∙ height-root n s (Some next) o.z o.climbs.rooted
+
+    pub same_climbs : before ≡ height_at n s (Some next) → Climbs n s root (Some next) new o.rest (Some turn.node) (height o.z) o.z
+    same_climbs e = subst (λ j. Climbs n s root (Some next) new o.rest (Some turn.node) j o.z) (same_height e) o.climbs
+
+    pub same_level : before ≡ height_at n s (Some next) → (j : ℕ) → j ≡ risen o.rest (height o.z) → IsLevel (height u) h j (risen fs h)
+    same_level e j is = o.level j (level_same (height o.z) before j _ (is ∙ ap (risen o.rest) (sym (same_height e))))
+
+  module _ {m : Pooled T} {s : ℕ} {root below : Option Ref} {items new : List (Option Turn)} {fs : List Frame} {at : Option Ref}
+      {h : ℕ} {u : Shape} (c : Climbs m s root below items fs at h u) {turn : Turn} (w : IsTurned fs new turn)
+      {y : Link} (i : y ≡ link_of m turn.node.name s) where
     abbrev whole : Shape
     whole = forked turn.left u turn.node w.other
 
@@ -364,10 +385,10 @@ module _ {T : Type 0} where
     link_is : y ≡ forked_link turn.left at (size u) h w.other y.tag
     link_is = i ∙ open_above.1 ∙ ap (λ (z : Link). forked_link turn.left at (size u) h w.other z.tag) (sym i)
 
-    pub before_is : y.height ≡ forked_height turn.left h (height w.other)
+    before_is : y.height ≡ forked_height turn.left h (height w.other)
     before_is = ap (λ (z : Link). z.height) link_is ∙ link_height turn.left at (size u) h w.other y.tag
 
-    pub climb_sides : (l : Shape) × (z : Shape) × Sided m s (cond turn.left below y.back) (cond turn.left y.forth below) turn.node turn.left w.other u l z
+    climb_sides : (l : Shape) × (z : Shape) × Sided m s (cond turn.left below y.back) (cond turn.left y.forth below) turn.node turn.left w.other u l z
     climb_sides = let f = plug_size w.rest whole in let k = open_fits in
         sided m s turn.left turn.node w.other u below y at (size u) h y.tag c.rooted c.even c.near open_beside.0
         open_beside.1 open_above.0 link_is open_above.2 (plug_apart w.rest whole open_apart) (omega arith)
@@ -378,11 +399,15 @@ module _ {T : Type 0} where
         settled m s turn.left turn.node w.other u below y at h y.tag c.rooted c.even c.near open_beside.0
         open_beside.1 open_above.0 link_is open_above.2 (plug_apart w.rest whole open_apart) (omega arith) (ap (λ (z : Link). z.tag) i)
 
-    pub climb_rejoined : AreRejoined m s turn below y climb_sides.0 climb_sides.1
+    climb_rejoined : AreRejoined m s turn below y climb_sides.0 climb_sides.1
     climb_rejoined = record {
       sides = climb_sides.2.sides;
       settled = λ e. climb_settled (ap (λ j. j + 1) (sym (height-root m s below u c.rooted)) ∙ e);
     }
+
+    -- what the node of the way is put over again
+    pub climb_given : (l : Shape) × (q : Shape) × AreRejoined m s turn below y l q
+    climb_given = (climb_sides.0, climb_sides.1, climb_rejoined)
 
     pub low_below : height_at m s below + 1 < 256
     low_below = let f = plug_size w.rest whole in let k = open_fits in let j = size_part turn.left turn.node w.other u in
@@ -390,12 +415,12 @@ module _ {T : Type 0} where
         let e = height-root m s below u c.rooted in omega arith
 
     -- the next node of the way
-    module _ (n : Pooled T) (back forth : Option Ref) (l q : Shape) (o : Sided m s back forth turn.node turn.left w.other u l q)
-        (next : Ref) (z : Shape) (k : IsBalanced m n s l turn.node q next z) where
+    module _ {n : Pooled T} {back forth : Option Ref} {l q : Shape} (o : Sided m s back forth turn.node turn.left w.other u l q)
+        {next : Ref} {z : Shape} (k : IsBalanced m n s l turn.node q next z) where
       names_are : nodes z ≡ nodes whole
       names_are = k.rebalanced.nodes_are ∙ o.names
 
-      pub climbs_on : Climbs n s root (Some next) new w.rest (Some turn.node) (forked_height turn.left h (height w.other)) z
+      climbs_on : Climbs n s root (Some next) new w.rest (Some turn.node) (forked_height turn.left h (height w.other)) z
       climbs_on =
           let r = k.rebalanced in let hs = o.heights in let same = plug_nodes w.rest z whole names_are in record {
             path_is = w.now;
@@ -412,13 +437,13 @@ module _ {T : Type 0} where
             root_is = root_next root (frame turn w.other) w.rest (subst (IsRootOf root) w.was c.root_is);
           }
 
-      pub level_on : (j : ℕ) → IsLevel (height z) (forked_height turn.left h (height w.other)) j (risen w.rest (forked_height turn.left h (height w.other)))
+      level_on : (j : ℕ) → IsLevel (height z) (forked_height turn.left h (height w.other)) j (risen w.rest (forked_height turn.left h (height w.other)))
           → IsLevel (height u) h j (risen fs h)
       level_on j d = let high = subst (λ i. height z ≤ i + 1) o.heights.0 k.rebalanced.not_higher in
           subst (λ (i : List Frame). IsLevel (height u) h j (risen i h)) (sym w.was)
           (d.0, λ f. d.1 (not_lifted turn.left h (height w.other) (height u) (height z) f high))
 
-      pub climbed_on : (v : Pooled T) (result : Option Ref) (t : Shape) → HasClimbed n v s (plug w.rest z) result t → HasClimbed m v s (plug fs u) result t
+      climbed_on : (v : Pooled T) (result : Option Ref) (t : Shape) → HasClimbed n v s (plug w.rest z) result t → HasClimbed m v s (plug fs u) result t
       climbed_on v result t d =
           let same = plug_nodes w.rest z whole names_are in let all = same ∙ sym (ap nodes plugged) in record {
             rooted = d.rooted;
@@ -428,6 +453,18 @@ module _ {T : Type 0} where
                 (λ j out. (subst (IsOut j) (sym o.names) (plug_out w.rest whole j (subst (IsOut j) (ap nodes plugged) out)), subst (IsOut j) (sym all) out));
             tags = λ j. d.tags j ∙ k.tags j;
           }
+
+    pub next_climb : {n : Pooled T} {before : ℕ} {next : Ref} → before ≡ y.height
+        → ((l q : Shape) → AreRejoined m s turn below y l q → (z : Shape) × IsBalanced m n s l turn.node q next z)
+        → NextClimb m n s root new fs h u turn before next
+    next_climb {n} {before} {next} e f =
+        let k = f climb_sides.0 climb_sides.1 climb_rejoined in let is : forked_height turn.left h (height w.other) ≡ before = sym (e ∙ before_is) in record {
+          rest = w.rest;
+          z = k.0;
+          climbs = subst (λ j. Climbs n s root (Some next) new w.rest (Some turn.node) j k.0) is (climbs_on climb_sides.2 k.1);
+          level = λ j d. level_on climb_sides.2 k.1 j (subst (λ b. IsLevel (height k.0) b j (risen w.rest b)) (sym is) d);
+          climbed = climbed_on climb_sides.2 k.1;
+        }
 
   -- the last change
   pub hung : (m n : Pooled T) (s : ℕ) (root : Option Ref) (next : Ref) (items new : List (Option Turn)) (fs : List Frame) (at : Option Ref) (u : Shape)

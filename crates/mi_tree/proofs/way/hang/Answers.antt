@@ -1,8 +1,7 @@
-use Rattle.std.proofs.Common.{Some, refl, sym, ap, ◌∙◌}
+use Rattle.std.proofs.Common.{refl, sym, ap, ◌∙◌}
 use Rattle.mi_node.specs.Pool.{Pooled, with_link}
 use Rattle.mi_node.specs.declared.link.Link.{Link}
 use Rattle.mi_node.proofs.Callers.{slots-with_link}
-use Rattle.mi_tree.specs.Shape.{height}
 use Rattle.mi_tree.specs.Ways.{plug}
 use Rattle.mi_tree.proofs.Shapes.{height-root}
 use Rattle.mi_tree.proofs.Ways.{turned_back, no_turn, climbed_none, turn_held, plug_height, hung}
@@ -11,13 +10,13 @@ use Rattle.mi_tree.proofs.way.hang.Goals as goal
 pub returns-in_default-clause-tree : goal.returns-in_default-clause-tree
 returns-in_default-clause-tree g c fs at u h =
     let v = c.args in let e = no_turn v.way.now.items _ fs h.path_is c.pop.ensures.value (sym c.flatten.ensures ∙ c.in_default.is) in
-    (u, climbed_none v.p.now v.slot v.root (Some v.top) v.way.now.items fs at (height u) u h e)
+    (u, climbed_none h e)
 
 pub link-requires-clause-held : goal.link-requires-clause-held
 link-requires-clause-held g c =
     let v = c.args in let w = c.requires.way in
-    let t = turned_back v.way.now.items _ _ w.0 c.in-Some.turn w.3.path_is c.pop.ensures.rest c.pop.ensures.value (sym c.flatten.ensures ∙ c.in-Some.is) in
-    turn_held v.p.now v.slot v.root (Some v.top) v.way.now.items _ w.0 w.1 (height w.2) w.2 w.3 c.in-Some.turn t _ refl
+    let t = turned_back w.3.path_is c.pop.ensures.rest c.pop.ensures.value (sym c.flatten.ensures ∙ c.in-Some.is) in
+    turn_held w.3 t refl
 
 pub returns-clause-slots : goal.returns-clause-slots
 returns-clause-slots g c =
@@ -26,14 +25,14 @@ returns-clause-slots g c =
 pub returns-clause-tree : goal.returns-clause-tree
 returns-clause-tree g c fs at u h =
     let v = c.args in let turn = c.in-Some.turn in
-    let t = turned_back v.way.now.items _ _ fs turn h.path_is c.pop.ensures.rest c.pop.ensures.value (sym c.flatten.ensures ∙ c.in-Some.is) in
+    let t = turned_back h.path_is c.pop.ensures.rest c.pop.ensures.value (sym c.flatten.ensures ∙ c.in-Some.is) in
     let set = c.set_link.ensures ∙ ap (λ (z : Link). with_link v.p.now turn.node.name v.slot z) c.with_child-link.ensures in
     (plug fs u, hung v.p.now c.set_link.new.self v.slot v.root v.top v.way.now.items _ fs at u h turn t c.link.result c.link.ensures set)
 
 pub returns-clause-height : goal.returns-clause-height
 returns-clause-height g c fs at u h =
     let v = c.args in let turn = c.in-Some.turn in
-    let t = turned_back v.way.now.items _ _ fs turn h.path_is c.pop.ensures.rest c.pop.ensures.value (sym c.flatten.ensures ∙ c.in-Some.is) in
+    let t = turned_back h.path_is c.pop.ensures.rest c.pop.ensures.value (sym c.flatten.ensures ∙ c.in-Some.is) in
     let set = c.set_link.ensures ∙ ap (λ (z : Link). with_link v.p.now turn.node.name v.slot z) c.with_child-link.ensures in
     let all = hung v.p.now c.set_link.new.self v.slot v.root v.top v.way.now.items _ fs at u h turn t c.link.result c.link.ensures set in
     height-root c.set_link.new.self v.slot v.root (plug fs u) all.rooted ∙ plug_height fs u
