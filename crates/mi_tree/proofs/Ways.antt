@@ -530,8 +530,18 @@ module _ {T : Type 0} where
         tags = λ k. refl;
       }
 
-  module _ (order : T → T → Ordering) (total : IsTotalOrder order) (tag : T → ℕ) (m n : Pooled T) (s : ℕ)
-      (items : List (Option Turn)) (at : Option Ref) (here x : Ref) (y : Link) (fs : List Frame) (t : Shape)
+  -- a step down: where the way goes on, and what its end says of the whole
+  pub record NextFall (m n : Pooled T) (s : ℕ) (order : T → T → Ordering) (tag : T → ℕ) (new : List (Option Turn))
+      (at next : Option Ref) (x : Ref) (fs : List Frame) (t : Shape) : Type 0 where
+    pub gs : List Frame
+    pub sub : Shape
+    pub falls : Falls n s (side order n s) tag new next x gs sub
+    pub lower : height_at n s next < height_at m s at
+    pub fallen : (v : Pooled T) (last : List (Option Turn)) (ks : List Frame)
+        → HasFallen n v s (side order n s) last x (plug gs sub) ks → HasFallen m v s (side order m s) last x (plug fs t) ks
+
+  module _ {order : T → T → Ordering} (total : IsTotalOrder order) {tag : T → ℕ} {m n : Pooled T} {s : ℕ}
+      {items : List (Option Turn)} {at : Option Ref} {here x : Ref} {y : Link} {fs : List Frame} {t : Shape}
       (h : Falls m s (side order m s) tag items at x fs t) (e : at ≡ Some here)
       (i : y ≡ link_of m here.name s) (set : n ≡ with_link m here.name s (grown_link y)) where
     abbrev R : Ref → Ref → Ordering
@@ -582,7 +592,7 @@ module _ {T : Type 0} where
     abbrev turn : Bool → Turn
     turn b = record { node = here; left = b }
 
-    pub record Stepped (b : Bool) : Type 0 where
+    record Stepped (b : Bool) : Type 0 where
       pub sub : Shape
       pub other : Shape
       pub is : t ≡ forked b sub here other
@@ -669,7 +679,7 @@ module _ {T : Type 0} where
     stepped_by true f = stepped_left (less_is (R x here) (sym f))
     stepped_by false f = stepped_right (more_is (R x here) (sym f) o.differs_root)
 
-    pub stepped : (k : Ordering) (b : Bool) → R x here ≡ k → b ≡ is_lt k → Stepped b
+    stepped : (k : Ordering) (b : Bool) → R x here ≡ k → b ≡ is_lt k → Stepped b
     stepped k b f g = stepped_by b (g ∙ ap is_lt (sym f))
 
     pub same_tag : (link_of n x.name s).tag ≡ (link_of m x.name s).tag
@@ -681,7 +691,7 @@ module _ {T : Type 0} where
     pub room_here : length items < 45
     room_here = let a = h.room in let b = ap length h.path_is in let c = path_length fs in let d = ap height o.is in omega arith
 
-    pub fallen_on : (b : Bool) (k : Stepped b) (v : Pooled T) (last : List (Option Turn)) (gs : List Frame)
+    fallen_on : (b : Bool) (k : Stepped b) (v : Pooled T) (last : List (Option Turn)) (gs : List Frame)
         → HasFallen n v s (side order n s) last x (plug (frame (turn b) k.other ∷ fs) k.sub) gs → HasFallen m v s R last x (plug fs t) gs
     fallen_on b k v last gs f =
         let whole : plug fs t ≡ plug fs (forked b k.sub here k.other) = ap (plug fs) k.is in record {
@@ -699,6 +709,17 @@ module _ {T : Type 0} where
               ));
           tags = λ j. f.tags j ∙ tags_here j;
         }
+
+    pub next_fall : {new : List (Option Turn)} {next : Option Ref} {k : Ordering} {b : Bool} → side order m s x here ≡ k → b ≡ is_lt k
+        → new ≡ items ++ Some (record { node = here; left = b }) ∷ [] → next ≡ cond b y.back y.forth → NextFall m n s order tag new at next x fs t
+    next_fall {new} {next} {k} {b} f g p q = let st = stepped k b f g in record {
+      gs = frame (turn b) st.other ∷ fs;
+      sub = st.sub;
+      falls = subst (λ (z : List (Option Turn) × Option Ref). Falls n s (side order n s) tag z.0 z.1 x (frame (turn b) st.other ∷ fs) st.sub)
+          (λ j. (sym p j, sym q j)) st.falls;
+      lower = subst (λ z. height_at n s z < height_at m s at) (sym q) st.lower;
+      fallen = fallen_on b st;
+    }
 
   -- from the way down to the way up, and the whole
   module _ (m n : Pooled T) (s : ℕ) (R : Ref → Ref → Ordering) (items : List (Option Turn)) (at : Option Ref)
