@@ -10,7 +10,7 @@ pub link-requires-clause-held : goal.link-requires-clause-held
 link-requires-clause-held g c =
     let v = c.args in let m = v.p.now.pool in let l = v.self.now in let s = l.slot in
     let ord = g.O.NodeOrder.order l.order in let tag = g.O.NodeOrder.tag_of l.order in let w = c.requires in
-    node_held l m ord tag w.0 v.node w.1 w.2
+    node_held w.0 v.node w.1 w.2
 
 pub rank_in-requires-clause-tree : goal.rank_in-requires-clause-tree
 rank_in-requires-clause-tree g c =
@@ -20,7 +20,7 @@ rank_in-requires-clause-tree g c =
     subst (λ (z : Pooled g.row.T.Denot). (t : Shape) × (xs : List Ref) × (ys : List Ref) × CanTake z s l.root t
     × Rising (side ord z s) (nodes t) × AreTagged tag z s (nodes t) × (nodes t ≡ xs ++ v.node ∷ ys))
     (sym c.link.ensures.pool)
-    (w.2.shape, w.0, w.1, can_take l m ord tag rs w.2, rising_in l m ord tag rs w.2, tagged_in l m ord tag rs w.2, w.2.nodes_are)
+    (w.2.shape, w.0, w.1, can_take w.2, rising_in w.2, tagged_in w.2, w.2.nodes_are)
 
 pub returns-clause-rank : goal.returns-clause-rank
 returns-clause-rank g c xs ys h =
@@ -30,7 +30,7 @@ returns-clause-rank g c xs ys h =
     let on = subst (λ (z : Pooled g.row.T.Denot). (t : Shape) (xs : List Ref) (ys : List Ref) → CanTake z s l.root t
     → Rising (side ord z s) (nodes t) → nodes t ≡ xs ++ v.node ∷ ys → c.rank_in.result ≡ length xs)
     c.link.ensures.pool c.rank_in.ensures.rank in
-    on h.shape xs ys (can_take l m ord tag rs h) (rising_in l m ord tag rs h) h.nodes_are
+    on h.shape xs ys (can_take h) (rising_in h) h.nodes_are
 
 pub returns-clause-reads : goal.returns-clause-reads
 returns-clause-reads g c order t rs h b f =
@@ -39,8 +39,8 @@ returns-clause-reads g c order t rs h b f =
     let w = c.requires in
     let a = c.rank_in.ensures.reads h.shape (subst (λ (z : Pooled g.row.T.Denot). IsRooted z s l.root h.shape) (sym c.link.ensures.pool) h.rooted) in
     let e = c.link.ensures.reads in
-    let long = same_length l m order t rs ord tag (w.0 ++ v.node ∷ w.1) h w.2 in
-    let parts = length-append w.0 (v.node ∷ w.1) in let d = bound_less l m order t rs h b f (omega arith) in
+    let long = same_length h w.2 in
+    let parts = length-append w.0 (v.node ∷ w.1) in let d = bound_less h b f (omega arith) in
     omega arith
 
 pub returns-clause-steps : goal.returns-clause-steps
@@ -48,5 +48,5 @@ returns-clause-steps g c order t rs h b f =
     let v = c.args in let m = v.p.now.pool in let l = v.self.now in let s = l.slot in let ord = g.O.NodeOrder.order l.order in
     let tag = g.O.NodeOrder.tag_of l.order in
     let a = c.rank_in.ensures.steps h.shape (subst (λ (z : Pooled g.row.T.Denot). IsRooted z s l.root h.shape) (sym c.link.ensures.pool) h.rooted) in
-    let d = bound l m order t rs h b f in
+    let d = bound h b f in
     omega arith

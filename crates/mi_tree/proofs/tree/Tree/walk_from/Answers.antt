@@ -11,7 +11,7 @@ pub link-requires-clause-held : goal.link-requires-clause-held
 link-requires-clause-held g c =
     let v = c.args in let m = v.p.now.pool in let l = v.self.now in let s = l.slot in let d = v.direction in
     let ord = g.O.NodeOrder.order l.order in let tag = g.O.NodeOrder.tag_of l.order in let w = c.requires in
-    node_held l m ord tag w.0 v.node w.1 w.2
+    node_held w.0 v.node w.1 w.2
 
 pub start_at-requires-clause-tree : goal.start_at-requires-clause-tree
 start_at-requires-clause-tree g c =
@@ -25,10 +25,10 @@ start_at-requires-clause-tree g c =
       w.2.shape,
       w.0,
       w.1,
-      enters_root l m ord tag rs w.2 d,
-      can_take l m ord tag rs w.2,
-      rising_in l m ord tag rs w.2,
-      tagged_in l m ord tag rs w.2,
+      enters_root w.2 d,
+      can_take w.2,
+      rising_in w.2,
+      tagged_in w.2,
       w.2.nodes_are,
     )
 
@@ -41,8 +41,8 @@ returns-clause-walk g c xs ys h =
     → CanTake z s l.root t → Rising (side ord z s) (nodes t) → nodes t ≡ xs ++ v.node ∷ ys → IsWalk c.start_at.result z levels (v.node ∷ beyond d xs ys))
     c.link.ensures.pool c.start_at.ensures.walk in (
       height h.shape,
-      on (height h.shape) h.shape xs ys (enters_root l m ord tag rs h d) (can_take l m ord tag rs h) (rising_in l m ord tag rs h) h.nodes_are,
-      λ b f. bound l m ord tag rs h b f,
+      on (height h.shape) h.shape xs ys (enters_root h d) (can_take h) (rising_in h) h.nodes_are,
+      λ b f. bound h b f,
     )
 
 pub returns-clause-reads : goal.returns-clause-reads
@@ -52,8 +52,8 @@ returns-clause-reads g c order t rs h b f =
     let w = c.requires in
     let a = c.start_at.ensures.reads h.shape (subst (λ (z : Pooled g.row.T.Denot). IsRooted z s l.root h.shape) (sym c.link.ensures.pool) h.rooted) in
     let e = c.link.ensures.reads in
-    let long = same_length l m order t rs ord tag (w.0 ++ v.node ∷ w.1) h w.2 in
-    let parts = length-append w.0 (v.node ∷ w.1) in let d = bound_less l m order t rs h b f (omega arith) in
+    let long = same_length h w.2 in
+    let parts = length-append w.0 (v.node ∷ w.1) in let d = bound_less h b f (omega arith) in
     omega arith
 
 pub returns-clause-steps : goal.returns-clause-steps
@@ -61,5 +61,5 @@ returns-clause-steps g c order t rs h b f =
     let v = c.args in let m = v.p.now.pool in let l = v.self.now in let s = l.slot in let d = v.direction in let ord = g.O.NodeOrder.order l.order in
     let tag = g.O.NodeOrder.tag_of l.order in
     let a = c.start_at.ensures.steps h.shape (subst (λ (z : Pooled g.row.T.Denot). IsRooted z s l.root h.shape) (sym c.link.ensures.pool) h.rooted) in
-    let d = bound l m order t rs h b f in
+    let d = bound h b f in
     omega arith
