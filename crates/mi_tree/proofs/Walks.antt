@@ -48,10 +48,10 @@ near_height Ascending l q n e = (omega arith, omega arith)
 near_height Descending l q n e = (omega arith, omega arith)
 
 module _ {T : Type 0} where
-  pub goes_depth : (m : Pooled T) (s : ℕ) (d : Direction) (levels : ℕ) (items : List (Option Ref)) (xs : List Pending)
+  pub goes_depth : {m : Pooled T} {s : ℕ} {d : Direction} {levels : ℕ} {items : List (Option Ref)} {xs : List Pending}
       → Goes m s d levels items xs → length items ≤ levels
-  goes_depth m s d levels items [] h = let e = ap length h.path_is in omega arith
-  goes_depth m s d levels items (x ∷ xs) h = let e = ap length h.path_is in let i = path_length (x ∷ xs) in let room = h.pending.2 in omega arith
+  goes_depth {xs = []} h = let e = ap length h.path_is in omega arith
+  goes_depth {xs = x ∷ xs} h = let e = ap length h.path_is in let i = path_length (x ∷ xs) in let room = h.pending.2 in omega arith
 
   -- a node on the way down
   pub record Entered (m : Pooled T) (s : ℕ) (d : Direction) (levels : ℕ) (items : List (Option Ref))
@@ -252,11 +252,11 @@ popped items new last (x ∷ xs) r e n l f = record {
   now = n ∙ (λ i. take (last_length items x xs e i) (e i)) ∙ take-append_seam (path_of xs) (Some x.node ∷ []);
 }
 
-pub popped_none : (items new : List (Option Ref)) (last : Option (Option Ref)) (xs : List Pending)
+pub popped_none : {items new : List (Option Ref)} {last : Option (Option Ref)} {xs : List Pending}
     → items ≡ path_of xs → new ≡ take (length items - 1) items → last ≡ slice_get items (length items - 1)
     → option_flatten last ≡ None → (xs ≡ []) × (new ≡ [])
-popped_none items new last [] e n l f = (refl, n ∙ (λ k. take (length (e k) - 1) (e k)))
-popped_none items new last (x ∷ xs) e n l f = let j : Some x.node ≡ None = sym (ap option_flatten (l ∙ last_is items x xs e)) ∙ f in absurd cc
+popped_none {xs = []} e n l f = (refl, n ∙ (λ k. take (length (e k) - 1) (e k)))
+popped_none {items} {xs = x ∷ xs} e n l f = let j : Some x.node ≡ None = sym (ap option_flatten (l ∙ last_is items x xs e)) ∙ f in absurd cc
 
 module _ {T : Type 0} where
   -- a walk that gives a node
@@ -267,10 +267,10 @@ module _ {T : Type 0} where
     pub enters : Enters m s d levels new (far_of d (link_of m r.name s)) ys after
     pub was : us ≡ r ∷ (onward d (nodes after) ++ ahead d ys)
 
-  pub stepped : (w : Walk) (m : Pooled T) (levels : ℕ) (us : List Ref) (new : List (Option Ref)) (last : Option (Option Ref)) (r : Ref) → IsWalk w m levels us
+  pub stepped : {w : Walk} {m : Pooled T} {levels : ℕ} {us : List Ref} {new : List (Option Ref)} {last : Option (Option Ref)} {r : Ref} → IsWalk w m levels us
       → new ≡ take (length w.path.items - 1) w.path.items → last ≡ slice_get w.path.items (length w.path.items - 1)
       → option_flatten last ≡ Some r → Stepped m w.slot w.direction levels new r us
-  stepped w m levels us new last r h n l f =
+  stepped {w} {m} {levels} {us} {new} {last} {r} h n l f =
       let p = popped w.path.items new last h.xs r h.goes.path_is n l f in let d = w.direction in
       let pending = subst (ArePending m w.slot d levels) p.was h.goes.pending in let room = pending.2 in
       record {
@@ -286,11 +286,11 @@ module _ {T : Type 0} where
         was = sym h.ahead_is ∙ ap (ahead d) p.was ∙ ap (λ (q : Ref). q ∷ (onward d (nodes p.x.after) ++ ahead d p.ys)) p.node_is;
       }
 
-  pub walks : (w v : Walk) (m n : Pooled T) (levels : ℕ) (us : List Ref) (new : List (Option Ref)) (r : Ref) → IsWalk w m levels us
+  pub walks : {w v : Walk} {m n : Pooled T} {levels : ℕ} {us : List Ref} {new : List (Option Ref)} {r : Ref} → IsWalk w m levels us
       → (o : Stepped m w.slot w.direction levels new r us) → n ≡ m → v.slot ≡ w.slot → v.direction ≡ w.direction
-      → (zs : List Pending) → Goes m w.slot w.direction levels v.path.items zs
+      → {zs : List Pending} → Goes m w.slot w.direction levels v.path.items zs
       → ahead w.direction zs ≡ onward w.direction (nodes o.after) ++ ahead w.direction o.ys → IsWalk v n levels (drop 1 us)
-  walks w v m n levels us new r h o e s d zs goes is = record {
+  walks {w} {v} {m} {n} {levels} {us} {new} {r} h o e s d {zs} goes is = record {
     xs = zs;
     goes = subst (λ (k : Pooled T × ℕ × Direction). Goes k.0 k.1 k.2 levels v.path.items zs) (λ i. (sym e i, sym s i, sym d i)) goes;
     ahead_is = ap (λ k. ahead k zs) d ∙ is ∙ ap (drop 1) (sym o.was);
@@ -299,9 +299,9 @@ module _ {T : Type 0} where
   }
 
   -- a walk at its end
-  pub walks_none : (w v : Walk) (m : Pooled T) (levels : ℕ) (us : List Ref) → (h : IsWalk w m levels us)
+  pub walks_none : {w v : Walk} {m : Pooled T} {levels : ℕ} {us : List Ref} (h : IsWalk w m levels us)
       → h.xs ≡ [] → v.slot ≡ w.slot → v.path.items ≡ [] → IsWalk v m levels (drop 1 us)
-  walks_none w v m levels us h e s n = record {
+  walks_none {w} {v} {m} h e s n = record {
     xs = [];
     goes = record { path_is = n; pending = tt };
     ahead_is = ap (λ k. drop 1 (ahead w.direction k)) (sym e) ∙ ap (drop 1) h.ahead_is;

@@ -10,25 +10,23 @@ use Rattle.mi_tree.proofs.Sorts.{tagged_read}
 use Rattle.mi_tree.proofs.Looks.{not_here, node_read, found_none, found_some, found_other, found_held, found_tag, some_found}
 use Rattle.mi_tree.proofs.Stands.{same_length, bound_less}
 use Rattle.mi_tree.proofs.tree.Tree.find.Given.{Over}
-use Rattle.mi_tree.proofs.tree.Tree.find.Goals.{After-lower, In-Some, After-link, After-compare_probe}
+use Rattle.mi_tree.proofs.tree.Tree.find.Goals.{In-Some, After-compare_probe}
 use Rattle.mi_tree.proofs.tree.Tree.find.Goals as goal
 
-module _ (g : Over) (c : After-lower g) where
+module _ (g : Over) (c : In-Some g) where
   -- where a value stands beside the probe
   abbrev place : g.row.T.Denot → Ordering
   place = λ x. g.O.NodeOrder.place c.args.self.now.order x c.args.probe
 
-module _ (g : Over) (c : In-Some g) where
   -- the node is the first that isn't before the probe
-  first_is : Some c.in-Some.node
-      ≡ first_where (is_past_node false (λ (x : g.row.T.Denot). g.O.NodeOrder.place c.args.self.now.order x c.args.probe) c.args.p.now.pool) c.requires.0
+  first_is : Some c.in-Some.node ≡ first_where (is_past_node false place c.args.p.now.pool) c.requires.0
   first_is = sym c.in-Some.is ∙ c.lower.ensures.node c.requires.0 c.requires.1
 
   -- it is held
   held : IsHeld c.args.p.now.pool c.in-Some.node
   held =
-      let f = is_past_node false (λ (x : g.row.T.Denot). g.O.NodeOrder.place c.args.self.now.order x c.args.probe) c.args.p.now.pool in let h = c.requires.1 in
-      found_held c.args.p.now.pool c.args.self.now.slot h.shape f c.in-Some.node h.rooted.stands (first_is ∙ ap (first_where f) (sym h.nodes_are))
+      let h = c.requires.1 in found_held c.args.p.now.pool c.args.self.now.slot h.shape (is_past_node false place c.args.p.now.pool) c.in-Some.node
+      h.rooted.stands (first_is ∙ ap (first_where (is_past_node false place c.args.p.now.pool)) (sym h.nodes_are))
 
   -- the tree has a node, so one level fewer bounds the way down
   bound_here : (order : g.row.T.Denot → g.row.T.Denot → Ordering) (tag : g.row.T.Denot → ℕ) (rs : List Ref)
@@ -48,8 +46,8 @@ module _ (g : Over) (c : After-compare_probe g) (held : IsHeld c.args.p.now.pool
 pub returns-in_default-clause-node : goal.returns-in_default-clause-node
 returns-in_default-clause-node g c rs h =
     let l = c.args.self.now in
-    found_none (g.O.NodeOrder.order l.order) (place g (goal.at.returns-in_default-clause-node g c).After-lower) (g.met.O.NodeOrder.monotone l.order c.args.probe)
-    c.args.p.now.pool l.slot rs h.rising (sym c.in_default.is ∙ c.lower.ensures.node rs h)
+    found_none (g.O.NodeOrder.order l.order) (λ x. g.O.NodeOrder.place l.order x c.args.probe)
+    (g.met.O.NodeOrder.monotone l.order c.args.probe) c.args.p.now.pool l.slot rs h.rising (sym c.in_default.is ∙ c.lower.ensures.node rs h)
 
 pub returns-in_default-clause-steps : goal.returns-in_default-clause-steps
 returns-in_default-clause-steps g c order t rs h b f = let i = c.lower.ensures.steps order t rs h b f in omega arith
@@ -68,7 +66,7 @@ compare_probe-requires-clause-node g c =
 pub returns-in-Equal-clause-node : goal.returns-in-Equal-clause-node
 returns-in-Equal-clause-node g c rs h =
     let o = goal.at.returns-in-Equal-clause-node g c in let l = c.args.self.now in
-    found_some (g.O.NodeOrder.order l.order) (place g o.After-lower) (g.met.O.NodeOrder.monotone l.order c.args.probe) c.args.p.now.pool l.slot rs
+    found_some (g.O.NodeOrder.order l.order) (place g o.In-Some) (g.met.O.NodeOrder.monotone l.order c.args.probe) c.args.p.now.pool l.slot rs
     c.in-Some.node h.rising (sym c.in-Some.is ∙ c.lower.ensures.node rs h) (node_is g o.After-compare_probe (held g o.In-Some) ∙ ap is_eq c.in-Equal.is)
 
 pub returns-in-Equal-clause-reads : goal.returns-in-Equal-clause-reads
@@ -82,7 +80,7 @@ returns-in-Equal-clause-steps g c order t rs h b f = let i = c.lower.ensures.ste
 pub returns-in_default-compare_probe : goal.returns-in_default-compare_probe
 returns-in_default-compare_probe g c =
     let o = goal.at.returns-in_default-compare_probe g c in let l = c.args.self.now in record {
-      node = λ rs h. found_other (g.O.NodeOrder.order l.order) (place g o.After-lower) (g.met.O.NodeOrder.monotone l.order c.args.probe) c.args.p.now.pool
+      node = λ rs h. found_other (g.O.NodeOrder.order l.order) (place g o.In-Some) (g.met.O.NodeOrder.monotone l.order c.args.probe) c.args.p.now.pool
           l.slot rs c.in-Some.node h.rising (sym c.in-Some.is ∙ c.lower.ensures.node rs h)
           (node_is g o.After-compare_probe (held g o.In-Some) ∙ not_here _ c.in_default-compare_probe.not-Equal);
       pool = c.link.ensures.pool ∙ c.lower.ensures.pool;
