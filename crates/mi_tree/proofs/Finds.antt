@@ -38,7 +38,8 @@ module _ {T : Type 0} where
   way_of {levels = levels} {xs = xs} {t = t} {vs = vs} {ws = ws} tag h tags = (levels, xs, t, vs, ws, h.enters, h.can, h.rising, tags, h.is)
 
   -- what is found from there: the path's nodes ahead are that node and those beyond it
-  abbrev pub Found : (m : Pooled T) (s : ℕ) (d : Direction) (levels : ℕ) (items : List (Option Ref)) (xs : List Pending) (node : Ref) (vs ws : List Ref) → Type 0
+  abbrev pub Found : (m : Pooled T) (s : ℕ) (d : Direction) (levels : ℕ) (items : List (Option Ref))
+      (xs : List Pending) (node : Ref) (vs ws : List Ref) → Type 0
   Found m s d levels items xs node vs ws =
       (ys : List Pending) × Goes m s d levels items ys × (ahead d ys ≡ node ∷ (beyond d vs ws ++ ahead d xs))
 
@@ -92,12 +93,12 @@ module _ {T : Type 0} where
         )
 
     -- what was found in a side is found
-    pub found_left : {new : List (Option Ref)} → (zs : List Ref) → ws ≡ zs ++ r ∷ nodes (place).right → Found n s d levels new (pend_left d r (place).right xs) node vs zs
-        → Found m s d levels new xs node vs ws
+    pub found_left : {new : List (Option Ref)} (zs : List Ref) → ws ≡ zs ++ r ∷ nodes (place).right
+        → Found n s d levels new (pend_left d r (place).right xs) node vs zs → Found m s d levels new xs node vs ws
     found_left zs is far = (far.0, goes_moved same far.1, from_left d (place).left r (place).right xs far.0 node vs zs ws is far.2)
 
-    pub found_right : {new : List (Option Ref)} → (zs : List Ref) → vs ≡ nodes (place).left ++ r ∷ zs → Found n s d levels new (pend_right d r (place).left xs) node zs ws
-        → Found m s d levels new xs node vs ws
+    pub found_right : {new : List (Option Ref)} (zs : List Ref) → vs ≡ nodes (place).left ++ r ∷ zs
+        → Found n s d levels new (pend_right d r (place).left xs) node zs ws → Found m s d levels new xs node vs ws
     found_right zs is far = (far.0, goes_moved same far.1, from_right d (place).left r (place).right xs far.0 node vs zs ws is far.2)
 
     -- the tags on each side, and the node's between

@@ -378,7 +378,8 @@ module _ {T : Type 0} where
     pub reads : read ≤ counted + links_of at
 
   module _ {m : Pooled T} {s : ℕ} {root : Option Ref} {n0 : ℕ} where
-    pub carry_start : (t : Shape) {y : Link} {a b : ℕ} → IsRooted m s root t → y ≡ link_at m s root → b ≡ a + links_of root → Carrying m s root root y.back y.forth n0 n0 a b
+    pub carry_start : (t : Shape) {y : Link} {a b : ℕ} → IsRooted m s root t → y ≡ link_at m s root → b ≡ a + links_of root
+        → Carrying m s root root y.back y.forth n0 n0 a b
     carry_start t {y} {a} {b} h i e = record {
       counted = a;
       counting = count_start m s root n0 t h a;

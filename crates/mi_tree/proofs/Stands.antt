@@ -197,7 +197,8 @@ module _ {T O : Type 0} where
   tagged_in {l} {m} {tag = tag} h = subst (AreTagged tag m l.slot) (sym h.nodes_are) h.tagged
 
   pub has_taken : {order : T → T → Ordering} {tag : T → ℕ} {l j : Tree O} {m n : Pooled T} {root : Option Ref} {u : Shape}
-      (xs : List Ref) (x : Ref) (ys : List Ref) (h : IsTree l m order tag (xs ++ x ∷ ys)) → j.slot ≡ l.slot → j.root ≡ root → HasTaken m n l.slot h.shape (xs ++ ys) root u → IsTree j n order tag (xs ++ ys)
+      (xs : List Ref) (x : Ref) (ys : List Ref) (h : IsTree l m order tag (xs ++ x ∷ ys))
+      → j.slot ≡ l.slot → j.root ≡ root → HasTaken m n l.slot h.shape (xs ++ ys) root u → IsTree j n order tag (xs ++ ys)
   has_taken {order} {tag} {l} {j} {m} {n} {root} {u} xs x ys h es er p =
       let a = length-append xs (x ∷ ys) in let b = length-append xs ys in let f = h.fits in record {
         shape = u;

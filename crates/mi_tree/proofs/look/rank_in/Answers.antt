@@ -59,9 +59,11 @@ loop-at-smaller-in-Less g c =
 pub loop-at-preserved-in-Less : goal.loop-at-preserved-in-Less
 loop-at-preserved-in-Less g c =
     let o = goal.at.loop-at-preserved-in-Less g c in let e = c.link-link.ensures.reads in
-    let low : c.link-link.new.self.reads ≤ c.loop-at.p.reads + 2 = omega arith in
-    (pool_is g o.After-link-link, rank_left c.loop-at.invariant.1 c.in-Some.is (link_is g o.After-link-link) (g.met.O.NodeOrder.total c.args.order.now)
-    low c.compare_nodes.ensures.steps (side_found g o.After-compare_nodes ∙ c.in-Less.is))
+    let low : c.link-link.new.self.reads ≤ c.loop-at.p.reads + 2 = omega arith in (
+      pool_is g o.After-link-link,
+      rank_left c.loop-at.invariant.1 c.in-Some.is (link_is g o.After-link-link) (g.met.O.NodeOrder.total c.args.order.now)
+          low c.compare_nodes.ensures.steps (side_found g o.After-compare_nodes ∙ c.in-Less.is),
+    )
 
 pub size-requires-clause-held : goal.size-requires-clause-held
 size-requires-clause-held g c =
@@ -118,10 +120,11 @@ loop-at-preserved g c =
     let o = goal.at.loop-at-preserved g c in let y = c.link-link.result in
     let size = size_after g o.After-size-in-Greater (pool_is g o.After-link-link) in
     let e = c.link-link.ensures.reads in let j = c.size-in-Greater.ensures.reads in
-    let low : c.size-in-Greater.new.p.reads ≤ c.loop-at.p.reads + 2 = omega arith in
-    (c.size-in-Greater.ensures.pool ∙ pool_is g o.After-link-link,
+    let low : c.size-in-Greater.new.p.reads ≤ c.loop-at.p.reads + 2 = omega arith in (
+      c.size-in-Greater.ensures.pool ∙ pool_is g o.After-link-link,
       rank_right c.loop-at.invariant.1 c.in-Some.is (link_is g o.After-link-link) (g.met.O.NodeOrder.total c.args.order.now) low
-      c.compare_nodes.ensures.steps (side_found g o.After-compare_nodes ∙ c.in-Greater.is) _ (ap (λ k. c.loop-at.before + (y.size - k)) size))
+          c.compare_nodes.ensures.steps (side_found g o.After-compare_nodes ∙ c.in-Greater.is) _ (ap (λ k. c.loop-at.before + (y.size - k)) size),
+    )
 
 pub returns-clause-rank : goal.returns-clause-rank
 returns-clause-rank g c t xs ys h up e = absurd (rank_end c.loop-at.invariant.1 c.in_default.is)

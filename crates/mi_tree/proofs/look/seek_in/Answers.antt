@@ -43,9 +43,11 @@ loop-at-smaller-then-is_past g c =
 
 pub loop-at-preserved-then-is_past : goal.loop-at-preserved-then-is_past
 loop-at-preserved-then-is_past g c =
-    let o = goal.at.loop-at-preserved-then-is_past g c in
-    (pool_is g o.After-link-link, seek_left c.loop-at.invariant.1 c.in-Some.is (link_is g o.After-link-link) c.link-link.ensures.reads
-    c.compare_probe-side.ensures.steps (answer_is g o.After-is_past ∙ c.if-is_past.true))
+    let o = goal.at.loop-at-preserved-then-is_past g c in (
+      pool_is g o.After-link-link,
+      seek_left c.loop-at.invariant.1 c.in-Some.is (link_is g o.After-link-link) c.link-link.ensures.reads
+          c.compare_probe-side.ensures.steps (answer_is g o.After-is_past ∙ c.if-is_past.true),
+    )
 
 pub loop-at-smaller : goal.loop-at-smaller
 loop-at-smaller g c =
@@ -54,9 +56,11 @@ loop-at-smaller g c =
 
 pub loop-at-preserved : goal.loop-at-preserved
 loop-at-preserved g c =
-    let o = goal.at.loop-at-preserved g c in
-    (pool_is g o.After-link-link, seek_right c.loop-at.invariant.1 c.in-Some.is (link_is g o.After-link-link) c.link-link.ensures.reads
-    c.compare_probe-side.ensures.steps (answer_is g o.After-is_past ∙ c.if-is_past.false))
+    let o = goal.at.loop-at-preserved g c in (
+      pool_is g o.After-link-link,
+      seek_right c.loop-at.invariant.1 c.in-Some.is (link_is g o.After-link-link) c.link-link.ensures.reads
+          c.compare_probe-side.ensures.steps (answer_is g o.After-is_past ∙ c.if-is_past.false),
+    )
 
 pub returns-clause-node : goal.returns-clause-node
 returns-clause-node g c t w = (seek_end c.loop-at.invariant.1 c.in_default.is t w).0

@@ -53,9 +53,16 @@ hang-requires-clause-way g t c =
 pub climb-requires : goal.climb-requires
 climb-requires g t c κs within =
     let o = goal.at.climb-requires g t c in let k = c.requires.way.4 in let on = next g t o.After-rejoin-top k in
-    let falls = shorter_way {fs = c.requires.way.0} k.path_is (turned g t o.In-Some k.path_is) in
-    (omega (arith, c.decreases, falls), (within, (subst (λ j. c.args.slot < j) (sym c.rejoin-top.ensures.slots) c.requires.slot,
-      (on.rest, Some c.in-Some.turn.node, _, on.z, on.climbs))))
+    let falls = shorter_way {fs = c.requires.way.0} k.path_is (turned g t o.In-Some k.path_is) in (
+      omega (arith, c.decreases, falls),
+      (
+        within,
+        (
+          subst (λ j. c.args.slot < j) (sym c.rejoin-top.ensures.slots) c.requires.slot,
+          (on.rest, Some c.in-Some.turn.node, _, on.z, on.climbs),
+        ),
+      ),
+    )
 
 pub returns-then-height-before-clause-tree : goal.returns-then-height-before-clause-tree
 returns-then-height-before-clause-tree g t c fs at h u k =
