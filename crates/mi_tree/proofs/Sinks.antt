@@ -62,9 +62,9 @@ module _ {T : Type 0} where
   pub some_first : (m : Pooled T) (s : ℕ) (r : Ref) (t : Shape) → CanTake m s (Some r) t → (x : Ref) × (ys : List Ref) × (nodes t ≡ x ∷ ys)
   some_first m s r t c = let o = opened m s r t c.rooted in let f = first_of (nodes o.left) r (nodes o.right) in (f.0, f.1, ap nodes o.is ∙ f.2)
 
-  pub sinks_start : (m : Pooled T) (s : ℕ) (at : Option Ref) (t : Shape) (xs : List Ref) (x : Ref) (ys : List Ref)
+  pub sinks_start : {m : Pooled T} {s : ℕ} {at : Option Ref} {t : Shape} {xs : List Ref} {x : Ref} {ys : List Ref}
       → CanTake m s at t → nodes t ≡ xs ++ x ∷ ys → Sinks m s [] at [] t xs x ys xs ys
-  sinks_start m s at t xs x ys c e =
+  sinks_start {t = t} c e =
       let low = low_enough t c.even c.fits in
       record { path_is = refl; can = c; has = e; above = tt; beside = tt; apart = c.apart; places = λ u p. p; room = omega arith }
 
@@ -315,9 +315,9 @@ module _ {T : Type 0} where
       )
 
   -- x is at the end of the way, and goes
-  module _ (m n : Pooled T) (s : ℕ) (items : List (Option Turn)) (root : Option Ref) (t : Shape) (xs : List Ref)
-      (x : Ref) (ys : List Ref) (gs : List Frame) (A B : Shape) (c : CanTake m s root t) (has : nodes t ≡ xs ++ x ∷ ys)
-      (f : HasSunk m n s items xs x ys xs ys t gs A B) (y : Link) (i : y ≡ link_of n x.name s) where
+  module _ {m n : Pooled T} {s : ℕ} {items : List (Option Turn)} {root : Option Ref} {t : Shape} {xs : List Ref} {x : Ref} {ys : List Ref}
+      {gs : List Frame} {A B : Shape} (c : CanTake m s root t) (has : nodes t ≡ xs ++ x ∷ ys)
+      (f : HasSunk m n s items xs x ys xs ys t gs A B) {y : Link} (i : y ≡ link_of n x.name s) where
     link_is : y ≡ fork_link A B (link_of n x.name s).tag
     link_is = i ∙ f.rooted.stands.1
 
@@ -344,7 +344,7 @@ module _ {T : Type 0} where
       fits = omega arith;
     }
 
-    module _ (v : Pooled T) (below : Option Ref) (u : Shape) (a : AreAppended n v s A B below u) where
+    module _ {v : Pooled T} {below : Option Ref} {u : Shape} (a : AreAppended n v s A B below u) where
       without : nodes (plug gs u) ≡ xs ++ ys
       without = f.places u a.nodes_are
 
@@ -353,8 +353,8 @@ module _ {T : Type 0} where
           let p = size-nodes A in let q = size-nodes B in let r = size-nodes u in let k = ap length a.nodes_are in let d = length-append (nodes A) (nodes B) in
           omega arith
 
-      pub climbs_away : (j : ℕ) → j ≡ height (Fork A x B) → Climbs v s root below items gs (Some x) j u
-      climbs_away j e = let lo = a.not_lower in let hi = a.not_higher in record {
+      pub climbs_away : {j : ℕ} → j ≡ height (Fork A x B) → Climbs v s root below items gs (Some x) j u
+      climbs_away e = let lo = a.not_lower in let hi = a.not_higher in record {
         path_is = f.path_is;
         above = above_moved v s gs _ _ _ _ _ _ refl sizes_are (sym e)
             (above_kept s n v (nodes A ++ nodes B) gs (Fork A x B) _ _ _ a.keeps whole_apart (λ k out. out_less k (nodes A) x (nodes B) out) f.above);
@@ -370,9 +370,9 @@ module _ {T : Type 0} where
         root_is = root_above root gs (Fork A x B) (c.rooted.root ∙ ap top (sym f.whole_is));
       }
 
-      pub has_left : (j : ℕ) → j ≡ height (Fork A x B) → (w : Pooled T) (result : Option Ref) (z : Shape) → HasClimbed v w s (plug gs u) result z
+      pub has_left : {j : ℕ} {w : Pooled T} {result : Option Ref} {z : Shape} → j ≡ height (Fork A x B) → HasClimbed v w s (plug gs u) result z
           → IsLevel (height u) j (height_at w s result) (risen gs j) → HasTaken m w s t (xs ++ ys) result z
-      has_left j e w result z d l =
+      has_left {j} {w} {result} {z} e d l =
           let at = height-root w s result z d.rooted in
           let all = ap height (sym f.whole_is) ∙ plug_height gs (Fork A x B) ∙ ap (risen gs) (sym e) in
           let hi = a.not_higher in let not_higher = l.1 (omega arith) in let near = l.0 in
