@@ -235,6 +235,11 @@ module _ {T O : Type 0} where
   same_length {l} {m} h k = sym (tree_size h)
       ∙ ap size (same_tree m l.slot l.root h.shape k.shape h.rooted k.rooted) ∙ tree_size k
 
+  -- of a tree with a known node
+  pub bound_node : {l : Tree O} {m : Pooled T} {order by : T → T → Ordering} {tag key : T → ℕ} {rs : List Ref} (h : IsTree l m order tag rs)
+      (xs : List Ref) (x : Ref) (ys : List Ref) → IsTree l m by key (xs ++ x ∷ ys) → (b : ℕ) → length rs < 2 ^ b → height h.shape + 1 ≤ 2 * b
+  bound_node h xs x ys k b f = let long = same_length h k in let parts = length-append xs (x ∷ ys) in bound_less h b f (omega arith)
+
   -- a walk may begin at the root
   pub enters_root : {l : Tree O} {m : Pooled T} {order : T → T → Ordering} {tag : T → ℕ} {rs : List Ref} (h : IsTree l m order tag rs) (d : Direction)
       → Enters m l.slot d (height h.shape) [] l.root [] h.shape

@@ -7,8 +7,7 @@ use Rattle.mi_tree.proofs.tree.Tree.lower.Goals as goal
 
 pub seek_in-requires-clause-tree : goal.seek_in-requires-clause-tree
 seek_in-requires-clause-tree g c =
-    let v = c.args in let m = v.p.now.pool in let l = v.self.now in let ord = g.O.NodeOrder.order l.order in
-    let tag = g.O.NodeOrder.tag_of l.order in let w = c.requires in
+    let v = c.args in let m = v.p.now.pool in let l = v.self.now in let ord = g.O.NodeOrder.order l.order in let w = c.requires in
     let place = λ (x : g.row.T.Denot). g.O.NodeOrder.place l.order x v.probe in (
       w.1.shape,
       w.1.rooted,

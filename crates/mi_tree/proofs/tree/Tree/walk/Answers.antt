@@ -19,7 +19,5 @@ returns-clause-walk g c order tag rs h =
 
 pub returns-clause-reads : goal.returns-clause-reads
 returns-clause-reads g c order tag rs h b f =
-    let v = c.args in let m = v.p.now.pool in
-    let i = c.start.ensures.reads (height h.shape) h.shape (enters_root h v.direction) in
-    let d = bound h b f in
+    let i = c.start.ensures.reads (height h.shape) h.shape (enters_root h c.args.direction) in let d = bound h b f in
     omega arith
