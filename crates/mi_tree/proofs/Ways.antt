@@ -467,11 +467,10 @@ module _ {T : Type 0} where
         }
 
   -- the last change
-  pub hung : (m n : Pooled T) (s : ℕ) (root : Option Ref) (next : Ref) (items new : List (Option Turn)) (fs : List Frame) (at : Option Ref) (u : Shape)
-      → Climbs m s root (Some next) items fs at (height u) u → (turn : Turn) → IsTurned fs new turn
-      → (y : Link) → y ≡ link_of m turn.node.name s → n ≡ with_link m turn.node.name s (rehung turn.left (Some next) y)
+  pub hung : {m n : Pooled T} {s : ℕ} {root : Option Ref} {next : Ref} {items new : List (Option Turn)} {fs : List Frame} {at : Option Ref} {u : Shape}
+      {turn : Turn} {y : Link} → Climbs m s root (Some next) items fs at (height u) u → IsTurned fs new turn → y ≡ link_of m turn.node.name s → n ≡ with_link m turn.node.name s (rehung turn.left (Some next) y)
       → HasClimbed m n s (plug fs u) root (plug fs u)
-  hung m n s root next items new fs at u c turn w y i set =
+  hung {m} {n} {s} {root} {next} {items} {new} {fs} {at} {u} {turn} {y} c w i set =
       let r = turn.node in let b = turn.left in let q = w.other in let h = height u in let t = forked b u r q in
       let above : Above m s (frame turn q ∷ w.rest) at (size u) h = subst (λ k. Above m s k at (size u) h) w.was c.above in
       let apart = subst (λ k. IsApart (nodes (plug k u))) w.was c.apart in
@@ -508,17 +507,17 @@ leaf_put : (R : Ref → Ref → Ordering) (x : Ref) → IsPutIn (R x) x [] (node
 leaf_put R x = record { xs = []; ys = []; was = refl; now = refl; below = tt; above = tt }
 
 module _ {T : Type 0} where
-  pub falls_start : (m : Pooled T) (s : ℕ) (R : Ref → Ref → Ordering) (tag : T → ℕ) (at : Option Ref) (x : Ref) (t : Shape)
+  pub falls_start : {m : Pooled T} {s : ℕ} {R : Ref → Ref → Ordering} {tag : T → ℕ} {at : Option Ref} {x : Ref} {t : Shape}
       → CanPut m s R at x t → AreTagged tag m s (x ∷ nodes t) → Falls m s R tag [] at x [] t
-  falls_start m s R tag at x t c g = let f = c.fits in let low = low_enough t c.even (omega arith) in
+  falls_start {t = t} c g = let f = c.fits in let low = low_enough t c.even (omega arith) in
       record { path_is = refl; can = c; tagged = g; above = tt; beside = tt; apart = c.apart; places = λ u p. p; room = omega arith }
 
   -- the end of the way down
-  pub fallen_none : (m : Pooled T) (s : ℕ) (R : Ref → Ref → Ordering) (tag : T → ℕ)
-      (items : List (Option Turn)) (at : Option Ref) (x : Ref) (fs : List Frame) (t : Shape)
+  pub fallen_none : {m : Pooled T} {s : ℕ} {R : Ref → Ref → Ordering} {tag : T → ℕ}
+      {items : List (Option Turn)} {at : Option Ref} {x : Ref} {fs : List Frame} {t : Shape}
       → Falls m s R tag items at x fs t → at ≡ None
       → HasFallen m m s R items x (plug fs t) fs
-  fallen_none m s R tag items at x fs t h e =
+  fallen_none {m} {s} {R} {tag} {items} {at} {x} {fs} {t} h e =
       let tip = tip_is m s t (moved m m s at None t refl e h.can.rooted) in record {
         path_is = h.path_is;
         whole_is = ap (plug fs) (sym tip);
@@ -722,8 +721,8 @@ module _ {T : Type 0} where
     }
 
   -- from the way down to the way up, and the whole
-  module _ (m n : Pooled T) (s : ℕ) (R : Ref → Ref → Ordering) (items : List (Option Turn)) (at : Option Ref)
-      (x : Ref) (t : Shape) (c : CanPut m s R at x t) (gs : List Frame) (f : HasFallen m n s R items x t gs) where
+  module _ {m n : Pooled T} {s : ℕ} {R : Ref → Ref → Ordering} {items : List (Option Turn)} {at : Option Ref}
+      {x : Ref} {t : Shape} (c : CanPut m s R at x t) {gs : List Frame} (f : HasFallen m n s R items x t gs) where
     placed : IsPutIn (R x) x (nodes t) (nodes (plug gs (Fork Tip x Tip)))
     placed = f.places (Fork Tip x Tip) (leaf_put R x)
 
@@ -744,8 +743,8 @@ module _ {T : Type 0} where
           root_is = root_top at gs (c.rooted.root ∙ ap top (sym f.whole_is));
         }
 
-    pub has_put : (v : Pooled T) (root : Option Ref) (u : Shape) → HasClimbed n v s (plug gs (Fork Tip x Tip)) root u → HasPut m v s R x t root u
-    has_put v root u d = record {
+    pub has_put : {v : Pooled T} {root : Option Ref} {u : Shape} → HasClimbed n v s (plug gs (Fork Tip x Tip)) root u → HasPut m v s R x t root u
+    has_put {v} {u = u} d = record {
       rooted = d.rooted;
       even = d.even;
       placed = subst (IsPutIn (R x) x (nodes t)) (sym d.nodes_are) placed;

@@ -10,8 +10,8 @@ use Rattle.mi_tree.proofs.parts.join.Goals as goal
 module _ (g : Over) (c : After-size-2 g) where
   -- the sizes of the two sides
   sizes : (c.size.result ≡ size c.requires.parts.0) × (c.size-2.result ≡ size c.requires.parts.1)
-  sizes = let w = c.requires.parts in
-      (c.size.ensures ∙ size-root c.args.p.now c.args.slot c.args.a w.0 w.2.first, c.size-2.ensures ∙ size-root c.args.p.now c.args.slot c.args.b w.1 w.2.second)
+  sizes = let w = c.requires.parts in let m = c.args.p.now in let s = c.args.slot in
+      (c.size.ensures ∙ size-root m s c.args.a w.0 w.2.first, c.size-2.ensures ∙ size-root m s c.args.b w.1 w.2.second)
 
 module _ (g : Over) (c : After-max g) where
   -- the height of a node over them

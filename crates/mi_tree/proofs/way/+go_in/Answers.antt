@@ -23,9 +23,7 @@ module _ (g : Over) (t : ℕ) (c : After-child-next g t) where
       c.push.ensures.items c.child-next.ensures
 
 pub returns-in_default-clause-way : goal.returns-in_default-clause-way
-returns-in_default-clause-way g t c fs u h =
-    let v = c.args in let m = v.p.now in let s = v.slot in let R = side (g.O.NodeOrder.order v.order.now) m s in
-    (fs, fallen_none m s R (g.O.NodeOrder.tag_of v.order.now) v.way.now.items v.at v.node fs u h c.in_default.is)
+returns-in_default-clause-way g t c fs u h = (fs, fallen_none h c.in_default.is)
 
 pub compare_nodes-side-requires-clause-right : goal.compare_nodes-side-requires-clause-right
 compare_nodes-side-requires-clause-right g t c =
