@@ -468,7 +468,8 @@ module _ {T : Type 0} where
 
   -- the last change
   pub hung : {m n : Pooled T} {s : ℕ} {root : Option Ref} {next : Ref} {items new : List (Option Turn)} {fs : List Frame} {at : Option Ref} {u : Shape}
-      {turn : Turn} {y : Link} → Climbs m s root (Some next) items fs at (height u) u → IsTurned fs new turn → y ≡ link_of m turn.node.name s → n ≡ with_link m turn.node.name s (rehung turn.left (Some next) y)
+      {turn : Turn} {y : Link} → Climbs m s root (Some next) items fs at (height u) u → IsTurned fs new turn → y ≡ link_of m turn.node.name s
+      → n ≡ with_link m turn.node.name s (rehung turn.left (Some next) y)
       → HasClimbed m n s (plug fs u) root (plug fs u)
   hung {m} {n} {s} {root} {next} {items} {new} {fs} {at} {u} {turn} {y} c w i set =
       let r = turn.node in let b = turn.left in let q = w.other in let h = height u in let t = forked b u r q in

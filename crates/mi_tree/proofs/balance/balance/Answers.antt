@@ -12,8 +12,10 @@ module _ (g : Over) (c : After-height-right_height g) where
   -- the heights of the two sides
   heights : {l q : Shape} → AreSides c.args.p.now c.args.slot c.args.left c.args.node c.args.right l q
       → (c.height-left_height.result ≡ height l) × (c.height-right_height.result ≡ height q)
-  heights h = (c.height-left_height.ensures ∙ height-root c.args.p.now c.args.slot c.args.left _ h.left_is,
-      c.height-right_height.ensures ∙ height-root c.args.p.now c.args.slot c.args.right _ h.right_is)
+  heights h = (
+    c.height-left_height.ensures ∙ height-root c.args.p.now c.args.slot c.args.left _ h.left_is,
+    c.height-right_height.ensures ∙ height-root c.args.p.now c.args.slot c.args.right _ h.right_is,
+  )
 
 pub height-left_height-requires-clause-held : goal.height-left_height-requires-clause-held
 height-left_height-requires-clause-held g c = let w = c.requires.sides in held-root c.args.p.now c.args.slot c.args.left w.0 w.2.left_is
