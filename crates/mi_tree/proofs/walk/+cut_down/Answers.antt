@@ -24,11 +24,12 @@ module _ (g : Over) (t : ℕ) (c : After-size-before g t) where
       ∙ size-root c.args.p.now.pool c.args.slot c.link-link.result.back l h ∙ size-nodes l
 
 module _ (g : Over) (t : ℕ) (c : After-push_if g t) where
-  -- the path, which has the node where the walk comes to it later
+  -- on the way to the left: the path, which has the node if the walk comes to it later
   pushed_left : c.push_if.new.path.items ≡ cond (is_ascending c.args.direction) (c.args.path.now.items ++ Some c.in-Some.node ∷ []) c.args.path.now.items
   pushed_left = c.push_if.ensures ∙ ap (λ z. cond z (c.args.path.now.items ++ Some c.in-Some.node ∷ []) c.args.path.now.items) c.is_ascending.ensures
 
 module _ (g : Over) (t : ℕ) (c : After-push_if-else-passed-before g t) where
+  -- the same on the way to the right
   pushed_right : c.push_if-else-passed-before.new.path.items
       ≡ cond (not (is_ascending c.args.direction)) (c.args.path.now.items ++ Some c.in-Some.node ∷ []) c.args.path.now.items
   pushed_right = c.push_if-else-passed-before.ensures

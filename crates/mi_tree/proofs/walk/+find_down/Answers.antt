@@ -35,11 +35,12 @@ module _ (g : Over) (t : ℕ) (c : After-compare_nodes g t) where
       (ap (λ (z : Link). z.tag) c.link-link.ensures.link) c.compare_nodes.ensures.result
 
 module _ (g : Over) (t : ℕ) (c : After-push_if g t) where
-  -- the path, which has the node where the walk comes to it later
+  -- on the way to the left: the path, which has the node if the walk comes to it later
   pushed_left : c.push_if.new.path.items ≡ cond (is_ascending c.args.direction) (c.args.path.now.items ++ Some c.in-Some.root ∷ []) c.args.path.now.items
   pushed_left = c.push_if.ensures ∙ ap (λ z. cond z (c.args.path.now.items ++ Some c.in-Some.root ∷ []) c.args.path.now.items) c.is_ascending.ensures
 
 module _ (g : Over) (t : ℕ) (c : After-push_if-in-Greater g t) where
+  -- the same on the way to the right
   pushed_right : c.push_if-in-Greater.new.path.items
       ≡ cond (not (is_ascending c.args.direction)) (c.args.path.now.items ++ Some c.in-Some.root ∷ []) c.args.path.now.items
   pushed_right = c.push_if-in-Greater.ensures
