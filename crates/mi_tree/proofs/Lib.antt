@@ -1,4 +1,5 @@
 pub mod Compares
+pub mod Finds
 pub mod Frames
 pub mod Heights
 pub mod Joins

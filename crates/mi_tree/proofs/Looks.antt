@@ -97,11 +97,21 @@ module _ {T : Type 0} (order : T → T → Ordering) (place : T → Ordering) (m
   steady m s [] h = tt
   steady m s (r ∷ rs) h = (all_later m s r rs h.0, steady m s rs h.1)
 
--- of a held node
-pub past_is : {T : Type 0} (strict : Bool) (place : T → Ordering) (m : Pooled T) (r : Ref)
-    → IsHeld m r → is_past_node strict place m r ≡ past strict (place_at place (value_of m r.name))
+-- whether a held node is past the probe, by its place as it was found in a pool n that is as m is
+pub past_read : {T : Type 0} (strict : Bool) (place : T → Ordering) (r : Ref) {m n : Pooled T} {o : Ordering} {b : Bool} → n ≡ m → IsHeld m r
+    → o ≡ place_at place (value_of n r.name) → b ≡ past strict o → is_past_node strict place m r ≡ b
 unfolding is_past_node
-past_is strict place m r h = let v = held_has m r h in ap (past_value strict place) v.1 ∙ ap (λ o. past strict (place_at place o)) (sym v.1)
+past_read strict place r {m} {n} same h e f = let v = held_has m r h in
+    ap (past_value strict place) v.1 ∙ ap (λ o. past strict (place_at place o)) (sym v.1)
+    ∙ ap (λ (z : Pooled _). past strict (place_at place (value_of z r.name))) (sym same) ∙ ap (past strict) (sym e) ∙ sym f
+
+-- whether it is at the probe
+pub node_read : {T : Type 0} (place : T → Ordering) (r : Ref) {m n : Pooled T} {o : Ordering} → n ≡ m → IsHeld m r
+    → o ≡ place_at place (value_of n r.name) → is_node_at place m r ≡ is_eq o
+unfolding is_node_at
+node_read place r {m} {n} same h e = let v = held_has m r h in
+    ap (is_value_at place) v.1 ∙ ap (λ o. is_eq (place_at place o)) (sym v.1)
+    ∙ ap (λ (z : Pooled _). is_eq (place_at place (value_of z r.name))) (sym same) ∙ ap is_eq (sym e)
 
 -- the node of a probe's own key is the first that isn't before the probe
 no_here : Greater ≡ Equal → ⊥
@@ -175,10 +185,6 @@ module _ {T : Type 0} (order : T → T → Ordering) (place : T → Ordering) (m
         | false ↦ λ e. ap (λ b. cond b (Some r) (first_where H rs)) (is_false (H r) (λ g. true_false (P r) (node_here r g) e)) ∙ found rs h.1
       ]) refl
 
-  pub node_is : (r : Ref) → IsHeld m r → is_node_at place m r ≡ is_eq (place_at place (value_of m r.name))
-  unfolding is_node_at
-  node_is r h = let v = held_has m r h in ap (is_value_at place) v.1 ∙ ap (λ o. is_eq (place_at place o)) (sym v.1)
-
   -- what `find` answers, by what `lower` gives
   pub found_none : (rs : List Ref) → Rising (side order m s) rs
       → None ≡ first_where (is_past_node false place m) rs → None ≡ first_where (is_node_at place m) rs
@@ -226,7 +232,7 @@ module _ {T : Type 0} where
     pub reads : read + height u ≤ read0 + height t
     pub steps : step + height u ≤ step0 + height t
 
-  module _ (m : Pooled T) (s : ℕ) (tag : T → ℕ) (f : Ref → Bool) (root : Option Ref) where
+  module _ {m : Pooled T} {s : ℕ} {tag : T → ℕ} {f : Ref → Bool} {root : Option Ref} where
     pub seek_start : (t : Shape) → IsRooted m s root t → AreTagged tag m s (nodes t)
         → IsSteady f (nodes t) → (a b : ℕ) → Seeking m s tag f root root None a a b b
     seek_start t h g k a b = record {
@@ -241,7 +247,7 @@ module _ {T : Type 0} where
       steps = omega arith;
     }
 
-    module _ (at : Option Ref) (r : Ref) (y : Link) (found : Option Ref) (a b c d : ℕ)
+    module _ {at : Option Ref} {r : Ref} {y : Link} {found : Option Ref} {a b c d : ℕ}
         (h : Seeking m s tag f root at found a b c d) (e : at ≡ Some r) (i : y ≡ link_of m r.name s) where
       pub seek_held : IsHeld m r
       seek_held = (sides m s at r y h.u h.rooted e i).held
@@ -256,8 +262,8 @@ module _ {T : Type 0} where
           let o = sides m s at r y h.u h.rooted e i in let n = height-root m s at h.u h.rooted in let p = o.left_lower in let q = o.right_lower in
           (omega arith, omega arith)
 
-      pub seek_left : f r ≡ true → Seeking m s tag f root y.back (Some r) a (b + 1) c (d + 1)
-      seek_left p = let o = sides m s at r y h.u h.rooted e i in let n = h.reads in let k = h.steps in let w = o.height_is in record {
+      pub seek_left : {j k : ℕ} → j ≡ b + 1 → k ≡ d + 1 → f r ≡ true → Seeking m s tag f root y.back (Some r) a j c k
+      seek_left reads ticks p = let o = sides m s at r y h.u h.rooted e i in let n = h.reads in let k = h.steps in let w = o.height_is in record {
         t = h.t;
         u = o.A;
         whole = h.whole;
@@ -269,8 +275,8 @@ module _ {T : Type 0} where
         steps = omega arith;
       }
 
-      pub seek_right : f r ≡ false → Seeking m s tag f root y.forth found a (b + 1) c (d + 1)
-      seek_right p =
+      pub seek_right : {j k : ℕ} → j ≡ b + 1 → k ≡ d + 1 → f r ≡ false → Seeking m s tag f root y.forth found a j c k
+      seek_right reads ticks p =
           let o = sides m s at r y h.u h.rooted e i in let n = h.reads in let k = h.steps in let w = o.height_is in
           let all = subst (λ k. IsSteady f (nodes k)) o.is h.steady in
           record {
@@ -285,9 +291,9 @@ module _ {T : Type 0} where
             steps = omega arith;
           }
 
-    pub seek_end : (at found : Option Ref) (a b c d : ℕ) (h : Seeking m s tag f root at found a b c d) → at ≡ None
+    pub seek_end : {at found : Option Ref} {a b c d : ℕ} (h : Seeking m s tag f root at found a b c d) → at ≡ None
         → (t : Shape) → IsRooted m s root t → (found ≡ first_where f (nodes t)) × (b ≤ a + height t) × (d ≤ c + height t)
-    seek_end at found a b c d h e t w =
+    seek_end {at} {found} h e t w =
         let same = same_tree m s root t h.t w h.whole in let tall = ap height same in let n = h.reads in let k = h.steps in
         let tip = tip_is m s h.u (moved m m s at None h.u refl e h.rooted) in
         (sym (ap (λ k. first_where f (nodes k)) same ∙ h.is ∙ ap (λ k. or_found (first_where f (nodes k)) found) tip), omega arith, omega arith)
@@ -371,10 +377,10 @@ module _ {T : Type 0} where
     pub forth_is : forth ≡ (link_at m s at).forth
     pub reads : read ≤ counted + links_of at
 
-  module _ (m : Pooled T) (s : ℕ) (root : Option Ref) (n0 : ℕ) where
-    pub carry_start : (t : Shape) → IsRooted m s root t → (y : Link) → y ≡ link_at m s root
-        → (a b : ℕ) → b ≡ a + links_of root → Carrying m s root root y.back y.forth n0 n0 a b
-    carry_start t h y i a b e = record {
+  module _ {m : Pooled T} {s : ℕ} {root : Option Ref} {n0 : ℕ} where
+    pub carry_start : (t : Shape) {y : Link} {a b : ℕ} → IsRooted m s root t → y ≡ link_at m s root → b ≡ a + links_of root
+        → Carrying m s root root y.back y.forth n0 n0 a b
+    carry_start t {y} {a} {b} h i e = record {
       counted = a;
       counting = count_start m s root n0 t h a;
       back_is = ap (λ (z : Link). z.back) i;
@@ -382,7 +388,7 @@ module _ {T : Type 0} where
       reads = omega arith;
     }
 
-    module _ (at back forth : Option Ref) (r : Ref) (n a b : ℕ) (h : Carrying m s root at back forth n0 n a b) (e : at ≡ Some r) where
+    module _ {at back forth : Option Ref} {r : Ref} {n a b : ℕ} (h : Carrying m s root at back forth n0 n a b) (e : at ≡ Some r) where
       abbrev here : Link
       here = link_of m r.name s
 
@@ -400,7 +406,7 @@ module _ {T : Type 0} where
       carry_lower = let o = count_lower m s root n0 at r here n a h.counted h.counting e refl in
           (subst (λ k. height_at m s k < height_at m s at) is_back o.0, subst (λ k. height_at m s k < height_at m s at) is_forth o.1)
 
-      module _ (w : Link) (i : w ≡ link_at m s back) (c : ℕ) (f : c ≡ b + links_of back) where
+      module _ {w : Link} (i : w ≡ link_at m s back) {c : ℕ} (f : c ≡ b + links_of back) where
         low : c ≤ h.counted + 2
         low = let k = h.reads in let j = ap links_of e in let g = at_most_one back in omega arith
 
@@ -420,9 +426,9 @@ module _ {T : Type 0} where
           reads = omega arith;
         }
 
-        pub carry_right : (d : ℕ) → n ≡ suc (w.size + d) → (v : Link) → v ≡ link_at m s forth
-            → (c2 : ℕ) → c2 ≡ c + links_of forth → Carrying m s root forth v.back v.forth n0 d a c2
-        carry_right d g v l c2 x = let k = h.reads in let j = ap links_of e in let u = at_most_one back in let z = before_is in record {
+        pub carry_right : {d : ℕ} {v : Link} {c2 : ℕ} → n ≡ suc (w.size + d) → v ≡ link_at m s forth → c2 ≡ c + links_of forth
+            → Carrying m s root forth v.back v.forth n0 d a c2
+        carry_right {d} {v} {c2} g l x = let k = h.reads in let j = ap links_of e in let u = at_most_one back in let z = before_is in record {
           counted = h.counted + 2;
           counting = subst (λ o. Counting m s root o n0 d a (h.counted + 2)) is_forth
               (count_right m s root n0 at r here n a h.counted h.counting e refl (h.counted + 2) (omega arith) d (omega arith));
@@ -431,9 +437,9 @@ module _ {T : Type 0} where
           reads = omega arith;
         }
 
-    pub carry_none : (at back forth : Option Ref) (n a b : ℕ) (h : Carrying m s root at back forth n0 n a b)
+    pub carry_none : {at back forth : Option Ref} {n a b : ℕ} (h : Carrying m s root at back forth n0 n a b)
         → at ≡ None → (t : Shape) → IsRooted m s root t → (None ≡ nth_of (nodes t) n0) × (b ≤ a + 2 * height t)
-    carry_none at back forth n a b h e t w =
+    carry_none {at} {n = n} {a = a} {b = b} h e t w =
         let on = count_end m s root n0 at n a h.counted h.counting e t w in let k = h.reads in let j = ap links_of e in let g = on.1 in (on.0, omega arith)
 
 -- and has the tag of its value

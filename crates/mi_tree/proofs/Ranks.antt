@@ -40,7 +40,7 @@ module _ {T : Type 0} where
   tag_in : (m : Pooled T) (s : ℕ) (tag : T → ℕ) (xs : List Ref) (x : Ref) (ys us : List Ref) → us ≡ xs ++ x ∷ ys → AreTagged tag m s us → HasTag tag m s x
   tag_in m s tag xs x ys us e h = (tagged_right tag m s xs (x ∷ ys) (subst (AreTagged tag m s) e h)).0
 
-  module _ (m : Pooled T) (s : ℕ) (order : T → T → Ordering) (tag : T → ℕ) (node : Ref) (root : Option Ref) where
+  module _ {m : Pooled T} {s : ℕ} {order : T → T → Ordering} {tag : T → ℕ} {node : Ref} {root : Option Ref} where
     pub rank_start : (t : Shape) (xs ys : List Ref) → IsRooted m s root t → size t < 2 ^ 32
         → Rising (side order m s) (nodes t) → AreTagged tag m s (nodes t) → nodes t ≡ xs ++ node ∷ ys → (a b : ℕ)
         → Ranking m s order tag node root root 0 a a b b
@@ -60,7 +60,7 @@ module _ {T : Type 0} where
       steps = omega arith;
     }
 
-    module _ (at : Option Ref) (r : Ref) (y : Link) (n a b c d : ℕ)
+    module _ {at : Option Ref} {r : Ref} {y : Link} {n a b c d : ℕ}
         (h : Ranking m s order tag node root at n a b c d) (e : at ≡ Some r) (i : y ≡ link_of m r.name s) where
       abbrev o : Sides m s r y h.u
       o = sides m s at r y h.u h.rooted e i
@@ -110,7 +110,7 @@ module _ {T : Type 0} where
             p.ws rank_all same (where_is (nodes (o).A) r (nodes (o).B) p.vs node p.ws (sym rank_names ∙ p.is)) in
             let long = ap length on.0 in let count = p.count in let k = size-nodes (o).A in let j = size-root m s y.back (o).A (o).left in omega arith
 
-        module _ (f : ℕ) (low : f ≤ b + 2) (g : ℕ) (ticks : g ≡ d + 1) where
+        module _ {f : ℕ} (low : f ≤ b + 2) {g : ℕ} (ticks : g ≡ d + 1) where
           pub rank_left : side order m s node r ≡ Less → Ranking m s order tag node root y.back n a f c g
           rank_left less = let k = h.reads in let j = h.steps in let w = (o).height_is in record {
             t = h.t;
@@ -173,7 +173,7 @@ module _ {T : Type 0} where
       rank_not_less = let j = (o).size_is in let q = size-root m s y.forth (o).B (o).right in omega arith
 
     -- the node is there
-    pub rank_end : (at : Option Ref) (n a b c d : ℕ) → Ranking m s order tag node root at n a b c d → at ≡ None → ⊥
-    rank_end at n a b c d h e =
+    pub rank_end : {at : Option Ref} {n a b c d : ℕ} → Ranking m s order tag node root at n a b c d → at ≡ None → ⊥
+    rank_end {at} h e =
         let w = h.some in let p = h.part w.0 w.1 w.2 in
         none_here p.vs node p.ws (sym (ap nodes (tip_is m s h.u (moved m m s at None h.u refl e h.rooted))) ∙ p.is)

@@ -81,6 +81,19 @@ module _ {T : Type 0} where
   pub held-root : (m : Pooled T) (s : ℕ) (o : Option Ref) (t : Shape) → IsRooted m s o t → IsHeldIf m o
   held-root m s o t h = subst (IsHeldIf m) (sym h.root) (held-top m s t h.stands)
 
+  -- the node that a tree is under is held in a pool n that is as m is
+  pub held-moved : {m n : Pooled T} {s : ℕ} {o : Option Ref} {t : Shape} → n ≡ m → IsRooted m s o t → IsHeldIf n o
+  held-moved {m} {n} {s} {o} {t} e h = held-root n s o t (moved m n s o o t (sym e) refl h)
+
+  -- a lower tree is lower in pools that are as m is
+  pub lower-moved : {m : Pooled T} (n p : Pooled T) (s : ℕ) (a b : Option Ref) → n ≡ m → p ≡ m
+      → height_at m s a < height_at m s b → height_at n s a < height_at p s b
+  lower-moved n p s a b e f h = subst (λ (z : Pooled T × Pooled T). height_at z.0 s a < height_at z.1 s b) (λ i. (sym e i, sym f i)) h
+
+  -- a slot that m has is one of a pool n that is as m is
+  pub slot-moved : {m n : Pooled T} (s : ℕ) → n ≡ m → s < m.slots → s < n.slots
+  slot-moved s e h = subst (λ (z : Pooled T). s < z.slots) (sym e) h
+
   -- a tree under a node is that node between two trees
   pub record Opened (m : Pooled T) (s : ℕ) (r : Ref) (t : Shape) : Type 0 where
     pub left : Shape

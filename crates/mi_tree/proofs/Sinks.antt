@@ -62,9 +62,9 @@ module _ {T : Type 0} where
   pub some_first : (m : Pooled T) (s : ℕ) (r : Ref) (t : Shape) → CanTake m s (Some r) t → (x : Ref) × (ys : List Ref) × (nodes t ≡ x ∷ ys)
   some_first m s r t c = let o = opened m s r t c.rooted in let f = first_of (nodes o.left) r (nodes o.right) in (f.0, f.1, ap nodes o.is ∙ f.2)
 
-  pub sinks_start : (m : Pooled T) (s : ℕ) (at : Option Ref) (t : Shape) (xs : List Ref) (x : Ref) (ys : List Ref)
+  pub sinks_start : {m : Pooled T} {s : ℕ} {at : Option Ref} {t : Shape} {xs : List Ref} {x : Ref} {ys : List Ref}
       → CanTake m s at t → nodes t ≡ xs ++ x ∷ ys → Sinks m s [] at [] t xs x ys xs ys
-  sinks_start m s at t xs x ys c e =
+  sinks_start {t = t} c e =
       let low = low_enough t c.even c.fits in
       record { path_is = refl; can = c; has = e; above = tt; beside = tt; apart = c.apart; places = λ u p. p; room = omega arith }
 
@@ -85,8 +85,19 @@ module _ {T : Type 0} where
     tags = λ k. refl;
   }
 
-  module _ (m n : Pooled T) (s : ℕ) (items : List (Option Turn)) (at : Option Ref) (here : Ref)
-      (y : Link) (fs : List Frame) (t : Shape) (xs : List Ref) (x : Ref) (ys vs ws : List Ref)
+  -- a step down: where the way goes on, and what its end says of the whole
+  pub record NextSink (m n : Pooled T) (s : ℕ) (new : List (Option Turn)) (at next : Option Ref)
+      (fs : List Frame) (t : Shape) (xs : List Ref) (x : Ref) (ys vs ws us : List Ref) : Type 0 where
+    pub gs : List Frame
+    pub sub : Shape
+    pub zs : List Ref
+    pub sinks : Sinks n s new next gs sub us x zs vs ws
+    pub lower : height_at n s next < height_at m s at
+    pub sunk : (v : Pooled T) (last : List (Option Turn)) (ks : List Frame) (A B : Shape)
+        → HasSunk n v s last us x zs vs ws (plug gs sub) ks A B → HasSunk m v s last xs x ys vs ws (plug fs t) ks A B
+
+  module _ {m n : Pooled T} {s : ℕ} {items : List (Option Turn)} {at : Option Ref} {here : Ref}
+      {y : Link} {fs : List Frame} {t : Shape} {xs : List Ref} {x : Ref} {ys vs ws : List Ref}
       (h : Sinks m s items at fs t xs x ys vs ws) (e : at ≡ Some here) (i : y ≡ link_of m here.name s) (set : n ≡ with_link m here.name s (shrunk_link y)) where
     open_here : TakeOpened m s here y t
     open_here = take_opened m s at here y t h.can e i
@@ -112,7 +123,7 @@ module _ {T : Type 0} where
     abbrev turn : Bool → Turn
     turn b = record { node = here; left = b }
 
-    pub record Lowered (b : Bool) (us zs : List Ref) : Type 0 where
+    record Lowered (b : Bool) (us zs : List Ref) : Type 0 where
       pub sub : Shape
       pub other : Shape
       pub is : t ≡ forked b sub here other
@@ -189,7 +200,7 @@ module _ {T : Type 0} where
         }
 
     -- on to the first node
-    pub lowered_first : (left : Ref) → y.back ≡ Some left → xs ≡ [] → (zs : List Ref) × Lowered true xs zs
+    lowered_first : (left : Ref) → y.back ≡ Some left → xs ≡ [] → (zs : List Ref) × Lowered true xs zs
     lowered_first left f none =
         let o = open_here in
         let first = first_left o.A here (nodes o.B) x ys (one_of o.A left (sym o.left.rooted.root ∙ f))
@@ -199,7 +210,7 @@ module _ {T : Type 0} where
     pub room_here : length items < 45
     room_here = let a = h.room in let b = ap length h.path_is in let c = path_length fs in let d = ap height open_here.is in omega arith
 
-    pub sunk_on : (b : Bool) (us zs : List Ref) (k : Lowered b us zs) (v : Pooled T) (last : List (Option Turn)) (gs : List Frame) (A B : Shape)
+    sunk_on : (b : Bool) (us zs : List Ref) (k : Lowered b us zs) (v : Pooled T) (last : List (Option Turn)) (gs : List Frame) (A B : Shape)
         → HasSunk n v s last us x zs vs ws (plug (frame (turn b) k.other ∷ fs) k.sub) gs A B → HasSunk m v s last xs x ys vs ws (plug fs t) gs A B
     sunk_on b us zs k v last gs A B f = record {
       path_is = f.path_is;
@@ -213,17 +224,33 @@ module _ {T : Type 0} where
       tags = λ j. f.tags j ∙ tags_here j;
     }
 
+    abbrev next_of : {new : List (Option Turn)} {next : Option Ref} (b : Bool) (us zs : List Ref) (k : Lowered b us zs)
+        → new ≡ items ++ Some (turn b) ∷ [] → next ≡ cond b y.back y.forth → NextSink m n s new at next fs t xs x ys vs ws us
+    next_of {new} {next} b us zs k p q = record {
+      gs = frame (turn b) k.other ∷ fs;
+      sub = k.sub;
+      zs = zs;
+      sinks = subst (λ (z : List (Option Turn) × Option Ref). Sinks n s z.0 z.1 (frame (turn b) k.other ∷ fs) k.sub us x zs vs ws)
+          (λ j. (sym p j, sym q j)) k.sinks;
+      lower = subst (λ z. height_at n s z < height_at m s at) (sym q) k.lower;
+      sunk = sunk_on b us zs k;
+    }
+
+    pub next_first : {new : List (Option Turn)} {left : Ref} → y.back ≡ Some left → xs ≡ [] → new ≡ items ++ Some (record { node = here; left = true }) ∷ []
+        → NextSink m n s new at (Some left) fs t xs x ys vs ws xs
+    next_first {new} {left} f none p = let st = lowered_first left f none in next_of true xs st.0 st.1 p (sym f)
+
     -- on by the order
-    module _ (order : T → T → Ordering) (tag : T → ℕ) where
-      pub lowered : IsTotalOrder order → (k : Ordering) (b : Bool) → side order m s x here ≡ k → is_eq k ≡ false
+    module _ {order : T → T → Ordering} (total : IsTotalOrder order) (tag : T → ℕ) where
+      lowered : (k : Ordering) (b : Bool) → side order m s x here ≡ k → is_eq k ≡ false
           → b ≡ is_lt k → Rising (side order m s) (nodes t) → (us : List Ref) × (zs : List Ref) × Lowered b us zs
-      lowered total Less b f g l r =
+      lowered Less b f g l r =
           let o = open_here in
           let on = go_left (side order m s) (side_order order m s total) (nodes o.A) here (nodes o.B) xs x ys
           (subst (Rising (side order m s)) (ap nodes o.is) r) f (where_is (nodes o.A) here (nodes o.B) xs x ys (sym (ap nodes o.is) ∙ h.has)) in
           subst (λ z. (us : List Ref) × (zs : List Ref) × Lowered z us zs) (sym l) (xs, on.0, lowered_left on.0 on.1 on.2)
-      lowered total Equal b f g l r = absurd cc
-      lowered total Greater b f g l r =
+      lowered Equal b f g l r = absurd cc
+      lowered Greater b f g l r =
           let o = open_here in
           let on = go_right (side order m s) (side_order order m s total) (nodes o.A) here (nodes o.B) xs x ys
           (subst (Rising (side order m s)) (ap nodes o.is) r) f (where_is (nodes o.A) here (nodes o.B) xs x ys (sym (ap nodes o.is) ∙ h.has)) in
@@ -233,7 +260,7 @@ module _ {T : Type 0} where
       rising_side true A B r = rising_left (side order m s) (nodes A) (here ∷ nodes B) r
       rising_side false A B r = (rising_right (side order m s) (nodes B) (here ∷ nodes A) r).1
 
-      pub rising_sub : (b : Bool) (us zs : List Ref) (k : Lowered b us zs) → Rising (side order m s) (nodes t) → Rising (side order n s) (nodes k.sub)
+      rising_sub : (b : Bool) (us zs : List Ref) (k : Lowered b us zs) → Rising (side order m s) (nodes t) → Rising (side order n s) (nodes k.sub)
       rising_sub b us zs k r = rising_kept order tag m n s keeps_here.values tags_here (nodes k.sub)
           (rising_side b k.sub k.other (subst (λ z. Rising (side order m s) (nodes z)) k.is r))
 
@@ -241,24 +268,31 @@ module _ {T : Type 0} where
       tagged_side true A B r = tagged_left tag m s (nodes A) (here ∷ nodes B) r
       tagged_side false A B r = (tagged_right tag m s (nodes B) (here ∷ nodes A) r).1
 
-      pub tagged_sub : (b : Bool) (us zs : List Ref) (k : Lowered b us zs) → AreTagged tag m s (nodes t) → AreTagged tag n s (nodes k.sub)
+      tagged_sub : (b : Bool) (us zs : List Ref) (k : Lowered b us zs) → AreTagged tag m s (nodes t) → AreTagged tag n s (nodes k.sub)
       tagged_sub b us zs k r = tagged_kept order tag m n s keeps_here.values tags_here (nodes k.sub)
           (tagged_side b k.sub k.other (subst (λ z. AreTagged tag m s (nodes z)) k.is r))
 
+      pub next_sink : {new : List (Option Turn)} {next : Option Ref} {k : Ordering} {b : Bool} → side order m s x here ≡ k → is_eq k ≡ false → b ≡ is_lt k
+          → new ≡ items ++ Some (record { node = here; left = b }) ∷ [] → next ≡ cond b y.back y.forth → Rising (side order m s) (nodes t)
+          → (us : List Ref) × (o : NextSink m n s new at next fs t xs x ys vs ws us)
+          × Rising (side order n s) (nodes o.sub) × (AreTagged tag m s (nodes t) → AreTagged tag n s (nodes o.sub))
+      next_sink {new} {next} {k} {b} f g l p q r =
+          let st = lowered k b f g l r in
+          (st.0, next_of b st.0 st.1 st.2 p q, rising_sub b st.0 st.1 st.2 r, tagged_sub b st.0 st.1 st.2)
+
   -- what the comparison needs of the node here
-  pub tagged_here : (tag : T → ℕ) (m : Pooled T) (s : ℕ) (at : Option Ref) (here : Ref) (y : Link) (t : Shape) → CanTake m s at t
+  pub tagged_here : (tag : T → ℕ) {m : Pooled T} {s : ℕ} {at : Option Ref} {here : Ref} {y : Link} {t : Shape} → CanTake m s at t
       → at ≡ Some here → y ≡ link_of m here.name s → AreTagged tag m s (nodes t) → IsHeld m here × AreTagged tag m s (here ∷ [])
-  tagged_here tag m s at here y t c e i g =
+  tagged_here tag {m} {s} {at} {here} {y} {t} c e i g =
       let o = take_opened m s at here y t c e i in
       (o.held_root, ((tagged_right tag m s (nodes o.A) (here ∷ nodes o.B) (subst (AreTagged tag m s) (ap nodes o.is) g)).0, tt))
 
   -- the node is here
-  pub sunk_equal : (order : T → T → Ordering) → IsTotalOrder order
-      → (m : Pooled T) (s : ℕ) (items : List (Option Turn)) (at : Option Ref) (fs : List Frame) (t : Shape) (xs : List Ref) (x : Ref) (ys vs ws : List Ref)
-      → Sinks m s items at fs t xs x ys vs ws
-      → Rising (side order m s) (nodes t) → (here : Ref) → at ≡ Some here → side order m s x here ≡ Equal
+  pub sunk_equal : {order : T → T → Ordering} {m : Pooled T} {s : ℕ} {items : List (Option Turn)} {at : Option Ref} {fs : List Frame} {t : Shape}
+      {xs : List Ref} {x : Ref} {ys vs ws : List Ref} {here : Ref} → IsTotalOrder order → Sinks m s items at fs t xs x ys vs ws
+      → Rising (side order m s) (nodes t) → at ≡ Some here → side order m s x here ≡ Equal
       → (A : Shape) × (B : Shape) × HasSunk m m s items xs x ys vs ws (plug fs t) fs A B
-  sunk_equal order total m s items at fs t xs x ys vs ws h r here e f =
+  sunk_equal {order} {m} {s} {items} {at} {fs} {t} {xs} {x} {ys} {vs} {ws} {here} total h r e f =
       let o = take_opened m s at here _ t h.can e refl in
       let on = go_here (side order m s) (side_order order m s total) (nodes o.A) here (nodes o.B) xs x ys
       (subst (Rising (side order m s)) (ap nodes o.is) r) f (where_is (nodes o.A) here (nodes o.B) xs x ys (sym (ap nodes o.is) ∙ h.has)) in
@@ -281,9 +315,9 @@ module _ {T : Type 0} where
       )
 
   -- x is at the end of the way, and goes
-  module _ (m n : Pooled T) (s : ℕ) (items : List (Option Turn)) (root : Option Ref) (t : Shape) (xs : List Ref)
-      (x : Ref) (ys : List Ref) (gs : List Frame) (A B : Shape) (c : CanTake m s root t) (has : nodes t ≡ xs ++ x ∷ ys)
-      (f : HasSunk m n s items xs x ys xs ys t gs A B) (y : Link) (i : y ≡ link_of n x.name s) where
+  module _ {m n : Pooled T} {s : ℕ} {items : List (Option Turn)} {root : Option Ref} {t : Shape} {xs : List Ref} {x : Ref} {ys : List Ref}
+      {gs : List Frame} {A B : Shape} (c : CanTake m s root t) (has : nodes t ≡ xs ++ x ∷ ys)
+      (f : HasSunk m n s items xs x ys xs ys t gs A B) {y : Link} (i : y ≡ link_of n x.name s) where
     link_is : y ≡ fork_link A B (link_of n x.name s).tag
     link_is = i ∙ f.rooted.stands.1
 
@@ -310,7 +344,7 @@ module _ {T : Type 0} where
       fits = omega arith;
     }
 
-    module _ (v : Pooled T) (below : Option Ref) (u : Shape) (a : AreAppended n v s A B below u) where
+    module _ {v : Pooled T} {below : Option Ref} {u : Shape} (a : AreAppended n v s A B below u) where
       without : nodes (plug gs u) ≡ xs ++ ys
       without = f.places u a.nodes_are
 
@@ -319,8 +353,8 @@ module _ {T : Type 0} where
           let p = size-nodes A in let q = size-nodes B in let r = size-nodes u in let k = ap length a.nodes_are in let d = length-append (nodes A) (nodes B) in
           omega arith
 
-      pub climbs_away : (j : ℕ) → j ≡ height (Fork A x B) → Climbs v s root below items gs (Some x) j u
-      climbs_away j e = let lo = a.not_lower in let hi = a.not_higher in record {
+      pub climbs_away : {j : ℕ} → j ≡ height (Fork A x B) → Climbs v s root below items gs (Some x) j u
+      climbs_away e = let lo = a.not_lower in let hi = a.not_higher in record {
         path_is = f.path_is;
         above = above_moved v s gs _ _ _ _ _ _ refl sizes_are (sym e)
             (above_kept s n v (nodes A ++ nodes B) gs (Fork A x B) _ _ _ a.keeps whole_apart (λ k out. out_less k (nodes A) x (nodes B) out) f.above);
@@ -336,9 +370,9 @@ module _ {T : Type 0} where
         root_is = root_above root gs (Fork A x B) (c.rooted.root ∙ ap top (sym f.whole_is));
       }
 
-      pub has_left : (j : ℕ) → j ≡ height (Fork A x B) → (w : Pooled T) (result : Option Ref) (z : Shape) → HasClimbed v w s (plug gs u) result z
+      pub has_left : {j : ℕ} {w : Pooled T} {result : Option Ref} {z : Shape} → j ≡ height (Fork A x B) → HasClimbed v w s (plug gs u) result z
           → IsLevel (height u) j (height_at w s result) (risen gs j) → HasTaken m w s t (xs ++ ys) result z
-      has_left j e w result z d l =
+      has_left {j} {w} {result} {z} e d l =
           let at = height-root w s result z d.rooted in
           let all = ap height (sym f.whole_is) ∙ plug_height gs (Fork A x B) ∙ ap (risen gs) (sym e) in
           let hi = a.not_higher in let not_higher = l.1 (omega arith) in let near = l.0 in

@@ -5,7 +5,7 @@ use Rattle.std.specs.declared.cmp.Ordering.TheVariants.{Less, Equal, Greater}
 use Rattle.std.specs.Ordering.{ordering_reverse}
 use Rattle.std.specs.Cmp.{IsTotalOrder}
 use Rattle.std.proofs.lemmas.Cmp.{then_total, on_total, nat_cmp_total}
-use Rattle.mi_node.specs.Pool.{Pooled, value_of, link_of}
+use Rattle.mi_node.specs.Pool.{Pooled, value_of, link_of, IsHeld}
 use Rattle.mi_node.specs.declared.link.Tag.{Tag}
 use Rattle.mi_node.specs.Refs.{Ref}
 use Rattle.mi_tree.specs.Sorted.{AllAre, NoneAre, Rising, IsPutIn, IsTagOf, HasTag, AreTagged, compared, by_stamp, stamped, item_of, side}
@@ -54,6 +54,19 @@ module _ {T : Type 0} where
       → side order m s a b ≡ compared (by_stamp order) (stamped (value_of m a.name) y.stamp) (stamped (value_of m b.name) z.stamp)
   unfolding side item_of
   side_is order m s a b y z e f = λ i. compared (by_stamp order) (stamped (value_of m a.name) (sym e i).stamp) (stamped (value_of m b.name) (sym f i).stamp)
+
+  -- the side that a comparison found in a pool n that is as m is
+  pub side_read : (order : T → T → Ordering) (s : ℕ) (a b : Ref) {m n : Pooled T} {y z : Tag} {o : Ordering} → n ≡ m → y ≡ (link_of m a.name s).tag
+      → z ≡ (link_of m b.name s).tag → o ≡ compared (by_stamp order) (stamped (value_of n a.name) y.stamp) (stamped (value_of n b.name) z.stamp)
+      → side order m s a b ≡ o
+  side_read order s a b {m} {n} {y} {z} same e f is = side_is order m s a b y z e f
+      ∙ ap (λ (k : Pooled T). compared (by_stamp order) (stamped (value_of k a.name) y.stamp) (stamped (value_of k b.name) z.stamp)) (sym same) ∙ sym is
+
+  -- what a comparison asks of a node there
+  pub tagged_read : (tag : T → ℕ) (s : ℕ) (r : Ref) {m n : Pooled T} {y : Tag} → n ≡ m → y ≡ (link_of m r.name s).tag
+      → IsHeld m r → HasTag tag m s r → IsHeld n r × IsTagOf tag (value_of n r.name) y.key
+  tagged_read tag s r {m} {n} {y} same e held has = subst (λ (z : Pooled T). IsHeld z r × IsTagOf tag (value_of z r.name) y.key) (sym same)
+      (held, subst (λ (k : Tag). IsTagOf tag (value_of m r.name) k.key) (sym e) has)
 
   -- what a tree's nodes are, where neither values nor tags changed
   pub item_kept : (m n : Pooled T) (s k : ℕ) → value_of n k ≡ value_of m k → (link_of n k s).tag ≡ (link_of m k s).tag → item_of n s k ≡ item_of m s k

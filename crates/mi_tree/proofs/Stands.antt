@@ -116,14 +116,14 @@ module _ {T : Type 0} (order : T → T → Ordering) (tag : T → ℕ) (m q : Po
       }
 
 module _ {T O : Type 0} where
-  tree_size : (l : Tree O) (m : Pooled T) (order : T → T → Ordering) (tag : T → ℕ) (rs : List Ref) (h : IsTree l m order tag rs) → size h.shape ≡ length rs
-  tree_size l m order tag rs h = size-nodes h.shape ∙ ap length h.nodes_are
+  tree_size : {l : Tree O} {m : Pooled T} {order : T → T → Ordering} {tag : T → ℕ} {rs : List Ref} (h : IsTree l m order tag rs) → size h.shape ≡ length rs
+  tree_size h = size-nodes h.shape ∙ ap length h.nodes_are
 
-  module _ (order : T → T → Ordering) (tag : T → ℕ) (l : Tree O) (m q : Pooled T) (x : Ref) (new : Tag)
-      (rs : List Ref) (h : IsTree l m order tag rs) (w : IsNew m l.slot order x new.stamp rs)
+  module _ {order : T → T → Ordering} {tag : T → ℕ} {l : Tree O} {m q : Pooled T} {x : Ref} (new : Tag)
+      {rs : List Ref} (h : IsTree l m order tag rs) (w : IsNew m l.slot order x new.stamp rs)
       (set : q ≡ with_link m x.name l.slot (leaf new)) where
     pub can_put : CanPut q l.slot (side order q l.slot) l.root x h.shape
-    can_put = let e = sym h.nodes_are in let a = tree_size l m order tag rs h in let f = w.fits in let out = subst (IsOut x.name) e w.out in record {
+    can_put = let e = sym h.nodes_are in let a = tree_size h in let f = w.fits in let out = subst (IsOut x.name) e w.out in record {
       rooted = rooted_past l.slot m q x l.root h.shape (set_keeps order tag m q l.slot x new w.held set) out h.rooted;
       even = h.even;
       apart = subst IsApart e h.apart;
@@ -182,24 +182,24 @@ module _ {T O : Type 0} where
     pub put_tags : (n : Pooled T) → SameTags q n l.slot → (i : ℕ) → (i == x.name) ≡ false → (link_of n i l.slot).tag ≡ (link_of m i l.slot).tag
     put_tags n k i e = k i ∙ other_tag order tag m q l.slot x new w.held set i (flip x.name i ∙ e)
 
-  pub can_take : (l : Tree O) (m : Pooled T) (order : T → T → Ordering) (tag : T → ℕ) (rs : List Ref) (h : IsTree l m order tag rs)
+  pub can_take : {l : Tree O} {m : Pooled T} {order : T → T → Ordering} {tag : T → ℕ} {rs : List Ref} (h : IsTree l m order tag rs)
       → CanTake m l.slot l.root h.shape
-  can_take l m order tag rs h =
-      let a = tree_size l m order tag rs h in let f = h.fits in
+  can_take h =
+      let a = tree_size h in let f = h.fits in
       record { rooted = h.rooted; even = h.even; apart = subst IsApart (sym h.nodes_are) h.apart; fits = omega arith }
 
-  pub rising_in : (l : Tree O) (m : Pooled T) (order : T → T → Ordering) (tag : T → ℕ) (rs : List Ref) (h : IsTree l m order tag rs)
+  pub rising_in : {l : Tree O} {m : Pooled T} {order : T → T → Ordering} {tag : T → ℕ} {rs : List Ref} (h : IsTree l m order tag rs)
       → Rising (side order m l.slot) (nodes h.shape)
-  rising_in l m order tag rs h = subst (Rising (side order m l.slot)) (sym h.nodes_are) h.rising
+  rising_in {l} {m} {order} h = subst (Rising (side order m l.slot)) (sym h.nodes_are) h.rising
 
-  pub tagged_in : (l : Tree O) (m : Pooled T) (order : T → T → Ordering) (tag : T → ℕ) (rs : List Ref) (h : IsTree l m order tag rs)
+  pub tagged_in : {l : Tree O} {m : Pooled T} {order : T → T → Ordering} {tag : T → ℕ} {rs : List Ref} (h : IsTree l m order tag rs)
       → AreTagged tag m l.slot (nodes h.shape)
-  tagged_in l m order tag rs h = subst (AreTagged tag m l.slot) (sym h.nodes_are) h.tagged
+  tagged_in {l} {m} {tag = tag} h = subst (AreTagged tag m l.slot) (sym h.nodes_are) h.tagged
 
-  pub has_taken : (order : T → T → Ordering) (tag : T → ℕ) (l j : Tree O) (m n : Pooled T) (xs : List Ref)
-      (x : Ref) (ys : List Ref) (h : IsTree l m order tag (xs ++ x ∷ ys)) (root : Option Ref) (u : Shape)
+  pub has_taken : {order : T → T → Ordering} {tag : T → ℕ} {l j : Tree O} {m n : Pooled T} {root : Option Ref} {u : Shape}
+      (xs : List Ref) (x : Ref) (ys : List Ref) (h : IsTree l m order tag (xs ++ x ∷ ys))
       → j.slot ≡ l.slot → j.root ≡ root → HasTaken m n l.slot h.shape (xs ++ ys) root u → IsTree j n order tag (xs ++ ys)
-  has_taken order tag l j m n xs x ys h root u es er p =
+  has_taken {order} {tag} {l} {j} {m} {n} {root} {u} xs x ys h es er p =
       let a = length-append xs (x ∷ ys) in let b = length-append xs ys in let f = h.fits in record {
         shape = u;
         rooted = subst (λ (z : ℕ × Option Ref). IsRooted n z.0 z.1 u) (λ i. (sym es i, sym er i)) p.rooted;
@@ -215,29 +215,34 @@ module _ {T O : Type 0} where
         has_slot = subst (λ (z : ℕ × ℕ). z.0 < z.1) (λ i. (sym es i, sym p.keeps.slots i)) h.has_slot;
       }
 
-  pub node_held : (l : Tree O) (m : Pooled T) (order : T → T → Ordering) (tag : T → ℕ) (xs : List Ref) (x : Ref) (ys : List Ref)
+  pub node_held : {l : Tree O} {m : Pooled T} {order : T → T → Ordering} {tag : T → ℕ} (xs : List Ref) (x : Ref) (ys : List Ref)
       → IsTree l m order tag (xs ++ x ∷ ys) → IsHeld m x
-  node_held l m order tag xs x ys h = held_in m l.slot h.shape xs x ys h.nodes_are h.rooted.stands
+  node_held {l} {m} xs x ys h = held_in m l.slot h.shape xs x ys h.nodes_are h.rooted.stands
 
   -- the bound of a way down
-  pub bound : (l : Tree O) (m : Pooled T) (order : T → T → Ordering) (tag : T → ℕ) (rs : List Ref) (h : IsTree l m order tag rs) (b : ℕ)
+  pub bound : {l : Tree O} {m : Pooled T} {order : T → T → Ordering} {tag : T → ℕ} {rs : List Ref} (h : IsTree l m order tag rs) (b : ℕ)
       → length rs < 2 ^ b → height h.shape ≤ 2 * b
-  bound l m order tag rs h b f = short h.shape h.even b (subst (λ k. k < 2 ^ b) (sym (tree_size l m order tag rs h)) f)
+  bound h b f = short h.shape h.even b (subst (λ k. k < 2 ^ b) (sym (tree_size h)) f)
 
   -- of a tree with a node
-  pub bound_less : (l : Tree O) (m : Pooled T) (order : T → T → Ordering) (tag : T → ℕ) (rs : List Ref) (h : IsTree l m order tag rs) (b : ℕ)
+  pub bound_less : {l : Tree O} {m : Pooled T} {order : T → T → Ordering} {tag : T → ℕ} {rs : List Ref} (h : IsTree l m order tag rs) (b : ℕ)
       → length rs < 2 ^ b → 1 ≤ length rs → height h.shape + 1 ≤ 2 * b
-  bound_less l m order tag rs h b f k = let e = tree_size l m order tag rs h in shorter h.shape h.even b (subst (λ z. z < 2 ^ b) (sym e) f) (omega arith)
+  bound_less h b f k = let e = tree_size h in shorter h.shape h.even b (subst (λ z. z < 2 ^ b) (sym e) f) (omega arith)
 
   -- two lists of one tree are as long
-  pub same_length : (l : Tree O) (m : Pooled T) (order : T → T → Ordering) (tag : T → ℕ) (rs : List Ref) (by : T → T → Ordering) (key : T → ℕ) (us : List Ref)
+  pub same_length : {l : Tree O} {m : Pooled T} {order : T → T → Ordering} {tag : T → ℕ} {rs : List Ref} {by : T → T → Ordering} {key : T → ℕ} {us : List Ref}
       → IsTree l m order tag rs → IsTree l m by key us → length rs ≡ length us
-  same_length l m order tag rs by key us h k = sym (tree_size l m order tag rs h)
-      ∙ ap size (same_tree m l.slot l.root h.shape k.shape h.rooted k.rooted) ∙ tree_size l m by key us k
+  same_length {l} {m} h k = sym (tree_size h)
+      ∙ ap size (same_tree m l.slot l.root h.shape k.shape h.rooted k.rooted) ∙ tree_size k
+
+  -- of a tree with a known node
+  pub bound_node : {l : Tree O} {m : Pooled T} {order by : T → T → Ordering} {tag key : T → ℕ} {rs : List Ref} (h : IsTree l m order tag rs)
+      (xs : List Ref) (x : Ref) (ys : List Ref) → IsTree l m by key (xs ++ x ∷ ys) → (b : ℕ) → length rs < 2 ^ b → height h.shape + 1 ≤ 2 * b
+  bound_node h xs x ys k b f = let long = same_length h k in let parts = length-append xs (x ∷ ys) in bound_less h b f (omega arith)
 
   -- a walk may begin at the root
-  pub enters_root : (l : Tree O) (m : Pooled T) (order : T → T → Ordering) (tag : T → ℕ) (rs : List Ref) (h : IsTree l m order tag rs) (d : Direction)
+  pub enters_root : {l : Tree O} {m : Pooled T} {order : T → T → Ordering} {tag : T → ℕ} {rs : List Ref} (h : IsTree l m order tag rs) (d : Direction)
       → Enters m l.slot d (height h.shape) [] l.root [] h.shape
-  enters_root l m order tag rs h d =
-      let a = tree_size l m order tag rs h in let f = h.fits in
+  enters_root h d =
+      let a = tree_size h in let f = h.fits in
       record { goes = record { path_is = refl; pending = tt }; rooted = h.rooted; room = omega arith; low = low_enough h.shape h.even (omega arith) }

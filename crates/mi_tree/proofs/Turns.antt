@@ -87,9 +87,9 @@ module _ {T : Type 0} where
     pub parts : Three m s y.back r y.forth x right A B q
     pub even : IsEven (Fork A r B)
 
-  pub left_opened : (m : Pooled T) (s : ℕ) (left : Option Ref) (x : Ref) (right : Option Ref) (l q : Shape) (r : Ref) (y : Link)
+  pub left_opened : {m : Pooled T} {s : ℕ} {left : Option Ref} {x : Ref} {right : Option Ref} {l q : Shape} {r : Ref} {y : Link}
       → AreSides m s left x right l q → left ≡ Some r → y ≡ link_of m r.name s → LeftOpened m s r x right y l q
-  left_opened m s left x right l q r y h e i =
+  left_opened {m} {s} {left} {x} {right} {l} {q} {r} {y} h e i =
       let o = opened m s r l (moved m m s left (Some r) l refl e h.left_is) in
       let even = subst IsEven o.is h.left_even in
       let f = h.fits in let size_is = ap size o.is in
@@ -117,9 +117,9 @@ module _ {T : Type 0} where
     pub parts : Three m s left x y.back r y.forth l B C
     pub even : IsEven (Fork B r C)
 
-  pub right_opened : (m : Pooled T) (s : ℕ) (left : Option Ref) (x : Ref) (right : Option Ref) (l q : Shape) (r : Ref) (y : Link)
+  pub right_opened : {m : Pooled T} {s : ℕ} {left : Option Ref} {x : Ref} {right : Option Ref} {l q : Shape} {r : Ref} {y : Link}
       → AreSides m s left x right l q → right ≡ Some r → y ≡ link_of m r.name s → RightOpened m s left x r y l q
-  right_opened m s left x right l q r y h e i =
+  right_opened {m} {s} {left} {x} {right} {l} {q} {r} {y} h e i =
       let o = opened m s r q (moved m m s right (Some r) q refl e h.right_is) in
       let even = subst IsEven o.is h.right_even in
       let f = h.fits in let size_is = ap size o.is in
@@ -147,10 +147,10 @@ module _ {T : Type 0} where
     pub is : M ≡ Fork B y C
     pub parts : Four m s a x w.back y w.forth z d A B C D
 
-  pub middle_opened : (m : Pooled T) (s : ℕ) (a : Option Ref) (x : Ref) (b : Option Ref) (y z : Ref) (d : Option Ref) (w : Link) (A M D : Shape)
+  pub middle_opened : {m : Pooled T} {s : ℕ} {a : Option Ref} {x : Ref} {b : Option Ref} {y z : Ref} {d : Option Ref} {w : Link} {A M D : Shape}
       → Three m s a x b z d A M D → b ≡ Some y → w ≡ link_of m y.name s
       → MiddleOpened m s a x y z d w A M D
-  middle_opened m s a x b y z d w A M D h e i =
+  middle_opened {m} {s} {a} {x} {b} {y} {z} {d} {w} {A} {M} {D} h e i =
       let o = opened m s y M (moved m m s b (Some y) M refl e h.second) in
       let f = h.fits in let k = h.low in let size_is = ap size o.is in let height_is = ap height o.is in record {
         B = o.left;
@@ -173,62 +173,64 @@ module _ {T : Type 0} where
       }
 
   -- what the calls give
-  pub downs : (m n : Pooled T) (s : ℕ) (A : Shape) (r : Ref) (B : Shape) (x : Ref) (l q : Shape) → l ≡ Fork A r B
-      → IsEven l → IsEven q → DifferByAtMost 2 (height l) (height q) → height q + 1 < height l → height B ≤ height A
-      → IsRooted n s (Some r) (Fork A r (Fork B x q)) → Keeps m n s (r ∷ x ∷ []) → SameTags m n s → (t : Shape) × IsBalanced m n s l x q r t
-  downs m n s A r B x l q is el eq near more higher rooted keeps tags = subst (λ k. (t : Shape) × IsBalanced m n s k x q r t) (sym is) (
-    Fork A r (Fork B x q),
+  pub downs : {m n : Pooled T} {s : ℕ} {left right : Option Ref} {r x : Ref} {y : Link} {l q : Shape} (h : AreSides m s left x right l q)
+      (o : LeftOpened m s r x right y l q) → height q + 1 < height l → height o.B ≤ height o.A → IsRooted n s (Some r) (Fork o.A r (Fork o.B x q))
+      → Keeps m n s (r ∷ x ∷ []) → SameTags m n s → (t : Shape) × IsBalanced m n s l x q r t
+  downs {m} {n} {s} {r = r} {x = x} {q = q} h o more higher rooted keeps tags = subst (λ k. (t : Shape) × IsBalanced m n s k x q r t) (sym o.is) (
+    Fork o.A r (Fork o.B x q),
     record {
       rooted = rooted;
-      rebalanced = turn_down A r B x q (subst IsEven is el) eq (subst (λ k. DifferByAtMost 2 (height k) (height q)) is near)
-          (subst (λ k. height q + 1 < height k) is more) higher;
-      keeps = keeps_more s m n (r ∷ x ∷ []) _ keeps (λ k o. out_two k (nodes A) r (nodes B) x (nodes q) o);
+      rebalanced = turn_down o.A r o.B x q o.even h.right_even (subst (λ k. DifferByAtMost 2 (height k) (height q)) o.is h.near)
+          (subst (λ k. height q + 1 < height k) o.is more) higher;
+      keeps = keeps_more s m n (r ∷ x ∷ []) _ keeps (λ k f. out_two k (nodes o.A) r (nodes o.B) x (nodes q) f);
       tags = tags;
     },
   )
 
-  pub ups : (m n : Pooled T) (s : ℕ) (B : Shape) (r : Ref) (C : Shape) (x : Ref) (l q : Shape) → q ≡ Fork B r C
-      → IsEven l → IsEven q → DifferByAtMost 2 (height l) (height q) → height l + 1 < height q → height B ≤ height C
-      → IsRooted n s (Some r) (Fork (Fork l x B) r C) → Keeps m n s (x ∷ r ∷ []) → SameTags m n s → (t : Shape) × IsBalanced m n s l x q r t
-  ups m n s B r C x l q is el eq near more higher rooted keeps tags = subst (λ k. (t : Shape) × IsBalanced m n s l x k r t) (sym is) (
-    Fork (Fork l x B) r C,
+  pub ups : {m n : Pooled T} {s : ℕ} {left right : Option Ref} {r x : Ref} {y : Link} {l q : Shape} (h : AreSides m s left x right l q)
+      (o : RightOpened m s left x r y l q) → height l + 1 < height q → height o.B ≤ height o.C → IsRooted n s (Some r) (Fork (Fork l x o.B) r o.C)
+      → Keeps m n s (x ∷ r ∷ []) → SameTags m n s → (t : Shape) × IsBalanced m n s l x q r t
+  ups {m} {n} {s} {r = r} {x = x} {l = l} h o more higher rooted keeps tags = subst (λ k. (t : Shape) × IsBalanced m n s l x k r t) (sym o.is) (
+    Fork (Fork l x o.B) r o.C,
     record {
       rooted = rooted;
-      rebalanced = turn_up l x B r C el (subst IsEven is eq) (subst (λ k. DifferByAtMost 2 (height l) (height k)) is near)
-          (subst (λ k. height l + 1 < height k) is more) higher;
-      keeps = keeps_more s m n (x ∷ r ∷ []) _ keeps (λ k o. out_two_right k (nodes l) x (nodes B) r (nodes C) o);
+      rebalanced = turn_up l x o.B r o.C h.left_even o.even (subst (λ k. DifferByAtMost 2 (height l) (height k)) o.is h.near)
+          (subst (λ k. height l + 1 < height k) o.is more) higher;
+      keeps = keeps_more s m n (x ∷ r ∷ []) _ keeps (λ k f. out_two_right k (nodes l) x (nodes o.B) r (nodes o.C) f);
       tags = tags;
     },
   )
 
-  pub left_boths : (m n : Pooled T) (s : ℕ) (A : Shape) (r : Ref) (B : Shape) (y : Ref) (C M : Shape) (x : Ref) (l q : Shape)
-      → l ≡ Fork A r M → M ≡ Fork B y C → IsEven l → IsEven q → DifferByAtMost 2 (height l) (height q)
-      → height q + 1 < height l → height A < height M → IsRooted n s (Some y) (Fork (Fork A r B) y (Fork C x q))
-      → Keeps m n s (r ∷ y ∷ x ∷ []) → SameTags m n s → (t : Shape) × IsBalanced m n s l x q y t
-  left_boths m n s A r B y C M x l q is has el eq near more higher rooted keeps tags =
-      let whole = is ∙ ap (Fork A r) has in subst (λ k. (t : Shape) × IsBalanced m n s k x q y t) (sym whole) (
-        Fork (Fork A r B) y (Fork C x q),
+  pub left_boths : {m n : Pooled T} {s : ℕ} {left right : Option Ref} {r x z : Ref} {y w : Link} {l q : Shape} (h : AreSides m s left x right l q)
+      (o : LeftOpened m s r x right y l q) (u : MiddleOpened m s y.back r z x right w o.A o.B q) → height q + 1 < height l → height o.A < height o.B
+      → IsRooted n s (Some z) (Fork (Fork o.A r u.B) z (Fork u.C x q)) → Keeps m n s (r ∷ z ∷ x ∷ []) → SameTags m n s
+      → (t : Shape) × IsBalanced m n s l x q z t
+  left_boths {m} {n} {s} {r = r} {x = x} {z = z} {l = l} {q = q} h o u more higher rooted keeps tags =
+      let whole : l ≡ Fork o.A r (Fork u.B z u.C) = o.is ∙ ap (Fork o.A r) u.is in subst (λ k. (t : Shape) × IsBalanced m n s k x q z t) (sym whole) (
+        Fork (Fork o.A r u.B) z (Fork u.C x q),
         record {
           rooted = rooted;
-          rebalanced = turn_left_both A r B y C x q (subst IsEven whole el) eq (subst (λ k. DifferByAtMost 2 (height k) (height q)) whole near)
-              (subst (λ k. height q + 1 < height k) whole more) (subst (λ k. height A < height k) has higher);
-          keeps = keeps_more s m n (r ∷ y ∷ x ∷ []) _ keeps (λ k o. out_three_left k (nodes A) r (nodes B) y (nodes C) x (nodes q) o);
+          rebalanced = turn_left_both o.A r u.B z u.C x q (subst IsEven whole h.left_even) h.right_even
+              (subst (λ k. DifferByAtMost 2 (height k) (height q)) whole h.near) (subst (λ k. height q + 1 < height k) whole more)
+              (subst (λ k. height o.A < height k) u.is higher);
+          keeps = keeps_more s m n (r ∷ z ∷ x ∷ []) _ keeps (λ k f. out_three_left k (nodes o.A) r (nodes u.B) z (nodes u.C) x (nodes q) f);
           tags = tags;
         },
       )
 
-  pub right_boths : (m n : Pooled T) (s : ℕ) (B : Shape) (y : Ref) (C M : Shape) (r : Ref) (D : Shape) (x : Ref) (l q : Shape)
-      → q ≡ Fork M r D → M ≡ Fork B y C → IsEven l → IsEven q → DifferByAtMost 2 (height l) (height q)
-      → height l + 1 < height q → height D < height M → IsRooted n s (Some y) (Fork (Fork l x B) y (Fork C r D))
-      → Keeps m n s (x ∷ y ∷ r ∷ []) → SameTags m n s → (t : Shape) × IsBalanced m n s l x q y t
-  right_boths m n s B y C M r D x l q is has el eq near more higher rooted keeps tags =
-      let whole = is ∙ ap (λ k. Fork k r D) has in subst (λ k. (t : Shape) × IsBalanced m n s l x k y t) (sym whole) (
-        Fork (Fork l x B) y (Fork C r D),
+  pub right_boths : {m n : Pooled T} {s : ℕ} {left right : Option Ref} {r x z : Ref} {y w : Link} {l q : Shape} (h : AreSides m s left x right l q)
+      (o : RightOpened m s left x r y l q) (u : MiddleOpened m s left x z r y.forth w l o.B o.C) → height l + 1 < height q → height o.C < height o.B
+      → IsRooted n s (Some z) (Fork (Fork l x u.B) z (Fork u.C r o.C)) → Keeps m n s (x ∷ z ∷ r ∷ []) → SameTags m n s
+      → (t : Shape) × IsBalanced m n s l x q z t
+  right_boths {m} {n} {s} {r = r} {x = x} {z = z} {l = l} {q = q} h o u more higher rooted keeps tags =
+      let whole : q ≡ Fork (Fork u.B z u.C) r o.C = o.is ∙ ap (λ k. Fork k r o.C) u.is in subst (λ k. (t : Shape) × IsBalanced m n s l x k z t) (sym whole) (
+        Fork (Fork l x u.B) z (Fork u.C r o.C),
         record {
           rooted = rooted;
-          rebalanced = turn_right_both l x B y C r D el (subst IsEven whole eq) (subst (λ k. DifferByAtMost 2 (height l) (height k)) whole near)
-              (subst (λ k. height l + 1 < height k) whole more) (subst (λ k. height D < height k) has higher);
-          keeps = keeps_more s m n (x ∷ y ∷ r ∷ []) _ keeps (λ k o. out_three_right k (nodes l) x (nodes B) y (nodes C) r (nodes D) o);
+          rebalanced = turn_right_both l x u.B z u.C r o.C h.left_even (subst IsEven whole h.right_even)
+              (subst (λ k. DifferByAtMost 2 (height l) (height k)) whole h.near) (subst (λ k. height l + 1 < height k) whole more)
+              (subst (λ k. height o.C < height k) u.is higher);
+          keeps = keeps_more s m n (x ∷ z ∷ r ∷ []) _ keeps (λ k f. out_three_right k (nodes l) x (nodes u.B) z (nodes u.C) r (nodes o.C) f);
           tags = tags;
         },
       )

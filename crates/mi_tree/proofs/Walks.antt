@@ -48,10 +48,10 @@ near_height Ascending l q n e = (omega arith, omega arith)
 near_height Descending l q n e = (omega arith, omega arith)
 
 module _ {T : Type 0} where
-  pub goes_depth : (m : Pooled T) (s : ℕ) (d : Direction) (levels : ℕ) (items : List (Option Ref)) (xs : List Pending)
+  pub goes_depth : {m : Pooled T} {s : ℕ} {d : Direction} {levels : ℕ} {items : List (Option Ref)} {xs : List Pending}
       → Goes m s d levels items xs → length items ≤ levels
-  goes_depth m s d levels items [] h = let e = ap length h.path_is in omega arith
-  goes_depth m s d levels items (x ∷ xs) h = let e = ap length h.path_is in let i = path_length (x ∷ xs) in let room = h.pending.2 in omega arith
+  goes_depth {xs = []} h = let e = ap length h.path_is in omega arith
+  goes_depth {xs = x ∷ xs} h = let e = ap length h.path_is in let i = path_length (x ∷ xs) in let room = h.pending.2 in omega arith
 
   -- a node on the way down
   pub record Entered (m : Pooled T) (s : ℕ) (d : Direction) (levels : ℕ) (items : List (Option Ref))
@@ -67,10 +67,10 @@ module _ {T : Type 0} where
     pub far_lower : height_at m s (far_of d y) < height_at m s (Some r)
     pub room : length items < 45
 
-  pub entered : (m : Pooled T) (s : ℕ) (d : Direction) (levels : ℕ) (items : List (Option Ref))
-      (at : Option Ref) (r : Ref) (y : Link) (xs : List Pending) (t : Shape)
+  pub entered : {m : Pooled T} {s : ℕ} {d : Direction} {levels : ℕ} {items : List (Option Ref)}
+      {at : Option Ref} {r : Ref} {y : Link} {xs : List Pending} {t : Shape}
       → Enters m s d levels items at xs t → at ≡ Some r → y ≡ link_of m r.name s → Entered m s d levels items r y xs t
-  entered m s d levels items at r y xs t h e i =
+  entered {m} {s} {d} {levels} {items} {at} {r} {y} {xs} {t} h e i =
       let o = opened m s r t (moved m m s at (Some r) t refl e h.rooted) in
       let heights = ap height o.is in let room = h.room in let low = h.low in
       let long : length items ≡ length xs = ap length h.goes.path_is ∙ path_length xs in
@@ -156,21 +156,38 @@ abbrev pub pend_right : Direction → Ref → Shape → List Pending → List Pe
 pend_right Ascending r l xs = xs
 pend_right Descending r l xs = record { node = r; after = l } ∷ xs
 
-module _ {T : Type 0} (m : Pooled T) (s levels : ℕ) (items new : List (Option Ref)) (r : Ref) (y : Link) (xs : List Pending) (t : Shape) where
-  pub enters_left : (d : Direction) → (o : Entered m s d levels items r y xs t)
-      → new ≡ cond (is_ascending d) (items ++ Some r ∷ []) items → Enters m s d levels new y.back (pend_left d r o.right xs) o.left
-  enters_left Ascending o e = subst (λ k. Enters m s Ascending levels k y.back (record { node = r; after = o.right } ∷ xs) o.left) (sym e) o.before
-  enters_left Descending o e = subst (λ k. Enters m s Descending levels k y.back xs o.left) (sym e) o.after
+-- the way into either side, in a pool n that is as m is
+module _ {T : Type 0} {m : Pooled T} {s levels : ℕ} {items : List (Option Ref)} {r : Ref} {y : Link} {xs : List Pending} {t : Shape} where
+  pub enters_left : {n : Pooled T} {new : List (Option Ref)} (d : Direction) (o : Entered m s d levels items r y xs t) → n ≡ m
+      → new ≡ cond (is_ascending d) (items ++ Some r ∷ []) items → Enters n s d levels new y.back (pend_left d r o.right xs) o.left
+  enters_left Ascending o same e =
+      subst (λ (k : Pooled T × List (Option Ref)). Enters k.0 s Ascending levels k.1 y.back (record { node = r; after = o.right } ∷ xs) o.left)
+      (λ i. (sym same i, sym e i)) o.before
+  enters_left Descending o same e =
+      subst (λ (k : Pooled T × List (Option Ref)). Enters k.0 s Descending levels k.1 y.back xs o.left) (λ i. (sym same i, sym e i)) o.after
 
-  pub enters_right : (d : Direction) → (o : Entered m s d levels items r y xs t)
-      → new ≡ cond (not (is_ascending d)) (items ++ Some r ∷ []) items → Enters m s d levels new y.forth (pend_right d r o.left xs) o.right
-  enters_right Ascending o e = subst (λ k. Enters m s Ascending levels k y.forth xs o.right) (sym e) o.after
-  enters_right Descending o e = subst (λ k. Enters m s Descending levels k y.forth (record { node = r; after = o.left } ∷ xs) o.right) (sym e) o.before
+  pub enters_right : {n : Pooled T} {new : List (Option Ref)} (d : Direction) (o : Entered m s d levels items r y xs t) → n ≡ m
+      → new ≡ cond (not (is_ascending d)) (items ++ Some r ∷ []) items → Enters n s d levels new y.forth (pend_right d r o.left xs) o.right
+  enters_right Ascending o same e =
+      subst (λ (k : Pooled T × List (Option Ref)). Enters k.0 s Ascending levels k.1 y.forth xs o.right) (λ i. (sym same i, sym e i)) o.after
+  enters_right Descending o same e =
+      subst (λ (k : Pooled T × List (Option Ref)). Enters k.0 s Descending levels k.1 y.forth (record { node = r; after = o.left } ∷ xs) o.right)
+      (λ i. (sym same i, sym e i)) o.before
 
-  pub enters_lower : (d : Direction) → Entered m s d levels items r y xs t
+  sides_lower : (d : Direction) → Entered m s d levels items r y xs t
       → (height_at m s y.back < height_at m s (Some r)) × (height_at m s y.forth < height_at m s (Some r))
-  enters_lower Ascending o = (o.near_lower, o.far_lower)
-  enters_lower Descending o = (o.far_lower, o.near_lower)
+  sides_lower Ascending o = (o.near_lower, o.far_lower)
+  sides_lower Descending o = (o.far_lower, o.near_lower)
+
+  pub enters_lower : {n : Pooled T} {at : Option Ref} (d : Direction) → Entered m s d levels items r y xs t → n ≡ m → at ≡ Some r
+      → (height_at n s y.back < height_at m s at) × (height_at n s y.forth < height_at m s at)
+  enters_lower d o same e =
+      subst (λ (k : Pooled T × Option Ref). (height_at k.0 s y.back < height_at m s k.1) × (height_at k.0 s y.forth < height_at m s k.1))
+      (λ i. (sym same i, sym e i)) (sides_lower d o)
+
+pub goes_moved : {T : Type 0} {m n : Pooled T} {s : ℕ} {d : Direction} {levels : ℕ} {items : List (Option Ref)} {xs : List Pending}
+    → n ≡ m → Goes n s d levels items xs → Goes m s d levels items xs
+goes_moved {T} {m} {n} {s} {d} {levels} {items} {xs} same h = subst (λ (z : Pooled T). Goes z s d levels items xs) same h
 
 -- the nodes ahead of a place in either side
 pub way_left : (d : Direction) (l : Shape) (r : Ref) (q t : Shape) (xs ys : List Pending) (n : ℕ) → t ≡ Fork l r q → n ≤ length (nodes l)
@@ -235,11 +252,11 @@ popped items new last (x ∷ xs) r e n l f = record {
   now = n ∙ (λ i. take (last_length items x xs e i) (e i)) ∙ take-append_seam (path_of xs) (Some x.node ∷ []);
 }
 
-pub popped_none : (items new : List (Option Ref)) (last : Option (Option Ref)) (xs : List Pending)
+pub popped_none : {items new : List (Option Ref)} {last : Option (Option Ref)} {xs : List Pending}
     → items ≡ path_of xs → new ≡ take (length items - 1) items → last ≡ slice_get items (length items - 1)
     → option_flatten last ≡ None → (xs ≡ []) × (new ≡ [])
-popped_none items new last [] e n l f = (refl, n ∙ (λ k. take (length (e k) - 1) (e k)))
-popped_none items new last (x ∷ xs) e n l f = let j : Some x.node ≡ None = sym (ap option_flatten (l ∙ last_is items x xs e)) ∙ f in absurd cc
+popped_none {xs = []} e n l f = (refl, n ∙ (λ k. take (length (e k) - 1) (e k)))
+popped_none {items} {xs = x ∷ xs} e n l f = let j : Some x.node ≡ None = sym (ap option_flatten (l ∙ last_is items x xs e)) ∙ f in absurd cc
 
 module _ {T : Type 0} where
   -- a walk that gives a node
@@ -250,10 +267,10 @@ module _ {T : Type 0} where
     pub enters : Enters m s d levels new (far_of d (link_of m r.name s)) ys after
     pub was : us ≡ r ∷ (onward d (nodes after) ++ ahead d ys)
 
-  pub stepped : (w : Walk) (m : Pooled T) (levels : ℕ) (us : List Ref) (new : List (Option Ref)) (last : Option (Option Ref)) (r : Ref) → IsWalk w m levels us
+  pub stepped : {w : Walk} {m : Pooled T} {levels : ℕ} {us : List Ref} {new : List (Option Ref)} {last : Option (Option Ref)} {r : Ref} → IsWalk w m levels us
       → new ≡ take (length w.path.items - 1) w.path.items → last ≡ slice_get w.path.items (length w.path.items - 1)
       → option_flatten last ≡ Some r → Stepped m w.slot w.direction levels new r us
-  stepped w m levels us new last r h n l f =
+  stepped {w} {m} {levels} {us} {new} {last} {r} h n l f =
       let p = popped w.path.items new last h.xs r h.goes.path_is n l f in let d = w.direction in
       let pending = subst (ArePending m w.slot d levels) p.was h.goes.pending in let room = pending.2 in
       record {
@@ -269,11 +286,11 @@ module _ {T : Type 0} where
         was = sym h.ahead_is ∙ ap (ahead d) p.was ∙ ap (λ (q : Ref). q ∷ (onward d (nodes p.x.after) ++ ahead d p.ys)) p.node_is;
       }
 
-  pub walks : (w v : Walk) (m n : Pooled T) (levels : ℕ) (us : List Ref) (new : List (Option Ref)) (r : Ref) → IsWalk w m levels us
+  pub walks : {w v : Walk} {m n : Pooled T} {levels : ℕ} {us : List Ref} {new : List (Option Ref)} {r : Ref} → IsWalk w m levels us
       → (o : Stepped m w.slot w.direction levels new r us) → n ≡ m → v.slot ≡ w.slot → v.direction ≡ w.direction
-      → (zs : List Pending) → Goes m w.slot w.direction levels v.path.items zs
+      → {zs : List Pending} → Goes m w.slot w.direction levels v.path.items zs
       → ahead w.direction zs ≡ onward w.direction (nodes o.after) ++ ahead w.direction o.ys → IsWalk v n levels (drop 1 us)
-  walks w v m n levels us new r h o e s d zs goes is = record {
+  walks {w} {v} {m} {n} {levels} {us} {new} {r} h o e s d {zs} goes is = record {
     xs = zs;
     goes = subst (λ (k : Pooled T × ℕ × Direction). Goes k.0 k.1 k.2 levels v.path.items zs) (λ i. (sym e i, sym s i, sym d i)) goes;
     ahead_is = ap (λ k. ahead k zs) d ∙ is ∙ ap (drop 1) (sym o.was);
@@ -282,9 +299,9 @@ module _ {T : Type 0} where
   }
 
   -- a walk at its end
-  pub walks_none : (w v : Walk) (m : Pooled T) (levels : ℕ) (us : List Ref) → (h : IsWalk w m levels us)
+  pub walks_none : {w v : Walk} {m : Pooled T} {levels : ℕ} {us : List Ref} (h : IsWalk w m levels us)
       → h.xs ≡ [] → v.slot ≡ w.slot → v.path.items ≡ [] → IsWalk v m levels (drop 1 us)
-  walks_none w v m levels us h e s n = record {
+  walks_none {w} {v} {m} h e s n = record {
     xs = [];
     goes = record { path_is = n; pending = tt };
     ahead_is = ap (λ k. drop 1 (ahead w.direction k)) (sym e) ∙ ap (drop 1) h.ahead_is;

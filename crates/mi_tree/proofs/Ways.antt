@@ -59,12 +59,12 @@ last_is items f fs e =
     (λ i. slice_get (e i) (n i)) ∙ slice_get-get_or (ps ++ Some (turn_of f) ∷ []) (length ps) (Some (turn_of f)) (omega arith)
     ∙ ap (λ k. Some k) (get_or-append_seam ps (Some (turn_of f)) [] (Some (turn_of f)))
 
-pub turned_back : (items new : List (Option Turn)) (last : Option (Option Turn)) (fs : List Frame) (turn : Turn)
+pub turned_back : {items new : List (Option Turn)} {last : Option (Option Turn)} {fs : List Frame} {turn : Turn}
     → items ≡ way_of fs → new ≡ take (length items - 1) items → last ≡ slice_get items (length items - 1)
     → option_flatten last ≡ Some turn → IsTurned fs new turn
-turned_back items new last [] r e n l g =
+turned_back {items} {new} {last} {fs = []} {turn = r} e n l g =
     let i : last ≡ None = l ∙ (λ k. slice_get (e k) (length (e k) - 1)) in let j : None ≡ Some r = sym (ap option_flatten i) ∙ g in absurd cc
-turned_back items new last (f ∷ fs) r e n l g =
+turned_back {items} {new} {last} {fs = f ∷ fs} {turn = r} e n l g =
     let same : r ≡ turn_of f = some_two r (turn_of f) (sym g ∙ ap option_flatten (l ∙ last_is items f fs e)) in record {
       other = f.other;
       rest = fs;
@@ -72,8 +72,8 @@ turned_back items new last (f ∷ fs) r e n l g =
       now = n ∙ (λ i. take (last_length items f fs e i) (e i)) ∙ take-append_seam (way_of fs) (Some (turn_of f) ∷ []);
     }
 
-pub shorter_way : (items new : List (Option Turn)) (fs : List Frame) (turn : Turn) → items ≡ way_of fs → IsTurned fs new turn → length new < length items
-shorter_way items new fs turn e w =
+pub shorter_way : {items new : List (Option Turn)} {fs : List Frame} {turn : Turn} → items ≡ way_of fs → IsTurned fs new turn → length new < length items
+shorter_way {items} {new} {fs} {turn} e w =
     let a = ap length e in let b = path_length fs in let c = ap (λ (k : List Frame). length k) w.was in let d = ap length w.now in let f = path_length w.rest in
     omega arith
 
@@ -322,9 +322,9 @@ module _ {T : Type 0} where
       )
 
   -- nothing is above
-  pub climbed_none : (m : Pooled T) (s : ℕ) (root below : Option Ref) (items : List (Option Turn)) (fs : List Frame) (at : Option Ref) (h : ℕ) (u : Shape)
+  pub climbed_none : {m : Pooled T} {s : ℕ} {root below : Option Ref} {items : List (Option Turn)} {fs : List Frame} {at : Option Ref} {h : ℕ} {u : Shape}
       → Climbs m s root below items fs at h u → fs ≡ [] → HasClimbed m m s (plug fs u) below u
-  climbed_none m s root below items fs at h u c e = record {
+  climbed_none {m} {s} {fs = fs} {u = u} c e = record {
     rooted = c.rooted;
     even = c.even;
     nodes_are = sym (ap (λ k. nodes (plug k u)) e);
@@ -337,9 +337,30 @@ module _ {T : Type 0} where
   level_none m s root below items fs at h u c e = subst (λ (z : ℕ × ℕ). IsLevel (height u) h z.0 z.1)
       (λ i. (sym (height-root m s below u c.rooted) i, ap (λ k. risen k h) (sym e) i)) (c.near, λ f. f)
 
-  module _ (m : Pooled T) (s : ℕ) (root below : Option Ref) (items new : List (Option Turn)) (fs : List Frame) (at : Option Ref)
-      (h : ℕ) (u : Shape) (c : Climbs m s root below items fs at h u) (turn : Turn) (w : IsTurned fs new turn)
-      (y : Link) (i : y ≡ link_of m turn.node.name s) where
+  -- what a step up gives: the tree that is to stand next, and what the rest of the way makes of it
+  pub record NextClimb (m n : Pooled T) (s : ℕ) (root : Option Ref) (new : List (Option Turn)) (fs : List Frame)
+      (h : ℕ) (u : Shape) (turn : Turn) (before : ℕ) (next : Ref) : Type 0 where
+    pub rest : List Frame
+    pub z : Shape
+    pub climbs : Climbs n s root (Some next) new rest (Some turn.node) before z
+    pub level : (j : ℕ) → IsLevel (height z) before j (risen rest before) → IsLevel (height u) h j (risen fs h)
+    pub climbed : (v : Pooled T) (result : Option Ref) (t : Shape) → HasClimbed n v s (plug rest z) result t → HasClimbed m v s (plug fs u) result t
+
+  -- a tree as high as the one before
+  module _ {m n : Pooled T} {s : ℕ} {root : Option Ref} {new : List (Option Turn)} {fs : List Frame}
+      {h : ℕ} {u : Shape} {turn : Turn} {before : ℕ} {next : Ref} (o : NextClimb m n s root new fs h u turn before next) where
+    same_height : before ≡ height_at n s (Some next) → before ≡ height o.z
+    same_height e = e ∙ height-root n s (Some next) o.z o.climbs.rooted
+
+    pub same_climbs : before ≡ height_at n s (Some next) → Climbs n s root (Some next) new o.rest (Some turn.node) (height o.z) o.z
+    same_climbs e = subst (λ j. Climbs n s root (Some next) new o.rest (Some turn.node) j o.z) (same_height e) o.climbs
+
+    pub same_level : before ≡ height_at n s (Some next) → (j : ℕ) → j ≡ risen o.rest (height o.z) → IsLevel (height u) h j (risen fs h)
+    same_level e j is = o.level j (level_same (height o.z) before j _ (is ∙ ap (risen o.rest) (sym (same_height e))))
+
+  module _ {m : Pooled T} {s : ℕ} {root below : Option Ref} {items new : List (Option Turn)} {fs : List Frame} {at : Option Ref}
+      {h : ℕ} {u : Shape} (c : Climbs m s root below items fs at h u) {turn : Turn} (w : IsTurned fs new turn)
+      {y : Link} (i : y ≡ link_of m turn.node.name s) where
     abbrev whole : Shape
     whole = forked turn.left u turn.node w.other
 
@@ -364,10 +385,10 @@ module _ {T : Type 0} where
     link_is : y ≡ forked_link turn.left at (size u) h w.other y.tag
     link_is = i ∙ open_above.1 ∙ ap (λ (z : Link). forked_link turn.left at (size u) h w.other z.tag) (sym i)
 
-    pub before_is : y.height ≡ forked_height turn.left h (height w.other)
+    before_is : y.height ≡ forked_height turn.left h (height w.other)
     before_is = ap (λ (z : Link). z.height) link_is ∙ link_height turn.left at (size u) h w.other y.tag
 
-    pub climb_sides : (l : Shape) × (z : Shape) × Sided m s (cond turn.left below y.back) (cond turn.left y.forth below) turn.node turn.left w.other u l z
+    climb_sides : (l : Shape) × (z : Shape) × Sided m s (cond turn.left below y.back) (cond turn.left y.forth below) turn.node turn.left w.other u l z
     climb_sides = let f = plug_size w.rest whole in let k = open_fits in
         sided m s turn.left turn.node w.other u below y at (size u) h y.tag c.rooted c.even c.near open_beside.0
         open_beside.1 open_above.0 link_is open_above.2 (plug_apart w.rest whole open_apart) (omega arith)
@@ -378,11 +399,15 @@ module _ {T : Type 0} where
         settled m s turn.left turn.node w.other u below y at h y.tag c.rooted c.even c.near open_beside.0
         open_beside.1 open_above.0 link_is open_above.2 (plug_apart w.rest whole open_apart) (omega arith) (ap (λ (z : Link). z.tag) i)
 
-    pub climb_rejoined : AreRejoined m s turn below y climb_sides.0 climb_sides.1
+    climb_rejoined : AreRejoined m s turn below y climb_sides.0 climb_sides.1
     climb_rejoined = record {
       sides = climb_sides.2.sides;
       settled = λ e. climb_settled (ap (λ j. j + 1) (sym (height-root m s below u c.rooted)) ∙ e);
     }
+
+    -- what the node of the way is put over again
+    pub climb_given : (l : Shape) × (q : Shape) × AreRejoined m s turn below y l q
+    climb_given = (climb_sides.0, climb_sides.1, climb_rejoined)
 
     pub low_below : height_at m s below + 1 < 256
     low_below = let f = plug_size w.rest whole in let k = open_fits in let j = size_part turn.left turn.node w.other u in
@@ -390,12 +415,12 @@ module _ {T : Type 0} where
         let e = height-root m s below u c.rooted in omega arith
 
     -- the next node of the way
-    module _ (n : Pooled T) (back forth : Option Ref) (l q : Shape) (o : Sided m s back forth turn.node turn.left w.other u l q)
-        (next : Ref) (z : Shape) (k : IsBalanced m n s l turn.node q next z) where
+    module _ {n : Pooled T} {back forth : Option Ref} {l q : Shape} (o : Sided m s back forth turn.node turn.left w.other u l q)
+        {next : Ref} {z : Shape} (k : IsBalanced m n s l turn.node q next z) where
       names_are : nodes z ≡ nodes whole
       names_are = k.rebalanced.nodes_are ∙ o.names
 
-      pub climbs_on : Climbs n s root (Some next) new w.rest (Some turn.node) (forked_height turn.left h (height w.other)) z
+      climbs_on : Climbs n s root (Some next) new w.rest (Some turn.node) (forked_height turn.left h (height w.other)) z
       climbs_on =
           let r = k.rebalanced in let hs = o.heights in let same = plug_nodes w.rest z whole names_are in record {
             path_is = w.now;
@@ -412,13 +437,13 @@ module _ {T : Type 0} where
             root_is = root_next root (frame turn w.other) w.rest (subst (IsRootOf root) w.was c.root_is);
           }
 
-      pub level_on : (j : ℕ) → IsLevel (height z) (forked_height turn.left h (height w.other)) j (risen w.rest (forked_height turn.left h (height w.other)))
+      level_on : (j : ℕ) → IsLevel (height z) (forked_height turn.left h (height w.other)) j (risen w.rest (forked_height turn.left h (height w.other)))
           → IsLevel (height u) h j (risen fs h)
       level_on j d = let high = subst (λ i. height z ≤ i + 1) o.heights.0 k.rebalanced.not_higher in
           subst (λ (i : List Frame). IsLevel (height u) h j (risen i h)) (sym w.was)
           (d.0, λ f. d.1 (not_lifted turn.left h (height w.other) (height u) (height z) f high))
 
-      pub climbed_on : (v : Pooled T) (result : Option Ref) (t : Shape) → HasClimbed n v s (plug w.rest z) result t → HasClimbed m v s (plug fs u) result t
+      climbed_on : (v : Pooled T) (result : Option Ref) (t : Shape) → HasClimbed n v s (plug w.rest z) result t → HasClimbed m v s (plug fs u) result t
       climbed_on v result t d =
           let same = plug_nodes w.rest z whole names_are in let all = same ∙ sym (ap nodes plugged) in record {
             rooted = d.rooted;
@@ -429,12 +454,24 @@ module _ {T : Type 0} where
             tags = λ j. d.tags j ∙ k.tags j;
           }
 
+    pub next_climb : {n : Pooled T} {before : ℕ} {next : Ref} → before ≡ y.height
+        → ((l q : Shape) → AreRejoined m s turn below y l q → (z : Shape) × IsBalanced m n s l turn.node q next z)
+        → NextClimb m n s root new fs h u turn before next
+    next_climb {n} {before} {next} e f =
+        let k = f climb_sides.0 climb_sides.1 climb_rejoined in let is : forked_height turn.left h (height w.other) ≡ before = sym (e ∙ before_is) in record {
+          rest = w.rest;
+          z = k.0;
+          climbs = subst (λ j. Climbs n s root (Some next) new w.rest (Some turn.node) j k.0) is (climbs_on climb_sides.2 k.1);
+          level = λ j d. level_on climb_sides.2 k.1 j (subst (λ b. IsLevel (height k.0) b j (risen w.rest b)) (sym is) d);
+          climbed = climbed_on climb_sides.2 k.1;
+        }
+
   -- the last change
-  pub hung : (m n : Pooled T) (s : ℕ) (root : Option Ref) (next : Ref) (items new : List (Option Turn)) (fs : List Frame) (at : Option Ref) (u : Shape)
-      → Climbs m s root (Some next) items fs at (height u) u → (turn : Turn) → IsTurned fs new turn
-      → (y : Link) → y ≡ link_of m turn.node.name s → n ≡ with_link m turn.node.name s (rehung turn.left (Some next) y)
+  pub hung : {m n : Pooled T} {s : ℕ} {root : Option Ref} {next : Ref} {items new : List (Option Turn)} {fs : List Frame} {at : Option Ref} {u : Shape}
+      {turn : Turn} {y : Link} → Climbs m s root (Some next) items fs at (height u) u → IsTurned fs new turn → y ≡ link_of m turn.node.name s
+      → n ≡ with_link m turn.node.name s (rehung turn.left (Some next) y)
       → HasClimbed m n s (plug fs u) root (plug fs u)
-  hung m n s root next items new fs at u c turn w y i set =
+  hung {m} {n} {s} {root} {next} {items} {new} {fs} {at} {u} {turn} {y} c w i set =
       let r = turn.node in let b = turn.left in let q = w.other in let h = height u in let t = forked b u r q in
       let above : Above m s (frame turn q ∷ w.rest) at (size u) h = subst (λ k. Above m s k at (size u) h) w.was c.above in
       let apart = subst (λ k. IsApart (nodes (plug k u))) w.was c.apart in
@@ -471,17 +508,17 @@ leaf_put : (R : Ref → Ref → Ordering) (x : Ref) → IsPutIn (R x) x [] (node
 leaf_put R x = record { xs = []; ys = []; was = refl; now = refl; below = tt; above = tt }
 
 module _ {T : Type 0} where
-  pub falls_start : (m : Pooled T) (s : ℕ) (R : Ref → Ref → Ordering) (tag : T → ℕ) (at : Option Ref) (x : Ref) (t : Shape)
+  pub falls_start : {m : Pooled T} {s : ℕ} {R : Ref → Ref → Ordering} {tag : T → ℕ} {at : Option Ref} {x : Ref} {t : Shape}
       → CanPut m s R at x t → AreTagged tag m s (x ∷ nodes t) → Falls m s R tag [] at x [] t
-  falls_start m s R tag at x t c g = let f = c.fits in let low = low_enough t c.even (omega arith) in
+  falls_start {t = t} c g = let f = c.fits in let low = low_enough t c.even (omega arith) in
       record { path_is = refl; can = c; tagged = g; above = tt; beside = tt; apart = c.apart; places = λ u p. p; room = omega arith }
 
   -- the end of the way down
-  pub fallen_none : (m : Pooled T) (s : ℕ) (R : Ref → Ref → Ordering) (tag : T → ℕ)
-      (items : List (Option Turn)) (at : Option Ref) (x : Ref) (fs : List Frame) (t : Shape)
+  pub fallen_none : {m : Pooled T} {s : ℕ} {R : Ref → Ref → Ordering} {tag : T → ℕ}
+      {items : List (Option Turn)} {at : Option Ref} {x : Ref} {fs : List Frame} {t : Shape}
       → Falls m s R tag items at x fs t → at ≡ None
       → HasFallen m m s R items x (plug fs t) fs
-  fallen_none m s R tag items at x fs t h e =
+  fallen_none {m} {s} {R} {tag} {items} {at} {x} {fs} {t} h e =
       let tip = tip_is m s t (moved m m s at None t refl e h.can.rooted) in record {
         path_is = h.path_is;
         whole_is = ap (plug fs) (sym tip);
@@ -493,8 +530,18 @@ module _ {T : Type 0} where
         tags = λ k. refl;
       }
 
-  module _ (order : T → T → Ordering) (total : IsTotalOrder order) (tag : T → ℕ) (m n : Pooled T) (s : ℕ)
-      (items : List (Option Turn)) (at : Option Ref) (here x : Ref) (y : Link) (fs : List Frame) (t : Shape)
+  -- a step down: where the way goes on, and what its end says of the whole
+  pub record NextFall (m n : Pooled T) (s : ℕ) (order : T → T → Ordering) (tag : T → ℕ) (new : List (Option Turn))
+      (at next : Option Ref) (x : Ref) (fs : List Frame) (t : Shape) : Type 0 where
+    pub gs : List Frame
+    pub sub : Shape
+    pub falls : Falls n s (side order n s) tag new next x gs sub
+    pub lower : height_at n s next < height_at m s at
+    pub fallen : (v : Pooled T) (last : List (Option Turn)) (ks : List Frame)
+        → HasFallen n v s (side order n s) last x (plug gs sub) ks → HasFallen m v s (side order m s) last x (plug fs t) ks
+
+  module _ {order : T → T → Ordering} (total : IsTotalOrder order) {tag : T → ℕ} {m n : Pooled T} {s : ℕ}
+      {items : List (Option Turn)} {at : Option Ref} {here x : Ref} {y : Link} {fs : List Frame} {t : Shape}
       (h : Falls m s (side order m s) tag items at x fs t) (e : at ≡ Some here)
       (i : y ≡ link_of m here.name s) (set : n ≡ with_link m here.name s (grown_link y)) where
     abbrev R : Ref → Ref → Ordering
@@ -545,7 +592,7 @@ module _ {T : Type 0} where
     abbrev turn : Bool → Turn
     turn b = record { node = here; left = b }
 
-    pub record Stepped (b : Bool) : Type 0 where
+    record Stepped (b : Bool) : Type 0 where
       pub sub : Shape
       pub other : Shape
       pub is : t ≡ forked b sub here other
@@ -632,7 +679,7 @@ module _ {T : Type 0} where
     stepped_by true f = stepped_left (less_is (R x here) (sym f))
     stepped_by false f = stepped_right (more_is (R x here) (sym f) o.differs_root)
 
-    pub stepped : (k : Ordering) (b : Bool) → R x here ≡ k → b ≡ is_lt k → Stepped b
+    stepped : (k : Ordering) (b : Bool) → R x here ≡ k → b ≡ is_lt k → Stepped b
     stepped k b f g = stepped_by b (g ∙ ap is_lt (sym f))
 
     pub same_tag : (link_of n x.name s).tag ≡ (link_of m x.name s).tag
@@ -644,7 +691,7 @@ module _ {T : Type 0} where
     pub room_here : length items < 45
     room_here = let a = h.room in let b = ap length h.path_is in let c = path_length fs in let d = ap height o.is in omega arith
 
-    pub fallen_on : (b : Bool) (k : Stepped b) (v : Pooled T) (last : List (Option Turn)) (gs : List Frame)
+    fallen_on : (b : Bool) (k : Stepped b) (v : Pooled T) (last : List (Option Turn)) (gs : List Frame)
         → HasFallen n v s (side order n s) last x (plug (frame (turn b) k.other ∷ fs) k.sub) gs → HasFallen m v s R last x (plug fs t) gs
     fallen_on b k v last gs f =
         let whole : plug fs t ≡ plug fs (forked b k.sub here k.other) = ap (plug fs) k.is in record {
@@ -663,9 +710,20 @@ module _ {T : Type 0} where
           tags = λ j. f.tags j ∙ tags_here j;
         }
 
+    pub next_fall : {new : List (Option Turn)} {next : Option Ref} {k : Ordering} {b : Bool} → side order m s x here ≡ k → b ≡ is_lt k
+        → new ≡ items ++ Some (record { node = here; left = b }) ∷ [] → next ≡ cond b y.back y.forth → NextFall m n s order tag new at next x fs t
+    next_fall {new} {next} {k} {b} f g p q = let st = stepped k b f g in record {
+      gs = frame (turn b) st.other ∷ fs;
+      sub = st.sub;
+      falls = subst (λ (z : List (Option Turn) × Option Ref). Falls n s (side order n s) tag z.0 z.1 x (frame (turn b) st.other ∷ fs) st.sub)
+          (λ j. (sym p j, sym q j)) st.falls;
+      lower = subst (λ z. height_at n s z < height_at m s at) (sym q) st.lower;
+      fallen = fallen_on b st;
+    }
+
   -- from the way down to the way up, and the whole
-  module _ (m n : Pooled T) (s : ℕ) (R : Ref → Ref → Ordering) (items : List (Option Turn)) (at : Option Ref)
-      (x : Ref) (t : Shape) (c : CanPut m s R at x t) (gs : List Frame) (f : HasFallen m n s R items x t gs) where
+  module _ {m n : Pooled T} {s : ℕ} {R : Ref → Ref → Ordering} {items : List (Option Turn)} {at : Option Ref}
+      {x : Ref} {t : Shape} (c : CanPut m s R at x t) {gs : List Frame} (f : HasFallen m n s R items x t gs) where
     placed : IsPutIn (R x) x (nodes t) (nodes (plug gs (Fork Tip x Tip)))
     placed = f.places (Fork Tip x Tip) (leaf_put R x)
 
@@ -686,8 +744,8 @@ module _ {T : Type 0} where
           root_is = root_top at gs (c.rooted.root ∙ ap top (sym f.whole_is));
         }
 
-    pub has_put : (v : Pooled T) (root : Option Ref) (u : Shape) → HasClimbed n v s (plug gs (Fork Tip x Tip)) root u → HasPut m v s R x t root u
-    has_put v root u d = record {
+    pub has_put : {v : Pooled T} {root : Option Ref} {u : Shape} → HasClimbed n v s (plug gs (Fork Tip x Tip)) root u → HasPut m v s R x t root u
+    has_put {v} {u = u} d = record {
       rooted = d.rooted;
       even = d.even;
       placed = subst (IsPutIn (R x) x (nodes t)) (sym d.nodes_are) placed;

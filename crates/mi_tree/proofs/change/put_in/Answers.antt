@@ -1,32 +1,34 @@
-use Rattle.std.proofs.Common.{None, [], List, Option, sym, subst}
-use Rattle.mi_tree.specs.Shape.{Fork, Tip}
-use Rattle.mi_tree.specs.Sorted.{side}
+use Rattle.std.proofs.Common.{None, [], List, ◌∷◌, Option, sym, subst}
+use Rattle.mi_tree.specs.Shape.{Shape, Fork, Tip, nodes}
+use Rattle.mi_tree.specs.Sorted.{AreTagged, CanPut, side}
 use Rattle.mi_tree.specs.Ways.{Falls}
 use Rattle.mi_tree.specs.declared.way.Turn.{Turn}
 use Rattle.mi_tree.proofs.Ways.{falls_start, climbs_start, has_put}
+use Rattle.mi_tree.proofs.change.put_in.Given.{Over}
+use Rattle.mi_tree.proofs.change.put_in.Goals.{After-new-way}
 use Rattle.mi_tree.proofs.change.put_in.Goals as goal
+
+module _ (g : Over) (c : After-new-way g) where
+  -- the way down begins at the root
+  start : {t : Shape} → CanPut c.args.p.now c.args.slot (side (g.O.NodeOrder.order c.args.order.now) c.args.p.now c.args.slot) c.args.root c.args.node t
+      → AreTagged (g.O.NodeOrder.tag_of c.args.order.now) c.args.p.now c.args.slot (c.args.node ∷ nodes t)
+      → Falls c.args.p.now c.args.slot (side (g.O.NodeOrder.order c.args.order.now) c.args.p.now c.args.slot) (g.O.NodeOrder.tag_of c.args.order.now)
+      c.new-way.result.items c.args.root c.args.node [] t
+  start {t} h k = subst (λ (z : List (Option Turn)). Falls c.args.p.now c.args.slot (side (g.O.NodeOrder.order c.args.order.now) c.args.p.now c.args.slot)
+      (g.O.NodeOrder.tag_of c.args.order.now) z c.args.root c.args.node [] t) (sym c.new-way.ensures) (falls_start h k)
 
 pub go_in-requires-clause-way : goal.go_in-requires-clause-way
 go_in-requires-clause-way g c =
-    let v = c.args in let m = v.p.now in let s = v.slot in let R = side (g.O.NodeOrder.order v.order.now) m s in let tag = g.O.NodeOrder.tag_of v.order.now in
-    let w = c.requires.tree in (
-      [],
-      w.0,
-      subst (λ (k : List (Option Turn)). Falls m s R tag k v.root v.node [] w.0) (sym c.new-way.ensures) (falls_start m s R tag v.root v.node w.0 w.1 w.2),
-    )
+    let w = c.requires.tree in ([], w.0, start g (goal.at.go_in-requires-clause-way g c).After-new-way w.1 w.2)
 
 pub climb-requires-clause-way : goal.climb-requires-clause-way
 climb-requires-clause-way g c =
-    let v = c.args in let m = v.p.now in let s = v.slot in let R = side (g.O.NodeOrder.order v.order.now) m s in let tag = g.O.NodeOrder.tag_of v.order.now in
     let w = c.requires.tree in
-    let far = c.go_in.ensures.way [] w.0 (subst (λ (k : List (Option Turn)). Falls m s R tag k v.root v.node [] w.0)
-    (sym c.new-way.ensures) (falls_start m s R tag v.root v.node w.0 w.1 w.2)) in
-    (far.0, None, 0, Fork Tip v.node Tip, climbs_start m c.go_in.new.p s R c.go_in.new.way.items v.root v.node w.0 w.1 far.0 far.1)
+    let far = c.go_in.ensures.way [] w.0 (start g (goal.at.climb-requires-clause-way g c).After-new-way w.1 w.2) in
+    (far.0, None, 0, Fork Tip c.args.node Tip, climbs_start w.1 far.1)
 
 pub returns-clause-tree : goal.returns-clause-tree
 returns-clause-tree g c t h k =
-    let v = c.args in let m = v.p.now in let s = v.slot in let R = side (g.O.NodeOrder.order v.order.now) m s in let tag = g.O.NodeOrder.tag_of v.order.now in
-    let far = c.go_in.ensures.way [] t (subst (λ (z : List (Option Turn)). Falls m s R tag z v.root v.node [] t)
-    (sym c.new-way.ensures) (falls_start m s R tag v.root v.node t h k)) in
-    let all = c.climb.ensures.tree far.0 None 0 (Fork Tip v.node Tip) (climbs_start m c.go_in.new.p s R c.go_in.new.way.items v.root v.node t h far.0 far.1) in
-    (all.0, has_put m c.go_in.new.p s R c.go_in.new.way.items v.root v.node t h far.0 far.1 c.climb.new.p c.climb.result all.0 all.1)
+    let far = c.go_in.ensures.way [] t (start g (goal.at.returns-clause-tree g c).After-new-way h k) in
+    let all = c.climb.ensures.tree far.0 None 0 (Fork Tip c.args.node Tip) (climbs_start h far.1) in
+    (all.0, has_put h far.1 all.1)

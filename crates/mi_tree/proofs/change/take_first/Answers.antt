@@ -1,62 +1,53 @@
-use Rattle.std.proofs.Common.{[], ◌∷◌, List, Option, Some, refl, sym, ap, ◌∙◌, subst}
+use Rattle.std.proofs.Common.{◌≡◌, [], ◌∷◌, List, Option, Some, refl, sym, ap, ◌∙◌, subst}
 use Rattle.mi_node.specs.Pool.{link_of, IsHeld}
 use Rattle.mi_node.specs.Refs.{Ref}
-use Rattle.mi_tree.specs.Shape.{Fork, Tip, height}
-use Rattle.mi_tree.specs.Ways.{Sinks}
+use Rattle.mi_tree.specs.Shape.{Shape, Fork, Tip, nodes, height}
+use Rattle.mi_tree.specs.Sorted.{CanTake}
+use Rattle.mi_tree.specs.Ways.{Frame, Sinks, HasSunk}
 use Rattle.mi_tree.specs.declared.way.Turn.{Turn}
 use Rattle.mi_tree.proofs.Sinks.{some_first, sinks_start, held_here, alone_right, climbs_away, has_left}
+use Rattle.mi_tree.proofs.change.take_first.Given.{Over}
+use Rattle.mi_tree.proofs.change.take_first.Goals.{After-new-way, After-go_first-first}
 use Rattle.mi_tree.proofs.change.take_first.Goals as goal
+
+module _ (g : Over) (c : After-new-way g) {t : Shape} {x : Ref} {ys : List Ref} where
+  -- the way down begins at the root
+  start : CanTake c.args.p.now c.args.slot (Some c.args.root) t → nodes t ≡ x ∷ ys
+      → Sinks c.args.p.now c.args.slot c.new-way.result.items (Some c.args.root) [] t [] x ys [] ys
+  start h e = subst (λ (k : List (Option Turn)). Sinks c.args.p.now c.args.slot k (Some c.args.root) [] t [] x ys [] ys) (sym c.new-way.ensures)
+      (sinks_start h e)
+
+module _ (g : Over) (c : After-go_first-first g) {t : Shape} {x : Ref} {ys : List Ref} where
+  -- it ends at the first node
+  end : Sinks c.args.p.now c.args.slot c.new-way.result.items (Some c.args.root) [] t [] x ys [] ys
+      → (c.go_first-first.result ≡ x) × (gs : List Frame) × (B : Shape)
+      × HasSunk c.args.p.now c.go_first-first.new.p c.args.slot c.go_first-first.new.way.items [] x ys [] ys t gs Tip B
+  end at = c.go_first-first.ensures.way [] t x ys [] ys at
 
 pub go_first-first-requires-clause-way : goal.go_first-first-requires-clause-way
 go_first-first-requires-clause-way g c =
-    let v = c.args in let m = v.p.now in let s = v.slot in let w = c.requires.tree in let t = w.0 in let f = some_first m s v.root t w.1 in (
-      [],
-      t,
-      f.0,
-      f.1,
-      [],
-      f.1,
-      subst (λ (k : List (Option Turn)). Sinks m s k (Some v.root) [] t [] f.0 f.1 [] f.1)
-          (sym c.new-way.ensures) (sinks_start m s (Some v.root) t [] f.0 f.1 w.1 f.2),
-    )
+    let w = c.requires.tree in let f = some_first c.args.p.now c.args.slot c.args.root w.0 w.1 in
+    ([], w.0, f.0, f.1, [], f.1, start g (goal.at.go_first-first-requires-clause-way g c).After-new-way w.1 f.2)
 
 pub link-rest-requires-clause-held : goal.link-rest-requires-clause-held
 link-rest-requires-clause-held g c =
-    let v = c.args in let m = v.p.now in let s = v.slot in let w = c.requires.tree in let t = w.0 in let f = some_first m s v.root t w.1 in
-    let n = c.go_first-first.new.p in
-    let far = c.go_first-first.ensures.way [] t f.0 f.1 [] f.1
-    (subst (λ (k : List (Option Turn)). Sinks m s k (Some v.root) [] t [] f.0 f.1 [] f.1)
-    (sym c.new-way.ensures) (sinks_start m s (Some v.root) t [] f.0 f.1 w.1 f.2)) in
-    subst (IsHeld n) (sym far.0) (held_here m n s c.go_first-first.new.way.items (Some v.root) t [] f.0 f.1 far.1 Tip far.2 w.1 f.2 far.3 _ refl)
+    let at = goal.at.link-rest-requires-clause-held g c in let w = c.requires.tree in let f = some_first c.args.p.now c.args.slot c.args.root w.0 w.1 in
+    let far = end g at.After-go_first-first (start g at.After-new-way w.1 f.2) in
+    subst (IsHeld c.go_first-first.new.p) (sym far.0) (held_here w.1 f.2 far.3 refl)
 
 pub climb-requires-clause-way : goal.climb-requires-clause-way
 climb-requires-clause-way g c =
-    let v = c.args in let m = v.p.now in let s = v.slot in let w = c.requires.tree in
-    let t = w.0 in let f = some_first m s v.root t w.1 in let n = c.go_first-first.new.p in
-    let items = c.go_first-first.new.way.items in
-    let far = c.go_first-first.ensures.way [] t f.0 f.1 [] f.1
-    (subst (λ (k : List (Option Turn)). Sinks m s k (Some v.root) [] t [] f.0 f.1 [] f.1)
-    (sym c.new-way.ensures) (sinks_start m s (Some v.root) t [] f.0 f.1 w.1 f.2)) in
-    let y = c.link-rest.result in let i = c.link-rest.ensures ∙ ap (λ (z : Ref). link_of n z.name s) far.0 in
-    let alone = alone_right m n s items (Some v.root) t [] f.0 f.1 far.1 Tip far.2 w.1 f.2 far.3 y i refl in (
-      far.1,
-      Some f.0,
-      height (Fork Tip f.0 far.2),
-      far.2,
-      climbs_away m n s items (Some v.root) t [] f.0 f.1 far.1 Tip far.2 w.1 f.2 far.3 y i n y.forth far.2 alone _ refl,
-    )
+    let at = goal.at.climb-requires-clause-way g c in let h = c.requires.tree.1 in let f = some_first c.args.p.now c.args.slot c.args.root _ h in
+    let far = end g at.After-go_first-first (start g at.After-new-way h f.2) in
+    let i = c.link-rest.ensures ∙ ap (λ (z : Ref). link_of c.go_first-first.new.p z.name c.args.slot) far.0 in
+    (far.1, Some f.0, height (Fork Tip f.0 far.2), far.2, climbs_away h f.2 far.3 i (alone_right h f.2 far.3 i refl) refl)
 
 pub returns-clause-tree : goal.returns-clause-tree
 returns-clause-tree g c t h =
-    let v = c.args in let m = v.p.now in let s = v.slot in let f = some_first m s v.root t h in let n = c.go_first-first.new.p in
-    let items = c.go_first-first.new.way.items in
-    let far = c.go_first-first.ensures.way [] t f.0 f.1 [] f.1
-    (subst (λ (k : List (Option Turn)). Sinks m s k (Some v.root) [] t [] f.0 f.1 [] f.1)
-    (sym c.new-way.ensures) (sinks_start m s (Some v.root) t [] f.0 f.1 h f.2)) in
-    let y = c.link-rest.result in let i = c.link-rest.ensures ∙ ap (λ (z : Ref). link_of n z.name s) far.0 in
-    let alone = alone_right m n s items (Some v.root) t [] f.0 f.1 far.1 Tip far.2 h f.2 far.3 y i refl in
-    let up = climbs_away m n s items (Some v.root) t [] f.0 f.1 far.1 Tip far.2 h f.2 far.3 y i n y.forth far.2 alone _ refl in
+    let at = goal.at.returns-clause-tree g c in let f = some_first c.args.p.now c.args.slot c.args.root t h in
+    let far = end g at.After-go_first-first (start g at.After-new-way h f.2) in
+    let i = c.link-rest.ensures ∙ ap (λ (z : Ref). link_of c.go_first-first.new.p z.name c.args.slot) far.0 in
+    let alone = alone_right h f.2 far.3 i refl in let up = climbs_away h f.2 far.3 i alone refl in
     let all = c.climb.ensures.tree far.1 (Some f.0) _ far.2 up in
-    let left = has_left m n s items (Some v.root) t [] f.0 f.1 far.1 Tip far.2 h f.2 far.3 y i n y.forth far.2 alone
-    _ refl c.climb.new.p c.climb.result all.0 all.1 (c.climb.ensures.height far.1 (Some f.0) _ far.2 up) in
+    let left = has_left h f.2 far.3 i alone refl all.1 (c.climb.ensures.height far.1 (Some f.0) _ far.2 up) in
     (all.0, f.1, f.2 ∙ ap (λ (z : Ref). z ∷ f.1) (sym far.0), left)

@@ -1,4 +1,4 @@
-use Rattle.std.proofs.Common.{sym, ◌∙◌}
+use Rattle.std.proofs.Common.{◌∙◌}
 use Rattle.mi_node.proofs.Callers.{held_has}
 use Rattle.mi_tree.proofs.Compares.{by_key}
 use Rattle.mi_tree.proofs.compare.compare_nodes.Goals as goal

@@ -1,120 +1,72 @@
-use Rattle.std.proofs.Common.{ℕ, ◌<◌, Some, refl, sym, ap, ◌∙◌, subst}
-use Rattle.mi_node.specs.Pool.{Pooled, link_of, value_of, IsHeld}
+use Rattle.std.proofs.Common.{◌≡◌, sym, refl, ap, ◌∙◌, subst}
+use Rattle.mi_node.specs.Pool.{Pooled, link_of, IsHeld}
 use Rattle.mi_node.specs.declared.link.Link.{Link}
-use Rattle.mi_tree.specs.Shape.{height_at}
-use Rattle.mi_tree.specs.Sorted.{IsTagOf}
-use Rattle.mi_tree.specs.Probed.{past, place_at, is_past_node}
-use Rattle.mi_tree.proofs.Looks.{past_is, Seeking, seek_held, seek_tag, seek_lower, seek_left, seek_right, seek_end}
+use Rattle.mi_tree.specs.Probed.{is_past_node}
+use Rattle.mi_tree.proofs.Shapes.{lower-moved}
+use Rattle.mi_tree.proofs.Sorts.{tagged_read}
+use Rattle.mi_tree.proofs.Looks.{past_read, seek_held, seek_tag, seek_lower, seek_left, seek_right, seek_end}
+use Rattle.mi_tree.proofs.look.seek_in.Given.{Over}
+use Rattle.mi_tree.proofs.look.seek_in.Goals.{After-link-link, After-is_past}
 use Rattle.mi_tree.proofs.look.seek_in.Goals as goal
+
+module _ (g : Over) (c : After-link-link g) where
+  -- the pool that was read is as it was at the start
+  pool_is : c.link-link.new.self.pool ≡ c.args.p.now.pool
+  pool_is = c.link-link.ensures.pool ∙ c.loop-at.invariant.0
+
+  -- the link that was read is the node's
+  link_is : c.link-link.result ≡ link_of c.args.p.now.pool c.in-Some.node.name c.args.slot
+  link_is = c.link-link.ensures.link ∙ ap (λ (z : Pooled g.row.T.Denot). link_of z c.in-Some.node.name c.args.slot) c.loop-at.invariant.0
+
+module _ (g : Over) (c : After-is_past g) where
+  -- the answer is that of the node
+  answer_is : is_past_node c.args.strict (λ (x : g.row.T.Denot). g.O.NodeOrder.place c.args.order.now x c.args.probe) c.args.p.now.pool c.in-Some.node
+      ≡ c.is_past.result
+  answer_is = past_read c.args.strict (λ (x : g.row.T.Denot). g.O.NodeOrder.place c.args.order.now x c.args.probe) c.in-Some.node
+      (c.link-link.ensures.pool ∙ c.loop-at.invariant.0) (seek_held c.loop-at.invariant.1 c.in-Some.is refl) c.compare_probe-side.ensures.result
+      c.is_past.ensures
 
 pub link-link-requires-clause-held : goal.link-link-requires-clause-held
 link-link-requires-clause-held g c =
-    let v = c.args in let m = v.p.now.pool in let s = v.slot in let r = c.in-Some.node in let same = c.loop-at.invariant.0 in let h = c.loop-at.invariant.1 in
-    let at = c.loop-at.at in
-    let tag = g.O.NodeOrder.tag_of v.order.now in
-    let place = λ (x : g.row.T.Denot). g.O.NodeOrder.place v.order.now x v.probe in
-    let f = is_past_node v.strict place m in
-    subst (λ (z : Pooled g.row.T.Denot). IsHeld z r) (sym same)
-    (seek_held m s tag f v.root at r _ c.loop-at.found v.p.now.reads c.loop-at.p.reads v.steps.now.count c.loop-at.steps.count h c.in-Some.is refl)
+    subst (λ (z : Pooled g.row.T.Denot). IsHeld z c.in-Some.node) (sym c.loop-at.invariant.0) (seek_held c.loop-at.invariant.1 c.in-Some.is refl)
 
 pub compare_probe-side-requires-clause-node : goal.compare_probe-side-requires-clause-node
 compare_probe-side-requires-clause-node g c =
-    let v = c.args in let m = v.p.now.pool in let s = v.slot in let r = c.in-Some.node in let same = c.loop-at.invariant.0 in let h = c.loop-at.invariant.1 in
-    let at = c.loop-at.at in
-    let tag = g.O.NodeOrder.tag_of v.order.now in
-    let place = λ (x : g.row.T.Denot). g.O.NodeOrder.place v.order.now x v.probe in
-    let f = is_past_node v.strict place m in
-    let y = c.link-link.result in
-    let i = c.link-link.ensures.link ∙ ap (λ (z : Pooled g.row.T.Denot). link_of z r.name s) same in
-    let read = c.link-link.ensures.pool ∙ same in
-    subst (λ (z : Pooled g.row.T.Denot). IsHeld z r × IsTagOf tag (value_of z r.name) y.tag.key) (sym read) (
-      seek_held m s tag f v.root at r y c.loop-at.found v.p.now.reads c.loop-at.p.reads v.steps.now.count c.loop-at.steps.count h c.in-Some.is i,
-      subst (λ (k : Link). IsTagOf tag (value_of m r.name) k.tag.key) (sym i)
-          (seek_tag m s tag f v.root at r y c.loop-at.found v.p.now.reads c.loop-at.p.reads v.steps.now.count c.loop-at.steps.count h c.in-Some.is i),
-    )
+    let o = (goal.at.compare_probe-side-requires-clause-node g c).After-link-link in let h = c.loop-at.invariant.1 in
+    tagged_read (g.O.NodeOrder.tag_of c.args.order.now) c.args.slot c.in-Some.node (pool_is g o) (ap (λ (k : Link). k.tag) (link_is g o))
+    (seek_held h c.in-Some.is (link_is g o)) (seek_tag h c.in-Some.is (link_is g o))
 
 pub loop-at-smaller-then-is_past : goal.loop-at-smaller-then-is_past
 loop-at-smaller-then-is_past g c =
-    let v = c.args in let m = v.p.now.pool in let s = v.slot in let r = c.in-Some.node in let same = c.loop-at.invariant.0 in let h = c.loop-at.invariant.1 in
-    let at = c.loop-at.at in
-    let tag = g.O.NodeOrder.tag_of v.order.now in
-    let place = λ (x : g.row.T.Denot). g.O.NodeOrder.place v.order.now x v.probe in
-    let f = is_past_node v.strict place m in
-    let y = c.link-link.result in
-    let i = c.link-link.ensures.link ∙ ap (λ (z : Pooled g.row.T.Denot). link_of z r.name s) same in
-    let read = c.link-link.ensures.pool ∙ same in
-    subst (λ (z : Pooled g.row.T.Denot × Pooled g.row.T.Denot). height_at z.0 s y.back < height_at z.1 s at) (λ t. (sym read t, sym same t))
-    (seek_lower m s tag f v.root at r y c.loop-at.found v.p.now.reads c.loop-at.p.reads v.steps.now.count c.loop-at.steps.count h c.in-Some.is i).0
+    let o = (goal.at.loop-at-smaller-then-is_past g c).After-link-link in
+    lower-moved _ _ _ _ _ (pool_is g o) c.loop-at.invariant.0 (seek_lower c.loop-at.invariant.1 c.in-Some.is (link_is g o)).0
 
 pub loop-at-preserved-then-is_past : goal.loop-at-preserved-then-is_past
 loop-at-preserved-then-is_past g c =
-    let v = c.args in let m = v.p.now.pool in let s = v.slot in let r = c.in-Some.node in let same = c.loop-at.invariant.0 in let h = c.loop-at.invariant.1 in
-    let at = c.loop-at.at in
-    let tag = g.O.NodeOrder.tag_of v.order.now in
-    let place = λ (x : g.row.T.Denot). g.O.NodeOrder.place v.order.now x v.probe in
-    let f = is_past_node v.strict place m in
-    let y = c.link-link.result in
-    let i = c.link-link.ensures.link ∙ ap (λ (z : Pooled g.row.T.Denot). link_of z r.name s) same in
-    let read = c.link-link.ensures.pool ∙ same in
-    let past_at = past_is v.strict place m r (seek_held m s tag f v.root at r y c.loop-at.found
-    v.p.now.reads c.loop-at.p.reads v.steps.now.count c.loop-at.steps.count h c.in-Some.is i)
-    ∙ ap (λ (z : Pooled g.row.T.Denot). past v.strict (place_at place (value_of z r.name))) (sym read)
-    ∙ ap (past v.strict) (sym c.compare_probe-side.ensures.result) ∙ sym c.is_past.ensures in (
-      read,
-      subst (λ (z : ℕ × ℕ). Seeking m s tag f v.root y.back (Some r) v.p.now.reads z.0 v.steps.now.count z.1)
-          (λ t. (sym c.link-link.ensures.reads t, sym c.compare_probe-side.ensures.steps t))
-          (seek_left m s tag f v.root at r y c.loop-at.found v.p.now.reads c.loop-at.p.reads v.steps.now.count
-          c.loop-at.steps.count h c.in-Some.is i (past_at ∙ c.if-is_past.true)),
+    let o = goal.at.loop-at-preserved-then-is_past g c in (
+      pool_is g o.After-link-link,
+      seek_left c.loop-at.invariant.1 c.in-Some.is (link_is g o.After-link-link) c.link-link.ensures.reads
+          c.compare_probe-side.ensures.steps (answer_is g o.After-is_past ∙ c.if-is_past.true),
     )
 
 pub loop-at-smaller : goal.loop-at-smaller
 loop-at-smaller g c =
-    let v = c.args in let m = v.p.now.pool in let s = v.slot in let r = c.in-Some.node in let same = c.loop-at.invariant.0 in let h = c.loop-at.invariant.1 in
-    let at = c.loop-at.at in
-    let tag = g.O.NodeOrder.tag_of v.order.now in
-    let place = λ (x : g.row.T.Denot). g.O.NodeOrder.place v.order.now x v.probe in
-    let f = is_past_node v.strict place m in
-    let y = c.link-link.result in
-    let i = c.link-link.ensures.link ∙ ap (λ (z : Pooled g.row.T.Denot). link_of z r.name s) same in
-    let read = c.link-link.ensures.pool ∙ same in
-    subst (λ (z : Pooled g.row.T.Denot × Pooled g.row.T.Denot). height_at z.0 s y.forth < height_at z.1 s at) (λ t. (sym read t, sym same t))
-    (seek_lower m s tag f v.root at r y c.loop-at.found v.p.now.reads c.loop-at.p.reads v.steps.now.count c.loop-at.steps.count h c.in-Some.is i).1
+    let o = (goal.at.loop-at-smaller g c).After-link-link in
+    lower-moved _ _ _ _ _ (pool_is g o) c.loop-at.invariant.0 (seek_lower c.loop-at.invariant.1 c.in-Some.is (link_is g o)).1
 
 pub loop-at-preserved : goal.loop-at-preserved
 loop-at-preserved g c =
-    let v = c.args in let m = v.p.now.pool in let s = v.slot in let r = c.in-Some.node in let same = c.loop-at.invariant.0 in let h = c.loop-at.invariant.1 in
-    let at = c.loop-at.at in
-    let tag = g.O.NodeOrder.tag_of v.order.now in
-    let place = λ (x : g.row.T.Denot). g.O.NodeOrder.place v.order.now x v.probe in
-    let f = is_past_node v.strict place m in
-    let y = c.link-link.result in
-    let i = c.link-link.ensures.link ∙ ap (λ (z : Pooled g.row.T.Denot). link_of z r.name s) same in
-    let read = c.link-link.ensures.pool ∙ same in
-    let past_at = past_is v.strict place m r (seek_held m s tag f v.root at r y c.loop-at.found
-    v.p.now.reads c.loop-at.p.reads v.steps.now.count c.loop-at.steps.count h c.in-Some.is i)
-    ∙ ap (λ (z : Pooled g.row.T.Denot). past v.strict (place_at place (value_of z r.name))) (sym read)
-    ∙ ap (past v.strict) (sym c.compare_probe-side.ensures.result) ∙ sym c.is_past.ensures in (
-      read,
-      subst (λ (z : ℕ × ℕ). Seeking m s tag f v.root y.forth c.loop-at.found v.p.now.reads z.0 v.steps.now.count z.1)
-          (λ t. (sym c.link-link.ensures.reads t, sym c.compare_probe-side.ensures.steps t))
-          (seek_right m s tag f v.root at r y c.loop-at.found v.p.now.reads c.loop-at.p.reads v.steps.now.count
-          c.loop-at.steps.count h c.in-Some.is i (past_at ∙ c.if-is_past.false)),
+    let o = goal.at.loop-at-preserved g c in (
+      pool_is g o.After-link-link,
+      seek_right c.loop-at.invariant.1 c.in-Some.is (link_is g o.After-link-link) c.link-link.ensures.reads
+          c.compare_probe-side.ensures.steps (answer_is g o.After-is_past ∙ c.if-is_past.false),
     )
 
 pub returns-clause-node : goal.returns-clause-node
-returns-clause-node g c t w =
-    let v = c.args in let m = v.p.now.pool in let place = λ (x : g.row.T.Denot). g.O.NodeOrder.place v.order.now x v.probe in
-    (seek_end m v.slot (g.O.NodeOrder.tag_of v.order.now) (is_past_node v.strict place m) v.root c.loop-at.at c.loop-at.found
-    v.p.now.reads c.loop-at.p.reads v.steps.now.count c.loop-at.steps.count c.loop-at.invariant.1 c.in_default.is t w).0
+returns-clause-node g c t w = (seek_end c.loop-at.invariant.1 c.in_default.is t w).0
 
 pub returns-clause-reads : goal.returns-clause-reads
-returns-clause-reads g c t w =
-    let v = c.args in let m = v.p.now.pool in let place = λ (x : g.row.T.Denot). g.O.NodeOrder.place v.order.now x v.probe in
-    (seek_end m v.slot (g.O.NodeOrder.tag_of v.order.now) (is_past_node v.strict place m) v.root c.loop-at.at c.loop-at.found
-    v.p.now.reads c.loop-at.p.reads v.steps.now.count c.loop-at.steps.count c.loop-at.invariant.1 c.in_default.is t w).1
+returns-clause-reads g c t w = (seek_end c.loop-at.invariant.1 c.in_default.is t w).1
 
 pub returns-clause-steps : goal.returns-clause-steps
-returns-clause-steps g c t w =
-    let v = c.args in let m = v.p.now.pool in let place = λ (x : g.row.T.Denot). g.O.NodeOrder.place v.order.now x v.probe in
-    (seek_end m v.slot (g.O.NodeOrder.tag_of v.order.now) (is_past_node v.strict place m) v.root c.loop-at.at c.loop-at.found
-    v.p.now.reads c.loop-at.p.reads v.steps.now.count c.loop-at.steps.count c.loop-at.invariant.1 c.in_default.is t w).2
+returns-clause-steps g c t w = (seek_end c.loop-at.invariant.1 c.in_default.is t w).2

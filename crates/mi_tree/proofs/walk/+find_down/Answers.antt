@@ -1,16 +1,50 @@
-use Rattle.std.proofs.Common.{◌≡◌, ℕ, ◌<◌, cond, not, List, [], ◌∷◌, ◌++◌, Option, Some, None, refl, sym, ap, ◌∙◌, subst, arith}
-use Rattle.mi_node.specs.Pool.{Pooled, link_of, value_of, IsHeld}
-use Rattle.mi_node.specs.Refs.{Ref}
+use Rattle.std.proofs.Common.{◌≡◌, ℕ, ◌<◌, cond, not, [], ◌∷◌, ◌++◌, length, None, Some, refl, sym, ap, ◌∙◌, subst, arith}
+use Rattle.mi_node.specs.Pool.{Pooled, link_of}
 use Rattle.mi_node.specs.declared.link.Link.{Link}
-use Rattle.mi_node.specs.declared.link.Tag.{Tag}
-use Rattle.mi_tree.specs.Shape.{Shape, nodes, height_at}
-use Rattle.mi_tree.specs.Sorted.{IsTagOf, AreTagged, compared, by_stamp, stamped, side, Rising, CanTake}
-use Rattle.mi_tree.specs.Walking.{Pending, Enters, Goes}
-use Rattle.mi_tree.proofs.Shapes.{moved, tip_is}
-use Rattle.mi_tree.proofs.Sorts.{side_order, side_is, where_is, go_left, go_here, go_right, rising_left, rising_right, tagged_left, tagged_right, none_here}
-use Rattle.mi_tree.proofs.Takes.{held_in, side_take}
-use Rattle.mi_tree.proofs.Walks.{entered, farther, pend_left, pend_right, enters_left, enters_right, enters_lower, from_left, from_right, from_here}
+use Rattle.mi_tree.specs.Shape.{nodes}
+use Rattle.mi_tree.specs.Sorted.{AreTagged, side}
+use Rattle.mi_tree.specs.Walking.{is_ascending}
+use Rattle.mi_tree.proofs.Shapes.{moved, tip_is, slot-moved}
+use Rattle.mi_tree.proofs.Sorts.{side_read, tagged_read, tagged_right, none_here}
+use Rattle.mi_tree.proofs.Takes.{held_in}
+use Rattle.mi_tree.proofs.Walks.{entered, enters_lower}
+use Rattle.mi_tree.proofs.Finds.{Finding, finding, find_left, find_right, find_here, found_left, found_right, find_tags, way_of}
+use Rattle.mi_tree.proofs.walk.+find_down.Given.{Over}
+use Rattle.mi_tree.proofs.walk.+find_down.Goals.{In-Some, After-link-link, After-compare_nodes, After-push_if, After-push_if-in-Greater}
 use Rattle.mi_tree.proofs.walk.+find_down.Goals as goal
+
+module _ (g : Over) (t : ℕ) (c : In-Some g t) where
+  -- the tree that is gone down, as the walk found it
+  abbrev sought : Finding c.args.p.now.pool c.args.slot (g.O.NodeOrder.order c.args.order.now) c.args.direction c.requires.way.0 c.args.path.now.items
+      c.args.at c.requires.way.1 c.requires.way.2 c.args.node c.requires.way.3 c.requires.way.4
+  sought = let w = c.requires.way in record { enters = w.5; can = w.6; rising = w.7; is = w.9 }
+
+  -- there is room on the path for one more node
+  room : length c.args.path.now.items < 45
+  room = (entered c.requires.way.5 c.in-Some.is refl).room
+
+module _ (g : Over) (t : ℕ) (c : After-link-link g t) where
+  -- the tag of the node that is sought, in the pool that was read
+  tag_kept : c.args.tag ≡ (link_of c.link-link.new.self.pool c.args.node.name c.args.slot).tag
+  tag_kept = c.requires.tag ∙ ap (λ (z : Pooled g.row.T.Denot). (link_of z c.args.node.name c.args.slot).tag) (sym c.link-link.ensures.pool)
+
+module _ (g : Over) (t : ℕ) (c : After-compare_nodes g t) where
+  -- the side that was found is the one where the node that is sought stands
+  side_found : side (g.O.NodeOrder.order c.args.order.now) c.args.p.now.pool c.args.slot c.args.node c.in-Some.root ≡ c.compare_nodes.result
+  side_found = side_read (g.O.NodeOrder.order c.args.order.now) c.args.slot c.args.node c.in-Some.root c.link-link.ensures.pool c.requires.tag
+      (ap (λ (z : Link). z.tag) c.link-link.ensures.link) c.compare_nodes.ensures.result
+
+module _ (g : Over) (t : ℕ) (c : After-push_if g t) where
+  -- on the way to the left: the path, which has the node if the walk comes to it later
+  pushed_left : c.push_if.new.path.items ≡ cond (is_ascending c.args.direction) (c.args.path.now.items ++ Some c.in-Some.root ∷ []) c.args.path.now.items
+  pushed_left = c.push_if.ensures ∙ ap (λ z. cond z (c.args.path.now.items ++ Some c.in-Some.root ∷ []) c.args.path.now.items) c.is_ascending.ensures
+
+module _ (g : Over) (t : ℕ) (c : After-push_if-in-Greater g t) where
+  -- the same on the way to the right
+  pushed_right : c.push_if-in-Greater.new.path.items
+      ≡ cond (not (is_ascending c.args.direction)) (c.args.path.now.items ++ Some c.in-Some.root ∷ []) c.args.path.now.items
+  pushed_right = c.push_if-in-Greater.ensures
+      ∙ ap (λ z. cond (not z) (c.args.path.now.items ++ Some c.in-Some.root ∷ []) c.args.path.now.items) c.is_ascending-in-Greater.ensures
 
 pub unreachable-requires : goal.unreachable-requires
 unreachable-requires g t c =
@@ -20,209 +54,63 @@ unreachable-requires g t c =
 
 pub compare_nodes-requires-clause-left : goal.compare_nodes-requires-clause-left
 compare_nodes-requires-clause-left g t c =
-    let v = c.args in let m = v.p.now.pool in let s = v.slot in let d = v.direction in
-    let items = v.path.now.items in let r = c.in-Some.root in let y = c.link-link.result in
-    let read = c.link-link.ensures.pool in
-    let ord = g.O.NodeOrder.order v.order.now in let tag = g.O.NodeOrder.tag_of v.order.now in let R = side ord m s in
-    let order = side_order ord m s (g.met.O.NodeOrder.total v.order.now) in
-    let w = c.requires.way in
-    let held = held_in m s w.2 w.3 v.node w.4 w.9 w.6.rooted.stands in
-    let tags = (tagged_right tag m s w.3 (v.node ∷ w.4) (subst (AreTagged tag m s) w.9 w.8)).0 in
-    subst (λ (z : Pooled g.row.T.Denot). IsHeld z v.node × IsTagOf tag (value_of z v.node.name) v.tag.key)
-    (sym read) (held, subst (λ (k : Tag). IsTagOf tag (value_of m v.node.name) k.key) (sym c.requires.tag) tags)
+    let v = c.args in let m = v.p.now.pool in let s = v.slot in let w = c.requires.way in let tag = g.O.NodeOrder.tag_of v.order.now in
+    tagged_read tag s v.node c.link-link.ensures.pool c.requires.tag (held_in m s w.2 w.3 v.node w.4 w.9 w.6.rooted.stands)
+    (tagged_right tag m s w.3 (v.node ∷ w.4) (subst (AreTagged tag m s) w.9 w.8)).0
 
 pub compare_nodes-requires-clause-right : goal.compare_nodes-requires-clause-right
 compare_nodes-requires-clause-right g t c =
-    let v = c.args in let m = v.p.now.pool in let s = v.slot in let d = v.direction in
-    let items = v.path.now.items in let r = c.in-Some.root in let y = c.link-link.result in
-    let read = c.link-link.ensures.pool in
-    let ord = g.O.NodeOrder.order v.order.now in let tag = g.O.NodeOrder.tag_of v.order.now in let R = side ord m s in
-    let order = side_order ord m s (g.met.O.NodeOrder.total v.order.now) in
-    let w = c.requires.way in
-    let o = entered m s d w.0 items v.at r y w.1 w.2 w.5 c.in-Some.is c.link-link.ensures.link in let rising = subst (Rising R) (ap nodes o.is) w.7 in
-    let tags = (tagged_right tag m s (nodes o.left) (r ∷ nodes o.right) (subst (AreTagged tag m s) (ap nodes o.is) w.8)).0 in
-    subst (λ (z : Pooled g.row.T.Denot). IsHeld z r × IsTagOf tag (value_of z r.name) y.tag.key) (sym read)
-    (o.held, subst (λ (k : Link). IsTagOf tag (value_of m r.name) k.tag.key) (sym c.link-link.ensures.link) tags)
+    let o = sought g t (goal.at.compare_nodes-requires-clause-right g t c).In-Some in let i = c.link-link.ensures.link in
+    let tag = g.O.NodeOrder.tag_of c.args.order.now in
+    tagged_read tag c.args.slot c.in-Some.root c.link-link.ensures.pool (ap (λ (z : Link). z.tag) i) (entered o.enters c.in-Some.is i).held
+    (find_tags (g.met.O.NodeOrder.total c.args.order.now) o c.in-Some.is i c.link-link.ensures.pool tag c.requires.way.8).1
 
 pub push_if-requires : goal.push_if-requires
-push_if-requires g t c =
-    let v = c.args in let m = v.p.now.pool in let s = v.slot in let d = v.direction in
-    let items = v.path.now.items in let r = c.in-Some.root in let y = c.link-link.result in
-    let read = c.link-link.ensures.pool in
-    let ord = g.O.NodeOrder.order v.order.now in let tag = g.O.NodeOrder.tag_of v.order.now in let R = side ord m s in
-    let order = side_order ord m s (g.met.O.NodeOrder.total v.order.now) in
-    let w = c.requires.way in
-    let o = entered m s d w.0 items v.at r y w.1 w.2 w.5 c.in-Some.is c.link-link.ensures.link in let rising = subst (Rising R) (ap nodes o.is) w.7 in o.room
+push_if-requires g t c = room g t (goal.at.push_if-requires g t c).In-Some
 
 pub push_if-requires-in-Equal : goal.push_if-requires-in-Equal
-push_if-requires-in-Equal g t c =
-    let v = c.args in let m = v.p.now.pool in let s = v.slot in let d = v.direction in
-    let items = v.path.now.items in let r = c.in-Some.root in let y = c.link-link.result in
-    let read = c.link-link.ensures.pool in
-    let ord = g.O.NodeOrder.order v.order.now in let tag = g.O.NodeOrder.tag_of v.order.now in let R = side ord m s in
-    let order = side_order ord m s (g.met.O.NodeOrder.total v.order.now) in
-    let w = c.requires.way in
-    let o = entered m s d w.0 items v.at r y w.1 w.2 w.5 c.in-Some.is c.link-link.ensures.link in let rising = subst (Rising R) (ap nodes o.is) w.7 in o.room
+push_if-requires-in-Equal g t c = room g t (goal.at.push_if-requires-in-Equal g t c).In-Some
 
 pub push_if-requires-in-Greater : goal.push_if-requires-in-Greater
-push_if-requires-in-Greater g t c =
-    let v = c.args in let m = v.p.now.pool in let s = v.slot in let d = v.direction in
-    let items = v.path.now.items in let r = c.in-Some.root in let y = c.link-link.result in
-    let read = c.link-link.ensures.pool in
-    let ord = g.O.NodeOrder.order v.order.now in let tag = g.O.NodeOrder.tag_of v.order.now in let R = side ord m s in
-    let order = side_order ord m s (g.met.O.NodeOrder.total v.order.now) in
-    let w = c.requires.way in
-    let o = entered m s d w.0 items v.at r y w.1 w.2 w.5 c.in-Some.is c.link-link.ensures.link in let rising = subst (Rising R) (ap nodes o.is) w.7 in o.room
+push_if-requires-in-Greater g t c = room g t (goal.at.push_if-requires-in-Greater g t c).In-Some
 
 pub find_down-requires : goal.find_down-requires
 find_down-requires g t c κs within =
-    let v = c.args in let m = v.p.now.pool in let s = v.slot in let d = v.direction in
-    let items = v.path.now.items in let r = c.in-Some.root in let y = c.link-link.result in
-    let read = c.link-link.ensures.pool in
-    let ord = g.O.NodeOrder.order v.order.now in let tag = g.O.NodeOrder.tag_of v.order.now in let R = side ord m s in
-    let order = side_order ord m s (g.met.O.NodeOrder.total v.order.now) in
-    let w = c.requires.way in
-    let o = entered m s d w.0 items v.at r y w.1 w.2 w.5 c.in-Some.is c.link-link.ensures.link in let rising = subst (Rising R) (ap nodes o.is) w.7 in
-    let is = side_is ord m s v.node r v.tag y.tag c.requires.tag (ap (λ (z : Link). z.tag) c.link-link.ensures.link)
-    ∙ ap (λ (z : Pooled g.row.T.Denot). compared (by_stamp ord) (stamped (value_of z v.node.name) v.tag.stamp) (stamped (value_of z r.name) y.tag.stamp))
-    (sym read)
-    ∙ sym c.compare_nodes.ensures.result in
-    let on = go_left R order (nodes o.left) r (nodes o.right) w.3 v.node w.4 rising (is ∙ c.in-Less.is)
-    (where_is (nodes o.left) r (nodes o.right) w.3 v.node w.4 (sym (ap nodes o.is) ∙ w.9)) in
-    let in_side = enters_left m s w.0 items c.push_if.new.path.items r y w.1 w.2 d o
-    (c.push_if.ensures ∙ ap (λ z. cond z (items ++ Some r ∷ []) items) c.is_ascending.ensures) in
-    let tags = subst (AreTagged tag m s) (ap nodes o.is) w.8 in
-    let all = subst (λ (z : Pooled g.row.T.Denot). Enters z s d w.0 c.push_if.new.path.items y.back (pend_left d r o.right w.1) o.left
-    × CanTake z s y.back o.left × Rising (side ord z s) (nodes o.left) × AreTagged tag z s (nodes o.left))
-    (sym read) (
-      in_side,
-      (side_take m s v.at r y w.2 w.6 c.in-Some.is c.link-link.ensures.link o.left o.right o.is).0,
-      rising_left R (nodes o.left) (r ∷ nodes o.right) rising,
-      tagged_left tag m s (nodes o.left) (r ∷ nodes o.right) tags,
-    ) in
-    let way : (levels : ℕ) × (xs : List Pending) × (k : Shape) × (vs : List Ref) × (ws : List Ref)
-    × Enters c.link-link.new.self.pool s d levels c.push_if.new.path.items y.back xs k × CanTake c.link-link.new.self.pool s y.back k
-    × Rising (side ord c.link-link.new.self.pool s) (nodes k) × AreTagged tag c.link-link.new.self.pool s (nodes k)
-    × (nodes k ≡ vs ++ v.node ∷ ws) = (w.0, (pend_left d r o.right w.1), o.left, w.3, on.0, all.0, all.1, all.2, all.3, on.1) in
-    let falls : height_at c.link-link.new.self.pool s y.back < height_at m s v.at =
-    subst (λ (z : Pooled g.row.T.Denot × Option Ref). height_at z.0 s y.back < height_at m s z.1)
-    (λ i. (sym read i, sym c.in-Some.is i)) (enters_lower m s w.0 items items r y w.1 w.2 d o).0 in
-    let same : v.tag ≡ (link_of c.link-link.new.self.pool v.node.name s).tag = c.requires.tag
-    ∙ ap (λ (z : Pooled g.row.T.Denot). (link_of z v.node.name s).tag) (sym read) in
-    let slots : s < c.link-link.new.self.pool.slots = subst (λ (z : Pooled g.row.T.Denot). s < z.slots) (sym read) c.requires.slot in
-    (omega (arith, c.decreases, falls), (within.0, (within.1, (slots, (same, way)))))
+    let o = goal.at.find_down-requires g t c in let h = sought g t o.In-Some in let tag = g.O.NodeOrder.tag_of c.args.order.now in
+    let s = c.args.slot in let i = c.link-link.ensures.link in let same = c.link-link.ensures.pool in let total = g.met.O.NodeOrder.total c.args.order.now in
+    let on = find_left total h c.in-Some.is i same (side_found g t o.After-compare_nodes ∙ c.in-Less.is) (pushed_left g t o.After-push_if) in
+    let tags = find_tags total h c.in-Some.is i same tag c.requires.way.8 in
+    let falls = enters_lower c.args.direction (entered h.enters c.in-Some.is i) same c.in-Some.is in
+    (omega (arith, c.decreases, falls.0), (within.0, (within.1, (slot-moved s same c.requires.slot, (tag_kept g t o.After-link-link, way_of tag on.1 tags.0)))))
 
 pub find_down-requires-in-Greater : goal.find_down-requires-in-Greater
 find_down-requires-in-Greater g t c κs within =
-    let v = c.args in let m = v.p.now.pool in let s = v.slot in let d = v.direction in
-    let items = v.path.now.items in let r = c.in-Some.root in let y = c.link-link.result in
-    let read = c.link-link.ensures.pool in
-    let ord = g.O.NodeOrder.order v.order.now in let tag = g.O.NodeOrder.tag_of v.order.now in let R = side ord m s in
-    let order = side_order ord m s (g.met.O.NodeOrder.total v.order.now) in
-    let w = c.requires.way in
-    let o = entered m s d w.0 items v.at r y w.1 w.2 w.5 c.in-Some.is c.link-link.ensures.link in let rising = subst (Rising R) (ap nodes o.is) w.7 in
-    let is = side_is ord m s v.node r v.tag y.tag c.requires.tag (ap (λ (z : Link). z.tag) c.link-link.ensures.link)
-    ∙ ap (λ (z : Pooled g.row.T.Denot). compared (by_stamp ord) (stamped (value_of z v.node.name) v.tag.stamp) (stamped (value_of z r.name) y.tag.stamp))
-    (sym read)
-    ∙ sym c.compare_nodes.ensures.result in
-    let on = go_right R order (nodes o.left) r (nodes o.right) w.3 v.node w.4 rising (is ∙ c.in-Greater.is)
-    (where_is (nodes o.left) r (nodes o.right) w.3 v.node w.4 (sym (ap nodes o.is) ∙ w.9)) in
-    let in_side = enters_right m s w.0 items c.push_if-in-Greater.new.path.items r y w.1 w.2 d o
-    (c.push_if-in-Greater.ensures ∙ ap (λ z. cond (not z) (items ++ Some r ∷ []) items) c.is_ascending-in-Greater.ensures) in
-    let tags = subst (AreTagged tag m s) (ap nodes o.is) w.8 in
-    let all = subst (λ (z : Pooled g.row.T.Denot). Enters z s d w.0 c.push_if-in-Greater.new.path.items y.forth (pend_right d r o.left w.1) o.right
-    × CanTake z s y.forth o.right × Rising (side ord z s) (nodes o.right) × AreTagged tag z s (nodes o.right))
-    (sym read) (
-      in_side,
-      (side_take m s v.at r y w.2 w.6 c.in-Some.is c.link-link.ensures.link o.left o.right o.is).1,
-      (rising_right R (nodes o.left) (r ∷ nodes o.right) rising).1,
-      (tagged_right tag m s (nodes o.left) (r ∷ nodes o.right) tags).1,
-    ) in
-    let way : (levels : ℕ) × (xs : List Pending) × (k : Shape) × (vs : List Ref) × (ws : List Ref)
-    × Enters c.link-link.new.self.pool s d levels c.push_if-in-Greater.new.path.items y.forth xs k × CanTake c.link-link.new.self.pool s y.forth k
-    × Rising (side ord c.link-link.new.self.pool s) (nodes k) × AreTagged tag c.link-link.new.self.pool s (nodes k)
-    × (nodes k ≡ vs ++ v.node ∷ ws) = (w.0, (pend_right d r o.left w.1), o.right, on.0, w.4, all.0, all.1, all.2, all.3, on.2) in
-    let falls : height_at c.link-link.new.self.pool s y.forth < height_at m s v.at =
-    subst (λ (z : Pooled g.row.T.Denot × Option Ref). height_at z.0 s y.forth < height_at m s z.1)
-    (λ i. (sym read i, sym c.in-Some.is i)) (enters_lower m s w.0 items items r y w.1 w.2 d o).1 in
-    let same : v.tag ≡ (link_of c.link-link.new.self.pool v.node.name s).tag = c.requires.tag
-    ∙ ap (λ (z : Pooled g.row.T.Denot). (link_of z v.node.name s).tag) (sym read) in
-    let slots : s < c.link-link.new.self.pool.slots = subst (λ (z : Pooled g.row.T.Denot). s < z.slots) (sym read) c.requires.slot in
-    (omega (arith, c.decreases, falls), (within.0, (within.1, (slots, (same, way)))))
+    let o = goal.at.find_down-requires-in-Greater g t c in let h = sought g t o.In-Some in let tag = g.O.NodeOrder.tag_of c.args.order.now in
+    let s = c.args.slot in let i = c.link-link.ensures.link in let same = c.link-link.ensures.pool in let total = g.met.O.NodeOrder.total c.args.order.now in
+    let on = find_right total h c.in-Some.is i same (side_found g t o.After-compare_nodes ∙ c.in-Greater.is) (pushed_right g t o.After-push_if-in-Greater) in
+    let tags = find_tags total h c.in-Some.is i same tag c.requires.way.8 in
+    let falls = enters_lower c.args.direction (entered h.enters c.in-Some.is i) same c.in-Some.is in
+    (omega (arith, c.decreases, falls.1), (within.0, (within.1, (slot-moved s same c.requires.slot, (tag_kept g t o.After-link-link, way_of tag on.1 tags.2)))))
 
 pub returns-in-Less-clause-way : goal.returns-in-Less-clause-way
 returns-in-Less-clause-way g t c levels xs u vs ws h can up e =
-    let v = c.args in let m = v.p.now.pool in let s = v.slot in let d = v.direction in
-    let items = v.path.now.items in let r = c.in-Some.root in let y = c.link-link.result in
-    let read = c.link-link.ensures.pool in
-    let ord = g.O.NodeOrder.order v.order.now in let tag = g.O.NodeOrder.tag_of v.order.now in let R = side ord m s in
-    let order = side_order ord m s (g.met.O.NodeOrder.total v.order.now) in
-    let o = entered m s d levels items v.at r y xs u h c.in-Some.is c.link-link.ensures.link in let rising = subst (Rising R) (ap nodes o.is) up in
-    let is = side_is ord m s v.node r v.tag y.tag c.requires.tag (ap (λ (z : Link). z.tag) c.link-link.ensures.link)
-    ∙ ap (λ (z : Pooled g.row.T.Denot). compared (by_stamp ord) (stamped (value_of z v.node.name) v.tag.stamp) (stamped (value_of z r.name) y.tag.stamp))
-    (sym read)
-    ∙ sym c.compare_nodes.ensures.result in
-    let on = go_left R order (nodes o.left) r (nodes o.right) vs v.node ws rising (is ∙ c.in-Less.is)
-    (where_is (nodes o.left) r (nodes o.right) vs v.node ws (sym (ap nodes o.is) ∙ e)) in
-    let in_side = enters_left m s levels items c.push_if.new.path.items r y xs u d o
-    (c.push_if.ensures ∙ ap (λ z. cond z (items ++ Some r ∷ []) items) c.is_ascending.ensures) in
-    let all = subst (λ (z : Pooled g.row.T.Denot). Enters z s d levels c.push_if.new.path.items y.back (pend_left d r o.right xs) o.left
-    × CanTake z s y.back o.left × Rising (side ord z s) (nodes o.left))
-    (sym read) (
-      in_side,
-      (side_take m s v.at r y u can c.in-Some.is c.link-link.ensures.link o.left o.right o.is).0,
-      rising_left R (nodes o.left) (r ∷ nodes o.right) rising,
-    ) in
-    let far = c.find_down.ensures.way levels (pend_left d r o.right xs) o.left vs on.0 all.0 all.1 all.2 on.1 in (
-      far.0,
-      subst (λ (z : Pooled g.row.T.Denot). Goes z s d levels c.find_down.new.path.items far.0) read far.1,
-      from_left d o.left r o.right xs far.0 v.node vs on.0 ws on.2 far.2,
-    )
+    let o = goal.at.returns-in-Less-clause-way g t c in let i = c.link-link.ensures.link in let same = c.link-link.ensures.pool in
+    let total = g.met.O.NodeOrder.total c.args.order.now in
+    let k = finding h can up e in
+    let on = find_left total k c.in-Some.is i same (side_found g t o.After-compare_nodes ∙ c.in-Less.is) (pushed_left g t o.After-push_if) in
+    found_left total k c.in-Some.is i same on.0 on.2 (c.find_down.ensures.way _ _ _ _ _ on.1.enters on.1.can on.1.rising on.1.is)
 
 pub returns-in-Equal-clause-way : goal.returns-in-Equal-clause-way
 returns-in-Equal-clause-way g t c levels xs u vs ws h can up e =
-    let v = c.args in let m = v.p.now.pool in let s = v.slot in let d = v.direction in
-    let items = v.path.now.items in let r = c.in-Some.root in let y = c.link-link.result in
-    let read = c.link-link.ensures.pool in
-    let ord = g.O.NodeOrder.order v.order.now in let tag = g.O.NodeOrder.tag_of v.order.now in let R = side ord m s in
-    let order = side_order ord m s (g.met.O.NodeOrder.total v.order.now) in
-    let o = entered m s d levels items v.at r y xs u h c.in-Some.is c.link-link.ensures.link in let rising = subst (Rising R) (ap nodes o.is) up in
-    let is = side_is ord m s v.node r v.tag y.tag c.requires.tag (ap (λ (z : Link). z.tag) c.link-link.ensures.link)
-    ∙ ap (λ (z : Pooled g.row.T.Denot). compared (by_stamp ord) (stamped (value_of z v.node.name) v.tag.stamp) (stamped (value_of z r.name) y.tag.stamp))
-    (sym read)
-    ∙ sym c.compare_nodes.ensures.result in
-    let on = go_here R order (nodes o.left) r (nodes o.right) vs v.node ws rising (is ∙ c.in-Equal.is)
-    (where_is (nodes o.left) r (nodes o.right) vs v.node ws (sym (ap nodes o.is) ∙ e)) in (
-      record { node = r; after = farther d o.left o.right } ∷ xs,
-      subst (λ z. Goes m s d levels z (record { node = r; after = farther d o.left o.right } ∷ xs)) (sym c.push_if-in-Equal.ensures) o.before.goes,
-      from_here d o.left r o.right xs v.node vs ws on.0 on.1 on.2,
-    )
+    let o = goal.at.returns-in-Equal-clause-way g t c in let i = c.link-link.ensures.link in let same = c.link-link.ensures.pool in
+    let total = g.met.O.NodeOrder.total c.args.order.now in
+    let k = finding h can up e in
+    find_here total k c.in-Some.is i same (side_found g t o.After-compare_nodes ∙ c.in-Equal.is) c.push_if-in-Equal.ensures
 
 pub returns-in-Greater-clause-way : goal.returns-in-Greater-clause-way
 returns-in-Greater-clause-way g t c levels xs u vs ws h can up e =
-    let v = c.args in let m = v.p.now.pool in let s = v.slot in let d = v.direction in
-    let items = v.path.now.items in let r = c.in-Some.root in let y = c.link-link.result in
-    let read = c.link-link.ensures.pool in
-    let ord = g.O.NodeOrder.order v.order.now in let tag = g.O.NodeOrder.tag_of v.order.now in let R = side ord m s in
-    let order = side_order ord m s (g.met.O.NodeOrder.total v.order.now) in
-    let o = entered m s d levels items v.at r y xs u h c.in-Some.is c.link-link.ensures.link in let rising = subst (Rising R) (ap nodes o.is) up in
-    let is = side_is ord m s v.node r v.tag y.tag c.requires.tag (ap (λ (z : Link). z.tag) c.link-link.ensures.link)
-    ∙ ap (λ (z : Pooled g.row.T.Denot). compared (by_stamp ord) (stamped (value_of z v.node.name) v.tag.stamp) (stamped (value_of z r.name) y.tag.stamp))
-    (sym read)
-    ∙ sym c.compare_nodes.ensures.result in
-    let on = go_right R order (nodes o.left) r (nodes o.right) vs v.node ws rising (is ∙ c.in-Greater.is)
-    (where_is (nodes o.left) r (nodes o.right) vs v.node ws (sym (ap nodes o.is) ∙ e)) in
-    let in_side = enters_right m s levels items c.push_if-in-Greater.new.path.items r y xs u d o
-    (c.push_if-in-Greater.ensures ∙ ap (λ z. cond (not z) (items ++ Some r ∷ []) items) c.is_ascending-in-Greater.ensures) in
-    let all = subst (λ (z : Pooled g.row.T.Denot). Enters z s d levels c.push_if-in-Greater.new.path.items y.forth (pend_right d r o.left xs) o.right
-    × CanTake z s y.forth o.right × Rising (side ord z s) (nodes o.right))
-    (sym read) (
-      in_side,
-      (side_take m s v.at r y u can c.in-Some.is c.link-link.ensures.link o.left o.right o.is).1,
-      (rising_right R (nodes o.left) (r ∷ nodes o.right) rising).1,
-    ) in
-    let far = c.find_down-in-Greater.ensures.way levels (pend_right d r o.left xs) o.right on.0 ws all.0 all.1 all.2 on.2 in (
-      far.0,
-      subst (λ (z : Pooled g.row.T.Denot). Goes z s d levels c.find_down-in-Greater.new.path.items far.0) read far.1,
-      from_right d o.left r o.right xs far.0 v.node vs on.0 ws on.1 far.2,
-    )
+    let o = goal.at.returns-in-Greater-clause-way g t c in let i = c.link-link.ensures.link in let same = c.link-link.ensures.pool in
+    let total = g.met.O.NodeOrder.total c.args.order.now in
+    let k = finding h can up e in
+    let on = find_right total k c.in-Some.is i same (side_found g t o.After-compare_nodes ∙ c.in-Greater.is) (pushed_right g t o.After-push_if-in-Greater) in
+    found_right total k c.in-Some.is i same on.0 on.2 (c.find_down-in-Greater.ensures.way _ _ _ _ _ on.1.enters on.1.can on.1.rising on.1.is)

@@ -10,7 +10,7 @@ pub push-requires : goal.push-requires
 push-requires g t c =
     let v = c.args in let m = v.p.now.pool in let s = v.slot in let d = v.direction in let items = v.path.now.items in let r = c.in-Some.node in
     let w = c.requires.way in
-    let o = entered m s d w.0 items v.at r _ w.1 w.2 w.3 c.in-Some.is refl in
+    let o = entered {m = m} {s = s} w.3 c.in-Some.is refl in
     let room : length v.path.now.items < 45 = o.room in
     (omega arith, room)
 
@@ -18,7 +18,7 @@ pub go_down-requires : goal.go_down-requires
 go_down-requires g t c κs within =
     let v = c.args in let m = v.p.now.pool in let s = v.slot in let d = v.direction in let items = v.path.now.items in let r = c.in-Some.node in
     let w = c.requires.way in
-    let o = entered m s d w.0 items v.at r c.link.result w.1 w.2 w.3 c.in-Some.is c.link.ensures.link in
+    let o = entered w.3 c.in-Some.is c.link.ensures.link in
     let near = nearer d o.left o.right in
     let rest = record { node = r; after = farther d o.left o.right } ∷ w.1 in
     let way : (levels : ℕ) × (xs : List Pending) × (k : Shape) × Enters c.link.new.self.pool s d levels c.push.new.self.items c.near-before.result xs k = (
@@ -37,7 +37,7 @@ go_down-requires g t c κs within =
 pub returns-clause-way : goal.returns-clause-way
 returns-clause-way g t c levels xs u h =
     let v = c.args in let m = v.p.now.pool in let s = v.slot in let d = v.direction in let items = v.path.now.items in let r = c.in-Some.node in
-    let o = entered m s d levels items v.at r c.link.result xs u h c.in-Some.is c.link.ensures.link in
+    let o = entered h c.in-Some.is c.link.ensures.link in
     let near = nearer d o.left o.right in
     let rest = record { node = r; after = farther d o.left o.right } ∷ xs in
     let on = c.go_down.ensures.way levels rest near

@@ -7,13 +7,12 @@ use Rattle.mi_tree.proofs.tree.Tree.lower.Goals as goal
 
 pub seek_in-requires-clause-tree : goal.seek_in-requires-clause-tree
 seek_in-requires-clause-tree g c =
-    let v = c.args in let m = v.p.now.pool in let l = v.self.now in let ord = g.O.NodeOrder.order l.order in
-    let tag = g.O.NodeOrder.tag_of l.order in let w = c.requires in
+    let v = c.args in let m = v.p.now.pool in let l = v.self.now in let ord = g.O.NodeOrder.order l.order in let w = c.requires in
     let place = λ (x : g.row.T.Denot). g.O.NodeOrder.place l.order x v.probe in (
       w.1.shape,
       w.1.rooted,
-      tagged_in l m ord tag w.0 w.1,
-      steady ord place (g.met.O.NodeOrder.monotone l.order v.probe) false m l.slot (nodes w.1.shape) (rising_in l m ord tag w.0 w.1),
+      tagged_in w.1,
+      steady ord place (g.met.O.NodeOrder.monotone l.order v.probe) false m l.slot (nodes w.1.shape) (rising_in w.1),
     )
 
 pub returns-clause-node : goal.returns-clause-node
@@ -23,8 +22,8 @@ returns-clause-node g c rs h =
 
 pub returns-clause-reads : goal.returns-clause-reads
 returns-clause-reads g c order tag rs h b f =
-    let a = c.seek_in.ensures.reads h.shape h.rooted in let d = bound c.args.self.now c.args.p.now.pool order tag rs h b f in omega arith
+    let a = c.seek_in.ensures.reads h.shape h.rooted in let d = bound h b f in omega arith
 
 pub returns-clause-steps : goal.returns-clause-steps
 returns-clause-steps g c order tag rs h b f =
-    let a = c.seek_in.ensures.steps h.shape h.rooted in let d = bound c.args.self.now c.args.p.now.pool order tag rs h b f in omega arith
+    let a = c.seek_in.ensures.steps h.shape h.rooted in let d = bound h b f in omega arith

@@ -11,4 +11,4 @@ returns-clause-node g c order tag rs h = c.nth_in.ensures.node h.shape h.rooted 
 
 pub returns-clause-reads : goal.returns-clause-reads
 returns-clause-reads g c order tag rs h b f =
-    let a = c.nth_in.ensures.reads h.shape h.rooted in let d = bound c.args.self.now c.args.p.now.pool order tag rs h b f in omega arith
+    let a = c.nth_in.ensures.reads h.shape h.rooted in let d = bound h b f in omega arith

@@ -6,20 +6,18 @@ use Rattle.mi_tree.proofs.tree.Tree.walk.Goals as goal
 
 pub start-requires-clause-tree : goal.start-requires-clause-tree
 start-requires-clause-tree g c =
-    let w = c.requires in let v = c.args in (height w.3.shape, w.3.shape, enters_root v.self.now v.p.now.pool w.0 w.1 w.2 w.3 v.direction)
+    let w = c.requires in let v = c.args in (height w.3.shape, w.3.shape, enters_root w.3 v.direction)
 
 pub returns-clause-walk : goal.returns-clause-walk
 returns-clause-walk g c order tag rs h =
     let v = c.args in let m = v.p.now.pool in
-    let on = c.start.ensures.walk (height h.shape) h.shape (enters_root v.self.now m order tag rs h v.direction) in (
+    let on = c.start.ensures.walk (height h.shape) h.shape (enters_root h v.direction) in (
       height h.shape,
       subst (λ k. IsWalk c.start.result m (height h.shape) (beyond v.direction (take v.passed k) (drop v.passed k))) h.nodes_are on,
-      λ b f. bound v.self.now m order tag rs h b f,
+      λ b f. bound h b f,
     )
 
 pub returns-clause-reads : goal.returns-clause-reads
 returns-clause-reads g c order tag rs h b f =
-    let v = c.args in let m = v.p.now.pool in
-    let i = c.start.ensures.reads (height h.shape) h.shape (enters_root v.self.now m order tag rs h v.direction) in
-    let d = bound v.self.now m order tag rs h b f in
+    let i = c.start.ensures.reads (height h.shape) h.shape (enters_root h c.args.direction) in let d = bound h b f in
     omega arith
