@@ -1,1 +1,1 @@
-pub mod Undone
+pub mod UndoneLemmas

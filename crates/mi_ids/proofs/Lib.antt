@@ -1,2 +1,2 @@
-pub mod Callers
-pub mod Seen
+pub mod EntryLemmas
+pub mod SeenLemmas

@@ -1,4 +1,4 @@
-pub mod Changes
-pub mod Ends
-pub mod Frames
-pub mod Orders
+pub mod ChangeLemmas
+pub mod EndLemmas
+pub mod FrameLemmas
+pub mod OrderLemmas

@@ -1,7 +1,7 @@
-pub mod Callers
-pub mod Flats
-pub mod Keeping
-pub mod Links
-pub mod Maps
-pub mod NeighbourLaws
-pub mod Refs
+pub mod EntryLemmas
+pub mod ChunkLemmas
+pub mod KeepingLemmas
+pub mod ColumnLemmas
+pub mod MapLemmas
+pub mod NeighbourLemmas
+pub mod RefLemmas

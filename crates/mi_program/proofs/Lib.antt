@@ -1,7 +1,7 @@
-mod Buffers
-mod Matched
-mod Numbers
-mod Servings
-mod Texts
-mod Values
+mod BufferLemmas
+mod MatchedLemmas
+mod NumberLemmas
+mod ServingLemmas
+mod TextLemmas
+mod ValueLemmas
 pub mod TurnLemmas

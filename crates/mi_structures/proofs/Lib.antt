@@ -1,4 +1,4 @@
-pub mod Sevens
-pub mod Stocks
-pub mod Takes
-pub mod Threes
+pub mod SevenNodeLemmas
+pub mod StockLemmas
+pub mod TakeLemmas
+pub mod ThreeNodeLemmas

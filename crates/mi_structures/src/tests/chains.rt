@@ -89,7 +89,7 @@ fn leave_and_return(
 }
 
 #[test]
-#[tactic(auto, using(mi_node::proofs::Callers::refs))]
+#[tactic(auto, using(mi_node::proofs::EntryLemmas::refs))]
 fn two_of_one_key(rt: HostRuntime) {
     let mut p: Pool<u8> = Pool::with_slots(rt.alloc(), 2);
     let one = take(&rt, &mut p, 10);

@@ -92,7 +92,7 @@ fn move_about(
 }
 
 #[test]
-#[tactic(auto, using(mi_node::proofs::Callers::refs))]
+#[tactic(auto, using(mi_node::proofs::EntryLemmas::refs))]
 fn nodes_leave_and_come_back(rt: HostRuntime) {
     let mut p: Pool<u8> = Pool::with_slots(rt.alloc(), 2);
     let nodes = take_three(&rt, &mut p, 10, 20, 30);

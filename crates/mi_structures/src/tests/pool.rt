@@ -1,5 +1,5 @@
 //! Nodes of a pool: their values and links, places that are used again, and refused memory.
-#![tactic(auto, using(mi_node::proofs::Callers::held, mi_node::proofs::Callers::slot_counts))]
+#![tactic(auto, using(mi_node::proofs::EntryLemmas::held, mi_node::proofs::EntryLemmas::slot_counts))]
 
 ghost use Rattle.std.specs.Prelude.{◌≡◌};
 ghost use Rattle.mi_node.specs.Pool.{IsHeld, without, with_value};

@@ -1,4 +1,4 @@
-use Rattle.mi_chain.proofs.Elsewhere.{chained_swapped}
+use Rattle.mi_chain.proofs.FrameLemmas.{chained_swapped}
 use Rattle.mi_chain.proofs.laws.chains_stand_where_swapped.Goals as goal
 
 pub returns : goal.returns

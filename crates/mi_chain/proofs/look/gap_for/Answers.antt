@@ -2,7 +2,7 @@ use Rattle.std.proofs.Common.{◌≤◌, ◌<◌, None, sym, ap, ◌∙◌, subs
 use Rattle.mi_node.specs.declared.link.Link.{Link}
 use Rattle.mi_chain.specs.Keying.{stamp_at}
 use Rattle.mi_chain.specs.Places.{prev_in}
-use Rattle.mi_chain.proofs.Walks.{Gapped, gap_start, gap_held, gap_step, gap_less, gap_found, gap_end, first_is_held}
+use Rattle.mi_chain.proofs.SearchLemmas.{Gapped, gap_start, gap_held, gap_step, gap_less, gap_found, gap_end, first_is_held}
 use Rattle.mi_chain.proofs.look.gap_for.Goals as goal
 
 pub link-at-requires-clause-held : goal.link-at-requires-clause-held

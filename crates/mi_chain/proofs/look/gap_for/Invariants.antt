@@ -5,7 +5,7 @@ use Rattle.mi_node.specs.Neighbours.{IsLinked}
 use Rattle.mi_node.specs.Refs.{Ref, first_of, last_of, IsApart}
 use Rattle.mi_chain.specs.Keying.{stamp_at}
 use Rattle.mi_chain.specs.Moves.{hops}
-use Rattle.mi_chain.proofs.Walks.{Gapped, step_back}
+use Rattle.mi_chain.proofs.SearchLemmas.{Gapped, step_back}
 use Rattle.mi_chain.proofs.look.gap_for.Given as goal
 
 abbrev pub invariant-loop-at : goal.invariant-loop-at

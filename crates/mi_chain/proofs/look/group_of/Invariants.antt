@@ -4,7 +4,7 @@ use Rattle.mi_node.specs.Pool.{node_count}
 use Rattle.mi_node.specs.Refs.{Ref}
 use Rattle.mi_chain.specs.Groups.{IsChain}
 use Rattle.mi_chain.specs.Moves.{hops, next_group}
-use Rattle.mi_chain.proofs.Walks.{Walked}
+use Rattle.mi_chain.proofs.SearchLemmas.{Walked}
 use Rattle.mi_chain.specs.Keying.{same_nodes}
 use Rattle.mi_chain.proofs.look.group_of.Given as goal
 

@@ -2,9 +2,9 @@ use Rattle.std.proofs.Common.{None, sym, ap, ◌∙◌, subst}
 use Rattle.mi_node.specs.Pool.{IsHeldIf}
 use Rattle.mi_node.specs.declared.link.Link.{Link}
 use Rattle.mi_chain.specs.Places.{forth_of}
-use Rattle.mi_chain.proofs.Walks.{walk_start, walk_held, walk_step, walk_found, walk_end, walk_less}
+use Rattle.mi_chain.proofs.SearchLemmas.{walk_start, walk_held, walk_step, walk_found, walk_end, walk_less}
 use Rattle.mi_chain.specs.Keying.{has_key, hash_node}
-use Rattle.mi_chain.proofs.Whole.{walk_tag}
+use Rattle.mi_chain.proofs.CallLemmas.{walk_tag}
 use Rattle.mi_chain.proofs.look.group_of_key.Goals as goal
 
 pub loop-at-init : goal.loop-at-init

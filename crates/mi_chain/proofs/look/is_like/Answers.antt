@@ -2,8 +2,8 @@
 use Rattle.std.proofs.Common.{◌≡◌, sym, ap, ◌∙◌}
 use Rattle.mi_node.specs.declared.link.Link.{Link}
 use Rattle.mi_chain.specs.Keying.{same_nodes, hash_node}
-use Rattle.mi_chain.proofs.ByValue.{same_nodes_is, same_hash}
-use Rattle.mi_chain.proofs.Classes.{no_is_false}
+use Rattle.mi_chain.proofs.KeyingLemmas.{same_nodes_is, same_hash}
+use Rattle.mi_chain.proofs.GroupLemmas.{no_is_false}
 use Rattle.mi_chain.proofs.look.is_like.Goals as goal
 
 pub returns-then-link-hash : goal.returns-then-link-hash

@@ -1,4 +1,4 @@
-use Rattle.mi_container.proofs.LawProofs.{change_fits}
+use Rattle.mi_container.proofs.LawLemmas.{change_fits}
 use Rattle.mi_container.proofs.laws.change_fits.Goals as goal
 
 pub returns : goal.returns

@@ -1,4 +1,4 @@
-use Rattle.mi_container.proofs.LawProofs.{change_is_tables}
+use Rattle.mi_container.proofs.LawLemmas.{change_is_tables}
 use Rattle.mi_container.proofs.laws.change_is_tables.Goals as goal
 
 pub returns : goal.returns

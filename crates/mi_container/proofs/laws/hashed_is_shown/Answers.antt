@@ -1,4 +1,4 @@
-use Rattle.mi_container.proofs.ViewOfData.{hashed_is_shown}
+use Rattle.mi_container.proofs.ViewLemmas.{hashed_is_shown}
 use Rattle.mi_container.proofs.laws.hashed_is_shown.Goals as goal
 
 pub returns : goal.returns

@@ -1,4 +1,4 @@
-use Rattle.mi_container.proofs.ViewOfData.{ids_are_shown}
+use Rattle.mi_container.proofs.ViewLemmas.{ids_are_shown}
 use Rattle.mi_container.proofs.laws.ids_are_shown.Goals as goal
 
 pub returns : goal.returns

@@ -1,4 +1,4 @@
-use Rattle.mi_container.proofs.LawProofs.{kept_by_one}
+use Rattle.mi_container.proofs.LawLemmas.{kept_by_one}
 use Rattle.mi_container.proofs.laws.kept_by_one.Goals as goal
 
 pub returns : goal.returns

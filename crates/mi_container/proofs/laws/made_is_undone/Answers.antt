@@ -1,4 +1,4 @@
-use Rattle.mi_container.proofs.MadeLaws.{made_is_undone}
+use Rattle.mi_container.proofs.MadeLemmas.{made_is_undone}
 use Rattle.mi_container.proofs.laws.made_is_undone.Goals as goal
 
 pub returns : goal.returns

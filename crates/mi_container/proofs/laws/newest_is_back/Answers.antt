@@ -1,4 +1,4 @@
-use Rattle.mi_container.proofs.LawProofs.{newest_is_back}
+use Rattle.mi_container.proofs.LawLemmas.{newest_is_back}
 use Rattle.mi_container.proofs.laws.newest_is_back.Goals as goal
 
 pub returns : goal.returns

@@ -1,4 +1,4 @@
-use Rattle.mi_container.proofs.LawProofs.{oldest_is_settled}
+use Rattle.mi_container.proofs.LawLemmas.{oldest_is_settled}
 use Rattle.mi_container.proofs.laws.oldest_is_settled.Goals as goal
 
 pub returns : goal.returns

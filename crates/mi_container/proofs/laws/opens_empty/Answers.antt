@@ -1,4 +1,4 @@
-use Rattle.mi_container.proofs.LawProofs.{opens_empty}
+use Rattle.mi_container.proofs.LawLemmas.{opens_empty}
 use Rattle.mi_container.proofs.laws.opens_empty.Goals as goal
 
 pub returns : goal.returns

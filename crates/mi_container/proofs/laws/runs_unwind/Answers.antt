@@ -1,4 +1,4 @@
-use Rattle.mi_container.proofs.RunLaws.{runs_unwind}
+use Rattle.mi_container.proofs.RunLemmas.{runs_unwind}
 use Rattle.mi_container.proofs.laws.runs_unwind.Goals as goal
 
 pub returns : goal.returns

@@ -1,4 +1,4 @@
-use Rattle.mi_container.proofs.LawProofs.{settled_later}
+use Rattle.mi_container.proofs.LawLemmas.{settled_later}
 use Rattle.mi_container.proofs.laws.settled_later.Goals as goal
 
 pub returns : goal.returns

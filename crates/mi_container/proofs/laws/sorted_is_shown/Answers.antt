@@ -1,4 +1,4 @@
-use Rattle.mi_container.proofs.ViewOfData.{sorted_is_shown}
+use Rattle.mi_container.proofs.ViewLemmas.{sorted_is_shown}
 use Rattle.mi_container.proofs.laws.sorted_is_shown.Goals as goal
 
 pub returns : goal.returns

@@ -1,4 +1,4 @@
-use Rattle.mi_database.proofs.BoundLaws.{look_ups_are_bounded}
+use Rattle.mi_database.proofs.BoundLemmas.{look_ups_are_bounded}
 use Rattle.mi_database.proofs.bound.look_ups_are_bounded.Goals as goal
 
 pub returns : goal.returns

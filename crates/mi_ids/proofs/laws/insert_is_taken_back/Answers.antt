@@ -1,4 +1,4 @@
-use Rattle.mi_ids.proofs.Callers.{out_of_put}
+use Rattle.mi_ids.proofs.EntryLemmas.{out_of_put}
 use Rattle.mi_ids.proofs.laws.insert_is_taken_back.Goals as goal
 
 pub returns : goal.returns

@@ -1,4 +1,4 @@
-use Rattle.mi_ids.proofs.Callers.{revived}
+use Rattle.mi_ids.proofs.EntryLemmas.{revived}
 use Rattle.mi_ids.proofs.laws.keep_is_taken_back.Goals as goal
 
 pub returns : goal.returns

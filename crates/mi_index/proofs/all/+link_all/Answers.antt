@@ -2,8 +2,8 @@
 use Rattle.std.proofs.Common.{rules, ◌≡◌, ◌+◌, ◌<◌, ◌^◌, ◌∷◌, length, sym, subst, arith}
 use Rattle.mi_index.specs.Pass.{AreReady, IsPass}
 use Rattle.mi_index.specs.Passes.{joining, joined}
-use Rattle.mi_index.proofs.Stays.{joining_stays, joined_before, joined_after}
-use Rattle.mi_index.proofs.PassLaws.{tail_ready, passed}
+use Rattle.mi_index.proofs.StayLemmas.{joining_stays, joined_before, joined_after}
+use Rattle.mi_index.proofs.PassLemmas.{tail_ready, passed}
 use Rattle.mi_index.proofs.all.+link_all.Goals as goal
 
 pub link_all-requires : goal.link_all-requires

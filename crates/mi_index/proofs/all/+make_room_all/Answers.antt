@@ -3,8 +3,8 @@ use Rattle.std.proofs.Common.{rules, ◌≡◌, ◌+◌, ◌<◌, ◌^◌, ◌�
 use Rattle.mi_node.specs.Refs.{Ref}
 use Rattle.mi_index.specs.Pass.{AreReady, IsPass}
 use Rattle.mi_index.specs.Passes.{nothing_asked, grown}
-use Rattle.mi_index.proofs.Stays.{nothing_stays, grown_before, grown_after}
-use Rattle.mi_index.proofs.PassLaws.{tail_ready, passed}
+use Rattle.mi_index.proofs.StayLemmas.{nothing_stays, grown_before, grown_after}
+use Rattle.mi_index.proofs.PassLemmas.{tail_ready, passed}
 use Rattle.mi_index.proofs.all.+make_room_all.Goals as goal
 
 pub make_room_all-rest_made-requires : goal.make_room_all-rest_made-requires

@@ -2,8 +2,8 @@
 use Rattle.std.proofs.Common.{rules, ◌≡◌, ◌+◌, ◌<◌, ◌^◌, ◌∷◌, length, sym, subst, arith}
 use Rattle.mi_index.specs.Pass.{AreReady, IsPass}
 use Rattle.mi_index.specs.Passes.{returning, returned}
-use Rattle.mi_index.proofs.Stays.{returning_stays, returned_before, returned_after}
-use Rattle.mi_index.proofs.PassLaws.{tail_ready, passed}
+use Rattle.mi_index.proofs.StayLemmas.{returning_stays, returned_before, returned_after}
+use Rattle.mi_index.proofs.PassLemmas.{tail_ready, passed}
 use Rattle.mi_index.proofs.all.+relink_all.Goals as goal
 
 pub relink_all-requires : goal.relink_all-requires

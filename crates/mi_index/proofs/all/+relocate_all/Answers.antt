@@ -2,8 +2,8 @@
 use Rattle.std.proofs.Common.{rules, ◌≡◌, ◌+◌, ◌<◌, ◌^◌, ◌∷◌, length, sym, subst, arith}
 use Rattle.mi_index.specs.Pass.{AreReady, IsPass}
 use Rattle.mi_index.specs.Inserting.{relocating, relocated}
-use Rattle.mi_index.proofs.Stays.{relocating_stays, relocated_before, relocated_after}
-use Rattle.mi_index.proofs.PassLaws.{tail_ready, passed}
+use Rattle.mi_index.proofs.StayLemmas.{relocating_stays, relocated_before, relocated_after}
+use Rattle.mi_index.proofs.PassLemmas.{tail_ready, passed}
 use Rattle.mi_index.proofs.all.+relocate_all.Goals as goal
 
 pub relocate_all-requires : goal.relocate_all-requires

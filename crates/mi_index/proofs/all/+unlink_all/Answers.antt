@@ -2,8 +2,8 @@
 use Rattle.std.proofs.Common.{rules, ◌≡◌, ◌+◌, ◌<◌, ◌^◌, ◌∷◌, length, sym, subst, arith}
 use Rattle.mi_index.specs.Pass.{AreReady, IsPass}
 use Rattle.mi_index.specs.Passes.{leaving, left}
-use Rattle.mi_index.proofs.Stays.{leaving_stays, left_before, left_after}
-use Rattle.mi_index.proofs.PassLaws.{tail_ready, passed}
+use Rattle.mi_index.proofs.StayLemmas.{leaving_stays, left_before, left_after}
+use Rattle.mi_index.proofs.PassLemmas.{tail_ready, passed}
 use Rattle.mi_index.proofs.all.+unlink_all.Goals as goal
 
 pub unlink_all-requires : goal.unlink_all-requires

@@ -1,7 +1,7 @@
 -- The list of that index, or another structure.
 use Rattle.std.proofs.Common.{◌≡◌, ◌==◌, true, false, inl, inr, refl, sym, subst}
 use Rattle.std.proofs.lemmas.Bool.Decides.{eqb_tells}
-use Rattle.mi_node.proofs.Callers.{same_refl}
+use Rattle.mi_node.proofs.EntryLemmas.{same_refl}
 use Rattle.mi_index.specs.Inserting.{CanRelocateIf, IsRelocatedIf}
 use Rattle.mi_index.proofs.all.relocate_one.Goals as goal
 

@@ -1,4 +1,4 @@
-use Rattle.mi_index.proofs.Frames.{stands_alike}
+use Rattle.mi_index.proofs.FrameLemmas.{stands_alike}
 use Rattle.mi_index.proofs.laws.structures_stand_where_alike.Goals as goal
 
 pub returns : goal.returns

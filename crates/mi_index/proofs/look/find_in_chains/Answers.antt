@@ -2,7 +2,7 @@
 use Rattle.std.proofs.Common.{◌∙◌}
 use Rattle.mi_chain.specs.Keying.{has_key}
 use Rattle.mi_order.specs.Orders.{keying_of}
-use Rattle.mi_index.proofs.Looking.{first_filter}
+use Rattle.mi_index.proofs.LookUpLemmas.{first_filter}
 use Rattle.mi_index.proofs.look.find_in_chains.Goals as goal
 
 pub returns : goal.returns

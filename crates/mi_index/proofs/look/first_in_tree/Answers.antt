@@ -3,7 +3,7 @@ use Rattle.std.proofs.Common.{sym, subst, ◌∙◌}
 use Rattle.mi_order.specs.Orders.{stored_order, stored_tag}
 use Rattle.mi_index.specs.Standing.{Stands}
 use Rattle.mi_index.specs.declared.structure.Structure.TheVariants.{Ordered}
-use Rattle.mi_tree.proofs.Shapes.{nth-first}
+use Rattle.mi_tree.proofs.BinaryTreeLemmas.{nth-first}
 use Rattle.mi_index.proofs.look.first_in_tree.Goals as goal
 
 pub returns : goal.returns

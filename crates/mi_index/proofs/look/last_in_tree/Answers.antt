@@ -3,8 +3,8 @@ use Rattle.std.proofs.Common.{◌≡◌, ◌-◌, suc, length, sym, subst, ◌�
 use Rattle.mi_order.specs.Orders.{stored_order, stored_tag}
 use Rattle.mi_index.specs.Standing.{Stands}
 use Rattle.mi_index.specs.declared.structure.Structure.TheVariants.{Ordered}
-use Rattle.mi_tree.proofs.Shapes.{last-none}
-use Rattle.mi_index.proofs.Looking.{last_nth}
+use Rattle.mi_tree.proofs.BinaryTreeLemmas.{last-none}
+use Rattle.mi_index.proofs.LookUpLemmas.{last_nth}
 use Rattle.mi_index.proofs.look.last_in_tree.Goals as goal
 
 pub returns-then-len-eq0 : goal.returns-then-len-eq0

@@ -1,6 +1,6 @@
 -- A node of the structure is held.
 use Rattle.mi_index.specs.declared.structure.Structure.TheVariants.{Ordered}
-use Rattle.mi_index.proofs.Looking.{held_there}
+use Rattle.mi_index.proofs.LookUpLemmas.{held_there}
 use Rattle.mi_index.proofs.look.place_in_tree.Goals as goal
 
 pub link-requires-clause-held : goal.link-requires-clause-held

@@ -1,5 +1,5 @@
 -- The rules of a schema: the index `id`, and fifteen others at most.
-use Rattle.mi_index.proofs.Opening.{some_index, few_indexes}
+use Rattle.mi_index.proofs.OpeningLemmas.{some_index, few_indexes}
 use Rattle.mi_index.proofs.nodes.at_most_sixteen.Goals as goal
 
 pub returns-clause-some : goal.returns-clause-some

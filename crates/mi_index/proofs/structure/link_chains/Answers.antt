@@ -2,11 +2,11 @@
 use Rattle.std.proofs.Common.{ap, ◌∙◌, sym, subst, ◌∷◌, ◌++◌, refl, cond}
 use Rattle.mi_node.specs.Pool.{Keeps, link_of}
 use Rattle.mi_node.specs.declared.link.Tag.{Tag}
-use Rattle.mi_node.proofs.Callers.{same_refl}
+use Rattle.mi_node.proofs.EntryLemmas.{same_refl}
 use Rattle.mi_chain.specs.Keying.{stamp_at, hash_node}
 use Rattle.mi_chain.specs.Chained.{AreChained}
 use Rattle.mi_order.specs.Orders.{keying_of}
-use Rattle.mi_index.proofs.Joining.{cut_at, chain_placed, chains_with}
+use Rattle.mi_index.proofs.JoinLemmas.{cut_at, chain_placed, chains_with}
 use Rattle.mi_index.proofs.structure.link_chains.Goals as goal
 
 pub insert-requires : goal.insert-requires

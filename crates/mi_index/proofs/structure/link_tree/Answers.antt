@@ -1,6 +1,6 @@
 -- A node joins a tree at the place of its key and stamp.
 use Rattle.std.proofs.Common.{sym, subst, ◌∙◌}
-use Rattle.mi_node.proofs.Callers.{flip}
+use Rattle.mi_node.proofs.EntryLemmas.{flip}
 use Rattle.mi_tree.specs.Standing.{IsTree, IsNew}
 use Rattle.mi_order.specs.Orders.{stored_order, stored_tag}
 use Rattle.mi_order.specs.declared.orders.ByKey.{ByKey}

@@ -5,7 +5,7 @@ use Rattle.mi_list.specs.Listed.{slot_of, IsListed}
 use Rattle.mi_index.specs.Pass.{IsChanged}
 use Rattle.mi_index.specs.Inserting.{moved, IsPlace}
 use Rattle.mi_index.specs.declared.structure.Structure.TheVariants.{Sequenced}
-use Rattle.mi_index.proofs.Joining.{keeps_all}
+use Rattle.mi_index.proofs.JoinLemmas.{keeps_all}
 use Rattle.mi_index.proofs.structure.move_in_list.Goals as goal
 
 pub move_before-requires : goal.move_before-requires

@@ -3,10 +3,10 @@ use Rattle.std.proofs.Common.{ap, ◌∙◌, sym, subst, ◌∷◌, ◌++◌, re
 use Rattle.mi_node.specs.Pool.{Keeps, link_of}
 use Rattle.mi_node.specs.declared.link.Link.{Link}
 use Rattle.mi_node.specs.declared.link.Tag.{Tag}
-use Rattle.mi_node.proofs.Callers.{same_refl}
+use Rattle.mi_node.proofs.EntryLemmas.{same_refl}
 use Rattle.mi_chain.specs.Chained.{AreChained, FitsBetween}
 use Rattle.mi_order.specs.Orders.{keying_of}
-use Rattle.mi_index.proofs.Joining.{chain_placed, chains_with}
+use Rattle.mi_index.proofs.JoinLemmas.{chain_placed, chains_with}
 use Rattle.mi_index.proofs.structure.relink_chains.Goals as goal
 
 pub hash_of-hash-requires : goal.hash_of-hash-requires

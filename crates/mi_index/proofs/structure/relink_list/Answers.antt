@@ -2,7 +2,7 @@
 use Rattle.std.proofs.Common.{subst, sym, ap, ◌∙◌, ◌∷◌, ◌++◌, refl}
 use Rattle.mi_node.specs.Pool.{Keeps}
 use Rattle.mi_node.specs.Refs.{IsOut}
-use Rattle.mi_node.proofs.Keeping.{keeps_more}
+use Rattle.mi_node.proofs.KeepingLemmas.{keeps_more}
 use Rattle.mi_list.specs.Listed.{slot_of, IsListed, FitsBetween}
 use Rattle.mi_index.specs.declared.moves.Place.{Place}
 use Rattle.mi_index.proofs.structure.relink_list.Goals as goal

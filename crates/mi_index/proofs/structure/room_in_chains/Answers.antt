@@ -1,6 +1,6 @@
 -- The nodes of chains stay in their order while they grow.
 use Rattle.std.proofs.Common.{refl}
-use Rattle.mi_index.proofs.Joining.{chains_kept, keeps_all}
+use Rattle.mi_index.proofs.JoinLemmas.{chains_kept, keeps_all}
 use Rattle.mi_index.proofs.structure.room_in_chains.Goals as goal
 
 pub returns-clause-step : goal.returns-clause-step

@@ -4,7 +4,7 @@ use Rattle.mi_chain.specs.Keying.{stamp_at}
 use Rattle.mi_chain.specs.Chained.{AreChained}
 use Rattle.mi_order.specs.Orders.{keying_of}
 use Rattle.mi_index.specs.Standing.{Climb}
-use Rattle.mi_index.proofs.Joining.{climb_without, chains_kept, keeps_all}
+use Rattle.mi_index.proofs.JoinLemmas.{climb_without, chains_kept, keeps_all}
 use Rattle.mi_index.proofs.structure.unlink_chains.Goals as goal
 
 pub remove-requires : goal.remove-requires

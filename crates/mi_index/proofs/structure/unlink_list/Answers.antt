@@ -2,7 +2,7 @@
 use Rattle.std.proofs.Common.{subst, refl, ◌++◌, ◌∙◌, sym, ap}
 use Rattle.mi_node.specs.Pool.{link_of}
 use Rattle.mi_list.specs.Listed.{slot_of, IsListed}
-use Rattle.mi_index.proofs.Joining.{keeps_with}
+use Rattle.mi_index.proofs.JoinLemmas.{keeps_with}
 use Rattle.mi_index.proofs.structure.unlink_list.Goals as goal
 
 pub unlink-requires : goal.unlink-requires

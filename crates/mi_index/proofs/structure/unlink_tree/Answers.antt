@@ -5,7 +5,7 @@ use Rattle.mi_order.specs.Orders.{stored_order, stored_tag}
 use Rattle.mi_index.specs.Standing.{Stands}
 use Rattle.mi_order.specs.declared.orders.ByKey.{ByKey}
 use Rattle.mi_index.specs.declared.structure.Structure.TheVariants.{Ordered}
-use Rattle.mi_index.proofs.Joining.{keeps_with}
+use Rattle.mi_index.proofs.JoinLemmas.{keeps_with}
 use Rattle.mi_index.proofs.structure.unlink_tree.Goals as goal
 
 pub remove-requires : goal.remove-requires

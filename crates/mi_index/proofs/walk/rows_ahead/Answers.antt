@@ -6,7 +6,7 @@ use Rattle.mi_node.specs.Counted.{CountedPool}
 use Rattle.mi_tree.specs.Walking.{IsWalk}
 use Rattle.mi_order.specs.declared.stored.Stored.{Stored}
 use Rattle.mi_index.specs.Walks.{shown_row}
-use Rattle.mi_index.proofs.Walked.{dropped, held_next, row_next, all_taken}
+use Rattle.mi_index.proofs.WalkLemmas.{dropped, held_next, row_next, all_taken}
 use Rattle.mi_index.proofs.walk.rows_ahead.Goals as goal
 use Rattle.mi_index.proofs.walk.rows_ahead.Goals.{else-nodes-test, then-nodes-test+in_default}
 

@@ -5,7 +5,7 @@ use Rattle.mi_node.specs.Refs.{first_of}
 use Rattle.mi_tree.specs.Walking.{far_of}
 use Rattle.mi_order.specs.declared.stored.Stored.{Stored}
 use Rattle.mi_index.specs.Walks.{shown_row}
-use Rattle.mi_index.proofs.Walked.{held_next, row_next, all_taken, follow_held, follow_next}
+use Rattle.mi_index.proofs.WalkLemmas.{held_next, row_next, all_taken, follow_held, follow_next}
 use Rattle.mi_index.proofs.walk.rows_along.Goals as goal
 use Rattle.mi_index.proofs.walk.rows_along.Goals.{else-nodes-test, then-nodes-test+in_default}
 

@@ -8,8 +8,8 @@ use Rattle.mi_order.specs.Orders.{stored_order, stored_tag}
 use Rattle.mi_index.specs.Walks.{shown_row}
 use Rattle.mi_order.specs.declared.stored.Stored.{Stored}
 use Rattle.mi_index.specs.declared.structure.Structure.TheVariants.{Ordered}
-use Rattle.mi_index.proofs.Others.{nodes_held}
-use Rattle.mi_index.proofs.Walked.{held_beyond}
+use Rattle.mi_index.proofs.OtherNodeLemmas.{nodes_held}
+use Rattle.mi_index.proofs.WalkLemmas.{held_beyond}
 use Rattle.mi_index.proofs.walk.rows_in_tree.Goals as goal
 
 pub rows_ahead-requires : goal.rows_ahead-requires

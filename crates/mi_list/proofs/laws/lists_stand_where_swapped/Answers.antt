@@ -1,4 +1,4 @@
-use Rattle.mi_list.proofs.Frames.{listed_with_value}
+use Rattle.mi_list.proofs.FrameLemmas.{listed_with_value}
 use Rattle.mi_list.proofs.laws.lists_stand_where_swapped.Goals as goal
 
 pub returns : goal.returns

@@ -1,6 +1,6 @@
 use Rattle.std.proofs.Common.{◌<◌, ap, sym, subst, length, slice_index_or, ◌∙◌}
 use Rattle.mi_node.specs.Columns.{links_at, AreLong}
-use Rattle.mi_node.proofs.Links.{cleared_room, cleared_put, all_cleared, cleared-here, cleared-there, cleared-length, long-cleared}
+use Rattle.mi_node.proofs.ColumnLemmas.{cleared_room, cleared_put, all_cleared, cleared-here, cleared-there, cleared-length, long-cleared}
 use Rattle.mi_node.proofs.columns.clear.Goals as goal
 
 pub set-requires : goal.set-requires

@@ -1,5 +1,5 @@
 use Rattle.std.proofs.Common.{◌<◌, sym, subst, ◌∙◌}
-use Rattle.mi_node.proofs.Links.{lengthened_start, put_longer, lengthened_next}
+use Rattle.mi_node.proofs.ColumnLemmas.{lengthened_start, put_longer, lengthened_next}
 use Rattle.mi_node.proofs.columns.lengthen.Goals as goal
 
 pub loop-slot-init : goal.loop-slot-init

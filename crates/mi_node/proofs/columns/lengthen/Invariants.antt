@@ -1,4 +1,4 @@
-use Rattle.mi_node.proofs.Links.{Lengthened}
+use Rattle.mi_node.proofs.ColumnLemmas.{Lengthened}
 use Rattle.mi_node.proofs.columns.lengthen.Given as goal
 
 abbrev pub invariant-loop-slot : goal.invariant-loop-slot

@@ -1,7 +1,7 @@
 use Rattle.std.proofs.Common.{ap, ◌∙◌}
 use Rattle.mi_node.specs.Cells.{empty_cell}
 use Rattle.mi_node.specs.Columns.{cell_at}
-use Rattle.mi_node.proofs.Links.{index-end}
+use Rattle.mi_node.proofs.ColumnLemmas.{index-end}
 use Rattle.mi_node.proofs.columns.lengthen_column.Goals as goal
 
 pub returns-in_ok-add-clause-cells : goal.returns-in_ok-add-clause-cells

@@ -1,5 +1,5 @@
 use Rattle.std.proofs.Common.{◌∙◌}
-use Rattle.mi_node.proofs.Links.{read_cell}
+use Rattle.mi_node.proofs.ColumnLemmas.{read_cell}
 use Rattle.mi_node.proofs.columns.link_at.Goals as goal
 
 pub returns : goal.returns

@@ -1,7 +1,7 @@
 use Rattle.std.proofs.Common.{ap, sym, subst, ◌∙◌}
 use Rattle.mi_node.specs.Columns.{links_at, AreLong}
 use Rattle.mi_node.specs.Pool.{put_link}
-use Rattle.mi_node.proofs.Links.{put_column, links-here, links-there, long_put}
+use Rattle.mi_node.proofs.ColumnLemmas.{put_column, links-here, links-there, long_put}
 use Rattle.mi_node.proofs.columns.set_link_at.Goals as goal
 
 pub returns-clause-link : goal.returns-clause-link

@@ -1,7 +1,7 @@
 use Rattle.std.proofs.Common.{◌<◌, ◌≤◌, length, vec_capacity, ap, sym, subst, refl, ◌∙◌}
 use Rattle.mi_node.specs.Homes.{AreFree}
 use Rattle.mi_node.specs.declared.home.Home.TheVariants.{Free}
-use Rattle.mi_node.proofs.Maps.{free-next, length-next, has_room, one_more}
+use Rattle.mi_node.proofs.MapLemmas.{free-next, length-next, has_room, one_more}
 use Rattle.mi_node.proofs.home.free_chunk.Goals as goal
 
 pub push_reserved-requires : goal.push_reserved-requires

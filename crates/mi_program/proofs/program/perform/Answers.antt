@@ -1,6 +1,6 @@
 use Rattle.std.proofs.Common.{refl}
 use Rattle.std.proofs.lemmas.Result.{err_from_is_err_and, on_ok_weaker}
-use Rattle.mi_program.proofs.Servings.{late_not_early, refused_early, same_naming}
+use Rattle.mi_program.proofs.ServingLemmas.{late_not_early, refused_early, same_naming}
 use Rattle.mi_program.proofs.program.perform.Goals as goal
 
 pub returns-in_err-catalog-clause-schema : goal.returns-in_err-catalog-clause-schema

@@ -1,5 +1,5 @@
 use Rattle.std.proofs.lemmas.Result.{on_ok_weaker}
-use Rattle.mi_program.proofs.Servings.{serving_late}
+use Rattle.mi_program.proofs.ServingLemmas.{serving_late}
 use Rattle.mi_program.proofs.program.serve_database.Goals as goal
 
 pub returns-in-None-clause-late : goal.returns-in-None-clause-late

@@ -3,7 +3,7 @@ use Rattle.std.specs.Io.KnownBytes.{IsAtEnd}
 use Rattle.mi_hub.specs.Run.{piece, close, cut, AllDone, DoneToFault}
 use Rattle.mi_hub.specs.Watching.{watched}
 use Rattle.mi_hub.proofs.PieceLemmas.{same_err}
-use Rattle.mi_program.proofs.Servings.{has_come, was_read, was_write, was_turns}
+use Rattle.mi_program.proofs.ServingLemmas.{has_come, was_read, was_write, was_turns}
 use Rattle.mi_program.proofs.serve.serve.Goals as goal
 
 pub returns-in-Ok-serve_stream-clause-ok : goal.returns-in-Ok-serve_stream-clause-ok

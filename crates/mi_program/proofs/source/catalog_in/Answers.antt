@@ -1,7 +1,7 @@
 use Rattle.std.proofs.Common.{subst, sym}
 use Rattle.std.proofs.lemmas.Result.{err_from_is_err_and}
 use Rattle.mi_program.specs.Source.{IsUnread}
-use Rattle.mi_program.proofs.Texts.{unread}
+use Rattle.mi_program.proofs.TextLemmas.{unread}
 use Rattle.mi_program.proofs.source.catalog_in.Goals as goal
 
 pub returns-in_err-text : goal.returns-in_err-text

@@ -1,7 +1,7 @@
 use Rattle.std.proofs.Common.{rules, ◌≡◌, ◌≤◌, length}
 use Rattle.std.specs.Vec.{vec_len}
 use Rattle.mi_value.specs.declared.limits.TheConstants.{MAX_SCHEMA_FILE}
-use Rattle.mi_program.proofs.Texts.{whole_read}
+use Rattle.mi_program.proofs.TextLemmas.{whole_read}
 use Rattle.mi_program.proofs.source.whole_text.Goals as goal
 
 pub returns-else-len-gt-MAX_SCHEMA_FILE : goal.returns-else-len-gt-MAX_SCHEMA_FILE

@@ -4,7 +4,7 @@ use Rattle.std.proofs.lemmas.List.Elements.{All-nil}
 use Rattle.clap.specs.Built.{IsPlainArg}
 use Rattle.clap.specs.Words.{rule_of, new_app}
 use Rattle.mi_program.specs.Words.{option_rule, number_rule, flag_rule, port_parser, clients_parser, Stands}
-use Rattle.mi_program.proofs.Matched.{stands_more}
+use Rattle.mi_program.proofs.MatchedLemmas.{stands_more}
 use Rattle.mi_program.proofs.words.command.Goals as goal
 
 pub returns : goal.returns

@@ -1,6 +1,6 @@
 use Rattle.std.specs.Prelude.{map}
 use Rattle.clap.specs.Words.{app_of, matches_of}
-use Rattle.mi_program.proofs.Matched.{simple_of}
+use Rattle.mi_program.proofs.MatchedLemmas.{simple_of}
 use Rattle.mi_program.proofs.words.matched.Goals as goal
 
 pub returns-in-Ok-clause-ok : goal.returns-in-Ok-clause-ok

@@ -1,6 +1,6 @@
 use Rattle.std.proofs.Common.{◌≡◌, refl, sym, subst, true}
 use Rattle.clap.specs.Words.{App, is_simple_and_free}
-use Rattle.mi_program.proofs.Matched.{command_matched, command_refused}
+use Rattle.mi_program.proofs.MatchedLemmas.{command_matched, command_refused}
 use Rattle.mi_program.proofs.words.parse.Goals as goal
 
 pub matched-requires : goal.matched-requires

@@ -3,8 +3,8 @@ use Rattle.std.proofs.lemmas.Result.{err_from_is_err_and}
 use Rattle.clap.specs.Words.{found_of}
 use Rattle.clap.proofs.WalkLemmas.{first_value-rows, one_text-rows}
 use Rattle.mi_program.specs.Words.{is_set}
-use Rattle.mi_program.proofs.Values.{flag_read}
-use Rattle.mi_program.proofs.Numbers.{listen_read, clients_read, number_there, together}
+use Rattle.mi_program.proofs.ValueLemmas.{flag_read}
+use Rattle.mi_program.proofs.NumberLemmas.{listen_read, clients_read, number_there, together}
 use Rattle.mi_program.proofs.words.values.Goals as goal
 
 pub returns-clause-ok : goal.returns-clause-ok

@@ -167,7 +167,7 @@ fn assert_lists(rt: &impl Abort, chains: &Chains<ByNumber>, p: &Pool<i64>, names
 }
 
 #[test]
-#[tactic(auto, using(mi_node::proofs::Callers::refs))]
+#[tactic(auto, using(mi_node::proofs::EntryLemmas::refs))]
 fn rooms_and_pulls_change_no_list(rt: HostRuntime) {
     let mut p: Pool<i64> = Pool::with_slots(rt.alloc(), 2);
     let mut chains = no_chains(&rt, rt.alloc(), ByNumber);

@@ -154,7 +154,7 @@ fn second_leaves(
 }
 
 #[test]
-#[tactic(auto, using(mi_node::proofs::Callers::refs))]
+#[tactic(auto, using(mi_node::proofs::EntryLemmas::refs))]
 fn three_of_one_key(rt: HostRuntime) {
     let mut p: Pool<i64> = Pool::with_slots(rt.alloc(), 2);
     let nodes = take_three(&rt, &mut p, 7, 7, 7);
@@ -190,7 +190,7 @@ fn refuse_room(
 }
 
 #[test]
-#[tactic(auto, using(mi_node::proofs::Callers::refs))]
+#[tactic(auto, using(mi_node::proofs::EntryLemmas::refs))]
 fn refused_room_changes_no_list(rt: HostRuntime) {
     let mut p: Pool<i64> = Pool::with_slots(rt.alloc(), 2);
     let nodes = take_three(&rt, &mut p, 5, -5, 5);

@@ -1,9 +1,9 @@
 use Rattle.std.proofs.Common.{◌≡◌, ◌<◌, ◌+◌, ◌∙◌, arith}
 use Rattle.mi_tree.specs.Shape.{Shape, height, DifferByAtMost}
 use Rattle.mi_tree.specs.Joining.{AreSides}
-use Rattle.mi_tree.proofs.Shapes.{height-root, held-root}
-use Rattle.mi_tree.proofs.Heights.{low_enough}
-use Rattle.mi_tree.proofs.Turns.{plains, plain_parts}
+use Rattle.mi_tree.proofs.BinaryTreeLemmas.{height-root, held-root}
+use Rattle.mi_tree.proofs.HeightLemmas.{low_enough}
+use Rattle.mi_tree.proofs.RotationLemmas.{plains, plain_parts}
 use Rattle.mi_tree.proofs.balance.balance.Given.{Over}
 use Rattle.mi_tree.proofs.balance.balance.Goals.{After-height-right_height}
 use Rattle.mi_tree.proofs.balance.balance.Goals as goal

@@ -1,8 +1,8 @@
 use Rattle.std.proofs.Common.{◌≡◌, ◌<◌, ◌≤◌, None, refl, ap, ◌∙◌, arith}
 use Rattle.mi_tree.specs.Shape.{Shape, IsRooted, height}
 use Rattle.mi_tree.specs.Joining.{AreSides}
-use Rattle.mi_tree.proofs.Shapes.{moved, tip_is, height-root, held-root}
-use Rattle.mi_tree.proofs.Turns.{LeftOpened, left_opened, middle_opened, downs, left_boths}
+use Rattle.mi_tree.proofs.BinaryTreeLemmas.{moved, tip_is, height-root, held-root}
+use Rattle.mi_tree.proofs.RotationLemmas.{LeftOpened, left_opened, middle_opened, downs, left_boths}
 use Rattle.mi_tree.proofs.balance.lean_left.Given.{Over}
 use Rattle.mi_tree.proofs.balance.lean_left.Goals.{After-link-link, After-height-2}
 use Rattle.mi_tree.proofs.balance.lean_left.Goals as goal

@@ -1,8 +1,8 @@
 use Rattle.std.proofs.Common.{◌≡◌, ◌<◌, ◌≤◌, None, refl, ap, ◌∙◌, arith}
 use Rattle.mi_tree.specs.Shape.{Shape, IsRooted, height}
 use Rattle.mi_tree.specs.Joining.{AreSides}
-use Rattle.mi_tree.proofs.Shapes.{moved, tip_is, height-root, held-root}
-use Rattle.mi_tree.proofs.Turns.{RightOpened, right_opened, middle_opened, ups, right_boths}
+use Rattle.mi_tree.proofs.BinaryTreeLemmas.{moved, tip_is, height-root, held-root}
+use Rattle.mi_tree.proofs.RotationLemmas.{RightOpened, right_opened, middle_opened, ups, right_boths}
 use Rattle.mi_tree.proofs.balance.lean_right.Given.{Over}
 use Rattle.mi_tree.proofs.balance.lean_right.Goals.{After-link-link, After-height-2}
 use Rattle.mi_tree.proofs.balance.lean_right.Goals as goal

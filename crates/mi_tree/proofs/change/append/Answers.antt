@@ -1,6 +1,6 @@
 use Rattle.std.proofs.Common.{subst}
 use Rattle.mi_tree.specs.Sorted.{CanTake}
-use Rattle.mi_tree.proofs.Takes.{ends_take, ends_none, ends_sides, ends_appended}
+use Rattle.mi_tree.proofs.RemoveLemmas.{ends_take, ends_none, ends_sides, ends_appended}
 use Rattle.mi_tree.proofs.change.append.Goals as goal
 
 pub take_first-first-requires-clause-tree : goal.take_first-first-requires-clause-tree

@@ -3,7 +3,7 @@ use Rattle.mi_tree.specs.Shape.{Shape, Fork, Tip, nodes}
 use Rattle.mi_tree.specs.Sorted.{AreTagged, CanPut, side}
 use Rattle.mi_tree.specs.Ways.{Falls}
 use Rattle.mi_tree.specs.declared.way.Turn.{Turn}
-use Rattle.mi_tree.proofs.Ways.{falls_start, climbs_start, has_put}
+use Rattle.mi_tree.proofs.WayLemmas.{falls_start, climbs_start, has_put}
 use Rattle.mi_tree.proofs.change.put_in.Given.{Over}
 use Rattle.mi_tree.proofs.change.put_in.Goals.{After-new-way}
 use Rattle.mi_tree.proofs.change.put_in.Goals as goal

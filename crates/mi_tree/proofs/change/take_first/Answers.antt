@@ -5,7 +5,7 @@ use Rattle.mi_tree.specs.Shape.{Shape, Fork, Tip, nodes, height}
 use Rattle.mi_tree.specs.Sorted.{CanTake}
 use Rattle.mi_tree.specs.Ways.{Frame, Sinks, HasSunk}
 use Rattle.mi_tree.specs.declared.way.Turn.{Turn}
-use Rattle.mi_tree.proofs.Sinks.{some_first, sinks_start, held_here, alone_right, climbs_away, has_left}
+use Rattle.mi_tree.proofs.RemovalWayLemmas.{some_first, sinks_start, held_here, alone_right, climbs_away, has_left}
 use Rattle.mi_tree.proofs.change.take_first.Given.{Over}
 use Rattle.mi_tree.proofs.change.take_first.Goals.{After-new-way, After-go_first-first}
 use Rattle.mi_tree.proofs.change.take_first.Goals as goal

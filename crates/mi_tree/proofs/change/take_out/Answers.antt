@@ -4,7 +4,7 @@ use Rattle.mi_tree.specs.Shape.{Shape, nodes}
 use Rattle.mi_tree.specs.Sorted.{CanTake, Rising, side}
 use Rattle.mi_tree.specs.Ways.{Frame, Sinks, HasSunk}
 use Rattle.mi_tree.specs.declared.way.Turn.{Turn}
-use Rattle.mi_tree.proofs.Sinks.{sinks_start, held_here, height_here, ends_here, climbs_away, has_left}
+use Rattle.mi_tree.proofs.RemovalWayLemmas.{sinks_start, held_here, height_here, ends_here, climbs_away, has_left}
 use Rattle.mi_tree.proofs.change.take_out.Given.{Over}
 use Rattle.mi_tree.proofs.change.take_out.Goals.{After-new-way, After-go_to}
 use Rattle.mi_tree.proofs.change.take_out.Goals as goal

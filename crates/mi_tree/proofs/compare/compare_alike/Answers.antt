@@ -1,7 +1,7 @@
 use Rattle.std.proofs.Common.{sym, ◌∙◌}
 use Rattle.std.specs.Ordering.{ordering_then}
-use Rattle.mi_node.proofs.Callers.{held_has}
-use Rattle.mi_tree.proofs.Compares.{at_values, by_stamps}
+use Rattle.mi_node.proofs.EntryLemmas.{held_has}
+use Rattle.mi_tree.proofs.CompareLemmas.{at_values, by_stamps}
 use Rattle.mi_tree.proofs.compare.compare_alike.Goals as goal
 
 pub returns-then-decides-clause-result : goal.returns-then-decides-clause-result

@@ -1,6 +1,6 @@
 use Rattle.std.proofs.Common.{◌∙◌}
-use Rattle.mi_node.proofs.Callers.{held_has}
-use Rattle.mi_tree.proofs.Compares.{by_key}
+use Rattle.mi_node.proofs.EntryLemmas.{held_has}
+use Rattle.mi_tree.proofs.CompareLemmas.{by_key}
 use Rattle.mi_tree.proofs.compare.compare_nodes.Goals as goal
 
 pub returns-then-left_tag-right_tag-clause-result : goal.returns-then-left_tag-right_tag-clause-result

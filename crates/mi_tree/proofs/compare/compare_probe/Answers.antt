@@ -1,6 +1,6 @@
 use Rattle.std.proofs.Common.{sym, ◌∙◌}
-use Rattle.mi_node.proofs.Callers.{held_has}
-use Rattle.mi_tree.proofs.Compares.{by_probe}
+use Rattle.mi_node.proofs.EntryLemmas.{held_has}
+use Rattle.mi_tree.proofs.CompareLemmas.{by_probe}
 use Rattle.mi_tree.proofs.compare.compare_probe.Goals as goal
 
 pub returns-then-tag-sought-clause-result : goal.returns-then-tag-sought-clause-result

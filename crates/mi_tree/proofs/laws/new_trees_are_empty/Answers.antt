@@ -1,4 +1,4 @@
-use Rattle.mi_tree.proofs.Frames.{tree_empty}
+use Rattle.mi_tree.proofs.FrameLemmas.{tree_empty}
 use Rattle.mi_tree.proofs.laws.new_trees_are_empty.Goals as goal
 
 pub returns : goal.returns

@@ -1,4 +1,4 @@
-use Rattle.mi_tree.proofs.Frames.{tree_listed}
+use Rattle.mi_tree.proofs.FrameLemmas.{tree_listed}
 use Rattle.mi_tree.proofs.laws.trees_are_listed.Goals as goal
 
 pub returns : goal.returns

@@ -1,4 +1,4 @@
-use Rattle.mi_tree.proofs.Heights.{has_enough}
+use Rattle.mi_tree.proofs.HeightLemmas.{has_enough}
 use Rattle.mi_tree.proofs.laws.trees_have_enough.Goals as goal
 
 pub returns : goal.returns

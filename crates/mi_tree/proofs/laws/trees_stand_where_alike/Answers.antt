@@ -1,4 +1,4 @@
-use Rattle.mi_tree.proofs.Frames.{tree_where}
+use Rattle.mi_tree.proofs.FrameLemmas.{tree_where}
 use Rattle.mi_tree.proofs.laws.trees_stand_where_alike.Goals as goal
 
 pub returns : goal.returns

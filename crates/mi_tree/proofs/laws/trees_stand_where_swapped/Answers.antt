@@ -1,4 +1,4 @@
-use Rattle.mi_tree.proofs.Frames.{tree_swapped}
+use Rattle.mi_tree.proofs.FrameLemmas.{tree_swapped}
 use Rattle.mi_tree.proofs.laws.trees_stand_where_swapped.Goals as goal
 
 pub returns : goal.returns

@@ -1,6 +1,6 @@
 use Rattle.std.proofs.Common.{◌≡◌}
 use Rattle.mi_tree.specs.Shape.{height_at}
-use Rattle.mi_tree.proofs.Looks.{Carrying}
+use Rattle.mi_tree.proofs.LookUpLemmas.{Carrying}
 use Rattle.mi_tree.proofs.look.nth_in.Given as goal
 
 abbrev pub invariant-loop-at : goal.invariant-loop-at

@@ -3,10 +3,10 @@ use Rattle.mi_node.specs.Pool.{Pooled, link_of, IsHeld}
 use Rattle.mi_node.specs.declared.link.Link.{Link}
 use Rattle.mi_tree.specs.Shape.{size_at}
 use Rattle.mi_tree.specs.Sorted.{side}
-use Rattle.mi_tree.proofs.Shapes.{held-moved, lower-moved}
-use Rattle.mi_tree.proofs.Sorts.{side_read, tagged_read}
-use Rattle.mi_tree.proofs.Ranks.{rank_start, rank_held, rank_back, rank_forth, rank_tag, rank_lower, rank_left}
-use Rattle.mi_tree.proofs.Ranks.{rank_right, rank_here, rank_fits_here, rank_fits_right, rank_not_less, rank_end}
+use Rattle.mi_tree.proofs.BinaryTreeLemmas.{held-moved, lower-moved}
+use Rattle.mi_tree.proofs.SortedLemmas.{side_read, tagged_read}
+use Rattle.mi_tree.proofs.RankLemmas.{rank_start, rank_held, rank_back, rank_forth, rank_tag, rank_lower, rank_left}
+use Rattle.mi_tree.proofs.RankLemmas.{rank_right, rank_here, rank_fits_here, rank_fits_right, rank_not_less, rank_end}
 use Rattle.mi_tree.proofs.look.rank_in.Given.{Over}
 use Rattle.mi_tree.proofs.look.rank_in.Goals.{After-link-link, After-compare_nodes, After-size, After-size-in-Greater}
 use Rattle.mi_tree.proofs.look.rank_in.Goals as goal

@@ -1,6 +1,6 @@
 use Rattle.std.proofs.Common.{◌≡◌}
 use Rattle.mi_tree.specs.Shape.{height_at}
-use Rattle.mi_tree.proofs.Ranks.{Ranking}
+use Rattle.mi_tree.proofs.RankLemmas.{Ranking}
 use Rattle.mi_tree.proofs.look.rank_in.Given as goal
 
 abbrev pub invariant-loop-at : goal.invariant-loop-at

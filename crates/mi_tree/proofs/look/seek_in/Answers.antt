@@ -2,9 +2,9 @@ use Rattle.std.proofs.Common.{◌≡◌, sym, refl, ap, ◌∙◌, subst}
 use Rattle.mi_node.specs.Pool.{Pooled, link_of, IsHeld}
 use Rattle.mi_node.specs.declared.link.Link.{Link}
 use Rattle.mi_tree.specs.Probed.{is_past_node}
-use Rattle.mi_tree.proofs.Shapes.{lower-moved}
-use Rattle.mi_tree.proofs.Sorts.{tagged_read}
-use Rattle.mi_tree.proofs.Looks.{past_read, seek_held, seek_tag, seek_lower, seek_left, seek_right, seek_end}
+use Rattle.mi_tree.proofs.BinaryTreeLemmas.{lower-moved}
+use Rattle.mi_tree.proofs.SortedLemmas.{tagged_read}
+use Rattle.mi_tree.proofs.LookUpLemmas.{past_read, seek_held, seek_tag, seek_lower, seek_left, seek_right, seek_end}
 use Rattle.mi_tree.proofs.look.seek_in.Given.{Over}
 use Rattle.mi_tree.proofs.look.seek_in.Goals.{After-link-link, After-is_past}
 use Rattle.mi_tree.proofs.look.seek_in.Goals as goal

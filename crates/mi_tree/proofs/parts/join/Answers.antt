@@ -1,8 +1,8 @@
 use Rattle.std.proofs.Common.{◌≡◌, ◌+◌, max, ap, ◌∙◌, arith}
 use Rattle.mi_node.specs.declared.link.Link.{Link}
 use Rattle.mi_tree.specs.Shape.{size, height_at}
-use Rattle.mi_tree.proofs.Shapes.{size-root, height-root, held-root}
-use Rattle.mi_tree.proofs.Joins.{fork_of}
+use Rattle.mi_tree.proofs.BinaryTreeLemmas.{size-root, height-root, held-root}
+use Rattle.mi_tree.proofs.JoinLemmas.{fork_of}
 use Rattle.mi_tree.proofs.parts.join.Given.{Over}
 use Rattle.mi_tree.proofs.parts.join.Goals.{After-size-2, After-max}
 use Rattle.mi_tree.proofs.parts.join.Goals as goal

@@ -1,8 +1,8 @@
 use Rattle.std.proofs.Common.{[], ◌∷◌, sym, ap, ◌∙◌, subst}
 use Rattle.mi_node.specs.Pool.{Keeps}
-use Rattle.mi_node.proofs.Callers.{slots-with_link}
-use Rattle.mi_node.proofs.Keeping.{keeps_link}
-use Rattle.mi_tree.proofs.Joins.{joined, tags_set}
+use Rattle.mi_node.proofs.EntryLemmas.{slots-with_link}
+use Rattle.mi_node.proofs.KeepingLemmas.{keeps_link}
+use Rattle.mi_tree.proofs.JoinLemmas.{joined, tags_set}
 use Rattle.mi_tree.proofs.parts.set_fork.Goals as goal
 
 pub returns-clause-tree : goal.returns-clause-tree

@@ -2,8 +2,8 @@ use Rattle.std.proofs.Common.{◌≡◌, ℕ, suc, ◌+◌, ◌-◌, ◌<◌, �
 use Rattle.mi_node.specs.Pool.{Pooled}
 use Rattle.mi_tree.specs.Shape.{Shape, IsRooted, nodes, size_at}
 use Rattle.mi_tree.specs.Walking.{is_ascending}
-use Rattle.mi_tree.proofs.Shapes.{size-root, size-nodes, slot-moved}
-use Rattle.mi_tree.proofs.Walks.{entered, enters_left, enters_right, enters_lower, goes_moved, way_left, way_right}
+use Rattle.mi_tree.proofs.BinaryTreeLemmas.{size-root, size-nodes, slot-moved}
+use Rattle.mi_tree.proofs.WalkLemmas.{entered, enters_left, enters_right, enters_lower, goes_moved, way_left, way_right}
 use Rattle.mi_tree.proofs.walk.+cut_down.Given.{Over}
 use Rattle.mi_tree.proofs.walk.+cut_down.Goals.{In-Some, After-size-before, After-push_if, After-push_if-else-passed-before}
 use Rattle.mi_tree.proofs.walk.+cut_down.Goals as goal

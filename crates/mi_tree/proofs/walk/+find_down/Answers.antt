@@ -4,11 +4,11 @@ use Rattle.mi_node.specs.declared.link.Link.{Link}
 use Rattle.mi_tree.specs.Shape.{nodes}
 use Rattle.mi_tree.specs.Sorted.{AreTagged, side}
 use Rattle.mi_tree.specs.Walking.{is_ascending}
-use Rattle.mi_tree.proofs.Shapes.{moved, tip_is, slot-moved}
-use Rattle.mi_tree.proofs.Sorts.{side_read, tagged_read, tagged_right, none_here}
-use Rattle.mi_tree.proofs.Takes.{held_in}
-use Rattle.mi_tree.proofs.Walks.{entered, enters_lower}
-use Rattle.mi_tree.proofs.Finds.{Finding, finding, find_left, find_right, find_here, found_left, found_right, find_tags, way_of}
+use Rattle.mi_tree.proofs.BinaryTreeLemmas.{moved, tip_is, slot-moved}
+use Rattle.mi_tree.proofs.SortedLemmas.{side_read, tagged_read, tagged_right, none_here}
+use Rattle.mi_tree.proofs.RemoveLemmas.{held_in}
+use Rattle.mi_tree.proofs.WalkLemmas.{entered, enters_lower}
+use Rattle.mi_tree.proofs.FindLemmas.{Finding, finding, find_left, find_right, find_here, found_left, found_right, find_tags, way_of}
 use Rattle.mi_tree.proofs.walk.+find_down.Given.{Over}
 use Rattle.mi_tree.proofs.walk.+find_down.Goals.{In-Some, After-link-link, After-compare_nodes, After-push_if, After-push_if-in-Greater}
 use Rattle.mi_tree.proofs.walk.+find_down.Goals as goal

@@ -3,7 +3,7 @@ use Rattle.mi_node.specs.Pool.{Pooled}
 use Rattle.mi_node.specs.Refs.{Ref}
 use Rattle.mi_tree.specs.Shape.{Shape, height_at}
 use Rattle.mi_tree.specs.Walking.{Pending, Enters, Goes}
-use Rattle.mi_tree.proofs.Walks.{entered, ahead_near, nearer, farther}
+use Rattle.mi_tree.proofs.WalkLemmas.{entered, ahead_near, nearer, farther}
 use Rattle.mi_tree.proofs.walk.+go_down.Goals as goal
 
 pub push-requires : goal.push-requires

@@ -3,9 +3,9 @@ use Rattle.mi_node.specs.Refs.{Ref}
 use Rattle.mi_node.specs.declared.link.Link.{Link}
 use Rattle.mi_tree.specs.Shape.{Shape, height_at}
 use Rattle.mi_tree.specs.Ways.{Frame, way_of, Climbs}
-use Rattle.mi_tree.proofs.Shapes.{held-root}
-use Rattle.mi_tree.proofs.Ways.{IsTurned, NextClimb, turned_back, no_turn, climbed_none, turn_held, shorter_way, climb_given, low_below}
-use Rattle.mi_tree.proofs.Ways.{next_climb, same_climbs, same_level}
+use Rattle.mi_tree.proofs.BinaryTreeLemmas.{held-root}
+use Rattle.mi_tree.proofs.WayLemmas.{IsTurned, NextClimb, turned_back, no_turn, climbed_none, turn_held, shorter_way, climb_given, low_below}
+use Rattle.mi_tree.proofs.WayLemmas.{next_climb, same_climbs, same_level}
 use Rattle.mi_tree.proofs.way.+climb.Given.{Over}
 use Rattle.mi_tree.proofs.way.+climb.Goals.{In-Some, After-rejoin-top}
 use Rattle.mi_tree.proofs.way.+climb.Goals as goal

@@ -2,7 +2,7 @@ use Rattle.std.proofs.Common.{ℕ, ◌<◌, List, [], length, Some, refl, sym, �
 use Rattle.mi_node.specs.Refs.{Ref}
 use Rattle.mi_tree.specs.Shape.{Shape, Tip}
 use Rattle.mi_tree.specs.Ways.{Frame, Sinks}
-use Rattle.mi_tree.proofs.Sinks.{NextSink, sunk_first, keeps_here, room_here, next_first}
+use Rattle.mi_tree.proofs.RemovalWayLemmas.{NextSink, sunk_first, keeps_here, room_here, next_first}
 use Rattle.mi_tree.proofs.way.+go_first.Given.{Over}
 use Rattle.mi_tree.proofs.way.+go_first.Goals.{After-push}
 use Rattle.mi_tree.proofs.way.+go_first.Goals as goal

@@ -3,8 +3,8 @@ use Rattle.mi_node.specs.declared.link.Link.{Link}
 use Rattle.mi_tree.specs.Shape.{Shape}
 use Rattle.mi_tree.specs.Sorted.{side}
 use Rattle.mi_tree.specs.Ways.{Frame, Falls}
-use Rattle.mi_tree.proofs.Sorts.{side_read, tagged_read}
-use Rattle.mi_tree.proofs.Ways.{NextFall, fallen_none, here_tagged, room_here, keeps_here, same_tag, next_fall}
+use Rattle.mi_tree.proofs.SortedLemmas.{side_read, tagged_read}
+use Rattle.mi_tree.proofs.WayLemmas.{NextFall, fallen_none, here_tagged, room_here, keeps_here, same_tag, next_fall}
 use Rattle.mi_tree.proofs.way.+go_in.Given.{Over}
 use Rattle.mi_tree.proofs.way.+go_in.Goals.{After-child-next}
 use Rattle.mi_tree.proofs.way.+go_in.Goals as goal

@@ -4,10 +4,10 @@ use Rattle.mi_node.specs.declared.link.Link.{Link}
 use Rattle.mi_tree.specs.Shape.{Shape, nodes}
 use Rattle.mi_tree.specs.Sorted.{AreTagged, side, Rising}
 use Rattle.mi_tree.specs.Ways.{Frame, Sinks}
-use Rattle.mi_tree.proofs.Shapes.{moved, tip_is}
-use Rattle.mi_tree.proofs.Sorts.{side_read, tagged_read, none_here, tagged_right}
-use Rattle.mi_tree.proofs.Takes.{held_in}
-use Rattle.mi_tree.proofs.Sinks.{NextSink, sunk_equal, equal_is, keeps_here, tags_here, tagged_here, room_here, next_sink}
+use Rattle.mi_tree.proofs.BinaryTreeLemmas.{moved, tip_is}
+use Rattle.mi_tree.proofs.SortedLemmas.{side_read, tagged_read, none_here, tagged_right}
+use Rattle.mi_tree.proofs.RemoveLemmas.{held_in}
+use Rattle.mi_tree.proofs.RemovalWayLemmas.{NextSink, sunk_equal, equal_is, keeps_here, tags_here, tagged_here, room_here, next_sink}
 use Rattle.mi_tree.proofs.way.+go_to.Given.{Over}
 use Rattle.mi_tree.proofs.way.+go_to.Goals.{After-compare_nodes-side, After-child-next}
 use Rattle.mi_tree.proofs.way.+go_to.Goals as goal

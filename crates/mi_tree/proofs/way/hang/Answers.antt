@@ -3,10 +3,10 @@ use Rattle.mi_node.specs.Refs.{Ref}
 use Rattle.mi_tree.specs.Shape.{Shape, height}
 use Rattle.mi_node.specs.Pool.{Pooled, with_link}
 use Rattle.mi_node.specs.declared.link.Link.{Link}
-use Rattle.mi_node.proofs.Callers.{slots-with_link}
+use Rattle.mi_node.proofs.EntryLemmas.{slots-with_link}
 use Rattle.mi_tree.specs.Ways.{Frame, way_of, plug, Climbs, HasClimbed}
-use Rattle.mi_tree.proofs.Shapes.{height-root}
-use Rattle.mi_tree.proofs.Ways.{IsTurned, turned_back, no_turn, climbed_none, turn_held, plug_height, hung}
+use Rattle.mi_tree.proofs.BinaryTreeLemmas.{height-root}
+use Rattle.mi_tree.proofs.WayLemmas.{IsTurned, turned_back, no_turn, climbed_none, turn_held, plug_height, hung}
 use Rattle.mi_tree.proofs.way.hang.Given.{Over}
 use Rattle.mi_tree.proofs.way.hang.Goals.{In-Some, After-set_link}
 use Rattle.mi_tree.proofs.way.hang.Goals as goal

@@ -2,7 +2,7 @@ use Rattle.std.proofs.Common.{◌+◌, sym, ap, ◌∙◌, subst}
 use Rattle.mi_node.specs.declared.link.Link.{Link}
 use Rattle.mi_tree.specs.Joining.{IsFork}
 use Rattle.mi_tree.specs.Ways.{rehung}
-use Rattle.mi_tree.proofs.Turns.{plains}
+use Rattle.mi_tree.proofs.RotationLemmas.{plains}
 use Rattle.mi_tree.proofs.way.rejoin.Goals as goal
 
 pub returns-then-height-link-clause-tree : goal.returns-then-height-link-clause-tree

@@ -1,7 +1,7 @@
 use Rattle.std.proofs.Common.{Option, Some, sym, ◌∙◌, subst}
 use Rattle.mi_node.specs.Refs.{Ref}
 use Rattle.mi_tree.specs.Ways.{Climbs}
-use Rattle.mi_tree.proofs.Shapes.{height-root}
+use Rattle.mi_tree.proofs.BinaryTreeLemmas.{height-root}
 use Rattle.mi_tree.proofs.way.replace.Goals as goal
 
 pub hang-requires-clause-way : goal.hang-requires-clause-way

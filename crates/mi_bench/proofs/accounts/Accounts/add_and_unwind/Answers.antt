@@ -1,6 +1,6 @@
 -- the modify that was just made can be taken back, also where it lost the record
 use Rattle.mi_container.specs.Inverse.{lost_to}
-use Rattle.mi_bench.proofs.Undone.{modify_back}
+use Rattle.mi_bench.proofs.UndoneLemmas.{modify_back}
 use Rattle.mi_bench.proofs.accounts.Accounts.add_and_unwind.Goals as goal
 
 pub unwind-requires-clause-ready : goal.unwind-requires-clause-ready

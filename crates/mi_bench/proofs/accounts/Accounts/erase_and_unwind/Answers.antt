@@ -1,5 +1,5 @@
 -- the erase that was just made can be taken back
-use Rattle.mi_bench.proofs.Undone.{erase_back}
+use Rattle.mi_bench.proofs.UndoneLemmas.{erase_back}
 use Rattle.mi_bench.proofs.accounts.Accounts.erase_and_unwind.Goals as goal
 
 pub unwind-requires-clause-ready : goal.unwind-requires-clause-ready

@@ -1,8 +1,8 @@
 use Rattle.std.proofs.Common.{◌<◌, ◌%◌, sym, ap, ◌∙◌, subst, vec_len, slice_index_or, None}
 use Rattle.mi_chain.specs.Keying.{stamp_at, hash_node, has_key, same_nodes}
-use Rattle.mi_chain.proofs.ByValue.{alike, same_hash, of_probe, hash_of_probe}
-use Rattle.mi_chain.proofs.Stands.{first_found, in_is}
-use Rattle.mi_chain.proofs.Whole.{here, groups_at, chain_here, tags_here}
+use Rattle.mi_chain.proofs.KeyingLemmas.{alike, same_hash, of_probe, hash_of_probe}
+use Rattle.mi_chain.proofs.StandingLemmas.{first_found, in_is}
+use Rattle.mi_chain.proofs.CallLemmas.{here, groups_at, chain_here, tags_here}
 use Rattle.mi_chain.proofs.chains.Chains.first_of.Goals as goal
 
 pub bucket-bucket-requires : goal.bucket-bucket-requires

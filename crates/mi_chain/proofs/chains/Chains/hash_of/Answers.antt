@@ -1,6 +1,6 @@
 -- The hash of the value that the node has.
 use Rattle.std.proofs.Common.{sym, ◌∙◌}
-use Rattle.mi_chain.proofs.ByValue.{hash_is}
+use Rattle.mi_chain.proofs.KeyingLemmas.{hash_is}
 use Rattle.mi_chain.proofs.chains.Chains.hash_of.Goals as goal
 
 pub returns : goal.returns

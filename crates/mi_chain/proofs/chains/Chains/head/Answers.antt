@@ -1,5 +1,5 @@
 use Rattle.std.proofs.Common.{◌≡◌, ◌<◌, ◌∙◌, None, length, vec_len, subst}
-use Rattle.mi_chain.proofs.Stands.{any_head}
+use Rattle.mi_chain.proofs.StandingLemmas.{any_head}
 use Rattle.mi_chain.proofs.chains.Chains.head.Goals as goal
 
 pub returns : goal.returns

@@ -8,9 +8,9 @@ use Rattle.mi_chain.specs.Keying.{same_nodes, stamp_at, hash_node}
 use Rattle.mi_chain.specs.Heads.{heads_joined}
 use Rattle.mi_chain.specs.Groups.{members, IsChain}
 use Rattle.mi_chain.specs.Places.{Found, IsFound, IsGap}
-use Rattle.mi_chain.proofs.ByValue.{hash_is}
-use Rattle.mi_chain.proofs.Whole.{Group, held_or, group_at, gap_ends, here, groups_at, chain_here}
-use Rattle.mi_chain.proofs.Whole.{tags_here, few_groups, none_left, spot_of_gap, inserted_new, inserted_old, tags_put}
+use Rattle.mi_chain.proofs.KeyingLemmas.{hash_is}
+use Rattle.mi_chain.proofs.CallLemmas.{Group, held_or, group_at, gap_ends, here, groups_at, chain_here}
+use Rattle.mi_chain.proofs.CallLemmas.{tags_here, few_groups, none_left, spot_of_gap, inserted_new, inserted_old, tags_put}
 use Rattle.mi_chain.proofs.chains.Chains.insert.Goals.{After-bucket-bucket, After-head-head, In-Some, After-gap_for-gap, After-begin_group, After-put}
 use Rattle.mi_chain.proofs.chains.Chains.insert.Given.{Over}
 use Rattle.mi_chain.proofs.chains.Chains.insert.Goals as goal

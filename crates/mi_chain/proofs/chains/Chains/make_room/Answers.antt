@@ -1,6 +1,6 @@
 use Rattle.std.proofs.Common.{◌≡◌, ◌<◌, ◌∙◌, refl, ap, rules, vec_len, None, replicate}
 use Rattle.std.specs.Int.{IsPowerOfTwo}
-use Rattle.mi_chain.proofs.Moving.{none_moved}
+use Rattle.mi_chain.proofs.MoveLemmas.{none_moved}
 use Rattle.mi_chain.proofs.chains.Chains.make_room.Goals as goal
 
 pub move_all-requires : goal.move_all-requires

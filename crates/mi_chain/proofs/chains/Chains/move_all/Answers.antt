@@ -1,8 +1,8 @@
 use Rattle.std.proofs.Common.{◌≡◌, ◌<◌, ◌∙◌, sym, subst, vec_len, slice_index_or, None, arith}
 use Rattle.mi_node.specs.Pool.{Keeps, link_of}
-use Rattle.mi_node.proofs.Keeping.{keeps_then}
+use Rattle.mi_node.proofs.KeepingLemmas.{keeps_then}
 use Rattle.mi_chain.specs.Moves.{AreBetween}
-use Rattle.mi_chain.proofs.Moving.{all_below, all_moved}
+use Rattle.mi_chain.proofs.MoveLemmas.{all_below, all_moved}
 use Rattle.mi_chain.proofs.chains.Chains.move_all.Goals as goal
 
 pub move_bucket-requires-clause-moving : goal.move_bucket-requires-clause-moving

@@ -1,8 +1,8 @@
 use Rattle.std.proofs.Common.{◌≡◌, ◌<◌, length, ◌∙◌, sym, ap, subst, vec_len, slice_index_or, Some, None}
 use Rattle.mi_node.specs.Pool.{Keeps, node_count, link_of}
-use Rattle.mi_node.proofs.Keeping.{keeps_then}
+use Rattle.mi_node.proofs.KeepingLemmas.{keeps_then}
 use Rattle.mi_chain.specs.Moves.{AreBetween, hops, next_group}
-use Rattle.mi_chain.proofs.Stands.{any_head}
+use Rattle.mi_chain.proofs.StandingLemmas.{any_head}
 use Rattle.mi_chain.proofs.chains.Chains.move_bucket.Goals as goal
 
 pub move_group-requires-clause-moving : goal.move_group-requires-clause-moving

@@ -3,10 +3,10 @@ use Rattle.std.specs.Vec.{with_item}
 use Rattle.mi_node.specs.Pool.{Pooled, IsHeldIf, link_of}
 use Rattle.mi_node.specs.Neighbours.{with_forth_if}
 use Rattle.mi_node.specs.declared.link.Link.{Link}
-use Rattle.mi_node.proofs.NeighbourLaws.{tag-forth}
+use Rattle.mi_node.proofs.NeighbourLemmas.{tag-forth}
 use Rattle.mi_chain.specs.Keying.{hash_node}
 use Rattle.mi_chain.specs.Places.{forth_of}
-use Rattle.mi_chain.proofs.Moving.{group_first, group_back, group_tag, group_room, group_keeps, group_moves, group_fewer}
+use Rattle.mi_chain.proofs.MoveLemmas.{group_first, group_back, group_tag, group_room, group_keeps, group_moves, group_fewer}
 use Rattle.mi_chain.proofs.chains.Chains.move_group.Given.{Over}
 use Rattle.mi_chain.proofs.chains.Chains.move_group.Goals.{After-bucket-target, After-set_forth}
 use Rattle.mi_chain.proofs.chains.Chains.move_group.Goals as goal

@@ -1,8 +1,8 @@
 use Rattle.std.proofs.Common.{◌≡◌, true, false, inl, inr, sym, ap, ◌∙◌}
 use Rattle.mi_node.specs.declared.link.Link.{Link}
 use Rattle.mi_chain.specs.Places.{is_named}
-use Rattle.mi_chain.proofs.Classes.{not_both}
-use Rattle.mi_chain.proofs.Whole.{held_it, next_of_it, none_of_it}
+use Rattle.mi_chain.proofs.GroupLemmas.{not_both}
+use Rattle.mi_chain.proofs.CallLemmas.{held_it, next_of_it, none_of_it}
 use Rattle.mi_chain.proofs.chains.Chains.next_of.Goals as goal
 
 pub link-link-requires-clause-held : goal.link-link-requires-clause-held

@@ -2,8 +2,8 @@ use Rattle.std.proofs.Common.{◌≡◌, true, false, inl, inr, sym, ap, ◌∙�
 use Rattle.mi_node.specs.Pool.{IsHeldIf, link_of}
 use Rattle.mi_node.specs.declared.link.Link.{Link}
 use Rattle.mi_chain.specs.Places.{is_named, forth_of}
-use Rattle.mi_chain.proofs.Classes.{not_both}
-use Rattle.mi_chain.proofs.Whole.{held_it, back_held, prev_of_it}
+use Rattle.mi_chain.proofs.GroupLemmas.{not_both}
+use Rattle.mi_chain.proofs.CallLemmas.{held_it, back_held, prev_of_it}
 use Rattle.mi_chain.proofs.chains.Chains.prev_of.Goals as goal
 
 pub link-link-requires-clause-held : goal.link-link-requires-clause-held

@@ -1,7 +1,7 @@
 use Rattle.std.proofs.Common.{◌<◌, sym, subst}
 use Rattle.mi_node.specs.Pool.{IsHeldIf}
-use Rattle.mi_node.proofs.Callers.{slots-with_link}
-use Rattle.mi_node.proofs.NeighbourLaws.{held_link}
+use Rattle.mi_node.proofs.EntryLemmas.{slots-with_link}
+use Rattle.mi_node.proofs.NeighbourLemmas.{held_link}
 use Rattle.mi_chain.proofs.chains.Chains.put.Goals as goal
 
 pub join-requires-clause-held : goal.join-requires-clause-held

@@ -7,8 +7,8 @@ use Rattle.mi_chain.specs.Chained.{AreChained, FitsBetween}
 use Rattle.mi_chain.specs.Groups.{IsChain}
 use Rattle.mi_chain.specs.Keying.{hash_node}
 use Rattle.mi_chain.specs.Heads.{heads_joined}
-use Rattle.mi_chain.proofs.Whole.{here, groups_at, chain_here, few_groups, sides_held, none_beside}
-use Rattle.mi_chain.proofs.Whole.{room_for, Room, room_holds, inserted_new, inserted_old, tags_put}
+use Rattle.mi_chain.proofs.CallLemmas.{here, groups_at, chain_here, few_groups, sides_held, none_beside}
+use Rattle.mi_chain.proofs.CallLemmas.{room_for, Room, room_holds, inserted_new, inserted_old, tags_put}
 use Rattle.mi_chain.proofs.chains.Chains.relink.Goals.{After-bucket-bucket, After-begin_group, After-put}
 use Rattle.mi_chain.proofs.chains.Chains.relink.Given.{Over}
 use Rattle.mi_chain.proofs.chains.Chains.relink.Goals as goal

@@ -4,12 +4,12 @@ use Rattle.mi_node.specs.Pool.{Pooled, Keeps, ref_of, link_of, with_link}
 use Rattle.mi_node.specs.Neighbours.{joined}
 use Rattle.mi_node.specs.Refs.{Ref}
 use Rattle.mi_node.specs.declared.link.Link.{Link}
-use Rattle.mi_node.proofs.NeighbourLaws.{ref-joined, slots-joined}
+use Rattle.mi_node.proofs.NeighbourLemmas.{ref-joined, slots-joined}
 use Rattle.mi_chain.specs.Chained.{AreChained, FitsBetween}
 use Rattle.mi_chain.specs.Keying.{hash_node}
 use Rattle.mi_chain.specs.Heads.{heads_joined}
 use Rattle.mi_chain.specs.Places.{end_at, is_empty}
-use Rattle.mi_chain.proofs.Whole.{here, groups_at, chain_here, held_it, tag_is, spot, Spot, spot_holds, some_groups, removed}
+use Rattle.mi_chain.proofs.CallLemmas.{here, groups_at, chain_here, held_it, tag_is, spot, Spot, spot_holds, some_groups, removed}
 use Rattle.mi_chain.proofs.chains.Chains.remove.Goals.{After-groups_left-self}
 use Rattle.mi_chain.proofs.chains.Chains.remove.Given.{Over}
 use Rattle.mi_chain.proofs.chains.Chains.remove.Goals as goal

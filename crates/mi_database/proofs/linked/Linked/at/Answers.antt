@@ -6,8 +6,8 @@ use Rattle.mi_model.specs.Table.{IsTable}
 use Rattle.mi_model.specs.Database.{IsDatabase, schema_of}
 use Rattle.mi_database.specs.Journal.{state_of}
 use Rattle.mi_model.proofs.InvariantLaws.{table_is, zip_length}
-use Rattle.mi_database.proofs.EndLaws.{held_database}
-use Rattle.mi_database.proofs.StateLaws.{within_containers, table_of_container}
+use Rattle.mi_database.proofs.EndLemmas.{held_database}
+use Rattle.mi_database.proofs.StateLemmas.{within_containers, table_of_container}
 use Rattle.mi_database.proofs.linked.Linked.at.Goals as goal
 
 pub returns-clause-table : goal.returns-clause-table

@@ -2,7 +2,7 @@
 use Rattle.std.proofs.Common.{◌∙◌, ◌+◌, ap, sym, subst, arith}
 use Rattle.mi_journal.specs.Noted.{OldestIsEmpty}
 use Rattle.mi_database.specs.Held.{Held, EndsOldest}
-use Rattle.mi_database.proofs.LoopLaws.{held, settling_from, settling_more, settled_up, ends_law, ended_law}
+use Rattle.mi_database.proofs.LoopLemmas.{held, settling_from, settling_more, settled_up, ends_law, ended_law}
 use Rattle.mi_database.proofs.linked.Linked.end_oldest.Goals as goal
 
 pub loop-init : goal.loop-init

@@ -6,8 +6,8 @@ use Rattle.mi_model.specs.Lookup.{find}
 use Rattle.mi_model.specs.Database.{Database, schema_of, table_of}
 use Rattle.mi_database.specs.Held.{meaning}
 use Rattle.mi_database.specs.Keyed.{keyed, ErasesOne}
-use Rattle.mi_database.proofs.KeyLaws.{erases_first, erased_there, erases_one, some_found}
-use Rattle.mi_database.proofs.KeptLaws.{first_keeps}
+use Rattle.mi_database.proofs.KeyLemmas.{erases_first, erased_there, erases_one, some_found}
+use Rattle.mi_database.proofs.KeptLemmas.{first_keeps}
 use Rattle.mi_database.proofs.linked.Linked.erase_first.Goals as goal
 
 pub returns-in-Some-clause-one : goal.returns-in-Some-clause-one

@@ -10,10 +10,10 @@ use Rattle.mi_container.specs.Inverse.{keeps}
 use Rattle.mi_container.specs.Run.Change.{Erase}
 use Rattle.mi_journal.specs.Noted.{noted}
 use Rattle.mi_database.specs.Held.{Held, meaning}
-use Rattle.mi_database.proofs.HeldLaws.{Made, some_change}
-use Rattle.mi_database.proofs.LoopLaws.{held}
-use Rattle.mi_database.proofs.KeptLaws.{erase_keeps, erase_refused, refused_keeps, met_refusal}
-use Rattle.mi_database.proofs.ChangeLaws.{Spot, spot, spot_keeps, spot_made, spot_held, spot_outcome, spot_stays, spot_refused}
+use Rattle.mi_database.proofs.LinkedDataLemmas.{Made, some_change}
+use Rattle.mi_database.proofs.LoopLemmas.{held}
+use Rattle.mi_database.proofs.KeptLemmas.{erase_keeps, erase_refused, refused_keeps, met_refusal}
+use Rattle.mi_database.proofs.ChangeLemmas.{Spot, spot, spot_keeps, spot_made, spot_held, spot_outcome, spot_stays, spot_refused}
 use Rattle.mi_database.proofs.linked.Linked.erase_row.Given.{Over}
 use Rattle.mi_database.proofs.linked.Linked.erase_row.Goals.{After-erase, After-keep}
 use Rattle.mi_database.proofs.linked.Linked.erase_row.Goals as goal

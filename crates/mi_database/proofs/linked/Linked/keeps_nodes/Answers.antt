@@ -2,7 +2,7 @@
 use Rattle.std.proofs.Common.{◌<◌, length, sym, subst}
 use Rattle.mi_database.specs.Held.{Held}
 use Rattle.mi_database.specs.Kept.{NodesAreKept}
-use Rattle.mi_database.proofs.KeptLaws.{nodes_kept}
+use Rattle.mi_database.proofs.KeptLemmas.{nodes_kept}
 use Rattle.mi_database.proofs.linked.Linked.keeps_nodes.Goals as goal
 
 pub returns : goal.returns

@@ -1,5 +1,5 @@
 -- what a catalog opens with
-use Rattle.mi_database.proofs.OpenLaws.{opened_at, opened_state}
+use Rattle.mi_database.proofs.OpeningLemmas.{opened_at, opened_state}
 use Rattle.mi_database.proofs.linked.Linked.new.Goals as goal
 
 pub invariant_of-result : goal.invariant_of-result

@@ -2,8 +2,8 @@
 use Rattle.std.proofs.Common.{◌<◌, map, set, sym, subst}
 use Rattle.mi_container.specs.Fits.{KeptBy}
 use Rattle.mi_database.specs.Held.{Held, SettlesSome}
-use Rattle.mi_database.proofs.HeldLaws.{set_data}
-use Rattle.mi_database.proofs.LoopLaws.{held, oldest_within, settle_law}
+use Rattle.mi_database.proofs.LinkedDataLemmas.{set_data}
+use Rattle.mi_database.proofs.LoopLemmas.{held, oldest_within, settle_law}
 use Rattle.mi_database.proofs.linked.Linked.settle_one.Goals as goal
 
 pub index_mut-requires : goal.index_mut-requires

@@ -3,7 +3,7 @@ use Rattle.std.proofs.Common.{◌∙◌, ap, sym}
 use Rattle.std.specs.Option.{is_some}
 use Rattle.mi_database.specs.Journal.{Journal}
 use Rattle.mi_journal.specs.Noted.{newest_entry}
-use Rattle.mi_database.proofs.LoopLaws.{Unwinding, unwinding_from, unwinding_more, unwinding_done, one_less, none_stays}
+use Rattle.mi_database.proofs.LoopLemmas.{Unwinding, unwinding_from, unwinding_more, unwinding_done, one_less, none_stays}
 use Rattle.mi_database.proofs.linked.Linked.unwind_newest.Goals as goal
 
 pub loop-init : goal.loop-init

@@ -1,7 +1,7 @@
 -- the newest entry is taken back
 use Rattle.std.proofs.Common.{◌∙◌, ap, sym}
 use Rattle.mi_database.specs.Held.{Held, newest_of, back_by}
-use Rattle.mi_database.proofs.LoopLaws.{unwind_law}
+use Rattle.mi_database.proofs.LoopLemmas.{unwind_law}
 use Rattle.mi_database.proofs.linked.Linked.unwind_one.Goals as goal
 
 pub invariant_of-self-2 : goal.invariant_of-self-2

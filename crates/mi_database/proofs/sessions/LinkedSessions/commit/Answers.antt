@@ -1,8 +1,8 @@
 -- one session after another ends
 use Rattle.std.proofs.Common.{◌≡◌, ◌∙◌, ◌-◌, ◌≤◌, min, ap, length, subst, arith}
 use Rattle.mi_database.specs.Held.{Held}
-use Rattle.mi_database.proofs.KeptLaws.{end_keeps}
-use Rattle.mi_database.proofs.EndLaws.{Ending, ending_from, ending_more, ended_all}
+use Rattle.mi_database.proofs.KeptLemmas.{end_keeps}
+use Rattle.mi_database.proofs.EndLemmas.{Ending, ending_from, ending_more, ended_all}
 use Rattle.mi_database.proofs.sessions.LinkedSessions.commit.Goals as goal
 
 pub loop-init : goal.loop-init

@@ -1,5 +1,5 @@
 -- so many of the oldest sessions have ended
-use Rattle.mi_database.proofs.EndLaws.{Ending}
+use Rattle.mi_database.proofs.EndLemmas.{Ending}
 use Rattle.mi_database.proofs.sessions.LinkedSessions.commit.Given as goal
 
 abbrev pub invariant-loop : goal.invariant-loop

@@ -1,6 +1,6 @@
 -- an old table for each session
 use Rattle.std.proofs.Common.{◌∙◌, ap, sym, length}
-use Rattle.mi_database.proofs.JournalLaws.{length-old}
+use Rattle.mi_database.proofs.JournalLemmas.{length-old}
 use Rattle.mi_database.specs.Held.{Held}
 use Rattle.mi_database.proofs.sessions.LinkedSessions.depth.Goals as goal
 

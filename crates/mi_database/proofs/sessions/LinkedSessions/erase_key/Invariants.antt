@@ -1,5 +1,5 @@
 -- what is left of the key, and the room for it
-use Rattle.mi_database.proofs.KeyLaws.{Erasing}
+use Rattle.mi_database.proofs.KeyLemmas.{Erasing}
 use Rattle.mi_database.proofs.sessions.LinkedSessions.erase_key.Given as goal
 
 abbrev pub invariant-loop : goal.invariant-loop

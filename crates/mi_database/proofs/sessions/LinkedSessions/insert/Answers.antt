@@ -6,9 +6,9 @@ use Rattle.mi_model.specs.Run.Command.{Insert as TheCommand}
 use Rattle.mi_container.specs.Inverse.{keeps}
 use Rattle.mi_container.specs.Run.Change.{Insert}
 use Rattle.mi_database.specs.Kept.{kept_rows}
-use Rattle.mi_database.proofs.HeldLaws.{Made, some_change}
-use Rattle.mi_database.proofs.KeptLaws.{none_more}
-use Rattle.mi_database.proofs.ChangeLaws.{Spot, spot, spot_made, spot_held, spot_outcome, spot_plain, spot_stays, spot_refused, spot_unkept}
+use Rattle.mi_database.proofs.LinkedDataLemmas.{Made, some_change}
+use Rattle.mi_database.proofs.KeptLemmas.{none_more}
+use Rattle.mi_database.proofs.ChangeLemmas.{Spot, spot, spot_made, spot_held, spot_outcome, spot_plain, spot_stays, spot_refused, spot_unkept}
 use Rattle.mi_database.proofs.sessions.LinkedSessions.insert.Given.{Over}
 use Rattle.mi_database.proofs.sessions.LinkedSessions.insert.Goals.{After-insert, After-keep}
 use Rattle.mi_database.proofs.sessions.LinkedSessions.insert.Goals as goal

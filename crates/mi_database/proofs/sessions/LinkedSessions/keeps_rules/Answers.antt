@@ -2,7 +2,7 @@
 use Rattle.std.proofs.Common.{subst}
 use Rattle.mi_model.specs.Database.{IsDatabase}
 use Rattle.mi_database.specs.Held.{Held, meaning}
-use Rattle.mi_database.proofs.EndLaws.{held_database}
+use Rattle.mi_database.proofs.EndLemmas.{held_database}
 use Rattle.mi_database.proofs.sessions.LinkedSessions.keeps_rules.Goals as goal
 
 pub returns : goal.returns

@@ -9,10 +9,10 @@ use Rattle.mi_container.specs.Inverse.{lost_to}
 use Rattle.mi_container.specs.Makes.{MeetsOn}
 use Rattle.mi_journal.specs.Noted.{noted}
 use Rattle.mi_database.specs.Held.{Held, meaning}
-use Rattle.mi_database.proofs.HeldLaws.{Made, some_modify}
-use Rattle.mi_database.proofs.LoopLaws.{held}
-use Rattle.mi_database.proofs.KeptLaws.{modify_keeps, modify_kept, modify_refused}
-use Rattle.mi_database.proofs.ChangeLaws.{Spot, spot, spot_keeps, spot_made, spot_held, spot_outcome, spot_stays, spot_refused}
+use Rattle.mi_database.proofs.LinkedDataLemmas.{Made, some_modify}
+use Rattle.mi_database.proofs.LoopLemmas.{held}
+use Rattle.mi_database.proofs.KeptLemmas.{modify_keeps, modify_kept, modify_refused}
+use Rattle.mi_database.proofs.ChangeLemmas.{Spot, spot, spot_keeps, spot_made, spot_held, spot_outcome, spot_stays, spot_refused}
 use Rattle.mi_database.proofs.sessions.LinkedSessions.modify.Given.{Over}
 use Rattle.mi_database.proofs.sessions.LinkedSessions.modify.Goals.{After-modify, After-keep}
 use Rattle.mi_database.proofs.sessions.LinkedSessions.modify.Goals as goal

@@ -3,14 +3,14 @@ use Rattle.std.proofs.Common.{◌≡◌, ◌≢◌, ◌∙◌, ◌-◌, ap, sym,
 use Rattle.std.specs.Prelude.{Ok}
 use Rattle.mi_database.specs.Journal.{state_of}
 use Rattle.mi_database.specs.Held.{Held, meaning}
-use Rattle.mi_database.proofs.LoopLaws.{held}
+use Rattle.mi_database.proofs.LoopLemmas.{held}
 use Rattle.mi_model.specs.Database.{squash_step}
 use Rattle.std.proofs.Common.{map}
 use Rattle.mi_database.specs.Journal.{kept_in}
 use Rattle.mi_model.specs.Footprint.{kept_on_squash}
 use Rattle.mi_database.specs.Kept.{kept_rows}
-use Rattle.mi_database.proofs.KeptLaws.{join_keeps}
-use Rattle.mi_database.proofs.EndLaws.{squash_alone, squash_joins}
+use Rattle.mi_database.proofs.KeptLemmas.{join_keeps}
+use Rattle.mi_database.proofs.EndLemmas.{squash_alone, squash_joins}
 use Rattle.mi_database.proofs.sessions.LinkedSessions.squash.Goals as goal
 
 pub returns-then-open-eq1-clause-answer : goal.returns-then-open-eq1-clause-answer

@@ -10,7 +10,7 @@ use Rattle.mi_database.specs.Held.{Held, meaning}
 use Rattle.mi_database.specs.Journal.{kept_in}
 use Rattle.mi_model.specs.Footprint.{kept_on_start}
 use Rattle.mi_database.specs.Kept.{kept_rows}
-use Rattle.mi_database.proofs.EndLaws.{start_full, start_opens}
+use Rattle.mi_database.proofs.EndLemmas.{start_full, start_opens}
 use Rattle.mi_database.proofs.sessions.LinkedSessions.start.Goals as goal
 
 pub returns-then-depth-eq-MAX_SESSIONS-clause-outcome : goal.returns-then-depth-eq-MAX_SESSIONS-clause-outcome

@@ -1,9 +1,9 @@
 -- one more undo
 use Rattle.std.proofs.Common.{◌≡◌, ℕ, suc, ◌-◌, ◌+◌, ◌<◌, length, ap, sym, ◌∙◌, arith}
-use Rattle.mi_database.proofs.JournalLaws.{length-old}
+use Rattle.mi_database.proofs.JournalLemmas.{length-old}
 use Rattle.mi_model.specs.Database.{undone_times}
 use Rattle.mi_database.specs.Held.{meaning}
-use Rattle.mi_database.proofs.EndLaws.{undo_leaves}
+use Rattle.mi_database.proofs.EndLemmas.{undo_leaves}
 use Rattle.mi_database.proofs.sessions.LinkedSessions.undo_all.Goals as goal
 
 pub loop-preserved : goal.loop-preserved

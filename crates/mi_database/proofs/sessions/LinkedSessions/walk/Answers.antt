@@ -1,5 +1,5 @@
 -- the container's bound is the table's
-use Rattle.mi_database.proofs.BoundLaws.{within_one}
+use Rattle.mi_database.proofs.BoundLemmas.{within_one}
 use Rattle.mi_database.proofs.sessions.LinkedSessions.walk.Goals as goal
 
 pub returns-clause-steps : goal.returns-clause-steps

@@ -2,7 +2,7 @@
 use Rattle.std.proofs.Common.{sym, ap, ◌∙◌}
 use Rattle.std.specs.FinMap.{get}
 use Rattle.mi_ids.specs.IdMap.{IdMap}
-use Rattle.mi_ids.proofs.Seen.{get-seen}
+use Rattle.mi_ids.proofs.SeenLemmas.{get-seen}
 use Rattle.mi_ids.proofs.ids.Ids.get.Goals as goal
 
 pub returns : goal.returns

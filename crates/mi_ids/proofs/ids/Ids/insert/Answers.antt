@@ -2,7 +2,7 @@
 use Rattle.std.proofs.Common.{rules, true, ap, ◌∙◌}
 use Rattle.std.specs.FinMap.{insert}
 use Rattle.mi_ids.specs.IdMap.{IdMap}
-use Rattle.mi_ids.proofs.Seen.{seen-put}
+use Rattle.mi_ids.proofs.SeenLemmas.{seen-put}
 use Rattle.mi_ids.proofs.ids.Ids.insert.Goals as goal
 
 pub returns-clause-entries : goal.returns-clause-entries

@@ -2,7 +2,7 @@
 use Rattle.std.proofs.Common.{sym, ap, ◌∙◌}
 use Rattle.std.specs.FinMap.{len}
 use Rattle.mi_ids.specs.IdMap.{IdMap}
-use Rattle.mi_ids.proofs.Seen.{seen-len}
+use Rattle.mi_ids.proofs.SeenLemmas.{seen-len}
 use Rattle.mi_ids.proofs.ids.Ids.len.Goals as goal
 
 pub returns : goal.returns

@@ -1,7 +1,7 @@
 -- the same entries in another order
 use Rattle.std.proofs.Common.{ap, ◌∙◌}
 use Rattle.mi_ids.specs.IdMap.{IdMap}
-use Rattle.mi_ids.proofs.Seen.{seen-same}
+use Rattle.mi_ids.proofs.SeenLemmas.{seen-same}
 use Rattle.mi_ids.proofs.ids.Ids.make_room.Goals as goal
 
 pub returns-clause-entries : goal.returns-clause-entries

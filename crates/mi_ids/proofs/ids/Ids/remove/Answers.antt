@@ -2,7 +2,7 @@
 use Rattle.std.proofs.Common.{ap, ◌∙◌}
 use Rattle.std.specs.FinMap.{remove}
 use Rattle.mi_ids.specs.IdMap.{IdMap}
-use Rattle.mi_ids.proofs.Seen.{seen-taken}
+use Rattle.mi_ids.proofs.SeenLemmas.{seen-taken}
 use Rattle.mi_ids.proofs.ids.Ids.remove.Goals as goal
 
 pub returns-clause-entries : goal.returns-clause-entries

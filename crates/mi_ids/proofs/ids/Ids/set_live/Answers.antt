@@ -4,7 +4,7 @@ use Rattle.std.specs.FinMap.{from_entries}
 use Rattle.mi_ids.specs.IdMap.{IdMap, with_live}
 use Rattle.mi_ids.specs.declared.entry.IdEntry.{IdEntry}
 use Rattle.mi_ids.specs.declared.ids.Ids.TheInside.{Inside}
-use Rattle.mi_ids.proofs.Seen.{seen-marked, seen-unmarked}
+use Rattle.mi_ids.proofs.SeenLemmas.{seen-marked, seen-unmarked}
 use Rattle.mi_ids.proofs.ids.Ids.set_live.Goals as goal
 use Rattle.mi_ids.proofs.ids.Ids.set_live.Goals.{in-Some, in_default}
 

@@ -2,7 +2,7 @@
 use Rattle.std.proofs.Common.{sym, subst}
 use Rattle.mi_index.specs.Pass.{AllStand}
 use Rattle.mi_node.specs.Pool.{without}
-use Rattle.mi_index.proofs.Others.{all_but, but_without}
+use Rattle.mi_index.proofs.OtherNodeLemmas.{all_but, but_without}
 use Rattle.mi_index.proofs.nodes.Nodes.free.Goals as goal
 
 pub returns-clause-stand : goal.returns-clause-stand

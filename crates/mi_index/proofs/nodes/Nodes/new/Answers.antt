@@ -6,7 +6,7 @@ use Rattle.mi_node.specs.Pool.{no_nodes}
 use Rattle.mi_index.specs.Opened.{AllOpenedFor, IsOpened}
 use Rattle.mi_order.specs.declared.stored.Stored.{Stored}
 use Rattle.mi_index.specs.declared.structure.Structure.{Structure}
-use Rattle.mi_index.proofs.Opening.{is_opened}
+use Rattle.mi_index.proofs.OpeningLemmas.{is_opened}
 use Rattle.mi_index.proofs.nodes.Nodes.new.Goals as goal
 
 pub returns : goal.returns

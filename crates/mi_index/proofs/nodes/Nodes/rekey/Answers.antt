@@ -4,8 +4,8 @@ use Rattle.mi_index.specs.Pass.{AreReady, IsPass}
 use Rattle.mi_index.specs.Passes.{joining, joined}
 use Rattle.mi_index.specs.Places.{mark_at}
 use Rattle.mi_index.specs.declared.moves.Moves.TheVariants.{Marked}
-use Rattle.mi_index.proofs.Inserts.{like_both}
-use Rattle.mi_index.proofs.Rekeys.{can_leave, can_come, is_rekeyed}
+use Rattle.mi_index.proofs.InsertLemmas.{like_both}
+use Rattle.mi_index.proofs.RekeyLemmas.{can_leave, can_come, is_rekeyed}
 use Rattle.mi_index.proofs.nodes.Nodes.rekey.Goals as goal
 
 pub unlink_each-requires : goal.unlink_each-requires

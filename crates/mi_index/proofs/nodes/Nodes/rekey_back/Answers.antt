@@ -1,13 +1,13 @@
 -- The node leaves the indexes that have a place for it, gets its old value, and comes back to the places.
 use Rattle.std.proofs.Common.{◌∙◌, sym, subst}
 use Rattle.mi_node.specs.Pool.{IsHeld}
-use Rattle.mi_node.proofs.Callers.{ref-with_value}
+use Rattle.mi_node.proofs.EntryLemmas.{ref-with_value}
 use Rattle.mi_index.specs.Pass.{AreReady, IsPass}
 use Rattle.mi_index.specs.Passes.{returning, returned}
 use Rattle.mi_index.specs.Places.{given_at}
 use Rattle.mi_index.specs.declared.moves.Moves.TheVariants.{Placed}
-use Rattle.mi_index.proofs.Inserts.{like_both}
-use Rattle.mi_index.proofs.Rekeys.{can_go_leave, can_go_come, is_given_back}
+use Rattle.mi_index.proofs.InsertLemmas.{like_both}
+use Rattle.mi_index.proofs.RekeyLemmas.{can_go_leave, can_go_come, is_given_back}
 use Rattle.mi_index.proofs.nodes.Nodes.rekey_back.Goals as goal
 
 pub unlink_each-requires : goal.unlink_each-requires

@@ -2,7 +2,7 @@
 use Rattle.std.proofs.Common.{◌≡◌, None, sym, subst}
 use Rattle.mi_tree.specs.Probed.{first_where}
 use Rattle.mi_index.specs.Looks.{has_sought}
-use Rattle.mi_index.proofs.Looking.{none_where}
+use Rattle.mi_index.proofs.LookUpLemmas.{none_where}
 use Rattle.mi_index.proofs.structure.Structure.find.Goals as goal
 
 pub returns-in-Sequenced : goal.returns-in-Sequenced

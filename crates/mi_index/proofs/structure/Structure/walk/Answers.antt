@@ -5,7 +5,7 @@ use Rattle.mi_index.specs.Standing.{slot_in, Stands}
 use Rattle.mi_index.specs.Walks.{Follow}
 use Rattle.mi_index.specs.declared.structure.Structure.{Structure}
 use Rattle.mi_index.specs.declared.structure.Structure.TheVariants.{Sequenced}
-use Rattle.mi_index.proofs.Walked.{list_follows}
+use Rattle.mi_index.proofs.WalkLemmas.{list_follows}
 use Rattle.mi_index.proofs.structure.Structure.walk.Goals as goal
 
 pub rows_along-requires-clause-nodes : goal.rows_along-requires-clause-nodes

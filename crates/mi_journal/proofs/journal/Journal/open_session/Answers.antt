@@ -2,7 +2,7 @@
 use Rattle.std.proofs.Common.{◌≡◌, ◌∙◌, ◌+◌, [], ◌∷◌, ap, reverse, arith}
 use Rattle.std.specs.List.{sum}
 use Rattle.mi_journal.specs.Noted.{Noted, cut}
-use Rattle.mi_journal.proofs.CutLaws.{opened_cut, sum_push}
+use Rattle.mi_journal.proofs.CutLemmas.{opened_cut, sum_push}
 use Rattle.mi_journal.proofs.journal.Journal.open_session.Goals as goal
 
 pub invariant_of-self : goal.invariant_of-self

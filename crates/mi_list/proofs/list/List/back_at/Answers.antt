@@ -1,6 +1,6 @@
 use Rattle.std.proofs.Common.{ap, ◌∙◌}
 use Rattle.mi_node.specs.declared.link.Link.{Link}
-use Rattle.mi_list.proofs.Changes.{back_some}
+use Rattle.mi_list.proofs.ChangeLemmas.{back_some}
 use Rattle.mi_list.proofs.list.List.back_at.Goals as goal
 
 pub link-requires-clause-held : goal.link-requires-clause-held

@@ -2,10 +2,10 @@ use Rattle.std.proofs.Common.{◌<◌, ◌∷◌, ◌++◌, Option, Some, sym, a
 use Rattle.mi_node.specs.Pool.{Pooled, IsHeldIf, Keeps, with_link}
 use Rattle.mi_node.specs.Refs.{Ref}
 use Rattle.mi_node.specs.declared.link.Link.{Link}
-use Rattle.mi_node.proofs.Callers.{slots-with_link}
+use Rattle.mi_node.proofs.EntryLemmas.{slots-with_link}
 use Rattle.mi_node.specs.Neighbours.{joined}
-use Rattle.mi_node.proofs.NeighbourLaws.{held_link}
-use Rattle.mi_list.proofs.Changes.{ends_held, Joined, placed, relinked, keeps_placed}
+use Rattle.mi_node.proofs.NeighbourLemmas.{held_link}
+use Rattle.mi_list.proofs.ChangeLemmas.{ends_held, Joined, placed, relinked, keeps_placed}
 use Rattle.mi_list.proofs.list.List.insert_before.Goals as goal
 
 pub join-requires-clause-back : goal.join-requires-clause-back

@@ -1,6 +1,6 @@
 use Rattle.std.proofs.Common.{◌<◌, sym, subst, ap, ◌∙◌}
 use Rattle.mi_node.specs.Pool.{Pooled, IsHeldIf}
-use Rattle.mi_node.proofs.NeighbourLaws.{held_still, slots-forth}
+use Rattle.mi_node.proofs.NeighbourLemmas.{held_still, slots-forth}
 use Rattle.mi_list.proofs.list.List.join.Goals as goal
 
 pub set_back-requires-clause-held : goal.set_back-requires-clause-held

@@ -1,10 +1,10 @@
 use Rattle.std.proofs.Common.{◌≡◌, List as Seq, ◌∷◌, ◌++◌, refl, sym, ◌∙◌, subst, true≢false, inl, inr}
 use Rattle.mi_node.specs.Pool.{Keeps}
 use Rattle.mi_node.specs.Refs.{Ref, IsOut}
-use Rattle.mi_node.proofs.Keeping.{keeps_then}
-use Rattle.mi_node.proofs.Refs.{out_right, apart_remove}
+use Rattle.mi_node.proofs.KeepingLemmas.{keeps_then}
+use Rattle.mi_node.proofs.RefLemmas.{out_right, apart_remove}
 use Rattle.mi_list.specs.Listed.{IsListed}
-use Rattle.mi_list.proofs.Changes.{listed_unique, out_among, named_out, named_itself}
+use Rattle.mi_list.proofs.ChangeLemmas.{listed_unique, out_among, named_out, named_itself}
 use Rattle.mi_list.proofs.list.List.move_before.Goals as goal
 
 pub returns-then-is_node-clause-list : goal.returns-then-is_node-clause-list

@@ -1,6 +1,6 @@
 use Rattle.std.proofs.Common.{ap, ◌∙◌}
 use Rattle.mi_node.specs.declared.link.Link.{Link}
-use Rattle.mi_list.proofs.Changes.{knows}
+use Rattle.mi_list.proofs.ChangeLemmas.{knows}
 use Rattle.mi_list.proofs.list.List.next.Goals as goal
 
 pub link-requires-clause-held : goal.link-requires-clause-held

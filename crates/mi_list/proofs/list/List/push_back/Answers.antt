@@ -2,7 +2,7 @@ use Rattle.std.proofs.Common.{[], ◌∷◌, refl, sym, subst}
 use Rattle.mi_node.specs.Pool.{Keeps}
 use Rattle.mi_node.specs.Refs.{IsOut}
 use Rattle.mi_list.specs.Listed.{IsListed}
-use Rattle.mi_list.proofs.Changes.{nothing_after}
+use Rattle.mi_list.proofs.ChangeLemmas.{nothing_after}
 use Rattle.mi_list.proofs.list.List.push_back.Goals as goal
 
 pub returns-clause-list : goal.returns-clause-list

@@ -3,8 +3,8 @@ use Rattle.mi_node.specs.Pool.{IsHeldIf, Keeps}
 use Rattle.mi_node.specs.Refs.{Ref, first_of, last_of}
 use Rattle.mi_node.specs.declared.link.Link.{Link}
 use Rattle.mi_node.specs.Neighbours.{joined}
-use Rattle.mi_list.proofs.Changes.{ends_held, Joined, relinked}
-use Rattle.mi_node.proofs.NeighbourLaws.{keeps_joined}
+use Rattle.mi_list.proofs.ChangeLemmas.{ends_held, Joined, relinked}
+use Rattle.mi_node.proofs.NeighbourLemmas.{keeps_joined}
 use Rattle.mi_list.proofs.list.List.relink.Goals as goal
 
 pub join-requires-clause-back : goal.join-requires-clause-back

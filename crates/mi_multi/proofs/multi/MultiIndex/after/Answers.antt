@@ -1,5 +1,5 @@
 use Rattle.std.proofs.Common.{sym, ◌∙◌}
-use Rattle.mi_multi.proofs.Calls.{listed_reaches, absent, between, after_held, after_is}
+use Rattle.mi_multi.proofs.CallLemmas.{listed_reaches, absent, between, after_held, after_is}
 use Rattle.mi_multi.proofs.multi.MultiIndex.after.Goals as goal
 
 pub returns-in_default : goal.returns-in_default

@@ -4,8 +4,8 @@ use Rattle.mi_model.specs.View.{of_key}
 use Rattle.mi_model.proofs.NextLaws.{key_is_there, next_of_key}
 use Rattle.mi_model.proofs.PlaceLaws.{each_in_view}
 use Rattle.mi_container.specs.Data.{table_of}
-use Rattle.mi_multi.proofs.KeyCounts.{key_short}
-use Rattle.mi_multi.proofs.KeyCalls.{past_end}
+use Rattle.mi_multi.proofs.KeyCountLemmas.{key_short}
+use Rattle.mi_multi.proofs.KeyCallLemmas.{past_end}
 use Rattle.mi_multi.proofs.multi.MultiIndex.count_hashed.Goals as goal
 
 pub overflow_add-count : goal.overflow_add-count

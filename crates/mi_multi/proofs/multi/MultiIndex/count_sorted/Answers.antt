@@ -2,7 +2,7 @@ use Rattle.std.proofs.Common.{◌-◌, ap₂, sym, ◌∙◌, arith}
 use Rattle.mi_catalog.specs.Shape.{index_at}
 use Rattle.mi_model.proofs.QueryLaws.{lower-le-upper, count_ranks}
 use Rattle.mi_container.specs.Data.{table_of}
-use Rattle.mi_multi.proofs.KeyCounts.{whole_is_prefix}
+use Rattle.mi_multi.proofs.KeyCountLemmas.{whole_is_prefix}
 use Rattle.mi_multi.proofs.multi.MultiIndex.count_sorted.Goals as goal
 
 pub lower_rank-lower-requires-clause-key : goal.lower_rank-lower-requires-clause-key

@@ -1,7 +1,7 @@
 use Rattle.std.proofs.Common.{ap, sym, ◌∙◌}
 use Rattle.std.specs.Option.{option_copied, is_some}
 use Rattle.mi_container.specs.Data.{table_of}
-use Rattle.mi_multi.proofs.Replaced.{modify_no_row, got_there, got_edited, got_refused, got_loss}
+use Rattle.mi_multi.proofs.ReplaceLemmas.{modify_no_row, got_there, got_edited, got_refused, got_loss}
 use Rattle.mi_multi.proofs.multi.MultiIndex.edited.Goals as goal
 
 pub returns-in_default-clause-refused : goal.returns-in_default-clause-refused

@@ -11,8 +11,8 @@ use Rattle.mi_container.specs.Run.Change.{Erase}
 use Rattle.mi_ids.specs.IdMap.{live_node}
 use Rattle.mi_multi.specs.Multi.{IsMulti, plain_of}
 use Rattle.mi_multi.specs.Seen.{Seen, seen_of}
-use Rattle.mi_multi.proofs.Answers.{live_is, erase_refused, erase_made, erase_meets}
-use Rattle.mi_multi.proofs.Erasing.{can_leave, erased_seen, erased_multi}
+use Rattle.mi_multi.proofs.AnswerLemmas.{live_is, erase_refused, erase_made, erase_meets}
+use Rattle.mi_multi.proofs.EraseLemmas.{can_leave, erased_seen, erased_multi}
 use Rattle.mi_multi.proofs.multi.MultiIndex.erase_for.Goals as goal
 
 pub returns-in_default-clause-outcome : goal.returns-in_default-clause-outcome

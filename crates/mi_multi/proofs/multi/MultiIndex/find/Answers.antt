@@ -1,7 +1,7 @@
 use Rattle.std.proofs.Common.{◌∙◌}
 use Rattle.mi_value.specs.declared.bound.Probe.TheVariants.{Key}
 use Rattle.mi_index.specs.Looks.{has_sought}
-use Rattle.mi_multi.proofs.KeyCalls.{keyed_reaches, in_some, found_held, find_is}
+use Rattle.mi_multi.proofs.KeyCallLemmas.{keyed_reaches, in_some, found_held, find_is}
 use Rattle.mi_multi.proofs.multi.MultiIndex.find.Goals as goal
 
 pub structure_at-structure-requires : goal.structure_at-structure-requires

@@ -1,5 +1,5 @@
 use Rattle.std.proofs.Common.{◌∙◌}
-use Rattle.mi_multi.proofs.Calls.{listed_reaches, in_list, first_held, first_is}
+use Rattle.mi_multi.proofs.CallLemmas.{listed_reaches, in_list, first_held, first_is}
 use Rattle.mi_multi.proofs.multi.MultiIndex.first.Goals as goal
 
 pub structure_at-requires : goal.structure_at-requires

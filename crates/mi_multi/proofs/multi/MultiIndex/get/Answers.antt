@@ -3,7 +3,7 @@ use Rattle.std.specs.declared.option.Option.TheVariants.{None, Some}
 use Rattle.mi_model.specs.Table.{get as get_row}
 use Rattle.mi_container.specs.Data.{table_of}
 use Rattle.mi_multi.specs.Seen.{Seen}
-use Rattle.mi_multi.proofs.Answers.{live_is, no_record, record_of}
+use Rattle.mi_multi.proofs.AnswerLemmas.{live_is, no_record, record_of}
 use Rattle.mi_multi.proofs.multi.MultiIndex.get.Goals as goal
 
 pub returns-in_default-clause-record : goal.returns-in_default-clause-record

@@ -4,7 +4,7 @@ use Rattle.mi_model.specs.Table.{has as has_row}
 use Rattle.mi_container.specs.Data.{table_of}
 use Rattle.mi_ids.specs.IdMap.{live_node}
 use Rattle.mi_multi.specs.Seen.{Seen}
-use Rattle.mi_multi.proofs.Accepting.{has_live}
+use Rattle.mi_multi.proofs.AcceptLemmas.{has_live}
 use Rattle.mi_multi.proofs.multi.MultiIndex.has.Goals as goal
 
 pub returns : goal.returns

@@ -1,8 +1,8 @@
 use Rattle.std.proofs.Common.{◌∙◌}
 use Rattle.mi_value.specs.declared.bound.Probe.TheVariants.{Of}
 use Rattle.mi_index.specs.Looks.{has_sought}
-use Rattle.mi_multi.proofs.KeyCalls.{in_some, found_held}
-use Rattle.mi_multi.proofs.Holders.{unique_reaches, holder_is}
+use Rattle.mi_multi.proofs.KeyCallLemmas.{in_some, found_held}
+use Rattle.mi_multi.proofs.ConflictLemmas.{unique_reaches, holder_is}
 use Rattle.mi_multi.proofs.multi.MultiIndex.holder.Goals as goal
 
 pub structure_at-structure-requires : goal.structure_at-structure-requires

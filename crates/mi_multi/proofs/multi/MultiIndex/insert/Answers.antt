@@ -1,8 +1,8 @@
 use Rattle.std.proofs.Common.{ap, sym, ◌∙◌}
 use Rattle.mi_container.specs.Data.{table_of}
 use Rattle.mi_container.specs.Run.Change.{Insert}
-use Rattle.mi_container.proofs.LawProofs.{change_is_tables}
-use Rattle.mi_multi.proofs.Accepting.{insert_refused, insert_meets}
+use Rattle.mi_container.proofs.LawLemmas.{change_is_tables}
+use Rattle.mi_multi.proofs.AcceptLemmas.{insert_refused, insert_meets}
 use Rattle.mi_multi.proofs.multi.MultiIndex.insert.Goals as goal
 
 pub returns-in-Some-clause-outcome : goal.returns-in-Some-clause-outcome

@@ -9,10 +9,10 @@ use Rattle.mi_container.specs.Makes.{MakesInsert}
 use Rattle.mi_multi.specs.Before.{node_before}
 use Rattle.mi_multi.specs.Multi.{IsMulti, plain_of}
 use Rattle.mi_multi.specs.Seen.{Seen, seen_of}
-use Rattle.mi_multi.proofs.Accepting.{accepted, rises, place_fits, before_is}
-use Rattle.mi_multi.proofs.Coming.{IsBefore, can_come}
-use Rattle.mi_multi.proofs.Come.{come_seen, come_multi, unnamed}
-use Rattle.mi_multi.proofs.Grown.{grown_seen, grown_multi}
+use Rattle.mi_multi.proofs.AcceptLemmas.{accepted, rises, place_fits, before_is}
+use Rattle.mi_multi.proofs.InsertLemmas.{IsBefore, can_come}
+use Rattle.mi_multi.proofs.InsertedLemmas.{come_seen, come_multi, unnamed}
+use Rattle.mi_multi.proofs.RoomLemmas.{grown_seen, grown_multi}
 use Rattle.mi_multi.proofs.multi.MultiIndex.insert_accepted.Goals as goal
 
 pub link_in-requires : goal.link_in-requires

@@ -5,7 +5,7 @@ use Rattle.mi_model.specs.Table.{size}
 use Rattle.mi_model.specs.Verdict.{as_unique}
 use Rattle.mi_container.specs.Data.{table_of}
 use Rattle.mi_multi.specs.Seen.{Seen}
-use Rattle.mi_multi.proofs.Accepting.{no_place, is_full, next_spent, arrivals_spent, unique_refuses}
+use Rattle.mi_multi.proofs.AcceptLemmas.{no_place, is_full, next_spent, arrivals_spent, unique_refuses}
 use Rattle.mi_multi.proofs.multi.MultiIndex.insert_refusal.Goals as goal
 
 pub returns-then-is_missing : goal.returns-then-is_missing

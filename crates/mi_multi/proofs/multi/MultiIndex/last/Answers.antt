@@ -1,5 +1,5 @@
 use Rattle.std.proofs.Common.{◌∙◌}
-use Rattle.mi_multi.proofs.Calls.{listed_reaches, in_list, last_held, last_is}
+use Rattle.mi_multi.proofs.CallLemmas.{listed_reaches, in_list, last_held, last_is}
 use Rattle.mi_multi.proofs.multi.MultiIndex.last.Goals as goal
 
 pub structure_at-requires : goal.structure_at-requires

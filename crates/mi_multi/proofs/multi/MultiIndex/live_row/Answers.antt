@@ -5,8 +5,8 @@ use Rattle.mi_container.specs.Data.{table_of}
 use Rattle.mi_container.specs.Fits.{IsLive}
 use Rattle.mi_ids.specs.IdMap.{live_node}
 use Rattle.mi_multi.specs.Seen.{Seen}
-use Rattle.mi_multi.proofs.Answers.{none_has}
-use Rattle.mi_multi.proofs.RowMoves.{live_row_is}
+use Rattle.mi_multi.proofs.AnswerLemmas.{none_has}
+use Rattle.mi_multi.proofs.RelocateCallLemmas.{live_row_is}
 use Rattle.mi_multi.proofs.multi.MultiIndex.live_row.Goals as goal
 
 pub returns-in_err-node-clause-absent : goal.returns-in_err-node-clause-absent

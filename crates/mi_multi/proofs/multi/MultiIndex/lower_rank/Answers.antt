@@ -4,8 +4,8 @@ use Rattle.mi_model.specs.Lookup as look
 use Rattle.mi_index.specs.Looks.{is_past}
 use Rattle.mi_container.specs.Data.{table_of}
 use Rattle.mi_multi.specs.Multi.{id_at}
-use Rattle.mi_multi.proofs.Calls.{sorted_reaches, in_order, ranked, rank_is, count_is, two_looks}
-use Rattle.mi_multi.proofs.KeyCalls.{found_live, lower_is, lower_within, rank_of_place, all_before_place, both_looks}
+use Rattle.mi_multi.proofs.CallLemmas.{sorted_reaches, in_order, ranked, rank_is, count_is, two_looks}
+use Rattle.mi_multi.proofs.KeyCallLemmas.{found_live, lower_is, lower_within, rank_of_place, all_before_place, both_looks}
 use Rattle.mi_multi.proofs.multi.MultiIndex.lower_rank.Goals as goal
 
 pub structure_at-structure-requires : goal.structure_at-structure-requires

@@ -1,8 +1,8 @@
 use Rattle.std.proofs.Common.{◌≢◌, ap, sym, ◌∙◌}
 use Rattle.mi_value.specs.declared.limits.TheConstants.{LAST_COUNT}
-use Rattle.mi_container.proofs.Facts.{there_has}
+use Rattle.mi_container.proofs.InvariantLemmas.{there_has}
 use Rattle.mi_multi.specs.Seen.{Seen}
-use Rattle.mi_multi.proofs.Replaced.{put_meets}
+use Rattle.mi_multi.proofs.ReplaceLemmas.{put_meets}
 use Rattle.mi_multi.proofs.multi.MultiIndex.modify_to.Goals as goal
 
 pub put-requires-clause-allowed : goal.put-requires-clause-allowed

@@ -3,7 +3,7 @@ use Rattle.std.specs.Option.{option_map}
 use Rattle.mi_container.specs.Backs.{row_seen}
 use Rattle.mi_container.specs.Makes.{Makes}
 use Rattle.mi_container.specs.Run.Change.{Relocate}
-use Rattle.mi_multi.proofs.RowMoves.{names_same, move_ready, move_kept, move_made}
+use Rattle.mi_multi.proofs.RelocateCallLemmas.{names_same, move_ready, move_kept, move_made}
 use Rattle.mi_multi.proofs.multi.MultiIndex.move_row.Goals as goal
 
 pub stand_before-requires-clause-ready : goal.stand_before-requires-clause-ready

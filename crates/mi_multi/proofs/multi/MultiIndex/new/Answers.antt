@@ -1,7 +1,7 @@
 use Rattle.std.proofs.Common.{sym, ◌∙◌, subst}
 use Rattle.mi_index.specs.Opened.{IsOpened}
 use Rattle.mi_multi.specs.Multi.{IsMulti, plain_of}
-use Rattle.mi_multi.proofs.Opening.{opened_seen, opened_multi}
+use Rattle.mi_multi.proofs.OpeningLemmas.{opened_seen, opened_multi}
 use Rattle.mi_multi.proofs.multi.MultiIndex.new.Goals as goal
 
 pub invariant_of-result : goal.invariant_of-result

@@ -1,6 +1,6 @@
 use Rattle.std.proofs.Common.{sym, ◌∙◌}
-use Rattle.mi_multi.proofs.Calls.{absent}
-use Rattle.mi_multi.proofs.KeyCalls.{hashed_reaches, in_chains, next_of_held, next_of_is}
+use Rattle.mi_multi.proofs.CallLemmas.{absent}
+use Rattle.mi_multi.proofs.KeyCallLemmas.{hashed_reaches, in_chains, next_of_held, next_of_is}
 use Rattle.mi_multi.proofs.multi.MultiIndex.next_of.Goals as goal
 
 pub returns-in_default : goal.returns-in_default

@@ -1,5 +1,5 @@
 use Rattle.std.proofs.Common.{◌∙◌, arith}
-use Rattle.mi_multi.proofs.Calls.{sorted_reaches, in_order, nth_past, nth_held, nth_is}
+use Rattle.mi_multi.proofs.CallLemmas.{sorted_reaches, in_order, nth_past, nth_held, nth_is}
 use Rattle.mi_multi.proofs.multi.MultiIndex.nth.Goals as goal
 
 pub structure_at-structure-requires : goal.structure_at-structure-requires

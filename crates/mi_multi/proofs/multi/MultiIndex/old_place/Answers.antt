@@ -4,7 +4,7 @@ use Rattle.std.specs.Ordering.{is_eq}
 use Rattle.std.specs.declared.option.Option.TheVariants.{Some}
 use Rattle.mi_value.specs.Order.{compare_key}
 use Rattle.mi_container.specs.Backs.{place_seen}
-use Rattle.mi_multi.proofs.PutCalls.{row_held, few_items, its_slot, its_node, no_place, some_place, kept_stamp}
+use Rattle.mi_multi.proofs.PutCallLemmas.{row_held, few_items, its_slot, its_node, no_place, some_place, kept_stamp}
 use Rattle.mi_multi.proofs.multi.MultiIndex.old_place.Goals as goal
 
 pub value-requires : goal.value-requires

@@ -2,8 +2,8 @@ use Rattle.std.proofs.Common.{◌≡◌, ◌<◌, ◌∙◌, length, arith}
 use Rattle.mi_container.specs.Data.{content_of}
 use Rattle.mi_container.specs.Backs.{place_seen}
 use Rattle.mi_container.specs.declared.inverse.RowRef.{RowRef as Row}
-use Rattle.mi_multi.proofs.OldPlaces.{places_more, places_all}
-use Rattle.mi_multi.proofs.PutCalls.{long_orders, long_stamps}
+use Rattle.mi_multi.proofs.OldPlaceLemmas.{places_more, places_all}
+use Rattle.mi_multi.proofs.PutCallLemmas.{long_orders, long_stamps}
 use Rattle.mi_multi.proofs.multi.MultiIndex.old_places.Goals as goal
 
 pub loop-index-preserved : goal.loop-index-preserved

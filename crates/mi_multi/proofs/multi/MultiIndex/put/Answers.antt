@@ -1,6 +1,6 @@
 use Rattle.std.proofs.Common.{sym, ◌∙◌}
-use Rattle.mi_multi.proofs.Answers.{live_is}
-use Rattle.mi_multi.proofs.PutCalls.{has_node, live_row, node_held, put_ready, now_multi, now_made}
+use Rattle.mi_multi.proofs.AnswerLemmas.{live_is}
+use Rattle.mi_multi.proofs.PutCallLemmas.{has_node, live_row, node_held, put_ready, now_multi, now_made}
 use Rattle.mi_multi.proofs.multi.MultiIndex.put.Goals as goal
 
 pub unwrap-node-requires : goal.unwrap-node-requires

@@ -1,5 +1,5 @@
 use Rattle.std.proofs.Common.{sym, ◌∙◌}
-use Rattle.mi_multi.proofs.Calls.{sorted_reaches, absent, ranked, rank_is, two_looks}
+use Rattle.mi_multi.proofs.CallLemmas.{sorted_reaches, absent, ranked, rank_is, two_looks}
 use Rattle.mi_multi.proofs.multi.MultiIndex.rank_of.Goals as goal
 
 pub returns-in_default-clause-rank : goal.returns-in_default-clause-rank

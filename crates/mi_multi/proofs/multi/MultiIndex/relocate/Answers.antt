@@ -2,7 +2,7 @@ use Rattle.std.proofs.Common.{refl, ap, sym, ◌∙◌, subst}
 use Rattle.std.specs.declared.option.Option.TheVariants.{None, Some}
 use Rattle.mi_container.specs.Makes.{Makes}
 use Rattle.mi_container.specs.Run.Change.{Relocate}
-use Rattle.mi_multi.proofs.RowMoves.{place_there, relocate_answers, stays_made}
+use Rattle.mi_multi.proofs.RelocateCallLemmas.{place_there, relocate_answers, stays_made}
 use Rattle.mi_multi.proofs.multi.MultiIndex.relocate.Goals as goal
 
 pub returns-in_default-before-clause-outcome : goal.returns-in_default-before-clause-outcome

@@ -1,7 +1,7 @@
 use Rattle.std.proofs.Common.{sym, ◌∙◌}
 use Rattle.mi_container.specs.Data.{table_of}
-use Rattle.mi_container.proofs.Facts.{there_has}
-use Rattle.mi_multi.proofs.Replaced.{replace_refused, replace_no_memory, replaceable, replace_meets, put_table}
+use Rattle.mi_container.proofs.InvariantLemmas.{there_has}
+use Rattle.mi_multi.proofs.ReplaceLemmas.{replace_refused, replace_no_memory, replaceable, replace_meets, put_table}
 use Rattle.mi_multi.proofs.multi.MultiIndex.replace.Goals as goal
 
 pub returns-in-Some-clause-outcome : goal.returns-in-Some-clause-outcome

@@ -3,7 +3,7 @@ use Rattle.std.specs.declared.option.Option.TheVariants.{None, Some}
 use Rattle.mi_catalog.specs.Shape.{index_at}
 use Rattle.mi_model.specs.Conflict.{rival}
 use Rattle.mi_container.specs.Data.{table_of}
-use Rattle.mi_multi.proofs.Holders.{none_is, own_is_none, other_is}
+use Rattle.mi_multi.proofs.ConflictLemmas.{none_is, own_is_none, other_is}
 use Rattle.mi_multi.proofs.multi.MultiIndex.rival.Goals as goal
 
 pub returns-in_err-holder : goal.returns-in_err-holder

@@ -1,6 +1,6 @@
 use Rattle.std.proofs.Common.{◌∙◌}
-use Rattle.mi_multi.proofs.Calls.{listed_reaches, between, after_held}
-use Rattle.mi_multi.proofs.RowMoves.{shows, live_named, row_behind_is}
+use Rattle.mi_multi.proofs.CallLemmas.{listed_reaches, between, after_held}
+use Rattle.mi_multi.proofs.RelocateCallLemmas.{shows, live_named, row_behind_is}
 use Rattle.mi_multi.proofs.multi.MultiIndex.row_behind.Goals as goal
 
 pub structure_at-requires : goal.structure_at-requires

@@ -10,8 +10,8 @@ use Rattle.mi_container.specs.Fits.{KeptBy}
 use Rattle.mi_container.specs.Backs.{row_seen}
 use Rattle.mi_multi.specs.Multi.{IsMulti, plain_of}
 use Rattle.mi_multi.specs.Seen.{Seen}
-use Rattle.mi_multi.proofs.Answers.{kept_there}
-use Rattle.mi_multi.proofs.Settled.{out, freed_seen, freed_multi}
+use Rattle.mi_multi.proofs.AnswerLemmas.{kept_there}
+use Rattle.mi_multi.proofs.SettleLemmas.{out, freed_seen, freed_multi}
 use Rattle.mi_multi.proofs.multi.MultiIndex.settle_erased.Goals as goal
 
 pub free-freed-requires : goal.free-freed-requires

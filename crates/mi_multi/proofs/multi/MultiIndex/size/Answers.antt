@@ -1,4 +1,4 @@
-use Rattle.mi_multi.proofs.Calls.{in_order, count_is, id_sorted}
+use Rattle.mi_multi.proofs.CallLemmas.{in_order, count_is, id_sorted}
 use Rattle.mi_multi.proofs.multi.MultiIndex.size.Goals as goal
 
 pub node_count-requires : goal.node_count-requires

@@ -7,8 +7,8 @@ use Rattle.mi_container.specs.Fits.{Ready}
 use Rattle.mi_container.specs.Backs.{row_seen}
 use Rattle.mi_multi.specs.Multi.{plain_of}
 use Rattle.mi_multi.specs.Seen.{Seen}
-use Rattle.mi_multi.proofs.Uninserting.{live_there}
-use Rattle.mi_multi.proofs.Moved.{IsOtherNode, other_node, can_move, moved_seen, moved_multi}
+use Rattle.mi_multi.proofs.TakeBackInsertLemmas.{live_there}
+use Rattle.mi_multi.proofs.RelocateLemmas.{IsOtherNode, other_node, can_move, moved_seen, moved_multi}
 use Rattle.mi_multi.proofs.multi.MultiIndex.stand_before.Goals as goal
 
 pub relocate-requires : goal.relocate-requires

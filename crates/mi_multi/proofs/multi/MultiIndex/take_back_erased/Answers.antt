@@ -8,9 +8,9 @@ use Rattle.mi_container.specs.Fits.{Ready}
 use Rattle.mi_container.specs.Backs.{row_seen}
 use Rattle.mi_multi.specs.Multi.{IsMulti, plain_of}
 use Rattle.mi_multi.specs.Seen.{Seen, seen_of}
-use Rattle.mi_multi.proofs.Answers.{kept_there, back_meets, back_is}
-use Rattle.mi_multi.proofs.Returning.{can_return}
-use Rattle.mi_multi.proofs.Back.{has_back, back_seen, back_multi}
+use Rattle.mi_multi.proofs.AnswerLemmas.{kept_there, back_meets, back_is}
+use Rattle.mi_multi.proofs.ReturnLemmas.{can_return}
+use Rattle.mi_multi.proofs.TakeBackEraseLemmas.{has_back, back_seen, back_multi}
 use Rattle.mi_multi.proofs.multi.MultiIndex.take_back_erased.Goals as goal
 
 pub put_back-requires-clause-held : goal.put_back-requires-clause-held

@@ -9,8 +9,8 @@ use Rattle.mi_container.specs.Fits.{Ready}
 use Rattle.mi_container.specs.Backs.{row_seen}
 use Rattle.mi_multi.specs.Multi.{IsMulti, plain_of}
 use Rattle.mi_multi.specs.Seen.{Seen}
-use Rattle.mi_multi.proofs.Erasing.{can_leave}
-use Rattle.mi_multi.proofs.Uninserting.{live_there, left_multi, kept_now, left_out_of_all, back_seen, back_multi}
+use Rattle.mi_multi.proofs.EraseLemmas.{can_leave}
+use Rattle.mi_multi.proofs.TakeBackInsertLemmas.{live_there, left_multi, kept_now, left_out_of_all, back_seen, back_multi}
 use Rattle.mi_multi.proofs.multi.MultiIndex.take_back_inserted.Goals as goal
 
 pub take_out-requires : goal.take_out-requires

@@ -12,9 +12,9 @@ use Rattle.mi_multi.specs.Seen.{Seen}
 use Rattle.mi_multi.specs.Restored.{old_seen, to_place}
 use Rattle.std.specs.FinMap.{get}
 use Rattle.std.specs.Option.{option_map}
-use Rattle.mi_multi.proofs.Uninserting.{live_there}
-use Rattle.mi_multi.proofs.Unput.{can_move_back}
-use Rattle.mi_multi.proofs.Unputting.{unput_seen, unput_multi}
+use Rattle.mi_multi.proofs.TakeBackInsertLemmas.{live_there}
+use Rattle.mi_multi.proofs.OldRecordPlaceLemmas.{can_move_back}
+use Rattle.mi_multi.proofs.TakeBackPutLemmas.{unput_seen, unput_multi}
 use Rattle.mi_multi.proofs.multi.MultiIndex.take_back_put.Goals.{After-as_slice, After-rekey_back-put}
 use Rattle.mi_multi.proofs.multi.MultiIndex.take_back_put.Goals as goal
 

@@ -1,8 +1,8 @@
 use Rattle.std.proofs.Common.{true, ◌∙◌}
 use Rattle.mi_value.specs.declared.bound.Probe.TheVariants.{Key}
 use Rattle.mi_index.specs.Looks.{is_past}
-use Rattle.mi_multi.proofs.Calls.{sorted_reaches, in_order, one_look}
-use Rattle.mi_multi.proofs.KeyCalls.{found_held, upper_is}
+use Rattle.mi_multi.proofs.CallLemmas.{sorted_reaches, in_order, one_look}
+use Rattle.mi_multi.proofs.KeyCallLemmas.{found_held, upper_is}
 use Rattle.mi_multi.proofs.multi.MultiIndex.upper.Goals as goal
 
 pub structure_at-structure-requires : goal.structure_at-structure-requires

@@ -6,8 +6,8 @@ use Rattle.mi_tree.specs.declared.walk.Direction.{Direction}
 use Rattle.mi_index.specs.Standing.{Stands}
 use Rattle.mi_index.specs.Walks.{shown_row}
 use Rattle.mi_order.specs.declared.stored.Stored.{Stored}
-use Rattle.mi_multi.proofs.Calls.{listed_reaches, absent, between, one_look}
-use Rattle.mi_multi.proofs.WalkCalls.{a, slot_is, rows_are, stood}
+use Rattle.mi_multi.proofs.CallLemmas.{listed_reaches, absent, between, one_look}
+use Rattle.mi_multi.proofs.WalkLemmas.{a, slot_is, rows_are, stood}
 use Rattle.mi_multi.proofs.multi.MultiIndex.walk.Goals as goal
 
 pub returns-in_default-clause-rows : goal.returns-in_default-clause-rows

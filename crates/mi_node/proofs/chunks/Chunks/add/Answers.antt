@@ -1,6 +1,6 @@
 use Rattle.std.proofs.Common.{◌<◌, ◌++◌, [], ◌∷◌, ap, sym, subst, ◌∙◌}
 use Rattle.mi_node.specs.Chunks.{flat, in_vec, IsChunked}
-use Rattle.mi_node.proofs.Flats.{IsChunked-end, flat-end}
+use Rattle.mi_node.proofs.ChunkLemmas.{IsChunked-end, flat-end}
 use Rattle.mi_node.proofs.chunks.Chunks.add.Goals as goal
 
 pub invariant_of-self-2 : goal.invariant_of-self-2

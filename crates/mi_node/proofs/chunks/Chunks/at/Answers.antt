@@ -1,6 +1,6 @@
 use Rattle.std.proofs.Common.{◌<◌, ◌/◌, ◌%◌, List, ap, sym, subst, length, slice_index_or, ◌∙◌}
 use Rattle.mi_node.specs.Chunks.{in_vec}
-use Rattle.mi_node.proofs.Flats.{full_at, index-flat, in_chunks, split_of, small_of}
+use Rattle.mi_node.proofs.ChunkLemmas.{full_at, index-flat, in_chunks, split_of, small_of}
 use Rattle.mi_node.proofs.chunks.Chunks.at.Goals as goal
 
 pub index-requires : goal.index-requires

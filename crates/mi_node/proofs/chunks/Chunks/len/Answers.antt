@@ -1,6 +1,6 @@
 use Rattle.std.proofs.Common.{ap, sym, length, ◌∙◌, List}
 use Rattle.mi_node.specs.Chunks.{in_vec}
-use Rattle.mi_node.proofs.Flats.{length-flat, times}
+use Rattle.mi_node.proofs.ChunkLemmas.{length-flat, times}
 use Rattle.mi_node.proofs.chunks.Chunks.len.Goals as goal
 
 pub returns : goal.returns

@@ -2,7 +2,7 @@ use Rattle.std.proofs.Common.{◌<◌, ◌/◌, ◌%◌, List, ap, sym, subst, l
 use Rattle.std.specs.Vec.{with_item}
 use Rattle.std.proofs.Math.ListN.{length-set}
 use Rattle.mi_node.specs.Chunks.{flat, in_vec, IsChunked}
-use Rattle.mi_node.proofs.Flats.{full_at, index-flat, set-flat, IsChunked-set, in_chunks, split_of, small_of}
+use Rattle.mi_node.proofs.ChunkLemmas.{full_at, index-flat, set-flat, IsChunked-set, in_chunks, split_of, small_of}
 use Rattle.mi_node.proofs.chunks.Chunks.replace.Goals as goal
 
 pub index_mut-requires : goal.index_mut-requires

@@ -2,7 +2,7 @@ use Rattle.std.proofs.Common.{◌<◌, ◌++◌, [], ◌∷◌, length, ap, sym,
 use Rattle.std.proofs.Math.ListN.{length-replicate}
 use Rattle.mi_node.specs.Cells.{empty_cell}
 use Rattle.mi_node.specs.Chunks.{flat, in_block, IsChunked}
-use Rattle.mi_node.proofs.Flats.{IsChunked-end, flat-end}
+use Rattle.mi_node.proofs.ChunkLemmas.{IsChunked-end, flat-end}
 use Rattle.mi_node.proofs.column.Column.add.Goals as goal
 
 pub invariant_of-self-2 : goal.invariant_of-self-2

@@ -4,8 +4,8 @@ use Rattle.mi_node.specs.Chunks.{in_block}
 use Rattle.mi_node.specs.Columns.{cell_at}
 use Rattle.mi_node.specs.declared.cell.Cell.{Cell}
 use Rattle.mi_node.specs.declared.column.Block.{Block}
-use Rattle.mi_node.proofs.Flats.{full_at, index-flat, in_chunks, split_of, small_of}
-use Rattle.mi_node.proofs.Links.{index-any}
+use Rattle.mi_node.proofs.ChunkLemmas.{full_at, index-flat, in_chunks, split_of, small_of}
+use Rattle.mi_node.proofs.ColumnLemmas.{index-any}
 use Rattle.mi_node.proofs.column.Column.at.Goals as goal
 
 pub index-block-requires : goal.index-block-requires

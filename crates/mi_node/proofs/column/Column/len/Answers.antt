@@ -1,7 +1,7 @@
 use Rattle.std.proofs.Common.{ap, sym, length, ◌∙◌, List}
 use Rattle.mi_node.specs.Chunks.{in_block}
 use Rattle.mi_node.specs.declared.cell.Cell.{Cell}
-use Rattle.mi_node.proofs.Flats.{length-flat, times}
+use Rattle.mi_node.proofs.ChunkLemmas.{length-flat, times}
 use Rattle.mi_node.proofs.column.Column.len.Goals as goal
 
 pub returns : goal.returns

@@ -4,7 +4,7 @@ use Rattle.std_alloc.specs.Box.{with_value}
 use Rattle.mi_node.specs.Chunks.{in_block}
 use Rattle.mi_node.specs.declared.cell.Cell.{Cell}
 use Rattle.mi_node.specs.declared.column.Block.{Block}
-use Rattle.mi_node.proofs.Flats.{full_at, set-flat, IsChunked-set, in_chunks, split_of, small_of}
+use Rattle.mi_node.proofs.ChunkLemmas.{full_at, set-flat, IsChunked-set, in_chunks, split_of, small_of}
 use Rattle.mi_node.proofs.column.Column.set.Goals as goal
 
 pub index_mut-requires : goal.index_mut-requires

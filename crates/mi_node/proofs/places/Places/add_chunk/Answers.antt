@@ -2,7 +2,7 @@ use Rattle.std.proofs.Common.{◌++◌, ◌+◌, ap, sym, subst, length, ◌∙�
 use Rattle.mi_node.specs.Homes.{AreFree, IsFreeAt}
 use Rattle.mi_node.specs.Seen.{seen, IsSound}
 use Rattle.mi_node.specs.Columns.{AreLong}
-use Rattle.mi_node.proofs.Maps.{seen-wide, seen-columns, seen-more, sound-wide, sound-columns, sound-more, free_end, some_less, room_of}
+use Rattle.mi_node.proofs.MapLemmas.{seen-wide, seen-columns, seen-more, sound-wide, sound-columns, sound-more, free_end, some_less, room_of}
 use Rattle.mi_node.proofs.places.Places.add_chunk.Goals as goal
 
 pub returns-in_err-add_columns-clause-nodes : goal.returns-in_err-add_columns-clause-nodes

@@ -1,7 +1,7 @@
 use Rattle.std.proofs.Common.{◌<◌, ap, sym, subst, length, slice_index_or, ◌∙◌}
 use Rattle.mi_node.specs.Columns.{column, links_at}
 use Rattle.mi_node.specs.Pool.{no_link}
-use Rattle.mi_node.proofs.Maps.{there, wide_at, at_less, link-seen}
+use Rattle.mi_node.proofs.MapLemmas.{there, wide_at, at_less, link-seen}
 use Rattle.mi_node.proofs.places.Places.link.Goals as goal
 
 pub link_at-requires-clause-slot : goal.link_at-requires-clause-slot

@@ -1,6 +1,6 @@
 use Rattle.std.proofs.Common.{ap, ◌∙◌}
 use Rattle.mi_node.specs.Seen.{seen}
-use Rattle.mi_node.proofs.Maps.{seen-none}
+use Rattle.mi_node.proofs.MapLemmas.{seen-none}
 use Rattle.mi_node.proofs.places.Places.new.Goals as goal
 
 pub returns-clause-nodes : goal.returns-clause-nodes

@@ -1,7 +1,7 @@
 use Rattle.std.proofs.Common.{◌<◌, ◌==◌, ap, sym, subst, length, ◌∙◌}
 use Rattle.mi_node.specs.Columns.{column, links_at}
 use Rattle.mi_node.specs.Pool.{put_link}
-use Rattle.mi_node.proofs.Maps.{there, wide_at, at_less, seen-link, sound-columns}
+use Rattle.mi_node.proofs.MapLemmas.{there, wide_at, at_less, seen-link, sound-columns}
 use Rattle.mi_node.proofs.places.Places.set_link.Goals as goal
 
 pub set_link_at-requires-clause-slot : goal.set_link_at-requires-clause-slot

@@ -3,7 +3,7 @@ use Rattle.mi_node.specs.Columns.{links_at}
 use Rattle.mi_node.specs.Pool.{no_link, ref_of}
 use Rattle.mi_node.specs.Seen.{seen, IsSound}
 use Rattle.mi_node.specs.declared.home.Home.TheVariants.{Held}
-use Rattle.mi_node.proofs.Maps.{free_less, free_found, free-seen, named_found, some_wide, up_to, seen-settled, sound-columns, sound-set}
+use Rattle.mi_node.proofs.MapLemmas.{free_less, free_found, free-seen, named_found, some_wide, up_to, seen-settled, sound-columns, sound-set}
 use Rattle.mi_node.proofs.places.Places.settle.Goals as goal
 
 pub at-requires : goal.at-requires

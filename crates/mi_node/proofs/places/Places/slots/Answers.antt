@@ -1,5 +1,5 @@
 use Rattle.std.proofs.Common.{sym}
-use Rattle.mi_node.proofs.Maps.{slots-seen}
+use Rattle.mi_node.proofs.MapLemmas.{slots-seen}
 use Rattle.mi_node.proofs.places.Places.slots.Goals as goal
 
 pub returns : goal.returns

@@ -3,7 +3,7 @@ use Rattle.mi_node.specs.Homes.{value_in}
 use Rattle.mi_node.specs.Seen.{seen, IsSound}
 use Rattle.mi_node.specs.declared.home.Home.{Home}
 use Rattle.mi_node.specs.declared.home.Home.TheVariants.{Held}
-use Rattle.mi_node.proofs.Maps.{there, found, held_some, value-seen, seen-value, sound-set}
+use Rattle.mi_node.proofs.MapLemmas.{there, found, held_some, value-seen, seen-value, sound-set}
 use Rattle.mi_node.proofs.places.Places.swap_value.Goals as goal
 
 pub replace-requires : goal.replace-requires

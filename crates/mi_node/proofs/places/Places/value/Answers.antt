@@ -1,7 +1,7 @@
 use Rattle.std.proofs.Common.{◌<◌, ap, sym, subst, length, ◌∙◌}
 use Rattle.mi_node.specs.Homes.{value_in}
 use Rattle.mi_node.specs.declared.home.Home.{Home}
-use Rattle.mi_node.proofs.Maps.{there, found, held_some, value-seen}
+use Rattle.mi_node.proofs.MapLemmas.{there, found, held_some, value-seen}
 use Rattle.mi_node.proofs.places.Places.value.Goals as goal
 
 pub at-requires : goal.at-requires

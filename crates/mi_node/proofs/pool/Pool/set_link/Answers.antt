@@ -1,6 +1,6 @@
 use Rattle.std.proofs.Common.{◌<◌, ap, sym, subst, ◌∙◌}
 use Rattle.mi_node.specs.Pool.{Pooled}
-use Rattle.mi_node.proofs.Maps.{slots-seen}
+use Rattle.mi_node.proofs.MapLemmas.{slots-seen}
 use Rattle.mi_node.proofs.pool.Pool.set_link.Goals as goal
 
 pub set_link-requires-clause-slot : goal.set_link-requires-clause-slot

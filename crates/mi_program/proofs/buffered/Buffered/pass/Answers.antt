@@ -1,4 +1,4 @@
-use Rattle.mi_program.proofs.Buffers.{stream_takes, none_waits}
+use Rattle.mi_program.proofs.BufferLemmas.{stream_takes, none_waits}
 use Rattle.mi_program.proofs.buffered.Buffered.pass.Goals as goal
 
 pub returns-clause-bytes : goal.returns-clause-bytes

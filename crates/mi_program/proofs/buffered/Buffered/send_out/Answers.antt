@@ -1,5 +1,5 @@
 use Rattle.std.proofs.Common.{◌≡◌, ◌-◌, ◌∙◌, ap, drop, length, length-drop, arith}
-use Rattle.mi_program.proofs.Buffers.{front_goes}
+use Rattle.mi_program.proofs.BufferLemmas.{front_goes}
 use Rattle.mi_program.proofs.buffered.Buffered.send_out.Goals as goal
 
 pub out-preserved : goal.out-preserved

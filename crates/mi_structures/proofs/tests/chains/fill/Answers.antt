@@ -1,7 +1,7 @@
 use Rattle.std.proofs.Common.{◌≡◌, [], ◌∷◌, ap, ◌∙◌, arith, cond}
 use Rattle.mi_node.specs.Pool.{link_of}
 use Rattle.mi_node.specs.declared.link.Tag.{Tag}
-use Rattle.mi_node.proofs.Callers.{same_refl}
+use Rattle.mi_node.proofs.EntryLemmas.{same_refl}
 use Rattle.mi_chain.specs.Keying.{stamp_at, hash_node}
 use Rattle.mi_chain.specs.Chained.{IsPlaced}
 use Rattle.mi_structures.specs.OneKey.{one_keying}

@@ -1,8 +1,8 @@
 use Rattle.std.proofs.Common.{◌<◌, arith}
-use Rattle.mi_node.proofs.Callers.{slot_counts, apart_of_free}
+use Rattle.mi_node.proofs.EntryLemmas.{slot_counts, apart_of_free}
 use Rattle.mi_structures.specs.OneKey.{one_keying}
-use Rattle.mi_chain.proofs.Whole.{new_chains}
-use Rattle.mi_structures.proofs.Takes.{held_now, held_then}
+use Rattle.mi_chain.proofs.CallLemmas.{new_chains}
+use Rattle.mi_structures.proofs.TakeLemmas.{held_now, held_then}
 use Rattle.mi_structures.proofs.tests.chains.two_of_one_key.Goals as goal
 
 pub fill-requires-clause-chained : goal.fill-requires-clause-chained

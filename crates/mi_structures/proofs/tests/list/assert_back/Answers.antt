@@ -1,8 +1,8 @@
 use Rattle.std.proofs.Common.{List as Seq, [], ◌∷◌, ◌++◌, sym, ◌∙◌, subst, append_assoc}
 use Rattle.mi_node.specs.Refs.{Ref}
-use Rattle.mi_node.proofs.Refs.{last_split}
+use Rattle.mi_node.proofs.RefLemmas.{last_split}
 use Rattle.mi_list.specs.Listed.{IsListed}
-use Rattle.mi_list.proofs.Changes.{nothing_after}
+use Rattle.mi_list.proofs.ChangeLemmas.{nothing_after}
 use Rattle.mi_structures.proofs.tests.list.assert_back.Goals as goal
 
 pub loop-name-init : goal.loop-name-init

@@ -1,6 +1,6 @@
 use Rattle.std.proofs.Common.{List as Seq, [], ◌∷◌, ◌++◌, sym, ◌∙◌, subst, append_assoc}
 use Rattle.mi_node.specs.Refs.{Ref}
-use Rattle.mi_node.proofs.Refs.{first_split}
+use Rattle.mi_node.proofs.RefLemmas.{first_split}
 use Rattle.mi_list.specs.Listed.{IsListed}
 use Rattle.mi_structures.proofs.tests.list.assert_forth.Goals as goal
 

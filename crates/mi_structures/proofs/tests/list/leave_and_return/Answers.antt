@@ -1,8 +1,8 @@
 use Rattle.std.proofs.Common.{[], ◌∷◌, ◌∙◌, subst}
 use Rattle.mi_node.specs.Pool.{Keeps}
-use Rattle.mi_node.proofs.Keeping.{keeps_then}
+use Rattle.mi_node.proofs.KeepingLemmas.{keeps_then}
 use Rattle.mi_list.specs.Listed.{slot_of}
-use Rattle.mi_list.proofs.Frames.{fits_again}
+use Rattle.mi_list.proofs.FrameLemmas.{fits_again}
 use Rattle.mi_structures.proofs.tests.list.leave_and_return.Goals as goal
 
 pub unlink-requires : goal.unlink-requires

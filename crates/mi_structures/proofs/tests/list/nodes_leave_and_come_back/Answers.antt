@@ -1,6 +1,6 @@
 use Rattle.std.proofs.Common.{◌<◌, arith}
-use Rattle.mi_node.proofs.Callers.{slot_counts}
-use Rattle.mi_list.proofs.Frames.{listed_new}
+use Rattle.mi_node.proofs.EntryLemmas.{slot_counts}
+use Rattle.mi_list.proofs.FrameLemmas.{listed_new}
 use Rattle.mi_structures.proofs.tests.list.nodes_leave_and_come_back.Goals as goal
 
 pub fill-requires-clause-listed : goal.fill-requires-clause-listed

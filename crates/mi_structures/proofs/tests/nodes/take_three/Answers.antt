@@ -1,7 +1,7 @@
 use Rattle.std.proofs.Common.{ap, ◌∙◌}
 use Rattle.mi_node.specs.Pool.{Pooled, IsHeld}
-use Rattle.mi_node.proofs.Callers.{apart_of_free, slots-taken}
-use Rattle.mi_structures.proofs.Takes.{held_now, held_then}
+use Rattle.mi_node.proofs.EntryLemmas.{apart_of_free, slots-taken}
+use Rattle.mi_structures.proofs.TakeLemmas.{held_now, held_then}
 use Rattle.mi_structures.proofs.tests.nodes.take_three.Goals as goal
 
 pub returns-clause-held : goal.returns-clause-held

@@ -6,9 +6,9 @@ use Rattle.mi_node.specs.Refs.{Ref}
 use Rattle.mi_node.specs.declared.link.Link.{Link}
 use Rattle.mi_tree.specs.Probed.{is_past_node, is_node_at, first_where}
 use Rattle.mi_tree.specs.Standing.{IsTree}
-use Rattle.mi_tree.proofs.Sorts.{tagged_read}
-use Rattle.mi_tree.proofs.Looks.{not_here, node_read, found_none, found_some, found_other, found_held, found_tag, some_found}
-use Rattle.mi_tree.proofs.Stands.{same_length, bound_less}
+use Rattle.mi_tree.proofs.SortedLemmas.{tagged_read}
+use Rattle.mi_tree.proofs.LookUpLemmas.{not_here, node_read, found_none, found_some, found_other, found_held, found_tag, some_found}
+use Rattle.mi_tree.proofs.StandingLemmas.{same_length, bound_less}
 use Rattle.mi_tree.proofs.tree.Tree.find.Given.{Over}
 use Rattle.mi_tree.proofs.tree.Tree.find.Goals.{In-Some, After-compare_probe}
 use Rattle.mi_tree.proofs.tree.Tree.find.Goals as goal

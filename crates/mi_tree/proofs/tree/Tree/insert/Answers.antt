@@ -4,7 +4,7 @@ use Rattle.mi_node.specs.declared.link.Tag.{Tag}
 use Rattle.mi_tree.specs.Shape.{Shape, nodes}
 use Rattle.mi_tree.specs.Sorted.{AreTagged, HasPut, CanPut, side}
 use Rattle.mi_tree.specs.Standing.{IsTree, IsNew}
-use Rattle.mi_tree.proofs.Stands.{can_put, put_tagged, has_put, put_keeps, put_stamp, put_tags, set_keeps, set_tag}
+use Rattle.mi_tree.proofs.StandingLemmas.{can_put, put_tagged, has_put, put_keeps, put_stamp, put_tags, set_keeps, set_tag}
 use Rattle.mi_tree.proofs.tree.Tree.insert.Given.{Over}
 use Rattle.mi_tree.proofs.tree.Tree.insert.Goals.{After-set_link, After-put_in-self}
 use Rattle.mi_tree.proofs.tree.Tree.insert.Goals as goal

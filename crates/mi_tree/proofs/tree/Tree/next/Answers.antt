@@ -2,7 +2,7 @@ use Rattle.std.proofs.Common.{◌≡◌, ◌+◌, ◌<◌, ◌^◌, suc, ◌∷�
 use Rattle.mi_node.specs.Pool.{Pooled}
 use Rattle.mi_tree.specs.Shape.{nth_of}
 use Rattle.mi_tree.specs.Standing.{IsTree}
-use Rattle.mi_tree.proofs.Shapes.{nth-after, nth-first}
+use Rattle.mi_tree.proofs.BinaryTreeLemmas.{nth-after, nth-first}
 use Rattle.mi_tree.proofs.tree.Tree.next.Goals as goal
 
 pub overflow_add-rank : goal.overflow_add-rank

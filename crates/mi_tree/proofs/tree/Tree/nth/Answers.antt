@@ -1,6 +1,6 @@
 use Rattle.std.proofs.Common.{ap, ◌∙◌, arith}
 use Rattle.mi_tree.specs.Shape.{nth_of}
-use Rattle.mi_tree.proofs.Stands.{bound}
+use Rattle.mi_tree.proofs.StandingLemmas.{bound}
 use Rattle.mi_tree.proofs.tree.Tree.nth.Goals as goal
 
 pub nth_in-requires-clause-tree : goal.nth_in-requires-clause-tree

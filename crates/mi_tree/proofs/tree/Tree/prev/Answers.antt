@@ -1,7 +1,7 @@
 use Rattle.std.proofs.Common.{◌≡◌, ◌-◌, suc, ◌∷◌, ◌++◌, length, sym, ◌∙◌, subst, arith}
 use Rattle.mi_node.specs.Pool.{Pooled}
 use Rattle.mi_tree.specs.Standing.{IsTree}
-use Rattle.mi_tree.proofs.Shapes.{nth-last, last-none}
+use Rattle.mi_tree.proofs.BinaryTreeLemmas.{nth-last, last-none}
 use Rattle.mi_tree.proofs.tree.Tree.prev.Goals as goal
 
 pub nth-requires : goal.nth-requires

@@ -3,7 +3,7 @@ use Rattle.mi_node.specs.Pool.{Pooled}
 use Rattle.mi_node.specs.Refs.{Ref}
 use Rattle.mi_tree.specs.Shape.{Shape, nodes, IsRooted}
 use Rattle.mi_tree.specs.Sorted.{CanTake, Rising, AreTagged, side}
-use Rattle.mi_tree.proofs.Stands.{bound, bound_node, can_take, rising_in, tagged_in, node_held}
+use Rattle.mi_tree.proofs.StandingLemmas.{bound, bound_node, can_take, rising_in, tagged_in, node_held}
 use Rattle.mi_tree.proofs.tree.Tree.rank.Given.{Over}
 use Rattle.mi_tree.proofs.tree.Tree.rank.Goals.{After-link}
 use Rattle.mi_tree.proofs.tree.Tree.rank.Goals as goal

@@ -3,7 +3,7 @@ use Rattle.mi_node.specs.Refs.{Ref}
 use Rattle.mi_tree.specs.Shape.{Shape}
 use Rattle.mi_tree.specs.Sorted.{HasTaken}
 use Rattle.mi_tree.specs.Standing.{IsTree}
-use Rattle.mi_tree.proofs.Stands.{can_take, rising_in, tagged_in, node_held, has_taken}
+use Rattle.mi_tree.proofs.StandingLemmas.{can_take, rising_in, tagged_in, node_held, has_taken}
 use Rattle.mi_tree.proofs.tree.Tree.remove.Given.{Over}
 use Rattle.mi_tree.proofs.tree.Tree.remove.Goals.{After-take_out-self}
 use Rattle.mi_tree.proofs.tree.Tree.remove.Goals as goal

@@ -1,8 +1,8 @@
 use Rattle.std.proofs.Common.{true, ap, ◌∙◌, arith}
 use Rattle.mi_tree.specs.Shape.{nodes}
 use Rattle.mi_tree.specs.Probed.{is_past_node, first_where}
-use Rattle.mi_tree.proofs.Stands.{bound, rising_in, tagged_in}
-use Rattle.mi_tree.proofs.Looks.{steady}
+use Rattle.mi_tree.proofs.StandingLemmas.{bound, rising_in, tagged_in}
+use Rattle.mi_tree.proofs.LookUpLemmas.{steady}
 use Rattle.mi_tree.proofs.tree.Tree.upper.Goals as goal
 
 pub seek_in-requires-clause-tree : goal.seek_in-requires-clause-tree

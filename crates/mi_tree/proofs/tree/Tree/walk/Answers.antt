@@ -1,7 +1,7 @@
 use Rattle.std.proofs.Common.{take, drop, subst, arith}
 use Rattle.mi_tree.specs.Shape.{height}
 use Rattle.mi_tree.specs.Walking.{IsWalk, beyond}
-use Rattle.mi_tree.proofs.Stands.{bound, enters_root}
+use Rattle.mi_tree.proofs.StandingLemmas.{bound, enters_root}
 use Rattle.mi_tree.proofs.tree.Tree.walk.Goals as goal
 
 pub start-requires-clause-tree : goal.start-requires-clause-tree

@@ -4,7 +4,7 @@ use Rattle.mi_node.specs.Refs.{Ref}
 use Rattle.mi_tree.specs.Shape.{Shape, nodes, height, IsRooted}
 use Rattle.mi_tree.specs.Sorted.{CanTake, Rising, AreTagged, side}
 use Rattle.mi_tree.specs.Walking.{Enters, IsWalk, beyond}
-use Rattle.mi_tree.proofs.Stands.{bound, bound_node, can_take, rising_in, tagged_in, node_held, enters_root}
+use Rattle.mi_tree.proofs.StandingLemmas.{bound, bound_node, can_take, rising_in, tagged_in, node_held, enters_root}
 use Rattle.mi_tree.proofs.tree.Tree.walk_from.Given.{Over}
 use Rattle.mi_tree.proofs.tree.Tree.walk_from.Goals.{After-link}
 use Rattle.mi_tree.proofs.tree.Tree.walk_from.Goals as goal

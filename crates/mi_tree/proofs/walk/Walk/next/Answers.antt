@@ -2,7 +2,7 @@ use Rattle.std.proofs.Common.{◌≡◌, ℕ, List, [], length, None, refl, sym,
 use Rattle.mi_node.specs.Pool.{Pooled}
 use Rattle.mi_node.specs.Refs.{Ref, first_of}
 use Rattle.mi_tree.specs.Walking.{IsWalk, Enters, ahead, far_of}
-use Rattle.mi_tree.proofs.Walks.{Stepped, popped_none, stepped, walks, walks_none, goes_depth, goes_moved}
+use Rattle.mi_tree.proofs.WalkLemmas.{Stepped, popped_none, stepped, walks, walks_none, goes_depth, goes_moved}
 use Rattle.mi_tree.proofs.walk.Walk.next.Given.{Over}
 use Rattle.mi_tree.proofs.walk.Walk.next.Goals.{In_default, In-Some, After-far-after}
 use Rattle.mi_tree.proofs.walk.Walk.next.Goals as goal

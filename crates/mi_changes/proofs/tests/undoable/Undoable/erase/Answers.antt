@@ -4,7 +4,7 @@ use Rattle.mi_container.specs.Inverse.{Inverse}
 use Rattle.std.specs.declared.option.Option.TheVariants.{None}
 use Rattle.mi_container.specs.Run.Change.{Erase}
 use Rattle.mi_changes.specs.Undone.{Holds}
-use Rattle.mi_changes.proofs.Undone.{makes}
+use Rattle.mi_changes.proofs.UndoneLemmas.{makes}
 use Rattle.mi_changes.proofs.tests.undoable.Undoable.erase.Goals as goal
 
 pub returns-in-Ok : goal.returns-in-Ok

@@ -2,7 +2,7 @@
 use Rattle.std.proofs.Common.{◌≡◌, ◌∙◌, ap, sym, subst, List, [], ◌∷◌, ◌++◌}
 use Rattle.mi_container.specs.Inverse.{Inverse}
 use Rattle.mi_changes.specs.Undone.{Holds}
-use Rattle.mi_changes.proofs.Undone.{makes_insert}
+use Rattle.mi_changes.proofs.UndoneLemmas.{makes_insert}
 use Rattle.mi_changes.proofs.tests.undoable.Undoable.insert.Goals as goal
 
 pub returns-in-Ok : goal.returns-in-Ok

@@ -2,7 +2,7 @@
 use Rattle.std.proofs.Common.{◌≡◌, ◌∙◌, ap, sym, subst, List, [], ◌∷◌, ◌++◌}
 use Rattle.mi_container.specs.Inverse.{Inverse, lost_to}
 use Rattle.mi_changes.specs.Undone.{Holds}
-use Rattle.mi_changes.proofs.Undone.{makes_modify}
+use Rattle.mi_changes.proofs.UndoneLemmas.{makes_modify}
 use Rattle.mi_changes.proofs.tests.undoable.Undoable.modify.Goals as goal
 
 pub returns-in-Some : goal.returns-in-Some

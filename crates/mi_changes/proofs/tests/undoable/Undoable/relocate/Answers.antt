@@ -3,7 +3,7 @@ use Rattle.std.proofs.Common.{◌≡◌, ◌∙◌, ap, sym, subst, List, [], �
 use Rattle.mi_container.specs.Inverse.{Inverse}
 use Rattle.mi_container.specs.Run.Change.{Relocate}
 use Rattle.mi_changes.specs.Undone.{Holds}
-use Rattle.mi_changes.proofs.Undone.{makes}
+use Rattle.mi_changes.proofs.UndoneLemmas.{makes}
 use Rattle.mi_changes.proofs.tests.undoable.Undoable.relocate.Goals as goal
 
 pub returns-in-Ok : goal.returns-in-Ok

@@ -4,7 +4,7 @@ use Rattle.std.specs.declared.option.Option.{Option}
 use Rattle.std.specs.Option.{option_to_list}
 use Rattle.mi_container.specs.Inverse.{Inverse}
 use Rattle.mi_changes.specs.Undone.{Holds}
-use Rattle.mi_changes.proofs.Undone.{oldest_kept, oldest_settled}
+use Rattle.mi_changes.proofs.UndoneLemmas.{oldest_kept, oldest_settled}
 use Rattle.mi_changes.proofs.tests.undoable.Undoable.settle.Goals as goal
 
 pub settle-requires : goal.settle-requires

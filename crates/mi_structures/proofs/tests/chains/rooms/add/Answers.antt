@@ -2,7 +2,7 @@ use Rattle.std.proofs.Common.{◌++◌, [], ◌∷◌, refl}
 use Rattle.mi_node.specs.declared.link.Tag.{Tag}
 use Rattle.mi_chain.specs.Keying.{hash_node}
 use Rattle.mi_structures.specs.Numbered.{number_keying}
-use Rattle.mi_structures.proofs.Sevens.{next_of_taken, numbered_more}
+use Rattle.mi_structures.proofs.SevenNodeLemmas.{next_of_taken, numbered_more}
 use Rattle.mi_structures.proofs.tests.chains.rooms.add.Goals as goal
 
 pub insert-requires : goal.insert-requires

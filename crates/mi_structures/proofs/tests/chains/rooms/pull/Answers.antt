@@ -2,7 +2,7 @@ use Rattle.std.proofs.Common.{◌≡◌, ◌<◌, ◌∙◌, sym, subst, ap}
 use Rattle.mi_node.specs.Pool.{link_of}
 use Rattle.mi_chain.specs.Chained.{AreChained, FitsBetween}
 use Rattle.mi_structures.specs.Numbered.{number_keying, IsAmong}
-use Rattle.mi_structures.proofs.Threes.{among_filter}
+use Rattle.mi_structures.proofs.ThreeNodeLemmas.{among_filter}
 use Rattle.mi_structures.proofs.tests.chains.rooms.pull.Goals as goal
 
 pub remove-requires : goal.remove-requires

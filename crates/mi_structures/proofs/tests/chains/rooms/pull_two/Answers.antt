@@ -1,7 +1,7 @@
 use Rattle.std.proofs.Common.{◌∷◌, ◌++◌, ◌∙◌, sym, subst}
 use Rattle.mi_chain.specs.Chained.{AreChained}
 use Rattle.mi_structures.specs.Numbered.{number_keying, AreSeenAlike}
-use Rattle.mi_structures.proofs.Sevens.{fits_alike, alike_back}
+use Rattle.mi_structures.proofs.SevenNodeLemmas.{fits_alike, alike_back}
 use Rattle.mi_structures.proofs.tests.chains.rooms.pull_two.Goals as goal
 
 pub assert_list-requires-3 : goal.assert_list-requires-3

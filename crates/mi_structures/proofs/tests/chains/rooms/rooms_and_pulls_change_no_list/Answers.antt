@@ -1,7 +1,7 @@
 use Rattle.std.proofs.Common.{◌<◌, arith, refl}
-use Rattle.mi_node.proofs.Callers.{slot_counts}
+use Rattle.mi_node.proofs.EntryLemmas.{slot_counts}
 use Rattle.mi_structures.specs.Numbered.{number_keying}
-use Rattle.mi_chain.proofs.Whole.{new_chains}
+use Rattle.mi_chain.proofs.CallLemmas.{new_chains}
 use Rattle.mi_structures.proofs.tests.chains.rooms.rooms_and_pulls_change_no_list.Goals as goal
 
 pub add_all-names-requires-clause-numbered : goal.add_all-names-requires-clause-numbered

@@ -1,5 +1,5 @@
 use Rattle.mi_structures.specs.Numbered.{IsAmong}
-use Rattle.mi_structures.proofs.Threes.{among_filter}
+use Rattle.mi_structures.proofs.ThreeNodeLemmas.{among_filter}
 use Rattle.mi_structures.proofs.tests.chains.three.assert_list.Goals as goal
 
 pub next_if-second-requires : goal.next_if-second-requires

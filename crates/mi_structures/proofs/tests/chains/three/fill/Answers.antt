@@ -1,10 +1,10 @@
 use Rattle.std.proofs.Common.{◌≡◌, true, false, [], ◌∷◌, ◌∙◌, arith}
 use Rattle.mi_node.specs.declared.link.Tag.{Tag}
-use Rattle.mi_node.proofs.Callers.{same_refl}
+use Rattle.mi_node.proofs.EntryLemmas.{same_refl}
 use Rattle.mi_chain.specs.Keying.{stamp_at, hash_node}
 use Rattle.mi_chain.specs.Chained.{IsPlaced}
 use Rattle.mi_structures.specs.Numbered.{number_keying}
-use Rattle.mi_structures.proofs.Threes.{stamp_set}
+use Rattle.mi_structures.proofs.ThreeNodeLemmas.{stamp_set}
 use Rattle.mi_structures.proofs.tests.chains.three.fill.Goals as goal
 
 pub insert-requires : goal.insert-requires

@@ -3,7 +3,7 @@ use Rattle.mi_node.specs.Pool.{link_of}
 use Rattle.mi_node.specs.declared.link.Link.{Link}
 use Rattle.mi_chain.specs.Chained.{IsPlaced}
 use Rattle.mi_structures.specs.Numbered.{number_keying}
-use Rattle.mi_structures.proofs.Threes.{placed_kept}
+use Rattle.mi_structures.proofs.ThreeNodeLemmas.{placed_kept}
 use Rattle.mi_structures.proofs.tests.chains.three.first_leaves.Goals as goal
 
 pub remove-requires : goal.remove-requires

@@ -1,7 +1,7 @@
 use Rattle.std.proofs.Common.{subst}
 use Rattle.mi_chain.specs.Chained.{AreChained}
 use Rattle.mi_structures.specs.Numbered.{number_keying, IsAmong}
-use Rattle.mi_structures.proofs.Threes.{among_after}
+use Rattle.mi_structures.proofs.ThreeNodeLemmas.{among_after}
 use Rattle.mi_structures.proofs.tests.chains.three.next_if.Goals as goal
 
 pub returns-in-Some : goal.returns-in-Some

@@ -1,7 +1,7 @@
 use Rattle.std.proofs.Common.{◌<◌, arith}
-use Rattle.mi_node.proofs.Callers.{slot_counts}
+use Rattle.mi_node.proofs.EntryLemmas.{slot_counts}
 use Rattle.mi_structures.specs.Numbered.{number_keying}
-use Rattle.mi_chain.proofs.Whole.{new_chains}
+use Rattle.mi_chain.proofs.CallLemmas.{new_chains}
 use Rattle.mi_structures.proofs.tests.chains.three.refused_room_changes_no_list.Goals as goal
 
 pub fill-requires-clause-chained : goal.fill-requires-clause-chained

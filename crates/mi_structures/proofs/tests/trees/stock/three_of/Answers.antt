@@ -1,5 +1,5 @@
 use Rattle.std.proofs.Common.{drop, ◌∙◌}
-use Rattle.mi_structures.proofs.Stocks.{walk_held}
+use Rattle.mi_structures.proofs.StockLemmas.{walk_held}
 use Rattle.mi_structures.proofs.tests.trees.stock.three_of.Goals as goal
 
 pub next-second-requires : goal.next-second-requires

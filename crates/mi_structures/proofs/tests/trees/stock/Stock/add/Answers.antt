@@ -1,6 +1,6 @@
 use Rattle.std.proofs.Common.{◌<◌, ◌+◌, sym, subst, arith}
 use Rattle.mi_structures.specs.Stock.{IsStock}
-use Rattle.mi_structures.proofs.Stocks.{tree_added, may_add, has_added}
+use Rattle.mi_structures.proofs.StockLemmas.{tree_added, may_add, has_added}
 use Rattle.mi_structures.proofs.tests.trees.stock.Stock.add.Goals as goal
 
 pub insert-requires : goal.insert-requires

@@ -3,7 +3,7 @@ use Rattle.mi_node.specs.Pool.{IsHeldIf}
 use Rattle.mi_structures.specs.Keyed.{keyed_order, key_tag}
 use Rattle.mi_tree.specs.Standing.{IsTree}
 use Rattle.mi_structures.specs.Stock.{AllHeldIn}
-use Rattle.mi_structures.proofs.Stocks.{nth_tree, tree_held, held_right, next_held}
+use Rattle.mi_structures.proofs.StockLemmas.{nth_tree, tree_held, held_right, next_held}
 use Rattle.mi_structures.proofs.tests.trees.stock.Stock.after.Goals as goal
 
 pub nth-requires : goal.nth-requires

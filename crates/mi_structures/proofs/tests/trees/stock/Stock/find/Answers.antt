@@ -2,7 +2,7 @@ use Rattle.std.proofs.Common.{sym, subst}
 use Rattle.mi_node.specs.Pool.{IsHeldIf}
 use Rattle.mi_structures.specs.Keyed.{keyed_order, key_tag}
 use Rattle.mi_tree.specs.Standing.{IsTree}
-use Rattle.mi_structures.proofs.Stocks.{tree_held, first_held}
+use Rattle.mi_structures.proofs.StockLemmas.{tree_held, first_held}
 use Rattle.mi_structures.proofs.tests.trees.stock.Stock.find.Goals as goal
 
 pub find-node-requires : goal.find-node-requires

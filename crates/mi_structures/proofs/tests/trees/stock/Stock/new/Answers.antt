@@ -1,4 +1,4 @@
-use Rattle.mi_structures.proofs.Stocks.{stock_new}
+use Rattle.mi_structures.proofs.StockLemmas.{stock_new}
 use Rattle.mi_structures.proofs.tests.trees.stock.Stock.new.Goals as goal
 
 pub invariant_of-result : goal.invariant_of-result

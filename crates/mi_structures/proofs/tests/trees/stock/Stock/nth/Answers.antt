@@ -2,7 +2,7 @@ use Rattle.std.proofs.Common.{sym, subst}
 use Rattle.mi_node.specs.Pool.{IsHeldIf}
 use Rattle.mi_structures.specs.Keyed.{keyed_order, key_tag}
 use Rattle.mi_tree.specs.Standing.{IsTree}
-use Rattle.mi_structures.proofs.Stocks.{tree_held, nth_held}
+use Rattle.mi_structures.proofs.StockLemmas.{tree_held, nth_held}
 use Rattle.mi_structures.proofs.tests.trees.stock.Stock.nth.Goals as goal
 
 pub nth-node-requires : goal.nth-node-requires

@@ -2,7 +2,7 @@ use Rattle.std.proofs.Common.{refl, sym, ◌∙◌, subst}
 use Rattle.mi_structures.specs.Keyed.{keyed_order, key_tag}
 use Rattle.mi_tree.specs.Standing.{IsTree}
 use Rattle.mi_structures.specs.Stock.{IsStock}
-use Rattle.mi_structures.proofs.Stocks.{nth_tree, pulled}
+use Rattle.mi_structures.proofs.StockLemmas.{nth_tree, pulled}
 use Rattle.mi_structures.proofs.tests.trees.stock.Stock.pull.Goals as goal
 
 pub nth-requires : goal.nth-requires

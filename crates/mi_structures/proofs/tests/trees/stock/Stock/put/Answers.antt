@@ -1,7 +1,7 @@
 use Rattle.std.proofs.Common.{◌≡◌, ap, sym, subst}
 use Rattle.mi_node.specs.declared.link.Link.{Link}
 use Rattle.mi_structures.specs.Stock.{IsStock, stamp_of}
-use Rattle.mi_structures.proofs.Stocks.{last_held, may_put, has_put}
+use Rattle.mi_structures.proofs.StockLemmas.{last_held, may_put, has_put}
 use Rattle.mi_structures.proofs.tests.trees.stock.Stock.put.Goals as goal
 
 pub link-stamp-requires-clause-held : goal.link-stamp-requires-clause-held

@@ -2,7 +2,7 @@ use Rattle.std.proofs.Common.{◌∷◌, sym, ◌∙◌, subst}
 use Rattle.mi_structures.specs.Keyed.{keyed_order, key_tag}
 use Rattle.mi_tree.specs.Standing.{IsTree}
 use Rattle.mi_tree.specs.Walking.{IsWalk, beyond}
-use Rattle.mi_structures.proofs.Stocks.{nth_tree}
+use Rattle.mi_structures.proofs.StockLemmas.{nth_tree}
 use Rattle.mi_structures.proofs.tests.trees.stock.Stock.walk_from.Goals as goal
 
 pub nth-requires : goal.nth-requires

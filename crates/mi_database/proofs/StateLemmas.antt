@@ -1,0 +1,79 @@
+-- From what a container answers to what the database does.
+use Rattle.std.proofs.Common.{◌≡◌, ℕ, ◌<◌, List, map, length, set, get_or, ap, sym, ◌∙◌, subst}
+use Rattle.std.proofs.lemmas.List.{map-set, length-map, set-get_or, get_or-map}
+use Rattle.std.specs.declared.result.Result.{Result}
+use Rattle.mi_value.specs.declared.refusal.Refusal.{Refusal}
+use Rattle.mi_catalog.specs.Shape.{Shape, CatalogShape}
+use Rattle.mi_model.specs.Table.{Table}
+use Rattle.mi_model.specs.Verdict.{Outcome}
+use Rattle.mi_model.specs.Steps.{Meets}
+use Rattle.mi_model.specs.Database.{Database, with_table, on_table}
+use Rattle.mi_model.specs.Database.{table_of as table_at}
+use Rattle.mi_model.proofs.StepLaws.{meets_on_table, with_same_table}
+use Rattle.mi_container.specs.Data.{Data, table_of}
+use Rattle.mi_container.specs.Inverse.{Inverse}
+use Rattle.mi_database.specs.Journal.{Journal, state_of}
+use Rattle.mi_database.proofs.JournalLemmas.{table_at as table_there}
+use Rattle.mi_database.specs.Held.{IsHeld}
+use Rattle.mi_database.proofs.LinkedDataLemmas.{set_data, shape_at, same_shapes, Made, made_state}
+use Rattle.mi_database.proofs.LoopLemmas.{held}
+
+-- a table's number is that of a container
+pub within_containers : {X : Type 0} (shape : X → Shape) (plain : X → Data) (c : CatalogShape) (cs : List X) (j : Journal) (r changes starts n : ℕ)
+    → IsHeld (map shape cs) (held c (map plain cs) j r changes starts)
+    → n < length c.tables → n < length cs
+within_containers shape plain c cs j r changes starts n is l = subst (λ q. n < q) (sym is.many ∙ length-map cs plain) l
+
+-- the table of a container
+pub table_of_container : {X : Type 0} (plain : X → Data) (c : CatalogShape) (cs : List X) (j : Journal) (r n : ℕ) (k : X) → n < length cs → k ≡ get_or cs n k
+    → table_of (plain k) ≡ table_at (state_of c (map plain cs) j r) n
+table_of_container plain c cs j r n k l was =
+    ap table_of (sym (set_data plain cs n k l was)) ∙ sym (table_there (map plain cs) n _ (subst (λ q. n < q) (sym (length-map cs plain)) l))
+
+-- an accepted change
+pub lift_made : {X A : Type 0} (shape : X → Shape) (plain : X → Data) (c : CatalogShape) (cs after : List X) (n : ℕ) (k k' : X) (i : Inverse)
+    (j noted_ : Journal) (r changes starts : ℕ)
+    (f : Shape → Table → Outcome A) (a : Result A Refusal) (d : Database)
+    → Made shape plain cs after n k k' i j noted_ → IsHeld (map shape cs) (held c (map plain cs) j r changes starts)
+    → Meets (f (shape k) (table_of (plain k))) a (table_of (plain k)) (table_of (plain k')) → state_of c (map plain cs) j r ≡ d
+    → Meets (on_table n f d) a d (state_of c (map plain after) noted_ r)
+lift_made shape plain c cs after n k k' i j noted_ r changes starts f a d made is meets was =
+    let old : Database = state_of c (map plain cs) j r in
+    let new : Database = state_of c (map plain after) noted_ r in
+    subst (λ (q : Database). Meets (on_table n f q) a q new) was
+    (subst (Meets (on_table n f old) a old) (sym (made_state shape plain c cs after n k k' i j noted_ made is.shapes is.linked r))
+    (meets_on_table n f old (shape k) (table_of (plain k)) (table_of (plain k')) a (shape_at shape c cs n k made.within made.was is.shapes)
+    (table_of_container plain c cs j r n k made.within made.was) meets))
+
+refused_datas : {X : Type 0} (plain : X → Data) (cs : List X) (n : ℕ) (k k' : X) → n < length cs → k ≡ get_or cs n k → plain k' ≡ plain k
+    → map plain (set cs n k') ≡ map plain cs
+refused_datas plain cs n k k' l was same =
+    map-set plain cs n k' ∙ ap (set (map plain cs) n) (same ∙ ap plain was ∙ sym (get_or-map plain cs n k (plain k) l)) ∙ set-get_or (map plain cs) n (plain k)
+
+-- a container that changed nothing
+pub refused_held : {X : Type 0} (shape : X → Shape) (plain : X → Data) (c : CatalogShape) (cs : List X) (n : ℕ) (k k' : X) (j : Journal) (r changes starts : ℕ)
+    → IsHeld (map shape cs) (held c (map plain cs) j r changes starts) → n < length c.tables → k ≡ get_or cs n k → plain k' ≡ plain k → shape k' ≡ shape k
+    → IsHeld (map shape (set cs n k')) (held c (map plain (set cs n k')) j r changes starts)
+refused_held shape plain c cs n k k' j r changes starts is w was same shapes =
+    let l : n < length cs = within_containers shape plain c cs j r changes starts n is w in
+    let datas : map plain (set cs n k') ≡ map plain cs = refused_datas plain cs n k k' l was same in
+    subst (λ q. IsHeld q (held c (map plain (set cs n k')) j r changes starts)) (sym (same_shapes shape cs n k k' l was shapes))
+    (subst (λ q. IsHeld (map shape cs) (held c q j r changes starts)) (sym datas) is)
+
+pub lift_refused : {X A : Type 0} (shape : X → Shape) (plain : X → Data) (c : CatalogShape) (cs : List X) (n : ℕ) (k k' : X) (j : Journal)
+    (r changes starts : ℕ)
+    (f : Shape → Table → Outcome A) (a : Result A Refusal) (d : Database)
+    → IsHeld (map shape cs) (held c (map plain cs) j r changes starts) → n < length c.tables → k ≡ get_or cs n k → plain k' ≡ plain k
+    → Meets (f (shape k) (table_of (plain k))) a (table_of (plain k)) (table_of (plain k')) → state_of c (map plain cs) j r ≡ d
+    → Meets (on_table n f d) a d (state_of c (map plain (set cs n k')) j r)
+lift_refused shape plain c cs n k k' j r changes starts f a d is w was same meets is_state =
+    let l : n < length cs = within_containers shape plain c cs j r changes starts n is w in
+    let old : Database = state_of c (map plain cs) j r in
+    let new : Database = state_of c (map plain (set cs n k')) j r in
+    let here = table_of_container plain c cs j r n k l was in
+    let stays : with_table n (table_of (plain k')) old ≡ new =
+    ap (λ t. with_table n t old) (ap table_of same ∙ here) ∙ with_same_table n old
+    ∙ sym (ap (λ q. state_of c q j r) (refused_datas plain cs n k k' l was same)) in
+    subst (λ (q : Database). Meets (on_table n f q) a q new) is_state
+    (subst (Meets (on_table n f old) a old) stays
+    (meets_on_table n f old (shape k) (table_of (plain k)) (table_of (plain k')) a (shape_at shape c cs n k l was is.shapes) here meets))

@@ -1,0 +1,228 @@
+-- A row leaves: what the passes leave are the data without it, and all stands again.
+use Rattle.std.proofs.Common.{◌≡◌, ◌≢◌, ℕ, ◌+◌, ◌^◌, ◌<◌, ◌≤◌, true, false, cond, inl, inr, List}
+use Rattle.std.proofs.Common.{[], ◌∷◌, ◌++◌, map, get_or, length, refl, ap, sym, ◌∙◌, subst, arith}
+use Rattle.std.specs.Prelude.{◌==◌}
+use Rattle.std.specs.List.{AllByRecursion}
+use Rattle.std.specs.Option.{option_and_then}
+use Rattle.std.specs.Ordering.{nat_cmp}
+use Rattle.std.specs.FinMap.{FinMap, get, entries, len}
+use Rattle.std.proofs.lemmas.Bool.Decides.{eqb_tells}
+use Rattle.std.specs.declared.option.Option.TheVariants.{None, Some}
+use Rattle.mi_catalog.specs.declared.index.Index.{Index}
+use Rattle.mi_catalog.specs.Shape.{Shape}
+use Rattle.mi_model.specs.Table.{times}
+use Rattle.mi_model.specs.Change.{without}
+use Rattle.mi_node.specs.Pool.{Pooled, link_of}
+use Rattle.mi_node.specs.Refs.{Ref}
+use Rattle.mi_node.specs.declared.link.Tag.{Tag}
+use Rattle.mi_order.specs.declared.stored.Stored.{Stored}
+use Rattle.mi_index.specs.declared.structure.Structure.{Structure}
+use Rattle.mi_index.specs.declared.moves.Moves.TheVariants.{All}
+use Rattle.mi_index.specs.Places.{IsWith}
+use Rattle.mi_index.specs.Pass.{AllCan, AllLike, AreChanged, IsPass}
+use Rattle.mi_index.specs.Passes.{left, leaving}
+use Rattle.mi_container.specs.Data.{Data, Order, node_of, has_stamps, IsData}
+use Rattle.mi_container.specs.Data.Order.{ById}
+use Rattle.mi_container.specs.Changes.{in_order, entered, left_out, kept_node, erased, erased_node}
+use Rattle.mi_container.specs.Run.Change.{Erase}
+use Rattle.mi_container.proofs.PairLemmas.{climbs_some, some_is, is_other}
+use Rattle.mi_container.proofs.InvariantLemmas.{rows_climb}
+use Rattle.mi_container.proofs.LawLemmas.{change_is_tables}
+use Rattle.mi_ids.specs.declared.entry.IdEntry.{IdEntry}
+use Rattle.mi_ids.specs.IdMap.{with_live}
+use Rattle.mi_multi.specs.Physical.{id_in, orders_of, plan, node_in, kept_node_in, live_in, kept_in, picked}
+use Rattle.mi_multi.specs.Alike.{SaysSame, IsAltered}
+use Rattle.mi_multi.specs.Multi.{id_at, ids_at, own_lists, is_live, AreLive, HasNode, IsMulti, plain_of}
+use Rattle.mi_multi.proofs.PickLemmas.{get_picked}
+use Rattle.mi_multi.proofs.RowLemmas.{picked_lost, picked_entered}
+use Rattle.mi_multi.proofs.ListLemmas.{without_middle, times_middle}
+use Rattle.mi_multi.proofs.SameNodeLemmas.{node_same, live_alike, kept_alike}
+use Rattle.mi_multi.proofs.OrderLemmas.{orders_map}
+use Rattle.mi_multi.proofs.EveryIndexLemmas.{Turned, Every, At, at, every, at_plan, all_known, all_for, seq_by, no_stamps_past, one, none}
+use Rattle.mi_multi.proofs.LiveNodeLemmas.{IsLiveRef, holds, marked_here, marked_beside, len_marked, names_apart}
+use Rattle.mi_multi.proofs.LiveNodeLemmas.{lacks_middle, out_of_all, ids_same, all_left, all_right, all_append}
+use Rattle.mi_multi.proofs.NeighbourLemmas.{id_is}
+use Rattle.mi_multi.proofs.LinkLemmas.{tags_at, links_seen}
+
+itself : {a b : ℕ} → a ≡ b → (a == b) ≡ true
+itself {a} {b} same = elim (eqb_tells a b) [ inl is ↦ is.0 | inr isnt ↦ absurd (isnt.1 same) ]
+
+-- the node stands in every index
+can_from : (ids : FinMap nat_cmp IdEntry) (m : Pooled Stored) (e : ℕ) (r : Ref) → get ids e ≡ Some (record { node = r; live = true })
+    → (s : ℕ) (xs : List Structure) (rss : List (List Ref)) → AllByRecursion (AreLive ids m) rss
+    → AllCan (leaving All r) xs s m rss
+can_from ids m e r there s [] rss all = tt
+can_from ids m e r there s (x ∷ xs) [] all = tt
+can_from ids m e r there s (x ∷ xs) (rs ∷ rss) all = (holds ids m e r rs there all.0, can_from ids m e r there (s + 1) xs rss all.1)
+
+pub can_leave : (s : Shape) (ids : FinMap nat_cmp IdEntry) (m : Pooled Stored) (xs : List Structure)
+    (next arrivals : ℕ) (is : IsMulti s ids m xs next arrivals) (e : ℕ) (r : Ref)
+    → get ids e ≡ Some (record { node = r; live = true }) → AllCan (leaving All r) xs 0 m is.rss
+can_leave s ids m xs next arrivals is e r there = can_from ids m e r there 0 xs is.rss is.live
+
+module _ (s : Shape) (ids : FinMap nat_cmp IdEntry) (m n : Pooled Stored) (xs ys : List Structure)
+    (next arrivals : ℕ) (is : IsMulti s ids m xs next arrivals) (e : ℕ) (r : Ref)
+    (there : get ids e ≡ Some (record { node = r; live = true })) (like : AllLike xs ys) (pass : IsPass (leaving All r) (left All r) r 0 xs ys m n) where
+  abbrev os : List Order
+  os = plan s.indexes
+
+  abbrev d : Data
+  d = plain_of s ids m xs next arrivals
+
+  changed : AreChanged (left All r) r 0 xs ys m n is.rss
+  changed = pass is.rss is.stand (can_leave s ids m xs next arrivals is e r there)
+
+  abbrev new_ids : FinMap nat_cmp IdEntry
+  new_ids = with_live ids e false
+
+  turns : Every (Turned (left All r) ids m n) 0 s.indexes xs ys is.rss changed.uss
+  turns = every (left All r) ids m n 0 s.indexes xs ys is.rss changed.uss is.kinds like is.stand changed.stand changed.done is.live
+
+  tag_of : (x : ℕ) (o : Order) → At (Turned (left All r) ids m n) x o → has_stamps o ≡ true → (k : ℕ) → (link_of n k x).tag.stamp ≡ (link_of m k x).tag.stamp
+  tag_of x o (at i a b rs us l t is_order) has k =
+      let tags = tags_at i a m n l t.for_ t.done.tags (sym (ap has_stamps is_order) ∙ has) k in
+      ap (λ (w : Tag). w.stamp) (subst (λ w. (link_of n k w).tag ≡ (link_of m k w).tag) t.slot tags)
+
+  says : (k : ℕ) → SaysSame os m n k
+  says k = record {
+    value = changed.keeps.values k;
+    stamps = λ x has.
+        let l : x < length s.indexes = no_stamps_past s.indexes x has in
+        let same : 0 + x ≡ x = omega arith in
+        subst (λ w. (link_of n k w).tag.stamp ≡ (link_of m k w).tag.stamp) same
+        (tag_of (0 + x) (get_or os x ById) (at_plan (Turned (left All r) ids m n) turns x l) has k);
+  }
+
+  altered : IsAltered os ids m n e
+  altered = record {
+    says = λ q a ne here. says a.node.name;
+    kept = λ q a ne here dead t.
+        changed.keeps.other_nodes a.node.name t (names_apart m q e a.node r (is.held q a here) (is.held e (record { node = r; live = true }) there) ne)
+        (out_of_all ids m q a is.rss here dead (is.held q a here) is.live);
+  }
+
+  others : (q : ℕ) → q ≢ e → get new_ids q ≡ get ids q
+  others = marked_beside ids e (record { node = r; live = true }) false there
+
+  now : get new_ids e ≡ Some (record { node = r; live = false })
+  now = marked_here ids e (record { node = r; live = true }) false there
+
+  rows_left : picked (live_in n os) (entries new_ids) ≡ left_out e d.rows
+  rows_left = picked_lost (live_in m os) (live_in n os) ids new_ids e others (live_alike os ids m n e altered)
+      next (rows_climb s d is.is_data) (ap (option_and_then (live_in n os)) now)
+
+  pub row_is : node_of d.rows e ≡ Some (node_in m os r)
+  row_is = get_picked (live_in m os) ids e ∙ ap (option_and_then (live_in m os)) there
+
+  kept_is : kept_node_in n os r ≡ kept_node e (node_in m os r) d
+  kept_is =
+      let node = node_same os m n r (says r.name) in
+      let links = links_seen s ids m n xs next arrivals is.is_data is.held changed.keeps.values e r there (all_known (left All r) ids m n turns) in
+      (λ i. record { node = node i; links = sym links i })
+
+  kept_now : picked (kept_in n os) (entries new_ids) ≡ entered e (kept_node e (node_in m os r) d) d.kept
+  kept_now =
+      picked_entered (kept_in m os) (kept_in n os) ids new_ids e others (kept_alike os ids m n e altered) next
+      (kept_node_in n os r) is.is_data.kept (climbs_some next e (node_in m os r) d.rows (rows_climb s d is.is_data) row_is)
+      (ap (option_and_then (kept_in m os)) there) (ap (option_and_then (kept_in n os)) now)
+      ∙ ap (λ k. entered e k d.kept) kept_is
+
+  ids_left : (rs us : List Ref) → AreLive ids m rs → IsWith r us rs → ids_at n us ≡ without e (ids_at m rs)
+  ids_left rs us live w =
+      let id : id_at m r ≡ e = id_is ids m n os is.held changed.keeps.values e r there in
+      ids_same m n us changed.keeps.values ∙ ap (ids_at m) w.was
+      ∙ sym (ap (λ q. without e (ids_at m q)) w.now
+      ∙ without_middle (id_at m) e w.xs r w.ys (itself id) (lacks_middle ids m e r w.xs w.ys id there (subst (AreLive ids m) w.now live)))
+
+  orders_left : orders_of s.indexes (own_lists n ys) ≡ map (in_order (without e)) d.orders
+  orders_left =
+      orders_map (without e) (λ _. without e) s.indexes (own_lists m xs) (own_lists n ys) (λ k. refl)
+      (seq_by (left All r) ids m n (λ _. without e) turns (λ k i x y rs us seq t. ids_left rs us t.live t.done.left))
+
+  -- the data after it
+  pub erased_seen : plain_of s new_ids n ys next arrivals ≡ erased e d
+  erased_seen =
+      (λ i. record { rows = rows_left i; orders = orders_left i; next = next; arrivals = arrivals; kept = kept_now i })
+      ∙ ap (λ o. erased_node e o d) (sym row_is)
+
+  -- Lists
+
+  live_still : (q : Ref) → IsLiveRef ids m q → id_at m q ≢ e → IsLiveRef new_ids n q
+  live_still q live ne = let id : id_at n q ≡ id_at m q = ap id_in (changed.keeps.values q.name) in ap (get new_ids) id ∙ others (id_at m q) ne ∙ live
+
+  all_still : (qs : List Ref) → AllByRecursion (IsLiveRef ids m) qs → AllByRecursion (λ k. k ≢ e) (ids_at m qs) → AllByRecursion (IsLiveRef new_ids n) qs
+  all_still [] all lacks = tt
+  all_still (q ∷ qs) all lacks = (live_still q all.0 lacks.0, all_still qs all.1 lacks.1)
+
+  each_left : (rs us : List Ref) → AreLive ids m rs → IsWith r us rs → (q : ℕ) → times q (ids_at n us) ≡ cond (is_live (get new_ids q)) 1 0
+  each_left rs us live w q =
+      let id : id_at m r ≡ e = id_is ids m n os is.held changed.keeps.values e r there in
+      let same : times q (ids_at n us) ≡ times q (ids_at m (w.xs ++ w.ys)) = ap (times q) (ids_same m n us changed.keeps.values ∙ ap (ids_at m) w.was) in
+      let parts : times q (ids_at m rs) ≡ cond (id_at m r == q) 1 0 + times q (ids_at m (w.xs ++ w.ys)) =
+      ap (λ k. times q (ids_at m k)) w.now ∙ times_middle (id_at m) q w.xs r w.ys in
+      let was : times q (ids_at m rs) ≡ cond (is_live (get ids q)) 1 0 = live.each q in
+      elim (eqb_tells q e) [
+        | inl it ↦
+            let one : cond {A = ℕ} (is_live (get ids q)) 1 0 ≡ 1 =
+            ap (λ k. cond {A = ℕ} (is_live (get ids k)) 1 0) it.1 ∙ ap (λ o. cond {A = ℕ} (is_live o) 1 0) there in
+            let here : cond {A = ℕ} (id_at m r == q) 1 0 ≡ 1 = ap (λ b. cond {A = ℕ} b 1 0) (itself (id ∙ sym it.1)) in
+            let gone : cond {A = ℕ} (is_live (get new_ids q)) 1 0 ≡ 0 =
+            ap (λ k. cond {A = ℕ} (is_live (get new_ids k)) 1 0) it.1 ∙ ap (λ o. cond {A = ℕ} (is_live o) 1 0) now in
+            omega arith
+        | inr isnt ↦
+            let here : cond {A = ℕ} (id_at m r == q) 1 0 ≡ 0 = ap (λ b. cond {A = ℕ} b 1 0) (is_other (id_at m r) q (λ k. isnt.1 (sym k ∙ id))) in
+            let still : cond {A = ℕ} (is_live (get new_ids q)) 1 0 ≡ cond {A = ℕ} (is_live (get ids q)) 1 0 =
+            ap (λ o. cond {A = ℕ} (is_live o) 1 0) (others q isnt.1) in
+            omega arith
+      ]
+
+  live_left : (rs us : List Ref) → AreLive ids m rs → IsWith r us rs → AreLive new_ids n us
+  live_left rs us live w =
+      let id : id_at m r ≡ e = id_is ids m n os is.held changed.keeps.values e r there in
+      let was : AllByRecursion (IsLiveRef ids m) (w.xs ++ r ∷ w.ys) = subst (AllByRecursion (IsLiveRef ids m)) w.now live.rows in
+      let tail : AllByRecursion (IsLiveRef ids m) (r ∷ w.ys) = all_right (IsLiveRef ids m) w.xs (r ∷ w.ys) was in
+      let both : AllByRecursion (IsLiveRef ids m) (w.xs ++ w.ys) = all_append (IsLiveRef ids m)
+      w.xs w.ys (all_left (IsLiveRef ids m) w.xs (r ∷ w.ys) was) tail.1 in
+      record {
+        rows = subst (AllByRecursion (IsLiveRef new_ids n)) (sym w.was)
+            (all_still (w.xs ++ w.ys) both (lacks_middle ids m e r w.xs w.ys id there (subst (AreLive ids m) w.now live)));
+        each = each_left rs us live w;
+      }
+
+  all_live_left : {k : ℕ} {js : List Index} {as_ bs : List Structure} {rss uss : List (List Ref)}
+      → Every (Turned (left All r) ids m n) k js as_ bs rss uss → AllByRecursion (AreLive new_ids n) uss
+  all_live_left none = tt
+  all_live_left (one {rs = rs} {us = us} t rest) = (live_left rs us t.live t.done.left, all_live_left rest)
+
+  has_still : (q : ℕ) (b : Ref) → HasNode m q b → HasNode n q b
+  has_still q b h = record { value = h.value; is = changed.keeps.values b.name ∙ h.is; id = h.id; held = changed.keeps.refs b.name ∙ h.held }
+
+  -- all stands after it
+  pub erased_multi : IsMulti s new_ids n ys next arrivals
+  erased_multi = record {
+    rss = changed.uss;
+    stand = changed.stand;
+    kinds = all_for s.indexes xs ys like is.kinds;
+    live = all_live_left turns;
+    held = λ q a here.
+        elim (eqb_tells q e) [
+          | inl it ↦
+              let same : record { node = r; live = false } ≡ a = some_is (sym now ∙ sym (ap (get new_ids) it.1) ∙ here) in
+              subst (λ (w : IdEntry). HasNode n q w.node) same
+              (has_still q r (subst (λ k. HasNode m k r) (sym it.1) (is.held e (record { node = r; live = true }) there)))
+          | inr isnt ↦ has_still q a.node (is.held q a (sym (others q isnt.1) ∙ here))
+        ];
+    owned = λ b h.
+        let was = is.owned b (sym (changed.keeps.refs b.name) ∙ h) in
+        elim (eqb_tells was.0 e) [
+          | inl it ↦
+              let same : record { node = r; live = true } ≡ was.1 = some_is (sym there ∙ sym (ap (get ids) it.1) ∙ was.2) in
+              (e, record { node = r; live = false }, now, ap (λ (w : IdEntry). w.node) same ∙ was.3)
+          | inr isnt ↦ (was.0, was.1, others was.0 isnt.1 ∙ was.2, was.3)
+        ];
+    is_data = subst (IsData s) (sym erased_seen) (change_is_tables s (Erase e None) d is.is_data (node_in m os r, row_is)).0;
+    next_fits = is.next_fits;
+    arrivals_fit = is.arrivals_fit;
+    few =
+        let same : len new_ids ≡ len ids = len_marked ids e (record { node = r; live = true }) false there in let f : len ids ≤ 2 ^ 31 = is.few in omega arith;
+  }

@@ -1,0 +1,189 @@
+-- What the calls by keys ask of an index and answer, by what contracts see of the container.
+use Rattle.std.proofs.Common.{Bor, ◌≡◌, ◌≢◌, ℕ, ◌+◌, ◌*◌, ◌^◌, ◌<◌, ◌≤◌, zero, suc, Bool, true, false}
+use Rattle.std.proofs.Common.{List, [], ◌∷◌, ◌++◌, length, slice_get, ap, sym, ◌∙◌, subst, arith}
+use Rattle.std.specs.Prelude.{IsTrue, IfSome}
+use Rattle.std.specs.List.{AllByRecursion, filter}
+use Rattle.std.specs.Option.{option_map}
+use Rattle.std.proofs.lemmas.Bool.{and_parts}
+use Rattle.std.specs.declared.option.Option.{Option}
+use Rattle.std.specs.declared.option.Option.TheVariants.{None, Some}
+use Rattle.mi_value.specs.declared.value.Value.{Value}
+use Rattle.mi_value.specs.declared.bound.Probe.TheVariants.{Key}
+use Rattle.mi_catalog.specs.Kinds.{is_hashed}
+use Rattle.mi_catalog.specs.Rules.{is_schema}
+use Rattle.mi_catalog.specs.Shape.{index_at}
+use Rattle.mi_model.specs.Table.{Table, size}
+use Rattle.mi_model.specs.View.{view}
+use Rattle.mi_model.specs.Lookup as look
+use Rattle.mi_model.proofs.LookupLaws.{rank_at}
+use Rattle.mi_model.proofs.NextLaws.{whole_key_long}
+use Rattle.mi_model.proofs.QueryLaws.{lower-le-upper, upper-le-length}
+use Rattle.mi_model.proofs.PlaceLaws.{IsOnce, once_of_each, each_in_view, length-view}
+use Rattle.mi_node.specs.Pool.{Pooled, IsHeld}
+use Rattle.mi_node.specs.Refs.{Ref, first_of}
+use Rattle.mi_tree.specs.Probed.{first_where}
+use Rattle.mi_order.specs.declared.stored.Stored.{Stored}
+use Rattle.mi_index.specs.declared.structure.Structure.{Structure}
+use Rattle.mi_index.specs.declared.structure.Structure.TheVariants.{Ordered, Hashed, Sequenced}
+use Rattle.mi_index.specs.Looks as nodes
+use Rattle.mi_index.specs.Standing.{Stands}
+use Rattle.mi_container.specs.Asked.{IsSorted, IsKeyed, IsHashed, WholeKey}
+use Rattle.mi_container.specs.Data.{table_of}
+use Rattle.mi_ids.specs.IdMap.{live_node, node_if_live}
+use Rattle.mi_multi.specs.Multi.{id_at, IsFor}
+use Rattle.mi_multi.specs.Seen.{Seen, seen_of, AreMulti}
+use Rattle.mi_multi.specs.declared.multi.MultiIndex.TheInside.{Inside}
+use Rattle.mi_multi.proofs.LiveNodeLemmas.{IsLiveRef}
+use Rattle.mi_multi.proofs.IndexNumberLemmas.{Numbered, numbered, reaches}
+use Rattle.mi_multi.proofs.FoundIdLemmas.{all_where, all_first, all_filter, all_behind}
+use Rattle.mi_multi.proofs.LookUpLemmas as known
+use Rattle.mi_multi.proofs.ProbeLemmas as probes
+use Rattle.mi_multi.proofs.CallLemmas.{in_order}
+
+-- nothing stands behind the end
+pub past_end : (ids : List ℕ) (k : ℕ) → slice_get ids k ≡ None → length ids ≤ k
+past_end [] k none = omega arith
+past_end (a ∷ ids) zero none = absurd (let bad : Some a ≡ None = none in cc)
+past_end (a ∷ ids) (suc k) none = let l : length ids ≤ k = past_end ids k none in omega arith
+
+module _ (i : Inside) (is : AreMulti i) (w : Seen) (seen : seen_of i ≡ w) where
+  abbrev m : Pooled Stored
+  m = i.nodes.pool
+
+  abbrev items : List Structure
+  items = i.nodes.structures.items
+
+  abbrev t : Table
+  t = table_of w.plain
+
+  pub keyed_reaches : (x : ℕ) → IsKeyed w.shape x → x < length items
+  keyed_reaches x h = reaches i.schema i.ids.entries m items i.next i.arrivals is x (subst (λ (v : Seen). IsKeyed v.shape x) (sym seen) h).0
+
+  pub hashed_reaches : (x : ℕ) → IsHashed w.shape x → x < length items
+  hashed_reaches x h = reaches i.schema i.ids.entries m items i.next i.arrivals is x (subst (λ (v : Seen). IsHashed v.shape x) (sym seen) h).0
+
+  module _ (x : ℕ) (y : Structure) (at : slice_get items x ≡ Some y) where
+    abbrev n : Numbered i.schema i.ids.entries m items x y
+    n = numbered i.schema i.ids.entries m items i.next i.arrivals is x y at
+
+    abbrev rs : List Ref
+    rs = n.stood.rs
+
+    alls : AllByRecursion (IsHeld m) rs
+    alls = known.held i.schema i.ids.entries m items i.next i.arrivals is x y n
+
+    pub found_held : (f : Ref → Bool) (o : Option Ref) → ((qs : List Ref) → Stands y m qs → o ≡ first_where f qs) → IfSome o (IsHeld m)
+    found_held f o h = subst (λ k. IfSome k (IsHeld m)) (sym (h rs n.stood.stands)) (all_where (IsHeld m) f rs alls)
+
+    -- what is found is a live node
+    pub found_live : (f : Ref → Bool) (o : Option Ref) (r : Ref) → o ≡ Some r
+        → ((qs : List Ref) → Stands y m qs → o ≡ first_where f qs) → live_node i.ids.entries (id_at m r) ≡ Some r
+    found_live f o r is_ h =
+        let one : IfSome o (IsLiveRef i.ids.entries m) = subst (λ k. IfSome k (IsLiveRef i.ids.entries m))
+        (sym (h rs n.stood.stands)) (all_where (IsLiveRef i.ids.entries m) f rs n.stood.live.rows) in
+        let live : IsLiveRef i.ids.entries m r = subst (λ k. IfSome k (IsLiveRef i.ids.entries m)) is_ one in
+        ap node_if_live live
+
+    pub lower_is : (k : Bor (List Value)) (o : Option Ref) → IsSorted w.shape x
+        → ((qs : List Ref) → Stands y m qs → o ≡ first_where (nodes.is_past false y m (Key k)) qs) → option_map (id_at m) o ≡ look.lower w.shape t x k.now
+    lower_is k o sorted h =
+        ap (option_map (id_at m)) (h rs n.stood.stands)
+        ∙ probes.lower_seen i.schema i.ids.entries m items i.next i.arrivals is x y n k
+        (subst (λ (v : Seen). IsSorted v.shape x) (sym seen) sorted) (in_order i is w seen x y at sorted).2
+        ∙ ap (λ (v : Seen). look.lower v.shape (table_of v.plain) x k.now) seen
+
+    pub upper_is : (k : Bor (List Value)) (o : Option Ref) → IsSorted w.shape x
+        → ((qs : List Ref) → Stands y m qs → o ≡ first_where (nodes.is_past true y m (Key k)) qs) → option_map (id_at m) o ≡ look.upper w.shape t x k.now
+    upper_is k o sorted h =
+        ap (option_map (id_at m)) (h rs n.stood.stands)
+        ∙ probes.upper_seen i.schema i.ids.entries m items i.next i.arrivals is x y n k
+        (subst (λ (v : Seen). IsSorted v.shape x) (sym seen) sorted) (in_order i is w seen x y at sorted).2
+        ∙ ap (λ (v : Seen). look.upper v.shape (table_of v.plain) x k.now) seen
+
+    -- the rank of the node at a place, and the number of all where there is none
+
+    once : IsOnce (view w.shape t x)
+    once = subst (λ (v : Seen). IsOnce (view v.shape (table_of v.plain) x)) seen
+        (once_of_each (table_of (seen_of i).plain) (view i.schema (table_of (seen_of i).plain) x)
+        (each_in_view i.schema (table_of (seen_of i).plain) x is.is_data.table n.few))
+
+    pub rank_of_place : (p : ℕ) (o : Option Ref) (r : Ref) → o ≡ Some r
+        → option_map (id_at m) o ≡ slice_get (view w.shape t x) p → (k : ℕ) → k ≡ look.rank w.shape t x (id_at m r) → k ≡ p
+    rank_of_place p o r is_ there k rank = rank ∙ rank_at p (id_at m r) (view w.shape t x) once (sym there ∙ ap (option_map (id_at m)) is_)
+
+    pub all_before_place : (p : ℕ) (o : Option Ref) → o ≡ None → option_map (id_at m) o ≡ slice_get (view w.shape t x) p
+        → p ≤ length (view w.shape t x) → (k : ℕ) → k ≡ size t → k ≡ p
+    all_before_place p o none there l k all =
+        let long : length (view w.shape t x) ≡ size t = subst (λ (v : Seen). length (view v.shape (table_of v.plain) x) ≡ size (table_of v.plain))
+        seen (length-view i.schema (table_of (seen_of i).plain) x is.is_data.table n.few) in
+        let past : length (view w.shape t x) ≤ p = past_end (view w.shape t x) p (sym there ∙ ap (option_map (id_at m)) none) in
+        omega arith
+
+    pub lower_within : (key : List Value) → look.lower_rank w.shape t x key ≤ length (view w.shape t x)
+    lower_within key = let a = lower-le-upper w.shape t x key in let b = upper-le-length w.shape t x key in omega arith
+
+    pub upper_within : (key : List Value) → look.upper_rank w.shape t x key ≤ length (view w.shape t x)
+    upper_within key = upper-le-length w.shape t x key
+
+    -- two look-ups one after the other
+    pub both_looks : (old mid new : ℕ) → ((qs : List Ref) → Stands y m qs → (b : ℕ) → length qs < 2 ^ b → mid ≤ old + 2 * b)
+        → ((qs : List Ref) → Stands y m qs → (b : ℕ) → length qs < 2 ^ b → new ≤ mid + 2 * b)
+        → (b : ℕ) → size t < 2 ^ b → new ≤ old + 2 * (2 * b + 1)
+    both_looks old mid new g h b l =
+        let less : length rs < 2 ^ b = subst (λ k. k < 2 ^ b) (sym (Rattle.mi_multi.proofs.CallLemmas.long i is w seen x y at)) l in
+        let one : mid ≤ old + 2 * b = g rs n.stood.stands b less in
+        let two : new ≤ mid + 2 * b = h rs n.stood.stands b less in omega arith
+
+    -- whole keys
+
+    parts_kept : IsTrue (is_schema i.schema) → is_hashed (index_at i.schema x).kind ≡ true → (index_at i.schema x).parts ≢ []
+    parts_kept rules hashed = probes.hashed_parts (length i.schema.columns) i.schema.indexes x _ n.few (and_parts _ _ (and_parts _ _ rules).0).1 hashed
+
+    pub in_some : (qs : List Ref) × Stands y m qs
+    in_some = (rs, n.stood.stands)
+
+    pub find_is : (k : Bor (List Value)) (o : Option Ref) → IsTrue (is_schema i.schema) → IsKeyed w.shape x
+        → WholeKey w.shape x k.now → ((qs : List Ref) → Stands y m qs → o ≡ first_where (nodes.has_sought y m (Key k)) qs)
+        → option_map (id_at m) o ≡ look.find w.shape t x k.now
+    find_is k o rules keyed whole h =
+        ap (option_map (id_at m)) (h rs n.stood.stands)
+        ∙ probes.find_seen i.schema i.ids.entries m items i.next i.arrivals is x y n k
+        (whole_key_long i.schema.columns (index_at i.schema x).parts k.now (subst (λ (v : Seen). WholeKey v.shape x k.now) (sym seen) whole))
+        (parts_kept rules) (subst (λ (v : Seen). IsKeyed v.shape x) (sym seen) keyed).1
+        ∙ ap (λ (v : Seen). look.find v.shape (table_of v.plain) x k.now) seen
+
+    -- the next of a key
+
+    is_chains : (v : Structure) → IsFor (index_at i.schema x) v → is_hashed (index_at i.schema x).kind ≡ true → nodes.IsHashed v
+    is_chains (Ordered u) f h = absurd (known.sorted_hashed (index_at i.schema x).kind f.0 h)
+    is_chains (Hashed c) f h = tt
+    is_chains (Sequenced l) f h = absurd (Rattle.mi_multi.proofs.EveryIndexLemmas.hashed_not_sequenced (index_at i.schema x).kind h f)
+
+    hashed_kind : IsHashed w.shape x → is_hashed (index_at i.schema x).kind ≡ true
+    hashed_kind h = ap is_hashed (subst (λ (v : Seen). IsHashed v.shape x) (sym seen) h).1
+
+    chains : IsHashed w.shape x → nodes.IsHashed y
+    chains h = is_chains y n.stood.for_ (hashed_kind h)
+
+    module _ (e : ℕ) (r : Ref) (there : live_node i.ids.entries e ≡ Some r) where
+      abbrev a : known.Among i.ids.entries m y rs e r
+      a = known.among i.schema i.ids.entries m items i.next i.arrivals is x y n e r there
+
+      pub in_chains : IsHashed w.shape x → (xs : List Ref) × (ys : List Ref) × Stands y m (xs ++ r ∷ ys) × nodes.IsHashed y
+      in_chains h = (a.xs, a.ys, a.stands, chains h)
+
+      pub next_of_held : (o : Option Ref)
+          → ((xs ys : List Ref) → Stands y m (xs ++ r ∷ ys) → o ≡ first_of (filter (nodes.has_same_key y m r) ys) None) → IfSome o (IsHeld m)
+      next_of_held o h =
+          subst (λ k. IfSome k (IsHeld m)) (sym (h a.xs a.ys a.stands))
+          (all_first (IsHeld m) (filter (nodes.has_same_key y m r) a.ys)
+          (all_filter (IsHeld m) (nodes.has_same_key y m r) a.ys (all_behind (IsHeld m) a.xs r a.ys (subst (AllByRecursion (IsHeld m)) a.parts alls))))
+
+      pub next_of_is : (o : Option Ref) → IsTrue (is_schema i.schema) → IsHashed w.shape x
+          → ((xs ys : List Ref) → Stands y m (xs ++ r ∷ ys) → o ≡ first_of (filter (nodes.has_same_key y m r) ys) None)
+          → option_map (id_at m) o ≡ look.next_of w.shape t x e
+      next_of_is o rules hashed h =
+          ap (option_map (id_at m)) (h a.xs a.ys a.stands)
+          ∙ probes.next_of_seen i.schema i.ids.entries m items i.next i.arrivals is x y n e r
+          there (parts_kept rules (hashed_kind hashed)) y n.stood.for_ (chains hashed)
+          ∙ ap (λ (v : Seen). look.next_of v.shape (table_of v.plain) x e) seen

@@ -1,0 +1,179 @@
+-- What a new link of one node does to the trees.
+use Rattle.std.proofs.Common.{◌≡◌, ℕ, ◌+◌, ◌==◌, true, false, max, List, [], ◌∷◌, ◌++◌, Option, Some, refl, sym, ap, ◌∙◌, subst, arith, append_assoc}
+use Rattle.mi_node.specs.Pool.{Pooled, IsHeld, link_of, with_link, Keeps}
+use Rattle.mi_node.specs.declared.link.Link.{Link}
+use Rattle.mi_node.specs.declared.link.Tag.{Tag}
+use Rattle.mi_node.proofs.EntryLemmas.{link_here, link_there, same_name}
+use Rattle.mi_node.proofs.KeepingLemmas.{keeps_link, held_kept}
+use Rattle.mi_node.specs.Refs.{Ref, IsOut, IsApart, AreOut}
+use Rattle.mi_node.proofs.RefLemmas.{out_left, out_right, between, are_out_none, are_out_cons}
+use Rattle.mi_tree.specs.Shape.{Shape, Tip, Fork, nodes, fork_link, Stands, IsRooted, size_at, height_at}
+use Rattle.mi_tree.specs.Joining.{Two, IsFork, Three, Four}
+use Rattle.mi_tree.specs.Sorted.{SameTags}
+use Rattle.mi_tree.proofs.BinaryTreeLemmas.{size-root, height-root}
+use Rattle.mi_tree.proofs.ApartLemmas.{thrice}
+
+cut_out : (xs : List Ref) (r : Ref) (ys us : List Ref) → AreOut (xs ++ r ∷ ys) us → AreOut xs us × IsOut r.name us × AreOut ys us
+cut_out [] r ys us a = (tt, a.0, a.1)
+cut_out (x ∷ xs) r ys us a = let on = cut_out xs r ys us a.1 in ((a.0, on.0), on.1, on.2)
+
+module _ {T : Type 0} where
+  -- a link that says something of itself by its tag
+  pub link_kept : (m n : Pooled T) (s : ℕ) (r : Ref) (f : Tag → Link) → link_of n r.name s ≡ link_of m r.name s
+      → link_of m r.name s ≡ f (link_of m r.name s).tag → link_of n r.name s ≡ f (link_of n r.name s).tag
+  link_kept m n s r f e h = e ∙ h ∙ ap (λ (y : Link). f y.tag) (sym e)
+
+  -- a tree away from the change
+  pub stands_kept : (s : ℕ) (m n : Pooled T) (us : List Ref) (t : Shape) → Keeps m n s us → AreOut (nodes t) us → Stands m s t → Stands n s t
+  stands_kept s m n us Tip g a h = tt
+  stands_kept s m n us (Fork l r q) g a h =
+      let on = cut_out (nodes l) r (nodes q) us a in (
+        held_kept s m n us r g h.0,
+        link_kept m n s r (fork_link l q) (g.other_nodes r.name s on.1) h.1,
+        stands_kept s m n us l g on.0 h.2,
+        stands_kept s m n us q g on.2 h.3,
+      )
+
+  pub rooted_kept : (s : ℕ) (m n : Pooled T) (us : List Ref) (o : Option Ref) (t : Shape)
+      → Keeps m n s us → AreOut (nodes t) us → IsRooted m s o t → IsRooted n s o t
+  rooted_kept s m n us o t g a h = record { root = h.root; stands = stands_kept s m n us t g a h.stands }
+
+  -- the same, where one node changed
+  pub rooted_past : (s : ℕ) (m n : Pooled T) (x : Ref) (o : Option Ref) (t : Shape)
+      → Keeps m n s (x ∷ []) → IsOut x.name (nodes t) → IsRooted m s o t → IsRooted n s o t
+  rooted_past s m n x o t g a h = rooted_kept s m n (x ∷ []) o t g (are_out_cons (nodes t) x [] a (are_out_none (nodes t))) h
+
+  pub joined : (s : ℕ) (m n : Pooled T) (x : Ref) (y : Link) (A B : Shape)
+      → n ≡ with_link m x.name s y → IsFork m s x y A B → IsRooted n s (Some x) (Fork A x B)
+  joined s m n x y A B e h =
+      let keeps = subst (λ o. Keeps m o s (x ∷ [])) (sym e) (keeps_link s m x y) in
+      let two = h.two in
+      let link : y ≡ fork_link A B y.tag = λ i. record {
+        back = two.first.root i;
+        forth = two.second.root i;
+        size = h.size_is i;
+        height = h.height_is i;
+        tag = y.tag;
+      } in
+      let here : link_of n x.name s ≡ y = ap (λ o. link_of o x.name s) e ∙ link_here m x s y two.held in
+      record {
+        root = refl;
+        stands = (
+          keeps.refs x.name ∙ two.held,
+          here ∙ link ∙ ap (λ (z : Link). fork_link A B z.tag) (sym here),
+          (rooted_past s m n x y.back A keeps two.out_first two.first).stands,
+          (rooted_past s m n x y.forth B keeps two.out_second two.second).stands,
+        );
+      }
+
+  -- no tag changes where a node's link is set with its own
+  pub tags_set : (s : ℕ) (m n : Pooled T) (x : Ref) (y : Link) → n ≡ with_link m x.name s y → IsHeld m x → y.tag ≡ (link_of m x.name s).tag → SameTags m n s
+  tags_set s m n x y e h t k = ap (λ o. (link_of o k s).tag) e
+      ∙ (elim (x.name == k) as (λ b. (x.name == k) ≡ b → (link_of (with_link m x.name s y) k s).tag ≡ (link_of m k s).tag) [
+        | true ↦ λ is. let at = same_name x.name k is in
+            ap (λ q. (link_of (with_link m x.name s y) q s).tag) (sym at)
+            ∙ ap (λ (z : Link). z.tag) (link_here m x s y h) ∙ t ∙ ap (λ q. (link_of m q s).tag) at
+        | false ↦ λ is. ap (λ (z : Link). z.tag) (link_there m x.name s y k s is)
+      ]) refl
+
+  pub fork_of : (s : ℕ) (m : Pooled T) (x : Ref) (y : Link) (A B : Shape) → Two m s y.back x y.forth A B → y.size ≡ size_at m s y.back + size_at m s y.forth + 1
+      → y.height ≡ max (height_at m s y.back) (height_at m s y.forth) + 1 → y.tag ≡ (link_of m x.name s).tag → IsFork m s x y A B
+  fork_of s m x y A B h e f g =
+      let a = size-root m s y.back A h.first in let b = size-root m s y.forth B h.second in
+      let c = height-root m s y.back A h.first in let d = height-root m s y.forth B h.second in
+      record { two = h; size_is = omega arith; height_is = f ∙ (λ i. max (c i) (d i) + 1); tag_is = g }
+
+  module _ (s : ℕ) (m n : Pooled T) (a : Option Ref) (x : Ref) (b : Option Ref) (y : Ref) (c : Option Ref) (A B C : Shape) (h : Three m s a x b y c A B C) where
+    pub down_low : Two m s b y c B C
+    down_low =
+        let o = thrice (nodes A) x (nodes B) y (nodes C) h.apart in
+        let f = h.fits in let w = h.low in
+        record {
+          first = h.second;
+          held = h.held_y;
+          second = h.third;
+          out_first = o.y_B;
+          out_second = o.y_C;
+          fits = omega arith;
+          low = (omega arith, omega arith);
+        }
+
+    pub down_high : Keeps m n s (y ∷ []) → IsRooted n s (Some y) (Fork B y C) → Two n s a x (Some y) A (Fork B y C)
+    down_high k r = let o = thrice (nodes A) x (nodes B) y (nodes C) h.apart in let f = h.fits in let w = h.low in record {
+      first = rooted_past s m n y a A k o.y_A h.first;
+      held = held_kept s m n (y ∷ []) x k h.held_x;
+      second = r;
+      out_first = o.x_A;
+      out_second = o.x_BC;
+      fits = omega arith;
+      low = (omega arith, omega arith);
+    }
+
+    pub up_low : Two m s a x b A B
+    up_low =
+        let o = thrice (nodes A) x (nodes B) y (nodes C) h.apart in
+        let f = h.fits in let w = h.low in
+        record {
+          first = h.first;
+          held = h.held_x;
+          second = h.second;
+          out_first = o.x_A;
+          out_second = o.x_B;
+          fits = omega arith;
+          low = (omega arith, omega arith);
+        }
+
+    pub up_high : Keeps m n s (x ∷ []) → IsRooted n s (Some x) (Fork A x B) → Two n s (Some x) y c (Fork A x B) C
+    up_high k r = let o = thrice (nodes A) x (nodes B) y (nodes C) h.apart in let f = h.fits in let w = h.low in record {
+      first = r;
+      held = held_kept s m n (x ∷ []) y k h.held_y;
+      second = rooted_past s m n x c C k o.x_C h.third;
+      out_first = o.y_AB;
+      out_second = o.y_C;
+      fits = omega arith;
+      low = (omega arith, omega arith);
+    }
+
+  module _ (s : ℕ) (m n o : Pooled T) (a : Option Ref) (x : Ref) (b : Option Ref) (y : Ref) (c : Option Ref)
+      (z : Ref) (d : Option Ref) (A B C D : Shape) (h : Four m s a x b y c z d A B C D) where
+    pub both_left : Two m s a x b A B
+    both_left = let i = thrice (nodes A) x (nodes B) y (nodes C ++ z ∷ nodes D) h.apart in let f = h.fits in let w = h.low in
+        record {
+          first = h.first;
+          held = h.held_x;
+          second = h.second;
+          out_first = i.x_A;
+          out_second = i.x_B;
+          fits = omega arith;
+          low = (omega arith, omega arith);
+        }
+
+    pub both_right : Keeps m n s (x ∷ []) → Two n s c z d C D
+    both_right k =
+        let i = thrice (nodes A) x (nodes B) y (nodes C ++ z ∷ nodes D) h.apart in
+        let j = between (nodes C) z (nodes D) i.right in let f = h.fits in let w = h.low in
+        record {
+          first = rooted_past s m n x c C k (out_left x.name (nodes C) (z ∷ nodes D) i.x_C) h.third;
+          held = held_kept s m n (x ∷ []) z k h.held_z;
+          second = rooted_past s m n x d D k (out_right x.name (nodes C) (z ∷ nodes D) i.x_C).1 h.fourth;
+          out_first = j.out_left;
+          out_second = j.out_right;
+          fits = omega arith;
+          low = (omega arith, omega arith);
+        }
+
+    pub both_top : Keeps m n s (x ∷ []) → IsRooted n s (Some x) (Fork A x B) → Keeps n o s (z ∷ [])
+        → IsRooted o s (Some z) (Fork C z D) → Two o s (Some x) y (Some z) (Fork A x B) (Fork C z D)
+    both_top k r l u = let i = thrice (nodes A) x (nodes B) y (nodes C ++ z ∷ nodes D) h.apart in
+        let j = thrice (nodes A ++ x ∷ nodes B) y (nodes C) z (nodes D)
+        (subst IsApart (sym (append_assoc (nodes A) (x ∷ nodes B) (y ∷ nodes C ++ z ∷ nodes D))) h.apart) in
+        let f = h.fits in let w = h.low in
+        record {
+          first = rooted_past s n o z (Some x) (Fork A x B) l j.y_A r;
+          held = held_kept s n o (z ∷ []) y l (held_kept s m n (x ∷ []) y k h.held_y);
+          second = u;
+          out_first = i.y_AB;
+          out_second = i.y_C;
+          fits = omega arith;
+          low = (omega arith, omega arith);
+        }

@@ -1,0 +1,755 @@
+-- What a way says of the whole tree.
+use Rattle.std.proofs.Common.{◌≡◌, ◌==◌, ℕ, Bool, true, false, cond, ◌+◌, ◌-◌, ◌^◌, ◌<◌, ◌≤◌, max, List, [], ◌∷◌}
+use Rattle.std.proofs.Common.{◌++◌, length, take, Option, Some, None, refl, sym, ap, ◌∙◌, subst, arith, length-append}
+use Rattle.std.specs.List.{slice_get}
+use Rattle.std.specs.Option.{option_flatten}
+use Rattle.std.proofs.lemmas.Option.{slice_get-get_or}
+use Rattle.std.proofs.Math.Seq.{take-append_seam, get_or-append_seam}
+use Rattle.std.specs.declared.cmp.Ordering.{Ordering}
+use Rattle.std.specs.declared.cmp.Ordering.TheVariants.{Less, Equal, Greater}
+use Rattle.std.specs.Ordering.{is_lt}
+use Rattle.std.specs.Cmp.{IsTotalOrder}
+use Rattle.mi_node.specs.Pool.{Pooled, link_of, with_link, IsHeld, Keeps}
+use Rattle.mi_node.specs.declared.link.Link.{Link}
+use Rattle.mi_node.specs.declared.link.Tag.{Tag}
+use Rattle.mi_node.specs.Refs.{Ref, IsOut, IsApart, AreOut}
+use Rattle.mi_node.proofs.EntryLemmas.{flip, link_here}
+use Rattle.mi_node.proofs.KeepingLemmas.{keeps_none, keeps_link, keeps_then, keeps_more, held_kept}
+use Rattle.mi_node.proofs.RefLemmas.{out_left, out_right, between, are_out_cons, are_out_none, are_out_flip}
+use Rattle.mi_tree.specs.Shape.{Shape, Tip, Fork, nodes, top, size, height, DifferByAtMost, IsEven, Stands, IsRooted, height_at}
+use Rattle.mi_tree.specs.Joining.{AreSides, IsBalanced, IsSettled}
+use Rattle.mi_tree.specs.Sorted.{AreTagged, SameTags, IsPutIn, CanPut, HasPut, side}
+use Rattle.mi_tree.specs.Ways.{Frame, way_of, forked, forked_size, forked_height, forked_link, rehung, plug}
+use Rattle.mi_tree.specs.Ways.{risen, IsLevel, AreEven, IsRootOf, Above, Falls, HasFallen, Climbs, HasClimbed, AreRejoined}
+use Rattle.mi_tree.specs.declared.way.Turn.{Turn}
+use Rattle.mi_tree.proofs.BinaryTreeLemmas.{moved, tip_is, size-nodes, height-root}
+use Rattle.mi_tree.proofs.JoinLemmas.{link_kept, stands_kept, rooted_past, tags_set}
+use Rattle.mi_tree.proofs.HeightLemmas.{low_enough}
+use Rattle.mi_tree.proofs.RotationLemmas.{plain_parts}
+use Rattle.mi_tree.proofs.InsertLemmas.{PutOpened, put_opened, put_apart, put_length, put_out}
+use Rattle.mi_tree.proofs.SortedLemmas.{side_order, side_kept, item_kept, put_left, put_right, tagged_left, tagged_right}
+use Rattle.mi_tree.proofs.StandingLemmas.{tagged_kept}
+
+-- the node at the end of a way
+abbrev pub turn_of : Frame → Turn
+turn_of f = record { node = f.node; left = f.left }
+
+pub path_length : (fs : List Frame) → length (way_of fs) ≡ length fs
+path_length [] = refl
+path_length (f ∷ fs) = let i = path_length fs in let j = length-append (way_of fs) (Some (turn_of f) ∷ []) in omega arith
+
+some_two : (a b : Turn) → Some a ≡ Some b → a ≡ b
+some_two a b e = cc
+
+abbrev pub frame : Turn → Shape → Frame
+frame turn q = record { node = turn.node; left = turn.left; other = q }
+
+pub record IsTurned (fs : List Frame) (new : List (Option Turn)) (turn : Turn) : Type 0 where
+  pub other : Shape
+  pub rest : List Frame
+  pub was : fs ≡ frame turn other ∷ rest
+  pub now : new ≡ way_of rest
+
+last_length : (items : List (Option Turn)) (f : Frame) (fs : List Frame) → items ≡ way_of (f ∷ fs) → length items - 1 ≡ length (way_of fs)
+last_length items f fs e = let i = ap length e in let j = length-append (way_of fs) (Some (turn_of f) ∷ []) in omega arith
+
+last_is : (items : List (Option Turn)) (f : Frame) (fs : List Frame) → items ≡ way_of (f ∷ fs) → slice_get items (length items - 1) ≡ Some (Some (turn_of f))
+last_is items f fs e =
+    let n = last_length items f fs e in let ps = way_of fs in let j = length-append ps (Some (turn_of f) ∷ []) in
+    (λ i. slice_get (e i) (n i)) ∙ slice_get-get_or (ps ++ Some (turn_of f) ∷ []) (length ps) (Some (turn_of f)) (omega arith)
+    ∙ ap (λ k. Some k) (get_or-append_seam ps (Some (turn_of f)) [] (Some (turn_of f)))
+
+pub turned_back : {items new : List (Option Turn)} {last : Option (Option Turn)} {fs : List Frame} {turn : Turn}
+    → items ≡ way_of fs → new ≡ take (length items - 1) items → last ≡ slice_get items (length items - 1)
+    → option_flatten last ≡ Some turn → IsTurned fs new turn
+turned_back {items} {new} {last} {fs = []} {turn = r} e n l g =
+    let i : last ≡ None = l ∙ (λ k. slice_get (e k) (length (e k) - 1)) in let j : None ≡ Some r = sym (ap option_flatten i) ∙ g in absurd cc
+turned_back {items} {new} {last} {fs = f ∷ fs} {turn = r} e n l g =
+    let same : r ≡ turn_of f = some_two r (turn_of f) (sym g ∙ ap option_flatten (l ∙ last_is items f fs e)) in record {
+      other = f.other;
+      rest = fs;
+      was = ap (λ (z : Turn). frame z f.other ∷ fs) (sym same);
+      now = n ∙ (λ i. take (last_length items f fs e i) (e i)) ∙ take-append_seam (way_of fs) (Some (turn_of f) ∷ []);
+    }
+
+pub shorter_way : {items new : List (Option Turn)} {fs : List Frame} {turn : Turn} → items ≡ way_of fs → IsTurned fs new turn → length new < length items
+shorter_way {items} {new} {fs} {turn} e w =
+    let a = ap length e in let b = path_length fs in let c = ap (λ (k : List Frame). length k) w.was in let d = ap length w.now in let f = path_length w.rest in
+    omega arith
+
+pub no_turn : (items : List (Option Turn)) (last : Option (Option Turn)) (fs : List Frame)
+    → items ≡ way_of fs → last ≡ slice_get items (length items - 1) → option_flatten last ≡ None → fs ≡ []
+no_turn items last [] e l g = refl
+no_turn items last (f ∷ fs) e l g = let j : Some (turn_of f) ≡ None = sym (ap option_flatten (l ∙ last_is items f fs e)) ∙ g in absurd cc
+
+-- the names of a node above a tree
+forked_out : (b : Bool) (r : Ref) (q t : Shape) (k : ℕ) → IsOut k (nodes (forked b t r q)) → IsOut k (nodes t) × ((k == r.name) ≡ false) × IsOut k (nodes q)
+forked_out true r q t k o = let w = out_right k (nodes t) (r ∷ nodes q) o in (out_left k (nodes t) (r ∷ nodes q) o, w.0, w.1)
+forked_out false r q t k o = let w = out_right k (nodes q) (r ∷ nodes t) o in (w.1, w.0, out_left k (nodes q) (r ∷ nodes t) o)
+
+record Apart (r : Ref) (q t : Shape) : Type 0 where
+  pub tree : IsApart (nodes t)
+  pub out_tree : IsOut r.name (nodes t)
+  pub out_other : IsOut r.name (nodes q)
+  pub across : AreOut (nodes q) (nodes t)
+
+forked_apart : (b : Bool) (r : Ref) (q t : Shape) → IsApart (nodes (forked b t r q)) → Apart r q t
+forked_apart true r q t a =
+    let w = between (nodes t) r (nodes q) a in
+    record { tree = w.left; out_tree = w.out_left; out_other = w.out_right; across = are_out_flip (nodes t) (nodes q) w.across }
+forked_apart false r q t a =
+    let w = between (nodes q) r (nodes t) a in record { tree = w.right; out_tree = w.out_right; out_other = w.out_left; across = w.across }
+
+pub plug_apart : (fs : List Frame) (t : Shape) → IsApart (nodes (plug fs t)) → IsApart (nodes t)
+plug_apart [] t a = a
+plug_apart (f ∷ fs) t a = (forked_apart f.left f.node f.other t (plug_apart fs (forked f.left t f.node f.other) a)).tree
+
+pub plug_out : (fs : List Frame) (t : Shape) (k : ℕ) → IsOut k (nodes (plug fs t)) → IsOut k (nodes t)
+plug_out [] t k o = o
+plug_out (f ∷ fs) t k o = (forked_out f.left f.node f.other t k (plug_out fs (forked f.left t f.node f.other) k o)).0
+
+-- sizes and heights
+size_forked : (b : Bool) (r : Ref) (q t : Shape) → size (forked b t r q) ≡ forked_size b (size t) (size q)
+size_forked true r q t = refl
+size_forked false r q t = refl
+
+size_part : (b : Bool) (r : Ref) (q t : Shape) → size t ≤ size (forked b t r q)
+size_part true r q t = omega arith
+size_part false r q t = omega arith
+
+height_forked : (b : Bool) (r : Ref) (q t : Shape) → height (forked b t r q) ≡ forked_height b (height t) (height q)
+height_forked true r q t = refl
+height_forked false r q t = refl
+
+top_forked : (b : Bool) (r : Ref) (q t : Shape) → top (forked b t r q) ≡ Some r
+top_forked true r q t = refl
+top_forked false r q t = refl
+
+size_less : (b : Bool) (r : Ref) (q t : Shape) → size t + size q + 1 ≡ size (forked b t r q)
+size_less true r q t = refl
+size_less false r q t = omega arith
+
+pub plug_size : (fs : List Frame) (t : Shape) → size t ≤ size (plug fs t)
+plug_size [] t = omega arith
+plug_size (f ∷ fs) t = let i = plug_size fs (forked f.left t f.node f.other) in let j = size_less f.left f.node f.other t in omega arith
+
+-- trees of the same nodes in one place
+forked_nodes : (b : Bool) (r : Ref) (q t u : Shape) → nodes t ≡ nodes u → nodes (forked b t r q) ≡ nodes (forked b u r q)
+forked_nodes true r q t u e = ap (λ k. k ++ r ∷ nodes q) e
+forked_nodes false r q t u e = ap (λ k. nodes q ++ r ∷ k) e
+
+plug_nodes : (fs : List Frame) (t u : Shape) → nodes t ≡ nodes u → nodes (plug fs t) ≡ nodes (plug fs u)
+plug_nodes [] t u e = e
+plug_nodes (f ∷ fs) t u e = plug_nodes fs (forked f.left t f.node f.other) (forked f.left u f.node f.other) (forked_nodes f.left f.node f.other t u e)
+
+same_size : (t u : Shape) → nodes t ≡ nodes u → size t ≡ size u
+same_size t u e = size-nodes t ∙ ap length e ∙ sym (size-nodes u)
+
+-- the root is the same, whatever stands at the end of the way
+top_plug : (f : Frame) (fs : List Frame) (t u : Shape) → top (plug (f ∷ fs) t) ≡ top (plug (f ∷ fs) u)
+top_plug f [] t u = top_forked f.left f.node f.other t ∙ sym (top_forked f.left f.node f.other u)
+top_plug f (g ∷ gs) t u = top_plug g gs (forked f.left t f.node f.other) (forked f.left u f.node f.other)
+
+root_next : (root : Option Ref) (f : Frame) (fs : List Frame) → IsRootOf root (f ∷ fs) → IsRootOf root fs
+root_next root f [] e = tt
+root_next root f (g ∷ gs) e = e ∙ top_plug g gs (forked f.left Tip f.node f.other) Tip
+
+-- the root of the whole, if a node is above the end of the way
+pub root_above : (root : Option Ref) (fs : List Frame) (t : Shape) → root ≡ top (plug fs t) → IsRootOf root fs
+root_above root [] t e = tt
+root_above root (f ∷ fs) t e = e ∙ top_plug f fs t Tip
+
+root_top : (root : Option Ref) (fs : List Frame) → root ≡ top (plug fs Tip) → IsRootOf root fs
+root_top root [] e = tt
+root_top root (f ∷ fs) e = e
+
+pub plug_height : (fs : List Frame) (t : Shape) → height (plug fs t) ≡ risen fs (height t)
+plug_height [] t = refl
+plug_height (f ∷ fs) t = plug_height fs (forked f.left t f.node f.other) ∙ ap (risen fs) (height_forked f.left f.node f.other t)
+
+pub level_same : (a h k z : ℕ) → k ≡ z → IsLevel a h k z
+level_same a h k z e = ((omega arith, omega arith), λ f. omega arith)
+
+not_lifted : (b : Bool) (h k u z : ℕ) → u ≤ h → z ≤ max u k + 1 → z ≤ forked_height b h k
+not_lifted true h k u z a f = grind arith
+not_lifted false h k u z a f = grind arith
+
+-- heights after one side changed by at most one
+lifted : (b : Bool) (h k u z : ℕ) → DifferByAtMost 1 u h → DifferByAtMost 1 h k → max u k ≤ z
+    → z ≤ max u k + 1 → (DifferByAtMost 1 u k → z ≡ max u k + 1) → DifferByAtMost 1 z (forked_height b h k)
+lifted true h k u z a b low high tight = (grind arith, grind arith)
+lifted false h k u z a b low high tight = (grind arith, grind arith)
+
+max_turned : (a b : ℕ) → max a b ≡ max b a
+max_turned a b = omega arith
+
+settled_heights : (h k u y : ℕ) → y ≡ max h k + 1 → u + 1 ≡ y → DifferByAtMost 1 h k → (y ≡ max u k + 1) × DifferByAtMost 1 u k
+settled_heights h k u y e high near = let n = near.0 in let f = near.1 in (omega arith, (omega arith, omega arith))
+
+are_out_less : (zs xs ys : List Ref) → ((k : ℕ) → IsOut k xs → IsOut k ys) → AreOut zs xs → AreOut zs ys
+are_out_less [] xs ys among a = tt
+are_out_less (z ∷ zs) xs ys among a = (among z.name a.0, are_out_less zs xs ys among a.1)
+
+even_forked : (b : Bool) (r : Ref) (q t : Shape) → DifferByAtMost 1 (height t) (height q) → IsEven t → IsEven q → IsEven (forked b t r q)
+even_forked true r q t d e f = (d, e, f)
+even_forked false r q t d e f = ((omega arith, omega arith), f, e)
+
+pub even_moved : (fs : List Frame) (h k : ℕ) → h ≡ k → AreEven fs h → AreEven fs k
+even_moved fs h k e a = subst (AreEven fs) e a
+
+link_height : (b : Bool) (at : Option Ref) (n h : ℕ) (q : Shape) (t : Tag) → (forked_link b at n h q t).height ≡ forked_height b h (height q)
+link_height true at n h q t = refl
+link_height false at n h q t = refl
+
+rehung_is : (b : Bool) (y : Link) (at bt : Option Ref) (n h : ℕ) (q : Shape) → y ≡ forked_link b at n h q y.tag → rehung b bt y ≡ forked_link b bt n h q y.tag
+rehung_is true y at bt n h q e = λ i. record { back = bt; forth = (e i).forth; size = (e i).size; height = (e i).height; tag = y.tag }
+rehung_is false y at bt n h q e = λ i. record { back = (e i).back; forth = bt; size = (e i).size; height = (e i).height; tag = y.tag }
+
+-- the whole is balanced
+plug_even : (fs : List Frame) (t : Shape) → IsEven t → AreEven fs (height t) → IsEven (plug fs t)
+plug_even [] t e a = e
+plug_even (f ∷ fs) t e a = plug_even fs (forked f.left t f.node f.other) (even_forked f.left f.node f.other t a.0 e a.1)
+    (even_moved fs _ _ (sym (height_forked f.left f.node f.other t)) a.2)
+
+module _ {T : Type 0} where
+  pub above_moved : (m : Pooled T) (s : ℕ) (fs : List Frame) (at bt : Option Ref) (n k h j : ℕ)
+      → at ≡ bt → n ≡ k → h ≡ j → Above m s fs at n h → Above m s fs bt k j
+  above_moved m s fs at bt n k h j e f g a = subst (λ (z : Option Ref × ℕ × ℕ). Above m s fs z.0 z.1 z.2) (λ i. (e i, f i, g i)) a
+
+  -- a change below the way
+  pub above_kept : (s : ℕ) (m n : Pooled T) (us : List Ref) (fs : List Frame) (t : Shape) (at : Option Ref) (k h : ℕ)
+      → Keeps m n s us → IsApart (nodes (plug fs t)) → ((i : ℕ) → IsOut i (nodes t) → IsOut i us)
+      → Above m s fs at k h → Above n s fs at k h
+  above_kept s m n us [] t at k h g a among w = tt
+  above_kept s m n us (f ∷ fs) t at k h g a among w =
+      let o = forked_apart f.left f.node f.other t (plug_apart fs (forked f.left t f.node f.other) a) in (
+        held_kept s m n us f.node g w.0,
+        link_kept m n s f.node (forked_link f.left at k h f.other) (g.other_nodes f.node.name s (among f.node.name o.out_tree)) w.1,
+        stands_kept s m n us f.other g (are_out_less (nodes f.other) (nodes t) us among o.across) w.2,
+        above_kept s m n us fs (forked f.left t f.node f.other) _ _ _ g a (λ i out. among i (forked_out f.left f.node f.other t i out).0) w.3,
+      )
+
+  stands_forked : (m : Pooled T) (s : ℕ) (b : Bool) (r : Ref) (q t : Shape) → Stands m s t → IsHeld m r
+      → link_of m r.name s ≡ forked_link b (top t) (size t) (height t) q (link_of m r.name s).tag → Stands m s q → Stands m s (forked b t r q)
+  stands_forked m s true r q t h held link other = (held, link, h, other)
+  stands_forked m s false r q t h held link other = (held, link, other, h)
+
+  -- the whole stands
+  plug_stands : (m : Pooled T) (s : ℕ) (fs : List Frame) (t : Shape) → Stands m s t → Above m s fs (top t) (size t) (height t) → Stands m s (plug fs t)
+  plug_stands m s [] t h a = h
+  plug_stands m s (f ∷ fs) t h a = plug_stands m s fs (forked f.left t f.node f.other) (stands_forked m s f.left f.node f.other t h a.0 a.1 a.2)
+      (above_moved m s fs _ _ _ _ _ _ (sym (top_forked f.left f.node f.other t))
+      (sym (size_forked f.left f.node f.other t)) (sym (height_forked f.left f.node f.other t)) a.3)
+
+  -- the two sides of a node on the way, with another tree on the side of the way
+  pub record Sided (m : Pooled T) (s : ℕ) (back forth : Option Ref) (r : Ref) (b : Bool) (q u l z : Shape) : Type 0 where
+    pub sides : AreSides m s back r forth l z
+    pub names : nodes l ++ r ∷ nodes z ≡ nodes (forked b u r q)
+    pub heights : (max (height l) (height z) ≡ max (height u) (height q)) × (DifferByAtMost 1 (height u) (height q) → DifferByAtMost 1 (height l) (height z))
+
+  sided : (m : Pooled T) (s : ℕ) (b : Bool) (r : Ref) (q u : Shape) (below : Option Ref) (y : Link) (at : Option Ref) (n h : ℕ) (t : Tag)
+      → IsRooted m s below u → IsEven u → DifferByAtMost 1 (height u) h → DifferByAtMost 1 h (height q) → IsEven q → IsHeld m r
+      → y ≡ forked_link b at n h q t → Stands m s q → IsApart (nodes (forked b u r q)) → size (forked b u r q) < 2 ^ 32
+      → (l : Shape) × (z : Shape) × Sided m s (cond b below y.back) (cond b y.forth below) r b q u l z
+  sided m s true r q u below y at n h t rooted even near beside other held link stands apart fits = (
+    u,
+    q,
+    record {
+      sides = record {
+        left_is = rooted;
+        held = held;
+        right_is = record { root = ap (λ (z : Link). z.forth) link; stands = stands };
+        apart = apart;
+        left_even = even;
+        right_even = other;
+        near = (omega arith, omega arith);
+        fits = fits;
+      };
+      names = refl;
+      heights = (refl, λ d. d);
+    },
+  )
+  sided m s false r q u below y at n h t rooted even near beside other held link stands apart fits = (
+    q,
+    u,
+    record {
+      sides = record {
+        left_is = record { root = ap (λ (z : Link). z.back) link; stands = stands };
+        held = held;
+        right_is = rooted;
+        apart = apart;
+        left_even = other;
+        right_even = even;
+        near = (omega arith, omega arith);
+        fits = fits;
+      };
+      names = refl;
+      heights = (max_turned (height q) (height u), λ d. (d.1, d.0));
+    },
+  )
+
+  -- the link is right for them where the other tree is one level lower than before the node
+  settled : (m : Pooled T) (s : ℕ) (b : Bool) (r : Ref) (q u : Shape) (below : Option Ref) (y : Link) (at : Option Ref) (h : ℕ) (t : Tag)
+      → (rooted : IsRooted m s below u) (even : IsEven u) (near : DifferByAtMost 1 (height u) h) (beside : DifferByAtMost 1 h (height q))
+      (other : IsEven q) (held : IsHeld m r) (link : y ≡ forked_link b at (size u) h q t) (stands : Stands m s q)
+      (apart : IsApart (nodes (forked b u r q))) (fits : size (forked b u r q) < 2 ^ 32)
+      → y.tag ≡ (link_of m r.name s).tag → height u + 1 ≡ y.height
+      → let o = sided m s b r q u below y at (size u) h t rooted even near beside other held link stands apart fits in
+      IsSettled m s r (rehung b below y) o.0 o.1
+  unfolding sided
+  settled m s true r q u below y at h t rooted even near beside other held link stands apart fits tag high =
+      let o = sided m s true r q u below y at (size u) h t rooted even near beside other held link stands apart fits in
+      let e = settled_heights h (height q) (height u) y.height (ap (λ (z : Link). z.height) link) high beside in (
+        record {
+          two = plain_parts m s below r y.forth u q o.2.sides;
+          size_is = ap (λ (z : Link). z.size) link;
+          height_is = e.0;
+          tag_is = tag;
+        },
+        e.1,
+      )
+  settled m s false r q u below y at h t rooted even near beside other held link stands apart fits tag high =
+      let o = sided m s false r q u below y at (size u) h t rooted even near beside other held link stands apart fits in
+      let e = settled_heights h (height q) (height u) y.height
+      (ap (λ (z : Link). z.height) link ∙ ap (λ j. j + 1) (max_turned (height q) h)) high beside in (
+        record {
+          two = plain_parts m s y.back r below q u o.2.sides;
+          size_is = ap (λ (z : Link). z.size) link;
+          height_is = e.0 ∙ ap (λ j. j + 1) (max_turned (height u) (height q));
+          tag_is = tag;
+        },
+        (e.1.1, e.1.0),
+      )
+
+  -- nothing is above
+  pub climbed_none : {m : Pooled T} {s : ℕ} {root below : Option Ref} {items : List (Option Turn)} {fs : List Frame} {at : Option Ref} {h : ℕ} {u : Shape}
+      → Climbs m s root below items fs at h u → fs ≡ [] → HasClimbed m m s (plug fs u) below u
+  climbed_none {m} {s} {fs = fs} {u = u} c e = record {
+    rooted = c.rooted;
+    even = c.even;
+    nodes_are = sym (ap (λ k. nodes (plug k u)) e);
+    keeps = keeps_none s m (nodes (plug fs u));
+    tags = λ k. refl;
+  }
+
+  pub level_none : (m : Pooled T) (s : ℕ) (root below : Option Ref) (items : List (Option Turn)) (fs : List Frame) (at : Option Ref) (h : ℕ) (u : Shape)
+      → Climbs m s root below items fs at h u → fs ≡ [] → IsLevel (height u) h (height_at m s below) (risen fs h)
+  level_none m s root below items fs at h u c e = subst (λ (z : ℕ × ℕ). IsLevel (height u) h z.0 z.1)
+      (λ i. (sym (height-root m s below u c.rooted) i, ap (λ k. risen k h) (sym e) i)) (c.near, λ f. f)
+
+  -- what a step up gives: the tree that is to stand next, and what the rest of the way makes of it
+  pub record NextClimb (m n : Pooled T) (s : ℕ) (root : Option Ref) (new : List (Option Turn)) (fs : List Frame)
+      (h : ℕ) (u : Shape) (turn : Turn) (before : ℕ) (next : Ref) : Type 0 where
+    pub rest : List Frame
+    pub z : Shape
+    pub climbs : Climbs n s root (Some next) new rest (Some turn.node) before z
+    pub level : (j : ℕ) → IsLevel (height z) before j (risen rest before) → IsLevel (height u) h j (risen fs h)
+    pub climbed : (v : Pooled T) (result : Option Ref) (t : Shape) → HasClimbed n v s (plug rest z) result t → HasClimbed m v s (plug fs u) result t
+
+  -- a tree as high as the one before
+  module _ {m n : Pooled T} {s : ℕ} {root : Option Ref} {new : List (Option Turn)} {fs : List Frame}
+      {h : ℕ} {u : Shape} {turn : Turn} {before : ℕ} {next : Ref} (o : NextClimb m n s root new fs h u turn before next) where
+    same_height : before ≡ height_at n s (Some next) → before ≡ height o.z
+    same_height e = e ∙ height-root n s (Some next) o.z o.climbs.rooted
+
+    pub same_climbs : before ≡ height_at n s (Some next) → Climbs n s root (Some next) new o.rest (Some turn.node) (height o.z) o.z
+    same_climbs e = subst (λ j. Climbs n s root (Some next) new o.rest (Some turn.node) j o.z) (same_height e) o.climbs
+
+    pub same_level : before ≡ height_at n s (Some next) → (j : ℕ) → j ≡ risen o.rest (height o.z) → IsLevel (height u) h j (risen fs h)
+    same_level e j is = o.level j (level_same (height o.z) before j _ (is ∙ ap (risen o.rest) (sym (same_height e))))
+
+  module _ {m : Pooled T} {s : ℕ} {root below : Option Ref} {items new : List (Option Turn)} {fs : List Frame} {at : Option Ref}
+      {h : ℕ} {u : Shape} (c : Climbs m s root below items fs at h u) {turn : Turn} (w : IsTurned fs new turn)
+      {y : Link} (i : y ≡ link_of m turn.node.name s) where
+    abbrev whole : Shape
+    whole = forked turn.left u turn.node w.other
+
+    open_above : Above m s (frame turn w.other ∷ w.rest) at (size u) h
+    open_above = subst (λ k. Above m s k at (size u) h) w.was c.above
+
+    open_beside : AreEven (frame turn w.other ∷ w.rest) h
+    open_beside = subst (λ k. AreEven k h) w.was c.beside
+
+    plugged : plug fs u ≡ plug w.rest whole
+    plugged = ap (λ k. plug k u) w.was
+
+    open_apart : IsApart (nodes (plug w.rest whole))
+    open_apart = subst (λ k. IsApart (nodes k)) plugged c.apart
+
+    open_fits : size (plug w.rest whole) < 2 ^ 32
+    open_fits = subst (λ k. size k < 2 ^ 32) plugged c.fits
+
+    pub turn_held : IsHeld m turn.node
+    turn_held = open_above.0
+
+    link_is : y ≡ forked_link turn.left at (size u) h w.other y.tag
+    link_is = i ∙ open_above.1 ∙ ap (λ (z : Link). forked_link turn.left at (size u) h w.other z.tag) (sym i)
+
+    before_is : y.height ≡ forked_height turn.left h (height w.other)
+    before_is = ap (λ (z : Link). z.height) link_is ∙ link_height turn.left at (size u) h w.other y.tag
+
+    climb_sides : (l : Shape) × (z : Shape) × Sided m s (cond turn.left below y.back) (cond turn.left y.forth below) turn.node turn.left w.other u l z
+    climb_sides = let f = plug_size w.rest whole in let k = open_fits in
+        sided m s turn.left turn.node w.other u below y at (size u) h y.tag c.rooted c.even c.near open_beside.0
+        open_beside.1 open_above.0 link_is open_above.2 (plug_apart w.rest whole open_apart) (omega arith)
+
+    climb_settled : height u + 1 ≡ y.height → IsSettled m s turn.node (rehung turn.left below y) climb_sides.0 climb_sides.1
+    unfolding climb_sides sided
+    climb_settled = let f = plug_size w.rest whole in let k = open_fits in
+        settled m s turn.left turn.node w.other u below y at h y.tag c.rooted c.even c.near open_beside.0
+        open_beside.1 open_above.0 link_is open_above.2 (plug_apart w.rest whole open_apart) (omega arith) (ap (λ (z : Link). z.tag) i)
+
+    climb_rejoined : AreRejoined m s turn below y climb_sides.0 climb_sides.1
+    climb_rejoined = record {
+      sides = climb_sides.2.sides;
+      settled = λ e. climb_settled (ap (λ j. j + 1) (sym (height-root m s below u c.rooted)) ∙ e);
+    }
+
+    -- what the node of the way is put over again
+    pub climb_given : (l : Shape) × (q : Shape) × AreRejoined m s turn below y l q
+    climb_given = (climb_sides.0, climb_sides.1, climb_rejoined)
+
+    pub low_below : height_at m s below + 1 < 256
+    low_below = let f = plug_size w.rest whole in let k = open_fits in let j = size_part turn.left turn.node w.other u in
+        let fits : size u < 2 ^ 32 = omega arith in let l = low_enough u c.even fits in
+        let e = height-root m s below u c.rooted in omega arith
+
+    -- the next node of the way
+    module _ {n : Pooled T} {back forth : Option Ref} {l q : Shape} (o : Sided m s back forth turn.node turn.left w.other u l q)
+        {next : Ref} {z : Shape} (k : IsBalanced m n s l turn.node q next z) where
+      names_are : nodes z ≡ nodes whole
+      names_are = k.rebalanced.nodes_are ∙ o.names
+
+      climbs_on : Climbs n s root (Some next) new w.rest (Some turn.node) (forked_height turn.left h (height w.other)) z
+      climbs_on =
+          let r = k.rebalanced in let hs = o.heights in let same = plug_nodes w.rest z whole names_are in record {
+            path_is = w.now;
+            above = above_moved n s w.rest _ _ _ _ _ _ refl (sym (same_size z whole names_are ∙ size_forked turn.left turn.node w.other u)) refl
+                (above_kept s m n (nodes l ++ turn.node ∷ nodes q) w.rest whole _ _ _ k.keeps
+                open_apart (λ j out. subst (IsOut j) (sym o.names) out) open_above.3);
+            beside = open_beside.2;
+            rooted = k.rooted;
+            even = r.even;
+            near = lifted turn.left h (height w.other) (height u) (height z) c.near open_beside.0 (subst (λ j. j ≤ height z) hs.0 r.not_lower)
+                (subst (λ j. height z ≤ j + 1) hs.0 r.not_higher) (λ d. r.as_high (hs.1 d) ∙ ap (λ j. j + 1) hs.0);
+            apart = subst IsApart (sym same) open_apart;
+            fits = subst (λ j. j < 2 ^ 32) (sym (same_size (plug w.rest z) (plug w.rest whole) same)) open_fits;
+            root_is = root_next root (frame turn w.other) w.rest (subst (IsRootOf root) w.was c.root_is);
+          }
+
+      level_on : (j : ℕ) → IsLevel (height z) (forked_height turn.left h (height w.other)) j (risen w.rest (forked_height turn.left h (height w.other)))
+          → IsLevel (height u) h j (risen fs h)
+      level_on j d = let high = subst (λ i. height z ≤ i + 1) o.heights.0 k.rebalanced.not_higher in
+          subst (λ (i : List Frame). IsLevel (height u) h j (risen i h)) (sym w.was)
+          (d.0, λ f. d.1 (not_lifted turn.left h (height w.other) (height u) (height z) f high))
+
+      climbed_on : (v : Pooled T) (result : Option Ref) (t : Shape) → HasClimbed n v s (plug w.rest z) result t → HasClimbed m v s (plug fs u) result t
+      climbed_on v result t d =
+          let same = plug_nodes w.rest z whole names_are in let all = same ∙ sym (ap nodes plugged) in record {
+            rooted = d.rooted;
+            even = d.even;
+            nodes_are = d.nodes_are ∙ all;
+            keeps = keeps_then s m n v (nodes l ++ turn.node ∷ nodes q) (nodes (plug w.rest z)) (nodes (plug fs u)) k.keeps d.keeps
+                (λ j out. (subst (IsOut j) (sym o.names) (plug_out w.rest whole j (subst (IsOut j) (ap nodes plugged) out)), subst (IsOut j) (sym all) out));
+            tags = λ j. d.tags j ∙ k.tags j;
+          }
+
+    pub next_climb : {n : Pooled T} {before : ℕ} {next : Ref} → before ≡ y.height
+        → ((l q : Shape) → AreRejoined m s turn below y l q → (z : Shape) × IsBalanced m n s l turn.node q next z)
+        → NextClimb m n s root new fs h u turn before next
+    next_climb {n} {before} {next} e f =
+        let k = f climb_sides.0 climb_sides.1 climb_rejoined in let is : forked_height turn.left h (height w.other) ≡ before = sym (e ∙ before_is) in record {
+          rest = w.rest;
+          z = k.0;
+          climbs = subst (λ j. Climbs n s root (Some next) new w.rest (Some turn.node) j k.0) is (climbs_on climb_sides.2 k.1);
+          level = λ j d. level_on climb_sides.2 k.1 j (subst (λ b. IsLevel (height k.0) b j (risen w.rest b)) (sym is) d);
+          climbed = climbed_on climb_sides.2 k.1;
+        }
+
+  -- the last change
+  pub hung : {m n : Pooled T} {s : ℕ} {root : Option Ref} {next : Ref} {items new : List (Option Turn)} {fs : List Frame} {at : Option Ref} {u : Shape}
+      {turn : Turn} {y : Link} → Climbs m s root (Some next) items fs at (height u) u → IsTurned fs new turn → y ≡ link_of m turn.node.name s
+      → n ≡ with_link m turn.node.name s (rehung turn.left (Some next) y)
+      → HasClimbed m n s (plug fs u) root (plug fs u)
+  hung {m} {n} {s} {root} {next} {items} {new} {fs} {at} {u} {turn} {y} c w i set =
+      let r = turn.node in let b = turn.left in let q = w.other in let h = height u in let t = forked b u r q in
+      let above : Above m s (frame turn q ∷ w.rest) at (size u) h = subst (λ k. Above m s k at (size u) h) w.was c.above in
+      let apart = subst (λ k. IsApart (nodes (plug k u))) w.was c.apart in
+      let o = forked_apart b r q u (plug_apart w.rest t apart) in
+      let keeps = subst (λ k. Keeps m k s (r ∷ [])) (sym set) (keeps_link s m r (rehung b (Some next) y)) in
+      let here : link_of n r.name s ≡ rehung b (Some next) y = ap (λ k. link_of k r.name s) set ∙ link_here m r s (rehung b (Some next) y) above.0 in
+      let is : y ≡ forked_link b at (size u) h q y.tag = i ∙ above.1 ∙ ap (λ (z : Link). forked_link b at (size u) h q z.tag) (sym i) in
+      let link = here ∙ rehung_is b y at (Some next) (size u) h q is ∙ ap (λ (z : Link). forked_link b (Some next) (size u) h q z.tag) (sym here) in
+      let tree = stands_kept s m n (r ∷ []) u keeps (are_out_cons (nodes u) r [] o.out_tree (are_out_none (nodes u))) c.rooted.stands in
+      let now : Above n s (frame turn q ∷ w.rest) (Some next) (size u) h = (
+        held_kept s m n (r ∷ []) r keeps above.0,
+        link,
+        stands_kept s m n (r ∷ []) q keeps (are_out_cons (nodes q) r [] o.out_other (are_out_none (nodes q))) above.2,
+        above_kept s m n (r ∷ []) w.rest t _ _ _ keeps apart (λ k out. ((forked_out b r q u k out).1, tt)) above.3,
+      ) in
+      let all = plug_stands n s (frame turn q ∷ w.rest) u tree (above_moved n s (frame turn q ∷ w.rest) _ _ _ _ _ _ c.rooted.root refl refl now) in
+      let root_is = subst (IsRootOf root) w.was c.root_is in record {
+        rooted = record {
+          root = root_is ∙ top_plug (frame turn q) w.rest Tip u ∙ ap (λ k. top (plug k u)) (sym w.was);
+          stands = subst (λ k. Stands n s (plug k u)) (sym w.was) all;
+        };
+        even = plug_even fs u c.even c.beside;
+        nodes_are = refl;
+        keeps = keeps_more s m n (r ∷ []) (nodes (plug fs u)) keeps
+            (λ k out. ((forked_out b r q u k (plug_out w.rest t k (subst (λ j. IsOut k (nodes (plug j u))) w.was out))).1, tt));
+        tags = tags_set s m n r (rehung b (Some next) y) set above.0 (ap (λ (z : Link). z.tag) i);
+      }
+
+-- one more in a size
+abbrev pub grown_link : Link → Link
+grown_link y = record { back = y.back; forth = y.forth; size = y.size + 1; height = y.height; tag = y.tag }
+
+leaf_put : (R : Ref → Ref → Ordering) (x : Ref) → IsPutIn (R x) x [] (nodes (Fork Tip x Tip))
+leaf_put R x = record { xs = []; ys = []; was = refl; now = refl; below = tt; above = tt }
+
+module _ {T : Type 0} where
+  pub falls_start : {m : Pooled T} {s : ℕ} {R : Ref → Ref → Ordering} {tag : T → ℕ} {at : Option Ref} {x : Ref} {t : Shape}
+      → CanPut m s R at x t → AreTagged tag m s (x ∷ nodes t) → Falls m s R tag [] at x [] t
+  falls_start {t = t} c g = let f = c.fits in let low = low_enough t c.even (omega arith) in
+      record { path_is = refl; can = c; tagged = g; above = tt; beside = tt; apart = c.apart; places = λ u p. p; room = omega arith }
+
+  -- the end of the way down
+  pub fallen_none : {m : Pooled T} {s : ℕ} {R : Ref → Ref → Ordering} {tag : T → ℕ}
+      {items : List (Option Turn)} {at : Option Ref} {x : Ref} {fs : List Frame} {t : Shape}
+      → Falls m s R tag items at x fs t → at ≡ None
+      → HasFallen m m s R items x (plug fs t) fs
+  fallen_none {m} {s} {R} {tag} {items} {at} {x} {fs} {t} h e =
+      let tip = tip_is m s t (moved m m s at None t refl e h.can.rooted) in record {
+        path_is = h.path_is;
+        whole_is = ap (plug fs) (sym tip);
+        alone = h.can.alone;
+        above = above_moved m s fs _ _ _ _ _ _ e (ap (λ k. size k + 1) tip) (ap height tip) h.above;
+        beside = even_moved fs _ _ (ap height tip) h.beside;
+        places = λ u p. h.places u (subst (λ k. IsPutIn (R x) x (nodes k) (nodes u)) (sym tip) p);
+        keeps = keeps_none s m (nodes (plug fs t));
+        tags = λ k. refl;
+      }
+
+  -- a step down: where the way goes on, and what its end says of the whole
+  pub record NextFall (m n : Pooled T) (s : ℕ) (order : T → T → Ordering) (tag : T → ℕ) (new : List (Option Turn))
+      (at next : Option Ref) (x : Ref) (fs : List Frame) (t : Shape) : Type 0 where
+    pub gs : List Frame
+    pub sub : Shape
+    pub falls : Falls n s (side order n s) tag new next x gs sub
+    pub lower : height_at n s next < height_at m s at
+    pub fallen : (v : Pooled T) (last : List (Option Turn)) (ks : List Frame)
+        → HasFallen n v s (side order n s) last x (plug gs sub) ks → HasFallen m v s (side order m s) last x (plug fs t) ks
+
+  module _ {order : T → T → Ordering} (total : IsTotalOrder order) {tag : T → ℕ} {m n : Pooled T} {s : ℕ}
+      {items : List (Option Turn)} {at : Option Ref} {here x : Ref} {y : Link} {fs : List Frame} {t : Shape}
+      (h : Falls m s (side order m s) tag items at x fs t) (e : at ≡ Some here)
+      (i : y ≡ link_of m here.name s) (set : n ≡ with_link m here.name s (grown_link y)) where
+    abbrev R : Ref → Ref → Ordering
+    R = side order m s
+
+    o : PutOpened m s R here x y t
+    o = put_opened m s R at here x y t h.can e i
+
+    pub keeps_here : Keeps m n s (here ∷ [])
+    keeps_here = subst (λ k. Keeps m k s (here ∷ [])) (sym set) (keeps_link s m here (grown_link y))
+
+    tags_here : SameTags m n s
+    tags_here = tags_set s m n here (grown_link y) set o.held_root (ap (λ (z : Link). z.tag) i)
+
+    same : side order n s ≡ R
+    same = λ j a b. side_kept order m n s a b (item_kept m n s a.name (keeps_here.values a.name) (tags_here a.name))
+        (item_kept m n s b.name (keeps_here.values b.name) (tags_here b.name)) j
+
+    here_link : link_of n here.name s ≡ grown_link y
+    here_link = ap (λ k. link_of k here.name s) set ∙ link_here m here s (grown_link y) o.held_root
+
+    not_here : (here.name == x.name) ≡ false
+    not_here = flip here.name x.name ∙ (out_right x.name (nodes o.A) (here ∷ nodes o.B) o.out).0
+
+    can_kept : (bt : Option Ref) (z : Shape) → IsOut here.name (nodes z) → CanPut m s R bt x z → CanPut n s R bt x z
+    can_kept bt z out c = record {
+      rooted = rooted_past s m n here bt z keeps_here out c.rooted;
+      even = c.even;
+      apart = c.apart;
+      rising = c.rising;
+      alone = rooted_past s m n here (Some x) (Fork Tip x Tip) keeps_here (not_here, tt) c.alone;
+      out = c.out;
+      differs = c.differs;
+      fits = c.fits;
+    }
+
+    tags_open : AreTagged tag m s (nodes o.A ++ here ∷ nodes o.B)
+    tags_open = subst (AreTagged tag m s) (ap nodes o.is) h.tagged.1
+
+    all_tagged : (rs : List Ref) → AreTagged tag m s rs → AreTagged tag n s (x ∷ rs)
+    all_tagged rs g = tagged_kept order tag m n s keeps_here.values tags_here (x ∷ rs) (h.tagged.0, g)
+
+    above_here : (bt : Option Ref) (k j : ℕ) → at ≡ bt → size t + 1 ≡ k → height t ≡ j → Above n s fs bt k j
+    above_here bt k j f p q = above_moved n s fs _ _ _ _ _ _ f p q
+        (above_kept s m n (here ∷ []) fs t _ _ _ keeps_here h.apart
+        (λ w out. let u = subst (λ z. IsOut w (nodes z)) o.is out in ((out_right w (nodes o.A) (here ∷ nodes o.B) u).0, tt)) h.above)
+
+    abbrev turn : Bool → Turn
+    turn b = record { node = here; left = b }
+
+    record Stepped (b : Bool) : Type 0 where
+      pub sub : Shape
+      pub other : Shape
+      pub is : t ≡ forked b sub here other
+      pub falls : Falls n s (side order n s) tag (items ++ Some (turn b) ∷ []) (cond b y.back y.forth) x (frame (turn b) other ∷ fs) sub
+      pub lower : height_at n s (cond b y.back y.forth) < height_at m s at
+
+    stepped_left : R x here ≡ Less → Stepped true
+    stepped_left less =
+        let A = o.A in let B = o.B in let w = between (nodes A) here (nodes B) o.apart in let sizes = ap size o.is in let heights = ap height o.is in
+        let room = h.room in
+        let link : grown_link y ≡ forked_link true y.back (size A + 1) (height A) B y.tag =
+        let z = o.size_is in
+        let long : y.size + 1 ≡ size A + 1 + size B + 1 = omega arith in
+        (λ j. record { back = y.back; forth = o.right.rooted.root j; size = long j; height = o.height_is j; tag = y.tag }) in
+        let can = can_kept y.back A w.out_left o.left in let ha = height-root n s y.back A can.rooted in let ht = height-root m s at t h.can.rooted in
+        let falls : Falls n s R tag (items ++ Some (turn true) ∷ []) y.back x (frame (turn true) B ∷ fs) A = record {
+          path_is = ap (λ k. k ++ Some (turn true) ∷ []) h.path_is;
+          can = can;
+          tagged = all_tagged (nodes A) (tagged_left tag m s (nodes A) (here ∷ nodes B) tags_open);
+          above = (
+            held_kept s m n (here ∷ []) here keeps_here o.held_root,
+            here_link ∙ link ∙ ap (λ (z : Link). forked_link true y.back (size A + 1) (height A) B z.tag) (sym here_link),
+            (rooted_past s m n here y.forth B keeps_here w.out_right o.right.rooted).stands,
+            above_here (Some here) _ _ e (omega arith) heights,
+          );
+          beside = (o.even.0, o.even.2, even_moved fs _ _ heights h.beside);
+          apart = subst (λ k. IsApart (nodes (plug fs k))) o.is h.apart;
+          places = λ u p. subst (λ k. IsPutIn (R x) x (nodes (plug fs k)) (nodes (plug fs (Fork u here B)))) o.is
+              (h.places (Fork u here B) (subst (λ k. IsPutIn (R x) x k (nodes u ++ here ∷ nodes B)) (sym (ap nodes o.is))
+              (put_left R (side_order order m s total) x (nodes A) here (nodes B) (nodes u) o.rising less p)));
+          room = omega arith;
+        } in record {
+          sub = A;
+          other = B;
+          is = o.is;
+          falls = subst (λ Q. Falls n s Q tag (items ++ Some (turn true) ∷ []) y.back x (frame (turn true) B ∷ fs) A) (sym same) falls;
+          lower = omega arith;
+        }
+
+    stepped_right : R x here ≡ Greater → Stepped false
+    stepped_right more =
+        let A = o.A in let B = o.B in let w = between (nodes A) here (nodes B) o.apart in let sizes = ap size o.is in let heights = ap height o.is in
+        let room = h.room in
+        let link : grown_link y ≡ forked_link false y.forth (size B + 1) (height B) A y.tag =
+        let z = o.size_is in
+        let long : y.size + 1 ≡ size A + (size B + 1) + 1 = omega arith in
+        (λ j. record { back = o.left.rooted.root j; forth = y.forth; size = long j; height = o.height_is j; tag = y.tag }) in
+        let can = can_kept y.forth B w.out_right o.right in let hb = height-root n s y.forth B can.rooted in let ht = height-root m s at t h.can.rooted in
+        let falls : Falls n s R tag (items ++ Some (turn false) ∷ []) y.forth x (frame (turn false) A ∷ fs) B = record {
+          path_is = ap (λ k. k ++ Some (turn false) ∷ []) h.path_is;
+          can = can;
+          tagged = all_tagged (nodes B) (tagged_right tag m s (nodes A) (here ∷ nodes B) tags_open).1;
+          above = (
+            held_kept s m n (here ∷ []) here keeps_here o.held_root,
+            here_link ∙ link ∙ ap (λ (z : Link). forked_link false y.forth (size B + 1) (height B) A z.tag) (sym here_link),
+            (rooted_past s m n here y.back A keeps_here w.out_left o.left.rooted).stands,
+            above_here (Some here) _ _ e (omega arith) heights,
+          );
+          beside = ((o.even.0.1, o.even.0.0), o.even.1, even_moved fs _ _ heights h.beside);
+          apart = subst (λ k. IsApart (nodes (plug fs k))) o.is h.apart;
+          places = λ u p. subst (λ k. IsPutIn (R x) x (nodes (plug fs k)) (nodes (plug fs (Fork A here u)))) o.is
+              (h.places (Fork A here u) (subst (λ k. IsPutIn (R x) x k (nodes A ++ here ∷ nodes u)) (sym (ap nodes o.is))
+              (put_right R (side_order order m s total) x (nodes A) here (nodes B) (nodes u) o.rising more p)));
+          room = omega arith;
+        } in record {
+          sub = B;
+          other = A;
+          is = o.is;
+          falls = subst (λ Q. Falls n s Q tag (items ++ Some (turn false) ∷ []) y.forth x (frame (turn false) A ∷ fs) B) (sym same) falls;
+          lower = omega arith;
+        }
+
+    less_is : (k : Ordering) → is_lt k ≡ true → k ≡ Less
+    less_is Less f = refl
+    less_is Equal f = absurd cc
+    less_is Greater f = absurd cc
+
+    more_is : (k : Ordering) → is_lt k ≡ false → (k ≡ Equal → ⊥) → k ≡ Greater
+    more_is Less f g = absurd cc
+    more_is Equal f g = absurd (g refl)
+    more_is Greater f g = refl
+
+    stepped_by : (b : Bool) → b ≡ is_lt (R x here) → Stepped b
+    stepped_by true f = stepped_left (less_is (R x here) (sym f))
+    stepped_by false f = stepped_right (more_is (R x here) (sym f) o.differs_root)
+
+    stepped : (k : Ordering) (b : Bool) → R x here ≡ k → b ≡ is_lt k → Stepped b
+    stepped k b f g = stepped_by b (g ∙ ap is_lt (sym f))
+
+    pub same_tag : (link_of n x.name s).tag ≡ (link_of m x.name s).tag
+    same_tag = tags_here x.name
+
+    pub here_tagged : IsHeld m here × AreTagged tag m s (here ∷ [])
+    here_tagged = (o.held_root, ((tagged_right tag m s (nodes o.A) (here ∷ nodes o.B) tags_open).0, tt))
+
+    pub room_here : length items < 45
+    room_here = let a = h.room in let b = ap length h.path_is in let c = path_length fs in let d = ap height o.is in omega arith
+
+    fallen_on : (b : Bool) (k : Stepped b) (v : Pooled T) (last : List (Option Turn)) (gs : List Frame)
+        → HasFallen n v s (side order n s) last x (plug (frame (turn b) k.other ∷ fs) k.sub) gs → HasFallen m v s R last x (plug fs t) gs
+    fallen_on b k v last gs f =
+        let whole : plug fs t ≡ plug fs (forked b k.sub here k.other) = ap (plug fs) k.is in record {
+          path_is = f.path_is;
+          whole_is = f.whole_is ∙ sym whole;
+          alone = f.alone;
+          above = f.above;
+          beside = f.beside;
+          places = λ u p. subst (λ (z : Shape × (Ref → Ref → Ordering)). IsPutIn (z.1 x) x (nodes z.0) (nodes (plug gs u)))
+              (λ j. (sym whole j, same j)) (f.places u (subst (λ (Q : Ref → Ref → Ordering). IsPutIn (Q x) x [] (nodes u)) (sym same) p));
+          keeps = keeps_then s m n v (here ∷ []) (nodes (plug fs (forked b k.sub here k.other))) (nodes (plug fs t)) keeps_here f.keeps
+              (λ j out. (
+                ((out_right j (nodes o.A) (here ∷ nodes o.B) (subst (λ z. IsOut j (nodes z)) o.is (plug_out fs t j out))).0, tt),
+                subst (λ z. IsOut j (nodes z)) whole out,
+              ));
+          tags = λ j. f.tags j ∙ tags_here j;
+        }
+
+    pub next_fall : {new : List (Option Turn)} {next : Option Ref} {k : Ordering} {b : Bool} → side order m s x here ≡ k → b ≡ is_lt k
+        → new ≡ items ++ Some (record { node = here; left = b }) ∷ [] → next ≡ cond b y.back y.forth → NextFall m n s order tag new at next x fs t
+    next_fall {new} {next} {k} {b} f g p q = let st = stepped k b f g in record {
+      gs = frame (turn b) st.other ∷ fs;
+      sub = st.sub;
+      falls = subst (λ (z : List (Option Turn) × Option Ref). Falls n s (side order n s) tag z.0 z.1 x (frame (turn b) st.other ∷ fs) st.sub)
+          (λ j. (sym p j, sym q j)) st.falls;
+      lower = subst (λ z. height_at n s z < height_at m s at) (sym q) st.lower;
+      fallen = fallen_on b st;
+    }
+
+  -- from the way down to the way up, and the whole
+  module _ {m n : Pooled T} {s : ℕ} {R : Ref → Ref → Ordering} {items : List (Option Turn)} {at : Option Ref}
+      {x : Ref} {t : Shape} (c : CanPut m s R at x t) {gs : List Frame} (f : HasFallen m n s R items x t gs) where
+    placed : IsPutIn (R x) x (nodes t) (nodes (plug gs (Fork Tip x Tip)))
+    placed = f.places (Fork Tip x Tip) (leaf_put R x)
+
+    pub climbs_start : Climbs n s at (Some x) items gs None 0 (Fork Tip x Tip)
+    climbs_start =
+        let fits = c.fits in let a = size-nodes (plug gs (Fork Tip x Tip)) in
+        let b = put_length R x (nodes t) (nodes (plug gs (Fork Tip x Tip))) placed in
+        let d = size-nodes t in
+        record {
+          path_is = f.path_is;
+          above = f.above;
+          beside = f.beside;
+          rooted = f.alone;
+          even = ((omega arith, omega arith), tt, tt);
+          near = (omega arith, omega arith);
+          apart = put_apart R x (nodes t) (nodes (plug gs (Fork Tip x Tip))) placed c.apart c.out;
+          fits = omega arith;
+          root_is = root_top at gs (c.rooted.root ∙ ap top (sym f.whole_is));
+        }
+
+    pub has_put : {v : Pooled T} {root : Option Ref} {u : Shape} → HasClimbed n v s (plug gs (Fork Tip x Tip)) root u → HasPut m v s R x t root u
+    has_put {v} {u = u} d = record {
+      rooted = d.rooted;
+      even = d.even;
+      placed = subst (IsPutIn (R x) x (nodes t)) (sym d.nodes_are) placed;
+      keeps = keeps_then s m n v (nodes t) (nodes (plug gs (Fork Tip x Tip))) (x ∷ nodes t) f.keeps d.keeps
+          (λ k out. (out.1, put_out k R x (nodes t) (nodes (plug gs (Fork Tip x Tip))) placed out));
+      tags = λ k. d.tags k ∙ f.tags k;
+    }
