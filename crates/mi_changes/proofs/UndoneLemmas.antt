@@ -12,20 +12,20 @@ use Rattle.mi_container.specs.Fits.{Ready, KeptBy, Fits}
 use Rattle.mi_container.specs.Run.{Change, changed, inverse_of}
 use Rattle.mi_container.specs.Makes.{Makes, MakesInsert, MakesModify}
 use Rattle.mi_container.proofs.LawLemmas.{change_fits, oldest_is_settled}
-use Rattle.mi_changes.specs.Undone.{Holds}
+use Rattle.mi_changes.specs.Undone.{CanTakeBack}
 
-pub opened : (schema shape : Shape) (d : Data) → shape ≡ schema → d ≡ opened_data schema → Holds schema shape d []
+pub opened : (schema shape : Shape) (d : Data) → shape ≡ schema → d ≡ opened_data schema → CanTakeBack schema shape d []
 opened schema shape d same is = (sym same, [], ap (λ (x : Data). x.kept) is)
 
 -- nothing changed
 pub stays : (schema shape shape' : Shape) (d d' : Data) (is : List Inverse) → shape' ≡ shape → d' ≡ d
-    → Holds schema shape d is → Holds schema shape' d' is
+    → CanTakeBack schema shape d is → CanTakeBack schema shape' d' is
 stays schema shape shape' d d' is same was holds =
-    subst (λ s. Holds schema s d' is) (sym same) (subst (λ x. Holds schema shape x is) (sym was) holds)
+    subst (λ s. CanTakeBack schema s d' is) (sym same) (subst (λ x. CanTakeBack schema shape x is) (sym was) holds)
 
 -- one change more
 pub makes : (schema shape shape' : Shape) (k : Change) (d d' : Data) (i : Inverse) (is : List Inverse) → IsData shape d → shape' ≡ shape
-    → Makes shape k d i d' → Holds schema shape d is → Holds schema shape' d' (is ++ i ∷ [])
+    → Makes shape k d i d' → CanTakeBack schema shape d is → CanTakeBack schema shape' d' (is ++ i ∷ [])
 makes schema shape shape' k d d' i is good same made holds =
     let fits : Fits shape (inverse_of k d ∷ reverse is) (table_of d ∷ holds.1) (changed k d) =
     change_fits shape k (reverse is) holds.1 d good made.allowed holds.2 in
@@ -34,15 +34,15 @@ makes schema shape shape' k d d' i is good same made holds =
     (subst (λ x. Fits shape (inverse_of k d ∷ reverse is) (table_of d ∷ holds.1) x) (sym made.changed_data) fits) in
     let fits'' : Fits shape (reverse (is ++ i ∷ [])) (table_of d ∷ holds.1) d' =
     subst (λ js. Fits shape js (table_of d ∷ holds.1) d') (sym (reverse-append is (i ∷ []))) fits' in
-    let more : Holds schema shape d' (is ++ i ∷ []) = (holds.0, table_of d ∷ holds.1, fits'') in
-    subst (λ s. Holds schema s d' (is ++ i ∷ [])) (sym same) more
+    let more : CanTakeBack schema shape d' (is ++ i ∷ []) = (holds.0, table_of d ∷ holds.1, fits'') in
+    subst (λ s. CanTakeBack schema s d' (is ++ i ∷ [])) (sym same) more
 
 pub makes_insert : (schema shape shape' : Shape) (place : Option (ℕ × ℕ)) (row : List Value) (d d' : Data) (i : Inverse) (is : List Inverse) → IsData shape d
-    → shape' ≡ shape → MakesInsert shape place row d i d' → Holds schema shape d is → Holds schema shape' d' (is ++ i ∷ [])
+    → shape' ≡ shape → MakesInsert shape place row d i d' → CanTakeBack schema shape d is → CanTakeBack schema shape' d' (is ++ i ∷ [])
 makes_insert schema shape shape' place row d d' i is good same made holds = makes schema shape shape' _ d d' i is good same made.1 holds
 
 pub makes_modify : (schema shape shape' : Shape) (why : Option (ℕ × ℕ)) (e : ℕ) (d d' : Data) (i : Inverse) (is : List Inverse) → IsData shape d
-    → shape' ≡ shape → MakesModify why shape e d i d' → Holds schema shape d is → Holds schema shape' d' (is ++ i ∷ [])
+    → shape' ≡ shape → MakesModify why shape e d i d' → CanTakeBack schema shape d is → CanTakeBack schema shape' d' (is ++ i ∷ [])
 makes_modify schema shape shape' None e d d' i is good same made holds = makes schema shape shape' _ d d' i is good same made.1 holds
 makes_modify schema shape shape' (Some at) e d d' i is good same made holds = makes schema shape shape' _ d d' i is good same made holds
 
@@ -53,17 +53,18 @@ newest_fits shape i is [] d fits = absurd fits
 newest_fits shape i is (t ∷ ts) d fits = (fits.0, fits.1, ts, fits.3)
 
 turned : (schema shape : Shape) (d : Data) (i : Inverse) (is : List Inverse)
-    → (holds : Holds schema shape d (is ++ i ∷ [])) → Fits shape (i ∷ reverse is) holds.1 d
+    → (holds : CanTakeBack schema shape d (is ++ i ∷ [])) → Fits shape (i ∷ reverse is) holds.1 d
 turned schema shape d i is holds = subst (λ js. Fits shape js holds.1 d) (reverse-append is (i ∷ [])) holds.2
 
-pub newest_ready : (schema shape : Shape) (d : Data) (i : Inverse) (is : List Inverse) → Holds schema shape d (is ++ i ∷ []) → Ready i d
+pub newest_ready : (schema shape : Shape) (d : Data) (i : Inverse) (is : List Inverse) → CanTakeBack schema shape d (is ++ i ∷ []) → Ready i d
 newest_ready schema shape d i is holds = (newest_fits shape i (reverse is) holds.1 d (turned schema shape d i is holds)).0
 
-pub newest_data : (schema shape : Shape) (d : Data) (i : Inverse) (is : List Inverse) → Holds schema shape d (is ++ i ∷ []) → IsData shape (taken_back i d)
+pub newest_data : (schema shape : Shape) (d : Data) (i : Inverse) (is : List Inverse) → CanTakeBack schema shape d (is ++ i ∷ [])
+    → IsData shape (taken_back i d)
 newest_data schema shape d i is holds = (newest_fits shape i (reverse is) holds.1 d (turned schema shape d i is holds)).1
 
 pub newest_back : (schema shape shape' : Shape) (d d' : Data) (i : Inverse) (is : List Inverse) → shape' ≡ shape → d' ≡ taken_back i d
-    → Holds schema shape d (is ++ i ∷ []) → Holds schema shape' d' is
+    → CanTakeBack schema shape d (is ++ i ∷ []) → CanTakeBack schema shape' d' is
 newest_back schema shape shape' d d' i is same back holds =
     let rest = newest_fits shape i (reverse is) holds.1 d (turned schema shape d i is holds) in
     stays schema shape shape' (taken_back i d) d' is same back (holds.0, rest.2, rest.3)
@@ -79,7 +80,7 @@ tables_split shape f (i ∷ is) (t ∷ ts) d fits =
     let split = tables_split shape f is ts (taken_back i d) fits.3 in
     (t ∷ split.0, split.1, ap (λ us. t ∷ us) split.2)
 
-oldest : (schema shape : Shape) (d : Data) (f : Inverse) (is : List Inverse) → IsData shape d → Holds schema shape d (f ∷ is)
+oldest : (schema shape : Shape) (d : Data) (f : Inverse) (is : List Inverse) → IsData shape d → CanTakeBack schema shape d (f ∷ is)
     → KeptBy f d × (newer : List Table) × Fits shape (reverse is) newer (settled f d)
 oldest schema shape d f is good holds =
     let fits : Fits shape (reverse is ++ f ∷ []) holds.1 d = subst (λ js. Fits shape js holds.1 d) (reverse-append (f ∷ []) is) holds.2 in
@@ -87,11 +88,11 @@ oldest schema shape d f is good holds =
     let law = oldest_is_settled shape f (reverse is) split.1 split.0 d good (subst (λ ts. Fits shape (reverse is ++ f ∷ []) ts d) split.2 fits) in
     (law.0, split.0, law.3)
 
-pub oldest_kept : (schema shape : Shape) (d : Data) (f : Inverse) (is : List Inverse) → IsData shape d → Holds schema shape d (f ∷ is) → KeptBy f d
+pub oldest_kept : (schema shape : Shape) (d : Data) (f : Inverse) (is : List Inverse) → IsData shape d → CanTakeBack schema shape d (f ∷ is) → KeptBy f d
 oldest_kept schema shape d f is good holds = (oldest schema shape d f is good holds).0
 
 pub oldest_settled : (schema shape shape' : Shape) (d d' : Data) (f : Inverse) (is : List Inverse) → IsData shape d → shape' ≡ shape → d' ≡ settled f d
-    → Holds schema shape d (f ∷ is) → Holds schema shape' d' is
+    → CanTakeBack schema shape d (f ∷ is) → CanTakeBack schema shape' d' is
 oldest_settled schema shape shape' d d' f is good same settles holds =
     let rest = oldest schema shape d f is good holds in
     stays schema shape shape' (settled f d) d' is same settles (holds.0, rest.1, rest.2)

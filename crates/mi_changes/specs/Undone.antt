@@ -7,5 +7,5 @@ use Rattle.mi_container.specs.Inverse.{Inverse}
 use Rattle.mi_container.specs.Fits.{Fits}
 
 -- the schema is the container's, and the inverses, the oldest first, fit its data
-abbrev pub Holds : Shape → Shape → Data → List Inverse → Type 0
-Holds schema shape d inverses = (schema ≡ shape) × (ts : List Table) × Fits shape (reverse inverses) ts d
+abbrev pub CanTakeBack : Shape → Shape → Data → List Inverse → Type 0
+CanTakeBack schema shape d inverses = (schema ≡ shape) × (ts : List Table) × Fits shape (reverse inverses) ts d

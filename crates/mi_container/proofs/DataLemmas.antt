@@ -23,7 +23,7 @@ use Rattle.mi_container.specs.Data.Order.{ById, ByKey, ByHash, Listed}
 use Rattle.mi_container.specs.Changes.{left_out, with_content, new_content, in_order, new_stamp, new_node, orders_with}
 use Rattle.mi_container.specs.Changes.{inserted, replaced, kept_node, erased_node, erased, moved_order, relocated_in}
 use Rattle.mi_container.specs.Inverse.{id_named}
-use Rattle.mi_container.specs.Fits.{IsThere, IsListed}
+use Rattle.mi_container.specs.Fits.{IsThere, HasOwnList}
 use Rattle.mi_container.specs.Run.{PlaceFits}
 use Rattle.mi_container.proofs.PairLemmas.{none_some, some_is, lookup_out, lookup_out_same, lookup_push}
 use Rattle.mi_container.proofs.PairLemmas.{lookup_push_same, lookup_entered, climbs_more, climbs_some, climbs_entered}
@@ -246,7 +246,7 @@ is_data_erased s e d is there =
 -- Relocate
 
 pub is_data_relocated : (s : Shape) (x e : ℕ) (b : Option ℕ) (d : Data) → IsData s d
-    → IsThere d.rows e → IsListed (get_or d.orders x ById) → IsData s (relocated_in x e b d)
+    → IsThere d.rows e → HasOwnList (get_or d.orders x ById) → IsData s (relocated_in x e b d)
 is_data_relocated s x e b d is there l =
     record {
       table = subst (IsTable s) (sym (table_relocated x e b d l)) (is_table_relocate s x e b (table_of d) (has_there d e there) is.table);

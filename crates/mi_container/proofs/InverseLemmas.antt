@@ -19,7 +19,7 @@ use Rattle.mi_container.specs.Changes.{replaced, next_in, link_in, links_from, k
 use Rattle.mi_container.specs.Inverse.{RowRef, at_in, row_ref, insert_inverse, old_places, old_of, old_content, put_inverse, erase_inverse}
 use Rattle.mi_container.specs.Inverse.{next_in_order, moved_back, relocate_inverse, relinked, returned, stamps_back, taken_back}
 use Rattle.mi_container.specs.Inverse.Inverse.{Nothing}
-use Rattle.mi_container.specs.Fits.{IsNot, IsThere, IsLive, IsOther, IsListed, AllMeet, PlacesMeet, Ready}
+use Rattle.mi_container.specs.Fits.{IsNot, IsThere, IsLive, IsOther, HasOwnList, AllMeet, PlacesMeet, Ready}
 use Rattle.mi_container.proofs.PairLemmas.{lookup_push_same, lookup_entered_same, out_push, out_entered, entered_back}
 use Rattle.mi_container.proofs.ContentLemmas.{content_back, node_with}
 use Rattle.mi_container.proofs.SequenceLemmas.{OfList, of_one, orders_back, order_back, moved_same, relinked_back, relocated_back, next_is_other, OtherThere}
@@ -148,7 +148,7 @@ ids_again rows None = refl
 ids_again rows (Some b) = refl
 
 relocated_list : (x e : ℕ) (b : Option ℕ) (rows : List (ℕ × Node)) (os : List Order) (o : Order)
-    → get_or os x ById ≡ o → IsListed o → IsNot e b → OfList (Stands rows e) o
+    → get_or os x ById ≡ o → HasOwnList o → IsNot e b → OfList (Stands rows e) o
     → moved_order x (λ ids. stand (next_in_order e o) e (without e ids)) (moved_order x (relocated b e) os) ≡ os
 relocated_list x e b rows os ById is l isnt stands = absurd l
 relocated_list x e b rows os (ByKey ps) is l isnt stands = absurd l
@@ -157,7 +157,7 @@ relocated_list x e b rows os (Listed ids) is l isnt stands =
     order_back (λ js. stand (next_in e ids) e (without e js)) (relocated b e) os x
     (subst (OfList (λ js. stand (next_in e ids) e (without e (relocated b e js)) ≡ js)) (sym is) (relocated_back rows e b ids isnt stands))
 
-listed_again : (s : Shape) (x e : ℕ) (b : Option ℕ) (d : Data) → IsData s d → IsThere d.rows e → IsListed (get_or d.orders x ById) → IsNot e b
+listed_again : (s : Shape) (x e : ℕ) (b : Option ℕ) (d : Data) → IsData s d → IsThere d.rows e → HasOwnList (get_or d.orders x ById) → IsNot e b
     → taken_back (moved_back x e d) (relocated_in x e b d) ≡ d
 listed_again s x e b d is there l isnt =
     let o : Order = get_or d.orders x ById in
@@ -174,7 +174,7 @@ every P f (ByKey ps) = tt
 every P f (ByHash ps) = tt
 every P f (Listed ids) = f ids
 
-pub relocate_back : (s : Shape) (x e : ℕ) (b : Option ℕ) (d : Data) → IsData s d → IsThere d.rows e → IsListed (get_or d.orders x ById)
+pub relocate_back : (s : Shape) (x e : ℕ) (b : Option ℕ) (d : Data) → IsData s d → IsThere d.rows e → HasOwnList (get_or d.orders x ById)
     → taken_back (relocate_inverse x e b d) (relocated_in x e b d) ≡ d
 relocate_back s x e None d is there l = listed_again s x e None d is there l tt
 relocate_back s x e (Some b) d is there l =
@@ -189,7 +189,7 @@ relocate_back s x e (Some b) d is there l =
     ap (λ t. taken_back (cond t Nothing (moved_back x e d)) (relocated_in x e (Some b) d)) isnt
     ∙ listed_again s x e (Some b) d is there l (eqb-false b e isnt))
 
-listed_still : (f : List ℕ → List ℕ) (os : List Order) (x : ℕ) → IsListed (get_or os x ById) → IsListed (get_or (moved_order x f os) x ById)
+listed_still : (f : List ℕ → List ℕ) (os : List Order) (x : ℕ) → HasOwnList (get_or os x ById) → HasOwnList (get_or (moved_order x f os) x ById)
 listed_still f [] x l = l
 listed_still f (ById ∷ os) zero l = l
 listed_still f (ByKey ps ∷ os) zero l = l
@@ -201,14 +201,14 @@ other_ref : (rows : List (ℕ × Node)) (e : ℕ) (o : Option ℕ) → OtherTher
 other_ref rows e None other = tt
 other_ref rows e (Some b) other = (live_ref rows b other.0, other.1)
 
-other_here : (rows : List (ℕ × Node)) (e : ℕ) (o : Order) → IsListed o → OfList (Stands rows e) o → OtherThere rows e (next_in_order e o)
+other_here : (rows : List (ℕ × Node)) (e : ℕ) (o : Order) → HasOwnList o → OfList (Stands rows e) o → OtherThere rows e (next_in_order e o)
 other_here rows e ById l stands = absurd l
 other_here rows e (ByKey ps) l stands = absurd l
 other_here rows e (ByHash ps) l stands = absurd l
 other_here rows e (Listed ids) l stands = next_is_other rows e ids stands.0 stands.1
 
 moved_ready : (s : Shape) (x e : ℕ) (b : Option ℕ) (d : Data) → IsData s d → IsThere d.rows e
-    → IsListed (get_or d.orders x ById) → Ready (moved_back x e d) (relocated_in x e b d)
+    → HasOwnList (get_or d.orders x ById) → Ready (moved_back x e d) (relocated_in x e b d)
 moved_ready s x e b d is there l = (
   live_ref d.rows e there,
   other_ref d.rows e (next_in_order e (get_or d.orders x ById))
@@ -216,7 +216,7 @@ moved_ready s x e b d is there l = (
   listed_still (relocated b e) d.orders x l,
 )
 
-pub relocate_ready : (s : Shape) (x e : ℕ) (b : Option ℕ) (d : Data) → IsData s d → IsThere d.rows e → IsListed (get_or d.orders x ById)
+pub relocate_ready : (s : Shape) (x e : ℕ) (b : Option ℕ) (d : Data) → IsData s d → IsThere d.rows e → HasOwnList (get_or d.orders x ById)
     → Ready (relocate_inverse x e b d) (relocated_in x e b d)
 relocate_ready s x e None d is there l = moved_ready s x e None d is there l
 relocate_ready s x e (Some b) d is there l =

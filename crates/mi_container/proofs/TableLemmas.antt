@@ -23,7 +23,7 @@ use Rattle.mi_container.specs.Data.{ids_by_stamp, listed, lists_from, shown_row,
 use Rattle.mi_container.specs.Data.Order.{ById, ByKey, ByHash, Listed}
 use Rattle.mi_container.specs.Changes.{left_out, with_content, new_content, in_order, new_stamp, new_node, orders_with}
 use Rattle.mi_container.specs.Changes.{inserted, replaced, erased_node, erased, moved_order, relocated_in}
-use Rattle.mi_container.specs.Fits.{IsThere, IsListed}
+use Rattle.mi_container.specs.Fits.{IsThere, HasOwnList}
 use Rattle.mi_container.specs.Run.{PlaceFits}
 use Rattle.mi_container.proofs.StampLemmas.{new_at}
 use Rattle.mi_container.proofs.InvariantLemmas.{rows_climb, no_next, lookup_shown, stamp_early, stamps_long}
@@ -48,14 +48,14 @@ lists_changed rows other f x (o ∷ os) each =
     λ i. here i ∷ rest i
 
 -- and one of them, a list of its own, by another
-one_set : (rows other : List (ℕ × Node)) (g : List ℕ → List ℕ) (x : ℕ) (o : Order) → IsListed o → listed x other (in_order g o) ≡ g (listed x rows o)
+one_set : (rows other : List (ℕ × Node)) (g : List ℕ → List ℕ) (x : ℕ) (o : Order) → HasOwnList o → listed x other (in_order g o) ≡ g (listed x rows o)
 one_set rows other g x ById is = absurd is
 one_set rows other g x (ByKey ps) is = absurd is
 one_set rows other g x (ByHash ps) is = absurd is
 one_set rows other g x (Listed ids) is = refl
 
 lists_set : (rows other : List (ℕ × Node)) (f g : List ℕ → List ℕ) (x : ℕ) (os : List Order) (k : ℕ)
-    → ((j : ℕ) → j < length os → Becomes rows other f (x + j) (get_or os j ById)) → IsListed (get_or os k ById)
+    → ((j : ℕ) → j < length os → Becomes rows other f (x + j) (get_or os j ById)) → HasOwnList (get_or os k ById)
     → lists_from x other (set (map (in_order f) os) k (in_order g (get_or os k ById)))
     ≡ set (map f (lists_from x rows os)) k (g (get_or (lists_from x rows os) k []))
 lists_set rows other f g x [] k each is = absurd is
@@ -75,7 +75,7 @@ lists_set rows other f g x (o ∷ os) (suc k) each is =
     is in
     λ i. here i ∷ rest i
 
-lists_moved : (rows : List (ℕ × Node)) (g : List ℕ → List ℕ) (x : ℕ) (os : List Order) (k : ℕ) → IsListed (get_or os k ById)
+lists_moved : (rows : List (ℕ × Node)) (g : List ℕ → List ℕ) (x : ℕ) (os : List Order) (k : ℕ) → HasOwnList (get_or os k ById)
     → lists_from x rows (moved_order k g os) ≡ set (lists_from x rows os) k (g (get_or (lists_from x rows os) k []))
 lists_moved rows g x [] k is = absurd is
 lists_moved rows g x (o ∷ os) zero is = ap (λ q. q ∷ lists_from (suc x) rows os) (one_set rows rows g x o is)
@@ -228,7 +228,7 @@ table_replaced s e r d is there =
 
 -- Relocate
 
-pub table_relocated : (x e : ℕ) (b : Option ℕ) (d : Data) → IsListed (get_or d.orders x ById) → table_of (relocated_in x e b d) ≡ relocate x e b (table_of d)
+pub table_relocated : (x e : ℕ) (b : Option ℕ) (d : Data) → HasOwnList (get_or d.orders x ById) → table_of (relocated_in x e b d) ≡ relocate x e b (table_of d)
 table_relocated x e b d is =
     let lists = lists_moved d.rows (relocated b e) 0 d.orders x is in
     λ i. record { rows = map shown_row d.rows; lists = lists i; next = d.next; arrivals = d.arrivals }

@@ -69,18 +69,18 @@ abbrev pub IsOther : List (ℕ × Node) → ℕ → Option RowRef → Type 0
 IsOther rows e None = Unit {0}
 IsOther rows e (Some b) = IsLive rows b × (b.id ≢ e)
 
-abbrev pub IsListed : Order → Type 0
-IsListed ById = ⊥
-IsListed (ByKey ps) = ⊥
-IsListed (ByHash ps) = ⊥
-IsListed (Listed ids) = Unit {0}
+abbrev pub HasOwnList : Order → Type 0
+HasOwnList ById = ⊥
+HasOwnList (ByKey ps) = ⊥
+HasOwnList (ByHash ps) = ⊥
+HasOwnList (Listed ids) = Unit {0}
 
 -- what the call that takes an inverse back asks for
 abbrev pub Ready : Inverse → Data → Type 0
 Ready (Inserted r) d = IsLive d.rows r × (d.next ≡ r.id + 1) × (0 < d.arrivals)
 Ready (Put r old) d = IsLive d.rows r × (0 < d.arrivals) × PlacesMeet 0 d.rows (content_of d.rows r.id).values old.values old.places d.orders
 Ready (Erased r why) d = (k : IsKept d.kept r) × AllMeet 0 d.rows k.0.node.content k.0.links d.orders
-Ready (Relocated x r b) d = IsLive d.rows r × IsOther d.rows r.id b × IsListed (order_at d.orders x)
+Ready (Relocated x r b) d = IsLive d.rows r × IsOther d.rows r.id b × HasOwnList (order_at d.orders x)
 Ready Nothing d = Unit {0}
 
 -- the node that an inverse keeps, if any, is kept: what the call that settles it asks for

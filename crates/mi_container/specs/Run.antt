@@ -11,7 +11,7 @@ use Rattle.mi_node.specs.Refs.{Ref}
 use Rattle.mi_container.specs.Data.{Order, Data, order_at, table_of}
 use Rattle.mi_container.specs.Changes.{inserted, replaced, erased, relocated_in}
 use Rattle.mi_container.specs.Inverse.{Inverse, insert_inverse, put_inverse, erase_inverse, relocate_inverse, id_named, taken_back}
-use Rattle.mi_container.specs.Fits.{IsThere, IsListed}
+use Rattle.mi_container.specs.Fits.{IsThere, HasOwnList}
 
 -- an accepted change; an insert has the reference of its node, an erase may be a modify that lost its row to an index and id
 pub data Change : Type 0 where
@@ -42,14 +42,14 @@ table_changed s (Relocate x e b) t = relocate x e b t
 -- a place that is given is in an index with a list of its own
 abbrev pub PlaceFits : Option (ℕ × ℕ) → List Order → Type 0
 PlaceFits None os = Unit {0}
-PlaceFits (Some p) os = IsListed (order_at os p.0)
+PlaceFits (Some p) os = HasOwnList (order_at os p.0)
 
 -- what is asked of a change: a new node, no conflict, a row that is there, an index with a list of its own
 abbrev pub Allowed : Shape → Change → Data → Type 0
 Allowed s (Insert p at r) d = PlaceFits p d.orders × (id_named at.name d.rows ≡ None) × (conflict s (table_of d) r None ≡ None)
 Allowed s (Replace e r) d = IsThere d.rows e × (conflict s (table_of d) r (Some e) ≡ None)
 Allowed s (Erase e why) d = IsThere d.rows e
-Allowed s (Relocate x e b) d = IsThere d.rows e × IsListed (order_at d.orders x)
+Allowed s (Relocate x e b) d = IsThere d.rows e × HasOwnList (order_at d.orders x)
 
 -- Runs
 

@@ -17,17 +17,17 @@ use Rattle.mi_container.specs.Run.{Change}
 use Rattle.mi_container.specs.Makes.{Makes}
 use Rattle.mi_journal.specs.Noted.{Noted, noted}
 use Rattle.mi_database.specs.Journal.{data_at, state_of}
-use Rattle.mi_database.specs.Held.{Held, meaning, IsHeld, with_room, kept_datas}
+use Rattle.mi_database.specs.LinkedData.{LinkedData, meaning, IsLinkedData, with_room, kept_datas}
 use Rattle.mi_database.specs.Kept.{kept_rows, KeptRefused}
-use Rattle.mi_database.proofs.LinkedDataLemmas.{Made, made_held, made_keeps}
-use Rattle.mi_database.proofs.LoopLemmas.{held}
+use Rattle.mi_database.proofs.LinkedDataLemmas.{Made, made_linked, made_keeps}
+use Rattle.mi_database.proofs.LoopLemmas.{linked_data}
 use Rattle.mi_database.proofs.StateLemmas.{within_containers, lift_made, lift_refused, refused_held}
 use Rattle.mi_database.proofs.KeptLemmas.{plain_keeps, kept_refusal}
 
 -- the container k of table n, where all else but room is as in the old database
 pub record Spot {X : Type 0} (shape : X → Shape) (plain : X → Data) (c : CatalogShape) (cs : List X) (j : Noted Inverse) (r n : ℕ) (k : X)
-    (old : Held) : Type 0 where
-  pub is : IsHeld (map shape cs) (held c (map plain cs) j.sessions r j.changes j.starts)
+    (old : LinkedData) : Type 0 where
+  pub is : IsLinkedData (map shape cs) (linked_data c (map plain cs) j.sessions r j.changes j.starts)
   pub state : state_of c (map plain cs) j.sessions r ≡ meaning old
   pub journal : j.sessions ≡ old.journal
   pub listed : n < length c.tables
@@ -35,21 +35,21 @@ pub record Spot {X : Type 0} (shape : X → Shape) (plain : X → Data) (c : Cat
   pub there : k ≡ get_or cs n k
 
 module _ {X : Type 0} (shape : X → Shape) (plain : X → Data) {c : CatalogShape} {cs : List X} {j : Noted Inverse} {r n : ℕ} {k : X} where
-  pub spot : (old : Held) (changes starts : ℕ) → IsHeld (map shape cs) (held c (map plain cs) j.sessions r j.changes j.starts)
-      → held c (map plain cs) j.sessions r j.changes j.starts ≡ with_room changes starts old → n < length old.catalog.tables → k ≡ get_or cs n k
+  pub spot : (old : LinkedData) (changes starts : ℕ) → IsLinkedData (map shape cs) (linked_data c (map plain cs) j.sessions r j.changes j.starts)
+      → linked_data c (map plain cs) j.sessions r j.changes j.starts ≡ with_room changes starts old → n < length old.catalog.tables → k ≡ get_or cs n k
       → Spot shape plain c cs j r n k old
   spot old changes starts is same listed there =
-      let within : n < length c.tables = subst (λ (h : Held). n < length h.catalog.tables) (sym same) listed in
+      let within : n < length c.tables = subst (λ (h : LinkedData). n < length h.catalog.tables) (sym same) listed in
       record {
         is = is;
         state = ap meaning same;
-        journal = ap (λ (h : Held). h.journal) same;
+        journal = ap (λ (h : LinkedData). h.journal) same;
         listed = within;
         within = within_containers shape plain c cs j.sessions r j.changes j.starts n is within;
         there = there;
       }
 
-module _ {X : Type 0} (shape : X → Shape) (plain : X → Data) {c : CatalogShape} {cs : List X} {j : Noted Inverse} {r n : ℕ} {k : X} {old : Held} where
+module _ {X : Type 0} (shape : X → Shape) (plain : X → Data) {c : CatalogShape} {cs : List X} {j : Noted Inverse} {r n : ℕ} {k : X} {old : LinkedData} where
   -- what the inverse of a change keeps is kept
   pub spot_keeps : Spot shape plain c cs j r n k old → (k' : X) (i : Inverse) → (change : Change) × Makes (shape k) change (plain k) i (plain k')
       → KeptBy i (data_at (map plain (set cs n k')) n)
@@ -64,8 +64,8 @@ module _ {X : Type 0} (shape : X → Shape) (plain : X → Data) {c : CatalogSha
         record { within = s.within; was = s.there; same = same; change = makes.0; makes = makes.1; datas = datas; shapes = shapes; journal = journal }
 
     pub spot_held : Made shape plain cs after n k k' i j.sessions next.sessions
-        → IsHeld (map shape after) (held c (map plain after) next.sessions r next.changes next.starts)
-    spot_held made = made_held shape plain c cs after n k k' i j.sessions next.sessions r j.changes j.starts _ _ made s.is
+        → IsLinkedData (map shape after) (linked_data c (map plain after) next.sessions r next.changes next.starts)
+    spot_held made = made_linked shape plain c cs after n k k' i j.sessions next.sessions r j.changes j.starts _ _ made s.is
 
     pub spot_outcome : {A : Type 0} (f : Shape → Table → Outcome A) (a : Result A Refusal) → Made shape plain cs after n k k' i j.sessions next.sessions
         → Meets (f (shape k) (table_of (plain k))) a (table_of (plain k)) (table_of (plain k'))
@@ -75,14 +75,14 @@ module _ {X : Type 0} (shape : X → Shape) (plain : X → Data) {c : CatalogSha
 
     -- one that keeps no node
     pub spot_plain : keeps i ≡ None → next.sessions ≡ noted (n, i) j.sessions
-        → kept_rows (held c (map plain after) next.sessions r next.changes next.starts) ≡ kept_more [] (kept_rows old)
-    spot_plain none journal = plain_keeps n old (held c (map plain after) next.sessions r next.changes next.starts) i none
+        → kept_rows (linked_data c (map plain after) next.sessions r next.changes next.starts) ≡ kept_more [] (kept_rows old)
+    spot_plain none journal = plain_keeps n old (linked_data c (map plain after) next.sessions r next.changes next.starts) i none
         (journal ∙ ap (noted (n, i)) s.journal)
 
   -- the change is refused
   module _ (s : Spot shape plain c cs j r n k old) (k' : X) where
     pub spot_stays : plain k' ≡ plain k → shape k' ≡ shape k
-        → IsHeld (map shape (set cs n k')) (held c (map plain (set cs n k')) j.sessions r j.changes j.starts)
+        → IsLinkedData (map shape (set cs n k')) (linked_data c (map plain (set cs n k')) j.sessions r j.changes j.starts)
     spot_stays same shapes = refused_held shape plain c cs n k k' j.sessions r j.changes j.starts s.is s.listed s.there same shapes
 
     pub spot_refused : {A : Type 0} (f : Shape → Table → Outcome A) (a : Result A Refusal) → plain k' ≡ plain k
@@ -92,5 +92,5 @@ module _ {X : Type 0} (shape : X → Shape) (plain : X → Data) {c : CatalogSha
         (meaning old) s.is s.listed s.there same meets s.state
 
     pub spot_unkept : (command : Command) (e : Refusal) → kept_after command (meaning old) (kept_rows old) ≡ kept_rows old
-        → KeptRefused command e old (held c (map plain (set cs n k')) j.sessions r j.changes j.starts)
-    spot_unkept command e stays = kept_refusal command e old (held c (map plain (set cs n k')) j.sessions r j.changes j.starts) s.journal stays
+        → KeptRefused command e old (linked_data c (map plain (set cs n k')) j.sessions r j.changes j.starts)
+    spot_unkept command e stays = kept_refusal command e old (linked_data c (map plain (set cs n k')) j.sessions r j.changes j.starts) s.journal stays

@@ -17,11 +17,11 @@ use Rattle.mi_model.proofs.TableLaws.{not_same}
 use Rattle.mi_container.specs.Data.{Data, table_of, IsData}
 use Rattle.mi_database.specs.Journal.{Entry, Journal, data_at, old_of, unwound, tables_of, state_of, IsLinked}
 use Rattle.mi_database.proofs.JournalLemmas.{length-old, length-unwound, linked_undone, linked_joined, state_joined}
-use Rattle.mi_database.specs.Held.{Held, meaning, IsHeld, newer_than_oldest, EndsOldest}
-use Rattle.mi_database.proofs.LoopLemmas.{held}
+use Rattle.mi_database.specs.LinkedData.{LinkedData, meaning, IsLinkedData, newer_than_oldest, EndsOldest}
+use Rattle.mi_database.proofs.LoopLemmas.{linked_data}
 
 -- the n oldest sessions ended
-pub record Ending (n : ℕ) (first now : Held) : Type 0 where
+pub record Ending (n : ℕ) (first now : LinkedData) : Type 0 where
   pub catalog : now.catalog ≡ first.catalog
   pub revision : now.revision ≡ first.revision
   pub journal : now.journal ≡ take (length first.journal - n) first.journal
@@ -30,7 +30,7 @@ pub record Ending (n : ℕ) (first now : Held) : Type 0 where
   pub changes : first.changes ≤ now.changes
   pub starts : first.starts ≤ now.starts
 
-pub ending_from : (h : Held) → Ending 0 h h
+pub ending_from : (h : LinkedData) → Ending 0 h h
 ending_from h =
     let all : length h.journal - 0 ≡ length h.journal = omega arith in
     let long : length (old_of h.datas h.journal) ≡ length h.journal = length-old h.journal h.datas in
@@ -50,7 +50,7 @@ newer_take k xs now is le =
     let long : length now ≡ k = ap length is ∙ length-take-le k xs le in
     ap₂ (λ n q. take (n - 1) q) long is ∙ take-take (k - 1) k xs (omega arith)
 
-pub ending_more : (n : ℕ) (first now next : Held) → Ending n first now → EndsOldest now next → Ending (n + 1) first next
+pub ending_more : (n : ℕ) (first now next : LinkedData) → Ending n first now → EndsOldest now next → Ending (n + 1) first next
 ending_more n first now next e ends =
     let d : ℕ = length first.journal in
     let less : (d - n) - 1 ≡ d - (n + 1) = omega arith in
@@ -71,13 +71,13 @@ ending_more n first now next e ends =
     }
 
 -- while fewer than all have ended one is open
-pub some_open : (n : ℕ) (first now : Held) → Ending n first now → n < length first.journal → 0 < length now.journal
+pub some_open : (n : ℕ) (first now : LinkedData) → Ending n first now → n < length first.journal → 0 < length now.journal
 some_open n first now e l =
     let long : length now.journal ≡ length first.journal - n = ap length e.journal ∙ length-take-le (length first.journal - n) first.journal (omega arith) in
     omega (arith, long)
 
 -- a commit, as the code comes to the number of sessions that end
-pub ended_all : (n x open_ : ℕ) (first now : Held) → Ending n first now → open_ ≡ length first.journal → n ≡ min (x - (first.revision - open_)) open_
+pub ended_all : (n x open_ : ℕ) (first now : LinkedData) → Ending n first now → open_ ≡ length first.journal → n ≡ min (x - (first.revision - open_)) open_
     → length first.journal ≤ first.revision
     → (n ≡ ending x (meaning first)) × (meaning now ≡ committed x (meaning first))
 ended_all n x open_ first now e all is le =
@@ -125,8 +125,8 @@ old_tables c (es ∷ older) ds same is =
     let long : length (unwound es ds) ≡ length c.tables = length-unwound es ds ∙ same in
     (all_tables c (unwound es ds) long back.each, old_tables c older (unwound es ds) long back)
 
-pub held_database : (ss : List Shape) (h : Held) → IsHeld ss h → IsDatabase (meaning h)
-held_database ss h is =
+pub is_database : (ss : List Shape) (h : LinkedData) → IsLinkedData ss h → IsDatabase (meaning h)
+is_database ss h is =
     let long : length (old_of h.datas h.journal) ≡ length h.journal = length-old h.journal h.datas in
     let numbered = is.numbered in
     record {
@@ -138,7 +138,7 @@ held_database ss h is =
 
 -- Start and squash
 
-pub start_full : (h : Held) → h.revision ≢ LAST_COUNT → length h.journal ≡ MAX_SESSIONS → start_step (meaning h) ≡ (Err Depth, meaning h)
+pub start_full : (h : LinkedData) → h.revision ≢ LAST_COUNT → length h.journal ≡ MAX_SESSIONS → start_step (meaning h) ≡ (Err Depth, meaning h)
 start_full h low full =
     let d : Database = meaning h in
     let long : length d.old ≡ MAX_SESSIONS = length-old h.journal h.datas ∙ full in
@@ -146,7 +146,8 @@ start_full h low full =
     (not_same h.revision LAST_COUNT low)
     ∙ ap (λ n. cond {A = Result ℕ Refusal × Database} (n == MAX_SESSIONS) (Err Depth, d) (Ok (d.revision + 1), started d)) long
 
-pub start_opens : (h : Held) → h.revision ≢ LAST_COUNT → length h.journal ≢ MAX_SESSIONS → start_step (meaning h) ≡ (Ok (h.revision + 1), started (meaning h))
+pub start_opens : (h : LinkedData) → h.revision ≢ LAST_COUNT → length h.journal ≢ MAX_SESSIONS
+    → start_step (meaning h) ≡ (Ok (h.revision + 1), started (meaning h))
 start_opens h low few =
     let d : Database = meaning h in
     let long : length d.old ≡ length h.journal = length-old h.journal h.datas in
@@ -173,7 +174,8 @@ pub two_open : (j : Journal) → length j ≢ 0 → length j ≢ 1 → TwoAreOpe
 two_open j some more = let two : (newest : List Entry) × (below : List Entry) × (older : Journal) × (j ≡ newest ∷ below ∷ older) = two_sessions j some more in
     subst TwoAreOpen (sym two.3) tt
 
-alone_at : (c : CatalogShape) (ds : List Data) (es : List Entry) (r changes starts : ℕ) (now : Held) → EndsOldest (held c ds (es ∷ []) r changes starts) now
+alone_at : (c : CatalogShape) (ds : List Data) (es : List Entry) (r changes starts : ℕ) (now : LinkedData)
+    → EndsOldest (linked_data c ds (es ∷ []) r changes starts) now
     → state_of now.catalog now.datas now.journal (now.revision - 1) ≡ squashed (state_of c ds (es ∷ []) r)
 alone_at c ds es r changes starts now ends =
     let catalog = ends.catalog in
@@ -183,21 +185,21 @@ alone_at c ds es r changes starts now ends =
     λ i. record { catalog = catalog i; tables = tables i; old = old i; revision = revision i }
 
 -- the only session ended
-pub squash_alone : (old now : Held) → EndsOldest old now → length old.journal ≡ 1
+pub squash_alone : (old now : LinkedData) → EndsOldest old now → length old.journal ≡ 1
     → (Ok (now.revision - 1) ≡ (squash_step (meaning old)).0) × (state_of now.catalog now.datas now.journal (now.revision - 1) ≡ (squash_step (meaning old)).1)
 squash_alone old now ends one =
     let long : length (old_of old.datas old.journal) ≡ length old.journal = length-old old.journal old.datas in
     let is : squash_step (meaning old) ≡ (Ok (old.revision - 1), squashed (meaning old)) = squash_opens (meaning old) (omega (arith, long, one)) in
     let split : (es : List Entry) × (old.journal ≡ es ∷ []) = one_session old.journal one in
-    let was : old ≡ held old.catalog old.datas (split.0 ∷ []) old.revision old.changes old.starts =
-    ap (λ j. held old.catalog old.datas j old.revision old.changes old.starts) split.1 in
+    let was : old ≡ linked_data old.catalog old.datas (split.0 ∷ []) old.revision old.changes old.starts =
+    ap (λ j. linked_data old.catalog old.datas j old.revision old.changes old.starts) split.1 in
     let state : state_of now.catalog now.datas now.journal (now.revision - 1) ≡ squashed (meaning old) =
-    alone_at old.catalog old.datas split.0 old.revision old.changes old.starts now (subst (λ (h : Held). EndsOldest h now) was ends)
-    ∙ ap (λ (h : Held). squashed (meaning h)) (sym was) in
+    alone_at old.catalog old.datas split.0 old.revision old.changes old.starts now (subst (λ (h : LinkedData). EndsOldest h now) was ends)
+    ∙ ap (λ (h : LinkedData). squashed (meaning h)) (sym was) in
     (ap (λ n. Ok (n - 1)) ends.revision ∙ sym (ap (λ q. q.0) is), state ∙ sym (ap (λ q. q.1) is))
 
 -- the newest joined into the one below
-pub squash_joins : (old : Held) (j' : Journal) → j' ≡ joined old.journal → length old.journal ≢ 0 → length old.journal ≢ 1
+pub squash_joins : (old : LinkedData) (j' : Journal) → j' ≡ joined old.journal → length old.journal ≢ 0 → length old.journal ≢ 1
     → (Ok (old.revision - 1) ≡ (squash_step (meaning old)).0) × (state_of old.catalog old.datas j' (old.revision - 1) ≡ (squash_step (meaning old)).1)
 squash_joins old j' left some more =
     let long : length (old_of old.datas old.journal) ≡ length old.journal = length-old old.journal old.datas in
@@ -210,8 +212,8 @@ squash_joins old j' left some more =
 
 -- and what holds stays
 pub joined_held : (ss : List Shape) (c : CatalogShape) (ds : List Data) (j j' : Journal) (r changes starts changes' starts' : ℕ) → j' ≡ joined j → length j ≢ 0
-    → length j ≢ 1 → IsHeld ss (held c ds j r changes starts)
-    → IsHeld ss (held c ds j' (r - 1) changes' starts')
+    → length j ≢ 1 → IsLinkedData ss (linked_data c ds j r changes starts)
+    → IsLinkedData ss (linked_data c ds j' (r - 1) changes' starts')
 joined_held ss c ds j j' r changes starts changes' starts' left some more is =
     let two : (newest : List Entry) × (below : List Entry) × (older : Journal) × (j ≡ newest ∷ below ∷ older) = two_sessions j some more in
     let new : j' ≡ (two.0 ++ two.1) ∷ two.2 = left ∙ ap joined two.3 in
@@ -228,7 +230,7 @@ joined_held ss c ds j j' r changes starts changes' starts' left some more is =
     }
 
 -- while sessions are undone
-pub record Undoing (left all : ℕ) (first now : Held) : Type 0 where
+pub record Undoing (left all : ℕ) (first now : LinkedData) : Type 0 where
   pub state : undone_times left (meaning now) ≡ undone_times all (meaning first)
   pub open_ : length now.journal ≡ left
   pub changes : first.changes ≤ now.changes

@@ -30,7 +30,7 @@ use Rattle.mi_database.specs.Journal.{Entry, Journal, entries, kept_in, kept_by,
 use Rattle.mi_container.specs.Fits.{kept_id}
 use Rattle.mi_database.proofs.JournalLemmas.{kept_joined, kept_names, length-old}
 use Rattle.mi_journal.specs.Noted.{noted, joined}
-use Rattle.mi_database.specs.Held.{Held, meaning, IsHeld, older_of, newer_than_oldest}
+use Rattle.mi_database.specs.LinkedData.{LinkedData, meaning, IsLinkedData, older_of, newer_than_oldest}
 use Rattle.mi_database.specs.Kept.{kept_rows, KeptAfter, KeptRefused, NodesAreKept, ids_in, ids_at}
 
 in_step : (b : Bool) (a : ℕ) (xs ys : List ℕ) → cond b (a ∷ (xs ++ ys)) (xs ++ ys) ≡ cond b (a ∷ xs) xs ++ ys
@@ -62,7 +62,7 @@ at_kept : (n : ℕ) (j : Journal) → ids_at n (map kept_in j) ≡ kept_at n (en
 at_kept n [] = refl
 at_kept n (es ∷ older) = ap₂ (λ p q. p ++ q) (at_kept n older) (in_kept n es) ∙ sym (kept_at-append n es (entries older))
 
-pub nodes_kept : (ss : List Shape) (h : Held) (n : ℕ) → IsHeld ss h → n < length h.datas → NodesAreKept h n
+pub nodes_kept : (ss : List Shape) (h : LinkedData) (n : ℕ) → IsLinkedData ss h → n < length h.datas → NodesAreKept h n
 nodes_kept ss h n is l =
     record {
       kept = λ a. ap (times a) (at_kept n h.journal) ∙ kept_names h.catalog (entries h.journal) h.datas is.linked.holds n a l;
@@ -84,7 +84,7 @@ join_keeps [] more = refl
 join_keeps (es ∷ []) more = absurd (more refl)
 join_keeps (es ∷ below ∷ older) more = kept_joined es below older
 
-pub end_keeps : (n x : ℕ) (h : Held) (j : Journal) → j ≡ take (length h.journal - n) h.journal → n ≡ ending x (meaning h)
+pub end_keeps : (n x : ℕ) (h : LinkedData) (j : Journal) → j ≡ take (length h.journal - n) h.journal → n ≡ ending x (meaning h)
     → map kept_in j ≡ kept_after (Commit x) (meaning h) (kept_rows h)
 end_keeps n x h j is ends =
     let long : length (meaning h).old ≡ length h.journal = length-old h.journal h.datas in
@@ -108,7 +108,8 @@ refused_has true t u e is = absurd (let h : Ok tt ≡ Err e = is in cc)
 refused_has false t u e is = refl
 
 -- an erase of a row keeps it
-pub erase_keeps : (n e : ℕ) (h new : Held) (i : Inverse) → keeps i ≡ Some e → new.journal ≡ noted (n, i) h.journal → (erase_step n e (meaning h)).0 ≡ Ok tt
+pub erase_keeps : (n e : ℕ) (h new : LinkedData) (i : Inverse) → keeps i ≡ Some e → new.journal ≡ noted (n, i) h.journal
+    → (erase_step n e (meaning h)).0 ≡ Ok tt
     → kept_rows new ≡ kept_after (Erase n e) (meaning h) (kept_rows h)
 erase_keeps n e h new i keeps_ journal is =
     let there : has (table_of (meaning h) n) e ≡ true = erased_has _ _ _ is in
@@ -116,13 +117,13 @@ erase_keeps n e h new i keeps_ journal is =
     ∙ ap₂ (λ o b. kept_more (kept_by n o) (map kept_in h.journal)) keeps_ there
     ∙ sym (ap (λ b. kept_more (cond b ((n, e) ∷ []) []) (map kept_in h.journal)) there)
 
-pub erase_refused : (n e : ℕ) (h new : Held) (f : Refusal) → new.journal ≡ h.journal → (erase_step n e (meaning h)).0 ≡ Err f
+pub erase_refused : (n e : ℕ) (h new : LinkedData) (f : Refusal) → new.journal ≡ h.journal → (erase_step n e (meaning h)).0 ≡ Err f
     → kept_rows new ≡ kept_after (Erase n e) (meaning h) (kept_rows h)
 erase_refused n e h new f journal is =
     let none : has (table_of (meaning h) n) e ≡ false = refused_has _ _ _ f is in
     ap (map kept_in) journal ∙ sym (none_more (map kept_in h.journal)) ∙ sym (ap (λ b. kept_more (cond b ((n, e) ∷ []) []) (map kept_in h.journal)) none)
 
-pub refused_keeps : (c : Command) (e : Refusal) (old new : Held) → e ≢ Memory → kept_rows new ≡ kept_after c (meaning old) (kept_rows old)
+pub refused_keeps : (c : Command) (e : Refusal) (old new : LinkedData) → e ≢ Memory → kept_rows new ≡ kept_after c (meaning old) (kept_rows old)
     → KeptRefused c e old new
 refused_keeps c Memory old new never is = absurd (never refl)
 refused_keeps c e old new never is = is
@@ -132,10 +133,11 @@ met_refusal step Memory old new never m = absurd (never refl)
 met_refusal step e old new never m = m.0
 
 -- a change that keeps no node
-pub plain_keeps : (n : ℕ) (h new : Held) (i : Inverse) → keeps i ≡ None → new.journal ≡ noted (n, i) h.journal → kept_rows new ≡ kept_more [] (kept_rows h)
+pub plain_keeps : (n : ℕ) (h new : LinkedData) (i : Inverse) → keeps i ≡ None → new.journal ≡ noted (n, i) h.journal
+    → kept_rows new ≡ kept_more [] (kept_rows h)
 plain_keeps n h new i keeps_ journal = ap (map kept_in) journal ∙ note_keeps n i h.journal ∙ ap (λ o. kept_more (kept_by n o) (map kept_in h.journal)) keeps_
 
-same_keeps : (h new : Held) → new.journal ≡ h.journal → kept_rows new ≡ kept_more [] (kept_rows h)
+same_keeps : (h new : LinkedData) → new.journal ≡ h.journal → kept_rows new ≡ kept_more [] (kept_rows h)
 same_keeps h new journal = ap (map kept_in) journal ∙ sym (none_more (map kept_in h.journal))
 
 nothing_or : (b : Bool) (x e : ℕ) (d : Data) → keeps (cond {A = Inverse} b Nothing (moved_back x e d)) ≡ None
@@ -157,7 +159,7 @@ met_answer : (step : Result (Unit {0}) Refusal × Database) (o : Option (ℕ × 
 met_answer step None old new m = m.0
 met_answer step (Some at) old new m = m.0
 
-pub modify_keeps : (n e : ℕ) (edits : List Edit) (rollback : Bool) (h new : Held) (s : Shape) (old : Data) (i : Inverse) (made_ : Data)
+pub modify_keeps : (n e : ℕ) (edits : List Edit) (rollback : Bool) (h new : LinkedData) (s : Shape) (old : Data) (i : Inverse) (made_ : Data)
     → MakesModify (lost_to i) s e old i made_ → new.journal ≡ noted (n, i) h.journal
     → Meets (modify_step n e edits rollback (meaning h)) (lost_answer (lost_to i)) (meaning h) (meaning new)
     → kept_rows new ≡ kept_after (Modify n e edits rollback) (meaning h) (kept_rows h)
@@ -168,7 +170,7 @@ modify_keeps n e edits rollback h new s old i made_ makes journal meets =
     (met_answer (modify_step n e edits rollback (meaning h)) (lost_to i) (meaning h) (meaning new) meets)))
 
 -- a refused change that keeps no node
-pub kept_refusal : (c : Command) (e : Refusal) (old new : Held) → new.journal ≡ old.journal → kept_after c (meaning old) (kept_rows old) ≡ kept_rows old
+pub kept_refusal : (c : Command) (e : Refusal) (old new : LinkedData) → new.journal ≡ old.journal → kept_after c (meaning old) (kept_rows old) ≡ kept_rows old
     → KeptRefused c e old new
 kept_refusal c Memory old new journal stays = ap (map kept_in) journal
 kept_refusal c e old new journal stays = ap (map kept_in) journal ∙ sym stays
@@ -178,7 +180,7 @@ no_loss (Lost x a) row none = absurd none
 no_loss e row none = refl
 
 -- a refused modify keeps no node
-pub modify_refused : (n e : ℕ) (edits : List Edit) (rollback : Bool) (old new : Held) (f : Refusal) → new.journal ≡ old.journal → IsNoLoss f
+pub modify_refused : (n e : ℕ) (edits : List Edit) (rollback : Bool) (old new : LinkedData) (f : Refusal) → new.journal ≡ old.journal → IsNoLoss f
     → MeetsRefusal (modify_step n e edits rollback (meaning old)) f (meaning old) (meaning new) → KeptRefused (Modify n e edits rollback) f old new
 modify_refused n e edits rollback old new Memory journal none m = ap (map kept_in) journal
 modify_refused n e edits rollback old new f journal none m =
@@ -186,7 +188,8 @@ modify_refused n e edits rollback old new f journal none m =
     ∙ sym (ap (λ q. kept_more q (kept_rows old)) (ap (λ (r : Result (Unit {0}) Refusal). lost_row r (n, e)) m.0 ∙ no_loss f (n, e) none))
 
 -- what a modify that answers its inverse keeps
-pub modify_kept : (n e : ℕ) (edits : List Edit) (rollback : Bool) (old new : Held) (a : Result (Unit {0}) Refusal) (o : Option (ℕ × ℕ)) → a ≡ lost_answer o
+pub modify_kept : (n e : ℕ) (edits : List Edit) (rollback : Bool) (old new : LinkedData) (a : Result (Unit {0}) Refusal) (o : Option (ℕ × ℕ))
+    → a ≡ lost_answer o
     → kept_rows new ≡ kept_after (Modify n e edits rollback) (meaning old) (kept_rows old) → KeptAfter (Modify n e edits rollback) a old new
 modify_kept n e edits rollback old new a None is kept = subst (λ (r : Result (Unit {0}) Refusal). KeptAfter (Modify n e edits rollback) r old new) (sym is) kept
 modify_kept n e edits rollback old new a (Some at) is kept =
@@ -198,7 +201,7 @@ kept_twice : (xs ys : List (ℕ × ℕ)) (s : Kept) → kept_more ys (kept_more 
 kept_twice xs ys [] = refl
 kept_twice xs ys (newest ∷ older) = ap (λ q. q ∷ older) (append_assoc newest xs ys)
 
-kept_result : {A : Type 0} (c : Command) (r : Result A Refusal) (old new : Held) → r ≢ Err Memory → KeptAfter c r old new
+kept_result : {A : Type 0} (c : Command) (r : Result A Refusal) (old new : LinkedData) → r ≢ Err Memory → KeptAfter c r old new
     → kept_rows new ≡ kept_after c (meaning old) (kept_rows old)
 kept_result c (Ok v) old new never is = is
 kept_result {A} c (Err f) old new never is = refusal f (λ same. never (ap Err same)) is
@@ -207,7 +210,7 @@ kept_result {A} c (Err f) old new never is = refusal f (λ same. never (ap Err s
     refusal Memory never is = absurd (never refl)
     refusal f never is = is
 
-pub first_keeps : (n x e : ℕ) (key : List Value) (old new : Held) (r : Result (Unit {0}) Refusal) → n < length (meaning old).tables
+pub first_keeps : (n x e : ℕ) (key : List Value) (old new : LinkedData) (r : Result (Unit {0}) Refusal) → n < length (meaning old).tables
     → ErasesFirst (schema_of (meaning old) n) (table_of (meaning old) n) x key e
     → meaning new ≡ with_table n (erase e (table_of (meaning old) n)) (meaning old) → r ≢ Err Memory → KeptAfter (Erase n e) r old new
     → kept_with n x key new ≡ kept_with n x key old
@@ -223,10 +226,10 @@ first_keeps n x e key old new r l first state never kept =
     (kept_rows old)
     ∙ sym (ap (λ ids. kept_more (map row ids) (kept_rows old)) first.split)
 
-pub all_kept : (n x : ℕ) (key : List Value) (h : Held) → length (keyed n x key (meaning h)) ≡ 0 → kept_rows h ≡ kept_with n x key h
+pub all_kept : (n x : ℕ) (key : List Value) (h : LinkedData) → length (keyed n x key (meaning h)) ≡ 0 → kept_rows h ≡ kept_with n x key h
 all_kept n x key h none = sym (ap (λ ids. kept_more (map (λ (id : ℕ). (n, id)) ids) (kept_rows h)) (nil_from_length (keyed n x key (meaning h)) none)
     ∙ none_more (kept_rows h))
 
 -- no session is open
-pub none_kept : (h : Held) → length h.journal ≡ 0 → kept_rows h ≡ []
+pub none_kept : (h : LinkedData) → length h.journal ≡ 0 → kept_rows h ≡ []
 none_kept h none = ap (map kept_in) (nil_from_length h.journal none)

@@ -20,7 +20,7 @@ use Rattle.mi_model.proofs.TableLaws.{lacks_of_count}
 use Rattle.mi_model.proofs.PlaceLaws.{IsOnce, each_in_view, once_of_each, once-filter}
 use Rattle.mi_model.proofs.NextLaws.{key_is_there}
 use Rattle.mi_database.specs.Keyed.{keyed, ErasesOne}
-use Rattle.mi_database.specs.Held.{Held, meaning}
+use Rattle.mi_database.specs.LinkedData.{LinkedData, meaning}
 use Rattle.mi_database.specs.Kept.{kept_with}
 use Rattle.mi_container.proofs.SequenceLemmas.{without_lacks, drop_is}
 use Rattle.mi_container.proofs.PairLemmas.{is_itself}
@@ -88,7 +88,7 @@ some_found P [] some r is never = absurd (omega arith)
 some_found P (a ∷ ids) some r is never = absurd (never a is)
 
 -- while the rows of a key are erased
-pub record Erasing (n x : ℕ) (key : List Value) (rows i : ℕ) (first now : Held) : Type 0 where
+pub record Erasing (n x : ℕ) (key : List Value) (rows i : ℕ) (first now : LinkedData) : Type 0 where
   pub catalog : now.catalog ≡ first.catalog
   pub open_ : length now.journal ≡ length first.journal
   pub left : length (keyed n x key (meaning now)) + i ≡ rows
@@ -98,7 +98,7 @@ pub record Erasing (n x : ℕ) (key : List Value) (rows i : ℕ) (first now : He
   pub changes : first.changes ≤ now.changes + i
   pub starts : now.starts ≡ first.starts
 
-pub erasing_more : (n x : ℕ) (key : List Value) (rows i : ℕ) (first now next : Held) → Erasing n x key rows i first now
+pub erasing_more : (n x : ℕ) (key : List Value) (rows i : ℕ) (first now next : LinkedData) → Erasing n x key rows i first now
     → ErasesOne n x key (meaning now) (meaning next)
     → kept_with n x key next ≡ kept_with n x key now → next.catalog ≡ now.catalog → length next.journal ≡ length now.journal → now.changes ≤ next.changes + 1
     → next.starts ≡ now.starts → Erasing n x key rows (i + 1) first next

@@ -14,7 +14,7 @@ use Rattle.mi_container.proofs.RunLemmas.{change_back, change_ready, change_data
 use Rattle.mi_database.proofs.JournalLemmas.{state_noted, state_alone, linked_noted, linked_alone}
 use Rattle.mi_journal.specs.Noted.{noted}
 use Rattle.mi_container.specs.Makes.{Makes, MakesModify}
-use Rattle.mi_database.specs.Held.{IsHeld, kept_datas}
+use Rattle.mi_database.specs.LinkedData.{IsLinkedData, kept_datas}
 
 -- over the containers' data
 
@@ -113,18 +113,18 @@ module _ {X : Type 0} (shape : X → Shape) (plain : X → Data) (c : CatalogSha
   made_many : Made shape plain cs after n k k' i j noted_ → length (map plain after) ≡ length (map plain cs)
   made_many made = ap length (after_datas made) ∙ kept_length j n i _ ∙ length-set (map plain cs) n (plain k')
 
-  pub made_held : (r changes starts changes' starts' : ℕ) → Made shape plain cs after n k k' i j noted_
-      → IsHeld (map shape cs) (record { catalog = c; datas = map plain cs; journal = j; revision = r; changes = changes; starts = starts })
-      → IsHeld (map shape after) (record { catalog = c; datas = map plain after; journal = noted_; revision = r; changes = changes'; starts = starts' })
-  made_held r changes starts changes' starts' made held =
+  pub made_linked : (r changes starts changes' starts' : ℕ) → Made shape plain cs after n k k' i j noted_
+      → IsLinkedData (map shape cs) (record { catalog = c; datas = map plain cs; journal = j; revision = r; changes = changes; starts = starts })
+      → IsLinkedData (map shape after) (record { catalog = c; datas = map plain after; journal = noted_; revision = r; changes = changes'; starts = starts' })
+  made_linked r changes starts changes' starts' made linked_data =
       let long : length noted_ ≡ length j = ap length made.journal ∙ noted_length (n, i) j in
-      let before = held.numbered in
+      let before = linked_data.numbered in
       record {
-        linked = made_linked made held.shapes held.linked;
-        shapes = made_shapes made held.shapes;
-        many = made_many made ∙ held.many;
+        linked = made_linked made linked_data.shapes linked_data.linked;
+        shapes = made_shapes made linked_data.shapes;
+        many = made_many made ∙ linked_data.many;
         numbered = omega (arith, long, before);
-        last = held.last;
+        last = linked_data.last;
       }
 
 -- what the inverse keeps, if anything, is kept

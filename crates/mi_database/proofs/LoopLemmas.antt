@@ -12,11 +12,12 @@ use Rattle.mi_database.specs.Journal.{Entry, Journal, data_at, entry_back, entry
 use Rattle.mi_database.proofs.JournalLemmas.{linked_popped, oldest, holds_settled, all_settled_data}
 use Rattle.mi_database.proofs.JournalLemmas.{old_settled, tables_settled, length-old, take_old, entries-append}
 use Rattle.mi_journal.specs.Noted.{newest_entry, without_entry, TakesOldest, OldestIsEmpty}
-use Rattle.mi_database.specs.Held.{Held, IsHeld, newest_of, older_of, back_by, newer_than_oldest, SettlesSome, SettlesNone, UnwindsNewest, EndsOldest}
+use Rattle.mi_database.specs.LinkedData.{LinkedData, IsLinkedData, newest_of, older_of, back_by, newer_than_oldest, SettlesSome, SettlesNone, UnwindsNewest}
+use Rattle.mi_database.specs.LinkedData.{EndsOldest}
 use Rattle.mi_database.proofs.LinkedDataLemmas.{set_data, same_shapes}
 
-abbrev pub held : CatalogShape → List Data → Journal → ℕ → ℕ → ℕ → Held
-held c ds j r changes starts = record { catalog = c; datas = ds; journal = j; revision = r; changes = changes; starts = starts }
+abbrev pub linked_data : CatalogShape → List Data → Journal → ℕ → ℕ → ℕ → LinkedData
+linked_data c ds j r changes starts = record { catalog = c; datas = ds; journal = j; revision = r; changes = changes; starts = starts }
 
 newest_split : (j : Journal) (e : Entry) → newest_entry j ≡ Some e → (es : List Entry) × (older : Journal) × (j ≡ (e ∷ es) ∷ older)
 newest_split [] e is = absurd (let h : None ≡ Some e = is in cc)
@@ -33,8 +34,8 @@ newer_than_push xs y =
 module _ {X : Type 0} (shape : X → Shape) (plain : X → Data) (c : CatalogShape) (cs : List X) (n : ℕ) (k k' : X) (i : Inverse)
     (r changes starts changes' starts' : ℕ) where
   unwind_at : (es : List Entry) (older : Journal) → k ≡ get_or cs n k → plain k' ≡ taken_back i (plain k) → shape k' ≡ shape k
-      → IsHeld (map shape cs) (held c (map plain cs) (((n, i) ∷ es) ∷ older) r changes starts)
-      → IsHeld (map shape (set cs n k')) (held c (map plain (set cs n k')) (es ∷ older) r changes' starts')
+      → IsLinkedData (map shape cs) (linked_data c (map plain cs) (((n, i) ∷ es) ∷ older) r changes starts)
+      → IsLinkedData (map shape (set cs n k')) (linked_data c (map plain (set cs n k')) (es ∷ older) r changes' starts')
       × (map plain (set cs n k') ≡ entry_back (n, i) (map plain cs))
   unwind_at es older was back same is =
       let within : n < length cs = subst (λ q. n < q) (length-map cs plain) is.linked.holds.0 in
@@ -54,13 +55,15 @@ module _ {X : Type 0} (shape : X → Shape) (plain : X → Data) (c : CatalogSha
   -- one entry popped and taken back
   pub unwind_law : (j j' : Journal) → Some (n, i) ≡ newest_entry j → j' ≡ without_entry j → k ≡ get_or cs n k → plain k' ≡ taken_back i (plain k)
       → shape k' ≡ shape k
-      → IsHeld (map shape cs) (held c (map plain cs) j r changes starts)
-      → IsHeld (map shape (set cs n k')) (held c (map plain (set cs n k')) j' r changes' starts')
+      → IsLinkedData (map shape cs) (linked_data c (map plain cs) j r changes starts)
+      → IsLinkedData (map shape (set cs n k')) (linked_data c (map plain (set cs n k')) j' r changes' starts')
       × (map plain (set cs n k') ≡ back_by (newest_of j) (map plain cs))
   unwind_law j j' entry left was back same is =
       let split : (es : List Entry) × (older : Journal) × (j ≡ ((n, i) ∷ es) ∷ older) = newest_split j (n, i) (sym entry) in
-      let h = unwind_at split.0 split.1 was back same (subst (λ q. IsHeld (map shape cs) (held c (map plain cs) q r changes starts)) split.2 is) in (
-        subst (λ q. IsHeld (map shape (set cs n k')) (held c (map plain (set cs n k')) q r changes' starts')) (sym (left ∙ ap without_entry split.2)) h.0,
+      let h = unwind_at split.0 split.1 was back same (subst (λ q. IsLinkedData (map shape cs) (linked_data c (map plain cs) q r changes starts)) split.2 is)
+      in (
+        subst (λ q. IsLinkedData (map shape (set cs n k')) (linked_data c (map plain (set cs n k')) q r changes' starts'))
+            (sym (left ∙ ap without_entry split.2)) h.0,
         h.1 ∙ sym (ap (λ q. back_by (newest_of q) (map plain cs)) split.2),
       )
 
@@ -80,23 +83,25 @@ newer_old newer es ds =
     ap (λ n. take (n - 1) (old_of ds j)) long ∙ take_old (length j - 1) j ds ∙ ap (old_of ds) (newer_than_push newer es)
 
 module _ {X : Type 0} (shape : X → Shape) (plain : X → Data) (c : CatalogShape) (cs : List X) (n : ℕ) (i : Inverse) (r changes starts : ℕ) where
-  oldest_of : (newer : Journal) (rest : List Entry) → IsHeld (map shape cs) (held c (map plain cs) (newer ++ (rest ++ (n, i) ∷ []) ∷ []) r changes starts)
+  oldest_of : (newer : Journal) (rest : List Entry)
+      → IsLinkedData (map shape cs) (linked_data c (map plain cs) (newer ++ (rest ++ (n, i) ∷ []) ∷ []) r changes starts)
       → Holds c (entries (newer ++ rest ∷ []) ++ (n, i) ∷ []) (map plain cs)
   oldest_of newer rest is = subst (λ es. Holds c es (map plain cs)) (entries_oldest newer rest (n, i)) is.linked.holds
 
   -- the oldest entry's container is there, and keeps its node
-  pub oldest_within : (j j' : Journal) → TakesOldest (Some (n, i)) j j' → IsHeld (map shape cs) (held c (map plain cs) j r changes starts) → (n < length cs)
+  pub oldest_within : (j j' : Journal) → TakesOldest (Some (n, i)) j j' → IsLinkedData (map shape cs) (linked_data c (map plain cs) j r changes starts)
+      → (n < length cs)
       × KeptBy i (data_at (map plain cs) n)
   oldest_within j j' taken is =
       let h = oldest c (n, i) (entries (taken.0 ++ taken.1 ∷ [])) (map plain cs)
-      (oldest_of taken.0 taken.1 (subst (λ q. IsHeld (map shape cs) (held c (map plain cs) q r changes starts)) taken.2 is)) in
+      (oldest_of taken.0 taken.1 (subst (λ q. IsLinkedData (map shape cs) (linked_data c (map plain cs) q r changes starts)) taken.2 is)) in
       (subst (λ q. n < q) (length-map cs plain) h.0, h.1)
 
   settle_at : (newer : Journal) (rest : List Entry) (k k' : X) (changes' starts' : ℕ) → k ≡ get_or cs n k → plain k' ≡ settled i (plain k) → shape k' ≡ shape k
-      → IsHeld (map shape cs) (held c (map plain cs) (newer ++ (rest ++ (n, i) ∷ []) ∷ []) r changes starts)
-      → IsHeld (map shape (set cs n k')) (held c (map plain (set cs n k')) (newer ++ rest ∷ []) r changes' starts')
-      × SettlesSome (held c (map plain cs) (newer ++ (rest ++ (n, i) ∷ []) ∷ []) r changes starts)
-      (held c (map plain (set cs n k')) (newer ++ rest ∷ []) r changes' starts')
+      → IsLinkedData (map shape cs) (linked_data c (map plain cs) (newer ++ (rest ++ (n, i) ∷ []) ∷ []) r changes starts)
+      → IsLinkedData (map shape (set cs n k')) (linked_data c (map plain (set cs n k')) (newer ++ rest ∷ []) r changes' starts')
+      × SettlesSome (linked_data c (map plain cs) (newer ++ (rest ++ (n, i) ∷ []) ∷ []) r changes starts)
+      (linked_data c (map plain (set cs n k')) (newer ++ rest ∷ []) r changes' starts')
   settle_at newer rest k k' changes' starts' was back same is =
       let ds : List Data = map plain cs in
       let j : Journal = newer ++ (rest ++ (n, i) ∷ []) ∷ [] in
@@ -134,20 +139,20 @@ module _ {X : Type 0} (shape : X → Shape) (plain : X → Data) (c : CatalogSha
   -- the oldest entry taken and settled
   pub settle_law : (j j' : Journal) (k k' : X) (changes' starts' : ℕ) → TakesOldest (Some (n, i)) j j' → k ≡ get_or cs n k → plain k' ≡ settled i (plain k)
       → shape k' ≡ shape k
-      → IsHeld (map shape cs) (held c (map plain cs) j r changes starts)
-      → IsHeld (map shape (set cs n k')) (held c (map plain (set cs n k')) j' r changes' starts')
-      × SettlesSome (held c (map plain cs) j r changes starts) (held c (map plain (set cs n k')) j' r changes' starts')
+      → IsLinkedData (map shape cs) (linked_data c (map plain cs) j r changes starts)
+      → IsLinkedData (map shape (set cs n k')) (linked_data c (map plain (set cs n k')) j' r changes' starts')
+      × SettlesSome (linked_data c (map plain cs) j r changes starts) (linked_data c (map plain (set cs n k')) j' r changes' starts')
   settle_law j j' k k' changes' starts' taken was back same is =
       let h = settle_at taken.0 taken.1 k k' changes' starts' was back same
-      (subst (λ q. IsHeld (map shape cs) (held c (map plain cs) q r changes starts)) taken.2 is) in (
-        subst (λ q. IsHeld (map shape (set cs n k')) (held c (map plain (set cs n k')) q r changes' starts')) (sym taken.3) h.0,
-        subst (λ q. SettlesSome (held c (map plain cs) q r changes starts) (held c (map plain (set cs n k')) j' r changes' starts')) (sym taken.2)
-            (subst (λ q. SettlesSome (held c (map plain cs) (taken.0 ++ (taken.1 ++ (n, i) ∷ []) ∷ []) r changes starts)
-            (held c (map plain (set cs n k')) q r changes' starts')) (sym taken.3) h.1),
+      (subst (λ q. IsLinkedData (map shape cs) (linked_data c (map plain cs) q r changes starts)) taken.2 is) in (
+        subst (λ q. IsLinkedData (map shape (set cs n k')) (linked_data c (map plain (set cs n k')) q r changes' starts')) (sym taken.3) h.0,
+        subst (λ q. SettlesSome (linked_data c (map plain cs) q r changes starts) (linked_data c (map plain (set cs n k')) j' r changes' starts')) (sym taken.2)
+            (subst (λ q. SettlesSome (linked_data c (map plain cs) (taken.0 ++ (taken.1 ++ (n, i) ∷ []) ∷ []) r changes starts)
+            (linked_data c (map plain (set cs n k')) q r changes' starts')) (sym taken.3) h.1),
       )
 
 -- while the newest session is unwound
-pub record Unwinding (first now : Held) : Type 0 where
+pub record Unwinding (first now : LinkedData) : Type 0 where
   pub catalog : now.catalog ≡ first.catalog
   pub revision : now.revision ≡ first.revision
   pub datas : unwound (newest_of now.journal) now.datas ≡ unwound (newest_of first.journal) first.datas
@@ -157,7 +162,7 @@ pub record Unwinding (first now : Held) : Type 0 where
   pub starts : now.starts ≡ first.starts
 
 -- while the oldest session is settled
-pub record Settling (first now : Held) : Type 0 where
+pub record Settling (first now : LinkedData) : Type 0 where
   pub catalog : now.catalog ≡ first.catalog
   pub revision : now.revision ≡ first.revision
   pub newer : newer_than_oldest now.journal ≡ newer_than_oldest first.journal
@@ -167,7 +172,7 @@ pub record Settling (first now : Held) : Type 0 where
   pub changes : first.changes ≤ now.changes
   pub starts : now.starts ≡ first.starts
 
-pub unwinding_from : (h : Held) → Unwinding h h
+pub unwinding_from : (h : LinkedData) → Unwinding h h
 unwinding_from h = record { catalog = refl; revision = refl; datas = refl; older = refl; open_ = refl; changes = omega arith; starts = refl }
 
 back_more : (j : Journal) (ds : List Data) → unwound (newest_of (without_entry j)) (back_by (newest_of j) ds) ≡ unwound (newest_of j) ds
@@ -195,7 +200,7 @@ newest_empty [] none some = absurd (omega arith)
 newest_empty ([] ∷ older) none some = refl
 newest_empty ((e ∷ es) ∷ older) none some = absurd (false≢true none)
 
-pub unwinding_more : (first now next : Held) → Unwinding first now → next.datas ≡ back_by (newest_of now.journal) now.datas
+pub unwinding_more : (first now next : LinkedData) → Unwinding first now → next.datas ≡ back_by (newest_of now.journal) now.datas
     → next.journal ≡ without_entry now.journal
     → next.catalog ≡ now.catalog → next.revision ≡ now.revision → now.changes ≤ next.changes → next.starts ≡ now.starts → Unwinding first next
 unwinding_more first now next u datas journal catalog revision changes starts =
@@ -210,7 +215,8 @@ unwinding_more first now next u datas journal catalog revision changes starts =
       starts = starts ∙ u.starts;
     }
 
-pub unwinding_done : (first now : Held) → Unwinding first now → 0 < length first.journal → false ≡ is_some (newest_entry now.journal) → UnwindsNewest first now
+pub unwinding_done : (first now : LinkedData) → Unwinding first now → 0 < length first.journal → false ≡ is_some (newest_entry now.journal)
+    → UnwindsNewest first now
 unwinding_done first now u some none =
     let long = u.open_ in
     let empty : now.journal ≡ [] ∷ older_of now.journal = newest_empty now.journal none (omega (arith, long)) in
@@ -223,10 +229,10 @@ unwinding_done first now u some none =
       starts = u.starts;
     }
 
-pub settling_from : (h : Held) → Settling h h
+pub settling_from : (h : LinkedData) → Settling h h
 settling_from h = record { catalog = refl; revision = refl; newer = refl; open_ = refl; tables = refl; old_ = refl; changes = omega arith; starts = refl }
 
-pub settling_more : (first now next : Held) → Settling first now → SettlesSome now next → next.catalog ≡ now.catalog → next.revision ≡ now.revision
+pub settling_more : (first now next : LinkedData) → Settling first now → SettlesSome now next → next.catalog ≡ now.catalog → next.revision ≡ now.revision
     → now.changes ≤ next.changes → next.starts ≡ now.starts → Settling first next
 settling_more first now next u s catalog revision changes starts =
     let rose = u.changes in
@@ -242,7 +248,7 @@ settling_more first now next u s catalog revision changes starts =
     }
 
 -- nothing is left to settle in an open session
-pub settled_up : (first now next : Held) → Settling first now → SettlesNone now next → 0 < length first.journal → OldestIsEmpty next.journal
+pub settled_up : (first now next : LinkedData) → Settling first now → SettlesNone now next → 0 < length first.journal → OldestIsEmpty next.journal
 settled_up first now next u s some =
     let long = u.open_ in
     elim s.none [
@@ -252,7 +258,7 @@ settled_up first now next u s some =
 
 -- the oldest session, which has no entry, ends
 pub ends_law : (c : CatalogShape) (ss : List Shape) (ds : List Data) (j j' : Journal) (r changes starts changes' starts' : ℕ) → j ≡ j' ++ [] ∷ []
-    → IsHeld ss (held c ds j r changes starts) → IsHeld ss (held c ds j' r changes' starts')
+    → IsLinkedData ss (linked_data c ds j r changes starts) → IsLinkedData ss (linked_data c ds j' r changes' starts')
 ends_law c ss ds j j' r changes starts changes' starts' split is =
     let same : entries j ≡ entries j' = ap entries split ∙ entries_push j' [] ∙ append-nil (entries j') in
     let long : length j ≡ length j' + 1 = ap length split ∙ length_push j' [] in
@@ -265,10 +271,10 @@ ends_law c ss ds j j' r changes starts changes' starts' split is =
       last = is.last;
     }
 
-pub ended_law : (first now next : Held) (j' : Journal) (changes' starts' : ℕ) → Settling first now → SettlesNone now next → next.catalog ≡ now.catalog
+pub ended_law : (first now next : LinkedData) (j' : Journal) (changes' starts' : ℕ) → Settling first now → SettlesNone now next → next.catalog ≡ now.catalog
     → next.revision ≡ now.revision → now.changes ≤ next.changes → next.starts ≡ now.starts
     → next.journal ≡ j' ++ [] ∷ [] → changes' ≡ next.changes → starts' ≡ next.starts + 1
-    → EndsOldest first (held next.catalog next.datas j' next.revision changes' starts')
+    → EndsOldest first (linked_data next.catalog next.datas j' next.revision changes' starts')
 ended_law first now next j' changes' starts' u s catalog revision changes starts split stay more =
     let rose = u.changes in
     let same = u.starts in

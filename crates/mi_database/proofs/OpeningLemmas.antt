@@ -11,7 +11,7 @@ use Rattle.mi_container.specs.Data.{Data, table_of, IsData}
 use Rattle.mi_container.specs.Changes.{opened_data}
 use Rattle.mi_container.proofs.OpeningLemmas.{table_opened, is_data_opened}
 use Rattle.mi_database.specs.Journal.{Journal, data_at, tables_of, state_of}
-use Rattle.mi_database.specs.Held.{IsHeld}
+use Rattle.mi_database.specs.LinkedData.{IsLinkedData}
 
 opened_each : (c : CatalogShape) → is_catalog c ≡ true → (n : ℕ) → n < length (map opened_data c.tables)
     → IsData (schema_at c n) (data_at (map opened_data c.tables) n)
@@ -41,9 +41,9 @@ opened_state c ds j r datas none first =
 
 opened_is : (c : CatalogShape) (ss : List Shape) (ds : List Data) (changes starts : ℕ) → is_catalog c ≡ true → ss ≡ c.tables → ds ≡ map opened_data c.tables
     → c.first_revision ≤ LAST_COUNT
-    → IsHeld ss (record { catalog = c; datas = ds; journal = []; revision = c.first_revision; changes = changes; starts = starts })
+    → IsLinkedData ss (record { catalog = c; datas = ds; journal = []; revision = c.first_revision; changes = changes; starts = starts })
 opened_is c ss ds changes starts kept shapes datas last =
-    subst (λ q. IsHeld ss (record { catalog = c; datas = q; journal = []; revision = c.first_revision; changes = changes; starts = starts })) (sym datas)
+    subst (λ q. IsLinkedData ss (record { catalog = c; datas = q; journal = []; revision = c.first_revision; changes = changes; starts = starts })) (sym datas)
     (record {
       linked = record { each = opened_each c kept; holds = opened_none c.tables };
       shapes = shapes;
@@ -55,8 +55,8 @@ opened_is c ss ds changes starts kept shapes datas last =
 -- the same, as the code comes to it
 pub opened_at : (c : CatalogShape) (ss : List Shape) (ds : List Data) (j : Journal) (r changes starts : ℕ) → is_catalog c ≡ true → ss ≡ c.tables
     → ds ≡ map opened_data c.tables → j ≡ [] → r ≡ c.first_revision → r ≤ LAST_COUNT
-    → IsHeld ss (record { catalog = c; datas = ds; journal = j; revision = r; changes = changes; starts = starts })
+    → IsLinkedData ss (record { catalog = c; datas = ds; journal = j; revision = r; changes = changes; starts = starts })
 opened_at c ss ds j r changes starts kept shapes datas none first last =
-    subst (λ q. IsHeld ss (record { catalog = c; datas = ds; journal = q; revision = r; changes = changes; starts = starts })) (sym none)
-    (subst (λ n. IsHeld ss (record { catalog = c; datas = ds; journal = []; revision = n; changes = changes; starts = starts })) (sym first)
+    subst (λ q. IsLinkedData ss (record { catalog = c; datas = ds; journal = q; revision = r; changes = changes; starts = starts })) (sym none)
+    (subst (λ n. IsLinkedData ss (record { catalog = c; datas = ds; journal = []; revision = n; changes = changes; starts = starts })) (sym first)
     (opened_is c ss ds changes starts kept shapes datas (subst (λ n. n ≤ LAST_COUNT) first last)))

@@ -14,13 +14,13 @@ use Rattle.mi_container.specs.Data.{Data, table_of}
 use Rattle.mi_container.specs.Inverse.{Inverse}
 use Rattle.mi_database.specs.Journal.{Journal, state_of}
 use Rattle.mi_database.proofs.JournalLemmas.{table_at as table_there}
-use Rattle.mi_database.specs.Held.{IsHeld}
+use Rattle.mi_database.specs.LinkedData.{IsLinkedData}
 use Rattle.mi_database.proofs.LinkedDataLemmas.{set_data, shape_at, same_shapes, Made, made_state}
-use Rattle.mi_database.proofs.LoopLemmas.{held}
+use Rattle.mi_database.proofs.LoopLemmas.{linked_data}
 
 -- a table's number is that of a container
 pub within_containers : {X : Type 0} (shape : X → Shape) (plain : X → Data) (c : CatalogShape) (cs : List X) (j : Journal) (r changes starts n : ℕ)
-    → IsHeld (map shape cs) (held c (map plain cs) j r changes starts)
+    → IsLinkedData (map shape cs) (linked_data c (map plain cs) j r changes starts)
     → n < length c.tables → n < length cs
 within_containers shape plain c cs j r changes starts n is l = subst (λ q. n < q) (sym is.many ∙ length-map cs plain) l
 
@@ -34,7 +34,7 @@ table_of_container plain c cs j r n k l was =
 pub lift_made : {X A : Type 0} (shape : X → Shape) (plain : X → Data) (c : CatalogShape) (cs after : List X) (n : ℕ) (k k' : X) (i : Inverse)
     (j noted_ : Journal) (r changes starts : ℕ)
     (f : Shape → Table → Outcome A) (a : Result A Refusal) (d : Database)
-    → Made shape plain cs after n k k' i j noted_ → IsHeld (map shape cs) (held c (map plain cs) j r changes starts)
+    → Made shape plain cs after n k k' i j noted_ → IsLinkedData (map shape cs) (linked_data c (map plain cs) j r changes starts)
     → Meets (f (shape k) (table_of (plain k))) a (table_of (plain k)) (table_of (plain k')) → state_of c (map plain cs) j r ≡ d
     → Meets (on_table n f d) a d (state_of c (map plain after) noted_ r)
 lift_made shape plain c cs after n k k' i j noted_ r changes starts f a d made is meets was =
@@ -52,18 +52,19 @@ refused_datas plain cs n k k' l was same =
 
 -- a container that changed nothing
 pub refused_held : {X : Type 0} (shape : X → Shape) (plain : X → Data) (c : CatalogShape) (cs : List X) (n : ℕ) (k k' : X) (j : Journal) (r changes starts : ℕ)
-    → IsHeld (map shape cs) (held c (map plain cs) j r changes starts) → n < length c.tables → k ≡ get_or cs n k → plain k' ≡ plain k → shape k' ≡ shape k
-    → IsHeld (map shape (set cs n k')) (held c (map plain (set cs n k')) j r changes starts)
+    → IsLinkedData (map shape cs) (linked_data c (map plain cs) j r changes starts) → n < length c.tables → k ≡ get_or cs n k → plain k' ≡ plain k
+    → shape k' ≡ shape k
+    → IsLinkedData (map shape (set cs n k')) (linked_data c (map plain (set cs n k')) j r changes starts)
 refused_held shape plain c cs n k k' j r changes starts is w was same shapes =
     let l : n < length cs = within_containers shape plain c cs j r changes starts n is w in
     let datas : map plain (set cs n k') ≡ map plain cs = refused_datas plain cs n k k' l was same in
-    subst (λ q. IsHeld q (held c (map plain (set cs n k')) j r changes starts)) (sym (same_shapes shape cs n k k' l was shapes))
-    (subst (λ q. IsHeld (map shape cs) (held c q j r changes starts)) (sym datas) is)
+    subst (λ q. IsLinkedData q (linked_data c (map plain (set cs n k')) j r changes starts)) (sym (same_shapes shape cs n k k' l was shapes))
+    (subst (λ q. IsLinkedData (map shape cs) (linked_data c q j r changes starts)) (sym datas) is)
 
 pub lift_refused : {X A : Type 0} (shape : X → Shape) (plain : X → Data) (c : CatalogShape) (cs : List X) (n : ℕ) (k k' : X) (j : Journal)
     (r changes starts : ℕ)
     (f : Shape → Table → Outcome A) (a : Result A Refusal) (d : Database)
-    → IsHeld (map shape cs) (held c (map plain cs) j r changes starts) → n < length c.tables → k ≡ get_or cs n k → plain k' ≡ plain k
+    → IsLinkedData (map shape cs) (linked_data c (map plain cs) j r changes starts) → n < length c.tables → k ≡ get_or cs n k → plain k' ≡ plain k
     → Meets (f (shape k) (table_of (plain k))) a (table_of (plain k)) (table_of (plain k')) → state_of c (map plain cs) j r ≡ d
     → Meets (on_table n f d) a d (state_of c (map plain (set cs n k')) j r)
 lift_refused shape plain c cs n k k' j r changes starts f a d is w was same meets is_state =

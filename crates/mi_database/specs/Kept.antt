@@ -14,22 +14,22 @@ use Rattle.mi_container.specs.Data as plain
 use Rattle.mi_database.specs.Journal.{data_at, kept_in}
 use Rattle.mi_value.specs.declared.value.Value.{Value}
 use Rattle.mi_database.specs.Keyed.{keyed}
-use Rattle.mi_database.specs.Held.{Held, meaning}
+use Rattle.mi_database.specs.LinkedData.{LinkedData, meaning}
 
 -- for each session the table and id of each row whose node an inverse keeps
-abbrev pub kept_rows : Held → Kept
+abbrev pub kept_rows : LinkedData → Kept
 kept_rows h = map kept_in h.journal
 
 -- with the rows of a key beside those of the newest session
-abbrev pub kept_with : ℕ → ℕ → List Value → Held → Kept
+abbrev pub kept_with : ℕ → ℕ → List Value → LinkedData → Kept
 kept_with n x key h = kept_more (map (λ id. (n, id)) (keyed n x key (meaning h))) (kept_rows h)
 
-abbrev pub KeptRefused : Command → Refusal → Held → Held → Type 0
+abbrev pub KeptRefused : Command → Refusal → LinkedData → LinkedData → Type 0
 KeptRefused c Memory old new = kept_rows new ≡ kept_rows old
 KeptRefused c e old new = kept_rows new ≡ kept_after c (meaning old) (kept_rows old)
 
 -- they move as the definition says; refused for memory they stay
-abbrev pub KeptAfter : {A : Type 0} → Command → Result A Refusal → Held → Held → Type 0
+abbrev pub KeptAfter : {A : Type 0} → Command → Result A Refusal → LinkedData → LinkedData → Type 0
 KeptAfter c (Ok v) old new = kept_rows new ≡ kept_after c (meaning old) (kept_rows old)
 KeptAfter c (Err e) old new = KeptRefused c e old new
 
@@ -44,6 +44,6 @@ ids_at n [] = []
 ids_at n (rows ∷ older) = ids_at n older ++ ids_in n rows
 
 -- a table's nodes are its rows and those kept for the sessions, each once, and none is both
-pub record NodesAreKept (h : Held) (n : ℕ) : Type 0 where
+pub record NodesAreKept (h : LinkedData) (n : ℕ) : Type 0 where
   pub kept : (a : ℕ) → times a (ids_at n (kept_rows h)) ≡ (if is_some (kept_of (data_at h.datas n).kept a) then 1 else 0)
   pub gone : (e : ℕ) (k : plain.Kept) → kept_of (data_at h.datas n).kept e ≡ Some k → node_of (data_at h.datas n).rows e ≡ None

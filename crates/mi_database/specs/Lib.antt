@@ -1,5 +1,5 @@
 pub mod Journal
-pub mod Held
+pub mod LinkedData
 pub mod Keyed
 pub mod Kept
 pub mod Bound

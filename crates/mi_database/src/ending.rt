@@ -7,7 +7,7 @@ impl<C: Container> Linked<C> {
     ghost use Rattle.std.specs.Prelude.{◌≡◌, ◌<◌, ◌≤◌, length};
     ghost use Rattle.std.specs.Option.{is_some};
     ghost use Rattle.mi_journal.specs.Noted.{newest_entry, without_entry};
-    ghost use Rattle.mi_database.specs.Held.{newest_of, back_by, SettlesOne, UnwindsNewest, EndsOldest};
+    ghost use Rattle.mi_database.specs.LinkedData.{newest_of, back_by, SettlesOne, UnwindsNewest, EndsOldest};
 
     /// Takes back the newest change of the newest session, and tells whether there was one.
     fn unwind_one(&mut self) -> bool

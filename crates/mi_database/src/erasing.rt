@@ -4,7 +4,7 @@ ghost use Rattle.mi_value.specs.declared.refusal.Refusal.TheVariants.{Memory};
 ghost use Rattle.mi_catalog.specs.Fitting.{HasTable, IsKeyedIndex, FitsWhole};
 ghost use Rattle.mi_model.specs.Steps.{Meets, erase_step};
 ghost use Rattle.mi_model.specs.Run.Command.{Erase as EraseCommand};
-ghost use Rattle.mi_database.specs.Held.{meaning, RoomFor};
+ghost use Rattle.mi_database.specs.LinkedData.{meaning, RoomFor};
 ghost use Rattle.mi_database.specs.Kept.{kept_with, KeptAfter};
 ghost use Rattle.mi_database.specs.Keyed.{keyed, ErasesOne};
 

@@ -17,13 +17,13 @@ pub struct Linked<C: Container> {
 
 impl<C: Container> Model for Linked<C> {
     ghost use Rattle.std.specs.Prelude.{map};
-    ghost use Rattle.mi_database.specs.Held.{Held, seen, IsHeld};
+    ghost use Rattle.mi_database.specs.LinkedData.{LinkedData, seen, IsLinkedData};
 
-    ghost Value = { Held };
+    ghost Value = { LinkedData };
 
     ghost view = { λ a. seen a.catalog (map C.plain a.containers.items) a.journal a.revision };
 
-    ghost invariant = { λ a. IsHeld (map C.shape a.containers.items) (seen a.catalog (map C.plain a.containers.items) a.journal a.revision) };
+    ghost invariant = { λ a. IsLinkedData (map C.shape a.containers.items) (seen a.catalog (map C.plain a.containers.items) a.journal a.revision) };
 }
 
 ghost use Rattle.std.specs.Prelude.{◌≡◌, ◌<◌, ◌≤◌, ◌+◌, length, map, vec_len, IfOk, OnErr};
@@ -31,7 +31,7 @@ ghost use Rattle.mi_container.specs.Changes.{opened_data};
 ghost use Rattle.mi_container.specs.Fits.{KeptBy};
 ghost use Rattle.mi_database.specs.Journal.{data_at};
 ghost use Rattle.mi_journal.specs.Noted.{noted};
-ghost use Rattle.mi_database.specs.Held.{kept_datas};
+ghost use Rattle.mi_database.specs.LinkedData.{kept_datas};
 
 /// The containers that a catalog opens with, all with one secret.
 fn open_containers<C: Container>(
@@ -73,9 +73,9 @@ pub(crate) fn keep<C: Container>(
 }
 
 impl<C: Container> Linked<C> {
-    ghost use Rattle.mi_database.specs.Held.{with_room, RoomFor};
+    ghost use Rattle.mi_database.specs.LinkedData.{with_room, RoomFor};
     ghost use Rattle.std.specs.Prelude.{OnOk};
-    ghost use Rattle.mi_database.specs.Held.{meaning, opened_held};
+    ghost use Rattle.mi_database.specs.LinkedData.{meaning, opened_linked};
     ghost use Rattle.mi_catalog.specs.Fitting.{HasTable};
     ghost use Rattle.mi_container.specs.Data.{table_of};
     ghost use Rattle.mi_database.specs.Kept.{NodesAreKept};
@@ -86,7 +86,7 @@ impl<C: Container> Linked<C> {
     /// answers is the same for every secret; one that strangers don't know keeps them from aiming keys at one bucket of a
     /// hashed index.
     pub fn new(alloc: Global, catalog: Catalog, secret: u64) -> Result<Linked<C>, AllocError>
-        ensures held { IfOk result (λ d. d ≡ opened_held d.changes d.starts catalog) }
+        ensures held { IfOk result (λ d. d ≡ opened_linked d.changes d.starts catalog) }
         ensures state { IfOk result (λ d. meaning d ≡ opened_database catalog) }
     {
         catalog.keeps_rules();

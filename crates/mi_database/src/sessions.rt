@@ -12,7 +12,7 @@ ghost use Rattle.mi_model.specs.Run.Command.{Commit as CommitCommand, UndoAll as
 ghost use Rattle.mi_container.specs.Inverse.{lost_to};
 ghost use Rattle.mi_container.specs.Makes.{lost_answer, IsNoLoss};
 ghost use Rattle.mi_database.specs.Bound.{look_up_bound};
-ghost use Rattle.mi_database.specs.Held.{meaning, with_room, RoomFor};
+ghost use Rattle.mi_database.specs.LinkedData.{meaning, with_room, RoomFor};
 ghost use Rattle.mi_database.specs.Kept.{kept_rows, KeptAfter};
 ghost use Rattle.mi_database.specs.Keyed.{keyed};
 

@@ -5,7 +5,7 @@ use Rattle.mi_node.specs.Pool.{Pooled, IsHeld}
 use Rattle.mi_node.specs.Refs.{Ref, first_of, last_of}
 use Rattle.mi_node.specs.Neighbours.{AreHeld}
 use Rattle.mi_list.proofs.ChangeLemmas.{nothing_after}
-use Rattle.mi_tree.specs.Shape.{nth_of}
+use Rattle.mi_tree.specs.BinaryTree.{nth_of}
 use Rattle.mi_tree.specs.Probed.{first_where}
 use Rattle.mi_tree.proofs.BinaryTreeLemmas.{nth-last}
 use Rattle.mi_index.specs.Standing.{Stands}

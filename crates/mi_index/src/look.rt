@@ -2,7 +2,7 @@
 ghost use Rattle.std.specs.Prelude.{◌≡◌, ℕ, ◌+◌, ◌*◌, ◌<◌, ◌≤◌, ◌^◌, List as Seq, ◌∷◌, ◌++◌, None, length, false, true};
 ghost use Rattle.std.specs.List.{filter};
 ghost use Rattle.mi_node.specs.Refs.{Ref, first_of, last_of};
-ghost use Rattle.mi_tree.specs.Shape.{nth_of};
+ghost use Rattle.mi_tree.specs.BinaryTree.{nth_of};
 ghost use Rattle.mi_tree.specs.Probed.{first_where};
 ghost use Rattle.mi_index.specs.Standing.{slot_in, Stands};
 ghost use Rattle.mi_index.specs.Looks as look;

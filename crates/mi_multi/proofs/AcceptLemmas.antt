@@ -30,7 +30,7 @@ use Rattle.mi_index.specs.declared.structure.Structure.{Structure}
 use Rattle.mi_container.specs.Asked.{IsSequenced}
 use Rattle.mi_container.specs.Data.{Data, table_of}
 use Rattle.mi_container.specs.Data.Order.{ById}
-use Rattle.mi_container.specs.Fits.{IsListed}
+use Rattle.mi_container.specs.Fits.{HasOwnList}
 use Rattle.mi_container.specs.Run.{PlaceFits}
 use Rattle.mi_container.proofs.PairLemmas.{none_some, is_other}
 use Rattle.mi_container.proofs.InvariantLemmas.{has_there}
@@ -146,11 +146,11 @@ rises a b l ne = omega arith
 -- The place
 
 listed_at : (is : List Index) (ls : List (List ℕ)) (x : ℕ) (none : Index) → is_sequenced none.kind ≡ false
-    → is_sequenced (get_or is x none).kind ≡ true → IsListed (get_or (orders_of is ls) x ById)
+    → is_sequenced (get_or is x none).kind ≡ true → HasOwnList (get_or (orders_of is ls) x ById)
 listed_at [] ls x none no_ h = absurd (false≢true (sym no_ ∙ h))
-listed_at (i ∷ is) [] zero none no_ h = subst IsListed (sym (sequenced_order i.kind i.parts [] h)) tt
+listed_at (i ∷ is) [] zero none no_ h = subst HasOwnList (sym (sequenced_order i.kind i.parts [] h)) tt
 listed_at (i ∷ is) [] (suc x) none no_ h = listed_at is [] x none no_ h
-listed_at (i ∷ is) (l ∷ ls) zero none no_ h = subst IsListed (sym (sequenced_order i.kind i.parts l h)) tt
+listed_at (i ∷ is) (l ∷ ls) zero none no_ h = subst HasOwnList (sym (sequenced_order i.kind i.parts l h)) tt
 listed_at (i ∷ is) (l ∷ ls) (suc x) none no_ h = listed_at is ls x none no_ h
 
 module _ (s : Shape) (ids : FinMap nat_cmp IdEntry) (m : Pooled Stored) (xs : List Structure) (next arrivals : ℕ) where
@@ -158,7 +158,7 @@ module _ (s : Shape) (ids : FinMap nat_cmp IdEntry) (m : Pooled Stored) (xs : Li
   d = plain_of s ids m xs next arrivals
 
   -- a sequenced index has a list of its own
-  has_list : (x : ℕ) → IsSequenced s x → IsListed (get_or d.orders x ById)
+  has_list : (x : ℕ) → IsSequenced s x → HasOwnList (get_or d.orders x ById)
   has_list x h = listed_at s.indexes (own_lists m xs) x _ refl (ap is_sequenced h)
 
   pub place_fits : (at : Option (ℕ × ℕ)) → IfSome at (λ p. IsSequenced s p.0) → PlaceFits at d.orders

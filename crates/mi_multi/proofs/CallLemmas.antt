@@ -18,7 +18,7 @@ use Rattle.mi_model.specs.Lookup as look
 use Rattle.mi_model.proofs.PlaceLaws.{listed_within, sorted_listed, length-view}
 use Rattle.mi_node.specs.Pool.{Pooled, IsHeld}
 use Rattle.mi_node.specs.Refs.{Ref, first_of, last_of}
-use Rattle.mi_tree.specs.Shape.{nth_of}
+use Rattle.mi_tree.specs.BinaryTree.{nth_of}
 use Rattle.mi_order.specs.declared.stored.Stored.{Stored}
 use Rattle.mi_index.specs.declared.structure.Structure.{Structure}
 use Rattle.mi_index.specs.declared.structure.Structure.TheVariants.{Ordered, Hashed, Sequenced}

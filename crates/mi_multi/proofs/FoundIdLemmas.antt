@@ -10,7 +10,7 @@ use Rattle.mi_model.specs.Lookup.{rank_in, before_place, after_in, before_in}
 use Rattle.mi_model.proofs.LookupLaws.{rank_first, rank_next}
 use Rattle.mi_model.proofs.ViewLaws.{Lacks}
 use Rattle.mi_node.specs.Refs.{Ref, first_of, last_of}
-use Rattle.mi_tree.specs.Shape.{nth_of}
+use Rattle.mi_tree.specs.BinaryTree.{nth_of}
 use Rattle.mi_tree.specs.Probed.{first_where}
 use Rattle.mi_container.proofs.PairLemmas.{is_other}
 

@@ -28,7 +28,7 @@ use Rattle.mi_container.specs.Inverse.{RowRef, Inverse, at_in, row_ref, next_in_
 use Rattle.mi_container.specs.Inverse.Inverse.{Relocated, Nothing}
 use Rattle.mi_container.specs.declared.inverse.RowRef.{RowRef as Row}
 use Rattle.mi_container.specs.Backs.{row_seen}
-use Rattle.mi_container.specs.Fits.{IsThere, IsLive, IsOther, IsListed, Ready}
+use Rattle.mi_container.specs.Fits.{IsThere, IsLive, IsOther, HasOwnList, Ready}
 use Rattle.mi_container.specs.Run.Change.{Relocate}
 use Rattle.mi_container.specs.Makes.{Makes}
 use Rattle.mi_container.proofs.PairLemmas.{is_itself, is_other}
@@ -110,21 +110,21 @@ module _ (i : Inside) (is : AreMulti i) (w : Seen) (seen : seen_of i ≡ w) (x :
 
 -- An index with a list of its own
 
-kind_listed : (i : Index) (o : Order) → KindFits i o → is_sequenced i.kind ≡ true → IsListed o
+kind_listed : (i : Index) (o : Order) → KindFits i o → is_sequenced i.kind ≡ true → HasOwnList o
 kind_listed i ById f seq = sorted_not_sequenced i.kind f.0 seq
 kind_listed i (ByKey ps) f seq = sorted_not_sequenced i.kind f.0 seq
 kind_listed i (ByHash ps) f seq = hashed_not_sequenced i.kind f.0 seq
 kind_listed i (Listed l) f seq = tt
 
 kinds_listed : (is : List Index) (os : List Order) (x : ℕ) (none : Index) → is_sequenced none.kind ≡ false
-    → KindsFit is os → is_sequenced (get_or is x none).kind ≡ true → IsListed (get_or os x ById)
+    → KindsFit is os → is_sequenced (get_or is x none).kind ≡ true → HasOwnList (get_or os x ById)
 kinds_listed [] os x none no_ f seq = absurd (false≢true (sym no_ ∙ seq))
 kinds_listed (i ∷ is) [] x none no_ f seq = absurd f
 kinds_listed (i ∷ is) (o ∷ os) zero none no_ f seq = kind_listed i o f.0 seq
 kinds_listed (i ∷ is) (o ∷ os) (suc x) none no_ f seq = kinds_listed is os x none no_ f.1 seq
 
 module _ (s : Shape) (d : Data) (is : IsData s d) (x : ℕ) (seq : IsSequenced s x) where
-  has_list : IsListed (get_or d.orders x ById)
+  has_list : HasOwnList (get_or d.orders x ById)
   has_list = kinds_listed s.indexes d.orders x _ refl is.kinds (ap is_sequenced seq)
 
   -- A row goes before another one, or last

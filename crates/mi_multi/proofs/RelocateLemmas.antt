@@ -34,7 +34,7 @@ use Rattle.mi_container.specs.Changes.{sorted_order, in_order, moved_order}
 use Rattle.mi_container.specs.declared.inverse.RowRef.{RowRef as Row}
 use Rattle.mi_container.specs.Inverse.{RowRef}
 use Rattle.mi_container.specs.Backs.{row_seen}
-use Rattle.mi_container.specs.Fits.{IsListed, IsOther}
+use Rattle.mi_container.specs.Fits.{HasOwnList, IsOther}
 use Rattle.mi_container.proofs.PairLemmas.{none_some, some_is, is_itself, is_other}
 use Rattle.mi_container.proofs.SequenceLemmas.{lacks_of_times, lacks_left}
 use Rattle.mi_model.proofs.ViewLaws.{Lacks}
@@ -58,17 +58,17 @@ itself {a} {b} same = elim (eqb_tells a b) [ inl is ↦ is.0 | inr isnt ↦ absu
 
 -- An index that has a list is sequenced
 
-sorted_unlisted : (ps : List KeyPart) → IsListed (sorted_order ps) → ⊥
+sorted_unlisted : (ps : List KeyPart) → HasOwnList (sorted_order ps) → ⊥
 sorted_unlisted [] l = l
 sorted_unlisted (p ∷ ps) l = l
 
-listed_kind : (k : IndexKind) (ps : List KeyPart) (l : List ℕ) → IsListed (order_of k ps l) → is_sequenced k ≡ true
+listed_kind : (k : IndexKind) (ps : List KeyPart) (l : List ℕ) → HasOwnList (order_of k ps l) → is_sequenced k ≡ true
 listed_kind kinds.Ordered ps l is = absurd (sorted_unlisted ps is)
 listed_kind kinds.Ranked ps l is = absurd (sorted_unlisted ps is)
 listed_kind kinds.Hashed ps l is = absurd is
 listed_kind kinds.Sequenced ps l is = refl
 
-unstamped : (o : Order) → IsListed o → has_stamps o ≡ false
+unstamped : (o : Order) → HasOwnList o → has_stamps o ≡ false
 unstamped ById l = absurd l
 unstamped (ByKey ps) l = absurd l
 unstamped (ByHash ps) l = absurd l
@@ -93,7 +93,7 @@ IsOtherNode ids e (Some q) (Some f) = (get ids q ≡ Some (record { node = f; li
 
 module _ (s : Shape) (ids : FinMap nat_cmp IdEntry) (m : Pooled Stored) (xs : List Structure)
     (next arrivals : ℕ) (is : IsMulti s ids m xs next arrivals) (e : ℕ) (r : Ref)
-    (there : get ids e ≡ Some (record { node = r; live = true })) (x : ℕ) (listed : IsListed (get_or (plain_of s ids m xs next arrivals).orders x ById))
+    (there : get ids e ≡ Some (record { node = r; live = true })) (x : ℕ) (listed : HasOwnList (get_or (plain_of s ids m xs next arrivals).orders x ById))
     (q : Option ℕ) (b : Option Ref) (other : IsOtherNode ids e q b) where
   abbrev os : List Order
   os = plan s.indexes
@@ -130,7 +130,7 @@ module _ (s : Shape) (ids : FinMap nat_cmp IdEntry) (m : Pooled Stored) (xs : Li
       let h = found ids m w f (as_ ++ bs) o.0 (all_others as_ bs (subst (AllByRecursion (IsLiveRef ids m)) parts live.rows)) (omega arith) in
       inr (h.xs, f ∷ h.ys, h.parts, refl)
 
-  can_here : (i : Index) (y : Structure) (rs : List Ref) → IsListed (order_of i.kind i.parts (own_list m y)) → AreLive ids m rs
+  can_here : (i : Index) (y : Structure) (rs : List Ref) → HasOwnList (order_of i.kind i.parts (own_list m y)) → AreLive ids m rs
       → (k : ℕ) (z : Structure) (us : List Ref) → Now s ids m xs next arrivals is k i y z rs us → CanRelocate y r b rs
   can_here i (Ordered t) rs l live k z us h = absurd (sorted_not_sequenced i.kind h.0.for_.0 (listed_kind i.kind i.parts (own_list m (Ordered t)) l))
   can_here i (Hashed c) rs l live k z us h = absurd (hashed_not_sequenced i.kind h.0.for_.0 (listed_kind i.kind i.parts (own_list m (Hashed c)) l))
@@ -140,7 +140,7 @@ module _ (s : Shape) (ids : FinMap nat_cmp IdEntry) (m : Pooled Stored) (xs : Li
   can_in k i y z rs us h =
       elim (eqb_tells k x) [
         | inl same ↦ subst (λ t. CanRelocateIf t y r b rs) (sym same.0)
-            (can_here i y rs (subst IsListed (ap (λ w. get_or d.orders w ById) (sym same.1) ∙ h.1.order_is) listed) h.0.live k z us h)
+            (can_here i y rs (subst HasOwnList (ap (λ w. get_or d.orders w ById) (sym same.1) ∙ h.1.order_is) listed) h.0.live k z us h)
         | inr isnt ↦ subst (λ t. CanRelocateIf t y r b rs) (sym isnt.0) tt
       ]
 

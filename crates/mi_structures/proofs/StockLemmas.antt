@@ -13,10 +13,10 @@ use Rattle.mi_node.specs.declared.link.Link.{Link}
 use Rattle.mi_node.proofs.EntryLemmas.{held_has, held_taken, ref-taken, value-taken, link-taken, slots-taken}
 use Rattle.mi_node.proofs.EntryLemmas.{ref-no_nodes, slots-no_nodes, same_name, same_refl, flip}
 use Rattle.mi_node.proofs.RefLemmas.{out_right, apart_insert, apart_remove}
-use Rattle.mi_tree.specs.Shape.{nth_of}
+use Rattle.mi_tree.specs.BinaryTree.{nth_of}
 use Rattle.mi_tree.specs.Sorted.{NoneAre, IsPutIn, compared, stamped, by_stamp, item_of, side_of_new}
 use Rattle.mi_tree.specs.Probed.{first_where}
-use Rattle.mi_tree.specs.Standing.{IsTree, IsNew}
+use Rattle.mi_tree.specs.Standing.{IsTree, CanJoin}
 use Rattle.mi_tree.specs.Frame.{AreAlike}
 use Rattle.mi_structures.specs.Keyed.{keyed_order, key_tag}
 use Rattle.mi_structures.specs.KeyedLaws.{tag_below}
@@ -136,10 +136,10 @@ module _ {O : Type 0} (b : Bool) (l : Tree O) (m n : Pool) (out : List Ref) (nex
       (tree_where keyed_order (key_tag b) keyed_total (tag_below b) l m (taken m r v) h.rs h.tree
       (alike_new h.rs here) (subst (λ k. l.slot < k) (sym (slots-taken m r v)) h.tree.has_slot))
 
-  pub may_add : IsNew n l.slot keyed_order r next h.rs
+  pub may_add : CanJoin n l.slot keyed_order r next h.rs
   may_add =
       let few = h.few in let c = h.counted in
-      subst (λ k. IsNew k l.slot keyed_order r next h.rs) (sym is) (subst (λ s. IsNew (taken m r v) s keyed_order r next h.rs) (sym h.slot) (record {
+      subst (λ k. CanJoin k l.slot keyed_order r next h.rs) (sym is) (subst (λ s. CanJoin (taken m r v) s keyed_order r next h.rs) (sym h.slot) (record {
         held = held_taken m r v;
         out = names_free m r.name h.rs free here;
         differs = differs_new h.rs here;
@@ -252,10 +252,10 @@ module _ {O : Type 0} (b : Bool) (l : Tree O) (m : Pool) (out os : List Ref) (ne
   out_put : IsOut r.name h.rs
   out_put = out_right r.name os h.rs (apart_remove os r h.rs put_apart).1
 
-  pub may_put : IsNew m l.slot keyed_order r stamp h.rs
+  pub may_put : CanJoin m l.slot keyed_order r stamp h.rs
   may_put =
       let few = h.few in let c = h.counted in let long = ap length is in let j = length-append os (r ∷ []) in
-      subst (λ s. IsNew m s keyed_order r stamp h.rs) (sym h.slot) (record {
+      subst (λ s. CanJoin m s keyed_order r stamp h.rs) (sym h.slot) (record {
         held = last_held;
         out = out_put;
         differs = differs_put h.rs (tree_held b l m h.rs h.tree) out_put;

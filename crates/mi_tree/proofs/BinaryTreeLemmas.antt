@@ -5,9 +5,9 @@ use Rattle.mi_node.specs.Neighbours.{AreHeld}
 use Rattle.mi_node.specs.Pool.{Pooled, link_of, IsHeld, IsHeldIf}
 use Rattle.mi_node.specs.Refs.{Ref, first_of, last_of}
 use Rattle.mi_node.specs.declared.link.Link.{Link}
-use Rattle.mi_tree.specs.Shape.{Shape, Tip, Fork, nodes, top, size, height, fork_link, nth_of, Stands, IsRooted, size_at, height_at}
+use Rattle.mi_tree.specs.BinaryTree.{BinaryTree, Tip, Fork, nodes, top, size, height, fork_link, nth_of, Stands, IsRooted, size_at, height_at}
 
-pub size-nodes : (t : Shape) → size t ≡ length (nodes t)
+pub size-nodes : (t : BinaryTree) → size t ≡ length (nodes t)
 size-nodes Tip = refl
 size-nodes (Fork l r q) = let a = size-nodes l in let b = size-nodes q in let e = length-append (nodes l) (r ∷ nodes q) in omega arith
 
@@ -46,7 +46,7 @@ held_both : {T : Type 0} (m : Pooled T) (xs ys : List Ref) → AreHeld m xs → 
 held_both m [] ys g h = h
 held_both m (x ∷ xs) ys g h = (g.0, held_both m xs ys g.1 h)
 
-pub all_held : {T : Type 0} (m : Pooled T) (s : ℕ) (t : Shape) → Stands m s t → AreHeld m (nodes t)
+pub all_held : {T : Type 0} (m : Pooled T) (s : ℕ) (t : BinaryTree) → Stands m s t → AreHeld m (nodes t)
 all_held m s Tip h = tt
 all_held m s (Fork l r q) h = held_both m (nodes l) (r ∷ nodes q) (all_held m s l h.2) (h.0, all_held m s q h.3)
 
@@ -57,32 +57,32 @@ none_is : (r : Ref) → Some r ≡ None → ⊥
 none_is r e = cc
 
 module _ {T : Type 0} where
-  pub moved : (m n : Pooled T) (s : ℕ) (o p : Option Ref) (t : Shape) → m ≡ n → o ≡ p → IsRooted m s o t → IsRooted n s p t
+  pub moved : (m n : Pooled T) (s : ℕ) (o p : Option Ref) (t : BinaryTree) → m ≡ n → o ≡ p → IsRooted m s o t → IsRooted n s p t
   moved m n s o p t e f h = subst (λ (z : Pooled T × Option Ref). IsRooted z.0 s z.1 t) (λ i. (e i, f i)) h
 
-  size-top : (m : Pooled T) (s : ℕ) (t : Shape) → Stands m s t → size_at m s (top t) ≡ size t
+  size-top : (m : Pooled T) (s : ℕ) (t : BinaryTree) → Stands m s t → size_at m s (top t) ≡ size t
   size-top m s Tip h = refl
   size-top m s (Fork l r q) h = ap (λ (y : Link). y.size) h.1
 
-  height-top : (m : Pooled T) (s : ℕ) (t : Shape) → Stands m s t → height_at m s (top t) ≡ height t
+  height-top : (m : Pooled T) (s : ℕ) (t : BinaryTree) → Stands m s t → height_at m s (top t) ≡ height t
   height-top m s Tip h = refl
   height-top m s (Fork l r q) h = ap (λ (y : Link). y.height) h.1
 
-  held-top : (m : Pooled T) (s : ℕ) (t : Shape) → Stands m s t → IsHeldIf m (top t)
+  held-top : (m : Pooled T) (s : ℕ) (t : BinaryTree) → Stands m s t → IsHeldIf m (top t)
   held-top m s Tip h = tt
   held-top m s (Fork l r q) h = h.0
 
-  pub size-root : (m : Pooled T) (s : ℕ) (o : Option Ref) (t : Shape) → IsRooted m s o t → size_at m s o ≡ size t
+  pub size-root : (m : Pooled T) (s : ℕ) (o : Option Ref) (t : BinaryTree) → IsRooted m s o t → size_at m s o ≡ size t
   size-root m s o t h = ap (size_at m s) h.root ∙ size-top m s t h.stands
 
-  pub height-root : (m : Pooled T) (s : ℕ) (o : Option Ref) (t : Shape) → IsRooted m s o t → height_at m s o ≡ height t
+  pub height-root : (m : Pooled T) (s : ℕ) (o : Option Ref) (t : BinaryTree) → IsRooted m s o t → height_at m s o ≡ height t
   height-root m s o t h = ap (height_at m s) h.root ∙ height-top m s t h.stands
 
-  pub held-root : (m : Pooled T) (s : ℕ) (o : Option Ref) (t : Shape) → IsRooted m s o t → IsHeldIf m o
+  pub held-root : (m : Pooled T) (s : ℕ) (o : Option Ref) (t : BinaryTree) → IsRooted m s o t → IsHeldIf m o
   held-root m s o t h = subst (IsHeldIf m) (sym h.root) (held-top m s t h.stands)
 
   -- the node that a tree is under is held in a pool n that is as m is
-  pub held-moved : {m n : Pooled T} {s : ℕ} {o : Option Ref} {t : Shape} → n ≡ m → IsRooted m s o t → IsHeldIf n o
+  pub held-moved : {m n : Pooled T} {s : ℕ} {o : Option Ref} {t : BinaryTree} → n ≡ m → IsRooted m s o t → IsHeldIf n o
   held-moved {m} {n} {s} {o} {t} e h = held-root n s o t (moved m n s o o t (sym e) refl h)
 
   -- a lower tree is lower in pools that are as m is
@@ -95,16 +95,16 @@ module _ {T : Type 0} where
   slot-moved s e h = subst (λ (z : Pooled T). s < z.slots) (sym e) h
 
   -- a tree under a node is that node between two trees
-  pub record Opened (m : Pooled T) (s : ℕ) (r : Ref) (t : Shape) : Type 0 where
-    pub left : Shape
-    pub right : Shape
+  pub record Opened (m : Pooled T) (s : ℕ) (r : Ref) (t : BinaryTree) : Type 0 where
+    pub left : BinaryTree
+    pub right : BinaryTree
     pub is : t ≡ Fork left r right
     pub held : IsHeld m r
     pub link : link_of m r.name s ≡ fork_link left right (link_of m r.name s).tag
     pub left_is : IsRooted m s (link_of m r.name s).back left
     pub right_is : IsRooted m s (link_of m r.name s).forth right
 
-  pub opened : (m : Pooled T) (s : ℕ) (r : Ref) (t : Shape) → IsRooted m s (Some r) t → Opened m s r t
+  pub opened : (m : Pooled T) (s : ℕ) (r : Ref) (t : BinaryTree) → IsRooted m s (Some r) t → Opened m s r t
   opened m s r Tip h = absurd (none_is r h.root)
   opened m s r (Fork l x q) h = let e = some_is r x h.root in subst (λ y. Opened m s y (Fork l x q)) (sym e) (record {
     left = l;
@@ -116,12 +116,12 @@ module _ {T : Type 0} where
     right_is = record { root = ap (λ (y : Link). y.forth) h.stands.1; stands = h.stands.3 };
   })
 
-  pub tip_is : (m : Pooled T) (s : ℕ) (t : Shape) → IsRooted m s None t → t ≡ Tip
+  pub tip_is : (m : Pooled T) (s : ℕ) (t : BinaryTree) → IsRooted m s None t → t ≡ Tip
   tip_is m s Tip h = refl
   tip_is m s (Fork l x q) h = absurd (none_is x (sym h.root))
 
   -- one root, one tree
-  same_shape : (m : Pooled T) (s : ℕ) (t u : Shape) → top t ≡ top u → Stands m s t → Stands m s u → t ≡ u
+  same_shape : (m : Pooled T) (s : ℕ) (t u : BinaryTree) → top t ≡ top u → Stands m s t → Stands m s u → t ≡ u
   same_shape m s Tip Tip e g h = refl
   same_shape m s Tip (Fork a x b) e g h = absurd (none_is x (sym e))
   same_shape m s (Fork l r q) Tip e g h = absurd (none_is r e)
@@ -131,13 +131,13 @@ module _ {T : Type 0} where
       let forth : top q ≡ top b = sym (ap (λ (y : Link). y.forth) g.1) ∙ ap (λ (k : Ref). (link_of m k.name s).forth) n ∙ ap (λ (y : Link). y.forth) h.1 in
       let i = same_shape m s l a back g.2 h.2 in let j = same_shape m s q b forth g.3 h.3 in λ k. Fork (i k) (n k) (j k)
 
-  pub same_tree : (m : Pooled T) (s : ℕ) (at : Option Ref) (t u : Shape) → IsRooted m s at t → IsRooted m s at u → t ≡ u
+  pub same_tree : (m : Pooled T) (s : ℕ) (at : Option Ref) (t u : BinaryTree) → IsRooted m s at t → IsRooted m s at u → t ≡ u
   same_tree m s at t u g h = same_shape m s t u (sym g.root ∙ h.root) g.stands h.stands
 
   -- the sides of a node on the way down
-  pub record Sides (m : Pooled T) (s : ℕ) (r : Ref) (y : Link) (u : Shape) : Type 0 where
-    pub A : Shape
-    pub B : Shape
+  pub record Sides (m : Pooled T) (s : ℕ) (r : Ref) (y : Link) (u : BinaryTree) : Type 0 where
+    pub A : BinaryTree
+    pub B : BinaryTree
     pub is : u ≡ Fork A r B
     pub held : IsHeld m r
     pub left : IsRooted m s y.back A
@@ -147,7 +147,7 @@ module _ {T : Type 0} where
     pub left_lower : height_at m s y.back < height u
     pub right_lower : height_at m s y.forth < height u
 
-  pub sides : (m : Pooled T) (s : ℕ) (at : Option Ref) (r : Ref) (y : Link) (u : Shape)
+  pub sides : (m : Pooled T) (s : ℕ) (at : Option Ref) (r : Ref) (y : Link) (u : BinaryTree)
       → IsRooted m s at u → at ≡ Some r → y ≡ link_of m r.name s → Sides m s r y u
   sides m s at r y u h e i =
       let o = opened m s r u (moved m m s at (Some r) u refl e h) in let heights = ap height o.is in

@@ -6,7 +6,7 @@ use Rattle.std.specs.Cmp.{IsTotalOrder}
 use Rattle.mi_node.specs.Pool.{Pooled, link_of}
 use Rattle.mi_node.specs.Refs.{Ref}
 use Rattle.mi_node.specs.declared.link.Link.{Link}
-use Rattle.mi_tree.specs.Shape.{Shape, nodes}
+use Rattle.mi_tree.specs.BinaryTree.{BinaryTree, nodes}
 use Rattle.mi_tree.specs.Sorted.{Rising, HasTag, AreTagged, CanTake, side}
 use Rattle.mi_tree.specs.Walking.{Pending, Enters, Goes, ahead, beyond, is_ascending}
 use Rattle.mi_tree.specs.declared.walk.Direction.{Direction}
@@ -17,23 +17,23 @@ use Rattle.mi_tree.proofs.WalkLemmas.{Entered, entered, farther, pend_left, pend
 module _ {T : Type 0} where
   -- a path from which a walk goes down a tree in order to a node that stands between vs and ws
   pub record Finding (m : Pooled T) (s : ℕ) (order : T → T → Ordering) (d : Direction) (levels : ℕ) (items : List (Option Ref))
-      (at : Option Ref) (xs : List Pending) (t : Shape) (node : Ref) (vs ws : List Ref) : Type 0 where
+      (at : Option Ref) (xs : List Pending) (t : BinaryTree) (node : Ref) (vs ws : List Ref) : Type 0 where
     pub enters : Enters m s d levels items at xs t
     pub can : CanTake m s at t
     pub rising : Rising (side order m s) (nodes t)
     pub is : nodes t ≡ vs ++ node ∷ ws
 
   pub finding : {m : Pooled T} {s : ℕ} {order : T → T → Ordering} {d : Direction} {levels : ℕ} {items : List (Option Ref)}
-      {at : Option Ref} {xs : List Pending} {t : Shape} {node : Ref} {vs ws : List Ref}
+      {at : Option Ref} {xs : List Pending} {t : BinaryTree} {node : Ref} {vs ws : List Ref}
       → Enters m s d levels items at xs t → CanTake m s at t → Rising (side order m s) (nodes t) → nodes t ≡ vs ++ node ∷ ws
       → Finding m s order d levels items at xs t node vs ws
   finding h can up e = record { enters = h; can = can; rising = up; is = e }
 
   -- the same as a walk down asks it of its caller
   pub way_of : {m : Pooled T} {s : ℕ} {order : T → T → Ordering} {d : Direction} {levels : ℕ} {items : List (Option Ref)}
-      {at : Option Ref} {xs : List Pending} {t : Shape} {node : Ref} {vs ws : List Ref} (tag : T → ℕ)
+      {at : Option Ref} {xs : List Pending} {t : BinaryTree} {node : Ref} {vs ws : List Ref} (tag : T → ℕ)
       → Finding m s order d levels items at xs t node vs ws → AreTagged tag m s (nodes t)
-      → (levels : ℕ) × (xs : List Pending) × (t : Shape) × (vs : List Ref) × (ws : List Ref) × Enters m s d levels items at xs t
+      → (levels : ℕ) × (xs : List Pending) × (t : BinaryTree) × (vs : List Ref) × (ws : List Ref) × Enters m s d levels items at xs t
       × CanTake m s at t × Rising (side order m s) (nodes t) × AreTagged tag m s (nodes t) × (nodes t ≡ vs ++ node ∷ ws)
   way_of {levels = levels} {xs = xs} {t = t} {vs = vs} {ws = ws} tag h tags = (levels, xs, t, vs, ws, h.enters, h.can, h.rising, tags, h.is)
 
@@ -44,7 +44,7 @@ module _ {T : Type 0} where
       (ys : List Pending) × Goes m s d levels items ys × (ahead d ys ≡ node ∷ (beyond d vs ws ++ ahead d xs))
 
   module _ {m n : Pooled T} {s : ℕ} {order : T → T → Ordering} {d : Direction} {levels : ℕ} {items : List (Option Ref)} {at : Option Ref}
-      {xs : List Pending} {t : Shape} {node : Ref} {vs ws : List Ref} {r : Ref} {y : Link} (total : IsTotalOrder order)
+      {xs : List Pending} {t : BinaryTree} {node : Ref} {vs ws : List Ref} {r : Ref} {y : Link} (total : IsTotalOrder order)
       (h : Finding m s order d levels items at xs t node vs ws) (e : at ≡ Some r) (i : y ≡ link_of m r.name s) (same : n ≡ m) where
     abbrev pub place : Entered m s d levels items r y xs t
     place = entered h.enters e i

@@ -17,11 +17,11 @@ use Rattle.mi_node.specs.Refs.{Ref}
 use Rattle.mi_node.specs.declared.link.Link.{Link}
 use Rattle.mi_node.proofs.EntryLemmas.{held_has, same_name, value-with_value, value_there, ref-with_value, link-with_value, slots-with_value}
 use Rattle.mi_tree.specs.Order.{IsTagBelow}
-use Rattle.mi_tree.specs.Shape.{Shape, Tip, Fork, nodes, top, height, fork_link, Stands}
+use Rattle.mi_tree.specs.BinaryTree.{BinaryTree, Tip, Fork, nodes, top, height, fork_link, Stands}
 use Rattle.mi_tree.specs.Sorted.{AllAre, Rising, IsTagOf, HasTag, AreTagged, by_stamp, stamped, compared, item_of, side}
 use Rattle.mi_tree.specs.Standing.{IsTree}
 use Rattle.mi_tree.specs.declared.tree.Tree.{Tree}
-use Rattle.mi_tree.specs.Frame.{IsAlike, AreAlike, listed_in, listed, StandsWhereAlike, StandsWhereSwapped, IsListed, StandsEmpty}
+use Rattle.mi_tree.specs.Frame.{IsAlike, AreAlike, listed_in, listed, StandsWhereAlike, StandsWhereSwapped, ListsNodes, StandsEmpty}
 use Rattle.mi_tree.proofs.BinaryTreeLemmas.{height-root, all_held}
 use Rattle.mi_tree.proofs.SortedLemmas.{by_stamp_total}
 use Rattle.mi_tree.proofs.JoinLemmas.{link_kept}
@@ -91,7 +91,7 @@ module _ {T : Type 0} (order : T → T → Ordering) (m n : Pooled T) (s : ℕ) 
   alike_rest [] ys h = h
   alike_rest (x ∷ xs) ys h = alike_rest xs ys h.1
 
-  alike_stands : (t : Shape) → AreAlike order m n s (nodes t) → Stands m s t → Stands n s t
+  alike_stands : (t : BinaryTree) → AreAlike order m n s (nodes t) → Stands m s t → Stands n s t
   alike_stands Tip y h = tt
   alike_stands (Fork l r q) y h =
       let right = alike_rest (nodes l) (r ∷ nodes q) y in (
@@ -102,7 +102,7 @@ module _ {T : Type 0} (order : T → T → Ordering) (m n : Pooled T) (s : ℕ) 
       )
 
 module _ {T : Type 0} (m : Pooled T) (s : ℕ) where
-  listed_nodes : (t : Shape) (levels : ℕ) → height t ≤ levels → Stands m s t → listed_in m s levels (top t) ≡ nodes t
+  listed_nodes : (t : BinaryTree) (levels : ℕ) → height t ≤ levels → Stands m s t → listed_in m s levels (top t) ≡ nodes t
   listed_nodes Tip zero h w = refl
   listed_nodes Tip (suc k) h w = refl
   listed_nodes (Fork l r q) zero h w = absurd (omega arith)
@@ -196,7 +196,7 @@ module _ {T O : Type 0} where
       tree_where order tag total below l m n rs h (alike_kept order total m n s l.slot us rs g e (tree_held l m order tag rs h))
       (subst (λ k. l.slot < k) (sym g.slots) h.has_slot)
 
-  pub tree_listed : IsListed T O
+  pub tree_listed : ListsNodes T O
   unfolding listed
   tree_listed l m order tag rs h =
       let e = height-root m l.slot l.root h.shape h.rooted in

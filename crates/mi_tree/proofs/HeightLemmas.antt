@@ -3,7 +3,7 @@
 --     short, shorter, low_enough      its height, by the number of binary digits of its size, and for fewer than 2^32 nodes
 use Rattle.std.proofs.Common.{◌≡◌, ℕ, zero, suc, ◌+◌, ◌*◌, ◌^◌, ◌<◌, ◌≤◌, max, ◌⊎◌, inl, inr, refl, sym, subst, arith}
 use Rattle.std.proofs.Math.Nat.{pow-suc}
-use Rattle.mi_tree.specs.Shape.{Shape, Tip, Fork, size, height, DifferByAtMost, IsEven}
+use Rattle.mi_tree.specs.BinaryTree.{BinaryTree, Tip, Fork, size, height, DifferByAtMost, IsEven}
 use Rattle.mi_tree.specs.Height.{fib, HasEnough}
 
 pub at_most_or_more : (a b : ℕ) → (a ≤ b) ⊎ (b + 1 ≤ a)
@@ -50,7 +50,7 @@ passed (suc b) (suc zero) e = absurd (omega arith)
 passed (suc b) (suc (suc n)) e =
     let i = passed b n (omega arith) in let j = fib_two (suc (suc (suc n))) in let k = fib_two (suc (suc n)) in let p = pow-suc 2 b in omega arith
 
-pub short : (t : Shape) → IsEven t → (b : ℕ) → size t < 2 ^ b → height t ≤ 2 * b
+pub short : (t : BinaryTree) → IsEven t → (b : ℕ) → size t < 2 ^ b → height t ≤ 2 * b
 short t e b h = elim (at_most_or_more (height t) (2 * b)) [
   | inl i ↦ i
   | inr i ↦
@@ -69,7 +69,7 @@ passed_less (suc b) (suc (suc n)) e =
     let i = passed_less b n (omega arith) in let j = fib_two (suc (suc (suc (suc n)))) in let k = fib_two (suc (suc (suc n))) in let p = pow-suc 2 (suc b) in
     omega arith
 
-pub shorter : (t : Shape) → IsEven t → (b : ℕ) → size t < 2 ^ b → 1 ≤ size t → height t + 1 ≤ 2 * b
+pub shorter : (t : BinaryTree) → IsEven t → (b : ℕ) → size t < 2 ^ b → 1 ≤ size t → height t + 1 ≤ 2 * b
 shorter t e zero h k = absurd (omega arith)
 shorter t e (suc b) h k = elim (at_most_or_more (height t + 1) (2 * suc b)) [
   | inl i ↦ i
@@ -79,7 +79,7 @@ shorter t e (suc b) h k = elim (at_most_or_more (height t + 1) (2 * suc b)) [
       absurd (omega arith)
 ]
 
-pub low_enough : (t : Shape) → IsEven t → size t < 2 ^ 32 → height t ≤ 45
+pub low_enough : (t : BinaryTree) → IsEven t → size t < 2 ^ 32 → height t ≤ 45
 low_enough t e h = elim (at_most_or_more (height t) 45) [
   | inl i ↦ i
   | inr i ↦ let j = has_enough t e in let k : fib 48 ≤ fib (suc (suc (height t))) = (fib_mono 48 (suc (suc (height t))) (omega arith)).0 in absurd (omega arith)

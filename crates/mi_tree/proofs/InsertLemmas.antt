@@ -6,7 +6,7 @@ use Rattle.mi_node.specs.Pool.{Pooled, link_of, IsHeld}
 use Rattle.mi_node.specs.declared.link.Link.{Link}
 use Rattle.mi_node.specs.Refs.{Ref, IsOut, IsApart, AreOut}
 use Rattle.mi_node.proofs.RefLemmas.{out_left, out_right, out_both, apart_insert, between}
-use Rattle.mi_tree.specs.Shape.{Shape, Fork, nodes, size, height, IsEven, height_at}
+use Rattle.mi_tree.specs.BinaryTree.{BinaryTree, Fork, nodes, size, height, IsEven, height_at}
 use Rattle.mi_tree.specs.Sorted.{NoneAre, Rising, IsPutIn, CanPut}
 use Rattle.mi_tree.proofs.BinaryTreeLemmas.{moved, opened, height-root}
 use Rattle.mi_tree.proofs.SortedLemmas.{none_left, none_right, rising_left, rising_right}
@@ -29,9 +29,9 @@ cut_right [] r ys a = tt
 cut_right (x ∷ xs) r ys a = (a.0.1, cut_right xs r ys a.1)
 
 module _ {T : Type 0} where
-  pub record PutOpened (m : Pooled T) (s : ℕ) (R : Ref → Ref → Ordering) (root x : Ref) (y : Link) (t : Shape) : Type 0 where
-    pub A : Shape
-    pub B : Shape
+  pub record PutOpened (m : Pooled T) (s : ℕ) (R : Ref → Ref → Ordering) (root x : Ref) (y : Link) (t : BinaryTree) : Type 0 where
+    pub A : BinaryTree
+    pub B : BinaryTree
     pub is : t ≡ Fork A root B
     pub left : CanPut m s R y.back x A
     pub right : CanPut m s R y.forth x B
@@ -48,7 +48,7 @@ module _ {T : Type 0} where
     pub height_is : y.height ≡ max (height A) (height B) + 1
     pub tag_is : y.tag ≡ (link_of m root.name s).tag
 
-  pub put_opened : (m : Pooled T) (s : ℕ) (R : Ref → Ref → Ordering) (at : Option Ref) (root x : Ref) (y : Link) (t : Shape)
+  pub put_opened : (m : Pooled T) (s : ℕ) (R : Ref → Ref → Ordering) (at : Option Ref) (root x : Ref) (y : Link) (t : BinaryTree)
       → CanPut m s R at x t → at ≡ Some root → y ≡ link_of m root.name s → PutOpened m s R root x y t
   put_opened m s R at root x y t h e i =
       let o = opened m s root t (moved m m s at (Some root) t refl e h.rooted) in

@@ -7,7 +7,7 @@ use Rattle.mi_node.proofs.EntryLemmas.{link_here, link_there, same_name}
 use Rattle.mi_node.proofs.KeepingLemmas.{keeps_link, held_kept}
 use Rattle.mi_node.specs.Refs.{Ref, IsOut, IsApart, AreOut}
 use Rattle.mi_node.proofs.RefLemmas.{out_left, out_right, between, are_out_none, are_out_cons}
-use Rattle.mi_tree.specs.Shape.{Shape, Tip, Fork, nodes, fork_link, Stands, IsRooted, size_at, height_at}
+use Rattle.mi_tree.specs.BinaryTree.{BinaryTree, Tip, Fork, nodes, fork_link, Stands, IsRooted, size_at, height_at}
 use Rattle.mi_tree.specs.Joining.{Two, IsFork, Three, Four}
 use Rattle.mi_tree.specs.Sorted.{SameTags}
 use Rattle.mi_tree.proofs.BinaryTreeLemmas.{size-root, height-root}
@@ -24,7 +24,7 @@ module _ {T : Type 0} where
   link_kept m n s r f e h = e ∙ h ∙ ap (λ (y : Link). f y.tag) (sym e)
 
   -- a tree away from the change
-  pub stands_kept : (s : ℕ) (m n : Pooled T) (us : List Ref) (t : Shape) → Keeps m n s us → AreOut (nodes t) us → Stands m s t → Stands n s t
+  pub stands_kept : (s : ℕ) (m n : Pooled T) (us : List Ref) (t : BinaryTree) → Keeps m n s us → AreOut (nodes t) us → Stands m s t → Stands n s t
   stands_kept s m n us Tip g a h = tt
   stands_kept s m n us (Fork l r q) g a h =
       let on = cut_out (nodes l) r (nodes q) us a in (
@@ -34,16 +34,16 @@ module _ {T : Type 0} where
         stands_kept s m n us q g on.2 h.3,
       )
 
-  pub rooted_kept : (s : ℕ) (m n : Pooled T) (us : List Ref) (o : Option Ref) (t : Shape)
+  pub rooted_kept : (s : ℕ) (m n : Pooled T) (us : List Ref) (o : Option Ref) (t : BinaryTree)
       → Keeps m n s us → AreOut (nodes t) us → IsRooted m s o t → IsRooted n s o t
   rooted_kept s m n us o t g a h = record { root = h.root; stands = stands_kept s m n us t g a h.stands }
 
   -- the same, where one node changed
-  pub rooted_past : (s : ℕ) (m n : Pooled T) (x : Ref) (o : Option Ref) (t : Shape)
+  pub rooted_past : (s : ℕ) (m n : Pooled T) (x : Ref) (o : Option Ref) (t : BinaryTree)
       → Keeps m n s (x ∷ []) → IsOut x.name (nodes t) → IsRooted m s o t → IsRooted n s o t
   rooted_past s m n x o t g a h = rooted_kept s m n (x ∷ []) o t g (are_out_cons (nodes t) x [] a (are_out_none (nodes t))) h
 
-  pub joined : (s : ℕ) (m n : Pooled T) (x : Ref) (y : Link) (A B : Shape)
+  pub joined : (s : ℕ) (m n : Pooled T) (x : Ref) (y : Link) (A B : BinaryTree)
       → n ≡ with_link m x.name s y → IsFork m s x y A B → IsRooted n s (Some x) (Fork A x B)
   joined s m n x y A B e h =
       let keeps = subst (λ o. Keeps m o s (x ∷ [])) (sym e) (keeps_link s m x y) in
@@ -76,14 +76,16 @@ module _ {T : Type 0} where
         | false ↦ λ is. ap (λ (z : Link). z.tag) (link_there m x.name s y k s is)
       ]) refl
 
-  pub fork_of : (s : ℕ) (m : Pooled T) (x : Ref) (y : Link) (A B : Shape) → Two m s y.back x y.forth A B → y.size ≡ size_at m s y.back + size_at m s y.forth + 1
+  pub fork_of : (s : ℕ) (m : Pooled T) (x : Ref) (y : Link) (A B : BinaryTree) → Two m s y.back x y.forth A B
+      → y.size ≡ size_at m s y.back + size_at m s y.forth + 1
       → y.height ≡ max (height_at m s y.back) (height_at m s y.forth) + 1 → y.tag ≡ (link_of m x.name s).tag → IsFork m s x y A B
   fork_of s m x y A B h e f g =
       let a = size-root m s y.back A h.first in let b = size-root m s y.forth B h.second in
       let c = height-root m s y.back A h.first in let d = height-root m s y.forth B h.second in
       record { two = h; size_is = omega arith; height_is = f ∙ (λ i. max (c i) (d i) + 1); tag_is = g }
 
-  module _ (s : ℕ) (m n : Pooled T) (a : Option Ref) (x : Ref) (b : Option Ref) (y : Ref) (c : Option Ref) (A B C : Shape) (h : Three m s a x b y c A B C) where
+  module _ (s : ℕ) (m n : Pooled T) (a : Option Ref) (x : Ref) (b : Option Ref) (y : Ref) (c : Option Ref) (A B C : BinaryTree)
+      (h : Three m s a x b y c A B C) where
     pub down_low : Two m s b y c B C
     down_low =
         let o = thrice (nodes A) x (nodes B) y (nodes C) h.apart in
@@ -135,7 +137,7 @@ module _ {T : Type 0} where
     }
 
   module _ (s : ℕ) (m n o : Pooled T) (a : Option Ref) (x : Ref) (b : Option Ref) (y : Ref) (c : Option Ref)
-      (z : Ref) (d : Option Ref) (A B C D : Shape) (h : Four m s a x b y c z d A B C D) where
+      (z : Ref) (d : Option Ref) (A B C D : BinaryTree) (h : Four m s a x b y c z d A B C D) where
     pub both_left : Two m s a x b A B
     both_left = let i = thrice (nodes A) x (nodes B) y (nodes C ++ z ∷ nodes D) h.apart in let f = h.fits in let w = h.low in
         record {

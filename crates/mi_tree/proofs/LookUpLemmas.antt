@@ -9,7 +9,7 @@ use Rattle.mi_node.specs.Neighbours.{AreHeld}
 use Rattle.mi_node.specs.Pool.{Pooled, link_of, value_of, IsHeld, IsHeldIf}
 use Rattle.mi_node.specs.Refs.{Ref}
 use Rattle.mi_node.specs.declared.link.Link.{Link}
-use Rattle.mi_tree.specs.Shape.{Shape, nodes, height, Stands, IsRooted, size_at, height_at, link_at, links_of, nth_of}
+use Rattle.mi_tree.specs.BinaryTree.{BinaryTree, nodes, height, Stands, IsRooted, size_at, height_at, link_at, links_of, nth_of}
 use Rattle.mi_tree.specs.Order.{IsNoLater, IsMonotone}
 use Rattle.mi_tree.specs.Sorted.{AllAre, Rising, HasTag, AreTagged, by_stamp, stamped, compared, item_of, side}
 use Rattle.mi_tree.specs.Probed.{past, place_at, past_value, is_past_node, is_value_at, is_node_at, first_where, AllWhere, IsSteady}
@@ -212,7 +212,7 @@ first_held m f (q ∷ rs) r h e = (elim (f q) as (λ b. Some r ≡ cond b (Some 
 ]) e
 
 -- what is found stands in the pool
-pub found_held : {T : Type 0} (m : Pooled T) (s : ℕ) (t : Shape) (f : Ref → Bool) (r : Ref) → Stands m s t → Some r ≡ first_where f (nodes t) → IsHeld m r
+pub found_held : {T : Type 0} (m : Pooled T) (s : ℕ) (t : BinaryTree) (f : Ref → Bool) (r : Ref) → Stands m s t → Some r ≡ first_where f (nodes t) → IsHeld m r
 found_held m s t f r h e = first_held m f (nodes t) r (all_held m s t h) e
 
 or_none : (o : Option Ref) → o ≡ or_found o None
@@ -222,8 +222,8 @@ or_none (Some r) = refl
 -- the way of a search: what is found in the whole is found below, or was found before
 module _ {T : Type 0} where
   pub record Seeking (m : Pooled T) (s : ℕ) (tag : T → ℕ) (f : Ref → Bool) (root at found : Option Ref) (read0 read step0 step : ℕ) : Type 0 where
-    pub t : Shape
-    pub u : Shape
+    pub t : BinaryTree
+    pub u : BinaryTree
     pub whole : IsRooted m s root t
     pub rooted : IsRooted m s at u
     pub tagged : AreTagged tag m s (nodes u)
@@ -233,7 +233,7 @@ module _ {T : Type 0} where
     pub steps : step + height u ≤ step0 + height t
 
   module _ {m : Pooled T} {s : ℕ} {tag : T → ℕ} {f : Ref → Bool} {root : Option Ref} where
-    pub seek_start : (t : Shape) → IsRooted m s root t → AreTagged tag m s (nodes t)
+    pub seek_start : (t : BinaryTree) → IsRooted m s root t → AreTagged tag m s (nodes t)
         → IsSteady f (nodes t) → (a b : ℕ) → Seeking m s tag f root root None a a b b
     seek_start t h g k a b = record {
       t = t;
@@ -292,7 +292,7 @@ module _ {T : Type 0} where
           }
 
     pub seek_end : {at found : Option Ref} {a b c d : ℕ} (h : Seeking m s tag f root at found a b c d) → at ≡ None
-        → (t : Shape) → IsRooted m s root t → (found ≡ first_where f (nodes t)) × (b ≤ a + height t) × (d ≤ c + height t)
+        → (t : BinaryTree) → IsRooted m s root t → (found ≡ first_where f (nodes t)) × (b ≤ a + height t) × (d ≤ c + height t)
     seek_end {at} {found} h e t w =
         let same = same_tree m s root t h.t w h.whole in let tall = ap height same in let n = h.reads in let k = h.steps in
         let tip = tip_is m s h.u (moved m m s at None h.u refl e h.rooted) in
@@ -300,15 +300,15 @@ module _ {T : Type 0} where
 
   -- the way to a node of an index
   pub record Counting (m : Pooled T) (s : ℕ) (root at : Option Ref) (n0 n read0 read : ℕ) : Type 0 where
-    pub t : Shape
-    pub u : Shape
+    pub t : BinaryTree
+    pub u : BinaryTree
     pub whole : IsRooted m s root t
     pub rooted : IsRooted m s at u
     pub is : nth_of (nodes t) n0 ≡ nth_of (nodes u) n
     pub reads : read + 2 * height u ≤ read0 + 2 * height t
 
   module _ (m : Pooled T) (s : ℕ) (root : Option Ref) (n0 : ℕ) where
-    count_start : (t : Shape) → IsRooted m s root t → (a : ℕ) → Counting m s root root n0 n0 a a
+    count_start : (t : BinaryTree) → IsRooted m s root t → (a : ℕ) → Counting m s root root n0 n0 a a
     count_start t h a = record { t = t; u = t; whole = h; rooted = h; is = refl; reads = omega arith }
 
     module _ (at : Option Ref) (r : Ref) (y : Link) (n a b : ℕ) (h : Counting m s root at n0 n a b) (e : at ≡ Some r) (i : y ≡ link_of m r.name s) where
@@ -320,7 +320,7 @@ module _ {T : Type 0} where
           let o = count_sides in let k = height-root m s at h.u h.rooted in let p = o.left_lower in let q = o.right_lower in (omega arith, omega arith)
 
       module _ (c : ℕ) (low : c ≤ b + 2) where
-        count_here : n ≡ size_at m s y.back → (t : Shape) → IsRooted m s root t → (Some r ≡ nth_of (nodes t) n0) × (c ≤ a + 2 * height t)
+        count_here : n ≡ size_at m s y.back → (t : BinaryTree) → IsRooted m s root t → (Some r ≡ nth_of (nodes t) n0) × (c ≤ a + 2 * height t)
         count_here f t w =
             let o = count_sides in let k = size-root m s y.back o.A o.left in let j = size-nodes o.A in let q : n ≡ length (nodes o.A) = omega arith in
             let same = same_tree m s root t h.t w h.whole in let tall = ap height same in let z = h.reads in let g = o.height_is in (
@@ -354,7 +354,7 @@ module _ {T : Type 0} where
             }
 
     count_end : (at : Option Ref) (n a b : ℕ) (h : Counting m s root at n0 n a b) → at ≡ None
-        → (t : Shape) → IsRooted m s root t → (None ≡ nth_of (nodes t) n0) × (b ≤ a + 2 * height t)
+        → (t : BinaryTree) → IsRooted m s root t → (None ≡ nth_of (nodes t) n0) × (b ≤ a + 2 * height t)
     count_end at n a b h e t w =
         let same = same_tree m s root t h.t w h.whole in let tall = ap height same in let k = h.reads in
         let tip = tip_is m s h.u (moved m m s at None h.u refl e h.rooted) in
@@ -378,7 +378,7 @@ module _ {T : Type 0} where
     pub reads : read ≤ counted + links_of at
 
   module _ {m : Pooled T} {s : ℕ} {root : Option Ref} {n0 : ℕ} where
-    pub carry_start : (t : Shape) {y : Link} {a b : ℕ} → IsRooted m s root t → y ≡ link_at m s root → b ≡ a + links_of root
+    pub carry_start : (t : BinaryTree) {y : Link} {a b : ℕ} → IsRooted m s root t → y ≡ link_at m s root → b ≡ a + links_of root
         → Carrying m s root root y.back y.forth n0 n0 a b
     carry_start t {y} {a} {b} h i e = record {
       counted = a;
@@ -413,7 +413,7 @@ module _ {T : Type 0} where
         before_is : w.size ≡ size_at m s here.back
         before_is = size_of_link m s back w i ∙ ap (size_at m s) (sym is_back)
 
-        pub carry_ends : n ≡ w.size → (t : Shape) → IsRooted m s root t → (Some r ≡ nth_of (nodes t) n0) × (c ≤ a + 2 * height t)
+        pub carry_ends : n ≡ w.size → (t : BinaryTree) → IsRooted m s root t → (Some r ≡ nth_of (nodes t) n0) × (c ≤ a + 2 * height t)
         carry_ends g t k = count_here m s root n0 at r here n a h.counted h.counting e refl c low (g ∙ before_is) t k
 
         pub carry_left : n < w.size → Carrying m s root back w.back w.forth n0 n a c
@@ -438,7 +438,7 @@ module _ {T : Type 0} where
         }
 
     pub carry_none : {at back forth : Option Ref} {n a b : ℕ} (h : Carrying m s root at back forth n0 n a b)
-        → at ≡ None → (t : Shape) → IsRooted m s root t → (None ≡ nth_of (nodes t) n0) × (b ≤ a + 2 * height t)
+        → at ≡ None → (t : BinaryTree) → IsRooted m s root t → (None ≡ nth_of (nodes t) n0) × (b ≤ a + 2 * height t)
     carry_none {at} {n = n} {a = a} {b = b} h e t w =
         let on = count_end m s root n0 at n a h.counted h.counting e t w in let k = h.reads in let j = ap links_of e in let g = on.1 in (on.0, omega arith)
 

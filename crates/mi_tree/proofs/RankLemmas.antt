@@ -7,7 +7,7 @@ use Rattle.std.specs.Cmp.{IsTotalOrder}
 use Rattle.mi_node.specs.Pool.{Pooled, link_of, IsHeld}
 use Rattle.mi_node.specs.Refs.{Ref}
 use Rattle.mi_node.specs.declared.link.Link.{Link}
-use Rattle.mi_tree.specs.Shape.{Shape, nodes, size, height, IsRooted, size_at, height_at}
+use Rattle.mi_tree.specs.BinaryTree.{BinaryTree, nodes, size, height, IsRooted, size_at, height_at}
 use Rattle.mi_tree.specs.Sorted.{Rising, HasTag, AreTagged, side}
 use Rattle.mi_tree.proofs.BinaryTreeLemmas.{moved, tip_is, same_tree, Sides, sides, size-root, height-root, size-nodes}
 use Rattle.mi_tree.proofs.SortedLemmas.{side_order, tagged_left, tagged_right, rising_left, rising_right, where_is, go_left, go_here, go_right, none_here}
@@ -23,8 +23,8 @@ pub record IsPart (node : Ref) (us : List Ref) (before : ℕ) (xs : List Ref) : 
 module _ {T : Type 0} where
   pub record Ranking (m : Pooled T) (s : ℕ) (order : T → T → Ordering) (tag : T → ℕ)
       (node : Ref) (root at : Option Ref) (before read0 read step0 step : ℕ) : Type 0 where
-    pub t : Shape
-    pub u : Shape
+    pub t : BinaryTree
+    pub u : BinaryTree
     pub whole : IsRooted m s root t
     pub few : size t < 2 ^ 32
     pub rooted : IsRooted m s at u
@@ -41,7 +41,7 @@ module _ {T : Type 0} where
   tag_in m s tag xs x ys us e h = (tagged_right tag m s xs (x ∷ ys) (subst (AreTagged tag m s) e h)).0
 
   module _ {m : Pooled T} {s : ℕ} {order : T → T → Ordering} {tag : T → ℕ} {node : Ref} {root : Option Ref} where
-    pub rank_start : (t : Shape) (xs ys : List Ref) → IsRooted m s root t → size t < 2 ^ 32
+    pub rank_start : (t : BinaryTree) (xs ys : List Ref) → IsRooted m s root t → size t < 2 ^ 32
         → Rising (side order m s) (nodes t) → AreTagged tag m s (nodes t) → nodes t ≡ xs ++ node ∷ ys → (a b : ℕ)
         → Ranking m s order tag node root root 0 a a b b
     rank_start t xs ys h f up tags e a b = record {
@@ -148,7 +148,7 @@ module _ {T : Type 0} where
                 steps = omega arith;
               }
 
-          pub rank_here : side order m s node r ≡ Equal → (t : Shape) → IsRooted m s root t
+          pub rank_here : side order m s node r ≡ Equal → (t : BinaryTree) → IsRooted m s root t
               → ((xs ys : List Ref) → nodes t ≡ xs ++ node ∷ ys → n + size_at m s y.back ≡ length xs) × (f ≤ a + 2 * height t) × (g ≤ c + height t)
           rank_here same t w =
               let eq = same_tree m s root t h.t w h.whole in let tall = ap height eq in let z = h.reads in let j = h.steps in let v = (o).height_is in

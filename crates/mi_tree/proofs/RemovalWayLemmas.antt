@@ -11,7 +11,7 @@ use Rattle.mi_node.specs.Refs.{Ref, IsOut, IsApart}
 use Rattle.mi_node.proofs.EntryLemmas.{link_here}
 use Rattle.mi_node.proofs.KeepingLemmas.{keeps_none, keeps_link, keeps_then, held_kept}
 use Rattle.mi_node.proofs.RefLemmas.{out_left, out_right, out_both, between}
-use Rattle.mi_tree.specs.Shape.{Shape, Tip, Fork, nodes, top, size, height, IsEven, fork_link, IsRooted, height_at}
+use Rattle.mi_tree.specs.BinaryTree.{BinaryTree, Tip, Fork, nodes, top, size, height, IsEven, fork_link, IsRooted, height_at}
 use Rattle.mi_tree.specs.Sorted.{Rising, AreTagged, SameTags, CanTake, HasTaken, AreEnds, AreAppended, side}
 use Rattle.mi_tree.specs.Ways.{Frame, forked, forked_link, plug, risen, IsLevel, Above, Sinks, HasSunk, Climbs, HasClimbed}
 use Rattle.mi_tree.specs.declared.way.Turn.{Turn}
@@ -27,7 +27,7 @@ use Rattle.mi_tree.proofs.WayLemmas.{frame, path_length, above_moved, above_kept
 abbrev pub shrunk_link : Link → Link
 shrunk_link y = record { back = y.back; forth = y.forth; size = y.size - 1; height = y.height; tag = y.tag }
 
-has_one : (t : Shape) (xs : List Ref) (x : Ref) (ys : List Ref) → nodes t ≡ xs ++ x ∷ ys → 1 ≤ size t
+has_one : (t : BinaryTree) (xs : List Ref) (x : Ref) (ys : List Ref) → nodes t ≡ xs ++ x ∷ ys → 1 ≤ size t
 has_one t xs x ys e = let a = size-nodes t in let b = ap length e in let c = length-append xs (x ∷ ys) in omega arith
 
 head_is : (r : Ref) (rs : List Ref) (x : Ref) (ys : List Ref) → r ∷ rs ≡ x ∷ ys → r ≡ x
@@ -36,12 +36,12 @@ head_is r rs x ys e = cc
 tail_is : (r : Ref) (rs : List Ref) (x : Ref) (ys : List Ref) → r ∷ rs ≡ x ∷ ys → rs ≡ ys
 tail_is r rs x ys e = cc
 
-one_of : (A : Shape) (r : Ref) → top A ≡ Some r → 1 ≤ size A
+one_of : (A : BinaryTree) (r : Ref) → top A ≡ Some r → 1 ≤ size A
 one_of Tip r e = let f : None ≡ Some r = e in absurd cc
 one_of (Fork l x q) r e = omega arith
 
 -- the first node is in the left side, if there is one
-first_left : (A : Shape) (r : Ref) (C : List Ref) (x : Ref) (ys : List Ref) → 1 ≤ size A
+first_left : (A : BinaryTree) (r : Ref) (C : List Ref) (x : Ref) (ys : List Ref) → 1 ≤ size A
     → nodes A ++ r ∷ C ≡ x ∷ ys → (zs : List Ref) × (nodes A ≡ x ∷ zs) × (ys ≡ zs ++ r ∷ C)
 first_left A r C x ys h e =
     let n = size-nodes A in (elim (nodes A) as (λ k. length k ≡ size A → k ++ r ∷ C ≡ x ∷ ys → (zs : List Ref) × (k ≡ x ∷ zs) × (ys ≡ zs ++ r ∷ C)) [
@@ -59,10 +59,10 @@ first_of [] r ys = (r, ys, refl)
 first_of (x ∷ xs) r ys = (x, xs ++ r ∷ ys, refl)
 
 module _ {T : Type 0} where
-  pub some_first : (m : Pooled T) (s : ℕ) (r : Ref) (t : Shape) → CanTake m s (Some r) t → (x : Ref) × (ys : List Ref) × (nodes t ≡ x ∷ ys)
+  pub some_first : (m : Pooled T) (s : ℕ) (r : Ref) (t : BinaryTree) → CanTake m s (Some r) t → (x : Ref) × (ys : List Ref) × (nodes t ≡ x ∷ ys)
   some_first m s r t c = let o = opened m s r t c.rooted in let f = first_of (nodes o.left) r (nodes o.right) in (f.0, f.1, ap nodes o.is ∙ f.2)
 
-  pub sinks_start : {m : Pooled T} {s : ℕ} {at : Option Ref} {t : Shape} {xs : List Ref} {x : Ref} {ys : List Ref}
+  pub sinks_start : {m : Pooled T} {s : ℕ} {at : Option Ref} {t : BinaryTree} {xs : List Ref} {x : Ref} {ys : List Ref}
       → CanTake m s at t → nodes t ≡ xs ++ x ∷ ys → Sinks m s [] at [] t xs x ys xs ys
   sinks_start {t = t} c e =
       let low = low_enough t c.even c.fits in
@@ -70,9 +70,9 @@ module _ {T : Type 0} where
 
   -- the node is there
   sunk_here : (m : Pooled T) (s : ℕ) (items : List (Option Turn)) (at : Option Ref)
-      (fs : List Frame) (t : Shape) (xs : List Ref) (x : Ref) (ys vs ws : List Ref)
+      (fs : List Frame) (t : BinaryTree) (xs : List Ref) (x : Ref) (ys vs ws : List Ref)
       → Sinks m s items at fs t xs x ys vs ws → at ≡ Some x
-      → (A B : Shape) → t ≡ Fork A x B → nodes A ≡ xs → nodes B ≡ ys → HasSunk m m s items xs x ys vs ws (plug fs t) fs A B
+      → (A B : BinaryTree) → t ≡ Fork A x B → nodes A ≡ xs → nodes B ≡ ys → HasSunk m m s items xs x ys vs ws (plug fs t) fs A B
   sunk_here m s items at fs t xs x ys vs ws h e A B is f g = let sizes = ap size is in record {
     path_is = h.path_is;
     whole_is = ap (plug fs) (sym is);
@@ -87,17 +87,17 @@ module _ {T : Type 0} where
 
   -- a step down: where the way goes on, and what its end says of the whole
   pub record NextSink (m n : Pooled T) (s : ℕ) (new : List (Option Turn)) (at next : Option Ref)
-      (fs : List Frame) (t : Shape) (xs : List Ref) (x : Ref) (ys vs ws us : List Ref) : Type 0 where
+      (fs : List Frame) (t : BinaryTree) (xs : List Ref) (x : Ref) (ys vs ws us : List Ref) : Type 0 where
     pub gs : List Frame
-    pub sub : Shape
+    pub sub : BinaryTree
     pub zs : List Ref
     pub sinks : Sinks n s new next gs sub us x zs vs ws
     pub lower : height_at n s next < height_at m s at
-    pub sunk : (v : Pooled T) (last : List (Option Turn)) (ks : List Frame) (A B : Shape)
+    pub sunk : (v : Pooled T) (last : List (Option Turn)) (ks : List Frame) (A B : BinaryTree)
         → HasSunk n v s last us x zs vs ws (plug gs sub) ks A B → HasSunk m v s last xs x ys vs ws (plug fs t) ks A B
 
   module _ {m n : Pooled T} {s : ℕ} {items : List (Option Turn)} {at : Option Ref} {here : Ref}
-      {y : Link} {fs : List Frame} {t : Shape} {xs : List Ref} {x : Ref} {ys vs ws : List Ref}
+      {y : Link} {fs : List Frame} {t : BinaryTree} {xs : List Ref} {x : Ref} {ys vs ws : List Ref}
       (h : Sinks m s items at fs t xs x ys vs ws) (e : at ≡ Some here) (i : y ≡ link_of m here.name s) (set : n ≡ with_link m here.name s (shrunk_link y)) where
     open_here : TakeOpened m s here y t
     open_here = take_opened m s at here y t h.can e i
@@ -111,7 +111,7 @@ module _ {T : Type 0} where
     here_link : link_of n here.name s ≡ shrunk_link y
     here_link = ap (λ k. link_of k here.name s) set ∙ link_here m here s (shrunk_link y) open_here.held_root
 
-    can_kept : (bt : Option Ref) (z : Shape) → IsOut here.name (nodes z) → CanTake m s bt z → CanTake n s bt z
+    can_kept : (bt : Option Ref) (z : BinaryTree) → IsOut here.name (nodes z) → CanTake m s bt z → CanTake n s bt z
     can_kept bt z out c = record { rooted = rooted_past s m n here bt z keeps_here out c.rooted; even = c.even; apart = c.apart; fits = c.fits }
 
     above_here : (bt : Option Ref) (k j : ℕ) → at ≡ bt → size t - 1 ≡ k → height t ≡ j → Above n s fs bt k j
@@ -124,8 +124,8 @@ module _ {T : Type 0} where
     turn b = record { node = here; left = b }
 
     record Lowered (b : Bool) (us zs : List Ref) : Type 0 where
-      pub sub : Shape
-      pub other : Shape
+      pub sub : BinaryTree
+      pub other : BinaryTree
       pub is : t ≡ forked b sub here other
       pub sinks : Sinks n s (items ++ Some (turn b) ∷ []) (cond b y.back y.forth) (frame (turn b) other ∷ fs) sub us x zs vs ws
       pub among : (j : ℕ) → IsOut j (xs ++ ys) → IsOut j (here ∷ []) × IsOut j (us ++ zs)
@@ -210,7 +210,7 @@ module _ {T : Type 0} where
     pub room_here : length items < 45
     room_here = let a = h.room in let b = ap length h.path_is in let c = path_length fs in let d = ap height open_here.is in omega arith
 
-    sunk_on : (b : Bool) (us zs : List Ref) (k : Lowered b us zs) (v : Pooled T) (last : List (Option Turn)) (gs : List Frame) (A B : Shape)
+    sunk_on : (b : Bool) (us zs : List Ref) (k : Lowered b us zs) (v : Pooled T) (last : List (Option Turn)) (gs : List Frame) (A B : BinaryTree)
         → HasSunk n v s last us x zs vs ws (plug (frame (turn b) k.other ∷ fs) k.sub) gs A B → HasSunk m v s last xs x ys vs ws (plug fs t) gs A B
     sunk_on b us zs k v last gs A B f = record {
       path_is = f.path_is;
@@ -256,7 +256,7 @@ module _ {T : Type 0} where
           (subst (Rising (side order m s)) (ap nodes o.is) r) f (where_is (nodes o.A) here (nodes o.B) xs x ys (sym (ap nodes o.is) ∙ h.has)) in
           subst (λ z. (us : List Ref) × (zs : List Ref) × Lowered z us zs) (sym l) (on.0, ys, lowered_right on.0 on.1 on.2)
 
-      rising_side : (b : Bool) (A B : Shape) → Rising (side order m s) (nodes (forked b A here B)) → Rising (side order m s) (nodes A)
+      rising_side : (b : Bool) (A B : BinaryTree) → Rising (side order m s) (nodes (forked b A here B)) → Rising (side order m s) (nodes A)
       rising_side true A B r = rising_left (side order m s) (nodes A) (here ∷ nodes B) r
       rising_side false A B r = (rising_right (side order m s) (nodes B) (here ∷ nodes A) r).1
 
@@ -264,7 +264,7 @@ module _ {T : Type 0} where
       rising_sub b us zs k r = rising_kept order tag m n s keeps_here.values tags_here (nodes k.sub)
           (rising_side b k.sub k.other (subst (λ z. Rising (side order m s) (nodes z)) k.is r))
 
-      tagged_side : (b : Bool) (A B : Shape) → AreTagged tag m s (nodes (forked b A here B)) → AreTagged tag m s (nodes A)
+      tagged_side : (b : Bool) (A B : BinaryTree) → AreTagged tag m s (nodes (forked b A here B)) → AreTagged tag m s (nodes A)
       tagged_side true A B r = tagged_left tag m s (nodes A) (here ∷ nodes B) r
       tagged_side false A B r = (tagged_right tag m s (nodes B) (here ∷ nodes A) r).1
 
@@ -281,17 +281,17 @@ module _ {T : Type 0} where
           (st.0, next_of b st.0 st.1 st.2 p q, rising_sub b st.0 st.1 st.2 r, tagged_sub b st.0 st.1 st.2)
 
   -- what the comparison needs of the node here
-  pub tagged_here : (tag : T → ℕ) {m : Pooled T} {s : ℕ} {at : Option Ref} {here : Ref} {y : Link} {t : Shape} → CanTake m s at t
+  pub tagged_here : (tag : T → ℕ) {m : Pooled T} {s : ℕ} {at : Option Ref} {here : Ref} {y : Link} {t : BinaryTree} → CanTake m s at t
       → at ≡ Some here → y ≡ link_of m here.name s → AreTagged tag m s (nodes t) → IsHeld m here × AreTagged tag m s (here ∷ [])
   tagged_here tag {m} {s} {at} {here} {y} {t} c e i g =
       let o = take_opened m s at here y t c e i in
       (o.held_root, ((tagged_right tag m s (nodes o.A) (here ∷ nodes o.B) (subst (AreTagged tag m s) (ap nodes o.is) g)).0, tt))
 
   -- the node is here
-  pub sunk_equal : {order : T → T → Ordering} {m : Pooled T} {s : ℕ} {items : List (Option Turn)} {at : Option Ref} {fs : List Frame} {t : Shape}
+  pub sunk_equal : {order : T → T → Ordering} {m : Pooled T} {s : ℕ} {items : List (Option Turn)} {at : Option Ref} {fs : List Frame} {t : BinaryTree}
       {xs : List Ref} {x : Ref} {ys vs ws : List Ref} {here : Ref} → IsTotalOrder order → Sinks m s items at fs t xs x ys vs ws
       → Rising (side order m s) (nodes t) → at ≡ Some here → side order m s x here ≡ Equal
-      → (A : Shape) × (B : Shape) × HasSunk m m s items xs x ys vs ws (plug fs t) fs A B
+      → (A : BinaryTree) × (B : BinaryTree) × HasSunk m m s items xs x ys vs ws (plug fs t) fs A B
   sunk_equal {order} {m} {s} {items} {at} {fs} {t} {xs} {x} {ys} {vs} {ws} {here} total h r e f =
       let o = take_opened m s at here _ t h.can e refl in
       let on = go_here (side order m s) (side_order order m s total) (nodes o.A) here (nodes o.B) xs x ys
@@ -299,9 +299,9 @@ module _ {T : Type 0} where
       (o.A, o.B, sunk_here m s items at fs t xs x ys vs ws h (e ∙ ap (λ z. Some z) on.1) o.A o.B (o.is ∙ ap (λ z. Fork o.A z o.B) on.1) on.0 on.2)
 
   -- the first node is here
-  pub sunk_first : (m : Pooled T) (s : ℕ) (items : List (Option Turn)) (at : Ref) (fs : List Frame) (t : Shape) (x : Ref) (ys vs ws : List Ref)
+  pub sunk_first : (m : Pooled T) (s : ℕ) (items : List (Option Turn)) (at : Ref) (fs : List Frame) (t : BinaryTree) (x : Ref) (ys vs ws : List Ref)
       → Sinks m s items (Some at) fs t [] x ys vs ws → (y : Link) → y ≡ link_of m at.name s → y.back ≡ None
-      → (at ≡ x) × (gs : List Frame) × (B : Shape) × HasSunk m m s items [] x ys vs ws (plug fs t) gs Tip B
+      → (at ≡ x) × (gs : List Frame) × (B : BinaryTree) × HasSunk m m s items [] x ys vs ws (plug fs t) gs Tip B
   sunk_first m s items at fs t x ys vs ws h y i none =
       let o = take_opened m s (Some at) at y t h.can refl i in let tip = tip_is m s o.A (moved m m s y.back None o.A refl none o.left.rooted) in
       let whole = o.is ∙ ap (λ z. Fork z at o.B) tip in
@@ -315,8 +315,8 @@ module _ {T : Type 0} where
       )
 
   -- x is at the end of the way, and goes
-  module _ {m n : Pooled T} {s : ℕ} {items : List (Option Turn)} {root : Option Ref} {t : Shape} {xs : List Ref} {x : Ref} {ys : List Ref}
-      {gs : List Frame} {A B : Shape} (c : CanTake m s root t) (has : nodes t ≡ xs ++ x ∷ ys)
+  module _ {m n : Pooled T} {s : ℕ} {items : List (Option Turn)} {root : Option Ref} {t : BinaryTree} {xs : List Ref} {x : Ref} {ys : List Ref}
+      {gs : List Frame} {A B : BinaryTree} (c : CanTake m s root t) (has : nodes t ≡ xs ++ x ∷ ys)
       (f : HasSunk m n s items xs x ys xs ys t gs A B) {y : Link} (i : y ≡ link_of n x.name s) where
     link_is : y ≡ fork_link A B (link_of n x.name s).tag
     link_is = i ∙ f.rooted.stands.1
@@ -344,7 +344,7 @@ module _ {T : Type 0} where
       fits = omega arith;
     }
 
-    module _ {v : Pooled T} {below : Option Ref} {u : Shape} (a : AreAppended n v s A B below u) where
+    module _ {v : Pooled T} {below : Option Ref} {u : BinaryTree} (a : AreAppended n v s A B below u) where
       without : nodes (plug gs u) ≡ xs ++ ys
       without = f.places u a.nodes_are
 
@@ -370,7 +370,7 @@ module _ {T : Type 0} where
         root_is = root_above root gs (Fork A x B) (c.rooted.root ∙ ap top (sym f.whole_is));
       }
 
-      pub has_left : {j : ℕ} {w : Pooled T} {result : Option Ref} {z : Shape} → j ≡ height (Fork A x B) → HasClimbed v w s (plug gs u) result z
+      pub has_left : {j : ℕ} {w : Pooled T} {result : Option Ref} {z : BinaryTree} → j ≡ height (Fork A x B) → HasClimbed v w s (plug gs u) result z
           → IsLevel (height u) j (height_at w s result) (risen gs j) → HasTaken m w s t (xs ++ ys) result z
       has_left {j} {w} {result} {z} e d l =
           let at = height-root w s result z d.rooted in

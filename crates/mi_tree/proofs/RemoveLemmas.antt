@@ -5,7 +5,7 @@ use Rattle.mi_node.specs.declared.link.Link.{Link}
 use Rattle.mi_node.specs.Refs.{Ref, IsOut, IsApart}
 use Rattle.mi_node.proofs.RefLemmas.{out_left, out_right, out_both, apart_right, apart_across, apart_remove, between}
 use Rattle.mi_node.proofs.KeepingLemmas.{keeps_then, keeps_more, keeps_none, held_kept}
-use Rattle.mi_tree.specs.Shape.{Shape, Tip, Fork, nodes, size, height, DifferByAtMost, IsEven, Stands, height_at}
+use Rattle.mi_tree.specs.BinaryTree.{BinaryTree, Tip, Fork, nodes, size, height, DifferByAtMost, IsEven, Stands, height_at}
 use Rattle.mi_tree.specs.Joining.{AreSides, IsBalanced}
 use Rattle.mi_tree.specs.Sorted.{CanTake, HasTaken, AreEnds, AreAppended}
 use Rattle.mi_tree.proofs.BinaryTreeLemmas.{moved, opened, tip_is, height-root, size-nodes}
@@ -17,7 +17,7 @@ met : (l q u t : ℕ) → DifferByAtMost 1 l q → u ≤ q → q ≤ u + 1 → m
 met l q u t d a b low high tight = (grind arith, grind arith, grind arith)
 
 -- one node less is one less in size
-less_size : (t u : Shape) (xs : List Ref) (x : Ref) (ys : List Ref) → nodes t ≡ xs ++ x ∷ ys → nodes u ≡ xs ++ ys → size t ≡ size u + 1
+less_size : (t u : BinaryTree) (xs : List Ref) (x : Ref) (ys : List Ref) → nodes t ≡ xs ++ x ∷ ys → nodes u ≡ xs ++ ys → size t ≡ size u + 1
 less_size t u xs x ys e f =
     let a = size-nodes t in let b = size-nodes u in let c = ap length e in
     let d = ap length f in let i = length-append xs (x ∷ ys) in let j = length-append xs ys in
@@ -31,10 +31,10 @@ out_less k xs x ys o = out_both k xs ys (out_left k xs (x ∷ ys) o) (out_right 
 pub apart_less : (xs : List Ref) (x : Ref) (ys : List Ref) → IsApart (xs ++ x ∷ ys) → IsApart (xs ++ ys)
 apart_less xs x ys a = (apart_remove xs x ys a).0
 
-fork_left : (A : Shape) (r : Ref) (B l : Shape) (x : Ref) (q : Shape) → Fork A r B ≡ Fork l x q → A ≡ l
+fork_left : (A : BinaryTree) (r : Ref) (B l : BinaryTree) (x : Ref) (q : BinaryTree) → Fork A r B ≡ Fork l x q → A ≡ l
 fork_left A r B l x q e = cc
 
-fork_right : (A : Shape) (r : Ref) (B l : Shape) (x : Ref) (q : Shape) → Fork A r B ≡ Fork l x q → B ≡ q
+fork_right : (A : BinaryTree) (r : Ref) (B l : BinaryTree) (x : Ref) (q : BinaryTree) → Fork A r B ≡ Fork l x q → B ≡ q
 fork_right A r B l x q e = cc
 
 nothing_after : (rs : List Ref) → rs ++ [] ≡ rs
@@ -55,19 +55,19 @@ module _ {T : Type 0} where
   held_right m [] r ys a = a.0
   held_right m (x ∷ xs) r ys a = held_right m xs r ys a.1
 
-  all_held : (m : Pooled T) (s : ℕ) (t : Shape) → Stands m s t → AreHeld m (nodes t)
+  all_held : (m : Pooled T) (s : ℕ) (t : BinaryTree) → Stands m s t → AreHeld m (nodes t)
   all_held m s Tip h = tt
   all_held m s (Fork l r q) h = held_both m (nodes l) r (nodes q) (all_held m s l h.2) h.0 (all_held m s q h.3)
 
-  held_first : (m : Pooled T) (s : ℕ) (t : Shape) (r : Ref) (rs : List Ref) → nodes t ≡ r ∷ rs → Stands m s t → IsHeld m r
+  held_first : (m : Pooled T) (s : ℕ) (t : BinaryTree) (r : Ref) (rs : List Ref) → nodes t ≡ r ∷ rs → Stands m s t → IsHeld m r
   held_first m s t r rs e h = (subst (AreHeld m) e (all_held m s t h)).0
 
-  pub held_in : (m : Pooled T) (s : ℕ) (t : Shape) (xs : List Ref) (r : Ref) (ys : List Ref) → nodes t ≡ xs ++ r ∷ ys → Stands m s t → IsHeld m r
+  pub held_in : (m : Pooled T) (s : ℕ) (t : BinaryTree) (xs : List Ref) (r : Ref) (ys : List Ref) → nodes t ≡ xs ++ r ∷ ys → Stands m s t → IsHeld m r
   held_in m s t xs r ys e h = held_right m xs r ys (subst (AreHeld m) e (all_held m s t h))
 
-  pub record TakeOpened (m : Pooled T) (s : ℕ) (root : Ref) (y : Link) (t : Shape) : Type 0 where
-    pub A : Shape
-    pub B : Shape
+  pub record TakeOpened (m : Pooled T) (s : ℕ) (root : Ref) (y : Link) (t : BinaryTree) : Type 0 where
+    pub A : BinaryTree
+    pub B : BinaryTree
     pub is : t ≡ Fork A root B
     pub left : CanTake m s y.back A
     pub right : CanTake m s y.forth B
@@ -81,7 +81,7 @@ module _ {T : Type 0} where
     pub height_is : y.height ≡ max (height A) (height B) + 1
     pub tag_is : y.tag ≡ (link_of m root.name s).tag
 
-  pub take_opened : (m : Pooled T) (s : ℕ) (at : Option Ref) (root : Ref) (y : Link) (t : Shape)
+  pub take_opened : (m : Pooled T) (s : ℕ) (at : Option Ref) (root : Ref) (y : Link) (t : BinaryTree)
       → CanTake m s at t → at ≡ Some root → y ≡ link_of m root.name s → TakeOpened m s root y t
   take_opened m s at root y t h e i =
       let o = opened m s root t (moved m m s at (Some root) t refl e h.rooted) in
@@ -109,11 +109,11 @@ module _ {T : Type 0} where
       }
 
   -- two trees
-  pub ends_take : (m : Pooled T) (s : ℕ) (left right : Option Ref) (l q : Shape) → AreEnds m s left right l q → CanTake m s right q
+  pub ends_take : (m : Pooled T) (s : ℕ) (left right : Option Ref) (l q : BinaryTree) → AreEnds m s left right l q → CanTake m s right q
   ends_take m s left right l q h =
       let f = h.fits in record { rooted = h.right_is; even = h.right_even; apart = apart_right (nodes l) (nodes q) h.apart; fits = omega arith }
 
-  pub ends_none : (m : Pooled T) (s : ℕ) (left right : Option Ref) (l q : Shape) → AreEnds m s left right l q → right ≡ None → AreAppended m m s l q left l
+  pub ends_none : (m : Pooled T) (s : ℕ) (left right : Option Ref) (l q : BinaryTree) → AreEnds m s left right l q → right ≡ None → AreAppended m m s l q left l
   ends_none m s left right l q h e =
       let tip = tip_is m s q (moved m m s right None q refl e h.right_is) in let low = ap height tip in record {
         rooted = h.left_is;
@@ -125,8 +125,8 @@ module _ {T : Type 0} where
         tags = λ k. refl;
       }
 
-  module _ (m n : Pooled T) (s : ℕ) (left right : Option Ref) (l q : Shape) (h : AreEnds m s left right l q) (first : Ref)
-      (rs : List Ref) (rest : Option Ref) (u : Shape) (is : nodes q ≡ first ∷ rs) (k : HasTaken m n s q rs rest u) where
+  module _ (m n : Pooled T) (s : ℕ) (left right : Option Ref) (l q : BinaryTree) (h : AreEnds m s left right l q) (first : Ref)
+      (rs : List Ref) (rest : Option Ref) (u : BinaryTree) (is : nodes q ≡ first ∷ rs) (k : HasTaken m n s q rs rest u) where
     pub ends_sides : AreSides n s left first rest l u
     ends_sides =
         let size_is = less_size q u [] first rs is k.nodes_are in let e0 = h.near in let f = h.fits in let lo = k.not_lower in let hi = k.not_higher in
@@ -142,7 +142,7 @@ module _ {T : Type 0} where
           fits = omega arith;
         }
 
-    pub ends_appended : (v : Pooled T) (result : Ref) (z : Shape) → IsBalanced n v s l first u result z → AreAppended m v s l q (Some result) z
+    pub ends_appended : (v : Pooled T) (result : Ref) (z : BinaryTree) → IsBalanced n v s l first u result z → AreAppended m v s l q (Some result) z
     ends_appended v result z b =
         let r = b.rebalanced in
         let g = met (height l) (height q) (height u) (height z) h.near k.not_higher k.not_lower r.not_lower r.not_higher r.as_high in
@@ -163,8 +163,8 @@ module _ {T : Type 0} where
         }
 
   -- the sides of a fork, which is known already
-  pub side_take : (m : Pooled T) (s : ℕ) (at : Option Ref) (root : Ref) (y : Link) (t : Shape) → CanTake m s at t → at ≡ Some root
-      → y ≡ link_of m root.name s → (l q : Shape) → t ≡ Fork l root q → CanTake m s y.back l × CanTake m s y.forth q
+  pub side_take : (m : Pooled T) (s : ℕ) (at : Option Ref) (root : Ref) (y : Link) (t : BinaryTree) → CanTake m s at t → at ≡ Some root
+      → y ≡ link_of m root.name s → (l q : BinaryTree) → t ≡ Fork l root q → CanTake m s y.back l × CanTake m s y.forth q
   side_take m s at root y t h e i l q is =
       let o = take_opened m s at root y t h e i in let same = sym o.is ∙ is in
       (subst (CanTake m s y.back) (fork_left o.A root o.B l root q same) o.left, subst (CanTake m s y.forth) (fork_right o.A root o.B l root q same) o.right)

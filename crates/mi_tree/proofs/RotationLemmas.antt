@@ -5,16 +5,16 @@ use Rattle.mi_node.specs.declared.link.Link.{Link}
 use Rattle.mi_node.specs.Refs.{Ref, IsOut, IsApart}
 use Rattle.mi_node.proofs.KeepingLemmas.{keeps_more}
 use Rattle.mi_node.proofs.RefLemmas.{out_left, out_right, between}
-use Rattle.mi_tree.specs.Shape.{Shape, Fork, nodes, size, height, DifferByAtMost, IsEven, IsRooted}
+use Rattle.mi_tree.specs.BinaryTree.{BinaryTree, Fork, nodes, size, height, DifferByAtMost, IsEven, IsRooted}
 use Rattle.mi_tree.specs.Sorted.{SameTags}
 use Rattle.mi_tree.specs.Joining.{Two, Three, Four, Rebalanced, AreSides, IsBalanced}
 use Rattle.mi_tree.proofs.HeightLemmas.{low_enough}
 use Rattle.mi_tree.proofs.BinaryTreeLemmas.{moved, opened}
 
-turn_plain : (l : Shape) (x : Ref) (q : Shape) → IsEven l → IsEven q → DifferByAtMost 1 (height l) (height q) → Rebalanced l x q (Fork l x q)
+turn_plain : (l : BinaryTree) (x : Ref) (q : BinaryTree) → IsEven l → IsEven q → DifferByAtMost 1 (height l) (height q) → Rebalanced l x q (Fork l x q)
 turn_plain l x q el eq d = record { nodes_are = refl; even = (d, el, eq); not_lower = omega arith; not_higher = omega arith; as_high = λ h. refl }
 
-turn_down : (A : Shape) (x : Ref) (B : Shape) (y : Ref) (C : Shape) → IsEven (Fork A x B) → IsEven C
+turn_down : (A : BinaryTree) (x : Ref) (B : BinaryTree) (y : Ref) (C : BinaryTree) → IsEven (Fork A x B) → IsEven C
     → DifferByAtMost 2 (height (Fork A x B)) (height C) → height C + 1 < height (Fork A x B) → height B ≤ height A
     → Rebalanced (Fork A x B) y C (Fork A x (Fork B y C))
 turn_down A x B y C e f d h w = let e0 = e.0 in record {
@@ -25,7 +25,7 @@ turn_down A x B y C e f d h w = let e0 = e.0 in record {
   as_high = λ k. absurd (omega arith);
 }
 
-turn_up : (A : Shape) (x : Ref) (B : Shape) (y : Ref) (C : Shape) → IsEven A → IsEven (Fork B y C)
+turn_up : (A : BinaryTree) (x : Ref) (B : BinaryTree) (y : Ref) (C : BinaryTree) → IsEven A → IsEven (Fork B y C)
     → DifferByAtMost 2 (height A) (height (Fork B y C)) → height A + 1 < height (Fork B y C) → height B ≤ height C
     → Rebalanced A x (Fork B y C) (Fork (Fork A x B) y C)
 turn_up A x B y C e f d h w = let f0 = f.0 in record {
@@ -37,7 +37,7 @@ turn_up A x B y C e f d h w = let f0 = f.0 in record {
 }
 
 -- from the left: A x (B y C) is too high
-turn_left_both : (A : Shape) (x : Ref) (B : Shape) (y : Ref) (C : Shape) (z : Ref) (D : Shape)
+turn_left_both : (A : BinaryTree) (x : Ref) (B : BinaryTree) (y : Ref) (C : BinaryTree) (z : Ref) (D : BinaryTree)
     → IsEven (Fork A x (Fork B y C)) → IsEven D → DifferByAtMost 2 (height (Fork A x (Fork B y C))) (height D)
     → height D + 1 < height (Fork A x (Fork B y C)) → height A < height (Fork B y C) → Rebalanced (Fork A x (Fork B y C)) z D (Fork (Fork A x B) y (Fork C z D))
 turn_left_both A x B y C z D e f d h w = let e0 = e.0 in let e2 = e.2.0 in record {
@@ -51,7 +51,7 @@ turn_left_both A x B y C z D e f d h w = let e0 = e.0 in let e2 = e.2.0 in recor
 }
 
 -- from the right: (B y C) z D is too high
-turn_right_both : (A : Shape) (x : Ref) (B : Shape) (y : Ref) (C : Shape) (z : Ref) (D : Shape) → IsEven A
+turn_right_both : (A : BinaryTree) (x : Ref) (B : BinaryTree) (y : Ref) (C : BinaryTree) (z : Ref) (D : BinaryTree) → IsEven A
     → IsEven (Fork (Fork B y C) z D) → DifferByAtMost 2 (height A) (height (Fork (Fork B y C) z D))
     → height A + 1 < height (Fork (Fork B y C) z D) → height D < height (Fork B y C) → Rebalanced A x (Fork (Fork B y C) z D) (Fork (Fork A x B) y (Fork C z D))
 turn_right_both A x B y C z D e f d h w = let f0 = f.0 in let f1 = f.1.0 in record {
@@ -80,14 +80,14 @@ out_three_right k A x B y C z D h = let o = out_right k A (x ∷ (B ++ y ∷ C) 
 
 module _ {T : Type 0} where
   -- the left side, opened
-  pub record LeftOpened (m : Pooled T) (s : ℕ) (r x : Ref) (right : Option Ref) (y : Link) (l q : Shape) : Type 0 where
-    pub A : Shape
-    pub B : Shape
+  pub record LeftOpened (m : Pooled T) (s : ℕ) (r x : Ref) (right : Option Ref) (y : Link) (l q : BinaryTree) : Type 0 where
+    pub A : BinaryTree
+    pub B : BinaryTree
     pub is : l ≡ Fork A r B
     pub parts : Three m s y.back r y.forth x right A B q
     pub even : IsEven (Fork A r B)
 
-  pub left_opened : {m : Pooled T} {s : ℕ} {left : Option Ref} {x : Ref} {right : Option Ref} {l q : Shape} {r : Ref} {y : Link}
+  pub left_opened : {m : Pooled T} {s : ℕ} {left : Option Ref} {x : Ref} {right : Option Ref} {l q : BinaryTree} {r : Ref} {y : Link}
       → AreSides m s left x right l q → left ≡ Some r → y ≡ link_of m r.name s → LeftOpened m s r x right y l q
   left_opened {m} {s} {left} {x} {right} {l} {q} {r} {y} h e i =
       let o = opened m s r l (moved m m s left (Some r) l refl e h.left_is) in
@@ -110,14 +110,14 @@ module _ {T : Type 0} where
         };
       }
 
-  pub record RightOpened (m : Pooled T) (s : ℕ) (left : Option Ref) (x r : Ref) (y : Link) (l q : Shape) : Type 0 where
-    pub B : Shape
-    pub C : Shape
+  pub record RightOpened (m : Pooled T) (s : ℕ) (left : Option Ref) (x r : Ref) (y : Link) (l q : BinaryTree) : Type 0 where
+    pub B : BinaryTree
+    pub C : BinaryTree
     pub is : q ≡ Fork B r C
     pub parts : Three m s left x y.back r y.forth l B C
     pub even : IsEven (Fork B r C)
 
-  pub right_opened : {m : Pooled T} {s : ℕ} {left : Option Ref} {x : Ref} {right : Option Ref} {l q : Shape} {r : Ref} {y : Link}
+  pub right_opened : {m : Pooled T} {s : ℕ} {left : Option Ref} {x : Ref} {right : Option Ref} {l q : BinaryTree} {r : Ref} {y : Link}
       → AreSides m s left x right l q → right ≡ Some r → y ≡ link_of m r.name s → RightOpened m s left x r y l q
   right_opened {m} {s} {left} {x} {right} {l} {q} {r} {y} h e i =
       let o = opened m s r q (moved m m s right (Some r) q refl e h.right_is) in
@@ -141,13 +141,13 @@ module _ {T : Type 0} where
       }
 
   -- the middle, opened
-  pub record MiddleOpened (m : Pooled T) (s : ℕ) (a : Option Ref) (x y z : Ref) (d : Option Ref) (w : Link) (A M D : Shape) : Type 0 where
-    pub B : Shape
-    pub C : Shape
+  pub record MiddleOpened (m : Pooled T) (s : ℕ) (a : Option Ref) (x y z : Ref) (d : Option Ref) (w : Link) (A M D : BinaryTree) : Type 0 where
+    pub B : BinaryTree
+    pub C : BinaryTree
     pub is : M ≡ Fork B y C
     pub parts : Four m s a x w.back y w.forth z d A B C D
 
-  pub middle_opened : {m : Pooled T} {s : ℕ} {a : Option Ref} {x : Ref} {b : Option Ref} {y z : Ref} {d : Option Ref} {w : Link} {A M D : Shape}
+  pub middle_opened : {m : Pooled T} {s : ℕ} {a : Option Ref} {x : Ref} {b : Option Ref} {y z : Ref} {d : Option Ref} {w : Link} {A M D : BinaryTree}
       → Three m s a x b z d A M D → b ≡ Some y → w ≡ link_of m y.name s
       → MiddleOpened m s a x y z d w A M D
   middle_opened {m} {s} {a} {x} {b} {y} {z} {d} {w} {A} {M} {D} h e i =
@@ -173,10 +173,10 @@ module _ {T : Type 0} where
       }
 
   -- what the calls give
-  pub downs : {m n : Pooled T} {s : ℕ} {left right : Option Ref} {r x : Ref} {y : Link} {l q : Shape} (h : AreSides m s left x right l q)
+  pub downs : {m n : Pooled T} {s : ℕ} {left right : Option Ref} {r x : Ref} {y : Link} {l q : BinaryTree} (h : AreSides m s left x right l q)
       (o : LeftOpened m s r x right y l q) → height q + 1 < height l → height o.B ≤ height o.A → IsRooted n s (Some r) (Fork o.A r (Fork o.B x q))
-      → Keeps m n s (r ∷ x ∷ []) → SameTags m n s → (t : Shape) × IsBalanced m n s l x q r t
-  downs {m} {n} {s} {r = r} {x = x} {q = q} h o more higher rooted keeps tags = subst (λ k. (t : Shape) × IsBalanced m n s k x q r t) (sym o.is) (
+      → Keeps m n s (r ∷ x ∷ []) → SameTags m n s → (t : BinaryTree) × IsBalanced m n s l x q r t
+  downs {m} {n} {s} {r = r} {x = x} {q = q} h o more higher rooted keeps tags = subst (λ k. (t : BinaryTree) × IsBalanced m n s k x q r t) (sym o.is) (
     Fork o.A r (Fork o.B x q),
     record {
       rooted = rooted;
@@ -187,10 +187,10 @@ module _ {T : Type 0} where
     },
   )
 
-  pub ups : {m n : Pooled T} {s : ℕ} {left right : Option Ref} {r x : Ref} {y : Link} {l q : Shape} (h : AreSides m s left x right l q)
+  pub ups : {m n : Pooled T} {s : ℕ} {left right : Option Ref} {r x : Ref} {y : Link} {l q : BinaryTree} (h : AreSides m s left x right l q)
       (o : RightOpened m s left x r y l q) → height l + 1 < height q → height o.B ≤ height o.C → IsRooted n s (Some r) (Fork (Fork l x o.B) r o.C)
-      → Keeps m n s (x ∷ r ∷ []) → SameTags m n s → (t : Shape) × IsBalanced m n s l x q r t
-  ups {m} {n} {s} {r = r} {x = x} {l = l} h o more higher rooted keeps tags = subst (λ k. (t : Shape) × IsBalanced m n s l x k r t) (sym o.is) (
+      → Keeps m n s (x ∷ r ∷ []) → SameTags m n s → (t : BinaryTree) × IsBalanced m n s l x q r t
+  ups {m} {n} {s} {r = r} {x = x} {l = l} h o more higher rooted keeps tags = subst (λ k. (t : BinaryTree) × IsBalanced m n s l x k r t) (sym o.is) (
     Fork (Fork l x o.B) r o.C,
     record {
       rooted = rooted;
@@ -201,12 +201,12 @@ module _ {T : Type 0} where
     },
   )
 
-  pub left_boths : {m n : Pooled T} {s : ℕ} {left right : Option Ref} {r x z : Ref} {y w : Link} {l q : Shape} (h : AreSides m s left x right l q)
+  pub left_boths : {m n : Pooled T} {s : ℕ} {left right : Option Ref} {r x z : Ref} {y w : Link} {l q : BinaryTree} (h : AreSides m s left x right l q)
       (o : LeftOpened m s r x right y l q) (u : MiddleOpened m s y.back r z x right w o.A o.B q) → height q + 1 < height l → height o.A < height o.B
       → IsRooted n s (Some z) (Fork (Fork o.A r u.B) z (Fork u.C x q)) → Keeps m n s (r ∷ z ∷ x ∷ []) → SameTags m n s
-      → (t : Shape) × IsBalanced m n s l x q z t
+      → (t : BinaryTree) × IsBalanced m n s l x q z t
   left_boths {m} {n} {s} {r = r} {x = x} {z = z} {l = l} {q = q} h o u more higher rooted keeps tags =
-      let whole : l ≡ Fork o.A r (Fork u.B z u.C) = o.is ∙ ap (Fork o.A r) u.is in subst (λ k. (t : Shape) × IsBalanced m n s k x q z t) (sym whole) (
+      let whole : l ≡ Fork o.A r (Fork u.B z u.C) = o.is ∙ ap (Fork o.A r) u.is in subst (λ k. (t : BinaryTree) × IsBalanced m n s k x q z t) (sym whole) (
         Fork (Fork o.A r u.B) z (Fork u.C x q),
         record {
           rooted = rooted;
@@ -218,12 +218,13 @@ module _ {T : Type 0} where
         },
       )
 
-  pub right_boths : {m n : Pooled T} {s : ℕ} {left right : Option Ref} {r x z : Ref} {y w : Link} {l q : Shape} (h : AreSides m s left x right l q)
+  pub right_boths : {m n : Pooled T} {s : ℕ} {left right : Option Ref} {r x z : Ref} {y w : Link} {l q : BinaryTree} (h : AreSides m s left x right l q)
       (o : RightOpened m s left x r y l q) (u : MiddleOpened m s left x z r y.forth w l o.B o.C) → height l + 1 < height q → height o.C < height o.B
       → IsRooted n s (Some z) (Fork (Fork l x u.B) z (Fork u.C r o.C)) → Keeps m n s (x ∷ z ∷ r ∷ []) → SameTags m n s
-      → (t : Shape) × IsBalanced m n s l x q z t
+      → (t : BinaryTree) × IsBalanced m n s l x q z t
   right_boths {m} {n} {s} {r = r} {x = x} {z = z} {l = l} {q = q} h o u more higher rooted keeps tags =
-      let whole : q ≡ Fork (Fork u.B z u.C) r o.C = o.is ∙ ap (λ k. Fork k r o.C) u.is in subst (λ k. (t : Shape) × IsBalanced m n s l x k z t) (sym whole) (
+      let whole : q ≡ Fork (Fork u.B z u.C) r o.C = o.is ∙ ap (λ k. Fork k r o.C) u.is in
+      subst (λ k. (t : BinaryTree) × IsBalanced m n s l x k z t) (sym whole) (
         Fork (Fork l x u.B) z (Fork u.C r o.C),
         record {
           rooted = rooted;
@@ -235,9 +236,9 @@ module _ {T : Type 0} where
         },
       )
 
-  pub plains : (m n : Pooled T) (s : ℕ) (left : Option Ref) (x : Ref) (right : Option Ref) (l q : Shape)
+  pub plains : (m n : Pooled T) (s : ℕ) (left : Option Ref) (x : Ref) (right : Option Ref) (l q : BinaryTree)
       → AreSides m s left x right l q → DifferByAtMost 1 (height l) (height q)
-      → IsRooted n s (Some x) (Fork l x q) → Keeps m n s (x ∷ []) → SameTags m n s → (t : Shape) × IsBalanced m n s l x q x t
+      → IsRooted n s (Some x) (Fork l x q) → Keeps m n s (x ∷ []) → SameTags m n s → (t : BinaryTree) × IsBalanced m n s l x q x t
   plains m n s left x right l q h near rooted keeps tags = (
     Fork l x q,
     record {
@@ -248,7 +249,7 @@ module _ {T : Type 0} where
     },
   )
 
-  pub plain_parts : (m : Pooled T) (s : ℕ) (left : Option Ref) (x : Ref) (right : Option Ref) (l q : Shape)
+  pub plain_parts : (m : Pooled T) (s : ℕ) (left : Option Ref) (x : Ref) (right : Option Ref) (l q : BinaryTree)
       → AreSides m s left x right l q → Two m s left x right l q
   plain_parts m s left x right l q h =
       let f = h.fits in let hl = low_enough l h.left_even (omega arith) in let hq = low_enough q h.right_even (omega arith) in

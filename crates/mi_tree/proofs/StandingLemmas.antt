@@ -11,10 +11,10 @@ use Rattle.mi_node.proofs.EntryLemmas.{flip, link_here, link_there}
 use Rattle.mi_node.proofs.KeepingLemmas.{keeps_link, keeps_then, held_kept}
 use Rattle.mi_node.proofs.RefLemmas.{out_left, out_right}
 use Rattle.mi_node.specs.Refs.{Ref, IsOut, IsApart}
-use Rattle.mi_tree.specs.Shape.{Shape, Tip, Fork, nodes, size, height, IsRooted}
+use Rattle.mi_tree.specs.BinaryTree.{BinaryTree, Tip, Fork, nodes, size, height, IsRooted}
 use Rattle.mi_tree.specs.Sorted.{AllAre, NoneAre, Rising, IsPutIn, IsTagOf, HasTag, AreTagged, SameTags, CanPut}
 use Rattle.mi_tree.specs.Sorted.{HasPut, CanTake, HasTaken, by_stamp, stamped, item_of, compared, side, side_of_new}
-use Rattle.mi_tree.specs.Standing.{IsTree, IsNew}
+use Rattle.mi_tree.specs.Standing.{IsTree, CanJoin}
 use Rattle.mi_tree.specs.Walking.{Enters}
 use Rattle.mi_tree.specs.declared.walk.Direction.{Direction}
 use Rattle.mi_tree.specs.declared.tree.Tree.{Tree}
@@ -120,7 +120,7 @@ module _ {T O : Type 0} where
   tree_size h = size-nodes h.shape ∙ ap length h.nodes_are
 
   module _ {order : T → T → Ordering} {tag : T → ℕ} {l : Tree O} {m q : Pooled T} {x : Ref} (new : Tag)
-      {rs : List Ref} (h : IsTree l m order tag rs) (w : IsNew m l.slot order x new.stamp rs)
+      {rs : List Ref} (h : IsTree l m order tag rs) (w : CanJoin m l.slot order x new.stamp rs)
       (set : q ≡ with_link m x.name l.slot (leaf new)) where
     pub can_put : CanPut q l.slot (side order q l.slot) l.root x h.shape
     can_put = let e = sym h.nodes_are in let a = tree_size h in let f = w.fits in let out = subst (IsOut x.name) e w.out in record {
@@ -142,7 +142,7 @@ module _ {T O : Type 0} where
           (subst (AreTagged tag m l.slot) (sym h.nodes_are) h.tagged),
     )
 
-    pub has_put : (total : IsTotalOrder order) (j : Tree O) (n : Pooled T) (root : Option Ref) (u : Shape) (v : T)
+    pub has_put : (total : IsTotalOrder order) (j : Tree O) (n : Pooled T) (root : Option Ref) (u : BinaryTree) (v : T)
         → value_of m x.name ≡ Some v → new.key ≡ tag v → j.slot ≡ l.slot → j.root ≡ root
         → HasPut q n l.slot (side order q l.slot) x h.shape root u
         → (us : List Ref) × IsPutIn (side_of_new order m l.slot x new.stamp) x rs us × IsTree j n order tag us
@@ -196,7 +196,7 @@ module _ {T O : Type 0} where
       → AreTagged tag m l.slot (nodes h.shape)
   tagged_in {l} {m} {tag = tag} h = subst (AreTagged tag m l.slot) (sym h.nodes_are) h.tagged
 
-  pub has_taken : {order : T → T → Ordering} {tag : T → ℕ} {l j : Tree O} {m n : Pooled T} {root : Option Ref} {u : Shape}
+  pub has_taken : {order : T → T → Ordering} {tag : T → ℕ} {l j : Tree O} {m n : Pooled T} {root : Option Ref} {u : BinaryTree}
       (xs : List Ref) (x : Ref) (ys : List Ref) (h : IsTree l m order tag (xs ++ x ∷ ys))
       → j.slot ≡ l.slot → j.root ≡ root → HasTaken m n l.slot h.shape (xs ++ ys) root u → IsTree j n order tag (xs ++ ys)
   has_taken {order} {tag} {l} {j} {m} {n} {root} {u} xs x ys h es er p =

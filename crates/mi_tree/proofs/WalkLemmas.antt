@@ -9,7 +9,7 @@ use Rattle.std.proofs.Math.Seq.{take-append_seam, take-append-add, drop-append-a
 use Rattle.mi_node.specs.Pool.{Pooled, link_of, IsHeld}
 use Rattle.mi_node.specs.Refs.{Ref}
 use Rattle.mi_node.specs.declared.link.Link.{Link}
-use Rattle.mi_tree.specs.Shape.{Shape, Tip, Fork, nodes, height, IsRooted, height_at}
+use Rattle.mi_tree.specs.BinaryTree.{BinaryTree, Tip, Fork, nodes, height, IsRooted, height_at}
 use Rattle.mi_tree.specs.Walking.{Pending, onward, beyond, near_of, far_of, is_ascending, ahead, path_of, ArePending, Goes, Enters, IsWalk}
 use Rattle.mi_tree.specs.declared.walk.Direction.{Direction}
 use Rattle.mi_tree.specs.declared.walk.Direction.TheVariants.{Ascending, Descending}
@@ -24,26 +24,26 @@ some_two : (r q : Ref) → Some r ≡ Some q → r ≡ q
 some_two r q e = cc
 
 -- a node between its sides, in either direction
-abbrev pub nearer : Direction → Shape → Shape → Shape
+abbrev pub nearer : Direction → BinaryTree → BinaryTree → BinaryTree
 nearer Ascending l q = l
 nearer Descending l q = q
 
-abbrev pub farther : Direction → Shape → Shape → Shape
+abbrev pub farther : Direction → BinaryTree → BinaryTree → BinaryTree
 farther Ascending l q = q
 farther Descending l q = l
 
-onward_fork : (d : Direction) (l : Shape) (r : Ref) (q : Shape)
+onward_fork : (d : Direction) (l : BinaryTree) (r : Ref) (q : BinaryTree)
     → onward d (nodes l ++ r ∷ nodes q) ≡ onward d (nodes (nearer d l q)) ++ r ∷ onward d (nodes (farther d l q))
 onward_fork Ascending l r q = refl
 onward_fork Descending l r q = reverse-append (nodes l) (r ∷ nodes q)
     ∙ ap (λ k. k ++ reverse (nodes l)) (reverse-append (r ∷ []) (nodes q)) ∙ append_assoc (reverse (nodes q)) (r ∷ []) (reverse (nodes l))
 
-near_rooted : {T : Type 0} (m : Pooled T) (s : ℕ) (d : Direction) (y : Link) (l q : Shape) → IsRooted m s y.back l
+near_rooted : {T : Type 0} (m : Pooled T) (s : ℕ) (d : Direction) (y : Link) (l q : BinaryTree) → IsRooted m s y.back l
     → IsRooted m s y.forth q → IsRooted m s (near_of d y) (nearer d l q) × IsRooted m s (far_of d y) (farther d l q)
 near_rooted m s Ascending y l q g h = (g, h)
 near_rooted m s Descending y l q g h = (h, g)
 
-near_height : (d : Direction) (l q : Shape) (n : ℕ) → n ≡ max (height l) (height q) + 1 → (height (nearer d l q) < n) × (height (farther d l q) < n)
+near_height : (d : Direction) (l q : BinaryTree) (n : ℕ) → n ≡ max (height l) (height q) + 1 → (height (nearer d l q) < n) × (height (farther d l q) < n)
 near_height Ascending l q n e = (omega arith, omega arith)
 near_height Descending l q n e = (omega arith, omega arith)
 
@@ -55,9 +55,9 @@ module _ {T : Type 0} where
 
   -- a node on the way down
   pub record Entered (m : Pooled T) (s : ℕ) (d : Direction) (levels : ℕ) (items : List (Option Ref))
-      (r : Ref) (y : Link) (xs : List Pending) (t : Shape) : Type 0 where
-    pub left : Shape
-    pub right : Shape
+      (r : Ref) (y : Link) (xs : List Pending) (t : BinaryTree) : Type 0 where
+    pub left : BinaryTree
+    pub right : BinaryTree
     pub is : t ≡ Fork left r right
     pub held : IsHeld m r
     pub left_is : IsRooted m s y.back left
@@ -68,7 +68,7 @@ module _ {T : Type 0} where
     pub room : length items < 45
 
   pub entered : {m : Pooled T} {s : ℕ} {d : Direction} {levels : ℕ} {items : List (Option Ref)}
-      {at : Option Ref} {r : Ref} {y : Link} {xs : List Pending} {t : Shape}
+      {at : Option Ref} {r : Ref} {y : Link} {xs : List Pending} {t : BinaryTree}
       → Enters m s d levels items at xs t → at ≡ Some r → y ≡ link_of m r.name s → Entered m s d levels items r y xs t
   entered {m} {s} {d} {levels} {items} {at} {r} {y} {xs} {t} h e i =
       let o = opened m s r t (moved m m s at (Some r) t refl e h.rooted) in
@@ -101,13 +101,13 @@ module _ {T : Type 0} where
       }
 
   -- no way down from a tip
-  pub enters_none : (m : Pooled T) (s : ℕ) (d : Direction) (levels : ℕ) (items : List (Option Ref)) (xs : List Pending) (t : Shape)
+  pub enters_none : (m : Pooled T) (s : ℕ) (d : Direction) (levels : ℕ) (items : List (Option Ref)) (xs : List Pending) (t : BinaryTree)
       → Enters m s d levels items None xs t → t ≡ Tip
   enters_none m s d levels items xs Tip h = refl
   enters_none m s d levels items xs (Fork l r q) h = let e = h.rooted.root in absurd cc
 
 -- the nodes ahead of the nearer side, then those of the whole
-pub ahead_near : (d : Direction) (l : Shape) (r : Ref) (q t : Shape) (xs ys : List Pending) → t ≡ Fork l r q
+pub ahead_near : (d : Direction) (l : BinaryTree) (r : Ref) (q t : BinaryTree) (xs ys : List Pending) → t ≡ Fork l r q
     → ahead d ys ≡ onward d (nodes (nearer d l q)) ++ ahead d (record { node = r; after = farther d l q } ∷ xs) → ahead d ys ≡ onward d (nodes t) ++ ahead d xs
 ahead_near d l r q t xs ys e h =
     h ∙ sym (append_assoc (onward d (nodes (nearer d l q))) (r ∷ onward d (nodes (farther d l q))) (ahead d xs))
@@ -121,23 +121,23 @@ drop_fork : (xs : List Ref) (r : Ref) (ys : List Ref) (n k : ℕ) → n ≡ leng
 drop_fork xs r ys n k e = ap (λ z. drop z (xs ++ r ∷ ys)) e ∙ drop-append-add xs (r ∷ ys) (suc k)
 
 -- up from a place in the left side, down from one in the right side: the node is ahead too
-up_left : (l : Shape) (r : Ref) (q t : Shape) (xs ys : List Pending) (n : ℕ) → t ≡ Fork l r q → n ≤ length (nodes l)
+up_left : (l : BinaryTree) (r : Ref) (q t : BinaryTree) (xs ys : List Pending) (n : ℕ) → t ≡ Fork l r q → n ≤ length (nodes l)
     → ahead Ascending ys ≡ drop n (nodes l) ++ ahead Ascending (record { node = r; after = q } ∷ xs)
     → ahead Ascending ys ≡ drop n (nodes t) ++ ahead Ascending xs
 up_left l r q t xs ys n e le h =
     h ∙ sym (append_assoc (drop n (nodes l)) (r ∷ nodes q) (ahead Ascending xs))
     ∙ ap (λ k. k ++ ahead Ascending xs) (sym (drop-append-le n (nodes l) (r ∷ nodes q) le)) ∙ ap (λ k. drop n (nodes k) ++ ahead Ascending xs) (sym e)
 
-up_right : (l : Shape) (r : Ref) (q t : Shape) (xs ys : List Pending) (n k : ℕ) → t ≡ Fork l r q → n ≡ length (nodes l) + suc k
+up_right : (l : BinaryTree) (r : Ref) (q t : BinaryTree) (xs ys : List Pending) (n k : ℕ) → t ≡ Fork l r q → n ≡ length (nodes l) + suc k
     → ahead Ascending ys ≡ drop k (nodes q) ++ ahead Ascending xs → ahead Ascending ys ≡ drop n (nodes t) ++ ahead Ascending xs
 up_right l r q t xs ys n k e is h = h ∙ ap (λ z. z ++ ahead Ascending xs) (sym (ap (λ z. drop n (nodes z)) e ∙ drop_fork (nodes l) r (nodes q) n k is))
 
-down_left : (l : Shape) (r : Ref) (q t : Shape) (xs ys : List Pending) (n : ℕ) → t ≡ Fork l r q → n ≤ length (nodes l)
+down_left : (l : BinaryTree) (r : Ref) (q t : BinaryTree) (xs ys : List Pending) (n : ℕ) → t ≡ Fork l r q → n ≤ length (nodes l)
     → ahead Descending ys ≡ reverse (take n (nodes l)) ++ ahead Descending xs → ahead Descending ys ≡ reverse (take n (nodes t)) ++ ahead Descending xs
 down_left l r q t xs ys n e le h = h
     ∙ ap (λ z. reverse z ++ ahead Descending xs) (sym (ap (λ z. take n (nodes z)) e ∙ take-append-le n (nodes l) (r ∷ nodes q) le))
 
-down_right : (l : Shape) (r : Ref) (q t : Shape) (xs ys : List Pending) (n k : ℕ) → t ≡ Fork l r q → n ≡ length (nodes l) + suc k
+down_right : (l : BinaryTree) (r : Ref) (q t : BinaryTree) (xs ys : List Pending) (n k : ℕ) → t ≡ Fork l r q → n ≡ length (nodes l) + suc k
     → ahead Descending ys ≡ reverse (take k (nodes q)) ++ ahead Descending (record { node = r; after = l } ∷ xs)
     → ahead Descending ys ≡ reverse (take n (nodes t)) ++ ahead Descending xs
 down_right l r q t xs ys n k e is h =
@@ -148,16 +148,16 @@ down_right l r q t xs ys n k e is h =
     h ∙ sym (append_assoc part (r ∷ reverse (nodes l)) (ahead Descending xs)) ∙ ap (λ z. z ++ ahead Descending xs) (sym whole)
 
 -- what is pending on the way into either side
-abbrev pub pend_left : Direction → Ref → Shape → List Pending → List Pending
+abbrev pub pend_left : Direction → Ref → BinaryTree → List Pending → List Pending
 pend_left Ascending r q xs = record { node = r; after = q } ∷ xs
 pend_left Descending r q xs = xs
 
-abbrev pub pend_right : Direction → Ref → Shape → List Pending → List Pending
+abbrev pub pend_right : Direction → Ref → BinaryTree → List Pending → List Pending
 pend_right Ascending r l xs = xs
 pend_right Descending r l xs = record { node = r; after = l } ∷ xs
 
 -- the way into either side, in a pool n that is as m is
-module _ {T : Type 0} {m : Pooled T} {s levels : ℕ} {items : List (Option Ref)} {r : Ref} {y : Link} {xs : List Pending} {t : Shape} where
+module _ {T : Type 0} {m : Pooled T} {s levels : ℕ} {items : List (Option Ref)} {r : Ref} {y : Link} {xs : List Pending} {t : BinaryTree} where
   pub enters_left : {n : Pooled T} {new : List (Option Ref)} (d : Direction) (o : Entered m s d levels items r y xs t) → n ≡ m
       → new ≡ cond (is_ascending d) (items ++ Some r ∷ []) items → Enters n s d levels new y.back (pend_left d r o.right xs) o.left
   enters_left Ascending o same e =
@@ -190,26 +190,26 @@ pub goes_moved : {T : Type 0} {m n : Pooled T} {s : ℕ} {d : Direction} {levels
 goes_moved {T} {m} {n} {s} {d} {levels} {items} {xs} same h = subst (λ (z : Pooled T). Goes z s d levels items xs) same h
 
 -- the nodes ahead of a place in either side
-pub way_left : (d : Direction) (l : Shape) (r : Ref) (q t : Shape) (xs ys : List Pending) (n : ℕ) → t ≡ Fork l r q → n ≤ length (nodes l)
+pub way_left : (d : Direction) (l : BinaryTree) (r : Ref) (q t : BinaryTree) (xs ys : List Pending) (n : ℕ) → t ≡ Fork l r q → n ≤ length (nodes l)
     → ahead d ys ≡ beyond d (take n (nodes l)) (drop n (nodes l)) ++ ahead d (pend_left d r q xs)
     → ahead d ys ≡ beyond d (take n (nodes t)) (drop n (nodes t)) ++ ahead d xs
 way_left Ascending l r q t xs ys n e le h = up_left l r q t xs ys n e le h
 way_left Descending l r q t xs ys n e le h = down_left l r q t xs ys n e le h
 
-pub way_right : (d : Direction) (l : Shape) (r : Ref) (q t : Shape) (xs ys : List Pending) (n k : ℕ) → t ≡ Fork l r q → n ≡ length (nodes l) + suc k
+pub way_right : (d : Direction) (l : BinaryTree) (r : Ref) (q t : BinaryTree) (xs ys : List Pending) (n k : ℕ) → t ≡ Fork l r q → n ≡ length (nodes l) + suc k
     → ahead d ys ≡ beyond d (take k (nodes q)) (drop k (nodes q)) ++ ahead d (pend_right d r l xs)
     → ahead d ys ≡ beyond d (take n (nodes t)) (drop n (nodes t)) ++ ahead d xs
 way_right Ascending l r q t xs ys n k e is h = up_right l r q t xs ys n k e is h
 way_right Descending l r q t xs ys n k e is h = down_right l r q t xs ys n k e is h
 
 -- the nodes ahead of a node in either side, or of the node between
-pub from_left : (d : Direction) (l : Shape) (r : Ref) (q : Shape) (xs ys : List Pending) (x : Ref) (vs zs ws : List Ref) → ws ≡ zs ++ r ∷ nodes q
+pub from_left : (d : Direction) (l : BinaryTree) (r : Ref) (q : BinaryTree) (xs ys : List Pending) (x : Ref) (vs zs ws : List Ref) → ws ≡ zs ++ r ∷ nodes q
     → ahead d ys ≡ x ∷ (beyond d vs zs ++ ahead d (pend_left d r q xs)) → ahead d ys ≡ x ∷ (beyond d vs ws ++ ahead d xs)
 from_left Ascending l r q xs ys x vs zs ws e h = h
     ∙ ap (λ k. x ∷ k) (sym (append_assoc zs (r ∷ nodes q) (ahead Ascending xs)) ∙ ap (λ k. k ++ ahead Ascending xs) (sym e))
 from_left Descending l r q xs ys x vs zs ws e h = h
 
-pub from_right : (d : Direction) (l : Shape) (r : Ref) (q : Shape) (xs ys : List Pending) (x : Ref) (vs zs ws : List Ref) → vs ≡ nodes l ++ r ∷ zs
+pub from_right : (d : Direction) (l : BinaryTree) (r : Ref) (q : BinaryTree) (xs ys : List Pending) (x : Ref) (vs zs ws : List Ref) → vs ≡ nodes l ++ r ∷ zs
     → ahead d ys ≡ x ∷ (beyond d zs ws ++ ahead d (pend_right d r l xs)) → ahead d ys ≡ x ∷ (beyond d vs ws ++ ahead d xs)
 from_right Ascending l r q xs ys x vs zs ws e h = h
 from_right Descending l r q xs ys x vs zs ws e h =
@@ -217,7 +217,7 @@ from_right Descending l r q xs ys x vs zs ws e h =
     ∙ ap (λ k. k ++ reverse (nodes l)) (reverse-append (r ∷ []) zs) ∙ append_assoc (reverse zs) (r ∷ []) (reverse (nodes l)) in
     h ∙ ap (λ k. x ∷ k) (sym (append_assoc (reverse zs) (r ∷ reverse (nodes l)) (ahead Descending xs)) ∙ ap (λ k. k ++ ahead Descending xs) (sym whole))
 
-pub from_here : (d : Direction) (l : Shape) (r : Ref) (q : Shape) (xs : List Pending) (x : Ref) (vs ws : List Ref) → nodes l ≡ vs
+pub from_here : (d : Direction) (l : BinaryTree) (r : Ref) (q : BinaryTree) (xs : List Pending) (x : Ref) (vs ws : List Ref) → nodes l ≡ vs
     → r ≡ x → nodes q ≡ ws → ahead d (record { node = r; after = farther d l q } ∷ xs) ≡ x ∷ (beyond d vs ws ++ ahead d xs)
 from_here Ascending l r q xs x vs ws e f g = λ i. f i ∷ (g i ++ ahead Ascending xs)
 from_here Descending l r q xs x vs ws e f g = λ i. f i ∷ (reverse (e i) ++ ahead Descending xs)
@@ -261,7 +261,7 @@ popped_none {items} {xs = x ∷ xs} e n l f = let j : Some x.node ≡ None = sym
 module _ {T : Type 0} where
   -- a walk that gives a node
   pub record Stepped (m : Pooled T) (s : ℕ) (d : Direction) (levels : ℕ) (new : List (Option Ref)) (r : Ref) (us : List Ref) : Type 0 where
-    pub after : Shape
+    pub after : BinaryTree
     pub ys : List Pending
     pub held : IsHeld m r
     pub enters : Enters m s d levels new (far_of d (link_of m r.name s)) ys after

@@ -16,7 +16,7 @@ use Rattle.mi_node.specs.Refs.{Ref, IsOut, IsApart, AreOut}
 use Rattle.mi_node.proofs.EntryLemmas.{flip, link_here}
 use Rattle.mi_node.proofs.KeepingLemmas.{keeps_none, keeps_link, keeps_then, keeps_more, held_kept}
 use Rattle.mi_node.proofs.RefLemmas.{out_left, out_right, between, are_out_cons, are_out_none, are_out_flip}
-use Rattle.mi_tree.specs.Shape.{Shape, Tip, Fork, nodes, top, size, height, DifferByAtMost, IsEven, Stands, IsRooted, height_at}
+use Rattle.mi_tree.specs.BinaryTree.{BinaryTree, Tip, Fork, nodes, top, size, height, DifferByAtMost, IsEven, Stands, IsRooted, height_at}
 use Rattle.mi_tree.specs.Joining.{AreSides, IsBalanced, IsSettled}
 use Rattle.mi_tree.specs.Sorted.{AreTagged, SameTags, IsPutIn, CanPut, HasPut, side}
 use Rattle.mi_tree.specs.Ways.{Frame, way_of, forked, forked_size, forked_height, forked_link, rehung, plug}
@@ -41,11 +41,11 @@ path_length (f ∷ fs) = let i = path_length fs in let j = length-append (way_of
 some_two : (a b : Turn) → Some a ≡ Some b → a ≡ b
 some_two a b e = cc
 
-abbrev pub frame : Turn → Shape → Frame
+abbrev pub frame : Turn → BinaryTree → Frame
 frame turn q = record { node = turn.node; left = turn.left; other = q }
 
 pub record IsTurned (fs : List Frame) (new : List (Option Turn)) (turn : Turn) : Type 0 where
-  pub other : Shape
+  pub other : BinaryTree
   pub rest : List Frame
   pub was : fs ≡ frame turn other ∷ rest
   pub now : new ≡ way_of rest
@@ -83,70 +83,71 @@ no_turn items last [] e l g = refl
 no_turn items last (f ∷ fs) e l g = let j : Some (turn_of f) ≡ None = sym (ap option_flatten (l ∙ last_is items f fs e)) ∙ g in absurd cc
 
 -- the names of a node above a tree
-forked_out : (b : Bool) (r : Ref) (q t : Shape) (k : ℕ) → IsOut k (nodes (forked b t r q)) → IsOut k (nodes t) × ((k == r.name) ≡ false) × IsOut k (nodes q)
+forked_out : (b : Bool) (r : Ref) (q t : BinaryTree) (k : ℕ) → IsOut k (nodes (forked b t r q)) → IsOut k (nodes t) × ((k == r.name) ≡ false)
+    × IsOut k (nodes q)
 forked_out true r q t k o = let w = out_right k (nodes t) (r ∷ nodes q) o in (out_left k (nodes t) (r ∷ nodes q) o, w.0, w.1)
 forked_out false r q t k o = let w = out_right k (nodes q) (r ∷ nodes t) o in (w.1, w.0, out_left k (nodes q) (r ∷ nodes t) o)
 
-record Apart (r : Ref) (q t : Shape) : Type 0 where
+record Apart (r : Ref) (q t : BinaryTree) : Type 0 where
   pub tree : IsApart (nodes t)
   pub out_tree : IsOut r.name (nodes t)
   pub out_other : IsOut r.name (nodes q)
   pub across : AreOut (nodes q) (nodes t)
 
-forked_apart : (b : Bool) (r : Ref) (q t : Shape) → IsApart (nodes (forked b t r q)) → Apart r q t
+forked_apart : (b : Bool) (r : Ref) (q t : BinaryTree) → IsApart (nodes (forked b t r q)) → Apart r q t
 forked_apart true r q t a =
     let w = between (nodes t) r (nodes q) a in
     record { tree = w.left; out_tree = w.out_left; out_other = w.out_right; across = are_out_flip (nodes t) (nodes q) w.across }
 forked_apart false r q t a =
     let w = between (nodes q) r (nodes t) a in record { tree = w.right; out_tree = w.out_right; out_other = w.out_left; across = w.across }
 
-pub plug_apart : (fs : List Frame) (t : Shape) → IsApart (nodes (plug fs t)) → IsApart (nodes t)
+pub plug_apart : (fs : List Frame) (t : BinaryTree) → IsApart (nodes (plug fs t)) → IsApart (nodes t)
 plug_apart [] t a = a
 plug_apart (f ∷ fs) t a = (forked_apart f.left f.node f.other t (plug_apart fs (forked f.left t f.node f.other) a)).tree
 
-pub plug_out : (fs : List Frame) (t : Shape) (k : ℕ) → IsOut k (nodes (plug fs t)) → IsOut k (nodes t)
+pub plug_out : (fs : List Frame) (t : BinaryTree) (k : ℕ) → IsOut k (nodes (plug fs t)) → IsOut k (nodes t)
 plug_out [] t k o = o
 plug_out (f ∷ fs) t k o = (forked_out f.left f.node f.other t k (plug_out fs (forked f.left t f.node f.other) k o)).0
 
 -- sizes and heights
-size_forked : (b : Bool) (r : Ref) (q t : Shape) → size (forked b t r q) ≡ forked_size b (size t) (size q)
+size_forked : (b : Bool) (r : Ref) (q t : BinaryTree) → size (forked b t r q) ≡ forked_size b (size t) (size q)
 size_forked true r q t = refl
 size_forked false r q t = refl
 
-size_part : (b : Bool) (r : Ref) (q t : Shape) → size t ≤ size (forked b t r q)
+size_part : (b : Bool) (r : Ref) (q t : BinaryTree) → size t ≤ size (forked b t r q)
 size_part true r q t = omega arith
 size_part false r q t = omega arith
 
-height_forked : (b : Bool) (r : Ref) (q t : Shape) → height (forked b t r q) ≡ forked_height b (height t) (height q)
+height_forked : (b : Bool) (r : Ref) (q t : BinaryTree) → height (forked b t r q) ≡ forked_height b (height t) (height q)
 height_forked true r q t = refl
 height_forked false r q t = refl
 
-top_forked : (b : Bool) (r : Ref) (q t : Shape) → top (forked b t r q) ≡ Some r
+top_forked : (b : Bool) (r : Ref) (q t : BinaryTree) → top (forked b t r q) ≡ Some r
 top_forked true r q t = refl
 top_forked false r q t = refl
 
-size_less : (b : Bool) (r : Ref) (q t : Shape) → size t + size q + 1 ≡ size (forked b t r q)
+size_less : (b : Bool) (r : Ref) (q t : BinaryTree) → size t + size q + 1 ≡ size (forked b t r q)
 size_less true r q t = refl
 size_less false r q t = omega arith
 
-pub plug_size : (fs : List Frame) (t : Shape) → size t ≤ size (plug fs t)
+pub plug_size : (fs : List Frame) (t : BinaryTree) → size t ≤ size (plug fs t)
 plug_size [] t = omega arith
 plug_size (f ∷ fs) t = let i = plug_size fs (forked f.left t f.node f.other) in let j = size_less f.left f.node f.other t in omega arith
 
 -- trees of the same nodes in one place
-forked_nodes : (b : Bool) (r : Ref) (q t u : Shape) → nodes t ≡ nodes u → nodes (forked b t r q) ≡ nodes (forked b u r q)
+forked_nodes : (b : Bool) (r : Ref) (q t u : BinaryTree) → nodes t ≡ nodes u → nodes (forked b t r q) ≡ nodes (forked b u r q)
 forked_nodes true r q t u e = ap (λ k. k ++ r ∷ nodes q) e
 forked_nodes false r q t u e = ap (λ k. nodes q ++ r ∷ k) e
 
-plug_nodes : (fs : List Frame) (t u : Shape) → nodes t ≡ nodes u → nodes (plug fs t) ≡ nodes (plug fs u)
+plug_nodes : (fs : List Frame) (t u : BinaryTree) → nodes t ≡ nodes u → nodes (plug fs t) ≡ nodes (plug fs u)
 plug_nodes [] t u e = e
 plug_nodes (f ∷ fs) t u e = plug_nodes fs (forked f.left t f.node f.other) (forked f.left u f.node f.other) (forked_nodes f.left f.node f.other t u e)
 
-same_size : (t u : Shape) → nodes t ≡ nodes u → size t ≡ size u
+same_size : (t u : BinaryTree) → nodes t ≡ nodes u → size t ≡ size u
 same_size t u e = size-nodes t ∙ ap length e ∙ sym (size-nodes u)
 
 -- the root is the same, whatever stands at the end of the way
-top_plug : (f : Frame) (fs : List Frame) (t u : Shape) → top (plug (f ∷ fs) t) ≡ top (plug (f ∷ fs) u)
+top_plug : (f : Frame) (fs : List Frame) (t u : BinaryTree) → top (plug (f ∷ fs) t) ≡ top (plug (f ∷ fs) u)
 top_plug f [] t u = top_forked f.left f.node f.other t ∙ sym (top_forked f.left f.node f.other u)
 top_plug f (g ∷ gs) t u = top_plug g gs (forked f.left t f.node f.other) (forked f.left u f.node f.other)
 
@@ -155,7 +156,7 @@ root_next root f [] e = tt
 root_next root f (g ∷ gs) e = e ∙ top_plug g gs (forked f.left Tip f.node f.other) Tip
 
 -- the root of the whole, if a node is above the end of the way
-pub root_above : (root : Option Ref) (fs : List Frame) (t : Shape) → root ≡ top (plug fs t) → IsRootOf root fs
+pub root_above : (root : Option Ref) (fs : List Frame) (t : BinaryTree) → root ≡ top (plug fs t) → IsRootOf root fs
 root_above root [] t e = tt
 root_above root (f ∷ fs) t e = e ∙ top_plug f fs t Tip
 
@@ -163,7 +164,7 @@ root_top : (root : Option Ref) (fs : List Frame) → root ≡ top (plug fs Tip) 
 root_top root [] e = tt
 root_top root (f ∷ fs) e = e
 
-pub plug_height : (fs : List Frame) (t : Shape) → height (plug fs t) ≡ risen fs (height t)
+pub plug_height : (fs : List Frame) (t : BinaryTree) → height (plug fs t) ≡ risen fs (height t)
 plug_height [] t = refl
 plug_height (f ∷ fs) t = plug_height fs (forked f.left t f.node f.other) ∙ ap (risen fs) (height_forked f.left f.node f.other t)
 
@@ -190,23 +191,24 @@ are_out_less : (zs xs ys : List Ref) → ((k : ℕ) → IsOut k xs → IsOut k y
 are_out_less [] xs ys among a = tt
 are_out_less (z ∷ zs) xs ys among a = (among z.name a.0, are_out_less zs xs ys among a.1)
 
-even_forked : (b : Bool) (r : Ref) (q t : Shape) → DifferByAtMost 1 (height t) (height q) → IsEven t → IsEven q → IsEven (forked b t r q)
+even_forked : (b : Bool) (r : Ref) (q t : BinaryTree) → DifferByAtMost 1 (height t) (height q) → IsEven t → IsEven q → IsEven (forked b t r q)
 even_forked true r q t d e f = (d, e, f)
 even_forked false r q t d e f = ((omega arith, omega arith), f, e)
 
 pub even_moved : (fs : List Frame) (h k : ℕ) → h ≡ k → AreEven fs h → AreEven fs k
 even_moved fs h k e a = subst (AreEven fs) e a
 
-link_height : (b : Bool) (at : Option Ref) (n h : ℕ) (q : Shape) (t : Tag) → (forked_link b at n h q t).height ≡ forked_height b h (height q)
+link_height : (b : Bool) (at : Option Ref) (n h : ℕ) (q : BinaryTree) (t : Tag) → (forked_link b at n h q t).height ≡ forked_height b h (height q)
 link_height true at n h q t = refl
 link_height false at n h q t = refl
 
-rehung_is : (b : Bool) (y : Link) (at bt : Option Ref) (n h : ℕ) (q : Shape) → y ≡ forked_link b at n h q y.tag → rehung b bt y ≡ forked_link b bt n h q y.tag
+rehung_is : (b : Bool) (y : Link) (at bt : Option Ref) (n h : ℕ) (q : BinaryTree) → y ≡ forked_link b at n h q y.tag
+    → rehung b bt y ≡ forked_link b bt n h q y.tag
 rehung_is true y at bt n h q e = λ i. record { back = bt; forth = (e i).forth; size = (e i).size; height = (e i).height; tag = y.tag }
 rehung_is false y at bt n h q e = λ i. record { back = (e i).back; forth = bt; size = (e i).size; height = (e i).height; tag = y.tag }
 
 -- the whole is balanced
-plug_even : (fs : List Frame) (t : Shape) → IsEven t → AreEven fs (height t) → IsEven (plug fs t)
+plug_even : (fs : List Frame) (t : BinaryTree) → IsEven t → AreEven fs (height t) → IsEven (plug fs t)
 plug_even [] t e a = e
 plug_even (f ∷ fs) t e a = plug_even fs (forked f.left t f.node f.other) (even_forked f.left f.node f.other t a.0 e a.1)
     (even_moved fs _ _ (sym (height_forked f.left f.node f.other t)) a.2)
@@ -217,7 +219,7 @@ module _ {T : Type 0} where
   above_moved m s fs at bt n k h j e f g a = subst (λ (z : Option Ref × ℕ × ℕ). Above m s fs z.0 z.1 z.2) (λ i. (e i, f i, g i)) a
 
   -- a change below the way
-  pub above_kept : (s : ℕ) (m n : Pooled T) (us : List Ref) (fs : List Frame) (t : Shape) (at : Option Ref) (k h : ℕ)
+  pub above_kept : (s : ℕ) (m n : Pooled T) (us : List Ref) (fs : List Frame) (t : BinaryTree) (at : Option Ref) (k h : ℕ)
       → Keeps m n s us → IsApart (nodes (plug fs t)) → ((i : ℕ) → IsOut i (nodes t) → IsOut i us)
       → Above m s fs at k h → Above n s fs at k h
   above_kept s m n us [] t at k h g a among w = tt
@@ -229,28 +231,28 @@ module _ {T : Type 0} where
         above_kept s m n us fs (forked f.left t f.node f.other) _ _ _ g a (λ i out. among i (forked_out f.left f.node f.other t i out).0) w.3,
       )
 
-  stands_forked : (m : Pooled T) (s : ℕ) (b : Bool) (r : Ref) (q t : Shape) → Stands m s t → IsHeld m r
+  stands_forked : (m : Pooled T) (s : ℕ) (b : Bool) (r : Ref) (q t : BinaryTree) → Stands m s t → IsHeld m r
       → link_of m r.name s ≡ forked_link b (top t) (size t) (height t) q (link_of m r.name s).tag → Stands m s q → Stands m s (forked b t r q)
   stands_forked m s true r q t h held link other = (held, link, h, other)
   stands_forked m s false r q t h held link other = (held, link, other, h)
 
   -- the whole stands
-  plug_stands : (m : Pooled T) (s : ℕ) (fs : List Frame) (t : Shape) → Stands m s t → Above m s fs (top t) (size t) (height t) → Stands m s (plug fs t)
+  plug_stands : (m : Pooled T) (s : ℕ) (fs : List Frame) (t : BinaryTree) → Stands m s t → Above m s fs (top t) (size t) (height t) → Stands m s (plug fs t)
   plug_stands m s [] t h a = h
   plug_stands m s (f ∷ fs) t h a = plug_stands m s fs (forked f.left t f.node f.other) (stands_forked m s f.left f.node f.other t h a.0 a.1 a.2)
       (above_moved m s fs _ _ _ _ _ _ (sym (top_forked f.left f.node f.other t))
       (sym (size_forked f.left f.node f.other t)) (sym (height_forked f.left f.node f.other t)) a.3)
 
   -- the two sides of a node on the way, with another tree on the side of the way
-  pub record Sided (m : Pooled T) (s : ℕ) (back forth : Option Ref) (r : Ref) (b : Bool) (q u l z : Shape) : Type 0 where
+  pub record Sided (m : Pooled T) (s : ℕ) (back forth : Option Ref) (r : Ref) (b : Bool) (q u l z : BinaryTree) : Type 0 where
     pub sides : AreSides m s back r forth l z
     pub names : nodes l ++ r ∷ nodes z ≡ nodes (forked b u r q)
     pub heights : (max (height l) (height z) ≡ max (height u) (height q)) × (DifferByAtMost 1 (height u) (height q) → DifferByAtMost 1 (height l) (height z))
 
-  sided : (m : Pooled T) (s : ℕ) (b : Bool) (r : Ref) (q u : Shape) (below : Option Ref) (y : Link) (at : Option Ref) (n h : ℕ) (t : Tag)
+  sided : (m : Pooled T) (s : ℕ) (b : Bool) (r : Ref) (q u : BinaryTree) (below : Option Ref) (y : Link) (at : Option Ref) (n h : ℕ) (t : Tag)
       → IsRooted m s below u → IsEven u → DifferByAtMost 1 (height u) h → DifferByAtMost 1 h (height q) → IsEven q → IsHeld m r
       → y ≡ forked_link b at n h q t → Stands m s q → IsApart (nodes (forked b u r q)) → size (forked b u r q) < 2 ^ 32
-      → (l : Shape) × (z : Shape) × Sided m s (cond b below y.back) (cond b y.forth below) r b q u l z
+      → (l : BinaryTree) × (z : BinaryTree) × Sided m s (cond b below y.back) (cond b y.forth below) r b q u l z
   sided m s true r q u below y at n h t rooted even near beside other held link stands apart fits = (
     u,
     q,
@@ -289,7 +291,7 @@ module _ {T : Type 0} where
   )
 
   -- the link is right for them where the other tree is one level lower than before the node
-  settled : (m : Pooled T) (s : ℕ) (b : Bool) (r : Ref) (q u : Shape) (below : Option Ref) (y : Link) (at : Option Ref) (h : ℕ) (t : Tag)
+  settled : (m : Pooled T) (s : ℕ) (b : Bool) (r : Ref) (q u : BinaryTree) (below : Option Ref) (y : Link) (at : Option Ref) (h : ℕ) (t : Tag)
       → (rooted : IsRooted m s below u) (even : IsEven u) (near : DifferByAtMost 1 (height u) h) (beside : DifferByAtMost 1 h (height q))
       (other : IsEven q) (held : IsHeld m r) (link : y ≡ forked_link b at (size u) h q t) (stands : Stands m s q)
       (apart : IsApart (nodes (forked b u r q))) (fits : size (forked b u r q) < 2 ^ 32)
@@ -322,7 +324,7 @@ module _ {T : Type 0} where
       )
 
   -- nothing is above
-  pub climbed_none : {m : Pooled T} {s : ℕ} {root below : Option Ref} {items : List (Option Turn)} {fs : List Frame} {at : Option Ref} {h : ℕ} {u : Shape}
+  pub climbed_none : {m : Pooled T} {s : ℕ} {root below : Option Ref} {items : List (Option Turn)} {fs : List Frame} {at : Option Ref} {h : ℕ} {u : BinaryTree}
       → Climbs m s root below items fs at h u → fs ≡ [] → HasClimbed m m s (plug fs u) below u
   climbed_none {m} {s} {fs = fs} {u = u} c e = record {
     rooted = c.rooted;
@@ -332,23 +334,23 @@ module _ {T : Type 0} where
     tags = λ k. refl;
   }
 
-  pub level_none : (m : Pooled T) (s : ℕ) (root below : Option Ref) (items : List (Option Turn)) (fs : List Frame) (at : Option Ref) (h : ℕ) (u : Shape)
+  pub level_none : (m : Pooled T) (s : ℕ) (root below : Option Ref) (items : List (Option Turn)) (fs : List Frame) (at : Option Ref) (h : ℕ) (u : BinaryTree)
       → Climbs m s root below items fs at h u → fs ≡ [] → IsLevel (height u) h (height_at m s below) (risen fs h)
   level_none m s root below items fs at h u c e = subst (λ (z : ℕ × ℕ). IsLevel (height u) h z.0 z.1)
       (λ i. (sym (height-root m s below u c.rooted) i, ap (λ k. risen k h) (sym e) i)) (c.near, λ f. f)
 
   -- what a step up gives: the tree that is to stand next, and what the rest of the way makes of it
   pub record NextClimb (m n : Pooled T) (s : ℕ) (root : Option Ref) (new : List (Option Turn)) (fs : List Frame)
-      (h : ℕ) (u : Shape) (turn : Turn) (before : ℕ) (next : Ref) : Type 0 where
+      (h : ℕ) (u : BinaryTree) (turn : Turn) (before : ℕ) (next : Ref) : Type 0 where
     pub rest : List Frame
-    pub z : Shape
+    pub z : BinaryTree
     pub climbs : Climbs n s root (Some next) new rest (Some turn.node) before z
     pub level : (j : ℕ) → IsLevel (height z) before j (risen rest before) → IsLevel (height u) h j (risen fs h)
-    pub climbed : (v : Pooled T) (result : Option Ref) (t : Shape) → HasClimbed n v s (plug rest z) result t → HasClimbed m v s (plug fs u) result t
+    pub climbed : (v : Pooled T) (result : Option Ref) (t : BinaryTree) → HasClimbed n v s (plug rest z) result t → HasClimbed m v s (plug fs u) result t
 
   -- a tree as high as the one before
   module _ {m n : Pooled T} {s : ℕ} {root : Option Ref} {new : List (Option Turn)} {fs : List Frame}
-      {h : ℕ} {u : Shape} {turn : Turn} {before : ℕ} {next : Ref} (o : NextClimb m n s root new fs h u turn before next) where
+      {h : ℕ} {u : BinaryTree} {turn : Turn} {before : ℕ} {next : Ref} (o : NextClimb m n s root new fs h u turn before next) where
     same_height : before ≡ height_at n s (Some next) → before ≡ height o.z
     same_height e = e ∙ height-root n s (Some next) o.z o.climbs.rooted
 
@@ -359,9 +361,9 @@ module _ {T : Type 0} where
     same_level e j is = o.level j (level_same (height o.z) before j _ (is ∙ ap (risen o.rest) (sym (same_height e))))
 
   module _ {m : Pooled T} {s : ℕ} {root below : Option Ref} {items new : List (Option Turn)} {fs : List Frame} {at : Option Ref}
-      {h : ℕ} {u : Shape} (c : Climbs m s root below items fs at h u) {turn : Turn} (w : IsTurned fs new turn)
+      {h : ℕ} {u : BinaryTree} (c : Climbs m s root below items fs at h u) {turn : Turn} (w : IsTurned fs new turn)
       {y : Link} (i : y ≡ link_of m turn.node.name s) where
-    abbrev whole : Shape
+    abbrev whole : BinaryTree
     whole = forked turn.left u turn.node w.other
 
     open_above : Above m s (frame turn w.other ∷ w.rest) at (size u) h
@@ -388,7 +390,7 @@ module _ {T : Type 0} where
     before_is : y.height ≡ forked_height turn.left h (height w.other)
     before_is = ap (λ (z : Link). z.height) link_is ∙ link_height turn.left at (size u) h w.other y.tag
 
-    climb_sides : (l : Shape) × (z : Shape) × Sided m s (cond turn.left below y.back) (cond turn.left y.forth below) turn.node turn.left w.other u l z
+    climb_sides : (l : BinaryTree) × (z : BinaryTree) × Sided m s (cond turn.left below y.back) (cond turn.left y.forth below) turn.node turn.left w.other u l z
     climb_sides = let f = plug_size w.rest whole in let k = open_fits in
         sided m s turn.left turn.node w.other u below y at (size u) h y.tag c.rooted c.even c.near open_beside.0
         open_beside.1 open_above.0 link_is open_above.2 (plug_apart w.rest whole open_apart) (omega arith)
@@ -406,7 +408,7 @@ module _ {T : Type 0} where
     }
 
     -- what the node of the way is put over again
-    pub climb_given : (l : Shape) × (q : Shape) × AreRejoined m s turn below y l q
+    pub climb_given : (l : BinaryTree) × (q : BinaryTree) × AreRejoined m s turn below y l q
     climb_given = (climb_sides.0, climb_sides.1, climb_rejoined)
 
     pub low_below : height_at m s below + 1 < 256
@@ -415,8 +417,8 @@ module _ {T : Type 0} where
         let e = height-root m s below u c.rooted in omega arith
 
     -- the next node of the way
-    module _ {n : Pooled T} {back forth : Option Ref} {l q : Shape} (o : Sided m s back forth turn.node turn.left w.other u l q)
-        {next : Ref} {z : Shape} (k : IsBalanced m n s l turn.node q next z) where
+    module _ {n : Pooled T} {back forth : Option Ref} {l q : BinaryTree} (o : Sided m s back forth turn.node turn.left w.other u l q)
+        {next : Ref} {z : BinaryTree} (k : IsBalanced m n s l turn.node q next z) where
       names_are : nodes z ≡ nodes whole
       names_are = k.rebalanced.nodes_are ∙ o.names
 
@@ -443,7 +445,7 @@ module _ {T : Type 0} where
           subst (λ (i : List Frame). IsLevel (height u) h j (risen i h)) (sym w.was)
           (d.0, λ f. d.1 (not_lifted turn.left h (height w.other) (height u) (height z) f high))
 
-      climbed_on : (v : Pooled T) (result : Option Ref) (t : Shape) → HasClimbed n v s (plug w.rest z) result t → HasClimbed m v s (plug fs u) result t
+      climbed_on : (v : Pooled T) (result : Option Ref) (t : BinaryTree) → HasClimbed n v s (plug w.rest z) result t → HasClimbed m v s (plug fs u) result t
       climbed_on v result t d =
           let same = plug_nodes w.rest z whole names_are in let all = same ∙ sym (ap nodes plugged) in record {
             rooted = d.rooted;
@@ -455,7 +457,7 @@ module _ {T : Type 0} where
           }
 
     pub next_climb : {n : Pooled T} {before : ℕ} {next : Ref} → before ≡ y.height
-        → ((l q : Shape) → AreRejoined m s turn below y l q → (z : Shape) × IsBalanced m n s l turn.node q next z)
+        → ((l q : BinaryTree) → AreRejoined m s turn below y l q → (z : BinaryTree) × IsBalanced m n s l turn.node q next z)
         → NextClimb m n s root new fs h u turn before next
     next_climb {n} {before} {next} e f =
         let k = f climb_sides.0 climb_sides.1 climb_rejoined in let is : forked_height turn.left h (height w.other) ≡ before = sym (e ∙ before_is) in record {
@@ -467,7 +469,7 @@ module _ {T : Type 0} where
         }
 
   -- the last change
-  pub hung : {m n : Pooled T} {s : ℕ} {root : Option Ref} {next : Ref} {items new : List (Option Turn)} {fs : List Frame} {at : Option Ref} {u : Shape}
+  pub hung : {m n : Pooled T} {s : ℕ} {root : Option Ref} {next : Ref} {items new : List (Option Turn)} {fs : List Frame} {at : Option Ref} {u : BinaryTree}
       {turn : Turn} {y : Link} → Climbs m s root (Some next) items fs at (height u) u → IsTurned fs new turn → y ≡ link_of m turn.node.name s
       → n ≡ with_link m turn.node.name s (rehung turn.left (Some next) y)
       → HasClimbed m n s (plug fs u) root (plug fs u)
@@ -508,14 +510,14 @@ leaf_put : (R : Ref → Ref → Ordering) (x : Ref) → IsPutIn (R x) x [] (node
 leaf_put R x = record { xs = []; ys = []; was = refl; now = refl; below = tt; above = tt }
 
 module _ {T : Type 0} where
-  pub falls_start : {m : Pooled T} {s : ℕ} {R : Ref → Ref → Ordering} {tag : T → ℕ} {at : Option Ref} {x : Ref} {t : Shape}
+  pub falls_start : {m : Pooled T} {s : ℕ} {R : Ref → Ref → Ordering} {tag : T → ℕ} {at : Option Ref} {x : Ref} {t : BinaryTree}
       → CanPut m s R at x t → AreTagged tag m s (x ∷ nodes t) → Falls m s R tag [] at x [] t
   falls_start {t = t} c g = let f = c.fits in let low = low_enough t c.even (omega arith) in
       record { path_is = refl; can = c; tagged = g; above = tt; beside = tt; apart = c.apart; places = λ u p. p; room = omega arith }
 
   -- the end of the way down
   pub fallen_none : {m : Pooled T} {s : ℕ} {R : Ref → Ref → Ordering} {tag : T → ℕ}
-      {items : List (Option Turn)} {at : Option Ref} {x : Ref} {fs : List Frame} {t : Shape}
+      {items : List (Option Turn)} {at : Option Ref} {x : Ref} {fs : List Frame} {t : BinaryTree}
       → Falls m s R tag items at x fs t → at ≡ None
       → HasFallen m m s R items x (plug fs t) fs
   fallen_none {m} {s} {R} {tag} {items} {at} {x} {fs} {t} h e =
@@ -532,16 +534,16 @@ module _ {T : Type 0} where
 
   -- a step down: where the way goes on, and what its end says of the whole
   pub record NextFall (m n : Pooled T) (s : ℕ) (order : T → T → Ordering) (tag : T → ℕ) (new : List (Option Turn))
-      (at next : Option Ref) (x : Ref) (fs : List Frame) (t : Shape) : Type 0 where
+      (at next : Option Ref) (x : Ref) (fs : List Frame) (t : BinaryTree) : Type 0 where
     pub gs : List Frame
-    pub sub : Shape
+    pub sub : BinaryTree
     pub falls : Falls n s (side order n s) tag new next x gs sub
     pub lower : height_at n s next < height_at m s at
     pub fallen : (v : Pooled T) (last : List (Option Turn)) (ks : List Frame)
         → HasFallen n v s (side order n s) last x (plug gs sub) ks → HasFallen m v s (side order m s) last x (plug fs t) ks
 
   module _ {order : T → T → Ordering} (total : IsTotalOrder order) {tag : T → ℕ} {m n : Pooled T} {s : ℕ}
-      {items : List (Option Turn)} {at : Option Ref} {here x : Ref} {y : Link} {fs : List Frame} {t : Shape}
+      {items : List (Option Turn)} {at : Option Ref} {here x : Ref} {y : Link} {fs : List Frame} {t : BinaryTree}
       (h : Falls m s (side order m s) tag items at x fs t) (e : at ≡ Some here)
       (i : y ≡ link_of m here.name s) (set : n ≡ with_link m here.name s (grown_link y)) where
     abbrev R : Ref → Ref → Ordering
@@ -566,7 +568,7 @@ module _ {T : Type 0} where
     not_here : (here.name == x.name) ≡ false
     not_here = flip here.name x.name ∙ (out_right x.name (nodes o.A) (here ∷ nodes o.B) o.out).0
 
-    can_kept : (bt : Option Ref) (z : Shape) → IsOut here.name (nodes z) → CanPut m s R bt x z → CanPut n s R bt x z
+    can_kept : (bt : Option Ref) (z : BinaryTree) → IsOut here.name (nodes z) → CanPut m s R bt x z → CanPut n s R bt x z
     can_kept bt z out c = record {
       rooted = rooted_past s m n here bt z keeps_here out c.rooted;
       even = c.even;
@@ -593,8 +595,8 @@ module _ {T : Type 0} where
     turn b = record { node = here; left = b }
 
     record Stepped (b : Bool) : Type 0 where
-      pub sub : Shape
-      pub other : Shape
+      pub sub : BinaryTree
+      pub other : BinaryTree
       pub is : t ≡ forked b sub here other
       pub falls : Falls n s (side order n s) tag (items ++ Some (turn b) ∷ []) (cond b y.back y.forth) x (frame (turn b) other ∷ fs) sub
       pub lower : height_at n s (cond b y.back y.forth) < height_at m s at
@@ -700,7 +702,7 @@ module _ {T : Type 0} where
           alone = f.alone;
           above = f.above;
           beside = f.beside;
-          places = λ u p. subst (λ (z : Shape × (Ref → Ref → Ordering)). IsPutIn (z.1 x) x (nodes z.0) (nodes (plug gs u)))
+          places = λ u p. subst (λ (z : BinaryTree × (Ref → Ref → Ordering)). IsPutIn (z.1 x) x (nodes z.0) (nodes (plug gs u)))
               (λ j. (sym whole j, same j)) (f.places u (subst (λ (Q : Ref → Ref → Ordering). IsPutIn (Q x) x [] (nodes u)) (sym same) p));
           keeps = keeps_then s m n v (here ∷ []) (nodes (plug fs (forked b k.sub here k.other))) (nodes (plug fs t)) keeps_here f.keeps
               (λ j out. (
@@ -723,7 +725,7 @@ module _ {T : Type 0} where
 
   -- from the way down to the way up, and the whole
   module _ {m n : Pooled T} {s : ℕ} {R : Ref → Ref → Ordering} {items : List (Option Turn)} {at : Option Ref}
-      {x : Ref} {t : Shape} (c : CanPut m s R at x t) {gs : List Frame} (f : HasFallen m n s R items x t gs) where
+      {x : Ref} {t : BinaryTree} (c : CanPut m s R at x t) {gs : List Frame} (f : HasFallen m n s R items x t gs) where
     placed : IsPutIn (R x) x (nodes t) (nodes (plug gs (Fork Tip x Tip)))
     placed = f.places (Fork Tip x Tip) (leaf_put R x)
 
@@ -744,7 +746,7 @@ module _ {T : Type 0} where
           root_is = root_top at gs (c.rooted.root ∙ ap top (sym f.whole_is));
         }
 
-    pub has_put : {v : Pooled T} {root : Option Ref} {u : Shape} → HasClimbed n v s (plug gs (Fork Tip x Tip)) root u → HasPut m v s R x t root u
+    pub has_put : {v : Pooled T} {root : Option Ref} {u : BinaryTree} → HasClimbed n v s (plug gs (Fork Tip x Tip)) root u → HasPut m v s R x t root u
     has_put {v} {u = u} d = record {
       rooted = d.rooted;
       even = d.even;

@@ -6,7 +6,7 @@ use Rattle.std.specs.declared.cmp.Ordering.{Ordering}
 use Rattle.std.specs.declared.cmp.Ordering.TheVariants.{Equal}
 use Rattle.mi_node.specs.Pool.{Pooled, ref_of, value_of, link_of, with_value}
 use Rattle.mi_node.specs.Refs.{Ref}
-use Rattle.mi_tree.specs.Shape.{height_at}
+use Rattle.mi_tree.specs.BinaryTree.{height_at}
 use Rattle.mi_tree.specs.Sorted.{compared}
 use Rattle.mi_tree.specs.Standing.{IsTree}
 use Rattle.mi_tree.specs.declared.tree.Tree.{Tree}
@@ -43,8 +43,8 @@ StandsWhereSwapped T O order tag = (l : Tree O) (m : Pooled T) (rs : List Ref) (
     → IsTree l m order tag rs → value_of m x.name ≡ Some old → order old new ≡ Equal → IsTree l (with_value m x.name new) order tag rs
 
 -- a tree that stands is the list that its links say
-abbrev pub IsListed : (T O : Type 0) → Type 0
-IsListed T O = (l : Tree O) (m : Pooled T) (order : T → T → Ordering) (tag : T → ℕ) (rs : List Ref) → IsTree l m order tag rs → listed l m ≡ rs
+abbrev pub ListsNodes : (T O : Type 0) → Type 0
+ListsNodes T O = (l : Tree O) (m : Pooled T) (order : T → T → Ordering) (tag : T → ℕ) (rs : List Ref) → IsTree l m order tag rs → listed l m ≡ rs
 
 -- where there is no root there is no node
 abbrev pub StandsEmpty : (T O : Type 0) → Type 0

@@ -7,10 +7,10 @@ use Rattle.mi_node.specs.Pool.{Pooled, IsHeld, Keeps, link_of}
 use Rattle.mi_node.specs.declared.link.Link.{Link}
 use Rattle.mi_node.specs.Refs.{Ref, IsOut, IsApart}
 use Rattle.mi_tree.specs.Sorted.{SameTags}
-use Rattle.mi_tree.specs.Shape.{Shape, nodes, size, height, DifferByAtMost, IsEven, IsRooted}
+use Rattle.mi_tree.specs.BinaryTree.{BinaryTree, nodes, size, height, DifferByAtMost, IsEven, IsRooted}
 
 module _ {T : Type 0} where
-  pub record Two (m : Pooled T) (s : ℕ) (a : Option Ref) (x : Ref) (b : Option Ref) (A B : Shape) : Type 0 where
+  pub record Two (m : Pooled T) (s : ℕ) (a : Option Ref) (x : Ref) (b : Option Ref) (A B : BinaryTree) : Type 0 where
     pub first : IsRooted m s a A
     pub held : IsHeld m x
     pub second : IsRooted m s b B
@@ -20,16 +20,16 @@ module _ {T : Type 0} where
     pub low : (height A < 255) × (height B < 255)
 
   -- the link that the node has above these two
-  pub record IsFork (m : Pooled T) (s : ℕ) (x : Ref) (y : Link) (A B : Shape) : Type 0 where
+  pub record IsFork (m : Pooled T) (s : ℕ) (x : Ref) (y : Link) (A B : BinaryTree) : Type 0 where
     pub two : Two m s y.back x y.forth A B
     pub size_is : y.size ≡ size A + size B + 1
     pub height_is : y.height ≡ max (height A) (height B) + 1
     pub tag_is : y.tag ≡ (link_of m x.name s).tag
 
-  abbrev pub IsSettled : (m : Pooled T) (s : ℕ) (x : Ref) (y : Link) (A B : Shape) → Type 0
+  abbrev pub IsSettled : (m : Pooled T) (s : ℕ) (x : Ref) (y : Link) (A B : BinaryTree) → Type 0
   IsSettled m s x y A B = IsFork m s x y A B × DifferByAtMost 1 (height A) (height B)
 
-  pub record Three (m : Pooled T) (s : ℕ) (a : Option Ref) (x : Ref) (b : Option Ref) (y : Ref) (c : Option Ref) (A B C : Shape) : Type 0 where
+  pub record Three (m : Pooled T) (s : ℕ) (a : Option Ref) (x : Ref) (b : Option Ref) (y : Ref) (c : Option Ref) (A B C : BinaryTree) : Type 0 where
     pub first : IsRooted m s a A
     pub held_x : IsHeld m x
     pub second : IsRooted m s b B
@@ -40,7 +40,7 @@ module _ {T : Type 0} where
     pub low : (height A < 254) × (height B < 254) × (height C < 254)
 
   pub record Four (m : Pooled T) (s : ℕ) (a : Option Ref) (x : Ref) (b : Option Ref) (y : Ref)
-      (c : Option Ref) (z : Ref) (d : Option Ref) (A B C D : Shape) : Type 0 where
+      (c : Option Ref) (z : Ref) (d : Option Ref) (A B C D : BinaryTree) : Type 0 where
     pub first : IsRooted m s a A
     pub held_x : IsHeld m x
     pub second : IsRooted m s b B
@@ -53,7 +53,7 @@ module _ {T : Type 0} where
     pub low : (height A < 254) × (height B < 254) × (height C < 254) × (height D < 254)
 
 -- t is balanced, has the nodes of l, then x, then those of q, and is as high as such a tree may be
-pub record Rebalanced (l : Shape) (x : Ref) (q t : Shape) : Type 0 where
+pub record Rebalanced (l : BinaryTree) (x : Ref) (q t : BinaryTree) : Type 0 where
   pub nodes_are : nodes t ≡ nodes l ++ x ∷ nodes q
   pub even : IsEven t
   pub not_lower : max (height l) (height q) ≤ height t
@@ -62,7 +62,7 @@ pub record Rebalanced (l : Shape) (x : Ref) (q t : Shape) : Type 0 where
 
 module _ {T : Type 0} where
   -- two subtrees and a node between them, which may be put together
-  pub record AreSides (m : Pooled T) (s : ℕ) (left : Option Ref) (x : Ref) (right : Option Ref) (l q : Shape) : Type 0 where
+  pub record AreSides (m : Pooled T) (s : ℕ) (left : Option Ref) (x : Ref) (right : Option Ref) (l q : BinaryTree) : Type 0 where
     pub left_is : IsRooted m s left l
     pub held : IsHeld m x
     pub right_is : IsRooted m s right q
@@ -73,7 +73,7 @@ module _ {T : Type 0} where
     pub fits : size l + size q + 1 < 2 ^ 32
 
   -- what putting them together gives
-  pub record IsBalanced (m n : Pooled T) (s : ℕ) (l : Shape) (x : Ref) (q : Shape) (root : Ref) (t : Shape) : Type 0 where
+  pub record IsBalanced (m n : Pooled T) (s : ℕ) (l : BinaryTree) (x : Ref) (q : BinaryTree) (root : Ref) (t : BinaryTree) : Type 0 where
     pub rooted : IsRooted n s (Some root) t
     pub rebalanced : Rebalanced l x q t
     pub keeps : Keeps m n s (nodes l ++ x ∷ nodes q)

@@ -3,7 +3,7 @@ pub mod Height
 pub mod Joining
 pub mod Order
 pub mod Probed
-pub mod Shape
+pub mod BinaryTree
 pub mod Sorted
 pub mod Standing
 pub mod Walking

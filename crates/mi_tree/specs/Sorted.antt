@@ -9,7 +9,7 @@ use Rattle.std.specs.declared.cmp.Ordering.{Ordering}
 use Rattle.std.specs.declared.cmp.Ordering.TheVariants.{Less, Equal, Greater}
 use Rattle.mi_node.specs.Pool.{Pooled, value_of, link_of, Keeps}
 use Rattle.mi_node.specs.Refs.{Ref, IsOut, IsApart}
-use Rattle.mi_tree.specs.Shape.{Shape, Tip, Fork, nodes, size, height, DifferByAtMost, IsEven, IsRooted}
+use Rattle.mi_tree.specs.BinaryTree.{BinaryTree, Tip, Fork, nodes, size, height, DifferByAtMost, IsEven, IsRooted}
 
 abbrev pub AllAre : (Ref → Ordering) → Ordering → List Ref → Type 0
 AllAre f o [] = Unit {0}
@@ -71,7 +71,7 @@ module _ {T : Type 0} where
   SameTags m n s = (k : ℕ) → (link_of n k s).tag ≡ (link_of m k s).tag
 
   -- a balanced tree in order, and a node with no sides that it has no equal of
-  pub record CanPut (m : Pooled T) (s : ℕ) (R : Ref → Ref → Ordering) (at : Option Ref) (x : Ref) (t : Shape) : Type 0 where
+  pub record CanPut (m : Pooled T) (s : ℕ) (R : Ref → Ref → Ordering) (at : Option Ref) (x : Ref) (t : BinaryTree) : Type 0 where
     pub rooted : IsRooted m s at t
     pub even : IsEven t
     pub apart : IsApart (nodes t)
@@ -82,7 +82,7 @@ module _ {T : Type 0} where
     pub fits : size t + 1 < 2 ^ 32
 
   -- u has the nodes of t and x
-  pub record HasPut (m n : Pooled T) (s : ℕ) (R : Ref → Ref → Ordering) (x : Ref) (t : Shape) (root : Option Ref) (u : Shape) : Type 0 where
+  pub record HasPut (m n : Pooled T) (s : ℕ) (R : Ref → Ref → Ordering) (x : Ref) (t : BinaryTree) (root : Option Ref) (u : BinaryTree) : Type 0 where
     pub rooted : IsRooted n s root u
     pub even : IsEven u
     pub placed : IsPutIn (R x) x (nodes t) (nodes u)
@@ -90,14 +90,14 @@ module _ {T : Type 0} where
     pub tags : SameTags m n s
 
   -- a balanced tree
-  pub record CanTake (m : Pooled T) (s : ℕ) (at : Option Ref) (t : Shape) : Type 0 where
+  pub record CanTake (m : Pooled T) (s : ℕ) (at : Option Ref) (t : BinaryTree) : Type 0 where
     pub rooted : IsRooted m s at t
     pub even : IsEven t
     pub apart : IsApart (nodes t)
     pub fits : size t < 2 ^ 32
 
   -- u has the nodes rs, and is as high as t or one level lower; only links of rs changed
-  pub record HasTaken (m n : Pooled T) (s : ℕ) (t : Shape) (rs : List Ref) (root : Option Ref) (u : Shape) : Type 0 where
+  pub record HasTaken (m n : Pooled T) (s : ℕ) (t : BinaryTree) (rs : List Ref) (root : Option Ref) (u : BinaryTree) : Type 0 where
     pub rooted : IsRooted n s root u
     pub even : IsEven u
     pub nodes_are : nodes u ≡ rs
@@ -107,7 +107,7 @@ module _ {T : Type 0} where
     pub tags : SameTags m n s
 
   -- two balanced trees of nearly one height
-  pub record AreEnds (m : Pooled T) (s : ℕ) (left right : Option Ref) (l q : Shape) : Type 0 where
+  pub record AreEnds (m : Pooled T) (s : ℕ) (left right : Option Ref) (l q : BinaryTree) : Type 0 where
     pub left_is : IsRooted m s left l
     pub right_is : IsRooted m s right q
     pub left_even : IsEven l
@@ -116,7 +116,7 @@ module _ {T : Type 0} where
     pub near : DifferByAtMost 1 (height l) (height q)
     pub fits : size l + size q < 2 ^ 32
 
-  pub record AreAppended (m n : Pooled T) (s : ℕ) (l q : Shape) (root : Option Ref) (u : Shape) : Type 0 where
+  pub record AreAppended (m n : Pooled T) (s : ℕ) (l q : BinaryTree) (root : Option Ref) (u : BinaryTree) : Type 0 where
     pub rooted : IsRooted n s root u
     pub even : IsEven u
     pub nodes_are : nodes u ≡ nodes l ++ nodes q

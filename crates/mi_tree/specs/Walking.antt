@@ -9,7 +9,7 @@ use Rattle.std.specs.Prelude.{◌≡◌, ℕ, Bool, true, false, ◌+◌, ◌<�
 use Rattle.mi_node.specs.Pool.{Pooled, link_of, IsHeld}
 use Rattle.mi_node.specs.Refs.{Ref}
 use Rattle.mi_node.specs.declared.link.Link.{Link}
-use Rattle.mi_tree.specs.Shape.{Shape, nodes, height, IsRooted}
+use Rattle.mi_tree.specs.BinaryTree.{BinaryTree, nodes, height, IsRooted}
 use Rattle.mi_tree.specs.declared.walk.Direction.{Direction}
 use Rattle.mi_tree.specs.declared.walk.Direction.TheVariants.{Ascending, Descending}
 use Rattle.mi_tree.specs.declared.walk.Walk.{Walk}
@@ -35,7 +35,7 @@ is_ascending Descending = false
 
 pub record Pending : Type 0 where
   pub node : Ref
-  pub after : Shape
+  pub after : BinaryTree
 
 abbrev pub ahead : Direction → List Pending → List Ref
 ahead d [] = []
@@ -58,7 +58,7 @@ module _ {T : Type 0} where
 
   -- a path from which the walk goes down into a subtree first
   pub record Enters (m : Pooled T) (s : ℕ) (d : Direction) (levels : ℕ)
-      (items : List (Option Ref)) (at : Option Ref) (xs : List Pending) (t : Shape) : Type 0 where
+      (items : List (Option Ref)) (at : Option Ref) (xs : List Pending) (t : BinaryTree) : Type 0 where
     pub goes : Goes m s d levels items xs
     pub rooted : IsRooted m s at t
     pub room : height t + length xs ≤ levels

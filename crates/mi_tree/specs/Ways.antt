@@ -13,7 +13,7 @@ use Rattle.mi_node.specs.Pool.{Pooled, link_of, IsHeld, Keeps}
 use Rattle.mi_node.specs.Refs.{Ref, IsApart}
 use Rattle.mi_node.specs.declared.link.Link.{Link}
 use Rattle.mi_node.specs.declared.link.Tag.{Tag}
-use Rattle.mi_tree.specs.Shape.{Shape, Tip, Fork, nodes, top, size, height, DifferByAtMost, IsEven, Stands, IsRooted, height_at}
+use Rattle.mi_tree.specs.BinaryTree.{BinaryTree, Tip, Fork, nodes, top, size, height, DifferByAtMost, IsEven, Stands, IsRooted, height_at}
 use Rattle.mi_tree.specs.Joining.{AreSides, IsSettled}
 use Rattle.mi_tree.specs.Sorted.{AreTagged, SameTags, IsPutIn, CanPut, CanTake}
 use Rattle.mi_tree.specs.declared.way.Turn.{Turn}
@@ -22,14 +22,14 @@ use Rattle.mi_tree.specs.declared.way.Turn.{Turn}
 pub record Frame : Type 0 where
   pub node : Ref
   pub left : Bool
-  pub other : Shape
+  pub other : BinaryTree
 
 abbrev pub way_of : List Frame → List (Option Turn)
 way_of [] = []
 way_of (f ∷ fs) = way_of fs ++ Some (record { node = f.node; left = f.left }) ∷ []
 
 -- a node above a tree, which is to its left or to its right
-abbrev pub forked : Bool → Shape → Ref → Shape → Shape
+abbrev pub forked : Bool → BinaryTree → Ref → BinaryTree → BinaryTree
 forked true t r q = Fork t r q
 forked false t r q = Fork q r t
 
@@ -42,7 +42,7 @@ forked_height true h k = max h k + 1
 forked_height false h k = max k h + 1
 
 -- the link of such a node, for a tree of that root, size and height
-abbrev pub forked_link : Bool → Option Ref → ℕ → ℕ → Shape → Tag → Link
+abbrev pub forked_link : Bool → Option Ref → ℕ → ℕ → BinaryTree → Tag → Link
 forked_link true at n h q tag = record { back = at; forth = top q; size = n + size q + 1; height = max h (height q) + 1; tag = tag }
 forked_link false at n h q tag = record { back = top q; forth = at; size = size q + n + 1; height = max (height q) h + 1; tag = tag }
 
@@ -51,7 +51,7 @@ abbrev pub rehung : Bool → Option Ref → Link → Link
 rehung b at y = record { back = cond b at y.back; forth = cond b y.forth at; size = y.size; height = y.height; tag = y.tag }
 
 -- the whole tree, with t at the end of the way
-abbrev pub plug : List Frame → Shape → Shape
+abbrev pub plug : List Frame → BinaryTree → BinaryTree
 plug [] t = t
 plug (f ∷ fs) t = plug fs (forked f.left t f.node f.other)
 
@@ -82,56 +82,56 @@ module _ {T : Type 0} where
 
   -- t stands at the end of the way; above it each size counts one more
   pub record Falls (m : Pooled T) (s : ℕ) (R : Ref → Ref → Ordering) (tag : T → ℕ)
-      (items : List (Option Turn)) (at : Option Ref) (x : Ref) (fs : List Frame) (t : Shape) : Type 0 where
+      (items : List (Option Turn)) (at : Option Ref) (x : Ref) (fs : List Frame) (t : BinaryTree) : Type 0 where
     pub path_is : items ≡ way_of fs
     pub can : CanPut m s R at x t
     pub tagged : AreTagged tag m s (x ∷ nodes t)
     pub above : Above m s fs at (size t + 1) (height t)
     pub beside : AreEven fs (height t)
     pub apart : IsApart (nodes (plug fs t))
-    pub places : (u : Shape) → IsPutIn (R x) x (nodes t) (nodes u) → IsPutIn (R x) x (nodes (plug fs t)) (nodes (plug fs u))
+    pub places : (u : BinaryTree) → IsPutIn (R x) x (nodes t) (nodes u) → IsPutIn (R x) x (nodes (plug fs t)) (nodes (plug fs u))
     pub room : height t + length fs ≤ 45
 
   -- the way of the whole tree to where x belongs
   pub record HasFallen (m n : Pooled T) (s : ℕ) (R : Ref → Ref → Ordering)
-      (items : List (Option Turn)) (x : Ref) (whole : Shape) (gs : List Frame) : Type 0 where
+      (items : List (Option Turn)) (x : Ref) (whole : BinaryTree) (gs : List Frame) : Type 0 where
     pub path_is : items ≡ way_of gs
     pub whole_is : plug gs Tip ≡ whole
     pub alone : IsRooted n s (Some x) (Fork Tip x Tip)
     pub above : Above n s gs None 1 0
     pub beside : AreEven gs 0
-    pub places : (u : Shape) → IsPutIn (R x) x [] (nodes u) → IsPutIn (R x) x (nodes whole) (nodes (plug gs u))
+    pub places : (u : BinaryTree) → IsPutIn (R x) x [] (nodes u) → IsPutIn (R x) x (nodes whole) (nodes (plug gs u))
     pub keeps : Keeps m n s (nodes whole)
     pub tags : SameTags m n s
 
   -- t, in which x is between xs and ys, stands at the end of the way; above it each size counts one less. Without x the whole is vs and ws
   pub record Sinks (m : Pooled T) (s : ℕ) (items : List (Option Turn)) (at : Option Ref)
-      (fs : List Frame) (t : Shape) (xs : List Ref) (x : Ref) (ys vs ws : List Ref) : Type 0 where
+      (fs : List Frame) (t : BinaryTree) (xs : List Ref) (x : Ref) (ys vs ws : List Ref) : Type 0 where
     pub path_is : items ≡ way_of fs
     pub can : CanTake m s at t
     pub has : nodes t ≡ xs ++ x ∷ ys
     pub above : Above m s fs at (size t - 1) (height t)
     pub beside : AreEven fs (height t)
     pub apart : IsApart (nodes (plug fs t))
-    pub places : (u : Shape) → nodes u ≡ xs ++ ys → nodes (plug fs u) ≡ vs ++ ws
+    pub places : (u : BinaryTree) → nodes u ≡ xs ++ ys → nodes (plug fs u) ≡ vs ++ ws
     pub room : height t + length fs ≤ 45
 
   -- the way of the whole tree to x, which has the sides A and B
   pub record HasSunk (m n : Pooled T) (s : ℕ) (items : List (Option Turn)) (xs : List Ref) (x : Ref)
-      (ys vs ws : List Ref) (whole : Shape) (gs : List Frame) (A B : Shape) : Type 0 where
+      (ys vs ws : List Ref) (whole : BinaryTree) (gs : List Frame) (A B : BinaryTree) : Type 0 where
     pub path_is : items ≡ way_of gs
     pub whole_is : plug gs (Fork A x B) ≡ whole
     pub rooted : IsRooted n s (Some x) (Fork A x B)
     pub even : IsEven (Fork A x B)
     pub above : Above n s gs (Some x) (size A + size B) (height (Fork A x B))
     pub beside : AreEven gs (height (Fork A x B))
-    pub places : (u : Shape) → nodes u ≡ nodes A ++ nodes B → nodes (plug gs u) ≡ vs ++ ws
+    pub places : (u : BinaryTree) → nodes u ≡ nodes A ++ nodes B → nodes (plug gs u) ≡ vs ++ ws
     pub keeps : Keeps m n s (xs ++ ys)
     pub tags : SameTags m n s
 
   -- u is to stand where a tree of nearly its height is; above it each size counts the nodes of u
   pub record Climbs (m : Pooled T) (s : ℕ) (root below : Option Ref) (items : List (Option Turn))
-      (fs : List Frame) (at : Option Ref) (h : ℕ) (u : Shape) : Type 0 where
+      (fs : List Frame) (at : Option Ref) (h : ℕ) (u : BinaryTree) : Type 0 where
     pub path_is : items ≡ way_of fs
     pub above : Above m s fs at (size u) h
     pub beside : AreEven fs h
@@ -142,7 +142,7 @@ module _ {T : Type 0} where
     pub fits : size (plug fs u) < 2 ^ 32
     pub root_is : IsRootOf root fs
 
-  pub record HasClimbed (m n : Pooled T) (s : ℕ) (whole : Shape) (root : Option Ref) (v : Shape) : Type 0 where
+  pub record HasClimbed (m n : Pooled T) (s : ℕ) (whole : BinaryTree) (root : Option Ref) (v : BinaryTree) : Type 0 where
     pub rooted : IsRooted n s root v
     pub even : IsEven v
     pub nodes_are : nodes v ≡ nodes whole
@@ -150,6 +150,6 @@ module _ {T : Type 0} where
     pub tags : SameTags m n s
 
   -- another tree is to stand below a node of the way, whose link's size counts it: where it is one level lower than the node, the link is right
-  pub record AreRejoined (m : Pooled T) (s : ℕ) (turn : Turn) (below : Option Ref) (y : Link) (l q : Shape) : Type 0 where
+  pub record AreRejoined (m : Pooled T) (s : ℕ) (turn : Turn) (below : Option Ref) (y : Link) (l q : BinaryTree) : Type 0 where
     pub sides : AreSides m s (cond turn.left below y.back) turn.node (cond turn.left y.forth below) l q
     pub settled : height_at m s below + 1 ≡ y.height → IsSettled m s turn.node (rehung turn.left below y) l q

@@ -1,7 +1,7 @@
 //! Two subtrees and a node between them become one balanced tree.
 //! All changes of a tree are made of these; they set links of one slot, and compare nothing.
 ghost use Rattle.std.specs.Prelude.{◌≡◌, ◌<◌, ◌+◌};
-ghost use Rattle.mi_tree.specs.Shape.{Shape, height as height_of};
+ghost use Rattle.mi_tree.specs.BinaryTree.{BinaryTree, height as height_of};
 ghost use Rattle.mi_tree.specs.Joining.{AreSides, IsBalanced};
 
 use crate::parts::{height, join, join_both, join_down, join_up};
@@ -17,9 +17,10 @@ pub(crate) fn balance<T>(
     right: Option<NodeRef>,
 ) -> NodeRef
     requires slot { slot < p.old.slots }
-    requires sides { (l : Shape) × (q : Shape) × AreSides p.old slot left node right l q }
+    requires sides { (l : BinaryTree) × (q : BinaryTree) × AreSides p.old slot left node right l q }
     ensures slots { p.new.slots ≡ p.old.slots }
-    ensures tree { (l : Shape) (q : Shape) → AreSides p.old slot left node right l q → (t : Shape) × IsBalanced p.old p.new slot l node q result t }
+    ensures tree { (l : BinaryTree) (q : BinaryTree) → AreSides p.old slot left node right l q → (t : BinaryTree)
+        × IsBalanced p.old p.new slot l node q result t }
 {
     let mut link = p.link(node, slot);
     link.back = left;
@@ -45,10 +46,10 @@ fn lean_left<T>(
     right: Option<NodeRef>,
 ) -> NodeRef
     requires slot { slot < p.old.slots }
-    requires sides { (l : Shape) × (q : Shape) × AreSides p.old slot left node right l q × (height_of q + 1 < height_of l) }
+    requires sides { (l : BinaryTree) × (q : BinaryTree) × AreSides p.old slot left node right l q × (height_of q + 1 < height_of l) }
     ensures slots { p.new.slots ≡ p.old.slots }
-    ensures tree { (l : Shape) (q : Shape) → AreSides p.old slot left node right l q
-        → height_of q + 1 < height_of l → (t : Shape) × IsBalanced p.old p.new slot l node q result t }
+    ensures tree { (l : BinaryTree) (q : BinaryTree) → AreSides p.old slot left node right l q
+        → height_of q + 1 < height_of l → (t : BinaryTree) × IsBalanced p.old p.new slot l node q result t }
 {
     let Some(left) = left else { unreachable!() };
     let link = p.link(left, slot);
@@ -83,10 +84,10 @@ fn lean_right<T>(
     right: Option<NodeRef>,
 ) -> NodeRef
     requires slot { slot < p.old.slots }
-    requires sides { (l : Shape) × (q : Shape) × AreSides p.old slot left node right l q × (height_of l + 1 < height_of q) }
+    requires sides { (l : BinaryTree) × (q : BinaryTree) × AreSides p.old slot left node right l q × (height_of l + 1 < height_of q) }
     ensures slots { p.new.slots ≡ p.old.slots }
-    ensures tree { (l : Shape) (q : Shape) → AreSides p.old slot left node right l q
-        → height_of l + 1 < height_of q → (t : Shape) × IsBalanced p.old p.new slot l node q result t }
+    ensures tree { (l : BinaryTree) (q : BinaryTree) → AreSides p.old slot left node right l q
+        → height_of l + 1 < height_of q → (t : BinaryTree) × IsBalanced p.old p.new slot l node q result t }
 {
     let Some(right) = right else { unreachable!() };
     let link = p.link(right, slot);

@@ -3,7 +3,7 @@
 ghost use Rattle.std.specs.Prelude.{◌≡◌, ◌<◌, ◌∷◌, ◌++◌, List, Some};
 ghost use Rattle.mi_node.specs.Pool.{link_of};
 ghost use Rattle.mi_node.specs.Refs.{Ref};
-ghost use Rattle.mi_tree.specs.Shape.{Shape, nodes};
+ghost use Rattle.mi_tree.specs.BinaryTree.{BinaryTree, nodes};
 ghost use Rattle.mi_tree.specs.Sorted.{side, AreTagged, CanPut, HasPut, CanTake, HasTaken, AreEnds, AreAppended, Rising};
 
 use crate::balance::balance;
@@ -26,12 +26,12 @@ pub(crate) fn put_in<T, O: NodeOrder<T>>(
 ) -> Option<NodeRef>
     requires slot { slot < p.old.slots }
     requires tag { tag ≡ (link_of p.old node.name slot).tag }
-    requires tree { (t : Shape) × CanPut p.old slot (side (O.order order.now) p.old slot) root node t
+    requires tree { (t : BinaryTree) × CanPut p.old slot (side (O.order order.now) p.old slot) root node t
         × AreTagged (O.tag_of order.now) p.old slot (node ∷ nodes t) }
     ensures slots { p.new.slots ≡ p.old.slots }
-    ensures tree { (t : Shape) → CanPut p.old slot (side (O.order order.now) p.old slot) root node t
+    ensures tree { (t : BinaryTree) → CanPut p.old slot (side (O.order order.now) p.old slot) root node t
         → AreTagged (O.tag_of order.now) p.old slot (node ∷ nodes t)
-        → (u : Shape) × HasPut p.old p.new slot (side (O.order order.now) p.old slot) node t result u }
+        → (u : BinaryTree) × HasPut p.old p.new slot (side (O.order order.now) p.old slot) node t result u }
 {
     let above = Link {
         back: root,
@@ -49,10 +49,10 @@ pub(crate) fn take_first<T>(
     root: NodeRef,
 ) -> (NodeRef, Option<NodeRef>)
     requires slot { slot < p.old.slots }
-    requires tree { (t : Shape) × CanTake p.old slot (Some root) t }
+    requires tree { (t : BinaryTree) × CanTake p.old slot (Some root) t }
     ensures slots { p.new.slots ≡ p.old.slots }
-    ensures tree { (t : Shape) → CanTake p.old slot (Some root) t
-        → (u : Shape) × (rs : List Ref) × (nodes t ≡ result.0 ∷ rs) × HasTaken p.old p.new slot t rs result.1 u }
+    ensures tree { (t : BinaryTree) → CanTake p.old slot (Some root) t
+        → (u : BinaryTree) × (rs : List Ref) × (nodes t ≡ result.0 ∷ rs) × HasTaken p.old p.new slot t rs result.1 u }
 {
     let mut way = ArrayVec::new();
     let first = go_first(p, slot, root, &mut way);
@@ -68,9 +68,9 @@ pub(crate) fn append<T>(
     right: Option<NodeRef>,
 ) -> Option<NodeRef>
     requires slot { slot < p.old.slots }
-    requires ends { (l : Shape) × (q : Shape) × AreEnds p.old slot left right l q }
+    requires ends { (l : BinaryTree) × (q : BinaryTree) × AreEnds p.old slot left right l q }
     ensures slots { p.new.slots ≡ p.old.slots }
-    ensures tree { (l : Shape) (q : Shape) → AreEnds p.old slot left right l q → (u : Shape) × AreAppended p.old p.new slot l q result u }
+    ensures tree { (l : BinaryTree) (q : BinaryTree) → AreEnds p.old slot left right l q → (u : BinaryTree) × AreAppended p.old p.new slot l q result u }
 {
     match right {
         None => left,
@@ -93,12 +93,12 @@ pub(crate) fn take_out<T, O: NodeOrder<T>>(
 ) -> Option<NodeRef>
     requires slot { slot < p.old.slots }
     requires tag { tag ≡ (link_of p.old node.name slot).tag }
-    requires tree { (t : Shape) × (xs : List Ref) × (ys : List Ref) × CanTake p.old slot root t × Rising (side (O.order order.now) p.old slot) (nodes t)
+    requires tree { (t : BinaryTree) × (xs : List Ref) × (ys : List Ref) × CanTake p.old slot root t × Rising (side (O.order order.now) p.old slot) (nodes t)
         × AreTagged (O.tag_of order.now) p.old slot (nodes t) × (nodes t ≡ xs ++ node ∷ ys) }
     ensures slots { p.new.slots ≡ p.old.slots }
-    ensures tree { (t : Shape) (xs : List Ref) (ys : List Ref) → CanTake p.old slot root t
+    ensures tree { (t : BinaryTree) (xs : List Ref) (ys : List Ref) → CanTake p.old slot root t
         → Rising (side (O.order order.now) p.old slot) (nodes t) → nodes t ≡ xs ++ node ∷ ys
-        → (u : Shape) × HasTaken p.old p.new slot t (xs ++ ys) result u }
+        → (u : BinaryTree) × HasTaken p.old p.new slot t (xs ++ ys) result u }
 {
     let above = Link {
         back: root,

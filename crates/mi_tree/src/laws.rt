@@ -1,5 +1,5 @@
 //! Laws of the definitions, each the contract of a function that does nothing.
-ghost use Rattle.mi_tree.specs.Frame.{StandsWhereAlike, StandsWhereSwapped, IsListed, StandsEmpty};
+ghost use Rattle.mi_tree.specs.Frame.{StandsWhereAlike, StandsWhereSwapped, ListsNodes, StandsEmpty};
 ghost use Rattle.mi_tree.specs.Height.{HasEnough};
 
 use crate::order::NodeOrder;
@@ -22,7 +22,7 @@ pub fn trees_stand_where_swapped<T, O: NodeOrder<T>>()
 
 /// A tree is the one list that its links say.
 pub fn trees_are_listed<T, O>()
-    ensures { IsListed T O }
+    ensures { ListsNodes T O }
 {}
 
 /// A tree of height h has at least so many nodes as the Fibonacci number of h + 2, less one.

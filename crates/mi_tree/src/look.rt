@@ -5,7 +5,7 @@ ghost use Rattle.mi_node.specs.Refs.{Ref};
 ghost use Rattle.mi_node.specs.Pool.{IsHeldIf, link_of};
 ghost use Rattle.mi_tree.specs.Sorted.{side, AreTagged, Rising, CanTake};
 ghost use Rattle.mi_tree.specs.Probed.{past, is_past_node, first_where, IsSteady};
-ghost use Rattle.mi_tree.specs.Shape.{Shape, IsRooted, nodes, height, size_at, link_at, links_of, nth_of};
+ghost use Rattle.mi_tree.specs.BinaryTree.{BinaryTree, IsRooted, nodes, height, size_at, link_at, links_of, nth_of};
 
 use crate::compare::{compare_nodes, compare_probe};
 use crate::order::NodeOrder;
@@ -49,10 +49,10 @@ pub(crate) fn nth_in<T>(
     n: u32,
 ) -> Option<NodeRef>
     requires slot { slot < p.old.pool.slots }
-    requires tree { (t : Shape) × IsRooted p.old.pool slot root t }
-    ensures node { (t : Shape) → IsRooted p.old.pool slot root t → result ≡ nth_of (nodes t) n }
+    requires tree { (t : BinaryTree) × IsRooted p.old.pool slot root t }
+    ensures node { (t : BinaryTree) → IsRooted p.old.pool slot root t → result ≡ nth_of (nodes t) n }
     ensures pool { p.new.pool ≡ p.old.pool }
-    ensures reads { (t : Shape) → IsRooted p.old.pool slot root t → p.new.reads ≤ p.old.reads + 2 * height t }
+    ensures reads { (t : BinaryTree) → IsRooted p.old.pool slot root t → p.new.reads ≤ p.old.reads + 2 * height t }
 {
     let above = Link {
         back: root,
@@ -89,15 +89,15 @@ pub(crate) fn rank_in<T, O: NodeOrder<T>>(
 ) -> u32
     requires slot { slot < p.old.pool.slots }
     requires tag { tag ≡ (link_of p.old.pool node.name slot).tag }
-    requires tree { (t : Shape) × (xs : List Ref) × (ys : List Ref) × CanTake p.old.pool slot root t
+    requires tree { (t : BinaryTree) × (xs : List Ref) × (ys : List Ref) × CanTake p.old.pool slot root t
         × Rising (side (O.order order.now) p.old.pool slot) (nodes t)
         × AreTagged (O.tag_of order.now) p.old.pool slot (nodes t) × (nodes t ≡ xs ++ node ∷ ys) }
-    ensures rank { (t : Shape) (xs : List Ref) (ys : List Ref) → CanTake p.old.pool slot root t
+    ensures rank { (t : BinaryTree) (xs : List Ref) (ys : List Ref) → CanTake p.old.pool slot root t
         → Rising (side (O.order order.now) p.old.pool slot) (nodes t) → nodes t ≡ xs ++ node ∷ ys
         → result ≡ length xs }
     ensures pool { p.new.pool ≡ p.old.pool }
-    ensures reads { (t : Shape) → IsRooted p.old.pool slot root t → p.new.reads ≤ p.old.reads + 2 * height t }
-    ensures steps { (t : Shape) → IsRooted p.old.pool slot root t → steps.new.count ≤ steps.old.count + height t }
+    ensures reads { (t : BinaryTree) → IsRooted p.old.pool slot root t → p.new.reads ≤ p.old.reads + 2 * height t }
+    ensures steps { (t : BinaryTree) → IsRooted p.old.pool slot root t → steps.new.count ≤ steps.old.count + height t }
 {
     let (mut at, mut before) = (root, 0);
     while let Some(here) = at {
@@ -125,13 +125,13 @@ pub(crate) fn seek_in<T, O: NodeOrder<T>>(
     steps: &mut Steps,
 ) -> Option<NodeRef>
     requires slot { slot < p.old.pool.slots }
-    requires tree { (t : Shape) × IsRooted p.old.pool slot root t × AreTagged (O.tag_of order.now) p.old.pool slot (nodes t)
+    requires tree { (t : BinaryTree) × IsRooted p.old.pool slot root t × AreTagged (O.tag_of order.now) p.old.pool slot (nodes t)
         × IsSteady (is_past_node strict (λ v. O.place order.now v probe) p.old.pool) (nodes t) }
-    ensures node { (t : Shape) → IsRooted p.old.pool slot root t
+    ensures node { (t : BinaryTree) → IsRooted p.old.pool slot root t
         → result ≡ first_where (is_past_node strict (λ v. O.place order.now v probe.entry) p.old.pool) (nodes t) }
     ensures pool { p.new.pool ≡ p.old.pool }
-    ensures reads { (t : Shape) → IsRooted p.old.pool slot root t → p.new.reads ≤ p.old.reads + height t }
-    ensures steps { (t : Shape) → IsRooted p.old.pool slot root t → steps.new.count ≤ steps.old.count + height t }
+    ensures reads { (t : BinaryTree) → IsRooted p.old.pool slot root t → p.new.reads ≤ p.old.reads + height t }
+    ensures steps { (t : BinaryTree) → IsRooted p.old.pool slot root t → steps.new.count ≤ steps.old.count + height t }
 {
     let probe_tag = order.probe_tag(probe);
     let (mut at, mut found) = (root, None);

@@ -2,7 +2,7 @@
 //! Here alone links are set; it knows no order.
 ghost use Rattle.std.specs.Prelude.{◌≡◌, ◌<◌, [], ◌∷◌, Some};
 ghost use Rattle.mi_node.specs.Pool.{IsHeldIf, Keeps};
-ghost use Rattle.mi_tree.specs.Shape.{Shape, Fork, IsRooted, size_at, height_at};
+ghost use Rattle.mi_tree.specs.BinaryTree.{BinaryTree, Fork, IsRooted, size_at, height_at};
 ghost use Rattle.mi_tree.specs.Joining.{Two, IsFork, Three, Four};
 ghost use Rattle.mi_tree.specs.Sorted.{SameTags};
 
@@ -41,8 +41,8 @@ pub(crate) fn join<T>(
     b: Option<NodeRef>,
 )
     requires slot { slot < p.old.slots }
-    requires parts { (A : Shape) × (B : Shape) × Two p.old slot a x b A B }
-    ensures tree { (A : Shape) (B : Shape) → Two p.old slot a x b A B → IsRooted p.new slot (Some x) (Fork A x B) }
+    requires parts { (A : BinaryTree) × (B : BinaryTree) × Two p.old slot a x b A B }
+    ensures tree { (A : BinaryTree) (B : BinaryTree) → Two p.old slot a x b A B → IsRooted p.new slot (Some x) (Fork A x B) }
     ensures slots { p.new.slots ≡ p.old.slots }
     ensures keeps { Keeps p.old p.new slot (x ∷ []) }
     ensures tags { SameTags p.old p.new slot }
@@ -58,8 +58,8 @@ pub(crate) fn join<T>(
 /// Sets the node's link, by which it has two sides.
 pub(crate) fn set_fork<T>(p: &mut Pool<T>, slot: usize, x: NodeRef, link: Link)
     requires slot { slot < p.old.slots }
-    requires parts { (A : Shape) × (B : Shape) × IsFork p.old slot x link A B }
-    ensures tree { (A : Shape) (B : Shape) → IsFork p.old slot x link A B → IsRooted p.new slot (Some x) (Fork A x B) }
+    requires parts { (A : BinaryTree) × (B : BinaryTree) × IsFork p.old slot x link A B }
+    ensures tree { (A : BinaryTree) (B : BinaryTree) → IsFork p.old slot x link A B → IsRooted p.new slot (Some x) (Fork A x B) }
     ensures slots { p.new.slots ≡ p.old.slots }
     ensures keeps { Keeps p.old p.new slot (x ∷ []) }
     ensures tags { SameTags p.old p.new slot }
@@ -78,8 +78,9 @@ pub(crate) fn join_down<T>(
     c: Option<NodeRef>,
 )
     requires slot { slot < p.old.slots }
-    requires parts { (A : Shape) × (B : Shape) × (C : Shape) × Three p.old slot a x b y c A B C }
-    ensures tree { (A : Shape) (B : Shape) (C : Shape) → Three p.old slot a x b y c A B C → IsRooted p.new slot (Some x) (Fork A x (Fork B y C)) }
+    requires parts { (A : BinaryTree) × (B : BinaryTree) × (C : BinaryTree) × Three p.old slot a x b y c A B C }
+    ensures tree { (A : BinaryTree) (B : BinaryTree) (C : BinaryTree) → Three p.old slot a x b y c A B C
+        → IsRooted p.new slot (Some x) (Fork A x (Fork B y C)) }
     ensures slots { p.new.slots ≡ p.old.slots }
     ensures keeps { Keeps p.old p.new slot (x ∷ y ∷ []) }
     ensures tags { SameTags p.old p.new slot }
@@ -99,8 +100,9 @@ pub(crate) fn join_up<T>(
     c: Option<NodeRef>,
 )
     requires slot { slot < p.old.slots }
-    requires parts { (A : Shape) × (B : Shape) × (C : Shape) × Three p.old slot a x b y c A B C }
-    ensures tree { (A : Shape) (B : Shape) (C : Shape) → Three p.old slot a x b y c A B C → IsRooted p.new slot (Some y) (Fork (Fork A x B) y C) }
+    requires parts { (A : BinaryTree) × (B : BinaryTree) × (C : BinaryTree) × Three p.old slot a x b y c A B C }
+    ensures tree { (A : BinaryTree) (B : BinaryTree) (C : BinaryTree) → Three p.old slot a x b y c A B C
+        → IsRooted p.new slot (Some y) (Fork (Fork A x B) y C) }
     ensures slots { p.new.slots ≡ p.old.slots }
     ensures keeps { Keeps p.old p.new slot (x ∷ y ∷ []) }
     ensures tags { SameTags p.old p.new slot }
@@ -122,8 +124,8 @@ pub(crate) fn join_both<T>(
     d: Option<NodeRef>,
 )
     requires slot { slot < p.old.slots }
-    requires parts { (A : Shape) × (B : Shape) × (C : Shape) × (D : Shape) × Four p.old slot a x b y c z d A B C D }
-    ensures tree { (A : Shape) (B : Shape) (C : Shape) (D : Shape) → Four p.old slot a x b y c z d A B C D
+    requires parts { (A : BinaryTree) × (B : BinaryTree) × (C : BinaryTree) × (D : BinaryTree) × Four p.old slot a x b y c z d A B C D }
+    ensures tree { (A : BinaryTree) (B : BinaryTree) (C : BinaryTree) (D : BinaryTree) → Four p.old slot a x b y c z d A B C D
         → IsRooted p.new slot (Some y) (Fork (Fork A x B) y (Fork C z D)) }
     ensures slots { p.new.slots ≡ p.old.slots }
     ensures keeps { Keeps p.old p.new slot (x ∷ y ∷ z ∷ []) }

@@ -3,7 +3,7 @@
 ghost use Rattle.std.specs.Prelude.{◌≡◌, ℕ, ◌+◌, ◌*◌, ◌<◌, ◌≤◌, List, [], ◌∷◌, ◌++◌, length, take, drop, cond, None, Some};
 ghost use Rattle.mi_node.specs.Pool.{link_of};
 ghost use Rattle.mi_node.specs.Refs.{Ref, first_of};
-ghost use Rattle.mi_tree.specs.Shape.{Shape, IsRooted, nodes, height};
+ghost use Rattle.mi_tree.specs.BinaryTree.{BinaryTree, IsRooted, nodes, height};
 ghost use Rattle.mi_tree.specs.Sorted.{side, Rising, AreTagged, CanTake};
 ghost use Rattle.mi_tree.specs.Walking.{Pending, IsWalk, Enters, Goes, ahead, onward, beyond, near_of, far_of, is_ascending};
 
@@ -81,11 +81,11 @@ impl Walk {
         passed: u32,
     ) -> Walk
         requires slot { slot < p.old.pool.slots }
-        requires tree { (levels : ℕ) × (t : Shape) × Enters p.old.pool slot direction levels [] root [] t }
-        ensures walk { (levels : ℕ) (t : Shape) → Enters p.old.pool slot direction levels [] root [] t
+        requires tree { (levels : ℕ) × (t : BinaryTree) × Enters p.old.pool slot direction levels [] root [] t }
+        ensures walk { (levels : ℕ) (t : BinaryTree) → Enters p.old.pool slot direction levels [] root [] t
             → IsWalk result p.old.pool levels (beyond direction (take passed (nodes t)) (drop passed (nodes t))) }
         ensures pool { p.new.pool ≡ p.old.pool }
-        ensures reads { (levels : ℕ) (t : Shape) → Enters p.old.pool slot direction levels [] root [] t → p.new.reads ≤ p.old.reads + 2 * height t }
+        ensures reads { (levels : ℕ) (t : BinaryTree) → Enters p.old.pool slot direction levels [] root [] t → p.new.reads ≤ p.old.reads + 2 * height t }
     {
         let mut path = ArrayVec::new();
         cut_down(p, slot, direction, root, passed, &mut path);
@@ -109,17 +109,17 @@ impl Walk {
     ) -> Walk
         requires slot { slot < p.old.pool.slots }
         requires tag { tag ≡ (link_of p.old.pool node.name slot).tag }
-        requires tree { (levels : ℕ) × (t : Shape) × (xs : List Ref) × (ys : List Ref)
+        requires tree { (levels : ℕ) × (t : BinaryTree) × (xs : List Ref) × (ys : List Ref)
             × Enters p.old.pool slot direction levels [] root [] t × CanTake p.old.pool slot root t
             × Rising (side (O.order order.now) p.old.pool slot) (nodes t)
             × AreTagged (O.tag_of order.now) p.old.pool slot (nodes t) × (nodes t ≡ xs ++ node ∷ ys) }
-        ensures walk { (levels : ℕ) (t : Shape) (xs : List Ref) (ys : List Ref)
+        ensures walk { (levels : ℕ) (t : BinaryTree) (xs : List Ref) (ys : List Ref)
             → Enters p.old.pool slot direction levels [] root [] t → CanTake p.old.pool slot root t
             → Rising (side (O.order order.now) p.old.pool slot) (nodes t) → nodes t ≡ xs ++ node ∷ ys
             → IsWalk result p.old.pool levels (node ∷ beyond direction xs ys) }
         ensures pool { p.new.pool ≡ p.old.pool }
-        ensures reads { (t : Shape) → IsRooted p.old.pool slot root t → p.new.reads ≤ p.old.reads + height t }
-        ensures steps { (t : Shape) → IsRooted p.old.pool slot root t → steps.new.count ≤ steps.old.count + height t }
+        ensures reads { (t : BinaryTree) → IsRooted p.old.pool slot root t → p.new.reads ≤ p.old.reads + height t }
+        ensures steps { (t : BinaryTree) → IsRooted p.old.pool slot root t → steps.new.count ≤ steps.old.count + height t }
     {
         let mut path = ArrayVec::new();
         find_down(p, slot, direction, order, root, node, tag, &mut path, steps);
@@ -160,8 +160,8 @@ fn go_down<T>(
     path: &mut Path,
 )
     requires slot { slot < p.old.pool.slots }
-    requires way { (levels : ℕ) × (xs : List Pending) × (t : Shape) × Enters p.old.pool slot direction levels path.old.items at xs t }
-    ensures way { (levels : ℕ) (xs : List Pending) (t : Shape) → Enters p.old.pool slot direction levels path.old.items at xs t
+    requires way { (levels : ℕ) × (xs : List Pending) × (t : BinaryTree) × Enters p.old.pool slot direction levels path.old.items at xs t }
+    ensures way { (levels : ℕ) (xs : List Pending) (t : BinaryTree) → Enters p.old.pool slot direction levels path.old.items at xs t
         → (ys : List Pending) × Goes p.old.pool slot direction levels path.new.items ys
         × (ahead direction ys ≡ onward direction (nodes t) ++ ahead direction xs) }
     ensures pool { p.new.pool ≡ p.old.pool }
@@ -186,12 +186,12 @@ fn cut_down<T>(
     path: &mut Path,
 )
     requires slot { slot < p.old.pool.slots }
-    requires way { (levels : ℕ) × (xs : List Pending) × (t : Shape) × Enters p.old.pool slot direction levels path.old.items at xs t }
-    ensures way { (levels : ℕ) (xs : List Pending) (t : Shape) → Enters p.old.pool slot direction levels path.old.items at xs t
+    requires way { (levels : ℕ) × (xs : List Pending) × (t : BinaryTree) × Enters p.old.pool slot direction levels path.old.items at xs t }
+    ensures way { (levels : ℕ) (xs : List Pending) (t : BinaryTree) → Enters p.old.pool slot direction levels path.old.items at xs t
         → (ys : List Pending) × Goes p.old.pool slot direction levels path.new.items ys
         × (ahead direction ys ≡ beyond direction (take passed (nodes t)) (drop passed (nodes t)) ++ ahead direction xs) }
     ensures pool { p.new.pool ≡ p.old.pool }
-    ensures reads { (t : Shape) → IsRooted p.old.pool slot at t → p.new.reads ≤ p.old.reads + 2 * height t }
+    ensures reads { (t : BinaryTree) → IsRooted p.old.pool slot at t → p.new.reads ≤ p.old.reads + 2 * height t }
 {
     let Some(node) = at else {
         return;
@@ -222,17 +222,17 @@ fn find_down<T, O: NodeOrder<T>>(
 )
     requires slot { slot < p.old.pool.slots }
     requires tag { tag ≡ (link_of p.old.pool node.name slot).tag }
-    requires way { (levels : ℕ) × (xs : List Pending) × (t : Shape) × (vs : List Ref) × (ws : List Ref)
+    requires way { (levels : ℕ) × (xs : List Pending) × (t : BinaryTree) × (vs : List Ref) × (ws : List Ref)
         × Enters p.old.pool slot direction levels path.old.items at xs t × CanTake p.old.pool slot at t
         × Rising (side (O.order order.now) p.old.pool slot) (nodes t) × AreTagged (O.tag_of order.now) p.old.pool slot (nodes t) × (nodes t ≡ vs ++ node ∷ ws) }
-    ensures way { (levels : ℕ) (xs : List Pending) (t : Shape) (vs : List Ref) (ws : List Ref)
+    ensures way { (levels : ℕ) (xs : List Pending) (t : BinaryTree) (vs : List Ref) (ws : List Ref)
         → Enters p.old.pool slot direction levels path.old.items at xs t → CanTake p.old.pool slot at t
         → Rising (side (O.order order.now) p.old.pool slot) (nodes t) → nodes t ≡ vs ++ node ∷ ws
         → (ys : List Pending) × Goes p.old.pool slot direction levels path.new.items ys
         × (ahead direction ys ≡ node ∷ (beyond direction vs ws ++ ahead direction xs)) }
     ensures pool { p.new.pool ≡ p.old.pool }
-    ensures reads { (t : Shape) → IsRooted p.old.pool slot at t → p.new.reads ≤ p.old.reads + height t }
-    ensures steps { (t : Shape) → IsRooted p.old.pool slot at t → steps.new.count ≤ steps.old.count + height t }
+    ensures reads { (t : BinaryTree) → IsRooted p.old.pool slot at t → p.new.reads ≤ p.old.reads + height t }
+    ensures steps { (t : BinaryTree) → IsRooted p.old.pool slot at t → steps.new.count ≤ steps.old.count + height t }
 {
     let Some(root) = at else { unreachable!() };
     let link = p.link(root, slot);

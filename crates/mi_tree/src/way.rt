@@ -3,7 +3,7 @@
 ghost use Rattle.std.specs.Prelude.{◌≡◌, ℕ, ◌<◌, List, [], Option, cond, Some, ◌+◌};
 ghost use Rattle.mi_node.specs.Pool.{link_of, IsHeldIf};
 ghost use Rattle.mi_node.specs.Refs.{Ref};
-ghost use Rattle.mi_tree.specs.Shape.{Shape, Tip, nodes, height as height_of, height_at};
+ghost use Rattle.mi_tree.specs.BinaryTree.{BinaryTree, Tip, nodes, height as height_of, height_at};
 ghost use Rattle.mi_tree.specs.Sorted.{side, AreTagged, Rising};
 ghost use Rattle.mi_tree.specs.Ways.{Frame, plug, risen, rehung, Falls, HasFallen, Sinks, HasSunk, Climbs, HasClimbed, IsLevel, AreRejoined};
 ghost use Rattle.mi_tree.specs.Joining.{IsBalanced};
@@ -43,9 +43,10 @@ pub(crate) fn go_in<T, O: NodeOrder<T>>(
 )
     requires slot { slot < p.old.slots }
     requires tag { tag ≡ (link_of p.old node.name slot).tag }
-    requires way { (fs : List Frame) × (t : Shape) × Falls p.old slot (side (O.order order.now) p.old slot) (O.tag_of order.now) way.old.items at node fs t }
+    requires way { (fs : List Frame) × (t : BinaryTree)
+        × Falls p.old slot (side (O.order order.now) p.old slot) (O.tag_of order.now) way.old.items at node fs t }
     ensures slots { p.new.slots ≡ p.old.slots }
-    ensures way { (fs : List Frame) (t : Shape) → Falls p.old slot (side (O.order order.now) p.old slot) (O.tag_of order.now) way.old.items at node fs t
+    ensures way { (fs : List Frame) (t : BinaryTree) → Falls p.old slot (side (O.order order.now) p.old slot) (O.tag_of order.now) way.old.items at node fs t
         → (gs : List Frame) × HasFallen p.old p.new slot (side (O.order order.now) p.old slot) way.new.items node (plug fs t) gs }
 {
     let Some(here) = at else {
@@ -82,14 +83,14 @@ pub(crate) fn go_to<T, O: NodeOrder<T>>(
 )
     requires slot { slot < p.old.slots }
     requires tag { tag ≡ (link_of p.old node.name slot).tag }
-    requires way { (fs : List Frame) × (t : Shape) × (xs : List Ref) × (ys : List Ref)
+    requires way { (fs : List Frame) × (t : BinaryTree) × (xs : List Ref) × (ys : List Ref)
         × (vs : List Ref) × (ws : List Ref) × Sinks p.old slot way.old.items at fs t xs node ys vs ws
         × Rising (side (O.order order.now) p.old slot) (nodes t) × AreTagged (O.tag_of order.now) p.old slot (nodes t) }
     ensures slots { p.new.slots ≡ p.old.slots }
-    ensures way { (fs : List Frame) (t : Shape) (xs : List Ref) (ys : List Ref) (vs : List Ref) (ws : List Ref)
+    ensures way { (fs : List Frame) (t : BinaryTree) (xs : List Ref) (ys : List Ref) (vs : List Ref) (ws : List Ref)
         → Sinks p.old slot way.old.items at fs t xs node ys vs ws
         → Rising (side (O.order order.now) p.old slot) (nodes t)
-        → (gs : List Frame) × (A : Shape) × (B : Shape) × HasSunk p.old p.new slot way.new.items xs node ys vs ws (plug fs t) gs A B }
+        → (gs : List Frame) × (A : BinaryTree) × (B : BinaryTree) × HasSunk p.old p.new slot way.new.items xs node ys vs ws (plug fs t) gs A B }
 {
     let Some(here) = at else { unreachable!() };
     let seen = p.link(here, slot);
@@ -116,12 +117,12 @@ pub(crate) fn go_to<T, O: NodeOrder<T>>(
 /// less: the first node is about to leave. That node.
 pub(crate) fn go_first<T>(p: &mut Pool<T>, slot: usize, at: NodeRef, way: &mut Way) -> NodeRef
     requires slot { slot < p.old.slots }
-    requires way { (fs : List Frame) × (t : Shape) × (x : Ref) × (ys : List Ref) × (vs : List Ref)
+    requires way { (fs : List Frame) × (t : BinaryTree) × (x : Ref) × (ys : List Ref) × (vs : List Ref)
         × (ws : List Ref) × Sinks p.old slot way.old.items (Some at) fs t [] x ys vs ws }
     ensures slots { p.new.slots ≡ p.old.slots }
-    ensures way { (fs : List Frame) (t : Shape) (x : Ref) (ys : List Ref) (vs : List Ref) (ws : List Ref)
+    ensures way { (fs : List Frame) (t : BinaryTree) (x : Ref) (ys : List Ref) (vs : List Ref) (ws : List Ref)
         → Sinks p.old slot way.old.items (Some at) fs t [] x ys vs ws
-        → (result ≡ x) × (gs : List Frame) × (B : Shape) × HasSunk p.old p.new slot way.new.items [] x ys vs ws (plug fs t) gs Tip B }
+        → (result ≡ x) × (gs : List Frame) × (B : BinaryTree) × HasSunk p.old p.new slot way.new.items [] x ys vs ws (plug fs t) gs Tip B }
 {
     let link = p.link(at, slot);
     let Some(left) = link.back else {
@@ -177,11 +178,11 @@ pub(crate) fn climb<T>(
     way: &mut Way,
 ) -> Option<NodeRef>
     requires slot { slot < p.old.slots }
-    requires way { (fs : List Frame) × (at : Option Ref) × (h : ℕ) × (u : Shape) × Climbs p.old slot root below way.old.items fs at h u }
+    requires way { (fs : List Frame) × (at : Option Ref) × (h : ℕ) × (u : BinaryTree) × Climbs p.old slot root below way.old.items fs at h u }
     ensures slots { p.new.slots ≡ p.old.slots }
-    ensures tree { (fs : List Frame) (at : Option Ref) (h : ℕ) (u : Shape) → Climbs p.old slot root below way.old.items fs at h u
-        → (v : Shape) × HasClimbed p.old p.new slot (plug fs u) result v }
-    ensures height { (fs : List Frame) (at : Option Ref) (h : ℕ) (u : Shape) → Climbs p.old slot root below way.old.items fs at h u
+    ensures tree { (fs : List Frame) (at : Option Ref) (h : ℕ) (u : BinaryTree) → Climbs p.old slot root below way.old.items fs at h u
+        → (v : BinaryTree) × HasClimbed p.old p.new slot (plug fs u) result v }
+    ensures height { (fs : List Frame) (at : Option Ref) (h : ℕ) (u : BinaryTree) → Climbs p.old slot root below way.old.items fs at h u
         → IsLevel (height_of u) h (height_at p.new slot result) (risen fs h) }
 {
     let Some(turn) = way.pop().flatten() else {
@@ -202,10 +203,10 @@ pub(crate) fn climb<T>(
 fn rejoin<T>(p: &mut Pool<T>, slot: usize, turn: Turn, below: Option<NodeRef>) -> NodeRef
     requires slot { slot < p.old.slots }
     requires below { IsHeldIf p.old below × (height_at p.old slot below + 1 < 256) }
-    requires sides { (l : Shape) × (q : Shape) × AreRejoined p.old slot turn below (link_of p.old turn.node.name slot) l q }
+    requires sides { (l : BinaryTree) × (q : BinaryTree) × AreRejoined p.old slot turn below (link_of p.old turn.node.name slot) l q }
     ensures slots { p.new.slots ≡ p.old.slots }
-    ensures tree { (l : Shape) (q : Shape) → AreRejoined p.old slot turn below (link_of p.old turn.node.name slot) l q
-        → (t : Shape) × IsBalanced p.old p.new slot l turn.node q result t }
+    ensures tree { (l : BinaryTree) (q : BinaryTree) → AreRejoined p.old slot turn below (link_of p.old turn.node.name slot) l q
+        → (t : BinaryTree) × IsBalanced p.old p.new slot l turn.node q result t }
 {
     let under = Link {
         back: below,
@@ -228,11 +229,11 @@ fn hang<T>(
     way: &mut Way,
 ) -> Option<NodeRef>
     requires slot { slot < p.old.slots }
-    requires way { (fs : List Frame) × (at : Option Ref) × (u : Shape) × Climbs p.old slot root (Some top) way.old.items fs at (height_of u) u }
+    requires way { (fs : List Frame) × (at : Option Ref) × (u : BinaryTree) × Climbs p.old slot root (Some top) way.old.items fs at (height_of u) u }
     ensures slots { p.new.slots ≡ p.old.slots }
-    ensures tree { (fs : List Frame) (at : Option Ref) (u : Shape) → Climbs p.old slot root (Some top) way.old.items fs at (height_of u) u
-        → (v : Shape) × HasClimbed p.old p.new slot (plug fs u) result v }
-    ensures height { (fs : List Frame) (at : Option Ref) (u : Shape) → Climbs p.old slot root (Some top) way.old.items fs at (height_of u) u
+    ensures tree { (fs : List Frame) (at : Option Ref) (u : BinaryTree) → Climbs p.old slot root (Some top) way.old.items fs at (height_of u) u
+        → (v : BinaryTree) × HasClimbed p.old p.new slot (plug fs u) result v }
+    ensures height { (fs : List Frame) (at : Option Ref) (u : BinaryTree) → Climbs p.old slot root (Some top) way.old.items fs at (height_of u) u
         → height_at p.new slot result ≡ risen fs (height_of u) }
 {
     let Some(turn) = way.pop().flatten() else {
@@ -254,11 +255,11 @@ pub(crate) fn replace<T>(
     way: &mut Way,
 ) -> Option<NodeRef>
     requires slot { slot < p.old.slots }
-    requires way { (fs : List Frame) × (at : Option Ref) × (u : Shape) × Climbs p.old slot root below way.old.items fs at before u }
+    requires way { (fs : List Frame) × (at : Option Ref) × (u : BinaryTree) × Climbs p.old slot root below way.old.items fs at before u }
     ensures slots { p.new.slots ≡ p.old.slots }
-    ensures tree { (fs : List Frame) (at : Option Ref) (u : Shape) → Climbs p.old slot root below way.old.items fs at before u
-        → (v : Shape) × HasClimbed p.old p.new slot (plug fs u) result v }
-    ensures height { (fs : List Frame) (at : Option Ref) (u : Shape) → Climbs p.old slot root below way.old.items fs at before u
+    ensures tree { (fs : List Frame) (at : Option Ref) (u : BinaryTree) → Climbs p.old slot root below way.old.items fs at before u
+        → (v : BinaryTree) × HasClimbed p.old p.new slot (plug fs u) result v }
+    ensures height { (fs : List Frame) (at : Option Ref) (u : BinaryTree) → Climbs p.old slot root below way.old.items fs at before u
         → IsLevel (height_of u) before (height_at p.new slot result) (risen fs before) }
 {
     match below {

@@ -1,5 +1,5 @@
 //! A container beside the plain database: the same random changes to both, taken back and settled, and every answer and view compared.
-ghost use Rattle.mi_changes.specs.Undone.{Holds};
+ghost use Rattle.mi_changes.specs.Undone.{CanTakeBack};
 
 use super::change::{Answer, Change, TABLE};
 use super::container::BY_ID;
@@ -68,7 +68,7 @@ fn schema(alloc: Global) -> Result<Schema, Fail> {
 
 /// Mostly the id of a record, else one that a record has, had or is to have.
 fn some_id<C: Container>(rt: &impl Abort, undoable: &Undoable<C>, random: &mut Random) -> u64
-    requires { Holds undoable.now.schema (C.shape undoable.now.rows) (C.plain undoable.now.rows) undoable.now.inverses.items }
+    requires { CanTakeBack undoable.now.schema (C.shape undoable.now.rows) (C.plain undoable.now.rows) undoable.now.inverses.items }
 {
     let n = random.below(undoable.rows.size());
     if random.is_one_in(8) {
@@ -86,8 +86,8 @@ fn changed<C: Container>(
     undoable: &mut Undoable<C>,
     change: &Change,
 ) -> Answer
-    requires { Holds undoable.old.schema (C.shape undoable.old.rows) (C.plain undoable.old.rows) undoable.old.inverses.items }
-    ensures { Holds undoable.new.schema (C.shape undoable.new.rows) (C.plain undoable.new.rows) undoable.new.inverses.items }
+    requires { CanTakeBack undoable.old.schema (C.shape undoable.old.rows) (C.plain undoable.old.rows) undoable.old.inverses.items }
+    ensures { CanTakeBack undoable.new.schema (C.shape undoable.new.rows) (C.plain undoable.new.rows) undoable.new.inverses.items }
 {
     match change {
         Change::Insert(row, before) => undoable.insert(rt, alloc, row.copy(alloc)?, *before),
@@ -113,8 +113,8 @@ fn make_both<C: Container>(
     reference: &mut Reference,
     change: &Change,
 ) -> Result<Answer, Fail>
-    requires { Holds undoable.old.schema (C.shape undoable.old.rows) (C.plain undoable.old.rows) undoable.old.inverses.items }
-    ensures { Holds undoable.new.schema (C.shape undoable.new.rows) (C.plain undoable.new.rows) undoable.new.inverses.items }
+    requires { CanTakeBack undoable.old.schema (C.shape undoable.old.rows) (C.plain undoable.old.rows) undoable.old.inverses.items }
+    ensures { CanTakeBack undoable.new.schema (C.shape undoable.new.rows) (C.plain undoable.new.rows) undoable.new.inverses.items }
 {
     let got = changed(rt, alloc, undoable, change);
     let want = reference.change(rt, alloc, change)?;
@@ -131,8 +131,8 @@ fn change_both<C: Container>(
     random: &mut Random,
     tally: &mut Tally,
 ) -> Result<(), Fail>
-    requires { Holds undoable.old.schema (C.shape undoable.old.rows) (C.plain undoable.old.rows) undoable.old.inverses.items }
-    ensures { Holds undoable.new.schema (C.shape undoable.new.rows) (C.plain undoable.new.rows) undoable.new.inverses.items }
+    requires { CanTakeBack undoable.old.schema (C.shape undoable.old.rows) (C.plain undoable.old.rows) undoable.old.inverses.items }
+    ensures { CanTakeBack undoable.new.schema (C.shape undoable.new.rows) (C.plain undoable.new.rows) undoable.new.inverses.items }
 {
     let id = some_id(rt, undoable, random);
     let other = some_id(rt, undoable, random);
@@ -150,8 +150,8 @@ fn unwind_both<C: Container>(
     most: u64,
     tally: &mut Tally,
 )
-    requires { Holds undoable.old.schema (C.shape undoable.old.rows) (C.plain undoable.old.rows) undoable.old.inverses.items }
-    ensures { Holds undoable.new.schema (C.shape undoable.new.rows) (C.plain undoable.new.rows) undoable.new.inverses.items }
+    requires { CanTakeBack undoable.old.schema (C.shape undoable.old.rows) (C.plain undoable.old.rows) undoable.old.inverses.items }
+    ensures { CanTakeBack undoable.new.schema (C.shape undoable.new.rows) (C.plain undoable.new.rows) undoable.new.inverses.items }
 {
     for _ in 0..most {
         let was_there = undoable.unwind();
@@ -170,8 +170,8 @@ fn settle_both<C: Container>(
     reference: &mut Reference,
     tally: &mut Tally,
 )
-    requires { Holds undoable.old.schema (C.shape undoable.old.rows) (C.plain undoable.old.rows) undoable.old.inverses.items }
-    ensures { Holds undoable.new.schema (C.shape undoable.new.rows) (C.plain undoable.new.rows) undoable.new.inverses.items }
+    requires { CanTakeBack undoable.old.schema (C.shape undoable.old.rows) (C.plain undoable.old.rows) undoable.old.inverses.items }
+    ensures { CanTakeBack undoable.new.schema (C.shape undoable.new.rows) (C.plain undoable.new.rows) undoable.new.inverses.items }
 {
     let was_there = undoable.settle();
     assert_eq!(rt; was_there, reference.commit_oldest());
@@ -192,8 +192,8 @@ fn step_both<C: Container>(
     random: &mut Random,
     tally: &mut Tally,
 ) -> Result<(), Fail>
-    requires { Holds undoable.old.schema (C.shape undoable.old.rows) (C.plain undoable.old.rows) undoable.old.inverses.items }
-    ensures { Holds undoable.new.schema (C.shape undoable.new.rows) (C.plain undoable.new.rows) undoable.new.inverses.items }
+    requires { CanTakeBack undoable.old.schema (C.shape undoable.old.rows) (C.plain undoable.old.rows) undoable.old.inverses.items }
+    ensures { CanTakeBack undoable.new.schema (C.shape undoable.new.rows) (C.plain undoable.new.rows) undoable.new.inverses.items }
 {
     if undoable.depth() >= MOST_KEPT {
         settle_both(rt, undoable, reference, tally);
@@ -219,7 +219,7 @@ fn end_both<C: Container>(
     reference: &mut Reference,
     tally: &mut Tally,
 ) -> Result<(), Fail>
-    requires { Holds undoable.old.schema (C.shape undoable.old.rows) (C.plain undoable.old.rows) undoable.old.inverses.items }
+    requires { CanTakeBack undoable.old.schema (C.shape undoable.old.rows) (C.plain undoable.old.rows) undoable.old.inverses.items }
 {
     compare(rt, alloc, undoable, reference)?;
     unwind_both(rt, undoable, reference, STEPS, tally);
@@ -234,7 +234,7 @@ fn run_both<C: Container>(
     reference: &mut Reference,
     seed: u64,
 ) -> Result<(), Fail>
-    requires { Holds undoable.old.schema (C.shape undoable.old.rows) (C.plain undoable.old.rows) undoable.old.inverses.items }
+    requires { CanTakeBack undoable.old.schema (C.shape undoable.old.rows) (C.plain undoable.old.rows) undoable.old.inverses.items }
 {
     let mut random = Random::new(seed);
     let mut tally = Tally::default();

@@ -1,5 +1,5 @@
 //! Each call of a container once, and changes taken back: what indexes show is worked out by hand.
-ghost use Rattle.mi_changes.specs.Undone.{Holds};
+ghost use Rattle.mi_changes.specs.Undone.{CanTakeBack};
 
 use super::change::Answer;
 use super::undoable::Undoable;
@@ -97,7 +97,7 @@ fn assert_answer(rt: &impl Abort, got: Answer, want: Answer) {
 
 /// Asserts the ids that an index shows, by steps from the first to the last.
 fn assert_ids<C: Container>(rt: &impl Abort, undoable: &Undoable<C>, index: usize, want: &[u64])
-    requires { Holds undoable.now.schema (C.shape undoable.now.rows) (C.plain undoable.now.rows) undoable.now.inverses.items }
+    requires { CanTakeBack undoable.now.schema (C.shape undoable.now.rows) (C.plain undoable.now.rows) undoable.now.inverses.items }
 {
     let mut next = undoable.first(rt, index);
     for id in want {
@@ -109,7 +109,7 @@ fn assert_ids<C: Container>(rt: &impl Abort, undoable: &Undoable<C>, index: usiz
 
 /// Asserts the ids of a key of the index by `f`.
 fn assert_flagged<C: Container>(rt: &impl Abort, undoable: &Undoable<C>, f: bool, want: &[u64])
-    requires { Holds undoable.now.schema (C.shape undoable.now.rows) (C.plain undoable.now.rows) undoable.now.inverses.items }
+    requires { CanTakeBack undoable.now.schema (C.shape undoable.now.rows) (C.plain undoable.now.rows) undoable.now.inverses.items }
 {
     let mut next = undoable.first_of(rt, BY_F, &[Value::Flag(f)]);
     for id in want {
@@ -136,7 +136,7 @@ const OF_FOUR: Views = Views {
 };
 
 fn check_views<C: Container>(rt: &impl Abort, undoable: &Undoable<C>, want: &Views)
-    requires { Holds undoable.now.schema (C.shape undoable.now.rows) (C.plain undoable.now.rows) undoable.now.inverses.items }
+    requires { CanTakeBack undoable.now.schema (C.shape undoable.now.rows) (C.plain undoable.now.rows) undoable.now.inverses.items }
 {
     assert_ids(rt, undoable, LINE, want.line);
     assert_ids(rt, undoable, BY_N, want.by_n);
@@ -147,8 +147,8 @@ fn check_views<C: Container>(rt: &impl Abort, undoable: &Undoable<C>, want: &Vie
 
 /// Takes the newest change back, which leaves the first four records.
 fn unwind_to_four<C: Container>(rt: &impl Abort, undoable: &mut Undoable<C>)
-    requires { Holds undoable.old.schema (C.shape undoable.old.rows) (C.plain undoable.old.rows) undoable.old.inverses.items }
-    ensures { Holds undoable.new.schema (C.shape undoable.new.rows) (C.plain undoable.new.rows) undoable.new.inverses.items }
+    requires { CanTakeBack undoable.old.schema (C.shape undoable.old.rows) (C.plain undoable.old.rows) undoable.old.inverses.items }
+    ensures { CanTakeBack undoable.new.schema (C.shape undoable.new.rows) (C.plain undoable.new.rows) undoable.new.inverses.items }
 {
     assert!(rt; undoable.unwind());
     check_views(rt, undoable, &OF_FOUR);
@@ -202,8 +202,8 @@ const FOUR: [Row; 4] = [
 
 /// Puts a record in.
 fn add<C: Container>(rt: &impl Abort, alloc: Global, undoable: &mut Undoable<C>, row: &Row)
-    requires { Holds undoable.old.schema (C.shape undoable.old.rows) (C.plain undoable.old.rows) undoable.old.inverses.items }
-    ensures { Holds undoable.new.schema (C.shape undoable.new.rows) (C.plain undoable.new.rows) undoable.new.inverses.items }
+    requires { CanTakeBack undoable.old.schema (C.shape undoable.old.rows) (C.plain undoable.old.rows) undoable.old.inverses.items }
+    ensures { CanTakeBack undoable.new.schema (C.shape undoable.new.rows) (C.plain undoable.new.rows) undoable.new.inverses.items }
 {
     let record = record(rt, alloc, row.k, row.s, row.f, row.n);
     assert_answer(
@@ -215,8 +215,8 @@ fn add<C: Container>(rt: &impl Abort, alloc: Global, undoable: &mut Undoable<C>,
 
 /// Puts the four in.
 fn fill<C: Container>(rt: &impl Abort, alloc: Global, undoable: &mut Undoable<C>)
-    requires { Holds undoable.old.schema (C.shape undoable.old.rows) (C.plain undoable.old.rows) undoable.old.inverses.items }
-    ensures { Holds undoable.new.schema (C.shape undoable.new.rows) (C.plain undoable.new.rows) undoable.new.inverses.items }
+    requires { CanTakeBack undoable.old.schema (C.shape undoable.old.rows) (C.plain undoable.old.rows) undoable.old.inverses.items }
+    ensures { CanTakeBack undoable.new.schema (C.shape undoable.new.rows) (C.plain undoable.new.rows) undoable.new.inverses.items }
 {
     for row in &FOUR {
         add(rt, alloc, undoable, row);
@@ -266,7 +266,7 @@ const KEYS: [Found; 5] = [
 
 /// Looks up each record.
 fn check_look_ups<C: Container>(rt: &impl Abort, alloc: Global, undoable: &Undoable<C>)
-    requires { Holds undoable.now.schema (C.shape undoable.now.rows) (C.plain undoable.now.rows) undoable.now.inverses.items }
+    requires { CanTakeBack undoable.now.schema (C.shape undoable.now.rows) (C.plain undoable.now.rows) undoable.now.inverses.items }
 {
     assert!(rt; shows(undoable, 3, 13, "d", true, 0));
     assert!(rt; !undoable.has(4));
@@ -324,7 +324,7 @@ const BOUNDS: [KeyBounds; 4] = [
 
 /// Looks up bounds.
 fn check_bounds<C: Container>(rt: &impl Abort, alloc: Global, undoable: &Undoable<C>)
-    requires { Holds undoable.now.schema (C.shape undoable.now.rows) (C.plain undoable.now.rows) undoable.now.inverses.items }
+    requires { CanTakeBack undoable.now.schema (C.shape undoable.now.rows) (C.plain undoable.now.rows) undoable.now.inverses.items }
 {
     for want in &BOUNDS {
         let key = key_of(rt, alloc, &want.key);
@@ -348,7 +348,7 @@ const RANKED: [u64; 4] = [3, 0, 1, 2];
 
 /// Looks up ranks.
 fn check_ranks<C: Container>(rt: &impl Abort, undoable: &Undoable<C>)
-    requires { Holds undoable.now.schema (C.shape undoable.now.rows) (C.plain undoable.now.rows) undoable.now.inverses.items }
+    requires { CanTakeBack undoable.now.schema (C.shape undoable.now.rows) (C.plain undoable.now.rows) undoable.now.inverses.items }
 {
     let mut rank = 0u64;
     for id in &RANKED {
@@ -402,7 +402,7 @@ const ENDS: [IndexEnds; 5] = [
 
 /// Steps from both ends.
 fn check_ends<C: Container>(rt: &impl Abort, undoable: &Undoable<C>)
-    requires { Holds undoable.now.schema (C.shape undoable.now.rows) (C.plain undoable.now.rows) undoable.now.inverses.items }
+    requires { CanTakeBack undoable.now.schema (C.shape undoable.now.rows) (C.plain undoable.now.rows) undoable.now.inverses.items }
 {
     for want in &ENDS {
         assert_id(rt, undoable.first(rt, want.index), Some(want.first));
@@ -464,7 +464,7 @@ fn check_walks<C: Container>(
     alloc: Global,
     undoable: &Undoable<C>,
 ) -> Result<(), Fail>
-    requires { Holds undoable.now.schema (C.shape undoable.now.rows) (C.plain undoable.now.rows) undoable.now.inverses.items }
+    requires { CanTakeBack undoable.now.schema (C.shape undoable.now.rows) (C.plain undoable.now.rows) undoable.now.inverses.items }
 {
     for want in &WALKS {
         let rows = undoable.walk(rt, alloc, BY_F_S, want.reverse, want.first, want.limit)?;
@@ -482,8 +482,8 @@ const FLAGGED: Views = Views {
 
 /// A put that loses a place by `f`, taken back.
 fn check_replace<C: Container>(rt: &impl Abort, alloc: Global, undoable: &mut Undoable<C>)
-    requires { Holds undoable.old.schema (C.shape undoable.old.rows) (C.plain undoable.old.rows) undoable.old.inverses.items }
-    ensures { Holds undoable.new.schema (C.shape undoable.new.rows) (C.plain undoable.new.rows) undoable.new.inverses.items }
+    requires { CanTakeBack undoable.old.schema (C.shape undoable.old.rows) (C.plain undoable.old.rows) undoable.old.inverses.items }
+    ensures { CanTakeBack undoable.new.schema (C.shape undoable.new.rows) (C.plain undoable.new.rows) undoable.new.inverses.items }
 {
     let row = record(rt, alloc, 11, "b", true, 2);
     assert_answer(rt, undoable.replace(rt, 1, row), Ok(None));
@@ -500,8 +500,8 @@ const ADDED: Views = Views {
 
 /// A sum that goes behind its equals, taken back.
 fn check_add<C: Container>(rt: &impl Abort, alloc: Global, undoable: &mut Undoable<C>)
-    requires { Holds undoable.old.schema (C.shape undoable.old.rows) (C.plain undoable.old.rows) undoable.old.inverses.items }
-    ensures { Holds undoable.new.schema (C.shape undoable.new.rows) (C.plain undoable.new.rows) undoable.new.inverses.items }
+    requires { CanTakeBack undoable.old.schema (C.shape undoable.old.rows) (C.plain undoable.old.rows) undoable.old.inverses.items }
+    ensures { CanTakeBack undoable.new.schema (C.shape undoable.new.rows) (C.plain undoable.new.rows) undoable.new.inverses.items }
 {
     assert_answer(rt, undoable.add(rt, alloc, 0, N, 1, true), Ok(None));
     assert!(rt; shows(undoable, 0, 10, "a", false, 2));
@@ -518,8 +518,8 @@ const LOST: Views = Views {
 
 /// A sum that is refused, and one that loses the record, taken back.
 fn check_lost<C: Container>(rt: &impl Abort, alloc: Global, undoable: &mut Undoable<C>)
-    requires { Holds undoable.old.schema (C.shape undoable.old.rows) (C.plain undoable.old.rows) undoable.old.inverses.items }
-    ensures { Holds undoable.new.schema (C.shape undoable.new.rows) (C.plain undoable.new.rows) undoable.new.inverses.items }
+    requires { CanTakeBack undoable.old.schema (C.shape undoable.old.rows) (C.plain undoable.old.rows) undoable.old.inverses.items }
+    ensures { CanTakeBack undoable.new.schema (C.shape undoable.new.rows) (C.plain undoable.new.rows) undoable.new.inverses.items }
 {
     let refused = undoable.add(rt, alloc, 0, K, 2, true);
     assert_answer(rt, refused, Err(Refusal::Unique { index: BY_K, id: 2 }));
@@ -557,8 +557,8 @@ const MOVES: [Move; 3] = [
 
 /// A move, taken back.
 fn check_move<C: Container>(rt: &impl Abort, undoable: &mut Undoable<C>, want: &Move)
-    requires { Holds undoable.old.schema (C.shape undoable.old.rows) (C.plain undoable.old.rows) undoable.old.inverses.items }
-    ensures { Holds undoable.new.schema (C.shape undoable.new.rows) (C.plain undoable.new.rows) undoable.new.inverses.items }
+    requires { CanTakeBack undoable.old.schema (C.shape undoable.old.rows) (C.plain undoable.old.rows) undoable.old.inverses.items }
+    ensures { CanTakeBack undoable.new.schema (C.shape undoable.new.rows) (C.plain undoable.new.rows) undoable.new.inverses.items }
 {
     assert_answer(
         rt,
@@ -570,8 +570,8 @@ fn check_move<C: Container>(rt: &impl Abort, undoable: &mut Undoable<C>, want: &
 }
 
 fn check_moves<C: Container>(rt: &impl Abort, undoable: &mut Undoable<C>)
-    requires { Holds undoable.old.schema (C.shape undoable.old.rows) (C.plain undoable.old.rows) undoable.old.inverses.items }
-    ensures { Holds undoable.new.schema (C.shape undoable.new.rows) (C.plain undoable.new.rows) undoable.new.inverses.items }
+    requires { CanTakeBack undoable.old.schema (C.shape undoable.old.rows) (C.plain undoable.old.rows) undoable.old.inverses.items }
+    ensures { CanTakeBack undoable.new.schema (C.shape undoable.new.rows) (C.plain undoable.new.rows) undoable.new.inverses.items }
 {
     for want in &MOVES {
         check_move(rt, undoable, want);
@@ -587,8 +587,8 @@ const ERASED: Views = Views {
 
 /// An erase, taken back.
 fn check_erase<C: Container>(rt: &impl Abort, undoable: &mut Undoable<C>)
-    requires { Holds undoable.old.schema (C.shape undoable.old.rows) (C.plain undoable.old.rows) undoable.old.inverses.items }
-    ensures { Holds undoable.new.schema (C.shape undoable.new.rows) (C.plain undoable.new.rows) undoable.new.inverses.items }
+    requires { CanTakeBack undoable.old.schema (C.shape undoable.old.rows) (C.plain undoable.old.rows) undoable.old.inverses.items }
+    ensures { CanTakeBack undoable.new.schema (C.shape undoable.new.rows) (C.plain undoable.new.rows) undoable.new.inverses.items }
 {
     assert_answer(rt, undoable.erase(3), Ok(None));
     check_views(rt, undoable, &ERASED);
@@ -606,8 +606,8 @@ const FIFTH: Row = Row {
 
 /// An id that is used again.
 fn check_ids<C: Container>(rt: &impl Abort, alloc: Global, undoable: &mut Undoable<C>)
-    requires { Holds undoable.old.schema (C.shape undoable.old.rows) (C.plain undoable.old.rows) undoable.old.inverses.items }
-    ensures { Holds undoable.new.schema (C.shape undoable.new.rows) (C.plain undoable.new.rows) undoable.new.inverses.items }
+    requires { CanTakeBack undoable.old.schema (C.shape undoable.old.rows) (C.plain undoable.old.rows) undoable.old.inverses.items }
+    ensures { CanTakeBack undoable.new.schema (C.shape undoable.new.rows) (C.plain undoable.new.rows) undoable.new.inverses.items }
 {
     for _ in 0..2 {
         add(rt, alloc, undoable, &FIFTH);
@@ -617,8 +617,8 @@ fn check_ids<C: Container>(rt: &impl Abort, alloc: Global, undoable: &mut Undoab
 
 /// Settles all five changes.
 fn settle_all<C: Container>(rt: &impl Abort, undoable: &mut Undoable<C>)
-    requires { Holds undoable.old.schema (C.shape undoable.old.rows) (C.plain undoable.old.rows) undoable.old.inverses.items }
-    ensures { Holds undoable.new.schema (C.shape undoable.new.rows) (C.plain undoable.new.rows) undoable.new.inverses.items }
+    requires { CanTakeBack undoable.old.schema (C.shape undoable.old.rows) (C.plain undoable.old.rows) undoable.old.inverses.items }
+    ensures { CanTakeBack undoable.new.schema (C.shape undoable.new.rows) (C.plain undoable.new.rows) undoable.new.inverses.items }
 {
     for _ in 0..5 {
         assert!(rt; undoable.settle());
@@ -645,7 +645,7 @@ const SETTLED: Views = Views {
 
 /// An erase that is settled stays, and its node is used again.
 fn check_settled<C: Container>(rt: &impl Abort, alloc: Global, undoable: &mut Undoable<C>)
-    requires { Holds undoable.old.schema (C.shape undoable.old.rows) (C.plain undoable.old.rows) undoable.old.inverses.items }
+    requires { CanTakeBack undoable.old.schema (C.shape undoable.old.rows) (C.plain undoable.old.rows) undoable.old.inverses.items }
 {
     assert_answer(rt, undoable.erase(2), Ok(None));
     settle_all(rt, undoable);
@@ -659,7 +659,7 @@ fn check_reads<C: Container>(
     alloc: Global,
     undoable: &Undoable<C>,
 ) -> Result<(), Fail>
-    requires { Holds undoable.now.schema (C.shape undoable.now.rows) (C.plain undoable.now.rows) undoable.now.inverses.items }
+    requires { CanTakeBack undoable.now.schema (C.shape undoable.now.rows) (C.plain undoable.now.rows) undoable.now.inverses.items }
 {
     check_views(rt, undoable, &OF_FOUR);
     check_look_ups(rt, alloc, undoable);
@@ -671,7 +671,7 @@ fn check_reads<C: Container>(
 
 /// Makes each change.
 fn check_changes<C: Container>(rt: &impl Abort, alloc: Global, undoable: &mut Undoable<C>)
-    requires { Holds undoable.old.schema (C.shape undoable.old.rows) (C.plain undoable.old.rows) undoable.old.inverses.items }
+    requires { CanTakeBack undoable.old.schema (C.shape undoable.old.rows) (C.plain undoable.old.rows) undoable.old.inverses.items }
 {
     check_replace(rt, alloc, undoable);
     check_add(rt, alloc, undoable);
@@ -688,7 +688,7 @@ fn check_each_call<C: Container>(
     alloc: Global,
     undoable: &mut Undoable<C>,
 ) -> Result<(), Fail>
-    requires { Holds undoable.old.schema (C.shape undoable.old.rows) (C.plain undoable.old.rows) undoable.old.inverses.items }
+    requires { CanTakeBack undoable.old.schema (C.shape undoable.old.rows) (C.plain undoable.old.rows) undoable.old.inverses.items }
 {
     fill(rt, alloc, undoable);
     check_reads(rt, alloc, undoable)?;
@@ -713,7 +713,7 @@ const FIRST: Row = Row {
 };
 
 fn check_reuse<C: Container>(rt: &impl Abort, alloc: Global, undoable: &mut Undoable<C>)
-    requires { Holds undoable.old.schema (C.shape undoable.old.rows) (C.plain undoable.old.rows) undoable.old.inverses.items }
+    requires { CanTakeBack undoable.old.schema (C.shape undoable.old.rows) (C.plain undoable.old.rows) undoable.old.inverses.items }
 {
     add(rt, alloc, undoable, &FIRST);
     assert_answer(rt, undoable.add(rt, alloc, 0, N, 4, false), Ok(None));

@@ -4,7 +4,7 @@ ghost use Rattle.std.specs.Prelude.{◌≡◌, IsTrue, IfOk, IfSome};
 ghost use Rattle.mi_model.specs.Table.{has as has_row};
 ghost use Rattle.mi_container.specs.Asked.{IsKeyed, IsHashed, IsSorted, IsSequenced, ShowsOneList, RecordFits, EditsFit, WholeKey, KeyPrefix};
 ghost use Rattle.mi_container.specs.Data.{table_of};
-ghost use Rattle.mi_changes.specs.Undone.{Holds};
+ghost use Rattle.mi_changes.specs.Undone.{CanTakeBack};
 
 use super::change::Answer;
 use super::fitting::{fits_edits, is_hashed, is_keyed, is_listed, is_sequenced, is_sorted};
@@ -26,7 +26,7 @@ pub(super) struct Undoable<C: Container> {
 impl<C: Container> Undoable<C> {
     /// The container that a schema opens with.
     pub(super) fn open(alloc: Global, schema: Schema) -> Result<Undoable<C>, AllocError>
-        ensures { IfOk result (λ u. Holds u.schema (C.shape u.rows) (C.plain u.rows) u.inverses.items) }
+        ensures { IfOk result (λ u. CanTakeBack u.schema (C.shape u.rows) (C.plain u.rows) u.inverses.items) }
     {
         let rows = C::new(alloc, schema.copy(alloc)?, 1)?;
         Ok(Undoable {
@@ -38,7 +38,7 @@ impl<C: Container> Undoable<C> {
 
     /// Whether a record fits the columns.
     pub(super) fn fits(&self, row: &Record) -> bool
-        requires { Holds self.now.schema (C.shape self.now.rows) (C.plain self.now.rows) self.now.inverses.items }
+        requires { CanTakeBack self.now.schema (C.shape self.now.rows) (C.plain self.now.rows) self.now.inverses.items }
         ensures { IsTrue result → RecordFits (C.shape self.now.rows) row.now }
     {
         self.schema.fits_record(row)
@@ -46,7 +46,7 @@ impl<C: Container> Undoable<C> {
 
     /// Whether edits do.
     fn fits_edits(&self, edits: &[Edit]) -> bool
-        requires { Holds self.now.schema (C.shape self.now.rows) (C.plain self.now.rows) self.now.inverses.items }
+        requires { CanTakeBack self.now.schema (C.shape self.now.rows) (C.plain self.now.rows) self.now.inverses.items }
         ensures { IsTrue result → EditsFit (C.shape self.now.rows) edits.now }
     {
         fits_edits(self.schema.columns(), edits)
@@ -54,7 +54,7 @@ impl<C: Container> Undoable<C> {
 
     /// Stops unless an index is there and has keys.
     fn want_keyed(&self, rt: &impl Abort, index: usize)
-        requires { Holds self.now.schema (C.shape self.now.rows) (C.plain self.now.rows) self.now.inverses.items }
+        requires { CanTakeBack self.now.schema (C.shape self.now.rows) (C.plain self.now.rows) self.now.inverses.items }
         ensures { IsKeyed (C.shape self.now.rows) index }
     {
         assert!(rt; is_keyed(&self.schema, index));
@@ -62,7 +62,7 @@ impl<C: Container> Undoable<C> {
 
     /// Stops unless it is hashed.
     fn want_hashed(&self, rt: &impl Abort, index: usize)
-        requires { Holds self.now.schema (C.shape self.now.rows) (C.plain self.now.rows) self.now.inverses.items }
+        requires { CanTakeBack self.now.schema (C.shape self.now.rows) (C.plain self.now.rows) self.now.inverses.items }
         ensures { IsHashed (C.shape self.now.rows) index }
     {
         assert!(rt; is_hashed(&self.schema, index));
@@ -70,7 +70,7 @@ impl<C: Container> Undoable<C> {
 
     /// Stops unless it is ordered or ranked.
     fn want_sorted(&self, rt: &impl Abort, index: usize)
-        requires { Holds self.now.schema (C.shape self.now.rows) (C.plain self.now.rows) self.now.inverses.items }
+        requires { CanTakeBack self.now.schema (C.shape self.now.rows) (C.plain self.now.rows) self.now.inverses.items }
         ensures { IsSorted (C.shape self.now.rows) index }
     {
         assert!(rt; is_sorted(&self.schema, index));
@@ -78,7 +78,7 @@ impl<C: Container> Undoable<C> {
 
     /// Stops unless it is sequenced.
     fn want_sequenced(&self, rt: &impl Abort, index: usize)
-        requires { Holds self.now.schema (C.shape self.now.rows) (C.plain self.now.rows) self.now.inverses.items }
+        requires { CanTakeBack self.now.schema (C.shape self.now.rows) (C.plain self.now.rows) self.now.inverses.items }
         ensures { IsSequenced (C.shape self.now.rows) index }
     {
         assert!(rt; is_sequenced(&self.schema, index));
@@ -86,7 +86,7 @@ impl<C: Container> Undoable<C> {
 
     /// Stops unless it shows one list.
     fn want_listed(&self, rt: &impl Abort, index: usize)
-        requires { Holds self.now.schema (C.shape self.now.rows) (C.plain self.now.rows) self.now.inverses.items }
+        requires { CanTakeBack self.now.schema (C.shape self.now.rows) (C.plain self.now.rows) self.now.inverses.items }
         ensures { ShowsOneList (C.shape self.now.rows) index }
     {
         assert!(rt; is_listed(&self.schema, index));
@@ -94,7 +94,7 @@ impl<C: Container> Undoable<C> {
 
     /// Stops unless a record may be placed there.
     fn want_place(&self, rt: &impl Abort, before: Option<(usize, u64)>)
-        requires { Holds self.now.schema (C.shape self.now.rows) (C.plain self.now.rows) self.now.inverses.items }
+        requires { CanTakeBack self.now.schema (C.shape self.now.rows) (C.plain self.now.rows) self.now.inverses.items }
         ensures { IfSome before (λ at. IsSequenced (C.shape self.now.rows) at.0) }
     {
         if let Some((index, _)) = before {
@@ -104,7 +104,7 @@ impl<C: Container> Undoable<C> {
 
     /// Stops unless values are a whole key of an index.
     fn want_key(&self, rt: &impl Abort, index: usize, key: &[Value])
-        requires { Holds self.now.schema (C.shape self.now.rows) (C.plain self.now.rows) self.now.inverses.items }
+        requires { CanTakeBack self.now.schema (C.shape self.now.rows) (C.plain self.now.rows) self.now.inverses.items }
         ensures { WholeKey (C.shape self.now.rows) index key.now }
     {
         assert!(rt; index < self.schema.index_count());
@@ -113,7 +113,7 @@ impl<C: Container> Undoable<C> {
 
     /// Stops unless they are a key of it, or the first values of one.
     fn want_prefix(&self, rt: &impl Abort, index: usize, key: &[Value])
-        requires { Holds self.now.schema (C.shape self.now.rows) (C.plain self.now.rows) self.now.inverses.items }
+        requires { CanTakeBack self.now.schema (C.shape self.now.rows) (C.plain self.now.rows) self.now.inverses.items }
         ensures { KeyPrefix (C.shape self.now.rows) index key.now }
     {
         assert!(rt; index < self.schema.index_count());
@@ -142,8 +142,8 @@ impl<C: Container> Undoable<C> {
         row: Record,
         before: Option<(usize, u64)>,
     ) -> Answer
-        requires { Holds self.old.schema (C.shape self.old.rows) (C.plain self.old.rows) self.old.inverses.items }
-        ensures { Holds self.new.schema (C.shape self.new.rows) (C.plain self.new.rows) self.new.inverses.items }
+        requires { CanTakeBack self.old.schema (C.shape self.old.rows) (C.plain self.old.rows) self.old.inverses.items }
+        ensures { CanTakeBack self.new.schema (C.shape self.new.rows) (C.plain self.new.rows) self.new.inverses.items }
     {
         self.inverses.reserve(1)?;
         self.rows.keeps_rules();
@@ -160,8 +160,8 @@ impl<C: Container> Undoable<C> {
 
     /// Sets another record.
     pub(super) fn replace(&mut self, rt: &impl Abort, id: u64, row: Record) -> Answer
-        requires { Holds self.old.schema (C.shape self.old.rows) (C.plain self.old.rows) self.old.inverses.items }
-        ensures { Holds self.new.schema (C.shape self.new.rows) (C.plain self.new.rows) self.new.inverses.items }
+        requires { CanTakeBack self.old.schema (C.shape self.old.rows) (C.plain self.old.rows) self.old.inverses.items }
+        ensures { CanTakeBack self.new.schema (C.shape self.new.rows) (C.plain self.new.rows) self.new.inverses.items }
     {
         self.inverses.reserve(1)?;
         self.rows.keeps_rules();
@@ -184,8 +184,8 @@ impl<C: Container> Undoable<C> {
         edits: &[Edit],
         rollback: bool,
     ) -> Answer
-        requires { Holds self.old.schema (C.shape self.old.rows) (C.plain self.old.rows) self.old.inverses.items }
-        ensures { Holds self.new.schema (C.shape self.new.rows) (C.plain self.new.rows) self.new.inverses.items }
+        requires { CanTakeBack self.old.schema (C.shape self.old.rows) (C.plain self.old.rows) self.old.inverses.items }
+        ensures { CanTakeBack self.new.schema (C.shape self.new.rows) (C.plain self.new.rows) self.new.inverses.items }
     {
         self.inverses.reserve(1)?;
         self.rows.keeps_rules();
@@ -213,16 +213,16 @@ impl<C: Container> Undoable<C> {
         n: i64,
         rollback: bool,
     ) -> Answer
-        requires { Holds self.old.schema (C.shape self.old.rows) (C.plain self.old.rows) self.old.inverses.items }
-        ensures { Holds self.new.schema (C.shape self.new.rows) (C.plain self.new.rows) self.new.inverses.items }
+        requires { CanTakeBack self.old.schema (C.shape self.old.rows) (C.plain self.old.rows) self.old.inverses.items }
+        ensures { CanTakeBack self.new.schema (C.shape self.new.rows) (C.plain self.new.rows) self.new.inverses.items }
     {
         self.modify(rt, alloc, id, &[Edit::Add(column, n)], rollback)
     }
 
     /// Erases a record.
     pub(super) fn erase(&mut self, id: u64) -> Answer
-        requires { Holds self.old.schema (C.shape self.old.rows) (C.plain self.old.rows) self.old.inverses.items }
-        ensures { Holds self.new.schema (C.shape self.new.rows) (C.plain self.new.rows) self.new.inverses.items }
+        requires { CanTakeBack self.old.schema (C.shape self.old.rows) (C.plain self.old.rows) self.old.inverses.items }
+        ensures { CanTakeBack self.new.schema (C.shape self.new.rows) (C.plain self.new.rows) self.new.inverses.items }
     {
         self.inverses.reserve(1)?;
         self.rows.keeps_rules();
@@ -243,8 +243,8 @@ impl<C: Container> Undoable<C> {
         id: u64,
         before: Option<u64>,
     ) -> Answer
-        requires { Holds self.old.schema (C.shape self.old.rows) (C.plain self.old.rows) self.old.inverses.items }
-        ensures { Holds self.new.schema (C.shape self.new.rows) (C.plain self.new.rows) self.new.inverses.items }
+        requires { CanTakeBack self.old.schema (C.shape self.old.rows) (C.plain self.old.rows) self.old.inverses.items }
+        ensures { CanTakeBack self.new.schema (C.shape self.new.rows) (C.plain self.new.rows) self.new.inverses.items }
     {
         self.inverses.reserve(1)?;
         self.rows.keeps_rules();
@@ -260,8 +260,8 @@ impl<C: Container> Undoable<C> {
 
     /// Takes the newest change back, and tells whether there was one.
     pub(super) fn unwind(&mut self) -> bool
-        requires { Holds self.old.schema (C.shape self.old.rows) (C.plain self.old.rows) self.old.inverses.items }
-        ensures { Holds self.new.schema (C.shape self.new.rows) (C.plain self.new.rows) self.new.inverses.items }
+        requires { CanTakeBack self.old.schema (C.shape self.old.rows) (C.plain self.old.rows) self.old.inverses.items }
+        ensures { CanTakeBack self.new.schema (C.shape self.new.rows) (C.plain self.new.rows) self.new.inverses.items }
     {
         match self.inverses.pop_back() {
             Some(inverse) => {
@@ -279,8 +279,8 @@ impl<C: Container> Undoable<C> {
 
     /// Settles the oldest change, and tells whether there was one.
     pub(super) fn settle(&mut self) -> bool
-        requires { Holds self.old.schema (C.shape self.old.rows) (C.plain self.old.rows) self.old.inverses.items }
-        ensures { Holds self.new.schema (C.shape self.new.rows) (C.plain self.new.rows) self.new.inverses.items }
+        requires { CanTakeBack self.old.schema (C.shape self.old.rows) (C.plain self.old.rows) self.old.inverses.items }
+        ensures { CanTakeBack self.new.schema (C.shape self.new.rows) (C.plain self.new.rows) self.new.inverses.items }
     {
         self.rows.keeps_rules();
         match self.inverses.pop_front() {
@@ -293,21 +293,21 @@ impl<C: Container> Undoable<C> {
     }
 
     pub(super) fn first(&self, rt: &impl Abort, index: usize) -> Option<u64>
-        requires { Holds self.now.schema (C.shape self.now.rows) (C.plain self.now.rows) self.now.inverses.items }
+        requires { CanTakeBack self.now.schema (C.shape self.now.rows) (C.plain self.now.rows) self.now.inverses.items }
     {
         self.want_listed(rt, index);
         self.rows.first(index)
     }
 
     pub(super) fn last(&self, rt: &impl Abort, index: usize) -> Option<u64>
-        requires { Holds self.now.schema (C.shape self.now.rows) (C.plain self.now.rows) self.now.inverses.items }
+        requires { CanTakeBack self.now.schema (C.shape self.now.rows) (C.plain self.now.rows) self.now.inverses.items }
     {
         self.want_listed(rt, index);
         self.rows.last(index)
     }
 
     pub(super) fn after(&self, rt: &impl Abort, index: usize, id: u64) -> Option<u64>
-        requires { Holds self.now.schema (C.shape self.now.rows) (C.plain self.now.rows) self.now.inverses.items }
+        requires { CanTakeBack self.now.schema (C.shape self.now.rows) (C.plain self.now.rows) self.now.inverses.items }
     {
         self.want_listed(rt, index);
         self.want_record(rt, id);
@@ -315,7 +315,7 @@ impl<C: Container> Undoable<C> {
     }
 
     pub(super) fn before(&self, rt: &impl Abort, index: usize, id: u64) -> Option<u64>
-        requires { Holds self.now.schema (C.shape self.now.rows) (C.plain self.now.rows) self.now.inverses.items }
+        requires { CanTakeBack self.now.schema (C.shape self.now.rows) (C.plain self.now.rows) self.now.inverses.items }
     {
         self.want_listed(rt, index);
         self.want_record(rt, id);
@@ -331,7 +331,7 @@ impl<C: Container> Undoable<C> {
         first: u64,
         limit: usize,
     ) -> Result<Vec<(u64, &Record)>, AllocError>
-        requires { Holds self.now.schema (C.shape self.now.rows) (C.plain self.now.rows) self.now.inverses.items }
+        requires { CanTakeBack self.now.schema (C.shape self.now.rows) (C.plain self.now.rows) self.now.inverses.items }
     {
         self.want_listed(rt, index);
         self.want_record(rt, first);
@@ -340,7 +340,7 @@ impl<C: Container> Undoable<C> {
     }
 
     pub(super) fn find(&self, rt: &impl Abort, index: usize, key: &[Value]) -> Option<u64>
-        requires { Holds self.now.schema (C.shape self.now.rows) (C.plain self.now.rows) self.now.inverses.items }
+        requires { CanTakeBack self.now.schema (C.shape self.now.rows) (C.plain self.now.rows) self.now.inverses.items }
     {
         self.want_keyed(rt, index);
         self.want_key(rt, index, key);
@@ -348,7 +348,7 @@ impl<C: Container> Undoable<C> {
     }
 
     pub(super) fn count(&self, rt: &impl Abort, index: usize, key: &[Value]) -> u64
-        requires { Holds self.now.schema (C.shape self.now.rows) (C.plain self.now.rows) self.now.inverses.items }
+        requires { CanTakeBack self.now.schema (C.shape self.now.rows) (C.plain self.now.rows) self.now.inverses.items }
     {
         self.want_keyed(rt, index);
         self.want_key(rt, index, key);
@@ -356,7 +356,7 @@ impl<C: Container> Undoable<C> {
     }
 
     pub(super) fn first_of(&self, rt: &impl Abort, index: usize, key: &[Value]) -> Option<u64>
-        requires { Holds self.now.schema (C.shape self.now.rows) (C.plain self.now.rows) self.now.inverses.items }
+        requires { CanTakeBack self.now.schema (C.shape self.now.rows) (C.plain self.now.rows) self.now.inverses.items }
     {
         self.want_hashed(rt, index);
         self.want_key(rt, index, key);
@@ -364,7 +364,7 @@ impl<C: Container> Undoable<C> {
     }
 
     pub(super) fn next_of(&self, rt: &impl Abort, index: usize, id: u64) -> Option<u64>
-        requires { Holds self.now.schema (C.shape self.now.rows) (C.plain self.now.rows) self.now.inverses.items }
+        requires { CanTakeBack self.now.schema (C.shape self.now.rows) (C.plain self.now.rows) self.now.inverses.items }
     {
         self.want_hashed(rt, index);
         self.want_record(rt, id);
@@ -372,14 +372,14 @@ impl<C: Container> Undoable<C> {
     }
 
     pub(super) fn nth(&self, rt: &impl Abort, index: usize, n: u64) -> Option<u64>
-        requires { Holds self.now.schema (C.shape self.now.rows) (C.plain self.now.rows) self.now.inverses.items }
+        requires { CanTakeBack self.now.schema (C.shape self.now.rows) (C.plain self.now.rows) self.now.inverses.items }
     {
         self.want_sorted(rt, index);
         self.rows.nth(index, n)
     }
 
     pub(super) fn rank_of(&self, rt: &impl Abort, index: usize, id: u64) -> u64
-        requires { Holds self.now.schema (C.shape self.now.rows) (C.plain self.now.rows) self.now.inverses.items }
+        requires { CanTakeBack self.now.schema (C.shape self.now.rows) (C.plain self.now.rows) self.now.inverses.items }
     {
         self.want_sorted(rt, index);
         self.want_record(rt, id);
@@ -387,7 +387,7 @@ impl<C: Container> Undoable<C> {
     }
 
     pub(super) fn lower(&self, rt: &impl Abort, index: usize, key: &[Value]) -> Option<u64>
-        requires { Holds self.now.schema (C.shape self.now.rows) (C.plain self.now.rows) self.now.inverses.items }
+        requires { CanTakeBack self.now.schema (C.shape self.now.rows) (C.plain self.now.rows) self.now.inverses.items }
     {
         self.want_sorted(rt, index);
         self.want_prefix(rt, index, key);
@@ -395,7 +395,7 @@ impl<C: Container> Undoable<C> {
     }
 
     pub(super) fn upper(&self, rt: &impl Abort, index: usize, key: &[Value]) -> Option<u64>
-        requires { Holds self.now.schema (C.shape self.now.rows) (C.plain self.now.rows) self.now.inverses.items }
+        requires { CanTakeBack self.now.schema (C.shape self.now.rows) (C.plain self.now.rows) self.now.inverses.items }
     {
         self.want_sorted(rt, index);
         self.want_prefix(rt, index, key);
@@ -403,7 +403,7 @@ impl<C: Container> Undoable<C> {
     }
 
     pub(super) fn lower_rank(&self, rt: &impl Abort, index: usize, key: &[Value]) -> u64
-        requires { Holds self.now.schema (C.shape self.now.rows) (C.plain self.now.rows) self.now.inverses.items }
+        requires { CanTakeBack self.now.schema (C.shape self.now.rows) (C.plain self.now.rows) self.now.inverses.items }
     {
         self.want_sorted(rt, index);
         self.want_prefix(rt, index, key);
@@ -411,7 +411,7 @@ impl<C: Container> Undoable<C> {
     }
 
     pub(super) fn upper_rank(&self, rt: &impl Abort, index: usize, key: &[Value]) -> u64
-        requires { Holds self.now.schema (C.shape self.now.rows) (C.plain self.now.rows) self.now.inverses.items }
+        requires { CanTakeBack self.now.schema (C.shape self.now.rows) (C.plain self.now.rows) self.now.inverses.items }
     {
         self.want_sorted(rt, index);
         self.want_prefix(rt, index, key);

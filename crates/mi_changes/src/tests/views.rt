@@ -1,5 +1,5 @@
 //! What a container shows beside what the plain database shows.
-ghost use Rattle.mi_changes.specs.Undone.{Holds};
+ghost use Rattle.mi_changes.specs.Undone.{CanTakeBack};
 
 use super::container::BY_ID;
 use super::fitting::{is_hashed, is_keyed, is_listed, is_sorted};
@@ -71,7 +71,7 @@ fn compare_neighbours<C: Container>(
     index: usize,
     id: u64,
 )
-    requires { Holds undoable.now.schema (C.shape undoable.now.rows) (C.plain undoable.now.rows) undoable.now.inverses.items }
+    requires { CanTakeBack undoable.now.schema (C.shape undoable.now.rows) (C.plain undoable.now.rows) undoable.now.inverses.items }
 {
     assert_id(
         rt,
@@ -96,7 +96,7 @@ fn compare_rows<C: Container>(
     got: &[(u64, &Record)],
     want: &[(u64, &Record)],
 )
-    requires { Holds undoable.now.schema (C.shape undoable.now.rows) (C.plain undoable.now.rows) undoable.now.inverses.items }
+    requires { CanTakeBack undoable.now.schema (C.shape undoable.now.rows) (C.plain undoable.now.rows) undoable.now.inverses.items }
 {
     assert_eq!(rt; got.len() as u64, undoable.rows.size(), "index {index}");
     assert_eq!(rt; got.len(), want.len(), "index {index}");
@@ -117,7 +117,7 @@ fn compare_walk<C: Container>(
     reverse: bool,
     first: u64,
 ) -> Result<(), Fail>
-    requires { Holds undoable.now.schema (C.shape undoable.now.rows) (C.plain undoable.now.rows) undoable.now.inverses.items }
+    requires { CanTakeBack undoable.now.schema (C.shape undoable.now.rows) (C.plain undoable.now.rows) undoable.now.inverses.items }
 {
     let got = undoable.walk(rt, alloc, index, reverse, first, ALL)?;
     let want = reference.walk(rt, alloc, index, reverse, first, ALL)?;
@@ -140,7 +140,7 @@ fn compare_list<C: Container>(
     reference: &Reference,
     index: usize,
 ) -> Result<(), Fail>
-    requires { Holds undoable.now.schema (C.shape undoable.now.rows) (C.plain undoable.now.rows) undoable.now.inverses.items }
+    requires { CanTakeBack undoable.now.schema (C.shape undoable.now.rows) (C.plain undoable.now.rows) undoable.now.inverses.items }
 {
     let first = undoable.first(rt, index);
     let last = undoable.last(rt, index);
@@ -161,7 +161,7 @@ fn compare_bounds<C: Container>(
     index: usize,
     key: &[Value],
 )
-    requires { Holds undoable.now.schema (C.shape undoable.now.rows) (C.plain undoable.now.rows) undoable.now.inverses.items }
+    requires { CanTakeBack undoable.now.schema (C.shape undoable.now.rows) (C.plain undoable.now.rows) undoable.now.inverses.items }
 {
     let (lower, upper) = (
         undoable.lower(rt, index, key),
@@ -179,7 +179,7 @@ fn compare_bound_ranks<C: Container>(
     index: usize,
     key: &[Value],
 )
-    requires { Holds undoable.now.schema (C.shape undoable.now.rows) (C.plain undoable.now.rows) undoable.now.inverses.items }
+    requires { CanTakeBack undoable.now.schema (C.shape undoable.now.rows) (C.plain undoable.now.rows) undoable.now.inverses.items }
 {
     let lower = undoable.lower_rank(rt, index, key);
     let upper = undoable.upper_rank(rt, index, key);
@@ -195,7 +195,7 @@ fn compare_prefix<C: Container>(
     index: usize,
     key: &[Value],
 )
-    requires { Holds undoable.now.schema (C.shape undoable.now.rows) (C.plain undoable.now.rows) undoable.now.inverses.items }
+    requires { CanTakeBack undoable.now.schema (C.shape undoable.now.rows) (C.plain undoable.now.rows) undoable.now.inverses.items }
 {
     compare_bounds(rt, undoable, reference, index, key);
     compare_bound_ranks(rt, undoable, reference, index, key);
@@ -209,7 +209,7 @@ fn compare_bucket<C: Container>(
     index: usize,
     key: &[Value],
 )
-    requires { Holds undoable.now.schema (C.shape undoable.now.rows) (C.plain undoable.now.rows) undoable.now.inverses.items }
+    requires { CanTakeBack undoable.now.schema (C.shape undoable.now.rows) (C.plain undoable.now.rows) undoable.now.inverses.items }
 {
     let mut next = undoable.first_of(rt, index, key);
     assert_found(rt, next, reference.first_of(rt, index, key), key);
@@ -230,7 +230,7 @@ fn compare_key<C: Container>(
     index: usize,
     key: &[Value],
 )
-    requires { Holds undoable.now.schema (C.shape undoable.now.rows) (C.plain undoable.now.rows) undoable.now.inverses.items }
+    requires { CanTakeBack undoable.now.schema (C.shape undoable.now.rows) (C.plain undoable.now.rows) undoable.now.inverses.items }
 {
     assert_found(
         rt,
@@ -263,7 +263,7 @@ fn compare_keys<C: Container>(
     reference: &Reference,
     index: usize,
 ) -> Result<(), Fail>
-    requires { Holds undoable.now.schema (C.shape undoable.now.rows) (C.plain undoable.now.rows) undoable.now.inverses.items }
+    requires { CanTakeBack undoable.now.schema (C.shape undoable.now.rows) (C.plain undoable.now.rows) undoable.now.inverses.items }
 {
     for n in 0..undoable.rows.size() {
         if let Some(id) = undoable.nth(rt, BY_ID, n)
@@ -283,7 +283,7 @@ fn compare_ranks<C: Container>(
     reference: &Reference,
     index: usize,
 )
-    requires { Holds undoable.now.schema (C.shape undoable.now.rows) (C.plain undoable.now.rows) undoable.now.inverses.items }
+    requires { CanTakeBack undoable.now.schema (C.shape undoable.now.rows) (C.plain undoable.now.rows) undoable.now.inverses.items }
 {
     for n in 0..=undoable.rows.size() {
         let found = undoable.nth(rt, index, n);
@@ -302,7 +302,7 @@ pub(super) fn compare<C: Container>(
     undoable: &Undoable<C>,
     reference: &Reference,
 ) -> Result<(), Fail>
-    requires { Holds undoable.now.schema (C.shape undoable.now.rows) (C.plain undoable.now.rows) undoable.now.inverses.items }
+    requires { CanTakeBack undoable.now.schema (C.shape undoable.now.rows) (C.plain undoable.now.rows) undoable.now.inverses.items }
 {
     assert_eq!(rt; undoable.rows.size(), reference.size(rt));
     assert_eq!(rt; undoable.depth(), reference.depth());

@@ -3,7 +3,7 @@ use Rattle.std.proofs.Common.{◌≡◌, ◌∙◌, ◌<◌, [], map, length, se
 use Rattle.std.proofs.lemmas.List.{map-set, nil_from_length}
 use Rattle.mi_container.specs.Inverse.{settled}
 use Rattle.mi_database.specs.Journal.{Journal}
-use Rattle.mi_database.specs.Held.{kept_datas}
+use Rattle.mi_database.specs.LinkedData.{kept_datas}
 use Rattle.mi_database.proofs.LinkedDataLemmas.{set_data, same_shapes}
 use Rattle.mi_database.proofs.linked.keep.Goals as goal
 

@@ -1,5 +1,5 @@
 use Rattle.std.proofs.Common.{◌≡◌, ◌<◌, ◌+◌, ◌∙◌, arith}
-use Rattle.mi_tree.specs.Shape.{Shape, height, DifferByAtMost}
+use Rattle.mi_tree.specs.BinaryTree.{BinaryTree, height, DifferByAtMost}
 use Rattle.mi_tree.specs.Joining.{AreSides}
 use Rattle.mi_tree.proofs.BinaryTreeLemmas.{height-root, held-root}
 use Rattle.mi_tree.proofs.HeightLemmas.{low_enough}
@@ -10,7 +10,7 @@ use Rattle.mi_tree.proofs.balance.balance.Goals as goal
 
 module _ (g : Over) (c : After-height-right_height g) where
   -- the heights of the two sides
-  heights : {l q : Shape} → AreSides c.args.p.now c.args.slot c.args.left c.args.node c.args.right l q
+  heights : {l q : BinaryTree} → AreSides c.args.p.now c.args.slot c.args.left c.args.node c.args.right l q
       → (c.height-left_height.result ≡ height l) × (c.height-right_height.result ≡ height q)
   heights h = (
     c.height-left_height.ensures ∙ height-root c.args.p.now c.args.slot c.args.left _ h.left_is,

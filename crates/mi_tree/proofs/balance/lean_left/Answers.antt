@@ -1,5 +1,5 @@
 use Rattle.std.proofs.Common.{◌≡◌, ◌<◌, ◌≤◌, None, refl, ap, ◌∙◌, arith}
-use Rattle.mi_tree.specs.Shape.{Shape, IsRooted, height}
+use Rattle.mi_tree.specs.BinaryTree.{BinaryTree, IsRooted, height}
 use Rattle.mi_tree.specs.Joining.{AreSides}
 use Rattle.mi_tree.proofs.BinaryTreeLemmas.{moved, tip_is, height-root, held-root}
 use Rattle.mi_tree.proofs.RotationLemmas.{LeftOpened, left_opened, middle_opened, downs, left_boths}
@@ -9,13 +9,13 @@ use Rattle.mi_tree.proofs.balance.lean_left.Goals as goal
 
 module _ (g : Over) (c : After-link-link g) where
   -- the left side, opened
-  side : {l q : Shape} → AreSides c.args.p.now c.args.slot c.args.left c.args.node c.args.right l q
+  side : {l q : BinaryTree} → AreSides c.args.p.now c.args.slot c.args.left c.args.node c.args.right l q
       → LeftOpened c.args.p.now c.args.slot c.in-Some.left c.args.node c.args.right c.link-link.result l q
   side h = left_opened h c.in-Some.is c.link-link.ensures
 
 module _ (g : Over) (c : After-height-2 g) where
   -- the heights of the two below it
-  heights : (A B : Shape) → IsRooted c.args.p.now c.args.slot c.link-link.result.back A → IsRooted c.args.p.now c.args.slot c.link-link.result.forth B
+  heights : (A B : BinaryTree) → IsRooted c.args.p.now c.args.slot c.link-link.result.back A → IsRooted c.args.p.now c.args.slot c.link-link.result.forth B
       → (c.height.result ≡ height A) × (c.height-2.result ≡ height B)
   heights A B a b = (c.height.ensures ∙ height-root c.args.p.now c.args.slot _ A a, c.height-2.ensures ∙ height-root c.args.p.now c.args.slot _ B b)
 

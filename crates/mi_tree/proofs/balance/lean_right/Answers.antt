@@ -1,5 +1,5 @@
 use Rattle.std.proofs.Common.{◌≡◌, ◌<◌, ◌≤◌, None, refl, ap, ◌∙◌, arith}
-use Rattle.mi_tree.specs.Shape.{Shape, IsRooted, height}
+use Rattle.mi_tree.specs.BinaryTree.{BinaryTree, IsRooted, height}
 use Rattle.mi_tree.specs.Joining.{AreSides}
 use Rattle.mi_tree.proofs.BinaryTreeLemmas.{moved, tip_is, height-root, held-root}
 use Rattle.mi_tree.proofs.RotationLemmas.{RightOpened, right_opened, middle_opened, ups, right_boths}
@@ -9,13 +9,13 @@ use Rattle.mi_tree.proofs.balance.lean_right.Goals as goal
 
 module _ (g : Over) (c : After-link-link g) where
   -- the right side, opened
-  side : {l q : Shape} → AreSides c.args.p.now c.args.slot c.args.left c.args.node c.args.right l q
+  side : {l q : BinaryTree} → AreSides c.args.p.now c.args.slot c.args.left c.args.node c.args.right l q
       → RightOpened c.args.p.now c.args.slot c.args.left c.args.node c.in-Some.right c.link-link.result l q
   side h = right_opened h c.in-Some.is c.link-link.ensures
 
 module _ (g : Over) (c : After-height-2 g) where
   -- the heights of the two below it
-  heights : (B C : Shape) → IsRooted c.args.p.now c.args.slot c.link-link.result.back B → IsRooted c.args.p.now c.args.slot c.link-link.result.forth C
+  heights : (B C : BinaryTree) → IsRooted c.args.p.now c.args.slot c.link-link.result.back B → IsRooted c.args.p.now c.args.slot c.link-link.result.forth C
       → (c.height.result ≡ height C) × (c.height-2.result ≡ height B)
   heights B C b d = (c.height.ensures ∙ height-root c.args.p.now c.args.slot _ C d, c.height-2.ensures ∙ height-root c.args.p.now c.args.slot _ B b)
 

@@ -1,5 +1,5 @@
 use Rattle.std.proofs.Common.{None, [], List, ◌∷◌, Option, sym, subst}
-use Rattle.mi_tree.specs.Shape.{Shape, Fork, Tip, nodes}
+use Rattle.mi_tree.specs.BinaryTree.{BinaryTree, Fork, Tip, nodes}
 use Rattle.mi_tree.specs.Sorted.{AreTagged, CanPut, side}
 use Rattle.mi_tree.specs.Ways.{Falls}
 use Rattle.mi_tree.specs.declared.way.Turn.{Turn}
@@ -10,7 +10,7 @@ use Rattle.mi_tree.proofs.change.put_in.Goals as goal
 
 module _ (g : Over) (c : After-new-way g) where
   -- the way down begins at the root
-  start : {t : Shape} → CanPut c.args.p.now c.args.slot (side (g.O.NodeOrder.order c.args.order.now) c.args.p.now c.args.slot) c.args.root c.args.node t
+  start : {t : BinaryTree} → CanPut c.args.p.now c.args.slot (side (g.O.NodeOrder.order c.args.order.now) c.args.p.now c.args.slot) c.args.root c.args.node t
       → AreTagged (g.O.NodeOrder.tag_of c.args.order.now) c.args.p.now c.args.slot (c.args.node ∷ nodes t)
       → Falls c.args.p.now c.args.slot (side (g.O.NodeOrder.order c.args.order.now) c.args.p.now c.args.slot) (g.O.NodeOrder.tag_of c.args.order.now)
       c.new-way.result.items c.args.root c.args.node [] t

@@ -1,7 +1,7 @@
 use Rattle.std.proofs.Common.{◌≡◌, [], ◌∷◌, List, Option, Some, refl, sym, ap, ◌∙◌, subst}
 use Rattle.mi_node.specs.Pool.{link_of, IsHeld}
 use Rattle.mi_node.specs.Refs.{Ref}
-use Rattle.mi_tree.specs.Shape.{Shape, Fork, Tip, nodes, height}
+use Rattle.mi_tree.specs.BinaryTree.{BinaryTree, Fork, Tip, nodes, height}
 use Rattle.mi_tree.specs.Sorted.{CanTake}
 use Rattle.mi_tree.specs.Ways.{Frame, Sinks, HasSunk}
 use Rattle.mi_tree.specs.declared.way.Turn.{Turn}
@@ -10,17 +10,17 @@ use Rattle.mi_tree.proofs.change.take_first.Given.{Over}
 use Rattle.mi_tree.proofs.change.take_first.Goals.{After-new-way, After-go_first-first}
 use Rattle.mi_tree.proofs.change.take_first.Goals as goal
 
-module _ (g : Over) (c : After-new-way g) {t : Shape} {x : Ref} {ys : List Ref} where
+module _ (g : Over) (c : After-new-way g) {t : BinaryTree} {x : Ref} {ys : List Ref} where
   -- the way down begins at the root
   start : CanTake c.args.p.now c.args.slot (Some c.args.root) t → nodes t ≡ x ∷ ys
       → Sinks c.args.p.now c.args.slot c.new-way.result.items (Some c.args.root) [] t [] x ys [] ys
   start h e = subst (λ (k : List (Option Turn)). Sinks c.args.p.now c.args.slot k (Some c.args.root) [] t [] x ys [] ys) (sym c.new-way.ensures)
       (sinks_start h e)
 
-module _ (g : Over) (c : After-go_first-first g) {t : Shape} {x : Ref} {ys : List Ref} where
+module _ (g : Over) (c : After-go_first-first g) {t : BinaryTree} {x : Ref} {ys : List Ref} where
   -- it ends at the first node
   end : Sinks c.args.p.now c.args.slot c.new-way.result.items (Some c.args.root) [] t [] x ys [] ys
-      → (c.go_first-first.result ≡ x) × (gs : List Frame) × (B : Shape)
+      → (c.go_first-first.result ≡ x) × (gs : List Frame) × (B : BinaryTree)
       × HasSunk c.args.p.now c.go_first-first.new.p c.args.slot c.go_first-first.new.way.items [] x ys [] ys t gs Tip B
   end at = c.go_first-first.ensures.way [] t x ys [] ys at
 

@@ -1,6 +1,6 @@
 use Rattle.std.proofs.Common.{◌≡◌, [], List, ◌∷◌, ◌++◌, Option, Some, refl, sym, subst}
 use Rattle.mi_node.specs.Refs.{Ref}
-use Rattle.mi_tree.specs.Shape.{Shape, nodes}
+use Rattle.mi_tree.specs.BinaryTree.{BinaryTree, nodes}
 use Rattle.mi_tree.specs.Sorted.{CanTake, Rising, side}
 use Rattle.mi_tree.specs.Ways.{Frame, Sinks, HasSunk}
 use Rattle.mi_tree.specs.declared.way.Turn.{Turn}
@@ -9,17 +9,17 @@ use Rattle.mi_tree.proofs.change.take_out.Given.{Over}
 use Rattle.mi_tree.proofs.change.take_out.Goals.{After-new-way, After-go_to}
 use Rattle.mi_tree.proofs.change.take_out.Goals as goal
 
-module _ (g : Over) (c : After-new-way g) {t : Shape} {xs ys : List Ref} where
+module _ (g : Over) (c : After-new-way g) {t : BinaryTree} {xs ys : List Ref} where
   -- the way down begins at the root
   start : CanTake c.args.p.now c.args.slot c.args.root t → nodes t ≡ xs ++ c.args.node ∷ ys
       → Sinks c.args.p.now c.args.slot c.new-way.result.items c.args.root [] t xs c.args.node ys xs ys
   start can e = subst (λ (k : List (Option Turn)). Sinks c.args.p.now c.args.slot k c.args.root [] t xs c.args.node ys xs ys) (sym c.new-way.ensures)
       (sinks_start can e)
 
-module _ (g : Over) (c : After-go_to g) {t : Shape} {xs ys : List Ref} where
+module _ (g : Over) (c : After-go_to g) {t : BinaryTree} {xs ys : List Ref} where
   -- it ends at the node
   end : Sinks c.args.p.now c.args.slot c.new-way.result.items c.args.root [] t xs c.args.node ys xs ys
-      → Rising (side (g.O.NodeOrder.order c.args.order.now) c.args.p.now c.args.slot) (nodes t) → (gs : List Frame) × (A : Shape) × (B : Shape)
+      → Rising (side (g.O.NodeOrder.order c.args.order.now) c.args.p.now c.args.slot) (nodes t) → (gs : List Frame) × (A : BinaryTree) × (B : BinaryTree)
       × HasSunk c.args.p.now c.go_to.new.p c.args.slot c.go_to.new.way.items xs c.args.node ys xs ys t gs A B
   end at up = c.go_to.ensures.way [] t xs ys xs ys at up
 

@@ -1,6 +1,6 @@
 use Rattle.std.proofs.Common.{◌≡◌, ◌+◌, ◌-◌, suc, sym, ap, ◌∙◌, subst, arith}
 use Rattle.mi_node.specs.Pool.{Pooled, IsHeldIf}
-use Rattle.mi_tree.specs.Shape.{link_at}
+use Rattle.mi_tree.specs.BinaryTree.{link_at}
 use Rattle.mi_tree.proofs.BinaryTreeLemmas.{lower-moved}
 use Rattle.mi_tree.proofs.LookUpLemmas.{carry_start, carry_held, carry_lower, carry_ends, carry_left, carry_right, carry_none}
 use Rattle.mi_tree.proofs.look.nth_in.Given.{Over}

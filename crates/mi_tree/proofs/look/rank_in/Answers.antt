@@ -1,7 +1,7 @@
 use Rattle.std.proofs.Common.{◌≡◌, ◌+◌, ◌-◌, ◌<◌, ◌≤◌, ◌^◌, refl, sym, ap, ◌∙◌, subst, arith}
 use Rattle.mi_node.specs.Pool.{Pooled, link_of, IsHeld}
 use Rattle.mi_node.specs.declared.link.Link.{Link}
-use Rattle.mi_tree.specs.Shape.{size_at}
+use Rattle.mi_tree.specs.BinaryTree.{size_at}
 use Rattle.mi_tree.specs.Sorted.{side}
 use Rattle.mi_tree.proofs.BinaryTreeLemmas.{held-moved, lower-moved}
 use Rattle.mi_tree.proofs.SortedLemmas.{side_read, tagged_read}

@@ -1,5 +1,5 @@
 use Rattle.std.proofs.Common.{◌≡◌}
-use Rattle.mi_tree.specs.Shape.{height_at}
+use Rattle.mi_tree.specs.BinaryTree.{height_at}
 use Rattle.mi_tree.proofs.RankLemmas.{Ranking}
 use Rattle.mi_tree.proofs.look.rank_in.Given as goal
 

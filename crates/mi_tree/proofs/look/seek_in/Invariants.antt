@@ -1,6 +1,6 @@
 use Rattle.std.proofs.Common.{◌≡◌}
 use Rattle.mi_tree.specs.Probed.{is_past_node}
-use Rattle.mi_tree.specs.Shape.{height_at}
+use Rattle.mi_tree.specs.BinaryTree.{height_at}
 use Rattle.mi_tree.proofs.LookUpLemmas.{Seeking}
 use Rattle.mi_tree.proofs.look.seek_in.Given as goal
 

@@ -1,6 +1,6 @@
 use Rattle.std.proofs.Common.{◌≡◌, ◌+◌, max, ap, ◌∙◌, arith}
 use Rattle.mi_node.specs.declared.link.Link.{Link}
-use Rattle.mi_tree.specs.Shape.{size, height_at}
+use Rattle.mi_tree.specs.BinaryTree.{size, height_at}
 use Rattle.mi_tree.proofs.BinaryTreeLemmas.{size-root, height-root, held-root}
 use Rattle.mi_tree.proofs.JoinLemmas.{fork_of}
 use Rattle.mi_tree.proofs.parts.join.Given.{Over}

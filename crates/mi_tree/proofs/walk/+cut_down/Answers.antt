@@ -1,6 +1,6 @@
 use Rattle.std.proofs.Common.{◌≡◌, ℕ, suc, ◌+◌, ◌-◌, ◌<◌, ◌≤◌, cond, not, [], ◌∷◌, ◌++◌, length, Some, refl, ap, ◌∙◌, arith}
 use Rattle.mi_node.specs.Pool.{Pooled}
-use Rattle.mi_tree.specs.Shape.{Shape, IsRooted, nodes, size_at}
+use Rattle.mi_tree.specs.BinaryTree.{BinaryTree, IsRooted, nodes, size_at}
 use Rattle.mi_tree.specs.Walking.{is_ascending}
 use Rattle.mi_tree.proofs.BinaryTreeLemmas.{size-root, size-nodes, slot-moved}
 use Rattle.mi_tree.proofs.WalkLemmas.{entered, enters_left, enters_right, enters_lower, goes_moved, way_left, way_right}
@@ -19,7 +19,7 @@ module _ (g : Over) (t : ℕ) (c : After-size-before g t) where
   pool_is = c.size-before.ensures.pool ∙ c.link-link.ensures.pool
 
   -- the count is that of the left side's nodes
-  count_is : (l : Shape) → IsRooted c.args.p.now.pool c.args.slot c.link-link.result.back l → c.size-before.result ≡ length (nodes l)
+  count_is : (l : BinaryTree) → IsRooted c.args.p.now.pool c.args.slot c.link-link.result.back l → c.size-before.result ≡ length (nodes l)
   count_is l h = c.size-before.ensures.size ∙ ap (λ (z : Pooled g.row.T.Denot). size_at z c.args.slot c.link-link.result.back) c.link-link.ensures.pool
       ∙ size-root c.args.p.now.pool c.args.slot c.link-link.result.back l h ∙ size-nodes l
 

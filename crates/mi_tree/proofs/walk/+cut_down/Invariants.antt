@@ -1,4 +1,4 @@
-use Rattle.mi_tree.specs.Shape.{height_at}
+use Rattle.mi_tree.specs.BinaryTree.{height_at}
 use Rattle.mi_tree.proofs.walk.+cut_down.Given as goal
 
 abbrev pub decreases-cut_down : goal.decreases-cut_down

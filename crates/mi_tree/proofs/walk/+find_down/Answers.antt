@@ -1,7 +1,7 @@
 use Rattle.std.proofs.Common.{◌≡◌, ℕ, ◌<◌, cond, not, [], ◌∷◌, ◌++◌, length, None, Some, refl, sym, ap, ◌∙◌, subst, arith}
 use Rattle.mi_node.specs.Pool.{Pooled, link_of}
 use Rattle.mi_node.specs.declared.link.Link.{Link}
-use Rattle.mi_tree.specs.Shape.{nodes}
+use Rattle.mi_tree.specs.BinaryTree.{nodes}
 use Rattle.mi_tree.specs.Sorted.{AreTagged, side}
 use Rattle.mi_tree.specs.Walking.{is_ascending}
 use Rattle.mi_tree.proofs.BinaryTreeLemmas.{moved, tip_is, slot-moved}

@@ -1,4 +1,4 @@
-use Rattle.mi_tree.specs.Shape.{height_at}
+use Rattle.mi_tree.specs.BinaryTree.{height_at}
 use Rattle.mi_tree.proofs.walk.+find_down.Given as goal
 
 abbrev pub decreases-find_down : goal.decreases-find_down

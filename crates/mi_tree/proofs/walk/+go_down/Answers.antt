@@ -1,7 +1,7 @@
 use Rattle.std.proofs.Common.{ℕ, ◌<◌, List, ◌∷◌, length, Option, refl, sym, subst, arith}
 use Rattle.mi_node.specs.Pool.{Pooled}
 use Rattle.mi_node.specs.Refs.{Ref}
-use Rattle.mi_tree.specs.Shape.{Shape, height_at}
+use Rattle.mi_tree.specs.BinaryTree.{BinaryTree, height_at}
 use Rattle.mi_tree.specs.Walking.{Pending, Enters, Goes}
 use Rattle.mi_tree.proofs.WalkLemmas.{entered, ahead_near, nearer, farther}
 use Rattle.mi_tree.proofs.walk.+go_down.Goals as goal
@@ -21,7 +21,7 @@ go_down-requires g t c κs within =
     let o = entered w.3 c.in-Some.is c.link.ensures.link in
     let near = nearer d o.left o.right in
     let rest = record { node = r; after = farther d o.left o.right } ∷ w.1 in
-    let way : (levels : ℕ) × (xs : List Pending) × (k : Shape) × Enters c.link.new.self.pool s d levels c.push.new.self.items c.near-before.result xs k = (
+    let way : (levels : ℕ) × (xs : List Pending) × (k : BinaryTree) × Enters c.link.new.self.pool s d levels c.push.new.self.items c.near-before.result xs k = (
       w.0,
       rest,
       near,

@@ -1,4 +1,4 @@
-use Rattle.mi_tree.specs.Shape.{height_at}
+use Rattle.mi_tree.specs.BinaryTree.{height_at}
 use Rattle.mi_tree.proofs.walk.+go_down.Given as goal
 
 abbrev pub decreases-go_down : goal.decreases-go_down

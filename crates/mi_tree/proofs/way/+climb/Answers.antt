@@ -1,7 +1,7 @@
 use Rattle.std.proofs.Common.{◌≡◌, ℕ, ◌<◌, List, Option, Some, refl, sym, ◌∙◌, ap, subst, arith}
 use Rattle.mi_node.specs.Refs.{Ref}
 use Rattle.mi_node.specs.declared.link.Link.{Link}
-use Rattle.mi_tree.specs.Shape.{Shape, height_at}
+use Rattle.mi_tree.specs.BinaryTree.{BinaryTree, height_at}
 use Rattle.mi_tree.specs.Ways.{Frame, way_of, Climbs}
 use Rattle.mi_tree.proofs.BinaryTreeLemmas.{held-root}
 use Rattle.mi_tree.proofs.WayLemmas.{IsTurned, NextClimb, turned_back, no_turn, climbed_none, turn_held, shorter_way, climb_given, low_below}
@@ -17,7 +17,7 @@ module _ (g : Over) (t : ℕ) (c : In-Some g t) where
 
 module _ (g : Over) (t : ℕ) (c : After-rejoin-top g t) where
   -- the step up to the node of that turn, for each way that the turns may stand for
-  next : {fs : List Frame} {at : Option Ref} {h : ℕ} {u : Shape} → Climbs c.args.p.now c.args.slot c.args.root c.args.below c.args.way.now.items fs at h u
+  next : {fs : List Frame} {at : Option Ref} {h : ℕ} {u : BinaryTree} → Climbs c.args.p.now c.args.slot c.args.root c.args.below c.args.way.now.items fs at h u
       → NextClimb c.args.p.now c.rejoin-top.new.p c.args.slot c.args.root c.pop.new.self.items fs h u c.in-Some.turn c.link-before.result.height
       c.rejoin-top.result
   next k = next_climb k (turned_back k.path_is c.pop.ensures.rest c.pop.ensures.value (sym c.flatten.ensures ∙ c.in-Some.is)) refl

@@ -1,6 +1,6 @@
 use Rattle.std.proofs.Common.{ℕ, ◌<◌, List, [], length, Some, refl, sym, ◌∙◌, subst, arith}
 use Rattle.mi_node.specs.Refs.{Ref}
-use Rattle.mi_tree.specs.Shape.{Shape, Tip}
+use Rattle.mi_tree.specs.BinaryTree.{BinaryTree, Tip}
 use Rattle.mi_tree.specs.Ways.{Frame, Sinks}
 use Rattle.mi_tree.proofs.RemovalWayLemmas.{NextSink, sunk_first, keeps_here, room_here, next_first}
 use Rattle.mi_tree.proofs.way.+go_first.Given.{Over}
@@ -9,7 +9,8 @@ use Rattle.mi_tree.proofs.way.+go_first.Goals as goal
 
 module _ (g : Over) (t : ℕ) (c : After-push g t) where
   -- the step down from the node here, for each way that the turns may stand for
-  next : {fs : List Frame} {u : Shape} {x : Ref} {ys vs ws : List Ref} → Sinks c.args.p.now c.args.slot c.args.way.now.items (Some c.args.at) fs u [] x ys vs ws
+  next : {fs : List Frame} {u : BinaryTree} {x : Ref} {ys vs ws : List Ref}
+      → Sinks c.args.p.now c.args.slot c.args.way.now.items (Some c.args.at) fs u [] x ys vs ws
       → NextSink c.args.p.now c.set_link.new.self c.args.slot c.push.new.self.items (Some c.args.at) (Some c.in-Some.left) fs u [] x ys vs ws []
   next h = next_first h refl c.link-link.ensures c.set_link.ensures c.in-Some.is refl c.push.ensures.items
 

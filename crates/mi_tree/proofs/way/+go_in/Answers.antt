@@ -1,6 +1,6 @@
 use Rattle.std.proofs.Common.{ℕ, ◌<◌, List, length, refl, sym, ap, ◌∙◌, subst, arith}
 use Rattle.mi_node.specs.declared.link.Link.{Link}
-use Rattle.mi_tree.specs.Shape.{Shape}
+use Rattle.mi_tree.specs.BinaryTree.{BinaryTree}
 use Rattle.mi_tree.specs.Sorted.{side}
 use Rattle.mi_tree.specs.Ways.{Frame, Falls}
 use Rattle.mi_tree.proofs.SortedLemmas.{side_read, tagged_read}
@@ -11,7 +11,7 @@ use Rattle.mi_tree.proofs.way.+go_in.Goals as goal
 
 module _ (g : Over) (t : ℕ) (c : After-child-next g t) where
   -- the step down from the node here, for each way that the turns may stand for
-  next : {fs : List Frame} {u : Shape}
+  next : {fs : List Frame} {u : BinaryTree}
       → Falls c.args.p.now c.args.slot (side (g.O.NodeOrder.order c.args.order.now) c.args.p.now c.args.slot) (g.O.NodeOrder.tag_of c.args.order.now)
       c.args.way.now.items c.args.at c.args.node fs u
       → NextFall c.args.p.now c.set_link.new.self c.args.slot (g.O.NodeOrder.order c.args.order.now) (g.O.NodeOrder.tag_of c.args.order.now)

@@ -1,4 +1,4 @@
-use Rattle.mi_tree.specs.Shape.{height_at}
+use Rattle.mi_tree.specs.BinaryTree.{height_at}
 use Rattle.mi_tree.proofs.way.+go_in.Given as goal
 
 abbrev pub decreases-go_in : goal.decreases-go_in

@@ -1,7 +1,7 @@
 use Rattle.std.proofs.Common.{◌≡◌, ℕ, ◌<◌, List, ◌∷◌, length, None, refl, sym, ap, ◌∙◌, subst, arith}
 use Rattle.mi_node.specs.Refs.{Ref}
 use Rattle.mi_node.specs.declared.link.Link.{Link}
-use Rattle.mi_tree.specs.Shape.{Shape, nodes}
+use Rattle.mi_tree.specs.BinaryTree.{BinaryTree, nodes}
 use Rattle.mi_tree.specs.Sorted.{AreTagged, side, Rising}
 use Rattle.mi_tree.specs.Ways.{Frame, Sinks}
 use Rattle.mi_tree.proofs.BinaryTreeLemmas.{moved, tip_is}
@@ -21,7 +21,8 @@ module _ (g : Over) (t : ℕ) (c : After-compare_nodes-side g t) where
 module _ (g : Over) (t : ℕ) (c : After-child-next g t)
     (found : side (g.O.NodeOrder.order c.args.order.now) c.args.p.now c.args.slot c.args.node c.in-Some.here ≡ c.compare_nodes-side.result) where
   -- the step down from the node here, for each way that the turns may stand for
-  next : {fs : List Frame} {u : Shape} {xs ys vs ws : List Ref} → Sinks c.args.p.now c.args.slot c.args.way.now.items c.args.at fs u xs c.args.node ys vs ws
+  next : {fs : List Frame} {u : BinaryTree} {xs ys vs ws : List Ref}
+      → Sinks c.args.p.now c.args.slot c.args.way.now.items c.args.at fs u xs c.args.node ys vs ws
       → Rising (side (g.O.NodeOrder.order c.args.order.now) c.args.p.now c.args.slot) (nodes u)
       → (us : List Ref) × (o : NextSink c.args.p.now c.set_link.new.self c.args.slot c.push.new.self.items c.args.at c.child-next.result fs u xs c.args.node
       ys vs ws us) × Rising (side (g.O.NodeOrder.order c.args.order.now) c.set_link.new.self c.args.slot) (nodes o.sub)

@@ -1,4 +1,4 @@
-use Rattle.mi_tree.specs.Shape.{height_at}
+use Rattle.mi_tree.specs.BinaryTree.{height_at}
 use Rattle.mi_tree.proofs.way.+go_to.Given as goal
 
 abbrev pub decreases-go_to : goal.decreases-go_to

@@ -1,6 +1,6 @@
 use Rattle.std.proofs.Common.{◌≡◌, List, Option, Some, refl, sym, ap, ◌∙◌}
 use Rattle.mi_node.specs.Refs.{Ref}
-use Rattle.mi_tree.specs.Shape.{Shape, height}
+use Rattle.mi_tree.specs.BinaryTree.{BinaryTree, height}
 use Rattle.mi_node.specs.Pool.{Pooled, with_link}
 use Rattle.mi_node.specs.declared.link.Link.{Link}
 use Rattle.mi_node.proofs.EntryLemmas.{slots-with_link}
@@ -16,7 +16,7 @@ module _ (g : Over) (c : In-Some g) where
   turned : (fs : List Frame) → c.args.way.now.items ≡ way_of fs → IsTurned fs c.pop.new.self.items c.in-Some.turn
   turned fs e = turned_back e c.pop.ensures.rest c.pop.ensures.value (sym c.flatten.ensures ∙ c.in-Some.is)
 
-module _ (g : Over) (c : After-set_link g) {fs : List Frame} {at : Option Ref} {u : Shape} where
+module _ (g : Over) (c : After-set_link g) {fs : List Frame} {at : Option Ref} {u : BinaryTree} where
   -- the tree is in place
   placed : Climbs c.args.p.now c.args.slot c.args.root (Some c.args.top) c.args.way.now.items fs at (height u) u
       → IsTurned fs c.pop.new.self.items c.in-Some.turn

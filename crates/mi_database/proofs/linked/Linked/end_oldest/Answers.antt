@@ -1,8 +1,8 @@
 -- until the oldest session has no entry
 use Rattle.std.proofs.Common.{◌∙◌, ◌+◌, ap, sym, subst, arith}
 use Rattle.mi_journal.specs.Noted.{OldestIsEmpty}
-use Rattle.mi_database.specs.Held.{Held, EndsOldest}
-use Rattle.mi_database.proofs.LoopLemmas.{held, settling_from, settling_more, settled_up, ends_law, ended_law}
+use Rattle.mi_database.specs.LinkedData.{LinkedData, EndsOldest}
+use Rattle.mi_database.proofs.LoopLemmas.{linked_data, settling_from, settling_more, settled_up, ends_law, ended_law}
 use Rattle.mi_database.proofs.linked.Linked.end_oldest.Goals as goal
 
 pub loop-init : goal.loop-init
@@ -18,7 +18,7 @@ loop-preserved g c =
 
 pub end_oldest-requires : goal.end_oldest-requires
 end_oldest-requires g c =
-    subst OldestIsEmpty (sym (ap (λ (h : Held). h.journal) c.self.view_is))
+    subst OldestIsEmpty (sym (ap (λ (h : LinkedData). h.journal) c.self.view_is))
     (settled_up c.args.self.now c.loop.self c.settle_one.new.self c.loop.invariant c.loop-test.ensures.settles c.requires)
 
 pub invariant_of-self : goal.invariant_of-self
@@ -32,7 +32,7 @@ returns g c =
     let j = c.end_oldest.new.self in
     let next = c.settle_one.new.self in
     let was = c.self.view_is in
-    subst (λ (h : Held). EndsOldest c.args.self.now (held h.catalog h.datas j.sessions h.revision j.changes j.starts)) (sym was)
+    subst (λ (h : LinkedData). EndsOldest c.args.self.now (linked_data h.catalog h.datas j.sessions h.revision j.changes j.starts)) (sym was)
     (ended_law c.args.self.now c.loop.self next j.sessions j.changes j.starts c.loop.invariant e.settles e.catalog e.revision e.changes e.starts
-    (sym (ap (λ (h : Held). h.journal) was) ∙ c.end_oldest.ensures.sessions) (c.end_oldest.ensures.changes ∙ ap (λ (h : Held). h.changes) was)
-    (c.end_oldest.ensures.starts ∙ ap (λ (h : Held). h.starts + 1) was))
+    (sym (ap (λ (h : LinkedData). h.journal) was) ∙ c.end_oldest.ensures.sessions) (c.end_oldest.ensures.changes ∙ ap (λ (h : LinkedData). h.changes) was)
+    (c.end_oldest.ensures.starts ∙ ap (λ (h : LinkedData). h.starts + 1) was))

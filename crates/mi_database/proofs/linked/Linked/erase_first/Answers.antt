@@ -4,7 +4,7 @@ use Rattle.mi_catalog.specs.Shape.{Shape}
 use Rattle.mi_model.specs.Table.{Table}
 use Rattle.mi_model.specs.Lookup.{find}
 use Rattle.mi_model.specs.Database.{Database, schema_of, table_of}
-use Rattle.mi_database.specs.Held.{meaning}
+use Rattle.mi_database.specs.LinkedData.{meaning}
 use Rattle.mi_database.specs.Keyed.{keyed, ErasesOne}
 use Rattle.mi_database.proofs.KeyLemmas.{erases_first, erased_there, erases_one, some_found}
 use Rattle.mi_database.proofs.KeptLemmas.{first_keeps}

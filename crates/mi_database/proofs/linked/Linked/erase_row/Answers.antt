@@ -9,9 +9,9 @@ use Rattle.mi_model.specs.Run.Command.{Erase as EraseCommand}
 use Rattle.mi_container.specs.Inverse.{keeps}
 use Rattle.mi_container.specs.Run.Change.{Erase}
 use Rattle.mi_journal.specs.Noted.{noted}
-use Rattle.mi_database.specs.Held.{Held, meaning}
+use Rattle.mi_database.specs.LinkedData.{LinkedData, meaning}
 use Rattle.mi_database.proofs.LinkedDataLemmas.{Made, some_change}
-use Rattle.mi_database.proofs.LoopLemmas.{held}
+use Rattle.mi_database.proofs.LoopLemmas.{linked_data}
 use Rattle.mi_database.proofs.KeptLemmas.{erase_keeps, erase_refused, refused_keeps, met_refusal}
 use Rattle.mi_database.proofs.ChangeLemmas.{Spot, spot, spot_keeps, spot_made, spot_held, spot_outcome, spot_stays, spot_refused}
 use Rattle.mi_database.proofs.linked.Linked.erase_row.Given.{Over}
@@ -63,18 +63,19 @@ returns-in-Err-clause-outcome g c =
 pub returns-in-Ok-clause-footprint : goal.returns-in-Ok-clause-footprint
 returns-in-Ok-clause-footprint g c =
     let a = c.self.inside in
-    let new : Held = held a.catalog (map g.C.Container.plain c.keep.new.containers.items) c.keep.new.journal.sessions a.revision c.keep.new.journal.changes
+    let new : LinkedData = linked_data a.catalog (map g.C.Container.plain c.keep.new.containers.items) c.keep.new.journal.sessions a.revision
+    c.keep.new.journal.changes
     c.keep.new.journal.starts in
     erase_keeps c.args.table c.args.id c.args.self.now new c.in-Ok.inverse (ap keeps c.in-Ok.ensures.made.inverse)
-    (c.keep.ensures.journal ∙ ap (λ (h : Held). noted (c.args.table, c.in-Ok.inverse) h.journal) c.self.view_is) (returns-in-Ok-clause-outcome g c).0
+    (c.keep.ensures.journal ∙ ap (λ (h : LinkedData). noted (c.args.table, c.in-Ok.inverse) h.journal) c.self.view_is) (returns-in-Ok-clause-outcome g c).0
 
 pub returns-in-Err-clause-footprint : goal.returns-in-Err-clause-footprint
 returns-in-Err-clause-footprint g c =
     let a = c.self.inside in
-    let new : Held = held a.catalog (map g.C.Container.plain (set a.containers.items c.args.table c.erase.new.self)) a.journal.sessions a.revision
+    let new : LinkedData = linked_data a.catalog (map g.C.Container.plain (set a.containers.items c.args.table c.erase.new.self)) a.journal.sessions a.revision
     a.journal.changes a.journal.starts in
     let never : c.in-Err.refused ≢ Memory = c.in-Err.ensures.memory in
     refused_keeps (EraseCommand c.args.table c.args.id) c.in-Err.refused c.args.self.now new never
-    (erase_refused c.args.table c.args.id c.args.self.now new c.in-Err.refused (ap (λ (h : Held). h.journal) c.self.view_is)
+    (erase_refused c.args.table c.args.id c.args.self.now new c.in-Err.refused (ap (λ (h : LinkedData). h.journal) c.self.view_is)
     (met_refusal (erase_step c.args.table c.args.id (meaning c.args.self.now)) c.in-Err.refused (meaning c.args.self.now) (meaning new) never
     (returns-in-Err-clause-outcome g c)))

@@ -1,9 +1,9 @@
 -- the oldest entry is settled
 use Rattle.std.proofs.Common.{◌<◌, map, set, sym, subst}
 use Rattle.mi_container.specs.Fits.{KeptBy}
-use Rattle.mi_database.specs.Held.{Held, SettlesSome}
+use Rattle.mi_database.specs.LinkedData.{LinkedData, SettlesSome}
 use Rattle.mi_database.proofs.LinkedDataLemmas.{set_data}
-use Rattle.mi_database.proofs.LoopLemmas.{held, oldest_within, settle_law}
+use Rattle.mi_database.proofs.LoopLemmas.{linked_data, oldest_within, settle_law}
 use Rattle.mi_database.proofs.linked.Linked.settle_one.Goals as goal
 
 pub index_mut-requires : goal.index_mut-requires
@@ -33,9 +33,10 @@ invariant_of-self-2 g c =
 pub returns-clause-settles : goal.returns-clause-settles
 returns-clause-settles g c =
     let a = c.self.inside in
-    let new : Held = held a.catalog (map g.C.Container.plain (set a.containers.items c.in-Some.table c.settle.new.self)) c.take_oldest.new.self.sessions
+    let new : LinkedData = linked_data a.catalog (map g.C.Container.plain (set a.containers.items c.in-Some.table c.settle.new.self))
+    c.take_oldest.new.self.sessions
     a.revision c.take_oldest.new.self.changes c.take_oldest.new.self.starts in
-    subst (λ (h : Held). SettlesSome h new) c.self.view_is
+    subst (λ (h : LinkedData). SettlesSome h new) c.self.view_is
     (settle_law g.C.Container.shape g.C.Container.plain a.catalog a.containers.items c.in-Some.table c.in-Some.inverse a.revision a.journal.changes
     a.journal.starts
     a.journal.sessions c.take_oldest.new.self.sessions c.index_mut.result.now c.settle.new.self c.take_oldest.new.self.changes c.take_oldest.new.self.starts

@@ -1,6 +1,6 @@
 -- what is left of the newest session takes back what all of it does
 use Rattle.std.proofs.Common.{length}
-use Rattle.mi_database.specs.Held.{newest_of}
+use Rattle.mi_database.specs.LinkedData.{newest_of}
 use Rattle.mi_database.proofs.LoopLemmas.{Unwinding}
 use Rattle.mi_database.proofs.linked.Linked.unwind_newest.Given as goal
 

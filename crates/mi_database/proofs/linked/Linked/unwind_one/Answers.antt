@@ -1,6 +1,6 @@
 -- the newest entry is taken back
 use Rattle.std.proofs.Common.{◌∙◌, ap, sym}
-use Rattle.mi_database.specs.Held.{Held, newest_of, back_by}
+use Rattle.mi_database.specs.LinkedData.{LinkedData, newest_of, back_by}
 use Rattle.mi_database.proofs.LoopLemmas.{unwind_law}
 use Rattle.mi_database.proofs.linked.Linked.unwind_one.Goals as goal
 
@@ -19,4 +19,4 @@ returns-clause-datas g c =
     a.revision a.journal.changes a.journal.starts 0 0
     a.journal.sessions c.pop.new.self.sessions (sym c.in-Some.is ∙ c.pop.ensures.entry) c.pop.ensures.sessions c.index_mut.ensures.value c.unwind.ensures.plain
     c.unwind.ensures.shape c.self.invariant).1
-    ∙ ap (λ (h : Held). back_by (newest_of h.journal) h.datas) c.self.view_is
+    ∙ ap (λ (h : LinkedData). back_by (newest_of h.journal) h.datas) c.self.view_is

@@ -1,6 +1,6 @@
 -- one session after another ends
 use Rattle.std.proofs.Common.{◌≡◌, ◌∙◌, ◌-◌, ◌≤◌, min, ap, length, subst, arith}
-use Rattle.mi_database.specs.Held.{Held}
+use Rattle.mi_database.specs.LinkedData.{LinkedData}
 use Rattle.mi_database.proofs.KeptLemmas.{end_keeps}
 use Rattle.mi_database.proofs.EndLemmas.{Ending, ending_from, ending_more, ended_all}
 use Rattle.mi_database.proofs.sessions.LinkedSessions.commit.Goals as goal
@@ -16,9 +16,9 @@ returns-clause-answer g c =
     let first = c.args.self.now in
     let last = c.loop.auto.counter-end in
     let done : c.loop.counter ≡ c.min-ending.result = omega (arith, last, c.loop-test.false) in
-    let revision : c.self.inside.revision ≡ first.revision = ap (λ (h : Held). h.revision) c.self.view_is in
-    let opens : c.depth-open.result ≡ length first.journal = c.depth-open.ensures ∙ ap (λ (h : Held). length h.journal) c.self.view_is in
-    let within : length first.journal ≤ first.revision = subst (λ (h : Held). length h.journal ≤ h.revision) c.self.view_is c.self.invariant.numbered in
+    let revision : c.self.inside.revision ≡ first.revision = ap (λ (h : LinkedData). h.revision) c.self.view_is in
+    let opens : c.depth-open.result ≡ length first.journal = c.depth-open.ensures ∙ ap (λ (h : LinkedData). length h.journal) c.self.view_is in
+    let within : length first.journal ≤ first.revision = subst (λ (h : LinkedData). length h.journal ≤ h.revision) c.self.view_is c.self.invariant.numbered in
     let many : c.min-ending.result ≡ min (c.args.number - (first.revision - c.depth-open.result)) c.depth-open.result =
     c.min-ending.ensures ∙ ap (λ n. min n c.depth-open.result) (c.saturating_sub.ensures ∙ ap (λ n. c.args.number - (n - c.depth-open.result)) revision) in
     (ended_all c.min-ending.result c.args.number c.depth-open.result first c.loop.self
@@ -29,9 +29,9 @@ returns-clause-state g c =
     let first = c.args.self.now in
     let last = c.loop.auto.counter-end in
     let done : c.loop.counter ≡ c.min-ending.result = omega (arith, last, c.loop-test.false) in
-    let revision : c.self.inside.revision ≡ first.revision = ap (λ (h : Held). h.revision) c.self.view_is in
-    let opens : c.depth-open.result ≡ length first.journal = c.depth-open.ensures ∙ ap (λ (h : Held). length h.journal) c.self.view_is in
-    let within : length first.journal ≤ first.revision = subst (λ (h : Held). length h.journal ≤ h.revision) c.self.view_is c.self.invariant.numbered in
+    let revision : c.self.inside.revision ≡ first.revision = ap (λ (h : LinkedData). h.revision) c.self.view_is in
+    let opens : c.depth-open.result ≡ length first.journal = c.depth-open.ensures ∙ ap (λ (h : LinkedData). length h.journal) c.self.view_is in
+    let within : length first.journal ≤ first.revision = subst (λ (h : LinkedData). length h.journal ≤ h.revision) c.self.view_is c.self.invariant.numbered in
     let many : c.min-ending.result ≡ min (c.args.number - (first.revision - c.depth-open.result)) c.depth-open.result =
     c.min-ending.ensures ∙ ap (λ n. min n c.depth-open.result) (c.saturating_sub.ensures ∙ ap (λ n. c.args.number - (n - c.depth-open.result)) revision) in
     (ended_all c.min-ending.result c.args.number c.depth-open.result first c.loop.self

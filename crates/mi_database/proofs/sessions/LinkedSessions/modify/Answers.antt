@@ -8,9 +8,9 @@ use Rattle.mi_model.specs.Steps.{Meets, modify_step}
 use Rattle.mi_container.specs.Inverse.{lost_to}
 use Rattle.mi_container.specs.Makes.{MeetsOn}
 use Rattle.mi_journal.specs.Noted.{noted}
-use Rattle.mi_database.specs.Held.{Held, meaning}
+use Rattle.mi_database.specs.LinkedData.{LinkedData, meaning}
 use Rattle.mi_database.proofs.LinkedDataLemmas.{Made, some_modify}
-use Rattle.mi_database.proofs.LoopLemmas.{held}
+use Rattle.mi_database.proofs.LoopLemmas.{linked_data}
 use Rattle.mi_database.proofs.KeptLemmas.{modify_keeps, modify_kept, modify_refused}
 use Rattle.mi_database.proofs.ChangeLemmas.{Spot, spot, spot_keeps, spot_made, spot_held, spot_outcome, spot_stays, spot_refused}
 use Rattle.mi_database.proofs.sessions.LinkedSessions.modify.Given.{Over}
@@ -52,7 +52,8 @@ returns-in-Ok-clause-outcome g c =
     let o = goal.at.returns-in-Ok-clause-outcome g c in let at = before g o.After-modify in
     spot_outcome _ _ at c.modify.new.self c.in-Ok.inverse c.keep.new.containers.items c.keep.new.journal
     (λ s t. modify_outcome s c.args.id c.args.edits.now c.args.rollback t) c.modified-answer.result (made g o.After-keep at)
-    (subst (λ (a : Result (Unit {0}) Refusal). MeetsOn (modify_outcome (g.C.Container.shape c.index_mut.result.now) c.args.id c.args.edits.now c.args.rollback) a
+    (subst (λ (a : Result (Unit {0}) Refusal). MeetsOn
+    (modify_outcome (g.C.Container.shape c.index_mut.result.now) c.args.id c.args.edits.now c.args.rollback) a
     (g.C.Container.plain c.index_mut.result.now) (g.C.Container.plain c.modify.new.self)) (sym c.modified-answer.ensures) c.in-Ok.ensures.outcome)
 
 pub returns-in-Err-clause-outcome : goal.returns-in-Err-clause-outcome
@@ -65,9 +66,11 @@ pub returns-in-Ok-clause-footprint : goal.returns-in-Ok-clause-footprint
 returns-in-Ok-clause-footprint g c =
     let a = c.self.inside in
     let old = c.args.self.now in
-    let new : Held = held a.catalog (map g.C.Container.plain c.keep.new.containers.items) c.keep.new.journal.sessions a.revision c.keep.new.journal.changes
+    let new : LinkedData = linked_data a.catalog (map g.C.Container.plain c.keep.new.containers.items) c.keep.new.journal.sessions a.revision
+    c.keep.new.journal.changes
     c.keep.new.journal.starts in
-    let journal = c.keep.ensures.journal ∙ ap (λ (h : Held). noted (c.args.table, c.in-Ok.inverse) h.journal) (c.self.view_is ∙ c.make_room.ensures.same) in
+    let journal = c.keep.ensures.journal ∙ ap (λ (h : LinkedData). noted (c.args.table, c.in-Ok.inverse) h.journal)
+    (c.self.view_is ∙ c.make_room.ensures.same) in
     modify_kept c.args.table c.args.id c.args.edits.now c.args.rollback old new c.modified-answer.result (lost_to c.in-Ok.inverse) c.modified-answer.ensures
     (modify_keeps c.args.table c.args.id c.args.edits.now c.args.rollback old new _ _ c.in-Ok.inverse _ c.in-Ok.ensures.made journal
     (subst (λ (r : Result (Unit {0}) Refusal). Meets (modify_step c.args.table c.args.id c.args.edits.now c.args.rollback (meaning old)) r (meaning old)
@@ -76,7 +79,7 @@ returns-in-Ok-clause-footprint g c =
 pub returns-in-Err-clause-footprint : goal.returns-in-Err-clause-footprint
 returns-in-Err-clause-footprint g c =
     let a = c.self.inside in
-    let new : Held = held a.catalog (map g.C.Container.plain (set a.containers.items c.args.table c.modify.new.self)) a.journal.sessions a.revision
+    let new : LinkedData = linked_data a.catalog (map g.C.Container.plain (set a.containers.items c.args.table c.modify.new.self)) a.journal.sessions a.revision
     a.journal.changes a.journal.starts in
     modify_refused c.args.table c.args.id c.args.edits.now c.args.rollback c.args.self.now new c.in-Err.refused
-    (ap (λ (h : Held). h.journal) (c.self.view_is ∙ c.make_room.ensures.same)) c.in-Err.ensures.loss (returns-in-Err-clause-outcome g c)
+    (ap (λ (h : LinkedData). h.journal) (c.self.view_is ∙ c.make_room.ensures.same)) c.in-Err.ensures.loss (returns-in-Err-clause-outcome g c)

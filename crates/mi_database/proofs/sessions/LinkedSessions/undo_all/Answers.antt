@@ -2,7 +2,7 @@
 use Rattle.std.proofs.Common.{◌≡◌, ℕ, suc, ◌-◌, ◌+◌, ◌<◌, length, ap, sym, ◌∙◌, arith}
 use Rattle.mi_database.proofs.JournalLemmas.{length-old}
 use Rattle.mi_model.specs.Database.{undone_times}
-use Rattle.mi_database.specs.Held.{meaning}
+use Rattle.mi_database.specs.LinkedData.{meaning}
 use Rattle.mi_database.proofs.EndLemmas.{undo_leaves}
 use Rattle.mi_database.proofs.sessions.LinkedSessions.undo_all.Goals as goal
 

@@ -5,4 +5,5 @@ use Rattle.mi_structures.proofs.tests.list.nodes_leave_and_come_back.Goals as go
 
 pub fill-requires-clause-listed : goal.fill-requires-clause-listed
 fill-requires-clause-listed g c =
-    let fits : 1 < c.take_three-nodes.new.pool.slots = grind (arith, slot_counts) in listed_new c.new-list.result 1 c.take_three-nodes.new.pool c.new-list.ensures fits
+    let fits : 1 < c.take_three-nodes.new.pool.slots = grind (arith, slot_counts) in
+    listed_new c.new-list.result 1 c.take_three-nodes.new.pool c.new-list.ensures fits

@@ -22,7 +22,8 @@ pub returns-clause-third : goal.returns-clause-third
 returns-clause-third g c =
     let one = c.take-one.result in let m = c.take-one.new.pool in let n = c.take-two.new.pool in
     apart_of_free n one c.take-three.result
-    (held_then m n one c.take-two.result _ c.take-two.ensures.pool c.take-two.ensures.free (held_now _ m one _ c.take-one.ensures.pool)) c.take-three.ensures.free
+    (held_then m n one c.take-two.result _ c.take-two.ensures.pool c.take-two.ensures.free (held_now _ m one _ c.take-one.ensures.pool))
+    c.take-three.ensures.free
 
 pub returns-clause-last : goal.returns-clause-last
 returns-clause-last g c = apart_of_free c.take-two.new.pool c.take-two.result c.take-three.result

@@ -1,6 +1,6 @@
 use Rattle.std.proofs.Common.{◌≡◌, ◌+◌, ◌<◌, ◌^◌, suc, ◌∷◌, ◌++◌, length, sym, ap, ◌∙◌, subst, arith, length-append}
 use Rattle.mi_node.specs.Pool.{Pooled}
-use Rattle.mi_tree.specs.Shape.{nth_of}
+use Rattle.mi_tree.specs.BinaryTree.{nth_of}
 use Rattle.mi_tree.specs.Standing.{IsTree}
 use Rattle.mi_tree.proofs.BinaryTreeLemmas.{nth-after, nth-first}
 use Rattle.mi_tree.proofs.tree.Tree.next.Goals as goal

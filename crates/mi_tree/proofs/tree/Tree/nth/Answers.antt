@@ -1,5 +1,5 @@
 use Rattle.std.proofs.Common.{ap, ◌∙◌, arith}
-use Rattle.mi_tree.specs.Shape.{nth_of}
+use Rattle.mi_tree.specs.BinaryTree.{nth_of}
 use Rattle.mi_tree.proofs.StandingLemmas.{bound}
 use Rattle.mi_tree.proofs.tree.Tree.nth.Goals as goal
 

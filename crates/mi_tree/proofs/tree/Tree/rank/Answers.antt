@@ -1,7 +1,7 @@
 use Rattle.std.proofs.Common.{◌≡◌, List, ◌∷◌, ◌++◌, length, sym, subst, arith}
 use Rattle.mi_node.specs.Pool.{Pooled}
 use Rattle.mi_node.specs.Refs.{Ref}
-use Rattle.mi_tree.specs.Shape.{Shape, nodes, IsRooted}
+use Rattle.mi_tree.specs.BinaryTree.{BinaryTree, nodes, IsRooted}
 use Rattle.mi_tree.specs.Sorted.{CanTake, Rising, AreTagged, side}
 use Rattle.mi_tree.proofs.StandingLemmas.{bound, bound_node, can_take, rising_in, tagged_in, node_held}
 use Rattle.mi_tree.proofs.tree.Tree.rank.Given.{Over}
@@ -10,7 +10,7 @@ use Rattle.mi_tree.proofs.tree.Tree.rank.Goals as goal
 
 module _ (g : Over) (c : After-link g) where
   -- the tree stands in the pool that was read
-  rooted : (t : Shape) → IsRooted c.args.p.now.pool c.args.self.now.slot c.args.self.now.root t
+  rooted : (t : BinaryTree) → IsRooted c.args.p.now.pool c.args.self.now.slot c.args.self.now.root t
       → IsRooted c.link.new.self.pool c.args.self.now.slot c.args.self.now.root t
   rooted t h = subst (λ (z : Pooled g.row.T.Denot). IsRooted z c.args.self.now.slot c.args.self.now.root t) (sym c.link.ensures.pool) h
 
@@ -20,14 +20,14 @@ link-requires-clause-held g c = let w = c.requires in node_held w.0 c.args.node 
 pub rank_in-requires-clause-tree : goal.rank_in-requires-clause-tree
 rank_in-requires-clause-tree g c =
     let l = c.args.self.now in let s = l.slot in let w = c.requires in
-    subst (λ (z : Pooled g.row.T.Denot). (t : Shape) × (xs : List Ref) × (ys : List Ref) × CanTake z s l.root t
+    subst (λ (z : Pooled g.row.T.Denot). (t : BinaryTree) × (xs : List Ref) × (ys : List Ref) × CanTake z s l.root t
     × Rising (side (g.O.NodeOrder.order l.order) z s) (nodes t) × AreTagged (g.O.NodeOrder.tag_of l.order) z s (nodes t) × (nodes t ≡ xs ++ c.args.node ∷ ys))
     (sym c.link.ensures.pool) (w.2.shape, w.0, w.1, can_take w.2, rising_in w.2, tagged_in w.2, w.2.nodes_are)
 
 pub returns-clause-rank : goal.returns-clause-rank
 returns-clause-rank g c xs ys h =
     let l = c.args.self.now in let s = l.slot in
-    let on = subst (λ (z : Pooled g.row.T.Denot). (t : Shape) (xs : List Ref) (ys : List Ref) → CanTake z s l.root t
+    let on = subst (λ (z : Pooled g.row.T.Denot). (t : BinaryTree) (xs : List Ref) (ys : List Ref) → CanTake z s l.root t
     → Rising (side (g.O.NodeOrder.order l.order) z s) (nodes t) → nodes t ≡ xs ++ c.args.node ∷ ys → c.rank_in.result ≡ length xs)
     c.link.ensures.pool c.rank_in.ensures.rank in
     on h.shape xs ys (can_take h) (rising_in h) h.nodes_are

@@ -1,6 +1,6 @@
 use Rattle.std.proofs.Common.{List, ◌∷◌, ◌++◌, refl}
 use Rattle.mi_node.specs.Refs.{Ref}
-use Rattle.mi_tree.specs.Shape.{Shape}
+use Rattle.mi_tree.specs.BinaryTree.{BinaryTree}
 use Rattle.mi_tree.specs.Sorted.{HasTaken}
 use Rattle.mi_tree.specs.Standing.{IsTree}
 use Rattle.mi_tree.proofs.StandingLemmas.{can_take, rising_in, tagged_in, node_held, has_taken}
@@ -12,7 +12,7 @@ module _ (g : Over) (c : After-take_out-self g) where
   -- what was taken out
   took : (xs ys : List Ref) (h : IsTree c.args.self.now c.args.p.now (g.O.NodeOrder.order c.args.self.now.order) (g.O.NodeOrder.tag_of c.args.self.now.order)
       (xs ++ c.args.node ∷ ys))
-      → (u : Shape) × HasTaken c.args.p.now c.take_out-self.new.p c.args.self.now.slot h.shape (xs ++ ys) c.take_out-self.result u
+      → (u : BinaryTree) × HasTaken c.args.p.now c.take_out-self.new.p c.args.self.now.slot h.shape (xs ++ ys) c.take_out-self.result u
   took xs ys h = c.take_out-self.ensures.tree h.shape xs ys (can_take h) (rising_in h) h.nodes_are
 
 pub link-requires-clause-held : goal.link-requires-clause-held

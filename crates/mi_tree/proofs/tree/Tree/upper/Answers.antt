@@ -1,5 +1,5 @@
 use Rattle.std.proofs.Common.{true, ap, ◌∙◌, arith}
-use Rattle.mi_tree.specs.Shape.{nodes}
+use Rattle.mi_tree.specs.BinaryTree.{nodes}
 use Rattle.mi_tree.specs.Probed.{is_past_node, first_where}
 use Rattle.mi_tree.proofs.StandingLemmas.{bound, rising_in, tagged_in}
 use Rattle.mi_tree.proofs.LookUpLemmas.{steady}

@@ -1,5 +1,5 @@
 use Rattle.std.proofs.Common.{take, drop, subst, arith}
-use Rattle.mi_tree.specs.Shape.{height}
+use Rattle.mi_tree.specs.BinaryTree.{height}
 use Rattle.mi_tree.specs.Walking.{IsWalk, beyond}
 use Rattle.mi_tree.proofs.StandingLemmas.{bound, enters_root}
 use Rattle.mi_tree.proofs.tree.Tree.walk.Goals as goal

@@ -1,7 +1,7 @@
 use Rattle.std.proofs.Common.{◌≡◌, ℕ, List, [], ◌∷◌, ◌++◌, sym, subst, arith}
 use Rattle.mi_node.specs.Pool.{Pooled}
 use Rattle.mi_node.specs.Refs.{Ref}
-use Rattle.mi_tree.specs.Shape.{Shape, nodes, height, IsRooted}
+use Rattle.mi_tree.specs.BinaryTree.{BinaryTree, nodes, height, IsRooted}
 use Rattle.mi_tree.specs.Sorted.{CanTake, Rising, AreTagged, side}
 use Rattle.mi_tree.specs.Walking.{Enters, IsWalk, beyond}
 use Rattle.mi_tree.proofs.StandingLemmas.{bound, bound_node, can_take, rising_in, tagged_in, node_held, enters_root}
@@ -11,7 +11,7 @@ use Rattle.mi_tree.proofs.tree.Tree.walk_from.Goals as goal
 
 module _ (g : Over) (c : After-link g) where
   -- the tree stands in the pool that was read
-  rooted : (t : Shape) → IsRooted c.args.p.now.pool c.args.self.now.slot c.args.self.now.root t
+  rooted : (t : BinaryTree) → IsRooted c.args.p.now.pool c.args.self.now.slot c.args.self.now.root t
       → IsRooted c.link.new.self.pool c.args.self.now.slot c.args.self.now.root t
   rooted t h = subst (λ (z : Pooled g.row.T.Denot). IsRooted z c.args.self.now.slot c.args.self.now.root t) (sym c.link.ensures.pool) h
 
@@ -21,7 +21,7 @@ link-requires-clause-held g c = let w = c.requires in node_held w.0 c.args.node 
 pub start_at-requires-clause-tree : goal.start_at-requires-clause-tree
 start_at-requires-clause-tree g c =
     let l = c.args.self.now in let s = l.slot in let d = c.args.direction in let w = c.requires in
-    subst (λ (z : Pooled g.row.T.Denot). (levels : ℕ) × (t : Shape) × (xs : List Ref) × (ys : List Ref) × Enters z s d levels [] l.root [] t
+    subst (λ (z : Pooled g.row.T.Denot). (levels : ℕ) × (t : BinaryTree) × (xs : List Ref) × (ys : List Ref) × Enters z s d levels [] l.root [] t
     × CanTake z s l.root t × Rising (side (g.O.NodeOrder.order l.order) z s) (nodes t) × AreTagged (g.O.NodeOrder.tag_of l.order) z s (nodes t)
     × (nodes t ≡ xs ++ c.args.node ∷ ys))
     (sym c.link.ensures.pool)
@@ -30,7 +30,7 @@ start_at-requires-clause-tree g c =
 pub returns-clause-walk : goal.returns-clause-walk
 returns-clause-walk g c xs ys h =
     let l = c.args.self.now in let s = l.slot in let d = c.args.direction in let x = c.args.node in
-    let on = subst (λ (z : Pooled g.row.T.Denot). (levels : ℕ) (t : Shape) (xs : List Ref) (ys : List Ref) → Enters z s d levels [] l.root [] t
+    let on = subst (λ (z : Pooled g.row.T.Denot). (levels : ℕ) (t : BinaryTree) (xs : List Ref) (ys : List Ref) → Enters z s d levels [] l.root [] t
     → CanTake z s l.root t → Rising (side (g.O.NodeOrder.order l.order) z s) (nodes t) → nodes t ≡ xs ++ x ∷ ys
     → IsWalk c.start_at.result z levels (x ∷ beyond d xs ys))
     c.link.ensures.pool c.start_at.ensures.walk in (

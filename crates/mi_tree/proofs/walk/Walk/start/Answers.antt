@@ -1,6 +1,6 @@
 use Rattle.std.proofs.Common.{[], take, drop, sym, ◌∙◌, subst}
 use Rattle.std.proofs.lemmas.List.{append-nil}
-use Rattle.mi_tree.specs.Shape.{nodes}
+use Rattle.mi_tree.specs.BinaryTree.{nodes}
 use Rattle.mi_tree.specs.Walking.{Enters, beyond}
 use Rattle.mi_tree.proofs.walk.Walk.start.Goals as goal
 

@@ -3,7 +3,7 @@ use Rattle.std.proofs.Common.{◌∙◌, ap, subst, List, ◌++◌}
 use Rattle.std.specs.declared.option.Option.{Option}
 use Rattle.std.specs.Option.{option_to_list}
 use Rattle.mi_container.specs.Inverse.{Inverse}
-use Rattle.mi_changes.specs.Undone.{Holds}
+use Rattle.mi_changes.specs.Undone.{CanTakeBack}
 use Rattle.mi_changes.proofs.UndoneLemmas.{oldest_kept, oldest_settled}
 use Rattle.mi_changes.proofs.tests.undoable.Undoable.settle.Goals as goal
 
@@ -15,7 +15,7 @@ settle-requires g c =
     let shape = g.C.Container.shape was.rows in
     let plain = g.C.Container.plain was.rows in
     oldest_kept was.schema shape plain c.in-Some.inverse rest c.keeps_rules.ensures
-    (subst (λ (is : List Inverse). Holds was.schema shape plain is) parts c.requires)
+    (subst (λ (is : List Inverse). CanTakeBack was.schema shape plain is) parts c.requires)
 
 pub returns-in-Some : goal.returns-in-Some
 returns-in-Some g c =
@@ -25,4 +25,4 @@ returns-in-Some g c =
     let shape = g.C.Container.shape was.rows in
     let plain = g.C.Container.plain was.rows in
     oldest_settled was.schema shape (g.C.Container.shape c.settle.new.self) plain (g.C.Container.plain c.settle.new.self) c.in-Some.inverse rest
-    c.keeps_rules.ensures c.settle.ensures.shape c.settle.ensures.plain (subst (λ (is : List Inverse). Holds was.schema shape plain is) parts c.requires)
+    c.keeps_rules.ensures c.settle.ensures.shape c.settle.ensures.plain (subst (λ (is : List Inverse). CanTakeBack was.schema shape plain is) parts c.requires)

@@ -21,7 +21,8 @@ pub link-requires-clause-slot : goal.link-requires-clause-slot
 link-requires-clause-slot c =
     let h = c.requires.list in
     let i = subst (λ o. IsAmong o h.0) c.in_ok-node.was (among_filter _ h.0 c.first_of.result (c.first_of.ensures h.0 h.1)) in
-    let gone = c.remove.ensures.list i.0 i.1 (subst (AreChained c.args.chains.now number_keying c.args.p.now) i.2 h.1) in subst (λ z. z < c.remove.new.p.slots) (c.remove.ensures.slot ∙ c.requires.slot) gone.buckets.slot
+    let gone = c.remove.ensures.list i.0 i.1 (subst (AreChained c.args.chains.now number_keying c.args.p.now) i.2 h.1) in
+    subst (λ z. z < c.remove.new.p.slots) (c.remove.ensures.slot ∙ c.requires.slot) gone.buckets.slot
 
 pub returns-clause-list : goal.returns-clause-list
 returns-clause-list c rs h =

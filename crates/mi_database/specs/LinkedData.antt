@@ -10,7 +10,7 @@ use Rattle.mi_database.specs.Journal.{Entry, Journal, data_at, entry_back, entri
 use Rattle.mi_journal.specs.Noted.{Noted, OldestIsEmpty}
 
 -- the containers' data, the inverses of each session, the revision, and the journal's room
-pub record Held : Type 0 where
+pub record LinkedData : Type 0 where
   pub catalog : CatalogShape
   pub datas : List Data
   pub journal : Journal
@@ -19,14 +19,14 @@ pub record Held : Type 0 where
   pub starts : ℕ
 
 -- as the fields have it
-abbrev pub seen : CatalogShape → List Data → Noted Inverse → ℕ → Held
+abbrev pub seen : CatalogShape → List Data → Noted Inverse → ℕ → LinkedData
 seen c ds j r = record { catalog = c; datas = ds; journal = j.sessions; revision = r; changes = j.changes; starts = j.starts }
 
-abbrev pub meaning : Held → Database
+abbrev pub meaning : LinkedData → Database
 meaning h = state_of h.catalog h.datas h.journal h.revision
 
 -- what holds of every linked database, over the schemas of its containers
-pub record IsHeld (ss : List Shape) (h : Held) : Type 0 where
+pub record IsLinkedData (ss : List Shape) (h : LinkedData) : Type 0 where
   pub linked : IsLinked h.catalog h.datas h.journal
   pub shapes : ss ≡ h.catalog.tables
   pub many : length h.datas ≡ length h.catalog.tables
@@ -34,11 +34,11 @@ pub record IsHeld (ss : List Shape) (h : Held) : Type 0 where
   pub last : h.revision ≤ LAST_COUNT
 
 -- other room, and all else the same
-abbrev pub with_room : ℕ → ℕ → Held → Held
+abbrev pub with_room : ℕ → ℕ → LinkedData → LinkedData
 with_room changes starts h = record h { changes = changes; starts = starts }
 
 -- in a session there is room for so many inverses
-abbrev pub RoomFor : ℕ → Held → Type 0
+abbrev pub RoomFor : ℕ → LinkedData → Type 0
 RoomFor n h = 0 < length h.journal → n ≤ h.changes
 
 -- a change's inverse is settled where no session is open
@@ -69,24 +69,24 @@ abbrev pub one_ended : Database → Database
 one_ended d = record d { old = newer_than_oldest d.old }
 
 -- the oldest change is settled, or the oldest session has none: but for that session all that is meant stays
-pub record SettlesSome (old new : Held) : Type 0 where
+pub record SettlesSome (old new : LinkedData) : Type 0 where
   pub fewer : length (entries new.journal) + 1 ≡ length (entries old.journal)
   pub open_ : length new.journal ≡ length old.journal
   pub newer : newer_than_oldest new.journal ≡ newer_than_oldest old.journal
   pub tables : tables_of new.datas ≡ tables_of old.datas
   pub old_ : newer_than_oldest (old_of new.datas new.journal) ≡ newer_than_oldest (old_of old.datas old.journal)
 
-pub record SettlesNone (old new : Held) : Type 0 where
+pub record SettlesNone (old new : LinkedData) : Type 0 where
   pub datas : new.datas ≡ old.datas
   pub journal : new.journal ≡ old.journal
   pub none : (old.journal ≡ []) ⊎ OldestIsEmpty old.journal
 
-abbrev pub SettlesOne : Bool → Held → Held → Type 0
+abbrev pub SettlesOne : Bool → LinkedData → LinkedData → Type 0
 SettlesOne true old new = SettlesSome old new
 SettlesOne false old new = SettlesNone old new
 
 -- all changes of the newest session taken back, which stays open
-pub record UnwindsNewest (old new : Held) : Type 0 where
+pub record UnwindsNewest (old new : LinkedData) : Type 0 where
   pub catalog : new.catalog ≡ old.catalog
   pub revision : new.revision ≡ old.revision
   pub datas : new.datas ≡ unwound (newest_of old.journal) old.datas
@@ -95,7 +95,7 @@ pub record UnwindsNewest (old new : Held) : Type 0 where
   pub starts : new.starts ≡ old.starts
 
 -- the oldest session ended, and its changes settled
-pub record EndsOldest (old new : Held) : Type 0 where
+pub record EndsOldest (old new : LinkedData) : Type 0 where
   pub catalog : new.catalog ≡ old.catalog
   pub revision : new.revision ≡ old.revision
   pub journal : new.journal ≡ newer_than_oldest old.journal
@@ -105,8 +105,8 @@ pub record EndsOldest (old new : Held) : Type 0 where
   pub starts : new.starts ≡ old.starts + 1
 
 -- what a catalog opens with
-abbrev pub opened_held : ℕ → ℕ → CatalogShape → Held
-opened_held changes starts c = record {
+abbrev pub opened_linked : ℕ → ℕ → CatalogShape → LinkedData
+opened_linked changes starts c = record {
   catalog = c;
   datas = map opened_data c.tables;
   journal = [];
