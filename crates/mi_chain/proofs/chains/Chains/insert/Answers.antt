@@ -47,15 +47,27 @@ module _ (g : Over) (c : After-head-head g)
       (hash_node (g.H.KeyHash.keying c.args.self.now.keys) c.args.p.now c.args.node)
 
 -- the group of the node's key in it
-module _ (g : Over) (c : In-Some g) (gs : List (List Ref)) (chain : IsChain c.args.p.now c.args.self.now.slot c.head-head.result gs)
-    (tags : AreTagged (hash_node (g.H.KeyHash.keying c.args.self.now.keys) c.args.p.now) c.args.p.now c.args.self.now.slot (members gs)) where
-  group_found : Found (same_nodes (g.H.KeyHash.keying c.args.self.now.keys) c.args.p.now c.args.node) gs c.group_of-place.result.before c.in-Some.first
-  group_found = subst (IsFound (same_nodes (g.H.KeyHash.keying c.args.self.now.keys) c.args.p.now c.args.node) gs c.group_of-place.result.before) c.in-Some.is
-      (c.group_of-place.ensures gs chain tags)
+module _ (g : Over) (c : In-Some g)
+    (bucket : c.bucket-bucket.result ≡ hash_node (g.H.KeyHash.keying c.args.self.now.keys) c.args.p.now c.args.node % vec_len c.args.self.now.buckets)
+    (rs : List Ref) (h : AreChained c.args.self.now (g.H.KeyHash.keying c.args.self.now.keys) c.args.p.now rs) where
+  chain_searched : IsChain c.args.p.now c.args.self.now.slot c.head-head.result
+      (groups_at c.args.self.now (g.H.KeyHash.keying c.args.self.now.keys) (g.met.H.KeyHash.lawful c.args.self.now.keys) c.args.p.now rs h
+      (hash_node (g.H.KeyHash.keying c.args.self.now.keys) c.args.p.now c.args.node))
+  chain_searched = let l = c.args.self.now in let k = g.H.KeyHash.keying l.keys in
+      chain_here l k (g.met.H.KeyHash.lawful c.args.self.now.keys) c.args.p.now rs h (hash_node k c.args.p.now c.args.node) c.head-head.result
+      (c.head-head.ensures ∙ ap (λ i. slice_index_or l.buckets.items i None) bucket)
+
+  group_found : Found (same_nodes (g.H.KeyHash.keying c.args.self.now.keys) c.args.p.now c.args.node)
+      (groups_at c.args.self.now (g.H.KeyHash.keying c.args.self.now.keys) (g.met.H.KeyHash.lawful c.args.self.now.keys) c.args.p.now rs h
+      (hash_node (g.H.KeyHash.keying c.args.self.now.keys) c.args.p.now c.args.node)) c.group_of-place.result.before c.in-Some.first
+  group_found = let l = c.args.self.now in let k = g.H.KeyHash.keying l.keys in let w = (g.met.H.KeyHash.lawful c.args.self.now.keys) in let m = c.args.p.now in
+      subst (IsFound (same_nodes k m c.args.node) (groups_at l k w m rs h (hash_node k m c.args.node)) c.group_of-place.result.before) c.in-Some.is
+      (c.group_of-place.ensures _ chain_searched (tags_here l k w m rs h (hash_node k m c.args.node)))
 
   group_stands : Group c.args.p.now c.args.self.now.slot c.group_of-place.result.before c.in-Some.first group_found.group
-  group_stands = group_at c.args.p.now c.args.self.now.slot c.head-head.result gs (same_nodes (g.H.KeyHash.keying c.args.self.now.keys) c.args.p.now c.args.node)
-      c.group_of-place.result.before c.in-Some.first chain group_found
+  group_stands = let k = (g.H.KeyHash.keying c.args.self.now.keys) in let m = c.args.p.now in
+      group_at m c.args.self.now.slot c.head-head.result _ (same_nodes k m c.args.node) c.group_of-place.result.before c.in-Some.first
+      chain_searched group_found
 
 -- the gap in the group where the stamp goes
 module _ (g : Over) (c : After-gap_for-gap g) (nodes : List Ref)
@@ -108,27 +120,22 @@ gap_for-gap-requires-clause-slot g c = let b = c.requires.2.buckets in b.slot
 
 pub gap_for-gap-requires-clause-group : goal.gap_for-gap-requires-clause-group
 gap_for-gap-requires-clause-group g c =
-    let o = goal.at.gap_for-gap-requires-clause-group g c in let bucket = bucket_found g o.After-bucket-bucket in let h = c.requires.2 in
-    let chain = chain_found g o.After-head-head bucket _ h in let tags = tags_found g o.After-head-head bucket _ h in
-    let group = group_stands g o.In-Some _ chain tags in
-    ((group_found g o.In-Some _ chain tags).group, group.rest, group.linked, group.apart, group.first_is)
+    let o = goal.at.gap_for-gap-requires-clause-group g c in let bucket = bucket_found g o.After-bucket-bucket in
+    let group = group_stands g o.In-Some bucket _ c.requires.2 in
+    ((group_found g o.In-Some bucket _ c.requires.2).group, group.rest, group.linked, group.apart, group.first_is)
 
 pub link-link-requires-clause-held : goal.link-link-requires-clause-held
 link-link-requires-clause-held g c =
-    let o = goal.at.link-link-requires-clause-held g c in let bucket = bucket_found g o.After-bucket-bucket in let h = c.requires.2 in
-    let chain = chain_found g o.After-head-head bucket _ h in let tags = tags_found g o.After-head-head bucket _ h in
-    let group = group_stands g o.In-Some _ chain tags in
-    group.first_held
+    let o = goal.at.link-link-requires-clause-held g c in let bucket = bucket_found g o.After-bucket-bucket in
+    (group_stands g o.In-Some bucket _ c.requires.2).first_held
 
 pub link-link-requires-clause-slot : goal.link-link-requires-clause-slot
 link-link-requires-clause-slot g c = let b = c.requires.2.buckets in b.slot
 
 pub after-follower-requires-clause-held : goal.after-follower-requires-clause-held
 after-follower-requires-clause-held g c =
-    let o = goal.at.after-follower-requires-clause-held g c in let bucket = bucket_found g o.After-bucket-bucket in let h = c.requires.2 in
-    let chain = chain_found g o.After-head-head bucket _ h in let tags = tags_found g o.After-head-head bucket _ h in
-    let group = group_stands g o.In-Some _ chain tags in
-    (ends_held g o.After-gap_for-gap _ group).0
+    let o = goal.at.after-follower-requires-clause-held g c in let bucket = bucket_found g o.After-bucket-bucket in
+    (ends_held g o.After-gap_for-gap _ (group_stands g o.In-Some bucket _ c.requires.2)).0
 
 pub after-follower-requires-clause-slot : goal.after-follower-requires-clause-slot
 after-follower-requires-clause-slot g c = let b = c.requires.2.buckets in b.slot
@@ -144,9 +151,8 @@ put-requires-clause-bucket g c = bucket_inside g (goal.at.put-requires-clause-bu
 
 pub put-requires-clause-held : goal.put-requires-clause-held
 put-requires-clause-held g c =
-    let o = goal.at.put-requires-clause-held g c in let bucket = bucket_found g o.After-bucket-bucket in let h = c.requires.2 in
-    let chain = chain_found g o.After-head-head bucket _ h in let tags = tags_found g o.After-head-head bucket _ h in
-    let group = group_stands g o.In-Some _ chain tags in
+    let o = goal.at.put-requires-clause-held g c in let bucket = bucket_found g o.After-bucket-bucket in
+    let group = group_stands g o.In-Some bucket _ c.requires.2 in
     let m = c.args.p.now in let ends = ends_held g o.After-gap_for-gap _ group in (
       subst (IsHeldIf m) (sym c.or-left.ensures) (held_or m c.gap_for-gap.result.prev c.group_of-place.result.before ends.0 group.before_held),
       subst
@@ -182,14 +188,12 @@ module _ (g : Over) (c : After-begin_group g) (hash : c.hash-hash.result ≡ has
       (on.0, on.1)
 
 pub returns-in-None-clause-list : goal.returns-in-None-clause-list
-returns-in-None-clause-list g c xs ys h p =
-    let o = goal.at.returns-in-None-clause-list g c in
-    let on = begun g o.After-begin_group (hash_found g o.After-bucket-bucket) (bucket_found g o.After-bucket-bucket) xs ys h p in on.0
+returns-in-None-clause-list g c xs ys h p = let o = goal.at.returns-in-None-clause-list g c in let b = o.After-bucket-bucket in
+    (begun g o.After-begin_group (hash_found g b) (bucket_found g b) xs ys h p).0
 
 pub returns-in-None-clause-keeps : goal.returns-in-None-clause-keeps
-returns-in-None-clause-keeps g c xs ys h p =
-    let o = goal.at.returns-in-None-clause-keeps g c in
-    let on = begun g o.After-begin_group (hash_found g o.After-bucket-bucket) (bucket_found g o.After-bucket-bucket) xs ys h p in on.1
+returns-in-None-clause-keeps g c xs ys h p = let o = goal.at.returns-in-None-clause-keeps g c in let b = o.After-bucket-bucket in
+    (begun g o.After-begin_group (hash_found g b) (bucket_found g b) xs ys h p).1
 
 pub returns-in-None-clause-tags : goal.returns-in-None-clause-tags
 returns-in-None-clause-tags g c q = let v = c.args in let m = v.p.now in let l = v.self.now in let k = g.H.KeyHash.keying l.keys in
@@ -208,40 +212,36 @@ returns-in-None-clause-tags g c q = let v = c.args in let m = v.p.now in let l =
 module _ (g : Over) (c : After-put g) (hash : c.hash-hash.result ≡ hash_node (g.H.KeyHash.keying c.args.self.now.keys) c.args.p.now c.args.node)
     (bucket : c.bucket-bucket.result ≡ hash_node (g.H.KeyHash.keying c.args.self.now.keys) c.args.p.now c.args.node % vec_len c.args.self.now.buckets) where
   -- a node among those of its key is there, for each list that the chains may stand for
-  joined_in : (xs ys : List Ref) → AreChained c.args.self.now (g.H.KeyHash.keying c.args.self.now.keys) c.args.p.now (xs ++ ys)
+  joined_in : (xs ys : List Ref) (h : AreChained c.args.self.now (g.H.KeyHash.keying c.args.self.now.keys) c.args.p.now (xs ++ ys))
       → IsPlaced (g.H.KeyHash.keying c.args.self.now.keys) c.args.p.now c.args.self.now.slot c.args.node c.args.stamp xs ys
+      → (found : Found (same_nodes (g.H.KeyHash.keying c.args.self.now.keys) c.args.p.now c.args.node)
+      (groups_at c.args.self.now (g.H.KeyHash.keying c.args.self.now.keys) (g.met.H.KeyHash.lawful c.args.self.now.keys) c.args.p.now (xs ++ ys) h
+      (hash_node (g.H.KeyHash.keying c.args.self.now.keys) c.args.p.now c.args.node)) c.group_of-place.result.before c.in-Some.first)
+      → IsGap (stamp_at c.args.p.now c.args.self.now.slot) c.args.stamp found.group c.gap_for-gap.result.prev c.gap_for-gap.result.next
       → AreChained c.put.new.self (g.H.KeyHash.keying c.args.self.now.keys) c.put.new.p (xs ++ c.args.node ∷ ys)
       × Keeps c.args.p.now c.put.new.p c.args.self.now.slot (c.args.node ∷ (xs ++ ys))
-  joined_in xs ys h p = let v = c.args in let m = v.p.now in let l = v.self.now in let k = g.H.KeyHash.keying l.keys in
-      let w = g.met.H.KeyHash.lawful l.keys in let n = vec_len l.buckets in let r = v.node in let x = hash_node k m r in
-      let chain = chain_here l k w m (xs ++ ys) h x c.head-head.result (c.head-head.ensures ∙ ap (λ i. slice_index_or l.buckets.items i None) bucket) in
-      let tags = tags_here l k w m (xs ++ ys) h x in
-      let gs = groups_at l k w m (xs ++ ys) h x in
-      let found = subst (IsFound (same_nodes k m r) gs c.group_of-place.result.before) c.in-Some.is (c.group_of-place.ensures gs chain tags) in
-      let group = group_at m l.slot c.head-head.result gs (same_nodes k m r) c.group_of-place.result.before c.in-Some.first chain found in
-      let gap = c.gap_for-gap.ensures found.group group.rest group.linked group.apart group.first_is in
-      let ends = gap_ends m (stamp_at m l.slot) v.stamp found.group c.gap_for-gap.result.prev c.gap_for-gap.result.next group.all_held gap in
+  joined_in xs ys h p found gap = let v = c.args in let m = v.p.now in let l = v.self.now in let k = g.H.KeyHash.keying l.keys in
+      let w = g.met.H.KeyHash.lawful l.keys in let r = v.node in
       let made : Link = record
       { back = c.or-back.result; forth = c.or-forth.result; size = 0; height = 0; tag = record { key = c.hash-hash.result; stamp = v.stamp } } in
       let spot = spot_of_gap l k w m xs r ys v.stamp made h p refl hash c.group_of-place.result.before c.in-Some.first found c.gap_for-gap.result.prev
       c.gap_for-gap.result.next gap in
       let back = c.or-back.ensures ∙ ap (λ (y : Link). option_or c.gap_for-gap.result.prev y.back) c.link-link.ensures in
       let forth = c.or-forth.ensures ∙ ap (λ y. option_or c.gap_for-gap.result.next y) c.after-follower.ensures in
-      let on = inserted_old l k w m xs r ys v.stamp made h p refl hash c.put.new.self c.put.new.p c.put.ensures.slot c.put.ensures.count
+      inserted_old l k w m xs r ys v.stamp made h p refl hash c.put.new.self c.put.new.p c.put.ensures.slot c.put.ensures.count
       c.group_of-place.result.before c.in-Some.first found c.or-left.result c.or-right.result (c.or-left.ensures ∙ spot.0) (c.or-right.ensures ∙ spot.1)
       (back ∙ spot.2) (forth ∙ spot.3) c.put.ensures.pool (c.put.ensures.heads ∙ ap (λ i. heads_joined c.or-left.result l.buckets.items i (Some r)) bucket)
-      c.put.ensures.groups in
-      (on.0, on.1)
+      c.put.ensures.groups
 
 pub returns-in-Some-clause-list : goal.returns-in-Some-clause-list
-returns-in-Some-clause-list g c xs ys h p =
-    let o = goal.at.returns-in-Some-clause-list g c in
-    let on = joined_in g o.After-put (hash_found g o.After-bucket-bucket) (bucket_found g o.After-bucket-bucket) xs ys h p in on.0
+returns-in-Some-clause-list g c xs ys h p = let o = goal.at.returns-in-Some-clause-list g c in
+    let b = o.After-bucket-bucket in let bucket = bucket_found g b in let gap = gap_found g o.After-gap_for-gap _ (group_stands g o.In-Some bucket _ h) in
+    (joined_in g o.After-put (hash_found g b) bucket xs ys h p (group_found g o.In-Some bucket _ h) gap).0
 
 pub returns-in-Some-clause-keeps : goal.returns-in-Some-clause-keeps
-returns-in-Some-clause-keeps g c xs ys h p =
-    let o = goal.at.returns-in-Some-clause-keeps g c in
-    let on = joined_in g o.After-put (hash_found g o.After-bucket-bucket) (bucket_found g o.After-bucket-bucket) xs ys h p in on.1
+returns-in-Some-clause-keeps g c xs ys h p = let o = goal.at.returns-in-Some-clause-keeps g c in
+    let b = o.After-bucket-bucket in let bucket = bucket_found g b in let gap = gap_found g o.After-gap_for-gap _ (group_stands g o.In-Some bucket _ h) in
+    (joined_in g o.After-put (hash_found g b) bucket xs ys h p (group_found g o.In-Some bucket _ h) gap).1
 
 pub returns-in-Some-clause-tags : goal.returns-in-Some-clause-tags
 returns-in-Some-clause-tags g c q = let v = c.args in let m = v.p.now in let l = v.self.now in let k = g.H.KeyHash.keying l.keys in
