@@ -19,7 +19,7 @@ use Rattle.mi_journal.specs.Noted.{Noted, noted}
 use Rattle.mi_database.specs.Journal.{data_at, state_of}
 use Rattle.mi_database.specs.LinkedData.{LinkedData, meaning, IsLinkedData, with_room, kept_datas}
 use Rattle.mi_database.specs.Kept.{kept_rows, KeptRefused}
-use Rattle.mi_database.proofs.LinkedDataLemmas.{Made, made_linked, made_keeps}
+use Rattle.mi_database.proofs.LinkedDataLemmas.{Made, made_is_linked, made_keeps}
 use Rattle.mi_database.proofs.LoopLemmas.{linked_data}
 use Rattle.mi_database.proofs.StateLemmas.{within_containers, lift_made, lift_refused, refused_held}
 use Rattle.mi_database.proofs.KeptLemmas.{plain_keeps, kept_refusal}
@@ -65,7 +65,7 @@ module _ {X : Type 0} (shape : X → Shape) (plain : X → Data) {c : CatalogSha
 
     pub spot_held : Made shape plain cs after n k k' i j.sessions next.sessions
         → IsLinkedData (map shape after) (linked_data c (map plain after) next.sessions r next.changes next.starts)
-    spot_held made = made_linked shape plain c cs after n k k' i j.sessions next.sessions r j.changes j.starts _ _ made s.is
+    spot_held made = made_is_linked shape plain c cs after n k k' i j.sessions next.sessions r j.changes j.starts _ _ made s.is
 
     pub spot_outcome : {A : Type 0} (f : Shape → Table → Outcome A) (a : Result A Refusal) → Made shape plain cs after n k k' i j.sessions next.sessions
         → Meets (f (shape k) (table_of (plain k))) a (table_of (plain k)) (table_of (plain k'))

@@ -113,18 +113,18 @@ module _ {X : Type 0} (shape : X → Shape) (plain : X → Data) (c : CatalogSha
   made_many : Made shape plain cs after n k k' i j noted_ → length (map plain after) ≡ length (map plain cs)
   made_many made = ap length (after_datas made) ∙ kept_length j n i _ ∙ length-set (map plain cs) n (plain k')
 
-  pub made_linked : (r changes starts changes' starts' : ℕ) → Made shape plain cs after n k k' i j noted_
+  pub made_is_linked : (r changes starts changes' starts' : ℕ) → Made shape plain cs after n k k' i j noted_
       → IsLinkedData (map shape cs) (record { catalog = c; datas = map plain cs; journal = j; revision = r; changes = changes; starts = starts })
       → IsLinkedData (map shape after) (record { catalog = c; datas = map plain after; journal = noted_; revision = r; changes = changes'; starts = starts' })
-  made_linked r changes starts changes' starts' made linked_data =
+  made_is_linked r changes starts changes' starts' made is =
       let long : length noted_ ≡ length j = ap length made.journal ∙ noted_length (n, i) j in
-      let before = linked_data.numbered in
+      let before = is.numbered in
       record {
-        linked = made_linked made linked_data.shapes linked_data.linked;
-        shapes = made_shapes made linked_data.shapes;
-        many = made_many made ∙ linked_data.many;
+        linked = made_linked made is.shapes is.linked;
+        shapes = made_shapes made is.shapes;
+        many = made_many made ∙ is.many;
         numbered = omega (arith, long, before);
-        last = linked_data.last;
+        last = is.last;
       }
 
 -- what the inverse keeps, if anything, is kept
