@@ -1,5 +1,5 @@
 -- What follows from the rules of a schema and of a catalog.
-use Rattle.std.proofs.Common.{◌≡◌, ℕ, zero, suc, ◌<◌, ◌≤◌, true, false, List, [], ◌∷◌, length, map, slice_index_or, ap, subst, arith}
+use Rattle.std.proofs.Common.{◌≡◌, ℕ, zero, suc, ◌<◌, ◌≤◌, true, false, List, [], ◌∷◌, length, slice_index_or, ap, subst, arith}
 use Rattle.std.specs.Prelude.{◌==◌, bytes_eq, codes}
 use Rattle.std.specs.List.{list_all}
 use Rattle.std.proofs.lemmas.Bool.{and_parts, leb-true, ltb-true, eqb-true}
@@ -8,7 +8,7 @@ use Rattle.mi_value.specs.declared.limits.TheConstants.{MAX_NAME, MAX_ROWS, LAST
 use Rattle.mi_catalog.specs.declared.index.Index.{Index}
 use Rattle.mi_catalog.specs.declared.index.IndexKind.TheVariants.{Hashed}
 use Rattle.mi_catalog.specs.Shape.{Shape, CatalogShape, schema_at, index_at}
-use Rattle.mi_catalog.specs.Rules.{is_name, are_distinct, are_columns, are_indexes, is_id_index, is_declared_index, are_numbers, is_schema, is_catalog}
+use Rattle.mi_catalog.specs.Rules.{is_name, are_indexes, is_id_index, is_declared_index, are_numbers, is_schema, is_catalog}
 
 is_name-short : (name : List ℕ) → is_name name ≡ true → length name ≤ MAX_NAME
 is_name-short [] h = absurd (cc)
@@ -39,13 +39,6 @@ indexes_short columns (i ∷ is) (suc k) h = declared_short columns is k (and_pa
 -- an index's name has at most 32 bytes
 pub index_name_short : (s : Shape) (x : ℕ) → is_schema s ≡ true → length (index_at s x).name ≤ MAX_NAME
 index_name_short s x h = indexes_short (length s.columns) s.indexes x (and_parts _ _ (and_parts _ _ h).0).1
-
-columns_kept : (s : Shape) → is_schema s ≡ true → are_columns s.columns ≡ true
-columns_kept s h = (and_parts _ _ (and_parts _ _ (and_parts _ _ h).0).0).1
-
--- no two columns have one name
-pub columns_distinct : (s : Shape) → is_schema s ≡ true → are_distinct (map (λ c. c.name) s.columns) ≡ true
-columns_distinct s h = (and_parts _ _ (columns_kept s h)).1
 
 numbers_kept : (s : Shape) → is_schema s ≡ true → are_numbers s ≡ true
 numbers_kept s h = (and_parts _ _ h).1

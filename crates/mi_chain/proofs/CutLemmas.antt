@@ -1,7 +1,7 @@
 -- A bucket's chain is cut around a place, changed at both sides of it, and put together.
 use Rattle.std.proofs.Common.{◌≡◌, ℕ, List, [], ◌∷◌, ◌++◌, Option, Some, None, refl, sym, ap, ◌∙◌, subst, append_assoc}
 use Rattle.mi_node.specs.Pool.{Pooled, link_of, IsHeld, IsHeldIf, Keeps, with_link}
-use Rattle.mi_node.specs.Neighbours.{kept_if, AreHeld, IsLinked, with_back_if, with_forth_if, with_back, with_forth, joined}
+use Rattle.mi_node.specs.Neighbours.{AreHeld, IsLinked, with_back_if, with_forth_if, with_back, with_forth, joined}
 use Rattle.mi_node.specs.Refs.{Ref, first_of, last_of, IsOut, IsApart, AreOut}
 use Rattle.mi_node.specs.declared.link.Link.{Link}
 use Rattle.mi_node.proofs.EntryLemmas.{flip, ref-with_link, link_here}
@@ -20,10 +20,6 @@ list_of (Some r) = r ∷ []
 pub last_are_out : (b : Option Ref) (us zs : List Ref) → AreOut (list_of b) zs → AreOut us zs → AreOut (list_of (last_of b us)) zs
 last_are_out b [] zs g h = g
 last_are_out b (u ∷ us) zs g h = last_are_out (Some u) us zs (h.0, tt) h.1
-
-pub first_are_out : (f : Option Ref) (us zs : List Ref) → AreOut (list_of f) zs → AreOut us zs → AreOut (list_of (first_of us f)) zs
-first_are_out f [] zs g h = g
-first_are_out f (u ∷ us) zs g h = (h.0, tt)
 
 pub are_out_xs : (xs ys zs : List Ref) → AreOut (xs ++ ys) zs → AreOut xs zs
 are_out_xs [] ys zs h = tt
@@ -71,16 +67,6 @@ some_last b (u ∷ us) = some_last u us
 pub some_last_in : (b : Ref) (gs : List (List Ref)) → (z : Ref) × (last_in (Some b) gs ≡ Some z)
 some_last_in b [] = (b, refl)
 some_last_in b (g ∷ gs) = let z = some_last b g in let w = some_last_in z.0 gs in (w.0, ap (λ o. last_in o gs) z.1 ∙ w.1)
-
--- a head changes where the place is at the front of the bucket
-pub kept_head : {A : Type 0} (gs : List (List Ref)) (us : List Ref) (a b : A) → AreFull gs
-    → (gs ≡ [] → us ≡ [] → b ≡ a) → kept_if (last_of (last_in None gs) us) a b ≡ a
-kept_head [] [] a b full e = e refl refl
-kept_head [] (u ∷ us) a b full e = ap (λ o. kept_if o a b) (some_last u us).1
-kept_head ([] ∷ gs) us a b full e = absurd (full.0 refl)
-kept_head ((y ∷ ys) ∷ gs) us a b full e =
-    let z = some_last y ys in let w = some_last_in z.0 gs in let v = some_last w.0 us in
-    ap (λ o. kept_if o a b) (ap (λ o. last_of o us) (ap (λ o. last_in o gs) z.1 ∙ w.1) ∙ v.1)
 
 pub members-append : (gs hs : List (List Ref)) → members (gs ++ hs) ≡ members gs ++ members hs
 members-append [] hs = refl

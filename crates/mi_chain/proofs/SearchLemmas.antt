@@ -10,7 +10,7 @@ use Rattle.mi_node.specs.Refs.{Ref, first_of, last_of, IsOut, IsApart}
 use Rattle.mi_node.proofs.EntryLemmas.{flip, same_refl}
 use Rattle.mi_node.proofs.KeepingLemmas.{node_count-least}
 use Rattle.mi_node.proofs.NeighbourLemmas.{linked_left, linked_right, linked_held}
-use Rattle.mi_node.proofs.RefLemmas.{out_left, apart_left, apart_across, last_push, are_out_tail, are_out_flip}
+use Rattle.mi_node.proofs.RefLemmas.{out_left, apart_across, last_push, are_out_tail, are_out_flip}
 use Rattle.mi_chain.specs.Groups.{members, first_in, last_in, AreFull, ArePassed, IsChained, IsChain}
 use Rattle.mi_chain.specs.Places.{is_named, Found, AreNotBelow, IsGap, forth_of, back_of, prev_in}
 use Rattle.mi_chain.specs.Moves.{hops, next_group}
@@ -295,8 +295,6 @@ is_named_if k (Some r) h = h.0
 module _ {T : Type 0} (m : Pooled T) (s : ℕ) (us : List Ref) (r : Ref) (vs : List Ref)
     (hs : List (List Ref)) (full : AreFull hs) (a : IsApart ((us ++ r ∷ vs) ++ members hs))
     (h : IsLinked m s (last_of None (us ++ r ∷ vs)) (us ++ r ∷ vs) (first_in hs None)) (c : IsChained m s hs None) where
-  group_apart : IsApart (us ++ r ∷ vs)
-  group_apart = apart_left (us ++ r ∷ vs) (members hs) a
 
   out_of_rest : IsOut r.name (members hs)
   out_of_rest = (are_out_tail (members hs) r vs

@@ -4,7 +4,6 @@ use Rattle.std.proofs.Common.{◌++◌, length, slice_index_or, Option, Some, No
 use Rattle.std.specs.List.{filter}
 use Rattle.std.proofs.lemmas.List.{get_or-set_same, get_or-set_other}
 use Rattle.std.proofs.lemmas.List.Elements.{filter-append}
-use Rattle.std.proofs.Math.Nat.{mod-lt}
 use Rattle.mi_node.specs.Pool.{Pooled, IsHeld, Keeps}
 use Rattle.mi_node.specs.Neighbours.{kept_if, AreHeld, IsLinked}
 use Rattle.mi_node.specs.declared.link.Link.{Link}
@@ -102,8 +101,6 @@ module _ (R : Ref → Ref → Bool) (A : IsAlike R) (stamp hash : Ref → ℕ) (
   rising_remove (x ∷ xs) r ys h = (after_remove x xs r ys h.0, rising_remove xs r ys h.1)
 
   module _ {T : Type 0} (m : Pooled T) (s : ℕ) (heads : List (Option Ref)) (n : ℕ) where
-    pub bucket_in : (rs : List Ref) → AreBuckets R stamp hash m s heads n rs → (r : ℕ) → r % n < n
-    bucket_in rs h r = mod-lt r h.some
 
     pub chain_of : (rs : List Ref) (h : AreBuckets R stamp hash m s heads n rs) (i : ℕ) (lt : i < n)
         → IsChain m s (slice_index_or heads i None) (h.each i lt).groups

@@ -2,11 +2,10 @@
 --     Keying      hash and equality of keys, of values and of probes
 --     IsLawful      equality of keys is an equivalence, and hashes and probes agree with it
 --     same_nodes, hash_node, has_key      these of nodes in a pool
---     tag_at, stamp_at      the tag of a node's link, and the stamp in it
+--     stamp_at      the stamp in a node's link
 use Rattle.std.specs.Prelude.{◌≡◌, ℕ, Bool, true, false, Option, Some, None}
 use Rattle.mi_node.specs.Pool.{Pooled, value_of, link_of}
 use Rattle.mi_node.specs.Refs.{Ref}
-use Rattle.mi_node.specs.declared.link.Tag.{Tag}
 use Rattle.mi_value.specs.declared.bound.Probe.{Probe}
 
 pub record Keying (T : Type 0) : Type 0 where
@@ -50,9 +49,6 @@ module _ {T : Type 0} where
 
   unfoldable pub has_key : Keying T → Pooled T → Probe → Ref → Bool
   has_key k m p a = passes (λ x. k.same_key x p) (value_of m a.name)
-
-  abbrev pub tag_at : Pooled T → ℕ → Ref → Tag
-  tag_at m s a = (link_of m a.name s).tag
 
   abbrev pub stamp_at : Pooled T → ℕ → Ref → ℕ
   stamp_at m s a = (link_of m a.name s).tag.stamp

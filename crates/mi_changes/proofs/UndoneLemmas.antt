@@ -8,7 +8,7 @@ use Rattle.mi_model.specs.Table.{Table}
 use Rattle.mi_container.specs.Data.{Data, IsData, table_of}
 use Rattle.mi_container.specs.Changes.{opened_data}
 use Rattle.mi_container.specs.Inverse.{Inverse, taken_back, settled}
-use Rattle.mi_container.specs.Fits.{Ready, KeptBy, Fits}
+use Rattle.mi_container.specs.Fits.{KeptBy, Fits}
 use Rattle.mi_container.specs.Run.{Change, changed, inverse_of}
 use Rattle.mi_container.specs.Makes.{Makes, MakesInsert, MakesModify}
 use Rattle.mi_container.proofs.LawLemmas.{change_fits, oldest_is_settled}
@@ -46,28 +46,9 @@ pub makes_modify : (schema shape shape' : Shape) (why : Option (ℕ × ℕ)) (e 
 makes_modify schema shape shape' None e d d' i is good same made holds = makes schema shape shape' _ d d' i is good same made.1 holds
 makes_modify schema shape shape' (Some at) e d d' i is good same made holds = makes schema shape shape' _ d d' i is good same made holds
 
--- the newest can be taken back
-newest_fits : (shape : Shape) (i : Inverse) (is : List Inverse) (ts : List Table) (d : Data) → Fits shape (i ∷ is) ts d
-    → Ready i d × IsData shape (taken_back i d) × (older : List Table) × Fits shape is older (taken_back i d)
-newest_fits shape i is [] d fits = absurd fits
-newest_fits shape i is (t ∷ ts) d fits = (fits.0, fits.1, ts, fits.3)
-
 turned : (schema shape : Shape) (d : Data) (i : Inverse) (is : List Inverse)
     → (holds : CanTakeBack schema shape d (is ++ i ∷ [])) → Fits shape (i ∷ reverse is) holds.1 d
 turned schema shape d i is holds = subst (λ js. Fits shape js holds.1 d) (reverse-append is (i ∷ [])) holds.2
-
-pub newest_ready : (schema shape : Shape) (d : Data) (i : Inverse) (is : List Inverse) → CanTakeBack schema shape d (is ++ i ∷ []) → Ready i d
-newest_ready schema shape d i is holds = (newest_fits shape i (reverse is) holds.1 d (turned schema shape d i is holds)).0
-
-pub newest_data : (schema shape : Shape) (d : Data) (i : Inverse) (is : List Inverse) → CanTakeBack schema shape d (is ++ i ∷ [])
-    → IsData shape (taken_back i d)
-newest_data schema shape d i is holds = (newest_fits shape i (reverse is) holds.1 d (turned schema shape d i is holds)).1
-
-pub newest_back : (schema shape shape' : Shape) (d d' : Data) (i : Inverse) (is : List Inverse) → shape' ≡ shape → d' ≡ taken_back i d
-    → CanTakeBack schema shape d (is ++ i ∷ []) → CanTakeBack schema shape' d' is
-newest_back schema shape shape' d d' i is same back holds =
-    let rest = newest_fits shape i (reverse is) holds.1 d (turned schema shape d i is holds) in
-    stays schema shape shape' (taken_back i d) d' is same back (holds.0, rest.2, rest.3)
 
 -- the oldest can be settled
 tables_split : (shape : Shape) (f : Inverse) (is : List Inverse) (ts : List Table) (d : Data) → Fits shape (is ++ f ∷ []) ts d

@@ -1,5 +1,5 @@
 -- The refusals of a change name an index that is there.
-use Rattle.std.proofs.Common.{◌≡◌, ℕ, ◌+◌, ◌<◌, ◌≤◌, List, [], ◌∷◌, length, drop, Bool, true, false, cond, not, ◌||◌, ◌&&◌}
+use Rattle.std.proofs.Common.{◌≡◌, ℕ, ◌+◌, ◌<◌, ◌≤◌, List, [], ◌∷◌, length, drop, Bool, true, false, cond, not, ◌||◌}
 use Rattle.std.proofs.Common.{◌==◌, Option, Some, None, Result, Ok, Err, refl, sym, ap, ◌∙◌, subst, arith, inl, inr, ◌⊎◌}
 use Rattle.std.specs.Option.{option_map, option_map_or, option_or}
 use Rattle.mi_value.specs.declared.value.Value.{Value}
@@ -14,9 +14,9 @@ use Rattle.mi_value.specs.declared.edit.Edit.{Edit}
 use Rattle.mi_value.specs.Edits.{apply}
 use Rattle.mi_model.specs.Table.{has, row}
 use Rattle.mi_model.specs.Verdict.{Outcome, has_place, is_spent, as_unique, unless, insert_refusal, insert_outcome, replace_refusal}
-use Rattle.mi_model.specs.Verdict.{replace_outcome, refused_modify, modified, modify_outcome, erase_outcome, relocate_outcome}
+use Rattle.mi_model.specs.Verdict.{replace_outcome, refused_modify, modified, modify_outcome}
 use Rattle.mi_model.specs.Database.{Database, Step, schema_of, table_of}
-use Rattle.mi_model.specs.Steps.{MeetsRefusal, insert_step, replace_step, modify_step, erase_step, relocate_step, erase_key_step}
+use Rattle.mi_model.specs.DatabaseChange.{MeetsRefusal, insert_step, replace_step, modify_step}
 use Rattle.mi_protocol.specs.Replies.{IsRefusalOf}
 
 abbrev Within : ℕ → Option (ℕ × ℕ) → Type 0
@@ -112,12 +112,6 @@ modify-within : (s : Shape) (e : ℕ) (edits : List Edit) (rollback : Bool) (t :
 modify-within s e edits rollback t =
     either-answer (length s.indexes) (not (has t e)) (Err NoId, t) _ tt (modified-within s e rollback (apply edits (row t e).1) t)
 
-erase-within : (n e : ℕ) (t : Table) → AnswerWithin n (erase_outcome e t).0
-erase-within n e t = either-answer n (has t e) _ (Err NoId, t) tt tt
-
-relocate-within : (n x e : ℕ) (b : Option ℕ) (t : Table) → AnswerWithin n (relocate_outcome x e b t).0
-relocate-within n x e b t = either-answer n (has t e && has_place t b) _ (Err NoId, t) tt tt
-
 of_index : (c : CatalogShape) (n : ℕ) (e : Refusal) → n < length c.tables → IndexWithin (length (schema_at c n).indexes) e → IsRefusalOf c n e
 of_index c n (Unique x id) table h = (table, h)
 of_index c n (Lost x id) table h = (table, h)
@@ -159,14 +153,3 @@ module _ (d new : Database) (table : ℕ) (e : Refusal) (there : table < length 
       → MeetsRefusal (modify_step table id edits rollback d) e d new → IsRefusalOf new.catalog table e
   modify_refusal_said id edits rollback = refusal_said (modify_step table id edits rollback d)
       refl (modify-within (schema_of d table) id edits rollback (table_of d table))
-
-  pub erase_refusal_said : (id : ℕ) → MeetsRefusal (erase_step table id d) e d new → IsRefusalOf new.catalog table e
-  erase_refusal_said id = refusal_said (erase_step table id d) refl (erase-within (length (schema_of d table).indexes) id (table_of d table))
-
-  pub erase_key_refusal_said : (index : ℕ) (key : List Value) → MeetsRefusal (erase_key_step table index key d) e d new → IsRefusalOf new.catalog table e
-  erase_key_refusal_said index key = refusal_said (erase_key_step table index key d) refl tt
-
-  pub relocate_refusal_said : (index id : ℕ) (before : Option ℕ)
-      → MeetsRefusal (relocate_step table index id before d) e d new → IsRefusalOf new.catalog table e
-  relocate_refusal_said index id before = refusal_said (relocate_step table index id before d) refl
-      (relocate-within (length (schema_of d table).indexes) index id before (table_of d table))

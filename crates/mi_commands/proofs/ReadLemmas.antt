@@ -10,10 +10,10 @@ use Rattle.mi_protocol.specs.Replies.{refused, reply_text}
 use Rattle.mi_protocol.specs.declared.binding.Command.{Command}
 use Rattle.mi_protocol.specs.declared.binding.Command.TheVariants as command
 use Rattle.mi_commands.specs.Answer.{command_answer, command_of, GivenOrMemory}
-use Rattle.mi_commands.specs.Holder.{Held, is_busy}
+use Rattle.mi_commands.specs.Holder.{HeldDatabase, is_busy}
 use Rattle.mi_commands.specs.Performed.{performed}
 
-module _ (s : Held) (conn : ℕ) (bytes reply : List ℕ) where
+module _ (s : HeldDatabase) (conn : ℕ) (bytes reply : List ℕ) where
   -- the exact undo line is an undo, where it is a command
   undo_line : (c : Command) → command_of s conn (command_line bytes) ≡ Ok c → bytes ≡ codes "{\"cmd\":\"undo\"}" → c ≡ command.Undo
   undo_line c is undo =
@@ -24,7 +24,7 @@ module _ (s : Held) (conn : ℕ) (bytes reply : List ℕ) where
       is_undo false e = cc
 
   -- a command is done
-  pub given : (c : Command) (old new : Held) → old ≡ s → command_of s conn (command_line bytes) ≡ Ok c
+  pub given : (c : Command) (old new : HeldDatabase) → old ≡ s → command_of s conn (command_line bytes) ≡ Ok c
       → GivenOrMemory (c ≢ command.Undo) (performed old conn c) old reply new
       → GivenOrMemory (bytes ≢ codes "{\"cmd\":\"undo\"}") (command_answer s conn (command_of s conn (command_line bytes))) s reply new
   given c old new same is done =
@@ -37,11 +37,11 @@ module _ (s : Held) (conn : ℕ) (bytes reply : List ℕ) where
   memory_or e d h = inr h
 
   -- a refusal is said
-  pub refused_line : (e : Refusal) (new : Held) → new ≡ s → IsAnswer (Err e) (command_of s conn (command_line bytes))
+  pub refused_line : (e : Refusal) (new : HeldDatabase) → new ≡ s → IsAnswer (Err e) (command_of s conn (command_line bytes))
       → (e ≡ Memory → bytes ≢ codes "{\"cmd\":\"undo\"}") → reply ≡ reply_text new.database.catalog (refused 0 e)
       → GivenOrMemory (bytes ≢ codes "{\"cmd\":\"undo\"}") (command_answer s conn (command_of s conn (command_line bytes))) s reply new
   refused_line e new same is lacks said =
-      let here = said ∙ ap (λ (o : Held). reply_text o.database.catalog (refused 0 e)) same in
+      let here = said ∙ ap (λ (o : HeldDatabase). reply_text o.database.catalog (refused 0 e)) same in
       elim (memory_or e _ is) [
         | inl memory ↦ inr (lacks memory, (here ∙ ap (λ x. reply_text s.database.catalog (refused 0 x)) memory, same))
         | inr other ↦

@@ -9,30 +9,30 @@ use Rattle.mi_protocol.specs.Replies.{Said, refused, reply_text}
 use Rattle.mi_request.specs.declared.request.Request.{Request}
 use Rattle.mi_protocol.specs.declared.binding.Command.{Command}
 use Rattle.mi_commands.specs.Asked.{Asked, text, too_long}
-use Rattle.mi_commands.specs.Holder.{Held, is_busy}
+use Rattle.mi_commands.specs.Holder.{HeldDatabase, is_busy}
 use Rattle.mi_commands.specs.Performed.{performed}
 
 -- a refusal, which leaves all as it is
-abbrev pub refusal : Held → Refusal → Said × Held
+abbrev pub refusal : HeldDatabase → Refusal → Said × HeldDatabase
 refusal s e = (refused 0 e, s)
 
 -- a command that fits the catalog is done, and any other refused
-abbrev pub command_answer : Held → ℕ → Result Command Refusal → Said × Held
+abbrev pub command_answer : HeldDatabase → ℕ → Result Command Refusal → Said × HeldDatabase
 command_answer s conn (Ok c) = performed s conn c
 command_answer s conn (Err e) = refusal s e
 
 -- the command that a request is, unless it is kept out as `busy`, before its names, row and key are looked at
-abbrev pub command_of : Held → ℕ → Result Request Refusal → Result Command Refusal
+abbrev pub command_of : HeldDatabase → ℕ → Result Request Refusal → Result Command Refusal
 command_of s conn (Ok r) = if keeps_out r && is_busy s.holder conn then Err Busy else bound_command s.database.catalog r
 command_of s conn (Err e) = Err e
 
 -- the answer to a line of a connection
-abbrev pub answer : Held → ℕ → Asked → Said × Held
+abbrev pub answer : HeldDatabase → ℕ → Asked → Said × HeldDatabase
 answer s conn (text t) = command_answer s conn (command_of s conn (command_line t))
 answer s conn too_long = refusal s Line
 
 -- the reply is the text of this answer, and what it leaves is left
-abbrev pub IsGiven : Said × Held → Held → List ℕ → Held → Type 0
+abbrev pub IsGiven : Said × HeldDatabase → HeldDatabase → List ℕ → HeldDatabase → Type 0
 IsGiven a s reply t = (reply ≡ reply_text s.database.catalog a.0) × (t ≡ a.1)
 
 -- `memory` may stand in the place of any answer but these, and then nothing has changed
@@ -41,9 +41,9 @@ MayLackMemory (text t) = t ≢ codes "{\"cmd\":\"undo\"}"
 MayLackMemory too_long = ⊥
 
 -- this answer, or where it may lack memory that refusal
-abbrev pub GivenOrMemory : Type 0 → Said × Held → Held → List ℕ → Held → Type 0
+abbrev pub GivenOrMemory : Type 0 → Said × HeldDatabase → HeldDatabase → List ℕ → HeldDatabase → Type 0
 GivenOrMemory MayLack a s reply t = IsGiven a s reply t ⊎ (MayLack × IsGiven (refusal s Memory) s reply t)
 
 -- From s, this line of the connection may be given this reply, and t is left.
-abbrev pub MayGive : ℕ → Held → Asked → List ℕ → Held → Type 0
+abbrev pub MayGive : ℕ → HeldDatabase → Asked → List ℕ → HeldDatabase → Type 0
 MayGive conn s line reply t = GivenOrMemory (MayLackMemory line) (answer s conn line) s reply t

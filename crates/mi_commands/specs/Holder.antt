@@ -4,7 +4,7 @@ use Rattle.mi_model.specs.Database.{Database, undone_times}
 use Rattle.mi_commands.specs.declared.holder.Holder.{Holder}
 
 -- a database, and its holder: nobody, or a connection `conn` that holds `held` of the open sessions, at least one
-pub record Held : Type 0 where
+pub record HeldDatabase : Type 0 where
   pub database : Database
   pub holder : Option Holder
 
@@ -44,5 +44,5 @@ without_holder conn None = None
 without_holder conn (Some h) = if h.conn == conn then None else Some h
 
 -- what a connection leaves that goes away: the sessions that it holds are undone
-abbrev pub released : ℕ → Held → Held
+abbrev pub released : ℕ → HeldDatabase → HeldDatabase
 released conn s = record { database = undone_times (held_by conn s.holder) s.database; holder = without_holder conn s.holder }

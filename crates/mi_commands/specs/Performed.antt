@@ -7,17 +7,17 @@ use Rattle.mi_value.specs.declared.refusal.Refusal.TheVariants.{NoId, Session}
 use Rattle.mi_value.specs.declared.refusal.NoSession.{NoSession}
 use Rattle.mi_catalog.specs.Shape.{Shape}
 use Rattle.mi_model.specs.Table.{Table, get, has, row, size}
-use Rattle.mi_model.specs.Lookup as look
+use Rattle.mi_model.specs.LookUp as look
 use Rattle.mi_model.specs.Page as page
 use Rattle.mi_model.specs.Page.{Page}
 use Rattle.mi_model.specs.Verdict.{has_place}
 use Rattle.mi_model.specs.Database.{Database, Step, schema_of, table_of, depth, ending, committed, undone_times, start_step, undo_step, squash_step}
-use Rattle.mi_model.specs.Steps.{insert_step, replace_step, modify_step, erase_step, erase_key_step, relocate_step}
+use Rattle.mi_model.specs.DatabaseChange.{insert_step, replace_step, modify_step, erase_step, erase_key_step, relocate_step}
 use Rattle.mi_protocol.specs.Replies as say
 use Rattle.mi_protocol.specs.Replies.{Said}
 use Rattle.mi_protocol.specs.declared.binding.Command.{Command}
 use Rattle.mi_protocol.specs.declared.binding.Command.TheVariants as command
-use Rattle.mi_commands.specs.Holder.{Held, one_more, one_less, at_most, held_by, without_holder}
+use Rattle.mi_commands.specs.Holder.{HeldDatabase, one_more, one_less, at_most, held_by, without_holder}
 use Rattle.mi_commands.specs.declared.holder.Holder.{Holder}
 
 -- what an accepted step says, or its refusal
@@ -26,7 +26,7 @@ said_of accepted refused (Ok v) = accepted v
 said_of accepted refused (Err e) = refused e
 
 -- a change of a table, whoever holds sessions
-abbrev pub changed : {A : Type 0} → (A → Said) → (Refusal → Said) → Step A → Held → Said × Held
+abbrev pub changed : {A : Type 0} → (A → Said) → (Refusal → Said) → Step A → HeldDatabase → Said × HeldDatabase
 changed accepted refused step s = (said_of accepted refused step.0, record { database = step.1; holder = s.holder })
 
 -- a change that answers nothing but that it is done
@@ -44,37 +44,37 @@ or_session (Ok n) = Ok n
 or_session (Err none) = Err Session
 
 -- a session step that says the new revision
-abbrev pub revised : Result ℕ Refusal → Database → (Option Holder → Option Holder) → Held → Said × Held
+abbrev pub revised : Result ℕ Refusal → Database → (Option Holder → Option Holder) → HeldDatabase → Said × HeldDatabase
 revised answer left move s = (said_of say.revised (say.refused 0) answer, record { database = left; holder = moved answer move s.holder })
 
-abbrev pub start_session : Held → ℕ → Said × Held
+abbrev pub start_session : HeldDatabase → ℕ → Said × HeldDatabase
 start_session s conn = let step = start_step s.database in revised step.0 step.1 (one_more conn) s
 
-abbrev pub undo_session : Held → Said × Held
+abbrev pub undo_session : HeldDatabase → Said × HeldDatabase
 undo_session s = let step = undo_step s.database in revised (or_session step.0) step.1 one_less s
 
-abbrev pub squash_session : Held → Said × Held
+abbrev pub squash_session : HeldDatabase → Said × HeldDatabase
 squash_session s = let step = squash_step s.database in revised (or_session step.0) step.1 one_less s
 
 -- sessions with a number of at most x end; the holder holds no more than those that stay open
-abbrev pub commit_sessions : Held → ℕ → Said × Held
+abbrev pub commit_sessions : HeldDatabase → ℕ → Said × HeldDatabase
 commit_sessions s x =
     (say.committed (ending x s.database), record { database = committed x s.database; holder = at_most (depth (committed x s.database)) s.holder })
 
 -- all open sessions are undone, and nobody holds any
-abbrev pub undo_sessions : Held → Said × Held
+abbrev pub undo_sessions : HeldDatabase → Said × HeldDatabase
 undo_sessions s = (say.undone (depth s.database), record { database = undone_times (depth s.database) s.database; holder = None })
 
 -- the sessions that the connection holds are open and held by nobody
-abbrev pub push_sessions : Held → ℕ → Said × Held
+abbrev pub push_sessions : HeldDatabase → ℕ → Said × HeldDatabase
 push_sessions s conn = (say.pushed (held_by conn s.holder), record { database = s.database; holder = without_holder conn s.holder })
 
 -- room is asked for: it is in no reply, and the database means what it meant
-abbrev pub reserve_room : Held → Said × Held
+abbrev pub reserve_room : HeldDatabase → Said × HeldDatabase
 reserve_room s = (say.done, s)
 
 -- how many sessions are open, how many of them the connection holds, and the revision
-abbrev pub status : Held → ℕ → Said
+abbrev pub status : HeldDatabase → ℕ → Said
 status s conn = say.status (depth s.database) (held_by conn s.holder) s.database.revision
 
 -- what a look-up of an id says
@@ -83,36 +83,36 @@ found table id None = say.refused table NoId
 found table id (Some row) = say.shown table id row
 
 -- a record is shown
-abbrev pub show_row : Held → ℕ → ℕ → Said
+abbrev pub show_row : HeldDatabase → ℕ → ℕ → Said
 show_row s table id = found table id (get (table_of s.database table) id)
 
 -- the record of the id that a look-up found
-abbrev pub show_found : Held → ℕ → Option ℕ → Said
+abbrev pub show_found : HeldDatabase → ℕ → Option ℕ → Said
 show_found s table None = say.refused table NoId
 show_found s table (Some id) = show_row s table id
 
 -- the records of a page
-abbrev pub show_page : Held → ℕ → Page → Said
+abbrev pub show_page : HeldDatabase → ℕ → Page → Said
 show_page s table p = say.rows table (map (row (table_of s.database table)) p.ids) p.more
 
 -- the records of a list, unless the one behind which it begins isn't there
-abbrev pub show_list : Held → ℕ → ℕ → Option ℕ → ℕ → Said
+abbrev pub show_list : HeldDatabase → ℕ → ℕ → Option ℕ → ℕ → Said
 show_list s table index after limit =
     let t = table_of s.database table in
     if has_place t after then show_page s table (page.list (schema_of s.database table) t index after limit) else say.refused table NoId
 
 -- how many records stand before one, unless it isn't there
-abbrev pub say_rank : Held → ℕ → ℕ → ℕ → Said
+abbrev pub say_rank : HeldDatabase → ℕ → ℕ → ℕ → Said
 say_rank s table index id =
     let t = table_of s.database table in
     if has t id then say.ranked (look.rank (schema_of s.database table) t index id) else say.refused table NoId
 
 -- what a look-up of a table answers
-abbrev pub asked : {A : Type 0} → Held → ℕ → (Shape → Table → A) → A
+abbrev pub asked : {A : Type 0} → HeldDatabase → ℕ → (Shape → Table → A) → A
 asked s table look_up = look_up (schema_of s.database table) (table_of s.database table)
 
 -- a command, done by a connection that nobody keeps out
-abbrev pub performed : Held → ℕ → Command → Said × Held
+abbrev pub performed : HeldDatabase → ℕ → Command → Said × HeldDatabase
 performed s conn (command.Insert table row before) = changed say.inserted (say.refused table) (insert_step table before row s.database) s
 performed s conn (command.Replace table id row) = changed all_done (say.refused table) (replace_step table id row s.database) s
 performed s conn (command.Modify table id edits rollback) = changed all_done (say.refused_modify table) (modify_step table id edits rollback s.database) s

@@ -8,7 +8,7 @@ use mi_sessions::Sessions;
 use mi_value::{Edit, Record, Value};
 
 impl<D: Sessions + Drop> Executor<D> {
-    ghost use Rattle.mi_model.specs.Steps.{insert_step, replace_step, modify_step, erase_step, erase_key_step, relocate_step};
+    ghost use Rattle.mi_model.specs.DatabaseChange.{insert_step, replace_step, modify_step, erase_step, erase_key_step, relocate_step};
     ghost use Rattle.mi_protocol.specs.Replies.{inserted, erased, refused, refused_modify};
     ghost use Rattle.mi_commands.specs.Performed.{changed, all_done};
     ghost use Rattle.mi_commands.specs.Answer.{GivenOrMemory};

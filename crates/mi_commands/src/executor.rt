@@ -28,10 +28,10 @@ pub struct Executor<D: Sessions + Drop> {
 
 impl<D: Sessions + Drop> Model for Executor<D> {
     ghost use Rattle.std.specs.Prelude.{◌≤◌, length};
-    ghost use Rattle.mi_commands.specs.Holder.{Held, held_count};
+    ghost use Rattle.mi_commands.specs.Holder.{HeldDatabase, held_count};
     ghost use Rattle.mi_model.specs.Database.{depth};
 
-    ghost Value = { Held };
+    ghost Value = { HeldDatabase };
 
     ghost view = { λ d. record { database = D.state d.database; holder = d.holder } };
 

@@ -148,19 +148,10 @@ settled_none = none_kept
 
 -- The laws
 
--- the empty list fits a container that keeps nothing
-pub fits_empty : (s : Shape) (d : Data) → d.kept ≡ [] → Fits s [] [] d
-fits_empty s d none = none
-
 -- a change extends a fitting list by its inverse, with the table before
 pub fits_more : (s : Shape) (i : Inverse) (is : List Inverse) (ts : List Table) (before after : Data)
     → Ready i after → taken_back i after ≡ before → IsData s before → Fits s is ts before → Fits s (i ∷ is) (table_of before ∷ ts) after
 fits_more s i is ts before after ready back is_data fits = (ready, subst (IsData s) (sym back) is_data, ap table_of back, subst (Fits s is ts) (sym back) fits)
-
--- the newest taken back gives its table, and the rest fits
-pub fits_back : (s : Shape) (i : Inverse) (is : List Inverse) (t : Table) (ts : List Table) (d : Data) → Fits s (i ∷ is) (t ∷ ts) d
-    → (table_of (taken_back i d) ≡ t) × IsData s (taken_back i d) × Fits s is ts (taken_back i d)
-fits_back s i is t ts d fits = (fits.2, fits.1, fits.3)
 
 -- the oldest settled keeps the table, and the rest fits
 pub fits_settled : (s : Shape) (f : Inverse) (is : List Inverse) (t : Table) (ts : List Table) (d : Data)

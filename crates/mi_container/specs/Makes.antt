@@ -13,7 +13,7 @@ use Rattle.mi_value.specs.declared.refusal.Refusal.TheVariants.{Lost}
 use Rattle.mi_catalog.specs.Shape.{Shape}
 use Rattle.mi_model.specs.Table.{Table}
 use Rattle.mi_model.specs.Verdict.{Outcome}
-use Rattle.mi_model.specs.Steps.{Meets}
+use Rattle.mi_model.specs.DatabaseChange.{Meets}
 use Rattle.mi_node.specs.Refs.{Ref}
 use Rattle.mi_container.specs.Data.{Data, table_of}
 use Rattle.mi_container.specs.Inverse.{Inverse, lost_to}

@@ -6,7 +6,7 @@ ghost use Rattle.std.specs.Option.{option_copied};
 ghost use Rattle.mi_value.specs.declared.refusal.Refusal.TheVariants.{Memory};
 ghost use Rattle.mi_catalog.specs.Shape.{Shape};
 ghost use Rattle.mi_model.specs.Table.{get as get_row, has as has_row, size as size_of};
-ghost use Rattle.mi_model.specs.Lookup as look;
+ghost use Rattle.mi_model.specs.LookUp as look;
 ghost use Rattle.mi_model.specs.Walk.{rows_from};
 ghost use Rattle.mi_model.specs.Verdict.{insert_outcome, replace_outcome, modify_outcome, erase_outcome, relocate_outcome};
 ghost use Rattle.mi_container.specs.Asked.{IsKeyed, IsHashed, IsSorted, IsSequenced, ShowsOneList, RecordFits, EditsFit, WholeKey, KeyPrefix};

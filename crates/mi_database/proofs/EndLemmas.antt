@@ -1,5 +1,5 @@
 -- Sessions that end, and how a linked database is a database.
-use Rattle.std.proofs.Common.{◌≡◌, ◌≢◌, cond, ℕ, suc, min, ◌+◌, ◌-◌, ◌<◌, ◌≤◌, List, [], ◌∷◌, ◌++◌, length, take, get_or, refl, ap, ap₂, sym, ◌∙◌, subst, arith}
+use Rattle.std.proofs.Common.{◌≡◌, ◌≢◌, cond, ℕ, suc, min, ◌+◌, ◌-◌, ◌<◌, ◌≤◌, List, [], ◌∷◌, length, take, get_or, refl, ap, ap₂, sym, ◌∙◌, subst, arith}
 use Rattle.std.proofs.lemmas.List.{take-take, length-take-le, take_all}
 use Rattle.std.specs.declared.result.Result.{Result}
 use Rattle.std.specs.declared.result.Result.TheVariants.{Ok, Err}
@@ -8,7 +8,7 @@ use Rattle.mi_value.specs.declared.refusal.NoSession.{NoSession}
 use Rattle.mi_value.specs.declared.refusal.Refusal.{Refusal}
 use Rattle.mi_value.specs.declared.refusal.Refusal.TheVariants.{Spent, Depth}
 use Rattle.mi_value.specs.declared.limits.TheConstants.{LAST_COUNT, MAX_SESSIONS}
-use Rattle.mi_journal.specs.Noted.{joined, TwoAreOpen}
+use Rattle.mi_journal.specs.Noted.{joined}
 use Rattle.std.specs.Prelude.{◌==◌}
 use Rattle.mi_catalog.specs.Shape.{Shape, CatalogShape, schema_at}
 use Rattle.mi_model.specs.Table.{Table, IsTable}
@@ -16,7 +16,7 @@ use Rattle.mi_model.specs.Database.{Database, IsDatabase, start_step, started, u
 use Rattle.mi_model.proofs.TableLaws.{not_same}
 use Rattle.mi_container.specs.Data.{Data, table_of, IsData}
 use Rattle.mi_database.specs.Journal.{Entry, Journal, data_at, old_of, unwound, tables_of, state_of, IsLinked}
-use Rattle.mi_database.proofs.JournalLemmas.{length-old, length-unwound, linked_undone, linked_joined, state_joined}
+use Rattle.mi_database.proofs.JournalLemmas.{length-old, length-unwound, linked_undone, state_joined}
 use Rattle.mi_database.specs.LinkedData.{LinkedData, meaning, IsLinkedData, newer_than_oldest, EndsOldest}
 use Rattle.mi_database.proofs.LoopLemmas.{linked_data}
 
@@ -170,10 +170,6 @@ two_sessions [] some more = absurd (some refl)
 two_sessions (es ∷ []) some more = absurd (more refl)
 two_sessions (newest ∷ below ∷ older) some more = (newest, below, older, refl)
 
-pub two_open : (j : Journal) → length j ≢ 0 → length j ≢ 1 → TwoAreOpen j
-two_open j some more = let two : (newest : List Entry) × (below : List Entry) × (older : Journal) × (j ≡ newest ∷ below ∷ older) = two_sessions j some more in
-    subst TwoAreOpen (sym two.3) tt
-
 alone_at : (c : CatalogShape) (ds : List Data) (es : List Entry) (r changes starts : ℕ) (now : LinkedData)
     → EndsOldest (linked_data c ds (es ∷ []) r changes starts) now
     → state_of now.catalog now.datas now.journal (now.revision - 1) ≡ squashed (state_of c ds (es ∷ []) r)
@@ -209,25 +205,6 @@ squash_joins old j' left some more =
     ap (λ q. state_of old.catalog old.datas q (old.revision - 1)) (left ∙ ap joined two.3) ∙ state_joined old.catalog old.datas two.0 two.1 two.2 old.revision
     ∙ ap (λ q. squashed (state_of old.catalog old.datas q old.revision)) (sym two.3) in
     (sym (ap (λ q. q.0) is), state ∙ sym (ap (λ q. q.1) is))
-
--- and what holds stays
-pub joined_held : (ss : List Shape) (c : CatalogShape) (ds : List Data) (j j' : Journal) (r changes starts changes' starts' : ℕ) → j' ≡ joined j → length j ≢ 0
-    → length j ≢ 1 → IsLinkedData ss (linked_data c ds j r changes starts)
-    → IsLinkedData ss (linked_data c ds j' (r - 1) changes' starts')
-joined_held ss c ds j j' r changes starts changes' starts' left some more is =
-    let two : (newest : List Entry) × (below : List Entry) × (older : Journal) × (j ≡ newest ∷ below ∷ older) = two_sessions j some more in
-    let new : j' ≡ (two.0 ++ two.1) ∷ two.2 = left ∙ ap joined two.3 in
-    let fewer : length j' ≡ suc (length two.2) = ap length new in
-    let all : length j ≡ suc (suc (length two.2)) = ap length two.3 in
-    let numbered = is.numbered in
-    let last = is.last in
-    record {
-      linked = subst (IsLinked c ds) (sym new) (linked_joined c ds two.0 two.1 two.2 (subst (IsLinked c ds) two.3 is.linked));
-      shapes = is.shapes;
-      many = is.many;
-      numbered = omega (arith, fewer, all, numbered);
-      last = omega (arith, last);
-    }
 
 -- while sessions are undone
 pub record Undoing (left all : ℕ) (first now : LinkedData) : Type 0 where

@@ -18,9 +18,6 @@ use Rattle.mi_database.specs.Journal.{old_of, state_of, Holds, entries, IsLinked
 use Rattle.mi_container.proofs.FitLemmas.{Differ, settled_back, settled_ready, settled_data, settled_table}
 use Rattle.mi_container.proofs.FitLemmas.{settled_none, ready_keeps, differs, held, held_back, times-append}
 
-no_data : Data
-no_data = record { rows = []; orders = []; next = 0; arrivals = 0; kept = [] }
-
 at_same : (ds : List Data) (n : ℕ) (d : Data) → n < length ds → data_at (set ds n d) n ≡ d
 at_same ds n d l = get_or-set_same ds n d _ l
 
@@ -121,14 +118,6 @@ pub state_joined : (c : CatalogShape) (ds : List Data) (newest below : List Entr
 state_joined c ds newest below older r =
     let same : unwound (newest ++ below) ds ≡ unwound below (unwound newest ds) = unwound-append newest below ds in
     λ k. record { catalog = c; tables = tables_of ds; old = tables_of (same k) ∷ old_of (same k) older; revision = r - 1 }
-
-pub linked_joined : (c : CatalogShape) (ds : List Data) (newest below : List Entry) (older : Journal) → IsLinked c ds (newest ∷ below ∷ older)
-    → IsLinked c ds (joined (newest ∷ below ∷ older))
-linked_joined c ds newest below older is = record {
-  each = is.each;
-  holds =
-      subst (λ es. Holds c es ds) (sym (append_assoc newest below (entries older))) is.holds;
-}
 
 -- Settling the oldest
 

@@ -1,6 +1,6 @@
 -- How the kept rows move.
 use Rattle.std.proofs.Common.{◌≡◌, ◌≢◌, Bool, true, false, cond, Option, Some, None, ℕ, ◌-◌, ◌<◌, List}
-use Rattle.std.proofs.Common.{[], ◌∷◌, ◌++◌, map, length, take, refl, ap, ap₂, sym, ◌∙◌, subst, arith}
+use Rattle.std.proofs.Common.{[], ◌∷◌, ◌++◌, map, length, take, refl, ap, ap₂, sym, ◌∙◌, subst}
 use Rattle.std.proofs.lemmas.List.{take-map, append-nil, append_assoc, nil_from_length, get_or-set_same}
 use Rattle.std.specs.declared.result.Result.{Result}
 use Rattle.std.specs.declared.result.Result.TheVariants.{Ok, Err}
@@ -10,11 +10,11 @@ use Rattle.mi_catalog.specs.Shape.{Shape}
 use Rattle.mi_model.specs.Table.{Table, has, times}
 use Rattle.mi_model.specs.Change.{erase}
 use Rattle.mi_model.specs.Verdict.{Outcome}
-use Rattle.mi_model.specs.Steps.{Meets, MeetsRefusal, erase_step, modify_step}
+use Rattle.mi_model.specs.DatabaseChange.{Meets, MeetsRefusal, erase_step, modify_step}
 use Rattle.mi_model.specs.Database.{Database, ending, schema_of, table_of, with_table}
 use Rattle.mi_model.specs.Run.{Command}
 use Rattle.mi_model.specs.Run.Command.{Erase, Modify, Commit}
-use Rattle.mi_model.specs.Footprint.{Kept, kept_after, kept_more, lost_row, kept_on_undo, kept_on_squash}
+use Rattle.mi_model.specs.Footprint.{Kept, kept_after, kept_more, lost_row, kept_on_squash}
 use Rattle.mi_value.specs.declared.edit.Edit.{Edit}
 use Rattle.mi_container.specs.Data.{Data}
 use Rattle.mi_container.specs.Inverse.{Inverse, keeps, relocate_inverse, moved_back, lost_to}
@@ -30,7 +30,7 @@ use Rattle.mi_database.specs.Journal.{Entry, Journal, entries, kept_in, kept_by,
 use Rattle.mi_container.specs.Fits.{kept_id}
 use Rattle.mi_database.proofs.JournalLemmas.{kept_joined, kept_names, length-old}
 use Rattle.mi_journal.specs.Noted.{noted, joined}
-use Rattle.mi_database.specs.LinkedData.{LinkedData, meaning, IsLinkedData, older_of, newer_than_oldest}
+use Rattle.mi_database.specs.LinkedData.{LinkedData, meaning, IsLinkedData}
 use Rattle.mi_database.specs.Kept.{kept_rows, KeptAfter, KeptRefused, NodesAreKept, ids_in, ids_at}
 
 in_step : (b : Bool) (a : ℕ) (xs ys : List ℕ) → cond b (a ∷ (xs ++ ys)) (xs ++ ys) ≡ cond b (a ∷ xs) xs ++ ys
@@ -69,15 +69,6 @@ nodes_kept ss h n is l =
       gone =
           (is.linked.each n l).gone;
     }
-
-pub undo_keeps : (j : Journal) → map kept_in (older_of j) ≡ kept_on_undo (map kept_in j)
-undo_keeps [] = refl
-undo_keeps (newest ∷ older) = refl
-
-pub alone_keeps : (j : Journal) → length j ≡ 1 → map kept_in (newer_than_oldest j) ≡ kept_on_squash (map kept_in j)
-alone_keeps [] one = refl
-alone_keeps (es ∷ []) one = refl
-alone_keeps (es ∷ below ∷ older) one = absurd (omega (arith, one))
 
 pub join_keeps : (j : Journal) → length j ≢ 1 → map kept_in (joined j) ≡ kept_on_squash (map kept_in j)
 join_keeps [] more = refl
@@ -225,10 +216,6 @@ first_keeps n x e key old new r l first state never kept =
     ap₂ (λ ids s. kept_more (map row ids) s) left more ∙ kept_twice ((n, e) ∷ []) (map row (of_key (schema_of d n) (erase e (table_of d n)) x key))
     (kept_rows old)
     ∙ sym (ap (λ ids. kept_more (map row ids) (kept_rows old)) first.split)
-
-pub all_kept : (n x : ℕ) (key : List Value) (h : LinkedData) → length (keyed n x key (meaning h)) ≡ 0 → kept_rows h ≡ kept_with n x key h
-all_kept n x key h none = sym (ap (λ ids. kept_more (map (λ (id : ℕ). (n, id)) ids) (kept_rows h)) (nil_from_length (keyed n x key (meaning h)) none)
-    ∙ none_more (kept_rows h))
 
 -- no session is open
 pub none_kept : (h : LinkedData) → length h.journal ≡ 0 → kept_rows h ≡ []

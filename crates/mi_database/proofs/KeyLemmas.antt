@@ -11,9 +11,9 @@ use Rattle.mi_catalog.specs.Shape.{Shape}
 use Rattle.mi_model.specs.Table.{Table, IsTable, has, times}
 use Rattle.mi_model.specs.View.{view, of_key}
 use Rattle.mi_model.specs.Change.{without, erase, erase_all, erase_key}
-use Rattle.mi_model.specs.Lookup.{find}
+use Rattle.mi_model.specs.LookUp.{find}
 use Rattle.mi_model.specs.Verdict.{Outcome}
-use Rattle.mi_model.specs.Steps.{Meets, MeetsRefusal, erase_step, erase_key_step}
+use Rattle.mi_model.specs.DatabaseChange.{Meets, MeetsRefusal, erase_step, erase_key_step}
 use Rattle.mi_model.specs.Database.{Database, schema_of, table_of, with_table}
 use Rattle.mi_model.proofs.ViewLaws.{of_key-erase}
 use Rattle.mi_model.proofs.TableLaws.{lacks_of_count}
@@ -97,22 +97,3 @@ pub record Erasing (n x : ℕ) (key : List Value) (rows i : ℕ) (first now : Li
   pub kept : kept_with n x key now ≡ kept_with n x key first
   pub changes : first.changes ≤ now.changes + i
   pub starts : now.starts ≡ first.starts
-
-pub erasing_more : (n x : ℕ) (key : List Value) (rows i : ℕ) (first now next : LinkedData) → Erasing n x key rows i first now
-    → ErasesOne n x key (meaning now) (meaning next)
-    → kept_with n x key next ≡ kept_with n x key now → next.catalog ≡ now.catalog → length next.journal ≡ length now.journal → now.changes ≤ next.changes + 1
-    → next.starts ≡ now.starts → Erasing n x key rows (i + 1) first next
-erasing_more n x key rows i first now next e one kept catalog depth changes starts =
-    let fewer = one.fewer in
-    let left = e.left in
-    let lowered = e.changes in
-    record {
-      catalog = catalog ∙ e.catalog;
-      open_ = depth ∙ e.open_;
-      left = omega (arith, fewer, left);
-      all = one.all ∙ e.all;
-      room = λ some. let room = e.room (subst (λ k. 0 < k) depth some) in omega (arith, room, changes);
-      kept = kept ∙ e.kept;
-      changes = omega (arith, lowered, changes);
-      starts = starts ∙ e.starts;
-    }

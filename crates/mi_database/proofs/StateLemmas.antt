@@ -6,7 +6,7 @@ use Rattle.mi_value.specs.declared.refusal.Refusal.{Refusal}
 use Rattle.mi_catalog.specs.Shape.{Shape, CatalogShape}
 use Rattle.mi_model.specs.Table.{Table}
 use Rattle.mi_model.specs.Verdict.{Outcome}
-use Rattle.mi_model.specs.Steps.{Meets}
+use Rattle.mi_model.specs.DatabaseChange.{Meets}
 use Rattle.mi_model.specs.Database.{Database, with_table, on_table}
 use Rattle.mi_model.specs.Database.{table_of as table_at}
 use Rattle.mi_model.proofs.StepLaws.{meets_on_table, with_same_table}

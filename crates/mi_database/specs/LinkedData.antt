@@ -64,10 +64,6 @@ back_by (e ∷ es) ds = entry_back e ds
 abbrev pub newer_than_oldest : {A : Type 0} → List A → List A
 newer_than_oldest xs = take (length xs - 1) xs
 
--- the oldest session ended, and its changes stay
-abbrev pub one_ended : Database → Database
-one_ended d = record d { old = newer_than_oldest d.old }
-
 -- the oldest change is settled, or the oldest session has none: but for that session all that is meant stays
 pub record SettlesSome (old new : LinkedData) : Type 0 where
   pub fewer : length (entries new.journal) + 1 ≡ length (entries old.journal)

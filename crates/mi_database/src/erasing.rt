@@ -2,7 +2,7 @@
 ghost use Rattle.std.specs.Prelude.{◌≡◌, ◌≢◌, ◌<◌, ◌≤◌, ◌+◌, length, IfErr, Err};
 ghost use Rattle.mi_value.specs.declared.refusal.Refusal.TheVariants.{Memory};
 ghost use Rattle.mi_catalog.specs.Fitting.{HasTable, IsKeyedIndex, FitsWhole};
-ghost use Rattle.mi_model.specs.Steps.{Meets, erase_step};
+ghost use Rattle.mi_model.specs.DatabaseChange.{Meets, erase_step};
 ghost use Rattle.mi_model.specs.Run.Command.{Erase as EraseCommand};
 ghost use Rattle.mi_database.specs.LinkedData.{meaning, RoomFor};
 ghost use Rattle.mi_database.specs.Kept.{kept_with, KeptAfter};

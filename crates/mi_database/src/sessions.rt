@@ -3,7 +3,7 @@ ghost use Rattle.std.specs.Prelude.{◌≡◌, ◌≢◌, ◌<◌, ◌≤◌, �
 ghost use Rattle.mi_value.specs.declared.refusal.Refusal.TheVariants.{Memory};
 ghost use Rattle.mi_catalog.specs.Fitting.{HasTable, IsKeyedIndex, IsSequencedIndex, FitsTable, EditsFit, FitsWhole};
 ghost use Rattle.mi_model.specs.Database.{depth as depth_of, start_step, undo_step, squash_step, ending, committed, undone_times};
-ghost use Rattle.mi_model.specs.Steps.{Meets, without_value, insert_step, replace_step, modify_step, erase_step, erase_key_step, relocate_step};
+ghost use Rattle.mi_model.specs.DatabaseChange.{Meets, without_value, insert_step, replace_step, modify_step, erase_step, erase_key_step, relocate_step};
 ghost use Rattle.mi_model.specs.Footprint.{kept_after};
 ghost use Rattle.mi_model.specs.Run.Command.{Insert as InsertCommand, Replace as ReplaceCommand, Modify as ModifyCommand};
 ghost use Rattle.mi_model.specs.Run.Command.{Erase as EraseCommand, EraseKey as EraseKeyCommand, Relocate as RelocateCommand};

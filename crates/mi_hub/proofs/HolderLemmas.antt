@@ -7,7 +7,7 @@ use Rattle.mi_protocol.specs.declared.binding.Command.{Command}
 use Rattle.mi_protocol.specs.declared.binding.Command.TheVariants as command
 use Rattle.mi_commands.specs.Asked.{Asked, text, too_long}
 use Rattle.mi_hub.specs.Lines.{Rest}
-use Rattle.mi_commands.specs.Holder.{Held, one_more, one_less, at_most, without_holder, released}
+use Rattle.mi_commands.specs.Holder.{HeldDatabase, one_more, one_less, at_most, without_holder, released}
 use Rattle.mi_commands.specs.Performed.{performed, moved}
 use Rattle.mi_commands.specs.Answer.{command_answer, command_of, answer, MayGive}
 use Rattle.mi_hub.specs.Served.{InTurn, Served, CutOff}
@@ -49,7 +49,7 @@ module _ (cs : List Connection) where
 
   -- ---- answers
   module _ (conn : ℕ) (here : IsSome (rest_at conn cs)) where
-    by_command : (s : Held) (c : Command) → holder_is_attached s.holder cs ≡ true → holder_is_attached (performed s conn c).1.holder cs ≡ true
+    by_command : (s : HeldDatabase) (c : Command) → holder_is_attached s.holder cs ≡ true → holder_is_attached (performed s conn c).1.holder cs ≡ true
     by_command s (command.Insert table row before) h = h
     by_command s (command.Replace table id row) h = h
     by_command s (command.Modify table id edits rollback) h = h
@@ -75,31 +75,32 @@ module _ (cs : List Connection) where
     by_command s (command.UpperRank table index key) h = h
     by_command s (command.Size table) h = h
 
-    by_bound : (s : Held) (c : Result Command Refusal) → holder_is_attached s.holder cs ≡ true → holder_is_attached (command_answer s conn c).1.holder cs ≡ true
+    by_bound : (s : HeldDatabase) (c : Result Command Refusal) → holder_is_attached s.holder cs ≡ true
+        → holder_is_attached (command_answer s conn c).1.holder cs ≡ true
     by_bound s (Ok c) h = by_command s c h
     by_bound s (Err e) h = h
 
-    by_answer : (s : Held) (line : Asked) → holder_is_attached s.holder cs ≡ true → holder_is_attached (answer s conn line).1.holder cs ≡ true
+    by_answer : (s : HeldDatabase) (line : Asked) → holder_is_attached s.holder cs ≡ true → holder_is_attached (answer s conn line).1.holder cs ≡ true
     by_answer s (text t) h = by_bound s (command_of s conn (command_line t)) h
     by_answer s too_long h = h
 
-    by_reply : (s t : Held) (line : Asked) (reply : List ℕ) → MayGive conn s line reply t
+    by_reply : (s t : HeldDatabase) (line : Asked) (reply : List ℕ) → MayGive conn s line reply t
         → holder_is_attached s.holder cs ≡ true → holder_is_attached t.holder cs ≡ true
-    by_reply s t line reply (inl p) h = ap (λ (u : Held). holder_is_attached u.holder cs) p.1 ∙ by_answer s line h
-    by_reply s t line reply (inr p) h = ap (λ (u : Held). holder_is_attached u.holder cs) p.1.1 ∙ h
+    by_reply s t line reply (inl p) h = ap (λ (u : HeldDatabase). holder_is_attached u.holder cs) p.1 ∙ by_answer s line h
+    by_reply s t line reply (inr p) h = ap (λ (u : HeldDatabase). holder_is_attached u.holder cs) p.1.1 ∙ h
 
-    in_turn : (lines : List Asked) (replies : List (List ℕ)) (s t : Held) → InTurn (MayGive conn) s lines replies t
+    in_turn : (lines : List Asked) (replies : List (List ℕ)) (s t : HeldDatabase) → InTurn (MayGive conn) s lines replies t
         → holder_is_attached s.holder cs ≡ true → holder_is_attached t.holder cs ≡ true
-    in_turn [] [] s t p h = ap (λ (u : Held). holder_is_attached u.holder cs) p ∙ h
+    in_turn [] [] s t p h = ap (λ (u : HeldDatabase). holder_is_attached u.holder cs) p ∙ h
     in_turn [] (r ∷ replies) s t p h = absurd p
     in_turn (l ∷ lines) [] s t p h = absurd p
     in_turn (l ∷ lines) (r ∷ replies) s t p h = in_turn lines replies p.0 t p.2 (by_reply s p.0 l r p.1 h)
 
-    pub served_holder : (lines : List Asked) (out : List ℕ) (s t : Held) → Served (MayGive conn) s lines out t
+    pub served_holder : (lines : List Asked) (out : List ℕ) (s t : HeldDatabase) → Served (MayGive conn) s lines out t
         → holder_is_attached s.holder cs ≡ true → holder_is_attached t.holder cs ≡ true
     served_holder lines out s t p h = in_turn lines p.replies s t p.in_turn h
 
-    pub cut_holder : (lines : List Asked) (out : List ℕ) (s t : Held) → CutOff (MayGive conn) s lines out t
+    pub cut_holder : (lines : List Asked) (out : List ℕ) (s t : HeldDatabase) → CutOff (MayGive conn) s lines out t
         → holder_is_attached s.holder cs ≡ true → holder_is_attached t.holder cs ≡ true
     cut_holder lines out s t p h = in_turn (p.asked ++ p.line ∷ []) (p.replies ++ p.reply ∷ []) s t p.in_turn h
 
@@ -133,19 +134,19 @@ pub pushed_holder : (b : Bool) (o : Option Holder) (cs ds new : List Connection)
 pushed_holder true o cs ds new is h = ap (holder_is_attached o) is ∙ more_attached o cs ds h
 pushed_holder false o cs ds new is h = ap (holder_is_attached o) is ∙ h
 
-module _ (conn at : ℕ) (old : HubState) (h : Held) (cs : List Connection) (view : record { held = h; attached = cs } ≡ old) where
-  pub left_holder : (new : Held) (ds : List Connection) → remove old.attached at ≡ others conn old.attached → holder_is_attached h.holder cs ≡ true
+module _ (conn at : ℕ) (old : HubState) (h : HeldDatabase) (cs : List Connection) (view : record { held = h; attached = cs } ≡ old) where
+  pub left_holder : (new : HeldDatabase) (ds : List Connection) → remove old.attached at ≡ others conn old.attached → holder_is_attached h.holder cs ≡ true
       → new ≡ released conn h → ds ≡ remove cs at → holder_is_attached new.holder ds ≡ true
   left_holder new ds there kept left removed =
       let gone = subst (λ (s : HubState). remove s.attached at ≡ others conn s.attached) (sym view) there in
-      ap (λ (u : Held). holder_is_attached u.holder ds) left
+      ap (λ (u : HeldDatabase). holder_is_attached u.holder ds) left
       ∙ ap (holder_is_attached (without_holder conn h.holder)) (removed ∙ gone) ∙ gone_holder conn h.holder cs kept
 
   module _ (stands : StandsAt conn at old.attached) where
     stands_here : StandsAt conn at cs
     stands_here = subst (λ (s : HubState). StandsAt conn at s.attached) (sym view) stands
 
-    pub lines_holder : {T E : Type 0} (W V : List ℕ → Type 0) (new : Held) (lines : List Asked) (r : Result T E)
+    pub lines_holder : {T E : Type 0} (W V : List ℕ → Type 0) (new : HeldDatabase) (lines : List Asked) (r : Result T E)
         → OnOk r ((out : List ℕ) × W out × Served (MayGive conn) h lines out new) → OnErr r ((out : List ℕ) × V out × CutOff (MayGive conn) h lines out new)
         → holder_is_attached h.holder cs ≡ true → holder_is_attached new.holder cs ≡ true
     lines_holder W V new lines (Ok v) ok err kept = served_holder cs conn

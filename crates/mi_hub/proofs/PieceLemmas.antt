@@ -202,10 +202,3 @@ write_of X o result some (inl not) none x = absurd (false_true (sym (ap is_some 
     false_true : is_some {T = Rest} None ≡ true → ⊥
     false_true k = cc
 write_of X o result some (inr write) none x = x write
-
-pub on_err : {T E : Type 0} {r : Result T E} {e : E} {P : Type 0} → r ≡ Err e → OnErr r P → P
-on_err {r = Ok v} is p = absurd (ok_err is)
-  where
-    ok_err : {T E : Type 0} {v : T} {e : E} → ◌≡◌ {A = Result T E} (Ok v) (Err e) → ⊥
-    ok_err h = cc
-on_err {r = Err e} is p = p

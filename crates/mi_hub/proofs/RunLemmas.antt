@@ -2,7 +2,7 @@
 use Rattle.std.proofs.Common.{◌≡◌, ℕ, zero, suc, List, [], ◌∷◌, get_or, set, remove, Option, Some, None}
 use Rattle.std.proofs.Common.{is_some, true, MatchOption, option_to_list, refl, sym, ap, ◌∙◌, subst}
 use Rattle.mi_hub.specs.Lines.{Rest, lines_from, rest_from, last_line}
-use Rattle.mi_commands.specs.Holder.{Held, released}
+use Rattle.mi_commands.specs.Holder.{HeldDatabase, released}
 use Rattle.mi_hub.specs.Connections.{rest_at, with_rest}
 use Rattle.mi_hub.specs.Places.{StandsAt}
 use Rattle.mi_commands.specs.Answer.{MayGive}
@@ -36,7 +36,7 @@ remove-set (x ∷ xs) zero y = refl
 remove-set (x ∷ xs) (suc i) y = ap (λ zs. x ∷ zs) (remove-set xs i y)
 
 -- a piece was fed to the connection that stands at this place
-pub piece_done : (conn at : ℕ) (old : HubState) (before new : Held) (cs : List Connection) (x : Connection) (bytes out : List ℕ) (kept : Rest)
+pub piece_done : (conn at : ℕ) (old : HubState) (before new : HeldDatabase) (cs : List Connection) (x : Connection) (bytes out : List ℕ) (kept : Rest)
     → record { held = before; attached = cs } ≡ old → StandsAt conn at old.attached → x ≡ get_or cs at x
     → Served (MayGive conn) before (lines_from x.rest bytes) out new → kept ≡ rest_from x.rest bytes
     → Done old (piece conn bytes) out (record { held = new; attached = set cs at (record { id = x.id; rest = kept }) })
@@ -52,7 +52,7 @@ piece_done conn at old before new cs x bytes out kept view stands is served rest
     )) stands
 
 -- the writer failed while a piece was fed to it
-pub piece_failed : (conn at : ℕ) (old new : HubState) (before mid : Held) (cs : List Connection) (x y : Connection) (bytes out : List ℕ)
+pub piece_failed : (conn at : ℕ) (old new : HubState) (before mid : HeldDatabase) (cs : List Connection) (x y : Connection) (bytes out : List ℕ)
     → record { held = before; attached = cs } ≡ old → StandsAt conn at old.attached → x ≡ get_or cs at x
     → CutOff (MayGive conn) before (lines_from x.rest bytes) out mid → new ≡ record { held = released conn mid; attached = remove (set cs at y) at }
     → Failed old (piece conn bytes) out new
@@ -67,7 +67,7 @@ piece_failed conn at old new before mid cs x y bytes out view stands is cut left
     )) stands
 
 -- the writer failed while a connection was closed
-pub close_failed : (conn at : ℕ) (old new : HubState) (before mid : Held) (cs : List Connection) (x : Connection) (out : List ℕ)
+pub close_failed : (conn at : ℕ) (old new : HubState) (before mid : HeldDatabase) (cs : List Connection) (x : Connection) (out : List ℕ)
     → record { held = before; attached = cs } ≡ old → StandsAt conn at old.attached → x ≡ get_or cs at x
     → CutOff (MayGive conn) before (option_to_list (last_line x.rest)) out mid → new ≡ record { held = released conn mid; attached = remove cs at }
     → Failed old (close conn) out new

@@ -2,7 +2,7 @@
 -- attach 1, piece 1 "{\"cmd\":\"start\"}⏎{\"cmd\":\"und", piece 1 "o\"}", close 1.
 use Rattle.std.specs.Prelude.{◌≡◌, ◌⊎◌, ℕ, ◌<◌, ◌≤◌, List, [], ◌∷◌, ◌++◌, length, option_to_list, Some, None, IsSome}
 use Rattle.mi_hub.specs.Lines.{Rest, lines_from, rest_from, last_line}
-use Rattle.mi_commands.specs.Holder.{Held, released}
+use Rattle.mi_commands.specs.Holder.{HeldDatabase, released}
 use Rattle.mi_hub.specs.Connections.{rest_at, with_rest, others}
 use Rattle.mi_commands.specs.Answer.{MayGive}
 use Rattle.mi_hub.specs.Served.{Served, CutOff}
@@ -13,7 +13,7 @@ use Rattle.mi_value.specs.declared.limits.TheConstants.{MAX_CONNECTIONS}
 
 -- the database with its holder, and the attached connections, each with the rest of the bytes fed to it
 pub record HubState : Type 0 where
-  pub held : Held
+  pub held : HeldDatabase
   pub attached : List Connection
 
 -- what happens to one connection: it comes, a piece of its bytes comes, its bytes end, or it breaks off
@@ -32,7 +32,7 @@ abbrev pub gone : ℕ → HubState → HubState
 gone conn s = record { held = released conn s.held; attached = others conn s.attached }
 
 -- the same with another database and holder
-abbrev pub with_held : Held → HubState → HubState
+abbrev pub with_held : HeldDatabase → HubState → HubState
 with_held h s = record { held = h; attached = s.attached }
 
 -- From old, the event is done: out is written, and new is left.
@@ -45,7 +45,7 @@ Done old (piece conn bytes) out new =
     (r : Rest) × (rest_at conn old.attached ≡ Some r) × Served (MayGive conn) old.held (lines_from r bytes) out new.held
     × (new.attached ≡ with_rest conn (rest_from r bytes) old.attached)
 Done old (close conn) out new =
-    (r : Rest) × (mid : Held) × (rest_at conn old.attached ≡ Some r)
+    (r : Rest) × (mid : HeldDatabase) × (rest_at conn old.attached ≡ Some r)
     × Served (MayGive conn) old.held (option_to_list (last_line r)) out mid × (new ≡ gone conn (with_held mid old))
 Done old (cut conn) out new = IsSome (rest_at conn old.attached) × (out ≡ []) × (new ≡ gone conn old)
 
@@ -53,10 +53,10 @@ Done old (cut conn) out new = IsSome (rest_at conn old.attached) × (out ≡ [])
 abbrev pub Failed : HubState → Event → List ℕ → HubState → Type 0
 Failed old (attach conn) out new = ⊥
 Failed old (piece conn bytes) out new =
-    (r : Rest) × (mid : Held) × (rest_at conn old.attached ≡ Some r)
+    (r : Rest) × (mid : HeldDatabase) × (rest_at conn old.attached ≡ Some r)
     × CutOff (MayGive conn) old.held (lines_from r bytes) out mid × (new ≡ gone conn (with_held mid old))
 Failed old (close conn) out new =
-    (r : Rest) × (mid : Held) × (rest_at conn old.attached ≡ Some r)
+    (r : Rest) × (mid : HeldDatabase) × (rest_at conn old.attached ≡ Some r)
     × CutOff (MayGive conn) old.held (option_to_list (last_line r)) out mid × (new ≡ gone conn (with_held mid old))
 Failed old (cut conn) out new = ⊥
 

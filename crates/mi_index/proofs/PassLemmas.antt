@@ -1,11 +1,11 @@
 -- One pass over the structures: a step in the first, and then a pass over those behind it.
---     head_ready, tail_ready      what the first structure and those behind it ask for
+--     tail_ready  what those behind the first structure ask for
 --     passed      the whole pass
 use Rattle.std.proofs.Common.{◌≡◌, ℕ, ◌+◌, ◌<◌, ◌==◌, false, List, [], ◌∷◌, refl, ap, ◌∙◌, arith}
 use Rattle.mi_node.specs.Pool.{Pooled, Keeps}
 use Rattle.mi_node.specs.Refs.{Ref}
 use Rattle.mi_index.specs.Standing.{slot_in, IsLike}
-use Rattle.mi_index.specs.Pass.{Asks, Gives, AllStand, AllCan, AllDone, KeepsFrom, IsReady, IsStep, AreReady, IsPass}
+use Rattle.mi_index.specs.Pass.{Asks, Gives, AllStand, AllCan, AllDone, KeepsFrom, IsStep, AreReady, IsPass}
 use Rattle.mi_order.specs.declared.stored.Stored.{Stored}
 use Rattle.mi_index.specs.declared.structure.Structure.{Structure}
 use Rattle.mi_index.specs.declared.structure.Structure.TheVariants.{Ordered, Hashed, Sequenced}
@@ -88,12 +88,6 @@ module _ (P : Asks) (Q : Gives) (stays : Stays P) (before : Before Q) (after : A
   )
 
   module _ (r : Ref) (x : Structure) (xs : List Structure) (s : ℕ) (m : Pooled Stored) where
-    pub head_ready : AreReady P s (x ∷ xs) m → IsReady P s x m
-    head_ready q = at_head q.rss q.stand q.can
-      where
-        at_head : (rss : List (List Ref)) → AllStand (x ∷ xs) s m rss → AllCan P (x ∷ xs) s m rss → IsReady P s x m
-        at_head [] h c = absurd h
-        at_head (rs ∷ rss) h c = record { rs = rs; stands = h.1; can = c.0 }
 
     module _ (y : Structure) (n : Pooled Stored) (step : IsStep P Q r s x y m n) where
       pub tail_ready : AreReady P s (x ∷ xs) m → AreReady P (s + 1) xs n

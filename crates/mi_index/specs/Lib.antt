@@ -1,7 +1,7 @@
 pub mod Standing
 pub mod Places
 pub mod Pass
-pub mod Steps
+pub mod PassSteps
 pub mod Passes
 pub mod Rekeying
 pub mod Inserting

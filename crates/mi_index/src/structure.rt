@@ -6,7 +6,7 @@ ghost use Rattle.mi_node.specs.Refs.{Ref};
 ghost use Rattle.mi_index.specs.Standing.{IsLike, IsRoomy};
 ghost use Rattle.mi_index.specs.Pass.{IsReady, IsStep};
 ghost use Rattle.mi_index.specs.Passes as pass;
-ghost use Rattle.mi_index.specs.Steps as step;
+ghost use Rattle.mi_index.specs.PassSteps as step;
 ghost use Rattle.mi_index.specs.Opened as opened;
 ghost use Rattle.mi_index.specs.Inserting as insert;
 ghost use Rattle.mi_index.specs.declared.structure.Structure.TheVariants.{Ordered, Hashed, Sequenced};

@@ -50,10 +50,6 @@ module _ {T : Type 0} where
       let same : y ≡ q = cc in let on = knows l m xs y ys h in
       subst (λ (z : Ref). IsHeld m z × ((link_of m z.name l.slot).back ≡ last_of None xs)) same (on.held, on.back_is)
 
-  pub back_none : (l : List) (m : Pooled T) (xs ys : Seq Ref) → IsListed l m (xs ++ ys) → first_of ys None ≡ None → l.last ≡ last_of None xs
-  back_none l m xs [] h e = h.last_is ∙ ap (last_of None) (nothing_after xs)
-  back_none l m xs (y ∷ ys) h e = absurd cc
-
   -- what a call of `join` says
   pub record Joined (l k : List) (m n : Pooled T) (b w f p : Option Ref) : Type 0 where
     pub pool : n ≡ joined m l.slot b w f p

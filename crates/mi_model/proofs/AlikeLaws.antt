@@ -30,7 +30,7 @@ use Rattle.mi_model.specs.Alike.{IsCommandOf, AnswersAlike, CommandsAnswerAlike,
 use Rattle.mi_model.proofs.TableLaws.{fresh_of_table, is_table_opened}
 use Rattle.mi_model.proofs.SameLaws.{with_lists, same_insert, same_insert_before, same_put, same_erase, asked, same_of_key, same_erase_key, same_relocate}
 use Rattle.mi_model.proofs.DatabaseLaws.{not_not, is_database_after}
-use Rattle.mi_model.proofs.AlikeLookUps.{same_at, zip_length}
+use Rattle.mi_model.proofs.AlikeLookUpLaws.{same_at, zip_length}
 
 -- one answer, and tables that show the same
 abbrev SameOutcome : {A : Type 0} → Shape → Outcome A → Outcome A → Type 0

@@ -8,7 +8,7 @@ use Rattle.mi_value.specs.declared.refusal.Refusal.TheVariants.{Memory}
 use Rattle.mi_catalog.specs.Shape.{Shape}
 use Rattle.mi_model.specs.Table.{Table, IsTable, opened}
 use Rattle.mi_model.specs.Database.{Database, IsDatabase, Step, schema_of, table_of}
-use Rattle.mi_model.specs.Steps.{Meets, MeetsRefusal}
+use Rattle.mi_model.specs.DatabaseChange.{Meets, MeetsRefusal}
 use Rattle.mi_model.proofs.TableLaws.{is_table_opened}
 use Rattle.mi_model.proofs.DatabaseLaws.{zip_get}
 

@@ -11,9 +11,9 @@ pub mod SameLaws
 pub mod DatabaseLaws
 pub mod InvariantLaws
 pub mod UniqueLaws
-pub mod AlikeLookUps
+pub mod AlikeLookUpLaws
 pub mod AlikeLaws
-pub mod LookupLaws
+pub mod LookUpLaws
 pub mod PrefixLaws
 pub mod PlaceLaws
 pub mod QueryLaws

@@ -19,9 +19,9 @@ use Rattle.mi_catalog.specs.Fits.{is_id_key, fits_key, fits_parts}
 use Rattle.mi_model.specs.Key.{parts_or_id, record_or_id}
 use Rattle.mi_model.specs.Table.{Table, has, row, times, ListsEach}
 use Rattle.mi_model.specs.View.{compare_ids, compare_to_id, view, of_key}
-use Rattle.mi_model.specs.Lookup as look
-use Rattle.mi_model.specs.Lookup.{after_in}
-use Rattle.mi_model.proofs.LookupLaws.{stands}
+use Rattle.mi_model.specs.LookUp as look
+use Rattle.mi_model.specs.LookUp.{after_in}
+use Rattle.mi_model.proofs.LookUpLaws.{stands}
 use Rattle.mi_model.proofs.PlaceLaws.{after_at, times-filter-le, once-filter, once_of_each, there_of_each}
 use Rattle.mi_model.proofs.QueryLaws.{filter_like}
 

@@ -20,9 +20,8 @@ use Rattle.mi_model.specs.Table.{Table, has, size, list_of, Rise, times, ListsEa
 use Rattle.mi_model.specs.View.{shown, view}
 use Rattle.mi_catalog.specs.Kinds.{is_sorted, shows_one_list}
 use Rattle.mi_model.specs.Change.{without}
-use Rattle.mi_model.specs.Lookup.{rank_in, after_in, before_place, before_in}
-use Rattle.mi_model.proofs.EraseLaws.{count-shown}
-use Rattle.mi_model.proofs.LookupLaws.{stands, rank_at, times-sorted}
+use Rattle.mi_model.specs.LookUp.{rank_in, after_in, before_place, before_in}
+use Rattle.mi_model.proofs.LookUpLaws.{stands, rank_at, times-sorted}
 use Rattle.mi_model.proofs.TableLaws.{all_get, count_itself}
 
 -- no id stands in the list twice
@@ -86,9 +85,6 @@ times-shown id Sequenced order ids = refl
 filter_all : (ids : List ℕ) → filter (λ _. true) ids ≡ ids
 filter_all [] = refl
 filter_all (a ∷ ids) = ap (λ rest. a ∷ rest) (filter_all ids)
-
-pub length-shown : (kind : IndexKind) (order : ℕ → ℕ → Ordering) (ids : List ℕ) → length (shown kind order ids) ≡ length ids
-length-shown kind order ids = sym (ap length (filter_all (shown kind order ids))) ∙ count-shown (λ _. true) kind order ids ∙ ap length (filter_all ids)
 
 -- each index shows each record of its table once and nothing else
 pub each_in_view : (s : Shape) (t : Table) (x : ℕ) → IsTable s t → x < length s.indexes → ListsEach t (view s t x)

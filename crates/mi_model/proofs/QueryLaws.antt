@@ -25,12 +25,12 @@ use Rattle.mi_catalog.specs.Shape.{Shape, index_at}
 use Rattle.mi_model.specs.Table.{Table, list_of}
 use Rattle.mi_model.specs.View.{compare_ids, compare_to_id, shown, view, of_key}
 use Rattle.mi_catalog.specs.Kinds.{is_sorted}
-use Rattle.mi_model.specs.Lookup as look
-use Rattle.mi_model.specs.Lookup.{rank_in}
+use Rattle.mi_model.specs.LookUp as look
+use Rattle.mi_model.specs.LookUp.{rank_in}
 use Rattle.mi_model.specs.Page.{meets_lower, meets_upper, between}
 use Rattle.mi_model.proofs.SortLaws.{Ascends, ascends_sorted, each, both_ways}
 use Rattle.mi_model.proofs.ViewLaws.{compare_ids_total}
-use Rattle.mi_model.proofs.LookupLaws.{rank_at}
+use Rattle.mi_model.proofs.LookUpLaws.{rank_at}
 use Rattle.mi_model.proofs.PrefixLaws.{NotBelow, key_falls}
 use Rattle.mi_model.proofs.PlaceLaws.{IsOnce}
 
@@ -187,20 +187,12 @@ not_le Less = refl
 not_le Equal = refl
 not_le Greater = refl
 
-not_lt : (o : Ordering) → not (is_lt o) ≡ is_ge o
-not_lt Less = refl
-not_lt Equal = refl
-not_lt Greater = refl
-
 -- the ranks at which a range begins and ends
 pub from_all : (s : Shape) (t : Table) (x : ℕ) → rank_from s t x lower.All ≡ 0
 from_all s t x = count_none (view s t x)
 
 from_key : (s : Shape) (t : Table) (x : ℕ) (key : List Value) → rank_from s t x (lower.From key) ≡ look.lower_rank s t x key
 from_key s t x key = count_same _ _ (λ id. not_le (compare_to_id (index_at s x) t key id)) (view s t x)
-
-pub from_beyond : (s : Shape) (t : Table) (x : ℕ) (key : List Value) → rank_from s t x (lower.Beyond key) ≡ look.upper_rank s t x key
-from_beyond s t x key = count_same _ _ (λ id. not_lt (compare_to_id (index_at s x) t key id)) (view s t x)
 
 pub to_all : (s : Shape) (t : Table) (x : ℕ) → rank_to s t x upper.All ≡ length (view s t x)
 to_all s t x = count_all (view s t x)

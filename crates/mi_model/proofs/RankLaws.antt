@@ -22,12 +22,12 @@ use Rattle.mi_model.specs.Key.{Row, compare_rows}
 use Rattle.mi_model.specs.Table.{row, list_of, Rise, times, ListsEach}
 use Rattle.mi_model.specs.View.{compare_ids, sorted, shown}
 use Rattle.mi_model.specs.Change.{without}
-use Rattle.mi_model.specs.Lookup.{rank_in, RanksCountRows}
+use Rattle.mi_model.specs.LookUp.{rank_in, RanksCountRows}
 use Rattle.mi_model.proofs.SortLaws.{both_ways, is_less}
 use Rattle.mi_model.proofs.ViewLaws.{compare_ids_total, Lacks, filter_alike}
 use Rattle.mi_model.proofs.TableLaws.{count_itself, not_same, lacks_of_count, all_get}
 use Rattle.mi_model.proofs.StampLaws.{by_stamp, sorted-rises}
-use Rattle.mi_model.proofs.LookupLaws.{rank_first, rank_next, rank_counts, places_rise, stands, count-sorted, times-sorted}
+use Rattle.mi_model.proofs.LookUpLaws.{rank_first, rank_next, rank_counts, places_rise, stands, count-sorted, times-sorted}
 use Rattle.mi_model.proofs.PlaceLaws.{IsOnce, once_of_each, here, here_behind, listed_within, sorted_listed}
 
 -- a count of those that are less, or equal and earlier, is two counts

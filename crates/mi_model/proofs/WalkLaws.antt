@@ -14,9 +14,9 @@ use Rattle.mi_catalog.specs.Shape.{Shape, index_at}
 use Rattle.mi_catalog.specs.Kinds.{shows_one_list}
 use Rattle.mi_model.specs.Table.{Table, IsTable, ListsEach, has, get, row, times}
 use Rattle.mi_model.specs.View.{view}
-use Rattle.mi_model.specs.Lookup.{rank_in, after_in, before_in}
+use Rattle.mi_model.specs.LookUp.{rank_in, after_in, before_in}
 use Rattle.mi_model.specs.Walk.{turned, from_in}
-use Rattle.mi_model.proofs.LookupLaws.{rank_at, at_rank}
+use Rattle.mi_model.proofs.LookUpLaws.{rank_at, at_rank}
 use Rattle.mi_model.proofs.PlaceLaws.{IsOnce, after_at, before_at, before_first, before_other, each_in_view, listed_within, there_at, once_of_each}
 
 -- how often an id stands in two lists, and in a reversed one

@@ -14,11 +14,11 @@ use Rattle.mi_catalog.specs.Rules.{is_schema}
 use Rattle.mi_model.specs.Key.{IsWholeKey, IsAskedBy}
 use Rattle.mi_model.specs.Table.{Table, get, row, size}
 use Rattle.mi_model.specs.Conflict.{conflict}
-use Rattle.mi_model.specs.Lookup.{rank, nth, lower_rank, upper_rank, find, count, lower, upper, first}
-use Rattle.mi_model.specs.Lookup.{last, after as row_after, before as row_before, first_of, next_of}
+use Rattle.mi_model.specs.LookUp.{rank, nth, lower_rank, upper_rank, find, count, lower, upper, first}
+use Rattle.mi_model.specs.LookUp.{last, after as row_after, before as row_before, first_of, next_of}
 use Rattle.mi_model.specs.Page.{range, list}
 use Rattle.mi_model.specs.Database.{Database, IsDatabase, schema_of, table_of, depth, start_step, undo_step, squash_step, commit_step, undo_all_step}
-use Rattle.mi_model.specs.Steps.{insert_step, replace_step, modify_step, erase_step, erase_key_step, relocate_step}
+use Rattle.mi_model.specs.DatabaseChange.{insert_step, replace_step, modify_step, erase_step, erase_key_step, relocate_step}
 use Rattle.mi_model.specs.Same.{SameDatabase}
 use Rattle.mi_model.specs.Run.{Command, after_command}
 use Rattle.mi_model.specs.Run.Command.{Insert, Replace, Modify, Erase, EraseKey, Relocate, Start, Undo, Squash, Commit, UndoAll}

@@ -16,7 +16,7 @@ use Rattle.mi_catalog.specs.Accounts.{accounts}
 use Rattle.mi_model.specs.Table.{Table, get, size, list_of}
 use Rattle.mi_model.specs.View.{view}
 use Rattle.mi_model.specs.Verdict.{insert_outcome, modify_outcome, relocate_outcome, erase_key_outcome}
-use Rattle.mi_model.specs.Lookup.{after, before, last, first_of, next_of, rank, nth, lower_rank, upper_rank, find, count}
+use Rattle.mi_model.specs.LookUp.{after, before, last, first_of, next_of, rank, nth, lower_rank, upper_rank, find, count}
 use Rattle.mi_model.specs.Page.{range}
 use Rattle.mi_model.specs.Database.{Database, opened_database, table_of, on_table, depth, undo_step, commit_step, undo_all_step}
 use Rattle.mi_model.specs.Run.{Command, run}

@@ -4,12 +4,12 @@ pub mod View
 pub mod Conflict
 pub mod Change
 pub mod Verdict
-pub mod Lookup
+pub mod LookUp
 pub mod Page
 pub mod Walk
 pub mod Database
 pub mod Same
-pub mod Steps
+pub mod DatabaseChange
 pub mod Run
 pub mod OneTable
 pub mod Sessions

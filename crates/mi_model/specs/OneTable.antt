@@ -13,7 +13,7 @@ use Rattle.mi_catalog.specs.Shape.{Shape}
 use Rattle.mi_model.specs.Table.{Table, opened}
 use Rattle.mi_model.specs.Verdict.{Outcome, is_spent, insert_outcome, replace_outcome, modify_outcome, erase_outcome, erase_key_outcome, relocate_outcome}
 use Rattle.mi_model.specs.Database.{Database, opened_database, schema_of, table_of, start_step, undo_step, squash_step, commit_step, undo_all_step}
-use Rattle.mi_model.specs.Steps.{insert_step, replace_step, modify_step, erase_step, erase_key_step, relocate_step}
+use Rattle.mi_model.specs.DatabaseChange.{insert_step, replace_step, modify_step, erase_step, erase_key_step, relocate_step}
 
 -- the table, what it was at the start of each open session with the newest first, and the revision
 pub record OneTable : Type 0 where

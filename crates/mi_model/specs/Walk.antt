@@ -6,7 +6,7 @@ use Rattle.mi_catalog.specs.Shape.{Shape}
 use Rattle.mi_model.specs.Key.{Row}
 use Rattle.mi_model.specs.Table.{Table, row}
 use Rattle.mi_model.specs.View.{view}
-use Rattle.mi_model.specs.Lookup.{rank_in}
+use Rattle.mi_model.specs.LookUp.{rank_in}
 
 abbrev pub turned : Bool → List ℕ → List ℕ
 turned reversed ids = if reversed then reverse ids else ids

@@ -21,7 +21,7 @@ use Rattle.mi_catalog.specs.Shape.{Shape}
 use Rattle.mi_model.specs.Table.{Table, has, size}
 use Rattle.mi_model.specs.Change.{insert}
 use Rattle.mi_model.specs.Conflict.{conflict}
-use Rattle.mi_model.specs.Steps.{MeetsRefusal}
+use Rattle.mi_model.specs.DatabaseChange.{MeetsRefusal}
 use Rattle.mi_model.specs.Verdict.{is_spent, has_place, as_unique, unless, insert_refusal, insert_outcome}
 use Rattle.mi_node.specs.Pool.{Pooled}
 use Rattle.mi_node.specs.Refs.{Ref}

@@ -14,7 +14,7 @@ use Rattle.mi_catalog.specs.Kinds.{is_sorted, is_ranked}
 use Rattle.mi_catalog.specs.Rules.{is_schema, are_indexes}
 use Rattle.mi_catalog.specs.Shape.{Shape, index_at}
 use Rattle.mi_model.specs.Table.{has, size}
-use Rattle.mi_model.specs.Lookup as look
+use Rattle.mi_model.specs.LookUp as look
 use Rattle.mi_model.proofs.PlaceLaws.{listed_within, sorted_listed, length-view}
 use Rattle.mi_node.specs.Pool.{Pooled, IsHeld}
 use Rattle.mi_node.specs.Refs.{Ref, first_of, last_of}

@@ -6,8 +6,8 @@ use Rattle.std.specs.List.{AllByRecursion, filter}
 use Rattle.std.specs.Option.{option_map}
 use Rattle.std.specs.declared.option.Option.{Option}
 use Rattle.std.specs.declared.option.Option.TheVariants.{None, Some}
-use Rattle.mi_model.specs.Lookup.{rank_in, before_place, after_in, before_in}
-use Rattle.mi_model.proofs.LookupLaws.{rank_first, rank_next}
+use Rattle.mi_model.specs.LookUp.{rank_in, before_place, after_in, before_in}
+use Rattle.mi_model.proofs.LookUpLaws.{rank_first, rank_next}
 use Rattle.mi_model.proofs.ViewLaws.{Lacks}
 use Rattle.mi_node.specs.Refs.{Ref, first_of, last_of}
 use Rattle.mi_tree.specs.BinaryTree.{nth_of}

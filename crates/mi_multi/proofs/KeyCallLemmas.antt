@@ -14,8 +14,8 @@ use Rattle.mi_catalog.specs.Rules.{is_schema}
 use Rattle.mi_catalog.specs.Shape.{index_at}
 use Rattle.mi_model.specs.Table.{Table, size}
 use Rattle.mi_model.specs.View.{view}
-use Rattle.mi_model.specs.Lookup as look
-use Rattle.mi_model.proofs.LookupLaws.{rank_at}
+use Rattle.mi_model.specs.LookUp as look
+use Rattle.mi_model.proofs.LookUpLaws.{rank_at}
 use Rattle.mi_model.proofs.NextLaws.{whole_key_long}
 use Rattle.mi_model.proofs.QueryLaws.{lower-le-upper, upper-le-length}
 use Rattle.mi_model.proofs.PlaceLaws.{IsOnce, once_of_each, each_in_view, length-view}

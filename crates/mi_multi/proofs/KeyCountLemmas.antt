@@ -51,9 +51,3 @@ keyed_sorted kind.Ordered h n = refl
 keyed_sorted kind.Ranked h n = refl
 keyed_sorted kind.Hashed h n = absurd (false≢true (sym n))
 keyed_sorted kind.Sequenced h n = h
-
-pub hashed_is : (k : IndexKind) → is_hashed k ≡ true → k ≡ kind.Hashed
-hashed_is kind.Ordered h = absurd (false≢true h)
-hashed_is kind.Ranked h = absurd (false≢true h)
-hashed_is kind.Hashed h = refl
-hashed_is kind.Sequenced h = absurd (false≢true h)

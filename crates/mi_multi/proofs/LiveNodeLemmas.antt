@@ -48,9 +48,6 @@ len_marked ids e a b is =
     ap len (with_live_is ids e a b is) ∙ len-insert nat_cmp_total ids e (record { node = a.node; live = b })
     ∙ ap (λ o. cond (is_some o) (len ids) (len ids + 1)) is
 
-entry_is : (ids : FinMap nat_cmp IdEntry) (e : ℕ) (a b : IdEntry) → get ids e ≡ Some a → get ids e ≡ Some b → a ≡ b
-entry_is ids e a b g h = some_is (sym g ∙ h)
-
 -- the id of an entry's node
 pub id_of : (ids : FinMap nat_cmp IdEntry) (m : Pooled Stored) (e : ℕ) (a : IdEntry) → HasNode m e a.node → id_at m a.node ≡ e
 id_of ids m e a has = ap id_in has.is ∙ has.id

@@ -13,7 +13,7 @@ use Rattle.mi_catalog.specs.Kinds.{is_sorted, is_hashed, is_sequenced, shows_one
 use Rattle.mi_catalog.specs.Shape.{Shape, index_at}
 use Rattle.mi_model.specs.Table.{Table}
 use Rattle.mi_model.specs.View.{view}
-use Rattle.mi_model.specs.Lookup as look
+use Rattle.mi_model.specs.LookUp as look
 use Rattle.mi_model.proofs.ViewLaws.{Lacks}
 use Rattle.mi_model.proofs.TableLaws.{count_itself}
 use Rattle.mi_node.specs.Pool.{Pooled, IsHeld}

@@ -25,7 +25,7 @@ use Rattle.mi_catalog.specs.Shape.{Shape, index_at}
 use Rattle.mi_model.specs.Key.{compare_rows, compare_to_row, parts_or_id}
 use Rattle.mi_model.specs.Table.{Table, row}
 use Rattle.mi_model.specs.View.{compare_ids, compare_to_id, view}
-use Rattle.mi_model.specs.Lookup as look
+use Rattle.mi_model.specs.LookUp as look
 use Rattle.mi_model.proofs.TableLaws.{count_itself}
 use Rattle.mi_model.proofs.SortLaws.{Ascends, both_ways, each}
 use Rattle.mi_model.proofs.ViewLaws.{compare_ids_total}

@@ -16,7 +16,7 @@ use Rattle.mi_catalog.specs.Shape.{Shape}
 use Rattle.mi_model.specs.Table.{Table, get, has, row}
 use Rattle.mi_model.specs.Conflict.{conflict}
 use Rattle.mi_model.specs.Change.{put}
-use Rattle.mi_model.specs.Steps.{Meets, MeetsRefusal}
+use Rattle.mi_model.specs.DatabaseChange.{Meets, MeetsRefusal}
 use Rattle.mi_model.specs.Verdict.{Outcome, is_spent, as_unique, unless, replace_refusal, replace_outcome, refused_modify, modified, modify_outcome}
 use Rattle.mi_container.specs.Data.{Data, IsData, table_of}
 use Rattle.mi_container.specs.Inverse.{Inverse, lost_to}

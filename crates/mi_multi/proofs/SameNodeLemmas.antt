@@ -85,13 +85,6 @@ kept_alike os ids m n e altered q a ne is = kept_of os m n a a.live (altered.say
 
 -- Orders with lists, and without
 
-one_plain_stamp : (m : Pooled Stored) (k x : ℕ) (kind : IndexKind) (ps : List KeyPart) (l u : List ℕ)
-    → stamp_in m k x (order_of kind ps l) ≡ stamp_in m k x (order_of kind ps u)
-one_plain_stamp m k x Ordered ps l u = refl
-one_plain_stamp m k x Ranked ps l u = refl
-one_plain_stamp m k x Hashed ps l u = refl
-one_plain_stamp m k x Sequenced ps l u = refl
-
 one_plain : (m : Pooled Stored) (k x : ℕ) (kind : IndexKind) (ps : List KeyPart) (l u : List ℕ)
     → neighbours_in m k x (order_of kind ps l) ≡ neighbours_in m k x (order_of kind ps u)
 one_plain m k x Ordered ps l u = refl

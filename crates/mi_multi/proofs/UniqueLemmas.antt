@@ -23,7 +23,7 @@ use Rattle.mi_model.specs.Key.{Row, compare_rows}
 use Rattle.mi_model.specs.Table.{Table, IsTable, Rise, has, row, times, ListsEach}
 use Rattle.mi_model.specs.Conflict.{is_rival, rival}
 use Rattle.mi_model.specs.Unique.{HasUniqueKeys}
-use Rattle.mi_model.proofs.LookupLaws.{stands}
+use Rattle.mi_model.proofs.LookUpLaws.{stands}
 use Rattle.mi_model.proofs.PlaceLaws.{there_of_each, times-filter-le}
 use Rattle.mi_model.proofs.SortLaws.{both_ways}
 use Rattle.mi_container.proofs.PairLemmas.{is_itself, is_other, none_some, some_is, head_is, head_isnt}

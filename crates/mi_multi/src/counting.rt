@@ -1,7 +1,7 @@
 //! How many records have a key. It changes nothing.
 ghost use Rattle.std.specs.Prelude.{◌≡◌, ◌≤◌};
 ghost use Rattle.mi_value.specs.declared.limits.TheConstants.{LAST_COUNT};
-ghost use Rattle.mi_model.specs.Lookup as look;
+ghost use Rattle.mi_model.specs.LookUp as look;
 ghost use Rattle.mi_container.specs.Asked.{IsKeyed, IsHashed, IsSorted, WholeKey};
 ghost use Rattle.mi_container.specs.Data.{table_of};
 

@@ -2,7 +2,7 @@
 ghost use Rattle.std.specs.Prelude.{◌≡◌, ◌<◌, ◌≤◌, ◌+◌, ◌*◌, ◌^◌, ℕ, IsTrue, IfSome, List as Seq, Some, length, slice_get};
 ghost use Rattle.std.specs.Option.{option_map};
 ghost use Rattle.mi_model.specs.Table.{has as has_row, size as size_of};
-ghost use Rattle.mi_model.specs.Lookup as look;
+ghost use Rattle.mi_model.specs.LookUp as look;
 ghost use Rattle.mi_container.specs.Asked.{IsKeyed, IsHashed, IsSorted, ShowsOneList, WholeKey, KeyPrefix};
 ghost use Rattle.mi_container.specs.Data.{table_of};
 ghost use Rattle.mi_node.specs.Pool.{IsHeld};

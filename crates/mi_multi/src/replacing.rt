@@ -4,7 +4,7 @@ ghost use Rattle.mi_value.specs.declared.limits.TheConstants.{LAST_COUNT as last
 ghost use Rattle.mi_value.specs.declared.refusal.Refusal.TheVariants.{Memory};
 ghost use Rattle.mi_value.specs.Edits.{apply as apply_edits};
 ghost use Rattle.mi_model.specs.Table.{has as has_row, row as row_of};
-ghost use Rattle.mi_model.specs.Steps.{MeetsRefusal};
+ghost use Rattle.mi_model.specs.DatabaseChange.{MeetsRefusal};
 ghost use Rattle.mi_model.specs.Verdict.{replace_refusal, replace_outcome, modified, modify_outcome};
 ghost use Rattle.mi_container.specs.Asked.{RecordFits, EditsFit};
 ghost use Rattle.mi_container.specs.Data.{table_of};

@@ -203,6 +203,3 @@ lengthened_next places n cs ds w all less size = record {
     still : (s : ℕ) → s < n + 1 → (s == n) ≡ false → places ≤ length (column ds s)
     still s early e = let before : s < n = grind (arith, e, early) in
         subst (λ (d : List Cell). places ≤ length d) (index-set ds n s w [] less ∙ ap (λ b. cond b w (column ds s)) e) (all.done s before)
-
-pub all_long : (places n e : ℕ) (cs ds : List (List Cell)) → Lengthened places n cs ds → e ≡ length cs → e ≤ n → AreLong places ds
-all_long places n e cs ds all is far s less = let count = all.count in all.done s (omega (arith, is, far, less, count))

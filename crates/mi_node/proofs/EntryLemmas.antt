@@ -4,7 +4,7 @@
 --     refs, values, links, slot_counts      these as sets for `grind (arith, refs)`
 --     link_here, link_there, link_beside      a link after `set_link` at its own name and slot, at another name, and in another slot
 --     name_of_ref, held_of_ref, same_node      the reference of a name has that name, is held, and is the only one held of it
---     held_has, absent_value, absent_link      a held node has a value; a name of no node has no value and no link
+--     held_has, absent_link      a held node has a value; a name of no node has no link
 --     held-.., held          a held node stays held after a call, as a set for `grind (arith, held)`
 --     apart_of_free   a place that no node has is not the place of a held one
 --     fewer           a pool without one of its nodes has fewer
@@ -12,7 +12,7 @@ use Rattle.std.proofs.Common.{◌≡◌, ℕ, zero, suc, ◌-◌, ◌<◌, ◌==
 use Rattle.std.proofs.Common.{slice_index_or, replicate, Option, Some, None, refl, sym, ap, subst, ◌∙◌, arith, is_some}
 use Rattle.std.specs.Ordering.{nat_cmp}
 use Rattle.std.specs.Cmp.{nat_cmp_total, unsigned_tied}
-use Rattle.std.specs.FinMap.{FinMap, get, len, contains_key, get-insert, get-remove, get-empty, len-empty, len-remove, empty_of_len}
+use Rattle.std.specs.FinMap.{FinMap, get, len, contains_key, get-insert, get-remove, get-empty, len-remove, empty_of_len}
 use Rattle.mi_node.specs.Pool.{Entry, Pooled, node_at, ref_of, value_of, link_of, node_count, entry_link, no_link}
 use Rattle.mi_node.specs.Pool.{put_link, IsHeld, change, changed, no_nodes, taken, without, with_link, with_value}
 use Rattle.mi_node.specs.Refs.{Ref}
@@ -64,10 +64,6 @@ module _ (T : Type 0) where
   pub slots-no_nodes : (n : ℕ) → (no_nodes {T = T} n).slots ≡ n
   unfolding no_nodes
   slots-no_nodes n = refl
-
-  pub node_count-no_nodes : (n : ℕ) → node_count {T = T} (no_nodes n) ≡ 0
-  unfolding node_count no_nodes
-  node_count-no_nodes n = len-empty nat_cmp (Entry T)
 
 module _ {T : Type 0} where
   named_at : (k : ℕ) (o : Option (Entry T)) (r : Ref) → option_map (node_at k) o ≡ Some r → r.name ≡ k
@@ -222,10 +218,6 @@ module _ {T : Type 0} where
   pub absent_get : (m : Pooled T) (k : ℕ) → ref_of m k ≡ None → get m.entries k ≡ None
   unfolding ref_of
   absent_get m k e = none_there k (get m.entries k) e
-
-  pub absent_value : (m : Pooled T) (k : ℕ) → ref_of m k ≡ None → value_of m k ≡ None
-  unfolding value_of
-  absent_value m k e = ap (option_map (λ (x : Entry T). x.value)) (absent_get m k e)
 
   pub absent_link : (m : Pooled T) (k t : ℕ) → ref_of m k ≡ None → link_of m k t ≡ no_link
   unfolding link_of

@@ -1,9 +1,9 @@
 -- What a change of one structure keeps, for the proofs of every structure.
 --     keeps_..        `Keeps` of no change, of one call of `set_link`, of one change after another
---     SameLinks, same_..      that nodes have the same links of a slot after a change of another slot, of other nodes, or after `take`, `give` and `swap_value`
+--     SameLinks, same_..      that nodes have the same links of a slot after a change of other nodes, or after `take`, `give` and `swap_value`
 --     absent_out, node_count-least      lists of held nodes
-use Rattle.std.proofs.Common.{◌≡◌, ℕ, ◌≤◌, ◌==◌, Bool, true, false, cond, List, [], ◌∷◌, ◌++◌, length, Option, Some, None, refl, sym, ap, ◌∙◌, arith}
-use Rattle.mi_node.specs.Pool.{Pooled, ref_of, link_of, no_link, node_count, IsHeld, IsHeldIf, Keeps, taken, without, with_link, with_value}
+use Rattle.std.proofs.Common.{◌≡◌, ℕ, ◌≤◌, ◌==◌, Bool, true, false, cond, List, [], ◌∷◌, ◌++◌, length, Some, None, refl, sym, ap, ◌∙◌, arith}
+use Rattle.mi_node.specs.Pool.{Pooled, ref_of, link_of, no_link, node_count, IsHeld, Keeps, taken, without, with_link, with_value}
 use Rattle.mi_node.specs.Neighbours.{AreHeld}
 use Rattle.mi_node.specs.Refs.{Ref, IsOut, IsApart, AreOut}
 use Rattle.mi_node.specs.declared.link.Link.{Link}
@@ -43,10 +43,6 @@ module _ {T : Type 0} where
   pub held_kept : (s : ℕ) (m n : Pooled T) (us : List Ref) (r : Ref) → Keeps m n s us → IsHeld m r → IsHeld n r
   held_kept s m n us r g h = g.refs r.name ∙ h
 
-  pub held_if_kept : (s : ℕ) (m n : Pooled T) (us : List Ref) (o : Option Ref) → Keeps m n s us → IsHeldIf m o → IsHeldIf n o
-  held_if_kept s m n us None g h = tt
-  held_if_kept s m n us (Some r) g h = held_kept s m n us r g h
-
 -- the nodes rs have the same reference, and the same link of slot s, in both pools
 abbrev pub SameLinks : {T : Type 0} → Pooled T → Pooled T → ℕ → List Ref → Type 0
 SameLinks m n s [] = Unit {0}
@@ -62,10 +58,7 @@ module _ {T : Type 0} where
   same_append m n s [] ys g h = h
   same_append m n s (x ∷ xs) ys g h = (g.0, g.1, same_append m n s xs ys g.2 h)
 
-  -- after a change of another slot, and after one of other nodes
-  pub same_other_slot : (s t : ℕ) (m n : Pooled T) (us rs : List Ref) → Keeps m n s us → (s == t) ≡ false → SameLinks m n t rs
-  same_other_slot s t m n us rs g e = same_where m n t rs g.refs (λ k. g.other_slots k t e)
-
+  -- after a change of other nodes
   pub same_other_nodes : (s t : ℕ) (m n : Pooled T) (us rs : List Ref) → Keeps m n s us → AreOut rs us → SameLinks m n t rs
   same_other_nodes s t m n us [] g a = tt
   same_other_nodes s t m n us (r ∷ rs) g a = (g.refs r.name, g.other_nodes r.name t a.0, same_other_nodes s t m n us rs g a.1)

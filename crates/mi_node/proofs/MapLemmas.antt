@@ -281,9 +281,6 @@ module _ {T : Type 0} where
   pub free_found : (hs : List (Home T)) (k : ℕ) (h : Home T) → IsFreeAt hs k → h ≡ slice_index_or hs k h → IsFree h
   free_found hs k h free is = subst IsFree (sym is) (subst IsFreeIf (at_index hs k h (free_less hs k free)) free)
 
-  pub free_at : (hs : List (Home T)) (k : ℕ) (h : Home T) → k < length hs → h ≡ slice_index_or hs k h → IsFree h → IsFreeAt hs k
-  free_at hs k h less is free = subst IsFreeIf (sym (at_index hs k h less)) (subst IsFree is free)
-
   pub named_found : (hs : List (Home T)) (k : ℕ) (h : Home T) → IsNamed 0 hs → k < length hs → h ≡ slice_index_or hs k h → (node_in h).name ≡ k
   named_found hs k h all less is = named_at 0 k hs h all (at_index hs k h less ∙ ap Some (sym is)) ∙ from_zero k
 
@@ -332,10 +329,6 @@ module _ {T : Type 0} where
   seen-none n cs = refl
 
   -- places stay sound
-  pub sound-none : (n : ℕ) (cs : List (List Cell)) → cs ≡ [] → IsSound {T = T} n cs []
-  sound-none n cs e = subst (λ (ds : List (List Cell)). IsSound {T = T} n ds []) (sym e)
-      (record { named = tt; few = omega arith; wide = λ less. absurd (omega (arith, less)); long = λ s less. absurd (omega (arith, less)) })
-
   pub sound-set : (n : ℕ) (cs : List (List Cell)) (hs : List (Home T)) (j : ℕ) (h : Home T)
       → IsSound n cs hs → (node_in h).name ≡ j → IsSound n cs (slice_set hs j h)
   sound-set n cs hs j h sound name = record {

@@ -12,7 +12,7 @@ use Rattle.mi_value.specs.declared.bound.Probe.{Probe}
 use Rattle.mi_value.specs.declared.bound.Probe.TheVariants.{Key, Of}
 use Rattle.mi_value.specs.Order.{compare_part, compare_key, compare_prefix, compare_to_part}
 use Rattle.mi_value.proofs.OrderLaws.{compare_key_total, directed_total, prefix_alike}
-use Rattle.mi_value.proofs.Hashes.{equal_hashes, key_hashes}
+use Rattle.mi_value.proofs.HashLaws.{equal_hashes, key_hashes}
 use Rattle.mi_order.specs.declared.stored.Stored.{Stored}
 use Rattle.mi_order.specs.Mixing.{mixed}
 use Rattle.mi_order.specs.Orders.{keying_hash, sought_hash, has_one_key, is_whole, is_key_of, KeyingsAreLawful}

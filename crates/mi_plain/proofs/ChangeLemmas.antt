@@ -7,7 +7,7 @@ use Rattle.mi_catalog.specs.Shape.{Shape}
 use Rattle.mi_model.specs.Table.{Table}
 use Rattle.mi_model.specs.Verdict.{Outcome}
 use Rattle.mi_model.specs.Database.{Database, IsDatabase, schema_of, with_table, on_table}
-use Rattle.mi_model.specs.Steps.{Meets}
+use Rattle.mi_model.specs.DatabaseChange.{Meets}
 use Rattle.mi_model.proofs.StepLaws.{meets_on_table}
 use Rattle.mi_model.proofs.InvariantLaws.{met_is, zip_length}
 

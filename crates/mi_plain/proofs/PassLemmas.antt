@@ -12,9 +12,9 @@ use Rattle.std.specs.Cmp.{IsTotalOrder}
 use Rattle.std.specs.declared.cmp.Ordering.{Ordering}
 use Rattle.mi_model.specs.Table.{Table, has, times, ListsEach}
 use Rattle.mi_model.specs.View.{place, sorted}
-use Rattle.mi_model.specs.Lookup.{rank_in}
+use Rattle.mi_model.specs.LookUp.{rank_in}
 use Rattle.mi_model.proofs.SortLaws.{both_ways, Ascends, ascends_place}
-use Rattle.mi_model.proofs.LookupLaws.{sooner, later, first-place, last-place, last_in, rank_at, stands}
+use Rattle.mi_model.proofs.LookUpLaws.{sooner, later, first-place, last-place, last_in, rank_at, stands}
 
 -- the first from the best so far on
 abbrev pub first_kept : (ℕ → ℕ → Ordering) → (ℕ → Bool) → Option ℕ → List ℕ → Option ℕ

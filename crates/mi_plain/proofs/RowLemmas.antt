@@ -17,7 +17,7 @@ use Rattle.mi_model.specs.Key.{Row}
 use Rattle.mi_model.specs.Table.{Table, has}
 use Rattle.mi_model.specs.Conflict.{conflict}
 use Rattle.mi_model.specs.Change.{moved, stand_before}
-use Rattle.mi_model.specs.Lookup.{rank_in}
+use Rattle.mi_model.specs.LookUp.{rank_in}
 use Rattle.mi_model.specs.Verdict.{replace_refusal, is_spent, as_unique}
 
 abbrev pub named : ℕ → Row → Bool

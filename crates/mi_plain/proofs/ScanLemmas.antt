@@ -6,20 +6,19 @@ use Rattle.std.specs.List.{filter}
 use Rattle.std.specs.Ordering.{is_eq}
 use Rattle.std.specs.Cmp.{tied_itself}
 use Rattle.std.proofs.lemmas.Bool.Decides.{eqb_tells}
-use Rattle.mi_value.specs.declared.value.Value.{Value}
 use Rattle.mi_catalog.specs.declared.index.Index.{Index}
 use Rattle.mi_catalog.specs.declared.index.IndexKind.{IndexKind}
 use Rattle.mi_catalog.specs.declared.index.IndexKind.TheVariants.{Hashed}
 use Rattle.mi_catalog.specs.Shape.{Shape, index_at}
 use Rattle.mi_model.specs.Table.{Table, ListsEach, has, list_of, times}
-use Rattle.mi_model.specs.View.{shown, view, compare_ids, compare_to_id}
-use Rattle.mi_model.specs.Lookup as look
-use Rattle.mi_model.specs.Lookup.{rank_in, after_in}
+use Rattle.mi_model.specs.View.{shown, view, compare_ids}
+use Rattle.mi_model.specs.LookUp as look
+use Rattle.mi_model.specs.LookUp.{rank_in, after_in}
 use Rattle.mi_model.proofs.SortLaws.{both_ways}
 use Rattle.mi_model.proofs.ViewLaws.{compare_ids_total}
-use Rattle.mi_model.proofs.LookupLaws.{rank_first, rank_next, at_rank, rank_at, rank_within, stands, times-sorted}
-use Rattle.mi_plain.specs.Cut.{order_in}
-use Rattle.mi_plain.proofs.CutLemmas.{view_is, once, stands_once}
+use Rattle.mi_model.proofs.LookUpLaws.{rank_first, rank_next, at_rank, rank_at, rank_within, stands, times-sorted}
+use Rattle.mi_plain.specs.Boundary.{order_in}
+use Rattle.mi_plain.proofs.BoundaryLemmas.{view_is, once, stands_once}
 use Rattle.mi_plain.proofs.PassLemmas.{slice_get_or, there_is}
 
 times_shown : (s : Shape) (t : Table) (x e : ℕ) → times e (view s t x) ≡ times e (list_of t x)
@@ -59,13 +58,6 @@ nth_none s t x ids i n same each past others =
 -- a hashed index shows its list
 hashed_view : (s : Shape) (t : Table) (x : ℕ) → (index_at s x).kind ≡ Hashed → view s t x ≡ list_of t x
 hashed_view s t x is = ap (λ (kind : IndexKind). shown kind (compare_ids (index_at s x) t) (list_of t x)) is
-
-pub first_of_all : (s : Shape) (t : Table) (x : ℕ) (key : List Value) (i : Index) (ids : List ℕ)
-    → (index_at s x).kind ≡ Hashed → i ≡ index_at s x → ids ≡ list_of t x
-    → slice_get (filter (λ id. is_eq (compare_to_id i t key id)) ids) 0 ≡ look.first_of s t x key
-first_of_all s t x key i ids hashed same are =
-    ap (λ (j : Index). slice_get (filter (λ id. is_eq (compare_to_id j t key id)) ids) 0) same
-    ∙ ap (λ xs. slice_get (filter (λ id. is_eq (compare_to_id (index_at s x) t key id)) xs) 0) (are ∙ sym (hashed_view s t x hashed))
 
 -- the first behind an id that passes a test, where the id passes too
 behind_itself : (q : ℕ → Bool) (e : ℕ) (ids : List ℕ) → q e ≡ true → 0 < times e ids

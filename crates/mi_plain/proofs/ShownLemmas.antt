@@ -9,22 +9,22 @@ use Rattle.mi_catalog.specs.Shape.{Shape, index_at}
 use Rattle.mi_model.specs.Table.{Table, IsTable, has, list_of}
 use Rattle.mi_model.specs.View.{sorted, compare_to_id}
 use Rattle.mi_catalog.specs.Kinds.{is_sorted, shows_one_list}
-use Rattle.mi_model.specs.Lookup as look
-use Rattle.mi_model.specs.Lookup.{rank_in}
-use Rattle.mi_plain.specs.declared.pass.Cut.{Cut}
-use Rattle.mi_plain.specs.declared.pass.Cut.TheVariants.{Start, End, Lower, Upper, Before, Behind}
-use Rattle.mi_plain.specs.Cut.{order_in, is_before, last_in}
-use Rattle.mi_plain.proofs.CutLemmas.{view_is, listed_shown, listed_sorted, after_is, before_is, rank_is}
-use Rattle.mi_plain.proofs.CutLemmas.{first_is, last_is, shown_past, shown_count, holds_lower, holds_upper}
+use Rattle.mi_model.specs.LookUp as look
+use Rattle.mi_model.specs.LookUp.{rank_in}
+use Rattle.mi_plain.specs.declared.pass.Boundary.{Boundary}
+use Rattle.mi_plain.specs.declared.pass.Boundary.TheVariants.{Start, End, Lower, Upper, Before, Behind}
+use Rattle.mi_plain.specs.Boundary.{order_in, is_before, last_in}
+use Rattle.mi_plain.proofs.BoundaryLemmas.{view_is, listed_shown, listed_sorted, after_is, before_is, rank_is}
+use Rattle.mi_plain.proofs.BoundaryLemmas.{first_is, last_is, shown_past, shown_count, holds_lower, holds_upper}
 
-abbrev pub past : Index → Table → ℕ → List Value → Cut → Option ℕ
-past i t x key cut = slice_get (sorted (order_in i t) (filter (λ a. not (is_before i t (list_of t x) key cut a)) (list_of t x))) 0
+abbrev pub past : Index → Table → ℕ → List Value → Boundary → Option ℕ
+past i t x key boundary = slice_get (sorted (order_in i t) (filter (λ a. not (is_before i t (list_of t x) key boundary a)) (list_of t x))) 0
 
-abbrev pub last_of : Index → Table → ℕ → List Value → Cut → Option ℕ
-last_of i t x key cut = last_in (sorted (order_in i t) (filter (λ a. is_before i t (list_of t x) key cut a) (list_of t x)))
+abbrev pub last_of : Index → Table → ℕ → List Value → Boundary → Option ℕ
+last_of i t x key boundary = last_in (sorted (order_in i t) (filter (λ a. is_before i t (list_of t x) key boundary a) (list_of t x)))
 
-abbrev pub count_of : Index → Table → ℕ → List Value → Cut → ℕ
-count_of i t x key cut = length (filter (λ a. is_before i t (list_of t x) key cut a) (list_of t x))
+abbrev pub count_of : Index → Table → ℕ → List Value → Boundary → ℕ
+count_of i t x key boundary = length (filter (λ a. is_before i t (list_of t x) key boundary a) (list_of t x))
 
 module _ (s : Shape) (t : Table) (x : ℕ) (is : IsTable s t) (i : Index) (same : i ≡ index_at s x) (key : List Value) where
   pub first_shown : shows_one_list (index_at s x).kind ≡ true → past i t x key Start ≡ look.first s t x

@@ -1,2 +1,2 @@
-pub mod Cut
+pub mod Boundary
 pub mod Rows

@@ -7,7 +7,7 @@
 mod conflict;
 mod ids;
 mod key;
-mod lookup;
+mod look_ups;
 mod pass;
 mod plain;
 mod table;

@@ -8,7 +8,7 @@ use std::cmp::Ordering;
 
 /// A place between the ids that an index shows.
 #[derive(Clone, Copy)]
-pub(crate) enum Cut {
+pub(crate) enum Boundary {
     /// Before all of them.
     Start,
     /// Behind all of them.
@@ -25,7 +25,7 @@ pub(crate) enum Cut {
 
 ghost use Rattle.std.specs.Prelude.{◌≡◌, ◌==◌};
 ghost use Rattle.std.specs.List.{position};
-ghost use Rattle.mi_model.specs.Lookup.{rank_in};
+ghost use Rattle.mi_model.specs.LookUp.{rank_in};
 
 /// The place of an id in a list.
 fn find_in(ids: &[u64], id: u64) -> Option<usize>
@@ -52,8 +52,8 @@ impl PlainTable {
     ghost use Rattle.mi_model.specs.Table.{has as has_row, list_of, ListsEach};
     ghost use Rattle.mi_model.specs.View as shows;
     ghost use Rattle.mi_model.specs.View.{sorted};
-    ghost use Rattle.mi_model.specs.Lookup.{rank_in};
-    ghost use Rattle.mi_plain.specs.Cut.{order_in, is_before as stands_before, StandsIn, last_in};
+    ghost use Rattle.mi_model.specs.LookUp.{rank_in};
+    ghost use Rattle.mi_plain.specs.Boundary.{order_in, is_before as stands_before, StandsIn, last_in};
 
     /// A key, or the first values of one, against the key of an id.
     pub(crate) fn compare_to_id(&self, index: &Index, key: &[Value], id: u64) -> Ordering
@@ -100,20 +100,20 @@ impl PlainTable {
         self.order(index, a.0, b.0).then(a.1.cmp(&b.1)).is_lt()
     }
 
-    /// Whether the id at place i of the list stands before a cut.
-    fn is_before(&self, index: &Index, x: usize, key: &[Value], cut: Cut, id: u64, i: usize) -> bool
+    /// Whether the id at place i of the list stands before a boundary.
+    fn is_before(&self, index: &Index, x: usize, key: &[Value], boundary: Boundary, id: u64, i: usize) -> bool
         requires place { i ≡ rank_in (list_of self.now x) id }
         requires id { IsTrue (has_row self.now id) }
-        requires cut { StandsIn self.now cut }
-        ensures { result ≡ stands_before index.now self.now (list_of self.now x) key.now cut id }
+        requires boundary { StandsIn self.now boundary }
+        ensures { result ≡ stands_before index.now self.now (list_of self.now x) key.now boundary id }
     {
-        match cut {
-            Cut::Start => false,
-            Cut::End => true,
-            Cut::Lower => self.compare_to_id(index, key, id).is_gt(),
-            Cut::Upper => self.compare_to_id(index, key, id).is_ge(),
-            Cut::Before(e, at) => self.precedes(index, (id, i), (e, at)),
-            Cut::Behind(e, at) => !self.precedes(index, (e, at), (id, i)),
+        match boundary {
+            Boundary::Start => false,
+            Boundary::End => true,
+            Boundary::Lower => self.compare_to_id(index, key, id).is_gt(),
+            Boundary::Upper => self.compare_to_id(index, key, id).is_ge(),
+            Boundary::Before(e, at) => self.precedes(index, (id, i), (e, at)),
+            Boundary::Behind(e, at) => !self.precedes(index, (e, at), (id, i)),
         }
     }
 
@@ -143,57 +143,57 @@ impl PlainTable {
         }
     }
 
-    /// The first id, by this index, of those that don't stand before a cut.
-    pub(crate) fn first_past(&self, index: &Index, x: usize, key: &[Value], cut: Cut) -> Option<u64>
+    /// The first id, by this index, of those that don't stand before a boundary.
+    pub(crate) fn first_past(&self, index: &Index, x: usize, key: &[Value], boundary: Boundary) -> Option<u64>
         requires listed { ListsEach self.now (list_of self.now x) }
-        requires cut { StandsIn self.now cut }
+        requires boundary { StandsIn self.now boundary }
         ensures { result ≡ slice_get (sorted (order_in index.now self.now)
-            (filter (λ a. not (stands_before index.now self.now (list_of self.now x) key.now cut a)) (list_of self.now x)))
+            (filter (λ a. not (stands_before index.now self.now (list_of self.now x) key.now boundary a)) (list_of self.now x)))
             0 }
     {
         let ids = self.ids(x);
         let mut best = None;
         for (i, a) in ids.iter().enumerate() {
-            if !self.is_before(index, x, key, cut, *a, i) {
+            if !self.is_before(index, x, key, boundary, *a, i) {
                 best = self.sooner(index, *a, best);
             }
         }
         best
     }
 
-    /// The last id, by this index, of those that stand before a cut.
+    /// The last id, by this index, of those that stand before a boundary.
     pub(crate) fn last_before(
         &self,
         index: &Index,
         x: usize,
         key: &[Value],
-        cut: Cut,
+        boundary: Boundary,
     ) -> Option<u64>
         requires listed { ListsEach self.now (list_of self.now x) }
-        requires cut { StandsIn self.now cut }
+        requires boundary { StandsIn self.now boundary }
         ensures { result ≡ last_in (sorted (order_in index.now self.now)
-            (filter (λ a. stands_before index.now self.now (list_of self.now x) key.now cut a) (list_of self.now x))) }
+            (filter (λ a. stands_before index.now self.now (list_of self.now x) key.now boundary a) (list_of self.now x))) }
     {
         let ids = self.ids(x);
         let mut best = None;
         for (i, a) in ids.iter().enumerate() {
-            if self.is_before(index, x, key, cut, *a, i) {
+            if self.is_before(index, x, key, boundary, *a, i) {
                 best = self.later(index, *a, best);
             }
         }
         best
     }
 
-    /// How many ids of this index stand before a cut.
-    pub(crate) fn count_before(&self, index: &Index, x: usize, key: &[Value], cut: Cut) -> u64
+    /// How many ids of this index stand before a boundary.
+    pub(crate) fn count_before(&self, index: &Index, x: usize, key: &[Value], boundary: Boundary) -> u64
         requires listed { ListsEach self.now (list_of self.now x) }
-        requires cut { StandsIn self.now cut }
-        ensures { result ≡ length (filter (λ a. stands_before index.now self.now (list_of self.now x) key.now cut a) (list_of self.now x)) }
+        requires boundary { StandsIn self.now boundary }
+        ensures { result ≡ length (filter (λ a. stands_before index.now self.now (list_of self.now x) key.now boundary a) (list_of self.now x)) }
     {
         let ids = self.ids(x);
         let mut n = 0;
         for (i, a) in ids.iter().enumerate() {
-            if self.is_before(index, x, key, cut, *a, i) {
+            if self.is_before(index, x, key, boundary, *a, i) {
                 n += 1;
             }
         }

@@ -53,7 +53,7 @@ impl PlainTable {
     ghost use Rattle.mi_model.specs.Table.{get as get_row, has as has_row, size as size_of, opened as opened_table, list_of};
     ghost use Rattle.mi_model.specs.View.{compare_to_id};
     ghost use Rattle.mi_model.specs.Verdict as verdict;
-    ghost use Rattle.mi_model.specs.Steps.{Meets, without_value};
+    ghost use Rattle.mi_model.specs.DatabaseChange.{Meets, without_value};
 
     /// The table that a schema opens with.
     pub(crate) fn opened(alloc: Global, schema: &Schema) -> Result<PlainTable, AllocError>

@@ -1,9 +1,9 @@
 -- Bytes that wait behind what a stream has taken.
 use Rattle.std.proofs.Common.{◌≡◌, ℕ, ◌+◌, ◌≤◌, List, [], ◌++◌, length, take, drop, Option, Result}
 use Rattle.std.proofs.Common.{Ok, Err, sym, ap, ◌∙◌, subst, append-nil, arith}
-use Rattle.std.proofs.lemmas.List.{take-append-drop, drop-drop, drop-append-le, drop_all, take_all}
+use Rattle.std.proofs.lemmas.List.{take-append-drop, drop-drop, drop_all, take_all}
 use Rattle.std.proofs.KnownBytes.{Appends-nil, Appends-trans, Appends-kept, Keeps-refl, Keeps-trans}
-use Rattle.std.proofs.KnownBytes.{append_known-kept, append_known-moved, append_known-grown, append_known-passed}
+use Rattle.std.proofs.KnownBytes.{append_known-kept, append_known-moved, append_known-passed}
 use Rattle.std.specs.Io.KnownBytes.{append_known, Appends, Keeps, WriteAppends}
 
 -- the stream takes a front of what waits
@@ -16,22 +16,6 @@ front_goes a b c gathered left sent n is kept taken =
     ∙ ap (λ t. take n t ++ drop (sent + n) gathered) (sym is) in
     Keeps-trans a (append_known b (drop sent gathered)) (append_known c (drop (sent + n) gathered)) kept
     (append_known-moved b c (take n left) (drop (sent + n) gathered) (drop sent gathered) taken parts)
-
--- the stream fails, and all waits still
-pub none_goes : (a b c : Option (List ℕ)) (waiting : List ℕ) → Keeps a (append_known b waiting) → Keeps b c → Keeps a (append_known c waiting)
-none_goes a b c waiting kept same = Keeps-trans a (append_known b waiting) (append_known c waiting) kept (append_known-kept b c waiting same)
-
--- all has gone
-pub all_gone : (a b : Option (List ℕ)) (gathered : List ℕ) (sent : ℕ) → length gathered ≤ sent
-    → Keeps a (append_known b (drop sent gathered)) → Keeps a (append_known b [])
-all_gone a b gathered sent over kept = subst (λ t. Keeps a (append_known b t)) (drop_all sent gathered over) kept
-
--- bytes come behind those that wait
-pub more_wait : (b : Option (List ℕ)) (gathered more : List ℕ) (sent : ℕ) → sent ≤ length gathered
-    → Appends (append_known b (drop sent gathered)) (append_known b (drop sent (gathered ++ more))) more
-more_wait b gathered more sent within =
-    append_known-grown (append_known b (drop sent gathered)) b (drop sent gathered)
-    (drop sent (gathered ++ more)) more (Keeps-refl _) (drop-append-le sent gathered more within)
 
 -- where nothing waits the stream takes bytes
 pub stream_takes : {E : Type 0} (b c : Option (List ℕ)) (waiting : List ℕ) (r : Result ℕ E) (buf : List ℕ) → waiting ≡ [] → WriteAppends b c r buf

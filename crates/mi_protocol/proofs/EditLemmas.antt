@@ -1,5 +1,6 @@
 -- Edits, column by column.
-use Rattle.std.proofs.Common.{◌≡◌, ℕ, suc, ◌+◌, ◌<◌, List, [], ◌∷◌, ◌++◌, length, drop, get_or, map, true, Option, Some, None, option_map, Ok, refl, sym, ap, ◌∙◌, not, append_assoc, append-nil, arith}
+use Rattle.std.proofs.Common.{◌≡◌, ℕ, suc, ◌+◌, ◌<◌, List, [], ◌∷◌, ◌++◌, length, drop, get_or, map, true, Option, Some, None, option_map, Ok}
+use Rattle.std.proofs.Common.{refl, sym, ap, ◌∙◌, not, append_assoc, append-nil, arith}
 use Rattle.std.proofs.lemmas.List.{drop_more}
 use Rattle.std.specs.Option.{ok_or}
 use Rattle.std.specs.List.{list_any}

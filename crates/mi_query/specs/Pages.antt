@@ -3,7 +3,7 @@ use Rattle.std.specs.Prelude.{ℕ, ◌+◌, List}
 use Rattle.std.specs.declared.option.Option.{Option}
 use Rattle.std.specs.declared.option.Option.TheVariants.{None, Some}
 use Rattle.mi_model.specs.Database.{Database, schema_of, table_of}
-use Rattle.mi_model.specs.Lookup.{rank_in}
+use Rattle.mi_model.specs.LookUp.{rank_in}
 use Rattle.mi_model.specs.View.{view}
 
 -- the ids that index x of table n shows

@@ -3,7 +3,7 @@ ghost use Rattle.std.specs.Prelude.{◌≡◌};
 ghost use Rattle.mi_sessions.specs.Fitting.{HasTable, IsKeyedIndex, IsHashedIndex, IsSortedIndex, FitsWhole, FitsPrefix, FitsLookUp};
 ghost use Rattle.mi_model.specs.Table.{size as size_of};
 ghost use Rattle.mi_model.specs.Database.{schema_of, table_of};
-ghost use Rattle.mi_model.specs.Lookup as look;
+ghost use Rattle.mi_model.specs.LookUp as look;
 ghost use Rattle.mi_sessions.specs.LookUps.{WithinLookUps};
 
 use crate::shown::shows_each;

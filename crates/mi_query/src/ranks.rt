@@ -4,7 +4,7 @@ ghost use Rattle.mi_value.specs.declared.refusal.Refusal.TheVariants.{NoId};
 ghost use Rattle.mi_sessions.specs.Fitting.{HasTable, IsSortedIndex, FitsPrefix};
 ghost use Rattle.mi_model.specs.Table.{has as has_row, size as size_of};
 ghost use Rattle.mi_model.specs.Database.{schema_of, table_of};
-ghost use Rattle.mi_model.specs.Lookup as look;
+ghost use Rattle.mi_model.specs.LookUp as look;
 ghost use Rattle.mi_sessions.specs.LookUps.{WithinLookUps};
 
 use mi_sessions::Sessions;

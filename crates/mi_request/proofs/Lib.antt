@@ -1,4 +1,4 @@
 pub mod NumberLemmas
 pub mod ObjectLemmas
-pub mod Parsing
+pub mod ParsingLemmas
 pub mod ShortLemmas

@@ -201,7 +201,8 @@ last_at-push name (n ∷ ms) m =
     ap (or_first (bytes_eq name n.0.now)) (last_at-push name ms m)
     ∙ put_behind (bytes_eq name n.0.now) (bytes_eq name m.0.now) (length ms) (last_at name ms)
 
-pub absent : {A : Type 0} (name : List ℕ) (ms : List (Member A)) (found : Members) → last_at name ms ≡ None → get_member name (onto ms found) ≡ get_member name found
+pub absent : {A : Type 0} (name : List ℕ) (ms : List (Member A)) (found : Members) → last_at name ms ≡ None
+    → get_member name (onto ms found) ≡ get_member name found
 absent name [] found is = refl
 absent name (m ∷ ms) found is =
     let p = or_none _ (last_at name ms) is in
@@ -219,7 +220,8 @@ present name (m ∷ ms) found i n is = elim (or_some _ (last_at name ms) i is) [
 
 -- ---- null written over a member's value
 
-pub emptied-absent : {A : Type 0} (name : List ℕ) (ms : List (Member A)) (found : Members) → last_at name ms ≡ None → emptied name (onto ms found) ≡ onto ms (emptied name found)
+pub emptied-absent : {A : Type 0} (name : List ℕ) (ms : List (Member A)) (found : Members) → last_at name ms ≡ None
+    → emptied name (onto ms found) ≡ onto ms (emptied name found)
 emptied-absent name [] found is = refl
 emptied-absent name (m ∷ ms) found is =
     let p = or_none _ (last_at name ms) is in

@@ -25,7 +25,7 @@ use Rattle.mi_request.specs.Lines.{request_or_refusal, command_line}
 use Rattle.mi_request.specs.Short.{numbered, short_line}
 use Rattle.mi_request.specs.declared.request.Request.{Request}
 use Rattle.mi_request.specs.declared.request.Request.TheVariants as request
-use Rattle.mi_request.proofs.Parsing.{json-found}
+use Rattle.mi_request.proofs.ParsingLemmas.{json-found}
 
 -- ---- a command with a number
 

@@ -2,7 +2,7 @@
 ghost use Rattle.mi_model.specs.Run.{UndosTakeBack};
 ghost use Rattle.mi_model.specs.Sessions.{SessionsAreNumbered, CommitsEndByNumber, StartsTakeTheNextNumber, SessionsKeepTheirNumbers};
 ghost use Rattle.mi_model.specs.Unique.{TablesStayWellFormed, UniqueKeysStayUnique};
-ghost use Rattle.mi_model.specs.Lookup.{RanksCountRows};
+ghost use Rattle.mi_model.specs.LookUp.{RanksCountRows};
 ghost use Rattle.mi_model.specs.OneTable.{OneTableAsBefore};
 ghost use Rattle.mi_model.specs.Alike.{LookUpsAnswerAlike, CommandsAnswerAlike, RunsAnswerAlike, WhatFitsIsAsked, RecordsThatFitHaveWholeKeys};
 

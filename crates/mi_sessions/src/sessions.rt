@@ -7,11 +7,11 @@ ghost use Rattle.mi_value.specs.declared.refusal.Refusal.TheVariants.{Memory};
 ghost use Rattle.mi_catalog.specs.Fitting.{HasTable, IsKeyedIndex, IsHashedIndex, IsSortedIndex, IsSequencedIndex, IsListedIndex};
 ghost use Rattle.mi_catalog.specs.Fitting.{FitsTable, EditsFit, FitsWhole, FitsPrefix};
 ghost use Rattle.mi_model.specs.Table.{get as get_row, has as has_row, size as size_of};
-ghost use Rattle.mi_model.specs.Lookup as look;
+ghost use Rattle.mi_model.specs.LookUp as look;
 ghost use Rattle.mi_model.specs.Walk.{rows_from};
 ghost use Rattle.mi_model.specs.Database.{Database, IsDatabase, schema_of, table_of, depth as depth_of};
 ghost use Rattle.mi_model.specs.Database.{start_step, undo_step, squash_step, ending, committed, undone_times};
-ghost use Rattle.mi_model.specs.Steps.{Meets, without_value, insert_step, replace_step, modify_step, erase_step, erase_key_step, relocate_step};
+ghost use Rattle.mi_model.specs.DatabaseChange.{Meets, without_value, insert_step, replace_step, modify_step, erase_step, erase_key_step, relocate_step};
 ghost use Rattle.mi_sessions.specs.LookUps.{WithinLookUps};
 
 use mi_catalog::Catalog;

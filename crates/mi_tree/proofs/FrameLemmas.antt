@@ -2,7 +2,6 @@
 --     tree_empty      a new tree
 --     tree_where      a tree in another pool, or in its own after other calls, where its nodes are alike to it
 --     tree_swapped      a tree after a value was exchanged for one of an equal key
---     tree_kept      a tree after a change of another structure, by what that change keeps
 --     tree_listed      the list that a tree is, by its links
 use Rattle.std.proofs.Common.{◌≡◌, ◌==◌, true, false, ℕ, zero, suc, ◌<◌, ◌≤◌, inl, inr, cond}
 use Rattle.std.proofs.Common.{option_map, List, [], ◌∷◌, ◌++◌, Some, refl, sym, ap, ◌∙◌, subst, arith}
@@ -187,14 +186,6 @@ module _ {T O : Type 0} where
       tree_where order tag total below l m (with_value m x.name new) rs h
       (alike_swapped order total m x.name old new l.slot rs e f (tree_held l m order tag rs h))
       (subst (λ k. l.slot < k) (sym (slots-with_value m x.name new)) h.has_slot)
-
-  -- a change of a structure in another slot
-  pub tree_kept : (order : T → T → Ordering) (tag : T → ℕ) → IsTotalOrder order → IsTagBelow order tag
-      → (l : Tree O) (m n : Pooled T) (s : ℕ) (us rs : List Ref) → Keeps m n s us → (s == l.slot) ≡ false
-      → IsTree l m order tag rs → IsTree l n order tag rs
-  tree_kept order tag total below l m n s us rs g e h =
-      tree_where order tag total below l m n rs h (alike_kept order total m n s l.slot us rs g e (tree_held l m order tag rs h))
-      (subst (λ k. l.slot < k) (sym g.slots) h.has_slot)
 
   pub tree_listed : ListsNodes T O
   unfolding listed

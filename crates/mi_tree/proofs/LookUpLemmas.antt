@@ -113,10 +113,6 @@ node_read place r {m} {n} same h e = let v = held_has m r h in
     ap (is_value_at place) v.1 ∙ ap (λ o. is_eq (place_at place o)) (sym v.1)
     ∙ ap (λ (z : Pooled _). is_eq (place_at place (value_of z r.name))) (sym same) ∙ ap is_eq (sym e)
 
--- the node of a probe's own key is the first that isn't before the probe
-no_here : Greater ≡ Equal → ⊥
-no_here e = cc
-
 here_past : (o : Ordering) → is_eq o ≡ true → past false o ≡ true
 here_past Less e = absurd (true_false false e refl)
 here_past Equal e = refl
@@ -233,19 +229,6 @@ module _ {T : Type 0} where
     pub steps : step + height u ≤ step0 + height t
 
   module _ {m : Pooled T} {s : ℕ} {tag : T → ℕ} {f : Ref → Bool} {root : Option Ref} where
-    pub seek_start : (t : BinaryTree) → IsRooted m s root t → AreTagged tag m s (nodes t)
-        → IsSteady f (nodes t) → (a b : ℕ) → Seeking m s tag f root root None a a b b
-    seek_start t h g k a b = record {
-      t = t;
-      u = t;
-      whole = h;
-      rooted = h;
-      tagged = g;
-      steady = k;
-      is = or_none (first_where f (nodes t));
-      reads = omega arith;
-      steps = omega arith;
-    }
 
     module _ {at : Option Ref} {r : Ref} {y : Link} {found : Option Ref} {a b c d : ℕ}
         (h : Seeking m s tag f root at found a b c d) (e : at ≡ Some r) (i : y ≡ link_of m r.name s) where

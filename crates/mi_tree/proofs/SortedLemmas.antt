@@ -96,11 +96,6 @@ module _ {T : Type 0} (tag : T → ℕ) (m : Pooled T) (s : ℕ) where
   tagged_both [] ys g h = h
   tagged_both (x ∷ xs) ys g h = (g.0, tagged_both xs ys g.1 h)
 
-pub greater_of : (o : Ordering) → (o ≡ Less → ⊥) → (o ≡ Equal → ⊥) → o ≡ Greater
-greater_of Less f g = absurd (f refl)
-greater_of Equal f g = absurd (g refl)
-greater_of Greater f g = refl
-
 -- lists of nodes that compare alike
 pub are_left : (f : Ref → Ordering) (o : Ordering) (xs ys : List Ref) → AllAre f o (xs ++ ys) → AllAre f o xs
 are_left f o [] ys h = tt

@@ -9,7 +9,7 @@ use Rattle.std.proofs.Math.Seq.{take-append_seam, take-append-add, drop-append-a
 use Rattle.mi_node.specs.Pool.{Pooled, link_of, IsHeld}
 use Rattle.mi_node.specs.Refs.{Ref}
 use Rattle.mi_node.specs.declared.link.Link.{Link}
-use Rattle.mi_tree.specs.BinaryTree.{BinaryTree, Tip, Fork, nodes, height, IsRooted, height_at}
+use Rattle.mi_tree.specs.BinaryTree.{BinaryTree, Fork, nodes, height, IsRooted, height_at}
 use Rattle.mi_tree.specs.Walking.{Pending, onward, beyond, near_of, far_of, is_ascending, ahead, path_of, ArePending, Goes, Enters, IsWalk}
 use Rattle.mi_tree.specs.declared.walk.Direction.{Direction}
 use Rattle.mi_tree.specs.declared.walk.Direction.TheVariants.{Ascending, Descending}
@@ -99,12 +99,6 @@ module _ {T : Type 0} where
         far_lower = omega arith;
         room = omega arith;
       }
-
-  -- no way down from a tip
-  pub enters_none : (m : Pooled T) (s : ℕ) (d : Direction) (levels : ℕ) (items : List (Option Ref)) (xs : List Pending) (t : BinaryTree)
-      → Enters m s d levels items None xs t → t ≡ Tip
-  enters_none m s d levels items xs Tip h = refl
-  enters_none m s d levels items xs (Fork l r q) h = let e = h.rooted.root in absurd cc
 
 -- the nodes ahead of the nearer side, then those of the whole
 pub ahead_near : (d : Direction) (l : BinaryTree) (r : Ref) (q t : BinaryTree) (xs ys : List Pending) → t ≡ Fork l r q

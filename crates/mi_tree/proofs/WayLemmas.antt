@@ -334,11 +334,6 @@ module _ {T : Type 0} where
     tags = λ k. refl;
   }
 
-  pub level_none : (m : Pooled T) (s : ℕ) (root below : Option Ref) (items : List (Option Turn)) (fs : List Frame) (at : Option Ref) (h : ℕ) (u : BinaryTree)
-      → Climbs m s root below items fs at h u → fs ≡ [] → IsLevel (height u) h (height_at m s below) (risen fs h)
-  level_none m s root below items fs at h u c e = subst (λ (z : ℕ × ℕ). IsLevel (height u) h z.0 z.1)
-      (λ i. (sym (height-root m s below u c.rooted) i, ap (λ k. risen k h) (sym e) i)) (c.near, λ f. f)
-
   -- what a step up gives: the tree that is to stand next, and what the rest of the way makes of it
   pub record NextClimb (m n : Pooled T) (s : ℕ) (root : Option Ref) (new : List (Option Turn)) (fs : List Frame)
       (h : ℕ) (u : BinaryTree) (turn : Turn) (before : ℕ) (next : Ref) : Type 0 where

@@ -25,7 +25,7 @@ pub fn hash_values(values: &[Value]) -> u64
 impl Record {
     /// The hash of the record's key at these parts: that of the list of its values there, missing ones left out. Equal
     /// keys have equal hashes.
-    #[tactic(auto, using(crate::proofs::Hashes::one_part), unfolding(crate::specs::Hash::values_hash))]
+    #[tactic(auto, using(crate::proofs::HashLaws::one_part), unfolding(crate::specs::Hash::values_hash))]
     pub fn key_hash(&self, parts: &[KeyPart]) -> u64
         ensures { result ≡ values_hash (key_values parts.now self.now) }
     {

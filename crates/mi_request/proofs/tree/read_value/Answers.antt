@@ -4,7 +4,7 @@ use Rattle.json.specs.Lex.{tokens}
 use Rattle.json.specs.Token.{Token}
 use Rattle.json.specs.Value.{value_view}
 use Rattle.serde_json.specs.Read.{of_json}
-use Rattle.mi_request.proofs.Parsing.{json-found, json-refused, text-read}
+use Rattle.mi_request.proofs.ParsingLemmas.{json-found, json-refused, text-read}
 use Rattle.mi_request.proofs.tree.read_value.Goals as goal
 
 pub returns-in_default-clause-err : goal.returns-in_default-clause-err

@@ -1,4 +1,4 @@
-use Rattle.mi_value.proofs.Hashes.{equal_hashes, key_hashes}
+use Rattle.mi_value.proofs.HashLaws.{equal_hashes, key_hashes}
 use Rattle.mi_value.proofs.laws.equal_keys_have_equal_hashes.Goals as goal
 
 pub returns : goal.returns

@@ -4,13 +4,14 @@ use Rattle.mi_value.specs.declared.value.Value.{Value}
 use Rattle.mi_protocol.specs.Text.{text_bytes}
 use Rattle.mi_protocol.specs.Replies.{Said}
 use Rattle.mi_protocol.specs.declared.binding.Command.TheVariants as command
-use Rattle.mi_commands.specs.Holder.{Held}
+use Rattle.mi_commands.specs.Holder.{HeldDatabase}
 use Rattle.mi_commands.specs.Performed.{performed}
 use Rattle.mi_commands.specs.Answer.{GivenOrMemory}
 use Rattle.mi_commands.proofs.executor.Executor.perform.Goals as goal
 
 -- what may lack memory may, where the command isn't an undo
-may_lack : {A : Type 0} (a : Said × Held) (s : Held) (reply : List ℕ) (t : Held) → A → GivenOrMemory (Unit {0}) a s reply t → GivenOrMemory A a s reply t
+may_lack : {A : Type 0} (a : Said × HeldDatabase) (s : HeldDatabase) (reply : List ℕ) (t : HeldDatabase) → A
+    → GivenOrMemory (Unit {0}) a s reply t → GivenOrMemory A a s reply t
 may_lack a s reply t lack h = elim h [ inl p ↦ inl p | inr p ↦ inr (lack, p.1) ]
 
 lower_isnt : (table index : ℕ) (key : List Value) → command.LowerRank table index key ≢ command.Undo

@@ -2,7 +2,7 @@
 use Rattle.std.proofs.Common.{◌≡◌, ◌∙◌, ap₂, sym, subst, Some}
 use Rattle.mi_catalog.specs.Shape.{Shape}
 use Rattle.mi_model.specs.Table.{Table}
-use Rattle.mi_model.specs.Lookup.{find}
+use Rattle.mi_model.specs.LookUp.{find}
 use Rattle.mi_model.specs.Database.{Database, schema_of, table_of}
 use Rattle.mi_database.specs.LinkedData.{meaning}
 use Rattle.mi_database.specs.Keyed.{keyed, ErasesOne}

@@ -4,7 +4,7 @@ use Rattle.std.specs.Prelude.{Ok, Err}
 use Rattle.std.specs.declared.option.Option.TheVariants.{None}
 use Rattle.mi_value.specs.declared.refusal.Refusal.TheVariants.{Memory}
 use Rattle.mi_model.specs.Verdict.{erase_outcome}
-use Rattle.mi_model.specs.Steps.{erase_step}
+use Rattle.mi_model.specs.DatabaseChange.{erase_step}
 use Rattle.mi_model.specs.Run.Command.{Erase as EraseCommand}
 use Rattle.mi_container.specs.Inverse.{keeps}
 use Rattle.mi_container.specs.Run.Change.{Erase}

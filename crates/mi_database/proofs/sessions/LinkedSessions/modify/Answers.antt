@@ -4,7 +4,7 @@ use Rattle.std.specs.Prelude.{Err}
 use Rattle.std.specs.declared.result.Result.{Result}
 use Rattle.mi_value.specs.declared.refusal.Refusal.{Refusal}
 use Rattle.mi_model.specs.Verdict.{modify_outcome}
-use Rattle.mi_model.specs.Steps.{Meets, modify_step}
+use Rattle.mi_model.specs.DatabaseChange.{Meets, modify_step}
 use Rattle.mi_container.specs.Inverse.{lost_to}
 use Rattle.mi_container.specs.Makes.{MeetsOn}
 use Rattle.mi_journal.specs.Noted.{noted}

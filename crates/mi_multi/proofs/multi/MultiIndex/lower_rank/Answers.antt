@@ -1,6 +1,6 @@
 use Rattle.std.proofs.Common.{false}
 use Rattle.mi_value.specs.declared.bound.Probe.TheVariants.{Key}
-use Rattle.mi_model.specs.Lookup as look
+use Rattle.mi_model.specs.LookUp as look
 use Rattle.mi_index.specs.Looks.{is_past}
 use Rattle.mi_container.specs.Data.{table_of}
 use Rattle.mi_multi.specs.Multi.{id_at}

@@ -4,7 +4,7 @@ use Rattle.std.proofs.lemmas.List.Sums.{prefix_len-le-length}
 use Rattle.std.specs.Prelude.{not, ◌==◌}
 use Rattle.std.specs.List.{insert}
 use Rattle.mi_model.specs.Change.{stand_before}
-use Rattle.mi_model.specs.Lookup.{rank_in}
+use Rattle.mi_model.specs.LookUp.{rank_in}
 use Rattle.mi_plain.proofs.RowLemmas.{stand_before-is}
 use Rattle.mi_plain.proofs.ids.Ids.with_before.Goals as goal
 

@@ -1,5 +1,5 @@
 -- Each id of the list is there.
-use Rattle.mi_plain.proofs.CutLemmas.{listed}
+use Rattle.mi_plain.proofs.BoundaryLemmas.{listed}
 use Rattle.mi_plain.proofs.PassLemmas.{there_is}
 use Rattle.mi_plain.proofs.table.PlainTable.first_of.Goals as goal
 

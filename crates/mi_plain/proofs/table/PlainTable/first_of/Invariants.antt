@@ -3,7 +3,7 @@ use Rattle.std.proofs.Common.{◌≡◌, drop, slice_get}
 use Rattle.std.specs.List.{filter}
 use Rattle.std.specs.Ordering.{is_eq}
 use Rattle.mi_model.specs.View.{compare_to_id}
-use Rattle.mi_model.specs.Lookup as look
+use Rattle.mi_model.specs.LookUp as look
 use Rattle.mi_plain.proofs.table.PlainTable.first_of.Given as goal
 
 abbrev pub invariant-loop-id : goal.invariant-loop-id

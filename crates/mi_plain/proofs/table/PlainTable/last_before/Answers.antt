@@ -1,6 +1,6 @@
 -- Each id of the list is there, at its place.
 use Rattle.mi_plain.proofs.PassLemmas.{place_is, there_is, last_ends}
-use Rattle.mi_plain.proofs.CutLemmas.{order_in_total}
+use Rattle.mi_plain.proofs.BoundaryLemmas.{order_in_total}
 use Rattle.mi_plain.proofs.table.PlainTable.last_before.Goals as goal
 
 pub is_before-requires-clause-place : goal.is_before-requires-clause-place

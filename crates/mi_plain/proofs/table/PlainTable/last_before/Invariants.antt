@@ -2,14 +2,14 @@
 use Rattle.std.proofs.Common.{◌≡◌, drop, IsTrue, IfSome}
 use Rattle.std.specs.declared.option.Option.TheVariants.{None}
 use Rattle.mi_model.specs.Table.{has, list_of}
-use Rattle.mi_plain.specs.Cut.{order_in, is_before}
+use Rattle.mi_plain.specs.Boundary.{order_in, is_before}
 use Rattle.mi_plain.proofs.PassLemmas.{last_kept}
 use Rattle.mi_plain.proofs.table.PlainTable.last_before.Given as goal
 
 abbrev pub invariant-loop-i : goal.invariant-loop-i
 invariant-loop-i l =
     record {
-      left : last_kept (order_in l.index l.self) (λ a. is_before l.index l.self (list_of l.self l.x) l.key l.cut a) l.best (drop l.i l.ids)
-          ≡ last_kept (order_in l.index l.self) (λ a. is_before l.index l.self (list_of l.self l.x) l.key l.cut a) None l.ids;
+      left : last_kept (order_in l.index l.self) (λ a. is_before l.index l.self (list_of l.self l.x) l.key l.boundary a) l.best (drop l.i l.ids)
+          ≡ last_kept (order_in l.index l.self) (λ a. is_before l.index l.self (list_of l.self l.x) l.key l.boundary a) None l.ids;
       there : IfSome l.best (λ b. IsTrue (has l.self b));
     }

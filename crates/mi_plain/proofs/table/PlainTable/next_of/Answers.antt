@@ -1,6 +1,6 @@
 -- The ids behind the id, each of them there.
 use Rattle.std.proofs.Common.{◌<◌, length, arith}
-use Rattle.mi_plain.proofs.CutLemmas.{listed}
+use Rattle.mi_plain.proofs.BoundaryLemmas.{listed}
 use Rattle.mi_plain.proofs.PassLemmas.{there_is}
 use Rattle.mi_plain.proofs.ScanLemmas.{next_of_rest, place_within}
 use Rattle.mi_plain.proofs.table.PlainTable.next_of.Goals as goal

@@ -1,6 +1,6 @@
 -- Each id is shown at its rank, and every rank has an id.
 use Rattle.std.proofs.Common.{sym, ◌∙◌}
-use Rattle.mi_plain.proofs.CutLemmas.{listed_sorted}
+use Rattle.mi_plain.proofs.BoundaryLemmas.{listed_sorted}
 use Rattle.mi_plain.proofs.PassLemmas.{there_is}
 use Rattle.mi_plain.proofs.ScanLemmas.{nth_found, nth_none}
 use Rattle.mi_plain.proofs.table.PlainTable.nth.Goals as goal

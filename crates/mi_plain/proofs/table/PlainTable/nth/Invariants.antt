@@ -1,6 +1,6 @@
 -- no id so far has the rank
 use Rattle.std.proofs.Common.{ℕ, ◌≢◌, ◌<◌, get_or}
-use Rattle.mi_model.specs.Lookup as look
+use Rattle.mi_model.specs.LookUp as look
 use Rattle.mi_plain.proofs.table.PlainTable.nth.Given as goal
 
 abbrev pub invariant-loop-id : goal.invariant-loop-id

@@ -4,7 +4,7 @@ use Rattle.std.proofs.lemmas.List.{map-append}
 use Rattle.std.specs.Option.{option_copied}
 use Rattle.mi_model.specs.Table.{row}
 use Rattle.mi_model.specs.View.{view}
-use Rattle.mi_model.specs.Lookup.{rank_in}
+use Rattle.mi_model.specs.LookUp.{rank_in}
 use Rattle.mi_model.specs.Walk.{turned}
 use Rattle.mi_model.proofs.WalkLaws.{each_listed, each_turned, at_rank_there, walk_more, walk_ends}
 use Rattle.mi_plain.proofs.table.PlainTable.walk.Goals as goal

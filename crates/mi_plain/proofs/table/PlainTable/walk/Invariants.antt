@@ -3,7 +3,7 @@ use Rattle.std.proofs.Common.{◌≡◌, ◌+◌, ◌-◌, ◌≤◌, length, ma
 use Rattle.std.specs.Prelude.{IsTrue, IfSome, slice_get}
 use Rattle.mi_model.specs.Table.{has, row}
 use Rattle.mi_model.specs.View.{view}
-use Rattle.mi_model.specs.Lookup.{rank_in}
+use Rattle.mi_model.specs.LookUp.{rank_in}
 use Rattle.mi_model.specs.Walk.{turned}
 use Rattle.mi_plain.proofs.table.PlainTable.walk.Given as goal
 

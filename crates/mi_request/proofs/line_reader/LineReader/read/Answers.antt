@@ -1,4 +1,4 @@
-use Rattle.mi_request.proofs.Parsing.{answer-value}
+use Rattle.mi_request.proofs.ParsingLemmas.{answer-value}
 use Rattle.mi_request.proofs.line_reader.LineReader.read.Goals as goal
 
 pub returns-clause-answer : goal.returns-clause-answer

@@ -2,7 +2,7 @@ use Rattle.std.proofs.Common.{◌≡◌, ◌+◌, false, drop, get_or, slice_get
 use Rattle.std.proofs.lemmas.List.{at_drop_more}
 use Rattle.mi_value.specs.declared.compare.KeyPart.{KeyPart}
 use Rattle.mi_value.specs.Hash.{after_if, after_values, key_values}
-use Rattle.mi_value.proofs.Hashes.{one_part}
+use Rattle.mi_value.proofs.HashLaws.{one_part}
 use Rattle.mi_value.proofs.record.Record.key_hash.Goals as goal
 
 pub loop-part-preserved : goal.loop-part-preserved

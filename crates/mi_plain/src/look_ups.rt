@@ -1,6 +1,6 @@
 //! The look-ups of a table. Each goes once over the list of an index, but `nth`, which ranks one id after another. They read
 //! rows and take no memory.
-use crate::pass::Cut;
+use crate::pass::Boundary;
 use crate::table::PlainTable;
 use mi_catalog::Schema;
 use mi_value::Value;
@@ -11,7 +11,7 @@ impl PlainTable {
     ghost use Rattle.mi_catalog.specs.declared.index.IndexKind.TheVariants.{Hashed};
     ghost use Rattle.mi_model.specs.Table.{has as has_row, IsTable};
     ghost use Rattle.mi_catalog.specs.Kinds.{is_sorted, shows_one_list};
-    ghost use Rattle.mi_model.specs.Lookup as look;
+    ghost use Rattle.mi_model.specs.LookUp as look;
 
     /// The first id that index x shows.
     pub(crate) fn first(&self, schema: &Schema, x: usize) -> Option<u64>
@@ -19,7 +19,7 @@ impl PlainTable {
         requires kind { IsTrue (shows_one_list (index_at schema.now x).kind) }
         ensures { result ≡ look.first schema.now self.now x }
     {
-        self.first_past(schema.index(x), x, &[], Cut::Start)
+        self.first_past(schema.index(x), x, &[], Boundary::Start)
     }
 
     /// The last id that index x shows.
@@ -28,7 +28,7 @@ impl PlainTable {
         requires kind { IsTrue (shows_one_list (index_at schema.now x).kind) }
         ensures { result ≡ look.last schema.now self.now x }
     {
-        self.last_before(schema.index(x), x, &[], Cut::End)
+        self.last_before(schema.index(x), x, &[], Boundary::End)
     }
 
     /// The id that index x shows directly after another.
@@ -38,8 +38,8 @@ impl PlainTable {
         requires id { IsTrue (has_row self.now id) }
         ensures { result ≡ look.after schema.now self.now x id }
     {
-        let cut = Cut::Behind(id, self.place_of(x, id));
-        self.first_past(schema.index(x), x, &[], cut)
+        let boundary = Boundary::Behind(id, self.place_of(x, id));
+        self.first_past(schema.index(x), x, &[], boundary)
     }
 
     /// The id that index x shows directly before another.
@@ -49,8 +49,8 @@ impl PlainTable {
         requires id { IsTrue (has_row self.now id) }
         ensures { result ≡ look.before schema.now self.now x id }
     {
-        let cut = Cut::Before(id, self.place_of(x, id));
-        self.last_before(schema.index(x), x, &[], cut)
+        let boundary = Boundary::Before(id, self.place_of(x, id));
+        self.last_before(schema.index(x), x, &[], boundary)
     }
 
     /// The first id of a sorted index whose key isn't less.
@@ -59,7 +59,7 @@ impl PlainTable {
         requires kind { IsTrue (is_sorted (index_at schema.now x).kind) }
         ensures { result ≡ look.lower schema.now self.now x key.now }
     {
-        self.first_past(schema.index(x), x, key, Cut::Lower)
+        self.first_past(schema.index(x), x, key, Boundary::Lower)
     }
 
     /// The first id of a sorted index whose key is greater.
@@ -68,7 +68,7 @@ impl PlainTable {
         requires kind { IsTrue (is_sorted (index_at schema.now x).kind) }
         ensures { result ≡ look.upper schema.now self.now x key.now }
     {
-        self.first_past(schema.index(x), x, key, Cut::Upper)
+        self.first_past(schema.index(x), x, key, Boundary::Upper)
     }
 
     /// How many rows stand before a row in a sorted index.
@@ -78,8 +78,8 @@ impl PlainTable {
         requires id { IsTrue (has_row self.now id) }
         ensures { result ≡ look.rank schema.now self.now x id }
     {
-        let cut = Cut::Before(id, self.place_of(x, id));
-        self.count_before(schema.index(x), x, &[], cut)
+        let boundary = Boundary::Before(id, self.place_of(x, id));
+        self.count_before(schema.index(x), x, &[], boundary)
     }
 
     /// How many keys of a sorted index are less.
@@ -88,7 +88,7 @@ impl PlainTable {
         requires kind { IsTrue (is_sorted (index_at schema.now x).kind) }
         ensures { result ≡ look.lower_rank schema.now self.now x key.now }
     {
-        self.count_before(schema.index(x), x, key, Cut::Lower)
+        self.count_before(schema.index(x), x, key, Boundary::Lower)
     }
 
     /// How many keys of a sorted index aren't greater.
@@ -97,7 +97,7 @@ impl PlainTable {
         requires kind { IsTrue (is_sorted (index_at schema.now x).kind) }
         ensures { result ≡ look.upper_rank schema.now self.now x key.now }
     {
-        self.count_before(schema.index(x), x, key, Cut::Upper)
+        self.count_before(schema.index(x), x, key, Boundary::Upper)
     }
 
     /// The id with n rows before it in a sorted index.

@@ -1,6 +1,6 @@
 -- From the value that a text is to the request that it is.
-use Rattle.std.proofs.Common.{◌≡◌, ℕ, List, [], Bool, true, false, cond, Option, Some, None, Err, is_some, option_and_then}
-use Rattle.std.proofs.Common.{refl, sym, ap, ◌∙◌, inl, inr, ◌⊎◌, subst}
+use Rattle.std.proofs.Common.{◌≡◌, ℕ, List, [], Bool, true, false, cond, Option, Some, None, is_some, option_and_then}
+use Rattle.std.proofs.Common.{refl, sym, ap, ◌∙◌, inl, inr, ◌⊎◌}
 use Rattle.std.specs.Option.{ok_or}
 use Rattle.std.specs.Str.{IsUtf8, is_utf8}
 use Rattle.std.proofs.lemmas.Str.{IsUtf8-from_is_utf8, is_utf8-from_IsUtf8}
@@ -8,8 +8,7 @@ use Rattle.json.specs.Json as json
 use Rattle.json.specs.Lex.{tokens}
 use Rattle.serde_json.specs.Data.{Data}
 use Rattle.serde_json.specs.Read.{of_json, read}
-use Rattle.mi_value.specs.declared.refusal.Refusal.{Refusal}
-use Rattle.mi_value.specs.declared.refusal.Refusal.TheVariants.{Json, Form, Memory}
+use Rattle.mi_value.specs.declared.refusal.Refusal.TheVariants.{Json, Form}
 use Rattle.mi_request.specs.Answers.{IsAnswer}
 use Rattle.mi_request.specs.Lines.{json_of, request_of, request_or_refusal, command_line}
 use Rattle.mi_request.specs.Meant.{meant}
@@ -37,10 +36,3 @@ text-read text j found good = ap (λ o. option_and_then of_json (option_and_then
 pub answer-value : (r : Option Request) (bytes : List ℕ) (d : Data) → json_of bytes ≡ Some d → r ≡ request_of d → IsAnswer (ok_or r Form) (command_line bytes)
 answer-value None bytes d found is = ap request_or_refusal found ∙ ap (λ o. ok_or o Form) (sym is)
 answer-value (Some r) bytes d found is = ap request_or_refusal found ∙ ap (λ o. ok_or o Form) (sym is)
-
--- no value is read
-pub answer-refused : (e : Refusal) (bytes : List ℕ) → (e ≡ Memory) ⊎ ((e ≡ Json) × (json_of bytes ≡ None)) → IsAnswer (Err e) (command_line bytes)
-answer-refused e bytes why = elim why [
-  | inl is ↦ subst (λ x. IsAnswer (Err x) (command_line bytes)) (sym is) tt
-  | inr p ↦ subst (λ x. IsAnswer (Err x) (command_line bytes)) (sym p.0) (ap request_or_refusal p.1)
-]

@@ -12,7 +12,7 @@ use Rattle.std.specs.declared.cmp.Ordering.{Ordering}
 use Rattle.std.specs.declared.cmp.Ordering.TheVariants.{Less, Equal, Greater}
 use Rattle.mi_model.specs.Table.{times}
 use Rattle.mi_model.specs.View.{place, sorted}
-use Rattle.mi_model.specs.Lookup.{rank_in, before_place}
+use Rattle.mi_model.specs.LookUp.{rank_in, before_place}
 use Rattle.mi_model.proofs.SortLaws.{both_ways, each, below, Ascends}
 use Rattle.mi_model.proofs.StampLaws.{Rises, of_one, times_first}
 use Rattle.mi_model.proofs.TableLaws.{count_itself, not_same, lacks_of_count}

@@ -1,4 +1,4 @@
--- What stands before a cut, and what an index then shows there.
+-- What stands before a boundary, and what an index then shows there.
 use Rattle.std.proofs.Common.{◌≡◌, ℕ, ◌<◌, ◌≤◌, Bool, true, false, cond, not, inl, inr, List, []}
 use Rattle.std.proofs.Common.{◌∷◌, ◌++◌, length, slice_get, refl, ap, sym, ◌∙◌, subst, arith}
 use Rattle.std.specs.List.{filter, fold}
@@ -16,16 +16,16 @@ use Rattle.mi_catalog.specs.Shape.{Shape, index_at}
 use Rattle.mi_model.specs.Table.{Table, IsTable, ListsEach, has, list_of, times}
 use Rattle.mi_model.specs.View.{place, sorted, shown, view, compare_ids, compare_to_id}
 use Rattle.mi_catalog.specs.Kinds.{is_sorted, shows_one_list}
-use Rattle.mi_model.specs.Lookup as look
-use Rattle.mi_model.specs.Lookup.{rank_in, before_place}
+use Rattle.mi_model.specs.LookUp as look
+use Rattle.mi_model.specs.LookUp.{rank_in, before_place}
 use Rattle.mi_model.proofs.SortLaws.{both_ways, is_less, filter-sorted}
 use Rattle.mi_model.proofs.StampLaws.{Rises, sorted-rises}
 use Rattle.mi_model.proofs.TableLaws.{all_get}
 use Rattle.mi_model.proofs.ViewLaws.{compare_ids_total}
 use Rattle.mi_model.proofs.PrefixLaws.{key_falls}
-use Rattle.mi_model.proofs.LookupLaws.{HoldsBefore, first_past, last_before, rank_counts, rank_counts_itself, places_rise, count-sorted, times-sorted}
-use Rattle.mi_plain.specs.declared.pass.Cut.TheVariants.{Start, End, Lower, Upper, Before, Behind}
-use Rattle.mi_plain.specs.Cut.{order_by, order_in, by_place, is_before, last_in}
+use Rattle.mi_model.proofs.LookUpLaws.{HoldsBefore, first_past, last_before, rank_counts, rank_counts_itself, places_rise, count-sorted, times-sorted}
+use Rattle.mi_plain.specs.declared.pass.Boundary.TheVariants.{Start, End, Lower, Upper, Before, Behind}
+use Rattle.mi_plain.specs.Boundary.{order_by, order_in, by_place, is_before, last_in}
 
 order_by_total : (kind : IndexKind) (order : ℕ → ℕ → Ordering) → IsTotalOrder order → IsTotalOrder (order_by kind order)
 order_by_total Ordered order o = o
@@ -77,7 +77,7 @@ module _ (i : Index) (t : Table) (ids : List ℕ) (each : ListsEach t ids) where
   rises : Rises (by_place i t ids) all
   rises = sorted-rises (order_in_total i t) (rank_in ids) ids (places_rise ids (once t ids each))
 
-  -- the first past a cut, the last before it, and how many are before it
+  -- the first past a boundary, the last before it, and how many are before it
   pub shown_past : (p : ℕ → Bool) → HoldsBefore (by_place_total i t ids) p
       → slice_get (sorted (order_in i t) (filter (λ a. not (p a)) ids)) 0 ≡ slice_get all (length (filter p all))
   shown_past p holds = ap (λ xs. slice_get xs 0) (sym (filter-sorted (order_in_total i t) (λ a. not (p a)) ids))

@@ -21,7 +21,7 @@ use Rattle.mi_model.specs.Key.{Row, compare_rows, compare_to_row, IsWholeKey}
 use Rattle.mi_model.specs.Table.{Table, get, row, size}
 use Rattle.mi_model.specs.View.{view, of_key, compare_ids, compare_to_id}
 use Rattle.mi_model.specs.Conflict.{conflict}
-use Rattle.mi_model.specs.Lookup.{rank_in, after_in, before_place, before_in, lower_rank, upper_rank, next_of}
+use Rattle.mi_model.specs.LookUp.{rank_in, after_in, before_place, before_in, lower_rank, upper_rank, next_of}
 use Rattle.mi_model.specs.Page.{page_of, meets_lower, meets_upper, between, list}
 use Rattle.mi_model.specs.Database.{schema_of, table_of}
 use Rattle.mi_model.specs.Same.{SameView, SameTable, SameTables}

@@ -10,9 +10,9 @@ use Rattle.mi_catalog.specs.declared.index.IndexKind.{IndexKind}
 use Rattle.mi_catalog.specs.Kinds.{is_sorted}
 use Rattle.mi_model.specs.Table.{Table, has}
 use Rattle.mi_model.specs.View.{compare_ids, compare_to_id}
-use Rattle.mi_model.specs.Lookup.{rank_in, before_place}
-use Rattle.mi_plain.specs.declared.pass.Cut.{Cut}
-use Rattle.mi_plain.specs.declared.pass.Cut.TheVariants.{Start, End, Lower, Upper, Before, Behind}
+use Rattle.mi_model.specs.LookUp.{rank_in, before_place}
+use Rattle.mi_plain.specs.declared.pass.Boundary.{Boundary}
+use Rattle.mi_plain.specs.declared.pass.Boundary.TheVariants.{Start, End, Lower, Upper, Before, Behind}
 
 -- an ordered or ranked index goes by its keys, and any other by the list alone
 abbrev pub order_by : IndexKind → (ℕ → ℕ → Ordering) → ℕ → ℕ → Ordering
@@ -25,8 +25,8 @@ order_in i t = order_by i.kind (compare_ids i t)
 abbrev pub by_place : Index → Table → List ℕ → ℕ → ℕ → Ordering
 by_place i t ids = then_cmp (order_in i t) (on (rank_in ids) nat_cmp)
 
--- whether an id of the list stands before the cut
-abbrev pub is_before : Index → Table → List ℕ → List Value → Cut → ℕ → Bool
+-- whether an id of the list stands before the boundary
+abbrev pub is_before : Index → Table → List ℕ → List Value → Boundary → ℕ → Bool
 is_before i t ids key Start a = false
 is_before i t ids key End a = true
 is_before i t ids key Lower a = is_gt (compare_to_id i t key a)
@@ -34,11 +34,11 @@ is_before i t ids key Upper a = is_ge (compare_to_id i t key a)
 is_before i t ids key (Before e at) a = is_lt (ordering_then (order_in i t a e) (nat_cmp (rank_in ids a) at))
 is_before i t ids key (Behind e at) a = not (is_lt (ordering_then (order_in i t e a) (nat_cmp at (rank_in ids a))))
 
--- the id of the cut is there
-abbrev pub StandsIn : Table → Cut → Type 0
+-- the id of the boundary is there
+abbrev pub StandsIn : Table → Boundary → Type 0
 StandsIn t (Before e at) = IsTrue (has t e)
 StandsIn t (Behind e at) = IsTrue (has t e)
-StandsIn t cut = Unit {0}
+StandsIn t boundary = Unit {0}
 
 -- the last of a list
 abbrev pub last_in : List ℕ → Option ℕ
