@@ -20,7 +20,7 @@ help:
 	@echo 'make run         proves, builds and serves; a program that is up to date starts at once, without `rt`'
 	@echo '                 (ARGS="--schema FILE" and the like are the options of the program for both)'
 	@echo 'make build       the same, without serving'
-	@echo 'make test        the gate: the proofs, the must-fail edits, the tests, the program by two compilers (what passed here before is kept)'
+	@echo 'make test        the gate: the proofs, the must-fail edits, the tests, the program by two compilers'
 	@echo 'make check-docs  runs what README, guide and examples print, and the tests of the Python client and of the scripts'
 	@echo 'make fuzz        random lines to the program and to a reference in Python: SEED=$(SEED) LINES=$(LINES), of which DAMAGED=$(DAMAGED) are damaged'
 	@echo 'make faults      each request for memory refused in turn on worked rows, and a server under a hard limit of memory (some'
@@ -31,7 +31,7 @@ help:
 	@echo '                 ROWS=1000,10000 are other sizes; QUICK=1 is small, and shows only that all answer alike'
 	@echo 'make install     copies program, documents, examples and client below PREFIX=$(PREFIX)'
 	@echo 'make dist        the same as one archive, out/weltiyo.tar.gz'
-	@echo 'make clean       removes what was built, the kept proofs too'
+	@echo 'make clean       removes what was built, and the proofs that `rt check` keeps'
 
 try:
 	@exec $(PYTHON) scripts/program.py try -- $(ARGS)

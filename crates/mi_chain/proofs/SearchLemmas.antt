@@ -295,7 +295,6 @@ is_named_if k (Some r) h = h.0
 module _ {T : Type 0} (m : Pooled T) (s : ℕ) (us : List Ref) (r : Ref) (vs : List Ref)
     (hs : List (List Ref)) (full : AreFull hs) (a : IsApart ((us ++ r ∷ vs) ++ members hs))
     (h : IsLinked m s (last_of None (us ++ r ∷ vs)) (us ++ r ∷ vs) (first_in hs None)) (c : IsChained m s hs None) where
-
   out_of_rest : IsOut r.name (members hs)
   out_of_rest = (are_out_tail (members hs) r vs
       (out_of_ys (members hs) us (r ∷ vs) (are_out_flip (us ++ r ∷ vs) (members hs) (apart_across (us ++ r ∷ vs) (members hs) a)))).1

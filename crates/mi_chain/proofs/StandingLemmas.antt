@@ -101,7 +101,6 @@ module _ (R : Ref → Ref → Bool) (A : IsAlike R) (stamp hash : Ref → ℕ) (
   rising_remove (x ∷ xs) r ys h = (after_remove x xs r ys h.0, rising_remove xs r ys h.1)
 
   module _ {T : Type 0} (m : Pooled T) (s : ℕ) (heads : List (Option Ref)) (n : ℕ) where
-
     pub chain_of : (rs : List Ref) (h : AreBuckets R stamp hash m s heads n rs) (i : ℕ) (lt : i < n)
         → IsChain m s (slice_index_or heads i None) (h.each i lt).groups
     chain_of rs h i lt = let b = h.each i lt in record {

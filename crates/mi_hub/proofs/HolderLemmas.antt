@@ -96,17 +96,17 @@ module _ (cs : List Connection) where
     in_turn (l ∷ lines) [] s t p h = absurd p
     in_turn (l ∷ lines) (r ∷ replies) s t p h = in_turn lines replies p.0 t p.2 (by_reply s p.0 l r p.1 h)
 
-    pub served_holder : (lines : List Asked) (out : List ℕ) (s t : HeldDatabase) → Served (MayGive conn) s lines out t
+    served_holder : (lines : List Asked) (out : List ℕ) (s t : HeldDatabase) → Served (MayGive conn) s lines out t
         → holder_is_attached s.holder cs ≡ true → holder_is_attached t.holder cs ≡ true
     served_holder lines out s t p h = in_turn lines p.replies s t p.in_turn h
 
-    pub cut_holder : (lines : List Asked) (out : List ℕ) (s t : HeldDatabase) → CutOff (MayGive conn) s lines out t
+    cut_holder : (lines : List Asked) (out : List ℕ) (s t : HeldDatabase) → CutOff (MayGive conn) s lines out t
         → holder_is_attached s.holder cs ≡ true → holder_is_attached t.holder cs ≡ true
     cut_holder lines out s t p h = in_turn (p.asked ++ p.line ∷ []) (p.replies ++ p.reply ∷ []) s t p.in_turn h
 
 -- ---- events
 
-pub gone_holder : (conn : ℕ) (o : Option Holder) (cs : List Connection) → holder_is_attached o cs ≡ true
+gone_holder : (conn : ℕ) (o : Option Holder) (cs : List Connection) → holder_is_attached o cs ≡ true
     → holder_is_attached (without_holder conn o) (others conn cs) ≡ true
 gone_holder conn None cs h = refl
 gone_holder conn (Some x) cs h = by_test (nat_eq x.conn conn) refl
@@ -118,11 +118,11 @@ gone_holder conn (Some x) cs h = by_test (nat_eq x.conn conn) refl
     by_test true e = refl
     by_test false e = ap is_some (rest_at-others x.conn conn cs (apart x.conn conn e)) ∙ h
 
-pub more_attached : (o : Option Holder) (cs ds : List Connection) → holder_is_attached o cs ≡ true → holder_is_attached o (cs ++ ds) ≡ true
+more_attached : (o : Option Holder) (cs ds : List Connection) → holder_is_attached o cs ≡ true → holder_is_attached o (cs ++ ds) ≡ true
 more_attached None cs ds h = refl
 more_attached (Some x) cs ds h = some_append x.conn cs ds h
 
-pub another_rest : (conn : ℕ) (r : Rest) (o : Option Holder) (cs : List Connection)
+another_rest : (conn : ℕ) (r : Rest) (o : Option Holder) (cs : List Connection)
     → holder_is_attached o cs ≡ true → holder_is_attached o (with_rest conn r cs) ≡ true
 another_rest conn r None cs h = refl
 another_rest conn r (Some x) cs h = some_with_rest x.conn conn r cs ∙ h

@@ -42,15 +42,15 @@ pub ended_nil : ended [] ≡ []
 unfolding ended
 ended_nil = refl
 
-pub after-nil : after_newlines [] ≡ []
+after-nil : after_newlines [] ≡ []
 unfolding after_newlines
 after-nil = refl
 
-pub ended-newline : (b : ℕ) (bs : List ℕ) → nat_eq b 10 ≡ true → ended (b ∷ bs) ≡ [] ∷ ended bs
+ended-newline : (b : ℕ) (bs : List ℕ) → nat_eq b 10 ≡ true → ended (b ∷ bs) ≡ [] ∷ ended bs
 unfolding ended
 ended-newline b bs h = ap (λ t. cond t ([] ∷ ended bs) (put_front b (ended bs))) h
 
-pub ended-other : (b : ℕ) (bs : List ℕ) → nat_eq b 10 ≡ false → ended (b ∷ bs) ≡ put_front b (ended bs)
+ended-other : (b : ℕ) (bs : List ℕ) → nat_eq b 10 ≡ false → ended (b ∷ bs) ≡ put_front b (ended bs)
 unfolding ended
 ended-other b bs h = ap (λ t. cond t ([] ∷ ended bs) (put_front b (ended bs))) h
 
@@ -63,7 +63,7 @@ unfolding after_newlines
 after-none b bs h = if_none-none (ended (b ∷ bs)) _ _ h
 
 -- where no newline stands, all is the rest
-pub after-unended : (a : List ℕ) → ended a ≡ [] → after_newlines a ≡ a
+after-unended : (a : List ℕ) → ended a ≡ [] → after_newlines a ≡ a
 after-unended [] h = after-nil
 after-unended (b ∷ bs) h = after-none b bs h
 
@@ -74,7 +74,7 @@ some-other : (x : ℕ) (a : List ℕ) → nat_eq x 10 ≡ false → (ended a ≡
 some-other x a other some e = some (put_front-none x (ended a) (sym (ended-other x a other) ∙ e))
 
 -- what follows the last newline has none
-pub ended-after : (a : List ℕ) → ended (after_newlines a) ≡ []
+ended-after : (a : List ℕ) → ended (after_newlines a) ≡ []
 ended-after [] = ap ended after-nil ∙ ended_nil
 ended-after (x ∷ a) =
     elim (none_or (ended (x ∷ a))) [
@@ -87,7 +87,7 @@ ended-after (x ∷ a) =
 ended-append-none : (a b : List ℕ) → ended a ≡ [] → ended (a ++ b) ≡ ended a ++ ended (after_newlines a ++ b)
 ended-append-none a b h = ap (λ t. ended (t ++ b)) (sym (after-unended a h)) ∙ ap (λ ts. ts ++ ended (after_newlines a ++ b)) (sym h)
 
-pub ended-append : (a b : List ℕ) → ended (a ++ b) ≡ ended a ++ ended (after_newlines a ++ b)
+ended-append : (a b : List ℕ) → ended (a ++ b) ≡ ended a ++ ended (after_newlines a ++ b)
 ended-append [] b = ended-append-none [] b ended_nil
 ended-append (x ∷ a) b =
     elim (test_of (nat_eq x 10)) [
@@ -109,7 +109,7 @@ append-none : {A : Type 0} (xs ys : List A) → xs ++ ys ≡ [] → xs ≡ []
 append-none [] ys h = refl
 append-none (x ∷ xs) ys h = absurd (some_is h)
 
-pub after-append : (a b : List ℕ) → after_newlines (a ++ b) ≡ after_newlines (after_newlines a ++ b)
+after-append : (a b : List ℕ) → after_newlines (a ++ b) ≡ after_newlines (after_newlines a ++ b)
 after-append [] b = ap (λ t. after_newlines (t ++ b)) (sym after-nil)
 after-append (x ∷ a) b =
     elim (none_or (ended (x ∷ a))) [
@@ -134,7 +134,7 @@ put_text-nil : (ts : List (List ℕ)) → ts ≡ put_text [] ts
 put_text-nil [] = refl
 put_text-nil (t ∷ ts) = refl
 
-pub ended-joined : (x b : List ℕ) → ended x ≡ [] → ended (x ++ b) ≡ put_text x (ended b)
+ended-joined : (x b : List ℕ) → ended x ≡ [] → ended (x ++ b) ≡ put_text x (ended b)
 ended-joined [] b h = put_text-nil (ended b)
 ended-joined (y ∷ x) b h =
     elim (test_of (nat_eq y 10)) [
@@ -146,11 +146,11 @@ ended-joined (y ∷ x) b h =
     ]
 
 -- two texts with no newline join to one
-pub unended_append : (x y : List ℕ) → ended x ≡ [] → ended y ≡ [] → ended (x ++ y) ≡ []
+unended_append : (x y : List ℕ) → ended x ≡ [] → ended y ≡ [] → ended (x ++ y) ≡ []
 unended_append x y h k = ended-joined x y h ∙ ap (put_text x) k
 
 -- a text, its newline, and what follows
-pub ended-at : (x b : List ℕ) → ended x ≡ [] → ended (x ++ 10 ∷ b) ≡ x ∷ ended b
+ended-at : (x b : List ℕ) → ended x ≡ [] → ended (x ++ 10 ∷ b) ≡ x ∷ ended b
 ended-at x b h = ended-joined x (10 ∷ b) h ∙ ap (put_text x) (ended-newline 10 b refl) ∙ ap (λ t. t ∷ ended b) (append-nil x)
 
 unended-tail : (z : ℕ) (y : List ℕ) → ended (z ∷ y) ≡ [] → ended y ≡ []
@@ -164,7 +164,7 @@ put_text-some x [] h = refl
 put_text-some x (t ∷ ts) h = absurd (some_is h)
 
 -- where a newline follows, a text in front changes nothing of what is left
-pub after-joined : (x b : List ℕ) → ended x ≡ [] → (ended b ≡ [] → ⊥) → after_newlines (x ++ b) ≡ after_newlines b
+after-joined : (x b : List ℕ) → ended x ≡ [] → (ended b ≡ [] → ⊥) → after_newlines (x ++ b) ≡ after_newlines b
 after-joined [] b h some = refl
 after-joined (y ∷ x) b h some =
     after-some y (x ++ b) (λ e. some (put_text-some (y ∷ x) (ended b) (sym (ended-joined (y ∷ x) b h) ∙ e)))
@@ -202,7 +202,7 @@ parts_at (suc n) (x ∷ xs) h e = ap (λ ys. x ∷ ys) (parts_at n xs (omega ari
 marked-long : (t : List ℕ) → MAX_LINE < length t → marked t ≡ None
 marked-long t h = let e : nat_lt MAX_LINE (length t) ≡ true = search (rules, arith) in ap (λ b. cond b None (Some t)) e
 
-pub long-marked : (t : List ℕ) → marked t ≡ None → MAX_LINE < length t
+long-marked : (t : List ℕ) → marked t ≡ None → MAX_LINE < length t
 long-marked t h = elim (test_of (nat_lt MAX_LINE (length t))) [
   | inl is ↦ grind (arith, is)
   | inr other ↦ absurd (none_some (sym h ∙ ap (λ b. cond b None (Some t)) other))
@@ -211,7 +211,7 @@ long-marked t h = elim (test_of (nat_lt MAX_LINE (length t))) [
     none_some : {u : List ℕ} → None ≡ Some u → ⊥
     none_some k = cc
 
-pub marked-text : (t u : List ℕ) → marked t ≡ Some u → t ≡ u
+marked-text : (t u : List ℕ) → marked t ≡ Some u → t ≡ u
 marked-text t u h = elim (test_of (nat_lt MAX_LINE (length t))) [
   | inl is ↦ absurd (none_some (sym (ap (λ b. cond b None (Some t)) is) ∙ h))
   | inr other ↦ same (sym (ap (λ b. cond b None (Some t)) other) ∙ h)
@@ -224,7 +224,7 @@ marked-text t u h = elim (test_of (nat_lt MAX_LINE (length t))) [
     same k = cc
 
 -- texts of one mark have one mark with whatever is added
-pub marked-append : (x y t : List ℕ) → marked x ≡ marked y → marked (x ++ t) ≡ marked (y ++ t)
+marked-append : (x y t : List ℕ) → marked x ≡ marked y → marked (x ++ t) ≡ marked (y ++ t)
 marked-append x y t h = by_mark (marked x) refl
   where
     by_mark : (m : Option (List ℕ)) → marked x ≡ m → marked (x ++ t) ≡ marked (y ++ t)
@@ -244,11 +244,11 @@ first_alike x y [] h = refl
 first_alike x y (t ∷ ts) h = ap (λ m. cons_option (ended_line m) (filter_map kept_line ts)) (marked-append x y t h)
 
 -- Texts with no newline that have one mark stand for one another.
-pub lines-stand : (x y b : List ℕ) → ended x ≡ [] → ended y ≡ [] → marked x ≡ marked y → lines_of (x ++ b) ≡ lines_of (y ++ b)
+lines-stand : (x y b : List ℕ) → ended x ≡ [] → ended y ≡ [] → marked x ≡ marked y → lines_of (x ++ b) ≡ lines_of (y ++ b)
 lines-stand x y b h k same =
     ap (filter_map kept_line) (ended-joined x b h) ∙ first_alike x y (ended b) same ∙ sym (ap (filter_map kept_line) (ended-joined y b k))
 
-pub rest-stand : (x y b : List ℕ) → ended x ≡ [] → ended y ≡ [] → marked x ≡ marked y → rest_of (x ++ b) ≡ rest_of (y ++ b)
+rest-stand : (x y b : List ℕ) → ended x ≡ [] → ended y ≡ [] → marked x ≡ marked y → rest_of (x ++ b) ≡ rest_of (y ++ b)
 rest-stand x y b h k same =
     elim (none_or (ended b)) [
       | inl none ↦
@@ -257,7 +257,7 @@ rest-stand x y b h k same =
       | inr some ↦ ap marked (after-joined x b h some) ∙ sym (ap marked (after-joined y b k some))
     ]
 
-pub lines-append : (a b : List ℕ) → lines_of (a ++ b) ≡ lines_of a ++ lines_of (after_newlines a ++ b)
+lines-append : (a b : List ℕ) → lines_of (a ++ b) ≡ lines_of a ++ lines_of (after_newlines a ++ b)
 lines-append a b = ap (filter_map kept_line) (ended-append a b) ∙ filter_map-append kept_line (ended a) (ended (after_newlines a ++ b))
 
 pub in_pieces : (a b x : List ℕ) → StandsFor x (rest_of a) → (lines_of (a ++ b) ≡ lines_of a ++ lines_of (x ++ b)) × (rest_of (a ++ b) ≡ rest_of (x ++ b))
@@ -275,7 +275,7 @@ extended-marked x t = by_mark (marked x) refl
     by_mark None e = let long : MAX_LINE < length x = long-marked x e in sym (marked-long (x ++ t) (omega (arith, length-append x t)))
     by_mark (Some u) e = ap (λ v. marked (v ++ t)) (sym (marked-text x u e))
 
-pub extended-twice : (r : Option (List ℕ)) (a b : List ℕ) → extended (extended r a) b ≡ extended r (a ++ b)
+extended-twice : (r : Option (List ℕ)) (a b : List ℕ) → extended (extended r a) b ≡ extended r (a ++ b)
 extended-twice None a b = refl
 extended-twice (Some t) a b = extended-marked (t ++ a) b ∙ ap marked (append_assoc t a b)
 

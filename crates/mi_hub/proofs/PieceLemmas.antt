@@ -21,7 +21,7 @@ rest_then : (conn : ℕ) (r q s : Rest) (old mid : HubState) → rest_at conn ol
     → mid.attached ≡ with_rest conn q old.attached → rest_at conn mid.attached ≡ Some s → s ≡ q
 rest_then conn r q s old mid p kept here = same_rest (sym here ∙ ap (rest_at conn) kept ∙ rest_at-with_rest conn q r old.attached p)
 
-pub piece_none : (conn : ℕ) (r : Rest) (s : HubState) → rest_at conn s.attached ≡ Some r → extended r [] ≡ r → Done s (piece conn []) [] s
+piece_none : (conn : ℕ) (r : Rest) (s : HubState) → rest_at conn s.attached ≡ Some r → extended r [] ≡ r → Done s (piece conn []) [] s
 piece_none conn r s here fits =
     let none = from_unended r [] ended_nil in (
       r,
@@ -43,7 +43,7 @@ piece_more conn a b out more old mid new p q =
           ∙ with_rest-twice conn _ _ old.attached ∙ ap (λ r. with_rest conn r old.attached) (sym two.1),
     )
 
-pub piece_split : (conn : ℕ) (a b out : List ℕ) (old new : HubState) → Done old (piece conn (a ++ b)) out new
+piece_split : (conn : ℕ) (a b out : List ℕ) (old new : HubState) → Done old (piece conn (a ++ b)) out new
     → (mid : HubState) × (first : List ℕ) × (later : List ℕ) × Done old (piece conn a) first mid × Done mid (piece conn b) later new × (out ≡ first ++ later)
 piece_split conn a b out old new p =
     let two = cut_in_two p.0 a b in

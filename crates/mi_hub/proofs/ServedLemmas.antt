@@ -8,7 +8,7 @@ use Rattle.mi_hub.specs.Served.{InTurn, with_newline, sent, Served, CutOff}
 use Rattle.mi_hub.proofs.LineLemmas.{from_ended, from_unended}
 
 module _ {S : Type 0} (Gives : S → Asked → List ℕ → S → Type 0) where
-  pub in_turn_append : (xs : List Asked) (rs : List (List ℕ)) (ys : List Asked) (qs : List (List ℕ)) (old mid new : S)
+  in_turn_append : (xs : List Asked) (rs : List (List ℕ)) (ys : List Asked) (qs : List (List ℕ)) (old mid new : S)
       → InTurn Gives old xs rs mid → InTurn Gives mid ys qs new → InTurn Gives old (xs ++ ys) (rs ++ qs) new
   in_turn_append [] [] ys qs old mid new p q = subst (λ s. InTurn Gives s ys qs new) p q
   in_turn_append [] (r ∷ rs) ys qs old mid new p q = absurd p
@@ -48,7 +48,7 @@ module _ {S : Type 0} (Gives : S → Asked → List ℕ → S → Type 0) where
     written = refl;
   }
 
-  pub cut_dropped : {old new : S} {xs : List Asked} {out : List ℕ} (ys : List Asked) → CutOff Gives old xs out new → CutOff Gives old (xs ++ ys) out new
+  cut_dropped : {old new : S} {xs : List Asked} {out : List ℕ} (ys : List Asked) → CutOff Gives old xs out new → CutOff Gives old (xs ++ ys) out new
   cut_dropped ys p = record {
     asked = p.asked;
     line = p.line;

@@ -39,7 +39,7 @@ or_true false = refl
 
 module _ {T : Type 0} (remaining : T → Option (List ℕ)) (before later : Watched T) where
   -- what a read gave was read
-  pub gave_bytes : (bytes : List ℕ) → Gave remaining before later (Some bytes) → Reads remaining before later bytes
+  gave_bytes : (bytes : List ℕ) → Gave remaining before later (Some bytes) → Reads remaining before later bytes
   gave_bytes [] gave = gave.0
   gave_bytes (b ∷ bytes) gave = gave
 

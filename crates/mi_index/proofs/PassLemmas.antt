@@ -88,7 +88,6 @@ module _ (P : Asks) (Q : Gives) (stays : Stays P) (before : Before Q) (after : A
   )
 
   module _ (r : Ref) (x : Structure) (xs : List Structure) (s : ℕ) (m : Pooled Stored) where
-
     module _ (y : Structure) (n : Pooled Stored) (step : IsStep P Q r s x y m n) where
       pub tail_ready : AreReady P s (x ∷ xs) m → AreReady P (s + 1) xs n
       tail_ready q = at_tail q.rss q.stand q.can

@@ -101,7 +101,15 @@ impl PlainTable {
     }
 
     /// Whether the id at place i of the list stands before a boundary.
-    fn is_before(&self, index: &Index, x: usize, key: &[Value], boundary: Boundary, id: u64, i: usize) -> bool
+    fn is_before(
+        &self,
+        index: &Index,
+        x: usize,
+        key: &[Value],
+        boundary: Boundary,
+        id: u64,
+        i: usize,
+    ) -> bool
         requires place { i ≡ rank_in (list_of self.now x) id }
         requires id { IsTrue (has_row self.now id) }
         requires boundary { StandsIn self.now boundary }
@@ -144,7 +152,13 @@ impl PlainTable {
     }
 
     /// The first id, by this index, of those that don't stand before a boundary.
-    pub(crate) fn first_past(&self, index: &Index, x: usize, key: &[Value], boundary: Boundary) -> Option<u64>
+    pub(crate) fn first_past(
+        &self,
+        index: &Index,
+        x: usize,
+        key: &[Value],
+        boundary: Boundary,
+    ) -> Option<u64>
         requires listed { ListsEach self.now (list_of self.now x) }
         requires boundary { StandsIn self.now boundary }
         ensures { result ≡ slice_get (sorted (order_in index.now self.now)
@@ -185,7 +199,13 @@ impl PlainTable {
     }
 
     /// How many ids of this index stand before a boundary.
-    pub(crate) fn count_before(&self, index: &Index, x: usize, key: &[Value], boundary: Boundary) -> u64
+    pub(crate) fn count_before(
+        &self,
+        index: &Index,
+        x: usize,
+        key: &[Value],
+        boundary: Boundary,
+    ) -> u64
         requires listed { ListsEach self.now (list_of self.now x) }
         requires boundary { StandsIn self.now boundary }
         ensures { result ≡ length (filter (λ a. stands_before index.now self.now (list_of self.now x) key.now boundary a) (list_of self.now x)) }

@@ -31,12 +31,12 @@ options = command_line.top.rules
 pub record IsOption (k : ℕ) (id : List ℕ) (q : ValueParser) : Type 0 where
   pub there : k < 4
   pub id_is : (r : Rule) → (slice_index_or options k r).id ≡ id
-  pub parser_is : (r : Rule) → (slice_index_or options k r).parser ≡ Some q
-  pub case_is : (r : Rule) → (slice_index_or options k r).ignore_case ≡ false
+  parser_is : (r : Rule) → (slice_index_or options k r).parser ≡ Some q
+  case_is : (r : Rule) → (slice_index_or options k r).ignore_case ≡ false
   pub alone : (j : ℕ) (r : Rule) → j < 4 → bytes_eq (slice_index_or options j r).id id ≡ true → j ≡ k
   pub named : id ≡ [] → ⊥
-  pub no_help : id ≡ codes "help" → ⊥
-  pub no_version : id ≡ codes "version" → ⊥
+  no_help : id ≡ codes "help" → ⊥
+  no_version : id ≡ codes "version" → ⊥
 
 -- a text that is read of such an option passed its parser
 number_taken : (m : ArgMatches) → AreGiven m → (k : ℕ) (id : List ℕ) (q : ValueParser) → IsOption k id q
