@@ -7,7 +7,7 @@ use Rattle.mi_hub.specs.Lines.{Rest, extended, lines_from, rest_from}
 use Rattle.mi_hub.specs.Connections.{rest_at, with_rest, others}
 use Rattle.mi_commands.specs.Answer.{MayGive}
 use Rattle.mi_hub.specs.Served.{Served}
-use Rattle.mi_hub.specs.Run.{HubState, Event, piece, close, cut, Done, Refused, Step, OneByOne, Run, AllDone, Unsent, DoneToFault}
+use Rattle.mi_hub.specs.Run.{HubState, Event, piece, close, cut, Done, Refused, DoneOrRefused, OneByOne, Run, AllDone, Unsent, DoneToFault}
 use Rattle.mi_hub.specs.RunLaws.{PiecesCutInTwo}
 use Rattle.mi_hub.proofs.LineLemmas.{cut_in_two, from_unended, ended_nil}
 use Rattle.mi_hub.proofs.ServedLemmas.{served_none, served_more, served_split}
@@ -92,8 +92,9 @@ run_split (x ∷ xs) ys old new out p =
 some_none : {A : Type 0} {x : A} → Some x ≡ None → ⊥
 some_none h = cc
 
-step_split : (conn : ℕ) (a b out : List ℕ) (old new : HubState) → Step old (piece conn (a ++ b)) out new
-    → (mid : HubState) × (first : List ℕ) × (later : List ℕ) × Step old (piece conn a) first mid × Step mid (piece conn b) later new × (out ≡ first ++ later)
+step_split : (conn : ℕ) (a b out : List ℕ) (old new : HubState) → DoneOrRefused old (piece conn (a ++ b)) out new
+    → (mid : HubState) × (first : List ℕ) × (later : List ℕ)
+    × DoneOrRefused old (piece conn a) first mid × DoneOrRefused mid (piece conn b) later new × (out ≡ first ++ later)
 step_split conn a b out old new (inl p) =
     let q = piece_split conn a b out old new p in (q.0, q.1, q.2, inl q.3, inl q.4, q.5)
 step_split conn a b out old new (inr p) =
@@ -108,8 +109,8 @@ not_refused conn bytes r TooMany s here refused = refused
 not_refused conn bytes r Memory s here refused = refused
 not_refused conn bytes r Write s here refused = refused
 
-step_join : (conn : ℕ) (a b out more : List ℕ) (old mid new : HubState) → Step old (piece conn a) out mid
-    → Step mid (piece conn b) more new → Step old (piece conn (a ++ b)) (out ++ more) new
+step_join : (conn : ℕ) (a b out more : List ℕ) (old mid new : HubState) → DoneOrRefused old (piece conn a) out mid
+    → DoneOrRefused mid (piece conn b) more new → DoneOrRefused old (piece conn (a ++ b)) (out ++ more) new
 step_join conn a b out more old mid new (inl p) (inl q) = inl (piece_more conn a b out more old mid new p q)
 step_join conn a b out more old mid new (inl p) (inr q) =
     absurd (not_refused conn b (rest_from p.0 a) q.0 mid (ap (rest_at conn) p.3 ∙ rest_at-with_rest conn (rest_from p.0 a) p.0 old.attached p.1) q.1)
@@ -134,10 +135,10 @@ pub pieces_cut_in_two : PiecesCutInTwo
 pieces_cut_in_two conn a b before later old new out = (
   λ p. let q = run_split before (piece conn (a ++ b) ∷ later) old new out p in
       subst (λ t. Run old (before ++ piece conn a ∷ piece conn b ∷ later) t new) (sym q.5)
-      (run_append Step before (piece conn a ∷ piece conn b ∷ later) old q.0 new q.1 q.2 q.3 (cut_first conn a b later q.0 new q.2 q.4)),
+      (run_append DoneOrRefused before (piece conn a ∷ piece conn b ∷ later) old q.0 new q.1 q.2 q.3 (cut_first conn a b later q.0 new q.2 q.4)),
   λ p. let q = run_split before (piece conn a ∷ piece conn b ∷ later) old new out p in
       subst (λ t. Run old (before ++ piece conn (a ++ b) ∷ later) t new) (sym q.5)
-      (run_append Step before (piece conn (a ++ b) ∷ later) old q.0 new q.1 q.2 q.3 (join_first conn a b later q.0 new q.2 q.4)),
+      (run_append DoneOrRefused before (piece conn (a ++ b) ∷ later) old q.0 new q.1 q.2 q.3 (join_first conn a b later q.0 new q.2 q.4)),
 )
 
 -- a connection that was fed is still attached

@@ -3,7 +3,7 @@ use Rattle.std.proofs.Common.{◌≡◌, ◌⊎◌, ℕ, List, [], ◌∷◌, �
 use Rattle.mi_hub.specs.Ended.{ended}
 use Rattle.mi_hub.specs.Lines.{Rest, rest_from}
 use Rattle.mi_hub.specs.Connections.{rest_at, with_rest}
-use Rattle.mi_hub.specs.Run.{HubState, Event, attach, piece, close, cut, Step, Run}
+use Rattle.mi_hub.specs.Run.{HubState, Event, attach, piece, close, cut, DoneOrRefused, Run}
 use Rattle.mi_hub.specs.RunLaws.{bytes_of, Stays, RestOfAllBytes}
 use Rattle.mi_hub.proofs.LineLemmas.{cut_in_two, rest_from-nothing}
 use Rattle.mi_hub.proofs.ConnectionLemmas.{rest_at-with_rest, rest_at-others, rest_at-with_other, rest_at-append, rest_at-last}
@@ -33,7 +33,8 @@ pieces_of conn c bytes events b h = ap (λ t. cond t (bytes ++ bytes_of conn eve
 
 -- one event of another connection, or a refused one, leaves the rest
 module _ (conn : ℕ) (r : Rest) where
-  own_piece : (c : ℕ) (bytes out : List ℕ) (old mid : HubState) → nat_eq c conn ≡ true → rest_at conn old.attached ≡ Some r → Step old (piece c bytes) out mid
+  own_piece : (c : ℕ) (bytes out : List ℕ) (old mid : HubState) → nat_eq c conn ≡ true
+      → rest_at conn old.attached ≡ Some r → DoneOrRefused old (piece c bytes) out mid
       → rest_at conn mid.attached ≡ Some (rest_from r bytes)
   own_piece c bytes out old mid is here (inl p) =
       let e = same c conn is in
@@ -48,26 +49,26 @@ module _ (conn : ℕ) (r : Rest) where
   unchanged old mid is here = ap (λ (s : HubState). rest_at conn s.attached) is ∙ here
 
   other_piece : (c : ℕ) (bytes out : List ℕ) (old mid : HubState) → nat_eq c conn ≡ false
-      → rest_at conn old.attached ≡ Some r → Step old (piece c bytes) out mid
+      → rest_at conn old.attached ≡ Some r → DoneOrRefused old (piece c bytes) out mid
       → rest_at conn mid.attached ≡ Some r
   other_piece c bytes out old mid is here (inl p) =
       ap (rest_at conn) p.3 ∙ rest_at-with_other conn c (rest_from p.0 bytes) old.attached (other c conn is) ∙ here
   other_piece c bytes out old mid is here (inr p) = unchanged old mid p.3 here
 
   any_attach : (c : ℕ) (out : List ℕ) (old mid : HubState) → rest_at conn old.attached ≡ Some r
-      → Step old (attach c) out mid → rest_at conn mid.attached ≡ Some r
+      → DoneOrRefused old (attach c) out mid → rest_at conn mid.attached ≡ Some r
   any_attach c out old mid here (inl p) =
       ap (λ (s : HubState). rest_at conn s.attached) p.3 ∙ rest_at-append conn r old.attached (record { id = c; rest = Some [] } ∷ []) here
   any_attach c out old mid here (inr p) = unchanged old mid p.3 here
 
   other_close : (c : ℕ) (out : List ℕ) (old mid : HubState) → (c ≡ conn → ⊥)
-      → rest_at conn old.attached ≡ Some r → Step old (close c) out mid → rest_at conn mid.attached ≡ Some r
+      → rest_at conn old.attached ≡ Some r → DoneOrRefused old (close c) out mid → rest_at conn mid.attached ≡ Some r
   other_close c out old mid not here (inl p) =
       ap (λ (s : HubState). rest_at conn s.attached) p.4 ∙ rest_at-others conn c old.attached not ∙ here
   other_close c out old mid not here (inr p) = unchanged old mid p.3 here
 
   other_cut : (c : ℕ) (out : List ℕ) (old mid : HubState) → (c ≡ conn → ⊥)
-      → rest_at conn old.attached ≡ Some r → Step old (cut c) out mid → rest_at conn mid.attached ≡ Some r
+      → rest_at conn old.attached ≡ Some r → DoneOrRefused old (cut c) out mid → rest_at conn mid.attached ≡ Some r
   other_cut c out old mid not here (inl p) =
       ap (λ (s : HubState). rest_at conn s.attached) p.2 ∙ rest_at-others conn c old.attached not ∙ here
   other_cut c out old mid not here (inr p) = unchanged old mid p.3 here

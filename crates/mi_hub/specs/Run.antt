@@ -84,8 +84,8 @@ Refused old (close conn) fault = OtherRefused old conn fault
 Refused old (cut conn) fault = OtherRefused old conn fault
 
 -- From old, the event is done; or it is refused, and then nothing is written or changed.
-abbrev pub Step : HubState → Event → List ℕ → HubState → Type 0
-Step old event out new = Done old event out new ⊎ ((fault : HubFault) × Refused old event fault × (out ≡ []) × (new ≡ old))
+abbrev pub DoneOrRefused : HubState → Event → List ℕ → HubState → Type 0
+DoneOrRefused old event out new = Done old event out new ⊎ ((fault : HubFault) × Refused old event fault × (out ≡ []) × (new ≡ old))
 
 -- From old, these events are made one after another, each as `Makes` says: out is all that is written, and new is left.
 abbrev pub OneByOne : (HubState → Event → List ℕ → HubState → Type 0) → HubState → List Event → List ℕ → HubState → Type 0
@@ -95,7 +95,7 @@ OneByOne Makes old (event ∷ events) out new =
 
 -- From old, these events come one after another, and some may be refused.
 abbrev pub Run : HubState → List Event → List ℕ → HubState → Type 0
-Run = OneByOne Step
+Run = OneByOne DoneOrRefused
 
 -- The same, and none is refused.
 abbrev pub AllDone : HubState → List Event → List ℕ → HubState → Type 0

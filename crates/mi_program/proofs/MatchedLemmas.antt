@@ -17,7 +17,7 @@ use Rattle.clap.proofs.CallerLemmas.{added_plain, entry_by_id, same_rules_by_id}
 use Rattle.clap.specs.Words.{App, Rule, AddsArg, app_of, rule_of, with_rule, rows_of, matches_of}
 use Rattle.clap.specs.Faults.{fault_of, is_free_app, is_simple_and_free}
 use Rattle.clap.specs.Simple.{built, is_simple}
-use Rattle.mi_program.specs.Words.{Stands, IsRefusal}
+use Rattle.mi_program.specs.Words.{HasOptions, IsRefusal}
 use Rattle.mi_program.specs.declared.words.WordsFault.{WordsFault}
 use Rattle.clap.specs.declared.builder.arg.Arg.{Arg}
 use Rattle.clap.specs.declared.builder.command.Command.{Command}
@@ -110,8 +110,9 @@ taken old m p k d only plain globals named q parser read is = go (matched_of (fo
         first x.reading x.vals.items both.0 (reads_own old m p k d only q parser x.reading both.1) (rw e at h)
 
 -- a command with one more option
-pub stands_more : (old new : Command) (a : Arg) (app : App) (r : Rule) → AddsArg old a new → Stands old app → rule_of a ≡ r → IsPlainArg a → a.global ≡ false
-    → Stands new (with_rule app r)
+pub stands_more : (old new : Command) (a : Arg) (app : App) (r : Rule) → AddsArg old a new
+    → HasOptions old app → rule_of a ≡ r → IsPlainArg a → a.global ≡ false
+    → HasOptions new (with_rule app r)
 stands_more old new a app r added stands is plain local = record {
   is = added.shape local ∙ ap₂ with_rule stands.is is;
   plain = added_plain old new a added stands.plain plain;
@@ -119,9 +120,9 @@ stands_more old new a app r added stands is plain local = record {
 }
 
 -- what a command matches, where its options are these
-pub command_matched : (c : Command) (app : App) (words : List (List ℕ)) (r : Result ArgMatches WordsFault) → Stands c app
+pub command_matched : (c : Command) (app : App) (words : List (List ℕ)) (r : Result ArgMatches WordsFault) → HasOptions c app
     → IfOk r (λ m. (fault_of (app_of c) words ≡ []) × (rows_of (found_of m) ≡ matches_of (app_of c) words) × IsParsedFrom c m)
-    → IfOk r (λ m. (fault_of app words ≡ []) × (rows_of (found_of m) ≡ matches_of app words) × ((d : Command) × Stands d app × IsParsedFrom d m))
+    → IfOk r (λ m. (fault_of app words ≡ []) × (rows_of (found_of m) ≡ matches_of app words) × ((d : Command) × HasOptions d app × IsParsedFrom d m))
 command_matched c app words (Ok m) stands p = (
   ap (λ (a : App). fault_of a words) (sym stands.is) ∙ p.0,
   p.1 ∙ ap (λ (a : App). matches_of a words) stands.is,
@@ -129,7 +130,7 @@ command_matched c app words (Ok m) stands p = (
 )
 command_matched c app words (Err fault) stands p = tt
 
-pub command_refused : (c : Command) (app : App) (words : List (List ℕ)) (r : Result ArgMatches WordsFault) → Stands c app
+pub command_refused : (c : Command) (app : App) (words : List (List ℕ)) (r : Result ArgMatches WordsFault) → HasOptions c app
     → IfErr r (IsRefusal (fault_of (app_of c) words) (matches_of (app_of c) words)) → IfErr r (IsRefusal (fault_of app words) (matches_of app words))
 command_refused c app words (Ok m) stands p = tt
 command_refused c app words (Err fault) stands p = subst (λ (a : App). IsRefusal (fault_of a words) (matches_of a words) fault) stands.is p

@@ -20,12 +20,12 @@ use Rattle.clap.specs.declared.builder.command.Command.{Command}
 use Rattle.clap.specs.declared.builder.value_parser.ValueParser.{ValueParser}
 use Rattle.clap.specs.declared.parser.matches.ArgMatches.{ArgMatches}
 use Rattle.clap.proofs.CallerReads.{signed_reads}
-use Rattle.mi_program.specs.Words.{command_line, port_parser, clients_parser, AreGiven, IsNumber, go_together}
+use Rattle.mi_program.specs.Words.{program_options, port_parser, clients_parser, AreGiven, IsNumber, go_together}
 use Rattle.mi_program.proofs.MatchedLemmas.{IsOnly, IsTaken, taken}
 
 -- the options of the program's command line
 abbrev options : List Rule
-options = command_line.top.rules
+options = program_options.top.rules
 
 -- Option k is of this id, which no other and no flag of the parser's own has, and of this parser.
 pub record IsOption (k : ℕ) (id : List ℕ) (q : ValueParser) : Type 0 where

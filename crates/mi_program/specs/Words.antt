@@ -38,19 +38,19 @@ abbrev pub clients_parser : ValueParser
 clients_parser = vp.Unsigned 1 MAX_CONNECTIONS
 
 -- the options that the program knows
-abbrev pub command_line : App
-command_line = with_rule (with_rule (with_rule (with_rule (new_app (codes "mi_server")) (option_rule (codes "schema"))) (flag_rule (codes "check")))
+abbrev pub program_options : App
+program_options = with_rule (with_rule (with_rule (with_rule (new_app (codes "mi_server")) (option_rule (codes "schema"))) (flag_rule (codes "check")))
     (number_rule (codes "listen") port_parser)) (number_rule (codes "clients") clients_parser)
 
 -- A command has these options, and none of them excludes another.
-pub record Stands (c : Command) (app : App) : Type 0 where
+pub record HasOptions (c : Command) (app : App) : Type 0 where
   pub is : app_of c ≡ app
   pub plain : IsPlain c
   pub local : (out-Command c).has_globals ≡ false
 
 -- These matches come of the program's command line.
 abbrev pub AreGiven : ArgMatches → Type 0
-AreGiven m = (c : Command) × Stands c command_line × IsParsedFrom c m
+AreGiven m = (c : Command) × HasOptions c program_options × IsParsedFrom c m
 
 -- a flag that was matched as true
 abbrev pub is_set : Option (List ℕ) → Bool

@@ -7,7 +7,7 @@ ghost use Rattle.clap.specs.Faults.{fault_of};
 ghost use Rattle.mi_value.specs.declared.limits.TheConstants.{MAX_CONNECTIONS};
 ghost use Rattle.mi_program.specs.Status.{served_failure, status_of, status_of_words};
 ghost use Rattle.clap.specs.Words.{matches_of};
-ghost use Rattle.mi_program.specs.Words.{command_line, keeps_rules, asks_check, asks_port, names_schema};
+ghost use Rattle.mi_program.specs.Words.{program_options, keeps_rules, asks_check, asks_port, names_schema};
 ghost use Rattle.mi_program.specs.Source.{IsCatalog};
 ghost use Rattle.mi_model.specs.Database.{opened_database};
 ghost use Rattle.mi_program.specs.Serving.{IsServed, IsWholeServed};
@@ -211,23 +211,24 @@ pub fn run_over<R: Files + Net + AllocGlobal + RandomSource, S: AsStr, I: Read, 
     errors: &mut E,
 ) -> u8
     ensures statuses { (result ≡ 0) ⊎ (result ≡ 2) ⊎ (result ≡ 3) ⊎ (result ≡ 4) }
-    ensures usage { result ≡ 2 → (fault_of command_line (map S.text words.now) ≢ []) ⊎ (keeps_rules (matches_of command_line (map S.text words.now)) ≡ false) }
-    ensures refused { fault_of command_line (map S.text words.now) ≢ [] → (result ≡ 2) ⊎ (result ≡ 4) }
-    ensures rules { keeps_rules (matches_of command_line (map S.text words.now)) ≡ false → (result ≡ 2) ⊎ (result ≡ 4) }
+    ensures usage { result ≡ 2 → (fault_of program_options (map S.text words.now) ≢ [])
+        ⊎ (keeps_rules (matches_of program_options (map S.text words.now)) ≡ false) }
+    ensures refused { fault_of program_options (map S.text words.now) ≢ [] → (result ≡ 2) ⊎ (result ≡ 4) }
+    ensures rules { keeps_rules (matches_of program_options (map S.text words.now)) ≡ false → (result ≡ 2) ⊎ (result ≡ 4) }
 
     // Where the words ask for a check, `ok` is written and nothing is read.
-    ensures check { result ≡ 0 → asks_check (matches_of command_line (map S.text words.now)) ≡ true →
+    ensures check { result ≡ 0 → asks_check (matches_of program_options (map S.text words.now)) ≡ true →
         Writes O.contents writer.old writer.new (codes "ok\n") × (reader.new ≡ reader.old) }
 
     // Where they ask neither for a check nor for a port, the whole input is served.
-    ensures served { result ≡ 0 → asks_check (matches_of command_line (map S.text words.now)) ≡ false →
-        asks_port (matches_of command_line (map S.text words.now)) ≡ false →
-        IsServed R.File.remaining (names_schema (matches_of command_line (map S.text words.now)))
+    ensures served { result ≡ 0 → asks_check (matches_of program_options (map S.text words.now)) ≡ false →
+        asks_port (matches_of program_options (map S.text words.now)) ≡ false →
+        IsServed R.File.remaining (names_schema (matches_of program_options (map S.text words.now)))
         I.remaining O.contents reader.old reader.new writer.old writer.new }
 
     // The schema is at fault, and nothing is read or written.
     ensures schema { result ≡ 3 → (failure : Failure) × (status_of failure ≡ 3)
-        × IsCatalog R.File.remaining (names_schema (matches_of command_line (map S.text words.now))) (Err failure)
+        × IsCatalog R.File.remaining (names_schema (matches_of program_options (map S.text words.now))) (Err failure)
         × (reader.new ≡ reader.old) × (writer.new ≡ writer.old) }
 {
     match read_words(rt.alloc(), words) {
@@ -248,11 +249,12 @@ pub fn run<
     E: Write + Drop,
 >(rt: &R, words: &[S], input: I, output: O, errors: E) -> u8
     ensures statuses { (result ≡ 0) ⊎ (result ≡ 2) ⊎ (result ≡ 3) ⊎ (result ≡ 4) }
-    ensures usage { result ≡ 2 → (fault_of command_line (map S.text words.now) ≢ []) ⊎ (keeps_rules (matches_of command_line (map S.text words.now)) ≡ false) }
-    ensures refused { fault_of command_line (map S.text words.now) ≢ [] → (result ≡ 2) ⊎ (result ≡ 4) }
-    ensures rules { keeps_rules (matches_of command_line (map S.text words.now)) ≡ false → (result ≡ 2) ⊎ (result ≡ 4) }
+    ensures usage { result ≡ 2 → (fault_of program_options (map S.text words.now) ≢ [])
+        ⊎ (keeps_rules (matches_of program_options (map S.text words.now)) ≡ false) }
+    ensures refused { fault_of program_options (map S.text words.now) ≢ [] → (result ≡ 2) ⊎ (result ≡ 4) }
+    ensures rules { keeps_rules (matches_of program_options (map S.text words.now)) ≡ false → (result ≡ 2) ⊎ (result ≡ 4) }
     ensures schema { result ≡ 3 → (failure : Failure) × (status_of failure ≡ 3)
-        × IsCatalog R.File.remaining (names_schema (matches_of command_line (map S.text words.now))) (Err failure) }
+        × IsCatalog R.File.remaining (names_schema (matches_of program_options (map S.text words.now))) (Err failure) }
 {
     let mut errors = errors;
     let Ok(output) = Buffered::new(rt.alloc(), output) else {

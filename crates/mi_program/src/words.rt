@@ -6,8 +6,8 @@ ghost use Rattle.clap.specs.Words.{app_of, rule_of, rows_of, found_of, matches_o
 ghost use Rattle.clap.specs.Faults.{fault_of};
 ghost use Rattle.clap.specs.Built.{IsPlainArg, IsParsedFrom};
 ghost use Rattle.mi_program.specs.Words as spec;
-ghost use Rattle.mi_program.specs.Words.{option_rule, number_rule, flag_rule, command_line, keeps_rules};
-ghost use Rattle.mi_program.specs.Words.{go_together, both, Stands, AreGiven, AreValues, IsRefusal};
+ghost use Rattle.mi_program.specs.Words.{option_rule, number_rule, flag_rule, program_options, keeps_rules};
+ghost use Rattle.mi_program.specs.Words.{go_together, both, HasOptions, AreGiven, AreValues, IsRefusal};
 ghost use Rattle.mi_program.specs.declared.words.WordsFault.TheVariants as fault;
 
 use clap::builder::ValueParser;
@@ -102,7 +102,7 @@ fn flag<'a>(alloc: Global, name: &'a str, help: &'a str) -> Arg<'a>
 
 /// The options that the program knows.
 fn command<'a>(alloc: Global) -> Result<Command<'a>, AllocError>
-    ensures { IfOk result (λ c. Stands c command_line) }
+    ensures { IfOk result (λ c. HasOptions c program_options) }
 {
     let with_schema = Command::new(alloc, "mi_server").arg(option(
         alloc,
@@ -159,9 +159,10 @@ fn matched<'a, S: AsStr>(command: Command<'a>, words: &'a [S]) -> Result<ArgMatc
 
 /// What was matched in the words.
 fn parse<'a, S: AsStr>(alloc: Global, words: &'a [S]) -> Result<ArgMatches<'a>, WordsFault>
-    ensures ok { IfOk result (λ m. (fault_of command_line (map S.text words.entry.now) ≡ [])
-        × (rows_of (found_of m) ≡ matches_of command_line (map S.text words.entry.now)) × AreGiven m) }
-    ensures refused { IfErr result (IsRefusal (fault_of command_line (map S.text words.entry.now)) (matches_of command_line (map S.text words.entry.now))) }
+    ensures ok { IfOk result (λ m. (fault_of program_options (map S.text words.entry.now) ≡ [])
+        × (rows_of (found_of m) ≡ matches_of program_options (map S.text words.entry.now)) × AreGiven m) }
+    ensures refused { IfErr result (IsRefusal (fault_of program_options (map S.text words.entry.now))
+        (matches_of program_options (map S.text words.entry.now))) }
 {
     matched(command(alloc)?, words)
 }
@@ -215,11 +216,11 @@ fn values(alloc: Global, matches: &ArgMatches<'_>) -> Result<Options, WordsFault
 /// `Parse` where they are refused or ask for help, `Rules` where they break a rule between options, `Memory` where a growth was
 /// refused.
 pub fn read_words<S: AsStr>(alloc: Global, words: &[S]) -> Result<Options, WordsFault>
-    ensures ok { IfOk result (λ options. (fault_of command_line (map S.text words.now) ≡ [])
-        × (keeps_rules (matches_of command_line (map S.text words.now)) ≡ true)
-        × AreValues options (matches_of command_line (map S.text words.now))) }
+    ensures ok { IfOk result (λ options. (fault_of program_options (map S.text words.now) ≡ [])
+        × (keeps_rules (matches_of program_options (map S.text words.now)) ≡ true)
+        × AreValues options (matches_of program_options (map S.text words.now))) }
     ensures clients { IfOk result (λ options. IfSome options.listen (λ l. (1 ≤ l.1) × (l.1 ≤ MAX_CONNECTIONS))) }
-    ensures refused { IfErr result (IsRefusal (fault_of command_line (map S.text words.now)) (matches_of command_line (map S.text words.now))) }
+    ensures refused { IfErr result (IsRefusal (fault_of program_options (map S.text words.now)) (matches_of program_options (map S.text words.now))) }
 {
     let matches = parse(alloc, words)?;
     values(alloc, &matches)

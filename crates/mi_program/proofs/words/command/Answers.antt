@@ -3,7 +3,7 @@ use Rattle.std.specs.List.{All}
 use Rattle.std.proofs.lemmas.List.Elements.{All-nil}
 use Rattle.clap.specs.Built.{IsPlainArg}
 use Rattle.clap.specs.Words.{rule_of, new_app}
-use Rattle.mi_program.specs.Words.{option_rule, number_rule, flag_rule, port_parser, clients_parser, Stands}
+use Rattle.mi_program.specs.Words.{option_rule, number_rule, flag_rule, port_parser, clients_parser, HasOptions}
 use Rattle.mi_program.proofs.MatchedLemmas.{stands_more}
 use Rattle.mi_program.proofs.words.command.Goals as goal
 
@@ -13,7 +13,7 @@ returns c =
     let check_is : rule_of c.flag.result ≡ flag_rule (codes "check") = search rules in
     let listen_is : rule_of c.number.result ≡ number_rule (codes "listen") port_parser = search rules in
     let clients_is : rule_of c.number-2.result ≡ number_rule (codes "clients") clients_parser = search rules in
-    let start : Stands c.new.result (new_app (codes "mi_server")) = record {
+    let start : HasOptions c.new.result (new_app (codes "mi_server")) = record {
       is = c.new.ensures.app;
       plain = (subst (All IsPlainArg) (sym c.new.ensures.empty.0) (All-nil IsPlainArg), c.new.ensures.empty.1);
       local = c.new.ensures.local;
