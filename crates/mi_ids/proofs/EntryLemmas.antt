@@ -31,7 +31,7 @@ read-marked m k live q None e = (elim (k == q) as (λ y. (k == q) ≡ y → get 
 ]) refl
 read-marked m k live q (Some x) e = get-put m k (flagged live x) q
 
-pub get-with_live : (m : FinMap nat_cmp IdEntry) (k : ℕ) (live : Bool) (q : ℕ)
+get-with_live : (m : FinMap nat_cmp IdEntry) (k : ℕ) (live : Bool) (q : ℕ)
     → get (with_live m k live) q ≡ cond (k == q) (option_map (flagged live) (get m k)) (get m q)
 unfolding with_live
 get-with_live m k live q = read-marked m k live q (get m k) refl

@@ -15,7 +15,7 @@ after_first : (o : Option Data) (js : Option Items) → is_some (option_and_then
 after_first None js = refl
 after_first (Some d) js = is_some-map (item d) js
 
-pub some-item : (j : json.Json) (js : json.Items) → is_some (of_items (json.item j js)) ≡ (is_some (of_json j) && is_some (of_items js))
+some-item : (j : json.Json) (js : json.Items) → is_some (of_items (json.item j js)) ≡ (is_some (of_json j) && is_some (of_items js))
 some-item j js = after_first (of_json j) (of_items js)
 
 -- that does not turn on the members found before
