@@ -2,7 +2,6 @@ pub mod AnswerLemmas
 pub mod BindingLemmas
 pub mod EditLemmas
 pub mod KeyLemmas
-pub mod RefusalLemmas
 pub mod ReplyLemmas
 pub mod RowLemmas
 pub mod FirstTableLaws

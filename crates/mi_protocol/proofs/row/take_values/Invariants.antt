@@ -1,4 +1,4 @@
-use Rattle.std.proofs.Common.{◌≡◌, ◌++◌, ◌≤◌, drop, map, option_map}
+use Rattle.std.proofs.Common.{◌≡◌, ◌++◌, drop, map, option_map}
 use Rattle.arrayvec.specs.ArrayVec.{array_vec_len}
 use Rattle.mi_value.specs.Lent.{lent}
 use Rattle.mi_protocol.specs.Rows.{values_of}

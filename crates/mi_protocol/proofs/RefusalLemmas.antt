@@ -1,1 +1,0 @@
--- Refusals that can be said over any catalog.
