@@ -1,5 +1,5 @@
 -- What is noted of the errors of streams.
-use Rattle.std.specs.Prelude.{Bool, true, false, ◌||◌}
+use Rattle.std.specs.Prelude.{Bool, false, ◌||◌}
 use Rattle.mi_hub.specs.declared.io_errors.IoErrors.{IoErrors}
 
 -- none is noted
