@@ -37,7 +37,7 @@ order_by_total Sequenced order o = record { antisymm = λ a b. refl; trans = λ 
 pub order_in_total : (i : Index) (t : Table) → IsTotalOrder (order_in i t)
 order_in_total i t = order_by_total i.kind (compare_ids i t) (compare_ids_total i t)
 
-by_place_total : (i : Index) (t : Table) (ids : List ℕ) → IsTotalOrder (by_place i t ids)
+pub by_place_total : (i : Index) (t : Table) (ids : List ℕ) → IsTotalOrder (by_place i t ids)
 by_place_total i t ids = then_total (order_in_total i t) (on_total (rank_in ids) nat_cmp_total)
 
 -- where no id is less than another, sorting changes nothing
