@@ -203,7 +203,7 @@ module _ {T H : Type 0} (c : Chains H) (k : Keying T) (w : IsLawful k) (m : Pool
     after_there q [] d o a = tt
     after_there q (z ∷ rs) d o a = ((λ e. let lt = a.0 e in let u = stamp_theirs q d in let v = stamp_theirs z o.0 in omega arith), after_there q rs d o.1 a.1)
 
-    rising_there : (rs : List Ref) → IsOut r.name rs → IsRising (same_nodes k m) (stamp_at m s) rs → IsRising (same_nodes k m) stamp1 rs
+    pub rising_there : (rs : List Ref) → IsOut r.name rs → IsRising (same_nodes k m) (stamp_at m s) rs → IsRising (same_nodes k m) stamp1 rs
     rising_there [] o a = tt
     rising_there (z ∷ rs) o a = (after_there z rs o.0 o.1 a.0, rising_there rs o.1 a.1)
 
