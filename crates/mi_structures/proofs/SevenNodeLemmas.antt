@@ -37,6 +37,7 @@ pub record IsNext {H : Type 0} (c : Chains H) (n : Pooled ℤ) (r : Ref) (rs : L
   pub out : IsOut r.name rs
   pub count : length rs ≡ i
 
+-- one that is held, and none of the others, may
 module _ {H : Type 0} {c : Chains H} {m : Pooled ℤ} {r : Ref} {rs : List Ref} {i : ℕ} where
   pub next_of_held : IsHeld m r → IsOut r.name rs → i < 1000 → AreNumbered c m rs i → IsNext c m r rs i
   next_of_held held out few h =
@@ -54,7 +55,7 @@ module _ {H : Type 0} {c : Chains H} {m : Pooled ℤ} {r : Ref} {rs : List Ref} 
         count = h.count;
       }
 
--- one that was just taken may
+-- so may one that was just taken
 module _ {H : Type 0} {c : Chains H} {m n : Pooled ℤ} {r : Ref} (v : ℤ) {rs : List Ref} {i : ℕ} where
   pub next_of_taken : n ≡ taken m r v → ref_of m r.name ≡ None → i < 1000 → AreNumbered c m rs i → IsNext c n r rs i
   next_of_taken e free few h =
@@ -68,7 +69,7 @@ module _ {H : Type 0} {c : Chains H} {m n : Pooled ℤ} {r : Ref} (v : ℤ) {rs 
         count = h.count;
       }))
 
--- with it there is one node more
+-- once it was put in there is one node more, with stamps below the next
 module _ {H : Type 0} {c d : Chains H} {n o : Pooled ℤ} {r : Ref} {rs : List Ref} {i : ℕ} (t : Tag) where
   pub numbered_more : IsNext c n r rs i → AreChained d number_keying o (rs ++ r ∷ []) → d.slot ≡ c.slot
       → ((q : ℕ) → (link_of o q c.slot).tag ≡ cond (r.name == q) t (link_of n q c.slot).tag) → t.stamp ≡ i → AreNumbered d o (rs ++ r ∷ []) (i + 1)
