@@ -1,4 +1,4 @@
-use Rattle.std.proofs.Common.{◌∷◌, ◌++◌, ◌∙◌, sym, subst}
+use Rattle.std.proofs.Common.{◌++◌, ◌∙◌, sym, subst}
 use Rattle.mi_chain.specs.Chained.{AreChained}
 use Rattle.mi_structures.specs.Numbered.{number_keying, AreSeenAlike}
 use Rattle.mi_structures.proofs.SevenNodeLemmas.{fits_alike, alike_back}
@@ -19,10 +19,7 @@ module _ (g : Over) (c : After-relink g) where
       )
 
 pub assert_list-requires-3 : goal.assert_list-requires-3
-assert_list-requires-3 g c =
-    let first = c.in-Some.ensures.list c.requires.list.0 c.requires.list.1 in
-    let second = c.in-Some-pull.ensures.list (first.0 ++ first.1) first.3 in
-    (second.0 ++ _ ∷ second.1, c.relink.ensures.list second.0 second.1 second.3 second.4)
+assert_list-requires-3 g c = let back = second_back g (goal.at.assert_list-requires-3 g c).After-relink in (_, back.0)
 
 pub relink-requires-2 : goal.relink-requires-2
 relink-requires-2 g c =
@@ -32,5 +29,4 @@ relink-requires-2 g c =
 pub assert_list-requires-4 : goal.assert_list-requires-4
 assert_list-requires-4 g c =
     let first = c.in-Some.ensures.list c.requires.list.0 c.requires.list.1 in let back = second_back g (goal.at.assert_list-requires-4 g c).After-relink in
-    let fits = fits_alike (c.relink.ensures.slot ∙ c.pull-2.ensures.slot) back.1 first.4 in
-    (first.0 ++ _ ∷ first.1, c.relink-2.ensures.list first.0 first.1 back.0 fits)
+    (_, c.relink-2.ensures.list first.0 first.1 back.0 (fits_alike (c.relink.ensures.slot ∙ c.pull-2.ensures.slot) back.1 first.4))
