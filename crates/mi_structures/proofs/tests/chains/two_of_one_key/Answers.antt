@@ -15,4 +15,5 @@ fill-requires-clause-held g c =
     let two = c.take-two.ensures.pool in (held_then _ _ _ two c.take-two.ensures.free (held_now _ _ _ c.take-one.ensures.pool), held_now _ _ _ two)
 
 pub fill-requires-clause-names : goal.fill-requires-clause-names
-fill-requires-clause-names g c = apart_of_free c.take-one.new.pool c.take-one.result c.take-two.result (held_now _ _ _ c.take-one.ensures.pool) c.take-two.ensures.free
+fill-requires-clause-names g c =
+    apart_of_free c.take-one.new.pool c.take-one.result c.take-two.result (held_now _ _ _ c.take-one.ensures.pool) c.take-two.ensures.free

@@ -11,7 +11,8 @@ returns-clause-held g c =
     (held_then _ _ _ last free (held_then _ _ _ c.take-two.ensures.pool c.take-two.ensures.free one), held_then _ _ _ last free two, held_now _ _ _ last)
 
 pub returns-clause-second : goal.returns-clause-second
-returns-clause-second g c = apart_of_free c.take-one.new.pool c.take-one.result c.take-two.result (held_now _ _ _ c.take-one.ensures.pool) c.take-two.ensures.free
+returns-clause-second g c =
+    apart_of_free c.take-one.new.pool c.take-one.result c.take-two.result (held_now _ _ _ c.take-one.ensures.pool) c.take-two.ensures.free
 
 pub returns-clause-third : goal.returns-clause-third
 returns-clause-third g c =
@@ -19,7 +20,8 @@ returns-clause-third g c =
     apart_of_free c.take-two.new.pool c.take-one.result c.take-three.result one c.take-three.ensures.free
 
 pub returns-clause-last : goal.returns-clause-last
-returns-clause-last g c = apart_of_free c.take-two.new.pool c.take-two.result c.take-three.result (held_now _ _ _ c.take-two.ensures.pool) c.take-three.ensures.free
+returns-clause-last g c =
+    apart_of_free c.take-two.new.pool c.take-two.result c.take-three.result (held_now _ _ _ c.take-two.ensures.pool) c.take-three.ensures.free
 
 pub returns-clause-slots : goal.returns-clause-slots
 returns-clause-slots g c =
