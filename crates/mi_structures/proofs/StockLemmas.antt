@@ -53,11 +53,11 @@ held_both : (m : Pool) (xs ys : List Ref) → AllHeldIn m xs → AllHeldIn m ys 
 held_both m [] ys g h = h
 held_both m (x ∷ xs) ys g h = (g.0, held_both m xs ys g.1 h)
 
-pub held_left : (m : Pool) (xs ys : List Ref) → AllHeldIn m (xs ++ ys) → AllHeldIn m xs
+held_left : (m : Pool) (xs ys : List Ref) → AllHeldIn m (xs ++ ys) → AllHeldIn m xs
 held_left m [] ys h = tt
 held_left m (x ∷ xs) ys h = (h.0, held_left m xs ys h.1)
 
-pub held_right : (m : Pool) (xs ys : List Ref) → AllHeldIn m (xs ++ ys) → AllHeldIn m ys
+held_right : (m : Pool) (xs ys : List Ref) → AllHeldIn m (xs ++ ys) → AllHeldIn m ys
 held_right m [] ys h = h
 held_right m (x ∷ xs) ys h = held_right m xs ys h.1
 
@@ -65,7 +65,7 @@ held_where : (m n : Pool) (rs : List Ref) → ((k : ℕ) → ref_of n k ≡ ref_
 held_where m n [] e h = tt
 held_where m n (r ∷ rs) e h = (e r.name ∙ h.0, held_where m n rs e h.1)
 
-pub tree_held : {O : Type 0} (b : Bool) (l : Tree O) (m : Pool) (rs : List Ref) → IsTree l m keyed_order (key_tag b) rs → AllHeldIn m rs
+tree_held : {O : Type 0} (b : Bool) (l : Tree O) (m : Pool) (rs : List Ref) → IsTree l m keyed_order (key_tag b) rs → AllHeldIn m rs
 tree_held b l m rs h = held_in m rs (subst (AreHeld m) h.nodes_are (all_held m l.slot h.shape h.rooted.stands))
 
 -- a free name is no held node's
@@ -95,7 +95,7 @@ equal_stamp m s x q stamp f g e =
     ranked stamp t Equal (sym (then_equal (keyed_order v.0 w.0) (nat_cmp stamp t) at))
 
 -- a new node
-module _ {O : Type 0} (b : Bool) (l : Tree O) (m n : Pool) (out : List Ref) (next : ℕ) (r : Ref) (v : ℕ × ℕ)
+module _ {O : Type 0} {b : Bool} {l : Tree O} {m n : Pool} {out : List Ref} {next : ℕ} (r : Ref) (v : ℕ × ℕ)
     (h : IsStock b l m out next) (is : n ≡ taken m r v) (free : ref_of m r.name ≡ None) (room : next < 1000000) where
   here : AllHeldIn m h.rs
   here = tree_held b l m h.rs h.tree
@@ -208,8 +208,9 @@ module _ {O : Type 0} (b : Bool) (l : Tree O) (m n : Pool) (out : List Ref) (nex
       ]
 
 -- each node keeps its stamp
-module _ {O : Type 0} (b : Bool) (l j : Tree O) (m p : Pool) (out : List Ref) (next : ℕ) (h : IsStock b l m out next) (refs : (k : ℕ) → ref_of p k ≡ ref_of m k)
-    (stamps : (k : ℕ) → (link_of p k l.slot).tag.stamp ≡ (link_of m k l.slot).tag.stamp) (slot : j.slot ≡ l.slot) where
+module _ {O : Type 0} {b : Bool} {l : Tree O} (j : Tree O) {m : Pool} (p : Pool) {out : List Ref} {next : ℕ} (h : IsStock b l m out next)
+    (refs : (k : ℕ) → ref_of p k ≡ ref_of m k) (stamps : (k : ℕ) → (link_of p k l.slot).tag.stamp ≡ (link_of m k l.slot).tag.stamp)
+    (slot : j.slot ≡ l.slot) where
   same_stamp : (x : Ref) → stamp_of p x ≡ stamp_of m x
   same_stamp x = subst (λ s. (link_of p x.name s).tag.stamp ≡ (link_of m x.name s).tag.stamp) h.slot (stamps x.name)
 
@@ -228,8 +229,8 @@ module _ {O : Type 0} (b : Bool) (l j : Tree O) (m p : Pool) (out : List Ref) (n
   }
 
 -- a node that goes back into the tree
-module _ {O : Type 0} (b : Bool) (l : Tree O) (m : Pool) (out os : List Ref) (next : ℕ) (r : Ref)
-    (stamp : ℕ) (h : IsStock b l m out next) (is : out ≡ os ++ r ∷ []) (had : stamp ≡ stamp_of m r) where
+module _ {O : Type 0} {b : Bool} {l : Tree O} {m : Pool} {out : List Ref} (os : List Ref) {next : ℕ} (r : Ref)
+    {stamp : ℕ} (h : IsStock b l m out next) (is : out ≡ os ++ r ∷ []) (had : stamp ≡ stamp_of m r) where
   put_held : AllHeldIn m (os ++ r ∷ [])
   put_held = subst (AllHeldIn m) is h.held
 
@@ -271,7 +272,7 @@ module _ {O : Type 0} (b : Bool) (l : Tree O) (m : Pool) (out os : List Ref) (ne
       let apart = apart_insert (os ++ put.xs) r put.ys (subst IsApart e cut.0) (subst (IsOut r.name) e cut.1) in
       let long = ap length is in let i = length-append os (r ∷ []) in let c = h.counted in
       let a = ap length put.was in let d = length-append put.xs put.ys in let f = ap length put.now in let g = length-append put.xs (r ∷ put.ys) in
-      stock_kept b l j m p out next h keeps.refs stamps slot os us tree (held_left m os (r ∷ []) put_held)
+      stock_kept j p h keeps.refs stamps slot os us tree (held_left m os (r ∷ []) put_held)
       (subst IsApart (append_assoc os put.xs (r ∷ put.ys) ∙ ap (λ z. os ++ z) (sym put.now)) apart) (omega arith)
     where
       stamps : (k : ℕ) → (link_of p k l.slot).tag.stamp ≡ (link_of m k l.slot).tag.stamp
@@ -282,7 +283,7 @@ module _ {O : Type 0} (b : Bool) (l : Tree O) (m : Pool) (out os : List Ref) (ne
       ]) refl
 
 -- a node that comes out of the tree
-module _ {O : Type 0} (b : Bool) (l j : Tree O) (m p : Pool) (out : List Ref) (next : ℕ) (r : Ref) (h : IsStock b l m out next)
+module _ {O : Type 0} {b : Bool} {l j : Tree O} {m p : Pool} {out : List Ref} {next : ℕ} (r : Ref) (h : IsStock b l m out next)
     (xs ys : List Ref) (is : h.rs ≡ xs ++ r ∷ ys) (tree : IsTree j p keyed_order (key_tag b) (xs ++ ys)) (keeps : Keeps m p l.slot (xs ++ ys))
     (tags : (k : ℕ) → (link_of p k l.slot).tag ≡ (link_of m k l.slot).tag) (slot : j.slot ≡ l.slot) where
   pull_cut : IsApart (out ++ (xs ++ ys)) × IsOut r.name (out ++ (xs ++ ys))
@@ -293,7 +294,7 @@ module _ {O : Type 0} (b : Bool) (l j : Tree O) (m p : Pool) (out : List Ref) (n
       (subst IsApart f cut.0, subst (IsOut r.name) f cut.1)
 
   kept : (os : List Ref) → AllHeldIn m os → IsApart (os ++ (xs ++ ys)) → length os + length (xs ++ ys) ≤ next → IsStock b j p os next
-  kept os held apart counted = stock_kept b l j m p out next h keeps.refs (λ k. ap (λ t. t.stamp) (tags k)) slot os (xs ++ ys) tree held apart counted
+  kept os held apart counted = stock_kept j p h keeps.refs (λ k. ap (λ t. t.stamp) (tags k)) slot os (xs ++ ys) tree held apart counted
 
   pulled_none : IsStock b j p out next
   pulled_none =
@@ -307,9 +308,9 @@ module _ {O : Type 0} (b : Bool) (l j : Tree O) (m p : Pool) (out : List Ref) (n
       (subst IsApart (sym (append_assoc out (r ∷ []) (xs ++ ys))) (apart_insert out r (xs ++ ys) pull_cut.0 pull_cut.1)) (omega arith)
 
   -- whether the push was refused or not
-  pub pulled : (items : List Ref) (done : Bool) → items ≡ cond done (out ++ r ∷ []) out → IsStock b j p items next
-  pulled items true e = subst (λ k. IsStock b j p k next) (sym e) pulled_one
-  pulled items false e = subst (λ k. IsStock b j p k next) (sym e) pulled_none
+  pub pulled : {items : List Ref} (done : Bool) → items ≡ cond done (out ++ r ∷ []) out → IsStock b j p items next
+  pulled true e = subst (λ k. IsStock b j p k next) (sym e) pulled_one
+  pulled false e = subst (λ k. IsStock b j p k next) (sym e) pulled_none
 
 -- no nodes
 pub stock_new : {O : Type 0} (b : Bool) (l : Tree O) (m : Pool) (out : List Ref) → l.root ≡ None → l.slot ≡ 1 → m ≡ no_nodes 2 → out ≡ [] → IsStock b l m out 0
@@ -327,36 +328,65 @@ stock_new b l m out root slot e none =
       counted = let i = ap length none in omega arith;
     }
 
--- the node of a rank stands in the tree
-pub nth_tree : {O : Type 0} (b : Bool) (l : Tree O) (m z : Pool) (rs : List Ref) (n : ℕ) (r : Ref)
-    → IsTree l m keyed_order (key_tag b) rs → z ≡ m → Some r ≡ nth_of rs n
-    → (xs : List Ref) × (ys : List Ref) × IsTree l z keyed_order (key_tag b) (xs ++ r ∷ ys) × (rs ≡ xs ++ r ∷ ys)
-nth_tree b l m z rs n r h e f =
-    let i = nth_split rs n r f in
-    (i.0, i.1, subst (λ k. IsTree l k keyed_order (key_tag b) (i.0 ++ r ∷ i.1)) (sym e) (subst (IsTree l m keyed_order (key_tag b)) i.2 h), i.2)
-
--- what a look-up gives is held
-pub nth_held : (m : Pool) (rs : List Ref) (n : ℕ) → AllHeldIn m rs → IsHeldIf m (nth_of rs n)
-nth_held m [] n h = tt
-nth_held m (r ∷ rs) zero h = h.0
-nth_held m (r ∷ rs) (suc n) h = nth_held m rs n h.1
-
+-- where nodes are held, so is that which a look-up among them gives
 either_held : (m : Pool) (c : Bool) (x y : Option Ref) → IsHeldIf m x → IsHeldIf m y → IsHeldIf m (cond c x y)
 either_held m true x y f g = f
 either_held m false x y f g = g
 
-pub first_held : (m : Pool) (f : Ref → Bool) (rs : List Ref) → AllHeldIn m rs → IsHeldIf m (first_where f rs)
-first_held m f [] h = tt
-first_held m f (r ∷ rs) h = either_held m (f r) (Some r) (first_where f rs) h.0 (first_held m f rs h.1)
+nth_in : (m : Pool) (rs : List Ref) (n : ℕ) → AllHeldIn m rs → IsHeldIf m (nth_of rs n)
+nth_in m [] n h = tt
+nth_in m (r ∷ rs) zero h = h.0
+nth_in m (r ∷ rs) (suc n) h = nth_in m rs n h.1
 
--- so are its neighbours
-pub next_held : (m : Pool) (rs : List Ref) → AllHeldIn m rs → IsHeldIf m (first_of rs None)
-next_held m [] h = tt
-next_held m (r ∷ rs) h = h.0
+first_in : (m : Pool) (f : Ref → Bool) (rs : List Ref) → AllHeldIn m rs → IsHeldIf m (first_where f rs)
+first_in m f [] h = tt
+first_in m f (r ∷ rs) h = either_held m (f r) (Some r) (first_where f rs) h.0 (first_in m f rs h.1)
 
-pub prev_held : (m : Pool) (at : Option Ref) (rs : List Ref) → IsHeldIf m at → AllHeldIn m rs → IsHeldIf m (last_of at rs)
-prev_held m at [] g h = g
-prev_held m at (r ∷ rs) g h = prev_held m (Some r) rs h.0 h.1
+after_in : (m : Pool) (rs : List Ref) → AllHeldIn m rs → IsHeldIf m (first_of rs None)
+after_in m [] h = tt
+after_in m (r ∷ rs) h = h.0
+
+before_in : (m : Pool) (at : Option Ref) (rs : List Ref) → IsHeldIf m at → AllHeldIn m rs → IsHeldIf m (last_of at rs)
+before_in m at [] g h = g
+before_in m at (r ∷ rs) g h = before_in m (Some r) rs h.0 h.1
+
+-- the node r stands in the tree, among the nodes rs
+pub record StandsIn {O : Type 0} (b : Bool) (l : Tree O) (m : Pool) (rs : List Ref) (r : Ref) : Type 0 where
+  pub xs : List Ref
+  pub ys : List Ref
+  pub tree : IsTree l m keyed_order (key_tag b) (xs ++ r ∷ ys)
+  pub is : rs ≡ xs ++ r ∷ ys
+
+module _ {O : Type 0} {b : Bool} {l : Tree O} {m : Pool} {out : List Ref} {next : ℕ} (h : IsStock b l m out next) where
+  -- the tree stands in the pool, as it is read
+  pub tree_read : {z : Pool} → z ≡ m → IsTree l z keyed_order (key_tag b) h.rs
+  tree_read e = subst (λ k. IsTree l k keyed_order (key_tag b) h.rs) (sym e) h.tree
+
+  -- and so does the node of a rank
+  pub nth_stands : {y z : Pool} (n : ℕ) {o : Option Ref} {r : Ref} → z ≡ m → y ≡ z → (IsTree l z keyed_order (key_tag b) h.rs → o ≡ nth_of h.rs n)
+      → o ≡ Some r → StandsIn b l y h.rs r
+  nth_stands {y} {z} n {o} {r} e same is some =
+      let i = nth_split h.rs n r (sym some ∙ is (tree_read e)) in
+      record { xs = i.0; ys = i.1; tree = subst (IsTree l y keyed_order (key_tag b)) i.2 (tree_read (same ∙ e)); is = i.2 }
+
+  all_in : AllHeldIn m h.rs
+  all_in = tree_held b l m h.rs h.tree
+
+  -- what a look-up gives is held
+  pub nth_held : (n : ℕ) {o : Option Ref} → o ≡ nth_of h.rs n → IsHeldIf m o
+  nth_held n {o} is = subst (IsHeldIf m) (sym is) (nth_in m h.rs n all_in)
+
+  pub first_held : (f : Ref → Bool) {o : Option Ref} → o ≡ first_where f h.rs → IsHeldIf m o
+  first_held f {o} is = subst (IsHeldIf m) (sym is) (first_in m f h.rs all_in)
+
+  -- so are a node's neighbours
+  pub after_held : {z : Pool} {r : Ref} {o : Option Ref} (i : StandsIn b l z h.rs r) → o ≡ first_of i.ys None → IsHeldIf m o
+  after_held {z} {r} {o} i is =
+      let held = held_right m i.xs (r ∷ i.ys) (subst (AllHeldIn m) i.is all_in) in subst (IsHeldIf m) (sym is) (after_in m i.ys held.1)
+
+  pub before_held : {z : Pool} {r : Ref} {o : Option Ref} (i : StandsIn b l z h.rs r) → o ≡ last_of None i.xs → IsHeldIf m o
+  before_held {z} {r} {o} i is =
+      subst (IsHeldIf m) (sym is) (before_in m None i.xs tt (held_left m i.xs (r ∷ i.ys) (subst (AllHeldIn m) i.is all_in)))
 
 pending_held : (m : Pool) (s : ℕ) (d : Direction) (levels : ℕ) (xs : List Pending) → ArePending m s d levels xs → IsHeldIf m (first_of (ahead d xs) None)
 pending_held m s d levels [] h = tt

@@ -1,61 +1,54 @@
-use Rattle.std.proofs.Common.{◌≡◌, ◌<◌, [], ◌∷◌, subst, sym, ◌∙◌, ap, ℕ}
-use Rattle.mi_node.specs.Pool.{link_of}
-use Rattle.mi_node.specs.declared.link.Link.{Link}
+use Rattle.std.proofs.Common.{◌<◌, [], ◌∷◌, subst, ◌∙◌}
 use Rattle.mi_structures.specs.OneKey.{one_keying}
-use Rattle.mi_chain.specs.Chained.{FitsBetween}
+use Rattle.mi_chain.specs.Chained.{AreChained, FitsBetween}
+use Rattle.mi_structures.proofs.ThreeNodeLemmas.{fits_read}
+use Rattle.mi_structures.proofs.tests.chains.leave_and_return.Given.{Over}
+use Rattle.mi_structures.proofs.tests.chains.leave_and_return.Goals.{After-remove, After-link-remembered, After-relink}
 use Rattle.mi_structures.proofs.tests.chains.leave_and_return.Goals as goal
+
+module _ (g : Over) (c : After-remove g) where
+  -- the second node is left
+  gone : AreChained c.remove.new.self one_keying c.remove.new.p (c.args.two ∷ [])
+  gone = c.remove.ensures.list [] (c.args.two ∷ []) c.requires.list
+
+module _ (g : Over) (c : After-link-remembered g) where
+  -- the first fits before it, by the link that was read
+  fits : FitsBetween one_keying c.remove.new.p c.remove.new.self.slot c.args.one c.link-remembered.result [] (c.args.two ∷ [])
+  fits = fits_read c.remove.ensures.slot c.requires.slot c.link-remembered.ensures (c.remove.ensures.remembers [] (c.args.two ∷ []) c.requires.list)
+
+module _ (g : Over) (c : After-relink g) (gone : AreChained c.remove.new.self one_keying c.remove.new.p (c.args.two ∷ []))
+    (fits : FitsBetween one_keying c.remove.new.p c.remove.new.self.slot c.args.one c.link-remembered.result [] (c.args.two ∷ [])) where
+  -- both nodes are back
+  back : AreChained c.relink.new.self one_keying c.relink.new.p (c.args.one ∷ c.args.two ∷ [])
+  back = c.relink.ensures.list [] (c.args.two ∷ []) gone fits
 
 pub remove-requires : goal.remove-requires
 remove-requires g c = ([], c.args.two ∷ [], c.requires.list)
 
 pub assert_first-requires : goal.assert_first-requires
-assert_first-requires g c = (c.args.two ∷ [], c.remove.ensures.list [] (c.args.two ∷ []) c.requires.list)
+assert_first-requires g c = (c.args.two ∷ [], gone g (goal.at.assert_first-requires g c).After-remove)
 
 pub link-remembered-requires-clause-held : goal.link-remembered-requires-clause-held
-link-remembered-requires-clause-held g c =
-    let one = c.args.one in let two = c.args.two in let h = c.requires.list in let gone = c.remove.ensures.list [] (two ∷ []) h in
-    let q = c.remove.ensures.remembers [] (two ∷ []) h in let p = q.placed in p.held
+link-remembered-requires-clause-held g c = let was = c.remove.ensures.remembers [] (c.args.two ∷ []) c.requires.list in was.placed.held
 
 pub link-remembered-requires-clause-slot : goal.link-remembered-requires-clause-slot
 link-remembered-requires-clause-slot g c =
-    let one = c.args.one in let two = c.args.two in let h = c.requires.list in let gone = c.remove.ensures.list [] (two ∷ []) h in
-    let b = gone.buckets in subst (λ z. z < c.remove.new.p.slots) (c.remove.ensures.slot ∙ c.requires.slot) b.slot
+    let gone = gone g (goal.at.link-remembered-requires-clause-slot g c).After-remove in
+    subst (λ z. z < c.remove.new.p.slots) (c.remove.ensures.slot ∙ c.requires.slot) gone.buckets.slot
 
 pub relink-requires : goal.relink-requires
-relink-requires g c = let one = c.args.one in let two = c.args.two in let h = c.requires.list in let gone = c.remove.ensures.list [] (two ∷ []) h in
-    let same : link_of c.remove.new.p one.name c.args.chains.now.slot ≡ c.link-remembered.result =
-    ap (link_of c.remove.new.p one.name) c.requires.slot ∙ sym c.link-remembered.ensures in
-    let fits : FitsBetween one_keying c.remove.new.p c.remove.new.self.slot one c.link-remembered.result [] (two ∷ []) =
-    subst (λ (z : ℕ × Link). FitsBetween one_keying c.remove.new.p z.0 one z.1 [] (two ∷ []))
-    (λ i. (sym c.remove.ensures.slot i, same i)) (c.remove.ensures.remembers [] (two ∷ []) h) in
-    ([], two ∷ [], gone, fits)
+relink-requires g c = let o = goal.at.relink-requires g c in ([], c.args.two ∷ [], gone g o.After-remove, fits g o.After-link-remembered)
 
 pub assert_both-requires-2 : goal.assert_both-requires-2
-assert_both-requires-2 g c = let one = c.args.one in let two = c.args.two in let h = c.requires.list in let gone = c.remove.ensures.list [] (two ∷ []) h in
-    let same : link_of c.remove.new.p one.name c.args.chains.now.slot ≡ c.link-remembered.result =
-    ap (link_of c.remove.new.p one.name) c.requires.slot ∙ sym c.link-remembered.ensures in
-    let fits : FitsBetween one_keying c.remove.new.p c.remove.new.self.slot one c.link-remembered.result [] (two ∷ []) =
-    subst (λ (z : ℕ × Link). FitsBetween one_keying c.remove.new.p z.0 one z.1 [] (two ∷ []))
-    (λ i. (sym c.remove.ensures.slot i, same i)) (c.remove.ensures.remembers [] (two ∷ []) h) in
-    let back = c.relink.ensures.list [] (two ∷ []) gone fits in
-    back
+assert_both-requires-2 g c =
+    let o = goal.at.assert_both-requires-2 g c in back g o.After-relink (gone g o.After-remove) (fits g o.After-link-remembered)
 
 pub make_room-requires : goal.make_room-requires
-make_room-requires g c = let one = c.args.one in let two = c.args.two in let h = c.requires.list in let gone = c.remove.ensures.list [] (two ∷ []) h in
-    let same : link_of c.remove.new.p one.name c.args.chains.now.slot ≡ c.link-remembered.result =
-    ap (link_of c.remove.new.p one.name) c.requires.slot ∙ sym c.link-remembered.ensures in
-    let fits : FitsBetween one_keying c.remove.new.p c.remove.new.self.slot one c.link-remembered.result [] (two ∷ []) =
-    subst (λ (z : ℕ × Link). FitsBetween one_keying c.remove.new.p z.0 one z.1 [] (two ∷ []))
-    (λ i. (sym c.remove.ensures.slot i, same i)) (c.remove.ensures.remembers [] (two ∷ []) h) in
-    let back = c.relink.ensures.list [] (two ∷ []) gone fits in
-    (one ∷ two ∷ [], back)
+make_room-requires g c =
+    let o = goal.at.make_room-requires g c in
+    (c.args.one ∷ c.args.two ∷ [], back g o.After-relink (gone g o.After-remove) (fits g o.After-link-remembered))
 
 pub assert_both-requires-3 : goal.assert_both-requires-3
-assert_both-requires-3 g c = let one = c.args.one in let two = c.args.two in let h = c.requires.list in let gone = c.remove.ensures.list [] (two ∷ []) h in
-    let same : link_of c.remove.new.p one.name c.args.chains.now.slot ≡ c.link-remembered.result =
-    ap (link_of c.remove.new.p one.name) c.requires.slot ∙ sym c.link-remembered.ensures in
-    let fits : FitsBetween one_keying c.remove.new.p c.remove.new.self.slot one c.link-remembered.result [] (two ∷ []) =
-    subst (λ (z : ℕ × Link). FitsBetween one_keying c.remove.new.p z.0 one z.1 [] (two ∷ []))
-    (λ i. (sym c.remove.ensures.slot i, same i)) (c.remove.ensures.remembers [] (two ∷ []) h) in
-    let back = c.relink.ensures.list [] (two ∷ []) gone fits in
-    c.make_room.ensures.list (one ∷ two ∷ []) back
+assert_both-requires-3 g c =
+    let o = goal.at.assert_both-requires-3 g c in
+    c.make_room.ensures.list (c.args.one ∷ c.args.two ∷ []) (back g o.After-relink (gone g o.After-remove) (fits g o.After-link-remembered))

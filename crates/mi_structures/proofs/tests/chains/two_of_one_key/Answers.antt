@@ -12,11 +12,8 @@ fill-requires-clause-chained g c =
 
 pub fill-requires-clause-held : goal.fill-requires-clause-held
 fill-requires-clause-held g c =
-    let one = c.take-one.result in let two = c.take-two.result in let m = c.take-one.new.pool in let n = c.take-two.new.pool in (
-      held_then m n one two _ c.take-two.ensures.pool c.take-two.ensures.free (held_now _ m one _ c.take-one.ensures.pool),
-      held_now _ n two _ c.take-two.ensures.pool,
-    )
+    let two = c.take-two.ensures.pool in (held_then _ _ _ two c.take-two.ensures.free (held_now _ _ _ c.take-one.ensures.pool), held_now _ _ _ two)
 
 pub fill-requires-clause-names : goal.fill-requires-clause-names
-fill-requires-clause-names g c = apart_of_free c.take-one.new.pool c.take-one.result c.take-two.result
-    (held_now _ c.take-one.new.pool c.take-one.result _ c.take-one.ensures.pool) c.take-two.ensures.free
+fill-requires-clause-names g c =
+    apart_of_free c.take-one.new.pool c.take-one.result c.take-two.result (held_now _ _ _ c.take-one.ensures.pool) c.take-two.ensures.free

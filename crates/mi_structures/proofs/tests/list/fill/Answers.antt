@@ -1,5 +1,12 @@
 use Rattle.std.proofs.Common.{[], ◌∷◌, ◌∙◌, refl}
+use Rattle.mi_list.specs.Listed.{IsListed}
+use Rattle.mi_structures.proofs.tests.list.fill.Goals.{After-push_back-2}
 use Rattle.mi_structures.proofs.tests.list.fill.Goals as goal
+
+module _ (c : After-push_back-2) where
+  -- the first node and the third are in
+  ends : IsListed c.push_back-2.new.self c.push_back-2.new.p (c.args.one ∷ c.args.three ∷ [])
+  ends = c.push_back-2.ensures.list (c.args.one ∷ []) (c.push_back.ensures.list [] c.requires.listed tt) (c.requires.names.1, tt)
 
 pub push_back-requires-clause-place : goal.push_back-requires-clause-place
 push_back-requires-clause-place c = ([], c.requires.listed, tt)
@@ -18,19 +25,10 @@ insert_before-requires-clause-held c =
 
 pub insert_before-requires-clause-place : goal.insert_before-requires-clause-place
 insert_before-requires-clause-place c =
-    let one = c.args.one in let three = c.args.three in let out = c.requires.names.1 in (
-      one ∷ [],
-      three ∷ [],
-      c.push_back-2.ensures.list (one ∷ []) (c.push_back.ensures.list [] c.requires.listed tt) (out, tt),
-      (c.requires.names.0, (c.requires.names.2, tt)),
-      refl,
-    )
+    let ends = ends (goal.at.insert_before-requires-clause-place c).After-push_back-2 in
+    (c.args.one ∷ [], c.args.three ∷ [], ends, (c.requires.names.0, (c.requires.names.2, tt)), refl)
 
 pub returns : goal.returns
 returns c =
-    let one = c.args.one in let three = c.args.three in let two = c.args.two in
-    let out = c.requires.names.1 in
-    let before = c.requires.names.0 in
-    let after = c.requires.names.2 in
-    c.insert_before.ensures.list (one ∷ []) (three ∷ [])
-    (c.push_back-2.ensures.list (one ∷ []) (c.push_back.ensures.list [] c.requires.listed tt) (out, tt)) (before, (after, tt)) refl
+    let ends = ends (goal.at.returns c).After-push_back-2 in
+    c.insert_before.ensures.list (c.args.one ∷ []) (c.args.three ∷ []) ends (c.requires.names.0, (c.requires.names.2, tt)) refl

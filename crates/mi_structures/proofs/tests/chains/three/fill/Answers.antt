@@ -1,99 +1,51 @@
-use Rattle.std.proofs.Common.{◌≡◌, true, false, [], ◌∷◌, ◌∙◌, arith}
-use Rattle.mi_node.specs.declared.link.Tag.{Tag}
-use Rattle.mi_node.proofs.EntryLemmas.{same_refl}
-use Rattle.mi_chain.specs.Keying.{stamp_at, hash_node}
-use Rattle.mi_chain.specs.Chained.{IsPlaced}
+use Rattle.std.proofs.Common.{ℤ, [], ◌∷◌, ◌∙◌, refl, arith}
+use Rattle.mi_node.specs.Pool.{Pooled, IsHeld}
+use Rattle.mi_node.specs.Refs.{Ref}
+use Rattle.mi_chain.specs.Chained.{AreChained}
+use Rattle.mi_chain.specs.declared.chains.Chains.{Chains}
 use Rattle.mi_structures.specs.Numbered.{number_keying}
-use Rattle.mi_structures.proofs.ThreeNodeLemmas.{stamp_set}
+use Rattle.mi_structures.proofs.SevenNodeLemmas.{IsNext, next_of_held, numbered_more}
+use Rattle.mi_structures.proofs.tests.chains.three.fill.Goals.{After-insert, After-insert-2}
 use Rattle.mi_structures.proofs.tests.chains.three.fill.Goals as goal
 
+-- a node may go into chains of no node
+first_next : {H : Type 0} {c : Chains H} {m : Pooled ℤ} {r : Ref} → AreChained c number_keying m [] → IsHeld m r → IsNext c m r [] 0
+first_next list held = next_of_held held tt (omega arith) (record { chained = list; below = tt; count = refl })
+
+-- then the second node may follow the first, and the third is held still
+module _ (c : After-insert) where
+  one_next : IsNext c.args.chains.now c.args.p.now c.args.one [] 0
+  one_next = first_next c.requires.chained c.requires.held.0
+
+  still : (q : Ref) → IsHeld c.args.p.now q → IsHeld c.insert.new.p q
+  still q held = (c.insert.ensures.keeps [] [] one_next.chained one_next.placed).refs q.name ∙ held
+
+  two_next : IsNext c.insert.new.self c.insert.new.p c.args.two (c.args.one ∷ []) 1
+  two_next = next_of_held (still c.args.two c.requires.held.1) (c.requires.second, tt) (omega arith)
+      (numbered_more _ one_next (c.insert.ensures.list [] [] one_next.chained one_next.placed) c.insert.ensures.slot c.insert.ensures.tags refl)
+
+-- then the third node may follow them
+module _ (c : After-insert-2) (two : IsNext c.insert.new.self c.insert.new.p c.args.two (c.args.one ∷ []) 1) (held : IsHeld c.insert.new.p c.args.three) where
+  three_next : IsNext c.insert-2.new.self c.insert-2.new.p c.args.three (c.args.one ∷ c.args.two ∷ []) 2
+  three_next =
+      let xs = c.args.one ∷ [] in let keeps = c.insert-2.ensures.keeps xs [] two.chained two.placed in
+      next_of_held (keeps.refs c.args.three.name ∙ held) (c.requires.third, (c.requires.last, tt)) (omega arith)
+      (numbered_more _ two (c.insert-2.ensures.list xs [] two.chained two.placed) c.insert-2.ensures.slot c.insert-2.ensures.tags refl)
+
 pub insert-requires : goal.insert-requires
-insert-requires c =
-    let one = c.args.one in let two = c.args.two in let three = c.args.three in let req = c.requires in
-    let at1 : IsPlaced number_keying c.args.p.now c.args.chains.now.slot one 0 [] [] =
-    record { held = req.held.0; out = tt; before = tt; after = tt; few = omega arith } in
-    ([], [], req.chained, at1)
+insert-requires c = let n = first_next c.requires.chained c.requires.held.0 in ([], [], n.chained, n.placed)
 
 pub insert-requires-2 : goal.insert-requires-2
-insert-requires-2 c =
-    let one = c.args.one in let two = c.args.two in let three = c.args.three in let req = c.requires in
-    let at1 : IsPlaced number_keying c.args.p.now c.args.chains.now.slot one 0 [] [] =
-    record { held = req.held.0; out = tt; before = tt; after = tt; few = omega arith } in
-    let list1 = c.insert.ensures.list [] [] req.chained at1 in let keeps1 = c.insert.ensures.keeps [] [] req.chained at1 in
-    let tag1 : Tag = record { key = hash_node number_keying c.args.p.now one; stamp = 0 } in
-    let zero : stamp_at c.insert.new.p c.insert.new.self.slot one ≡ 0 = stamp_set c.args.p.now c.insert.new.p c.args.chains.now.slot
-    c.insert.new.self.slot one one tag1 true c.insert.ensures.slot (c.insert.ensures.tags one.name) (same_refl one.name) in
-    let at2 : IsPlaced number_keying c.insert.new.p c.insert.new.self.slot two 1 (one ∷ []) [] = record {
-      held = keeps1.refs two.name ∙ req.held.1;
-      out = (req.second, tt);
-      before = ((λ e. omega (arith, zero)), tt);
-      after = tt;
-      few = omega arith;
-    } in
-    (one ∷ [], [], list1, at2)
+insert-requires-2 c = let n = two_next (goal.at.insert-requires-2 c).After-insert in (c.args.one ∷ [], [], n.chained, n.placed)
 
 pub insert-requires-3 : goal.insert-requires-3
 insert-requires-3 c =
-    let one = c.args.one in let two = c.args.two in let three = c.args.three in let req = c.requires in
-    let at1 : IsPlaced number_keying c.args.p.now c.args.chains.now.slot one 0 [] [] =
-    record { held = req.held.0; out = tt; before = tt; after = tt; few = omega arith } in
-    let list1 = c.insert.ensures.list [] [] req.chained at1 in let keeps1 = c.insert.ensures.keeps [] [] req.chained at1 in
-    let tag1 : Tag = record { key = hash_node number_keying c.args.p.now one; stamp = 0 } in
-    let zero : stamp_at c.insert.new.p c.insert.new.self.slot one ≡ 0 = stamp_set c.args.p.now c.insert.new.p c.args.chains.now.slot
-    c.insert.new.self.slot one one tag1 true c.insert.ensures.slot (c.insert.ensures.tags one.name) (same_refl one.name) in
-    let at2 : IsPlaced number_keying c.insert.new.p c.insert.new.self.slot two 1 (one ∷ []) [] = record {
-      held = keeps1.refs two.name ∙ req.held.1;
-      out = (req.second, tt);
-      before = ((λ e. omega (arith, zero)), tt);
-      after = tt;
-      few = omega arith;
-    } in
-    let list2 = c.insert-2.ensures.list (one ∷ []) [] list1 at2 in let keeps2 = c.insert-2.ensures.keeps (one ∷ []) [] list1 at2 in
-    let tag2 : Tag = record { key = hash_node number_keying c.insert.new.p two; stamp = 1 } in
-    let still : stamp_at c.insert-2.new.p c.insert-2.new.self.slot one ≡ stamp_at c.insert.new.p c.insert.new.self.slot one
-    = stamp_set c.insert.new.p c.insert-2.new.p c.insert.new.self.slot c.insert-2.new.self.slot two
-    one tag2 false c.insert-2.ensures.slot (c.insert-2.ensures.tags one.name) req.second in
-    let next : stamp_at c.insert-2.new.p c.insert-2.new.self.slot two ≡ 1
-    = stamp_set c.insert.new.p c.insert-2.new.p c.insert.new.self.slot c.insert-2.new.self.slot two two
-    tag2 true c.insert-2.ensures.slot (c.insert-2.ensures.tags two.name) (same_refl two.name) in
-    let at3 : IsPlaced number_keying c.insert-2.new.p c.insert-2.new.self.slot three 2 (one ∷ two ∷ []) [] = record {
-      held = keeps2.refs three.name ∙ keeps1.refs three.name ∙ req.held.2;
-      out = (req.third, (req.last, tt));
-      before = ((λ e. omega (arith, zero, still)), ((λ e. omega (arith, next)), tt));
-      after = tt;
-      few = omega arith;
-    } in
-    (one ∷ two ∷ [], [], list2, at3)
+    let o = goal.at.insert-requires-3 c in let i = o.After-insert in
+    let n = three_next o.After-insert-2 (two_next i) (still i c.args.three c.requires.held.2) in
+    (c.args.one ∷ c.args.two ∷ [], [], n.chained, n.placed)
 
 pub returns-clause-list : goal.returns-clause-list
 returns-clause-list c =
-    let one = c.args.one in let two = c.args.two in let three = c.args.three in let req = c.requires in
-    let at1 : IsPlaced number_keying c.args.p.now c.args.chains.now.slot one 0 [] [] =
-    record { held = req.held.0; out = tt; before = tt; after = tt; few = omega arith } in
-    let list1 = c.insert.ensures.list [] [] req.chained at1 in let keeps1 = c.insert.ensures.keeps [] [] req.chained at1 in
-    let tag1 : Tag = record { key = hash_node number_keying c.args.p.now one; stamp = 0 } in
-    let zero : stamp_at c.insert.new.p c.insert.new.self.slot one ≡ 0 = stamp_set c.args.p.now c.insert.new.p c.args.chains.now.slot
-    c.insert.new.self.slot one one tag1 true c.insert.ensures.slot (c.insert.ensures.tags one.name) (same_refl one.name) in
-    let at2 : IsPlaced number_keying c.insert.new.p c.insert.new.self.slot two 1 (one ∷ []) [] = record {
-      held = keeps1.refs two.name ∙ req.held.1;
-      out = (req.second, tt);
-      before = ((λ e. omega (arith, zero)), tt);
-      after = tt;
-      few = omega arith;
-    } in
-    let list2 = c.insert-2.ensures.list (one ∷ []) [] list1 at2 in let keeps2 = c.insert-2.ensures.keeps (one ∷ []) [] list1 at2 in
-    let tag2 : Tag = record { key = hash_node number_keying c.insert.new.p two; stamp = 1 } in
-    let still : stamp_at c.insert-2.new.p c.insert-2.new.self.slot one ≡ stamp_at c.insert.new.p c.insert.new.self.slot one
-    = stamp_set c.insert.new.p c.insert-2.new.p c.insert.new.self.slot c.insert-2.new.self.slot two
-    one tag2 false c.insert-2.ensures.slot (c.insert-2.ensures.tags one.name) req.second in
-    let next : stamp_at c.insert-2.new.p c.insert-2.new.self.slot two ≡ 1
-    = stamp_set c.insert.new.p c.insert-2.new.p c.insert.new.self.slot c.insert-2.new.self.slot two two
-    tag2 true c.insert-2.ensures.slot (c.insert-2.ensures.tags two.name) (same_refl two.name) in
-    let at3 : IsPlaced number_keying c.insert-2.new.p c.insert-2.new.self.slot three 2 (one ∷ two ∷ []) [] = record {
-      held = keeps2.refs three.name ∙ keeps1.refs three.name ∙ req.held.2;
-      out = (req.third, (req.last, tt));
-      before = ((λ e. omega (arith, zero, still)), ((λ e. omega (arith, next)), tt));
-      after = tt;
-      few = omega arith;
-    } in
-    c.insert-3.ensures.list (one ∷ two ∷ []) [] list2 at3
+    let o = goal.at.returns-clause-list c in let i = o.After-insert in
+    let n = three_next o.After-insert-2 (two_next i) (still i c.args.three c.requires.held.2) in
+    c.insert-3.ensures.list (c.args.one ∷ c.args.two ∷ []) [] n.chained n.placed

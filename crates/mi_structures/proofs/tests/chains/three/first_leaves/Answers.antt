@@ -1,62 +1,53 @@
-use Rattle.std.proofs.Common.{◌≡◌, ◌<◌, [], ◌∷◌, ap, sym, ◌∙◌, subst}
-use Rattle.mi_node.specs.Pool.{link_of}
-use Rattle.mi_node.specs.declared.link.Link.{Link}
-use Rattle.mi_chain.specs.Chained.{IsPlaced}
+use Rattle.std.proofs.Common.{◌<◌, [], ◌∷◌, ◌∙◌, subst}
+use Rattle.mi_chain.specs.Chained.{AreChained, IsPlaced}
 use Rattle.mi_structures.specs.Numbered.{number_keying}
-use Rattle.mi_structures.proofs.ThreeNodeLemmas.{placed_kept}
+use Rattle.mi_structures.proofs.ThreeNodeLemmas.{fits_read, placed_alike}
+use Rattle.mi_structures.proofs.tests.chains.three.first_leaves.Given.{Over}
+use Rattle.mi_structures.proofs.tests.chains.three.first_leaves.Goals.{After-remove, After-make_room}
 use Rattle.mi_structures.proofs.tests.chains.three.first_leaves.Goals as goal
+
+module _ (g : Over) (c : After-remove g) where
+  -- the other two nodes are left
+  gone : AreChained c.remove.new.self number_keying c.remove.new.p (c.args.two ∷ c.args.three ∷ [])
+  gone = c.remove.ensures.list [] (c.args.two ∷ c.args.three ∷ []) c.requires.list
+
+module _ (g : Over) (c : After-make_room g) (gone : AreChained c.remove.new.self number_keying c.remove.new.p (c.args.two ∷ c.args.three ∷ [])) where
+  -- in the new room they are left too
+  moved : AreChained c.make_room.new.self number_keying c.make_room.new.p (c.args.two ∷ c.args.three ∷ [])
+  moved = c.make_room.ensures.list (c.args.two ∷ c.args.three ∷ []) gone
+
+  -- and the first may stand before them again, with its stamp
+  placed : IsPlaced number_keying c.make_room.new.p c.make_room.new.self.slot c.args.one c.link-stamp.result.tag.stamp [] (c.args.two ∷ c.args.three ∷ [])
+  placed = let ys = c.args.two ∷ c.args.three ∷ [] in let was = c.remove.ensures.remembers [] ys c.requires.list in
+      let keeps = c.make_room.ensures.keeps ys gone in
+      placed_alike c.make_room.ensures.slot (record { refs = keeps.refs; values = keeps.values; tags = c.make_room.ensures.tags })
+      (fits_read c.remove.ensures.slot c.requires.slot c.link-stamp.ensures was).placed
 
 pub remove-requires : goal.remove-requires
 remove-requires g c = ([], c.args.two ∷ c.args.three ∷ [], c.requires.list)
 
 pub link-stamp-requires-clause-held : goal.link-stamp-requires-clause-held
 link-stamp-requires-clause-held g c =
-    let one = c.args.one in let ys = c.args.two ∷ c.args.three ∷ [] in let h = c.requires.list in
-    let gone = c.remove.ensures.list [] ys h in let fits = c.remove.ensures.remembers [] ys h in
-    let p = fits.placed in p.held
+    let fits = c.remove.ensures.remembers [] (c.args.two ∷ c.args.three ∷ []) c.requires.list in fits.placed.held
 
 pub link-stamp-requires-clause-slot : goal.link-stamp-requires-clause-slot
 link-stamp-requires-clause-slot g c =
-    let one = c.args.one in let ys = c.args.two ∷ c.args.three ∷ [] in let h = c.requires.list in
-    let gone = c.remove.ensures.list [] ys h in let fits = c.remove.ensures.remembers [] ys h in
-    let b = gone.buckets in subst (λ z. z < c.remove.new.p.slots) (c.remove.ensures.slot ∙ c.requires.slot) b.slot
+    let gone = gone g (goal.at.link-stamp-requires-clause-slot g c).After-remove in
+    subst (λ z. z < c.remove.new.p.slots) (c.remove.ensures.slot ∙ c.requires.slot) gone.buckets.slot
 
 pub make_room-requires : goal.make_room-requires
-make_room-requires g c =
-    let one = c.args.one in let ys = c.args.two ∷ c.args.three ∷ [] in let h = c.requires.list in
-    let gone = c.remove.ensures.list [] ys h in let fits = c.remove.ensures.remembers [] ys h in
-    (ys, gone)
+make_room-requires g c = (c.args.two ∷ c.args.three ∷ [], gone g (goal.at.make_room-requires g c).After-remove)
 
 pub assert_list-requires : goal.assert_list-requires
 assert_list-requires g c =
-    let one = c.args.one in let ys = c.args.two ∷ c.args.three ∷ [] in let h = c.requires.list in
-    let gone = c.remove.ensures.list [] ys h in let fits = c.remove.ensures.remembers [] ys h in
-    (ys, c.make_room.ensures.list ys gone)
+    let o = goal.at.assert_list-requires g c in (c.args.two ∷ c.args.three ∷ [], moved g o.After-make_room (gone g o.After-remove))
 
 pub insert-requires : goal.insert-requires
 insert-requires g c =
-    let one = c.args.one in let ys = c.args.two ∷ c.args.three ∷ [] in let h = c.requires.list in
-    let gone = c.remove.ensures.list [] ys h in let fits = c.remove.ensures.remembers [] ys h in
-    let list = c.make_room.ensures.list ys gone in let keeps = c.make_room.ensures.keeps ys gone in
-    let had : c.link-stamp.result.tag.stamp ≡ (link_of c.remove.new.p one.name c.args.chains.now.slot).tag.stamp =
-    ap (λ (z : Link). z.tag.stamp) c.link-stamp.ensures ∙ ap (λ s. (link_of c.remove.new.p one.name s).tag.stamp) (sym c.requires.slot) in
-    let before : IsPlaced number_keying c.remove.new.p c.remove.new.self.slot one c.link-stamp.result.tag.stamp [] ys
-    = subst (λ s. IsPlaced number_keying c.remove.new.p s one c.link-stamp.result.tag.stamp [] ys) (sym c.remove.ensures.slot)
-    (subst (λ t. IsPlaced number_keying c.remove.new.p c.args.chains.now.slot one t [] ys) (sym had) fits.placed) in
-    let at = placed_kept c.remove.new.p c.make_room.new.p c.remove.new.self.slot c.make_room.new.self.slot ys
-    c.make_room.ensures.slot keeps c.make_room.ensures.tags one c.link-stamp.result.tag.stamp [] ys before in
-    ([], ys, list, at)
+    let o = goal.at.insert-requires g c in let gone = gone g o.After-remove in
+    ([], c.args.two ∷ c.args.three ∷ [], moved g o.After-make_room gone, placed g o.After-make_room gone)
 
 pub returns-clause-list : goal.returns-clause-list
 returns-clause-list g c =
-    let one = c.args.one in let ys = c.args.two ∷ c.args.three ∷ [] in let h = c.requires.list in
-    let gone = c.remove.ensures.list [] ys h in let fits = c.remove.ensures.remembers [] ys h in
-    let list = c.make_room.ensures.list ys gone in let keeps = c.make_room.ensures.keeps ys gone in
-    let had : c.link-stamp.result.tag.stamp ≡ (link_of c.remove.new.p one.name c.args.chains.now.slot).tag.stamp =
-    ap (λ (z : Link). z.tag.stamp) c.link-stamp.ensures ∙ ap (λ s. (link_of c.remove.new.p one.name s).tag.stamp) (sym c.requires.slot) in
-    let before : IsPlaced number_keying c.remove.new.p c.remove.new.self.slot one c.link-stamp.result.tag.stamp [] ys
-    = subst (λ s. IsPlaced number_keying c.remove.new.p s one c.link-stamp.result.tag.stamp [] ys) (sym c.remove.ensures.slot)
-    (subst (λ t. IsPlaced number_keying c.remove.new.p c.args.chains.now.slot one t [] ys) (sym had) fits.placed) in
-    let at = placed_kept c.remove.new.p c.make_room.new.p c.remove.new.self.slot c.make_room.new.self.slot ys
-    c.make_room.ensures.slot keeps c.make_room.ensures.tags one c.link-stamp.result.tag.stamp [] ys before in
-    c.insert.ensures.list [] ys list at
+    let o = goal.at.returns-clause-list g c in let gone = gone g o.After-remove in
+    c.insert.ensures.list [] (c.args.two ∷ c.args.three ∷ []) (moved g o.After-make_room gone) (placed g o.After-make_room gone)

@@ -1,47 +1,42 @@
-use Rattle.std.proofs.Common.{◌≡◌, ◌<◌, ℕ, [], ◌∷◌, ap, sym, ◌∙◌, subst}
-use Rattle.mi_node.specs.Pool.{link_of}
-use Rattle.mi_node.specs.declared.link.Link.{Link}
-use Rattle.mi_chain.specs.Chained.{FitsBetween}
+use Rattle.std.proofs.Common.{◌<◌, [], ◌∷◌, ◌∙◌, subst}
+use Rattle.mi_chain.specs.Chained.{AreChained, FitsBetween}
 use Rattle.mi_structures.specs.Numbered.{number_keying}
+use Rattle.mi_structures.proofs.ThreeNodeLemmas.{fits_read}
+use Rattle.mi_structures.proofs.tests.chains.three.second_leaves.Given.{Over}
+use Rattle.mi_structures.proofs.tests.chains.three.second_leaves.Goals.{After-remove, After-link-remembered}
 use Rattle.mi_structures.proofs.tests.chains.three.second_leaves.Goals as goal
+
+module _ (g : Over) (c : After-remove g) where
+  -- the first node and the third are left
+  gone : AreChained c.remove.new.self number_keying c.remove.new.p (c.args.one ∷ c.args.three ∷ [])
+  gone = c.remove.ensures.list (c.args.one ∷ []) (c.args.three ∷ []) c.requires.list
+
+module _ (g : Over) (c : After-link-remembered g) where
+  -- the second fits between them, by the link that was read
+  fits : FitsBetween number_keying c.remove.new.p c.remove.new.self.slot c.args.two c.link-remembered.result (c.args.one ∷ []) (c.args.three ∷ [])
+  fits = fits_read c.remove.ensures.slot c.requires.slot c.link-remembered.ensures
+      (c.remove.ensures.remembers (c.args.one ∷ []) (c.args.three ∷ []) c.requires.list)
 
 pub remove-requires : goal.remove-requires
 remove-requires g c = (c.args.one ∷ [], c.args.three ∷ [], c.requires.list)
 
 pub assert_list-requires : goal.assert_list-requires
-assert_list-requires g c =
-    let two = c.args.two in let xs = c.args.one ∷ [] in let ys = c.args.three ∷ [] in let h = c.requires.list in
-    let gone = c.remove.ensures.list xs ys h in let was = c.remove.ensures.remembers xs ys h in
-    (c.args.one ∷ c.args.three ∷ [], gone)
+assert_list-requires g c = (c.args.one ∷ c.args.three ∷ [], gone g (goal.at.assert_list-requires g c).After-remove)
 
 pub link-remembered-requires-clause-held : goal.link-remembered-requires-clause-held
 link-remembered-requires-clause-held g c =
-    let two = c.args.two in let xs = c.args.one ∷ [] in let ys = c.args.three ∷ [] in let h = c.requires.list in
-    let gone = c.remove.ensures.list xs ys h in let was = c.remove.ensures.remembers xs ys h in
-    let p = was.placed in p.held
+    let was = c.remove.ensures.remembers (c.args.one ∷ []) (c.args.three ∷ []) c.requires.list in was.placed.held
 
 pub link-remembered-requires-clause-slot : goal.link-remembered-requires-clause-slot
 link-remembered-requires-clause-slot g c =
-    let two = c.args.two in let xs = c.args.one ∷ [] in let ys = c.args.three ∷ [] in let h = c.requires.list in
-    let gone = c.remove.ensures.list xs ys h in let was = c.remove.ensures.remembers xs ys h in
-    let b = gone.buckets in subst (λ z. z < c.remove.new.p.slots) (c.remove.ensures.slot ∙ c.requires.slot) b.slot
+    let gone = gone g (goal.at.link-remembered-requires-clause-slot g c).After-remove in
+    subst (λ z. z < c.remove.new.p.slots) (c.remove.ensures.slot ∙ c.requires.slot) gone.buckets.slot
 
 pub relink-requires : goal.relink-requires
 relink-requires g c =
-    let two = c.args.two in let xs = c.args.one ∷ [] in let ys = c.args.three ∷ [] in let h = c.requires.list in
-    let gone = c.remove.ensures.list xs ys h in let was = c.remove.ensures.remembers xs ys h in
-    let same : link_of c.remove.new.p two.name c.args.chains.now.slot ≡ c.link-remembered.result =
-    ap (link_of c.remove.new.p two.name) c.requires.slot ∙ sym c.link-remembered.ensures in
-    let fits : FitsBetween number_keying c.remove.new.p c.remove.new.self.slot two c.link-remembered.result xs ys =
-    subst (λ (z : ℕ × Link). FitsBetween number_keying c.remove.new.p z.0 two z.1 xs ys) (λ i. (sym c.remove.ensures.slot i, same i)) was in
-    (xs, ys, gone, fits)
+    let o = goal.at.relink-requires g c in (c.args.one ∷ [], c.args.three ∷ [], gone g o.After-remove, fits g o.After-link-remembered)
 
 pub returns-clause-list : goal.returns-clause-list
 returns-clause-list g c =
-    let two = c.args.two in let xs = c.args.one ∷ [] in let ys = c.args.three ∷ [] in let h = c.requires.list in
-    let gone = c.remove.ensures.list xs ys h in let was = c.remove.ensures.remembers xs ys h in
-    let same : link_of c.remove.new.p two.name c.args.chains.now.slot ≡ c.link-remembered.result =
-    ap (link_of c.remove.new.p two.name) c.requires.slot ∙ sym c.link-remembered.ensures in
-    let fits : FitsBetween number_keying c.remove.new.p c.remove.new.self.slot two c.link-remembered.result xs ys =
-    subst (λ (z : ℕ × Link). FitsBetween number_keying c.remove.new.p z.0 two z.1 xs ys) (λ i. (sym c.remove.ensures.slot i, same i)) was in
-    c.relink.ensures.list xs ys gone fits
+    let o = goal.at.returns-clause-list g c in
+    c.relink.ensures.list (c.args.one ∷ []) (c.args.three ∷ []) (gone g o.After-remove) (fits g o.After-link-remembered)

@@ -1,17 +1,8 @@
-use Rattle.std.proofs.Common.{sym, subst}
-use Rattle.mi_node.specs.Pool.{IsHeldIf}
-use Rattle.mi_structures.specs.Keyed.{keyed_order, key_tag}
-use Rattle.mi_tree.specs.Standing.{IsTree}
-use Rattle.mi_structures.proofs.StockLemmas.{tree_held, first_held}
+use Rattle.mi_structures.proofs.StockLemmas.{tree_read, first_held}
 use Rattle.mi_structures.proofs.tests.trees.stock.Stock.upper.Goals as goal
 
 pub upper-node-requires : goal.upper-node-requires
-upper-node-requires c =
-    let h = c.self.invariant in let s = c.self.inside in
-    (h.rs, subst (λ z. IsTree s.tree z keyed_order (key_tag s.tree.order.tagged) h.rs) (sym c.new.ensures.pool) h.tree)
+upper-node-requires c = let h = c.self.invariant in (h.rs, tree_read h c.new.ensures.pool)
 
 pub id_of-requires : goal.id_of-requires
-id_of-requires c =
-    let h = c.self.invariant in let s = c.self.inside in let b = s.tree.order.tagged in
-    let is = c.upper-node.ensures.node h.rs (subst (λ z. IsTree s.tree z keyed_order (key_tag b) h.rs) (sym c.new.ensures.pool) h.tree) in
-    subst (IsHeldIf s.pool) (sym is) (first_held s.pool _ h.rs (tree_held b s.tree s.pool h.rs h.tree))
+id_of-requires c = let h = c.self.invariant in first_held h _ (c.upper-node.ensures.node h.rs (tree_read h c.new.ensures.pool))
