@@ -229,7 +229,6 @@ module _ {T : Type 0} where
     pub steps : step + height u ≤ step0 + height t
 
   module _ {m : Pooled T} {s : ℕ} {tag : T → ℕ} {f : Ref → Bool} {root : Option Ref} where
-
     module _ {at : Option Ref} {r : Ref} {y : Link} {found : Option Ref} {a b c d : ℕ}
         (h : Seeking m s tag f root at found a b c d) (e : at ≡ Some r) (i : y ≡ link_of m r.name s) where
       pub seek_held : IsHeld m r
