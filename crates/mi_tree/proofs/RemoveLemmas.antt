@@ -1,14 +1,14 @@
 -- A node less in a subtree, and then in the whole.
-use Rattle.std.proofs.Common.{◌≡◌, ℕ, ◌+◌, ◌^◌, ◌<◌, ◌≤◌, max, List, [], ◌∷◌, ◌++◌, length, Option, Some, None, refl, sym, ap, ◌∙◌, subst, arith, length-append}
+use Rattle.std.proofs.Common.{◌≡◌, ℕ, ◌+◌, ◌≤◌, max, List, [], ◌∷◌, ◌++◌, length, Option, Some, None, refl, sym, ap, ◌∙◌, subst, arith, length-append}
 use Rattle.mi_node.specs.Pool.{Pooled, link_of, IsHeld}
 use Rattle.mi_node.specs.declared.link.Link.{Link}
 use Rattle.mi_node.specs.Refs.{Ref, IsOut, IsApart}
 use Rattle.mi_node.proofs.RefLemmas.{out_left, out_right, out_both, apart_right, apart_across, apart_remove, between}
 use Rattle.mi_node.proofs.KeepingLemmas.{keeps_then, keeps_more, keeps_none, held_kept}
-use Rattle.mi_tree.specs.BinaryTree.{BinaryTree, Tip, Fork, nodes, size, height, DifferByAtMost, IsEven, Stands, height_at}
+use Rattle.mi_tree.specs.BinaryTree.{BinaryTree, Tip, Fork, nodes, size, height, fork_link, DifferByAtMost, IsEven, Stands}
 use Rattle.mi_tree.specs.Joining.{AreSides, IsBalanced}
 use Rattle.mi_tree.specs.Sorted.{CanTake, HasTaken, AreEnds, AreAppended}
-use Rattle.mi_tree.proofs.BinaryTreeLemmas.{moved, opened, tip_is, height-root, size-nodes}
+use Rattle.mi_tree.proofs.BinaryTreeLemmas.{moved, sides, tip_is, size-nodes}
 use Rattle.mi_tree.proofs.JoinLemmas.{rooted_kept}
 
 -- heights after the first node of the right side became the root
@@ -74,38 +74,24 @@ module _ {T : Type 0} where
     pub held_root : IsHeld m root
     pub even : IsEven (Fork A root B)
     pub apart : IsApart (nodes A ++ root ∷ nodes B)
-    pub fits : size A + size B + 1 < 2 ^ 32
-    pub left_lower : height_at m s y.back < height t
-    pub right_lower : height_at m s y.forth < height t
-    pub size_is : y.size ≡ size A + size B + 1
-    pub height_is : y.height ≡ max (height A) (height B) + 1
-    pub tag_is : y.tag ≡ (link_of m root.name s).tag
+    pub size_is : size t ≡ y.size
+    pub link_is : y ≡ fork_link A B y.tag
 
   pub take_opened : (m : Pooled T) (s : ℕ) (at : Option Ref) (root : Ref) (y : Link) (t : BinaryTree)
       → CanTake m s at t → at ≡ Some root → y ≡ link_of m root.name s → TakeOpened m s root y t
   take_opened m s at root y t h e i =
-      let o = opened m s root t (moved m m s at (Some root) t refl e h.rooted) in
-      let A = nodes o.left in let B = nodes o.right in
-      let names = ap nodes o.is in let even = subst IsEven o.is h.even in let apart = subst IsApart names h.apart in
-      let a = moved m m s _ y.back o.left refl (sym (ap (λ (z : Link). z.back) i)) o.left_is in
-      let b = moved m m s _ y.forth o.right refl (sym (ap (λ (z : Link). z.forth) i)) o.right_is in
-      let w = between A root B apart in
-      let sizes = ap size o.is in let heights = ap height o.is in let f = h.fits in
-      let ha = height-root m s y.back o.left a in let hb = height-root m s y.forth o.right b in record {
-        A = o.left;
-        B = o.right;
+      let o = sides m s at root y t h.rooted e i in let even = subst IsEven o.is h.even in let apart = subst IsApart (ap nodes o.is) h.apart in
+      let w = between (nodes o.A) root (nodes o.B) apart in let sizes = ap size o.is in let f = h.fits in record {
+        A = o.A;
+        B = o.B;
         is = o.is;
-        left = record { rooted = a; even = even.1; apart = w.left; fits = omega arith };
-        right = record { rooted = b; even = even.2; apart = w.right; fits = omega arith };
+        left = record { rooted = o.left; even = even.1; apart = w.left; fits = omega arith };
+        right = record { rooted = o.right; even = even.2; apart = w.right; fits = omega arith };
         held_root = o.held;
         even = even;
         apart = apart;
-        fits = omega arith;
-        left_lower = omega arith;
-        right_lower = omega arith;
-        size_is = ap (λ (z : Link). z.size) i ∙ ap (λ (z : Link). z.size) o.link;
-        height_is = ap (λ (z : Link). z.height) i ∙ ap (λ (z : Link). z.height) o.link;
-        tag_is = ap (λ (z : Link). z.tag) i;
+        size_is = sizes ∙ sym o.size_is;
+        link_is = o.link_is;
       }
 
   -- two trees
