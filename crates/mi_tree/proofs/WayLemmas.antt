@@ -344,7 +344,7 @@ module _ {T : Type 0} where
       let o = sided m s true r q u below y at (size u) h t rooted even near beside other held link stands apart fits in
       let e = settled_heights h (height q) (height u) y.height (ap (λ (z : Link). z.height) link) high beside in (
         record {
-          two = plain_parts m s below r y.forth u q o.2.sides;
+          two = plain_parts o.2.sides;
           size_is = ap (λ (z : Link). z.size) link;
           height_is = e.0;
           tag_is = tag;
@@ -356,7 +356,7 @@ module _ {T : Type 0} where
       let e = settled_heights h (height q) (height u) y.height
       (ap (λ (z : Link). z.height) link ∙ ap (λ j. j + 1) (max_turned (height q) h)) high beside in (
         record {
-          two = plain_parts m s y.back r below q u o.2.sides;
+          two = plain_parts o.2.sides;
           size_is = ap (λ (z : Link). z.size) link;
           height_is = e.0 ∙ ap (λ j. j + 1) (max_turned (height u) (height q));
           tag_is = tag;
