@@ -56,5 +56,6 @@ returns-else-passed-before-clause-way g t c levels xs u h =
     let o = goal.at.returns-else-passed-before-clause-way g t c in let same = pool_is g t o.After-size-before in let d = c.args.direction in
     let on = entered h c.in-Some.is c.link-link.ensures.link in let count = count_is g t o.After-size-before on.left on.left_is in
     let k = c.args.passed - c.size-before.result - 1 in let is : c.args.passed ≡ length (nodes on.left) + suc k = omega (arith, c.if-passed-before.false) in
-    let far = c.cut_down-else-passed-before.ensures.way levels _ on.right (enters_right d on same c.is_ascending-else-passed-before.ensures c.push_if-else-passed-before.ensures) in
+    let far = c.cut_down-else-passed-before.ensures.way levels _ on.right (enters_right d on same c.is_ascending-else-passed-before.ensures
+    c.push_if-else-passed-before.ensures) in
     (far.0, goes_moved same far.1, way_right d on.left c.in-Some.node on.right u xs far.0 c.args.passed k on.is is far.2)

@@ -75,7 +75,8 @@ pub find_down-requires-in-Greater : goal.find_down-requires-in-Greater
 find_down-requires-in-Greater g t c κs within =
     let o = goal.at.find_down-requires-in-Greater g t c in let h = sought g t o.In-Some in let tag = g.O.NodeOrder.tag_of c.args.order.now in
     let s = c.args.slot in let i = c.link-link.ensures.link in let same = c.link-link.ensures.pool in let total = g.met.O.NodeOrder.total c.args.order.now in
-    let on = find_right total h c.in-Some.is i same (side_found g t o.After-compare_nodes ∙ c.in-Greater.is) c.is_ascending-in-Greater.ensures c.push_if-in-Greater.ensures in
+    let on = find_right total h c.in-Some.is i same (side_found g t o.After-compare_nodes ∙ c.in-Greater.is) c.is_ascending-in-Greater.ensures
+    c.push_if-in-Greater.ensures in
     let tags = find_tags total h c.in-Some.is i same tag c.requires.way.8 in
     let falls = enters_lower c.args.direction (entered h.enters c.in-Some.is i) same c.in-Some.is in
     (omega (arith, c.decreases, falls.1), (within.0, (within.1, (slot-moved s same c.requires.slot, (tag_kept g t o.After-link-link, way_of tag on.1 tags.2)))))
@@ -100,5 +101,6 @@ returns-in-Greater-clause-way g t c levels xs u vs ws h can up e =
     let o = goal.at.returns-in-Greater-clause-way g t c in let i = c.link-link.ensures.link in let same = c.link-link.ensures.pool in
     let total = g.met.O.NodeOrder.total c.args.order.now in
     let k = finding h can up e in
-    let on = find_right total k c.in-Some.is i same (side_found g t o.After-compare_nodes ∙ c.in-Greater.is) c.is_ascending-in-Greater.ensures c.push_if-in-Greater.ensures in
+    let on = find_right total k c.in-Some.is i same (side_found g t o.After-compare_nodes ∙ c.in-Greater.is) c.is_ascending-in-Greater.ensures
+    c.push_if-in-Greater.ensures in
     found_right total k c.in-Some.is i same on.0 on.2 (c.find_down-in-Greater.ensures.way _ _ _ _ _ on.1.enters on.1.can on.1.rising on.1.is)
