@@ -142,8 +142,11 @@ module _ {T : Type 0} where
     pub held : IsHeld m r
     pub left : IsRooted m s y.back A
     pub right : IsRooted m s y.forth B
+    pub link_is : y ≡ fork_link A B y.tag
     pub size_is : y.size ≡ size A + size B + 1
     pub height_is : height u ≡ max (height A) (height B) + 1
+    pub left_height : height_at m s y.back ≡ height A
+    pub right_height : height_at m s y.forth ≡ height B
     pub left_lower : height_at m s y.back < height u
     pub right_lower : height_at m s y.forth < height u
 
@@ -161,8 +164,11 @@ module _ {T : Type 0} where
         held = o.held;
         left = a;
         right = b;
+        link_is = i ∙ o.link ∙ ap (λ (z : Link). fork_link o.left o.right z.tag) (sym i);
         size_is = ap (λ (z : Link). z.size) i ∙ ap (λ (z : Link). z.size) o.link;
         height_is = heights;
+        left_height = ha;
+        right_height = hb;
         left_lower = omega arith;
         right_lower = omega arith;
       }

@@ -1,5 +1,5 @@
 -- The way down to a node that stands there.
-use Rattle.std.proofs.Common.{◌≡◌, ℕ, cond, not, List, [], ◌∷◌, ◌++◌, Option, Some, sym, ap, ◌∙◌, subst}
+use Rattle.std.proofs.Common.{◌≡◌, ℕ, Bool, cond, not, List, [], ◌∷◌, ◌++◌, Option, Some, sym, ap, ◌∙◌, subst}
 use Rattle.std.specs.declared.cmp.Ordering.{Ordering}
 use Rattle.std.specs.declared.cmp.Ordering.TheVariants.{Less, Equal, Greater}
 use Rattle.std.specs.Cmp.{IsTotalOrder}
@@ -56,30 +56,31 @@ module _ {T : Type 0} where
     rising_here = subst (Rising (side order m s)) names h.rising
 
     -- the node is in the left side
-    pub find_left : {new : List (Option Ref)} → side order m s node r ≡ Less → new ≡ cond (is_ascending d) (items ++ Some r ∷ []) items
+    pub find_left : {new : List (Option Ref)} {up : Bool} → side order m s node r ≡ Less → up ≡ is_ascending d → new ≡ cond up (items ++ Some r ∷ []) items
         → (zs : List Ref) × Finding n s order d levels new y.back (pend_left d r (place).right xs) (place).left node vs zs
         × (ws ≡ zs ++ r ∷ nodes (place).right)
-    find_left less put =
+    find_left less up put =
         let on = go_left (side order m s) (side_order order m s total) (nodes (place).left) r (nodes (place).right) vs node ws rising_here less
         (where_is (nodes (place).left) r (nodes (place).right) vs node ws (sym names ∙ h.is)) in
         let side_is = subst (λ (z : Pooled T). CanTake z s y.back (place).left × Rising (side order z s) (nodes (place).left)) (sym same) (
           (side_take m s at r y t h.can e i (place).left (place).right (place).is).0,
           rising_left (side order m s) (nodes (place).left) (r ∷ nodes (place).right) rising_here,
         ) in
-        (on.0, record { enters = enters_left d place same put; can = side_is.0; rising = side_is.1; is = on.1 }, on.2)
+        (on.0, record { enters = enters_left d place same up put; can = side_is.0; rising = side_is.1; is = on.1 }, on.2)
 
     -- the node is in the right side
-    pub find_right : {new : List (Option Ref)} → side order m s node r ≡ Greater → new ≡ cond (not (is_ascending d)) (items ++ Some r ∷ []) items
+    pub find_right : {new : List (Option Ref)} {up : Bool} → side order m s node r ≡ Greater → up ≡ is_ascending d
+        → new ≡ cond (not up) (items ++ Some r ∷ []) items
         → (zs : List Ref) × Finding n s order d levels new y.forth (pend_right d r (place).left xs) (place).right node zs ws
         × (vs ≡ nodes (place).left ++ r ∷ zs)
-    find_right more put =
+    find_right more up put =
         let on = go_right (side order m s) (side_order order m s total) (nodes (place).left) r (nodes (place).right) vs node ws rising_here more
         (where_is (nodes (place).left) r (nodes (place).right) vs node ws (sym names ∙ h.is)) in
         let side_is = subst (λ (z : Pooled T). CanTake z s y.forth (place).right × Rising (side order z s) (nodes (place).right)) (sym same) (
           (side_take m s at r y t h.can e i (place).left (place).right (place).is).1,
           (rising_right (side order m s) (nodes (place).left) (r ∷ nodes (place).right) rising_here).1,
         ) in
-        (on.0, record { enters = enters_right d place same put; can = side_is.0; rising = side_is.1; is = on.2 }, on.1)
+        (on.0, record { enters = enters_right d place same up put; can = side_is.0; rising = side_is.1; is = on.2 }, on.1)
 
     -- the node is the one between
     pub find_here : {new : List (Option Ref)} → side order m s node r ≡ Equal → new ≡ items ++ Some r ∷ [] → Found m s d levels new xs node vs ws

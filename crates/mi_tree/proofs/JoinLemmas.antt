@@ -1,5 +1,5 @@
 -- What a new link of one node does to the trees.
-use Rattle.std.proofs.Common.{◌≡◌, ℕ, ◌+◌, ◌==◌, true, false, max, List, [], ◌∷◌, ◌++◌, Option, Some, refl, sym, ap, ◌∙◌, subst, arith, append_assoc}
+use Rattle.std.proofs.Common.{◌≡◌, ℕ, ◌+◌, ◌^◌, ◌<◌, ◌==◌, true, false, max, List, [], ◌∷◌, ◌++◌, Option, Some, refl, sym, ap, ◌∙◌, subst, arith}
 use Rattle.mi_node.specs.Pool.{Pooled, IsHeld, link_of, with_link, Keeps}
 use Rattle.mi_node.specs.declared.link.Link.{Link}
 use Rattle.mi_node.specs.declared.link.Tag.{Tag}
@@ -7,11 +7,11 @@ use Rattle.mi_node.proofs.EntryLemmas.{link_here, link_there, same_name}
 use Rattle.mi_node.proofs.KeepingLemmas.{keeps_link, held_kept}
 use Rattle.mi_node.specs.Refs.{Ref, IsOut, IsApart, AreOut}
 use Rattle.mi_node.proofs.RefLemmas.{out_left, out_right, between, are_out_none, are_out_cons}
-use Rattle.mi_tree.specs.BinaryTree.{BinaryTree, Tip, Fork, nodes, fork_link, Stands, IsRooted, size_at, height_at}
+use Rattle.mi_tree.specs.BinaryTree.{BinaryTree, Tip, Fork, nodes, size, height, fork_link, Stands, IsRooted, size_at, height_at}
 use Rattle.mi_tree.specs.Joining.{Two, IsFork, Three, Four}
 use Rattle.mi_tree.specs.Sorted.{SameTags}
 use Rattle.mi_tree.proofs.BinaryTreeLemmas.{size-root, height-root}
-use Rattle.mi_tree.proofs.ApartLemmas.{thrice}
+use Rattle.mi_tree.proofs.ApartLemmas.{Thrice, thrice}
 
 cut_out : (xs : List Ref) (r : Ref) (ys us : List Ref) → AreOut (xs ++ r ∷ ys) us → AreOut xs us × IsOut r.name us × AreOut ys us
 cut_out [] r ys us a = (tt, a.0, a.1)
@@ -84,98 +84,47 @@ module _ {T : Type 0} where
       let c = height-root m s y.back A h.first in let d = height-root m s y.forth B h.second in
       record { two = h; size_is = omega arith; height_is = f ∙ (λ i. max (c i) (d i) + 1); tag_is = g }
 
-  module _ (s : ℕ) (m n : Pooled T) (a : Option Ref) (x : Ref) (b : Option Ref) (y : Ref) (c : Option Ref) (A B C : BinaryTree)
-      (h : Three m s a x b y c A B C) where
-    pub down_low : Two m s b y c B C
-    down_low =
-        let o = thrice (nodes A) x (nodes B) y (nodes C) h.apart in
-        let f = h.fits in let w = h.low in
-        record {
-          first = h.second;
-          held = h.held_y;
-          second = h.third;
-          out_first = o.y_B;
-          out_second = o.y_C;
-          fits = omega arith;
-          low = (omega arith, omega arith);
-        }
+  -- two trees and a node that stand apart and are small enough may be put together
+  pub two : {m : Pooled T} {s : ℕ} {a : Option Ref} {x : Ref} {b : Option Ref} {A B : BinaryTree} → IsRooted m s a A → IsHeld m x → IsRooted m s b B
+      → IsApart (nodes A ++ x ∷ nodes B) → size A + size B + 1 < 2 ^ 32 → (height A < 255) × (height B < 255) → Two m s a x b A B
+  two {x = x} {A = A} {B} f h g apart fits low = let w = between (nodes A) x (nodes B) apart in
+      record { first = f; held = h; second = g; out_first = w.out_left; out_second = w.out_right; fits = fits; low = low }
 
-    pub down_high : Keeps m n s (y ∷ []) → IsRooted n s (Some y) (Fork B y C) → Two n s a x (Some y) A (Fork B y C)
-    down_high k r = let o = thrice (nodes A) x (nodes B) y (nodes C) h.apart in let f = h.fits in let w = h.low in record {
-      first = rooted_past s m n y a A k o.y_A h.first;
-      held = held_kept s m n (y ∷ []) x k h.held_x;
-      second = r;
-      out_first = o.x_A;
-      out_second = o.x_BC;
-      fits = omega arith;
-      low = (omega arith, omega arith);
-    }
+  module _ {m : Pooled T} {s : ℕ} {a : Option Ref} {x : Ref} {b : Option Ref} {y : Ref} {c : Option Ref} {A B C : BinaryTree}
+      (h : Three m s a x b y c A B C) where
+    parted : Thrice (nodes A) x (nodes B) y (nodes C)
+    parted = thrice (nodes A) x (nodes B) y (nodes C) h.apart
+
+    pub down_low : Two m s b y c B C
+    down_low = let f = h.fits in let w = h.low in two h.second h.held_y h.third parted.low_right (omega arith) (omega arith, omega arith)
+
+    pub down_high : {n : Pooled T} → Keeps m n s (y ∷ []) → IsRooted n s (Some y) (Fork B y C) → Two n s a x (Some y) A (Fork B y C)
+    down_high {n} k r = let f = h.fits in let w = h.low in
+        two (rooted_past s m n y a A k parted.y_A h.first) (held_kept s m n (y ∷ []) x k h.held_x) r h.apart (omega arith) (omega arith, omega arith)
 
     pub up_low : Two m s a x b A B
-    up_low =
-        let o = thrice (nodes A) x (nodes B) y (nodes C) h.apart in
-        let f = h.fits in let w = h.low in
-        record {
-          first = h.first;
-          held = h.held_x;
-          second = h.second;
-          out_first = o.x_A;
-          out_second = o.x_B;
-          fits = omega arith;
-          low = (omega arith, omega arith);
-        }
+    up_low = let f = h.fits in let w = h.low in two h.first h.held_x h.second parted.low_left (omega arith) (omega arith, omega arith)
 
-    pub up_high : Keeps m n s (x ∷ []) → IsRooted n s (Some x) (Fork A x B) → Two n s (Some x) y c (Fork A x B) C
-    up_high k r = let o = thrice (nodes A) x (nodes B) y (nodes C) h.apart in let f = h.fits in let w = h.low in record {
-      first = r;
-      held = held_kept s m n (x ∷ []) y k h.held_y;
-      second = rooted_past s m n x c C k o.x_C h.third;
-      out_first = o.y_AB;
-      out_second = o.y_C;
-      fits = omega arith;
-      low = (omega arith, omega arith);
-    }
+    pub up_high : {n : Pooled T} → Keeps m n s (x ∷ []) → IsRooted n s (Some x) (Fork A x B) → Two n s (Some x) y c (Fork A x B) C
+    up_high {n} k r = let f = h.fits in let w = h.low in
+        two r (held_kept s m n (x ∷ []) y k h.held_y) (rooted_past s m n x c C k parted.x_C h.third) parted.turned (omega arith) (omega arith, omega arith)
 
-  module _ (s : ℕ) (m n o : Pooled T) (a : Option Ref) (x : Ref) (b : Option Ref) (y : Ref) (c : Option Ref)
-      (z : Ref) (d : Option Ref) (A B C D : BinaryTree) (h : Four m s a x b y c z d A B C D) where
+  module _ {m : Pooled T} {s : ℕ} {a : Option Ref} {x : Ref} {b : Option Ref} {y : Ref} {c : Option Ref} {z : Ref} {d : Option Ref} {A B C D : BinaryTree}
+      (h : Four m s a x b y c z d A B C D) where
+    halves : Thrice (nodes A) x (nodes B) y (nodes C ++ z ∷ nodes D)
+    halves = thrice (nodes A) x (nodes B) y (nodes C ++ z ∷ nodes D) h.apart
+
     pub both_left : Two m s a x b A B
-    both_left = let i = thrice (nodes A) x (nodes B) y (nodes C ++ z ∷ nodes D) h.apart in let f = h.fits in let w = h.low in
-        record {
-          first = h.first;
-          held = h.held_x;
-          second = h.second;
-          out_first = i.x_A;
-          out_second = i.x_B;
-          fits = omega arith;
-          low = (omega arith, omega arith);
-        }
+    both_left = let f = h.fits in let w = h.low in two h.first h.held_x h.second halves.low_left (omega arith) (omega arith, omega arith)
 
-    pub both_right : Keeps m n s (x ∷ []) → Two n s c z d C D
-    both_right k =
-        let i = thrice (nodes A) x (nodes B) y (nodes C ++ z ∷ nodes D) h.apart in
-        let j = between (nodes C) z (nodes D) i.right in let f = h.fits in let w = h.low in
-        record {
-          first = rooted_past s m n x c C k (out_left x.name (nodes C) (z ∷ nodes D) i.x_C) h.third;
-          held = held_kept s m n (x ∷ []) z k h.held_z;
-          second = rooted_past s m n x d D k (out_right x.name (nodes C) (z ∷ nodes D) i.x_C).1 h.fourth;
-          out_first = j.out_left;
-          out_second = j.out_right;
-          fits = omega arith;
-          low = (omega arith, omega arith);
-        }
+    pub both_right : {n : Pooled T} → Keeps m n s (x ∷ []) → Two n s c z d C D
+    both_right {n} k = let f = h.fits in let w = h.low in
+        two (rooted_past s m n x c C k (out_left x.name (nodes C) (z ∷ nodes D) halves.x_C) h.third) (held_kept s m n (x ∷ []) z k h.held_z)
+        (rooted_past s m n x d D k (out_right x.name (nodes C) (z ∷ nodes D) halves.x_C).1 h.fourth) halves.right (omega arith) (omega arith, omega arith)
 
-    pub both_top : Keeps m n s (x ∷ []) → IsRooted n s (Some x) (Fork A x B) → Keeps n o s (z ∷ [])
+    pub both_top : {n o : Pooled T} → Keeps m n s (x ∷ []) → IsRooted n s (Some x) (Fork A x B) → Keeps n o s (z ∷ [])
         → IsRooted o s (Some z) (Fork C z D) → Two o s (Some x) y (Some z) (Fork A x B) (Fork C z D)
-    both_top k r l u = let i = thrice (nodes A) x (nodes B) y (nodes C ++ z ∷ nodes D) h.apart in
-        let j = thrice (nodes A ++ x ∷ nodes B) y (nodes C) z (nodes D)
-        (subst IsApart (sym (append_assoc (nodes A) (x ∷ nodes B) (y ∷ nodes C ++ z ∷ nodes D))) h.apart) in
-        let f = h.fits in let w = h.low in
-        record {
-          first = rooted_past s n o z (Some x) (Fork A x B) l j.y_A r;
-          held = held_kept s n o (z ∷ []) y l (held_kept s m n (x ∷ []) y k h.held_y);
-          second = u;
-          out_first = i.y_AB;
-          out_second = i.y_C;
-          fits = omega arith;
-          low = (omega arith, omega arith);
-        }
+    both_top {n} {o} k r l u = let f = h.fits in let w = h.low in
+        let z_out = (thrice (nodes A ++ x ∷ nodes B) y (nodes C) z (nodes D) halves.turned).y_A in
+        two (rooted_past s n o z (Some x) (Fork A x B) l z_out r) (held_kept s n o (z ∷ []) y l (held_kept s m n (x ∷ []) y k h.held_y)) u
+        halves.turned (omega arith) (omega arith, omega arith)

@@ -8,24 +8,20 @@ use Rattle.std.specs.Cmp.{IsTotalOrder}
 use Rattle.mi_node.specs.Pool.{Pooled, link_of, with_link, IsHeld, Keeps}
 use Rattle.mi_node.specs.declared.link.Link.{Link}
 use Rattle.mi_node.specs.Refs.{Ref, IsOut, IsApart}
-use Rattle.mi_node.proofs.EntryLemmas.{link_here}
-use Rattle.mi_node.proofs.KeepingLemmas.{keeps_none, keeps_link, keeps_then, held_kept}
-use Rattle.mi_node.proofs.RefLemmas.{out_left, out_right, out_both, between}
+use Rattle.mi_node.proofs.KeepingLemmas.{keeps_none, keeps_then}
+use Rattle.mi_node.proofs.RefLemmas.{out_left, out_right, out_both}
 use Rattle.mi_tree.specs.BinaryTree.{BinaryTree, Tip, Fork, nodes, top, size, height, IsEven, fork_link, IsRooted, height_at}
 use Rattle.mi_tree.specs.Sorted.{Rising, AreTagged, SameTags, CanTake, HasTaken, AreEnds, AreAppended, side}
-use Rattle.mi_tree.specs.Ways.{Frame, forked, forked_link, plug, risen, IsLevel, Above, Sinks, HasSunk, Climbs, HasClimbed}
+use Rattle.mi_tree.specs.Ways.{Frame, forked, plug, risen, IsLevel, Sinks, HasSunk, Climbs, HasClimbed}
 use Rattle.mi_tree.specs.declared.way.Turn.{Turn}
 use Rattle.mi_tree.proofs.BinaryTreeLemmas.{moved, opened, tip_is, size-nodes, height-root}
-use Rattle.mi_tree.proofs.JoinLemmas.{rooted_past, tags_set}
 use Rattle.mi_tree.proofs.HeightLemmas.{low_enough}
 use Rattle.mi_tree.proofs.RemoveLemmas.{TakeOpened, take_opened, out_less, apart_less}
-use Rattle.mi_tree.proofs.SortedLemmas.{side_order, where_is, go_left, go_here, go_right, rising_left, rising_right, tagged_left, tagged_right}
+use Rattle.mi_tree.proofs.SortedLemmas.{side_order, where_is, go_left, go_here, go_right, tagged_right}
 use Rattle.mi_tree.proofs.StandingLemmas.{rising_kept, tagged_kept}
 use Rattle.mi_tree.proofs.WayLemmas.{frame, path_length, above_moved, above_kept, even_moved, plug_apart, plug_out, plug_size, plug_height, root_above}
-
--- one less in a size
-abbrev pub shrunk_link : Link → Link
-shrunk_link y = record { back = y.back; forth = y.forth; size = y.size - 1; height = y.height; tag = y.tag }
+use Rattle.mi_tree.proofs.WayLemmas.{sized_link, one_less, forked_rising, forked_tagged, OnSide, on_side, beside_on, room_on}
+use Rattle.mi_tree.proofs.WayLemmas.{sized_keeps, sized_tags, sized_can, sized_lower, sized_above}
 
 has_one : (t : BinaryTree) (xs : List Ref) (x : Ref) (ys : List Ref) → nodes t ≡ xs ++ x ∷ ys → 1 ≤ size t
 has_one t xs x ys e = let a = size-nodes t in let b = ap length e in let c = length-append xs (x ∷ ys) in omega arith
@@ -98,106 +94,59 @@ module _ {T : Type 0} where
 
   module _ {m n : Pooled T} {s : ℕ} {items : List (Option Turn)} {at : Option Ref} {here : Ref}
       {y : Link} {fs : List Frame} {t : BinaryTree} {xs : List Ref} {x : Ref} {ys vs ws : List Ref}
-      (h : Sinks m s items at fs t xs x ys vs ws) (e : at ≡ Some here) (i : y ≡ link_of m here.name s) (set : n ≡ with_link m here.name s (shrunk_link y)) where
+      (h : Sinks m s items at fs t xs x ys vs ws) (e : at ≡ Some here) (i : y ≡ link_of m here.name s)
+      (set : n ≡ with_link m here.name s (sized_link (y.size - 1) y)) where
     open_here : TakeOpened m s here y t
     open_here = take_opened m s at here y t h.can e i
 
     pub keeps_here : Keeps m n s (here ∷ [])
-    keeps_here = subst (λ k. Keeps m k s (here ∷ [])) (sym set) (keeps_link s m here (shrunk_link y))
+    keeps_here = sized_keeps open_here i _ set
 
     pub tags_here : SameTags m n s
-    tags_here = tags_set s m n here (shrunk_link y) set open_here.held_root (ap (λ (z : Link). z.tag) i)
+    tags_here = sized_tags open_here i _ set
 
-    here_link : link_of n here.name s ≡ shrunk_link y
-    here_link = ap (λ k. link_of k here.name s) set ∙ link_here m here s (shrunk_link y) open_here.held_root
-
-    can_kept : (bt : Option Ref) (z : BinaryTree) → IsOut here.name (nodes z) → CanTake m s bt z → CanTake n s bt z
-    can_kept bt z out c = record { rooted = rooted_past s m n here bt z keeps_here out c.rooted; even = c.even; apart = c.apart; fits = c.fits }
-
-    above_here : (bt : Option Ref) (k j : ℕ) → at ≡ bt → size t - 1 ≡ k → height t ≡ j → Above n s fs bt k j
-    above_here bt k j f p q = above_moved n s fs _ _ _ _ _ _ f p q
-        (above_kept s m n (here ∷ []) fs t _ _ _ keeps_here h.apart
-        (λ w out. let u = subst (λ z. IsOut w (nodes z)) open_here.is out in ((out_right w (nodes open_here.A) (here ∷ nodes open_here.B) u).0, tt))
-        h.above)
+    abbrev at_side : (b : Bool) → OnSide m s b here y t
+    at_side b = on_side b open_here
 
     abbrev turn : Bool → Turn
     turn b = record { node = here; left = b }
 
+    -- the way goes on to a side where the node stands between us and zs
     record Lowered (b : Bool) (us zs : List Ref) : Type 0 where
-      pub sub : BinaryTree
-      pub other : BinaryTree
-      pub is : t ≡ forked b sub here other
-      pub sinks : Sinks n s (items ++ Some (turn b) ∷ []) (cond b y.back y.forth) (frame (turn b) other ∷ fs) sub us x zs vs ws
+      pub sinks : Sinks n s (items ++ Some (turn b) ∷ []) (cond b y.back y.forth) (frame (turn b) (at_side b).other ∷ fs) (at_side b).sub us x zs vs ws
       pub among : (j : ℕ) → IsOut j (xs ++ ys) → IsOut j (here ∷ []) × IsOut j (us ++ zs)
-      pub lower : height_at n s (cond b y.back y.forth) < height_at m s at
+
+    lowered_on : (b : Bool) (us zs : List Ref) → nodes (at_side b).sub ≡ us ++ x ∷ zs
+        → ((u : BinaryTree) → nodes u ≡ us ++ zs → nodes (forked b u here (at_side b).other) ≡ xs ++ ys)
+        → ((j : ℕ) → IsOut j (xs ++ ys) → IsOut j (here ∷ []) × IsOut j (us ++ zs)) → Lowered b us zs
+    lowered_on b us zs has places among = let k = on_side b open_here in record {
+      sinks = record {
+        path_is = ap (λ z. z ++ Some (turn b) ∷ []) h.path_is;
+        can = sized_can open_here i _ set k;
+        has = has;
+        above = sized_above open_here i _ set k fs (size k.sub - 1) e h.apart (ap (λ z. z - 1) open_here.size_is)
+            (ap (λ z. z - 1) k.size_is ∙ one_less b (size k.sub) (size k.other) (has_one k.sub us x zs has)) h.above;
+        beside = beside_on k fs h.beside;
+        apart = subst (λ z. IsApart (nodes (plug fs z))) k.is h.apart;
+        places = λ u p. h.places (forked b u here k.other) (places u p);
+        room = room_on k fs h.room;
+      };
+      among = among;
+    }
 
     lowered_left : (zs : List Ref) → nodes open_here.A ≡ xs ++ x ∷ zs → ys ≡ zs ++ here ∷ nodes open_here.B → Lowered true xs zs
-    lowered_left zs f g =
-        let o = open_here in let A = o.A in let B = o.B in let w = between (nodes A) here (nodes B) o.apart in
-        let sizes = ap size o.is in let heights = ap height o.is in let room = h.room in
-        let one = has_one A xs x zs f in
-        let link : shrunk_link y ≡ forked_link true y.back (size A - 1) (height A) B y.tag =
-        let z = o.size_is in
-        let long : y.size - 1 ≡ size A - 1 + size B + 1 = omega arith in
-        (λ j. record { back = y.back; forth = o.right.rooted.root j; size = long j; height = o.height_is j; tag = y.tag }) in
-        let can = can_kept y.back A w.out_left o.left in let ha = height-root n s y.back A can.rooted in let ht = height-root m s at t h.can.rooted in record {
-          sub = A;
-          other = B;
-          is = o.is;
-          sinks = record {
-            path_is = ap (λ k. k ++ Some (turn true) ∷ []) h.path_is;
-            can = can;
-            has = f;
-            above = (
-              held_kept s m n (here ∷ []) here keeps_here o.held_root,
-              here_link ∙ link ∙ ap (λ (z : Link). forked_link true y.back (size A - 1) (height A) B z.tag) (sym here_link),
-              (rooted_past s m n here y.forth B keeps_here w.out_right o.right.rooted).stands,
-              above_here (Some here) _ _ e (omega arith) heights,
-            );
-            beside = (o.even.0, o.even.2, even_moved fs _ _ heights h.beside);
-            apart = subst (λ k. IsApart (nodes (plug fs k))) o.is h.apart;
-            places = λ u p. h.places (Fork u here B) (ap (λ k. k ++ here ∷ nodes B) p ∙ append_assoc xs zs (here ∷ nodes B) ∙ ap (λ k. xs ++ k) (sym g));
-            room = omega arith;
-          };
-          among = λ j out. (let right = subst (IsOut j) g (out_right j xs ys out) in
-              (((out_right j zs (here ∷ nodes B) right).0, tt), out_both j xs zs (out_left j xs ys out) (out_left j zs (here ∷ nodes B) right)));
-          lower = omega arith;
-        }
+    unfolding on_side
+    lowered_left zs f g = let B = nodes open_here.B in
+        lowered_on true xs zs f (λ u p. ap (λ k. k ++ here ∷ B) p ∙ append_assoc xs zs (here ∷ B) ∙ ap (λ k. xs ++ k) (sym g))
+        (λ j out. (let right = subst (IsOut j) g (out_right j xs ys out) in
+        (((out_right j zs (here ∷ B) right).0, tt), out_both j xs zs (out_left j xs ys out) (out_left j zs (here ∷ B) right))))
 
     lowered_right : (us : List Ref) → xs ≡ nodes open_here.A ++ here ∷ us → nodes open_here.B ≡ us ++ x ∷ ys → Lowered false us ys
-    lowered_right us f g =
-        let o = open_here in let A = o.A in let B = o.B in let w = between (nodes A) here (nodes B) o.apart in
-        let sizes = ap size o.is in let heights = ap height o.is in let room = h.room in
-        let one = has_one B us x ys g in
-        let link : shrunk_link y ≡ forked_link false y.forth (size B - 1) (height B) A y.tag =
-        let z = o.size_is in
-        let long : y.size - 1 ≡ size A + (size B - 1) + 1 = omega arith in
-        (λ j. record { back = o.left.rooted.root j; forth = y.forth; size = long j; height = o.height_is j; tag = y.tag }) in
-        let can = can_kept y.forth B w.out_right o.right in let hb = height-root n s y.forth B can.rooted in let ht = height-root m s at t h.can.rooted in
-        record {
-          sub = B;
-          other = A;
-          is = o.is;
-          sinks = record {
-            path_is = ap (λ k. k ++ Some (turn false) ∷ []) h.path_is;
-            can = can;
-            has = g;
-            above = (
-              held_kept s m n (here ∷ []) here keeps_here o.held_root,
-              here_link ∙ link ∙ ap (λ (z : Link). forked_link false y.forth (size B - 1) (height B) A z.tag) (sym here_link),
-              (rooted_past s m n here y.back A keeps_here w.out_left o.left.rooted).stands,
-              above_here (Some here) _ _ e (omega arith) heights,
-            );
-            beside = ((o.even.0.1, o.even.0.0), o.even.1, even_moved fs _ _ heights h.beside);
-            apart = subst (λ k. IsApart (nodes (plug fs k))) o.is h.apart;
-            places = λ u p. h.places (Fork A here u) (ap (λ k. nodes A ++ here ∷ k) p
-                ∙ sym (append_assoc (nodes A) (here ∷ us) ys) ∙ ap (λ k. k ++ ys) (sym f));
-            room = omega arith;
-          };
-          among = λ j out. (let left = out_right j (nodes A) (here ∷ us) (subst (IsOut j) f (out_left j xs ys out)) in
-              ((left.0, tt), out_both j us ys left.1 (out_right j xs ys out)));
-          lower = omega arith;
-        }
+    unfolding on_side
+    lowered_right us f g = let A = nodes open_here.A in
+        lowered_on false us ys g (λ u p. ap (λ k. A ++ here ∷ k) p ∙ sym (append_assoc A (here ∷ us) ys) ∙ ap (λ k. k ++ ys) (sym f))
+        (λ j out. (let left = out_right j A (here ∷ us) (subst (IsOut j) f (out_left j xs ys out)) in
+        ((left.0, tt), out_both j us ys left.1 (out_right j xs ys out))))
 
     -- on to the first node
     lowered_first : (left : Ref) → y.back ≡ Some left → xs ≡ [] → (zs : List Ref) × Lowered true xs zs
@@ -211,10 +160,11 @@ module _ {T : Type 0} where
     room_here = let a = h.room in let b = ap length h.path_is in let c = path_length fs in let d = ap height open_here.is in omega arith
 
     sunk_on : (b : Bool) (us zs : List Ref) (k : Lowered b us zs) (v : Pooled T) (last : List (Option Turn)) (gs : List Frame) (A B : BinaryTree)
-        → HasSunk n v s last us x zs vs ws (plug (frame (turn b) k.other ∷ fs) k.sub) gs A B → HasSunk m v s last xs x ys vs ws (plug fs t) gs A B
+        → HasSunk n v s last us x zs vs ws (plug fs (forked b (at_side b).sub here (at_side b).other)) gs A B
+        → HasSunk m v s last xs x ys vs ws (plug fs t) gs A B
     sunk_on b us zs k v last gs A B f = record {
       path_is = f.path_is;
-      whole_is = f.whole_is ∙ sym (ap (plug fs) k.is);
+      whole_is = f.whole_is ∙ sym (ap (plug fs) (at_side b).is);
       rooted = f.rooted;
       even = f.even;
       above = f.above;
@@ -227,12 +177,12 @@ module _ {T : Type 0} where
     abbrev next_of : {new : List (Option Turn)} {next : Option Ref} (b : Bool) (us zs : List Ref) (k : Lowered b us zs)
         → new ≡ items ++ Some (turn b) ∷ [] → next ≡ cond b y.back y.forth → NextSink m n s new at next fs t xs x ys vs ws us
     next_of {new} {next} b us zs k p q = record {
-      gs = frame (turn b) k.other ∷ fs;
-      sub = k.sub;
+      gs = frame (turn b) (at_side b).other ∷ fs;
+      sub = (at_side b).sub;
       zs = zs;
-      sinks = subst (λ (z : List (Option Turn) × Option Ref). Sinks n s z.0 z.1 (frame (turn b) k.other ∷ fs) k.sub us x zs vs ws)
+      sinks = subst (λ (z : List (Option Turn) × Option Ref). Sinks n s z.0 z.1 (frame (turn b) (at_side b).other ∷ fs) (at_side b).sub us x zs vs ws)
           (λ j. (sym p j, sym q j)) k.sinks;
-      lower = subst (λ z. height_at n s z < height_at m s at) (sym q) k.lower;
+      lower = subst (λ z. height_at n s z < height_at m s at) (sym q) (sized_lower open_here i _ set (at_side b) h.can.rooted);
       sunk = sunk_on b us zs k;
     }
 
@@ -256,21 +206,13 @@ module _ {T : Type 0} where
           (subst (Rising (side order m s)) (ap nodes o.is) r) f (where_is (nodes o.A) here (nodes o.B) xs x ys (sym (ap nodes o.is) ∙ h.has)) in
           subst (λ z. (us : List Ref) × (zs : List Ref) × Lowered z us zs) (sym l) (on.0, ys, lowered_right on.0 on.1 on.2)
 
-      rising_side : (b : Bool) (A B : BinaryTree) → Rising (side order m s) (nodes (forked b A here B)) → Rising (side order m s) (nodes A)
-      rising_side true A B r = rising_left (side order m s) (nodes A) (here ∷ nodes B) r
-      rising_side false A B r = (rising_right (side order m s) (nodes B) (here ∷ nodes A) r).1
+      rising_sub : (b : Bool) → Rising (side order m s) (nodes t) → Rising (side order n s) (nodes (at_side b).sub)
+      rising_sub b r = let k = on_side b open_here in rising_kept order tag m n s keeps_here.values tags_here (nodes k.sub)
+          (forked_rising (side order m s) b here k.other k.sub (subst (λ z. Rising (side order m s) (nodes z)) k.is r))
 
-      rising_sub : (b : Bool) (us zs : List Ref) (k : Lowered b us zs) → Rising (side order m s) (nodes t) → Rising (side order n s) (nodes k.sub)
-      rising_sub b us zs k r = rising_kept order tag m n s keeps_here.values tags_here (nodes k.sub)
-          (rising_side b k.sub k.other (subst (λ z. Rising (side order m s) (nodes z)) k.is r))
-
-      tagged_side : (b : Bool) (A B : BinaryTree) → AreTagged tag m s (nodes (forked b A here B)) → AreTagged tag m s (nodes A)
-      tagged_side true A B r = tagged_left tag m s (nodes A) (here ∷ nodes B) r
-      tagged_side false A B r = (tagged_right tag m s (nodes B) (here ∷ nodes A) r).1
-
-      tagged_sub : (b : Bool) (us zs : List Ref) (k : Lowered b us zs) → AreTagged tag m s (nodes t) → AreTagged tag n s (nodes k.sub)
-      tagged_sub b us zs k r = tagged_kept order tag m n s keeps_here.values tags_here (nodes k.sub)
-          (tagged_side b k.sub k.other (subst (λ z. AreTagged tag m s (nodes z)) k.is r))
+      tagged_sub : (b : Bool) → AreTagged tag m s (nodes t) → AreTagged tag n s (nodes (at_side b).sub)
+      tagged_sub b r = let k = on_side b open_here in tagged_kept order tag m n s keeps_here.values tags_here (nodes k.sub)
+          (forked_tagged tag m s b here k.other k.sub (subst (λ z. AreTagged tag m s (nodes z)) k.is r))
 
       pub next_sink : {new : List (Option Turn)} {next : Option Ref} {k : Ordering} {b : Bool} → side order m s x here ≡ k → is_eq k ≡ false → b ≡ is_lt k
           → new ≡ items ++ Some (record { node = here; left = b }) ∷ [] → next ≡ cond b y.back y.forth → Rising (side order m s) (nodes t)
@@ -278,7 +220,7 @@ module _ {T : Type 0} where
           × Rising (side order n s) (nodes o.sub) × (AreTagged tag m s (nodes t) → AreTagged tag n s (nodes o.sub))
       next_sink {new} {next} {k} {b} f g l p q r =
           let st = lowered k b f g l r in
-          (st.0, next_of b st.0 st.1 st.2 p q, rising_sub b st.0 st.1 st.2 r, tagged_sub b st.0 st.1 st.2)
+          (st.0, next_of b st.0 st.1 st.2 p q, rising_sub b r, tagged_sub b)
 
   -- what the comparison needs of the node here
   pub tagged_here : (tag : T → ℕ) {m : Pooled T} {s : ℕ} {at : Option Ref} {here : Ref} {y : Link} {t : BinaryTree} → CanTake m s at t

@@ -1,14 +1,15 @@
 -- A node less in a subtree, and then in the whole.
-use Rattle.std.proofs.Common.{◌≡◌, ℕ, ◌+◌, ◌^◌, ◌<◌, ◌≤◌, max, List, [], ◌∷◌, ◌++◌, length, Option, Some, None, refl, sym, ap, ◌∙◌, subst, arith, length-append}
+use Rattle.std.proofs.Common.{◌≡◌, ℕ, ◌+◌, ◌≤◌, max, List, [], ◌∷◌, ◌++◌, length, Option, Some, None, refl, sym, ap, ◌∙◌, subst, arith, length-append}
 use Rattle.mi_node.specs.Pool.{Pooled, link_of, IsHeld}
 use Rattle.mi_node.specs.declared.link.Link.{Link}
 use Rattle.mi_node.specs.Refs.{Ref, IsOut, IsApart}
 use Rattle.mi_node.proofs.RefLemmas.{out_left, out_right, out_both, apart_right, apart_across, apart_remove, between}
 use Rattle.mi_node.proofs.KeepingLemmas.{keeps_then, keeps_more, keeps_none, held_kept}
-use Rattle.mi_tree.specs.BinaryTree.{BinaryTree, Tip, Fork, nodes, size, height, DifferByAtMost, IsEven, Stands, height_at}
+use Rattle.mi_tree.specs.BinaryTree.{BinaryTree, Fork, nodes, size, height, fork_link, DifferByAtMost, IsEven, Stands}
 use Rattle.mi_tree.specs.Joining.{AreSides, IsBalanced}
 use Rattle.mi_tree.specs.Sorted.{CanTake, HasTaken, AreEnds, AreAppended}
-use Rattle.mi_tree.proofs.BinaryTreeLemmas.{moved, opened, tip_is, height-root, size-nodes}
+use Rattle.mi_tree.proofs.BinaryTreeLemmas.{moved, sides, tip_is, size-nodes, all_held}
+use Rattle.mi_node.specs.Neighbours.{AreHeld}
 use Rattle.mi_tree.proofs.JoinLemmas.{rooted_kept}
 
 -- heights after the first node of the right side became the root
@@ -42,25 +43,9 @@ nothing_after [] = refl
 nothing_after (r ∷ rs) = ap (λ l. r ∷ l) (nothing_after rs)
 
 module _ {T : Type 0} where
-  -- every node of a tree that stands is held
-  abbrev AreHeld : Pooled T → List Ref → Type 0
-  AreHeld m [] = Unit {0}
-  AreHeld m (r ∷ rs) = IsHeld m r × AreHeld m rs
-
-  held_both : (m : Pooled T) (xs : List Ref) (r : Ref) (ys : List Ref) → AreHeld m xs → IsHeld m r → AreHeld m ys → AreHeld m (xs ++ r ∷ ys)
-  held_both m [] r ys a h b = (h, b)
-  held_both m (x ∷ xs) r ys a h b = (a.0, held_both m xs r ys a.1 h b)
-
   held_right : (m : Pooled T) (xs : List Ref) (r : Ref) (ys : List Ref) → AreHeld m (xs ++ r ∷ ys) → IsHeld m r
   held_right m [] r ys a = a.0
   held_right m (x ∷ xs) r ys a = held_right m xs r ys a.1
-
-  all_held : (m : Pooled T) (s : ℕ) (t : BinaryTree) → Stands m s t → AreHeld m (nodes t)
-  all_held m s Tip h = tt
-  all_held m s (Fork l r q) h = held_both m (nodes l) r (nodes q) (all_held m s l h.2) h.0 (all_held m s q h.3)
-
-  held_first : (m : Pooled T) (s : ℕ) (t : BinaryTree) (r : Ref) (rs : List Ref) → nodes t ≡ r ∷ rs → Stands m s t → IsHeld m r
-  held_first m s t r rs e h = (subst (AreHeld m) e (all_held m s t h)).0
 
   pub held_in : (m : Pooled T) (s : ℕ) (t : BinaryTree) (xs : List Ref) (r : Ref) (ys : List Ref) → nodes t ≡ xs ++ r ∷ ys → Stands m s t → IsHeld m r
   held_in m s t xs r ys e h = held_right m xs r ys (subst (AreHeld m) e (all_held m s t h))
@@ -74,47 +59,35 @@ module _ {T : Type 0} where
     pub held_root : IsHeld m root
     pub even : IsEven (Fork A root B)
     pub apart : IsApart (nodes A ++ root ∷ nodes B)
-    pub fits : size A + size B + 1 < 2 ^ 32
-    pub left_lower : height_at m s y.back < height t
-    pub right_lower : height_at m s y.forth < height t
-    pub size_is : y.size ≡ size A + size B + 1
-    pub height_is : y.height ≡ max (height A) (height B) + 1
-    pub tag_is : y.tag ≡ (link_of m root.name s).tag
+    pub size_is : size t ≡ y.size
+    pub link_is : y ≡ fork_link A B y.tag
 
   pub take_opened : (m : Pooled T) (s : ℕ) (at : Option Ref) (root : Ref) (y : Link) (t : BinaryTree)
       → CanTake m s at t → at ≡ Some root → y ≡ link_of m root.name s → TakeOpened m s root y t
   take_opened m s at root y t h e i =
-      let o = opened m s root t (moved m m s at (Some root) t refl e h.rooted) in
-      let A = nodes o.left in let B = nodes o.right in
-      let names = ap nodes o.is in let even = subst IsEven o.is h.even in let apart = subst IsApart names h.apart in
-      let a = moved m m s _ y.back o.left refl (sym (ap (λ (z : Link). z.back) i)) o.left_is in
-      let b = moved m m s _ y.forth o.right refl (sym (ap (λ (z : Link). z.forth) i)) o.right_is in
-      let w = between A root B apart in
-      let sizes = ap size o.is in let heights = ap height o.is in let f = h.fits in
-      let ha = height-root m s y.back o.left a in let hb = height-root m s y.forth o.right b in record {
-        A = o.left;
-        B = o.right;
+      let o = sides m s at root y t h.rooted e i in let even = subst IsEven o.is h.even in let apart = subst IsApart (ap nodes o.is) h.apart in
+      let w = between (nodes o.A) root (nodes o.B) apart in let sizes = ap size o.is in let f = h.fits in record {
+        A = o.A;
+        B = o.B;
         is = o.is;
-        left = record { rooted = a; even = even.1; apart = w.left; fits = omega arith };
-        right = record { rooted = b; even = even.2; apart = w.right; fits = omega arith };
+        left = record { rooted = o.left; even = even.1; apart = w.left; fits = omega arith };
+        right = record { rooted = o.right; even = even.2; apart = w.right; fits = omega arith };
         held_root = o.held;
         even = even;
         apart = apart;
-        fits = omega arith;
-        left_lower = omega arith;
-        right_lower = omega arith;
-        size_is = ap (λ (z : Link). z.size) i ∙ ap (λ (z : Link). z.size) o.link;
-        height_is = ap (λ (z : Link). z.height) i ∙ ap (λ (z : Link). z.height) o.link;
-        tag_is = ap (λ (z : Link). z.tag) i;
+        size_is = sizes ∙ sym o.size_is;
+        link_is = o.link_is;
       }
 
   -- two trees
-  pub ends_take : (m : Pooled T) (s : ℕ) (left right : Option Ref) (l q : BinaryTree) → AreEnds m s left right l q → CanTake m s right q
-  ends_take m s left right l q h =
-      let f = h.fits in record { rooted = h.right_is; even = h.right_even; apart = apart_right (nodes l) (nodes q) h.apart; fits = omega arith }
+  pub ends_take : {m : Pooled T} {s : ℕ} {left right : Option Ref} {l q : BinaryTree} {r : Ref} → AreEnds m s left right l q → right ≡ Some r
+      → CanTake m s (Some r) q
+  ends_take {m} {s} {l = l} {q} h e = let f = h.fits in subst (λ k. CanTake m s k q) e
+      (record { rooted = h.right_is; even = h.right_even; apart = apart_right (nodes l) (nodes q) h.apart; fits = omega arith })
 
-  pub ends_none : (m : Pooled T) (s : ℕ) (left right : Option Ref) (l q : BinaryTree) → AreEnds m s left right l q → right ≡ None → AreAppended m m s l q left l
-  ends_none m s left right l q h e =
+  pub ends_none : {m : Pooled T} {s : ℕ} {left right : Option Ref} {l q : BinaryTree} → AreEnds m s left right l q → right ≡ None
+      → AreAppended m m s l q left l
+  ends_none {m} {s} {right = right} {l} {q} h e =
       let tip = tip_is m s q (moved m m s right None q refl e h.right_is) in let low = ap height tip in record {
         rooted = h.left_is;
         even = h.left_even;
@@ -125,15 +98,15 @@ module _ {T : Type 0} where
         tags = λ k. refl;
       }
 
-  module _ (m n : Pooled T) (s : ℕ) (left right : Option Ref) (l q : BinaryTree) (h : AreEnds m s left right l q) (first : Ref)
-      (rs : List Ref) (rest : Option Ref) (u : BinaryTree) (is : nodes q ≡ first ∷ rs) (k : HasTaken m n s q rs rest u) where
+  module _ {m n : Pooled T} {s : ℕ} {left right : Option Ref} {l q : BinaryTree} (h : AreEnds m s left right l q) {first : Ref}
+      {rs : List Ref} {rest : Option Ref} {u : BinaryTree} (is : nodes q ≡ first ∷ rs) (k : HasTaken m n s q rs rest u) where
     pub ends_sides : AreSides n s left first rest l u
     ends_sides =
         let size_is = less_size q u [] first rs is k.nodes_are in let e0 = h.near in let f = h.fits in let lo = k.not_lower in let hi = k.not_higher in
         let all = subst IsApart (ap (λ v. nodes l ++ v) is) h.apart in record {
           left_is = rooted_kept s m n (nodes q) left l (keeps_more s m n rs (nodes q) k.keeps (λ j out. (subst (IsOut j) is out).1))
               (apart_across (nodes l) (nodes q) h.apart) h.left_is;
-          held = held_kept s m n rs first k.keeps (held_first m s q first rs is (h.right_is.stands));
+          held = held_kept s m n rs first k.keeps (held_in m s q [] first rs is h.right_is.stands);
           right_is = k.rooted;
           apart = subst (λ v. IsApart (nodes l ++ first ∷ v)) (sym k.nodes_are) all;
           left_even = h.left_even;
@@ -142,8 +115,8 @@ module _ {T : Type 0} where
           fits = omega arith;
         }
 
-    pub ends_appended : (v : Pooled T) (result : Ref) (z : BinaryTree) → IsBalanced n v s l first u result z → AreAppended m v s l q (Some result) z
-    ends_appended v result z b =
+    pub ends_appended : {v : Pooled T} {result : Ref} {z : BinaryTree} → IsBalanced n v s l first u result z → AreAppended m v s l q (Some result) z
+    ends_appended {v} {z = z} b =
         let r = b.rebalanced in
         let g = met (height l) (height q) (height u) (height z) h.near k.not_higher k.not_lower r.not_lower r.not_higher r.as_high in
         record {

@@ -4,12 +4,13 @@ use Rattle.mi_node.specs.Pool.{Pooled, link_of, Keeps}
 use Rattle.mi_node.specs.declared.link.Link.{Link}
 use Rattle.mi_node.specs.Refs.{Ref, IsOut, IsApart}
 use Rattle.mi_node.proofs.KeepingLemmas.{keeps_more}
-use Rattle.mi_node.proofs.RefLemmas.{out_left, out_right, between}
+use Rattle.mi_node.proofs.RefLemmas.{out_left, out_right}
 use Rattle.mi_tree.specs.BinaryTree.{BinaryTree, Fork, nodes, size, height, DifferByAtMost, IsEven, IsRooted}
 use Rattle.mi_tree.specs.Sorted.{SameTags}
 use Rattle.mi_tree.specs.Joining.{Two, Three, Four, Rebalanced, AreSides, IsBalanced}
 use Rattle.mi_tree.proofs.HeightLemmas.{low_enough}
-use Rattle.mi_tree.proofs.BinaryTreeLemmas.{moved, opened}
+use Rattle.mi_tree.proofs.BinaryTreeLemmas.{Sides, sides}
+use Rattle.mi_tree.proofs.JoinLemmas.{two}
 
 turn_plain : (l : BinaryTree) (x : Ref) (q : BinaryTree) → IsEven l → IsEven q → DifferByAtMost 1 (height l) (height q) → Rebalanced l x q (Fork l x q)
 turn_plain l x q el eq d = record { nodes_are = refl; even = (d, el, eq); not_lower = omega arith; not_higher = omega arith; as_high = λ h. refl }
@@ -79,187 +80,120 @@ out_three_right : (k : ℕ) (A : List Ref) (x : Ref) (B : List Ref) (y : Ref) (C
 out_three_right k A x B y C z D h = let o = out_right k A (x ∷ (B ++ y ∷ C) ++ z ∷ D) h in (o.0, out_two k B y C z D o.1)
 
 module _ {T : Type 0} where
-  -- the left side, opened
-  pub record LeftOpened (m : Pooled T) (s : ℕ) (r x : Ref) (right : Option Ref) (y : Link) (l q : BinaryTree) : Type 0 where
-    pub A : BinaryTree
-    pub B : BinaryTree
-    pub is : l ≡ Fork A r B
-    pub parts : Three m s y.back r y.forth x right A B q
-    pub even : IsEven (Fork A r B)
+  -- neither side is high
+  sides_low : {m : Pooled T} {s : ℕ} {left : Option Ref} {x : Ref} {right : Option Ref} {l q : BinaryTree} → AreSides m s left x right l q
+      → (height l ≤ 45) × (height q ≤ 45)
+  sides_low {l = l} {q} h = let f = h.fits in (low_enough l h.left_even (omega arith), low_enough q h.right_even (omega arith))
 
+  -- the left side, opened
   pub left_opened : {m : Pooled T} {s : ℕ} {left : Option Ref} {x : Ref} {right : Option Ref} {l q : BinaryTree} {r : Ref} {y : Link}
-      → AreSides m s left x right l q → left ≡ Some r → y ≡ link_of m r.name s → LeftOpened m s r x right y l q
+      → AreSides m s left x right l q → left ≡ Some r → y ≡ link_of m r.name s → (o : Sides m s r y l) × Three m s y.back r y.forth x right o.A o.B q
   left_opened {m} {s} {left} {x} {right} {l} {q} {r} {y} h e i =
-      let o = opened m s r l (moved m m s left (Some r) l refl e h.left_is) in
-      let even = subst IsEven o.is h.left_even in
-      let f = h.fits in let size_is = ap size o.is in
-      let hl = low_enough l h.left_even (omega arith) in let hq = low_enough q h.right_even (omega arith) in let height_is = ap height o.is in record {
-        A = o.left;
-        B = o.right;
-        is = o.is;
-        even = even;
-        parts = record {
-          first = moved m m s _ y.back o.left refl (sym (ap (λ (z : Link). z.back) i)) o.left_is;
+      let o = sides m s left r y l h.left_is e i in let f = h.fits in let size_is = ap size o.is in let high = o.height_is in let low = sides_low h in (
+        o,
+        record {
+          first = o.left;
           held_x = o.held;
-          second = moved m m s _ y.forth o.right refl (sym (ap (λ (z : Link). z.forth) i)) o.right_is;
+          second = o.right;
           held_y = h.held;
           third = h.right_is;
-          apart = subst IsApart (ap (λ t. nodes t ++ x ∷ nodes q) o.is ∙ append_assoc (nodes o.left) (r ∷ nodes o.right) (x ∷ nodes q)) h.apart;
+          apart = subst IsApart (ap (λ t. nodes t ++ x ∷ nodes q) o.is ∙ append_assoc (nodes o.A) (r ∷ nodes o.B) (x ∷ nodes q)) h.apart;
           fits = omega arith;
           low = (omega arith, omega arith, omega arith);
-        };
-      }
+        },
+      )
 
-  pub record RightOpened (m : Pooled T) (s : ℕ) (left : Option Ref) (x r : Ref) (y : Link) (l q : BinaryTree) : Type 0 where
-    pub B : BinaryTree
-    pub C : BinaryTree
-    pub is : q ≡ Fork B r C
-    pub parts : Three m s left x y.back r y.forth l B C
-    pub even : IsEven (Fork B r C)
-
+  -- the right side, opened
   pub right_opened : {m : Pooled T} {s : ℕ} {left : Option Ref} {x : Ref} {right : Option Ref} {l q : BinaryTree} {r : Ref} {y : Link}
-      → AreSides m s left x right l q → right ≡ Some r → y ≡ link_of m r.name s → RightOpened m s left x r y l q
+      → AreSides m s left x right l q → right ≡ Some r → y ≡ link_of m r.name s → (o : Sides m s r y q) × Three m s left x y.back r y.forth l o.A o.B
   right_opened {m} {s} {left} {x} {right} {l} {q} {r} {y} h e i =
-      let o = opened m s r q (moved m m s right (Some r) q refl e h.right_is) in
-      let even = subst IsEven o.is h.right_even in
-      let f = h.fits in let size_is = ap size o.is in
-      let hl = low_enough l h.left_even (omega arith) in let hq = low_enough q h.right_even (omega arith) in let height_is = ap height o.is in record {
-        B = o.left;
-        C = o.right;
-        is = o.is;
-        even = even;
-        parts = record {
+      let o = sides m s right r y q h.right_is e i in let f = h.fits in let size_is = ap size o.is in let high = o.height_is in let low = sides_low h in (
+        o,
+        record {
           first = h.left_is;
           held_x = h.held;
-          second = moved m m s _ y.back o.left refl (sym (ap (λ (z : Link). z.back) i)) o.left_is;
+          second = o.left;
           held_y = o.held;
-          third = moved m m s _ y.forth o.right refl (sym (ap (λ (z : Link). z.forth) i)) o.right_is;
+          third = o.right;
           apart = subst IsApart (ap (λ t. nodes l ++ x ∷ nodes t) o.is) h.apart;
           fits = omega arith;
           low = (omega arith, omega arith, omega arith);
-        };
-      }
+        },
+      )
 
   -- the middle, opened
-  pub record MiddleOpened (m : Pooled T) (s : ℕ) (a : Option Ref) (x y z : Ref) (d : Option Ref) (w : Link) (A M D : BinaryTree) : Type 0 where
-    pub B : BinaryTree
-    pub C : BinaryTree
-    pub is : M ≡ Fork B y C
-    pub parts : Four m s a x w.back y w.forth z d A B C D
-
   pub middle_opened : {m : Pooled T} {s : ℕ} {a : Option Ref} {x : Ref} {b : Option Ref} {y z : Ref} {d : Option Ref} {w : Link} {A M D : BinaryTree}
-      → Three m s a x b z d A M D → b ≡ Some y → w ≡ link_of m y.name s
-      → MiddleOpened m s a x y z d w A M D
+      → Three m s a x b z d A M D → b ≡ Some y → w ≡ link_of m y.name s → (o : Sides m s y w M) × Four m s a x w.back y w.forth z d A o.A o.B D
   middle_opened {m} {s} {a} {x} {b} {y} {z} {d} {w} {A} {M} {D} h e i =
-      let o = opened m s y M (moved m m s b (Some y) M refl e h.second) in
-      let f = h.fits in let k = h.low in let size_is = ap size o.is in let height_is = ap height o.is in record {
-        B = o.left;
-        C = o.right;
-        is = o.is;
-        parts = record {
+      let o = sides m s b y w M h.second e i in let f = h.fits in let k = h.low in let size_is = ap size o.is in let high = o.height_is in (
+        o,
+        record {
           first = h.first;
           held_x = h.held_x;
-          second = moved m m s _ w.back o.left refl (sym (ap (λ (u : Link). u.back) i)) o.left_is;
+          second = o.left;
           held_y = o.held;
-          third = moved m m s _ w.forth o.right refl (sym (ap (λ (u : Link). u.forth) i)) o.right_is;
+          third = o.right;
           held_z = h.held_y;
           fourth = h.third;
           apart = subst IsApart (ap (λ t. nodes A ++ x ∷ (nodes t ++ z ∷ nodes D)) o.is
-              ∙ ap (λ u. nodes A ++ x ∷ u) (append_assoc (nodes o.left) (y ∷ nodes o.right) (z ∷ nodes D)))
+              ∙ ap (λ u. nodes A ++ x ∷ u) (append_assoc (nodes o.A) (y ∷ nodes o.B) (z ∷ nodes D)))
               h.apart;
           fits = omega arith;
           low = (omega arith, omega arith, omega arith, omega arith);
-        };
-      }
+        },
+      )
 
-  -- what the calls give
+  -- what the calls give, which set links of the nodes us alone
+  balanced : {m n : Pooled T} {s : ℕ} {l : BinaryTree} {x : Ref} {q : BinaryTree} {root : Ref} {t : BinaryTree} {us : List Ref}
+      → IsRooted n s (Some root) t → Rebalanced l x q t → Keeps m n s us → ((k : ℕ) → IsOut k (nodes l ++ x ∷ nodes q) → IsOut k us) → SameTags m n s
+      → (t : BinaryTree) × IsBalanced m n s l x q root t
+  balanced {m} {n} {s} {t = t} {us} rooted turned keeps among tags =
+      (t, record { rooted = rooted; rebalanced = turned; keeps = keeps_more s m n us _ keeps among; tags = tags })
+
   pub downs : {m n : Pooled T} {s : ℕ} {left right : Option Ref} {r x : Ref} {y : Link} {l q : BinaryTree} (h : AreSides m s left x right l q)
-      (o : LeftOpened m s r x right y l q) → height q + 1 < height l → height o.B ≤ height o.A → IsRooted n s (Some r) (Fork o.A r (Fork o.B x q))
+      (o : Sides m s r y l) → height q + 1 < height l → height o.B ≤ height o.A → IsRooted n s (Some r) (Fork o.A r (Fork o.B x q))
       → Keeps m n s (r ∷ x ∷ []) → SameTags m n s → (t : BinaryTree) × IsBalanced m n s l x q r t
-  downs {m} {n} {s} {r = r} {x = x} {q = q} h o more higher rooted keeps tags = subst (λ k. (t : BinaryTree) × IsBalanced m n s k x q r t) (sym o.is) (
-    Fork o.A r (Fork o.B x q),
-    record {
-      rooted = rooted;
-      rebalanced = turn_down o.A r o.B x q o.even h.right_even (subst (λ k. DifferByAtMost 2 (height k) (height q)) o.is h.near)
-          (subst (λ k. height q + 1 < height k) o.is more) higher;
-      keeps = keeps_more s m n (r ∷ x ∷ []) _ keeps (λ k f. out_two k (nodes o.A) r (nodes o.B) x (nodes q) f);
-      tags = tags;
-    },
-  )
+  downs {m} {n} {s} {r = r} {x = x} {q = q} h o more higher rooted keeps tags =
+      let w = subst (λ k. IsEven k × DifferByAtMost 2 (height k) (height q) × (height q + 1 < height k)) o.is (h.left_even, h.near, more) in
+      subst (λ k. (t : BinaryTree) × IsBalanced m n s k x q r t) (sym o.is)
+      (balanced rooted (turn_down o.A r o.B x q w.0 h.right_even w.1 w.2 higher) keeps (λ k f. out_two k (nodes o.A) r (nodes o.B) x (nodes q) f) tags)
 
   pub ups : {m n : Pooled T} {s : ℕ} {left right : Option Ref} {r x : Ref} {y : Link} {l q : BinaryTree} (h : AreSides m s left x right l q)
-      (o : RightOpened m s left x r y l q) → height l + 1 < height q → height o.B ≤ height o.C → IsRooted n s (Some r) (Fork (Fork l x o.B) r o.C)
+      (o : Sides m s r y q) → height l + 1 < height q → height o.A ≤ height o.B → IsRooted n s (Some r) (Fork (Fork l x o.A) r o.B)
       → Keeps m n s (x ∷ r ∷ []) → SameTags m n s → (t : BinaryTree) × IsBalanced m n s l x q r t
-  ups {m} {n} {s} {r = r} {x = x} {l = l} h o more higher rooted keeps tags = subst (λ k. (t : BinaryTree) × IsBalanced m n s l x k r t) (sym o.is) (
-    Fork (Fork l x o.B) r o.C,
-    record {
-      rooted = rooted;
-      rebalanced = turn_up l x o.B r o.C h.left_even o.even (subst (λ k. DifferByAtMost 2 (height l) (height k)) o.is h.near)
-          (subst (λ k. height l + 1 < height k) o.is more) higher;
-      keeps = keeps_more s m n (x ∷ r ∷ []) _ keeps (λ k f. out_two_right k (nodes l) x (nodes o.B) r (nodes o.C) f);
-      tags = tags;
-    },
-  )
+  ups {m} {n} {s} {r = r} {x = x} {l = l} h o more higher rooted keeps tags =
+      let w = subst (λ k. IsEven k × DifferByAtMost 2 (height l) (height k) × (height l + 1 < height k)) o.is (h.right_even, h.near, more) in
+      subst (λ k. (t : BinaryTree) × IsBalanced m n s l x k r t) (sym o.is)
+      (balanced rooted (turn_up l x o.A r o.B h.left_even w.0 w.1 w.2 higher) keeps (λ k f. out_two_right k (nodes l) x (nodes o.A) r (nodes o.B) f) tags)
 
-  pub left_boths : {m n : Pooled T} {s : ℕ} {left right : Option Ref} {r x z : Ref} {y w : Link} {l q : BinaryTree} (h : AreSides m s left x right l q)
-      (o : LeftOpened m s r x right y l q) (u : MiddleOpened m s y.back r z x right w o.A o.B q) → height q + 1 < height l → height o.A < height o.B
-      → IsRooted n s (Some z) (Fork (Fork o.A r u.B) z (Fork u.C x q)) → Keeps m n s (r ∷ z ∷ x ∷ []) → SameTags m n s
+  pub left_boths : {m n : Pooled T} {s : ℕ} {left right : Option Ref} {r x z : Ref} {y v : Link} {l q : BinaryTree} (h : AreSides m s left x right l q)
+      (o : Sides m s r y l) (u : Sides m s z v o.B) → height q + 1 < height l → height o.A < height o.B
+      → IsRooted n s (Some z) (Fork (Fork o.A r u.A) z (Fork u.B x q)) → Keeps m n s (r ∷ z ∷ x ∷ []) → SameTags m n s
       → (t : BinaryTree) × IsBalanced m n s l x q z t
   left_boths {m} {n} {s} {r = r} {x = x} {z = z} {l = l} {q = q} h o u more higher rooted keeps tags =
-      let whole : l ≡ Fork o.A r (Fork u.B z u.C) = o.is ∙ ap (Fork o.A r) u.is in subst (λ k. (t : BinaryTree) × IsBalanced m n s k x q z t) (sym whole) (
-        Fork (Fork o.A r u.B) z (Fork u.C x q),
-        record {
-          rooted = rooted;
-          rebalanced = turn_left_both o.A r u.B z u.C x q (subst IsEven whole h.left_even) h.right_even
-              (subst (λ k. DifferByAtMost 2 (height k) (height q)) whole h.near) (subst (λ k. height q + 1 < height k) whole more)
-              (subst (λ k. height o.A < height k) u.is higher);
-          keeps = keeps_more s m n (r ∷ z ∷ x ∷ []) _ keeps (λ k f. out_three_left k (nodes o.A) r (nodes u.B) z (nodes u.C) x (nodes q) f);
-          tags = tags;
-        },
-      )
+      let whole : l ≡ Fork o.A r (Fork u.A z u.B) = o.is ∙ ap (Fork o.A r) u.is in
+      let w = subst (λ k. IsEven k × DifferByAtMost 2 (height k) (height q) × (height q + 1 < height k)) whole (h.left_even, h.near, more) in
+      subst (λ k. (t : BinaryTree) × IsBalanced m n s k x q z t) (sym whole)
+      (balanced rooted (turn_left_both o.A r u.A z u.B x q w.0 h.right_even w.1 w.2 (subst (λ k. height o.A < height k) u.is higher)) keeps
+      (λ k f. out_three_left k (nodes o.A) r (nodes u.A) z (nodes u.B) x (nodes q) f) tags)
 
-  pub right_boths : {m n : Pooled T} {s : ℕ} {left right : Option Ref} {r x z : Ref} {y w : Link} {l q : BinaryTree} (h : AreSides m s left x right l q)
-      (o : RightOpened m s left x r y l q) (u : MiddleOpened m s left x z r y.forth w l o.B o.C) → height l + 1 < height q → height o.C < height o.B
-      → IsRooted n s (Some z) (Fork (Fork l x u.B) z (Fork u.C r o.C)) → Keeps m n s (x ∷ z ∷ r ∷ []) → SameTags m n s
+  pub right_boths : {m n : Pooled T} {s : ℕ} {left right : Option Ref} {r x z : Ref} {y v : Link} {l q : BinaryTree} (h : AreSides m s left x right l q)
+      (o : Sides m s r y q) (u : Sides m s z v o.A) → height l + 1 < height q → height o.B < height o.A
+      → IsRooted n s (Some z) (Fork (Fork l x u.A) z (Fork u.B r o.B)) → Keeps m n s (x ∷ z ∷ r ∷ []) → SameTags m n s
       → (t : BinaryTree) × IsBalanced m n s l x q z t
   right_boths {m} {n} {s} {r = r} {x = x} {z = z} {l = l} {q = q} h o u more higher rooted keeps tags =
-      let whole : q ≡ Fork (Fork u.B z u.C) r o.C = o.is ∙ ap (λ k. Fork k r o.C) u.is in
-      subst (λ k. (t : BinaryTree) × IsBalanced m n s l x k z t) (sym whole) (
-        Fork (Fork l x u.B) z (Fork u.C r o.C),
-        record {
-          rooted = rooted;
-          rebalanced = turn_right_both l x u.B z u.C r o.C h.left_even (subst IsEven whole h.right_even)
-              (subst (λ k. DifferByAtMost 2 (height l) (height k)) whole h.near) (subst (λ k. height l + 1 < height k) whole more)
-              (subst (λ k. height o.C < height k) u.is higher);
-          keeps = keeps_more s m n (x ∷ z ∷ r ∷ []) _ keeps (λ k f. out_three_right k (nodes l) x (nodes u.B) z (nodes u.C) r (nodes o.C) f);
-          tags = tags;
-        },
-      )
+      let whole : q ≡ Fork (Fork u.A z u.B) r o.B = o.is ∙ ap (λ k. Fork k r o.B) u.is in
+      let w = subst (λ k. IsEven k × DifferByAtMost 2 (height l) (height k) × (height l + 1 < height k)) whole (h.right_even, h.near, more) in
+      subst (λ k. (t : BinaryTree) × IsBalanced m n s l x k z t) (sym whole)
+      (balanced rooted (turn_right_both l x u.A z u.B r o.B h.left_even w.0 w.1 w.2 (subst (λ k. height o.B < height k) u.is higher)) keeps
+      (λ k f. out_three_right k (nodes l) x (nodes u.A) z (nodes u.B) r (nodes o.B) f) tags)
 
-  pub plains : (m n : Pooled T) (s : ℕ) (left : Option Ref) (x : Ref) (right : Option Ref) (l q : BinaryTree)
+  pub plains : {m n : Pooled T} {s : ℕ} {left : Option Ref} {x : Ref} {right : Option Ref} {l q : BinaryTree}
       → AreSides m s left x right l q → DifferByAtMost 1 (height l) (height q)
       → IsRooted n s (Some x) (Fork l x q) → Keeps m n s (x ∷ []) → SameTags m n s → (t : BinaryTree) × IsBalanced m n s l x q x t
-  plains m n s left x right l q h near rooted keeps tags = (
-    Fork l x q,
-    record {
-      rooted = rooted;
-      rebalanced = turn_plain l x q h.left_even h.right_even near;
-      keeps = keeps_more s m n (x ∷ []) _ keeps (λ k o. ((out_right k (nodes l) (x ∷ nodes q) o).0, tt));
-      tags = tags;
-    },
-  )
+  plains {x = x} {l = l} {q} h near rooted keeps tags =
+      balanced rooted (turn_plain l x q h.left_even h.right_even near) keeps (λ k o. ((out_right k (nodes l) (x ∷ nodes q) o).0, tt)) tags
 
-  pub plain_parts : (m : Pooled T) (s : ℕ) (left : Option Ref) (x : Ref) (right : Option Ref) (l q : BinaryTree)
+  pub plain_parts : {m : Pooled T} {s : ℕ} {left : Option Ref} {x : Ref} {right : Option Ref} {l q : BinaryTree}
       → AreSides m s left x right l q → Two m s left x right l q
-  plain_parts m s left x right l q h =
-      let f = h.fits in let hl = low_enough l h.left_even (omega arith) in let hq = low_enough q h.right_even (omega arith) in
-      let b = between (nodes l) x (nodes q) h.apart in
-      record {
-        first = h.left_is;
-        held = h.held;
-        second = h.right_is;
-        out_first = b.out_left;
-        out_second = b.out_right;
-        fits = f;
-        low = (omega arith, omega arith);
-      }
+  plain_parts h = let low = sides_low h in two h.left_is h.held h.right_is h.apart h.fits (omega arith, omega arith)

@@ -1,5 +1,5 @@
 -- From a tree's parts to the whole, and back.
-use Rattle.std.proofs.Common.{◌≡◌, ◌==◌, false, ℕ, ◌+◌, ◌*◌, ◌^◌, ◌<◌, ◌≤◌, List, [], ◌∷◌, ◌++◌, length}
+use Rattle.std.proofs.Common.{◌≡◌, ◌==◌, Bool, false, ℕ, ◌+◌, ◌*◌, ◌^◌, ◌<◌, ◌≤◌, List, [], ◌∷◌, ◌++◌, length}
 use Rattle.std.proofs.Common.{Option, Some, None, refl, sym, ap, ◌∙◌, subst, arith, length-append}
 use Rattle.std.specs.declared.cmp.Ordering.{Ordering}
 use Rattle.std.specs.declared.cmp.Ordering.TheVariants.{Less, Equal, Greater}
@@ -12,6 +12,8 @@ use Rattle.mi_node.proofs.KeepingLemmas.{keeps_link, keeps_then, held_kept}
 use Rattle.mi_node.proofs.RefLemmas.{out_left, out_right}
 use Rattle.mi_node.specs.Refs.{Ref, IsOut, IsApart}
 use Rattle.mi_tree.specs.BinaryTree.{BinaryTree, Tip, Fork, nodes, size, height, IsRooted}
+use Rattle.mi_tree.specs.Order.{IsMonotone}
+use Rattle.mi_tree.specs.Probed.{is_past_node, IsSteady}
 use Rattle.mi_tree.specs.Sorted.{AllAre, NoneAre, Rising, IsPutIn, IsTagOf, HasTag, AreTagged, SameTags, CanPut}
 use Rattle.mi_tree.specs.Sorted.{HasPut, CanTake, HasTaken, by_stamp, stamped, item_of, compared, side, side_of_new}
 use Rattle.mi_tree.specs.Standing.{IsTree, CanJoin}
@@ -20,6 +22,7 @@ use Rattle.mi_tree.specs.declared.walk.Direction.{Direction}
 use Rattle.mi_tree.specs.declared.tree.Tree.{Tree}
 use Rattle.mi_tree.proofs.BinaryTreeLemmas.{size-nodes, same_tree}
 use Rattle.mi_tree.proofs.JoinLemmas.{rooted_past}
+use Rattle.mi_tree.proofs.LookUpLemmas.{steady}
 use Rattle.mi_tree.proofs.HeightLemmas.{short, shorter, low_enough}
 use Rattle.mi_tree.proofs.InsertLemmas.{put_apart, put_length}
 use Rattle.mi_tree.proofs.RemoveLemmas.{apart_less, held_in}
@@ -188,6 +191,11 @@ module _ {T O : Type 0} where
       let a = tree_size h in let f = h.fits in
       record { rooted = h.rooted; even = h.even; apart = subst IsApart (sym h.nodes_are) h.apart; fits = omega arith }
 
+  -- a tree stands in a pool n that is as m is
+  pub tree_moved : {l : Tree O} {m n : Pooled T} {order : T → T → Ordering} {tag : T → ℕ} {rs : List Ref}
+      → n ≡ m → IsTree l m order tag rs → IsTree l n order tag rs
+  tree_moved {l} {order = order} {tag} {rs} e h = subst (λ (z : Pooled T). IsTree l z order tag rs) (sym e) h
+
   pub rising_in : {l : Tree O} {m : Pooled T} {order : T → T → Ordering} {tag : T → ℕ} {rs : List Ref} (h : IsTree l m order tag rs)
       → Rising (side order m l.slot) (nodes h.shape)
   rising_in {l} {m} {order} h = subst (Rising (side order m l.slot)) (sym h.nodes_are) h.rising
@@ -239,6 +247,13 @@ module _ {T O : Type 0} where
   pub bound_node : {l : Tree O} {m : Pooled T} {order by : T → T → Ordering} {tag key : T → ℕ} {rs : List Ref} (h : IsTree l m order tag rs)
       (xs : List Ref) (x : Ref) (ys : List Ref) → IsTree l m by key (xs ++ x ∷ ys) → (b : ℕ) → length rs < 2 ^ b → height h.shape + 1 ≤ 2 * b
   bound_node h xs x ys k b f = let long = same_length h k in let parts = length-append xs (x ∷ ys) in bound_less h b f (omega arith)
+
+  -- a search for a probe may begin at the root
+  pub seeks_root : {l : Tree O} {m : Pooled T} {order : T → T → Ordering} {tag : T → ℕ} {rs : List Ref} (strict : Bool) (place : T → Ordering)
+      → IsMonotone order place → IsTree l m order tag rs
+      → (t : BinaryTree) × IsRooted m l.slot l.root t × AreTagged tag m l.slot (nodes t) × IsSteady (is_past_node strict place m) (nodes t)
+  seeks_root {l} {m} {order} strict place mono h =
+      (h.shape, h.rooted, tagged_in h, steady order place mono strict m l.slot (nodes h.shape) (rising_in h))
 
   -- a walk may begin at the root
   pub enters_root : {l : Tree O} {m : Pooled T} {order : T → T → Ordering} {tag : T → ℕ} {rs : List Ref} (h : IsTree l m order tag rs) (d : Direction)

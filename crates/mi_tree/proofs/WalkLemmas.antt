@@ -1,5 +1,5 @@
 -- What a walk's path says of the nodes ahead.
-use Rattle.std.proofs.Common.{◌≡◌, ℕ, cond, not, suc, ◌+◌, ◌-◌, ◌<◌, ◌≤◌, List, [], ◌∷◌, ◌++◌, length, max, reverse, take}
+use Rattle.std.proofs.Common.{◌≡◌, ℕ, Bool, cond, not, suc, ◌+◌, ◌-◌, ◌<◌, ◌≤◌, List, [], ◌∷◌, ◌++◌, length, max, reverse, take}
 use Rattle.std.proofs.Common.{drop, Option, Some, None, refl, sym, ap, ◌∙◌, subst, arith, append_assoc, length-append}
 use Rattle.std.specs.List.{slice_get}
 use Rattle.std.specs.Option.{option_flatten}
@@ -14,7 +14,7 @@ use Rattle.mi_tree.specs.Walking.{Pending, onward, beyond, near_of, far_of, is_a
 use Rattle.mi_tree.specs.declared.walk.Direction.{Direction}
 use Rattle.mi_tree.specs.declared.walk.Direction.TheVariants.{Ascending, Descending}
 use Rattle.mi_tree.specs.declared.walk.Walk.{Walk}
-use Rattle.mi_tree.proofs.BinaryTreeLemmas.{moved, opened, height-root}
+use Rattle.mi_tree.proofs.BinaryTreeLemmas.{sides, height-root}
 
 path_length : (xs : List Pending) → length (path_of xs) ≡ length xs
 path_length [] = refl
@@ -71,25 +71,21 @@ module _ {T : Type 0} where
       {at : Option Ref} {r : Ref} {y : Link} {xs : List Pending} {t : BinaryTree}
       → Enters m s d levels items at xs t → at ≡ Some r → y ≡ link_of m r.name s → Entered m s d levels items r y xs t
   entered {m} {s} {d} {levels} {items} {at} {r} {y} {xs} {t} h e i =
-      let o = opened m s r t (moved m m s at (Some r) t refl e h.rooted) in
-      let heights = ap height o.is in let room = h.room in let low = h.low in
+      let o = sides m s at r y t h.rooted e i in let room = h.room in let low = h.low in
       let long : length items ≡ length xs = ap length h.goes.path_is ∙ path_length xs in
-      let back = moved m m s _ y.back o.left refl (sym (ap (λ (z : Link). z.back) i)) o.left_is in
-      let forth = moved m m s _ y.forth o.right refl (sym (ap (λ (z : Link). z.forth) i)) o.right_is in
-      let both = near_rooted m s d y o.left o.right back forth in
-      let here = near_rooted m s d (link_of m r.name s) o.left o.right o.left_is o.right_is in
-      let tall = near_height d o.left o.right (height t) heights in
-      let hn = height-root m s (near_of d y) (nearer d o.left o.right) both.0 in let hf = height-root m s (far_of d y) (farther d o.left o.right) both.1 in
+      let both = near_rooted m s d y o.A o.B o.left o.right in
+      let here = subst (λ (z : Link). IsRooted m s (far_of d z) (farther d o.A o.B)) i both.1 in let tall = near_height d o.A o.B (height t) o.height_is in
+      let hn = height-root m s (near_of d y) (nearer d o.A o.B) both.0 in let hf = height-root m s (far_of d y) (farther d o.A o.B) both.1 in
       let ht = ap (height_at m s) (sym e) ∙ height-root m s at t h.rooted in
-      let nt : height (nearer d o.left o.right) < height t = tall.0 in let ft : height (farther d o.left o.right) < height t = tall.1 in
+      let nt : height (nearer d o.A o.B) < height t = tall.0 in let ft : height (farther d o.A o.B) < height t = tall.1 in
       record {
-        left = o.left;
-        right = o.right;
+        left = o.A;
+        right = o.B;
         is = o.is;
         held = o.held;
-        left_is = back;
+        left_is = o.left;
         before = record {
-          goes = record { path_is = ap (λ k. k ++ Some r ∷ []) h.goes.path_is; pending = (o.held, here.1, omega arith, h.goes.pending) };
+          goes = record { path_is = ap (λ k. k ++ Some r ∷ []) h.goes.path_is; pending = (o.held, here, omega arith, h.goes.pending) };
           rooted = both.0;
           room = omega arith;
           low = low;
@@ -150,23 +146,23 @@ abbrev pub pend_right : Direction → Ref → BinaryTree → List Pending → Li
 pend_right Ascending r l xs = xs
 pend_right Descending r l xs = record { node = r; after = l } ∷ xs
 
--- the way into either side, in a pool n that is as m is
-module _ {T : Type 0} {m : Pooled T} {s levels : ℕ} {items : List (Option Ref)} {r : Ref} {y : Link} {xs : List Pending} {t : BinaryTree} where
-  pub enters_left : {n : Pooled T} {new : List (Option Ref)} (d : Direction) (o : Entered m s d levels items r y xs t) → n ≡ m
-      → new ≡ cond (is_ascending d) (items ++ Some r ∷ []) items → Enters n s d levels new y.back (pend_left d r o.right xs) o.left
-  enters_left Ascending o same e =
-      subst (λ (k : Pooled T × List (Option Ref)). Enters k.0 s Ascending levels k.1 y.back (record { node = r; after = o.right } ∷ xs) o.left)
-      (λ i. (sym same i, sym e i)) o.before
-  enters_left Descending o same e =
-      subst (λ (k : Pooled T × List (Option Ref)). Enters k.0 s Descending levels k.1 y.back xs o.left) (λ i. (sym same i, sym e i)) o.after
+-- a walk may begin in a pool n that is as m is
+pub enters_moved : {T : Type 0} {m n : Pooled T} {s : ℕ} {d : Direction} {levels : ℕ} {was new : List (Option Ref)} {at next : Option Ref}
+    {xs : List Pending} {t : BinaryTree} → Enters m s d levels was at xs t → n ≡ m → new ≡ was → next ≡ at → Enters n s d levels new next xs t
+enters_moved {T} {s = s} {d} {levels} {xs = xs} {t} h same e f =
+    subst (λ (k : Pooled T × List (Option Ref) × Option Ref). Enters k.0 s d levels k.1 k.2 xs t) (λ i. (sym same i, sym e i, sym f i)) h
 
-  pub enters_right : {n : Pooled T} {new : List (Option Ref)} (d : Direction) (o : Entered m s d levels items r y xs t) → n ≡ m
-      → new ≡ cond (not (is_ascending d)) (items ++ Some r ∷ []) items → Enters n s d levels new y.forth (pend_right d r o.left xs) o.right
-  enters_right Ascending o same e =
-      subst (λ (k : Pooled T × List (Option Ref)). Enters k.0 s Ascending levels k.1 y.forth xs o.right) (λ i. (sym same i, sym e i)) o.after
-  enters_right Descending o same e =
-      subst (λ (k : Pooled T × List (Option Ref)). Enters k.0 s Descending levels k.1 y.forth (record { node = r; after = o.left } ∷ xs) o.right)
-      (λ i. (sym same i, sym e i)) o.before
+-- the way into either side, in a pool n that is as m is; the node is pushed where the walk comes to it later
+module _ {T : Type 0} {m : Pooled T} {s levels : ℕ} {items : List (Option Ref)} {r : Ref} {y : Link} {xs : List Pending} {t : BinaryTree} where
+  pub enters_left : {n : Pooled T} {new : List (Option Ref)} {up : Bool} (d : Direction) (o : Entered m s d levels items r y xs t) → n ≡ m
+      → up ≡ is_ascending d → new ≡ cond up (items ++ Some r ∷ []) items → Enters n s d levels new y.back (pend_left d r o.right xs) o.left
+  enters_left Ascending o same up e = enters_moved o.before same (e ∙ ap (λ z. cond z (items ++ Some r ∷ []) items) up) refl
+  enters_left Descending o same up e = enters_moved o.after same (e ∙ ap (λ z. cond z (items ++ Some r ∷ []) items) up) refl
+
+  pub enters_right : {n : Pooled T} {new : List (Option Ref)} {up : Bool} (d : Direction) (o : Entered m s d levels items r y xs t) → n ≡ m
+      → up ≡ is_ascending d → new ≡ cond (not up) (items ++ Some r ∷ []) items → Enters n s d levels new y.forth (pend_right d r o.left xs) o.right
+  enters_right Ascending o same up e = enters_moved o.after same (e ∙ ap (λ z. cond (not z) (items ++ Some r ∷ []) items) up) refl
+  enters_right Descending o same up e = enters_moved o.before same (e ∙ ap (λ z. cond (not z) (items ++ Some r ∷ []) items) up) refl
 
   sides_lower : (d : Direction) → Entered m s d levels items r y xs t
       → (height_at m s y.back < height_at m s (Some r)) × (height_at m s y.forth < height_at m s (Some r))

@@ -18,7 +18,7 @@ use Rattle.mi_node.proofs.KeepingLemmas.{keeps_none, keeps_link, keeps_then, kee
 use Rattle.mi_node.proofs.RefLemmas.{out_left, out_right, between, are_out_cons, are_out_none, are_out_flip}
 use Rattle.mi_tree.specs.BinaryTree.{BinaryTree, Tip, Fork, nodes, top, size, height, DifferByAtMost, IsEven, Stands, IsRooted, height_at}
 use Rattle.mi_tree.specs.Joining.{AreSides, IsBalanced, IsSettled}
-use Rattle.mi_tree.specs.Sorted.{AreTagged, SameTags, IsPutIn, CanPut, HasPut, side}
+use Rattle.mi_tree.specs.Sorted.{NoneAre, Rising, AreTagged, SameTags, IsPutIn, CanPut, HasPut, CanTake, side}
 use Rattle.mi_tree.specs.Ways.{Frame, way_of, forked, forked_size, forked_height, forked_link, rehung, plug}
 use Rattle.mi_tree.specs.Ways.{risen, IsLevel, AreEven, IsRootOf, Above, Falls, HasFallen, Climbs, HasClimbed, AreRejoined}
 use Rattle.mi_tree.specs.declared.way.Turn.{Turn}
@@ -26,8 +26,10 @@ use Rattle.mi_tree.proofs.BinaryTreeLemmas.{moved, tip_is, size-nodes, height-ro
 use Rattle.mi_tree.proofs.JoinLemmas.{link_kept, stands_kept, rooted_past, tags_set}
 use Rattle.mi_tree.proofs.HeightLemmas.{low_enough}
 use Rattle.mi_tree.proofs.RotationLemmas.{plain_parts}
-use Rattle.mi_tree.proofs.InsertLemmas.{PutOpened, put_opened, put_apart, put_length, put_out}
-use Rattle.mi_tree.proofs.SortedLemmas.{side_order, side_kept, item_kept, put_left, put_right, tagged_left, tagged_right}
+use Rattle.mi_tree.proofs.InsertLemmas.{put_apart, put_length, put_out}
+use Rattle.mi_tree.proofs.RemoveLemmas.{TakeOpened, take_opened}
+use Rattle.mi_tree.proofs.SortedLemmas.{IsOrder, side_order, side_kept, item_kept, put_left, put_right, tagged_left, tagged_right}
+use Rattle.mi_tree.proofs.SortedLemmas.{none_left, none_right, rising_left, rising_right}
 use Rattle.mi_tree.proofs.StandingLemmas.{tagged_kept}
 
 -- the node at the end of a way
@@ -109,6 +111,27 @@ pub plug_out : (fs : List Frame) (t : BinaryTree) (k : ℕ) → IsOut k (nodes (
 plug_out [] t k o = o
 plug_out (f ∷ fs) t k o = (forked_out f.left f.node f.other t k (plug_out fs (forked f.left t f.node f.other) k o)).0
 
+-- nodes that rise, and tags
+pub forked_rising : (R : Ref → Ref → Ordering) (b : Bool) (r : Ref) (q t : BinaryTree) → Rising R (nodes (forked b t r q)) → Rising R (nodes t)
+forked_rising R true r q t h = rising_left R (nodes t) (r ∷ nodes q) h
+forked_rising R false r q t h = (rising_right R (nodes q) (r ∷ nodes t) h).1
+
+pub forked_tagged : {T : Type 0} (tag : T → ℕ) (m : Pooled T) (s : ℕ) (b : Bool) (r : Ref) (q t : BinaryTree)
+    → AreTagged tag m s (nodes (forked b t r q)) → AreTagged tag m s (nodes t)
+forked_tagged tag m s true r q t h = tagged_left tag m s (nodes t) (r ∷ nodes q) h
+forked_tagged tag m s false r q t h = (tagged_right tag m s (nodes q) (r ∷ nodes t) h).1
+
+forked_none : (f : Ref → Ordering) (o : Ordering) (b : Bool) (r : Ref) (q t : BinaryTree)
+    → NoneAre f o (nodes (forked b t r q)) → (f r ≡ o → ⊥) × NoneAre f o (nodes t)
+forked_none f o true r q t h = ((none_right f o (nodes t) (r ∷ nodes q) h).0, none_left f o (nodes t) (r ∷ nodes q) h)
+forked_none f o false r q t h = none_right f o (nodes q) (r ∷ nodes t) h
+
+-- what is put in on the side where it belongs is in its place
+forked_put : (R : Ref → Ref → Ordering) → IsOrder R → (x : Ref) (b : Bool) (r : Ref) (q t u : BinaryTree) → Rising R (nodes (forked b t r q))
+    → R x r ≡ cond b Less Greater → IsPutIn (R x) x (nodes t) (nodes u) → IsPutIn (R x) x (nodes (forked b t r q)) (nodes (forked b u r q))
+forked_put R o x true r q t u h e p = put_left R o x (nodes t) r (nodes q) (nodes u) h e p
+forked_put R o x false r q t u h e p = put_right R o x (nodes q) r (nodes t) (nodes u) h e p
+
 -- sizes and heights
 size_forked : (b : Bool) (r : Ref) (q t : BinaryTree) → size (forked b t r q) ≡ forked_size b (size t) (size q)
 size_forked true r q t = refl
@@ -117,6 +140,19 @@ size_forked false r q t = refl
 size_part : (b : Bool) (r : Ref) (q t : BinaryTree) → size t ≤ size (forked b t r q)
 size_part true r q t = omega arith
 size_part false r q t = omega arith
+
+height_part : (b : Bool) (r : Ref) (q t : BinaryTree) → height t + 1 ≤ height (forked b t r q)
+height_part true r q t = omega arith
+height_part false r q t = omega arith
+
+-- one more and one less on the way
+one_more : (b : Bool) (n k : ℕ) → forked_size b n k + 1 ≡ forked_size b (n + 1) k
+one_more true n k = omega arith
+one_more false n k = omega arith
+
+pub one_less : (b : Bool) (n k : ℕ) → 1 ≤ n → forked_size b n k - 1 ≡ forked_size b (n - 1) k
+one_less true n k h = omega arith
+one_less false n k h = omega arith
 
 height_forked : (b : Bool) (r : Ref) (q t : BinaryTree) → height (forked b t r q) ≡ forked_height b (height t) (height q)
 height_forked true r q t = refl
@@ -160,10 +196,6 @@ pub root_above : (root : Option Ref) (fs : List Frame) (t : BinaryTree) → root
 root_above root [] t e = tt
 root_above root (f ∷ fs) t e = e ∙ top_plug f fs t Tip
 
-root_top : (root : Option Ref) (fs : List Frame) → root ≡ top (plug fs Tip) → IsRootOf root fs
-root_top root [] e = tt
-root_top root (f ∷ fs) e = e
-
 pub plug_height : (fs : List Frame) (t : BinaryTree) → height (plug fs t) ≡ risen fs (height t)
 plug_height [] t = refl
 plug_height (f ∷ fs) t = plug_height fs (forked f.left t f.node f.other) ∙ ap (risen fs) (height_forked f.left f.node f.other t)
@@ -201,6 +233,15 @@ even_moved fs h k e a = subst (AreEven fs) e a
 link_height : (b : Bool) (at : Option Ref) (n h : ℕ) (q : BinaryTree) (t : Tag) → (forked_link b at n h q t).height ≡ forked_height b h (height q)
 link_height true at n h q t = refl
 link_height false at n h q t = refl
+
+-- the same link with another size
+abbrev pub sized_link : ℕ → Link → Link
+sized_link n y = record { back = y.back; forth = y.forth; size = n; height = y.height; tag = y.tag }
+
+sized_is : (b : Bool) (y : Link) (at : Option Ref) (n k z h : ℕ) (q : BinaryTree) → y ≡ forked_link b at n h q y.tag → z ≡ forked_size b k (size q)
+    → sized_link z y ≡ forked_link b at k h q y.tag
+sized_is true y at n k z h q e f = λ i. record { back = (e i).back; forth = (e i).forth; size = f i; height = (e i).height; tag = y.tag }
+sized_is false y at n k z h q e f = λ i. record { back = (e i).back; forth = (e i).forth; size = f i; height = (e i).height; tag = y.tag }
 
 rehung_is : (b : Bool) (y : Link) (at bt : Option Ref) (n h : ℕ) (q : BinaryTree) → y ≡ forked_link b at n h q y.tag
     → rehung b bt y ≡ forked_link b bt n h q y.tag
@@ -303,7 +344,7 @@ module _ {T : Type 0} where
       let o = sided m s true r q u below y at (size u) h t rooted even near beside other held link stands apart fits in
       let e = settled_heights h (height q) (height u) y.height (ap (λ (z : Link). z.height) link) high beside in (
         record {
-          two = plain_parts m s below r y.forth u q o.2.sides;
+          two = plain_parts o.2.sides;
           size_is = ap (λ (z : Link). z.size) link;
           height_is = e.0;
           tag_is = tag;
@@ -315,7 +356,7 @@ module _ {T : Type 0} where
       let e = settled_heights h (height q) (height u) y.height
       (ap (λ (z : Link). z.height) link ∙ ap (λ j. j + 1) (max_turned (height q) h)) high beside in (
         record {
-          two = plain_parts m s y.back r below q u o.2.sides;
+          two = plain_parts o.2.sides;
           size_is = ap (λ (z : Link). z.size) link;
           height_is = e.0 ∙ ap (λ j. j + 1) (max_turned (height u) (height q));
           tag_is = tag;
@@ -497,13 +538,6 @@ module _ {T : Type 0} where
         tags = tags_set s m n r (rehung b (Some next) y) set above.0 (ap (λ (z : Link). z.tag) i);
       }
 
--- one more in a size
-abbrev pub grown_link : Link → Link
-grown_link y = record { back = y.back; forth = y.forth; size = y.size + 1; height = y.height; tag = y.tag }
-
-leaf_put : (R : Ref → Ref → Ordering) (x : Ref) → IsPutIn (R x) x [] (nodes (Fork Tip x Tip))
-leaf_put R x = record { xs = []; ys = []; was = refl; now = refl; below = tt; above = tt }
-
 module _ {T : Type 0} where
   pub falls_start : {m : Pooled T} {s : ℕ} {R : Ref → Ref → Ordering} {tag : T → ℕ} {at : Option Ref} {x : Ref} {t : BinaryTree}
       → CanPut m s R at x t → AreTagged tag m s (x ∷ nodes t) → Falls m s R tag [] at x [] t
@@ -537,161 +571,169 @@ module _ {T : Type 0} where
     pub fallen : (v : Pooled T) (last : List (Option Turn)) (ks : List Frame)
         → HasFallen n v s (side order n s) last x (plug gs sub) ks → HasFallen m v s (side order m s) last x (plug fs t) ks
 
+  -- a node on a way that goes on to one of its sides
+  pub record OnSide (m : Pooled T) (s : ℕ) (b : Bool) (r : Ref) (y : Link) (t : BinaryTree) : Type 0 where
+    pub sub : BinaryTree
+    pub other : BinaryTree
+    pub is : t ≡ forked b sub r other
+    pub can : CanTake m s (cond b y.back y.forth) sub
+    pub other_is : IsRooted m s (cond b y.forth y.back) other
+    pub near : DifferByAtMost 1 (height sub) (height other)
+    pub other_even : IsEven other
+    pub size_is : y.size ≡ forked_size b (size sub) (size other)
+    pub link_is : y ≡ forked_link b (cond b y.back y.forth) (size sub) (height sub) other y.tag
+
+  unfoldable pub on_side : (b : Bool) {m : Pooled T} {s : ℕ} {r : Ref} {y : Link} {t : BinaryTree} → TakeOpened m s r y t → OnSide m s b r y t
+  on_side true {y = y} o = record {
+    sub = o.A;
+    other = o.B;
+    is = o.is;
+    can = o.left;
+    other_is = o.right.rooted;
+    near = o.even.0;
+    other_even = o.even.2;
+    size_is = ap (λ (z : Link). z.size) o.link_is;
+    link_is = λ i. record { back = y.back; forth = (o.link_is i).forth; size = (o.link_is i).size; height = (o.link_is i).height; tag = y.tag };
+  }
+  on_side false {y = y} o = record {
+    sub = o.B;
+    other = o.A;
+    is = o.is;
+    can = o.right;
+    other_is = o.left.rooted;
+    near = (o.even.0.1, o.even.0.0);
+    other_even = o.even.1;
+    size_is = ap (λ (z : Link). z.size) o.link_is;
+    link_is = λ i. record { back = (o.link_is i).back; forth = y.forth; size = (o.link_is i).size; height = (o.link_is i).height; tag = y.tag };
+  }
+
+  module _ {m : Pooled T} {s : ℕ} {b : Bool} {r : Ref} {y : Link} {t : BinaryTree} (k : OnSide m s b r y t) (fs : List Frame) where
+    -- the way is balanced and short enough on that side too
+    pub beside_on : AreEven fs (height t) → AreEven (frame (record { node = r; left = b }) k.other ∷ fs) (height k.sub)
+    beside_on a = (k.near, k.other_even, even_moved fs _ _ (ap height k.is ∙ height_forked b r k.other k.sub) a)
+
+    pub room_on : height t + length fs ≤ 45 → height k.sub + length (frame (record { node = r; left = b }) k.other ∷ fs) ≤ 45
+    room_on room = let part = height_part b r k.other k.sub in let tall = ap height k.is in omega arith
+
+  -- the size of a node on a way down changes, and the way goes on to one of its sides
+  module _ {m n : Pooled T} {s : ℕ} {here : Ref} {y : Link} {t : BinaryTree} (o : TakeOpened m s here y t)
+      (i : y ≡ link_of m here.name s) (size_now : ℕ) (set : n ≡ with_link m here.name s (sized_link size_now y)) where
+    -- no other link changes, and no tag
+    pub sized_keeps : Keeps m n s (here ∷ [])
+    sized_keeps = subst (λ k. Keeps m k s (here ∷ [])) (sym set) (keeps_link s m here (sized_link size_now y))
+
+    pub sized_tags : SameTags m n s
+    sized_tags = tags_set s m n here (sized_link size_now y) set o.held_root (ap (λ (z : Link). z.tag) i)
+
+    sized_here : link_of n here.name s ≡ sized_link size_now y
+    sized_here = ap (λ k. link_of k here.name s) set ∙ link_here m here s (sized_link size_now y) o.held_root
+
+    module _ {b : Bool} (k : OnSide m s b here y t) where
+      sized_apart : Apart here k.other k.sub
+      sized_apart = forked_apart b here k.other k.sub (subst (λ z. IsApart (nodes z)) (sym o.is ∙ k.is) o.apart)
+
+      -- that side is balanced still, and lower than the whole, and the links above it are right for it
+      pub sized_can : CanTake n s (cond b y.back y.forth) k.sub
+      sized_can = record {
+        rooted = rooted_past s m n here _ k.sub sized_keeps sized_apart.out_tree k.can.rooted;
+        even = k.can.even;
+        apart = k.can.apart;
+        fits = k.can.fits;
+      }
+
+      pub sized_lower : {at : Option Ref} → IsRooted m s at t → height_at n s (cond b y.back y.forth) < height_at m s at
+      sized_lower {at} h =
+          let below = height-root n s _ k.sub sized_can.rooted in let above = height-root m s at t h in
+          let part = height_part b here k.other k.sub in let tall = ap height k.is in
+          omega arith
+
+      pub sized_above : (fs : List Frame) {at : Option Ref} {p : ℕ} (j : ℕ) → at ≡ Some here → IsApart (nodes (plug fs t)) → p ≡ size_now
+          → size_now ≡ forked_size b j (size k.other) → Above m s fs at p (height t)
+          → Above n s (frame (record { node = here; left = b }) k.other ∷ fs) (cond b y.back y.forth) j (height k.sub)
+      sized_above fs {at} {p} j e apart f g a = (
+        held_kept s m n (here ∷ []) here sized_keeps o.held_root,
+        sized_here ∙ sized_is b y _ _ j size_now _ k.other k.link_is g
+            ∙ ap (λ (z : Link). forked_link b (cond b y.back y.forth) j (height k.sub) k.other z.tag) (sym sized_here),
+        (rooted_past s m n here _ k.other sized_keeps sized_apart.out_other k.other_is).stands,
+        above_moved n s fs _ _ _ _ _ _ e (f ∙ g) (ap height k.is ∙ height_forked b here k.other k.sub)
+            (above_kept s m n (here ∷ []) fs t _ _ _ sized_keeps apart
+            (λ w out. ((forked_out b here k.other k.sub w (subst (λ z. IsOut w (nodes z)) k.is out)).1, tt)) a),
+      )
+
   module _ {order : T → T → Ordering} (total : IsTotalOrder order) {tag : T → ℕ} {m n : Pooled T} {s : ℕ}
       {items : List (Option Turn)} {at : Option Ref} {here x : Ref} {y : Link} {fs : List Frame} {t : BinaryTree}
       (h : Falls m s (side order m s) tag items at x fs t) (e : at ≡ Some here)
-      (i : y ≡ link_of m here.name s) (set : n ≡ with_link m here.name s (grown_link y)) where
+      (i : y ≡ link_of m here.name s) (set : n ≡ with_link m here.name s (sized_link (y.size + 1) y)) where
     abbrev R : Ref → Ref → Ordering
     R = side order m s
 
-    o : PutOpened m s R here x y t
-    o = put_opened m s R at here x y t h.can e i
+    o : TakeOpened m s here y t
+    o = let f = h.can.fits in
+        take_opened m s at here y t (record { rooted = h.can.rooted; even = h.can.even; apart = h.can.apart; fits = omega arith }) e i
 
     pub keeps_here : Keeps m n s (here ∷ [])
-    keeps_here = subst (λ k. Keeps m k s (here ∷ [])) (sym set) (keeps_link s m here (grown_link y))
+    keeps_here = sized_keeps o i _ set
 
     tags_here : SameTags m n s
-    tags_here = tags_set s m n here (grown_link y) set o.held_root (ap (λ (z : Link). z.tag) i)
+    tags_here = sized_tags o i _ set
 
     same : side order n s ≡ R
     same = λ j a b. side_kept order m n s a b (item_kept m n s a.name (keeps_here.values a.name) (tags_here a.name))
         (item_kept m n s b.name (keeps_here.values b.name) (tags_here b.name)) j
 
-    here_link : link_of n here.name s ≡ grown_link y
-    here_link = ap (λ k. link_of k here.name s) set ∙ link_here m here s (grown_link y) o.held_root
-
     not_here : (here.name == x.name) ≡ false
-    not_here = flip here.name x.name ∙ (out_right x.name (nodes o.A) (here ∷ nodes o.B) o.out).0
-
-    can_kept : (bt : Option Ref) (z : BinaryTree) → IsOut here.name (nodes z) → CanPut m s R bt x z → CanPut n s R bt x z
-    can_kept bt z out c = record {
-      rooted = rooted_past s m n here bt z keeps_here out c.rooted;
-      even = c.even;
-      apart = c.apart;
-      rising = c.rising;
-      alone = rooted_past s m n here (Some x) (Fork Tip x Tip) keeps_here (not_here, tt) c.alone;
-      out = c.out;
-      differs = c.differs;
-      fits = c.fits;
-    }
-
-    tags_open : AreTagged tag m s (nodes o.A ++ here ∷ nodes o.B)
-    tags_open = subst (AreTagged tag m s) (ap nodes o.is) h.tagged.1
-
-    all_tagged : (rs : List Ref) → AreTagged tag m s rs → AreTagged tag n s (x ∷ rs)
-    all_tagged rs g = tagged_kept order tag m n s keeps_here.values tags_here (x ∷ rs) (h.tagged.0, g)
-
-    above_here : (bt : Option Ref) (k j : ℕ) → at ≡ bt → size t + 1 ≡ k → height t ≡ j → Above n s fs bt k j
-    above_here bt k j f p q = above_moved n s fs _ _ _ _ _ _ f p q
-        (above_kept s m n (here ∷ []) fs t _ _ _ keeps_here h.apart
-        (λ w out. let u = subst (λ z. IsOut w (nodes z)) o.is out in ((out_right w (nodes o.A) (here ∷ nodes o.B) u).0, tt)) h.above)
+    not_here = flip here.name x.name ∙ (forked_out true here o.B o.A x.name (subst (λ z. IsOut x.name (nodes z)) o.is h.can.out)).1
 
     abbrev turn : Bool → Turn
     turn b = record { node = here; left = b }
 
-    record Stepped (b : Bool) : Type 0 where
-      pub sub : BinaryTree
-      pub other : BinaryTree
-      pub is : t ≡ forked b sub here other
-      pub falls : Falls n s (side order n s) tag (items ++ Some (turn b) ∷ []) (cond b y.back y.forth) x (frame (turn b) other ∷ fs) sub
-      pub lower : height_at n s (cond b y.back y.forth) < height_at m s at
-
-    stepped_left : R x here ≡ Less → Stepped true
-    stepped_left less =
-        let A = o.A in let B = o.B in let w = between (nodes A) here (nodes B) o.apart in let sizes = ap size o.is in let heights = ap height o.is in
-        let room = h.room in
-        let link : grown_link y ≡ forked_link true y.back (size A + 1) (height A) B y.tag =
-        let z = o.size_is in
-        let long : y.size + 1 ≡ size A + 1 + size B + 1 = omega arith in
-        (λ j. record { back = y.back; forth = o.right.rooted.root j; size = long j; height = o.height_is j; tag = y.tag }) in
-        let can = can_kept y.back A w.out_left o.left in let ha = height-root n s y.back A can.rooted in let ht = height-root m s at t h.can.rooted in
-        let falls : Falls n s R tag (items ++ Some (turn true) ∷ []) y.back x (frame (turn true) B ∷ fs) A = record {
-          path_is = ap (λ k. k ++ Some (turn true) ∷ []) h.path_is;
-          can = can;
-          tagged = all_tagged (nodes A) (tagged_left tag m s (nodes A) (here ∷ nodes B) tags_open);
-          above = (
-            held_kept s m n (here ∷ []) here keeps_here o.held_root,
-            here_link ∙ link ∙ ap (λ (z : Link). forked_link true y.back (size A + 1) (height A) B z.tag) (sym here_link),
-            (rooted_past s m n here y.forth B keeps_here w.out_right o.right.rooted).stands,
-            above_here (Some here) _ _ e (omega arith) heights,
-          );
-          beside = (o.even.0, o.even.2, even_moved fs _ _ heights h.beside);
-          apart = subst (λ k. IsApart (nodes (plug fs k))) o.is h.apart;
-          places = λ u p. subst (λ k. IsPutIn (R x) x (nodes (plug fs k)) (nodes (plug fs (Fork u here B)))) o.is
-              (h.places (Fork u here B) (subst (λ k. IsPutIn (R x) x k (nodes u ++ here ∷ nodes B)) (sym (ap nodes o.is))
-              (put_left R (side_order order m s total) x (nodes A) here (nodes B) (nodes u) o.rising less p)));
-          room = omega arith;
-        } in record {
-          sub = A;
-          other = B;
-          is = o.is;
-          falls = subst (λ Q. Falls n s Q tag (items ++ Some (turn true) ∷ []) y.back x (frame (turn true) B ∷ fs) A) (sym same) falls;
-          lower = omega arith;
+    -- the way goes on to the side where the node belongs
+    stepped : (b : Bool) → R x here ≡ cond b Less Greater
+        → Falls n s R tag (items ++ Some (turn b) ∷ []) (cond b y.back y.forth) x (frame (turn b) (on_side b o).other ∷ fs) (on_side b o).sub
+    stepped b on_b =
+        let k = on_side b o in let w = subst (Falls m s R tag items at x fs) k.is h in let can = sized_can o i _ set k in
+        let part = size_part b here k.other k.sub in let fits = w.can.fits in record {
+          path_is = ap (λ z. z ++ Some (turn b) ∷ []) h.path_is;
+          can = record {
+            rooted = can.rooted;
+            even = can.even;
+            apart = can.apart;
+            rising = forked_rising R b here k.other k.sub w.can.rising;
+            alone = rooted_past s m n here (Some x) (Fork Tip x Tip) keeps_here (not_here, tt) h.can.alone;
+            out = (forked_out b here k.other k.sub x.name w.can.out).0;
+            differs = (forked_none (R x) Equal b here k.other k.sub w.can.differs).1;
+            fits = omega arith;
+          };
+          tagged = tagged_kept order tag m n s keeps_here.values tags_here (x ∷ nodes k.sub)
+              (h.tagged.0, forked_tagged tag m s b here k.other k.sub w.tagged.1);
+          above = sized_above o i _ set k fs (size k.sub + 1) e h.apart (ap (λ z. z + 1) o.size_is)
+              (ap (λ z. z + 1) k.size_is ∙ one_more b (size k.sub) (size k.other)) h.above;
+          beside = beside_on k fs h.beside;
+          apart = w.apart;
+          places = λ u p. w.places (forked b u here k.other)
+              (forked_put R (side_order order m s total) x b here k.other k.sub u w.can.rising on_b p);
+          room = room_on k fs h.room;
         }
 
-    stepped_right : R x here ≡ Greater → Stepped false
-    stepped_right more =
-        let A = o.A in let B = o.B in let w = between (nodes A) here (nodes B) o.apart in let sizes = ap size o.is in let heights = ap height o.is in
-        let room = h.room in
-        let link : grown_link y ≡ forked_link false y.forth (size B + 1) (height B) A y.tag =
-        let z = o.size_is in
-        let long : y.size + 1 ≡ size A + (size B + 1) + 1 = omega arith in
-        (λ j. record { back = o.left.rooted.root j; forth = y.forth; size = long j; height = o.height_is j; tag = y.tag }) in
-        let can = can_kept y.forth B w.out_right o.right in let hb = height-root n s y.forth B can.rooted in let ht = height-root m s at t h.can.rooted in
-        let falls : Falls n s R tag (items ++ Some (turn false) ∷ []) y.forth x (frame (turn false) A ∷ fs) B = record {
-          path_is = ap (λ k. k ++ Some (turn false) ∷ []) h.path_is;
-          can = can;
-          tagged = all_tagged (nodes B) (tagged_right tag m s (nodes A) (here ∷ nodes B) tags_open).1;
-          above = (
-            held_kept s m n (here ∷ []) here keeps_here o.held_root,
-            here_link ∙ link ∙ ap (λ (z : Link). forked_link false y.forth (size B + 1) (height B) A z.tag) (sym here_link),
-            (rooted_past s m n here y.back A keeps_here w.out_left o.left.rooted).stands,
-            above_here (Some here) _ _ e (omega arith) heights,
-          );
-          beside = ((o.even.0.1, o.even.0.0), o.even.1, even_moved fs _ _ heights h.beside);
-          apart = subst (λ k. IsApart (nodes (plug fs k))) o.is h.apart;
-          places = λ u p. subst (λ k. IsPutIn (R x) x (nodes (plug fs k)) (nodes (plug fs (Fork A here u)))) o.is
-              (h.places (Fork A here u) (subst (λ k. IsPutIn (R x) x k (nodes A ++ here ∷ nodes u)) (sym (ap nodes o.is))
-              (put_right R (side_order order m s total) x (nodes A) here (nodes B) (nodes u) o.rising more p)));
-          room = omega arith;
-        } in record {
-          sub = B;
-          other = A;
-          is = o.is;
-          falls = subst (λ Q. Falls n s Q tag (items ++ Some (turn false) ∷ []) y.forth x (frame (turn false) A ∷ fs) B) (sym same) falls;
-          lower = omega arith;
-        }
-
-    less_is : (k : Ordering) → is_lt k ≡ true → k ≡ Less
-    less_is Less f = refl
-    less_is Equal f = absurd cc
-    less_is Greater f = absurd cc
-
-    more_is : (k : Ordering) → is_lt k ≡ false → (k ≡ Equal → ⊥) → k ≡ Greater
-    more_is Less f g = absurd cc
-    more_is Equal f g = absurd (g refl)
-    more_is Greater f g = refl
-
-    stepped_by : (b : Bool) → b ≡ is_lt (R x here) → Stepped b
-    stepped_by true f = stepped_left (less_is (R x here) (sym f))
-    stepped_by false f = stepped_right (more_is (R x here) (sym f) o.differs_root)
-
-    stepped : (k : Ordering) (b : Bool) → R x here ≡ k → b ≡ is_lt k → Stepped b
-    stepped k b f g = stepped_by b (g ∙ ap is_lt (sym f))
+    on_by : (k : Ordering) (b : Bool) → R x here ≡ k → b ≡ is_lt k → R x here ≡ cond b Less Greater
+    on_by Less b f g = f ∙ ap (λ z. cond z Less Greater) (sym g)
+    on_by Equal b f g = absurd ((forked_none (R x) Equal true here o.B o.A (subst (λ z. NoneAre (R x) Equal (nodes z)) o.is h.can.differs)).0 f)
+    on_by Greater b f g = f ∙ ap (λ z. cond z Less Greater) (sym g)
 
     pub same_tag : (link_of n x.name s).tag ≡ (link_of m x.name s).tag
     same_tag = tags_here x.name
 
     pub here_tagged : IsHeld m here × AreTagged tag m s (here ∷ [])
-    here_tagged = (o.held_root, ((tagged_right tag m s (nodes o.A) (here ∷ nodes o.B) tags_open).0, tt))
+    here_tagged =
+        (o.held_root, ((tagged_right tag m s (nodes o.A) (here ∷ nodes o.B) (subst (AreTagged tag m s) (ap nodes o.is) h.tagged.1)).0, tt))
 
     pub room_here : length items < 45
     room_here = let a = h.room in let b = ap length h.path_is in let c = path_length fs in let d = ap height o.is in omega arith
 
-    fallen_on : (b : Bool) (k : Stepped b) (v : Pooled T) (last : List (Option Turn)) (gs : List Frame)
-        → HasFallen n v s (side order n s) last x (plug (frame (turn b) k.other ∷ fs) k.sub) gs → HasFallen m v s R last x (plug fs t) gs
-    fallen_on b k v last gs f =
-        let whole : plug fs t ≡ plug fs (forked b k.sub here k.other) = ap (plug fs) k.is in record {
+    fallen_on : (b : Bool) (v : Pooled T) (last : List (Option Turn)) (gs : List Frame)
+        → HasFallen n v s (side order n s) last x (plug fs (forked b (on_side b o).sub here (on_side b o).other)) gs → HasFallen m v s R last x (plug fs t) gs
+    fallen_on b v last gs f =
+        let k = on_side b o in let whole : plug fs t ≡ plug fs (forked b k.sub here k.other) = ap (plug fs) k.is in record {
           path_is = f.path_is;
           whole_is = f.whole_is ∙ sym whole;
           alone = f.alone;
@@ -709,20 +751,20 @@ module _ {T : Type 0} where
 
     pub next_fall : {new : List (Option Turn)} {next : Option Ref} {k : Ordering} {b : Bool} → side order m s x here ≡ k → b ≡ is_lt k
         → new ≡ items ++ Some (record { node = here; left = b }) ∷ [] → next ≡ cond b y.back y.forth → NextFall m n s order tag new at next x fs t
-    next_fall {new} {next} {k} {b} f g p q = let st = stepped k b f g in record {
-      gs = frame (turn b) st.other ∷ fs;
-      sub = st.sub;
-      falls = subst (λ (z : List (Option Turn) × Option Ref). Falls n s (side order n s) tag z.0 z.1 x (frame (turn b) st.other ∷ fs) st.sub)
-          (λ j. (sym p j, sym q j)) st.falls;
-      lower = subst (λ z. height_at n s z < height_at m s at) (sym q) st.lower;
-      fallen = fallen_on b st;
+    next_fall {new} {next} {k} {b} f g p q = let on = on_side b o in record {
+      gs = frame (turn b) on.other ∷ fs;
+      sub = on.sub;
+      falls = subst (λ (z : (Ref → Ref → Ordering) × List (Option Turn) × Option Ref). Falls n s z.0 tag z.1 z.2 x (frame (turn b) on.other ∷ fs) on.sub)
+          (λ j. (sym same j, sym p j, sym q j)) (stepped b (on_by k b f g));
+      lower = subst (λ z. height_at n s z < height_at m s at) (sym q) (sized_lower o i _ set on h.can.rooted);
+      fallen = fallen_on b;
     }
 
   -- from the way down to the way up, and the whole
   module _ {m n : Pooled T} {s : ℕ} {R : Ref → Ref → Ordering} {items : List (Option Turn)} {at : Option Ref}
       {x : Ref} {t : BinaryTree} (c : CanPut m s R at x t) {gs : List Frame} (f : HasFallen m n s R items x t gs) where
     placed : IsPutIn (R x) x (nodes t) (nodes (plug gs (Fork Tip x Tip)))
-    placed = f.places (Fork Tip x Tip) (leaf_put R x)
+    placed = f.places (Fork Tip x Tip) (record { xs = []; ys = []; was = refl; now = refl; below = tt; above = tt })
 
     pub climbs_start : Climbs n s at (Some x) items gs None 0 (Fork Tip x Tip)
     climbs_start =
@@ -738,7 +780,7 @@ module _ {T : Type 0} where
           near = (omega arith, omega arith);
           apart = put_apart R x (nodes t) (nodes (plug gs (Fork Tip x Tip))) placed c.apart c.out;
           fits = omega arith;
-          root_is = root_top at gs (c.rooted.root ∙ ap top (sym f.whole_is));
+          root_is = root_above at gs Tip (c.rooted.root ∙ ap top (sym f.whole_is));
         }
 
     pub has_put : {v : Pooled T} {root : Option Ref} {u : BinaryTree} → HasClimbed n v s (plug gs (Fork Tip x Tip)) root u → HasPut m v s R x t root u

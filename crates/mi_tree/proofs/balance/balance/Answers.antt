@@ -46,11 +46,10 @@ lean_right-requires-clause-sides g c =
     let more : height w.0 + 1 < height w.1 = omega arith in (w.0, w.1, w.2, more)
 
 pub join-requires-clause-parts : goal.join-requires-clause-parts
-join-requires-clause-parts g c = let w = c.requires.sides in let v = c.args in (w.0, w.1, plain_parts v.p.now v.slot v.left v.node v.right w.0 w.1 w.2)
+join-requires-clause-parts g c = let w = c.requires.sides in (w.0, w.1, plain_parts w.2)
 
 pub returns-else-right_height-left_height-clause-tree : goal.returns-else-right_height-left_height-clause-tree
 returns-else-right_height-left_height-clause-tree g c l q h =
-    let v = c.args in let high = heights g (goal.at.returns-else-right_height-left_height-clause-tree g c).After-height-right_height h in
+    let high = heights g (goal.at.returns-else-right_height-left_height-clause-tree g c).After-height-right_height h in
     let near : DifferByAtMost 1 (height l) (height q) = (omega arith, omega arith) in
-    plains v.p.now c.join.new.p v.slot v.left v.node v.right l q h near
-    (c.join.ensures.tree l q (plain_parts v.p.now v.slot v.left v.node v.right l q h)) c.join.ensures.keeps c.join.ensures.tags
+    plains h near (c.join.ensures.tree l q (plain_parts h)) c.join.ensures.keeps c.join.ensures.tags

@@ -1,23 +1,8 @@
-use Rattle.std.proofs.Common.{◌≡◌, ◌<◌, ◌≤◌, None, refl, ap, ◌∙◌, arith}
-use Rattle.mi_tree.specs.BinaryTree.{BinaryTree, IsRooted, height}
-use Rattle.mi_tree.specs.Joining.{AreSides}
-use Rattle.mi_tree.proofs.BinaryTreeLemmas.{moved, tip_is, height-root, held-root}
-use Rattle.mi_tree.proofs.RotationLemmas.{LeftOpened, left_opened, middle_opened, downs, left_boths}
-use Rattle.mi_tree.proofs.balance.lean_left.Given.{Over}
-use Rattle.mi_tree.proofs.balance.lean_left.Goals.{After-link-link, After-height-2}
+use Rattle.std.proofs.Common.{◌<◌, ◌≤◌, None, refl, ap, ◌∙◌, arith}
+use Rattle.mi_tree.specs.BinaryTree.{height}
+use Rattle.mi_tree.proofs.BinaryTreeLemmas.{moved, tip_is, held-root}
+use Rattle.mi_tree.proofs.RotationLemmas.{left_opened, middle_opened, downs, left_boths}
 use Rattle.mi_tree.proofs.balance.lean_left.Goals as goal
-
-module _ (g : Over) (c : After-link-link g) where
-  -- the left side, opened
-  side : {l q : BinaryTree} → AreSides c.args.p.now c.args.slot c.args.left c.args.node c.args.right l q
-      → LeftOpened c.args.p.now c.args.slot c.in-Some.left c.args.node c.args.right c.link-link.result l q
-  side h = left_opened h c.in-Some.is c.link-link.ensures
-
-module _ (g : Over) (c : After-height-2 g) where
-  -- the heights of the two below it
-  heights : (A B : BinaryTree) → IsRooted c.args.p.now c.args.slot c.link-link.result.back A → IsRooted c.args.p.now c.args.slot c.link-link.result.forth B
-      → (c.height.result ≡ height A) × (c.height-2.result ≡ height B)
-  heights A B a b = (c.height.ensures ∙ height-root c.args.p.now c.args.slot _ A a, c.height-2.ensures ∙ height-root c.args.p.now c.args.slot _ B b)
 
 pub unreachable-requires : goal.unreachable-requires
 unreachable-requires g c =
@@ -25,41 +10,40 @@ unreachable-requires g c =
     let e = ap height (tip_is v.p.now v.slot w.0 (moved v.p.now v.p.now v.slot _ None w.0 refl c.in_default.is w.2.left_is)) in omega arith
 
 pub link-link-requires-clause-held : goal.link-link-requires-clause-held
-link-link-requires-clause-held g c = (left_opened c.requires.sides.2 c.in-Some.is refl).parts.held_x
+link-link-requires-clause-held g c = (left_opened c.requires.sides.2 c.in-Some.is refl).0.held
 
 pub height-requires-clause-held : goal.height-requires-clause-held
 height-requires-clause-held g c =
-    let o = side g (goal.at.height-requires-clause-held g c).After-link-link c.requires.sides.2 in held-root c.args.p.now c.args.slot _ o.A o.parts.first
+    let o = (left_opened c.requires.sides.2 c.in-Some.is c.link-link.ensures).0 in held-root c.args.p.now c.args.slot _ o.A o.left
 
 pub height-requires-2-clause-held : goal.height-requires-2-clause-held
 height-requires-2-clause-held g c =
-    let o = side g (goal.at.height-requires-2-clause-held g c).After-link-link c.requires.sides.2 in held-root c.args.p.now c.args.slot _ o.B o.parts.second
+    let o = (left_opened c.requires.sides.2 c.in-Some.is c.link-link.ensures).0 in held-root c.args.p.now c.args.slot _ o.B o.right
 
 pub join_down-requires-clause-parts : goal.join_down-requires-clause-parts
 join_down-requires-clause-parts g c =
-    let w = c.requires.sides in let o = side g (goal.at.join_down-requires-clause-parts g c).After-link-link w.2 in (o.A, o.B, w.1, o.parts)
+    let w = c.requires.sides in let k = left_opened w.2 c.in-Some.is c.link-link.ensures in (k.0.A, k.0.B, w.1, k.1)
 
 pub returns-then-height-clause-tree : goal.returns-then-height-clause-tree
 returns-then-height-clause-tree g c l q h more =
-    let at = goal.at.returns-then-height-clause-tree g c in let o = side g at.After-link-link h in
-    let high = heights g at.After-height-2 o.A o.B o.parts.first o.parts.second in
+    let k = left_opened h c.in-Some.is c.link-link.ensures in let o = k.0 in
+    let back = c.height.ensures ∙ o.left_height in let forth = c.height-2.ensures ∙ o.right_height in
     let higher : height o.B ≤ height o.A = omega (arith, c.if-height.true) in
-    downs h o more higher (c.join_down.ensures.tree o.A o.B q o.parts) c.join_down.ensures.keeps c.join_down.ensures.tags
+    downs h o more higher (c.join_down.ensures.tree o.A o.B q k.1) c.join_down.ensures.keeps c.join_down.ensures.tags
 
 pub link-inner-requires-clause-held : goal.link-inner-requires-clause-held
 link-inner-requires-clause-held g c =
-    let o = side g (goal.at.link-inner-requires-clause-held g c).After-link-link c.requires.sides.2 in
-    (middle_opened o.parts c.in-Some-forth.is refl).parts.held_y
+    let k = left_opened c.requires.sides.2 c.in-Some.is c.link-link.ensures in (middle_opened k.1 c.in-Some-forth.is refl).0.held
 
 pub join_both-requires-clause-parts : goal.join_both-requires-clause-parts
 join_both-requires-clause-parts g c =
-    let w = c.requires.sides in let o = side g (goal.at.join_both-requires-clause-parts g c).After-link-link w.2 in
-    let u = middle_opened o.parts c.in-Some-forth.is c.link-inner.ensures in
-    (o.A, u.B, u.C, w.1, u.parts)
+    let w = c.requires.sides in let k = left_opened w.2 c.in-Some.is c.link-link.ensures in
+    let u = middle_opened k.1 c.in-Some-forth.is c.link-inner.ensures in
+    (k.0.A, u.0.A, u.0.B, w.1, u.1)
 
 pub returns-clause-tree : goal.returns-clause-tree
 returns-clause-tree g c l q h more =
-    let at = goal.at.returns-clause-tree g c in let o = side g at.After-link-link h in let u = middle_opened o.parts c.in-Some-forth.is c.link-inner.ensures in
-    let high = heights g at.After-height-2 o.A o.B o.parts.first o.parts.second in
+    let k = left_opened h c.in-Some.is c.link-link.ensures in let o = k.0 in let u = middle_opened k.1 c.in-Some-forth.is c.link-inner.ensures in
+    let back = c.height.ensures ∙ o.left_height in let forth = c.height-2.ensures ∙ o.right_height in
     let higher : height o.A < height o.B = omega (arith, c.if-height.false) in
-    left_boths h o u more higher (c.join_both.ensures.tree o.A u.B u.C q u.parts) c.join_both.ensures.keeps c.join_both.ensures.tags
+    left_boths h o u.0 more higher (c.join_both.ensures.tree o.A u.0.A u.0.B q u.1) c.join_both.ensures.keeps c.join_both.ensures.tags

@@ -1,11 +1,11 @@
-use Rattle.std.proofs.Common.{◌≡◌, ℕ, suc, ◌+◌, ◌-◌, ◌<◌, ◌≤◌, cond, not, [], ◌∷◌, ◌++◌, length, Some, refl, ap, ◌∙◌, arith}
+use Rattle.std.proofs.Common.{◌≡◌, ℕ, suc, ◌+◌, ◌-◌, ◌<◌, ◌≤◌, length, refl, ap, ◌∙◌, arith}
 use Rattle.mi_node.specs.Pool.{Pooled}
 use Rattle.mi_tree.specs.BinaryTree.{BinaryTree, IsRooted, nodes, size_at}
 use Rattle.mi_tree.specs.Walking.{is_ascending}
 use Rattle.mi_tree.proofs.BinaryTreeLemmas.{size-root, size-nodes, slot-moved}
 use Rattle.mi_tree.proofs.WalkLemmas.{entered, enters_left, enters_right, enters_lower, goes_moved, way_left, way_right}
 use Rattle.mi_tree.proofs.walk.+cut_down.Given.{Over}
-use Rattle.mi_tree.proofs.walk.+cut_down.Goals.{In-Some, After-size-before, After-push_if, After-push_if-else-passed-before}
+use Rattle.mi_tree.proofs.walk.+cut_down.Goals.{In-Some, After-size-before}
 use Rattle.mi_tree.proofs.walk.+cut_down.Goals as goal
 
 module _ (g : Over) (t : ℕ) (c : In-Some g t) where
@@ -23,18 +23,6 @@ module _ (g : Over) (t : ℕ) (c : After-size-before g t) where
   count_is l h = c.size-before.ensures.size ∙ ap (λ (z : Pooled g.row.T.Denot). size_at z c.args.slot c.link-link.result.back) c.link-link.ensures.pool
       ∙ size-root c.args.p.now.pool c.args.slot c.link-link.result.back l h ∙ size-nodes l
 
-module _ (g : Over) (t : ℕ) (c : After-push_if g t) where
-  -- on the way to the left: the path, which has the node if the walk comes to it later
-  pushed_left : c.push_if.new.path.items ≡ cond (is_ascending c.args.direction) (c.args.path.now.items ++ Some c.in-Some.node ∷ []) c.args.path.now.items
-  pushed_left = c.push_if.ensures ∙ ap (λ z. cond z (c.args.path.now.items ++ Some c.in-Some.node ∷ []) c.args.path.now.items) c.is_ascending.ensures
-
-module _ (g : Over) (t : ℕ) (c : After-push_if-else-passed-before g t) where
-  -- the same on the way to the right
-  pushed_right : c.push_if-else-passed-before.new.path.items
-      ≡ cond (not (is_ascending c.args.direction)) (c.args.path.now.items ++ Some c.in-Some.node ∷ []) c.args.path.now.items
-  pushed_right = c.push_if-else-passed-before.ensures
-      ∙ ap (λ z. cond (not z) (c.args.path.now.items ++ Some c.in-Some.node ∷ []) c.args.path.now.items) c.is_ascending-else-passed-before.ensures
-
 pub push_if-requires : goal.push_if-requires
 push_if-requires g t c = room g t (goal.at.push_if-requires g t c).In-Some
 
@@ -45,14 +33,14 @@ pub cut_down-requires : goal.cut_down-requires
 cut_down-requires g t c κs within =
     let o = goal.at.cut_down-requires g t c in let w = c.requires.way in let same = pool_is g t o.After-size-before in
     let on = entered w.3 c.in-Some.is c.link-link.ensures.link in let falls = enters_lower c.args.direction on same c.in-Some.is in
-    let into = enters_left c.args.direction on same (pushed_left g t o.After-push_if) in
+    let into = enters_left c.args.direction on same c.is_ascending.ensures c.push_if.ensures in
     (omega (arith, c.decreases, falls.0), (within, (slot-moved c.args.slot same c.requires.slot, (w.0, _, on.left, into))))
 
 pub cut_down-requires-else-passed-before : goal.cut_down-requires-else-passed-before
 cut_down-requires-else-passed-before g t c κs within =
     let o = goal.at.cut_down-requires-else-passed-before g t c in let w = c.requires.way in let same = pool_is g t o.After-size-before in
     let on = entered w.3 c.in-Some.is c.link-link.ensures.link in let falls = enters_lower c.args.direction on same c.in-Some.is in
-    let into = enters_right c.args.direction on same (pushed_right g t o.After-push_if-else-passed-before) in
+    let into = enters_right c.args.direction on same c.is_ascending-else-passed-before.ensures c.push_if-else-passed-before.ensures in
     (omega (arith, c.decreases, falls.1), (within, (slot-moved c.args.slot same c.requires.slot, (w.0, _, on.right, into))))
 
 pub returns-then-passed-before-clause-way : goal.returns-then-passed-before-clause-way
@@ -60,7 +48,7 @@ returns-then-passed-before-clause-way g t c levels xs u h =
     let o = goal.at.returns-then-passed-before-clause-way g t c in let same = pool_is g t o.After-size-before in let d = c.args.direction in
     let on = entered h c.in-Some.is c.link-link.ensures.link in let count = count_is g t o.After-size-before on.left on.left_is in
     let few : c.args.passed ≤ length (nodes on.left) = omega (arith, c.if-passed-before.true) in
-    let far = c.cut_down.ensures.way levels _ on.left (enters_left d on same (pushed_left g t o.After-push_if)) in
+    let far = c.cut_down.ensures.way levels _ on.left (enters_left d on same c.is_ascending.ensures c.push_if.ensures) in
     (far.0, goes_moved same far.1, way_left d on.left c.in-Some.node on.right u xs far.0 c.args.passed on.is few far.2)
 
 pub returns-else-passed-before-clause-way : goal.returns-else-passed-before-clause-way
@@ -68,5 +56,6 @@ returns-else-passed-before-clause-way g t c levels xs u h =
     let o = goal.at.returns-else-passed-before-clause-way g t c in let same = pool_is g t o.After-size-before in let d = c.args.direction in
     let on = entered h c.in-Some.is c.link-link.ensures.link in let count = count_is g t o.After-size-before on.left on.left_is in
     let k = c.args.passed - c.size-before.result - 1 in let is : c.args.passed ≡ length (nodes on.left) + suc k = omega (arith, c.if-passed-before.false) in
-    let far = c.cut_down-else-passed-before.ensures.way levels _ on.right (enters_right d on same (pushed_right g t o.After-push_if-else-passed-before)) in
+    let far = c.cut_down-else-passed-before.ensures.way levels _ on.right (enters_right d on same c.is_ascending-else-passed-before.ensures
+    c.push_if-else-passed-before.ensures) in
     (far.0, goes_moved same far.1, way_right d on.left c.in-Some.node on.right u xs far.0 c.args.passed k on.is is far.2)

@@ -1,4 +1,4 @@
-use Rattle.std.proofs.Common.{◌≡◌, ℕ, ◌<◌, cond, not, [], ◌∷◌, ◌++◌, length, None, Some, refl, sym, ap, ◌∙◌, subst, arith}
+use Rattle.std.proofs.Common.{◌≡◌, ℕ, ◌<◌, ◌∷◌, length, None, refl, sym, ap, ◌∙◌, subst, arith}
 use Rattle.mi_node.specs.Pool.{Pooled, link_of}
 use Rattle.mi_node.specs.declared.link.Link.{Link}
 use Rattle.mi_tree.specs.BinaryTree.{nodes}
@@ -10,7 +10,7 @@ use Rattle.mi_tree.proofs.RemoveLemmas.{held_in}
 use Rattle.mi_tree.proofs.WalkLemmas.{entered, enters_lower}
 use Rattle.mi_tree.proofs.FindLemmas.{Finding, finding, find_left, find_right, find_here, found_left, found_right, find_tags, way_of}
 use Rattle.mi_tree.proofs.walk.+find_down.Given.{Over}
-use Rattle.mi_tree.proofs.walk.+find_down.Goals.{In-Some, After-link-link, After-compare_nodes, After-push_if, After-push_if-in-Greater}
+use Rattle.mi_tree.proofs.walk.+find_down.Goals.{In-Some, After-link-link, After-compare_nodes}
 use Rattle.mi_tree.proofs.walk.+find_down.Goals as goal
 
 module _ (g : Over) (t : ℕ) (c : In-Some g t) where
@@ -33,18 +33,6 @@ module _ (g : Over) (t : ℕ) (c : After-compare_nodes g t) where
   side_found : side (g.O.NodeOrder.order c.args.order.now) c.args.p.now.pool c.args.slot c.args.node c.in-Some.root ≡ c.compare_nodes.result
   side_found = side_read (g.O.NodeOrder.order c.args.order.now) c.args.slot c.args.node c.in-Some.root c.link-link.ensures.pool c.requires.tag
       (ap (λ (z : Link). z.tag) c.link-link.ensures.link) c.compare_nodes.ensures.result
-
-module _ (g : Over) (t : ℕ) (c : After-push_if g t) where
-  -- on the way to the left: the path, which has the node if the walk comes to it later
-  pushed_left : c.push_if.new.path.items ≡ cond (is_ascending c.args.direction) (c.args.path.now.items ++ Some c.in-Some.root ∷ []) c.args.path.now.items
-  pushed_left = c.push_if.ensures ∙ ap (λ z. cond z (c.args.path.now.items ++ Some c.in-Some.root ∷ []) c.args.path.now.items) c.is_ascending.ensures
-
-module _ (g : Over) (t : ℕ) (c : After-push_if-in-Greater g t) where
-  -- the same on the way to the right
-  pushed_right : c.push_if-in-Greater.new.path.items
-      ≡ cond (not (is_ascending c.args.direction)) (c.args.path.now.items ++ Some c.in-Some.root ∷ []) c.args.path.now.items
-  pushed_right = c.push_if-in-Greater.ensures
-      ∙ ap (λ z. cond (not z) (c.args.path.now.items ++ Some c.in-Some.root ∷ []) c.args.path.now.items) c.is_ascending-in-Greater.ensures
 
 pub unreachable-requires : goal.unreachable-requires
 unreachable-requires g t c =
@@ -78,7 +66,7 @@ pub find_down-requires : goal.find_down-requires
 find_down-requires g t c κs within =
     let o = goal.at.find_down-requires g t c in let h = sought g t o.In-Some in let tag = g.O.NodeOrder.tag_of c.args.order.now in
     let s = c.args.slot in let i = c.link-link.ensures.link in let same = c.link-link.ensures.pool in let total = g.met.O.NodeOrder.total c.args.order.now in
-    let on = find_left total h c.in-Some.is i same (side_found g t o.After-compare_nodes ∙ c.in-Less.is) (pushed_left g t o.After-push_if) in
+    let on = find_left total h c.in-Some.is i same (side_found g t o.After-compare_nodes ∙ c.in-Less.is) c.is_ascending.ensures c.push_if.ensures in
     let tags = find_tags total h c.in-Some.is i same tag c.requires.way.8 in
     let falls = enters_lower c.args.direction (entered h.enters c.in-Some.is i) same c.in-Some.is in
     (omega (arith, c.decreases, falls.0), (within.0, (within.1, (slot-moved s same c.requires.slot, (tag_kept g t o.After-link-link, way_of tag on.1 tags.0)))))
@@ -87,7 +75,8 @@ pub find_down-requires-in-Greater : goal.find_down-requires-in-Greater
 find_down-requires-in-Greater g t c κs within =
     let o = goal.at.find_down-requires-in-Greater g t c in let h = sought g t o.In-Some in let tag = g.O.NodeOrder.tag_of c.args.order.now in
     let s = c.args.slot in let i = c.link-link.ensures.link in let same = c.link-link.ensures.pool in let total = g.met.O.NodeOrder.total c.args.order.now in
-    let on = find_right total h c.in-Some.is i same (side_found g t o.After-compare_nodes ∙ c.in-Greater.is) (pushed_right g t o.After-push_if-in-Greater) in
+    let on = find_right total h c.in-Some.is i same (side_found g t o.After-compare_nodes ∙ c.in-Greater.is) c.is_ascending-in-Greater.ensures
+    c.push_if-in-Greater.ensures in
     let tags = find_tags total h c.in-Some.is i same tag c.requires.way.8 in
     let falls = enters_lower c.args.direction (entered h.enters c.in-Some.is i) same c.in-Some.is in
     (omega (arith, c.decreases, falls.1), (within.0, (within.1, (slot-moved s same c.requires.slot, (tag_kept g t o.After-link-link, way_of tag on.1 tags.2)))))
@@ -97,7 +86,7 @@ returns-in-Less-clause-way g t c levels xs u vs ws h can up e =
     let o = goal.at.returns-in-Less-clause-way g t c in let i = c.link-link.ensures.link in let same = c.link-link.ensures.pool in
     let total = g.met.O.NodeOrder.total c.args.order.now in
     let k = finding h can up e in
-    let on = find_left total k c.in-Some.is i same (side_found g t o.After-compare_nodes ∙ c.in-Less.is) (pushed_left g t o.After-push_if) in
+    let on = find_left total k c.in-Some.is i same (side_found g t o.After-compare_nodes ∙ c.in-Less.is) c.is_ascending.ensures c.push_if.ensures in
     found_left total k c.in-Some.is i same on.0 on.2 (c.find_down.ensures.way _ _ _ _ _ on.1.enters on.1.can on.1.rising on.1.is)
 
 pub returns-in-Equal-clause-way : goal.returns-in-Equal-clause-way
@@ -112,5 +101,6 @@ returns-in-Greater-clause-way g t c levels xs u vs ws h can up e =
     let o = goal.at.returns-in-Greater-clause-way g t c in let i = c.link-link.ensures.link in let same = c.link-link.ensures.pool in
     let total = g.met.O.NodeOrder.total c.args.order.now in
     let k = finding h can up e in
-    let on = find_right total k c.in-Some.is i same (side_found g t o.After-compare_nodes ∙ c.in-Greater.is) (pushed_right g t o.After-push_if-in-Greater) in
+    let on = find_right total k c.in-Some.is i same (side_found g t o.After-compare_nodes ∙ c.in-Greater.is) c.is_ascending-in-Greater.ensures
+    c.push_if-in-Greater.ensures in
     found_right total k c.in-Some.is i same on.0 on.2 (c.find_down-in-Greater.ensures.way _ _ _ _ _ on.1.enters on.1.can on.1.rising on.1.is)

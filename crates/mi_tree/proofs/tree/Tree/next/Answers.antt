@@ -1,8 +1,7 @@
-use Rattle.std.proofs.Common.{◌≡◌, ◌+◌, ◌<◌, ◌^◌, suc, ◌∷◌, ◌++◌, length, sym, ap, ◌∙◌, subst, arith, length-append}
-use Rattle.mi_node.specs.Pool.{Pooled}
+use Rattle.std.proofs.Common.{◌≡◌, ◌+◌, ◌<◌, ◌^◌, suc, ◌∷◌, ◌++◌, length, ap, ◌∙◌, arith, length-append}
 use Rattle.mi_tree.specs.BinaryTree.{nth_of}
-use Rattle.mi_tree.specs.Standing.{IsTree}
 use Rattle.mi_tree.proofs.BinaryTreeLemmas.{nth-after, nth-first}
+use Rattle.mi_tree.proofs.StandingLemmas.{tree_moved}
 use Rattle.mi_tree.proofs.tree.Tree.next.Goals as goal
 
 pub overflow_add-rank : goal.overflow_add-rank
@@ -11,20 +10,14 @@ overflow_add-rank g c =
     let fits : c.rank-rank.result + 1 < 2 ^ 32 = omega arith in record { fits = fits }
 
 pub nth-requires : goal.nth-requires
-nth-requires g c =
-    let v = c.args in let w = c.requires in let ord = g.O.NodeOrder.order v.self.now.order in let tag = g.O.NodeOrder.tag_of v.self.now.order in
-    (ord, tag, w.0 ++ v.node ∷ w.1, subst (λ (z : Pooled g.row.T.Denot). IsTree v.self.now z ord tag (w.0 ++ v.node ∷ w.1)) (sym c.rank-rank.ensures.pool) w.2)
+nth-requires g c = (_, _, _, tree_moved c.rank-rank.ensures.pool c.requires.2)
 
 pub returns-clause-node : goal.returns-clause-node
 returns-clause-node g c xs ys h =
-    let v = c.args in let ord = g.O.NodeOrder.order v.self.now.order in let tag = g.O.NodeOrder.tag_of v.self.now.order in
-    let at : c.rank-rank.result + 1 ≡ suc (length xs + 0) = let e = c.rank-rank.ensures.rank xs ys h in omega arith in
-    c.nth.ensures.node ord tag (xs ++ v.node ∷ ys)
-    (subst (λ (z : Pooled g.row.T.Denot). IsTree v.self.now z ord tag (xs ++ v.node ∷ ys)) (sym c.rank-rank.ensures.pool) h)
-    ∙ ap (nth_of (xs ++ v.node ∷ ys)) at ∙ nth-after xs v.node ys 0 ∙ nth-first ys
+    let at : c.rank-rank.result + 1 ≡ suc (length xs + 0) = let e = c.rank-rank.ensures.rank xs ys h in omega arith in let x = c.args.node in
+    c.nth.ensures.node _ _ _ (tree_moved c.rank-rank.ensures.pool h) ∙ ap (nth_of (xs ++ x ∷ ys)) at ∙ nth-after xs x ys 0 ∙ nth-first ys
 
 pub returns-clause-reads : goal.returns-clause-reads
 returns-clause-reads g c order tag rs h b f =
-    let v = c.args in let i = c.rank-rank.ensures.reads order tag rs h b f in
-    let j = c.nth.ensures.reads order tag rs (subst (λ (z : Pooled g.row.T.Denot). IsTree v.self.now z order tag rs) (sym c.rank-rank.ensures.pool) h) b f in
+    let i = c.rank-rank.ensures.reads order tag rs h b f in let j = c.nth.ensures.reads order tag rs (tree_moved c.rank-rank.ensures.pool h) b f in
     omega arith

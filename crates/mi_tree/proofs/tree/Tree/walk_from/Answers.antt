@@ -1,51 +1,33 @@
-use Rattle.std.proofs.Common.{◌≡◌, ℕ, List, [], ◌∷◌, ◌++◌, sym, subst, arith}
+use Rattle.std.proofs.Common.{◌∷◌, subst, arith}
 use Rattle.mi_node.specs.Pool.{Pooled}
-use Rattle.mi_node.specs.Refs.{Ref}
-use Rattle.mi_tree.specs.BinaryTree.{BinaryTree, nodes, height, IsRooted}
-use Rattle.mi_tree.specs.Sorted.{CanTake, Rising, AreTagged, side}
-use Rattle.mi_tree.specs.Walking.{Enters, IsWalk, beyond}
-use Rattle.mi_tree.proofs.StandingLemmas.{bound, bound_node, can_take, rising_in, tagged_in, node_held, enters_root}
-use Rattle.mi_tree.proofs.tree.Tree.walk_from.Given.{Over}
-use Rattle.mi_tree.proofs.tree.Tree.walk_from.Goals.{After-link}
+use Rattle.mi_tree.specs.BinaryTree.{height}
+use Rattle.mi_tree.specs.Walking.{IsWalk, beyond}
+use Rattle.mi_tree.proofs.StandingLemmas.{bound, bound_node, can_take, rising_in, tagged_in, tree_moved, node_held, enters_root}
 use Rattle.mi_tree.proofs.tree.Tree.walk_from.Goals as goal
-
-module _ (g : Over) (c : After-link g) where
-  -- the tree stands in the pool that was read
-  rooted : (t : BinaryTree) → IsRooted c.args.p.now.pool c.args.self.now.slot c.args.self.now.root t
-      → IsRooted c.link.new.self.pool c.args.self.now.slot c.args.self.now.root t
-  rooted t h = subst (λ (z : Pooled g.row.T.Denot). IsRooted z c.args.self.now.slot c.args.self.now.root t) (sym c.link.ensures.pool) h
 
 pub link-requires-clause-held : goal.link-requires-clause-held
 link-requires-clause-held g c = let w = c.requires in node_held w.0 c.args.node w.1 w.2
 
 pub start_at-requires-clause-tree : goal.start_at-requires-clause-tree
 start_at-requires-clause-tree g c =
-    let l = c.args.self.now in let s = l.slot in let d = c.args.direction in let w = c.requires in
-    subst (λ (z : Pooled g.row.T.Denot). (levels : ℕ) × (t : BinaryTree) × (xs : List Ref) × (ys : List Ref) × Enters z s d levels [] l.root [] t
-    × CanTake z s l.root t × Rising (side (g.O.NodeOrder.order l.order) z s) (nodes t) × AreTagged (g.O.NodeOrder.tag_of l.order) z s (nodes t)
-    × (nodes t ≡ xs ++ c.args.node ∷ ys))
-    (sym c.link.ensures.pool)
-    (height w.2.shape, w.2.shape, w.0, w.1, enters_root w.2 d, can_take w.2, rising_in w.2, tagged_in w.2, w.2.nodes_are)
+    let w = c.requires in let h = tree_moved c.link.ensures.pool w.2 in
+    (height h.shape, h.shape, w.0, w.1, enters_root h c.args.direction, can_take h, rising_in h, tagged_in h, h.nodes_are)
 
 pub returns-clause-walk : goal.returns-clause-walk
-returns-clause-walk g c xs ys h =
-    let l = c.args.self.now in let s = l.slot in let d = c.args.direction in let x = c.args.node in
-    let on = subst (λ (z : Pooled g.row.T.Denot). (levels : ℕ) (t : BinaryTree) (xs : List Ref) (ys : List Ref) → Enters z s d levels [] l.root [] t
-    → CanTake z s l.root t → Rising (side (g.O.NodeOrder.order l.order) z s) (nodes t) → nodes t ≡ xs ++ x ∷ ys
-    → IsWalk c.start_at.result z levels (x ∷ beyond d xs ys))
-    c.link.ensures.pool c.start_at.ensures.walk in (
+returns-clause-walk g c xs ys was =
+    let same = c.link.ensures.pool in let h = tree_moved same was in let d = c.args.direction in (
       height h.shape,
-      on (height h.shape) h.shape xs ys (enters_root h d) (can_take h) (rising_in h) h.nodes_are,
+      subst (λ (z : Pooled g.row.T.Denot). IsWalk c.start_at.result z (height h.shape) (c.args.node ∷ beyond d xs ys)) same
+          (c.start_at.ensures.walk (height h.shape) h.shape xs ys (enters_root h d) (can_take h) (rising_in h) h.nodes_are),
       λ b f. bound h b f,
     )
 
 pub returns-clause-reads : goal.returns-clause-reads
-returns-clause-reads g c order t rs h b f =
-    let w = c.requires in let e = c.link.ensures.reads in let d = bound_node h w.0 c.args.node w.1 w.2 b f in
-    let a = c.start_at.ensures.reads h.shape (rooted g (goal.at.returns-clause-reads g c).After-link h.shape h.rooted) in
+returns-clause-reads g c order t rs was b f =
+    let w = c.requires in let same = c.link.ensures.pool in let h = tree_moved same was in let e = c.link.ensures.reads in
+    let d = bound_node h w.0 c.args.node w.1 (tree_moved same w.2) b f in let a = c.start_at.ensures.reads h.shape h.rooted in
     omega arith
 
 pub returns-clause-steps : goal.returns-clause-steps
-returns-clause-steps g c order t rs h b f =
-    let a = c.start_at.ensures.steps h.shape (rooted g (goal.at.returns-clause-steps g c).After-link h.shape h.rooted) in let d = bound h b f in
-    omega arith
+returns-clause-steps g c order t rs was b f =
+    let h = tree_moved c.link.ensures.pool was in let a = c.start_at.ensures.steps h.shape h.rooted in let d = bound h b f in omega arith

@@ -1,8 +1,7 @@
-use Rattle.std.proofs.Common.{◌≡◌, ℕ, List, [], length, None, refl, sym, ap, ◌∙◌, subst, arith}
-use Rattle.mi_node.specs.Pool.{Pooled}
+use Rattle.std.proofs.Common.{◌≡◌, ℕ, List, [], length, None, refl, sym, ap, ◌∙◌, arith}
 use Rattle.mi_node.specs.Refs.{Ref, first_of}
 use Rattle.mi_tree.specs.Walking.{IsWalk, Enters, ahead, far_of}
-use Rattle.mi_tree.proofs.WalkLemmas.{Stepped, popped_none, stepped, walks, walks_none, goes_depth, goes_moved}
+use Rattle.mi_tree.proofs.WalkLemmas.{Stepped, popped_none, stepped, walks, walks_none, goes_depth, goes_moved, enters_moved}
 use Rattle.mi_tree.proofs.walk.Walk.next.Given.{Over}
 use Rattle.mi_tree.proofs.walk.Walk.next.Goals.{In_default, In-Some, After-far-after}
 use Rattle.mi_tree.proofs.walk.Walk.next.Goals as goal
@@ -22,8 +21,7 @@ module _ (g : Over) (c : After-far-after g) {levels : ℕ} {us : List Ref}
     (o : Stepped c.args.p.now.pool c.args.self.now.slot c.args.self.now.direction levels c.pop.new.self.items c.in-Some.node us) where
   -- the walk goes down into the subtree after it
   enters : Enters c.link.new.self.pool c.args.self.now.slot c.args.self.now.direction levels c.pop.new.self.items c.far-after.result o.ys o.after
-  enters = subst (λ (z : Pooled g.row.T.Denot × _). Enters z.0 c.args.self.now.slot c.args.self.now.direction levels c.pop.new.self.items z.1 o.ys o.after)
-      (λ i. (sym c.link.ensures.pool i, sym (c.far-after.ensures ∙ ap (far_of c.args.self.now.direction) c.link.ensures.link) i)) o.enters
+  enters = enters_moved o.enters c.link.ensures.pool refl (c.far-after.ensures ∙ ap (far_of c.args.self.now.direction) c.link.ensures.link)
 
 pub returns-in_default-clause-node : goal.returns-in_default-clause-node
 returns-in_default-clause-node g c levels us h =
