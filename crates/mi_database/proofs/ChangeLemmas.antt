@@ -17,26 +17,35 @@ use Rattle.mi_container.specs.Run.{Change}
 use Rattle.mi_container.specs.Makes.{Makes}
 use Rattle.mi_journal.specs.Noted.{Noted, noted}
 use Rattle.mi_database.specs.Journal.{data_at, state_of}
-use Rattle.mi_database.specs.LinkedData.{LinkedData, meaning, IsLinkedData, with_room, kept_datas}
+use Rattle.mi_database.specs.LinkedData.{LinkedData, seen, meaning, IsLinkedData, with_room, kept_datas}
 use Rattle.mi_database.specs.Kept.{kept_rows, KeptRefused}
 use Rattle.mi_database.proofs.LinkedDataLemmas.{Made, made_is_linked, made_keeps}
-use Rattle.mi_database.proofs.LoopLemmas.{linked_data}
+use Rattle.mi_database.specs.declared.linked.Linked.TheInside.{Inside}
 use Rattle.mi_database.proofs.StateLemmas.{within_containers, lift_made, lift_refused, refused_held}
 use Rattle.mi_database.proofs.KeptLemmas.{plain_keeps, kept_refusal}
 
 -- the container k of table n, where all else but room is as in the old database
 pub record Spot {X : Type 0} (shape : X → Shape) (plain : X → Data) (c : CatalogShape) (cs : List X) (j : Noted Inverse) (r n : ℕ) (k : X)
     (old : LinkedData) : Type 0 where
-  pub is : IsLinkedData (map shape cs) (linked_data c (map plain cs) j.sessions r j.changes j.starts)
+  pub is : IsLinkedData (map shape cs) (seen c (map plain cs) j r)
   pub state : state_of c (map plain cs) j.sessions r ≡ meaning old
   pub journal : j.sessions ≡ old.journal
   pub listed : n < length c.tables
   pub within : n < length cs
   pub there : k ≡ get_or cs n k
 
-module _ {X : Type 0} (shape : X → Shape) (plain : X → Data) {c : CatalogShape} {cs : List X} {j : Noted Inverse} {r n : ℕ} {k : X} where
-  pub spot : (old : LinkedData) (changes starts : ℕ) → IsLinkedData (map shape cs) (linked_data c (map plain cs) j.sessions r j.changes j.starts)
-      → linked_data c (map plain cs) j.sessions r j.changes j.starts ≡ with_room changes starts old → n < length old.catalog.tables → k ≡ get_or cs n k
+-- the same, of the fields of the code
+abbrev pub SpotIn : {X : Type 0} → (X → Shape) → (X → Data) → Inside X → ℕ → X → LinkedData → Type 0
+SpotIn shape plain a n k old = Spot shape plain a.catalog a.containers.items a.journal a.revision n k old
+
+-- its change is made, and the inverse noted or settled
+pub record Changed {X : Type 0} {shape : X → Shape} {plain : X → Data} {c : CatalogShape} {cs : List X} {j : Noted Inverse} {r n : ℕ} {k : X}
+    {old : LinkedData} (s : Spot shape plain c cs j r n k old) (k' : X) (i : Inverse) (after : List X) (next : Noted Inverse) : Type 0 where
+  made : Made shape plain cs after n k k' i j.sessions next.sessions
+
+module _ {X : Type 0} {shape : X → Shape} {plain : X → Data} {c : CatalogShape} {cs : List X} {j : Noted Inverse} {r n : ℕ} {k : X} where
+  pub spot : (old : LinkedData) (changes starts : ℕ) → IsLinkedData (map shape cs) (seen c (map plain cs) j r)
+      → seen c (map plain cs) j r ≡ with_room changes starts old → n < length old.catalog.tables → k ≡ get_or cs n k
       → Spot shape plain c cs j r n k old
   spot old changes starts is same listed there =
       let within : n < length c.tables = subst (λ (h : LinkedData). n < length h.catalog.tables) (sym same) listed in
@@ -49,40 +58,37 @@ module _ {X : Type 0} (shape : X → Shape) (plain : X → Data) {c : CatalogSha
         there = there;
       }
 
-module _ {X : Type 0} (shape : X → Shape) (plain : X → Data) {c : CatalogShape} {cs : List X} {j : Noted Inverse} {r n : ℕ} {k : X} {old : LinkedData} where
+module _ {X : Type 0} {shape : X → Shape} {plain : X → Data} {c : CatalogShape} {cs : List X} {j : Noted Inverse} {r n : ℕ} {k : X} {old : LinkedData}
+    (s : Spot shape plain c cs j r n k old) where
   -- what the inverse of a change keeps is kept
-  pub spot_keeps : Spot shape plain c cs j r n k old → (k' : X) (i : Inverse) → (change : Change) × Makes (shape k) change (plain k) i (plain k')
-      → KeptBy i (data_at (map plain (set cs n k')) n)
-  spot_keeps s k' i makes = made_keeps shape plain c cs n k k' i makes.0 j.sessions s.within s.there makes.1 s.is.shapes s.is.linked
+  pub spot_keeps : (k' : X) (i : Inverse) → (change : Change) × Makes (shape k) change (plain k) i (plain k') → KeptBy i (data_at (map plain (set cs n k')) n)
+  spot_keeps k' i makes = made_keeps shape plain c cs n k k' i makes.0 j.sessions s.within s.there makes.1 s.is.shapes s.is.linked
 
-  -- the change is made, and its inverse noted or settled
-  module _ (s : Spot shape plain c cs j r n k old) (k' : X) (i : Inverse) (after : List X) (next : Noted Inverse) where
-    pub spot_made : (change : Change) × Makes (shape k) change (plain k) i (plain k') → shape k' ≡ shape k
-        → map plain after ≡ kept_datas n i j.sessions (map plain (set cs n k'))
-        → map shape after ≡ map shape (set cs n k') → next.sessions ≡ noted (n, i) j.sessions → Made shape plain cs after n k k' i j.sessions next.sessions
-    spot_made makes same datas shapes journal =
-        record { within = s.within; was = s.there; same = same; change = makes.0; makes = makes.1; datas = datas; shapes = shapes; journal = journal }
+  module _ {k' : X} {i : Inverse} {after : List X} {next : Noted Inverse} where
+    pub spot_changed : (change : Change) × Makes (shape k) change (plain k) i (plain k') → shape k' ≡ shape k
+        → map plain after ≡ kept_datas n i j.sessions (map plain (set cs n k')) → map shape after ≡ map shape (set cs n k')
+        → next.sessions ≡ noted (n, i) j.sessions → Changed s k' i after next
+    spot_changed makes same datas shapes journal =
+        let made : Made shape plain cs after n k k' i j.sessions next.sessions =
+        record { within = s.within; was = s.there; same = same; change = makes.0; makes = makes.1; datas = datas; shapes = shapes; journal = journal } in
+        record { made = made }
 
-    pub spot_held : Made shape plain cs after n k k' i j.sessions next.sessions
-        → IsLinkedData (map shape after) (linked_data c (map plain after) next.sessions r next.changes next.starts)
-    spot_held made = made_is_linked shape plain c cs after n k k' i j.sessions next.sessions r j.changes j.starts _ _ made s.is
+    pub spot_held : Changed s k' i after next → IsLinkedData (map shape after) (seen c (map plain after) next r)
+    spot_held changed = made_is_linked shape plain c cs after n k k' i j.sessions next.sessions r j.changes j.starts _ _ changed.made s.is
 
-    pub spot_outcome : {A : Type 0} (f : Shape → Table → Outcome A) (a : Result A Refusal) → Made shape plain cs after n k k' i j.sessions next.sessions
+    pub spot_outcome : {A : Type 0} → Changed s k' i after next → (f : Shape → Table → Outcome A) (a : Result A Refusal)
         → Meets (f (shape k) (table_of (plain k))) a (table_of (plain k)) (table_of (plain k'))
         → Meets (on_table n f (meaning old)) a (meaning old) (state_of c (map plain after) next.sessions r)
-    spot_outcome f a made meets = lift_made shape plain c cs after n k k' i j.sessions next.sessions r j.changes j.starts f a
-        (meaning old) made s.is meets s.state
+    spot_outcome changed f a meets = lift_made shape plain c cs after n k k' i j.sessions next.sessions r j.changes j.starts f a
+        (meaning old) changed.made s.is meets s.state
 
     -- one that keeps no node
-    pub spot_plain : keeps i ≡ None → next.sessions ≡ noted (n, i) j.sessions
-        → kept_rows (linked_data c (map plain after) next.sessions r next.changes next.starts) ≡ kept_more [] (kept_rows old)
-    spot_plain none journal = plain_keeps n old (linked_data c (map plain after) next.sessions r next.changes next.starts) i none
-        (journal ∙ ap (noted (n, i)) s.journal)
+    pub spot_plain : Changed s k' i after next → keeps i ≡ None → kept_rows (seen c (map plain after) next r) ≡ kept_more [] (kept_rows old)
+    spot_plain changed none = plain_keeps n old (seen c (map plain after) next r) i none (changed.made.journal ∙ ap (noted (n, i)) s.journal)
 
   -- the change is refused
-  module _ (s : Spot shape plain c cs j r n k old) (k' : X) where
-    pub spot_stays : plain k' ≡ plain k → shape k' ≡ shape k
-        → IsLinkedData (map shape (set cs n k')) (linked_data c (map plain (set cs n k')) j.sessions r j.changes j.starts)
+  module _ (k' : X) where
+    pub spot_stays : plain k' ≡ plain k → shape k' ≡ shape k → IsLinkedData (map shape (set cs n k')) (seen c (map plain (set cs n k')) j r)
     spot_stays same shapes = refused_held shape plain c cs n k k' j.sessions r j.changes j.starts s.is s.listed s.there same shapes
 
     pub spot_refused : {A : Type 0} (f : Shape → Table → Outcome A) (a : Result A Refusal) → plain k' ≡ plain k
@@ -92,5 +98,5 @@ module _ {X : Type 0} (shape : X → Shape) (plain : X → Data) {c : CatalogSha
         (meaning old) s.is s.listed s.there same meets s.state
 
     pub spot_unkept : (command : Command) (e : Refusal) → kept_after command (meaning old) (kept_rows old) ≡ kept_rows old
-        → KeptRefused command e old (linked_data c (map plain (set cs n k')) j.sessions r j.changes j.starts)
-    spot_unkept command e stays = kept_refusal command e old (linked_data c (map plain (set cs n k')) j.sessions r j.changes j.starts) s.journal stays
+        → KeptRefused command e old (seen c (map plain (set cs n k')) j r)
+    spot_unkept command e stays = kept_refusal command e old (seen c (map plain (set cs n k')) j r) s.journal stays

@@ -1,6 +1,6 @@
 -- What the places and the columns give of the pool's map, and how a change of one place is seen.
 --     There, spot, ..              a held reference is that of the node at its place
---     value-seen, link-seen        what is read of a node
+--     held_..                      what is read at the name of a held reference
 --     seen-..                      the map after a change
 --     sound-..                     that places stay sound
 use Rattle.std.proofs.Common.{◌≡◌, ℕ, zero, suc, ◌+◌, ◌<◌, ◌≤◌, ◌==◌, true, false, cond, List, [], ◌∷◌, ◌++◌, length, option_map}
@@ -11,7 +11,7 @@ use Rattle.std.specs.Cmp.{nat_cmp_total, unsigned_tied}
 use Rattle.std.specs.FinMap.{FinMap, get, get-empty, get-insert, get-remove, same_map, nat_cmp-IsAntisymmetric}
 use Rattle.std.proofs.Math.ListN.{length-set}
 use Rattle.mi_node.specs.Refs.{Ref}
-use Rattle.mi_node.specs.Columns.{links_at, AreLong}
+use Rattle.mi_node.specs.Columns.{column, links_at, AreLong}
 use Rattle.mi_node.specs.Homes.{node_in, value_in, IsFree, AreFree, home_at, IsFreeIf, IsFreeAt}
 use Rattle.mi_node.specs.Pool.{Entry, no_link, no_nodes, node_at, ref_of, value_of, link_of, entry_link}
 use Rattle.mi_node.specs.Pool.{put_link, IsHeld, change, changed, taken, without, with_link, with_value}
@@ -48,9 +48,6 @@ not_last j = grind arith
 -- references of one name and one mark are one
 same_ref : (r q : Ref) → r.name ≡ q.name → r.mark ≡ q.mark → r ≡ q
 same_ref r q e f = λ i. record { name = e i; mark = f i }
-
-pub at_less : (a b c : ℕ) → a < b → b ≤ c → a < c
-at_less a b c g h = omega (arith, g, h)
 
 pub up_to : (a b c : ℕ) → a < b → b ≤ c → a + 1 ≤ c
 up_to a b c g h = omega (arith, g, h)
@@ -161,24 +158,20 @@ module _ {T : Type 0} where
       let one : q ≡ r = same_ref q r name (ap (λ (s : Ref). s.mark) (some_inj _ r e)) in
       record { less = inside hs r.name (Held q v) is; value = v; at = is ∙ ap (λ (s : Ref). Some (Held s v)) one }
 
-  pub there : (n : ℕ) (cs : List (List Cell)) (hs : List (Home T)) (r : Ref) → IsSound n cs hs → IsHeld (seen n cs hs) r → There cs hs r
+  pub there : {n : ℕ} {cs : List (List Cell)} {hs : List (Home T)} {r : Ref} → IsSound n cs hs → IsHeld (seen n cs hs) r → There cs hs r
   unfolding ref_of seen
-  there n cs hs r sound h = held_home cs hs r (home_at hs r.name) refl sound.named (ap (option_map (node_at r.name)) (sym (get-map cs hs r.name)) ∙ h)
+  there {n} {cs} {hs} {r} sound h = held_home cs hs r (home_at hs r.name) refl sound.named (ap (option_map (node_at r.name)) (sym (get-map cs hs r.name)) ∙ h)
 
   -- as an index finds it
-  pub found : (cs : List (List Cell)) (hs : List (Home T)) (r : Ref) (t : There cs hs r) (k : ℕ) (h : Home T)
+  found : (cs : List (List Cell)) (hs : List (Home T)) (r : Ref) (t : There cs hs r) (k : ℕ) (h : Home T)
       → k ≡ r.name → h ≡ slice_index_or hs k h → h ≡ Held r t.value
   found cs hs r t k h name is = is ∙ ap (λ q. slice_index_or hs q h) name ∙ some_inj _ _ (sym (at_index hs r.name h t.less) ∙ t.at)
 
-  pub held_some : (cs : List (List Cell)) (hs : List (Home T)) (r : Ref) (t : There cs hs r) (k : ℕ) (h : Home T)
-      → k ≡ r.name → h ≡ slice_index_or hs k h → IsTrue (is_some (value_in h))
-  held_some cs hs r t k h name is = subst (λ (w : Home T). IsTrue (is_some (value_in w))) (sym (found cs hs r t k h name is)) refl
-
-  pub value-seen : (n : ℕ) (cs : List (List Cell)) (hs : List (Home T)) (r : Ref) (t : There cs hs r) → value_of (seen n cs hs) r.name ≡ Some t.value
+  value-seen : (n : ℕ) (cs : List (List Cell)) (hs : List (Home T)) (r : Ref) (t : There cs hs r) → value_of (seen n cs hs) r.name ≡ Some t.value
   unfolding value_of seen
   value-seen n cs hs r t = ap (option_map (λ (e : Entry T). e.value)) (get-map cs hs r.name ∙ ap (entry_of cs r.name) t.at)
 
-  pub link-seen : (n : ℕ) (cs : List (List Cell)) (hs : List (Home T)) (r : Ref) (s : ℕ) (t : There cs hs r)
+  link-seen : (n : ℕ) (cs : List (List Cell)) (hs : List (Home T)) (r : Ref) (s : ℕ) (t : There cs hs r)
       → link_of (seen n cs hs) r.name s ≡ slice_index_or (links_at cs r.name) s no_link
   unfolding link_of seen
   link-seen n cs hs r s t = ap (λ o. entry_link o s) (get-map cs hs r.name ∙ ap (entry_of cs r.name) t.at)
@@ -364,9 +357,29 @@ module _ {T : Type 0} where
     long = subst (λ k. AreLong k cs) (sym (length_both hs fs)) long;
   }
 
-  -- a slot of a held node has a column with a cell for its place
-  pub wide_at : (n s : ℕ) (cs : List (List Cell)) (hs : List (Home T)) (r : Ref) → IsSound n cs hs → There cs hs r → s < n → s < length cs
-  wide_at n s cs hs r sound t less = let l = t.less in subst (λ k. s < k) (sym (sound.wide (omega (arith, l)))) less
+  -- the name of a held reference is a place
+  module _ {n : ℕ} {cs : List (List Cell)} {hs : List (Home T)} {r : Ref} (sound : IsSound n cs hs) (held : IsHeld (seen n cs hs) r)
+      {k : ℕ} (name : k ≡ r.name) where
+    pub held_less : k < length hs
+    held_less = subst (λ q. q < length hs) (sym name) (there sound held).less
+
+    -- what an index finds there has the node's value
+    pub held_some : (h : Home T) → h ≡ slice_index_or hs k h → IsTrue (is_some (value_in h))
+    held_some h is = subst (λ (w : Home T). IsTrue (is_some (value_in w))) (sym (found cs hs r (there sound held) k h name is)) refl
+
+    pub held_value : (h : Home T) → h ≡ slice_index_or hs k h → value_of (seen n cs hs) r.name ≡ value_in h
+    held_value h is =
+        let t = there sound held in value-seen n cs hs r t ∙ sym (ap (λ (w : Home T). value_in w) (found cs hs r t k h name is))
+
+    -- a slot has a column, with a cell there that has the node's link
+    pub held_wide : (s : ℕ) → s < n → s < length cs
+    held_wide s less = let l = held_less in subst (λ q. s < q) (sym (sound.wide (omega (arith, l)))) less
+
+    pub held_long : (s : ℕ) → s < n → k < length (column cs s)
+    held_long s less = let l = held_less in let long = sound.long s (held_wide s less) in omega (arith, l, long)
+
+    pub held_link : (s : ℕ) → slice_index_or (links_at cs k) s no_link ≡ link_of (seen n cs hs) r.name s
+    held_link s = ap (λ q. slice_index_or (links_at cs q) s no_link) name ∙ sym (link-seen n cs hs r s (there sound held))
 
   pub some_wide : (n : ℕ) (cs : List (List Cell)) (hs : List (Home T)) (k : ℕ) → IsSound n cs hs → k < length hs → length cs ≡ n
   some_wide n cs hs k sound less = sound.wide (omega (arith, less))

@@ -97,36 +97,42 @@ empty_page : (reversed : Bool) (limit : ℕ) (between : List ℕ) → between �
 empty_page true limit between is = ap (λ ids. page_of limit (reverse ids)) is ∙ page_of_none limit
 empty_page false limit between is = ap (page_of limit) is ∙ page_of_none limit
 
-module _ (s : Shape) (t : Table) (x : ℕ) (low : Lower) (high : Upper) (sorted : IsTrue (is_sorted (index_at s x).kind)) (from to : ℕ)
-    (from_is : from ≡ rank_from s t x low) (to_is : to ≡ rank_to s t x high) where
-  between_is : page.between s t x low high ≡ drop from (take to (view s t x))
-  between_is = between_ranks s t x low high sorted ∙ sym (ap₂ (λ m n. drop m (take n (view s t x))) from_is to_is)
+-- where a range begins and ends in what the index shows
+pub record Ranks (s : Shape) (t : Table) (x : ℕ) (low : Lower) (high : Upper) (from to : ℕ) : Type 0 where
+  between : page.between s t x low high ≡ drop from (take to (view s t x))
+  within : to ≤ length (view s t x)
 
-  to_within_view : to ≤ length (view s t x)
-  to_within_view = subst (λ n. n ≤ length (view s t x)) (sym to_is) (to_within s t x high)
+pub ranks_found : (s : Shape) (t : Table) (x : ℕ) (low : Lower) (high : Upper) → IsTrue (is_sorted (index_at s x).kind) → (from to : ℕ)
+    → from ≡ rank_from s t x low → to ≡ rank_to s t x high → Ranks s t x low high from to
+ranks_found s t x low high sorted from to from_is to_is =
+    record {
+      between = between_ranks s t x low high sorted ∙ sym (ap₂ (λ m n. drop m (take n (view s t x))) from_is to_is);
+      within = subst (λ n. n ≤ length (view s t x)) (sym to_is) (to_within s t x high);
+    }
 
+module _ {s : Shape} {t : Table} {x : ℕ} {low : Lower} {high : Upper} {from to : ℕ} (ranks : Ranks s t x low high from to) where
   -- a range that ends where it begins, or before
   pub range_empty : (reversed : Bool) (limit : ℕ) → to ≤ from → page.range s t x low high reversed limit ≡ record { ids = []; more = false }
-  range_empty reversed limit le = empty_page reversed limit (page.between s t x low high) (between_is ∙ segment_empty from to (view s t x) le)
+  range_empty reversed limit le = empty_page reversed limit (page.between s t x low high) (ranks.between ∙ segment_empty from to (view s t x) le)
 
   -- where the walk of a range begins
   range_first : (reversed : Bool) → from < to
       → slice_get (view s t x) (if reversed then to - 1 else from) ≡ slice_get (turned reversed (view s t x)) (start reversed from to (view s t x))
-  range_first reversed l = turned_first reversed from to (view s t x) l to_within_view
+  range_first reversed l = turned_first reversed from to (view s t x) l ranks.within
 
   -- the page of a range
   range_page : (reversed : Bool) (limit : ℕ) (ids : List ℕ) → from < to
       → ids ≡ take (min limit (to - from)) (drop (start reversed from to (view s t x)) (turned reversed (view s t x)))
       → record { ids = ids; more = nat_lt limit (to - from) } ≡ page.range s t x low high reversed limit
   range_page reversed limit ids l given =
-      segment_page reversed from to limit (view s t x) (page.between s t x low high) ids between_is l to_within_view given
+      segment_page reversed from to limit (view s t x) (page.between s t x low high) ids ranks.between l ranks.within given
 
   -- there is a record where it begins
   pub range_begins : (reversed : Bool) (n : ℕ) → from < to → n ≡ (if reversed then to - 1 else from) → slice_get (view s t x) n ≡ None → ⊥
   range_begins true n l is none =
-      let past : length (view s t x) ≤ n = none_means_past (view s t x) n none in let few : to ≤ length (view s t x) = to_within_view in omega arith
+      let past : length (view s t x) ≤ n = none_means_past (view s t x) n none in let few : to ≤ length (view s t x) = ranks.within in omega arith
   range_begins false n l is none =
-      let past : length (view s t x) ≤ n = none_means_past (view s t x) n none in let few : to ≤ length (view s t x) = to_within_view in omega arith
+      let past : length (view s t x) ≤ n = none_means_past (view s t x) n none in let few : to ≤ length (view s t x) = ranks.within in omega arith
 
   module _ (reversed : Bool) (limit n first : ℕ) (l : from < to) (place : n ≡ (if reversed then to - 1 else from))
       (at : slice_get (view s t x) n ≡ Some first) (once : IsOnce (view s t x)) where

@@ -25,19 +25,16 @@ invariant_of-self g c =
     (IsChunked-set in_vec (i / 4096) cs (with_item v (i % 4096) c.args.item) c.self.invariant
     (length-set v.items (i % 4096) c.args.item ∙ full_at in_vec 4096 (i / 4096) cs v c.self.invariant.full there c.index_mut.ensures.value))
 
-pub returns-clause-item : goal.returns-clause-item
-returns-clause-item g c =
+pub returns : goal.returns
+returns g c =
     let cs = c.self.inside.chunks.items in let v = c.index_mut.result.now in let i = c.args.at in let x = c.replace_in.result in
     let there = in_chunks in_vec i cs c.self.invariant.full (subst (λ (l : List g.row.E.Denot). i < length l) (sym c.self.view_is) c.requires) in
-    c.replace_in.ensures.item
-    ∙ sym (index-flat in_vec (i / 4096) (i % 4096) i cs v x c.self.invariant.full there c.index_mut.ensures.value (small_of i) (split_of i))
-    ∙ ap (λ l. slice_index_or l i x) c.self.view_is
-
-pub returns-clause-items : goal.returns-clause-items
-returns-clause-items g c =
-    let cs = c.self.inside.chunks.items in let v = c.index_mut.result.now in let i = c.args.at in
-    let there = in_chunks in_vec i cs c.self.invariant.full (subst (λ (l : List g.row.E.Denot). i < length l) (sym c.self.view_is) c.requires) in
-    ap (λ w. flat in_vec (slice_set cs (i / 4096) w)) c.replace_in.ensures.items
-    ∙ set-flat in_vec (i / 4096) (i % 4096) i cs v (with_item v (i % 4096) c.args.item) c.args.item
-    c.self.invariant.full there c.index_mut.ensures.value refl (small_of i) (split_of i)
-    ∙ ap (λ l. slice_set l i c.args.item) c.self.view_is
+    record {
+      item = c.replace_in.ensures.item
+          ∙ sym (index-flat in_vec (i / 4096) (i % 4096) i cs v x c.self.invariant.full there c.index_mut.ensures.value (small_of i) (split_of i))
+          ∙ ap (λ l. slice_index_or l i x) c.self.view_is;
+      items = ap (λ w. flat in_vec (slice_set cs (i / 4096) w)) c.replace_in.ensures.items
+          ∙ set-flat in_vec (i / 4096) (i % 4096) i cs v (with_item v (i % 4096) c.args.item) c.args.item
+          c.self.invariant.full there c.index_mut.ensures.value refl (small_of i) (split_of i)
+          ∙ ap (λ l. slice_set l i c.args.item) c.self.view_is;
+    }

@@ -26,26 +26,8 @@ returns-in_err-add-clause-nodes g c =
     let es = c.lengthen.new.columns.items in
     ap (seen n es) c.in_err-add.ensures.err ∙ seen-columns n ds es hs c.lengthen.ensures.links ∙ seen-wide n cs ds hs c.requires c.add_columns.ensures.full
 
-pub returns-clause-place : goal.returns-clause-place
-returns-clause-place g c =
-    let p = c.args.self.now in let n = p.slots in let cs = p.columns.items in let hs = p.homes in let ds = c.add_columns.new.columns.items in
-    let es = c.lengthen.new.columns.items in
-    let fs = c.in_ok-free_chunk.field-0.items in
-    let free : AreFree (length hs) fs = subst (λ k. AreFree k fs) c.len-first.ensures c.in_ok-free_chunk.ensures.free in
-    subst (λ gs. IsFreeAt gs c.len-first.result) (sym c.in_ok-add.ensures.ok)
-    (subst (IsFreeAt (hs ++ fs)) (sym c.len-first.ensures) (free_end (length hs) hs fs free (some_less (length fs) c.in_ok-free_chunk.ensures.length)))
-
-pub returns-clause-nodes : goal.returns-clause-nodes
-returns-clause-nodes g c =
-    let p = c.args.self.now in let n = p.slots in let cs = p.columns.items in let hs = p.homes in let ds = c.add_columns.new.columns.items in
-    let es = c.lengthen.new.columns.items in
-    let fs = c.in_ok-free_chunk.field-0.items in
-    let free : AreFree (length hs) fs = subst (λ k. AreFree k fs) c.len-first.ensures c.in_ok-free_chunk.ensures.free in
-    ap (seen n es) c.in_ok-add.ensures.ok ∙ seen-more n (length hs) es hs fs free
-    ∙ seen-columns n ds es hs c.lengthen.ensures.links ∙ seen-wide n cs ds hs c.requires c.add_columns.ensures.full
-
-pub returns-clause-sound : goal.returns-clause-sound
-returns-clause-sound g c =
+pub returns : goal.returns
+returns g c =
     let p = c.args.self.now in let n = p.slots in let cs = p.columns.items in let hs = p.homes in let ds = c.add_columns.new.columns.items in
     let es = c.lengthen.new.columns.items in
     let fs = c.in_ok-free_chunk.field-0.items in
@@ -54,4 +36,11 @@ returns-clause-sound g c =
     c.lengthen.ensures.count c.lengthen.ensures.long in
     let long : AreLong (length hs + length fs) es = subst (λ k. AreLong k es)
     (room_of c.len-first.result (length hs) (length fs) c.len-first.ensures c.in_ok-free_chunk.ensures.length) c.in_ok-lengthen.ensures.ok in
-    subst (IsSound n es) (sym c.in_ok-add.ensures.ok) (sound-more n es hs fs sound (c.lengthen.ensures.count ∙ c.in_ok-add_columns.ensures.ok) free long)
+    record {
+      place = subst (λ gs. IsFreeAt gs c.len-first.result) (sym c.in_ok-add.ensures.ok) (subst (IsFreeAt (hs ++ fs)) (sym c.len-first.ensures)
+          (free_end (length hs) hs fs free (some_less (length fs) c.in_ok-free_chunk.ensures.length)));
+      nodes = ap (seen n es) c.in_ok-add.ensures.ok ∙ seen-more n (length hs) es hs fs free
+          ∙ seen-columns n ds es hs c.lengthen.ensures.links ∙ seen-wide n cs ds hs c.requires c.add_columns.ensures.full;
+      sound = subst (IsSound n es) (sym c.in_ok-add.ensures.ok)
+          (sound-more n es hs fs sound (c.lengthen.ensures.count ∙ c.in_ok-add_columns.ensures.ok) free long);
+    }

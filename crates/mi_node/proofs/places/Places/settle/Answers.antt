@@ -19,31 +19,19 @@ clear-requires g c s there =
 pub set-requires : goal.set-requires
 set-requires g c = free_less c.args.self.now.homes c.args.place c.requires.free
 
-pub returns-clause-free : goal.returns-clause-free
-returns-clause-free g c =
-    let p = c.args.self.now in
-    ap (ref_of (seen p.slots p.columns.items p.homes))
-    (c.next_at-node.ensures
-    ∙ named_found p.homes c.args.place c.at.result.now c.requires.sound.named (free_less p.homes c.args.place c.requires.free) c.at.ensures)
-    ∙ free-seen p.slots p.columns.items p.homes c.args.place c.requires.free
-
-pub returns-clause-nodes : goal.returns-clause-nodes
-returns-clause-nodes g c =
+pub returns : goal.returns
+returns g c =
     let p = c.args.self.now in let r = c.next_at-node.result.0 in let ds = c.clear.new.columns.items in
-    let name : r.name ≡ c.args.place = c.next_at-node.ensures
-    ∙ named_found p.homes c.args.place c.at.result.now c.requires.sound.named (free_less p.homes c.args.place c.requires.free) c.at.ensures in
-    let wide : length p.columns.items ≡ p.slots = some_wide p.slots p.columns.items p.homes
-    c.args.place c.requires.sound (free_less p.homes c.args.place c.requires.free) in
-    ap (seen p.slots ds) (c.set.ensures ∙ ap (λ k. slice_set p.homes k (Held r c.args.value)) (sym name))
-    ∙ seen-settled p.slots p.columns.items ds p.homes r c.args.value
-    (subst (λ k. k < length p.homes) (sym name) (free_less p.homes c.args.place c.requires.free))
-    (λ q e. c.clear.ensures.others q (ap (λ k. q == k) (sym name) ∙ e)) (ap (links_at ds) name ∙ c.clear.ensures.links ∙ ap (λ n. replicate n no_link) wide)
-
-pub returns-clause-sound : goal.returns-clause-sound
-returns-clause-sound g c =
-    let p = c.args.self.now in let r = c.next_at-node.result.0 in let ds = c.clear.new.columns.items in
-    let name : r.name ≡ c.args.place = c.next_at-node.ensures
-    ∙ named_found p.homes c.args.place c.at.result.now c.requires.sound.named (free_less p.homes c.args.place c.requires.free) c.at.ensures in
-    subst (λ hs. IsSound p.slots ds hs) (sym c.set.ensures)
-    (sound-set p.slots ds p.homes c.args.place (Held r c.args.value)
-    (sound-columns p.slots p.columns.items ds p.homes c.requires.sound c.clear.ensures.count c.clear.ensures.long) name)
+    let less = free_less p.homes c.args.place c.requires.free in
+    let name : r.name ≡ c.args.place = c.next_at-node.ensures ∙ named_found p.homes c.args.place c.at.result.now c.requires.sound.named less c.at.ensures in
+    let wide : length p.columns.items ≡ p.slots = some_wide p.slots p.columns.items p.homes c.args.place c.requires.sound less in
+    record {
+      free = ap (ref_of (seen p.slots p.columns.items p.homes)) name ∙ free-seen p.slots p.columns.items p.homes c.args.place c.requires.free;
+      nodes = ap (seen p.slots ds) (c.set.ensures ∙ ap (λ k. slice_set p.homes k (Held r c.args.value)) (sym name))
+          ∙ seen-settled p.slots p.columns.items ds p.homes r c.args.value (subst (λ k. k < length p.homes) (sym name) less)
+          (λ q e. c.clear.ensures.others q (ap (λ k. q == k) (sym name) ∙ e))
+          (ap (links_at ds) name ∙ c.clear.ensures.links ∙ ap (λ n. replicate n no_link) wide);
+      sound = subst (λ hs. IsSound p.slots ds hs) (sym c.set.ensures)
+          (sound-set p.slots ds p.homes c.args.place (Held r c.args.value)
+          (sound-columns p.slots p.columns.items ds p.homes c.requires.sound c.clear.ensures.count c.clear.ensures.long) name);
+    }

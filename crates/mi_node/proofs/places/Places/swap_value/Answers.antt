@@ -1,39 +1,22 @@
-use Rattle.std.proofs.Common.{◌<◌, ap, sym, subst, length, slice_set, ◌∙◌}
-use Rattle.mi_node.specs.Homes.{value_in}
+use Rattle.std.proofs.Common.{ap, sym, subst, slice_set, ◌∙◌}
 use Rattle.mi_node.specs.Seen.{seen, IsSound}
-use Rattle.mi_node.specs.declared.home.Home.{Home}
 use Rattle.mi_node.specs.declared.home.Home.TheVariants.{Held}
-use Rattle.mi_node.proofs.MapLemmas.{there, found, held_some, value-seen, seen-value, sound-set}
+use Rattle.mi_node.proofs.MapLemmas.{there, held_less, held_some, held_value, seen-value, sound-set}
 use Rattle.mi_node.proofs.places.Places.swap_value.Goals as goal
 
 pub replace-requires : goal.replace-requires
-replace-requires g c =
-    let p = c.args.self.now in
-    let t = there p.slots p.columns.items p.homes c.args.node c.requires.sound c.requires.held in
-    subst (λ k. k < length c.args.self.now.homes) (sym c.name.ensures) t.less
+replace-requires g c = held_less c.requires.sound c.requires.held c.name.ensures
 
 pub into_value-requires : goal.into_value-requires
-into_value-requires g c =
+into_value-requires g c = held_some c.requires.sound c.requires.held c.name.ensures c.replace.result c.replace.ensures.item
+
+pub returns : goal.returns
+returns g c =
     let p = c.args.self.now in
-    let t = there p.slots p.columns.items p.homes c.args.node c.requires.sound c.requires.held in
-    held_some p.columns.items p.homes c.args.node t c.name.result c.replace.result c.name.ensures c.replace.ensures.item
-
-pub returns-clause-value : goal.returns-clause-value
-returns-clause-value g c =
-    let p = c.args.self.now in let t = there p.slots p.columns.items p.homes c.args.node c.requires.sound c.requires.held in
-    value-seen p.slots p.columns.items p.homes c.args.node t
-    ∙ sym (ap (λ (h : Home g.row.T.Denot). value_in h)
-    (found p.columns.items p.homes c.args.node t c.name.result c.replace.result c.name.ensures c.replace.ensures.item))
-    ∙ c.into_value.ensures
-
-pub returns-clause-nodes : goal.returns-clause-nodes
-returns-clause-nodes g c =
-    let p = c.args.self.now in let t = there p.slots p.columns.items p.homes c.args.node c.requires.sound c.requires.held in
-    ap (seen p.slots p.columns.items) (c.replace.ensures.items ∙ ap (λ k. slice_set p.homes k (Held c.args.node c.args.value)) c.name.ensures)
-    ∙ seen-value p.slots p.columns.items p.homes c.args.node c.args.value t
-
-pub returns-clause-sound : goal.returns-clause-sound
-returns-clause-sound g c =
-    let p = c.args.self.now in
-    subst (λ hs. IsSound p.slots p.columns.items hs) (sym c.replace.ensures.items)
-    (sound-set p.slots p.columns.items p.homes c.name.result (Held c.args.node c.args.value) c.requires.sound (sym c.name.ensures))
+    record {
+      value = held_value c.requires.sound c.requires.held c.name.ensures c.replace.result c.replace.ensures.item ∙ c.into_value.ensures;
+      nodes = ap (seen p.slots p.columns.items) (c.replace.ensures.items ∙ ap (λ k. slice_set p.homes k (Held c.args.node c.args.value)) c.name.ensures)
+          ∙ seen-value p.slots p.columns.items p.homes c.args.node c.args.value (there c.requires.sound c.requires.held);
+      sound = subst (λ hs. IsSound p.slots p.columns.items hs) (sym c.replace.ensures.items)
+          (sound-set p.slots p.columns.items p.homes c.name.result (Held c.args.node c.args.value) c.requires.sound (sym c.name.ensures));
+    }
