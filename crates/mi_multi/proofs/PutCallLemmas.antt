@@ -50,8 +50,7 @@ module _ (i : Inside) (is : AreMulti i) (w : Seen) (seen : seen_of i ≡ w) (row
   items = i.nodes.structures.items
 
   row_there : get i.ids.entries row.id ≡ Some (record { node = row.node; live = true })
-  row_there = live_there i.schema i.ids.entries m items i.next i.arrivals (row_seen row)
-      (subst (λ (v : Seen). IsLive v.plain.rows (row_seen row)) (sym seen) live)
+  row_there = live_there i w seen (row_seen row) live
 
   pub row_held : IsHeld m row.node
   row_held = (is.held row.id (record { node = row.node; live = true }) row_there).held

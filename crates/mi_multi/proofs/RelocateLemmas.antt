@@ -42,6 +42,8 @@ use Rattle.mi_ids.specs.declared.entry.IdEntry.{IdEntry}
 use Rattle.mi_multi.specs.Physical.{id_in, order_of, orders_of, plan, live_in, kept_in, picked}
 use Rattle.mi_multi.specs.Alike.{SaysSame, IsAltered}
 use Rattle.mi_multi.specs.Multi.{id_at, ids_at, own_list, own_lists, is_live, AreLive, HasNode, IsMulti, plain_of}
+use Rattle.mi_multi.specs.Seen.{Seen, seen_of}
+use Rattle.mi_multi.specs.declared.multi.MultiIndex.TheInside.{Inside}
 use Rattle.mi_multi.proofs.RowLemmas.{picked_still}
 use Rattle.mi_multi.proofs.ListLemmas.{LacksIf, stand_there, times_middle, without_middle}
 use Rattle.mi_multi.proofs.SameNodeLemmas.{node_same, live_alike, kept_alike}
@@ -315,8 +317,7 @@ module _ (s : Shape) (ids : FinMap nat_cmp IdEntry) (m : Pooled Stored) (xs : Li
     }
 
 -- the row that an inverse names
-pub other_node : (s : Shape) (ids : FinMap nat_cmp IdEntry) (m : Pooled Stored) (xs : List Structure) (next arrivals : ℕ) (e : ℕ) (w : Option Row)
-    → IsOther (plain_of s ids m xs next arrivals).rows e (option_map row_seen w)
-    → IsOtherNode ids e (option_map (λ (p : RowRef). p.id) (option_map row_seen w)) (option_map (λ r. (row_seen r).at) w)
-other_node s ids m xs next arrivals e None o = tt
-other_node s ids m xs next arrivals e (Some w) o = (live_there s ids m xs next arrivals (row_seen w) o.0, o.1)
+pub other_node : (i : Inside) (w : Seen) → seen_of i ≡ w → (e : ℕ) (b : Option Row) → IsOther w.plain.rows e (option_map row_seen b)
+    → IsOtherNode i.ids.entries e (option_map (λ (p : RowRef). p.id) (option_map row_seen b)) (option_map (λ r. (row_seen r).at) b)
+other_node i w seen e None o = tt
+other_node i w seen e (Some r) o = (live_there i w seen (row_seen r) o.0, o.1)

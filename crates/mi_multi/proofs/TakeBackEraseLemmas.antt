@@ -24,7 +24,7 @@ use Rattle.mi_index.specs.declared.structure.Structure.TheVariants.{Ordered, Has
 use Rattle.mi_index.specs.declared.moves.Moves.TheVariants.{All}
 use Rattle.mi_index.specs.Standing.{slot_in}
 use Rattle.mi_index.specs.Places.{IsWith, HasStamp}
-use Rattle.mi_index.specs.Pass.{AllLike, AreChanged, IsPass}
+use Rattle.mi_index.specs.Pass.{AllCan, AllLike, AreChanged, IsPass}
 use Rattle.mi_index.specs.Passes.{returned as comes_back, returning}
 use Rattle.mi_container.specs.Data.{Link, Data, Order, kept_of, has_stamps, IsData}
 use Rattle.mi_container.specs.Data.Order.{ById, Listed}
@@ -104,17 +104,21 @@ module _ (s : Shape) (ids : FinMap nat_cmp IdEntry) (m n : Pooled Stored) (xs ys
   kept_is : kept_of d.kept e ≡ Some (kept_node_in m os r)
   kept_is = get_picked (kept_in m os) ids e ∙ ap (option_and_then (kept_in m os)) there
 
-  pub has_back : (k : ℕ) → has_stamps (get_or b.orders k ById) ≡ has_stamps (get_or os k ById)
+  has_back : (k : ℕ) → has_stamps (get_or b.orders k ById) ≡ has_stamps (get_or os k ById)
   has_back k =
       has_relinked d.rows e links d.orders k (let p : length links ≡ length os = length_neighbours m r.name 0 os in
       let q : length os ≡ length s.indexes = length_orders s.indexes [] in
       let w : length d.orders ≡ length s.indexes = length_orders s.indexes (own_lists m xs) in omega arith)
       ∙ has_plan s.indexes (own_lists m xs) k
 
+  -- it may come back into every index
+  pub can_back : AllMeet 0 d.rows (node_in m os r).content links d.orders → IsData s b → AllCan (returning All r) xs 0 m is.rss
+  can_back meet back = can_return s ids m xs next arrivals is e r there meet b refl has_back back
+
   module _ (meet : AllMeet 0 d.rows (node_in m os r).content links d.orders) (back : IsData s b)
       (like : AllLike xs ys) (pass : IsPass (returning All r) (comes_back All r) r 0 xs ys m n) where
     changed : AreChanged (comes_back All r) r 0 xs ys m n is.rss
-    changed = pass is.rss is.stand (can_return s ids m xs next arrivals is e r there meet b refl has_back back)
+    changed = pass is.rss is.stand (can_back meet back)
 
     abbrev new_ids : FinMap nat_cmp IdEntry
     new_ids = with_live ids e true
