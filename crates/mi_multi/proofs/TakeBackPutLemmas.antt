@@ -43,6 +43,7 @@ use Rattle.mi_multi.proofs.SettleLemmas.{orders_still}
 use Rattle.mi_multi.proofs.EveryIndexLemmas.{Turned, Known, Every, At, at, every, all_known, at_plan, all_for, seq_known}
 use Rattle.mi_multi.proofs.EveryIndexLemmas.{sequenced_order, one_plan, no_stamps_past, length_orders, one, none}
 use Rattle.mi_multi.proofs.LiveNodeLemmas.{IsLiveRef, names_apart, out_of_all, all_left, all_right, all_append}
+use Rattle.mi_multi.proofs.StampLemmas.{stamp_given}
 use Rattle.mi_multi.proofs.OldRecordPlaceLemmas.{b, here, meets_at, places_long, given_is, placed}
 
 -- the stamps of a node, each the old one where there is an old place
@@ -179,12 +180,6 @@ module _ (s : Shape) (ids : FinMap nat_cmp IdEntry) (m n : Pooled Stored) (xs ys
           (out_of_all ids m q a is.rss there_ dead (is.held q a there_) is.live);
     }
 
-    given : (p : Pooled Stored) (x : ℕ) (o : Order) → has_stamps o ≡ true → stamp_in p r.name x o ≡ (link_of p r.name x).tag.stamp
-    given p x ById h = absurd (false≢true h)
-    given p x (ByKey ps) h = refl
-    given p x (ByHash ps) h = refl
-    given p x (Listed l) h = absurd (false≢true h)
-
     same_stamp : (x : ℕ) (o : Order) → link_of n r.name x ≡ link_of m r.name x → stamp_in n r.name x o ≡ stamp_in m r.name x o
     same_stamp x ById same = refl
     same_stamp x (ByKey ps) same = ap (λ (w : Line). w.tag.stamp) same
@@ -204,7 +199,7 @@ module _ (s : Shape) (ids : FinMap nat_cmp IdEntry) (m n : Pooled Stored) (xs ys
         let has_ : has_stamps (order_of i.kind i.parts (own_list m x)) ≡ true = placed k d.rows
         (content_of d.rows e).values old.values was (order_of i.kind i.parts (own_list m x)) met in
         let has : has_stamps o ≡ true = ap has_stamps is_order ∙ one_plan i.kind i.parts l (own_list m x) ∙ has_ in
-        given n k o has
+        stamp_given n r.name k o has
         ∙ subst (λ w. (link_of n r.name w).tag.stamp ≡ was.stamp) h.0.slot (own_tag was i x rs us l h.0.for_ moved (sym (ap has_stamps is_order) ∙ has))
 
     stamp_of : (k : ℕ) (o : Order) → At Has k o → stamp_in n r.name k o ≡ stamp_back (place k) (stamp_in m r.name k o)
