@@ -26,12 +26,9 @@ use Rattle.mi_container.proofs.SequenceLemmas.{lacks_left}
 use Rattle.mi_ids.specs.declared.entry.IdEntry.{IdEntry}
 use Rattle.mi_multi.specs.Physical.{id_in, record_in, node_in}
 use Rattle.mi_multi.specs.Multi.{id_at, ids_at, AreLive, HasNode}
-use Rattle.mi_multi.proofs.ListLemmas.{IsRow, link_middle, filter_ids}
+use Rattle.mi_multi.proofs.ListLemmas.{itself, IsRow, link_middle, filter_ids}
 use Rattle.mi_multi.proofs.LiveNodeLemmas.{IsLiveRef, node_live, rows_of, lacks_middle, all_left, all_right}
 use Rattle.mi_multi.proofs.StampLemmas.{rows}
-
-itself : {a b : ℕ} → a ≡ b → (a == b) ≡ true
-itself {a} {b} same = elim (eqb_tells a b) [ inl is ↦ is.0 | inr isnt ↦ absurd (isnt.1 same) ]
 
 pub filter_append : {A : Type 0} (p : A → Bool) (xs ys : List A) → filter p (xs ++ ys) ≡ filter p xs ++ filter p ys
 filter_append p [] ys = refl

@@ -51,7 +51,7 @@ use Rattle.mi_multi.proofs.IndexNumberLemmas.{Numbered}
 use Rattle.mi_multi.proofs.ViewLemmas.{row_at, node_of_row}
 use Rattle.mi_multi.proofs.AnswerLemmas.{live_is}
 use Rattle.mi_multi.proofs.NeighbourLemmas.{filter_append, filter_eq, lacks_filter}
-use Rattle.mi_multi.proofs.ListLemmas.{filter_ids}
+use Rattle.mi_multi.proofs.ListLemmas.{itself, filter_ids}
 use Rattle.mi_multi.proofs.FoundIdLemmas.{where_ids, all_before, all_behind, after_middle}
 use Rattle.mi_multi.proofs.LookUpLemmas.{Among, among, ids_shown}
 
@@ -212,9 +212,6 @@ module _ (s : Shape) (ids : FinMap nat_cmp IdEntry) (m : Pooled Stored) (xs : Li
       → length vs ≡ length (parts_or_id ps) → is_whole ps vs v.row ≡ is_eq (compare_to_row ps vs (row_in v))
   whole_is [] vs v some long = absurd (some refl)
   whole_is (p ∷ ps) vs v some long = ap (λ b. b && is_eq (compare_prefix (p ∷ ps) vs v.row)) (itself long)
-    where
-      itself : {a b : ℕ} → a ≡ b → (a == b) ≡ true
-      itself {a} same = subst (λ c. (a == c) ≡ true) same (count_itself a)
 
   module _ (k : Bor (List Value)) (long : length k.now ≡ length (parts_or_id i.parts)) (parts : is_hashed i.kind ≡ true → i.parts ≢ []) where
     sought_is : (w : Structure) → IsFor i w → (has_keys i.kind ≡ true) → (q : Ref) → IsLiveRef ids m q

@@ -45,18 +45,15 @@ use Rattle.mi_multi.specs.Multi.{id_at, ids_at, own_list, own_lists, is_live, Ar
 use Rattle.mi_multi.specs.Seen.{Seen, seen_of}
 use Rattle.mi_multi.specs.declared.multi.MultiIndex.TheInside.{Inside}
 use Rattle.mi_multi.proofs.RowLemmas.{picked_still}
-use Rattle.mi_multi.proofs.ListLemmas.{LacksIf, stand_there, times_middle, without_middle}
+use Rattle.mi_multi.proofs.ListLemmas.{itself, LacksIf, stand_there, times_middle, without_middle}
 use Rattle.mi_multi.proofs.SameNodeLemmas.{node_same, live_alike, kept_alike}
 use Rattle.mi_multi.proofs.OrderLemmas.{orders_set}
-use Rattle.mi_multi.proofs.EveryIndexLemmas.{Turned, Every, At, at, every, at_plan, all_for, seq_by, has_plan}
-use Rattle.mi_multi.proofs.EveryIndexLemmas.{no_stamps_past, sorted_not_sequenced, hashed_not_sequenced, one, none}
+use Rattle.mi_multi.proofs.EveryIndexLemmas.{Turned, Every, At, at, every, all_for, seq_by, has_plan, at_stamps}
+use Rattle.mi_multi.proofs.EveryIndexLemmas.{sorted_not_sequenced, hashed_not_sequenced, one, none}
 use Rattle.mi_multi.proofs.LiveNodeLemmas.{IsLiveRef, found, holds, id_of, lacks_middle, names_apart, out_of_all, ids_same, all_left, all_right, all_append}
 use Rattle.mi_multi.proofs.NeighbourLemmas.{ids_append}
 use Rattle.mi_multi.proofs.ReturnLemmas.{Now, standing}
 use Rattle.mi_multi.proofs.TakeBackInsertLemmas.{live_there}
-
-itself : {a b : ℕ} → a ≡ b → (a == b) ≡ true
-itself {a} {b} same = elim (eqb_tells a b) [ inl is ↦ is.0 | inr isnt ↦ absurd (isnt.1 same) ]
 
 -- An index that has a list is sequenced
 
@@ -176,13 +173,9 @@ module _ (s : Shape) (ids : FinMap nat_cmp IdEntry) (m : Pooled Stored) (xs : Li
     says k = record {
       value = changed.keeps.values k;
       stamps = λ y has.
-          let l : y < length s.indexes = no_stamps_past s.indexes y has in
-          let zeroed : 0 + y ≡ y = omega arith in
           let ne : y ≢ x = λ same. false≢true (sym (unstamped (get_or d.orders x ById) listed)
           ∙ ap (λ w. has_stamps (get_or d.orders w ById)) (sym same) ∙ has_plan s.indexes (own_lists m xs) y ∙ has) in
-          ap (λ (w : Line). w.tag.stamp)
-          (subst (λ w. link_of n k w ≡ link_of m k w) zeroed
-          (stamp_of_slot (0 + y) (get_or os y ById) (at_plan (Turned (moves_to x r b) ids m n) turns y l) (λ same. ne (sym zeroed ∙ same)) k));
+          ap (λ (w : Line). w.tag.stamp) (stamp_of_slot y (get_or os y ById) (at_stamps (Turned (moves_to x r b) ids m n) turns y has) ne k);
     }
 
     altered : IsAltered os ids m n e

@@ -34,15 +34,13 @@ use Rattle.mi_ids.specs.declared.entry.IdEntry.{IdEntry}
 use Rattle.mi_multi.specs.Physical.{id_in, order_of, orders_of, plan, node_in, kept_node_in, live_in, kept_in, picked}
 use Rattle.mi_multi.specs.Alike.{IsAltered, SeqBy}
 use Rattle.mi_multi.specs.Multi.{id_at, ids_at, own_lists, is_live, AreLive, HasNode, IsMulti, plain_of}
+use Rattle.mi_multi.proofs.ListLemmas.{itself}
 use Rattle.mi_multi.proofs.PickLemmas.{get_picked}
 use Rattle.mi_multi.proofs.RowLemmas.{picked_lost, picked_still, get_gone, get_left}
 use Rattle.mi_multi.proofs.SameNodeLemmas.{live_alike, kept_alike}
 use Rattle.mi_multi.proofs.LiveNodeLemmas.{IsLiveRef, names_apart, out_of, out_of_all}
 use Rattle.mi_multi.proofs.EveryIndexLemmas.{Turned, Every, every, seq_by}
 use Rattle.mi_multi.proofs.ReturnLemmas.{all_like_self}
-
-itself : {a b : ℕ} → a ≡ b → (a == b) ≡ true
-itself {a} {b} same = elim (eqb_tells a b) [ inl is ↦ is.0 | inr isnt ↦ absurd (isnt.1 same) ]
 
 -- Entries
 

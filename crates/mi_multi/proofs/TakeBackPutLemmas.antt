@@ -37,11 +37,11 @@ use Rattle.mi_multi.specs.Alike.{SaysSame, IsAltered}
 use Rattle.mi_multi.specs.Multi.{id_at, ids_at, own_list, own_lists, IsFor, AreLive, HasNode, IsMulti, plain_of}
 use Rattle.mi_multi.specs.Restored.{to_place}
 use Rattle.mi_multi.proofs.RowLemmas.{picked_still, picked_with}
-use Rattle.mi_multi.proofs.ListLemmas.{times_middle}
+use Rattle.mi_multi.proofs.ListLemmas.{itself, times_middle}
 use Rattle.mi_multi.proofs.SameNodeLemmas.{live_alike, kept_alike}
 use Rattle.mi_multi.proofs.SettleLemmas.{orders_still}
-use Rattle.mi_multi.proofs.EveryIndexLemmas.{Turned, Known, Every, At, at, every, all_known, at_plan, all_for, seq_known}
-use Rattle.mi_multi.proofs.EveryIndexLemmas.{sequenced_order, one_plan, no_stamps_past, length_orders, one, none}
+use Rattle.mi_multi.proofs.EveryIndexLemmas.{Turned, Known, Every, At, at, every, all_known, at_plan, all_for, seq_known, at_stamps}
+use Rattle.mi_multi.proofs.EveryIndexLemmas.{sequenced_order, one_plan, length_orders, one, none}
 use Rattle.mi_multi.proofs.LiveNodeLemmas.{IsLiveRef, names_apart, out_of_all, all_left, all_right, all_append}
 use Rattle.mi_multi.proofs.StampLemmas.{stamp_given}
 use Rattle.mi_multi.proofs.OldRecordPlaceLemmas.{b, here, meets_at, places_long, given_is, placed}
@@ -63,9 +63,6 @@ stamps_put m n q y (p ∷ ps) (o ∷ os) long each =
     let next : y + suc k ≡ suc y + k = omega arith in
     subst (λ z. stamp_in n q z (get_or os k ById) ≡ stamp_back (get_or ps k None) (stamp_in m q z (get_or os k ById))) next (each (suc k) (omega arith))) in
     (λ i. first i ∷ rest i)
-
-itself : {a b : ℕ} → a ≡ b → (a == b) ≡ true
-itself {a} {b} same = elim (eqb_tells a b) [ inl is ↦ is.0 | inr isnt ↦ absurd (isnt.1 same) ]
 
 module _ (s : Shape) (ids : FinMap nat_cmp IdEntry) (m n : Pooled Stored) (xs ys : List Structure)
     (next arrivals : ℕ) (is : IsMulti s ids m xs next arrivals) (e : ℕ) (r : Ref)
@@ -167,10 +164,7 @@ module _ (s : Shape) (ids : FinMap nat_cmp IdEntry) (m n : Pooled Stored) (xs ys
     says : (k : ℕ) → (k == r.name) ≡ false → SaysSame os m n k
     says k ne = record {
       value = value_beside k ne;
-      stamps = λ x has.
-          let l : x < length s.indexes = no_stamps_past s.indexes x has in
-          let zeroed : 0 + x ≡ x = omega arith in
-          subst (λ w. (link_of n k w).tag.stamp ≡ (link_of m k w).tag.stamp) zeroed (stamp_beside (0 + x) (get_or os x ById) (at_plan Has known x l) has k ne);
+      stamps = λ x has. stamp_beside x (get_or os x ById) (at_stamps Has known x has) has k ne;
     }
 
     altered : IsAltered os ids m n e
