@@ -84,17 +84,21 @@ module _ (i : Inside) (is : AreMulti i) (w : Seen) (seen : seen_of i ≡ w) wher
         let live : IsLiveRef i.ids.entries m r = subst (λ k. IfSome k (IsLiveRef i.ids.entries m)) is_ one in
         ap node_if_live live
 
-    pub lower_is : (k : Bor (List Value)) (o : Option Ref) → IsSorted w.shape x
-        → ((qs : List Ref) → Stands y m qs → o ≡ first_where (nodes.is_past false y m (Key k)) qs) → option_map (id_at m) o ≡ look.lower w.shape t x k.now
-    lower_is k o sorted h =
+    -- how many have a smaller key, or also those that have it
+    abbrev pub rank_past : Bool → List Value → ℕ
+    rank_past false key = look.lower_rank w.shape t x key
+    rank_past true key = look.upper_rank w.shape t x key
+
+    -- the first one that is past a key stands there
+    pub past_is : (past : Bool) (k : Bor (List Value)) (o : Option Ref) → IsSorted w.shape x
+        → ((qs : List Ref) → Stands y m qs → o ≡ first_where (nodes.is_past past y m (Key k)) qs)
+        → option_map (id_at m) o ≡ slice_get (view w.shape t x) (rank_past past k.now)
+    past_is false k o sorted h =
         ap (option_map (id_at m)) (h rs n.stood.stands)
         ∙ probes.lower_seen i.schema i.ids.entries m items i.next i.arrivals is x y n k
         (subst (λ (v : Seen). IsSorted v.shape x) (sym seen) sorted) (in_order i is w seen x y at sorted).2
         ∙ ap (λ (v : Seen). look.lower v.shape (table_of v.plain) x k.now) seen
-
-    pub upper_is : (k : Bor (List Value)) (o : Option Ref) → IsSorted w.shape x
-        → ((qs : List Ref) → Stands y m qs → o ≡ first_where (nodes.is_past true y m (Key k)) qs) → option_map (id_at m) o ≡ look.upper w.shape t x k.now
-    upper_is k o sorted h =
+    past_is true k o sorted h =
         ap (option_map (id_at m)) (h rs n.stood.stands)
         ∙ probes.upper_seen i.schema i.ids.entries m items i.next i.arrivals is x y n k
         (subst (λ (v : Seen). IsSorted v.shape x) (sym seen) sorted) (in_order i is w seen x y at sorted).2
@@ -107,22 +111,15 @@ module _ (i : Inside) (is : AreMulti i) (w : Seen) (seen : seen_of i ≡ w) wher
         (once_of_each (table_of (seen_of i).plain) (view i.schema (table_of (seen_of i).plain) x)
         (each_in_view i.schema (table_of (seen_of i).plain) x is.is_data.table n.few))
 
-    abbrev pub rank_past : Bool → List Value → ℕ
-    rank_past false key = look.lower_rank w.shape t x key
-    rank_past true key = look.upper_rank w.shape t x key
-
     past_within : (past : Bool) (key : List Value) → rank_past past key ≤ length (view w.shape t x)
     past_within false key = let a = lower-le-upper w.shape t x key in let b = upper-le-length w.shape t x key in omega arith
     past_within true key = upper-le-length w.shape t x key
 
-    past_is : (past : Bool) (k : Bor (List Value)) (o : Option Ref) → IsSorted w.shape x
-        → ((qs : List Ref) → Stands y m qs → o ≡ first_where (nodes.is_past past y m (Key k)) qs)
-        → option_map (id_at m) o ≡ slice_get (view w.shape t x) (rank_past past k.now)
-    past_is false k o sorted h = lower_is k o sorted h
-    past_is true k o sorted h = upper_is k o sorted h
-
     module _ (past : Bool) (k : Bor (List Value)) (o : Option Ref)
         (h : (qs : List Ref) → Stands y m qs → o ≡ first_where (nodes.is_past past y m (Key k)) qs) (sorted : IsSorted w.shape x) where
+      pub past_held : IfSome o (IsHeld m)
+      past_held = found_held (nodes.is_past past y m (Key k)) o h
+
       pub past_ranked : (r : Ref) → o ≡ Some r → (xs : List Ref) × (ys : List Ref) × Stands y m (xs ++ r ∷ ys) × nodes.IsSorted y
       past_ranked r is_ = ranked i is w seen x y at (id_at m r) r (found_live (nodes.is_past past y m (Key k)) o r is_ h) sorted
 
