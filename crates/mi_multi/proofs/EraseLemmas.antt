@@ -1,6 +1,6 @@
 -- A row leaves: what the passes leave are the data without it, and all stands again.
-use Rattle.std.proofs.Common.{◌≡◌, ◌≢◌, ℕ, ◌+◌, ◌^◌, ◌<◌, ◌≤◌, true, false, cond, inl, inr, List}
-use Rattle.std.proofs.Common.{[], ◌∷◌, ◌++◌, map, get_or, length, refl, ap, sym, ◌∙◌, subst, arith}
+use Rattle.std.proofs.Common.{◌≡◌, ◌≢◌, ℕ, ◌+◌, ◌^◌, ◌≤◌, true, false, cond, inl, inr, List}
+use Rattle.std.proofs.Common.{[], ◌∷◌, ◌++◌, map, get_or, refl, ap, sym, ◌∙◌, subst, arith}
 use Rattle.std.specs.Prelude.{◌==◌}
 use Rattle.std.specs.List.{AllByRecursion}
 use Rattle.std.specs.Option.{option_and_then}
@@ -25,7 +25,7 @@ use Rattle.mi_container.specs.Data.{Data, Order, node_of, has_stamps, IsData}
 use Rattle.mi_container.specs.Data.Order.{ById}
 use Rattle.mi_container.specs.Changes.{in_order, entered, left_out, kept_node, erased, erased_node}
 use Rattle.mi_container.specs.Run.Change.{Erase}
-use Rattle.mi_container.proofs.PairLemmas.{climbs_some, some_is, is_other}
+use Rattle.mi_container.proofs.PairLemmas.{climbs_some, some_is}
 use Rattle.mi_container.proofs.InvariantLemmas.{rows_climb}
 use Rattle.mi_container.proofs.LawLemmas.{change_is_tables}
 use Rattle.mi_ids.specs.declared.entry.IdEntry.{IdEntry}

@@ -42,7 +42,7 @@ use Rattle.mi_container.specs.Inverse.Inverse.{Put}
 use Rattle.mi_container.specs.Fits.{MeetByStamp, PlaceMeets, PlacesMeet, last_or}
 use Rattle.mi_container.proofs.ContentLemmas.{node_with, node_beside}
 use Rattle.mi_ids.specs.declared.entry.IdEntry.{IdEntry}
-use Rattle.mi_multi.specs.Physical.{id_in, order_of, plan, record_in, stamps_in, stamp_in, node_in}
+use Rattle.mi_multi.specs.Physical.{id_in, order_of, plan, record_in, stamps_in, node_in}
 use Rattle.mi_multi.specs.Multi.{id_at, ids_at, own_list, own_lists, AreLive, HasNode, IsMulti, plain_of}
 use Rattle.mi_multi.specs.Restored.{to_place}
 use Rattle.mi_multi.proofs.ListLemmas.{first_row, last_row, ref_back, last_ids, head_ids, filter_ids, IsRow}

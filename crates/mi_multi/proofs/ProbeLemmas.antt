@@ -1,7 +1,7 @@
 -- What a key finds in an index.
 use Rattle.std.proofs.Common.{Bor, ◌≡◌, ℕ, ◌<◌, zero, suc, Bool, true, false, cond, not, ◌&&◌, List, []}
 use Rattle.std.proofs.Common.{◌∷◌, ◌++◌, slice_get, get_or, length, refl, ap, sym, ◌∙◌, subst, arith}
-use Rattle.std.specs.Prelude.{◌==◌, ◌≢◌}
+use Rattle.std.specs.Prelude.{◌≢◌}
 use Rattle.std.specs.List.{AllByRecursion, filter, list_all}
 use Rattle.std.specs.Option.{option_map}
 use Rattle.std.specs.Ordering.{is_lt, is_eq, is_gt, is_ge, nat_cmp, ordering_reverse}
@@ -26,7 +26,6 @@ use Rattle.mi_model.specs.Key.{compare_rows, compare_to_row, parts_or_id}
 use Rattle.mi_model.specs.Table.{Table, row}
 use Rattle.mi_model.specs.View.{compare_ids, compare_to_id, view}
 use Rattle.mi_model.specs.LookUp as look
-use Rattle.mi_model.proofs.TableLaws.{count_itself}
 use Rattle.mi_model.proofs.SortLaws.{Ascends, both_ways, each}
 use Rattle.mi_model.proofs.ViewLaws.{compare_ids_total}
 use Rattle.mi_model.proofs.PrefixLaws.{NotBelow, key_falls}

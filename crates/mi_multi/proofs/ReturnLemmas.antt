@@ -34,7 +34,7 @@ use Rattle.mi_container.specs.Inverse.{relinked}
 use Rattle.mi_container.specs.Fits.{Meet, MeetByStamp, MeetIn, AllMeet, last_or}
 use Rattle.mi_container.proofs.PairLemmas.{some_is, lookup_entered, lookup_entered_same}
 use Rattle.mi_ids.specs.declared.entry.IdEntry.{IdEntry}
-use Rattle.mi_multi.specs.Physical.{order_of, orders_of, plan, record_in, stamps_in, stamp_in, neighbours_in, all_neighbours, node_in, live_in}
+use Rattle.mi_multi.specs.Physical.{order_of, orders_of, plan, record_in, stamps_in, neighbours_in, all_neighbours, node_in, live_in}
 use Rattle.mi_multi.specs.Multi.{id_at, ids_at, own_list, own_lists, AreLive, HasNode, IsMulti, plain_of}
 use Rattle.mi_multi.proofs.PickLemmas.{get_picked}
 use Rattle.mi_multi.proofs.ListLemmas.{IsRow, first_row, last_row, ref_back, last_ids, head_ids, parted, filter_ids}

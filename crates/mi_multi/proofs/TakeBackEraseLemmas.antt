@@ -31,7 +31,7 @@ use Rattle.mi_container.specs.Data.Order.{ById, Listed}
 use Rattle.mi_container.specs.Changes.{entered, left_out}
 use Rattle.mi_container.specs.Inverse.{id_of_ref, relinked, returned}
 use Rattle.mi_container.specs.Fits.{AllMeet}
-use Rattle.mi_container.proofs.PairLemmas.{climbs_some, some_is, is_other}
+use Rattle.mi_container.proofs.PairLemmas.{climbs_some, some_is}
 use Rattle.mi_container.proofs.SequenceLemmas.{named_again, lacks_left}
 use Rattle.mi_container.proofs.InvariantLemmas.{rows_climb}
 use Rattle.mi_ids.specs.declared.entry.IdEntry.{IdEntry}
@@ -41,7 +41,7 @@ use Rattle.mi_multi.specs.Alike.{SaysSame, IsAltered}
 use Rattle.mi_multi.specs.Multi.{id_at, ids_at, own_lists, is_live, IsFor, AreLive, HasNode, IsMulti, plain_of}
 use Rattle.mi_multi.proofs.PickLemmas.{get_picked}
 use Rattle.mi_multi.proofs.RowLemmas.{picked_lost, picked_entered}
-use Rattle.mi_multi.proofs.ListLemmas.{itself, LacksIf, stand_there, times_middle}
+use Rattle.mi_multi.proofs.ListLemmas.{LacksIf, stand_there, times_middle}
 use Rattle.mi_multi.proofs.SameNodeLemmas.{node_same, live_alike, kept_alike}
 use Rattle.mi_multi.proofs.OrderLemmas.{Enough, orders_relinked}
 use Rattle.mi_multi.proofs.EveryIndexLemmas.{Turned, Every, At, at, every, Known, all_known, all_for, seq_known, length_orders, at_stamps}

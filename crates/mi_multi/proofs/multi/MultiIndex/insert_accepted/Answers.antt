@@ -76,7 +76,6 @@ invariant_of-self-in-Err c =
     (grown_multi i.schema i.ids.entries i.nodes.pool c.link_in.new.self.pool i.nodes.structures.items
     c.link_in.new.self.structures.items i.next i.arrivals is c.link_in.ensures.like c.in-Err.ensures.err)
 
-
 pub returns-in-Ok-link_in-clause-made : goal.returns-in-Ok-link_in-clause-made
 returns-in-Ok-link_in-clause-made c =
     let i = c.self.inside in let is = c.self.invariant in let f = (goal.at.returns-in-Ok-link_in-clause-made c).After-node_at-place in

@@ -1,6 +1,5 @@
 use Rattle.std.proofs.Common.{◌≡◌, ap, sym, ◌∙◌}
 use Rattle.std.specs.Option.{option_map}
-use Rattle.mi_value.specs.declared.limits.TheConstants.{LAST_COUNT}
 use Rattle.mi_model.specs.Table.{size}
 use Rattle.mi_model.specs.Verdict.{as_unique}
 use Rattle.mi_container.specs.Data.{table_of}

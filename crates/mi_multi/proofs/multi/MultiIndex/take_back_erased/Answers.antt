@@ -1,7 +1,5 @@
-use Rattle.std.proofs.Common.{◌≡◌, false, ap, sym, ◌∙◌, subst}
+use Rattle.std.proofs.Common.{false, ap, sym, ◌∙◌, subst}
 use Rattle.std.specs.declared.option.Option.TheVariants.{None}
-use Rattle.mi_container.specs.Inverse.{taken_back}
-use Rattle.mi_container.specs.Inverse.Inverse.{Erased}
 use Rattle.mi_container.specs.Backs.{row_seen}
 use Rattle.mi_multi.specs.Multi.{IsMulti, plain_of}
 use Rattle.mi_multi.proofs.AnswerLemmas.{kept_there, back_meets, back_is, back_data}
