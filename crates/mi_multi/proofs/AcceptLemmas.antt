@@ -39,12 +39,10 @@ use Rattle.mi_ids.specs.IdMap.{live_node}
 use Rattle.mi_multi.specs.Physical.{orders_of, plan, node_in}
 use Rattle.mi_multi.specs.Multi.{own_lists, plain_of}
 use Rattle.mi_multi.specs.Before.{node_before}
+use Rattle.mi_multi.proofs.ListLemmas.{itself}
 use Rattle.mi_multi.proofs.EveryIndexLemmas.{sequenced_order}
 use Rattle.mi_multi.proofs.AnswerLemmas.{live_is, none_has, row_is}
 use Rattle.mi_multi.proofs.InsertLemmas.{IsBefore}
-
-tested : (a b : ℕ) → a ≡ b → (a == b) ≡ true
-tested a b same = elim (eqb_tells a b) [ inl is ↦ is.0 | inr isnt ↦ absurd (isnt.1 same) ]
 
 pub record Accepted (s : Shape) (at : Option (ℕ × ℕ)) (r : List Value) (t : Table) : Type 0 where
   pub there : has_place t (option_map (λ p. p.1) at) ≡ true
@@ -86,20 +84,20 @@ module _ (s : Shape) (at : Option (ℕ × ℕ)) (r : List Value) (t : Table) whe
   passed_place h = ap (λ n. cond n (Some NoId) (cond (size t == s.max_rows) (Some Full) others)) h
 
   pub is_full : not (has_place t (option_map (λ p. p.1) at)) ≡ false → size t ≡ s.max_rows → insert_refusal s at r t ≡ Some Full
-  is_full h f = passed_place h ∙ ap (λ n. cond n (Some Full) others) (tested (size t) s.max_rows f)
+  is_full h f = passed_place h ∙ ap (λ n. cond n (Some Full) others) (itself f)
 
   passed_size : not (has_place t (option_map (λ p. p.1) at)) ≡ false → (size t ≡ s.max_rows → ⊥) → insert_refusal s at r t ≡ others
   passed_size h f = passed_place h ∙ ap (λ n. cond n (Some Full) others) (is_other (size t) s.max_rows f)
 
   pub next_spent : not (has_place t (option_map (λ p. p.1) at)) ≡ false → (size t ≡ s.max_rows → ⊥) → t.next ≡ LAST_COUNT → insert_refusal s at r t ≡ Some Spent
   next_spent h f n = passed_size h f
-      ∙ ap (λ a. cond (a || is_spent t.arrivals) (Some Spent) (option_map as_unique (conflict s t r None))) (tested t.next LAST_COUNT n)
+      ∙ ap (λ a. cond (a || is_spent t.arrivals) (Some Spent) (option_map as_unique (conflict s t r None))) (itself n)
 
   pub arrivals_spent : not (has_place t (option_map (λ p. p.1) at)) ≡ false → (size t ≡ s.max_rows → ⊥)
       → (t.next ≡ LAST_COUNT → ⊥) → t.arrivals ≡ LAST_COUNT → insert_refusal s at r t ≡ Some Spent
   arrivals_spent h f n a =
       passed_size h f ∙ ap (λ w. cond (w || is_spent t.arrivals) (Some Spent) (option_map as_unique (conflict s t r None))) (is_other t.next LAST_COUNT n)
-      ∙ ap (λ w. cond w (Some Spent) (option_map as_unique (conflict s t r None))) (tested t.arrivals LAST_COUNT a)
+      ∙ ap (λ w. cond w (Some Spent) (option_map as_unique (conflict s t r None))) (itself a)
 
   pub unique_refuses : not (has_place t (option_map (λ p. p.1) at)) ≡ false
       → (size t ≡ s.max_rows → ⊥) → (t.next ≡ LAST_COUNT → ⊥) → (t.arrivals ≡ LAST_COUNT → ⊥)

@@ -15,7 +15,7 @@ use Rattle.mi_node.specs.Pool.{Pooled, value_of}
 use Rattle.mi_node.specs.Refs.{Ref}
 use Rattle.mi_order.specs.declared.stored.Stored.{Stored}
 use Rattle.mi_index.specs.declared.structure.Structure.{Structure}
-use Rattle.mi_container.specs.Data.{Node, Kept, Order, Data, node_of, table_of}
+use Rattle.mi_container.specs.Data.{Node, Kept, Order, Data, IsData, node_of, table_of}
 use Rattle.mi_container.specs.Changes.{erased}
 use Rattle.mi_container.specs.Inverse.{at_in, RowRef, taken_back, returned}
 use Rattle.mi_container.specs.Inverse.Inverse.{Erased}
@@ -29,6 +29,8 @@ use Rattle.mi_ids.specs.declared.entry.IdEntry.{IdEntry}
 use Rattle.mi_ids.specs.IdMap.{live_node, node_if_live}
 use Rattle.mi_multi.specs.Physical.{plan, record_in, all_neighbours, node_in, kept_node_in, live_in}
 use Rattle.mi_multi.specs.Multi.{plain_of}
+use Rattle.mi_multi.specs.Seen.{Seen, seen_of}
+use Rattle.mi_multi.specs.declared.multi.MultiIndex.TheInside.{Inside}
 use Rattle.mi_multi.proofs.PickLemmas.{get_picked}
 use Rattle.mi_multi.proofs.SettleLemmas.{entry_kept}
 
@@ -92,23 +94,6 @@ module _ (s : Shape) (ids : FinMap nat_cmp IdEntry) (m : Pooled Stored) (xs : Li
     inverse = ap (λ o. Erased (record { id = e; at = at_in o }) why) (sym (row_is r h));
   }
 
-  -- The inverse of an erased row
-
-  pub kept_there : (r : RowRef) → IsKept d.kept r → get ids r.id ≡ Some (record { node = r.at; live = false })
-  kept_there r k = let h = entry_kept ids m (plan s.indexes) r.id k.0 k.1 in h.0 ∙ ap (λ w. Some (record { node = w; live = false })) k.2
-
-  pub back_meets : (r : RowRef) (why : Option (ℕ × ℕ)) → Ready (Erased r why) d
-      → AllMeet 0 d.rows (node_in m (plan s.indexes) r.at).content (all_neighbours m r.at.name 0 (plan s.indexes)) d.orders
-  back_meets r why ready =
-      let h = entry_kept ids m (plan s.indexes) r.id ready.0.0 ready.0.1 in
-      subst (λ (w : Kept). AllMeet 0 d.rows w.node.content w.links d.orders) (h.1 ∙ ap (kept_node_in m (plan s.indexes)) ready.0.2) ready.1
-
-  pub back_is : (r : RowRef) (why : Option (ℕ × ℕ)) → IsKept d.kept r
-      → taken_back (Erased r why) d ≡ returned r.id (Some (kept_node_in m (plan s.indexes) r.at)) d
-  back_is r why k =
-      let h = entry_kept ids m (plan s.indexes) r.id k.0 k.1 in
-      ap (λ o. returned r.id o d) (k.1 ∙ ap Some (h.1 ∙ ap (kept_node_in m (plan s.indexes)) k.2))
-
   -- Reading
 
   pub no_record : live_node ids e ≡ None → get_row (table_of d) e ≡ None
@@ -117,3 +102,36 @@ module _ (s : Shape) (ids : FinMap nat_cmp IdEntry) (m : Pooled Stored) (xs : Li
 
   pub record_of : (r : Ref) (v : Stored) → live_node ids e ≡ Some r → value_of m r.name ≡ Some v → get_row (table_of d) e ≡ Some v.row
   record_of r v h is = lookup_shown e d.rows ∙ ap (option_map (λ (n : Node). n.content.values)) (row_is r h) ∙ ap (λ o. Some (record_in o)) is
+
+-- The inverse of an erased row
+
+module _ (i : Inside) (w : Seen) (seen : seen_of i ≡ w) (r : RowRef) where
+  abbrev os : List Order
+  os = plan i.schema.indexes
+
+  -- the row is kept, in its node
+  pub kept_there : IsKept w.plain.kept r → get i.ids.entries r.id ≡ Some (record { node = r.at; live = false })
+  kept_there kept =
+      let k = subst (λ (v : Seen). IsKept v.plain.kept r) (sym seen) kept in
+      (entry_kept i.ids.entries i.nodes.pool os r.id k.0 k.1).0 ∙ ap (λ q. Some (record { node = q; live = false })) k.2
+
+  pub back_meets : (why : Option (ℕ × ℕ)) → Ready (Erased r why) w.plain
+      → AllMeet 0 (seen_of i).plain.rows (node_in i.nodes.pool os r.at).content (all_neighbours i.nodes.pool r.at.name 0 os) (seen_of i).plain.orders
+  back_meets why ready =
+      let b = subst (λ (v : Seen). Ready (Erased r why) v.plain) (sym seen) ready in
+      subst (λ (k : Kept). AllMeet 0 (seen_of i).plain.rows k.node.content k.links (seen_of i).plain.orders)
+      ((entry_kept i.ids.entries i.nodes.pool os r.id b.0.0 b.0.1).1 ∙ ap (kept_node_in i.nodes.pool os) b.0.2) b.1
+
+  -- the data with the row
+  pub back_is : (why : Option (ℕ × ℕ)) → IsKept w.plain.kept r
+      → returned r.id (Some (kept_node_in i.nodes.pool os r.at)) (seen_of i).plain ≡ taken_back (Erased r why) w.plain
+  back_is why kept =
+      let k = subst (λ (v : Seen). IsKept v.plain.kept r) (sym seen) kept in
+      sym (ap (λ o. returned r.id o (seen_of i).plain)
+      (k.1 ∙ ap Some ((entry_kept i.ids.entries i.nodes.pool os r.id k.0 k.1).1 ∙ ap (kept_node_in i.nodes.pool os) k.2)))
+      ∙ ap (λ (v : Seen). taken_back (Erased r why) v.plain) seen
+
+  pub back_data : (why : Option (ℕ × ℕ)) → IsKept w.plain.kept r → IsData w.shape (taken_back (Erased r why) w.plain)
+      → IsData i.schema (returned r.id (Some (kept_node_in i.nodes.pool os r.at)) (seen_of i).plain)
+  back_data why kept data_ =
+      subst (IsData i.schema) (sym (back_is why kept)) (subst (λ k. IsData k (taken_back (Erased r why) w.plain)) (sym (ap (λ (v : Seen). v.shape) seen)) data_)

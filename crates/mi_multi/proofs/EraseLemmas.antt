@@ -1,6 +1,6 @@
 -- A row leaves: what the passes leave are the data without it, and all stands again.
-use Rattle.std.proofs.Common.{◌≡◌, ◌≢◌, ℕ, ◌+◌, ◌^◌, ◌<◌, ◌≤◌, true, false, cond, inl, inr, List}
-use Rattle.std.proofs.Common.{[], ◌∷◌, ◌++◌, map, get_or, length, refl, ap, sym, ◌∙◌, subst, arith}
+use Rattle.std.proofs.Common.{◌≡◌, ◌≢◌, ℕ, ◌+◌, ◌^◌, ◌≤◌, true, false, cond, inl, inr, List}
+use Rattle.std.proofs.Common.{[], ◌∷◌, ◌++◌, map, get_or, refl, ap, sym, ◌∙◌, subst, arith}
 use Rattle.std.specs.Prelude.{◌==◌}
 use Rattle.std.specs.List.{AllByRecursion}
 use Rattle.std.specs.Option.{option_and_then}
@@ -25,7 +25,7 @@ use Rattle.mi_container.specs.Data.{Data, Order, node_of, has_stamps, IsData}
 use Rattle.mi_container.specs.Data.Order.{ById}
 use Rattle.mi_container.specs.Changes.{in_order, entered, left_out, kept_node, erased, erased_node}
 use Rattle.mi_container.specs.Run.Change.{Erase}
-use Rattle.mi_container.proofs.PairLemmas.{climbs_some, some_is, is_other}
+use Rattle.mi_container.proofs.PairLemmas.{climbs_some, some_is}
 use Rattle.mi_container.proofs.InvariantLemmas.{rows_climb}
 use Rattle.mi_container.proofs.LawLemmas.{change_is_tables}
 use Rattle.mi_ids.specs.declared.entry.IdEntry.{IdEntry}
@@ -35,17 +35,14 @@ use Rattle.mi_multi.specs.Alike.{SaysSame, IsAltered}
 use Rattle.mi_multi.specs.Multi.{id_at, ids_at, own_lists, is_live, AreLive, HasNode, IsMulti, plain_of}
 use Rattle.mi_multi.proofs.PickLemmas.{get_picked}
 use Rattle.mi_multi.proofs.RowLemmas.{picked_lost, picked_entered}
-use Rattle.mi_multi.proofs.ListLemmas.{without_middle, times_middle}
+use Rattle.mi_multi.proofs.ListLemmas.{itself, without_middle, times_middle}
 use Rattle.mi_multi.proofs.SameNodeLemmas.{node_same, live_alike, kept_alike}
 use Rattle.mi_multi.proofs.OrderLemmas.{orders_map}
-use Rattle.mi_multi.proofs.EveryIndexLemmas.{Turned, Every, At, at, every, at_plan, all_known, all_for, seq_by, no_stamps_past, one, none}
+use Rattle.mi_multi.proofs.EveryIndexLemmas.{Turned, Every, At, at, every, all_known, all_for, seq_by, one, none, at_stamps}
 use Rattle.mi_multi.proofs.LiveNodeLemmas.{IsLiveRef, holds, marked_here, marked_beside, len_marked, names_apart}
-use Rattle.mi_multi.proofs.LiveNodeLemmas.{lacks_middle, out_of_all, ids_same, all_left, all_right, all_append}
+use Rattle.mi_multi.proofs.LiveNodeLemmas.{lacks_middle, out_of_all, ids_same, all_left, all_right, all_append, once_more}
 use Rattle.mi_multi.proofs.NeighbourLemmas.{id_is}
 use Rattle.mi_multi.proofs.LinkLemmas.{tags_at, links_seen}
-
-itself : {a b : ℕ} → a ≡ b → (a == b) ≡ true
-itself {a} {b} same = elim (eqb_tells a b) [ inl is ↦ is.0 | inr isnt ↦ absurd (isnt.1 same) ]
 
 -- the node stands in every index
 can_from : (ids : FinMap nat_cmp IdEntry) (m : Pooled Stored) (e : ℕ) (r : Ref) → get ids e ≡ Some (record { node = r; live = true })
@@ -86,11 +83,7 @@ module _ (s : Shape) (ids : FinMap nat_cmp IdEntry) (m n : Pooled Stored) (xs ys
   says : (k : ℕ) → SaysSame os m n k
   says k = record {
     value = changed.keeps.values k;
-    stamps = λ x has.
-        let l : x < length s.indexes = no_stamps_past s.indexes x has in
-        let same : 0 + x ≡ x = omega arith in
-        subst (λ w. (link_of n k w).tag.stamp ≡ (link_of m k w).tag.stamp) same
-        (tag_of (0 + x) (get_or os x ById) (at_plan (Turned (left All r) ids m n) turns x l) has k);
+    stamps = λ x has. tag_of x (get_or os x ById) (at_stamps (Turned (left All r) ids m n) turns x has) has k;
   }
 
   altered : IsAltered os ids m n e
@@ -161,20 +154,9 @@ module _ (s : Shape) (ids : FinMap nat_cmp IdEntry) (m n : Pooled Stored) (xs ys
       let parts : times q (ids_at m rs) ≡ cond (id_at m r == q) 1 0 + times q (ids_at m (w.xs ++ w.ys)) =
       ap (λ k. times q (ids_at m k)) w.now ∙ times_middle (id_at m) q w.xs r w.ys in
       let was : times q (ids_at m rs) ≡ cond (is_live (get ids q)) 1 0 = live.each q in
-      elim (eqb_tells q e) [
-        | inl it ↦
-            let one : cond {A = ℕ} (is_live (get ids q)) 1 0 ≡ 1 =
-            ap (λ k. cond {A = ℕ} (is_live (get ids k)) 1 0) it.1 ∙ ap (λ o. cond {A = ℕ} (is_live o) 1 0) there in
-            let here : cond {A = ℕ} (id_at m r == q) 1 0 ≡ 1 = ap (λ b. cond {A = ℕ} b 1 0) (itself (id ∙ sym it.1)) in
-            let gone : cond {A = ℕ} (is_live (get new_ids q)) 1 0 ≡ 0 =
-            ap (λ k. cond {A = ℕ} (is_live (get new_ids k)) 1 0) it.1 ∙ ap (λ o. cond {A = ℕ} (is_live o) 1 0) now in
-            omega arith
-        | inr isnt ↦
-            let here : cond {A = ℕ} (id_at m r == q) 1 0 ≡ 0 = ap (λ b. cond {A = ℕ} b 1 0) (is_other (id_at m r) q (λ k. isnt.1 (sym k ∙ id))) in
-            let still : cond {A = ℕ} (is_live (get new_ids q)) 1 0 ≡ cond {A = ℕ} (is_live (get ids q)) 1 0 =
-            ap (λ o. cond {A = ℕ} (is_live o) 1 0) (others q isnt.1) in
-            omega arith
-      ]
+      let more : cond {A = ℕ} (is_live (get ids q)) 1 0 ≡ cond (id_at m r == q) 1 0 + cond (is_live (get new_ids q)) 1 0 =
+      once_more ids new_ids e (id_at m r) q id (ap is_live there) (ap is_live now) (λ k ne. sym (others k ne)) in
+      omega arith
 
   live_left : (rs us : List Ref) → AreLive ids m rs → IsWith r us rs → AreLive new_ids n us
   live_left rs us live w =

@@ -242,7 +242,15 @@ has_plan (i ∷ is) [] k = refl
 has_plan (i ∷ is) (l ∷ ls) zero = one_plan i.kind i.parts l []
 has_plan (i ∷ is) (l ∷ ls) (suc k) = has_plan is ls k
 
-pub no_stamps_past : (is : List Index) (x : ℕ) → has_stamps (get_or (plan is) x ById) ≡ true → x < length is
+no_stamps_past : (is : List Index) (x : ℕ) → has_stamps (get_or (plan is) x ById) ≡ true → x < length is
 no_stamps_past [] x has = absurd (false≢true has)
 no_stamps_past (i ∷ is) zero has = omega arith
 no_stamps_past (i ∷ is) (suc x) has = let l : x < length is = no_stamps_past is x has in omega arith
+
+-- what is known of each index is known of one that has stamps
+pub at_stamps : (P : ℕ → Index → Structure → Structure → List Ref → List Ref → Type 0)
+    {is : List Index} {xs ys : List Structure} {rss uss : List (List Ref)}
+    → Every P 0 is xs ys rss uss → (x : ℕ) → has_stamps (get_or (plan is) x ById) ≡ true → At P x (get_or (plan is) x ById)
+at_stamps P {is = is} all x has =
+    let same : 0 + x ≡ x = omega arith in
+    subst (λ q. At P q (get_or (plan is) x ById)) same (at_plan P all x (no_stamps_past is x has))

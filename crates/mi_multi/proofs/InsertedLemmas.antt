@@ -1,6 +1,6 @@
 -- A row has come in: what the pool and the structures say then are the data with it, and all stands again.
 use Rattle.std.proofs.Common.{◌≡◌, ◌≢◌, ℕ, suc, ◌+◌, ◌^◌, ◌<◌, ◌≤◌, true, false, cond, inl, inr, List}
-use Rattle.std.proofs.Common.{[], ◌∷◌, ◌++◌, map, get_or, length, refl, ap, sym, ◌∙◌, subst, arith}
+use Rattle.std.proofs.Common.{[], ◌∷◌, ◌++◌, map, get_or, refl, ap, sym, ◌∙◌, subst, arith}
 use Rattle.std.specs.Prelude.{◌==◌}
 use Rattle.std.specs.List.{AllByRecursion}
 use Rattle.std.specs.Option.{option_map, option_and_then, is_some}
@@ -46,18 +46,15 @@ use Rattle.mi_multi.specs.Alike.{SaysSame, IsAltered, SeqBy}
 use Rattle.mi_multi.specs.Multi.{id_at, ids_at, own_list, own_lists, is_live, IsFor, AreLive, HasNode, IsMulti, plain_of}
 use Rattle.mi_multi.proofs.PickLemmas.{Above, Up, up_of_climbs}
 use Rattle.mi_multi.proofs.RowLemmas.{picked_pushed, picked_still, get_here, get_beside}
-use Rattle.mi_multi.proofs.ListLemmas.{LacksIf, stand_there, times_middle}
+use Rattle.mi_multi.proofs.ListLemmas.{itself, LacksIf, stand_there, times_middle}
 use Rattle.mi_multi.proofs.SameNodeLemmas.{live_alike, kept_alike}
 use Rattle.mi_multi.proofs.OrderLemmas.{orders_map, orders_set}
-use Rattle.mi_multi.proofs.EveryIndexLemmas.{Turned, Every, At, at, every, at_plan, all_for, seq_by, sorted_parts, hashed_order}
-use Rattle.mi_multi.proofs.EveryIndexLemmas.{sequenced_order, sorted_not_sequenced, hashed_not_sequenced, no_stamps_past, one, none}
-use Rattle.mi_multi.proofs.LiveNodeLemmas.{IsLiveRef, lacks_middle, id_of, out_of_all, all_left, all_right, all_append}
+use Rattle.mi_multi.proofs.EveryIndexLemmas.{Turned, Every, At, at, every, all_for, seq_by, sorted_parts, hashed_order, at_stamps}
+use Rattle.mi_multi.proofs.EveryIndexLemmas.{sequenced_order, sorted_not_sequenced, hashed_not_sequenced, one, none}
+use Rattle.mi_multi.proofs.LiveNodeLemmas.{IsLiveRef, lacks_middle, id_of, out_of_all, all_left, all_right, all_append, once_more}
 use Rattle.mi_multi.proofs.NeighbourLemmas.{ids_append}
 use Rattle.mi_multi.proofs.SettleLemmas.{entry_live}
 use Rattle.mi_multi.proofs.InsertLemmas.{IsBefore, fresh, not_next}
-
-itself : {a b : ℕ} → a ≡ b → (a == b) ≡ true
-itself {a} {b} same = elim (eqb_tells a b) [ inl is ↦ is.0 | inr isnt ↦ absurd (isnt.1 same) ]
 
 above_absent : (e : ℕ) (rows : List (ℕ × Node)) → Above e rows → node_of rows e ≡ None
 above_absent e [] all = refl
@@ -153,11 +150,7 @@ module _ (s : Shape) (ids : FinMap nat_cmp IdEntry) (m n : Pooled Stored) (xs ys
   says : (q : Ref) → IsHeld m q → SaysSame os m n q.name
   says q held = record {
     value = value_still q held;
-    stamps = λ x has.
-        let l : x < length s.indexes = no_stamps_past s.indexes x has in
-        let same : 0 + x ≡ x = omega arith in
-        subst (λ w. (link_of n q.name w).tag.stamp ≡ (link_of m q.name w).tag.stamp) same
-        (stamp_of_slot (0 + x) (get_or os x ById) (at_plan (Turned Q ids m n) turns x l) has q.name (apart q held));
+    stamps = λ x has. stamp_of_slot x (get_or os x ById) (at_stamps (Turned Q ids m n) turns x has) has q.name (apart q held);
   }
 
   turned_false : (a b : ℕ) → (a == b) ≡ false → (b == a) ≡ false
@@ -289,20 +282,9 @@ module _ (s : Shape) (ids : FinMap nat_cmp IdEntry) (m n : Pooled Stored) (xs ys
       ≡ cond (id_at n r == q) 1 0 + times q (ids_at n (w.xs ++ w.ys)) = times_middle (id_at n) q w.xs r w.ys in
       let before_ : times q (ids_at n (w.xs ++ w.ys)) ≡ cond (is_live (get ids q)) 1 0 =
       ap (times q) (ids_still (w.xs ++ w.ys) rows_) ∙ ap (λ k. times q (ids_at m k)) (sym w.was) ∙ live.each q in
-      elim (eqb_tells q next) [
-        | inl it ↦
-            let none_ : cond {A = ℕ} (is_live (get ids q)) 1 0 ≡ 0 =
-            ap (λ k. cond {A = ℕ} (is_live (get ids k)) 1 0) it.1 ∙ ap (λ o. cond {A = ℕ} (is_live o) 1 0) was in
-            let here : cond {A = ℕ} (id_at n r == q) 1 0 ≡ 1 = ap (λ t. cond {A = ℕ} t 1 0) (itself (id_here ∙ sym it.1)) in
-            let one_ : cond {A = ℕ} (is_live (get new_ids q)) 1 0 ≡ 1 =
-            ap (λ k. cond {A = ℕ} (is_live (get new_ids k)) 1 0) it.1 ∙ ap (λ o. cond {A = ℕ} (is_live o) 1 0) now in
-            omega arith
-        | inr isnt ↦
-            let here : cond {A = ℕ} (id_at n r == q) 1 0 ≡ 0 = ap (λ t. cond {A = ℕ} t 1 0) (is_other (id_at n r) q (λ k. isnt.1 (sym k ∙ id_here))) in
-            let still : cond {A = ℕ} (is_live (get new_ids q)) 1 0 ≡ cond {A = ℕ} (is_live (get ids q)) 1 0 =
-            ap (λ o. cond {A = ℕ} (is_live o) 1 0) (others q isnt.1) in
-            omega arith
-      ]
+      let more : cond {A = ℕ} (is_live (get new_ids q)) 1 0 ≡ cond (id_at n r == q) 1 0 + cond (is_live (get ids q)) 1 0 =
+      once_more new_ids ids next (id_at n r) q id_here (ap is_live now) (ap is_live was) others in
+      omega arith
 
   live_with : (rs us : List Ref) → AreLive ids m rs → IsWith r rs us → AreLive new_ids n us
   live_with rs us live w =

@@ -38,7 +38,7 @@ use Rattle.mi_multi.proofs.IndexNumberLemmas.{Numbered, numbered, reaches}
 use Rattle.mi_multi.proofs.FoundIdLemmas.{all_where, all_first, all_filter, all_behind}
 use Rattle.mi_multi.proofs.LookUpLemmas as known
 use Rattle.mi_multi.proofs.ProbeLemmas as probes
-use Rattle.mi_multi.proofs.CallLemmas.{in_order}
+use Rattle.mi_multi.proofs.CallLemmas.{in_order, ranked, rank_is, count_is}
 
 -- nothing stands behind the end
 pub past_end : (ids : List ℕ) (k : ℕ) → slice_get ids k ≡ None → length ids ≤ k
@@ -76,7 +76,7 @@ module _ (i : Inside) (is : AreMulti i) (w : Seen) (seen : seen_of i ≡ w) wher
     found_held f o h = subst (λ k. IfSome k (IsHeld m)) (sym (h rs n.stood.stands)) (all_where (IsHeld m) f rs alls)
 
     -- what is found is a live node
-    pub found_live : (f : Ref → Bool) (o : Option Ref) (r : Ref) → o ≡ Some r
+    found_live : (f : Ref → Bool) (o : Option Ref) (r : Ref) → o ≡ Some r
         → ((qs : List Ref) → Stands y m qs → o ≡ first_where f qs) → live_node i.ids.entries (id_at m r) ≡ Some r
     found_live f o r is_ h =
         let one : IfSome o (IsLiveRef i.ids.entries m) = subst (λ k. IfSome k (IsLiveRef i.ids.entries m))
@@ -84,17 +84,21 @@ module _ (i : Inside) (is : AreMulti i) (w : Seen) (seen : seen_of i ≡ w) wher
         let live : IsLiveRef i.ids.entries m r = subst (λ k. IfSome k (IsLiveRef i.ids.entries m)) is_ one in
         ap node_if_live live
 
-    pub lower_is : (k : Bor (List Value)) (o : Option Ref) → IsSorted w.shape x
-        → ((qs : List Ref) → Stands y m qs → o ≡ first_where (nodes.is_past false y m (Key k)) qs) → option_map (id_at m) o ≡ look.lower w.shape t x k.now
-    lower_is k o sorted h =
+    -- how many have a smaller key, or also those that have it
+    abbrev pub rank_past : Bool → List Value → ℕ
+    rank_past false key = look.lower_rank w.shape t x key
+    rank_past true key = look.upper_rank w.shape t x key
+
+    -- the first one that is past a key stands there
+    pub past_is : (past : Bool) (k : Bor (List Value)) (o : Option Ref) → IsSorted w.shape x
+        → ((qs : List Ref) → Stands y m qs → o ≡ first_where (nodes.is_past past y m (Key k)) qs)
+        → option_map (id_at m) o ≡ slice_get (view w.shape t x) (rank_past past k.now)
+    past_is false k o sorted h =
         ap (option_map (id_at m)) (h rs n.stood.stands)
         ∙ probes.lower_seen i.schema i.ids.entries m items i.next i.arrivals is x y n k
         (subst (λ (v : Seen). IsSorted v.shape x) (sym seen) sorted) (in_order i is w seen x y at sorted).2
         ∙ ap (λ (v : Seen). look.lower v.shape (table_of v.plain) x k.now) seen
-
-    pub upper_is : (k : Bor (List Value)) (o : Option Ref) → IsSorted w.shape x
-        → ((qs : List Ref) → Stands y m qs → o ≡ first_where (nodes.is_past true y m (Key k)) qs) → option_map (id_at m) o ≡ look.upper w.shape t x k.now
-    upper_is k o sorted h =
+    past_is true k o sorted h =
         ap (option_map (id_at m)) (h rs n.stood.stands)
         ∙ probes.upper_seen i.schema i.ids.entries m items i.next i.arrivals is x y n k
         (subst (λ (v : Seen). IsSorted v.shape x) (sym seen) sorted) (in_order i is w seen x y at sorted).2
@@ -107,23 +111,32 @@ module _ (i : Inside) (is : AreMulti i) (w : Seen) (seen : seen_of i ≡ w) wher
         (once_of_each (table_of (seen_of i).plain) (view i.schema (table_of (seen_of i).plain) x)
         (each_in_view i.schema (table_of (seen_of i).plain) x is.is_data.table n.few))
 
-    pub rank_of_place : (p : ℕ) (o : Option Ref) (r : Ref) → o ≡ Some r
-        → option_map (id_at m) o ≡ slice_get (view w.shape t x) p → (k : ℕ) → k ≡ look.rank w.shape t x (id_at m r) → k ≡ p
-    rank_of_place p o r is_ there k rank = rank ∙ rank_at p (id_at m r) (view w.shape t x) once (sym there ∙ ap (option_map (id_at m)) is_)
+    past_within : (past : Bool) (key : List Value) → rank_past past key ≤ length (view w.shape t x)
+    past_within false key = let a = lower-le-upper w.shape t x key in let b = upper-le-length w.shape t x key in omega arith
+    past_within true key = upper-le-length w.shape t x key
 
-    pub all_before_place : (p : ℕ) (o : Option Ref) → o ≡ None → option_map (id_at m) o ≡ slice_get (view w.shape t x) p
-        → p ≤ length (view w.shape t x) → (k : ℕ) → k ≡ size t → k ≡ p
-    all_before_place p o none there l k all =
-        let long : length (view w.shape t x) ≡ size t = subst (λ (v : Seen). length (view v.shape (table_of v.plain) x) ≡ size (table_of v.plain))
-        seen (length-view i.schema (table_of (seen_of i).plain) x is.is_data.table n.few) in
-        let past : length (view w.shape t x) ≤ p = past_end (view w.shape t x) p (sym there ∙ ap (option_map (id_at m)) none) in
-        omega arith
+    module _ (past : Bool) (k : Bor (List Value)) (o : Option Ref)
+        (h : (qs : List Ref) → Stands y m qs → o ≡ first_where (nodes.is_past past y m (Key k)) qs) (sorted : IsSorted w.shape x) where
+      pub past_held : IfSome o (IsHeld m)
+      past_held = found_held (nodes.is_past past y m (Key k)) o h
 
-    pub lower_within : (key : List Value) → look.lower_rank w.shape t x key ≤ length (view w.shape t x)
-    lower_within key = let a = lower-le-upper w.shape t x key in let b = upper-le-length w.shape t x key in omega arith
+      pub past_ranked : (r : Ref) → o ≡ Some r → (xs : List Ref) × (ys : List Ref) × Stands y m (xs ++ r ∷ ys) × nodes.IsSorted y
+      past_ranked r is_ = ranked i is w seen x y at (id_at m r) r (found_live (nodes.is_past past y m (Key k)) o r is_ h) sorted
 
-    pub upper_within : (key : List Value) → look.upper_rank w.shape t x key ≤ length (view w.shape t x)
-    upper_within key = upper-le-length w.shape t x key
+      pub past_rank : (r : Ref) → o ≡ Some r → (j : ℕ) → ((xs ys : List Ref) → Stands y m (xs ++ r ∷ ys) → j ≡ length xs) → j ≡ rank_past past k.now
+      past_rank r is_ j rank =
+          rank_is i is w seen x y at (id_at m r) r (found_live (nodes.is_past past y m (Key k)) o r is_ h) j rank
+          ∙ rank_at (rank_past past k.now) (id_at m r) (view w.shape t x) once (sym (past_is past k o sorted h) ∙ ap (option_map (id_at m)) is_)
+
+      pub past_count : o ≡ None → (j : ℕ) → ((qs : List Ref) → Stands y m qs → j ≡ length qs) → j ≡ rank_past past k.now
+      past_count none j count =
+          let all : j ≡ size t = count_is i is w seen x y at j count in
+          let long : length (view w.shape t x) ≡ size t = subst (λ (v : Seen). length (view v.shape (table_of v.plain) x) ≡ size (table_of v.plain))
+          seen (length-view i.schema (table_of (seen_of i).plain) x is.is_data.table n.few) in
+          let least : length (view w.shape t x) ≤ rank_past past k.now =
+          past_end (view w.shape t x) (rank_past past k.now) (sym (past_is past k o sorted h) ∙ ap (option_map (id_at m)) none) in
+          let most : rank_past past k.now ≤ length (view w.shape t x) = past_within past k.now in
+          omega arith
 
     -- two look-ups one after the other
     pub both_looks : (old mid new : ℕ) → ((qs : List Ref) → Stands y m qs → (b : ℕ) → length qs < 2 ^ b → mid ≤ old + 2 * b)

@@ -1,5 +1,5 @@
 -- Lists of nodes, and the ids of their rows: a node that leaves or joins, and the neighbours that it knows.
-use Rattle.std.proofs.Common.{◌≡◌, ℕ, ◌+◌, Bool, true, false, cond, List, [], ◌∷◌, ◌++◌, map, refl, ap, ◌∙◌, arith}
+use Rattle.std.proofs.Common.{◌≡◌, ℕ, ◌+◌, Bool, true, false, cond, List, [], ◌∷◌, ◌++◌, map, refl, ap, ◌∙◌, subst, arith}
 use Rattle.std.specs.Prelude.{◌==◌}
 use Rattle.std.specs.List.{AllByRecursion, filter}
 use Rattle.std.specs.Option.{option_map}
@@ -14,6 +14,9 @@ use Rattle.mi_container.specs.Changes.{ref_of, head_of, next_in, prev_in, link_o
 use Rattle.mi_container.specs.Fits.{last_or}
 use Rattle.mi_container.proofs.PairLemmas.{is_itself, is_other}
 use Rattle.mi_container.proofs.SequenceLemmas.{drop_is, drop_isnt, without_lacks}
+
+pub itself : {a b : ℕ} → a ≡ b → (a == b) ≡ true
+itself {a} same = subst (λ c. (a == c) ≡ true) same (is_itself a)
 
 module _ (idf : Ref → ℕ) where
   pub times_middle : (e : ℕ) (xs : List Ref) (r : Ref) (ys : List Ref) → times e (map idf (xs ++ r ∷ ys)) ≡ cond (idf r == e) 1 0 + times e (map idf (xs ++ ys))

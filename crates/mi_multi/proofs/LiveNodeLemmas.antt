@@ -24,7 +24,7 @@ use Rattle.mi_ids.specs.IdMap.{marked, with_live}
 use Rattle.mi_multi.specs.Physical.{id_in, picked, node_in, live_in}
 use Rattle.mi_multi.specs.Multi.{id_at, ids_at, is_live, AreLive, HasNode}
 use Rattle.mi_multi.proofs.PickLemmas.{get_picked}
-use Rattle.mi_multi.proofs.ListLemmas.{times_middle, IsRow}
+use Rattle.mi_multi.proofs.ListLemmas.{itself, times_middle, IsRow}
 use Rattle.mi_multi.proofs.RowLemmas.{get_here, get_beside}
 
 abbrev entry : Ref → Bool → IdEntry
@@ -47,6 +47,24 @@ pub len_marked : (ids : FinMap nat_cmp IdEntry) (e : ℕ) (a : IdEntry) (b : Boo
 len_marked ids e a b is =
     ap len (with_live_is ids e a b is) ∙ len-insert nat_cmp_total ids e (record { node = a.node; live = b })
     ∙ ap (λ o. cond (is_some o) (len ids) (len ids + 1)) is
+
+-- where one id alone is live in one of two maps, each id is counted once more there if it is that one
+pub once_more : (a b : FinMap nat_cmp IdEntry) (e i q : ℕ) → i ≡ e → is_live (get a e) ≡ true → is_live (get b e) ≡ false
+    → ((k : ℕ) → k ≢ e → get a k ≡ get b k)
+    → cond {A = ℕ} (is_live (get a q)) 1 0 ≡ cond {A = ℕ} (i == q) 1 0 + cond {A = ℕ} (is_live (get b q)) 1 0
+once_more a b e i q same live dead others =
+    elim (eqb_tells q e) [
+      | inl it ↦
+          let one_ : cond {A = ℕ} (is_live (get a q)) 1 0 ≡ 1 = ap (λ k. cond {A = ℕ} (is_live (get a k)) 1 0) it.1 ∙ ap (λ t. cond {A = ℕ} t 1 0) live in
+          let none_ : cond {A = ℕ} (is_live (get b q)) 1 0 ≡ 0 = ap (λ k. cond {A = ℕ} (is_live (get b k)) 1 0) it.1 ∙ ap (λ t. cond {A = ℕ} t 1 0) dead in
+          let here : cond {A = ℕ} (i == q) 1 0 ≡ 1 = ap (λ t. cond {A = ℕ} t 1 0) (itself (same ∙ sym it.1)) in
+          omega arith
+      | inr isnt ↦
+          let still : cond {A = ℕ} (is_live (get a q)) 1 0 ≡ cond {A = ℕ} (is_live (get b q)) 1 0 =
+          ap (λ o. cond {A = ℕ} (is_live o) 1 0) (others q isnt.1) in
+          let here : cond {A = ℕ} (i == q) 1 0 ≡ 0 = ap (λ t. cond {A = ℕ} t 1 0) (is_other i q (λ k. isnt.1 (sym k ∙ same))) in
+          omega arith
+    ]
 
 -- the id of an entry's node
 pub id_of : (ids : FinMap nat_cmp IdEntry) (m : Pooled Stored) (e : ℕ) (a : IdEntry) → HasNode m e a.node → id_at m a.node ≡ e
@@ -91,9 +109,6 @@ module _ (ids : FinMap nat_cmp IdEntry) (m : Pooled Stored) where
       let here : cond {A = ℕ} (id_at m r == e) 1 0 ≡ 1 = ap (λ b. cond {A = ℕ} b 1 0) (itself is) in
       let parts : times e (ids_at m (xs ++ r ∷ ys)) ≡ cond (id_at m r == e) 1 0 + times e (ids_at m (xs ++ ys)) = times_middle (id_at m) e xs r ys in
       omega arith)
-    where
-      itself : {a b : ℕ} → a ≡ b → (a == b) ≡ true
-      itself {a} {b} same = elim (eqb_tells a b) [ inl is ↦ is.0 | inr isnt ↦ absurd (isnt.1 same) ]
 
   -- a node that is only kept stands in no list
   pub out_of : (e : ℕ) (a : IdEntry) (rs : List Ref) → get ids e ≡ Some a → a.live ≡ false

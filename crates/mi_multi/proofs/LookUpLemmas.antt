@@ -51,7 +51,7 @@ sorted_hashed kind.Ranked a b = false≢true b
 sorted_hashed kind.Hashed a b = false≢true a
 sorted_hashed kind.Sequenced a b = false≢true b
 
-pub sorted_sequenced : (k : IndexKind) → is_sorted k ≡ true → is_sequenced k ≡ true → ⊥
+sorted_sequenced : (k : IndexKind) → is_sorted k ≡ true → is_sequenced k ≡ true → ⊥
 sorted_sequenced kind.Ordered a b = false≢true b
 sorted_sequenced kind.Ranked a b = false≢true b
 sorted_sequenced kind.Hashed a b = false≢true a

@@ -1,11 +1,9 @@
 -- What a node remembers is what data say that it does.
-use Rattle.std.proofs.Common.{◌≡◌, ℕ, Bool, true, false, cond, inl, inr, List, [], ◌∷◌, ◌++◌, map, refl, ap, sym, ◌∙◌, subst}
-use Rattle.std.specs.Prelude.{◌==◌}
+use Rattle.std.proofs.Common.{◌≡◌, ℕ, Bool, true, false, cond, List, [], ◌∷◌, ◌++◌, map, refl, ap, sym, ◌∙◌, subst}
 use Rattle.std.specs.List.{AllByRecursion, filter}
 use Rattle.std.specs.Ordering.{nat_cmp, is_eq, ordering_reverse}
 use Rattle.std.specs.Cmp.{IsTotalOrder}
 use Rattle.std.specs.FinMap.{FinMap, get}
-use Rattle.std.proofs.lemmas.Bool.Decides.{eqb_tells}
 use Rattle.std.specs.declared.cmp.Ordering.{Ordering}
 use Rattle.std.specs.declared.cmp.Ordering.TheVariants.{Less, Equal, Greater}
 use Rattle.std.specs.declared.option.Option.TheVariants.{None, Some}
@@ -26,12 +24,9 @@ use Rattle.mi_container.proofs.SequenceLemmas.{lacks_left}
 use Rattle.mi_ids.specs.declared.entry.IdEntry.{IdEntry}
 use Rattle.mi_multi.specs.Physical.{id_in, record_in, node_in}
 use Rattle.mi_multi.specs.Multi.{id_at, ids_at, AreLive, HasNode}
-use Rattle.mi_multi.proofs.ListLemmas.{IsRow, link_middle, filter_ids}
+use Rattle.mi_multi.proofs.ListLemmas.{itself, IsRow, link_middle, filter_ids}
 use Rattle.mi_multi.proofs.LiveNodeLemmas.{IsLiveRef, node_live, rows_of, lacks_middle, all_left, all_right}
 use Rattle.mi_multi.proofs.StampLemmas.{rows}
-
-itself : {a b : ℕ} → a ≡ b → (a == b) ≡ true
-itself {a} {b} same = elim (eqb_tells a b) [ inl is ↦ is.0 | inr isnt ↦ absurd (isnt.1 same) ]
 
 pub filter_append : {A : Type 0} (p : A → Bool) (xs ys : List A) → filter p (xs ++ ys) ≡ filter p xs ++ filter p ys
 filter_append p [] ys = refl

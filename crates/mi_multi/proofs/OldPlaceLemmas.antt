@@ -148,7 +148,7 @@ module _ (s : Shape) (ids : FinMap nat_cmp IdEntry) (m : Pooled Stored) (xs : Li
     old_is = ap (λ (c : Content). c.values) (content_here s ids m xs next arrivals is e r there v (ap id_in (sym v_is) ∙ id)) ∙ ap record_in v_is
 
     -- keys compare by the parts of the index
-    pub stays_is : (b : Bool) → b ≡ is_eq (compare_key (index_at s k).parts v.row new) → stays (get_or d.orders k ById) old new ≡ b
+    stays_is : (b : Bool) → b ≡ is_eq (compare_key (index_at s k).parts v.row new) → stays (get_or d.orders k ById) old new ≡ b
     stays_is b same =
         let parts : parts_of (get_or d.orders k ById) ≡ (index_at s k).parts = parts_at s.indexes d.orders is.is_data.kinds k _ few in
         (λ j. is_eq (compare_key (parts j) (old_is j) new)) ∙ sym same
@@ -184,7 +184,7 @@ module _ (s : Shape) (ids : FinMap nat_cmp IdEntry) (m : Pooled Stored) (xs : Li
 -- The places of all indexes
 
 module _ (rws : List (ℕ × Node)) (e : ℕ) (old new : List Value) where
-  pub length_places : (x : ℕ) (os : List Order) (stamps : List ℕ) → length stamps ≡ length os → length (old_places x rws e old new os stamps) ≡ length os
+  length_places : (x : ℕ) (os : List Order) (stamps : List ℕ) → length stamps ≡ length os → length (old_places x rws e old new os stamps) ≡ length os
   length_places x [] stamps long = refl
   length_places x (o ∷ os) [] long = absurd (let bad : zero ≡ suc (length os) = long in omega arith)
   length_places x (o ∷ os) (a ∷ stamps) long = ap suc (length_places (suc x) os stamps (let h : suc (length stamps) ≡ suc (length os) = long in omega arith))
@@ -241,7 +241,7 @@ mark_of f (p ∷ ps) zero = sym (mapped_some f p)
 mark_of f (p ∷ ps) (suc k) = mark_of f ps k
 
 -- an index is marked where its place is kept
-pub mark_is : {A : Type 0} (f : A → OldPlace) (ps : List (Option A)) (all : List (Option OldPlace)) (k : ℕ)
+mark_is : {A : Type 0} (f : A → OldPlace) (ps : List (Option A)) (all : List (Option OldPlace)) (k : ℕ)
     → map (option_map f) ps ≡ all → mark_at (map is_some ps) k ≡ is_some (get_or all k None)
 mark_is f ps all k same = mark_of f ps k ∙ ap (λ w. is_some (get_or w k None)) same
 

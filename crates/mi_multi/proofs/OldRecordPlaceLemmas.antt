@@ -42,13 +42,13 @@ use Rattle.mi_container.specs.Inverse.Inverse.{Put}
 use Rattle.mi_container.specs.Fits.{MeetByStamp, PlaceMeets, PlacesMeet, last_or}
 use Rattle.mi_container.proofs.ContentLemmas.{node_with, node_beside}
 use Rattle.mi_ids.specs.declared.entry.IdEntry.{IdEntry}
-use Rattle.mi_multi.specs.Physical.{id_in, order_of, plan, record_in, stamps_in, stamp_in, node_in}
+use Rattle.mi_multi.specs.Physical.{id_in, order_of, plan, record_in, stamps_in, node_in}
 use Rattle.mi_multi.specs.Multi.{id_at, ids_at, own_list, own_lists, AreLive, HasNode, IsMulti, plain_of}
 use Rattle.mi_multi.specs.Restored.{to_place}
 use Rattle.mi_multi.proofs.ListLemmas.{first_row, last_row, ref_back, last_ids, head_ids, filter_ids, IsRow}
 use Rattle.mi_multi.proofs.EveryIndexLemmas.{Every, one, none, sorted_parts, hashed_order, sequenced_order, has_plan, length_orders}
 use Rattle.mi_multi.proofs.LiveNodeLemmas.{IsLiveRef, node_live, rows_of, holds, lacks_middle, all_left, all_right, all_append}
-use Rattle.mi_multi.proofs.StampLemmas.{stamps_at, stamp_row, by_stamp_is}
+use Rattle.mi_multi.proofs.StampLemmas.{stamp_held, stamp_row, by_stamp_is}
 use Rattle.mi_multi.proofs.NeighbourLemmas.{filter_eq, filter_append, ids_append}
 use Rattle.mi_multi.proofs.CountLemmas.{no_longer}
 use Rattle.mi_multi.proofs.PlaceLemmas.{value_not_equal, cut_at, one_cut}
@@ -197,20 +197,11 @@ module _ (s : Shape) (ids : FinMap nat_cmp IdEntry) (m : Pooled Stored) (xs : Li
     differ : (k : ℕ) (q : Ref) → IsLiveRef ids m q → id_at m q ≢ e → k < length os → has_stamps (get_or os k ById) ≡ true
         → (was : OldPlace) → place k ≡ Some was → was.stamp ≢ (link_of m q.name k).tag.stamp
     differ k q live ne l has was is_ same =
-        let zeroed : 0 + k ≡ k = omega arith in
-        let its : get_or (stamps_in m q.name 0 os) k 0 ≡ (link_of m q.name k).tag.stamp = stamps_at m q.name 0 os k l
-        ∙ ap (λ z. stamp_in m q.name z (get_or os k ById)) zeroed ∙ given (get_or os k ById) has in
         let mine_ : get_or content.stamps k 0 ≡ was.stamp = stamp_back_at old.places (stamps_in m r.name 0 os) k long
         ∙ ap (λ o. stamp_back o (get_or (stamps_in m r.name 0 os) k 0)) is_ in
         ne (sym (back.apart e (id_at m q) (record { at = r; content = content }) (node_in m os q) k back_there
         (node_beside (id_at m q) e (old_content old (content_of d.rows e)) d.rows ne ∙ node_live ids m os q live)
-        (has_plan s.indexes (own_lists m xs) k ∙ has) (mine_ ∙ same ∙ sym its)))
-      where
-        given : (o : Order) → has_stamps o ≡ true → stamp_in m q.name k o ≡ (link_of m q.name k).tag.stamp
-        given ById h = absurd (false≢true h)
-        given (ByKey ps) h = refl
-        given (ByHash ps) h = refl
-        given (Listed z) h = absurd (false≢true h)
+        (has_plan s.indexes (own_lists m xs) k ∙ has) (mine_ ∙ same ∙ sym (stamp_held m os k q l has))))
 
     all_differ : (k : ℕ) (qs : List Ref) → AllByRecursion (IsLiveRef ids m) qs → Lacks e (ids_at m qs) → k < length os
         → has_stamps (get_or os k ById) ≡ true → (was : OldPlace) → place k ≡ Some was → AllByRecursion (λ q. was.stamp ≢ stamp_at m k q) qs

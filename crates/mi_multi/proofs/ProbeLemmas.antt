@@ -1,7 +1,7 @@
 -- What a key finds in an index.
 use Rattle.std.proofs.Common.{Bor, ◌≡◌, ℕ, ◌<◌, zero, suc, Bool, true, false, cond, not, ◌&&◌, List, []}
 use Rattle.std.proofs.Common.{◌∷◌, ◌++◌, slice_get, get_or, length, refl, ap, sym, ◌∙◌, subst, arith}
-use Rattle.std.specs.Prelude.{◌==◌, ◌≢◌}
+use Rattle.std.specs.Prelude.{◌≢◌}
 use Rattle.std.specs.List.{AllByRecursion, filter, list_all}
 use Rattle.std.specs.Option.{option_map}
 use Rattle.std.specs.Ordering.{is_lt, is_eq, is_gt, is_ge, nat_cmp, ordering_reverse}
@@ -26,7 +26,6 @@ use Rattle.mi_model.specs.Key.{compare_rows, compare_to_row, parts_or_id}
 use Rattle.mi_model.specs.Table.{Table, row}
 use Rattle.mi_model.specs.View.{compare_ids, compare_to_id, view}
 use Rattle.mi_model.specs.LookUp as look
-use Rattle.mi_model.proofs.TableLaws.{count_itself}
 use Rattle.mi_model.proofs.SortLaws.{Ascends, both_ways, each}
 use Rattle.mi_model.proofs.ViewLaws.{compare_ids_total}
 use Rattle.mi_model.proofs.PrefixLaws.{NotBelow, key_falls}
@@ -51,7 +50,7 @@ use Rattle.mi_multi.proofs.IndexNumberLemmas.{Numbered}
 use Rattle.mi_multi.proofs.ViewLemmas.{row_at, node_of_row}
 use Rattle.mi_multi.proofs.AnswerLemmas.{live_is}
 use Rattle.mi_multi.proofs.NeighbourLemmas.{filter_append, filter_eq, lacks_filter}
-use Rattle.mi_multi.proofs.ListLemmas.{filter_ids}
+use Rattle.mi_multi.proofs.ListLemmas.{itself, filter_ids}
 use Rattle.mi_multi.proofs.FoundIdLemmas.{where_ids, all_before, all_behind, after_middle}
 use Rattle.mi_multi.proofs.LookUpLemmas.{Among, among, ids_shown}
 
@@ -212,9 +211,6 @@ module _ (s : Shape) (ids : FinMap nat_cmp IdEntry) (m : Pooled Stored) (xs : Li
       → length vs ≡ length (parts_or_id ps) → is_whole ps vs v.row ≡ is_eq (compare_to_row ps vs (row_in v))
   whole_is [] vs v some long = absurd (some refl)
   whole_is (p ∷ ps) vs v some long = ap (λ b. b && is_eq (compare_prefix (p ∷ ps) vs v.row)) (itself long)
-    where
-      itself : {a b : ℕ} → a ≡ b → (a == b) ≡ true
-      itself {a} same = subst (λ c. (a == c) ≡ true) same (count_itself a)
 
   module _ (k : Bor (List Value)) (long : length k.now ≡ length (parts_or_id i.parts)) (parts : is_hashed i.kind ≡ true → i.parts ≢ []) where
     sought_is : (w : Structure) → IsFor i w → (has_keys i.kind ≡ true) → (q : Ref) → IsLiveRef ids m q

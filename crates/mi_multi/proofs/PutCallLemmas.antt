@@ -38,6 +38,7 @@ use Rattle.mi_multi.specs.declared.multi.MultiIndex.TheInside.{Inside}
 use Rattle.mi_multi.proofs.EveryIndexLemmas.{length_orders}
 use Rattle.mi_multi.proofs.IndexNumberLemmas.{Numbered, numbered, reaches}
 use Rattle.mi_multi.proofs.TakeBackInsertLemmas.{live_there}
+use Rattle.mi_multi.proofs.AnswerLemmas.{live_is}
 use Rattle.mi_multi.proofs.CallLemmas.{absent}
 use Rattle.mi_multi.proofs.NewRecordLemmas.{Marked, row_here, can_put, put_seen, put_multi, put_inverse_is}
 use Rattle.mi_multi.proofs.OldPlaceLemmas as old
@@ -50,8 +51,7 @@ module _ (i : Inside) (is : AreMulti i) (w : Seen) (seen : seen_of i ≡ w) (row
   items = i.nodes.structures.items
 
   row_there : get i.ids.entries row.id ≡ Some (record { node = row.node; live = true })
-  row_there = live_there i.schema i.ids.entries m items i.next i.arrivals (row_seen row)
-      (subst (λ (v : Seen). IsLive v.plain.rows (row_seen row)) (sym seen) live)
+  row_there = live_there i w seen (row_seen row) live
 
   pub row_held : IsHeld m row.node
   row_held = (is.held row.id (record { node = row.node; live = true }) row_there).held
@@ -123,9 +123,12 @@ module _ (i : Inside) (is : AreMulti i) (w : Seen) (seen : seen_of i ≡ w) (e :
   pub has_node : (o : Option Ref) → o ≡ live_node i.ids.entries e → IsSome o
   has_node o same = is_some_live o (λ none_. absent i is w seen e (sym same ∙ none_) (has_there w.plain e allowed.0))
 
-  module _ (r : Ref) (there : get i.ids.entries e ≡ Some (record { node = r; live = true })) where
+  module _ (r : Ref) (live : live_node i.ids.entries e ≡ Some r) where
     abbrev v : Stored
     v = record { id = e; row = row }
+
+    abbrev there : get i.ids.entries e ≡ Some (record { node = r; live = true })
+    there = live_is i.ids.entries e r live
 
     pub live_row : IsLive w.plain.rows (record { id = e; at = r })
     live_row =

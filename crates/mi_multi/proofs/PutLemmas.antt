@@ -1,7 +1,7 @@
 -- A row's node has another value, and may have moved in some indexes: what the pool says then are the data with another content, and all stands.
 --     IsShifted, Shift      what this takes of one index
-use Rattle.std.proofs.Common.{◌≡◌, ℕ, ◌+◌, ◌<◌, ◌≤◌, true, false, cond, ◌⊎◌, inl, inr, List, []}
-use Rattle.std.proofs.Common.{◌∷◌, ◌++◌, map, get_or, length, refl, ap, sym, ◌∙◌, subst, arith}
+use Rattle.std.proofs.Common.{◌≡◌, ℕ, ◌+◌, ◌≤◌, true, false, cond, ◌⊎◌, inl, inr, List, []}
+use Rattle.std.proofs.Common.{◌∷◌, ◌++◌, map, get_or, refl, ap, sym, ◌∙◌, subst}
 use Rattle.std.specs.Prelude.{◌==◌}
 use Rattle.std.specs.List.{AllByRecursion}
 use Rattle.std.specs.Option.{option_and_then}
@@ -33,7 +33,7 @@ use Rattle.mi_multi.proofs.RowLemmas.{picked_with, picked_still}
 use Rattle.mi_multi.proofs.ListLemmas.{times_middle}
 use Rattle.mi_multi.proofs.SameNodeLemmas.{live_alike, kept_alike}
 use Rattle.mi_multi.proofs.OrderLemmas.{orders_map}
-use Rattle.mi_multi.proofs.EveryIndexLemmas.{Turned, Known, Every, At, at, every, all_known, at_plan, all_for, seq_known, no_stamps_past, one, none}
+use Rattle.mi_multi.proofs.EveryIndexLemmas.{Turned, Known, Every, At, at, every, all_known, all_for, seq_known, one, none, at_stamps}
 use Rattle.mi_multi.proofs.LiveNodeLemmas.{IsLiveRef, id_of, names_apart, out_of_all, all_left, all_right, all_append}
 
 -- a list is the same, or the node has moved in it
@@ -110,11 +110,7 @@ module _ (s : Shape) (ids : FinMap nat_cmp IdEntry) (m : Pooled Stored) (xs : Li
   says : (q : ℕ) → (r.name == q) ≡ false → SaysSame os m n q
   says q ne = record {
     value = value_still q ne;
-    stamps = λ x has.
-        let l : x < length s.indexes = no_stamps_past s.indexes x has in
-        let same : 0 + x ≡ x = omega arith in
-        subst (λ w. (link_of n q w).tag.stamp ≡ (link_of m q w).tag.stamp) same
-        (stamp_of_slot (0 + x) (get_or os x ById) (at_plan (Known Q ids m n os d.orders) known x l) has q ne);
+    stamps = λ x has. stamp_of_slot x (get_or os x ById) (at_stamps (Known Q ids m n os d.orders) known x has) has q ne;
   }
 
   altered : IsAltered os ids m n e

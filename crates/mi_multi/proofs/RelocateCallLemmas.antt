@@ -91,8 +91,7 @@ module _ (s : Shape) (ids : FinMap nat_cmp IdEntry) (m : Pooled Stored) (xs : Li
 module _ (i : Inside) (w : Seen) (seen : seen_of i ≡ w) where
   -- the node of a live row
   pub live_named : (r : RowRef) → IsLive w.plain.rows r → live_node i.ids.entries r.id ≡ Some r.at
-  live_named r live = ap node_if_live (live_there i.schema i.ids.entries i.nodes.pool i.nodes.structures.items
-      i.next i.arrivals r (subst (λ (v : Seen). IsLive v.plain.rows r) (sym seen) live))
+  live_named r live = ap node_if_live (live_there i w seen r live)
 
 module _ (i : Inside) (is : AreMulti i) (w : Seen) (seen : seen_of i ≡ w) (x : ℕ) (y : Structure)
     (at : slice_get i.nodes.structures.items x ≡ Some y) (seq : IsSequenced w.shape x) where

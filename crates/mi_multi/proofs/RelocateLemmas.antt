@@ -1,6 +1,6 @@
 -- A row moves in one sequenced index: what the pool and the structures say then are the data with it there, and all stands.
-use Rattle.std.proofs.Common.{◌≡◌, ◌≢◌, ℕ, ◌+◌, ◌<◌, ◌≤◌, Bool, true, false, cond, inl, inr, List, []}
-use Rattle.std.proofs.Common.{◌∷◌, ◌++◌, map, get_or, set, length, refl, ap, sym, ◌∙◌, subst, arith}
+use Rattle.std.proofs.Common.{◌≡◌, ◌≢◌, ℕ, ◌+◌, ◌≤◌, Bool, true, false, cond, inl, inr, List, []}
+use Rattle.std.proofs.Common.{◌∷◌, ◌++◌, map, get_or, set, refl, ap, sym, ◌∙◌, subst, arith}
 use Rattle.std.specs.Prelude.{◌==◌}
 use Rattle.std.specs.List.{AllByRecursion}
 use Rattle.std.specs.Option.{option_map, option_and_then}
@@ -42,19 +42,18 @@ use Rattle.mi_ids.specs.declared.entry.IdEntry.{IdEntry}
 use Rattle.mi_multi.specs.Physical.{id_in, order_of, orders_of, plan, live_in, kept_in, picked}
 use Rattle.mi_multi.specs.Alike.{SaysSame, IsAltered}
 use Rattle.mi_multi.specs.Multi.{id_at, ids_at, own_list, own_lists, is_live, AreLive, HasNode, IsMulti, plain_of}
+use Rattle.mi_multi.specs.Seen.{Seen, seen_of}
+use Rattle.mi_multi.specs.declared.multi.MultiIndex.TheInside.{Inside}
 use Rattle.mi_multi.proofs.RowLemmas.{picked_still}
-use Rattle.mi_multi.proofs.ListLemmas.{LacksIf, stand_there, times_middle, without_middle}
+use Rattle.mi_multi.proofs.ListLemmas.{itself, LacksIf, stand_there, times_middle, without_middle}
 use Rattle.mi_multi.proofs.SameNodeLemmas.{node_same, live_alike, kept_alike}
 use Rattle.mi_multi.proofs.OrderLemmas.{orders_set}
-use Rattle.mi_multi.proofs.EveryIndexLemmas.{Turned, Every, At, at, every, at_plan, all_for, seq_by, has_plan}
-use Rattle.mi_multi.proofs.EveryIndexLemmas.{no_stamps_past, sorted_not_sequenced, hashed_not_sequenced, one, none}
+use Rattle.mi_multi.proofs.EveryIndexLemmas.{Turned, Every, At, at, every, all_for, seq_by, has_plan, at_stamps}
+use Rattle.mi_multi.proofs.EveryIndexLemmas.{sorted_not_sequenced, hashed_not_sequenced, one, none}
 use Rattle.mi_multi.proofs.LiveNodeLemmas.{IsLiveRef, found, holds, id_of, lacks_middle, names_apart, out_of_all, ids_same, all_left, all_right, all_append}
 use Rattle.mi_multi.proofs.NeighbourLemmas.{ids_append}
 use Rattle.mi_multi.proofs.ReturnLemmas.{Now, standing}
 use Rattle.mi_multi.proofs.TakeBackInsertLemmas.{live_there}
-
-itself : {a b : ℕ} → a ≡ b → (a == b) ≡ true
-itself {a} {b} same = elim (eqb_tells a b) [ inl is ↦ is.0 | inr isnt ↦ absurd (isnt.1 same) ]
 
 -- An index that has a list is sequenced
 
@@ -174,13 +173,9 @@ module _ (s : Shape) (ids : FinMap nat_cmp IdEntry) (m : Pooled Stored) (xs : Li
     says k = record {
       value = changed.keeps.values k;
       stamps = λ y has.
-          let l : y < length s.indexes = no_stamps_past s.indexes y has in
-          let zeroed : 0 + y ≡ y = omega arith in
           let ne : y ≢ x = λ same. false≢true (sym (unstamped (get_or d.orders x ById) listed)
           ∙ ap (λ w. has_stamps (get_or d.orders w ById)) (sym same) ∙ has_plan s.indexes (own_lists m xs) y ∙ has) in
-          ap (λ (w : Line). w.tag.stamp)
-          (subst (λ w. link_of n k w ≡ link_of m k w) zeroed
-          (stamp_of_slot (0 + y) (get_or os y ById) (at_plan (Turned (moves_to x r b) ids m n) turns y l) (λ same. ne (sym zeroed ∙ same)) k));
+          ap (λ (w : Line). w.tag.stamp) (stamp_of_slot y (get_or os y ById) (at_stamps (Turned (moves_to x r b) ids m n) turns y has) ne k);
     }
 
     altered : IsAltered os ids m n e
@@ -315,8 +310,7 @@ module _ (s : Shape) (ids : FinMap nat_cmp IdEntry) (m : Pooled Stored) (xs : Li
     }
 
 -- the row that an inverse names
-pub other_node : (s : Shape) (ids : FinMap nat_cmp IdEntry) (m : Pooled Stored) (xs : List Structure) (next arrivals : ℕ) (e : ℕ) (w : Option Row)
-    → IsOther (plain_of s ids m xs next arrivals).rows e (option_map row_seen w)
-    → IsOtherNode ids e (option_map (λ (p : RowRef). p.id) (option_map row_seen w)) (option_map (λ r. (row_seen r).at) w)
-other_node s ids m xs next arrivals e None o = tt
-other_node s ids m xs next arrivals e (Some w) o = (live_there s ids m xs next arrivals (row_seen w) o.0, o.1)
+pub other_node : (i : Inside) (w : Seen) → seen_of i ≡ w → (e : ℕ) (b : Option Row) → IsOther w.plain.rows e (option_map row_seen b)
+    → IsOtherNode i.ids.entries e (option_map (λ (p : RowRef). p.id) (option_map row_seen b)) (option_map (λ r. (row_seen r).at) b)
+other_node i w seen e None o = tt
+other_node i w seen e (Some r) o = (live_there i w seen (row_seen r) o.0, o.1)

@@ -34,13 +34,13 @@ use Rattle.mi_container.specs.Inverse.{relinked}
 use Rattle.mi_container.specs.Fits.{Meet, MeetByStamp, MeetIn, AllMeet, last_or}
 use Rattle.mi_container.proofs.PairLemmas.{some_is, lookup_entered, lookup_entered_same}
 use Rattle.mi_ids.specs.declared.entry.IdEntry.{IdEntry}
-use Rattle.mi_multi.specs.Physical.{order_of, orders_of, plan, record_in, stamps_in, stamp_in, neighbours_in, all_neighbours, node_in, live_in}
+use Rattle.mi_multi.specs.Physical.{order_of, orders_of, plan, record_in, stamps_in, neighbours_in, all_neighbours, node_in, live_in}
 use Rattle.mi_multi.specs.Multi.{id_at, ids_at, own_list, own_lists, AreLive, HasNode, IsMulti, plain_of}
 use Rattle.mi_multi.proofs.PickLemmas.{get_picked}
 use Rattle.mi_multi.proofs.ListLemmas.{IsRow, first_row, last_row, ref_back, last_ids, head_ids, parted, filter_ids}
 use Rattle.mi_multi.proofs.EveryIndexLemmas.{Every, one, none, every, all_known, Known, sorted_parts, hashed_order, sequenced_order, own_is}
 use Rattle.mi_multi.proofs.LiveNodeLemmas.{IsLiveRef, node_live, rows_of, out_of, all_left, all_right}
-use Rattle.mi_multi.proofs.StampLemmas.{stamps_at, stamp_row, by_stamp_is}
+use Rattle.mi_multi.proofs.StampLemmas.{stamp_held, stamp_row, by_stamp_is}
 use Rattle.mi_multi.proofs.NeighbourLemmas.{filter_eq, filter_append, ids_append}
 use Rattle.mi_multi.proofs.CountLemmas.{shorter}
 use Rattle.mi_multi.proofs.PlaceLemmas.{not_equal, cut_at, one_cut}
@@ -124,19 +124,10 @@ module _ (s : Shape) (ids : FinMap nat_cmp IdEntry) (m : Pooled Stored) (xs : Li
         → (link_of m r.name k).tag.stamp ≢ (link_of m q.name k).tag.stamp
     differ k q live l has same =
         let ne : id_at m q ≢ e = (λ h. not_here q live (sym h)) in
-        let zeroed : 0 + k ≡ k = omega arith in
-        let its : (w : Ref) → get_or (stamps_in m w.name 0 os) k 0 ≡ (link_of m w.name k).tag.stamp = λ w.
-        stamps_at m w.name 0 os k l ∙ ap (λ z. stamp_in m w.name z (get_or os k ById)) zeroed ∙ given w (get_or os k ById) has in
         not_here q live
         (back.apart e (id_at m q) (node_in m os r) (node_in m os q) k (ap (λ z. node_of z e) b_rows ∙ lookup_entered_same e (node_in m os r) d.rows gone)
         (ap (λ z. node_of z (id_at m q)) b_rows ∙ lookup_entered (id_at m q) e (node_in m os r) d.rows ne ∙ node_live ids m os q live) (b_orders k ∙ has)
-        (its r ∙ same ∙ sym (its q)))
-      where
-        given : (w : Ref) (o : Order) → has_stamps o ≡ true → stamp_in m w.name k o ≡ (link_of m w.name k).tag.stamp
-        given w ById h = absurd (false≢true h)
-        given w (ByKey ps) h = refl
-        given w (ByHash ps) h = refl
-        given w (Listed z) h = absurd (false≢true h)
+        (stamp_held m os k r l has ∙ same ∙ sym (stamp_held m os k q l has)))
 
     all_differ : (k : ℕ) (qs : List Ref) → AllByRecursion (IsLiveRef ids m) qs → k < length os
         → has_stamps (get_or os k ById) ≡ true → AllByRecursion (λ q. (link_of m r.name k).tag.stamp ≢ stamp_at m k q) qs
@@ -281,9 +272,7 @@ module _ (s : Shape) (ids : FinMap nat_cmp IdEntry) (m : Pooled Stored) (xs : Li
         let plan_is : get_or os k ById ≡ ByHash i.parts = h.1.plan_is ∙ hashed_order i.kind i.parts [] hashed in
         let by : ids_by_stamp k d.rows ≡ ids_at m rs = by_stamp_is s d ids m os k i.parts rs
         is.is_data refl h.1.fewer h.1.few order_is plan_is h.0.live climb in
-        let zeroed : 0 + k ≡ k = omega arith in
-        let stamp : get_or (stamps_in m r.name 0 os) k 0 ≡ (link_of m r.name k).tag.stamp =
-        stamps_at m r.name 0 os k h.1.few ∙ ap (λ z. stamp_in m r.name z (get_or os k ById)) zeroed ∙ ap (stamp_in m r.name k) plan_is in
+        let stamp = stamp_held m os k r h.1.few (ap has_stamps plan_is) in
         let met : MeetIn k d.rows (record_in (value_of m r.name)) (get_or (stamps_in m r.name 0 os) k 0)
         (neighbours_in m r.name k (ByHash i.parts)) (ByHash i.parts) =
         subst (λ w. MeetIn k d.rows (record_in (value_of m r.name)) (get_or (stamps_in m r.name 0 os) k 0) (neighbours_in m r.name k (ByHash i.parts)) w)

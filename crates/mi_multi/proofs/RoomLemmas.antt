@@ -1,5 +1,5 @@
 -- Chains that grew: the same data, and all stands.
-use Rattle.std.proofs.Common.{◌≡◌, ℕ, ◌+◌, ◌<◌, true, List, [], ◌∷◌, get_or, length, refl, ap, sym, ◌∙◌, subst, arith}
+use Rattle.std.proofs.Common.{◌≡◌, ℕ, ◌+◌, true, List, [], ◌∷◌, get_or, refl, ap, sym, ◌∙◌, subst, arith}
 use Rattle.std.specs.List.{AllByRecursion}
 use Rattle.std.specs.Option.{option_and_then}
 use Rattle.std.specs.Ordering.{nat_cmp}
@@ -24,7 +24,7 @@ use Rattle.mi_multi.specs.Alike.{SaysSame, IsAltered}
 use Rattle.mi_multi.specs.Multi.{ids_at, own_lists, AreLive, HasNode, IsMulti, plain_of}
 use Rattle.mi_multi.proofs.RowLemmas.{picked_still}
 use Rattle.mi_multi.proofs.SameNodeLemmas.{live_alike, kept_alike}
-use Rattle.mi_multi.proofs.EveryIndexLemmas.{Turned, Every, At, at, every, at_plan, all_for, seq_by, no_stamps_past, one, none}
+use Rattle.mi_multi.proofs.EveryIndexLemmas.{Turned, Every, At, at, every, all_for, seq_by, one, none, at_stamps}
 use Rattle.mi_multi.proofs.LiveNodeLemmas.{IsLiveRef, out_of_all, ids_same}
 use Rattle.mi_multi.proofs.LinkLemmas.{tags_at}
 use Rattle.mi_multi.proofs.SettleLemmas.{orders_still}
@@ -65,11 +65,7 @@ module _ (s : Shape) (ids : FinMap nat_cmp IdEntry) (m n : Pooled Stored) (xs ys
   says : (k : ℕ) → SaysSame os m n k
   says k = record {
     value = changed.keeps.values k;
-    stamps = λ x has.
-        let l : x < length s.indexes = no_stamps_past s.indexes x has in
-        let same : 0 + x ≡ x = omega arith in
-        subst (λ w. (link_of n k w).tag.stamp ≡ (link_of m k w).tag.stamp) same
-        (tag_of (0 + x) (get_or os x ById) (at_plan (Turned grown ids m n) turns x l) has k);
+    stamps = λ x has. tag_of x (get_or os x ById) (at_stamps (Turned grown ids m n) turns x has) has k;
   }
 
   altered : IsAltered os ids m n next

@@ -34,15 +34,13 @@ use Rattle.mi_ids.specs.declared.entry.IdEntry.{IdEntry}
 use Rattle.mi_multi.specs.Physical.{id_in, order_of, orders_of, plan, node_in, kept_node_in, live_in, kept_in, picked}
 use Rattle.mi_multi.specs.Alike.{IsAltered, SeqBy}
 use Rattle.mi_multi.specs.Multi.{id_at, ids_at, own_lists, is_live, AreLive, HasNode, IsMulti, plain_of}
+use Rattle.mi_multi.proofs.ListLemmas.{itself}
 use Rattle.mi_multi.proofs.PickLemmas.{get_picked}
 use Rattle.mi_multi.proofs.RowLemmas.{picked_lost, picked_still, get_gone, get_left}
 use Rattle.mi_multi.proofs.SameNodeLemmas.{live_alike, kept_alike}
 use Rattle.mi_multi.proofs.LiveNodeLemmas.{IsLiveRef, names_apart, out_of, out_of_all}
 use Rattle.mi_multi.proofs.EveryIndexLemmas.{Turned, Every, every, seq_by}
 use Rattle.mi_multi.proofs.ReturnLemmas.{all_like_self}
-
-itself : {a b : ℕ} → a ≡ b → (a == b) ≡ true
-itself {a} {b} same = elim (eqb_tells a b) [ inl is ↦ is.0 | inr isnt ↦ absurd (isnt.1 same) ]
 
 -- Entries
 
@@ -127,7 +125,7 @@ module _ (s : Shape) (ids : FinMap nat_cmp IdEntry) (m : Pooled Stored) (xs : Li
   mine = is.held e (record { node = r; live = false }) there
 
   -- it stands in no index
-  pub out : IsOutOfAll r.name is.rss
+  out : IsOutOfAll r.name is.rss
   out = out_of_all ids m e (record { node = r; live = false }) is.rss there refl mine is.live
 
   value_beside : (k : ℕ) → (r.name == k) ≡ false → value_of n k ≡ value_of m k
@@ -181,7 +179,7 @@ module _ (s : Shape) (ids : FinMap nat_cmp IdEntry) (m : Pooled Stored) (xs : Li
         (seq_by same_list ids m n (λ _ l. l) turns (λ k i x y rs us seq t. ap (ids_at n) t.done ∙ ids_still rs (out_here rs t.live)))
 
     -- the data without it
-    pub freed_seen : plain_of s new_ids n xs next arrivals ≡ record d { kept = left_out e d.kept }
+    freed_seen : plain_of s new_ids n xs next arrivals ≡ record d { kept = left_out e d.kept }
     freed_seen = (λ i. record { rows = rows_still i; orders = orders_same i; next = next; arrivals = arrivals; kept = kept_left i })
 
     live_still : (q : Ref) → IsLiveRef ids m q → (r.name == q.name) ≡ false → IsLiveRef new_ids n q
@@ -228,7 +226,7 @@ module _ (s : Shape) (ids : FinMap nat_cmp IdEntry) (m : Pooled Stored) (xs : Li
         ]
 
     -- all stands after it
-    pub freed_multi : IsMulti s new_ids n xs next arrivals
+    freed_multi : IsMulti s new_ids n xs next arrivals
     freed_multi = record {
       rss = is.rss;
       stand = stands;
@@ -256,3 +254,15 @@ module _ (s : Shape) (ids : FinMap nat_cmp IdEntry) (m : Pooled Stored) (xs : Li
           (elim (is_some (get ids e)) as (λ b. cond {A = ℕ} b (len ids - 1) (len ids) ≤ len ids) [ true ↦ omega arith | false ↦ omega arith ]) in
           let f : len ids ≤ 2 ^ 31 = is.few in omega arith;
     }
+
+  -- the same by what a call that frees the node answers
+  module _ (p : Pooled Stored) (ys : List Structure) (pool : p ≡ n) (items : ys ≡ xs)
+      (stand : (rss : List (List Ref)) → AllStand xs 0 m rss → IsOutOfAll r.name rss → AllStand ys 0 p rss) where
+    stands_freed : AllStand xs 0 n is.rss
+    stands_freed = subst (λ (t : Type 0). t) (λ j. AllStand (items j) 0 (pool j) is.rss) (stand is.rss is.stand out)
+
+    pub given_seen : plain_of s new_ids p ys next arrivals ≡ record d { kept = left_out e d.kept }
+    given_seen = (λ j. plain_of s new_ids (pool j) (items j) next arrivals) ∙ freed_seen stands_freed
+
+    pub given_multi : IsMulti s new_ids p ys next arrivals
+    given_multi = subst (λ (t : Type 0). t) (λ j. IsMulti s new_ids (sym pool j) (sym items j) next arrivals) (freed_multi stands_freed)

@@ -37,11 +37,18 @@ stamps_at m q y (o ∷ os) zero l = let here : y ≡ y + 0 = omega arith in ap (
 stamps_at m q y (o ∷ os) (suc k) l =
     let next : suc y + k ≡ y + suc k = omega arith in stamps_at m q (suc y) os k (omega arith) ∙ ap (λ x. stamp_in m q x (get_or os k ById)) next
 
-stamp_given : (m : Pooled Stored) (q x : ℕ) (o : Order) → has_stamps o ≡ true → stamp_in m q x o ≡ (link_of m q x).tag.stamp
+pub stamp_given : (m : Pooled Stored) (q x : ℕ) (o : Order) → has_stamps o ≡ true → stamp_in m q x o ≡ (link_of m q x).tag.stamp
 stamp_given m q x ById h = absurd (false≢true h)
 stamp_given m q x (ByKey ps) h = refl
 stamp_given m q x (ByHash ps) h = refl
 stamp_given m q x (Listed l) h = absurd (false≢true h)
+
+-- the stamp of a node in an index that has stamps
+pub stamp_held : (m : Pooled Stored) (os : List Order) (x : ℕ) (r : Ref) → x < length os → has_stamps (get_or os x ById) ≡ true
+    → get_or (stamps_in m r.name 0 os) x 0 ≡ (link_of m r.name x).tag.stamp
+stamp_held m os x r l has_ =
+    let same : 0 + x ≡ x = omega arith in
+    stamps_at m r.name 0 os x l ∙ ap (λ q. stamp_in m r.name q (get_or os x ById)) same ∙ stamp_given m r.name x (get_or os x ById) has_
 
 -- the list of a hashed index, as the table has it
 list_in : (P : List ℕ → Type 0) (y : ℕ) (rows : List (ℕ × Node)) (os : List Order) (k : ℕ) (ps : List KeyPart)
@@ -62,10 +69,7 @@ module _ (ids : FinMap nat_cmp IdEntry) (m : Pooled Stored) (os : List Order) wh
   -- the stamp of a live node in an index that has stamps
   pub stamp_row : (x : ℕ) (r : Ref) → IsLiveRef ids m r → x < length os
       → has_stamps (get_or os x ById) ≡ true → stamp_of rows x (id_at m r) ≡ (link_of m r.name x).tag.stamp
-  stamp_row x r live l has_ =
-      let same : 0 + x ≡ x = omega arith in
-      ap (λ o. get_or (content_in o).stamps x 0) (node_live ids m os r live) ∙ stamps_at m r.name 0 os x l
-      ∙ ap (λ q. stamp_in m r.name q (get_or os x ById)) same ∙ stamp_given m r.name x (get_or os x ById) has_
+  stamp_row x r live l has_ = ap (λ o. get_or (content_in o).stamps x 0) (node_live ids m os r live) ∙ stamp_held m os x r l has_
 
   all_less : (x : ℕ) (r : Ref) (rs : List Ref) → IsLiveRef ids m r → AllByRecursion (IsLiveRef ids m) rs
       → x < length os → has_stamps (get_or os x ById) ≡ true → AllAbove (stamp_at m x) (stamp_at m x r) rs

@@ -24,14 +24,14 @@ use Rattle.mi_index.specs.declared.structure.Structure.TheVariants.{Ordered, Has
 use Rattle.mi_index.specs.declared.moves.Moves.TheVariants.{All}
 use Rattle.mi_index.specs.Standing.{slot_in}
 use Rattle.mi_index.specs.Places.{IsWith, HasStamp}
-use Rattle.mi_index.specs.Pass.{AllLike, AreChanged, IsPass}
+use Rattle.mi_index.specs.Pass.{AllCan, AllLike, AreChanged, IsPass}
 use Rattle.mi_index.specs.Passes.{returned as comes_back, returning}
 use Rattle.mi_container.specs.Data.{Link, Data, Order, kept_of, has_stamps, IsData}
 use Rattle.mi_container.specs.Data.Order.{ById, Listed}
 use Rattle.mi_container.specs.Changes.{entered, left_out}
 use Rattle.mi_container.specs.Inverse.{id_of_ref, relinked, returned}
 use Rattle.mi_container.specs.Fits.{AllMeet}
-use Rattle.mi_container.proofs.PairLemmas.{climbs_some, some_is, is_other}
+use Rattle.mi_container.proofs.PairLemmas.{climbs_some, some_is}
 use Rattle.mi_container.proofs.SequenceLemmas.{named_again, lacks_left}
 use Rattle.mi_container.proofs.InvariantLemmas.{rows_climb}
 use Rattle.mi_ids.specs.declared.entry.IdEntry.{IdEntry}
@@ -44,15 +44,12 @@ use Rattle.mi_multi.proofs.RowLemmas.{picked_lost, picked_entered}
 use Rattle.mi_multi.proofs.ListLemmas.{LacksIf, stand_there, times_middle}
 use Rattle.mi_multi.proofs.SameNodeLemmas.{node_same, live_alike, kept_alike}
 use Rattle.mi_multi.proofs.OrderLemmas.{Enough, orders_relinked}
-use Rattle.mi_multi.proofs.EveryIndexLemmas.{Turned, Every, At, at, every, at_plan, Known, all_known, all_for, seq_known, length_orders}
-use Rattle.mi_multi.proofs.EveryIndexLemmas.{has_plan, no_stamps_past, sequenced_order, sorted_not_sequenced, hashed_not_sequenced, one, none}
+use Rattle.mi_multi.proofs.EveryIndexLemmas.{Turned, Every, At, at, every, Known, all_known, all_for, seq_known, length_orders, at_stamps}
+use Rattle.mi_multi.proofs.EveryIndexLemmas.{has_plan, sequenced_order, sorted_not_sequenced, hashed_not_sequenced, one, none}
 use Rattle.mi_multi.proofs.LiveNodeLemmas.{IsLiveRef, node_live, marked_here, marked_beside, len_marked, names_apart}
-use Rattle.mi_multi.proofs.LiveNodeLemmas.{lacks_middle, out_of_all, ids_same, all_left, all_right, all_append}
+use Rattle.mi_multi.proofs.LiveNodeLemmas.{lacks_middle, out_of_all, ids_same, all_left, all_right, all_append, once_more}
 use Rattle.mi_multi.proofs.NeighbourLemmas.{ids_append}
 use Rattle.mi_multi.proofs.ReturnLemmas.{can_return, length_neighbours, has_relinked}
-
-itself : {a b : ℕ} → a ≡ b → (a == b) ≡ true
-itself {a} {b} same = elim (eqb_tells a b) [ inl is ↦ is.0 | inr isnt ↦ absurd (isnt.1 same) ]
 
 no_link_seen : Link
 no_link_seen = record { back = None; forth = None }
@@ -104,17 +101,21 @@ module _ (s : Shape) (ids : FinMap nat_cmp IdEntry) (m n : Pooled Stored) (xs ys
   kept_is : kept_of d.kept e ≡ Some (kept_node_in m os r)
   kept_is = get_picked (kept_in m os) ids e ∙ ap (option_and_then (kept_in m os)) there
 
-  pub has_back : (k : ℕ) → has_stamps (get_or b.orders k ById) ≡ has_stamps (get_or os k ById)
+  has_back : (k : ℕ) → has_stamps (get_or b.orders k ById) ≡ has_stamps (get_or os k ById)
   has_back k =
       has_relinked d.rows e links d.orders k (let p : length links ≡ length os = length_neighbours m r.name 0 os in
       let q : length os ≡ length s.indexes = length_orders s.indexes [] in
       let w : length d.orders ≡ length s.indexes = length_orders s.indexes (own_lists m xs) in omega arith)
       ∙ has_plan s.indexes (own_lists m xs) k
 
+  -- it may come back into every index
+  pub can_back : AllMeet 0 d.rows (node_in m os r).content links d.orders → IsData s b → AllCan (returning All r) xs 0 m is.rss
+  can_back meet back = can_return s ids m xs next arrivals is e r there meet b refl has_back back
+
   module _ (meet : AllMeet 0 d.rows (node_in m os r).content links d.orders) (back : IsData s b)
       (like : AllLike xs ys) (pass : IsPass (returning All r) (comes_back All r) r 0 xs ys m n) where
     changed : AreChanged (comes_back All r) r 0 xs ys m n is.rss
-    changed = pass is.rss is.stand (can_return s ids m xs next arrivals is e r there meet b refl has_back back)
+    changed = pass is.rss is.stand (can_back meet back)
 
     abbrev new_ids : FinMap nat_cmp IdEntry
     new_ids = with_live ids e true
@@ -143,11 +144,7 @@ module _ (s : Shape) (ids : FinMap nat_cmp IdEntry) (m n : Pooled Stored) (xs ys
     says : (k : ℕ) → SaysSame os m n k
     says k = record {
       value = changed.keeps.values k;
-      stamps = λ x has.
-          let l : x < length s.indexes = no_stamps_past s.indexes x has in
-          let same : 0 + x ≡ x = omega arith in
-          subst (λ w. (link_of n k w).tag.stamp ≡ (link_of m k w).tag.stamp) same
-          (stamp_of_slot (0 + x) (get_or os x ById) (at_plan (Turned (comes_back All r) ids m n) turns x l) has k);
+      stamps = λ x has. stamp_of_slot x (get_or os x ById) (at_stamps (Turned (comes_back All r) ids m n) turns x has) has k;
     }
 
     altered : IsAltered os ids m n e
@@ -236,20 +233,9 @@ module _ (s : Shape) (ids : FinMap nat_cmp IdEntry) (m n : Pooled Stored) (xs ys
         let parts : times q (ids_at m (w.xs ++ r ∷ w.ys))
         ≡ cond (id_at m r == q) 1 0 + times q (ids_at m (w.xs ++ w.ys)) = times_middle (id_at m) q w.xs r w.ys in
         let was : times q (ids_at m (w.xs ++ w.ys)) ≡ cond (is_live (get ids q)) 1 0 = ap (λ k. times q (ids_at m k)) (sym w.was) ∙ live.each q in
-        elim (eqb_tells q e) [
-          | inl it ↦
-              let none_ : cond {A = ℕ} (is_live (get ids q)) 1 0 ≡ 0 =
-              ap (λ k. cond {A = ℕ} (is_live (get ids k)) 1 0) it.1 ∙ ap (λ o. cond {A = ℕ} (is_live o) 1 0) there in
-              let here : cond {A = ℕ} (id_at m r == q) 1 0 ≡ 1 = ap (λ t. cond {A = ℕ} t 1 0) (itself (id ∙ sym it.1)) in
-              let one_ : cond {A = ℕ} (is_live (get new_ids q)) 1 0 ≡ 1 =
-              ap (λ k. cond {A = ℕ} (is_live (get new_ids k)) 1 0) it.1 ∙ ap (λ o. cond {A = ℕ} (is_live o) 1 0) now in
-              omega arith
-          | inr isnt ↦
-              let here : cond {A = ℕ} (id_at m r == q) 1 0 ≡ 0 = ap (λ t. cond {A = ℕ} t 1 0) (is_other (id_at m r) q (λ k. isnt.1 (sym k ∙ id))) in
-              let still : cond {A = ℕ} (is_live (get new_ids q)) 1 0 ≡ cond {A = ℕ} (is_live (get ids q)) 1 0 =
-              ap (λ o. cond {A = ℕ} (is_live o) 1 0) (others q isnt.1) in
-              omega arith
-        ]
+        let more : cond {A = ℕ} (is_live (get new_ids q)) 1 0 ≡ cond (id_at m r == q) 1 0 + cond (is_live (get ids q)) 1 0 =
+        once_more new_ids ids e (id_at m r) q id (ap is_live now) (ap is_live there) others in
+        omega arith
 
     live_back : (rs us : List Ref) → AreLive ids m rs → IsWith r rs us → AreLive new_ids n us
     live_back rs us live w =

@@ -37,12 +37,13 @@ use Rattle.mi_multi.specs.Alike.{SaysSame, IsAltered}
 use Rattle.mi_multi.specs.Multi.{id_at, ids_at, own_list, own_lists, IsFor, AreLive, HasNode, IsMulti, plain_of}
 use Rattle.mi_multi.specs.Restored.{to_place}
 use Rattle.mi_multi.proofs.RowLemmas.{picked_still, picked_with}
-use Rattle.mi_multi.proofs.ListLemmas.{times_middle}
+use Rattle.mi_multi.proofs.ListLemmas.{itself, times_middle}
 use Rattle.mi_multi.proofs.SameNodeLemmas.{live_alike, kept_alike}
 use Rattle.mi_multi.proofs.SettleLemmas.{orders_still}
-use Rattle.mi_multi.proofs.EveryIndexLemmas.{Turned, Known, Every, At, at, every, all_known, at_plan, all_for, seq_known}
-use Rattle.mi_multi.proofs.EveryIndexLemmas.{sequenced_order, one_plan, no_stamps_past, length_orders, one, none}
+use Rattle.mi_multi.proofs.EveryIndexLemmas.{Turned, Known, Every, At, at, every, all_known, at_plan, all_for, seq_known, at_stamps}
+use Rattle.mi_multi.proofs.EveryIndexLemmas.{sequenced_order, one_plan, length_orders, one, none}
 use Rattle.mi_multi.proofs.LiveNodeLemmas.{IsLiveRef, names_apart, out_of_all, all_left, all_right, all_append}
+use Rattle.mi_multi.proofs.StampLemmas.{stamp_given}
 use Rattle.mi_multi.proofs.OldRecordPlaceLemmas.{b, here, meets_at, places_long, given_is, placed}
 
 -- the stamps of a node, each the old one where there is an old place
@@ -62,9 +63,6 @@ stamps_put m n q y (p ∷ ps) (o ∷ os) long each =
     let next : y + suc k ≡ suc y + k = omega arith in
     subst (λ z. stamp_in n q z (get_or os k ById) ≡ stamp_back (get_or ps k None) (stamp_in m q z (get_or os k ById))) next (each (suc k) (omega arith))) in
     (λ i. first i ∷ rest i)
-
-itself : {a b : ℕ} → a ≡ b → (a == b) ≡ true
-itself {a} {b} same = elim (eqb_tells a b) [ inl is ↦ is.0 | inr isnt ↦ absurd (isnt.1 same) ]
 
 module _ (s : Shape) (ids : FinMap nat_cmp IdEntry) (m n : Pooled Stored) (xs ys : List Structure)
     (next arrivals : ℕ) (is : IsMulti s ids m xs next arrivals) (e : ℕ) (r : Ref)
@@ -166,10 +164,7 @@ module _ (s : Shape) (ids : FinMap nat_cmp IdEntry) (m n : Pooled Stored) (xs ys
     says : (k : ℕ) → (k == r.name) ≡ false → SaysSame os m n k
     says k ne = record {
       value = value_beside k ne;
-      stamps = λ x has.
-          let l : x < length s.indexes = no_stamps_past s.indexes x has in
-          let zeroed : 0 + x ≡ x = omega arith in
-          subst (λ w. (link_of n k w).tag.stamp ≡ (link_of m k w).tag.stamp) zeroed (stamp_beside (0 + x) (get_or os x ById) (at_plan Has known x l) has k ne);
+      stamps = λ x has. stamp_beside x (get_or os x ById) (at_stamps Has known x has) has k ne;
     }
 
     altered : IsAltered os ids m n e
@@ -178,12 +173,6 @@ module _ (s : Shape) (ids : FinMap nat_cmp IdEntry) (m n : Pooled Stored) (xs ys
       kept = λ q a ne there_ dead t. done.other_nodes a.node.name t (names_apart m q e a.node r (is.held q a there_) mine ne)
           (out_of_all ids m q a is.rss there_ dead (is.held q a there_) is.live);
     }
-
-    given : (p : Pooled Stored) (x : ℕ) (o : Order) → has_stamps o ≡ true → stamp_in p r.name x o ≡ (link_of p r.name x).tag.stamp
-    given p x ById h = absurd (false≢true h)
-    given p x (ByKey ps) h = refl
-    given p x (ByHash ps) h = refl
-    given p x (Listed l) h = absurd (false≢true h)
 
     same_stamp : (x : ℕ) (o : Order) → link_of n r.name x ≡ link_of m r.name x → stamp_in n r.name x o ≡ stamp_in m r.name x o
     same_stamp x ById same = refl
@@ -204,7 +193,7 @@ module _ (s : Shape) (ids : FinMap nat_cmp IdEntry) (m n : Pooled Stored) (xs ys
         let has_ : has_stamps (order_of i.kind i.parts (own_list m x)) ≡ true = placed k d.rows
         (content_of d.rows e).values old.values was (order_of i.kind i.parts (own_list m x)) met in
         let has : has_stamps o ≡ true = ap has_stamps is_order ∙ one_plan i.kind i.parts l (own_list m x) ∙ has_ in
-        given n k o has
+        stamp_given n r.name k o has
         ∙ subst (λ w. (link_of n r.name w).tag.stamp ≡ was.stamp) h.0.slot (own_tag was i x rs us l h.0.for_ moved (sym (ap has_stamps is_order) ∙ has))
 
     stamp_of : (k : ℕ) (o : Order) → At Has k o → stamp_in n r.name k o ≡ stamp_back (place k) (stamp_in m r.name k o)

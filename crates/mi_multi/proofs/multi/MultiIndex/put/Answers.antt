@@ -1,5 +1,4 @@
 use Rattle.std.proofs.Common.{sym, ◌∙◌}
-use Rattle.mi_multi.proofs.AnswerLemmas.{live_is}
 use Rattle.mi_multi.proofs.PutCallLemmas.{has_node, live_row, node_held, put_ready, now_multi, now_made}
 use Rattle.mi_multi.proofs.multi.MultiIndex.put.Goals as goal
 
@@ -9,31 +8,31 @@ unwrap-node-requires c = has_node c.self.inside c.self.invariant c.args.self.now
 
 pub old_places-places-requires : goal.old_places-places-requires
 old_places-places-requires c =
-    let there = live_is c.self.inside.ids.entries c.args.id c.unwrap-node.result (sym c.live.ensures ∙ c.unwrap-node.ensures) in
-    live_row c.self.inside c.self.invariant c.args.self.now c.self.view_is c.args.id c.args.row c.requires.allowed c.unwrap-node.result there
+    live_row c.self.inside c.self.invariant c.args.self.now c.self.view_is c.args.id c.args.row c.requires.allowed
+    c.unwrap-node.result (sym c.live.ensures ∙ c.unwrap-node.ensures)
 
 pub rekey-old-requires-clause-held : goal.rekey-old-requires-clause-held
 rekey-old-requires-clause-held c =
-    let there = live_is c.self.inside.ids.entries c.args.id c.unwrap-node.result (sym c.live.ensures ∙ c.unwrap-node.ensures) in
-    node_held c.self.inside c.self.invariant c.args.self.now c.self.view_is c.args.id c.args.row c.requires.allowed c.unwrap-node.result there
+    node_held c.self.inside c.self.invariant c.args.self.now c.self.view_is c.args.id c.args.row c.requires.allowed
+    c.unwrap-node.result (sym c.live.ensures ∙ c.unwrap-node.ensures)
 
 pub rekey-old-requires-clause-places : goal.rekey-old-requires-clause-places
 rekey-old-requires-clause-places c =
-    let there = live_is c.self.inside.ids.entries c.args.id c.unwrap-node.result (sym c.live.ensures ∙ c.unwrap-node.ensures) in
-    put_ready c.self.inside c.self.invariant c.args.self.now c.self.view_is c.args.id c.args.row c.requires.allowed c.unwrap-node.result there
+    put_ready c.self.inside c.self.invariant c.args.self.now c.self.view_is c.args.id c.args.row c.requires.allowed
+    c.unwrap-node.result (sym c.live.ensures ∙ c.unwrap-node.ensures)
     c.old_places-places.result.items c.old_places-places.ensures c.as_slice.result.now (c.as_slice.ensures.value ∙ c.marks_of-marks.ensures)
 
 pub invariant_of-self : goal.invariant_of-self
 invariant_of-self c =
-    let there = live_is c.self.inside.ids.entries c.args.id c.unwrap-node.result (sym c.live.ensures ∙ c.unwrap-node.ensures) in
-    now_multi c.self.inside c.self.invariant c.args.self.now c.self.view_is c.args.id c.args.row c.requires.allowed c.unwrap-node.result there
+    now_multi c.self.inside c.self.invariant c.args.self.now c.self.view_is c.args.id c.args.row c.requires.allowed
+    c.unwrap-node.result (sym c.live.ensures ∙ c.unwrap-node.ensures)
     c.old_places-places.result.items c.old_places-places.ensures c.as_slice.result.now (c.as_slice.ensures.value ∙ c.marks_of-marks.ensures)
     c.rekey-old.new.self.pool c.rekey-old.new.self.structures.items c.rekey-old.ensures.like c.rekey-old.ensures.rekeyed c.requires.times
 
 pub returns-clause-made : goal.returns-clause-made
 returns-clause-made c =
-    let there = live_is c.self.inside.ids.entries c.args.id c.unwrap-node.result (sym c.live.ensures ∙ c.unwrap-node.ensures) in
-    now_made c.self.inside c.self.invariant c.args.self.now c.self.view_is c.args.id c.args.row c.requires.allowed c.unwrap-node.result there
+    now_made c.self.inside c.self.invariant c.args.self.now c.self.view_is c.args.id c.args.row c.requires.allowed
+    c.unwrap-node.result (sym c.live.ensures ∙ c.unwrap-node.ensures)
     c.old_places-places.result.items c.old_places-places.ensures c.as_slice.result.now (c.as_slice.ensures.value ∙ c.marks_of-marks.ensures)
     c.rekey-old.new.self.pool c.rekey-old.new.self.structures.items c.rekey-old.ensures.like c.rekey-old.ensures.rekeyed
     c.rekey-old.result c.rekey-old.ensures.value c.new.result c.new.ensures

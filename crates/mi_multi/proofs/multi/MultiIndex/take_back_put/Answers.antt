@@ -39,8 +39,7 @@ module _ (c : After-as_slice) where
 
   -- the row is live, in its node
   there : get c.self.inside.ids.entries c.args.row.id ≡ Some (record { node = c.args.row.node; live = true })
-  there = let i = c.self.inside in
-      live_there i.schema i.ids.entries i.nodes.pool i.nodes.structures.items i.next i.arrivals (row_seen c.args.row) ready.0
+  there = live_there c.self.inside c.args.self.now c.self.view_is (row_seen c.args.row) c.requires.ready.0
 
   -- and may go back to each old place
   can : AllCan (returning_to c.as_slice.result.now c.args.row.node restored) c.self.inside.nodes.structures.items 0
