@@ -176,7 +176,7 @@ fn rows_have_their_text(rt: HostRuntime) -> Result<(), Fail> {
         more: true,
     };
     let want =
-        "{\"more\":true,\"ok\":true,\"rows\":[{\"balance\":50,\"id\":0,\"owner\":\"ann\",\"vip\":false},{\"balance\":7,\"id\":1,\"owner\":\"bob\",\"vip\":true}]}";
+        r#"{"more":true,"ok":true,"rows":[{"balance":50,"id":0,"owner":"ann","vip":false},{"balance":7,"id":1,"owner":"bob","vip":true}]}"#;
     assert_text(&rt, alloc, &catalog, &first, want);
     Ok(())
 }
