@@ -1,2 +1,3 @@
 pub mod RuleLaws
 pub mod KindLaws
+pub mod KeyLemmas

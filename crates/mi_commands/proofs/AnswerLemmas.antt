@@ -7,7 +7,7 @@ use Rattle.mi_value.specs.declared.refusal.Refusal.{Refusal}
 use Rattle.mi_value.specs.declared.refusal.Refusal.TheVariants.{NoId, Full, Spent, Unique, Lost, Memory}
 use Rattle.mi_catalog.specs.declared.index.Index.{Index}
 use Rattle.mi_catalog.specs.Shape.{Shape, CatalogShape, schema_at}
-use Rattle.mi_model.specs.Key.{Row}
+use Rattle.mi_catalog.specs.Key.{Row}
 use Rattle.mi_model.specs.Table.{Table, size}
 use Rattle.mi_model.specs.Conflict.{rival, conflict_from, conflict}
 use Rattle.mi_value.specs.declared.edit.Edit.{Edit}

@@ -15,7 +15,7 @@ use Rattle.mi_catalog.specs.declared.index.IndexKind.{IndexKind}
 use Rattle.mi_catalog.specs.declared.index.IndexKind.TheVariants.{Ordered, Ranked, Hashed, Sequenced}
 use Rattle.mi_catalog.specs.Kinds.{is_sorted, is_hashed}
 use Rattle.mi_catalog.specs.Shape.{Shape, index_at}
-use Rattle.mi_model.specs.Key.{compare_rows}
+use Rattle.mi_catalog.specs.Key.{compare_rows}
 use Rattle.mi_model.specs.Table.{Table, row, list_of, ListsEach}
 use Rattle.mi_model.specs.View.{compare_ids, sorted, shown, view}
 use Rattle.mi_model.proofs.SortLaws.{Ascends, ascends_sorted}

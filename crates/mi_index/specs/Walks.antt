@@ -1,6 +1,6 @@
 -- The rows of nodes, and a walk along the links of one slot.
 use Rattle.std.specs.Prelude.{◌≡◌, ℕ, List, [], ◌∷◌, Option, Some, None}
-use Rattle.mi_model.specs.Key.{Row}
+use Rattle.mi_catalog.specs.Key.{Row}
 use Rattle.mi_node.specs.Pool.{Pooled, value_of, link_of, IsHeld}
 use Rattle.mi_node.specs.Refs.{Ref, first_of}
 use Rattle.mi_tree.specs.Walking.{far_of}

@@ -16,7 +16,7 @@ use Rattle.mi_value.specs.declared.refusal.NoSession.{NoSession}
 use Rattle.mi_value.specs.Edits.{apply}
 use Rattle.mi_catalog.specs.declared.index.IndexKind.TheVariants.{Sequenced}
 use Rattle.mi_catalog.specs.Shape.{Shape, CatalogShape, schema_at, index_at}
-use Rattle.mi_model.specs.Key.{Row, IsWholeKey}
+use Rattle.mi_catalog.specs.Key.{Row, IsWholeKey}
 use Rattle.mi_model.specs.Table.{Table, IsTable, has, row}
 use Rattle.mi_model.specs.Conflict.{conflict}
 use Rattle.mi_model.specs.Change.{insert, put, erase, relocate}

@@ -17,7 +17,7 @@ use Rattle.mi_catalog.specs.declared.index.Index.{Index}
 use Rattle.mi_catalog.specs.declared.index.IndexKind.{IndexKind}
 use Rattle.mi_catalog.specs.declared.index.IndexKind.TheVariants.{Ordered, Ranked, Hashed, Sequenced}
 use Rattle.mi_catalog.specs.Shape.{Shape, schema_at, index_at}
-use Rattle.mi_model.specs.Key.{Row, compare_rows, compare_to_row, IsWholeKey}
+use Rattle.mi_catalog.specs.Key.{Row, compare_rows, compare_to_row, IsWholeKey}
 use Rattle.mi_model.specs.Table.{Table, get, row, size}
 use Rattle.mi_model.specs.View.{view, of_key, compare_ids, compare_to_id}
 use Rattle.mi_model.specs.Conflict.{conflict}

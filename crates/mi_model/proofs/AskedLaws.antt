@@ -12,7 +12,7 @@ use Rattle.mi_catalog.specs.Shape.{index_at}
 use Rattle.mi_catalog.specs.Kinds.{is_hashed}
 use Rattle.mi_catalog.specs.Fits.{fits_type, fits_record, fits_key}
 use Rattle.mi_catalog.specs.Rules.{is_key, keeps_kind, is_declared_index, are_indexes}
-use Rattle.mi_model.specs.Key.{IsAskedBy}
+use Rattle.mi_catalog.specs.Key.{IsAskedBy}
 use Rattle.mi_model.specs.Table.{row}
 use Rattle.mi_model.specs.Alike.{WhatFitsIsAsked, RecordsThatFitHaveWholeKeys}
 use Rattle.mi_model.proofs.NextLaws.{whole_key_long}

@@ -6,7 +6,7 @@ use Rattle.std.specs.Ordering.{is_lt}
 use Rattle.std.specs.declared.cmp.Ordering.{Ordering}
 use Rattle.mi_catalog.specs.declared.index.IndexKind.{IndexKind}
 use Rattle.mi_catalog.specs.declared.index.IndexKind.TheVariants.{Ordered, Ranked, Hashed, Sequenced}
-use Rattle.mi_model.specs.Key.{Row}
+use Rattle.mi_catalog.specs.Key.{Row}
 use Rattle.mi_model.specs.Table.{Table}
 use Rattle.mi_model.specs.View.{place, sorted, shown}
 use Rattle.mi_model.specs.Change.{erase, erase_all}

@@ -16,7 +16,7 @@ use Rattle.mi_catalog.specs.declared.index.Column.{Column}
 use Rattle.mi_catalog.specs.declared.index.Index.{Index}
 use Rattle.mi_catalog.specs.Shape.{Shape, index_at}
 use Rattle.mi_catalog.specs.Fits.{is_id_key, fits_key, fits_parts}
-use Rattle.mi_model.specs.Key.{parts_or_id, record_or_id}
+use Rattle.mi_catalog.specs.Key.{parts_or_id, record_or_id}
 use Rattle.mi_model.specs.Table.{Table, has, row, times, ListsEach}
 use Rattle.mi_model.specs.View.{compare_ids, compare_to_id, view, of_key}
 use Rattle.mi_model.specs.LookUp as look

@@ -15,7 +15,7 @@ use Rattle.mi_catalog.specs.declared.index.Index.{Index}
 use Rattle.mi_catalog.specs.declared.index.IndexKind.{IndexKind}
 use Rattle.mi_catalog.specs.declared.index.IndexKind.TheVariants.{Ordered, Ranked, Hashed, Sequenced}
 use Rattle.mi_catalog.specs.Shape.{Shape, index_at}
-use Rattle.mi_model.specs.Key.{Row}
+use Rattle.mi_catalog.specs.Key.{Row}
 use Rattle.mi_model.specs.Table.{Table, has, size, list_of, Rise, times, ListsEach, IsTable}
 use Rattle.mi_model.specs.View.{shown, view}
 use Rattle.mi_catalog.specs.Kinds.{is_sorted, shows_one_list}

@@ -9,7 +9,7 @@ use Rattle.mi_value.specs.declared.compare.KeyPart.{KeyPart}
 use Rattle.mi_value.specs.Order.{compare_part, compare_key, compare_to_part, compare_prefix}
 use Rattle.mi_value.proofs.OrderLaws.{directed_total}
 use Rattle.mi_catalog.specs.declared.index.Index.{Index}
-use Rattle.mi_model.specs.Key.{parts_or_id, record_or_id}
+use Rattle.mi_catalog.specs.Key.{parts_or_id, record_or_id}
 use Rattle.mi_model.specs.Table.{Table, row}
 use Rattle.mi_model.specs.View.{compare_ids, compare_to_id}
 

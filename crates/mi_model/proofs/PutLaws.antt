@@ -18,7 +18,7 @@ use Rattle.mi_catalog.specs.declared.index.Index.{Index}
 use Rattle.mi_catalog.specs.declared.index.IndexKind.{IndexKind}
 use Rattle.mi_catalog.specs.declared.index.IndexKind.TheVariants.{Ordered, Ranked, Hashed, Sequenced}
 use Rattle.mi_catalog.specs.Shape.{Shape, index_at}
-use Rattle.mi_model.specs.Key.{Row, compare_rows, compare_to_row}
+use Rattle.mi_catalog.specs.Key.{Row, compare_rows, compare_to_row}
 use Rattle.mi_model.specs.Table.{Table, has, row, list_of}
 use Rattle.mi_model.specs.View.{compare_ids, compare_to_id, place, sorted, shown, view, of_key}
 use Rattle.mi_model.specs.Change.{without, moved_in, moved, put}

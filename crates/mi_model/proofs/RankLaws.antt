@@ -18,7 +18,7 @@ use Rattle.mi_catalog.specs.declared.index.IndexKind.{IndexKind}
 use Rattle.mi_catalog.specs.declared.index.IndexKind.TheVariants.{Ordered, Ranked, Hashed, Sequenced}
 use Rattle.mi_catalog.specs.Kinds.{is_sorted}
 use Rattle.mi_catalog.specs.Shape.{index_at}
-use Rattle.mi_model.specs.Key.{Row, compare_rows}
+use Rattle.mi_catalog.specs.Key.{Row, compare_rows}
 use Rattle.mi_model.specs.Table.{row, list_of, Rise, times, ListsEach}
 use Rattle.mi_model.specs.View.{compare_ids, sorted, shown}
 use Rattle.mi_model.specs.Change.{without}

@@ -14,7 +14,7 @@ use Rattle.mi_catalog.specs.declared.index.IndexKind.{IndexKind}
 use Rattle.mi_catalog.specs.declared.index.IndexKind.TheVariants.{Ordered, Ranked, Hashed, Sequenced}
 use Rattle.mi_catalog.specs.Shape.{Shape, index_at}
 use Rattle.mi_value.specs.declared.compare.KeyPart.{KeyPart}
-use Rattle.mi_model.specs.Key.{Row, IsWholeKey, IsAskedBy}
+use Rattle.mi_catalog.specs.Key.{Row, IsWholeKey, IsAskedBy}
 use Rattle.mi_model.specs.Table.{Table, has, row, list_of}
 use Rattle.mi_model.specs.View.{compare_ids, compare_to_id, shown, view, of_key}
 use Rattle.mi_model.specs.Change.{stand, stand_before, without, added, insert, moved, put, erase, erase_all, erase_key, relocated, relocate}

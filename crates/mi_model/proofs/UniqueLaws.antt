@@ -23,7 +23,7 @@ use Rattle.mi_value.specs.Order.{compare_key}
 use Rattle.mi_value.specs.Edits.{apply}
 use Rattle.mi_catalog.specs.declared.index.Index.{Index}
 use Rattle.mi_catalog.specs.Shape.{Shape, CatalogShape, index_at}
-use Rattle.mi_model.specs.Key.{Row, compare_rows}
+use Rattle.mi_catalog.specs.Key.{Row, compare_rows}
 use Rattle.mi_model.specs.Table.{Table, IsTable, get, has, row, size, opened}
 use Rattle.mi_model.specs.View.{of_key}
 use Rattle.mi_model.specs.Conflict.{is_rival, rival, conflict_from, conflict}

@@ -11,7 +11,7 @@ use Rattle.mi_catalog.specs.Fitting.{IsSequencedIndex}
 use Rattle.mi_catalog.specs.Kinds.{is_hashed}
 use Rattle.mi_catalog.specs.Fits.{fits_record, fits_key}
 use Rattle.mi_catalog.specs.Rules.{is_schema}
-use Rattle.mi_model.specs.Key.{IsWholeKey, IsAskedBy}
+use Rattle.mi_catalog.specs.Key.{IsWholeKey, IsAskedBy}
 use Rattle.mi_model.specs.Table.{Table, get, row, size}
 use Rattle.mi_model.specs.Conflict.{conflict}
 use Rattle.mi_model.specs.LookUp.{rank, nth, lower_rank, upper_rank, find, count, lower, upper, first}

@@ -1,4 +1,3 @@
-pub mod Key
 pub mod Table
 pub mod View
 pub mod Conflict

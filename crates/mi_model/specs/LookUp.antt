@@ -7,7 +7,7 @@ use Rattle.std.specs.declared.option.Option.TheVariants.{None}
 use Rattle.mi_value.specs.declared.value.Value.{Value}
 use Rattle.mi_catalog.specs.Shape.{Shape, index_at}
 use Rattle.mi_catalog.specs.Kinds.{is_sorted}
-use Rattle.mi_model.specs.Key.{compare_rows}
+use Rattle.mi_catalog.specs.Key.{compare_rows}
 use Rattle.mi_model.specs.Table.{Table, IsTable, has, row, list_of}
 use Rattle.mi_model.specs.View.{view, of_key, compare_ids, compare_to_id}
 

@@ -5,7 +5,7 @@ use Rattle.mi_value.specs.declared.value.Value.{Value}
 use Rattle.mi_catalog.specs.declared.index.IndexKind.{IndexKind}
 use Rattle.mi_catalog.specs.declared.index.IndexKind.TheVariants.{Hashed}
 use Rattle.mi_catalog.specs.Shape.{Shape, index_at}
-use Rattle.mi_model.specs.Key.{IsWholeKey}
+use Rattle.mi_catalog.specs.Key.{IsWholeKey}
 use Rattle.mi_model.specs.Table.{Table}
 use Rattle.mi_model.specs.View.{view, of_key}
 use Rattle.mi_model.specs.Database.{Database}

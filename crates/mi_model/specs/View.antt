@@ -8,7 +8,7 @@ use Rattle.mi_catalog.specs.declared.index.Index.{Index}
 use Rattle.mi_catalog.specs.declared.index.IndexKind.{IndexKind}
 use Rattle.mi_catalog.specs.declared.index.IndexKind.TheVariants.{Ordered, Ranked, Hashed, Sequenced}
 use Rattle.mi_catalog.specs.Shape.{Shape, index_at}
-use Rattle.mi_model.specs.Key.{compare_rows, compare_to_row}
+use Rattle.mi_catalog.specs.Key.{compare_rows, compare_to_row}
 use Rattle.mi_model.specs.Table.{Table, row, list_of}
 
 -- two ids by the keys of their rows

@@ -3,7 +3,7 @@
 --     ids_from, rows_from      the first ids that an index shows from one on, in its order or in the reverse of it; their rows
 use Rattle.std.specs.Prelude.{ℕ, Bool, if◌then◌else◌, List, map, take, drop, reverse}
 use Rattle.mi_catalog.specs.Shape.{Shape}
-use Rattle.mi_model.specs.Key.{Row}
+use Rattle.mi_catalog.specs.Key.{Row}
 use Rattle.mi_model.specs.Table.{Table, row}
 use Rattle.mi_model.specs.View.{view}
 use Rattle.mi_model.specs.LookUp.{rank_in}

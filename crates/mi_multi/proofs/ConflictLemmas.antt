@@ -18,7 +18,7 @@ use Rattle.mi_catalog.specs.declared.index.IndexKind.TheVariants as kind
 use Rattle.mi_catalog.specs.Kinds.{has_keys}
 use Rattle.mi_catalog.specs.Rules.{keeps_kind, is_declared_index, are_indexes, is_schema}
 use Rattle.mi_catalog.specs.Shape.{Shape, index_at}
-use Rattle.mi_model.specs.Key.{Row}
+use Rattle.mi_catalog.specs.Key.{Row}
 use Rattle.mi_model.specs.Table.{Table}
 use Rattle.mi_model.specs.View.{view}
 use Rattle.mi_model.specs.Conflict.{rival}

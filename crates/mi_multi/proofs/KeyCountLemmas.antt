@@ -12,7 +12,7 @@ use Rattle.mi_catalog.specs.declared.index.IndexKind.TheVariants as kind
 use Rattle.mi_catalog.specs.Fits.{fits_parts, fits_key}
 use Rattle.mi_catalog.specs.Kinds.{has_keys, is_hashed, is_sorted}
 use Rattle.mi_catalog.specs.Shape.{Shape}
-use Rattle.mi_model.specs.Key.{Row}
+use Rattle.mi_catalog.specs.Key.{Row}
 use Rattle.mi_model.specs.Table.{Table, IsTable, Rise, size}
 use Rattle.mi_model.specs.View.{view, of_key}
 use Rattle.mi_model.proofs.PlaceLaws.{length-view}

@@ -21,7 +21,7 @@ use Rattle.mi_catalog.specs.declared.index.Index.{Index}
 use Rattle.mi_catalog.specs.Kinds.{is_sequenced}
 use Rattle.mi_catalog.specs.Shape.{Shape}
 use Rattle.mi_model.proofs.ViewLaws.{Lacks}
-use Rattle.mi_model.specs.Key.{parts_or_id}
+use Rattle.mi_catalog.specs.Key.{parts_or_id}
 use Rattle.mi_node.specs.Pool.{Pooled, value_of, link_of}
 use Rattle.mi_node.specs.Refs.{Ref}
 use Rattle.mi_node.specs.declared.link.Link.{Link as Line}

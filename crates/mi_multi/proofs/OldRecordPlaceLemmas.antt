@@ -28,7 +28,7 @@ use Rattle.mi_chain.specs.Keying.{same_values, stamp_at}
 use Rattle.mi_order.specs.declared.stored.Stored.{Stored}
 use Rattle.mi_index.specs.declared.structure.Structure.{Structure}
 use Rattle.mi_index.specs.declared.structure.Structure.TheVariants.{Ordered, Hashed, Sequenced}
-use Rattle.mi_model.specs.Key.{id_part}
+use Rattle.mi_catalog.specs.Key.{id_part}
 use Rattle.mi_index.specs.Orders.{stored_order, has_one_key}
 use Rattle.mi_index.specs.Standing.{AllAbove, AllBelow, Climb}
 use Rattle.mi_index.specs.Places.{given_at}

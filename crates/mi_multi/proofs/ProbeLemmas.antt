@@ -22,7 +22,7 @@ use Rattle.mi_catalog.specs.declared.index.IndexKind.TheVariants as kind
 use Rattle.mi_catalog.specs.Kinds.{has_keys, is_hashed, is_sequenced, is_ranked}
 use Rattle.mi_catalog.specs.Rules.{keeps_kind, is_declared_index, are_indexes}
 use Rattle.mi_catalog.specs.Shape.{Shape, index_at}
-use Rattle.mi_model.specs.Key.{compare_rows, compare_to_row, parts_or_id}
+use Rattle.mi_catalog.specs.Key.{compare_rows, compare_to_row, parts_or_id}
 use Rattle.mi_model.specs.Table.{Table, row}
 use Rattle.mi_model.specs.View.{compare_ids, compare_to_id, view}
 use Rattle.mi_model.specs.LookUp as look

@@ -19,7 +19,7 @@ use Rattle.mi_value.specs.declared.compare.KeyPart.{KeyPart}
 use Rattle.mi_value.specs.Order.{compare_key}
 use Rattle.mi_value.proofs.OrderLaws.{compare_key_total}
 use Rattle.mi_catalog.specs.Shape.{Shape, index_at}
-use Rattle.mi_model.specs.Key.{Row, compare_rows}
+use Rattle.mi_catalog.specs.Key.{Row, compare_rows}
 use Rattle.mi_model.specs.Table.{Table, IsTable, Rise, has, row, times, ListsEach}
 use Rattle.mi_model.specs.Conflict.{is_rival, rival}
 use Rattle.mi_model.specs.Unique.{HasUniqueKeys}

@@ -17,7 +17,7 @@ use Rattle.mi_catalog.specs.declared.index.IndexKind.{IndexKind}
 use Rattle.mi_catalog.specs.declared.index.IndexKind.TheVariants as kind
 use Rattle.mi_catalog.specs.Kinds.{is_hashed, is_sequenced}
 use Rattle.mi_catalog.specs.Shape.{Shape, index_at}
-use Rattle.mi_model.specs.Key.{compare_rows}
+use Rattle.mi_catalog.specs.Key.{compare_rows}
 use Rattle.mi_model.specs.Table.{Table, row, list_of, ListsEach}
 use Rattle.mi_model.specs.View.{compare_ids, shown, view}
 use Rattle.mi_model.proofs.StampLaws.{Rises, rises_once}

@@ -16,7 +16,7 @@ use Rattle.mi_value.specs.declared.bound.Probe.{Probe}
 use Rattle.mi_value.specs.declared.bound.Probe.TheVariants.{Key, Of}
 use Rattle.mi_value.specs.Order.{compare_key}
 use Rattle.mi_value.proofs.OrderLaws.{compare_key_total}
-use Rattle.mi_model.specs.Key.{parts_or_id, record_or_id, compare_to_row}
+use Rattle.mi_catalog.specs.Key.{parts_or_id, record_or_id, compare_to_row}
 use Rattle.mi_model.proofs.PrefixLaws.{NotBelow, prefix_falls}
 use Rattle.mi_tree.specs.Order.{IsNoLater, IsMonotone}
 use Rattle.mi_order.specs.declared.stored.Stored.{Stored}

@@ -17,7 +17,7 @@ use Rattle.mi_value.specs.declared.bound.Probe.{Probe}
 use Rattle.mi_value.specs.declared.bound.Probe.TheVariants.{Key, Of}
 use Rattle.mi_value.specs.Order.{compare_key, compare_prefix}
 use Rattle.mi_value.specs.Hash.{values_hash, key_values}
-use Rattle.mi_model.specs.Key.{Row, compare_rows, compare_to_row}
+use Rattle.mi_catalog.specs.Key.{Row, compare_rows, compare_to_row}
 use Rattle.mi_order.specs.declared.stored.Stored.{Stored}
 use Rattle.mi_order.specs.declared.orders.ByHash.{ByHash}
 use Rattle.mi_order.specs.Mixing.{mixed}

@@ -2,11 +2,11 @@
 //! They read values alone, and take no memory; they know no stamps, which stand in links.
 ghost use Rattle.std.specs.Prelude.{◌≡◌};
 
-use crate::key::{compare_rows, compare_to_row, id_sought, is_whole_key};
+use crate::key::{id_sought, is_whole_key};
 use crate::leads::{LeadTypes, is_exact_lead, lead_probe, lead_tag};
 use crate::mixing::mixed;
 use crate::stored::Stored;
-use mi_catalog::Parts;
+use mi_catalog::{Parts, compare_rows, compare_to_row};
 use mi_chain::KeyHash;
 use mi_tree::NodeOrder;
 use mi_value::{Probe, Steps, Value, compare_key, hash_values, same_key};

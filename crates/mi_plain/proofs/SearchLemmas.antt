@@ -10,7 +10,7 @@ use Rattle.std.proofs.lemmas.Cmp.{ranked}
 use Rattle.std.proofs.lemmas.List.Sorted.{IsNonDecreasingBy-from_default}
 use Rattle.std.proofs.lemmas.Bool.{cases_lt}
 use Rattle.std.proofs.lemmas.Bool.Decides.{nat_tests}
-use Rattle.mi_model.specs.Key.{Row}
+use Rattle.mi_catalog.specs.Key.{Row}
 use Rattle.mi_model.specs.Table.{Rise}
 use Rattle.mi_model.proofs.TableLaws.{count_itself, not_same}
 use Rattle.mi_plain.specs.Rows.{row_at, AreInOrder, IsRowOf}

@@ -6,7 +6,6 @@
 
 mod conflict;
 mod ids;
-mod key;
 mod look_ups;
 mod pass;
 mod plain;

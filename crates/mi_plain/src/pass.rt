@@ -1,8 +1,7 @@
 //! Passes over the list of an index: which ids stand before a place in what it shows, how many, and those next to it. They
 //! read rows and take no memory.
-use crate::key::{compare_rows, compare_to_row};
 use crate::table::PlainTable;
-use mi_catalog::Index;
+use mi_catalog::{Index, compare_rows, compare_to_row};
 use mi_value::Value;
 use std::cmp::Ordering;
 

@@ -3,8 +3,7 @@ use crate::conflict::{Row, conflict, find_row, remove_row, set_row};
 use crate::ids::{
     Ids, copy_lists, empty_lists, remove_from_all, with_added, with_moved, with_relocated,
 };
-use crate::key::is_of_key;
-use mi_catalog::{Index, Schema};
+use mi_catalog::{Index, Schema, compare_to_row};
 use mi_value::limits::LAST_COUNT;
 use mi_value::{Edit, Record, Refusal, Value, apply};
 use std::alloc::{AllocError, Global};
@@ -321,8 +320,8 @@ impl PlainTable {
         ensures { result ≡ is_eq (compare_to_id index.now self.now key.now id) }
     {
         match self.get(id) {
-            Some(row) => is_of_key(index.parts.as_slice(), key, id, row),
-            None => is_of_key(index.parts.as_slice(), key, id, none),
+            Some(row) => compare_to_row(index.parts.as_slice(), key, id, row).is_eq(),
+            None => compare_to_row(index.parts.as_slice(), key, id, none).is_eq(),
         }
     }
 

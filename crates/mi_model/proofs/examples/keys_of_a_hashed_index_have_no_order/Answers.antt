@@ -3,7 +3,7 @@ use Rattle.mi_value.specs.declared.value.Value.{Value}
 use Rattle.mi_value.specs.declared.value.Value.TheVariants.{Int, Text, Flag}
 use Rattle.mi_catalog.specs.Shape.{index_at}
 use Rattle.mi_catalog.specs.Accounts.{accounts}
-use Rattle.mi_model.specs.Key.{IsWholeKey}
+use Rattle.mi_catalog.specs.Key.{IsWholeKey}
 use Rattle.mi_model.specs.View.{of_key}
 use Rattle.mi_model.specs.Same.{SameView}
 use Rattle.mi_model.specs.Examples.{one_vip, one_vip_later}

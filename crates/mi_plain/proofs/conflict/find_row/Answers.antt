@@ -1,7 +1,7 @@
 -- The row that is read is the one at its place.
 use Rattle.std.proofs.Common.{Some, [], sym, ap, ◌∙◌}
 use Rattle.std.proofs.lemmas.List.{get_or_default}
-use Rattle.mi_model.specs.Key.{Row}
+use Rattle.mi_catalog.specs.Key.{Row}
 use Rattle.mi_plain.proofs.conflict.find_row.Goals as goal
 
 pub returns-in-Ok : goal.returns-in-Ok

@@ -2,7 +2,7 @@
 use Rattle.std.proofs.Common.{◌≡◌, List, subst, sym, ◌∙◌}
 use Rattle.std.specs.List.{position}
 use Rattle.std.specs.declared.option.Option.TheVariants.{None, Some}
-use Rattle.mi_model.specs.Key.{Row}
+use Rattle.mi_catalog.specs.Key.{Row}
 use Rattle.mi_plain.proofs.RowLemmas.{named, set_value-found, set_value-missing}
 use Rattle.mi_plain.proofs.conflict.set_row.Goals as goal
 

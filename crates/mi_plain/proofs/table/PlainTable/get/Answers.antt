@@ -1,6 +1,6 @@
 -- The rows of a table are in order.
 use Rattle.std.proofs.Common.{List, subst, sym}
-use Rattle.mi_model.specs.Key.{Row}
+use Rattle.mi_catalog.specs.Key.{Row}
 use Rattle.mi_plain.specs.Rows.{AreInOrder}
 use Rattle.mi_plain.proofs.SearchLemmas.{in_order}
 use Rattle.mi_plain.proofs.table.PlainTable.get.Goals as goal

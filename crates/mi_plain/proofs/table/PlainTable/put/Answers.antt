@@ -2,7 +2,7 @@
 use Rattle.std.proofs.Common.{◌≤◌, ◌+◌, List, subst, sym, arith}
 use Rattle.std.proofs.lemmas.Grind.{common_steps}
 use Rattle.mi_value.specs.declared.limits.TheConstants.{LAST_COUNT}
-use Rattle.mi_model.specs.Key.{Row}
+use Rattle.mi_catalog.specs.Key.{Row}
 use Rattle.mi_model.specs.Table.{Rise}
 use Rattle.mi_model.proofs.TableLaws.{rise_set_value}
 use Rattle.mi_plain.proofs.table.PlainTable.put.Goals as goal

@@ -1,7 +1,7 @@
 -- The rows that are left stay in order.
 use Rattle.std.proofs.Common.{List, not, subst, sym}
 use Rattle.std.specs.Prelude.{◌==◌}
-use Rattle.mi_model.specs.Key.{Row}
+use Rattle.mi_catalog.specs.Key.{Row}
 use Rattle.mi_model.specs.Table.{Rise}
 use Rattle.mi_model.proofs.TableLaws.{rise_filter}
 use Rattle.mi_plain.proofs.table.PlainTable.remove.Goals as goal

@@ -1,10 +1,8 @@
-//! How keys and rows compare. It reads rows and takes no memory.
+//! How rows and keys compare by the parts of an index, which goes by the id where it has none. It reads rows and takes no memory.
 ghost use Rattle.std.specs.Prelude.{◌≡◌, pos, [], ◌∷◌};
-ghost use Rattle.std.specs.Ordering.{is_eq};
 ghost use Rattle.mi_value.specs.declared.value.Value.TheVariants.{Int};
 ghost use Rattle.mi_value.specs.Order.{compare_value, compare_prefix as compare_prefix_to};
-ghost use Rattle.mi_model.specs.Key.{id_part};
-ghost use Rattle.mi_model.specs.Key as meaning;
+ghost use Rattle.mi_catalog.specs.Key as meaning;
 
 use mi_value::{KeyPart, Record, Value, compare_key, compare_prefix};
 use std::cmp::Ordering;
@@ -22,7 +20,7 @@ fn compare_to_id(value: &Value, id: u64) -> Ordering
 
 /// A key of these values against an id.
 fn compare_values(first: &Value, rest: &[Value], id: u64) -> Ordering
-    ensures { result ≡ compare_prefix_to id_part (first.now ∷ rest.now) (Int (pos id) ∷ []) }
+    ensures { result ≡ compare_prefix_to meaning.id_part (first.now ∷ rest.now) (Int (pos id) ∷ []) }
 {
     let o = compare_to_id(first, id);
     if rest.is_empty() {
@@ -34,7 +32,7 @@ fn compare_values(first: &Value, rest: &[Value], id: u64) -> Ordering
 
 /// A key against an id; one without values is equal to every id.
 fn compare_id_key(key: &[Value], id: u64) -> Ordering
-    ensures { result ≡ compare_prefix_to id_part key.now (Int (pos id) ∷ []) }
+    ensures { result ≡ compare_prefix_to meaning.id_part key.now (Int (pos id) ∷ []) }
 {
     match key.split_first() {
         None => Ordering::Equal,
@@ -42,8 +40,10 @@ fn compare_id_key(key: &[Value], id: u64) -> Ordering
     }
 }
 
-/// A key, or the first values of one, against the key of a row by an index with these parts.
-pub(crate) fn compare_to_row(parts: &[KeyPart], key: &[Value], id: u64, row: &Record) -> Ordering
+/// A key, or the first values of one, against the key of the row with this id and record, by an index with these parts: on as
+/// many values as the key has, so one without values is equal to every row. An index without parts goes by the id, which a
+/// value is compared with as a whole number; further values make a key greater.
+pub fn compare_to_row(parts: &[KeyPart], key: &[Value], id: u64, row: &Record) -> Ordering
     ensures { result ≡ meaning.compare_to_row parts.now key.now (id, row.now) }
 {
     if parts.is_empty() {
@@ -53,15 +53,8 @@ pub(crate) fn compare_to_row(parts: &[KeyPart], key: &[Value], id: u64, row: &Re
     }
 }
 
-/// Whether a key, or the first values of one, is that of a row by an index with these parts.
-pub(crate) fn is_of_key(parts: &[KeyPart], key: &[Value], id: u64, row: &Record) -> bool
-    ensures { result ≡ is_eq (meaning.compare_to_row parts.now key.now (id, row.now)) }
-{
-    compare_to_row(parts, key, id, row).is_eq()
-}
-
-/// The keys of two rows by an index with these parts.
-pub(crate) fn compare_rows(
+/// The keys of two rows, each an id and a record, by an index with these parts; by the ids where it has none.
+pub fn compare_rows(
     parts: &[KeyPart],
     a: u64,
     row: &Record,

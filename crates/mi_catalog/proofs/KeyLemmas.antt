@@ -9,7 +9,7 @@ use Rattle.std.specs.declared.cmp.Ordering.TheVariants.{Less, Equal, Greater}
 use Rattle.mi_value.specs.declared.value.Value.{Value}
 use Rattle.mi_value.specs.declared.value.Value.TheVariants.{Int}
 use Rattle.mi_value.specs.Order.{compare_value, compare_prefix}
-use Rattle.mi_model.specs.Key.{id_part}
+use Rattle.mi_catalog.specs.Key.{id_part}
 
 then_equal : (o : Ordering) → ordering_then o Equal ≡ o
 then_equal Less = refl

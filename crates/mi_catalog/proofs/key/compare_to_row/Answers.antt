@@ -1,9 +1,9 @@
 -- An index without parts goes by the id.
 use Rattle.std.proofs.Common.{◌≡◌, List, subst, sym, ◌∙◌}
 use Rattle.mi_value.specs.declared.compare.KeyPart.{KeyPart}
-use Rattle.mi_model.specs.Key.{compare_to_row}
-use Rattle.mi_order.proofs.KeyLemmas.{no_parts}
-use Rattle.mi_order.proofs.key.compare_to_row.Goals as goal
+use Rattle.mi_catalog.specs.Key.{compare_to_row}
+use Rattle.mi_catalog.proofs.KeyLemmas.{no_parts}
+use Rattle.mi_catalog.proofs.key.compare_to_row.Goals as goal
 
 pub returns-then-is_empty : goal.returns-then-is_empty
 returns-then-is_empty c =
