@@ -1,7 +1,7 @@
 -- One pass over the structures: a step in the first, and then a pass over those behind it.
---     tail_ready  what those behind the first structure ask for
+--     rest_asked  what those behind the first structure ask for
 --     passed      the whole pass
-use Rattle.std.proofs.Common.{◌≡◌, ℕ, ◌+◌, ◌<◌, ◌==◌, false, List, [], ◌∷◌, refl, ap, ◌∙◌, arith}
+use Rattle.std.proofs.Common.{◌≡◌, ℕ, ◌+◌, ◌<◌, ◌^◌, ◌==◌, false, List, [], ◌∷◌, length, refl, sym, ap, ◌∙◌, subst, arith}
 use Rattle.mi_node.specs.Pool.{Pooled, Keeps}
 use Rattle.mi_node.specs.Refs.{Ref}
 use Rattle.mi_index.specs.Standing.{slot_in, IsLike}
@@ -10,7 +10,7 @@ use Rattle.mi_order.specs.declared.stored.Stored.{Stored}
 use Rattle.mi_index.specs.declared.structure.Structure.{Structure}
 use Rattle.mi_index.specs.declared.structure.Structure.TheVariants.{Ordered, Hashed, Sequenced}
 use Rattle.mi_index.proofs.FrameLemmas.{Agree, stands_same}
-use Rattle.mi_index.proofs.StayLemmas.{Stays, Before, After}
+use Rattle.mi_index.proofs.StayLemmas.{IsLocal}
 
 differs : (s t : ℕ) → s < t → (s == t) ≡ false
 differs s t l = grind arith
@@ -65,13 +65,13 @@ both_keep s i m n o r rs rss e g q = record {
     later : (s t : ℕ) → t < s → (s == t) ≡ false
     later s t l = grind arith
 
-module _ (P : Asks) (Q : Gives) (stays : Stays P) (before : Before Q) (after : After Q) where
+module _ (P : Asks) (Q : Gives) (local : IsLocal P Q) where
   all_can : (xs : List Structure) (t i : ℕ) (m n : Pooled Stored) (us : List Ref) (rss : List (List Ref))
       → Keeps m n i us → i < t → AllStand xs t m rss → AllCan P xs t m rss → AllCan P xs t n rss
   all_can [] t i m n us rss g l h c = tt
   all_can (x ∷ xs) t i m n us [] g l h c = tt
   all_can (x ∷ xs) t i m n us (rs ∷ rss) g l h c = (
-    stays t x m n rs h.0 (agree_later x t i m n us g l h.0) c.0,
+    local.stays t x m n rs h.0 (agree_later x t i m n us g l h.0) c.0,
     all_can xs (t + 1) i m n us rss g (omega arith) h.2 c.1,
   )
 
@@ -83,13 +83,13 @@ module _ (P : Asks) (Q : Gives) (stays : Stays P) (before : Before Q) (after : A
   all_done (x ∷ xs) t i k m n us [] uss g l h d = absurd h
   all_done (x ∷ xs) t i k m n us (rs ∷ rss) [] g l h d = absurd d
   all_done (x ∷ xs) t i k m n us (rs ∷ rss) (ws ∷ uss) g l h d = (
-    before t x k m n rs ws h.0 (agree_later x t i k m us g l h.0) d.0,
+    local.before t x k m n rs ws h.0 (agree_later x t i k m us g l h.0) d.0,
     all_done xs (t + 1) i k m n us rss uss g (omega arith) h.2 d.1,
   )
 
   module _ (r : Ref) (x : Structure) (xs : List Structure) (s : ℕ) (m : Pooled Stored) where
     module _ (y : Structure) (n : Pooled Stored) (step : IsStep P Q r s x y m n) where
-      pub tail_ready : AreReady P s (x ∷ xs) m → AreReady P (s + 1) xs n
+      tail_ready : AreReady P s (x ∷ xs) m → AreReady P (s + 1) xs n
       tail_ready q = at_tail q.rss q.stand q.can
         where
           at_tail : (rss : List (List Ref)) → AllStand (x ∷ xs) s m rss → AllCan P (x ∷ xs) s m rss → AreReady P (s + 1) xs n
@@ -102,16 +102,16 @@ module _ (P : Asks) (Q : Gives) (stays : Stays P) (before : Before Q) (after : A
                 can = all_can xs (s + 1) (slot_in x) m n (r ∷ rs) rss g l h.2 c.1;
               }
 
-      pub passed : (ys : List Structure) (o : Pooled Stored) → IsLike x y → IsPass P Q r (s + 1) xs ys n o → IsPass P Q r s (x ∷ xs) (y ∷ ys) m o
-      passed ys o like tail [] h c = absurd h
-      passed ys o like tail (rs ∷ rss) h c =
+      tail_passed : (ys : List Structure) (o : Pooled Stored) → IsLike x y → IsPass P Q r (s + 1) xs ys n o → IsPass P Q r s (x ∷ xs) (y ∷ ys) m o
+      tail_passed ys o like tail [] h c = absurd h
+      tail_passed ys o like tail (rs ∷ rss) h c =
           let a = step rs h.1 c.0 in let g = a.keeps in let l : slot_in x < s + 1 = (let e = h.0 in omega arith) in
           let z = tail rss (all_stand xs (s + 1) (slot_in x) m n (r ∷ rs) rss g l h.2) (all_can xs (s + 1) (slot_in x) m n (r ∷ rs) rss g l h.2 c.1) in
           let e : slot_in y ≡ s = like_slot x y like ∙ h.0 in
           record {
             uss = a.us ∷ z.uss;
             done = (
-              after s x m n o rs a.us h.0 (agree_first x s n o r rss z.keeps h.0) a.done,
+              local.after s x m n o rs a.us h.0 (agree_first x s n o r rss z.keeps h.0) a.done,
               all_done xs (s + 1) (slot_in x) m n o (r ∷ rs) rss z.uss g l h.2 z.done,
             );
             stand = (e, stands_same y n o a.us (agree_first y s n o r rss z.keeps e) a.stands, z.stand);
@@ -128,3 +128,19 @@ module _ (P : Asks) (Q : Gives) (stays : Stays P) (before : Before Q) (after : A
   }
   none_left r [] s m none (rs ∷ rss) h c = absurd h
   none_left r (x ∷ xs) s m none rss h c = absurd (cc)
+
+-- A step in the first of all, which are x and xs, and then a pass over xs
+module _ {P : Asks} {Q : Gives} (local : IsLocal P Q) {r : Ref} {s : ℕ} {all xs : List Structure} {x y : Structure} {m n : Pooled Stored}
+    (split : (all ≡ x ∷ xs) × (length xs + 1 ≡ length all)) (step : IsStep P Q r s x y m n) where
+  -- xs is shorter and ready, and its slots fit
+  pub rest_asked : AreReady P s all m → s + length all < 2 ^ 64 → (length xs < length all) × AreReady P (s + 1) xs n × (s + 1 + length xs < 2 ^ 64)
+  rest_asked ready few =
+      let long = split.1 in (
+        omega (arith, long),
+        tail_ready P Q local r x xs s m y n step (subst (λ ss. AreReady P s ss m) split.0 ready),
+        omega (arith, long, few),
+      )
+
+  -- the pass over all is done
+  pub passed : {ys : List Structure} {o : Pooled Stored} → IsLike x y → IsPass P Q r (s + 1) xs ys n o → IsPass P Q r s all (y ∷ ys) m o
+  passed {ys} {o} like tail = subst (λ ss. IsPass P Q r s ss (y ∷ ys) m o) (sym split.0) (tail_passed P Q local r x xs s m y n step ys o like tail)

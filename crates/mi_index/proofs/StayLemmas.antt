@@ -1,6 +1,6 @@
 -- What a step asks and gives is of its own slot alone, and of references and values.
---     Stays P, Before Q, After Q      it isn't touched by a change in another slot
---     .._stays      so it is of each pass
+--     Stays P, Before Q, After Q, IsLocal P Q      it isn't touched by a change in another slot
+--     .._stays, .._local      so it is of each pass
 use Rattle.std.proofs.Common.{◌≡◌, ℕ, ◌==◌, Bool, true, false, List, Option, Some, None, sym, ap, ◌∙◌, subst}
 use Rattle.std.specs.declared.cmp.Ordering.{Ordering}
 use Rattle.std.specs.declared.cmp.Ordering.TheVariants.{Equal}
@@ -35,6 +35,12 @@ Before Q = (s : ℕ) (x : Structure) (l m n : Pooled Stored) (rs us : List Ref) 
 abbrev pub After : Gives → Type 0
 After Q = (s : ℕ) (x : Structure) (m n o : Pooled Stored) (rs us : List Ref) → slot_in x ≡ s → Agree (slot_in x) n o → Q s x m n rs us → Q s x m o rs us
 
+-- neither what a step asks nor what it gives is touched
+pub record IsLocal (P : Asks) (Q : Gives) : Type 0 where
+  pub stays : Stays P
+  pub before : Before Q
+  pub after : After Q
+
 module _ (s : ℕ) (m n : Pooled Stored) (a : Agree s m n) where
   stamps_same : stamp_at n s ≡ stamp_at m s
   stamps_same = λ i r. (a.links r.name i).tag.stamp
@@ -67,7 +73,7 @@ join_if_stays : (moves : Bool) (x : Structure) (m n : Pooled Stored) (r : Ref) (
 join_if_stays true x m n r stamp b rs a c = join_stays x m n r stamp b rs a c
 join_if_stays false x m n r stamp b rs a c = tt
 
-pub joining_stays : (moves : Moves) (r : Ref) (stamp : ℕ) (b : Option (ℕ × Ref)) → Stays (joining moves r stamp b)
+joining_stays : (moves : Moves) (r : Ref) (stamp : ℕ) (b : Option (ℕ × Ref)) → Stays (joining moves r stamp b)
 joining_stays moves r stamp b s x m n rs e a c = join_if_stays (is_moved moves s) x m n r stamp (before_at s b) rs a c
 
 stamp_before : (x : Structure) (l m n : Pooled Stored) (r : Ref) (stamp : ℕ) → Agree (slot_in x) l m → HasStamp x m n r stamp → HasStamp x l n r stamp
@@ -96,15 +102,19 @@ joined_if_after : (moves : Bool) (x : Structure) (m n o : Pooled Stored) (r : Re
 joined_if_after true x m n o r stamp b rs us a h = record { joined = h.joined; put = h.put; stamped = stamp_after x m n o r stamp a h.stamped }
 joined_if_after false x m n o r stamp b rs us a h = same_after x m n o rs us a h
 
-pub joined_before : (moves : Moves) (r : Ref) (stamp : ℕ) (b : Option (ℕ × Ref)) → Before (joined moves r stamp b)
+joined_before : (moves : Moves) (r : Ref) (stamp : ℕ) (b : Option (ℕ × Ref)) → Before (joined moves r stamp b)
 joined_before moves r stamp b s x l m n rs us e a h = joined_if_before (is_moved moves s) x l m n r stamp (before_at s b) rs us a h
 
-pub joined_after : (moves : Moves) (r : Ref) (stamp : ℕ) (b : Option (ℕ × Ref)) → After (joined moves r stamp b)
+joined_after : (moves : Moves) (r : Ref) (stamp : ℕ) (b : Option (ℕ × Ref)) → After (joined moves r stamp b)
 joined_after moves r stamp b s x m n o rs us e a h = joined_if_after (is_moved moves s) x m n o r stamp (before_at s b) rs us a h
+
+-- so it is where a node comes in
+pub joining_local : (moves : Moves) (r : Ref) (stamp : ℕ) (b : Option (ℕ × Ref)) → IsLocal (joining moves r stamp b) (joined moves r stamp b)
+joining_local moves r stamp b = record { stays = joining_stays moves r stamp b; before = joined_before moves r stamp b; after = joined_after moves r stamp b }
 
 -- A node goes
 
-pub leaving_stays : (moves : Moves) (r : Ref) → Stays (leaving moves r)
+leaving_stays : (moves : Moves) (r : Ref) → Stays (leaving moves r)
 leaving_stays moves r s x m n rs e a c = c
 
 beside_stays : (x : Structure) (m n : Pooled Stored) (r : Ref) (back forth : Option Ref) (xs ys : List Ref)
@@ -145,11 +155,15 @@ left_if_after true x m n o r rs us a h = record {
 }
 left_if_after false x m n o r rs us a h = same_after x m n o rs us a h
 
-pub left_before : (moves : Moves) (r : Ref) → Before (left moves r)
+left_before : (moves : Moves) (r : Ref) → Before (left moves r)
 left_before moves r s x l m n rs us e a h = left_if_before (is_moved moves s) x l m n r rs us a h
 
-pub left_after : (moves : Moves) (r : Ref) → After (left moves r)
+left_after : (moves : Moves) (r : Ref) → After (left moves r)
 left_after moves r s x m n o rs us e a h = left_if_after (is_moved moves s) x m n o r rs us a h
+
+-- so it is where a node goes
+pub leaving_local : (moves : Moves) (r : Ref) → IsLocal (leaving moves r) (left moves r)
+leaving_local moves r = record { stays = leaving_stays moves r; before = left_before moves r; after = left_after moves r }
 
 -- A node comes back
 
@@ -182,7 +196,7 @@ return_stays (Some p) x m n r rs a c = record { held = a.refs r.name ∙ c.held;
 link_at : (s : ℕ) (x : Structure) (m n : Pooled Stored) (r : Ref) → slot_in x ≡ s → Agree (slot_in x) m n → link_of n r.name s ≡ link_of m r.name s
 link_at s x m n r e a = subst (λ k. link_of n r.name k ≡ link_of m r.name k) e (a.links r.name)
 
-pub returning_stays : (moves : Moves) (r : Ref) → Stays (returning moves r)
+returning_stays : (moves : Moves) (r : Ref) → Stays (returning moves r)
 returning_stays moves r s x m n rs e a c =
     subst (λ l. CanReturnTo (place_for moves s l) x n r rs) (sym (link_at s x m n r e a)) (return_stays (place_for moves s (link_of m r.name s)) x m n r rs a c)
 
@@ -208,27 +222,35 @@ back_after : (o : Option Place) (x : Structure) (m n q : Pooled Stored) (r : Ref
 back_after None x m n q r rs us a h = same_after x m n q rs us a h
 back_after (Some p) x m n q r rs us a h = record { back = h.back; beside = h.beside; stamped = stamp_after x m n q r p.stamp a h.stamped }
 
-pub returned_before : (moves : Moves) (r : Ref) → Before (returned moves r)
+returned_before : (moves : Moves) (r : Ref) → Before (returned moves r)
 returned_before moves r s x l m n rs us e a h =
     back_before (place_for moves s (link_of l r.name s)) x l m n r rs us a (subst (λ k. IsBackAt (place_for moves s k) x m n r rs us) (link_at s x l m r e a) h)
 
-pub returned_after : (moves : Moves) (r : Ref) → After (returned moves r)
+returned_after : (moves : Moves) (r : Ref) → After (returned moves r)
 returned_after moves r s x m n o rs us e a h = back_after (place_for moves s (link_of m r.name s)) x m n o r rs us a h
+
+-- so it is where a node comes back
+pub returning_local : (moves : Moves) (r : Ref) → IsLocal (returning moves r) (returned moves r)
+returning_local moves r = record { stays = returning_stays moves r; before = returned_before moves r; after = returned_after moves r }
 
 -- Chains grow
 
-pub nothing_stays : Stays nothing_asked
+nothing_stays : Stays nothing_asked
 nothing_stays s x m n rs e a c = tt
 
-pub grown_before : Before grown
+grown_before : Before grown
 grown_before s x l m n rs us e a h = record { list = h.list; tags = tags_before x l m n a h.tags }
 
-pub grown_after : After grown
+grown_after : After grown
 grown_after s x m n o rs us e a h = record { list = h.list; tags = tags_after x m n o a h.tags }
+
+-- so it is where chains grow
+pub growing_local : IsLocal nothing_asked grown
+growing_local = record { stays = nothing_stays; before = grown_before; after = grown_after }
 
 -- A node moves in one list
 
-pub relocating_stays : (index : ℕ) (r : Ref) (b : Option Ref) → Stays (relocating index r b)
+relocating_stays : (index : ℕ) (r : Ref) (b : Option Ref) → Stays (relocating index r b)
 relocating_stays index r b s x m n rs e a c = c
 
 relocated_if_before : (here : Bool) (x : Structure) (l m n : Pooled Stored) (r : Ref) (b : Option Ref) (rs us : List Ref)
@@ -241,8 +263,12 @@ relocated_if_after : (here : Bool) (x : Structure) (m n o : Pooled Stored) (r : 
 relocated_if_after true x m n o r b rs us a h = h
 relocated_if_after false x m n o r b rs us a h = same_after x m n o rs us a h
 
-pub relocated_before : (index : ℕ) (r : Ref) (b : Option Ref) → Before (relocated index r b)
+relocated_before : (index : ℕ) (r : Ref) (b : Option Ref) → Before (relocated index r b)
 relocated_before index r b s x l m n rs us e a h = relocated_if_before (s == index) x l m n r b rs us a h
 
-pub relocated_after : (index : ℕ) (r : Ref) (b : Option Ref) → After (relocated index r b)
+relocated_after : (index : ℕ) (r : Ref) (b : Option Ref) → After (relocated index r b)
 relocated_after index r b s x m n o rs us e a h = relocated_if_after (s == index) x m n o r b rs us a h
+
+-- so it is where a node moves in one list
+pub relocating_local : (index : ℕ) (r : Ref) (b : Option Ref) → IsLocal (relocating index r b) (relocated index r b)
+relocating_local index r b = record { stays = relocating_stays index r b; before = relocated_before index r b; after = relocated_after index r b }
