@@ -56,7 +56,7 @@ first_sorted : (columns : ℕ) (is : List Index) (none : Index) → are_indexes 
 first_sorted columns [] none h = absurd (cc)
 first_sorted columns (i ∷ is) none h = ranked_sorted i.kind (right _ _ (left _ _ (left _ _ (left _ _ (left _ _ (left _ _ h))))))
 
-module _ (i : Inside) (is : AreMulti i) (w : Seen) (seen : seen_of i ≡ w) where
+module _ (i : Inside) (is : AreMulti i) {w : Seen} (seen : seen_of i ≡ w) where
   abbrev m : Pooled Stored
   m = i.nodes.pool
 
@@ -77,15 +77,15 @@ module _ (i : Inside) (is : AreMulti i) (w : Seen) (seen : seen_of i ≡ w) wher
       (listed_within i.schema x (sorted_listed (index_at i.schema x).kind (sorts_shape x h)))
 
   -- an id without a node isn't there
-  pub absent : (e : ℕ) → live_node i.ids.entries e ≡ None → IsTrue (has (table_of w.plain) e) → ⊥
-  absent e none h = false≢true (sym (none_has i.schema i.ids.entries m items i.next i.arrivals e none)
+  pub absent : (e : ℕ) {o : Option Ref} → o ≡ live_node i.ids.entries e → o ≡ None → IsTrue (has (table_of w.plain) e) → ⊥
+  absent e live none h = false≢true (sym (none_has i.schema i.ids.entries m items i.next i.arrivals e (sym live ∙ none))
       ∙ subst (λ (v : Seen). IsTrue (has (table_of v.plain) e)) (sym seen) h)
 
   -- the index of the ids is sorted
   pub id_sorted : IsTrue (is_schema i.schema) → IsSorted w.shape 0
   id_sorted rules = subst (λ (v : Seen). IsSorted v.shape 0) seen (first_sorted (length i.schema.columns) i.schema.indexes _ (indexes_kept i.schema rules))
 
-  module _ (x : ℕ) (y : Structure) (at : slice_get items x ≡ Some y) where
+  module _ (x : ℕ) {y : Structure} (at : slice_get items x ≡ Some y) where
     abbrev n : Numbered i.schema i.ids.entries m items x y
     n = numbered i.schema i.ids.entries m items i.next i.arrivals is x y at
 
@@ -104,8 +104,8 @@ module _ (i : Inside) (is : AreMulti i) (w : Seen) (seen : seen_of i ≡ w) wher
         sym (length_ids (id_at m) rs) ∙ ap length (known.ids_shown i.schema i.ids.entries m items i.next i.arrivals is x y n)
         ∙ length-view i.schema (table_of (seen_of i).plain) x is.is_data.table n.few ∙ ap (λ (v : Seen). size (table_of v.plain)) seen
 
-    pub count_is : (k : ℕ) → ((qs : List Ref) → Stands y m qs → k ≡ length qs) → k ≡ size (table_of w.plain)
-    count_is k h = h rs n.stood.stands ∙ long
+    pub count_is : {k : ℕ} → ((qs : List Ref) → Stands y m qs → k ≡ length qs) → k ≡ size (table_of w.plain)
+    count_is h = h rs n.stood.stands ∙ long
 
     fits : (v : Structure) → nodes.IsSorted v → Stands v m rs → length rs < 2 ^ 32
     fits (Ordered t) sorted stands = stands.fits
@@ -125,36 +125,41 @@ module _ (i : Inside) (is : AreMulti i) (w : Seen) (seen : seen_of i ≡ w) wher
 
     -- the first and the last node, and that of a place
 
-    pub first_held : (o : Option Ref) → ((qs : List Ref) → Stands y m qs → o ≡ first_of qs None) → IfSome o (IsHeld m)
-    first_held o h = subst (λ k. IfSome k (IsHeld m)) (sym (h rs n.stood.stands)) (all_first (IsHeld m) rs alls)
+    pub first_held : {o : Option Ref} → ((qs : List Ref) → Stands y m qs → o ≡ first_of qs None) → IfSome o (IsHeld m)
+    first_held h = subst (λ k. IfSome k (IsHeld m)) (sym (h rs n.stood.stands)) (all_first (IsHeld m) rs alls)
 
-    pub first_is : (o : Option Ref) → ((qs : List Ref) → Stands y m qs → o ≡ first_of qs None)
+    pub first_is : {o : Option Ref} → ((qs : List Ref) → Stands y m qs → o ≡ first_of qs None)
         → option_map (id_at m) o ≡ look.first w.shape (table_of w.plain) x
-    first_is o h =
+    first_is h =
         ap (option_map (id_at m)) (h rs n.stood.stands)
         ∙ known.first_seen i.schema i.ids.entries m items i.next i.arrivals is x y n ∙ ap (λ (v : Seen). look.first v.shape (table_of v.plain) x) seen
 
-    pub last_held : (o : Option Ref) → ((qs : List Ref) → Stands y m qs → o ≡ last_of None qs) → IfSome o (IsHeld m)
-    last_held o h = subst (λ k. IfSome k (IsHeld m)) (sym (h rs n.stood.stands)) (all_last (IsHeld m) rs alls)
+    pub last_held : {o : Option Ref} → ((qs : List Ref) → Stands y m qs → o ≡ last_of None qs) → IfSome o (IsHeld m)
+    last_held h = subst (λ k. IfSome k (IsHeld m)) (sym (h rs n.stood.stands)) (all_last (IsHeld m) rs alls)
 
-    pub last_is : (o : Option Ref) → ((qs : List Ref) → Stands y m qs → o ≡ last_of None qs) → option_map (id_at m) o ≡ look.last w.shape (table_of w.plain) x
-    last_is o h =
+    pub last_is : {o : Option Ref} → ((qs : List Ref) → Stands y m qs → o ≡ last_of None qs) → option_map (id_at m) o ≡ look.last w.shape (table_of w.plain) x
+    last_is h =
         ap (option_map (id_at m)) (h rs n.stood.stands)
         ∙ known.last_seen i.schema i.ids.entries m items i.next i.arrivals is x y n ∙ ap (λ (v : Seen). look.last v.shape (table_of v.plain) x) seen
 
-    pub nth_held : (k : ℕ) (o : Option Ref) → ((qs : List Ref) → Stands y m qs → o ≡ nth_of qs k) → IfSome o (IsHeld m)
-    nth_held k o h = subst (λ q. IfSome q (IsHeld m)) (sym (h rs n.stood.stands)) (all_nth (IsHeld m) rs k alls)
+    pub nth_held : (k : ℕ) {o : Option Ref} → ((qs : List Ref) → Stands y m qs → o ≡ nth_of qs k) → IfSome o (IsHeld m)
+    nth_held k h = subst (λ q. IfSome q (IsHeld m)) (sym (h rs n.stood.stands)) (all_nth (IsHeld m) rs k alls)
 
-    pub nth_is : (k : ℕ) (o : Option Ref) → ((qs : List Ref) → Stands y m qs → o ≡ nth_of qs k)
+    pub nth_is : (k : ℕ) {o : Option Ref} → ((qs : List Ref) → Stands y m qs → o ≡ nth_of qs k)
         → option_map (id_at m) o ≡ look.nth w.shape (table_of w.plain) x k
-    nth_is k o h =
+    nth_is k h =
         ap (option_map (id_at m)) (h rs n.stood.stands)
         ∙ known.nth_seen i.schema i.ids.entries m items i.next i.arrivals is x y n k ∙ ap (λ (v : Seen). look.nth v.shape (table_of v.plain) x k) seen
 
     -- those beside a node
 
-    module _ (e : ℕ) (r : Ref) (there : live_node i.ids.entries e ≡ Some r) where
-      abbrev a : known.Among i.ids.entries m y rs e r
+    module _ (e : ℕ) {node : Option Ref} (live : node ≡ live_node i.ids.entries e) {r : Ref} (found : node ≡ Some r) where
+      -- the row is live, in this node
+      pub there : live_node i.ids.entries e ≡ Some r
+      there = sym live ∙ found
+
+      -- where it stands in the list
+      abbrev pub a : known.Among i.ids.entries m y rs e r
       a = known.among i.schema i.ids.entries m items i.next i.arrivals is x y n e r there
 
       pub between : ShowsOneList w.shape x → (xs : List Ref) × (ys : List Ref) × Stands y m (xs ++ r ∷ ys) × nodes.HasOneList y
@@ -166,42 +171,42 @@ module _ (i : Inside) (is : AreMulti i) (w : Seen) (seen : seen_of i ≡ w) wher
       both : AllByRecursion (IsHeld m) (a.xs ++ r ∷ a.ys)
       both = subst (AllByRecursion (IsHeld m)) a.parts alls
 
-      pub after_held : (o : Option Ref) → ((xs ys : List Ref) → Stands y m (xs ++ r ∷ ys) → o ≡ first_of ys None) → IfSome o (IsHeld m)
-      after_held o h = subst (λ k. IfSome k (IsHeld m)) (sym (h a.xs a.ys a.stands)) (all_first (IsHeld m) a.ys (all_behind (IsHeld m) a.xs r a.ys both))
+      pub after_held : {o : Option Ref} → ((xs ys : List Ref) → Stands y m (xs ++ r ∷ ys) → o ≡ first_of ys None) → IfSome o (IsHeld m)
+      after_held h = subst (λ k. IfSome k (IsHeld m)) (sym (h a.xs a.ys a.stands)) (all_first (IsHeld m) a.ys (all_behind (IsHeld m) a.xs r a.ys both))
 
-      pub after_is : (o : Option Ref) → ((xs ys : List Ref) → Stands y m (xs ++ r ∷ ys) → o ≡ first_of ys None)
+      pub after_is : {o : Option Ref} → ((xs ys : List Ref) → Stands y m (xs ++ r ∷ ys) → o ≡ first_of ys None)
           → option_map (id_at m) o ≡ look.after w.shape (table_of w.plain) x e
-      after_is o h =
+      after_is h =
           ap (option_map (id_at m)) (h a.xs a.ys a.stands)
           ∙ known.after_seen i.schema i.ids.entries m items i.next i.arrivals is x y n e r there
           ∙ ap (λ (v : Seen). look.after v.shape (table_of v.plain) x e) seen
 
-      pub before_held : (o : Option Ref) → ((xs ys : List Ref) → Stands y m (xs ++ r ∷ ys) → o ≡ last_of None xs) → IfSome o (IsHeld m)
-      before_held o h = subst (λ k. IfSome k (IsHeld m)) (sym (h a.xs a.ys a.stands)) (all_last (IsHeld m) a.xs (all_before (IsHeld m) a.xs (r ∷ a.ys) both))
+      pub before_held : {o : Option Ref} → ((xs ys : List Ref) → Stands y m (xs ++ r ∷ ys) → o ≡ last_of None xs) → IfSome o (IsHeld m)
+      before_held h = subst (λ k. IfSome k (IsHeld m)) (sym (h a.xs a.ys a.stands)) (all_last (IsHeld m) a.xs (all_before (IsHeld m) a.xs (r ∷ a.ys) both))
 
-      pub before_is : (o : Option Ref) → ((xs ys : List Ref) → Stands y m (xs ++ r ∷ ys) → o ≡ last_of None xs)
+      pub before_is : {o : Option Ref} → ((xs ys : List Ref) → Stands y m (xs ++ r ∷ ys) → o ≡ last_of None xs)
           → option_map (id_at m) o ≡ look.before w.shape (table_of w.plain) x e
-      before_is o h =
+      before_is h =
           ap (option_map (id_at m)) (h a.xs a.ys a.stands)
           ∙ known.before_seen i.schema i.ids.entries m items i.next i.arrivals is x y n e r there
           ∙ ap (λ (v : Seen). look.before v.shape (table_of v.plain) x e) seen
 
-      pub rank_is : (k : ℕ) → ((xs ys : List Ref) → Stands y m (xs ++ r ∷ ys) → k ≡ length xs) → k ≡ look.rank w.shape (table_of w.plain) x e
-      rank_is k h =
+      pub rank_is : {k : ℕ} → ((xs ys : List Ref) → Stands y m (xs ++ r ∷ ys) → k ≡ length xs) → k ≡ look.rank w.shape (table_of w.plain) x e
+      rank_is h =
           h a.xs a.ys a.stands
           ∙ known.rank_seen i.schema i.ids.entries m items i.next i.arrivals is x y n e r there
           ∙ ap (λ (v : Seen). look.rank v.shape (table_of v.plain) x e) seen
 
     -- one look-up, and what the contracts of calls with one or two allow
 
-    pub one_look : (old new : ℕ) → ((qs : List Ref) → Stands y m qs → (b : ℕ) → length qs < 2 ^ b → new ≤ old + 2 * b)
+    pub one_look : (old : ℕ) {new : ℕ} → ((qs : List Ref) → Stands y m qs → (b : ℕ) → length qs < 2 ^ b → new ≤ old + 2 * b)
         → (b : ℕ) → size (table_of w.plain) < 2 ^ b → new ≤ old + (2 * b + 1)
-    one_look old new h b l =
+    one_look old {new} h b l =
         let less : length rs < 2 ^ b = subst (λ k. k < 2 ^ b) (sym long) l in
         let few : new ≤ old + 2 * b = h rs n.stood.stands b less in omega arith
 
-    pub two_looks : (old new : ℕ) → ((qs : List Ref) → Stands y m qs → (b : ℕ) → length qs < 2 ^ b → new ≤ old + 2 * b)
+    pub two_looks : (old : ℕ) {new : ℕ} → ((qs : List Ref) → Stands y m qs → (b : ℕ) → length qs < 2 ^ b → new ≤ old + 2 * b)
         → (b : ℕ) → size (table_of w.plain) < 2 ^ b → new ≤ old + 2 * (2 * b + 1)
-    two_looks old new h b l =
+    two_looks old {new} h b l =
         let less : length rs < 2 ^ b = subst (λ k. k < 2 ^ b) (sym long) l in
         let few : new ≤ old + 2 * b = h rs n.stood.stands b less in omega arith

@@ -1,6 +1,6 @@
 -- What the calls by keys ask of an index and answer, by what contracts see of the container.
 use Rattle.std.proofs.Common.{Bor, ◌≡◌, ◌≢◌, ℕ, ◌+◌, ◌*◌, ◌^◌, ◌<◌, ◌≤◌, zero, suc, Bool, true, false}
-use Rattle.std.proofs.Common.{List, [], ◌∷◌, ◌++◌, length, slice_get, ap, sym, ◌∙◌, subst, arith}
+use Rattle.std.proofs.Common.{List, [], ◌∷◌, ◌++◌, length, slice_get, refl, ap, sym, ◌∙◌, subst, arith}
 use Rattle.std.specs.Prelude.{IsTrue, IfSome}
 use Rattle.std.specs.List.{AllByRecursion, filter}
 use Rattle.std.specs.Option.{option_map}
@@ -8,6 +8,7 @@ use Rattle.std.proofs.lemmas.Bool.{and_parts}
 use Rattle.std.specs.declared.option.Option.{Option}
 use Rattle.std.specs.declared.option.Option.TheVariants.{None, Some}
 use Rattle.mi_value.specs.declared.value.Value.{Value}
+use Rattle.mi_value.specs.declared.bound.Probe.{Probe}
 use Rattle.mi_value.specs.declared.bound.Probe.TheVariants.{Key}
 use Rattle.mi_catalog.specs.Kinds.{is_hashed}
 use Rattle.mi_catalog.specs.Rules.{is_schema}
@@ -38,7 +39,7 @@ use Rattle.mi_multi.proofs.IndexNumberLemmas.{Numbered, numbered, reaches}
 use Rattle.mi_multi.proofs.FoundIdLemmas.{all_where, all_first, all_filter, all_behind}
 use Rattle.mi_multi.proofs.LookUpLemmas as known
 use Rattle.mi_multi.proofs.ProbeLemmas as probes
-use Rattle.mi_multi.proofs.CallLemmas.{in_order, ranked, rank_is, count_is}
+use Rattle.mi_multi.proofs.CallLemmas.{in_order, there, a as among, ranked, rank_is, count_is, long}
 
 -- nothing stands behind the end
 pub past_end : (ids : List ℕ) (k : ℕ) → slice_get ids k ≡ None → length ids ≤ k
@@ -46,7 +47,7 @@ past_end [] k none = omega arith
 past_end (a ∷ ids) zero none = absurd (let bad : Some a ≡ None = none in cc)
 past_end (a ∷ ids) (suc k) none = let l : length ids ≤ k = past_end ids k none in omega arith
 
-module _ (i : Inside) (is : AreMulti i) (w : Seen) (seen : seen_of i ≡ w) where
+module _ (i : Inside) (is : AreMulti i) {w : Seen} (seen : seen_of i ≡ w) where
   abbrev m : Pooled Stored
   m = i.nodes.pool
 
@@ -62,7 +63,7 @@ module _ (i : Inside) (is : AreMulti i) (w : Seen) (seen : seen_of i ≡ w) wher
   pub hashed_reaches : (x : ℕ) → IsHashed w.shape x → x < length items
   hashed_reaches x h = reaches i.schema i.ids.entries m items i.next i.arrivals is x (subst (λ (v : Seen). IsHashed v.shape x) (sym seen) h).0
 
-  module _ (x : ℕ) (y : Structure) (at : slice_get items x ≡ Some y) where
+  module _ (x : ℕ) {y : Structure} (at : slice_get items x ≡ Some y) where
     abbrev n : Numbered i.schema i.ids.entries m items x y
     n = numbered i.schema i.ids.entries m items i.next i.arrivals is x y at
 
@@ -72,13 +73,17 @@ module _ (i : Inside) (is : AreMulti i) (w : Seen) (seen : seen_of i ≡ w) wher
     alls : AllByRecursion (IsHeld m) rs
     alls = known.held i.schema i.ids.entries m items i.next i.arrivals is x y n
 
-    pub found_held : (f : Ref → Bool) (o : Option Ref) → ((qs : List Ref) → Stands y m qs → o ≡ first_where f qs) → IfSome o (IsHeld m)
-    found_held f o h = subst (λ k. IfSome k (IsHeld m)) (sym (h rs n.stood.stands)) (all_where (IsHeld m) f rs alls)
+    found_held : (f : Ref → Bool) {o : Option Ref} → ((qs : List Ref) → Stands y m qs → o ≡ first_where f qs) → IfSome o (IsHeld m)
+    found_held f h = subst (λ k. IfSome k (IsHeld m)) (sym (h rs n.stood.stands)) (all_where (IsHeld m) f rs alls)
+
+    -- the node that a search finds is held
+    pub sought_held : (q : Probe) {o : Option Ref} → ((qs : List Ref) → Stands y m qs → o ≡ first_where (nodes.has_sought y m q) qs) → IfSome o (IsHeld m)
+    sought_held q h = found_held (nodes.has_sought y m q) h
 
     -- what is found is a live node
-    found_live : (f : Ref → Bool) (o : Option Ref) (r : Ref) → o ≡ Some r
+    found_live : (f : Ref → Bool) {o : Option Ref} (r : Ref) → o ≡ Some r
         → ((qs : List Ref) → Stands y m qs → o ≡ first_where f qs) → live_node i.ids.entries (id_at m r) ≡ Some r
-    found_live f o r is_ h =
+    found_live f {o} r is_ h =
         let one : IfSome o (IsLiveRef i.ids.entries m) = subst (λ k. IfSome k (IsLiveRef i.ids.entries m))
         (sym (h rs n.stood.stands)) (all_where (IsLiveRef i.ids.entries m) f rs n.stood.live.rows) in
         let live : IsLiveRef i.ids.entries m r = subst (λ k. IfSome k (IsLiveRef i.ids.entries m)) is_ one in
@@ -90,18 +95,18 @@ module _ (i : Inside) (is : AreMulti i) (w : Seen) (seen : seen_of i ≡ w) wher
     rank_past true key = look.upper_rank w.shape t x key
 
     -- the first one that is past a key stands there
-    pub past_is : (past : Bool) (k : Bor (List Value)) (o : Option Ref) → IsSorted w.shape x
+    pub past_is : IsSorted w.shape x → (past : Bool) (k : Bor (List Value)) {o : Option Ref}
         → ((qs : List Ref) → Stands y m qs → o ≡ first_where (nodes.is_past past y m (Key k)) qs)
         → option_map (id_at m) o ≡ slice_get (view w.shape t x) (rank_past past k.now)
-    past_is false k o sorted h =
+    past_is sorted false k h =
         ap (option_map (id_at m)) (h rs n.stood.stands)
         ∙ probes.lower_seen i.schema i.ids.entries m items i.next i.arrivals is x y n k
-        (subst (λ (v : Seen). IsSorted v.shape x) (sym seen) sorted) (in_order i is w seen x y at sorted).2
+        (subst (λ (v : Seen). IsSorted v.shape x) (sym seen) sorted) (in_order i is seen x at sorted).2
         ∙ ap (λ (v : Seen). look.lower v.shape (table_of v.plain) x k.now) seen
-    past_is true k o sorted h =
+    past_is sorted true k h =
         ap (option_map (id_at m)) (h rs n.stood.stands)
         ∙ probes.upper_seen i.schema i.ids.entries m items i.next i.arrivals is x y n k
-        (subst (λ (v : Seen). IsSorted v.shape x) (sym seen) sorted) (in_order i is w seen x y at sorted).2
+        (subst (λ (v : Seen). IsSorted v.shape x) (sym seen) sorted) (in_order i is seen x at sorted).2
         ∙ ap (λ (v : Seen). look.upper v.shape (table_of v.plain) x k.now) seen
 
     -- the rank of the node at a place, and the number of all where there is none
@@ -115,35 +120,39 @@ module _ (i : Inside) (is : AreMulti i) (w : Seen) (seen : seen_of i ≡ w) wher
     past_within false key = let a = lower-le-upper w.shape t x key in let b = upper-le-length w.shape t x key in omega arith
     past_within true key = upper-le-length w.shape t x key
 
-    module _ (past : Bool) (k : Bor (List Value)) (o : Option Ref)
-        (h : (qs : List Ref) → Stands y m qs → o ≡ first_where (nodes.is_past past y m (Key k)) qs) (sorted : IsSorted w.shape x) where
+    module _ (sorted : IsSorted w.shape x) (past : Bool) (k : Bor (List Value)) {o : Option Ref}
+        (h : (qs : List Ref) → Stands y m qs → o ≡ first_where (nodes.is_past past y m (Key k)) qs) where
       pub past_held : IfSome o (IsHeld m)
-      past_held = found_held (nodes.is_past past y m (Key k)) o h
+      past_held = found_held (nodes.is_past past y m (Key k)) h
 
-      pub past_ranked : (r : Ref) → o ≡ Some r → (xs : List Ref) × (ys : List Ref) × Stands y m (xs ++ r ∷ ys) × nodes.IsSorted y
-      past_ranked r is_ = ranked i is w seen x y at (id_at m r) r (found_live (nodes.is_past past y m (Key k)) o r is_ h) sorted
+      -- the node that is found is a row's
+      found : {r : Ref} → o ≡ Some r → live_node i.ids.entries (id_at m r) ≡ Some r
+      found {r} is_ = found_live (nodes.is_past past y m (Key k)) r is_ h
 
-      pub past_rank : (r : Ref) → o ≡ Some r → (j : ℕ) → ((xs ys : List Ref) → Stands y m (xs ++ r ∷ ys) → j ≡ length xs) → j ≡ rank_past past k.now
-      past_rank r is_ j rank =
-          rank_is i is w seen x y at (id_at m r) r (found_live (nodes.is_past past y m (Key k)) o r is_ h) j rank
-          ∙ rank_at (rank_past past k.now) (id_at m r) (view w.shape t x) once (sym (past_is past k o sorted h) ∙ ap (option_map (id_at m)) is_)
+      pub past_ranked : {r : Ref} → o ≡ Some r → (xs : List Ref) × (ys : List Ref) × Stands y m (xs ++ r ∷ ys) × nodes.IsSorted y
+      past_ranked {r} is_ = ranked i is seen x at (id_at m r) refl (found is_) sorted
 
-      pub past_count : o ≡ None → (j : ℕ) → ((qs : List Ref) → Stands y m qs → j ≡ length qs) → j ≡ rank_past past k.now
-      past_count none j count =
-          let all : j ≡ size t = count_is i is w seen x y at j count in
+      pub past_rank : {r : Ref} → o ≡ Some r → {j : ℕ} → ((xs ys : List Ref) → Stands y m (xs ++ r ∷ ys) → j ≡ length xs) → j ≡ rank_past past k.now
+      past_rank {r} is_ rank =
+          rank_is i is seen x at (id_at m r) refl (found is_) rank
+          ∙ rank_at (rank_past past k.now) (id_at m r) (view w.shape t x) once (sym (past_is sorted past k h) ∙ ap (option_map (id_at m)) is_)
+
+      pub past_count : o ≡ None → {j : ℕ} → ((qs : List Ref) → Stands y m qs → j ≡ length qs) → j ≡ rank_past past k.now
+      past_count none {j} count =
+          let all : j ≡ size t = count_is i is seen x at count in
           let long : length (view w.shape t x) ≡ size t = subst (λ (v : Seen). length (view v.shape (table_of v.plain) x) ≡ size (table_of v.plain))
           seen (length-view i.schema (table_of (seen_of i).plain) x is.is_data.table n.few) in
           let least : length (view w.shape t x) ≤ rank_past past k.now =
-          past_end (view w.shape t x) (rank_past past k.now) (sym (past_is past k o sorted h) ∙ ap (option_map (id_at m)) none) in
+          past_end (view w.shape t x) (rank_past past k.now) (sym (past_is sorted past k h) ∙ ap (option_map (id_at m)) none) in
           let most : rank_past past k.now ≤ length (view w.shape t x) = past_within past k.now in
           omega arith
 
     -- two look-ups one after the other
-    pub both_looks : (old mid new : ℕ) → ((qs : List Ref) → Stands y m qs → (b : ℕ) → length qs < 2 ^ b → mid ≤ old + 2 * b)
+    pub both_looks : (old : ℕ) {mid new : ℕ} → ((qs : List Ref) → Stands y m qs → (b : ℕ) → length qs < 2 ^ b → mid ≤ old + 2 * b)
         → ((qs : List Ref) → Stands y m qs → (b : ℕ) → length qs < 2 ^ b → new ≤ mid + 2 * b)
         → (b : ℕ) → size t < 2 ^ b → new ≤ old + 2 * (2 * b + 1)
-    both_looks old mid new g h b l =
-        let less : length rs < 2 ^ b = subst (λ k. k < 2 ^ b) (sym (Rattle.mi_multi.proofs.CallLemmas.long i is w seen x y at)) l in
+    both_looks old {mid} {new} g h b l =
+        let less : length rs < 2 ^ b = subst (λ k. k < 2 ^ b) (sym (long i is seen x at)) l in
         let one : mid ≤ old + 2 * b = g rs n.stood.stands b less in
         let two : new ≤ mid + 2 * b = h rs n.stood.stands b less in omega arith
 
@@ -155,10 +164,10 @@ module _ (i : Inside) (is : AreMulti i) (w : Seen) (seen : seen_of i ≡ w) wher
     pub in_some : (qs : List Ref) × Stands y m qs
     in_some = (rs, n.stood.stands)
 
-    pub find_is : (k : Bor (List Value)) (o : Option Ref) → IsTrue (is_schema i.schema) → IsKeyed w.shape x
+    pub find_is : (k : Bor (List Value)) {o : Option Ref} → IsTrue (is_schema i.schema) → IsKeyed w.shape x
         → WholeKey w.shape x k.now → ((qs : List Ref) → Stands y m qs → o ≡ first_where (nodes.has_sought y m (Key k)) qs)
         → option_map (id_at m) o ≡ look.find w.shape t x k.now
-    find_is k o rules keyed whole h =
+    find_is k rules keyed whole h =
         ap (option_map (id_at m)) (h rs n.stood.stands)
         ∙ probes.find_seen i.schema i.ids.entries m items i.next i.arrivals is x y n k
         (whole_key_long i.schema.columns (index_at i.schema x).parts k.now (subst (λ (v : Seen). WholeKey v.shape x k.now) (sym seen) whole))
@@ -178,25 +187,25 @@ module _ (i : Inside) (is : AreMulti i) (w : Seen) (seen : seen_of i ≡ w) wher
     chains : IsHashed w.shape x → nodes.IsHashed y
     chains h = is_chains y n.stood.for_ (hashed_kind h)
 
-    module _ (e : ℕ) (r : Ref) (there : live_node i.ids.entries e ≡ Some r) where
+    module _ (e : ℕ) {node : Option Ref} (live : node ≡ live_node i.ids.entries e) {r : Ref} (found : node ≡ Some r) where
       abbrev a : known.Among i.ids.entries m y rs e r
-      a = known.among i.schema i.ids.entries m items i.next i.arrivals is x y n e r there
+      a = among i is seen x at e live found
 
       pub in_chains : IsHashed w.shape x → (xs : List Ref) × (ys : List Ref) × Stands y m (xs ++ r ∷ ys) × nodes.IsHashed y
       in_chains h = (a.xs, a.ys, a.stands, chains h)
 
-      pub next_of_held : (o : Option Ref)
+      pub next_of_held : {o : Option Ref}
           → ((xs ys : List Ref) → Stands y m (xs ++ r ∷ ys) → o ≡ first_of (filter (nodes.has_same_key y m r) ys) None) → IfSome o (IsHeld m)
-      next_of_held o h =
+      next_of_held h =
           subst (λ k. IfSome k (IsHeld m)) (sym (h a.xs a.ys a.stands))
           (all_first (IsHeld m) (filter (nodes.has_same_key y m r) a.ys)
           (all_filter (IsHeld m) (nodes.has_same_key y m r) a.ys (all_behind (IsHeld m) a.xs r a.ys (subst (AllByRecursion (IsHeld m)) a.parts alls))))
 
-      pub next_of_is : (o : Option Ref) → IsTrue (is_schema i.schema) → IsHashed w.shape x
+      pub next_of_is : {o : Option Ref} → IsTrue (is_schema i.schema) → IsHashed w.shape x
           → ((xs ys : List Ref) → Stands y m (xs ++ r ∷ ys) → o ≡ first_of (filter (nodes.has_same_key y m r) ys) None)
           → option_map (id_at m) o ≡ look.next_of w.shape t x e
-      next_of_is o rules hashed h =
+      next_of_is rules hashed h =
           ap (option_map (id_at m)) (h a.xs a.ys a.stands)
           ∙ probes.next_of_seen i.schema i.ids.entries m items i.next i.arrivals is x y n e r
-          there (parts_kept rules (hashed_kind hashed)) y n.stood.for_ (chains hashed)
+          (there i is seen x at e live found) (parts_kept rules (hashed_kind hashed)) y n.stood.for_ (chains hashed)
           ∙ ap (λ (v : Seen). look.next_of v.shape (table_of v.plain) x e) seen

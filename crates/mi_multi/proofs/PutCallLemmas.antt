@@ -121,7 +121,7 @@ is_some_live (Some r) h = refl
 module _ (i : Inside) (is : AreMulti i) (w : Seen) (seen : seen_of i ≡ w) (e : ℕ) (row : List Value) (allowed : Allowed w.shape (Replace e row) w.plain) where
   -- the row is live
   pub has_node : (o : Option Ref) → o ≡ live_node i.ids.entries e → IsSome o
-  has_node o same = is_some_live o (λ none_. absent i is w seen e (sym same ∙ none_) (has_there w.plain e allowed.0))
+  has_node o same = is_some_live o (λ none_. absent i is seen e same none_ (has_there w.plain e allowed.0))
 
   module _ (r : Ref) (live : live_node i.ids.entries e ≡ Some r) where
     abbrev v : Stored

@@ -1,26 +1,22 @@
-use Rattle.std.proofs.Common.{sym, ◌∙◌}
+use Rattle.std.proofs.Common.{◌∙◌}
 use Rattle.mi_multi.proofs.CallLemmas.{listed_reaches, absent, between, after_held, after_is}
 use Rattle.mi_multi.proofs.multi.MultiIndex.after.Goals as goal
 
 pub returns-in_default : goal.returns-in_default
-returns-in_default c = absurd (absent c.self.inside c.self.invariant c.args.self.now
-    c.self.view_is c.args.id (sym c.live.ensures ∙ c.in_default.is) c.requires.id)
+returns-in_default c = absurd (absent c.self.inside c.self.invariant c.self.view_is c.args.id c.live.ensures c.in_default.is c.requires.id)
 
 pub structure_at-requires : goal.structure_at-requires
-structure_at-requires c = listed_reaches c.self.inside c.self.invariant c.args.self.now c.self.view_is c.args.index c.requires.index
+structure_at-requires c = listed_reaches c.self.inside c.self.invariant c.self.view_is c.args.index c.requires.index
 
 pub next-next-requires : goal.next-next-requires
 next-next-requires c =
-    between c.self.inside c.self.invariant c.args.self.now c.self.view_is c.args.index c.structure_at.result.now c.structure_at.ensures
-    c.args.id c.in-Some.node (sym c.live.ensures ∙ c.in-Some.is) c.requires.index
+    between c.self.inside c.self.invariant c.self.view_is c.args.index c.structure_at.ensures c.args.id c.live.ensures c.in-Some.is c.requires.index
 
 pub id_of-requires : goal.id_of-requires
 id_of-requires c =
-    after_held c.self.inside c.self.invariant c.args.self.now c.self.view_is c.args.index c.structure_at.result.now c.structure_at.ensures
-    c.args.id c.in-Some.node (sym c.live.ensures ∙ c.in-Some.is) c.next-next.result c.next-next.ensures
+    after_held c.self.inside c.self.invariant c.self.view_is c.args.index c.structure_at.ensures c.args.id c.live.ensures c.in-Some.is c.next-next.ensures
 
 pub returns : goal.returns
 returns c =
-    c.id_of.ensures
-    ∙ after_is c.self.inside c.self.invariant c.args.self.now c.self.view_is c.args.index c.structure_at.result.now c.structure_at.ensures
-    c.args.id c.in-Some.node (sym c.live.ensures ∙ c.in-Some.is) c.next-next.result c.next-next.ensures
+    c.id_of.ensures ∙ after_is c.self.inside c.self.invariant c.self.view_is c.args.index c.structure_at.ensures c.args.id c.live.ensures c.in-Some.is
+    c.next-next.ensures

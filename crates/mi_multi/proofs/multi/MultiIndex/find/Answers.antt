@@ -1,23 +1,18 @@
 use Rattle.std.proofs.Common.{◌∙◌}
 use Rattle.mi_value.specs.declared.bound.Probe.TheVariants.{Key}
-use Rattle.mi_index.specs.Looks.{has_sought}
-use Rattle.mi_multi.proofs.KeyCallLemmas.{keyed_reaches, in_some, found_held, find_is}
+use Rattle.mi_multi.proofs.KeyCallLemmas.{keyed_reaches, in_some, sought_held, find_is}
 use Rattle.mi_multi.proofs.multi.MultiIndex.find.Goals as goal
 
 pub structure_at-structure-requires : goal.structure_at-structure-requires
-structure_at-structure-requires c = keyed_reaches c.self.inside c.self.invariant c.args.self.now c.self.view_is c.args.index c.requires.index
+structure_at-structure-requires c = keyed_reaches c.self.inside c.self.invariant c.self.view_is c.args.index c.requires.index
 
 pub find-node-requires : goal.find-node-requires
-find-node-requires c = in_some c.self.inside c.self.invariant c.args.self.now c.self.view_is
-    c.args.index c.structure_at-structure.result.now c.structure_at-structure.ensures
+find-node-requires c = in_some c.self.inside c.self.invariant c.self.view_is c.args.index c.structure_at-structure.ensures
 
 pub id_of-requires : goal.id_of-requires
-id_of-requires c =
-    found_held c.self.inside c.self.invariant c.args.self.now c.self.view_is c.args.index c.structure_at-structure.result.now c.structure_at-structure.ensures
-    (has_sought c.structure_at-structure.result.now c.self.inside.nodes.pool (Key c.args.key)) c.find-node.result c.find-node.ensures
+id_of-requires c = sought_held c.self.inside c.self.invariant c.self.view_is c.args.index c.structure_at-structure.ensures (Key c.args.key) c.find-node.ensures
 
 pub returns : goal.returns
 returns c =
-    c.id_of.ensures
-    ∙ find_is c.self.inside c.self.invariant c.args.self.now c.self.view_is c.args.index c.structure_at-structure.result.now c.structure_at-structure.ensures
-    c.args.key c.find-node.result c.keeps_rules.ensures c.requires.index c.requires.key c.find-node.ensures
+    c.id_of.ensures ∙ find_is c.self.inside c.self.invariant c.self.view_is c.args.index c.structure_at-structure.ensures c.args.key c.keeps_rules.ensures
+    c.requires.index c.requires.key c.find-node.ensures

@@ -4,24 +4,21 @@ use Rattle.mi_multi.proofs.KeyCallLemmas.{past_held, past_is}
 use Rattle.mi_multi.proofs.multi.MultiIndex.lower.Goals as goal
 
 pub structure_at-structure-requires : goal.structure_at-structure-requires
-structure_at-structure-requires c = sorted_reaches c.self.inside c.self.invariant c.args.self.now c.self.view_is c.args.index c.requires.index
+structure_at-structure-requires c = sorted_reaches c.self.inside c.self.invariant c.self.view_is c.args.index c.requires.index
 
 pub lower-node-requires : goal.lower-node-requires
-lower-node-requires c = in_order c.self.inside c.self.invariant c.args.self.now c.self.view_is
-    c.args.index c.structure_at-structure.result.now c.structure_at-structure.ensures c.requires.index
+lower-node-requires c = in_order c.self.inside c.self.invariant c.self.view_is c.args.index c.structure_at-structure.ensures c.requires.index
 
 pub id_of-requires : goal.id_of-requires
 id_of-requires c =
-    past_held c.self.inside c.self.invariant c.args.self.now c.self.view_is c.args.index c.structure_at-structure.result.now c.structure_at-structure.ensures
-    false c.args.key c.lower-node.result c.lower-node.ensures.node c.requires.index
+    past_held c.self.inside c.self.invariant c.self.view_is c.args.index c.structure_at-structure.ensures c.requires.index false c.args.key
+    c.lower-node.ensures.node
 
 pub returns-clause-id : goal.returns-clause-id
 returns-clause-id c =
-    c.id_of.ensures
-    ∙ past_is c.self.inside c.self.invariant c.args.self.now c.self.view_is c.args.index c.structure_at-structure.result.now c.structure_at-structure.ensures
-    false c.args.key c.lower-node.result c.requires.index c.lower-node.ensures.node
+    c.id_of.ensures ∙ past_is c.self.inside c.self.invariant c.self.view_is c.args.index c.structure_at-structure.ensures c.requires.index false c.args.key
+    c.lower-node.ensures.node
 
 pub returns-clause-steps : goal.returns-clause-steps
 returns-clause-steps c =
-    one_look c.self.inside c.self.invariant c.args.self.now c.self.view_is c.args.index c.structure_at-structure.result.now c.structure_at-structure.ensures
-    c.args.steps.now.count c.lower-node.new.steps.count c.lower-node.ensures.steps
+    one_look c.self.inside c.self.invariant c.self.view_is c.args.index c.structure_at-structure.ensures c.args.steps.now.count c.lower-node.ensures.steps

@@ -4,37 +4,34 @@ use Rattle.mi_multi.proofs.KeyCallLemmas.{past_ranked, past_rank, past_count, bo
 use Rattle.mi_multi.proofs.multi.MultiIndex.lower_rank.Goals as goal
 
 pub structure_at-structure-requires : goal.structure_at-structure-requires
-structure_at-structure-requires c = sorted_reaches c.self.inside c.self.invariant c.args.self.now c.self.view_is c.args.index c.requires.index
+structure_at-structure-requires c = sorted_reaches c.self.inside c.self.invariant c.self.view_is c.args.index c.requires.index
 
 pub lower-first-requires : goal.lower-first-requires
-lower-first-requires c = in_order c.self.inside c.self.invariant c.args.self.now c.self.view_is
-    c.args.index c.structure_at-structure.result.now c.structure_at-structure.ensures c.requires.index
+lower-first-requires c = in_order c.self.inside c.self.invariant c.self.view_is c.args.index c.structure_at-structure.ensures c.requires.index
 
 pub rank-requires : goal.rank-requires
 rank-requires c =
-    past_ranked c.self.inside c.self.invariant c.args.self.now c.self.view_is c.args.index c.structure_at-structure.result.now c.structure_at-structure.ensures
-    false c.args.key c.lower-first.result c.lower-first.ensures.node c.requires.index c.in-Some.node c.in-Some.is
+    past_ranked c.self.inside c.self.invariant c.self.view_is c.args.index c.structure_at-structure.ensures c.requires.index false c.args.key
+    c.lower-first.ensures.node c.in-Some.is
 
 pub node_count-requires : goal.node_count-requires
-node_count-requires c = in_order c.self.inside c.self.invariant c.args.self.now c.self.view_is
-    c.args.index c.structure_at-structure.result.now c.structure_at-structure.ensures c.requires.index
+node_count-requires c = in_order c.self.inside c.self.invariant c.self.view_is c.args.index c.structure_at-structure.ensures c.requires.index
 
 pub returns-in-Some-clause-rank : goal.returns-in-Some-clause-rank
 returns-in-Some-clause-rank c =
-    past_rank c.self.inside c.self.invariant c.args.self.now c.self.view_is c.args.index c.structure_at-structure.result.now c.structure_at-structure.ensures
-    false c.args.key c.lower-first.result c.lower-first.ensures.node c.requires.index c.in-Some.node c.in-Some.is c.rank.result c.rank.ensures.rank
+    past_rank c.self.inside c.self.invariant c.self.view_is c.args.index c.structure_at-structure.ensures c.requires.index false c.args.key
+    c.lower-first.ensures.node c.in-Some.is c.rank.ensures.rank
 
 pub returns-in-Some-clause-steps : goal.returns-in-Some-clause-steps
 returns-in-Some-clause-steps c =
-    both_looks c.self.inside c.self.invariant c.args.self.now c.self.view_is c.args.index c.structure_at-structure.result.now c.structure_at-structure.ensures
-    c.args.steps.now.count c.lower-first.new.steps.count c.rank.new.steps.count c.lower-first.ensures.steps c.rank.ensures.steps
+    both_looks c.self.inside c.self.invariant c.self.view_is c.args.index c.structure_at-structure.ensures c.args.steps.now.count c.lower-first.ensures.steps
+    c.rank.ensures.steps
 
 pub returns-in-None-clause-rank : goal.returns-in-None-clause-rank
 returns-in-None-clause-rank c =
-    past_count c.self.inside c.self.invariant c.args.self.now c.self.view_is c.args.index c.structure_at-structure.result.now c.structure_at-structure.ensures
-    false c.args.key c.lower-first.result c.lower-first.ensures.node c.requires.index c.in-None.is c.node_count.result c.node_count.ensures
+    past_count c.self.inside c.self.invariant c.self.view_is c.args.index c.structure_at-structure.ensures c.requires.index false c.args.key
+    c.lower-first.ensures.node c.in-None.is c.node_count.ensures
 
 pub returns-in-None-clause-steps : goal.returns-in-None-clause-steps
 returns-in-None-clause-steps c =
-    two_looks c.self.inside c.self.invariant c.args.self.now c.self.view_is c.args.index c.structure_at-structure.result.now c.structure_at-structure.ensures
-    c.args.steps.now.count c.lower-first.new.steps.count c.lower-first.ensures.steps
+    two_looks c.self.inside c.self.invariant c.self.view_is c.args.index c.structure_at-structure.ensures c.args.steps.now.count c.lower-first.ensures.steps

@@ -12,10 +12,10 @@ use Rattle.mi_multi.proofs.multi.MultiIndex.walk.Goals as goal
 
 pub returns-in_default-clause-rows : goal.returns-in_default-clause-rows
 returns-in_default-clause-rows c = absurd
-    (absent c.self.inside c.self.invariant c.args.self.now c.self.view_is c.args.first (sym c.live.ensures ∙ c.in_default.is) c.requires.first)
+    (absent c.self.inside c.self.invariant c.self.view_is c.args.first c.live.ensures c.in_default.is c.requires.first)
 
 pub structure_at-structure-requires : goal.structure_at-structure-requires
-structure_at-structure-requires c = listed_reaches c.self.inside c.self.invariant c.args.self.now c.self.view_is c.args.index c.requires.index
+structure_at-structure-requires c = listed_reaches c.self.inside c.self.invariant c.self.view_is c.args.index c.requires.index
 
 pub walk-requires-clause-slot : goal.walk-requires-clause-slot
 walk-requires-clause-slot c =
@@ -26,8 +26,8 @@ pub walk-requires-clause-node : goal.walk-requires-clause-node
 walk-requires-clause-node c =
     let y = c.structure_at-structure.result.now in
     let q =
-    between c.self.inside c.self.invariant c.args.self.now c.self.view_is c.args.index y c.structure_at-structure.ensures
-    c.args.first c.in-Some.node (sym c.live.ensures ∙ c.in-Some.is) c.requires.index in
+    between c.self.inside c.self.invariant c.self.view_is c.args.index c.structure_at-structure.ensures
+    c.args.first c.live.ensures c.in-Some.is c.requires.index in
     (q.0, q.1, subst (λ (z : Pooled Stored). Stands y z (q.0 ++ c.in-Some.node ∷ q.1)) (sym c.new-pool.ensures.pool) q.2, q.3)
 
 pub returns-clause-rows : goal.returns-clause-rows
@@ -50,6 +50,5 @@ returns-clause-rows c =
 pub returns-clause-steps : goal.returns-clause-steps
 returns-clause-steps c =
     let y = c.structure_at-structure.result.now in
-    one_look c.self.inside c.self.invariant c.args.self.now c.self.view_is c.args.index y
-    c.structure_at-structure.ensures c.args.steps.now.count c.walk.new.steps.count
-    (λ qs h. c.walk.ensures.steps qs (subst (λ (z : Pooled Stored). Stands y z qs) (sym c.new-pool.ensures.pool) h))
+    one_look c.self.inside c.self.invariant c.self.view_is c.args.index c.structure_at-structure.ensures
+    c.args.steps.now.count (λ qs h. c.walk.ensures.steps qs (subst (λ (z : Pooled Stored). Stands y z qs) (sym c.new-pool.ensures.pool) h))
