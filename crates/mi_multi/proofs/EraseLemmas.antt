@@ -1,12 +1,11 @@
 -- A row leaves: what the passes leave are the data without it, and all stands again.
-use Rattle.std.proofs.Common.{◌≡◌, ◌≢◌, ℕ, ◌+◌, ◌^◌, ◌≤◌, true, false, cond, inl, inr, List}
+use Rattle.std.proofs.Common.{◌≡◌, ◌≢◌, ℕ, ◌+◌, true, false, cond, List}
 use Rattle.std.proofs.Common.{[], ◌∷◌, ◌++◌, map, get_or, refl, ap, sym, ◌∙◌, subst, arith}
 use Rattle.std.specs.Prelude.{◌==◌}
 use Rattle.std.specs.List.{AllByRecursion}
 use Rattle.std.specs.Option.{option_and_then}
 use Rattle.std.specs.Ordering.{nat_cmp}
-use Rattle.std.specs.FinMap.{FinMap, get, entries, len}
-use Rattle.std.proofs.lemmas.Bool.Decides.{eqb_tells}
+use Rattle.std.specs.FinMap.{FinMap, get, entries}
 use Rattle.std.specs.declared.option.Option.TheVariants.{None, Some}
 use Rattle.mi_catalog.specs.declared.index.Index.{Index}
 use Rattle.mi_catalog.specs.Shape.{Shape}
@@ -25,22 +24,23 @@ use Rattle.mi_container.specs.Data.{Data, Order, node_of, has_stamps, IsData}
 use Rattle.mi_container.specs.Data.Order.{ById}
 use Rattle.mi_container.specs.Changes.{in_order, entered, left_out, kept_node, erased, erased_node}
 use Rattle.mi_container.specs.Run.Change.{Erase}
-use Rattle.mi_container.proofs.PairLemmas.{climbs_some, some_is}
+use Rattle.mi_container.proofs.PairLemmas.{climbs_some}
 use Rattle.mi_container.proofs.InvariantLemmas.{rows_climb}
 use Rattle.mi_container.proofs.LawLemmas.{change_is_tables}
 use Rattle.mi_ids.specs.declared.entry.IdEntry.{IdEntry}
 use Rattle.mi_ids.specs.IdMap.{with_live}
 use Rattle.mi_multi.specs.Physical.{id_in, orders_of, plan, node_in, kept_node_in, live_in, kept_in, picked}
 use Rattle.mi_multi.specs.Alike.{SaysSame, IsAltered}
-use Rattle.mi_multi.specs.Multi.{id_at, ids_at, own_lists, is_live, AreLive, HasNode, IsMulti, plain_of}
+use Rattle.mi_multi.specs.Multi.{id_at, ids_at, own_lists, is_live, AreLive, IsMulti, plain_of}
 use Rattle.mi_multi.proofs.PickLemmas.{get_picked}
 use Rattle.mi_multi.proofs.RowLemmas.{picked_lost, picked_entered}
 use Rattle.mi_multi.proofs.ListLemmas.{itself, without_middle, times_middle}
 use Rattle.mi_multi.proofs.SameNodeLemmas.{node_same, live_alike, kept_alike}
 use Rattle.mi_multi.proofs.OrderLemmas.{orders_map}
 use Rattle.mi_multi.proofs.EveryIndexLemmas.{Turned, Every, At, at, every, all_known, all_for, seq_by, one, none, at_stamps}
-use Rattle.mi_multi.proofs.LiveNodeLemmas.{IsLiveRef, holds, marked_here, marked_beside, len_marked, names_apart}
+use Rattle.mi_multi.proofs.LiveNodeLemmas.{IsLiveRef, holds, marked_here, marked_beside, names_apart}
 use Rattle.mi_multi.proofs.LiveNodeLemmas.{lacks_middle, out_of_all, ids_same, all_left, all_right, all_append, once_more}
+use Rattle.mi_multi.proofs.MarkedIdLemmas.{marked_held, marked_owned, marked_few}
 use Rattle.mi_multi.proofs.NeighbourLemmas.{id_is}
 use Rattle.mi_multi.proofs.LinkLemmas.{tags_at, links_seen}
 
@@ -176,9 +176,6 @@ module _ (s : Shape) (ids : FinMap nat_cmp IdEntry) (m n : Pooled Stored) (xs ys
   all_live_left none = tt
   all_live_left (one {rs = rs} {us = us} t rest) = (live_left rs us t.live t.done.left, all_live_left rest)
 
-  has_still : (q : ℕ) (b : Ref) → HasNode m q b → HasNode n q b
-  has_still q b h = record { value = h.value; is = changed.keeps.values b.name ∙ h.is; id = h.id; held = changed.keeps.refs b.name ∙ h.held }
-
   -- all stands after it
   pub erased_multi : IsMulti s new_ids n ys next arrivals
   erased_multi = record {
@@ -186,25 +183,10 @@ module _ (s : Shape) (ids : FinMap nat_cmp IdEntry) (m n : Pooled Stored) (xs ys
     stand = changed.stand;
     kinds = all_for s.indexes xs ys like is.kinds;
     live = all_live_left turns;
-    held = λ q a here.
-        elim (eqb_tells q e) [
-          | inl it ↦
-              let same : record { node = r; live = false } ≡ a = some_is (sym now ∙ sym (ap (get new_ids) it.1) ∙ here) in
-              subst (λ (w : IdEntry). HasNode n q w.node) same
-              (has_still q r (subst (λ k. HasNode m k r) (sym it.1) (is.held e (record { node = r; live = true }) there)))
-          | inr isnt ↦ has_still q a.node (is.held q a (sym (others q isnt.1) ∙ here))
-        ];
-    owned = λ b h.
-        let was = is.owned b (sym (changed.keeps.refs b.name) ∙ h) in
-        elim (eqb_tells was.0 e) [
-          | inl it ↦
-              let same : record { node = r; live = true } ≡ was.1 = some_is (sym there ∙ sym (ap (get ids) it.1) ∙ was.2) in
-              (e, record { node = r; live = false }, now, ap (λ (w : IdEntry). w.node) same ∙ was.3)
-          | inr isnt ↦ (was.0, was.1, others was.0 isnt.1 ∙ was.2, was.3)
-        ];
+    held = marked_held s ids m n xs next arrivals is e r true false there changed.keeps.refs changed.keeps.values;
+    owned = marked_owned s ids m n xs next arrivals is e r true false there changed.keeps.refs changed.keeps.values;
     is_data = subst (IsData s) (sym erased_seen) (change_is_tables s (Erase e None) d is.is_data (node_in m os r, row_is)).0;
     next_fits = is.next_fits;
     arrivals_fit = is.arrivals_fit;
-    few =
-        let same : len new_ids ≡ len ids = len_marked ids e (record { node = r; live = true }) false there in let f : len ids ≤ 2 ^ 31 = is.few in omega arith;
+    few = marked_few s ids m n xs next arrivals is e r true false there changed.keeps.refs changed.keeps.values;
   }

@@ -8,6 +8,7 @@ pub mod LiveNodeLemmas
 pub mod StampLemmas
 pub mod NeighbourLemmas
 pub mod LinkLemmas
+pub mod MarkedIdLemmas
 pub mod EraseLemmas
 pub mod CountLemmas
 pub mod PlaceLemmas

@@ -1,11 +1,11 @@
 -- A row comes back: what the passes leave are the data with it, and all stands again.
-use Rattle.std.proofs.Common.{◌≡◌, ◌≢◌, ℕ, ◌+◌, ◌^◌, ◌<◌, ◌≤◌, zero, suc, true, false, cond, inl, inr}
+use Rattle.std.proofs.Common.{◌≡◌, ◌≢◌, ℕ, ◌+◌, ◌<◌, zero, suc, true, false, cond, inl, inr}
 use Rattle.std.proofs.Common.{List, [], ◌∷◌, ◌++◌, get_or, length, refl, ap, sym, ◌∙◌, subst, arith}
 use Rattle.std.specs.Prelude.{◌==◌}
 use Rattle.std.specs.List.{AllByRecursion}
 use Rattle.std.specs.Option.{option_map, option_and_then}
 use Rattle.std.specs.Ordering.{nat_cmp}
-use Rattle.std.specs.FinMap.{FinMap, get, entries, len}
+use Rattle.std.specs.FinMap.{FinMap, get, entries}
 use Rattle.std.proofs.lemmas.Bool.{false≢true}
 use Rattle.std.proofs.lemmas.Bool.Decides.{eqb_tells}
 use Rattle.std.specs.declared.option.Option.TheVariants.{None, Some}
@@ -46,8 +46,9 @@ use Rattle.mi_multi.proofs.SameNodeLemmas.{node_same, live_alike, kept_alike}
 use Rattle.mi_multi.proofs.OrderLemmas.{Enough, orders_relinked}
 use Rattle.mi_multi.proofs.EveryIndexLemmas.{Turned, Every, At, at, every, Known, all_known, all_for, seq_known, length_orders, at_stamps}
 use Rattle.mi_multi.proofs.EveryIndexLemmas.{has_plan, sequenced_order, sorted_not_sequenced, hashed_not_sequenced, one, none}
-use Rattle.mi_multi.proofs.LiveNodeLemmas.{IsLiveRef, node_live, marked_here, marked_beside, len_marked, names_apart}
+use Rattle.mi_multi.proofs.LiveNodeLemmas.{IsLiveRef, node_live, marked_here, marked_beside, names_apart}
 use Rattle.mi_multi.proofs.LiveNodeLemmas.{lacks_middle, out_of_all, ids_same, all_left, all_right, all_append, once_more}
+use Rattle.mi_multi.proofs.MarkedIdLemmas.{marked_held, marked_owned, marked_few}
 use Rattle.mi_multi.proofs.NeighbourLemmas.{ids_append}
 use Rattle.mi_multi.proofs.ReturnLemmas.{can_return, length_neighbours, has_relinked}
 
@@ -253,9 +254,6 @@ module _ (s : Shape) (ids : FinMap nat_cmp IdEntry) (m n : Pooled Stored) (xs ys
     all_live_back none = tt
     all_live_back (one {rs = rs} {us = us} t rest) = (live_back rs us t.live t.done.back, all_live_back rest)
 
-    has_still : (q : ℕ) (a : Ref) → HasNode m q a → HasNode n q a
-    has_still q a h = record { value = h.value; is = changed.keeps.values a.name ∙ h.is; id = h.id; held = changed.keeps.refs a.name ∙ h.held }
-
     -- all stands after it
     pub back_multi : IsMulti s new_ids n ys next arrivals
     back_multi = record {
@@ -263,26 +261,10 @@ module _ (s : Shape) (ids : FinMap nat_cmp IdEntry) (m n : Pooled Stored) (xs ys
       stand = changed.stand;
       kinds = all_for s.indexes xs ys like is.kinds;
       live = all_live_back turns;
-      held = λ q a here.
-          elim (eqb_tells q e) [
-            | inl it ↦
-                let same : record { node = r; live = true } ≡ a = some_is (sym now ∙ sym (ap (get new_ids) it.1) ∙ here) in
-                subst (λ (w : IdEntry). HasNode n q w.node) same (has_still q r (subst (λ k. HasNode m k r) (sym it.1) mine))
-            | inr isnt ↦ has_still q a.node (is.held q a (sym (others q isnt.1) ∙ here))
-          ];
-      owned = λ a h.
-          let was = is.owned a (sym (changed.keeps.refs a.name) ∙ h) in
-          elim (eqb_tells was.0 e) [
-            | inl it ↦
-                let same : record { node = r; live = false } ≡ was.1 = some_is (sym there ∙ sym (ap (get ids) it.1) ∙ was.2) in
-                (e, record { node = r; live = true }, now, ap (λ (w : IdEntry). w.node) same ∙ was.3)
-            | inr isnt ↦ (was.0, was.1, others was.0 isnt.1 ∙ was.2, was.3)
-          ];
+      held = marked_held s ids m n xs next arrivals is e r false true there changed.keeps.refs changed.keeps.values;
+      owned = marked_owned s ids m n xs next arrivals is e r false true there changed.keeps.refs changed.keeps.values;
       is_data = subst (IsData s) (sym back_seen) back;
       next_fits = is.next_fits;
       arrivals_fit = is.arrivals_fit;
-      few =
-          let same : len new_ids ≡ len ids = len_marked ids e (record { node = r; live = false }) true there in
-          let f : len ids ≤ 2 ^ 31 = is.few in
-          omega arith;
+      few = marked_few s ids m n xs next arrivals is e r false true there changed.keeps.refs changed.keeps.values;
     }

@@ -1,0 +1,58 @@
+-- An id is marked as live, or as only kept, and the nodes keep their names and values.
+use Rattle.std.proofs.Common.{◌≡◌, ◌≢◌, ℕ, ◌^◌, ◌≤◌, Bool, inl, inr, List, ap, sym, ◌∙◌, subst, arith}
+use Rattle.std.specs.Ordering.{nat_cmp}
+use Rattle.std.specs.FinMap.{FinMap, get, len}
+use Rattle.std.proofs.lemmas.Bool.Decides.{eqb_tells}
+use Rattle.std.specs.declared.option.Option.TheVariants.{Some}
+use Rattle.mi_catalog.specs.Shape.{Shape}
+use Rattle.mi_node.specs.Pool.{Pooled, ref_of, value_of, IsHeld}
+use Rattle.mi_node.specs.Refs.{Ref}
+use Rattle.mi_order.specs.declared.stored.Stored.{Stored}
+use Rattle.mi_index.specs.declared.structure.Structure.{Structure}
+use Rattle.mi_container.proofs.PairLemmas.{some_is}
+use Rattle.mi_ids.specs.declared.entry.IdEntry.{IdEntry}
+use Rattle.mi_ids.specs.IdMap.{with_live}
+use Rattle.mi_multi.specs.Multi.{HasNode, IsMulti}
+use Rattle.mi_multi.proofs.LiveNodeLemmas.{marked_here, marked_beside, len_marked}
+
+module _ (s : Shape) (ids : FinMap nat_cmp IdEntry) (m n : Pooled Stored) (xs : List Structure) (next arrivals : ℕ)
+    (is : IsMulti s ids m xs next arrivals) (e : ℕ) (r : Ref) (was mark : Bool) (there : get ids e ≡ Some (record { node = r; live = was }))
+    (refs : (k : ℕ) → ref_of n k ≡ ref_of m k) (values : (k : ℕ) → value_of n k ≡ value_of m k) where
+  abbrev new_ids : FinMap nat_cmp IdEntry
+  new_ids = with_live ids e mark
+
+  now : get new_ids e ≡ Some (record { node = r; live = mark })
+  now = marked_here ids e (record { node = r; live = was }) mark there
+
+  others : (q : ℕ) → q ≢ e → get new_ids q ≡ get ids q
+  others = marked_beside ids e (record { node = r; live = was }) mark there
+
+  has_still : (q : ℕ) (b : Ref) → HasNode m q b → HasNode n q b
+  has_still q b h = record { value = h.value; is = values b.name ∙ h.is; id = h.id; held = refs b.name ∙ h.held }
+
+  -- each id still has its node
+  pub marked_held : (q : ℕ) (a : IdEntry) → get new_ids q ≡ Some a → HasNode n q a.node
+  marked_held q a here =
+      elim (eqb_tells q e) [
+        | inl it ↦
+            let same : record { node = r; live = mark } ≡ a = some_is (sym now ∙ sym (ap (get new_ids) it.1) ∙ here) in
+            subst (λ (w : IdEntry). HasNode n q w.node) same
+            (has_still q r (subst (λ k. HasNode m k r) (sym it.1) (is.held e (record { node = r; live = was }) there)))
+        | inr isnt ↦ has_still q a.node (is.held q a (sym (others q isnt.1) ∙ here))
+      ]
+
+  -- each node is still that of an id
+  pub marked_owned : (b : Ref) → IsHeld n b → (q : ℕ) × (a : IdEntry) × (get new_ids q ≡ Some a) × (a.node ≡ b)
+  marked_owned b h =
+      let had = is.owned b (sym (refs b.name) ∙ h) in
+      elim (eqb_tells had.0 e) [
+        | inl it ↦
+            let same : record { node = r; live = was } ≡ had.1 = some_is (sym there ∙ sym (ap (get ids) it.1) ∙ had.2) in
+            (e, record { node = r; live = mark }, now, ap (λ (w : IdEntry). w.node) same ∙ had.3)
+        | inr isnt ↦ (had.0, had.1, others had.0 isnt.1 ∙ had.2, had.3)
+      ]
+
+  -- there are no more ids than before
+  pub marked_few : len new_ids ≤ 2 ^ 31
+  marked_few =
+      let same : len new_ids ≡ len ids = len_marked ids e (record { node = r; live = was }) mark there in let f : len ids ≤ 2 ^ 31 = is.few in omega arith
