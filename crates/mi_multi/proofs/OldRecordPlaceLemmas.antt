@@ -48,7 +48,7 @@ use Rattle.mi_multi.specs.Restored.{to_place}
 use Rattle.mi_multi.proofs.ListLemmas.{first_row, last_row, ref_back, last_ids, head_ids, filter_ids, IsRow}
 use Rattle.mi_multi.proofs.EveryIndexLemmas.{Every, one, none, sorted_parts, hashed_order, sequenced_order, has_plan, length_orders}
 use Rattle.mi_multi.proofs.LiveNodeLemmas.{IsLiveRef, node_live, rows_of, holds, lacks_middle, all_left, all_right, all_append}
-use Rattle.mi_multi.proofs.StampLemmas.{stamp_held, stamp_row, by_stamp_is}
+use Rattle.mi_multi.proofs.StampLemmas.{stamp_held, below_ids, above_ids, by_stamp_is}
 use Rattle.mi_multi.proofs.NeighbourLemmas.{filter_eq, filter_append, ids_append}
 use Rattle.mi_multi.proofs.CountLemmas.{no_longer}
 use Rattle.mi_multi.proofs.PlaceLemmas.{value_not_equal, cut_at, one_cut}
@@ -237,24 +237,6 @@ module _ (s : Shape) (ids : FinMap nat_cmp IdEntry) (m : Pooled Stored) (xs : Li
     keys_for ps [] all = tt
     keys_for ps (q ∷ qs) all = (key_for ps q all.0, keys_for ps qs all.1)
 
-    below_ids : (k a : ℕ) (qs : List Ref) → AllByRecursion (IsLiveRef ids m) qs → k < length os → has_stamps (get_or os k ById) ≡ true
-        → AllBelow (stamp_at m k) a qs → (p : Ref → Bool) → AllByRecursion (λ w. stamp_of d.rows k w < a) (ids_at m (filter p qs))
-    below_ids k a [] all l has below p = tt
-    below_ids k a (q ∷ qs) all l has below p =
-        elim (p q) as (λ t. AllByRecursion (λ w. stamp_of d.rows k w < a) (ids_at m (cond t (q ∷ filter p qs) (filter p qs)))) [
-          | true ↦ (subst (λ w. w < a) (sym (stamp_row ids m os k q all.0 l has)) below.0, below_ids k a qs all.1 l has below.1 p)
-          | false ↦ below_ids k a qs all.1 l has below.1 p
-        ]
-
-    above_ids : (k a : ℕ) (qs : List Ref) → AllByRecursion (IsLiveRef ids m) qs → k < length os → has_stamps (get_or os k ById) ≡ true
-        → AllAbove (stamp_at m k) a qs → (p : Ref → Bool) → AllByRecursion (λ w. a < stamp_of d.rows k w) (ids_at m (filter p qs))
-    above_ids k a [] all l has above p = tt
-    above_ids k a (q ∷ qs) all l has above p =
-        elim (p q) as (λ t. AllByRecursion (λ w. a < stamp_of d.rows k w) (ids_at m (cond t (q ∷ filter p qs) (filter p qs)))) [
-          | true ↦ (subst (λ w. a < w) (sym (stamp_row ids m os k q all.0 l has)) above.0, above_ids k a qs all.1 l has above.1 p)
-          | false ↦ above_ids k a qs all.1 l has above.1 p
-        ]
-
     -- where it stands by the old stamp, and beside which nodes of the old key
     abbrev ByStamp : List KeyPart → ℕ → OldPlace → List Ref → Type 0
     ByStamp ps k was qs = (us : List Ref) × (vs : List Ref) × (qs ≡ us ++ vs) × AllBelow (stamp_at m k) was.stamp us × AllAbove (stamp_at m k) was.stamp vs
@@ -279,7 +261,7 @@ module _ (s : Shape) (ids : FinMap nat_cmp IdEntry) (m : Pooled Stored) (xs : Li
         ∙ ap (ids_at m) (filter_out (λ q. p (id_at m q)) r as_ bs own_ ∙ ap (filter (λ q. p (id_at m q))) c.parts ∙ alike)
         ∙ ids_append (id_at m) (filter p' c.xs) (filter p' c.ys) in
         let one_way = one_cut (stamp_of d.rows k) was.stamp (ids_at m (filter p' c.xs)) (ids_at m (filter p' c.ys)) meets_.0 meets_.1 (sym whole ∙ meets_.2)
-        (below_ids k was.stamp c.xs left l has c.below p') (above_ids k was.stamp c.ys right l has c.above p') meets_.5 meets_.6 in (
+        (below_ids ids m os k was.stamp c.xs left l has c.below p') (above_ids ids m os k was.stamp c.ys right l has c.above p') meets_.5 meets_.6 in (
           c.xs,
           c.ys,
           c.parts,

@@ -40,7 +40,7 @@ use Rattle.mi_multi.proofs.PickLemmas.{get_picked}
 use Rattle.mi_multi.proofs.ListLemmas.{IsRow, first_row, last_row, ref_back, last_ids, head_ids, parted, filter_ids}
 use Rattle.mi_multi.proofs.EveryIndexLemmas.{Every, one, none, every, all_known, Known, sorted_parts, hashed_order, sequenced_order, own_is}
 use Rattle.mi_multi.proofs.LiveNodeLemmas.{IsLiveRef, node_live, rows_of, out_of, all_left, all_right}
-use Rattle.mi_multi.proofs.StampLemmas.{stamp_held, stamp_row, by_stamp_is}
+use Rattle.mi_multi.proofs.StampLemmas.{stamp_held, below_ids, above_ids, by_stamp_is}
 use Rattle.mi_multi.proofs.NeighbourLemmas.{filter_eq, filter_append, ids_append}
 use Rattle.mi_multi.proofs.CountLemmas.{shorter}
 use Rattle.mi_multi.proofs.PlaceLemmas.{not_equal, cut_at, one_cut}
@@ -169,24 +169,6 @@ module _ (s : Shape) (ids : FinMap nat_cmp IdEntry) (m : Pooled Stored) (xs : Li
     filtered P p (q ∷ qs) all =
         elim (p q) as (λ t. AllByRecursion P (cond t (q ∷ filter p qs) (filter p qs))) [ true ↦ (all.0, filtered P p qs all.1) | false ↦ filtered P p qs all.1 ]
 
-    below_ids : (k a : ℕ) (qs : List Ref) → AllByRecursion (IsLiveRef ids m) qs → k < length os → has_stamps (get_or os k ById) ≡ true
-        → AllBelow (stamp_at m k) a qs → (p : Ref → Bool) → AllByRecursion (λ w. stamp_of d.rows k w < a) (ids_at m (filter p qs))
-    below_ids k a [] all l has below p = tt
-    below_ids k a (q ∷ qs) all l has below p =
-        elim (p q) as (λ t. AllByRecursion (λ w. stamp_of d.rows k w < a) (ids_at m (cond t (q ∷ filter p qs) (filter p qs)))) [
-          | true ↦ (subst (λ w. w < a) (sym (stamp_row ids m os k q all.0 l has)) below.0, below_ids k a qs all.1 l has below.1 p)
-          | false ↦ below_ids k a qs all.1 l has below.1 p
-        ]
-
-    above_ids : (k a : ℕ) (qs : List Ref) → AllByRecursion (IsLiveRef ids m) qs → k < length os → has_stamps (get_or os k ById) ≡ true
-        → AllAbove (stamp_at m k) a qs → (p : Ref → Bool) → AllByRecursion (λ w. a < stamp_of d.rows k w) (ids_at m (filter p qs))
-    above_ids k a [] all l has above p = tt
-    above_ids k a (q ∷ qs) all l has above p =
-        elim (p q) as (λ t. AllByRecursion (λ w. a < stamp_of d.rows k w) (ids_at m (cond t (q ∷ filter p qs) (filter p qs)))) [
-          | true ↦ (subst (λ w. a < w) (sym (stamp_row ids m os k q all.0 l has)) above.0, above_ids k a qs all.1 l has above.1 p)
-          | false ↦ above_ids k a qs all.1 l has above.1 p
-        ]
-
     -- where it stands by its stamp, and beside which nodes of its key
     abbrev ByStamp : HashedBy → ℕ → List Ref → Type 0
     ByStamp h k rs = (us : List Ref) × (vs : List Ref) × (rs ≡ us ++ vs)
@@ -213,8 +195,8 @@ module _ (s : Shape) (ids : FinMap nat_cmp IdEntry) (m : Pooled Stored) (xs : Li
         ap (filter p) (by ∙ ap (ids_at m) c.parts) ∙ filter_ids (id_at m) p (c.xs ++ c.ys)
         ∙ ap (ids_at m) alike ∙ ids_append (id_at m) (filter p' c.xs) (filter p' c.ys) in
         let one_way = one_cut (stamp_of d.rows k) a (ids_at m (filter p' c.xs)) (ids_at m (filter p' c.ys)) meets.0 meets.1 (sym whole ∙ meets.2)
-        (below_ids k a c.xs left l has (subst (λ w. AllBelow (stamp_at m k) w c.xs) (sym a_is) c.below) p')
-        (above_ids k a c.ys right l has (subst (λ w. AllAbove (stamp_at m k) w c.ys) (sym a_is) c.above) p') meets.5 meets.6 in (
+        (below_ids ids m os k a c.xs left l has (subst (λ w. AllBelow (stamp_at m k) w c.xs) (sym a_is) c.below) p')
+        (above_ids ids m os k a c.ys right l has (subst (λ w. AllAbove (stamp_at m k) w c.ys) (sym a_is) c.above) p') meets.5 meets.6 in (
           c.xs,
           c.ys,
           c.parts,

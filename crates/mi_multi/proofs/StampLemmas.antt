@@ -1,6 +1,6 @@
 -- The stamps of live nodes, and the list that they give a hashed index.
-use Rattle.std.proofs.Common.{◌≡◌, ℕ, ◌+◌, ◌<◌, zero, suc, true, false, cond, List, [], ◌∷◌, get_or, length, refl, ap, sym, ◌∙◌, subst, arith}
-use Rattle.std.specs.List.{AllByRecursion}
+use Rattle.std.proofs.Common.{◌≡◌, ℕ, ◌+◌, ◌<◌, zero, suc, Bool, true, false, cond, List, [], ◌∷◌, get_or, length, refl, ap, sym, ◌∙◌, subst, arith}
+use Rattle.std.specs.List.{AllByRecursion, filter}
 use Rattle.std.specs.Ordering.{nat_cmp, on}
 use Rattle.std.specs.Cmp.{on_total}
 use Rattle.std.specs.FinMap.{FinMap, get, entries}
@@ -19,7 +19,7 @@ use Rattle.mi_node.specs.Pool.{Pooled, link_of}
 use Rattle.mi_node.specs.Refs.{Ref}
 use Rattle.mi_chain.specs.Keying.{stamp_at}
 use Rattle.mi_order.specs.declared.stored.Stored.{Stored}
-use Rattle.mi_index.specs.Standing.{AllAbove, Climb}
+use Rattle.mi_index.specs.Standing.{AllAbove, AllBelow, Climb}
 use Rattle.mi_container.specs.Data.{Node, Order, Data, has_stamps, node_of, content_in, stamp_of, ids_by_stamp, listed, lists_from, table_of, IsData}
 use Rattle.mi_container.specs.Data.Order.{ById, ByKey, ByHash, Listed}
 use Rattle.mi_container.proofs.InvariantLemmas.{lookup_shown}
@@ -70,6 +70,26 @@ module _ (ids : FinMap nat_cmp IdEntry) (m : Pooled Stored) (os : List Order) wh
   pub stamp_row : (x : ℕ) (r : Ref) → IsLiveRef ids m r → x < length os
       → has_stamps (get_or os x ById) ≡ true → stamp_of rows x (id_at m r) ≡ (link_of m r.name x).tag.stamp
   stamp_row x r live l has_ = ap (λ o. get_or (content_in o).stamps x 0) (node_live ids m os r live) ∙ stamp_held m os x r l has_
+
+  -- the rows of nodes with lower stamps have lower stamps
+  pub below_ids : (x a : ℕ) (qs : List Ref) → AllByRecursion (IsLiveRef ids m) qs → x < length os → has_stamps (get_or os x ById) ≡ true
+      → AllBelow (stamp_at m x) a qs → (p : Ref → Bool) → AllByRecursion (λ w. stamp_of rows x w < a) (ids_at m (filter p qs))
+  below_ids x a [] all l has_ below p = tt
+  below_ids x a (q ∷ qs) all l has_ below p =
+      elim (p q) as (λ t. AllByRecursion (λ w. stamp_of rows x w < a) (ids_at m (cond t (q ∷ filter p qs) (filter p qs)))) [
+        | true ↦ (subst (λ w. w < a) (sym (stamp_row x q all.0 l has_)) below.0, below_ids x a qs all.1 l has_ below.1 p)
+        | false ↦ below_ids x a qs all.1 l has_ below.1 p
+      ]
+
+  -- the rows of nodes with higher stamps have higher stamps
+  pub above_ids : (x a : ℕ) (qs : List Ref) → AllByRecursion (IsLiveRef ids m) qs → x < length os → has_stamps (get_or os x ById) ≡ true
+      → AllAbove (stamp_at m x) a qs → (p : Ref → Bool) → AllByRecursion (λ w. a < stamp_of rows x w) (ids_at m (filter p qs))
+  above_ids x a [] all l has_ above p = tt
+  above_ids x a (q ∷ qs) all l has_ above p =
+      elim (p q) as (λ t. AllByRecursion (λ w. a < stamp_of rows x w) (ids_at m (cond t (q ∷ filter p qs) (filter p qs)))) [
+        | true ↦ (subst (λ w. a < w) (sym (stamp_row x q all.0 l has_)) above.0, above_ids x a qs all.1 l has_ above.1 p)
+        | false ↦ above_ids x a qs all.1 l has_ above.1 p
+      ]
 
   all_less : (x : ℕ) (r : Ref) (rs : List Ref) → IsLiveRef ids m r → AllByRecursion (IsLiveRef ids m) rs
       → x < length os → has_stamps (get_or os x ById) ≡ true → AllAbove (stamp_at m x) (stamp_at m x r) rs
