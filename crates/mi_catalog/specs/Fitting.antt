@@ -54,8 +54,8 @@ abbrev pub FitsTable : CatalogShape → ℕ → List Value → Type 0
 FitsTable c n row = IsTrue (fits_record (schema_at c n).columns row)
 
 -- edits fit table n: each is of a column of its type, and no column is named twice
-abbrev pub EditsFit : CatalogShape → ℕ → List Edit → Type 0
-EditsFit c n edits = IsTrue (list_all (fits_edit (schema_at c n).columns) edits) × NamesEachOnce edits
+abbrev pub FitsEdits : CatalogShape → ℕ → List Edit → Type 0
+FitsEdits c n edits = IsTrue (list_all (fits_edit (schema_at c n).columns) edits) × NamesEachOnce edits
 
 -- values are a whole key of index i of table n
 abbrev pub FitsWhole : CatalogShape → ℕ → ℕ → List Value → Type 0

@@ -17,7 +17,7 @@ use Rattle.mi_node.proofs.KeepingLemmas.{keeps_link, keeps_then, keeps_more, hel
 use Rattle.mi_node.proofs.NeighbourLemmas.{linked_held, tag-joined, tag-with_link}
 use Rattle.mi_node.proofs.RefLemmas.{out_left, out_right, out_both, apart_left, apart_right, apart_remove, apart_across, are_out_tail, are_out_flip, last_push}
 use Rattle.mi_chain.specs.Keying.{Keying, IsLawful, same_nodes, hash_node, stamp_at}
-use Rattle.mi_chain.specs.Groups.{members, others, first_in, last_in, key_count, AreFull, ArePassed, IsChained, IsChain, IsGrouped}
+use Rattle.mi_chain.specs.Groups.{members, unalike, first_in, last_in, key_count, AreFull, ArePassed, IsChained, IsChain, IsGrouped}
 use Rattle.mi_chain.specs.Places.{Found, IsFound, IsGap, IsEnd, AreNotBelow, IsBelowIf, is_named}
 use Rattle.mi_chain.specs.Places.{is_empty, other_than, end_at, end_beside, ends_with, back_of, forth_of}
 use Rattle.mi_chain.specs.Heads.{heads_joined}
@@ -57,7 +57,7 @@ module _ {T : Type 0} (hash : Ref → ℕ) (m : Pooled T) (s : ℕ) where
       → IsGrouped R gs rs → AreTagged hash m s rs → AreTagged hash m s (members gs)
   tagged_groups R [] rs g h = tt
   tagged_groups R (u ∷ gs) rs g h = tagged_both u (members gs) (subst (AreTagged hash m s) g.2 (tagged_filter (R g.0) rs h))
-      (tagged_groups R gs (others R g.0 rs) g.3 (tagged_filter (λ q. not (R g.0 q)) rs h))
+      (tagged_groups R gs (unalike R g.0 rs) g.3 (tagged_filter (λ q. not (R g.0 q)) rs h))
 
   tagged_at : (xs : List Ref) (r : Ref) (ys : List Ref) → AreTagged hash m s (xs ++ r ∷ ys) → (link_of m r.name s).tag.key ≡ hash r
   tagged_at [] r ys h = h.0

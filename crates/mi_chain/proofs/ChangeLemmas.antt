@@ -13,7 +13,7 @@ use Rattle.mi_node.specs.Refs.{Ref, first_of, last_of, IsOut, IsApart}
 use Rattle.mi_node.specs.declared.link.Link.{Link}
 use Rattle.mi_node.proofs.KeepingLemmas.{keeps_link, keeps_then, keeps_more}
 use Rattle.mi_node.proofs.RefLemmas.{out_left, out_right, apart_right, apart_remove}
-use Rattle.mi_chain.specs.Groups.{members, others, first_in, last_in, AreFull, ArePassed, IsChained, IsGrouped}
+use Rattle.mi_chain.specs.Groups.{members, unalike, first_in, last_in, AreFull, ArePassed, IsChained, IsGrouped}
 use Rattle.mi_chain.specs.Places.{Found, IsFound, is_named, IsGap, IsBelowIf, back_of, forth_of, ends_with}
 use Rattle.mi_chain.specs.Heads.{heads_joined}
 use Rattle.mi_chain.specs.Chained.{AreAfter, AreBefore, in_bucket, IsBucket, AreBuckets}
@@ -440,4 +440,4 @@ module _ (R : Ref → Ref → Bool) (A : IsAlike R) (stamp hash : Ref → ℕ) (
         passed_group R A [] g Y us y q h f l t =
             let xy = first_passes (R h.0) us g y h.2 f in let xq = last_passes (R h.0) us q (ap (last_of None) h.2 ∙ l) in
             A.transitive r q y t (A.transitive q h.0 y (A.symmetric h.0 q xq) xy)
-        passed_group R A (g1 ∷ X) g Y us y q h f l t = passed_group R A X g Y (others R h.0 us) y q h.3 f l t
+        passed_group R A (g1 ∷ X) g Y us y q h f l t = passed_group R A X g Y (unalike R h.0 us) y q h.3 f l t

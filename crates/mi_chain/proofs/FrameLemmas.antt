@@ -15,7 +15,7 @@ use Rattle.mi_node.proofs.EntryLemmas.{held_has, held-taken, apart_of_free, link
 use Rattle.mi_node.proofs.EntryLemmas.{value-with_value, value_there, ref-with_value, link-with_value, slots-with_value}
 use Rattle.mi_value.specs.declared.bound.Probe.{Probe}
 use Rattle.mi_chain.specs.Keying.{Keying, IsLawful, same_nodes, hash_node, has_key, stamp_at}
-use Rattle.mi_chain.specs.Groups.{members, first_in, others, has_none, key_count, IsChained, IsGrouped}
+use Rattle.mi_chain.specs.Groups.{members, first_in, unalike, has_none, key_count, IsChained, IsGrouped}
 use Rattle.mi_chain.specs.Chained.{AreAfter, IsRising, in_bucket, AreBuckets, AreTagged, AreChained}
 use Rattle.mi_chain.specs.Frame.{StandWhereSwapped}
 use Rattle.mi_chain.specs.declared.chains.Chains.{Chains}
@@ -59,7 +59,7 @@ module _ (P : Ref → Type 0) where
           y,
           h.1,
           filter_on (Q y) (R x) same rs all ∙ h.2,
-          subst (IsGrouped Q gs) (sym rest) (grouped_on gs (others R x rs) (all_filter (λ q. not (R x q)) rs all) h.3),
+          subst (IsGrouped Q gs) (sym rest) (grouped_on gs (unalike R x rs) (all_filter (λ q. not (R x q)) rs all) h.3),
         )
 
     count_on : (rs : List Ref) → AllOf P rs → key_count Q rs ≡ key_count R rs
@@ -71,7 +71,7 @@ module _ (P : Ref → Type 0) where
     grouped_all : (gs : List (List Ref)) (rs : List Ref) → AllOf P rs → IsGrouped R gs rs → AllOf P (members gs)
     grouped_all [] rs all h = tt
     grouped_all (g ∷ gs) rs all h = all_both g (members gs) (subst (AllOf P) h.2 (all_filter (R h.0) rs all))
-        (grouped_all gs (others R h.0 rs) (all_filter (λ q. not (R h.0 q)) rs all) h.3)
+        (grouped_all gs (unalike R h.0 rs) (all_filter (λ q. not (R h.0 q)) rs all) h.3)
 
     module _ (stamp stamp2 : Ref → ℕ) (stamps : (q : Ref) → P q → stamp2 q ≡ stamp q) where
       after_on : (q : Ref) (rs : List Ref) → P q → AllOf P rs → AreAfter R stamp q (stamp q) rs → AreAfter Q stamp2 q (stamp2 q) rs

@@ -4,7 +4,7 @@ use Rattle.std.specs.List.{filter}
 use Rattle.std.proofs.lemmas.List.Elements.{filter-append}
 use Rattle.mi_node.specs.Refs.{Ref, first_of, last_of, IsOut, IsApart, AreOut}
 use Rattle.mi_node.proofs.RefLemmas.{out_both, apart_both, are_out_cons, are_out_flip}
-use Rattle.mi_chain.specs.Groups.{members, first_in, others, IsGrouped, ArePassed, AreFull}
+use Rattle.mi_chain.specs.Groups.{members, first_in, unalike, IsGrouped, ArePassed, AreFull}
 
 abbrev Test : Type 0
 Test = Ref → Bool
@@ -159,13 +159,13 @@ module _ (R : Ref → Ref → Bool) (A : IsAlike R) where
   grouped_out k [] rs h o = tt
   grouped_out k (g ∷ gs) rs h o =
       out_both k g (members gs) (subst (IsOut k) h.2 (out_filter (R h.0) k rs o))
-      (grouped_out k gs (others R h.0 rs) h.3 (out_filter (λ q. not (R h.0 q)) k rs o))
+      (grouped_out k gs (unalike R h.0 rs) h.3 (out_filter (λ q. not (R h.0 q)) k rs o))
 
   pub grouped_are_out : (gs : List (List Ref)) (rs ys : List Ref) → IsGrouped R gs rs → AreOut rs ys → AreOut (members gs) ys
   grouped_are_out [] rs ys h o = tt
   grouped_are_out (g ∷ gs) rs ys h o =
       are_out_left g (members gs) ys (subst (λ z. AreOut z ys) h.2 (are_out_filter (R h.0) rs ys o))
-      (grouped_are_out gs (others R h.0 rs) ys h.3 (are_out_filter (λ q. not (R h.0 q)) rs ys o))
+      (grouped_are_out gs (unalike R h.0 rs) ys h.3 (are_out_filter (λ q. not (R h.0 q)) rs ys o))
 
   not_true : (b : Bool) → b ≡ true → not b ≡ false
   not_true b e = ap not e
@@ -180,7 +180,7 @@ module _ (R : Ref → Ref → Bool) (A : IsAlike R) where
 
   pub grouped_full : (gs : List (List Ref)) (rs : List Ref) → IsGrouped R gs rs → AreFull gs
   grouped_full [] rs h = tt
-  grouped_full (g ∷ gs) rs h = (h.1, grouped_full gs (others R h.0 rs) h.3)
+  grouped_full (g ∷ gs) rs h = (h.1, grouped_full gs (unalike R h.0 rs) h.3)
 
   -- the groups of a list are those of any list that has the same nodes of each key in the same order
   grouped_alike : (gs : List (List Ref)) (us vs : List Ref) → IsGrouped R gs us → ((x : Ref) → filter (R x) us ≡ filter (R x) vs) → IsGrouped R gs vs
@@ -213,7 +213,7 @@ module _ (R : Ref → Ref → Bool) (A : IsAlike R) where
     key_of_none [] rs h p = ap (filter K) h
     key_of_none (g ∷ gs) rs h p =
         sym (filter_both K (λ q. not (R h.0 q)) rs (passed_class h.0 p.0.0 (first_passes (R h.0) rs g p.0.0 h.2 p.0.1) p.0.2))
-        ∙ key_of_none gs (others R h.0 rs) h.3 p.1
+        ∙ key_of_none gs (unalike R h.0 rs) h.3 p.1
 
     class_is : (x y : Ref) → R x y ≡ true → K y ≡ true → (q : Ref) → K q ≡ R x q
     class_is x y e t q = same_bool (K q) (R x q) (λ h. A.transitive x y q e (O.one_key y q t h))
@@ -226,7 +226,7 @@ module _ (R : Ref → Ref → Bool) (A : IsAlike R) where
     key_of_group [] g hs rs y h p f t = filter_same K (R h.0) (class_is h.0 y (first_passes (R h.0) rs g y h.2 f) t) rs ∙ h.2
     key_of_group (g' ∷ gs) g hs rs y h p f t =
         sym (filter_both K (λ q. not (R h.0 q)) rs (passed_class h.0 p.0.0 (first_passes (R h.0) rs g' p.0.0 h.2 p.0.1) p.0.2))
-        ∙ key_of_group gs g hs (others R h.0 rs) y h.3 p.1 f t
+        ∙ key_of_group gs g hs (unalike R h.0 rs) y h.3 p.1 f t
 
   -- where no node has the key, all groups are passed
   pub passed_all : (r : Ref) (gs : List (List Ref)) (rs : List Ref) → IsGrouped R gs rs → filter (R r) rs ≡ [] → ArePassed (R r) gs
@@ -236,7 +236,7 @@ module _ (R : Ref → Ref → Bool) (A : IsAlike R) where
       let inside : filter (R r) (y ∷ g) ≡ [] = ap (filter (R r)) (sym h.2) ∙ filter_swap (R r) (R h.0) rs ∙ ap (filter (R h.0)) none in
       let not_it : R r y ≡ false = no_is_false (R r y)
       (λ t. let full : y ∷ filter (R r) g ≡ [] = ap (λ b. cond b (y ∷ filter (R r) g) (filter (R r) g)) (sym t) ∙ inside in cc) in
-      ((y, refl, not_it), passed_all r gs (others R h.0 rs) h.3 (filter_swap (R r) (λ q. not (R h.0 q)) rs ∙ ap (filter (λ q. not (R h.0 q))) none))
+      ((y, refl, not_it), passed_all r gs (unalike R h.0 rs) h.3 (filter_swap (R r) (λ q. not (R h.0 q)) rs ∙ ap (filter (λ q. not (R h.0 q))) none))
 
   no_true : (b : Bool) → not b ≡ true → b ≡ false
   no_true true e = sym e
@@ -258,7 +258,7 @@ module _ (R : Ref → Ref → Bool) (A : IsAlike R) where
       let far = no_true (R h.0 y) (later X g Y y f (λ q. not (R h.0 q)) rs h.3) in
       let near = first_passes (R h.0) rs (x ∷ g1) x h.2 refl in
       let not_it : R r x ≡ false = no_is_false (R r x) (λ e. not_both (R h.0 y) (A.transitive h.0 x y near (A.transitive x r y (A.symmetric r x e) t)) far) in
-      ((x, refl, not_it), passed_before r X g Y (others R h.0 rs) y h.3 f t)
+      ((x, refl, not_it), passed_before r X g Y (unalike R h.0 rs) y h.3 f t)
 
   -- another list that differs in the nodes like r alone
   module _ (r : Ref) where
@@ -268,15 +268,15 @@ module _ (R : Ref → Ref → Bool) (A : IsAlike R) where
     not_class : (x : Ref) → R r x ≡ false → (q : Ref) → R r q ≡ true → not (R x q) ≡ true
     not_class x n q h = ap not (no_is_false (R x q) (λ t. not_both (R r x) (A.transitive r q x h (A.symmetric x q t)) n))
 
-    class_else : (x : Ref) (rs us : List Ref) → R r x ≡ false → others R r us ≡ others R r rs → filter (R x) us ≡ filter (R x) rs
+    class_else : (x : Ref) (rs us : List Ref) → R r x ≡ false → unalike R r us ≡ unalike R r rs → filter (R x) us ≡ filter (R x) rs
     class_else x rs us n e = sym (filter_both (R x) (λ q. not (R r q)) us (keeps_class x n))
         ∙ ap (filter (R x)) e ∙ filter_both (R x) (λ q. not (R r q)) rs (keeps_class x n)
 
-    rest_else : (x : Ref) (rs us : List Ref) → others R r us ≡ others R r rs → others R r (others R x us) ≡ others R r (others R x rs)
+    rest_else : (x : Ref) (rs us : List Ref) → unalike R r us ≡ unalike R r rs → unalike R r (unalike R x us) ≡ unalike R r (unalike R x rs)
     rest_else x rs us e = filter_swap (λ q. not (R r q)) (λ q. not (R x q)) us
         ∙ ap (filter (λ q. not (R x q))) e ∙ filter_swap (λ q. not (R x q)) (λ q. not (R r q)) rs
 
-    rest_here : (x y : Ref) (rs us : List Ref) → R x y ≡ true → R r y ≡ true → others R r us ≡ others R r rs → others R x us ≡ others R x rs
+    rest_here : (x y : Ref) (rs us : List Ref) → R x y ≡ true → R r y ≡ true → unalike R r us ≡ unalike R r rs → unalike R x us ≡ unalike R x rs
     rest_here x y rs us e t h =
         let same : (q : Ref) → not (R x q) ≡ not (R r q) = λ q. ap not (like x y q e ∙ sym (like r y q t)) in
         filter_same (λ q. not (R x q)) (λ q. not (R r q)) same us ∙ h ∙ sym (filter_same (λ q. not (R x q)) (λ q. not (R r q)) same rs)
@@ -284,7 +284,7 @@ module _ (R : Ref → Ref → Bool) (A : IsAlike R) where
     -- a group is another
     pub group_other : (gs : List (List Ref)) (g : List Ref) (hs : List (List Ref)) (g' rs us : List Ref) (y : Ref)
         → IsGrouped R (gs ++ g ∷ hs) rs → ArePassed (R r) gs → first_of g None ≡ Some y
-        → R r y ≡ true → others R r us ≡ others R r rs → filter (R r) us ≡ g' → (g' ≡ [] → ⊥) → IsGrouped R (gs ++ g' ∷ hs) us
+        → R r y ≡ true → unalike R r us ≡ unalike R r rs → filter (R r) us ≡ g' → (g' ≡ [] → ⊥) → IsGrouped R (gs ++ g' ∷ hs) us
     group_other [] g hs g' rs us y h p f t e now full = let xy = first_passes (R h.0) rs g y h.2 f in (
       h.0,
       full,
@@ -295,14 +295,14 @@ module _ (R : Ref → Ref → Bool) (A : IsAlike R) where
       h.0,
       h.1,
       class_else h.0 rs us n e ∙ h.2,
-      group_other gs g hs g' (others R h.0 rs) (others R h.0 us) y h.3 p.1 f t (rest_else h.0 rs us e)
+      group_other gs g hs g' (unalike R h.0 rs) (unalike R h.0 us) y h.3 p.1 f t (rest_else h.0 rs us e)
           (filter_both (R r) (λ q. not (R h.0 q)) us (not_class h.0 n) ∙ now) full,
     )
 
     -- a group is gone
     pub group_gone : (gs : List (List Ref)) (g : List Ref) (hs : List (List Ref)) (rs us : List Ref) (y : Ref)
         → IsGrouped R (gs ++ g ∷ hs) rs → ArePassed (R r) gs → first_of g None ≡ Some y → R r y ≡ true
-        → others R r us ≡ others R r rs → filter (R r) us ≡ [] → IsGrouped R (gs ++ hs) us
+        → unalike R r us ≡ unalike R r rs → filter (R r) us ≡ [] → IsGrouped R (gs ++ hs) us
     group_gone [] g hs rs us y h p f t e now = let xy = first_passes (R h.0) rs g y h.2 f in
         subst (IsGrouped R hs)
         (sym (rest_here h.0 y rs us xy t e) ∙ filter_rest (R h.0) us (filter_same (R h.0) (R r) (λ q. like h.0 y q xy ∙ sym (like r y q t)) us ∙ now)) h.3
@@ -310,13 +310,13 @@ module _ (R : Ref → Ref → Bool) (A : IsAlike R) where
       h.0,
       h.1,
       class_else h.0 rs us n e ∙ h.2,
-      group_gone gs g hs (others R h.0 rs) (others R h.0 us) y h.3 p.1 f t (rest_else h.0 rs us e)
+      group_gone gs g hs (unalike R h.0 rs) (unalike R h.0 us) y h.3 p.1 f t (rest_else h.0 rs us e)
           (filter_both (R r) (λ q. not (R h.0 q)) us (not_class h.0 n) ∙ now),
     )
 
     -- a group is new
     pub group_new : (gs : List (List Ref)) (g' rs us : List Ref) → IsGrouped R gs rs → ArePassed (R r) gs
-        → others R r us ≡ others R r rs → filter (R r) us ≡ g' → (g' ≡ [] → ⊥) → IsGrouped R (g' ∷ gs) us
+        → unalike R r us ≡ unalike R r rs → filter (R r) us ≡ g' → (g' ≡ [] → ⊥) → IsGrouped R (g' ∷ gs) us
     group_new gs g' rs us h p e now full = (r, full, now, subst (IsGrouped R gs) (sym (e ∙ filter_rest (R r) rs (key_of_none (R r) (of_key_of r) gs rs h p))) h)
 
     -- the group of a node that has one
@@ -332,7 +332,7 @@ module _ (R : Ref → Ref → Bool) (A : IsAlike R) where
           | true ↦ λ e. ([], y ∷ g, gs, y, refl, tt, refl, e)
           | false ↦ λ e.
               let n = unlike h.0 y r (first_passes (R h.0) rs (y ∷ g) y h.2 refl) e in
-              let w = class_found gs (others R h.0 rs) h.3 (λ z. some (sym (filter_both (R r) (λ q. not (R h.0 q)) rs (not_class h.0 n)) ∙ z)) in
+              let w = class_found gs (unalike R h.0 rs) h.3 (λ z. some (sym (filter_both (R r) (λ q. not (R h.0 q)) rs (not_class h.0 n)) ∙ z)) in
               ((y ∷ g) ∷ w.0, w.1, w.2, w.3, ap (λ z. (y ∷ g) ∷ z) w.4, ((y, refl, e), w.5), w.6, w.7)
         ]) refl
 
@@ -350,4 +350,4 @@ module _ (R : Ref → Ref → Bool) (A : IsAlike R) where
         let swapped : filter N (filter (R k.0) rs) ≡ z ∷ w = sym (filter_swap (R k.0) N rs) ∙ k.2 in
         let passes = not_true_is (R h.0 a) (first_passes N (filter (R k.0) rs) (z ∷ w) a swapped e) in
         like r y a t ∙ sym (like h.0 y a (first_passes (R h.0) rs g y h.2 f)) ∙ passes
-    next_unlike (g1 ∷ X) g Y rs y a h f t e = next_unlike X g Y (others R h.0 rs) y a h.3 f t e
+    next_unlike (g1 ∷ X) g Y rs y a h f t e = next_unlike X g Y (unalike R h.0 rs) y a h.3 f t e

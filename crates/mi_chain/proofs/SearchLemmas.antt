@@ -12,7 +12,7 @@ use Rattle.mi_node.proofs.KeepingLemmas.{node_count-least}
 use Rattle.mi_node.proofs.NeighbourLemmas.{linked_left, linked_right, linked_held}
 use Rattle.mi_node.proofs.RefLemmas.{out_left, apart_across, last_push, are_out_tail, are_out_flip}
 use Rattle.mi_chain.specs.Groups.{members, first_in, last_in, AreFull, ArePassed, IsChained, IsChain}
-use Rattle.mi_chain.specs.Places.{is_named, Found, AreNotBelow, IsGap, forth_of, back_of, prev_in}
+use Rattle.mi_chain.specs.Places.{is_named, Found, AreNotBelow, IsGap, forth_of, back_of, prev_in_group}
 use Rattle.mi_chain.specs.Moves.{hops, next_group}
 use Rattle.mi_chain.proofs.CutLemmas.{list_of, chained_right, chained_held, last_held, some_last, last_out, first_in_out, out_of_ys}
 
@@ -178,7 +178,7 @@ module _ {T : Type 0} where
 
   -- one step back in the group that begins with first
   abbrev pub step_back : Pooled T → ℕ → Ref → Ref → Option Ref
-  step_back m s first r = prev_in first r (back_of m s r)
+  step_back m s first r = prev_in_group first r (back_of m s r)
 
   prev_is : (m : Pooled T) (s : ℕ) (first : Ref) (us : List Ref) (r : Ref) (vs : List Ref) (f : Option Ref)
       → IsLinked m s (last_of None (us ++ r ∷ vs)) (us ++ r ∷ vs) f → IsApart (us ++ r ∷ vs)

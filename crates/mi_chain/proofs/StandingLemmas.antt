@@ -11,7 +11,7 @@ use Rattle.mi_node.specs.Refs.{Ref, first_of, last_of, IsOut, IsApart, AreOut}
 use Rattle.mi_node.proofs.EntryLemmas.{same_refl}
 use Rattle.mi_node.proofs.KeepingLemmas.{held_kept}
 use Rattle.mi_node.proofs.RefLemmas.{apart_insert, apart_remove, are_out_cons}
-use Rattle.mi_chain.specs.Groups.{members, others, first_in, ArePassed, IsChained, IsChain, IsGrouped}
+use Rattle.mi_chain.specs.Groups.{members, unalike, first_in, ArePassed, IsChained, IsChain, IsGrouped}
 use Rattle.mi_chain.specs.Places.{Found, IsFirst, AreNotBelow, IsBelowIf}
 use Rattle.mi_chain.specs.Heads.{heads_joined}
 use Rattle.mi_chain.specs.Chained.{AreAfter, AreBefore, IsRising, in_bucket, IsBucket, AreBuckets}
@@ -224,7 +224,7 @@ module _ (R : Ref → Ref → Bool) (A : IsAlike R) (stamp hash : Ref → ℕ) (
       }
 
       -- the nodes of other keys in this bucket are the same
-      pub others_same : others R r (filter (in_bucket hash n mine) (xs ++ r ∷ ys)) ≡ others R r (filter (in_bucket hash n mine) (xs ++ ys))
+      pub others_same : unalike R r (filter (in_bucket hash n mine) (xs ++ r ∷ ys)) ≡ unalike R r (filter (in_bucket hash n mine) (xs ++ ys))
       others_same = let N : Test = λ q. not (R r q) in let J = in_bucket hash n mine in
           filter_swap N J (xs ++ r ∷ ys) ∙ ap (filter J) (filter_without N xs r ys (ap not (A.reflexive r))) ∙ sym (filter_swap N J (xs ++ ys))
 

@@ -32,13 +32,13 @@ ArePassed K [] = Unit {0}
 ArePassed K (g ∷ gs) = ((y : Ref) × (first_of g None ≡ Some y) × (K y ≡ false)) × ArePassed K gs
 
 -- the nodes of rs that are not like x
-abbrev pub others : (Ref → Ref → Bool) → Ref → List Ref → List Ref
-others R x rs = filter (λ q. not (R x q)) rs
+abbrev pub unalike : (Ref → Ref → Bool) → Ref → List Ref → List Ref
+unalike R x rs = filter (λ q. not (R x q)) rs
 
 -- the groups are the nodes of rs, by R: each has all those that are like some x, in the order of rs
 abbrev pub IsGrouped : (Ref → Ref → Bool) → List (List Ref) → List Ref → Type 0
 IsGrouped R [] rs = rs ≡ []
-IsGrouped R (g ∷ gs) rs = (x : Ref) × (g ≡ [] → ⊥) × (filter (R x) rs ≡ g) × IsGrouped R gs (others R x rs)
+IsGrouped R (g ∷ gs) rs = (x : Ref) × (g ≡ [] → ⊥) × (filter (R x) rs ≡ g) × IsGrouped R gs (unalike R x rs)
 
 abbrev pub has_none : List Ref → Bool
 has_none [] = true

@@ -68,8 +68,8 @@ pub record IsGap (stamp : Ref → ℕ) (n : ℕ) (g : List Ref) (prev next : Opt
   pub above : AreNotBelow stamp n vs
 
 -- the node before r in the group that begins with first, where r's link leads back to b
-abbrev pub prev_in : Ref → Ref → Option Ref → Option Ref
-prev_in first r b = cond (r.name == first.name) None b
+abbrev pub prev_in_group : Ref → Ref → Option Ref → Option Ref
+prev_in_group first r b = cond (r.name == first.name) None b
 
 module _ {T : Type 0} where
   abbrev pub forth_of : Pooled T → ℕ → Option Ref → Option Ref

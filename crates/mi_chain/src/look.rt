@@ -29,7 +29,7 @@ pub(crate) struct Gap {
     pub(crate) next: Option<NodeRef>,
 }
 
-ghost use Rattle.mi_chain.specs.Places.{IsFound, IsFirst, IsGap, prev_in, is_empty, end_at, end_beside};
+ghost use Rattle.mi_chain.specs.Places.{IsFound, IsFirst, IsGap, prev_in_group, is_empty, end_at, end_beside};
 
 impl Gap {
     /// Whether no node stands on either side.
@@ -213,7 +213,7 @@ pub(crate) fn gap_for<T>(p: &Pool<T>, slot: usize, first: NodeRef, stamp: u64) -
 
 /// The node before this one in the group that begins at `first`, where its link leads back to `back`.
 fn before(first: NodeRef, node: NodeRef, back: Option<NodeRef>) -> Option<NodeRef>
-    ensures { result ≡ prev_in first node back }
+    ensures { result ≡ prev_in_group first node back }
 {
     if node.name() == first.name() {
         None

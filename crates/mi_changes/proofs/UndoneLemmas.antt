@@ -5,7 +5,7 @@ use Rattle.std.proofs.lemmas.List.{reverse-append}
 use Rattle.mi_value.specs.declared.value.Value.{Value}
 use Rattle.mi_catalog.specs.Shape.{Shape}
 use Rattle.mi_model.specs.Table.{Table}
-use Rattle.mi_container.specs.Data.{Data, IsData, table_of}
+use Rattle.mi_container.specs.Data.{Data, IsData, as_table}
 use Rattle.mi_container.specs.Changes.{opened_data}
 use Rattle.mi_container.specs.Inverse.{Inverse, taken_back, settled}
 use Rattle.mi_container.specs.Fits.{KeptBy, Fits}
@@ -27,14 +27,14 @@ stays schema shape shape' d d' is same was holds =
 pub makes : (schema shape shape' : Shape) (k : Change) (d d' : Data) (i : Inverse) (is : List Inverse) → IsData shape d → shape' ≡ shape
     → Makes shape k d i d' → CanTakeBack schema shape d is → CanTakeBack schema shape' d' (is ++ i ∷ [])
 makes schema shape shape' k d d' i is good same made holds =
-    let fits : Fits shape (inverse_of k d ∷ reverse is) (table_of d ∷ holds.1) (changed k d) =
+    let fits : Fits shape (inverse_of k d ∷ reverse is) (as_table d ∷ holds.1) (changed k d) =
     change_fits shape k (reverse is) holds.1 d good made.allowed holds.2 in
-    let fits' : Fits shape (i ∷ reverse is) (table_of d ∷ holds.1) d' =
-    subst (λ j. Fits shape (j ∷ reverse is) (table_of d ∷ holds.1) d') (sym made.inverse)
-    (subst (λ x. Fits shape (inverse_of k d ∷ reverse is) (table_of d ∷ holds.1) x) (sym made.changed_data) fits) in
-    let fits'' : Fits shape (reverse (is ++ i ∷ [])) (table_of d ∷ holds.1) d' =
-    subst (λ js. Fits shape js (table_of d ∷ holds.1) d') (sym (reverse-append is (i ∷ []))) fits' in
-    let more : CanTakeBack schema shape d' (is ++ i ∷ []) = (holds.0, table_of d ∷ holds.1, fits'') in
+    let fits' : Fits shape (i ∷ reverse is) (as_table d ∷ holds.1) d' =
+    subst (λ j. Fits shape (j ∷ reverse is) (as_table d ∷ holds.1) d') (sym made.inverse)
+    (subst (λ x. Fits shape (inverse_of k d ∷ reverse is) (as_table d ∷ holds.1) x) (sym made.changed_data) fits) in
+    let fits'' : Fits shape (reverse (is ++ i ∷ [])) (as_table d ∷ holds.1) d' =
+    subst (λ js. Fits shape js (as_table d ∷ holds.1) d') (sym (reverse-append is (i ∷ []))) fits' in
+    let more : CanTakeBack schema shape d' (is ++ i ∷ []) = (holds.0, as_table d ∷ holds.1, fits'') in
     subst (λ s. CanTakeBack schema s d' (is ++ i ∷ [])) (sym same) more
 
 pub makes_insert : (schema shape shape' : Shape) (place : Option (ℕ × ℕ)) (row : List Value) (d d' : Data) (i : Inverse) (is : List Inverse) → IsData shape d

@@ -26,17 +26,17 @@ said_of accepted refused (Ok v) = accepted v
 said_of accepted refused (Err e) = refused e
 
 -- a change of a table, whoever holds sessions
-abbrev pub changed : {A : Type 0} → (A → Said) → (Refusal → Said) → Step A → HeldDatabase → Said × HeldDatabase
-changed accepted refused step s = (said_of accepted refused step.0, record { database = step.1; holder = s.holder })
+abbrev pub altered : {A : Type 0} → (A → Said) → (Refusal → Said) → Step A → HeldDatabase → Said × HeldDatabase
+altered accepted refused step s = (said_of accepted refused step.0, record { database = step.1; holder = s.holder })
 
 -- a change that answers nothing but that it is done
 abbrev pub all_done : Unit {0} → Said
 all_done u = say.done
 
 -- the holder moves where the step is accepted
-abbrev pub moved : Result ℕ Refusal → (Option Holder → Option Holder) → Option Holder → Option Holder
-moved (Ok n) move h = move h
-moved (Err e) move h = h
+abbrev pub holder_after : Result ℕ Refusal → (Option Holder → Option Holder) → Option Holder → Option Holder
+holder_after (Ok n) move h = move h
+holder_after (Err e) move h = h
 
 -- the one refusal of an undo and of a squash
 abbrev pub or_session : Result ℕ NoSession → Result ℕ Refusal
@@ -45,7 +45,7 @@ or_session (Err none) = Err Session
 
 -- a session step that says the new revision
 abbrev pub revised : Result ℕ Refusal → Database → (Option Holder → Option Holder) → HeldDatabase → Said × HeldDatabase
-revised answer left move s = (said_of say.revised (say.refused 0) answer, record { database = left; holder = moved answer move s.holder })
+revised answer left move s = (said_of say.revised (say.refused 0) answer, record { database = left; holder = holder_after answer move s.holder })
 
 abbrev pub start_session : HeldDatabase → ℕ → Said × HeldDatabase
 start_session s conn = let step = start_step s.database in revised step.0 step.1 (one_more conn) s
@@ -113,12 +113,12 @@ asked s table look_up = look_up (schema_of s.database table) (table_of s.databas
 
 -- a command, done by a connection that nobody keeps out
 abbrev pub performed : HeldDatabase → ℕ → Command → Said × HeldDatabase
-performed s conn (command.Insert table row before) = changed say.inserted (say.refused table) (insert_step table before row s.database) s
-performed s conn (command.Replace table id row) = changed all_done (say.refused table) (replace_step table id row s.database) s
-performed s conn (command.Modify table id edits rollback) = changed all_done (say.refused_modify table) (modify_step table id edits rollback s.database) s
-performed s conn (command.Erase table id) = changed all_done (say.refused table) (erase_step table id s.database) s
-performed s conn (command.EraseKey table index key) = changed say.erased (say.refused table) (erase_key_step table index key s.database) s
-performed s conn (command.Relocate table index id before) = changed all_done (say.refused table) (relocate_step table index id before s.database) s
+performed s conn (command.Insert table row before) = altered say.inserted (say.refused table) (insert_step table before row s.database) s
+performed s conn (command.Replace table id row) = altered all_done (say.refused table) (replace_step table id row s.database) s
+performed s conn (command.Modify table id edits rollback) = altered all_done (say.refused_modify table) (modify_step table id edits rollback s.database) s
+performed s conn (command.Erase table id) = altered all_done (say.refused table) (erase_step table id s.database) s
+performed s conn (command.EraseKey table index key) = altered say.erased (say.refused table) (erase_key_step table index key s.database) s
+performed s conn (command.Relocate table index id before) = altered all_done (say.refused table) (relocate_step table index id before s.database) s
 performed s conn command.Start = start_session s conn
 performed s conn command.Undo = undo_session s
 performed s conn command.Squash = squash_session s

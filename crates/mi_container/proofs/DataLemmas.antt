@@ -18,7 +18,7 @@ use Rattle.mi_model.proofs.TableLaws.{is_table_insert, is_table_erase, is_table_
 use Rattle.mi_model.proofs.UniqueLaws.{unique_insert, unique_put, unique_erase}
 use Rattle.mi_node.specs.Refs.{Ref}
 use Rattle.mi_container.specs.Data.{Content, Node, Order, Data, parts_of, has_stamps, node_of, content_in}
-use Rattle.mi_container.specs.Data.{content_of, stamp_of, table_of, KindFits, KindsFit, StampsFit, IsData}
+use Rattle.mi_container.specs.Data.{content_of, stamp_of, as_table, KindFits, KindsFit, StampsFit, IsData}
 use Rattle.mi_container.specs.Data.Order.{ById, ByKey, ByHash, Listed}
 use Rattle.mi_container.specs.Changes.{left_out, with_content, new_content, in_order, new_stamp, new_node, orders_with}
 use Rattle.mi_container.specs.Changes.{inserted, replaced, kept_node, erased_node, erased, moved_order, relocated_in}
@@ -78,7 +78,7 @@ pushed e m rows a n none is =
 
 pub is_data_inserted : (s : Shape) (p : Option (ℕ × ℕ)) (at : Ref) (r : List Value) (d : Data)
     → IsData s d → PlaceFits p d.orders → id_named at.name d.rows ≡ None
-    → conflict s (table_of d) r None ≡ None → IsData s (inserted p at r d)
+    → conflict s (as_table d) r None ≡ None → IsData s (inserted p at r d)
 is_data_inserted s p at r d is fits new_name none_refuses =
     let m : Node = new_node at r d in
     let none : node_of d.rows d.next ≡ None = no_next s d is in
@@ -88,8 +88,8 @@ is_data_inserted s p at r d is fits new_name none_refuses =
     let mine : (n : Node) (x : ℕ) → m ≡ n → has_stamps (get_or d.orders x ById) ≡ true → get_or n.content.stamps x 0 ≡ d.arrivals =
     λ n x new h. ap (λ (q : Node). get_or q.content.stamps x 0) (sym new) ∙ new_at d.arrivals d.orders x h in
     record {
-      table = subst (IsTable s) (sym table) (is_table_insert s p r (table_of d) is.table);
-      unique_keys = subst (HasUniqueKeys s) (sym table) (unique_insert s p r (table_of d) is.table is.unique_keys none_refuses);
+      table = subst (IsTable s) (sym table) (is_table_insert s p r (as_table d) is.table);
+      unique_keys = subst (HasUniqueKeys s) (sym table) (unique_insert s p r (as_table d) is.table is.unique_keys none_refuses);
       kinds = kinds_with s.indexes p d.next d.orders is.kinds;
       stamped = λ e n h.
           elim (pushed d.next m d.rows e n none h) [
@@ -165,7 +165,7 @@ put_apart s e r d is there b m x here has_ same =
     ]
 
 pub is_data_replaced : (s : Shape) (e : ℕ) (r : List Value) (d : Data) → IsData s d
-    → IsThere d.rows e → conflict s (table_of d) r (Some e) ≡ None → IsData s (replaced e r d)
+    → IsThere d.rows e → conflict s (as_table d) r (Some e) ≡ None → IsData s (replaced e r d)
 is_data_replaced s e r d is there none_refuses =
     let was : Content = content_of d.rows e in
     let c : Content = new_content d.orders r d.arrivals was in
@@ -173,8 +173,8 @@ is_data_replaced s e r d is there none_refuses =
     let old_fit : StampsFit d.arrivals d.orders was.stamps = subst
     (λ o. StampsFit d.arrivals d.orders (content_in o).stamps) (sym there.1) (is.stamped e there.0 there.1) in
     record {
-      table = subst (IsTable s) (sym table) (is_table_put s e r (table_of d) (has_there d e there) is.table);
-      unique_keys = subst (HasUniqueKeys s) (sym table) (unique_put s e r (table_of d) (has_there d e there) is.unique_keys none_refuses);
+      table = subst (IsTable s) (sym table) (is_table_put s e r (as_table d) (has_there d e there) is.table);
+      unique_keys = subst (HasUniqueKeys s) (sym table) (unique_put s e r (as_table d) (has_there d e there) is.unique_keys none_refuses);
       kinds = is.kinds;
       stamped = λ a n h.
           elim (put_in e c d.rows a n there h) [
@@ -214,7 +214,7 @@ left_in e rows a n is =
     ]
 
 erased_data : (s : Shape) (e : ℕ) (d : Data) (is : IsData s d) (n : Node) → node_of d.rows e ≡ Some n
-    → IsTable s (table_of (erased_node e (Some n) d)) → HasUniqueKeys s (table_of (erased_node e (Some n) d))
+    → IsTable s (as_table (erased_node e (Some n) d)) → HasUniqueKeys s (as_table (erased_node e (Some n) d))
     → IsData s (erased_node e (Some n) d)
 erased_data s e d is n here table keys =
     let has_was : (x : ℕ) → has_stamps (get_or (map (in_order (without e)) d.orders) x ById) ≡ true
@@ -237,11 +237,11 @@ erased_data s e d is n here table keys =
 pub is_data_erased : (s : Shape) (e : ℕ) (d : Data) → IsData s d → IsThere d.rows e → IsData s (erased e d)
 is_data_erased s e d is there =
     let same = table_erased e d there in
-    let table : IsTable s (table_of (erased e d)) = subst (IsTable s) (sym same) (is_table_erase s e (table_of d) is.table) in
-    let keys : HasUniqueKeys s (table_of (erased e d)) = subst (HasUniqueKeys s) (sym same) (unique_erase s e (table_of d) is.unique_keys) in
+    let table : IsTable s (as_table (erased e d)) = subst (IsTable s) (sym same) (is_table_erase s e (as_table d) is.table) in
+    let keys : HasUniqueKeys s (as_table (erased e d)) = subst (HasUniqueKeys s) (sym same) (unique_erase s e (as_table d) is.unique_keys) in
     subst (λ o. IsData s (erased_node e o d)) (sym there.1)
-    (erased_data s e d is there.0 there.1 (subst (λ o. IsTable s (table_of (erased_node e o d))) there.1 table)
-    (subst (λ o. HasUniqueKeys s (table_of (erased_node e o d))) there.1 keys))
+    (erased_data s e d is there.0 there.1 (subst (λ o. IsTable s (as_table (erased_node e o d))) there.1 table)
+    (subst (λ o. HasUniqueKeys s (as_table (erased_node e o d))) there.1 keys))
 
 -- Relocate
 
@@ -249,7 +249,7 @@ pub is_data_relocated : (s : Shape) (x e : ℕ) (b : Option ℕ) (d : Data) → 
     → IsThere d.rows e → HasOwnList (get_or d.orders x ById) → IsData s (relocated_in x e b d)
 is_data_relocated s x e b d is there l =
     record {
-      table = subst (IsTable s) (sym (table_relocated x e b d l)) (is_table_relocate s x e b (table_of d) (has_there d e there) is.table);
+      table = subst (IsTable s) (sym (table_relocated x e b d l)) (is_table_relocate s x e b (as_table d) (has_there d e there) is.table);
       unique_keys = is.unique_keys;
       kinds = kinds_moved s.indexes (relocated b e) d.orders x is.kinds;
       stamped = λ a n h. fits_moved d.arrivals (relocated b e) d.orders x n.content.stamps (is.stamped a n h);

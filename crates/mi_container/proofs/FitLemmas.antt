@@ -8,9 +8,9 @@ use Rattle.std.specs.declared.option.Option.{Option}
 use Rattle.std.specs.declared.option.Option.TheVariants.{None, Some}
 use Rattle.mi_catalog.specs.Shape.{Shape}
 use Rattle.mi_model.specs.Table.{Table, times}
-use Rattle.mi_container.specs.Data.{Kept, Data, node_of, kept_of, table_of, IsData}
+use Rattle.mi_container.specs.Data.{Kept, Data, node_of, kept_of, as_table, IsData}
 use Rattle.mi_container.specs.Changes.{left_out, entered}
-use Rattle.mi_container.specs.Inverse.{RowRef, Inverse, keeps, relinked, returned, taken_back, settled}
+use Rattle.mi_container.specs.Inverse.{RowRef, Inverse, keeps, relinked, row_returned, taken_back, settled}
 use Rattle.mi_container.specs.Inverse.Inverse.{Inserted, Put, Erased, Relocated, Nothing}
 use Rattle.mi_container.specs.Fits.{IsNot, IsLive, IsKept, Ready, Fits, Unnamed, KeptBy, kept_id, kept_ids}
 use Rattle.mi_container.proofs.PairLemmas.{none_some, lookup_out, lookup_out_same, out_swap, climbs_out}
@@ -27,7 +27,7 @@ DifferFrom (Some e) j = IsNot e (keeps j)
 abbrev pub Differ : Inverse → Inverse → Type 0
 Differ f j = DifferFrom (keeps f) j
 
-freed_returned : (e a : ℕ) (d : Data) (o : Option Kept) → returned a o (freed e d) ≡ freed e (returned a o d)
+freed_returned : (e a : ℕ) (d : Data) (o : Option Kept) → row_returned a o (freed e d) ≡ freed e (row_returned a o d)
 freed_returned e a d None = refl
 freed_returned e a d (Some k) =
     let kept : left_out a (left_out e d.kept) ≡ left_out e (left_out a d.kept) = out_swap a e d.kept in
@@ -36,7 +36,7 @@ freed_returned e a d (Some k) =
 freed_back : (e : ℕ) (j : Inverse) (d : Data) → IsNot e (keeps j) → taken_back j (freed e d) ≡ freed e (taken_back j d)
 freed_back e (Inserted r) d other = refl
 freed_back e (Put r old) d other = refl
-freed_back e (Erased r why) d other = ap (λ o. returned r.id o (freed e d)) (lookup_out r.id e d.kept other) ∙ freed_returned e r.id d (kept_of d.kept r.id)
+freed_back e (Erased r why) d other = ap (λ o. row_returned r.id o (freed e d)) (lookup_out r.id e d.kept other) ∙ freed_returned e r.id d (kept_of d.kept r.id)
 freed_back e (Relocated x r b) d other = refl
 freed_back e Nothing d other = refl
 
@@ -92,7 +92,7 @@ settled_data s (Relocated x e b) d is = is
 settled_data s Nothing d is = is
 
 -- and the table
-pub settled_table : (f : Inverse) (d : Data) → table_of (settled f d) ≡ table_of d
+pub settled_table : (f : Inverse) (d : Data) → as_table (settled f d) ≡ as_table d
 settled_table (Inserted e) d = refl
 settled_table (Put e c) d = refl
 settled_table (Erased e why) d = refl
@@ -101,7 +101,7 @@ settled_table Nothing d = refl
 
 -- what is kept after an inverse is taken back was kept before, and not by it
 returned_later : (a e : ℕ) (d : Data) (k : Kept) (o : Option Kept) → kept_of d.kept a ≡ o
-    → kept_of (returned a o d).kept e ≡ Some k → (a ≢ e) × (kept_of d.kept e ≡ Some k)
+    → kept_of (row_returned a o d).kept e ≡ Some k → (a ≢ e) × (kept_of d.kept e ≡ Some k)
 returned_later a e d k None was is = (λ same. none_some (sym was ∙ subst (λ q. kept_of d.kept q ≡ Some k) (sym same) is), is)
 returned_later a e d k (Some m) was is = let h : (e ≢ a) × (kept_of d.kept e ≡ Some k) = kept_still a e d.kept k is in (λ same. h.0 (sym same), h.1)
 
@@ -139,7 +139,7 @@ keeps_still s f (j ∷ later) older (t ∷ ts) d fits = (differs f j d (keeps_st
 none_kept : (f : Inverse) (d : Data) → Ready f d → (taken_back f d).kept ≡ [] → (settled f d).kept ≡ []
 none_kept (Inserted a) d r none = none
 none_kept (Put a old) d r none = none
-none_kept (Erased a why) d r none = ap (λ o. (returned a.id o d).kept) (sym r.0.1) ∙ none
+none_kept (Erased a why) d r none = ap (λ o. (row_returned a.id o d).kept) (sym r.0.1) ∙ none
 none_kept (Relocated x a b) d r none = none
 none_kept Nothing d r none = none
 
@@ -150,8 +150,8 @@ settled_none = none_kept
 
 -- a change extends a fitting list by its inverse, with the table before
 pub fits_more : (s : Shape) (i : Inverse) (is : List Inverse) (ts : List Table) (before after : Data)
-    → Ready i after → taken_back i after ≡ before → IsData s before → Fits s is ts before → Fits s (i ∷ is) (table_of before ∷ ts) after
-fits_more s i is ts before after ready back is_data fits = (ready, subst (IsData s) (sym back) is_data, ap table_of back, subst (Fits s is ts) (sym back) fits)
+    → Ready i after → taken_back i after ≡ before → IsData s before → Fits s is ts before → Fits s (i ∷ is) (as_table before ∷ ts) after
+fits_more s i is ts before after ready back is_data fits = (ready, subst (IsData s) (sym back) is_data, ap as_table back, subst (Fits s is ts) (sym back) fits)
 
 -- the oldest settled keeps the table, and the rest fits
 pub fits_settled : (s : Shape) (f : Inverse) (is : List Inverse) (t : Table) (ts : List Table) (d : Data)
@@ -166,7 +166,7 @@ fits_settled s f (j ∷ is) t (u ∷ ts) d fits =
     let swap : taken_back j (settled f d) ≡ settled f (taken_back j d) = settled_back f j d differ in (
       settled_ready f j d differ fits.0,
       subst (IsData s) (sym swap) (settled_data s f (taken_back j d) fits.1),
-      ap table_of swap ∙ settled_table f (taken_back j d) ∙ fits.2,
+      ap as_table swap ∙ settled_table f (taken_back j d) ∙ fits.2,
       subst (Fits s is ts) (sym swap) (fits_settled s f is t ts (taken_back j d) fits.3),
     )
 
@@ -206,7 +206,7 @@ held_back (Inserted e) d a r = omega arith
 held_back (Put e c) d a r = omega arith
 held_back (Erased q why) d a r =
     let e : ℕ = q.id in
-    let back : held (taken_back (Erased q why) d) a ≡ cond (is_some (kept_of (left_out e d.kept) a)) 1 0 = ap (λ o. held (returned e o d) a) r.0.1 in
+    let back : held (taken_back (Erased q why) d) a ≡ cond (is_some (kept_of (left_out e d.kept) a)) 1 0 = ap (λ o. held (row_returned e o d) a) r.0.1 in
     elim (eqb_tells e a) [
       | inl same ↦
           let one : cond {A = ℕ} (e == a) 1 0 ≡ 1 = ap (λ b. cond {A = ℕ} b 1 0) same.0 in

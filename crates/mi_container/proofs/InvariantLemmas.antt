@@ -12,18 +12,18 @@ use Rattle.mi_model.specs.Table.{Table, times, has, Rise, ListsEach}
 use Rattle.mi_model.proofs.SortLaws.{both_ways}
 use Rattle.mi_model.proofs.ViewLaws.{Lacks}
 use Rattle.mi_container.specs.Data.{Node, Kept, Order, Data, has_stamps, node_of, kept_of, content_in}
-use Rattle.mi_container.specs.Data.{content_of, stamp_of, shown_row, lists_from, table_of, Climbs, IsData}
+use Rattle.mi_container.specs.Data.{content_of, stamp_of, plain_row, lists_from, as_table, Climbs, IsData}
 use Rattle.mi_container.specs.Data.Order.{ById, ByKey, ByHash, Listed}
 use Rattle.mi_container.specs.Fits.{IsThere}
 use Rattle.mi_container.proofs.PairLemmas.{is_itself, none_some, climbs_none}
 use Rattle.mi_container.proofs.StampLemmas.{fits_length, fits_early}
 use Rattle.mi_container.proofs.SequenceLemmas.{Once, once_of_times, lacks_of_times, OfLists, of_lists, Stands}
 
-above_rows : (e : ℕ) (rows : List (ℕ × Node)) → AllByRecursion (λ (q : Row). e < q.0) (map shown_row rows) → AllByRecursion (λ (q : ℕ × Node). e < q.0) rows
+above_rows : (e : ℕ) (rows : List (ℕ × Node)) → AllByRecursion (λ (q : Row). e < q.0) (map plain_row rows) → AllByRecursion (λ (q : ℕ × Node). e < q.0) rows
 above_rows e [] all = tt
 above_rows e (r ∷ rows) all = (all.0, above_rows e rows all.1)
 
-climbs_of_rise : (next : ℕ) (rows : List (ℕ × Node)) → Rise next (map shown_row rows) → Climbs next rows
+climbs_of_rise : (next : ℕ) (rows : List (ℕ × Node)) → Rise next (map plain_row rows) → Climbs next rows
 climbs_of_rise next [] up = tt
 climbs_of_rise next (r ∷ rows) up = (up.0, above_rows r.0 rows up.1, climbs_of_rise next rows up.2)
 
@@ -35,16 +35,16 @@ pub no_next : (s : Shape) (d : Data) → IsData s d → node_of d.rows d.next �
 no_next s d is = climbs_none d.next d.next d.rows (rows_climb s d is) (omega arith)
 
 -- the record of a live id is that of its node
-pub lookup_shown : (e : ℕ) (rows : List (ℕ × Node)) → lookup (λ k. k == e) (map shown_row rows) ≡ option_map (λ (n : Node). n.content.values) (node_of rows e)
+pub lookup_shown : (e : ℕ) (rows : List (ℕ × Node)) → lookup (λ k. k == e) (map plain_row rows) ≡ option_map (λ (n : Node). n.content.values) (node_of rows e)
 lookup_shown e [] = refl
 lookup_shown e (r ∷ rows) =
     both_ways (r.0 == e)
-    (λ yes. ap (λ b. cond b (Some r.1.content.values) (lookup (λ k. k == e) (map shown_row rows))) yes
+    (λ yes. ap (λ b. cond b (Some r.1.content.values) (lookup (λ k. k == e) (map plain_row rows))) yes
     ∙ sym (ap (λ b. option_map (λ (n : Node). n.content.values) (cond b (Some r.1) (node_of rows e))) yes))
-    (λ isnt. ap (λ b. cond b (Some r.1.content.values) (lookup (λ k. k == e) (map shown_row rows))) isnt ∙ lookup_shown e rows
+    (λ isnt. ap (λ b. cond b (Some r.1.content.values) (lookup (λ k. k == e) (map plain_row rows))) isnt ∙ lookup_shown e rows
     ∙ sym (ap (λ b. option_map (λ (n : Node). n.content.values) (cond b (Some r.1) (node_of rows e))) isnt))
 
-pub has_there : (d : Data) (e : ℕ) → IsThere d.rows e → has (table_of d) e ≡ true
+pub has_there : (d : Data) (e : ℕ) → IsThere d.rows e → has (as_table d) e ≡ true
 has_there d e there = ap is_some (lookup_shown e d.rows ∙ ap (option_map (λ (n : Node). n.content.values)) there.1)
 
 there_of : (rows : List (ℕ × Node)) (e : ℕ) (o : Option Node) → node_of rows e ≡ o
@@ -52,7 +52,7 @@ there_of : (rows : List (ℕ × Node)) (e : ℕ) (o : Option Node) → node_of r
 there_of rows e None is h = absurd (cc)
 there_of rows e (Some n) is h = (n, is)
 
-pub there_has : (d : Data) (e : ℕ) → has (table_of d) e ≡ true → IsThere d.rows e
+pub there_has : (d : Data) (e : ℕ) → has (as_table d) e ≡ true → IsThere d.rows e
 there_has d e h = there_of d.rows e (node_of d.rows e) refl (sym (ap is_some (lookup_shown e d.rows)) ∙ h)
 
 -- a claim on each id that stands in a list
@@ -63,10 +63,10 @@ all_standing P (a ∷ ids) f = (
   all_standing P ids (λ b l. f b (omega arith)),
 )
 
-pub each_there : (d : Data) (ids : List ℕ) → ListsEach (table_of d) ids → AllByRecursion (IsThere d.rows) ids
+pub each_there : (d : Data) (ids : List ℕ) → ListsEach (as_table d) ids → AllByRecursion (IsThere d.rows) ids
 each_there d ids each =
     all_standing (IsThere d.rows) ids (λ a l.
-    both_ways (has (table_of d) a)
+    both_ways (has (as_table d) a)
     (λ yes. there_has d a yes)
     (λ isnt. absurd (let n : times a ids ≡ 0 = each a ∙ ap (λ b. cond {A = ℕ} b 1 0) isnt in omega arith)))
 
@@ -74,10 +74,10 @@ pub each_once : (t : Table) (ids : List ℕ) → ListsEach t ids → Once ids
 each_once t ids each =
     once_of_times ids (λ id. subst (λ n. n ≤ 1) (sym (each id)) (elim (has t id) as (λ b. cond {A = ℕ} b 1 0 ≤ 1) [ true ↦ omega arith | false ↦ omega arith ]))
 
-stands_of : (d : Data) (e : ℕ) (ids : List ℕ) → IsThere d.rows e → ListsEach (table_of d) ids → Stands d.rows e ids
+stands_of : (d : Data) (e : ℕ) (ids : List ℕ) → IsThere d.rows e → ListsEach (as_table d) ids → Stands d.rows e ids
 stands_of d e ids there each = (
   each_there d ids each,
-  each_once (table_of d) ids each,
+  each_once (as_table d) ids each,
   (let n : times e ids ≡ 1 = each e ∙ ap (λ b. cond {A = ℕ} b 1 0) (has_there d e there) in omega arith),
 )
 
@@ -89,11 +89,11 @@ each_listed t x rows (ByHash ps ∷ os) all = (tt, each_listed t (suc x) rows os
 each_listed t x rows (Listed ids ∷ os) all = (all.0, each_listed t (suc x) rows os all.1)
 
 -- each index's own list has each live id once
-lists_each : (s : Shape) (d : Data) → IsData s d → OfLists (ListsEach (table_of d)) d.orders
-lists_each s d is = each_listed (table_of d) 0 d.rows d.orders is.table.complete
+lists_each : (s : Shape) (d : Data) → IsData s d → OfLists (ListsEach (as_table d)) d.orders
+lists_each s d is = each_listed (as_table d) 0 d.rows d.orders is.table.complete
 
 pub lists_stand : (s : Shape) (e : ℕ) (d : Data) → IsData s d → IsThere d.rows e → OfLists (Stands d.rows e) d.orders
-lists_stand s e d is there = of_lists (ListsEach (table_of d)) (Stands d.rows e) (λ ids each. stands_of d e ids there each) d.orders (lists_each s d is)
+lists_stand s e d is there = of_lists (ListsEach (as_table d)) (Stands d.rows e) (λ ids each. stands_of d e ids there each) d.orders (lists_each s d is)
 
 all_lists : {P Q : List ℕ → Type 0} → ((ids : List ℕ) → P ids → Q ids) → (lists : List (List ℕ)) → AllByRecursion P lists → AllByRecursion Q lists
 all_lists f [] all = tt
@@ -101,17 +101,17 @@ all_lists f (ids ∷ lists) all = (f ids all.0, all_lists f lists all.1)
 
 -- so has the list of every index
 pub all_stand : (s : Shape) (e : ℕ) (d : Data) → IsData s d → IsThere d.rows e → AllByRecursion (Stands d.rows e) (lists_from 0 d.rows d.orders)
-all_stand s e d is there = all_lists {P = ListsEach (table_of d)} {Q = Stands d.rows e}
+all_stand s e d is there = all_lists {P = ListsEach (as_table d)} {Q = Stands d.rows e}
     (λ ids each. stands_of d e ids there each) (lists_from 0 d.rows d.orders) is.table.complete
 
-lacks_next : (s : Shape) (d : Data) → IsData s d → (ids : List ℕ) → ListsEach (table_of d) ids → Lacks d.next ids
+lacks_next : (s : Shape) (d : Data) → IsData s d → (ids : List ℕ) → ListsEach (as_table d) ids → Lacks d.next ids
 lacks_next s d is ids each =
     lacks_of_times d.next ids (each d.next
     ∙ ap (λ o. cond {A = ℕ} (is_some o) 1 0) (lookup_shown d.next d.rows ∙ ap (option_map (λ (n : Node). n.content.values)) (no_next s d is)))
 
 -- and the next id not at all
 pub lists_lack : (s : Shape) (d : Data) → IsData s d → OfLists (Lacks d.next) d.orders
-lists_lack s d is = of_lists (ListsEach (table_of d)) (Lacks d.next) (lacks_next s d is) d.orders (lists_each s d is)
+lists_lack s d is = of_lists (ListsEach (as_table d)) (Lacks d.next) (lacks_next s d is) d.orders (lists_each s d is)
 
 -- a live id isn't kept
 not_kept : (s : Shape) (d : Data) → IsData s d → (e : ℕ) → IsThere d.rows e → (o : Option Kept) → kept_of d.kept e ≡ o → o ≡ None

@@ -16,8 +16,8 @@ use Rattle.mi_container.specs.Data.{Content, Node, Order, Data, parts_of, node_o
 use Rattle.mi_container.specs.Data.Order.{ById, ByKey, ByHash, Listed}
 use Rattle.mi_container.specs.Changes.{entered, left_out, with_content, restamped, new_content, in_order, new_node, orders_with, inserted}
 use Rattle.mi_container.specs.Changes.{replaced, next_in, link_in, links_from, kept_node, erased_node, erased, moved_order, relocated_in}
-use Rattle.mi_container.specs.Inverse.{RowRef, at_in, row_ref, insert_inverse, old_places, old_of, old_content, put_inverse, erase_inverse}
-use Rattle.mi_container.specs.Inverse.{next_in_order, moved_back, relocate_inverse, relinked, returned, stamps_back, taken_back}
+use Rattle.mi_container.specs.Inverse.{RowRef, at_in, row_ref, insert_inverse, old_places, old_record, old_content, put_inverse, erase_inverse}
+use Rattle.mi_container.specs.Inverse.{next_in_order, moved_back, relocate_inverse, relinked, row_returned, stamps_back, taken_back}
 use Rattle.mi_container.specs.Inverse.Inverse.{Nothing}
 use Rattle.mi_container.specs.Fits.{IsNot, IsThere, IsLive, IsOther, HasOwnList, AllMeet, PlacesMeet, Ready}
 use Rattle.mi_container.proofs.PairLemmas.{lookup_push_same, lookup_entered_same, out_push, out_entered, entered_back}
@@ -73,9 +73,9 @@ put_back s e r d there =
     let now : content_of (with_content e c d.rows) e ≡ c = ap content_in (node_with e c d.rows there.0 there.1) in
     let stamps : stamps_back (old_places 0 d.rows e was.values r d.orders was.stamps) c.stamps
     ≡ was.stamps = stamps_again 0 d.rows e was.values r d.arrivals d.orders was.stamps in
-    let content : old_content (old_of e r was d) (content_of (with_content e c d.rows) e) ≡ was =
-    ap (old_content (old_of e r was d)) now ∙ (λ i. record { values = was.values; stamps = stamps i }) in
-    let rows : with_content e (old_content (old_of e r was d) (content_of (with_content e c d.rows) e)) (with_content e c d.rows) ≡ d.rows =
+    let content : old_content (old_record e r was d) (content_of (with_content e c d.rows) e) ≡ was =
+    ap (old_content (old_record e r was d)) now ∙ (λ i. record { values = was.values; stamps = stamps i }) in
+    let rows : with_content e (old_content (old_record e r was d) (content_of (with_content e c d.rows) e)) (with_content e c d.rows) ≡ d.rows =
     ap (λ q. with_content e q (with_content e c d.rows)) content ∙ content_back e c d.rows in
     let arrivals : d.arrivals + 1 - 1 ≡ d.arrivals = omega arith in
     λ i. record { rows = rows i; orders = d.orders; next = d.next; arrivals = arrivals i; kept = d.kept }
@@ -127,7 +127,7 @@ erase_back s e why d is there =
     relinked_back 0 d.rows e d.orders (names_out e d.rows is.names) (lists_stand s e d is there) in
     let kept : left_out e (entered e (kept_node e n d) d.kept) ≡ d.kept = out_entered e (kept_node e n d) d.kept (unkept s e d is there) in
     ap (λ o. taken_back (erase_inverse e why d) (erased_node e o d)) there.1
-    ∙ ap (λ o. returned e o (erased_node e (Some n) d)) (kept_there s e n d is there.1)
+    ∙ ap (λ o. row_returned e o (erased_node e (Some n) d)) (kept_there s e n d is there.1)
     ∙ (λ i. record { rows = rows i; orders = orders i; next = d.next; arrivals = d.arrivals; kept = kept i })
 
 pub erase_ready : (s : Shape) (e : ℕ) (why : Option (ℕ × ℕ)) (d : Data) → IsData s d → IsThere d.rows e → Ready (erase_inverse e why d) (erased e d)

@@ -12,7 +12,7 @@ use Rattle.mi_catalog.specs.Shape.{Shape}
 use Rattle.mi_catalog.specs.Rules.{keeps_kind, is_declared_index, are_indexes, is_schema}
 use Rattle.mi_model.specs.Table.{IsTable, opened}
 use Rattle.mi_model.proofs.TableLaws.{is_table_opened}
-use Rattle.mi_container.specs.Data.{listed, lists_from, table_of, KindFits, KindsFit, IsData}
+use Rattle.mi_container.specs.Data.{listed, lists_from, as_table, KindFits, KindsFit, IsData}
 use Rattle.mi_container.specs.Changes.{order_for, opened_data}
 use Rattle.mi_container.proofs.PairLemmas.{none_some}
 
@@ -66,7 +66,7 @@ opened_lists (i ∷ is) x =
     let rest : lists_from (suc x) [] (map (λ (i : Index). order_for i.kind i.parts) is) ≡ map (λ _. []) is = opened_lists is (suc x) in
     λ k. here k ∷ rest k
 
-pub table_opened : (s : Shape) → table_of (opened_data s) ≡ opened s
+pub table_opened : (s : Shape) → as_table (opened_data s) ≡ opened s
 table_opened s = let lists = opened_lists s.indexes 0 in λ i. record { rows = []; lists = lists i; next = s.first_id; arrivals = s.first_arrival }
 
 pub is_data_opened : (s : Shape) → is_schema s ≡ true → IsData s (opened_data s)

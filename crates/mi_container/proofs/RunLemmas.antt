@@ -2,10 +2,10 @@
 use Rattle.std.proofs.Common.{◌≡◌, List, [], ◌∷◌, ◌++◌, refl, ap, ◌∙◌}
 use Rattle.mi_catalog.specs.Shape.{Shape}
 use Rattle.mi_model.specs.Table.{Table}
-use Rattle.mi_container.specs.Data.{Data, table_of, IsData}
+use Rattle.mi_container.specs.Data.{Data, as_table, IsData}
 use Rattle.mi_container.specs.Inverse.{Inverse, taken_back}
 use Rattle.mi_container.specs.Fits.{Ready, Fits}
-use Rattle.mi_container.specs.Run.{Change, changed, inverse_of, table_changed, Allowed, run, inverses, all_back, table_run}
+use Rattle.mi_container.specs.Run.{Change, changed, inverse_of, table_changed, Allowed, after_changes, inverses, all_back, table_run}
 use Rattle.mi_container.specs.Laws.{RunsUnwind}
 use Rattle.mi_container.specs.Run.Change.{Insert, Replace, Erase, Relocate}
 use Rattle.mi_container.proofs.InverseLemmas.{insert_back, insert_ready, put_back, put_ready, erase_back, erase_ready, relocate_back, relocate_ready}
@@ -27,7 +27,7 @@ change_ready s (Replace e r) d is a = put_ready s e r d is a.0
 change_ready s (Erase e why) d is a = erase_ready s e why d is a
 change_ready s (Relocate x e b) d is a = relocate_ready s x e b d is a.0 a.1
 
-pub change_table : (s : Shape) (c : Change) (d : Data) → IsData s d → Allowed s c d → table_of (changed c d) ≡ table_changed s c (table_of d)
+pub change_table : (s : Shape) (c : Change) (d : Data) → IsData s d → Allowed s c d → as_table (changed c d) ≡ table_changed s c (as_table d)
 change_table s (Insert p at r) d is a = table_inserted s p at r d is a.0
 change_table s (Replace e r) d is a = table_replaced s e r d is a.0
 change_table s (Erase e why) d is a = table_erased e d a
@@ -41,7 +41,7 @@ change_data s (Relocate x e b) d is a = is_data_relocated s x e b d is a.0 a.1
 
 -- a change extends a fitting list by its inverse, with the table before
 pub change_fits : (s : Shape) (c : Change) (is : List Inverse) (ts : List Table) (d : Data) → IsData s d
-    → Allowed s c d → Fits s is ts d → Fits s (inverse_of c d ∷ is) (table_of d ∷ ts) (changed c d)
+    → Allowed s c d → Fits s is ts d → Fits s (inverse_of c d ∷ is) (as_table d ∷ ts) (changed c d)
 change_fits s c is ts d holds a fits = fits_more s (inverse_of c d) is ts d (changed c d) (change_ready s c d holds a) (change_back s c d holds a) holds fits
 
 back-append : (is js : List Inverse) (d : Data) → all_back (is ++ js) d ≡ all_back js (all_back is d)
@@ -54,5 +54,6 @@ runs_unwind s (c ∷ cs) d is a =
     let h = runs_unwind s cs (changed c d) (change_data s c d is a.0) a.1 in (
       h.0,
       h.1 ∙ ap (table_run s cs) (change_table s c d is a.0),
-      back-append (inverses cs (changed c d)) (inverse_of c d ∷ []) (run cs (changed c d)) ∙ ap (taken_back (inverse_of c d)) h.2 ∙ change_back s c d is a.0,
+      back-append (inverses cs (changed c d)) (inverse_of c d ∷ []) (after_changes cs (changed c d))
+      ∙ ap (taken_back (inverse_of c d)) h.2 ∙ change_back s c d is a.0,
     )

@@ -19,7 +19,7 @@ use Rattle.mi_model.specs.Change.{stand_before, stand, without, added, insert, m
 use Rattle.mi_model.proofs.SortLaws.{both_ways}
 use Rattle.mi_node.specs.Refs.{Ref}
 use Rattle.mi_container.specs.Data.{Content, Node, Order, Data, parts_of, has_stamps, content_in, content_of, stamp_of}
-use Rattle.mi_container.specs.Data.{ids_by_stamp, listed, lists_from, shown_row, table_of, KindFits, KindsFit, IsData}
+use Rattle.mi_container.specs.Data.{ids_by_stamp, listed, lists_from, plain_row, as_table, KindFits, KindsFit, IsData}
 use Rattle.mi_container.specs.Data.Order.{ById, ByKey, ByHash, Listed}
 use Rattle.mi_container.specs.Changes.{left_out, with_content, new_content, in_order, new_stamp, new_node, orders_with}
 use Rattle.mi_container.specs.Changes.{inserted, replaced, erased_node, erased, moved_order, relocated_in}
@@ -111,22 +111,22 @@ inserted_lists s (Some p) at r d is fits =
     (sym same) (inserted_one s at r d is k (get_or d.orders k ById) refl)) fits
 
 pub table_inserted : (s : Shape) (p : Option (ℕ × ℕ)) (at : Ref) (r : List Value) (d : Data)
-    → IsData s d → PlaceFits p d.orders → table_of (inserted p at r d) ≡ insert p r (table_of d)
+    → IsData s d → PlaceFits p d.orders → as_table (inserted p at r d) ≡ insert p r (as_table d)
 table_inserted s p at r d is fits =
-    let rows : map shown_row (d.rows ++ (d.next, new_node at r d) ∷ []) ≡ map shown_row d.rows ++ (d.next, r) ∷ [] =
-    map-append shown_row d.rows ((d.next, new_node at r d) ∷ []) in
+    let rows : map plain_row (d.rows ++ (d.next, new_node at r d) ∷ []) ≡ map plain_row d.rows ++ (d.next, r) ∷ [] =
+    map-append plain_row d.rows ((d.next, new_node at r d) ∷ []) in
     let lists = inserted_lists s p at r d is fits in
     λ i. record { rows = rows i; lists = lists i; next = d.next + 1; arrivals = d.arrivals + 1 }
 
 -- Erase
 
-rows_out : (e : ℕ) (rows : List (ℕ × Node)) → map shown_row (left_out e rows) ≡ filter (λ r. not (r.0 == e)) (map shown_row rows)
+rows_out : (e : ℕ) (rows : List (ℕ × Node)) → map plain_row (left_out e rows) ≡ filter (λ r. not (r.0 == e)) (map plain_row rows)
 rows_out e [] = refl
 rows_out e (r ∷ rows) =
-    elim (r.0 == e) as (λ b. map shown_row (cond (not b) (r ∷ left_out e rows) (left_out e rows))
-    ≡ cond (not b) (shown_row r ∷ filter (λ r. not (r.0 == e)) (map shown_row rows)) (filter (λ r. not (r.0 == e)) (map shown_row rows))) [
+    elim (r.0 == e) as (λ b. map plain_row (cond (not b) (r ∷ left_out e rows) (left_out e rows))
+    ≡ cond (not b) (plain_row r ∷ filter (λ r. not (r.0 == e)) (map plain_row rows)) (filter (λ r. not (r.0 == e)) (map plain_row rows))) [
       | true ↦ rows_out e rows
-      | false ↦ ap (λ q. shown_row r ∷ q) (rows_out e rows)
+      | false ↦ ap (λ q. plain_row r ∷ q) (rows_out e rows)
     ]
 
 erased_one : (e : ℕ) (rows : List (ℕ × Node)) (x : ℕ) (o : Order) → Becomes rows (left_out e rows) (without e) x o
@@ -135,21 +135,21 @@ erased_one e rows x (ByKey ps) = by_stamp_erase x e rows
 erased_one e rows x (ByHash ps) = by_stamp_erase x e rows
 erased_one e rows x (Listed ids) = refl
 
-pub table_erased : (e : ℕ) (d : Data) → IsThere d.rows e → table_of (erased e d) ≡ erase e (table_of d)
+pub table_erased : (e : ℕ) (d : Data) → IsThere d.rows e → as_table (erased e d) ≡ erase e (as_table d)
 table_erased e d there =
     let rows = rows_out e d.rows in
     let lists = lists_changed d.rows (left_out e d.rows) (without e) 0 d.orders (λ k l. erased_one e d.rows (0 + k) (get_or d.orders k ById)) in
-    ap (λ o. table_of (erased_node e o d)) there.1 ∙ (λ i. record { rows = rows i; lists = lists i; next = d.next; arrivals = d.arrivals })
+    ap (λ o. as_table (erased_node e o d)) there.1 ∙ (λ i. record { rows = rows i; lists = lists i; next = d.next; arrivals = d.arrivals })
 
 -- Put
 
-rows_with : (e : ℕ) (c : Content) (rows : List (ℕ × Node)) → map shown_row (with_content e c rows) ≡ set_value (λ k. k == e) (map shown_row rows) c.values
+rows_with : (e : ℕ) (c : Content) (rows : List (ℕ × Node)) → map plain_row (with_content e c rows) ≡ set_value (λ k. k == e) (map plain_row rows) c.values
 rows_with e c [] = refl
 rows_with e c (r ∷ rows) =
-    elim (r.0 == e) as (λ b. map shown_row (cond b ((r.0, record { at = r.1.at; content = c }) ∷ rows) (r ∷ with_content e c rows))
-    ≡ cond b ((r.0, c.values) ∷ map shown_row rows) (shown_row r ∷ set_value (λ k. k == e) (map shown_row rows) c.values)) [
+    elim (r.0 == e) as (λ b. map plain_row (cond b ((r.0, record { at = r.1.at; content = c }) ∷ rows) (r ∷ with_content e c rows))
+    ≡ cond b ((r.0, c.values) ∷ map plain_row rows) (plain_row r ∷ set_value (λ k. k == e) (map plain_row rows) c.values)) [
       | true ↦ refl
-      | false ↦ ap (λ q. shown_row r ∷ q) (rows_with e c rows)
+      | false ↦ ap (λ q. plain_row r ∷ q) (rows_with e c rows)
     ]
 
 parts_fit : (i : Index) (o : Order) → KindFits i o → i.parts ≡ parts_of o
@@ -181,7 +181,7 @@ lists_put old new e rows other (j ∷ is) x (o ∷ os) kinds each =
     λ i. here i ∷ rest i
 
 -- the record of a row is that of its node
-row_there : (e : ℕ) (d : Data) → IsThere d.rows e → (row (table_of d) e).1 ≡ (content_of d.rows e).values
+row_there : (e : ℕ) (d : Data) → IsThere d.rows e → (row (as_table d) e).1 ≡ (content_of d.rows e).values
 row_there e d there =
     ap (λ o. unwrap_or o []) (lookup_shown e d.rows ∙ ap (option_map (λ (n : Node). n.content.values)) there.1) ∙ sym (ap (λ o. (content_in o).values) there.1)
 
@@ -215,11 +215,11 @@ put_one s e r d is there x l (ByHash ps) here =
     stamped_put s e r d is there x l (ap has_stamps here) ∙ ap (λ o. moved_by (parts_of o) (content_of d.rows e).values r e (ids_by_stamp x d.rows)) here
 put_one s e r d is there x l (Listed ids) here = refl
 
-pub table_replaced : (s : Shape) (e : ℕ) (r : List Value) (d : Data) → IsData s d → IsThere d.rows e → table_of (replaced e r d) ≡ put s e r (table_of d)
+pub table_replaced : (s : Shape) (e : ℕ) (r : List Value) (d : Data) → IsData s d → IsThere d.rows e → as_table (replaced e r d) ≡ put s e r (as_table d)
 table_replaced s e r d is there =
     let old : List Value = (content_of d.rows e).values in
     let rows = rows_with e (new_content d.orders r d.arrivals (content_of d.rows e)) d.rows in
-    let lists : lists_from 0 (replaced e r d).rows d.orders ≡ moved s.indexes (row (table_of d) e).1 r e (lists_from 0 d.rows d.orders) =
+    let lists : lists_from 0 (replaced e r d).rows d.orders ≡ moved s.indexes (row (as_table d) e).1 r e (lists_from 0 d.rows d.orders) =
     lists_put old r e d.rows (replaced e r d).rows s.indexes 0 d.orders is.kinds (λ k l.
     let same : 0 + k ≡ k = omega arith in
     subst (λ n. Moves old r e d.rows (replaced e r d).rows n (get_or d.orders k ById)) (sym same) (put_one s e r d is there k l (get_or d.orders k ById) refl))
@@ -228,7 +228,7 @@ table_replaced s e r d is there =
 
 -- Relocate
 
-pub table_relocated : (x e : ℕ) (b : Option ℕ) (d : Data) → HasOwnList (get_or d.orders x ById) → table_of (relocated_in x e b d) ≡ relocate x e b (table_of d)
+pub table_relocated : (x e : ℕ) (b : Option ℕ) (d : Data) → HasOwnList (get_or d.orders x ById) → as_table (relocated_in x e b d) ≡ relocate x e b (as_table d)
 table_relocated x e b d is =
     let lists = lists_moved d.rows (relocated b e) 0 d.orders x is in
-    λ i. record { rows = map shown_row d.rows; lists = lists i; next = d.next; arrivals = d.arrivals }
+    λ i. record { rows = map plain_row d.rows; lists = lists i; next = d.next; arrivals = d.arrivals }

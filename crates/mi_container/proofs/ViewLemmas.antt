@@ -24,7 +24,7 @@ use Rattle.mi_model.proofs.ViewLaws.{Lacks, compare_ids_total}
 use Rattle.mi_model.proofs.TableLaws.{all_get}
 use Rattle.mi_model.proofs.PlaceLaws.{each_in_view}
 use Rattle.mi_container.specs.Data.{Node, Order, Data, has_stamps, stamp_of, ids_by_stamp, ids_of}
-use Rattle.mi_container.specs.Data.{listed, lists_from, table_of, KindFits, KindsFit, Climbs, IsData}
+use Rattle.mi_container.specs.Data.{listed, lists_from, as_table, KindFits, KindsFit, Climbs, IsData}
 use Rattle.mi_container.specs.Data.Order.{ById, ByKey, ByHash, Listed}
 use Rattle.mi_container.specs.Fits.{IsThere}
 use Rattle.mi_container.specs.Laws.{RiseBy, stands_before, SortedIsShown, HashedIsShown, IdsAreShown}
@@ -99,7 +99,7 @@ length_lists y rows (o ∷ os) = ap suc (length_lists (suc y) rows os)
 
 module _ (s : Shape) (d : Data) (is : IsData s d) (x : ℕ) (l : x < length d.orders) where
   abbrev t : Table
-  t = table_of d
+  t = as_table d
 
   list_at : list_of t x ≡ listed x d.rows (get_or d.orders x ById)
   list_at = let same : 0 + x ≡ x = omega arith in list_from 0 x d.rows d.orders l ∙ ap (λ n. listed n d.rows (get_or d.orders x ById)) same
@@ -131,38 +131,38 @@ one_stamped (Listed ids) x rows has_ = absurd (false≢true has_)
 pub stamps_rise_in : (s : Shape) (d : Data) → IsData s d → (x : ℕ) → x < length d.orders
     → has_stamps (get_or d.orders x ById) ≡ true → Rises (on (stamp_of d.rows x) nat_cmp) (ids_by_stamp x d.rows)
 stamps_rise_in s d is x l has_ =
-    stamps_rise s d is x l has_ (subst (ListsEach (table_of d)) (list_at s d is x l ∙ one_stamped (get_or d.orders x ById) x d.rows has_) (each_at s d is x l))
+    stamps_rise s d is x l has_ (subst (ListsEach (as_table d)) (list_at s d is x l ∙ one_stamped (get_or d.orders x ById) x d.rows has_) (each_at s d is x l))
 
 -- by keys and stamps
 keyed_rises : (s : Shape) (d : Data) (is : IsData s d) (x : ℕ) (ps : List KeyPart) → x < length d.orders
-    → get_or d.orders x ById ≡ ByKey ps → Rises (stands_before s d x) (view s (table_of d) x)
+    → get_or d.orders x ById ≡ ByKey ps → Rises (stands_before s d x) (view s (as_table d) x)
 keyed_rises s d is x ps l here =
     let fits : KindFits (index_at s x) (ByKey ps) = subst (KindFits (index_at s x)) here (no_index_sorted s.indexes d.orders x _ is.kinds l) in
-    let list : list_of (table_of d) x ≡ ids_by_stamp x d.rows = list_at s d is x l ∙ ap (listed x d.rows) here in
-    let each : ListsEach (table_of d) (ids_by_stamp x d.rows) = subst (ListsEach (table_of d)) list (each_at s d is x l) in
+    let list : list_of (as_table d) x ≡ ids_by_stamp x d.rows = list_at s d is x l ∙ ap (listed x d.rows) here in
+    let each : ListsEach (as_table d) (ids_by_stamp x d.rows) = subst (ListsEach (as_table d)) list (each_at s d is x l) in
     let up = stamps_rise s d is x l (ap has_stamps here) each in
-    let whole : view s (table_of d) x ≡ sorted (compare_ids (index_at s x) (table_of d)) (ids_by_stamp x d.rows) =
-    shown_sorted (index_at s x).kind (compare_ids (index_at s x) (table_of d)) (list_of (table_of d) x) fits.0
-    ∙ ap (sorted (compare_ids (index_at s x) (table_of d))) list in
+    let whole : view s (as_table d) x ≡ sorted (compare_ids (index_at s x) (as_table d)) (ids_by_stamp x d.rows) =
+    shown_sorted (index_at s x).kind (compare_ids (index_at s x) (as_table d)) (list_of (as_table d) x) fits.0
+    ∙ ap (sorted (compare_ids (index_at s x) (as_table d))) list in
     subst (Rises (stands_before s d x)) (sym whole)
-    (sorted-rises (compare_ids_total (index_at s x) (table_of d)) (stamp_of d.rows x) (ids_by_stamp x d.rows) up)
+    (sorted-rises (compare_ids_total (index_at s x) (as_table d)) (stamp_of d.rows x) (ids_by_stamp x d.rows) up)
 
 pub sorted_is_shown : SortedIsShown
 sorted_is_shown s d x ps ids is l here each up =
     let long : length s.indexes ≡ length d.orders = length_fits s.indexes d.orders is.kinds in
-    let all : ListsEach (table_of d) (view s (table_of d) x) = each_in_view s (table_of d) x is.table (omega arith) in
+    let all : ListsEach (as_table d) (view s (as_table d) x) = each_in_view s (as_table d) x is.table (omega arith) in
     rises_once (stands_before s d x)
-    (then_total (compare_ids_total (index_at s x) (table_of d)) (on_total (stamp_of d.rows x) nat_cmp_total)) ids (view s (table_of d) x)
+    (then_total (compare_ids_total (index_at s x) (as_table d)) (on_total (stamp_of d.rows x) nat_cmp_total)) ids (view s (as_table d) x)
     (rise_is (stands_before s d x) ids up) (keyed_rises s d is x ps l here) (λ id. each id ∙ sym (all id))
 
 pub hashed_is_shown : HashedIsShown
 hashed_is_shown s d x ps ids is l here each up =
     let fits : KindFits (index_at s x) (ByHash ps) = subst (KindFits (index_at s x)) here (no_index_sorted s.indexes d.orders x _ is.kinds l) in
-    let list : list_of (table_of d) x ≡ ids_by_stamp x d.rows = list_at s d is x l ∙ ap (listed x d.rows) here in
-    let all : ListsEach (table_of d) (ids_by_stamp x d.rows) = subst (ListsEach (table_of d)) list (each_at s d is x l) in
+    let list : list_of (as_table d) x ≡ ids_by_stamp x d.rows = list_at s d is x l ∙ ap (listed x d.rows) here in
+    let all : ListsEach (as_table d) (ids_by_stamp x d.rows) = subst (ListsEach (as_table d)) list (each_at s d is x l) in
     rises_once (on (stamp_of d.rows x) nat_cmp) (on_total (stamp_of d.rows x) nat_cmp_total) ids (ids_by_stamp x d.rows)
     (rise_is (on (stamp_of d.rows x) nat_cmp) ids up) (stamps_rise s d is x l (ap has_stamps here) all) (λ id. each id ∙ sym (all id))
-    ∙ sym list ∙ sym (shown_hashed (index_at s x).kind (compare_ids (index_at s x) (table_of d)) (list_of (table_of d) x) fits.0)
+    ∙ sym list ∙ sym (shown_hashed (index_at s x).kind (compare_ids (index_at s x) (as_table d)) (list_of (as_table d) x) fits.0)
 
 -- by ids
 
@@ -193,7 +193,7 @@ all_unit (a ∷ ids) = (tt, all_unit ids)
 pub ids_are_shown : IdsAreShown
 ids_are_shown s d x is l here =
     let i : Index = index_at s x in
-    let t : Table = table_of d in
+    let t : Table = as_table d in
     let fits : KindFits i ById = subst (KindFits i) here (no_index_sorted s.indexes d.orders x _ is.kinds l) in
     let list : list_of t x ≡ ids_of d.rows = list_at s d is x l ∙ ap (listed x d.rows) here in
     let each : ListsEach t (ids_of d.rows) = subst (ListsEach t) list (each_at s d is x l) in

@@ -1,7 +1,7 @@
 -- The plain data of a container, and the table that they mean. Rows are named by ids, nodes by references.
 --     Node, Kept      a live node, and one that has left every index
 --     Order      how an index stands
---     table_of, IsData      the table, and what holds of the data of every container
+--     as_table, IsData      the table, and what holds of the data of every container
 use Rattle.std.specs.Prelude.{◌≡◌, ◌≢◌, ℕ, ◌<◌, ◌==◌, Bool, true, false, List, [], ◌∷◌, map, slice_index_or, suc}
 use Rattle.std.specs.List.{AllByRecursion}
 use Rattle.std.specs.Ordering.{nat_cmp, on}
@@ -107,12 +107,12 @@ abbrev pub lists_from : ℕ → List (ℕ × Node) → List Order → List (List
 lists_from x rows [] = []
 lists_from x rows (o ∷ os) = listed x rows o ∷ lists_from (suc x) rows os
 
-abbrev pub shown_row : ℕ × Node → ℕ × List Value
-shown_row r = (r.0, r.1.content.values)
+abbrev pub plain_row : ℕ × Node → ℕ × List Value
+plain_row r = (r.0, r.1.content.values)
 
 -- the table that the data mean
-abbrev pub table_of : Data → Table
-table_of d = record { rows = map shown_row d.rows; lists = lists_from 0 d.rows d.orders; next = d.next; arrivals = d.arrivals }
+abbrev pub as_table : Data → Table
+as_table d = record { rows = map plain_row d.rows; lists = lists_from 0 d.rows d.orders; next = d.next; arrivals = d.arrivals }
 
 -- an order is that of an index of its kind, with its parts
 abbrev pub KindFits : Index → Order → Type 0
@@ -153,9 +153,9 @@ NamesDiffer (r ∷ rows) = AllByRecursion (λ q. q.1.at.name ≢ r.1.at.name) ro
 -- what holds of the data of every container of a schema
 pub record IsData (s : Shape) (d : Data) : Type 0 where
   -- they mean a table
-  pub table : IsTable s (table_of d)
+  pub table : IsTable s (as_table d)
   -- in which no unique index has two rows of one key
-  pub unique_keys : HasUniqueKeys s (table_of d)
+  pub unique_keys : HasUniqueKeys s (as_table d)
   pub kinds : KindsFit s.indexes d.orders
   -- each live node has a stamp for each index
   pub stamped : (e : ℕ) (n : Node) → node_of d.rows e ≡ Some n → StampsFit d.arrivals d.orders n.content.stamps

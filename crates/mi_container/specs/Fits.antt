@@ -8,7 +8,7 @@ use Rattle.mi_value.specs.declared.value.Value.{Value}
 use Rattle.mi_value.specs.Order.{compare_key}
 use Rattle.mi_catalog.specs.Shape.{Shape}
 use Rattle.mi_model.specs.Table.{Table}
-use Rattle.mi_container.specs.Data.{Content, Node, Link, Kept, Order, Data, order_at, parts_of, node_of, kept_of, content_of, stamp_of, table_of, IsData}
+use Rattle.mi_container.specs.Data.{Content, Node, Link, Kept, Order, Data, order_at, parts_of, node_of, kept_of, content_of, stamp_of, as_table, IsData}
 use Rattle.mi_container.specs.Data.Order.{ById, ByKey, ByHash, Listed}
 use Rattle.mi_container.specs.Changes.{ref_of, head_of, group}
 use Rattle.mi_container.specs.Inverse.{RowRef, OldPlace, Inverse, keeps, taken_back}
@@ -96,7 +96,7 @@ abbrev pub Fits : Shape → List Inverse → List Table → Data → Type 0
 Fits s [] [] d = d.kept ≡ []
 Fits s [] (t ∷ ts) d = ⊥
 Fits s (i ∷ is) [] d = ⊥
-Fits s (i ∷ is) (t ∷ ts) d = Ready i d × IsData s (taken_back i d) × (table_of (taken_back i d) ≡ t) × Fits s is ts (taken_back i d)
+Fits s (i ∷ is) (t ∷ ts) d = Ready i d × IsData s (taken_back i d) × (as_table (taken_back i d) ≡ t) × Fits s is ts (taken_back i d)
 
 -- an inverse names no such id
 abbrev pub IsNot : ℕ → Option ℕ → Type 0

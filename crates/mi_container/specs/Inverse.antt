@@ -81,12 +81,12 @@ old_places x rows e old new [] stamps = []
 old_places x rows e old new (o ∷ os) [] = []
 old_places x rows e old new (o ∷ os) (a ∷ stamps) = old_place x rows e old new o a ∷ old_places (suc x) rows e old new os stamps
 
-abbrev pub old_of : ℕ → List Value → Content → Data → Old
-old_of e r was d = record { values = was.values; places = old_places 0 d.rows e was.values r d.orders was.stamps }
+abbrev pub old_record : ℕ → List Value → Content → Data → Old
+old_record e r was d = record { values = was.values; places = old_places 0 d.rows e was.values r d.orders was.stamps }
 
 -- of a put of r
 abbrev pub put_inverse : ℕ → List Value → Data → Inverse
-put_inverse e r d = Put (row_ref d.rows e) (old_of e r (content_of d.rows e) d)
+put_inverse e r d = Put (row_ref d.rows e) (old_record e r (content_of d.rows e) d)
 
 abbrev pub erase_inverse : ℕ → Option (ℕ × ℕ) → Data → Inverse
 erase_inverse e why d = Erased (row_ref d.rows e) why
@@ -122,9 +122,9 @@ relinked rows e [] os = []
 relinked rows e (l ∷ ls) [] = []
 relinked rows e (l ∷ ls) (o ∷ os) = in_order (stand (id_of_ref rows l.forth) e) o ∷ relinked rows e ls os
 
-abbrev pub returned : ℕ → Option Kept → Data → Data
-returned e None d = d
-returned e (Some k) d = record d { rows = entered e k.node d.rows; orders = relinked d.rows e k.links d.orders; kept = left_out e d.kept }
+abbrev pub row_returned : ℕ → Option Kept → Data → Data
+row_returned e None d = d
+row_returned e (Some k) d = record d { rows = entered e k.node d.rows; orders = relinked d.rows e k.links d.orders; kept = left_out e d.kept }
 
 abbrev pub stamp_back : Option OldPlace → ℕ → ℕ
 stamp_back None a = a
@@ -147,7 +147,7 @@ taken_back (Inserted r) d = record d {
   arrivals = d.arrivals - 1;
 }
 taken_back (Put r old) d = record d { rows = with_content r.id (old_content old (content_of d.rows r.id)) d.rows; arrivals = d.arrivals - 1 }
-taken_back (Erased r why) d = returned r.id (kept_of d.kept r.id) d
+taken_back (Erased r why) d = row_returned r.id (kept_of d.kept r.id) d
 taken_back (Relocated x r b) d = record d { orders = moved_order x (λ ids. stand (option_map (λ (q : RowRef). q.id) b) r.id (without r.id ids)) d.orders }
 taken_back Nothing d = d
 

@@ -17,22 +17,22 @@ use Rattle.mi_value.specs.declared.compare.KeyPart.{KeyPart}
 use Rattle.mi_catalog.specs.Shape.{Shape, index_at}
 use Rattle.mi_model.specs.Table.{Table, times, ListsEach, opened}
 use Rattle.mi_model.specs.View.{compare_ids, view}
-use Rattle.mi_container.specs.Data.{Data, order_at, kept_of, stamp_of, ids_of, table_of, IsData}
+use Rattle.mi_container.specs.Data.{Data, order_at, kept_of, stamp_of, ids_of, as_table, IsData}
 use Rattle.mi_container.specs.Data.Order.{ById, ByKey, ByHash}
 use Rattle.mi_container.specs.Changes.{opened_data}
 use Rattle.mi_container.specs.Inverse.{RowRef, Inverse, keeps, taken_back, settled}
 use Rattle.mi_container.specs.Inverse.Inverse.{Erased}
 use Rattle.mi_container.specs.Fits.{IsNot, Ready, KeptBy, Fits, Unnamed, kept_ids}
-use Rattle.mi_container.specs.Run.{Change, changed, inverse_of, table_changed, Allowed, run, inverses, all_back, table_run, AllAllowed}
+use Rattle.mi_container.specs.Run.{Change, changed, inverse_of, table_changed, Allowed, after_changes, inverses, all_back, table_run, AllAllowed}
 
 -- a container of a schema opens with the data of an empty table
 abbrev pub OpensEmpty : Type 0
-OpensEmpty = (s : Shape) → is_schema s ≡ true → IsData s (opened_data s) × (table_of (opened_data s) ≡ opened s)
+OpensEmpty = (s : Shape) → is_schema s ≡ true → IsData s (opened_data s) × (as_table (opened_data s) ≡ opened s)
 
 -- the table of changed data is the changed table, and what holds of data is kept
 abbrev pub ChangeIsTables : Type 0
 ChangeIsTables = (s : Shape) (c : Change) (d : Data) → IsData s d → Allowed s c d
-    → IsData s (changed c d) × (table_of (changed c d) ≡ table_changed s c (table_of d))
+    → IsData s (changed c d) × (as_table (changed c d) ≡ table_changed s c (as_table d))
 
 -- the inverse of a change can be taken back, and gives exactly the data before
 abbrev pub ChangeIsUndone : Type 0
@@ -42,22 +42,22 @@ ChangeIsUndone = (s : Shape) (c : Change) (d : Data) → IsData s d → Allowed 
 -- a run keeps what holds of data, is the run of tables, and its inverses give back exactly the data before it
 abbrev pub RunsUnwind : Type 0
 RunsUnwind = (s : Shape) (cs : List Change) (d : Data) → IsData s d → AllAllowed s cs d
-    → IsData s (run cs d) × (table_of (run cs d) ≡ table_run s cs (table_of d)) × (all_back (inverses cs d) (run cs d) ≡ d)
+    → IsData s (after_changes cs d) × (as_table (after_changes cs d) ≡ table_run s cs (as_table d)) × (all_back (inverses cs d) (after_changes cs d) ≡ d)
 
 -- a change extends a fitting list by its inverse, with the table before it
 abbrev pub ChangeFits : Type 0
 ChangeFits = (s : Shape) (c : Change) (is : List Inverse) (ts : List Table) (d : Data) → IsData s d → Allowed s c d → Fits s is ts d
-    → Fits s (inverse_of c d ∷ is) (table_of d ∷ ts) (changed c d)
+    → Fits s (inverse_of c d ∷ is) (as_table d ∷ ts) (changed c d)
 
 -- the newest of a fitting list can be taken back, which gives its table, and the rest fits
 abbrev pub NewestIsBack : Type 0
 NewestIsBack = (s : Shape) (i : Inverse) (is : List Inverse) (t : Table) (ts : List Table) (d : Data) → Fits s (i ∷ is) (t ∷ ts) d
-    → Ready i d × IsData s (taken_back i d) × (table_of (taken_back i d) ≡ t) × Fits s is ts (taken_back i d)
+    → Ready i d × IsData s (taken_back i d) × (as_table (taken_back i d) ≡ t) × Fits s is ts (taken_back i d)
 
 -- the oldest of a fitting list can be settled, which keeps the table, and the rest fits
 abbrev pub OldestIsSettled : Type 0
 OldestIsSettled = (s : Shape) (f : Inverse) (is : List Inverse) (t : Table) (ts : List Table) (d : Data) → IsData s d → Fits s (is ++ f ∷ []) (ts ++ t ∷ []) d
-    → KeptBy f d × IsData s (settled f d) × (table_of (settled f d) ≡ table_of d) × Fits s is ts (settled f d)
+    → KeptBy f d × IsData s (settled f d) × (as_table (settled f d) ≡ as_table d) × Fits s is ts (settled f d)
 
 -- the two keep different nodes
 abbrev pub KeepOthers : Option ℕ → Inverse → Type 0
@@ -82,18 +82,18 @@ RiseBy order (a ∷ ids) = AllByRecursion (λ b. order a b ≡ Less) ids × Rise
 
 -- by the keys of the index of number x, and then by the stamps
 abbrev pub stands_before : Shape → Data → ℕ → ℕ → ℕ → Ordering
-stands_before s d x = then_cmp (compare_ids (index_at s x) (table_of d)) (on (stamp_of d.rows x) nat_cmp)
+stands_before s d x = then_cmp (compare_ids (index_at s x) (as_table d)) (on (stamp_of d.rows x) nat_cmp)
 
 -- the live ids by their keys and then by their stamps are what a sorted index with keys shows
 abbrev pub SortedIsShown : Type 0
 SortedIsShown = (s : Shape) (d : Data) (x : ℕ) (ps : List KeyPart) (ids : List ℕ) → IsData s d → x < length d.orders → order_at d.orders x ≡ ByKey ps
-    → ListsEach (table_of d) ids → RiseBy (stands_before s d x) ids → ids ≡ view s (table_of d) x
+    → ListsEach (as_table d) ids → RiseBy (stands_before s d x) ids → ids ≡ view s (as_table d) x
 
 -- and by their stamps what a hashed one does, which shows those of each key
 abbrev pub HashedIsShown : Type 0
 HashedIsShown = (s : Shape) (d : Data) (x : ℕ) (ps : List KeyPart) (ids : List ℕ) → IsData s d → x < length d.orders → order_at d.orders x ≡ ByHash ps
-    → ListsEach (table_of d) ids → RiseBy (on (stamp_of d.rows x) nat_cmp) ids → ids ≡ view s (table_of d) x
+    → ListsEach (as_table d) ids → RiseBy (on (stamp_of d.rows x) nat_cmp) ids → ids ≡ view s (as_table d) x
 
 -- the index of the ids shows the live ids in their order
 abbrev pub IdsAreShown : Type 0
-IdsAreShown = (s : Shape) (d : Data) (x : ℕ) → IsData s d → x < length d.orders → order_at d.orders x ≡ ById → ids_of d.rows ≡ view s (table_of d) x
+IdsAreShown = (s : Shape) (d : Data) (x : ℕ) → IsData s d → x < length d.orders → order_at d.orders x ≡ ById → ids_of d.rows ≡ view s (as_table d) x

@@ -15,7 +15,7 @@ use Rattle.mi_model.specs.Table.{Table}
 use Rattle.mi_model.specs.Verdict.{Outcome}
 use Rattle.mi_model.specs.DatabaseChange.{Meets}
 use Rattle.mi_node.specs.Refs.{Ref}
-use Rattle.mi_container.specs.Data.{Data, table_of}
+use Rattle.mi_container.specs.Data.{Data, as_table}
 use Rattle.mi_container.specs.Inverse.{Inverse, lost_to}
 use Rattle.mi_container.specs.Run.{Change, changed, inverse_of, Allowed}
 use Rattle.mi_container.specs.Run.Change.{Insert, Replace, Erase}
@@ -37,7 +37,7 @@ MakesModify (Some at) s e old i new = Makes s (Erase e (Some at)) old i new
 
 -- what is answered and left is what a definition says of the table
 abbrev pub MeetsOn : {A : Type 0} → (Table → Outcome A) → Result A Refusal → Data → Data → Type 0
-MeetsOn outcome answer old new = Meets (outcome (table_of old)) answer (table_of old) (table_of new)
+MeetsOn outcome answer old new = Meets (outcome (as_table old)) answer (as_table old) (as_table new)
 
 abbrev pub insert_answer : {X : Type 0} → Result (ℕ × Inverse) (Refusal × X) → Result ℕ Refusal
 insert_answer (Ok p) = Ok p.0

@@ -8,7 +8,7 @@ use Rattle.mi_model.specs.Conflict.{conflict}
 use Rattle.mi_model.specs.Table.{Table}
 use Rattle.mi_model.specs.Change.{insert, put, erase, relocate}
 use Rattle.mi_node.specs.Refs.{Ref}
-use Rattle.mi_container.specs.Data.{Order, Data, order_at, table_of}
+use Rattle.mi_container.specs.Data.{Order, Data, order_at, as_table}
 use Rattle.mi_container.specs.Changes.{inserted, replaced, erased, relocated_in}
 use Rattle.mi_container.specs.Inverse.{Inverse, insert_inverse, put_inverse, erase_inverse, relocate_inverse, id_named, taken_back}
 use Rattle.mi_container.specs.Fits.{IsThere, HasOwnList}
@@ -46,16 +46,16 @@ PlaceFits (Some p) os = HasOwnList (order_at os p.0)
 
 -- what is asked of a change: a new node, no conflict, a row that is there, an index with a list of its own
 abbrev pub Allowed : Shape → Change → Data → Type 0
-Allowed s (Insert p at r) d = PlaceFits p d.orders × (id_named at.name d.rows ≡ None) × (conflict s (table_of d) r None ≡ None)
-Allowed s (Replace e r) d = IsThere d.rows e × (conflict s (table_of d) r (Some e) ≡ None)
+Allowed s (Insert p at r) d = PlaceFits p d.orders × (id_named at.name d.rows ≡ None) × (conflict s (as_table d) r None ≡ None)
+Allowed s (Replace e r) d = IsThere d.rows e × (conflict s (as_table d) r (Some e) ≡ None)
 Allowed s (Erase e why) d = IsThere d.rows e
 Allowed s (Relocate x e b) d = IsThere d.rows e × HasOwnList (order_at d.orders x)
 
 -- Runs
 
-abbrev pub run : List Change → Data → Data
-run [] d = d
-run (c ∷ cs) d = run cs (changed c d)
+abbrev pub after_changes : List Change → Data → Data
+after_changes [] d = d
+after_changes (c ∷ cs) d = after_changes cs (changed c d)
 
 abbrev pub AllAllowed : Shape → List Change → Data → Type 0
 AllAllowed s [] d = Unit {0}

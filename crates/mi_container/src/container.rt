@@ -10,7 +10,7 @@ ghost use Rattle.mi_model.specs.LookUp as look;
 ghost use Rattle.mi_model.specs.Walk.{rows_from};
 ghost use Rattle.mi_model.specs.Verdict.{insert_outcome, replace_outcome, modify_outcome, erase_outcome, relocate_outcome};
 ghost use Rattle.mi_container.specs.Asked.{IsKeyed, IsHashed, IsSorted, IsSequenced, ShowsOneList, RecordFits, EditsFit, WholeKey, KeyPrefix};
-ghost use Rattle.mi_container.specs.Data.{Data, IsData, table_of};
+ghost use Rattle.mi_container.specs.Data.{Data, IsData, as_table};
 ghost use Rattle.mi_container.specs.Changes.{opened_data};
 ghost use Rattle.mi_container.specs.Inverse.{taken_back, settled, lost_to};
 ghost use Rattle.mi_container.specs.Fits.{Ready, KeptBy};
@@ -123,46 +123,46 @@ pub trait Container: Drop {
 
     /// How many records there are.
     fn size(&self) -> u64
-        ensures { result ≡ size_of (table_of (plain self.now)) };
+        ensures { result ≡ size_of (as_table (plain self.now)) };
 
     /// The first id with a whole key in an index with keys, or none. Takes no memory.
     fn find(&self, index: usize, key: &[Value]) -> Option<u64>
         requires index { IsKeyed (shape self.now) index }
         requires key { WholeKey (shape self.now) index key.now }
-        ensures { result ≡ look.find (shape self.now) (table_of (plain self.now)) index key.now };
+        ensures { result ≡ look.find (shape self.now) (as_table (plain self.now)) index key.now };
 
     /// How many records have a whole key in an index with keys. Takes no memory.
     fn count(&self, index: usize, key: &[Value]) -> u64
         requires index { IsKeyed (shape self.now) index }
         requires key { WholeKey (shape self.now) index key.now }
-        ensures { result ≡ look.count (shape self.now) (table_of (plain self.now)) index key.now };
+        ensures { result ≡ look.count (shape self.now) (as_table (plain self.now)) index key.now };
 
     /// The record of an id, or none. At most one look-up.
     fn get(&self, id: u64, steps: &mut Steps) -> Option<&Record>
-        ensures record { option_copied result ≡ get_row (table_of (plain self.now)) id }
-        ensures steps { (b : ℕ) → size_of (table_of (plain self.now)) < 2 ^ b → steps.new.count ≤ steps.old.count + (2 * b + 1) };
+        ensures record { option_copied result ≡ get_row (as_table (plain self.now)) id }
+        ensures steps { (b : ℕ) → size_of (as_table (plain self.now)) < 2 ^ b → steps.new.count ≤ steps.old.count + (2 * b + 1) };
 
     /// The first id that an index shows, or none where there are no records.
     fn first(&self, index: usize) -> Option<u64>
         requires { ShowsOneList (shape self.now) index }
-        ensures { result ≡ look.first (shape self.now) (table_of (plain self.now)) index };
+        ensures { result ≡ look.first (shape self.now) (as_table (plain self.now)) index };
 
     /// The last id that an index shows, or none where there are no records.
     fn last(&self, index: usize) -> Option<u64>
         requires { ShowsOneList (shape self.now) index }
-        ensures { result ≡ look.last (shape self.now) (table_of (plain self.now)) index };
+        ensures { result ≡ look.last (shape self.now) (as_table (plain self.now)) index };
 
     /// The id that an index shows directly after another, or none behind the last.
     fn after(&self, index: usize, id: u64) -> Option<u64>
         requires index { ShowsOneList (shape self.now) index }
-        requires id { IsTrue (has_row (table_of (plain self.now)) id) }
-        ensures { result ≡ look.after (shape self.now) (table_of (plain self.now)) index id };
+        requires id { IsTrue (has_row (as_table (plain self.now)) id) }
+        ensures { result ≡ look.after (shape self.now) (as_table (plain self.now)) index id };
 
     /// The id that an index shows directly before another, or none before the first.
     fn before(&self, index: usize, id: u64) -> Option<u64>
         requires index { ShowsOneList (shape self.now) index }
-        requires id { IsTrue (has_row (table_of (plain self.now)) id) }
-        ensures { result ≡ look.before (shape self.now) (table_of (plain self.now)) index id };
+        requires id { IsTrue (has_row (as_table (plain self.now)) id) }
+        ensures { result ≡ look.before (shape self.now) (as_table (plain self.now)) index id };
 
     /// The rows that an index shows from one on, in its order or in the reverse of it, at most `limit` of them: their ids
     /// with their records, lent. It is one walk from that row, which is found by at most one look-up, and the vector is the
@@ -177,64 +177,64 @@ pub trait Container: Drop {
         steps: &mut Steps,
     ) -> Result<Vec<(u64, &Record)>, AllocError>
         requires index { ShowsOneList (shape self.now) index }
-        requires first { IsTrue (has_row (table_of (plain self.now)) first) }
+        requires first { IsTrue (has_row (as_table (plain self.now)) first) }
         ensures rows { IfOk result (λ rows. map (λ r. (r.0, r.1.now)) rows.items ≡
-            rows_from (shape self.now) (table_of (plain self.now)) index reverse first limit) }
-        ensures steps { (b : ℕ) → size_of (table_of (plain self.now)) < 2 ^ b → steps.new.count ≤ steps.old.count + (2 * b + 1) };
+            rows_from (shape self.now) (as_table (plain self.now)) index reverse first limit) }
+        ensures steps { (b : ℕ) → size_of (as_table (plain self.now)) < 2 ^ b → steps.new.count ≤ steps.old.count + (2 * b + 1) };
 
     /// The first id of an ordered or ranked index whose key isn't less than a key or the first values of one, or none. At
     /// most one look-up.
     fn lower(&self, index: usize, key: &[Value], steps: &mut Steps) -> Option<u64>
         requires index { IsSorted (shape self.now) index }
         requires key { KeyPrefix (shape self.now) index key.now }
-        ensures id { result ≡ look.lower (shape self.now) (table_of (plain self.now)) index key.now }
-        ensures steps { (b : ℕ) → size_of (table_of (plain self.now)) < 2 ^ b → steps.new.count ≤ steps.old.count + (2 * b + 1) };
+        ensures id { result ≡ look.lower (shape self.now) (as_table (plain self.now)) index key.now }
+        ensures steps { (b : ℕ) → size_of (as_table (plain self.now)) < 2 ^ b → steps.new.count ≤ steps.old.count + (2 * b + 1) };
 
     /// The first id of an ordered or ranked index whose key is greater than a key or the first values of one, or none. At
     /// most one look-up.
     fn upper(&self, index: usize, key: &[Value], steps: &mut Steps) -> Option<u64>
         requires index { IsSorted (shape self.now) index }
         requires key { KeyPrefix (shape self.now) index key.now }
-        ensures id { result ≡ look.upper (shape self.now) (table_of (plain self.now)) index key.now }
-        ensures steps { (b : ℕ) → size_of (table_of (plain self.now)) < 2 ^ b → steps.new.count ≤ steps.old.count + (2 * b + 1) };
+        ensures id { result ≡ look.upper (shape self.now) (as_table (plain self.now)) index key.now }
+        ensures steps { (b : ℕ) → size_of (as_table (plain self.now)) < 2 ^ b → steps.new.count ≤ steps.old.count + (2 * b + 1) };
 
     /// The first id of a whole key in a hashed index, or none.
     fn first_of(&self, index: usize, key: &[Value]) -> Option<u64>
         requires index { IsHashed (shape self.now) index }
         requires key { WholeKey (shape self.now) index key.now }
-        ensures { result ≡ look.first_of (shape self.now) (table_of (plain self.now)) index key.now };
+        ensures { result ≡ look.first_with_key (shape self.now) (as_table (plain self.now)) index key.now };
 
     /// The id that follows another among those of its key in a hashed index, or none behind the last.
     fn next_of(&self, index: usize, id: u64) -> Option<u64>
         requires index { IsHashed (shape self.now) index }
-        requires id { IsTrue (has_row (table_of (plain self.now)) id) }
-        ensures { result ≡ look.next_of (shape self.now) (table_of (plain self.now)) index id };
+        requires id { IsTrue (has_row (as_table (plain self.now)) id) }
+        ensures { result ≡ look.next_with_key (shape self.now) (as_table (plain self.now)) index id };
 
     /// The id with n records before it in an ordered or ranked index, or none.
     fn nth(&self, index: usize, n: u64) -> Option<u64>
         requires { IsSorted (shape self.now) index }
-        ensures { result ≡ look.nth (shape self.now) (table_of (plain self.now)) index n };
+        ensures { result ≡ look.nth (shape self.now) (as_table (plain self.now)) index n };
 
     /// How many records stand before a record in an ordered or ranked index. At most two look-ups.
     fn rank_of(&self, index: usize, id: u64, steps: &mut Steps) -> u64
         requires index { IsSorted (shape self.now) index }
-        requires id { IsTrue (has_row (table_of (plain self.now)) id) }
-        ensures rank { result ≡ look.rank (shape self.now) (table_of (plain self.now)) index id }
-        ensures steps { (b : ℕ) → size_of (table_of (plain self.now)) < 2 ^ b → steps.new.count ≤ steps.old.count + 2 * (2 * b + 1) };
+        requires id { IsTrue (has_row (as_table (plain self.now)) id) }
+        ensures rank { result ≡ look.rank (shape self.now) (as_table (plain self.now)) index id }
+        ensures steps { (b : ℕ) → size_of (as_table (plain self.now)) < 2 ^ b → steps.new.count ≤ steps.old.count + 2 * (2 * b + 1) };
 
     /// How many records of an ordered or ranked index have a key less than a key or the first values of one. At most two
     /// look-ups.
     fn lower_rank(&self, index: usize, key: &[Value], steps: &mut Steps) -> u64
         requires index { IsSorted (shape self.now) index }
         requires key { KeyPrefix (shape self.now) index key.now }
-        ensures rank { result ≡ look.lower_rank (shape self.now) (table_of (plain self.now)) index key.now }
-        ensures steps { (b : ℕ) → size_of (table_of (plain self.now)) < 2 ^ b → steps.new.count ≤ steps.old.count + 2 * (2 * b + 1) };
+        ensures rank { result ≡ look.lower_rank (shape self.now) (as_table (plain self.now)) index key.now }
+        ensures steps { (b : ℕ) → size_of (as_table (plain self.now)) < 2 ^ b → steps.new.count ≤ steps.old.count + 2 * (2 * b + 1) };
 
     /// How many records of an ordered or ranked index have a key not greater than a key or the first values of one. At most
     /// two look-ups.
     fn upper_rank(&self, index: usize, key: &[Value], steps: &mut Steps) -> u64
         requires index { IsSorted (shape self.now) index }
         requires key { KeyPrefix (shape self.now) index key.now }
-        ensures rank { result ≡ look.upper_rank (shape self.now) (table_of (plain self.now)) index key.now }
-        ensures steps { (b : ℕ) → size_of (table_of (plain self.now)) < 2 ^ b → steps.new.count ≤ steps.old.count + 2 * (2 * b + 1) };
+        ensures rank { result ≡ look.upper_rank (shape self.now) (as_table (plain self.now)) index key.now }
+        ensures steps { (b : ℕ) → size_of (as_table (plain self.now)) < 2 ^ b → steps.new.count ≤ steps.old.count + 2 * (2 * b + 1) };
 }

@@ -28,11 +28,11 @@ pub struct MaybePlace {
 impl Model for MaybePlace {
     ghost use Rattle.std.specs.Prelude.{Option};
     ghost use Rattle.mi_container.specs.declared.place.OldPlace.{OldPlace};
-    ghost use Rattle.mi_container.specs.Packed.{place_in};
+    ghost use Rattle.mi_container.specs.Packed.{unpacked_place};
 
     ghost Value = { Option OldPlace };
 
-    ghost view = { place_in };
+    ghost view = { unpacked_place };
 }
 
 impl Default for MaybePlace {

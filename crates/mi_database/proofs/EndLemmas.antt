@@ -8,14 +8,14 @@ use Rattle.mi_value.specs.declared.refusal.NoSession.{NoSession}
 use Rattle.mi_value.specs.declared.refusal.Refusal.{Refusal}
 use Rattle.mi_value.specs.declared.refusal.Refusal.TheVariants.{Spent, Depth}
 use Rattle.mi_value.specs.declared.limits.TheConstants.{LAST_COUNT, MAX_SESSIONS}
-use Rattle.mi_journal.specs.Noted.{joined}
+use Rattle.mi_journal.specs.Noted.{top_joined}
 use Rattle.std.specs.Prelude.{◌==◌}
 use Rattle.mi_catalog.specs.Shape.{Shape, CatalogShape, schema_at}
 use Rattle.mi_model.specs.Table.{Table, IsTable}
 use Rattle.mi_model.specs.Database.{Database, IsDatabase, start_step, started, undo_step, undone, undone_times, squash_step, squashed, committed, ending}
 use Rattle.mi_model.proofs.TableLaws.{not_same}
-use Rattle.mi_container.specs.Data.{Data, table_of, IsData}
-use Rattle.mi_database.specs.Journal.{Entry, Journal, data_at, old_of, unwound, tables_of, state_of, IsLinked}
+use Rattle.mi_container.specs.Data.{Data, as_table, IsData}
+use Rattle.mi_database.specs.Journal.{JournalEntry, Journal, data_at, old_of, unwound, tables_of, state_of, IsLinked}
 use Rattle.mi_database.proofs.JournalLemmas.{length-old, length-unwound, linked_undone, state_joined}
 use Rattle.mi_database.specs.LinkedData.{LinkedData, meaning, IsLinkedData, newer_than_oldest, EndsOldest}
 use Rattle.mi_database.proofs.LoopLemmas.{linked_data}
@@ -107,7 +107,7 @@ undo_leaves d = undone_of d.catalog d.tables d.old d.revision
 -- The tables of a linked database
 
 tables_from : (ss : List Shape) (ds : List Data) (none : Shape) → length ds ≡ length ss
-    → ((n : ℕ) → n < length ds → IsTable (get_or ss n none) (table_of (data_at ds n))) → AllZip IsTable ss (tables_of ds)
+    → ((n : ℕ) → n < length ds → IsTable (get_or ss n none) (as_table (data_at ds n))) → AllZip IsTable ss (tables_of ds)
 tables_from [] [] none same all = tt
 tables_from [] (d ∷ ds) none same all = absurd (omega (arith, same))
 tables_from (s ∷ ss) [] none same all = absurd (omega (arith, same))
@@ -160,17 +160,18 @@ squash_opens : (d : Database) → 0 < length d.old → squash_step d ≡ (Ok (d.
 squash_opens d some = ap (λ b. cond {A = Result ℕ NoSession × Database} b (Err (record {}), d) (Ok (d.revision - 1), squashed d))
     (not_same (length d.old) 0 (λ none. absurd (omega (arith, none))))
 
-one_session : (j : Journal) → length j ≡ 1 → (es : List Entry) × (j ≡ es ∷ [])
+one_session : (j : Journal) → length j ≡ 1 → (es : List JournalEntry) × (j ≡ es ∷ [])
 one_session [] one = absurd (omega (arith, one))
 one_session (es ∷ []) one = (es, refl)
 one_session (es ∷ below ∷ older) one = absurd (omega (arith, one))
 
-two_sessions : (j : Journal) → length j ≢ 0 → length j ≢ 1 → (newest : List Entry) × (below : List Entry) × (older : Journal) × (j ≡ newest ∷ below ∷ older)
+two_sessions : (j : Journal) → length j ≢ 0 → length j ≢ 1
+    → (newest : List JournalEntry) × (below : List JournalEntry) × (older : Journal) × (j ≡ newest ∷ below ∷ older)
 two_sessions [] some more = absurd (some refl)
 two_sessions (es ∷ []) some more = absurd (more refl)
 two_sessions (newest ∷ below ∷ older) some more = (newest, below, older, refl)
 
-alone_at : (c : CatalogShape) (ds : List Data) (es : List Entry) (r changes starts : ℕ) (now : LinkedData)
+alone_at : (c : CatalogShape) (ds : List Data) (es : List JournalEntry) (r changes starts : ℕ) (now : LinkedData)
     → EndsOldest (linked_data c ds (es ∷ []) r changes starts) now
     → state_of now.catalog now.datas now.journal (now.revision - 1) ≡ squashed (state_of c ds (es ∷ []) r)
 alone_at c ds es r changes starts now ends =
@@ -186,7 +187,7 @@ pub squash_alone : (old now : LinkedData) → EndsOldest old now → length old.
 squash_alone old now ends one =
     let long : length (old_of old.datas old.journal) ≡ length old.journal = length-old old.journal old.datas in
     let is : squash_step (meaning old) ≡ (Ok (old.revision - 1), squashed (meaning old)) = squash_opens (meaning old) (omega (arith, long, one)) in
-    let split : (es : List Entry) × (old.journal ≡ es ∷ []) = one_session old.journal one in
+    let split : (es : List JournalEntry) × (old.journal ≡ es ∷ []) = one_session old.journal one in
     let was : old ≡ linked_data old.catalog old.datas (split.0 ∷ []) old.revision old.changes old.starts =
     ap (λ j. linked_data old.catalog old.datas j old.revision old.changes old.starts) split.1 in
     let state : state_of now.catalog now.datas now.journal (now.revision - 1) ≡ squashed (meaning old) =
@@ -195,14 +196,16 @@ squash_alone old now ends one =
     (ap (λ n. Ok (n - 1)) ends.revision ∙ sym (ap (λ q. q.0) is), state ∙ sym (ap (λ q. q.1) is))
 
 -- the newest joined into the one below
-pub squash_joins : (old : LinkedData) (j' : Journal) → j' ≡ joined old.journal → length old.journal ≢ 0 → length old.journal ≢ 1
+pub squash_joins : (old : LinkedData) (j' : Journal) → j' ≡ top_joined old.journal → length old.journal ≢ 0 → length old.journal ≢ 1
     → (Ok (old.revision - 1) ≡ (squash_step (meaning old)).0) × (state_of old.catalog old.datas j' (old.revision - 1) ≡ (squash_step (meaning old)).1)
 squash_joins old j' left some more =
     let long : length (old_of old.datas old.journal) ≡ length old.journal = length-old old.journal old.datas in
     let is : squash_step (meaning old) ≡ (Ok (old.revision - 1), squashed (meaning old)) = squash_opens (meaning old) (omega (arith, long, some)) in
-    let two : (newest : List Entry) × (below : List Entry) × (older : Journal) × (old.journal ≡ newest ∷ below ∷ older) = two_sessions old.journal some more in
+    let two : (newest : List JournalEntry) × (below : List JournalEntry) × (older : Journal) × (old.journal ≡ newest ∷ below ∷ older) =
+    two_sessions old.journal some more in
     let state : state_of old.catalog old.datas j' (old.revision - 1) ≡ squashed (meaning old) =
-    ap (λ q. state_of old.catalog old.datas q (old.revision - 1)) (left ∙ ap joined two.3) ∙ state_joined old.catalog old.datas two.0 two.1 two.2 old.revision
+    ap (λ q. state_of old.catalog old.datas q (old.revision - 1)) (left ∙ ap top_joined two.3)
+    ∙ state_joined old.catalog old.datas two.0 two.1 two.2 old.revision
     ∙ ap (λ q. squashed (state_of old.catalog old.datas q old.revision)) (sym two.3) in
     (sym (ap (λ q. q.0) is), state ∙ sym (ap (λ q. q.1) is))
 

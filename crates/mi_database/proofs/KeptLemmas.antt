@@ -14,7 +14,7 @@ use Rattle.mi_model.specs.DatabaseChange.{Meets, MeetsRefusal, erase_step, modif
 use Rattle.mi_model.specs.Database.{Database, ending, schema_of, table_of, with_table}
 use Rattle.mi_model.specs.Run.{Command}
 use Rattle.mi_model.specs.Run.Command.{Erase, Modify, Commit}
-use Rattle.mi_model.specs.Footprint.{Kept, kept_after, kept_more, lost_row, kept_on_squash}
+use Rattle.mi_model.specs.Footprint.{KeptRows, kept_after, kept_more, lost_row, kept_on_squash}
 use Rattle.mi_value.specs.declared.edit.Edit.{Edit}
 use Rattle.mi_container.specs.Data.{Data}
 use Rattle.mi_container.specs.Inverse.{Inverse, keeps, relocate_inverse, moved_back, lost_to}
@@ -26,10 +26,10 @@ use Rattle.mi_database.specs.Keyed.{keyed}
 use Rattle.mi_database.specs.Kept.{kept_with}
 use Rattle.mi_database.proofs.KeyLemmas.{ErasesFirst}
 use Rattle.std.specs.Prelude.{◌==◌}
-use Rattle.mi_database.specs.Journal.{Entry, Journal, entries, kept_in, kept_by, kept_at}
+use Rattle.mi_database.specs.Journal.{JournalEntry, Journal, entries, kept_in, kept_by, kept_at}
 use Rattle.mi_container.specs.Fits.{kept_id}
 use Rattle.mi_database.proofs.JournalLemmas.{kept_joined, kept_names, length-old}
-use Rattle.mi_journal.specs.Noted.{noted, joined}
+use Rattle.mi_journal.specs.Noted.{noted, top_joined}
 use Rattle.mi_database.specs.LinkedData.{LinkedData, meaning, IsLinkedData}
 use Rattle.mi_database.specs.Kept.{kept_rows, KeptAfter, KeptRefused, NodesAreKept, ids_in, ids_at}
 
@@ -49,11 +49,11 @@ in_kept_by : (n m : ℕ) (o : Option ℕ) → ids_in n (kept_by m o) ≡ cond (m
 in_kept_by n m None = sym (same_none (m == n))
 in_kept_by n m (Some e) = refl
 
-in_kept : (n : ℕ) (es : List Entry) → ids_in n (kept_in es) ≡ kept_at n es
+in_kept : (n : ℕ) (es : List JournalEntry) → ids_in n (kept_in es) ≡ kept_at n es
 in_kept n [] = refl
 in_kept n (e ∷ es) = ids_in-append n (kept_in es) (kept_by e.0 (keeps e.1)) ∙ ap₂ (λ p q. p ++ q) (in_kept n es) (in_kept_by n e.0 (keeps e.1))
 
-kept_at-append : (n : ℕ) (es fs : List Entry) → kept_at n (es ++ fs) ≡ kept_at n fs ++ kept_at n es
+kept_at-append : (n : ℕ) (es fs : List JournalEntry) → kept_at n (es ++ fs) ≡ kept_at n fs ++ kept_at n es
 kept_at-append n [] fs = sym (append-nil (kept_at n fs))
 kept_at-append n (e ∷ es) fs = ap (λ q. q ++ cond (e.0 == n) (kept_id (keeps e.1)) []) (kept_at-append n es fs)
     ∙ append_assoc (kept_at n fs) (kept_at n es) (cond (e.0 == n) (kept_id (keeps e.1)) [])
@@ -70,7 +70,7 @@ nodes_kept ss h n is l =
           (is.linked.each n l).gone;
     }
 
-pub join_keeps : (j : Journal) → length j ≢ 1 → map kept_in (joined j) ≡ kept_on_squash (map kept_in j)
+pub join_keeps : (j : Journal) → length j ≢ 1 → map kept_in (top_joined j) ≡ kept_on_squash (map kept_in j)
 join_keeps [] more = refl
 join_keeps (es ∷ []) more = absurd (more refl)
 join_keeps (es ∷ below ∷ older) more = kept_joined es below older
@@ -86,7 +86,7 @@ note_keeps : (n : ℕ) (i : Inverse) (j : Journal) → map kept_in (noted (n, i)
 note_keeps n i [] = refl
 note_keeps n i (newest ∷ older) = refl
 
-pub none_more : (s : Kept) → kept_more [] s ≡ s
+pub none_more : (s : KeptRows) → kept_more [] s ≡ s
 none_more [] = refl
 none_more (newest ∷ older) = ap (λ q. q ∷ older) (append-nil newest)
 
@@ -188,7 +188,7 @@ modify_kept n e edits rollback old new a (Some at) is kept =
 
 -- Erasing the rows of a key
 
-kept_twice : (xs ys : List (ℕ × ℕ)) (s : Kept) → kept_more ys (kept_more xs s) ≡ kept_more (xs ++ ys) s
+kept_twice : (xs ys : List (ℕ × ℕ)) (s : KeptRows) → kept_more ys (kept_more xs s) ≡ kept_more (xs ++ ys) s
 kept_twice xs ys [] = refl
 kept_twice xs ys (newest ∷ older) = ap (λ q. q ∷ older) (append_assoc newest xs ys)
 

@@ -3,7 +3,7 @@ use Rattle.std.proofs.Common.{◌≡◌, Option, None, Some, ℕ, ◌<◌, List,
 use Rattle.std.proofs.lemmas.List.{map-set, length-set, get_or-map, set-set, get_or-set_same, set-get_or, length-map}
 use Rattle.mi_catalog.specs.Shape.{Shape, CatalogShape, schema_at}
 use Rattle.mi_model.specs.Database.{with_table}
-use Rattle.mi_container.specs.Data.{Data, table_of, IsData}
+use Rattle.mi_container.specs.Data.{Data, as_table, IsData}
 use Rattle.mi_container.specs.Inverse.{Inverse, taken_back, settled}
 use Rattle.mi_container.specs.Fits.{Ready, KeptBy}
 use Rattle.mi_container.proofs.FitLemmas.{ready_keeps}
@@ -19,7 +19,7 @@ use Rattle.mi_database.specs.LinkedData.{IsLinkedData, kept_datas}
 -- over the containers' data
 
 kept_state : (c : CatalogShape) (ds : List Data) (j : Journal) (n : ℕ) (i : Inverse) (new : Data) (r : ℕ) → n < length ds → taken_back i new ≡ data_at ds n
-    → state_of c (kept_datas n i j (set ds n new)) (noted (n, i) j) r ≡ with_table n (table_of new) (state_of c ds j r)
+    → state_of c (kept_datas n i j (set ds n new)) (noted (n, i) j) r ≡ with_table n (as_table new) (state_of c ds j r)
 kept_state c ds [] n i new r l back =
     let there : data_at (set ds n new) n ≡ new = get_or-set_same ds n new _ l in
     ap (λ q. state_of c q [] r) (ap (λ d. set (set ds n new) n (settled i d)) there ∙ set-set ds n new (settled i new)) ∙ state_alone c ds n i new r
@@ -105,7 +105,7 @@ module _ {X : Type 0} (shape : X → Shape) (plain : X → Data) (c : CatalogSha
       (kept_linked c (map plain cs) j n i (plain k') linked t.within t.ready t.back t.is))
 
   pub made_state : Made shape plain cs after n k k' i j noted_ → map shape cs ≡ c.tables → IsLinked c (map plain cs) j → (r : ℕ)
-      → state_of c (map plain after) noted_ r ≡ with_table n (table_of (plain k')) (state_of c (map plain cs) j r)
+      → state_of c (map plain after) noted_ r ≡ with_table n (as_table (plain k')) (state_of c (map plain cs) j r)
   made_state made shapes linked r =
       let t = takes made shapes linked in
       ap₂ (λ p q. state_of c p q r) (after_datas made) made.journal ∙ kept_state c (map plain cs) j n i (plain k') r t.within t.back

@@ -8,7 +8,7 @@ use Rattle.mi_catalog.specs.Shape.{Shape, CatalogShape}
 use Rattle.mi_container.specs.Data.{Data}
 use Rattle.mi_container.specs.Inverse.{Inverse, taken_back, settled}
 use Rattle.mi_container.specs.Fits.{KeptBy}
-use Rattle.mi_database.specs.Journal.{Entry, Journal, data_at, entry_back, entry_settled, entries, unwound, old_of, tables_of, Holds, IsLinked}
+use Rattle.mi_database.specs.Journal.{JournalEntry, Journal, data_at, entry_back, entry_settled, entries, unwound, old_of, tables_of, Holds, IsLinked}
 use Rattle.mi_database.proofs.JournalLemmas.{linked_popped, oldest, holds_settled, all_settled_data}
 use Rattle.mi_database.proofs.JournalLemmas.{old_settled, tables_settled, length-old, take_old, entries-append}
 use Rattle.mi_journal.specs.Noted.{newest_entry, without_entry, TakesOldest, OldestIsEmpty}
@@ -19,7 +19,7 @@ use Rattle.mi_database.proofs.LinkedDataLemmas.{set_data, same_shapes}
 abbrev pub linked_data : CatalogShape → List Data → Journal → ℕ → ℕ → ℕ → LinkedData
 linked_data c ds j r changes starts = record { catalog = c; datas = ds; journal = j; revision = r; changes = changes; starts = starts }
 
-newest_split : (j : Journal) (e : Entry) → newest_entry j ≡ Some e → (es : List Entry) × (older : Journal) × (j ≡ (e ∷ es) ∷ older)
+newest_split : (j : Journal) (e : JournalEntry) → newest_entry j ≡ Some e → (es : List JournalEntry) × (older : Journal) × (j ≡ (e ∷ es) ∷ older)
 newest_split [] e is = absurd (let h : None ≡ Some e = is in cc)
 newest_split ([] ∷ older) e is = absurd (let h : None ≡ Some e = is in cc)
 newest_split ((x ∷ es) ∷ older) e is = let same : x ≡ e = (let h : Some x ≡ Some e = is in cc) in (es, older, ap (λ q. (q ∷ es) ∷ older) same)
@@ -33,7 +33,7 @@ newer_than_push xs y =
 
 module _ {X : Type 0} (shape : X → Shape) (plain : X → Data) (c : CatalogShape) (cs : List X) (n : ℕ) (k k' : X) (i : Inverse)
     (r changes starts changes' starts' : ℕ) where
-  unwind_at : (es : List Entry) (older : Journal) → k ≡ get_or cs n k → plain k' ≡ taken_back i (plain k) → shape k' ≡ shape k
+  unwind_at : (es : List JournalEntry) (older : Journal) → k ≡ get_or cs n k → plain k' ≡ taken_back i (plain k) → shape k' ≡ shape k
       → IsLinkedData (map shape cs) (linked_data c (map plain cs) (((n, i) ∷ es) ∷ older) r changes starts)
       → IsLinkedData (map shape (set cs n k')) (linked_data c (map plain (set cs n k')) (es ∷ older) r changes' starts')
       × (map plain (set cs n k') ≡ entry_back (n, i) (map plain cs))
@@ -59,7 +59,7 @@ module _ {X : Type 0} (shape : X → Shape) (plain : X → Data) (c : CatalogSha
       → IsLinkedData (map shape (set cs n k')) (linked_data c (map plain (set cs n k')) j' r changes' starts')
       × (map plain (set cs n k') ≡ back_by (newest_of j) (map plain cs))
   unwind_law j j' entry left was back same is =
-      let split : (es : List Entry) × (older : Journal) × (j ≡ ((n, i) ∷ es) ∷ older) = newest_split j (n, i) (sym entry) in
+      let split : (es : List JournalEntry) × (older : Journal) × (j ≡ ((n, i) ∷ es) ∷ older) = newest_split j (n, i) (sym entry) in
       let h = unwind_at split.0 split.1 was back same (subst (λ q. IsLinkedData (map shape cs) (linked_data c (map plain cs) q r changes starts)) split.2 is)
       in (
         subst (λ q. IsLinkedData (map shape (set cs n k')) (linked_data c (map plain (set cs n k')) q r changes' starts'))
@@ -68,22 +68,23 @@ module _ {X : Type 0} (shape : X → Shape) (plain : X → Data) (c : CatalogSha
       )
 
 -- the entries of a journal by its oldest session
-entries_push : (newer : Journal) (es : List Entry) → entries (newer ++ es ∷ []) ≡ entries newer ++ es
+entries_push : (newer : Journal) (es : List JournalEntry) → entries (newer ++ es ∷ []) ≡ entries newer ++ es
 entries_push newer es = entries-append newer (es ∷ []) ∙ ap (λ q. entries newer ++ q) (append-nil es)
 
-entries_oldest : (newer : Journal) (rest : List Entry) (e : Entry) → entries (newer ++ (rest ++ e ∷ []) ∷ []) ≡ entries (newer ++ rest ∷ []) ++ e ∷ []
+entries_oldest : (newer : Journal) (rest : List JournalEntry) (e : JournalEntry)
+    → entries (newer ++ (rest ++ e ∷ []) ∷ []) ≡ entries (newer ++ rest ∷ []) ++ e ∷ []
 entries_oldest newer rest e = entries_push newer (rest ++ e ∷ []) ∙ sym (append_assoc (entries newer) rest (e ∷ []))
     ∙ ap (λ q. q ++ e ∷ []) (sym (entries_push newer rest))
 
 -- the old tables of all sessions but the oldest
-newer_old : (newer : Journal) (es : List Entry) (ds : List Data) → newer_than_oldest (old_of ds (newer ++ es ∷ [])) ≡ old_of ds newer
+newer_old : (newer : Journal) (es : List JournalEntry) (ds : List Data) → newer_than_oldest (old_of ds (newer ++ es ∷ [])) ≡ old_of ds newer
 newer_old newer es ds =
     let j : Journal = newer ++ es ∷ [] in
     let long : length (old_of ds j) ≡ length j = length-old j ds in
     ap (λ n. take (n - 1) (old_of ds j)) long ∙ take_old (length j - 1) j ds ∙ ap (old_of ds) (newer_than_push newer es)
 
 module _ {X : Type 0} (shape : X → Shape) (plain : X → Data) (c : CatalogShape) (cs : List X) (n : ℕ) (i : Inverse) (r changes starts : ℕ) where
-  oldest_of : (newer : Journal) (rest : List Entry)
+  oldest_of : (newer : Journal) (rest : List JournalEntry)
       → IsLinkedData (map shape cs) (linked_data c (map plain cs) (newer ++ (rest ++ (n, i) ∷ []) ∷ []) r changes starts)
       → Holds c (entries (newer ++ rest ∷ []) ++ (n, i) ∷ []) (map plain cs)
   oldest_of newer rest is = subst (λ es. Holds c es (map plain cs)) (entries_oldest newer rest (n, i)) is.linked.holds
@@ -97,7 +98,8 @@ module _ {X : Type 0} (shape : X → Shape) (plain : X → Data) (c : CatalogSha
       (oldest_of taken.0 taken.1 (subst (λ q. IsLinkedData (map shape cs) (linked_data c (map plain cs) q r changes starts)) taken.2 is)) in
       (subst (λ q. n < q) (length-map cs plain) h.0, h.1)
 
-  settle_at : (newer : Journal) (rest : List Entry) (k k' : X) (changes' starts' : ℕ) → k ≡ get_or cs n k → plain k' ≡ settled i (plain k) → shape k' ≡ shape k
+  settle_at : (newer : Journal) (rest : List JournalEntry) (k k' : X) (changes' starts' : ℕ)
+      → k ≡ get_or cs n k → plain k' ≡ settled i (plain k) → shape k' ≡ shape k
       → IsLinkedData (map shape cs) (linked_data c (map plain cs) (newer ++ (rest ++ (n, i) ∷ []) ∷ []) r changes starts)
       → IsLinkedData (map shape (set cs n k')) (linked_data c (map plain (set cs n k')) (newer ++ rest ∷ []) r changes' starts')
       × SettlesSome (linked_data c (map plain cs) (newer ++ (rest ++ (n, i) ∷ []) ∷ []) r changes starts)

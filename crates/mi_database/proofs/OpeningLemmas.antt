@@ -7,7 +7,7 @@ use Rattle.mi_catalog.specs.Rules.{is_catalog}
 use Rattle.mi_catalog.proofs.RuleLaws.{table_kept}
 use Rattle.mi_model.specs.Table.{opened}
 use Rattle.mi_model.specs.Database.{opened_database}
-use Rattle.mi_container.specs.Data.{Data, table_of, IsData}
+use Rattle.mi_container.specs.Data.{Data, as_table, IsData}
 use Rattle.mi_container.specs.Changes.{opened_data}
 use Rattle.mi_container.proofs.OpeningLemmas.{table_opened, is_data_opened}
 use Rattle.mi_database.specs.Journal.{Journal, data_at, tables_of, state_of}
@@ -27,7 +27,7 @@ opened_none (s ∷ ss) (suc n) = opened_none ss n
 opened_tables : (ss : List Shape) → tables_of (map opened_data ss) ≡ map opened ss
 opened_tables [] = refl
 opened_tables (s ∷ ss) =
-    let here : table_of (opened_data s) ≡ opened s = table_opened s in
+    let here : as_table (opened_data s) ≡ opened s = table_opened s in
     let rest : tables_of (map opened_data ss) ≡ map opened ss = opened_tables ss in
     λ i. here i ∷ rest i
 

@@ -10,7 +10,7 @@ use Rattle.mi_model.specs.DatabaseChange.{Meets}
 use Rattle.mi_model.specs.Database.{Database, with_table, on_table}
 use Rattle.mi_model.specs.Database.{table_of as table_at}
 use Rattle.mi_model.proofs.StepLaws.{meets_on_table, with_same_table}
-use Rattle.mi_container.specs.Data.{Data, table_of}
+use Rattle.mi_container.specs.Data.{Data, as_table}
 use Rattle.mi_container.specs.Inverse.{Inverse}
 use Rattle.mi_database.specs.Journal.{Journal, state_of}
 use Rattle.mi_database.proofs.JournalLemmas.{table_at as table_there}
@@ -26,23 +26,23 @@ within_containers shape plain c cs j r changes starts n is l = subst (λ q. n < 
 
 -- the table of a container
 pub table_of_container : {X : Type 0} (plain : X → Data) (c : CatalogShape) (cs : List X) (j : Journal) (r n : ℕ) (k : X) → n < length cs → k ≡ get_or cs n k
-    → table_of (plain k) ≡ table_at (state_of c (map plain cs) j r) n
+    → as_table (plain k) ≡ table_at (state_of c (map plain cs) j r) n
 table_of_container plain c cs j r n k l was =
-    ap table_of (sym (set_data plain cs n k l was)) ∙ sym (table_there (map plain cs) n _ (subst (λ q. n < q) (sym (length-map cs plain)) l))
+    ap as_table (sym (set_data plain cs n k l was)) ∙ sym (table_there (map plain cs) n _ (subst (λ q. n < q) (sym (length-map cs plain)) l))
 
 -- an accepted change
 pub lift_made : {X A : Type 0} (shape : X → Shape) (plain : X → Data) (c : CatalogShape) (cs after : List X) (n : ℕ) (k k' : X) (i : Inverse)
     (j noted_ : Journal) (r changes starts : ℕ)
     (f : Shape → Table → Outcome A) (a : Result A Refusal) (d : Database)
     → Made shape plain cs after n k k' i j noted_ → IsLinkedData (map shape cs) (linked_data c (map plain cs) j r changes starts)
-    → Meets (f (shape k) (table_of (plain k))) a (table_of (plain k)) (table_of (plain k')) → state_of c (map plain cs) j r ≡ d
+    → Meets (f (shape k) (as_table (plain k))) a (as_table (plain k)) (as_table (plain k')) → state_of c (map plain cs) j r ≡ d
     → Meets (on_table n f d) a d (state_of c (map plain after) noted_ r)
 lift_made shape plain c cs after n k k' i j noted_ r changes starts f a d made is meets was =
     let old : Database = state_of c (map plain cs) j r in
     let new : Database = state_of c (map plain after) noted_ r in
     subst (λ (q : Database). Meets (on_table n f q) a q new) was
     (subst (Meets (on_table n f old) a old) (sym (made_state shape plain c cs after n k k' i j noted_ made is.shapes is.linked r))
-    (meets_on_table n f old (shape k) (table_of (plain k)) (table_of (plain k')) a (shape_at shape c cs n k made.within made.was is.shapes)
+    (meets_on_table n f old (shape k) (as_table (plain k)) (as_table (plain k')) a (shape_at shape c cs n k made.within made.was is.shapes)
     (table_of_container plain c cs j r n k made.within made.was) meets))
 
 refused_datas : {X : Type 0} (plain : X → Data) (cs : List X) (n : ℕ) (k k' : X) → n < length cs → k ≡ get_or cs n k → plain k' ≡ plain k
@@ -65,16 +65,16 @@ pub lift_refused : {X A : Type 0} (shape : X → Shape) (plain : X → Data) (c 
     (r changes starts : ℕ)
     (f : Shape → Table → Outcome A) (a : Result A Refusal) (d : Database)
     → IsLinkedData (map shape cs) (linked_data c (map plain cs) j r changes starts) → n < length c.tables → k ≡ get_or cs n k → plain k' ≡ plain k
-    → Meets (f (shape k) (table_of (plain k))) a (table_of (plain k)) (table_of (plain k')) → state_of c (map plain cs) j r ≡ d
+    → Meets (f (shape k) (as_table (plain k))) a (as_table (plain k)) (as_table (plain k')) → state_of c (map plain cs) j r ≡ d
     → Meets (on_table n f d) a d (state_of c (map plain (set cs n k')) j r)
 lift_refused shape plain c cs n k k' j r changes starts f a d is w was same meets is_state =
     let l : n < length cs = within_containers shape plain c cs j r changes starts n is w in
     let old : Database = state_of c (map plain cs) j r in
     let new : Database = state_of c (map plain (set cs n k')) j r in
     let here = table_of_container plain c cs j r n k l was in
-    let stays : with_table n (table_of (plain k')) old ≡ new =
-    ap (λ t. with_table n t old) (ap table_of same ∙ here) ∙ with_same_table n old
+    let stays : with_table n (as_table (plain k')) old ≡ new =
+    ap (λ t. with_table n t old) (ap as_table same ∙ here) ∙ with_same_table n old
     ∙ sym (ap (λ q. state_of c q j r) (refused_datas plain cs n k k' l was same)) in
     subst (λ (q : Database). Meets (on_table n f q) a q new) is_state
     (subst (Meets (on_table n f old) a old) stays
-    (meets_on_table n f old (shape k) (table_of (plain k)) (table_of (plain k')) a (shape_at shape c cs n k l was is.shapes) here meets))
+    (meets_on_table n f old (shape k) (as_table (plain k)) (as_table (plain k')) a (shape_at shape c cs n k l was is.shapes) here meets))

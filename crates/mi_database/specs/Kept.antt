@@ -8,7 +8,7 @@ use Rattle.mi_value.specs.declared.refusal.Refusal.{Refusal}
 use Rattle.mi_value.specs.declared.refusal.Refusal.TheVariants.{Memory}
 use Rattle.mi_model.specs.Table.{times}
 use Rattle.mi_model.specs.Run.{Command}
-use Rattle.mi_model.specs.Footprint.{Kept, kept_after, kept_more}
+use Rattle.mi_model.specs.Footprint.{KeptRows, kept_after, kept_more}
 use Rattle.mi_container.specs.Data.{node_of, kept_of}
 use Rattle.mi_container.specs.Data as plain
 use Rattle.mi_database.specs.Journal.{data_at, kept_in}
@@ -17,11 +17,11 @@ use Rattle.mi_database.specs.Keyed.{keyed}
 use Rattle.mi_database.specs.LinkedData.{LinkedData, meaning}
 
 -- for each session the table and id of each row whose node an inverse keeps
-abbrev pub kept_rows : LinkedData → Kept
+abbrev pub kept_rows : LinkedData → KeptRows
 kept_rows h = map kept_in h.journal
 
 -- with the rows of a key beside those of the newest session
-abbrev pub kept_with : ℕ → ℕ → List Value → LinkedData → Kept
+abbrev pub kept_with : ℕ → ℕ → List Value → LinkedData → KeptRows
 kept_with n x key h = kept_more (map (λ id. (n, id)) (keyed n x key (meaning h))) (kept_rows h)
 
 abbrev pub KeptRefused : Command → Refusal → LinkedData → LinkedData → Type 0
@@ -39,7 +39,7 @@ ids_in n [] = []
 ids_in n (r ∷ rows) = if r.0 == n then r.1 ∷ ids_in n rows else ids_in n rows
 
 -- and of all sessions
-abbrev pub ids_at : ℕ → Kept → List ℕ
+abbrev pub ids_at : ℕ → KeptRows → List ℕ
 ids_at n [] = []
 ids_at n (rows ∷ older) = ids_at n older ++ ids_in n rows
 

@@ -6,7 +6,7 @@ use Rattle.mi_model.specs.Database.{Database}
 use Rattle.mi_container.specs.Data.{Data}
 use Rattle.mi_container.specs.Changes.{opened_data}
 use Rattle.mi_container.specs.Inverse.{Inverse, settled}
-use Rattle.mi_database.specs.Journal.{Entry, Journal, data_at, entry_back, entries, unwound, old_of, tables_of, state_of, IsLinked}
+use Rattle.mi_database.specs.Journal.{JournalEntry, Journal, data_at, entry_back, entries, unwound, old_of, tables_of, state_of, IsLinked}
 use Rattle.mi_journal.specs.Noted.{Noted, OldestIsEmpty}
 
 -- the containers' data, the inverses of each session, the revision, and the journal's room
@@ -19,8 +19,8 @@ pub record LinkedData : Type 0 where
   pub starts : ℕ
 
 -- as the fields have it
-abbrev pub seen : CatalogShape → List Data → Noted Inverse → ℕ → LinkedData
-seen c ds j r = record { catalog = c; datas = ds; journal = j.sessions; revision = r; changes = j.changes; starts = j.starts }
+abbrev pub data_seen : CatalogShape → List Data → Noted Inverse → ℕ → LinkedData
+data_seen c ds j r = record { catalog = c; datas = ds; journal = j.sessions; revision = r; changes = j.changes; starts = j.starts }
 
 abbrev pub meaning : LinkedData → Database
 meaning h = state_of h.catalog h.datas h.journal h.revision
@@ -47,7 +47,7 @@ kept_datas n i [] ds = slice_set ds n (settled i (data_at ds n))
 kept_datas n i (newest ∷ older) ds = ds
 
 -- the newest session's entries, and the other sessions
-abbrev pub newest_of : Journal → List Entry
+abbrev pub newest_of : Journal → List JournalEntry
 newest_of [] = []
 newest_of (newest ∷ older) = newest
 
@@ -56,7 +56,7 @@ older_of [] = []
 older_of (newest ∷ older) = older
 
 -- the newest entry taken back
-abbrev pub back_by : List Entry → List Data → List Data
+abbrev pub back_by : List JournalEntry → List Data → List Data
 back_by [] ds = ds
 back_by (e ∷ es) ds = entry_back e ds
 

@@ -17,13 +17,13 @@ pub struct Linked<C: Container> {
 
 impl<C: Container> Model for Linked<C> {
     ghost use Rattle.std.specs.Prelude.{map};
-    ghost use Rattle.mi_database.specs.LinkedData.{LinkedData, seen, IsLinkedData};
+    ghost use Rattle.mi_database.specs.LinkedData.{LinkedData, data_seen, IsLinkedData};
 
     ghost Value = { LinkedData };
 
-    ghost view = { λ a. seen a.catalog (map C.plain a.containers.items) a.journal a.revision };
+    ghost view = { λ a. data_seen a.catalog (map C.plain a.containers.items) a.journal a.revision };
 
-    ghost invariant = { λ a. IsLinkedData (map C.shape a.containers.items) (seen a.catalog (map C.plain a.containers.items) a.journal a.revision) };
+    ghost invariant = { λ a. IsLinkedData (map C.shape a.containers.items) (data_seen a.catalog (map C.plain a.containers.items) a.journal a.revision) };
 }
 
 ghost use Rattle.std.specs.Prelude.{◌≡◌, ◌<◌, ◌≤◌, ◌+◌, length, map, vec_len, IfOk, OnErr};
@@ -77,7 +77,7 @@ impl<C: Container> Linked<C> {
     ghost use Rattle.std.specs.Prelude.{OnOk};
     ghost use Rattle.mi_database.specs.LinkedData.{meaning, opened_linked};
     ghost use Rattle.mi_catalog.specs.Fitting.{HasTable};
-    ghost use Rattle.mi_container.specs.Data.{table_of};
+    ghost use Rattle.mi_container.specs.Data.{as_table};
     ghost use Rattle.mi_database.specs.Kept.{NodesAreKept};
     ghost use Rattle.mi_model.specs.Table.{IsTable};
     ghost use Rattle.mi_model.specs.Database.{opened_database, schema_of, table_of as table_at};
@@ -122,7 +122,7 @@ impl<C: Container> Linked<C> {
     pub(crate) fn at(&self, n: usize) -> &C
         requires { HasTable self.now.catalog n }
         ensures shape { C.shape result.now ≡ schema_of (meaning self.now) n }
-        ensures table { table_of (C.plain result.now) ≡ table_at (meaning self.now) n }
+        ensures table { as_table (C.plain result.now) ≡ table_at (meaning self.now) n }
         ensures within { n < length (meaning self.now).tables }
         ensures is { IsTable (schema_of (meaning self.now) n) (table_at (meaning self.now) n) }
     {

@@ -1,7 +1,7 @@
 //! The calls of a database, made by the containers and the journal.
 ghost use Rattle.std.specs.Prelude.{◌≡◌, ◌≢◌, ◌<◌, ◌≤◌, ◌+◌, ◌-◌, length, IfSome, IfErr, OnOk, Err};
 ghost use Rattle.mi_value.specs.declared.refusal.Refusal.TheVariants.{Memory};
-ghost use Rattle.mi_catalog.specs.Fitting.{HasTable, IsKeyedIndex, IsSequencedIndex, FitsTable, EditsFit, FitsWhole};
+ghost use Rattle.mi_catalog.specs.Fitting.{HasTable, IsKeyedIndex, IsSequencedIndex, FitsTable, FitsEdits, FitsWhole};
 ghost use Rattle.mi_model.specs.Database.{depth as depth_of, start_step, undo_step, squash_step, ending, committed, undone_times};
 ghost use Rattle.mi_model.specs.DatabaseChange.{Meets, without_value, insert_step, replace_step, modify_step, erase_step, erase_key_step, relocate_step};
 ghost use Rattle.mi_model.specs.Footprint.{kept_after};
@@ -117,7 +117,7 @@ impl<C: Container> Sessions for Linked<C> {
         rollback: bool,
     ) -> Result<(), Refusal>
         requires table { HasTable (meaning self.old).catalog table }
-        requires edits { EditsFit (meaning self.old).catalog table edits.now }
+        requires edits { FitsEdits (meaning self.old).catalog table edits.now }
         ensures outcome { Meets (modify_step table id edits.now rollback (meaning self.old)) result (meaning self.old) (meaning self.new) }
         ensures footprint { KeptAfter (ModifyCommand table id edits.now rollback) result self.old self.new }
         ensures changes { self.old.changes ≤ self.new.changes + 1 }

@@ -8,7 +8,7 @@ use Rattle.mi_protocol.specs.declared.binding.Command.TheVariants as command
 use Rattle.mi_commands.specs.Asked.{Asked, text, too_long}
 use Rattle.mi_hub.specs.Lines.{Rest}
 use Rattle.mi_commands.specs.Holder.{HeldDatabase, one_more, one_less, at_most, without_holder, released}
-use Rattle.mi_commands.specs.Performed.{performed, moved}
+use Rattle.mi_commands.specs.Performed.{performed, holder_after}
 use Rattle.mi_commands.specs.Answer.{command_answer, command_of, answer, MayGive}
 use Rattle.mi_hub.specs.Served.{InTurn, Served, CutOff}
 use Rattle.mi_hub.specs.Connections.{rest_at, with_rest, others, holder_is_attached}
@@ -43,7 +43,7 @@ module _ (cs : List Connection) where
   without conn (Some x) h = either (nat_eq x.conn conn) None (Some x) refl h
 
   where_accepted : (answer : Result ℕ Refusal) (move : Option Holder → Option Holder) (o : Option Holder)
-      → holder_is_attached (move o) cs ≡ true → holder_is_attached o cs ≡ true → holder_is_attached (moved answer move o) cs ≡ true
+      → holder_is_attached (move o) cs ≡ true → holder_is_attached o cs ≡ true → holder_is_attached (holder_after answer move o) cs ≡ true
   where_accepted (Ok n) move o h k = h
   where_accepted (Err e) move o h k = k
 

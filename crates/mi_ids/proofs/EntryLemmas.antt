@@ -5,7 +5,7 @@ use Rattle.std.proofs.Common.{◌≡◌, ℕ, ◌==◌, Bool, true, false, cond,
 use Rattle.std.specs.Ordering.{nat_cmp}
 use Rattle.std.specs.Cmp.{nat_cmp_total, unsigned_tied}
 use Rattle.std.specs.FinMap.{FinMap, get, insert, remove, get-insert, get-remove, same_map, nat_cmp-IsAntisymmetric}
-use Rattle.mi_ids.specs.IdMap.{flagged, marked, with_live}
+use Rattle.mi_ids.specs.IdMap.{flagged, with_mark, with_live}
 use Rattle.mi_ids.specs.declared.entry.IdEntry.{IdEntry}
 
 flip : (k q : ℕ) → (k == q) ≡ (q == k)
@@ -24,7 +24,7 @@ pub get-out : (m : FinMap nat_cmp IdEntry) (k q : ℕ) → get (remove m k) q �
 get-out m k q = get-remove nat_cmp_total m k q ∙ ap (λ b. cond b None (get m q)) (unsigned_tied q k ∙ flip q k)
 
 read-marked : (m : FinMap nat_cmp IdEntry) (k : ℕ) (live : Bool) (q : ℕ) (o : Option IdEntry) → get m k ≡ o
-    → get (marked m k live o) q ≡ cond (k == q) (option_map (flagged live) o) (get m q)
+    → get (with_mark m k live o) q ≡ cond (k == q) (option_map (flagged live) o) (get m q)
 read-marked m k live q None e = (elim (k == q) as (λ y. (k == q) ≡ y → get m q ≡ cond y None (get m q)) [
   | true ↦ λ t. ap (get m) (sym (same k q t)) ∙ e
   | false ↦ λ t. refl

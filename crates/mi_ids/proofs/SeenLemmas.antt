@@ -9,7 +9,7 @@ use Rattle.std.specs.Cmp.{nat_cmp_total, unsigned_tied}
 use Rattle.std.specs.FinMap.{FinMap, get, insert, remove, len, from_entries, find, get-from_entries, len-empty, len-insert, same_map, nat_cmp-IsAntisymmetric}
 use Rattle.std.specs.List.{IsDistinct, AllByRecursion}
 use Rattle.std.specs.Map.{keys_of, lookup}
-use Rattle.mi_ids.specs.IdMap.{flagged, marked, with_live}
+use Rattle.mi_ids.specs.IdMap.{flagged, with_mark, with_live}
 use Rattle.mi_ids.proofs.EntryLemmas.{get-put, get-out}
 use Rattle.mi_ids.specs.declared.entry.IdEntry.{IdEntry}
 
@@ -42,11 +42,11 @@ seen-taken es fs k is = equal fs (remove (seen es) k) (λ q. is q ∙ ap (cond (
 pub seen-marked : (es fs : List (ℕ × IdEntry)) (k : ℕ) (live : Bool) (e : IdEntry) → at k es ≡ Some e
     → ((q : ℕ) → at q fs ≡ cond (k == q) (Some (flagged live e)) (at q es)) → seen fs ≡ with_live (seen es) k live
 unfolding with_live
-seen-marked es fs k live e there is = seen-put es fs k (flagged live e) is ∙ ap (marked (seen es) k live) (sym (get-seen es k ∙ there))
+seen-marked es fs k live e there is = seen-put es fs k (flagged live e) is ∙ ap (with_mark (seen es) k live) (sym (get-seen es k ∙ there))
 
 pub seen-unmarked : (es : List (ℕ × IdEntry)) (k : ℕ) (live : Bool) → at k es ≡ None → seen es ≡ with_live (seen es) k live
 unfolding with_live
-seen-unmarked es k live out = ap (marked (seen es) k live) (sym (get-seen es k ∙ out))
+seen-unmarked es k live out = ap (with_mark (seen es) k live) (sym (get-seen es k ∙ out))
 
 lone : (k : ℕ) (es : List (ℕ × IdEntry)) → AllByRecursion (λ q. (k == q) ≡ false) (keys_of es) → at k es ≡ None
 lone k [] out = refl

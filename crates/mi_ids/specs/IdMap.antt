@@ -33,10 +33,10 @@ abbrev pub flagged : Bool → IdEntry → IdEntry
 flagged live e = record e { live = live }
 
 -- m with the entry of k, which is this one, live or not
-abbrev pub marked : FinMap nat_cmp IdEntry → ℕ → Bool → Option IdEntry → FinMap nat_cmp IdEntry
-marked m k live None = m
-marked m k live (Some e) = insert m k (flagged live e)
+abbrev pub with_mark : FinMap nat_cmp IdEntry → ℕ → Bool → Option IdEntry → FinMap nat_cmp IdEntry
+with_mark m k live None = m
+with_mark m k live (Some e) = insert m k (flagged live e)
 
 -- with the id k live or not, if it is there
 unfoldable pub with_live : FinMap nat_cmp IdEntry → ℕ → Bool → FinMap nat_cmp IdEntry
-with_live m k live = marked m k live (get m k)
+with_live m k live = with_mark m k live (get m k)

@@ -25,14 +25,14 @@ use Rattle.mi_chain.proofs.FrameLemmas.{AllOf, IsSame, chained_elsewhere}
 use Rattle.mi_order.specs.Orders.{stored_order, stored_tag, keying_of}
 use Rattle.mi_order.specs.OrderLaws.{stored_total, is_tagged}
 use Rattle.mi_order.specs.HashLaws.{keyings_are_lawful}
-use Rattle.mi_index.specs.Standing.{slot_in, order_of, AllAbove, Climb, Stands}
+use Rattle.mi_index.specs.Standing.{slot_in, swap_order, AllAbove, Climb, Stands}
 use Rattle.mi_order.specs.declared.stored.Stored.{Stored}
 use Rattle.mi_order.specs.declared.orders.ByHash.{ByHash}
 use Rattle.mi_index.specs.declared.structure.Structure.{Structure}
 use Rattle.mi_index.specs.declared.structure.Structure.TheVariants.{Ordered, Hashed, Sequenced}
 
 -- a list needs nothing of values
-alike_links : (x : Structure) (m n : Pooled Stored) (s : ℕ) (rs : List Ref) → AreAlike (order_of x) m n s rs → SameLinks m n s rs
+alike_links : (x : Structure) (m n : Pooled Stored) (s : ℕ) (rs : List Ref) → AreAlike (swap_order x) m n s rs → SameLinks m n s rs
 alike_links x m n s [] h = tt
 alike_links x m n s (r ∷ rs) h = (h.0.ref, h.0.link, alike_links x m n s rs h.1)
 
@@ -70,18 +70,18 @@ climb_on order m n s [] all h = tt
 climb_on order m n s (r ∷ rs) all h = (above_on order m n s r rs all.0 all.1 h.0, climb_on order m n s rs all.1 h.1)
 
 pub stands_alike : (x : Structure) (m n : Pooled Stored) (rs : List Ref) → n.slots ≡ m.slots
-    → AreAlike (order_of x) m n (slot_in x) rs → Stands x m rs → Stands x n rs
+    → AreAlike (swap_order x) m n (slot_in x) rs → Stands x m rs → Stands x n rs
 stands_alike (Ordered t) m n rs slots y h =
     tree_where (stored_order t.order.parts) (stored_tag t.order.types t.order.parts) (stored_total t.order.parts)
     (is_tagged t.order.types t.order.parts).tag_below t m n rs h y (subst (λ k. t.slot < k) (sym slots) h.has_slot)
 stands_alike (Hashed c) m n rs slots y h = (
   chained_elsewhere c (keying_of c.keys) (keyings_are_lawful c.keys) m n rs slots (all_same c.keys m n c.slot rs h.0.buckets.held y) h.0,
-  climb_on (order_of (Hashed c)) m n c.slot rs y h.1,
+  climb_on (swap_order (Hashed c)) m n c.slot rs y h.1,
 )
 stands_alike (Sequenced l) m n rs slots y h = listed_same l m n rs slots (alike_links (Sequenced l) m n (slot_of l) rs y) h
 
 -- the same values compare Equal
-pub itself : (x : Structure) (o : Option Stored) → compared (order_of x) o o ≡ Equal
+pub itself : (x : Structure) (o : Option Stored) → compared (swap_order x) o o ≡ Equal
 itself x None = refl
 itself (Ordered t) (Some v) = tied_itself (stored_total t.order.parts) v
 itself (Hashed c) (Some v) = tied_itself (compare_key_total c.keys.parts) v.row
@@ -94,13 +94,13 @@ pub record Agree (s : ℕ) (m n : Pooled Stored) : Type 0 where
   pub slots : n.slots ≡ m.slots
   pub links : (k : ℕ) → link_of n k s ≡ link_of m k s
 
-are_alike : (x : Structure) (m n : Pooled Stored) (rs : List Ref) → Agree (slot_in x) m n → AreAlike (order_of x) m n (slot_in x) rs
+are_alike : (x : Structure) (m n : Pooled Stored) (rs : List Ref) → Agree (slot_in x) m n → AreAlike (swap_order x) m n (slot_in x) rs
 are_alike x m n [] a = tt
 are_alike x m n (r ∷ rs) a = (
   record {
     ref = a.refs r.name;
     link = a.links r.name;
-    value = ap (compared (order_of x) (value_of m r.name)) (a.values r.name) ∙ itself x (value_of m r.name);
+    value = ap (compared (swap_order x) (value_of m r.name)) (a.values r.name) ∙ itself x (value_of m r.name);
   },
   are_alike x m n rs a,
 )

@@ -11,11 +11,11 @@ use Rattle.mi_chain.specs.Keying.{stamp_at}
 use Rattle.mi_order.specs.Orders.{stored_order}
 use Rattle.mi_index.specs.Standing.{IsLike, IsRoomy}
 use Rattle.mi_index.specs.Places.{before_at, NoneHas, IsPut, HasStamp, IsJoined, KeepsTags}
-use Rattle.mi_index.specs.Pass.{AllStand, AllCan, AllDone, AllLike, AreReady, IsPass, AllRoomy}
+use Rattle.mi_index.specs.Pass.{AllStand, AllCan, AllGiven, AllLike, AreReady, IsPass, AllRoomy}
 use Rattle.mi_index.specs.Passes.{joining, joined, nothing_asked, grown}
 use Rattle.std.specs.declared.cmp.Ordering.TheVariants.{Equal}
 use Rattle.mi_index.specs.Rekeying.{side_of_value, HasPlaceFor}
-use Rattle.mi_index.specs.Inserting.{inserting, inserted, IsInserted}
+use Rattle.mi_index.specs.Inserting.{coming_in, come_in, IsInserted}
 use Rattle.mi_order.specs.declared.stored.Stored.{Stored}
 use Rattle.mi_order.specs.declared.orders.ByKey.{ByKey}
 use Rattle.mi_index.specs.declared.moves.Moves.TheVariants.{All}
@@ -139,7 +139,7 @@ nothing_all [] s m rss = tt
 nothing_all (x ∷ xs) s m [] = tt
 nothing_all (x ∷ xs) s m (rs ∷ rss) = (tt, nothing_all xs (s + 1) m rss)
 
-grown_same : (xs : List Structure) (s : ℕ) (m n : Pooled Stored) (rss uss : List (List Ref)) → AllDone grown xs s m n rss uss → uss ≡ rss
+grown_same : (xs : List Structure) (s : ℕ) (m n : Pooled Stored) (rss uss : List (List Ref)) → AllGiven grown xs s m n rss uss → uss ≡ rss
 grown_same [] s m n [] [] d = refl
 grown_same [] s m n [] (us ∷ uss) d = absurd d
 grown_same [] s m n (rs ∷ rss) uss d = absurd d
@@ -159,7 +159,7 @@ module _ (m n : Pooled Stored) (r : Ref) (v : Stored) (values : (k : ℕ) → va
   others q e = (but_taken n r v).values q e ∙ values q
 
   can_all : (t : ℕ) (b : Option (ℕ × Ref)) (xs ys : List Structure) (s : ℕ) (rss uss : List (List Ref))
-      → AllLike xs ys → AllDone grown xs s m n rss uss → AllStand ys s n rss → AllCan (inserting v t b) xs s m rss
+      → AllLike xs ys → AllGiven grown xs s m n rss uss → AllStand ys s n rss → AllCan (coming_in v t b) xs s m rss
       → AllCan (joining All r t b) ys s o rss
   can_all t b [] [] s rss uss like d h c = tt
   can_all t b [] (y ∷ ys) s rss uss like d h c = absurd like
@@ -179,11 +179,11 @@ module _ (m n : Pooled Stored) (r : Ref) (v : Stored) (values : (k : ℕ) → va
       )
 
   done_all : (t : ℕ) (b : Option (ℕ × Ref)) (xs ys : List Structure) (s : ℕ) (p : Pooled Stored) (rss uss wss : List (List Ref))
-      → AllLike xs ys → AllDone grown xs s m n rss uss → AllDone (joined All r t b) ys s o p rss wss
-      → AllDone (inserted r t b) xs s m p rss wss
+      → AllLike xs ys → AllGiven grown xs s m n rss uss → AllGiven (joined All r t b) ys s o p rss wss
+      → AllGiven (come_in r t b) xs s m p rss wss
   done_all t b [] [] s p rss uss wss like d j = nothing_done rss wss j
     where
-      nothing_done : (rss wss : List (List Ref)) → AllDone (joined All r t b) [] s o p rss wss → AllDone (inserted r t b) [] s m p rss wss
+      nothing_done : (rss wss : List (List Ref)) → AllGiven (joined All r t b) [] s o p rss wss → AllGiven (come_in r t b) [] s m p rss wss
       nothing_done [] [] j = tt
       nothing_done [] (ws ∷ wss) j = absurd j
       nothing_done (rs ∷ rss) wss j = absurd j
@@ -199,7 +199,7 @@ module _ (m n : Pooled Stored) (r : Ref) (v : Stored) (values : (k : ℕ) → va
 
 module _ (m n : Pooled Stored) (r : Ref) (v : Stored) (t : ℕ) (b : Option (ℕ × Ref)) (xs ys : List Structure)
     (like : AllLike xs ys) (grow : (q : Ref) → IsPass nothing_asked grown q 0 xs ys m n) (free : ref_of n r.name ≡ None) where
-  pub can_insert : AreReady (inserting v t b) 0 xs m → AreReady (joining All r t b) 0 ys (taken n r v)
+  pub can_insert : AreReady (coming_in v t b) 0 xs m → AreReady (joining All r t b) 0 ys (taken n r v)
   can_insert q =
       let g = grow r q.rss q.stand (nothing_all xs 0 m q.rss) in
       let h = subst (AllStand ys 0 n) (grown_same xs 0 m n q.rss g.uss g.done) g.stand in
@@ -210,7 +210,7 @@ module _ (m n : Pooled Stored) (r : Ref) (v : Stored) (t : ℕ) (b : Option (ℕ
       }
 
   pub is_inserted : (zs : List Structure) (p : Pooled Stored) → IsPass (joining All r t b) (joined All r t b) r 0 ys zs (taken n r v) p
-      → (rss : List (List Ref)) → AllStand xs 0 m rss → AllCan (inserting v t b) xs 0 m rss
+      → (rss : List (List Ref)) → AllStand xs 0 m rss → AllCan (coming_in v t b) xs 0 m rss
       → IsInserted r v t b xs zs m p rss
   is_inserted zs p pass rss stand can =
       let g = grow r rss stand (nothing_all xs 0 m rss) in

@@ -18,7 +18,7 @@ use Rattle.mi_chain.proofs.CallLemmas.{new_chains}
 use Rattle.mi_order.specs.Orders.{stored_order, stored_tag, keying_of}
 use Rattle.mi_index.specs.Standing.{slot_in, Stands}
 use Rattle.mi_index.specs.Pass.{AllStand, AllCan, AreReady}
-use Rattle.mi_index.specs.Inserting.{inserting}
+use Rattle.mi_index.specs.Inserting.{coming_in}
 use Rattle.mi_index.specs.Rekeying.{HasPlaceFor}
 use Rattle.std.specs.declared.option.Option.TheVariants.{None}
 use Rattle.mi_index.specs.Opened.{IsOpenedFor, AllOpenedFor, IsEmpty, AllEmpty, empties, IsOpened}
@@ -60,7 +60,7 @@ is_opened s xs m is f e =
     record { pool = is; kinds = f; stand = all_empty s.columns s.indexes 0 xs m f e (omega (arith, slots)) }
 
 -- any value may be the first
-room_all : (xs : List Structure) (s : ℕ) (m : Pooled Stored) (v : Stored) (t : ℕ) → AllCan (inserting v t None) xs s m (empties xs)
+room_all : (xs : List Structure) (s : ℕ) (m : Pooled Stored) (v : Stored) (t : ℕ) → AllCan (coming_in v t None) xs s m (empties xs)
 room_all [] s m v t = tt
 room_all (x ∷ xs) s m v t = (record { few = omega arith; place = room_one x }, room_all xs (s + 1) m v t)
   where
@@ -69,5 +69,5 @@ room_all (x ∷ xs) s m v t = (record { few = omega arith; place = room_one x },
     room_one (Hashed c) = tt
     room_one (Sequenced l) = ([], [], refl, refl)
 
-pub first_fits : (s : Shape) (m : Pooled Stored) (xs : List Structure) (v : Stored) (t : ℕ) → IsOpened s m xs → AreReady (inserting v t None) 0 xs m
+pub first_fits : (s : Shape) (m : Pooled Stored) (xs : List Structure) (v : Stored) (t : ℕ) → IsOpened s m xs → AreReady (coming_in v t None) 0 xs m
 first_fits s m xs v t o = record { rss = empties xs; stand = o.stand; can = room_all xs 0 m v t }

@@ -21,7 +21,7 @@ use Rattle.mi_tree.proofs.BinaryTreeLemmas.{all_held}
 use Rattle.mi_chain.specs.Keying.{stamp_at, same_nodes, same_values}
 use Rattle.mi_chain.specs.declared.chains.Chains.{Chains}
 use Rattle.mi_order.specs.Orders.{stored_order, keying_of, has_one_key}
-use Rattle.mi_index.specs.Standing.{slot_in, order_of, AllAbove, AllBelow, Stands}
+use Rattle.mi_index.specs.Standing.{slot_in, swap_order, AllAbove, AllBelow, Stands}
 use Rattle.mi_index.specs.Places.{NoneHas, HasPlace, HasOldPlace}
 use Rattle.mi_index.specs.Pass.{AllStand, IsOutOfAll}
 use Rattle.mi_index.specs.Rekeying.{side_of_value, has_key_of, HasPlaceFor, HasOldPlaceFor}
@@ -62,13 +62,13 @@ but_value m k v = record {
   slots = slots-with_value m k v;
 }
 
-alike_but : (x : Structure) (k : ℕ) (m n : Pooled Stored) (rs : List Ref) → AgreeBut k m n → IsOut k rs → AreAlike (order_of x) m n (slot_in x) rs
+alike_but : (x : Structure) (k : ℕ) (m n : Pooled Stored) (rs : List Ref) → AgreeBut k m n → IsOut k rs → AreAlike (swap_order x) m n (slot_in x) rs
 alike_but x k m n [] a o = tt
 alike_but x k m n (q ∷ rs) a o = (
   record {
     ref = a.refs q.name o.0;
     link = a.links q.name (slot_in x) o.0;
-    value = ap (compared (order_of x) (value_of m q.name)) (a.values q.name o.0) ∙ itself x (value_of m q.name);
+    value = ap (compared (swap_order x) (value_of m q.name)) (a.values q.name o.0) ∙ itself x (value_of m q.name);
   },
   alike_but x k m n rs a o.1,
 )

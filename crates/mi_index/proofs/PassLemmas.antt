@@ -5,7 +5,7 @@ use Rattle.std.proofs.Common.{◌≡◌, ℕ, ◌+◌, ◌<◌, ◌^◌, ◌==�
 use Rattle.mi_node.specs.Pool.{Pooled, Keeps}
 use Rattle.mi_node.specs.Refs.{Ref}
 use Rattle.mi_index.specs.Standing.{slot_in, IsLike}
-use Rattle.mi_index.specs.Pass.{Asks, Gives, AllStand, AllCan, AllDone, KeepsFrom, IsStep, AreReady, IsPass}
+use Rattle.mi_index.specs.Pass.{Asks, Gives, AllStand, AllCan, AllGiven, KeepsFrom, IsStep, AreReady, IsPass}
 use Rattle.mi_order.specs.declared.stored.Stored.{Stored}
 use Rattle.mi_index.specs.declared.structure.Structure.{Structure}
 use Rattle.mi_index.specs.declared.structure.Structure.TheVariants.{Ordered, Hashed, Sequenced}
@@ -76,7 +76,7 @@ module _ (P : Asks) (Q : Gives) (local : IsLocal P Q) where
   )
 
   all_done : (xs : List Structure) (t i : ℕ) (k m n : Pooled Stored) (us : List Ref) (rss uss : List (List Ref))
-      → Keeps k m i us → i < t → AllStand xs t k rss → AllDone Q xs t m n rss uss → AllDone Q xs t k n rss uss
+      → Keeps k m i us → i < t → AllStand xs t k rss → AllGiven Q xs t m n rss uss → AllGiven Q xs t k n rss uss
   all_done [] t i k m n us [] [] g l h d = tt
   all_done [] t i k m n us [] (ws ∷ uss) g l h d = absurd d
   all_done [] t i k m n us (rs ∷ rss) uss g l h d = absurd h

@@ -11,9 +11,9 @@ use Rattle.mi_node.proofs.EntryLemmas.{same_name, same_refl, slots-with_value, r
 use Rattle.mi_node.proofs.RefLemmas.{apart_remove, out_right}
 use Rattle.mi_tree.specs.Sorted.{compared}
 use Rattle.mi_tree.specs.Frame.{IsAlike, AreAlike}
-use Rattle.mi_index.specs.Standing.{slot_in, order_of, AllAbove, AllBelow, Stands, IsLike}
+use Rattle.mi_index.specs.Standing.{slot_in, swap_order, AllAbove, AllBelow, Stands, IsLike}
 use Rattle.mi_index.specs.Places.{is_given, IsWith, IsBeside, IsLeft}
-use Rattle.mi_index.specs.Pass.{Asks, Gives, AllStand, AllCan, AllDone, AllLike, AreReady, IsPass, IsOutOfAll}
+use Rattle.mi_index.specs.Pass.{Asks, Gives, AllStand, AllCan, AllGiven, AllLike, AreReady, IsPass, IsOutOfAll}
 use Rattle.mi_index.specs.Passes.{IsSame, CanJoinIf, IsJoinedIf, HasNodeIf, IsLeftIf, CanReturnTo, IsBackAt}
 use Rattle.mi_index.specs.Rekeying.{side_of_value, HasPlaceFor, HasOldPlaceFor, KeepsKey, CanMoveIf, HasMovedIf, CanMoveBackTo, HasMovedBackTo, IsRekeyed}
 use Rattle.std.specs.List.{filter}
@@ -52,12 +52,12 @@ cut_once r (x ∷ xs) ys (u ∷ us) vs a e = λ i. head_of e i ∷ cut_once r xs
 
 -- Values
 
-order_like : (x y : Structure) → IsLike x y → order_of y ≡ order_of x
-order_like (Ordered a) (Ordered c) g = ap (λ (o : ByKey). order_of (Ordered (record { slot = c.slot; order = o; root = c.root }))) g.1
+order_like : (x y : Structure) → IsLike x y → swap_order y ≡ swap_order x
+order_like (Ordered a) (Ordered c) g = ap (λ (o : ByKey). swap_order (Ordered (record { slot = c.slot; order = o; root = c.root }))) g.1
 order_like (Ordered a) (Hashed c) g = absurd g
 order_like (Ordered a) (Sequenced c) g = absurd g
 order_like (Hashed a) (Ordered c) g = absurd g
-order_like (Hashed a) (Hashed c) g = ap (λ (k : ByHash). order_of (Hashed (record { slot = c.slot; keys = k; buckets = c.buckets; groups = c.groups }))) g.1
+order_like (Hashed a) (Hashed c) g = ap (λ (k : ByHash). swap_order (Hashed (record { slot = c.slot; keys = k; buckets = c.buckets; groups = c.groups }))) g.1
 order_like (Hashed a) (Sequenced c) g = absurd g
 order_like (Sequenced a) (Ordered c) g = absurd g
 order_like (Sequenced a) (Hashed c) g = absurd g
@@ -65,28 +65,28 @@ order_like (Sequenced a) (Sequenced c) g = refl
 
 -- the node's own value may be exchanged for one that compares Equal
 module _ (m : Pooled Stored) (r : Ref) (v : Stored) where
-  alike_own : (x : Structure) (q : Ref) → ((old : Stored) → value_of m r.name ≡ Some old → order_of x old v ≡ Equal)
-      → IsAlike (order_of x) m (with_value m r.name v) (slot_in x) q
+  alike_own : (x : Structure) (q : Ref) → ((old : Stored) → value_of m r.name ≡ Some old → swap_order x old v ≡ Equal)
+      → IsAlike (swap_order x) m (with_value m r.name v) (slot_in x) q
   alike_own x q e = record {
     ref = ref-with_value m r.name v q.name;
     link = link-with_value m r.name v q.name (slot_in x);
-    value = ap (compared (order_of x) (value_of m q.name)) (value-with_value m r.name v q.name) ∙ (elim (r.name == q.name) as (λ b. (r.name == q.name) ≡ b
-        → compared (order_of x) (value_of m q.name) (cond b (option_map (λ _. v) (value_of m q.name)) (value_of m q.name)) ≡ Equal) [
+    value = ap (compared (swap_order x) (value_of m q.name)) (value-with_value m r.name v q.name) ∙ (elim (r.name == q.name) as (λ b. (r.name == q.name) ≡ b
+        → compared (swap_order x) (value_of m q.name) (cond b (option_map (λ _. v) (value_of m q.name)) (value_of m q.name)) ≡ Equal) [
           | true ↦ λ t. here (value_of m q.name) (ap (value_of m) (same_name r.name q.name t))
           | false ↦ λ t. itself x (value_of m q.name)
         ]) refl;
   }
     where
-      here : (o : Option Stored) → value_of m r.name ≡ o → compared (order_of x) o (option_map (λ _. v) o) ≡ Equal
+      here : (o : Option Stored) → value_of m r.name ≡ o → compared (swap_order x) o (option_map (λ _. v) o) ≡ Equal
       here None is = refl
       here (Some old) is = e old is
 
-  alike_all : (x : Structure) (us : List Ref) → ((old : Stored) → value_of m r.name ≡ Some old → order_of x old v ≡ Equal)
-      → AreAlike (order_of x) m (with_value m r.name v) (slot_in x) us
+  alike_all : (x : Structure) (us : List Ref) → ((old : Stored) → value_of m r.name ≡ Some old → swap_order x old v ≡ Equal)
+      → AreAlike (swap_order x) m (with_value m r.name v) (slot_in x) us
   alike_all x [] e = tt
   alike_all x (q ∷ us) e = (alike_own x q e, alike_all x us e)
 
-  stands_own : (x : Structure) (us : List Ref) → ((old : Stored) → value_of m r.name ≡ Some old → order_of x old v ≡ Equal)
+  stands_own : (x : Structure) (us : List Ref) → ((old : Stored) → value_of m r.name ≡ Some old → swap_order x old v ≡ Equal)
       → Stands x m us → Stands x (with_value m r.name v) us
   stands_own x us e h = stands_alike x m (with_value m r.name v) us (slots-with_value m r.name v) (alike_all x us e) h
 
@@ -172,7 +172,7 @@ module _ (m n : Pooled Stored) (r : Ref) (v : Stored) (refs : (k : ℕ) → ref_
   left_tags : (x y : Structure) (rs us : List Ref) → IsLike x y → IsLeft x m n r rs us → OtherTags y r.name m o
   left_tags x y rs us like d = tags_like x y r.name m o like (tags_but x r.name m n o d.tags (but_value n r.name v))
 
-  stays_own : (x y : Structure) → IsLike x y → KeepsKey x m r v → (old : Stored) → value_of n r.name ≡ Some old → order_of y old v ≡ Equal
+  stays_own : (x y : Structure) → IsLike x y → KeepsKey x m r v → (old : Stored) → value_of n r.name ≡ Some old → swap_order y old v ≡ Equal
   stays_own x y like k old is = subst (λ f. f old v ≡ Equal) (sym (order_like x y like)) (k old (sym (values r.name) ∙ is))
 
   same_over : (x y : Structure) (p : Pooled Stored) (rs us ws : List Ref) → IsLike x y → IsSame x m n rs us → IsSame y o p us ws → IsSame x m p rs ws
@@ -260,7 +260,7 @@ module _ (P L J : Asks) (D E Q : Gives) (m n o : Pooled Stored) where
   module _ (stand : (s : ℕ) (x y : Structure) (rs us : List Ref) → IsLike x y → Stands x m rs → Stands y n us → P s x m rs → D s x m n rs us → Stands y o us)
       (rejoin : (s : ℕ) (x y : Structure) (rs us : List Ref) → IsLike x y → Stands x m rs → P s x m rs → D s x m n rs us → J s y o us) where
     all_ready : (xs ys : List Structure) (s : ℕ) (rss uss : List (List Ref)) → AllLike xs ys → AllStand xs s m rss
-        → AllStand ys s n uss → AllCan P xs s m rss → AllDone D xs s m n rss uss → AllStand ys s o uss × AllCan J ys s o uss
+        → AllStand ys s n uss → AllCan P xs s m rss → AllGiven D xs s m n rss uss → AllStand ys s o uss × AllCan J ys s o uss
     all_ready [] [] s rss [] like a h c d = (tt, tt)
     all_ready [] [] s rss (us ∷ uss) like a h c d = absurd h
     all_ready [] (y ∷ ys) s rss uss like a h c d = absurd like
@@ -274,7 +274,7 @@ module _ (P L J : Asks) (D E Q : Gives) (m n o : Pooled Stored) where
   module _ (p : Pooled Stored) (combine : (s : ℕ) (x y : Structure) (rs us ws : List Ref) → IsLike x y
       → Stands x m rs → P s x m rs → D s x m n rs us → E s y o p us ws → Q s x m p rs ws) where
     all_over : (xs ys : List Structure) (s : ℕ) (rss uss wss : List (List Ref)) → AllLike xs ys → AllStand xs s m rss
-        → AllCan P xs s m rss → AllDone D xs s m n rss uss → AllDone E ys s o p uss wss → AllDone Q xs s m p rss wss
+        → AllCan P xs s m rss → AllGiven D xs s m n rss uss → AllGiven E ys s o p uss wss → AllGiven Q xs s m p rss wss
     all_over [] [] s [] [] [] like a c d e = tt
     all_over [] [] s [] [] (ws ∷ wss) like a c d e = absurd e
     all_over [] [] s [] (us ∷ uss) wss like a c d e = absurd d
@@ -288,7 +288,7 @@ module _ (P L J : Asks) (D E Q : Gives) (m n o : Pooled Stored) where
         (combine s x y rs us ws like.0 a.1 c.0 d.0 e.0, all_over xs ys (s + 1) rss uss wss like.1 a.2 c.1 d.1 e.1)
 
   module _ (k : ℕ) (outs : (s : ℕ) (x : Structure) (rs us : List Ref) → D s x m n rs us → IsOut k rs → IsOut k us) where
-    all_outs : (xs : List Structure) (s : ℕ) (rss uss : List (List Ref)) → AllDone D xs s m n rss uss → IsOutOfAll k rss → IsOutOfAll k uss
+    all_outs : (xs : List Structure) (s : ℕ) (rss uss : List (List Ref)) → AllGiven D xs s m n rss uss → IsOutOfAll k rss → IsOutOfAll k uss
     all_outs [] s [] [] d h = tt
     all_outs [] s [] (us ∷ uss) d h = absurd d
     all_outs [] s (rs ∷ rss) uss d h = absurd d
@@ -339,7 +339,7 @@ module _ (flag : ℕ → Bool) (r : Ref) (v : Stored) (t : ℕ) where
 
   module _ (xs ys : List Structure) (m n : Pooled Stored) (held : IsHeld m r) (like : AllLike xs ys) (out : IsPass leaves is_left r 0 xs ys m n) where
     ready : (rss uss : List (List Ref)) → AllStand xs 0 m rss → AllStand ys 0 n uss → ((k : ℕ) → ref_of n k ≡ ref_of m k)
-        → ((k : ℕ) → value_of n k ≡ value_of m k) → AllCan asks xs 0 m rss → AllDone is_left xs 0 m n rss uss
+        → ((k : ℕ) → value_of n k ≡ value_of m k) → AllCan asks xs 0 m rss → AllGiven is_left xs 0 m n rss uss
         → AllStand ys 0 (with_value n r.name v) uss × AllCan comes ys 0 (with_value n r.name v) uss
     ready rss uss g h refs values c d = all_ready asks leaves comes is_left has_come gives m n (with_value n r.name v)
         (λ s x y rs us w g h c d. stand_one m n r v refs values held t (flag s) x y rs us w g h c d)
@@ -401,7 +401,7 @@ module _ (given : ℕ → Option Place) (r : Ref) (v : Stored) where
 
   module _ (xs ys : List Structure) (m n : Pooled Stored) (held : IsHeld m r) (like : AllLike xs ys) (out : IsPass back_leaves back_is_left r 0 xs ys m n) where
     ready_back : (rss uss : List (List Ref)) → AllStand xs 0 m rss → AllStand ys 0 n uss → ((k : ℕ) → ref_of n k ≡ ref_of m k)
-        → ((k : ℕ) → value_of n k ≡ value_of m k) → AllCan back_asks xs 0 m rss → AllDone back_is_left xs 0 m n rss uss
+        → ((k : ℕ) → value_of n k ≡ value_of m k) → AllCan back_asks xs 0 m rss → AllGiven back_is_left xs 0 m n rss uss
         → AllStand ys 0 (with_value n r.name v) uss × AllCan back_comes ys 0 (with_value n r.name v) uss
     ready_back rss uss g h refs values c d = all_ready back_asks back_leaves back_comes back_is_left back_has_come back_gives m
         n (with_value n r.name v) (λ s x y rs us w g h c d. stand_for m n r v refs values held (given s) x y rs us w g h c d)

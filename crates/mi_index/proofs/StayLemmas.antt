@@ -16,7 +16,7 @@ use Rattle.mi_index.specs.Places.{is_moved, place_for, before_at, own_place, Non
 use Rattle.mi_index.specs.Pass.{Asks, Gives}
 use Rattle.mi_index.specs.Passes.{IsSame, CanJoinIf, IsJoinedIf, joining, joined, IsLeftIf, leaving}
 use Rattle.mi_index.specs.Passes.{left, CanReturnTo, IsBackAt, returning, returned, nothing_asked, grown}
-use Rattle.mi_index.specs.Inserting.{IsRelocatedIf, relocating, relocated}
+use Rattle.mi_index.specs.Inserting.{IsRelocatedIf, relocating_at, relocated_at}
 use Rattle.mi_order.specs.declared.stored.Stored.{Stored}
 use Rattle.mi_index.specs.declared.moves.Place.{Place}
 use Rattle.mi_index.specs.declared.moves.Moves.{Moves}
@@ -250,7 +250,7 @@ growing_local = record { stays = nothing_stays; before = grown_before; after = g
 
 -- A node moves in one list
 
-relocating_stays : (index : ℕ) (r : Ref) (b : Option Ref) → Stays (relocating index r b)
+relocating_stays : (index : ℕ) (r : Ref) (b : Option Ref) → Stays (relocating_at index r b)
 relocating_stays index r b s x m n rs e a c = c
 
 relocated_if_before : (here : Bool) (x : Structure) (l m n : Pooled Stored) (r : Ref) (b : Option Ref) (rs us : List Ref)
@@ -263,12 +263,12 @@ relocated_if_after : (here : Bool) (x : Structure) (m n o : Pooled Stored) (r : 
 relocated_if_after true x m n o r b rs us a h = h
 relocated_if_after false x m n o r b rs us a h = same_after x m n o rs us a h
 
-relocated_before : (index : ℕ) (r : Ref) (b : Option Ref) → Before (relocated index r b)
+relocated_before : (index : ℕ) (r : Ref) (b : Option Ref) → Before (relocated_at index r b)
 relocated_before index r b s x l m n rs us e a h = relocated_if_before (s == index) x l m n r b rs us a h
 
-relocated_after : (index : ℕ) (r : Ref) (b : Option Ref) → After (relocated index r b)
+relocated_after : (index : ℕ) (r : Ref) (b : Option Ref) → After (relocated_at index r b)
 relocated_after index r b s x m n o rs us e a h = relocated_if_after (s == index) x m n o r b rs us a h
 
 -- so it is where a node moves in one list
-pub relocating_local : (index : ℕ) (r : Ref) (b : Option Ref) → IsLocal (relocating index r b) (relocated index r b)
+pub relocating_local : (index : ℕ) (r : Ref) (b : Option Ref) → IsLocal (relocating_at index r b) (relocated_at index r b)
 relocating_local index r b = record { stays = relocating_stays index r b; before = relocated_before index r b; after = relocated_after index r b }

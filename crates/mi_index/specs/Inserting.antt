@@ -3,7 +3,7 @@ use Rattle.std.specs.Prelude.{◌≡◌, ℕ, ◌<◌, ◌+◌, ◌^◌, ◌==�
 use Rattle.mi_node.specs.Pool.{Pooled, ref_of, value_of, link_of}
 use Rattle.mi_node.specs.Refs.{Ref, first_of}
 use Rattle.mi_index.specs.Places.{before_at, IsJoined}
-use Rattle.mi_index.specs.Pass.{Asks, Gives, AllStand, AllDone, IsOutOfAll}
+use Rattle.mi_index.specs.Pass.{Asks, Gives, AllStand, AllGiven, IsOutOfAll}
 use Rattle.mi_index.specs.Passes.{IsSame}
 use Rattle.mi_index.specs.Rekeying.{HasPlaceFor}
 use Rattle.mi_order.specs.declared.stored.Stored.{Stored}
@@ -15,17 +15,17 @@ pub record HasRoom (x : Structure) (m : Pooled Stored) (v : Stored) (stamp : ℕ
   pub few : length rs + 1 < 2 ^ 32
   pub place : HasPlaceFor x m v stamp b rs
 
-abbrev pub inserting : Stored → ℕ → Option (ℕ × Ref) → Asks
-inserting v stamp before s x m rs = HasRoom x m v stamp (before_at s before) rs
+abbrev pub coming_in : Stored → ℕ → Option (ℕ × Ref) → Asks
+coming_in v stamp before s x m rs = HasRoom x m v stamp (before_at s before) rs
 
-abbrev pub inserted : Ref → ℕ → Option (ℕ × Ref) → Gives
-inserted r stamp before s x m n rs us = IsJoined x m n r stamp (before_at s before) rs us
+abbrev pub come_in : Ref → ℕ → Option (ℕ × Ref) → Gives
+come_in r stamp before s x m n rs us = IsJoined x m n r stamp (before_at s before) rs us
 
 -- the node r is new, has the value v, and has come into every index
 pub record IsInserted (r : Ref) (v : Stored) (stamp : ℕ) (before : Option (ℕ × Ref))
     (xs ys : List Structure) (m n : Pooled Stored) (rss : List (List Ref)) : Type 0 where
   pub uss : List (List Ref)
-  pub done : AllDone (inserted r stamp before) xs 0 m n rss uss
+  pub done : AllGiven (come_in r stamp before) xs 0 m n rss uss
   pub stand : AllStand ys 0 n uss
   pub free : ref_of m r.name ≡ None
   pub refs : (k : ℕ) → ref_of n k ≡ cond (r.name == k) (Some r) (ref_of m k)
@@ -59,11 +59,11 @@ pub record IsPlaced (r : Ref) (b : Option Ref) (rs us : List Ref) : Type 0 where
 abbrev pub IsRelocated : Ref → Option Ref → List Ref → List Ref → Type 0
 IsRelocated r b rs us = ((b ≡ Some r) × (us ≡ rs)) ⊎ IsPlaced r b rs us
 
-abbrev pub moving : Ref → Option Ref → Asks
-moving r b s x m rs = CanRelocate x r b rs
+abbrev pub relocating_one : Ref → Option Ref → Asks
+relocating_one r b s x m rs = CanRelocate x r b rs
 
-abbrev pub moved : Ref → Option Ref → Gives
-moved r b s x m n rs us = IsRelocated r b rs us
+abbrev pub relocated_one : Ref → Option Ref → Gives
+relocated_one r b s x m n rs us = IsRelocated r b rs us
 
 abbrev pub CanRelocateIf : Bool → Structure → Ref → Option Ref → List Ref → Type 0
 CanRelocateIf true x r b rs = CanRelocate x r b rs
@@ -73,8 +73,8 @@ abbrev pub IsRelocatedIf : Bool → Structure → Pooled Stored → Pooled Store
 IsRelocatedIf true x m n r b rs us = IsRelocated r b rs us
 IsRelocatedIf false x m n r b rs us = IsSame x m n rs us
 
-abbrev pub relocating : ℕ → Ref → Option Ref → Asks
-relocating index r b s x m rs = CanRelocateIf (s == index) x r b rs
+abbrev pub relocating_at : ℕ → Ref → Option Ref → Asks
+relocating_at index r b s x m rs = CanRelocateIf (s == index) x r b rs
 
-abbrev pub relocated : ℕ → Ref → Option Ref → Gives
-relocated index r b s x m n rs us = IsRelocatedIf (s == index) x m n r b rs us
+abbrev pub relocated_at : ℕ → Ref → Option Ref → Gives
+relocated_at index r b s x m n rs us = IsRelocatedIf (s == index) x m n r b rs us

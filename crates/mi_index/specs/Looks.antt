@@ -18,15 +18,15 @@ HasOneList (Ordered t) = Unit {0}
 HasOneList (Hashed c) = ⊥
 HasOneList (Sequenced l) = Unit {0}
 
-abbrev pub IsSorted : Structure → Type 0
-IsSorted (Ordered t) = Unit {0}
-IsSorted (Hashed c) = ⊥
-IsSorted (Sequenced l) = ⊥
+abbrev pub IsSortedStructure : Structure → Type 0
+IsSortedStructure (Ordered t) = Unit {0}
+IsSortedStructure (Hashed c) = ⊥
+IsSortedStructure (Sequenced l) = ⊥
 
-abbrev pub IsHashed : Structure → Type 0
-IsHashed (Ordered t) = ⊥
-IsHashed (Hashed c) = Unit {0}
-IsHashed (Sequenced l) = ⊥
+abbrev pub IsHashedStructure : Structure → Type 0
+IsHashedStructure (Ordered t) = ⊥
+IsHashedStructure (Hashed c) = Unit {0}
+IsHashedStructure (Sequenced l) = ⊥
 
 -- whether a node has the key of a probe; none has one in a list
 abbrev pub has_sought : Structure → Pooled Stored → Probe → Ref → Bool

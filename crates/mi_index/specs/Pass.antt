@@ -1,6 +1,6 @@
 -- A pass over the structures of all indexes, each of which is changed in turn through the slot of its number.
 --     AllStand xs s m rss      structure x of xs, from slot s on, stands with the nodes of the list at its place
---     AllCan P, AllDone Q      what a step asks of each structure, and what it gives
+--     AllCan P, AllGiven Q      what a step asks of each structure, and what it gives
 --     IsStep P Q      what one step does
 --     IsPass P Q      what the whole pass does
 use Rattle.std.specs.Prelude.{◌≡◌, ℕ, ◌+◌, ◌<◌, ◌==◌, false, List, [], ◌∷◌}
@@ -29,13 +29,13 @@ AllCan P [] s m rss = Unit {0}
 AllCan P (x ∷ xs) s m [] = Unit {0}
 AllCan P (x ∷ xs) s m (rs ∷ rss) = P s x m rs × AllCan P xs (s + 1) m rss
 
-abbrev pub AllDone : Gives → List Structure → ℕ → Pooled Stored → Pooled Stored → List (List Ref) → List (List Ref) → Type 0
-AllDone Q [] s m n [] [] = Unit {0}
-AllDone Q [] s m n [] (us ∷ uss) = ⊥
-AllDone Q [] s m n (rs ∷ rss) uss = ⊥
-AllDone Q (x ∷ xs) s m n [] uss = ⊥
-AllDone Q (x ∷ xs) s m n (rs ∷ rss) [] = ⊥
-AllDone Q (x ∷ xs) s m n (rs ∷ rss) (us ∷ uss) = Q s x m n rs us × AllDone Q xs (s + 1) m n rss uss
+abbrev pub AllGiven : Gives → List Structure → ℕ → Pooled Stored → Pooled Stored → List (List Ref) → List (List Ref) → Type 0
+AllGiven Q [] s m n [] [] = Unit {0}
+AllGiven Q [] s m n [] (us ∷ uss) = ⊥
+AllGiven Q [] s m n (rs ∷ rss) uss = ⊥
+AllGiven Q (x ∷ xs) s m n [] uss = ⊥
+AllGiven Q (x ∷ xs) s m n (rs ∷ rss) [] = ⊥
+AllGiven Q (x ∷ xs) s m n (rs ∷ rss) (us ∷ uss) = Q s x m n rs us × AllGiven Q xs (s + 1) m n rss uss
 
 abbrev pub AllLike : List Structure → List Structure → Type 0
 AllLike [] [] = Unit {0}
@@ -82,7 +82,7 @@ pub record AreReady (P : Asks) (s : ℕ) (xs : List Structure) (m : Pooled Store
 
 pub record AreChanged (Q : Gives) (r : Ref) (s : ℕ) (xs ys : List Structure) (m n : Pooled Stored) (rss : List (List Ref)) : Type 0 where
   pub uss : List (List Ref)
-  pub done : AllDone Q xs s m n rss uss
+  pub done : AllGiven Q xs s m n rss uss
   pub stand : AllStand ys s n uss
   pub keeps : KeepsFrom m n s r rss
 

@@ -5,20 +5,20 @@ use Rattle.mi_index.specs.Places.{IsOneOf, CanJoin, IsJoined, IsLeft, CanReturn,
 use Rattle.mi_index.specs.Pass.{Asks, Gives}
 use Rattle.mi_index.specs.declared.moves.Place.{Place}
 
-abbrev pub joining : Ref → ℕ → Option Ref → Asks
-joining r stamp b s x m rs = CanJoin x m r stamp b rs
+abbrev pub joining_one : Ref → ℕ → Option Ref → Asks
+joining_one r stamp b s x m rs = CanJoin x m r stamp b rs
 
-abbrev pub joined : Ref → ℕ → Option Ref → Gives
-joined r stamp b s x m n rs us = IsJoined x m n r stamp b rs us
+abbrev pub joined_one : Ref → ℕ → Option Ref → Gives
+joined_one r stamp b s x m n rs us = IsJoined x m n r stamp b rs us
 
-abbrev pub leaving : Ref → Asks
-leaving r s x m rs = IsOneOf r rs
+abbrev pub leaving_one : Ref → Asks
+leaving_one r s x m rs = IsOneOf r rs
 
-abbrev pub left : Ref → Gives
-left r s x m n rs us = IsLeft x m n r rs us
+abbrev pub left_one : Ref → Gives
+left_one r s x m n rs us = IsLeft x m n r rs us
 
-abbrev pub returning : Ref → Place → Asks
-returning r p s x m rs = CanReturn x m r p rs
+abbrev pub returning_one : Ref → Place → Asks
+returning_one r p s x m rs = CanReturn x m r p rs
 
-abbrev pub returned : Ref → Place → Gives
-returned r p s x m n rs us = IsBack x m n r p rs us
+abbrev pub returned_one : Ref → Place → Gives
+returned_one r p s x m n rs us = IsBack x m n r p rs us

@@ -12,9 +12,9 @@ use Rattle.mi_tree.specs.Sorted.{NoneAre, compared, by_stamp, item_of}
 use Rattle.mi_chain.specs.Keying.{same_values, stamp_at}
 use Rattle.mi_chain.specs.declared.chains.Chains.{Chains}
 use Rattle.mi_order.specs.Orders.{stored_order, has_one_key}
-use Rattle.mi_index.specs.Standing.{order_of, AllAbove, AllBelow}
+use Rattle.mi_index.specs.Standing.{swap_order, AllAbove, AllBelow}
 use Rattle.mi_index.specs.Places.{mark_at, given_at, NoneHas, IsWith, HasStamp, IsBeside}
-use Rattle.mi_index.specs.Pass.{Asks, Gives, AllStand, AllDone, IsOutOfAll}
+use Rattle.mi_index.specs.Pass.{Asks, Gives, AllStand, AllGiven, IsOutOfAll}
 use Rattle.mi_index.specs.Passes.{IsSame}
 use Rattle.mi_order.specs.declared.stored.Stored.{Stored}
 use Rattle.mi_order.specs.declared.orders.ByHash.{ByHash}
@@ -52,7 +52,7 @@ HasOldPlaceFor (Sequenced l) m v p rs = ⊥
 
 -- the node's value may be exchanged where it stands
 abbrev pub KeepsKey : Structure → Pooled Stored → Ref → Stored → Type 0
-KeepsKey x m r v = (old : Stored) → value_of m r.name ≡ Some old → order_of x old v ≡ Equal
+KeepsKey x m r v = (old : Stored) → value_of m r.name ≡ Some old → swap_order x old v ≡ Equal
 
 -- it stands there, and may come in again among the others
 pub record CanMove (x : Structure) (m : Pooled Stored) (r : Ref) (v : Stored) (stamp : ℕ) (rs : List Ref) : Type 0 where
@@ -117,7 +117,7 @@ returned_to places r s x m n rs us = HasMovedBackTo (given_at places s) x m n r 
 -- the node has the new value, all else stands as Q says
 pub record IsRekeyed (Q : Gives) (r : Ref) (v : Stored) (xs ys : List Structure) (m n : Pooled Stored) (rss : List (List Ref)) : Type 0 where
   pub uss : List (List Ref)
-  pub done : AllDone Q xs 0 m n rss uss
+  pub done : AllGiven Q xs 0 m n rss uss
   pub stand : AllStand ys 0 n uss
   pub refs : (k : ℕ) → ref_of n k ≡ ref_of m k
   pub values : (k : ℕ) → value_of n k ≡ cond (r.name == k) (Some v) (value_of m k)

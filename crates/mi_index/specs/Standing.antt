@@ -1,5 +1,5 @@
 -- How the structure of an index stands in the pool.
---     slot_in, order_of      the slot of its links, and which values may stand for one another in it
+--     slot_in, swap_order      the slot of its links, and which values may stand for one another in it
 --     Stands x m rs      it stands in the pool m with the nodes rs: by key and stamp, by stamp, or in an order of its own
 --     IsLike      of one kind, slot and key
 use Rattle.std.specs.Prelude.{◌≡◌, ℕ, ◌<◌, ◌≤◌, List, [], ◌∷◌, vec_len}
@@ -25,10 +25,10 @@ slot_in (Hashed c) = c.slot
 slot_in (Sequenced l) = slot_of l
 
 -- values that compare Equal may stand for one another in the index: they have one key, and in a list all do
-abbrev pub order_of : Structure → Stored → Stored → Ordering
-order_of (Ordered t) = stored_order t.order.parts
-order_of (Hashed c) = on (λ v. v.row) (compare_key c.keys.parts)
-order_of (Sequenced l) = λ x y. Equal
+abbrev pub swap_order : Structure → Stored → Stored → Ordering
+swap_order (Ordered t) = stored_order t.order.parts
+swap_order (Hashed c) = on (λ v. v.row) (compare_key c.keys.parts)
+swap_order (Sequenced l) = λ x y. Equal
 
 abbrev pub AllAbove : (Ref → ℕ) → ℕ → List Ref → Type 0
 AllAbove f n [] = Unit {0}
@@ -69,4 +69,4 @@ IsRoomy (Sequenced l) n = Unit {0}
 -- a structure stands wherever each of its nodes has the same reference, the same link of its slot, and a value of the same key
 abbrev pub StandWhereAlike : Type 0
 StandWhereAlike = (x : Structure) (m n : Pooled Stored) (rs : List Ref) → n.slots ≡ m.slots
-    → AreAlike (order_of x) m n (slot_in x) rs → Stands x m rs → Stands x n rs
+    → AreAlike (swap_order x) m n (slot_in x) rs → Stands x m rs → Stands x n rs

@@ -83,8 +83,8 @@ fn relocate_one(
     node: NodeRef,
     before: Option<NodeRef>,
 )
-    requires { IsReady (insert.relocating index node before) slot structure.old p.old }
-    ensures step { IsStep (insert.relocating index node before) (insert.relocated index node before) node slot structure.old structure.new p.old p.new }
+    requires { IsReady (insert.relocating_at index node before) slot structure.old p.old }
+    ensures step { IsStep (insert.relocating_at index node before) (insert.relocated_at index node before) node slot structure.old structure.new p.old p.new }
     ensures like { IsLike structure.old structure.new }
 {
     if slot == index {
@@ -164,9 +164,9 @@ pub fn relocate_all(
     node: NodeRef,
     before: Option<NodeRef>,
 )
-    requires all { AreReady (insert.relocating index node before) slot structures.old p.old }
+    requires all { AreReady (insert.relocating_at index node before) slot structures.old p.old }
     requires few { slot + length structures.old < 2 ^ 64 }
-    ensures pass { IsPass (insert.relocating index node before) (insert.relocated index node before) node slot structures.old structures.new p.old p.new }
+    ensures pass { IsPass (insert.relocating_at index node before) (insert.relocated_at index node before) node slot structures.old structures.new p.old p.new }
     ensures like { AllLike structures.old structures.new }
 {
     if let Some((first, rest)) = structures.split_first_mut() {

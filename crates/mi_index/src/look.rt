@@ -68,7 +68,7 @@ impl Structure {
 
     /// The node of a rank, counted from 0, if there are more nodes than that. Asked of sorted indexes alone.
     pub fn nth(&self, p: &Pool<Stored>, n: u32) -> Option<NodeRef>
-        requires { (rs : Seq Ref) × Stands self.now p.now rs × look.IsSorted self.now }
+        requires { (rs : Seq Ref) × Stands self.now p.now rs × look.IsSortedStructure self.now }
         ensures { (rs : Seq Ref) → Stands self.now p.now rs → result ≡ nth_of rs n }
     {
         match self {
@@ -80,7 +80,7 @@ impl Structure {
     /// How many nodes are before one. Asked of sorted indexes alone. One look-up: at most 2b comparisons for fewer than
     /// 2^b nodes.
     pub fn rank(&self, p: &Pool<Stored>, node: NodeRef, steps: &mut Steps) -> u32
-        requires { (xs : Seq Ref) × (ys : Seq Ref) × Stands self.now p.now (xs ++ node ∷ ys) × look.IsSorted self.now }
+        requires { (xs : Seq Ref) × (ys : Seq Ref) × Stands self.now p.now (xs ++ node ∷ ys) × look.IsSortedStructure self.now }
         ensures rank { (xs ys : Seq Ref) → Stands self.now p.now (xs ++ node ∷ ys) → result ≡ length xs }
         ensures steps { (rs : Seq Ref) → Stands self.now p.now rs → (b : ℕ) → length rs < 2 ^ b → steps.new.count ≤ steps.old.count + 2 * b }
     {
@@ -93,7 +93,7 @@ impl Structure {
     /// The first node that isn't before the probe, if there is one. Asked of sorted indexes alone. One look-up: at most
     /// 2b comparisons for fewer than 2^b nodes.
     pub fn lower(&self, p: &Pool<Stored>, probe: Probe<'_>, steps: &mut Steps) -> Option<NodeRef>
-        requires { (rs : Seq Ref) × Stands self.now p.now rs × look.IsSorted self.now }
+        requires { (rs : Seq Ref) × Stands self.now p.now rs × look.IsSortedStructure self.now }
         ensures node { (rs : Seq Ref) → Stands self.now p.now rs → result ≡ first_where (look.is_past false self.now p.now probe.entry) rs }
         ensures steps { (rs : Seq Ref) → Stands self.now p.now rs → (b : ℕ) → length rs < 2 ^ b → steps.new.count ≤ steps.old.count + 2 * b }
     {
@@ -106,7 +106,7 @@ impl Structure {
     /// The first node that is behind the probe, if there is one. Asked of sorted indexes alone. One look-up: at most 2b
     /// comparisons for fewer than 2^b nodes.
     pub fn upper(&self, p: &Pool<Stored>, probe: Probe<'_>, steps: &mut Steps) -> Option<NodeRef>
-        requires { (rs : Seq Ref) × Stands self.now p.now rs × look.IsSorted self.now }
+        requires { (rs : Seq Ref) × Stands self.now p.now rs × look.IsSortedStructure self.now }
         ensures node { (rs : Seq Ref) → Stands self.now p.now rs → result ≡ first_where (look.is_past true self.now p.now probe.entry) rs }
         ensures steps { (rs : Seq Ref) → Stands self.now p.now rs → (b : ℕ) → length rs < 2 ^ b → steps.new.count ≤ steps.old.count + 2 * b }
     {
@@ -131,7 +131,7 @@ impl Structure {
     /// The node after one among those of its key, in the order of the stamps, if there is one. Asked of hashed indexes
     /// alone.
     pub fn next_of(&self, p: &Pool<Stored>, node: NodeRef) -> Option<NodeRef>
-        requires { (xs : Seq Ref) × (ys : Seq Ref) × Stands self.now p.now (xs ++ node ∷ ys) × look.IsHashed self.now }
+        requires { (xs : Seq Ref) × (ys : Seq Ref) × Stands self.now p.now (xs ++ node ∷ ys) × look.IsHashedStructure self.now }
         ensures { (xs ys : Seq Ref) → Stands self.now p.now (xs ++ node ∷ ys) → result ≡ first_of (filter (look.has_same_key self.now p.now node) ys) None }
     {
         match self {

@@ -62,9 +62,9 @@ impl Nodes {
         stamp: u64,
         before: Option<(usize, NodeRef)>,
     ) -> Result<NodeRef, (AllocError, Stored)>
-        requires room { AreReady (insert.inserting stored stamp before) 0 self.old.structures.items self.old.pool }
+        requires room { AreReady (insert.coming_in stored stamp before) 0 self.old.structures.items self.old.pool }
         ensures ok { IfOk result (λ r. (rss : Seq (Seq Ref)) → AllStand self.old.structures.items 0 self.old.pool rss
-            → AllCan (insert.inserting stored stamp before) self.old.structures.items 0 self.old.pool rss
+            → AllCan (insert.coming_in stored stamp before) self.old.structures.items 0 self.old.pool rss
             → insert.IsInserted r stored stamp before self.old.structures.items self.new.structures.items self.old.pool self.new.pool rss) }
         ensures room { IfOk result (λ _. AllRoomy self.new.structures.items n) }
         ensures returned { IfErr result (λ e. e.1 ≡ stored) }
@@ -156,8 +156,8 @@ impl Nodes {
     /// Moves a node in the list of the index of this number directly before another one, or to the end. Nothing changes
     /// where both are one node. Takes no memory.
     pub fn relocate(&mut self, index: usize, node: NodeRef, before: Option<NodeRef>)
-        requires { AreReady (insert.relocating index node before) 0 self.old.structures.items self.old.pool }
-        ensures pass { IsPass (insert.relocating index node before) (insert.relocated index node before)
+        requires { AreReady (insert.relocating_at index node before) 0 self.old.structures.items self.old.pool }
+        ensures pass { IsPass (insert.relocating_at index node before) (insert.relocated_at index node before)
             node 0 self.old.structures.items self.new.structures.items self.old.pool self.new.pool }
         ensures like { AllLike self.old.structures.items self.new.structures.items }
     {

@@ -59,8 +59,8 @@ impl Structure {
     /// Puts a node in: by its key and this stamp, or in a list, which has no stamps, directly before `before`, or last
     /// where that is `None`. Takes no memory.
     pub fn link(&mut self, p: &mut Pool<Stored>, node: NodeRef, stamp: u64, before: Option<NodeRef>)
-        requires { IsReady (step.joining node stamp before) 0 self.old p.old }
-        ensures step { IsStep (step.joining node stamp before) (step.joined node stamp before) node 0 self.old self.new p.old p.new }
+        requires { IsReady (step.joining_one node stamp before) 0 self.old p.old }
+        ensures step { IsStep (step.joining_one node stamp before) (step.joined_one node stamp before) node 0 self.old self.new p.old p.new }
         ensures like { IsLike self.old self.new }
     {
         match self {
@@ -73,8 +73,8 @@ impl Structure {
     /// Takes a node out. All tags stay, its own too; in chains and in a list its own link names the neighbours that it
     /// had, so that it can be put back. Takes no memory.
     pub fn unlink(&mut self, p: &mut Pool<Stored>, node: NodeRef)
-        requires { IsReady (step.leaving node) 0 self.old p.old }
-        ensures step { IsStep (step.leaving node) (step.left node) node 0 self.old self.new p.old p.new }
+        requires { IsReady (step.leaving_one node) 0 self.old p.old }
+        ensures step { IsStep (step.leaving_one node) (step.left_one node) node 0 self.old self.new p.old p.new }
         ensures like { IsLike self.old self.new }
     {
         match self {
@@ -87,8 +87,8 @@ impl Structure {
     /// Puts a node back to a place: in a tree by its key and the place's stamp, in chains and in a list between the
     /// neighbours that the place names. A list knows only the place that the node's own link names. Takes no memory.
     pub fn relink(&mut self, p: &mut Pool<Stored>, node: NodeRef, place: Place)
-        requires { IsReady (step.returning node place) 0 self.old p.old }
-        ensures step { IsStep (step.returning node place) (step.returned node place) node 0 self.old self.new p.old p.new }
+        requires { IsReady (step.returning_one node place) 0 self.old p.old }
+        ensures step { IsStep (step.returning_one node place) (step.returned_one node place) node 0 self.old self.new p.old p.new }
         ensures like { IsLike self.old self.new }
     {
         match self {
@@ -101,8 +101,8 @@ impl Structure {
     /// Moves a node of a list directly before `before`, another node of the list, or to the end where that is `None`.
     /// Nothing changes where both are one node. Only a list has an order that is changed so. Takes no memory.
     pub fn move_before(&mut self, p: &mut Pool<Stored>, node: NodeRef, before: Option<NodeRef>)
-        requires { IsReady (insert.moving node before) 0 self.old p.old }
-        ensures step { IsStep (insert.moving node before) (insert.moved node before) node 0 self.old self.new p.old p.new }
+        requires { IsReady (insert.relocating_one node before) 0 self.old p.old }
+        ensures step { IsStep (insert.relocating_one node before) (insert.relocated_one node before) node 0 self.old self.new p.old p.new }
         ensures like { IsLike self.old self.new }
     {
         match self {
@@ -163,8 +163,8 @@ fn link_tree(
     stamp: u64,
     before: Option<NodeRef>,
 )
-    requires { IsReady (step.joining node stamp before) 0 (Ordered tree.old) p.old }
-    ensures step { IsStep (step.joining node stamp before) (step.joined node stamp before) node 0 (Ordered tree.old) (Ordered tree.new) p.old p.new }
+    requires { IsReady (step.joining_one node stamp before) 0 (Ordered tree.old) p.old }
+    ensures step { IsStep (step.joining_one node stamp before) (step.joined_one node stamp before) node 0 (Ordered tree.old) (Ordered tree.new) p.old p.new }
     ensures like { IsLike (Ordered tree.old) (Ordered tree.new) }
 {
     let _ = before;
@@ -178,8 +178,8 @@ fn link_chains(
     stamp: u64,
     before: Option<NodeRef>,
 )
-    requires { IsReady (step.joining node stamp before) 0 (Hashed chains.old) p.old }
-    ensures step { IsStep (step.joining node stamp before) (step.joined node stamp before) node 0 (Hashed chains.old) (Hashed chains.new) p.old p.new }
+    requires { IsReady (step.joining_one node stamp before) 0 (Hashed chains.old) p.old }
+    ensures step { IsStep (step.joining_one node stamp before) (step.joined_one node stamp before) node 0 (Hashed chains.old) (Hashed chains.new) p.old p.new }
     ensures like { IsLike (Hashed chains.old) (Hashed chains.new) }
 {
     let _ = before;
@@ -193,8 +193,9 @@ fn link_list(
     stamp: u64,
     before: Option<NodeRef>,
 )
-    requires { IsReady (step.joining node stamp before) 0 (Sequenced list.old) p.old }
-    ensures step { IsStep (step.joining node stamp before) (step.joined node stamp before) node 0 (Sequenced list.old) (Sequenced list.new) p.old p.new }
+    requires { IsReady (step.joining_one node stamp before) 0 (Sequenced list.old) p.old }
+    ensures step { IsStep (step.joining_one node stamp before) (step.joined_one node stamp before)
+        node 0 (Sequenced list.old) (Sequenced list.new) p.old p.new }
     ensures like { IsLike (Sequenced list.old) (Sequenced list.new) }
 {
     let _ = stamp;
@@ -202,40 +203,40 @@ fn link_list(
 }
 
 fn unlink_tree(tree: &mut Tree<ByKey>, p: &mut Pool<Stored>, node: NodeRef)
-    requires { IsReady (step.leaving node) 0 (Ordered tree.old) p.old }
-    ensures step { IsStep (step.leaving node) (step.left node) node 0 (Ordered tree.old) (Ordered tree.new) p.old p.new }
+    requires { IsReady (step.leaving_one node) 0 (Ordered tree.old) p.old }
+    ensures step { IsStep (step.leaving_one node) (step.left_one node) node 0 (Ordered tree.old) (Ordered tree.new) p.old p.new }
     ensures like { IsLike (Ordered tree.old) (Ordered tree.new) }
 {
     tree.remove(p, node, &mut Steps::new());
 }
 
 fn unlink_chains(chains: &mut Chains<ByHash>, p: &mut Pool<Stored>, node: NodeRef)
-    requires { IsReady (step.leaving node) 0 (Hashed chains.old) p.old }
-    ensures step { IsStep (step.leaving node) (step.left node) node 0 (Hashed chains.old) (Hashed chains.new) p.old p.new }
+    requires { IsReady (step.leaving_one node) 0 (Hashed chains.old) p.old }
+    ensures step { IsStep (step.leaving_one node) (step.left_one node) node 0 (Hashed chains.old) (Hashed chains.new) p.old p.new }
     ensures like { IsLike (Hashed chains.old) (Hashed chains.new) }
 {
     chains.remove(p, node);
 }
 
 fn unlink_list(list: &mut List, p: &mut Pool<Stored>, node: NodeRef)
-    requires { IsReady (step.leaving node) 0 (Sequenced list.old) p.old }
-    ensures step { IsStep (step.leaving node) (step.left node) node 0 (Sequenced list.old) (Sequenced list.new) p.old p.new }
+    requires { IsReady (step.leaving_one node) 0 (Sequenced list.old) p.old }
+    ensures step { IsStep (step.leaving_one node) (step.left_one node) node 0 (Sequenced list.old) (Sequenced list.new) p.old p.new }
     ensures like { IsLike (Sequenced list.old) (Sequenced list.new) }
 {
     list.unlink(p, node);
 }
 
 fn relink_tree(tree: &mut Tree<ByKey>, p: &mut Pool<Stored>, node: NodeRef, place: Place)
-    requires { IsReady (step.returning node place) 0 (Ordered tree.old) p.old }
-    ensures step { IsStep (step.returning node place) (step.returned node place) node 0 (Ordered tree.old) (Ordered tree.new) p.old p.new }
+    requires { IsReady (step.returning_one node place) 0 (Ordered tree.old) p.old }
+    ensures step { IsStep (step.returning_one node place) (step.returned_one node place) node 0 (Ordered tree.old) (Ordered tree.new) p.old p.new }
     ensures like { IsLike (Ordered tree.old) (Ordered tree.new) }
 {
     tree.insert(p, node, place.stamp, &mut Steps::new());
 }
 
 fn relink_chains(chains: &mut Chains<ByHash>, p: &mut Pool<Stored>, node: NodeRef, place: Place)
-    requires { IsReady (step.returning node place) 0 (Hashed chains.old) p.old }
-    ensures step { IsStep (step.returning node place) (step.returned node place) node 0 (Hashed chains.old) (Hashed chains.new) p.old p.new }
+    requires { IsReady (step.returning_one node place) 0 (Hashed chains.old) p.old }
+    ensures step { IsStep (step.returning_one node place) (step.returned_one node place) node 0 (Hashed chains.old) (Hashed chains.new) p.old p.new }
     ensures like { IsLike (Hashed chains.old) (Hashed chains.new) }
 {
     let hash = chains.hash_of(p, node);
@@ -257,8 +258,8 @@ fn relink_chains(chains: &mut Chains<ByHash>, p: &mut Pool<Stored>, node: NodeRe
 }
 
 fn relink_list(list: &mut List, p: &mut Pool<Stored>, node: NodeRef, place: Place)
-    requires { IsReady (step.returning node place) 0 (Sequenced list.old) p.old }
-    ensures step { IsStep (step.returning node place) (step.returned node place) node 0 (Sequenced list.old) (Sequenced list.new) p.old p.new }
+    requires { IsReady (step.returning_one node place) 0 (Sequenced list.old) p.old }
+    ensures step { IsStep (step.returning_one node place) (step.returned_one node place) node 0 (Sequenced list.old) (Sequenced list.new) p.old p.new }
     ensures like { IsLike (Sequenced list.old) (Sequenced list.new) }
 {
     let _ = place;
@@ -266,8 +267,8 @@ fn relink_list(list: &mut List, p: &mut Pool<Stored>, node: NodeRef, place: Plac
 }
 
 fn move_in_list(list: &mut List, p: &mut Pool<Stored>, node: NodeRef, before: Option<NodeRef>)
-    requires { IsReady (insert.moving node before) 0 (Sequenced list.old) p.old }
-    ensures step { IsStep (insert.moving node before) (insert.moved node before) node 0 (Sequenced list.old) (Sequenced list.new) p.old p.new }
+    requires { IsReady (insert.relocating_one node before) 0 (Sequenced list.old) p.old }
+    ensures step { IsStep (insert.relocating_one node before) (insert.relocated_one node before) node 0 (Sequenced list.old) (Sequenced list.new) p.old p.new }
     ensures like { IsLike (Sequenced list.old) (Sequenced list.new) }
 {
     list.move_before(p, node, before);

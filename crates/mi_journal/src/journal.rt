@@ -32,7 +32,8 @@ impl<T> Model for Journal<T> {
 
 impl<T> Journal<T> {
     ghost use Rattle.std.specs.Prelude.{◌≡◌, ◌+◌, ◌<◌, ◌≤◌, [], ◌∷◌, ◌++◌, length, OnOk};
-    ghost use Rattle.mi_journal.specs.Noted.{noted, joined, newest_entry, without_entry, without_newest, NewestIsEmpty, TwoAreOpen, OldestIsEmpty, TakesOldest};
+    ghost use Rattle.mi_journal.specs.Noted.{noted, top_joined, newest_entry, without_entry, without_newest};
+    ghost use Rattle.mi_journal.specs.Noted.{NewestIsEmpty, TwoAreOpen, OldestIsEmpty, TakesOldest};
 
     /// No open session, and no room.
     pub fn new(alloc: Global) -> Journal<T>
@@ -106,7 +107,7 @@ impl<T> Journal<T> {
     /// Joins the newest session into the one below it. No entry moves.
     pub fn join_top(&mut self)
         requires { TwoAreOpen self.old.sessions }
-        ensures sessions { self.new.sessions ≡ joined self.old.sessions }
+        ensures sessions { self.new.sessions ≡ top_joined self.old.sessions }
         ensures changes { self.new.changes ≡ self.old.changes }
         ensures starts { self.new.starts ≡ self.old.starts + 1 }
     {

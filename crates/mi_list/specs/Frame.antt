@@ -6,5 +6,5 @@ use Rattle.mi_list.specs.Listed.{IsListed}
 use Rattle.mi_list.specs.declared.list.List.{List}
 
 -- any node's value may be exchanged for any other: the list is of the same nodes in the same order
-abbrev pub StandsWhereSwapped : (T : Type 0) → Type 0
-StandsWhereSwapped T = (l : List) (m : Pooled T) (rs : Seq Ref) (x : Ref) (new : T) → IsListed l m rs → IsListed l (with_value m x.name new) rs
+abbrev pub StandsWhateverIsSwapped : (T : Type 0) → Type 0
+StandsWhateverIsSwapped T = (l : List) (m : Pooled T) (rs : Seq Ref) (x : Ref) (new : T) → IsListed l m rs → IsListed l (with_value m x.name new) rs

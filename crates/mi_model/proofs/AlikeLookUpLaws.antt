@@ -21,7 +21,7 @@ use Rattle.mi_catalog.specs.Key.{Row, compare_rows, compare_to_row, IsWholeKey}
 use Rattle.mi_model.specs.Table.{Table, get, row, size}
 use Rattle.mi_model.specs.View.{view, of_key, compare_ids, compare_to_id}
 use Rattle.mi_model.specs.Conflict.{conflict}
-use Rattle.mi_model.specs.LookUp.{rank_in, after_in, before_place, before_in, lower_rank, upper_rank, next_of}
+use Rattle.mi_model.specs.LookUp.{rank_in, after_in, before_place, before_in, lower_rank, upper_rank, next_with_key}
 use Rattle.mi_model.specs.Page.{page_of, meets_lower, meets_upper, between, list}
 use Rattle.mi_model.specs.Database.{schema_of, table_of}
 use Rattle.mi_model.specs.Same.{SameView, SameTable, SameTables}
@@ -76,7 +76,7 @@ ids_beside s x e t key same = λ i. filter (λ id. is_eq (same (row t id) i)) (v
 same_row : (t u : Table) → t.rows ≡ u.rows → (e : ℕ) → row t e ≡ row u e
 same_row t u rows e = ap (λ rs. row (with_lists rs [] 0 0) e) rows
 
-next_alike : (s : Shape) (x : ℕ) (t u : Table) → SameTable s t u → (e : ℕ) → HasWholeKey s x t e → next_of s t x e ≡ next_of s u x e
+next_alike : (s : Shape) (x : ℕ) (t u : Table) → SameTable s t u → (e : ℕ) → HasWholeKey s x t e → next_with_key s t x e ≡ next_with_key s u x e
 next_alike s x t u same e whole =
     let k : KeyOfRow (index_at s x).parts (row t e) = key_of_row (index_at s x).parts e (row t e).1 whole in
     ap (λ ids. after_in ids e)

@@ -99,7 +99,7 @@ key_is_there s t x key each k e at =
 
 -- after the id at a place among those of a whole key comes the id at the next
 pub next_of_key : (s : Shape) (t : Table) (x : ℕ) (key : List Value) → ListsEach t (view s t x) → IsTrue (fits_key s.columns (index_at s x).parts true key)
-    → (k e : ℕ) → slice_get (of_key s t x key) k ≡ Some e → look.next_of s t x e ≡ slice_get (of_key s t x key) (k + 1)
+    → (k e : ℕ) → slice_get (of_key s t x key) k ≡ Some e → look.next_with_key s t x e ≡ slice_get (of_key s t x key) (k + 1)
 next_of_key s t x key each fits k e at =
     ap (λ ids. after_in ids e)
     (filter_like (λ a. is_eq (compare_ids (index_at s x) t e a)) (λ a. is_eq (compare_to_id (index_at s x) t key a))

@@ -15,7 +15,7 @@ use Rattle.mi_catalog.specs.Key.{IsWholeKey, IsAskedBy}
 use Rattle.mi_model.specs.Table.{Table, get, row, size}
 use Rattle.mi_model.specs.Conflict.{conflict}
 use Rattle.mi_model.specs.LookUp.{rank, nth, lower_rank, upper_rank, find, count, lower, upper, first}
-use Rattle.mi_model.specs.LookUp.{last, after as row_after, before as row_before, first_of, next_of}
+use Rattle.mi_model.specs.LookUp.{last, after as row_after, before as row_before, first_with_key, next_with_key}
 use Rattle.mi_model.specs.Page.{range, list}
 use Rattle.mi_model.specs.Database.{Database, IsDatabase, schema_of, table_of, depth, start_step, undo_step, squash_step, commit_step, undo_all_step}
 use Rattle.mi_model.specs.DatabaseChange.{insert_step, replace_step, modify_step, erase_step, erase_key_step, relocate_step}
@@ -31,8 +31,8 @@ HasWholeKey s x t e = AllByRecursion (λ p. p.column < length (row t e).1) (inde
 pub record KeyedAlike (s : Shape) (x : ℕ) (t u : Table) : Type 0 where
   pub find : (key : List Value) → IsAskedBy (index_at s x).kind (index_at s x).parts key → find s t x key ≡ find s u x key
   pub count : (key : List Value) → IsAskedBy (index_at s x).kind (index_at s x).parts key → count s t x key ≡ count s u x key
-  pub first_of : (key : List Value) → IsWholeKey (index_at s x).parts key → first_of s t x key ≡ first_of s u x key
-  pub next_of : (e : ℕ) → HasWholeKey s x t e → next_of s t x e ≡ next_of s u x e
+  pub first_of : (key : List Value) → IsWholeKey (index_at s x).parts key → first_with_key s t x key ≡ first_with_key s u x key
+  pub next_of : (e : ℕ) → HasWholeKey s x t e → next_with_key s t x e ≡ next_with_key s u x e
 
 -- and so does what is asked of an index that isn't hashed
 pub record ListedAlike (s : Shape) (x : ℕ) (t u : Table) : Type 0 where
@@ -46,7 +46,7 @@ pub record ListedAlike (s : Shape) (x : ℕ) (t u : Table) : Type 0 where
   pub last : last s t x ≡ last s u x
   pub after : (e : ℕ) → row_after s t x e ≡ row_after s u x e
   pub before : (e : ℕ) → row_before s t x e ≡ row_before s u x e
-  pub next_of : (e : ℕ) → next_of s t x e ≡ next_of s u x e
+  pub next_of : (e : ℕ) → next_with_key s t x e ≡ next_with_key s u x e
   pub range : (low : Lower) (high : Upper) (reversed : Bool) (limit : ℕ) → range s t x low high reversed limit ≡ range s u x low high reversed limit
   pub list : (e : Option ℕ) (limit : ℕ) → list s t x e limit ≡ list s u x e limit
 

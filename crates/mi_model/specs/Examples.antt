@@ -16,7 +16,7 @@ use Rattle.mi_catalog.specs.Accounts.{accounts}
 use Rattle.mi_model.specs.Table.{Table, get, size, list_of}
 use Rattle.mi_model.specs.View.{view}
 use Rattle.mi_model.specs.Verdict.{insert_outcome, modify_outcome, relocate_outcome, erase_key_outcome}
-use Rattle.mi_model.specs.LookUp.{after, before, last, first_of, next_of, rank, nth, lower_rank, upper_rank, find, count}
+use Rattle.mi_model.specs.LookUp.{after, before, last, first_with_key, next_with_key, rank, nth, lower_rank, upper_rank, find, count}
 use Rattle.mi_model.specs.Page.{range}
 use Rattle.mi_model.specs.Database.{Database, opened_database, table_of, on_table, depth, undo_step, commit_step, undo_all_step}
 use Rattle.mi_model.specs.Run.{Command, run}
@@ -242,8 +242,8 @@ RowsKeptForASession = (kept_after (Erase 0 2) (db (four ++ Start ∷ Erase 0 1 �
 
 -- the ids of one key of a hashed index, one after another
 abbrev pub NeighboursOfOneKey : Type 0
-NeighboursOfOneKey = (first_of accounts (table vips) 3 (flag true) ≡ Some 0)
-    × (next_of accounts (table vips) 3 0 ≡ Some 1) × (next_of accounts (table vips) 3 1 ≡ None)
+NeighboursOfOneKey = (first_with_key accounts (table vips) 3 (flag true) ≡ Some 0)
+    × (next_with_key accounts (table vips) 3 0 ≡ Some 1) × (next_with_key accounts (table vips) 3 1 ≡ None)
     × (after accounts (table vips) 2 1 ≡ Some 2) × (before accounts (table vips) 2 0 ≡ None) × (last accounts (table vips) 5 ≡ Some 2)
     × (last accounts (table (vips ++ Erase 0 0 ∷ [])) 5 ≡ Some 2)
 

@@ -68,11 +68,11 @@ abbrev pub before : Shape → Table → ℕ → ℕ → Option ℕ
 before s t x e = before_in (view s t x) e
 
 -- the first id of a key, and the one that follows an id among those of its key
-abbrev pub first_of : Shape → Table → ℕ → List Value → Option ℕ
-first_of = find
+abbrev pub first_with_key : Shape → Table → ℕ → List Value → Option ℕ
+first_with_key = find
 
-abbrev pub next_of : Shape → Table → ℕ → ℕ → Option ℕ
-next_of s t x e = after_in (filter (λ id. is_eq (compare_ids (index_at s x) t e id)) (view s t x)) e
+abbrev pub next_with_key : Shape → Table → ℕ → ℕ → Option ℕ
+next_with_key s t x e = after_in (filter (λ id. is_eq (compare_ids (index_at s x) t e id)) (view s t x)) e
 
 -- the rank of a row is the number of rows of a smaller key, and of those of the same key that stand earlier in the index's list
 abbrev pub RanksCountRows : Type 0

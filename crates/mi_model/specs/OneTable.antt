@@ -25,8 +25,8 @@ abbrev pub opened_table : ℕ → Shape → OneTable
 opened_table first s = record { table = opened s; old = []; revision = first }
 
 -- a change answers as the table does, and what that leaves is the table
-abbrev pub changed : {A : Type 0} → (Table → Outcome A) → OneTable → Result A Refusal × OneTable
-changed change d = ((change d.table).0, record d { table = (change d.table).1 })
+abbrev pub applied : {A : Type 0} → (Table → Outcome A) → OneTable → Result A Refusal × OneTable
+applied change d = ((change d.table).0, record d { table = (change d.table).1 })
 
 -- a start keeps the table as it is now
 abbrev pub start : OneTable → Result ℕ Refusal × OneTable
@@ -73,13 +73,13 @@ pub record IsAsOneTable (first : ℕ) (s : Shape) (d : OneTable) : Type 0 where
   pub opening : opened_database (in_catalog first s d).catalog ≡ in_catalog first s (opened_table first s)
   pub schema : schema_of (in_catalog first s d) 0 ≡ s
   pub table : table_of (in_catalog first s d) 0 ≡ d.table
-  pub insert : (at : Option (ℕ × ℕ)) (r : List Value) → insert_step 0 at r (in_catalog first s d) ≡ and_in_catalog first s (changed (insert_outcome s at r) d)
-  pub replace : (e : ℕ) (r : List Value) → replace_step 0 e r (in_catalog first s d) ≡ and_in_catalog first s (changed (replace_outcome s e r) d)
+  pub insert : (at : Option (ℕ × ℕ)) (r : List Value) → insert_step 0 at r (in_catalog first s d) ≡ and_in_catalog first s (applied (insert_outcome s at r) d)
+  pub replace : (e : ℕ) (r : List Value) → replace_step 0 e r (in_catalog first s d) ≡ and_in_catalog first s (applied (replace_outcome s e r) d)
   pub modify : (e : ℕ) (edits : List Edit) (rollback : Bool)
-      → modify_step 0 e edits rollback (in_catalog first s d) ≡ and_in_catalog first s (changed (modify_outcome s e edits rollback) d)
-  pub erase : (e : ℕ) → erase_step 0 e (in_catalog first s d) ≡ and_in_catalog first s (changed (erase_outcome e) d)
-  pub erase_key : (x : ℕ) (key : List Value) → erase_key_step 0 x key (in_catalog first s d) ≡ and_in_catalog first s (changed (erase_key_outcome s x key) d)
-  pub relocate : (x e : ℕ) (b : Option ℕ) → relocate_step 0 x e b (in_catalog first s d) ≡ and_in_catalog first s (changed (relocate_outcome x e b) d)
+      → modify_step 0 e edits rollback (in_catalog first s d) ≡ and_in_catalog first s (applied (modify_outcome s e edits rollback) d)
+  pub erase : (e : ℕ) → erase_step 0 e (in_catalog first s d) ≡ and_in_catalog first s (applied (erase_outcome e) d)
+  pub erase_key : (x : ℕ) (key : List Value) → erase_key_step 0 x key (in_catalog first s d) ≡ and_in_catalog first s (applied (erase_key_outcome s x key) d)
+  pub relocate : (x e : ℕ) (b : Option ℕ) → relocate_step 0 x e b (in_catalog first s d) ≡ and_in_catalog first s (applied (relocate_outcome x e b) d)
   pub start : start_step (in_catalog first s d) ≡ and_in_catalog first s (start d)
   pub undo : undo_step (in_catalog first s d) ≡ and_in_catalog first s (undo_to d d.old)
   pub squash : squash_step (in_catalog first s d) ≡ and_in_catalog first s (squash_to d d.old)

@@ -28,7 +28,7 @@ use Rattle.mi_node.specs.Refs.{Ref}
 use Rattle.mi_order.specs.declared.stored.Stored.{Stored}
 use Rattle.mi_index.specs.declared.structure.Structure.{Structure}
 use Rattle.mi_container.specs.Asked.{IsSequenced}
-use Rattle.mi_container.specs.Data.{Data, table_of}
+use Rattle.mi_container.specs.Data.{Data, as_table}
 use Rattle.mi_container.specs.Data.Order.{ById}
 use Rattle.mi_container.specs.Fits.{HasOwnList}
 use Rattle.mi_container.specs.Run.{PlaceFits}
@@ -163,19 +163,19 @@ module _ (s : Shape) (ids : FinMap nat_cmp IdEntry) (m : Pooled Stored) (xs : Li
   place_fits None h = tt
   place_fits (Some p) h = has_list p.0 h
 
-  one_before : (p : ℕ × ℕ) (o : Option Ref) → live_node ids p.1 ≡ o → has (table_of d) p.1 ≡ true → IsBefore ids (Some p) (option_map (λ r. (p.0, r)) o)
+  one_before : (p : ℕ × ℕ) (o : Option Ref) → live_node ids p.1 ≡ o → has (as_table d) p.1 ≡ true → IsBefore ids (Some p) (option_map (λ r. (p.0, r)) o)
   one_before p None is h = absurd (false≢true (sym (none_has s ids m xs next arrivals p.1 is) ∙ h))
   one_before p (Some r) is h = (refl, live_is ids p.1 r is)
 
   -- the row that a place names is live
-  pub before_is : (at : Option (ℕ × ℕ)) → has_place (table_of d) (option_map (λ p. p.1) at) ≡ true → IsBefore ids at (node_before ids at)
+  pub before_is : (at : Option (ℕ × ℕ)) → has_place (as_table d) (option_map (λ p. p.1) at) ≡ true → IsBefore ids at (node_before ids at)
   before_is None h = tt
   before_is (Some p) h = one_before p (live_node ids p.1) refl h
 
-  live_has : (e : ℕ) (o : Option Ref) → live_node ids e ≡ o → is_some o ≡ has (table_of d) e
+  live_has : (e : ℕ) (o : Option Ref) → live_node ids e ≡ o → is_some o ≡ has (as_table d) e
   live_has e None h = sym (none_has s ids m xs next arrivals e h)
   live_has e (Some r) h = sym (has_there d e (node_in m (plan s.indexes) r, row_is s ids m xs next arrivals e r h))
 
   -- a live id has a row
-  pub has_live : (e : ℕ) → is_some (live_node ids e) ≡ has (table_of d) e
+  pub has_live : (e : ℕ) → is_some (live_node ids e) ≡ has (as_table d) e
   has_live e = live_has e (live_node ids e) refl

@@ -15,9 +15,9 @@ use Rattle.mi_node.specs.Pool.{Pooled, value_of}
 use Rattle.mi_node.specs.Refs.{Ref}
 use Rattle.mi_order.specs.declared.stored.Stored.{Stored}
 use Rattle.mi_index.specs.declared.structure.Structure.{Structure}
-use Rattle.mi_container.specs.Data.{Node, Kept, Order, Data, IsData, node_of, table_of}
+use Rattle.mi_container.specs.Data.{Node, Kept, Order, Data, IsData, node_of, as_table}
 use Rattle.mi_container.specs.Changes.{erased}
-use Rattle.mi_container.specs.Inverse.{at_in, RowRef, taken_back, returned}
+use Rattle.mi_container.specs.Inverse.{at_in, RowRef, taken_back, row_returned}
 use Rattle.mi_container.specs.Inverse.Inverse.{Erased}
 use Rattle.mi_container.specs.Fits.{IsThere, IsKept, AllMeet, Ready}
 use Rattle.mi_container.specs.Makes.{Makes}
@@ -61,30 +61,30 @@ module _ (s : Shape) (ids : FinMap nat_cmp IdEntry) (m : Pooled Stored) (xs : Li
   abbrev d : Data
   d = plain_of s ids m xs next arrivals
 
-  pub none_has : live_node ids e ≡ None → has (table_of d) e ≡ false
+  pub none_has : live_node ids e ≡ None → has (as_table d) e ≡ false
   none_has h = ap is_some (lookup_shown e d.rows
       ∙ ap (option_map (λ (n : Node). n.content.values)) (get_picked (live_in m (plan s.indexes)) ids e ∙ no_node m (plan s.indexes) (get ids e) h))
 
   pub row_is : (r : Ref) → live_node ids e ≡ Some r → node_of d.rows e ≡ Some (node_in m (plan s.indexes) r)
   row_is r h = get_picked (live_in m (plan s.indexes)) ids e ∙ ap (option_and_then (live_in m (plan s.indexes))) (live_is ids e r h)
 
-  pub erase_refused : live_node ids e ≡ None → ((erase_outcome e (table_of d)).0 ≡ Err NoId) × (table_of d ≡ (erase_outcome e (table_of d)).1)
+  pub erase_refused : live_node ids e ≡ None → ((erase_outcome e (as_table d)).0 ≡ Err NoId) × (as_table d ≡ (erase_outcome e (as_table d)).1)
   erase_refused h =
-      let no_ : has (table_of d) e ≡ false = none_has h in
+      let no_ : has (as_table d) e ≡ false = none_has h in
       ((λ i. (outcome (no_ i)).0), sym (λ i. (outcome (no_ i)).1))
     where
       outcome : Bool → Outcome (Unit {0})
-      outcome b = cond b (Ok tt, erase e (table_of d)) (Err NoId, table_of d)
+      outcome b = cond b (Ok tt, erase e (as_table d)) (Err NoId, as_table d)
 
   pub erase_meets : (r : Ref) (new : Data) → live_node ids e ≡ Some r → new ≡ erased e d
-      → ((erase_outcome e (table_of d)).0 ≡ Ok tt) × (table_of new ≡ (erase_outcome e (table_of d)).1)
+      → ((erase_outcome e (as_table d)).0 ≡ Ok tt) × (as_table new ≡ (erase_outcome e (as_table d)).1)
   erase_meets r new h is =
       let there : IsThere d.rows e = (node_in m (plan s.indexes) r, row_is r h) in
-      let yes_ : has (table_of d) e ≡ true = has_there d e there in
-      ((λ i. (outcome (yes_ i)).0), ap table_of is ∙ table_erased e d there ∙ sym (λ i. (outcome (yes_ i)).1))
+      let yes_ : has (as_table d) e ≡ true = has_there d e there in
+      ((λ i. (outcome (yes_ i)).0), ap as_table is ∙ table_erased e d there ∙ sym (λ i. (outcome (yes_ i)).1))
     where
       outcome : Bool → Outcome (Unit {0})
-      outcome b = cond b (Ok tt, erase e (table_of d)) (Err NoId, table_of d)
+      outcome b = cond b (Ok tt, erase e (as_table d)) (Err NoId, as_table d)
 
   pub erase_made : (why : Option (ℕ × ℕ)) (r : Ref) (new : Data) → live_node ids e ≡ Some r
       → new ≡ erased e d → Makes s (Erase e why) d (Erased (record { id = e; at = r }) why) new
@@ -96,11 +96,11 @@ module _ (s : Shape) (ids : FinMap nat_cmp IdEntry) (m : Pooled Stored) (xs : Li
 
   -- Reading
 
-  pub no_record : live_node ids e ≡ None → get_row (table_of d) e ≡ None
+  pub no_record : live_node ids e ≡ None → get_row (as_table d) e ≡ None
   no_record h = lookup_shown e d.rows
       ∙ ap (option_map (λ (n : Node). n.content.values)) (get_picked (live_in m (plan s.indexes)) ids e ∙ no_node m (plan s.indexes) (get ids e) h)
 
-  pub record_of : (r : Ref) (v : Stored) → live_node ids e ≡ Some r → value_of m r.name ≡ Some v → get_row (table_of d) e ≡ Some v.row
+  pub record_of : (r : Ref) (v : Stored) → live_node ids e ≡ Some r → value_of m r.name ≡ Some v → get_row (as_table d) e ≡ Some v.row
   record_of r v h is = lookup_shown e d.rows ∙ ap (option_map (λ (n : Node). n.content.values)) (row_is r h) ∙ ap (λ o. Some (record_in o)) is
 
 -- The inverse of an erased row
@@ -124,14 +124,14 @@ module _ (i : Inside) (w : Seen) (seen : seen_of i ≡ w) (r : RowRef) where
 
   -- the data with the row
   pub back_is : (why : Option (ℕ × ℕ)) → IsKept w.plain.kept r
-      → returned r.id (Some (kept_node_in i.nodes.pool os r.at)) (seen_of i).plain ≡ taken_back (Erased r why) w.plain
+      → row_returned r.id (Some (kept_node_in i.nodes.pool os r.at)) (seen_of i).plain ≡ taken_back (Erased r why) w.plain
   back_is why kept =
       let k = subst (λ (v : Seen). IsKept v.plain.kept r) (sym seen) kept in
-      sym (ap (λ o. returned r.id o (seen_of i).plain)
+      sym (ap (λ o. row_returned r.id o (seen_of i).plain)
       (k.1 ∙ ap Some ((entry_kept i.ids.entries i.nodes.pool os r.id k.0 k.1).1 ∙ ap (kept_node_in i.nodes.pool os) k.2)))
       ∙ ap (λ (v : Seen). taken_back (Erased r why) v.plain) seen
 
   pub back_data : (why : Option (ℕ × ℕ)) → IsKept w.plain.kept r → IsData w.shape (taken_back (Erased r why) w.plain)
-      → IsData i.schema (returned r.id (Some (kept_node_in i.nodes.pool os r.at)) (seen_of i).plain)
+      → IsData i.schema (row_returned r.id (Some (kept_node_in i.nodes.pool os r.at)) (seen_of i).plain)
   back_data why kept data_ =
       subst (IsData i.schema) (sym (back_is why kept)) (subst (λ k. IsData k (taken_back (Erased r why) w.plain)) (sym (ap (λ (v : Seen). v.shape) seen)) data_)

@@ -25,7 +25,7 @@ use Rattle.mi_index.specs.declared.structure.Structure.TheVariants.{Ordered, Has
 use Rattle.mi_index.specs.Looks as nodes
 use Rattle.mi_index.specs.Standing.{Stands}
 use Rattle.mi_container.specs.Asked.{ShowsOneList, IsSorted}
-use Rattle.mi_container.specs.Data.{table_of}
+use Rattle.mi_container.specs.Data.{as_table}
 use Rattle.mi_ids.specs.IdMap.{live_node}
 use Rattle.mi_multi.specs.Multi.{id_at}
 use Rattle.mi_multi.specs.Seen.{Seen, seen_of, AreMulti}
@@ -77,9 +77,9 @@ module _ (i : Inside) (is : AreMulti i) {w : Seen} (seen : seen_of i ≡ w) wher
       (listed_within i.schema x (sorted_listed (index_at i.schema x).kind (sorts_shape x h)))
 
   -- an id without a node isn't there
-  pub absent : (e : ℕ) {o : Option Ref} → o ≡ live_node i.ids.entries e → o ≡ None → IsTrue (has (table_of w.plain) e) → ⊥
+  pub absent : (e : ℕ) {o : Option Ref} → o ≡ live_node i.ids.entries e → o ≡ None → IsTrue (has (as_table w.plain) e) → ⊥
   absent e live none h = false≢true (sym (none_has i.schema i.ids.entries m items i.next i.arrivals e (sym live ∙ none))
-      ∙ subst (λ (v : Seen). IsTrue (has (table_of v.plain) e)) (sym seen) h)
+      ∙ subst (λ (v : Seen). IsTrue (has (as_table v.plain) e)) (sym seen) h)
 
   -- the index of the ids is sorted
   pub id_sorted : IsTrue (is_schema i.schema) → IsSorted w.shape 0
@@ -95,28 +95,28 @@ module _ (i : Inside) (is : AreMulti i) {w : Seen} (seen : seen_of i ≡ w) wher
     pub in_list : ShowsOneList w.shape x → (qs : List Ref) × Stands y m qs × nodes.HasOneList y
     in_list h = (rs, n.stood.stands, known.lists i.schema i.ids.entries m items i.next i.arrivals is x y n (lists_shape x h))
 
-    pub in_order : IsSorted w.shape x → (qs : List Ref) × Stands y m qs × nodes.IsSorted y
+    pub in_order : IsSorted w.shape x → (qs : List Ref) × Stands y m qs × nodes.IsSortedStructure y
     in_order h = (rs, n.stood.stands, known.sorts i.schema i.ids.entries m items i.next i.arrivals is x y n (sorts_shape x h))
 
     -- how many nodes there are
-    pub long : length rs ≡ size (table_of w.plain)
+    pub long : length rs ≡ size (as_table w.plain)
     long =
         sym (length_ids (id_at m) rs) ∙ ap length (known.ids_shown i.schema i.ids.entries m items i.next i.arrivals is x y n)
-        ∙ length-view i.schema (table_of (seen_of i).plain) x is.is_data.table n.few ∙ ap (λ (v : Seen). size (table_of v.plain)) seen
+        ∙ length-view i.schema (as_table (seen_of i).plain) x is.is_data.table n.few ∙ ap (λ (v : Seen). size (as_table v.plain)) seen
 
-    pub count_is : {k : ℕ} → ((qs : List Ref) → Stands y m qs → k ≡ length qs) → k ≡ size (table_of w.plain)
+    pub count_is : {k : ℕ} → ((qs : List Ref) → Stands y m qs → k ≡ length qs) → k ≡ size (as_table w.plain)
     count_is h = h rs n.stood.stands ∙ long
 
-    fits : (v : Structure) → nodes.IsSorted v → Stands v m rs → length rs < 2 ^ 32
+    fits : (v : Structure) → nodes.IsSortedStructure v → Stands v m rs → length rs < 2 ^ 32
     fits (Ordered t) sorted stands = stands.fits
     fits (Hashed c) sorted stands = absurd sorted
     fits (Sequenced l) sorted stands = absurd sorted
 
     -- none is so far behind
-    pub nth_past : (k : ℕ) → IsSorted w.shape x → 2 ^ 32 ≤ k → None ≡ look.nth w.shape (table_of w.plain) x k
+    pub nth_past : (k : ℕ) → IsSorted w.shape x → 2 ^ 32 ≤ k → None ≡ look.nth w.shape (as_table w.plain) x k
     nth_past k h l =
         let few : length rs < 2 ^ 32 = fits y (known.sorts i.schema i.ids.entries m items i.next i.arrivals is x y n (sorts_shape x h)) n.stood.stands in
-        subst (λ (v : Seen). None ≡ look.nth v.shape (table_of v.plain) x k) seen
+        subst (λ (v : Seen). None ≡ look.nth v.shape (as_table v.plain) x k) seen
         (sym (ap (λ ids. slice_get ids k) (sym (known.ids_shown i.schema i.ids.entries m items i.next i.arrivals is x y n))
         ∙ none_past (id_at m) rs k (omega arith)))
 
@@ -129,27 +129,27 @@ module _ (i : Inside) (is : AreMulti i) {w : Seen} (seen : seen_of i ≡ w) wher
     first_held h = subst (λ k. IfSome k (IsHeld m)) (sym (h rs n.stood.stands)) (all_first (IsHeld m) rs alls)
 
     pub first_is : {o : Option Ref} → ((qs : List Ref) → Stands y m qs → o ≡ first_of qs None)
-        → option_map (id_at m) o ≡ look.first w.shape (table_of w.plain) x
+        → option_map (id_at m) o ≡ look.first w.shape (as_table w.plain) x
     first_is h =
         ap (option_map (id_at m)) (h rs n.stood.stands)
-        ∙ known.first_seen i.schema i.ids.entries m items i.next i.arrivals is x y n ∙ ap (λ (v : Seen). look.first v.shape (table_of v.plain) x) seen
+        ∙ known.first_seen i.schema i.ids.entries m items i.next i.arrivals is x y n ∙ ap (λ (v : Seen). look.first v.shape (as_table v.plain) x) seen
 
     pub last_held : {o : Option Ref} → ((qs : List Ref) → Stands y m qs → o ≡ last_of None qs) → IfSome o (IsHeld m)
     last_held h = subst (λ k. IfSome k (IsHeld m)) (sym (h rs n.stood.stands)) (all_last (IsHeld m) rs alls)
 
-    pub last_is : {o : Option Ref} → ((qs : List Ref) → Stands y m qs → o ≡ last_of None qs) → option_map (id_at m) o ≡ look.last w.shape (table_of w.plain) x
+    pub last_is : {o : Option Ref} → ((qs : List Ref) → Stands y m qs → o ≡ last_of None qs) → option_map (id_at m) o ≡ look.last w.shape (as_table w.plain) x
     last_is h =
         ap (option_map (id_at m)) (h rs n.stood.stands)
-        ∙ known.last_seen i.schema i.ids.entries m items i.next i.arrivals is x y n ∙ ap (λ (v : Seen). look.last v.shape (table_of v.plain) x) seen
+        ∙ known.last_seen i.schema i.ids.entries m items i.next i.arrivals is x y n ∙ ap (λ (v : Seen). look.last v.shape (as_table v.plain) x) seen
 
     pub nth_held : (k : ℕ) {o : Option Ref} → ((qs : List Ref) → Stands y m qs → o ≡ nth_of qs k) → IfSome o (IsHeld m)
     nth_held k h = subst (λ q. IfSome q (IsHeld m)) (sym (h rs n.stood.stands)) (all_nth (IsHeld m) rs k alls)
 
     pub nth_is : (k : ℕ) {o : Option Ref} → ((qs : List Ref) → Stands y m qs → o ≡ nth_of qs k)
-        → option_map (id_at m) o ≡ look.nth w.shape (table_of w.plain) x k
+        → option_map (id_at m) o ≡ look.nth w.shape (as_table w.plain) x k
     nth_is k h =
         ap (option_map (id_at m)) (h rs n.stood.stands)
-        ∙ known.nth_seen i.schema i.ids.entries m items i.next i.arrivals is x y n k ∙ ap (λ (v : Seen). look.nth v.shape (table_of v.plain) x k) seen
+        ∙ known.nth_seen i.schema i.ids.entries m items i.next i.arrivals is x y n k ∙ ap (λ (v : Seen). look.nth v.shape (as_table v.plain) x k) seen
 
     -- those beside a node
 
@@ -165,7 +165,7 @@ module _ (i : Inside) (is : AreMulti i) {w : Seen} (seen : seen_of i ≡ w) wher
       pub between : ShowsOneList w.shape x → (xs : List Ref) × (ys : List Ref) × Stands y m (xs ++ r ∷ ys) × nodes.HasOneList y
       between h = (a.xs, a.ys, a.stands, (in_list h).2)
 
-      pub ranked : IsSorted w.shape x → (xs : List Ref) × (ys : List Ref) × Stands y m (xs ++ r ∷ ys) × nodes.IsSorted y
+      pub ranked : IsSorted w.shape x → (xs : List Ref) × (ys : List Ref) × Stands y m (xs ++ r ∷ ys) × nodes.IsSortedStructure y
       ranked h = (a.xs, a.ys, a.stands, (in_order h).2)
 
       both : AllByRecursion (IsHeld m) (a.xs ++ r ∷ a.ys)
@@ -175,38 +175,38 @@ module _ (i : Inside) (is : AreMulti i) {w : Seen} (seen : seen_of i ≡ w) wher
       after_held h = subst (λ k. IfSome k (IsHeld m)) (sym (h a.xs a.ys a.stands)) (all_first (IsHeld m) a.ys (all_behind (IsHeld m) a.xs r a.ys both))
 
       pub after_is : {o : Option Ref} → ((xs ys : List Ref) → Stands y m (xs ++ r ∷ ys) → o ≡ first_of ys None)
-          → option_map (id_at m) o ≡ look.after w.shape (table_of w.plain) x e
+          → option_map (id_at m) o ≡ look.after w.shape (as_table w.plain) x e
       after_is h =
           ap (option_map (id_at m)) (h a.xs a.ys a.stands)
           ∙ known.after_seen i.schema i.ids.entries m items i.next i.arrivals is x y n e r there
-          ∙ ap (λ (v : Seen). look.after v.shape (table_of v.plain) x e) seen
+          ∙ ap (λ (v : Seen). look.after v.shape (as_table v.plain) x e) seen
 
       pub before_held : {o : Option Ref} → ((xs ys : List Ref) → Stands y m (xs ++ r ∷ ys) → o ≡ last_of None xs) → IfSome o (IsHeld m)
       before_held h = subst (λ k. IfSome k (IsHeld m)) (sym (h a.xs a.ys a.stands)) (all_last (IsHeld m) a.xs (all_before (IsHeld m) a.xs (r ∷ a.ys) both))
 
       pub before_is : {o : Option Ref} → ((xs ys : List Ref) → Stands y m (xs ++ r ∷ ys) → o ≡ last_of None xs)
-          → option_map (id_at m) o ≡ look.before w.shape (table_of w.plain) x e
+          → option_map (id_at m) o ≡ look.before w.shape (as_table w.plain) x e
       before_is h =
           ap (option_map (id_at m)) (h a.xs a.ys a.stands)
           ∙ known.before_seen i.schema i.ids.entries m items i.next i.arrivals is x y n e r there
-          ∙ ap (λ (v : Seen). look.before v.shape (table_of v.plain) x e) seen
+          ∙ ap (λ (v : Seen). look.before v.shape (as_table v.plain) x e) seen
 
-      pub rank_is : {k : ℕ} → ((xs ys : List Ref) → Stands y m (xs ++ r ∷ ys) → k ≡ length xs) → k ≡ look.rank w.shape (table_of w.plain) x e
+      pub rank_is : {k : ℕ} → ((xs ys : List Ref) → Stands y m (xs ++ r ∷ ys) → k ≡ length xs) → k ≡ look.rank w.shape (as_table w.plain) x e
       rank_is h =
           h a.xs a.ys a.stands
           ∙ known.rank_seen i.schema i.ids.entries m items i.next i.arrivals is x y n e r there
-          ∙ ap (λ (v : Seen). look.rank v.shape (table_of v.plain) x e) seen
+          ∙ ap (λ (v : Seen). look.rank v.shape (as_table v.plain) x e) seen
 
     -- one look-up, and what the contracts of calls with one or two allow
 
     pub one_look : (old : ℕ) {new : ℕ} → ((qs : List Ref) → Stands y m qs → (b : ℕ) → length qs < 2 ^ b → new ≤ old + 2 * b)
-        → (b : ℕ) → size (table_of w.plain) < 2 ^ b → new ≤ old + (2 * b + 1)
+        → (b : ℕ) → size (as_table w.plain) < 2 ^ b → new ≤ old + (2 * b + 1)
     one_look old {new} h b l =
         let less : length rs < 2 ^ b = subst (λ k. k < 2 ^ b) (sym long) l in
         let few : new ≤ old + 2 * b = h rs n.stood.stands b less in omega arith
 
     pub two_looks : (old : ℕ) {new : ℕ} → ((qs : List Ref) → Stands y m qs → (b : ℕ) → length qs < 2 ^ b → new ≤ old + 2 * b)
-        → (b : ℕ) → size (table_of w.plain) < 2 ^ b → new ≤ old + 2 * (2 * b + 1)
+        → (b : ℕ) → size (as_table w.plain) < 2 ^ b → new ≤ old + 2 * (2 * b + 1)
     two_looks old {new} h b l =
         let less : length rs < 2 ^ b = subst (λ k. k < 2 ^ b) (sym long) l in
         let few : new ≤ old + 2 * b = h rs n.stood.stands b less in omega arith

@@ -33,7 +33,7 @@ use Rattle.mi_index.specs.declared.structure.Structure.TheVariants.{Ordered, Has
 use Rattle.mi_index.specs.Looks as nodes
 use Rattle.mi_index.specs.Orders.{place_in, is_key_of}
 use Rattle.mi_index.specs.Standing.{Stands}
-use Rattle.mi_container.specs.Data.{IsData, table_of}
+use Rattle.mi_container.specs.Data.{IsData, as_table}
 use Rattle.mi_ids.specs.declared.entry.IdEntry.{IdEntry}
 use Rattle.mi_multi.specs.Multi.{id_at, IsFor, IsMulti, plain_of}
 use Rattle.mi_multi.specs.Seen.{Seen, seen_of, AreMulti}
@@ -77,7 +77,7 @@ schema_keyed s x rules p l one = unique_keyed (length s.columns) s.indexes x _ p
 module _ (s : Shape) (ids : FinMap nat_cmp IdEntry) (m : Pooled Stored) (xs : List Structure) (next arrivals : ℕ)
     (is : IsMulti s ids m xs next arrivals) (x : ℕ) (y : Structure) (n : Numbered s ids m xs x y) (k : Bor (List Value)) where
   abbrev t : Table
-  t = table_of (plain_of s ids m xs next arrivals)
+  t = as_table (plain_of s ids m xs next arrivals)
 
   abbrev i : Index
   i = index_at s x
@@ -114,7 +114,7 @@ module _ (i : Inside) (is : AreMulti i) (w : Seen) (seen : seen_of i ≡ w) (x :
   pub holder_is : (y : Structure) (at : slice_get i.nodes.structures.items x ≡ Some y) (k : Bor (List Value)) (o : Option Ref)
       → IsTrue (is_schema i.schema) → (index_at w.shape x).«unique» ≡ true
       → ((qs : List Ref) → Stands y i.nodes.pool qs → o ≡ first_where (nodes.has_sought y i.nodes.pool (Of k)) qs)
-      → option_map (id_at i.nodes.pool) o ≡ rival (table_of w.plain).rows (index_at w.shape x).parts k.now None
+      → option_map (id_at i.nodes.pool) o ≡ rival (as_table w.plain).rows (index_at w.shape x).parts k.now None
   holder_is y at k o rules one h =
       let n : Numbered i.schema i.ids.entries i.nodes.pool i.nodes.structures.items x y = numbered
       i.schema i.ids.entries i.nodes.pool i.nodes.structures.items i.next i.arrivals is x y at in
@@ -122,7 +122,7 @@ module _ (i : Inside) (is : AreMulti i) (w : Seen) (seen : seen_of i ≡ w) (x :
       let keyed = schema_keyed i.schema x rules p n.few mine in
       ap (option_map (id_at i.nodes.pool)) (h n.stood.rs n.stood.stands)
       ∙ holder_seen i.schema i.ids.entries i.nodes.pool i.nodes.structures.items i.next i.arrivals is x y n k p mine keyed.0 keyed.1
-      ∙ ap (λ (v : Seen). rival (table_of v.plain).rows (index_at v.shape x).parts k.now None) seen
+      ∙ ap (λ (v : Seen). rival (as_table v.plain).rows (index_at v.shape x).parts k.now None) seen
 
   -- the rivals but for one row, by the one that has the key
 
@@ -135,14 +135,14 @@ module _ (i : Inside) (is : AreMulti i) (w : Seen) (seen : seen_of i ≡ w) (x :
         (schema_keyed i.schema x rules p (subst (λ (v : Seen). x < length v.shape.indexes) (sym seen) l)
         (subst (λ (v : Seen). (index_at v.shape x).«unique» ≡ true) (sym seen) one)).1
 
-    pub none_is : (except : Option ℕ) → rival (table_of w.plain).rows (index_at w.shape x).parts r None ≡ None
-        → rival (table_of w.plain).rows (index_at w.shape x).parts r except ≡ None
-    none_is = no_rival w.shape (table_of w.plain) x r data_is.table data_is.unique_keys p one some
+    pub none_is : (except : Option ℕ) → rival (as_table w.plain).rows (index_at w.shape x).parts r None ≡ None
+        → rival (as_table w.plain).rows (index_at w.shape x).parts r except ≡ None
+    none_is = no_rival w.shape (as_table w.plain) x r data_is.table data_is.unique_keys p one some
 
-    pub own_is_none : (own : ℕ) → rival (table_of w.plain).rows (index_at w.shape x).parts r None ≡ Some own
-        → rival (table_of w.plain).rows (index_at w.shape x).parts r (Some own) ≡ None
-    own_is_none = own_row w.shape (table_of w.plain) x r data_is.table data_is.unique_keys p one some
+    pub own_is_none : (own : ℕ) → rival (as_table w.plain).rows (index_at w.shape x).parts r None ≡ Some own
+        → rival (as_table w.plain).rows (index_at w.shape x).parts r (Some own) ≡ None
+    own_is_none = own_row w.shape (as_table w.plain) x r data_is.table data_is.unique_keys p one some
 
-    pub other_is : (own e : ℕ) → own ≢ e → rival (table_of w.plain).rows (index_at w.shape x).parts r None ≡ Some e
-        → rival (table_of w.plain).rows (index_at w.shape x).parts r (Some own) ≡ Some e
-    other_is = other_row w.shape (table_of w.plain) x r data_is.table data_is.unique_keys p one some
+    pub other_is : (own e : ℕ) → own ≢ e → rival (as_table w.plain).rows (index_at w.shape x).parts r None ≡ Some e
+        → rival (as_table w.plain).rows (index_at w.shape x).parts r (Some own) ≡ Some e
+    other_is = other_row w.shape (as_table w.plain) x r data_is.table data_is.unique_keys p one some

@@ -29,7 +29,7 @@ use Rattle.mi_container.proofs.InvariantLemmas.{rows_climb}
 use Rattle.mi_container.proofs.LawLemmas.{change_is_tables}
 use Rattle.mi_ids.specs.declared.entry.IdEntry.{IdEntry}
 use Rattle.mi_ids.specs.IdMap.{with_live}
-use Rattle.mi_multi.specs.Physical.{id_in, orders_of, plan, node_in, kept_node_in, live_in, kept_in, picked}
+use Rattle.mi_multi.specs.Physical.{stored_id, orders_of, plan, node_in, kept_node_in, live_in, kept_in, picked}
 use Rattle.mi_multi.specs.Alike.{SaysSame, IsAltered}
 use Rattle.mi_multi.specs.Multi.{id_at, ids_at, own_lists, is_live, AreLive, IsMulti, plain_of}
 use Rattle.mi_multi.proofs.PickLemmas.{get_picked}
@@ -141,7 +141,7 @@ module _ (s : Shape) (ids : FinMap nat_cmp IdEntry) (m n : Pooled Stored) (xs ys
   -- Lists
 
   live_still : (q : Ref) → IsLiveRef ids m q → id_at m q ≢ e → IsLiveRef new_ids n q
-  live_still q live ne = let id : id_at n q ≡ id_at m q = ap id_in (changed.keeps.values q.name) in ap (get new_ids) id ∙ others (id_at m q) ne ∙ live
+  live_still q live ne = let id : id_at n q ≡ id_at m q = ap stored_id (changed.keeps.values q.name) in ap (get new_ids) id ∙ others (id_at m q) ne ∙ live
 
   all_still : (qs : List Ref) → AllByRecursion (IsLiveRef ids m) qs → AllByRecursion (λ k. k ≢ e) (ids_at m qs) → AllByRecursion (IsLiveRef new_ids n) qs
   all_still [] all lacks = tt

@@ -19,12 +19,12 @@ use Rattle.mi_order.specs.declared.stored.Stored.{Stored}
 use Rattle.mi_index.specs.declared.structure.Structure.{Structure}
 use Rattle.mi_index.specs.declared.structure.Structure.TheVariants.{Ordered, Hashed, Sequenced}
 use Rattle.mi_index.specs.Standing.{slot_in, Stands, IsLike}
-use Rattle.mi_index.specs.Pass.{Gives, AllStand, AllDone, AllLike}
+use Rattle.mi_index.specs.Pass.{Gives, AllStand, AllGiven, AllLike}
 use Rattle.mi_container.specs.Data.{Order, has_stamps}
 use Rattle.mi_container.specs.Data.Order.{ById, ByHash, Listed}
 use Rattle.mi_container.specs.Changes.{sorted_order}
 use Rattle.mi_ids.specs.declared.entry.IdEntry.{IdEntry}
-use Rattle.mi_multi.specs.Physical.{order_of, orders_of, plan, id_in}
+use Rattle.mi_multi.specs.Physical.{order_of, orders_of, plan, stored_id}
 use Rattle.mi_multi.specs.Multi.{id_at, ids_at, own_list, own_lists, IsFor, AllFor, AreLive}
 use Rattle.mi_multi.specs.Alike.{SeqBy}
 
@@ -45,7 +45,7 @@ pub data Every (P : ℕ → Index → Structure → Structure → List Ref → L
       → P s i x y rs us → Every P (s + 1) is xs ys rss uss → Every P s (i ∷ is) (x ∷ xs) (y ∷ ys) (rs ∷ rss) (us ∷ uss)
 
 pub every : (Q : Gives) (ids : FinMap nat_cmp IdEntry) (m n : Pooled Stored) (s : ℕ) (is : List Index) (xs ys : List Structure) (rss uss : List (List Ref))
-    → AllFor is xs → AllLike xs ys → AllStand xs s m rss → AllStand ys s n uss → AllDone Q xs s m n rss uss
+    → AllFor is xs → AllLike xs ys → AllStand xs s m rss → AllStand ys s n uss → AllGiven Q xs s m n rss uss
     → AllByRecursion (AreLive ids m) rss → Every (Turned Q ids m n) s is xs ys rss uss
 every Q ids m n s [] [] [] [] [] f l a b d v = none
 every Q ids m n s [] [] [] [] (us ∷ uss) f l a b d v = absurd d
@@ -94,12 +94,12 @@ all_for (i ∷ is) (x ∷ xs) (y ∷ ys) l f = (like_for i x y l.0 f.0, all_for 
 
 -- The list of a sequenced index is that of its nodes
 
-names_ids : (m : Pooled Stored) (rs : List Ref) → map (λ k. id_in (value_of m k)) (names rs) ≡ ids_at m rs
+names_ids : (m : Pooled Stored) (rs : List Ref) → map (λ k. stored_id (value_of m k)) (names rs) ≡ ids_at m rs
 names_ids m [] = refl
 names_ids m (r ∷ rs) = ap (λ q. id_at m r ∷ q) (names_ids m rs)
 
-own_line : (m : Pooled Stored) (l : Line) (rs : List Ref) → IsListed l m rs → map (λ k. id_in (value_of m k)) (order l m) ≡ ids_at m rs
-own_line m l rs stands = ap (map (λ k. id_in (value_of m k))) (order-listed l m rs stands) ∙ names_ids m rs
+own_line : (m : Pooled Stored) (l : Line) (rs : List Ref) → IsListed l m rs → map (λ k. stored_id (value_of m k)) (order l m) ≡ ids_at m rs
+own_line m l rs stands = ap (map (λ k. stored_id (value_of m k))) (order-listed l m rs stands) ∙ names_ids m rs
 
 pub sorted_not_sequenced : (k : IndexKind) → is_sorted k ≡ true → is_sequenced k ≡ true → ⊥
 sorted_not_sequenced kind.Ordered a b = false≢true b

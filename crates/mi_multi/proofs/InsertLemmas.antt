@@ -23,7 +23,7 @@ use Rattle.mi_index.specs.Orders.{stored_order}
 use Rattle.mi_index.specs.Places.{before_at, NoneHas}
 use Rattle.mi_index.specs.Rekeying.{side_of_value, HasPlaceFor}
 use Rattle.mi_index.specs.Pass.{AllCan}
-use Rattle.mi_index.specs.Inserting.{inserting}
+use Rattle.mi_index.specs.Inserting.{coming_in}
 use Rattle.mi_container.specs.Data.{Data, Order, has_stamps}
 use Rattle.mi_container.specs.Data.Order.{ById}
 use Rattle.mi_container.proofs.PairLemmas.{none_some, climbs_none}
@@ -126,7 +126,7 @@ module _ (s : Shape) (ids : FinMap nat_cmp IdEntry) (m : Pooled Stored) (xs : Li
     place_in k i (Sequenced l) y rs us h = spot k rs h.0.live at before place
 
     all_come : {k : ℕ} {js : List Index} {us vs : List Structure} {rss uss : List (List Ref)}
-        → Every (Now s ids m xs next arrivals is) k js us vs rss uss → AllCan (inserting v arrivals before) us k m rss
+        → Every (Now s ids m xs next arrivals is) k js us vs rss uss → AllCan (coming_in v arrivals before) us k m rss
     all_come none = tt
     all_come (one {s = k} {i = i} {x = x} {y = y} {rs = rs} {us = us} h rest) = (
       record {
@@ -137,5 +137,5 @@ module _ (s : Shape) (ids : FinMap nat_cmp IdEntry) (m : Pooled Stored) (xs : Li
     )
 
     -- it may come into every index
-    pub can_come : AllCan (inserting v arrivals before) xs 0 m is.rss
+    pub can_come : AllCan (coming_in v arrivals before) xs 0 m is.rss
     can_come = all_come (standing s ids m xs next arrivals is)

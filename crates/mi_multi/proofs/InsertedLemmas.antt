@@ -29,8 +29,8 @@ use Rattle.mi_index.specs.declared.structure.Structure.TheVariants.{Ordered, Has
 use Rattle.mi_index.specs.Standing.{slot_in}
 use Rattle.mi_index.specs.Places.{before_at, IsWith, HasStamp}
 use Rattle.mi_index.specs.Pass.{AllLike}
-use Rattle.mi_index.specs.Inserting.{inserted as comes, IsInserted}
-use Rattle.mi_container.specs.Data.{Node, Data, Order, has_stamps, node_of, IsData, table_of}
+use Rattle.mi_index.specs.Inserting.{come_in as comes, IsInserted}
+use Rattle.mi_container.specs.Data.{Node, Data, Order, has_stamps, node_of, IsData, as_table}
 use Rattle.mi_container.specs.Data.Order.{ById}
 use Rattle.mi_container.specs.Changes.{sorted_order, new_stamp, new_node, inserted, orders_with}
 use Rattle.mi_container.specs.Inverse.{id_named}
@@ -41,7 +41,7 @@ use Rattle.mi_container.proofs.SequenceLemmas.{lacks_left}
 use Rattle.mi_container.proofs.InvariantLemmas.{rows_climb}
 use Rattle.mi_container.proofs.LawLemmas.{change_is_tables}
 use Rattle.mi_ids.specs.declared.entry.IdEntry.{IdEntry}
-use Rattle.mi_multi.specs.Physical.{id_in, record_in, stamp_in, stamps_in, order_of, orders_of, plan, node_in, live_in, kept_in, picked}
+use Rattle.mi_multi.specs.Physical.{stored_id, record_in, stamp_in, stamps_in, order_of, orders_of, plan, node_in, live_in, kept_in, picked}
 use Rattle.mi_multi.specs.Alike.{SaysSame, IsAltered, SeqBy}
 use Rattle.mi_multi.specs.Multi.{id_at, ids_at, own_list, own_lists, is_live, IsFor, AreLive, HasNode, IsMulti, plain_of}
 use Rattle.mi_multi.proofs.PickLemmas.{Above, Up, up_of_climbs}
@@ -127,13 +127,13 @@ module _ (s : Shape) (ids : FinMap nat_cmp IdEntry) (m n : Pooled Stored) (xs ys
   value_here = came.values r.name ∙ ap (λ b. cond b (Some v) (value_of m r.name)) (is_itself r.name)
 
   id_here : id_at n r ≡ next
-  id_here = ap id_in value_here ∙ new
+  id_here = ap stored_id value_here ∙ new
 
   held_live : (q : Ref) → IsLiveRef ids m q → IsHeld m q
   held_live q live = (is.held (id_at m q) (record { node = q; live = true }) live).held
 
   id_still : (q : Ref) → IsLiveRef ids m q → id_at n q ≡ id_at m q
-  id_still q live = ap id_in (value_still q (held_live q live))
+  id_still q live = ap stored_id (value_still q (held_live q live))
 
   ids_still : (qs : List Ref) → AllByRecursion (IsLiveRef ids m) qs → ids_at n qs ≡ ids_at m qs
   ids_still [] all = refl
@@ -327,7 +327,7 @@ module _ (s : Shape) (ids : FinMap nat_cmp IdEntry) (m n : Pooled Stored) (xs ys
 
   -- all stands after it
   pub come_multi : next + 1 ≤ LAST_COUNT → arrivals + 1 ≤ LAST_COUNT → len ids + 1 ≤ 2 ^ 31 → PlaceFits at_ d.orders
-      → conflict s (table_of d) v.row None ≡ None → IsMulti s new_ids n ys (next + 1) (arrivals + 1)
+      → conflict s (as_table d) v.row None ≡ None → IsMulti s new_ids n ys (next + 1) (arrivals + 1)
   come_multi next_fits arrivals_fit few fits alone = record {
     rss = came.uss;
     stand = came.stand;

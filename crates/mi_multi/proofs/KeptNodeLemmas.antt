@@ -5,9 +5,9 @@ use Rattle.mi_container.specs.Data.{Data}
 use Rattle.mi_container.specs.Inverse.{Inverse, settled}
 use Rattle.mi_container.specs.Inverse.Inverse.{Inserted, Put, Erased, Relocated, Nothing}
 use Rattle.mi_container.proofs.PairLemmas.{none_some}
-use Rattle.mi_multi.specs.Before.{kept_by}
+use Rattle.mi_multi.specs.Before.{row_kept_by}
 
-pub keeps_none : (i : Inverse) (d : Data) → kept_by i ≡ None → settled i d ≡ d
+pub keeps_none : (i : Inverse) (d : Data) → row_kept_by i ≡ None → settled i d ≡ d
 keeps_none (Inserted r) d h = refl
 keeps_none (Put r old) d h = refl
 keeps_none (Erased r why) d h = absurd (none_some (sym h))

@@ -29,7 +29,7 @@ use Rattle.mi_index.specs.declared.structure.Structure.TheVariants.{Ordered, Has
 use Rattle.mi_index.specs.Looks as nodes
 use Rattle.mi_index.specs.Standing.{Stands}
 use Rattle.mi_container.specs.Asked.{IsSorted, IsKeyed, IsHashed, WholeKey}
-use Rattle.mi_container.specs.Data.{table_of}
+use Rattle.mi_container.specs.Data.{as_table}
 use Rattle.mi_ids.specs.IdMap.{live_node, node_if_live}
 use Rattle.mi_multi.specs.Multi.{id_at, IsFor}
 use Rattle.mi_multi.specs.Seen.{Seen, seen_of, AreMulti}
@@ -55,7 +55,7 @@ module _ (i : Inside) (is : AreMulti i) {w : Seen} (seen : seen_of i ≡ w) wher
   items = i.nodes.structures.items
 
   abbrev t : Table
-  t = table_of w.plain
+  t = as_table w.plain
 
   pub keyed_reaches : (x : ℕ) → IsKeyed w.shape x → x < length items
   keyed_reaches x h = reaches i.schema i.ids.entries m items i.next i.arrivals is x (subst (λ (v : Seen). IsKeyed v.shape x) (sym seen) h).0
@@ -102,19 +102,19 @@ module _ (i : Inside) (is : AreMulti i) {w : Seen} (seen : seen_of i ≡ w) wher
         ap (option_map (id_at m)) (h rs n.stood.stands)
         ∙ probes.lower_seen i.schema i.ids.entries m items i.next i.arrivals is x y n k
         (subst (λ (v : Seen). IsSorted v.shape x) (sym seen) sorted) (in_order i is seen x at sorted).2
-        ∙ ap (λ (v : Seen). look.lower v.shape (table_of v.plain) x k.now) seen
+        ∙ ap (λ (v : Seen). look.lower v.shape (as_table v.plain) x k.now) seen
     past_is sorted true k h =
         ap (option_map (id_at m)) (h rs n.stood.stands)
         ∙ probes.upper_seen i.schema i.ids.entries m items i.next i.arrivals is x y n k
         (subst (λ (v : Seen). IsSorted v.shape x) (sym seen) sorted) (in_order i is seen x at sorted).2
-        ∙ ap (λ (v : Seen). look.upper v.shape (table_of v.plain) x k.now) seen
+        ∙ ap (λ (v : Seen). look.upper v.shape (as_table v.plain) x k.now) seen
 
     -- the rank of the node at a place, and the number of all where there is none
 
     once : IsOnce (view w.shape t x)
-    once = subst (λ (v : Seen). IsOnce (view v.shape (table_of v.plain) x)) seen
-        (once_of_each (table_of (seen_of i).plain) (view i.schema (table_of (seen_of i).plain) x)
-        (each_in_view i.schema (table_of (seen_of i).plain) x is.is_data.table n.few))
+    once = subst (λ (v : Seen). IsOnce (view v.shape (as_table v.plain) x)) seen
+        (once_of_each (as_table (seen_of i).plain) (view i.schema (as_table (seen_of i).plain) x)
+        (each_in_view i.schema (as_table (seen_of i).plain) x is.is_data.table n.few))
 
     past_within : (past : Bool) (key : List Value) → rank_past past key ≤ length (view w.shape t x)
     past_within false key = let a = lower-le-upper w.shape t x key in let b = upper-le-length w.shape t x key in omega arith
@@ -129,7 +129,7 @@ module _ (i : Inside) (is : AreMulti i) {w : Seen} (seen : seen_of i ≡ w) wher
       found : {r : Ref} → o ≡ Some r → live_node i.ids.entries (id_at m r) ≡ Some r
       found {r} is_ = found_live (nodes.is_past past y m (Key k)) r is_ h
 
-      pub past_ranked : {r : Ref} → o ≡ Some r → (xs : List Ref) × (ys : List Ref) × Stands y m (xs ++ r ∷ ys) × nodes.IsSorted y
+      pub past_ranked : {r : Ref} → o ≡ Some r → (xs : List Ref) × (ys : List Ref) × Stands y m (xs ++ r ∷ ys) × nodes.IsSortedStructure y
       past_ranked {r} is_ = ranked i is seen x at (id_at m r) refl (found is_) sorted
 
       pub past_rank : {r : Ref} → o ≡ Some r → {j : ℕ} → ((xs ys : List Ref) → Stands y m (xs ++ r ∷ ys) → j ≡ length xs) → j ≡ rank_past past k.now
@@ -140,8 +140,8 @@ module _ (i : Inside) (is : AreMulti i) {w : Seen} (seen : seen_of i ≡ w) wher
       pub past_count : o ≡ None → {j : ℕ} → ((qs : List Ref) → Stands y m qs → j ≡ length qs) → j ≡ rank_past past k.now
       past_count none {j} count =
           let all : j ≡ size t = count_is i is seen x at count in
-          let long : length (view w.shape t x) ≡ size t = subst (λ (v : Seen). length (view v.shape (table_of v.plain) x) ≡ size (table_of v.plain))
-          seen (length-view i.schema (table_of (seen_of i).plain) x is.is_data.table n.few) in
+          let long : length (view w.shape t x) ≡ size t = subst (λ (v : Seen). length (view v.shape (as_table v.plain) x) ≡ size (as_table v.plain))
+          seen (length-view i.schema (as_table (seen_of i).plain) x is.is_data.table n.few) in
           let least : length (view w.shape t x) ≤ rank_past past k.now =
           past_end (view w.shape t x) (rank_past past k.now) (sym (past_is sorted past k h) ∙ ap (option_map (id_at m)) none) in
           let most : rank_past past k.now ≤ length (view w.shape t x) = past_within past k.now in
@@ -172,11 +172,11 @@ module _ (i : Inside) (is : AreMulti i) {w : Seen} (seen : seen_of i ≡ w) wher
         ∙ probes.find_seen i.schema i.ids.entries m items i.next i.arrivals is x y n k
         (whole_key_long i.schema.columns (index_at i.schema x).parts k.now (subst (λ (v : Seen). WholeKey v.shape x k.now) (sym seen) whole))
         (parts_kept rules) (subst (λ (v : Seen). IsKeyed v.shape x) (sym seen) keyed).1
-        ∙ ap (λ (v : Seen). look.find v.shape (table_of v.plain) x k.now) seen
+        ∙ ap (λ (v : Seen). look.find v.shape (as_table v.plain) x k.now) seen
 
     -- the next of a key
 
-    is_chains : (v : Structure) → IsFor (index_at i.schema x) v → is_hashed (index_at i.schema x).kind ≡ true → nodes.IsHashed v
+    is_chains : (v : Structure) → IsFor (index_at i.schema x) v → is_hashed (index_at i.schema x).kind ≡ true → nodes.IsHashedStructure v
     is_chains (Ordered u) f h = absurd (known.sorted_hashed (index_at i.schema x).kind f.0 h)
     is_chains (Hashed c) f h = tt
     is_chains (Sequenced l) f h = absurd (Rattle.mi_multi.proofs.EveryIndexLemmas.hashed_not_sequenced (index_at i.schema x).kind h f)
@@ -184,14 +184,14 @@ module _ (i : Inside) (is : AreMulti i) {w : Seen} (seen : seen_of i ≡ w) wher
     hashed_kind : IsHashed w.shape x → is_hashed (index_at i.schema x).kind ≡ true
     hashed_kind h = ap is_hashed (subst (λ (v : Seen). IsHashed v.shape x) (sym seen) h).1
 
-    chains : IsHashed w.shape x → nodes.IsHashed y
+    chains : IsHashed w.shape x → nodes.IsHashedStructure y
     chains h = is_chains y n.stood.for_ (hashed_kind h)
 
     module _ (e : ℕ) {node : Option Ref} (live : node ≡ live_node i.ids.entries e) {r : Ref} (found : node ≡ Some r) where
       abbrev a : known.Among i.ids.entries m y rs e r
       a = among i is seen x at e live found
 
-      pub in_chains : IsHashed w.shape x → (xs : List Ref) × (ys : List Ref) × Stands y m (xs ++ r ∷ ys) × nodes.IsHashed y
+      pub in_chains : IsHashed w.shape x → (xs : List Ref) × (ys : List Ref) × Stands y m (xs ++ r ∷ ys) × nodes.IsHashedStructure y
       in_chains h = (a.xs, a.ys, a.stands, chains h)
 
       pub next_of_held : {o : Option Ref}
@@ -203,9 +203,9 @@ module _ (i : Inside) (is : AreMulti i) {w : Seen} (seen : seen_of i ≡ w) wher
 
       pub next_of_is : {o : Option Ref} → IsTrue (is_schema i.schema) → IsHashed w.shape x
           → ((xs ys : List Ref) → Stands y m (xs ++ r ∷ ys) → o ≡ first_of (filter (nodes.has_same_key y m r) ys) None)
-          → option_map (id_at m) o ≡ look.next_of w.shape t x e
+          → option_map (id_at m) o ≡ look.next_with_key w.shape t x e
       next_of_is rules hashed h =
           ap (option_map (id_at m)) (h a.xs a.ys a.stands)
           ∙ probes.next_of_seen i.schema i.ids.entries m items i.next i.arrivals is x y n e r
           (there i is seen x at e live found) (parts_kept rules (hashed_kind hashed)) y n.stood.for_ (chains hashed)
-          ∙ ap (λ (v : Seen). look.next_of v.shape (table_of v.plain) x e) seen
+          ∙ ap (λ (v : Seen). look.next_with_key v.shape (as_table v.plain) x e) seen

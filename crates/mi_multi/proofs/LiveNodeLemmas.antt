@@ -20,8 +20,8 @@ use Rattle.mi_container.specs.Data.{Order, node_of}
 use Rattle.mi_container.proofs.PairLemmas.{is_other, some_is}
 use Rattle.mi_container.proofs.SequenceLemmas.{lacks_of_times}
 use Rattle.mi_ids.specs.declared.entry.IdEntry.{IdEntry}
-use Rattle.mi_ids.specs.IdMap.{marked, with_live}
-use Rattle.mi_multi.specs.Physical.{id_in, picked, node_in, live_in}
+use Rattle.mi_ids.specs.IdMap.{with_mark, with_live}
+use Rattle.mi_multi.specs.Physical.{stored_id, picked, node_in, live_in}
 use Rattle.mi_multi.specs.Multi.{id_at, ids_at, is_live, AreLive, HasNode}
 use Rattle.mi_multi.proofs.PickLemmas.{get_picked}
 use Rattle.mi_multi.proofs.ListLemmas.{itself, times_middle, IsRow}
@@ -34,7 +34,7 @@ entry r b = record { node = r; live = b }
 with_live_is : (ids : FinMap nat_cmp IdEntry) (e : ℕ) (a : IdEntry) (b : Bool)
     → get ids e ≡ Some a → with_live ids e b ≡ insert ids e (record { node = a.node; live = b })
 unfolding with_live
-with_live_is ids e a b is = ap (marked ids e b) is
+with_live_is ids e a b is = ap (with_mark ids e b) is
 
 module _ (ids : FinMap nat_cmp IdEntry) (e : ℕ) (a : IdEntry) (b : Bool) (is : get ids e ≡ Some a) where
   pub marked_here : get (with_live ids e b) e ≡ Some (record { node = a.node; live = b })
@@ -68,12 +68,12 @@ once_more a b e i q same live dead others =
 
 -- the id of an entry's node
 pub id_of : (ids : FinMap nat_cmp IdEntry) (m : Pooled Stored) (e : ℕ) (a : IdEntry) → HasNode m e a.node → id_at m a.node ≡ e
-id_of ids m e a has = ap id_in has.is ∙ has.id
+id_of ids m e a has = ap stored_id has.is ∙ has.id
 
 -- nodes of two ids have two names
 pub names_apart : (m : Pooled Stored) (p q : ℕ) (a b : Ref) → HasNode m p a → HasNode m q b → p ≢ q → (a.name == b.name) ≡ false
 names_apart m p q a b f g ne =
-    is_other a.name b.name (λ same. ne (sym (ap id_in f.is ∙ f.id) ∙ ap (λ k. id_in (value_of m k)) same ∙ (ap id_in g.is ∙ g.id)))
+    is_other a.name b.name (λ same. ne (sym (ap stored_id f.is ∙ f.id) ∙ ap (λ k. stored_id (value_of m k)) same ∙ (ap stored_id g.is ∙ g.id)))
 
 module _ (ids : FinMap nat_cmp IdEntry) (m : Pooled Stored) where
   abbrev pub IsLiveRef : Ref → Type 0
@@ -116,7 +116,7 @@ module _ (ids : FinMap nat_cmp IdEntry) (m : Pooled Stored) where
   out_of e a [] there dead has all = tt
   out_of e a (q ∷ qs) there dead has all = (
     is_other a.node.name q.name (λ same.
-        let id : id_at m q ≡ e = ap (λ k. id_in (value_of m k)) (sym same) ∙ id_of ids m e a has in
+        let id : id_at m q ≡ e = ap (λ k. stored_id (value_of m k)) (sym same) ∙ id_of ids m e a has in
         let both : Some (entry q true) ≡ Some a = sym all.0 ∙ ap (get ids) id ∙ there in
         false≢true (sym dead ∙ sym (ap (λ (k : IdEntry). k.live) (some_is both)))),
     out_of e a qs there dead has all.1,
@@ -155,4 +155,4 @@ module _ {A : Type 0} (P : A → Type 0) where
 -- the ids of nodes whose values stay
 pub ids_same : (m n : Pooled Stored) (rs : List Ref) → ((k : ℕ) → value_of n k ≡ value_of m k) → ids_at n rs ≡ ids_at m rs
 ids_same m n [] values = refl
-ids_same m n (r ∷ rs) values = (λ i. id_in (values r.name i) ∷ ids_same m n rs values i)
+ids_same m n (r ∷ rs) values = (λ i. stored_id (values r.name i) ∷ ids_same m n rs values i)

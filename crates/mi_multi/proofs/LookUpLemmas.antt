@@ -25,7 +25,7 @@ use Rattle.mi_index.specs.declared.structure.Structure.TheVariants.{Ordered, Has
 use Rattle.mi_index.specs.Looks as nodes
 use Rattle.mi_index.specs.Standing.{Stands}
 use Rattle.mi_container.specs.Asked.{ShowsOneList, IsSorted}
-use Rattle.mi_container.specs.Data.{table_of}
+use Rattle.mi_container.specs.Data.{as_table}
 use Rattle.mi_container.proofs.SequenceLemmas.{lacks_left}
 use Rattle.mi_ids.specs.declared.entry.IdEntry.{IdEntry}
 use Rattle.mi_ids.specs.IdMap.{live_node}
@@ -70,7 +70,7 @@ pub record Among (ids : FinMap nat_cmp IdEntry) (m : Pooled Stored) (y : Structu
 module _ (s : Shape) (ids : FinMap nat_cmp IdEntry) (m : Pooled Stored) (xs : List Structure) (next arrivals : ℕ)
     (is : IsMulti s ids m xs next arrivals) (x : ℕ) (y : Structure) (n : Numbered s ids m xs x y) where
   abbrev t : Table
-  t = table_of (plain_of s ids m xs next arrivals)
+  t = as_table (plain_of s ids m xs next arrivals)
 
   abbrev rs : List Ref
   rs = n.stood.rs
@@ -83,12 +83,12 @@ module _ (s : Shape) (ids : FinMap nat_cmp IdEntry) (m : Pooled Stored) (xs : Li
   pub lists : ShowsOneList s x → nodes.HasOneList y
   lists h = one_list y n.stood.for_ h
 
-  is_tree : (w : Structure) → IsFor (index_at s x) w → IsSorted s x → nodes.IsSorted w
+  is_tree : (w : Structure) → IsFor (index_at s x) w → IsSorted s x → nodes.IsSortedStructure w
   is_tree (Ordered u) f h = tt
   is_tree (Hashed c) f h = absurd (sorted_hashed (index_at s x).kind h f.0)
   is_tree (Sequenced l) f h = absurd (sorted_sequenced (index_at s x).kind h f)
 
-  pub sorts : IsSorted s x → nodes.IsSorted y
+  pub sorts : IsSorted s x → nodes.IsSortedStructure y
   sorts h = is_tree y n.stood.for_ h
 
   held_of : (qs : List Ref) → AllByRecursion (IsLiveRef ids m) qs → AllByRecursion (IsHeld m) qs

@@ -22,7 +22,7 @@ use Rattle.mi_container.specs.Data.{Order, node_of, content_of, content_in, ids_
 use Rattle.mi_container.specs.Changes.{link_of_id as link_at, group}
 use Rattle.mi_container.proofs.SequenceLemmas.{lacks_left}
 use Rattle.mi_ids.specs.declared.entry.IdEntry.{IdEntry}
-use Rattle.mi_multi.specs.Physical.{id_in, record_in, node_in}
+use Rattle.mi_multi.specs.Physical.{stored_id, record_in, node_in}
 use Rattle.mi_multi.specs.Multi.{id_at, ids_at, AreLive, HasNode}
 use Rattle.mi_multi.proofs.ListLemmas.{itself, IsRow, link_middle, filter_ids}
 use Rattle.mi_multi.proofs.LiveNodeLemmas.{IsLiveRef, node_live, rows_of, lacks_middle, all_left, all_right}
@@ -72,7 +72,7 @@ module _ (ids : FinMap nat_cmp IdEntry) (m n : Pooled Stored) (os : List Order)
   has = held e (record { node = r; live = true }) there
 
   pub id_is : id_at m r ≡ e
-  id_is = ap id_in has.is ∙ has.id
+  id_is = ap stored_id has.is ∙ has.id
 
   live_ref : IsLiveRef ids m r
   live_ref = ap (get ids) id_is ∙ there

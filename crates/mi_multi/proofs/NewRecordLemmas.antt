@@ -43,7 +43,7 @@ use Rattle.mi_container.specs.Run.{Allowed}
 use Rattle.mi_container.specs.Run.Change.{Replace}
 use Rattle.mi_container.proofs.LawLemmas.{change_is_tables}
 use Rattle.mi_ids.specs.declared.entry.IdEntry.{IdEntry}
-use Rattle.mi_multi.specs.Physical.{id_in, record_in, stamp_in, stamps_in, order_of, orders_of, plan, node_in, live_in}
+use Rattle.mi_multi.specs.Physical.{stored_id, record_in, stamp_in, stamps_in, order_of, orders_of, plan, node_in, live_in}
 use Rattle.mi_multi.specs.Multi.{id_at, ids_at, own_list, own_lists, AreLive, HasNode, IsMulti, plain_of}
 use Rattle.mi_multi.proofs.PickLemmas.{get_picked}
 use Rattle.mi_multi.proofs.EveryIndexLemmas.{Every, Known, one, none, sorted_parts, hashed_order, sequenced_order}
@@ -180,7 +180,7 @@ module _ (s : Shape) (ids : FinMap nat_cmp IdEntry) (m : Pooled Stored) (xs : Li
       let order_is : get_or d.orders k ById ≡ sorted_order i.parts = h.1.order_is ∙ sorted_parts i.kind i.parts (own_list m (Ordered t)) h.0.for_.0 in
       let by : parts_of (get_or d.orders k ById) ≡ t.order.parts = ap parts_of order_is ∙ parts_sorted i.parts ∙ sym parts in
       let value : was ≡ old.row = ap record_in is_ in
-      let id_ : old.id ≡ v.id = sym (ap id_in is_) ∙ id ∙ sym named in
+      let id_ : old.id ≡ v.id = sym (ap stored_id is_) ∙ id ∙ sym named in
       rows_equal t.order.parts old v id_ ((λ j. is_eq (compare_key (sym by j) (sym value j) v.row)) ∙ same)
   keeps k i (Hashed c) y rs us h same old is_ =
       let parts : c.keys.parts ≡ i.parts = h.0.for_.1 in

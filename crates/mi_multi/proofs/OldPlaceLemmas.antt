@@ -30,7 +30,7 @@ use Rattle.mi_container.specs.Data.Order.{ById, ByKey, ByHash, Listed}
 use Rattle.mi_container.specs.Changes.{sorted_order, link_in}
 use Rattle.mi_container.specs.Inverse.{OldPlace, old_place, old_places}
 use Rattle.mi_ids.specs.declared.entry.IdEntry.{IdEntry}
-use Rattle.mi_multi.specs.Physical.{id_in, record_in, plan, stamps_in, node_in}
+use Rattle.mi_multi.specs.Physical.{stored_id, record_in, plan, stamps_in, node_in}
 use Rattle.mi_multi.specs.Multi.{id_at, ids_at, own_list, own_lists, AreLive, IsMulti, plain_of}
 use Rattle.mi_multi.specs.Placed.{place_kept}
 use Rattle.mi_multi.proofs.EveryIndexLemmas.{sorted_parts, hashed_order, has_plan, length_orders}
@@ -145,7 +145,7 @@ module _ (s : Shape) (ids : FinMap nat_cmp IdEntry) (m : Pooled Stored) (xs : Li
     old = (content_of d.rows e).values
 
     old_is : old ≡ v.row
-    old_is = ap (λ (c : Content). c.values) (content_here s ids m xs next arrivals is e r there v (ap id_in (sym v_is) ∙ id)) ∙ ap record_in v_is
+    old_is = ap (λ (c : Content). c.values) (content_here s ids m xs next arrivals is e r there v (ap stored_id (sym v_is) ∙ id)) ∙ ap record_in v_is
 
     -- keys compare by the parts of the index
     stays_is : (b : Bool) → b ≡ is_eq (compare_key (index_at s k).parts v.row new) → stays (get_or d.orders k ById) old new ≡ b
@@ -167,7 +167,7 @@ module _ (s : Shape) (ids : FinMap nat_cmp IdEntry) (m : Pooled Stored) (xs : Li
     few_stamp other y at p given =
         let same : (place_kept y p).stamp ≡ stamp_of d.rows k e = ap (λ (q : OldPlace). q.stamp)
         (place_is k y (numbered s ids m xs next arrivals is k y at) p given old new (stays_is false other)) in
-        let here = row_here s ids m xs next arrivals is e r there v (ap id_in (sym v_is) ∙ id) in
+        let here = row_here s ids m xs next arrivals is e r there v (ap stored_id (sym v_is) ∙ id) in
         let content : content_of d.rows e ≡ (node_in m os r).content = ap content_in here in
         let stamps = now_stamps arrivals d.orders (node_in m os r).content.stamps (is.is_data.stamped e (node_in m os r) here) k in
         let now : stamp_of d.rows k e ≤ arrivals = subst (λ (c : Content). get_or c.stamps k 0 ≤ arrivals) (sym content) stamps in

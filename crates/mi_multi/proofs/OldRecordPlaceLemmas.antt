@@ -42,7 +42,7 @@ use Rattle.mi_container.specs.Inverse.Inverse.{Put}
 use Rattle.mi_container.specs.Fits.{MeetByStamp, PlaceMeets, PlacesMeet, last_or}
 use Rattle.mi_container.proofs.ContentLemmas.{node_with, node_beside}
 use Rattle.mi_ids.specs.declared.entry.IdEntry.{IdEntry}
-use Rattle.mi_multi.specs.Physical.{id_in, order_of, plan, record_in, stamps_in, node_in}
+use Rattle.mi_multi.specs.Physical.{stored_id, order_of, plan, record_in, stamps_in, node_in}
 use Rattle.mi_multi.specs.Multi.{id_at, ids_at, own_list, own_lists, AreLive, HasNode, IsMulti, plain_of}
 use Rattle.mi_multi.specs.Restored.{to_place}
 use Rattle.mi_multi.proofs.ListLemmas.{first_row, last_row, ref_back, last_ids, head_ids, filter_ids, IsRow}
@@ -164,7 +164,7 @@ module _ (s : Shape) (ids : FinMap nat_cmp IdEntry) (m : Pooled Stored) (xs : Li
   mine = is.held e (record { node = r; live = true }) there
 
   pub id : id_at m r ≡ e
-  id = ap id_in mine.is ∙ mine.id
+  id = ap stored_id mine.is ∙ mine.id
 
   pub here : node_of d.rows e ≡ Some (node_in m os r)
   here = ap (node_of d.rows) (sym id) ∙ node_live ids m os r (ap (get ids) id ∙ there)

@@ -14,7 +14,7 @@ use Rattle.std.specs.declared.option.Option.TheVariants.{None, Some}
 use Rattle.mi_model.proofs.SortLaws.{both_ways}
 use Rattle.mi_container.specs.Data.{Climbs}
 use Rattle.mi_container.proofs.PairLemmas.{is_itself, is_other, none_some, some_is, head_is, head_isnt}
-use Rattle.mi_multi.specs.Physical.{joined, picked}
+use Rattle.mi_multi.specs.Physical.{with_pair, picked}
 
 -- all ids above one
 abbrev pub Above : {A : Type 0} → ℕ → List (ℕ × A) → Type 0
@@ -77,7 +77,7 @@ module _ {A : Type 0} where
       ]
 
 module _ {A B : Type 0} (f : A → Option B) where
-  above_joined : (a e : ℕ) (o : Option B) (rest : List (ℕ × B)) → a < e → Above a rest → Above a (joined e o rest)
+  above_joined : (a e : ℕ) (o : Option B) (rest : List (ℕ × B)) → a < e → Above a rest → Above a (with_pair e o rest)
   above_joined a e None rest l up = up
   above_joined a e (Some b) rest l up = (l, up)
 
@@ -85,7 +85,7 @@ module _ {A B : Type 0} (f : A → Option B) where
   above_picked a [] up = tt
   above_picked a (r ∷ es) up = above_joined a r.0 (f r.1) (picked f es) up.0 (above_picked a es up.1)
 
-  up_joined : (e : ℕ) (o : Option B) (rest : List (ℕ × B)) → Above e rest → Up rest → Up (joined e o rest)
+  up_joined : (e : ℕ) (o : Option B) (rest : List (ℕ × B)) → Above e rest → Up rest → Up (with_pair e o rest)
   up_joined e None rest above up = up
   up_joined e (Some b) rest above up = (above, up)
 
@@ -94,11 +94,11 @@ module _ {A B : Type 0} (f : A → Option B) where
   up_picked (r ∷ es) up = up_joined r.0 (f r.1) (picked f es) (above_picked r.0 es up.0) (up_picked es up.1)
 
   found_here : (e : ℕ) (o : Option B) (a : ℕ) (rest : List (ℕ × B)) → (a == e) ≡ true
-      → lookup (λ k. k == e) rest ≡ None → lookup (λ k. k == e) (joined a o rest) ≡ o
+      → lookup (λ k. k == e) rest ≡ None → lookup (λ k. k == e) (with_pair a o rest) ≡ o
   found_here e None a rest is none = none
   found_here e (Some b) a rest is none = head_is e (a, b) rest is
 
-  found_on : (e : ℕ) (o : Option B) (a : ℕ) (rest : List (ℕ × B)) → (a == e) ≡ false → lookup (λ k. k == e) (joined a o rest) ≡ lookup (λ k. k == e) rest
+  found_on : (e : ℕ) (o : Option B) (a : ℕ) (rest : List (ℕ × B)) → (a == e) ≡ false → lookup (λ k. k == e) (with_pair a o rest) ≡ lookup (λ k. k == e) rest
   found_on e None a rest isnt = refl
   found_on e (Some b) a rest isnt = head_isnt e (a, b) rest isnt
 

@@ -41,7 +41,7 @@ use Rattle.mi_index.specs.Looks as nodes
 use Rattle.mi_index.specs.Orders.{place_in, row_in, keying_of, has_one_key, is_whole, is_key_of}
 use Rattle.mi_order.specs.declared.orders.ByHash.{ByHash as HashedBy}
 use Rattle.mi_container.specs.Asked.{IsSorted}
-use Rattle.mi_container.specs.Data.{table_of}
+use Rattle.mi_container.specs.Data.{as_table}
 use Rattle.mi_ids.specs.IdMap.{live_node}
 use Rattle.mi_ids.specs.declared.entry.IdEntry.{IdEntry}
 use Rattle.mi_multi.specs.Multi.{id_at, ids_at, IsFor, IsMulti, plain_of}
@@ -152,7 +152,7 @@ hashed_parts columns (i ∷ is) (suc k) none l h hashed = declared_parts columns
 module _ (s : Shape) (ids : FinMap nat_cmp IdEntry) (m : Pooled Stored) (xs : List Structure) (next arrivals : ℕ)
     (is : IsMulti s ids m xs next arrivals) (x : ℕ) (y : Structure) (n : Numbered s ids m xs x y) where
   abbrev t : Table
-  t = table_of (plain_of s ids m xs next arrivals)
+  t = as_table (plain_of s ids m xs next arrivals)
 
   abbrev i : Index
   i = index_at s x
@@ -174,7 +174,7 @@ module _ (s : Shape) (ids : FinMap nat_cmp IdEntry) (m : Pooled Stored) (xs : Li
       (sym (row_at s ids m xs next arrivals is q v live (node_of_row s ids m xs next arrivals is x y n q live) at))
 
   module _ (k : Bor (List Value)) where
-    past_is : (strict : Bool) (w : Structure) → IsFor i w → nodes.IsSorted w → (q : Ref) → IsLiveRef ids m q
+    past_is : (strict : Bool) (w : Structure) → IsFor i w → nodes.IsSortedStructure w → (q : Ref) → IsLiveRef ids m q
         → nodes.is_past strict w m (Key k) q ≡ past strict (ordering_reverse (compare_to_id i t k.now (id_at m q)))
     unfolding is_past_node
     past_is strict (Ordered u) f sorted q live =
@@ -185,7 +185,7 @@ module _ (s : Shape) (ids : FinMap nat_cmp IdEntry) (m : Pooled Stored) (xs : Li
     past_is strict (Hashed c) f sorted q live = absurd sorted
     past_is strict (Sequenced l) f sorted q live = absurd sorted
 
-    pub lower_seen : IsSorted s x → nodes.IsSorted y → option_map (id_at m) (first_where (nodes.is_past false y m (Key k)) rs) ≡ look.lower s t x k.now
+    pub lower_seen : IsSorted s x → nodes.IsSortedStructure y → option_map (id_at m) (first_where (nodes.is_past false y m (Key k)) rs) ≡ look.lower s t x k.now
     lower_seen sorts sorted =
         let p : ℕ → Bool = λ id. is_gt (compare_to_id i t k.now id) in
         where_ids (id_at m) (nodes.is_past false y m (Key k)) (λ id. not (p id)) rs
@@ -195,7 +195,7 @@ module _ (s : Shape) (ids : FinMap nat_cmp IdEntry) (m : Pooled Stored) (xs : Li
         ∙ first_past (compare_ids i t) p (λ a b up yes. gt_back _ _ (falls i t k.now a b up) yes) (view s t x) (view_ascends s t x sorts)
         ∙ ap (slice_get (view s t x)) (length-filter p (view s t x))
 
-    pub upper_seen : IsSorted s x → nodes.IsSorted y → option_map (id_at m) (first_where (nodes.is_past true y m (Key k)) rs) ≡ look.upper s t x k.now
+    pub upper_seen : IsSorted s x → nodes.IsSortedStructure y → option_map (id_at m) (first_where (nodes.is_past true y m (Key k)) rs) ≡ look.upper s t x k.now
     upper_seen sorts sorted =
         let p : ℕ → Bool = λ id. is_ge (compare_to_id i t k.now id) in
         where_ids (id_at m) (nodes.is_past true y m (Key k)) (λ id. not (p id)) rs
@@ -263,8 +263,8 @@ module _ (s : Shape) (ids : FinMap nat_cmp IdEntry) (m : Pooled Stored) (xs : Li
         ∙ ap (λ k. is_eq (compare_key k mine.value.row its.value.row)) (sym same)
         ∙ sym ((λ j. same_values (has_one_key h.parts) (mine.is j) (value_of m q.name)) ∙ (λ j. same_values (has_one_key h.parts) (Some mine.value) (its.is j)))
 
-    pub next_of_seen : (w : Structure) → IsFor i w → nodes.IsHashed w
-        → option_map (id_at m) (first_of (filter (nodes.has_same_key w m r) a.ys) None) ≡ look.next_of s t x e
+    pub next_of_seen : (w : Structure) → IsFor i w → nodes.IsHashedStructure w
+        → option_map (id_at m) (first_of (filter (nodes.has_same_key w m r) a.ys) None) ≡ look.next_with_key s t x e
     next_of_seen (Ordered u) f hashed = absurd hashed
     next_of_seen (Sequenced l) f hashed = absurd hashed
     next_of_seen (Hashed c) f hashed =

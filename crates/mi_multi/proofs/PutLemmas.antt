@@ -26,7 +26,7 @@ use Rattle.mi_container.specs.Data.Order.{ById, ByKey, ByHash, Listed}
 use Rattle.mi_container.specs.Changes.{in_order, with_content}
 use Rattle.mi_container.proofs.PairLemmas.{is_itself}
 use Rattle.mi_ids.specs.declared.entry.IdEntry.{IdEntry}
-use Rattle.mi_multi.specs.Physical.{id_in, order_of, orders_of, plan, node_in, live_in, kept_in, picked}
+use Rattle.mi_multi.specs.Physical.{stored_id, order_of, orders_of, plan, node_in, live_in, kept_in, picked}
 use Rattle.mi_multi.specs.Alike.{SaysSame, IsAltered}
 use Rattle.mi_multi.specs.Multi.{id_at, ids_at, own_lists, AreLive, HasNode, IsMulti, plain_of}
 use Rattle.mi_multi.proofs.RowLemmas.{picked_with, picked_still}
@@ -88,13 +88,13 @@ module _ (s : Shape) (ids : FinMap nat_cmp IdEntry) (m : Pooled Stored) (xs : Li
   value_still q ne = given.values q ∙ ap (λ b. cond b (Some v) (value_of m q)) ne
 
   -- each node has the id that it had
-  id_still : (q : ℕ) → id_in (value_of n q) ≡ id_in (value_of m q)
+  id_still : (q : ℕ) → stored_id (value_of n q) ≡ stored_id (value_of m q)
   id_still q =
       elim (eqb_tells r.name q) [
         | inl same ↦
-            ap id_in (given.values q ∙ ap (λ b. cond b (Some v) (value_of m q)) same.0) ∙ named
-            ∙ sym (id_of ids m e (record { node = r; live = true }) mine) ∙ ap (λ k. id_in (value_of m k)) same.1
-        | inr isnt ↦ ap id_in (value_still q isnt.0)
+            ap stored_id (given.values q ∙ ap (λ b. cond b (Some v) (value_of m q)) same.0) ∙ named
+            ∙ sym (id_of ids m e (record { node = r; live = true }) mine) ∙ ap (λ k. stored_id (value_of m k)) same.1
+        | inr isnt ↦ ap stored_id (value_still q isnt.0)
       ]
 
   ids_still : (qs : List Ref) → ids_at n qs ≡ ids_at m qs
@@ -185,7 +185,7 @@ module _ (s : Shape) (ids : FinMap nat_cmp IdEntry) (m : Pooled Stored) (xs : Li
         | inl same ↦ record {
           value = v;
           is = given.values b.name ∙ ap (λ t. cond t (Some v) (value_of m b.name)) same.0;
-          id = named ∙ sym (id_of ids m e (record { node = r; live = true }) mine) ∙ ap (λ k. id_in (value_of m k)) same.1 ∙ ap id_in h.is ∙ h.id;
+          id = named ∙ sym (id_of ids m e (record { node = r; live = true }) mine) ∙ ap (λ k. stored_id (value_of m k)) same.1 ∙ ap stored_id h.is ∙ h.id;
           held = given.refs b.name ∙ h.held;
         }
         | inr isnt ↦ record { value = h.value; is = value_still b.name isnt.0 ∙ h.is; id = h.id; held = given.refs b.name ∙ h.held }

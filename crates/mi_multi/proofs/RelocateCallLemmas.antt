@@ -21,7 +21,7 @@ use Rattle.mi_order.specs.declared.stored.Stored.{Stored}
 use Rattle.mi_index.specs.declared.structure.Structure.{Structure}
 use Rattle.mi_index.specs.Standing.{Stands}
 use Rattle.mi_container.specs.Asked.{IsSequenced, ShowsOneList}
-use Rattle.mi_container.specs.Data.{Order, Data, table_of, KindFits, KindsFit, IsData}
+use Rattle.mi_container.specs.Data.{Order, Data, as_table, KindFits, KindsFit, IsData}
 use Rattle.mi_container.specs.Data.Order.{ById, ByKey, ByHash, Listed}
 use Rattle.mi_container.specs.Changes.{moved_order, relocated_in}
 use Rattle.mi_container.specs.Inverse.{RowRef, Inverse, at_in, row_ref, next_in_order, moved_back, relocate_inverse, taken_back}
@@ -39,7 +39,7 @@ use Rattle.mi_ids.specs.declared.entry.IdEntry.{IdEntry}
 use Rattle.mi_ids.specs.IdMap.{live_node, node_if_live}
 use Rattle.mi_multi.specs.Physical.{plan}
 use Rattle.mi_multi.specs.Multi.{id_at, ids_at, own_list, IsMulti, plain_of}
-use Rattle.mi_multi.specs.RowAt.{row_at}
+use Rattle.mi_multi.specs.RowAt.{row_ref_at}
 use Rattle.mi_multi.specs.Seen.{Seen, seen_of, AreMulti}
 use Rattle.mi_multi.specs.declared.multi.MultiIndex.TheInside.{Inside}
 use Rattle.mi_multi.proofs.ListLemmas.{next_middle, head_ids}
@@ -63,7 +63,7 @@ module _ (s : Shape) (ids : FinMap nat_cmp IdEntry) (m : Pooled Stored) (xs : Li
   live_row_is e r there = (_, row_is s ids m xs next arrivals e r there, refl)
 
   rows_named : (qs : List Ref) → AllByRecursion (IsLiveRef ids m) qs
-      → option_map (row_at m) (first_of qs None) ≡ option_map (row_ref d.rows) (option_map (id_at m) (first_of qs None))
+      → option_map (row_ref_at m) (first_of qs None) ≡ option_map (row_ref d.rows) (option_map (id_at m) (first_of qs None))
   rows_named [] all = refl
   rows_named (q ∷ qs) all = ap (λ o. Some (record { id = id_at m q; at = at_in o })) (sym (node_live ids m (plan s.indexes) q all.0))
 
@@ -83,7 +83,7 @@ module _ (s : Shape) (ids : FinMap nat_cmp IdEntry) (m : Pooled Stored) (xs : Li
         (r ∷ a.ys) (subst (AllByRecursion (IsLiveRef ids m)) a.parts n.stood.live.rows) in
         rest.1
 
-    behind_is : option_map (row_at m) (first_of a.ys None) ≡ option_map (row_ref d.rows) (next_in_order e (get_or d.orders x ById))
+    behind_is : option_map (row_ref_at m) (first_of a.ys None) ≡ option_map (row_ref d.rows) (next_in_order e (get_or d.orders x ById))
     behind_is =
         rows_named a.ys behind
         ∙ ap (option_map (row_ref d.rows)) (sym (ap (next_in_order e) list_is ∙ next_middle (id_at m) e a.xs r a.ys a.here a.lacks ∙ head_ids (id_at m) a.ys))
@@ -97,12 +97,12 @@ module _ (i : Inside) (is : AreMulti i) (w : Seen) (seen : seen_of i ≡ w) (x :
     (at : slice_get i.nodes.structures.items x ≡ Some y) (seq : IsSequenced w.shape x) where
   pub row_behind_is : (r : RowRef) → IsLive w.plain.rows r → (o : Option Ref)
       → ((xs ys : List Ref) → Stands y i.nodes.pool (xs ++ r.at ∷ ys) → o ≡ first_of ys None)
-      → option_map (row_at i.nodes.pool) o ≡ option_map (row_ref w.plain.rows) (next_in_order r.id (get_or w.plain.orders x ById))
+      → option_map (row_ref_at i.nodes.pool) o ≡ option_map (row_ref w.plain.rows) (next_in_order r.id (get_or w.plain.orders x ById))
   row_behind_is r live o next_is =
       let n = numbered i.schema i.ids.entries i.nodes.pool i.nodes.structures.items i.next i.arrivals is x y at in
       let there = live_named i w seen r live in
       let a = known.among i.schema i.ids.entries i.nodes.pool i.nodes.structures.items i.next i.arrivals is x y n r.id r.at there in
-      ap (option_map (row_at i.nodes.pool)) (next_is a.xs a.ys a.stands)
+      ap (option_map (row_ref_at i.nodes.pool)) (next_is a.xs a.ys a.stands)
       ∙ behind_is i.schema i.ids.entries i.nodes.pool i.nodes.structures.items i.next i.arrivals
       is x y n (subst (λ (v : Seen). IsSequenced v.shape x) (sym seen) seq) r.id r.at there
       ∙ ap (λ (v : Seen). option_map (row_ref v.plain.rows) (next_in_order r.id (get_or v.plain.orders x ById))) seen
@@ -169,22 +169,22 @@ module _ (s : Shape) (d : Data) (is : IsData s d) (x : ℕ) (seq : IsSequenced s
   -- The call
 
   abbrev answer : ℕ → Option ℕ → Bool → Outcome (Unit {0})
-  answer e b t = cond t (Ok tt, relocate x e b (table_of d)) (Err NoId, table_of d)
+  answer e b t = cond t (Ok tt, relocate x e b (as_table d)) (Err NoId, as_table d)
 
-  relocate_meets : (e : ℕ) (b : Option ℕ) (i : Inverse) (new : Data) → has_place (table_of d) b ≡ true → Makes s (Relocate x e b) d i new
-      → ((relocate_outcome x e b (table_of d)).0 ≡ Ok tt) × (table_of new ≡ (relocate_outcome x e b (table_of d)).1)
+  relocate_meets : (e : ℕ) (b : Option ℕ) (i : Inverse) (new : Data) → has_place (as_table d) b ≡ true → Makes s (Relocate x e b) d i new
+      → ((relocate_outcome x e b (as_table d)).0 ≡ Ok tt) × (as_table new ≡ (relocate_outcome x e b (as_table d)).1)
   relocate_meets e b i new h made =
-      let both : (has (table_of d) e && has_place (table_of d) b) ≡ true = (λ j. has_there d e made.allowed.0 j && h j) in (
+      let both : (has (as_table d) e && has_place (as_table d) b) ≡ true = (λ j. has_there d e made.allowed.0 j && h j) in (
         ap (λ t. (answer e b t).0) both,
-        ap table_of made.changed_data ∙ (change_is_tables s (Relocate x e b) d is made.allowed).1 ∙ sym (ap (λ t. (answer e b t).1) both),
+        ap as_table made.changed_data ∙ (change_is_tables s (Relocate x e b) d is made.allowed).1 ∙ sym (ap (λ t. (answer e b t).1) both),
       )
 
   pub relocate_answers : (e f : ℕ) (b c : Option ℕ) (i : Inverse) (new : Data) → e ≡ f → b ≡ c
-      → has_place (table_of d) b ≡ true → Makes s (Relocate x e b) d i new
-      → ((relocate_outcome x f c (table_of d)).0 ≡ Ok tt) × (table_of new ≡ (relocate_outcome x f c (table_of d)).1)
+      → has_place (as_table d) b ≡ true → Makes s (Relocate x e b) d i new
+      → ((relocate_outcome x f c (as_table d)).0 ≡ Ok tt) × (as_table new ≡ (relocate_outcome x f c (as_table d)).1)
   relocate_answers e f b c i new same same' h made =
-      subst (λ q. ((relocate_outcome x f q (table_of d)).0 ≡ Ok tt) × (table_of new ≡ (relocate_outcome x f q (table_of d)).1)) same'
-      (subst (λ a. ((relocate_outcome x a b (table_of d)).0 ≡ Ok tt) × (table_of new ≡ (relocate_outcome x a b (table_of d)).1))
+      subst (λ q. ((relocate_outcome x f q (as_table d)).0 ≡ Ok tt) × (as_table new ≡ (relocate_outcome x f q (as_table d)).1)) same'
+      (subst (λ a. ((relocate_outcome x a b (as_table d)).0 ≡ Ok tt) × (as_table new ≡ (relocate_outcome x a b (as_table d)).1))
       same (relocate_meets e b i new h made))
 
   -- where both are one row nothing changes
@@ -209,5 +209,5 @@ names_same None = refl
 names_same (Some q) = refl
 
 -- the row that a place names is there
-pub place_there : (d : Data) (e : ℕ) (at : Ref) → IsLive d.rows (record { id = e; at = at }) → has_place (table_of d) (Some e) ≡ true
+pub place_there : (d : Data) (e : ℕ) (at : Ref) → IsLive d.rows (record { id = e; at = at }) → has_place (as_table d) (Some e) ≡ true
 place_there d e at live = has_there d e (live.0, live.1)

@@ -27,7 +27,7 @@ use Rattle.mi_index.specs.declared.structure.Structure.{Structure}
 use Rattle.mi_index.specs.declared.structure.Structure.TheVariants.{Ordered, Hashed, Sequenced}
 use Rattle.mi_index.specs.Standing.{slot_in}
 use Rattle.mi_index.specs.Pass.{AllCan, AllLike, AreChanged, IsPass}
-use Rattle.mi_index.specs.Inserting.{relocating, relocated as moves_to, IsPlace, CanRelocate, CanRelocateIf, IsRelocated, IsRelocatedIf}
+use Rattle.mi_index.specs.Inserting.{relocating_at, relocated_at as moves_to, IsPlace, CanRelocate, CanRelocateIf, IsRelocated, IsRelocatedIf}
 use Rattle.mi_container.specs.Data.{Data, Order, has_stamps, IsData}
 use Rattle.mi_container.specs.Data.Order.{ById, ByKey, ByHash, Listed}
 use Rattle.mi_container.specs.Changes.{sorted_order, in_order, moved_order}
@@ -39,7 +39,7 @@ use Rattle.mi_container.proofs.PairLemmas.{none_some, some_is, is_itself, is_oth
 use Rattle.mi_container.proofs.SequenceLemmas.{lacks_of_times, lacks_left}
 use Rattle.mi_model.proofs.ViewLaws.{Lacks}
 use Rattle.mi_ids.specs.declared.entry.IdEntry.{IdEntry}
-use Rattle.mi_multi.specs.Physical.{id_in, order_of, orders_of, plan, live_in, kept_in, picked}
+use Rattle.mi_multi.specs.Physical.{stored_id, order_of, orders_of, plan, live_in, kept_in, picked}
 use Rattle.mi_multi.specs.Alike.{SaysSame, IsAltered}
 use Rattle.mi_multi.specs.Multi.{id_at, ids_at, own_list, own_lists, is_live, AreLive, HasNode, IsMulti, plain_of}
 use Rattle.mi_multi.specs.Seen.{Seen, seen_of}
@@ -144,17 +144,17 @@ module _ (s : Shape) (ids : FinMap nat_cmp IdEntry) (m : Pooled Stored) (xs : Li
       ]
 
   all_can : {k : ℕ} {js : List Index} {as_ bs : List Structure} {rss uss : List (List Ref)}
-      → Every (Now s ids m xs next arrivals is) k js as_ bs rss uss → AllCan (relocating x r b) as_ k m rss
+      → Every (Now s ids m xs next arrivals is) k js as_ bs rss uss → AllCan (relocating_at x r b) as_ k m rss
   all_can none = tt
   all_can (one {s = k} {i = i} {x = y} {y = z} {rs = rs} {us = us} h rest) = (can_in k i y z rs us h, all_can rest)
 
   -- it may move there
-  pub can_move : AllCan (relocating x r b) xs 0 m is.rss
+  pub can_move : AllCan (relocating_at x r b) xs 0 m is.rss
   can_move = all_can (standing s ids m xs next arrivals is)
 
   -- After
 
-  module _ (n : Pooled Stored) (ys : List Structure) (like : AllLike xs ys) (pass : IsPass (relocating x r b) (moves_to x r b) r 0 xs ys m n) where
+  module _ (n : Pooled Stored) (ys : List Structure) (like : AllLike xs ys) (pass : IsPass (relocating_at x r b) (moves_to x r b) r 0 xs ys m n) where
     changed : AreChanged (moves_to x r b) r 0 xs ys m n is.rss
     changed = pass is.rss is.stand can_move
 
@@ -264,7 +264,7 @@ module _ (s : Shape) (ids : FinMap nat_cmp IdEntry) (m : Pooled Stored) (xs : Li
 
     live_still : (us : List Ref) → AllByRecursion (IsLiveRef ids m) us → AllByRecursion (IsLiveRef ids n) us
     live_still [] all = tt
-    live_still (w ∷ us) all = (ap (get ids) (ap id_in (changed.keeps.values w.name)) ∙ all.0, live_still us all.1)
+    live_still (w ∷ us) all = (ap (get ids) (ap stored_id (changed.keeps.values w.name)) ∙ all.0, live_still us all.1)
 
     live_same : (rs us : List Ref) → AreLive ids m rs → us ≡ rs → AreLive ids n us
     live_same rs us live same = record {

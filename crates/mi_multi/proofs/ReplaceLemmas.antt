@@ -18,7 +18,7 @@ use Rattle.mi_model.specs.Conflict.{conflict}
 use Rattle.mi_model.specs.Change.{put}
 use Rattle.mi_model.specs.DatabaseChange.{Meets, MeetsRefusal}
 use Rattle.mi_model.specs.Verdict.{Outcome, is_spent, as_unique, unless, replace_refusal, replace_outcome, refused_modify, modified, modify_outcome}
-use Rattle.mi_container.specs.Data.{Data, IsData, table_of}
+use Rattle.mi_container.specs.Data.{Data, IsData, as_table}
 use Rattle.mi_container.specs.Inverse.{Inverse, lost_to}
 use Rattle.mi_container.specs.Run.Change.{Replace}
 use Rattle.mi_container.specs.Makes.{Makes, MeetsOn, modify_answer, lost_answer, IsNoLoss}
@@ -54,8 +54,8 @@ replaceable s e r t h = none_applies (has t e) (is_spent t.arrivals) (conflict s
 
 -- the table that a put leaves
 pub put_table : (s : Shape) (e : ℕ) (r : List Value) (old : Data) (i : Inverse) (new : Data)
-    → IsData s old → Makes s (Replace e r) old i new → table_of new ≡ put s e r (table_of old)
-put_table s e r old i new is made = ap table_of made.changed_data ∙ (change_is_tables s (Replace e r) old is made.allowed).1
+    → IsData s old → Makes s (Replace e r) old i new → as_table new ≡ put s e r (as_table old)
+put_table s e r old i new is made = ap as_table made.changed_data ∙ (change_is_tables s (Replace e r) old is made.allowed).1
 
 -- Modify
 
@@ -119,9 +119,9 @@ module _ (s : Shape) (e : ℕ) (r : List Value) (rollback : Bool) (t : Table) wh
       → modified s e rollback (Some r) t ≡ option_map_or (λ at. refused_modify rollback e at t) o (Ok tt, put s e r t)
   none_is a o h = unspent_is a ∙ ap (λ o. option_map_or (λ at. refused_modify rollback e at t) o (Ok tt, put s e r t)) h
 
-module _ (s : Shape) (e : ℕ) (r : List Value) (rollback : Bool) (old : Data) (is : IsData s old) (unspent : (table_of old).arrivals ≢ LAST_COUNT) where
+module _ (s : Shape) (e : ℕ) (r : List Value) (rollback : Bool) (old : Data) (is : IsData s old) (unspent : (as_table old).arrivals ≢ LAST_COUNT) where
   abbrev t : Table
-  t = table_of old
+  t = as_table old
 
   -- where nothing refuses it the record is put
   module _ (none : conflict s t r (Some e) ≡ None) (i : Inverse) (new : Data) (made : Makes s (Replace e r) old i new) where
@@ -130,6 +130,6 @@ module _ (s : Shape) (e : ℕ) (r : List Value) (rollback : Bool) (old : Data) (
 
     pub put_meets : MeetsOn (modified s e rollback (Some r)) (modify_answer (Ok i)) old new
     put_meets =
-        subst (λ o. Meets (modified s e rollback (Some r) t) (lost_answer o) t (table_of new)) (sym kept)
-        (subst (λ (o : Outcome (Unit {0})). Meets o (Ok tt) t (table_of new))
+        subst (λ o. Meets (modified s e rollback (Some r) t) (lost_answer o) t (as_table new)) (sym kept)
+        (subst (λ (o : Outcome (Unit {0})). Meets o (Ok tt) t (as_table new))
         (sym (none_is s e r rollback t unspent None none)) (refl, put_table s e r old i new is made))

@@ -25,7 +25,7 @@ use Rattle.mi_index.specs.Orders.{stored_order, keying_of, has_one_key}
 use Rattle.mi_order.specs.declared.orders.ByHash.{ByHash as HashedBy}
 use Rattle.mi_index.specs.Standing.{slot_in, AllAbove, AllBelow, Climb, IsLike}
 use Rattle.mi_index.specs.Places.{own_place, CanReturn, HasOldPlace}
-use Rattle.mi_index.specs.Pass.{Gives, AllStand, AllCan, AllDone, AllLike}
+use Rattle.mi_index.specs.Pass.{Gives, AllStand, AllCan, AllGiven, AllLike}
 use Rattle.mi_index.specs.Passes.{returning}
 use Rattle.mi_container.specs.Data.{Node, Link, Order, Data, has_stamps, node_of, content_in, content_of, stamp_of, ids_by_stamp, IsData}
 use Rattle.mi_container.specs.Data.Order.{ById, ByKey, ByHash, Listed}
@@ -83,7 +83,7 @@ pub all_like_self : (xs : List Structure) → AllLike xs xs
 all_like_self [] = tt
 all_like_self (x ∷ xs) = (like_self x, all_like_self xs)
 
-done_nothing : (s : ℕ) (m : Pooled Stored) (xs : List Structure) (rss : List (List Ref)) → AllStand xs s m rss → AllDone nothing xs s m m rss rss
+done_nothing : (s : ℕ) (m : Pooled Stored) (xs : List Structure) (rss : List (List Ref)) → AllStand xs s m rss → AllGiven nothing xs s m m rss rss
 done_nothing s m [] [] a = tt
 done_nothing s m [] (rs ∷ rss) a = absurd a
 done_nothing s m (x ∷ xs) [] a = absurd a

@@ -19,7 +19,7 @@ use Rattle.mi_container.specs.Data.{Data, Order, has_stamps, IsData}
 use Rattle.mi_container.specs.Data.Order.{ById}
 use Rattle.mi_container.proofs.PairLemmas.{is_other}
 use Rattle.mi_ids.specs.declared.entry.IdEntry.{IdEntry}
-use Rattle.mi_multi.specs.Physical.{id_in, orders_of, plan, live_in, kept_in, picked}
+use Rattle.mi_multi.specs.Physical.{stored_id, orders_of, plan, live_in, kept_in, picked}
 use Rattle.mi_multi.specs.Alike.{SaysSame, IsAltered}
 use Rattle.mi_multi.specs.Multi.{ids_at, own_lists, AreLive, HasNode, IsMulti, plain_of}
 use Rattle.mi_multi.proofs.RowLemmas.{picked_still}
@@ -101,7 +101,7 @@ module _ (s : Shape) (ids : FinMap nat_cmp IdEntry) (m n : Pooled Stored) (xs ys
 
   live_still : (qs : List Ref) → AllByRecursion (IsLiveRef ids m) qs → AllByRecursion (IsLiveRef ids n) qs
   live_still [] all = tt
-  live_still (q ∷ qs) all = (ap (get ids) (ap id_in (changed.keeps.values q.name)) ∙ all.0, live_still qs all.1)
+  live_still (q ∷ qs) all = (ap (get ids) (ap stored_id (changed.keeps.values q.name)) ∙ all.0, live_still qs all.1)
 
   all_live : {k : ℕ} {js : List Index} {as_ bs : List Structure} {rss uss : List (List Ref)}
       → Every (Turned grown ids m n) k js as_ bs rss uss → AllByRecursion (AreLive ids n) uss

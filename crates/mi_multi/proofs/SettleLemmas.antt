@@ -23,7 +23,7 @@ use Rattle.mi_node.specs.Refs.{Ref, IsOut}
 use Rattle.mi_node.proofs.EntryLemmas.{value-without, link-without, ref-without}
 use Rattle.mi_order.specs.declared.stored.Stored.{Stored}
 use Rattle.mi_index.specs.declared.structure.Structure.{Structure}
-use Rattle.mi_index.specs.Pass.{Gives, AllStand, AllDone, IsOutOfAll}
+use Rattle.mi_index.specs.Pass.{Gives, AllStand, AllGiven, IsOutOfAll}
 use Rattle.mi_container.specs.Data.{Node, Kept, Data, Order, node_of, kept_of, IsData}
 use Rattle.mi_container.specs.Data.Order.{Listed}
 use Rattle.mi_container.specs.Changes.{left_out}
@@ -31,7 +31,7 @@ use Rattle.mi_container.specs.Inverse.Inverse.{Erased}
 use Rattle.mi_container.proofs.PairLemmas.{some_is, none_some}
 use Rattle.mi_container.proofs.FitLemmas.{settled_data}
 use Rattle.mi_ids.specs.declared.entry.IdEntry.{IdEntry}
-use Rattle.mi_multi.specs.Physical.{id_in, order_of, orders_of, plan, node_in, kept_node_in, live_in, kept_in, picked}
+use Rattle.mi_multi.specs.Physical.{stored_id, order_of, orders_of, plan, node_in, kept_node_in, live_in, kept_in, picked}
 use Rattle.mi_multi.specs.Alike.{IsAltered, SeqBy}
 use Rattle.mi_multi.specs.Multi.{id_at, ids_at, own_lists, is_live, AreLive, HasNode, IsMulti, plain_of}
 use Rattle.mi_multi.proofs.ListLemmas.{itself}
@@ -100,7 +100,7 @@ orders_still g (i ∷ is) (l ∷ ls) (u ∷ us) all by =
 abbrev same_list : Gives
 same_list s x m n rs us = us ≡ rs
 
-done_any : (s : ℕ) (m n : Pooled Stored) (xs : List Structure) (rss : List (List Ref)) → AllStand xs s m rss → AllDone same_list xs s m n rss rss
+done_any : (s : ℕ) (m n : Pooled Stored) (xs : List Structure) (rss : List (List Ref)) → AllStand xs s m rss → AllGiven same_list xs s m n rss rss
 done_any s m n [] [] a = tt
 done_any s m n [] (rs ∷ rss) a = absurd a
 done_any s m n (x ∷ xs) [] a = absurd a
@@ -159,7 +159,7 @@ module _ (s : Shape) (ids : FinMap nat_cmp IdEntry) (m : Pooled Stored) (xs : Li
 
   ids_still : (rs : List Ref) → IsOut r.name rs → ids_at n rs ≡ ids_at m rs
   ids_still [] out_ = refl
-  ids_still (q ∷ qs) out_ = (λ i. id_in (value_beside q.name out_.0 i) ∷ ids_still qs out_.1 i)
+  ids_still (q ∷ qs) out_ = (λ i. stored_id (value_beside q.name out_.0 i) ∷ ids_still qs out_.1 i)
 
   not_here : (q : Ref) → IsLiveRef ids m q → id_at m q ≢ e
   not_here q live same =
@@ -183,7 +183,7 @@ module _ (s : Shape) (ids : FinMap nat_cmp IdEntry) (m : Pooled Stored) (xs : Li
     freed_seen = (λ i. record { rows = rows_still i; orders = orders_same i; next = next; arrivals = arrivals; kept = kept_left i })
 
     live_still : (q : Ref) → IsLiveRef ids m q → (r.name == q.name) ≡ false → IsLiveRef new_ids n q
-    live_still q live ne = ap (get new_ids) (ap id_in (value_beside q.name ne)) ∙ others (id_at m q) (not_here q live) ∙ live
+    live_still q live ne = ap (get new_ids) (ap stored_id (value_beside q.name ne)) ∙ others (id_at m q) (not_here q live) ∙ live
 
     all_still : (qs : List Ref) → AllByRecursion (IsLiveRef ids m) qs → IsOut r.name qs → AllByRecursion (IsLiveRef new_ids n) qs
     all_still [] all out_ = tt

@@ -20,7 +20,7 @@ use Rattle.mi_node.specs.Refs.{Ref}
 use Rattle.mi_chain.specs.Keying.{stamp_at}
 use Rattle.mi_order.specs.declared.stored.Stored.{Stored}
 use Rattle.mi_index.specs.Standing.{AllAbove, AllBelow, Climb}
-use Rattle.mi_container.specs.Data.{Node, Order, Data, has_stamps, node_of, content_in, stamp_of, ids_by_stamp, listed, lists_from, table_of, IsData}
+use Rattle.mi_container.specs.Data.{Node, Order, Data, has_stamps, node_of, content_in, stamp_of, ids_by_stamp, listed, lists_from, as_table, IsData}
 use Rattle.mi_container.specs.Data.Order.{ById, ByKey, ByHash, Listed}
 use Rattle.mi_container.proofs.InvariantLemmas.{lookup_shown}
 use Rattle.mi_container.proofs.ViewLemmas.{stamps_rise_in}
@@ -111,7 +111,7 @@ module _ (ids : FinMap nat_cmp IdEntry) (m : Pooled Stored) (os : List Order) wh
       elim a.live as (λ b. is_some (option_map (λ (n : Node). n.content.values) (cond b (Some (node_in m os a.node)) None)) ≡ b) [ true ↦ refl | false ↦ refl ]
 
   -- a list of the live nodes has each live id once
-  pub lists_each : (s : Shape) (d : Data) (rs : List Ref) → d.rows ≡ rows → AreLive ids m rs → ListsEach (table_of d) (ids_at m rs)
+  pub lists_each : (s : Shape) (d : Data) (rs : List Ref) → d.rows ≡ rows → AreLive ids m rs → ListsEach (as_table d) (ids_at m rs)
   lists_each s d rs same live id =
       live.each id
       ∙ ap (λ b. cond {A = ℕ} b 1 0)
@@ -124,10 +124,10 @@ pub by_stamp_is : (s : Shape) (d : Data) (ids : FinMap nat_cmp IdEntry) (m : Poo
     → IsData s d → d.rows ≡ rows ids m os → x < length d.orders → x < length os
     → get_or d.orders x ById ≡ ByHash ps → get_or os x ById ≡ ByHash ps → AreLive ids m rs → Climb (stamp_at m x) rs → ids_by_stamp x d.rows ≡ ids_at m rs
 by_stamp_is s d ids m os x ps rs is same l k here plan live up =
-    let all : ListsEach (table_of d) (ids_by_stamp x d.rows) =
+    let all : ListsEach (as_table d) (ids_by_stamp x d.rows) =
     (let zeroed : 0 + x ≡ x = omega arith in
-    subst (λ q. ListsEach (table_of d) (ids_by_stamp q d.rows)) zeroed (list_in (ListsEach (table_of d)) 0 d.rows d.orders x ps is.table.complete l here)) in
-    let each : ListsEach (table_of d) (ids_at m rs) = lists_each ids m os s d rs same live in
+    subst (λ q. ListsEach (as_table d) (ids_by_stamp q d.rows)) zeroed (list_in (ListsEach (as_table d)) 0 d.rows d.orders x ps is.table.complete l here)) in
+    let each : ListsEach (as_table d) (ids_at m rs) = lists_each ids m os s d rs same live in
     let mine : Rises (on (stamp_of d.rows x) nat_cmp) (ids_at m rs) =
     subst (λ q. Rises (on (stamp_of q x) nat_cmp) (ids_at m rs)) (sym same) (rises_ids ids m os x rs live.rows k (ap has_stamps plan) up) in
     rises_once (on (stamp_of d.rows x) nat_cmp) (on_total (stamp_of d.rows x) nat_cmp_total) (ids_by_stamp x d.rows)

@@ -29,14 +29,14 @@ use Rattle.mi_index.specs.Passes.{returned as comes_back, returning}
 use Rattle.mi_container.specs.Data.{Link, Data, Order, kept_of, has_stamps, IsData}
 use Rattle.mi_container.specs.Data.Order.{ById, Listed}
 use Rattle.mi_container.specs.Changes.{entered, left_out}
-use Rattle.mi_container.specs.Inverse.{id_of_ref, relinked, returned}
+use Rattle.mi_container.specs.Inverse.{id_of_ref, relinked, row_returned}
 use Rattle.mi_container.specs.Fits.{AllMeet}
 use Rattle.mi_container.proofs.PairLemmas.{climbs_some, some_is}
 use Rattle.mi_container.proofs.SequenceLemmas.{named_again, lacks_left}
 use Rattle.mi_container.proofs.InvariantLemmas.{rows_climb}
 use Rattle.mi_ids.specs.declared.entry.IdEntry.{IdEntry}
 use Rattle.mi_ids.specs.IdMap.{with_live}
-use Rattle.mi_multi.specs.Physical.{id_in, order_of, orders_of, plan, neighbours_in, all_neighbours, node_in, kept_node_in, live_in, kept_in, picked}
+use Rattle.mi_multi.specs.Physical.{stored_id, order_of, orders_of, plan, neighbours_in, all_neighbours, node_in, kept_node_in, live_in, kept_in, picked}
 use Rattle.mi_multi.specs.Alike.{SaysSame, IsAltered}
 use Rattle.mi_multi.specs.Multi.{id_at, ids_at, own_lists, is_live, IsFor, AreLive, HasNode, IsMulti, plain_of}
 use Rattle.mi_multi.proofs.PickLemmas.{get_picked}
@@ -97,7 +97,7 @@ module _ (s : Shape) (ids : FinMap nat_cmp IdEntry) (m n : Pooled Stored) (xs ys
 
   -- the data with it
   abbrev b : Data
-  b = returned e (Some (kept_node_in m os r)) d
+  b = row_returned e (Some (kept_node_in m os r)) d
 
   kept_is : kept_of d.kept e ≡ Some (kept_node_in m os r)
   kept_is = get_picked (kept_in m os) ids e ∙ ap (option_and_then (kept_in m os)) there
@@ -128,7 +128,7 @@ module _ (s : Shape) (ids : FinMap nat_cmp IdEntry) (m n : Pooled Stored) (xs ys
     mine = is.held e (record { node = r; live = false }) there
 
     id : id_at m r ≡ e
-    id = ap id_in mine.is ∙ mine.id
+    id = ap stored_id mine.is ∙ mine.id
 
     not_here : (q : Ref) → IsLiveRef ids m q → id_at m q ≢ e
     not_here q live same =
@@ -222,7 +222,7 @@ module _ (s : Shape) (ids : FinMap nat_cmp IdEntry) (m n : Pooled Stored) (xs ys
     -- Lists
 
     live_still : (q : Ref) → IsLiveRef ids m q → IsLiveRef new_ids n q
-    live_still q live = ap (get new_ids) (ap id_in (changed.keeps.values q.name)) ∙ others (id_at m q) (not_here q live) ∙ live
+    live_still q live = ap (get new_ids) (ap stored_id (changed.keeps.values q.name)) ∙ others (id_at m q) (not_here q live) ∙ live
 
     all_still : (qs : List Ref) → AllByRecursion (IsLiveRef ids m) qs → AllByRecursion (IsLiveRef new_ids n) qs
     all_still [] all = tt
@@ -241,7 +241,7 @@ module _ (s : Shape) (ids : FinMap nat_cmp IdEntry) (m n : Pooled Stored) (xs ys
     live_back : (rs us : List Ref) → AreLive ids m rs → IsWith r rs us → AreLive new_ids n us
     live_back rs us live w =
         let was : AllByRecursion (IsLiveRef ids m) (w.xs ++ w.ys) = subst (AllByRecursion (IsLiveRef ids m)) w.was live.rows in
-        let itself_ : IsLiveRef new_ids n r = ap (get new_ids) (ap id_in (changed.keeps.values r.name) ∙ id) ∙ now in
+        let itself_ : IsLiveRef new_ids n r = ap (get new_ids) (ap stored_id (changed.keeps.values r.name) ∙ id) ∙ now in
         record {
           rows = subst (AllByRecursion (IsLiveRef new_ids n)) (sym w.now)
               (all_append (IsLiveRef new_ids n) w.xs (r ∷ w.ys) (all_still w.xs (all_left (IsLiveRef ids m) w.xs w.ys was))

@@ -32,7 +32,7 @@ use Rattle.mi_container.specs.Inverse.{OldPlace, Old, stamp_back, stamps_back, o
 use Rattle.mi_container.specs.Fits.{PlaceMeets, PlacesMeet}
 use Rattle.mi_container.proofs.PairLemmas.{is_itself, is_other}
 use Rattle.mi_ids.specs.declared.entry.IdEntry.{IdEntry}
-use Rattle.mi_multi.specs.Physical.{id_in, order_of, orders_of, plan, record_in, stamps_in, stamp_in, node_in, live_in, kept_in, picked}
+use Rattle.mi_multi.specs.Physical.{stored_id, order_of, orders_of, plan, record_in, stamps_in, stamp_in, node_in, live_in, kept_in, picked}
 use Rattle.mi_multi.specs.Alike.{SaysSame, IsAltered}
 use Rattle.mi_multi.specs.Multi.{id_at, ids_at, own_list, own_lists, IsFor, AreLive, HasNode, IsMulti, plain_of}
 use Rattle.mi_multi.specs.Restored.{to_place}
@@ -104,11 +104,12 @@ module _ (s : Shape) (ids : FinMap nat_cmp IdEntry) (m n : Pooled Stored) (xs ys
         turned : (k == r.name) ≡ false → (r.name == k) ≡ false
         turned h = is_other r.name k (λ same. false≢true (sym h ∙ itself (sym same)))
 
-    id_kept : (k : ℕ) → id_in (value_of n k) ≡ id_in (value_of m k)
+    id_kept : (k : ℕ) → stored_id (value_of n k) ≡ stored_id (value_of m k)
     id_kept k =
         elim (eqb_tells k r.name) [
-          | inl same ↦ subst (λ q. id_in (value_of n q) ≡ id_in (value_of m q)) (sym same.1) (ap id_in value_here ∙ sym (ap id_in mine.is ∙ mine.id))
-          | inr isnt ↦ ap id_in (value_beside k isnt.0)
+          | inl same ↦ subst (λ q. stored_id (value_of n q) ≡ stored_id (value_of m q)) (sym same.1)
+              (ap stored_id value_here ∙ sym (ap stored_id mine.is ∙ mine.id))
+          | inr isnt ↦ ap stored_id (value_beside k isnt.0)
         ]
 
     ids_kept : (rs : List Ref) → ids_at n rs ≡ ids_at m rs
@@ -289,7 +290,7 @@ module _ (s : Shape) (ids : FinMap nat_cmp IdEntry) (m n : Pooled Stored) (xs ys
           | inl same ↦ record {
             value = record { id = e; row = old.values };
             is = ap (value_of n) same.1 ∙ value_here;
-            id = sym mine.id ∙ sym (ap id_in mine.is) ∙ sym (ap (λ k. id_in (value_of m k)) same.1) ∙ ap id_in h.is ∙ h.id;
+            id = sym mine.id ∙ sym (ap stored_id mine.is) ∙ sym (ap (λ k. stored_id (value_of m k)) same.1) ∙ ap stored_id h.is ∙ h.id;
             held = done.refs a.node.name ∙ h.held;
           }
           | inr isnt ↦ record { value = h.value; is = value_beside a.node.name isnt.0 ∙ h.is; id = h.id; held = done.refs a.node.name ∙ h.held }

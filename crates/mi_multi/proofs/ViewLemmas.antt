@@ -32,7 +32,7 @@ use Rattle.mi_index.specs.declared.structure.Structure.{Structure}
 use Rattle.mi_index.specs.declared.structure.Structure.TheVariants.{Ordered, Hashed, Sequenced}
 use Rattle.mi_index.specs.Orders.{stored_order, row_in}
 use Rattle.mi_index.specs.Standing.{Climb}
-use Rattle.mi_container.specs.Data.{Node, Order, Data, has_stamps, stamp_of, ids_of, listed, lists_from, table_of, Climbs}
+use Rattle.mi_container.specs.Data.{Node, Order, Data, has_stamps, stamp_of, ids_of, listed, lists_from, as_table, Climbs}
 use Rattle.mi_container.specs.Data.Order.{ById}
 use Rattle.mi_container.specs.Changes.{sorted_order}
 use Rattle.mi_container.specs.Laws.{RiseBy, stands_before}
@@ -85,7 +85,7 @@ module _ (s : Shape) (ids : FinMap nat_cmp IdEntry) (m : Pooled Stored) (xs : Li
   d = plain_of s ids m xs next arrivals
 
   abbrev t : Table
-  t = table_of d
+  t = as_table d
 
   -- the row of a live node
   pub row_at : (r : Ref) (v : Stored) → IsLiveRef ids m r → HasNode m (id_at m r) r → value_of m r.name ≡ Some v → row t (id_at m r) ≡ row_in v

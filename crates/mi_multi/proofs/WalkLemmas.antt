@@ -16,7 +16,7 @@ use Rattle.mi_index.specs.declared.structure.Structure.{Structure}
 use Rattle.mi_order.specs.declared.stored.Stored.{Stored}
 use Rattle.mi_index.specs.Standing.{slot_in, Stands}
 use Rattle.mi_index.specs.Walks.{row_if, shown_row}
-use Rattle.mi_container.specs.Data.{table_of}
+use Rattle.mi_container.specs.Data.{as_table}
 use Rattle.mi_ids.specs.IdMap.{live_node}
 use Rattle.mi_multi.specs.Multi.{id_at, ids_at}
 use Rattle.mi_multi.specs.Seen.{Seen, seen_of, AreMulti}
@@ -73,7 +73,7 @@ module _ (i : Inside) (is : AreMulti i) (w : Seen) (seen : seen_of i ≡ w) (x :
   a = known.among i.schema i.ids.entries m i.nodes.structures.items i.next i.arrivals is x y n e r there
 
   abbrev pub t : Table
-  t = table_of (seen_of i).plain
+  t = as_table (seen_of i).plain
 
   rows_same : (qs : List Ref) → AllByRecursion (IsLiveRef i.ids.entries m) qs → map (shown_row m) qs ≡ map (row t) (ids_at m qs)
   rows_same [] all = refl
@@ -99,14 +99,14 @@ module _ (i : Inside) (is : AreMulti i) (w : Seen) (seen : seen_of i ≡ w) (x :
 
   -- so are their rows
   pub rows_are : (reversed : Bool) (limit : ℕ)
-      → map (shown_row m) (take limit (r ∷ beyond (direction_of reversed) a.xs a.ys)) ≡ rows_from w.shape (table_of w.plain) x reversed e limit
+      → map (shown_row m) (take limit (r ∷ beyond (direction_of reversed) a.xs a.ys)) ≡ rows_from w.shape (as_table w.plain) x reversed e limit
   rows_are reversed limit =
       let us : List Ref = r ∷ beyond (direction_of reversed) a.xs a.ys in
       let live = all_beyond (IsLiveRef i.ids.entries m) reversed a.xs r a.ys (subst (AllByRecursion (IsLiveRef i.ids.entries m)) a.parts n.stood.live.rows) in
       sym (take-map (shown_row m) limit us)
       ∙ ap (take limit) (rows_same us live ∙ ap (map (row t)) (ids_on reversed))
       ∙ take-map (row t) limit (from_in (turned reversed (view i.schema t x)) e)
-      ∙ ap (λ (v : Seen). rows_from v.shape (table_of v.plain) x reversed e limit) seen
+      ∙ ap (λ (v : Seen). rows_from v.shape (as_table v.plain) x reversed e limit) seen
 
   pub slot_is : slot_in y ≡ x
   slot_is = n.stood.slot

@@ -16,9 +16,9 @@ abbrev pub node_before : FinMap nat_cmp IdEntry → Option (ℕ × ℕ) → Opti
 node_before ids before = option_and_then (λ p. option_map (λ r. (p.0, r)) (live_node ids p.1)) before
 
 -- the row whose node an inverse keeps
-abbrev pub kept_by : Inverse → Option RowRef
-kept_by (Inserted r) = None
-kept_by (Put r old) = None
-kept_by (Erased r why) = Some r
-kept_by (Relocated x r b) = None
-kept_by Nothing = None
+abbrev pub row_kept_by : Inverse → Option RowRef
+row_kept_by (Inserted r) = None
+row_kept_by (Put r old) = None
+row_kept_by (Erased r why) = Some r
+row_kept_by (Relocated x r b) = None
+row_kept_by Nothing = None

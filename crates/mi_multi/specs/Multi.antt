@@ -24,11 +24,11 @@ use Rattle.mi_index.specs.declared.structure.Structure.TheVariants.{Ordered, Has
 use Rattle.mi_index.specs.Pass.{AllStand}
 use Rattle.mi_container.specs.Data.{Data, IsData}
 use Rattle.mi_ids.specs.declared.entry.IdEntry.{IdEntry}
-use Rattle.mi_multi.specs.Physical.{id_in, data_of}
+use Rattle.mi_multi.specs.Physical.{stored_id, data_of}
 
 module _ (m : Pooled Stored) where
   abbrev pub id_at : Ref → ℕ
-  id_at r = id_in (value_of m r.name)
+  id_at r = stored_id (value_of m r.name)
 
   abbrev pub ids_at : List Ref → List ℕ
   ids_at rs = map id_at rs
@@ -36,7 +36,7 @@ module _ (m : Pooled Stored) where
 abbrev pub own_list : Pooled Stored → Structure → List ℕ
 own_list m (Ordered t) = []
 own_list m (Hashed c) = []
-own_list m (Sequenced l) = map (λ k. id_in (value_of m k)) (order l m)
+own_list m (Sequenced l) = map (λ k. stored_id (value_of m k)) (order l m)
 
 abbrev pub own_lists : Pooled Stored → List Structure → List (List ℕ)
 own_lists m xs = map (own_list m) xs

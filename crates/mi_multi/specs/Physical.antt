@@ -22,13 +22,13 @@ use Rattle.mi_container.specs.Changes.{sorted_order}
 use Rattle.mi_ids.specs.declared.entry.IdEntry.{IdEntry}
 
 -- the pair of that id in front, if there is one
-abbrev pub joined : {B : Type 0} → ℕ → Option B → List (ℕ × B) → List (ℕ × B)
-joined e None rest = rest
-joined e (Some b) rest = (e, b) ∷ rest
+abbrev pub with_pair : {B : Type 0} → ℕ → Option B → List (ℕ × B) → List (ℕ × B)
+with_pair e None rest = rest
+with_pair e (Some b) rest = (e, b) ∷ rest
 
 abbrev pub picked : {A B : Type 0} → (A → Option B) → List (ℕ × A) → List (ℕ × B)
 picked f [] = []
-picked f (r ∷ es) = joined r.0 (f r.1) (picked f es)
+picked f (r ∷ es) = with_pair r.0 (f r.1) (picked f es)
 
 -- the order of an index of that kind with these parts, and with that list if it is sequenced
 abbrev pub order_of : IndexKind → List KeyPart → List ℕ → Order
@@ -75,9 +75,9 @@ abbrev pub record_in : Option Stored → List Value
 record_in None = []
 record_in (Some v) = v.row
 
-abbrev pub id_in : Option Stored → ℕ
-id_in None = 0
-id_in (Some v) = v.id
+abbrev pub stored_id : Option Stored → ℕ
+stored_id None = 0
+stored_id (Some v) = v.id
 
 module _ (m : Pooled Stored) (os : List Order) where
   abbrev pub node_in : Ref → Node

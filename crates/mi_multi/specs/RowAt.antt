@@ -5,5 +5,5 @@ use Rattle.mi_order.specs.declared.stored.Stored.{Stored}
 use Rattle.mi_container.specs.Inverse.{RowRef}
 use Rattle.mi_multi.specs.Multi.{id_at}
 
-abbrev pub row_at : Pooled Stored → Ref → RowRef
-row_at m r = record { id = id_at m r; at = r }
+abbrev pub row_ref_at : Pooled Stored → Ref → RowRef
+row_ref_at m r = record { id = id_at m r; at = r }

@@ -4,13 +4,13 @@ ghost use Rattle.std.specs.Option.{option_map};
 ghost use Rattle.mi_model.specs.Table.{has as has_row};
 ghost use Rattle.mi_model.specs.Verdict.{has_place, insert_refusal, insert_outcome};
 ghost use Rattle.mi_container.specs.Asked.{IsSequenced, RecordFits};
-ghost use Rattle.mi_container.specs.Data.{IsData, table_of};
+ghost use Rattle.mi_container.specs.Data.{IsData, as_table};
 ghost use Rattle.mi_container.specs.Makes.{MakesInsert, MeetsOn, insert_answer};
 ghost use Rattle.mi_container.specs.Inverse.{taken_back, settled};
 ghost use Rattle.mi_container.specs.Inverse.Inverse.{Inserted, Relocated};
 ghost use Rattle.mi_container.specs.Fits.{Ready, KeptBy};
 ghost use Rattle.mi_container.specs.Backs.{row_seen};
-ghost use Rattle.mi_multi.specs.Before.{node_before, kept_by};
+ghost use Rattle.mi_multi.specs.Before.{node_before, row_kept_by};
 
 use crate::conflicts::unique_refusal;
 use crate::multi::MultiIndex;
@@ -46,7 +46,7 @@ fn node_of(row: Option<RowRef>) -> Option<NodeRef>
 
 /// The row whose node an inverse keeps, if any.
 fn kept_row(inverse: Inverse) -> Option<RowRef>
-    ensures { option_map row_seen result ≡ kept_by inverse }
+    ensures { option_map row_seen result ≡ row_kept_by inverse }
 {
     let undo = inverse.undo();
     match &undo {
@@ -67,7 +67,7 @@ impl MultiIndex {
         before: Option<(usize, u64)>,
     ) -> Result<(u64, Inverse), Record>
         requires before { IfSome before (λ at. IsSequenced self.old.shape at.0) }
-        requires accepted { insert_refusal self.old.shape before row (table_of self.old.plain) ≡ None }
+        requires accepted { insert_refusal self.old.shape before row (as_table self.old.plain) ≡ None }
         ensures id { IfOk result (λ p. p.0 ≡ self.old.plain.next) }
         ensures made { IfOk result (λ p. MakesInsert self.old.shape before row self.old.plain p.1 self.new.plain) }
         ensures refused { IfErr result (λ _. self.new.plain ≡ self.old.plain) }
@@ -100,14 +100,14 @@ impl MultiIndex {
 
     /// Whether an id is of a live row.
     pub(crate) fn has(&self, id: u64) -> bool
-        ensures { result ≡ has_row (table_of self.now.plain) id }
+        ensures { result ≡ has_row (as_table self.now.plain) id }
     {
         self.ids.live(id).is_some()
     }
 
     /// Whether a row is given that isn't there.
     fn is_missing(&self, before: Option<(usize, u64)>) -> bool
-        ensures { result ≡ not (has_place (table_of self.now.plain) (option_map (λ p. p.1) before)) }
+        ensures { result ≡ not (has_place (as_table self.now.plain) (option_map (λ p. p.1) before)) }
     {
         match before {
             Some((_, id)) => !self.has(id),
@@ -117,7 +117,7 @@ impl MultiIndex {
 
     /// Why a record may not be inserted there, or none.
     fn insert_refusal(&self, row: &Record, before: Option<(usize, u64)>) -> Option<Refusal>
-        ensures { result ≡ insert_refusal self.now.shape before row.now (table_of self.now.plain) }
+        ensures { result ≡ insert_refusal self.now.shape before row.now (as_table self.now.plain) }
     {
         if self.is_missing(before) {
             return Some(Refusal::NoId);

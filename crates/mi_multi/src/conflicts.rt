@@ -4,7 +4,7 @@ ghost use Rattle.std.specs.Option.{option_map};
 ghost use Rattle.mi_catalog.specs.Shape.{index_at};
 ghost use Rattle.mi_model.specs.Conflict as meaning;
 ghost use Rattle.mi_model.specs.Verdict.{as_unique};
-ghost use Rattle.mi_container.specs.Data.{table_of};
+ghost use Rattle.mi_container.specs.Data.{as_table};
 
 use crate::multi::MultiIndex;
 use crate::reading::{id_of, structure_at};
@@ -24,7 +24,7 @@ impl MultiIndex {
         requires declared { 0 < index }
         requires there { index < length self.now.shape.indexes }
         requires alone { (index_at self.now.shape index).«unique» ≡ true }
-        ensures { result ≡ meaning.rival (table_of self.now.plain).rows (index_at self.now.shape index).parts row.now None }
+        ensures { result ≡ meaning.rival (as_table self.now.plain).rows (index_at self.now.shape index).parts row.now None }
     {
         self.schema.keeps_rules();
         let structure = structure_at(&self.nodes, index);
@@ -37,7 +37,7 @@ impl MultiIndex {
         requires declared { 0 < index }
         requires there { index < length self.now.shape.indexes }
         requires alone { (index_at self.now.shape index).«unique» ≡ true }
-        ensures { result ≡ meaning.rival (table_of self.now.plain).rows (index_at self.now.shape index).parts row.now except }
+        ensures { result ≡ meaning.rival (as_table self.now.plain).rows (index_at self.now.shape index).parts row.now except }
     {
         self.schema.keeps_rules();
         let holder = self.holder(index, row)?;
@@ -50,7 +50,7 @@ impl MultiIndex {
     /// The first unique index, but for the index `id`, that refuses a record, and the row for which it does. The row of
     /// `except` isn't counted. One look-up for each unique index. Takes no memory.
     pub fn conflict(&self, row: &Record, except: Option<u64>) -> Option<(usize, u64)>
-        ensures { result ≡ meaning.conflict self.now.shape (table_of self.now.plain) row.now except }
+        ensures { result ≡ meaning.conflict self.now.shape (as_table self.now.plain) row.now except }
     {
         for index in 1..self.schema.index_count() {
             if self.schema.unique(index)

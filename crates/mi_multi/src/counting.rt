@@ -3,7 +3,7 @@ ghost use Rattle.std.specs.Prelude.{◌≡◌, ◌≤◌};
 ghost use Rattle.mi_value.specs.declared.limits.TheConstants.{LAST_COUNT};
 ghost use Rattle.mi_model.specs.LookUp as look;
 ghost use Rattle.mi_container.specs.Asked.{IsKeyed, IsHashed, IsSorted, WholeKey};
-ghost use Rattle.mi_container.specs.Data.{table_of};
+ghost use Rattle.mi_container.specs.Data.{as_table};
 
 use crate::multi::MultiIndex;
 use mi_value::{Steps, Value};
@@ -21,7 +21,7 @@ impl MultiIndex {
     pub fn count(&self, index: usize, key: &[Value]) -> u64
         requires index { IsKeyed self.now.shape index }
         requires key { WholeKey self.now.shape index key.now }
-        ensures { result ≡ look.count self.now.shape (table_of self.now.plain) index key.now }
+        ensures { result ≡ look.count self.now.shape (as_table self.now.plain) index key.now }
     {
         if self.schema.kind(index).is_hashed() {
             self.count_hashed(index, key)
@@ -34,7 +34,7 @@ impl MultiIndex {
     fn count_sorted(&self, index: usize, key: &[Value]) -> u64
         requires index { IsSorted self.now.shape index }
         requires key { WholeKey self.now.shape index key.now }
-        ensures { result ≡ look.count self.now.shape (table_of self.now.plain) index key.now }
+        ensures { result ≡ look.count self.now.shape (as_table self.now.plain) index key.now }
     {
         let mut steps = Steps::new();
         let lower = self.lower_rank(index, key, &mut steps);
@@ -46,7 +46,7 @@ impl MultiIndex {
     fn count_hashed(&self, index: usize, key: &[Value]) -> u64
         requires index { IsHashed self.now.shape index }
         requires key { WholeKey self.now.shape index key.now }
-        ensures { result ≡ look.count self.now.shape (table_of self.now.plain) index key.now }
+        ensures { result ≡ look.count self.now.shape (as_table self.now.plain) index key.now }
     {
         self.keeps_rules();
         self.ids_fit();

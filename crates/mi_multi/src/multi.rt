@@ -6,7 +6,7 @@ ghost use Rattle.mi_model.specs.Verdict.{erase_outcome};
 ghost use Rattle.mi_container.specs.Makes.{Makes, MeetsOn, erase_answer};
 ghost use Rattle.mi_container.specs.Changes.{opened_data};
 ghost use Rattle.mi_container.specs.Run.Change.{Erase};
-ghost use Rattle.mi_container.specs.Data.{IsData, table_of};
+ghost use Rattle.mi_container.specs.Data.{IsData, as_table};
 ghost use Rattle.std.specs.Option.{option_copied};
 ghost use Rattle.mi_model.specs.Table.{get as get_row, size as size_of};
 ghost use Rattle.mi_container.specs.Inverse.{taken_back, settled};
@@ -70,8 +70,8 @@ impl MultiIndex {
 
     /// The record of an id, or none. It compares nothing.
     pub fn get(&self, id: u64, steps: &mut Steps) -> Option<&Record>
-        ensures record { option_copied result ≡ get_row (table_of self.now.plain) id }
-        ensures steps { (b : ℕ) → size_of (table_of self.now.plain) < 2 ^ b → steps.new.count ≤ steps.old.count + (2 * b + 1) }
+        ensures record { option_copied result ≡ get_row (as_table self.now.plain) id }
+        ensures steps { (b : ℕ) → size_of (as_table self.now.plain) < 2 ^ b → steps.new.count ≤ steps.old.count + (2 * b + 1) }
     {
         let _ = steps;
         let Some(node) = self.ids.live(id) else {

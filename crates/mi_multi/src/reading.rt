@@ -4,7 +4,7 @@ ghost use Rattle.std.specs.Option.{option_map};
 ghost use Rattle.mi_model.specs.Table.{has as has_row, size as size_of};
 ghost use Rattle.mi_model.specs.LookUp as look;
 ghost use Rattle.mi_container.specs.Asked.{IsKeyed, IsHashed, IsSorted, ShowsOneList, WholeKey, KeyPrefix};
-ghost use Rattle.mi_container.specs.Data.{table_of};
+ghost use Rattle.mi_container.specs.Data.{as_table};
 ghost use Rattle.mi_node.specs.Pool.{IsHeld};
 ghost use Rattle.mi_node.specs.Refs.{Ref};
 ghost use Rattle.mi_index.specs.Standing.{Stands};
@@ -39,7 +39,7 @@ pub(crate) fn id_of(p: &Pool<Stored>, node: Option<NodeRef>) -> Option<u64>
 
 /// How many nodes a sorted index has.
 fn node_count(structure: &Structure, p: &Pool<Stored>) -> u32
-    requires { (rs : Seq Ref) × Stands structure.now p.now rs × nodes.IsSorted structure.now }
+    requires { (rs : Seq Ref) × Stands structure.now p.now rs × nodes.IsSortedStructure structure.now }
     ensures { (rs : Seq Ref) → Stands structure.now p.now rs → result ≡ length rs }
 {
     match structure {
@@ -58,7 +58,7 @@ fn tree_count(tree: &Tree<ByKey>, p: &Pool<Stored>) -> u32
 impl MultiIndex {
     /// How many records there are.
     pub fn size(&self) -> u64
-        ensures { result ≡ size_of (table_of self.now.plain) }
+        ensures { result ≡ size_of (as_table self.now.plain) }
     {
         self.schema.keeps_rules();
         node_count(structure_at(&self.nodes, 0), &self.nodes.pool) as u64
@@ -67,7 +67,7 @@ impl MultiIndex {
     /// The first id that an index shows, or none where there are no records.
     pub fn first(&self, index: usize) -> Option<u64>
         requires { ShowsOneList self.now.shape index }
-        ensures { result ≡ look.first self.now.shape (table_of self.now.plain) index }
+        ensures { result ≡ look.first self.now.shape (as_table self.now.plain) index }
     {
         let node = structure_at(&self.nodes, index).first(&self.nodes.pool);
         id_of(&self.nodes.pool, node)
@@ -76,7 +76,7 @@ impl MultiIndex {
     /// The last id that an index shows, or none where there are no records.
     pub fn last(&self, index: usize) -> Option<u64>
         requires { ShowsOneList self.now.shape index }
-        ensures { result ≡ look.last self.now.shape (table_of self.now.plain) index }
+        ensures { result ≡ look.last self.now.shape (as_table self.now.plain) index }
     {
         let node = structure_at(&self.nodes, index).last(&self.nodes.pool);
         id_of(&self.nodes.pool, node)
@@ -85,8 +85,8 @@ impl MultiIndex {
     /// The id that an index shows directly after another, or none behind the last.
     pub fn after(&self, index: usize, id: u64) -> Option<u64>
         requires index { ShowsOneList self.now.shape index }
-        requires id { IsTrue (has_row (table_of self.now.plain) id) }
-        ensures { result ≡ look.after self.now.shape (table_of self.now.plain) index id }
+        requires id { IsTrue (has_row (as_table self.now.plain) id) }
+        ensures { result ≡ look.after self.now.shape (as_table self.now.plain) index id }
     {
         let Some(node) = self.ids.live(id) else {
             return None;
@@ -98,8 +98,8 @@ impl MultiIndex {
     /// The id that an index shows directly before another, or none before the first.
     pub fn before(&self, index: usize, id: u64) -> Option<u64>
         requires index { ShowsOneList self.now.shape index }
-        requires id { IsTrue (has_row (table_of self.now.plain) id) }
-        ensures { result ≡ look.before self.now.shape (table_of self.now.plain) index id }
+        requires id { IsTrue (has_row (as_table self.now.plain) id) }
+        ensures { result ≡ look.before self.now.shape (as_table self.now.plain) index id }
     {
         let Some(node) = self.ids.live(id) else {
             return None;
@@ -111,7 +111,7 @@ impl MultiIndex {
     /// The id with n records before it in an ordered or ranked index, or none.
     pub fn nth(&self, index: usize, n: u64) -> Option<u64>
         requires { IsSorted self.now.shape index }
-        ensures { result ≡ look.nth self.now.shape (table_of self.now.plain) index n }
+        ensures { result ≡ look.nth self.now.shape (as_table self.now.plain) index n }
     {
         let structure = structure_at(&self.nodes, index);
         if n > u32::MAX as u64 {
@@ -124,9 +124,9 @@ impl MultiIndex {
     /// How many records stand before a record in an ordered or ranked index. At most two look-ups.
     pub fn rank_of(&self, index: usize, id: u64, steps: &mut Steps) -> u64
         requires index { IsSorted self.now.shape index }
-        requires id { IsTrue (has_row (table_of self.now.plain) id) }
-        ensures rank { result ≡ look.rank self.now.shape (table_of self.now.plain) index id }
-        ensures steps { (b : ℕ) → size_of (table_of self.now.plain) < 2 ^ b → steps.new.count ≤ steps.old.count + 2 * (2 * b + 1) }
+        requires id { IsTrue (has_row (as_table self.now.plain) id) }
+        ensures rank { result ≡ look.rank self.now.shape (as_table self.now.plain) index id }
+        ensures steps { (b : ℕ) → size_of (as_table self.now.plain) < 2 ^ b → steps.new.count ≤ steps.old.count + 2 * (2 * b + 1) }
     {
         let Some(node) = self.ids.live(id) else {
             return 0;
@@ -139,8 +139,8 @@ impl MultiIndex {
     pub fn lower(&self, index: usize, key: &[Value], steps: &mut Steps) -> Option<u64>
         requires index { IsSorted self.now.shape index }
         requires key { KeyPrefix self.now.shape index key.now }
-        ensures id { result ≡ look.lower self.now.shape (table_of self.now.plain) index key.now }
-        ensures steps { (b : ℕ) → size_of (table_of self.now.plain) < 2 ^ b → steps.new.count ≤ steps.old.count + (2 * b + 1) }
+        ensures id { result ≡ look.lower self.now.shape (as_table self.now.plain) index key.now }
+        ensures steps { (b : ℕ) → size_of (as_table self.now.plain) < 2 ^ b → steps.new.count ≤ steps.old.count + (2 * b + 1) }
     {
         let structure = structure_at(&self.nodes, index);
         let node = structure.lower(&self.nodes.pool, Probe::Key(key), steps);
@@ -152,8 +152,8 @@ impl MultiIndex {
     pub fn upper(&self, index: usize, key: &[Value], steps: &mut Steps) -> Option<u64>
         requires index { IsSorted self.now.shape index }
         requires key { KeyPrefix self.now.shape index key.now }
-        ensures id { result ≡ look.upper self.now.shape (table_of self.now.plain) index key.now }
-        ensures steps { (b : ℕ) → size_of (table_of self.now.plain) < 2 ^ b → steps.new.count ≤ steps.old.count + (2 * b + 1) }
+        ensures id { result ≡ look.upper self.now.shape (as_table self.now.plain) index key.now }
+        ensures steps { (b : ℕ) → size_of (as_table self.now.plain) < 2 ^ b → steps.new.count ≤ steps.old.count + (2 * b + 1) }
     {
         let structure = structure_at(&self.nodes, index);
         let node = structure.upper(&self.nodes.pool, Probe::Key(key), steps);
@@ -165,8 +165,8 @@ impl MultiIndex {
     pub fn lower_rank(&self, index: usize, key: &[Value], steps: &mut Steps) -> u64
         requires index { IsSorted self.now.shape index }
         requires key { KeyPrefix self.now.shape index key.now }
-        ensures rank { result ≡ look.lower_rank self.now.shape (table_of self.now.plain) index key.now }
-        ensures steps { (b : ℕ) → size_of (table_of self.now.plain) < 2 ^ b → steps.new.count ≤ steps.old.count + 2 * (2 * b + 1) }
+        ensures rank { result ≡ look.lower_rank self.now.shape (as_table self.now.plain) index key.now }
+        ensures steps { (b : ℕ) → size_of (as_table self.now.plain) < 2 ^ b → steps.new.count ≤ steps.old.count + 2 * (2 * b + 1) }
     {
         let structure = structure_at(&self.nodes, index);
         let first = structure.lower(&self.nodes.pool, Probe::Key(key), steps);
@@ -181,8 +181,8 @@ impl MultiIndex {
     pub fn upper_rank(&self, index: usize, key: &[Value], steps: &mut Steps) -> u64
         requires index { IsSorted self.now.shape index }
         requires key { KeyPrefix self.now.shape index key.now }
-        ensures rank { result ≡ look.upper_rank self.now.shape (table_of self.now.plain) index key.now }
-        ensures steps { (b : ℕ) → size_of (table_of self.now.plain) < 2 ^ b → steps.new.count ≤ steps.old.count + 2 * (2 * b + 1) }
+        ensures rank { result ≡ look.upper_rank self.now.shape (as_table self.now.plain) index key.now }
+        ensures steps { (b : ℕ) → size_of (as_table self.now.plain) < 2 ^ b → steps.new.count ≤ steps.old.count + 2 * (2 * b + 1) }
     {
         let structure = structure_at(&self.nodes, index);
         let first = structure.upper(&self.nodes.pool, Probe::Key(key), steps);
@@ -196,7 +196,7 @@ impl MultiIndex {
     pub fn find(&self, index: usize, key: &[Value]) -> Option<u64>
         requires index { IsKeyed self.now.shape index }
         requires key { WholeKey self.now.shape index key.now }
-        ensures { result ≡ look.find self.now.shape (table_of self.now.plain) index key.now }
+        ensures { result ≡ look.find self.now.shape (as_table self.now.plain) index key.now }
     {
         self.schema.keeps_rules();
         let structure = structure_at(&self.nodes, index);
@@ -208,7 +208,7 @@ impl MultiIndex {
     pub fn first_of(&self, index: usize, key: &[Value]) -> Option<u64>
         requires index { IsHashed self.now.shape index }
         requires key { WholeKey self.now.shape index key.now }
-        ensures { result ≡ look.first_of self.now.shape (table_of self.now.plain) index key.now }
+        ensures { result ≡ look.first_with_key self.now.shape (as_table self.now.plain) index key.now }
     {
         self.find(index, key)
     }
@@ -216,8 +216,8 @@ impl MultiIndex {
     /// The id that follows another among those of its key in a hashed index, or none behind the last.
     pub fn next_of(&self, index: usize, id: u64) -> Option<u64>
         requires index { IsHashed self.now.shape index }
-        requires id { IsTrue (has_row (table_of self.now.plain) id) }
-        ensures { result ≡ look.next_of self.now.shape (table_of self.now.plain) index id }
+        requires id { IsTrue (has_row (as_table self.now.plain) id) }
+        ensures { result ≡ look.next_with_key self.now.shape (as_table self.now.plain) index id }
     {
         self.schema.keeps_rules();
         let Some(node) = self.ids.live(id) else {

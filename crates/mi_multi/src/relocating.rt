@@ -5,14 +5,14 @@ ghost use Rattle.mi_value.specs.declared.refusal.Refusal.TheVariants.{Memory};
 ghost use Rattle.mi_model.specs.Table.{has as has_row};
 ghost use Rattle.mi_model.specs.Verdict.{relocate_outcome};
 ghost use Rattle.mi_container.specs.Asked.{IsSequenced};
-ghost use Rattle.mi_container.specs.Data.{order_at, table_of};
+ghost use Rattle.mi_container.specs.Data.{order_at, as_table};
 ghost use Rattle.mi_container.specs.Inverse.{row_ref, next_in_order};
 ghost use Rattle.mi_container.specs.Fits.{IsLive, IsOther};
 ghost use Rattle.mi_container.specs.Makes.{Makes, MeetsOn, erase_answer};
 ghost use Rattle.mi_container.specs.Run.Change.{Relocate};
 ghost use Rattle.mi_container.specs.Backs.{row_seen};
 ghost use Rattle.mi_node.specs.Pool.{IsHeld};
-ghost use Rattle.mi_multi.specs.RowAt.{row_at};
+ghost use Rattle.mi_multi.specs.RowAt.{row_ref_at};
 
 use crate::multi::MultiIndex;
 use crate::reading::structure_at;
@@ -24,7 +24,7 @@ use mi_value::Refusal;
 /// The row of a node, if there is one.
 fn row_of(p: &Pool<Stored>, node: Option<NodeRef>) -> Option<RowRef>
     requires { IfSome node (λ r. IsHeld p.now r) }
-    ensures { option_map row_seen result ≡ option_map (row_at p.now) node }
+    ensures { option_map row_seen result ≡ option_map (row_ref_at p.now) node }
 {
     match node {
         Some(node) => Some(RowRef {
@@ -40,7 +40,7 @@ impl MultiIndex {
     fn live_row(&self, id: u64) -> Option<RowRef>
         ensures id { IfSome result (λ r. r.id ≡ id) }
         ensures live { IfSome result (λ r. IsLive self.now.plain.rows (row_seen r)) }
-        ensures absent { result ≡ None → has_row (table_of self.now.plain) id ≡ false }
+        ensures absent { result ≡ None → has_row (as_table self.now.plain) id ≡ false }
     {
         let node = self.ids.live(id)?;
         Some(RowRef { id, node })

@@ -7,7 +7,7 @@ ghost use Rattle.mi_model.specs.Table.{has as has_row, row as row_of};
 ghost use Rattle.mi_model.specs.DatabaseChange.{MeetsRefusal};
 ghost use Rattle.mi_model.specs.Verdict.{replace_refusal, replace_outcome, modified, modify_outcome};
 ghost use Rattle.mi_container.specs.Asked.{RecordFits, EditsFit};
-ghost use Rattle.mi_container.specs.Data.{table_of};
+ghost use Rattle.mi_container.specs.Data.{as_table};
 ghost use Rattle.mi_container.specs.Inverse.{lost_to};
 ghost use Rattle.mi_container.specs.Run.Change.{Replace};
 ghost use Rattle.mi_container.specs.Makes.{Makes, MakesModify, MeetsOn, replace_answer, modify_answer, IsNoLoss};
@@ -22,7 +22,7 @@ use std::alloc::Global;
 impl MultiIndex {
     /// Why a record may not be set for a row, or none.
     fn replace_refusal(&self, id: u64, row: &Record) -> Option<Refusal>
-        ensures refusal { result ≡ replace_refusal self.now.shape id row.now (table_of self.now.plain) }
+        ensures refusal { result ≡ replace_refusal self.now.shape id row.now (as_table self.now.plain) }
         ensures times { result ≡ None → self.now.plain.arrivals < last_count }
     {
         if !self.has(id) {
@@ -54,11 +54,11 @@ impl MultiIndex {
 
     /// The record that edits make of a row's. Refusals: `NoId`, `Range` and `Memory`.
     fn edited(&self, alloc: Global, id: u64, edits: &[Edit]) -> Result<Record, Refusal>
-        ensures there { IfOk result (λ r. has_row (table_of self.now.plain) id ≡ true) }
-        ensures edited { IfOk result (λ r. apply_edits edits.now (row_of (table_of self.now.plain) id).1 ≡ Some r) }
+        ensures there { IfOk result (λ r. has_row (as_table self.now.plain) id ≡ true) }
+        ensures edited { IfOk result (λ r. apply_edits edits.now (row_of (as_table self.now.plain) id).1 ≡ Some r) }
         ensures refused { (rollback : Bool) → IfErr result (λ e.
-            MeetsRefusal (modify_outcome self.now.shape id edits.now rollback (table_of self.now.plain))
-            e (table_of self.now.plain) (table_of self.now.plain)) }
+            MeetsRefusal (modify_outcome self.now.shape id edits.now rollback (as_table self.now.plain))
+            e (as_table self.now.plain) (as_table self.now.plain)) }
         ensures loss { IfErr result IsNoLoss }
     {
         let Some(row) = self.get(id, &mut Steps::new()) else {
@@ -70,7 +70,7 @@ impl MultiIndex {
     /// Sets the record that a modify made for a row, unless a unique index refuses it: then with `rollback` nothing changes,
     /// and without it the row is erased. Takes no memory.
     fn modify_to(&mut self, id: u64, row: Record, rollback: bool) -> Result<Inverse, Refusal>
-        requires { has_row (table_of self.old.plain) id ≡ true }
+        requires { has_row (as_table self.old.plain) id ≡ true }
         ensures outcome { MeetsOn (modified self.old.shape id rollback (Some row)) (modify_answer result) self.old.plain self.new.plain }
         ensures made { IfOk result (λ i. MakesModify (lost_to i) self.old.shape id self.old.plain i self.new.plain) }
         ensures loss { IfErr result (λ e. IsNoLoss e) }

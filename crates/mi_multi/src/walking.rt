@@ -3,7 +3,7 @@ ghost use Rattle.std.specs.Prelude.{◌≡◌, ◌<◌, ◌≤◌, ◌+◌, ◌*
 ghost use Rattle.mi_model.specs.Table.{has as has_row, size as size_of};
 ghost use Rattle.mi_model.specs.Walk.{rows_from};
 ghost use Rattle.mi_container.specs.Asked.{ShowsOneList};
-ghost use Rattle.mi_container.specs.Data.{table_of};
+ghost use Rattle.mi_container.specs.Data.{as_table};
 ghost use Rattle.mi_multi.specs.Walks.{direction_of};
 
 use crate::multi::MultiIndex;
@@ -38,10 +38,10 @@ impl MultiIndex {
         steps: &mut Steps,
     ) -> Result<Vec<(u64, &Record)>, AllocError>
         requires index { ShowsOneList self.now.shape index }
-        requires first { IsTrue (has_row (table_of self.now.plain) first) }
+        requires first { IsTrue (has_row (as_table self.now.plain) first) }
         ensures rows { IfOk result (λ rows. map (λ r. (r.0, r.1.now)) rows.items ≡
-            rows_from self.now.shape (table_of self.now.plain) index reverse first limit) }
-        ensures steps { (b : ℕ) → size_of (table_of self.now.plain) < 2 ^ b → steps.new.count ≤ steps.old.count + (2 * b + 1) }
+            rows_from self.now.shape (as_table self.now.plain) index reverse first limit) }
+        ensures steps { (b : ℕ) → size_of (as_table self.now.plain) < 2 ^ b → steps.new.count ≤ steps.old.count + (2 * b + 1) }
     {
         let Some(node) = self.ids.live(first) else {
             return Ok(Vec::new(alloc));

@@ -7,7 +7,7 @@
 use Rattle.std.proofs.Common.{◌≡◌, ℕ, zero, suc, ◌+◌, ◌<◌, ◌≤◌, ◌==◌, Bool, true, false, cond, List, [], ◌∷◌, ◌++◌}
 use Rattle.std.proofs.Common.{length, replicate, slice_set, slice_index_or, refl, sym, ap, ◌∙◌, subst, arith}
 use Rattle.std.proofs.Math.ListN.{length-set}
-use Rattle.mi_node.specs.Cells.{link_in, empty_cell}
+use Rattle.mi_node.specs.Cells.{link_of_cell, empty_cell}
 use Rattle.mi_node.specs.Columns.{cell_at, column, links_at, AreLong, cleared}
 use Rattle.mi_node.specs.Pool.{no_link, put_link}
 use Rattle.mi_node.specs.declared.cell.Cell.{Cell}
@@ -32,7 +32,7 @@ index-end [] (suc n) (suc k) d = index-end [] n k d
 index-end (x ∷ xs) n zero d = refl
 index-end (x ∷ xs) n (suc k) d = index-end xs n k d
 
-index-links : (cs : List (List Cell)) (k s : ℕ) → s < length cs → slice_index_or (links_at cs k) s no_link ≡ link_in (cell_at k (column cs s))
+index-links : (cs : List (List Cell)) (k s : ℕ) → s < length cs → slice_index_or (links_at cs k) s no_link ≡ link_of_cell (cell_at k (column cs s))
 index-links [] k s less = absurd (omega (arith, less))
 index-links (c ∷ cs) k zero less = refl
 index-links (c ∷ cs) k (suc s) less = index-links cs k s (omega (arith, less))
@@ -54,20 +54,20 @@ at_there (y ∷ c) (suc k) zero x e = refl
 at_there (y ∷ c) (suc k) (suc q) x e = at_there c k q x (grind (arith, e))
 
 pub links-here : (cs : List (List Cell)) (s k : ℕ) (x : Cell) → s < length cs → k < length (column cs s)
-    → links_at (slice_set cs s (slice_set (column cs s) k x)) k ≡ put_link (links_at cs k) s (link_in x)
+    → links_at (slice_set cs s (slice_set (column cs s) k x)) k ≡ put_link (links_at cs k) s (link_of_cell x)
 links-here [] s k x less inside = absurd (omega (arith, less))
-links-here (c ∷ cs) zero k x less inside = ap (λ y. link_in y ∷ links_at cs k) (at_here c k x inside)
-links-here (c ∷ cs) (suc s) k x less inside = ap (λ ls. link_in (cell_at k c) ∷ ls) (links-here cs s k x (omega (arith, less)) inside)
+links-here (c ∷ cs) zero k x less inside = ap (λ y. link_of_cell y ∷ links_at cs k) (at_here c k x inside)
+links-here (c ∷ cs) (suc s) k x less inside = ap (λ ls. link_of_cell (cell_at k c) ∷ ls) (links-here cs s k x (omega (arith, less)) inside)
 
 pub links-there : (cs : List (List Cell)) (s k q : ℕ) (x : Cell) → (q == k) ≡ false → links_at (slice_set cs s (slice_set (column cs s) k x)) q ≡ links_at cs q
 links-there [] s k q x e = refl
-links-there (c ∷ cs) zero k q x e = ap (λ y. link_in y ∷ links_at cs q) (at_there c k q x e)
-links-there (c ∷ cs) (suc s) k q x e = ap (λ ls. link_in (cell_at q c) ∷ ls) (links-there cs s k q x e)
+links-there (c ∷ cs) zero k q x e = ap (λ y. link_of_cell y ∷ links_at cs q) (at_there c k q x e)
+links-there (c ∷ cs) (suc s) k q x e = ap (λ ls. link_of_cell (cell_at q c) ∷ ls) (links-there cs s k q x e)
 
 links-more : (cs : List (List Cell)) (s n k : ℕ) → links_at (slice_set cs s (column cs s ++ replicate n empty_cell)) k ≡ links_at cs k
 links-more [] s n k = refl
-links-more (c ∷ cs) zero n k = ap (λ y. link_in y ∷ links_at cs k) (index-end c n k empty_cell)
-links-more (c ∷ cs) (suc s) n k = ap (λ ls. link_in (cell_at k c) ∷ ls) (links-more cs s n k)
+links-more (c ∷ cs) zero n k = ap (λ y. link_of_cell y ∷ links_at cs k) (index-end c n k empty_cell)
+links-more (c ∷ cs) (suc s) n k = ap (λ ls. link_of_cell (cell_at k c) ∷ ls) (links-more cs s n k)
 
 -- one column more is cleared
 cleared-next : (cs : List (List Cell)) (s k : ℕ) → s < length cs
@@ -94,12 +94,12 @@ blank_here (y ∷ c) (suc k) = blank_here c k
 
 pub cleared-here : (cs : List (List Cell)) (k : ℕ) → links_at (cleared (length cs) k cs) k ≡ replicate (length cs) no_link
 cleared-here [] k = refl
-cleared-here (c ∷ cs) k = λ i. link_in (blank_here c k i) ∷ cleared-here cs k i
+cleared-here (c ∷ cs) k = λ i. link_of_cell (blank_here c k i) ∷ cleared-here cs k i
 
 pub cleared-there : (cs : List (List Cell)) (s k q : ℕ) → (q == k) ≡ false → links_at (cleared s k cs) q ≡ links_at cs q
 cleared-there cs zero k q e = refl
 cleared-there [] (suc s) k q e = refl
-cleared-there (c ∷ cs) (suc s) k q e = λ i. link_in (at_there c k q empty_cell e i) ∷ cleared-there cs s k q e i
+cleared-there (c ∷ cs) (suc s) k q e = λ i. link_of_cell (at_there c k q empty_cell e i) ∷ cleared-there cs s k q e i
 
 pub long-cleared : (cs : List (List Cell)) (s k m : ℕ) → AreLong m cs → AreLong m (cleared s k cs)
 long-cleared cs s k m long t less = subst (λ n. m ≤ n) (sym (cleared-column cs s k t)) (long t (subst (λ n. t < n) (cleared-length cs s k) less))
@@ -119,8 +119,8 @@ found_column : (cs : List (List Cell)) (s : ℕ) (x : List Cell) → s < length 
 found_column cs s x less is = is ∙ index-any cs s x [] less
 
 pub read_cell : (cs : List (List Cell)) (s k : ℕ) (x : List Cell) (y : Cell) → s < length cs → x ≡ slice_index_or cs s x → y ≡ cell_at k x
-    → link_in y ≡ slice_index_or (links_at cs k) s no_link
-read_cell cs s k x y less is at = ap link_in (at ∙ ap (cell_at k) (found_column cs s x less is)) ∙ sym (index-links cs k s less)
+    → link_of_cell y ≡ slice_index_or (links_at cs k) s no_link
+read_cell cs s k x y less is at = ap link_of_cell (at ∙ ap (cell_at k) (found_column cs s x less is)) ∙ sym (index-links cs k s less)
 
 -- a column with another cell, as it is put back
 pub put_column : (cs : List (List Cell)) (s k : ℕ) (x w : List Cell) (y : Cell) → s < length cs
@@ -153,8 +153,8 @@ all_cleared cs ds s e k so is g h = let same : s ≡ length cs = omega (arith, i
 -- a column takes the place of one with the same cells
 links-alike : (cs : List (List Cell)) (s k : ℕ) (w : List Cell) → cell_at k w ≡ cell_at k (column cs s) → links_at (slice_set cs s w) k ≡ links_at cs k
 links-alike [] s k w same = refl
-links-alike (c ∷ cs) zero k w same = ap (λ y. link_in y ∷ links_at cs k) same
-links-alike (c ∷ cs) (suc s) k w same = ap (λ ls. link_in (cell_at k c) ∷ ls) (links-alike cs s k w same)
+links-alike (c ∷ cs) zero k w same = ap (λ y. link_of_cell y ∷ links_at cs k) same
+links-alike (c ∷ cs) (suc s) k w same = ap (λ ls. link_of_cell (cell_at k c) ∷ ls) (links-alike cs s k w same)
 
 -- while columns are lengthened, the first n of which have as many cells as there are to be places
 pub record Lengthened (places n : ℕ) (cs ds : List (List Cell)) : Type 0 where

@@ -1,6 +1,6 @@
 -- Columns of cells: one list of cells for each slot, with a cell for each place.
 use Rattle.std.specs.Prelude.{ℕ, zero, suc, ◌<◌, ◌≤◌, List, [], ◌∷◌, map, length, slice_index_or, slice_set}
-use Rattle.mi_node.specs.Cells.{empty_cell, link_in}
+use Rattle.mi_node.specs.Cells.{empty_cell, link_of_cell}
 use Rattle.mi_node.specs.declared.cell.Cell.{Cell}
 use Rattle.mi_node.specs.declared.link.Link.{Link}
 
@@ -13,7 +13,7 @@ column cs s = slice_index_or cs s []
 
 -- the links of a place, by slot
 abbrev pub links_at : List (List Cell) → ℕ → List Link
-links_at cs k = map (λ c. link_in (cell_at k c)) cs
+links_at cs k = map (λ c. link_of_cell (cell_at k c)) cs
 
 -- each column has m cells at least
 abbrev pub AreLong : ℕ → List (List Cell) → Type 0

@@ -1,7 +1,7 @@
 //! The form in which a link is stored: 32 bytes, where a `Link` takes more.
 //! Plain data: it owns no node and never follows a reference.
 ghost use Rattle.std.specs.Prelude.{◌≡◌, ⊤};
-ghost use Rattle.mi_node.specs.Cells.{link_in, ref_in};
+ghost use Rattle.mi_node.specs.Cells.{link_of_cell, ref_in};
 
 use crate::link::{Link, Tag};
 use crate::node_ref::{NOBODY, NodeRef};
@@ -47,7 +47,7 @@ impl Copy for Cell {}
 impl Cell {
     /// The stored form of the link.
     pub(crate) fn new(link: Link) -> Cell
-        ensures { link_in result ≡ link }
+        ensures { link_of_cell result ≡ link }
     {
         Cell {
             back: bits_of(link.back),
@@ -61,7 +61,7 @@ impl Cell {
 
     /// The link that is stored.
     pub(crate) fn link(self) -> Link
-        ensures { result ≡ link_in self }
+        ensures { result ≡ link_of_cell self }
     {
         Link {
             back: ref_of(self.back),

@@ -197,10 +197,10 @@ pair_same d (Some (Text us)) y a b la lb h same = absurd (none_exact_pair d (Som
 -- Records
 
 -- what follows a flag in a record, in 62 bits
-abbrev behind : ColumnType → KeyPart → Option Value → ℕ
-behind d q y = short_tag d (directed_tag q.descending (value_tag d y))
+abbrev past_flag : ColumnType → KeyPart → Option Value → ℕ
+past_flag d q y = short_tag d (directed_tag q.descending (value_tag d y))
 
-behind_within : (d : ColumnType) (q : KeyPart) (y : Option Value) → behind d q y < shorts
+behind_within : (d : ColumnType) (q : KeyPart) (y : Option Value) → past_flag d q y < shorts
 behind_within d q y = short_within d (directed_tag q.descending (value_tag d y)) (directed_high q.descending (value_tag d y) (value_high d y))
 
 two_order : (c d : ColumnType) (p q : KeyPart) (qs : List KeyPart) (r s : List Value)
@@ -209,7 +209,7 @@ two_order : (c d : ColumnType) (p q : KeyPart) (qs : List KeyPart) (r s : List V
 two_order column.Int d p q qs r s l = tags_order_keys column.Int p (q ∷ qs) r s l
 two_order column.Text d p q qs r s l = tags_order_keys column.Text p (q ∷ qs) r s l
 two_order column.Flag d p q qs r s l =
-    elim (pair_before p.descending (slice_get r p.column) (slice_get s p.column) (behind d q (slice_get r q.column)) (behind d q (slice_get s q.column))
+    elim (pair_before p.descending (slice_get r p.column) (slice_get s p.column) (past_flag d q (slice_get r q.column)) (past_flag d q (slice_get s q.column))
     (behind_within d q (slice_get r q.column)) (behind_within d q (slice_get s q.column)) l) [
       | inl less ↦ ap (λ o. ordering_then o (compare_key (q ∷ qs) r s)) less
       | inr both ↦ ap (λ o. ordering_then o (compare_key (q ∷ qs) r s)) both.0
@@ -244,7 +244,7 @@ two_same column.Flag column.Text p q r s h same = absurd (false≢true h)
 two_same column.Flag column.Flag p q r s h same = absurd (false≢true h)
 two_same column.Flag column.Int p q r s h same =
     let is = pair_same p.descending (slice_get r p.column) (slice_get s p.column)
-    (behind column.Int q (slice_get r q.column)) (behind column.Int q (slice_get s q.column))
+    (past_flag column.Int q (slice_get r q.column)) (past_flag column.Int q (slice_get s q.column))
     (behind_within column.Int q (slice_get r q.column)) (behind_within column.Int q (slice_get s q.column)) h same in
     ap (λ o. ordering_then o (compare_key (q ∷ []) r s)) is.0
     ∙ ap (λ o. ordering_then o Equal) (numbers_same q.descending (slice_get r q.column) (slice_get s q.column) is.2 is.3 is.1)
@@ -285,13 +285,13 @@ two_beside column.Flag d p q qs v w vs r =
     let y : Option Value = slice_get r q.column in
     let o : IsTotalOrder (λ a b. directed p.descending (compare_missing a b)) = directed_total p.descending in
     let rest = compare_prefix (q ∷ qs) (w ∷ vs) r in (
-      λ l. elim (pair_before p.descending x (Some v) (behind d q y) (behind d q (Some w)) (behind_within d q y) (behind_within d q (Some w)) l) [
+      λ l. elim (pair_before p.descending x (Some v) (past_flag d q y) (past_flag d q (Some w)) (behind_within d q y) (behind_within d q (Some w)) l) [
         | inl less ↦ ap (λ k. ordering_then k rest) (o.antisymm (Some v) x ∙ ap ordering_reverse less)
         | inr both ↦ ap (λ k. ordering_then k rest) (o.antisymm (Some v) x ∙ ap ordering_reverse both.0)
             ∙ (tags_order_probes d q qs w vs r).0 (short_below d (directed_tag q.descending (value_tag d y))
             (directed_tag q.descending (value_tag d (Some w))) both.1)
       ],
-      λ l. elim (pair_before p.descending (Some v) x (behind d q (Some w)) (behind d q y) (behind_within d q (Some w)) (behind_within d q y) l) [
+      λ l. elim (pair_before p.descending (Some v) x (past_flag d q (Some w)) (past_flag d q y) (behind_within d q (Some w)) (behind_within d q y) l) [
         | inl less ↦ ap (λ k. ordering_then k rest) less
         | inr both ↦ ap (λ k. ordering_then k rest) both.0
             ∙ (tags_order_probes d q qs w vs r).1 (short_below d (directed_tag q.descending (value_tag d (Some w)))
@@ -321,7 +321,7 @@ two_at column.Text d p q v w r h same = absurd (false≢true h)
 two_at column.Flag column.Text p q v w r h same = absurd (false≢true h)
 two_at column.Flag column.Flag p q v w r h same = absurd (false≢true h)
 two_at column.Flag column.Int p q v w r h same =
-    let is = pair_same p.descending (Some v) (slice_get r p.column) (behind column.Int q (Some w)) (behind column.Int q (slice_get r q.column))
+    let is = pair_same p.descending (Some v) (slice_get r p.column) (past_flag column.Int q (Some w)) (past_flag column.Int q (slice_get r q.column))
     (behind_within column.Int q (Some w)) (behind_within column.Int q (slice_get r q.column)) h (sym same) in
     ap (λ o. ordering_then o (compare_prefix (q ∷ []) (w ∷ []) r)) is.0
     ∙ ap (λ o. ordering_then o Equal) (numbers_same q.descending (Some w) (slice_get r q.column) is.2 is.3 is.1)

@@ -25,7 +25,7 @@ use Rattle.mi_model.proofs.ViewLaws.{compare_ids_total}
 use Rattle.mi_model.proofs.PrefixLaws.{key_falls}
 use Rattle.mi_model.proofs.LookUpLaws.{HoldsBefore, first_past, last_before, rank_counts, rank_counts_itself, places_rise, count-sorted, times-sorted}
 use Rattle.mi_plain.specs.declared.pass.Boundary.TheVariants.{Start, End, Lower, Upper, Before, Behind}
-use Rattle.mi_plain.specs.Boundary.{order_by, order_in, by_place, is_before, last_in}
+use Rattle.mi_plain.specs.Boundary.{order_by, order_in, by_place, is_before, last_id}
 
 order_by_total : (kind : IndexKind) (order : ℕ → ℕ → Ordering) → IsTotalOrder order → IsTotalOrder (order_by kind order)
 order_by_total Ordered order o = o
@@ -84,8 +84,8 @@ module _ (i : Index) (t : Table) (ids : List ℕ) (each : ListsEach t ids) where
       ∙ first_past (by_place_total i t ids) p holds all rises
 
   shown_before : (p : ℕ → Bool) → HoldsBefore (by_place_total i t ids) p
-      → last_in (sorted (order_in i t) (filter p ids)) ≡ before_place all (length (filter p all))
-  shown_before p holds = ap last_in (sym (filter-sorted (order_in_total i t) p ids)) ∙ last_before (by_place_total i t ids) p holds all rises
+      → last_id (sorted (order_in i t) (filter p ids)) ≡ before_place all (length (filter p all))
+  shown_before p holds = ap last_id (sym (filter-sorted (order_in_total i t) p ids)) ∙ last_before (by_place_total i t ids) p holds all rises
 
   pub shown_count : (p : ℕ → Bool) → length (filter p ids) ≡ length (filter p all)
   shown_count p = sym (count-sorted p (order_in i t) ids)
@@ -112,7 +112,7 @@ module _ (i : Index) (t : Table) (ids : List ℕ) (each : ListsEach t ids) where
       ∙ ap (slice_get all) (rank_counts_itself (by_place_total i t ids) e all rises (stands_in_all e there))
 
   pub before_is : (key : List Value) (e : ℕ) → has t e ≡ true
-      → last_in (sorted (order_in i t) (filter (λ a. is_before i t ids key (Before e (rank_in ids e)) a) ids)) ≡ look.before_in all e
+      → last_id (sorted (order_in i t) (filter (λ a. is_before i t ids key (Before e (rank_in ids e)) a) ids)) ≡ look.before_in all e
   before_is key e there =
       shown_before (is_before i t ids key (Before e (rank_in ids e))) (holds_before e)
       ∙ ap (before_place all) (rank_counts (by_place_total i t ids) e all rises (stands_in_all e there))
@@ -133,8 +133,8 @@ module _ (i : Index) (t : Table) (ids : List ℕ) (each : ListsEach t ids) where
   pub first_is : (key : List Value) → slice_get (sorted (order_in i t) (filter (λ a. not (is_before i t ids key Start a)) ids)) 0 ≡ slice_get all 0
   first_is key = ap (λ xs. slice_get (sorted (order_in i t) xs) 0) (all_pass ids)
 
-  pub last_is : (key : List Value) → last_in (sorted (order_in i t) (filter (λ a. is_before i t ids key End a) ids)) ≡ last_in all
-  last_is key = ap (λ xs. last_in (sorted (order_in i t) xs)) (all_pass ids)
+  pub last_is : (key : List Value) → last_id (sorted (order_in i t) (filter (λ a. is_before i t ids key End a) ids)) ≡ last_id all
+  last_is key = ap (λ xs. last_id (sorted (order_in i t) xs)) (all_pass ids)
 
 upto : (r q : Ordering) → ordering_then r q ≡ Less → is_gt r ≡ false
 upto Less q h = refl

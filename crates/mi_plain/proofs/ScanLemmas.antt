@@ -87,7 +87,7 @@ behind_itself q e (a ∷ ids) passes some =
 
 pub next_of_rest : (s : Shape) (t : Table) (x e : ℕ) (i : Index) (ids : List ℕ) (at : ℕ)
     → (index_at s x).kind ≡ Hashed → i ≡ index_at s x → ids ≡ list_of t x → at ≡ rank_in (list_of t x) e
-    → ListsEach t (list_of t x) → has t e ≡ true → slice_get (filter (λ id. is_eq (compare_ids i t e id)) (drop (at + 1) ids)) 0 ≡ look.next_of s t x e
+    → ListsEach t (list_of t x) → has t e ≡ true → slice_get (filter (λ id. is_eq (compare_ids i t e id)) (drop (at + 1) ids)) 0 ≡ look.next_with_key s t x e
 next_of_rest s t x e i ids at hashed same are place each there =
     ap (λ (j : Index). slice_get (filter (λ id. is_eq (compare_ids j t e id)) (drop (at + 1) ids)) 0) same
     ∙ ap (λ n. slice_get (filter (λ id. is_eq (compare_ids (index_at s x) t e id)) (drop (n + 1) ids)) 0) place

@@ -13,7 +13,7 @@ use Rattle.mi_model.specs.LookUp as look
 use Rattle.mi_model.specs.LookUp.{rank_in}
 use Rattle.mi_plain.specs.declared.pass.Boundary.{Boundary}
 use Rattle.mi_plain.specs.declared.pass.Boundary.TheVariants.{Start, End, Lower, Upper, Before, Behind}
-use Rattle.mi_plain.specs.Boundary.{order_in, is_before, last_in}
+use Rattle.mi_plain.specs.Boundary.{order_in, is_before, last_id}
 use Rattle.mi_plain.proofs.BoundaryLemmas.{view_is, listed_shown, listed_sorted, after_is, before_is, rank_is}
 use Rattle.mi_plain.proofs.BoundaryLemmas.{first_is, last_is, shown_past, shown_count, holds_lower, holds_upper}
 
@@ -21,7 +21,7 @@ abbrev pub past : Index → Table → ℕ → List Value → Boundary → Option
 past i t x key boundary = slice_get (sorted (order_in i t) (filter (λ a. not (is_before i t (list_of t x) key boundary a)) (list_of t x))) 0
 
 abbrev pub last_of : Index → Table → ℕ → List Value → Boundary → Option ℕ
-last_of i t x key boundary = last_in (sorted (order_in i t) (filter (λ a. is_before i t (list_of t x) key boundary a) (list_of t x)))
+last_of i t x key boundary = last_id (sorted (order_in i t) (filter (λ a. is_before i t (list_of t x) key boundary a) (list_of t x)))
 
 abbrev pub count_of : Index → Table → ℕ → List Value → Boundary → ℕ
 count_of i t x key boundary = length (filter (λ a. is_before i t (list_of t x) key boundary a) (list_of t x))
@@ -35,7 +35,7 @@ module _ (s : Shape) (t : Table) (x : ℕ) (is : IsTable s t) (i : Index) (same 
   pub last_shown : shows_one_list (index_at s x).kind ≡ true → last_of i t x key End ≡ look.last s t x
   last_shown shows =
       ap (λ (j : Index). last_of j t x key End) same
-      ∙ last_is (index_at s x) t (list_of t x) (listed_shown s t x is shows) key ∙ ap last_in (sym (view_is s t x))
+      ∙ last_is (index_at s x) t (list_of t x) (listed_shown s t x is shows) key ∙ ap last_id (sym (view_is s t x))
 
   module _ (e : ℕ) (there : has t e ≡ true) (at : ℕ) (place : at ≡ rank_in (list_of t x) e) where
     pub after_shown : shows_one_list (index_at s x).kind ≡ true → past i t x key (Behind e at) ≡ look.after s t x e

@@ -41,5 +41,5 @@ StandsIn t (Behind e at) = IsTrue (has t e)
 StandsIn t boundary = Unit {0}
 
 -- the last of a list
-abbrev pub last_in : List ℕ → Option ℕ
-last_in ids = before_place ids (length ids)
+abbrev pub last_id : List ℕ → Option ℕ
+last_id ids = before_place ids (length ids)

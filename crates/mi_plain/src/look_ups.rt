@@ -120,7 +120,7 @@ impl PlainTable {
         requires is { IsTable schema.now self.now }
         requires within { x < length schema.now.indexes }
         requires kind { (index_at schema.now x).kind ≡ Hashed }
-        ensures { result ≡ look.first_of schema.now self.now x key.now }
+        ensures { result ≡ look.first_with_key schema.now self.now x key.now }
     {
         let index = schema.index(x);
         let ids = self.ids(x);
@@ -138,7 +138,7 @@ impl PlainTable {
         requires within { x < length schema.now.indexes }
         requires kind { (index_at schema.now x).kind ≡ Hashed }
         requires id { IsTrue (has_row self.now id) }
-        ensures { result ≡ look.next_of schema.now self.now x id }
+        ensures { result ≡ look.next_with_key schema.now self.now x id }
     {
         let index = schema.index(x);
         let ids = self.ids(x);

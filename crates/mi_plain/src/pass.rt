@@ -52,7 +52,7 @@ impl PlainTable {
     ghost use Rattle.mi_model.specs.View as shows;
     ghost use Rattle.mi_model.specs.View.{sorted};
     ghost use Rattle.mi_model.specs.LookUp.{rank_in};
-    ghost use Rattle.mi_plain.specs.Boundary.{order_in, is_before as stands_before, StandsIn, last_in};
+    ghost use Rattle.mi_plain.specs.Boundary.{order_in, is_before as stands_before, StandsIn, last_id};
 
     /// A key, or the first values of one, against the key of an id.
     pub(crate) fn compare_to_id(&self, index: &Index, key: &[Value], id: u64) -> Ordering
@@ -184,7 +184,7 @@ impl PlainTable {
     ) -> Option<u64>
         requires listed { ListsEach self.now (list_of self.now x) }
         requires boundary { StandsIn self.now boundary }
-        ensures { result ≡ last_in (sorted (order_in index.now self.now)
+        ensures { result ≡ last_id (sorted (order_in index.now self.now)
             (filter (λ a. stands_before index.now self.now (list_of self.now x) key.now boundary a) (list_of self.now x))) }
     {
         let ids = self.ids(x);

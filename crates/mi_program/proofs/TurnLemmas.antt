@@ -17,7 +17,7 @@ use Rattle.mi_hub.specs.declared.fault.ServeFault.TheVariants.{Read, Turns, Acce
 use Rattle.mi_hub.proofs.ConnectionLemmas.{some_with_rest}
 use Rattle.mi_hub.proofs.PieceLemmas.{unsent_piece_gone, unsent_close_gone, same_err}
 use Rattle.mi_hub.specs.Turn.{Turn, fed, ended, unread, unanswered, unended, conn_of, outcome, given_in, Made}
-use Rattle.mi_program.specs.Turns.{fresh, with_clients, ByTurns, row_after, turn_fault, first_fault, noted}
+use Rattle.mi_program.specs.Turns.{fresh, with_clients, ByTurns, row_after, turn_fault, first_fault, with_turn}
 use Rattle.mi_program.specs.Turns.{all_noted, client_ids, AllSound, AllAttached, IsNoneOf, AllDiffer, Serves}
 use Rattle.mi_program.specs.declared.listener.Client.{Client}
 
@@ -331,17 +331,17 @@ or_false : (b : Bool) → (b || false) ≡ b
 or_false true = refl
 or_false false = refl
 
-pub noted_more : (turns : List Turn) (turn : Turn) (e : IoErrors) → all_noted (turns ++ turn ∷ []) e ≡ noted (outcome turn) (all_noted turns e)
+pub noted_more : (turns : List Turn) (turn : Turn) (e : IoErrors) → all_noted (turns ++ turn ∷ []) e ≡ with_turn (outcome turn) (all_noted turns e)
 noted_more [] turn e = refl
-noted_more (t ∷ turns) turn e = noted_more turns turn (noted (outcome t) e)
+noted_more (t ∷ turns) turn e = noted_more turns turn (with_turn (outcome t) e)
 
 -- a read was sound, and then what was written failed or didn't
 pub written_noted : (r : Result Bool ServeFault) (failed : Bool) (e : IoErrors) → OnOk r (failed ≡ false) → OnErr r ((r ≡ Err ServeWrite) × (failed ≡ true))
-    → with_write failed (with_read false e) ≡ noted r e
+    → with_write failed (with_read false e) ≡ with_turn r e
 written_noted (Ok is_open) failed e ok err =
     ap (λ b. with_write b (with_read false e)) ok ∙ (λ i. record { read = or_false e.read i; write = or_false e.write i })
 written_noted (Err fault) failed e ok err =
-    ap (λ b. with_write b (with_read false e)) err.1 ∙ (λ i. record { read = or_false e.read i; write = e.write || true }) ∙ sym (ap (λ r. noted r e) err.0)
+    ap (λ b. with_write b (with_read false e)) err.1 ∙ (λ i. record { read = or_false e.read i; write = e.write || true }) ∙ sym (ap (λ r. with_turn r e) err.0)
 
 reads_stay : (turns : List Turn) (e : IoErrors) → reads_fail e ≡ true → reads_fail (all_noted turns e) ≡ true
 reads_stay [] e h = h

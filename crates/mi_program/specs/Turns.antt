@@ -49,18 +49,18 @@ first_fault [] = Ok tt
 first_fault (turn ∷ turns) = result_and (turn_fault (outcome turn)) (first_fault turns)
 
 -- what is noted of the errors of streams by a turn with this outcome: a failed read, or a failed write or flush
-abbrev pub noted : Result Bool ServeFault → IoErrors → IoErrors
-noted (Ok is_open) e = e
-noted (Err Read) e = with_read true e
-noted (Err Write) e = with_write true e
-noted (Err Accept) e = e
-noted (Err Memory) e = e
-noted (Err Turns) e = e
+abbrev pub with_turn : Result Bool ServeFault → IoErrors → IoErrors
+with_turn (Ok is_open) e = e
+with_turn (Err Read) e = with_read true e
+with_turn (Err Write) e = with_write true e
+with_turn (Err Accept) e = e
+with_turn (Err Memory) e = e
+with_turn (Err Turns) e = e
 
 -- what is noted by these turns, one after another
 abbrev pub all_noted : List Turn → IoErrors → IoErrors
 all_noted [] e = e
-all_noted (turn ∷ turns) e = all_noted turns (noted (outcome turn) e)
+all_noted (turn ∷ turns) e = all_noted turns (with_turn (outcome turn) e)
 
 -- no stream of these clients has failed
 abbrev pub AllSound : {S : Type 0} → List (Client S) → Type 0

@@ -8,7 +8,7 @@ ghost use Rattle.mi_hub.specs.Connections.{rest_at};
 ghost use Rattle.mi_hub.specs.Watching.{has_failed};
 ghost use Rattle.mi_hub.specs.IoNotes.{reads_fail, writes_fail};
 ghost use Rattle.mi_hub.specs.Turn.{Turn, conn_of, outcome, Made};
-ghost use Rattle.mi_program.specs.Turns.{with_clients, row_after, ByTurns, turn_fault, first_fault, noted, all_noted, client_ids, AllSound, Serves};
+ghost use Rattle.mi_program.specs.Turns.{with_clients, row_after, ByTurns, turn_fault, first_fault, with_turn, all_noted, client_ids, AllSound, Serves};
 
 use crate::buffered::Buffered;
 use mi_hub::{Hub, IoErrors, ServeFault, Watched, take_turn};
@@ -68,7 +68,7 @@ fn client_turn<D: Sessions + Drop, S: Read + Write>(
     ensures same { client.new.conn ≡ client.old.conn }
     ensures failed { OnErr result (has_failed client.new.stream ≡ true) }
     ensures sound { OnOk result (has_failed client.new.stream ≡ false) }
-    ensures noted { errors.new ≡ noted result errors.old }
+    ensures noted { errors.new ≡ with_turn result errors.old }
 {
     match errors.read_from(&mut client.stream, buffer) {
         Ok(n) => {
@@ -92,7 +92,7 @@ fn next_turn<D: Sessions + Drop, S: Read + Write + Drop>(
     requires room { length buffer.old ≡ PIECE }
     requires sound { AllSound row.old.items }
     ensures turn { (turn : Turn) × (others : List ℕ) × (out : List ℕ) × (client_ids row.old.items ≡ conn_of turn ∷ others) × Made hub.old turn out hub.new
-        × (client_ids row.new.items ≡ row_after turn others) × (result ≡ turn_fault (outcome turn)) × (errors.new ≡ noted (outcome turn) errors.old) }
+        × (client_ids row.new.items ≡ row_after turn others) × (result ≡ turn_fault (outcome turn)) × (errors.new ≡ with_turn (outcome turn) errors.old) }
     ensures sound { AllSound row.new.items }
 {
     let mut client = row.pop_front().unwrap();

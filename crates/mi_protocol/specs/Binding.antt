@@ -9,7 +9,7 @@ use Rattle.mi_value.specs.declared.value.Value.{Value}
 use Rattle.mi_catalog.specs.declared.index.IndexKind.{IndexKind}
 use Rattle.mi_catalog.specs.Shape.{Shape, CatalogShape, schema_at, index_at, find_table, find_index}
 use Rattle.mi_catalog.specs.Fitting.{HasTable, IsKeyedIndex, IsSortedIndex, IsRankedIndex, IsSequencedIndex}
-use Rattle.mi_catalog.specs.Fitting.{FitsTable, EditsFit, FitsWhole, FitsPrefix, FitsLookUp, FitsLower, FitsUpper}
+use Rattle.mi_catalog.specs.Fitting.{FitsTable, FitsEdits, FitsWhole, FitsPrefix, FitsLookUp, FitsLower, FitsUpper}
 use Rattle.serde_json.specs.Data.{Items, Members}
 use Rattle.mi_protocol.specs.Edits.{bound_edits}
 use Rattle.mi_protocol.specs.Keys.{bound_key, bound_lower, bound_upper}
@@ -124,7 +124,7 @@ bound_command c (request.Size table) = and_then (λ n. Ok (command.Size n)) (tab
 abbrev pub FitsCatalog : CatalogShape → Command → Type 0
 FitsCatalog c (command.Insert n row before) = HasTable c n × FitsTable c n row × IfSome before (λ at. IsSequencedIndex c n at.0)
 FitsCatalog c (command.Replace n id row) = HasTable c n × FitsTable c n row
-FitsCatalog c (command.Modify n id edits rollback) = HasTable c n × EditsFit c n edits
+FitsCatalog c (command.Modify n id edits rollback) = HasTable c n × FitsEdits c n edits
 FitsCatalog c (command.Erase n id) = HasTable c n
 FitsCatalog c (command.EraseKey n x key) = HasTable c n × IsKeyedIndex c n x × FitsWhole c n x key
 FitsCatalog c (command.Relocate n x id before) = HasTable c n × IsSequencedIndex c n x

@@ -22,7 +22,7 @@ use Rattle.mi_value.specs.declared.refusal.Refusal.{Refusal}
 use Rattle.mi_request.specs.Commands.{look_up_named, step_named}
 use Rattle.mi_request.specs.Json.{has_only}
 use Rattle.mi_request.specs.Lines.{request_or_refusal, command_line}
-use Rattle.mi_request.specs.Short.{numbered, short_line}
+use Rattle.mi_request.specs.Short.{number_line, short_line}
 use Rattle.mi_request.specs.declared.request.Request.{Request}
 use Rattle.mi_request.specs.declared.request.Request.TheVariants as request
 use Rattle.mi_request.proofs.ParsingLemmas.{json-found}
@@ -84,7 +84,7 @@ commit_means n h =
 
 -- ---- all short lines
 
-numbered_means : (front line : List ℕ) (r : Request) (n : ℕ) → numbered front n ≡ Some line
+numbered_means : (front line : List ℕ) (r : Request) (n : ℕ) → number_line front n ≡ Some line
     → (n < 2 ^ 63 → command_line (front ++ (decimal n ++ codes "}")) ≡ Ok r) → command_line line ≡ Ok r
 numbered_means front line r n is means =
     let p = cond_some (nat_lt n (2 ^ 63)) _ line is in
@@ -127,11 +127,11 @@ short_means (request.UpperRank table index key) line is = absurd (none-some line
 -- ---- numbers between a front and a brace
 
 -- the front and the brace hold the number
-pub numbered_is : (front line text : List ℕ) (n : ℕ) → line ≡ front ++ (text ++ codes "}") → text ≡ decimal n → n < 2 ^ 63 → numbered front n ≡ Some line
+pub numbered_is : (front line text : List ℕ) (n : ℕ) → line ≡ front ++ (text ++ codes "}") → text ≡ decimal n → n < 2 ^ 63 → number_line front n ≡ Some line
 numbered_is front line text n is digits small = rw (lt-ltb n (2 ^ 63) small) (ap (λ t. Some (front ++ (t ++ codes "}"))) (sym digits) ∙ ap Some (sym is))
 
 -- a numbered line has the front, the number and the brace
-pub numbered_parts : (front line : List ℕ) (n : ℕ) → numbered front n ≡ Some line → (n < 2 ^ 63) × (line ≡ front ++ (decimal n ++ codes "}"))
+pub numbered_parts : (front line : List ℕ) (n : ℕ) → number_line front n ≡ Some line → (n < 2 ^ 63) × (line ≡ front ++ (decimal n ++ codes "}"))
 numbered_parts front line n is = let p = cond_some (nat_lt n (2 ^ 63)) _ line is in (ltb-true n (2 ^ 63) p.0, sym p.1)
 
 -- a number is written as its digits
@@ -155,7 +155,7 @@ undo_is_short line is = ap Some (sym is)
 bare_length : (text line : List ℕ) → Some text ≡ Some line → nat_le (length text) 47 ≡ true → length line ≤ 47
 bare_length text line is short = subst (λ t. length t ≤ 47) (same_Some text line is) (leb-true (length text) 47 short)
 
-numbered_length : (front line : List ℕ) (n : ℕ) → numbered front n ≡ Some line → nat_le (length front) 27 ≡ true → length line ≤ 47
+numbered_length : (front line : List ℕ) (n : ℕ) → number_line front n ≡ Some line → nat_le (length front) 27 ≡ true → length line ≤ 47
 numbered_length front line n is short =
     let p = cond_some (nat_lt n (2 ^ 63)) _ line is in
     let small : n < 2 ^ 63 = ltb-true n (2 ^ 63) p.0 in

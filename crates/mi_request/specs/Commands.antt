@@ -63,13 +63,13 @@ place_of ms =
     else None
 
 -- a place, or null for none
-abbrev pub place : Data → Option (Option Place)
-place null = Some None
-place (object ms) = option_map Some (place_of ms)
-place (boolean b) = None
-place (number n) = None
-place (string s) = None
-place (array ds) = None
+abbrev pub place_or_none : Data → Option (Option Place)
+place_or_none null = Some None
+place_or_none (object ms) = option_map Some (place_of ms)
+place_or_none (boolean b) = None
+place_or_none (number n) = None
+place_or_none (string s) = None
+place_or_none (array ds) = None
 
 -- a whole number from 0, or null for none
 abbrev pub natural_or_null : Data → Option (Option ℕ)
@@ -134,7 +134,7 @@ limit_in ms = default MAX_PAGE page (codes "limit") ms
 abbrev pub form_of : CommandName → Form
 form_of name.Insert = record {
   members = codes "table" ∷ codes "row" ∷ codes "before" ∷ [];
-  request = λ ms. option_map₃ request.Insert (table_in ms) (needed as_object (codes "row") ms) (default None place (codes "before") ms);
+  request = λ ms. option_map₃ request.Insert (table_in ms) (needed as_object (codes "row") ms) (default None place_or_none (codes "before") ms);
 }
 form_of name.Replace = record {
   members = codes "table" ∷ codes "id" ∷ codes "row" ∷ [];

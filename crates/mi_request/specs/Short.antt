@@ -4,20 +4,20 @@ use Rattle.mi_request.specs.declared.request.Request.{Request}
 use Rattle.mi_request.specs.declared.request.Request.TheVariants as request
 
 -- a text that ends with a number from 0 to 2^63 - 1 and a brace
-abbrev pub numbered : List ℕ → ℕ → Option (List ℕ)
-numbered front n = if nat_lt n (2 ^ 63) then Some (front ++ (decimal n ++ codes "}")) else None
+abbrev pub number_line : List ℕ → ℕ → Option (List ℕ)
+number_line front n = if nat_lt n (2 ^ 63) then Some (front ++ (decimal n ++ codes "}")) else None
 
 -- how a request that has no text, and names no table, is written without spaces, with `cmd` first. Other requests have none
 abbrev pub short_line : Request → Option (List ℕ)
 short_line request.Start = Some (codes "{\"cmd\":\"start\"}")
 short_line request.Undo = Some (codes "{\"cmd\":\"undo\"}")
 short_line request.Squash = Some (codes "{\"cmd\":\"squash\"}")
-short_line (request.Commit revision) = numbered (codes "{\"cmd\":\"commit\",\"revision\":") revision
+short_line (request.Commit revision) = number_line (codes "{\"cmd\":\"commit\",\"revision\":") revision
 short_line request.UndoAll = Some (codes "{\"cmd\":\"undo_all\"}")
 short_line request.Push = Some (codes "{\"cmd\":\"push\"}")
 short_line request.Revision = Some (codes "{\"cmd\":\"revision\"}")
-short_line (request.Get None id) = numbered (codes "{\"cmd\":\"get\",\"id\":") id
-short_line (request.Erase None id) = numbered (codes "{\"cmd\":\"erase\",\"id\":") id
+short_line (request.Get None id) = number_line (codes "{\"cmd\":\"get\",\"id\":") id
+short_line (request.Erase None id) = number_line (codes "{\"cmd\":\"erase\",\"id\":") id
 short_line (request.Size None) = Some (codes "{\"cmd\":\"size\"}")
 short_line (request.Get (Some table) id) = None
 short_line (request.Erase (Some table) id) = None

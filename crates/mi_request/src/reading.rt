@@ -171,7 +171,7 @@ fn place_of<'a>(object: &Object<'a>) -> Option<Place<'a>>
 }
 
 fn place_or_null<'a>(value: Json<'a>) -> Option<Option<Place<'a>>>
-    ensures { result ≡ commands.place value.entry }
+    ensures { result ≡ commands.place_or_none value.entry }
 {
     if value.is_null() {
         return Some(None);
@@ -181,7 +181,7 @@ fn place_or_null<'a>(value: Json<'a>) -> Option<Option<Place<'a>>>
 
 /// The place before which a record is inserted; null is as absent.
 pub(crate) fn place<'a>(member: Option<Json<'a>>) -> Option<Option<Place<'a>>>
-    ensures { result ≡ default_if None commands.place member.entry }
+    ensures { result ≡ default_if None commands.place_or_none member.entry }
 {
     match member {
         Some(value) => place_or_null(value),

@@ -1,6 +1,6 @@
 //! Lines without a text for the database, read where they stand as they are written without spaces. It takes no memory.
 ghost use Rattle.std.specs.Prelude.{◌≡◌, ◌<◌, ◌^◌, ◌&&◌, nat_lt, IfSome, IsSome, Some, bytes_eq, decimal, ℕ};
-ghost use Rattle.mi_request.specs.Short.{numbered, short_line, bare_line};
+ghost use Rattle.mi_request.specs.Short.{number_line, short_line, bare_line};
 ghost use Rattle.mi_request.specs.declared.request.Request.{Request as Asked};
 
 use crate::request::Request;
@@ -29,8 +29,8 @@ fn natural_text(text: &[u8]) -> Option<u64>
 
 /// The number between a front and the brace that ends the line.
 fn number_behind(front: &[u8], line: &[u8]) -> Option<u64>
-    ensures value { IfSome result (λ n. numbered front.now n ≡ Some line.now) }
-    ensures whole { (n : ℕ) → numbered front.now n ≡ Some line.now → result ≡ Some n }
+    ensures value { IfSome result (λ n. number_line front.now n ≡ Some line.now) }
+    ensures whole { (n : ℕ) → number_line front.now n ≡ Some line.now → result ≡ Some n }
 {
     let text = line.strip_prefix(front)?.strip_suffix(b"}".as_slice())?;
     natural_text(text)

@@ -16,13 +16,13 @@ use Rattle.toml.proofs.Views.{items_view-drop}
 use Rattle.mi_schema.specs.declared.document.Misread.{Misread}
 use Rattle.mi_schema.specs.declared.document.Misread.TheVariants as misread
 use Rattle.mi_schema.proofs.ListLaws.{any_of_map}
-use Rattle.mi_schema.specs.Members.{has_only, each, in_front, Fails}
+use Rattle.mi_schema.specs.Members.{has_no_other, each, in_front, Fails}
 use Rattle.mi_schema.specs.Reading.{document}
 
 -- each key is one of the names, so no member has another name
 pub has_only-keys : {A : Type 0} (f : A → List ℕ) (xs : List A) (es : List (String Global × Value))
-    → list_all (λ k. list_any (λ x. bytes_eq (string_bytes k) (f x)) xs) (keys_of es) ≡ has_only (map f xs) (members_view es)
-unfolding has_only
+    → list_all (λ k. list_any (λ x. bytes_eq (string_bytes k) (f x)) xs) (keys_of es) ≡ has_no_other (map f xs) (members_view es)
+unfolding has_no_other
 has_only-keys f xs [] = refl
 has_only-keys f xs (e ∷ es) =
     ap (λ b. b && list_all (λ k. list_any (λ x. bytes_eq (string_bytes k) (f x)) xs) (keys_of es)) (sym (any_of_map (bytes_eq (string_bytes e.0)) f xs))

@@ -28,15 +28,15 @@ abbrev pub are_no_twins : List TableDraft → Bool
 are_no_twins ts = are_distinct (map (λ t. t.name) ts) && list_all has_no_twins ts
 
 -- the words of types and of kinds
-abbrev pub type_of : List ℕ → Option ColumnType
-type_of word =
+abbrev pub type_named : List ℕ → Option ColumnType
+type_named word =
     if bytes_eq word (codes "int") then Some column.Int
     else if bytes_eq word (codes "text") then Some column.Text
     else if bytes_eq word (codes "flag") then Some column.Flag
     else None
 
-abbrev pub kind_of : List ℕ → Option IndexKind
-kind_of word =
+abbrev pub kind_named : List ℕ → Option IndexKind
+kind_named word =
     if bytes_eq word (codes "ordered") then Some Ordered
     else if bytes_eq word (codes "ranked") then Some Ranked
     else if bytes_eq word (codes "hashed") then Some Hashed
@@ -44,10 +44,10 @@ kind_of word =
     else None
 
 abbrev pub has_types : TableDraft → Bool
-has_types t = list_all (λ c. is_some (type_of c.kind)) t.columns
+has_types t = list_all (λ c. is_some (type_named c.kind)) t.columns
 
 abbrev pub has_kinds : TableDraft → Bool
-has_kinds t = list_all (λ i. is_some (kind_of i.kind)) t.indexes
+has_kinds t = list_all (λ i. is_some (kind_named i.kind)) t.indexes
 
 -- an entry of a key is a column's name, behind `-`, which is 45, where the part descends
 abbrev pub descends : List ℕ → Bool
@@ -63,34 +63,34 @@ abbrev pub column_number : List DraftColumn → List ℕ → ℕ
 column_number cs name = unwrap_or (position (λ c. bytes_eq c.name name) cs) (length cs)
 
 -- the entries of a key, none where there is no key
-abbrev pub entries : DraftIndex → List (List ℕ)
-entries i = unwrap_or i.key []
+abbrev pub key_entries : DraftIndex → List (List ℕ)
+key_entries i = unwrap_or i.key []
 
 -- the column of an entry
 abbrev pub entry_column : List DraftColumn → List ℕ → ℕ
 entry_column cs entry = column_number cs (named_column entry)
 
 -- no column is named twice
-abbrev pub names_each_once : List DraftColumn → List (List ℕ) → Bool
-names_each_once cs [] = true
-names_each_once cs (e ∷ es) = not (list_any (λ other. entry_column cs e == entry_column cs other) es) && names_each_once cs es
+abbrev pub are_named_once : List DraftColumn → List (List ℕ) → Bool
+are_named_once cs [] = true
+are_named_once cs (e ∷ es) = not (list_any (λ other. entry_column cs e == entry_column cs other) es) && are_named_once cs es
 
 -- one entry or more, of columns that are there, none of them named twice
 abbrev pub names_columns : List DraftColumn → List (List ℕ) → Bool
-names_columns cs es = nat_lt 0 (length es) && list_all (λ e. nat_lt (entry_column cs e) (length cs)) es && names_each_once cs es
+names_columns cs es = nat_lt 0 (length es) && list_all (λ e. nat_lt (entry_column cs e) (length cs)) es && are_named_once cs es
 
 -- a key for each kind but the sequenced, which has none and isn't unique; a hashed key has no descending part
-abbrev pub has_key_of : IndexKind → List DraftColumn → DraftIndex → Bool
-has_key_of Ordered cs i = names_columns cs (entries i)
-has_key_of Ranked cs i = names_columns cs (entries i)
-has_key_of Hashed cs i = names_columns cs (entries i) && list_all (λ e. not (descends e)) (entries i)
-has_key_of Sequenced cs i = not i.«unique» && is_none i.key
+abbrev pub has_key_for : IndexKind → List DraftColumn → DraftIndex → Bool
+has_key_for Ordered cs i = names_columns cs (key_entries i)
+has_key_for Ranked cs i = names_columns cs (key_entries i)
+has_key_for Hashed cs i = names_columns cs (key_entries i) && list_all (λ e. not (descends e)) (key_entries i)
+has_key_for Sequenced cs i = not i.«unique» && is_none i.key
 
 abbrev pub kind_or_sequenced : List ℕ → IndexKind
-kind_or_sequenced word = unwrap_or (kind_of word) Sequenced
+kind_or_sequenced word = unwrap_or (kind_named word) Sequenced
 
 abbrev pub has_key : List DraftColumn → DraftIndex → Bool
-has_key cs i = has_key_of (kind_or_sequenced i.kind) cs i
+has_key cs i = has_key_for (kind_or_sequenced i.kind) cs i
 
 abbrev pub has_index_keys : TableDraft → Bool
 has_index_keys t = list_all (has_key t.columns) t.indexes
@@ -99,7 +99,7 @@ has_index_keys t = list_all (has_key t.columns) t.indexes
 abbrev pub has_limits : TableDraft → Bool
 has_limits t =
     nat_lt 0 (length t.columns) && nat_le (length t.columns) MAX_COLUMNS && nat_le (length t.indexes) MAX_INDEXES
-    && list_all (λ i. nat_le (length (entries i)) MAX_KEY_PARTS) t.indexes
+    && list_all (λ i. nat_le (length (key_entries i)) MAX_KEY_PARTS) t.indexes
 
 abbrev pub are_few : List TableDraft → Bool
 are_few ts = nat_lt 0 (length ts) && nat_le (length ts) MAX_TABLES && list_all has_limits ts

@@ -17,7 +17,7 @@ use Rattle.mi_catalog.specs.declared.index.IndexKind.TheVariants.{Ranked}
 use Rattle.mi_catalog.specs.Shape.{Shape, CatalogShape, schema_at}
 use Rattle.mi_schema.specs.Draft.{TableDraft, CatalogDraft}
 use Rattle.mi_schema.specs.Members.{schema_draft, catalog_draft}
-use Rattle.mi_schema.specs.Checks.{type_of, kind_or_sequenced, descends, entries, entry_column, fault_of}
+use Rattle.mi_schema.specs.Checks.{type_named, kind_or_sequenced, descends, key_entries, entry_column, fault_of}
 
 -- The answer is what the definition gives, or in its place a fault for memory.
 abbrev pub IsSchemaAnswer : {A : Type 0} → Result A SchemaFault → Result A SchemaFault → Type 0
@@ -30,41 +30,41 @@ misread_fault misread.Shape = OtherShape
 misread_fault misread.Memory = Memory
 
 -- a column, of a word that the checks let through
-abbrev pub column_of : DraftColumn → Column
-column_of c = record { name = c.name; kind = unwrap_or (type_of c.kind) column.Int }
+abbrev pub column_from : DraftColumn → Column
+column_from c = record { name = c.name; kind = unwrap_or (type_named c.kind) column.Int }
 
 -- the part that an entry of a key is, and those of an index
-abbrev pub part_of : List DraftColumn → List ℕ → KeyPart
-part_of cs entry = record { column = entry_column cs entry; descending = descends entry }
+abbrev pub part_from : List DraftColumn → List ℕ → KeyPart
+part_from cs entry = record { column = entry_column cs entry; descending = descends entry }
 
-abbrev pub parts_of : List DraftColumn → DraftIndex → List KeyPart
-parts_of cs i = map (part_of cs) (entries i)
+abbrev pub parts_from : List DraftColumn → DraftIndex → List KeyPart
+parts_from cs i = map (part_from cs) (key_entries i)
 
-abbrev pub index_of : List DraftColumn → DraftIndex → Index
-index_of cs i = record { name = i.name; kind = kind_or_sequenced i.kind; «unique» = i.«unique»; parts = parts_of cs i }
+abbrev pub index_from : List DraftColumn → DraftIndex → Index
+index_from cs i = record { name = i.name; kind = kind_or_sequenced i.kind; «unique» = i.«unique»; parts = parts_from cs i }
 
 -- the index `id`, which stands before the declared ones
 abbrev pub id_index : Index
 id_index = record { name = codes "id"; kind = Ranked; «unique» = true; parts = [] }
 
 -- a table of a database that opens with this revision
-abbrev pub shape_of : ℕ → TableDraft → Shape
-shape_of revision t = record {
+abbrev pub shape_from : ℕ → TableDraft → Shape
+shape_from revision t = record {
   table_name = t.name;
-  columns = map column_of t.columns;
-  indexes = id_index ∷ map (index_of t.columns) t.indexes;
+  columns = map column_from t.columns;
+  indexes = id_index ∷ map (index_from t.columns) t.indexes;
   first_id = unsigned_abs t.first_id;
   first_arrival = unsigned_abs t.first_arrival;
   first_revision = revision;
   max_rows = unsigned_abs t.max_rows;
 }
 
-abbrev pub catalog_of : CatalogDraft → CatalogShape
-catalog_of d = record { tables = map (shape_of (unsigned_abs d.first_revision)) d.tables; first_revision = unsigned_abs d.first_revision }
+abbrev pub catalog_from : CatalogDraft → CatalogShape
+catalog_from d = record { tables = map (shape_from (unsigned_abs d.first_revision)) d.tables; first_revision = unsigned_abs d.first_revision }
 
 -- a draft that no check refuses
 abbrev pub checked : CatalogDraft → Option SchemaFault → Result CatalogShape SchemaFault
-checked d None = Ok (catalog_of d)
+checked d None = Ok (catalog_from d)
 checked d (Some e) = Err e
 
 abbrev pub of_draft : Option CatalogDraft → Result CatalogShape SchemaFault

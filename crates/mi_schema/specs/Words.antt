@@ -3,14 +3,14 @@ use Rattle.std.specs.Prelude.{ℕ, List, codes}
 use Rattle.mi_schema.specs.declared.fault.SchemaFault.{SchemaFault}
 use Rattle.mi_schema.specs.declared.fault.SchemaFault.TheVariants.{Toml, Shape, Name, Twice, ColType, Kind, Key, Limit, Number, Memory}
 
-abbrev pub word_of : SchemaFault → List ℕ
-word_of Toml = codes "toml"
-word_of Shape = codes "shape"
-word_of Name = codes "name"
-word_of Twice = codes "twice"
-word_of ColType = codes "type"
-word_of Kind = codes "kind"
-word_of Key = codes "key"
-word_of Limit = codes "limit"
-word_of Number = codes "number"
-word_of Memory = codes "memory"
+abbrev pub fault_word : SchemaFault → List ℕ
+fault_word Toml = codes "toml"
+fault_word Shape = codes "shape"
+fault_word Name = codes "name"
+fault_word Twice = codes "twice"
+fault_word ColType = codes "type"
+fault_word Kind = codes "kind"
+fault_word Key = codes "key"
+fault_word Limit = codes "limit"
+fault_word Number = codes "number"
+fault_word Memory = codes "memory"

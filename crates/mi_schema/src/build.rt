@@ -2,7 +2,7 @@
 ghost use Rattle.std.specs.Prelude.{◌≡◌, ◌∷◌, map, IfOk, IsTrue};
 ghost use Rattle.std.specs.List.{list_all};
 ghost use Rattle.mi_schema.specs.Reading as reading;
-ghost use Rattle.mi_schema.specs.Reading.{shape_of};
+ghost use Rattle.mi_schema.specs.Reading.{shape_from};
 ghost use Rattle.mi_catalog.specs.Rules.{is_schema};
 
 use crate::checks::{descends, entry_column, type_of};
@@ -12,7 +12,7 @@ use mi_value::{ColumnType, KeyPart, Text};
 use std::alloc::{AllocError, Global};
 
 fn column_of(alloc: Global, column: &DraftColumn) -> Result<Column, AllocError>
-    ensures { IfOk result (λ c. c ≡ reading.column_of column.now) }
+    ensures { IfOk result (λ c. c ≡ reading.column_from column.now) }
 {
     Ok(Column {
         name: column.name.copy(alloc)?,
@@ -21,7 +21,7 @@ fn column_of(alloc: Global, column: &DraftColumn) -> Result<Column, AllocError>
 }
 
 fn columns_of(alloc: Global, columns: &[DraftColumn]) -> Result<Vec<Column>, AllocError>
-    ensures { IfOk result (λ cs. cs.items ≡ map reading.column_of columns.now) }
+    ensures { IfOk result (λ cs. cs.items ≡ map reading.column_from columns.now) }
 {
     let mut made = Vec::new(alloc);
     for column in columns {
@@ -31,7 +31,7 @@ fn columns_of(alloc: Global, columns: &[DraftColumn]) -> Result<Vec<Column>, All
 }
 
 fn part_of(columns: &[DraftColumn], entry: &str) -> KeyPart
-    ensures { result ≡ reading.part_of columns.now entry.now }
+    ensures { result ≡ reading.part_from columns.now entry.now }
 {
     KeyPart {
         column: entry_column(columns, entry),
@@ -44,7 +44,7 @@ fn parts_of(
     columns: &[DraftColumn],
     entries: &[Text],
 ) -> Result<Vec<KeyPart>, AllocError>
-    ensures { IfOk result (λ ps. ps.items ≡ map (reading.part_of columns.now) entries.now) }
+    ensures { IfOk result (λ ps. ps.items ≡ map (reading.part_from columns.now) entries.now) }
 {
     entries
         .iter()
@@ -53,7 +53,7 @@ fn parts_of(
 }
 
 fn index_of(alloc: Global, columns: &[DraftColumn], index: &DraftIndex) -> Result<Index, AllocError>
-    ensures { IfOk result (λ i. i ≡ reading.index_of columns.now index.now) }
+    ensures { IfOk result (λ i. i ≡ reading.index_from columns.now index.now) }
 {
     Ok(Index {
         name: index.name.copy(alloc)?,
@@ -80,7 +80,7 @@ fn indexes_of(
     columns: &[DraftColumn],
     indexes: &[DraftIndex],
 ) -> Result<Vec<Index>, AllocError>
-    ensures { IfOk result (λ is. is.items ≡ reading.id_index ∷ map (reading.index_of columns.now) indexes.now) }
+    ensures { IfOk result (λ is. is.items ≡ reading.id_index ∷ map (reading.index_from columns.now) indexes.now) }
 {
     let mut made = Vec::new(alloc);
     made.push(id_index(alloc)?)?;
@@ -91,8 +91,8 @@ fn indexes_of(
 }
 
 fn schema_of(alloc: Global, first_revision: u64, table: &DraftTable) -> Result<Schema, AllocError>
-    requires { IsTrue (is_schema (shape_of first_revision table.now)) }
-    ensures { IfOk result (λ s. s ≡ shape_of first_revision table.now) }
+    requires { IsTrue (is_schema (shape_from first_revision table.now)) }
+    ensures { IfOk result (λ s. s ≡ shape_from first_revision table.now) }
 {
     let columns = table.columns.as_slice();
     Ok(Schema::new(
@@ -113,8 +113,8 @@ fn schemas_of(
     first_revision: u64,
     tables: &[DraftTable],
 ) -> Result<Vec<Schema>, AllocError>
-    requires { IsTrue (list_all (λ t. is_schema (shape_of first_revision t)) tables.now) }
-    ensures { IfOk result (λ ss. ss.items ≡ map (shape_of first_revision) tables.now) }
+    requires { IsTrue (list_all (λ t. is_schema (shape_from first_revision t)) tables.now) }
+    ensures { IfOk result (λ ss. ss.items ≡ map (shape_from first_revision) tables.now) }
 {
     let mut made = Vec::new(alloc);
     for table in tables {
@@ -126,12 +126,12 @@ fn schemas_of(
 impl Draft {
     ghost use Rattle.std.specs.Prelude.{◌≡◌, None, IfOk};
     ghost use Rattle.mi_schema.specs.Checks.{fault_of};
-    ghost use Rattle.mi_schema.specs.Reading.{catalog_of};
+    ghost use Rattle.mi_schema.specs.Reading.{catalog_from};
 
     /// The catalog that a draft describes, which no check refuses.
     pub(crate) fn catalog(&self, alloc: Global) -> Result<Catalog, AllocError>
         requires { fault_of self.now ≡ None }
-        ensures { IfOk result (λ c. c ≡ catalog_of self.now) }
+        ensures { IfOk result (λ c. c ≡ catalog_from self.now) }
     {
         let first_revision = self.first_revision.unsigned_abs();
         let tables = schemas_of(alloc, first_revision, self.tables.as_slice())?;

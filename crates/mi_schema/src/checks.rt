@@ -109,7 +109,7 @@ fn have_free_names<T: Named>(items: &[T]) -> bool
 
 /// The type of this word.
 pub(crate) fn type_of(word: &str) -> Option<ColumnType>
-    ensures { result ≡ checks.type_of word.now }
+    ensures { result ≡ checks.type_named word.now }
 {
     match word {
         "int" => Some(ColumnType::Int),
@@ -121,7 +121,7 @@ pub(crate) fn type_of(word: &str) -> Option<ColumnType>
 
 /// The kind of this word.
 pub(crate) fn kind_of(word: &str) -> Option<IndexKind>
-    ensures { result ≡ checks.kind_of word.now }
+    ensures { result ≡ checks.kind_named word.now }
 {
     match word {
         "ordered" => Some(IndexKind::Ordered),
@@ -179,7 +179,7 @@ fn names_column(columns: &[DraftColumn], entries: &[Text], column: usize) -> boo
 
 /// Whether no column is named twice.
 fn names_each_once(columns: &[DraftColumn], entries: &[Text]) -> bool
-    ensures { result ≡ checks.names_each_once columns.now entries.now }
+    ensures { result ≡ checks.are_named_once columns.now entries.now }
 {
     match entries.split_first() {
         None => true,
@@ -222,7 +222,7 @@ impl DraftIndex {
 
     /// The entries of the key, none where there is no key.
     pub(crate) fn entries(&self) -> &[Text]
-        ensures { result.now ≡ checks.entries self.now }
+        ensures { result.now ≡ checks.key_entries self.now }
     {
         match &self.key {
             Some(key) => key.as_slice(),
@@ -252,7 +252,7 @@ impl DraftIndex {
 
 /// Whether no key has more than 4 parts.
 fn have_few_parts(indexes: &[DraftIndex]) -> bool
-    ensures { result ≡ list_all (λ i. nat_le (length (checks.entries i)) MAX_KEY_PARTS) indexes.now }
+    ensures { result ≡ list_all (λ i. nat_le (length (checks.key_entries i)) MAX_KEY_PARTS) indexes.now }
 {
     indexes.iter().all(|i| i.entries().len() <= MAX_KEY_PARTS)
 }

@@ -4,7 +4,7 @@ ghost use Rattle.std.specs.List.{list_any, list_all};
 ghost use Rattle.std.specs.BTreeMap.{keys};
 ghost use Rattle.toml.specs.Data.{get_member, as_str, as_array, as_table, as_integer, as_bool};
 ghost use Rattle.toml.specs.View.{view, table_view, array_view, items_view};
-ghost use Rattle.mi_schema.specs.Members.{Gives, has_only, needed, default, each, list, key_draft, column_draft, index_draft};
+ghost use Rattle.mi_schema.specs.Members.{IsReadAs, has_no_other, required, or_default, each, array_of, key_draft, column_draft, index_draft};
 ghost use Rattle.mi_schema.specs.Members.{table_draft, one_table, named_table, several_tables, schema_draft, first_format, catalog_draft};
 ghost use Rattle.mi_schema.specs.declared.document.Misread.TheVariants as misread;
 
@@ -58,7 +58,7 @@ fn are_named(names: &[&str], members: &Table) -> bool
 
 /// Whether no member has another name than these.
 fn has_only(names: &[&str], members: &Table) -> bool
-    ensures { result ≡ has_only (map (λ n. n.now) names.now) (table_view members.now) }
+    ensures { result ≡ has_no_other (map (λ n. n.now) names.now) (table_view members.now) }
 {
     are_named(names, members)
 }
@@ -71,7 +71,7 @@ fn member<'a>(members: &'a Table, name: &str) -> Option<&'a Value>
 }
 
 fn text(alloc: Global, value: &Value) -> Result<Text, Misread>
-    ensures { Gives (λ t. t) result (as_str (view value.now)) }
+    ensures { IsReadAs (λ t. t) result (as_str (view value.now)) }
 {
     match value.as_str() {
         Some(text) => Ok(Text::of(alloc, text)?),
@@ -80,14 +80,14 @@ fn text(alloc: Global, value: &Value) -> Result<Text, Misread>
 }
 
 fn table(value: &Value) -> Result<&Table, Misread>
-    ensures { Gives (λ t. table_view t.now) result (as_table (view value.now)) }
+    ensures { IsReadAs (λ t. table_view t.now) result (as_table (view value.now)) }
 {
     value.as_table().ok_or(Misread::Shape)
 }
 
 /// The text of a member that has to be there.
 fn needed_text(alloc: Global, members: &Table, name: &str) -> Result<Text, Misread>
-    ensures { Gives (λ t. t) result (needed as_str name.now (table_view members.now)) }
+    ensures { IsReadAs (λ t. t) result (required as_str name.now (table_view members.now)) }
 {
     match member(members, name) {
         Some(value) => text(alloc, value),
@@ -97,7 +97,7 @@ fn needed_text(alloc: Global, members: &Table, name: &str) -> Result<Text, Misre
 
 /// The whole number of a member that may be absent.
 fn optional_number(members: &Table, name: &str, absent: i64) -> Result<i64, Misread>
-    ensures { Gives (λ n. n) result (default absent as_integer name.now (table_view members.now)) }
+    ensures { IsReadAs (λ n. n) result (or_default absent as_integer name.now (table_view members.now)) }
 {
     match member(members, name) {
         Some(value) => value.as_integer().ok_or(Misread::Shape),
@@ -107,7 +107,7 @@ fn optional_number(members: &Table, name: &str, absent: i64) -> Result<i64, Misr
 
 /// Whether a member that may be absent is true.
 fn optional_flag(members: &Table, name: &str) -> Result<bool, Misread>
-    ensures { Gives (λ b. b) result (default false as_bool name.now (table_view members.now)) }
+    ensures { IsReadAs (λ b. b) result (or_default false as_bool name.now (table_view members.now)) }
 {
     match member(members, name) {
         Some(value) => value.as_bool().ok_or(Misread::Shape),
@@ -116,13 +116,13 @@ fn optional_flag(members: &Table, name: &str) -> Result<bool, Misread>
 }
 
 fn array(value: &Value) -> Result<&Vec<Value>, Misread>
-    ensures { Gives (λ a. array_view a.now) result (as_array (view value.now)) }
+    ensures { IsReadAs (λ a. array_view a.now) result (as_array (view value.now)) }
 {
     value.as_array().ok_or(Misread::Shape)
 }
 
 fn texts(alloc: Global, values: &[Value]) -> Result<Vec<Text>, Misread>
-    ensures { Gives (λ ts. ts.items) result (each as_str (items_view values.now)) }
+    ensures { IsReadAs (λ ts. ts.items) result (each as_str (items_view values.now)) }
 {
     let mut texts = Vec::new(alloc);
     for value in values {
@@ -133,7 +133,7 @@ fn texts(alloc: Global, values: &[Value]) -> Result<Vec<Text>, Misread>
 
 /// The key of an index, if it has one.
 fn key(alloc: Global, members: &Table) -> Result<Option<Texts>, Misread>
-    ensures { Gives (λ k. k) result (default None key_draft (codes "key") (table_view members.now)) }
+    ensures { IsReadAs (λ k. k) result (or_default None key_draft (codes "key") (table_view members.now)) }
 {
     match member(members, "key") {
         Some(value) => Ok(Some(Texts::new(texts(alloc, array(value)?)?))),
@@ -143,7 +143,7 @@ fn key(alloc: Global, members: &Table) -> Result<Option<Texts>, Misread>
 
 #[tactic(auto, unfolding(crate::specs::Members::column_draft))]
 fn column(alloc: Global, value: &Value) -> Result<DraftColumn, Misread>
-    ensures { Gives (λ c. c) result (column_draft (view value.now)) }
+    ensures { IsReadAs (λ c. c) result (column_draft (view value.now)) }
 {
     let members = table(value)?;
     if !has_only(&["name", "type"], members) {
@@ -155,7 +155,7 @@ fn column(alloc: Global, value: &Value) -> Result<DraftColumn, Misread>
 }
 
 fn columns(alloc: Global, values: &[Value]) -> Result<Vec<DraftColumn>, Misread>
-    ensures { Gives (λ cs. cs.items) result (each column_draft (items_view values.now)) }
+    ensures { IsReadAs (λ cs. cs.items) result (each column_draft (items_view values.now)) }
 {
     let mut columns = Vec::new(alloc);
     for value in values {
@@ -166,7 +166,7 @@ fn columns(alloc: Global, values: &[Value]) -> Result<Vec<DraftColumn>, Misread>
 
 #[tactic(auto, unfolding(crate::specs::Members::index_draft))]
 fn index(alloc: Global, value: &Value) -> Result<DraftIndex, Misread>
-    ensures { Gives (λ i. i) result (index_draft (view value.now)) }
+    ensures { IsReadAs (λ i. i) result (index_draft (view value.now)) }
 {
     let members = table(value)?;
     if !has_only(&["name", "kind", "unique", "key"], members) {
@@ -185,7 +185,7 @@ fn index(alloc: Global, value: &Value) -> Result<DraftIndex, Misread>
 }
 
 fn indexes(alloc: Global, values: &[Value]) -> Result<Vec<DraftIndex>, Misread>
-    ensures { Gives (λ is. is.items) result (each index_draft (items_view values.now)) }
+    ensures { IsReadAs (λ is. is.items) result (each index_draft (items_view values.now)) }
 {
     let mut indexes = Vec::new(alloc);
     for value in values {
@@ -196,7 +196,7 @@ fn indexes(alloc: Global, values: &[Value]) -> Result<Vec<DraftIndex>, Misread>
 
 /// The columns, which have to be there.
 fn needed_columns(alloc: Global, members: &Table) -> Result<Vec<DraftColumn>, Misread>
-    ensures { Gives (λ cs. cs.items) result (needed (list column_draft) (codes "column") (table_view members.now)) }
+    ensures { IsReadAs (λ cs. cs.items) result (required (array_of column_draft) (codes "column") (table_view members.now)) }
 {
     match member(members, "column") {
         Some(value) => columns(alloc, array(value)?),
@@ -206,7 +206,7 @@ fn needed_columns(alloc: Global, members: &Table) -> Result<Vec<DraftColumn>, Mi
 
 /// The indexes, none where there is no such member.
 fn optional_indexes(alloc: Global, members: &Table) -> Result<Vec<DraftIndex>, Misread>
-    ensures { Gives (λ is. is.items) result (default [] (list index_draft) (codes "index") (table_view members.now)) }
+    ensures { IsReadAs (λ is. is.items) result (or_default [] (array_of index_draft) (codes "index") (table_view members.now)) }
 {
     match member(members, "index") {
         Some(value) => indexes(alloc, array(value)?),
@@ -217,7 +217,7 @@ fn optional_indexes(alloc: Global, members: &Table) -> Result<Vec<DraftIndex>, M
 /// A table of this name.
 #[tactic(auto, unfolding(crate::specs::Members::table_draft))]
 fn table_named(alloc: Global, name: Text, members: &Table) -> Result<DraftTable, Misread>
-    ensures { Gives (λ t. t) result (table_draft name (table_view members.now)) }
+    ensures { IsReadAs (λ t. t) result (table_draft name (table_view members.now)) }
 {
     let columns = needed_columns(alloc, members)?;
     let indexes = optional_indexes(alloc, members)?;
@@ -237,7 +237,7 @@ fn table_named(alloc: Global, name: Text, members: &Table) -> Result<DraftTable,
 /// A document of one table, whose other members are not looked at.
 #[tactic(auto, unfolding(crate::specs::Members::one_table))]
 fn one_table(alloc: Global, members: &Table) -> Result<Draft, Misread>
-    ensures { Gives (λ d. d) result (one_table (table_view members.now)) }
+    ensures { IsReadAs (λ d. d) result (one_table (table_view members.now)) }
 {
     let name = needed_text(alloc, members, "table")?;
     let table = table_named(alloc, name, members)?;
@@ -253,7 +253,7 @@ fn one_table(alloc: Global, members: &Table) -> Result<Draft, Misread>
 /// A table among several.
 #[tactic(auto, unfolding(crate::specs::Members::named_table))]
 fn named_table(alloc: Global, value: &Value) -> Result<DraftTable, Misread>
-    ensures { Gives (λ t. t) result (named_table (view value.now)) }
+    ensures { IsReadAs (λ t. t) result (named_table (view value.now)) }
 {
     let members = table(value)?;
     if !has_only(
@@ -274,7 +274,7 @@ fn named_table(alloc: Global, value: &Value) -> Result<DraftTable, Misread>
 }
 
 fn tables(alloc: Global, values: &[Value]) -> Result<Vec<DraftTable>, Misread>
-    ensures { Gives (λ ts. ts.items) result (each named_table (items_view values.now)) }
+    ensures { IsReadAs (λ ts. ts.items) result (each named_table (items_view values.now)) }
 {
     let mut tables = Vec::new(alloc);
     for value in values {
@@ -284,7 +284,7 @@ fn tables(alloc: Global, values: &[Value]) -> Result<Vec<DraftTable>, Misread>
 }
 
 fn needed_tables(alloc: Global, members: &Table) -> Result<Vec<DraftTable>, Misread>
-    ensures { Gives (λ ts. ts.items) result (needed (list named_table) (codes "table") (table_view members.now)) }
+    ensures { IsReadAs (λ ts. ts.items) result (required (array_of named_table) (codes "table") (table_view members.now)) }
 {
     match member(members, "table") {
         Some(value) => tables(alloc, array(value)?),
@@ -295,7 +295,7 @@ fn needed_tables(alloc: Global, members: &Table) -> Result<Vec<DraftTable>, Misr
 /// A document of several tables.
 #[tactic(auto, unfolding(crate::specs::Members::several_tables))]
 fn several_tables(alloc: Global, members: &Table) -> Result<Draft, Misread>
-    ensures { Gives (λ d. d) result (several_tables (table_view members.now)) }
+    ensures { IsReadAs (λ d. d) result (several_tables (table_view members.now)) }
 {
     if !has_only(&["format", "table", "first_revision"], members) {
         return Err(Misread::Shape);
@@ -311,7 +311,7 @@ fn several_tables(alloc: Global, members: &Table) -> Result<Draft, Misread>
 /// A document that is a schema.
 #[tactic(auto, unfolding(crate::specs::Members::schema_draft))]
 pub(crate) fn schema_draft(alloc: Global, members: &Table) -> Result<Draft, Misread>
-    ensures { Gives (λ d. d) result (schema_draft (table_view members.now)) }
+    ensures { IsReadAs (λ d. d) result (schema_draft (table_view members.now)) }
 {
     if !has_only(
         &[
@@ -333,7 +333,7 @@ pub(crate) fn schema_draft(alloc: Global, members: &Table) -> Result<Draft, Misr
 /// A document of one table that may name its format.
 #[tactic(auto, unfolding(crate::specs::Members::first_format))]
 fn first_format(alloc: Global, members: &Table) -> Result<Draft, Misread>
-    ensures { Gives (λ d. d) result (first_format (table_view members.now)) }
+    ensures { IsReadAs (λ d. d) result (first_format (table_view members.now)) }
 {
     if !has_only(
         &[
@@ -356,7 +356,7 @@ fn first_format(alloc: Global, members: &Table) -> Result<Draft, Misread>
 /// A document that is a catalog: of one table, in the format that is meant where none is named, or of several.
 #[tactic(auto, unfolding(crate::specs::Members::catalog_draft))]
 pub(crate) fn catalog_draft(alloc: Global, members: &Table) -> Result<Draft, Misread>
-    ensures { Gives (λ d. d) result (catalog_draft (table_view members.now)) }
+    ensures { IsReadAs (λ d. d) result (catalog_draft (table_view members.now)) }
 {
     let format = optional_number(members, "format", 1)?;
     if format == 1 {

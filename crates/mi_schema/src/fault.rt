@@ -1,6 +1,6 @@
 //! Why a document is no schema.
 ghost use Rattle.std.specs.Prelude.{◌≡◌};
-ghost use Rattle.mi_schema.specs.Words.{word_of};
+ghost use Rattle.mi_schema.specs.Words.{fault_word};
 ghost use Rattle.mi_schema.specs.declared.fault.SchemaFault.TheVariants.{Memory};
 
 use std::alloc::{AllocError, AllocFailed};
@@ -37,7 +37,7 @@ pub enum SchemaFault {
 impl SchemaFault {
     /// The word that stands for it in a message.
     pub fn word(&self) -> &'static str
-        ensures { result.now ≡ word_of self.now }
+        ensures { result.now ≡ fault_word self.now }
     {
         match self {
             SchemaFault::Toml => "toml",

@@ -5,7 +5,7 @@ ghost use Rattle.std.specs.declared.option.Option.{Option as Maybe};
 ghost use Rattle.std.specs.Option.{option_copied};
 ghost use Rattle.mi_value.specs.declared.refusal.Refusal.TheVariants.{Memory};
 ghost use Rattle.mi_catalog.specs.Fitting.{HasTable, IsKeyedIndex, IsHashedIndex, IsSortedIndex, IsSequencedIndex, IsListedIndex};
-ghost use Rattle.mi_catalog.specs.Fitting.{FitsTable, EditsFit, FitsWhole, FitsPrefix};
+ghost use Rattle.mi_catalog.specs.Fitting.{FitsTable, FitsEdits, FitsWhole, FitsPrefix};
 ghost use Rattle.mi_model.specs.Table.{get as get_row, has as has_row, size as size_of};
 ghost use Rattle.mi_model.specs.LookUp as look;
 ghost use Rattle.mi_model.specs.Walk.{rows_from};
@@ -88,7 +88,7 @@ pub trait Sessions {
         rollback: bool,
     ) -> Result<(), Refusal>
         requires table { HasTable (state self.old).catalog table }
-        requires edits { EditsFit (state self.old).catalog table edits.now }
+        requires edits { FitsEdits (state self.old).catalog table edits.now }
         ensures { Meets (modify_step table id edits.now rollback (state self.old)) result (state self.old) (state self.new) };
 
     /// Erases a record. Refusals: `NoId`, `Memory`.
@@ -204,14 +204,14 @@ pub trait Sessions {
         requires table { HasTable (state self.now).catalog table }
         requires index { IsHashedIndex (state self.now).catalog table index }
         requires key { FitsWhole (state self.now).catalog table index key.now }
-        ensures { result ≡ look.first_of (schema_of (state self.now) table) (table_of (state self.now) table) index key.now };
+        ensures { result ≡ look.first_with_key (schema_of (state self.now) table) (table_of (state self.now) table) index key.now };
 
     /// The id that follows another among those of its key in a hashed index, or none behind the last.
     fn next_of(&self, table: usize, index: usize, id: u64) -> Option<u64>
         requires table { HasTable (state self.now).catalog table }
         requires index { IsHashedIndex (state self.now).catalog table index }
         requires id { IsTrue (has_row (table_of (state self.now) table) id) }
-        ensures { result ≡ look.next_of (schema_of (state self.now) table) (table_of (state self.now) table) index id };
+        ensures { result ≡ look.next_with_key (schema_of (state self.now) table) (table_of (state self.now) table) index id };
 
     /// The id with n records before it in an ordered or ranked index, or none.
     fn nth(&self, table: usize, index: usize, n: u64) -> Option<u64>

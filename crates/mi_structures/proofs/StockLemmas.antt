@@ -16,11 +16,11 @@ use Rattle.mi_node.proofs.RefLemmas.{out_right, apart_insert, apart_remove}
 use Rattle.mi_tree.specs.BinaryTree.{nth_of}
 use Rattle.mi_tree.specs.Sorted.{NoneAre, IsPutIn, compared, stamped, by_stamp, item_of, side_of_new}
 use Rattle.mi_tree.specs.Probed.{first_where}
-use Rattle.mi_tree.specs.Standing.{IsTree, CanJoin}
+use Rattle.mi_tree.specs.Standing.{IsTree, CanInsert}
 use Rattle.mi_tree.specs.Frame.{AreAlike}
-use Rattle.mi_structures.specs.Keyed.{keyed_order, key_tag}
+use Rattle.mi_structures.specs.Keyed.{keyed_order, keyed_tag}
 use Rattle.mi_structures.specs.KeyedLaws.{tag_below}
-use Rattle.mi_structures.specs.Stock.{AllHeldIn, stamp_of, IsStock}
+use Rattle.mi_structures.specs.Stock.{AllHeldIn, stock_stamp, IsStock}
 use Rattle.mi_tree.specs.Walking.{Pending, ArePending, IsWalk, ahead}
 use Rattle.mi_tree.specs.declared.tree.Tree.{Tree}
 use Rattle.mi_tree.specs.declared.walk.Direction.{Direction}
@@ -65,7 +65,7 @@ held_where : (m n : Pool) (rs : List Ref) → ((k : ℕ) → ref_of n k ≡ ref_
 held_where m n [] e h = tt
 held_where m n (r ∷ rs) e h = (e r.name ∙ h.0, held_where m n rs e h.1)
 
-tree_held : {O : Type 0} (b : Bool) (l : Tree O) (m : Pool) (rs : List Ref) → IsTree l m keyed_order (key_tag b) rs → AllHeldIn m rs
+tree_held : {O : Type 0} (b : Bool) (l : Tree O) (m : Pool) (rs : List Ref) → IsTree l m keyed_order (keyed_tag b) rs → AllHeldIn m rs
 tree_held b l m rs h = held_in m rs (subst (AreHeld m) h.nodes_are (all_held m l.slot h.shape h.rooted.stands))
 
 -- a free name is no held node's
@@ -131,15 +131,15 @@ module _ {O : Type 0} {b : Bool} {l : Tree O} {m n : Pool} {out : List Ref} {nex
     differs_new rs w.1,
   )
 
-  pub tree_added : IsTree l n keyed_order (key_tag b) h.rs
-  tree_added = subst (λ k. IsTree l k keyed_order (key_tag b) h.rs) (sym is)
-      (tree_where keyed_order (key_tag b) keyed_total (tag_below b) l m (taken m r v) h.rs h.tree
+  pub tree_added : IsTree l n keyed_order (keyed_tag b) h.rs
+  tree_added = subst (λ k. IsTree l k keyed_order (keyed_tag b) h.rs) (sym is)
+      (tree_where keyed_order (keyed_tag b) keyed_total (tag_below b) l m (taken m r v) h.rs h.tree
       (alike_new h.rs here) (subst (λ k. l.slot < k) (sym (slots-taken m r v)) h.tree.has_slot))
 
-  pub may_add : CanJoin n l.slot keyed_order r next h.rs
+  pub may_add : CanInsert n l.slot keyed_order r next h.rs
   may_add =
       let few = h.few in let c = h.counted in
-      subst (λ k. CanJoin k l.slot keyed_order r next h.rs) (sym is) (subst (λ s. CanJoin (taken m r v) s keyed_order r next h.rs) (sym h.slot) (record {
+      subst (λ k. CanInsert k l.slot keyed_order r next h.rs) (sym is) (subst (λ s. CanInsert (taken m r v) s keyed_order r next h.rs) (sym h.slot) (record {
         held = held_taken m r v;
         out = names_free m r.name h.rs free here;
         differs = differs_new h.rs here;
@@ -147,7 +147,7 @@ module _ {O : Type 0} {b : Bool} {l : Tree O} {m n : Pool} {out : List Ref} {nex
       }))
 
   pub has_added : (j : Tree O) (p : Pool) (us : List Ref) → IsPutIn (side_of_new keyed_order n l.slot r next) r h.rs us
-      → IsTree j p keyed_order (key_tag b) us → Keeps n p l.slot (r ∷ h.rs)
+      → IsTree j p keyed_order (keyed_tag b) us → Keeps n p l.slot (r ∷ h.rs)
       → (link_of p r.name l.slot).tag.stamp ≡ next → ((k : ℕ) → (k == r.name) ≡ false → (link_of p k l.slot).tag ≡ (link_of n k l.slot).tag)
       → j.slot ≡ l.slot → IsStock b j p out (next + 1)
   has_added j p us put tree keeps stamp tags slot = record {
@@ -175,9 +175,9 @@ module _ {O : Type 0} {b : Bool} {l : Tree O} {m n : Pool} {out : List Ref} {nex
           (apart_insert (out ++ put.xs) r put.ys (subst IsApart e h.apart)
           (subst (IsOut r.name) e (names_free m r.name (out ++ h.rs) free (held_both m out h.rs h.held here))))
 
-      which : (x : Ref) → IsHeld p x → ((x.name ≡ r.name) × (stamp_of p x ≡ next)) ⊎ (IsHeld m x × (stamp_of p x ≡ stamp_of m x))
+      which : (x : Ref) → IsHeld p x → ((x.name ≡ r.name) × (stock_stamp p x ≡ next)) ⊎ (IsHeld m x × (stock_stamp p x ≡ stock_stamp m x))
       which x w = (elim (r.name == x.name)
-          as (λ z. (r.name == x.name) ≡ z → ((x.name ≡ r.name) × (stamp_of p x ≡ next)) ⊎ (IsHeld m x × (stamp_of p x ≡ stamp_of m x))) [
+          as (λ z. (r.name == x.name) ≡ z → ((x.name ≡ r.name) × (stock_stamp p x ≡ next)) ⊎ (IsHeld m x × (stock_stamp p x ≡ stock_stamp m x))) [
             | true ↦ λ f.
                 let same = sym (same_name r.name x.name f) in
                 inl (same, ap (λ k. (link_of p k 1).tag.stamp) same ∙ subst (λ s. (link_of p r.name s).tag.stamp ≡ next) h.slot stamp)
@@ -189,13 +189,13 @@ module _ {O : Type 0} {b : Bool} {l : Tree O} {m n : Pool} {out : List Ref} {nex
             )
           ]) refl
 
-      below : (x : Ref) → IsHeld p x → stamp_of p x < next + 1
+      below : (x : Ref) → IsHeld p x → stock_stamp p x < next + 1
       below x w = elim (which x w) [
         | inl a ↦ let e = a.1 in omega arith
         | inr a ↦ let e = a.1 in let lt = h.below x a.0 in omega arith
       ]
 
-      unique : (x y : Ref) → IsHeld p x → IsHeld p y → stamp_of p x ≡ stamp_of p y → x.name ≡ y.name
+      unique : (x y : Ref) → IsHeld p x → IsHeld p y → stock_stamp p x ≡ stock_stamp p y → x.name ≡ y.name
       unique x y f g e = elim (which x f) [
         | inl a ↦ elim (which y g) [
           | inl c ↦ a.0 ∙ sym c.0
@@ -211,10 +211,10 @@ module _ {O : Type 0} {b : Bool} {l : Tree O} {m n : Pool} {out : List Ref} {nex
 module _ {O : Type 0} {b : Bool} {l : Tree O} (j : Tree O) {m : Pool} (p : Pool) {out : List Ref} {next : ℕ} (h : IsStock b l m out next)
     (refs : (k : ℕ) → ref_of p k ≡ ref_of m k) (stamps : (k : ℕ) → (link_of p k l.slot).tag.stamp ≡ (link_of m k l.slot).tag.stamp)
     (slot : j.slot ≡ l.slot) where
-  same_stamp : (x : Ref) → stamp_of p x ≡ stamp_of m x
+  same_stamp : (x : Ref) → stock_stamp p x ≡ stock_stamp m x
   same_stamp x = subst (λ s. (link_of p x.name s).tag.stamp ≡ (link_of m x.name s).tag.stamp) h.slot (stamps x.name)
 
-  stock_kept : (os us : List Ref) → IsTree j p keyed_order (key_tag b) us → AllHeldIn m os
+  stock_kept : (os us : List Ref) → IsTree j p keyed_order (keyed_tag b) us → AllHeldIn m os
       → IsApart (os ++ us) → length os + length us ≤ next → IsStock b j p os next
   stock_kept os us tree held apart counted = record {
     rs = us;
@@ -230,7 +230,7 @@ module _ {O : Type 0} {b : Bool} {l : Tree O} (j : Tree O) {m : Pool} (p : Pool)
 
 -- a node that goes back into the tree
 module _ {O : Type 0} {b : Bool} {l : Tree O} {m : Pool} {out : List Ref} (os : List Ref) {next : ℕ} (r : Ref)
-    {stamp : ℕ} (h : IsStock b l m out next) (is : out ≡ os ++ r ∷ []) (had : stamp ≡ stamp_of m r) where
+    {stamp : ℕ} (h : IsStock b l m out next) (is : out ≡ os ++ r ∷ []) (had : stamp ≡ stock_stamp m r) where
   put_held : AllHeldIn m (os ++ r ∷ [])
   put_held = subst (AllHeldIn m) is h.held
 
@@ -253,10 +253,10 @@ module _ {O : Type 0} {b : Bool} {l : Tree O} {m : Pool} {out : List Ref} (os : 
   out_put : IsOut r.name h.rs
   out_put = out_right r.name os h.rs (apart_remove os r h.rs put_apart).1
 
-  pub may_put : CanJoin m l.slot keyed_order r stamp h.rs
+  pub may_put : CanInsert m l.slot keyed_order r stamp h.rs
   may_put =
       let few = h.few in let c = h.counted in let long = ap length is in let j = length-append os (r ∷ []) in
-      subst (λ s. CanJoin m s keyed_order r stamp h.rs) (sym h.slot) (record {
+      subst (λ s. CanInsert m s keyed_order r stamp h.rs) (sym h.slot) (record {
         held = last_held;
         out = out_put;
         differs = differs_put h.rs (tree_held b l m h.rs h.tree) out_put;
@@ -264,7 +264,7 @@ module _ {O : Type 0} {b : Bool} {l : Tree O} {m : Pool} {out : List Ref} (os : 
       })
 
   pub has_put : (j : Tree O) (p : Pool) (us : List Ref) → IsPutIn (side_of_new keyed_order m l.slot r stamp) r h.rs us
-      → IsTree j p keyed_order (key_tag b) us → Keeps m p l.slot (r ∷ h.rs)
+      → IsTree j p keyed_order (keyed_tag b) us → Keeps m p l.slot (r ∷ h.rs)
       → (link_of p r.name l.slot).tag.stamp ≡ stamp
       → ((k : ℕ) → (k == r.name) ≡ false → (link_of p k l.slot).tag ≡ (link_of m k l.slot).tag) → j.slot ≡ l.slot → IsStock b j p os next
   has_put j p us put tree keeps now tags slot =
@@ -284,7 +284,7 @@ module _ {O : Type 0} {b : Bool} {l : Tree O} {m : Pool} {out : List Ref} (os : 
 
 -- a node that comes out of the tree
 module _ {O : Type 0} {b : Bool} {l j : Tree O} {m p : Pool} {out : List Ref} {next : ℕ} (r : Ref) (h : IsStock b l m out next)
-    (xs ys : List Ref) (is : h.rs ≡ xs ++ r ∷ ys) (tree : IsTree j p keyed_order (key_tag b) (xs ++ ys)) (keeps : Keeps m p l.slot (xs ++ ys))
+    (xs ys : List Ref) (is : h.rs ≡ xs ++ r ∷ ys) (tree : IsTree j p keyed_order (keyed_tag b) (xs ++ ys)) (keeps : Keeps m p l.slot (xs ++ ys))
     (tags : (k : ℕ) → (link_of p k l.slot).tag ≡ (link_of m k l.slot).tag) (slot : j.slot ≡ l.slot) where
   pull_cut : IsApart (out ++ (xs ++ ys)) × IsOut r.name (out ++ (xs ++ ys))
   pull_cut =
@@ -318,7 +318,7 @@ stock_new b l m out root slot e none =
     let slots : m.slots ≡ 2 = ap (λ (z : Pool). z.slots) e ∙ slots-no_nodes (ℕ × ℕ) 2 in
     let nobody : (x : Ref) → IsHeld m x → ⊥ = λ x w. none_ref x (sym (ap (λ z. ref_of z x.name) e ∙ ref-no_nodes (ℕ × ℕ) 2 x.name) ∙ w) in record {
       rs = [];
-      tree = tree_empty l m keyed_order (key_tag b) root (let f : l.slot < m.slots = omega arith in f);
+      tree = tree_empty l m keyed_order (keyed_tag b) root (let f : l.slot < m.slots = omega arith in f);
       slot = slot;
       held = subst (AllHeldIn m) (sym none) tt;
       apart = subst (λ k. IsApart (k ++ [])) (sym none) tt;
@@ -354,20 +354,20 @@ before_in m at (r ∷ rs) g h = before_in m (Some r) rs h.0 h.1
 pub record StandsIn {O : Type 0} (b : Bool) (l : Tree O) (m : Pool) (rs : List Ref) (r : Ref) : Type 0 where
   pub xs : List Ref
   pub ys : List Ref
-  pub tree : IsTree l m keyed_order (key_tag b) (xs ++ r ∷ ys)
+  pub tree : IsTree l m keyed_order (keyed_tag b) (xs ++ r ∷ ys)
   pub is : rs ≡ xs ++ r ∷ ys
 
 module _ {O : Type 0} {b : Bool} {l : Tree O} {m : Pool} {out : List Ref} {next : ℕ} (h : IsStock b l m out next) where
   -- the tree stands in the pool, as it is read
-  pub tree_read : {z : Pool} → z ≡ m → IsTree l z keyed_order (key_tag b) h.rs
-  tree_read e = subst (λ k. IsTree l k keyed_order (key_tag b) h.rs) (sym e) h.tree
+  pub tree_read : {z : Pool} → z ≡ m → IsTree l z keyed_order (keyed_tag b) h.rs
+  tree_read e = subst (λ k. IsTree l k keyed_order (keyed_tag b) h.rs) (sym e) h.tree
 
   -- and so does the node of a rank
-  pub nth_stands : {y z : Pool} (n : ℕ) {o : Option Ref} {r : Ref} → z ≡ m → y ≡ z → (IsTree l z keyed_order (key_tag b) h.rs → o ≡ nth_of h.rs n)
+  pub nth_stands : {y z : Pool} (n : ℕ) {o : Option Ref} {r : Ref} → z ≡ m → y ≡ z → (IsTree l z keyed_order (keyed_tag b) h.rs → o ≡ nth_of h.rs n)
       → o ≡ Some r → StandsIn b l y h.rs r
   nth_stands {y} {z} n {o} {r} e same is some =
       let i = nth_split h.rs n r (sym some ∙ is (tree_read e)) in
-      record { xs = i.0; ys = i.1; tree = subst (IsTree l y keyed_order (key_tag b)) i.2 (tree_read (same ∙ e)); is = i.2 }
+      record { xs = i.0; ys = i.1; tree = subst (IsTree l y keyed_order (keyed_tag b)) i.2 (tree_read (same ∙ e)); is = i.2 }
 
   all_in : AllHeldIn m h.rs
   all_in = tree_held b l m h.rs h.tree

@@ -1,6 +1,6 @@
 -- An order for tests: a value is a key and an id, and keys alone are compared.
 --     keyed_order, by_probe      how two values compare; where one stands beside a probe, of which the first value counts
---     key_tag      the key, or one tag for all
+--     keyed_tag      the key, or one tag for all
 use Rattle.std.specs.Prelude.{ℕ, Bool, true, false, pos, List, [], ◌∷◌}
 use Rattle.std.specs.declared.cmp.Ordering.{Ordering}
 use Rattle.std.specs.declared.cmp.Ordering.TheVariants.{Equal}
@@ -24,6 +24,6 @@ abbrev pub by_probe : ℕ → Probe → Ordering
 by_probe n (Key vs) = by_values n vs.now
 by_probe n (Of r) = Equal
 
-abbrev pub key_tag : Bool → ℕ × ℕ → ℕ
-key_tag false x = 0
-key_tag true x = x.0
+abbrev pub keyed_tag : Bool → ℕ × ℕ → ℕ
+keyed_tag false x = 0
+keyed_tag true x = x.0

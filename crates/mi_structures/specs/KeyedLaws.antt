@@ -10,13 +10,13 @@ use Rattle.mi_value.specs.declared.value.Value.TheVariants.{Int, Text, Flag}
 use Rattle.mi_value.specs.declared.bound.Probe.{Probe}
 use Rattle.mi_value.specs.declared.bound.Probe.TheVariants.{Key, Of}
 use Rattle.mi_tree.specs.Order.{IsNoLater, IsMonotone, IsTagBelow, IsExact}
-use Rattle.mi_structures.specs.Keyed.{keyed_order, by_values, by_probe, key_tag}
+use Rattle.mi_structures.specs.Keyed.{keyed_order, by_values, by_probe, keyed_tag}
 
-pub tag_below : (b : Bool) → IsTagBelow keyed_order (key_tag b)
+pub tag_below : (b : Bool) → IsTagBelow keyed_order (keyed_tag b)
 tag_below false x y h = absurd (omega arith)
 tag_below true x y h = grind (arith, nat_tests)
 
-pub tag_exact : (b : Bool) → IsExact keyed_order (key_tag b) (λ t. b)
+pub tag_exact : (b : Bool) → IsExact keyed_order (keyed_tag b) (λ t. b)
 tag_exact false x y e f = absurd cc
 tag_exact true x y e f = grind (arith, nat_tests)
 
@@ -49,5 +49,5 @@ probe_later (Key vs) x y n = values_later x.0 y.0 vs.now n
 probe_later (Of r) x y n = tt
 
 -- where a probe has no tag nothing is owed of it
-pub no_tag : {X : Type 0} (t : ℕ) → None ≡ Some t → X
-no_tag t e = absurd cc
+pub without_tag : {X : Type 0} (t : ℕ) → None ≡ Some t → X
+without_tag t e = absurd cc

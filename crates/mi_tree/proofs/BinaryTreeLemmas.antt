@@ -5,9 +5,9 @@ use Rattle.mi_node.specs.Neighbours.{AreHeld}
 use Rattle.mi_node.specs.Pool.{Pooled, link_of, IsHeld, IsHeldIf}
 use Rattle.mi_node.specs.Refs.{Ref, first_of, last_of}
 use Rattle.mi_node.specs.declared.link.Link.{Link}
-use Rattle.mi_tree.specs.BinaryTree.{BinaryTree, Tip, Fork, nodes, top, size, height, fork_link, nth_of, Stands, IsRooted, size_at, height_at}
+use Rattle.mi_tree.specs.BinaryTree.{BinaryTree, Tip, Fork, nodes, top, forks, height, fork_link, nth_of, Stands, IsRooted, size_at, height_at}
 
-pub size-nodes : (t : BinaryTree) → size t ≡ length (nodes t)
+pub size-nodes : (t : BinaryTree) → forks t ≡ length (nodes t)
 size-nodes Tip = refl
 size-nodes (Fork l r q) = let a = size-nodes l in let b = size-nodes q in let e = length-append (nodes l) (r ∷ nodes q) in omega arith
 
@@ -60,7 +60,7 @@ module _ {T : Type 0} where
   pub moved : (m n : Pooled T) (s : ℕ) (o p : Option Ref) (t : BinaryTree) → m ≡ n → o ≡ p → IsRooted m s o t → IsRooted n s p t
   moved m n s o p t e f h = subst (λ (z : Pooled T × Option Ref). IsRooted z.0 s z.1 t) (λ i. (e i, f i)) h
 
-  size-top : (m : Pooled T) (s : ℕ) (t : BinaryTree) → Stands m s t → size_at m s (top t) ≡ size t
+  size-top : (m : Pooled T) (s : ℕ) (t : BinaryTree) → Stands m s t → size_at m s (top t) ≡ forks t
   size-top m s Tip h = refl
   size-top m s (Fork l r q) h = ap (λ (y : Link). y.size) h.1
 
@@ -72,7 +72,7 @@ module _ {T : Type 0} where
   held-top m s Tip h = tt
   held-top m s (Fork l r q) h = h.0
 
-  pub size-root : (m : Pooled T) (s : ℕ) (o : Option Ref) (t : BinaryTree) → IsRooted m s o t → size_at m s o ≡ size t
+  pub size-root : (m : Pooled T) (s : ℕ) (o : Option Ref) (t : BinaryTree) → IsRooted m s o t → size_at m s o ≡ forks t
   size-root m s o t h = ap (size_at m s) h.root ∙ size-top m s t h.stands
 
   pub height-root : (m : Pooled T) (s : ℕ) (o : Option Ref) (t : BinaryTree) → IsRooted m s o t → height_at m s o ≡ height t
@@ -143,7 +143,7 @@ module _ {T : Type 0} where
     pub left : IsRooted m s y.back A
     pub right : IsRooted m s y.forth B
     pub link_is : y ≡ fork_link A B y.tag
-    pub size_is : y.size ≡ size A + size B + 1
+    pub size_is : y.size ≡ forks A + forks B + 1
     pub height_is : height u ≡ max (height A) (height B) + 1
     pub left_height : height_at m s y.back ≡ height A
     pub right_height : height_at m s y.forth ≡ height B

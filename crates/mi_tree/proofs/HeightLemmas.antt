@@ -3,7 +3,7 @@
 --     short, shorter, low_enough      its height, by the number of binary digits of its size, and for fewer than 2^32 nodes
 use Rattle.std.proofs.Common.{◌≡◌, ℕ, zero, suc, ◌+◌, ◌*◌, ◌^◌, ◌<◌, ◌≤◌, max, ◌⊎◌, inl, inr, refl, sym, subst, arith}
 use Rattle.std.proofs.Math.Nat.{pow-suc}
-use Rattle.mi_tree.specs.BinaryTree.{BinaryTree, Tip, Fork, size, height, DifferByAtMost, IsEven}
+use Rattle.mi_tree.specs.BinaryTree.{BinaryTree, Tip, Fork, forks, height, DifferByAtMost, IsEven}
 use Rattle.mi_tree.specs.Height.{fib, HasEnough}
 
 pub at_most_or_more : (a b : ℕ) → (a ≤ b) ⊎ (b + 1 ≤ a)
@@ -39,7 +39,7 @@ pub has_enough : HasEnough
 has_enough Tip e = omega arith
 has_enough (Fork l r q) e =
     let i = has_enough l e.1 in let j = has_enough q e.2 in
-    let w = fork_has (height l) (height q) (size l + 1) (size q + 1) (max (height l) (height q) + 1) refl e.0 i j in omega arith
+    let w = fork_has (height l) (height q) (forks l + 1) (forks q + 1) (max (height l) (height q) + 1) refl e.0 i j in omega arith
 
 -- a Fibonacci number that has passed a power of two
 passed : (b n : ℕ) → n ≡ 2 * b → 2 ^ b < fib (suc (suc (suc n)))
@@ -50,7 +50,7 @@ passed (suc b) (suc zero) e = absurd (omega arith)
 passed (suc b) (suc (suc n)) e =
     let i = passed b n (omega arith) in let j = fib_two (suc (suc (suc n))) in let k = fib_two (suc (suc n)) in let p = pow-suc 2 b in omega arith
 
-pub short : (t : BinaryTree) → IsEven t → (b : ℕ) → size t < 2 ^ b → height t ≤ 2 * b
+pub short : (t : BinaryTree) → IsEven t → (b : ℕ) → forks t < 2 ^ b → height t ≤ 2 * b
 short t e b h = elim (at_most_or_more (height t) (2 * b)) [
   | inl i ↦ i
   | inr i ↦
@@ -69,7 +69,7 @@ passed_less (suc b) (suc (suc n)) e =
     let i = passed_less b n (omega arith) in let j = fib_two (suc (suc (suc (suc n)))) in let k = fib_two (suc (suc (suc n))) in let p = pow-suc 2 (suc b) in
     omega arith
 
-pub shorter : (t : BinaryTree) → IsEven t → (b : ℕ) → size t < 2 ^ b → 1 ≤ size t → height t + 1 ≤ 2 * b
+pub shorter : (t : BinaryTree) → IsEven t → (b : ℕ) → forks t < 2 ^ b → 1 ≤ forks t → height t + 1 ≤ 2 * b
 shorter t e zero h k = absurd (omega arith)
 shorter t e (suc b) h k = elim (at_most_or_more (height t + 1) (2 * suc b)) [
   | inl i ↦ i
@@ -79,7 +79,7 @@ shorter t e (suc b) h k = elim (at_most_or_more (height t + 1) (2 * suc b)) [
       absurd (omega arith)
 ]
 
-pub low_enough : (t : BinaryTree) → IsEven t → size t < 2 ^ 32 → height t ≤ 45
+pub low_enough : (t : BinaryTree) → IsEven t → forks t < 2 ^ 32 → height t ≤ 45
 low_enough t e h = elim (at_most_or_more (height t) 45) [
   | inl i ↦ i
   | inr i ↦ let j = has_enough t e in let k : fib 48 ≤ fib (suc (suc (height t))) = (fib_mono 48 (suc (suc (height t))) (omega arith)).0 in absurd (omega arith)

@@ -7,7 +7,7 @@ use Rattle.mi_node.proofs.EntryLemmas.{link_here, link_there, same_name}
 use Rattle.mi_node.proofs.KeepingLemmas.{keeps_link, held_kept}
 use Rattle.mi_node.specs.Refs.{Ref, IsOut, IsApart, AreOut}
 use Rattle.mi_node.proofs.RefLemmas.{out_left, out_right, between, are_out_none, are_out_cons}
-use Rattle.mi_tree.specs.BinaryTree.{BinaryTree, Tip, Fork, nodes, size, height, fork_link, Stands, IsRooted, size_at, height_at}
+use Rattle.mi_tree.specs.BinaryTree.{BinaryTree, Tip, Fork, nodes, forks, height, fork_link, Stands, IsRooted, size_at, height_at}
 use Rattle.mi_tree.specs.Joining.{Two, IsFork, Three, Four}
 use Rattle.mi_tree.specs.Sorted.{SameTags}
 use Rattle.mi_tree.proofs.BinaryTreeLemmas.{size-root, height-root}
@@ -86,7 +86,7 @@ module _ {T : Type 0} where
 
   -- two trees and a node that stand apart and are small enough may be put together
   pub two : {m : Pooled T} {s : ℕ} {a : Option Ref} {x : Ref} {b : Option Ref} {A B : BinaryTree} → IsRooted m s a A → IsHeld m x → IsRooted m s b B
-      → IsApart (nodes A ++ x ∷ nodes B) → size A + size B + 1 < 2 ^ 32 → (height A < 255) × (height B < 255) → Two m s a x b A B
+      → IsApart (nodes A ++ x ∷ nodes B) → forks A + forks B + 1 < 2 ^ 32 → (height A < 255) × (height B < 255) → Two m s a x b A B
   two {x = x} {A = A} {B} f h g apart fits low = let w = between (nodes A) x (nodes B) apart in
       record { first = f; held = h; second = g; out_first = w.out_left; out_second = w.out_right; fits = fits; low = low }
 

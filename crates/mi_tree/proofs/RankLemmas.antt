@@ -7,7 +7,7 @@ use Rattle.std.specs.Cmp.{IsTotalOrder}
 use Rattle.mi_node.specs.Pool.{Pooled, link_of, IsHeld}
 use Rattle.mi_node.specs.Refs.{Ref}
 use Rattle.mi_node.specs.declared.link.Link.{Link}
-use Rattle.mi_tree.specs.BinaryTree.{BinaryTree, nodes, size, height, IsRooted, size_at, height_at}
+use Rattle.mi_tree.specs.BinaryTree.{BinaryTree, nodes, forks, height, IsRooted, size_at, height_at}
 use Rattle.mi_tree.specs.Sorted.{Rising, HasTag, AreTagged, side}
 use Rattle.mi_tree.proofs.BinaryTreeLemmas.{moved, tip_is, same_tree, Sides, sides, size-root, height-root, size-nodes}
 use Rattle.mi_tree.proofs.SortedLemmas.{side_order, tagged_left, tagged_right, rising_left, rising_right, where_is, go_left, go_here, go_right, none_here}
@@ -26,7 +26,7 @@ module _ {T : Type 0} where
     pub t : BinaryTree
     pub u : BinaryTree
     pub whole : IsRooted m s root t
-    pub few : size t < 2 ^ 32
+    pub few : forks t < 2 ^ 32
     pub rooted : IsRooted m s at u
     pub rising : Rising (side order m s) (nodes u)
     pub tagged : AreTagged tag m s (nodes u)
@@ -41,7 +41,7 @@ module _ {T : Type 0} where
   tag_in m s tag xs x ys us e h = (tagged_right tag m s xs (x ∷ ys) (subst (AreTagged tag m s) e h)).0
 
   module _ {m : Pooled T} {s : ℕ} {order : T → T → Ordering} {tag : T → ℕ} {node : Ref} {root : Option Ref} where
-    pub rank_start : (t : BinaryTree) (xs ys : List Ref) → IsRooted m s root t → size t < 2 ^ 32
+    pub rank_start : (t : BinaryTree) (xs ys : List Ref) → IsRooted m s root t → forks t < 2 ^ 32
         → Rising (side order m s) (nodes t) → AreTagged tag m s (nodes t) → nodes t ≡ xs ++ node ∷ ys → (a b : ℕ)
         → Ranking m s order tag node root root 0 a a b b
     rank_start t xs ys h f up tags e a b = record {
@@ -97,7 +97,7 @@ module _ {T : Type 0} where
             p.ws rank_all less (where_is (nodes (o).A) r (nodes (o).B) p.vs node p.ws (sym rank_names ∙ p.is)) in
             record { vs = p.vs; ws = on.0; is = on.1; count = p.count }
 
-        right_part : side order m s node r ≡ Greater → (xs : List Ref) → IsPart node (nodes h.u) n xs → IsPart node (nodes (o).B) (n + (size (o).A + 1)) xs
+        right_part : side order m s node r ≡ Greater → (xs : List Ref) → IsPart node (nodes h.u) n xs → IsPart node (nodes (o).B) (n + (forks (o).A + 1)) xs
         right_part more xs p =
             let on = go_right (side order m s) (side_order order m s total) (nodes (o).A) r (nodes (o).B) p.vs node
             p.ws rank_all more (where_is (nodes (o).A) r (nodes (o).B) p.vs node p.ws (sym rank_names ∙ p.is)) in
@@ -132,7 +132,7 @@ module _ {T : Type 0} where
               → k ≡ n + (y.size - size_at m s y.forth) → Ranking m s order tag node root y.forth k a f c g
           rank_right more k is =
               let z = h.reads in let j = h.steps in let w = (o).height_is in let p = (o).size_is in let q = size-root m s y.forth (o).B (o).right in
-              let at_k : n + (size (o).A + 1) ≡ k = omega arith in record {
+              let at_k : n + (forks (o).A + 1) ≡ k = omega arith in record {
                 t = h.t;
                 u = (o).B;
                 whole = h.whole;

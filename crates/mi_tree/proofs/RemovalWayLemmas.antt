@@ -10,7 +10,7 @@ use Rattle.mi_node.specs.declared.link.Link.{Link}
 use Rattle.mi_node.specs.Refs.{Ref, IsOut, IsApart}
 use Rattle.mi_node.proofs.KeepingLemmas.{keeps_none, keeps_then}
 use Rattle.mi_node.proofs.RefLemmas.{out_left, out_right, out_both}
-use Rattle.mi_tree.specs.BinaryTree.{BinaryTree, Tip, Fork, nodes, top, size, height, IsEven, fork_link, IsRooted, height_at}
+use Rattle.mi_tree.specs.BinaryTree.{BinaryTree, Tip, Fork, nodes, top, forks, height, IsEven, fork_link, IsRooted, height_at}
 use Rattle.mi_tree.specs.Sorted.{Rising, AreTagged, SameTags, CanTake, HasTaken, AreEnds, AreAppended, side}
 use Rattle.mi_tree.specs.Ways.{Frame, forked, plug, risen, IsLevel, Sinks, HasSunk, Climbs, HasClimbed}
 use Rattle.mi_tree.specs.declared.way.Turn.{Turn}
@@ -23,7 +23,7 @@ use Rattle.mi_tree.proofs.WayLemmas.{frame, path_length, above_moved, above_kept
 use Rattle.mi_tree.proofs.WayLemmas.{sized_link, one_less, forked_rising, forked_tagged, OnSide, on_side, beside_on, room_on}
 use Rattle.mi_tree.proofs.WayLemmas.{sized_keeps, sized_tags, sized_can, sized_lower, sized_above}
 
-has_one : (t : BinaryTree) (xs : List Ref) (x : Ref) (ys : List Ref) → nodes t ≡ xs ++ x ∷ ys → 1 ≤ size t
+has_one : (t : BinaryTree) (xs : List Ref) (x : Ref) (ys : List Ref) → nodes t ≡ xs ++ x ∷ ys → 1 ≤ forks t
 has_one t xs x ys e = let a = size-nodes t in let b = ap length e in let c = length-append xs (x ∷ ys) in omega arith
 
 head_is : (r : Ref) (rs : List Ref) (x : Ref) (ys : List Ref) → r ∷ rs ≡ x ∷ ys → r ≡ x
@@ -32,15 +32,15 @@ head_is r rs x ys e = cc
 tail_is : (r : Ref) (rs : List Ref) (x : Ref) (ys : List Ref) → r ∷ rs ≡ x ∷ ys → rs ≡ ys
 tail_is r rs x ys e = cc
 
-one_of : (A : BinaryTree) (r : Ref) → top A ≡ Some r → 1 ≤ size A
+one_of : (A : BinaryTree) (r : Ref) → top A ≡ Some r → 1 ≤ forks A
 one_of Tip r e = let f : None ≡ Some r = e in absurd cc
 one_of (Fork l x q) r e = omega arith
 
 -- the first node is in the left side, if there is one
-first_left : (A : BinaryTree) (r : Ref) (C : List Ref) (x : Ref) (ys : List Ref) → 1 ≤ size A
+first_left : (A : BinaryTree) (r : Ref) (C : List Ref) (x : Ref) (ys : List Ref) → 1 ≤ forks A
     → nodes A ++ r ∷ C ≡ x ∷ ys → (zs : List Ref) × (nodes A ≡ x ∷ zs) × (ys ≡ zs ++ r ∷ C)
 first_left A r C x ys h e =
-    let n = size-nodes A in (elim (nodes A) as (λ k. length k ≡ size A → k ++ r ∷ C ≡ x ∷ ys → (zs : List Ref) × (k ≡ x ∷ zs) × (ys ≡ zs ++ r ∷ C)) [
+    let n = size-nodes A in (elim (nodes A) as (λ k. length k ≡ forks A → k ++ r ∷ C ≡ x ∷ ys → (zs : List Ref) × (k ≡ x ∷ zs) × (ys ≡ zs ++ r ∷ C)) [
       | [] ↦ λ f g. absurd (omega arith)
       | a ∷ bs ↦ λ f g. (bs, ap (λ z. z ∷ bs) (head_is a (bs ++ r ∷ C) x ys g), sym (tail_is a (bs ++ r ∷ C) x ys g))
     ]) (sym n) e
@@ -69,7 +69,7 @@ module _ {T : Type 0} where
       (fs : List Frame) (t : BinaryTree) (xs : List Ref) (x : Ref) (ys vs ws : List Ref)
       → Sinks m s items at fs t xs x ys vs ws → at ≡ Some x
       → (A B : BinaryTree) → t ≡ Fork A x B → nodes A ≡ xs → nodes B ≡ ys → HasSunk m m s items xs x ys vs ws (plug fs t) fs A B
-  sunk_here m s items at fs t xs x ys vs ws h e A B is f g = let sizes = ap size is in record {
+  sunk_here m s items at fs t xs x ys vs ws h e A B is f g = let sizes = ap forks is in record {
     path_is = h.path_is;
     whole_is = ap (plug fs) (sym is);
     rooted = subst (IsRooted m s (Some x)) is (moved m m s at (Some x) t refl e h.can.rooted);
@@ -124,8 +124,8 @@ module _ {T : Type 0} where
         path_is = ap (λ z. z ++ Some (turn b) ∷ []) h.path_is;
         can = sized_can open_here i _ set k;
         has = has;
-        above = sized_above open_here i _ set k fs (size k.sub - 1) e h.apart (ap (λ z. z - 1) open_here.size_is)
-            (ap (λ z. z - 1) k.size_is ∙ one_less b (size k.sub) (size k.other) (has_one k.sub us x zs has)) h.above;
+        above = sized_above open_here i _ set k fs (forks k.sub - 1) e h.apart (ap (λ z. z - 1) open_here.size_is)
+            (ap (λ z. z - 1) k.size_is ∙ one_less b (forks k.sub) (forks k.other) (has_one k.sub us x zs has)) h.above;
         beside = beside_on k fs h.beside;
         apart = subst (λ z. IsApart (nodes (plug fs z))) k.is h.apart;
         places = λ u p. h.places (forked b u here k.other) (places u p);
@@ -276,7 +276,7 @@ module _ {T : Type 0} where
     apart_here = plug_apart gs (Fork A x B) whole_apart
 
     pub ends_here : AreEnds n s y.back y.forth A B
-    ends_here = let a = plug_size gs (Fork A x B) in let b = ap size f.whole_is in let d = c.fits in record {
+    ends_here = let a = plug_size gs (Fork A x B) in let b = ap forks f.whole_is in let d = c.fits in record {
       left_is = record { root = ap (λ (z : Link). z.back) link_is; stands = f.rooted.stands.2 };
       right_is = record { root = ap (λ (z : Link). z.forth) link_is; stands = f.rooted.stands.3 };
       left_even = f.even.1;
@@ -290,7 +290,7 @@ module _ {T : Type 0} where
       without : nodes (plug gs u) ≡ xs ++ ys
       without = f.places u a.nodes_are
 
-      sizes_are : size A + size B ≡ size u
+      sizes_are : forks A + forks B ≡ forks u
       sizes_are =
           let p = size-nodes A in let q = size-nodes B in let r = size-nodes u in let k = ap length a.nodes_are in let d = length-append (nodes A) (nodes B) in
           omega arith

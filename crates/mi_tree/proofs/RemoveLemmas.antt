@@ -5,7 +5,7 @@ use Rattle.mi_node.specs.declared.link.Link.{Link}
 use Rattle.mi_node.specs.Refs.{Ref, IsOut, IsApart}
 use Rattle.mi_node.proofs.RefLemmas.{out_left, out_right, out_both, apart_right, apart_across, apart_remove, between}
 use Rattle.mi_node.proofs.KeepingLemmas.{keeps_then, keeps_more, keeps_none, held_kept}
-use Rattle.mi_tree.specs.BinaryTree.{BinaryTree, Fork, nodes, size, height, fork_link, DifferByAtMost, IsEven, Stands}
+use Rattle.mi_tree.specs.BinaryTree.{BinaryTree, Fork, nodes, forks, height, fork_link, DifferByAtMost, IsEven, Stands}
 use Rattle.mi_tree.specs.Joining.{AreSides, IsBalanced}
 use Rattle.mi_tree.specs.Sorted.{CanTake, HasTaken, AreEnds, AreAppended}
 use Rattle.mi_tree.proofs.BinaryTreeLemmas.{moved, sides, tip_is, size-nodes, all_held}
@@ -18,7 +18,7 @@ met : (l q u t : ℕ) → DifferByAtMost 1 l q → u ≤ q → q ≤ u + 1 → m
 met l q u t d a b low high tight = (grind arith, grind arith, grind arith)
 
 -- one node less is one less in size
-less_size : (t u : BinaryTree) (xs : List Ref) (x : Ref) (ys : List Ref) → nodes t ≡ xs ++ x ∷ ys → nodes u ≡ xs ++ ys → size t ≡ size u + 1
+less_size : (t u : BinaryTree) (xs : List Ref) (x : Ref) (ys : List Ref) → nodes t ≡ xs ++ x ∷ ys → nodes u ≡ xs ++ ys → forks t ≡ forks u + 1
 less_size t u xs x ys e f =
     let a = size-nodes t in let b = size-nodes u in let c = ap length e in
     let d = ap length f in let i = length-append xs (x ∷ ys) in let j = length-append xs ys in
@@ -59,14 +59,14 @@ module _ {T : Type 0} where
     pub held_root : IsHeld m root
     pub even : IsEven (Fork A root B)
     pub apart : IsApart (nodes A ++ root ∷ nodes B)
-    pub size_is : size t ≡ y.size
+    pub size_is : forks t ≡ y.size
     pub link_is : y ≡ fork_link A B y.tag
 
   pub take_opened : (m : Pooled T) (s : ℕ) (at : Option Ref) (root : Ref) (y : Link) (t : BinaryTree)
       → CanTake m s at t → at ≡ Some root → y ≡ link_of m root.name s → TakeOpened m s root y t
   take_opened m s at root y t h e i =
       let o = sides m s at root y t h.rooted e i in let even = subst IsEven o.is h.even in let apart = subst IsApart (ap nodes o.is) h.apart in
-      let w = between (nodes o.A) root (nodes o.B) apart in let sizes = ap size o.is in let f = h.fits in record {
+      let w = between (nodes o.A) root (nodes o.B) apart in let sizes = ap forks o.is in let f = h.fits in record {
         A = o.A;
         B = o.B;
         is = o.is;

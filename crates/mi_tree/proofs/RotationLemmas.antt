@@ -5,7 +5,7 @@ use Rattle.mi_node.specs.declared.link.Link.{Link}
 use Rattle.mi_node.specs.Refs.{Ref, IsOut, IsApart}
 use Rattle.mi_node.proofs.KeepingLemmas.{keeps_more}
 use Rattle.mi_node.proofs.RefLemmas.{out_left, out_right}
-use Rattle.mi_tree.specs.BinaryTree.{BinaryTree, Fork, nodes, size, height, DifferByAtMost, IsEven, IsRooted}
+use Rattle.mi_tree.specs.BinaryTree.{BinaryTree, Fork, nodes, forks, height, DifferByAtMost, IsEven, IsRooted}
 use Rattle.mi_tree.specs.Sorted.{SameTags}
 use Rattle.mi_tree.specs.Joining.{Two, Three, Four, Rebalanced, AreSides, IsBalanced}
 use Rattle.mi_tree.proofs.HeightLemmas.{low_enough}
@@ -89,7 +89,7 @@ module _ {T : Type 0} where
   pub left_opened : {m : Pooled T} {s : ℕ} {left : Option Ref} {x : Ref} {right : Option Ref} {l q : BinaryTree} {r : Ref} {y : Link}
       → AreSides m s left x right l q → left ≡ Some r → y ≡ link_of m r.name s → (o : Sides m s r y l) × Three m s y.back r y.forth x right o.A o.B q
   left_opened {m} {s} {left} {x} {right} {l} {q} {r} {y} h e i =
-      let o = sides m s left r y l h.left_is e i in let f = h.fits in let size_is = ap size o.is in let high = o.height_is in let low = sides_low h in (
+      let o = sides m s left r y l h.left_is e i in let f = h.fits in let size_is = ap forks o.is in let high = o.height_is in let low = sides_low h in (
         o,
         record {
           first = o.left;
@@ -107,7 +107,7 @@ module _ {T : Type 0} where
   pub right_opened : {m : Pooled T} {s : ℕ} {left : Option Ref} {x : Ref} {right : Option Ref} {l q : BinaryTree} {r : Ref} {y : Link}
       → AreSides m s left x right l q → right ≡ Some r → y ≡ link_of m r.name s → (o : Sides m s r y q) × Three m s left x y.back r y.forth l o.A o.B
   right_opened {m} {s} {left} {x} {right} {l} {q} {r} {y} h e i =
-      let o = sides m s right r y q h.right_is e i in let f = h.fits in let size_is = ap size o.is in let high = o.height_is in let low = sides_low h in (
+      let o = sides m s right r y q h.right_is e i in let f = h.fits in let size_is = ap forks o.is in let high = o.height_is in let low = sides_low h in (
         o,
         record {
           first = h.left_is;
@@ -125,7 +125,7 @@ module _ {T : Type 0} where
   pub middle_opened : {m : Pooled T} {s : ℕ} {a : Option Ref} {x : Ref} {b : Option Ref} {y z : Ref} {d : Option Ref} {w : Link} {A M D : BinaryTree}
       → Three m s a x b z d A M D → b ≡ Some y → w ≡ link_of m y.name s → (o : Sides m s y w M) × Four m s a x w.back y w.forth z d A o.A o.B D
   middle_opened {m} {s} {a} {x} {b} {y} {z} {d} {w} {A} {M} {D} h e i =
-      let o = sides m s b y w M h.second e i in let f = h.fits in let k = h.low in let size_is = ap size o.is in let high = o.height_is in (
+      let o = sides m s b y w M h.second e i in let f = h.fits in let k = h.low in let size_is = ap forks o.is in let high = o.height_is in (
         o,
         record {
           first = h.first;

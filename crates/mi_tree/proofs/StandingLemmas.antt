@@ -11,12 +11,12 @@ use Rattle.mi_node.proofs.EntryLemmas.{flip, link_here, link_there}
 use Rattle.mi_node.proofs.KeepingLemmas.{keeps_link, keeps_then, held_kept}
 use Rattle.mi_node.proofs.RefLemmas.{out_left, out_right}
 use Rattle.mi_node.specs.Refs.{Ref, IsOut, IsApart}
-use Rattle.mi_tree.specs.BinaryTree.{BinaryTree, Tip, Fork, nodes, size, height, IsRooted}
+use Rattle.mi_tree.specs.BinaryTree.{BinaryTree, Tip, Fork, nodes, forks, height, IsRooted}
 use Rattle.mi_tree.specs.Order.{IsMonotone}
 use Rattle.mi_tree.specs.Probed.{is_past_node, IsSteady}
 use Rattle.mi_tree.specs.Sorted.{AllAre, NoneAre, Rising, IsPutIn, IsTagOf, HasTag, AreTagged, SameTags, CanPut}
 use Rattle.mi_tree.specs.Sorted.{HasPut, CanTake, HasTaken, by_stamp, stamped, item_of, compared, side, side_of_new}
-use Rattle.mi_tree.specs.Standing.{IsTree, CanJoin}
+use Rattle.mi_tree.specs.Standing.{IsTree, CanInsert}
 use Rattle.mi_tree.specs.Walking.{Enters}
 use Rattle.mi_tree.specs.declared.walk.Direction.{Direction}
 use Rattle.mi_tree.specs.declared.tree.Tree.{Tree}
@@ -119,11 +119,11 @@ module _ {T : Type 0} (order : T → T → Ordering) (tag : T → ℕ) (m q : Po
       }
 
 module _ {T O : Type 0} where
-  tree_size : {l : Tree O} {m : Pooled T} {order : T → T → Ordering} {tag : T → ℕ} {rs : List Ref} (h : IsTree l m order tag rs) → size h.shape ≡ length rs
+  tree_size : {l : Tree O} {m : Pooled T} {order : T → T → Ordering} {tag : T → ℕ} {rs : List Ref} (h : IsTree l m order tag rs) → forks h.shape ≡ length rs
   tree_size h = size-nodes h.shape ∙ ap length h.nodes_are
 
   module _ {order : T → T → Ordering} {tag : T → ℕ} {l : Tree O} {m q : Pooled T} {x : Ref} (new : Tag)
-      {rs : List Ref} (h : IsTree l m order tag rs) (w : CanJoin m l.slot order x new.stamp rs)
+      {rs : List Ref} (h : IsTree l m order tag rs) (w : CanInsert m l.slot order x new.stamp rs)
       (set : q ≡ with_link m x.name l.slot (leaf new)) where
     pub can_put : CanPut q l.slot (side order q l.slot) l.root x h.shape
     can_put = let e = sym h.nodes_are in let a = tree_size h in let f = w.fits in let out = subst (IsOut x.name) e w.out in record {
@@ -241,7 +241,7 @@ module _ {T O : Type 0} where
   pub same_length : {l : Tree O} {m : Pooled T} {order : T → T → Ordering} {tag : T → ℕ} {rs : List Ref} {by : T → T → Ordering} {key : T → ℕ} {us : List Ref}
       → IsTree l m order tag rs → IsTree l m by key us → length rs ≡ length us
   same_length {l} {m} h k = sym (tree_size h)
-      ∙ ap size (same_tree m l.slot l.root h.shape k.shape h.rooted k.rooted) ∙ tree_size k
+      ∙ ap forks (same_tree m l.slot l.root h.shape k.shape h.rooted k.rooted) ∙ tree_size k
 
   -- of a tree with a known node
   pub bound_node : {l : Tree O} {m : Pooled T} {order by : T → T → Ordering} {tag key : T → ℕ} {rs : List Ref} (h : IsTree l m order tag rs)

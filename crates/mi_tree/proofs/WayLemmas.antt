@@ -16,7 +16,7 @@ use Rattle.mi_node.specs.Refs.{Ref, IsOut, IsApart, AreOut}
 use Rattle.mi_node.proofs.EntryLemmas.{flip, link_here}
 use Rattle.mi_node.proofs.KeepingLemmas.{keeps_none, keeps_link, keeps_then, keeps_more, held_kept}
 use Rattle.mi_node.proofs.RefLemmas.{out_left, out_right, between, are_out_cons, are_out_none, are_out_flip}
-use Rattle.mi_tree.specs.BinaryTree.{BinaryTree, Tip, Fork, nodes, top, size, height, DifferByAtMost, IsEven, Stands, IsRooted, height_at}
+use Rattle.mi_tree.specs.BinaryTree.{BinaryTree, Tip, Fork, nodes, top, forks, height, DifferByAtMost, IsEven, Stands, IsRooted, height_at}
 use Rattle.mi_tree.specs.Joining.{AreSides, IsBalanced, IsSettled}
 use Rattle.mi_tree.specs.Sorted.{NoneAre, Rising, AreTagged, SameTags, IsPutIn, CanPut, HasPut, CanTake, side}
 use Rattle.mi_tree.specs.Ways.{Frame, way_of, forked, forked_size, forked_height, forked_link, rehung, plug}
@@ -133,11 +133,11 @@ forked_put R o x true r q t u h e p = put_left R o x (nodes t) r (nodes q) (node
 forked_put R o x false r q t u h e p = put_right R o x (nodes q) r (nodes t) (nodes u) h e p
 
 -- sizes and heights
-size_forked : (b : Bool) (r : Ref) (q t : BinaryTree) → size (forked b t r q) ≡ forked_size b (size t) (size q)
+size_forked : (b : Bool) (r : Ref) (q t : BinaryTree) → forks (forked b t r q) ≡ forked_size b (forks t) (forks q)
 size_forked true r q t = refl
 size_forked false r q t = refl
 
-size_part : (b : Bool) (r : Ref) (q t : BinaryTree) → size t ≤ size (forked b t r q)
+size_part : (b : Bool) (r : Ref) (q t : BinaryTree) → forks t ≤ forks (forked b t r q)
 size_part true r q t = omega arith
 size_part false r q t = omega arith
 
@@ -162,11 +162,11 @@ top_forked : (b : Bool) (r : Ref) (q t : BinaryTree) → top (forked b t r q) �
 top_forked true r q t = refl
 top_forked false r q t = refl
 
-size_less : (b : Bool) (r : Ref) (q t : BinaryTree) → size t + size q + 1 ≡ size (forked b t r q)
+size_less : (b : Bool) (r : Ref) (q t : BinaryTree) → forks t + forks q + 1 ≡ forks (forked b t r q)
 size_less true r q t = refl
 size_less false r q t = omega arith
 
-pub plug_size : (fs : List Frame) (t : BinaryTree) → size t ≤ size (plug fs t)
+pub plug_size : (fs : List Frame) (t : BinaryTree) → forks t ≤ forks (plug fs t)
 plug_size [] t = omega arith
 plug_size (f ∷ fs) t = let i = plug_size fs (forked f.left t f.node f.other) in let j = size_less f.left f.node f.other t in omega arith
 
@@ -179,7 +179,7 @@ plug_nodes : (fs : List Frame) (t u : BinaryTree) → nodes t ≡ nodes u → no
 plug_nodes [] t u e = e
 plug_nodes (f ∷ fs) t u e = plug_nodes fs (forked f.left t f.node f.other) (forked f.left u f.node f.other) (forked_nodes f.left f.node f.other t u e)
 
-same_size : (t u : BinaryTree) → nodes t ≡ nodes u → size t ≡ size u
+same_size : (t u : BinaryTree) → nodes t ≡ nodes u → forks t ≡ forks u
 same_size t u e = size-nodes t ∙ ap length e ∙ sym (size-nodes u)
 
 -- the root is the same, whatever stands at the end of the way
@@ -238,7 +238,7 @@ link_height false at n h q t = refl
 abbrev pub sized_link : ℕ → Link → Link
 sized_link n y = record { back = y.back; forth = y.forth; size = n; height = y.height; tag = y.tag }
 
-sized_is : (b : Bool) (y : Link) (at : Option Ref) (n k z h : ℕ) (q : BinaryTree) → y ≡ forked_link b at n h q y.tag → z ≡ forked_size b k (size q)
+sized_is : (b : Bool) (y : Link) (at : Option Ref) (n k z h : ℕ) (q : BinaryTree) → y ≡ forked_link b at n h q y.tag → z ≡ forked_size b k (forks q)
     → sized_link z y ≡ forked_link b at k h q y.tag
 sized_is true y at n k z h q e f = λ i. record { back = (e i).back; forth = (e i).forth; size = f i; height = (e i).height; tag = y.tag }
 sized_is false y at n k z h q e f = λ i. record { back = (e i).back; forth = (e i).forth; size = f i; height = (e i).height; tag = y.tag }
@@ -273,12 +273,12 @@ module _ {T : Type 0} where
       )
 
   stands_forked : (m : Pooled T) (s : ℕ) (b : Bool) (r : Ref) (q t : BinaryTree) → Stands m s t → IsHeld m r
-      → link_of m r.name s ≡ forked_link b (top t) (size t) (height t) q (link_of m r.name s).tag → Stands m s q → Stands m s (forked b t r q)
+      → link_of m r.name s ≡ forked_link b (top t) (forks t) (height t) q (link_of m r.name s).tag → Stands m s q → Stands m s (forked b t r q)
   stands_forked m s true r q t h held link other = (held, link, h, other)
   stands_forked m s false r q t h held link other = (held, link, other, h)
 
   -- the whole stands
-  plug_stands : (m : Pooled T) (s : ℕ) (fs : List Frame) (t : BinaryTree) → Stands m s t → Above m s fs (top t) (size t) (height t) → Stands m s (plug fs t)
+  plug_stands : (m : Pooled T) (s : ℕ) (fs : List Frame) (t : BinaryTree) → Stands m s t → Above m s fs (top t) (forks t) (height t) → Stands m s (plug fs t)
   plug_stands m s [] t h a = h
   plug_stands m s (f ∷ fs) t h a = plug_stands m s fs (forked f.left t f.node f.other) (stands_forked m s f.left f.node f.other t h a.0 a.1 a.2)
       (above_moved m s fs _ _ _ _ _ _ (sym (top_forked f.left f.node f.other t))
@@ -292,7 +292,7 @@ module _ {T : Type 0} where
 
   sided : (m : Pooled T) (s : ℕ) (b : Bool) (r : Ref) (q u : BinaryTree) (below : Option Ref) (y : Link) (at : Option Ref) (n h : ℕ) (t : Tag)
       → IsRooted m s below u → IsEven u → DifferByAtMost 1 (height u) h → DifferByAtMost 1 h (height q) → IsEven q → IsHeld m r
-      → y ≡ forked_link b at n h q t → Stands m s q → IsApart (nodes (forked b u r q)) → size (forked b u r q) < 2 ^ 32
+      → y ≡ forked_link b at n h q t → Stands m s q → IsApart (nodes (forked b u r q)) → forks (forked b u r q) < 2 ^ 32
       → (l : BinaryTree) × (z : BinaryTree) × Sided m s (cond b below y.back) (cond b y.forth below) r b q u l z
   sided m s true r q u below y at n h t rooted even near beside other held link stands apart fits = (
     u,
@@ -334,14 +334,14 @@ module _ {T : Type 0} where
   -- the link is right for them where the other tree is one level lower than before the node
   settled : (m : Pooled T) (s : ℕ) (b : Bool) (r : Ref) (q u : BinaryTree) (below : Option Ref) (y : Link) (at : Option Ref) (h : ℕ) (t : Tag)
       → (rooted : IsRooted m s below u) (even : IsEven u) (near : DifferByAtMost 1 (height u) h) (beside : DifferByAtMost 1 h (height q))
-      (other : IsEven q) (held : IsHeld m r) (link : y ≡ forked_link b at (size u) h q t) (stands : Stands m s q)
-      (apart : IsApart (nodes (forked b u r q))) (fits : size (forked b u r q) < 2 ^ 32)
+      (other : IsEven q) (held : IsHeld m r) (link : y ≡ forked_link b at (forks u) h q t) (stands : Stands m s q)
+      (apart : IsApart (nodes (forked b u r q))) (fits : forks (forked b u r q) < 2 ^ 32)
       → y.tag ≡ (link_of m r.name s).tag → height u + 1 ≡ y.height
-      → let o = sided m s b r q u below y at (size u) h t rooted even near beside other held link stands apart fits in
+      → let o = sided m s b r q u below y at (forks u) h t rooted even near beside other held link stands apart fits in
       IsSettled m s r (rehung b below y) o.0 o.1
   unfolding sided
   settled m s true r q u below y at h t rooted even near beside other held link stands apart fits tag high =
-      let o = sided m s true r q u below y at (size u) h t rooted even near beside other held link stands apart fits in
+      let o = sided m s true r q u below y at (forks u) h t rooted even near beside other held link stands apart fits in
       let e = settled_heights h (height q) (height u) y.height (ap (λ (z : Link). z.height) link) high beside in (
         record {
           two = plain_parts o.2.sides;
@@ -352,7 +352,7 @@ module _ {T : Type 0} where
         e.1,
       )
   settled m s false r q u below y at h t rooted even near beside other held link stands apart fits tag high =
-      let o = sided m s false r q u below y at (size u) h t rooted even near beside other held link stands apart fits in
+      let o = sided m s false r q u below y at (forks u) h t rooted even near beside other held link stands apart fits in
       let e = settled_heights h (height q) (height u) y.height
       (ap (λ (z : Link). z.height) link ∙ ap (λ j. j + 1) (max_turned (height q) h)) high beside in (
         record {
@@ -402,8 +402,8 @@ module _ {T : Type 0} where
     abbrev whole : BinaryTree
     whole = forked turn.left u turn.node w.other
 
-    open_above : Above m s (frame turn w.other ∷ w.rest) at (size u) h
-    open_above = subst (λ k. Above m s k at (size u) h) w.was c.above
+    open_above : Above m s (frame turn w.other ∷ w.rest) at (forks u) h
+    open_above = subst (λ k. Above m s k at (forks u) h) w.was c.above
 
     open_beside : AreEven (frame turn w.other ∷ w.rest) h
     open_beside = subst (λ k. AreEven k h) w.was c.beside
@@ -414,21 +414,21 @@ module _ {T : Type 0} where
     open_apart : IsApart (nodes (plug w.rest whole))
     open_apart = subst (λ k. IsApart (nodes k)) plugged c.apart
 
-    open_fits : size (plug w.rest whole) < 2 ^ 32
-    open_fits = subst (λ k. size k < 2 ^ 32) plugged c.fits
+    open_fits : forks (plug w.rest whole) < 2 ^ 32
+    open_fits = subst (λ k. forks k < 2 ^ 32) plugged c.fits
 
     pub turn_held : IsHeld m turn.node
     turn_held = open_above.0
 
-    link_is : y ≡ forked_link turn.left at (size u) h w.other y.tag
-    link_is = i ∙ open_above.1 ∙ ap (λ (z : Link). forked_link turn.left at (size u) h w.other z.tag) (sym i)
+    link_is : y ≡ forked_link turn.left at (forks u) h w.other y.tag
+    link_is = i ∙ open_above.1 ∙ ap (λ (z : Link). forked_link turn.left at (forks u) h w.other z.tag) (sym i)
 
     before_is : y.height ≡ forked_height turn.left h (height w.other)
-    before_is = ap (λ (z : Link). z.height) link_is ∙ link_height turn.left at (size u) h w.other y.tag
+    before_is = ap (λ (z : Link). z.height) link_is ∙ link_height turn.left at (forks u) h w.other y.tag
 
     climb_sides : (l : BinaryTree) × (z : BinaryTree) × Sided m s (cond turn.left below y.back) (cond turn.left y.forth below) turn.node turn.left w.other u l z
     climb_sides = let f = plug_size w.rest whole in let k = open_fits in
-        sided m s turn.left turn.node w.other u below y at (size u) h y.tag c.rooted c.even c.near open_beside.0
+        sided m s turn.left turn.node w.other u below y at (forks u) h y.tag c.rooted c.even c.near open_beside.0
         open_beside.1 open_above.0 link_is open_above.2 (plug_apart w.rest whole open_apart) (omega arith)
 
     climb_settled : height u + 1 ≡ y.height → IsSettled m s turn.node (rehung turn.left below y) climb_sides.0 climb_sides.1
@@ -449,7 +449,7 @@ module _ {T : Type 0} where
 
     pub low_below : height_at m s below + 1 < 256
     low_below = let f = plug_size w.rest whole in let k = open_fits in let j = size_part turn.left turn.node w.other u in
-        let fits : size u < 2 ^ 32 = omega arith in let l = low_enough u c.even fits in
+        let fits : forks u < 2 ^ 32 = omega arith in let l = low_enough u c.even fits in
         let e = height-root m s below u c.rooted in omega arith
 
     -- the next node of the way
@@ -511,15 +511,15 @@ module _ {T : Type 0} where
       → HasClimbed m n s (plug fs u) root (plug fs u)
   hung {m} {n} {s} {root} {next} {items} {new} {fs} {at} {u} {turn} {y} c w i set =
       let r = turn.node in let b = turn.left in let q = w.other in let h = height u in let t = forked b u r q in
-      let above : Above m s (frame turn q ∷ w.rest) at (size u) h = subst (λ k. Above m s k at (size u) h) w.was c.above in
+      let above : Above m s (frame turn q ∷ w.rest) at (forks u) h = subst (λ k. Above m s k at (forks u) h) w.was c.above in
       let apart = subst (λ k. IsApart (nodes (plug k u))) w.was c.apart in
       let o = forked_apart b r q u (plug_apart w.rest t apart) in
       let keeps = subst (λ k. Keeps m k s (r ∷ [])) (sym set) (keeps_link s m r (rehung b (Some next) y)) in
       let here : link_of n r.name s ≡ rehung b (Some next) y = ap (λ k. link_of k r.name s) set ∙ link_here m r s (rehung b (Some next) y) above.0 in
-      let is : y ≡ forked_link b at (size u) h q y.tag = i ∙ above.1 ∙ ap (λ (z : Link). forked_link b at (size u) h q z.tag) (sym i) in
-      let link = here ∙ rehung_is b y at (Some next) (size u) h q is ∙ ap (λ (z : Link). forked_link b (Some next) (size u) h q z.tag) (sym here) in
+      let is : y ≡ forked_link b at (forks u) h q y.tag = i ∙ above.1 ∙ ap (λ (z : Link). forked_link b at (forks u) h q z.tag) (sym i) in
+      let link = here ∙ rehung_is b y at (Some next) (forks u) h q is ∙ ap (λ (z : Link). forked_link b (Some next) (forks u) h q z.tag) (sym here) in
       let tree = stands_kept s m n (r ∷ []) u keeps (are_out_cons (nodes u) r [] o.out_tree (are_out_none (nodes u))) c.rooted.stands in
-      let now : Above n s (frame turn q ∷ w.rest) (Some next) (size u) h = (
+      let now : Above n s (frame turn q ∷ w.rest) (Some next) (forks u) h = (
         held_kept s m n (r ∷ []) r keeps above.0,
         link,
         stands_kept s m n (r ∷ []) q keeps (are_out_cons (nodes q) r [] o.out_other (are_out_none (nodes q))) above.2,
@@ -554,7 +554,7 @@ module _ {T : Type 0} where
         path_is = h.path_is;
         whole_is = ap (plug fs) (sym tip);
         alone = h.can.alone;
-        above = above_moved m s fs _ _ _ _ _ _ e (ap (λ k. size k + 1) tip) (ap height tip) h.above;
+        above = above_moved m s fs _ _ _ _ _ _ e (ap (λ k. forks k + 1) tip) (ap height tip) h.above;
         beside = even_moved fs _ _ (ap height tip) h.beside;
         places = λ u p. h.places u (subst (λ k. IsPutIn (R x) x (nodes k) (nodes u)) (sym tip) p);
         keeps = keeps_none s m (nodes (plug fs t));
@@ -580,8 +580,8 @@ module _ {T : Type 0} where
     pub other_is : IsRooted m s (cond b y.forth y.back) other
     pub near : DifferByAtMost 1 (height sub) (height other)
     pub other_even : IsEven other
-    pub size_is : y.size ≡ forked_size b (size sub) (size other)
-    pub link_is : y ≡ forked_link b (cond b y.back y.forth) (size sub) (height sub) other y.tag
+    pub size_is : y.size ≡ forked_size b (forks sub) (forks other)
+    pub link_is : y ≡ forked_link b (cond b y.back y.forth) (forks sub) (height sub) other y.tag
 
   unfoldable pub on_side : (b : Bool) {m : Pooled T} {s : ℕ} {r : Ref} {y : Link} {t : BinaryTree} → TakeOpened m s r y t → OnSide m s b r y t
   on_side true {y = y} o = record {
@@ -648,7 +648,7 @@ module _ {T : Type 0} where
           omega arith
 
       pub sized_above : (fs : List Frame) {at : Option Ref} {p : ℕ} (j : ℕ) → at ≡ Some here → IsApart (nodes (plug fs t)) → p ≡ size_now
-          → size_now ≡ forked_size b j (size k.other) → Above m s fs at p (height t)
+          → size_now ≡ forked_size b j (forks k.other) → Above m s fs at p (height t)
           → Above n s (frame (record { node = here; left = b }) k.other ∷ fs) (cond b y.back y.forth) j (height k.sub)
       sized_above fs {at} {p} j e apart f g a = (
         held_kept s m n (here ∷ []) here sized_keeps o.held_root,
@@ -706,8 +706,8 @@ module _ {T : Type 0} where
           };
           tagged = tagged_kept order tag m n s keeps_here.values tags_here (x ∷ nodes k.sub)
               (h.tagged.0, forked_tagged tag m s b here k.other k.sub w.tagged.1);
-          above = sized_above o i _ set k fs (size k.sub + 1) e h.apart (ap (λ z. z + 1) o.size_is)
-              (ap (λ z. z + 1) k.size_is ∙ one_more b (size k.sub) (size k.other)) h.above;
+          above = sized_above o i _ set k fs (forks k.sub + 1) e h.apart (ap (λ z. z + 1) o.size_is)
+              (ap (λ z. z + 1) k.size_is ∙ one_more b (forks k.sub) (forks k.other)) h.above;
           beside = beside_on k fs h.beside;
           apart = w.apart;
           places = λ u p. w.places (forked b u here k.other)

@@ -2,7 +2,7 @@
 --     fib      the Fibonacci numbers 0, 1, 1, 2, 3, 5, ..
 --     HasEnough      a tree of height h has at least fib (h + 2) - 1 nodes
 use Rattle.std.specs.Prelude.{◌+◌, ◌≤◌, ℕ, zero, suc}
-use Rattle.mi_tree.specs.BinaryTree.{BinaryTree, size, height, IsEven}
+use Rattle.mi_tree.specs.BinaryTree.{BinaryTree, forks, height, IsEven}
 
 abbrev pub fib_next : ℕ × ℕ → ℕ × ℕ
 fib_next (a, b) = (b, a + b)
@@ -16,4 +16,4 @@ abbrev pub fib : ℕ → ℕ
 fib n = (fibs n).0
 
 abbrev pub HasEnough : Type 0
-HasEnough = (t : BinaryTree) → IsEven t → fib (suc (suc (height t))) ≤ size t + 1
+HasEnough = (t : BinaryTree) → IsEven t → fib (suc (suc (height t))) ≤ forks t + 1

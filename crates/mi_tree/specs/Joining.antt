@@ -7,7 +7,7 @@ use Rattle.mi_node.specs.Pool.{Pooled, IsHeld, Keeps, link_of}
 use Rattle.mi_node.specs.declared.link.Link.{Link}
 use Rattle.mi_node.specs.Refs.{Ref, IsOut, IsApart}
 use Rattle.mi_tree.specs.Sorted.{SameTags}
-use Rattle.mi_tree.specs.BinaryTree.{BinaryTree, nodes, size, height, DifferByAtMost, IsEven, IsRooted}
+use Rattle.mi_tree.specs.BinaryTree.{BinaryTree, nodes, forks, height, DifferByAtMost, IsEven, IsRooted}
 
 module _ {T : Type 0} where
   pub record Two (m : Pooled T) (s : ℕ) (a : Option Ref) (x : Ref) (b : Option Ref) (A B : BinaryTree) : Type 0 where
@@ -16,13 +16,13 @@ module _ {T : Type 0} where
     pub second : IsRooted m s b B
     pub out_first : IsOut x.name (nodes A)
     pub out_second : IsOut x.name (nodes B)
-    pub fits : size A + size B + 1 < 2 ^ 32
+    pub fits : forks A + forks B + 1 < 2 ^ 32
     pub low : (height A < 255) × (height B < 255)
 
   -- the link that the node has above these two
   pub record IsFork (m : Pooled T) (s : ℕ) (x : Ref) (y : Link) (A B : BinaryTree) : Type 0 where
     pub two : Two m s y.back x y.forth A B
-    pub size_is : y.size ≡ size A + size B + 1
+    pub size_is : y.size ≡ forks A + forks B + 1
     pub height_is : y.height ≡ max (height A) (height B) + 1
     pub tag_is : y.tag ≡ (link_of m x.name s).tag
 
@@ -36,7 +36,7 @@ module _ {T : Type 0} where
     pub held_y : IsHeld m y
     pub third : IsRooted m s c C
     pub apart : IsApart (nodes A ++ x ∷ (nodes B ++ y ∷ nodes C))
-    pub fits : size A + size B + size C + 2 < 2 ^ 32
+    pub fits : forks A + forks B + forks C + 2 < 2 ^ 32
     pub low : (height A < 254) × (height B < 254) × (height C < 254)
 
   pub record Four (m : Pooled T) (s : ℕ) (a : Option Ref) (x : Ref) (b : Option Ref) (y : Ref)
@@ -49,7 +49,7 @@ module _ {T : Type 0} where
     pub held_z : IsHeld m z
     pub fourth : IsRooted m s d D
     pub apart : IsApart (nodes A ++ x ∷ (nodes B ++ y ∷ (nodes C ++ z ∷ nodes D)))
-    pub fits : size A + size B + size C + size D + 3 < 2 ^ 32
+    pub fits : forks A + forks B + forks C + forks D + 3 < 2 ^ 32
     pub low : (height A < 254) × (height B < 254) × (height C < 254) × (height D < 254)
 
 -- t is balanced, has the nodes of l, then x, then those of q, and is as high as such a tree may be
@@ -70,7 +70,7 @@ module _ {T : Type 0} where
     pub left_even : IsEven l
     pub right_even : IsEven q
     pub near : DifferByAtMost 2 (height l) (height q)
-    pub fits : size l + size q + 1 < 2 ^ 32
+    pub fits : forks l + forks q + 1 < 2 ^ 32
 
   -- what putting them together gives
   pub record IsBalanced (m n : Pooled T) (s : ℕ) (l : BinaryTree) (x : Ref) (q : BinaryTree) (root : Ref) (t : BinaryTree) : Type 0 where

@@ -9,7 +9,7 @@ use Rattle.std.specs.declared.cmp.Ordering.{Ordering}
 use Rattle.std.specs.declared.cmp.Ordering.TheVariants.{Less, Equal, Greater}
 use Rattle.mi_node.specs.Pool.{Pooled, value_of, link_of, Keeps}
 use Rattle.mi_node.specs.Refs.{Ref, IsOut, IsApart}
-use Rattle.mi_tree.specs.BinaryTree.{BinaryTree, Tip, Fork, nodes, size, height, DifferByAtMost, IsEven, IsRooted}
+use Rattle.mi_tree.specs.BinaryTree.{BinaryTree, Tip, Fork, nodes, forks, height, DifferByAtMost, IsEven, IsRooted}
 
 abbrev pub AllAre : (Ref → Ordering) → Ordering → List Ref → Type 0
 AllAre f o [] = Unit {0}
@@ -79,7 +79,7 @@ module _ {T : Type 0} where
     pub alone : IsRooted m s (Some x) (Fork Tip x Tip)
     pub out : IsOut x.name (nodes t)
     pub differs : NoneAre (R x) Equal (nodes t)
-    pub fits : size t + 1 < 2 ^ 32
+    pub fits : forks t + 1 < 2 ^ 32
 
   -- u has the nodes of t and x
   pub record HasPut (m n : Pooled T) (s : ℕ) (R : Ref → Ref → Ordering) (x : Ref) (t : BinaryTree) (root : Option Ref) (u : BinaryTree) : Type 0 where
@@ -94,7 +94,7 @@ module _ {T : Type 0} where
     pub rooted : IsRooted m s at t
     pub even : IsEven t
     pub apart : IsApart (nodes t)
-    pub fits : size t < 2 ^ 32
+    pub fits : forks t < 2 ^ 32
 
   -- u has the nodes rs, and is as high as t or one level lower; only links of rs changed
   pub record HasTaken (m n : Pooled T) (s : ℕ) (t : BinaryTree) (rs : List Ref) (root : Option Ref) (u : BinaryTree) : Type 0 where
@@ -114,7 +114,7 @@ module _ {T : Type 0} where
     pub right_even : IsEven q
     pub apart : IsApart (nodes l ++ nodes q)
     pub near : DifferByAtMost 1 (height l) (height q)
-    pub fits : size l + size q < 2 ^ 32
+    pub fits : forks l + forks q < 2 ^ 32
 
   pub record AreAppended (m n : Pooled T) (s : ℕ) (l q : BinaryTree) (root : Option Ref) (u : BinaryTree) : Type 0 where
     pub rooted : IsRooted n s root u

@@ -22,7 +22,7 @@ pub record IsTree {T O : Type 0} (l : Tree O) (m : Pooled T) (order : T → T �
   pub has_slot : l.slot < m.slots
 
 -- a held node that may be put in with that stamp in slot s
-pub record CanJoin {T : Type 0} (m : Pooled T) (s : ℕ) (order : T → T → Ordering) (x : Ref) (stamp : ℕ) (rs : List Ref) : Type 0 where
+pub record CanInsert {T : Type 0} (m : Pooled T) (s : ℕ) (order : T → T → Ordering) (x : Ref) (stamp : ℕ) (rs : List Ref) : Type 0 where
   pub held : IsHeld m x
   pub out : IsOut x.name rs
   pub differs : NoneAre (side_of_new order m s x stamp) Equal rs

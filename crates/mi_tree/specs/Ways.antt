@@ -13,7 +13,7 @@ use Rattle.mi_node.specs.Pool.{Pooled, link_of, IsHeld, Keeps}
 use Rattle.mi_node.specs.Refs.{Ref, IsApart}
 use Rattle.mi_node.specs.declared.link.Link.{Link}
 use Rattle.mi_node.specs.declared.link.Tag.{Tag}
-use Rattle.mi_tree.specs.BinaryTree.{BinaryTree, Tip, Fork, nodes, top, size, height, DifferByAtMost, IsEven, Stands, IsRooted, height_at}
+use Rattle.mi_tree.specs.BinaryTree.{BinaryTree, Tip, Fork, nodes, top, forks, height, DifferByAtMost, IsEven, Stands, IsRooted, height_at}
 use Rattle.mi_tree.specs.Joining.{AreSides, IsSettled}
 use Rattle.mi_tree.specs.Sorted.{AreTagged, SameTags, IsPutIn, CanPut, CanTake}
 use Rattle.mi_tree.specs.declared.way.Turn.{Turn}
@@ -43,8 +43,8 @@ forked_height false h k = max k h + 1
 
 -- the link of such a node, for a tree of that root, size and height
 abbrev pub forked_link : Bool → Option Ref → ℕ → ℕ → BinaryTree → Tag → Link
-forked_link true at n h q tag = record { back = at; forth = top q; size = n + size q + 1; height = max h (height q) + 1; tag = tag }
-forked_link false at n h q tag = record { back = top q; forth = at; size = size q + n + 1; height = max (height q) h + 1; tag = tag }
+forked_link true at n h q tag = record { back = at; forth = top q; size = n + forks q + 1; height = max h (height q) + 1; tag = tag }
+forked_link false at n h q tag = record { back = top q; forth = at; size = forks q + n + 1; height = max (height q) h + 1; tag = tag }
 
 -- another child, and nothing else
 abbrev pub rehung : Bool → Option Ref → Link → Link
@@ -78,7 +78,7 @@ module _ {T : Type 0} where
   abbrev pub Above : Pooled T → ℕ → List Frame → Option Ref → ℕ → ℕ → Type 0
   Above m s [] at n h = Unit {0}
   Above m s (f ∷ fs) at n h = IsHeld m f.node × (link_of m f.node.name s ≡ forked_link f.left at n h f.other (link_of m f.node.name s).tag) × Stands m s f.other
-      × Above m s fs (Some f.node) (forked_size f.left n (size f.other)) (forked_height f.left h (height f.other))
+      × Above m s fs (Some f.node) (forked_size f.left n (forks f.other)) (forked_height f.left h (height f.other))
 
   -- t stands at the end of the way; above it each size counts one more
   pub record Falls (m : Pooled T) (s : ℕ) (R : Ref → Ref → Ordering) (tag : T → ℕ)
@@ -86,7 +86,7 @@ module _ {T : Type 0} where
     pub path_is : items ≡ way_of fs
     pub can : CanPut m s R at x t
     pub tagged : AreTagged tag m s (x ∷ nodes t)
-    pub above : Above m s fs at (size t + 1) (height t)
+    pub above : Above m s fs at (forks t + 1) (height t)
     pub beside : AreEven fs (height t)
     pub apart : IsApart (nodes (plug fs t))
     pub places : (u : BinaryTree) → IsPutIn (R x) x (nodes t) (nodes u) → IsPutIn (R x) x (nodes (plug fs t)) (nodes (plug fs u))
@@ -110,7 +110,7 @@ module _ {T : Type 0} where
     pub path_is : items ≡ way_of fs
     pub can : CanTake m s at t
     pub has : nodes t ≡ xs ++ x ∷ ys
-    pub above : Above m s fs at (size t - 1) (height t)
+    pub above : Above m s fs at (forks t - 1) (height t)
     pub beside : AreEven fs (height t)
     pub apart : IsApart (nodes (plug fs t))
     pub places : (u : BinaryTree) → nodes u ≡ xs ++ ys → nodes (plug fs u) ≡ vs ++ ws
@@ -123,7 +123,7 @@ module _ {T : Type 0} where
     pub whole_is : plug gs (Fork A x B) ≡ whole
     pub rooted : IsRooted n s (Some x) (Fork A x B)
     pub even : IsEven (Fork A x B)
-    pub above : Above n s gs (Some x) (size A + size B) (height (Fork A x B))
+    pub above : Above n s gs (Some x) (forks A + forks B) (height (Fork A x B))
     pub beside : AreEven gs (height (Fork A x B))
     pub places : (u : BinaryTree) → nodes u ≡ nodes A ++ nodes B → nodes (plug gs u) ≡ vs ++ ws
     pub keeps : Keeps m n s (xs ++ ys)
@@ -133,13 +133,13 @@ module _ {T : Type 0} where
   pub record Climbs (m : Pooled T) (s : ℕ) (root below : Option Ref) (items : List (Option Turn))
       (fs : List Frame) (at : Option Ref) (h : ℕ) (u : BinaryTree) : Type 0 where
     pub path_is : items ≡ way_of fs
-    pub above : Above m s fs at (size u) h
+    pub above : Above m s fs at (forks u) h
     pub beside : AreEven fs h
     pub rooted : IsRooted m s below u
     pub even : IsEven u
     pub near : DifferByAtMost 1 (height u) h
     pub apart : IsApart (nodes (plug fs u))
-    pub fits : size (plug fs u) < 2 ^ 32
+    pub fits : forks (plug fs u) < 2 ^ 32
     pub root_is : IsRootOf root fs
 
   pub record HasClimbed (m n : Pooled T) (s : ℕ) (whole : BinaryTree) (root : Option Ref) (v : BinaryTree) : Type 0 where

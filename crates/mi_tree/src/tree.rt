@@ -35,7 +35,7 @@ pub struct Tree<O> {
 }
 
 impl<O> Tree<O> {
-    ghost use Rattle.mi_tree.specs.Standing.{IsTree, CanJoin};
+    ghost use Rattle.mi_tree.specs.Standing.{IsTree, CanInsert};
     ghost use Rattle.mi_tree.specs.Walking.{IsWalk, beyond};
 
     /// An empty tree through a slot, counted from 0, which must be one that the pool's nodes have.
@@ -60,13 +60,13 @@ impl<O> Tree<O> {
     where
         O: NodeOrder<T>,
         requires { (rs : List Ref) × IsTree self.old p.old (O.order self.old.order) (O.tag_of self.old.order) rs
-            × CanJoin p.old self.old.slot (O.order self.old.order) node stamp rs }
+            × CanInsert p.old self.old.slot (O.order self.old.order) node stamp rs }
         ensures tree { (rs : List Ref) → IsTree self.old p.old (O.order self.old.order) (O.tag_of self.old.order) rs
-            → CanJoin p.old self.old.slot (O.order self.old.order) node stamp rs
+            → CanInsert p.old self.old.slot (O.order self.old.order) node stamp rs
             → (us : List Ref) × IsPutIn (side_of_new (O.order self.old.order) p.old self.old.slot node stamp) node rs us
             × IsTree self.new p.new (O.order self.old.order) (O.tag_of self.old.order) us }
         ensures keeps { (rs : List Ref) → IsTree self.old p.old (O.order self.old.order) (O.tag_of self.old.order) rs
-            → CanJoin p.old self.old.slot (O.order self.old.order) node stamp rs
+            → CanInsert p.old self.old.slot (O.order self.old.order) node stamp rs
             → Keeps p.old p.new self.old.slot (node ∷ rs) }
         ensures stamp { (link_of p.new node.name self.old.slot).tag.stamp ≡ stamp }
         ensures tags { (k : ℕ) → (k == node.name) ≡ false → (link_of p.new k self.old.slot).tag ≡ (link_of p.old k self.old.slot).tag }

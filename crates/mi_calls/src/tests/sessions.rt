@@ -1,7 +1,7 @@
 //! Rows by calls of a database, without lines: nested sessions on both forms, and a block that was reserved for.
 ghost use Rattle.std.specs.Prelude.{IsTrue, [], ◌∷◌, pos};
 ghost use Rattle.mi_value.specs.declared.edit.Edit.TheVariants.{Add};
-ghost use Rattle.mi_catalog.specs.Fitting.{HasTable, EditsFit};
+ghost use Rattle.mi_catalog.specs.Fitting.{HasTable, FitsEdits};
 
 use super::accounts::{account, is_account};
 use mi_catalog::{Catalog, built_in};
@@ -33,7 +33,7 @@ fn has_one<D: Sessions>(database: &D) -> bool {
 /// Whether the second column of the table has numbers, to which four can be added.
 fn has_sums<D: Sessions>(database: &D) -> bool
     requires { HasTable (D.state database.now).catalog 0 }
-    ensures { IsTrue result → EditsFit (D.state database.now).catalog 0 (Add 1 (pos 4) ∷ []) }
+    ensures { IsTrue result → FitsEdits (D.state database.now).catalog 0 (Add 1 (pos 4) ∷ []) }
 {
     match database.catalog().table(0).columns().get(1) {
         Some(column) => column.kind == ColumnType::Int,

@@ -3,7 +3,7 @@
 ghost use Rattle.std.specs.Prelude.{◌≡◌, IsTrue, IfOk, IfSome};
 ghost use Rattle.mi_model.specs.Table.{has as has_row};
 ghost use Rattle.mi_container.specs.Asked.{IsKeyed, IsHashed, IsSorted, IsSequenced, ShowsOneList, RecordFits, EditsFit, WholeKey, KeyPrefix};
-ghost use Rattle.mi_container.specs.Data.{table_of};
+ghost use Rattle.mi_container.specs.Data.{as_table};
 ghost use Rattle.mi_changes.specs.Undone.{CanTakeBack};
 
 use super::change::Answer;
@@ -122,14 +122,14 @@ impl<C: Container> Undoable<C> {
 
     /// Stops unless there is a record of this id.
     fn want_record(&self, rt: &impl Abort, id: u64)
-        ensures { IsTrue (has_row (table_of (C.plain self.now.rows)) id) }
+        ensures { IsTrue (has_row (as_table (C.plain self.now.rows)) id) }
     {
         assert!(rt; self.has(id));
     }
 
     /// Whether there is a record of this id.
     pub(super) fn has(&self, id: u64) -> bool
-        ensures { IsTrue result → IsTrue (has_row (table_of (C.plain self.now.rows)) id) }
+        ensures { IsTrue result → IsTrue (has_row (as_table (C.plain self.now.rows)) id) }
     {
         self.rows.get(id, &mut Steps::new()).is_some()
     }

@@ -1,7 +1,7 @@
 use Rattle.std.proofs.Common.{◌≤◌, ◌<◌, None, sym, ap, ◌∙◌, subst}
 use Rattle.mi_node.specs.declared.link.Link.{Link}
 use Rattle.mi_chain.specs.Keying.{stamp_at}
-use Rattle.mi_chain.specs.Places.{prev_in}
+use Rattle.mi_chain.specs.Places.{prev_in_group}
 use Rattle.mi_chain.proofs.SearchLemmas.{Gapped, gap_start, gap_held, gap_step, gap_less, gap_found, gap_end, first_is_held}
 use Rattle.mi_chain.proofs.look.gap_for.Goals as goal
 
@@ -20,13 +20,13 @@ link-link-requires-clause-held g c = let v = c.args in let w = c.requires.group 
 
 pub loop-at-smaller : goal.loop-at-smaller
 loop-at-smaller g c = let v = c.args in let w = c.requires.group in
-    let step = c.before-at.ensures ∙ ap (λ (l : Link). prev_in v.first c.in-Some.prev l.back) c.link-link.ensures in
+    let step = c.before-at.ensures ∙ ap (λ (l : Link). prev_in_group v.first c.in-Some.prev l.back) c.link-link.ensures in
     rw step (gap_less v.p.now v.slot v.first w.0 w.1 w.2 w.3 w.4 (stamp_at v.p.now v.slot) v.stamp
     c.loop-at.at c.loop-at.next c.in-Some.prev (c.loop-at.invariant w.0 w.1 w.2 w.3 w.4) c.in-Some.is)
 
 pub loop-at-preserved : goal.loop-at-preserved
 loop-at-preserved g c q f h a e = let v = c.args in
-    let step = c.before-at.ensures ∙ ap (λ (l : Link). prev_in v.first c.in-Some.prev l.back) c.link-link.ensures in
+    let step = c.before-at.ensures ∙ ap (λ (l : Link). prev_in_group v.first c.in-Some.prev l.back) c.link-link.ensures in
     let le : v.stamp ≤ c.link-link.result.tag.stamp = c.if-link-stamp.false in
     rw step (gap_step v.p.now v.slot v.first q f h a e (stamp_at v.p.now v.slot) v.stamp c.loop-at.at c.loop-at.next c.in-Some.prev
     (c.loop-at.invariant q f h a e) c.in-Some.is (subst (λ (l : Link). v.stamp ≤ l.tag.stamp) c.link-link.ensures le))

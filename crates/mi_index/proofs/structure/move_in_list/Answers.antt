@@ -3,7 +3,7 @@ use Rattle.std.proofs.Common.{inl, inr, ◌∷◌, ◌++◌, subst, sym, refl}
 use Rattle.mi_node.specs.Pool.{Pooled, Keeps}
 use Rattle.mi_list.specs.Listed.{slot_of, IsListed}
 use Rattle.mi_index.specs.Pass.{IsChanged}
-use Rattle.mi_index.specs.Inserting.{moved, IsPlace}
+use Rattle.mi_index.specs.Inserting.{relocated_one, IsPlace}
 use Rattle.mi_index.specs.declared.structure.Structure.TheVariants.{Sequenced}
 use Rattle.mi_index.proofs.JoinLemmas.{keeps_all}
 use Rattle.mi_index.proofs.structure.move_in_list.Goals as goal
@@ -20,7 +20,7 @@ returns-clause-step c rs h j =
     let w = subst (IsListed l m) j.2 h in
     let g : Keeps m n (slot_of l) (r ∷ rs) = keeps_all (slot_of l) m n r rs (j.0 ++ r ∷ j.1) j.2 (e.keeps j.0 j.1 w) in
     let place : IsPlace r b (j.0 ++ j.1) = j.3 in
-    elim place as (λ _. IsChanged (moved r b) r 0 (Sequenced l) (Sequenced k) m n rs) [
+    elim place as (λ _. IsChanged (relocated_one r b) r 0 (Sequenced l) (Sequenced k) m n rs) [
       | inl here ↦ (let same = e.itself here in
           record {
             us = rs;

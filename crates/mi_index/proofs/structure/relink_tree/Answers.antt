@@ -1,7 +1,7 @@
 -- A node comes back to a tree by its key and stamp.
 use Rattle.std.proofs.Common.{sym, subst, ◌∙◌}
 use Rattle.mi_node.proofs.EntryLemmas.{flip}
-use Rattle.mi_tree.specs.Standing.{IsTree, CanJoin}
+use Rattle.mi_tree.specs.Standing.{IsTree, CanInsert}
 use Rattle.mi_order.specs.Orders.{stored_order, stored_tag}
 use Rattle.mi_order.specs.declared.orders.ByKey.{ByKey}
 use Rattle.mi_index.proofs.structure.relink_tree.Goals as goal
@@ -12,7 +12,7 @@ insert-requires c = let q = c.requires in let j = q.can in (q.rs, q.stands, reco
 pub returns-clause-step : goal.returns-clause-step
 returns-clause-step c rs h j =
     let t = c.args.tree.now in let n = c.insert.new.p in let e = c.insert.ensures in
-    let w : CanJoin c.args.p.now t.slot (stored_order t.order.parts) c.args.node c.args.place.stamp
+    let w : CanInsert c.args.p.now t.slot (stored_order t.order.parts) c.args.node c.args.place.stamp
     rs = record { held = j.held; out = j.out; differs = j.place; fits = j.few } in
     let g = e.tree rs h w in
     record {

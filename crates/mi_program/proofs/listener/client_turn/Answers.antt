@@ -4,7 +4,7 @@ use Rattle.std.proofs.lemmas.Result.{on_ok_weaker}
 use Rattle.mi_hub.specs.Watching.{has_failed}
 use Rattle.mi_hub.specs.IoNotes.{with_write}
 use Rattle.mi_hub.specs.declared.fault.ServeFault.{ServeFault}
-use Rattle.mi_program.specs.Turns.{noted}
+use Rattle.mi_program.specs.Turns.{with_turn}
 use Rattle.mi_program.proofs.TurnLemmas.{answered_fault, written_noted, on_err_kept, on_err_of}
 use Rattle.mi_program.proofs.listener.client_turn.Goals as goal
 
@@ -45,4 +45,4 @@ returns-in-Err-clause-sound g c =
     subst (λ (r : Result Bool ServeFault). OnOk r (has_failed c.take_turn.new.writer ≡ false)) (sym (c.take_turn.ensures.read.1 refl)) tt
 
 pub returns-in-Err-clause-noted : goal.returns-in-Err-clause-noted
-returns-in-Err-clause-noted g c = c.in-Err.ensures.noted ∙ sym (ap (λ r. noted r c.args.errors.now) (c.take_turn.ensures.read.1 refl))
+returns-in-Err-clause-noted g c = c.in-Err.ensures.noted ∙ sym (ap (λ r. with_turn r c.args.errors.now) (c.take_turn.ensures.read.1 refl))

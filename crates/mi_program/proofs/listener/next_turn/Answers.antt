@@ -1,6 +1,6 @@
 use Rattle.std.proofs.Common.{◌≡◌, [], ◌∷◌, ◌++◌, Ok, Err, sym, ap, ◌∙◌, subst, rules}
 use Rattle.std.proofs.lemmas.Result.{err_from_is_err_and}
-use Rattle.mi_program.specs.Turns.{AllSound, client_ids, turn_fault, noted}
+use Rattle.mi_program.specs.Turns.{AllSound, client_ids, turn_fault, with_turn}
 use Rattle.mi_program.proofs.TurnLemmas.{sound_last, ids_last, stays_open, has_ended, has_broken}
 use Rattle.mi_program.proofs.listener.next_turn.Goals as goal
 
@@ -26,7 +26,7 @@ returns-then-branch-clause-turn g c =
       ap client_ids items ∙ ids_last c.pop_front.new.self.items c.client_turn.new.client
           ∙ ap (λ k. row ++ k ∷ []) (c.client_turn.ensures.same ∙ sym made.2) ∙ sym (stays_open made.0 row still),
       ap turn_fault still,
-      c.client_turn.ensures.noted ∙ ap (λ r. noted r c.args.errors.now) made.3,
+      c.client_turn.ensures.noted ∙ ap (λ r. with_turn r c.args.errors.now) made.3,
     )
 
 pub returns-else-branch-clause-turn : goal.returns-else-branch-clause-turn
@@ -42,7 +42,7 @@ returns-else-branch-clause-turn g c =
       made.4,
       sym (has_ended made.0 row closed),
       ap turn_fault closed,
-      c.client_turn.ensures.noted ∙ ap (λ r. noted r c.args.errors.now) made.3,
+      c.client_turn.ensures.noted ∙ ap (λ r. with_turn r c.args.errors.now) made.3,
     )
 
 pub returns-in_err-client_turn-clause-turn : goal.returns-in_err-client_turn-clause-turn
@@ -59,5 +59,5 @@ returns-in_err-client_turn-clause-turn g c =
       made.4,
       sym (has_broken made.0 row _ broken),
       p.1 ∙ ap Err p.2 ∙ ap turn_fault broken,
-      c.client_turn.ensures.noted ∙ ap (λ r. noted r c.args.errors.now) made.3,
+      c.client_turn.ensures.noted ∙ ap (λ r. with_turn r c.args.errors.now) made.3,
     )

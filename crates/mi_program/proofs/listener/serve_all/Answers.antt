@@ -2,7 +2,7 @@ use Rattle.std.proofs.Common.{◌≡◌, ◌<◌, ◌∷◌, ◌++◌, [], lengt
 use Rattle.std.specs.Result.{result_and}
 use Rattle.std.specs.VecDeque.{deque_len}
 use Rattle.mi_hub.specs.Turn.{outcome}
-use Rattle.mi_program.specs.Turns.{client_ids, noted}
+use Rattle.mi_program.specs.Turns.{client_ids, with_turn}
 use Rattle.mi_program.proofs.TurnLemmas.{serves_next, turns_next, fault_more, noted_more, not_turns, no_ids, none_left, not_zero}
 use Rattle.mi_program.proofs.listener.serve_all.Goals as goal
 
@@ -24,7 +24,7 @@ returns-then-is_empty-clause-served g c = λ _.
           before.made last.3 last.4 (sym (no_ids c.next_turn.new.row.items none) ∙ last.5),
       c.and-first.ensures ∙ ap (λ first. result_and first c.next_turn.result) before.first
           ∙ ap (result_and _) last.6 ∙ sym (fault_more before.turns last.0),
-      last.7 ∙ ap (noted (outcome last.0)) before.noted ∙ sym (noted_more before.turns last.0 _),
+      last.7 ∙ ap (with_turn (outcome last.0)) before.noted ∙ sym (noted_more before.turns last.0 _),
     )
 
 pub returns-then-is_empty-clause-turns : goal.returns-then-is_empty-clause-turns
@@ -45,7 +45,7 @@ turns-preserved g c =
       count = omega (arith, length-append before.turns (last.0 ∷ []), before.count);
       first = c.and-first.ensures ∙ ap (λ first. result_and first c.next_turn.result) before.first
           ∙ ap (result_and _) last.6 ∙ sym (fault_more before.turns last.0);
-      noted = last.7 ∙ ap (noted (outcome last.0)) before.noted ∙ sym (noted_more before.turns last.0 _);
+      noted = last.7 ∙ ap (with_turn (outcome last.0)) before.noted ∙ sym (noted_more before.turns last.0 _);
       sound = c.next_turn.ensures.sound;
       some = subst (λ n. 0 < n) len (not_zero _ c.is_empty.result c.is_empty.ensures c.if-is_empty.false);
       served = serves_next last.0 _ last.1 _ last.2 c.turns.hub c.next_turn.new.hub before.served last.3 last.4 last.5;

@@ -33,14 +33,14 @@ impl ByKey<'_> {
 impl NodeOrder<Item> for ByKey<'_> {
     ghost use Rattle.std.specs.Prelude.{None};
     ghost use Rattle.std.proofs.lemmas.Cmp.{on_total, nat_cmp_total};
-    ghost use Rattle.mi_structures.specs.Keyed.{keyed_order, by_probe, key_tag};
-    ghost use Rattle.mi_structures.specs.KeyedLaws.{tag_below, tag_exact, probe_later, no_tag};
+    ghost use Rattle.mi_structures.specs.Keyed.{keyed_order, by_probe, keyed_tag};
+    ghost use Rattle.mi_structures.specs.KeyedLaws.{tag_below, tag_exact, probe_later, without_tag};
 
     ghost order = { λ o. keyed_order };
 
     ghost place = { λ o v k. by_probe v.0 k };
 
-    ghost tag_of = { λ o. key_tag o.tagged };
+    ghost tag_of = { λ o. keyed_tag o.tagged };
 
     ghost probe_tag_of = { λ o k. None };
 
@@ -81,11 +81,11 @@ impl NodeOrder<Item> for ByKey<'_> {
 
     ghost exact = { λ o. tag_exact o.tagged };
 
-    ghost probe_below = { λ o k t e x h. no_tag t e };
+    ghost probe_below = { λ o k t e x h. without_tag t e };
 
-    ghost probe_above = { λ o k t e x h. no_tag t e };
+    ghost probe_above = { λ o k t e x h. without_tag t e };
 
-    ghost probe_exact = { λ o k t e d x h. no_tag t e };
+    ghost probe_exact = { λ o k t e d x h. without_tag t e };
 }
 
 /// Nodes of a pool, in a tree through the second of two slots or out of it again.

@@ -1,6 +1,6 @@
 use Rattle.std.proofs.Common.{◌≡◌, ◌+◌, max, ap, ◌∙◌, arith}
 use Rattle.mi_node.specs.declared.link.Link.{Link}
-use Rattle.mi_tree.specs.BinaryTree.{size, height_at}
+use Rattle.mi_tree.specs.BinaryTree.{forks, height_at}
 use Rattle.mi_tree.proofs.BinaryTreeLemmas.{size-root, height-root, held-root}
 use Rattle.mi_tree.proofs.JoinLemmas.{fork_of}
 use Rattle.mi_tree.proofs.parts.join.Given.{Over}
@@ -9,7 +9,7 @@ use Rattle.mi_tree.proofs.parts.join.Goals as goal
 
 module _ (g : Over) (c : After-size-2 g) where
   -- the sizes of the two sides
-  sizes : (c.size.result ≡ size c.requires.parts.0) × (c.size-2.result ≡ size c.requires.parts.1)
+  sizes : (c.size.result ≡ forks c.requires.parts.0) × (c.size-2.result ≡ forks c.requires.parts.1)
   sizes = let w = c.requires.parts in let m = c.args.p.now in let s = c.args.slot in
       (c.size.ensures ∙ size-root m s c.args.a w.0 w.2.first, c.size-2.ensures ∙ size-root m s c.args.b w.1 w.2.second)
 

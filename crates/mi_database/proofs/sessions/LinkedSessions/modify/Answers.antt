@@ -8,7 +8,7 @@ use Rattle.mi_model.specs.DatabaseChange.{Meets, modify_step}
 use Rattle.mi_container.specs.Inverse.{lost_to}
 use Rattle.mi_container.specs.Makes.{MeetsOn}
 use Rattle.mi_journal.specs.Noted.{noted}
-use Rattle.mi_database.specs.LinkedData.{LinkedData, seen, meaning}
+use Rattle.mi_database.specs.LinkedData.{LinkedData, data_seen, meaning}
 use Rattle.mi_database.proofs.LinkedDataLemmas.{some_modify}
 use Rattle.mi_database.proofs.KeptLemmas.{modify_keeps, modify_kept, modify_refused}
 use Rattle.mi_database.proofs.ChangeLemmas.{SpotIn, Changed, spot, spot_keeps, spot_changed, spot_held, spot_outcome, spot_stays, spot_refused}
@@ -61,7 +61,7 @@ pub returns-in-Ok-clause-footprint : goal.returns-in-Ok-clause-footprint
 returns-in-Ok-clause-footprint g c =
     let a = c.self.inside in
     let old = c.args.self.now in
-    let new : LinkedData = seen a.catalog (map g.C.Container.plain c.keep.new.containers.items) c.keep.new.journal a.revision in
+    let new : LinkedData = data_seen a.catalog (map g.C.Container.plain c.keep.new.containers.items) c.keep.new.journal a.revision in
     let journal = c.keep.ensures.journal ∙ ap (λ (h : LinkedData). noted (c.args.table, c.in-Ok.inverse) h.journal)
     (c.self.view_is ∙ c.make_room.ensures.same) in
     modify_kept c.args.table c.args.id c.args.edits.now c.args.rollback old new c.modified-answer.result (lost_to c.in-Ok.inverse) c.modified-answer.ensures
@@ -72,6 +72,6 @@ returns-in-Ok-clause-footprint g c =
 pub returns-in-Err-clause-footprint : goal.returns-in-Err-clause-footprint
 returns-in-Err-clause-footprint g c =
     let a = c.self.inside in
-    let new : LinkedData = seen a.catalog (map g.C.Container.plain (set a.containers.items c.args.table c.modify.new.self)) a.journal a.revision in
+    let new : LinkedData = data_seen a.catalog (map g.C.Container.plain (set a.containers.items c.args.table c.modify.new.self)) a.journal a.revision in
     modify_refused c.args.table c.args.id c.args.edits.now c.args.rollback c.args.self.now new c.in-Err.refused
     (ap (λ (h : LinkedData). h.journal) (c.self.view_is ∙ c.make_room.ensures.same)) c.in-Err.ensures.loss (returns-in-Err-clause-outcome g c)

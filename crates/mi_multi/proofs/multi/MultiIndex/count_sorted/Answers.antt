@@ -1,7 +1,7 @@
 use Rattle.std.proofs.Common.{◌-◌, ap₂, sym, ◌∙◌, arith}
 use Rattle.mi_catalog.specs.Shape.{index_at}
 use Rattle.mi_model.proofs.QueryLaws.{lower-le-upper, count_ranks}
-use Rattle.mi_container.specs.Data.{table_of}
+use Rattle.mi_container.specs.Data.{as_table}
 use Rattle.mi_multi.proofs.KeyCountLemmas.{whole_is_prefix}
 use Rattle.mi_multi.proofs.multi.MultiIndex.count_sorted.Goals as goal
 
@@ -17,7 +17,7 @@ pub overflow_sub-result : goal.overflow_sub-result
 overflow_sub-result c =
     omega (
       arith,
-      lower-le-upper c.args.self.now.shape (table_of c.args.self.now.plain) c.args.index c.args.key.now,
+      lower-le-upper c.args.self.now.shape (as_table c.args.self.now.plain) c.args.index c.args.key.now,
       c.lower_rank-lower.ensures.rank,
       c.upper_rank-upper.ensures.rank,
     )
@@ -25,4 +25,4 @@ overflow_sub-result c =
 pub returns : goal.returns
 returns c =
     ap₂ (λ high low. high - low) c.upper_rank-upper.ensures.rank c.lower_rank-lower.ensures.rank
-    ∙ sym (count_ranks c.args.self.now.shape (table_of c.args.self.now.plain) c.args.index c.args.key.now c.requires.index)
+    ∙ sym (count_ranks c.args.self.now.shape (as_table c.args.self.now.plain) c.args.index c.args.key.now c.requires.index)

@@ -3,7 +3,7 @@ use Rattle.std.specs.declared.option.Option.TheVariants.{None}
 use Rattle.std.specs.declared.result.Result.TheVariants.{Ok, Err}
 use Rattle.mi_value.specs.declared.refusal.Refusal.TheVariants.{NoId}
 use Rattle.mi_model.specs.Verdict.{erase_outcome}
-use Rattle.mi_container.specs.Data.{Data, table_of}
+use Rattle.mi_container.specs.Data.{Data, as_table}
 use Rattle.mi_container.specs.Changes.{erased}
 use Rattle.mi_container.specs.Inverse.{Inverse}
 use Rattle.mi_container.specs.Makes.{Makes}
@@ -19,7 +19,7 @@ pub returns-in_default-clause-outcome : goal.returns-in_default-clause-outcome
 returns-in_default-clause-outcome c =
     let i = c.self.inside in
     let none_ : live_node i.ids.entries c.args.id ≡ None = sym c.live.ensures ∙ c.in_default.is in
-    subst (λ (w : Seen). ((erase_outcome c.args.id (table_of w.plain)).0 ≡ Err NoId) × (table_of w.plain ≡ (erase_outcome c.args.id (table_of w.plain)).1))
+    subst (λ (w : Seen). ((erase_outcome c.args.id (as_table w.plain)).0 ≡ Err NoId) × (as_table w.plain ≡ (erase_outcome c.args.id (as_table w.plain)).1))
     c.self.view_is
     (erase_refused i.schema i.ids.entries i.nodes.pool i.nodes.structures.items i.next i.arrivals c.args.id none_)
 
@@ -58,7 +58,7 @@ pub returns-clause-outcome : goal.returns-clause-outcome
 returns-clause-outcome c =
     let i = c.self.inside in
     let new : Data = plain_of i.schema c.keep.new.self.entries c.take_out.new.self.pool c.take_out.new.self.structures.items i.next i.arrivals in
-    subst (λ (w : Seen). ((erase_outcome c.args.id (table_of w.plain)).0 ≡ Ok tt) × (table_of new ≡ (erase_outcome c.args.id (table_of w.plain)).1))
+    subst (λ (w : Seen). ((erase_outcome c.args.id (as_table w.plain)).0 ≡ Ok tt) × (as_table new ≡ (erase_outcome c.args.id (as_table w.plain)).1))
     c.self.view_is
     (erase_meets i.schema i.ids.entries i.nodes.pool i.nodes.structures.items i.next i.arrivals
     c.args.id c.in-Some.node new (sym c.live.ensures ∙ c.in-Some.is) (now_is c))

@@ -1,5 +1,5 @@
 use Rattle.std.proofs.Common.{ap, sym, ◌∙◌}
-use Rattle.mi_container.specs.Data.{table_of}
+use Rattle.mi_container.specs.Data.{as_table}
 use Rattle.mi_container.specs.Run.Change.{Insert}
 use Rattle.mi_container.proofs.LawLemmas.{change_is_tables}
 use Rattle.mi_multi.proofs.AcceptLemmas.{insert_refused, insert_meets}
@@ -7,7 +7,7 @@ use Rattle.mi_multi.proofs.multi.MultiIndex.insert.Goals as goal
 
 pub returns-in-Some-clause-outcome : goal.returns-in-Some-clause-outcome
 returns-in-Some-clause-outcome c = insert_refused c.args.self.now.shape c.args.before c.args.row
-    (table_of c.args.self.now.plain) c.in-Some.refusal (sym c.insert_refusal.ensures ∙ c.in-Some.is)
+    (as_table c.args.self.now.plain) c.in-Some.refusal (sym c.insert_refusal.ensures ∙ c.in-Some.is)
 
 pub insert_accepted-requires-clause-accepted : goal.insert_accepted-requires-clause-accepted
 insert_accepted-requires-clause-accepted c = sym c.insert_refusal.ensures ∙ c.in_default.is
@@ -16,7 +16,7 @@ pub returns-in-Ok-clause-outcome : goal.returns-in-Ok-clause-outcome
 returns-in-Ok-clause-outcome c =
     let now = c.args.self.now in
     let made = c.in-Ok.ensures.made in
-    let table = ap table_of made.1.changed_data
+    let table = ap as_table made.1.changed_data
     ∙ (change_is_tables now.shape (Insert c.args.before made.0 c.args.row) now.plain c.keeps_rules.ensures made.1.allowed).1 in
-    insert_meets now.shape c.args.before c.args.row (table_of now.plain) c.in-Ok.inserted.0
-    (table_of c.insert_accepted.new.self.plain) (sym c.insert_refusal.ensures ∙ c.in_default.is) c.in-Ok.ensures.id table
+    insert_meets now.shape c.args.before c.args.row (as_table now.plain) c.in-Ok.inserted.0
+    (as_table c.insert_accepted.new.self.plain) (sym c.insert_refusal.ensures ∙ c.in_default.is) c.in-Ok.ensures.id table

@@ -4,9 +4,9 @@ use Rattle.std.specs.declared.option.Option.TheVariants.{None}
 use Rattle.mi_model.specs.Verdict.{insert_refusal}
 use Rattle.mi_order.specs.declared.stored.Stored.{Stored}
 use Rattle.mi_index.specs.Pass.{AllCan}
-use Rattle.mi_index.specs.Inserting.{inserting}
+use Rattle.mi_index.specs.Inserting.{coming_in}
 use Rattle.mi_container.specs.Asked.{IsSequenced}
-use Rattle.mi_container.specs.Data.{Data, table_of}
+use Rattle.mi_container.specs.Data.{Data, as_table}
 use Rattle.mi_container.specs.Run.{PlaceFits}
 use Rattle.mi_container.specs.Makes.{MakesInsert}
 use Rattle.mi_multi.specs.Before.{node_before}
@@ -25,9 +25,9 @@ module _ (c : After-node_at-place) where
   value = record { id = c.self.inside.next; row = c.args.row }
 
   -- no rule refuses it
-  allowed : Accepted c.self.inside.schema c.args.before c.args.row (table_of (seen_of c.self.inside).plain)
-  allowed = let i = c.self.inside in accepted i.schema c.args.before c.args.row (table_of (seen_of i).plain)
-      (subst (λ (w : Seen). insert_refusal w.shape c.args.before c.args.row (table_of w.plain) ≡ None) (sym c.self.view_is) c.requires.accepted)
+  allowed : Accepted c.self.inside.schema c.args.before c.args.row (as_table (seen_of c.self.inside).plain)
+  allowed = let i = c.self.inside in accepted i.schema c.args.before c.args.row (as_table (seen_of i).plain)
+      (subst (λ (w : Seen). insert_refusal w.shape c.args.before c.args.row (as_table w.plain) ≡ None) (sym c.self.view_is) c.requires.accepted)
 
   -- the node before which it comes is that of the row that was named
   there : IsBefore c.self.inside.ids.entries c.args.before c.node_at-place.result
@@ -37,7 +37,7 @@ module _ (c : After-node_at-place) where
       (before_is i.schema i.ids.entries i.nodes.pool i.nodes.structures.items i.next i.arrivals c.args.before allowed.there)
 
   -- it can come in
-  can : AllCan (inserting value c.self.inside.arrivals c.node_at-place.result) c.self.inside.nodes.structures.items 0 c.self.inside.nodes.pool
+  can : AllCan (coming_in value c.self.inside.arrivals c.node_at-place.result) c.self.inside.nodes.structures.items 0 c.self.inside.nodes.pool
       c.self.invariant.rss
   can = let i = c.self.inside in
       can_come i.schema i.ids.entries i.nodes.pool i.nodes.structures.items i.next i.arrivals c.self.invariant

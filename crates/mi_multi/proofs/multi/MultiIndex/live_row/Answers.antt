@@ -1,7 +1,7 @@
 use Rattle.std.proofs.Common.{◌≡◌, false, sym, ◌∙◌, subst}
 use Rattle.std.specs.declared.option.Option.TheVariants.{None, Some}
 use Rattle.mi_model.specs.Table.{has as has_row}
-use Rattle.mi_container.specs.Data.{table_of}
+use Rattle.mi_container.specs.Data.{as_table}
 use Rattle.mi_container.specs.Fits.{IsLive}
 use Rattle.mi_ids.specs.IdMap.{live_node}
 use Rattle.mi_multi.specs.Seen.{Seen}
@@ -13,7 +13,7 @@ pub returns-in_err-node-clause-absent : goal.returns-in_err-node-clause-absent
 returns-in_err-node-clause-absent c none =
     let i = c.self.inside in
     let gone : live_node i.ids.entries c.args.id ≡ None = sym c.live.ensures ∙ c.in_err-node.was in
-    subst (λ (w : Seen). has_row (table_of w.plain) c.args.id ≡ false) c.self.view_is
+    subst (λ (w : Seen). has_row (as_table w.plain) c.args.id ≡ false) c.self.view_is
     (none_has i.schema i.ids.entries i.nodes.pool i.nodes.structures.items i.next i.arrivals c.args.id gone)
 
 pub returns-clause-live : goal.returns-clause-live

@@ -2,7 +2,7 @@ use Rattle.std.proofs.Common.{◌≡◌, ap, sym, ◌∙◌}
 use Rattle.std.specs.declared.option.Option.TheVariants.{None, Some}
 use Rattle.mi_catalog.specs.Shape.{index_at}
 use Rattle.mi_model.specs.Conflict.{rival}
-use Rattle.mi_container.specs.Data.{table_of}
+use Rattle.mi_container.specs.Data.{as_table}
 use Rattle.mi_multi.proofs.ConflictLemmas.{none_is, own_is_none, other_is}
 use Rattle.mi_multi.proofs.multi.MultiIndex.rival.Goals as goal
 
@@ -15,16 +15,16 @@ returns-in_err-holder c =
 pub returns-in-Some : goal.returns-in-Some
 returns-in-Some c =
     let now = c.args.self.now in
-    let here : rival (table_of now.plain).rows (index_at now.shape c.args.index).parts c.args.row.now None
+    let here : rival (as_table now.plain).rows (index_at now.shape c.args.index).parts c.args.row.now None
     ≡ Some c.in-Some.own = sym c.holder.ensures ∙ c.in_ok-holder.was ∙ ap Some (sym c.if-own-holder.true) in
-    sym (ap (rival (table_of now.plain).rows (index_at now.shape c.args.index).parts c.args.row.now) c.in-Some.is
+    sym (ap (rival (as_table now.plain).rows (index_at now.shape c.args.index).parts c.args.row.now) c.in-Some.is
     ∙ own_is_none c.self.inside c.self.invariant now c.self.view_is c.args.index c.requires.declared
     c.requires.there c.args.row.now c.keeps_rules.ensures c.requires.alone c.in-Some.own here)
 
 pub returns-in_default : goal.returns-in_default
 returns-in_default c =
     let now = c.args.self.now in
-    sym (ap (rival (table_of now.plain).rows (index_at now.shape c.args.index).parts c.args.row.now) c.in-Some.is
+    sym (ap (rival (as_table now.plain).rows (index_at now.shape c.args.index).parts c.args.row.now) c.in-Some.is
     ∙ other_is c.self.inside c.self.invariant now c.self.view_is c.args.index c.requires.declared c.requires.there
     c.args.row.now c.keeps_rules.ensures c.requires.alone c.in-Some.own c.in_ok-holder.holder c.if-own-holder.false
     (sym c.holder.ensures ∙ c.in_ok-holder.was))

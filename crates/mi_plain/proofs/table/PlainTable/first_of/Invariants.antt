@@ -8,4 +8,4 @@ use Rattle.mi_plain.proofs.table.PlainTable.first_of.Given as goal
 
 abbrev pub invariant-loop-id : goal.invariant-loop-id
 invariant-loop-id l = slice_get (filter (λ id. is_eq (compare_to_id l.index l.self l.key id)) (drop l.id-index l.ids)) 0
-    ≡ look.first_of l.schema l.self l.x l.key
+    ≡ look.first_with_key l.schema l.self l.x l.key

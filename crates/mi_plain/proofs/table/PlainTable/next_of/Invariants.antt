@@ -7,4 +7,4 @@ use Rattle.mi_model.specs.LookUp as look
 use Rattle.mi_plain.proofs.table.PlainTable.next_of.Given as goal
 
 abbrev pub invariant-loop-i : goal.invariant-loop-i
-invariant-loop-i l = slice_get (filter (λ id. is_eq (compare_ids l.index l.self l.id id)) (drop l.i l.ids)) 0 ≡ look.next_of l.schema l.self l.x l.id
+invariant-loop-i l = slice_get (filter (λ id. is_eq (compare_ids l.index l.self l.id id)) (drop l.i l.ids)) 0 ≡ look.next_with_key l.schema l.self l.x l.id

@@ -3,7 +3,7 @@ use Rattle.mi_node.specs.Refs.{Ref}
 use Rattle.mi_node.specs.declared.link.Tag.{Tag}
 use Rattle.mi_tree.specs.BinaryTree.{BinaryTree, nodes}
 use Rattle.mi_tree.specs.Sorted.{AreTagged, HasPut, CanPut, side}
-use Rattle.mi_tree.specs.Standing.{IsTree, CanJoin}
+use Rattle.mi_tree.specs.Standing.{IsTree, CanInsert}
 use Rattle.mi_tree.proofs.StandingLemmas.{can_put, put_tagged, has_put, put_keeps, put_stamp, put_tags, set_keeps, set_tag}
 use Rattle.mi_tree.proofs.tree.Tree.insert.Given.{Over}
 use Rattle.mi_tree.proofs.tree.Tree.insert.Goals.{After-set_link, After-put_in-self}
@@ -16,7 +16,7 @@ module _ (g : Over) (c : After-set_link g) where
 
   -- the tree and the node, as they are put together
   can : {rs : List Ref} (h : IsTree c.args.self.now c.args.p.now (g.O.NodeOrder.order c.args.self.now.order) (g.O.NodeOrder.tag_of c.args.self.now.order) rs)
-      → CanJoin c.args.p.now c.args.self.now.slot (g.O.NodeOrder.order c.args.self.now.order) c.args.node c.args.stamp rs
+      → CanInsert c.args.p.now c.args.self.now.slot (g.O.NodeOrder.order c.args.self.now.order) c.args.node c.args.stamp rs
       → CanPut c.set_link.new.self c.args.self.now.slot (side (g.O.NodeOrder.order c.args.self.now.order) c.set_link.new.self c.args.self.now.slot)
       c.args.self.now.root c.args.node h.shape
       × AreTagged (g.O.NodeOrder.tag_of c.args.self.now.order) c.set_link.new.self c.args.self.now.slot (c.args.node ∷ nodes h.shape)
@@ -25,7 +25,7 @@ module _ (g : Over) (c : After-set_link g) where
 module _ (g : Over) (c : After-put_in-self g) where
   -- what was put in
   put : {rs : List Ref} (h : IsTree c.args.self.now c.args.p.now (g.O.NodeOrder.order c.args.self.now.order) (g.O.NodeOrder.tag_of c.args.self.now.order) rs)
-      → CanJoin c.args.p.now c.args.self.now.slot (g.O.NodeOrder.order c.args.self.now.order) c.args.node c.args.stamp rs
+      → CanInsert c.args.p.now c.args.self.now.slot (g.O.NodeOrder.order c.args.self.now.order) c.args.node c.args.stamp rs
       → (u : BinaryTree) × HasPut c.set_link.new.self c.put_in-self.new.p c.args.self.now.slot
       (side (g.O.NodeOrder.order c.args.self.now.order) c.set_link.new.self c.args.self.now.slot) c.args.node h.shape c.put_in-self.result u
   put h w =
