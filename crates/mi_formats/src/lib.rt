@@ -1,5 +1,5 @@
 //! Worked tables over what is read and written: documents of schemas, lines, the commands that they are bound to, and the texts of replies.
-//! It has tests alone.
+//! Random numbers too. It has tests alone.
 #![tactic(auto)]
 
 #[cfg(test)]

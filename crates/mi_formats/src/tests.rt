@@ -1,7 +1,8 @@
-//! Tables of what is read and written.
+//! Tables of what is read and written, and of random numbers.
 
 mod alike;
 mod bound;
 mod lines;
+mod random;
 mod replies;
 mod schemas;

@@ -4,6 +4,3 @@
 mod random;
 
 pub use random::Random;
-
-#[cfg(test)]
-mod tests;

@@ -1,5 +1,5 @@
-//! Draws, compared with those that Python's whole numbers make.
-use super::Random;
+//! Draws of random numbers, compared with those that Python's whole numbers make.
+use mi_random::Random;
 use std::test::Fail;
 
 /// The draws of two seeds, below several numbers.
