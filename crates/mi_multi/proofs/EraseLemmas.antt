@@ -40,7 +40,7 @@ use Rattle.mi_multi.proofs.OrderLemmas.{orders_map}
 use Rattle.mi_multi.proofs.EveryIndexLemmas.{Turned, Every, At, at, every, all_known, all_for, seq_by, one, none, at_stamps}
 use Rattle.mi_multi.proofs.LiveNodeLemmas.{IsLiveRef, holds, marked_here, marked_beside, names_apart}
 use Rattle.mi_multi.proofs.LiveNodeLemmas.{lacks_middle, out_of_all, ids_same, all_left, all_right, all_append, once_more}
-use Rattle.mi_multi.proofs.MarkedIdLemmas.{marked_held, marked_owned, marked_few}
+use Rattle.mi_multi.proofs.MarkedIdLemmas.{marked_multi}
 use Rattle.mi_multi.proofs.NeighbourLemmas.{id_is}
 use Rattle.mi_multi.proofs.LinkLemmas.{tags_at, links_seen}
 
@@ -178,15 +178,7 @@ module _ (s : Shape) (ids : FinMap nat_cmp IdEntry) (m n : Pooled Stored) (xs ys
 
   -- all stands after it
   pub erased_multi : IsMulti s new_ids n ys next arrivals
-  erased_multi = record {
-    rss = changed.uss;
-    stand = changed.stand;
-    kinds = all_for s.indexes xs ys like is.kinds;
-    live = all_live_left turns;
-    held = marked_held s ids m n xs next arrivals is e r true false there changed.keeps.refs changed.keeps.values;
-    owned = marked_owned s ids m n xs next arrivals is e r true false there changed.keeps.refs changed.keeps.values;
-    is_data = subst (IsData s) (sym erased_seen) (change_is_tables s (Erase e None) d is.is_data (node_in m os r, row_is)).0;
-    next_fits = is.next_fits;
-    arrivals_fit = is.arrivals_fit;
-    few = marked_few s ids m n xs next arrivals is e r true false there changed.keeps.refs changed.keeps.values;
-  }
+  erased_multi =
+      marked_multi s ids m n xs next arrivals is e r true false there changed.keeps.refs changed.keeps.values
+      ys changed.uss changed.stand (all_for s.indexes xs ys like is.kinds) (all_live_left turns)
+      (subst (IsData s) (sym erased_seen) (change_is_tables s (Erase e None) d is.is_data (node_in m os r, row_is)).0)

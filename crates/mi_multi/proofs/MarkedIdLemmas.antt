@@ -1,5 +1,6 @@
 -- An id is marked as live, or as only kept, and the nodes keep their names and values.
 use Rattle.std.proofs.Common.{◌≡◌, ◌≢◌, ℕ, ◌^◌, ◌≤◌, Bool, inl, inr, List, ap, sym, ◌∙◌, subst, arith}
+use Rattle.std.specs.List.{AllByRecursion}
 use Rattle.std.specs.Ordering.{nat_cmp}
 use Rattle.std.specs.FinMap.{FinMap, get, len}
 use Rattle.std.proofs.lemmas.Bool.Decides.{eqb_tells}
@@ -9,10 +10,12 @@ use Rattle.mi_node.specs.Pool.{Pooled, ref_of, value_of, IsHeld}
 use Rattle.mi_node.specs.Refs.{Ref}
 use Rattle.mi_order.specs.declared.stored.Stored.{Stored}
 use Rattle.mi_index.specs.declared.structure.Structure.{Structure}
+use Rattle.mi_index.specs.Pass.{AllStand}
+use Rattle.mi_container.specs.Data.{IsData}
 use Rattle.mi_container.proofs.PairLemmas.{some_is}
 use Rattle.mi_ids.specs.declared.entry.IdEntry.{IdEntry}
 use Rattle.mi_ids.specs.IdMap.{with_live}
-use Rattle.mi_multi.specs.Multi.{HasNode, IsMulti}
+use Rattle.mi_multi.specs.Multi.{AllFor, AreLive, HasNode, IsMulti, plain_of}
 use Rattle.mi_multi.proofs.LiveNodeLemmas.{marked_here, marked_beside, len_marked}
 
 module _ (s : Shape) (ids : FinMap nat_cmp IdEntry) (m n : Pooled Stored) (xs : List Structure) (next arrivals : ℕ)
@@ -31,7 +34,7 @@ module _ (s : Shape) (ids : FinMap nat_cmp IdEntry) (m n : Pooled Stored) (xs : 
   has_still q b h = record { value = h.value; is = values b.name ∙ h.is; id = h.id; held = refs b.name ∙ h.held }
 
   -- each id still has its node
-  pub marked_held : (q : ℕ) (a : IdEntry) → get new_ids q ≡ Some a → HasNode n q a.node
+  marked_held : (q : ℕ) (a : IdEntry) → get new_ids q ≡ Some a → HasNode n q a.node
   marked_held q a here =
       elim (eqb_tells q e) [
         | inl it ↦
@@ -42,7 +45,7 @@ module _ (s : Shape) (ids : FinMap nat_cmp IdEntry) (m n : Pooled Stored) (xs : 
       ]
 
   -- each node is still that of an id
-  pub marked_owned : (b : Ref) → IsHeld n b → (q : ℕ) × (a : IdEntry) × (get new_ids q ≡ Some a) × (a.node ≡ b)
+  marked_owned : (b : Ref) → IsHeld n b → (q : ℕ) × (a : IdEntry) × (get new_ids q ≡ Some a) × (a.node ≡ b)
   marked_owned b h =
       let had = is.owned b (sym (refs b.name) ∙ h) in
       elim (eqb_tells had.0 e) [
@@ -53,6 +56,22 @@ module _ (s : Shape) (ids : FinMap nat_cmp IdEntry) (m n : Pooled Stored) (xs : 
       ]
 
   -- there are no more ids than before
-  pub marked_few : len new_ids ≤ 2 ^ 31
+  marked_few : len new_ids ≤ 2 ^ 31
   marked_few =
       let same : len new_ids ≡ len ids = len_marked ids e (record { node = r; live = was }) mark there in let f : len ids ≤ 2 ^ 31 = is.few in omega arith
+
+  -- all stands, where the structures stand with live nodes, and the data are a container's
+  pub marked_multi : (ys : List Structure) (uss : List (List Ref)) → AllStand ys 0 n uss → AllFor s.indexes ys → AllByRecursion (AreLive new_ids n) uss
+      → IsData s (plain_of s new_ids n ys next arrivals) → IsMulti s new_ids n ys next arrivals
+  marked_multi ys uss stand kinds live is_data = record {
+    rss = uss;
+    stand = stand;
+    kinds = kinds;
+    live = live;
+    held = marked_held;
+    owned = marked_owned;
+    is_data = is_data;
+    next_fits = is.next_fits;
+    arrivals_fit = is.arrivals_fit;
+    few = marked_few;
+  }

@@ -34,25 +34,25 @@ use Rattle.mi_index.specs.Standing.{AllAbove, AllBelow, Climb}
 use Rattle.mi_index.specs.Places.{given_at}
 use Rattle.mi_index.specs.Pass.{AllCan}
 use Rattle.mi_index.specs.Rekeying.{side_of_value, KeepsKey, CanMoveBackTo, HasOldPlaceFor, returning_to}
-use Rattle.mi_container.specs.Data.{Content, Node, Order, Data, parts_of, has_stamps, node_of, content_in, content_of, stamp_of, ids_by_stamp, IsData}
+use Rattle.mi_container.specs.Data.{Content, Node, Order, Data, parts_of, has_stamps, node_of, content_in, content_of, ids_by_stamp, IsData}
 use Rattle.mi_container.specs.Data.Order.{ById, ByKey, ByHash, Listed}
-use Rattle.mi_container.specs.Changes.{sorted_order, group, ref_of, head_of}
+use Rattle.mi_container.specs.Changes.{sorted_order, group}
 use Rattle.mi_container.specs.Inverse.{OldPlace, Old, stamp_back, stamps_back, old_content, taken_back}
 use Rattle.mi_container.specs.Inverse.Inverse.{Put}
-use Rattle.mi_container.specs.Fits.{MeetByStamp, PlaceMeets, PlacesMeet, last_or}
+use Rattle.mi_container.specs.Fits.{MeetByStamp, PlaceMeets, PlacesMeet}
 use Rattle.mi_container.proofs.ContentLemmas.{node_with, node_beside}
 use Rattle.mi_ids.specs.declared.entry.IdEntry.{IdEntry}
 use Rattle.mi_multi.specs.Physical.{stored_id, order_of, plan, record_in, stamps_in, node_in}
 use Rattle.mi_multi.specs.Multi.{id_at, ids_at, own_list, own_lists, AreLive, HasNode, IsMulti, plain_of}
 use Rattle.mi_multi.specs.Restored.{to_place}
-use Rattle.mi_multi.proofs.ListLemmas.{first_row, last_row, ref_back, last_ids, head_ids, filter_ids, IsRow}
+use Rattle.mi_multi.proofs.ListLemmas.{filter_ids}
 use Rattle.mi_multi.proofs.EveryIndexLemmas.{Every, one, none, sorted_parts, hashed_order, sequenced_order, has_plan, length_orders}
-use Rattle.mi_multi.proofs.LiveNodeLemmas.{IsLiveRef, node_live, rows_of, holds, lacks_middle, all_left, all_right, all_append}
-use Rattle.mi_multi.proofs.StampLemmas.{stamp_held, below_ids, above_ids, by_stamp_is}
+use Rattle.mi_multi.proofs.LiveNodeLemmas.{IsLiveRef, node_live, holds, lacks_middle, all_left, all_right, all_append}
+use Rattle.mi_multi.proofs.StampLemmas.{stamp_held, by_stamp_is}
 use Rattle.mi_multi.proofs.NeighbourLemmas.{filter_eq, filter_append, ids_append}
 use Rattle.mi_multi.proofs.CountLemmas.{no_longer}
-use Rattle.mi_multi.proofs.PlaceLemmas.{value_not_equal, cut_at, one_cut}
-use Rattle.mi_multi.proofs.ReturnLemmas.{Now, standing, has_sorted}
+use Rattle.mi_multi.proofs.PlaceLemmas.{value_not_equal, cut_at}
+use Rattle.mi_multi.proofs.ReturnLemmas.{Now, standing, has_sorted, meets_between}
 
 -- Keys
 
@@ -132,11 +132,6 @@ climb_left f r (a ∷ as_) bs up = (above_left as_ up.0, climb_left f r as_ bs u
 filter_out : (p : Ref → Bool) (r : Ref) (as_ bs : List Ref) → p r ≡ false → filter p (as_ ++ r ∷ bs) ≡ filter p (as_ ++ bs)
 filter_out p r [] bs no_ = ap (λ t. cond t (r ∷ filter p bs) (filter p bs)) no_
 filter_out p r (a ∷ as_) bs no_ = ap (λ q. cond (p a) (a ∷ q) q) (filter_out p r as_ bs no_)
-
-filtered : (P : Ref → Type 0) (p : Ref → Bool) (qs : List Ref) → AllByRecursion P qs → AllByRecursion P (filter p qs)
-filtered P p [] all = tt
-filtered P p (q ∷ qs) all =
-    elim (p q) as (λ t. AllByRecursion P (cond t (q ∷ filter p qs) (filter p qs))) [ true ↦ (all.0, filtered P p qs all.1) | false ↦ filtered P p qs all.1 ]
 
 module _ (s : Shape) (ids : FinMap nat_cmp IdEntry) (m : Pooled Stored) (xs : List Structure)
     (next arrivals : ℕ) (is : IsMulti s ids m xs next arrivals) (e : ℕ) (r : Ref)
@@ -260,20 +255,8 @@ module _ (s : Shape) (ids : FinMap nat_cmp IdEntry) (m : Pooled Stored) (xs : Li
         ap (filter p) by ∙ filter_ids (id_at m) p (as_ ++ r ∷ bs)
         ∙ ap (ids_at m) (filter_out (λ q. p (id_at m q)) r as_ bs own_ ∙ ap (filter (λ q. p (id_at m q))) c.parts ∙ alike)
         ∙ ids_append (id_at m) (filter p' c.xs) (filter p' c.ys) in
-        let one_way = one_cut (stamp_of d.rows k) was.stamp (ids_at m (filter p' c.xs)) (ids_at m (filter p' c.ys)) meets_.0 meets_.1 (sym whole ∙ meets_.2)
-        (below_ids ids m os k was.stamp c.xs left l has c.below p') (above_ids ids m os k was.stamp c.ys right l has c.above p') meets_.5 meets_.6 in (
-          c.xs,
-          c.ys,
-          c.parts,
-          c.below,
-          c.above,
-          meets_.3 ∙ ap (λ w. ref_of d.rows (last_or None w)) (sym one_way.0) ∙ ap (ref_of d.rows) (last_ids (id_at m) None (filter p' c.xs))
-              ∙ ref_back (id_at m) d.rows (last_of None (filter p' c.xs))
-              (last_row (id_at m) d.rows (filter p' c.xs) (filtered (IsRow (id_at m) d.rows) p' c.xs (rows_of ids m os c.xs left))),
-          meets_.4 ∙ ap (λ w. ref_of d.rows (head_of w)) (sym one_way.1) ∙ ap (ref_of d.rows) (head_ids (id_at m) (filter p' c.ys))
-              ∙ ref_back (id_at m) d.rows (first_of (filter p' c.ys) None)
-              (first_row (id_at m) d.rows (filter p' c.ys) (filtered (IsRow (id_at m) d.rows) p' c.ys (rows_of ids m os c.ys right))),
-        )
+        let beside = meets_between ids m os k was.stamp was.link p' c.xs c.ys (group ps k d.rows old.values) meets_ whole left right l has c.below c.above in
+        (c.xs, c.ys, c.parts, c.below, c.above, beside.0, beside.1)
 
     -- In any index
 

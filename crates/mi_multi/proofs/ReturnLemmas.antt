@@ -1,5 +1,5 @@
 -- A node that left may come back to the places that it remembers.
-use Rattle.std.proofs.Common.{◌≡◌, ◌≢◌, ℕ, ◌+◌, ◌^◌, ◌<◌, ◌≤◌, zero, suc, Bool, true, false, cond}
+use Rattle.std.proofs.Common.{◌≡◌, ◌≢◌, ℕ, ◌+◌, ◌^◌, ◌<◌, ◌≤◌, zero, suc, Bool, true, false}
 use Rattle.std.proofs.Common.{List, [], ◌∷◌, ◌++◌, get_or, length, refl, ap, sym, ◌∙◌, subst, arith}
 use Rattle.std.specs.List.{AllByRecursion, filter}
 use Rattle.std.specs.Option.{option_and_then}
@@ -40,8 +40,9 @@ use Rattle.mi_multi.proofs.PickLemmas.{get_picked}
 use Rattle.mi_multi.proofs.ListLemmas.{IsRow, first_row, last_row, ref_back, last_ids, head_ids, parted, filter_ids}
 use Rattle.mi_multi.proofs.EveryIndexLemmas.{Every, one, none, every, all_known, Known, sorted_parts, hashed_order, sequenced_order, own_is}
 use Rattle.mi_multi.proofs.LiveNodeLemmas.{IsLiveRef, node_live, rows_of, out_of, all_left, all_right}
-use Rattle.mi_multi.proofs.StampLemmas.{stamp_held, below_ids, above_ids, by_stamp_is}
+use Rattle.mi_multi.proofs.StampLemmas.{rows, stamp_held, below_ids, above_ids, by_stamp_is}
 use Rattle.mi_multi.proofs.NeighbourLemmas.{filter_eq, filter_append, ids_append}
+use Rattle.mi_multi.proofs.FoundIdLemmas.{all_filter}
 use Rattle.mi_multi.proofs.CountLemmas.{shorter}
 use Rattle.mi_multi.proofs.PlaceLemmas.{not_equal, cut_at, one_cut}
 
@@ -68,6 +69,24 @@ length_neighbours m k y (o ∷ os) = ap suc (length_neighbours m k (suc y) os)
 pub has_sorted : (ps : List KeyPart) → ps ≢ [] → has_stamps (sorted_order ps) ≡ true
 has_sorted [] some = absurd (some refl)
 has_sorted (p ∷ ps) some = refl
+
+-- those of a key that stand directly before and behind a stamp are the neighbours that a link names by their rows
+pub meets_between : (ids : FinMap nat_cmp IdEntry) (m : Pooled Stored) (os : List Order) (k a : ℕ) (link : Link) (p : Ref → Bool)
+    (us vs : List Ref) (gs : List ℕ) → MeetByStamp k (rows ids m os) a link gs → gs ≡ ids_at m (filter p us) ++ ids_at m (filter p vs)
+    → AllByRecursion (IsLiveRef ids m) us → AllByRecursion (IsLiveRef ids m) vs → k < length os → has_stamps (get_or os k ById) ≡ true
+    → AllBelow (stamp_at m k) a us → AllAbove (stamp_at m k) a vs
+    → (link.back ≡ last_of None (filter p us)) × (link.forth ≡ first_of (filter p vs) None)
+meets_between ids m os k a link p us vs gs meets whole left right few has below above =
+    let its : List (ℕ × Node) = rows ids m os in
+    let one_way = one_cut (stamp_of its k) a (ids_at m (filter p us)) (ids_at m (filter p vs)) meets.0 meets.1 (sym whole ∙ meets.2)
+    (below_ids ids m os k a us left few has below p) (above_ids ids m os k a vs right few has above p) meets.5 meets.6 in (
+      meets.3 ∙ ap (λ w. ref_of its (last_or None w)) (sym one_way.0) ∙ ap (ref_of its) (last_ids (id_at m) None (filter p us))
+          ∙ ref_back (id_at m) its (last_of None (filter p us))
+          (last_row (id_at m) its (filter p us) (all_filter (IsRow (id_at m) its) p us (rows_of ids m os us left))),
+      meets.4 ∙ ap (λ w. ref_of its (head_of w)) (sym one_way.1) ∙ ap (ref_of its) (head_ids (id_at m) (filter p vs))
+          ∙ ref_back (id_at m) its (first_of (filter p vs) None)
+          (first_row (id_at m) its (filter p vs) (all_filter (IsRow (id_at m) its) p vs (rows_of ids m os vs right))),
+    )
 
 -- Before a pass
 
@@ -164,11 +183,6 @@ module _ (s : Shape) (ids : FinMap nat_cmp IdEntry) (m : Pooled Stored) (xs : Li
     keys_for h [] all = tt
     keys_for h (q ∷ qs) all = (key_for h q all.0, keys_for h qs all.1)
 
-    filtered : (P : Ref → Type 0) (p : Ref → Bool) (qs : List Ref) → AllByRecursion P qs → AllByRecursion P (filter p qs)
-    filtered P p [] all = tt
-    filtered P p (q ∷ qs) all =
-        elim (p q) as (λ t. AllByRecursion P (cond t (q ∷ filter p qs) (filter p qs))) [ true ↦ (all.0, filtered P p qs all.1) | false ↦ filtered P p qs all.1 ]
-
     -- where it stands by its stamp, and beside which nodes of its key
     abbrev ByStamp : HashedBy → ℕ → List Ref → Type 0
     ByStamp h k rs = (us : List Ref) × (vs : List Ref) × (rs ≡ us ++ vs)
@@ -194,21 +208,10 @@ module _ (s : Shape) (ids : FinMap nat_cmp IdEntry) (m : Pooled Stored) (xs : Li
         let whole : group h.parts k d.rows (record_in (value_of m r.name)) ≡ ids_at m (filter p' c.xs) ++ ids_at m (filter p' c.ys) =
         ap (filter p) (by ∙ ap (ids_at m) c.parts) ∙ filter_ids (id_at m) p (c.xs ++ c.ys)
         ∙ ap (ids_at m) alike ∙ ids_append (id_at m) (filter p' c.xs) (filter p' c.ys) in
-        let one_way = one_cut (stamp_of d.rows k) a (ids_at m (filter p' c.xs)) (ids_at m (filter p' c.ys)) meets.0 meets.1 (sym whole ∙ meets.2)
-        (below_ids ids m os k a c.xs left l has (subst (λ w. AllBelow (stamp_at m k) w c.xs) (sym a_is) c.below) p')
-        (above_ids ids m os k a c.ys right l has (subst (λ w. AllAbove (stamp_at m k) w c.ys) (sym a_is) c.above) p') meets.5 meets.6 in (
-          c.xs,
-          c.ys,
-          c.parts,
-          c.below,
-          c.above,
-          meets.3 ∙ ap (λ w. ref_of d.rows (last_or None w)) (sym one_way.0) ∙ ap (ref_of d.rows) (last_ids (id_at m) None (filter p' c.xs))
-              ∙ ref_back (id_at m) d.rows (last_of None (filter p' c.xs))
-              (last_row (id_at m) d.rows (filter p' c.xs) (filtered (IsRow (id_at m) d.rows) p' c.xs (rows_of ids m os c.xs left))),
-          meets.4 ∙ ap (λ w. ref_of d.rows (head_of w)) (sym one_way.1) ∙ ap (ref_of d.rows) (head_ids (id_at m) (filter p' c.ys))
-              ∙ ref_back (id_at m) d.rows (first_of (filter p' c.ys) None)
-              (first_row (id_at m) d.rows (filter p' c.ys) (filtered (IsRow (id_at m) d.rows) p' c.ys (rows_of ids m os c.ys right))),
-        )
+        let beside = meets_between ids m os k a (record { back = (link_of m r.name k).back; forth = (link_of m r.name k).forth }) p' c.xs c.ys
+        (group h.parts k d.rows (record_in (value_of m r.name))) meets whole left right l has
+        (subst (λ w. AllBelow (stamp_at m k) w c.xs) (sym a_is) c.below) (subst (λ w. AllAbove (stamp_at m k) w c.ys) (sym a_is) c.above) in
+        (c.xs, c.ys, c.parts, c.below, c.above, beside.0, beside.1)
 
     -- In a list
 

@@ -48,7 +48,7 @@ use Rattle.mi_multi.proofs.EveryIndexLemmas.{Turned, Every, At, at, every, Known
 use Rattle.mi_multi.proofs.EveryIndexLemmas.{has_plan, sequenced_order, sorted_not_sequenced, hashed_not_sequenced, one, none}
 use Rattle.mi_multi.proofs.LiveNodeLemmas.{IsLiveRef, node_live, marked_here, marked_beside, names_apart}
 use Rattle.mi_multi.proofs.LiveNodeLemmas.{lacks_middle, out_of_all, ids_same, all_left, all_right, all_append, once_more}
-use Rattle.mi_multi.proofs.MarkedIdLemmas.{marked_held, marked_owned, marked_few}
+use Rattle.mi_multi.proofs.MarkedIdLemmas.{marked_multi}
 use Rattle.mi_multi.proofs.NeighbourLemmas.{ids_append}
 use Rattle.mi_multi.proofs.ReturnLemmas.{can_return, length_neighbours, has_relinked}
 
@@ -256,15 +256,6 @@ module _ (s : Shape) (ids : FinMap nat_cmp IdEntry) (m n : Pooled Stored) (xs ys
 
     -- all stands after it
     pub back_multi : IsMulti s new_ids n ys next arrivals
-    back_multi = record {
-      rss = changed.uss;
-      stand = changed.stand;
-      kinds = all_for s.indexes xs ys like is.kinds;
-      live = all_live_back turns;
-      held = marked_held s ids m n xs next arrivals is e r false true there changed.keeps.refs changed.keeps.values;
-      owned = marked_owned s ids m n xs next arrivals is e r false true there changed.keeps.refs changed.keeps.values;
-      is_data = subst (IsData s) (sym back_seen) back;
-      next_fits = is.next_fits;
-      arrivals_fit = is.arrivals_fit;
-      few = marked_few s ids m n xs next arrivals is e r false true there changed.keeps.refs changed.keeps.values;
-    }
+    back_multi =
+        marked_multi s ids m n xs next arrivals is e r false true there changed.keeps.refs changed.keeps.values
+        ys changed.uss changed.stand (all_for s.indexes xs ys like is.kinds) (all_live_back turns) (subst (IsData s) (sym back_seen) back)
