@@ -19,4 +19,5 @@ pub mod Examples
 -- What these definitions say of schemas.
 pub use Rattle.mi_catalog.specs.Shape
 pub use Rattle.mi_catalog.specs.Kinds
+pub use Rattle.mi_catalog.specs.Key
 pub use Rattle.mi_catalog.specs.Fitting

@@ -2,7 +2,7 @@ use Rattle.std.proofs.Common.{◌≡◌, ◌<◌, ◌≤◌, ◌⊎◌, inl, inr
 use Rattle.std.proofs.lemmas.Bool.{cases_lt}
 use Rattle.std.proofs.lemmas.List.{take-map}
 use Rattle.mi_model.specs.Page as page
-use Rattle.mi_catalog.specs.Key.{Row}
+use Rattle.mi_model.specs.Key.{Row}
 use Rattle.mi_model.specs.Table.{row}
 use Rattle.mi_model.specs.View.{view}
 use Rattle.mi_model.specs.Kinds.{shows_one_list}
