@@ -16,16 +16,17 @@ use Rattle.mi_container.specs.Fits.{KeptBy}
 use Rattle.mi_container.specs.Run.{Change}
 use Rattle.mi_container.specs.Makes.{Makes}
 use Rattle.mi_journal.specs.Noted.{Noted, noted}
-use Rattle.mi_database.specs.Journal.{data_at, state_of}
+use Rattle.mi_database.specs.Journal.{Journal, data_at, state_of, kept_in}
 use Rattle.mi_database.specs.LinkedData.{LinkedData, data_seen, meaning, IsLinkedData, with_room, kept_datas}
 use Rattle.mi_database.specs.Kept.{kept_rows, KeptRefused}
 use Rattle.mi_database.proofs.LinkedDataLemmas.{Made, made_is_linked, made_keeps}
+use Rattle.mi_database.proofs.LoopLemmas.{linked_data}
 use Rattle.mi_database.specs.declared.linked.Linked.TheInside.{Inside}
 use Rattle.mi_database.proofs.StateLemmas.{within_containers, lift_made, lift_refused, refused_held}
 use Rattle.mi_database.proofs.KeptLemmas.{plain_keeps, kept_refusal}
 
--- the container k of table n, where all else but room is as in the old database
-pub record Spot {X : Type 0} (shape : X → Shape) (plain : X → Data) (c : CatalogShape) (cs : List X) (j : Noted Inverse) (r n : ℕ) (k : X)
+-- the container k of table n, which a change left as k', where all else but room is as in the old database
+pub record Spot {X : Type 0} (shape : X → Shape) (plain : X → Data) (c : CatalogShape) (cs : List X) (j : Noted Inverse) (r n : ℕ) (k k' : X)
     (old : LinkedData) : Type 0 where
   pub is : IsLinkedData (map shape cs) (data_seen c (map plain cs) j r)
   pub state : state_of c (map plain cs) j.sessions r ≡ meaning old
@@ -33,70 +34,70 @@ pub record Spot {X : Type 0} (shape : X → Shape) (plain : X → Data) (c : Cat
   pub listed : n < length c.tables
   pub within : n < length cs
   pub there : k ≡ get_or cs n k
+  pub same : shape k' ≡ shape k
 
 -- the same, of the fields of the code
-abbrev pub SpotIn : {X : Type 0} → (X → Shape) → (X → Data) → Inside X → ℕ → X → LinkedData → Type 0
-SpotIn shape plain a n k old = Spot shape plain a.catalog a.containers.items a.journal a.revision n k old
+abbrev pub SpotIn : {X : Type 0} → (X → Shape) → (X → Data) → Inside X → ℕ → X → X → LinkedData → Type 0
+SpotIn shape plain a n k k' old = Spot shape plain a.catalog a.containers.items a.journal a.revision n k k' old
 
--- its change is made, and the inverse noted or settled
-pub record Changed {X : Type 0} {shape : X → Shape} {plain : X → Data} {c : CatalogShape} {cs : List X} {j : Noted Inverse} {r n : ℕ} {k : X}
-    {old : LinkedData} (s : Spot shape plain c cs j r n k old) (k' : X) (i : Inverse) (after : List X) (next : Noted Inverse) : Type 0 where
-  made : Made shape plain cs after n k k' i j.sessions next.sessions
-
-module _ {X : Type 0} {shape : X → Shape} {plain : X → Data} {c : CatalogShape} {cs : List X} {j : Noted Inverse} {r n : ℕ} {k : X} where
-  pub spot : (old : LinkedData) (changes starts : ℕ) → IsLinkedData (map shape cs) (data_seen c (map plain cs) j r)
-      → data_seen c (map plain cs) j r ≡ with_room changes starts old → n < length old.catalog.tables → k ≡ get_or cs n k
-      → Spot shape plain c cs j r n k old
-  spot old changes starts is same listed there =
-      let within : n < length c.tables = subst (λ (h : LinkedData). n < length h.catalog.tables) (sym same) listed in
+module _ {X : Type 0} {shape : X → Shape} {plain : X → Data} {c : CatalogShape} {cs : List X} {j : Noted Inverse} {r n : ℕ} {k k' : X}
+    {old : LinkedData} where
+  -- what the code knows before the change makes it so, where the change left the schema
+  pub spot : (changes starts : ℕ) → IsLinkedData (map shape cs) (data_seen c (map plain cs) j r)
+      → data_seen c (map plain cs) j r ≡ with_room changes starts old → n < length old.catalog.tables → k ≡ get_or cs n k → shape k' ≡ shape k
+      → Spot shape plain c cs j r n k k' old
+  spot changes starts is room listed there same =
+      let within : n < length c.tables = subst (λ (h : LinkedData). n < length h.catalog.tables) (sym room) listed in
       record {
         is = is;
-        state = ap meaning same;
-        journal = ap (λ (h : LinkedData). h.journal) same;
+        state = ap meaning room;
+        journal = ap (λ (h : LinkedData). h.journal) room;
         listed = within;
         within = within_containers shape plain c cs j.sessions r j.changes j.starts n is within;
         there = there;
+        same = same;
       }
 
-module _ {X : Type 0} {shape : X → Shape} {plain : X → Data} {c : CatalogShape} {cs : List X} {j : Noted Inverse} {r n : ℕ} {k : X} {old : LinkedData}
-    (s : Spot shape plain c cs j r n k old) where
-  -- what the inverse of a change keeps is kept
-  pub spot_keeps : (k' : X) (i : Inverse) → (change : Change) × Makes (shape k) change (plain k) i (plain k') → KeptBy i (data_at (map plain (set cs n k')) n)
-  spot_keeps k' i makes = made_keeps shape plain c cs n k k' i makes.0 j.sessions s.within s.there makes.1 s.is.shapes s.is.linked
+  module _ (s : Spot shape plain c cs j r n k k' old) where
+    -- what the inverse of a change keeps is kept
+    pub spot_keeps : {i : Inverse} (change : Change) → Makes (shape k) change (plain k) i (plain k') → KeptBy i (data_at (map plain (set cs n k')) n)
+    spot_keeps {i} change makes = made_keeps shape plain c cs n k k' i change j.sessions s.within s.there makes s.is.shapes s.is.linked
 
-  module _ {k' : X} {i : Inverse} {after : List X} {next : Noted Inverse} where
-    pub spot_changed : (change : Change) × Makes (shape k) change (plain k) i (plain k') → shape k' ≡ shape k
-        → map plain after ≡ kept_datas n i j.sessions (map plain (set cs n k')) → map shape after ≡ map shape (set cs n k')
-        → next.sessions ≡ noted (n, i) j.sessions → Changed s k' i after next
-    spot_changed makes same datas shapes journal =
-        let made : Made shape plain cs after n k k' i j.sessions next.sessions =
-        record { within = s.within; was = s.there; same = same; change = makes.0; makes = makes.1; datas = datas; shapes = shapes; journal = journal } in
-        record { made = made }
+    -- the change is made, and the inverse noted or settled
+    module _ {i : Inverse} {next : Journal} (change : Change) (makes : Makes (shape k) change (plain k) i (plain k')) (after : List X)
+        (datas : map plain after ≡ kept_datas n i j.sessions (map plain (set cs n k'))) (shapes : map shape after ≡ map shape (set cs n k'))
+        (journal : next ≡ noted (n, i) j.sessions) where
+      -- so it is one that its container made, with its inverse kept
+      made : Made shape plain cs after n k k' i j.sessions next
+      made = record { within = s.within; was = s.there; same = s.same; change = change; makes = makes; datas = datas; shapes = shapes; journal = journal }
 
-    pub spot_held : Changed s k' i after next → IsLinkedData (map shape after) (data_seen c (map plain after) next r)
-    spot_held changed = made_is_linked shape plain c cs after n k k' i j.sessions next.sessions r j.changes j.starts _ _ changed.made s.is
+      -- what holds of every linked database holds still
+      pub spot_held : {changes starts : ℕ} → IsLinkedData (map shape after) (linked_data c (map plain after) next r changes starts)
+      spot_held {changes} {starts} = made_is_linked shape plain c cs after n k k' i j.sessions next r j.changes j.starts changes starts made s.is
 
-    pub spot_outcome : {A : Type 0} → Changed s k' i after next → (f : Shape → Table → Outcome A) (a : Result A Refusal)
-        → Meets (f (shape k) (as_table (plain k))) a (as_table (plain k)) (as_table (plain k'))
-        → Meets (on_table n f (meaning old)) a (meaning old) (state_of c (map plain after) next.sessions r)
-    spot_outcome changed f a meets = lift_made shape plain c cs after n k k' i j.sessions next.sessions r j.changes j.starts f a
-        (meaning old) changed.made s.is meets s.state
+      -- what the container answers and leaves, the database does
+      pub spot_outcome : {A : Type 0} (f : Shape → Table → Outcome A) (a : Result A Refusal)
+          → Meets (f (shape k) (as_table (plain k))) a (as_table (plain k)) (as_table (plain k'))
+          → Meets (on_table n f (meaning old)) a (meaning old) (state_of c (map plain after) next r)
+      spot_outcome f a meets = lift_made shape plain c cs after n k k' i j.sessions next r j.changes j.starts f a (meaning old) made s.is meets s.state
 
-    -- one that keeps no node
-    pub spot_plain : Changed s k' i after next → keeps i ≡ None → kept_rows (data_seen c (map plain after) next r) ≡ kept_more [] (kept_rows old)
-    spot_plain changed none = plain_keeps n old (data_seen c (map plain after) next r) i none (changed.made.journal ∙ ap (noted (n, i)) s.journal)
+    -- a change whose inverse keeps no node leaves the kept rows as they were
+    pub spot_plain : (i : Inverse) {next : Journal} → next ≡ noted (n, i) j.sessions → keeps i ≡ None
+        → map kept_in next ≡ kept_more [] (kept_rows old)
+    spot_plain i {next} journal none = plain_keeps n old (record old { journal = next }) i none (journal ∙ ap (noted (n, i)) s.journal)
 
-  -- the change is refused
-  module _ (k' : X) where
-    pub spot_stays : plain k' ≡ plain k → shape k' ≡ shape k → IsLinkedData (map shape (set cs n k')) (data_seen c (map plain (set cs n k')) j r)
-    spot_stays same shapes = refused_held shape plain c cs n k k' j.sessions r j.changes j.starts s.is s.listed s.there same shapes
+    -- a refused change leaves what holds of every linked database
+    pub spot_stays : plain k' ≡ plain k → IsLinkedData (map shape (set cs n k')) (data_seen c (map plain (set cs n k')) j r)
+    spot_stays refused = refused_held shape plain c cs n k k' j.sessions r j.changes j.starts s.is s.listed s.there refused s.same
 
+    -- what the container answers of a refused change, the database does
     pub spot_refused : {A : Type 0} (f : Shape → Table → Outcome A) (a : Result A Refusal) → plain k' ≡ plain k
         → Meets (f (shape k) (as_table (plain k))) a (as_table (plain k)) (as_table (plain k'))
         → Meets (on_table n f (meaning old)) a (meaning old) (state_of c (map plain (set cs n k')) j.sessions r)
-    spot_refused f a same meets = lift_refused shape plain c cs n k k' j.sessions r j.changes j.starts f a
-        (meaning old) s.is s.listed s.there same meets s.state
+    spot_refused f a refused meets = lift_refused shape plain c cs n k k' j.sessions r j.changes j.starts f a
+        (meaning old) s.is s.listed s.there refused meets s.state
 
+    -- a refused change keeps no node more
     pub spot_unkept : (command : Command) (e : Refusal) → kept_after command (meaning old) (kept_rows old) ≡ kept_rows old
         → KeptRefused command e old (data_seen c (map plain (set cs n k')) j r)
     spot_unkept command e stays = kept_refusal command e old (data_seen c (map plain (set cs n k')) j r) s.journal stays

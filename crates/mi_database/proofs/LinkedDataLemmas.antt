@@ -148,6 +148,3 @@ pub some_modify : (o : Option (ℕ × ℕ)) (s : Shape) (e : ℕ) (old : Data) (
     × Makes s change old i new
 some_modify None s e old i new made = (Replace e made.0, made.1)
 some_modify (Some at) s e old i new made = (Erase e (Some at), made)
-
-pub some_change : {s : Shape} {old : Data} {i : Inverse} {new : Data} (change : Change) → Makes s change old i new → (k : Change) × Makes s k old i new
-some_change change makes = (change, makes)

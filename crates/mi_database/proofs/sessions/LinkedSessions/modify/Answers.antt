@@ -11,51 +11,40 @@ use Rattle.mi_journal.specs.Noted.{noted}
 use Rattle.mi_database.specs.LinkedData.{LinkedData, data_seen, meaning}
 use Rattle.mi_database.proofs.LinkedDataLemmas.{some_modify}
 use Rattle.mi_database.proofs.KeptLemmas.{modify_keeps, modify_kept, modify_refused}
-use Rattle.mi_database.proofs.ChangeLemmas.{SpotIn, Changed, spot, spot_keeps, spot_changed, spot_held, spot_outcome, spot_stays, spot_refused}
+use Rattle.mi_database.proofs.ChangeLemmas.{SpotIn, spot, spot_keeps, spot_held, spot_outcome, spot_stays, spot_refused}
 use Rattle.mi_database.proofs.sessions.LinkedSessions.modify.Given.{Over}
-use Rattle.mi_database.proofs.sessions.LinkedSessions.modify.Goals.{After-modify, After-keep}
+use Rattle.mi_database.proofs.sessions.LinkedSessions.modify.Goals.{After-modify}
 use Rattle.mi_database.proofs.sessions.LinkedSessions.modify.Goals as goal
 
 module _ (g : Over) (c : After-modify g) where
-  -- the container of the table, as it stood in the database
-  before : SpotIn g.C.Container.shape g.C.Container.plain c.self.inside c.args.table c.index_mut.result.now c.args.self.now
-  before = spot c.args.self.now _ _ c.self.invariant (c.self.view_is ∙ c.make_room.ensures.same) c.requires.table c.index_mut.ensures.value
-
-module _ (g : Over) (c : After-keep g)
-    (at : SpotIn g.C.Container.shape g.C.Container.plain c.self.inside c.args.table c.index_mut.result.now c.args.self.now) where
-  -- its change was made, and the inverse noted or settled
-  changed : Changed at c.modify.new.self c.in-Ok.inverse c.keep.new.containers.items c.keep.new.journal
-  changed = spot_changed at (some_modify (lost_to c.in-Ok.inverse) _ c.args.id _ c.in-Ok.inverse _ c.in-Ok.ensures.made) c.modify.ensures.shape
-      c.keep.ensures.datas c.keep.ensures.shapes c.keep.ensures.journal
+  -- the container of the table, as the change found it in the database and left it
+  at : SpotIn g.C.Container.shape g.C.Container.plain c.self.inside c.args.table c.index_mut.result.now c.modify.new.self c.args.self.now
+  at = spot _ _ c.self.invariant (c.self.view_is ∙ c.make_room.ensures.same) c.requires.table c.index_mut.ensures.value c.modify.ensures.shape
 
 pub keep-requires-clause-kept : goal.keep-requires-clause-kept
-keep-requires-clause-kept g c =
-    let o = goal.at.keep-requires-clause-kept g c in let at = before g o.After-modify in
-    spot_keeps at c.modify.new.self c.in-Ok.inverse (some_modify (lost_to c.in-Ok.inverse) _ c.args.id _ c.in-Ok.inverse _ c.in-Ok.ensures.made)
+keep-requires-clause-kept g c = spot_keeps (at g (goal.at.keep-requires-clause-kept g c).After-modify)
+    _ (some_modify (lost_to c.in-Ok.inverse) _ c.args.id _ c.in-Ok.inverse _ c.in-Ok.ensures.made).1
 
 pub invariant_of-self : goal.invariant_of-self
-invariant_of-self g c =
-    let o = goal.at.invariant_of-self g c in let at = before g o.After-modify in
-    spot_held at (changed g o.After-keep at)
+invariant_of-self g c = spot_held (at g (goal.at.invariant_of-self g c).After-modify)
+    _ (some_modify (lost_to c.in-Ok.inverse) _ c.args.id _ c.in-Ok.inverse _ c.in-Ok.ensures.made).1
+    c.keep.new.containers.items c.keep.ensures.datas c.keep.ensures.shapes c.keep.ensures.journal
 
 pub invariant_of-self-in-Err : goal.invariant_of-self-in-Err
-invariant_of-self-in-Err g c =
-    let o = goal.at.invariant_of-self-in-Err g c in let at = before g o.After-modify in
-    spot_stays at c.modify.new.self c.in-Err.ensures.refused c.modify.ensures.shape
+invariant_of-self-in-Err g c = spot_stays (at g (goal.at.invariant_of-self-in-Err g c).After-modify) c.in-Err.ensures.refused
 
 pub returns-in-Ok-clause-outcome : goal.returns-in-Ok-clause-outcome
-returns-in-Ok-clause-outcome g c =
-    let o = goal.at.returns-in-Ok-clause-outcome g c in let at = before g o.After-modify in
-    spot_outcome at (changed g o.After-keep at) (λ s t. modify_outcome s c.args.id c.args.edits.now c.args.rollback t) c.modified-answer.result
+returns-in-Ok-clause-outcome g c = spot_outcome (at g (goal.at.returns-in-Ok-clause-outcome g c).After-modify)
+    _ (some_modify (lost_to c.in-Ok.inverse) _ c.args.id _ c.in-Ok.inverse _ c.in-Ok.ensures.made).1
+    c.keep.new.containers.items c.keep.ensures.datas c.keep.ensures.shapes c.keep.ensures.journal
+    (λ s. modify_outcome s c.args.id c.args.edits.now c.args.rollback) c.modified-answer.result
     (subst (λ (a : Result (Unit {0}) Refusal). MeetsOn
     (modify_outcome (g.C.Container.shape c.index_mut.result.now) c.args.id c.args.edits.now c.args.rollback) a
     (g.C.Container.plain c.index_mut.result.now) (g.C.Container.plain c.modify.new.self)) (sym c.modified-answer.ensures) c.in-Ok.ensures.outcome)
 
 pub returns-in-Err-clause-outcome : goal.returns-in-Err-clause-outcome
-returns-in-Err-clause-outcome g c =
-    let o = goal.at.returns-in-Err-clause-outcome g c in let at = before g o.After-modify in
-    spot_refused at c.modify.new.self
-    (λ s t. modify_outcome s c.args.id c.args.edits.now c.args.rollback t) (Err c.in-Err.refused) c.in-Err.ensures.refused c.in-Err.ensures.outcome
+returns-in-Err-clause-outcome g c = spot_refused (at g (goal.at.returns-in-Err-clause-outcome g c).After-modify)
+    (λ s. modify_outcome s c.args.id c.args.edits.now c.args.rollback) (Err c.in-Err.refused) c.in-Err.ensures.refused c.in-Err.ensures.outcome
 
 pub returns-in-Ok-clause-footprint : goal.returns-in-Ok-clause-footprint
 returns-in-Ok-clause-footprint g c =

@@ -6,52 +6,37 @@ use Rattle.mi_model.specs.Run.Command.{Replace as TheCommand}
 use Rattle.mi_container.specs.Inverse.{keeps}
 use Rattle.mi_container.specs.Run.Change.{Replace}
 use Rattle.mi_database.specs.Kept.{kept_rows}
-use Rattle.mi_database.proofs.LinkedDataLemmas.{some_change}
 use Rattle.mi_database.proofs.KeptLemmas.{none_more}
-use Rattle.mi_database.proofs.ChangeLemmas.{SpotIn, Changed, spot, spot_changed, spot_held, spot_outcome, spot_plain, spot_stays, spot_refused, spot_unkept}
+use Rattle.mi_database.proofs.ChangeLemmas.{SpotIn, spot, spot_held, spot_outcome, spot_plain, spot_stays, spot_refused, spot_unkept}
 use Rattle.mi_database.proofs.sessions.LinkedSessions.replace.Given.{Over}
-use Rattle.mi_database.proofs.sessions.LinkedSessions.replace.Goals.{After-replace, After-keep}
+use Rattle.mi_database.proofs.sessions.LinkedSessions.replace.Goals.{After-replace}
 use Rattle.mi_database.proofs.sessions.LinkedSessions.replace.Goals as goal
 
 module _ (g : Over) (c : After-replace g) where
-  -- the container of the table, as it stood in the database
-  before : SpotIn g.C.Container.shape g.C.Container.plain c.self.inside c.args.table c.index_mut.result.now c.args.self.now
-  before = spot c.args.self.now _ _ c.self.invariant (c.self.view_is ∙ c.make_room.ensures.same) c.requires.table c.index_mut.ensures.value
-
-module _ (g : Over) (c : After-keep g)
-    (at : SpotIn g.C.Container.shape g.C.Container.plain c.self.inside c.args.table c.index_mut.result.now c.args.self.now) where
-  -- its change was made, and the inverse noted or settled
-  changed : Changed at c.replace.new.self c.in-Ok.inverse c.keep.new.containers.items c.keep.new.journal
-  changed = spot_changed at (some_change (Replace c.args.id c.args.row) c.in-Ok.ensures.made) c.replace.ensures.shape
-      c.keep.ensures.datas c.keep.ensures.shapes c.keep.ensures.journal
+  -- the container of the table, as the change found it in the database and left it
+  at : SpotIn g.C.Container.shape g.C.Container.plain c.self.inside c.args.table c.index_mut.result.now c.replace.new.self c.args.self.now
+  at = spot _ _ c.self.invariant (c.self.view_is ∙ c.make_room.ensures.same) c.requires.table c.index_mut.ensures.value c.replace.ensures.shape
 
 pub invariant_of-self : goal.invariant_of-self
-invariant_of-self g c =
-    let o = goal.at.invariant_of-self g c in let at = before g o.After-replace in
-    spot_held at (changed g o.After-keep at)
+invariant_of-self g c = spot_held (at g (goal.at.invariant_of-self g c).After-replace)
+    (Replace c.args.id c.args.row) c.in-Ok.ensures.made c.keep.new.containers.items c.keep.ensures.datas c.keep.ensures.shapes c.keep.ensures.journal
 
 pub invariant_of-self-in-Err : goal.invariant_of-self-in-Err
-invariant_of-self-in-Err g c =
-    let o = goal.at.invariant_of-self-in-Err g c in let at = before g o.After-replace in
-    spot_stays at c.replace.new.self c.in-Err.ensures.refused c.replace.ensures.shape
+invariant_of-self-in-Err g c = spot_stays (at g (goal.at.invariant_of-self-in-Err g c).After-replace) c.in-Err.ensures.refused
 
 pub returns-in-Ok-clause-outcome : goal.returns-in-Ok-clause-outcome
-returns-in-Ok-clause-outcome g c =
-    let o = goal.at.returns-in-Ok-clause-outcome g c in let at = before g o.After-replace in
-    spot_outcome at (changed g o.After-keep at) (λ s t. replace_outcome s c.args.id c.args.row t) (Ok tt) c.in-Ok.ensures.outcome
+returns-in-Ok-clause-outcome g c = spot_outcome (at g (goal.at.returns-in-Ok-clause-outcome g c).After-replace)
+    (Replace c.args.id c.args.row) c.in-Ok.ensures.made c.keep.new.containers.items c.keep.ensures.datas c.keep.ensures.shapes c.keep.ensures.journal
+    (λ s. replace_outcome s c.args.id c.args.row) (Ok tt) c.in-Ok.ensures.outcome
 
 pub returns-in-Err-clause-outcome : goal.returns-in-Err-clause-outcome
-returns-in-Err-clause-outcome g c =
-    let o = goal.at.returns-in-Err-clause-outcome g c in let at = before g o.After-replace in
-    spot_refused at c.replace.new.self
-    (λ s t. replace_outcome s c.args.id c.args.row t) (Err c.in-Err.refused.0) c.in-Err.ensures.refused c.in-Err.ensures.outcome
+returns-in-Err-clause-outcome g c = spot_refused (at g (goal.at.returns-in-Err-clause-outcome g c).After-replace)
+    (λ s. replace_outcome s c.args.id c.args.row) (Err c.in-Err.refused.0) c.in-Err.ensures.refused c.in-Err.ensures.outcome
 
 pub returns-in-Ok-clause-footprint : goal.returns-in-Ok-clause-footprint
-returns-in-Ok-clause-footprint g c =
-    let o = goal.at.returns-in-Ok-clause-footprint g c in let at = before g o.After-replace in
-    spot_plain at (changed g o.After-keep at) (ap keeps c.in-Ok.ensures.made.inverse)
+returns-in-Ok-clause-footprint g c = spot_plain (at g (goal.at.returns-in-Ok-clause-footprint g c).After-replace)
+    c.in-Ok.inverse c.keep.ensures.journal (ap keeps c.in-Ok.ensures.made.inverse)
 
 pub returns-in-Err-clause-footprint : goal.returns-in-Err-clause-footprint
-returns-in-Err-clause-footprint g c =
-    let o = goal.at.returns-in-Err-clause-footprint g c in let at = before g o.After-replace in
-    spot_unkept at c.replace.new.self (TheCommand c.args.table c.args.id c.args.row) c.in-Err.refused.0 (none_more (kept_rows c.args.self.now))
+returns-in-Err-clause-footprint g c = spot_unkept (at g (goal.at.returns-in-Err-clause-footprint g c).After-replace)
+    (TheCommand c.args.table c.args.id c.args.row) c.in-Err.refused.0 (none_more (kept_rows c.args.self.now))
