@@ -1,8 +1,7 @@
 -- What changes, taking back and settling leave of a container and the inverses of its changes.
-use Rattle.std.proofs.Common.{◌≡◌, ℕ, Some, None, List, [], ◌∷◌, ◌++◌, reverse, refl, ap, sym, subst}
+use Rattle.std.proofs.Common.{◌≡◌, ℕ, Some, None, List, [], ◌∷◌, ◌++◌, reverse, refl, ap, sym, ◌∙◌, subst}
 use Rattle.std.specs.declared.option.Option.{Option}
 use Rattle.std.proofs.lemmas.List.{reverse-append}
-use Rattle.mi_value.specs.declared.value.Value.{Value}
 use Rattle.mi_catalog.specs.Shape.{Shape}
 use Rattle.mi_model.specs.Table.{Table}
 use Rattle.mi_container.specs.Data.{Data, IsData, as_table}
@@ -10,7 +9,7 @@ use Rattle.mi_container.specs.Changes.{opened_data}
 use Rattle.mi_container.specs.Inverse.{Inverse, taken_back, settled}
 use Rattle.mi_container.specs.Fits.{KeptBy, Fits}
 use Rattle.mi_container.specs.Run.{Change, changed, inverse_of}
-use Rattle.mi_container.specs.Makes.{Makes, MakesInsert, MakesModify}
+use Rattle.mi_container.specs.Makes.{Makes, MakesModify}
 use Rattle.mi_container.proofs.LawLemmas.{change_fits, oldest_is_settled}
 use Rattle.mi_changes.specs.Undone.{CanTakeBack}
 
@@ -23,10 +22,10 @@ pub stays : (schema shape shape' : Shape) (d d' : Data) (is : List Inverse) → 
 stays schema shape shape' d d' is same was holds =
     subst (λ s. CanTakeBack schema s d' is) (sym same) (subst (λ x. CanTakeBack schema shape x is) (sym was) holds)
 
--- one change more
-pub makes : (schema shape shape' : Shape) (k : Change) (d d' : Data) (i : Inverse) (is : List Inverse) → IsData shape d → shape' ≡ shape
-    → Makes shape k d i d' → CanTakeBack schema shape d is → CanTakeBack schema shape' d' (is ++ i ∷ [])
-makes schema shape shape' k d d' i is good same made holds =
+-- one change more, whose inverse is put behind the others in room made for it
+pub makes : {schema shape shape' : Shape} {d d' : Data} {i : Inverse} {is room after : List Inverse} (k : Change) → IsData shape d → shape' ≡ shape
+    → Makes shape k d i d' → room ≡ is → after ≡ room ++ i ∷ [] → CanTakeBack schema shape d is → CanTakeBack schema shape' d' after
+makes {schema} {shape} {shape'} {d} {d'} {i} {is} k good same made reserved pushed holds =
     let fits : Fits shape (inverse_of k d ∷ reverse is) (as_table d ∷ holds.1) (changed k d) =
     change_fits shape k (reverse is) holds.1 d good made.allowed holds.2 in
     let fits' : Fits shape (i ∷ reverse is) (as_table d ∷ holds.1) d' =
@@ -35,16 +34,14 @@ makes schema shape shape' k d d' i is good same made holds =
     let fits'' : Fits shape (reverse (is ++ i ∷ [])) (as_table d ∷ holds.1) d' =
     subst (λ js. Fits shape js (as_table d ∷ holds.1) d') (sym (reverse-append is (i ∷ []))) fits' in
     let more : CanTakeBack schema shape d' (is ++ i ∷ []) = (holds.0, as_table d ∷ holds.1, fits'') in
-    subst (λ s. CanTakeBack schema s d' (is ++ i ∷ [])) (sym same) more
+    subst (λ js. CanTakeBack schema shape' d' js) (sym (pushed ∙ ap (λ js. js ++ i ∷ []) reserved))
+    (subst (λ s. CanTakeBack schema s d' (is ++ i ∷ [])) (sym same) more)
 
-pub makes_insert : (schema shape shape' : Shape) (place : Option (ℕ × ℕ)) (row : List Value) (d d' : Data) (i : Inverse) (is : List Inverse) → IsData shape d
-    → shape' ≡ shape → MakesInsert shape place row d i d' → CanTakeBack schema shape d is → CanTakeBack schema shape' d' (is ++ i ∷ [])
-makes_insert schema shape shape' place row d d' i is good same made holds = makes schema shape shape' _ d d' i is good same made.1 holds
-
-pub makes_modify : (schema shape shape' : Shape) (why : Option (ℕ × ℕ)) (e : ℕ) (d d' : Data) (i : Inverse) (is : List Inverse) → IsData shape d
-    → shape' ≡ shape → MakesModify why shape e d i d' → CanTakeBack schema shape d is → CanTakeBack schema shape' d' (is ++ i ∷ [])
-makes_modify schema shape shape' None e d d' i is good same made holds = makes schema shape shape' _ d d' i is good same made.1 holds
-makes_modify schema shape shape' (Some at) e d d' i is good same made holds = makes schema shape shape' _ d d' i is good same made holds
+-- whatever a modify made, it is one change
+pub one_change : (why : Option (ℕ × ℕ)) (shape : Shape) (e : ℕ) (d : Data) (i : Inverse) (d' : Data) → MakesModify why shape e d i d'
+    → (k : Change) × Makes shape k d i d'
+one_change None shape e d i d' made = (_, made.1)
+one_change (Some at) shape e d i d' made = (_, made)
 
 turned : (schema shape : Shape) (d : Data) (i : Inverse) (is : List Inverse)
     → (holds : CanTakeBack schema shape d (is ++ i ∷ [])) → Fits shape (i ∷ reverse is) holds.1 d

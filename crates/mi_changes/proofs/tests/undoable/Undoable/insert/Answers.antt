@@ -1,17 +1,9 @@
 -- one inverse more
-use Rattle.std.proofs.Common.{◌≡◌, ◌∙◌, ap, sym, subst, List, [], ◌∷◌, ◌++◌}
-use Rattle.mi_container.specs.Inverse.{Inverse}
-use Rattle.mi_changes.specs.Undone.{CanTakeBack}
-use Rattle.mi_changes.proofs.UndoneLemmas.{makes_insert}
+use Rattle.mi_container.specs.Run.Change.{Insert}
+use Rattle.mi_changes.proofs.UndoneLemmas.{makes}
 use Rattle.mi_changes.proofs.tests.undoable.Undoable.insert.Goals as goal
 
 pub returns-in-Ok : goal.returns-in-Ok
 returns-in-Ok g c =
-    let was = c.args.self.now in
-    let shape = g.C.Container.shape in
-    let plain = g.C.Container.plain in
-    let more : c.push_back_reserved.new.self.items ≡ was.inverses.items ++ c.in-Ok.inverse ∷ [] =
-    c.push_back_reserved.ensures.items ∙ ap (λ (is : List Inverse). is ++ c.in-Ok.inverse ∷ []) c.reserve.ensures.items in
-    subst (λ (is : List Inverse). CanTakeBack was.schema (shape c.insert.new.self) (plain c.insert.new.self) is) (sym {A = List Inverse} more)
-    (makes_insert was.schema (shape was.rows) (shape c.insert.new.self) c.args.before c.args.row (plain was.rows) (plain c.insert.new.self) c.in-Ok.inverse
-    was.inverses.items c.keeps_rules.ensures c.insert.ensures.shape c.in-Ok.ensures.made c.requires)
+    makes (Insert c.args.before c.in-Ok.ensures.made.0 c.args.row) c.keeps_rules.ensures c.insert.ensures.shape c.in-Ok.ensures.made.1
+    c.reserve.ensures.items c.push_back_reserved.ensures.items c.requires
