@@ -29,6 +29,7 @@ use Rattle.mi_container.specs.Data.{as_table}
 use Rattle.mi_container.proofs.SequenceLemmas.{lacks_left}
 use Rattle.mi_ids.specs.declared.entry.IdEntry.{IdEntry}
 use Rattle.mi_ids.specs.IdMap.{live_node}
+use Rattle.mi_multi.specs.Physical.{stored_id}
 use Rattle.mi_multi.specs.Multi.{id_at, ids_at, IsFor, AreLive, IsMulti, plain_of}
 use Rattle.mi_multi.proofs.AnswerLemmas.{live_is}
 use Rattle.mi_multi.proofs.NeighbourLemmas.{ids_append}
@@ -115,7 +116,7 @@ module _ (s : Shape) (ids : FinMap nat_cmp IdEntry) (m : Pooled Stored) (xs : Li
     among =
         let entry = live_is ids e r there in
         let h = holds ids m e r rs entry n.stood.live in
-        let id : id_at m r ≡ e = (let has = is.held e (record { node = r; live = true }) entry in ap Rattle.mi_multi.specs.Physical.id_in has.is ∙ has.id) in
+        let id : id_at m r ≡ e = (let has = is.held e (record { node = r; live = true }) entry in ap stored_id has.is ∙ has.id) in
         let parted : AreLive ids m (h.xs ++ r ∷ h.ys) = subst (AreLive ids m) h.parts n.stood.live in
         record {
           xs = h.xs;

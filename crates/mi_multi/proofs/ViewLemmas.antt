@@ -41,7 +41,7 @@ use Rattle.mi_container.proofs.SequenceLemmas.{Once}
 use Rattle.mi_container.proofs.ViewLemmas.{sorted_is_shown, hashed_is_shown, ids_are_shown}
 use Rattle.mi_ids.specs.declared.entry.IdEntry.{IdEntry}
 use Rattle.mi_ids.specs.IdMap.{live_node, node_if_live}
-use Rattle.mi_multi.specs.Physical.{order_of, plan}
+use Rattle.mi_multi.specs.Physical.{stored_id, order_of, plan}
 use Rattle.mi_multi.specs.Multi.{id_at, ids_at, own_list, HasNode, IsMulti, plain_of}
 use Rattle.mi_multi.proofs.LiveNodeLemmas.{IsLiveRef}
 use Rattle.mi_multi.proofs.StampLemmas.{stamp_row, rises_ids, lists_each}
@@ -91,7 +91,7 @@ module _ (s : Shape) (ids : FinMap nat_cmp IdEntry) (m : Pooled Stored) (xs : Li
   pub row_at : (r : Ref) (v : Stored) → IsLiveRef ids m r → HasNode m (id_at m r) r → value_of m r.name ≡ Some v → row t (id_at m r) ≡ row_in v
   row_at r v live has is_ =
       let here : live_node ids (id_at m r) ≡ Some r = ap node_if_live live in
-      let id : id_at m r ≡ v.id = ap (λ o. Rattle.mi_multi.specs.Physical.id_in o) is_ in
+      let id : id_at m r ≡ v.id = ap stored_id is_ in
       let values = record_of s ids m xs next arrivals (id_at m r) r v here is_ in
       (λ j. (id j, unwrap_or (values j) []))
 
