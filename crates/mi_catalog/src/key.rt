@@ -54,13 +54,7 @@ pub fn compare_to_row(parts: &[KeyPart], key: &[Value], id: u64, row: &Record) -
 }
 
 /// The keys of two rows, each an id and a record, by an index with these parts; by the ids where it has none.
-pub fn compare_rows(
-    parts: &[KeyPart],
-    a: u64,
-    row: &Record,
-    b: u64,
-    other: &Record,
-) -> Ordering
+pub fn compare_rows(parts: &[KeyPart], a: u64, row: &Record, b: u64, other: &Record) -> Ordering
     ensures { result ≡ meaning.compare_rows parts.now (a, row.now) (b, other.now) }
 {
     if parts.is_empty() {

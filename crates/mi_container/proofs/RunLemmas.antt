@@ -55,5 +55,5 @@ runs_unwind s (c ∷ cs) d is a =
       h.0,
       h.1 ∙ ap (table_run s cs) (change_table s c d is a.0),
       back-append (inverses cs (changed c d)) (inverse_of c d ∷ []) (after_changes cs (changed c d))
-      ∙ ap (taken_back (inverse_of c d)) h.2 ∙ change_back s c d is a.0,
+          ∙ ap (taken_back (inverse_of c d)) h.2 ∙ change_back s c d is a.0,
     )
