@@ -1,7 +1,11 @@
 -- A node of the structure is held.
+use Rattle.std.proofs.Common.{rules}
 use Rattle.mi_index.specs.declared.structure.Structure.TheVariants.{Hashed}
 use Rattle.mi_index.proofs.LookUpLemmas.{held_there}
 use Rattle.mi_index.proofs.look.place_in_chains.Goals as goal
 
 pub link-requires-clause-held : goal.link-requires-clause-held
 link-requires-clause-held c = let q = c.requires.node in held_there (Hashed c.args.chains.now) c.args.p.now q.0 c.args.node q.1 q.2
+
+pub returns : goal.returns
+returns c xs ys h = search rules
