@@ -199,7 +199,7 @@ parts_at (suc n) (x ∷ xs) h e = ap (λ ys. x ∷ ys) (parts_at n xs (omega ari
 
 -- ---- over-long texts
 
-marked-long : (t : List ℕ) → MAX_LINE < length t → marked t ≡ None
+pub marked-long : (t : List ℕ) → MAX_LINE < length t → marked t ≡ None
 marked-long t h = let e : nat_lt MAX_LINE (length t) ≡ true = search (rules, arith) in ap (λ b. cond b None (Some t)) e
 
 long-marked : (t : List ℕ) → marked t ≡ None → MAX_LINE < length t
