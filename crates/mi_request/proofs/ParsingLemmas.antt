@@ -8,7 +8,7 @@ use Rattle.json.specs.Json as json
 use Rattle.json.specs.Lex.{tokens}
 use Rattle.serde_json.specs.Data.{Data}
 use Rattle.serde_json.specs.Read.{of_json, read}
-use Rattle.mi_value.specs.declared.refusal.Refusal.TheVariants.{Json, Form}
+use Rattle.mi_value.specs.declared.refusal.Refusal.TheVariants.{Form}
 use Rattle.mi_request.specs.Answers.{IsAnswer}
 use Rattle.mi_request.specs.Lines.{json_of, request_of, request_or_refusal, command_line}
 use Rattle.mi_request.specs.Meant.{meant}

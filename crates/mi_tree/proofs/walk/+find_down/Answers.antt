@@ -3,7 +3,6 @@ use Rattle.mi_node.specs.Pool.{Pooled, link_of}
 use Rattle.mi_node.specs.declared.link.Link.{Link}
 use Rattle.mi_tree.specs.BinaryTree.{nodes}
 use Rattle.mi_tree.specs.Sorted.{AreTagged, side}
-use Rattle.mi_tree.specs.Walking.{is_ascending}
 use Rattle.mi_tree.proofs.BinaryTreeLemmas.{moved, tip_is, slot-moved}
 use Rattle.mi_tree.proofs.SortedLemmas.{side_read, tagged_read, tagged_right, none_here}
 use Rattle.mi_tree.proofs.RemoveLemmas.{held_in}
