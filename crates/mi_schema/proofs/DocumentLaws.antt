@@ -20,13 +20,13 @@ use Rattle.mi_schema.specs.Members.{has_no_other, each, in_front, Fails}
 use Rattle.mi_schema.specs.Reading.{document}
 
 -- each key is one of the names, so no member has another name
-pub has_only-keys : {A : Type 0} (f : A → List ℕ) (xs : List A) (es : List (String Global × Value))
+pub has_no_other-keys : {A : Type 0} (f : A → List ℕ) (xs : List A) (es : List (String Global × Value))
     → list_all (λ k. list_any (λ x. bytes_eq (string_bytes k) (f x)) xs) (keys_of es) ≡ has_no_other (map f xs) (members_view es)
 unfolding has_no_other
-has_only-keys f xs [] = refl
-has_only-keys f xs (e ∷ es) =
+has_no_other-keys f xs [] = refl
+has_no_other-keys f xs (e ∷ es) =
     ap (λ b. b && list_all (λ k. list_any (λ x. bytes_eq (string_bytes k) (f x)) xs) (keys_of es)) (sym (any_of_map (bytes_eq (string_bytes e.0)) f xs))
-    ∙ ap (λ b. list_any (λ n. bytes_eq (string_bytes e.0) n) (map f xs) && b) (has_only-keys f xs es)
+    ∙ ap (λ b. list_any (λ n. bytes_eq (string_bytes e.0) n) (map f xs) && b) (has_no_other-keys f xs es)
 
 -- what was read before, and what is still read
 abbrev pub with_front : {A : Type 0} → List A → Option (List A) → Option (List A)

@@ -57,7 +57,7 @@ fn are_named(names: &[&str], members: &Table) -> bool
 }
 
 /// Whether no member has another name than these.
-fn has_only(names: &[&str], members: &Table) -> bool
+fn has_no_other(names: &[&str], members: &Table) -> bool
     ensures { result ≡ has_no_other (map (λ n. n.now) names.now) (table_view members.now) }
 {
     are_named(names, members)
@@ -86,7 +86,7 @@ fn table(value: &Value) -> Result<&Table, Misread>
 }
 
 /// The text of a member that has to be there.
-fn needed_text(alloc: Global, members: &Table, name: &str) -> Result<Text, Misread>
+fn required_text(alloc: Global, members: &Table, name: &str) -> Result<Text, Misread>
     ensures { IsReadAs (λ t. t) result (required as_str name.now (table_view members.now)) }
 {
     match member(members, name) {
@@ -146,11 +146,11 @@ fn column(alloc: Global, value: &Value) -> Result<DraftColumn, Misread>
     ensures { IsReadAs (λ c. c) result (column_draft (view value.now)) }
 {
     let members = table(value)?;
-    if !has_only(&["name", "type"], members) {
+    if !has_no_other(&["name", "type"], members) {
         return Err(Misread::Shape);
     }
-    let name = needed_text(alloc, members, "name")?;
-    let kind = needed_text(alloc, members, "type")?;
+    let name = required_text(alloc, members, "name")?;
+    let kind = required_text(alloc, members, "type")?;
     Ok(DraftColumn { name, kind })
 }
 
@@ -169,11 +169,11 @@ fn index(alloc: Global, value: &Value) -> Result<DraftIndex, Misread>
     ensures { IsReadAs (λ i. i) result (index_draft (view value.now)) }
 {
     let members = table(value)?;
-    if !has_only(&["name", "kind", "unique", "key"], members) {
+    if !has_no_other(&["name", "kind", "unique", "key"], members) {
         return Err(Misread::Shape);
     }
-    let name = needed_text(alloc, members, "name")?;
-    let kind = needed_text(alloc, members, "kind")?;
+    let name = required_text(alloc, members, "name")?;
+    let kind = required_text(alloc, members, "kind")?;
     let unique = optional_flag(members, "unique")?;
     let key = key(alloc, members)?;
     Ok(DraftIndex {
@@ -195,7 +195,7 @@ fn indexes(alloc: Global, values: &[Value]) -> Result<Vec<DraftIndex>, Misread>
 }
 
 /// The columns, which have to be there.
-fn needed_columns(alloc: Global, members: &Table) -> Result<Vec<DraftColumn>, Misread>
+fn required_columns(alloc: Global, members: &Table) -> Result<Vec<DraftColumn>, Misread>
     ensures { IsReadAs (λ cs. cs.items) result (required (array_of column_draft) (codes "column") (table_view members.now)) }
 {
     match member(members, "column") {
@@ -219,7 +219,7 @@ fn optional_indexes(alloc: Global, members: &Table) -> Result<Vec<DraftIndex>, M
 fn table_named(alloc: Global, name: Text, members: &Table) -> Result<DraftTable, Misread>
     ensures { IsReadAs (λ t. t) result (table_draft name (table_view members.now)) }
 {
-    let columns = needed_columns(alloc, members)?;
+    let columns = required_columns(alloc, members)?;
     let indexes = optional_indexes(alloc, members)?;
     let first_id = optional_number(members, "first_id", 0)?;
     let first_arrival = optional_number(members, "first_arrival", 0)?;
@@ -239,7 +239,7 @@ fn table_named(alloc: Global, name: Text, members: &Table) -> Result<DraftTable,
 fn one_table(alloc: Global, members: &Table) -> Result<Draft, Misread>
     ensures { IsReadAs (λ d. d) result (one_table (table_view members.now)) }
 {
-    let name = needed_text(alloc, members, "table")?;
+    let name = required_text(alloc, members, "table")?;
     let table = table_named(alloc, name, members)?;
     let first_revision = optional_number(members, "first_revision", 0)?;
     let mut tables = Vec::new(alloc);
@@ -256,7 +256,7 @@ fn named_table(alloc: Global, value: &Value) -> Result<DraftTable, Misread>
     ensures { IsReadAs (λ t. t) result (named_table (view value.now)) }
 {
     let members = table(value)?;
-    if !has_only(
+    if !has_no_other(
         &[
             "name",
             "column",
@@ -269,7 +269,7 @@ fn named_table(alloc: Global, value: &Value) -> Result<DraftTable, Misread>
     ) {
         return Err(Misread::Shape);
     }
-    let name = needed_text(alloc, members, "name")?;
+    let name = required_text(alloc, members, "name")?;
     table_named(alloc, name, members)
 }
 
@@ -283,7 +283,7 @@ fn tables(alloc: Global, values: &[Value]) -> Result<Vec<DraftTable>, Misread>
     Ok(tables)
 }
 
-fn needed_tables(alloc: Global, members: &Table) -> Result<Vec<DraftTable>, Misread>
+fn required_tables(alloc: Global, members: &Table) -> Result<Vec<DraftTable>, Misread>
     ensures { IsReadAs (λ ts. ts.items) result (required (array_of named_table) (codes "table") (table_view members.now)) }
 {
     match member(members, "table") {
@@ -297,10 +297,10 @@ fn needed_tables(alloc: Global, members: &Table) -> Result<Vec<DraftTable>, Misr
 fn several_tables(alloc: Global, members: &Table) -> Result<Draft, Misread>
     ensures { IsReadAs (λ d. d) result (several_tables (table_view members.now)) }
 {
-    if !has_only(&["format", "table", "first_revision"], members) {
+    if !has_no_other(&["format", "table", "first_revision"], members) {
         return Err(Misread::Shape);
     }
-    let tables = needed_tables(alloc, members)?;
+    let tables = required_tables(alloc, members)?;
     let first_revision = optional_number(members, "first_revision", 0)?;
     Ok(Draft {
         tables,
@@ -313,7 +313,7 @@ fn several_tables(alloc: Global, members: &Table) -> Result<Draft, Misread>
 pub(crate) fn schema_draft(alloc: Global, members: &Table) -> Result<Draft, Misread>
     ensures { IsReadAs (λ d. d) result (schema_draft (table_view members.now)) }
 {
-    if !has_only(
+    if !has_no_other(
         &[
             "table",
             "column",
@@ -335,7 +335,7 @@ pub(crate) fn schema_draft(alloc: Global, members: &Table) -> Result<Draft, Misr
 fn first_format(alloc: Global, members: &Table) -> Result<Draft, Misread>
     ensures { IsReadAs (λ d. d) result (first_format (table_view members.now)) }
 {
-    if !has_only(
+    if !has_no_other(
         &[
             "format",
             "table",
