@@ -11,9 +11,13 @@ CLIENTS ?= 64
 DAMAGED ?= 0.07
 ROWS ?=
 QUICK ?=
-SHARE = $(DESTDIR)$(PREFIX)/share/weltiyo
+PROGRAM ?=
+ROOT = $(DESTDIR)$(PREFIX)
+SHARE = $(ROOT)/share/weltiyo
 
-.PHONY: help try run build test check-docs bench fuzz faults soak install dist clean
+comma := ,
+
+.PHONY: help try run build test check-docs bench fuzz faults sanitize soak install dist clean
 
 help:
 	@echo 'make try         compiles without proving (about a minute the first time) and serves, at a terminal by a prompt'
@@ -23,13 +27,15 @@ help:
 	@echo 'make test        the gate: the proofs, the must-fail edits, the tests, the program by two compilers'
 	@echo 'make check-docs  runs what README, guide and examples print, and the tests of the Python client and of the scripts'
 	@echo 'make fuzz        random lines to the program and to a reference in Python: SEED=$(SEED) LINES=$(LINES), of which DAMAGED=$(DAMAGED) are damaged'
-	@echo 'make faults      each request for memory refused in turn on worked rows, and a server under a hard limit of memory (some'
-	@echo '                 20 minutes; needs a C compiler and the proved program; ARGS="--row WORDS" takes a part)'
+	@echo 'make faults      each request for memory refused in turn on worked rows and in blocks that need none, and a server under a hard'
+	@echo '                 limit of memory (needs a C compiler; ARGS=--short is the part that the gate runs, ARGS="--row WORDS" another)'
+	@echo 'make sanitize    the tests of the pool of nodes under AddressSanitizer, without proofs, and with requests for memory refused in turn'
 	@echo 'make soak        CLIENTS=$(CLIENTS) loopback clients of 10,000 lines each, all replies compared; clients that read slowly, break off or'
 	@echo '                 never read; and for SECONDS=$(SECONDS) clients whose sums are watched (ARGS="--part lines --lines 1000" takes a part)'
 	@echo 'make bench       the program against a Boost.MultiIndex container, SQLite and Redis, into docs/bench (see bench/README.md);'
 	@echo '                 ROWS=1000,10000 are other sizes; QUICK=1 is small, and shows only that all answer alike'
-	@echo 'make install     copies program, documents, examples and client below PREFIX=$(PREFIX)'
+	@echo 'make install     copies the proved program (make build makes it), its prompt and linter, clients, documents, man pages and'
+	@echo '                 completion below PREFIX=$(PREFIX); PROGRAM=FILE takes another program as it is'
 	@echo 'make dist        the same as one archive, out/weltiyo.tar.gz'
 	@echo 'make clean       removes what was built, and the proofs that `rt check` keeps'
 
@@ -55,6 +61,9 @@ fuzz:
 faults:
 	@$(PYTHON) scripts/faults.py $(ARGS)
 
+sanitize:
+	@$(PYTHON) scripts/sanitize.py $(ARGS)
+
 soak:
 	@$(PYTHON) scripts/soak.py --seconds $(SECONDS) --clients $(CLIENTS) --seed $(SEED) $(ARGS)
 
@@ -62,17 +71,29 @@ bench:
 	@$(if $(QUICK),$(PYTHON) -m unittest discover -s bench/tests)
 	@$(PYTHON) bench/run.py $(if $(ROWS),--rows $(ROWS)) $(if $(QUICK),--quick) $(ARGS)
 
-install: build
-	@install -d '$(DESTDIR)$(PREFIX)/bin' '$(SHARE)/docs' '$(SHARE)/examples' '$(SHARE)/clients/python/mi_client'
-	@install -m 755 crates/mi_server/out/mi_server '$(DESTDIR)$(PREFIX)/bin/'
-	@install -m 644 README.md CHANGELOG.md CONTRIBUTING.md '$(SHARE)/'
+install:
+	@$(if $(PROGRAM),,$(PYTHON) scripts/program.py proved)
+	@install -d '$(ROOT)/bin' '$(ROOT)/share/man/man1' '$(ROOT)/share/bash-completion/completions' '$(ROOT)/share/zsh/site-functions'
+	@install -d '$(SHARE)/docs/bench' '$(SHARE)/bench' '$(SHARE)/examples' '$(SHARE)/scripts' '$(SHARE)/clients/python/mi_client' '$(SHARE)/clients/node'
+	@install -m 755 '$(or $(PROGRAM),crates/mi_server/out/mi_server)' '$(ROOT)/bin/mi_server'
+	@install -m 755 scripts/installed/weltiyo scripts/installed/weltiyo-lint '$(ROOT)/bin/'
+	@install -m 644 docs/man/*.1 '$(ROOT)/share/man/man1/'
+	@for it in mi_server weltiyo weltiyo-lint; do \
+		install -m 644 scripts/completion/weltiyo.bash "$(ROOT)/share/bash-completion/completions/$$it"; done
+	@install -m 644 scripts/completion/_weltiyo '$(ROOT)/share/zsh/site-functions/'
+	@install -m 644 $(wildcard *.md) '$(SHARE)/'
 	@install -m 644 docs/*.md '$(SHARE)/docs/'
+	@install -m 644 docs/bench/* '$(SHARE)/docs/bench/'
+	@install -m 644 bench/README.md '$(SHARE)/bench/'
 	@install -m 644 examples/* '$(SHARE)/examples/'
-	@install -m 644 clients/python/README.md '$(SHARE)/clients/python/'
-	@install -m 644 clients/python/mi_client/*.py '$(SHARE)/clients/python/mi_client/'
-	@echo "installed $(DESTDIR)$(PREFIX)/bin/mi_server and $(SHARE)"
+	@install -m 644 scripts/program.py scripts/schema_lint.py $(wildcard scripts/toml_places.py) '$(SHARE)/scripts/'
+	@install -m 644 $(filter-out %/tests,$(wildcard clients/python/*.*)) '$(SHARE)/clients/python/'
+	@install -m 644 $(wildcard clients/python/mi_client/*.*) '$(SHARE)/clients/python/mi_client/'
+	@install -m 644 $(wildcard clients/node/*.*) '$(SHARE)/clients/node/'
+	@echo "installed below $(ROOT): bin/mi_server$(if $(PROGRAM), ($(PROGRAM)$(comma) as it is)), bin/weltiyo, bin/weltiyo-lint, share"
 
-dist: build
+dist:
+	@$(if $(PROGRAM),,$(PYTHON) scripts/program.py proved)
 	@rm -rf out/dist && mkdir -p out/dist
 	@$(MAKE) --no-print-directory install DESTDIR='$(CURDIR)/out/dist' PREFIX=/weltiyo > out/dist/log.txt
 	@tar -C out/dist -czf out/weltiyo.tar.gz weltiyo

@@ -9,7 +9,8 @@ Fenced blocks are known by the first word behind the fence:
                                       several. NAME.toml is an example or a schema printed before; without it the built-in
                                       one is served. `continued` goes on with the server of the block before.
     toml NAME.toml [fault=WORD]       a schema, on which --check says `ok` or this fault
-    sh, python                        is run where the next block is `output`, which is what it prints; python is run always
+    sh, python, js                    is run where the next block is `output`, which is what it prints; python is run always, and
+                                      js where node is there
     output                            see above
 
 A block with a command line in any other form is an error, so that none stays unchecked. Then the examples are run against
@@ -175,8 +176,8 @@ class Documents:
 
     def code(self, block, wanted):
         text = "\n".join(block.text).replace(PORT, str(program.free_port())).replace("crates/mi_server/out/mi_server", "mi_server")
-        words = [sys.executable, "-c", text] if block.kind() == "python" else ["bash", "-e", "-c", text]
-        ran = self.run(words)
+        words = {"python": [sys.executable, "-c"], "js": ["node", "-e"]}.get(block.kind(), ["bash", "-e", "-c"])
+        ran = self.run([*words, text])
         if ran.returncode:
             raise Differs(f"ended with {ran.returncode}: {ran.stderr}")
         if wanted is not None and ran.stdout.rstrip("\n") != "\n".join(wanted.text):
@@ -189,8 +190,8 @@ class Documents:
             self.check(block.place, self.replies, block)
         elif kind == "toml" and len(block.words) > 1:
             self.check(block.place, self.toml, block)
-        elif kind == "python" or kind == "sh" and wanted:
-            needs = [it[6:] for it in block.words if it.startswith("needs=")]
+        elif kind == "python" or kind in ("sh", "js") and wanted:
+            needs = [it[6:] for it in block.words if it.startswith("needs=")] + ["node"] * (kind == "js")
             lacking = [it for it in needs if not shutil.which(it)]
             if lacking:
                 self.skipped.append(f"{block.place} needs {', '.join(lacking)}")
@@ -274,8 +275,28 @@ class Documents:
         if ran.returncode:
             raise Differs(ran.stderr)
 
-    def fuzz(self):
-        ran = self.run([sys.executable, f"{TOP}/scripts/fuzz.py", "--program", self.path, "--lines", "600"])
+    def node(self):
+        """The tests of the Node client, where node is there and has what they need."""
+        found = shutil.which("node")
+        version = subprocess.run([found, "--version"], capture_output=True, text=True).stdout.strip() if found else ""
+        if found and int(version[1:].split(".")[0]) >= 18:
+            self.check("clients/node/test.js", self.node_tests, found)
+        else:
+            self.skipped.append(f"clients/node/test.js needs node of version 18 or later; {version or 'none'} is there")
+
+    def node_tests(self, node):
+        ran = self.run([node, f"{TOP}/clients/node/test.js"])
+        if ran.returncode:
+            raise Differs(ran.stdout + ran.stderr)
+
+    def heads(self):
+        """Whether each source file and each file of answers opens with what it is."""
+        ran = self.run([sys.executable, f"{TOP}/scripts/check_heads.py"])
+        if ran.returncode:
+            raise Differs(ran.stdout + ran.stderr)
+
+    def script(self, name, *words):
+        ran = self.run([sys.executable, f"{TOP}/scripts/{name}", "--program", self.path, *words])
         if ran.returncode:
             raise Differs(ran.stdout + ran.stderr)
 
@@ -288,7 +309,9 @@ def main():
     options = parser.parse_args()
     path = os.path.abspath(options.program) if options.program else program.program()
     print(f"with {program.title(path)}")
-    files = options.files or [f"{TOP}/README.md", f"{TOP}/CONTRIBUTING.md", *sorted(glob.glob(f"{TOP}/docs/*.md")), f"{TOP}/clients/python/README.md"]
+    files = options.files or [f"{TOP}/{it}" for it in ("README.md", "CONTRIBUTING.md")]
+    if not options.files:
+        files += sorted(glob.glob(f"{TOP}/docs/*.md")) + sorted(glob.glob(f"{TOP}/clients/*/README.md"))
     with tempfile.TemporaryDirectory(prefix="check-docs-") as folder:
         os.mkdir(f"{folder}/bin")
         os.symlink(path, f"{folder}/bin/mi_server")
@@ -302,8 +325,11 @@ def main():
         if not options.files and not options.quick:
             print("== tests", flush=True)
             checks.check("clients/python/tests", checks.tests, f"{TOP}/clients/python/tests")
+            checks.node()
             checks.check("scripts/tests", checks.tests, f"{TOP}/scripts/tests")
-            checks.check("scripts/fuzz.py", checks.fuzz)
+            checks.check("scripts/fuzz.py", checks.script, "fuzz.py", "--lines", "600")
+            checks.check("scripts/stall.py", checks.script, "stall.py")
+            checks.check("scripts/check_heads.py", checks.heads)
     for it in checks.skipped:
         print(f"skipped: {it}")
     print(f"{checks.passed} passed, {checks.failed} failed", flush=True)

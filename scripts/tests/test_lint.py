@@ -11,7 +11,7 @@ sys.path.insert(0, f"{TOP}/scripts")
 
 import program  # noqa: E402
 import schema_lint  # noqa: E402
-import toml_places  # noqa: E402
+from schema_lint import toml_places  # noqa: E402
 
 COLUMN = 'table = "t"\ncolumn = [{name = "a", type = "int"}]\n'
 
@@ -40,6 +40,26 @@ FAULTS = [
     ("format = 2\ntable = []\n", "limit", 2),
 ]
 
+# A document with one slip, and all that is said of it.
+SLIPS = [
+    ('table = "t"\ncolumns = [{name = "a", type = "int"}, {name = "b", type = "int"}]\n'
+     'index = [{name = "i", kind = "ordered", key = ["a", "b"]}, {name = "j", kind = "ranked", key = ["-b"]}]\n',
+     ["2: columns is unknown here; `column` is meant?"]),
+    ('table = "t"\n[[column]]\nnane = "a"\ntype = "int"\n[[index]]\nname = "i"\nkind = "hashed"\nkey = ["a"]\n',
+     ["3: column[1].nane is unknown here; `name` is meant?"]),
+    ('table = "t"\n[[index]]\nname = "i"\nkind = "hashed"\nkey = ["a"]\n', ["1: column is missing"]),
+    ('[[table]]\nname = "a"\ncolumn = [{name = "k", type = "int"}]\n',
+     ["1: format is missing: a schema of several tables, `[[table]]`, has `format = 2` above the first of them"]),
+    ('[[table]]\nname = "a"\nformat = 2\ncolumn = [{name = "k", type = "int"}]\n',
+     ["1: format is missing: a schema of several tables, `[[table]]`, has `format = 2` above the first of them",
+      "3: table[1].format is unknown here: below `[[..]]` it belongs to table[1], so move it above the first of these; known are name, column, index,"
+      " first_id, first_arrival, max_rows"]),
+    ("format = 2\n" + COLUMN,
+     ["2: table is a text, and an array is wanted: a schema of one table has no `format = 2`, and one of several has `[[table]]` with a `name` for each"]),
+    (COLUMN + '[[index]]\nname = "i"\nkind = "ordered"\n', ["3: index[1] (i).key is missing; an ordered index has one"]),
+    (COLUMN + '[[index]]\nname = "i"\nkind = "ranked"\n', ["3: index[1] (i).key is missing; a ranked index has one"]),
+]
+
 CHANGES = [('"int"', '"float"'), ("unique = true", "unique = 1"), ('"ordered"', '"btree"'), ('"-', '"--'), ("=", ""), ('"', ""), ("1000", "-1"),
            ('"ranked"', '"sequenced"'), ('"ranked"', '"hashed"'), ('"by_', '"B_'), ('name = "', 'name = "x'), ("[[index]]", "[[column]]"),
            ("[[table.index]]", "[[index]]"), ("true", "tru"), ("]", ""), ("{", "["), ('"name"', '"owner"'), ("format = 2", "format = 1"), ('"stock"', '"id"')]
@@ -65,6 +85,13 @@ class Lint(unittest.TestCase):
             self.assertEqual(word_of(self.path, text, self.folder), word, text)
         self.assertEqual(schema_lint.places(b"x" * 65_537)[0][0], "file")
         self.assertEqual(schema_lint.places(COLUMN.encode() + b"#\xff\n")[0][:2], ("toml", 3))
+
+    def test_a_slip_is_said_once(self):
+        for text, want in SLIPS:
+            found = schema_lint.places(text.encode())
+            said = [f"{line}: {member} {what}" for _, line, member, what in found]
+            self.assertEqual(said, want, text)
+            self.assertEqual(word_of(self.path, text, self.folder), found[0][0], text)
 
     def test_the_first_word_is_the_program_s(self):
         texts = []

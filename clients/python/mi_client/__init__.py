@@ -9,7 +9,16 @@
 
 It needs Python 3.9 and nothing else.
 """
-from mi_client.database import Database, Ended, Page, Refused, Revision, TooManyEqual
+from mi_client.calls import Page, Revision
+from mi_client.database import Database
+from mi_client.errors import Ended, NeedsSchema, Refused, TooManyEqual
+from mi_client.pipeline import Answer, Pipeline
+from mi_client.plans import Window
+from mi_client.schema import Schema
 from mi_client.server import Server
 
-__all__ = ["Database", "Ended", "Page", "Refused", "Revision", "Server", "TooManyEqual"]
+__version__ = "0.1.0"
+
+__all__ = [
+    "Answer", "Database", "Ended", "NeedsSchema", "Page", "Pipeline", "Refused", "Revision", "Schema", "Server", "TooManyEqual", "Window",
+]

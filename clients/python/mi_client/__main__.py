@@ -1,6 +1,6 @@
-"""`python3 -m mi_client` is the prompt."""
+"""`python3 -m mi_client` is the command `weltiyo`."""
 import sys
 
-from mi_client.prompt import main
+from mi_client.cli import main
 
 sys.exit(main())

@@ -1,4 +1,4 @@
-"""The commands as the prompt knows them: their members, their replies, and a line on each."""
+"""The commands and refusals as the prompt knows them: their members, their replies, and a line on each."""
 from __future__ import annotations
 
 from typing import List, NamedTuple
@@ -60,3 +60,26 @@ COMMANDS = {
                 "the revision, the open sessions, and those that this connection holds", "revision"),
     ]
 }
+
+REFUSALS = {
+    "line": ("the line is longer than 65,536 bytes", "send less at once"),
+    "json": ("it is no JSON, or not UTF-8", "put texts and names into quotation marks, and write true and false small"),
+    "form": ("it is no command, a member is missing, unknown or of another kind, or a number is out of its limits",
+             "`help COMMAND` has the members"),
+    "busy": ("another connection holds sessions", "wait until it has ended them; look-ups are answered meanwhile"),
+    "table": ("no table has this name", "`\\d` lists the tables"),
+    "index": ("the table has no index of this name", "`\\d` lists the indexes"),
+    "kind": ("the command isn't for this kind of index", "`\\d` has the kinds; ranks are for ranked ones, ranges for ordered and ranked ones"),
+    "row": ("the row, `set` or `add` doesn't fit the columns", "a row has exactly the columns, without `id`; int columns take no fractions"),
+    "key": ("the key doesn't fit the index: it is empty, too long, too short where it must be whole, or a value is of another type",
+            "a key is an array of values in the order of the index's parts; a hashed index takes all of them"),
+    "id": ("the named record isn't there, or a look-up has no record", "ask `find`, or `range` of the index `id`"),
+    "range": ("an addition leaves 64 bits", "set another number"),
+    "full": ("the table has its most rows", "erase some, or raise `max_rows` in the schema"),
+    "spent": ("the next id, the counter of changes or the revision is at its end", "start again with lower counters"),
+    "unique": ("another record has this key in a unique index; the reply names both", "modify that one, or take another key"),
+    "depth": ("1,024 sessions are open", "squash, undo or commit some"),
+    "session": ("no session is open", "`start` opens one"),
+    "memory": ("memory was refused, and nothing has changed", "undo, erase, or give the server more"),
+}
+"""Each word of a refusal: when it comes, and what to do."""

@@ -1,82 +1,95 @@
-"""One connection of the table server and its commands as calls. It asks a line, waits for its reply, and keeps no other state."""
+"""One connection of the table server. It sends a line, waits for its reply, and keeps no other state; threads may share it,
+since one asks at a time. Processes may not: after a fork the connection stays with the parent."""
 from __future__ import annotations
 
 import contextlib
-import json
 import os
 import socket
 import subprocess
-from typing import Any, Dict, Iterator, List, NamedTuple, Optional, Sequence, Tuple
+import threading
+import time
+import warnings
+import weakref
+from typing import Any, Iterable, Iterator, List, Optional, Sequence, Type, TypeVar, Union
 
-Row = Dict[str, Any]
-Key = Sequence[Any]
+from mi_client.calls import Request
+from mi_client.channel import Channel
+from mi_client.dialect import Dialect
+from mi_client.errors import Ended
+from mi_client.pipeline import WINDOW, LinesAhead, Pipeline
+from mi_client.schema import Schema
+from mi_client.walks import Walks
 
-MOST_ROWS = 1000
-"""The most rows of one page."""
-
-LONGEST_LINE = 65_536
-"""The most bytes of a line before its newline."""
-
-
-class Refused(Exception):
-    """The server refused a command. `word` is the reason; where it is `unique`, `id` and `index` say which record stands in
-    the way, and of a modify `lost` says whether the modified record was erased."""
-
-    def __init__(self, reply: Dict[str, Any]):
-        super().__init__(reply["error"])
-        self.word: str = reply["error"]
-        self.id: Optional[int] = reply.get("id")
-        self.index: Optional[str] = reply.get("index")
-        self.lost: Optional[bool] = reply.get("lost")
+T = TypeVar("T")
+S = TypeVar("S", Pipeline, LinesAhead)
+AnySchema = Union[None, str, "os.PathLike[str]", Schema]
+"""A schema's file, or a schema that was read."""
 
 
-class Ended(ConnectionError):
-    """The connection is at its end: closed by either side, or broken off in the middle of a command. What it held is undone."""
-
-
-class TooManyEqual(Exception):
-    """A walk over a range can't go on: more records have one key than a page has rows."""
-
-
-class Page(NamedTuple):
-    """The rows of a page, and whether others stand behind them."""
-
-    rows: List[Row]
-    more: bool
-
-
-class Revision(NamedTuple):
-    """The revision, how many sessions are open, and how many of them this connection holds."""
-
-    revision: int
-    depth: int
-    held: int
-
-
-class Database:
+class Database(Walks):
     """A connection. Close it, or use it in a `with`: what it holds is then undone by the server."""
 
-    def __init__(self, reader: Any, writer: Any, closing: Sequence[Any] = (), program: Optional[subprocess.Popen] = None):
-        self._reader, self._writer, self._closing, self._program = reader, writer, list(closing), program
-        self._is_open = True
+    def __init__(
+        self,
+        channel: Channel,
+        closing: Sequence[Any],
+        program: Optional[subprocess.Popen[bytes]] = None,
+        schema: Optional[Schema] = None,
+    ) -> None:
+        """Use `connect` or `start`. `closing` are the streams of the connection, the one that is written first."""
+        self._channel, self._closing, self._program = channel, list(closing), program
+        self._dialect = Dialect(schema)
+        self._lock = threading.RLock()
+        self._unbroken = _Unbroken(self)
+        self._ahead: List[Union[Pipeline, LinesAhead]] = []
+        self._closed_for = ""
+        _opened.add(self)
 
     @classmethod
-    def connect(cls, port: int, timeout: Optional[float] = None) -> Database:
-        """A connection to a server that listens on this port of 127.0.0.1. The server answers once all its clients have come.
-        A reply that takes longer than `timeout` seconds ends the connection."""
-        stream = socket.create_connection(("127.0.0.1", port), timeout=timeout)
+    def connect(cls, port: int, timeout: Optional[float] = None, schema: AnySchema = None, wait: float = 0.0) -> Database:
+        """A connection to a server that listens on this port of 127.0.0.1, or does so within `wait` seconds; else OSError is
+        raised. The server answers once all its clients have come. A reply that takes longer than `timeout` seconds ends the
+        connection. With the `schema` that the server was started with, refusals say which column is at fault, and keys can be
+        given by columns."""
+        read = Schema.of(schema)
+        end = time.monotonic() + wait
+        while True:
+            try:
+                stream = socket.create_connection(("127.0.0.1", port), timeout=timeout)
+                break
+            except ConnectionRefusedError:
+                if time.monotonic() >= end:
+                    raise
+                time.sleep(0.02)
         stream.setsockopt(socket.IPPROTO_TCP, socket.TCP_NODELAY, 1)
-        reader, writer = stream.makefile("rb"), stream.makefile("wb")
-        return cls(reader, writer, [stream])
+        return cls(Channel.of_socket(stream, timeout), [stream], None, read)
 
     @classmethod
-    def start(cls, program: str, schema: Optional[str] = None) -> Database:
-        """A server of its own, asked over its standard input. Its tables are gone when the connection is closed."""
-        words = [os.fspath(program)] + (["--schema", os.fspath(schema)] if schema else [])
+    def start(cls, program: Union[str, os.PathLike[str]], schema: Union[None, str, os.PathLike[str]] = None) -> Database:
+        """A server of its own, asked over its standard input. Its tables are gone when the connection is closed. Raises
+        OSError where there is no such program, and Ended with its words where it ends at once, as with a faulty schema."""
+        words = [os.fspath(program)] + (["--schema", os.fspath(schema)] if schema is not None else [])
         pipes = {"stdin": subprocess.PIPE, "stdout": subprocess.PIPE, "stderr": subprocess.PIPE}
         # (an interrupt at the terminal is for the client, and not for its server)
-        ran = subprocess.Popen(words, start_new_session=True, **pipes)
-        return cls(ran.stdout, ran.stdin, [ran.stderr], ran)
+        ran = subprocess.Popen(words, bufsize=0, start_new_session=True, **pipes)  # type: ignore[call-overload]
+        db = cls(Channel.of_pipes(ran.stdout.fileno(), ran.stdin.fileno()), [ran.stdin, ran.stdout, ran.stderr], ran)
+        try:
+            db.revision()
+            db._dialect.schema = schema_of(schema)
+        except BaseException:
+            db.close()
+            raise
+        return db
+
+    @property
+    def schema(self) -> Optional[Schema]:
+        """The tables, where they are known."""
+        return self._dialect.schema
+
+    @property
+    def process(self) -> Optional[int]:
+        """The number of the server's process, where it is this connection's own."""
+        return self._program.pid if self._program else None
 
     def __enter__(self) -> Database:
         return self
@@ -84,268 +97,166 @@ class Database:
     def __exit__(self, *_: object) -> None:
         self.close()
 
+    def is_open(self) -> bool:
+        """Whether commands can be asked: the connection wasn't closed and hasn't broken off, as far as is known."""
+        return not self._closed_for
+
     def close(self) -> None:
-        """Ends the connection. The server undoes the sessions that it holds. Closing twice is fine."""
-        self._is_open = False
-        for it in [self._writer, self._reader]:
-            with contextlib.suppress(OSError):
+        """Ends the connection, once no other thread asks on it. The server undoes the sessions that it holds. Closing twice is
+        fine."""
+        with self._lock:
+            self._closed_for = self._closed_for or "the connection is closed"
+            for it in self._closing[:2]:
+                with contextlib.suppress(OSError):
+                    it.close()
+            if self._program:
+                self._program.wait()
+            for it in self._closing:
                 it.close()
-        if self._program:
-            self._program.wait()
-        for it in self._closing:
-            it.close()
 
     # Lines
 
+    def alone(self) -> contextlib.AbstractContextManager[Any]:
+        """A block in which no other thread asks on this connection."""
+        return self._lock
+
+    def send(self, request: Request[T]) -> T:
+        """The answer to a request. Raises Refused and Ended."""
+        return self._dialect.read(request, self._exchange(self._dialect.line(request)))
+
     def ask_line(self, line: str) -> str:
         """The reply to one line, both without their newlines. The line has a command: an empty one would have no reply."""
-        if not self._is_open:
-            raise Ended("the connection is closed")
-        if "\n" in line or not line.rstrip("\r"):
-            raise ValueError("a line has one command and no newline")
-        try:
-            self._writer.write(line.encode("utf-8", "surrogatepass") + b"\n")
-            self._writer.flush()
-            reply = self._reader.readline()
-        except OSError as error:
-            raise Ended(self._why() or str(error)) from error
-        except BaseException:
-            # The reply to this line would be taken for that of the next.
-            self.close()
-            raise
-        if not reply.endswith(b"\n"):
-            raise Ended(self._why() or "the server ended the connection")
-        return reply[:-1].decode()
+        return self._exchange(_line_of(line)).decode()
 
-    def _why(self) -> str:
-        """Ends the connection, and says what a server of its own wrote to standard error."""
-        self._is_open = False
-        if not self._program:
-            self.close()
-            return ""
-        with contextlib.suppress(OSError):
-            self._writer.close()
-        said = self._closing[0].read().decode(errors="replace").strip()
-        self.close()
-        return f"the server ended with status {self._program.returncode}: {said}"
+    def ask_lines(self, lines: Iterable[Union[str, bytes]], window: int = WINDOW) -> Iterator[str]:
+        """The replies to many lines, which are sent ahead: at most `window` of them are awaited at a time. Other threads that
+        share the connection wait until all have been answered, or the iterator is closed."""
+        with self._lock, self._sending(LinesAhead(self._step, self._flush, window)) as made:
+            for reply in made.replies(map(_line_of, lines)):
+                yield reply.decode()
 
     def pass_turn(self) -> None:
         """Sends an empty line, which has no reply. The server reads from its connections by turns and waits for each, so one
         that has nothing to ask lets the others go on by this."""
-        if not self._is_open:
-            raise Ended("the connection is closed")
-        try:
-            self._writer.write(b"\n")
-            self._writer.flush()
-        except OSError as error:
-            raise Ended(self._why() or str(error)) from error
-
-    def ask(self, cmd: str, **members: Any) -> Dict[str, Any]:
-        """The accepted reply to a command with these members. A member that is None is left out; else raises `Refused`."""
-        asked = {"cmd": cmd, **{name: it for name, it in members.items() if it is not None}}
-        reply = json.loads(self.ask_line(json.dumps(asked, separators=(",", ":"), ensure_ascii=False)))
-        if not reply["ok"]:
-            raise Refused(reply)
-        return reply
-
-    # Changes
-
-    def insert(self, row: Row, table: Optional[str] = None, before: Optional[Tuple[str, int]] = None) -> int:
-        """Adds a record and answers its id. `before` is a sequenced index and the id that the record comes before in it."""
-        place = {"index": before[0], "id": before[1]} if before else None
-        return self.ask("insert", row=row, table=table, before=place)["id"]
-
-    def replace(self, id: int, row: Row, table: Optional[str] = None) -> None:
-        """Sets another record for an id. A row that was got fits: its member `id` is left out, which is no column."""
-        self.ask("replace", id=id, row=columns_of(row), table=table)
-
-    def modify(
-        self,
-        id: int,
-        set: Optional[Row] = None,
-        add: Optional[Dict[str, int]] = None,
-        rollback: bool = False,
-        table: Optional[str] = None,
-    ) -> None:
-        """Sets columns and adds to int columns. Where a unique index refuses the result, the record is erased, unless
-        `rollback` is asked for; either way `Refused` is raised, and its `lost` says which."""
-        self.ask("modify", id=id, set=set, add=add, rollback=rollback or None, table=table)
-
-    def erase(self, id: int, table: Optional[str] = None) -> None:
-        """Erases a record."""
-        self.ask("erase", id=id, table=table)
-
-    def erase_key(self, index: str, key: Key, table: Optional[str] = None) -> int:
-        """Erases every record with a whole key, and answers how many."""
-        return self.ask("erase_key", index=index, key=list(key), table=table)["erased"]
-
-    def relocate(self, index: str, id: int, before: Optional[int] = None, table: Optional[str] = None) -> None:
-        """Moves a record of a sequenced index directly before another, or to the end."""
-        self.ask("relocate", index=index, id=id, before=before, table=table)
-
-    # Sessions
-
-    def begin(self) -> int:
-        """Opens a session (the command `start`) and answers the revision, which is its number."""
-        return self.ask("start")["revision"]
-
-    def undo(self) -> int:
-        """Takes back all changes since the newest start, and answers the revision."""
-        return self.ask("undo")["revision"]
-
-    def squash(self) -> int:
-        """Joins the newest session into the one below, or keeps its changes where it is the only one; answers the revision."""
-        return self.ask("squash")["revision"]
-
-    def commit(self, revision: int) -> int:
-        """Ends the sessions up to this number, keeps their changes, and answers how many they were."""
-        return self.ask("commit", revision=revision)["committed"]
-
-    def undo_all(self) -> int:
-        """Undoes every open session, and answers how many they were."""
-        return self.ask("undo_all")["undone"]
-
-    def push(self) -> int:
-        """Lets go of the sessions that this connection holds, which stay open, and answers how many they were."""
-        return self.ask("push")["pushed"]
-
-    def reserve(self, changes: int, sessions: int) -> None:
-        """Asks the database for room for so many changes inside sessions (at most 1,000,000) and so many starts (at most
-        1,024), ahead of a block. Raises `Refused` with the word `memory` where there is none; nothing has changed then."""
-        self.ask("reserve", changes=changes, sessions=sessions)
-
-    def revision(self) -> Revision:
-        """The revision, the open sessions, and those that this connection holds."""
-        reply = self.ask("revision")
-        return Revision(reply["revision"], reply["depth"], reply["held"])
+        with self._lock, self._unbroken:
+            self._flush()
+            self._channel.write_all(b"\n")
 
     @contextlib.contextmanager
-    def session(self) -> Iterator[int]:
-        """A session for a block, which gets its number. Where the block raises, all of it is undone, and the exception goes
-        on; else it is squashed, with the sessions that the block left open above it."""
-        number = self.begin()
+    def pipeline(self, window: int = WINDOW) -> Iterator[Pipeline]:
+        """A block of calls that are sent ahead, each of which gives an `Answer`; at most `window` of them are awaited at a
+        time. At its end all are answered, and the first refusal that nobody has looked at is raised; where the block raises,
+        what was called is sent and answered too, and the exception goes on. Other threads wait until the block has ended."""
+        with self._lock:
+            with self._sending(Pipeline(self._dialect, self._step, self._flush, window)) as made:
+                try:
+                    yield made
+                    made.flush()
+                except (Exception, GeneratorExit):
+                    if self.is_open():
+                        made.flush()
+                    raise
+                except BaseException:
+                    self.close()
+                    raise
+            made.end()
+
+    @contextlib.contextmanager
+    def _sending(self, made: S) -> Iterator[S]:
+        """A block in which this is among those that send ahead. One of them at a time has lines that aren't answered."""
+        self._ahead.append(made)
         try:
-            yield number
-        except BaseException:
-            if self._is_open:
-                self._end_session(number, self.undo)
-            raise
-        self._end_session(number, self.squash)
+            yield made
+        finally:
+            self._ahead.remove(made)
 
-    def _end_session(self, number: int, step: Any) -> None:
-        """Ends the session of this number and those above it. One that was committed in the block has ended already."""
-        now = self.revision()
-        while now.revision >= number and now.depth > 0:
-            step()
-            now = self.revision()
+    def _flush(self, but: Any = None) -> None:
+        """Waits until all that was sent ahead is answered, but by this one."""
+        for it in self._ahead:
+            if it is not but:
+                it.flush()
 
-    # Look-ups
+    def _exchange(self, line: bytes) -> bytes:
+        with self._lock, self._unbroken:
+            self._flush()
+            return self._channel.exchange(line)
 
-    def get(self, id: int, table: Optional[str] = None) -> Row:
-        """The record of an id."""
-        return self.ask("get", id=id, table=table)["row"]
+    def _step(self, data: bytes, wait: bool) -> List[bytes]:
+        """Queues bytes, writes and reads, and answers the lines that have come."""
+        with self._lock, self._unbroken:
+            self._channel.queue(data)
+            self._channel.step(wait)
+            return self._channel.taken()
 
-    def find(self, index: str, key: Key, table: Optional[str] = None) -> Row:
-        """The first record with a key; ordered and ranked indexes take the first values of a key too."""
-        return self.ask("find", index=index, key=list(key), table=table)["row"]
+    def _why(self, error: Exception) -> str:
+        """Ends the connection, and says what a server of its own wrote to standard error."""
+        self._closed_for = str(error) or "the connection broke off"
+        if self._program:
+            with contextlib.suppress(OSError):
+                self._closing[0].close()
+            said = self._closing[2].read().decode(errors="replace").strip()
+            self._program.wait()
+            self._closed_for = f"the server ended with status {self._program.returncode}{': ' if said else ''}{said}"
+        self.close()
+        return self._closed_for
 
-    def nth(self, index: str, n: int, table: Optional[str] = None) -> Row:
-        """The record with n others before it in a ranked index."""
-        return self.ask("nth", index=index, n=n, table=table)["row"]
+    def _leave_to_parent(self) -> None:
+        """In a child after a fork: the descriptors are closed here, so that the server sees the end of the parent alone."""
+        self._closed_for = "the connection stayed with the process that opened it; open one in each process"
+        self._of_parent, self._program, self._ahead = self._program, None, []
+        self._lock = threading.RLock()  # (another thread of the parent may have held it)
+        for it in self._closing:
+            it.close()
 
-    def count(self, index: str, key: Key, table: Optional[str] = None) -> int:
-        """How many records have a key."""
-        return self.ask("count", index=index, key=list(key), table=table)["count"]
-
-    def rank(self, index: str, id: int, table: Optional[str] = None) -> int:
-        """How many records stand before a record in a ranked index."""
-        return self.ask("rank", index=index, id=id, table=table)["rank"]
-
-    def lower_rank(self, index: str, key: Key, table: Optional[str] = None) -> int:
-        """How many keys of a ranked index are less."""
-        return self.ask("lower_rank", index=index, key=list(key), table=table)["rank"]
-
-    def upper_rank(self, index: str, key: Key, table: Optional[str] = None) -> int:
-        """How many keys of a ranked index are not greater."""
-        return self.ask("upper_rank", index=index, key=list(key), table=table)["rank"]
-
-    def size(self, table: Optional[str] = None) -> int:
-        """How many records the table has."""
-        return self.ask("size", table=table)["size"]
-
-    def range(
-        self,
-        index: str,
-        lower: Optional[Dict[str, Key]] = None,
-        upper: Optional[Dict[str, Key]] = None,
-        reverse: bool = False,
-        limit: Optional[int] = None,
-        table: Optional[str] = None,
-    ) -> Page:
-        """The first rows of a range, at most `limit` (1 to 1000, 1000 where it is None). `lower` is `{"ge": key}` or
-        `{"gt": key}`, `upper` is `{"le": key}` or `{"lt": key}`."""
-        reply = self.ask("range", index=index, lower=lower, upper=upper, reverse=reverse or None, limit=limit, table=table)
-        return Page(reply["rows"], reply["more"])
-
-    def list(self, index: str, after: Optional[int] = None, limit: Optional[int] = None, table: Optional[str] = None) -> Page:
-        """The first rows of a sequenced index, or of those behind the record `after`, at most `limit`."""
-        reply = self.ask("list", index=index, after=after, limit=limit, table=table)
-        return Page(reply["rows"], reply["more"])
-
-    # Walks over pages
-
-    def walk_range(
-        self,
-        index: str,
-        columns: Sequence[str],
-        lower: Optional[Dict[str, Key]] = None,
-        upper: Optional[Dict[str, Key]] = None,
-        reverse: bool = False,
-        page: int = MOST_ROWS,
-        table: Optional[str] = None,
-    ) -> Iterator[Row]:
-        """The rows of a range, one page after another. `columns` are the parts of the index's key, as the schema has them
-        (`["id"]` for the index `id`; a `-` before a name is passed over).
-
-        The server keeps no cursor: the next page begins at the key of the last row, and the rows of that key which came
-        already are passed over. So a walk ends with `TooManyEqual` where more rows have one key than a page has; a unique
-        key never does that. What others change meanwhile is seen where it stands ahead, and not where it stands behind."""
-        names = [it.lstrip("-") for it in columns]
-        side, including, beyond = ("upper", "le", "lt") if reverse else ("lower", "ge", "gt")
-        bounds = {"lower": lower, "upper": upper}
-        last: Optional[List[Any]] = None
-        given: set = set()
-        while True:
-            rows, more = self.range(index, reverse=reverse, limit=page, table=table, **bounds)
-            new = [it for it in rows if it["id"] not in given]
-            if more and not new and self.count(index, last or [], table) > len(given):
-                raise TooManyEqual(f"more than {page} records of {index} have the key {last}")
-            for row in new:
-                key = [row[name] for name in names]
-                if key != last:
-                    last, given = key, set()
-                given.add(row["id"])
-                yield row
-            if not more:
-                return
-            bounds[side] = {including if new else beyond: last}
-
-    def walk_list(self, index: str, page: int = MOST_ROWS, table: Optional[str] = None) -> Iterator[Row]:
-        """The rows of a sequenced index, one page after another, each page behind the last row of the one before. Where that
-        row is erased meanwhile, `Refused` is raised with the word `id`."""
-        after: Optional[int] = None
-        while True:
-            rows, more = self.list(index, after=after, limit=page, table=table)
-            yield from rows
-            if not more:
-                return
-            after = rows[-1]["id"]
-
-    def count_range(self, index: str, from_key: Key, to_key: Key, table: Optional[str] = None) -> int:
-        """How many records of a ranked index have a key from `from_key` to `to_key`, both included: two look-ups."""
-        return max(0, self.upper_rank(index, to_key, table) - self.lower_rank(index, from_key, table))
+    def __reduce__(self) -> Any:
+        raise TypeError("a connection can't be sent to another process; open one in each")
 
 
-def columns_of(row: Row) -> Row:
-    """A row as it can be sent: without the member `id`, which every reply has and which is no column."""
-    return {name: it for name, it in row.items() if name != "id"}
+class _Unbroken:
+    """A block that exchanges bytes. Where it breaks off the connection is ended, since the reply to what was sent would be taken
+    for that of the next. Raises Ended."""
+
+    __slots__ = ("_db",)
+
+    def __init__(self, db: Database) -> None:
+        self._db = weakref.proxy(db)
+
+    def __enter__(self) -> None:
+        if self._db._closed_for:
+            raise Ended(self._db._closed_for)
+
+    def __exit__(self, kind: Optional[Type[BaseException]], error: Optional[BaseException], _: Any) -> None:
+        if isinstance(error, (OSError, EOFError)) and not isinstance(error, Ended):
+            raise Ended(self._db._why(error)) from error
+        if error is not None:
+            self._db.close()
+
+
+def schema_of(path: Union[None, str, os.PathLike[str]]) -> Optional[Schema]:
+    """The schema that a server was started with; None where it can't be read twice, as from a pipe."""
+    if path is None:
+        return Schema.built_in()
+    try:
+        return Schema.read(path) if os.path.isfile(path) else None
+    except (OSError, ValueError) as error:
+        warnings.warn(f"{os.fspath(path)}: the server takes this schema, and the client can't read it: {error}", stacklevel=3)
+        return None
+
+
+def _line_of(line: Union[str, bytes]) -> bytes:
+    data = line if isinstance(line, bytes) else line.encode("utf-8", "surrogatepass")
+    data = data[:-1] if isinstance(line, bytes) and data.endswith(b"\n") else data
+    if b"\n" in data or not data.rstrip(b"\r"):
+        raise ValueError("a line has one command and no newline")
+    return data + b"\n"
+
+
+_opened: weakref.WeakSet[Database] = weakref.WeakSet()
+
+
+def _leave_all_to_parent() -> None:
+    for it in list(_opened):
+        it._leave_to_parent()
+
+
+os.register_at_fork(after_in_child=_leave_all_to_parent)

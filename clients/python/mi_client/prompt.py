@@ -1,83 +1,50 @@
-"""The prompt: lines in a short form or as JSON, history, completion of names, and help."""
+"""The prompt: commands in a short form or as JSON, with history, completion and help; replies as tables or as lines."""
 from __future__ import annotations
 
 import argparse
 import json
 import os
 import sys
-from typing import Any, List, Optional
+import time
+from typing import List, Optional
 
-from mi_client.commands import COMMANDS
-from mi_client.database import Database, Ended
+from mi_client import explain, show
+from mi_client.commands import COMMANDS, REFUSALS
+from mi_client.completion import completions
+from mi_client.database import Database
+from mi_client.errors import Ended
+from mi_client.opening import add_server, opened
+from mi_client.shorthand import FORMS, line_of
 
 HISTORY = os.path.expanduser("~/.mi_client_history")
 
 WELCOME = "help lists the commands, help COMMAND shows one, Tab completes, Ctrl-D ends"
 
-FORMS = """A line is a command as JSON, which is sent as it stands, or in the short form
-    COMMAND MEMBER=VALUE ..
-where a value is JSON; one that is no JSON, as a bare word, is a text."""
-
-
-def blanks(text: str, at: int) -> int:
-    while at < len(text) and text[at].isspace():
-        at += 1
-    return at
-
-
-def value_at(text: str, at: int) -> Any:
-    """The value that begins here and where it ends: JSON up to a space, else the text up to the next space."""
-    try:
-        found, end = json.JSONDecoder().raw_decode(text, at)
-        if end == len(text) or text[end].isspace():
-            return found, end
-    except ValueError:
-        pass
-    words = text[at:].split(None, 1)
-    word = words[0] if words and not text[at:at + 1].isspace() else ""
-    return word, at + len(word)
-
-
-def line_of(text: str) -> str:
-    """The line that is sent for what was typed. Raises ValueError where it is no command of the short form."""
-    text = text.strip()
-    if text.startswith(("{", "[")):
-        return text
-    name, _, rest = text.partition(" ")
-    members, at = {"cmd": name}, blanks(rest, 0)
-    while at < len(rest):
-        member, equals, _ = rest[at:].partition("=")
-        if not equals or not member.replace("_", "").isalnum():
-            raise ValueError(f"`{rest[at:]}` has no MEMBER=VALUE")
-        members[member], at = value_at(rest, at + len(member) + 1)
-        at = blanks(rest, at)
-    return json.dumps(members, separators=(",", ":"), ensure_ascii=False)
+KEYS = """    \\d         the tables, their columns and indexes
+    \\i FILE    runs the lines of a file
+    \\t         tells or hides how long commands take
+    \\x         shows replies as tables, or as the lines that came
+    quit       ends"""
 
 
 def help_of(word: str) -> str:
+    """The help for a command or for the word of a refusal; of all commands where the word is empty."""
     if not word:
         width = max(map(len, COMMANDS))
-        return "\n".join([FORMS, ""] + [f"    {it.name:{width}}  {it.about}" for it in COMMANDS.values()])
+        commands = [f"    {it.name:{width}}  {it.about}" for it in COMMANDS.values()]
+        return "\n".join([FORMS, "", *commands, "", KEYS, "", f"help WORD explains a refusal: {', '.join(REFUSALS)}"])
+    said: List[str] = []
     it = COMMANDS.get(word)
-    if it is None:
-        return f"there is no command {word}"
-    members = " ".join(it.members) or "none"
-    return f"{it.name}: {it.about}\n    members  {members}\n    reply    {it.reply}\n    example  {it.example}"
+    if it:
+        members = " ".join(it.members) or "none"
+        said.append(f"{it.name}: {it.about}\n    members  {members}\n    reply    {it.reply}\n    example  {it.example}")
+    if word in REFUSALS:
+        when, remedy = REFUSALS[word]
+        said.append(f"refused as {word}: {when}\n    what to do  {remedy}")
+    return "\n".join(said) or f"there is no command and no refusal {word}"
 
 
-def completions(line: str, word: str) -> List[str]:
-    """What the word at the end of a line may become: a command, or a member of the command that the line begins with."""
-    before = line[: len(line) - len(word)].split()
-    if not before or before == ["help"]:
-        names = list(COMMANDS) + ([] if before else ["help", "quit"])
-        return [f"{it} " for it in names if it.startswith(word)]
-    if before[0] in COMMANDS:
-        names = [it.strip("[]") for it in COMMANDS[before[0]].members]
-        return [f"{it}=" for it in names if it.startswith(word)]
-    return []
-
-
-def with_readline() -> None:
+def with_readline(db: Database) -> None:
     """History and completion, where this Python has them."""
     try:
         import readline
@@ -85,7 +52,7 @@ def with_readline() -> None:
         return
 
     def complete(word: str, n: int) -> Optional[str]:
-        found = completions(readline.get_line_buffer()[: readline.get_endidx()], word)
+        found = completions(readline.get_line_buffer()[: readline.get_endidx()], word, db.schema)
         return found[n] if n < len(found) else None
 
     readline.set_completer(complete)
@@ -107,60 +74,133 @@ def with_readline() -> None:
     atexit.register(keep)
 
 
-def answer(db: Database, text: str) -> Optional[str]:
-    """What is printed for a line, or None at `quit`."""
-    words = text.split()
-    if not words:
-        return ""
-    if words[0] in ("quit", "exit"):
-        return None
-    if words[0] == "help":
-        return help_of(words[1] if len(words) > 1 else "")
-    try:
-        return db.ask_line(line_of(text))
-    except ValueError as error:
-        return f"not sent: {error}"
+class Prompt:
+    """What one asks and sees on a connection."""
 
+    def __init__(self, db: Database, typed: bool, tables: bool, times: bool) -> None:
+        self.db, self.typed, self.tables, self.times = db, typed, tables, times
 
-def ask_all(db: Database, typed: bool) -> None:
-    while True:
+    def answer(self, text: str) -> Optional[str]:
+        """What is printed for a line, or None at `quit`. Raises Ended."""
+        words = text.split()
+        if not words:
+            return ""
+        if words[0] in ("quit", "exit"):
+            return None
+        if words[0] == "help":
+            return help_of(words[1] if len(words) > 1 else "")
+        if words[0].startswith("\\"):
+            return self.setting(words)
         try:
-            text = input("> " if typed else "")
-        except EOFError:
-            if typed:
+            line = self.line(text)
+        except ValueError as error:
+            return f"not sent: {error}"
+        began = time.perf_counter()
+        reply = self.db.ask_line(line)
+        took = time.perf_counter() - began
+        return self.shown(line, reply) + (f"\n({took * 1000:.1f} ms)" if self.times else "")
+
+    def line(self, text: str) -> str:
+        """The line to send; keys by columns are put in the order of their index where the schema is known."""
+        line = line_of(text)
+        if self.db.schema and not text.strip().startswith(("{", "[")):
+            members = json.loads(line)
+            index, table = members.get("index"), members.get("table")
+            for name in ("key", "lower", "upper"):
+                given = members.get(name)
+                if name == "key" and isinstance(given, dict):
+                    members[name] = list(self.db.schema.key(index, given, table))
+                elif isinstance(given, dict):
+                    members[name] = {side: self.db.schema.key(index, it, table) for side, it in given.items()}
+            line = json.dumps(members, separators=(",", ":"), ensure_ascii=False)
+        return line
+
+    def shown(self, line: str, reply: str) -> str:
+        if not self.tables:
+            return reply
+        try:
+            asked = json.loads(line)
+        except ValueError:
+            asked = {}
+        asked = asked if isinstance(asked, dict) else {}
+        found = json.loads(reply)
+        if not found["ok"]:
+            word = found["error"]
+            why = explain.why(self.db.schema, asked, word) if "cmd" in asked else ""
+            return f"{reply}\n{why or REFUSALS[word][0]} (help {word})"
+        return show.reply(reply, self.db.schema, asked.get("table"))
+
+    def setting(self, words: List[str]) -> str:
+        if words[0] == "\\x":
+            self.tables = not self.tables
+            return f"replies are shown as {'tables' if self.tables else 'lines'}"
+        if words[0] == "\\t":
+            self.times = not self.times
+            return f"times are {'told' if self.times else 'hidden'}"
+        if words[0] == "\\d":
+            return show.tables(self.db.schema) if self.db.schema else "the schema isn't known: start the prompt with --schema FILE"
+        if words[0] == "\\i" and len(words) == 2:
+            return self.run_file(words[1])
+        return f"not sent: there is no {words[0]}; help lists what is there"
+
+    def run_file(self, path: str) -> str:
+        """Runs a file's lines, up to a `quit`. What is printed goes out line by line."""
+        try:
+            with open(path, encoding="utf-8") as file:
+                for line in file:
+                    said = self.answer(line)
+                    if said is None:
+                        break
+                    if said:
+                        print(said, flush=True)
+        except (OSError, UnicodeDecodeError) as error:
+            return f"not run: {error}"
+        return ""
+
+    def run(self) -> None:
+        """Asks what is typed or piped in, until its end."""
+        while True:
+            try:
+                text = input("> " if self.typed else "")
+            except EOFError:
+                if self.typed:
+                    print()
+                return
+            except KeyboardInterrupt:
                 print()
-            return
-        except KeyboardInterrupt:
-            print()
-            continue
-        said = answer(db, text)
-        if said is None:
-            return
-        if said:
-            print(said, flush=True)
+                continue
+            said = self.answer(text)
+            if said is None:
+                return
+            if said:
+                print(said, flush=True)
 
 
-def main() -> int:
-    parser = argparse.ArgumentParser(prog="mi_client", description="A prompt for the table server.")
-    parser.add_argument("--connect", type=int, metavar="PORT", help="asks the server that listens on this port of 127.0.0.1")
-    parser.add_argument("--program", default="mi_server", help="the server to start, where --connect isn't given")
-    parser.add_argument("--schema", metavar="FILE", help="the schema of that server")
-    options = parser.parse_args()
-    typed = sys.stdin.isatty()
-    if typed:
-        with_readline()
-        print(WELCOME)
+def main(words: Optional[List[str]] = None) -> int:
+    parser = argparse.ArgumentParser(prog="weltiyo", description="A prompt for the table server.")
+    add_server(parser)
+    parser.add_argument("--run", metavar="FILE", help="runs the lines of a file in place of what is typed")
+    parser.add_argument("--tables", action="store_true", help="shows replies as tables, as it does at a terminal")
+    parser.add_argument("--times", action="store_true", help="tells how long commands take, as it does at a terminal")
+    options = parser.parse_args(words)
+    typed = sys.stdin.isatty() and not options.run
     try:
-        if options.connect:
-            db = Database.connect(options.connect)
-        else:
-            db = Database.start(options.program, options.schema)
-        with db:
-            ask_all(db, typed)
+        with opened(options) as db:
+            prompt = Prompt(db, typed, typed or options.tables, typed or options.times)
+            if typed:
+                with_readline(db)
+                print(WELCOME)
+            if options.run:
+                said = prompt.run_file(options.run)
+                if said:
+                    print(f"weltiyo: {said}", file=sys.stderr)
+                    return 1
+            else:
+                prompt.run()
     except KeyboardInterrupt:
-        print("\nmi_client: interrupted while a reply was awaited, so the connection is closed", file=sys.stderr)
+        print("\nweltiyo: interrupted while a reply was awaited, so the connection is closed", file=sys.stderr)
         return 130
     except (Ended, OSError) as error:
-        print(f"mi_client: {error}", file=sys.stderr)
+        print(f"weltiyo: {error}", file=sys.stderr)
         return 1
     return 0

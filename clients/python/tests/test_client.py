@@ -1,23 +1,13 @@
 """The client against a real server, over pipes and over loopback: `python3 -m unittest discover clients/python/tests`.
 
-The program is the one that MI_SERVER names, else what `scripts/program.py path` finds or compiles."""
-import os
-import subprocess
-import sys
-import tempfile
+The program is the one that `kit.py` finds."""
 import threading
 import unittest
 
-HERE = os.path.dirname(os.path.realpath(__file__))
-TOP = os.path.dirname(os.path.dirname(os.path.dirname(HERE)))
-sys.path.insert(0, os.path.dirname(HERE))
+import kit
+from kit import ANN, BOB, program
 
-from mi_client import Database, Ended, Refused, Server, TooManyEqual  # noqa: E402
-from mi_client.commands import COMMANDS  # noqa: E402
-from mi_client.prompt import completions, help_of, line_of  # noqa: E402
-
-ANN = {"owner": "ann", "balance": 50, "vip": False}
-BOB = {"owner": "bob", "balance": 7, "vip": True}
+from mi_client import Database, Ended, Refused, Server, TooManyEqual
 
 MANY = """table = "many"
 column = [{ name = "group", type = "int" }, { name = "name", type = "text" }]
@@ -26,14 +16,6 @@ index = [
     { name = "line", kind = "sequenced" },
 ]
 """
-
-
-def program():
-    named = os.environ.get("MI_SERVER")
-    if not named:
-        words = [sys.executable, f"{TOP}/scripts/program.py", "path"]
-        named = os.environ["MI_SERVER"] = subprocess.run(words, check=True, capture_output=True, text=True).stdout.strip()
-    return named
 
 
 class Commands:
@@ -81,9 +63,11 @@ class Commands:
         self.refused("form", db.ask, "fly")
         self.assertEqual((self.refused("unique", db.insert, ANN).id), 0)
         db.insert(BOB)
-        kept = self.refused("unique", db.modify, 1, set={"owner": "ann"}, rollback=True)
+        kept = self.refused("unique", db.modify, 1, set={"owner": "ann"})
         self.assertEqual((kept.index, kept.id, kept.lost), ("by_owner", 0, False))
-        self.assertTrue(self.refused("unique", db.modify, 1, set={"owner": "ann"}).lost)
+        self.assertEqual(str(kept), "unique: record 0 has this key in by_owner")
+        self.assertEqual(db.get(1)["owner"], "bob")
+        self.assertTrue(self.refused("unique", db.modify, 1, set={"owner": "ann"}, rollback=False).lost)
         self.refused("id", db.get, 1)
 
     def test_sessions(self):
@@ -144,9 +128,18 @@ class OverPipes(Commands, unittest.TestCase):
         self.addCleanup(self.db.close)
 
     def test_a_server_that_ends_says_why(self):
-        with Database.start(program(), schema="/no/such/file") as db:
-            with self.assertRaisesRegex(Ended, "status 3: schema: file"):
-                db.size()
+        self.db._program.kill()
+        with self.assertRaisesRegex(Ended, "^the server ended with status -9$"):
+            self.db.size()
+        with self.assertRaisesRegex(Ended, "status -9"):
+            self.db.size()
+        self.assertFalse(self.db.is_open())
+
+    def test_a_schema_that_is_not_there_fails_at_once(self):
+        with self.assertRaisesRegex(Ended, "^the server ended with status 3: schema: file$"):
+            Database.start(program(), schema="/no/such/file")
+        with self.assertRaises(OSError):
+            Database.start("/no/such/program")
 
 
 class OverLoopback(Commands, unittest.TestCase):
@@ -161,12 +154,8 @@ class Walks(unittest.TestCase):
     """Walks over more rows than a page has, with pages of 10."""
 
     def setUp(self):
-        with tempfile.NamedTemporaryFile("w", suffix=".toml") as file:
-            file.write(MANY)
-            file.flush()
-            self.db = Database.start(program(), file.name)
-            self.addCleanup(self.db.close)
-            self.ids = [self.db.insert({"group": n // 4, "name": str(n)}) for n in range(40)]
+        self.db = kit.start(self, MANY)
+        self.ids = [self.db.insert({"group": n // 4, "name": str(n)}) for n in range(40)]
 
     def test_a_list(self):
         self.assertEqual([it["id"] for it in self.db.walk_list("line", page=7)], self.ids)
@@ -185,7 +174,7 @@ class Walks(unittest.TestCase):
     def test_as_many_equals_as_a_page_has(self):
         want = [it["id"] for it in self.db.range("by_group").rows]
         self.assertEqual([it["id"] for it in self.db.walk_range("by_group", ["group"], page=4)], want)
-        with self.assertRaises(TooManyEqual):
+        with self.assertRaisesRegex(TooManyEqual, r"more than 3 records of by_group have the key \[9\]; an index of the kind `ranked` by group"):
             list(self.db.walk_range("by_group", ["group"], page=3))
 
     def test_an_empty_range(self):
@@ -238,44 +227,6 @@ class Several(unittest.TestCase):
         with Server(program(), schema="/no/such/file") as server:
             with self.assertRaisesRegex(Ended, "schema: file"):
                 server.connect()
-
-
-class Prompt(unittest.TestCase):
-    def test_short_form(self):
-        for typed, want in [
-            ("size", '{"cmd":"size"}'),
-            ("find index=by_owner key=[\"ann b\"]", '{"cmd":"find","index":"by_owner","key":["ann b"]}'),
-            ('range index=x lower={"ge":[1, 2]}  limit=5', '{"cmd":"range","index":"x","lower":{"ge":[1,2]},"limit":5}'),
-            ('{"cmd":"size"}', '{"cmd":"size"}'),
-        ]:
-            self.assertEqual(line_of(typed), want)
-        self.assertRaises(ValueError, line_of, "get 0")
-
-    def test_completion(self):
-        self.assertEqual(completions("er", "er"), ["erase ", "erase_key "])
-        self.assertEqual(completions("help upper", "upper"), ["upper_rank "])
-        self.assertEqual(completions("range re", "re"), ["reverse="])
-        self.assertEqual(completions("what re", "re"), [])
-
-    def test_help(self):
-        self.assertIn("[rollback]", help_of("modify"))
-        self.assertIn("no command", help_of("fly"))
-        for name in COMMANDS:
-            self.assertIn(name, help_of(""))
-
-    def test_every_example_is_a_command(self):
-        with Database.start(program()) as db:
-            for it in COMMANDS.values():
-                reply = db.ask_line(line_of(it.example))
-                self.assertNotIn(reply, ['{"error":"form","ok":false}', '{"error":"json","ok":false}'])
-
-    def test_program(self):
-        words = [sys.executable, "-m", "mi_client", "--program", program()]
-        typed = "insert row={\"owner\":\"ann\",\"balance\":50,\"vip\":false}\nget id=0\nhelp size\nget 0\nquit\nsize\n"
-        ran = subprocess.run(words, input=typed, capture_output=True, text=True, env={**os.environ, "PYTHONPATH": os.path.dirname(HERE)})
-        self.assertEqual(ran.stdout.splitlines()[:2], ['{"id":0,"ok":true}', '{"ok":true,"row":{"balance":50,"id":0,"owner":"ann","vip":false}}'])
-        self.assertTrue(ran.stdout.endswith("not sent: `0` has no MEMBER=VALUE\n"))
-        self.assertEqual(ran.returncode, 0)
 
 
 if __name__ == "__main__":

@@ -1,2 +1,3 @@
+mod AloneLaws
 mod AnswerLemmas
 mod ReadLemmas

@@ -1,13 +1,16 @@
 -- What a line is answered, and what it leaves: a line that is kept out is answered `busy`, and nothing changes.
-use Rattle.std.specs.Prelude.{◌≡◌, ◌≢◌, ◌⊎◌, ℕ, List, ◌&&◌, if◌then◌else◌, Result, Ok, Err, codes}
+use Rattle.std.specs.Prelude.{◌≡◌, ◌⊎◌, ℕ, List, Bool, true, false, ◌&&◌, if◌then◌else◌, Some, None, Result, Ok, Err}
 use Rattle.mi_value.specs.declared.refusal.Refusal.{Refusal}
 use Rattle.mi_value.specs.declared.refusal.Refusal.TheVariants.{Line, Busy, Memory}
 use Rattle.mi_protocol.specs.Lines.{command_line}
 use Rattle.mi_protocol.specs.Commands.{keeps_out}
 use Rattle.mi_protocol.specs.Binding.{bound_command}
 use Rattle.mi_protocol.specs.Replies.{Said, refused, reply_text}
+use Rattle.mi_request.specs.Short.{short_line}
 use Rattle.mi_request.specs.declared.request.Request.{Request}
+use Rattle.mi_request.specs.declared.request.Request.TheVariants as request
 use Rattle.mi_protocol.specs.declared.binding.Command.{Command}
+use Rattle.mi_protocol.specs.declared.binding.Command.TheVariants as command
 use Rattle.mi_commands.specs.Asked.{Asked, text, too_long}
 use Rattle.mi_commands.specs.Holder.{HeldDatabase, is_busy}
 use Rattle.mi_commands.specs.Performed.{performed}
@@ -35,9 +38,35 @@ answer s conn too_long = refusal s Line
 abbrev pub IsGiven : Said × HeldDatabase → HeldDatabase → List ℕ → HeldDatabase → Type 0
 IsGiven a s reply t = (reply ≡ reply_text s.database.catalog a.0) × (t ≡ a.1)
 
--- `memory` may stand in the place of any answer but these, and then nothing has changed
+-- a request that is done and answered without memory. A start and an erase may need room, and a record is shown in memory that is asked for
+abbrev pub needs_none : Request → Bool
+needs_none request.Undo = true
+needs_none request.Squash = true
+needs_none (request.Commit revision) = true
+needs_none request.UndoAll = true
+needs_none request.Push = true
+needs_none request.Revision = true
+needs_none (request.Size None) = true
+needs_none other = false
+
+-- the command that such a request is
+abbrev pub done_without : Command → Bool
+done_without command.Undo = true
+done_without command.Squash = true
+done_without (command.Commit revision) = true
+done_without command.UndoAll = true
+done_without command.Push = true
+done_without command.Revision = true
+done_without (command.Size table) = true
+done_without other = false
+
+-- a line that takes no memory from its first byte to its reply: one of these, as it is written without spaces
+abbrev pub TakesNone : List ℕ → Type 0
+TakesNone t = (r : Request) × (needs_none r ≡ true) × (short_line r ≡ Some t)
+
+-- `memory` may stand in the place of any answer but those to such lines and to over-long ones, and then nothing has changed
 abbrev pub MayLackMemory : Asked → Type 0
-MayLackMemory (text t) = t ≢ codes "{\"cmd\":\"undo\"}"
+MayLackMemory (text t) = ¬ TakesNone t
 MayLackMemory too_long = ⊥
 
 -- this answer, or where it may lack memory that refusal

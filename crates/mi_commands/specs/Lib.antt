@@ -3,3 +3,4 @@ pub mod Asked
 pub mod Holder
 pub mod Performed
 pub mod Answer
+pub mod Alone

@@ -1,17 +1,18 @@
 //! Commands, one line at a time, over the database: parsed, kept out where another connection holds sessions, bound, done, said.
 //! It reads and writes no stream, and knows of the database what `Sessions` says.
-ghost use Rattle.std.specs.Prelude.{◌≡◌, ◌≢◌, ◌≤◌, true, None, Err, IfOk, IfErr, codes, option_map};
+ghost use Rattle.std.specs.Prelude.{◌≡◌, ◌≢◌, ◌≤◌, true, false, None, Err, IfOk, IfErr, option_map};
 ghost use Rattle.mi_model.specs.Database.{depth, undone_times};
-ghost use Rattle.mi_protocol.specs.Binding.{FitsCatalog};
+ghost use Rattle.mi_protocol.specs.Binding.{bound_command, FitsCatalog};
 ghost use Rattle.mi_request.specs.Answers.{IsAnswer, NamesNoIndex};
 ghost use Rattle.mi_request.specs.Lines.{command_line};
 ghost use Rattle.mi_protocol.specs.Replies.{reply_text, refused, said, is_short, IsSaidOf};
 ghost use Rattle.mi_protocol.specs.Text.{text_bytes};
+ghost use Rattle.mi_commands.specs.Answer.{needs_none};
 
 use crate::holder::{Holder, held_by, is_busy, without_holder};
 use crate::line::Line;
 use mi_catalog::Catalog;
-use mi_protocol::{Command, LineReader, Reply, ReplyText, bind};
+use mi_protocol::{Command, LineReader, Reply, ReplyText, Request, bind};
 use mi_sessions::Sessions;
 use mi_value::Refusal;
 use std::alloc::Global;
@@ -41,7 +42,7 @@ impl<D: Sessions + Drop> Model for Executor<D> {
 impl<D: Sessions + Drop> Executor<D> {
     ghost use Rattle.mi_commands.specs.Holder.{released};
     ghost use Rattle.mi_commands.specs.Performed.{performed};
-    ghost use Rattle.mi_commands.specs.Answer.{command_of, GivenOrMemory, MayGive};
+    ghost use Rattle.mi_commands.specs.Answer.{command_of, done_without, TakesNone, GivenOrMemory, MayGive};
     ghost use Rattle.mi_commands.specs.Asked.{text, asked_of};
 
     /// A database that nobody holds sessions of.
@@ -82,8 +83,8 @@ impl<D: Sessions + Drop> Executor<D> {
         undo_times(&mut self.database, count);
     }
 
-    /// Answers a line of a connection. `memory` may stand in the place of any answer but that to the exact undo line or an
-    /// over-long one, and then nothing has changed.
+    /// Answers a line of a connection. `memory` may stand in the place of any answer, and then nothing has changed; but not to an over-long
+    /// line, nor to one of a session command other than `start`, of `revision` or of `size` that is written without spaces.
     pub fn answer(&mut self, conn: u64, line: Line<'_>) -> ReplyText
         ensures { MayGive conn self.old (asked_of line.entry) (text_bytes result) self.new }
     {
@@ -93,10 +94,10 @@ impl<D: Sessions + Drop> Executor<D> {
         }
     }
 
-    /// Does a command that fits the catalog. An undo takes no memory.
+    /// Does a command that fits the catalog. The session commands other than a start, `revision` and `size` take no memory.
     fn perform(&mut self, conn: u64, command: Command) -> ReplyText
         requires { FitsCatalog self.old.database.catalog command }
-        ensures { GivenOrMemory (command ≢ Command.Undo) (performed self.old conn command) self.old (text_bytes result) self.new }
+        ensures { GivenOrMemory (done_without command ≡ false) (performed self.old conn command) self.old (text_bytes result) self.new }
     {
         match command {
             Command::Insert { table, row, before } => self.insert(table, row, before),
@@ -148,22 +149,22 @@ impl<D: Sessions + Drop> Executor<D> {
         }
     }
 
-    /// The command that a line is, unless another connection keeps it out. The exact undo line takes no memory.
+    /// The command that a line is, unless another connection keeps it out.
     fn read(&mut self, conn: u64, bytes: &[u8]) -> Result<Command, Refusal>
         ensures kept { self.new ≡ self.old }
         ensures answer { IsAnswer result (command_of self.old conn (command_line bytes.now)) }
         ensures refusal { IfErr result NamesNoIndex }
         ensures fits { IfOk result (λ command. FitsCatalog self.old.database.catalog command) }
-        ensures memory { result ≡ Err Refusal.Memory → bytes.now ≢ codes "{\"cmd\":\"undo\"}" }
+        ensures memory { result ≡ Err Refusal.Memory → ¬ TakesNone bytes.now }
     {
         let request = self.lines.parse(bytes)?;
         if request.keeps_out() && is_busy(&self.holder, conn) {
             return Err(Refusal::Busy);
         }
-        bind(self.alloc, request, self.database.catalog())
+        command_of(self.alloc, request, self.database.catalog())
     }
 
-    /// Answers a line that is not over-long. The exact undo line takes no memory.
+    /// Answers a line that is not over-long.
     fn answer_text(&mut self, conn: u64, bytes: &[u8]) -> ReplyText
         ensures { MayGive conn self.old (text bytes.now) (text_bytes result) self.new }
     {
@@ -188,6 +189,26 @@ impl<D: Sessions + Drop> Executor<D> {
         ensures { text_bytes result ≡ reply_text self.now.database.catalog (said reply.entry) }
     {
         reply.text(self.alloc, self.database.catalog()).unwrap()
+    }
+}
+
+/// The command that a request is over a catalog. One that names nothing of it is its command as it stands, and takes no memory.
+fn command_of(alloc: Global, request: Request<'_>, catalog: &Catalog) -> Result<Command, Refusal>
+    ensures answer { IsAnswer result (bound_command catalog.now request.entry) }
+    ensures refusal { IfErr result NamesNoIndex }
+    ensures fits { IfOk result (λ command. FitsCatalog catalog.now command) }
+    ensures memory { needs_none request.entry ≡ true → result ≢ Err Refusal.Memory }
+{
+    catalog.keeps_rules();
+    match request {
+        Request::Undo => Ok(Command::Undo),
+        Request::Squash => Ok(Command::Squash),
+        Request::Commit { revision } => Ok(Command::Commit { revision }),
+        Request::UndoAll => Ok(Command::UndoAll),
+        Request::Push => Ok(Command::Push),
+        Request::Revision => Ok(Command::Revision),
+        Request::Size { table: None } => Ok(Command::Size { table: 0 }),
+        named => bind(alloc, named, catalog),
     }
 }
 

@@ -5,6 +5,7 @@
 mod changes;
 mod executor;
 mod holder;
+pub mod laws;
 mod line;
 mod look_ups;
 mod sessions;

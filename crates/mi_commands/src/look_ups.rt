@@ -14,7 +14,7 @@ use mi_value::{Lower, Refusal, Steps, Upper, Value};
 impl<D: Sessions + Drop> Executor<D> {
     ghost use Rattle.mi_commands.specs.Performed as performed;
     ghost use Rattle.mi_commands.specs.Performed.{performed as done};
-    ghost use Rattle.mi_commands.specs.Answer.{GivenOrMemory};
+    ghost use Rattle.mi_commands.specs.Answer.{GivenOrMemory, IsGiven};
 
     /// Shows a record.
     pub(crate) fn get(&self, table: usize, id: u64) -> ReplyText
@@ -156,10 +156,10 @@ impl<D: Sessions + Drop> Executor<D> {
         self.say(Reply::Ranked(not_greater))
     }
 
-    /// Says how many records a table has.
+    /// Says how many records a table has. It takes no memory.
     pub(crate) fn size(&self, table: usize) -> ReplyText
         requires { FitsCatalog self.now.database.catalog (Command.Size table) }
-        ensures { GivenOrMemory (Unit {0}) (done self.now 0 (Command.Size table)) self.now (text_bytes result) self.now }
+        ensures { IsGiven (done self.now 0 (Command.Size table)) self.now (text_bytes result) self.now }
     {
         self.say(Reply::Sized(size(&self.database, table)))
     }

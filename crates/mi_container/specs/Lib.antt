@@ -7,6 +7,7 @@ pub mod Laws
 pub mod Examples
 pub mod Makes
 pub mod Asked
+pub mod Held
 pub mod Made
 pub mod Packed
 pub mod Backs

@@ -1,16 +1,18 @@
 //! The calls of a container: the rows of one table, linked into its indexes, and changes with their inverses. It says what
 //! each call answers and leaves, by plain data and the definitions of tables, and nothing of how rows are linked. It knows
 //! no sessions.
-ghost use Rattle.std.specs.Prelude.{◌≡◌, ◌≢◌, ◌<◌, ◌≤◌, ◌+◌, ◌*◌, ◌^◌, ℕ, map, IsTrue, IfOk, IfErr, IfSome};
+ghost use Rattle.std.specs.Prelude.{◌≡◌, ◌≢◌, ◌<◌, ◌≤◌, ◌+◌, ◌*◌, ◌^◌, ℕ, List, [], map, IsTrue, IfOk, IfErr, IfSome};
 ghost use Rattle.std.specs.Option.{option_copied};
 ghost use Rattle.mi_value.specs.declared.refusal.Refusal.TheVariants.{Memory};
 ghost use Rattle.mi_catalog.specs.Shape.{Shape};
 ghost use Rattle.mi_model.specs.Table.{get as get_row, has as has_row, size as size_of};
 ghost use Rattle.mi_model.specs.LookUp as look;
+ghost use Rattle.mi_model.specs.Conflict as meaning;
 ghost use Rattle.mi_model.specs.Walk.{rows_from};
 ghost use Rattle.mi_model.specs.Verdict.{insert_outcome, replace_outcome, modify_outcome, erase_outcome, relocate_outcome};
 ghost use Rattle.mi_container.specs.Asked.{IsKeyed, IsHashed, IsSorted, IsSequenced, ShowsOneList, RecordFits, EditsFit, WholeKey, KeyPrefix};
 ghost use Rattle.mi_container.specs.Data.{Data, IsData, as_table};
+ghost use Rattle.mi_container.specs.Held.{HoldsNodes};
 ghost use Rattle.mi_container.specs.Changes.{opened_data};
 ghost use Rattle.mi_container.specs.Inverse.{taken_back, settled, lost_to};
 ghost use Rattle.mi_container.specs.Fits.{Ready, KeptBy};
@@ -27,6 +29,9 @@ use std::alloc::{AllocError, Global};
 /// Each accepted change answers its inverse. Of a change the clause `outcome` says what it means to the table, and `made`
 /// which change of the data it was, and that the answer is its inverse. A refused change leaves the data as they were.
 ///
+/// `held` has the ids that stand in the nodes of the container's pool, one for each node: what memory has, and not what
+/// the data say.
+///
 /// Calls that compare keys count each comparison on `steps`. In a table whose size has b binary digits a look-up makes at
 /// most 2 b + 1.
 pub trait Container: Drop {
@@ -34,15 +39,23 @@ pub trait Container: Drop {
 
     ghost plain: { Self → Data };
 
+    ghost held: { Self → List ℕ };
+
     /// States what holds of every container. It does nothing.
     fn keeps_rules(&self)
         ensures { IsData (shape self.now) (plain self.now) };
+
+    /// States that the pool's nodes are those of the rows and those that are kept, each once, and no others. It does
+    /// nothing.
+    fn keeps_nodes(&self)
+        ensures { HoldsNodes (held self.now) (plain self.now) };
 
     /// A container without rows. What it answers is the same for every secret, which hashed indexes may mix into the hashes
     /// of keys: then who doesn't know it can't aim keys at one bucket.
     fn new(alloc: Global, schema: Schema, secret: u64) -> Result<Self, AllocError>
         ensures shape { IfOk result (λ made. shape made ≡ schema) }
-        ensures plain { IfOk result (λ made. plain made ≡ opened_data schema) };
+        ensures plain { IfOk result (λ made. plain made ≡ opened_data schema) }
+        ensures held { IfOk result (λ made. held made ≡ []) };
 
     /// Adds a record and answers its id. It goes last in each index among its equals; in the sequenced index that `before`
     /// names it stands directly before the record that `before` names.
@@ -141,6 +154,11 @@ pub trait Container: Drop {
     fn get(&self, id: u64, steps: &mut Steps) -> Option<&Record>
         ensures record { option_copied result ≡ get_row (as_table (plain self.now)) id }
         ensures steps { (b : ℕ) → size_of (as_table (plain self.now)) < 2 ^ b → steps.new.count ≤ steps.old.count + (2 * b + 1) };
+
+    /// The first unique index, but for the index `id`, that refuses a record, and the row for which it does. The row of
+    /// `except` isn't counted. One look-up for each unique index. Takes no memory.
+    fn conflict(&self, row: &Record, except: Option<u64>) -> Option<(usize, u64)>
+        ensures { result ≡ meaning.conflict (shape self.now) (as_table (plain self.now)) row.now except };
 
     /// The first id that an index shows, or none where there are no records.
     fn first(&self, index: usize) -> Option<u64>

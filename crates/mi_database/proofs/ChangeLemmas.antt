@@ -20,7 +20,6 @@ use Rattle.mi_database.specs.Journal.{Journal, data_at, state_of, kept_in}
 use Rattle.mi_database.specs.LinkedData.{LinkedData, data_seen, meaning, IsLinkedData, with_room, kept_datas}
 use Rattle.mi_database.specs.Kept.{kept_rows, KeptRefused}
 use Rattle.mi_database.proofs.LinkedDataLemmas.{Made, made_is_linked, made_keeps}
-use Rattle.mi_database.proofs.LoopLemmas.{linked_data}
 use Rattle.mi_database.specs.declared.linked.Linked.TheInside.{Inside}
 use Rattle.mi_database.proofs.StateLemmas.{within_containers, lift_made, lift_refused, refused_held}
 use Rattle.mi_database.proofs.KeptLemmas.{plain_keeps, kept_refusal}
@@ -28,7 +27,7 @@ use Rattle.mi_database.proofs.KeptLemmas.{plain_keeps, kept_refusal}
 -- the container k of table n, which a change left as k', where all else but room is as in the old database
 pub record Spot {X : Type 0} (shape : X → Shape) (plain : X → Data) (c : CatalogShape) (cs : List X) (j : Noted Inverse) (r n : ℕ) (k k' : X)
     (old : LinkedData) : Type 0 where
-  pub is : IsLinkedData (map shape cs) (data_seen c (map plain cs) j r)
+  pub is : IsLinkedData (map shape cs) c (map plain cs) j.sessions r
   pub state : state_of c (map plain cs) j.sessions r ≡ meaning old
   pub journal : j.sessions ≡ old.journal
   pub listed : n < length c.tables
@@ -43,8 +42,8 @@ SpotIn shape plain a n k k' old = Spot shape plain a.catalog a.containers.items 
 module _ {X : Type 0} {shape : X → Shape} {plain : X → Data} {c : CatalogShape} {cs : List X} {j : Noted Inverse} {r n : ℕ} {k k' : X}
     {old : LinkedData} where
   -- what the code knows before the change makes it so, where the change left the schema
-  pub spot : (changes starts : ℕ) → IsLinkedData (map shape cs) (data_seen c (map plain cs) j r)
-      → data_seen c (map plain cs) j r ≡ with_room changes starts old → n < length old.catalog.tables → k ≡ get_or cs n k → shape k' ≡ shape k
+  pub spot : (changes starts : ℕ) {held : List (List ℕ)} → IsLinkedData (map shape cs) c (map plain cs) j.sessions r
+      → data_seen c (map plain cs) j r held ≡ with_room changes starts old → n < length old.catalog.tables → k ≡ get_or cs n k → shape k' ≡ shape k
       → Spot shape plain c cs j r n k k' old
   spot changes starts is room listed there same =
       let within : n < length c.tables = subst (λ (h : LinkedData). n < length h.catalog.tables) (sym room) listed in
@@ -53,7 +52,7 @@ module _ {X : Type 0} {shape : X → Shape} {plain : X → Data} {c : CatalogSha
         state = ap meaning room;
         journal = ap (λ (h : LinkedData). h.journal) room;
         listed = within;
-        within = within_containers shape plain c cs j.sessions r j.changes j.starts n is within;
+        within = within_containers shape plain c cs j.sessions r n is within;
         there = there;
         same = same;
       }
@@ -72,14 +71,14 @@ module _ {X : Type 0} {shape : X → Shape} {plain : X → Data} {c : CatalogSha
       made = record { within = s.within; was = s.there; same = s.same; change = change; makes = makes; datas = datas; shapes = shapes; journal = journal }
 
       -- what holds of every linked database holds still
-      pub spot_held : {changes starts : ℕ} → IsLinkedData (map shape after) (linked_data c (map plain after) next r changes starts)
-      spot_held {changes} {starts} = made_is_linked shape plain c cs after n k k' i j.sessions next r j.changes j.starts changes starts made s.is
+      pub spot_held : IsLinkedData (map shape after) c (map plain after) next r
+      spot_held = made_is_linked shape plain c cs after n k k' i j.sessions next r made s.is
 
       -- what the container answers and leaves, the database does
       pub spot_outcome : {A : Type 0} (f : Shape → Table → Outcome A) (a : Result A Refusal)
           → Meets (f (shape k) (as_table (plain k))) a (as_table (plain k)) (as_table (plain k'))
           → Meets (on_table n f (meaning old)) a (meaning old) (state_of c (map plain after) next r)
-      spot_outcome f a meets = lift_made shape plain c cs after n k k' i j.sessions next r j.changes j.starts f a (meaning old) made s.is meets s.state
+      spot_outcome f a meets = lift_made shape plain c cs after n k k' i j.sessions next r f a (meaning old) made s.is meets s.state
 
     -- a change whose inverse keeps no node leaves the kept rows as they were
     pub spot_plain : (i : Inverse) {next : Journal} → next ≡ noted (n, i) j.sessions → keeps i ≡ None
@@ -87,17 +86,17 @@ module _ {X : Type 0} {shape : X → Shape} {plain : X → Data} {c : CatalogSha
     spot_plain i {next} journal none = plain_keeps n old (record old { journal = next }) i none (journal ∙ ap (noted (n, i)) s.journal)
 
     -- a refused change leaves what holds of every linked database
-    pub spot_stays : plain k' ≡ plain k → IsLinkedData (map shape (set cs n k')) (data_seen c (map plain (set cs n k')) j r)
-    spot_stays refused = refused_held shape plain c cs n k k' j.sessions r j.changes j.starts s.is s.listed s.there refused s.same
+    pub spot_stays : plain k' ≡ plain k → IsLinkedData (map shape (set cs n k')) c (map plain (set cs n k')) j.sessions r
+    spot_stays refused = refused_held shape plain c cs n k k' j.sessions r s.is s.listed s.there refused s.same
 
     -- what the container answers of a refused change, the database does
     pub spot_refused : {A : Type 0} (f : Shape → Table → Outcome A) (a : Result A Refusal) → plain k' ≡ plain k
         → Meets (f (shape k) (as_table (plain k))) a (as_table (plain k)) (as_table (plain k'))
         → Meets (on_table n f (meaning old)) a (meaning old) (state_of c (map plain (set cs n k')) j.sessions r)
-    spot_refused f a refused meets = lift_refused shape plain c cs n k k' j.sessions r j.changes j.starts f a
+    spot_refused f a refused meets = lift_refused shape plain c cs n k k' j.sessions r f a
         (meaning old) s.is s.listed s.there refused meets s.state
 
     -- a refused change keeps no node more
-    pub spot_unkept : (command : Command) (e : Refusal) → kept_after command (meaning old) (kept_rows old) ≡ kept_rows old
-        → KeptRefused command e old (data_seen c (map plain (set cs n k')) j r)
-    spot_unkept command e stays = kept_refusal command e old (data_seen c (map plain (set cs n k')) j r) s.journal stays
+    pub spot_unkept : (command : Command) (e : Refusal) (held : List (List ℕ)) → kept_after command (meaning old) (kept_rows old) ≡ kept_rows old
+        → KeptRefused command e old (data_seen c (map plain (set cs n k')) j r held)
+    spot_unkept command e held stays = kept_refusal command e old (data_seen c (map plain (set cs n k')) j r held) s.journal stays

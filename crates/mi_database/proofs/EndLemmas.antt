@@ -125,13 +125,13 @@ old_tables c (es ∷ older) ds same is =
     let long : length (unwound es ds) ≡ length c.tables = length-unwound es ds ∙ same in
     (all_tables c (unwound es ds) long back.each, old_tables c older (unwound es ds) long back)
 
-pub is_database : (ss : List Shape) (h : LinkedData) → IsLinkedData ss h → IsDatabase (meaning h)
-is_database ss h is =
-    let long : length (old_of h.datas h.journal) ≡ length h.journal = length-old h.journal h.datas in
+pub is_database : (ss : List Shape) (c : CatalogShape) (ds : List Data) (j : Journal) (r : ℕ) → IsLinkedData ss c ds j r → IsDatabase (state_of c ds j r)
+is_database ss c ds j r is =
+    let long : length (old_of ds j) ≡ length j = length-old j ds in
     let numbered = is.numbered in
     record {
-      tables = all_tables h.catalog h.datas is.many is.linked.each;
-      old = old_tables h.catalog h.journal h.datas is.many is.linked;
+      tables = all_tables c ds is.many is.linked.each;
+      old = old_tables c j ds is.many is.linked;
       numbered =
           omega (arith, long, numbered);
     }
@@ -171,10 +171,10 @@ two_sessions [] some more = absurd (some refl)
 two_sessions (es ∷ []) some more = absurd (more refl)
 two_sessions (newest ∷ below ∷ older) some more = (newest, below, older, refl)
 
-alone_at : (c : CatalogShape) (ds : List Data) (es : List JournalEntry) (r changes starts : ℕ) (now : LinkedData)
-    → EndsOldest (linked_data c ds (es ∷ []) r changes starts) now
+alone_at : (c : CatalogShape) (ds : List Data) (es : List JournalEntry) (r changes starts : ℕ) (held : List (List ℕ)) (now : LinkedData)
+    → EndsOldest (linked_data c ds (es ∷ []) r changes starts held) now
     → state_of now.catalog now.datas now.journal (now.revision - 1) ≡ squashed (state_of c ds (es ∷ []) r)
-alone_at c ds es r changes starts now ends =
+alone_at c ds es r changes starts held now ends =
     let catalog = ends.catalog in
     let tables = ends.tables in
     let old : old_of now.datas now.journal ≡ [] = ends.old_ in
@@ -188,10 +188,10 @@ squash_alone old now ends one =
     let long : length (old_of old.datas old.journal) ≡ length old.journal = length-old old.journal old.datas in
     let is : squash_step (meaning old) ≡ (Ok (old.revision - 1), squashed (meaning old)) = squash_opens (meaning old) (omega (arith, long, one)) in
     let split : (es : List JournalEntry) × (old.journal ≡ es ∷ []) = one_session old.journal one in
-    let was : old ≡ linked_data old.catalog old.datas (split.0 ∷ []) old.revision old.changes old.starts =
-    ap (λ j. linked_data old.catalog old.datas j old.revision old.changes old.starts) split.1 in
+    let was : old ≡ linked_data old.catalog old.datas (split.0 ∷ []) old.revision old.changes old.starts old.held =
+    ap (λ j. linked_data old.catalog old.datas j old.revision old.changes old.starts old.held) split.1 in
     let state : state_of now.catalog now.datas now.journal (now.revision - 1) ≡ squashed (meaning old) =
-    alone_at old.catalog old.datas split.0 old.revision old.changes old.starts now (subst (λ (h : LinkedData). EndsOldest h now) was ends)
+    alone_at old.catalog old.datas split.0 old.revision old.changes old.starts old.held now (subst (λ (h : LinkedData). EndsOldest h now) was ends)
     ∙ ap (λ (h : LinkedData). squashed (meaning h)) (sym was) in
     (ap (λ n. Ok (n - 1)) ends.revision ∙ sym (ap (λ q. q.0) is), state ∙ sym (ap (λ q. q.1) is))
 

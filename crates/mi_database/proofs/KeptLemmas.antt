@@ -1,6 +1,6 @@
 -- How the kept rows move.
-use Rattle.std.proofs.Common.{◌≡◌, ◌≢◌, Bool, true, false, cond, Option, Some, None, ℕ, ◌-◌, ◌<◌, List}
-use Rattle.std.proofs.Common.{[], ◌∷◌, ◌++◌, map, length, take, refl, ap, ap₂, sym, ◌∙◌, subst}
+use Rattle.std.proofs.Common.{◌≡◌, ◌≢◌, Bool, true, false, cond, Option, Some, None, ℕ, ◌+◌, ◌-◌, ◌<◌, List}
+use Rattle.std.proofs.Common.{[], ◌∷◌, ◌++◌, map, length, take, refl, ap, ap₂, sym, ◌∙◌, subst, arith}
 use Rattle.std.proofs.lemmas.List.{take-map, append-nil, append_assoc, nil_from_length, get_or-set_same}
 use Rattle.std.specs.declared.result.Result.{Result}
 use Rattle.std.specs.declared.result.Result.TheVariants.{Ok, Err}
@@ -16,7 +16,9 @@ use Rattle.mi_model.specs.Run.{Command}
 use Rattle.mi_model.specs.Run.Command.{Erase, Modify, Commit}
 use Rattle.mi_model.specs.Footprint.{KeptRows, kept_after, kept_more, lost_row, kept_on_squash}
 use Rattle.mi_value.specs.declared.edit.Edit.{Edit}
-use Rattle.mi_container.specs.Data.{Data}
+use Rattle.std.specs.Option.{is_some}
+use Rattle.mi_container.specs.Data.{Data, kept_of, as_table}
+use Rattle.mi_container.specs.Held.{HoldsNodes}
 use Rattle.mi_container.specs.Inverse.{Inverse, keeps, relocate_inverse, moved_back, lost_to}
 use Rattle.mi_container.specs.Inverse.Inverse.{Nothing}
 use Rattle.mi_container.specs.Makes.{MakesModify, lost_answer, IsNoLoss}
@@ -26,12 +28,12 @@ use Rattle.mi_database.specs.Keyed.{keyed}
 use Rattle.mi_database.specs.Kept.{kept_with}
 use Rattle.mi_database.proofs.KeyLemmas.{ErasesFirst}
 use Rattle.std.specs.Prelude.{◌==◌}
-use Rattle.mi_database.specs.Journal.{JournalEntry, Journal, entries, kept_in, kept_by, kept_at}
+use Rattle.mi_database.specs.Journal.{JournalEntry, Journal, data_at, entries, kept_in, kept_by, kept_at}
 use Rattle.mi_container.specs.Fits.{kept_id}
-use Rattle.mi_database.proofs.JournalLemmas.{kept_joined, kept_names, length-old}
+use Rattle.mi_database.proofs.JournalLemmas.{table_at, kept_joined, kept_names, length-old}
 use Rattle.mi_journal.specs.Noted.{noted, top_joined}
 use Rattle.mi_database.specs.LinkedData.{LinkedData, meaning, IsLinkedData}
-use Rattle.mi_database.specs.Kept.{kept_rows, KeptAfter, KeptRefused, NodesAreKept, ids_in, ids_at}
+use Rattle.mi_database.specs.Kept.{kept_rows, KeptAfter, KeptRefused, NodesAreKept, ids_in, ids_at, held_at}
 
 in_step : (b : Bool) (a : ℕ) (xs ys : List ℕ) → cond b (a ∷ (xs ++ ys)) (xs ++ ys) ≡ cond b (a ∷ xs) xs ++ ys
 in_step true a xs ys = refl
@@ -62,13 +64,24 @@ at_kept : (n : ℕ) (j : Journal) → ids_at n (map kept_in j) ≡ kept_at n (en
 at_kept n [] = refl
 at_kept n (es ∷ older) = ap₂ (λ p q. p ++ q) (at_kept n older) (in_kept n es) ∙ sym (kept_at-append n es (entries older))
 
-pub nodes_kept : (ss : List Shape) (h : LinkedData) (n : ℕ) → IsLinkedData ss h → n < length h.datas → NodesAreKept h n
-nodes_kept ss h n is l =
+pub nodes_kept : (ss : List Shape) (h : LinkedData) (n : ℕ) → IsLinkedData ss h.catalog h.datas h.journal h.revision → n < length h.datas
+    → HoldsNodes (held_at h n) (data_at h.datas n) → NodesAreKept h n
+nodes_kept ss h n is l holds =
     record {
-      kept = λ a. ap (times a) (at_kept n h.journal) ∙ kept_names h.catalog (entries h.journal) h.datas is.linked.holds n a l;
-      gone =
-          (is.linked.each n l).gone;
+      held = λ a.
+          let here : times a (held_at h n)
+          ≡ cond {A = ℕ} (has (as_table (data_at h.datas n)) a) 1 0 + cond {A = ℕ} (is_some (kept_of (data_at h.datas n).kept a)) 1 0 = holds.each a in
+          let live : cond {A = ℕ} (has (as_table (data_at h.datas n)) a) 1 0 ≡ cond {A = ℕ} (has (table_of (meaning h) n) a) 1 0 =
+          ap (λ t. cond {A = ℕ} (has t a) 1 0) (sym (table_at h.datas n _ l)) in
+          let noted_ : times a (ids_at n (kept_rows h)) ≡ cond {A = ℕ} (is_some (kept_of (data_at h.datas n).kept a)) 1 0 = each a in
+          omega (arith, here, live, noted_);
+      once = holds.once;
+      kept = each;
+      gone = (is.linked.each n l).gone;
     }
+  where
+    each : (a : ℕ) → times a (ids_at n (kept_rows h)) ≡ cond {A = ℕ} (is_some (kept_of (data_at h.datas n).kept a)) 1 0
+    each a = ap (times a) (at_kept n h.journal) ∙ kept_names h.catalog (entries h.journal) h.datas is.linked.holds n a l
 
 pub join_keeps : (j : Journal) → length j ≢ 1 → map kept_in (top_joined j) ≡ kept_on_squash (map kept_in j)
 join_keeps [] more = refl

@@ -113,10 +113,9 @@ module _ {X : Type 0} (shape : X → Shape) (plain : X → Data) (c : CatalogSha
   made_many : Made shape plain cs after n k k' i j noted_ → length (map plain after) ≡ length (map plain cs)
   made_many made = ap length (after_datas made) ∙ kept_length j n i _ ∙ length-set (map plain cs) n (plain k')
 
-  pub made_is_linked : (r changes starts changes' starts' : ℕ) → Made shape plain cs after n k k' i j noted_
-      → IsLinkedData (map shape cs) (record { catalog = c; datas = map plain cs; journal = j; revision = r; changes = changes; starts = starts })
-      → IsLinkedData (map shape after) (record { catalog = c; datas = map plain after; journal = noted_; revision = r; changes = changes'; starts = starts' })
-  made_is_linked r changes starts changes' starts' made is =
+  pub made_is_linked : (r : ℕ) → Made shape plain cs after n k k' i j noted_ → IsLinkedData (map shape cs) c (map plain cs) j r
+      → IsLinkedData (map shape after) c (map plain after) noted_ r
+  made_is_linked r made is =
       let long : length noted_ ≡ length j = ap length made.journal ∙ noted_length (n, i) j in
       let before = is.numbered in
       record {

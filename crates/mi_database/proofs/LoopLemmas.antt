@@ -16,8 +16,9 @@ use Rattle.mi_database.specs.LinkedData.{LinkedData, IsLinkedData, newest_of, ol
 use Rattle.mi_database.specs.LinkedData.{EndsOldest}
 use Rattle.mi_database.proofs.LinkedDataLemmas.{set_data, same_shapes}
 
-abbrev pub linked_data : CatalogShape → List Data → Journal → ℕ → ℕ → ℕ → LinkedData
-linked_data c ds j r changes starts = record { catalog = c; datas = ds; journal = j; revision = r; changes = changes; starts = starts }
+abbrev pub linked_data : CatalogShape → List Data → Journal → ℕ → ℕ → ℕ → List (List ℕ) → LinkedData
+linked_data c ds j r changes starts held =
+    record { catalog = c; datas = ds; journal = j; revision = r; changes = changes; starts = starts; held = held }
 
 newest_split : (j : Journal) (e : JournalEntry) → newest_entry j ≡ Some e → (es : List JournalEntry) × (older : Journal) × (j ≡ (e ∷ es) ∷ older)
 newest_split [] e is = absurd (let h : None ≡ Some e = is in cc)
@@ -32,10 +33,10 @@ newer_than_push xs y =
     take_at xs (y ∷ []) (length (xs ++ y ∷ []) - 1) less
 
 module _ {X : Type 0} (shape : X → Shape) (plain : X → Data) (c : CatalogShape) (cs : List X) (n : ℕ) (k k' : X) (i : Inverse)
-    (r changes starts changes' starts' : ℕ) where
+    (r : ℕ) where
   unwind_at : (es : List JournalEntry) (older : Journal) → k ≡ get_or cs n k → plain k' ≡ taken_back i (plain k) → shape k' ≡ shape k
-      → IsLinkedData (map shape cs) (linked_data c (map plain cs) (((n, i) ∷ es) ∷ older) r changes starts)
-      → IsLinkedData (map shape (set cs n k')) (linked_data c (map plain (set cs n k')) (es ∷ older) r changes' starts')
+      → IsLinkedData (map shape cs) c (map plain cs) (((n, i) ∷ es) ∷ older) r
+      → IsLinkedData (map shape (set cs n k')) c (map plain (set cs n k')) (es ∷ older) r
       × (map plain (set cs n k') ≡ entry_back (n, i) (map plain cs))
   unwind_at es older was back same is =
       let within : n < length cs = subst (λ q. n < q) (length-map cs plain) is.linked.holds.0 in
@@ -55,14 +56,14 @@ module _ {X : Type 0} (shape : X → Shape) (plain : X → Data) (c : CatalogSha
   -- one entry popped and taken back
   pub unwind_law : (j j' : Journal) → Some (n, i) ≡ newest_entry j → j' ≡ without_entry j → k ≡ get_or cs n k → plain k' ≡ taken_back i (plain k)
       → shape k' ≡ shape k
-      → IsLinkedData (map shape cs) (linked_data c (map plain cs) j r changes starts)
-      → IsLinkedData (map shape (set cs n k')) (linked_data c (map plain (set cs n k')) j' r changes' starts')
+      → IsLinkedData (map shape cs) c (map plain cs) j r
+      → IsLinkedData (map shape (set cs n k')) c (map plain (set cs n k')) j' r
       × (map plain (set cs n k') ≡ back_by (newest_of j) (map plain cs))
   unwind_law j j' entry left was back same is =
       let split : (es : List JournalEntry) × (older : Journal) × (j ≡ ((n, i) ∷ es) ∷ older) = newest_split j (n, i) (sym entry) in
-      let h = unwind_at split.0 split.1 was back same (subst (λ q. IsLinkedData (map shape cs) (linked_data c (map plain cs) q r changes starts)) split.2 is)
+      let h = unwind_at split.0 split.1 was back same (subst (λ q. IsLinkedData (map shape cs) c (map plain cs) q r) split.2 is)
       in (
-        subst (λ q. IsLinkedData (map shape (set cs n k')) (linked_data c (map plain (set cs n k')) q r changes' starts'))
+        subst (λ q. IsLinkedData (map shape (set cs n k')) c (map plain (set cs n k')) q r)
             (sym (left ∙ ap without_entry split.2)) h.0,
         h.1 ∙ sym (ap (λ q. back_by (newest_of q) (map plain cs)) split.2),
       )
@@ -83,28 +84,28 @@ newer_old newer es ds =
     let long : length (old_of ds j) ≡ length j = length-old j ds in
     ap (λ n. take (n - 1) (old_of ds j)) long ∙ take_old (length j - 1) j ds ∙ ap (old_of ds) (newer_than_push newer es)
 
-module _ {X : Type 0} (shape : X → Shape) (plain : X → Data) (c : CatalogShape) (cs : List X) (n : ℕ) (i : Inverse) (r changes starts : ℕ) where
+module _ {X : Type 0} (shape : X → Shape) (plain : X → Data) (c : CatalogShape) (cs : List X) (n : ℕ) (i : Inverse) (r : ℕ) where
   oldest_of : (newer : Journal) (rest : List JournalEntry)
-      → IsLinkedData (map shape cs) (linked_data c (map plain cs) (newer ++ (rest ++ (n, i) ∷ []) ∷ []) r changes starts)
+      → IsLinkedData (map shape cs) c (map plain cs) (newer ++ (rest ++ (n, i) ∷ []) ∷ []) r
       → Holds c (entries (newer ++ rest ∷ []) ++ (n, i) ∷ []) (map plain cs)
   oldest_of newer rest is = subst (λ es. Holds c es (map plain cs)) (entries_oldest newer rest (n, i)) is.linked.holds
 
   -- the oldest entry's container is there, and keeps its node
-  pub oldest_within : (j j' : Journal) → TakesOldest (Some (n, i)) j j' → IsLinkedData (map shape cs) (linked_data c (map plain cs) j r changes starts)
+  pub oldest_within : (j j' : Journal) → TakesOldest (Some (n, i)) j j' → IsLinkedData (map shape cs) c (map plain cs) j r
       → (n < length cs)
       × KeptBy i (data_at (map plain cs) n)
   oldest_within j j' taken is =
       let h = oldest c (n, i) (entries (taken.0 ++ taken.1 ∷ [])) (map plain cs)
-      (oldest_of taken.0 taken.1 (subst (λ q. IsLinkedData (map shape cs) (linked_data c (map plain cs) q r changes starts)) taken.2 is)) in
+      (oldest_of taken.0 taken.1 (subst (λ q. IsLinkedData (map shape cs) c (map plain cs) q r) taken.2 is)) in
       (subst (λ q. n < q) (length-map cs plain) h.0, h.1)
 
-  settle_at : (newer : Journal) (rest : List JournalEntry) (k k' : X) (changes' starts' : ℕ)
+  settle_at : (newer : Journal) (rest : List JournalEntry) (k k' : X) (changes starts changes' starts' : ℕ) (held held' : List (List ℕ))
       → k ≡ get_or cs n k → plain k' ≡ settled i (plain k) → shape k' ≡ shape k
-      → IsLinkedData (map shape cs) (linked_data c (map plain cs) (newer ++ (rest ++ (n, i) ∷ []) ∷ []) r changes starts)
-      → IsLinkedData (map shape (set cs n k')) (linked_data c (map plain (set cs n k')) (newer ++ rest ∷ []) r changes' starts')
-      × SettlesSome (linked_data c (map plain cs) (newer ++ (rest ++ (n, i) ∷ []) ∷ []) r changes starts)
-      (linked_data c (map plain (set cs n k')) (newer ++ rest ∷ []) r changes' starts')
-  settle_at newer rest k k' changes' starts' was back same is =
+      → IsLinkedData (map shape cs) c (map plain cs) (newer ++ (rest ++ (n, i) ∷ []) ∷ []) r
+      → IsLinkedData (map shape (set cs n k')) c (map plain (set cs n k')) (newer ++ rest ∷ []) r
+      × SettlesSome (linked_data c (map plain cs) (newer ++ (rest ++ (n, i) ∷ []) ∷ []) r changes starts held)
+      (linked_data c (map plain (set cs n k')) (newer ++ rest ∷ []) r changes' starts' held')
+  settle_at newer rest k k' changes starts changes' starts' held held' was back same is =
       let ds : List Data = map plain cs in
       let j : Journal = newer ++ (rest ++ (n, i) ∷ []) ∷ [] in
       let j' : Journal = newer ++ rest ∷ [] in
@@ -139,18 +140,19 @@ module _ {X : Type 0} (shape : X → Shape) (plain : X → Data) (c : CatalogSha
       )
 
   -- the oldest entry taken and settled
-  pub settle_law : (j j' : Journal) (k k' : X) (changes' starts' : ℕ) → TakesOldest (Some (n, i)) j j' → k ≡ get_or cs n k → plain k' ≡ settled i (plain k)
+  pub settle_law : (j j' : Journal) (k k' : X) (changes starts changes' starts' : ℕ) (held held' : List (List ℕ)) → TakesOldest (Some (n, i)) j j'
+      → k ≡ get_or cs n k → plain k' ≡ settled i (plain k)
       → shape k' ≡ shape k
-      → IsLinkedData (map shape cs) (linked_data c (map plain cs) j r changes starts)
-      → IsLinkedData (map shape (set cs n k')) (linked_data c (map plain (set cs n k')) j' r changes' starts')
-      × SettlesSome (linked_data c (map plain cs) j r changes starts) (linked_data c (map plain (set cs n k')) j' r changes' starts')
-  settle_law j j' k k' changes' starts' taken was back same is =
-      let h = settle_at taken.0 taken.1 k k' changes' starts' was back same
-      (subst (λ q. IsLinkedData (map shape cs) (linked_data c (map plain cs) q r changes starts)) taken.2 is) in (
-        subst (λ q. IsLinkedData (map shape (set cs n k')) (linked_data c (map plain (set cs n k')) q r changes' starts')) (sym taken.3) h.0,
-        subst (λ q. SettlesSome (linked_data c (map plain cs) q r changes starts) (linked_data c (map plain (set cs n k')) j' r changes' starts')) (sym taken.2)
-            (subst (λ q. SettlesSome (linked_data c (map plain cs) (taken.0 ++ (taken.1 ++ (n, i) ∷ []) ∷ []) r changes starts)
-            (linked_data c (map plain (set cs n k')) q r changes' starts')) (sym taken.3) h.1),
+      → IsLinkedData (map shape cs) c (map plain cs) j r
+      → IsLinkedData (map shape (set cs n k')) c (map plain (set cs n k')) j' r
+      × SettlesSome (linked_data c (map plain cs) j r changes starts held) (linked_data c (map plain (set cs n k')) j' r changes' starts' held')
+  settle_law j j' k k' changes starts changes' starts' held held' taken was back same is =
+      let h = settle_at taken.0 taken.1 k k' changes starts changes' starts' held held' was back same
+      (subst (λ q. IsLinkedData (map shape cs) c (map plain cs) q r) taken.2 is) in (
+        subst (λ q. IsLinkedData (map shape (set cs n k')) c (map plain (set cs n k')) q r) (sym taken.3) h.0,
+        subst (λ q. SettlesSome (linked_data c (map plain cs) q r changes starts held) (linked_data c (map plain (set cs n k')) j' r changes' starts' held'))
+            (sym taken.2) (subst (λ q. SettlesSome (linked_data c (map plain cs) (taken.0 ++ (taken.1 ++ (n, i) ∷ []) ∷ []) r changes starts held)
+            (linked_data c (map plain (set cs n k')) q r changes' starts' held')) (sym taken.3) h.1),
       )
 
 -- while the newest session is unwound
@@ -259,9 +261,9 @@ settled_up first now next u s some =
     ]
 
 -- the oldest session, which has no entry, ends
-pub ends_law : (c : CatalogShape) (ss : List Shape) (ds : List Data) (j j' : Journal) (r changes starts changes' starts' : ℕ) → j ≡ j' ++ [] ∷ []
-    → IsLinkedData ss (linked_data c ds j r changes starts) → IsLinkedData ss (linked_data c ds j' r changes' starts')
-ends_law c ss ds j j' r changes starts changes' starts' split is =
+pub ends_law : (c : CatalogShape) (ss : List Shape) (ds : List Data) (j j' : Journal) (r : ℕ) → j ≡ j' ++ [] ∷ []
+    → IsLinkedData ss c ds j r → IsLinkedData ss c ds j' r
+ends_law c ss ds j j' r split is =
     let same : entries j ≡ entries j' = ap entries split ∙ entries_push j' [] ∙ append-nil (entries j') in
     let long : length j ≡ length j' + 1 = ap length split ∙ length_push j' [] in
     let numbered = is.numbered in
@@ -273,11 +275,12 @@ ends_law c ss ds j j' r changes starts changes' starts' split is =
       last = is.last;
     }
 
-pub ended_law : (first now next : LinkedData) (j' : Journal) (changes' starts' : ℕ) → Settling first now → SettlesNone now next → next.catalog ≡ now.catalog
+pub ended_law : (first now next : LinkedData) (j' : Journal) (changes' starts' : ℕ) (held' : List (List ℕ)) → Settling first now → SettlesNone now next
+    → next.catalog ≡ now.catalog
     → next.revision ≡ now.revision → now.changes ≤ next.changes → next.starts ≡ now.starts
     → next.journal ≡ j' ++ [] ∷ [] → changes' ≡ next.changes → starts' ≡ next.starts + 1
-    → EndsOldest first (linked_data next.catalog next.datas j' next.revision changes' starts')
-ended_law first now next j' changes' starts' u s catalog revision changes starts split stay more =
+    → EndsOldest first (linked_data next.catalog next.datas j' next.revision changes' starts' held')
+ended_law first now next j' changes' starts' held' u s catalog revision changes starts split stay more =
     let rose = u.changes in
     let same = u.starts in
     let left : j' ≡ newer_than_oldest next.journal = sym (newer_than_push j' []) ∙ sym (ap newer_than_oldest split) in

@@ -39,11 +39,11 @@ opened_state c ds j r datas none first =
     ap (λ q. state_of c q j r) datas ∙ ap₂ (λ p q. state_of c (map opened_data c.tables) p q) none first
     ∙ (λ i. record { catalog = c; tables = tables i; old = []; revision = c.first_revision })
 
-opened_is : (c : CatalogShape) (ss : List Shape) (ds : List Data) (changes starts : ℕ) → is_catalog c ≡ true → ss ≡ c.tables → ds ≡ map opened_data c.tables
+opened_is : (c : CatalogShape) (ss : List Shape) (ds : List Data) → is_catalog c ≡ true → ss ≡ c.tables → ds ≡ map opened_data c.tables
     → c.first_revision ≤ LAST_COUNT
-    → IsLinkedData ss (record { catalog = c; datas = ds; journal = []; revision = c.first_revision; changes = changes; starts = starts })
-opened_is c ss ds changes starts kept shapes datas last =
-    subst (λ q. IsLinkedData ss (record { catalog = c; datas = q; journal = []; revision = c.first_revision; changes = changes; starts = starts })) (sym datas)
+    → IsLinkedData ss c ds [] c.first_revision
+opened_is c ss ds kept shapes datas last =
+    subst (λ q. IsLinkedData ss c q [] c.first_revision) (sym datas)
     (record {
       linked = record { each = opened_each c kept; holds = opened_none c.tables };
       shapes = shapes;
@@ -53,10 +53,10 @@ opened_is c ss ds changes starts kept shapes datas last =
     })
 
 -- the same, as the code comes to it
-pub opened_at : (c : CatalogShape) (ss : List Shape) (ds : List Data) (j : Journal) (r changes starts : ℕ) → is_catalog c ≡ true → ss ≡ c.tables
+pub opened_at : (c : CatalogShape) (ss : List Shape) (ds : List Data) (j : Journal) (r : ℕ) → is_catalog c ≡ true → ss ≡ c.tables
     → ds ≡ map opened_data c.tables → j ≡ [] → r ≡ c.first_revision → r ≤ LAST_COUNT
-    → IsLinkedData ss (record { catalog = c; datas = ds; journal = j; revision = r; changes = changes; starts = starts })
-opened_at c ss ds j r changes starts kept shapes datas none first last =
-    subst (λ q. IsLinkedData ss (record { catalog = c; datas = ds; journal = q; revision = r; changes = changes; starts = starts })) (sym none)
-    (subst (λ n. IsLinkedData ss (record { catalog = c; datas = ds; journal = []; revision = n; changes = changes; starts = starts })) (sym first)
-    (opened_is c ss ds changes starts kept shapes datas (subst (λ n. n ≤ LAST_COUNT) first last)))
+    → IsLinkedData ss c ds j r
+opened_at c ss ds j r kept shapes datas none first last =
+    subst (λ q. IsLinkedData ss c ds q r) (sym none)
+    (subst (λ n. IsLinkedData ss c ds [] n) (sym first)
+    (opened_is c ss ds kept shapes datas (subst (λ n. n ≤ LAST_COUNT) first last)))

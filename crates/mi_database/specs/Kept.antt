@@ -1,12 +1,13 @@
 -- The rows that stay in memory for the open sessions, as the journal has them.
-use Rattle.std.specs.Prelude.{◌≡◌, ◌==◌, ℕ, if◌then◌else◌, List, [], ◌∷◌, ◌++◌, map}
+use Rattle.std.specs.Prelude.{◌≡◌, ◌==◌, ℕ, ◌+◌, ◌≤◌, if◌then◌else◌, List, [], ◌∷◌, ◌++◌, map, slice_index_or}
 use Rattle.std.specs.Option.{is_some}
 use Rattle.std.specs.declared.option.Option.TheVariants.{None, Some}
 use Rattle.std.specs.declared.result.Result.{Result}
 use Rattle.std.specs.declared.result.Result.TheVariants.{Ok, Err}
 use Rattle.mi_value.specs.declared.refusal.Refusal.{Refusal}
 use Rattle.mi_value.specs.declared.refusal.Refusal.TheVariants.{Memory}
-use Rattle.mi_model.specs.Table.{times}
+use Rattle.mi_model.specs.Table.{has, times}
+use Rattle.mi_model.specs.Database.{table_of}
 use Rattle.mi_model.specs.Run.{Command}
 use Rattle.mi_model.specs.Footprint.{KeptRows, kept_after, kept_more}
 use Rattle.mi_container.specs.Data.{node_of, kept_of}
@@ -43,7 +44,13 @@ abbrev pub ids_at : ℕ → KeptRows → List ℕ
 ids_at n [] = []
 ids_at n (rows ∷ older) = ids_at n older ++ ids_in n rows
 
--- a table's nodes are its rows and those kept for the sessions, each once, and none is both
+-- the ids in the nodes of a table's pool
+abbrev pub held_at : LinkedData → ℕ → List ℕ
+held_at h n = slice_index_or h.held n []
+
+-- the nodes of a table's pool are its rows and those kept for the sessions, each once, and none is both; and what is kept in the data is kept for them
 pub record NodesAreKept (h : LinkedData) (n : ℕ) : Type 0 where
+  pub held : (a : ℕ) → times a (held_at h n) ≡ (if has (table_of (meaning h) n) a then 1 else 0) + times a (ids_at n (kept_rows h))
+  pub once : (a : ℕ) → times a (held_at h n) ≤ 1
   pub kept : (a : ℕ) → times a (ids_at n (kept_rows h)) ≡ (if is_some (kept_of (data_at h.datas n).kept a) then 1 else 0)
   pub gone : (e : ℕ) (k : plain.Kept) → kept_of (data_at h.datas n).kept e ≡ Some k → node_of (data_at h.datas n).rows e ≡ None

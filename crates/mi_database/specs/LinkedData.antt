@@ -9,7 +9,7 @@ use Rattle.mi_container.specs.Inverse.{Inverse, settled}
 use Rattle.mi_database.specs.Journal.{JournalEntry, Journal, data_at, entry_back, entries, unwound, old_of, tables_of, state_of, IsLinked}
 use Rattle.mi_journal.specs.Noted.{Noted, OldestIsEmpty}
 
--- the containers' data, the inverses of each session, the revision, and the journal's room
+-- the containers' data, the inverses of each session, the revision, the journal's room, and the ids in the nodes of each container's pool
 pub record LinkedData : Type 0 where
   pub catalog : CatalogShape
   pub datas : List Data
@@ -17,21 +17,22 @@ pub record LinkedData : Type 0 where
   pub revision : ℕ
   pub changes : ℕ
   pub starts : ℕ
+  pub held : List (List ℕ)
 
 -- as the fields have it
-abbrev pub data_seen : CatalogShape → List Data → Noted Inverse → ℕ → LinkedData
-data_seen c ds j r = record { catalog = c; datas = ds; journal = j.sessions; revision = r; changes = j.changes; starts = j.starts }
+abbrev pub data_seen : CatalogShape → List Data → Noted Inverse → ℕ → List (List ℕ) → LinkedData
+data_seen c ds j r held = record { catalog = c; datas = ds; journal = j.sessions; revision = r; changes = j.changes; starts = j.starts; held = held }
 
 abbrev pub meaning : LinkedData → Database
 meaning h = state_of h.catalog h.datas h.journal h.revision
 
--- what holds of every linked database, over the schemas of its containers
-pub record IsLinkedData (ss : List Shape) (h : LinkedData) : Type 0 where
-  pub linked : IsLinked h.catalog h.datas h.journal
-  pub shapes : ss ≡ h.catalog.tables
-  pub many : length h.datas ≡ length h.catalog.tables
-  pub numbered : length h.journal ≤ h.revision
-  pub last : h.revision ≤ LAST_COUNT
+-- what holds of the parts of every linked database, over the schemas of its containers
+pub record IsLinkedData (ss : List Shape) (c : CatalogShape) (ds : List Data) (j : Journal) (r : ℕ) : Type 0 where
+  pub linked : IsLinked c ds j
+  pub shapes : ss ≡ c.tables
+  pub many : length ds ≡ length c.tables
+  pub numbered : length j ≤ r
+  pub last : r ≤ LAST_COUNT
 
 -- other room, and all else the same
 abbrev pub with_room : ℕ → ℕ → LinkedData → LinkedData
@@ -108,6 +109,6 @@ opened_linked changes starts c = record {
   journal = [];
   revision = c.first_revision;
   changes = changes;
-  starts =
-      starts;
+  starts = starts;
+  held = map (λ _. []) c.tables;
 }

@@ -21,12 +21,12 @@ impl<C: Container> Model for Linked<C> {
 
     ghost Value = { LinkedData };
 
-    ghost view = { λ a. data_seen a.catalog (map C.plain a.containers.items) a.journal a.revision };
+    ghost view = { λ a. data_seen a.catalog (map C.plain a.containers.items) a.journal a.revision (map C.held a.containers.items) };
 
-    ghost invariant = { λ a. IsLinkedData (map C.shape a.containers.items) (data_seen a.catalog (map C.plain a.containers.items) a.journal a.revision) };
+    ghost invariant = { λ a. IsLinkedData (map C.shape a.containers.items) a.catalog (map C.plain a.containers.items) a.journal.sessions a.revision };
 }
 
-ghost use Rattle.std.specs.Prelude.{◌≡◌, ◌<◌, ◌≤◌, ◌+◌, length, map, vec_len, IfOk, OnErr};
+ghost use Rattle.std.specs.Prelude.{◌≡◌, ◌<◌, ◌≤◌, ◌+◌, [], length, map, vec_len, IfOk, OnErr};
 ghost use Rattle.mi_container.specs.Changes.{opened_data};
 ghost use Rattle.mi_container.specs.Fits.{KeptBy};
 ghost use Rattle.mi_database.specs.Journal.{data_at};
@@ -41,6 +41,7 @@ fn open_containers<C: Container>(
 ) -> Result<Vec<C>, AllocError>
     ensures shapes { IfOk result (λ new. map C.shape new.items ≡ catalog.now.tables) }
     ensures datas { IfOk result (λ new. map C.plain new.items ≡ map opened_data catalog.now.tables) }
+    ensures held { IfOk result (λ new. map C.held new.items ≡ map (λ _. []) catalog.now.tables) }
 {
     let mut new = Vec::new(alloc);
     for i in 0..catalog.table_count() {
@@ -109,13 +110,13 @@ impl<C: Container> Linked<C> {
         (changes as u64, starts as u64)
     }
 
-    /// States that a table's nodes are its rows and those that the inverses of the open sessions keep, each by one, and
-    /// no others. It does nothing.
+    /// States that the nodes in the pool of a table are its rows and those that the inverses of the open sessions keep, each
+    /// by one, and no others. It does nothing.
     pub fn keeps_nodes(&self, n: usize)
         requires { HasTable self.now.catalog n }
         ensures { NodesAreKept self.now n }
     {
-        let _ = &self.catalog;
+        self.containers[n].keeps_nodes();
     }
 
     /// The container of a table.

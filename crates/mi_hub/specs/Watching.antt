@@ -1,5 +1,5 @@
 -- What a watched reader or writer shows, and what passes through it.
-use Rattle.std.specs.Prelude.{ℕ, ◌<◌, ◌==◌, List, length, take, Bool, true, Option, Result, Ok, Err}
+use Rattle.std.specs.Prelude.{ℕ, ◌<◌, ◌==◌, List, length, take, Bool, true, not, Option, Result, Ok, Err}
 use Rattle.std.specs.Io.KnownBytes.{Appends, Consumes}
 use Rattle.mi_hub.specs.declared.watched.Watched.{Watched}
 
@@ -10,6 +10,10 @@ watched w = w.inner
 -- whether it has failed
 abbrev pub has_failed : {T : Type 0} → Watched T → Bool
 has_failed w = w.failed
+
+-- nothing was written since the last flush
+abbrev pub is_flushed : {T : Type 0} → Watched T → Bool
+is_flushed w = not w.waiting
 
 -- a write that answered an error or 0
 abbrev pub takes_none : {E : Type 0} → Result ℕ E → Bool

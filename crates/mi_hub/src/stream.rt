@@ -5,7 +5,7 @@ ghost use Rattle.mi_value.specs.declared.limits.TheConstants.{PIECE as piece_siz
 ghost use Rattle.mi_hub.specs.Connections.{rest_at};
 ghost use Rattle.mi_hub.specs.Run.{piece, close, cut, Done, AllDone, Unsent, DoneToFault};
 ghost use Rattle.mi_hub.specs.Turn.{Turn, conn_of, outcome, given_in, Gave, Made};
-ghost use Rattle.mi_hub.specs.Watching.{watched, has_failed, Reads, Writes};
+ghost use Rattle.mi_hub.specs.Watching.{watched, has_failed, is_flushed, Reads, Writes};
 
 use crate::fault::ServeFault;
 use crate::hub::Hub;
@@ -28,6 +28,7 @@ fn read_turn<D: Sessions + Drop, R: Read, W: Write>(
     ensures turn { (turn : Turn) × (out : List ℕ) × (conn_of turn ≡ conn) × (result ≡ outcome turn)
         × Gave R.remaining reader.old reader.new (given_in turn) × Writes W.contents writer.old writer.new out × Made hub.old turn out hub.new }
     ensures sound { OnOk result ((has_failed reader.new ≡ has_failed reader.old) × (has_failed writer.new ≡ has_failed writer.old)) }
+    ensures flushed { OnOk result (is_flushed writer.new ≡ true) }
     ensures write { result ≡ Err ServeFault.Write → (has_failed writer.new ≡ true) × (has_failed reader.new ≡ has_failed reader.old) }
     ensures no_other { OnErr result ((result ≡ Err ServeFault.Read) ⊎ (result ≡ Err ServeFault.Write)) }
 {
@@ -63,6 +64,7 @@ pub fn serve_stream<D: Sessions + Drop, R: Read, W: Write>(
         × Writes W.contents writer.old writer.new out
         × AllDone hub.old (piece conn bytes ∷ close conn ∷ []) out hub.new) }
     ensures sound { OnOk result ((has_failed reader.new ≡ has_failed reader.old) × (has_failed writer.new ≡ has_failed writer.old)) }
+    ensures flushed { OnOk result (is_flushed writer.new ≡ true) }
 
     // Of the bytes that were read all whole lines are answered; the rest is dropped.
     ensures read { result ≡ Err ServeFault.Read → (bytes : List ℕ) × (out : List ℕ)

@@ -4,7 +4,7 @@ ghost use Rattle.std.specs.Prelude.{◌≡◌, ◌↔◌, ◌⊎◌, ◌≤◌, 
 ghost use Rattle.mi_value.specs.declared.limits.TheConstants.{PIECE};
 ghost use Rattle.mi_hub.specs.Connections.{rest_at};
 ghost use Rattle.mi_hub.specs.Turn.{Turn, conn_of, outcome, given_in, IsPiece, Made};
-ghost use Rattle.mi_hub.specs.Watching.{has_failed, Writes};
+ghost use Rattle.mi_hub.specs.Watching.{has_failed, is_flushed, Writes};
 
 use crate::fault::ServeFault;
 use crate::hub::Hub;
@@ -24,6 +24,7 @@ fn feed_piece<D: Sessions + Drop, W: Write>(
     ensures turn { (turn : Turn) × (out : List ℕ) × (conn_of turn ≡ conn) × (given_in turn ≡ Some bytes.now) × (result ≡ outcome turn)
         × Writes W.contents writer.old writer.new out × Made hub.old turn out hub.new }
     ensures sound { OnOk result (has_failed writer.new ≡ has_failed writer.old) }
+    ensures flushed { OnOk result (is_flushed writer.new ≡ true) }
     ensures write { OnErr result ((result ≡ Err ServeFault.Write) × (has_failed writer.new ≡ true)) }
 {
     match hub.feed(conn, bytes, writer) {
@@ -49,6 +50,7 @@ fn close_at_end<D: Sessions + Drop, W: Write>(
     ensures turn { (turn : Turn) × (out : List ℕ) × (conn_of turn ≡ conn) × (given_in turn ≡ Some []) × (result ≡ outcome turn)
         × Writes W.contents writer.old writer.new out × Made hub.old turn out hub.new }
     ensures sound { OnOk result (has_failed writer.new ≡ has_failed writer.old) }
+    ensures flushed { OnOk result (is_flushed writer.new ≡ true) }
     ensures write { OnErr result ((result ≡ Err ServeFault.Write) × (has_failed writer.new ≡ true)) }
 {
     match hub.close(conn, writer) {
@@ -82,6 +84,7 @@ pub fn take_turn<D: Sessions + Drop, W: Write>(
         × (given_in turn ≡ option_map (λ bytes. bytes.now) read.entry) × (result ≡ outcome turn)
         × Writes W.contents writer.old writer.new out × Made hub.old turn out hub.new }
     ensures sound { OnOk result (has_failed writer.new ≡ has_failed writer.old) }
+    ensures flushed { OnOk result (is_flushed writer.new ≡ true) }
     ensures read { (result ≡ Err ServeFault.Read) ↔ (read.entry ≡ None) }
     ensures unread { result ≡ Err ServeFault.Read → writer.new ≡ writer.old }
     ensures write { result ≡ Err ServeFault.Write → has_failed writer.new ≡ true }

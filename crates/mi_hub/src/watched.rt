@@ -1,5 +1,5 @@
 //! A reader or writer that remembers whether it has failed, and isn't used again once it has.
-ghost use Rattle.std.specs.Prelude.{◌≡◌, ◌<◌, ◌||◌, ◌&&◌, nat_lt, is_ok, not, false, true, length, OnErr, IsErr};
+ghost use Rattle.std.specs.Prelude.{◌≡◌, ◌<◌, ◌||◌, ◌&&◌, nat_lt, is_ok, not, false, true, length, IfOk, OnOk, OnErr, IsErr};
 ghost use Rattle.std.specs.Io.{ReadsAtMost, WritesAtMost};
 ghost use Rattle.std.specs.Io.KnownBytes.{ReadConsumes, WriteAppends, Keeps};
 
@@ -7,23 +7,26 @@ use std::io;
 use std::io::{Error, ErrorKind, Read, Write};
 
 /// A reader or writer. Once a read, a write or a flush of it has failed, each further call answers an error and leaves all as it is:
-/// nothing is read, written or flushed behind a failure.
+/// nothing is read, written or flushed behind a failure. It also remembers whether bytes were written since the last flush.
 #[derive(Drop)]
 pub struct Watched<T> {
     inner: T,
     failed: bool,
+    waiting: bool,
 }
 
 impl<T> Watched<T> {
-    ghost use Rattle.mi_hub.specs.Watching.{watched, has_failed};
+    ghost use Rattle.mi_hub.specs.Watching.{watched, has_failed, is_flushed};
 
     pub fn new(inner: T) -> Watched<T>
         ensures inner { watched result ≡ inner }
         ensures sound { has_failed result ≡ false }
+        ensures flushed { is_flushed result ≡ true }
     {
         Watched {
             inner,
             failed: false,
+            waiting: false,
         }
     }
 
@@ -39,10 +42,17 @@ impl<T> Watched<T> {
     {
         self.failed
     }
+
+    /// Whether nothing was written since the last flush that was sound.
+    pub fn flushed(&self) -> bool
+        ensures { result ≡ is_flushed self.now }
+    {
+        !self.waiting
+    }
 }
 
 impl<R: Read> Read for Watched<R> {
-    ghost use Rattle.mi_hub.specs.Watching.{watched, has_failed};
+    ghost use Rattle.mi_hub.specs.Watching.{watched, has_failed, is_flushed};
 
     ghost remaining = { λ w. R.remaining (watched w) };
 
@@ -50,6 +60,7 @@ impl<R: Read> Read for Watched<R> {
         ensures bound { ReadsAtMost result buf.new }
         ensures bytes { ReadConsumes (R.remaining (watched self.old)) (R.remaining (watched self.new)) result buf.new }
         ensures failed { has_failed self.new ≡ (has_failed self.old || not (is_ok result)) }
+        ensures flushed { is_flushed self.new ≡ is_flushed self.old }
         ensures over { has_failed self.old ≡ true → IsErr result × (self.new ≡ self.old) }
     {
         if self.failed {
@@ -64,7 +75,7 @@ impl<R: Read> Read for Watched<R> {
 }
 
 impl<W: Write> Write for Watched<W> {
-    ghost use Rattle.mi_hub.specs.Watching.{watched, has_failed, takes_none};
+    ghost use Rattle.mi_hub.specs.Watching.{watched, has_failed, is_flushed, takes_none};
 
     ghost contents = { λ w. W.contents (watched w) };
 
@@ -73,11 +84,13 @@ impl<W: Write> Write for Watched<W> {
         ensures bytes { WriteAppends (W.contents (watched self.old)) (W.contents (watched self.new)) result buf.now }
         ensures failed { has_failed self.new
             ≡ (has_failed self.old || (nat_lt 0 (length buf.now) && takes_none result)) }
+        ensures waiting { IfOk result (λ n. 0 < n → is_flushed self.new ≡ false) }
         ensures over { has_failed self.old ≡ true → IsErr result × (self.new ≡ self.old) }
     {
         if self.failed {
             return Err(Error::from(ErrorKind::Other));
         }
+        self.waiting = true;
         let result = self.inner.write(buf);
         if !buf.is_empty() && !matches!(&result, Ok(n) if *n > 0) {
             self.failed = true;
@@ -88,6 +101,7 @@ impl<W: Write> Write for Watched<W> {
     fn flush(&mut self) -> io::Result<()>
         ensures bytes { Keeps (W.contents (watched self.old)) (W.contents (watched self.new)) }
         ensures failed { has_failed self.new ≡ (has_failed self.old || not (is_ok result)) }
+        ensures flushed { OnOk result (is_flushed self.new ≡ true) }
         ensures over { has_failed self.old ≡ true → IsErr result × (self.new ≡ self.old) }
     {
         if self.failed {
@@ -96,6 +110,8 @@ impl<W: Write> Write for Watched<W> {
         let result = self.inner.flush();
         if result.is_err() {
             self.failed = true;
+        } else {
+            self.waiting = false;
         }
         result
     }

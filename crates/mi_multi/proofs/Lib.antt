@@ -22,6 +22,7 @@ pub mod InsertLemmas
 pub mod InsertedLemmas
 pub mod RoomLemmas
 pub mod AcceptLemmas
+pub mod HeldLemmas
 pub mod RelocateLemmas
 pub mod IndexNumberLemmas
 pub mod ViewLemmas

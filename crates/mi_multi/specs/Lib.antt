@@ -1,6 +1,7 @@
 pub mod Physical
 pub mod Alike
 pub mod Multi
+pub mod Held
 pub mod Seen
 pub mod Before
 pub mod RowAt

@@ -10,8 +10,14 @@ impl Container for MultiIndex {
 
     ghost plain = { λ c. c.plain };
 
+    ghost held = { λ c. c.held };
+
     fn keeps_rules(&self) {
         self.keeps_rules();
+    }
+
+    fn keeps_nodes(&self) {
+        self.keeps_nodes();
     }
 
     fn new(alloc: Global, schema: Schema, secret: u64) -> Result<Self, AllocError> {
@@ -71,6 +77,10 @@ impl Container for MultiIndex {
 
     fn get(&self, id: u64, steps: &mut Steps) -> Option<&Record> {
         self.get(id, steps)
+    }
+
+    fn conflict(&self, row: &Record, except: Option<u64>) -> Option<(usize, u64)> {
+        self.conflict(row, except)
     }
 
     fn first(&self, index: usize) -> Option<u64> {

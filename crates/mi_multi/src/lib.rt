@@ -2,6 +2,21 @@
 //! with its places, until the change is settled or taken back.
 //! What nodes, ids and links mean is computed as plain data, and each call is stated by the definitions of those. It knows
 //! no sessions.
+//!
+//! One row is one node of the pool, at a place (its name) that never moves. The node's value is the row's id and record. Each index
+//! of the schema, `id` among them, has a slot of every node, by the index's number:
+//!
+//! ```text
+//!   node at place 7: value { id 12, record }
+//!     ordered, ranked   back, forth = left and right child   size, height = of its subtree   tag = first bytes of the key, stamp
+//!     hashed            forth = next in the chain, back = the one before in its group        tag = hash of the key, stamp
+//!     sequenced         back, forth = the nodes before and after                             tag unused
+//! ```
+//!
+//! A search compares tags, and reads values where tags are equal. `ids` maps 12 to this node, and says whether it is live. An erased
+//! row's node leaves every index and stays in the pool, held and not live; its links still name its neighbours. The inverse that a
+//! call answers names it, and the journal keeps the inverse until its session ends. `unwind` links the node in again; `settle` gives
+//! it back to the pool, and the value is dropped. No one else gives nodes back; dropping the pool drops all that are left.
 #![tactic(auto)]
 
 mod changes;

@@ -1,10 +1,11 @@
 //! The rows of one table as shared nodes, linked into every index.
 //! It knows nothing of sessions: each change gives its inverse.
-ghost use Rattle.std.specs.Prelude.{◌≡◌, ◌≢◌, ◌<◌, ◌≤◌, ◌+◌, ◌*◌, ◌^◌, ℕ, None, IfOk, IfErr};
+ghost use Rattle.std.specs.Prelude.{◌≡◌, ◌≢◌, ◌<◌, ◌≤◌, ◌+◌, ◌*◌, ◌^◌, ℕ, [], None, IfOk, IfErr};
 ghost use Rattle.mi_value.specs.declared.refusal.Refusal.TheVariants.{Memory};
 ghost use Rattle.mi_model.specs.Verdict.{erase_outcome};
 ghost use Rattle.mi_container.specs.Makes.{Makes, MeetsOn, erase_answer};
 ghost use Rattle.mi_container.specs.Changes.{opened_data};
+ghost use Rattle.mi_container.specs.Held.{HoldsNodes};
 ghost use Rattle.mi_container.specs.Run.Change.{Erase};
 ghost use Rattle.mi_container.specs.Data.{IsData, as_table};
 ghost use Rattle.std.specs.Option.{option_copied};
@@ -47,6 +48,7 @@ impl MultiIndex {
     pub fn new(alloc: Global, schema: Schema, secret: u64) -> Result<MultiIndex, AllocError>
         ensures shape { IfOk result (λ made. made.shape ≡ schema) }
         ensures plain { IfOk result (λ made. made.plain ≡ opened_data schema) }
+        ensures held { IfOk result (λ made. made.held ≡ []) }
     {
         schema.keeps_rules();
         let nodes = Nodes::new(alloc, &schema, secret)?;
@@ -64,6 +66,14 @@ impl MultiIndex {
     /// States what holds of every container's data. It does nothing.
     pub fn keeps_rules(&self)
         ensures { IsData self.now.shape self.now.plain }
+    {
+        let _next = self.next;
+    }
+
+    /// States that the pool's nodes are those of the rows and those that are kept, each once, and no others. It does
+    /// nothing.
+    pub fn keeps_nodes(&self)
+        ensures { HoldsNodes self.now.held self.now.plain }
     {
         let _next = self.next;
     }

@@ -7,13 +7,15 @@
 --     held_has, absent_link      a held node has a value; a name of no node has no link
 --     held-.., held          a held node stays held after a call, as a set for `grind (arith, held)`
 --     apart_of_free   a place that no node has is not the place of a held one
+--     last-..         the reference of each name that was given back last, after a call
+--     stale           the reference that was given back last isn't held once a node was taken
 --     fewer           a pool without one of its nodes has fewer
 use Rattle.std.proofs.Common.{◌≡◌, ℕ, zero, suc, ◌-◌, ◌<◌, ◌==◌, Bool, true, false, cond, List, [], ◌∷◌, option_map}
 use Rattle.std.proofs.Common.{slice_index_or, replicate, Option, Some, None, refl, sym, ap, subst, ◌∙◌, arith, is_some}
 use Rattle.std.specs.Ordering.{nat_cmp}
 use Rattle.std.specs.Cmp.{nat_cmp_total, unsigned_tied}
-use Rattle.std.specs.FinMap.{FinMap, get, len, contains_key, get-insert, get-remove, get-empty, len-remove, empty_of_len}
-use Rattle.mi_node.specs.Pool.{Entry, Pooled, node_at, ref_of, value_of, link_of, node_count, entry_link, no_link}
+use Rattle.std.specs.FinMap.{FinMap, get, insert, len, contains_key, get-insert, get-remove, get-empty, len-remove, empty_of_len}
+use Rattle.mi_node.specs.Pool.{Entry, Pooled, node_at, ref_of, value_of, link_of, last_given, IsNotLast, node_count, entry_link, no_link, noted}
 use Rattle.mi_node.specs.Pool.{put_link, IsHeld, change, changed, no_nodes, taken, without, with_link, with_value}
 use Rattle.mi_node.specs.Refs.{Ref}
 use Rattle.mi_node.specs.declared.link.Link.{Link}
@@ -342,6 +344,56 @@ pub ruleset values = (value-no_nodes, value-taken, value-without, value-with_lin
 pub ruleset links = (link-no_nodes, link-taken, link-without, link_there, link_beside, link_here, link-with_value)
 
 pub ruleset slot_counts = (slots-no_nodes, slots-taken, slots-without, slots-with_link, slots-with_value)
+
+abbrev named : ℕ → ℕ → Ref
+named q b = record { name = q; mark = b }
+
+-- the reference that was given back last
+module _ {T : Type 0} where
+  pub last-taken : (m : Pooled T) (r : Ref) (v : T) (q : ℕ) → last_given (taken m r v) q ≡ last_given m q
+  unfolding last_given taken
+  last-taken m r v q = refl
+
+  pub last-with_link : (m : Pooled T) (k s : ℕ) (l : Link) (q : ℕ) → last_given (with_link m k s l) q ≡ last_given m q
+  unfolding last_given with_link change
+  last-with_link m k s l q = refl
+
+  pub last-with_value : (m : Pooled T) (k : ℕ) (v : T) (q : ℕ) → last_given (with_value m k v) q ≡ last_given m q
+  unfolding last_given with_value change
+  last-with_value m k v q = refl
+
+  noted_at : (g : FinMap nat_cmp ℕ) (r : Ref) (q : ℕ) (o : Option (Entry T)) → option_map (node_at r.name) o ≡ Some r
+      → option_map (named q) (get (noted g r.name o) q) ≡ cond (r.name == q) (Some r) (option_map (named q) (get g q))
+  noted_at g r q None e = absurd (none_some r e)
+  noted_at g r q (Some x) e =
+      let mark : x.mark ≡ r.mark = ap (λ (p : Ref). p.mark) (some_inj (node_at r.name x) r e) in
+      ap (option_map (named q)) (get-insert nat_cmp_total g r.name x.mark q
+      ∙ ap (λ b. cond b (Some x.mark) (get g q)) (unsigned_tied q r.name ∙ flip q r.name))
+      ∙ (elim (r.name == q) as (λ b. (r.name == q) ≡ b
+      → option_map (named q) (cond b (Some x.mark) (get g q)) ≡ cond b (Some r) (option_map (named q) (get g q))) [
+        | true ↦ λ t. (λ i. Some (named (sym (same_name r.name q t) i) (mark i)))
+        | false ↦ λ t. refl
+      ]) refl
+
+  pub last-without : (m : Pooled T) (r : Ref) (q : ℕ) → IsHeld m r → last_given (without m r.name) q ≡ cond (r.name == q) (Some r) (last_given m q)
+  unfolding last_given without ref_of
+  last-without m r q h = noted_at m.gone r q (get m.entries r.name) h
+
+  -- a reference was given back, and then a node was taken, maybe at the same place
+  pub stale : (m : Pooled T) (r q : Ref) (v : T) → IsHeld m r → IsNotLast (without m r.name) q → IsHeld (taken (without m r.name) q v) r → ⊥
+  stale m r q v h other held =
+      let n = without m r.name in
+      let last : last_given n r.name ≡ Some r = last-without m r r.name h ∙ ap (λ b. cond b (Some r) (last_given m r.name)) (same_refl r.name) in
+      let gone : ref_of n r.name ≡ None = ref-without m r.name r.name ∙ ap (λ b. cond b None (ref_of m r.name)) (same_refl r.name) in
+      let is : cond (q.name == r.name) (Some q) (ref_of n r.name) ≡ Some r = sym (ref-taken n q v r.name) ∙ held in
+      differs last gone is (q.name == r.name) refl
+    where
+      differs : last_given (without m r.name) r.name ≡ Some r → ref_of (without m r.name) r.name ≡ None
+          → cond (q.name == r.name) (Some q) (ref_of (without m r.name) r.name) ≡ Some r → (b : Bool) → (q.name == r.name) ≡ b → ⊥
+      differs last gone is true t =
+          let one : q ≡ r = some_inj q r (ap (λ b. cond b (Some q) (ref_of (without m r.name) r.name)) (sym t) ∙ is) in
+          other (ap (last_given (without m r.name)) (ap (λ (p : Ref). p.name) one) ∙ last ∙ ap Some (sym one))
+      differs last gone is false t = none_some r (sym gone ∙ ap (λ b. cond b (Some q) (ref_of (without m r.name) r.name)) (sym t) ∙ is)
 
 not_none : {X : Type 0} (o : Option X) (b : Bool) → is_some o ≡ b → (r : Ref) (f : X → Ref) → option_map f o ≡ Some r → b ≡ true
 not_none None b e r f h = absurd (none_some r h)

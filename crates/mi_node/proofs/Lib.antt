@@ -5,3 +5,5 @@ pub mod ColumnLemmas
 pub mod MapLemmas
 pub mod NeighbourLemmas
 pub mod RefLemmas
+mod RowSteps
+mod SlotCalls

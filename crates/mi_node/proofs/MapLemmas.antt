@@ -3,19 +3,19 @@
 --     held_..                      what is read at the name of a held reference
 --     seen-..                      the map after a change
 --     sound-..                     that places stay sound
-use Rattle.std.proofs.Common.{◌≡◌, ℕ, zero, suc, ◌+◌, ◌<◌, ◌≤◌, ◌==◌, true, false, cond, List, [], ◌∷◌, ◌++◌, length, option_map}
+use Rattle.std.proofs.Common.{◌≡◌, ℕ, zero, suc, ◌+◌, ◌-◌, ◌<◌, ◌≤◌, ◌==◌, true, false, cond, List, [], ◌∷◌, ◌++◌, length, option_map}
 use Rattle.std.proofs.Common.{replicate, slice_set, slice_index_or, Option, Some, None, refl, sym, ap, ◌∙◌, subst, arith}
 use Rattle.std.specs.Prelude.{IsTrue, is_some}
 use Rattle.std.specs.Ordering.{nat_cmp}
 use Rattle.std.specs.Cmp.{nat_cmp_total, unsigned_tied}
-use Rattle.std.specs.FinMap.{FinMap, get, get-empty, get-insert, get-remove, same_map, nat_cmp-IsAntisymmetric}
+use Rattle.std.specs.FinMap.{FinMap, get, insert, remove, empty, get-empty, get-insert, get-remove, same_map, nat_cmp-IsAntisymmetric}
 use Rattle.std.proofs.Math.ListN.{length-set}
 use Rattle.mi_node.specs.Refs.{Ref}
 use Rattle.mi_node.specs.Columns.{column, links_at, AreLong}
 use Rattle.mi_node.specs.Homes.{node_in, value_in, IsFree, AreFree, home_at, IsFreeIf, IsFreeAt}
-use Rattle.mi_node.specs.Pool.{Entry, no_link, no_nodes, node_at, ref_of, value_of, link_of, entry_link}
+use Rattle.mi_node.specs.Pool.{Entry, no_link, no_nodes, node_at, ref_of, value_of, link_of, entry_link, noted, last_given, IsNotLast}
 use Rattle.mi_node.specs.Pool.{put_link, IsHeld, change, changed, taken, without, with_link, with_value}
-use Rattle.mi_node.specs.Seen.{put_home, map_from, seen, IsNamed, IsSound}
+use Rattle.mi_node.specs.Seen.{put_home, map_from, seen, IsNamed, KeepsMark, AreMarked, IsSound}
 use Rattle.mi_node.specs.declared.link.Link.{Link}
 use Rattle.mi_node.specs.declared.cell.Cell.{Cell}
 use Rattle.mi_node.specs.declared.home.Home.{Home}
@@ -66,6 +66,13 @@ room_of a b c e f = omega (arith, e, f)
 
 long_none : (cs : List (List Cell)) → AreLong 0 cs
 long_none cs s less = omega arith
+
+differs : (b c : ℕ) → b ≡ c → 1 - b ≡ c → ⊥
+differs b c e f = omega (arith, e, f)
+
+last_mark : (k : ℕ) (o : Option ℕ) (r : Ref) → option_map (λ m. record { name = k; mark = m }) o ≡ Some r → o ≡ Some r.mark
+last_mark k None r e = absurd (none_some r e)
+last_mark k (Some m) r e = ap Some (ap (λ (q : Ref). q.mark) (some_inj _ r e))
 
 module _ {T : Type 0} where
   -- the node at the place k
@@ -158,23 +165,26 @@ module _ {T : Type 0} where
       let one : q ≡ r = same_ref q r name (ap (λ (s : Ref). s.mark) (some_inj _ r e)) in
       record { less = inside hs r.name (Held q v) is; value = v; at = is ∙ ap (λ (s : Ref). Some (Held s v)) one }
 
-  pub there : {n : ℕ} {cs : List (List Cell)} {hs : List (Home T)} {r : Ref} → IsSound n cs hs → IsHeld (seen n cs hs) r → There cs hs r
+  pub there : {n : ℕ} {cs : List (List Cell)} {hs : List (Home T)} {g : FinMap nat_cmp ℕ} {r : Ref} → IsSound n cs hs g → IsHeld (seen n cs hs g) r
+      → There cs hs r
   unfolding ref_of seen
-  there {n} {cs} {hs} {r} sound h = held_home cs hs r (home_at hs r.name) refl sound.named (ap (option_map (node_at r.name)) (sym (get-map cs hs r.name)) ∙ h)
+  there {n} {cs} {hs} {g} {r} sound h =
+      held_home cs hs r (home_at hs r.name) refl sound.named (ap (option_map (node_at r.name)) (sym (get-map cs hs r.name)) ∙ h)
 
   -- as an index finds it
   found : (cs : List (List Cell)) (hs : List (Home T)) (r : Ref) (t : There cs hs r) (k : ℕ) (h : Home T)
       → k ≡ r.name → h ≡ slice_index_or hs k h → h ≡ Held r t.value
   found cs hs r t k h name is = is ∙ ap (λ q. slice_index_or hs q h) name ∙ some_inj _ _ (sym (at_index hs r.name h t.less) ∙ t.at)
 
-  value-seen : (n : ℕ) (cs : List (List Cell)) (hs : List (Home T)) (r : Ref) (t : There cs hs r) → value_of (seen n cs hs) r.name ≡ Some t.value
+  value-seen : (n : ℕ) (cs : List (List Cell)) (hs : List (Home T)) (g : FinMap nat_cmp ℕ) (r : Ref) (t : There cs hs r)
+      → value_of (seen n cs hs g) r.name ≡ Some t.value
   unfolding value_of seen
-  value-seen n cs hs r t = ap (option_map (λ (e : Entry T). e.value)) (get-map cs hs r.name ∙ ap (entry_of cs r.name) t.at)
+  value-seen n cs hs g r t = ap (option_map (λ (e : Entry T). e.value)) (get-map cs hs r.name ∙ ap (entry_of cs r.name) t.at)
 
-  link-seen : (n : ℕ) (cs : List (List Cell)) (hs : List (Home T)) (r : Ref) (s : ℕ) (t : There cs hs r)
-      → link_of (seen n cs hs) r.name s ≡ slice_index_or (links_at cs r.name) s no_link
+  link-seen : (n : ℕ) (cs : List (List Cell)) (hs : List (Home T)) (g : FinMap nat_cmp ℕ) (r : Ref) (s : ℕ) (t : There cs hs r)
+      → link_of (seen n cs hs g) r.name s ≡ slice_index_or (links_at cs r.name) s no_link
   unfolding link_of seen
-  link-seen n cs hs r s t = ap (λ o. entry_link o s) (get-map cs hs r.name ∙ ap (entry_of cs r.name) t.at)
+  link-seen n cs hs g r s t = ap (λ o. entry_link o s) (get-map cs hs r.name ∙ ap (entry_of cs r.name) t.at)
 
   same_entry : (cs ds : List (List Cell)) (q : ℕ) (o : Option (Home T)) → links_at ds q ≡ links_at cs q → entry_of ds q o ≡ entry_of cs q o
   same_entry cs ds q None e = refl
@@ -197,23 +207,36 @@ module _ {T : Type 0} where
   this_home : (hs : List (Home T)) (j : ℕ) (h : Home T) → j < length hs → home_at (slice_set hs j h) j ≡ Some h
   this_home hs j h less = at_set hs j j h less ∙ ap (λ b. cond b (Some h) (home_at hs j)) (itself j)
 
-  pub seen-vacated : (n : ℕ) (cs : List (List Cell)) (hs : List (Home T)) (r : Ref) (next : ℕ)
-      → r.name < length hs → seen n cs (slice_set hs r.name (Free r next)) ≡ without (seen n cs hs) r.name
+  entry-there : (n : ℕ) (cs : List (List Cell)) (hs : List (Home T)) (r : Ref) (t : There cs hs r)
+      → get (map_from cs 0 hs) r.name ≡ Some (made cs r.name r t.value)
+  entry-there n cs hs r t = get-map cs hs r.name ∙ ap (entry_of cs r.name) t.at
+
+  pub seen-vacated : (n : ℕ) (cs : List (List Cell)) (hs : List (Home T)) (g : FinMap nat_cmp ℕ) (r : Ref) (next : ℕ)
+      → There cs hs r → seen n cs (slice_set hs r.name (Free r next)) (insert g r.name r.mark) ≡ without (seen n cs hs g) r.name
   unfolding seen without
-  seen-vacated n cs hs r next less = ap (λ m. record { entries = m; slots = n }) (same_map nat_cmp_total nat_cmp-IsAntisymmetric _ _ (λ q.
+  seen-vacated n cs hs g r next t =
+      let less = t.less in
+      let one : map_from cs 0 (slice_set hs r.name (Free r next)) ≡ remove (map_from cs 0 hs) r.name =
+      same_map nat_cmp_total nat_cmp-IsAntisymmetric _ _ (λ q.
       get-one cs cs hs (slice_set hs r.name (Free r next)) r.name (λ k e. refl) (other_home hs r.name (Free r next) less) q
       ∙ ap (λ o. cond (q == r.name) (entry_of cs r.name o) (get (map_from cs 0 hs) q)) (this_home hs r.name (Free r next) less)
-      ∙ sym (get-remove nat_cmp_total (map_from cs 0 hs) r.name q ∙ ap (λ b. cond b None (get (map_from cs 0 hs) q)) (unsigned_tied q r.name))))
+      ∙ sym (get-remove nat_cmp_total (map_from cs 0 hs) r.name q ∙ ap (λ b. cond b None (get (map_from cs 0 hs) q)) (unsigned_tied q r.name))) in
+      let two : insert g r.name r.mark ≡ noted g r.name (get (map_from cs 0 hs) r.name) = ap (noted g r.name) (sym (entry-there n cs hs r t)) in
+      λ i. record { entries = one i; slots = n; gone = two i }
 
   -- the entry of a node none of whose links is set
   abbrev blank : ℕ → Ref → T → Entry T
   blank n r v = record { mark = r.mark; value = v; links = replicate n no_link }
 
-  pub seen-settled : (n : ℕ) (cs ds : List (List Cell)) (hs : List (Home T)) (r : Ref) (v : T)
+  pub seen-settled : (n : ℕ) (cs ds : List (List Cell)) (hs : List (Home T)) (g : FinMap nat_cmp ℕ) (r : Ref) (v : T)
       → r.name < length hs → ((q : ℕ) → (q == r.name) ≡ false → links_at ds q ≡ links_at cs q)
-      → links_at ds r.name ≡ replicate n no_link → seen n ds (slice_set hs r.name (Held r v)) ≡ taken (seen n cs hs) r v
+      → links_at ds r.name ≡ replicate n no_link → seen n ds (slice_set hs r.name (Held r v)) g ≡ taken (seen n cs hs g) r v
   unfolding seen taken
-  seen-settled n cs ds hs r v less others here = ap (λ m. record { entries = m; slots = n }) (same_map nat_cmp_total nat_cmp-IsAntisymmetric _ _ (λ q.
+  seen-settled n cs ds hs g r v less others here = ap (λ m. record {
+    entries = m;
+    slots = n;
+    gone = g;
+  }) (same_map nat_cmp_total nat_cmp-IsAntisymmetric _ _ (λ q.
       get-one cs ds hs (slice_set hs r.name (Held r v)) r.name others (other_home hs r.name (Held r v) less) q
       ∙ ap (λ o. cond (q == r.name) (entry_of ds r.name o) (get (map_from cs 0 hs) q)) (this_home hs r.name (Held r v) less)
       ∙ ap (λ ls. cond (q == r.name) (Some (record { mark = r.mark; value = v; links = ls })) (get (map_from cs 0 hs) q)) here
@@ -228,28 +251,32 @@ module _ {T : Type 0} where
   ]) refl
   change_found f m k q (Some x) e = get-insert nat_cmp_total m k (f x) q ∙ ap (λ y. cond y (Some (f x)) (get m q)) (unsigned_tied q k)
 
-  seen-change : (n : ℕ) (f : Entry T → Entry T) (cs ds : List (List Cell)) (hs gs : List (Home T)) (j : ℕ)
+  seen-change : (n : ℕ) (f : Entry T → Entry T) (cs ds : List (List Cell)) (hs gs : List (Home T)) (g : FinMap nat_cmp ℕ) (j : ℕ)
       → ((q : ℕ) → (q == j) ≡ false → links_at ds q ≡ links_at cs q)
       → ((q : ℕ) → (q == j) ≡ false → home_at gs q ≡ home_at hs q)
-      → entry_of ds j (home_at gs j) ≡ option_map f (entry_of cs j (home_at hs j)) → seen n ds gs ≡ change (seen n cs hs) j f
+      → entry_of ds j (home_at gs j) ≡ option_map f (entry_of cs j (home_at hs j)) → seen n ds gs g ≡ change (seen n cs hs g) j f
   unfolding seen change
-  seen-change n f cs ds hs gs j links homes is = ap (λ m. record { entries = m; slots = n }) (same_map nat_cmp_total nat_cmp-IsAntisymmetric _ _ (λ q.
+  seen-change n f cs ds hs gs g j links homes is = ap (λ m. record {
+    entries = m;
+    slots = n;
+    gone = g;
+  }) (same_map nat_cmp_total nat_cmp-IsAntisymmetric _ _ (λ q.
       get-one cs ds hs gs j links homes q ∙ ap (λ o. cond (q == j) o (get (map_from cs 0 hs) q)) (is ∙ ap (option_map f) (sym (get-map cs hs j)))
       ∙ sym (change_found f (map_from cs 0 hs) j q (get (map_from cs 0 hs) j) refl)))
 
-  pub seen-value : (n : ℕ) (cs : List (List Cell)) (hs : List (Home T)) (r : Ref) (v : T)
-      → There cs hs r → seen n cs (slice_set hs r.name (Held r v)) ≡ with_value (seen n cs hs) r.name v
+  pub seen-value : (n : ℕ) (cs : List (List Cell)) (hs : List (Home T)) (g : FinMap nat_cmp ℕ) (r : Ref) (v : T)
+      → There cs hs r → seen n cs (slice_set hs r.name (Held r v)) g ≡ with_value (seen n cs hs g) r.name v
   unfolding with_value
-  seen-value n cs hs r v t = seen-change n (λ e. record e { value = v }) cs cs hs
-      (slice_set hs r.name (Held r v)) r.name (λ k e. refl) (other_home hs r.name (Held r v) t.less)
+  seen-value n cs hs g r v t = seen-change n (λ e. record e { value = v }) cs cs hs
+      (slice_set hs r.name (Held r v)) g r.name (λ k e. refl) (other_home hs r.name (Held r v) t.less)
       (ap (entry_of cs r.name) (this_home hs r.name (Held r v) t.less)
       ∙ ap (λ o. option_map (λ (e : Entry T). record e { value = v }) (entry_of cs r.name o)) (sym t.at))
 
-  pub seen-link : (n : ℕ) (cs ds : List (List Cell)) (hs : List (Home T)) (r : Ref) (s : ℕ) (l : Link)
+  pub seen-link : (n : ℕ) (cs ds : List (List Cell)) (hs : List (Home T)) (g : FinMap nat_cmp ℕ) (r : Ref) (s : ℕ) (l : Link)
       → There cs hs r → ((q : ℕ) → (q == r.name) ≡ false → links_at ds q ≡ links_at cs q)
-      → links_at ds r.name ≡ put_link (links_at cs r.name) s l → seen n ds hs ≡ with_link (seen n cs hs) r.name s l
+      → links_at ds r.name ≡ put_link (links_at cs r.name) s l → seen n ds hs g ≡ with_link (seen n cs hs g) r.name s l
   unfolding with_link
-  seen-link n cs ds hs r s l t others here = seen-change n (λ e. record e { links = put_link e.links s l }) cs ds hs hs r.name others (λ k e. refl)
+  seen-link n cs ds hs g r s l t others here = seen-change n (λ e. record e { links = put_link e.links s l }) cs ds hs hs g r.name others (λ k e. refl)
       (ap (entry_of ds r.name) t.at ∙ (λ i. Some (record { mark = r.mark; value = t.value; links = here i }))
       ∙ ap (λ o. option_map (λ (e : Entry T). record e { links = put_link e.links s l }) (entry_of cs r.name o)) (sym t.at))
 
@@ -259,9 +286,9 @@ module _ {T : Type 0} where
   free_entry cs k (Some (Free r n)) free = refl
   free_entry cs k (Some (Held r v)) free = absurd (none_some v (sym free))
 
-  pub free-seen : (n : ℕ) (cs : List (List Cell)) (hs : List (Home T)) (k : ℕ) → IsFreeAt hs k → ref_of (seen n cs hs) k ≡ None
+  pub free-seen : (n : ℕ) (cs : List (List Cell)) (hs : List (Home T)) (g : FinMap nat_cmp ℕ) (k : ℕ) → IsFreeAt hs k → ref_of (seen n cs hs g) k ≡ None
   unfolding ref_of seen
-  free-seen n cs hs k free = ap (option_map (node_at k)) (get-map cs hs k ∙ free_entry cs k (home_at hs k) free)
+  free-seen n cs hs g k free = ap (option_map (node_at k)) (get-map cs hs k ∙ free_entry cs k (home_at hs k) free)
 
   free_there : (hs : List (Home T)) (k : ℕ) (o : Option (Home T)) → home_at hs k ≡ o → IsFreeIf o → k < length hs
   free_there hs k None is free = absurd free
@@ -288,9 +315,9 @@ module _ {T : Type 0} where
   more_entry cs p zero k (h ∷ hs) fs free = refl
   more_entry cs p (suc q) k (h ∷ hs) fs free = more_entry cs p q k hs fs free
 
-  pub seen-more : (n k : ℕ) (cs : List (List Cell)) (hs fs : List (Home T)) → AreFree k fs → seen n cs (hs ++ fs) ≡ seen n cs hs
+  pub seen-more : (n k : ℕ) (cs : List (List Cell)) (hs fs : List (Home T)) (g : FinMap nat_cmp ℕ) → AreFree k fs → seen n cs (hs ++ fs) g ≡ seen n cs hs g
   unfolding seen
-  seen-more n k cs hs fs free = ap (λ m. record { entries = m; slots = n }) (same_map nat_cmp_total nat_cmp-IsAntisymmetric _ _ (λ q.
+  seen-more n k cs hs fs g free = ap (λ m. record { entries = m; slots = n; gone = g }) (same_map nat_cmp_total nat_cmp-IsAntisymmetric _ _ (λ q.
       get-map cs (hs ++ fs) q ∙ more_entry cs q q k hs fs free ∙ sym (get-map cs hs q)))
 
   first_home : (k : ℕ) (fs : List (Home T)) → AreFree k fs → 0 < length fs → IsFreeIf (home_at fs 0)
@@ -302,63 +329,134 @@ module _ {T : Type 0} where
   free_end k (h ∷ hs) fs free less = free_end k hs fs free less
 
   -- columns with the same links
-  pub seen-columns : (n : ℕ) (cs ds : List (List Cell)) (hs : List (Home T)) → ((k : ℕ) → links_at ds k ≡ links_at cs k) → seen n ds hs ≡ seen n cs hs
+  pub seen-columns : (n : ℕ) (cs ds : List (List Cell)) (hs : List (Home T)) (g : FinMap nat_cmp ℕ) → ((k : ℕ) → links_at ds k ≡ links_at cs k)
+      → seen n ds hs g ≡ seen n cs hs g
   unfolding seen
-  seen-columns n cs ds hs links = ap (λ m. record { entries = m; slots = n }) (same_map nat_cmp_total nat_cmp-IsAntisymmetric _ _ (λ q.
+  seen-columns n cs ds hs g links = ap (λ m. record { entries = m; slots = n; gone = g }) (same_map nat_cmp_total nat_cmp-IsAntisymmetric _ _ (λ q.
       get-map ds hs q ∙ same_entry cs ds q (home_at hs q) (links q) ∙ sym (get-map cs hs q)))
 
   -- columns where there is no place, or as many as slots
-  pub seen-wide : (n : ℕ) (cs ds : List (List Cell)) (hs : List (Home T)) → IsSound n cs hs → (length cs ≡ n → ds ≡ cs) → seen n ds hs ≡ seen n cs hs
+  pub seen-wide : (n : ℕ) (cs ds : List (List Cell)) (hs : List (Home T)) {g : FinMap nat_cmp ℕ} → IsSound n cs hs g → (length cs ≡ n → ds ≡ cs)
+      → seen n ds hs g ≡ seen n cs hs g
   unfolding seen
   seen-wide n cs ds [] sound full = refl
-  seen-wide n cs ds (h ∷ hs) sound full = ap (λ es. record { entries = map_from es 0 (h ∷ hs); slots = n }) (full (sound.wide (omega arith)))
+  seen-wide n cs ds (h ∷ hs) {g} sound full = ap (λ es. record { entries = map_from es 0 (h ∷ hs); slots = n; gone = g }) (full (sound.wide (omega arith)))
 
-  pub slots-seen : (n : ℕ) (cs : List (List Cell)) (hs : List (Home T)) → (seen n cs hs).slots ≡ n
+  pub slots-seen : (n : ℕ) (cs : List (List Cell)) (hs : List (Home T)) (g : FinMap nat_cmp ℕ) → (seen n cs hs g).slots ≡ n
   unfolding seen
-  slots-seen n cs hs = refl
+  slots-seen n cs hs g = refl
 
-  pub seen-none : (n : ℕ) (cs : List (List Cell)) → seen {T = T} n cs [] ≡ no_nodes n
+  pub seen-none : (n : ℕ) (cs : List (List Cell)) → seen {T = T} n cs [] empty ≡ no_nodes n
   unfolding seen no_nodes
   seen-none n cs = refl
 
+  -- the marks of what was given back
+  keeps_there : (b : ℕ) (hs fs : List (Home T)) (k : ℕ) → KeepsMark b (home_at hs k) → KeepsMark b (home_at (hs ++ fs) k)
+  keeps_there b [] fs k h = absurd h
+  keeps_there b (x ∷ hs) fs zero h = h
+  keeps_there b (x ∷ hs) fs (suc k) h = keeps_there b hs fs k h
+
+  -- a node that stands where a free place was
+  marked-held : (g : FinMap nat_cmp ℕ) (hs : List (Home T)) (j : ℕ) (r : Ref) (v : T) → j < length hs → AreMarked g hs → AreMarked g (slice_set hs j (Held r v))
+  marked-held g hs j r v less h k b e = (elim (k == j) as (λ y. (k == j) ≡ y → KeepsMark b (home_at (slice_set hs j (Held r v)) k)) [
+    | true ↦ λ t. subst (KeepsMark b) (sym (ap (home_at (slice_set hs j (Held r v))) (same k j t) ∙ this_home hs j (Held r v) less)) tt
+    | false ↦ λ t. subst (KeepsMark b) (sym (other_home hs j (Held r v) less k t)) (h k b e)
+  ]) refl
+
+  -- a node that was given back
+  marked-free : (g : FinMap nat_cmp ℕ) (hs : List (Home T)) (r : Ref) (next : ℕ) → r.name < length hs → AreMarked g hs
+      → AreMarked (insert g r.name r.mark) (slice_set hs r.name (Free r next))
+  marked-free g hs r next less h k b e =
+      let at : get (insert g r.name r.mark) k ≡ cond (k == r.name) (Some r.mark) (get g k) =
+      get-insert nat_cmp_total g r.name r.mark k ∙ ap (λ y. cond y (Some r.mark) (get g k)) (unsigned_tied k r.name) in
+      (elim (k == r.name) as (λ y. (k == r.name) ≡ y → KeepsMark b (home_at (slice_set hs r.name (Free r next)) k)) [
+        | true ↦ λ t. subst (KeepsMark b) (sym (ap (home_at (slice_set hs r.name (Free r next))) (same k r.name t) ∙ this_home hs r.name (Free r next) less))
+            (some_inj r.mark b (sym (at ∙ ap (λ y. cond y (Some r.mark) (get g k)) t) ∙ e))
+        | false ↦ λ t. subst (KeepsMark b) (sym (other_home hs r.name (Free r next) less k t))
+            (h k b (sym (at ∙ ap (λ y. cond y (Some r.mark) (get g k)) t) ∙ e))
+      ]) refl
+
+  kept_mark : (o : Option (Home T)) (h : Home T) (b : ℕ) → o ≡ Some h → IsFree h → KeepsMark b o → (node_in h).mark ≡ b
+  kept_mark None h b is free keeps = absurd keeps
+  kept_mark (Some (Free q n)) h b is free keeps = ap (λ (w : Home T). (node_in w).mark) (sym (some_inj _ h is)) ∙ keeps
+  kept_mark (Some (Held q v)) h b is free keeps = absurd (none_some v (sym free ∙ ap (λ (w : Home T). value_in w) (sym (some_inj _ h is))))
+
+  -- the reference that comes from a free place isn't the one that was given back last there
+  pub other_than_last : (n : ℕ) (cs : List (List Cell)) (hs : List (Home T)) (g : FinMap nat_cmp ℕ) (k : ℕ) (h : Home T) (r : Ref)
+      → IsSound n cs hs g → IsFreeAt hs k → h ≡ slice_index_or hs k h → r.name ≡ k → r.mark ≡ 1 - (node_in h).mark → IsNotLast (seen n cs hs g) r
+  unfolding last_given seen
+  other_than_last n cs hs g k h r sound free is name mark e =
+      let there : home_at hs k ≡ Some h = at_index hs k h (free_less hs k free) ∙ ap Some (sym is) in
+      let last : get g k ≡ Some r.mark = ap (get g) (sym name) ∙ last_mark r.name (get g r.name) r e in
+      differs (node_in h).mark r.mark (kept_mark (home_at hs k) h r.mark there (free_found hs k h free is) (sound.marked k r.mark last)) (sym mark)
+
   -- places stay sound
-  pub sound-set : (n : ℕ) (cs : List (List Cell)) (hs : List (Home T)) (j : ℕ) (h : Home T)
-      → IsSound n cs hs → (node_in h).name ≡ j → IsSound n cs (slice_set hs j h)
-  sound-set n cs hs j h sound name = record {
+  pub sound-none : (n : ℕ) (cs : List (List Cell)) (hs : List (Home T)) → length cs ≤ n → hs ≡ [] → IsSound n cs hs empty
+  sound-none n cs [] few e = record {
+    named = tt;
+    few = few;
+    wide = λ less. absurd (omega (arith, less));
+    long = long_none cs;
+    marked = λ k b f. none_some b (sym (get-empty nat_cmp k) ∙ f);
+  }
+  sound-none n cs (h ∷ hs) few e = absurd cc
+
+  sound-set : (n : ℕ) (cs : List (List Cell)) (hs : List (Home T)) (g f : FinMap nat_cmp ℕ) (j : ℕ) (h : Home T)
+      → IsSound n cs hs g → (node_in h).name ≡ j → AreMarked f (slice_set hs j h) → IsSound n cs (slice_set hs j h) f
+  sound-set n cs hs g f j h sound name marked = record {
     named = named_set 0 j hs h sound.named (name ∙ sym (from_zero j));
     few = sound.few;
     wide = λ less. sound.wide (subst (λ k. 0 < k) (length-set hs j h) less);
     long = subst (λ k. AreLong k cs) (sym (length-set hs j h)) sound.long;
+    marked = marked;
   }
 
-  pub sound-columns : (n : ℕ) (cs ds : List (List Cell)) (hs : List (Home T)) → IsSound n cs hs
-      → length ds ≡ length cs → ((m : ℕ) → AreLong m cs → AreLong m ds) → IsSound n ds hs
+  pub sound-held : (n : ℕ) (cs : List (List Cell)) (hs : List (Home T)) {g : FinMap nat_cmp ℕ} (j : ℕ) (r : Ref) (v : T)
+      → IsSound n cs hs g → r.name ≡ j → j < length hs → IsSound n cs (slice_set hs j (Held r v)) g
+  sound-held n cs hs {g} j r v sound name less = sound-set n cs hs g g j (Held r v) sound name (marked-held g hs j r v less sound.marked)
+
+  pub sound-free : (n : ℕ) (cs : List (List Cell)) (hs : List (Home T)) (g : FinMap nat_cmp ℕ) (r : Ref) (next : ℕ)
+      → IsSound n cs hs g → r.name < length hs → IsSound n cs (slice_set hs r.name (Free r next)) (insert g r.name r.mark)
+  sound-free n cs hs g r next sound less =
+      sound-set n cs hs g (insert g r.name r.mark) r.name (Free r next) sound refl (marked-free g hs r next less sound.marked)
+
+  pub sound-columns : (n : ℕ) (cs ds : List (List Cell)) (hs : List (Home T)) {g : FinMap nat_cmp ℕ} → IsSound n cs hs g
+      → length ds ≡ length cs → ((m : ℕ) → AreLong m cs → AreLong m ds) → IsSound n ds hs g
   sound-columns n cs ds hs sound count long = record {
     named = sound.named;
     few = subst (λ k. k ≤ n) (sym count) sound.few;
     wide = λ less. count ∙ sound.wide less;
     long = long (length hs) sound.long;
+    marked = sound.marked;
   }
 
-  pub sound-wide : (n : ℕ) (cs ds : List (List Cell)) (hs : List (Home T)) → IsSound n cs hs → length ds ≤ n → (length cs ≡ n → ds ≡ cs) → IsSound n ds hs
-  sound-wide n cs ds [] sound few full = record { named = tt; few = few; wide = λ less. absurd (omega (arith, less)); long = long_none ds }
-  sound-wide n cs ds (h ∷ hs) sound few full = subst (λ es. IsSound n es (h ∷ hs)) (sym (full (sound.wide (omega arith)))) sound
+  pub sound-wide : (n : ℕ) (cs ds : List (List Cell)) (hs : List (Home T)) {g : FinMap nat_cmp ℕ} → IsSound n cs hs g → length ds ≤ n → (length cs ≡ n
+      → ds ≡ cs) → IsSound n ds hs g
+  sound-wide n cs ds [] sound few full = record {
+    named = tt;
+    few = few;
+    wide = λ less. absurd (omega (arith, less));
+    long = long_none ds;
+    marked = sound.marked;
+  }
+  sound-wide n cs ds (h ∷ hs) {g} sound few full = subst (λ es. IsSound n es (h ∷ hs) g) (sym (full (sound.wide (omega arith)))) sound
 
   length_both : (hs fs : List (Home T)) → length (hs ++ fs) ≡ length hs + length fs
   length_both [] fs = omega arith
   length_both (h ∷ hs) fs = let e = length_both hs fs in omega (arith, e)
 
-  pub sound-more : (n : ℕ) (cs : List (List Cell)) (hs fs : List (Home T)) → IsSound n cs hs → length cs ≡ n
-      → AreFree (length hs) fs → AreLong (length hs + length fs) cs → IsSound n cs (hs ++ fs)
+  pub sound-more : (n : ℕ) (cs : List (List Cell)) (hs fs : List (Home T)) {g : FinMap nat_cmp ℕ} → IsSound n cs hs g → length cs ≡ n
+      → AreFree (length hs) fs → AreLong (length hs + length fs) cs → IsSound n cs (hs ++ fs) g
   sound-more n cs hs fs sound wide free long = record {
     named = named_both 0 hs fs sound.named (subst (λ k. AreFree k fs) (sym (from_zero (length hs))) free);
     few = sound.few;
     wide = λ less. wide;
     long = subst (λ k. AreLong k cs) (sym (length_both hs fs)) long;
+    marked = λ k b e. keeps_there b hs fs k (sound.marked k b e);
   }
 
   -- the name of a held reference is a place
-  module _ {n : ℕ} {cs : List (List Cell)} {hs : List (Home T)} {r : Ref} (sound : IsSound n cs hs) (held : IsHeld (seen n cs hs) r)
+  module _ {n : ℕ} {cs : List (List Cell)} {hs : List (Home T)} {g : FinMap nat_cmp ℕ} {r : Ref} (sound : IsSound n cs hs g) (held : IsHeld (seen n cs hs g) r)
       {k : ℕ} (name : k ≡ r.name) where
     pub held_less : k < length hs
     held_less = subst (λ q. q < length hs) (sym name) (there sound held).less
@@ -367,9 +465,9 @@ module _ {T : Type 0} where
     pub held_some : (h : Home T) → h ≡ slice_index_or hs k h → IsTrue (is_some (value_in h))
     held_some h is = subst (λ (w : Home T). IsTrue (is_some (value_in w))) (sym (found cs hs r (there sound held) k h name is)) refl
 
-    pub held_value : (h : Home T) → h ≡ slice_index_or hs k h → value_of (seen n cs hs) r.name ≡ value_in h
+    pub held_value : (h : Home T) → h ≡ slice_index_or hs k h → value_of (seen n cs hs g) r.name ≡ value_in h
     held_value h is =
-        let t = there sound held in value-seen n cs hs r t ∙ sym (ap (λ (w : Home T). value_in w) (found cs hs r t k h name is))
+        let t = there sound held in value-seen n cs hs g r t ∙ sym (ap (λ (w : Home T). value_in w) (found cs hs r t k h name is))
 
     -- a slot has a column, with a cell there that has the node's link
     pub held_wide : (s : ℕ) → s < n → s < length cs
@@ -378,10 +476,10 @@ module _ {T : Type 0} where
     pub held_long : (s : ℕ) → s < n → k < length (column cs s)
     held_long s less = let l = held_less in let long = sound.long s (held_wide s less) in omega (arith, l, long)
 
-    pub held_link : (s : ℕ) → slice_index_or (links_at cs k) s no_link ≡ link_of (seen n cs hs) r.name s
-    held_link s = ap (λ q. slice_index_or (links_at cs q) s no_link) name ∙ sym (link-seen n cs hs r s (there sound held))
+    pub held_link : (s : ℕ) → slice_index_or (links_at cs k) s no_link ≡ link_of (seen n cs hs g) r.name s
+    held_link s = ap (λ q. slice_index_or (links_at cs q) s no_link) name ∙ sym (link-seen n cs hs g r s (there sound held))
 
-  pub some_wide : (n : ℕ) (cs : List (List Cell)) (hs : List (Home T)) (k : ℕ) → IsSound n cs hs → k < length hs → length cs ≡ n
+  pub some_wide : (n : ℕ) (cs : List (List Cell)) (hs : List (Home T)) {g : FinMap nat_cmp ℕ} (k : ℕ) → IsSound n cs hs g → k < length hs → length cs ≡ n
   some_wide n cs hs k sound less = sound.wide (omega (arith, less))
 
   -- one free place more

@@ -1,15 +1,10 @@
 -- Chunks as one list.
 use Rattle.std.specs.Prelude.{◌≡◌, ◌≤◌, ℕ, List, [], ◌∷◌, ◌++◌, length}
-use Rattle.std.specs.Global.{Vec, Box}
-use Rattle.mi_node.specs.declared.cell.Cell.{Cell}
-use Rattle.mi_node.specs.declared.column.Block.{Block}
+use Rattle.mi_node.specs.declared.chunk.Chunk.{Chunk}
 
 -- what a chunk has
-abbrev pub in_vec : {E : Type 0} → Vec E → List E
-in_vec v = v.items
-
-abbrev pub in_block : Box Block → List Cell
-in_block b = b.value.cells
+abbrev pub in_chunk : {E : Type 0} → Chunk E → List E
+in_chunk c = c.row.items
 
 module _ {C E : Type 0} (items : C → List E) where
   abbrev pub flat : List C → List E

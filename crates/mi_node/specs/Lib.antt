@@ -8,4 +8,5 @@ pub mod Places
 pub mod Pool
 pub mod RefView
 pub mod Refs
+pub mod Rows
 pub mod Seen

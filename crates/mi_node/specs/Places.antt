@@ -5,7 +5,7 @@ use Rattle.mi_node.specs.declared.places.Places.{Places}
 
 module _ {T : Type 0} where
   abbrev pub nodes : Places T → Pooled T
-  nodes p = seen p.slots p.columns.items p.homes
+  nodes p = seen p.slots p.columns.items p.homes p.gone.marks
 
   abbrev pub AreSound : Places T → Type 0
-  AreSound p = IsSound p.slots p.columns.items p.homes
+  AreSound p = IsSound p.slots p.columns.items p.homes p.gone.marks

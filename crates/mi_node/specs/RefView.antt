@@ -9,7 +9,7 @@ abbrev pub ref_seen : Inside → Ref
 ref_seen a = record { name = a.bits / 2; mark = a.bits % 2 }
 
 abbrev pub IsSomebody : Inside → Type 0
-IsSomebody a = a.bits < 4294967295
+IsSomebody a = a.bits < 4294967294
 
 abbrev pub bits_of : Ref → Inside
 bits_of r = record { bits = r.name * 2 + r.mark }

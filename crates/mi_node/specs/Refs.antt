@@ -1,7 +1,7 @@
 -- References as contracts see them, and lists of them: their ends, and which names stand in one.
 use Rattle.std.specs.Prelude.{◌≡◌, ℕ, false, ◌==◌, List, [], ◌∷◌, map, Option, Some}
 
--- a node's place, which is its name, and a mark that no clause specifies
+-- a node's place, which is its name, and a mark, which differs from that of the node that was given back last there
 pub record Ref : Type 0 where
   pub name : ℕ
   pub mark : ℕ

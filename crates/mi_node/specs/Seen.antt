@@ -1,9 +1,9 @@
 -- The map that places and columns of cells stand for, and how they stand.
-use Rattle.std.specs.Prelude.{◌≡◌, ℕ, suc, ◌<◌, ◌≤◌, List, [], ◌∷◌, length}
+use Rattle.std.specs.Prelude.{◌≡◌, ℕ, suc, ◌<◌, ◌≤◌, List, [], ◌∷◌, length, Option, Some, None}
 use Rattle.std.specs.Ordering.{nat_cmp}
-use Rattle.std.specs.FinMap.{FinMap, insert, empty}
+use Rattle.std.specs.FinMap.{FinMap, get, insert, empty}
 use Rattle.mi_node.specs.Columns.{links_at, AreLong}
-use Rattle.mi_node.specs.Homes.{node_in}
+use Rattle.mi_node.specs.Homes.{node_in, home_at}
 use Rattle.mi_node.specs.Pool.{Entry, Pooled}
 use Rattle.mi_node.specs.declared.cell.Cell.{Cell}
 use Rattle.mi_node.specs.declared.home.Home.{Home}
@@ -19,17 +19,29 @@ module _ {T : Type 0} where
   map_from cs k [] = empty
   map_from cs k (h ∷ hs) = put_home cs k h (map_from cs (suc k) hs)
 
-  unfoldable pub seen : ℕ → List (List Cell) → List (Home T) → Pooled T
-  seen n cs hs = record { entries = map_from cs 0 hs; slots = n }
+  -- g: the marks of what was given back
+  unfoldable pub seen : ℕ → List (List Cell) → List (Home T) → FinMap nat_cmp ℕ → Pooled T
+  seen n cs hs g = record { entries = map_from cs 0 hs; slots = n; gone = g }
 
   -- each place keeps references of its own name, the first of which is k
   abbrev pub IsNamed : ℕ → List (Home T) → Type 0
   IsNamed k [] = Unit {0}
   IsNamed k (h ∷ hs) = ((node_in h).name ≡ k) × IsNamed (suc k) hs
 
+  -- there is such a place, and if it is free, it keeps a reference of the mark b
+  abbrev pub KeepsMark : ℕ → Option (Home T) → Type 0
+  KeepsMark b None = ⊥
+  KeepsMark b (Some (Free r n)) = r.mark ≡ b
+  KeepsMark b (Some (Held r v)) = Unit {0}
+
+  -- the reference that was given back last is the one that the free place keeps
+  abbrev pub AreMarked : FinMap nat_cmp ℕ → List (Home T) → Type 0
+  AreMarked g hs = (k b : ℕ) → get g k ≡ Some b → KeepsMark b (home_at hs k)
+
   -- where there are places, each slot has a column, which has a cell for each of them
-  pub record IsSound (n : ℕ) (cs : List (List Cell)) (hs : List (Home T)) : Type 0 where
+  pub record IsSound (n : ℕ) (cs : List (List Cell)) (hs : List (Home T)) (g : FinMap nat_cmp ℕ) : Type 0 where
     pub named : IsNamed 0 hs
     pub few : length cs ≤ n
     pub wide : 0 < length hs → length cs ≡ n
     pub long : AreLong (length hs) cs
+    pub marked : AreMarked g hs

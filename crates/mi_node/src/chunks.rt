@@ -1,8 +1,8 @@
 //! An array in chunks that never move, seen as one list.
-//! Safe code over blocks of memory, which knows nothing of nodes.
+//! Safe code over chunks, which knows nothing of nodes.
 ghost use Rattle.std.specs.Prelude.{◌≡◌, ◌<◌, ◌++◌, [], length, slice_set, slice_index_or, IfOk, IfErr};
-ghost use Rattle.std.specs.Vec.{with_item};
 
+use crate::chunk::Chunk;
 use std::alloc::{AllocError, Global};
 use std::marker::Model;
 
@@ -15,7 +15,7 @@ pub(crate) const MAX_CHUNKS: usize = 524_288;
 /// An array that grows by a chunk at a time. No element is ever moved to another address.
 #[derive(Drop)]
 pub(crate) struct Chunks<E> {
-    chunks: Vec<Vec<E>>,
+    chunks: Vec<Chunk<E>>,
 }
 
 impl<E> Model for Chunks<E> {
@@ -26,11 +26,11 @@ impl<E> Model for Chunks<E> {
 
     ghost coded = { coded_list E.code };
 
-    ghost use Rattle.mi_node.specs.Chunks.{flat, in_vec, IsChunked};
+    ghost use Rattle.mi_node.specs.Chunks.{flat, in_chunk, IsChunked};
 
-    ghost view = { λ c. flat in_vec c.chunks.items };
+    ghost view = { λ c. flat in_chunk c.chunks.items };
 
-    ghost invariant = { λ c. IsChunked in_vec c.chunks.items };
+    ghost invariant = { λ c. IsChunked in_chunk c.chunks.items };
 }
 
 impl<E> Chunks<E> {
@@ -55,7 +55,7 @@ impl<E> Chunks<E> {
         requires { at < length self.now }
         ensures { result.now ≡ slice_index_or self.now at result.now }
     {
-        &self.chunks[at / CHUNK][at % CHUNK]
+        self.chunks[at / CHUNK].at(at % CHUNK)
     }
 
     /// Puts an element in place of another, which it gives back.
@@ -64,7 +64,7 @@ impl<E> Chunks<E> {
         ensures item { result ≡ slice_index_or self.old at result }
         ensures items { self.new ≡ slice_set self.old at item }
     {
-        replace_in(&mut self.chunks[at / CHUNK], at % CHUNK, item)
+        self.chunks[at / CHUNK].replace(at % CHUNK, item)
     }
 
     /// Puts an element in place of another.
@@ -78,11 +78,10 @@ impl<E> Chunks<E> {
     }
 
     /// Adds a chunk at the end. Where memory is refused, or there are 2^31 elements, all is as it was.
-    pub(crate) fn add(&mut self, chunk: Vec<E>) -> Result<(), AllocError>
+    pub(crate) fn add(&mut self, chunk: Chunk<E>) -> Result<(), AllocError>
     where
         E: Drop,
-        requires { length chunk.items ≡ 4096 }
-        ensures ok { IfOk result (λ _. self.new ≡ self.old ++ chunk.items) }
+        ensures ok { IfOk result (λ _. self.new ≡ self.old ++ chunk.row.items) }
         ensures err { IfErr result (λ _. self.new ≡ self.old) }
     {
         if self.chunks.len() >= MAX_CHUNKS {
@@ -94,12 +93,4 @@ impl<E> Chunks<E> {
         self.chunks.push_reserved(chunk);
         Ok(())
     }
-}
-
-fn replace_in<E>(chunk: &mut Vec<E>, at: usize, item: E) -> E
-    requires { at < length chunk.old.items }
-    ensures item { result ≡ slice_index_or chunk.old.items at result }
-    ensures items { chunk.new ≡ with_item chunk.old at item }
-{
-    std::mem::replace(&mut chunk[at], item)
 }

@@ -1,30 +1,19 @@
-//! A column of cells in blocks that never move, seen as one list.
-//! Safe code over blocks of memory, which knows nothing of nodes.
+//! A column of cells in chunks that never move, seen as one list.
+//! Safe code over chunks, which knows nothing of nodes.
 ghost use Rattle.std.specs.Prelude.{◌≡◌, ◌<◌, ◌++◌, [], length, replicate, slice_set, IfOk, IfErr};
 ghost use Rattle.mi_node.specs.Cells.{empty_cell};
 ghost use Rattle.mi_node.specs.Columns.{cell_at};
 
 use crate::cell::{Cell, EMPTY};
+use crate::chunk::Chunk;
 use crate::chunks::{CHUNK, MAX_CHUNKS};
 use std::alloc::{AllocError, Global};
 use std::marker::Model;
 
-/// So many words stand before a block's cells. The C library answers for so large a block an address
-/// 16 bytes past a multiple of 64: with them no cell lies across two lines of the cache. Where an
-/// address is another, time is lost and nothing else.
-const LEAD: usize = 6;
-
-/// The cells of as many places as a chunk has.
-#[derive(Drop)]
-struct Block {
-    lead: [u64; LEAD],
-    cells: [Cell; CHUNK],
-}
-
 /// Cells that are read and set by place. No cell is ever moved to another address.
 #[derive(Drop)]
 pub(crate) struct Column {
-    blocks: Vec<Box<Block>>,
+    chunks: Vec<Chunk<Cell>>,
 }
 
 impl Model for Column {
@@ -33,11 +22,11 @@ impl Model for Column {
 
     ghost Value = { List CellValue };
 
-    ghost use Rattle.mi_node.specs.Chunks.{flat, in_block, IsChunked};
+    ghost use Rattle.mi_node.specs.Chunks.{flat, in_chunk, IsChunked};
 
-    ghost view = { λ c. flat in_block c.blocks.items };
+    ghost view = { λ c. flat in_chunk c.chunks.items };
 
-    ghost invariant = { λ c. IsChunked in_block c.blocks.items };
+    ghost invariant = { λ c. IsChunked in_chunk c.chunks.items };
 }
 
 impl Column {
@@ -46,7 +35,7 @@ impl Column {
         ensures { result ≡ [] }
     {
         Column {
-            blocks: Vec::new(alloc),
+            chunks: Vec::new(alloc),
         }
     }
 
@@ -54,7 +43,7 @@ impl Column {
     pub(crate) fn len(&self) -> usize
         ensures { result ≡ length self.now }
     {
-        self.blocks.len() * CHUNK
+        self.chunks.len() * CHUNK
     }
 
     /// The cell of a place.
@@ -62,8 +51,7 @@ impl Column {
         requires { place < length self.now }
         ensures { result ≡ cell_at place self.now }
     {
-        let block = &self.blocks[place / CHUNK];
-        block.cells[place % CHUNK]
+        *self.chunks[place / CHUNK].at(place % CHUNK)
     }
 
     /// Sets the cell of a place.
@@ -71,7 +59,7 @@ impl Column {
         requires { place < length self.old }
         ensures { self.new ≡ slice_set self.old place cell }
     {
-        self.blocks[place / CHUNK].cells[place % CHUNK] = cell;
+        let _ = self.chunks[place / CHUNK].replace(place % CHUNK, cell);
     }
 
     /// Adds a chunk of empty cells at the end. Where memory is refused, or there are 2^31 cells, all is as it was.
@@ -79,24 +67,21 @@ impl Column {
         ensures ok { IfOk result (λ _. self.new ≡ self.old ++ replicate 4096 empty_cell) }
         ensures err { IfErr result (λ _. self.new ≡ self.old) }
     {
-        if self.blocks.len() >= MAX_CHUNKS {
+        if self.chunks.len() >= MAX_CHUNKS {
             return Err(AllocError);
         }
-        self.blocks.reserve(1)?;
-        self.blocks.push_reserved(empty_block(alloc)?);
+        self.chunks.reserve(1)?;
+        self.chunks.push_reserved(empty_chunk(alloc)?);
         Ok(())
     }
 }
 
-/// A block none of whose cells was set. It is made on the stack, so no caller is to have it in its own frame.
-#[cold]
-#[inline(never)]
-fn empty_block(alloc: Global) -> Result<Box<Block>, AllocError>
-    ensures { IfOk result (λ b. b.value.cells ≡ replicate 4096 empty_cell) }
+/// What the cells of a new chunk are copies of.
+static EMPTY_CELLS: [Cell; CHUNK] = [EMPTY; CHUNK];
+
+/// A chunk none of whose cells was set.
+fn empty_chunk(alloc: Global) -> Result<Chunk<Cell>, AllocError>
+    ensures { IfOk result (λ c. c.row.items ≡ replicate 4096 empty_cell) }
 {
-    let block = Block {
-        lead: [0; LEAD],
-        cells: [EMPTY; CHUNK],
-    };
-    Ok(Box::new(alloc, block)?)
+    Ok(Chunk::of_copies(alloc, &EMPTY_CELLS)?)
 }

@@ -1,8 +1,9 @@
 //! A place for a node: one stands there, or it is free.
 //! Plain data, which knows nothing of other places.
-ghost use Rattle.std.specs.Prelude.{◌≡◌, ◌≤◌, ◌+◌, Some, IfOk, IsTrue, is_some, length};
+ghost use Rattle.std.specs.Prelude.{◌≡◌, ◌≤◌, ◌+◌, ◌-◌, Some, IfOk, IsTrue, is_some, length};
 ghost use Rattle.mi_node.specs.Homes.{IsFree, AreFree, node_in, value_in};
 
+use crate::chunk::Chunk;
 use crate::chunks::CHUNK;
 use crate::node_ref::{NodeRef, PLACES};
 use std::alloc::{AllocError, Global};
@@ -21,7 +22,8 @@ const _: () = prove!(size_of::<Home<u64>>() == 16);
 /// A reference for the next node at a free place, and the number of the free place after it.
 pub(crate) fn next_at<T>(home: &Home<T>) -> (NodeRef, u32)
     requires { IsFree home.now }
-    ensures { result.0.name ≡ (node_in home.now).name }
+    ensures name { result.0.name ≡ (node_in home.now).name }
+    ensures mark { result.0.mark ≡ 1 - (node_in home.now).mark }
 {
     match home {
         Home::Free { node, next } => (node.renewed(), *next),
@@ -67,7 +69,17 @@ pub(crate) fn free_chunk<T>(
     alloc: Global,
     first: u32,
     next: u32,
-) -> Result<Vec<Home<T>>, AllocError>
+) -> Result<Chunk<Home<T>>, AllocError>
+where
+    T: Drop,
+    requires { first + 4096 ≤ PLACES }
+    ensures { IfOk result (λ c. AreFree first c.row.items) }
+{
+    let places = free_places(alloc, first, next)?;
+    Ok(Chunk::new(alloc, places)?)
+}
+
+fn free_places<T>(alloc: Global, first: u32, next: u32) -> Result<Vec<Home<T>>, AllocError>
 where
     T: Drop,
     requires { first + 4096 ≤ PLACES }

@@ -3,10 +3,12 @@
 #![tactic(auto)]
 
 mod cell;
+mod chunk;
 mod chunks;
 mod column;
 mod columns;
 mod counted;
+mod gone;
 mod home;
 mod link;
 pub mod neighbours;
@@ -14,6 +16,7 @@ mod node_ref;
 mod packed;
 mod places;
 mod pool;
+mod raw;
 
 pub use counted::Counted;
 pub use link::{Link, NO_LINK, NO_TAG, Tag};

@@ -1,5 +1,5 @@
-//! A reference of four bytes: 31 bits of the node's place, and one bit that no clause of the pool
-//! specifies. Plain data: it owns no node.
+//! A reference of four bytes: 31 bits of the node's place, and one bit that tells two nodes apart which
+//! stood there one after the other. Plain data: it owns no node.
 ghost use Rattle.std.specs.Prelude.{◌≡◌, ⊤, ◌<◌, ◌/◌, ◌%◌, ◌-◌};
 
 use std::alloc::AllocError;
@@ -9,9 +9,10 @@ use std::marker::Model;
 pub(crate) const PLACES: u32 = 0x7fff_ffff;
 
 /// The bits of no reference.
-pub(crate) const NOBODY: u32 = 0xffff_ffff;
+pub(crate) const NOBODY: u32 = 0xffff_fffe;
 
-/// Which node: plain data that owns nothing. Contracts see its name, which is the node's place, and its mark.
+/// Which node: plain data that owns nothing. Contracts see its name, which is the node's place, and its
+/// mark, 0 or 1: the other one than that of the node that was given back last at that place.
 pub struct NodeRef {
     bits: u32,
 }
@@ -67,14 +68,11 @@ impl NodeRef {
     /// The reference to another node at the same place. Its mark is the other one.
     pub(crate) fn renewed(self) -> NodeRef
         ensures name { result.name ≡ self.name }
-        ensures mark { self.name < PLACES → result.mark ≡ 1 - self.mark }
+        ensures mark { result.mark ≡ 1 - self.mark }
     {
         let mark = 1 - self.bits % 2;
-        let bits = self.bits / 2 * 2 + mark;
-        if bits < NOBODY {
-            NodeRef { bits }
-        } else {
-            self
+        NodeRef {
+            bits: self.bits / 2 * 2 + mark,
         }
     }
 

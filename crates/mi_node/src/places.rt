@@ -2,11 +2,12 @@
 //! Safe code over arrays in chunks: it never reads what a link says.
 ghost use Rattle.std.specs.Prelude.{◌≡◌, ◌<◌, Some, None, IfOk};
 ghost use Rattle.mi_node.specs.Homes.{IsFreeAt};
-ghost use Rattle.mi_node.specs.Pool.{IsHeld, ref_of, value_of, link_of, no_nodes, taken, without, with_link, with_value};
+ghost use Rattle.mi_node.specs.Pool.{IsHeld, IsNotLast, ref_of, value_of, link_of, no_nodes, taken, without, with_link, with_value};
 
 use crate::chunks::{CHUNK, Chunks};
 use crate::column::Column;
 use crate::columns::{add_columns, clear, lengthen, link_at, set_link_at};
+use crate::gone::Gone;
 use crate::home::{Home, free_chunk, into_value, is_free, next_at, value_at};
 use crate::link::Link;
 use crate::node_ref::{NodeRef, PLACES};
@@ -20,6 +21,7 @@ pub(crate) struct Places<T> {
     columns: Vec<Column>,
     free: u32,
     slots: usize,
+    gone: Gone,
     alloc: Global,
 }
 
@@ -36,6 +38,7 @@ impl<T> Places<T> {
             columns: Vec::new(alloc),
             free: PLACES,
             slots,
+            gone: Gone::new(),
             alloc,
         }
     }
@@ -94,6 +97,7 @@ impl<T> Places<T> {
         requires sound { AreSound self.old }
         requires free { IsFreeAt self.old.homes place }
         ensures free { ref_of (nodes self.old) result.name ≡ None }
+        ensures other { IsNotLast (nodes self.old) result }
         ensures nodes { nodes self.new ≡ taken (nodes self.old) result value }
         ensures sound { AreSound self.new }
     {
@@ -117,6 +121,7 @@ impl<T> Places<T> {
             .homes
             .replace(node.name() as usize, Home::Free { node, next });
         self.free = node.name();
+        self.gone.note(node.bits());
         into_value(home)
     }
 

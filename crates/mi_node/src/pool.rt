@@ -1,7 +1,7 @@
 //! The pool of all nodes, seen as a finite map from places.
 //! Safe code over the places: it never reads what a link says.
 ghost use Rattle.std.specs.Prelude.{◌≡◌, ◌<◌, ◌≤◌, Some, None, IfOk, IfErr};
-ghost use Rattle.mi_node.specs.Pool.{IsHeld, ref_of, value_of, link_of, no_nodes, taken, without, with_link, with_value};
+ghost use Rattle.mi_node.specs.Pool.{IsHeld, IsNotLast, ref_of, value_of, link_of, no_nodes, taken, without, with_link, with_value};
 
 use crate::link::Link;
 use crate::node_ref::NodeRef;
@@ -13,12 +13,15 @@ use std::marker::Model;
 pub const MAX_SLOTS: usize = 16;
 
 /// Nodes that are reached by plain references, each with a value and as many links as the pool has
-/// slots. Contracts see the number of slots, and a map from the name of each node to the reference
-/// that `take` gave, its value and its links.
+/// slots. Contracts see the number of slots, a map from the name of each node to the reference that
+/// `take` gave, its value and its links, and which reference of each name was given back last.
 ///
 /// A node's name is its place, a number below 2^31. A place that was given back is used again. A
-/// reference is held while the pool's node of its name has that very reference: not after it was
-/// given back, even if its place is used again, and never in another pool.
+/// reference is held while this pool's node of its name has that very reference. What `take` gives is
+/// never the reference that was given back last at that place, so one that was given back isn't held
+/// before the next one of its place is given back too. From then on it may be the same four bytes as
+/// one that is held, since a reference has one bit to tell nodes of a place apart; and so may a
+/// reference of another pool. Nothing proves such a one held, and nothing proves that it isn't.
 ///
 /// Memory is taken for 4,096 places at once: 32 bytes a slot for each, the value, and 8 bytes. No
 /// place is ever moved, and none is freed before the pool is dropped, which drops the value of each
@@ -69,7 +72,8 @@ impl<T> Pool<T> {
     }
 
     /// Puts the value into a new node, none of whose links is set. Its name is a place where no node
-    /// stood: one that was given back, or a new one.
+    /// stands: one that was given back, or a new one. The reference isn't the one that was given back
+    /// last at that place.
     ///
     /// Where memory is refused, or no place is left, the pool is as it was and
     /// the value comes back.
@@ -77,6 +81,7 @@ impl<T> Pool<T> {
     where
         T: Drop,
         ensures free { IfOk result (λ r. ref_of self.old r.name ≡ None) }
+        ensures other { IfOk result (λ r. IsNotLast self.old r) }
         ensures ok { IfOk result (λ r. self.new ≡ taken self.old r value) }
         ensures value_returned { IfErr result (λ e. e.1 ≡ value) }
         ensures err { IfErr result (λ _. self.new ≡ self.old) }
@@ -87,7 +92,8 @@ impl<T> Pool<T> {
         }
     }
 
-    /// Takes the node out of the pool, and gives its value back. Its place may be used again.
+    /// Takes the node out of the pool, and gives its value back. Its place may be used again, by another
+    /// reference than this one.
     pub fn give(&mut self, node: NodeRef) -> T
         requires { IsHeld self.old node }
         ensures value { value_of self.old node.name ≡ Some result }

@@ -1,4 +1,5 @@
 mod BufferLemmas
+mod EndingLemmas
 mod MatchedLemmas
 mod NumberLemmas
 mod ServingLemmas

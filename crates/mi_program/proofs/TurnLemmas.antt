@@ -7,6 +7,7 @@ use Rattle.mi_hub.specs.IoNotes.{reads_fail, writes_fail, with_read, with_write}
 use Rattle.mi_hub.specs.declared.io_errors.IoErrors.{IoErrors}
 use Rattle.std.specs.Result.{result_and}
 use Rattle.std.specs.List.{range_with_len}
+use Rattle.std.proofs.lemmas.Bool.{eqb-true}
 use Rattle.std.proofs.lemmas.List.{map-append, length-map}
 use Rattle.mi_hub.specs.Lines.{Rest}
 use Rattle.mi_hub.specs.Connections.{rest_at, with_rest, others}
@@ -17,7 +18,7 @@ use Rattle.mi_hub.specs.declared.fault.ServeFault.TheVariants.{Read, Turns, Acce
 use Rattle.mi_hub.proofs.ConnectionLemmas.{some_with_rest}
 use Rattle.mi_hub.proofs.PieceLemmas.{unsent_piece_gone, unsent_close_gone, same_err}
 use Rattle.mi_hub.specs.Turn.{Turn, fed, ended, unread, unanswered, unended, conn_of, outcome, given_in, Made}
-use Rattle.mi_program.specs.Turns.{fresh, with_clients, ByTurns, row_after, turn_fault, first_fault, with_turn}
+use Rattle.mi_program.specs.Turns.{fresh, with_clients, TakesTurn, ByTurns, row_after, turn_fault, first_fault, with_turn}
 use Rattle.mi_program.specs.Turns.{all_noted, client_ids, AllSound, AllAttached, IsNoneOf, AllDiffer, Serves}
 use Rattle.mi_program.specs.declared.listener.Client.{Client}
 
@@ -165,14 +166,15 @@ some_come [] zero is some = absurd (omega arith)
 some_come [] (suc n) is some = absurd (cc)
 some_come (c ∷ row) n is some = omega arith
 
--- turns of the clients that have come
-pub turns_of_come : (row : List ℕ) (n : ℕ) (s t new : HubState) (turns : List Turn) (left : List ℕ)
-    → row ≡ range_with_len 1 n → t ≡ with_clients n s → ByTurns row t turns left new
-    → ByTurns (range_with_len 1 n) (with_clients n s) turns left new
-turns_of_come row n s t new turns left is come made = subst (λ u. ByTurns (range_with_len 1 n) u turns left new)
-    come (subst (λ xs. ByTurns xs t turns left new) is made)
-
 -- ---- turns
+
+-- the numbers of the row that a turn leaves
+abbrev ids_after : Turn → List ℕ → List ℕ
+ids_after (fed conn bytes) ids = ids ++ conn ∷ []
+ids_after (ended conn) ids = ids
+ids_after (unread conn) ids = ids
+ids_after (unanswered conn bytes) ids = ids
+ids_after (unended conn) ids = ids
 
 -- the first of the row is gone
 serves_gone : (conn : ℕ) (row : List ℕ) (cs ds : List Connection) → Serves (conn ∷ row) cs → ds ≡ others conn cs → Serves row ds
@@ -187,7 +189,7 @@ serves_gone conn row cs ds p is = subst (Serves row) (sym is) (record {
 
 -- the row and the hub after a turn of its first
 serves_after : (turn : Turn) (row out : List ℕ) (old new : HubState)
-    → Serves (conn_of turn ∷ row) old.attached → Made old turn out new → Serves (row_after turn row) new.attached
+    → Serves (conn_of turn ∷ row) old.attached → Made old turn out new → Serves (ids_after turn row) new.attached
 serves_after (fed conn bytes) row out old new p made = subst (Serves (row ++ conn ∷ [])) (sym made.0.3) (record {
   there = all_same (row ++ conn ∷ []) old.attached (with_rest conn _ old.attached)
       (λ k. some_with_rest k conn _ old.attached) (all_last row conn old.attached p.there.1 p.there.0);
@@ -202,63 +204,10 @@ serves_after (unread conn) row out old new p made = serves_gone conn row old.att
 serves_after (unanswered conn bytes) row out old new p made = serves_gone conn row old.attached new.attached p (unsent_piece_gone conn bytes out old new made.0)
 serves_after (unended conn) row out old new p made = serves_gone conn row old.attached new.attached p (unsent_close_gone conn out old new made)
 
--- a connection that stays open goes behind the others
-pub stays_open : (turn : Turn) (others : List ℕ) → ◌≡◌ {A = Result Bool ServeFault} (Ok true) (outcome turn)
-    → row_after turn others ≡ others ++ conn_of turn ∷ []
-stays_open (fed conn bytes) others is = refl
-stays_open (ended conn) others is = absurd (cc)
-stays_open (unread conn) others is = absurd (cc)
-stays_open (unanswered conn bytes) others is = absurd (cc)
-stays_open (unended conn) others is = absurd (cc)
-
--- one that has ended is let go
-pub has_ended : (turn : Turn) (others : List ℕ) → ◌≡◌ {A = Result Bool ServeFault} (Ok false) (outcome turn) → row_after turn others ≡ others
-has_ended (fed conn bytes) others is = absurd (cc)
-has_ended (ended conn) others is = refl
-has_ended (unread conn) others is = refl
-has_ended (unanswered conn bytes) others is = refl
-has_ended (unended conn) others is = refl
-
--- and one whose stream has failed
-pub has_broken : (turn : Turn) (others : List ℕ) (fault : ServeFault) → ◌≡◌ {A = Result Bool ServeFault} (Err fault) (outcome turn)
-    → row_after turn others ≡ others
-has_broken (fed conn bytes) others fault is = absurd (cc)
-has_broken (ended conn) others fault is = refl
-has_broken (unread conn) others fault is = refl
-has_broken (unanswered conn bytes) others fault is = refl
-has_broken (unended conn) others fault is = refl
-
 -- no row, no connections
 pub none_left : (row : List ℕ) (cs : List Connection) → Serves row cs → length row ≡ 0 → cs ≡ []
 none_left row [] p h = refl
 none_left row (c ∷ cs) p h = absurd (omega (arith, p.count))
-
--- one turn more
-pub serves_next : (turn : Turn) (row others later out : List ℕ) (old new : HubState)
-    → Serves row old.attached → row ≡ conn_of turn ∷ others → Made old turn out new
-    → later ≡ row_after turn others → Serves later new.attached
-serves_next turn row others later out old new p first made after =
-    subst (λ xs. Serves xs new.attached) (sym after) (serves_after turn others out old new (subst (λ xs. Serves xs old.attached) first p) made)
-
-turns_more : (turns : List Turn) (turn : Turn) (row others out : List ℕ) (old mid new : HubState)
-    → ByTurns row old turns (conn_of turn ∷ others) mid → Made mid turn out new
-    → ByTurns row old (turns ++ turn ∷ []) (row_after turn others) new
-turns_more [] turn row others out old mid new p made = (others, out, new, sym p.0, subst (λ s. Made s turn out new) p.1 made, (refl, refl))
-turns_more (t ∷ turns) turn row others out old mid new p made = (
-  p.0,
-  p.1,
-  p.2,
-  p.3,
-  p.4,
-  turns_more turns turn (row_after t p.0) others out p.2 mid new p.5 made,
-)
-
-pub turns_next : (turns : List Turn) (turn : Turn) (row now others later out : List ℕ) (old mid new : HubState)
-    → ByTurns row old turns now mid → now ≡ conn_of turn ∷ others
-    → Made mid turn out new → later ≡ row_after turn others → ByTurns row old (turns ++ turn ∷ []) later new
-turns_next turns turn row now others later out old mid new p first made after =
-    subst (λ xs. ByTurns row old (turns ++ turn ∷ []) xs new) (sym after)
-    (turns_more turns turn row others out old mid new (subst (λ xs. ByTurns row old turns xs mid) first p) made)
 
 and_assoc : (a b c : Result ⊤ ServeFault) → result_and a (result_and b c) ≡ result_and (result_and a b) c
 and_assoc (Ok x) b c = refl
@@ -275,6 +224,9 @@ fault_more (t ∷ turns) turn = ap (result_and (turn_fault (outcome t))) (fault_
 
 pub not_zero : (n : ℕ) (b : Bool) → b ≡ nat_eq n 0 → b ≡ false → 0 < n
 not_zero n b is h = grind arith
+
+pub is_zero : (n : ℕ) (b : Bool) → b ≡ nat_eq n 0 → b ≡ true → n ≡ 0
+is_zero n b is h = eqb-true n 0 (sym is ∙ h)
 
 no_turns : (a : Result ⊤ ServeFault) → ◌≡◌ {A = Result ⊤ ServeFault} (Ok tt) a → a ≡ Err Turns → ⊥
 no_turns a h k = ok_err (h ∙ k)
@@ -301,9 +253,9 @@ not_turns (unended conn ∷ turns) h = write h
     write e = cc
 
 module _ {S : Type 0} where
-  pub no_ids : (clients : List (Client S)) → length clients ≡ 0 → client_ids clients ≡ []
-  no_ids [] h = refl
-  no_ids (c ∷ clients) h = absurd (omega arith)
+  pub no_clients : (clients : List (Client S)) → length clients ≡ 0 → clients ≡ []
+  no_clients [] h = refl
+  no_clients (c ∷ clients) h = absurd (omega arith)
 
   -- the next client has come
   pub ids_one : (clients : List (Client S)) (n : ℕ) (x : Client S) → client_ids clients ≡ range_with_len 1 n
@@ -320,6 +272,77 @@ module _ {S : Type 0} where
   client_gone clients later x cs ds p first gone =
       let q : Serves (x.conn ∷ client_ids later) cs = subst (λ xs. Serves (client_ids xs) cs) first p in
       serves_gone x.conn (client_ids later) cs ds q (gone q.there.0)
+
+module _ {S : Type 0} where
+  -- a connection that stays open goes behind the others
+  pub stays_open : (turn : Turn) (after : Client S) (others : List (Client S)) → ◌≡◌ {A = Result Bool ServeFault} (Ok true) (outcome turn)
+      → row_after turn after others ≡ others ++ after ∷ []
+  stays_open (fed conn bytes) after others is = refl
+  stays_open (ended conn) after others is = absurd (cc)
+  stays_open (unread conn) after others is = absurd (cc)
+  stays_open (unanswered conn bytes) after others is = absurd (cc)
+  stays_open (unended conn) after others is = absurd (cc)
+
+  -- one that has ended is let go
+  pub has_ended : (turn : Turn) (after : Client S) (others : List (Client S)) → ◌≡◌ {A = Result Bool ServeFault} (Ok false) (outcome turn)
+      → row_after turn after others ≡ others
+  has_ended (fed conn bytes) after others is = absurd (cc)
+  has_ended (ended conn) after others is = refl
+  has_ended (unread conn) after others is = refl
+  has_ended (unanswered conn bytes) after others is = refl
+  has_ended (unended conn) after others is = refl
+
+  -- and one whose stream has failed
+  pub has_broken : (turn : Turn) (after : Client S) (others : List (Client S)) (fault : ServeFault)
+      → ◌≡◌ {A = Result Bool ServeFault} (Err fault) (outcome turn) → row_after turn after others ≡ others
+  has_broken (fed conn bytes) after others fault is = absurd (cc)
+  has_broken (ended conn) after others fault is = refl
+  has_broken (unread conn) after others fault is = refl
+  has_broken (unanswered conn bytes) after others fault is = refl
+  has_broken (unended conn) after others fault is = refl
+
+  ids_of_after : (turn : Turn) (after : Client S) (others : List (Client S)) → after.conn ≡ conn_of turn
+      → client_ids (row_after turn after others) ≡ ids_after turn (client_ids others)
+  ids_of_after (fed conn bytes) after others is = ids_last others after ∙ ap (λ k. client_ids others ++ k ∷ []) is
+  ids_of_after (ended conn) after others is = refl
+  ids_of_after (unread conn) after others is = refl
+  ids_of_after (unanswered conn bytes) after others is = refl
+  ids_of_after (unended conn) after others is = refl
+
+  module _ (remaining contents : S → Option (List ℕ)) where
+    -- one turn more
+    pub serves_next : (turn : Turn) (row others later : List (Client S)) (first after : Client S) (out : List ℕ) (old new : HubState)
+        → Serves (client_ids row) old.attached → row ≡ first ∷ others → TakesTurn remaining contents turn out first after → Made old turn out new
+        → later ≡ row_after turn after others → Serves (client_ids later) new.attached
+    serves_next turn row others later first after out old new p is takes made rest =
+        let ids : client_ids row ≡ conn_of turn ∷ client_ids others = ap client_ids is ∙ ap (λ k. k ∷ client_ids others) (sym takes.conn) in
+        subst (λ xs. Serves xs new.attached) (sym (ap client_ids rest ∙ ids_of_after turn after others (takes.same ∙ sym takes.conn)))
+        (serves_after turn (client_ids others) out old new (subst (λ xs. Serves xs old.attached) ids p) made)
+
+    turns_more : (turns : List Turn) (turn : Turn) (row others : List (Client S)) (first after : Client S) (out : List ℕ) (old mid new : HubState)
+        → ByTurns remaining contents row old turns (first ∷ others) mid → TakesTurn remaining contents turn out first after → Made mid turn out new
+        → ByTurns remaining contents row old (turns ++ turn ∷ []) (row_after turn after others) new
+    turns_more [] turn row others first after out old mid new p takes made =
+        (first, after, others, out, new, sym p.0, takes, subst (λ s. Made s turn out new) p.1 made, (refl, refl))
+    turns_more (t ∷ turns) turn row others first after out old mid new p takes made = (
+      p.0,
+      p.1,
+      p.2,
+      p.3,
+      p.4,
+      p.5,
+      p.6,
+      p.7,
+      turns_more turns turn (row_after t p.1 p.2) others first after out p.4 mid new p.8 takes made,
+    )
+
+    pub turns_next : (turns : List Turn) (turn : Turn) (row now others later : List (Client S)) (first after : Client S) (out : List ℕ)
+        (old mid new : HubState) → ByTurns remaining contents row old turns now mid → now ≡ first ∷ others
+        → TakesTurn remaining contents turn out first after → Made mid turn out new → later ≡ row_after turn after others
+        → ByTurns remaining contents row old (turns ++ turn ∷ []) later new
+    turns_next turns turn row now others later first after out old mid new p is takes made rest =
+        subst (λ xs. ByTurns remaining contents row old (turns ++ turn ∷ []) xs new) (sym rest)
+        (turns_more turns turn row others first after out old mid new (subst (λ xs. ByTurns remaining contents row old turns xs mid) is p) takes made)
 
 -- ---- what is noted
 

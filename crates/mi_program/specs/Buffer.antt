@@ -13,3 +13,7 @@ waiting b = drop b.sent b.gathered.items
 -- what was written to it, where the stream tells what it has taken
 abbrev pub contents_of : {S : Type 0} → (S → Option (List ℕ)) → Buffered S → Option (List ℕ)
 contents_of contents b = append_known (contents (stream_of b)) (waiting b)
+
+-- what there is left to read of it, where the stream tells
+abbrev pub remaining_of : {S : Type 0} → (S → Option (List ℕ)) → Buffered S → Option (List ℕ)
+remaining_of remaining b = remaining (stream_of b)

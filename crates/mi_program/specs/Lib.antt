@@ -3,5 +3,6 @@ pub mod Words
 pub mod Source
 pub mod Status
 pub mod Buffer
-pub mod Serving
 pub mod Turns
+pub mod Serving
+pub mod Ending

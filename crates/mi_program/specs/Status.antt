@@ -1,5 +1,6 @@
--- Failures and exit statuses.
-use Rattle.std.specs.Prelude.{ℕ}
+-- Failures, their exit statuses and their lines on the third stream.
+use Rattle.std.specs.Prelude.{ℕ, List, ◌++◌, codes, Option, Some, None}
+use Rattle.mi_schema.specs.Words.{fault_word}
 use Rattle.mi_schema.specs.declared.fault.SchemaFault.{SchemaFault}
 use Rattle.mi_program.specs.declared.failure.Failure.{Failure}
 use Rattle.mi_program.specs.declared.failure.Failure.TheVariants.{SchemaFile, Schema, Read, Write, Listen, Accept, Memory, Turns}
@@ -36,3 +37,36 @@ abbrev pub status_of_words : WordsFault → ℕ
 status_of_words (words.Parse e) = 2
 status_of_words words.Rules = 2
 status_of_words words.Memory = 4
+
+-- what a failure is of
+abbrev pub failure_kind : Failure → List ℕ
+failure_kind SchemaFile = codes "schema: "
+failure_kind (Schema fault) = codes "schema: "
+failure_kind Read = codes "fault: "
+failure_kind Write = codes "fault: "
+failure_kind Listen = codes "fault: "
+failure_kind Accept = codes "fault: "
+failure_kind Memory = codes "fault: "
+failure_kind Turns = codes "fault: "
+
+abbrev pub failure_word : Failure → List ℕ
+failure_word SchemaFile = codes "file"
+failure_word (Schema fault) = fault_word fault
+failure_word Read = codes "read"
+failure_word Write = codes "write"
+failure_word Listen = codes "listen"
+failure_word Accept = codes "accept"
+failure_word Memory = codes "memory"
+failure_word Turns = codes "turns"
+
+abbrev pub failure_line : Failure → List ℕ
+failure_line failure = failure_kind failure ++ (failure_word failure ++ codes "\n")
+
+abbrev pub usage_line : List ℕ
+usage_line = codes "usage: --listen and --clients go together; --check stands alone\n"
+
+-- the line of words that give no options, but where it is the parser's own text
+abbrev pub words_line : WordsFault → Option (List ℕ)
+words_line (words.Parse e) = None
+words_line words.Rules = Some usage_line
+words_line words.Memory = Some (failure_line Memory)

@@ -1,6 +1,6 @@
 -- What serving connections by turns does to a hub. The connections 1 and 2 are open, in this row. 1 gives a piece and goes behind 2;
 -- then the write of a reply to 2 fails, and then 1 ends: fed 1 "{\"cmd\":\"start\"}⏎", unanswered 2 "{\"cmd\":\"undo\"}⏎", ended 1.
-use Rattle.std.specs.Prelude.{◌≡◌, ℕ, List, [], ◌∷◌, ◌++◌, length, map, Bool, true, false, ◌==◌, Result, Ok, Err, Some, IsSome, ⊤}
+use Rattle.std.specs.Prelude.{◌≡◌, ℕ, List, [], ◌∷◌, ◌++◌, length, map, Bool, true, false, ◌==◌, Option, Result, Ok, Err, Some, IsSome, OnErr, ⊤}
 use Rattle.std.specs.Result.{result_and}
 use Rattle.std.specs.List.{range_with_len}
 use Rattle.mi_hub.specs.Connections.{rest_at}
@@ -9,9 +9,13 @@ use Rattle.mi_hub.specs.Turn.{Turn, fed, ended, unread, unanswered, unended, con
 use Rattle.mi_hub.specs.declared.connection.Connection.{Connection}
 use Rattle.mi_hub.specs.declared.fault.ServeFault.{ServeFault}
 use Rattle.mi_hub.specs.declared.fault.ServeFault.TheVariants.{Read, Write, Accept, Memory, Turns}
-use Rattle.mi_hub.specs.Watching.{has_failed}
+use Rattle.mi_hub.specs.Turn.{given_in, Gave}
+use Rattle.mi_hub.specs.Watching.{has_failed, Writes}
+use Rattle.mi_hub.specs.declared.watched.Watched.{Watched}
 use Rattle.mi_hub.specs.IoNotes.{with_read, with_write}
 use Rattle.mi_hub.specs.declared.io_errors.IoErrors.{IoErrors}
+use Rattle.mi_program.specs.Buffer.{contents_of, remaining_of}
+use Rattle.mi_program.specs.declared.buffered.Buffered.{Buffered}
 use Rattle.mi_program.specs.declared.listener.Client.{Client}
 
 -- a connection that has come, with no bytes
@@ -22,21 +26,31 @@ fresh conn = record { id = conn; rest = Some [] }
 abbrev pub with_clients : ℕ → HubState → HubState
 with_clients n s = record { held = s.held; attached = map fresh (range_with_len 1 n) }
 
--- a connection that stays open goes behind the others
-abbrev pub row_after : Turn → List ℕ → List ℕ
-row_after (fed conn bytes) others = others ++ conn ∷ []
-row_after (ended conn) others = others
-row_after (unread conn) others = others
-row_after (unanswered conn bytes) others = others
-row_after (unended conn) others = others
+-- In this turn the stream of its client gave what the turn was given, and then out was written to it. It has failed where the turn has a fault.
+pub record TakesTurn {S : Type 0} (remaining contents : S → Option (List ℕ)) (turn : Turn) (out : List ℕ) (old new : Client S) : Type 0 where
+  pub conn : conn_of turn ≡ old.conn
+  pub same : new.conn ≡ old.conn
+  pub between : Watched (Buffered S)
+  pub read : Gave (remaining_of remaining) old.stream between (given_in turn)
+  pub written : Writes (contents_of contents) between new.stream out
+  pub failed : OnErr (outcome turn) (has_failed new.stream ≡ true)
 
--- From a row of open connections and from old, these turns are made, each by the first of the row then; left is the row that is left, and
--- new the hub.
-abbrev pub ByTurns : List ℕ → HubState → List Turn → List ℕ → HubState → Type 0
-ByTurns row old [] left new = (left ≡ row) × (new ≡ old)
-ByTurns row old (turn ∷ turns) left new =
-    (others : List ℕ) × (out : List ℕ) × (mid : HubState) × (row ≡ conn_of turn ∷ others)
-    × Made old turn out mid × ByTurns (row_after turn others) mid turns left new
+-- a client whose connection stays open goes behind the others
+abbrev pub row_after : {S : Type 0} → Turn → Client S → List (Client S) → List (Client S)
+row_after (fed conn bytes) client others = others ++ client ∷ []
+row_after (ended conn) client others = others
+row_after (unread conn) client others = others
+row_after (unanswered conn bytes) client others = others
+row_after (unended conn) client others = others
+
+-- From a row of clients whose connections are open and from old, these turns are made, each by the first of the row then; left is the row that
+-- is left, and new the hub. The streams of the others stay as they are.
+abbrev pub ByTurns : {S : Type 0} → (S → Option (List ℕ)) → (S → Option (List ℕ)) → List (Client S) → HubState → List Turn → List (Client S) → HubState → Type 0
+ByTurns remaining contents row old [] left new = (left ≡ row) × (new ≡ old)
+ByTurns {S} remaining contents row old (turn ∷ turns) left new =
+    (first : Client S) × (after : Client S) × (others : List (Client S)) × (out : List ℕ) × (mid : HubState) × (row ≡ first ∷ others)
+    × TakesTurn remaining contents turn out first after × Made old turn out mid
+    × ByTurns remaining contents (row_after turn after others) mid turns left new
 
 -- a fault, or none
 abbrev pub turn_fault : Result Bool ServeFault → Result ⊤ ServeFault
@@ -70,6 +84,11 @@ AllSound (c ∷ clients) = (has_failed c.stream ≡ false) × AllSound clients
 -- the numbers of clients, in order
 abbrev pub client_ids : {S : Type 0} → List (Client S) → List ℕ
 client_ids clients = map (λ c. c.conn) clients
+
+-- so many clients have come, numbered from 1 in this order, and no stream of theirs has failed
+pub record HaveCome {S : Type 0} (n : ℕ) (row : List (Client S)) : Type 0 where
+  pub numbered : client_ids row ≡ range_with_len 1 n
+  pub sound : AllSound row
 
 -- all of these are attached
 abbrev pub AllAttached : List ℕ → List Connection → Type 0

@@ -85,9 +85,9 @@ impl<S: Write> Buffered<S> {
 }
 
 impl<S: Read> Read for Buffered<S> {
-    ghost use Rattle.mi_program.specs.Buffer.{stream_of};
+    ghost use Rattle.mi_program.specs.Buffer.{remaining_of};
 
-    ghost remaining = { λ b. S.remaining (stream_of b) };
+    ghost remaining = { remaining_of S.remaining };
 
     fn read(&mut self, buf: &mut [u8]) -> io::Result<usize> {
         self.inner.read(buf)

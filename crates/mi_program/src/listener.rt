@@ -1,14 +1,15 @@
 //! Connections of a listener by turns: one piece of each open one after another, until all have ended.
 //! It knows of a connection what its stream reads and takes, and nothing of lines.
 ghost use Rattle.std.specs.Prelude.{◌≡◌, ◌≢◌, ◌⊎◌, ◌≤◌, ◌<◌, ◌∷◌, ℕ, List, [], length, Err, None, IsSome, OnOk, OnErr, IfOk, true, false};
-ghost use Rattle.std.specs.List.{range_with_len};
 ghost use Rattle.mi_value.specs.declared.limits.TheConstants.{MAX_CONNECTIONS, MAX_READS, PIECE};
 ghost use Rattle.mi_hub.specs.Run.{HubState, with_connection};
 ghost use Rattle.mi_hub.specs.Connections.{rest_at};
 ghost use Rattle.mi_hub.specs.Watching.{has_failed};
 ghost use Rattle.mi_hub.specs.IoNotes.{reads_fail, writes_fail};
-ghost use Rattle.mi_hub.specs.Turn.{Turn, conn_of, outcome, Made};
-ghost use Rattle.mi_program.specs.Turns.{with_clients, row_after, ByTurns, turn_fault, first_fault, with_turn, all_noted, client_ids, AllSound, Serves};
+ghost use Rattle.mi_hub.specs.Turn.{Turn, outcome, Made};
+ghost use Rattle.mi_program.specs.Turns.{with_clients, TakesTurn, row_after, ByTurns, turn_fault, first_fault, with_turn, all_noted};
+ghost use Rattle.mi_program.specs.Turns.{client_ids, AllSound, HaveCome, Serves};
+ghost use Rattle.mi_program.specs.declared.listener.Client.{Client};
 
 use crate::buffered::Buffered;
 use mi_hub::{Hub, IoErrors, ServeFault, Watched, take_turn};
@@ -17,7 +18,7 @@ use mi_value::limits::{MAX_READS, PIECE};
 use std::alloc::Global;
 use std::collections::VecDeque;
 use std::io::{Read, Write};
-use std::net::OpenListener;
+use std::net::{OpenListener, OpenStream};
 
 /// An open connection. Its replies are gathered, and go out behind each piece of its bytes.
 #[derive(Drop)]
@@ -26,13 +27,16 @@ pub struct Client<S> {
     stream: Watched<Buffered<S>>,
 }
 
-/// Accepts one connection, and attaches it. After a fault nothing has changed.
+/// Accepts one connection, which is told to send what is flushed at once, and attaches it. After a fault nothing has changed; that the stream
+/// can't be told is none.
 fn accept<D: Sessions + Drop, L: OpenListener>(
     alloc: Global,
     hub: &mut Hub<D>,
     listener: &L,
     conn: u64,
 ) -> Result<Client<L::Stream>, ServeFault>
+where
+    L::Stream: OpenStream,
     requires { rest_at conn hub.old.attached ≡ None }
     ensures ok { IfOk result (λ client. (client.conn ≡ conn) × (hub.new ≡ with_connection conn hub.old) × (has_failed client.stream ≡ false)) }
     ensures fault { OnErr result (hub.new ≡ hub.old) }
@@ -41,6 +45,7 @@ fn accept<D: Sessions + Drop, L: OpenListener>(
     let Ok((stream, _address)) = listener.accept() else {
         return Err(ServeFault::Accept);
     };
+    let _ = stream.set_nodelay(true);
     let Ok(stream) = Buffered::new(alloc, stream) else {
         return Err(ServeFault::Memory);
     };
@@ -64,8 +69,8 @@ fn client_turn<D: Sessions + Drop, S: Read + Write>(
     requires attached { IsSome (rest_at client.old.conn hub.old.attached) }
     requires room { length buffer.old ≡ PIECE }
     requires sound { has_failed client.old.stream ≡ false }
-    ensures turn { (turn : Turn) × (out : List ℕ) × (conn_of turn ≡ client.old.conn) × (result ≡ outcome turn) × Made hub.old turn out hub.new }
-    ensures same { client.new.conn ≡ client.old.conn }
+    ensures turn { (turn : Turn) × (out : List ℕ) × TakesTurn S.remaining S.contents turn out client.old client.new
+        × (result ≡ outcome turn) × Made hub.old turn out hub.new }
     ensures failed { OnErr result (has_failed client.new.stream ≡ true) }
     ensures sound { OnOk result (has_failed client.new.stream ≡ false) }
     ensures noted { errors.new ≡ with_turn result errors.old }
@@ -91,8 +96,9 @@ fn next_turn<D: Sessions + Drop, S: Read + Write + Drop>(
     requires served { Serves (client_ids row.old.items) hub.old.attached }
     requires room { length buffer.old ≡ PIECE }
     requires sound { AllSound row.old.items }
-    ensures turn { (turn : Turn) × (others : List ℕ) × (out : List ℕ) × (client_ids row.old.items ≡ conn_of turn ∷ others) × Made hub.old turn out hub.new
-        × (client_ids row.new.items ≡ row_after turn others) × (result ≡ turn_fault (outcome turn)) × (errors.new ≡ with_turn (outcome turn) errors.old) }
+    ensures turn { (turn : Turn) × (out : List ℕ) × (first : Client S) × (after : Client S) × (others : List (Client S))
+        × (row.old.items ≡ first ∷ others) × TakesTurn S.remaining S.contents turn out first after × Made hub.old turn out hub.new
+        × (row.new.items ≡ row_after turn after others) × (result ≡ turn_fault (outcome turn)) × (errors.new ≡ with_turn (outcome turn) errors.old) }
     ensures sound { AllSound row.new.items }
 {
     let mut client = row.pop_front().unwrap();
@@ -119,8 +125,10 @@ fn accept_all<D: Sessions + Drop, L: OpenListener>(
     listener: &L,
     count: usize,
 ) -> Result<VecDeque<Client<L::Stream>>, ServeFault>
+where
+    L::Stream: OpenStream,
     requires { hub.old.attached ≡ [] }
-    ensures ok { IfOk result (λ row. (client_ids row.items ≡ range_with_len 1 count) × (hub.new ≡ with_clients count hub.old) × AllSound row.items) }
+    ensures ok { IfOk result (λ row. HaveCome count row.items × (hub.new ≡ with_clients count hub.old)) }
     ensures none { OnErr result (hub.new.attached ≡ []) }
     ensures no_other { OnErr result ((result ≡ Err ServeFault.Accept) ⊎ (result ≡ Err ServeFault.Memory)) }
 {
@@ -150,9 +158,9 @@ fn serve_all<D: Sessions + Drop, S: Read + Write + Drop>(
     requires sound { AllSound row.items }
     ensures none { hub.new.attached ≡ [] }
     ensures served { result ≢ Err ServeFault.Turns → (turns : List Turn)
-        × ByTurns (client_ids row.items) hub.old turns [] hub.new × (result ≡ first_fault turns) × (errors.new ≡ all_noted turns errors.old) }
-    ensures turns { result ≡ Err ServeFault.Turns → (turns : List Turn) × (left : List ℕ) × (mid : HubState)
-        × ByTurns (client_ids row.items) hub.old turns left mid × (length turns ≡ MAX_READS) × (errors.new ≡ all_noted turns errors.old) }
+        × ByTurns S.remaining S.contents row.items hub.old turns [] hub.new × (result ≡ first_fault turns) × (errors.new ≡ all_noted turns errors.old) }
+    ensures turns { result ≡ Err ServeFault.Turns → (turns : List Turn) × (left : List (Client S)) × (mid : HubState)
+        × ByTurns S.remaining S.contents row.items hub.old turns left mid × (length turns ≡ MAX_READS) × (errors.new ≡ all_noted turns errors.old) }
 {
     let mut row = row;
     let mut first = Ok(());
@@ -176,16 +184,18 @@ fn serve_clients<D: Sessions + Drop, L: OpenListener>(
     errors: &mut IoErrors,
 ) -> Result<(), ServeFault>
 where
-    L::Stream: Read + Write,
+    L::Stream: Read + Write + OpenStream,
     requires clients { 1 ≤ clients }
     requires none { hub.old.attached ≡ [] }
     ensures none { hub.new.attached ≡ [] }
     ensures served { result ≢ Err ServeFault.Accept → result ≢ Err ServeFault.Memory → result ≢ Err ServeFault.Turns →
-        (turns : List Turn) × ByTurns (range_with_len 1 clients) (with_clients clients hub.old) turns [] hub.new × (result ≡ first_fault turns)
-        × (errors.new ≡ all_noted turns errors.old) }
-    ensures turns { result ≡ Err ServeFault.Turns → (turns : List Turn) × (left : List ℕ) × (mid : HubState)
-        × ByTurns (range_with_len 1 clients) (with_clients clients hub.old) turns left mid × (length turns ≡ MAX_READS)
-        × (errors.new ≡ all_noted turns errors.old) }
+        (row : List (Client L.Stream)) × (turns : List Turn) × HaveCome clients row
+        × ByTurns L.Stream.remaining L.Stream.contents row (with_clients clients hub.old) turns [] hub.new
+        × (result ≡ first_fault turns) × (errors.new ≡ all_noted turns errors.old) }
+    ensures turns { result ≡ Err ServeFault.Turns →
+        (row : List (Client L.Stream)) × (turns : List Turn) × (left : List (Client L.Stream)) × (mid : HubState) × HaveCome clients row
+        × ByTurns L.Stream.remaining L.Stream.contents row (with_clients clients hub.old) turns left mid
+        × (length turns ≡ MAX_READS) × (errors.new ≡ all_noted turns errors.old) }
     ensures unserved { (result ≡ Err ServeFault.Accept) ⊎ (result ≡ Err ServeFault.Memory) → errors.new ≡ errors.old }
 {
     match accept_all(alloc, hub, listener, clients) {
@@ -204,7 +214,8 @@ fn nobody_holds<D: Sessions + Drop>(hub: &Hub<D>)
 
 /// Accepts so many connections of a listener, from 1 to 64, numbers them from 1 in this order and attaches them. Then it reads
 /// one piece of at most 4,096 bytes from each open one in turn, until all have ended. One whose input is at its end is closed, and
-/// its stream is let go. Replies go to the connection's own stream.
+/// its stream is let go. Replies go to the connection's own stream, which is told to send what is flushed at once (`set_nodelay`): the reply to
+/// a second piece doesn't wait for the peer to acknowledge the first.
 ///
 /// A connection whose read or write fails is cut and the others go on; the first such fault is answered at the end, as `Read` or
 /// `Write`. After `Accept`, `Memory` (the row had no room, or an attach was refused) and `Turns` (2^40 reads were made) all
@@ -220,21 +231,24 @@ pub fn serve_listener<D: Sessions + Drop, L: OpenListener>(
     errors: &mut IoErrors,
 ) -> Result<(), ServeFault>
 where
-    L::Stream: Read + Write,
+    L::Stream: Read + Write + OpenStream,
     requires clients { (1 ≤ clients) × (clients ≤ MAX_CONNECTIONS) }
     requires none { hub.old.attached ≡ [] }
     ensures none { hub.new.attached ≡ [] }
     ensures nobody { hub.new.held.holder ≡ None }
 
-    // All connections have come and have had their turns until none was open; the answer is the first fault, or that there was none.
+    // All connections have come and have had their turns until none was open; in its turn the stream of a connection gave what the turn was given
+    // and took its replies, and no other. The answer is the first fault, or that there was none.
     ensures served { result ≢ Err ServeFault.Accept → result ≢ Err ServeFault.Memory → result ≢ Err ServeFault.Turns →
-        (turns : List Turn) × ByTurns (range_with_len 1 clients) (with_clients clients hub.old) turns [] hub.new × (result ≡ first_fault turns)
-        × (errors.new ≡ all_noted turns errors.old) }
+        (row : List (Client L.Stream)) × (turns : List Turn) × HaveCome clients row
+        × ByTurns L.Stream.remaining L.Stream.contents row (with_clients clients hub.old) turns [] hub.new
+        × (result ≡ first_fault turns) × (errors.new ≡ all_noted turns errors.old) }
 
     // So many turns were made; then those that were open still have been cut.
-    ensures turns { result ≡ Err ServeFault.Turns → (turns : List Turn) × (left : List ℕ) × (mid : HubState)
-        × ByTurns (range_with_len 1 clients) (with_clients clients hub.old) turns left mid × (length turns ≡ MAX_READS)
-        × (errors.new ≡ all_noted turns errors.old) }
+    ensures turns { result ≡ Err ServeFault.Turns →
+        (row : List (Client L.Stream)) × (turns : List Turn) × (left : List (Client L.Stream)) × (mid : HubState) × HaveCome clients row
+        × ByTurns L.Stream.remaining L.Stream.contents row (with_clients clients hub.old) turns left mid
+        × (length turns ≡ MAX_READS) × (errors.new ≡ all_noted turns errors.old) }
 
     // A fault of a stream is answered only where a stream has failed so.
     ensures read { result ≡ Err ServeFault.Read → reads_fail errors.new ≡ true }

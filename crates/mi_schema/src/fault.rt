@@ -11,7 +11,7 @@ use std::fmt;
 pub enum SchemaFault {
     /// The bytes are no TOML document, or not UTF-8.
     Toml,
-    /// A needed member is missing, a member is unknown, or a value is of another kind.
+    /// A required member is missing, a member is unknown, or a value is of another kind.
     Shape,
     /// A name isn't a letter a to z or `_` followed by such letters, digits or `_`, or is longer than 32 bytes, or a column or
     /// index is named `id`.

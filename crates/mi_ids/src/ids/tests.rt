@@ -1,5 +1,5 @@
 //! Many ids that come and go: the one test that asks the hash map inside. The tests of the public calls stand in
-//! `mi_structures`.
+//! `test_storage`.
 use super::*;
 use mi_node::Pool;
 use std::process::Abort;

@@ -1,3 +1,4 @@
+-- The nodes behind the gap have newer stamps, and those before it older ones.
 use Rattle.std.proofs.Common.{◌≤◌, ◌<◌, None, sym, ap, ◌∙◌, subst}
 use Rattle.mi_node.specs.declared.link.Link.{Link}
 use Rattle.mi_chain.specs.Keying.{stamp_at}

@@ -1,3 +1,4 @@
+-- The groups that were passed over don't end with the node.
 use Rattle.std.proofs.Common.{sym, ap, ◌∙◌, subst}
 use Rattle.mi_node.specs.Pool.{IsHeldIf}
 use Rattle.mi_node.specs.declared.link.Link.{Link}

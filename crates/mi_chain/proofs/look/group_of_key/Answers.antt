@@ -1,3 +1,4 @@
+-- The groups that were passed over are of other keys.
 use Rattle.std.proofs.Common.{None, sym, ap, ◌∙◌, subst}
 use Rattle.mi_node.specs.Pool.{IsHeldIf}
 use Rattle.mi_node.specs.declared.link.Link.{Link}

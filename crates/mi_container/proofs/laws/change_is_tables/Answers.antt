@@ -1,3 +1,4 @@
+-- The law is proved with the definitions.
 use Rattle.mi_container.proofs.LawLemmas.{change_is_tables}
 use Rattle.mi_container.proofs.laws.change_is_tables.Goals as goal
 

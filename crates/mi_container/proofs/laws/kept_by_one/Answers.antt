@@ -1,3 +1,4 @@
+-- The law is proved with the definitions.
 use Rattle.mi_container.proofs.LawLemmas.{kept_by_one}
 use Rattle.mi_container.proofs.laws.kept_by_one.Goals as goal
 

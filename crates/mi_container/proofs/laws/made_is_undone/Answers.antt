@@ -1,3 +1,4 @@
+-- The law is proved with the definitions.
 use Rattle.mi_container.proofs.MadeLemmas.{made_is_undone}
 use Rattle.mi_container.proofs.laws.made_is_undone.Goals as goal
 

@@ -1,3 +1,4 @@
+-- The law is proved with the definitions.
 use Rattle.mi_container.proofs.LawLemmas.{opens_empty}
 use Rattle.mi_container.proofs.laws.opens_empty.Goals as goal
 

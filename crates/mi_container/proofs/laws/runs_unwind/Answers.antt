@@ -1,3 +1,4 @@
+-- The law is proved with the definitions.
 use Rattle.mi_container.proofs.RunLemmas.{runs_unwind}
 use Rattle.mi_container.proofs.laws.runs_unwind.Goals as goal
 

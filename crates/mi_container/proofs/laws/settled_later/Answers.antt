@@ -1,3 +1,4 @@
+-- The law is proved with the definitions.
 use Rattle.mi_container.proofs.LawLemmas.{settled_later}
 use Rattle.mi_container.proofs.laws.settled_later.Goals as goal
 

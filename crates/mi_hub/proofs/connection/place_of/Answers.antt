@@ -1,3 +1,4 @@
+-- The connections that were passed over have other numbers.
 use Rattle.std.proofs.Common.{arith}
 use Rattle.mi_hub.proofs.ConnectionLemmas.{there, not_there, same_at}
 use Rattle.mi_hub.proofs.connection.place_of.Goals as goal

@@ -1,3 +1,4 @@
+-- The events so far are done and their replies written; the first that isn't done whole ends it.
 use Rattle.std.proofs.Common.{◌++◌, ◌∙◌}
 use Rattle.std.proofs.KnownBytes.{Appends-trans}
 use Rattle.mi_hub.proofs.DriveLemmas.{run_next, stopped_here}

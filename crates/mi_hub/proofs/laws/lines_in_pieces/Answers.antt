@@ -1,3 +1,4 @@
+-- The law is proved with the definitions, of any text, of rests and of nothing.
 use Rattle.mi_hub.proofs.LineLemmas.{in_pieces, from_rests, lines_from-nothing, rest_from-nothing}
 use Rattle.mi_hub.proofs.laws.lines_in_pieces.Goals as goal
 

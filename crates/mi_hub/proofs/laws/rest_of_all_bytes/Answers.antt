@@ -1,3 +1,4 @@
+-- The law is proved with the definitions.
 use Rattle.mi_hub.proofs.RestLemmas.{rest_of_all_bytes}
 use Rattle.mi_hub.proofs.laws.rest_of_all_bytes.Goals as goal
 

@@ -1,3 +1,4 @@
+-- What was written is a front of the bytes, and what is left is the rest of them.
 use Rattle.std.proofs.Common.{arith, ◌∙◌}
 use Rattle.std.proofs.Math.Seq.{take-add}
 use Rattle.std.proofs.KnownBytes.{Appends-trans}

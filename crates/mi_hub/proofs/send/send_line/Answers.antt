@@ -1,3 +1,4 @@
+-- A failure at the newline has written the bytes before it, which are a front too.
 use Rattle.std.proofs.lemmas.Result.{on_err_weaker}
 use Rattle.mi_hub.proofs.WriteLemmas.{front_more}
 use Rattle.mi_hub.proofs.send.send_line.Goals as goal

@@ -1,3 +1,4 @@
+-- No newline stands before the first, so what stands there is the line's end.
 use Rattle.std.proofs.Common.{arith}
 use Rattle.mi_hub.proofs.LineLemmas.{unended_take, unended_all, parts_at}
 use Rattle.mi_hub.proofs.serve.cut_line.Goals as goal

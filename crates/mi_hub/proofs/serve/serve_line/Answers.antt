@@ -1,3 +1,4 @@
+-- One line is asked, and its reply is written, or a front of it.
 use Rattle.std.proofs.lemmas.Result.{on_ok_weaker, on_err_weaker}
 use Rattle.mi_hub.proofs.ServedLemmas.{served_one, cut_one}
 use Rattle.mi_hub.proofs.serve.serve_line.Goals as goal

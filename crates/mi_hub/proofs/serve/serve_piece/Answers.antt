@@ -1,3 +1,4 @@
+-- The lines that were asked so far are those that end before the place that is reached.
 use Rattle.std.proofs.Common.{[], ◌++◌, refl, ◌∙◌}
 use Rattle.std.proofs.lemmas.Result.{err_from_is_err_and}
 use Rattle.std.proofs.KnownBytes.{Appends-nil, Appends-trans}

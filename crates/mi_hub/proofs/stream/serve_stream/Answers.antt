@@ -1,3 +1,4 @@
+-- What was read so far is done, its replies are written, and each turn read at least one byte.
 use Rattle.std.proofs.Common.{◌∙◌, ◌++◌, [], ap, sym, refl, Ok, Err, length-append, arith, subst}
 use Rattle.std.proofs.lemmas.Result.{err_from_is_err_and}
 use Rattle.std.proofs.KnownBytes.{Appends-nil, Appends-trans, Consumes-nil, Consumes-trans}

@@ -1,3 +1,4 @@
+-- The piece is done, or a write failed in it, or the flush behind it.
 use Rattle.std.proofs.Common.{refl, inl, inr}
 use Rattle.std.proofs.KnownBytes.{Appends-kept}
 use Rattle.mi_hub.specs.Turn.{fed, unanswered}

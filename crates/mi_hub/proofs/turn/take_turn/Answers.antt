@@ -1,3 +1,4 @@
+-- A piece is fed, no bytes are the end, and a failed read is a cut.
 use Rattle.std.proofs.Common.{[], refl}
 use Rattle.std.proofs.KnownBytes.{Appends-nil}
 use Rattle.mi_hub.specs.Turn.{unread}

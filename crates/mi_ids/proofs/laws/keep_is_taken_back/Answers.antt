@@ -1,3 +1,4 @@
+-- The law is proved with the definitions.
 use Rattle.mi_ids.proofs.EntryLemmas.{revived}
 use Rattle.mi_ids.proofs.laws.keep_is_taken_back.Goals as goal
 

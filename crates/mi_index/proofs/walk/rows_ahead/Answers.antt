@@ -1,3 +1,4 @@
+-- The rows that were read are those of the first nodes ahead, in their order.
 use Rattle.std.proofs.Common.{◌≡◌, ◌+◌, inl, inr, [], ◌∷◌, ◌++◌, length, map, drop, Some, None, ap, sym, ◌∙◌, subst, arith, length-append}
 use Rattle.std.proofs.lemmas.List.{map-append}
 use Rattle.mi_node.specs.Pool.{Pooled, value_of, IsHeld}

@@ -1,3 +1,4 @@
+-- The rows that were read are those of the nodes that followed one another, in their order.
 use Rattle.std.proofs.Common.{◌≡◌, ◌+◌, inl, inr, [], ◌∷◌, ◌++◌, ◌<◌, length, map, drop, take, Some, None, refl, ap, sym, ◌∙◌, subst, arith, length-append}
 use Rattle.std.proofs.lemmas.List.{map-append}
 use Rattle.mi_node.specs.Pool.{Pooled, value_of, link_of, IsHeld}

@@ -1,3 +1,4 @@
+-- The law is proved with the definitions.
 use Rattle.mi_list.proofs.FrameLemmas.{listed_with_value}
 use Rattle.mi_list.proofs.laws.lists_stand_where_swapped.Goals as goal
 

@@ -1,3 +1,4 @@
+-- For each whole key the two tables show one list, so they are the same.
 use Rattle.std.proofs.Common.{◌≡◌, ℕ, zero, suc, true, false, List, [], ◌∷◌, refl, arith}
 use Rattle.mi_value.specs.declared.value.Value.{Value}
 use Rattle.mi_value.specs.declared.value.Value.TheVariants.{Int, Text, Flag}

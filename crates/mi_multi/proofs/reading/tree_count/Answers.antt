@@ -1,3 +1,4 @@
+-- A tree is as long as its list.
 use Rattle.mi_index.specs.Orders.{stored_order, stored_tag}
 use Rattle.mi_multi.proofs.reading.tree_count.Goals as goal
 

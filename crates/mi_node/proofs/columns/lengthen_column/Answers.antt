@@ -1,3 +1,4 @@
+-- New cells are empty, as those beyond the end are.
 use Rattle.std.proofs.Common.{ap, ◌∙◌}
 use Rattle.mi_node.specs.Cells.{empty_cell}
 use Rattle.mi_node.specs.Columns.{cell_at}

@@ -1,3 +1,4 @@
+-- The link of a place in a slot is that of the column's cell.
 use Rattle.std.proofs.Common.{◌∙◌}
 use Rattle.mi_node.proofs.ColumnLemmas.{read_cell}
 use Rattle.mi_node.proofs.columns.link_at.Goals as goal

@@ -1,3 +1,4 @@
+-- The column's cell is set, and no other place and no other column.
 use Rattle.std.proofs.Common.{ap, sym, subst, ◌∙◌}
 use Rattle.mi_node.specs.Columns.{links_at, AreLong}
 use Rattle.mi_node.specs.Pool.{put_link}

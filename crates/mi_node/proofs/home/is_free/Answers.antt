@@ -1,3 +1,4 @@
+-- A place is free exactly where it has no value.
 use Rattle.std.proofs.lemmas.Bool.{false≢true}
 use Rattle.mi_node.proofs.home.is_free.Goals as goal
 

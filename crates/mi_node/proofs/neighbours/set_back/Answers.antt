@@ -1,3 +1,4 @@
+-- The link of the node alone is set, and its back alone in it.
 use Rattle.std.proofs.Common.{ap, sym, ◌∙◌}
 use Rattle.mi_node.specs.Pool.{with_link}
 use Rattle.mi_node.specs.Neighbours.{with_back, with_back_if}

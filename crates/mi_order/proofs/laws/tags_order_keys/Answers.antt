@@ -1,3 +1,4 @@
+-- The law is proved with the definitions.
 use Rattle.mi_order.specs.TagLaws.{tags_order_keys}
 use Rattle.mi_order.proofs.laws.tags_order_keys.Goals as goal
 

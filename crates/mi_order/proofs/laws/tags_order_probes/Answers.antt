@@ -1,3 +1,4 @@
+-- The law is proved with the definitions.
 use Rattle.mi_order.specs.TagLaws.{tags_order_probes}
 use Rattle.mi_order.proofs.laws.tags_order_probes.Goals as goal
 

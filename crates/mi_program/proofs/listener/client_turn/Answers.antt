@@ -1,7 +1,12 @@
-use Rattle.std.proofs.Common.{◌≡◌, ◌∙◌, Result, Bool, ap, refl, subst, sym, false}
-use Rattle.std.specs.Prelude.{OnOk}
+-- One read gives one turn, which is made; what its stream met is noted.
+use Rattle.std.proofs.Common.{◌≡◌, ◌∙◌, ◌<◌, [], length, None, Result, Bool, ap, refl, subst, sym, true, false, arith}
+use Rattle.std.proofs.KnownBytes.{Consumes-kept, Consumes-nil}
+use Rattle.std.specs.Prelude.{OnOk, OnErr}
 use Rattle.std.proofs.lemmas.Result.{on_ok_weaker}
+use Rattle.mi_hub.specs.Turn.{Gave}
 use Rattle.mi_hub.specs.Watching.{has_failed}
+use Rattle.mi_hub.proofs.TurnLemmas.{gave_read}
+use Rattle.mi_program.specs.Buffer.{remaining_of}
 use Rattle.mi_hub.specs.IoNotes.{with_write}
 use Rattle.mi_hub.specs.declared.fault.ServeFault.{ServeFault}
 use Rattle.mi_program.specs.Turns.{with_turn}
@@ -11,7 +16,24 @@ use Rattle.mi_program.proofs.listener.client_turn.Goals as goal
 pub returns-in-Ok-clause-turn : goal.returns-in-Ok-clause-turn
 returns-in-Ok-clause-turn g c =
     let made = c.take_turn-is_open.ensures.turn in
-    (made.0, made.1, made.2, made.4, made.6)
+    let gives = remaining_of g.S.Read.remaining in
+    let room : 0 < length c.read_from.new.buf = omega (arith, c.requires.room, c.read_from.auto.buf) in
+    let gave = gave_read gives c.args.client.now.stream c.read_from.new.stream _ c.read_from.new.buf
+    c.in-Ok.n refl c.in-Ok.ensures.bound.0 room c.in-Ok.ensures.bytes in (
+      made.0,
+      made.1,
+      record {
+        conn = made.2;
+        same = refl;
+        between = c.read_from.new.stream;
+        read = subst (Gave gives c.args.client.now.stream c.read_from.new.stream) (sym made.3) gave;
+        written = made.5;
+        failed = subst (λ (r : Result Bool ServeFault). OnErr r (has_failed c.take_turn-is_open.new.writer ≡ true)) made.4
+            (on_err_kept _ _ _ (answered_fault made.0 _ _ _ made.3 made.4 c.take_turn-is_open.ensures.write));
+      },
+      made.4,
+      made.6,
+    )
 
 pub returns-in-Ok-clause-failed : goal.returns-in-Ok-clause-failed
 returns-in-Ok-clause-failed g c =
@@ -33,7 +55,23 @@ returns-in-Ok-clause-noted g c =
 pub returns-in-Err-clause-turn : goal.returns-in-Err-clause-turn
 returns-in-Err-clause-turn g c =
     let made = c.take_turn.ensures.turn in
-    (made.0, made.1, made.2, made.4, made.6)
+    let gives = remaining_of g.S.Read.remaining in
+    let gave : Gave gives c.args.client.now.stream c.read_from.new.stream None =
+    (Consumes-kept _ _ _ [] (Consumes-nil _) c.in-Err.ensures.bytes, c.in-Err.ensures.failed) in (
+      made.0,
+      made.1,
+      record {
+        conn = made.2;
+        same = refl;
+        between = c.read_from.new.stream;
+        read = subst (Gave gives c.args.client.now.stream c.read_from.new.stream) (sym made.3) gave;
+        written = made.5;
+        failed = subst (λ (r : Result Bool ServeFault). OnErr r (has_failed c.take_turn.new.writer ≡ true)) made.4
+            (on_err_of _ _ (ap has_failed (c.take_turn.ensures.unread (c.take_turn.ensures.read.1 refl)) ∙ c.in-Err.ensures.failed));
+      },
+      made.4,
+      made.6,
+    )
 
 pub returns-in-Err-clause-failed : goal.returns-in-Err-clause-failed
 returns-in-Err-clause-failed g c =

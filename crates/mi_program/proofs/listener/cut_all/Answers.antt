@@ -1,3 +1,4 @@
+-- The connections that are attached are those of the row, so none is at its end.
 use Rattle.std.proofs.Common.{ap}
 use Rattle.mi_hub.specs.Run.{HubState}
 use Rattle.mi_hub.proofs.PieceLemmas.{cut_done}

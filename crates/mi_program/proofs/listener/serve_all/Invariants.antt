@@ -7,7 +7,7 @@ use Rattle.mi_program.proofs.listener.serve_all.Given as goal
 abbrev pub invariant-turns : goal.invariant-turns
 invariant-turns g l = record {
   turns : List Turn;
-  made : ByTurns (client_ids l.fn.row.items) l.fn.hub turns (client_ids l.row.items) l.hub;
+  made : ByTurns g.S.Read.remaining g.S.Write.contents l.fn.row.items l.fn.hub turns l.row.items l.hub;
   count : length turns ≡ l._turn;
   first : l.first ≡ first_fault turns;
   some : 0 < length l.row.items;

@@ -1,40 +1,40 @@
-use Rattle.std.proofs.Common.{Err, ap, refl, sym, ◌∙◌, inl, inr}
+-- What has come is served by turns from there.
+use Rattle.std.proofs.Common.{Err, [], ap, refl, sym, subst, ◌∙◌, inl, inr}
 use Rattle.mi_hub.proofs.PieceLemmas.{same_err}
-use Rattle.mi_program.specs.Turns.{client_ids}
-use Rattle.mi_program.proofs.TurnLemmas.{some_come, serves_come, turns_of_come, accept_turns, memory_turns, not_accept, not_memory}
+use Rattle.mi_hub.specs.Run.{HubState}
+use Rattle.mi_program.specs.Turns.{client_ids, ByTurns}
+use Rattle.mi_program.proofs.TurnLemmas.{some_come, serves_come, accept_turns, memory_turns, not_accept, not_memory}
 use Rattle.mi_program.proofs.listener.serve_clients.Goals as goal
 
 pub accept_all-requires : goal.accept_all-requires
 accept_all-requires g c = c.requires.none
 
 pub serve_all-requires-clause-some : goal.serve_all-requires-clause-some
-serve_all-requires-clause-some g c = some_come c.in-Ok.row.items c.args.clients c.in-Ok.ensures.ok.0 c.requires.clients
+serve_all-requires-clause-some g c = some_come c.in-Ok.row.items c.args.clients c.in-Ok.ensures.ok.0.numbered c.requires.clients
 
 pub serve_all-requires-clause-sound : goal.serve_all-requires-clause-sound
-serve_all-requires-clause-sound g c = c.in-Ok.ensures.ok.2
+serve_all-requires-clause-sound g c = c.in-Ok.ensures.ok.0.sound
 
 pub serve_all-requires-clause-served : goal.serve_all-requires-clause-served
 serve_all-requires-clause-served g c =
     let come = c.in-Ok.ensures.ok in
-    serves_come (client_ids c.in-Ok.row.items) c.args.clients c.args.hub.now c.accept_all.new.hub come.0 come.1
+    serves_come (client_ids c.in-Ok.row.items) c.args.clients c.args.hub.now c.accept_all.new.hub come.0.numbered come.1
 
 pub returns-in-Ok-clause-served : goal.returns-in-Ok-clause-served
 returns-in-Ok-clause-served g c = λ _ _ not_turns.
     let come = c.in-Ok.ensures.ok in
     let done = c.serve_all.ensures.served not_turns in
-    (done.0, turns_of_come (client_ids c.in-Ok.row.items) c.args.clients c.args.hub.now c.accept_all.new.hub _ _ _ come.0 come.1 done.1, done.2, done.3)
+    let turned = λ (s : HubState). ByTurns g.L.Stream.Read.remaining g.L.Stream.Write.contents c.in-Ok.row.items s
+    done.0 [] c.serve_all.new.hub in
+    (c.in-Ok.row.items, done.0, come.0, subst turned come.1 done.1, done.2, done.3)
 
 pub returns-in-Ok-clause-turns : goal.returns-in-Ok-clause-turns
 returns-in-Ok-clause-turns g c = λ is.
     let come = c.in-Ok.ensures.ok in
-    let done = c.serve_all.ensures.turns is in (
-      done.0,
-      done.1,
-      done.2,
-      turns_of_come (client_ids c.in-Ok.row.items) c.args.clients c.args.hub.now c.accept_all.new.hub _ _ _ come.0 come.1 done.3,
-      done.4,
-      done.5,
-    )
+    let done = c.serve_all.ensures.turns is in
+    let turned = λ (s : HubState). ByTurns g.L.Stream.Read.remaining g.L.Stream.Write.contents c.in-Ok.row.items s
+    done.0 done.1 done.2 in
+    (c.in-Ok.row.items, done.0, done.1, done.2, come.0, subst turned come.1 done.3, done.4, done.5)
 
 pub returns-in-Ok-clause-unserved : goal.returns-in-Ok-clause-unserved
 returns-in-Ok-clause-unserved g c = λ early. elim early [

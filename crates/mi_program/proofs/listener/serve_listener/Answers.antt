@@ -1,3 +1,4 @@
+-- A fault of reading or writing is that of a turn, which was noted.
 use Rattle.std.proofs.Common.{sym, ap, ◌∙◌}
 use Rattle.mi_hub.specs.IoNotes.{reads_fail, writes_fail}
 use Rattle.mi_program.proofs.TurnLemmas.{read_noted, write_noted, none_noted, read_accept, read_memory, read_turns}
@@ -7,17 +8,17 @@ use Rattle.mi_program.proofs.listener.serve_listener.Goals as goal
 pub returns-clause-read : goal.returns-clause-read
 returns-clause-read g c = λ is.
     let done = c.serve_clients-served.ensures.served (λ k. read_accept (sym is ∙ k)) (λ k. read_memory (sym is ∙ k)) (λ k. read_turns (sym is ∙ k)) in
-    ap reads_fail done.3 ∙ read_noted done.0 c.args.errors.now (sym done.2 ∙ is)
+    ap reads_fail done.5 ∙ read_noted done.1 c.args.errors.now (sym done.4 ∙ is)
 
 pub returns-clause-write : goal.returns-clause-write
 returns-clause-write g c = λ is.
     let done = c.serve_clients-served.ensures.served (λ k. write_accept (sym is ∙ k)) (λ k. write_memory (sym is ∙ k)) (λ k. write_turns (sym is ∙ k)) in
-    ap writes_fail done.3 ∙ write_noted done.0 c.args.errors.now (sym done.2 ∙ is)
+    ap writes_fail done.5 ∙ write_noted done.1 c.args.errors.now (sym done.4 ∙ is)
 
 pub returns-clause-sound : goal.returns-clause-sound
 returns-clause-sound g c = on_ok _ _ (λ is.
     let done = c.serve_clients-served.ensures.served (λ k. ok_accept (sym is ∙ k)) (λ k. ok_memory (sym is ∙ k)) (λ k. ok_turns (sym is ∙ k)) in
-    done.3 ∙ none_noted done.0 c.args.errors.now (sym done.2 ∙ is))
+    done.5 ∙ none_noted done.1 c.args.errors.now (sym done.4 ∙ is))
 
 pub returns-clause-served : goal.returns-clause-served
 returns-clause-served g c = c.serve_clients-served.ensures.served

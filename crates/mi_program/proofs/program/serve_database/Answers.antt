@@ -1,18 +1,12 @@
-use Rattle.std.proofs.lemmas.Result.{on_ok_weaker}
-use Rattle.mi_program.proofs.ServingLemmas.{serving_late}
+-- Without a port the input is served.
+use Rattle.mi_program.proofs.EndingLemmas.{input_served}
+use Rattle.mi_program.proofs.ServingLemmas.{serves_input}
 use Rattle.mi_program.proofs.program.serve_database.Goals as goal
 
-pub returns-in-None-clause-late : goal.returns-in-None-clause-late
-returns-in-None-clause-late g c = serving_late _ c.serve.ensures.no_other
-
-pub returns-in-None-clause-served : goal.returns-in-None-clause-served
-returns-in-None-clause-served g c = λ _.
-    on_ok_weaker c.serve.result (λ p. record {
-      bytes = p.0;
-      out = p.1;
-      new = p.2;
-      read = p.3;
-      ended = p.4;
-      written = p.5;
-      run = p.6;
-    }) c.serve.ensures.ok
+pub returns-in-None : goal.returns-in-None
+returns-in-None g c =
+    input_served g.I.Read.remaining g.O.Write.contents g.R.Stream.Read.remaining g.R.Stream.Write.contents (g.D.Sessions.state c.args.database)
+    c.args.listen c.serve.result c.args.reader.now c.serve.new.reader c.args.writer.now c.serve.new.writer c.in-None.is
+    (serves_input g.I.Read.remaining g.O.Write.contents (g.D.Sessions.state c.args.database) c.args.reader.now c.serve.new.reader c.args.writer.now
+    c.serve.new.writer c.serve.result c.serve.ensures.ok c.serve.ensures.read c.serve.ensures.turns c.serve.ensures.write c.serve.ensures.memory
+    c.serve.ensures.no_other)

@@ -1,3 +1,4 @@
+-- The one connection comes, and then what is served is what `serve_stream` says.
 use Rattle.std.proofs.Common.{◌≡◌, ◌⊎◌, [], ◌∷◌, Err, sym, ap, ◌∙◌, subst}
 use Rattle.std.specs.Io.KnownBytes.{IsAtEnd}
 use Rattle.mi_hub.specs.Run.{piece, close, cut, AllDone, DoneToFault}

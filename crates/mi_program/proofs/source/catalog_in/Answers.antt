@@ -1,3 +1,4 @@
+-- The catalog is read of all the bytes that the reader has.
 use Rattle.std.proofs.Common.{subst, sym}
 use Rattle.std.proofs.lemmas.Result.{err_from_is_err_and}
 use Rattle.mi_program.specs.Source.{IsUnread}

@@ -1,3 +1,4 @@
+-- One byte more than the limit is asked for, so a longer text is told.
 use Rattle.std.proofs.Common.{rules, ◌≡◌, ◌≤◌, length}
 use Rattle.std.specs.Vec.{vec_len}
 use Rattle.mi_value.specs.declared.limits.TheConstants.{MAX_SCHEMA_FILE}

@@ -1,3 +1,4 @@
+-- Its four options have the rules that the definitions give them.
 use Rattle.std.proofs.Common.{rules, codes, subst, sym, ◌≡◌}
 use Rattle.std.specs.List.{All}
 use Rattle.std.proofs.lemmas.List.Elements.{All-nil}

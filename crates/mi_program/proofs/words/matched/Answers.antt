@@ -1,3 +1,4 @@
+-- The parser's matches are those of the words, or its error is theirs.
 use Rattle.std.specs.Prelude.{map}
 use Rattle.clap.specs.Words.{app_of, matches_of}
 use Rattle.mi_program.proofs.MatchedLemmas.{simple_of}

@@ -1,3 +1,4 @@
+-- The program's command is a simple one.
 use Rattle.std.proofs.Common.{◌≡◌, refl, sym, subst, true}
 use Rattle.clap.specs.Words.{App, is_simple_and_free}
 use Rattle.mi_program.proofs.MatchedLemmas.{command_matched, command_refused}

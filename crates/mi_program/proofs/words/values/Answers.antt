@@ -1,3 +1,4 @@
+-- The values are those of the matches, which keep the rules between options.
 use Rattle.std.proofs.Common.{ap, codes, sym, inr, ◌∙◌}
 use Rattle.std.proofs.lemmas.Result.{err_from_is_err_and}
 use Rattle.clap.specs.Words.{found_of}

@@ -1,3 +1,4 @@
+-- The command or refusal is that of the definitions, and a command fits the catalog.
 use Rattle.mi_protocol.proofs.BindingLemmas.{answer-fits, refusal-plain}
 use Rattle.mi_protocol.proofs.binding.bind.Goals as goal
 

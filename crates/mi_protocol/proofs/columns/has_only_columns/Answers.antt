@@ -1,3 +1,4 @@
+-- That each name is a column's is asked of the names alone.
 use Rattle.std.proofs.Common.{◌∙◌, ap, map}
 use Rattle.mi_catalog.specs.declared.index.Column.{Column}
 use Rattle.mi_request.specs.Json.{has_only}

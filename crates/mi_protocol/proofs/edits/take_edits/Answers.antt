@@ -1,3 +1,4 @@
+-- The edits so far are those of the columns that were gone over.
 use Rattle.std.proofs.Common.{List, ◌++◌, Vec, Global, None, Ok, option_map, sym, ap, ◌∙◌, append-nil}
 use Rattle.std.proofs.lemmas.Result.{err_from_is_err_and}
 use Rattle.mi_value.specs.declared.edit.Edit.{Edit}

@@ -1,3 +1,4 @@
+-- The values so far are those of the items that were gone over.
 use Rattle.std.proofs.Common.{◌≡◌, List, ◌++◌, length, option_map, sym, ap, ap₂, ◌∙◌, rules}
 use Rattle.std.specs.Prelude.{vec_len}
 use Rattle.std.specs.Vec.Iter.{into_iter_items}

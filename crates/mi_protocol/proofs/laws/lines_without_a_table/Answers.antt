@@ -1,3 +1,4 @@
+-- The law is proved with the definitions, of the first table and of it alone.
 use Rattle.mi_protocol.proofs.FirstTableLaws.{no_name_is_the_first, other_tables_are_not_seen}
 use Rattle.mi_protocol.proofs.laws.lines_without_a_table.Goals as goal
 

@@ -1,3 +1,4 @@
+-- The law is proved with the definitions.
 use Rattle.mi_protocol.proofs.ReplyLemmas.{reply_is}
 use Rattle.mi_protocol.proofs.laws.replies_are_compact_json.Goals as goal
 

@@ -1,3 +1,4 @@
+-- The values so far are those of the columns that were gone over.
 use Rattle.std.proofs.Common.{List, [], ◌∷◌, ◌++◌, ◌+◌, Option, Some, None, map, option_map, option_and_then, drop, length, refl, ap, sym, ◌≡◌, ◌∙◌, arith}
 use Rattle.std.proofs.lemmas.List.{drop_more}
 use Rattle.serde_json.specs.Find.{get_member}

@@ -1,3 +1,4 @@
+-- The members before the place have smaller names, and those behind it greater ones.
 use Rattle.std.proofs.Common.{[], get_or, nat_cmp, ap, ◌∙◌, sym, arith}
 use Rattle.std.specs.Cmp.Lexicographic.{slice_cmp}
 use Rattle.mi_protocol.specs.declared.shown.Member.{Member}

@@ -1,3 +1,4 @@
+-- The members so far are `id` and the columns that were gone over, by their names.
 use Rattle.std.proofs.Common.{◌≡◌, ◌+◌, get_or, drop, ◌∷◌, true, sym, ap, ap₂, ◌∙◌, arith, rules}
 use Rattle.std.proofs.lemmas.List.{drop_more}
 use Rattle.serde_json.specs.Data.{put}

@@ -1,3 +1,4 @@
+-- The front, the row and the end are the compact text of the reply.
 use Rattle.std.proofs.Common.{◌≡◌, List, ℕ, codes, ◌∙◌, rules}
 use Rattle.json.specs.Tree.{json_tokens}
 use Rattle.serde_json.specs.Data.{Data}

@@ -1,3 +1,4 @@
+-- Each row that was written has a value for every column.
 use Rattle.std.proofs.Common.{◌≤◌, ◌∙◌, length, nat_le, sym, subst}
 use Rattle.std.proofs.lemmas.Bool.{leb-true}
 use Rattle.std.proofs.lemmas.List.Sums.{AllPass-from_list_all}

@@ -1,3 +1,4 @@
+-- A column's value is written as it stands in the record.
 use Rattle.std.proofs.Common.{◌≡◌, ◌++◌, Some, None, OnOk, option_map, slice_get, subst, sym, ap, ◌∙◌}
 use Rattle.json.specs.Tree.{json_tokens}
 use Rattle.serde_json.specs.Written.{outline}

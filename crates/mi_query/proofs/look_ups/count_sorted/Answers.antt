@@ -1,3 +1,4 @@
+-- Between its lower and its upper rank stand exactly the ids of the key.
 use Rattle.std.proofs.Common.{◌-◌, ap₂, sym, ◌∙◌, arith}
 use Rattle.mi_model.specs.Database.{schema_of, table_of}
 use Rattle.mi_model.proofs.QueryLaws.{lower-le-upper, count_ranks}

@@ -1,3 +1,4 @@
+-- Where the bounds of a key are one id, or both none, no record has the key; else the first is the lower bound.
 use Rattle.std.proofs.Common.{sym, ◌∙◌}
 use Rattle.mi_model.specs.Database.{schema_of, table_of}
 use Rattle.mi_model.proofs.PlaceLaws.{once_of_each}

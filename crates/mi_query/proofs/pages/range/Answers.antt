@@ -1,3 +1,4 @@
+-- The ranks of the bounds say where the range begins and ends, and the walk lends what stands there.
 use Rattle.std.proofs.Common.{◌≡◌, ◌-◌, map, ap, sym, ◌∙◌}
 use Rattle.std.specs.Prelude.{if◌then◌else◌}
 use Rattle.mi_model.specs.Page.{Page}

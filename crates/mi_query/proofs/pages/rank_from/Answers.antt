@@ -1,3 +1,4 @@
+-- A bound that includes its key begins at the lower rank, one beyond it at the upper.
 use Rattle.std.proofs.Common.{ap, sym, ◌∙◌}
 use Rattle.mi_model.specs.Database.{schema_of, table_of}
 use Rattle.mi_model.proofs.QueryLaws.{rank_from, from_all}

@@ -1,3 +1,4 @@
+-- A bound that includes its key ends at the upper rank, one below it at the lower.
 use Rattle.std.proofs.Common.{ap, sym, ◌∙◌}
 use Rattle.mi_model.specs.Database.{schema_of, table_of}
 use Rattle.mi_model.proofs.QueryLaws.{rank_to, to_all}

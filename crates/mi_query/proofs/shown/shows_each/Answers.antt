@@ -1,3 +1,4 @@
+-- The rules of a database say it of each of its tables.
 use Rattle.mi_query.proofs.ShownLemmas.{each_shown, all_shown}
 use Rattle.mi_query.proofs.shown.shows_each.Goals as goal
 

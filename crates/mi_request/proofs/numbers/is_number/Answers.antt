@@ -1,3 +1,4 @@
+-- A numeral is the number that its digits, point and exponent write, with or without a minus.
 use Rattle.std.proofs.Common.{◌≡◌, drop, get_or, true, false, ◌==◌, is_some, sym, ap, ◌∙◌, arith, take_all, length-drop}
 use Rattle.fast_float.specs.Text.{scan}
 use Rattle.serde_json.specs.Read.{number_of, number_from}

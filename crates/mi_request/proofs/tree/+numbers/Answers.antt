@@ -1,3 +1,4 @@
+-- A value has numbers alone that a float holds exactly where each of its parts has.
 use Rattle.std.proofs.Common.{◌≡◌, ◌+◌, ◌∷◌, true, ◌&&◌, drop, is_some, sym, ap, ◌∙◌, arith}
 use Rattle.std.proofs.lemmas.List.{drop_more}
 use Rattle.json.specs.Value.{members_view}

@@ -1,3 +1,4 @@
+-- What `json` reads is the value that the bytes are; what it refuses, but for memory, is none.
 use Rattle.std.proofs.Common.{◌≡◌, List, [], Some, true, is_some, inr, refl, sym, ap, ◌∙◌, arith}
 use Rattle.json.specs.Json as json
 use Rattle.json.specs.Lex.{tokens}

@@ -1,3 +1,4 @@
+-- Without a further member the document is one table; any other name is a fault.
 use Rattle.std.proofs.Common.{◌≡◌, Bool, true, false, cond, Option, Some, None, option_and_then, ◌∷◌, codes, sym, ap, subst, ◌∙◌}
 use Rattle.toml.specs.View.{table_view}
 use Rattle.mi_schema.specs.Draft.{CatalogDraft}

@@ -1,3 +1,4 @@
+-- That each name is among these is asked of the names alone.
 use Rattle.std.proofs.Common.{ℕ, List, Bor, ◌∙◌}
 use Rattle.mi_schema.proofs.DocumentLaws.{has_no_other-keys}
 use Rattle.mi_schema.proofs.document.has_no_other.Goals as goal

@@ -1,3 +1,4 @@
+-- The table's member of a name is the first of that name.
 use Rattle.toml.proofs.Views.{table_get}
 use Rattle.mi_schema.proofs.document.member.Goals as goal
 

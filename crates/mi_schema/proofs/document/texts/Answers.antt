@@ -1,3 +1,4 @@
+-- The texts that were read are those of the items before; the first that is none ends it.
 use Rattle.std.proofs.lemmas.Result.{err_from_is_err_and}
 use Rattle.toml.specs.View.{items_view}
 use Rattle.toml.specs.Data.{as_str}

@@ -1,3 +1,4 @@
+-- What the parser reads is the document that the text is; what it refuses, but for memory, is none.
 use Rattle.std.proofs.Common.{inr, refl, rules}
 use Rattle.mi_schema.proofs.DocumentLaws.{document_found, document_refused}
 use Rattle.mi_schema.proofs.read.document.Goals as goal

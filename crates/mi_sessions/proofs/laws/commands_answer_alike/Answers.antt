@@ -1,3 +1,4 @@
+-- The law is proved with the definitions, of one command and of several.
 use Rattle.mi_model.proofs.AlikeLaws.{commands_answer_alike, runs_answer_alike}
 use Rattle.mi_sessions.proofs.laws.commands_answer_alike.Goals as goal
 

@@ -1,3 +1,4 @@
+-- The heights that were read are those of the sides, so the case that is taken is the one that balances them.
 use Rattle.std.proofs.Common.{◌≡◌, ◌<◌, ◌+◌, ◌∙◌, arith}
 use Rattle.mi_tree.specs.BinaryTree.{BinaryTree, height, DifferByAtMost}
 use Rattle.mi_tree.specs.Joining.{AreSides}

@@ -1,3 +1,4 @@
+-- The right side is at least two levels high, and a rotation to the left, one or two, makes the heights fit.
 use Rattle.std.proofs.Common.{◌<◌, ◌≤◌, None, refl, ap, ◌∙◌, arith}
 use Rattle.mi_tree.specs.BinaryTree.{height}
 use Rattle.mi_tree.proofs.BinaryTreeLemmas.{moved, tip_is, held-root}

@@ -1,3 +1,4 @@
+-- The first node of the right side goes between the two sides, which then stand in one tree in their order.
 use Rattle.mi_tree.proofs.RemoveLemmas.{ends_take, ends_none, ends_sides, ends_appended}
 use Rattle.mi_tree.proofs.change.append.Goals as goal
 

@@ -1,3 +1,4 @@
+-- The way down to the left ends at the first node, and the climb puts its right side in its place.
 use Rattle.std.proofs.Common.{◌≡◌, [], ◌∷◌, List, Option, Some, refl, sym, ap, ◌∙◌, subst}
 use Rattle.mi_node.specs.Pool.{link_of, IsHeld}
 use Rattle.mi_node.specs.Refs.{Ref}

@@ -1,3 +1,4 @@
+-- Where tags are alike, an exact tag says that the keys are equal; else the values say how they stand.
 use Rattle.std.proofs.Common.{sym, ◌∙◌}
 use Rattle.std.specs.Ordering.{ordering_then}
 use Rattle.mi_node.proofs.EntryLemmas.{held_has}

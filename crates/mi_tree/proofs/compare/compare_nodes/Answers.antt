@@ -1,3 +1,4 @@
+-- Of two nodes with different tags the one with the smaller is less.
 use Rattle.std.proofs.Common.{◌∙◌}
 use Rattle.mi_node.proofs.EntryLemmas.{held_has}
 use Rattle.mi_tree.proofs.CompareLemmas.{by_key}

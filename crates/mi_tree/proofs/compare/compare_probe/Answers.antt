@@ -1,3 +1,4 @@
+-- A node whose tag isn't the probe's stands on the side that the tags say.
 use Rattle.std.proofs.Common.{sym, ◌∙◌}
 use Rattle.mi_node.proofs.EntryLemmas.{held_has}
 use Rattle.mi_tree.proofs.CompareLemmas.{by_probe}

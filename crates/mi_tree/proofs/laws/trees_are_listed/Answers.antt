@@ -1,3 +1,4 @@
+-- The law is proved with the definitions.
 use Rattle.mi_tree.proofs.FrameLemmas.{tree_listed}
 use Rattle.mi_tree.proofs.laws.trees_are_listed.Goals as goal
 

@@ -1,3 +1,4 @@
+-- The law is proved with the definitions, for any total order whose tags are below.
 use Rattle.mi_tree.proofs.FrameLemmas.{tree_swapped}
 use Rattle.mi_tree.proofs.laws.trees_stand_where_swapped.Goals as goal
 

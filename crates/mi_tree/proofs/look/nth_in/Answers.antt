@@ -1,3 +1,4 @@
+-- The node of the rank stands in the subtree that is left, at the rank less what was passed over.
 use Rattle.std.proofs.Common.{◌≡◌, ◌+◌, ◌-◌, suc, sym, ap, ◌∙◌, subst, arith}
 use Rattle.mi_node.specs.Pool.{Pooled, IsHeldIf}
 use Rattle.mi_tree.specs.BinaryTree.{link_at}

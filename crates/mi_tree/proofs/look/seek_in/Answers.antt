@@ -1,3 +1,4 @@
+-- The first node that meets the probe stands in the subtree that is left, or is the last one that was gone left at.
 use Rattle.std.proofs.Common.{◌≡◌, sym, refl, ap, ◌∙◌, subst}
 use Rattle.mi_node.specs.Pool.{Pooled, link_of, IsHeld}
 use Rattle.mi_node.specs.declared.link.Link.{Link}

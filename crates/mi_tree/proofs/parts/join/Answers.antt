@@ -1,3 +1,4 @@
+-- The node has the sizes of its two sides and one more, and is one level higher than the higher side.
 use Rattle.std.proofs.Common.{◌≡◌, ◌+◌, max, ap, ◌∙◌, arith}
 use Rattle.mi_node.specs.declared.link.Link.{Link}
 use Rattle.mi_tree.specs.BinaryTree.{forks, height_at}

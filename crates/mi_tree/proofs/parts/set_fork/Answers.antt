@@ -1,3 +1,4 @@
+-- A node whose link names two trees, with their size and height, is the root of one tree.
 use Rattle.std.proofs.Common.{[], ◌∷◌, sym, ap, ◌∙◌, subst}
 use Rattle.mi_node.specs.Pool.{Keeps}
 use Rattle.mi_node.proofs.EntryLemmas.{slots-with_link}

@@ -1,3 +1,4 @@
+-- The nodes ahead of a rank stand on the path and in their far sides; there is room for one more on the way.
 use Rattle.std.proofs.Common.{◌≡◌, ℕ, suc, ◌+◌, ◌-◌, ◌<◌, ◌≤◌, length, refl, ap, ◌∙◌, arith}
 use Rattle.mi_node.specs.Pool.{Pooled}
 use Rattle.mi_tree.specs.BinaryTree.{BinaryTree, IsRooted, nodes, size_at}

@@ -1,3 +1,4 @@
+-- The nodes ahead of the node that is sought stand on the path and in their far sides.
 use Rattle.std.proofs.Common.{◌≡◌, ℕ, ◌<◌, ◌∷◌, length, None, refl, sym, ap, ◌∙◌, subst, arith}
 use Rattle.mi_node.specs.Pool.{Pooled, link_of}
 use Rattle.mi_node.specs.declared.link.Link.{Link}

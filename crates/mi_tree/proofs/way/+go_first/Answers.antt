@@ -1,3 +1,4 @@
+-- Each step to the left is a turn of a way on which sizes have fallen by one.
 use Rattle.std.proofs.Common.{ℕ, ◌<◌, List, [], length, Some, refl, sym, ◌∙◌, subst, arith}
 use Rattle.mi_node.specs.Refs.{Ref}
 use Rattle.mi_tree.specs.BinaryTree.{BinaryTree, Tip}

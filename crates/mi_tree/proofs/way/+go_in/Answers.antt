@@ -1,3 +1,4 @@
+-- Each step down is a turn of a way on which sizes have grown by one, towards where the node belongs.
 use Rattle.std.proofs.Common.{ℕ, ◌<◌, List, length, refl, sym, ap, ◌∙◌, subst, arith}
 use Rattle.mi_node.specs.declared.link.Link.{Link}
 use Rattle.mi_tree.specs.BinaryTree.{BinaryTree}

@@ -1,3 +1,4 @@
+-- Each step down is a turn of a way on which sizes have fallen by one, towards the node.
 use Rattle.std.proofs.Common.{◌≡◌, ℕ, ◌<◌, List, ◌∷◌, length, None, refl, sym, ap, ◌∙◌, subst, arith}
 use Rattle.mi_node.specs.Refs.{Ref}
 use Rattle.mi_node.specs.declared.link.Link.{Link}

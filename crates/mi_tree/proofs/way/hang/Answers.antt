@@ -1,3 +1,4 @@
+-- The tree at the end of the way is as high as the one before, so only the link above it is set.
 use Rattle.std.proofs.Common.{◌≡◌, List, Option, Some, refl, sym, ap, ◌∙◌}
 use Rattle.mi_node.specs.Refs.{Ref}
 use Rattle.mi_tree.specs.BinaryTree.{BinaryTree, height}

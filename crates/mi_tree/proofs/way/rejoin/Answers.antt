@@ -1,3 +1,4 @@
+-- A side that is one level lower than its node needs no balance; else the two sides are balanced.
 use Rattle.std.proofs.Common.{◌+◌, sym, ap, ◌∙◌, subst}
 use Rattle.mi_node.specs.declared.link.Link.{Link}
 use Rattle.mi_tree.specs.Joining.{IsFork}

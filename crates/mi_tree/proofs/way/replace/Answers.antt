@@ -1,3 +1,4 @@
+-- Where the tree that comes is as high as the one that went, it is only hung on; else the climb goes on.
 use Rattle.std.proofs.Common.{Option, Some, sym, ◌∙◌, subst}
 use Rattle.mi_node.specs.Refs.{Ref}
 use Rattle.mi_tree.specs.Ways.{Climbs}

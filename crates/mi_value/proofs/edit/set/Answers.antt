@@ -1,3 +1,4 @@
+-- One column has another value, and the others keep theirs.
 use Rattle.std.proofs.lemmas.List.{map-set}
 use Rattle.mi_value.specs.Lent.{lent}
 use Rattle.mi_value.proofs.edit.set.Goals as goal

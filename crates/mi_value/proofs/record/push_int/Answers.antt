@@ -1,3 +1,4 @@
+-- The eight bytes of a number are those that read as it.
 use Rattle.std.proofs.Common.{FitsSigned}
 use Rattle.std.specs.Int.{w64, to_le_bytes, cast_unsigned}
 use Rattle.std.proofs.lemmas.Int.{to_z-of_z}

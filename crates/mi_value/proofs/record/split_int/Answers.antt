@@ -1,3 +1,4 @@
+-- The first eight bytes read as the number, and the rest is as it was.
 use Rattle.std.proofs.Common.{ap, ◌∙◌, FitsSigned}
 use Rattle.std.specs.Int.{w64, from_le_bytes, cast_signed}
 use Rattle.std.proofs.lemmas.Int.{to_z-of_z}

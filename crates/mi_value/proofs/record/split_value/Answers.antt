@@ -1,3 +1,4 @@
+-- The text of a value that was put there is UTF-8.
 use Rattle.std.proofs.Common.{ap, ◌∙◌}
 use Rattle.mi_value.specs.Block.{value_at}
 use Rattle.mi_value.proofs.record.split_value.Goals as goal

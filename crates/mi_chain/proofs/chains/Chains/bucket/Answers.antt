@@ -1,3 +1,4 @@
+-- The low bits of a hash are its rest by a power of two.
 use Rattle.std.proofs.Common.{◌%◌, ◌-◌, sym, ap, ◌∙◌, bit_and}
 use Rattle.std.proofs.lemmas.Nat.{and_mask}
 use Rattle.mi_chain.proofs.chains.Chains.bucket.Goals as goal

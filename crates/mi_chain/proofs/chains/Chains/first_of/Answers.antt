@@ -1,3 +1,4 @@
+-- The bucket of the key's hash has its group, if there is one, whose first node has the lowest stamp.
 use Rattle.std.proofs.Common.{◌<◌, ◌%◌, sym, ap, ◌∙◌, subst, vec_len, slice_index_or, None}
 use Rattle.mi_chain.specs.Keying.{stamp_at, hash_node, has_key, same_nodes}
 use Rattle.mi_chain.proofs.KeyingLemmas.{alike, same_hash, of_probe, hash_of_probe}

@@ -1,3 +1,4 @@
+-- The head that stands in a bucket's place is the first node of its chain.
 use Rattle.std.proofs.Common.{◌≡◌, ◌<◌, ◌∙◌, None, length, vec_len, subst}
 use Rattle.mi_chain.proofs.StandingLemmas.{any_head}
 use Rattle.mi_chain.proofs.chains.Chains.head.Goals as goal

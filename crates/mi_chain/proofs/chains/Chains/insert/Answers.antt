@@ -1,3 +1,4 @@
+-- The node goes into its key's group where its stamp belongs, or as a group of its own to the front of the bucket.
 use Rattle.std.proofs.Common.{◌≡◌, ◌<◌, ◌%◌, ◌++◌, ◌==◌, cond, sym, ap, ◌∙◌, subst, refl, vec_len, slice_index_or, List, ◌∷◌, Some, None}
 use Rattle.std.specs.Option.{option_or}
 use Rattle.mi_node.specs.Pool.{IsHeldIf, Keeps, link_of}

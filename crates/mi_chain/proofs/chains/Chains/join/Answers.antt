@@ -1,3 +1,4 @@
+-- The links on both sides of a gap are set, each of a node that is held.
 use Rattle.std.proofs.Common.{◌<◌, sym, subst}
 use Rattle.mi_node.specs.Pool.{IsHeldIf}
 use Rattle.mi_node.proofs.NeighbourLemmas.{held_still, slots-forth}

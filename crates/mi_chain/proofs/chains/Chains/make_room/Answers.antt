@@ -1,3 +1,4 @@
+-- All groups stand in the old buckets at first and in the new ones at the end, each whole, so no list changes.
 use Rattle.std.proofs.Common.{◌≡◌, ◌<◌, ◌∙◌, List, refl, ap, rules, vec_len, None, replicate}
 use Rattle.std.specs.Int.{IsPowerOfTwo}
 use Rattle.mi_node.specs.Refs.{Ref}

@@ -1,3 +1,4 @@
+-- The buckets that were gone over have no group left.
 use Rattle.std.proofs.Common.{◌≡◌, ◌<◌, ◌∙◌, sym, subst, vec_len, slice_index_or, None, arith}
 use Rattle.mi_node.specs.Pool.{Keeps, link_of}
 use Rattle.mi_node.proofs.KeepingLemmas.{keeps_then}

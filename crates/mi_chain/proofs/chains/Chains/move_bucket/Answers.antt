@@ -1,3 +1,4 @@
+-- The groups that were moved stand in new buckets, the others still in the old one.
 use Rattle.std.proofs.Common.{◌≡◌, ◌<◌, length, ◌∙◌, sym, ap, subst, vec_len, slice_index_or, Some, None}
 use Rattle.mi_node.specs.Pool.{Keeps, node_count, link_of}
 use Rattle.mi_node.proofs.KeepingLemmas.{keeps_then}

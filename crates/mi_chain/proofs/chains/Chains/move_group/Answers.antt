@@ -1,3 +1,4 @@
+-- A group goes whole to the front of its new bucket: its links inside stay.
 use Rattle.std.proofs.Common.{◌≡◌, ◌<◌, ◌%◌, sym, ap, ◌∙◌, subst, refl, length, vec_len, slice_index_or, slice_set, List, Some, None}
 use Rattle.std.specs.Vec.{with_item}
 use Rattle.mi_node.specs.Pool.{Pooled, Keeps, IsHeldIf, link_of, node_count}

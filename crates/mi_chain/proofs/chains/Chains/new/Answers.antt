@@ -1,3 +1,4 @@
+-- Sixteen empty buckets are chains of no node.
 use Rattle.std.proofs.Common.{◌≡◌, replicate, vec_len, None, refl, rules, arith}
 use Rattle.mi_chain.proofs.chains.Chains.new.Goals as goal
 

@@ -1,3 +1,4 @@
+-- The link leads on to the next node of the group, or to another group, which isn't of this key.
 use Rattle.std.proofs.Common.{◌≡◌, true, false, inl, inr, sym, ap, ◌∙◌}
 use Rattle.mi_node.specs.declared.link.Link.{Link}
 use Rattle.mi_chain.specs.Places.{is_named}

@@ -1,3 +1,4 @@
+-- The link leads back to the node before it in the group, and the first one's to the last.
 use Rattle.std.proofs.Common.{◌≡◌, true, false, inl, inr, sym, ap, ◌∙◌, subst}
 use Rattle.mi_node.specs.Pool.{IsHeldIf, link_of}
 use Rattle.mi_node.specs.declared.link.Link.{Link}

@@ -1,3 +1,4 @@
+-- The node gets its link, and then those on both sides of it are set.
 use Rattle.std.proofs.Common.{◌<◌, sym, subst}
 use Rattle.mi_node.specs.Pool.{IsHeldIf}
 use Rattle.mi_node.proofs.EntryLemmas.{slots-with_link}

@@ -1,3 +1,4 @@
+-- The node goes between the neighbours that it remembers, or to the end of its group, or as a group of its own.
 use Rattle.std.proofs.Common.{◌≡◌, ◌<◌, ◌%◌, ◌++◌, sym, ap, ◌∙◌, subst, refl, vec_len, slice_index_or, List, ◌∷◌, Option, Some, None}
 use Rattle.std.specs.Option.{option_or}
 use Rattle.mi_node.specs.Pool.{Keeps}

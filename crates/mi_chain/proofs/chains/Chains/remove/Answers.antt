@@ -1,3 +1,4 @@
+-- The nodes on both sides are joined, or the group's ends are set anew, or the group is gone.
 use Rattle.std.proofs.Common.{◌≡◌, ℕ, ◌<◌, ◌-◌, ◌%◌, ◌++◌, ◌∷◌, cond, sym, ap, ◌∙◌, subst, vec_len, slice_index_or, List, Option, None}
 use Rattle.std.specs.Option.{option_or}
 use Rattle.mi_node.specs.Pool.{Pooled, Keeps, ref_of, link_of, with_link}

@@ -1,3 +1,4 @@
+-- What was read, bound and performed is the answer of the definitions, at each of the three ends.
 use Rattle.std.proofs.Common.{Err, ap}
 use Rattle.mi_protocol.specs.Text.{text_bytes}
 use Rattle.mi_commands.proofs.ReadLemmas.{given, refused_line}

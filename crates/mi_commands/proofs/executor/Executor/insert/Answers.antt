@@ -1,3 +1,4 @@
+-- The reply is over a table that is there, whether the record came in or was refused.
 use Rattle.std.proofs.Common.{◌<◌, length, subst, sym}
 use Rattle.mi_commands.specs.Holder.{HeldDatabase}
 use Rattle.mi_commands.proofs.AnswerLemmas.{insert_refusal_said}

@@ -1,3 +1,4 @@
+-- The reply is over a table that is there, whether the record changed, was refused or was lost.
 use Rattle.std.proofs.Common.{◌<◌, length, subst, sym}
 use Rattle.mi_commands.specs.Holder.{HeldDatabase}
 use Rattle.mi_commands.proofs.AnswerLemmas.{modify_refusal_said}

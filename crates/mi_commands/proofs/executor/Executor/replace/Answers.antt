@@ -1,3 +1,4 @@
+-- The reply is over a table that is there, whether the record was set or refused.
 use Rattle.std.proofs.Common.{◌<◌, length, subst, sym}
 use Rattle.mi_commands.specs.Holder.{HeldDatabase}
 use Rattle.mi_commands.proofs.AnswerLemmas.{replace_refusal_said}

@@ -1,3 +1,4 @@
+-- The rank that the query answers is the one that the reply says.
 use Rattle.std.proofs.Common.{ap, inl, refl, ◌∙◌}
 use Rattle.mi_model.specs.Database.{schema_of, table_of}
 use Rattle.mi_model.specs.LookUp.{upper_rank}

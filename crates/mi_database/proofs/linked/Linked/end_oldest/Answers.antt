@@ -24,7 +24,7 @@ end_oldest-requires g c =
 pub invariant_of-self : goal.invariant_of-self
 invariant_of-self g c =
     let a = c.self.inside in
-    ends_law a.catalog _ _ a.journal.sessions c.end_oldest.new.self.sessions a.revision _ _ _ _ c.end_oldest.ensures.sessions c.self.invariant
+    ends_law a.catalog _ _ a.journal.sessions c.end_oldest.new.self.sessions a.revision c.end_oldest.ensures.sessions c.self.invariant
 
 pub returns : goal.returns
 returns g c =
@@ -32,7 +32,7 @@ returns g c =
     let j = c.end_oldest.new.self in
     let next = c.settle_one.new.self in
     let was = c.self.view_is in
-    subst (λ (h : LinkedData). EndsOldest c.args.self.now (linked_data h.catalog h.datas j.sessions h.revision j.changes j.starts)) (sym was)
-    (ended_law c.args.self.now c.loop.self next j.sessions j.changes j.starts c.loop.invariant e.settles e.catalog e.revision e.changes e.starts
+    subst (λ (h : LinkedData). EndsOldest c.args.self.now (linked_data h.catalog h.datas j.sessions h.revision j.changes j.starts h.held)) (sym was)
+    (ended_law c.args.self.now c.loop.self next j.sessions j.changes j.starts next.held c.loop.invariant e.settles e.catalog e.revision e.changes e.starts
     (sym (ap (λ (h : LinkedData). h.journal) was) ∙ c.end_oldest.ensures.sessions) (c.end_oldest.ensures.changes ∙ ap (λ (h : LinkedData). h.changes) was)
     (c.end_oldest.ensures.starts ∙ ap (λ (h : LinkedData). h.starts + 1) was))

@@ -1,13 +1,19 @@
--- what the journal's inverses keep is kept
-use Rattle.std.proofs.Common.{◌<◌, length, sym, subst}
-use Rattle.mi_database.specs.LinkedData.{LinkedData}
+-- what the table's container says of its pool, and what the journal's inverses keep
+use Rattle.std.proofs.Common.{◌<◌, map, length, sym, subst}
+use Rattle.std.proofs.lemmas.List.{length-map}
+use Rattle.mi_database.specs.LinkedData.{LinkedData, data_seen}
 use Rattle.mi_database.specs.Kept.{NodesAreKept}
+use Rattle.mi_database.proofs.StateLemmas.{within_containers, holds_at}
 use Rattle.mi_database.proofs.KeptLemmas.{nodes_kept}
 use Rattle.mi_database.proofs.linked.Linked.keeps_nodes.Goals as goal
 
 pub returns : goal.returns
 returns g c =
-    let listed : c.args.n < length c.self.inside.catalog.tables = subst (λ (h : LinkedData). c.args.n < length h.catalog.tables) (sym c.self.view_is)
-    c.requires in
-    subst (λ (h : LinkedData). NodesAreKept h c.args.n) c.self.view_is
-    (nodes_kept _ _ c.args.n c.self.invariant (subst (λ q. c.args.n < q) (sym c.self.invariant.many) listed))
+    let a = c.self.inside in
+    let h : LinkedData = data_seen a.catalog (map g.C.Container.plain a.containers.items) a.journal a.revision (map g.C.Container.held a.containers.items) in
+    let listed : c.args.n < length a.catalog.tables = subst (λ (q : LinkedData). c.args.n < length q.catalog.tables) (sym c.self.view_is) c.requires in
+    let within : c.args.n < length a.containers.items =
+    within_containers g.C.Container.shape g.C.Container.plain a.catalog a.containers.items a.journal.sessions a.revision c.args.n c.self.invariant listed in
+    subst (λ (q : LinkedData). NodesAreKept q c.args.n) c.self.view_is
+    (nodes_kept _ h c.args.n c.self.invariant (subst (λ m. c.args.n < m) (sym (length-map a.containers.items g.C.Container.plain)) within)
+    (holds_at g.C.Container.held g.C.Container.plain a.containers.items c.args.n c.index.result.now within c.index.ensures c.keeps_nodes.ensures))

@@ -4,7 +4,7 @@ use Rattle.mi_database.proofs.linked.Linked.new.Goals as goal
 
 pub invariant_of-result : goal.invariant_of-result
 invariant_of-result g c =
-    opened_at c.args.catalog _ _ c.new.result.sessions c.first_revision-revision.result c.new.result.changes c.new.result.starts
+    opened_at c.args.catalog _ _ c.new.result.sessions c.first_revision-revision.result
     c.keeps_rules.ensures c.in_ok-containers.ensures.shapes c.in_ok-containers.ensures.datas c.new.ensures c.first_revision-revision.ensures.value
     c.first_revision-revision.ensures.within
 

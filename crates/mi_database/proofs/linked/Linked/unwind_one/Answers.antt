@@ -8,15 +8,13 @@ pub invariant_of-self-2 : goal.invariant_of-self-2
 invariant_of-self-2 g c =
     let a = c.self.inside in
     (unwind_law g.C.Container.shape g.C.Container.plain a.catalog a.containers.items c.in-Some.table c.index_mut.result.now c.unwind.new.self c.in-Some.inverse
-    a.revision _ _ _ _
-    a.journal.sessions c.pop.new.self.sessions (sym c.in-Some.is ∙ c.pop.ensures.entry) c.pop.ensures.sessions c.index_mut.ensures.value c.unwind.ensures.plain
-    c.unwind.ensures.shape c.self.invariant).0
+    a.revision a.journal.sessions c.pop.new.self.sessions (sym c.in-Some.is ∙ c.pop.ensures.entry) c.pop.ensures.sessions c.index_mut.ensures.value
+    c.unwind.ensures.plain c.unwind.ensures.shape c.self.invariant).0
 
 pub returns-clause-datas : goal.returns-clause-datas
 returns-clause-datas g c =
     let a = c.self.inside in
     (unwind_law g.C.Container.shape g.C.Container.plain a.catalog a.containers.items c.in-Some.table c.index_mut.result.now c.unwind.new.self c.in-Some.inverse
-    a.revision a.journal.changes a.journal.starts 0 0
-    a.journal.sessions c.pop.new.self.sessions (sym c.in-Some.is ∙ c.pop.ensures.entry) c.pop.ensures.sessions c.index_mut.ensures.value c.unwind.ensures.plain
-    c.unwind.ensures.shape c.self.invariant).1
+    a.revision a.journal.sessions c.pop.new.self.sessions (sym c.in-Some.is ∙ c.pop.ensures.entry) c.pop.ensures.sessions c.index_mut.ensures.value
+    c.unwind.ensures.plain c.unwind.ensures.shape c.self.invariant).1
     ∙ ap (λ (h : LinkedData). back_by (newest_of h.journal) h.datas) c.self.view_is

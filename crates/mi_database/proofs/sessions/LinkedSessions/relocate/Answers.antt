@@ -1,5 +1,5 @@
 -- What the container answers and leaves, the database does.
-use Rattle.std.proofs.Common.{◌∙◌, ap}
+use Rattle.std.proofs.Common.{◌∙◌, ap, map, set}
 use Rattle.std.specs.Prelude.{Ok, Err}
 use Rattle.mi_model.specs.Verdict.{relocate_outcome}
 use Rattle.mi_model.specs.Run.Command.{Relocate as TheCommand}
@@ -41,4 +41,5 @@ returns-in-Ok-clause-footprint g c = spot_plain (at g (goal.at.returns-in-Ok-cla
 
 pub returns-in-Err-clause-footprint : goal.returns-in-Err-clause-footprint
 returns-in-Err-clause-footprint g c = spot_unkept (at g (goal.at.returns-in-Err-clause-footprint g c).After-relocate)
-    (TheCommand c.args.table c.args.index c.args.id c.args.before) c.in-Err.refused (none_more (kept_rows c.args.self.now))
+    (TheCommand c.args.table c.args.index c.args.id c.args.before) c.in-Err.refused
+    (map g.C.Container.held (set c.self.inside.containers.items c.args.table c.relocate.new.self)) (none_more (kept_rows c.args.self.now))

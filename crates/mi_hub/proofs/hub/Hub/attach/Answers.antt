@@ -1,3 +1,4 @@
+-- A connection with no bytes stands behind the others, and none had its number.
 use Rattle.std.proofs.Common.{refl, sym, ap, is_some, None}
 use Rattle.mi_hub.proofs.RunLemmas.{neither, not_none, found_there}
 use Rattle.mi_hub.proofs.HolderLemmas.{pushed_holder}

@@ -1,3 +1,4 @@
+-- The last line is answered, and then the connection and what it held are gone.
 use Rattle.mi_hub.proofs.RunLemmas.{close_failed}
 use Rattle.mi_hub.specs.Watching.{Writes}
 use Rattle.mi_hub.proofs.HolderLemmas.{lines_holder}

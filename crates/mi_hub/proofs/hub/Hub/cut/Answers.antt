@@ -1,3 +1,4 @@
+-- Nothing is asked: the connection and what it held are gone.
 use Rattle.std.proofs.Common.{refl, ap, ◌∙◌, is_some, None}
 use Rattle.mi_commands.specs.Holder.{released}
 use Rattle.mi_hub.proofs.RunLemmas.{neither, not_none}

@@ -1,3 +1,4 @@
+-- The lines that end in the piece are answered, and the connection keeps the rest.
 use Rattle.mi_hub.proofs.RunLemmas.{piece_done, piece_failed}
 use Rattle.mi_hub.specs.Watching.{Writes}
 use Rattle.mi_hub.proofs.HolderLemmas.{lines_holder, fed_holder, fed_leaves}

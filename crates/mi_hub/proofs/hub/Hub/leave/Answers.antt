@@ -1,3 +1,4 @@
+-- The connections without this one, and the sessions that it held undone.
 use Rattle.mi_hub.proofs.HolderLemmas.{left_holder}
 use Rattle.mi_hub.proofs.hub.Hub.leave.Goals as goal
 

@@ -1,3 +1,4 @@
+-- The place that is found is that of the first connection of the number.
 use Rattle.std.proofs.Common.{◌≡◌, None, MatchOption, subst, ap, ◌∙◌}
 use Rattle.mi_hub.specs.Connections.{rest_at}
 use Rattle.mi_hub.specs.Places.{StandsAt}

@@ -1,3 +1,4 @@
+-- The node before a place is what the next one's link says, or the list's last.
 use Rattle.std.proofs.Common.{ap, ◌∙◌}
 use Rattle.mi_node.specs.declared.link.Link.{Link}
 use Rattle.mi_list.proofs.ChangeLemmas.{back_some}

@@ -1,3 +1,4 @@
+-- The node comes between the one before the place and the one behind it.
 use Rattle.std.proofs.Common.{◌<◌, ◌∷◌, ◌++◌, Option, Some, sym, ap, ◌∙◌, subst}
 use Rattle.mi_node.specs.Pool.{Pooled, IsHeldIf, Keeps, with_link}
 use Rattle.mi_node.specs.Refs.{Ref}

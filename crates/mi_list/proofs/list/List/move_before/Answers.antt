@@ -1,3 +1,4 @@
+-- Taken out and put in before another node; before itself nothing changes.
 use Rattle.std.proofs.Common.{◌≡◌, List as Seq, ◌∷◌, ◌++◌, refl, sym, ◌∙◌, subst, true≢false, inl, inr}
 use Rattle.mi_node.specs.Pool.{Keeps}
 use Rattle.mi_node.specs.Refs.{Ref, IsOut}

@@ -1,3 +1,4 @@
+-- The link of a node in the list says what stands before it.
 use Rattle.std.proofs.Common.{ap, ◌∙◌}
 use Rattle.mi_node.specs.declared.link.Link.{Link}
 use Rattle.mi_list.proofs.ChangeLemmas.{knows}

@@ -1,3 +1,4 @@
+-- To come before nothing is to come last.
 use Rattle.std.proofs.Common.{[], ◌∷◌, refl, sym, subst}
 use Rattle.mi_node.specs.Pool.{Keeps}
 use Rattle.mi_node.specs.Refs.{IsOut}

@@ -1,3 +1,4 @@
+-- The neighbours that the link names stand side by side now, so the node comes between them.
 use Rattle.std.proofs.Common.{◌≡◌, ◌++◌, Option, Some, None, sym, ap, ◌∙◌, subst}
 use Rattle.mi_node.specs.Pool.{IsHeldIf, Keeps}
 use Rattle.mi_node.specs.Refs.{Ref, first_of, last_of}

@@ -1,3 +1,4 @@
+-- The two neighbours are joined, and the node's own link isn't set.
 use Rattle.std.proofs.Common.{◌≡◌, ◌++◌, Option, None, sym, ap, ◌∙◌, subst}
 use Rattle.mi_node.specs.Pool.{IsHeldIf, Keeps}
 use Rattle.mi_node.specs.Refs.{Ref, first_of, last_of}

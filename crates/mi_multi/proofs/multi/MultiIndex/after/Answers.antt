@@ -1,3 +1,4 @@
+-- The node of a live row has a next one in the index, which is of the next id.
 use Rattle.std.proofs.Common.{◌∙◌}
 use Rattle.mi_multi.proofs.CallLemmas.{listed_reaches, absent, between, after_held, after_is}
 use Rattle.mi_multi.proofs.multi.MultiIndex.after.Goals as goal

@@ -1,3 +1,4 @@
+-- The node of a live row has one before it in the index, which is of the id before.
 use Rattle.std.proofs.Common.{◌∙◌}
 use Rattle.mi_multi.proofs.CallLemmas.{listed_reaches, absent, between, before_held, before_is}
 use Rattle.mi_multi.proofs.multi.MultiIndex.before.Goals as goal

@@ -1,3 +1,4 @@
+-- Each id of the key was counted once, and they are fewer than 2^64.
 use Rattle.std.proofs.Common.{sym, ◌∙◌, arith}
 use Rattle.std.proofs.lemmas.Option.{slice_get_within}
 use Rattle.mi_model.specs.View.{of_key}

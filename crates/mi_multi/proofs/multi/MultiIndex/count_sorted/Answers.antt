@@ -1,3 +1,4 @@
+-- Between the two ranks of a key stand exactly the ids that have it.
 use Rattle.std.proofs.Common.{◌-◌, ap₂, sym, ◌∙◌, arith}
 use Rattle.mi_catalog.specs.Shape.{index_at}
 use Rattle.mi_model.proofs.QueryLaws.{lower-le-upper, count_ranks}

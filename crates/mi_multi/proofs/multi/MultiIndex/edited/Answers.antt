@@ -1,3 +1,4 @@
+-- The edits are made of the row's record, if it is there.
 use Rattle.std.proofs.Common.{ap, sym, ◌∙◌}
 use Rattle.std.specs.Option.{option_copied, is_some}
 use Rattle.mi_container.specs.Data.{as_table}

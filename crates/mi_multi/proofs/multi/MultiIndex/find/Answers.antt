@@ -1,3 +1,4 @@
+-- The first node of the key in its structure is of the first id of the key.
 use Rattle.std.proofs.Common.{◌∙◌}
 use Rattle.mi_value.specs.declared.bound.Probe.TheVariants.{Key}
 use Rattle.mi_multi.proofs.KeyCallLemmas.{keyed_reaches, in_some, sought_held, find_is}

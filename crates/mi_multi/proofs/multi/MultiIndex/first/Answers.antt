@@ -1,3 +1,4 @@
+-- The first node of the structure is of the first id that the index shows.
 use Rattle.std.proofs.Common.{◌∙◌}
 use Rattle.mi_multi.proofs.CallLemmas.{listed_reaches, in_list, first_held, first_is}
 use Rattle.mi_multi.proofs.multi.MultiIndex.first.Goals as goal

@@ -1,3 +1,4 @@
+-- The record of the live node of an id is the row's.
 use Rattle.std.proofs.Common.{◌≡◌, true, sym, ◌∙◌, subst}
 use Rattle.std.specs.declared.option.Option.TheVariants.{None, Some}
 use Rattle.mi_model.specs.Table.{get as get_row}

@@ -1,3 +1,4 @@
+-- An id has a live node exactly where it is of a row.
 use Rattle.std.proofs.Common.{◌≡◌, ap, ◌∙◌, subst}
 use Rattle.std.specs.Option.{is_some}
 use Rattle.mi_model.specs.Table.{has as has_row}

@@ -1,3 +1,4 @@
+-- The first node of a record's key in a unique index is of the row that has it.
 use Rattle.std.proofs.Common.{◌∙◌}
 use Rattle.mi_value.specs.declared.bound.Probe.TheVariants.{Of}
 use Rattle.mi_multi.proofs.KeyCallLemmas.{in_some, sought_held}

@@ -1,3 +1,4 @@
+-- The first refusal that applies is answered; else the record comes in.
 use Rattle.std.proofs.Common.{ap, sym, ◌∙◌}
 use Rattle.mi_container.specs.Data.{as_table}
 use Rattle.mi_container.specs.Run.Change.{Insert}

@@ -1,3 +1,4 @@
+-- The new node comes into every index with its stamp, and the data are those with the row.
 use Rattle.std.proofs.Common.{◌≡◌, ◌+◌, ◌^◌, ◌≤◌, IfSome, true, refl, ap, sym, ◌∙◌, subst, arith}
 use Rattle.std.specs.FinMap.{insert, len}
 use Rattle.std.specs.declared.option.Option.TheVariants.{None}

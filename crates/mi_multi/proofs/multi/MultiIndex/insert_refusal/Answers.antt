@@ -1,3 +1,4 @@
+-- The refusals are asked in their order, and the numbers that are compared are those of the data.
 use Rattle.std.proofs.Common.{◌≡◌, ap, sym, ◌∙◌}
 use Rattle.std.specs.Option.{option_map}
 use Rattle.mi_model.specs.Table.{size}

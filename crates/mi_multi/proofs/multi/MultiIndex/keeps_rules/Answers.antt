@@ -1,3 +1,4 @@
+-- It is a part of what holds in every state.
 use Rattle.std.proofs.Common.{subst}
 use Rattle.mi_container.specs.Data.{IsData}
 use Rattle.mi_multi.specs.Seen.{Seen}

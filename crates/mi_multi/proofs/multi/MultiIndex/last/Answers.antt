@@ -1,3 +1,4 @@
+-- The last node of the structure is of the last id that the index shows.
 use Rattle.std.proofs.Common.{◌∙◌}
 use Rattle.mi_multi.proofs.CallLemmas.{listed_reaches, in_list, last_held, last_is}
 use Rattle.mi_multi.proofs.multi.MultiIndex.last.Goals as goal

@@ -1,3 +1,4 @@
+-- The live node of an id is that of its row.
 use Rattle.std.proofs.Common.{◌≡◌, false, sym, ◌∙◌, subst}
 use Rattle.std.specs.declared.option.Option.TheVariants.{None, Some}
 use Rattle.mi_model.specs.Table.{has as has_row}

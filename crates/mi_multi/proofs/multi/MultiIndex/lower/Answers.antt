@@ -1,3 +1,4 @@
+-- The first node that isn't before the key is of the first id whose key isn't less.
 use Rattle.std.proofs.Common.{false, ◌∙◌}
 use Rattle.mi_multi.proofs.CallLemmas.{sorted_reaches, in_order, one_look}
 use Rattle.mi_multi.proofs.KeyCallLemmas.{past_held, past_is}

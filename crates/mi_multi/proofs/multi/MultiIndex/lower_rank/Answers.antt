@@ -1,3 +1,4 @@
+-- The rank of the first node that isn't before the key is the number of smaller keys.
 use Rattle.std.proofs.Common.{false}
 use Rattle.mi_multi.proofs.CallLemmas.{sorted_reaches, in_order, two_looks}
 use Rattle.mi_multi.proofs.KeyCallLemmas.{past_ranked, past_rank, past_count, both_looks}

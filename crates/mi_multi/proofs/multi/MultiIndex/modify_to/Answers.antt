@@ -1,3 +1,4 @@
+-- Without a conflict the record is set; with one the row stays or is erased.
 use Rattle.std.proofs.Common.{◌≢◌, ap, sym, ◌∙◌}
 use Rattle.mi_value.specs.declared.limits.TheConstants.{LAST_COUNT}
 use Rattle.mi_container.proofs.InvariantLemmas.{there_has}

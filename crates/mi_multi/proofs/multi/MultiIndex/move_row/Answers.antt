@@ -1,3 +1,4 @@
+-- What stands behind the row before the move is what takes it back.
 use Rattle.std.proofs.Common.{subst}
 use Rattle.std.specs.Option.{option_map}
 use Rattle.mi_container.specs.Backs.{row_seen}

@@ -1,7 +1,9 @@
+-- Empty indexes over an empty pool stand for the data of an empty table.
 use Rattle.std.proofs.Common.{sym, ◌∙◌, subst}
 use Rattle.mi_index.specs.Opened.{IsOpened}
 use Rattle.mi_multi.specs.Multi.{IsMulti, plain_of}
 use Rattle.mi_multi.proofs.OpeningLemmas.{opened_seen, opened_multi}
+use Rattle.mi_multi.proofs.HeldLemmas.{opened_held}
 use Rattle.mi_multi.proofs.multi.MultiIndex.new.Goals as goal
 
 pub invariant_of-result : goal.invariant_of-result
@@ -23,3 +25,9 @@ returns-clause-plain c =
     let arrivals = c.first_arrival-arrivals.ensures.value in
     (λ i. plain_of s c.new-2.result.entries c.in_ok-nodes.nodes.pool c.in_ok-nodes.nodes.structures.items (next i) (arrivals i))
     ∙ opened_seen s c.new-2.result.entries c.in_ok-nodes.nodes.pool c.in_ok-nodes.nodes.structures.items c.keeps_rules.ensures c.new-2.ensures opened
+
+pub returns-clause-held : goal.returns-clause-held
+returns-clause-held c =
+    let s = c.args.schema in
+    let opened : IsOpened s c.in_ok-nodes.nodes.pool c.in_ok-nodes.nodes.structures.items = rw c.in_ok-nodes.was at c.new.ensures in
+    opened_held s c.in_ok-nodes.nodes.pool c.in_ok-nodes.nodes.structures.items opened

@@ -1,3 +1,4 @@
+-- The next node of the key's group is of the next id of the key.
 use Rattle.std.proofs.Common.{◌∙◌}
 use Rattle.mi_multi.proofs.CallLemmas.{absent}
 use Rattle.mi_multi.proofs.KeyCallLemmas.{hashed_reaches, in_chains, next_of_held, next_of_is}

@@ -1,3 +1,4 @@
+-- The node of a rank is of the id of that rank.
 use Rattle.std.proofs.Common.{◌∙◌, arith}
 use Rattle.mi_multi.proofs.CallLemmas.{sorted_reaches, in_order, nth_past, nth_held, nth_is}
 use Rattle.mi_multi.proofs.multi.MultiIndex.nth.Goals as goal

@@ -1,3 +1,4 @@
+-- Where the key changes, the place is the stamp and in a hashed index the neighbours.
 use Rattle.std.proofs.Common.{ap, sym, ◌∙◌}
 use Rattle.std.specs.Option.{option_map}
 use Rattle.std.specs.Ordering.{is_eq}

@@ -1,3 +1,4 @@
+-- The places so far are those of the indexes that were gone over.
 use Rattle.std.proofs.Common.{◌≡◌, ◌<◌, ◌∙◌, length, arith}
 use Rattle.mi_container.specs.Data.{content_of}
 use Rattle.mi_container.specs.Backs.{place_seen}

@@ -1,3 +1,4 @@
+-- The node gets its new record and its new places, and the data are those of the put.
 use Rattle.std.proofs.Common.{sym, ◌∙◌}
 use Rattle.mi_multi.proofs.PutCallLemmas.{has_node, live_row, node_held, put_ready, now_multi, now_made}
 use Rattle.mi_multi.proofs.multi.MultiIndex.put.Goals as goal

@@ -1,3 +1,4 @@
+-- The number of nodes before the row's is the number of ids before it.
 use Rattle.mi_multi.proofs.CallLemmas.{sorted_reaches, absent, ranked, rank_is, two_looks}
 use Rattle.mi_multi.proofs.multi.MultiIndex.rank_of.Goals as goal
 

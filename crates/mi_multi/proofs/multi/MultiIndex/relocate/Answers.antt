@@ -1,3 +1,4 @@
+-- The refusals are asked in their order, and else the row is moved.
 use Rattle.std.proofs.Common.{refl, ap, sym, ◌∙◌, subst}
 use Rattle.std.specs.declared.option.Option.TheVariants.{None, Some}
 use Rattle.mi_container.specs.Makes.{Makes}

@@ -1,3 +1,4 @@
+-- The refusals are asked in their order, and else the record is set.
 use Rattle.std.proofs.Common.{sym, ◌∙◌}
 use Rattle.mi_container.specs.Data.{as_table}
 use Rattle.mi_container.proofs.InvariantLemmas.{there_has}

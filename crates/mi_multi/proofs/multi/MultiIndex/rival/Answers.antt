@@ -1,3 +1,4 @@
+-- The row that has the key rivals, unless it is the one that is excepted.
 use Rattle.std.proofs.Common.{◌≡◌, ap, sym, ◌∙◌}
 use Rattle.std.specs.declared.option.Option.TheVariants.{None, Some}
 use Rattle.mi_catalog.specs.Shape.{index_at}

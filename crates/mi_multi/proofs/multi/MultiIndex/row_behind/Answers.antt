@@ -1,3 +1,4 @@
+-- The node behind the row's in the list is of the row behind it.
 use Rattle.std.proofs.Common.{refl, ◌∙◌}
 use Rattle.mi_multi.proofs.CallLemmas.{listed_reaches, between, after_held}
 use Rattle.mi_multi.proofs.RelocateCallLemmas.{shows, live_named, row_behind_is}

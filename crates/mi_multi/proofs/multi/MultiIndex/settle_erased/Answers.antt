@@ -1,3 +1,4 @@
+-- The kept node is freed, and no row, place or stamp changes.
 use Rattle.std.proofs.Common.{◌≡◌, false, ap, sym, ◌∙◌, subst}
 use Rattle.std.specs.declared.option.Option.TheVariants.{None}
 use Rattle.mi_container.specs.Data.{Data}

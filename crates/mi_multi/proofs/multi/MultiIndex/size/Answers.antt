@@ -1,3 +1,4 @@
+-- The live ids are as many as the rows.
 use Rattle.mi_multi.proofs.CallLemmas.{in_order, count_is, id_sorted}
 use Rattle.mi_multi.proofs.multi.MultiIndex.size.Goals as goal
 

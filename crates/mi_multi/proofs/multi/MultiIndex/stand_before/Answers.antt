@@ -1,3 +1,4 @@
+-- The row's node stands before the named one, and the data are those of the move.
 use Rattle.std.proofs.Common.{◌≡◌, ℕ, true, sym, subst}
 use Rattle.std.specs.FinMap.{get}
 use Rattle.std.specs.Option.{option_map}

@@ -1,3 +1,4 @@
+-- The kept node comes back to where it remembers, and the data are those before.
 use Rattle.std.proofs.Common.{false, ap, sym, ◌∙◌, subst}
 use Rattle.std.specs.declared.option.Option.TheVariants.{None}
 use Rattle.mi_container.specs.Backs.{row_seen}

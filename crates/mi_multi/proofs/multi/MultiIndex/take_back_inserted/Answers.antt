@@ -1,3 +1,4 @@
+-- The node leaves every index and is freed, and the data are those before.
 use Rattle.std.proofs.Common.{◌≡◌, ◌-◌, ap, sym, ◌∙◌, subst}
 use Rattle.mi_container.specs.Data.{Data, IsData}
 use Rattle.mi_container.specs.Inverse.{taken_back}

@@ -1,3 +1,4 @@
+-- The node gets its old record and its old places, and the data are those before.
 use Rattle.std.proofs.Common.{◌≡◌, ◌-◌, true, Some, map, sym, ◌∙◌, subst}
 use Rattle.mi_order.specs.declared.stored.Stored.{Stored}
 use Rattle.mi_index.specs.Pass.{AllCan}

@@ -1,3 +1,4 @@
+-- The first node behind the key is of the first id whose key is greater.
 use Rattle.std.proofs.Common.{true, ◌∙◌}
 use Rattle.mi_multi.proofs.CallLemmas.{sorted_reaches, in_order, one_look}
 use Rattle.mi_multi.proofs.KeyCallLemmas.{past_held, past_is}

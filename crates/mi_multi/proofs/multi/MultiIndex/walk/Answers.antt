@@ -1,3 +1,4 @@
+-- The rows of a walk from the row's node are those of the ids from there on.
 use Rattle.std.proofs.Common.{◌∷◌, ◌++◌, map, take, ap, sym, ◌∙◌, subst}
 use Rattle.std.proofs.lemmas.Result.{IfOk-weaker}
 use Rattle.mi_node.specs.Pool.{Pooled}

@@ -1,3 +1,4 @@
+-- One read more is counted for the link that is read.
 use Rattle.std.proofs.Common.{ap, arith}
 use Rattle.mi_node.specs.Counted.{CountedPool}
 use Rattle.mi_node.proofs.counted.Counted.link.Goals as goal

@@ -1,3 +1,4 @@
+-- The name is the bits without the mark.
 use Rattle.std.proofs.Common.{ap}
 use Rattle.mi_node.specs.Refs.{Ref}
 use Rattle.mi_node.proofs.node_ref.NodeRef.name.Goals as goal

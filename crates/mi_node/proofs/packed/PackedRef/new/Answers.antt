@@ -1,3 +1,4 @@
+-- The bits stand for the reference, or for none.
 use Rattle.mi_node.proofs.packed.PackedRef.new.Goals as goal
 
 pub returns : goal.returns

@@ -1,3 +1,4 @@
+-- The cell of the node's place is its link.
 use Rattle.std.proofs.Common.{◌∙◌}
 use Rattle.mi_node.proofs.MapLemmas.{held_wide, held_long, held_link}
 use Rattle.mi_node.proofs.places.Places.link.Goals as goal

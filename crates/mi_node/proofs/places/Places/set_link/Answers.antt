@@ -1,3 +1,4 @@
+-- The cell of the node's place is set, and the map has the link at that node alone.
 use Rattle.std.proofs.Common.{◌==◌, ap, sym, ◌∙◌}
 use Rattle.mi_node.specs.Columns.{links_at}
 use Rattle.mi_node.specs.Pool.{put_link}
@@ -15,7 +16,7 @@ returns g c =
     let p = c.args.self.now in
     let ds = c.set_link_at.new.columns.items in
     record {
-      nodes = seen-link p.slots p.columns.items ds p.homes c.args.node c.args.slot c.args.link (there c.requires.sound c.requires.held)
+      nodes = seen-link p.slots p.columns.items ds p.homes p.gone.marks c.args.node c.args.slot c.args.link (there c.requires.sound c.requires.held)
           (λ q e. c.set_link_at.ensures.others q (ap (λ k. q == k) c.name.ensures ∙ e))
           (ap (links_at ds) (sym c.name.ensures) ∙ c.set_link_at.ensures.link
           ∙ ap (λ k. put_link (links_at p.columns.items k) c.args.slot c.args.link) c.name.ensures);

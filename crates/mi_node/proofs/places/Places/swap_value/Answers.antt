@@ -1,7 +1,8 @@
+-- The place has another value and the same reference.
 use Rattle.std.proofs.Common.{ap, sym, subst, slice_set, ◌∙◌}
 use Rattle.mi_node.specs.Seen.{seen, IsSound}
 use Rattle.mi_node.specs.declared.home.Home.TheVariants.{Held}
-use Rattle.mi_node.proofs.MapLemmas.{there, held_less, held_some, held_value, seen-value, sound-set}
+use Rattle.mi_node.proofs.MapLemmas.{there, held_less, held_some, held_value, seen-value, sound-held}
 use Rattle.mi_node.proofs.places.Places.swap_value.Goals as goal
 
 pub replace-requires : goal.replace-requires
@@ -15,8 +16,10 @@ returns g c =
     let p = c.args.self.now in
     record {
       value = held_value c.requires.sound c.requires.held c.name.ensures c.replace.result c.replace.ensures.item ∙ c.into_value.ensures;
-      nodes = ap (seen p.slots p.columns.items) (c.replace.ensures.items ∙ ap (λ k. slice_set p.homes k (Held c.args.node c.args.value)) c.name.ensures)
-          ∙ seen-value p.slots p.columns.items p.homes c.args.node c.args.value (there c.requires.sound c.requires.held);
-      sound = subst (λ hs. IsSound p.slots p.columns.items hs) (sym c.replace.ensures.items)
-          (sound-set p.slots p.columns.items p.homes c.name.result (Held c.args.node c.args.value) c.requires.sound (sym c.name.ensures));
+      nodes = ap (λ hs. seen p.slots p.columns.items hs p.gone.marks) (c.replace.ensures.items
+          ∙ ap (λ k. slice_set p.homes k (Held c.args.node c.args.value)) c.name.ensures)
+          ∙ seen-value p.slots p.columns.items p.homes p.gone.marks c.args.node c.args.value (there c.requires.sound c.requires.held);
+      sound = subst (λ hs. IsSound p.slots p.columns.items hs p.gone.marks) (sym c.replace.ensures.items)
+          (sound-held p.slots p.columns.items p.homes c.name.result c.args.node c.args.value c.requires.sound (sym c.name.ensures)
+          (held_less c.requires.sound c.requires.held c.name.ensures));
     }

@@ -1,7 +1,9 @@
-use Rattle.std.proofs.Common.{ap, sym, subst, slice_set, ◌∙◌}
+-- The place is free and keeps the reference, which is then the last that was given back there.
+use Rattle.std.proofs.Common.{◌≡◌, ap, sym, subst, slice_set, ◌∙◌}
+use Rattle.std.specs.FinMap.{insert}
 use Rattle.mi_node.specs.Seen.{seen, IsSound}
 use Rattle.mi_node.specs.declared.home.Home.TheVariants.{Free}
-use Rattle.mi_node.proofs.MapLemmas.{there, held_less, held_some, held_value, seen-vacated, sound-set}
+use Rattle.mi_node.proofs.MapLemmas.{there, held_less, held_some, held_value, seen-vacated, sound-free}
 use Rattle.mi_node.proofs.places.Places.vacate.Goals as goal
 
 pub replace-home-requires : goal.replace-home-requires
@@ -12,11 +14,14 @@ into_value-requires g c = held_some c.requires.sound c.requires.held c.name.ensu
 
 pub returns : goal.returns
 returns g c =
-    let p = c.args.self.now in
+    let p = c.args.self.now in let r = c.args.node in
+    let homes = c.replace-home.ensures.items ∙ ap (λ k. slice_set p.homes k (Free r p.free)) c.name.ensures in
+    let marks : c.note.new.self.marks ≡ insert p.gone.marks r.name r.mark =
+    c.note.ensures ∙ (λ i. insert p.gone.marks (c.bits.ensures.name i) (c.bits.ensures.mark i)) in
     record {
       value = held_value c.requires.sound c.requires.held c.name.ensures c.replace-home.result c.replace-home.ensures.item ∙ c.into_value.ensures;
-      nodes = ap (seen p.slots p.columns.items) (c.replace-home.ensures.items ∙ ap (λ k. slice_set p.homes k (Free c.args.node p.free)) c.name.ensures)
-          ∙ seen-vacated p.slots p.columns.items p.homes c.args.node p.free (there c.requires.sound c.requires.held).less;
-      sound = subst (λ hs. IsSound p.slots p.columns.items hs) (sym c.replace-home.ensures.items)
-          (sound-set p.slots p.columns.items p.homes c.name.result (Free c.args.node p.free) c.requires.sound (sym c.name.ensures));
+      nodes = (λ i. seen p.slots p.columns.items (homes i) (marks i))
+          ∙ seen-vacated p.slots p.columns.items p.homes p.gone.marks r p.free (there c.requires.sound c.requires.held);
+      sound = subst (λ (z : _ × _). IsSound p.slots p.columns.items z.0 z.1) (λ i. (sym homes i, sym marks i))
+          (sound-free p.slots p.columns.items p.homes p.gone.marks r p.free c.requires.sound (there c.requires.sound c.requires.held).less);
     }

@@ -1,3 +1,4 @@
+-- What stands at the node's place is its value.
 use Rattle.std.proofs.Common.{◌∙◌}
 use Rattle.mi_node.proofs.MapLemmas.{held_less, held_some, held_value}
 use Rattle.mi_node.proofs.places.Places.value.Goals as goal

@@ -1,3 +1,4 @@
+-- The places say it of their map.
 use Rattle.std.proofs.Common.{◌∙◌, ap, sym}
 use Rattle.mi_node.specs.Pool.{Pooled, value_of, with_value}
 use Rattle.mi_node.proofs.pool.Pool.swap_value.Goals as goal

@@ -1,3 +1,4 @@
+-- The id behind it in what the index shows is the next one, in either direction.
 use Rattle.std.proofs.Common.{sym, subst, ◌∙◌}
 use Rattle.std.specs.Prelude.{IsTrue, IfSome}
 use Rattle.mi_model.specs.Table.{has}

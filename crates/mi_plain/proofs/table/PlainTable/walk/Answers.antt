@@ -1,3 +1,4 @@
+-- The rows so far are those that the index shows from the first id on.
 use Rattle.std.proofs.Common.{◌≡◌, ◌+◌, [], ◌∷◌, ◌++◌, map, inl, inr, ap, sym, ◌∙◌, arith, length, take, drop, length-append}
 use Rattle.std.specs.Prelude.{slice_get}
 use Rattle.std.proofs.lemmas.List.{map-append}

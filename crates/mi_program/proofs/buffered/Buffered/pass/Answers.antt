@@ -1,3 +1,4 @@
+-- Where nothing waits, what the stream takes comes right behind what it has.
 use Rattle.mi_program.proofs.BufferLemmas.{stream_takes, none_waits}
 use Rattle.mi_program.proofs.buffered.Buffered.pass.Goals as goal
 

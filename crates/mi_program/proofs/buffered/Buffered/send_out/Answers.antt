@@ -1,3 +1,4 @@
+-- What went out and what waits still are together the bytes that were written.
 use Rattle.std.proofs.Common.{◌≡◌, ◌-◌, ◌∙◌, ap, drop, length, length-drop, arith}
 use Rattle.mi_program.proofs.BufferLemmas.{front_goes}
 use Rattle.mi_program.proofs.buffered.Buffered.send_out.Goals as goal

@@ -1,3 +1,4 @@
+-- A short line is the request that it writes; any other is read whole.
 use Rattle.std.proofs.Common.{Ok, sym, ap, true≢false}
 use Rattle.mi_request.specs.declared.request.Request.TheVariants.{Undo}
 use Rattle.mi_request.proofs.ShortLemmas.{short_means, one_request, undo_is_short}

@@ -1,3 +1,4 @@
+-- The request of the value that the line is, or the refusal.
 use Rattle.mi_request.proofs.ParsingLemmas.{answer-value}
 use Rattle.mi_request.proofs.line_reader.LineReader.read.Goals as goal
 

@@ -1,3 +1,4 @@
+-- The last member of the name has the value; none has it where no place is found.
 use Rattle.std.proofs.Common.{Some, option_map, sym, ap, ◌∙◌}
 use Rattle.serde_json.specs.Data.{no_members}
 use Rattle.serde_json.specs.Find.{get_member}

@@ -1,3 +1,4 @@
+-- That each name is among these is asked of the names alone.
 use Rattle.std.proofs.Common.{ℕ, List, Bor, ◌∙◌, ap, map}
 use Rattle.mi_request.specs.Json.{has_only}
 use Rattle.mi_request.specs.Meant.{members_seen}

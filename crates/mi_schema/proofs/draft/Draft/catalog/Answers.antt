@@ -1,3 +1,4 @@
+-- A draft that no check refuses gives schemas that keep every rule, and a revision that is no negative number.
 use Rattle.std.proofs.Common.{◌≡◌, ap, ◌∙◌, rules}
 use Rattle.std.specs.Prelude.{unsigned_abs}
 use Rattle.mi_schema.specs.Draft.{CatalogDraft}

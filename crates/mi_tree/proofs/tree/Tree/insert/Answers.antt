@@ -1,3 +1,4 @@
+-- The node, with its tag set, may be put in, and what is put together is the sorted list with it.
 use Rattle.std.proofs.Common.{◌<◌, List, ◌∷◌, refl, sym, subst}
 use Rattle.mi_node.specs.Refs.{Ref}
 use Rattle.mi_node.specs.declared.link.Tag.{Tag}

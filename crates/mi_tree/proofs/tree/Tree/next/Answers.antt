@@ -1,3 +1,4 @@
+-- The node after one of rank r is that of rank r + 1.
 use Rattle.std.proofs.Common.{◌≡◌, ◌+◌, ◌<◌, ◌^◌, suc, ◌∷◌, ◌++◌, length, ap, ◌∙◌, arith, length-append}
 use Rattle.mi_tree.specs.BinaryTree.{nth_of}
 use Rattle.mi_tree.proofs.BinaryTreeLemmas.{nth-after, nth-first}

@@ -1,3 +1,4 @@
+-- The node of a rank in the tree is that of the list, and the height bounds what is read.
 use Rattle.std.proofs.Common.{ap, ◌∙◌, arith}
 use Rattle.mi_tree.specs.BinaryTree.{nth_of}
 use Rattle.mi_tree.proofs.StandingLemmas.{bound}

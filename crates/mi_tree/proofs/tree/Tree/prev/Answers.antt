@@ -1,3 +1,4 @@
+-- The node before one of rank r is that of rank r - 1, and before the first there is none.
 use Rattle.std.proofs.Common.{◌≡◌, ◌-◌, suc, ◌∷◌, length, sym, ◌∙◌, arith}
 use Rattle.mi_tree.proofs.BinaryTreeLemmas.{nth-last, last-none}
 use Rattle.mi_tree.proofs.StandingLemmas.{tree_moved}

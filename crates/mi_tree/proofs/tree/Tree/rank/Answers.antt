@@ -1,3 +1,4 @@
+-- The rank in the tree is the number of nodes in front in the list, and the height bounds what is read.
 use Rattle.std.proofs.Common.{arith}
 use Rattle.mi_tree.proofs.StandingLemmas.{bound, bound_node, can_take, rising_in, tagged_in, tree_moved, node_held}
 use Rattle.mi_tree.proofs.tree.Tree.rank.Goals as goal

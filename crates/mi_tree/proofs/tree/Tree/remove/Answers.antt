@@ -1,3 +1,4 @@
+-- What is left when the node is taken out is the list without it, and its own link is as it was.
 use Rattle.std.proofs.Common.{List, ◌∷◌, ◌++◌, refl}
 use Rattle.mi_node.specs.Refs.{Ref}
 use Rattle.mi_tree.specs.BinaryTree.{BinaryTree}

@@ -1,3 +1,4 @@
+-- The first node that the probe is before.
 use Rattle.std.proofs.Common.{ap, ◌∙◌, arith}
 use Rattle.mi_tree.specs.Probed.{first_where}
 use Rattle.mi_tree.proofs.StandingLemmas.{bound, seeks_root}

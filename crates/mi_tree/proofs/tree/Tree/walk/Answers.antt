@@ -1,3 +1,4 @@
+-- The path to a rank has what is ahead of it, and a level of the tree for each node on it at most.
 use Rattle.std.proofs.Common.{take, drop, subst, arith}
 use Rattle.mi_tree.specs.BinaryTree.{height}
 use Rattle.mi_tree.specs.Walking.{IsWalk, beyond}

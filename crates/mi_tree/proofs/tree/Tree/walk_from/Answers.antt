@@ -1,3 +1,4 @@
+-- The path to a node has it and what is ahead of it.
 use Rattle.std.proofs.Common.{◌∷◌, subst, arith}
 use Rattle.mi_node.specs.Pool.{Pooled}
 use Rattle.mi_tree.specs.BinaryTree.{height}

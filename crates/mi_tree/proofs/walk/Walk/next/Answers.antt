@@ -1,3 +1,4 @@
+-- The next node is the last of the path, and its far side is ahead before what stands below it there.
 use Rattle.std.proofs.Common.{◌≡◌, ℕ, List, [], length, None, refl, sym, ap, ◌∙◌, arith}
 use Rattle.mi_node.specs.Refs.{Ref, first_of}
 use Rattle.mi_tree.specs.Walking.{IsWalk, Enters, ahead, far_of}

@@ -1,3 +1,4 @@
+-- From an empty path the way down to a node gives a walk that begins with it.
 use Rattle.std.proofs.Common.{[], ◌∷◌, sym, ap, ◌∙◌, subst}
 use Rattle.std.proofs.lemmas.List.{append-nil}
 use Rattle.mi_tree.specs.Walking.{Enters, beyond}

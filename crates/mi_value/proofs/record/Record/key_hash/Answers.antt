@@ -1,3 +1,4 @@
+-- Each part feeds the hash with its value, if it has one, as the list of values does.
 use Rattle.std.proofs.Common.{◌≡◌, ◌+◌, false, drop, get_or, slice_get, sym, ap, ◌∙◌, List}
 use Rattle.std.proofs.lemmas.List.{at_drop_more}
 use Rattle.mi_value.specs.declared.compare.KeyPart.{KeyPart}

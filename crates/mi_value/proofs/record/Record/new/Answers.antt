@@ -1,3 +1,4 @@
+-- The bytes hold the values, their texts are UTF-8, and no value is left.
 use Rattle.std.proofs.Common.{◌≡◌, [], map, drop, ap}
 use Rattle.std.proofs.Math.ListN.{drop_of_length-le}
 use Rattle.mi_value.specs.Lent.{lent}

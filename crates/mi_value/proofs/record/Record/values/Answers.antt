@@ -1,3 +1,4 @@
+-- A record has fewer values than bytes, so their number has 64 bits.
 use Rattle.std.proofs.Common.{ℕ, ◌<◌, ◌^◌, List, length, subst, arith}
 use Rattle.mi_value.proofs.BlockLemmas.{within}
 use Rattle.mi_value.proofs.record.Record.values.Goals as goal

@@ -1,3 +1,4 @@
+-- The first value of the bytes comes off, and what is left holds the others.
 use Rattle.std.proofs.Common.{sym, ◌∙◌}
 use Rattle.mi_value.specs.Lent.{lent}
 use Rattle.mi_value.proofs.BlockLemmas.{first, texts, shorter}

@@ -1,0 +1,207 @@
+// The tests of the Node client, on pipes and on loopback: MI_SERVER=FILE node clients/node/test.js. They need Node 18.
+"use strict";
+
+const assert = require("node:assert");
+const fs = require("node:fs");
+const os = require("node:os");
+const path = require("node:path");
+const { test: tested } = require("node:test");
+const { Database, Ended, Refused, Server, TooManyEqual } = require("./weltiyo.js");
+
+const PROGRAM = process.env.MI_SERVER || "mi_server";
+const LIMIT = 60_000; // milliseconds, of each test
+const EXAMPLES = path.join(__dirname, "..", "..", "examples");
+
+const test = (name, call) => tested(name, { timeout: LIMIT }, call);
+
+async function withServer(call, options) {
+  const server = await Server.start(PROGRAM, options);
+  try {
+    await call(server);
+  } finally {
+    await server.kill();
+  }
+}
+
+async function withDatabase(call, options) {
+  const db = await Database.start(PROGRAM, options);
+  try {
+    await call(db);
+  } finally {
+    assert.equal(await db.close(), 0);
+  }
+}
+
+function account(owner, balance = 1, vip = true) {
+  return { owner, balance, vip };
+}
+
+const refused = (word, more = {}) => (error) =>
+  error instanceof Refused && error.word === word && Object.entries(more).every(([name, it]) => error[name] === it);
+
+test("each command is a call", () =>
+  withDatabase(async (db) => {
+    assert.equal(await db.insert(account("ann", 50, false)), 0);
+    assert.equal(await db.insert(account("bob", 7), { before: { index: "line", id: 0 } }), 1);
+    assert.deepEqual(await db.get(1), { id: 1, ...account("bob", 7) });
+    await db.replace(1, { ...(await db.get(1)), balance: 8 });
+    await db.modify(0, { set: { vip: true }, add: { balance: -20 } });
+    assert.deepEqual(await db.find("by_owner", ["ann"]), { id: 0, ...account("ann", 30) });
+    assert.deepEqual((await db.list("line")).rows.map((it) => it.id), [1, 0]);
+    await db.relocate("line", 1);
+    await db.relocate("line", 1, { before: 0 });
+    const page = await db.range("by_balance", { lower: { gt: [7] }, upper: { le: [30] }, limit: 1 });
+    assert.deepEqual(page, { rows: [{ id: 1, ...account("bob", 8) }], more: true });
+    assert.deepEqual((await db.range("by_balance", { reverse: true })).rows.map((it) => it.id), [0, 1]);
+    assert.deepEqual([await db.count("by_vip", [true]), await db.rank("by_balance", 0), (await db.nth("by_balance", 0)).id], [2, 1, 1]);
+    assert.deepEqual([await db.lowerRank("by_balance", [8]), await db.upperRank("by_balance", [8]), await db.size()], [0, 1, 2]);
+    await db.reserve(10, 2);
+    assert.deepEqual([await db.start(), await db.start(), await db.eraseKey("by_vip", [true])], [1, 2, 2]);
+    assert.deepEqual([await db.squash(), await db.undo(), await db.size()], [1, 0, 2]);
+    assert.deepEqual([await db.start(), await db.push(), await db.undoAll()], [1, 1, 1]);
+    assert.deepEqual([await db.start(), await db.commit(1)], [1, 1]);
+    assert.deepEqual(await db.revision(), { revision: 1, depth: 0, held: 0 });
+    await db.erase(0);
+    assert.equal(await db.askLine('{"cmd":"get","id":0}'), '{"error":"id","ok":false}');
+  }));
+
+test("refusals have their word, and what stands in the way", () =>
+  withDatabase(async (db) => {
+    await db.insert(account("ann"));
+    await db.insert(account("bob"));
+    await assert.rejects(db.get(9), refused("id"));
+    await assert.rejects(db.insert(account("ann")), refused("unique", { id: 0, index: "by_owner" }));
+    await assert.rejects(db.modify(1, { set: { owner: "ann" } }), refused("unique", { lost: false }));
+    await assert.rejects(db.modify(1, { set: { owner: "ann" }, rollback: false }), refused("unique", { lost: true }));
+    assert.equal(await db.size(), 1);
+    await assert.rejects(db.insert({ owner: "x", balance: 1.5, vip: true }), refused("row"));
+    await assert.rejects(db.askLine("a\nb"), TypeError);
+    await assert.rejects(db.askLine(""), TypeError);
+  }));
+
+test("a session is squashed at its end, and undone where its block throws", () =>
+  withDatabase(async (db) => {
+    await db.session(async (number) => {
+      assert.equal(number, 1);
+      await db.insert(account("ann"));
+      await db.start();
+      await db.insert(account("bob"));
+    });
+    assert.deepEqual([await db.size(), (await db.revision()).depth], [2, 0]);
+    const thrown = new Error("out of the block");
+    await assert.rejects(
+      db.session(async () => {
+        await db.erase(0);
+        throw thrown;
+      }),
+      thrown
+    );
+    assert.equal(await db.size(), 2);
+    assert.equal(await db.session(async () => "an answer"), "an answer");
+  }));
+
+test("calls that aren't waited for are sent ahead, and answered in their order", () =>
+  withDatabase(
+    async (db) => {
+      const count = 2000;
+      const ids = await Promise.all(Array.from({ length: count }, (_, n) => db.insert(account(`owner ${n}`, n))));
+      assert.deepEqual(ids, Array.from({ length: count }, (_, n) => n));
+      const answers = await Promise.allSettled([db.get(0), db.get(count), db.size()]);
+      assert.deepEqual(answers.map((it) => it.status), ["fulfilled", "rejected", "fulfilled"]);
+      let most = 0;
+      for (let n = 0; n < 500; n++) {
+        await db.ready();
+        db.get(n).catch(assert.fail);
+        most = Math.max(most, db._channel.awaited.length + db._channel.waiting.length);
+      }
+      assert.ok(most <= 64, `${most} lines wait`);
+    },
+    { window: 64 }
+  ));
+
+test("long replies and long lines can't stand in each other's way", () =>
+  withDatabase(async (db) => {
+    const text = "é".repeat(500);
+    await Promise.all(Array.from({ length: 1000 }, (_, n) => db.insert(account(`${n} ${text}`, n))));
+    const pages = await Promise.all(Array.from({ length: 20 }, () => db.range("by_balance")));
+    assert.ok(pages.every((it) => it.rows.length === 1000 && it.rows[999].owner === `999 ${text}`));
+  }));
+
+test("whole numbers are exact", () =>
+  withDatabase(async (db) => {
+    const largest = 2n ** 63n - 1n;
+    await db.insert(account('12345678901234567890 "\\', largest));
+    await db.insert(account("small", -(2n ** 63n)));
+    await db.insert(account("safe", Number.MAX_SAFE_INTEGER));
+    assert.deepEqual(await db.get(0), { id: 0, ...account('12345678901234567890 "\\', largest) });
+    assert.equal((await db.get(1)).balance, -(2n ** 63n));
+    assert.equal((await db.get(2)).balance, Number.MAX_SAFE_INTEGER);
+    assert.equal((await db.find("by_balance", [largest])).id, 0);
+  }));
+
+test("walks go on page by page", () =>
+  withDatabase(async (db) => {
+    for (let n = 0; n < 25; n++) await db.insert(account(`owner ${n}`, n % 12));
+    const walked = async (walk) => {
+      const ids = [];
+      for await (const row of walk) ids.push(row.id);
+      return ids;
+    };
+    const whole = async (index, reverse) => (await db.range(index, { reverse })).rows.map((it) => it.id);
+    assert.deepEqual(await walked(db.walkRange("by_balance", ["balance"], { page: 4 })), await whole("by_balance", false));
+    assert.deepEqual(await walked(db.walkRange("by_balance", ["balance"], { page: 4, reverse: true })), await whole("by_balance", true));
+    assert.deepEqual(await walked(db.walkRange("id", ["id"], { page: 7, lower: { gt: [3] } })), (await whole("id", false)).slice(4));
+    assert.deepEqual(await walked(db.walkList("line", { page: 6 })), (await db.list("line")).rows.map((it) => it.id));
+    await assert.rejects(walked(db.walkRange("by_balance", ["balance"], { page: 2 })), TooManyEqual);
+  }));
+
+test("several tables", () =>
+  withDatabase(async (db) => {
+    assert.equal(await db.insert({ name: "pen", stock: 5 }, { table: "item" }), 0);
+    assert.equal(await db.size({ table: "item" }), 1);
+    await assert.rejects(db.size({ table: "none" }), refused("table"));
+  }, { schema: path.join(EXAMPLES, "shop.toml") }));
+
+test("several connections", () =>
+  withServer(async (server) => {
+    const [one, two] = [await server.connect(), await server.connect()];
+    const started = one.start();
+    await assert.rejects(Promise.all([started, two.insert(account("bob"))]), refused("busy"));
+    const added = one.insert(account("ann"));
+    const seen = two.size();
+    assert.deepEqual([await started, await added, await seen], [1, 0, 1]);
+    two.passTurn();
+    assert.equal(await one.size(), 1);
+    await one.close();
+    // (the turn of the second may come before the end of the first is read)
+    assert.ok((await two.size()) === 0 || (await two.size()) === 0);
+    await two.close();
+    assert.equal(await server.ended(), 0);
+  }, { clients: 2 }));
+
+test("a server that can't begin says why at once", async () => {
+  await assert.rejects(Database.start(PROGRAM, { schema: "none.toml" }), (error) => error instanceof Ended && /status 3: schema: file/.test(error.message));
+  await assert.rejects(Database.start("/no/such/program"), Ended);
+  const folder = fs.mkdtempSync(path.join(os.tmpdir(), "weltiyo-"));
+  fs.writeFileSync(path.join(folder, "s.toml"), "table =");
+  await withServer(
+    (server) => assert.rejects(server.connect(), (error) => error instanceof Ended && /schema: toml/.test(error.message)),
+    { schema: path.join(folder, "s.toml") }
+  );
+  fs.rmSync(folder, { recursive: true });
+});
+
+test("what was asked of a server that ends is rejected", () =>
+  withServer(async (server) => {
+    const db = await server.connect();
+    await db.size();
+    server.process.kill("SIGSTOP"); // (so that it answers nothing of what follows)
+    const asked = Promise.allSettled([db.size(), db.size()]);
+    await new Promise((resolve) => setTimeout(resolve, 20));
+    server.process.kill("SIGKILL");
+    await server.ended();
+    const before = await asked;
+    const behind = await Promise.allSettled([db.size(), db.ready()]);
+    for (const it of [...before, ...behind]) assert.ok(it.status === "rejected" && it.reason instanceof Ended, it.status);
+    await db.close();
+  }));

@@ -1,0 +1,530 @@
+/**
+ * A client of the table server mi_server, in one file, for Node 16 or later without other packages. It asks a server of its own over
+ * pipes, or one that listens, over a socket. Each command is a call that answers a promise; calls that aren't waited for are sent ahead,
+ * and are answered in their order.
+ *
+ *     const { Database, Refused } = require("./weltiyo.js");
+ *     const db = await Database.start("mi_server", { schema: "shop.toml" });     // or await Database.connect(8000)
+ *     const ann = await db.insert({ owner: "ann", balance: 50, vip: false });
+ *     await db.session(async () => { await db.modify(ann, { add: { balance: -20 } }); });
+ *     await db.close();
+ *
+ * A whole number beyond 2^53 is a BigInt in what comes, and is to be one in what is sent.
+ */
+"use strict";
+
+const net = require("node:net");
+const { spawn } = require("node:child_process");
+
+/** The most rows of one page. */
+const MOST_ROWS = 1000;
+
+/** How many replies are awaited at most, where the caller doesn't say; further lines wait in this process. */
+const WINDOW = 1024;
+
+/** The server refused a command: `word` is the reason; where it is `unique`, `id` and `index` say which record stands in the way, and of
+ * a modify `lost` says whether the modified record was erased. */
+class Refused extends Error {
+  constructor(reply) {
+    super(reply.error);
+    this.name = "Refused";
+    this.word = reply.error;
+    this.id = reply.id;
+    this.index = reply.index;
+    this.lost = reply.lost;
+  }
+}
+
+/** The connection is at its end. What it held was undone, and commands that weren't answered may have been done or not. */
+class Ended extends Error {
+  constructor(why) {
+    super(why || "the connection is closed");
+    this.name = "Ended";
+  }
+}
+
+/** A walk over a range can't go on: more records have one key than a page has rows. */
+class TooManyEqual extends Error {
+  constructor(why) {
+    super(why);
+    this.name = "TooManyEqual";
+  }
+}
+
+// Values
+
+/** The text of a value; a BigInt is written as the number that it is. */
+function encode(value) {
+  if (typeof value === "bigint") return value.toString();
+  if (Array.isArray(value)) return `[${value.map(encode).join(",")}]`;
+  if (value === null || typeof value !== "object") return JSON.stringify(value);
+  const members = Object.entries(value).filter(([, it]) => it !== undefined);
+  return `{${members.map(([name, it]) => `${JSON.stringify(name)}:${encode(it)}`).join(",")}}`;
+}
+
+function lineOf(cmd, members) {
+  const asked = { cmd };
+  for (const name in members) if (members[name] !== undefined && members[name] !== null) asked[name] = members[name];
+  try {
+    return JSON.stringify(asked);
+  } catch (error) {
+    if (!(error instanceof TypeError)) throw error;
+    return encode(asked); // (there is a BigInt in it)
+  }
+}
+
+const LONG = /"(?:[^"\\]|\\.)*"|-?\d{16,}/g;
+
+/** A reply, whose whole numbers are exact. No member of a reply is called `$int`, since no column can be. */
+function decode(text) {
+  let exact = text;
+  if (/\d{16}/.test(text)) {
+    exact = text.replace(LONG, (it) => (it[0] === '"' || Number.isSafeInteger(Number(it)) ? it : `{"$int":"${it}"}`));
+  }
+  if (exact === text) return JSON.parse(text);
+  return JSON.parse(exact, (_, it) => (it && typeof it === "object" && typeof it.$int === "string" ? BigInt(it.$int) : it));
+}
+
+/** A row as it can be sent: without the member `id`, which every reply has and which is no column. */
+function columnsOf(row) {
+  const { id, ...columns } = row;
+  return columns;
+}
+
+// Connections
+
+/** Lines out, and their replies in the same order. */
+class Channel {
+  constructor(reading, writing, window) {
+    this.writing = writing;
+    this.window = window;
+    this.awaited = []; // those that were sent
+    this.waiting = []; // those behind the window
+    this.parts = []; // of a reply that isn't whole
+    this.isFlushing = false;
+    this.ended = null;
+    this.readiness = [];
+    this.idleness = [];
+    reading.on("data", (bytes) => this.take(bytes));
+    reading.on("error", (error) => this.end(error.message));
+    reading.on("close", () => this.end());
+    writing.on("error", (error) => this.end(error.message));
+  }
+
+  /** Promises the reply to a line. */
+  ask(line) {
+    return new Promise((resolve, reject) => {
+      if (this.ended) return reject(this.ended);
+      this.waiting.push({ line, resolve, reject });
+      this.flushSoon();
+    });
+  }
+
+  /** Lines that are asked in one turn of the event loop are written at once. */
+  flushSoon() {
+    if (this.isFlushing) return;
+    this.isFlushing = true;
+    setImmediate(() => {
+      this.isFlushing = false;
+      const now = this.waiting.splice(0, Math.max(0, this.window - this.awaited.length));
+      if (now.length === 0 || this.ended) return;
+      this.awaited.push(...now);
+      this.writing.write(now.map((it) => it.line + "\n").join(""));
+      this.tellReady();
+    });
+  }
+
+  take(bytes) {
+    let from = 0, done = 0;
+    for (let end = bytes.indexOf(10); end >= 0; end = bytes.indexOf(10, from)) {
+      let line = bytes.subarray(from, end);
+      if (this.parts.length) {
+        line = Buffer.concat([...this.parts, line]);
+        this.parts = [];
+      }
+      const asked = this.awaited[done++];
+      if (asked) asked.resolve(line.toString("utf8"));
+      from = end + 1;
+    }
+    if (from < bytes.length) this.parts.push(bytes.subarray(from));
+    this.awaited.splice(0, done);
+    if (this.waiting.length) this.flushSoon();
+    this.tellReady();
+    if (this.isIdle) for (const resolve of this.idleness.splice(0)) resolve();
+  }
+
+  get isIdle() {
+    return this.awaited.length + this.waiting.length === 0;
+  }
+
+  /** Promises that all that was asked is answered, or never will be. */
+  idle() {
+    return new Promise((resolve) => (this.ended || this.isIdle ? resolve() : this.idleness.push(resolve)));
+  }
+
+  get isReady() {
+    return this.awaited.length + this.waiting.length < this.window;
+  }
+
+  /** Promises that a line would be sent at once. */
+  ready() {
+    return new Promise((resolve, reject) => {
+      if (this.ended) reject(this.ended);
+      else if (this.isReady) resolve();
+      else this.readiness.push({ resolve, reject });
+    });
+  }
+
+  tellReady() {
+    if (!this.readiness.length || !this.isReady) return;
+    for (const it of this.readiness.splice(0)) it.resolve();
+  }
+
+  end(why) {
+    if (this.ended) return;
+    this.ended = new Ended(why);
+    for (const it of [...this.awaited.splice(0), ...this.waiting.splice(0), ...this.readiness.splice(0)]) it.reject(this.ended);
+    for (const resolve of this.idleness.splice(0)) resolve();
+  }
+}
+
+/** A connection. Close it: what it holds is then undone by the server. */
+class Database {
+  constructor(channel, closing) {
+    this._channel = channel;
+    this._closing = closing;
+  }
+
+  /** A server of its own, asked over its standard input; its tables are gone when the connection is closed. Rejects with `Ended` and the
+   * program's words where it can't begin, as with a schema that isn't there. */
+  static async start(program, { schema, window = WINDOW } = {}) {
+    const ran = spawn(program, schema ? ["--schema", schema] : [], { stdio: ["pipe", "pipe", "pipe"] });
+    let said = "";
+    ran.stderr.on("data", (bytes) => (said += bytes));
+    const channel = new Channel(new Held(ran.stdout), ran.stdin, window);
+    const closed = new Promise((resolve) => {
+      ran.on("error", (error) => {
+        channel.end(error.message);
+        resolve(null);
+      });
+      ran.on("close", (status) => {
+        channel.end(`the server ended with status ${status}: ${said.trim()}`);
+        resolve(status);
+      });
+    });
+    const db = new Database(channel, () => {
+      ran.stdin.end();
+      return closed;
+    });
+    await db.revision();
+    return db;
+  }
+
+  /** A connection to a server that listens on this port of 127.0.0.1. The server answers once all its clients have come. */
+  static connect(port, { window = WINDOW } = {}) {
+    return new Promise((resolve, reject) => {
+      const stream = net.connect({ port, host: "127.0.0.1", noDelay: true });
+      stream.once("error", reject);
+      stream.once("connect", () => {
+        stream.off("error", reject);
+        stream.setNoDelay(true);
+        const closed = new Promise((done) => stream.once("close", () => done(null)));
+        const channel = new Channel(stream, stream, window);
+        resolve(new Database(channel, () => {
+          stream.end(() => stream.destroy());
+          return closed;
+        }));
+      });
+    });
+  }
+
+  /** Ends the connection once all that was asked is answered, and promises the status of a server of its own. */
+  async close() {
+    await this._channel.idle();
+    return this._closing();
+  }
+
+  // Lines
+
+  /** The reply to one line, both without their newlines. The line has a command: an empty one would have no reply. */
+  askLine(line) {
+    if (line.includes("\n") || !line.replace(/\r+$/, "")) return Promise.reject(new TypeError("a line has one command and no newline"));
+    return this._channel.ask(line);
+  }
+
+  /** Sends an empty line, which has no reply. The server reads from its connections by turns and waits for each, so one that has nothing
+   * to ask lets the others go on by this. */
+  passTurn() {
+    if (!this._channel.ended) this._channel.writing.write("\n");
+  }
+
+  /** Promises that another line would be sent at once. A loop that sends much ahead awaits this, so that lines don't pile up here. */
+  ready() {
+    return this._channel.ready();
+  }
+
+  /** The accepted reply to a command with these members; one that is undefined or null is left out. Rejects with `Refused`. */
+  async ask(cmd, members = {}) {
+    const reply = decode(await this._channel.ask(lineOf(cmd, members)));
+    if (!reply.ok) throw new Refused(reply);
+    return reply;
+  }
+
+  // Changes
+
+  /** Adds a record and answers its id. `before` is `{ index, id }`: a sequenced index and the id that the record comes before in it. */
+  async insert(row, { before, table } = {}) {
+    return (await this.ask("insert", { row, before, table })).id;
+  }
+
+  /** Sets another record for an id. A row that was got fits: its member `id` is left out. */
+  async replace(id, row, { table } = {}) {
+    await this.ask("replace", { id, row: columnsOf(row), table });
+  }
+
+  /** Sets columns and adds to int columns. Where a unique index refuses the result nothing has changed; with `rollback: false` the record
+   * is erased then, as in Boost.MultiIndex and in the bare command. */
+  async modify(id, { set, add, rollback = true, table } = {}) {
+    await this.ask("modify", { id, set, add, rollback: rollback || undefined, table });
+  }
+
+  /** Erases a record. */
+  async erase(id, { table } = {}) {
+    await this.ask("erase", { id, table });
+  }
+
+  /** Erases every record with a whole key, and answers how many. */
+  async eraseKey(index, key, { table } = {}) {
+    return (await this.ask("erase_key", { index, key, table })).erased;
+  }
+
+  /** Moves a record of a sequenced index directly before another, or to the end. */
+  async relocate(index, id, { before, table } = {}) {
+    await this.ask("relocate", { index, id, before, table });
+  }
+
+  // Sessions
+
+  /** Opens a session and answers the revision, which is its number. */
+  async start() {
+    return (await this.ask("start")).revision;
+  }
+
+  /** Takes back all changes since the newest start, and answers the revision. */
+  async undo() {
+    return (await this.ask("undo")).revision;
+  }
+
+  /** Joins the newest session into the one below, or keeps its changes where it is the only one; answers the revision. */
+  async squash() {
+    return (await this.ask("squash")).revision;
+  }
+
+  /** Ends the sessions up to this number, keeps their changes, and answers how many they were. */
+  async commit(revision) {
+    return (await this.ask("commit", { revision })).committed;
+  }
+
+  /** Undoes every open session, and answers how many they were. */
+  async undoAll() {
+    return (await this.ask("undo_all")).undone;
+  }
+
+  /** Lets go of the sessions that this connection holds, which stay open, and answers how many they were. */
+  async push() {
+    return (await this.ask("push")).pushed;
+  }
+
+  /** Asks for room for so many changes inside sessions and so many starts, ahead of a block. */
+  async reserve(changes, sessions) {
+    await this.ask("reserve", { changes, sessions });
+  }
+
+  /** The revision, how many sessions are open (`depth`), and how many of them this connection holds (`held`). */
+  async revision() {
+    const { revision, depth, held } = await this.ask("revision");
+    return { revision, depth, held };
+  }
+
+  /** A session for a block, which gets its number. Where the block throws all of it is undone, and the error goes on; else it is squashed,
+   * with the sessions that the block left open above it. Answers what the block does. Other calls of this connection that are made
+   * meanwhile fall into the session too. */
+  async session(block) {
+    const number = await this.start();
+    let answer;
+    try {
+      answer = await block(number);
+    } catch (error) {
+      if (!this._channel.ended) await this._endSession(number, () => this.undo());
+      throw error;
+    }
+    await this._endSession(number, () => this.squash());
+    return answer;
+  }
+
+  async _endSession(number, step) {
+    for (let now = await this.revision(); now.revision >= number && now.depth > 0; now = await this.revision()) await step();
+  }
+
+  // Look-ups
+
+  /** The record of an id. */
+  async get(id, { table } = {}) {
+    return (await this.ask("get", { id, table })).row;
+  }
+
+  /** The first record with a key; ordered and ranked indexes take the first values of a key too. */
+  async find(index, key, { table } = {}) {
+    return (await this.ask("find", { index, key, table })).row;
+  }
+
+  /** The record with n others before it in a ranked index. */
+  async nth(index, n, { table } = {}) {
+    return (await this.ask("nth", { index, n, table })).row;
+  }
+
+  /** How many records have a key. */
+  async count(index, key, { table } = {}) {
+    return (await this.ask("count", { index, key, table })).count;
+  }
+
+  /** How many records stand before a record in a ranked index. */
+  async rank(index, id, { table } = {}) {
+    return (await this.ask("rank", { index, id, table })).rank;
+  }
+
+  /** How many keys of a ranked index are less. */
+  async lowerRank(index, key, { table } = {}) {
+    return (await this.ask("lower_rank", { index, key, table })).rank;
+  }
+
+  /** How many keys of a ranked index are not greater. */
+  async upperRank(index, key, { table } = {}) {
+    return (await this.ask("upper_rank", { index, key, table })).rank;
+  }
+
+  /** How many records the table has. */
+  async size({ table } = {}) {
+    return (await this.ask("size", { table })).size;
+  }
+
+  /** The first rows of a range, `{ rows, more }`, at most `limit` (1 to 1000). `lower` is `{ ge: key }` or `{ gt: key }`, `upper` is
+   * `{ le: key }` or `{ lt: key }`, in the order of the index. */
+  async range(index, { lower, upper, reverse, limit, table } = {}) {
+    const { rows, more } = await this.ask("range", { index, lower, upper, reverse: reverse || undefined, limit, table });
+    return { rows, more };
+  }
+
+  /** The first rows of a sequenced index, or of those behind the record `after`, `{ rows, more }`, at most `limit`. */
+  async list(index, { after, limit, table } = {}) {
+    const { rows, more } = await this.ask("list", { index, after, limit, table });
+    return { rows, more };
+  }
+
+  // Walks over pages
+
+  /** The rows of a sequenced index, one page after another. */
+  async *walkList(index, { page = MOST_ROWS, table } = {}) {
+    for (let after, more = true; more; ) {
+      const answer = await this.list(index, { after, limit: page, table });
+      yield* answer.rows;
+      more = answer.more;
+      if (more) after = answer.rows[answer.rows.length - 1].id;
+    }
+  }
+
+  /** The rows of a range, one page after another. `columns` are the parts of the index's key, as the schema has them (a `-` before a name
+   * is passed over). The next page begins at the key of the last row, and the rows of that key which came already are passed over: so a
+   * walk ends with `TooManyEqual` where more rows have one key than a page has. */
+  async *walkRange(index, columns, { lower, upper, reverse = false, page = MOST_ROWS, table } = {}) {
+    const names = columns.map((it) => it.replace(/^-/, ""));
+    const side = reverse ? "upper" : "lower", including = reverse ? "le" : "ge";
+    const bounds = { lower, upper };
+    let last = null, given = new Set();
+    for (let more = true; more; ) {
+      const answer = await this.range(index, { ...bounds, reverse, limit: page, table });
+      const rows = answer.rows.filter((it) => !given.has(it.id));
+      more = answer.more;
+      if (more && rows.length === 0) throw new TooManyEqual(`more than ${page} records of ${index} have the key ${encode(last)}`);
+      for (const row of rows) {
+        const key = names.map((name) => row[name]);
+        if (last === null || key.some((it, n) => it !== last[n])) given = new Set();
+        last = key;
+        given.add(row.id);
+        yield row;
+      }
+      bounds[side] = { [including]: last };
+    }
+  }
+}
+
+/** The output of a program, whose end is told by the program's own: then its status is known, and what it said. */
+class Held {
+  constructor(stream) {
+    this.stream = stream;
+  }
+
+  on(event, call) {
+    if (event !== "close") this.stream.on(event, call);
+  }
+}
+
+function freePort() {
+  return new Promise((resolve, reject) => {
+    const listener = net.createServer();
+    listener.once("error", reject);
+    listener.listen(0, "127.0.0.1", () => {
+      const { port } = listener.address();
+      listener.close(() => resolve(port));
+    });
+  });
+}
+
+/** A server that listens on a free port of 127.0.0.1, for programs and tests that want several connections. It answers once so many
+ * clients have come, and ends when all have gone. */
+class Server {
+  constructor(process, port) {
+    this.process = process;
+    this.port = port;
+    this.said = "";
+    this.status = undefined;
+    process.stderr.on("data", (bytes) => (this.said += bytes));
+    this._closed = new Promise((resolve) => {
+      process.on("error", (error) => ((this.said = error.message), (this.status = null), resolve(null)));
+      process.on("close", (status) => ((this.status = status), resolve(status)));
+    });
+  }
+
+  static async start(program, { clients = 1, schema } = {}) {
+    const port = await freePort();
+    const words = ["--listen", String(port), "--clients", String(clients), ...(schema ? ["--schema", schema] : [])];
+    return new Server(spawn(program, words, { stdio: ["ignore", "ignore", "pipe"] }), port);
+  }
+
+  /** The next connection, once the server listens; it is tried for `wait` milliseconds. */
+  async connect({ wait = 10_000, window } = {}) {
+    const end = Date.now() + wait;
+    for (;;) {
+      try {
+        return await Database.connect(this.port, { window });
+      } catch (error) {
+        if (this.status !== undefined) throw new Ended(`the server ended with status ${this.status}: ${this.said.trim()}`);
+        if (error.code !== "ECONNREFUSED" || Date.now() > end) throw error;
+        await new Promise((resolve) => setTimeout(resolve, 20));
+      }
+    }
+  }
+
+  /** Promises the status of the server, once it has ended. */
+  ended() {
+    return this._closed;
+  }
+
+  /** Ends the server where it hasn't ended, and promises its status. */
+  kill() {
+    this.process.kill("SIGKILL");
+    return this._closed;
+  }
+}
+
+module.exports = { Database, Server, Refused, Ended, TooManyEqual, MOST_ROWS, WINDOW };

@@ -1,0 +1,325 @@
+"""The client for asyncio, with the same names: every command is awaited. Tasks may share a connection: each call is sent at
+once, and replies come in the order of the lines, so `asyncio.gather` of many calls is sending ahead. A task of its own reads
+the replies, so that neither side can stand still for the other."""
+from __future__ import annotations
+
+import asyncio
+import collections
+import contextlib
+import contextvars
+import os
+import socket
+import time
+from typing import TYPE_CHECKING, Any, AsyncIterator, Awaitable, Callable, Deque, Iterable, List, Optional, Sequence, TypeVar, Union
+
+from mi_client import calls, plans
+from mi_client.calls import MOST_ROWS, Bound, Key, Request, Row
+from mi_client.dialect import Dialect, sent_by
+from mi_client.errors import Ended, Refused
+from mi_client.pipeline import WINDOW
+from mi_client.plans import Batch, Plan, Window
+from mi_client.schema import Schema
+
+T = TypeVar("T")
+R = TypeVar("R")
+
+if TYPE_CHECKING:
+    from typing_extensions import Concatenate, ParamSpec
+
+    P = ParamSpec("P")
+
+    def awaited(build: Callable[P, Request[T]]) -> Callable[Concatenate[Any, P], Awaitable[T]]: ...
+else:
+    awaited = sent_by("send")
+
+CHUNK = 1 << 18
+_session: contextvars.ContextVar[Optional[object]] = contextvars.ContextVar("session", default=None)
+
+
+class AsyncDatabase:
+    """A connection. Close it, or use it in an `async with`: what it holds is then undone by the server."""
+
+    def __init__(
+        self,
+        reader: asyncio.StreamReader,
+        writer: asyncio.StreamWriter,
+        process: Optional[asyncio.subprocess.Process] = None,
+        schema: Optional[Schema] = None,
+        window: int = WINDOW,
+    ) -> None:
+        """Use `connect` or `start`."""
+        self._reader, self._writer, self._process = reader, writer, process
+        self._dialect = Dialect(schema)
+        self._window = asyncio.Semaphore(window)
+        self._awaited: Deque[asyncio.Future[bytes]] = collections.deque()
+        self._block: Optional[object] = None
+        self._free = asyncio.Event()
+        self._free.set()
+        self._closed_for = ""
+        self._reading = asyncio.ensure_future(self._read())
+
+    @classmethod
+    async def connect(
+        cls, port: int, schema: Union[None, str, os.PathLike[str], Schema] = None, wait: float = 0.0, window: int = WINDOW
+    ) -> AsyncDatabase:
+        """A connection to a server that listens on this port of 127.0.0.1, or does so within `wait` seconds; else OSError is
+        raised. At most `window` replies are awaited at a time."""
+        read = Schema.of(schema)
+        end = time.monotonic() + wait
+        while True:
+            try:
+                reader, writer = await asyncio.open_connection("127.0.0.1", port)
+                break
+            except ConnectionRefusedError:
+                if time.monotonic() >= end:
+                    raise
+                await asyncio.sleep(0.02)
+        writer.get_extra_info("socket").setsockopt(socket.IPPROTO_TCP, socket.TCP_NODELAY, 1)
+        return cls(reader, writer, None, read, window)
+
+    @classmethod
+    async def start(
+        cls, program: Union[str, os.PathLike[str]], schema: Union[None, str, os.PathLike[str]] = None, window: int = WINDOW
+    ) -> AsyncDatabase:
+        """A server of its own. Raises OSError where there is no such program, and Ended with its words where it ends at once."""
+        words = [os.fspath(program)] + (["--schema", os.fspath(schema)] if schema is not None else [])
+        pipe = asyncio.subprocess.PIPE
+        process = await asyncio.create_subprocess_exec(*words, stdin=pipe, stdout=pipe, stderr=pipe, start_new_session=True)
+        assert process.stdin and process.stdout
+        made = cls(process.stdout, process.stdin, process, None, window)
+        try:
+            await made.revision()
+            made._dialect.schema = Schema.read(schema) if schema is not None else Schema.built_in()
+        except BaseException:
+            await made.close()
+            raise
+        return made
+
+    @property
+    def schema(self) -> Optional[Schema]:
+        """The tables, where they are known."""
+        return self._dialect.schema
+
+    async def __aenter__(self) -> AsyncDatabase:
+        return self
+
+    async def __aexit__(self, *_: object) -> None:
+        await self.close()
+
+    async def close(self) -> None:
+        """Ends the connection. The server undoes the sessions that it holds. Closing twice is fine."""
+        self._closed_for = self._closed_for or "the connection is closed"
+        self._writer.close()
+        with contextlib.suppress(OSError):
+            await self._writer.wait_closed()
+        if self._process:
+            await self._process.wait()
+        self._reading.cancel()
+        with contextlib.suppress(asyncio.CancelledError):
+            await self._reading
+
+    # Lines
+
+    async def send(self, request: Request[T]) -> T:
+        """The answer to a request. Raises Refused and Ended. A call that is cancelled behind its sending is executed all the
+        same, and its reply is dropped."""
+        return self._dialect.read(request, await self._exchange(self._dialect.line(request)))
+
+    async def ask_line(self, line: str) -> str:
+        """The reply to one line, both without their newlines."""
+        if "\n" in line or not line.rstrip("\r"):
+            raise ValueError("a line has one command and no newline")
+        return (await self._exchange(line.encode("utf-8", "surrogatepass") + b"\n")).decode()
+
+    async def ask_lines(self, lines: Iterable[str], window: int = WINDOW) -> AsyncIterator[str]:
+        """The replies to many lines, which are sent ahead: at most `window` of them are awaited at a time."""
+        sent: Deque[asyncio.Task[str]] = collections.deque()
+        try:
+            for it in lines:
+                sent.append(asyncio.ensure_future(self.ask_line(it)))
+                if len(sent) >= window:
+                    yield await sent.popleft()
+            while sent:
+                yield await sent.popleft()
+        finally:
+            await asyncio.gather(*sent, return_exceptions=True)
+
+    async def pass_turn(self) -> None:
+        """Sends an empty line, which has no reply, so that the other connections of the server can go on."""
+        if self._closed_for:
+            raise Ended(self._closed_for)
+        self._writer.write(b"\n")
+        await self._writer.drain()
+
+    async def _exchange(self, line: bytes) -> bytes:
+        while self._block is not None and _session.get() is not self._block:
+            await self._free.wait()
+        async with self._window:
+            if self._closed_for:
+                raise Ended(self._closed_for)
+            reply: asyncio.Future[bytes] = asyncio.get_running_loop().create_future()
+            self._awaited.append(reply)
+            self._writer.write(line)
+            with contextlib.suppress(ConnectionError):  # (the reader says why)
+                await self._writer.drain()
+            return await reply
+
+    async def _read(self) -> None:
+        rest = b""
+        with contextlib.suppress(OSError):
+            while True:
+                data = await self._reader.read(CHUNK)
+                if not data:
+                    break
+                self._acknowledge()
+                *lines, rest = (rest + data).split(b"\n")
+                for it in lines:
+                    reply = self._awaited.popleft()
+                    if not reply.done():
+                        reply.set_result(it)
+        why = await self._why()
+        self._closed_for = self._closed_for or why
+        for reply in self._awaited:
+            if not reply.done():
+                reply.set_exception(Ended(self._closed_for))
+        self._awaited.clear()
+
+    def _acknowledge(self) -> None:
+        """The server's next reply may wait for this, which the system else puts off for 40 ms."""
+        if not self._process and hasattr(socket, "TCP_QUICKACK"):
+            self._writer.get_extra_info("socket").setsockopt(socket.IPPROTO_TCP, socket.TCP_QUICKACK, 1)
+
+    async def _why(self) -> str:
+        if not self._process:
+            return "the server ended the connection"
+        self._writer.close()
+        assert self._process.stderr
+        said = (await self._process.stderr.read()).decode(errors="replace").strip()
+        return f"the server ended with status {await self._process.wait()}{': ' if said else ''}{said}"
+
+    # Blocks and walks
+
+    @contextlib.asynccontextmanager
+    async def session(self) -> AsyncIterator[int]:
+        """A session for a block, which gets its number: undone where the block raises, else squashed. The tasks that the block
+        makes ask within it; others that share the connection wait until it has ended."""
+        outer, mine = _session.get(), object()
+        while self._block is not None and outer is not self._block:
+            await self._free.wait()
+        before, self._block = self._block, mine
+        self._free.clear()
+        token = _session.set(mine)
+        try:
+            number = await self.begin()
+            try:
+                yield number
+            except BaseException:
+                if not self._closed_for:
+                    await self._end_session(number, self.undo)
+                raise
+            await self._end_session(number, self.squash)
+        finally:
+            _session.reset(token)
+            self._block = before
+            if before is None:
+                self._free.set()
+
+    async def _end_session(self, number: int, step: Callable[[], Awaitable[int]]) -> None:
+        now = await self.revision()
+        while now.revision >= number and now.depth > 0:
+            await step()
+            now = await self.revision()
+
+    def walk_range(
+        self,
+        index: str,
+        columns: Optional[Sequence[str]] = None,
+        lower: Optional[Bound] = None,
+        upper: Optional[Bound] = None,
+        reverse: bool = False,
+        page: int = MOST_ROWS,
+        table: Optional[str] = None,
+    ) -> AsyncIterator[Row]:
+        """The rows of a range, one page after another, as `Database.walk_range` has them."""
+        return self._rows(plans.walk_range(self.schema, index, columns, lower, upper, reverse, page, table))
+
+    def walk_list(self, index: str, page: int = MOST_ROWS, table: Optional[str] = None) -> AsyncIterator[Row]:
+        """The rows of a sequenced index, one page after another."""
+        return self._rows(plans.walk_list(index, page, table))
+
+    def equal(self, index: str, key: Key, table: Optional[str] = None, page: int = MOST_ROWS) -> AsyncIterator[Row]:
+        """Every record with a key, as `Database.equal` has them."""
+        return self._rows(plans.equal(self.schema, index, key, table, page))
+
+    async def window(self, index: str, place: int, n: int, table: Optional[str] = None) -> Window:
+        """The rows of a ranked index at the places from `place` on, at most n."""
+        return await self._answer(plans.window(index, place, n, table))
+
+    async def around(self, id: int, n: int, index: Optional[str] = None, table: Optional[str] = None) -> Window:
+        """A record, n rows before it and n behind it in a ranked index."""
+        return await self._answer(plans.around(self.schema, id, n, index, table))
+
+    async def count_range(self, index: str, from_key: Key, to_key: Key, table: Optional[str] = None) -> int:
+        """How many records of a ranked index have a key between two, both included, in the order of the index."""
+        return await self._answer(plans.count_range(self.schema, index, from_key, to_key, table))
+
+    async def _asked(self, batch: Batch) -> List[asyncio.Task[Any]]:
+        """The answers to requests that are sent together."""
+        answers = [asyncio.ensure_future(self.send(it)) for it in batch.requests]
+        for it in await asyncio.gather(*answers, return_exceptions=True):
+            if isinstance(it, BaseException) and not isinstance(it, Refused):
+                raise it
+        return answers
+
+    async def _rows(self, plan: Plan[R]) -> AsyncIterator[Row]:
+        answers: Optional[List[asyncio.Task[Any]]] = None
+        while True:
+            try:
+                step = plan.send(answers)
+            except StopIteration:
+                return
+            answers = None
+            if isinstance(step, Batch):
+                answers = await self._asked(step)
+            else:
+                yield step
+
+    async def _answer(self, plan: Plan[R]) -> R:
+        answers: Optional[List[asyncio.Task[Any]]] = None
+        while True:
+            try:
+                step = plan.send(answers)
+            except StopIteration as end:
+                found: R = end.value
+                return found
+            assert isinstance(step, Batch)
+            answers = await self._asked(step)
+
+    ask = awaited(calls.ask)
+
+    insert = awaited(calls.insert)
+    replace = awaited(calls.replace)
+    modify = awaited(calls.modify)
+    erase = awaited(calls.erase)
+    erase_key = awaited(calls.erase_key)
+    relocate = awaited(calls.relocate)
+
+    begin = awaited(calls.begin)
+    undo = awaited(calls.undo)
+    squash = awaited(calls.squash)
+    commit = awaited(calls.commit)
+    undo_all = awaited(calls.undo_all)
+    push = awaited(calls.push)
+    reserve = awaited(calls.reserve)
+    revision = awaited(calls.revision)
+
+    get = awaited(calls.get)
+    find = awaited(calls.find)
+    nth = awaited(calls.nth)
+    count = awaited(calls.count)
+    rank = awaited(calls.rank)
+    lower_rank = awaited(calls.lower_rank)
+    upper_rank = awaited(calls.upper_rank)
+    size = awaited(calls.size)
+    range = awaited(calls.range)
+    list = awaited(calls.list_)

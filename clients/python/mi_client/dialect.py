@@ -1,0 +1,75 @@
+"""From a call to its line, and from the reply to what the call answers, by the schema where it is known. Each connection has
+one; it reads and writes nothing."""
+from __future__ import annotations
+
+import functools
+import inspect
+import json
+from typing import TYPE_CHECKING, Any, Callable, Dict, Mapping, Optional, TypeVar
+
+from mi_client import explain
+from mi_client.calls import Key, Request
+from mi_client.errors import NeedsSchema, Refused
+from mi_client.schema import Schema
+
+if TYPE_CHECKING:
+    from typing_extensions import Concatenate, ParamSpec
+
+    P = ParamSpec("P")
+T = TypeVar("T")
+A = TypeVar("A")
+
+_decode = json.JSONDecoder().raw_decode
+"""(a reply is one JSON object and nothing else)"""
+
+REFUSAL = b'{"error"'
+"""How a refusal begins, and no other reply."""
+
+
+class Dialect:
+    def __init__(self, schema: Optional[Schema]) -> None:
+        self.schema = schema
+
+    def line(self, request: Request[Any]) -> bytes:
+        """The line of a request. Keys that are given by columns become lists in its members. Raises NeedsSchema, ValueError
+        where such a key isn't one of its index, and TypeError where a value is nothing that JSON has."""
+        members = request.members
+        if "key" in members:
+            members["key"] = self.key(members, members["key"])
+        for side in ("lower", "upper"):
+            if side in members:
+                members[side] = {name: self.key(members, it) for name, it in members[side].items()}
+        return request.line()
+
+    def key(self, members: Mapping[str, Any], key: Key) -> Any:
+        if not isinstance(key, Mapping):
+            return key
+        if self.schema is None:
+            raise NeedsSchema("a key is given by columns, and this connection was opened without a schema")
+        return self.schema.key(members["index"], key, members.get("table"))
+
+    def read(self, request: Request[T], reply: bytes) -> T:
+        """What the call answers. Raises Refused."""
+        found: Dict[str, Any] = _decode(reply.decode())[0]
+        if not found["ok"]:
+            raise self.refusal(request.members, found)
+        return request.read(found)
+
+    def refusal(self, members: Mapping[str, Any], reply: Dict[str, Any]) -> Refused:
+        return Refused(reply, explain.why(self.schema, members, reply["error"]))
+
+
+def sent_by(method: str) -> Callable[[Callable[P, Request[T]]], Callable[Concatenate[Any, P], Any]]:
+    """Makes the methods of a connection from the calls of `calls.py`: the request is handed to the method of this name."""
+
+    def of(build: Callable[P, Request[T]]) -> Callable[Concatenate[Any, P], Any]:
+        @functools.wraps(build)
+        def call(self: Any, *args: P.args, **members: P.kwargs) -> Any:
+            return getattr(self, method)(build(*args, **members))
+
+        made = inspect.signature(build)
+        first = inspect.Parameter("self", inspect.Parameter.POSITIONAL_ONLY)
+        call.__signature__ = made.replace(parameters=[first, *made.parameters.values()])  # type: ignore[attr-defined]
+        return call
+
+    return of

@@ -1,0 +1,87 @@
+"""Each command as a call that waits for its reply, and blocks of sessions. How a request is sent, `Database` says."""
+from __future__ import annotations
+
+import contextlib
+from typing import TYPE_CHECKING, Any, Callable, Iterator, TypeVar
+
+from mi_client import calls
+from mi_client.calls import Request
+from mi_client.dialect import sent_by
+
+T = TypeVar("T")
+
+if TYPE_CHECKING:
+    from typing_extensions import Concatenate, ParamSpec
+
+    P = ParamSpec("P")
+
+    def asked(build: Callable[P, Request[T]]) -> Callable[Concatenate[Any, P], T]: ...
+else:
+    asked = sent_by("send")
+
+
+class Calls:
+    """The commands, by their names; `start` is `begin`, since `Database.start` starts a server of its own."""
+
+    def send(self, request: Request[T]) -> T:
+        """The answer to a request. Raises Refused and Ended."""
+        raise NotImplementedError
+
+    def alone(self) -> contextlib.AbstractContextManager[Any]:
+        """A block in which no other thread asks on this connection."""
+        raise NotImplementedError
+
+    def is_open(self) -> bool:
+        """Whether commands can be asked."""
+        raise NotImplementedError
+
+    ask = asked(calls.ask)
+
+    insert = asked(calls.insert)
+    replace = asked(calls.replace)
+    modify = asked(calls.modify)
+    erase = asked(calls.erase)
+    erase_key = asked(calls.erase_key)
+    relocate = asked(calls.relocate)
+
+    begin = asked(calls.begin)
+    undo = asked(calls.undo)
+    squash = asked(calls.squash)
+    commit = asked(calls.commit)
+    undo_all = asked(calls.undo_all)
+    push = asked(calls.push)
+    reserve = asked(calls.reserve)
+    revision = asked(calls.revision)
+
+    get = asked(calls.get)
+    find = asked(calls.find)
+    nth = asked(calls.nth)
+    count = asked(calls.count)
+    rank = asked(calls.rank)
+    lower_rank = asked(calls.lower_rank)
+    upper_rank = asked(calls.upper_rank)
+    size = asked(calls.size)
+    range = asked(calls.range)
+    list = asked(calls.list_)
+
+    @contextlib.contextmanager
+    def session(self) -> Iterator[int]:
+        """A session for a block, which gets its number. Where the block raises, all of it is undone, and the exception goes
+        on; else it is squashed, with the sessions that the block left open above it. Other threads that share the connection
+        wait until the block has ended, so that what they do is never undone with it."""
+        with self.alone():
+            number = self.begin()
+            try:
+                yield number
+            except BaseException:
+                if self.is_open():
+                    self._end_session(number, self.undo)
+                raise
+            self._end_session(number, self.squash)
+
+    def _end_session(self, number: int, step: Callable[[], int]) -> None:
+        """Ends the session of this number and those above it. One that was committed in the block has ended already."""
+        now = self.revision()
+        while now.revision >= number and now.depth > 0:
+            step()
+            now = self.revision()

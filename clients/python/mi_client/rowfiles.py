@@ -1,0 +1,190 @@
+"""Rows in files: JSON lines and CSV, written and read, with the place of each row. Nothing here asks a server."""
+from __future__ import annotations
+
+import contextlib
+import csv
+import io
+import json
+import os
+import re
+import sys
+from typing import IO, Any, Callable, Dict, Iterator, List, NamedTuple, Optional, Sequence
+
+from mi_client.schema import Table
+
+Row = Dict[str, Any]
+WHOLE = re.compile(r"[+-]?[0-9]+")
+FLAGS = {"true": True, "false": False, "1": True, "0": False, "yes": True, "no": False}
+
+
+class Item(NamedTuple):
+    """A row of a file."""
+
+    place: str
+    """`FILE:LINE`."""
+    table: Optional[str]
+    id: Optional[int]
+    """The id that the record had where it was written."""
+    row: Row
+    done: int
+    """How many bytes of the file are read."""
+
+
+class Faulty(ValueError):
+    """A line of a file that is no row. Its message begins with the place."""
+
+
+@contextlib.contextmanager
+def reading(path: str) -> Iterator[IO[bytes]]:
+    if path == "-":
+        yield sys.stdin.buffer
+    else:
+        with open(path, "rb") as file:
+            yield file
+
+
+@contextlib.contextmanager
+def writing(path: str, resumed: bool = False) -> Iterator[IO[bytes]]:
+    if path == "-":
+        yield sys.stdout.buffer
+        sys.stdout.flush()
+    else:
+        with open(path, "ab" if resumed else "wb") as file:
+            yield file
+
+
+def length_of(path: str) -> int:
+    return os.path.getsize(path) if path != "-" and os.path.isfile(path) else 0
+
+
+def format_of(path: str, named: Optional[str]) -> str:
+    """`csv` or `jsonl`: as it is named, else by the end of the file's name."""
+    return named or ("csv" if path.endswith(".csv") else "jsonl")
+
+
+# JSON lines
+
+
+def json_line(row: Row, table: Optional[str]) -> bytes:
+    """A row with its id, and its table where it is named."""
+    columns = {name: it for name, it in row.items() if name != "id"}
+    whole: Row = {"id": row["id"], "row": columns, **({"table": table} if table else {})}
+    return json.dumps(whole, separators=(",", ":"), ensure_ascii=False).encode() + b"\n"
+
+
+def read_json_lines(file: IO[bytes], name: str, table: Optional[str]) -> Iterator[Item]:
+    """The rows of JSON lines: `{"row":{..}}` with `id` and `table` if wanted, or the bare columns. Raises Faulty."""
+    done = 0
+    for n, line in enumerate(file, 1):
+        done += len(line)
+        if not line.strip():
+            continue
+        try:
+            found = json.loads(line)
+        except ValueError as error:
+            raise Faulty(f"{name}:{n}: no JSON: {error}") from None
+        if not isinstance(found, dict):
+            raise Faulty(f"{name}:{n}: a row is an object")
+        row = found.get("row")
+        if isinstance(row, dict) and set(found) <= {"row", "id", "table"}:
+            yield Item(f"{name}:{n}", table or found.get("table"), found.get("id"), row, done)
+        else:
+            yield Item(f"{name}:{n}", table, found.get("id"), {it: value for it, value in found.items() if it != "id"}, done)
+
+
+def whole_lines(path: str) -> List[Any]:
+    """The last whole line of a file that is to be gone on with, as [its value], or [] where there is none. What stands behind
+    the last newline was written when the run before broke off, and is cut away."""
+    if not os.path.isfile(path):
+        return []
+    with open(path, "rb+") as file:
+        size = file.seek(0, os.SEEK_END)
+        at, tail = size, b""
+        while at > 0 and tail.count(b"\n") < 2:
+            at = max(0, at - 65_536)
+            file.seek(at)
+            tail = file.read(size - at)
+        whole = tail.rfind(b"\n") + 1
+        file.truncate(at + whole)
+    lines = tail[:whole].splitlines()
+    return [json.loads(lines[-1])] if lines else []
+
+
+# CSV
+
+
+class CsvWriter:
+    """Rows below a line of names, the id first. Flags are written true and false."""
+
+    def __init__(self, file: IO[bytes], table: Table) -> None:
+        self._names = ["id", *(it.name for it in table.columns)]
+        self._text = io.TextIOWrapper(file, encoding="utf-8", newline="", write_through=True)
+        self._csv = csv.writer(self._text, lineterminator="\n")
+        self._csv.writerow(self._names)
+
+    def write(self, row: Row) -> None:
+        values = [row[it] for it in self._names]
+        self._csv.writerow([("true" if it else "false") if isinstance(it, bool) else it for it in values])
+
+    def end(self) -> None:
+        """Leaves the file open for its owner."""
+        self._text.detach()
+
+
+def read_csv(file: IO[bytes], name: str, table: Table) -> Iterator[Item]:
+    """The rows of a CSV file below a line of names, by the types of the table's columns; a column `id` is passed over where
+    the table has the others. Raises Faulty."""
+    text = io.TextIOWrapper(file, encoding="utf-8-sig", newline="")
+    lines = csv.reader(text, strict=True)
+    try:
+        names = next(lines, [])
+        strange = [it for it in names if it != "id" and table.column(it) is None]
+        lacking = [it.name for it in table.columns if it.name not in names]
+        if strange or lacking:
+            wanted = ", ".join(it.name for it in table.columns)
+            raise Faulty(f"{name}:1: the first line has the names of the columns, {wanted}; it has {', '.join(names) or 'none'}")
+        takes = [_taking(table, it) for it in names]
+        done = 0
+        for fields in lines:
+            place = f"{name}:{lines.line_num}"
+            done += sum(map(len, fields)) + len(fields)
+            if len(fields) != len(names):
+                if not fields:
+                    continue
+                raise Faulty(f"{place}: {len(fields)} values, and {len(names)} names in the first line")
+            row = _row(place, names, takes, fields)
+            yield Item(place, table.name, row.pop("id", None), row, done)
+    except csv.Error as error:
+        raise Faulty(f"{name}:{lines.line_num}: {error}") from None
+    except UnicodeDecodeError as error:
+        raise Faulty(f"{name}:{lines.line_num + 1}: {error}") from None
+    finally:
+        text.detach()
+
+
+def _taking(table: Table, name: str) -> Callable[[str], Any]:
+    return {"int": _int, "text": str, "flag": _flag}[table.type_of(name)]
+
+
+def _int(text: str) -> int:
+    if not WHOLE.fullmatch(text.strip()):
+        raise ValueError("no whole number")
+    return int(text)
+
+
+def _flag(text: str) -> bool:
+    try:
+        return FLAGS[text.strip().lower()]
+    except KeyError:
+        raise ValueError("no flag") from None
+
+
+def _row(place: str, names: Sequence[str], takes: Sequence[Callable[[str], Any]], fields: Sequence[str]) -> Row:
+    row: Row = {}
+    for name, take, field in zip(names, takes, fields):
+        try:
+            row[name] = take(field)
+        except ValueError:
+            wanted = "true or false" if take is _flag else "a whole number"
+            raise Faulty(f"{place}: {name} is {field!r}; {wanted} wanted") from None
+    return row

@@ -1,0 +1,185 @@
+"""The tools top and metrics: what a running server holds and does, from its replies and from the system. The server tells no
+count of lines, so the bytes that it reads and writes stand for them."""
+from __future__ import annotations
+
+import argparse
+import os
+import sys
+import time
+from typing import Callable, List, NamedTuple, Optional, Tuple
+
+from mi_client import process
+from mi_client.database import Database
+from mi_client.errors import Ended, Refused
+from mi_client.opening import add_server, opened
+from mi_client.process import Usage
+from mi_client.show import table
+
+PAUSE = 0.0005
+"""Seconds between two questions while nothing is shown. The server waits for each connection in turn, so one that only looks
+on has to go on asking, or it would hold the others up."""
+
+
+class Sample(NamedTuple):
+    when: float
+    sizes: List[Tuple[str, int]]
+    revision: int
+    depth: int
+    holder: str
+    """Who holds sessions: `nobody`, `this connection` or `another connection`."""
+    turns: int
+    """How many questions this connection has asked: the server reads from all connections once in between."""
+    usage: Usage
+
+
+class Watcher:
+    """Looks at a server over a connection of its own."""
+
+    def __init__(self, db: Database, number: Optional[int]) -> None:
+        self.db, self.number = db, number
+        self.turns = 0
+
+    def sample(self) -> Sample:
+        names = [it.name for it in self.db.schema.tables] if self.db.schema else ["(first)"]
+        sizes = [(it, self.db.size(it if self.db.schema else None)) for it in names]
+        now = self.db.revision()
+        self.turns += len(sizes) + 2
+        return Sample(time.monotonic(), sizes, now.revision, now.depth, self.holder(now.held), self.turns, process.usage(self.number))
+
+    def holder(self, held: int) -> str:
+        """Asked by a `reserve` of nothing, which changes nothing and is refused as busy where another connection holds sessions."""
+        try:
+            self.db.reserve(0, 0)
+        except Refused as refusal:
+            if refusal.word == "busy":
+                return "another connection"
+        return "this connection" if held else "nobody"
+
+    def wait(self, seconds: float) -> None:
+        """Lets time go by without holding up the other connections."""
+        end = time.monotonic() + seconds
+        while time.monotonic() < end:
+            self.db.revision()
+            self.turns += 1
+            time.sleep(PAUSE)
+
+
+def amount(number: Optional[float], unit: str = "B") -> str:
+    """A number as people read it: 331 B, 12.5 MB."""
+    if number is None:
+        return "not told"
+    for name in ("", "k", "M", "G"):
+        if abs(number) < 1000 or name == "G":
+            return f"{number:.0f} {name}{unit}" if not name else f"{number:.1f} {name}{unit}"
+        number /= 1000
+    return ""
+
+
+def rate(now: Optional[float], before: Optional[float], seconds: float) -> Optional[float]:
+    return None if now is None or before is None or seconds <= 0 else (now - before) / seconds
+
+
+def screen(now: Sample, before: Sample) -> str:
+    """What top shows."""
+    took = now.when - before.when
+    busy = rate(now.usage.seconds, before.usage.seconds, took)
+    rows = [
+        {"table": name, "rows": size, "rows/s": round(rate(size, was, took) or 0)}
+        for (name, size), (_, was) in zip(now.sizes, before.sizes)
+    ]
+    per_row = now.usage.memory / total if now.usage.memory and (total := sum(size for _, size in now.sizes)) else None
+    read, written = (rate(getattr(now.usage, it), getattr(before.usage, it), took) for it in ("read", "written"))
+    return "\n".join([
+        f"memory    {amount(now.usage.memory)}" + (f" ({amount(per_row)} a row)" if per_row else ""),
+        f"read      {amount(read)}/s   written {amount(written)}/s   processor {'not told' if busy is None else f'{busy:.0%}'}",
+        f"turns     {amount(rate(now.turns, before.turns, took), '')}/s",
+        f"sessions  {now.depth} open, revision {now.revision}; held by {now.holder}",
+        "",
+        table(rows, ["table", "rows", "rows/s"]),
+    ])
+
+
+def prometheus(it: Sample) -> str:
+    """The text format of Prometheus."""
+    parts: List[str] = []
+
+    def add(name: str, kind: str, about: str, *values: Tuple[str, Optional[float]]) -> None:
+        known = [f"weltiyo_{name}{label} {value}" for label, value in values if value is not None]
+        if known:
+            parts.extend([f"# HELP weltiyo_{name} {about}", f"# TYPE weltiyo_{name} {kind}", *known])
+
+    add("rows", "gauge", "Records of a table.", *((f'{{table="{name}"}}', size) for name, size in it.sizes))
+    add("revision", "gauge", "The revision.", ("", it.revision))
+    add("open_sessions", "gauge", "Open sessions.", ("", it.depth))
+    add("held_by_another", "gauge", "1 where another connection holds sessions.", ("", int(it.holder == "another connection")))
+    add("resident_memory_bytes", "gauge", "Memory of the process.", ("", it.usage.memory))
+    add("read_bytes_total", "counter", "Bytes that the process has read.", ("", it.usage.read))
+    add("written_bytes_total", "counter", "Bytes that the process has written.", ("", it.usage.written))
+    add("processor_seconds_total", "counter", "Processor time of the process.", ("", it.usage.seconds))
+    return "\n".join(parts) + "\n"
+
+
+def write_whole(path: str, text: str) -> None:
+    """Replaces a file at once, so that nobody reads half of it."""
+    with open(f"{path}.new", "w", encoding="utf-8") as file:
+        file.write(text)
+    os.replace(f"{path}.new", path)
+
+
+def watch(options: argparse.Namespace, shown: Callable[[Sample, Sample], None]) -> int:
+    try:
+        with opened(options) as db:
+            number = options.pid or db.process or (process.listener(options.connect) if options.connect else None)
+            watcher = Watcher(db, number)
+            before = watcher.sample()
+            count = 0
+            while options.count is None or count < options.count:
+                if options.every:
+                    watcher.wait(options.every)
+                now = watcher.sample()
+                shown(now, before)
+                before = now
+                count += 1
+    except KeyboardInterrupt:
+        print()
+    except (Ended, OSError, Refused, ValueError) as error:
+        print(f"weltiyo: {error}", file=sys.stderr)
+        return 1
+    return 0
+
+
+def parser_of(name: str, about: str, every: float, count: Optional[int]) -> argparse.ArgumentParser:
+    parser = argparse.ArgumentParser(prog=f"weltiyo {name}", description=about)
+    add_server(parser)
+    parser.add_argument("--pid", type=int, help="the server's process, where it can't be found by the port")
+    parser.add_argument("--every", type=float, default=every, metavar="SECONDS", help="how often (%(default)s)")
+    parser.add_argument("--count", type=int, default=count, help="ends after so many")
+    return parser
+
+
+def main(words: Optional[List[str]] = None) -> int:
+    about = "Shows a running server. It is one of the server's clients, and asks all the time so that it holds no other up."
+    options = parser_of("top", about, 1.0, None).parse_args(words)
+    clear = "\x1b[H\x1b[2J" if sys.stdout.isatty() else ""
+
+    def shown(now: Sample, before: Sample) -> None:
+        print(f"{clear}{screen(now, before)}", end="\n" if clear else "\n\n", flush=True)
+
+    return watch(options, shown)
+
+
+def main_metrics(words: Optional[List[str]] = None) -> int:
+    about = "Writes what a running server holds as text that Prometheus reads; by --every and --file again and again, for a collector of files."
+    parser = parser_of("metrics", about, 0.0, None)
+    parser.add_argument("--file", help="replaces this file each time, in place of writing to the standard output")
+    options = parser.parse_args(words)
+    if options.count is None and not options.every:
+        options.count = 1
+
+    def shown(now: Sample, _: Sample) -> None:
+        if options.file:
+            write_whole(options.file, prometheus(now))
+        else:
+            print(prometheus(now), end="", flush=True)
+
+    return watch(options, shown)

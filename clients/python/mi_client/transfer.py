@@ -1,0 +1,235 @@
+"""The tools dump, load, export and import: rows of a server into files and back, page by page. A page that is loaded comes in
+whole or not at all, so a load that was stopped can be gone on with."""
+from __future__ import annotations
+
+import argparse
+import contextlib
+import itertools
+import sys
+from typing import Callable, Dict, Iterable, Iterator, List, NamedTuple, Optional
+
+from mi_client.calls import MOST_ROWS, Bound, Row
+from mi_client.database import Database
+from mi_client.errors import Ended, NeedsSchema, Refused, TooManyEqual
+from mi_client.opening import add_server, opened
+from mi_client.progress import Progress
+from mi_client.rowfiles import (
+    CsvWriter, Faulty, Item, format_of, json_line, length_of, read_csv, read_json_lines, reading, whole_lines, writing,
+)
+from mi_client.schema import Table
+
+KEEPS = """A load gives the rows back, and what follows from them. It can't keep ids (they are counted from the first id again),
+nor the places of records among equals, nor the orders of sequenced indexes beside the one that was dumped by --order. For an
+exact copy keep the lines of the changes themselves, as a journal: sent again in their order they make the same tables."""
+
+
+class Stopped(Exception):
+    """A load came upon a row that is refused. The pages before are in, and of its own page nothing."""
+
+
+class Loaded(NamedTuple):
+    """What a load did: rows that came in, those among them that got another id, and refusals that were passed over."""
+
+    rows: int
+    other_ids: int
+    refused: List[str]
+
+
+def rows_in_order(db: Database, table: Optional[str], index: str, lower: Optional[Bound] = None) -> Iterator[Row]:
+    """The rows of a table in the order of an index of any kind but hashed. Raises ValueError for those."""
+    home = db.schema.table(table) if db.schema else None
+    found = home.index(index) if home else None
+    if found and found.kind == "hashed":
+        raise ValueError(f"{index} is hashed and has no order; take another index, or `id`")
+    if found and found.kind == "sequenced":
+        return db.walk_list(index, table=table)
+    return db.walk_range(index, ["id"] if index == "id" else None, lower, table=table)
+
+
+def load_rows(
+    db: Database,
+    items: Iterable[Item],
+    keep_going: bool = False,
+    told: Optional[Callable[[int, int], None]] = None,
+    size: int = MOST_ROWS,
+) -> Loaded:
+    """Inserts rows in pages of this size, each in a session of its own and sent ahead. `told` hears of each page: its rows, and the bytes
+    that are read. Raises Stopped, and Refused where another connection holds sessions; where `keep_going` is, refused rows are
+    left out."""
+    rows = other_ids = 0
+    refused: List[str] = []
+    source = iter(items)
+    while True:
+        page = list(itertools.islice(source, size))
+        if not page:
+            return Loaded(rows, other_ids, refused)
+        with db.session():
+            with db.pipeline() as ahead:
+                answers = [ahead.insert(it.row, it.table) for it in page]
+                ahead.flush()
+                ahead.refused()
+            for it, answer in zip(page, answers):
+                try:
+                    id = answer.result()
+                    rows += 1
+                    other_ids += it.id is not None and it.id != id
+                except Refused as refusal:
+                    if not keep_going:
+                        raise Stopped(f"{it.place}: {refusal}") from None
+                    refused.append(f"{it.place}: {refusal}")
+        if told:
+            told(len(page), page[-1].done)
+
+
+def behind_loaded(db: Database, items: Iterable[Item]) -> Iterator[Item]:
+    """The rows that aren't in yet, where each table holds just the first ones of the file."""
+    left: Dict[Optional[str], int] = {}
+    for it in items:
+        if it.table not in left:
+            left[it.table] = db.size(it.table)
+        if left[it.table]:
+            left[it.table] -= 1
+        else:
+            yield it
+
+
+def dumped_tables(db: Database, named: Optional[str]) -> List[Optional[str]]:
+    if named:
+        return [named]
+    return [it.name for it in db.schema.tables] if db.schema else [None]
+
+
+def dump(db: Database, options: argparse.Namespace) -> int:
+    last = whole_lines(options.file) if options.resume else []
+    tables = dumped_tables(db, options.table)
+    lower: Optional[Bound] = None
+    if last:
+        tables = tables[tables.index(last[0].get("table")):]
+        lower = {"gt": [last[0]["id"]]}
+    rows = 0
+    with writing(options.file, bool(last)) as file, Progress(sum(db.size(it) for it in tables)) as progress:
+        for table in tables:
+            for row in rows_in_order(db, table, options.order, lower):
+                file.write(json_line(row, table))
+                rows += 1
+                progress.step(1)
+            lower = None
+    return rows
+
+
+def export(db: Database, options: argparse.Namespace) -> int:
+    rows = 0
+    with writing(options.file) as file, Progress(db.size(options.table)) as progress:
+        sheet = CsvWriter(file, home_of(db, options.table)) if format_of(options.file, options.format) == "csv" else None
+        for row in rows_in_order(db, options.table, options.order):
+            if sheet:
+                sheet.write(row)
+            else:
+                file.write(json_line(row, None))
+            rows += 1
+            progress.step(1)
+        if sheet:
+            sheet.end()
+    return rows
+
+
+def home_of(db: Database, table: Optional[str]) -> Table:
+    if db.schema is None:
+        raise NeedsSchema("the columns come from the schema: name it by --schema")
+    home = db.schema.table(table)
+    if home is None:
+        raise ValueError(f"there is no table {table}; tables are {', '.join(it.name for it in db.schema.tables)}")
+    return home
+
+
+def load(db: Database, options: argparse.Namespace) -> Loaded:
+    with reading(options.file) as file, Progress(length_of(options.file)) as progress:
+        if format_of(options.file, options.format) == "csv":
+            items = read_csv(file, options.file, home_of(db, options.table))
+        else:
+            items = read_json_lines(file, options.file, options.table)
+        return load_rows(db, behind_loaded(db, items) if options.resume else items, options.keep_going, progress.step)
+
+
+# The command lines
+
+
+def writer_options(name: str, about: str) -> argparse.ArgumentParser:
+    parser = argparse.ArgumentParser(prog=f"weltiyo {name}", description=about, epilog=KEEPS)
+    add_server(parser)
+    parser.add_argument("--table", help="this table alone")
+    parser.add_argument("--order", metavar="INDEX", default="id", help="the rows in the order of this index (id)")
+    parser.add_argument("--hold", action="store_true", help="holds a session meanwhile, so that no other connection changes anything")
+    return parser
+
+
+def reader_options(name: str, about: str) -> argparse.ArgumentParser:
+    parser = argparse.ArgumentParser(prog=f"weltiyo {name}", description=about, epilog=KEEPS)
+    add_server(parser)
+    parser.add_argument("--table", help="loads all rows into this table; else into the one that each names, or the first")
+    parser.add_argument("--keep-going", action="store_true", help="leaves refused rows out and tells them, in place of stopping")
+    parser.add_argument("--resume", action="store_true", help="passes over as many rows of a table as it has already")
+    parser.add_argument("--dump", metavar="FILE", dest="then", help="dumps the tables to this file behind it")
+    return parser
+
+
+def ran(name: str, options: argparse.Namespace, work: Callable[[Database, argparse.Namespace], int]) -> int:
+    """Does the work of a tool, and answers its status."""
+    try:
+        with opened(options) as db:
+            with db.session() if getattr(options, "hold", False) else contextlib.nullcontext():
+                return work(db, options)
+    except (Refused, Ended, OSError, ValueError, TooManyEqual, Stopped) as error:
+        print(f"weltiyo {name}: {error}", file=sys.stderr)
+        return 1
+    except KeyboardInterrupt:
+        print(f"weltiyo {name}: interrupted; --resume goes on", file=sys.stderr)
+        return 130
+
+
+def written(db: Database, options: argparse.Namespace) -> int:
+    rows = options.write(db, options)
+    print(f"{rows} rows written", file=sys.stderr)
+    return 0
+
+
+def read(db: Database, options: argparse.Namespace) -> int:
+    done = load(db, options)
+    for it in done.refused:
+        print(it, file=sys.stderr)
+    print(f"{done.rows} rows loaded" + (f", {len(done.refused)} refused" if done.refused else ""), file=sys.stderr)
+    if done.other_ids:
+        print(f"{done.other_ids} of them have other ids than they had", file=sys.stderr)
+    if options.then:
+        dump(db, argparse.Namespace(file=options.then, table=None, order="id", resume=False))
+    return 1 if done.refused else 0
+
+
+def main_dump(words: Optional[List[str]] = None) -> int:
+    parser = writer_options("dump", "Writes the rows of all tables as JSON lines.")
+    parser.add_argument("--resume", action="store_true", help="goes on behind the last whole line of the file")
+    parser.add_argument("file", nargs="?", default="-", help="- is the standard output (as without)")
+    options = parser.parse_args(words)
+    if options.resume and options.order != "id":
+        parser.error("--resume goes on by ids, so it can't go with --order")
+    return ran("dump", argparse.Namespace(**vars(options), write=dump), written)
+
+
+def main_export(words: Optional[List[str]] = None) -> int:
+    parser = writer_options("export", "Writes the rows of one table as CSV or JSON lines.")
+    parser.add_argument("--format", choices=["csv", "jsonl"], help="where the file's name doesn't end in .csv or .jsonl")
+    parser.add_argument("file", nargs="?", default="-", help="- is the standard output (as without)")
+    return ran("export", argparse.Namespace(**vars(parser.parse_args(words)), write=export), written)
+
+
+def main_load(words: Optional[List[str]] = None) -> int:
+    parser = reader_options("load", "Inserts the rows that dump has written.")
+    parser.add_argument("file", nargs="?", default="-", help="- is the standard input (as without)")
+    return ran("load", argparse.Namespace(**vars(parser.parse_args(words)), format="jsonl"), read)
+
+
+def main_import(words: Optional[List[str]] = None) -> int:
+    parser = reader_options("import", "Inserts the rows of a CSV file with a line of names, or of JSON lines.")
+    parser.add_argument("--format", choices=["csv", "jsonl"], help="where the file's name doesn't end in .csv or .jsonl")
+    parser.add_argument("file", nargs="?", default="-", help="- is the standard input (as without)")
+    return ran("import", parser.parse_args(words), read)

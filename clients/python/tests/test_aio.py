@@ -1,0 +1,139 @@
+"""The client for asyncio: the same names, many tasks on one connection, sessions, and ends."""
+import asyncio
+import inspect
+import unittest
+from typing import Any
+
+import kit
+from kit import ANN, BOB, program
+
+from mi_client import Database, Ended, Refused, Server
+from mi_client.aio import AsyncDatabase
+from mi_client.pipeline import Pipeline
+
+
+class Names(unittest.TestCase):
+    def test_all_have_the_same_calls(self) -> None:
+        def named(kind: Any) -> "dict[str, Any]":
+            made = {name: it for name, it in vars(kind).items() if "Request" in str(getattr(getattr(it, "__wrapped__", None), "__annotations__", ""))}
+            return {name: inspect.signature(it) for name, it in made.items()}
+
+        direct = named(Database.__mro__[2])
+        for name in ["walk_range", "walk_list", "window", "around", "count_range", "equal", "session", "ask_line", "ask_lines", "pass_turn", "close"]:
+            ours, theirs = inspect.signature(getattr(AsyncDatabase, name)), inspect.signature(getattr(Database, name))
+            self.assertEqual(list(ours.parameters), list(theirs.parameters))
+        self.assertEqual(len(direct), 25)
+        self.assertEqual(named(AsyncDatabase), direct)
+        self.assertEqual(named(Pipeline), direct)
+        self.assertEqual(list(direct["insert"].parameters), ["self", "row", "table", "before"])
+        self.assertIn("Adds a record", Database.insert.__doc__ or "")
+
+
+class Calls:
+    async def opened(self) -> AsyncDatabase:
+        raise NotImplementedError
+
+    def run_on(self, work: Any) -> Any:
+        async def run() -> Any:
+            async with await self.opened() as db:
+                return await asyncio.wait_for(work(db), 30)
+
+        return asyncio.run(run())
+
+    def test_commands(self) -> None:
+        async def work(db: AsyncDatabase) -> None:
+            ids = await asyncio.gather(*[db.insert({"owner": str(n), "balance": n, "vip": False}) for n in range(100)])
+            self.assertEqual(ids, list(range(100)))
+            rows = await asyncio.gather(*[db.get(n) for n in reversed(range(100))])
+            self.assertEqual([it["owner"] for it in rows], [str(n) for n in reversed(range(100))])
+            self.assertEqual([it["id"] async for it in db.walk_range("by_balance", page=7)], ids)
+            self.assertEqual([it["id"] async for it in db.walk_list("line", page=9)], ids)
+            self.assertEqual([it async for it in db.ask_lines(['{"cmd":"size"}'] * 30, window=4)], ['{"ok":true,"size":100}'] * 30)
+            self.assertEqual((await db.find("by_owner", {"owner": "7"}))["id"], 7)
+            with self.assertRaisesRegex(Refused, "row: balance is a float; int wanted"):
+                await db.insert({"owner": "x", "balance": 1.5, "vip": False})
+            self.assertEqual([it["id"] async for it in db.equal("by_owner", ["8"])], [8])
+            self.assertEqual([it["id"] async for it in db.equal("by_vip", [False], page=30)], ids)
+            self.assertEqual([it["id"] for it in (await db.window("by_balance", 40, 3)).rows], [40, 41, 42])
+            self.assertEqual((await db.around(99, 1, "by_balance")).place, 98)
+            self.assertEqual(await db.count_range("by_balance", [10], [19]), 10)
+            with self.assertRaisesRegex(ValueError, "exchange the bounds"):
+                await db.count_range("by_balance", [19], [10])
+            with self.assertRaisesRegex(Refused, "kind"):
+                await db.window("by_class", 0, 3)
+            await db.pass_turn()
+            self.assertEqual(await db.size(), 100)
+            self.assertRaises(ValueError, await_nothing, db.ask_line(""))
+
+        def await_nothing(it: Any) -> None:
+            it.send(None)
+
+        self.run_on(work)
+
+    def test_sessions(self) -> None:
+        async def work(db: AsyncDatabase) -> None:
+            async def beside() -> None:
+                await asyncio.sleep(0)
+                await db.insert(BOB)
+
+            other = asyncio.ensure_future(beside())
+            with self.assertRaises(KeyError):
+                async with db.session() as number:
+                    self.assertEqual(number, 1)
+                    await asyncio.sleep(0.01)
+                    await asyncio.gather(db.insert(ANN), db.size())
+                    async with db.session():
+                        await db.begin()
+                    self.assertEqual((await db.revision()).depth, 1)
+                    raise KeyError
+            await other
+            self.assertEqual((await db.get(0))["owner"], "bob")
+            async with db.session():
+                await db.erase(0)
+            self.assertEqual((await db.size(), (await db.revision()).depth), (0, 0))
+
+        self.run_on(work)
+
+    def test_cancelled(self) -> None:
+        async def work(db: AsyncDatabase) -> None:
+            asked = [asyncio.ensure_future(db.insert({"owner": str(n), "balance": n, "vip": False})) for n in range(10)]
+            await asyncio.sleep(0)
+            asked[4].cancel()
+            await asyncio.gather(*asked, return_exceptions=True)
+            self.assertEqual([(await db.get(n))["owner"] for n in range(10)], [str(n) for n in range(10)])
+
+        self.run_on(work)
+
+
+class OverPipes(Calls, unittest.TestCase):
+    async def opened(self) -> AsyncDatabase:
+        return await AsyncDatabase.start(program())
+
+    def test_ends(self) -> None:
+        async def work(db: AsyncDatabase) -> None:
+            db._process.kill()
+            with self.assertRaisesRegex(Ended, "status -9"):
+                while True:
+                    await db.size()
+            with self.assertRaises(Ended):
+                await AsyncDatabase.start(program(), "/no/such/file")
+
+        self.run_on(work)
+
+
+class OverLoopback(Calls, unittest.TestCase):
+    async def opened(self) -> AsyncDatabase:
+        self.server = Server(program())
+        self.addCleanup(self.server.close)
+        return await AsyncDatabase.connect(self.server.port, kit.Schema.built_in(), wait=20)
+
+    def test_no_listener(self) -> None:
+        async def work() -> None:
+            with self.assertRaises(OSError):
+                await AsyncDatabase.connect(1, wait=0.05)
+
+        asyncio.run(work())
+
+
+if __name__ == "__main__":
+    unittest.main()

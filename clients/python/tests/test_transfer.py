@@ -1,0 +1,167 @@
+"""Dump, load, export, import: rows go out and come back, page by page, and what was stopped is gone on with."""
+import io
+import json
+import unittest
+from argparse import Namespace
+from typing import Any, List
+
+import kit
+
+from mi_client import transfer
+from mi_client.progress import Progress, clock_time
+from mi_client.rowfiles import Item
+from mi_client.transfer import Stopped, load_rows
+
+SHOP = f"{kit.TOP}/examples/shop.toml"
+
+TWO = """format = 2
+[[table]]
+name = "item"
+column = [{ name = "name", type = "text" }, { name = "stock", type = "int" }, { name = "sold", type = "flag" }]
+index = [
+    { name = "by_name", kind = "hashed", unique = true, key = ["name"] },
+    { name = "by_stock", kind = "ranked", key = ["-stock"] },
+    { name = "line", kind = "sequenced" },
+]
+[[table]]
+name = "sale"
+column = [{ name = "item", type = "int" }]
+"""
+
+ODD = 'a "b", c\nd\te\\ ä漢\u2028'
+
+
+class Files(unittest.TestCase):
+    def setUp(self) -> None:
+        self.folder = kit.folder(self)
+        self.schema = kit.written(self, TWO)
+        self.dump = f"{self.folder}/dump.jsonl"
+        self.lines(self.dump, [*({"id": n, "row": self.row(n), "table": "item"} for n in range(40)), {"id": 0, "row": {"item": 7}, "table": "sale"}])
+
+    def row(self, n: int) -> "dict[str, Any]":
+        return {"name": f"{ODD if n == 25 else 'n'}{n}", "sold": n % 2 == 0, "stock": n % 3}
+
+    def lines(self, path: str, rows: List[Any]) -> None:
+        with open(path, "w", encoding="utf-8", newline="\n") as file:
+            file.writelines(json.dumps(it, separators=(",", ":"), ensure_ascii=False) + "\n" for it in rows)
+
+    def read(self, path: str) -> str:
+        with open(path, encoding="utf-8", newline="") as file:
+            return file.read()
+
+    def run_tool(self, *words: str, status: int = 0, said: str = "", schema: "str | None" = None) -> str:
+        ran = kit.ran(*words, *(["--schema", schema or self.schema] if "--connect" not in words else []))
+        self.assertEqual((ran.returncode, ran.stderr), (status, said))
+        return ran.stdout
+
+    def test_a_load_and_a_dump(self) -> None:
+        again = f"{self.folder}/again.jsonl"
+        self.run_tool("load", self.dump, "--dump", again, said="41 rows loaded\n")
+        self.assertEqual(self.read(again), self.read(self.dump))
+
+    def test_a_load_that_stops(self) -> None:
+        """Whole pages are in, and none of the page in which a row is refused; then it goes on there."""
+        db = kit.start(self, TWO)
+        items = [Item(f"f:{n}", "item", n, self.row(n), n) for n in range(28)]
+        items[25] = items[25]._replace(row={**self.row(25), "stock": 0.5})
+        told: List[Any] = []
+        with self.assertRaisesRegex(Stopped, "^f:25: row: stock is a float; int wanted$"):
+            load_rows(db, items, told=lambda *it: told.append(it), size=10)
+        self.assertEqual((told, db.size("item"), db.revision()), ([(10, 9), (10, 19)], 20, (0, 0, 0)))
+        done = load_rows(db, transfer.behind_loaded(db, items), keep_going=True, size=5)
+        self.assertEqual((done.rows, done.other_ids, done.refused), (7, 2, ["f:25: row: stock is a float; int wanted"]))
+
+    def test_a_dump_that_broke_off(self) -> None:
+        db = kit.start(self, TWO)
+        transfer.load(db, Namespace(file=self.dump, format=None, table=None, resume=False, keep_going=False))
+        for cut in [1, 100, 700, len(self.read(self.dump).encode()) - 3]:
+            part = f"{self.folder}/part.jsonl"
+            self.assertEqual(transfer.dump(db, Namespace(file=part, table=None, order="id", resume=False)), 41)
+            whole = self.read(part)
+            with open(part, "wb") as file:
+                file.write(whole.encode()[:cut])
+            transfer.dump(db, Namespace(file=part, table=None, order="id", resume=True))
+            self.assertEqual(self.read(part), whole)
+
+    def test_in_another_order(self) -> None:
+        db = kit.start(self, TWO)
+        for n in range(6):
+            db.insert(self.row(n), before=("line", 0) if n else None)
+        path = f"{self.folder}/out.csv"
+        for order, want in [("id", [0, 1, 2, 3, 4, 5]), ("line", [1, 2, 3, 4, 5, 0]), ("by_stock", [2, 5, 1, 4, 0, 3])]:
+            transfer.export(db, Namespace(file=path, table="item", order=order, format=None))
+            self.assertEqual([int(it.split(",")[0]) for it in self.read(path).splitlines()[1:]], want)
+
+    def test_csv(self) -> None:
+        self.lines(f"{self.folder}/rows.jsonl", [self.row(n) for n in range(7)])
+        path = f"{self.folder}/rows.csv"
+        with open(path, "w", encoding="utf-8-sig", newline="") as file:
+            file.write('sold,name,stock\r\ntrue,"a ""b"",\nc",5\r\n0,,-9223372036854775808\r\n')
+        again = f"{self.folder}/again.jsonl"
+        self.run_tool("import", path, "--table", "item", "--dump", again, said="2 rows loaded\n")
+        self.assertEqual(
+            self.read(again),
+            '{"id":0,"row":{"name":"a \\"b\\",\\nc","sold":true,"stock":5},"table":"item"}\n'
+            '{"id":1,"row":{"name":"","sold":false,"stock":-9223372036854775808},"table":"item"}\n',
+        )
+        for text, words in [
+            ("name,stock\n", ":1: the first line has the names of the columns, name, stock, sold; it has name, stock"),
+            ("", ":1: the first line has the names of the columns, name, stock, sold; it has none"),
+            ("name,stock,sold\na,b,true\n", ":2: stock is 'b'; a whole number wanted"),
+            ("name,stock,sold\na,1_000,true\n", ":2: stock is '1_000'; a whole number wanted"),
+            ("name,stock,sold\na,1,maybe\n", ":2: sold is 'maybe'; true or false wanted"),
+            ("name,stock,sold\n\na,1\n", ":3: 2 values, and 3 names in the first line"),
+            ("id,name,stock,sold\n7,a,1,true\n8,a,1,true\n", ":3: unique: record 0 has this key in by_name"),
+        ]:
+            with open(path, "w", encoding="utf-8") as file:
+                file.write(text)
+            self.run_tool("import", path, status=1, said=f"weltiyo import: {path}{words}\n")
+
+    def test_export(self) -> None:
+        ran = kit.ran("export", "--table", "none", "--schema", self.schema)
+        self.assertEqual((ran.returncode, ran.stderr), (1, "weltiyo export: table: there is no table none; tables are item, sale\n"))
+        self.assertEqual(self.run_tool("export", "--format", "csv", said="0 rows written\n"), "id,name,stock,sold\n")
+        self.run_tool("export", "--order", "by_name", status=1, said="weltiyo export: by_name is hashed and has no order; take another index, or `id`\n")
+
+    def test_json_lines_that_are_none(self) -> None:
+        for text, words in [("{", ":1: no JSON:"), ("\n5\n", ":2: a row is an object"), ('{"name":"a"}\n', ":1: row: stock, sold are missing")]:
+            path = f"{self.folder}/bad.jsonl"
+            with open(path, "w", encoding="utf-8") as file:
+                file.write(text)
+            ran = kit.ran("load", path, "--schema", self.schema)
+            self.assertEqual(ran.returncode, 1)
+            self.assertIn(path + words, ran.stderr)
+        self.run_tool("load", f"{self.folder}/none", status=1, said=f"weltiyo load: [Errno 2] No such file or directory: '{self.folder}/none'\n")
+
+    def test_keep_going(self) -> None:
+        path = f"{self.folder}/rows.jsonl"
+        self.lines(path, [self.row(0), self.row(0), self.row(1)])
+        said = f"{path}:2: unique: record 0 has this key in by_name\n2 rows loaded, 1 refused\n"
+        self.run_tool("load", "--keep-going", path, status=1, said=said)
+
+
+class Drawing(unittest.TestCase):
+    def test_progress(self) -> None:
+        class Screen(io.StringIO):
+            def isatty(self) -> bool:
+                return True
+
+        now = [0.0]
+        screen = Screen()
+        with Progress(1000, screen, lambda: now[0]) as progress:
+            for _ in range(5):
+                now[0] += 1
+                progress.step(100)
+            self.assertEqual(progress.line(), "[############............]  50%  500 rows, 100/s, 0:05 left")
+            progress.step(500)
+        self.assertEqual(screen.getvalue().rpartition("\r")[2], "[########################] 100%  1,000 rows, 200/s\x1b[K\n")
+        silent = io.StringIO()
+        with Progress(10, silent) as quiet:
+            quiet.step(5)
+        self.assertEqual(silent.getvalue(), "")
+        self.assertEqual([clock_time(it) for it in [0, 59.6, 3661]], ["0:00", "1:00", "1:01:01"])
+        self.assertIn("100%", Progress(0, screen).line())
+
+
+if __name__ == "__main__":
+    unittest.main()

@@ -1,6 +1,0 @@
--- the inverses fit
-use Rattle.mi_changes.specs.Undone.{CanTakeBack}
-use Rattle.mi_changes.proofs.tests.container.check_ids.Given as goal
-
-abbrev pub invariant-loop : goal.invariant-loop
-invariant-loop g l = CanTakeBack l.undoable.schema (g.C.Container.shape l.undoable.rows) (g.C.Container.plain l.undoable.rows) l.undoable.inverses.items

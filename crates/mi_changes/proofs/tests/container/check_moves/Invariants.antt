@@ -1,6 +1,0 @@
--- the inverses fit
-use Rattle.mi_changes.specs.Undone.{CanTakeBack}
-use Rattle.mi_changes.proofs.tests.container.check_moves.Given as goal
-
-abbrev pub invariant-loop-want : goal.invariant-loop-want
-invariant-loop-want g l = CanTakeBack l.undoable.schema (g.C.Container.shape l.undoable.rows) (g.C.Container.plain l.undoable.rows) l.undoable.inverses.items

@@ -1,0 +1,558 @@
+-- A catalog of one table answers a line without a member `table` as that table by itself answers it.
+use Rattle.std.proofs.Common.{◌≡◌, ℕ, zero, suc, List, [], ◌∷◌, length, map, Bool, true, false, cond, not, ◌&&◌, ◌||◌, Option, Some, None}
+use Rattle.std.proofs.Common.{Result, Ok, Err, IfSome, IfOk, codes, refl, sym, ap, ◌∙◌, subst, inl, inr, true≢false}
+use Rattle.std.specs.Option.{option_map, option_and_then, ok_or}
+use Rattle.std.specs.List.{filter, list_any}
+use Rattle.std.specs.Str.{bytes_eq}
+use Rattle.std.specs.Ordering.{nat_cmp, match_ordering, is_eq}
+use Rattle.std.specs.declared.cmp.Ordering.{Ordering}
+use Rattle.std.specs.declared.cmp.Ordering.TheVariants.{Less, Equal, Greater}
+use Rattle.std.specs.Cmp.Lexicographic.{slice_cmp}
+use Rattle.std.proofs.lemmas.List.{length-map}
+use Rattle.std.proofs.lemmas.Map.Text.{is_eq-slice_cmp}
+use Rattle.std.proofs.lemmas.Slice.Eq.{bytes_eq-Decides}
+use Rattle.serde_json.specs.Data.{Data, Members, no_members, member}
+use Rattle.serde_json.specs.Find.{get_member, as_object, as_str, as_bool}
+use Rattle.mi_value.specs.declared.value.Value.{Value}
+use Rattle.mi_value.specs.declared.refusal.Refusal.{Refusal}
+use Rattle.mi_value.specs.declared.refusal.Refusal.TheVariants as refusal
+use Rattle.mi_value.specs.declared.refusal.NoSession.{NoSession}
+use Rattle.mi_catalog.specs.Shape.{Shape, CatalogShape}
+use Rattle.mi_model.specs.Table.{Table, has}
+use Rattle.mi_model.specs.LookUp.{rank}
+use Rattle.mi_model.specs.Page.{list}
+use Rattle.mi_model.specs.Verdict.{has_place}
+use Rattle.mi_model.specs.Database.{Database, Step, depth}
+use Rattle.mi_model.specs.OneTable as one
+use Rattle.mi_model.specs.OneTable.{OneTable, IsAsOneTable, in_catalog}
+use Rattle.mi_model.proofs.OneTableLaws.{one_table_as_before}
+use Rattle.mi_request.specs.Json.{has_only, natural, needed, optional, default, option_map₂, option_map₃, option_map₄, option_map₅, option_map₆, if_there}
+use Rattle.mi_request.specs.Commands.{Form, form_of, look_up_named, step_named, command_named, keeps_out, table_in, index_in, id_in}
+use Rattle.mi_request.specs.Commands.{key_in, limit_in, lower_end, upper_end, up_to, place_or_none, natural_or_null}
+use Rattle.mi_request.specs.declared.request.End.TheVariants.{Open}
+use Rattle.mi_value.specs.declared.limits.TheConstants.{MAX_RESERVED_CHANGES, MAX_RESERVED_SESSIONS}
+use Rattle.mi_request.specs.Lines.{json_of, request_by, form_in, request_in, request_or_refusal, command_line}
+use Rattle.mi_request.specs.declared.request.Request.{Request}
+use Rattle.mi_request.specs.declared.request.Request.TheVariants as request
+use Rattle.mi_protocol.specs.FirstTable.{names_table, IsOverFirst}
+use Rattle.mi_protocol.proofs.FirstTableLaws.{no_name_is_the_first}
+use Rattle.mi_protocol.specs.Binding.{bound_command}
+use Rattle.mi_protocol.specs.Replies as say
+use Rattle.mi_protocol.specs.Replies.{Said, reply_text}
+use Rattle.mi_protocol.specs.declared.binding.Command.{Command}
+use Rattle.mi_protocol.specs.declared.binding.Command.TheVariants as command
+use Rattle.mi_commands.specs.Asked.{Asked, text, too_long}
+use Rattle.mi_commands.specs.Holder.{HeldDatabase, is_busy, one_more, one_less, at_most, held_by}
+use Rattle.mi_commands.specs.Performed.{performed, said_of, all_done, holder_after, or_session, found, show_found}
+use Rattle.mi_commands.specs.Answer.{answer, command_of, command_answer, MayGive}
+use Rattle.mi_commands.specs.Alone.{HeldTable, without_table, request_alone, read_alone, line_alone, bound_alone, shown, paged}
+use Rattle.mi_commands.specs.Alone.{performed_alone, command_alone, done_alone, answer_alone, refusal_alone, modify_refusal_alone, text_alone}
+use Rattle.mi_commands.specs.Alone.{held_in_catalog, HasNoTable, MayGiveAlone, AnsweredAlone, OneTableAnswersAlone, OneTableMayGive}
+use Rattle.mi_commands.specs.declared.holder.Holder.{Holder}
+
+-- ---- reading
+
+abbrev the_table : List ℕ
+the_table = codes "table"
+
+by_order : {A : Type 0} (o : Ordering) (a b : A) → match_ordering o a b a ≡ cond (is_eq o) b a
+by_order Less a b = refl
+by_order Equal a b = refl
+by_order Greater a b = refl
+
+get_front : (l : List ℕ) (e : Data) (ms : Members) → get_member the_table (member l e ms) ≡ cond (bytes_eq the_table l) (Some e) (get_member the_table ms)
+get_front l e ms =
+    by_order (slice_cmp nat_cmp the_table l) (get_member the_table ms) (Some e)
+    ∙ ap (λ b. cond b (Some e) (get_member the_table ms)) (is_eq-slice_cmp the_table l)
+
+-- a member in front of members is another, and so are those behind it
+other_front : (b : Bool) (e : Data) (o : Option Data) → cond b (Some e) o ≡ None → (b ≡ false) × (o ≡ None)
+other_front true e o is = absurd (some is)
+  where
+    some : Some e ≡ None → ⊥
+    some h = cc
+other_front false e o is = (refl, is)
+
+-- a name that is `table` isn't one that isn't
+apart : (k n : List ℕ) → bytes_eq the_table k ≡ false → bytes_eq n the_table ≡ true → (b : Bool) → bytes_eq k n ≡ b → b ≡ false
+apart k n other same false is = refl
+apart k n other same true is =
+    let k_is : k ≡ the_table = (bytes_eq-Decides k n).0 is ∙ (bytes_eq-Decides n the_table).0 same in
+    absurd (true≢false (sym ((bytes_eq-Decides the_table k).1 (sym k_is)) ∙ other))
+
+abbrev less : List (List ℕ) → List (List ℕ)
+less names = filter (λ n. not (bytes_eq n the_table)) names
+
+found_at : (k n : List ℕ) → bytes_eq the_table k ≡ false → (names : List (List ℕ))
+    → list_any (λ m. bytes_eq k m) names ≡ list_any (λ m. bytes_eq k m) (less names) → (b : Bool) → bytes_eq n the_table ≡ b
+    → (bytes_eq k n || list_any (λ m. bytes_eq k m) names) ≡ list_any (λ m. bytes_eq k m) (cond (not b) (n ∷ less names) (less names))
+found_at k n other names later true is = ap (λ b. b || list_any (λ m. bytes_eq k m) names) (apart k n other is (bytes_eq k n) refl) ∙ later
+found_at k n other names later false is = ap (λ b. bytes_eq k n || b) later
+
+-- a name that isn't `table` is found in a list of names whether or not `table` is in it
+found_without : (k : List ℕ) → bytes_eq the_table k ≡ false → (names : List (List ℕ))
+    → list_any (λ n. bytes_eq k n) names ≡ list_any (λ n. bytes_eq k n) (less names)
+found_without k other [] = refl
+found_without k other (n ∷ names) = found_at k n other names (found_without k other names) (bytes_eq n the_table) refl
+
+-- members without `table` have no other names than these where they have no other than these without `table`
+only_without : (names : List (List ℕ)) (ms : Members) → get_member the_table ms ≡ None
+    → has_only names ms ≡ has_only (less names) ms
+unfolding has_only
+only_without names no_members none = refl
+only_without names (member k d ms) none =
+    let apart = other_front (bytes_eq the_table k) d (get_member the_table ms) (sym (get_front k d ms) ∙ none) in
+    (λ i. found_without k apart.0 names i && only_without names ms apart.1 i)
+
+-- ---- a request of such members names no table
+
+abbrev NoName : Option Request → Type 0
+NoName o = IfSome o (λ r. names_table r ≡ false)
+
+all₁ : {A : Type 0} (f : A → Request) → ((a : A) → names_table (f a) ≡ false) → (a : Option A) → NoName (option_map f a)
+all₁ f h (Some a) = h a
+all₁ f h None = tt
+
+all₂ : {A B : Type 0} (f : A → B → Request) → ((a : A) (b : B) → names_table (f a b) ≡ false) → (a : Option A) (b : Option B) → NoName (option_map₂ f a b)
+all₂ f h (Some a) b = all₁ (f a) (h a) b
+all₂ f h None b = tt
+
+all₃ : {A B C : Type 0} (f : A → B → C → Request) → ((a : A) (b : B) (c : C) → names_table (f a b c) ≡ false)
+    → (a : Option A) (b : Option B) (c : Option C) → NoName (option_map₃ f a b c)
+all₃ f h (Some a) b c = all₂ (f a) (h a) b c
+all₃ f h None b c = tt
+
+all₄ : {A B C D : Type 0} (f : A → B → C → D → Request) → ((a : A) (b : B) (c : C) (d : D) → names_table (f a b c d) ≡ false)
+    → (a : Option A) (b : Option B) (c : Option C) (d : Option D) → NoName (option_map₄ f a b c d)
+all₄ f h (Some a) b c d = all₃ (f a) (h a) b c d
+all₄ f h None b c d = tt
+
+all₅ : {A B C D E : Type 0} (f : A → B → C → D → E → Request) → ((a : A) (b : B) (c : C) (d : D) (e : E) → names_table (f a b c d e) ≡ false)
+    → (a : Option A) (b : Option B) (c : Option C) (d : Option D) (e : Option E) → NoName (option_map₅ f a b c d e)
+all₅ f h (Some a) b c d e = all₄ (f a) (h a) b c d e
+all₅ f h None b c d e = tt
+
+-- the same where the first part is that no table is named
+first₁ : (f : Option (List ℕ) → Request) → names_table (f None) ≡ false → (t : Option (Option (List ℕ))) → t ≡ Some None → NoName (option_map f t)
+first₁ f h t none = subst (λ t. NoName (option_map f t)) (sym none) h
+
+first₂ : {A : Type 0} (f : Option (List ℕ) → A → Request) → ((a : A) → names_table (f None a) ≡ false)
+    → (t : Option (Option (List ℕ))) → t ≡ Some None → (a : Option A) → NoName (option_map₂ f t a)
+first₂ f h t none a = subst (λ t. NoName (option_map₂ f t a)) (sym none) (all₁ (f None) h a)
+
+first₃ : {A B : Type 0} (f : Option (List ℕ) → A → B → Request) → ((a : A) (b : B) → names_table (f None a b) ≡ false)
+    → (t : Option (Option (List ℕ))) → t ≡ Some None → (a : Option A) (b : Option B) → NoName (option_map₃ f t a b)
+first₃ f h t none a b = subst (λ t. NoName (option_map₃ f t a b)) (sym none) (all₂ (f None) h a b)
+
+first₄ : {A B C : Type 0} (f : Option (List ℕ) → A → B → C → Request) → ((a : A) (b : B) (c : C) → names_table (f None a b c) ≡ false)
+    → (t : Option (Option (List ℕ))) → t ≡ Some None → (a : Option A) (b : Option B) (c : Option C) → NoName (option_map₄ f t a b c)
+first₄ f h t none a b c = subst (λ t. NoName (option_map₄ f t a b c)) (sym none) (all₃ (f None) h a b c)
+
+first₅ : {A B C D : Type 0} (f : Option (List ℕ) → A → B → C → D → Request) → ((a : A) (b : B) (c : C) (d : D) → names_table (f None a b c d) ≡ false)
+    → (t : Option (Option (List ℕ))) → t ≡ Some None → (a : Option A) (b : Option B) (c : Option C) (d : Option D) → NoName (option_map₅ f t a b c d)
+first₅ f h t none a b c d = subst (λ t. NoName (option_map₅ f t a b c d)) (sym none) (all₄ (f None) h a b c d)
+
+first₆ : {A B C D E : Type 0} (f : Option (List ℕ) → A → B → C → D → E → Request)
+    → ((a : A) (b : B) (c : C) (d : D) (e : E) → names_table (f None a b c d e) ≡ false) → (t : Option (Option (List ℕ))) → t ≡ Some None
+    → (a : Option A) (b : Option B) (c : Option C) (d : Option D) (e : Option E) → NoName (option_map₆ f t a b c d e)
+first₆ f h t none a b c d e = subst (λ t. NoName (option_map₆ f t a b c d e)) (sym none) (all₅ (f None) h a b c d e)
+
+module _ (ms : Members) (none : get_member the_table ms ≡ None) where
+  no_table : table_in ms ≡ Some None
+  no_table = ap (if_there as_str) none
+
+  -- of each form that may be
+  abbrev OfForm : Option Form → Type 0
+  OfForm o = IfSome o (λ form. NoName (form.request ms))
+
+  either : {A : Type 0} (f : A → Form) (b : Bool) (x y : Option A) → OfForm (option_map f x) → OfForm (option_map f y) → OfForm (option_map f (cond b x y))
+  either f true x y h k = h
+  either f false x y h k = k
+
+  look_up_names : (t : List ℕ) → OfForm (option_map form_of (look_up_named t))
+  unfolding look_up_named
+  look_up_names t =
+      either form_of (bytes_eq t (codes "revision")) _ _ refl
+      (either form_of (bytes_eq t (codes "get")) _ _ (first₂ request.Get (λ a. refl) (table_in ms) no_table (id_in ms))
+      (either form_of (bytes_eq t (codes "find")) _ _ (first₃ request.Find (λ a b. refl) (table_in ms) no_table (index_in ms) (key_in ms))
+      (either form_of (bytes_eq t (codes "nth")) _ _
+      (first₃ request.Nth (λ a b. refl) (table_in ms) no_table (index_in ms) (needed natural (codes "n") ms))
+      (either form_of (bytes_eq t (codes "count")) _ _ (first₃ request.Count (λ a b. refl) (table_in ms) no_table (index_in ms) (key_in ms))
+      (either form_of (bytes_eq t (codes "range")) _ _
+      (first₆ request.Range (λ a b c d e. refl) (table_in ms) no_table (index_in ms) (default Open lower_end (codes "lower") ms)
+      (default Open upper_end (codes "upper") ms) (default false as_bool (codes "reverse") ms) (limit_in ms))
+      (either form_of (bytes_eq t (codes "list")) _ _
+      (first₄ request.List (λ a b c. refl) (table_in ms) no_table (index_in ms) (optional natural (codes "after") ms) (limit_in ms))
+      (either form_of (bytes_eq t (codes "rank")) _ _ (first₃ request.Rank (λ a b. refl) (table_in ms) no_table (index_in ms) (id_in ms))
+      (either form_of (bytes_eq t (codes "lower_rank")) _ _
+      (first₃ request.LowerRank (λ a b. refl) (table_in ms) no_table (index_in ms) (key_in ms))
+      (either form_of (bytes_eq t (codes "upper_rank")) _ _
+      (first₃ request.UpperRank (λ a b. refl) (table_in ms) no_table (index_in ms) (key_in ms))
+      (either form_of (bytes_eq t (codes "size")) _ _ (first₁ request.Size refl (table_in ms) no_table) tt))))))))))
+
+  step_names : (t : List ℕ) → OfForm (option_map form_of (step_named t))
+  unfolding step_named
+  step_names t =
+      either form_of (bytes_eq t (codes "start")) _ _ refl
+      (either form_of (bytes_eq t (codes "undo")) _ _ refl
+      (either form_of (bytes_eq t (codes "squash")) _ _ refl
+      (either form_of (bytes_eq t (codes "commit")) _ _ (all₁ request.Commit (λ a. refl) (needed natural (codes "revision") ms))
+      (either form_of (bytes_eq t (codes "undo_all")) _ _ refl
+      (either form_of (bytes_eq t (codes "push")) _ _ refl
+      (either form_of (bytes_eq t (codes "reserve")) _ _
+      (all₂ request.Reserve (λ a b. refl) (needed (up_to MAX_RESERVED_CHANGES) (codes "changes") ms)
+      (needed (up_to MAX_RESERVED_SESSIONS) (codes "sessions") ms)) (look_up_names t)))))))
+
+  command_names : (t : List ℕ) → OfForm (option_map form_of (command_named t))
+  command_names t =
+      either form_of (bytes_eq t (codes "insert")) _ _
+      (first₃ request.Insert (λ a b. refl) (table_in ms) no_table (needed as_object (codes "row") ms) (default None place_or_none (codes "before") ms))
+      (either form_of (bytes_eq t (codes "replace")) _ _
+      (first₃ request.Replace (λ a b. refl) (table_in ms) no_table (id_in ms) (needed as_object (codes "row") ms))
+      (either form_of (bytes_eq t (codes "modify")) _ _
+      (first₅ request.Modify (λ a b c d. refl) (table_in ms) no_table (id_in ms) (default no_members as_object (codes "set") ms)
+      (default no_members as_object (codes "add") ms) (default false as_bool (codes "rollback") ms))
+      (either form_of (bytes_eq t (codes "erase")) _ _ (first₂ request.Erase (λ a. refl) (table_in ms) no_table (id_in ms))
+      (either form_of (bytes_eq t (codes "erase_key")) _ _
+      (first₃ request.EraseKey (λ a b. refl) (table_in ms) no_table (index_in ms) (key_in ms))
+      (either form_of (bytes_eq t (codes "relocate")) _ _
+      (first₄ request.Relocate (λ a b c. refl) (table_in ms) no_table (index_in ms) (id_in ms) (default None natural_or_null (codes "before") ms))
+      (step_names t))))))
+
+  named_names : (o : Option (List ℕ)) → OfForm (option_map form_of (option_and_then command_named o))
+  named_names None = tt
+  named_names (Some t) = command_names t
+
+  kept : (b : Bool) (o : Option Request) → NoName o → NoName (cond b o None)
+  kept true o h = h
+  kept false o h = tt
+
+  request_names : (form : Option Form) → OfForm form → NoName (option_and_then (request_by ms) form)
+  request_names None h = tt
+  request_names (Some form) h = kept (has_only (codes "cmd" ∷ form.members) ms) (form.request ms) h
+
+  request_same : (form : Option Form) → option_and_then (request_by ms) form ≡ option_and_then (λ f. request_by ms (without_table f)) form
+  request_same None = refl
+  request_same (Some form) = ap (λ b. cond b (form.request ms) None) (only_without (codes "cmd" ∷ form.members) ms none)
+
+abbrev OfOne : Result Request Refusal → Type 0
+OfOne r = IfOk r (λ q. names_table q ≡ false)
+
+object_same : (o : Option Members) → option_and_then (get_member the_table) o ≡ None → option_and_then request_in o ≡ option_and_then request_alone o
+object_same None none = refl
+object_same (Some ms) none = request_same ms none (form_in ms)
+
+object_names : (o : Option Members) → option_and_then (get_member the_table) o ≡ None → NoName (option_and_then request_in o)
+object_names None none = tt
+object_names (Some ms) none = request_names ms none (form_in ms) (named_names ms none (needed as_str (codes "cmd") ms))
+
+or_form : (o : Option Request) → NoName o → OfOne (ok_or o refusal.Form)
+or_form (Some r) h = h
+or_form None h = tt
+
+line_same : (d : Option Data) → option_and_then (get_member the_table) (option_and_then as_object d) ≡ None → request_or_refusal d ≡ read_alone d
+line_same None none = refl
+line_same (Some d) none = ap (λ o. ok_or o refusal.Form) (object_same (as_object d) none)
+
+line_names : (d : Option Data) → option_and_then (get_member the_table) (option_and_then as_object d) ≡ None → OfOne (request_or_refusal d)
+line_names None none = tt
+line_names (Some d) none = or_form (option_and_then request_in (as_object d)) (object_names (as_object d) none)
+
+-- ---- binding
+
+module _ (first : ℕ) (s : Shape) where
+  abbrev of_one : CatalogShape
+  of_one = record { tables = s ∷ []; first_revision = first }
+
+  bound_same : (r : Request) → names_table r ≡ false → bound_command of_one r ≡ bound_alone s r
+  bound_same (request.Insert (Some name) row before) none = absurd (cc)
+  bound_same (request.Insert None row before) none = refl
+  bound_same (request.Replace (Some name) id row) none = absurd (cc)
+  bound_same (request.Replace None id row) none = refl
+  bound_same (request.Modify (Some name) id set add rollback) none = absurd (cc)
+  bound_same (request.Modify None id set add rollback) none = refl
+  bound_same (request.Erase (Some name) id) none = absurd (cc)
+  bound_same (request.Erase None id) none = refl
+  bound_same (request.EraseKey (Some name) index key) none = absurd (cc)
+  bound_same (request.EraseKey None index key) none = refl
+  bound_same (request.Relocate (Some name) index id before) none = absurd (cc)
+  bound_same (request.Relocate None index id before) none = refl
+  bound_same request.Start none = refl
+  bound_same request.Undo none = refl
+  bound_same request.Squash none = refl
+  bound_same (request.Commit revision) none = refl
+  bound_same request.UndoAll none = refl
+  bound_same request.Push none = refl
+  bound_same (request.Reserve changes sessions) none = refl
+  bound_same request.Revision none = refl
+  bound_same (request.Get (Some name) id) none = absurd (cc)
+  bound_same (request.Get None id) none = refl
+  bound_same (request.Find (Some name) index key) none = absurd (cc)
+  bound_same (request.Find None index key) none = refl
+  bound_same (request.Nth (Some name) index n) none = absurd (cc)
+  bound_same (request.Nth None index n) none = refl
+  bound_same (request.Count (Some name) index key) none = absurd (cc)
+  bound_same (request.Count None index key) none = refl
+  bound_same (request.Range (Some name) index lower upper reverse limit) none = absurd (cc)
+  bound_same (request.Range None index lower upper reverse limit) none = refl
+  bound_same (request.List (Some name) index after limit) none = absurd (cc)
+  bound_same (request.List None index after limit) none = refl
+  bound_same (request.Rank (Some name) index id) none = absurd (cc)
+  bound_same (request.Rank None index id) none = refl
+  bound_same (request.LowerRank (Some name) index key) none = absurd (cc)
+  bound_same (request.LowerRank None index key) none = refl
+  bound_same (request.UpperRank (Some name) index key) none = absurd (cc)
+  bound_same (request.UpperRank None index key) none = refl
+  bound_same (request.Size (Some name)) none = absurd (cc)
+  bound_same (request.Size None) none = refl
+
+  -- ---- the text of a reply
+
+  refusal_same : (e : Refusal) → say.refusal_text of_one 0 e ≡ refusal_alone s e
+  refusal_same refusal.Line = refl
+  refusal_same refusal.Json = refl
+  refusal_same refusal.Form = refl
+  refusal_same refusal.Busy = refl
+  refusal_same refusal.NoTable = refl
+  refusal_same refusal.Index = refl
+  refusal_same refusal.Kind = refl
+  refusal_same refusal.Row = refl
+  refusal_same refusal.Key = refl
+  refusal_same refusal.NoId = refl
+  refusal_same refusal.Range = refl
+  refusal_same refusal.Full = refl
+  refusal_same refusal.Spent = refl
+  refusal_same (refusal.Unique index id) = refl
+  refusal_same (refusal.Lost index id) = refl
+  refusal_same refusal.Depth = refl
+  refusal_same refusal.Session = refl
+  refusal_same refusal.Memory = refl
+
+  modify_refusal_same : (e : Refusal) → say.modify_refusal_text of_one 0 e ≡ modify_refusal_alone s e
+  modify_refusal_same refusal.Line = refl
+  modify_refusal_same refusal.Json = refl
+  modify_refusal_same refusal.Form = refl
+  modify_refusal_same refusal.Busy = refl
+  modify_refusal_same refusal.NoTable = refl
+  modify_refusal_same refusal.Index = refl
+  modify_refusal_same refusal.Kind = refl
+  modify_refusal_same refusal.Row = refl
+  modify_refusal_same refusal.Key = refl
+  modify_refusal_same refusal.NoId = refl
+  modify_refusal_same refusal.Range = refl
+  modify_refusal_same refusal.Full = refl
+  modify_refusal_same refusal.Spent = refl
+  modify_refusal_same (refusal.Unique index id) = refl
+  modify_refusal_same (refusal.Lost index id) = refl
+  modify_refusal_same refusal.Depth = refl
+  modify_refusal_same refusal.Session = refl
+  modify_refusal_same refusal.Memory = refl
+
+  -- a reply over table 0
+  abbrev IsFirst : Said → Type 0
+  IsFirst (say.shown n id row) = n ≡ 0
+  IsFirst (say.rows n records more) = n ≡ 0
+  IsFirst (say.refused_modify n e) = n ≡ 0
+  IsFirst (say.refused n e) = n ≡ 0
+  IsFirst other = Unit {0}
+
+  text_same : (said : Said) → IsFirst said → reply_text of_one said ≡ text_alone s said
+  text_same (say.inserted id) h = refl
+  text_same say.done h = refl
+  text_same (say.erased n) h = refl
+  text_same (say.shown zero id row) h = refl
+  text_same (say.shown (suc n) id row) h = absurd (cc)
+  text_same (say.revised n) h = refl
+  text_same (say.committed n) h = refl
+  text_same (say.undone n) h = refl
+  text_same (say.pushed n) h = refl
+  text_same (say.status depth held revision) h = refl
+  text_same (say.counted n) h = refl
+  text_same (say.ranked n) h = refl
+  text_same (say.sized n) h = refl
+  text_same (say.rows zero records more) h = refl
+  text_same (say.rows (suc n) records more) h = absurd (cc)
+  text_same (say.refused_modify zero e) h = modify_refusal_same e
+  text_same (say.refused_modify (suc n) e) h = absurd (cc)
+  text_same (say.refused zero e) h = refusal_same e
+  text_same (say.refused (suc n) e) h = absurd (cc)
+
+  said_first : {A : Type 0} (accepted : A → Said) (refused : Refusal → Said) (r : Result A Refusal) → ((a : A) → IsFirst (accepted a))
+      → ((e : Refusal) → IsFirst (refused e)) → IsFirst (said_of accepted refused r)
+  said_first accepted refused (Ok a) h k = h a
+  said_first accepted refused (Err e) h k = k e
+
+  found_first : (id : ℕ) (o : Option (List Value)) → IsFirst (found 0 id o)
+  found_first id None = refl
+  found_first id (Some row) = refl
+
+  shown_first : (t : Table) (o : Option ℕ) → IsFirst (shown t o)
+  shown_first t None = refl
+  shown_first t (Some id) = found_first id _
+
+  either_first : (b : Bool) (x y : Said) → IsFirst x → IsFirst y → IsFirst (cond b x y)
+  either_first true x y h k = h
+  either_first false x y h k = k
+
+  module _ (d : HeldTable) (conn : ℕ) where
+    performed_first : (c : Command) → IsFirst (performed_alone s d conn c).0
+    performed_first (command.Insert n row before) = said_first say.inserted (say.refused 0) _ (λ a. tt) (λ e. refl)
+    performed_first (command.Replace n id row) = said_first all_done (say.refused 0) _ (λ a. tt) (λ e. refl)
+    performed_first (command.Modify n id edits rollback) = said_first all_done (say.refused_modify 0) _ (λ a. tt) (λ e. refl)
+    performed_first (command.Erase n id) = said_first all_done (say.refused 0) _ (λ a. tt) (λ e. refl)
+    performed_first (command.EraseKey n x key) = tt
+    performed_first (command.Relocate n x id before) = said_first all_done (say.refused 0) _ (λ a. tt) (λ e. refl)
+    performed_first command.Start = said_first say.revised (say.refused 0) _ (λ a. tt) (λ e. refl)
+    performed_first command.Undo = said_first say.revised (say.refused 0) _ (λ a. tt) (λ e. refl)
+    performed_first command.Squash = said_first say.revised (say.refused 0) _ (λ a. tt) (λ e. refl)
+    performed_first (command.Commit revision) = tt
+    performed_first command.UndoAll = tt
+    performed_first command.Push = tt
+    performed_first (command.Reserve changes sessions) = tt
+    performed_first command.Revision = tt
+    performed_first (command.Get n id) = found_first id _
+    performed_first (command.Find n x key) = shown_first d.database.table _
+    performed_first (command.Nth n x place) = shown_first d.database.table _
+    performed_first (command.Count n x key) = tt
+    performed_first (command.Range n x low high reverse limit) = refl
+    performed_first (command.List n x after limit) =
+        either_first (has_place d.database.table after) (paged d.database.table (list s d.database.table x after limit)) (say.refused 0 refusal.NoId) refl refl
+    performed_first (command.Rank n x id) =
+        either_first (has d.database.table id) (say.ranked (rank s d.database.table x id)) (say.refused 0 refusal.NoId) tt refl
+    performed_first (command.LowerRank n x key) = tt
+    performed_first (command.UpperRank n x key) = tt
+    performed_first (command.Size n) = tt
+
+    done_first : (c : Result Command Refusal) → IsFirst (done_alone s d conn c).0
+    done_first (Ok c) = performed_first c
+    done_first (Err e) = refl
+
+    -- ---- what a command says and leaves
+
+    abbrev here : HeldDatabase
+    here = held_in_catalog first s d
+
+    abbrev and_here : Said × HeldTable → Said × HeldDatabase
+    and_here a = (a.0, held_in_catalog first s a.1)
+
+    law : IsAsOneTable first s d.database
+    law = one_table_as_before first s d.database
+
+    kept_long : (e : OneTable) → depth (in_catalog first s e) ≡ length e.old
+    kept_long e = length-map e.old (λ (t : Table). t ∷ [])
+
+    abbrev and_here_held : Result ℕ Refusal × OneTable → Option Holder → Said × HeldDatabase
+    and_here_held step holder =
+        (said_of say.committed (say.refused 0) step.0, record { database = in_catalog first s step.1; holder = holder })
+
+    abbrev stepped_down : Result ℕ Refusal → Database → Said × HeldDatabase
+    stepped_down answer left = (said_of say.revised (say.refused 0) answer, record { database = left; holder = holder_after answer one_less d.holder })
+
+    show_same : (o : Option ℕ) → show_found here 0 o ≡ shown d.database.table o
+    show_same None = refl
+    show_same (Some id) = refl
+
+    performed_same : (c : Command) → IsOverFirst c → performed here conn c ≡ and_here (performed_alone s d conn c)
+    performed_same (command.Insert zero row before) h = refl
+    performed_same (command.Insert (suc n) row before) h = absurd (cc)
+    performed_same (command.Replace zero id row) h = refl
+    performed_same (command.Replace (suc n) id row) h = absurd (cc)
+    performed_same (command.Modify zero id edits rollback) h = refl
+    performed_same (command.Modify (suc n) id edits rollback) h = absurd (cc)
+    performed_same (command.Erase zero id) h = refl
+    performed_same (command.Erase (suc n) id) h = absurd (cc)
+    performed_same (command.EraseKey zero x key) h = refl
+    performed_same (command.EraseKey (suc n) x key) h = absurd (cc)
+    performed_same (command.Relocate zero x id before) h = refl
+    performed_same (command.Relocate (suc n) x id before) h = absurd (cc)
+    performed_same command.Start h =
+        ap (λ (step : Step ℕ).
+        (said_of say.revised (say.refused 0) step.0, record { database = step.1; holder = holder_after step.0 (one_more conn) d.holder })) law.start
+    performed_same command.Undo h =
+        ap (λ (step : Result ℕ NoSession × Database). stepped_down (or_session step.0) step.1) law.undo
+    performed_same command.Squash h =
+        ap (λ (step : Result ℕ NoSession × Database). stepped_down (or_session step.0) step.1) law.squash
+    performed_same (command.Commit revision) h =
+        ap (λ (step : Step ℕ). (said_of say.committed (say.refused 0) step.0, record { database = step.1; holder = at_most (depth step.1) d.holder }))
+        (law.commit revision)
+        ∙ ap (λ n. and_here_held (one.commit revision d.database) (at_most n d.holder)) (kept_long (one.commit revision d.database).1)
+    performed_same command.UndoAll h =
+        ap (λ (step : Step ℕ). (said_of say.undone (say.refused 0) step.0, record { database = step.1; holder = None })) law.undo_all
+    performed_same command.Push h = refl
+    performed_same (command.Reserve changes sessions) h = refl
+    performed_same command.Revision h = ap (λ n. (say.status n (held_by conn d.holder) d.database.revision, here)) (kept_long d.database)
+    performed_same (command.Get zero id) h = refl
+    performed_same (command.Get (suc n) id) h = absurd (cc)
+    performed_same (command.Find zero x key) h = ap (λ said. (said, here)) (show_same _)
+    performed_same (command.Find (suc n) x key) h = absurd (cc)
+    performed_same (command.Nth zero x place) h = ap (λ said. (said, here)) (show_same _)
+    performed_same (command.Nth (suc n) x place) h = absurd (cc)
+    performed_same (command.Count zero x key) h = refl
+    performed_same (command.Count (suc n) x key) h = absurd (cc)
+    performed_same (command.Range zero x low high reverse limit) h = refl
+    performed_same (command.Range (suc n) x low high reverse limit) h = absurd (cc)
+    performed_same (command.List zero x after limit) h = refl
+    performed_same (command.List (suc n) x after limit) h = absurd (cc)
+    performed_same (command.Rank zero x id) h = refl
+    performed_same (command.Rank (suc n) x id) h = absurd (cc)
+    performed_same (command.LowerRank zero x key) h = refl
+    performed_same (command.LowerRank (suc n) x key) h = absurd (cc)
+    performed_same (command.UpperRank zero x key) h = refl
+    performed_same (command.UpperRank (suc n) x key) h = absurd (cc)
+    performed_same (command.Size zero) h = refl
+    performed_same (command.Size (suc n)) h = absurd (cc)
+
+    done_same : (c : Result Command Refusal) → IfOk c IsOverFirst → command_answer here conn c ≡ and_here (done_alone s d conn c)
+    done_same (Ok c) h = performed_same c h
+    done_same (Err e) h = refl
+
+    -- ---- from a request to the answer
+
+    command_same : (r : Result Request Refusal) → OfOne r → command_of here conn r ≡ command_alone s d conn r
+    command_same (Ok r) h = ap (λ c. cond (keeps_out r && is_busy d.holder conn) (Err refusal.Busy) c) (bound_same r h)
+    command_same (Err e) h = refl
+
+    kept_first : (b : Bool) (c : Result Command Refusal) → IfOk c IsOverFirst → IfOk (cond b (Err refusal.Busy) c) IsOverFirst
+    kept_first true c h = tt
+    kept_first false c h = h
+
+    command_first : (r : Result Request Refusal) → OfOne r → IfOk (command_of here conn r) IsOverFirst
+    command_first (Ok r) h = kept_first (keeps_out r && is_busy d.holder conn) (bound_command of_one r) (no_name_is_the_first of_one r h)
+    command_first (Err e) h = tt
+
+    answer_same : (line : Asked) → HasNoTable line → answer here conn line ≡ and_here (answer_alone s d conn line)
+    answer_same (text t) none =
+        done_same (command_of here conn (command_line t)) (command_first (command_line t) (line_names (json_of t) none))
+        ∙ ap (λ c. and_here (done_alone s d conn c))
+        (command_same (command_line t) (line_names (json_of t) none) ∙ ap (command_alone s d conn) (line_same (json_of t) none))
+    answer_same too_long none = refl
+
+    answer_first : (line : Asked) → IsFirst (answer_alone s d conn line).0
+    answer_first (text t) = done_first (command_alone s d conn (line_alone t))
+    answer_first too_long = refl
+
+    answered_alone : (line : Asked) → HasNoTable line → AnsweredAlone first s d conn line
+    answered_alone line none = record {
+      reply = ap (λ a. reply_text of_one a.0) (answer_same line none) ∙ text_same (answer_alone s d conn line).0 (answer_first line);
+      left = ap (λ a. a.1) (answer_same line none);
+    }
+
+    module _ (line : Asked) (reply : List ℕ) (t : HeldDatabase) (none : HasNoTable line) where
+      abbrev GivenAlone : Type 0
+      GivenAlone = (e : HeldTable) × (t ≡ held_in_catalog first s e) × MayGiveAlone s conn d line reply e
+
+      given_alone : MayGive conn here line reply t → GivenAlone
+      given_alone (inl p) = ((answer_alone s d conn line).1, p.1 ∙ (answered_alone line none).left, inl (p.0 ∙ (answered_alone line none).reply, refl))
+      given_alone (inr p) = (d, p.1.1, inr (p.0, p.1.0, refl))
+
+      alone_given : GivenAlone → MayGive conn here line reply t
+      alone_given g = elim g.2 [
+        | inl p ↦ inl (p.0 ∙ sym (answered_alone line none).reply, g.1 ∙ ap (held_in_catalog first s) p.1 ∙ sym (answered_alone line none).left)
+        | inr p ↦ inr (p.0, (p.1, g.1 ∙ ap (held_in_catalog first s) p.2))
+      ]
+
+pub one_table_answers_alone : OneTableAnswersAlone
+one_table_answers_alone first s d conn line none = answered_alone first s d conn line none
+
+pub one_table_may_give : OneTableMayGive
+one_table_may_give first s d conn line reply t none = (given_alone first s d conn line reply t none, alone_given first s d conn line reply t none)

@@ -1,0 +1,57 @@
+-- What the program has done when it ends, and what was written to the third stream part by part.
+use Rattle.std.proofs.Common.{◌≡◌, ℕ, List, ◌++◌, Bool, true, false, Option, None, Result, Ok, Err, inl, inr, refl, sym, subst}
+use Rattle.std.specs.Prelude.{⊤}
+use Rattle.std.proofs.KnownBytes.{Appends-trans}
+use Rattle.mi_hub.specs.Watching.{has_failed}
+use Rattle.mi_hub.specs.declared.watched.Watched.{Watched}
+use Rattle.mi_catalog.specs.Shape.{CatalogShape}
+use Rattle.mi_model.specs.Database.{Database}
+use Rattle.mi_program.specs.Serving.{ServesInput}
+use Rattle.mi_program.specs.Ending.{Confirms, Serves, ServesTables, UsesCatalog}
+use Rattle.mi_program.specs.Ending.{IsTold, IsCalled, Performs, PerformsBuffered, Ends, EndsBuffered, ending_of}
+use Rattle.mi_program.specs.declared.words.Options.{Options}
+use Rattle.mi_program.specs.declared.failure.Failure.{Failure}
+
+-- one part of a line behind another
+pub told_more : {E : Type 0} (contents : E → Option (List ℕ)) (a b c : Watched E) (xs ys : List ℕ) → IsTold contents a b xs
+    → (has_failed b ≡ true → has_failed c ≡ true) → IsTold contents b c ys → IsTold contents a c (xs ++ ys)
+told_more contents a b c xs ys (inl failed) stays more = inl (stays failed)
+told_more contents a b c xs ys (inr told) stays (inl failed) = inl failed
+told_more contents a b c xs ys (inr told) stays (inr more) = inr (Appends-trans _ _ _ _ _ told more)
+
+-- what is done with a catalog, by whether it is only checked
+module _ {I O S : Type 0} (remaining : I → Option (List ℕ)) (contents : O → Option (List ℕ)) (given taken : S → Option (List ℕ))
+    (catalog : CatalogShape) (check : Bool) (listen : Option (ℕ × ℕ)) (answer : Result ⊤ Failure) where
+  pub confirmed : (reader : Watched I) (old_writer new_writer : Watched O) → check ≡ true → Confirms contents old_writer new_writer answer
+      → UsesCatalog remaining contents given taken reader reader old_writer new_writer (Ok catalog) check listen answer
+  confirmed reader old_writer new_writer is p =
+      subst (λ (b : Bool). UsesCatalog remaining contents given taken reader reader old_writer new_writer (Ok catalog) b listen answer) (sym is) (refl, p)
+
+  pub tables_served : (old_reader new_reader : Watched I) (old_writer new_writer : Watched O) → check ≡ false
+      → ServesTables remaining contents given taken old_reader new_reader old_writer new_writer catalog listen answer
+      → UsesCatalog remaining contents given taken old_reader new_reader old_writer new_writer (Ok catalog) check listen answer
+  tables_served old_reader new_reader old_writer new_writer is p =
+      subst (λ (b : Bool). UsesCatalog remaining contents given taken old_reader new_reader old_writer new_writer (Ok catalog) b listen answer) (sym is) p
+
+-- what is done where no port is given
+pub input_served : {I O S : Type 0} (remaining : I → Option (List ℕ)) (contents : O → Option (List ℕ)) (given taken : S → Option (List ℕ))
+    (database : Database) (listen : Option (ℕ × ℕ)) (answer : Result ⊤ Failure) (old_reader new_reader : Watched I) (old_writer new_writer : Watched O)
+    → listen ≡ None → ServesInput remaining contents database old_reader new_reader old_writer new_writer answer
+    → Serves remaining contents given taken old_reader new_reader old_writer new_writer database listen answer
+input_served remaining contents given taken database listen answer old_reader new_reader old_writer new_writer is p =
+    subst (λ (l : Option (ℕ × ℕ)). Serves remaining contents given taken old_reader new_reader old_writer new_writer database l answer) (sym is) p
+
+module _ {F I O S : Type 0} (file : F → Option (List ℕ)) (remaining : I → Option (List ℕ)) (contents : O → Option (List ℕ))
+    (given taken : S → Option (List ℕ)) (words : List (List ℕ)) (options : Options) (called : IsCalled words options) where
+  -- the ending of words that give options
+  pub performed_ends : (old_reader new_reader : Watched I) (old_writer new_writer : Watched O) (answer : Result ⊤ Failure)
+      → Performs file remaining contents given taken old_reader new_reader old_writer new_writer options answer
+      → Ends file remaining contents given taken words old_reader new_reader old_writer new_writer (ending_of answer)
+  performed_ends old_reader new_reader old_writer new_writer (Ok tt) p = (options, called, p)
+  performed_ends old_reader new_reader old_writer new_writer (Err failure) p = (options, called, p)
+
+  pub buffered_ends : (input : I) (output : O) (answer : Result ⊤ Failure)
+      → PerformsBuffered file remaining contents given taken input output options answer
+      → EndsBuffered file remaining contents given taken words input output (ending_of answer)
+  buffered_ends input output (Ok tt) p = (options, called, p)
+  buffered_ends input output (Err failure) p = (options, called, p)

@@ -1,0 +1,22 @@
+-- The words are refused, or what is done by their options is the end that is answered.
+use Rattle.std.proofs.Common.{refl}
+use Rattle.std.specs.Prelude.{map}
+use Rattle.mi_program.specs.Ending.{IsCalled, refused, ending_of}
+use Rattle.mi_program.proofs.EndingLemmas.{performed_ends}
+use Rattle.mi_program.proofs.program.run_over.Goals as goal
+
+pub returns-in-Ok : goal.returns-in-Ok
+returns-in-Ok g c =
+    let called : IsCalled (map g.S.AsStr.text c.args.words.now) c.in-Ok.options = record {
+      known = c.in-Ok.ensures.ok.0;
+      rules = c.in-Ok.ensures.ok.1;
+      values = c.in-Ok.ensures.ok.2;
+    } in (
+      ending_of c.perform.result,
+      c.conclude.ensures.status,
+      c.conclude.ensures.told,
+      performed_ends _ _ _ _ _ _ c.in-Ok.options called _ _ _ _ c.perform.result c.perform.ensures,
+    )
+
+pub returns-in-Err : goal.returns-in-Err
+returns-in-Err g c = (refused c.in-Err.fault, c.refuse.ensures.status, c.refuse.ensures.told, (c.in-Err.ensures.refused, (refl, refl)))

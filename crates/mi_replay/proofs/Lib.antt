@@ -1,0 +1,7 @@
+mod UndoLemmas
+mod AnswerLemmas
+mod LeftOutLemmas
+mod ReplayLemmas
+mod FrontLemmas
+mod RunActLemmas
+mod ExampleLemmas

@@ -1,0 +1,55 @@
+//! Laws over the definitions, each the contract of a function that does nothing: what a journal of a run is good for.
+ghost use Rattle.mi_replay.specs.LeftOut.{RefusalsChangeNothing, LookUpsChangeNothing};
+ghost use Rattle.mi_replay.specs.RunActs.{RunsAreActs, HubsReplay};
+ghost use Rattle.mi_replay.specs.ReplayLaws.{RunsHaveJournals, ChangesMayBeKept, JournalsReplay, ReplaysEndAsRuns, JournalsJoin};
+ghost use Rattle.mi_replay.specs.ReplayLaws.{ReplaysAreRuns, FrontsReplay, TornFilesReplay, FilesGrowByLines};
+
+/// Every run has a journal; a line that changes anything can always be put into it.
+pub fn runs_have_journals()
+    ensures runs { RunsHaveJournals }
+    ensures changes { ChangesMayBeKept }
+{}
+
+/// A line that is refused changes nothing, unless a modify lost its record; nor does a look-up or a reserve. So these may stay out of a
+/// journal.
+pub fn quiet_lines_stay_out()
+    ensures refusals { RefusalsChangeNothing }
+    ensures look_ups { LookUpsChangeNothing }
+{}
+
+/// The journals of two runs, the second from where the first ends, are together the journal of both.
+pub fn journals_join()
+    ensures { JournalsJoin }
+{}
+
+/// The lines of a journal, asked again by one connection of the database that the run began with, give the run's database and as
+/// many sessions held; and once that connection is gone, the database that the run leaves once its holder is gone.
+pub fn journals_replay()
+    ensures same { JournalsReplay }
+    ensures ended { ReplaysEndAsRuns }
+{}
+
+/// A journal that one connection asks of a hub is replayed, unless a line of it is answered `memory`.
+pub fn replays_are_runs()
+    ensures { ReplaysAreRuns }
+{}
+
+/// A front of a journal in whole lines gives the database and the number held at a front of the run; where it ends between the undos
+/// of a holder that goes away, less the sessions undone by then, and so the same once nobody holds any. A part of the run whose
+/// whole journal is there is in that front. The same of a file of the lines that is cut anywhere.
+pub fn fronts_replay()
+    ensures lines { FrontsReplay }
+    ensures bytes { TornFilesReplay }
+{}
+
+/// A file of whole lines to which the bytes of one more line and a newline are appended has that line more.
+pub fn files_grow_by_lines()
+    ensures { FilesGrowByLines }
+{}
+
+/// Whatever happens to a hub, events that are done, refused or whose replies don't go out, is acts: lines that are asked and connections
+/// that leave. So the run has a journal, and it replays.
+pub fn hubs_replay()
+    ensures acts { RunsAreActs }
+    ensures journal { HubsReplay }
+{}

@@ -1,9 +1,0 @@
-use Rattle.mi_structures.proofs.ThreeNodeLemmas.{among_filter}
-use Rattle.mi_structures.proofs.tests.chains.three.assert_list.Goals as goal
-
-pub next_if-second-requires : goal.next_if-second-requires
-next_if-second-requires g c = let h = c.requires in (h.0, h.1, among_filter _ h.0 _ (c.first_of-first.ensures h.0 h.1))
-
-pub next_if-third-requires : goal.next_if-third-requires
-next_if-third-requires g c =
-    let h = c.requires in (h.0, h.1, c.next_if-second.ensures h.0 h.1 (among_filter _ h.0 _ (c.first_of-first.ensures h.0 h.1)))

@@ -1,8 +1,0 @@
-use Rattle.mi_structures.proofs.StockLemmas.{tree_read, first_held}
-use Rattle.mi_structures.proofs.tests.trees.stock.Stock.lower.Goals as goal
-
-pub lower-node-requires : goal.lower-node-requires
-lower-node-requires c = let h = c.self.invariant in (h.rs, tree_read h c.new.ensures.pool)
-
-pub id_of-requires : goal.id_of-requires
-id_of-requires c = let h = c.self.invariant in first_held h _ (c.lower-node.ensures.node h.rs (tree_read h c.new.ensures.pool))

@@ -1,9 +1,0 @@
-use Rattle.mi_structures.specs.Keyed.{keyed_order}
-use Rattle.mi_structures.proofs.StockLemmas.{tree_read, nth_held}
-use Rattle.mi_structures.proofs.tests.trees.stock.Stock.nth.Goals as goal
-
-pub nth-node-requires : goal.nth-node-requires
-nth-node-requires c = let h = c.self.invariant in (keyed_order, _, h.rs, tree_read h c.new.ensures.pool)
-
-pub id_of-requires : goal.id_of-requires
-id_of-requires c = let h = c.self.invariant in nth_held h _ (c.nth-node.ensures.node keyed_order _ h.rs (tree_read h c.new.ensures.pool))

@@ -1,6 +1,0 @@
-use Rattle.std.proofs.Common.{subst}
-use Rattle.mi_node.specs.Pool.{IsHeldIf}
-use Rattle.mi_structures.proofs.tests.trees.stock.id_of.Goals as goal
-
-pub value-requires : goal.value-requires
-value-requires c = subst (IsHeldIf c.args.pool.now) c.in-Some.is c.requires

@@ -1,0 +1,2 @@
+pub mod UndoneLemmas
+pub mod JournaledLemmas

@@ -1,0 +1,11 @@
+//! The container that is served: what each call answers and leaves.
+
+mod beside;
+mod change;
+mod container;
+mod fitting;
+mod journaled;
+mod random;
+mod reference;
+mod undoable;
+mod views;

@@ -1,0 +1,227 @@
+//! A container under a journal of real inverses: they are noted by session, taken back from the newest and settled from the oldest.
+ghost use Rattle.std.specs.Prelude.{IsTrue, IfOk};
+ghost use Rattle.mi_container.specs.Asked.{RecordFits, EditsFit};
+ghost use Rattle.test_container.specs.Journaled.{CanGoBack};
+
+use super::fitting::fits_edits;
+use mi_catalog::Schema;
+use mi_container::{Container, Inverse};
+use mi_journal::Journal;
+use mi_multi::MultiIndex;
+use mi_schema::read_schema;
+use mi_value::{Edit, Record, Steps, Value, ValueRef};
+use std::alloc::{AllocError, Global};
+use std::process::Abort;
+use std::test::Fail;
+
+/// A table of numbers, of which no two are equal.
+const NUMBERS: &str = r#"table = "numbers"
+column = [{name = "n", type = "int"}]
+index = [{name = "by_n", kind = "ordered", unique = true, key = ["n"]}]
+"#;
+
+/// The index by the number.
+const BY_N: usize = 1;
+
+/// A container, its schema, and the journal of its changes.
+#[derive(Drop)]
+struct Journaled<C: Container> {
+    schema: Schema,
+    rows: C,
+    journal: Journal<Inverse>,
+}
+
+impl<C: Container> Journaled<C> {
+    /// The container that a schema opens with.
+    fn open(alloc: Global, schema: Schema) -> Result<Journaled<C>, AllocError>
+        ensures { IfOk result (λ j. CanGoBack j.schema (C.shape j.rows) (C.plain j.rows) j.journal.sessions) }
+    {
+        let rows = C::new(alloc, schema.copy(alloc)?, 1)?;
+        Ok(Journaled {
+            schema,
+            rows,
+            journal: Journal::new(alloc),
+        })
+    }
+
+    /// Whether a record fits the columns.
+    fn fits(&self, row: &Record) -> bool
+        requires { CanGoBack self.now.schema (C.shape self.now.rows) (C.plain self.now.rows) self.now.journal.sessions }
+        ensures { IsTrue result → RecordFits (C.shape self.now.rows) row.now }
+    {
+        self.schema.fits_record(row)
+    }
+
+    /// Whether edits do.
+    fn fits_edits(&self, edits: &[Edit]) -> bool
+        requires { CanGoBack self.now.schema (C.shape self.now.rows) (C.plain self.now.rows) self.now.journal.sessions }
+        ensures { IsTrue result → EditsFit (C.shape self.now.rows) edits.now }
+    {
+        fits_edits(self.schema.columns(), edits)
+    }
+
+    /// Opens a session.
+    fn start(&mut self, rt: &impl Abort)
+        requires { CanGoBack self.old.schema (C.shape self.old.rows) (C.plain self.old.rows) self.old.journal.sessions }
+        ensures { CanGoBack self.new.schema (C.shape self.new.rows) (C.plain self.new.rows) self.new.journal.sessions }
+    {
+        self.journal.reserve(0, 1).expect(rt, "memory is there");
+        self.journal.open_session();
+    }
+
+    /// Adds a record and notes the inverse. Answers its id, or none where it is refused.
+    fn insert(&mut self, rt: &impl Abort, alloc: Global, row: Record) -> Option<u64>
+        requires { CanGoBack self.old.schema (C.shape self.old.rows) (C.plain self.old.rows) self.old.journal.sessions }
+        ensures { CanGoBack self.new.schema (C.shape self.new.rows) (C.plain self.new.rows) self.new.journal.sessions }
+    {
+        self.journal.reserve(1, 0).expect(rt, "memory is there");
+        assert!(rt; self.journal.depth() > 0);
+        self.rows.keeps_rules();
+        assert!(rt; self.fits(&row));
+        match self.rows.insert(alloc, row, None) {
+            Ok((id, inverse)) => {
+                self.journal.note(0, inverse);
+                Some(id)
+            }
+            Err(_) => None,
+        }
+    }
+
+    /// Changes columns of a record, without rollback, and notes the inverse. Answers whether it isn't refused.
+    fn modify(&mut self, rt: &impl Abort, alloc: Global, id: u64, edits: &[Edit]) -> bool
+        requires { CanGoBack self.old.schema (C.shape self.old.rows) (C.plain self.old.rows) self.old.journal.sessions }
+        ensures { CanGoBack self.new.schema (C.shape self.new.rows) (C.plain self.new.rows) self.new.journal.sessions }
+    {
+        self.journal.reserve(1, 0).expect(rt, "memory is there");
+        assert!(rt; self.journal.depth() > 0);
+        self.rows.keeps_rules();
+        assert!(rt; self.fits_edits(edits));
+        match self.rows.modify(alloc, id, edits, false) {
+            Ok(inverse) => {
+                self.journal.note(0, inverse);
+                true
+            }
+            Err(_) => false,
+        }
+    }
+
+    /// Joins the newest session into the one below.
+    fn squash(&mut self, rt: &impl Abort)
+        requires { CanGoBack self.old.schema (C.shape self.old.rows) (C.plain self.old.rows) self.old.journal.sessions }
+        ensures { CanGoBack self.new.schema (C.shape self.new.rows) (C.plain self.new.rows) self.new.journal.sessions }
+    {
+        assert!(rt; self.journal.depth() >= 2);
+        self.journal.join_top();
+    }
+
+    /// Takes the newest change of the newest session back. Answers its table, and to which index and id it had lost its record,
+    /// if it had; and none where there is no change.
+    fn back(&mut self) -> Option<(usize, Option<(usize, u64)>)>
+        requires { CanGoBack self.old.schema (C.shape self.old.rows) (C.plain self.old.rows) self.old.journal.sessions }
+        ensures { CanGoBack self.new.schema (C.shape self.new.rows) (C.plain self.new.rows) self.new.journal.sessions }
+    {
+        match self.journal.pop() {
+            Some((table, inverse)) => {
+                let lost = inverse.lost();
+                self.rows.unwind(inverse);
+                Some((table, lost))
+            }
+            None => None,
+        }
+    }
+
+    /// Settles the oldest change of the oldest session. Answers its table, and to which index and id it had lost its record,
+    /// if it had; and none where there is no change.
+    fn settle(&mut self) -> Option<(usize, Option<(usize, u64)>)>
+        requires { CanGoBack self.old.schema (C.shape self.old.rows) (C.plain self.old.rows) self.old.journal.sessions }
+        ensures { CanGoBack self.new.schema (C.shape self.new.rows) (C.plain self.new.rows) self.new.journal.sessions }
+    {
+        self.rows.keeps_rules();
+        match self.journal.take_oldest() {
+            Some((table, inverse)) => {
+                let lost = inverse.lost();
+                self.rows.settle(inverse);
+                Some((table, lost))
+            }
+            None => None,
+        }
+    }
+}
+
+fn schema(alloc: Global) -> Result<Schema, Fail> {
+    match read_schema(alloc, NUMBERS.as_bytes()) {
+        Ok(schema) => Ok(schema),
+        Err(_) => Err(Fail::from("the schema isn't read")),
+    }
+}
+
+/// Adds a number, whose id is to be this one.
+fn add<C: Container>(rt: &impl Abort, alloc: Global, kept: &mut Journaled<C>, n: i64, id: u64)
+    requires { CanGoBack kept.old.schema (C.shape kept.old.rows) (C.plain kept.old.rows) kept.old.journal.sessions }
+    ensures { CanGoBack kept.new.schema (C.shape kept.new.rows) (C.plain kept.new.rows) kept.new.journal.sessions }
+{
+    let row = Record::new(alloc, &[ValueRef::Int(n)]).expect(rt, "memory is there");
+    assert_eq!(rt; kept.insert(rt, alloc, row), Some(id));
+}
+
+/// The number of a record, if it has one.
+fn number_of(row: &Record) -> Option<i64> {
+    match row.get(0) {
+        Some(ValueRef::Int(n)) => Some(n),
+        _ => None,
+    }
+}
+
+/// Asserts the number of a record, if it is there.
+fn assert_number<C: Container>(rt: &impl Abort, kept: &Journaled<C>, id: u64, want: Option<i64>) {
+    let got = match kept.rows.get(id, &mut Steps::new()) {
+        Some(row) => number_of(row),
+        None => None,
+    };
+    assert_eq!(rt; got, want);
+}
+
+/// Two numbers in one session, and in a second one the other number is set to the first one and lost. The sessions join.
+fn lose_one<C: Container>(rt: &impl Abort, alloc: Global, kept: &mut Journaled<C>)
+    requires { CanGoBack kept.old.schema (C.shape kept.old.rows) (C.plain kept.old.rows) kept.old.journal.sessions }
+    ensures { CanGoBack kept.new.schema (C.shape kept.new.rows) (C.plain kept.new.rows) kept.new.journal.sessions }
+{
+    kept.start(rt);
+    add(rt, alloc, kept, 7, 0);
+    add(rt, alloc, kept, 8, 1);
+    kept.start(rt);
+    assert!(rt; kept.modify(rt, alloc, 1, &[Edit::Put(0, Value::Int(7))]));
+    assert_number(rt, kept, 1, None);
+    kept.squash(rt);
+}
+
+/// The change that lost its record comes back first, and then the two that added one.
+#[test]
+fn inverses_come_back_from_the_newest(rt: HostRuntime) -> Result<(), Fail> {
+    let alloc = rt.alloc();
+    let mut kept: Journaled<MultiIndex> = Journaled::open(alloc, schema(alloc)?)?;
+    lose_one(&rt, alloc, &mut kept);
+    assert_eq!(&rt; kept.back(), Some((0, Some((BY_N, 0)))));
+    assert_number(&rt, &kept, 1, Some(8));
+    assert_eq!(&rt; kept.back(), Some((0, None)));
+    assert_number(&rt, &kept, 1, None);
+    assert_eq!(&rt; kept.back(), Some((0, None)));
+    assert_eq!(&rt; kept.back(), None);
+    assert_eq!(&rt; kept.rows.size(), 0);
+    Ok(())
+}
+
+/// The two that added a record are settled first, and then the one that lost its record, whose node is freed.
+#[test]
+fn inverses_are_settled_from_the_oldest(rt: HostRuntime) -> Result<(), Fail> {
+    let alloc = rt.alloc();
+    let mut kept: Journaled<MultiIndex> = Journaled::open(alloc, schema(alloc)?)?;
+    lose_one(&rt, alloc, &mut kept);
+    assert_eq!(&rt; kept.settle(), Some((0, None)));
+    assert_eq!(&rt; kept.settle(), Some((0, None)));
+    assert_eq!(&rt; kept.settle(), Some((0, Some((BY_N, 0)))));
+    assert_eq!(&rt; kept.settle(), None);
+    assert_number(&rt, &kept, 0, Some(7));
+    assert_eq!(&rt; kept.rows.size(), 1);
+    Ok(())
+}

@@ -1,0 +1,88 @@
+//! What the tests serve with. The calls have no contract of their own, so that a test that makes one carries none of what the
+//! call below promises.
+ghost use Rattle.std.specs.Prelude.{◌≡◌, ◌≤◌, [], IfOk, IsSome};
+ghost use Rattle.mi_hub.specs.Connections.{rest_at};
+ghost use Rattle.mi_value.specs.declared.limits.TheConstants.{MAX_CONNECTIONS};
+
+use mi_hub::{Hub, HubFault, IoErrors, ServeFault};
+use mi_plain::Plain;
+use mi_program::{run, serve_listener};
+use mi_schema::{Catalog, built_in};
+use mi_sessions::Sessions;
+use std::alloc::{AllocError, Global};
+use std::io::{Read, Write};
+use std::net::{OpenListener, OpenStream};
+use std::process::Abort;
+
+/// A form of the database.
+pub(super) trait Opens: Sessions + Drop {
+    /// The database that a catalog opens with.
+    fn open(alloc: Global, catalog: Catalog) -> Result<Self, AllocError>;
+}
+
+impl Opens for Plain {
+    fn open(alloc: Global, catalog: Catalog) -> Result<Plain, AllocError> {
+        Plain::new(alloc, catalog)
+    }
+}
+
+/// A hub with no connection over the built-in table.
+pub(super) fn opened<D: Opens>(alloc: Global) -> Result<Hub<D>, AllocError>
+    ensures { IfOk result (λ hub. hub.attached ≡ []) }
+{
+    let catalog = Catalog::of(alloc, built_in(alloc)?)?;
+    Ok(Hub::new(alloc, D::open(alloc, catalog)?))
+}
+
+/// No session is open.
+pub(super) fn assert_idle<D: Sessions>(rt: &impl Abort, database: &D) {
+    assert_eq!(rt; database.depth(), 0);
+    assert_eq!(rt; database.revision(), 0);
+}
+
+/// Connection 1 comes before any other.
+pub(super) fn attach_first(rt: &impl Abort, hub: &mut Hub<Plain>)
+    requires { hub.old.attached ≡ [] }
+    ensures { IsSome (rest_at 1 hub.new.attached) }
+{
+    assert_eq!(rt; hub.attach(1), Ok(()));
+}
+
+/// A connection that comes is answered so.
+pub(super) fn assert_attach(
+    rt: &impl Abort,
+    hub: &mut Hub<Plain>,
+    conn: u64,
+    want: Result<(), HubFault>,
+) {
+    assert_eq!(rt; hub.attach(conn), want);
+}
+
+/// Serves so many connections of a listener, and answers what that answered, and whether a read and whether a write has failed.
+pub(super) fn serve_all<D: Opens, L: OpenListener>(
+    alloc: Global,
+    hub: &mut Hub<D>,
+    listener: &L,
+    clients: usize,
+) -> (Result<(), ServeFault>, bool, bool)
+where
+    L::Stream: Read + Write + OpenStream,
+    requires clients { (1 ≤ clients) × (clients ≤ MAX_CONNECTIONS) }
+    requires none { hub.old.attached ≡ [] }
+{
+    let mut errors = IoErrors::none();
+    let served = serve_listener(alloc, hub, listener, clients, &mut errors);
+    (served, errors.read(), errors.write())
+}
+
+/// The exit status of the program with these words over these streams, and what it wrote on the third one.
+pub(super) fn ended<I: Read + Drop, O: Write + Drop>(
+    rt: &HostRuntime,
+    words: &[&str],
+    input: I,
+    output: O,
+) -> (u8, Vec<u8>) {
+    let mut errors = Vec::new(rt.alloc());
+    let status = run(rt, words, input, output, &mut errors);
+    (status, errors)
+}

@@ -1,0 +1,49 @@
+# Completion by bash of the options of mi_server, weltiyo and weltiyo-lint, and of weltiyo's tools.
+
+_weltiyo_files() {
+    local IFS=$'\n'
+    local -a only=(${2:+-X} ${2:+"!*$2"})
+    compopt -o filenames 2> /dev/null
+    COMPREPLY=($(compgen -f "${only[@]}" -- "$1") ${2:+$(compgen -d -- "$1")})
+}
+
+_weltiyo_options() {
+    local all='--connect --program --schema --help'
+    case $1 in
+        dump) echo "$all --table --order --hold --resume" ;;
+        export) echo "$all --table --order --hold --format" ;;
+        load) echo "$all --table --keep-going --resume --dump" ;;
+        import) echo "$all --table --keep-going --resume --dump --format" ;;
+        top) echo "$all --pid --every --count" ;;
+        metrics) echo "$all --pid --every --count --file" ;;
+        plot) echo "$all --table --column --points --bins --svg --load" ;;
+        prompt) echo "$all --run --tables --times" ;;
+        *) echo "$all --run --tables --times --version prompt dump load export import top metrics plot" ;;
+    esac
+}
+
+_weltiyo() {
+    local word=${COMP_WORDS[COMP_CWORD]} before=${COMP_WORDS[COMP_CWORD-1]} options
+    COMPREPLY=()
+    case $before in
+        --schema) _weltiyo_files "$word" .toml; return ;;
+        --program | --run | --dump | --file | --svg | --load) _weltiyo_files "$word"; return ;;
+        --listen | --connect) COMPREPLY=($(compgen -W '8000' -- "$word")); return ;;
+        --clients) COMPREPLY=($(compgen -W '1 2 4 8 16 32 64' -- "$word")); return ;;
+        --format) COMPREPLY=($(compgen -W 'csv jsonl' -- "$word")); return ;;
+    esac
+    case ${1##*/} in
+        mi_server) options='--schema --check --listen --clients --help' ;;
+        weltiyo-lint)
+            options='--program --help'
+            [[ $word == -* ]] || { _weltiyo_files "$word" .toml; return; } ;;
+        weltiyo)
+            if ((COMP_CWORD == 1)); then options=$(_weltiyo_options ''); else
+                options=$(_weltiyo_options "${COMP_WORDS[1]}")
+                case ${COMP_WORDS[1]} in dump | load | export | import) [[ $word == -* ]] || { _weltiyo_files "$word"; return; } ;; esac
+            fi ;;
+    esac
+    COMPREPLY=($(compgen -W "$options" -- "$word"))
+}
+
+complete -F _weltiyo mi_server weltiyo weltiyo-lint

@@ -1,0 +1,111 @@
+"""What `make install` copies: that it works from there, has no broken link, and has pages and completion that can be read."""
+import glob
+import os
+import re
+import shutil
+import subprocess
+import sys
+import tempfile
+import unittest
+
+TOP = os.path.dirname(os.path.dirname(os.path.dirname(os.path.realpath(__file__))))
+sys.path.insert(0, f"{TOP}/scripts")
+
+import program  # noqa: E402
+
+LINK = re.compile(r"\]\(([^)#:]+)(?:#[^)]*)?\)")
+COMMANDS = ("mi_server", "weltiyo", "weltiyo-lint")
+
+
+class Installed(unittest.TestCase):
+    @classmethod
+    def setUpClass(cls):
+        cls.top = tempfile.mkdtemp()
+        cls.addClassCleanup(shutil.rmtree, cls.top)
+        cls.root = f"{cls.top}/usr"
+        cls.env = {it: value for it, value in os.environ.items() if it not in ("MI_SERVER", "MAKEFLAGS", "MFLAGS", "MAKELEVEL", "PYTHONPATH")}
+        words = ["make", "-C", TOP, "install", f"DESTDIR={cls.top}", "PREFIX=/usr", f"PROGRAM={program.program()}"]
+        ran = subprocess.run(words, env=cls.env, capture_output=True, text=True)
+        assert ran.returncode == 0, ran.stderr
+
+    def ran(self, *words, asked=""):
+        return subprocess.run(words, env=self.env, input=asked, capture_output=True, text=True, cwd=self.top, timeout=60)
+
+    def test_no_link_is_broken(self):
+        broken = []
+        documents = glob.glob(f"{self.root}/share/weltiyo/**/*.md", recursive=True)
+        for document in documents:
+            with open(document, encoding="utf-8") as file:
+                named = set(LINK.findall(file.read()))
+            broken += [(os.path.relpath(document, self.root), it) for it in named if not os.path.exists(f"{os.path.dirname(document)}/{it}")]
+        self.assertGreater(len(documents), 8)
+        self.assertEqual(broken, [])
+
+    def test_the_programs_work(self):
+        said = self.ran(f"{self.root}/bin/weltiyo", asked='{"cmd":"size"}\n')
+        self.assertEqual((said.returncode, said.stdout), (0, '{"ok":true,"size":0}\n'), said.stderr)
+        with open(f"{self.top}/bad.toml", "w", encoding="utf-8") as file:
+            file.write("table = 1\n")
+        said = self.ran(f"{self.root}/bin/weltiyo-lint", "bad.toml", f"{self.root}/share/weltiyo/examples/shop.toml")
+        self.assertEqual(said.returncode, 3, said.stderr)
+        self.assertIn("bad.toml:1: table is a whole number, and a text is wanted", said.stdout)
+        self.assertIn("shop.toml: ok", said.stdout)
+        # (a link to a program elsewhere on the PATH)
+        os.symlink(f"{self.root}/bin/weltiyo", f"{self.top}/prompt")
+        self.assertEqual(self.ran(f"{self.top}/prompt", asked='{"cmd":"size"}\n').stdout, '{"ok":true,"size":0}\n')
+
+    def test_each_has_a_page(self):
+        for name in COMMANDS:
+            page = f"{self.root}/share/man/man1/{name}.1"
+            self.assertTrue(os.path.isfile(page))
+            if shutil.which("groff"):
+                said = self.ran("groff", "-man", "-Tutf8", "-ww", page)
+                self.assertEqual((said.returncode, said.stderr), (0, ""))
+
+    def test_the_page_has_each_option(self):
+        with open(f"{self.root}/share/man/man1/mi_server.1", encoding="utf-8") as file:
+            page = file.read().replace("\\-", "-")
+        listed = set(re.findall(r"--\w+", self.ran(f"{self.root}/bin/mi_server", "--help").stderr))
+        self.assertTrue(listed)
+        self.assertEqual({it for it in listed if it not in page}, set())
+
+    def completed(self, *words):
+        """What bash offers for the last of these words."""
+        text = 'source "$1"; shift; COMP_WORDS=("$@"); COMP_CWORD=$(($# - 1)); _weltiyo "$1"; printf "%s\\n" "${COMPREPLY[@]}"'
+        file = f"{self.root}/share/bash-completion/completions/{os.path.basename(words[0])}"
+        return self.ran("bash", "--norc", "-c", text, "bash", file, *words).stdout.split()
+
+    def test_completion_by_bash(self):
+        listed = set(re.findall(r"--\w+", self.ran(f"{self.root}/bin/mi_server", "--help").stderr))
+        self.assertEqual(set(self.completed("mi_server", "")), listed)
+        self.assertEqual(self.completed("mi_server", "--li"), ["--listen"])
+        examples = f"{self.root}/share/weltiyo/examples"
+        self.assertEqual(self.completed("/usr/bin/mi_server", "--schema", f"{examples}/sh"), [f"{examples}/shop.toml"])
+        self.assertEqual(self.completed("weltiyo-lint", f"{examples}/a"), [f"{examples}/accounts.toml"])
+        self.assertEqual(self.completed("weltiyo", "--c"), ["--connect"])
+        self.assertEqual(self.completed("weltiyo", "m"), ["metrics"])
+        self.assertEqual(self.completed("weltiyo", "export", "--format", "c"), ["csv"])
+
+    def test_completion_has_each_tool_s_options(self):
+        said = self.ran(f"{self.root}/bin/weltiyo", "--help").stdout
+        tools = re.findall(r"^  (\w+) ", said, re.MULTILINE)
+        self.assertIn("prompt", tools)
+        self.assertEqual({it for it in self.completed("weltiyo", "") if it[0] != "-"}, set(tools))
+        with open(f"{self.root}/share/zsh/site-functions/_weltiyo", encoding="utf-8") as file:
+            by_zsh = file.read()
+        for tool in tools:
+            listed = set(re.findall(r"^  (?:-h, )?(--[a-z-]+)", self.ran(f"{self.root}/bin/weltiyo", tool, "--help").stdout, re.MULTILINE))
+            self.assertEqual(set(self.completed("weltiyo", tool, "-")), listed, tool)
+            self.assertEqual({it for it in listed if it not in by_zsh}, set(), tool)
+
+    @unittest.skipUnless(shutil.which("zsh"), "zsh isn't there")
+    def test_completion_by_zsh(self):
+        """It can be read, and stands for each program."""
+        file = f"{self.root}/share/zsh/site-functions/_weltiyo"
+        self.assertEqual(self.ran("zsh", "-n", file).returncode, 0)
+        text = f'fpath=({self.root}/share/zsh/site-functions $fpath); autoload -Uz compinit; compinit -u -D; print -l $_comps[mi_server] $_comps[weltiyo-lint]'
+        self.assertEqual(self.ran("zsh", "-f", "-c", text).stdout.split(), ["_weltiyo", "_weltiyo"])
+
+
+if __name__ == "__main__":
+    unittest.main()
