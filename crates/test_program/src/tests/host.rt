@@ -1,5 +1,5 @@
 //! A host whose port is the test's own: the address that is listened on is noted, and clients come by script. Its files, its memory and its
-//! random bytes are those of the host below.
+//! random bytes are those of the host below; how often it is asked for its allocator is counted.
 use super::devices::Pieces;
 use mi_program::run;
 use std::alloc::{Allocator, Global};
@@ -125,18 +125,31 @@ impl AsRawFd for Door<'_> {
     }
 }
 
-/// A host with these clients, and the address that was listened on.
+/// A host with these clients, the address that was listened on, and how often the allocator was asked for.
 #[derive(Drop)]
 struct Host<'a, R> {
     below: &'a R,
     visits: &'a [Visit],
     address: Cell<Option<SocketAddr>>,
+    asked: Cell<usize>,
+}
+
+impl<'a, R> Host<'a, R> {
+    fn new(below: &'a R, visits: &'a [Visit]) -> Host<'a, R> {
+        Host {
+            below,
+            visits,
+            address: Cell::new(None),
+            asked: Cell::new(0),
+        }
+    }
 }
 
 impl<'a, R: Alloc> Alloc for Host<'a, R> {
     type A = R::A;
 
     fn alloc(&self) -> R::A {
+        self.asked.set(self.asked.get().saturating_add(1));
         self.below.alloc()
     }
 }
@@ -271,11 +284,7 @@ fn check_row<R: Files + AllocGlobal + RandomSource>(
         Visit::new(FIRST, true, row.want[0]),
         Visit::new(SECOND, row.sound, row.want[1]),
     ];
-    let host = Host {
-        below,
-        visits: &visits,
-        address: Cell::new(None),
-    };
+    let host = Host::new(below, &visits);
     check_run(rt, &host, below.alloc(), row);
     assert_eq!(rt;
         host.address.get(),
@@ -303,6 +312,33 @@ fn check_run<R: Files + AllocGlobal + RandomSource>(
     assert_eq!(rt; status, row.status);
     assert_eq!(rt; errors.as_slice(), row.errors);
     assert!(rt; output.is_empty());
+}
+
+/// Words that are refused are judged by the first allocator that is asked for: none is asked for behind it, so no buffer is taken.
+fn check_refused<R: Files + AllocGlobal + RandomSource>(rt: &impl Abort, below: &R) {
+    let host = Host::new(below, &[]);
+    let input = Pieces {
+        left: b"{\"cmd\":\"size\"}\n",
+        size: 4096,
+        sound: false,
+    };
+    let (mut output, mut errors) = (Vec::new(below.alloc()), Vec::new(below.alloc()));
+    let status = run(
+        &host,
+        &["mi_server", "--what"],
+        input,
+        &mut output,
+        &mut errors,
+    );
+    assert_eq!(rt; status, 2);
+    assert_eq!(rt; host.asked.get(), 1);
+    assert!(rt; output.is_empty() && !errors.is_empty());
+}
+
+#[test]
+fn refused_words_take_no_buffer(rt: HostRuntime) -> Result<(), Fail> {
+    check_refused(&rt, &rt);
+    Ok(())
 }
 
 #[test]

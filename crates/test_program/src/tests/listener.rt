@@ -1,7 +1,7 @@
 //! Connections over the loopback interface, and over streams that fail in the middle.
 ghost use Rattle.std.specs.Prelude.{◌≡◌, []};
 
-use super::serving::{Opens, assert_attach, assert_idle, opened, serve_all};
+use super::serving::{Opens, Served, assert_attach, assert_idle, opened, serve_all};
 use mi_hub::{Hub, ServeFault};
 use mi_plain::Plain;
 use mi_sessions::Sessions;
@@ -152,12 +152,18 @@ fn check_row<D: Opens>(
     Ok(())
 }
 
-#[test]
-fn two_clients_are_answered(rt: HostRuntime) -> Result<(), Fail> {
+/// Each row, over a form of the database.
+fn check_rows<D: Opens>(rt: &impl Abort, host: &HostRuntime) -> Result<(), Fail> {
     for row in &ROWS {
-        check_row(&rt, &rt, &mut opened::<Plain>(rt.alloc())?, row)?;
+        check_row(rt, host, &mut opened::<D>(host.alloc())?, row)?;
     }
     Ok(())
+}
+
+#[test]
+fn two_clients_are_answered(rt: HostRuntime) -> Result<(), Fail> {
+    check_rows::<Plain>(&rt, &rt)?;
+    check_rows::<Served>(&rt, &rt)
 }
 
 /// With no client there to accept the call ends, and the one that had come is cut.

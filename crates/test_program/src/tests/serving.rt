@@ -4,7 +4,10 @@ ghost use Rattle.std.specs.Prelude.{◌≡◌, ◌≤◌, [], IfOk, IsSome};
 ghost use Rattle.mi_hub.specs.Connections.{rest_at};
 ghost use Rattle.mi_value.specs.declared.limits.TheConstants.{MAX_CONNECTIONS};
 
+use mi_container::Container;
+use mi_database::Linked;
 use mi_hub::{Hub, HubFault, IoErrors, ServeFault};
+use mi_multi::MultiIndex;
 use mi_plain::Plain;
 use mi_program::{run, serve_listener};
 use mi_schema::{Catalog, built_in};
@@ -23,6 +26,15 @@ pub(super) trait Opens: Sessions + Drop {
 impl Opens for Plain {
     fn open(alloc: Global, catalog: Catalog) -> Result<Plain, AllocError> {
         Plain::new(alloc, catalog)
+    }
+}
+
+/// The form that the program serves.
+pub(super) type Served = Linked<MultiIndex>;
+
+impl<C: Container> Opens for Linked<C> {
+    fn open(alloc: Global, catalog: Catalog) -> Result<Linked<C>, AllocError> {
+        Linked::new(alloc, catalog, 1)
     }
 }
 
