@@ -34,22 +34,6 @@ impl<E> Chunk<E> {
         })
     }
 
-    /// A chunk of copies of these elements.
-    pub(crate) fn of_copies(alloc: Global, items: &[E]) -> Result<Chunk<E>, AllocError>
-    where
-        E: Copy,
-        requires { length items.now ≡ 4096 }
-        ensures { IfOk result (λ c. c.row.items ≡ items.now) }
-    {
-        let (mut places, lease) = unsafe { reserve(&alloc, items) }?;
-        places.copy_in(0, items);
-        Ok(Chunk {
-            row: Row::new(places),
-            lease,
-            alloc,
-        })
-    }
-
     /// The element of an index.
     pub(crate) fn at(&self, i: usize) -> &E
         requires { i < 4096 }
@@ -91,7 +75,7 @@ fn fill<E>(places: &mut Slots<E>, mut items: Vec<E>)
 }
 
 /// Drops what stands in the places.
-fn empty<E: Drop>(places: &mut Slots<E>)
+pub(crate) fn empty<E: Drop>(places: &mut Slots<E>)
     requires count { slots_len places.old ≡ 4096 }
     requires full { IsFull places.old }
     ensures same { (slots_ptr places.new ≡ slots_ptr places.old) × (slots_len places.new ≡ slots_len places.old) }
