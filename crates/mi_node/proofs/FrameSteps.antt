@@ -15,6 +15,7 @@ use types.Logic.{Logic, sem}
 use types.Kit.{Item, Goal, Seq, Step, step, ‵, raw, ◌⊛◌, ◌$◌, ◌∵◌, !, qed, by, move, drop, use1, use2, group, split, split3, frame, assume, fsplit, fjoin, fjoin3, fpick, fpack}
 use types.Kit.{feq_l, feq_i}
 use denote.RattleType.{RattleType, Valss}
+use denote.Array.{Array}
 use denote.Param.{param, layout}
 use denote.RawPtr.{Ptr, RawPtr, block_ptr, ptr_val, room_for, in_a_block}
 use denote.Steps.{nothing}
@@ -30,9 +31,10 @@ use Rattle.std_alloc.proofs.RawLayout.{as_raw, as_written}
 use Rattle.std_alloc.proofs.ResultValues.{and_tt}
 use Rattle.core.specs.Align.{type_align}
 use Rattle.core.specs.Mem.{type_size}
-use Rattle.mi_node.specs.Frames.{places_type, words_type, block_type, framed}
+use Rattle.mi_node.specs.Frames.{places_type, words_type, block_type, framed, bare}
 use Rattle.mi_node.proofs.SlotCalls.{Places}
 use Rattle.mi_node.specs.contracts.frame.Block as B
+use Rattle.mi_node.specs.contracts.frame.Bare as N
 use Rattle.mi_node.specs.contracts.frame.Frame as F
 
 abbrev pub frame_val : Val → Ptr → Ptr → Val
@@ -142,3 +144,69 @@ module _ (E : Bx) where
         use2 𝓛 (‵ (froom words_type b k)) (apply∗ 𝓤 (H.room places b k) (H.room words_type b k)) $
         move ! (1 ∷ 0 ∷ 2 ∷ 3 ∷ []) $ group ! 3 $ use2 𝓛 (‵ (froom (ty_struct ν fields) b o)) (apply∗ 𝓤 Rooms Whole) $
         by ! (𝓛.laws.room-raw (ty_struct ν fields) b o)
+
+-- the same for a block that is its places
+module _ (E : Bx) where
+  abbrev pub Whole : RattleType
+  Whole = Array (R E) 4096
+
+  abbrev bare_owning : Owning
+  bare_owning = N.the_type (R E) (P E) E.al.g
+
+  abbrev pub Bare : RattleType
+  Bare = N.the_row (R E) (P E) E.al.g
+
+  abbrev pub bare_val : Val → Ptr → Val
+  bare_val hv p = vstruct (vcons (ptr_val p) (vcons hv vnil))
+
+  abbrev pub bare_right : E.al.row.Denot → ℕ → ℕ → Fml
+  bare_right a b o = token E.al a (places_type (R E)) (block_ptr b o)
+
+  abbrev pub bare_ty : Ty
+  bare_ty = ty_struct bare_owning.name (tcons ty_ptr (tcons (α E.al) tnil))
+
+  pub bare_typed : (hv : Val) (b o : ℕ) → Fits E.al hv → T (has_ty bare_ty (bare_val hv (block_ptr b o))) × WT (bare_val hv (block_ptr b o))
+  bare_typed hv b o fa = (and_tt (has_ty (α E.al) hv) fa.0, (tt, (fa.1, tt)))
+
+  abbrev pub BarePair : RattleType
+  BarePair = Tuple (Places (in_slots E) ∷ Bare ∷ [])
+
+  abbrev pub bare_pair_val : Val → ℕ → ℕ → Val
+  bare_pair_val hv b o = vstruct (vcons (row_val b o 4096) (vcons (bare_val hv (block_ptr b o)) vnil))
+
+  pub bare_pair_typed : (hv : Val) (b o : ℕ) → 4096 < 2 ^ 64 → Fits E.al hv → T (has_ty (layout BarePair) (bare_pair_val hv b o)) × WT (bare_pair_val hv b o)
+  bare_pair_typed hv b o few fa =
+      let typed = bare_typed hv b o fa in
+      (and_tt (has_ty bare_ty (bare_val hv (block_ptr b o))) typed.0, ((tt, (record { fits = few }, tt)), (typed.1, tt)))
+
+  module _ {M : Type 1} {𝓤 : Ura M} {𝓛 : Logic 𝓤} {K : Type 0} {Γ : List (Item 𝓤)} {G : Goal 𝓤 𝓛.H} where
+    -- [the right to free the block; the handle]
+    pub bare_had : K → (d : Bare.Denot) (vs : List Val)
+        → ((b o : ℕ) (hv : Val) → d.at ≡ block_ptr b o → vs ≡ bare_val hv (block_ptr b o) ∷ [] → Fits E.al hv
+        → Seq K 𝓛 (‵ (bare_right d.alloc b o) ∷ ‵ (E.al.row.own_val d.alloc (hv ∷ [])) ∷ Γ) G)
+        → Seq K 𝓛 (‵ (Bare.own_val d vs) ∷ Γ) G
+    bare_had t d vs k =
+        fsplit t $ fpick t (λ vss. fsplit t $ feq_l t (λ ev. fsplit t $ feq_l t (λ e₀. fsplit t $
+        handle_tells E.al t d.alloc vss.1.0 (λ hv ea fa. move t (1 ∷ []) $ drop t $ move t (1 ∷ []) $
+        in_a_block t d.at (λ p. bare (token E.al d.alloc) (R E) p) (id⊢ 𝓤 (never 𝓤)) (λ b o e. k b o hv e
+        (ev ∙ ((λ i. vstruct (of_list (e₀ i ++ (ea i ++ []))) ∷ []) ∙ ap (λ (p : Ptr). bare_val hv p ∷ []) e)) fa)))))
+
+    pub bare_made : K → {hv : Val} (a : E.al.row.Denot) (b o : ℕ)
+        → Step K 𝓛 (‵ (Bare.own_val (record { at = block_ptr b o; alloc = a }) (bare_val hv (block_ptr b o) ∷ [])) ∷ Γ) G
+        (‵ (bare_right a b o) ∷ ‵ (E.al.row.own_val a (hv ∷ [])) ∷ Γ) G
+    bare_made t {hv} a b o = step (λ s.
+        let v : Val = bare_val hv (block_ptr b o) in
+        nothing t $ move t (2 ∷ 0 ∷ []) $ fjoin t $ feq_i t (List Val) (vptr b o ∷ []) (vptr b o ∷ []) refl $ fjoin t $
+        feq_i t (List Val) (v ∷ []) (v ∷ []) refl $ fjoin t $
+        fpack t (Valss (RawPtr ∷ P E ∷ [])) (within (shape bare_owning) (block_ptr b o, (a, tt)) (v ∷ [])) (vptr b o ∷ [], (hv ∷ [], tt)) $ fjoin t $ s)
+
+    pub bare_pair_made : K → (r : (Places (in_slots E)).Denot) (d : Bare.Denot) (b o : ℕ) (hv : Val)
+        → Step K 𝓛 (‵ (BarePair.own_val (r, d) (bare_pair_val hv b o ∷ [])) ∷ Γ) G
+        (‵ ((Places (in_slots E)).own_val r (row_val b o 4096 ∷ [])) ∷ ‵ (Bare.own_val d (bare_val hv (block_ptr b o) ∷ [])) ∷ Γ) G
+    bare_pair_made t r d b o hv = step (λ s.
+        let v : Val = bare_pair_val hv b o in
+        nothing t $ move t (1 ∷ 2 ∷ 0 ∷ []) $ fjoin3 t $ feq_i t (List Val) (v ∷ []) (v ∷ []) refl $ fjoin t $
+        fpack t (Valss (Places (in_slots E) ∷ Bare ∷ [])) (within (Declared.shape (tuple_type (Places (in_slots E) ∷ Bare ∷ []))) (r, (d, tt)) (v ∷ [])) (
+          row_val b o 4096 ∷ [],
+          (bare_val hv (block_ptr b o) ∷ [], tt),
+        ) $ s)

@@ -20,3 +20,7 @@ block_type = ty_struct [] (tcons (ty_array (ty_int w64) 6) (tcons words_type tni
 
 abbrev pub framed : (Ty → Ptr → Fml) → RattleType → Ptr → Ptr → Fml
 framed t R p q = in_block p (fsep (fwand (room_for (places_type R) q) (room_for block_type p)) (t block_type p))
+
+-- the right, t's, to free the block at p that is its places
+abbrev pub bare : (Ty → Ptr → Fml) → RattleType → Ptr → Fml
+bare t R p = in_block p (t (places_type R) p)

@@ -4,7 +4,8 @@ ghost use Rattle.std.specs.Prelude.{◌≡◌};
 ghost use Rattle.core.specs.Align.{type_align};
 ghost use Rattle.core.specs.Mem.{type_size};
 ghost use Rattle.core.specs.Mem.Slots.{slots_ptr, slots_len};
-ghost use Rattle.mi_node.specs.Frames.{framed};
+ghost use Rattle.std_alloc.specs.Vec.Ownership.{FitsInBlock};
+ghost use Rattle.mi_node.specs.Frames.{framed, bare};
 ghost use Rattle.mi_node.specs.Rows.{IsEmpty};
 
 use core::slots::Slots;
@@ -73,4 +74,46 @@ pub(crate) fn close<E, A: Allocator>(frame: Frame<E, A>, places: Slots<E>) -> Va
         alloc,
     } = frame;
     Vacant { ptr: block, alloc }
+}
+
+/// The right to free a block that is its places and nothing else.
+pub(crate) struct Bare<E, A: Allocator> {
+    at: *mut E,
+    alloc: A,
+}
+
+impl<E, A: Allocator> Model for Bare<E, A> {
+    ghost also_owns = { λ b. bare (A.dealloc_token b.alloc) E.row b.at };
+}
+
+/// The places of a block that is nothing else, none of which has an element yet. A place with no
+/// element has one in contracts, so there must be one.
+pub(crate) fn open_bare<E, A: Allocator>(room: Vacant<[E; 4096], A>) -> (Slots<E>, Bare<E, A>)
+    requires fits { FitsInBlock E.row 4096 }
+    requires some { E }
+    ensures count { slots_len result.0 ≡ 4096 }
+    ensures at { result.1.at ≡ slots_ptr result.0 }
+{
+    let Vacant { ptr, alloc } = room;
+    let at = ptr as *mut E;
+    let places = unsafe { Slots::from_raw_parts(at, 4096) };
+    (places, Bare { at, alloc })
+}
+
+/// The block again. No place has an element.
+pub(crate) fn close_bare<E, A: Allocator>(
+    bare: Bare<E, A>,
+    places: Slots<E>,
+) -> Vacant<[E; 4096], A>
+    requires at { bare.at ≡ slots_ptr places }
+    requires count { slots_len places ≡ 4096 }
+    requires none { IsEmpty places }
+    ensures { result.alloc ≡ bare.alloc }
+{
+    let _parts = unsafe { places.into_raw_parts() };
+    let Bare { at, alloc } = bare;
+    Vacant {
+        ptr: at as *mut [E; 4096],
+        alloc,
+    }
 }
