@@ -21,7 +21,6 @@ from mi_client.schema import Schema
 from mi_client.walks import Walks
 
 T = TypeVar("T")
-S = TypeVar("S", Pipeline, LinesAhead)
 AnySchema = Union[None, str, "os.PathLike[str]", Schema]
 """A schema's file, or a schema that was read."""
 
@@ -142,27 +141,14 @@ class Database(Walks):
             self._flush()
             self._channel.write_all(b"\n")
 
-    @contextlib.contextmanager
-    def pipeline(self, window: int = WINDOW) -> Iterator[Pipeline]:
+    def pipeline(self, window: int = WINDOW) -> contextlib.AbstractContextManager[Pipeline]:
         """A block of calls that are sent ahead, each of which gives an `Answer`; at most `window` of them are awaited at a
         time. At its end all are answered, and the first refusal that nobody has looked at is raised; where the block raises,
         what was called is sent and answered too, and the exception goes on. Other threads wait until the block has ended."""
-        with self._lock:
-            with self._sending(Pipeline(self._dialect, self._step, self._flush, window)) as made:
-                try:
-                    yield made
-                    made.flush()
-                except (Exception, GeneratorExit):
-                    if self.is_open():
-                        made.flush()
-                    raise
-                except BaseException:
-                    self.close()
-                    raise
-            made.end()
+        return _Sending(self, Pipeline(self._dialect, self._step, self._exchange_alone, self._flush, window))
 
     @contextlib.contextmanager
-    def _sending(self, made: S) -> Iterator[S]:
+    def _sending(self, made: LinesAhead) -> Iterator[LinesAhead]:
         """A block in which this is among those that send ahead. One of them at a time has lines that aren't answered."""
         self._ahead.append(made)
         try:
@@ -177,8 +163,13 @@ class Database(Walks):
                 it.flush()
 
     def _exchange(self, line: bytes) -> bytes:
-        with self._lock, self._unbroken:
+        with self._lock:
             self._flush()
+            return self._exchange_alone(line)
+
+    def _exchange_alone(self, line: bytes) -> bytes:
+        """Where nothing else is on its way, and no other thread asks."""
+        with self._unbroken:
             return self._channel.exchange(line)
 
     def _step(self, data: bytes, wait: bool) -> List[bytes]:
@@ -210,6 +201,44 @@ class Database(Walks):
 
     def __reduce__(self) -> Any:
         raise TypeError("a connection can't be sent to another process; open one in each")
+
+
+class _Sending:
+    """The block of a pipeline. (A class, since a generator's block would cost a batch of one line as much as its exchange.)"""
+
+    __slots__ = ("_db", "_made")
+
+    def __init__(self, db: Database, made: Pipeline) -> None:
+        self._db, self._made = db, made
+
+    def __enter__(self) -> Pipeline:
+        self._db._lock.acquire()
+        self._db._ahead.append(self._made)
+        return self._made
+
+    def __exit__(self, kind: Optional[Type[BaseException]], error: Optional[BaseException], _: Any) -> None:
+        try:
+            try:
+                self._settle(error)
+            finally:
+                self._db._ahead.remove(self._made)
+            if error is None:
+                self._made.end()
+        finally:
+            self._db._lock.release()
+
+    def _settle(self, error: Optional[BaseException]) -> None:
+        """All that was called is answered; behind an interruption the connection ends instead."""
+        try:
+            if error is None or (isinstance(error, (Exception, GeneratorExit)) and self._db.is_open()):
+                self._made.flush()
+                return
+        except Exception:
+            raise  # (what breaks off has ended the connection)
+        except BaseException:
+            self._db.close()
+            raise
+        self._db.close()
 
 
 class _Unbroken:

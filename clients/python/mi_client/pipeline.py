@@ -32,6 +32,10 @@ Step = Callable[[bytes, bool], List[bytes]]
 """Takes bytes to write, writes and reads, waiting for either where it is told to, and answers the replies that have come."""
 
 
+Exchange = Callable[[bytes], bytes]
+"""Writes a line and answers its reply, where nothing else is on its way."""
+
+
 Alone = Callable[[Any], None]
 """Waits until everything else that was sent ahead on the connection is answered."""
 
@@ -121,11 +125,11 @@ class Pipeline:
     answered, and the first refusal that nobody has looked at is raised. For one thread: others that share the connection wait
     until the block has ended."""
 
-    def __init__(self, dialect: Dialect, step: Step, alone: Alone, window: int = WINDOW) -> None:
+    def __init__(self, dialect: Dialect, step: Step, exchange: Exchange, alone: Alone, window: int = WINDOW) -> None:
         if window < 1:
             raise ValueError("a window has room for one line at least")
         self.dialect = dialect
-        self._step, self._alone, self._window = step, alone, window
+        self._step, self._exchange, self._alone, self._window = step, exchange, alone, window
         self._is_over = False
         self._batch: List[bytes] = []
         self._bytes = 0
@@ -151,7 +155,11 @@ class Pipeline:
 
     def flush(self) -> None:
         """Waits until every line has been answered."""
-        self._advance(0)
+        if len(self._awaited) == 1 and self._batch:
+            self._give(self._exchange(self._batch.pop()))  # (which costs less, for one line)
+            self._bytes = 0
+        else:
+            self._advance(0)
 
     def refused(self) -> List[Refused]:
         """The refusals that nobody has looked at yet, in their order, of what has been answered; they are looked at then."""
@@ -187,10 +195,13 @@ class Pipeline:
         self._batch.clear()
         self._bytes = 0
         for reply in self._step(data, wait):
-            answer = self._awaited.popleft()
-            answer._reply = reply
-            if reply.startswith(REFUSAL):
-                self._unseen[answer] = None
+            self._give(reply)
+
+    def _give(self, reply: bytes) -> None:
+        answer = self._awaited.popleft()
+        answer._reply = reply
+        if reply.startswith(REFUSAL):
+            self._unseen[answer] = None
 
     ask = sent(calls.ask)
 
