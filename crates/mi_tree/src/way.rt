@@ -197,9 +197,9 @@ pub(crate) fn climb<T>(
     }
 }
 
-/// Puts a node of the way over its two sides again, of which `below` is another tree than before. Where it is one level lower
-/// than the node, the two are balanced and the node's size and height are right: the other side isn't read. The root of
-/// what they give.
+/// Puts a node of the way over its two sides again, of which `below` is another tree than before. The node's size is right. Where
+/// `below` is one level lower than the node, the two are balanced and the node's height is right: the other side isn't read. Where
+/// they are balanced, the height is all that is to be said anew. The root of what they give.
 fn rejoin<T>(p: &mut Pool<T>, slot: usize, turn: Turn, below: Option<NodeRef>) -> NodeRef
     requires slot { slot < p.old.slots }
     requires below { IsHeldIf p.old below × (height_at p.old slot below + 1 < 256) }
@@ -213,8 +213,16 @@ fn rejoin<T>(p: &mut Pool<T>, slot: usize, turn: Turn, below: Option<NodeRef>) -
         ..NO_LINK
     };
     let link = with_child(p.link(turn.node, slot), turn.left, under.back);
-    if height(p, slot, under.back) + 1 == link.height {
+    let high = height(p, slot, under.back);
+    if high + 1 == link.height {
         set_fork(p, slot, turn.node, link);
+        return turn.node;
+    }
+    let other = p.link(turn.node, slot);
+    let beside = height(p, slot, child(other, !turn.left));
+    if high.abs_diff(beside) <= 1 {
+        let height = high.max(beside) + 1;
+        set_fork(p, slot, turn.node, Link { height, ..link });
         return turn.node;
     }
     balance(p, slot, link.back, turn.node, link.forth)
