@@ -7,3 +7,4 @@ pub mod NeighbourLemmas
 pub mod RefLemmas
 mod RowSteps
 mod SlotCalls
+mod FrameSteps

@@ -2,6 +2,7 @@ pub mod Cells
 pub mod Chunks
 pub mod Columns
 pub mod Counted
+pub mod Frames
 pub mod Homes
 pub mod Neighbours
 pub mod Places

@@ -1,53 +1,50 @@
 //! A chunk: a row of elements, and the right to free its memory.
 //! Safe code over the row.
-ghost use Rattle.std.specs.Prelude.{◌≡◌, ◌<◌, length, slice_index_or, slice_set, IfOk};
-ghost use Rattle.core.specs.Mem.Slots.{slots_items, slots_ptr, slots_len, lease_ptr, lease_len, lease_heap, IsFull};
+ghost use Rattle.std.specs.Prelude.{◌≡◌, ◌<◌, slice_index_or, slice_set, IfOk};
+ghost use Rattle.core.specs.Mem.Slots.{slots_items, slots_ptr, slots_len, IsFull};
 ghost use Rattle.mi_node.specs.Rows.{IsEmpty};
 
 use crate::chunks::CHUNK;
+use crate::frame::{Bare, close_bare, open_bare};
 use crate::raw::Row;
-use core::slots::{Lease, Slots, release, reserve};
+use core::slots::Slots;
 use std::alloc::{AllocError, Global};
+use std_alloc::room::{Vacant, may_hold};
 
 /// As many elements as a chunk has, in a block of memory of their own.
 pub(crate) struct Chunk<E> {
     pub(crate) row: Row<E>,
-    lease: Lease<E, Global>,
-    alloc: Global,
-    ghost leased: { (lease_ptr lease ≡ row.at) × (lease_len lease ≡ 4096) × (lease_heap lease ≡ alloc) },
+    right: Bare<E, Global>,
+    ghost here: { right.at ≡ row.at },
+}
+
+/// Memory for a chunk: as many places as it has, none of which has an element yet, and the right to free
+/// it. A place with no element has one in contracts, so there must be one.
+pub(crate) fn places_of<E>(alloc: Global) -> Result<(Slots<E>, Bare<E, Global>), AllocError>
+    requires some { E }
+    ensures { IfOk result (λ p. (slots_len p.0 ≡ 4096) × (p.1.at ≡ slots_ptr p.0)) }
+{
+    if !may_hold::<E>(CHUNK) {
+        return Err(AllocError);
+    }
+    match Vacant::take(alloc) {
+        Ok(room) => Ok(open_bare(room)),
+        Err(_) => Err(AllocError),
+    }
 }
 
 impl<E> Chunk<E> {
-    /// The chunk of these elements. Where memory is refused they are dropped.
-    pub(crate) fn new(alloc: Global, items: Vec<E>) -> Result<Chunk<E>, AllocError>
-    where
-        E: Drop,
-        requires { length items.items ≡ 4096 }
-        ensures { IfOk result (λ c. c.row.items ≡ items.items) }
+    /// The chunk of places that have their elements.
+    pub(crate) fn new(places: Slots<E>, right: Bare<E, Global>) -> Chunk<E>
+        requires count { slots_len places ≡ 4096 }
+        requires full { IsFull places }
+        requires here { right.at ≡ slots_ptr places }
+        ensures { result.row.items ≡ slots_items places }
     {
-        let (mut places, lease) = unsafe { reserve(&alloc, items.as_slice()) }?;
-        fill(&mut places, items);
-        Ok(Chunk {
+        Chunk {
             row: Row::new(places),
-            lease,
-            alloc,
-        })
-    }
-
-    /// A chunk of copies of these elements.
-    pub(crate) fn of_copies(alloc: Global, items: &[E]) -> Result<Chunk<E>, AllocError>
-    where
-        E: Copy,
-        requires { length items.now ≡ 4096 }
-        ensures { IfOk result (λ c. c.row.items ≡ items.now) }
-    {
-        let (mut places, lease) = unsafe { reserve(&alloc, items) }?;
-        places.copy_in(0, items);
-        Ok(Chunk {
-            row: Row::new(places),
-            lease,
-            alloc,
-        })
+            right,
+        }
     }
 
     /// The element of an index.
@@ -70,28 +67,15 @@ impl<E> Chunk<E> {
 
 impl<E: Drop> Drop for Chunk<E> {
     fn drop(self) {
-        let Chunk { row, lease, alloc } = self;
+        let Chunk { row, right } = self;
         let mut places = row.into_places();
         empty(&mut places);
-        free(&alloc, places, lease);
+        let _ = close_bare(right, places).free();
     }
-}
-
-/// Moves the elements into the places.
-fn fill<E>(places: &mut Slots<E>, mut items: Vec<E>)
-    requires { slots_len places.old ≡ length items.items }
-    ensures full { IsFull places.new }
-    ensures items { slots_items places.new ≡ items.items }
-    ensures same { (slots_ptr places.new ≡ slots_ptr places.old) × (slots_len places.new ≡ slots_len places.old) }
-{
-    while let Some(x) = items.pop() {
-        places.put(items.len(), x);
-    }
-    items.destroy_empty();
 }
 
 /// Drops what stands in the places.
-fn empty<E: Drop>(places: &mut Slots<E>)
+pub(crate) fn empty<E: Drop>(places: &mut Slots<E>)
     requires count { slots_len places.old ≡ 4096 }
     requires full { IsFull places.old }
     ensures same { (slots_ptr places.new ≡ slots_ptr places.old) × (slots_len places.new ≡ slots_len places.old) }
@@ -100,12 +84,4 @@ fn empty<E: Drop>(places: &mut Slots<E>)
     for i in 0..CHUNK {
         drop(places.take(i));
     }
-}
-
-/// Frees the memory of places that have no element.
-fn free<E>(alloc: &Global, places: Slots<E>, lease: Lease<E, Global>)
-    requires lease { (lease_ptr lease ≡ slots_ptr places) × (lease_len lease ≡ slots_len places) × (lease_heap lease ≡ alloc.now) }
-    requires none { IsEmpty places }
-{
-    release(alloc, places, lease);
 }

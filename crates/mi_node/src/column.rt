@@ -4,8 +4,8 @@ ghost use Rattle.std.specs.Prelude.{◌≡◌, ◌<◌, ◌++◌, [], length, re
 ghost use Rattle.mi_node.specs.Cells.{empty_cell};
 ghost use Rattle.mi_node.specs.Columns.{cell_at};
 
-use crate::cell::{Cell, EMPTY};
-use crate::chunk::Chunk;
+use crate::cell::Cell;
+use crate::cell_chunk::CellChunk;
 use crate::chunks::{CHUNK, MAX_CHUNKS};
 use std::alloc::{AllocError, Global};
 use std::marker::Model;
@@ -13,7 +13,7 @@ use std::marker::Model;
 /// Cells that are read and set by place. No cell is ever moved to another address.
 #[derive(Drop)]
 pub(crate) struct Column {
-    chunks: Vec<Chunk<Cell>>,
+    chunks: Vec<CellChunk>,
 }
 
 impl Model for Column {
@@ -22,11 +22,11 @@ impl Model for Column {
 
     ghost Value = { List CellValue };
 
-    ghost use Rattle.mi_node.specs.Chunks.{flat, in_chunk, IsChunked};
+    ghost use Rattle.mi_node.specs.Chunks.{flat, in_cells, IsChunked};
 
-    ghost view = { λ c. flat in_chunk c.chunks.items };
+    ghost view = { λ c. flat in_cells c.chunks.items };
 
-    ghost invariant = { λ c. IsChunked in_chunk c.chunks.items };
+    ghost invariant = { λ c. IsChunked in_cells c.chunks.items };
 }
 
 impl Column {
@@ -71,17 +71,7 @@ impl Column {
             return Err(AllocError);
         }
         self.chunks.reserve(1)?;
-        self.chunks.push_reserved(empty_chunk(alloc)?);
+        self.chunks.push_reserved(CellChunk::new(alloc)?);
         Ok(())
     }
-}
-
-/// What the cells of a new chunk are copies of.
-static EMPTY_CELLS: [Cell; CHUNK] = [EMPTY; CHUNK];
-
-/// A chunk none of whose cells was set.
-fn empty_chunk(alloc: Global) -> Result<Chunk<Cell>, AllocError>
-    ensures { IfOk result (λ c. c.row.items ≡ replicate 4096 empty_cell) }
-{
-    Ok(Chunk::of_copies(alloc, &EMPTY_CELLS)?)
 }

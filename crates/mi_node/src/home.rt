@@ -1,11 +1,13 @@
 //! A place for a node: one stands there, or it is free.
 //! Plain data, which knows nothing of other places.
-ghost use Rattle.std.specs.Prelude.{◌≡◌, ◌≤◌, ◌+◌, ◌-◌, Some, IfOk, IsTrue, is_some, length};
+ghost use Rattle.std.specs.Prelude.{◌≡◌, ◌≤◌, ◌+◌, ◌-◌, Some, IfOk, IsTrue, is_some};
+ghost use Rattle.core.specs.Mem.Slots.{slots_items, slots_ptr, slots_len, IsFull};
 ghost use Rattle.mi_node.specs.Homes.{IsFree, AreFree, node_in, value_in};
 
-use crate::chunk::Chunk;
+use crate::chunk::{Chunk, places_of};
 use crate::chunks::CHUNK;
 use crate::node_ref::{NodeRef, PLACES};
+use core::slots::Slots;
 use std::alloc::{AllocError, Global};
 use std::mem::size_of;
 
@@ -75,28 +77,24 @@ where
     requires { first + 4096 ≤ PLACES }
     ensures { IfOk result (λ c. AreFree first c.row.items) }
 {
-    let places = free_places(alloc, first, next)?;
-    Ok(Chunk::new(alloc, places)?)
+    let (mut places, right) = places_of(alloc)?;
+    fill(&mut places, first, next);
+    Ok(Chunk::new(places, right))
 }
 
-fn free_places<T>(alloc: Global, first: u32, next: u32) -> Result<Vec<Home<T>>, AllocError>
-where
-    T: Drop,
-    requires { first + 4096 ≤ PLACES }
-    ensures length { IfOk result (λ c. length c.items ≡ 4096) }
-    ensures free { IfOk result (λ c. AreFree first c.items) }
+/// Writes each place once, from the last one on.
+fn fill<T>(places: &mut Slots<Home<T>>, first: u32, next: u32)
+    requires count { slots_len places.old ≡ 4096 }
+    requires fits { first + 4096 ≤ PLACES }
+    ensures full { IsFull places.new }
+    ensures free { AreFree first (slots_items places.new) }
+    ensures same { (slots_ptr places.new ≡ slots_ptr places.old) × (slots_len places.new ≡ slots_len places.old) }
 {
-    let mut chunk = Vec::with_capacity(alloc, CHUNK)?;
-    for place in first..first + CHUNK as u32 {
-        let after = if place + 1 < first + CHUNK as u32 {
-            place + 1
-        } else {
-            next
-        };
-        chunk.push_reserved(Home::Free {
-            node: NodeRef::new(place, 0),
-            next: after,
-        });
+    let mut after = next;
+    for i in 0..CHUNK as u32 {
+        let place = first + (CHUNK as u32 - 1 - i);
+        let node = NodeRef::new(place, 0);
+        places.put(CHUNK - 1 - i as usize, Home::Free { node, next: after });
+        after = place;
     }
-    Ok(chunk)
 }

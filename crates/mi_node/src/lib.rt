@@ -3,11 +3,13 @@
 #![tactic(auto)]
 
 mod cell;
+mod cell_chunk;
 mod chunk;
 mod chunks;
 mod column;
 mod columns;
 mod counted;
+mod frame;
 mod gone;
 mod home;
 mod link;

@@ -2,6 +2,7 @@
 ghost use Rattle.std.specs.Prelude.{◌≡◌, ◌<◌, ℕ, Bool, List, length, slice_index_or, slice_set};
 ghost use Rattle.core.specs.Mem.Slots.{slots_items, slots_filled, slots_ptr, slots_len, IsFull};
 ghost use Rattle.core.specs.Mem.Slots.Ownership.{owned, lent, Filled};
+ghost use Rattle.std_alloc.specs.Vec.Ownership.{FitsInBlock};
 
 use core::slots::Slots;
 use std::marker::Model;
@@ -39,6 +40,7 @@ impl<E> Row<E> {
         ensures count { slots_len result ≡ 4096 }
         ensures full { IsFull result }
         ensures items { slots_items result ≡ self.items }
+        ensures small { FitsInBlock E.row 4096 }
     {
         let Row { at } = self;
         unsafe { Slots::from_raw_parts(at, 4096) }

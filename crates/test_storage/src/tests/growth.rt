@@ -1,8 +1,11 @@
-//! A pool that grows by many chunks, whose nodes' values have a destructor.
+//! A pool that grows by many chunks, whose nodes' values have a destructor, and one whose growth is refused.
 #![tactic(auto, using(mi_node::proofs::EntryLemmas::held))]
 
+ghost use Rattle.std.specs.Prelude.{◌≡◌, None};
+ghost use Rattle.mi_node.specs.Pool.{IsHeld, ref_of, taken};
+
 use super::nodes::take;
-use mi_node::Pool;
+use mi_node::{NodeRef, Pool};
 use std::cell::Cell;
 use std::process::Abort;
 
@@ -42,4 +45,31 @@ fn a_hundred_chunks_are_freed(rt: HostRuntime) {
     assert_eq!(rt; drops.get(), 273_068);
     drop(pool);
     assert_eq!(rt; drops.get(), 2 * MANY);
+}
+
+/// A new node of a value: where it is refused once, the value that came back is taken again.
+fn take_at_last(rt: &impl Abort, pool: &mut Pool<u64>, value: u64) -> NodeRef
+    ensures free { ref_of pool.old result.name ≡ None }
+    ensures pool { pool.new ≡ taken pool.old result value }
+{
+    match pool.take(value) {
+        Ok(node) => node,
+        Err((_, back)) => {
+            assert_eq!(rt; back, value);
+            take(rt, pool, back)
+        }
+    }
+}
+
+/// Run with a request for memory refused at any growth, it sees that the value comes back, that the first
+/// node has its value, and that the next try has the place that was to come.
+#[test]
+fn a_refused_growth_changes_nothing(rt: HostRuntime) {
+    let mut pool = Pool::with_slots(rt.alloc(), 3);
+    let first = take_at_last(&rt, &mut pool, 0);
+    for number in 1..9000 {
+        let node = take_at_last(&rt, &mut pool, number);
+        assert_eq!(rt; u64::from(node.name()), number);
+        assert_eq!(rt; *pool.value(first), 0);
+    }
 }

@@ -1,7 +1,11 @@
--- The places of the chunk are free, and numbered from the first on.
+-- What a place with no element has in contracts is a free place; the places of the chunk are free, and numbered from the first on.
 use Rattle.std.proofs.Common.{subst, sym}
 use Rattle.mi_node.specs.Homes.{AreFree}
+use Rattle.mi_node.specs.declared.home.Home.TheVariants.{Free}
 use Rattle.mi_node.proofs.home.free_chunk.Goals as goal
 
+pub places_of-requires : goal.places_of-requires
+places_of-requires g c = record { some = Free (record { name = 0; mark = 0 }) 0 }
+
 pub returns : goal.returns
-returns g c = subst (AreFree c.args.first) (sym c.in_ok-new.ensures) c.in_ok-places.ensures.free
+returns g c = subst (AreFree c.args.first) (sym c.new.ensures) c.fill.ensures.free

@@ -5,7 +5,7 @@ use mir.Val.{Val, WT}
 use mir.MapTy.{inst_fn}
 use base.Logic.{SProp, ent, emp, id⊢}
 use base.Fml.{Lft, Share, ftrue, flft}
-use types.Kit.{‵, raw, ◌⊛◌, some, given, later, at_ret, ◌$◌, ◌∵◌, !, qed, by, move, keep, split, join, fsplit, fjoin, pick, learn, use0, use1, use2, await}
+use types.Kit.{‵, raw, ◌⊛◌, at_ret, ◌$◌, ◌∵◌, !, qed, by, move, keep, split, join, fsplit, fjoin, use0}
 use types.Kit.{suffices}
 use types.Run.{stop, fld, of_opd, no_more, and_then, first, blocks, exec, returns, enter}
 use types.ByLocal.{alloc_all, pass_all, free_all, look_at, get, get_in, sets, lands_last, is, env}
@@ -30,7 +30,8 @@ use Rattle.core.specs.Mem.Slots.{slots_items, slots_ptr, slots_len, IsFull}
 use Rattle.core.proofs.mem.Param.{El}
 use Rattle.core.proofs.slots.Opens.{row_val}
 use Rattle.core.proofs.slots.Slots.from_raw_parts.Met as callee
-use Rattle.mi_node.proofs.SlotCalls.{Places, places_typed, From, from_at, IsOf, from_asks, from_gives}
+use Rattle.std_alloc.specs.Vec.Ownership.{FitsInBlock}
+use Rattle.mi_node.proofs.SlotCalls.{places_typed, From, from_at, from_asks, from_gives}
 use Rattle.mi_node.proofs.RowSteps.{big_lit, Rr, row_val as pointer_val, row_had}
 use Rattle.mi_node.specs.contracts.raw.Row.into_places.{ended, clauses}
 use Rattle.mi_node.specs.contracts.raw.Row.into_places.Key.{name as #self}
@@ -61,10 +62,12 @@ into_places_spec 𝓤 𝓛 𝓜 𝓡 wired T L =
     from_gives E 𝓛 𝓜.mem 𝓡.returns κ q ! tt b o 4096 xs fs v (λ r ev made.
     let full : IsFull r = λ j low high. ap (λ (gs : List Bool). get_or gs j false) made.3 ∙ h.full j low (subst (λ (n : ℕ). j < n) made.1 high) in
     let One : Type 0 = slots_ptr r ≡ h.at in let Two : Type 0 = slots_len r ≡ 4096 in let Three : Type 0 = IsFull r in let Four : Type 0 = slots_items r ≡ xs in
+    let Five : Type 0 = FitsInBlock R 4096 in
     lands_last ! refl (places_typed E b o 4096 fk ev) $ exec ! 𝓣.C 𝓣.Λ Ev (tail (tail fn.body)) (at_ret Ev Post) $
     sets ! (is ! (of_opd ! (get ! refl)) ev) refl (tt, words) $
     nothing ! $ move ! (2 ∷ 0 ∷ []) $ join ! $
-    use0 𝓛 (raw (fact 𝓤 Four)) (fact_i 𝓤 Four (emp 𝓤) made.2) $ use0 𝓛 (raw (fact 𝓤 Three)) (fact_i 𝓤 Three (emp 𝓤) full) $ join ! $
+    use0 𝓛 (raw (fact 𝓤 Five)) (fact_i 𝓤 Five (emp 𝓤) (fit, lit< tt)) $ use0 𝓛 (raw (fact 𝓤 Four)) (fact_i 𝓤 Four (emp 𝓤) made.2) $ join ! $
+    use0 𝓛 (raw (fact 𝓤 Three)) (fact_i 𝓤 Three (emp 𝓤) full) $ join ! $
     use0 𝓛 (raw (fact 𝓤 Two)) (fact_i 𝓤 Two (emp 𝓤) made.1) $ join ! $ use0 𝓛 (raw (fact 𝓤 One)) (fact_i 𝓤 One (emp 𝓤) (made.0 ∙ sym at)) $ join ! $
     nothing ! $ nothing ! $ fjoin ! $
     returns ! (look_at ! 0 refl) $ free_all ! refl $ keep ! (2 ∷ 0 ∷ 3 ∷ 1 ∷ []) $ by ! (leaves 𝓛 En hs c z (row_val b o 4096) r (tt, tt) (tt, tt))))))))
