@@ -30,7 +30,7 @@ pub(crate) type Way = ArrayVec<Option<Turn>, MAX_LEVELS>;
 /// Goes down to where a node of that tag belongs, which no node there compares Equal to, and puts each
 /// node on the way onto the way. Each gets a size that is one greater: a node is about to stand below it.
 ///
-/// Its link is read again right before it is set: the compiler then writes the size alone.
+/// Its size is read again right before it is set: the compiler then adds to it in its place.
 pub(crate) fn go_in<T, O: NodeOrder<T>>(
     p: &mut Pool<T>,
     slot: usize,
@@ -56,16 +56,9 @@ pub(crate) fn go_in<T, O: NodeOrder<T>>(
     let side = compare_nodes(&Counted::new(p), order, node, tag, here, seen.tag, steps);
     let left = side.is_lt();
     let link = p.link(here, slot);
-    p.set_link(
-        here,
-        slot,
-        Link {
-            size: link.size + 1,
-            ..link
-        },
-    );
+    let next = p.neighbour(here, slot, left);
+    p.set_size(here, slot, link.size + 1);
     way.push(Some(Turn { node: here, left }));
-    let next = child(link, left);
     go_in(p, slot, order, next, node, tag, way, steps);
 }
 
@@ -100,16 +93,9 @@ pub(crate) fn go_to<T, O: NodeOrder<T>>(
     }
     let left = side.is_lt();
     let link = p.link(here, slot);
-    p.set_link(
-        here,
-        slot,
-        Link {
-            size: link.size - 1,
-            ..link
-        },
-    );
+    let next = p.neighbour(here, slot, left);
+    p.set_size(here, slot, link.size - 1);
     way.push(Some(Turn { node: here, left }));
-    let next = child(link, left);
     go_to(p, slot, order, next, node, tag, way, steps);
 }
 
@@ -128,14 +114,7 @@ pub(crate) fn go_first<T>(p: &mut Pool<T>, slot: usize, at: NodeRef, way: &mut W
     let Some(left) = link.back else {
         return at;
     };
-    p.set_link(
-        at,
-        slot,
-        Link {
-            size: link.size - 1,
-            ..link
-        },
-    );
+    p.set_size(at, slot, link.size - 1);
     way.push(Some(Turn {
         node: at,
         left: true,
