@@ -14,7 +14,7 @@ use Rattle.std.proofs.Common.{◌≡◌, ℕ, zero, suc, ◌-◌, ◌<◌, ◌==
 use Rattle.std.proofs.Common.{slice_index_or, replicate, Option, Some, None, refl, sym, ap, subst, ◌∙◌, arith, is_some}
 use Rattle.std.specs.Ordering.{nat_cmp}
 use Rattle.std.specs.Cmp.{nat_cmp_total, unsigned_tied}
-use Rattle.std.specs.FinMap.{FinMap, get, insert, len, contains_key, get-insert, get-remove, get-empty, len-remove, empty_of_len}
+use Rattle.std.specs.FinMap.{FinMap, get, len, contains_key, get-insert, get-remove, get-empty, len-remove, empty_of_len}
 use Rattle.mi_node.specs.Pool.{Entry, Pooled, node_at, ref_of, value_of, link_of, last_given, IsNotLast, node_count, entry_link, no_link, noted}
 use Rattle.mi_node.specs.Pool.{put_link, IsHeld, change, changed, no_nodes, taken, without, with_link, with_value}
 use Rattle.mi_node.specs.Refs.{Ref}

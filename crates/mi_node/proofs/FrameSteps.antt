@@ -16,7 +16,7 @@ use types.Kit.{Item, Goal, Seq, Step, step, ‵, raw, ◌⊛◌, ◌$◌, ◌∵
 use types.Kit.{feq_l, feq_i}
 use denote.RattleType.{RattleType, Valss}
 use denote.Array.{Array}
-use denote.Param.{param, layout}
+use denote.Param.{layout}
 use denote.RawPtr.{Ptr, RawPtr, block_ptr, ptr_val, room_for, in_a_block}
 use denote.Steps.{nothing}
 use denote.Struct.Declared as Declared
@@ -27,7 +27,7 @@ use Rattle.core.proofs.alloc.Calls.{α, token, Fits, handle_tells}
 use Rattle.core.proofs.mem.Param.{El}
 use Rattle.core.proofs.slots.Opens.{row_val}
 use Rattle.std_alloc.proofs.BoxSteps.Form.{Bx, τ, R, P}
-use Rattle.std_alloc.proofs.RawLayout.{as_raw, as_written}
+use Rattle.std_alloc.proofs.RawLayout.{as_written}
 use Rattle.std_alloc.proofs.ResultValues.{and_tt}
 use Rattle.core.specs.Align.{type_align}
 use Rattle.core.specs.Mem.{type_size}

@@ -1,7 +1,7 @@
 //! The form in which a link is stored: 32 bytes, where a `Link` takes more.
 //! Plain data: it owns no node and never follows a reference.
-ghost use Rattle.std.specs.Prelude.{◌≡◌, ⊤};
-ghost use Rattle.mi_node.specs.Cells.{link_of_cell, ref_in};
+ghost use Rattle.std.specs.Prelude.{◌≡◌, ⊤, cond};
+ghost use Rattle.mi_node.specs.Cells.{link_of_cell, ref_in, sized};
 
 use crate::link::{Link, Tag};
 use crate::node_ref::{NOBODY, NodeRef};
@@ -73,6 +73,30 @@ impl Cell {
                 stamp: self.stamp,
             },
         }
+    }
+
+    /// The same with another size.
+    #[inline(always)]
+    pub(crate) fn with_size(self, size: u32) -> Cell
+        ensures { link_of_cell result ≡ sized size (link_of_cell self) }
+    {
+        Cell { size, ..self }
+    }
+
+    /// The bits of one neighbour.
+    #[inline(always)]
+    fn bits(self, back: bool) -> u32
+        ensures { result ≡ cond back self.back self.forth }
+    {
+        if back { self.back } else { self.forth }
+    }
+
+    /// One neighbour: `back`, or else `forth`.
+    #[inline(always)]
+    pub(crate) fn neighbour(self, back: bool) -> Option<NodeRef>
+        ensures { result ≡ cond back (link_of_cell self).back (link_of_cell self).forth }
+    {
+        ref_of(self.bits(back))
     }
 }
 

@@ -2,6 +2,7 @@
 //! Safe code on the columns alone: it follows no link.
 ghost use Rattle.std.specs.Prelude.{◌≡◌, ◌==◌, ◌<◌, ◌≤◌, ◌+◌, ℕ, false, length, replicate, IfOk, slice_index_or};
 ghost use Rattle.mi_node.specs.Pool.{no_link, put_link};
+ghost use Rattle.mi_node.specs.Cells.{link_of_cell};
 ghost use Rattle.mi_node.specs.Columns.{cell_at, links_at, column, AreLong};
 
 use crate::cell::{Cell, EMPTY};
@@ -28,6 +29,29 @@ pub(crate) fn set_link_at(columns: &mut Vec<Column>, place: usize, slot: usize, 
     ensures long { (m : ℕ) → AreLong m columns.old.items → AreLong m columns.new.items }
 {
     columns[slot].set(place, Cell::new(link));
+}
+
+/// What is stored of the link of a place in a slot.
+#[inline(always)]
+pub(crate) fn stored_at(columns: &Vec<Column>, place: usize, slot: usize) -> Cell
+    requires slot { slot < length columns.now.items }
+    requires place { place < length (column columns.now.items slot) }
+    ensures { link_of_cell result ≡ slice_index_or (links_at columns.now.items place) slot no_link }
+{
+    columns[slot].at(place)
+}
+
+/// Sets what is stored of the link of a place in a slot.
+#[inline(always)]
+pub(crate) fn store_at(columns: &mut Vec<Column>, place: usize, slot: usize, cell: Cell)
+    requires slot { slot < length columns.old.items }
+    requires place { place < length (column columns.old.items slot) }
+    ensures link { links_at columns.new.items place ≡ put_link (links_at columns.old.items place) slot (link_of_cell cell) }
+    ensures others { (k : ℕ) → (k == place) ≡ false → links_at columns.new.items k ≡ links_at columns.old.items k }
+    ensures count { length columns.new.items ≡ length columns.old.items }
+    ensures long { (m : ℕ) → AreLong m columns.old.items → AreLong m columns.new.items }
+{
+    columns[slot].set(place, cell);
 }
 
 /// Each link of a place is as if it was never set.

@@ -1,12 +1,14 @@
 //! The places of a pool: what stands at each, and its links.
 //! Safe code over arrays in chunks: it never reads what a link says.
 ghost use Rattle.std.specs.Prelude.{◌≡◌, ◌<◌, Some, None, IfOk};
+ghost use Rattle.mi_node.specs.Cells.{link_of_cell};
 ghost use Rattle.mi_node.specs.Homes.{IsFreeAt};
 ghost use Rattle.mi_node.specs.Pool.{IsHeld, IsNotLast, ref_of, value_of, link_of, no_nodes, taken, without, with_link, with_value};
 
+use crate::cell::Cell;
 use crate::chunks::{CHUNK, Chunks};
 use crate::column::Column;
-use crate::columns::{add_columns, clear, lengthen, link_at, set_link_at};
+use crate::columns::{add_columns, clear, lengthen, link_at, set_link_at, store_at, stored_at};
 use crate::gone::Gone;
 use crate::home::{Home, free_chunk, into_value, is_free, next_at, value_at};
 use crate::link::Link;
@@ -167,5 +169,28 @@ impl<T> Places<T> {
         ensures sound { AreSound self.new }
     {
         set_link_at(&mut self.columns, node.name() as usize, slot, link);
+    }
+
+    /// What is stored of the node's link of a slot.
+    #[inline(always)]
+    pub(crate) fn stored(&self, node: NodeRef, slot: usize) -> Cell
+        requires sound { AreSound self.now }
+        requires held { IsHeld (nodes self.now) node }
+        requires slot { slot < self.now.slots }
+        ensures { link_of_cell result ≡ link_of (nodes self.now) node.name slot }
+    {
+        stored_at(&self.columns, node.name() as usize, slot)
+    }
+
+    /// Sets what is stored of the node's link of a slot.
+    #[inline(always)]
+    pub(crate) fn store(&mut self, node: NodeRef, slot: usize, cell: Cell)
+        requires sound { AreSound self.old }
+        requires held { IsHeld (nodes self.old) node }
+        requires slot { slot < self.old.slots }
+        ensures nodes { nodes self.new ≡ with_link (nodes self.old) node.name slot (link_of_cell cell) }
+        ensures sound { AreSound self.new }
+    {
+        store_at(&mut self.columns, node.name() as usize, slot, cell);
     }
 }

@@ -1,6 +1,7 @@
 //! The pool of all nodes, seen as a finite map from places.
 //! Safe code over the places: it never reads what a link says.
-ghost use Rattle.std.specs.Prelude.{◌≡◌, ◌<◌, ◌≤◌, Some, None, IfOk, IfErr};
+ghost use Rattle.std.specs.Prelude.{◌≡◌, ◌<◌, ◌≤◌, Some, None, IfOk, IfErr, cond};
+ghost use Rattle.mi_node.specs.Cells.{sized};
 ghost use Rattle.mi_node.specs.Pool.{IsHeld, IsNotLast, ref_of, value_of, link_of, no_nodes, taken, without, with_link, with_value};
 
 use crate::link::Link;
@@ -135,5 +136,26 @@ impl<T> Pool<T> {
         ensures { self.new ≡ with_link self.old node.name slot link }
     {
         self.places.set_link(node, slot, link);
+    }
+
+    /// One neighbour of the node's link of a slot, counted from 0: `back`, or else `forth`. It reads no more of the link.
+    #[inline(always)]
+    pub fn neighbour(&self, node: NodeRef, slot: usize, back: bool) -> Option<NodeRef>
+        requires held { IsHeld self.now node }
+        requires slot { slot < self.now.slots }
+        ensures { result ≡ cond back (link_of self.now node.name slot).back (link_of self.now node.name slot).forth }
+    {
+        self.places.stored(node, slot).neighbour(back)
+    }
+
+    /// Sets the size in the node's link of a slot, counted from 0. The rest of the link and all other links stay.
+    #[inline(always)]
+    pub fn set_size(&mut self, node: NodeRef, slot: usize, size: u32)
+        requires held { IsHeld self.old node }
+        requires slot { slot < self.old.slots }
+        ensures { self.new ≡ with_link self.old node.name slot (sized size (link_of self.old node.name slot)) }
+    {
+        let cell = self.places.stored(node, slot);
+        self.places.store(node, slot, cell.with_size(size));
     }
 }

@@ -1,5 +1,5 @@
 -- What a way says of the whole tree.
-use Rattle.std.proofs.Common.{◌≡◌, ◌==◌, ℕ, Bool, true, false, cond, ◌+◌, ◌-◌, ◌^◌, ◌<◌, ◌≤◌, max, List, [], ◌∷◌}
+use Rattle.std.proofs.Common.{◌≡◌, ◌==◌, ℕ, Bool, true, false, cond, not, ◌+◌, ◌-◌, ◌^◌, ◌<◌, ◌≤◌, max, List, [], ◌∷◌}
 use Rattle.std.proofs.Common.{◌++◌, length, take, Option, Some, None, refl, sym, ap, ◌∙◌, subst, arith, length-append}
 use Rattle.std.specs.List.{slice_get}
 use Rattle.std.specs.Option.{option_flatten}
@@ -9,7 +9,7 @@ use Rattle.std.specs.declared.cmp.Ordering.{Ordering}
 use Rattle.std.specs.declared.cmp.Ordering.TheVariants.{Less, Equal, Greater}
 use Rattle.std.specs.Ordering.{is_lt}
 use Rattle.std.specs.Cmp.{IsTotalOrder}
-use Rattle.mi_node.specs.Pool.{Pooled, link_of, with_link, IsHeld, Keeps}
+use Rattle.mi_node.specs.Pool.{Pooled, link_of, with_link, IsHeld, IsHeldIf, Keeps}
 use Rattle.mi_node.specs.declared.link.Link.{Link}
 use Rattle.mi_node.specs.declared.link.Tag.{Tag}
 use Rattle.mi_node.specs.Refs.{Ref, IsOut, IsApart, AreOut}
@@ -17,12 +17,12 @@ use Rattle.mi_node.proofs.EntryLemmas.{flip, link_here}
 use Rattle.mi_node.proofs.KeepingLemmas.{keeps_none, keeps_link, keeps_then, keeps_more, held_kept}
 use Rattle.mi_node.proofs.RefLemmas.{out_left, out_right, between, are_out_cons, are_out_none, are_out_flip}
 use Rattle.mi_tree.specs.BinaryTree.{BinaryTree, Tip, Fork, nodes, top, forks, height, DifferByAtMost, IsEven, Stands, IsRooted, height_at}
-use Rattle.mi_tree.specs.Joining.{AreSides, IsBalanced, IsSettled}
+use Rattle.mi_tree.specs.Joining.{AreSides, IsBalanced, IsFork, IsSettled}
 use Rattle.mi_tree.specs.Sorted.{NoneAre, Rising, AreTagged, SameTags, IsPutIn, CanPut, HasPut, CanTake, side}
 use Rattle.mi_tree.specs.Ways.{Frame, way_of, forked, forked_size, forked_height, forked_link, rehung, plug}
 use Rattle.mi_tree.specs.Ways.{risen, IsLevel, AreEven, IsRootOf, Above, Falls, HasFallen, Climbs, HasClimbed, AreRejoined}
 use Rattle.mi_tree.specs.declared.way.Turn.{Turn}
-use Rattle.mi_tree.proofs.BinaryTreeLemmas.{moved, tip_is, size-nodes, height-root}
+use Rattle.mi_tree.proofs.BinaryTreeLemmas.{moved, tip_is, size-nodes, height-root, held-root}
 use Rattle.mi_tree.proofs.JoinLemmas.{link_kept, stands_kept, rooted_past, tags_set}
 use Rattle.mi_tree.proofs.HeightLemmas.{low_enough}
 use Rattle.mi_tree.proofs.RotationLemmas.{plain_parts}
@@ -364,6 +364,60 @@ module _ {T : Type 0} where
         (e.1.1, e.1.0),
       )
 
+  -- the link counts the nodes of both sides
+  sided_size : (m : Pooled T) (s : ℕ) (b : Bool) (r : Ref) (q u : BinaryTree) (below : Option Ref) (y : Link) (at : Option Ref) (h : ℕ) (t : Tag)
+      → (rooted : IsRooted m s below u) (even : IsEven u) (near : DifferByAtMost 1 (height u) h) (beside : DifferByAtMost 1 h (height q))
+      (other : IsEven q) (held : IsHeld m r) (link : y ≡ forked_link b at (forks u) h q t) (stands : Stands m s q)
+      (apart : IsApart (nodes (forked b u r q))) (fits : forks (forked b u r q) < 2 ^ 32)
+      → let o = sided m s b r q u below y at (forks u) h t rooted even near beside other held link stands apart fits in
+      y.size ≡ forks o.0 + forks o.1 + 1
+  unfolding sided
+  sided_size m s true r q u below y at h t rooted even near beside other held link stands apart fits = ap (λ (z : Link). z.size) link
+  sided_size m s false r q u below y at h t rooted even near beside other held link stands apart fits = ap (λ (z : Link). z.size) link
+
+  -- what is known of the heights of two sides, of which one was read from below and one from the node's link
+  pub record AreHigh (m : Pooled T) (s : ℕ) (other : Option Ref) (l q : BinaryTree) (k j : ℕ) : Type 0 where
+    pub held : IsHeldIf m other
+    pub top_is : max k j ≡ max (height l) (height q)
+    pub near : DifferByAtMost 1 k j → DifferByAtMost 1 (height l) (height q)
+    pub low : max k j ≤ 45
+
+  sides_high : {m : Pooled T} {s : ℕ} {x : Ref} {l q : BinaryTree} {k j : ℕ} (b : Bool) (below : Option Ref) (y : Link)
+      → AreSides m s (cond b below y.back) x (cond b y.forth below) l q
+      → k ≡ height_at m s below → j ≡ height_at m s (cond (not b) y.back y.forth) → AreHigh m s (cond (not b) y.back y.forth) l q k j
+  sides_high {m} {s} {x} {l} {q} true below y h f g =
+      let fits = h.fits in let a = f ∙ height-root m s below l h.left_is in let d = g ∙ height-root m s y.forth q h.right_is in
+      let low_l = low_enough l h.left_even (omega arith) in let low_q = low_enough q h.right_even (omega arith) in record {
+        held = held-root m s y.forth q h.right_is;
+        top_is = omega arith;
+        near = λ n. (let n0 = n.0 in let n1 = n.1 in (omega arith, omega arith));
+        low = omega arith;
+      }
+  sides_high {m} {s} {x} {l} {q} false below y h f g =
+      let fits = h.fits in let a = f ∙ height-root m s below q h.right_is in let d = g ∙ height-root m s y.back l h.left_is in
+      let low_l = low_enough l h.left_even (omega arith) in let low_q = low_enough q h.right_even (omega arith) in record {
+        held = held-root m s y.back l h.left_is;
+        top_is = omega arith;
+        near = λ n. (let n0 = n.0 in let n1 = n.1 in (omega arith, omega arith));
+        low = omega arith;
+      }
+
+  pub rejoined_high : {m : Pooled T} {s : ℕ} {turn : Turn} {below : Option Ref} {y : Link} {l q : BinaryTree} {k j : ℕ} → AreRejoined m s turn below y l q
+      → k ≡ height_at m s below → j ≡ height_at m s (cond (not turn.left) y.back y.forth) → AreHigh m s (cond (not turn.left) y.back y.forth) l q k j
+  rejoined_high {turn = turn} {below = below} {y = y} r f g = sides_high turn.left below y r.sides f g
+
+  pub other_held : {m : Pooled T} {s : ℕ} {turn : Turn} {below : Option Ref} {y : Link} {l q : BinaryTree}
+      → AreRejoined m s turn below y l q → IsHeldIf m (cond (not turn.left) y.back y.forth)
+  other_held {m} {s} {turn} {below} {y} r = (rejoined_high {k = height_at m s below} {j = height_at m s (cond (not turn.left) y.back y.forth)} r refl refl).held
+
+  -- of sides of nearly one height the node's link has to say the height alone
+  pub rejoined_fork : {m : Pooled T} {s : ℕ} {turn : Turn} {below : Option Ref} {y z : Link} {l q : BinaryTree} (n : ℕ)
+      → AreRejoined m s turn below y l q → y ≡ link_of m turn.node.name s → z ≡ rehung turn.left below y → n ≡ max (height l) (height q) + 1
+      → IsFork m s turn.node (record { back = z.back; forth = z.forth; size = z.size; height = n; tag = z.tag }) l q
+  rejoined_fork {m} {s} {turn} {below} {y} {z} {l} {q} n r i e f =
+      subst (λ (w : Link). IsFork m s turn.node (record { back = w.back; forth = w.forth; size = w.size; height = n; tag = w.tag }) l q) (sym e)
+      (record { two = plain_parts r.sides; size_is = r.size_is; height_is = f; tag_is = ap (λ (w : Link). w.tag) i })
+
   -- nothing is above
   pub climbed_none : {m : Pooled T} {s : ℕ} {root below : Option Ref} {items : List (Option Turn)} {fs : List Frame} {at : Option Ref} {h : ℕ} {u : BinaryTree}
       → Climbs m s root below items fs at h u → fs ≡ [] → HasClimbed m m s (plug fs u) below u
@@ -437,9 +491,16 @@ module _ {T : Type 0} where
         settled m s turn.left turn.node w.other u below y at h y.tag c.rooted c.even c.near open_beside.0
         open_beside.1 open_above.0 link_is open_above.2 (plug_apart w.rest whole open_apart) (omega arith) (ap (λ (z : Link). z.tag) i)
 
+    climb_size : y.size ≡ forks climb_sides.0 + forks climb_sides.1 + 1
+    unfolding climb_sides sided
+    climb_size = let f = plug_size w.rest whole in let k = open_fits in
+        sided_size m s turn.left turn.node w.other u below y at h y.tag c.rooted c.even c.near open_beside.0
+        open_beside.1 open_above.0 link_is open_above.2 (plug_apart w.rest whole open_apart) (omega arith)
+
     climb_rejoined : AreRejoined m s turn below y climb_sides.0 climb_sides.1
     climb_rejoined = record {
       sides = climb_sides.2.sides;
+      size_is = climb_size;
       settled = λ e. climb_settled (ap (λ j. j + 1) (sym (height-root m s below u c.rooted)) ∙ e);
     }
 

@@ -152,4 +152,5 @@ module _ {T : Type 0} where
   -- another tree is to stand below a node of the way, whose link's size counts it: where it is one level lower than the node, the link is right
   pub record AreRejoined (m : Pooled T) (s : ℕ) (turn : Turn) (below : Option Ref) (y : Link) (l q : BinaryTree) : Type 0 where
     pub sides : AreSides m s (cond turn.left below y.back) turn.node (cond turn.left y.forth below) l q
+    pub size_is : y.size ≡ forks l + forks q + 1
     pub settled : height_at m s below + 1 ≡ y.height → IsSettled m s turn.node (rehung turn.left below y) l q

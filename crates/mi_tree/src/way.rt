@@ -30,7 +30,7 @@ pub(crate) type Way = ArrayVec<Option<Turn>, MAX_LEVELS>;
 /// Goes down to where a node of that tag belongs, which no node there compares Equal to, and puts each
 /// node on the way onto the way. Each gets a size that is one greater: a node is about to stand below it.
 ///
-/// Its link is read again right before it is set: the compiler then writes the size alone.
+/// Its size is read again right before it is set: the compiler then adds to it in its place.
 pub(crate) fn go_in<T, O: NodeOrder<T>>(
     p: &mut Pool<T>,
     slot: usize,
@@ -56,16 +56,9 @@ pub(crate) fn go_in<T, O: NodeOrder<T>>(
     let side = compare_nodes(&Counted::new(p), order, node, tag, here, seen.tag, steps);
     let left = side.is_lt();
     let link = p.link(here, slot);
-    p.set_link(
-        here,
-        slot,
-        Link {
-            size: link.size + 1,
-            ..link
-        },
-    );
+    let next = p.neighbour(here, slot, left);
+    p.set_size(here, slot, link.size + 1);
     way.push(Some(Turn { node: here, left }));
-    let next = child(link, left);
     go_in(p, slot, order, next, node, tag, way, steps);
 }
 
@@ -100,16 +93,9 @@ pub(crate) fn go_to<T, O: NodeOrder<T>>(
     }
     let left = side.is_lt();
     let link = p.link(here, slot);
-    p.set_link(
-        here,
-        slot,
-        Link {
-            size: link.size - 1,
-            ..link
-        },
-    );
+    let next = p.neighbour(here, slot, left);
+    p.set_size(here, slot, link.size - 1);
     way.push(Some(Turn { node: here, left }));
-    let next = child(link, left);
     go_to(p, slot, order, next, node, tag, way, steps);
 }
 
@@ -128,14 +114,7 @@ pub(crate) fn go_first<T>(p: &mut Pool<T>, slot: usize, at: NodeRef, way: &mut W
     let Some(left) = link.back else {
         return at;
     };
-    p.set_link(
-        at,
-        slot,
-        Link {
-            size: link.size - 1,
-            ..link
-        },
-    );
+    p.set_size(at, slot, link.size - 1);
     way.push(Some(Turn {
         node: at,
         left: true,
@@ -197,9 +176,9 @@ pub(crate) fn climb<T>(
     }
 }
 
-/// Puts a node of the way over its two sides again, of which `below` is another tree than before. Where it is one level lower
-/// than the node, the two are balanced and the node's size and height are right: the other side isn't read. The root of
-/// what they give.
+/// Puts a node of the way over its two sides again, of which `below` is another tree than before. The node's size is right. Where
+/// `below` is one level lower than the node, the two are balanced and the node's height is right: the other side isn't read. Where
+/// they are balanced, the height is all that is to be said anew. The root of what they give.
 fn rejoin<T>(p: &mut Pool<T>, slot: usize, turn: Turn, below: Option<NodeRef>) -> NodeRef
     requires slot { slot < p.old.slots }
     requires below { IsHeldIf p.old below × (height_at p.old slot below + 1 < 256) }
@@ -213,8 +192,16 @@ fn rejoin<T>(p: &mut Pool<T>, slot: usize, turn: Turn, below: Option<NodeRef>) -
         ..NO_LINK
     };
     let link = with_child(p.link(turn.node, slot), turn.left, under.back);
-    if height(p, slot, under.back) + 1 == link.height {
+    let high = height(p, slot, under.back);
+    if high + 1 == link.height {
         set_fork(p, slot, turn.node, link);
+        return turn.node;
+    }
+    let other = p.link(turn.node, slot);
+    let beside = height(p, slot, child(other, !turn.left));
+    if high.abs_diff(beside) <= 1 {
+        let height = high.max(beside) + 1;
+        set_fork(p, slot, turn.node, Link { height, ..link });
         return turn.node;
     }
     balance(p, slot, link.back, turn.node, link.forth)

@@ -1,15 +1,15 @@
 -- `close` makes the block whole again of its places and the rest of it. Assumes `Logic`.
-use Rattle.std.proofs.Common.{◌≡◌, ℕ, ◌+◌, ◌*◌, ◌^◌, ◌<◌, List, [], ◌∷◌, ◌++◌, length, sym, refl, ◌∙◌, subst}
-use mathlib.Core.Bool.{Bool, false}
+use Rattle.std.proofs.Common.{◌≡◌, List, [], ◌∷◌, ◌++◌, length, sym, refl, ◌∙◌, subst}
+use mathlib.Core.Bool.{Bool}
 use mir.Syntax.{ty_array}
 use mir.Val.{Val, WT}
 use mir.MapTy.{inst_fn}
 use base.Logic.{SProp, ent, emp, id⊢, apply∗}
 use base.Fml.{Lft, Share, ftrue, froom, flft}
-use types.Kit.{‵, raw, ◌⊛◌, at_ret, ◌$◌, ◌∵◌, !, qed, by, move, keep, drop, rewrite, split, split3, join, fsplit, fsplit3, fjoin, use0, use1, use2, suffices}
+use types.Kit.{‵, raw, ◌⊛◌, at_ret, ◌$◌, ◌∵◌, !, qed, by, move, keep, rewrite, split, split3, join, fsplit3, fjoin, use0, use1, use2, suffices}
 use types.Part.{agg, sub, whole}
 use types.Run.{stop, fld, of_opd, no_more, and_then, first, blocks, exec, returns, enter}
-use types.ByLocal.{alloc_all, pass_all, free_all, look_at, get, get_in, sets, lands_last, is, env}
+use types.ByLocal.{alloc_all, pass_all, free_all, look_at, get, get_in, sets, lands_last, env}
 use types.Logic.{sem}
 use contract.Running.{tables}
 use contract.Monad.{fact, fact_i}
@@ -34,7 +34,7 @@ use Rattle.std_alloc.proofs.BoxSteps.Form.{Bx, R, args, τ}
 use Rattle.std_alloc.proofs.OfVacant.{Vacant, vacant_val, vacant_typed, Vacant-made}
 use Rattle.std_alloc.proofs.RawLayout.{as_raw}
 use Rattle.mi_node.proofs.FrameSteps.{Frame, Block, in_slots, frame_val, frame_typed, frame_had, rest}
-use Rattle.mi_node.proofs.SlotCalls.{Places, memory, parts_typed, spelled, Into, into_at, into_asks, into_gives}
+use Rattle.mi_node.proofs.SlotCalls.{Places, parts_typed, spelled, Into, into_at, into_asks, into_gives}
 use Rattle.mi_node.specs.Frames.{places_type, block_type}
 use Rattle.mi_node.specs.Rows.{IsEmpty}
 use Rattle.mi_node.specs.contracts.frame.close.{ended, clauses}

@@ -1,23 +1,22 @@
 -- `close_bare` makes a block of its places again. Assumes `Logic`.
-use Rattle.std.proofs.Common.{◌≡◌, ℕ, ◌+◌, ◌*◌, ◌^◌, ◌<◌, List, [], ◌∷◌, ◌++◌, length, sym, refl, ◌∙◌, subst}
-use mathlib.Core.Bool.{Bool, false}
+use Rattle.std.proofs.Common.{◌≡◌, ◌^◌, ◌<◌, List, [], ◌∷◌, ◌++◌, length, sym, refl, ◌∙◌, subst}
+use mathlib.Core.Bool.{Bool}
 use mir.Syntax.{ty_array}
 use mir.Val.{Val, WT}
 use mir.MapTy.{inst_fn}
-use base.Logic.{SProp, ent, emp, id⊢, apply∗}
+use base.Logic.{SProp, ent, emp, id⊢}
 use base.Fml.{Lft, Share, ftrue, froom, flft}
-use types.Kit.{‵, raw, ◌⊛◌, at_ret, ◌$◌, ◌∵◌, !, qed, by, move, keep, drop, rewrite, split, split3, join, fsplit, fsplit3, fjoin, use0, use1, use2, suffices}
+use types.Kit.{‵, raw, ◌⊛◌, at_ret, ◌$◌, ◌∵◌, !, qed, by, move, keep, rewrite, split, split3, join, fsplit3, fjoin, use0, use1, suffices}
 use types.Part.{agg, sub, whole}
 use types.Run.{stop, fld, of_opd, no_more, and_then, first, blocks, exec, returns, enter}
-use types.ByLocal.{alloc_all, pass_all, free_all, look_at, get, get_in, sets, lands_last, is, env}
-use types.Logic.{sem}
+use types.ByLocal.{alloc_all, pass_all, free_all, look_at, get, get_in, sets, lands_last, env}
 use contract.Running.{tables}
 use contract.Monad.{fact, fact_i}
 use contract.BorrowLft.{◌⊑◌}
 use denote.Exit.{no}
 use denote.RattleType.{RattleType, owns}
 use denote.Signature.{types_at, plain}
-use denote.RawPtr.{Ptr, block_ptr, room_for}
+use denote.RawPtr.{Ptr, block_ptr}
 use denote.Steps.{nothing, heard}
 use denote.Triple.Walked.{Stays, stay_dropped, walk_of, Goes-dropped}
 use Rattle.core.proofs.alloc.Calls.{Goes-blank}
@@ -34,7 +33,7 @@ use Rattle.std_alloc.proofs.BoxSteps.Form.{Bx, R, args, τ}
 use Rattle.std_alloc.proofs.OfVacant.{Vacant, vacant_val, vacant_typed, Vacant-made}
 use Rattle.std_alloc.proofs.RawLayout.{as_raw}
 use Rattle.mi_node.proofs.FrameSteps.{Bare, Whole, in_slots, bare_val, bare_typed, bare_had}
-use Rattle.mi_node.proofs.SlotCalls.{Places, memory, parts_typed, spelled, Into, into_at, into_asks, into_gives}
+use Rattle.mi_node.proofs.SlotCalls.{Places, parts_typed, spelled, Into, into_at, into_asks, into_gives}
 use Rattle.core.proofs.alloc.Calls.{token}
 use Rattle.mi_node.specs.Frames.{places_type}
 use denote.Param.{layout}

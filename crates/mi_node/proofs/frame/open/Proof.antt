@@ -1,5 +1,5 @@
 -- `open` makes slots of the room for a block's places, and keeps the rest of the block. Assumes `Logic`.
-use Rattle.std.proofs.Common.{◌≡◌, ℕ, ◌+◌, ◌*◌, ◌^◌, ◌<◌, List, [], ◌∷◌, ◌++◌, length, sym, refl, ◌∙◌, subst, lit<}
+use Rattle.std.proofs.Common.{◌≡◌, ℕ, ◌+◌, ◌*◌, ◌^◌, ◌<◌, List, [], ◌∷◌, ◌++◌, length, sym, refl, subst, lit<}
 use mathlib.Core.Bool.{Bool, false}
 use lib.ListN.{replicate, length-replicate}
 use mir.Syntax.{ty_array}
@@ -7,7 +7,7 @@ use mir.Val.{Val, WT}
 use mir.MapTy.{inst_fn}
 use base.Logic.{SProp, ent, emp, id⊢}
 use base.Fml.{Lft, Share, ftrue, froom, flft}
-use types.Kit.{‵, raw, ◌⊛◌, at_ret, ◌$◌, ◌∵◌, !, qed, by, move, keep, split, split3, join, fsplit, fjoin, fjoin3, feq_i, fpack, use0, use1, suffices}
+use types.Kit.{‵, raw, ◌⊛◌, at_ret, ◌$◌, ◌∵◌, !, qed, by, move, keep, split, split3, join, fsplit, fjoin, use0, use1, suffices}
 use types.Part.{agg, sub, whole}
 use types.Run.{stop, fld, addr, of_opd, no_more, and_then, first, blocks, exec, returns, enter}
 use types.ByLocal.{alloc_all, pass_all, free_all, look_at, get, get_in, through, sets, sets_last, lands_last, is, env}
@@ -15,13 +15,10 @@ use contract.Running.{tables}
 use contract.Monad.{fact, fact_i}
 use contract.BorrowLft.{◌⊑◌}
 use denote.Exit.{no}
-use denote.RattleType.{RattleType, Valss, owns}
+use denote.RattleType.{RattleType, owns}
 use denote.Signature.{types_at, plain}
 use denote.RawPtr.{Ptr, block_ptr}
 use denote.Steps.{nothing, heard}
-use denote.Struct.Declared as Declared
-use denote.Struct.Struct.{within}
-use denote.Struct.Tuple.{Tuple, tuple_type}
 use denote.Triple.Walked.{Stays, stay_dropped, walk_of}
 use Rattle.core.proofs.alloc.Calls.{Goes-blank}
 use denote.Triple.Call.{calls_at_last}
@@ -40,7 +37,7 @@ use Rattle.std_alloc.proofs.BoxSteps.Form.{Bx, R, args, τ}
 use Rattle.std_alloc.proofs.OfVacant.{Vacant, vacant_val, vacant_typed, Vacant-had}
 use Rattle.mi_node.proofs.FrameSteps.{Frame, Block, in_slots, frame_val, frame_typed, frame_made, cut}
 use Rattle.mi_node.proofs.FrameSteps as steps
-use Rattle.mi_node.proofs.SlotCalls.{Places, memory, places_typed, From, from_at, from_asks, from_gives}
+use Rattle.mi_node.proofs.SlotCalls.{memory, places_typed, From, from_at, from_asks, from_gives}
 use Rattle.mi_node.proofs.RowSteps.{big_lit}
 use Rattle.mi_node.specs.contracts.frame.open.{ended, clauses}
 use Rattle.mi_node.specs.contracts.frame.open.Key.{name as #self}

@@ -1,27 +1,24 @@
 -- `open_bare` makes slots of a block that is its places, and keeps the right to free it. Assumes `Logic`.
-use Rattle.std.proofs.Common.{◌≡◌, ℕ, ◌+◌, ◌*◌, ◌^◌, ◌<◌, List, [], ◌∷◌, ◌++◌, length, sym, refl, ◌∙◌, subst, lit<}
+use Rattle.std.proofs.Common.{◌≡◌, ◌^◌, ◌<◌, List, [], ◌∷◌, ◌++◌, length, sym, refl, subst, lit<}
 use mathlib.Core.Bool.{Bool, false}
 use lib.ListN.{replicate, length-replicate}
 use mir.Syntax.{ty_array}
 use mir.Val.{Val, WT}
 use mir.MapTy.{inst_fn}
 use base.Logic.{SProp, ent, emp, id⊢}
-use base.Fml.{Lft, Share, ftrue, froom, flft}
-use types.Kit.{‵, raw, ◌⊛◌, at_ret, ◌$◌, ◌∵◌, !, qed, by, move, keep, split, split3, join, fsplit, fjoin, fjoin3, feq_i, fpack, use0, use1, suffices}
+use base.Fml.{Lft, Share, ftrue, flft}
+use types.Kit.{‵, raw, ◌⊛◌, at_ret, ◌$◌, ◌∵◌, !, qed, by, move, keep, split, split3, join, fsplit, fjoin, use0, use1, suffices}
 use types.Part.{agg, sub, whole}
-use types.Run.{stop, fld, addr, of_opd, no_more, and_then, first, blocks, exec, returns, enter}
-use types.ByLocal.{alloc_all, pass_all, free_all, look_at, get, get_in, through, sets, sets_last, lands_last, is, env}
+use types.Run.{stop, fld, of_opd, no_more, and_then, first, blocks, exec, returns, enter}
+use types.ByLocal.{alloc_all, pass_all, free_all, look_at, get, get_in, sets, lands_last, is, env}
 use contract.Running.{tables}
 use contract.Monad.{fact, fact_i}
 use contract.BorrowLft.{◌⊑◌}
 use denote.Exit.{no}
-use denote.RattleType.{RattleType, Valss, owns}
+use denote.RattleType.{RattleType, owns}
 use denote.Signature.{types_at, plain}
 use denote.RawPtr.{Ptr, block_ptr}
 use denote.Steps.{nothing, heard}
-use denote.Struct.Declared as Declared
-use denote.Struct.Struct.{within}
-use denote.Struct.Tuple.{Tuple, tuple_type}
 use denote.Triple.Walked.{Stays, stay_dropped, walk_of}
 use Rattle.core.proofs.alloc.Calls.{Goes-blank}
 use denote.Triple.Call.{calls_at_last}
@@ -31,7 +28,6 @@ use Rattle.std.proofs.raw_atomic.Walks.{proved_at, leaves}
 use Rattle.core.specs.Mem.Slots.{slots_ptr, slots_len}
 use Rattle.core.proofs.mem.Param.{El}
 use Rattle.core.proofs.slots.Opens.{row_val}
-use Rattle.core.proofs.slots.Places.{sz}
 use Rattle.core.proofs.slots.Runs.{of_space}
 use Rattle.core.proofs.slots.Slots.from_raw_parts.Met as callee
 use Rattle.std_alloc.specs.Vec.Ownership.{FitsInBlock}
@@ -42,7 +38,7 @@ use Rattle.std_alloc.proofs.BoxSteps.Form.{Bx, R, args, τ}
 use Rattle.std_alloc.proofs.OfVacant.{Vacant, vacant_val, vacant_typed, Vacant-had}
 use Rattle.mi_node.proofs.FrameSteps.{Bare, Whole, in_slots, bare_typed, bare_made}
 use Rattle.mi_node.proofs.FrameSteps as steps
-use Rattle.mi_node.proofs.SlotCalls.{Places, memory, places_typed, From, from_at, from_asks, from_gives}
+use Rattle.mi_node.proofs.SlotCalls.{memory, places_typed, From, from_at, from_asks, from_gives}
 use Rattle.mi_node.proofs.RowSteps.{big_lit}
 use Rattle.mi_node.specs.contracts.frame.open_bare.{ended, clauses}
 use Rattle.mi_node.specs.contracts.frame.open_bare.Key.{name as #self}

@@ -1,27 +1,36 @@
 -- Each step down is a turn of a way on which sizes have grown by one, towards where the node belongs.
-use Rattle.std.proofs.Common.{ℕ, ◌<◌, List, length, refl, sym, ap, ◌∙◌, subst, arith}
+use Rattle.std.proofs.Common.{◌≡◌, ℕ, ◌+◌, ◌<◌, List, length, refl, sym, ap, ◌∙◌, subst, arith}
+use Rattle.mi_node.specs.Pool.{link_of, with_link}
 use Rattle.mi_node.specs.declared.link.Link.{Link}
 use Rattle.mi_tree.specs.BinaryTree.{BinaryTree}
 use Rattle.mi_tree.specs.Sorted.{side}
 use Rattle.mi_tree.specs.Ways.{Frame, Falls}
 use Rattle.mi_tree.proofs.SortedLemmas.{side_read, tagged_read}
-use Rattle.mi_tree.proofs.WayLemmas.{NextFall, fallen_none, here_tagged, room_here, keeps_here, same_tag, next_fall}
+use Rattle.mi_tree.proofs.WayLemmas.{sized_link, NextFall, fallen_none, here_tagged, room_here, keeps_here, same_tag, next_fall}
 use Rattle.mi_tree.proofs.way.+go_in.Given.{Over}
-use Rattle.mi_tree.proofs.way.+go_in.Goals.{After-child-next}
+use Rattle.mi_tree.proofs.way.+go_in.Goals.{After-set_size, After-push}
 use Rattle.mi_tree.proofs.way.+go_in.Goals as goal
 
-module _ (g : Over) (t : ℕ) (c : After-child-next g t) where
+module _ (g : Over) (t : ℕ) (c : After-set_size g t) where
+  -- the size alone is set, to one more than it was
+  set : c.set_size.new.self ≡ with_link c.args.p.now c.in-Some.here.name c.args.slot
+      (sized_link ((link_of c.args.p.now c.in-Some.here.name c.args.slot).size + 1) (link_of c.args.p.now c.in-Some.here.name c.args.slot))
+  set = c.set_size.ensures ∙ ap (λ (z : Link). with_link c.args.p.now c.in-Some.here.name c.args.slot
+      (sized_link (z.size + 1) (link_of c.args.p.now c.in-Some.here.name c.args.slot))) c.link-link.ensures
+
+module _ (g : Over) (t : ℕ) (c : After-push g t) where
   -- the step down from the node here, for each way that the turns may stand for
   next : {fs : List Frame} {u : BinaryTree}
       → Falls c.args.p.now c.args.slot (side (g.O.NodeOrder.order c.args.order.now) c.args.p.now c.args.slot) (g.O.NodeOrder.tag_of c.args.order.now)
       c.args.way.now.items c.args.at c.args.node fs u
-      → NextFall c.args.p.now c.set_link.new.self c.args.slot (g.O.NodeOrder.order c.args.order.now) (g.O.NodeOrder.tag_of c.args.order.now)
-      c.push.new.self.items c.args.at c.child-next.result c.args.node fs u
+      → NextFall c.args.p.now c.set_size.new.self c.args.slot (g.O.NodeOrder.order c.args.order.now) (g.O.NodeOrder.tag_of c.args.order.now)
+      c.push.new.self.items c.args.at c.neighbour-next.result c.args.node fs u
   next h =
       let side_found = side_read (g.O.NodeOrder.order c.args.order.now) c.args.slot c.args.node c.in-Some.here c.new.ensures.pool c.requires.tag
       (ap (λ (k : Link). k.tag) c.link-seen.ensures) c.compare_nodes-side.ensures.result in
-      next_fall (g.met.O.NodeOrder.total c.args.order.now) h c.in-Some.is c.link-link.ensures c.set_link.ensures side_found c.is_lt-left.ensures
-      c.push.ensures.items c.child-next.ensures
+      next_fall (g.met.O.NodeOrder.total c.args.order.now) h c.in-Some.is refl (c.set_size.ensures ∙ ap (λ (z : Link). with_link c.args.p.now c.in-Some.here.name c.args.slot
+      (sized_link (z.size + 1) (link_of c.args.p.now c.in-Some.here.name c.args.slot))) c.link-link.ensures) side_found c.is_lt-left.ensures
+      c.push.ensures.items c.neighbour-next.ensures
 
 pub returns-in_default-clause-way : goal.returns-in_default-clause-way
 returns-in_default-clause-way g t c fs u h = (fs, fallen_none h c.in_default.is)
@@ -35,23 +44,23 @@ compare_nodes-side-requires-clause-right g t c =
 pub push-requires : goal.push-requires
 push-requires g t c =
     let room : length c.args.way.now.items < 45 = room_here (g.met.O.NodeOrder.total c.args.order.now) c.requires.way.2 c.in-Some.is
-    c.link-link.ensures c.set_link.ensures in
+    refl (set g t (goal.at.push-requires g t c).After-set_size) in
     (omega arith, room)
 
 pub go_in-requires : goal.go_in-requires
 go_in-requires g t c κs within =
     let h = c.requires.way.2 in let total = g.met.O.NodeOrder.total c.args.order.now in
-    let on = next g t (goal.at.go_in-requires g t c).After-child-next h in
-    let tag_is = c.requires.tag ∙ sym (same_tag total h c.in-Some.is c.link-link.ensures c.set_link.ensures) in
-    let slots = subst (λ j. c.args.slot < j) (sym (keeps_here total h c.in-Some.is c.link-link.ensures c.set_link.ensures).slots) c.requires.slot in
+    let on = next g t (goal.at.go_in-requires g t c).After-push h in
+    let tag_is = c.requires.tag ∙ sym (same_tag total h c.in-Some.is refl (set g t (goal.at.go_in-requires g t c).After-set_size)) in
+    let slots = subst (λ j. c.args.slot < j) (sym (keeps_here total h c.in-Some.is refl (set g t (goal.at.go_in-requires g t c).After-set_size)).slots) c.requires.slot in
     (omega (arith, c.decreases, on.lower), (within.0, (within.1, (slots, (tag_is, (on.gs, on.sub, on.falls))))))
 
 pub returns-clause-slots : goal.returns-clause-slots
 returns-clause-slots g t c =
     c.go_in.ensures.slots
-    ∙ (keeps_here (g.met.O.NodeOrder.total c.args.order.now) c.requires.way.2 c.in-Some.is c.link-link.ensures c.set_link.ensures).slots
+    ∙ (keeps_here (g.met.O.NodeOrder.total c.args.order.now) c.requires.way.2 c.in-Some.is refl (set g t (goal.at.returns-clause-slots g t c).After-set_size)).slots
 
 pub returns-clause-way : goal.returns-clause-way
 returns-clause-way g t c fs u h =
-    let on = next g t (goal.at.returns-clause-way g t c).After-child-next h in let far = c.go_in.ensures.way on.gs on.sub on.falls in
+    let on = next g t (goal.at.returns-clause-way g t c).After-push h in let far = c.go_in.ensures.way on.gs on.sub on.falls in
     (far.0, on.fallen c.go_in.new.p c.go_in.new.way.items far.0 far.1)

@@ -1,6 +1,7 @@
 -- Each step down is a turn of a way on which sizes have fallen by one, towards the node.
-use Rattle.std.proofs.Common.{◌≡◌, ℕ, ◌<◌, List, ◌∷◌, length, None, refl, sym, ap, ◌∙◌, subst, arith}
+use Rattle.std.proofs.Common.{◌≡◌, ℕ, ◌-◌, ◌<◌, List, ◌∷◌, length, None, refl, sym, ap, ◌∙◌, subst, arith}
 use Rattle.mi_node.specs.Refs.{Ref}
+use Rattle.mi_node.specs.Pool.{link_of, with_link}
 use Rattle.mi_node.specs.declared.link.Link.{Link}
 use Rattle.mi_tree.specs.BinaryTree.{BinaryTree, nodes}
 use Rattle.mi_tree.specs.Sorted.{AreTagged, side, Rising}
@@ -8,9 +9,10 @@ use Rattle.mi_tree.specs.Ways.{Frame, Sinks}
 use Rattle.mi_tree.proofs.BinaryTreeLemmas.{moved, tip_is}
 use Rattle.mi_tree.proofs.SortedLemmas.{side_read, tagged_read, none_here, tagged_right}
 use Rattle.mi_tree.proofs.RemoveLemmas.{held_in}
+use Rattle.mi_tree.proofs.WayLemmas.{sized_link}
 use Rattle.mi_tree.proofs.RemovalWayLemmas.{NextSink, sunk_equal, equal_is, keeps_here, tags_here, tagged_here, room_here, next_sink}
 use Rattle.mi_tree.proofs.way.+go_to.Given.{Over}
-use Rattle.mi_tree.proofs.way.+go_to.Goals.{After-compare_nodes-side, After-child-next}
+use Rattle.mi_tree.proofs.way.+go_to.Goals.{After-compare_nodes-side, After-set_size, After-push}
 use Rattle.mi_tree.proofs.way.+go_to.Goals as goal
 
 module _ (g : Over) (t : ℕ) (c : After-compare_nodes-side g t) where
@@ -19,19 +21,27 @@ module _ (g : Over) (t : ℕ) (c : After-compare_nodes-side g t) where
   side_found = side_read (g.O.NodeOrder.order c.args.order.now) c.args.slot c.args.node c.in-Some.here c.new.ensures.pool c.requires.tag
       (ap (λ (k : Link). k.tag) c.link-seen.ensures) c.compare_nodes-side.ensures.result
 
-module _ (g : Over) (t : ℕ) (c : After-child-next g t)
+module _ (g : Over) (t : ℕ) (c : After-set_size g t) where
+  -- the size alone is set, to one less than it was
+  set : c.set_size.new.self ≡ with_link c.args.p.now c.in-Some.here.name c.args.slot
+      (sized_link ((link_of c.args.p.now c.in-Some.here.name c.args.slot).size - 1) (link_of c.args.p.now c.in-Some.here.name c.args.slot))
+  set = c.set_size.ensures ∙ ap (λ (z : Link). with_link c.args.p.now c.in-Some.here.name c.args.slot
+      (sized_link (z.size - 1) (link_of c.args.p.now c.in-Some.here.name c.args.slot))) c.link-link.ensures
+
+module _ (g : Over) (t : ℕ) (c : After-push g t)
     (found : side (g.O.NodeOrder.order c.args.order.now) c.args.p.now c.args.slot c.args.node c.in-Some.here ≡ c.compare_nodes-side.result) where
   -- the step down from the node here, for each way that the turns may stand for
   next : {fs : List Frame} {u : BinaryTree} {xs ys vs ws : List Ref}
       → Sinks c.args.p.now c.args.slot c.args.way.now.items c.args.at fs u xs c.args.node ys vs ws
       → Rising (side (g.O.NodeOrder.order c.args.order.now) c.args.p.now c.args.slot) (nodes u)
-      → (us : List Ref) × (o : NextSink c.args.p.now c.set_link.new.self c.args.slot c.push.new.self.items c.args.at c.child-next.result fs u xs c.args.node
-      ys vs ws us) × Rising (side (g.O.NodeOrder.order c.args.order.now) c.set_link.new.self c.args.slot) (nodes o.sub)
+      → (us : List Ref) × (o : NextSink c.args.p.now c.set_size.new.self c.args.slot c.push.new.self.items c.args.at c.neighbour-next.result fs u xs c.args.node
+      ys vs ws us) × Rising (side (g.O.NodeOrder.order c.args.order.now) c.set_size.new.self c.args.slot) (nodes o.sub)
       × (AreTagged (g.O.NodeOrder.tag_of c.args.order.now) c.args.p.now c.args.slot (nodes u)
-      → AreTagged (g.O.NodeOrder.tag_of c.args.order.now) c.set_link.new.self c.args.slot (nodes o.sub))
-  next h rising = next_sink h c.in-Some.is c.link-link.ensures c.set_link.ensures (g.met.O.NodeOrder.total c.args.order.now)
+      → AreTagged (g.O.NodeOrder.tag_of c.args.order.now) c.set_size.new.self c.args.slot (nodes o.sub))
+  next h rising = next_sink h c.in-Some.is refl (c.set_size.ensures ∙ ap (λ (z : Link). with_link c.args.p.now c.in-Some.here.name c.args.slot
+      (sized_link (z.size - 1) (link_of c.args.p.now c.in-Some.here.name c.args.slot))) c.link-link.ensures) (g.met.O.NodeOrder.total c.args.order.now)
       (g.O.NodeOrder.tag_of c.args.order.now) found (sym c.is_eq.ensures ∙ c.if-is_eq.false) c.is_lt-left.ensures c.push.ensures.items
-      c.child-next.ensures rising
+      c.neighbour-next.ensures rising
 
 pub unreachable-requires : goal.unreachable-requires
 unreachable-requires g t c =
@@ -59,23 +69,23 @@ returns-then-is_eq-clause-way g t c fs u xs ys vs ws h r =
 
 pub push-requires : goal.push-requires
 push-requires g t c =
-    let room : length c.args.way.now.items < 45 = room_here c.requires.way.6 c.in-Some.is c.link-link.ensures c.set_link.ensures in
+    let room : length c.args.way.now.items < 45 = room_here c.requires.way.6 c.in-Some.is refl (set g t (goal.at.push-requires g t c).After-set_size) in
     (omega arith, room)
 
 pub go_to-requires : goal.go_to-requires
 go_to-requires g t c κs within =
-    let o = goal.at.go_to-requires g t c in let w = c.requires.way in let set = c.set_link.ensures in
-    let on = next g t o.After-child-next (side_found g t o.After-compare_nodes-side) w.6 w.7 in let k = on.1 in
-    let tag_is = c.requires.tag ∙ sym (tags_here w.6 c.in-Some.is c.link-link.ensures set c.args.node.name) in
-    let slots = subst (λ j. c.args.slot < j) (sym (keeps_here w.6 c.in-Some.is c.link-link.ensures set).slots) c.requires.slot in
+    let o = goal.at.go_to-requires g t c in let w = c.requires.way in let now = set g t o.After-set_size in
+    let on = next g t o.After-push (side_found g t o.After-compare_nodes-side) w.6 w.7 in let k = on.1 in
+    let tag_is = c.requires.tag ∙ sym (tags_here w.6 c.in-Some.is refl now c.args.node.name) in
+    let slots = subst (λ j. c.args.slot < j) (sym (keeps_here w.6 c.in-Some.is refl now).slots) c.requires.slot in
     (omega (arith, c.decreases, k.lower), (within.0, (within.1, (slots, (tag_is, (k.gs, k.sub, on.0, k.zs, w.4, w.5, k.sinks, on.2, on.3 w.8))))))
 
 pub returns-clause-slots : goal.returns-clause-slots
-returns-clause-slots g t c = c.go_to.ensures.slots ∙ (keeps_here c.requires.way.6 c.in-Some.is c.link-link.ensures c.set_link.ensures).slots
+returns-clause-slots g t c = c.go_to.ensures.slots ∙ (keeps_here c.requires.way.6 c.in-Some.is refl (set g t (goal.at.returns-clause-slots g t c).After-set_size)).slots
 
 pub returns-clause-way : goal.returns-clause-way
 returns-clause-way g t c fs u xs ys vs ws h r =
     let o = goal.at.returns-clause-way g t c in
-    let on = next g t o.After-child-next (side_found g t o.After-compare_nodes-side) h r in let k = on.1 in
+    let on = next g t o.After-push (side_found g t o.After-compare_nodes-side) h r in let k = on.1 in
     let far = c.go_to.ensures.way k.gs k.sub on.0 k.zs vs ws k.sinks on.2 in
     (far.0, far.1, far.2, k.sunk c.go_to.new.p c.go_to.new.way.items far.0 far.1 far.2 far.3)

@@ -1,5 +1,5 @@
 -- No places are no nodes.
-use Rattle.std.proofs.Common.{◌≤◌, ap, sym, subst, length, arith, ◌∙◌}
+use Rattle.std.proofs.Common.{◌≤◌, sym, subst, length, arith, ◌∙◌}
 use Rattle.mi_node.specs.Seen.{seen, IsSound}
 use Rattle.mi_node.proofs.MapLemmas.{seen-none, sound-none}
 use Rattle.mi_node.proofs.places.Places.new.Goals as goal

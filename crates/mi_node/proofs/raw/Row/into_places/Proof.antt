@@ -5,7 +5,7 @@ use mir.Val.{Val, WT}
 use mir.MapTy.{inst_fn}
 use base.Logic.{SProp, ent, emp, id⊢}
 use base.Fml.{Lft, Share, ftrue, flft}
-use types.Kit.{‵, raw, ◌⊛◌, some, given, later, at_ret, ◌$◌, ◌∵◌, !, qed, by, move, keep, split, join, fsplit, fjoin, pick, learn, use0, use1, use2, await}
+use types.Kit.{‵, raw, ◌⊛◌, at_ret, ◌$◌, ◌∵◌, !, qed, by, move, keep, split, join, fsplit, fjoin, use0}
 use types.Kit.{suffices}
 use types.Run.{stop, fld, of_opd, no_more, and_then, first, blocks, exec, returns, enter}
 use types.ByLocal.{alloc_all, pass_all, free_all, look_at, get, get_in, sets, lands_last, is, env}
@@ -31,7 +31,7 @@ use Rattle.core.proofs.mem.Param.{El}
 use Rattle.core.proofs.slots.Opens.{row_val}
 use Rattle.core.proofs.slots.Slots.from_raw_parts.Met as callee
 use Rattle.std_alloc.specs.Vec.Ownership.{FitsInBlock}
-use Rattle.mi_node.proofs.SlotCalls.{Places, places_typed, From, from_at, IsOf, from_asks, from_gives}
+use Rattle.mi_node.proofs.SlotCalls.{places_typed, From, from_at, from_asks, from_gives}
 use Rattle.mi_node.proofs.RowSteps.{big_lit, Rr, row_val as pointer_val, row_had}
 use Rattle.mi_node.specs.contracts.raw.Row.into_places.{ended, clauses}
 use Rattle.mi_node.specs.contracts.raw.Row.into_places.Key.{name as #self}
