@@ -1,7 +1,7 @@
 //! The calls of a container: the rows of one table, linked into its indexes, and changes with their inverses. It says what
 //! each call answers and leaves, by plain data and the definitions of tables, and nothing of how rows are linked. It knows
 //! no sessions.
-ghost use Rattle.std.specs.Prelude.{◌≡◌, ◌≢◌, ◌<◌, ◌≤◌, ◌+◌, ◌*◌, ◌^◌, ℕ, List, [], map, IsTrue, IfOk, IfErr, IfSome};
+ghost use Rattle.std.specs.Prelude.{◌≡◌, ◌≢◌, ◌<◌, ◌≤◌, ◌+◌, ◌*◌, ◌^◌, ℕ, List, Option, [], map, IsTrue, IfOk, IfErr, IfSome};
 ghost use Rattle.std.specs.Option.{option_copied};
 ghost use Rattle.mi_value.specs.declared.refusal.Refusal.TheVariants.{Memory};
 ghost use Rattle.mi_catalog.specs.Shape.{Shape};
@@ -14,6 +14,7 @@ ghost use Rattle.mi_container.specs.Asked.{IsKeyed, IsHashed, IsSorted, IsSequen
 ghost use Rattle.mi_container.specs.Data.{Data, IsData, as_table};
 ghost use Rattle.mi_container.specs.Held.{HoldsNodes};
 ghost use Rattle.mi_container.specs.Changes.{opened_data};
+ghost use Rattle.mi_container.specs.Secrets.{opened_secrets};
 ghost use Rattle.mi_container.specs.Inverse.{taken_back, settled, lost_to};
 ghost use Rattle.mi_container.specs.Fits.{Ready, KeptBy};
 ghost use Rattle.mi_container.specs.Run.Change.{Replace, Erase, Relocate};
@@ -30,7 +31,7 @@ use std::alloc::{AllocError, Global};
 /// which change of the data it was, and that the answer is its inverse. A refused change leaves the data as they were.
 ///
 /// `held` has the ids that stand in the nodes of the container's pool, one for each node: what memory has, and not what
-/// the data say.
+/// the data say. `secrets` has the secret of each index that hashes keys: what it chooses, the buckets, is seen in no answer.
 ///
 /// Calls that compare keys count each comparison on `steps`. In a table whose size has b binary digits a look-up makes at
 /// most 2 b + 1.
@@ -41,6 +42,8 @@ pub trait Container: Drop {
 
     ghost held: { Self → List ℕ };
 
+    ghost secrets: { Self → List (Option ℕ) };
+
     /// States what holds of every container. It does nothing.
     fn keeps_rules(&self)
         ensures { IsData (shape self.now) (plain self.now) };
@@ -50,12 +53,13 @@ pub trait Container: Drop {
     fn keeps_nodes(&self)
         ensures { HoldsNodes (held self.now) (plain self.now) };
 
-    /// A container without rows. What it answers is the same for every secret, which hashed indexes may mix into the hashes
-    /// of keys: then who doesn't know it can't aim keys at one bucket.
+    /// A container without rows. Each hashed index hashes keys under the secret: who doesn't know it can't aim keys at one
+    /// bucket. What is answered is the same for every secret.
     fn new(alloc: Global, schema: Schema, secret: u64) -> Result<Self, AllocError>
         ensures shape { IfOk result (λ made. shape made ≡ schema) }
         ensures plain { IfOk result (λ made. plain made ≡ opened_data schema) }
-        ensures held { IfOk result (λ made. held made ≡ []) };
+        ensures held { IfOk result (λ made. held made ≡ []) }
+        ensures secrets { IfOk result (λ made. secrets made ≡ opened_secrets secret schema) };
 
     /// Adds a record and answers its id. It goes last in each index among its equals; in the sequenced index that `before`
     /// names it stands directly before the record that `before` names.

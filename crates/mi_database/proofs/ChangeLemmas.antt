@@ -2,6 +2,7 @@
 use Rattle.std.proofs.Common.{◌≡◌, ℕ, ◌<◌, List, [], map, length, set, get_or, ap, sym, ◌∙◌, subst}
 use Rattle.std.specs.declared.result.Result.{Result}
 use Rattle.std.specs.declared.option.Option.TheVariants.{None}
+use Rattle.std.specs.declared.option.Option.{Option}
 use Rattle.mi_value.specs.declared.refusal.Refusal.{Refusal}
 use Rattle.mi_catalog.specs.Shape.{Shape, CatalogShape}
 use Rattle.mi_model.specs.Table.{Table}
@@ -42,8 +43,8 @@ SpotIn shape plain a n k k' old = Spot shape plain a.catalog a.containers.items 
 module _ {X : Type 0} {shape : X → Shape} {plain : X → Data} {c : CatalogShape} {cs : List X} {j : Noted Inverse} {r n : ℕ} {k k' : X}
     {old : LinkedData} where
   -- what the code knows before the change makes it so, where the change left the schema
-  pub spot : (changes starts : ℕ) {held : List (List ℕ)} → IsLinkedData (map shape cs) c (map plain cs) j.sessions r
-      → data_seen c (map plain cs) j r held ≡ with_room changes starts old → n < length old.catalog.tables → k ≡ get_or cs n k → shape k' ≡ shape k
+  pub spot : (changes starts : ℕ) {held : List (List ℕ)} {secrets : List (List (Option ℕ))} → IsLinkedData (map shape cs) c (map plain cs) j.sessions r
+      → data_seen c (map plain cs) j r held secrets ≡ with_room changes starts old → n < length old.catalog.tables → k ≡ get_or cs n k → shape k' ≡ shape k
       → Spot shape plain c cs j r n k k' old
   spot changes starts is room listed there same =
       let within : n < length c.tables = subst (λ (h : LinkedData). n < length h.catalog.tables) (sym room) listed in
@@ -97,6 +98,7 @@ module _ {X : Type 0} {shape : X → Shape} {plain : X → Data} {c : CatalogSha
         (meaning old) s.is s.listed s.there refused meets s.state
 
     -- a refused change keeps no node more
-    pub spot_unkept : (command : Command) (e : Refusal) (held : List (List ℕ)) → kept_after command (meaning old) (kept_rows old) ≡ kept_rows old
-        → KeptRefused command e old (data_seen c (map plain (set cs n k')) j r held)
-    spot_unkept command e held stays = kept_refusal command e old (data_seen c (map plain (set cs n k')) j r held) s.journal stays
+    pub spot_unkept : (command : Command) (e : Refusal) (held : List (List ℕ)) (secrets : List (List (Option ℕ)))
+        → kept_after command (meaning old) (kept_rows old) ≡ kept_rows old
+        → KeptRefused command e old (data_seen c (map plain (set cs n k')) j r held secrets)
+    spot_unkept command e held secrets stays = kept_refusal command e old (data_seen c (map plain (set cs n k')) j r held secrets) s.journal stays

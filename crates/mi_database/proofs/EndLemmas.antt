@@ -4,6 +4,7 @@ use Rattle.std.proofs.lemmas.List.{take-take, length-take-le, take_all}
 use Rattle.std.specs.declared.result.Result.{Result}
 use Rattle.std.specs.declared.result.Result.TheVariants.{Ok, Err}
 use Rattle.std.specs.List.{AllZip, AllByRecursion}
+use Rattle.std.specs.declared.option.Option.{Option}
 use Rattle.mi_value.specs.declared.refusal.NoSession.{NoSession}
 use Rattle.mi_value.specs.declared.refusal.Refusal.{Refusal}
 use Rattle.mi_value.specs.declared.refusal.Refusal.TheVariants.{Spent, Depth}
@@ -171,10 +172,10 @@ two_sessions [] some more = absurd (some refl)
 two_sessions (es ∷ []) some more = absurd (more refl)
 two_sessions (newest ∷ below ∷ older) some more = (newest, below, older, refl)
 
-alone_at : (c : CatalogShape) (ds : List Data) (es : List JournalEntry) (r changes starts : ℕ) (held : List (List ℕ)) (now : LinkedData)
-    → EndsOldest (linked_data c ds (es ∷ []) r changes starts held) now
+alone_at : (c : CatalogShape) (ds : List Data) (es : List JournalEntry) (r changes starts : ℕ) (held : List (List ℕ)) (secrets : List (List (Option ℕ))) (now : LinkedData)
+    → EndsOldest (linked_data c ds (es ∷ []) r changes starts held secrets) now
     → state_of now.catalog now.datas now.journal (now.revision - 1) ≡ squashed (state_of c ds (es ∷ []) r)
-alone_at c ds es r changes starts held now ends =
+alone_at c ds es r changes starts held secrets now ends =
     let catalog = ends.catalog in
     let tables = ends.tables in
     let old : old_of now.datas now.journal ≡ [] = ends.old_ in
@@ -188,10 +189,10 @@ squash_alone old now ends one =
     let long : length (old_of old.datas old.journal) ≡ length old.journal = length-old old.journal old.datas in
     let is : squash_step (meaning old) ≡ (Ok (old.revision - 1), squashed (meaning old)) = squash_opens (meaning old) (omega (arith, long, one)) in
     let split : (es : List JournalEntry) × (old.journal ≡ es ∷ []) = one_session old.journal one in
-    let was : old ≡ linked_data old.catalog old.datas (split.0 ∷ []) old.revision old.changes old.starts old.held =
-    ap (λ j. linked_data old.catalog old.datas j old.revision old.changes old.starts old.held) split.1 in
+    let was : old ≡ linked_data old.catalog old.datas (split.0 ∷ []) old.revision old.changes old.starts old.held old.secrets =
+    ap (λ j. linked_data old.catalog old.datas j old.revision old.changes old.starts old.held old.secrets) split.1 in
     let state : state_of now.catalog now.datas now.journal (now.revision - 1) ≡ squashed (meaning old) =
-    alone_at old.catalog old.datas split.0 old.revision old.changes old.starts old.held now (subst (λ (h : LinkedData). EndsOldest h now) was ends)
+    alone_at old.catalog old.datas split.0 old.revision old.changes old.starts old.held old.secrets now (subst (λ (h : LinkedData). EndsOldest h now) was ends)
     ∙ ap (λ (h : LinkedData). squashed (meaning h)) (sym was) in
     (ap (λ n. Ok (n - 1)) ends.revision ∙ sym (ap (λ q. q.0) is), state ∙ sym (ap (λ q. q.1) is))
 

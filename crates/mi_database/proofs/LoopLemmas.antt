@@ -4,6 +4,7 @@ use Rattle.std.proofs.Common.{◌∷◌, ◌++◌, map, length, take, set, get_o
 use Rattle.std.proofs.lemmas.List.{map-set, length-set, length-map, length_push, take_at, append-nil, append_assoc}
 use Rattle.std.specs.Option.{is_some}
 use Rattle.std.proofs.lemmas.Bool.{false≢true}
+use Rattle.std.specs.declared.option.Option.{Option}
 use Rattle.mi_catalog.specs.Shape.{Shape, CatalogShape}
 use Rattle.mi_container.specs.Data.{Data}
 use Rattle.mi_container.specs.Inverse.{Inverse, taken_back, settled}
@@ -16,9 +17,9 @@ use Rattle.mi_database.specs.LinkedData.{LinkedData, IsLinkedData, newest_of, ol
 use Rattle.mi_database.specs.LinkedData.{EndsOldest}
 use Rattle.mi_database.proofs.LinkedDataLemmas.{set_data, same_shapes}
 
-abbrev pub linked_data : CatalogShape → List Data → Journal → ℕ → ℕ → ℕ → List (List ℕ) → LinkedData
-linked_data c ds j r changes starts held =
-    record { catalog = c; datas = ds; journal = j; revision = r; changes = changes; starts = starts; held = held }
+abbrev pub linked_data : CatalogShape → List Data → Journal → ℕ → ℕ → ℕ → List (List ℕ) → List (List (Option ℕ)) → LinkedData
+linked_data c ds j r changes starts held secrets =
+    record { catalog = c; datas = ds; journal = j; revision = r; changes = changes; starts = starts; held = held; secrets = secrets }
 
 newest_split : (j : Journal) (e : JournalEntry) → newest_entry j ≡ Some e → (es : List JournalEntry) × (older : Journal) × (j ≡ (e ∷ es) ∷ older)
 newest_split [] e is = absurd (let h : None ≡ Some e = is in cc)
@@ -99,13 +100,13 @@ module _ {X : Type 0} (shape : X → Shape) (plain : X → Data) (c : CatalogSha
       (oldest_of taken.0 taken.1 (subst (λ q. IsLinkedData (map shape cs) c (map plain cs) q r) taken.2 is)) in
       (subst (λ q. n < q) (length-map cs plain) h.0, h.1)
 
-  settle_at : (newer : Journal) (rest : List JournalEntry) (k k' : X) (changes starts changes' starts' : ℕ) (held held' : List (List ℕ))
+  settle_at : (newer : Journal) (rest : List JournalEntry) (k k' : X) (changes starts changes' starts' : ℕ) (held held' : List (List ℕ)) (secrets secrets' : List (List (Option ℕ)))
       → k ≡ get_or cs n k → plain k' ≡ settled i (plain k) → shape k' ≡ shape k
       → IsLinkedData (map shape cs) c (map plain cs) (newer ++ (rest ++ (n, i) ∷ []) ∷ []) r
       → IsLinkedData (map shape (set cs n k')) c (map plain (set cs n k')) (newer ++ rest ∷ []) r
-      × SettlesSome (linked_data c (map plain cs) (newer ++ (rest ++ (n, i) ∷ []) ∷ []) r changes starts held)
-      (linked_data c (map plain (set cs n k')) (newer ++ rest ∷ []) r changes' starts' held')
-  settle_at newer rest k k' changes starts changes' starts' held held' was back same is =
+      × SettlesSome (linked_data c (map plain cs) (newer ++ (rest ++ (n, i) ∷ []) ∷ []) r changes starts held secrets)
+      (linked_data c (map plain (set cs n k')) (newer ++ rest ∷ []) r changes' starts' held' secrets')
+  settle_at newer rest k k' changes starts changes' starts' held held' secrets secrets' was back same is =
       let ds : List Data = map plain cs in
       let j : Journal = newer ++ (rest ++ (n, i) ∷ []) ∷ [] in
       let j' : Journal = newer ++ rest ∷ [] in
@@ -140,19 +141,19 @@ module _ {X : Type 0} (shape : X → Shape) (plain : X → Data) (c : CatalogSha
       )
 
   -- the oldest entry taken and settled
-  pub settle_law : (j j' : Journal) (k k' : X) (changes starts changes' starts' : ℕ) (held held' : List (List ℕ)) → TakesOldest (Some (n, i)) j j'
+  pub settle_law : (j j' : Journal) (k k' : X) (changes starts changes' starts' : ℕ) (held held' : List (List ℕ)) (secrets secrets' : List (List (Option ℕ))) → TakesOldest (Some (n, i)) j j'
       → k ≡ get_or cs n k → plain k' ≡ settled i (plain k)
       → shape k' ≡ shape k
       → IsLinkedData (map shape cs) c (map plain cs) j r
       → IsLinkedData (map shape (set cs n k')) c (map plain (set cs n k')) j' r
-      × SettlesSome (linked_data c (map plain cs) j r changes starts held) (linked_data c (map plain (set cs n k')) j' r changes' starts' held')
-  settle_law j j' k k' changes starts changes' starts' held held' taken was back same is =
-      let h = settle_at taken.0 taken.1 k k' changes starts changes' starts' held held' was back same
+      × SettlesSome (linked_data c (map plain cs) j r changes starts held secrets) (linked_data c (map plain (set cs n k')) j' r changes' starts' held' secrets')
+  settle_law j j' k k' changes starts changes' starts' held held' secrets secrets' taken was back same is =
+      let h = settle_at taken.0 taken.1 k k' changes starts changes' starts' held held' secrets secrets' was back same
       (subst (λ q. IsLinkedData (map shape cs) c (map plain cs) q r) taken.2 is) in (
         subst (λ q. IsLinkedData (map shape (set cs n k')) c (map plain (set cs n k')) q r) (sym taken.3) h.0,
-        subst (λ q. SettlesSome (linked_data c (map plain cs) q r changes starts held) (linked_data c (map plain (set cs n k')) j' r changes' starts' held'))
-            (sym taken.2) (subst (λ q. SettlesSome (linked_data c (map plain cs) (taken.0 ++ (taken.1 ++ (n, i) ∷ []) ∷ []) r changes starts held)
-            (linked_data c (map plain (set cs n k')) q r changes' starts' held')) (sym taken.3) h.1),
+        subst (λ q. SettlesSome (linked_data c (map plain cs) q r changes starts held secrets) (linked_data c (map plain (set cs n k')) j' r changes' starts' held' secrets'))
+            (sym taken.2) (subst (λ q. SettlesSome (linked_data c (map plain cs) (taken.0 ++ (taken.1 ++ (n, i) ∷ []) ∷ []) r changes starts held secrets)
+            (linked_data c (map plain (set cs n k')) q r changes' starts' held' secrets')) (sym taken.3) h.1),
       )
 
 -- while the newest session is unwound
@@ -275,12 +276,12 @@ ends_law c ss ds j j' r split is =
       last = is.last;
     }
 
-pub ended_law : (first now next : LinkedData) (j' : Journal) (changes' starts' : ℕ) (held' : List (List ℕ)) → Settling first now → SettlesNone now next
+pub ended_law : (first now next : LinkedData) (j' : Journal) (changes' starts' : ℕ) (held' : List (List ℕ)) (secrets' : List (List (Option ℕ))) → Settling first now → SettlesNone now next
     → next.catalog ≡ now.catalog
     → next.revision ≡ now.revision → now.changes ≤ next.changes → next.starts ≡ now.starts
     → next.journal ≡ j' ++ [] ∷ [] → changes' ≡ next.changes → starts' ≡ next.starts + 1
-    → EndsOldest first (linked_data next.catalog next.datas j' next.revision changes' starts' held')
-ended_law first now next j' changes' starts' held' u s catalog revision changes starts split stay more =
+    → EndsOldest first (linked_data next.catalog next.datas j' next.revision changes' starts' held' secrets')
+ended_law first now next j' changes' starts' held' secrets' u s catalog revision changes starts split stay more =
     let rose = u.changes in
     let same = u.starts in
     let left : j' ≡ newer_than_oldest next.journal = sym (newer_than_push j' []) ∙ sym (ap newer_than_oldest split) in

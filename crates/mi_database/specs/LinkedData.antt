@@ -1,15 +1,18 @@
 -- What contracts see of a linked database, and the database that it means.
 use Rattle.std.specs.Prelude.{◌≡◌, ◌⊎◌, ℕ, ◌+◌, ◌-◌, ◌<◌, ◌≤◌, Bool, true, false, List, [], ◌∷◌, length, map, take, slice_set}
+use Rattle.std.specs.declared.option.Option.{Option}
 use Rattle.mi_value.specs.declared.limits.TheConstants.{LAST_COUNT}
 use Rattle.mi_catalog.specs.Shape.{Shape, CatalogShape}
 use Rattle.mi_model.specs.Database.{Database}
 use Rattle.mi_container.specs.Data.{Data}
 use Rattle.mi_container.specs.Changes.{opened_data}
+use Rattle.mi_container.specs.Secrets.{opened_secrets}
 use Rattle.mi_container.specs.Inverse.{Inverse, settled}
 use Rattle.mi_database.specs.Journal.{JournalEntry, Journal, data_at, entry_back, entries, unwound, old_of, tables_of, state_of, IsLinked}
 use Rattle.mi_journal.specs.Noted.{Noted, OldestIsEmpty}
 
--- the containers' data, the inverses of each session, the revision, the journal's room, and the ids in the nodes of each container's pool
+-- the containers' data, the inverses of each session, the revision, the journal's room, and of each container the ids in the nodes of its pool
+-- and the secrets of its indexes
 pub record LinkedData : Type 0 where
   pub catalog : CatalogShape
   pub datas : List Data
@@ -18,10 +21,20 @@ pub record LinkedData : Type 0 where
   pub changes : ℕ
   pub starts : ℕ
   pub held : List (List ℕ)
+  pub secrets : List (List (Option ℕ))
 
 -- as the fields have it
-abbrev pub data_seen : CatalogShape → List Data → Noted Inverse → ℕ → List (List ℕ) → LinkedData
-data_seen c ds j r held = record { catalog = c; datas = ds; journal = j.sessions; revision = r; changes = j.changes; starts = j.starts; held = held }
+abbrev pub data_seen : CatalogShape → List Data → Noted Inverse → ℕ → List (List ℕ) → List (List (Option ℕ)) → LinkedData
+data_seen c ds j r held secrets = record {
+  catalog = c;
+  datas = ds;
+  journal = j.sessions;
+  revision = r;
+  changes = j.changes;
+  starts = j.starts;
+  held = held;
+  secrets = secrets;
+}
 
 abbrev pub meaning : LinkedData → Database
 meaning h = state_of h.catalog h.datas h.journal h.revision
@@ -101,9 +114,9 @@ pub record EndsOldest (old new : LinkedData) : Type 0 where
   pub changes : old.changes ≤ new.changes
   pub starts : new.starts ≡ old.starts + 1
 
--- what a catalog opens with
-abbrev pub opened_linked : ℕ → ℕ → CatalogShape → LinkedData
-opened_linked changes starts c = record {
+-- what a catalog opens with under a secret
+abbrev pub opened_linked : ℕ → ℕ → ℕ → CatalogShape → LinkedData
+opened_linked changes starts secret c = record {
   catalog = c;
   datas = map opened_data c.tables;
   journal = [];
@@ -111,4 +124,5 @@ opened_linked changes starts c = record {
   changes = changes;
   starts = starts;
   held = map (λ _. []) c.tables;
+  secrets = map (opened_secrets secret) c.tables;
 }

@@ -21,13 +21,14 @@ impl<C: Container> Model for Linked<C> {
 
     ghost Value = { LinkedData };
 
-    ghost view = { λ a. data_seen a.catalog (map C.plain a.containers.items) a.journal a.revision (map C.held a.containers.items) };
+    ghost view = { λ a. data_seen a.catalog (map C.plain a.containers.items) a.journal a.revision (map C.held a.containers.items) (map C.secrets a.containers.items) };
 
     ghost invariant = { λ a. IsLinkedData (map C.shape a.containers.items) a.catalog (map C.plain a.containers.items) a.journal.sessions a.revision };
 }
 
 ghost use Rattle.std.specs.Prelude.{◌≡◌, ◌<◌, ◌≤◌, ◌+◌, [], length, map, vec_len, IfOk, OnErr};
 ghost use Rattle.mi_container.specs.Changes.{opened_data};
+ghost use Rattle.mi_container.specs.Secrets.{opened_secrets};
 ghost use Rattle.mi_container.specs.Fits.{KeptBy};
 ghost use Rattle.mi_database.specs.Journal.{data_at};
 ghost use Rattle.mi_journal.specs.Noted.{noted};
@@ -42,6 +43,7 @@ fn open_containers<C: Container>(
     ensures shapes { IfOk result (λ new. map C.shape new.items ≡ catalog.now.tables) }
     ensures datas { IfOk result (λ new. map C.plain new.items ≡ map opened_data catalog.now.tables) }
     ensures held { IfOk result (λ new. map C.held new.items ≡ map (λ _. []) catalog.now.tables) }
+    ensures secrets { IfOk result (λ new. map C.secrets new.items ≡ map (opened_secrets secret) catalog.now.tables) }
 {
     let mut new = Vec::new(alloc);
     for i in 0..catalog.table_count() {
@@ -83,11 +85,11 @@ impl<C: Container> Linked<C> {
     ghost use Rattle.mi_model.specs.Table.{IsTable};
     ghost use Rattle.mi_model.specs.Database.{opened_database, schema_of, table_of as table_at};
 
-    /// The database that a catalog opens with: no rows, no open session, the first counters and the first revision. What it
-    /// answers is the same for every secret; one that strangers don't know keeps them from aiming keys at one bucket of a
-    /// hashed index.
+    /// The database that a catalog opens with: no rows, no open session, the first counters and the first revision. Each
+    /// hashed index of each table hashes keys under the secret: who doesn't know it can't aim keys at one bucket. What is
+    /// answered is the same for every secret.
     pub fn new(alloc: Global, catalog: Catalog, secret: u64) -> Result<Linked<C>, AllocError>
-        ensures held { IfOk result (λ d. d ≡ opened_linked d.changes d.starts catalog) }
+        ensures held { IfOk result (λ d. d ≡ opened_linked d.changes d.starts secret catalog) }
         ensures state { IfOk result (λ d. meaning d ≡ opened_database catalog) }
     {
         catalog.keeps_rules();

@@ -33,18 +33,18 @@ type_of columns (Some p) = type_at (slice_get columns p.column)
 abbrev pub lead_types : List Column → List KeyPart → LeadTypes
 lead_types columns ps = record { first = type_of columns (slice_get ps 0); second = type_of columns (slice_get ps 1) }
 
--- a structure of the kind, the key and the slot of an index
-abbrev pub IsOpenedFor : List Column → Index → ℕ → Structure → Type 0
-IsOpenedFor columns i s (Ordered t) = ((i.kind ≡ kinds.Ordered) ⊎ (i.kind ≡ kinds.Ranked))
+-- a structure of the kind, the key and the slot of an index, with the secret where it hashes
+abbrev pub IsOpenedFor : ℕ → List Column → Index → ℕ → Structure → Type 0
+IsOpenedFor secret columns i s (Ordered t) = ((i.kind ≡ kinds.Ordered) ⊎ (i.kind ≡ kinds.Ranked))
     × (t.order.parts ≡ i.parts) × (t.order.types ≡ lead_types columns i.parts) × (t.slot ≡ s)
-IsOpenedFor columns i s (Hashed c) = (i.kind ≡ kinds.Hashed) × (c.keys.parts ≡ i.parts) × (c.slot ≡ s)
-IsOpenedFor columns i s (Sequenced l) = (i.kind ≡ kinds.Sequenced) × (slot_of l ≡ s)
+IsOpenedFor secret columns i s (Hashed c) = (i.kind ≡ kinds.Hashed) × (c.keys.parts ≡ i.parts) × (c.slot ≡ s) × (c.keys.secret ≡ secret)
+IsOpenedFor secret columns i s (Sequenced l) = (i.kind ≡ kinds.Sequenced) × (slot_of l ≡ s)
 
-abbrev pub AllOpenedFor : List Column → List Index → ℕ → List Structure → Type 0
-AllOpenedFor columns [] s [] = Unit {0}
-AllOpenedFor columns [] s (x ∷ xs) = ⊥
-AllOpenedFor columns (i ∷ is) s [] = ⊥
-AllOpenedFor columns (i ∷ is) s (x ∷ xs) = IsOpenedFor columns i s x × AllOpenedFor columns is (s + 1) xs
+abbrev pub AllOpenedFor : ℕ → List Column → List Index → ℕ → List Structure → Type 0
+AllOpenedFor secret columns [] s [] = Unit {0}
+AllOpenedFor secret columns [] s (x ∷ xs) = ⊥
+AllOpenedFor secret columns (i ∷ is) s [] = ⊥
+AllOpenedFor secret columns (i ∷ is) s (x ∷ xs) = IsOpenedFor secret columns i s x × AllOpenedFor secret columns is (s + 1) xs
 
 abbrev pub IsEmpty : Structure → Type 0
 IsEmpty (Ordered t) = t.root ≡ None
@@ -60,8 +60,8 @@ abbrev pub empties : List Structure → List (List Ref)
 empties [] = []
 empties (x ∷ xs) = [] ∷ empties xs
 
--- a pool of as many slots as there are indexes, without nodes, and a structure for each index
-pub record IsOpened (s : Shape) (m : Pooled Stored) (xs : List Structure) : Type 0 where
+-- a pool of as many slots as there are indexes, without nodes, and a structure for each index, all hashed ones with the secret
+pub record IsOpened (secret : ℕ) (s : Shape) (m : Pooled Stored) (xs : List Structure) : Type 0 where
   pub pool : m ≡ no_nodes (length s.indexes)
-  pub kinds : AllOpenedFor s.columns s.indexes 0 xs
+  pub kinds : AllOpenedFor secret s.columns s.indexes 0 xs
   pub stand : AllStand xs 0 m (empties xs)

@@ -198,8 +198,8 @@ pub fn make_room_all(
     Ok(())
 }
 
-/// Adds a structure for each index of a table with these columns, the first of which has this number. Where memory is
-/// refused some may have been added.
+/// Adds a structure for each index of a table with these columns, the first of which has this number; hashed ones have the
+/// secret. Where memory is refused some may have been added.
 pub(crate) fn add_structures(
     alloc: Global,
     indexes: &[Index],
@@ -210,7 +210,7 @@ pub(crate) fn add_structures(
 ) -> Result<(), AllocError>
     requires { slot + length indexes.now < 2 ^ 64 }
     ensures { IfOk result (λ _. (ys : Seq One) × (made.new.items ≡ made.old.items ++ ys)
-        × opened.AllOpenedFor columns.now indexes.now slot ys × opened.AllEmpty ys) }
+        × opened.AllOpenedFor secret columns.now indexes.now slot ys × opened.AllEmpty ys) }
 {
     if let Some((index, rest)) = indexes.split_first() {
         made.push(Structure::new(alloc, slot, index, columns, secret)?)?;

@@ -11,7 +11,7 @@ mod nodes;
 mod structure;
 mod walk;
 
-pub use mi_order::{ByHash, ByKey, Stored, mixed};
+pub use mi_order::{ByHash, ByKey, Stored, hash_values};
 pub use moves::{Moves, Place};
 pub use nodes::Nodes;
 pub use structure::Structure;

@@ -27,10 +27,10 @@ pub struct Nodes {
 }
 
 impl Nodes {
-    /// The nodes that a table opens with: none. Its hashed indexes mix the secret into the hashes of keys. Takes memory for
-    /// one structure an index. Where it is refused there is nothing.
+    /// The nodes that a table opens with: none. Each of its hashed indexes hashes keys under the secret. Takes memory
+    /// for one structure an index. Where it is refused there is nothing.
     pub fn new(alloc: Global, schema: &Schema, secret: u64) -> Result<Nodes, AllocError>
-        ensures { IfOk result (λ n. opened.IsOpened schema.now n.pool n.structures.items) }
+        ensures { IfOk result (λ n. opened.IsOpened secret schema.now n.pool n.structures.items) }
     {
         let slots = schema.index_count();
         at_most_sixteen(schema);

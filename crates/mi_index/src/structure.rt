@@ -30,8 +30,8 @@ pub enum Structure {
 }
 
 impl Structure {
-    /// The structure of an index of a table with these columns, through the slot of its number, without nodes. Chains mix
-    /// the secret into the hashes of keys. Where memory is refused there is none.
+    /// The structure of an index of a table with these columns, through the slot of its number, without nodes. Chains
+    /// hash keys under the secret. Where memory is refused there is none.
     pub fn new(
         alloc: Global,
         slot: usize,
@@ -39,7 +39,7 @@ impl Structure {
         columns: &[Column],
         secret: u64,
     ) -> Result<Structure, AllocError>
-        ensures { IfOk result (λ x. opened.IsOpenedFor columns.now index.now slot x × opened.IsEmpty x) }
+        ensures { IfOk result (λ x. opened.IsOpenedFor secret columns.now index.now slot x × opened.IsEmpty x) }
     {
         match index.kind {
             IndexKind::Ordered | IndexKind::Ranked => {

@@ -181,5 +181,5 @@ none_held n =
     let none : FinMap nat_cmp (Entry Stored) = empty in
     ap (map (λ (q : ℕ × Entry Stored). q.1.value.id)) (same_pairs (entries none) [] (up_entries none) tt (λ e. get_lookup none e ∙ get-empty nat_cmp e))
 
-pub opened_held : (s : Shape) (m : Pooled Stored) (xs : List Structure) → IsOpened s m xs → ids_held m ≡ []
-opened_held s m xs opened = ap ids_held opened.pool ∙ none_held (length s.indexes)
+pub opened_held : (secret : ℕ) (s : Shape) (m : Pooled Stored) (xs : List Structure) → IsOpened secret s m xs → ids_held m ≡ []
+opened_held secret s m xs opened = ap ids_held opened.pool ∙ none_held (length s.indexes)

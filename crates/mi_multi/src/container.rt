@@ -12,6 +12,8 @@ impl Container for MultiIndex {
 
     ghost held = { λ c. c.held };
 
+    ghost secrets = { λ c. c.secrets };
+
     fn keeps_rules(&self) {
         self.keeps_rules();
     }

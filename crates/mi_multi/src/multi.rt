@@ -5,6 +5,7 @@ ghost use Rattle.mi_value.specs.declared.refusal.Refusal.TheVariants.{Memory};
 ghost use Rattle.mi_model.specs.Verdict.{erase_outcome};
 ghost use Rattle.mi_container.specs.Makes.{Makes, MeetsOn, erase_answer};
 ghost use Rattle.mi_container.specs.Changes.{opened_data};
+ghost use Rattle.mi_container.specs.Secrets.{opened_secrets};
 ghost use Rattle.mi_container.specs.Held.{HoldsNodes};
 ghost use Rattle.mi_container.specs.Run.Change.{Erase};
 ghost use Rattle.mi_container.specs.Data.{IsData, as_table};
@@ -44,11 +45,12 @@ impl Model for MultiIndex {
 }
 
 impl MultiIndex {
-    /// A container without records. The hash of a key is mixed with the secret. Where memory is refused there is none.
+    /// A container without records. Each hashed index hashes keys under the secret. Where memory is refused there is none.
     pub fn new(alloc: Global, schema: Schema, secret: u64) -> Result<MultiIndex, AllocError>
         ensures shape { IfOk result (λ made. made.shape ≡ schema) }
         ensures plain { IfOk result (λ made. made.plain ≡ opened_data schema) }
         ensures held { IfOk result (λ made. made.held ≡ []) }
+        ensures secrets { IfOk result (λ made. made.secrets ≡ opened_secrets secret schema) }
     {
         schema.keeps_rules();
         let nodes = Nodes::new(alloc, &schema, secret)?;

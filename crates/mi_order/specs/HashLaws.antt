@@ -12,9 +12,8 @@ use Rattle.mi_value.specs.declared.bound.Probe.{Probe}
 use Rattle.mi_value.specs.declared.bound.Probe.TheVariants.{Key, Of}
 use Rattle.mi_value.specs.Order.{compare_part, compare_key, compare_prefix, compare_to_part}
 use Rattle.mi_value.proofs.OrderLaws.{compare_key_total, directed_total, prefix_alike}
-use Rattle.mi_value.proofs.HashLaws.{equal_hashes, key_hashes}
 use Rattle.mi_order.specs.declared.stored.Stored.{Stored}
-use Rattle.mi_order.specs.Mixing.{mixed}
+use Rattle.mi_order.specs.KeyHashes.{equal_hashes, key_hashes}
 use Rattle.mi_order.specs.Orders.{keying_hash, sought_hash, has_one_key, is_whole, is_key_of, KeyingsAreLawful}
 
 both_equal : (a b : Ordering) → ordering_then a b ≡ Equal → (a ≡ Equal) × (b ≡ Equal)
@@ -73,9 +72,9 @@ key_alone ps x y (Of q) g h =
     let o : IsTotalOrder (compare_key ps) = compare_key_total ps in
     ap is_eq (o.congr x.row q.now y.row (equal_of (compare_key ps x.row q.now) g) ∙ tied_back o y.row q.now (equal_of (compare_key ps y.row q.now) h))
 
-key_hash : (ps : List KeyPart) (x : Stored) (p : Probe) → is_key_of ps x p ≡ true → keying_hash ps x ≡ sought_hash ps p
-key_hash ps x (Key vs) h = let a = whole ps vs.now x.row h in sym (key_hashes ps vs.now x.row a.long a.equal)
-key_hash ps x (Of q) h = equal_hashes ps x.row q.now (equal_of (compare_key ps x.row q.now) h)
+key_hash : (secret : ℕ) (ps : List KeyPart) (x : Stored) (p : Probe) → is_key_of ps x p ≡ true → keying_hash secret ps x ≡ sought_hash secret ps p
+key_hash secret ps x (Key vs) h = let a = whole ps vs.now x.row h in sym (key_hashes secret ps vs.now x.row a.long a.equal)
+key_hash secret ps x (Of q) h = equal_hashes secret ps x.row q.now (equal_of (compare_key ps x.row q.now) h)
 
 pub keyings_are_lawful : KeyingsAreLawful
 keyings_are_lawful h =
@@ -85,8 +84,8 @@ keyings_are_lawful h =
       reflexive = λ x. q.refl x.row;
       symmetric = λ x y e. q.symm y.row x.row ∙ e;
       transitive = λ x y z e f. q.congr x.row y.row z.row e ∙ f;
-      one_hash = λ x y e. ap (mixed h.secret) (equal_hashes ps x.row y.row (equal_of (compare_key ps x.row y.row) e));
+      one_hash = λ x y e. equal_hashes h.secret ps x.row y.row (equal_of (compare_key ps x.row y.row) e);
       agrees = key_agrees ps;
       one_key = key_alone ps;
-      probe_hash = λ x p e. ap (mixed h.secret) (key_hash ps x p e);
+      probe_hash = key_hash h.secret ps;
     }

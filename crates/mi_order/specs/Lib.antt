@@ -2,7 +2,8 @@ pub mod Tags
 pub mod TagLaws
 pub mod Leads
 pub mod LeadLaws
-pub mod Mixing
+pub mod Hashing
 pub mod Orders
 pub mod OrderLaws
+pub mod KeyHashes
 pub mod HashLaws

@@ -16,11 +16,11 @@ use Rattle.mi_value.specs.declared.compare.KeyPart.{KeyPart}
 use Rattle.mi_value.specs.declared.bound.Probe.{Probe}
 use Rattle.mi_value.specs.declared.bound.Probe.TheVariants.{Key, Of}
 use Rattle.mi_value.specs.Order.{compare_key, compare_prefix}
-use Rattle.mi_value.specs.Hash.{values_hash, key_values}
+use Rattle.mi_value.specs.Hash.{key_values}
 use Rattle.mi_catalog.specs.Key.{Row, compare_rows, compare_to_row}
 use Rattle.mi_order.specs.declared.stored.Stored.{Stored}
 use Rattle.mi_order.specs.declared.orders.ByHash.{ByHash}
-use Rattle.mi_order.specs.Mixing.{mixed}
+use Rattle.mi_order.specs.Hashing.{values_hash}
 use Rattle.mi_chain.specs.Keying.{Keying, IsLawful}
 use Rattle.mi_order.specs.Leads.{lead_tag, lead_probe, is_exact_lead}
 
@@ -71,13 +71,13 @@ is_decided c (p ∷ ps) t = is_exact_lead c p ps t
 
 -- Hashed indexes
 
--- the hash of a key, before the secret is mixed in
-abbrev pub keying_hash : List KeyPart → Stored → ℕ
-keying_hash ps v = values_hash (key_values ps v.row)
+-- the hash of a key under the secret
+abbrev pub keying_hash : ℕ → List KeyPart → Stored → ℕ
+keying_hash secret ps v = values_hash secret (key_values ps v.row)
 
-abbrev pub sought_hash : List KeyPart → Probe → ℕ
-sought_hash ps (Key vs) = values_hash vs.now
-sought_hash ps (Of r) = values_hash (key_values ps r.now)
+abbrev pub sought_hash : ℕ → List KeyPart → Probe → ℕ
+sought_hash secret ps (Key vs) = values_hash secret vs.now
+sought_hash secret ps (Of r) = values_hash secret (key_values ps r.now)
 
 abbrev pub has_one_key : List KeyPart → Stored → Stored → Bool
 has_one_key ps x y = is_eq (compare_key ps x.row y.row)
@@ -93,8 +93,8 @@ is_key_of ps v (Of q) = is_eq (compare_key ps v.row q.now)
 -- all of it, as chains see it
 abbrev pub keying_of : ByHash → Keying Stored
 keying_of h = record {
-  hash = λ v. mixed h.secret (keying_hash h.parts v);
-  hash_key = λ k. mixed h.secret (sought_hash h.parts k);
+  hash = keying_hash h.secret h.parts;
+  hash_key = sought_hash h.secret h.parts;
   same = has_one_key h.parts;
   same_key = is_key_of h.parts;
 }

@@ -2,15 +2,15 @@
 //! It reads values alone, and takes no memory. It knows no links, no pool and no structure, and never sees a stamp.
 #![tactic(auto)]
 
+mod hashing;
 mod key;
 pub mod laws;
 pub mod leads;
-mod mixing;
 mod orders;
 mod stored;
 pub mod tags;
 
+pub use hashing::hash_values;
 pub use leads::LeadTypes;
-pub use mixing::mixed;
 pub use orders::{ByHash, ByKey};
 pub use stored::Stored;

@@ -2,14 +2,14 @@
 //! They read values alone, and take no memory; they know no stamps, which stand in links.
 ghost use Rattle.std.specs.Prelude.{◌≡◌};
 
+use crate::hashing::{hash_key, hash_values};
 use crate::key::{id_sought, is_whole_key};
 use crate::leads::{LeadTypes, is_exact_lead, lead_probe, lead_tag};
-use crate::mixing::mixed;
 use crate::stored::Stored;
 use mi_catalog::{Parts, compare_rows, compare_to_row};
 use mi_chain::KeyHash;
 use mi_tree::NodeOrder;
-use mi_value::{Probe, Steps, Value, compare_key, hash_values, same_key};
+use mi_value::{Probe, Steps, Value, compare_key, same_key};
 use std::cmp::Ordering;
 
 /// The order of an ordered or ranked index, and its tags: `types` are those of the first parts' columns.
@@ -115,8 +115,8 @@ impl NodeOrder<Stored> for ByKey {
     ghost probe_exact = { λ o k. (is_sought o.types o.parts k).exact };
 }
 
-/// The keys of a hashed index. Strangers choose keys, and can find many whose hashes end alike: so a secret is mixed into the
-/// hashes. Nothing depends on it but the buckets.
+/// The keys of a hashed index. Strangers choose keys, and could find many whose hashes end alike: so the hashes are made under
+/// a secret. Nothing depends on it but the buckets.
 #[derive(Drop)]
 pub struct ByHash {
     pub parts: Parts,
@@ -130,15 +130,14 @@ impl KeyHash<Stored> for ByHash {
     ghost keying = { keying_of };
 
     fn hash(&self, value: &Stored) -> u64 {
-        mixed(self.secret, value.row.key_hash(self.parts.as_slice()))
+        hash_key(self.secret, self.parts.as_slice(), &value.row)
     }
 
     fn hash_key(&self, key: Probe<'_>) -> u64 {
-        let hash = match key {
-            Probe::Key(values) => hash_values(values),
-            Probe::Of(record) => record.key_hash(self.parts.as_slice()),
-        };
-        mixed(self.secret, hash)
+        match key {
+            Probe::Key(values) => hash_values(self.secret, values),
+            Probe::Of(record) => hash_key(self.secret, self.parts.as_slice(), record),
+        }
     }
 
     fn same(&self, left: &Stored, right: &Stored) -> bool {

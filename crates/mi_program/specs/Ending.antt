@@ -57,10 +57,10 @@ module _ {I O S : Type 0} (remaining : I → Option (List ℕ)) (contents : O �
     Serves database (Some listen) answer =
         ServesClients given taken database listen.1 answer × IsUntouched old_reader new_reader old_writer new_writer
 
-    -- The linked tables of a catalog are opened and served; or memory for them is wanting.
+    -- The linked tables of a catalog are opened under some secret and served; or memory for them is wanting.
     abbrev pub ServesTables : CatalogShape → Option (ℕ × ℕ) → Result ⊤ Failure → Type 0
     ServesTables catalog listen answer =
-        ((tables : LinkedData) × (tables ≡ opened_linked tables.changes tables.starts catalog) × Serves (meaning tables) listen answer)
+        ((secret : ℕ) × (tables : LinkedData) × (tables ≡ opened_linked tables.changes tables.starts secret catalog) × Serves (meaning tables) listen answer)
         ⊎ ((answer ≡ Err Memory) × IsUntouched old_reader new_reader old_writer new_writer)
 
     -- What is done with the catalog that was read: it is confirmed, or its tables are served. Where there is none that is the failure.

@@ -98,21 +98,23 @@ fn serve_database<R: Net + AllocGlobal, D: Sessions + Drop, I: Read, O: Write>(
     }
 }
 
-/// Opens the linked tables of a catalog, with a secret of this process. The failure is `Memory`.
-fn open_tables<R: AllocGlobal + RandomSource>(
+/// Opens the linked tables of a catalog, whose hashed indexes hash keys under the secret. The failure is `Memory`.
+fn open_tables<R: AllocGlobal>(
     rt: &R,
     catalog: Catalog,
+    secret: u64,
 ) -> Result<Linked<MultiIndex>, Failure>
-    ensures ok { IfOk result (λ tables. tables ≡ opened_linked tables.changes tables.starts catalog) }
+    ensures ok { IfOk result (λ tables. tables ≡ opened_linked tables.changes tables.starts secret catalog) }
     ensures err { IfErr result (λ failure. failure ≡ Failure.Memory) }
 {
-    match Linked::new(rt.alloc(), catalog, drawn(rt)) {
+    match Linked::new(rt.alloc(), catalog, secret) {
         Ok(tables) => Ok(tables),
         Err(_) => Err(Failure::Memory),
     }
 }
 
-/// Opens the tables of a catalog, and serves connections to a port over them, or the input where there is no port.
+/// Opens the tables of a catalog, with a secret of this process, and serves connections to a port over them, or the input
+/// where there is no port.
 fn serve_tables<R: Net + AllocGlobal + RandomSource, I: Read, O: Write>(
     rt: &R,
     catalog: Catalog,
@@ -123,7 +125,7 @@ fn serve_tables<R: Net + AllocGlobal + RandomSource, I: Read, O: Write>(
     requires { IfSome listen (λ l. (1 ≤ l.1) × (l.1 ≤ MAX_CONNECTIONS)) }
     ensures { ServesTables I.remaining O.contents R.Stream.remaining R.Stream.contents reader.old reader.new writer.old writer.new catalog listen result }
 {
-    match open_tables(rt, catalog) {
+    match open_tables(rt, catalog, drawn(rt)) {
         Ok(tables) => serve_database(rt, tables, listen, reader, writer),
         Err(failure) => Err(failure),
     }

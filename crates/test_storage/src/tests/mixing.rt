@@ -1,17 +1,21 @@
-//! What no clause says: that hashes which agree in their last bits are spread over the buckets, otherwise for each secret.
-use mi_index::mixed;
+//! What no clause says: that keys of a pattern are spread over the buckets, otherwise for each secret.
+use mi_index::hash_values;
+use mi_value::{Text, Value};
 use std::alloc::{AllocError, Global};
 
-/// The bucket, of 4,096, of one of as many hashes that all end in 17 zeros.
-fn bucket_of(secret: u64, i: u64) -> u64 {
-    mixed(secret, i.wrapping_mul(131_072)) % 4096
+/// Numbers one behind another, and numbers that end in 17 and in 40 zeros.
+const STEPS: [i64; 3] = [1, 1 << 17, 1 << 40];
+
+/// The bucket, of 4,096, of a number.
+fn bucket_of(secret: u64, n: i64) -> u64 {
+    hash_values(secret, &[Value::Int(n)]) % 4096
 }
 
-/// How many buckets get one of the hashes.
-fn buckets_used(alloc: Global, secret: u64) -> Result<usize, AllocError> {
+/// How many of 4,096 buckets get one of as many numbers, each so much greater than the one before.
+fn buckets_used(alloc: Global, secret: u64, step: i64) -> Result<usize, AllocError> {
     let mut used = vec![in alloc; false; 4096]?;
-    for i in 0..4096u64 {
-        if let Some(one) = used.get_mut(bucket_of(secret, i) as usize) {
+    for i in 0..4096i64 {
+        if let Some(one) = used.get_mut(bucket_of(secret, i.wrapping_mul(step)) as usize) {
             *one = true;
         }
     }
@@ -20,20 +24,46 @@ fn buckets_used(alloc: Global, secret: u64) -> Result<usize, AllocError> {
 
 /// By chance it would be 4096 (1 - 1/e) = 2589, and five deviations are 100.
 #[test]
-fn hashes_that_end_alike_are_spread(rt: HostRuntime) {
+fn numbers_of_a_pattern_are_spread(rt: HostRuntime) {
     for secret in [0, 1, 0x0123_4567_89AB_CDEF, u64::MAX] {
-        let Ok(used) = buckets_used(rt.alloc(), secret) else {
-            panic!(rt; "no memory");
-        };
-        assert!(rt; used > 2489 && used < 2689, "secret {secret}: {used}");
+        for step in STEPS {
+            let Ok(used) = buckets_used(rt.alloc(), secret, step) else {
+                panic!(rt; "no memory");
+            };
+            assert!(rt; used > 2489, "secret {secret}, step {step}: {used}");
+        }
     }
 }
 
-/// By chance one of 4,096 hashes has the same bucket for two secrets; ten are out of question.
+/// The hash of a text of zero bytes.
+fn hash_of_zeros(alloc: Global, length: usize) -> Result<u64, AllocError> {
+    let mut zeros = String::new(alloc);
+    for _ in 0..length {
+        zeros.push('\0')?;
+    }
+    Ok(hash_values(7, &[Value::Text(Text::new(zeros))]))
+}
+
+/// Texts of 0 to 20 zero bytes have hashes of their own: the length counts.
+#[test]
+fn lengths_count(rt: HostRuntime) -> Result<(), AllocError> {
+    for longer in 1..21 {
+        let hash = hash_of_zeros(rt.alloc(), longer)?;
+        for shorter in 0..longer {
+            assert!(rt;
+                hash != hash_of_zeros(rt.alloc(), shorter)?,
+                "{shorter} and {longer}"
+            );
+        }
+    }
+    Ok(())
+}
+
+/// By chance one of 4,096 numbers has the same bucket for two secrets; ten are out of question.
 #[test]
 fn buckets_are_others_for_each_secret(rt: HostRuntime) {
-    let same = (0..4096u64)
-        .filter(|i| bucket_of(1, *i) == bucket_of(2, *i))
+    let same = (0..4096i64)
+        .filter(|n| bucket_of(1, *n) == bucket_of(2, *n))
         .count();
     assert!(rt; same < 10, "{same}");
 }

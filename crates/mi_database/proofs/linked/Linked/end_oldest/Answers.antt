@@ -32,7 +32,7 @@ returns g c =
     let j = c.end_oldest.new.self in
     let next = c.settle_one.new.self in
     let was = c.self.view_is in
-    subst (λ (h : LinkedData). EndsOldest c.args.self.now (linked_data h.catalog h.datas j.sessions h.revision j.changes j.starts h.held)) (sym was)
-    (ended_law c.args.self.now c.loop.self next j.sessions j.changes j.starts next.held c.loop.invariant e.settles e.catalog e.revision e.changes e.starts
+    subst (λ (h : LinkedData). EndsOldest c.args.self.now (linked_data h.catalog h.datas j.sessions h.revision j.changes j.starts h.held h.secrets)) (sym was)
+    (ended_law c.args.self.now c.loop.self next j.sessions j.changes j.starts next.held next.secrets c.loop.invariant e.settles e.catalog e.revision e.changes e.starts
     (sym (ap (λ (h : LinkedData). h.journal) was) ∙ c.end_oldest.ensures.sessions) (c.end_oldest.ensures.changes ∙ ap (λ (h : LinkedData). h.changes) was)
     (c.end_oldest.ensures.starts ∙ ap (λ (h : LinkedData). h.starts + 1) was))

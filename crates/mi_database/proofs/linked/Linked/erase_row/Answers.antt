@@ -45,7 +45,7 @@ pub returns-in-Ok-clause-footprint : goal.returns-in-Ok-clause-footprint
 returns-in-Ok-clause-footprint g c =
     let a = c.self.inside in
     let new : LinkedData = data_seen a.catalog (map g.C.Container.plain c.keep.new.containers.items) c.keep.new.journal a.revision
-    (map g.C.Container.held c.keep.new.containers.items) in
+    (map g.C.Container.held c.keep.new.containers.items) (map g.C.Container.secrets c.keep.new.containers.items) in
     erase_keeps c.args.table c.args.id c.args.self.now new c.in-Ok.inverse (ap keeps c.in-Ok.ensures.made.inverse)
     (c.keep.ensures.journal ∙ ap (λ (h : LinkedData). noted (c.args.table, c.in-Ok.inverse) h.journal) c.self.view_is) (returns-in-Ok-clause-outcome g c).0
 
@@ -53,7 +53,8 @@ pub returns-in-Err-clause-footprint : goal.returns-in-Err-clause-footprint
 returns-in-Err-clause-footprint g c =
     let a = c.self.inside in
     let new : LinkedData = data_seen a.catalog (map g.C.Container.plain (set a.containers.items c.args.table c.erase.new.self)) a.journal a.revision
-    (map g.C.Container.held (set a.containers.items c.args.table c.erase.new.self)) in
+    (map g.C.Container.held (set a.containers.items c.args.table c.erase.new.self))
+    (map g.C.Container.secrets (set a.containers.items c.args.table c.erase.new.self)) in
     let never : c.in-Err.refused ≢ Memory = c.in-Err.ensures.memory in
     refused_keeps (EraseCommand c.args.table c.args.id) c.in-Err.refused c.args.self.now new never
     (erase_refused c.args.table c.args.id c.args.self.now new c.in-Err.refused (ap (λ (h : LinkedData). h.journal) c.self.view_is)

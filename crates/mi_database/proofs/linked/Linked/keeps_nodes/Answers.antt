@@ -10,7 +10,8 @@ use Rattle.mi_database.proofs.linked.Linked.keeps_nodes.Goals as goal
 pub returns : goal.returns
 returns g c =
     let a = c.self.inside in
-    let h : LinkedData = data_seen a.catalog (map g.C.Container.plain a.containers.items) a.journal a.revision (map g.C.Container.held a.containers.items) in
+    let h : LinkedData = data_seen a.catalog (map g.C.Container.plain a.containers.items) a.journal a.revision
+    (map g.C.Container.held a.containers.items) (map g.C.Container.secrets a.containers.items) in
     let listed : c.args.n < length a.catalog.tables = subst (λ (q : LinkedData). c.args.n < length q.catalog.tables) (sym c.self.view_is) c.requires in
     let within : c.args.n < length a.containers.items =
     within_containers g.C.Container.shape g.C.Container.plain a.catalog a.containers.items a.journal.sessions a.revision c.args.n c.self.invariant listed in

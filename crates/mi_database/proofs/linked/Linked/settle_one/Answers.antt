@@ -26,7 +26,8 @@ invariant_of-self-2 g c =
     (settle_law g.C.Container.shape g.C.Container.plain a.catalog a.containers.items c.in-Some.table c.in-Some.inverse a.revision
     a.journal.sessions c.take_oldest.new.self.sessions c.index_mut.result.now c.settle.new.self a.journal.changes a.journal.starts
     c.take_oldest.new.self.changes c.take_oldest.new.self.starts (map g.C.Container.held a.containers.items)
-    (map g.C.Container.held (set a.containers.items c.in-Some.table c.settle.new.self)) c.in-Some.ensures.sessions
+    (map g.C.Container.held (set a.containers.items c.in-Some.table c.settle.new.self)) (map g.C.Container.secrets a.containers.items)
+    (map g.C.Container.secrets (set a.containers.items c.in-Some.table c.settle.new.self)) c.in-Some.ensures.sessions
     c.index_mut.ensures.value c.settle.ensures.plain c.settle.ensures.shape c.self.invariant).0
 
 pub returns-clause-settles : goal.returns-clause-settles
@@ -35,10 +36,12 @@ returns-clause-settles g c =
     let new : LinkedData = linked_data a.catalog (map g.C.Container.plain (set a.containers.items c.in-Some.table c.settle.new.self))
     c.take_oldest.new.self.sessions
     a.revision c.take_oldest.new.self.changes c.take_oldest.new.self.starts
-    (map g.C.Container.held (set a.containers.items c.in-Some.table c.settle.new.self)) in
+    (map g.C.Container.held (set a.containers.items c.in-Some.table c.settle.new.self))
+    (map g.C.Container.secrets (set a.containers.items c.in-Some.table c.settle.new.self)) in
     subst (λ (h : LinkedData). SettlesSome h new) c.self.view_is
     (settle_law g.C.Container.shape g.C.Container.plain a.catalog a.containers.items c.in-Some.table c.in-Some.inverse a.revision
     a.journal.sessions c.take_oldest.new.self.sessions c.index_mut.result.now c.settle.new.self a.journal.changes a.journal.starts
     c.take_oldest.new.self.changes c.take_oldest.new.self.starts (map g.C.Container.held a.containers.items)
-    (map g.C.Container.held (set a.containers.items c.in-Some.table c.settle.new.self)) c.in-Some.ensures.sessions
+    (map g.C.Container.held (set a.containers.items c.in-Some.table c.settle.new.self)) (map g.C.Container.secrets a.containers.items)
+    (map g.C.Container.secrets (set a.containers.items c.in-Some.table c.settle.new.self)) c.in-Some.ensures.sessions
     c.index_mut.ensures.value c.settle.ensures.plain c.settle.ensures.shape c.self.invariant).1

@@ -51,7 +51,7 @@ returns-in-Ok-clause-footprint g c =
     let a = c.self.inside in
     let old = c.args.self.now in
     let new : LinkedData = data_seen a.catalog (map g.C.Container.plain c.keep.new.containers.items) c.keep.new.journal a.revision
-    (map g.C.Container.held c.keep.new.containers.items) in
+    (map g.C.Container.held c.keep.new.containers.items) (map g.C.Container.secrets c.keep.new.containers.items) in
     let journal = c.keep.ensures.journal ∙ ap (λ (h : LinkedData). noted (c.args.table, c.in-Ok.inverse) h.journal)
     (c.self.view_is ∙ c.make_room.ensures.same) in
     modify_kept c.args.table c.args.id c.args.edits.now c.args.rollback old new c.modified-answer.result (lost_to c.in-Ok.inverse) c.modified-answer.ensures
@@ -63,6 +63,7 @@ pub returns-in-Err-clause-footprint : goal.returns-in-Err-clause-footprint
 returns-in-Err-clause-footprint g c =
     let a = c.self.inside in
     let new : LinkedData = data_seen a.catalog (map g.C.Container.plain (set a.containers.items c.args.table c.modify.new.self)) a.journal a.revision
-    (map g.C.Container.held (set a.containers.items c.args.table c.modify.new.self)) in
+    (map g.C.Container.held (set a.containers.items c.args.table c.modify.new.self))
+    (map g.C.Container.secrets (set a.containers.items c.args.table c.modify.new.self)) in
     modify_refused c.args.table c.args.id c.args.edits.now c.args.rollback c.args.self.now new c.in-Err.refused
     (ap (λ (h : LinkedData). h.journal) (c.self.view_is ∙ c.make_room.ensures.same)) c.in-Err.ensures.loss (returns-in-Err-clause-outcome g c)

@@ -40,4 +40,5 @@ returns-in-Ok-clause-footprint g c = spot_plain (at g (goal.at.returns-in-Ok-cla
 pub returns-in-Err-clause-footprint : goal.returns-in-Err-clause-footprint
 returns-in-Err-clause-footprint g c = spot_unkept (at g (goal.at.returns-in-Err-clause-footprint g c).After-replace)
     (TheCommand c.args.table c.args.id c.args.row) c.in-Err.refused.0
-    (map g.C.Container.held (set c.self.inside.containers.items c.args.table c.replace.new.self)) (none_more (kept_rows c.args.self.now))
+    (map g.C.Container.held (set c.self.inside.containers.items c.args.table c.replace.new.self))
+    (map g.C.Container.secrets (set c.self.inside.containers.items c.args.table c.replace.new.self)) (none_more (kept_rows c.args.self.now))

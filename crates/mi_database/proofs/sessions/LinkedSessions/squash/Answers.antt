@@ -32,7 +32,7 @@ returns-clause-state g c =
     let a = c.self.inside in
     let some : length a.journal.sessions ≢ 0 = λ none. c.if-open-eq0.false (c.depth-open.ensures ∙ none) in
     let more : length a.journal.sessions ≢ 1 = λ one. c.if-open-eq1.false (c.depth-open.ensures ∙ one) in
-    (squash_joins (linked_data a.catalog _ a.journal.sessions a.revision a.journal.changes a.journal.starts []) c.join_top.new.self.sessions
+    (squash_joins (linked_data a.catalog _ a.journal.sessions a.revision a.journal.changes a.journal.starts [] []) c.join_top.new.self.sessions
     c.join_top.ensures.sessions
     some more).1
     ∙ ap (λ (q : LinkedData). (squash_step (meaning q)).1) c.self.view_is
