@@ -1,13 +1,12 @@
 -- How the lexer of `json` passes what a writer gives: marks, a space, plain texts, whole numbers and the three words.
 use Rattle.std.proofs.Common.{◌≡◌, ℕ, suc, ◌+◌, ◌-◌, ◌<◌, ◌≤◌, Bool, true, false, cond, ◌==◌, ◌||◌, List, [], ◌∷◌, ◌++◌, length, take, drop, get_or}
-use Rattle.std.proofs.Common.{Option, Some, None, option_and_then, codes, inl, inr, ◌⊎◌, refl, sym, ap, ap₂, ◌∙◌, subst, arith, add-zero, lt_of_not-le, true≢false}
-use Rattle.std.proofs.lemmas.Bool.{or_parts, or_cases, not-true, eqb-true, eqb-false, ltb-false, ne_eqb}
+use Rattle.std.proofs.Common.{Some, option_and_then, codes, inl, inr, refl, sym, ap, ap₂, ◌∙◌, subst, arith, add-zero, lt_of_not-le, true≢false}
+use Rattle.std.proofs.lemmas.Bool.{or_parts, or_cases, not-true, eqb-true, eqb-false, ltb-false}
 use Rattle.std.proofs.lemmas.List.{drop_more, drop-drop, get_or-drop, get_or_default, get_or_past, take-append-drop}
 use Rattle.std.specs.List.{prefix_len}
-use Rattle.json.specs.Token.{Token, string, number, boolean, null, bad}
-use Rattle.json.specs.Text.{content, plain}
+use Rattle.json.specs.Token.{string, number, boolean, null, bad}
 use Rattle.json.specs.Word.{is_operator, is_space, head, ends_word, after_digits, after_minus, after_sign, after_whole, after_fraction, after_exponent, after_number, word}
-use Rattle.json.specs.Lex.{Lexeme, Class, token, class, operator, space, operator_lexeme, string_token, between, in_string, lex_byte, lex, begins_colon}
+use Rattle.json.specs.Lex.{Class, token, class, operator, operator_lexeme, string_token, between, lex_byte, lex, begins_colon}
 use Rattle.json.specs.Run.{is_plain}
 use Rattle.json.specs.Print.{escape}
 use Rattle.json.proofs.Printed.Strings.{escape_byte_plain, content-escape, lex-escape}

@@ -1,9 +1,8 @@
 -- The tokens of a JSON text that is read where it stands.
-use Rattle.std.specs.Prelude.{◌≡◌, ℕ, List, Bool, true, false, ◌||◌, ◌==◌, ◌∷◌, if◌then◌else◌, codes}
+use Rattle.std.specs.Prelude.{◌≡◌, ℕ, List, true, false, ◌==◌, ◌∷◌, if◌then◌else◌, codes}
 use Rattle.json.specs.Token.{Token, begin_object, end_object, begin_array, end_array, key, string, number, boolean, null, bad}
 use Rattle.json.specs.Lex.{lex, between, punctuate, fresh, after_value, after_comma, may_begin, may_close}
 use Rattle.json.specs.Lex as grammar
-use Rattle.mi_request.specs.Ends.{is_end}
 use Rattle.mi_request.specs.declared.tokens.Place.{Place}
 use Rattle.mi_request.specs.declared.tokens.Place.TheVariants.{Fresh, AfterValue, AfterComma}
 

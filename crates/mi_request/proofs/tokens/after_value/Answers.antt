@@ -1,5 +1,5 @@
 -- A comma behind a value is passed, and a value or a key must follow.
-use Rattle.std.proofs.Common.{◌≡◌, ap, ◌∙◌, arith}
+use Rattle.std.proofs.Common.{◌≡◌, ap, arith}
 use Rattle.json.specs.Word.{head}
 use Rattle.json.specs.Lex.{class}
 use Rattle.mi_request.proofs.TokenLemmas.{after_comma_token}

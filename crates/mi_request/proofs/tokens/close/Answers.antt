@@ -1,5 +1,5 @@
 -- The bracket or the brace is one lexeme, and the comma behind it is passed.
-use Rattle.std.proofs.Common.{◌≡◌, ap, inl, inr}
+use Rattle.std.proofs.Common.{ap, inl, inr}
 use Rattle.json.specs.Lex.{class}
 use Rattle.mi_request.proofs.TokenLemmas.{closed}
 use Rattle.mi_request.proofs.tokens.close.Goals as goal

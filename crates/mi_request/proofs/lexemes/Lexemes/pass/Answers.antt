@@ -1,9 +1,9 @@
 -- A mark is one byte of the text.
-use Rattle.std.proofs.Common.{◌≡◌, ◌<◌, ◌∷◌, length, drop, sym, ap, ◌∙◌, arith}
+use Rattle.std.proofs.Common.{◌∷◌, drop, sym, ap, ◌∙◌}
 use Rattle.std.proofs.lemmas.List.{drop-drop}
 use Rattle.json.specs.Word.{head}
-use Rattle.json.specs.Lex.{class, operator_lexeme, between, lex}
-use Rattle.mi_request.proofs.LexemeLemmas.{lex_mark, mark_within}
+use Rattle.json.specs.Lex.{operator_lexeme, between, lex}
+use Rattle.mi_request.proofs.LexemeLemmas.{lex_mark}
 use Rattle.mi_request.proofs.lexemes.Lexemes.pass.Goals as goal
 
 pub returns : goal.returns

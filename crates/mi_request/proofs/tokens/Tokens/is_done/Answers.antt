@@ -1,6 +1,5 @@
 -- Where a value has ended and the text too, no token is left.
-use Rattle.std.proofs.Common.{◌≡◌, [], true, sym, ap, ◌∙◌, arith}
-use Rattle.json.specs.Word.{head}
+use Rattle.std.proofs.Common.{◌≡◌, [], true, sym, ◌∙◌, arith}
 use Rattle.json.specs.Lex.{may_close}
 use Rattle.mi_request.specs.Tokens.{place_of}
 use Rattle.mi_request.proofs.TokenLemmas.{all_passed}
