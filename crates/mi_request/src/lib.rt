@@ -5,13 +5,16 @@
 mod array;
 mod command;
 mod forms;
+mod lexemes;
 mod line_reader;
 mod name;
 mod numbers;
 mod object;
+mod pass;
 mod reading;
 mod request;
 mod short;
+mod tokens;
 mod tree;
 mod value;
 

@@ -1,12 +1,14 @@
-//! From bytes to the JSON value that they are, as a tree over borrowed text whose arrays and objects lie in an arena.
-ghost use Rattle.std.specs.Prelude.{◌≡◌, ◌⊎◌, is_some, Some, None, IfOk, IfErr};
+//! From bytes to the JSON value that they are, as a tree over borrowed text whose arrays and objects lie in an arena. A text that is
+//! written as a writer gives it is read in one pass, any other by `json`.
+ghost use Rattle.std.specs.Prelude.{◌≡◌, ◌⊎◌, is_some, Some, None, IfOk, IfErr, IfSome};
 ghost use Rattle.json.specs.Json.{value};
 ghost use Rattle.json.specs.Value.{value_view, items_view, members_view};
 ghost use Rattle.serde_json.specs.Data.{no_members};
-ghost use Rattle.serde_json.specs.Read.{of_json, of_items, of_members};
+ghost use Rattle.serde_json.specs.Read.{of_json, of_items, of_members, read};
 ghost use Rattle.mi_request.specs.Lines.{json_of};
 
 use crate::numbers::is_number;
+use crate::pass::pass_text;
 use crate::value::Json;
 use bumpalo::Bump;
 use json::{Error, Reader, Scratch, Value};
@@ -16,7 +18,7 @@ use mi_value::Refusal;
 pub type Tree<'a> = Value<'a, &'a Bump>;
 
 /// How deep arrays and objects may nest, as in `serde_json`.
-const MAX_DEPTH: usize = 127;
+pub(crate) const MAX_DEPTH: usize = 127;
 
 /// Whether each number in a value is one for `serde_json`.
 #[cycle(numbers)]
@@ -67,6 +69,18 @@ fn first_value<'a>(arena: &'a Bump, reader: &mut Reader<'a>) -> Result<Tree<'a>,
     }
 }
 
+/// The value that a text is, where it is read in one pass.
+fn passed<'a>(arena: &'a Bump, text: &'a str) -> Option<Json<'a>>
+    ensures { IfSome result (λ v. read text.now ≡ Some v) }
+{
+    let value = pass_text(arena, text)?;
+    if has_numbers(&value) {
+        Some(Json::new(value))
+    } else {
+        None
+    }
+}
+
 /// The value that bytes are. Refusals: `Json` where they are not UTF-8 or no JSON, and `Memory`.
 pub(crate) fn read_value<'a>(
     arena: &'a Bump,
@@ -79,6 +93,9 @@ pub(crate) fn read_value<'a>(
     let Ok(text) = simdutf8::compat::from_utf8(bytes) else {
         return Err(Refusal::Json);
     };
+    if let Some(value) = passed(arena, text) {
+        return Ok(value);
+    }
     let Ok(mut reader) = Reader::new(text, scratch) else {
         return Err(Refusal::Memory);
     };
