@@ -26,6 +26,7 @@ import subprocess
 import sys
 import tempfile
 
+import library
 import program
 
 TOP = program.TOP
@@ -289,6 +290,21 @@ class Documents:
         if ran.returncode:
             raise Differs(ran.stdout + ran.stderr)
 
+    def bindings(self):
+        """The bindings of the library, where it is built: each answers as the program does."""
+        if library.path():
+            self.check("scripts/embedded.py", self.embedded)
+        else:
+            self.skipped.append("scripts/embedded.py and clients/python/tests/test_embedded.py need the library, which `make lib` makes")
+
+    def embedded(self):
+        words = [sys.executable, f"{TOP}/scripts/embedded.py", "--program", self.path]
+        ran = subprocess.run(words, stdin=subprocess.DEVNULL, capture_output=True, text=True, timeout=900)
+        lines = ran.stdout.splitlines()
+        self.skipped += [it.partition(" ")[2] for it in lines if it.startswith("skipped: ")]
+        if ran.returncode:
+            raise Differs(ran.stdout + ran.stderr)
+
     def heads(self):
         """Whether each source file and each file of answers opens with what it is."""
         ran = self.run([sys.executable, f"{TOP}/scripts/check_heads.py"])
@@ -326,6 +342,7 @@ def main():
             print("== tests", flush=True)
             checks.check("clients/python/tests", checks.tests, f"{TOP}/clients/python/tests")
             checks.node()
+            checks.bindings()
             checks.check("scripts/tests", checks.tests, f"{TOP}/scripts/tests")
             checks.check("scripts/fuzz.py", checks.script, "fuzz.py", "--lines", "600")
             checks.check("scripts/stall.py", checks.script, "stall.py")

@@ -11,6 +11,7 @@ It needs Python 3.9 and nothing else.
 """
 from mi_client.calls import Page, Revision
 from mi_client.database import Database
+from mi_client.embedded import Embedded
 from mi_client.errors import Ended, NeedsSchema, Refused, TooManyEqual
 from mi_client.pipeline import Answer, Pipeline
 from mi_client.plans import Window
@@ -20,5 +21,6 @@ from mi_client.server import Server
 __version__ = "0.1.0"
 
 __all__ = [
-    "Answer", "Database", "Ended", "NeedsSchema", "Page", "Pipeline", "Refused", "Revision", "Schema", "Server", "TooManyEqual", "Window",
+    "Answer", "Database", "Embedded", "Ended", "NeedsSchema", "Page", "Pipeline", "Refused", "Revision", "Schema", "Server", "TooManyEqual",
+    "Window",
 ]

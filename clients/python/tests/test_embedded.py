@@ -1,0 +1,147 @@
+"""The client over a database of its own process, where the library is built: every call that the tests of a connection make, several
+connections, and who may use it. The library is the one that WELTIYO_LIBRARY names, else that of `make lib`."""
+import gc
+import os
+import subprocess
+import sys
+import threading
+import unittest
+
+import kit
+import test_client
+from kit import ANN, BOB
+
+from mi_client import Embedded, Ended, Refused
+
+
+def library():
+    """The file of the library, or none where none is built."""
+    if "WELTIYO_LIBRARY" not in os.environ:
+        words = [sys.executable, f"{kit.TOP}/scripts/library.py", "path"]
+        folder = subprocess.run(words, capture_output=True, text=True).stdout.strip()
+        os.environ["WELTIYO_LIBRARY"] = f"{folder}/libweltiyo.so" if folder else ""
+    return os.environ["WELTIYO_LIBRARY"]
+
+
+needs_library = unittest.skipUnless(library(), "no library is built: `make lib` makes it")
+
+
+@needs_library
+class InTheProcess(test_client.Commands, unittest.TestCase):
+    def setUp(self):
+        self.db = Embedded.open()
+        self.addCleanup(self.db.close)
+
+    def test_lines_and_calls_sent_ahead(self):
+        lines = [b'{"cmd":"insert","row":{"owner":"%d","balance":%d,"vip":false}}' % (n, n) for n in range(5000)]
+        replies = list(self.db.ask_lines(lines, window=7))
+        self.assertEqual((len(replies), replies[-1]), (5000, '{"id":4999,"ok":true}'))
+        with self.db.pipeline() as ahead:
+            answers = [ahead.get(n) for n in range(3)]
+        self.assertEqual([it.result()["owner"] for it in answers], ["0", "1", "2"])
+
+    def test_replies_longer_than_what_is_fetched_at_once(self):
+        for n in range(20):
+            self.db.insert({"owner": str(n) * 500, "balance": n, "vip": False})
+        rows = self.db.range("by_balance").rows
+        self.assertEqual([(it["id"], it["owner"]) for it in rows], [(n, str(n) * 500) for n in range(20)])
+
+
+@needs_library
+class Walks(test_client.Walks):
+    def setUp(self):
+        self.db = Embedded.open(kit.written(self, test_client.MANY))
+        self.addCleanup(self.db.close)
+        self.ids = [self.db.insert({"group": n // 4, "name": str(n)}) for n in range(40)]
+
+
+@needs_library
+class Several(unittest.TestCase):
+    def test_connections_hold_each_their_own(self):
+        first = Embedded.open()
+        second = first.another()
+        self.assertEqual(first.begin(), 1)
+        with self.assertRaises(Refused) as caught:
+            second.insert(BOB)
+        self.assertEqual(caught.exception.word, "busy")
+        first.insert(ANN)
+        self.assertEqual(second.get(0)["owner"], "ann")
+        self.assertEqual((second.revision(), first.revision().held), ((1, 1, 0), 1))
+        first.close()  # what it held is undone
+        self.assertEqual((second.size(), second.insert(BOB)), (0, 0))
+        self.assertRaises(Ended, first.another)
+        second.close()
+        self.assertRaises(Ended, second.size)
+
+    def test_databases_know_nothing_of_each_other(self):
+        with Embedded.open() as one, Embedded.open(f"{kit.TOP}/examples/shop.toml") as two:
+            one.insert(ANN)
+            self.assertNotEqual(one.schema, two.schema)
+            self.assertEqual(two.size(), 0)
+
+    def test_schemas(self):
+        for text, word in [("table = 1\n", "shape"), ("table = ", "toml"), ("", "shape"), (" " * 65_537, "file")]:
+            with self.assertRaisesRegex(Ended, f"^schema: {word}$"):
+                Embedded.open(kit.written(self, text))
+        with self.assertRaisesRegex(Ended, "^schema: file$"):
+            Embedded.open("/no/such/file")
+        with self.assertRaises(OSError):
+            Embedded.open(library_file="/no/such/library")
+        self.assertRaises(TypeError, Embedded.start, "mi_server")
+        self.assertRaises(TypeError, Embedded.connect, 8000)
+
+
+@needs_library
+class Home(unittest.TestCase):
+    """A handle stays on its thread and in its process."""
+
+    def test_another_thread_is_turned_away(self):
+        said = []
+
+        def work():
+            for call in (db.size, db.close, db.another, db.pass_turn):
+                try:
+                    call()
+                except RuntimeError as error:
+                    said.append(str(error))
+
+        with Embedded.open() as db:
+            thread = threading.Thread(target=work)
+            thread.start()
+            thread.join()
+            self.assertEqual(said, ["a database in the process stays on the thread that opened it"] * 4)
+            self.assertEqual(db.size(), 0)
+
+    def test_a_child_leaves_it_to_its_parent(self):
+        with Embedded.open() as db:
+            child = os.fork()
+            if not child:
+                try:
+                    db.size()
+                except Ended:
+                    os._exit(7)
+                os._exit(1)
+            self.assertEqual(os.waitstatus_to_exitcode(os.waitpid(child, 0)[1]), 7)
+            self.assertEqual(db.insert(ANN), 0)
+
+    def test_one_that_is_forgotten_is_closed(self):
+        closed = []
+
+        class Watched:
+            def __getattr__(self, name):
+                return getattr(calls, name)
+
+            def weltiyo_close(self, handle):
+                closed.append(handle.value)
+                calls.weltiyo_close(handle)
+
+        db = Embedded.open()
+        engine, calls = db._lines.engine, db._lines.engine._calls
+        engine._calls, handle = Watched(), engine._handle.value
+        del db, engine
+        gc.collect()
+        self.assertEqual(closed, [handle])
+
+
+if __name__ == "__main__":
+    unittest.main()

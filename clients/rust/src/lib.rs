@@ -1,0 +1,202 @@
+//! Weltiyo in the process of its caller: a [`Database`] that is closed where it is dropped, and a [`Session`] that undoes what was done in it
+//! unless it is squashed or pushed.
+//!
+//! ```
+//! # fn main() -> Result<(), weltiyo::Error> {
+//! let mut db = weltiyo::Database::open("")?; // the built-in table
+//! db.ask(r#"{"cmd":"insert","row":{"owner":"ann","balance":50,"vip":false}}"#)?;
+//! {
+//!     let mut session = db.session()?;
+//!     session.ask(r#"{"cmd":"modify","id":0,"add":{"balance":-20}}"#)?;
+//!     session.squash()?; // without this the block is undone
+//! }
+//! # Ok(())
+//! # }
+//! ```
+//!
+//! A line is a JSON object with a command, and its reply the same bytes that the program `mi_server` answers to it. A database stays on the
+//! thread that opened it, so it is neither `Send` nor `Sync`.
+mod raw;
+
+use std::collections::hash_map::RandomState;
+use std::error;
+use std::fmt;
+use std::hash::{BuildHasher, Hasher};
+use std::marker::PhantomData;
+use std::ops::{Deref, DerefMut};
+use std::ptr::{self, NonNull};
+
+/// The bytes that a line may have.
+pub const LONGEST_LINE: usize = 65_536;
+
+/// The connection that is asked as where none is named.
+pub const OWN: u64 = 1;
+
+/// The bytes of a reply that are fetched with it.
+const USUAL: usize = 256;
+
+/// How a refusal begins, and no other reply.
+const REFUSAL: &str = "{\"error\":\"";
+
+/// Why a database isn't opened, or a command not done.
+#[derive(Clone, Debug, PartialEq, Eq)]
+pub enum Error {
+    /// The schema opens nothing; its word, as the program prints it behind `schema: `.
+    Schema(&'static str),
+    /// A command was refused; the whole reply.
+    Refused(String),
+}
+
+impl Error {
+    /// The word of it: `twice` of a schema, `busy` of a refusal.
+    pub fn word(&self) -> &str {
+        match self {
+            Error::Schema(word) => word,
+            Error::Refused(reply) => reply[REFUSAL.len()..].split('"').next().unwrap_or(""),
+        }
+    }
+}
+
+impl fmt::Display for Error {
+    fn fmt(&self, f: &mut fmt::Formatter<'_>) -> fmt::Result {
+        match self {
+            Error::Schema(word) => write!(f, "schema: {word}"),
+            Error::Refused(reply) => f.write_str(reply),
+        }
+    }
+}
+
+impl error::Error for Error {}
+
+/// The word of a status of `weltiyo_open`.
+fn word_of(status: u32) -> &'static str {
+    const WORDS: [&str; 12] = ["ok", "memory", "file", "toml", "shape", "name", "twice", "type", "kind", "key", "limit", "number"];
+    WORDS.get(status as usize).copied().unwrap_or("unknown")
+}
+
+/// A database of its own tables. It is closed where it is dropped.
+///
+/// ```compile_fail
+/// let db = weltiyo::Database::open("").unwrap();
+/// std::thread::spawn(move || drop(db)); // (a database stays on its thread)
+/// ```
+#[derive(Debug)]
+pub struct Database {
+    handle: NonNull<raw::Handle>,
+    on_its_thread: PhantomData<*mut ()>,
+}
+
+impl Database {
+    /// Opens the tables of a schema in TOML; no text stands for the built-in table. A random secret is mixed into the hashes of keys.
+    pub fn open(schema: impl AsRef<[u8]>) -> Result<Database, Error> {
+        Database::open_with(schema, RandomState::new().build_hasher().finish())
+    }
+
+    /// The same with a secret of the caller's. No answer depends on it.
+    pub fn open_with(schema: impl AsRef<[u8]>, secret: u64) -> Result<Database, Error> {
+        let (schema, mut handle) = (schema.as_ref(), ptr::null_mut());
+        // SAFETY: the text is a slice, which is never null, and the handle a place of its own.
+        let status = unsafe { raw::weltiyo_open(schema.as_ptr(), schema.len(), secret, &mut handle) };
+        match NonNull::new(handle) {
+            Some(handle) if status == 0 => Ok(Database { handle, on_its_thread: PhantomData }),
+            _ => Err(Error::Schema(word_of(status))),
+        }
+    }
+
+    /// The reply to a line of a connection, whatever it says. Connections differ in what sessions they hold; the other calls here ask as
+    /// connection [`OWN`].
+    pub fn answer(&mut self, connection: u64, line: impl AsRef<[u8]>) -> String {
+        let line = line.as_ref();
+        let mut reply = vec![0; USUAL];
+        // SAFETY: the handle was opened on this thread and isn't closed, and is lent to this call alone; the slices lie apart.
+        let length =
+            unsafe { raw::weltiyo_ask(self.handle.as_ptr(), connection, line.as_ptr(), line.len(), reply.as_mut_ptr(), reply.len()) };
+        reply.resize(length, 0);
+        if length > USUAL {
+            let rest = &mut reply[USUAL..];
+            // SAFETY: as above.
+            unsafe { raw::weltiyo_reply(self.handle.as_ptr(), USUAL, rest.as_mut_ptr(), rest.len()) };
+        }
+        String::from_utf8(reply).expect("a reply is text")
+    }
+
+    /// The reply to a line that is accepted.
+    pub fn ask(&mut self, line: impl AsRef<[u8]>) -> Result<String, Error> {
+        let reply = self.answer(OWN, line);
+        if reply.starts_with(REFUSAL) {
+            return Err(Error::Refused(reply));
+        }
+        Ok(reply)
+    }
+
+    /// A session for a block: it is undone where it is dropped, unless it was squashed or pushed before.
+    pub fn session(&mut self) -> Result<Session<'_>, Error> {
+        self.ask(r#"{"cmd":"start"}"#)?;
+        Ok(Session { db: self, is_over: false })
+    }
+
+    /// A connection goes away: the sessions that it holds are undone. It takes no memory.
+    pub fn release(&mut self, connection: u64) {
+        // SAFETY: as in `answer`.
+        unsafe { raw::weltiyo_release(self.handle.as_ptr(), connection) }
+    }
+}
+
+impl Drop for Database {
+    fn drop(&mut self) {
+        // SAFETY: as in `answer`; nothing uses the handle behind this.
+        unsafe { raw::weltiyo_close(self.handle.as_ptr()) }
+    }
+}
+
+/// A session of a block. What is asked of it is asked of its database, so sessions within it end before it does.
+#[derive(Debug)]
+pub struct Session<'a> {
+    db: &'a mut Database,
+    is_over: bool,
+}
+
+impl Session<'_> {
+    /// What was done is left to the session below, or stays where there is none.
+    pub fn squash(mut self) -> Result<(), Error> {
+        self.end(r#"{"cmd":"squash"}"#)
+    }
+
+    /// All of it is undone now.
+    pub fn undo(mut self) -> Result<(), Error> {
+        self.end(r#"{"cmd":"undo"}"#)
+    }
+
+    /// The session stays open behind the block; an undo, a squash or a commit of the database ends it.
+    pub fn push(mut self) {
+        self.is_over = true;
+    }
+
+    fn end(&mut self, line: &str) -> Result<(), Error> {
+        self.is_over = true;
+        self.db.ask(line).map(drop)
+    }
+}
+
+impl Drop for Session<'_> {
+    fn drop(&mut self) {
+        if !self.is_over {
+            // (it takes no memory, so it isn't refused; where the session was ended by a line of the caller's, there is nothing to undo)
+            let _ = self.end(r#"{"cmd":"undo"}"#);
+        }
+    }
+}
+
+impl Deref for Session<'_> {
+    type Target = Database;
+
+    fn deref(&self) -> &Database {
+        self.db
+    }
+}
+
+impl DerefMut for Session<'_> {
+    fn deref_mut(&mut self) -> &mut Database {
+        self.db
+    }
+}

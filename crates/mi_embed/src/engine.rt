@@ -1,0 +1,122 @@
+//! The database that a caller holds, and the reply to the last line that it asked.
+ghost use Rattle.std.specs.Prelude.{◌≡◌, ℕ, length};
+ghost use Rattle.mi_commands.specs.Answer.{MayGive};
+ghost use Rattle.mi_commands.specs.Holder.{released};
+ghost use Rattle.mi_embed.specs.Opening.{IsDescribed, IsOpened};
+ghost use Rattle.mi_embed.specs.State.{line_of, IsCopied};
+
+use crate::fault::OpenFault;
+use arrayvec::ArrayVec;
+use mi_commands::{Executor, Line};
+use mi_database::Linked;
+use mi_multi::MultiIndex;
+use mi_protocol::ReplyText;
+use mi_schema::{Catalog, built_in, read_catalog};
+use mi_value::limits::{MAX_LINE, MAX_SCHEMA_FILE};
+use std::alloc::Global;
+use std::marker::Model;
+
+/// A database and the reply to the last line.
+#[derive(Drop)]
+pub struct Engine {
+    executor: Executor<Linked<MultiIndex>>,
+    reply: ReplyText,
+}
+
+impl Model for Engine {
+    ghost use Rattle.mi_protocol.specs.Text.{text_bytes};
+    ghost use Rattle.mi_embed.specs.State.{EngineState};
+
+    ghost Value = { EngineState };
+
+    ghost view = { λ e. record { held = e.executor; reply = text_bytes e.reply } };
+}
+
+/// The catalog of a schema's text; of no text, that of the built-in table.
+fn described(alloc: Global, schema: &[u8]) -> Result<Catalog, OpenFault>
+    ensures { IsDescribed schema.now result }
+{
+    if schema.is_empty() {
+        return Ok(Catalog::of(alloc, built_in(alloc)?)?);
+    }
+    if schema.len() > MAX_SCHEMA_FILE {
+        return Err(OpenFault::Long);
+    }
+    Ok(read_catalog(alloc, schema)?)
+}
+
+impl Engine {
+    /// Opens the tables that a schema's text describes; no text stands for the built-in table. The secret is mixed into hashes
+    /// of keys; no answer depends on it.
+    ///
+    /// `Long` where the text has more than 65,536 bytes, `Schema` where it is refused or memory was. Nothing is left of what
+    /// was made until then.
+    pub fn open(alloc: Global, schema: &[u8], secret: u64) -> Result<Engine, OpenFault>
+        ensures { IsOpened schema.now result }
+    {
+        let catalog = described(alloc, schema)?;
+        let database = Linked::<MultiIndex>::new(alloc, catalog, secret)?;
+        Ok(Engine {
+            executor: Executor::new(alloc, database),
+            reply: ReplyText::Short(ArrayVec::new()),
+        })
+    }
+
+    /// Answers a line of a connection, given whole and without its newline, and says how many bytes its reply has. The reply
+    /// stays until the next line. A line of more than 65,536 bytes is answered as over-long.
+    pub fn execute(&mut self, conn: u64, line: &[u8]) -> usize
+        ensures is { MayGive conn self.old.held (line_of line.now) self.new.reply self.new.held }
+        ensures long { result ≡ length self.new.reply }
+    {
+        let asked = if line.len() > MAX_LINE {
+            Line::TooLong
+        } else {
+            Line::Text(line)
+        };
+        self.reply = self.executor.answer(conn, asked);
+        self.reply().len()
+    }
+
+    /// The reply to the last line, without a newline; empty before the first.
+    pub fn reply(&self) -> &[u8]
+        ensures { result.now ≡ self.now.reply }
+    {
+        self.reply.as_slice()
+    }
+
+    /// Copies the reply to the last line from this byte on to the front of a buffer, as much as there is room for, and says how
+    /// many bytes. The rest of the buffer stays as it is.
+    pub fn copy_reply(&self, from: usize, out: &mut [u8]) -> usize
+        ensures { IsCopied self.now.reply from out.old out.new result }
+    {
+        let reply = self.reply();
+        if from >= reply.len() {
+            return 0;
+        }
+        let (_, left) = reply.split_at(from);
+        let count = left.len().min(out.len());
+        let (front, _) = left.split_at(count);
+        let (place, _) = out.split_at_mut(count);
+        place.copy_from_slice(front);
+        count
+    }
+
+    /// Answers a line of a connection as `execute` does, and copies as much of its reply as there is room for to the front of a
+    /// buffer. Says how many bytes the whole reply has; `copy_reply` gives those that had no room.
+    pub fn ask(&mut self, conn: u64, line: &[u8], out: &mut [u8]) -> usize
+        ensures is { MayGive conn self.old.held (line_of line.now) self.new.reply self.new.held }
+        ensures long { result ≡ length self.new.reply }
+        ensures copied { (count : ℕ) × IsCopied self.new.reply 0 out.old out.new count }
+    {
+        let length = self.execute(conn, line);
+        let _ = self.copy_reply(0, out);
+        length
+    }
+
+    /// A connection goes away: the sessions that it holds are undone. It takes no memory.
+    pub fn release(&mut self, conn: u64)
+        ensures { self.new ≡ record { held = released conn self.old.held; reply = self.old.reply } }
+    {
+        self.executor.release(conn);
+    }
+}
