@@ -144,7 +144,7 @@ class Compact(Files):
 
     def test_the_database_is_the_same(self):
         shorter = 0
-        for seed in range(150):
+        for seed in range(60):
             catalog, run, kept = random_run(seed)
             again = asked(catalog, kept)
             self.assertEqual(state(again), state(run), seed)
@@ -153,7 +153,7 @@ class Compact(Files):
                 self.assertEqual(self.compacted(new, catalog[1]), new, seed)
             self.assertEqual(state(asked(catalog, new)), state(again), seed)
             shorter += len(new) < len(kept)
-        self.assertGreater(shorter, 100)
+        self.assertGreater(shorter, 30)
 
     def test_it_is_a_new_file(self):
         self.write([START, UNDO], torn=b'{"cmd')
