@@ -138,6 +138,10 @@ class Compact(Files):
             ([START, a, START, PUSH, b, UNDO, c], [START, a, PUSH, c]),
             ([START, PUSH, b, UNDO, c], [c]),
             ([START, PUSH, START, b, UNDO], [START, PUSH]),
+            # (the session that was let go of is undone by whoever comes; then none is held)
+            ([START, PUSH, UNDO, START, START, PUSH, b, UNDO, c], [START, PUSH, c]),
+            # (the last start is refused)
+            ([START] * 1025 + [UNDO], [START] * 1023),
             ([a, START, b], [a, START, b]),
         ]:
             self.assertEqual(self.compacted(lines), want, lines)
