@@ -1,0 +1,1 @@
+-- lemmas of this crate's proofs
