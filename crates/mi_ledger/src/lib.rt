@@ -1,0 +1,13 @@
+//! A journal beside the hub: which lines go into it, and that they stay before their replies go out.
+#![tactic(auto)]
+
+mod deciding;
+mod fault;
+pub mod laws;
+mod ledger;
+mod replies;
+
+pub use deciding::belongs;
+pub use fault::LedgerFault;
+pub use ledger::Ledger;
+pub use replies::HeldReplies;
