@@ -196,7 +196,7 @@ module _ (refusals : RefusalsChangeNothing) (look_ups : LookUpsChangeNothing) wh
       by_kind (inr same) = same
 
 -- a reply that may be a change's is the answer by the definition, and none for want of memory
-put_in : (conn : ℕ) (line : Asked) (reply : List ℕ) (old new : HeldDatabase) → may_change reply ≡ true → MayGive conn old line reply new
+pub put_in : (conn : ℕ) (line : Asked) (reply : List ℕ) (old new : HeldDatabase) → may_change reply ≡ true → MayGive conn old line reply new
     → new ≡ (answer old conn line).1
 put_in conn line reply old new h (inl p) = p.1
 put_in conn line reply old new h (inr p) =

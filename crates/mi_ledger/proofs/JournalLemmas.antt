@@ -1,28 +1,32 @@
--- What a line adds to the journal, and what the journal is added.
+-- What a line adds to the journal, and what the journal is then.
 use Rattle.std.proofs.Common.{◌≡◌, ℕ, List, [], ◌∷◌, ◌++◌, Bool, true, false, Option, Some, None, option_to_list}
-use Rattle.std.proofs.Common.{refl, sym, ap, ◌∙◌, subst, append-nil, length, suc, take, arith}
+use Rattle.std.proofs.Common.{refl, sym, ap, ◌∙◌, subst, append-nil, length, suc, take, arith, cond, nat_eq}
 use Rattle.std.proofs.lemmas.List.{length-append}
 use Rattle.std.proofs.Math.Seq.{take-append_seam}
 use Rattle.std.proofs.Common.{Result, Ok, Err}
-use Rattle.std.specs.Prelude.{if◌then◌else◌, OnOk}
+use Rattle.std.specs.Prelude.{if◌then◌else◌, OnOk, replicate}
 use Rattle.std.specs.Option.{option_map_or}
 use Rattle.std.specs.Io.KnownBytes.{Appends}
+use Rattle.std.proofs.KnownBytes.{Appends-nil}
 use Rattle.mi_commands.specs.Asked.{Asked}
-use Rattle.mi_commands.specs.Answer.{MayGive}
-use Rattle.mi_commands.specs.Holder.{HeldDatabase}
+use Rattle.mi_commands.specs.Answer.{answer, MayGive}
+use Rattle.mi_commands.specs.Holder.{HeldDatabase, held_by}
+use Rattle.mi_commands.specs.declared.holder.Holder.{Holder}
 use Rattle.mi_hub.specs.Ended.{ended}
 use Rattle.mi_hub.specs.Lines.{Rest, marked, ended_line, lines_of, rest_of, lines_from, rest_from}
 use Rattle.mi_hub.specs.Connections.{rest_at}
 use Rattle.mi_hub.specs.Served.{InTurn, sent}
-use Rattle.mi_hub.specs.Run.{HubState, piece, Done}
-use Rattle.mi_hub.proofs.ConnectionLemmas.{rest_at-with_rest}
+use Rattle.mi_hub.specs.Run.{HubState, piece, attach, cut, Done}
+use Rattle.mi_hub.proofs.ConnectionLemmas.{rest_at-with_rest, rest_at-last}
 use Rattle.mi_hub.proofs.LineLemmas.{ended_nil, lines_from-nothing, rest_from-nothing, from_ended, from_unended, from_rests}
-use Rattle.mi_replay.specs.Acts.{Act}
-use Rattle.mi_replay.specs.Journal.{JournalOf}
+use Rattle.mi_replay.specs.Acts.{Act, leaves}
+use Rattle.mi_replay.specs.Journal.{JournalOf, undo_line}
 use Rattle.mi_replay.specs.ReplayLaws.{JournalsJoin}
 use Rattle.mi_replay.specs.RunActs.{asked_by, lines_in, ActsOfDone}
-use Rattle.mi_ledger.specs.Belongs.{holder_conn}
-use Rattle.mi_ledger.specs.Journals.{IsWholeLine, Decided, IsNoted, Asks, JournalsGoOn}
+use Rattle.mi_replay.specs.Replayed.{replayer, replayed}
+use Rattle.mi_ledger.specs.Belongs.{may_change, holder_conn, is_conn}
+use Rattle.mi_ledger.proofs.BelongsLemmas.{put_in}
+use Rattle.mi_ledger.specs.Journals.{IsWholeLine, Decided, IsNoted, Journals, Asks, JournalsGoOn}
 
 -- ---- lines
 
@@ -154,10 +158,70 @@ cut_last xs rest text x y p q =
     let len : length rest ≡ length text = omega (arith, ap length both, length-append rest (x ∷ []), length-append text (y ∷ [])) in
     sym (take-append_seam rest (x ∷ [])) ∙ ap (λ n. take n (rest ++ x ∷ [])) len ∙ ap (take (length text)) both ∙ take-append_seam text (y ∷ [])
 
+-- a connection that has come has sent nothing
+pub comes_empty : (conn : ℕ) (old new : HubState) → Done old (attach conn) [] new → rest_at conn new.attached ≡ Some (Some [])
+comes_empty conn old new done = ap (λ (s : HubState). rest_at conn s.attached) done.3 ∙ rest_at-last conn (Some []) old.attached done.0
+
+-- a connection that isn't the holder holds none
+pub holds_none : (o : Option Holder) (holder : Option ℕ) (conn : ℕ) → holder_conn o ≡ holder → is_conn holder conn ≡ false → held_by conn o ≡ 0
+holds_none None holder conn is other = refl
+holds_none (Some h) holder conn is other =
+    let test : nat_eq h.conn conn ≡ false = ap (λ o. is_conn o conn) is ∙ other in ap (λ b. cond b h.held 0) test
+
+-- a connection that holds none goes away, and the journal has nothing of that
+pub leaves_so : (conn : ℕ) (old new : HubState) (log : Option (List ℕ)) → held_by conn old.held.holder ≡ 0 → Done old (cut conn) [] new
+    → Journals old.held new.held log log (leaves conn ∷ [])
+leaves_so conn old new log none done = record {
+  bytes = [];
+  whole = no_rest;
+  journal = subst (λ ls. JournalOf old.held (leaves conn ∷ []) ls new.held) (sym no_lines) (
+    new.held,
+    [],
+    [],
+    ap (λ (s : HubState). s.held) done.2,
+    sym (ap (λ n. replicate n undo_line) none),
+    (refl, refl),
+    refl,
+  );
+  appended = Appends-nil log;
+}
+
 -- what follows from two facts of an Ok
 pub on_ok_both : {T E P Q R : Type 0} (r : Result T E) → (P → Q → R) → OnOk r P → OnOk r Q → OnOk r R
 on_ok_both (Ok v) f p q = f p q
 on_ok_both (Err e) f p q = tt
+
+-- ---- replay
+
+-- what a line leaves that is answered by the definition
+abbrev after : ℕ → Option Asked → HeldDatabase → HeldDatabase
+after conn o s = option_map_or (λ l. (answer s conn l).1) o s
+
+one_answered : (conn : ℕ) (o : Option Asked) (replies : List (List ℕ)) (out reply : List ℕ) (s t : HeldDatabase)
+    → InTurn (MayGive conn) s (option_to_list o) replies t → out ≡ sent replies → out ≡ reply ++ 10 ∷ [] → may_change reply ≡ true → t ≡ after conn o s
+one_answered conn None [] out reply s t p w e may = p
+one_answered conn None (r ∷ rs) out reply s t p w e may = absurd p
+one_answered conn (Some l) [] out reply s t p w e may = absurd p
+one_answered conn (Some l) (r ∷ []) out reply s t p w e may =
+    let same : r ≡ reply = cut_last out r reply 10 10 (w ∙ append-nil (r ++ 10 ∷ [])) e in
+    p.2 ∙ put_in conn l r s p.0 (ap (λ t. may_change t) same ∙ may) p.1
+one_answered conn (Some l) (r ∷ q ∷ rs) out reply s t p w e may = absurd p.2
+
+after_is : (o : Option Asked) (s : HeldDatabase) → after replayer o s ≡ replayed (option_to_list o) s
+after_is None s = refl
+after_is (Some l) s = refl
+
+-- a line whose reply is a change's is replayed
+pub replayed_by : (line out reply : List ℕ) (old new : HubState) → rest_at replayer old.attached ≡ Some (Some []) → IsWholeLine line
+    → Done old (piece replayer line) out new → out ≡ reply ++ 10 ∷ [] → may_change reply ≡ true
+    → (new.held ≡ replayed (lines_of line) old.held) × (rest_at replayer new.attached ≡ Some (Some []))
+replayed_by line out reply old new here whole done e may =
+    let o = ended_line (marked whole.0) in
+    let turn = in_turn replayer line out (holder_conn old.held.holder) old new here whole done refl in (
+      one_answered replayer o done.2.replies out reply old.held new.held turn done.2.written e may ∙ after_is o old.held
+          ∙ ap (λ ls. replayed ls old.held) (sym (is_asked replayer line out (holder_conn old.held.holder) old new here whole done refl)),
+      still_empty replayer line out (holder_conn old.held.holder) old new here whole done refl,
+    )
 
 -- ---- the whole journal
 

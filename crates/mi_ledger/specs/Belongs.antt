@@ -27,6 +27,11 @@ abbrev pub is_other : Option ℕ → ℕ → Bool
 is_other None conn = false
 is_other (Some holder) conn = not (holder == conn)
 
+-- this connection is the holder
+abbrev pub is_conn : Option ℕ → ℕ → Bool
+is_conn None conn = false
+is_conn (Some holder) conn = holder == conn
+
 -- the connection that holds sessions
 abbrev pub holder_conn : Option Holder → Option ℕ
 holder_conn holder = option_map (λ (h : Holder). h.conn) holder

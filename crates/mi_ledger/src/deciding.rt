@@ -6,7 +6,7 @@ use mi_replay::laws;
 
 /// Whether a reply may be to a line that changed the database or who holds how many sessions: it says that a record is inserted, that a
 /// command is done, how many records are erased, a new revision, how many sessions are committed, undone or pushed, or that a record is lost.
-fn may_be_change(reply: &[u8]) -> bool
+pub(crate) fn may_be_change(reply: &[u8]) -> bool
     ensures { result ≡ may_change reply.now }
 {
     reply.starts_with(b"{\"id\":")

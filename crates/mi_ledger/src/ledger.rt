@@ -1,15 +1,19 @@
 //! A hub whose lines are journaled: what changed anything is appended to a log as it is executed, and the replies go out once that stays.
 //! It reads and writes no stream.
-ghost use Rattle.std.specs.Prelude.{◌≡◌, ◌<◌, ◌++◌, ℕ, List, [], Some, Err, true, length, OnOk, OnErr, IfOk};
+ghost use Rattle.std.specs.Prelude.{◌≡◌, ◌<◌, ◌++◌, ℕ, List, [], ◌∷◌, Some, Err, true, false, length, OnOk, OnErr, IfOk, IfErr, IsSome};
 ghost use Rattle.std.specs.Io.KnownBytes.{Keeps};
+ghost use Rattle.mi_commands.specs.Holder.{held_by};
 ghost use Rattle.mi_hub.specs.Connections.{rest_at};
+ghost use Rattle.mi_hub.specs.Run.{attach, cut, Done, Refused};
+ghost use Rattle.mi_replay.specs.Acts.{leaves};
+ghost use Rattle.mi_ledger.specs.Belongs.{is_conn};
 ghost use Rattle.mi_ledger.specs.HeldReplies.{bytes_of};
-ghost use Rattle.mi_ledger.specs.Journals.{IsWholeLine, Decided, IsNoted, Asks};
+ghost use Rattle.mi_ledger.specs.Journals.{IsWholeLine, Decided, IsNoted, Journals, Asks};
 
 use crate::deciding::belongs;
 use crate::fault::LedgerFault;
 use crate::replies::HeldReplies;
-use mi_hub::{Hub, Watched};
+use mi_hub::{Hub, HubFault, Watched};
 use mi_log::Log;
 use mi_sessions::Sessions;
 use std::alloc::Global;
@@ -21,6 +25,24 @@ pub struct Ledger<D: Sessions + Drop, L: Log + Drop> {
     log: L,
     unsynced: bool,
     alloc: Global,
+}
+
+/// Whether a connection is the holder.
+fn is_holder(holder: Option<u64>, conn: u64) -> bool
+    ensures { result ≡ is_conn holder conn }
+{
+    match holder {
+        Some(other) => other == conn,
+        None => false,
+    }
+}
+
+/// Cuts an attached connection.
+fn cut_off<D: Sessions + Drop>(hub: &mut Hub<D>, conn: u64)
+    requires { IsSome (rest_at conn hub.old.attached) }
+    ensures { Done hub.old (cut conn) [] hub.new }
+{
+    let _ = hub.cut(conn);
 }
 
 /// Whether a line that was answered so belongs in the journal; the reply has its newline.
@@ -55,6 +77,40 @@ impl<D: Sessions + Drop, L: Log + Drop> Ledger<D, L> {
         ensures { result.now ≡ hub_of self.now }
     {
         &self.hub
+    }
+
+    /// Whether a connection holds open sessions.
+    pub fn holds(&self, conn: u64) -> bool
+        ensures { result ≡ false → held_by conn (hub_of self.now).held.holder ≡ 0 }
+    {
+        is_holder(self.hub.holder(), conn)
+    }
+
+    /// A connection comes. The journal has nothing of it.
+    ///
+    /// Its refusals are the hub's, and each changes nothing.
+    pub fn attach(&mut self, conn: u64) -> Result<(), HubFault>
+        ensures ok { OnOk result (Done (hub_of self.old) (attach conn) [] (hub_of self.new)) }
+        ensures still { OnOk result (rest_at conn (hub_of self.new).attached ≡ Some (Some [])) }
+        ensures refused { IfErr result (λ fault. Refused (hub_of self.old) (attach conn) fault × (hub_of self.new ≡ hub_of self.old)) }
+        ensures log { log_of self.new ≡ log_of self.old }
+        ensures settled { IsSettled L.appended L.synced self.old → IsSettled L.appended L.synced self.new }
+    {
+        self.hub.attach(conn)
+    }
+
+    /// A connection that holds no sessions goes away; nothing of it is asked or appended. One that holds some asks `undo` until it holds
+    /// none, so that the journal has that.
+    pub fn leave(&mut self, conn: u64)
+        requires attached { IsSome (rest_at conn (hub_of self.old).attached) }
+        requires none { held_by conn (hub_of self.old).held.holder ≡ 0 }
+        ensures done { Done (hub_of self.old) (cut conn) [] (hub_of self.new) }
+        ensures journal { Journals (hub_of self.old).held (hub_of self.new).held (L.appended (log_of self.old)) (L.appended (log_of self.new))
+            (leaves conn ∷ []) }
+        ensures log { log_of self.new ≡ log_of self.old }
+        ensures settled { IsSettled L.appended L.synced self.old → IsSettled L.appended L.synced self.new }
+    {
+        cut_off(&mut self.hub, conn);
     }
 
     /// An attached connection asks a line: its bytes up to and with a newline, behind which it has sent nothing that was asked. Its reply
