@@ -1,1 +1,1 @@
--- lemmas of this crate's proofs
+mod LineLemmas
