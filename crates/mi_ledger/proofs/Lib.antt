@@ -1,0 +1,2 @@
+mod BelongsLemmas
+mod JournalLemmas

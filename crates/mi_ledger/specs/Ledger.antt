@@ -1,0 +1,15 @@
+-- What a ledger is: a hub and a log.
+use Rattle.std.specs.Prelude.{◌≡◌, ℕ, List, false, Option}
+use Rattle.std.specs.Io.KnownBytes.{Keeps}
+use Rattle.mi_hub.specs.Run.{HubState}
+use Rattle.mi_ledger.specs.declared.ledger.Ledger.{Ledger}
+
+abbrev pub hub_of : {D L : Type 0} → Ledger D L → HubState
+hub_of l = l.hub
+
+abbrev pub log_of : {D L : Type 0} → Ledger D L → L
+log_of l = l.log
+
+-- Where it holds that nothing was appended since the last sync, all that is appended stays.
+abbrev pub IsSettled : {D L : Type 0} → (L → Option (List ℕ)) → (L → Option (List ℕ)) → Ledger D L → Type 0
+IsSettled appended synced l = l.unsynced ≡ false → Keeps (appended l.log) (synced l.log)

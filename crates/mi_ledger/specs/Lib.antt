@@ -1,0 +1,5 @@
+-- To be read in this order.
+pub mod Belongs
+pub mod HeldReplies
+pub mod Journals
+pub mod Ledger

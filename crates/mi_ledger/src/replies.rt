@@ -1,0 +1,38 @@
+//! Replies that are not to go out yet.
+ghost use Rattle.std.specs.Prelude.{◌≡◌, ◌++◌, [], OnOk, OnErr};
+
+use std::alloc::{AllocError, Global};
+
+/// Replies to lines whose journal may not stay yet. A ledger hands their bytes out, once it does.
+#[derive(Drop)]
+pub struct HeldReplies {
+    bytes: Vec<u8>,
+}
+
+impl HeldReplies {
+    ghost use Rattle.mi_ledger.specs.HeldReplies.{bytes_of};
+
+    /// None yet.
+    pub fn new(alloc: Global) -> HeldReplies
+        ensures { bytes_of result ≡ [] }
+    {
+        HeldReplies {
+            bytes: Vec::new(alloc),
+        }
+    }
+
+    /// A reply more, with its newline. An error leaves them as they are.
+    pub(crate) fn add(&mut self, reply: &[u8]) -> Result<(), AllocError>
+        ensures ok { OnOk result (bytes_of self.new ≡ bytes_of self.old ++ reply.now) }
+        ensures err { OnErr result (bytes_of self.new ≡ bytes_of self.old) }
+    {
+        self.bytes.extend_from_slice(reply)
+    }
+
+    /// Their bytes.
+    pub(crate) fn into_bytes(self) -> Vec<u8>
+        ensures { result.items ≡ bytes_of self }
+    {
+        self.bytes
+    }
+}

@@ -1,0 +1,10 @@
+-- What a log over a device shows.
+use Rattle.std.specs.Prelude.{Bool}
+use Rattle.mi_log.specs.declared.device_log.DeviceLog.{DeviceLog}
+
+abbrev pub device_of : {D : Type 0} → DeviceLog D → D
+device_of l = l.device
+
+-- whether a call has failed
+abbrev pub is_broken : {D : Type 0} → DeviceLog D → Bool
+is_broken l = l.failed

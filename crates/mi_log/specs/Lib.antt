@@ -1,0 +1,6 @@
+-- To be read in this order.
+pub mod Kept
+pub mod DeviceLog
+pub mod MemoryDevice
+pub mod LineReader
+pub mod Header

@@ -1,0 +1,85 @@
+//! A log over a device, which it doesn't touch again once a write or a sync has failed.
+ghost use Rattle.std.specs.Prelude.{◌≡◌, false, OnOk, OnErr};
+ghost use Rattle.std.specs.Io.KnownBytes.{Appends, Keeps};
+ghost use Rattle.mi_log.specs.Kept.{AppendsFront};
+
+use crate::device::Device;
+use crate::log::{Log, LogFault};
+
+/// The log of what is appended to a device from here on.
+#[derive(Drop)]
+pub struct DeviceLog<D> {
+    device: D,
+    failed: bool,
+}
+
+impl<D> DeviceLog<D> {
+    ghost use Rattle.mi_log.specs.DeviceLog.{device_of, is_broken};
+
+    /// Nothing has failed yet.
+    pub fn new(device: D) -> DeviceLog<D>
+        ensures device { device_of result ≡ device }
+        ensures sound { is_broken result ≡ false }
+    {
+        DeviceLog {
+            device,
+            failed: false,
+        }
+    }
+
+    /// What it is written to.
+    pub fn device(&self) -> &D
+        ensures { result.now ≡ device_of self.now }
+    {
+        &self.device
+    }
+}
+
+/// Writes all the bytes, by write after write; or a front of them, and then fails.
+fn write_all<D: Device>(device: &mut D, bytes: &[u8]) -> Result<(), LogFault>
+    ensures ok { OnOk result (Appends (D.contents device.old) (D.contents device.new) bytes.now) }
+    ensures err { OnErr result (AppendsFront (D.contents device.old) (D.contents device.new) bytes.now) }
+    ensures stays { Keeps (D.stays device.old) (D.stays device.new) }
+{
+    let mut at = 0;
+    'bytes: while at < bytes.len() {
+        let (_, left) = bytes.split_at(at);
+        match device.write(left) {
+            Ok(n) if n > 0 => at += n,
+            _ => return Err(LogFault),
+        }
+    }
+    Ok(())
+}
+
+impl<D: Device> Log for DeviceLog<D> {
+    ghost use Rattle.mi_log.specs.DeviceLog.{device_of, is_broken};
+
+    ghost appended = { λ l. D.contents (device_of l) };
+
+    ghost synced = { λ l. D.stays (device_of l) };
+
+    ghost has_failed = { λ l. is_broken l };
+
+    fn append(&mut self, bytes: &[u8]) -> Result<(), LogFault> {
+        if self.failed {
+            return Err(LogFault);
+        }
+        let written = write_all(&mut self.device, bytes);
+        self.failed = written.is_err();
+        written
+    }
+
+    fn sync(&mut self) -> Result<(), LogFault> {
+        if self.failed {
+            return Err(LogFault);
+        }
+        match self.device.sync_data() {
+            Ok(()) => Ok(()),
+            Err(_error) => {
+                self.failed = true;
+                Err(LogFault)
+            }
+        }
+    }
+}

@@ -1,0 +1,17 @@
+//! What a journal is written to and read from: bytes that are appended and made to stay, a body over a file and one in memory, the
+//! header, and whole lines out of bytes. It knows nothing of commands.
+#![tactic(auto)]
+
+mod device;
+mod device_log;
+mod header;
+mod lines;
+mod log;
+mod memory;
+
+pub use device::{Device, OpenedFile};
+pub use device_log::DeviceLog;
+pub use header::{Heading, header_line, judge_heading};
+pub use lines::LineReader;
+pub use log::{Log, LogFault};
+pub use memory::MemoryDevice;

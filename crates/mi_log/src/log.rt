@@ -1,0 +1,41 @@
+//! What a journal is written to. A log is appended to and made to stay; it doesn't look at the bytes.
+
+/// A write or a sync has failed.
+#[derive(Clone, Copy, Debug, Drop)]
+pub struct LogFault;
+
+/// Bytes that are appended one behind another, and made to stay.
+///
+/// What has failed isn't used again: once a call has failed, each further one answers an error and changes nothing. So nothing is appended
+/// behind a gap, and no sync is believed behind one that failed.
+pub trait Log {
+    ghost use Rattle.std.specs.Prelude.{◌≡◌, ◌<◌, ℕ, List, Option, Bool, true, not, is_ok, length, OnOk, OnErr, IsErr};
+    ghost use Rattle.std.specs.Io.KnownBytes.{Appends, Keeps};
+    ghost use Rattle.mi_log.specs.Kept.{AppendsFront};
+
+    /// All bytes that are appended, where the log tells.
+    ghost appended: { Self → Option (List ℕ) };
+
+    /// Those that stay, whatever becomes of the process or the machine, where the log tells: what was appended when a sync last answered `Ok`.
+    ghost synced: { Self → Option (List ℕ) };
+
+    /// Whether a call has failed.
+    ghost has_failed: { Self → Bool };
+
+    /// Appends some bytes. After an error a front of them stands there, and not all.
+    fn append(&mut self, bytes: &[u8]) -> Result<(), LogFault>
+        requires { 0 < length bytes.now }
+        ensures ok { OnOk result (Appends (appended self.old) (appended self.new) bytes.now) }
+        ensures err { OnErr result (AppendsFront (appended self.old) (appended self.new) bytes.now) }
+        ensures synced { Keeps (synced self.old) (synced self.new) }
+        ensures failed { has_failed self.new ≡ not (is_ok result) }
+        ensures over { has_failed self.old ≡ true → IsErr result × (self.new ≡ self.old) };
+
+    /// Makes all that was appended stay.
+    fn sync(&mut self) -> Result<(), LogFault>
+        ensures ok { OnOk result (Keeps (appended self.new) (synced self.new)) }
+        ensures err { OnErr result (Keeps (synced self.old) (synced self.new)) }
+        ensures appended { Keeps (appended self.old) (appended self.new) }
+        ensures failed { has_failed self.new ≡ not (is_ok result) }
+        ensures over { has_failed self.old ≡ true → IsErr result × (self.new ≡ self.old) };
+}

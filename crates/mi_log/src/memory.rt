@@ -1,0 +1,84 @@
+//! A device in memory, for tests: a call of it fails, and all behind that.
+ghost use Rattle.std.specs.Prelude.{◌≡◌, [], Some, OnErr, IsErr};
+
+use crate::device::Device;
+use std::alloc::Global;
+use std::io;
+use std::io::{Error, ErrorKind};
+
+/// What was written, and how much of it stays.
+#[derive(Drop)]
+pub struct MemoryDevice {
+    bytes: Vec<u8>,
+    staying: usize,
+    calls: u64,
+    most: usize,
+}
+
+impl MemoryDevice {
+    ghost use Rattle.mi_log.specs.MemoryDevice.{written, kept, sound_calls};
+
+    /// An empty device. Its first `calls` calls, writes and syncs, don't fail, but for memory; each later one does. A write takes at
+    /// most `most` bytes.
+    pub fn new(alloc: Global, calls: u64, most: usize) -> MemoryDevice
+        ensures written { written result ≡ [] }
+        ensures kept { kept result ≡ [] }
+        ensures calls { sound_calls result ≡ calls }
+    {
+        MemoryDevice {
+            bytes: Vec::new(alloc),
+            staying: 0,
+            calls,
+            most,
+        }
+    }
+
+    /// All that was written.
+    pub fn bytes(&self) -> &[u8]
+        ensures { result.now ≡ written self.now }
+    {
+        self.bytes.as_slice()
+    }
+
+    /// What of it stays.
+    pub fn kept(&self) -> &[u8]
+        ensures { result.now ≡ kept self.now }
+    {
+        let bytes = self.bytes.as_slice();
+        let (kept, _) = bytes.split_at(bytes.len().min(self.staying));
+        kept
+    }
+}
+
+impl Device for MemoryDevice {
+    ghost use Rattle.std.specs.Prelude.{◌≡◌, Some, IsErr, OnOk, OnErr};
+    ghost use Rattle.std.specs.Io.{WritesAtMost};
+    ghost use Rattle.std.specs.Io.KnownBytes.{WriteAppends, Keeps};
+    ghost use Rattle.mi_log.specs.MemoryDevice.{written, kept, sound_calls};
+
+    ghost contents = { λ d. Some (written d) };
+
+    ghost stays = { λ d. Some (kept d) };
+
+    fn write(&mut self, bytes: &[u8]) -> io::Result<usize> {
+        if self.calls == 0 {
+            return Err(Error::from(ErrorKind::Other));
+        }
+        self.calls -= 1;
+        let (front, _) = bytes.split_at(bytes.len().min(self.most));
+        self.staying = self.staying.min(self.bytes.len());
+        match self.bytes.extend_from_slice(front) {
+            Ok(()) => Ok(front.len()),
+            Err(_error) => Err(Error::from(ErrorKind::OutOfMemory)),
+        }
+    }
+
+    fn sync_data(&mut self) -> io::Result<()> {
+        if self.calls == 0 {
+            return Err(Error::from(ErrorKind::Other));
+        }
+        self.calls -= 1;
+        self.staying = self.bytes.len();
+        Ok(())
+    }
+}

@@ -1,0 +1,338 @@
+#!/usr/bin/env python3
+"""Reads journals: files of the lines that changed a database, in the order in which they were executed.
+
+    journal.py check FILE [--replay PROGRAM [--schema FILE]]    whether each line is whole and a command; with --replay, whether it is done
+    journal.py stat FILE                                        lines by command, sessions, sizes
+    journal.py compact FILE [--to NEW]                          a shorter journal of the same database, in a new file that is then renamed
+
+A journal's first line is its header, {"journal":1,"revision":R,"schema":"HASH"}: the format, the first revision and the hash of the
+schema. It is no command, so `mi_server < FILE` refuses it and then does the other lines, as one connection. Of each holder that went
+away there is an undo for each session that it held. What stands behind the last newline is torn, and no line.
+
+compact drops whole blocks that were undone, from the start to the undo: an undo restores everything, counters too. It follows squash,
+commit, undo_all and push. A commit inside such a block has ended sessions below it, so it stays; a push stays where the sessions below
+were held. So the database is the same, the open sessions are, and as many of them are held. The file must not be in use meanwhile: it is
+locked, and a file that another program has locked is refused.
+
+Statuses: 0; 2 where the words are wrong; 3 where the journal is damaged, with the number of the first such line, from 1; 4 where a
+file can't be read or written, or is in use. A torn end is said, and is no damage."""
+import argparse
+import collections
+import fcntl
+import os
+import subprocess
+import sys
+import tempfile
+import threading
+import time
+
+from reference import CHANGES, LONGEST_LINE, MOST_SESSIONS, Refusal, form, is_count, is_text, read
+
+FORMAT = 1
+SESSIONS = ("start", "undo", "squash", "commit", "undo_all", "push")
+
+
+class Damaged(Exception):
+    """A line that no journal has: its number, from 1, and why."""
+
+    def __init__(self, number, why):
+        super().__init__(f"line {number}: {why}")
+        self.number = number
+
+
+class Progress:
+    """Says on standard error how far a file has been read, once a second, where that takes longer."""
+
+    def __init__(self, what, size):
+        self.what, self.size, self.next = what, size, time.monotonic() + 1
+
+    def at(self, done):
+        if time.monotonic() >= self.next:
+            self.next = time.monotonic() + 1
+            share = 100 * done // max(self.size, 1)
+            print(f"{self.what}: {done / 1e6:.0f} of {self.size / 1e6:.0f} MB, {share} %", file=sys.stderr, flush=True)
+
+
+Line = collections.namedtuple("Line", "number start end name members")
+
+
+def header(text):
+    """The revision and the schema's hash that a first line says."""
+    try:
+        found = read(text)
+    except Refusal:
+        raise Damaged(1, "no header, which is JSON") from None
+    if not isinstance(found, dict) or "journal" not in found:
+        raise Damaged(1, "no header")
+    if found["journal"] != FORMAT:
+        raise Damaged(1, f"a journal of format {found['journal']}, and {FORMAT} is known")
+    if set(found) != {"journal", "revision", "schema"} or not is_count(found["revision"]) or not is_text(found["schema"]):
+        raise Damaged(1, "a header has the members journal, revision and schema")
+    return found["revision"], found["schema"]
+
+
+def command(number, text):
+    """The command of a line behind the header, and its members."""
+    bare = text[:-1] if text.endswith(b"\r") else text
+    if len(text) > LONGEST_LINE:
+        raise Damaged(number, f"{len(text)} bytes, and {LONGEST_LINE} are the most")
+    try:
+        return form(read(bare))
+    except Refusal as refusal:
+        raise Damaged(number, "no JSON" if refusal.reply["error"] == "json" else "no command") from None
+
+
+class Journal:
+    """A journal that is read once, by `lines`. Behind that, `torn` is how many bytes stand behind the last newline."""
+
+    def __init__(self, file, what="reading"):
+        self.file, self.size, self.torn = file, os.fstat(file.fileno()).st_size, 0
+        self.progress = Progress(what, self.size)
+        self.first = file.readline()
+        if not self.first.endswith(b"\n"):
+            raise Damaged(1, "no whole header")
+        self.revision, self.schema = header(self.first[:-1])
+
+    def lines(self):
+        at = len(self.first)
+        for number, text in enumerate(self.file, 2):
+            if not text.endswith(b"\n"):
+                self.torn = len(text)
+                return
+            yield Line(number, at, at + len(text), *command(number, text[:-1]))
+            at += len(text)
+            if number % 256 == 0:
+                self.progress.at(at)
+
+
+class Open:
+    """An open session: where its block begins, and how many sessions were held below it then."""
+
+    def __init__(self, start, held):
+        self.start, self.held = start, held
+
+
+class Blocks:
+    """The open sessions of a journal that one connection asks, and which bytes of it a shorter one doesn't need."""
+
+    def __init__(self, revision):
+        self.revision, self.open, self.held, self.most = revision, [], 0, 0
+        self.dropped, self.commits, self.pushes = [], [], []
+        self.ended = collections.Counter()
+
+    def take(self, line):
+        """The next line. One that names no session step, or is refused, changes nothing here."""
+        if line.name == "start":
+            self.begin(line)
+        elif line.name == "commit":
+            self.commit(line, line.members["revision"])
+        elif line.name == "push" and self.held:
+            self.pushes.append((line.start, line.end))
+            self.held = 0
+        elif line.name == "squash" and self.open:
+            self.close(1, "squashed")
+        elif line.name == "undo" and self.open:
+            self.undo(line, 1)
+        elif line.name == "undo_all" and self.open:
+            self.undo(line, len(self.open))
+
+    def begin(self, line):
+        if len(self.open) < MOST_SESSIONS:
+            self.open.append(Open(line.start, self.held))
+            self.held += 1
+            self.revision += 1
+            self.most = max(self.most, len(self.open))
+
+    def close(self, count, how):
+        """The newest sessions end."""
+        del self.open[len(self.open) - count:]
+        self.held = max(0, self.held - count)
+        self.revision -= count
+        self.ended[how] += count
+
+    def commit(self, line, revision):
+        first = self.revision - len(self.open) + 1
+        ended = max(0, min(len(self.open), revision - first + 1))
+        if ended:
+            del self.open[:ended]
+            self.commits.append((line.start, line.end))
+            self.held = min(self.held, len(self.open))
+            self.ended["committed"] += ended
+
+    def undo(self, line, count):
+        """The newest sessions are undone: their lines aren't needed, but for those that say something of what is below them."""
+        lowest = self.open[-count]
+        inside = [it for it in self.commits if it[0] > lowest.start]
+        pushed = [it for it in self.pushes if it[0] > lowest.start]
+        if pushed and lowest.held:
+            inside.append(pushed[0])
+        self.close(count, "undone")
+        while self.dropped and self.dropped[-1][0] >= lowest.start:
+            self.dropped.pop()
+        at = lowest.start
+        for start, end in sorted(inside):
+            if at < start:
+                self.dropped.append((at, start))
+            at = end
+        self.dropped.append((at, line.end))
+
+
+def blocks_of(journal):
+    """Which lines there are, by command, and the sessions."""
+    blocks, counts = Blocks(journal.revision), collections.Counter()
+    for line in journal.lines():
+        counts[line.name] += 1
+        blocks.take(line)
+    return blocks, counts
+
+
+def torn_note(journal):
+    return f"; the last {journal.torn} bytes are torn, and no line" if journal.torn else ""
+
+
+def check(path, replay, schema):
+    with open(path, "rb") as file:
+        journal = Journal(file, "checking")
+        count = sum(1 for _ in journal.lines())
+    print(f"{path}: {count} lines, schema {journal.schema}, ok{torn_note(journal)}")
+    if replay:
+        replay_check(path, replay, schema)
+
+
+def is_done(reply):
+    """Whether a line was done: it was accepted, or lost the record that it was to modify, which is a change too."""
+    return reply.endswith(b'"ok":true}\n') or b'"ok":true,' in reply[:-1] or b'"lost":true' in reply
+
+
+def whole_lines(path, pipe):
+    """The lines of the file but a torn one go into a pipe."""
+    with pipe, open(path, "rb") as file:
+        try:
+            for text in file:
+                if text.endswith(b"\n"):
+                    pipe.write(text)
+        except BrokenPipeError:
+            pass
+
+
+def replay_check(path, program, schema):
+    """Asks a program the journal, and finds the first line that it refuses."""
+    words = [program, *(["--schema", schema] if schema else [])]
+    progress, done = Progress("replaying", os.path.getsize(path)), 0
+    with open(path, "rb") as file, subprocess.Popen(words, stdin=subprocess.PIPE, stdout=subprocess.PIPE) as ran:
+        threading.Thread(target=whole_lines, args=(path, ran.stdin), daemon=True).start()
+        for number, reply in enumerate(ran.stdout, 1):
+            done += len(file.readline())
+            if number > 1 and not is_done(reply):
+                ran.kill()
+                raise Damaged(number, f"refused: {reply.decode(errors='replace').strip()}")
+            progress.at(done)
+        if ran.wait():
+            raise OSError(f"{program} has ended with status {ran.returncode}")
+    print(f"{path}: replayed, and no line is refused")
+
+
+def stat(path):
+    with open(path, "rb") as file:
+        journal = Journal(file)
+        blocks, counts = blocks_of(journal)
+    lines, size = sum(counts.values()), journal.size - len(journal.first) - journal.torn
+    needless = sum(end - start for start, end in blocks.dropped)
+    print(f"{path}: {lines} lines of {size} bytes, {size / max(lines, 1):.1f} each{torn_note(journal)}")
+    for name, count in counts.most_common():
+        print(f"  {count:>10} {name}" + ("" if name in CHANGES or name in SESSIONS else ", which changes nothing"))
+    print(f"  sessions: {counts['start']} started, " + ", ".join(f"{blocks.ended[it]} {it}" for it in ("undone", "squashed", "committed")))
+    print(f"  open at the end: {len(blocks.open)}, of them held {blocks.held}; at most {blocks.most} at once")
+    print(f"  {needless} bytes are of blocks that were undone, {100 * needless // max(size, 1)} %")
+
+
+def copy_between(source, target, start, end, progress):
+    """Copies these bytes."""
+    source.seek(start)
+    while start < end:
+        piece = source.read(min(1 << 20, end - start))
+        if not piece:
+            raise OSError("the file has become shorter")
+        target.write(piece)
+        start += len(piece)
+        progress.at(start)
+
+
+def write_without(source, target, dropped, end):
+    """Copies the bytes up to an end, but for those that are dropped, and makes them stay."""
+    progress, at = Progress("writing", end), 0
+    for start, stop in dropped:
+        copy_between(source, target, at, start, progress)
+        at = stop
+    copy_between(source, target, at, end, progress)
+    target.flush()
+    os.fsync(target.fileno())
+
+
+def sync_folder(folder):
+    """Makes a rename in a folder stay."""
+    handle = os.open(folder, os.O_RDONLY | os.O_DIRECTORY)
+    try:
+        os.fsync(handle)
+    finally:
+        os.close(handle)
+
+
+def compact(path, new):
+    """The new file has the old one's mode; it takes the old one's place, or the name that is asked for, once it is whole."""
+    new = new or path
+    folder = os.path.dirname(os.path.abspath(new))
+    with open(path, "rb") as file:
+        fcntl.flock(file, fcntl.LOCK_EX | fcntl.LOCK_NB)
+        journal = Journal(file)
+        blocks, _ = blocks_of(journal)
+        end = journal.size - journal.torn
+        with tempfile.NamedTemporaryFile(dir=folder, prefix=os.path.basename(new) + ".", delete=False) as target:
+            try:
+                os.fchmod(target.fileno(), os.fstat(file.fileno()).st_mode & 0o7777)
+                write_without(file, target, blocks.dropped, end)
+                os.rename(target.name, new)
+            except BaseException:
+                os.unlink(target.name)
+                raise
+        sync_folder(folder)
+    print(f"{new}: {os.path.getsize(new)} bytes, of {journal.size}{torn_note(journal)}")
+
+
+def words():
+    parser = argparse.ArgumentParser(prog="journal.py", description=__doc__, formatter_class=argparse.RawDescriptionHelpFormatter)
+    steps = parser.add_subparsers(dest="step", required=True)
+    checking = steps.add_parser("check", help="whether each line is whole and a command")
+    checking.add_argument("file")
+    checking.add_argument("--replay", metavar="PROGRAM", help="asks this mi_server the lines, each of which is to be done")
+    checking.add_argument("--schema", metavar="FILE", help="the schema that it is asked with")
+    steps.add_parser("stat", help="lines by command, sessions, sizes").add_argument("file")
+    compacting = steps.add_parser("compact", help="a shorter journal of the same database")
+    compacting.add_argument("file")
+    compacting.add_argument("--to", metavar="NEW", help="its name, where the old one is to stay")
+    return parser
+
+
+def main(given):
+    args = words().parse_args(given)
+    try:
+        if args.step == "check":
+            check(args.file, args.replay, args.schema)
+        elif args.step == "stat":
+            stat(args.file)
+        else:
+            compact(args.file, args.to)
+    except Damaged as damaged:
+        print(f"{args.file}: {damaged}", file=sys.stderr)
+        return 3
+    except BlockingIOError:
+        print(f"{args.file}: in use by another program", file=sys.stderr)
+        return 4
+    except OSError as error:
+        print(f"{args.file}: {error}", file=sys.stderr)
+        return 4
+    return 0
+
+
+if __name__ == "__main__":
+    sys.exit(main(sys.argv[1:]))

@@ -1,0 +1,300 @@
+"""Journals: of random runs of the reference, whose lines are taken by what they changed; that the program, asked one, has the run's tables,
+and a shorter one the same; and which lines are damaged."""
+import contextlib
+import copy
+import fcntl
+import io
+import json
+import os
+import random
+import sys
+import tempfile
+import unittest
+import unittest.mock
+
+TOP = os.path.dirname(os.path.dirname(os.path.dirname(os.path.realpath(__file__))))
+sys.path.insert(0, f"{TOP}/scripts")
+
+import fuzz  # noqa: E402
+import journal  # noqa: E402
+import program  # noqa: E402
+from reference import Reference  # noqa: E402
+
+HASH = "a" * 64
+UNDO = b'{"cmd":"undo"}'
+
+
+def first_line(revision=0, schema=HASH):
+    return json.dumps({"journal": 1, "revision": revision, "schema": schema}, separators=(",", ":")).encode() + b"\n"
+
+
+def line(cmd, **members):
+    return json.dumps({"cmd": cmd, **members}, separators=(",", ":")).encode()
+
+
+def insert(owner):
+    return line("insert", row={"owner": owner, "balance": 1, "vip": False})
+
+
+START, SQUASH, UNDO_ALL, PUSH = (line(it) for it in ("start", "squash", "undo_all", "push"))
+
+
+def commit(revision):
+    return line("commit", revision=revision)
+
+
+def tables(reference):
+    return [(it.rows, it.lists, it.next, it.arrivals) for it in reference.tables]
+
+
+def state(reference):
+    """All that a database has: what an undo would restore too, and how many sessions are held."""
+    old = [[(it.rows, it.lists, it.next, it.arrivals) for it in them] for them in reference.old]
+    return tables(reference), old, reference.revision, reference.held
+
+
+def random_run(seed, length=120):
+    """A reference after a run of several connections, and the lines of its journal: each that changed anything, and an undo for each
+    session of a holder that went away."""
+    lines = fuzz.Lines(seed, share=0.02)
+    catalog, pick = lines.catalog(), random.Random(seed)
+    reference, kept = Reference(*catalog), []
+    for _ in range(length):
+        connection = pick.randint(1, 3)
+        if pick.random() < 0.04:
+            kept += [UNDO] * (reference.held if reference.holder == connection else 0)
+            reference.close(connection)
+            continue
+        text = pick.choice([START, START, UNDO, PUSH, UNDO_ALL]) if pick.random() < 0.1 else lines.line(catalog[0])
+        before = copy.deepcopy((state(reference), reference.holder))
+        reference.feed(connection, text + b"\n")
+        if (state(reference), reference.holder) != before:
+            kept.append(text)
+    return catalog, reference, kept
+
+
+def asked(catalog, lines):
+    """What one connection leaves that asks these lines."""
+    reference = Reference(*catalog)
+    for it in lines:
+        reference.feed(1, it + b"\n")
+    return reference
+
+
+def dump_lines(catalog):
+    """The lines that show each table: its rows, and each index in its order."""
+    found = []
+    for schema in catalog[0]:
+        for index in schema.indexes:
+            shows = {"sequenced": "list", "hashed": None}.get(index.kind, "range")
+            found += [line(shows, table=schema.name, index=index.name)] if shows else []
+    return [*found, line("revision")]
+
+
+class Files(unittest.TestCase):
+    def setUp(self):
+        folder = tempfile.TemporaryDirectory()
+        self.addCleanup(folder.cleanup)
+        self.folder, self.path = folder.name, f"{folder.name}/j"
+
+    def write(self, lines, revision=0, torn=b""):
+        with open(self.path, "wb") as file:
+            file.write(first_line(revision) + b"".join(it + b"\n" for it in lines) + torn)
+
+    def text(self, path=None):
+        with open(path or self.path, "rb") as file:
+            return file.read()
+
+    def ran(self, *words):
+        """The status, and what is said."""
+        out, err = io.StringIO(), io.StringIO()
+        with contextlib.redirect_stdout(out), contextlib.redirect_stderr(err):
+            status = journal.main([*words])
+        return status, out.getvalue() + err.getvalue()
+
+    def compacted(self, lines, revision=0):
+        self.write(lines, revision)
+        status, said = self.ran("compact", self.path)
+        self.assertEqual(status, 0, said)
+        first, *rest = self.text().split(b"\n")
+        self.assertEqual(first + b"\n", first_line(revision))
+        return rest[:-1]
+
+
+class Compact(Files):
+    def test_blocks_that_are_undone_go(self):
+        a, b, c = map(insert, "abc")
+        for lines, want in [
+            ([], []),
+            ([a, START, b, UNDO, c], [a, c]),
+            ([START, a, START, b, UNDO, c], [START, a, c]),
+            ([START, a, START, b, SQUASH, UNDO, c], [c]),
+            ([START, a, SQUASH, b], [START, a, SQUASH, b]),
+            ([START, a, START, b, UNDO_ALL, c], [c]),
+            # (the commit ends the first session for good; only the second is undone)
+            ([START, a, START, b, commit(1), UNDO, c], [START, a, commit(1), c]),
+            ([START, a, commit(1), START, b, UNDO], [START, a, commit(1)]),
+            # (the push lets go of the first session too)
+            ([START, a, START, PUSH, b, UNDO, c], [START, a, PUSH, c]),
+            ([START, PUSH, b, UNDO, c], [c]),
+            ([START, PUSH, START, b, UNDO], [START, PUSH]),
+            # (the session that was let go of is undone by whoever comes; then none is held)
+            ([START, PUSH, UNDO, START, START, PUSH, b, UNDO, c], [START, PUSH, c]),
+            # (the last start is refused)
+            ([START] * 1025 + [UNDO], [START] * 1023),
+            ([a, START, b], [a, START, b]),
+        ]:
+            self.assertEqual(self.compacted(lines), want, lines)
+
+    def test_the_database_is_the_same(self):
+        shorter = 0
+        for seed in range(60):
+            catalog, run, kept = random_run(seed)
+            again = asked(catalog, kept)
+            self.assertEqual(state(again), state(run), seed)
+            with unittest.mock.patch("os.fsync"):
+                new = self.compacted(kept, catalog[1])
+                self.assertEqual(self.compacted(new, catalog[1]), new, seed)
+            self.assertEqual(state(asked(catalog, new)), state(again), seed)
+            shorter += len(new) < len(kept)
+        self.assertGreater(shorter, 30)
+
+    def test_it_is_a_new_file(self):
+        self.write([START, UNDO], torn=b'{"cmd')
+        os.chmod(self.path, 0o640)
+        old = os.stat(self.path).st_ino
+        new = f"{self.folder}/new"
+        self.assertEqual(self.ran("compact", self.path, "--to", new)[0], 0)
+        self.assertEqual((self.text(new), self.text()), (first_line(), first_line() + START + b"\n" + UNDO + b'\n{"cmd'))
+        status, said = self.ran("compact", self.path)
+        self.assertIn("the last 5 bytes are torn", said)
+        self.assertEqual((status, self.text()), (0, first_line()))
+        self.assertEqual(os.stat(self.path).st_mode & 0o777, 0o640)
+        self.assertNotEqual(os.stat(self.path).st_ino, old)
+        self.assertEqual(sorted(os.listdir(self.folder)), ["j", "new"])
+
+    def test_one_that_is_in_use_stays(self):
+        self.write([START, UNDO])
+        with open(self.path, "rb") as file:
+            fcntl.flock(file, fcntl.LOCK_EX)
+            self.assertEqual(self.ran("compact", self.path), (4, f"{self.path}: in use by another program\n"))
+        self.assertEqual(self.text(), first_line() + START + b"\n" + UNDO + b"\n")
+
+    def test_a_damaged_one_stays(self):
+        self.write([START, b"{", UNDO])
+        self.assertEqual(self.ran("compact", self.path), (3, f"{self.path}: line 3: no JSON\n"))
+        self.assertEqual(os.listdir(self.folder), ["j"])
+        self.assertEqual(self.text(), first_line() + START + b"\n{\n" + UNDO + b"\n")
+
+
+class Check(Files):
+    def test_a_sound_one(self):
+        self.write([START, insert("a"), UNDO])
+        self.assertEqual(self.ran("check", self.path), (0, f"{self.path}: 3 lines, schema {HASH}, ok\n"))
+
+    def test_torn_at_each_byte(self):
+        last = insert("b")
+        for length in range(len(last) + 1):
+            self.write([START], torn=last[:length])
+            status, said = self.ran("check", self.path)
+            torn = f"; the last {length} bytes are torn, and no line" if length else ""
+            self.assertEqual((status, said), (0, f"{self.path}: 1 lines, schema {HASH}, ok{torn}\n"))
+
+    def test_damaged_lines(self):
+        for bad, why in [
+            (b"", "no JSON"),
+            (b"\x00" * 40, "no JSON"),
+            (b'{"cmd":"undo"', "no JSON"),
+            (b'{"cmd":"fly"}', "no command"),
+            (b'{"cmd":"undo","id":1}', "no command"),
+            (b" " * 65_537, "65537 bytes, and 65536 are the most"),
+        ]:
+            self.write([START, bad, UNDO])
+            self.assertEqual(self.ran("check", self.path), (3, f"{self.path}: line 3: {why}\n"))
+
+    def test_a_carriage_return_is_no_damage(self):
+        self.write([START + b"\r", UNDO])
+        self.assertEqual(self.ran("check", self.path)[0], 0)
+
+    def test_headers(self):
+        for text, why in [
+            (b"", "no whole header"),
+            (first_line()[:-1], "no whole header"),
+            (START + b"\n", "no header"),
+            (b"\n", "no header, which is JSON"),
+            (b'{"journal":2,"revision":0,"schema":""}\n', "a journal of format 2, and 1 is known"),
+            (b'{"journal":1,"revision":0}\n', "a header has the members journal, revision and schema"),
+            (b'{"journal":1,"revision":-1,"schema":""}\n', "a header has the members journal, revision and schema"),
+        ]:
+            with open(self.path, "wb") as file:
+                file.write(text)
+            self.assertEqual(self.ran("check", self.path), (3, f"{self.path}: line 1: {why}\n"))
+
+    def test_no_file(self):
+        self.assertEqual(self.ran("stat", f"{self.folder}/none")[0], 4)
+
+    def test_progress(self):
+        said = io.StringIO()
+        with contextlib.redirect_stderr(said):
+            progress = journal.Progress("reading", 8_000_000)
+            progress.at(1_000_000)
+            progress.next = 0
+            progress.at(2_000_000)
+            progress.at(3_000_000)
+        self.assertEqual(said.getvalue(), "reading: 2 of 8 MB, 25 %\n")
+
+
+class Stat(Files):
+    def test_counts(self):
+        self.write([START, START, insert("a"), SQUASH, UNDO, insert("b"), START, START, commit(1), line("size")], torn=b"{")
+        status, said = self.ran("stat", self.path)
+        sizes = [len(it) + 1 for it in (START, START, insert("a"), SQUASH, UNDO, insert("b"), START, START, commit(1), line("size"))]
+        self.assertEqual(status, 0)
+        self.assertEqual(said.splitlines(), [
+            f"{self.path}: 10 lines of {sum(sizes)} bytes, {sum(sizes) / 10:.1f} each; the last 1 bytes are torn, and no line",
+            "           4 start",
+            "           2 insert",
+            "           1 squash",
+            "           1 undo",
+            "           1 commit",
+            "           1 size, which changes nothing",
+            "  sessions: 4 started, 1 undone, 1 squashed, 1 committed",
+            "  open at the end: 1, of them held 1; at most 2 at once",
+            f"  {sum(sizes[:5])} bytes are of blocks that were undone, {100 * sum(sizes[:5]) // sum(sizes)} %",
+        ])
+
+
+class OverTheProgram(Files):
+    """The program asked a journal as its standard input."""
+
+    def answers(self, catalog, path, lines):
+        """The replies to these lines behind a journal."""
+        with fuzz.start(program.program(), self.folder, catalog) as ran:
+            out, err = ran.communicate(self.text(path) + b"".join(it + b"\n" for it in lines), timeout=60)
+        self.assertEqual((ran.returncode, err), (0, b""))
+        return out.splitlines()[-len(lines):]
+
+    def test_a_journal_gives_the_tables(self):
+        for seed in range(1000, 1020):
+            catalog, run, kept = random_run(seed, 300)
+            show, short = dump_lines(catalog), f"{self.folder}/short"
+            self.write(kept, catalog[1])
+            self.assertEqual(self.ran("compact", self.path, "--to", short)[0], 0)
+            # (by the connection that holds the run's sessions, so that all replies are the same)
+            want = run.feed(run.holder or 1, b"".join(it + b"\n" for it in show)).splitlines()
+            for path in (self.path, short):
+                self.assertEqual(self.answers(catalog, path, show), want, (seed, path))
+
+    def test_a_refused_line_is_named(self):
+        words = ("check", self.path, "--replay", program.program())
+        self.write([START, insert("a"), UNDO, insert("a"), insert("a")])
+        status, said = self.ran(*words)
+        self.assertEqual(status, 3)
+        self.assertIn('line 6: refused: {"error":"unique"', said)
+        lost = [insert("a"), insert("b"), line("modify", id=1, set={"owner": "a"}), line("size")]
+        self.write(lost)
+        self.assertEqual(self.ran(*words)[0], 0)
+
+
+if __name__ == "__main__":
+    unittest.main()
