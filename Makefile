@@ -17,13 +17,15 @@ SHARE = $(ROOT)/share/weltiyo
 
 comma := ,
 
-.PHONY: help try run build test check-docs bench fuzz faults sanitize soak install dist clean
+.PHONY: help try run build lib test check-docs bench fuzz faults sanitize soak install dist clean
 
 help:
 	@echo 'make try         compiles without proving (about a minute the first time) and serves, at a terminal by a prompt'
 	@echo 'make run         proves, builds and serves; a program that is up to date starts at once, without `rt`'
 	@echo '                 (ARGS="--schema FILE" and the like are the options of the program for both)'
 	@echo 'make build       the same, without serving'
+	@echo 'make lib         proves and builds the library for programs that keep their tables in their own process, into out/library'
+	@echo '                 (docs/EMBEDDING.md; needs a C compiler); one that is up to date is left as it is'
 	@echo 'make test        the gate: the proofs, the must-fail edits, the tests, the program by two compilers'
 	@echo 'make check-docs  runs what README, guide and examples print, and the tests of the Python client and of the scripts'
 	@echo 'make fuzz        random lines to the program and to a reference in Python: SEED=$(SEED) LINES=$(LINES), of which DAMAGED=$(DAMAGED) are damaged'
@@ -47,6 +49,9 @@ run:
 
 build:
 	@$(PYTHON) scripts/program.py build
+
+lib:
+	@$(PYTHON) scripts/library.py build
 
 test:
 	@command -v $(RT) > /dev/null || $(PYTHON) scripts/program.py needs
@@ -90,6 +95,13 @@ install:
 	@install -m 644 $(filter-out %/tests,$(wildcard clients/python/*.*)) '$(SHARE)/clients/python/'
 	@install -m 644 $(wildcard clients/python/mi_client/*.*) '$(SHARE)/clients/python/mi_client/'
 	@install -m 644 $(wildcard clients/node/*.*) '$(SHARE)/clients/node/'
+	@install -d '$(SHARE)/clients/c' '$(SHARE)/clients/cpp' '$(SHARE)/clients/rust/src' '$(SHARE)/clients/rust/examples'
+	@install -m 644 clients/c/unwind.c '$(SHARE)/clients/c/'
+	@install -m 644 clients/cpp/accounts.cpp '$(SHARE)/clients/cpp/'
+	@install -m 644 clients/rust/Cargo.toml clients/rust/build.rs '$(SHARE)/clients/rust/'
+	@install -m 644 clients/rust/src/* '$(SHARE)/clients/rust/src/'
+	@install -m 644 clients/rust/examples/* '$(SHARE)/clients/rust/examples/'
+	@$(PYTHON) scripts/library.py install '$(ROOT)' '$(PREFIX)'
 	@echo "installed below $(ROOT): bin/mi_server$(if $(PROGRAM), ($(PROGRAM)$(comma) as it is)), bin/weltiyo, bin/weltiyo-lint, share"
 
 dist:
