@@ -8,7 +8,7 @@ use std::alloc::{AllocError, Global};
 use std::test::Fail;
 
 /// Lines of each command, with members and texts of each kind.
-const LINES: [&str; 20] = [
+const LINES: [&str; 28] = [
     "{\"cmd\":\"undo\"}",
     "{\"cmd\":\"size\",\"table\":\"accounts\"}",
     "{\"cmd\":\"get\",\"id\":7}",
@@ -29,10 +29,18 @@ const LINES: [&str; 20] = [
     "{\"cmd\":\"squash\"}",
     "{\"cmd\":\"erase\",\"id\":90}",
     "{\"cmd\":\"size\"}",
+    "{\"cmd\": \"rank\", \"index\": \"id\", \"id\": 2}",
+    "{\"id\":1,\"index\":\"by_balance\",\"cmd\":\"rank\",\"id\":2}",
+    "{\"row\": {\"vip\": false, \"owner\": \"\u{e9}\", \"balance\": 9223372036854775807}, \"cmd\": \"insert\"}",
+    "{\"cmd\":\"relocate\",\"index\":\"line\",\"id\":18446744073709551615,\"before\":9223372036854775808}",
+    "{\"cmd\":\"nth\",\"index\":\"id\",\"n\":-9223372036854775808,\"n\":100000000000000000000}",
+    "{\"cmd\":\"get\",\"id\":01}",
+    "{\"cmd\":\"get\",\"id\":1e2,\"table\":null}",
+    "{\"cmd\" :\"erase\" ,\"id\" :3}\t",
 ];
 
 /// What is put into a line.
-const PIECES: [&str; 20] = [
+const PIECES: [&str; 22] = [
     "",
     " ",
     "\"",
@@ -53,6 +61,8 @@ const PIECES: [&str; 20] = [
     "\"id\":1,",
     "\"cmd\":\"get\",",
     "\u{e9}",
+    ", ",
+    ": ",
 ];
 
 fn without_first(bytes: &[u8], n: usize) -> &[u8] {
@@ -75,11 +85,11 @@ fn with_piece(
 }
 
 fn random_line(alloc: Global, random: &mut Random) -> Result<Vec<u8>, AllocError> {
-    let mut line = LINES[random.below(20) as usize].as_bytes().to_vec(alloc)?;
+    let mut line = LINES[random.below(28) as usize].as_bytes().to_vec(alloc)?;
     for _ in 0..random.below(4) {
         let at = random.below(96) as usize;
         let left_out = random.below(3) as usize;
-        let piece = PIECES[random.below(20) as usize].as_bytes();
+        let piece = PIECES[random.below(22) as usize].as_bytes();
         line = with_piece(alloc, line.as_slice(), at, left_out, piece)?;
     }
     Ok(line)
