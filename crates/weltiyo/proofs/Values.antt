@@ -1,39 +1,37 @@
--- The machine values of a `Loose` and of a `OnceBox`. Assumes `Logic`.
-use Rattle.std.proofs.Common.{◌≡◌, ℕ, List, [], ◌∷◌, ◌++◌, refl, subst}
-use mathlib.Core.Bool.{Bool, true, false, ◌&&◌}
+-- The machine values of a `Loose` and of an `Opened`. Assumes `Logic`.
+use Rattle.std.proofs.Common.{◌≡◌, ℕ, zero, suc, ◌<◌, ◌^◌, List, [], ◌∷◌, ◌++◌, refl, subst, w32, arith}
+use mathlib.Core.Bool.{true, ◌&&◌}
 use lib.Dec.{T}
 use seplogic.Ra.Ura.{Ura}
 use mir.Syntax.{impl, tnil, dnil}
 use mir.Raw.{raw as bare}
-use mir.Val.{Val, vptr, vstruct, vcons, vnil, of_list, has_ty, WT}
+use mir.Val.{Val, vptr, vint, vstruct, vcons, vnil, of_list, has_ty, WT}
 use base.Logic.{never, fst∗}
 use types.Logic.{Logic, sem}
-use types.Kit.{Item, Goal, Seq, Step, step, ‵, ◌$◌, move, drop, fsplit, fsplit3, fjoin, fjoin3, fpick, fpack, rewrite, feq_i, feq_l}
+use types.Kit.{Item, Goal, Seq, Step, step, ‵, ◌$◌, move, drop, fsplit, fjoin, fpick, fpack, feq_i, feq_l, flt_i, flt_l}
 use denote.RattleType.{RattleType, Valss}
-use denote.Builtin.{RawPtr}
-use denote.Laws.{Is, Lawful, Typed, shows}
+use base.Fml.{feq}
+use denote.Builtin.{RawPtr, u32}
 use denote.Memory.{lone}
 use denote.RawPtr.{Ptr, block_ptr, null_ptr, ptr_val, in_a_block}
-use denote.Steps.{nothing, peeks}
+use denote.Steps.{nothing}
 use denote.Param.{layout}
 use denote.Param.Laws.{Laws}
-use denote.Struct.Struct.{Struct, within}
+use denote.Struct.Struct.{within}
 use denote.Struct.Owning.{shape}
-use denote.Struct.Tuple.{Tuple}
 use Rattle.core.specs.declared.alloc.Allocator.{Ghosts}
 use Rattle.core.proofs.alloc.Calls.{Al, handle_tells}
-use Rattle.core.proofs.cell.Inside.{Good, one}
+use Rattle.core.proofs.cell.Inside.{Good}
 use Rattle.std_alloc.specs.Box.Ownership.{box_owns}
 use Rattle.std_alloc.proofs.ResultValues.{and_tt}
 use Rattle.weltiyo.specs.contracts.loose.Loose as loose
+use Rattle.weltiyo.specs.contracts.opened.Opened as opened
+use Rattle.weltiyo.specs.Handle.{engine_where}
+use Rattle.mi_embed.specs.State.{EngineState}
+use Rattle.mi_embed.specs.Opening.{fresh}
 
 abbrev pub both : Val → Val → Val
 both v w = vstruct (vcons v (vcons w vnil))
-
-pub both_tt : (x y : Bool) → T x → T y → T (x && (y && true))
-both_tt true true s t = tt
-both_tt true false s t = absurd t
-both_tt false y s t = absurd s
 
 module _ (R Z : RattleType) (L : Laws Z) (g : Ghosts Z.Denot) where
   abbrev pub Loose : RattleType
@@ -61,23 +59,31 @@ module _ (R Z : RattleType) (L : Laws Z) (g : Ghosts Z.Denot) where
         nothing t $ move t (2 ∷ 0 ∷ []) $ fjoin t $ feq_i t (List Val) (vptr b o ∷ []) (vptr b o ∷ []) refl $ fjoin t $ feq_i t (List Val) (v ∷ []) (v ∷ []) refl $ fjoin t $
         fpack t (Valss (RawPtr ∷ Z ∷ [])) (within (shape (loose.the_type R Z g)) (block_ptr b o, (a, tt)) (v ∷ [])) (vptr b o ∷ [], (h ∷ [], tt)) $ fjoin t $ s)
 
--- a struct of two fields, by value
-module _ (P Q : RattleType) where
-  abbrev pub Two : RattleType
-  Two = Struct (record { name = []; args = []; types = []; fields = P ∷ Q ∷ [] })
+abbrev pub Opened : RattleType
+Opened = opened.the_row
 
-  module _ {M : Type 1} {𝓤 : Ura M} {𝓛 : Logic 𝓤} {K : Type 0} {Γ : List (Item 𝓤)} {G : Goal 𝓤 𝓛.H} (x : P.Denot) (y : Q.Denot) where
-    pub two_in : K → (v w : Val) → Step K 𝓛 (‵ (Two.own_val (x, (y, tt)) (both v w ∷ [])) ∷ Γ) G (‵ (P.own_val x (v ∷ [])) ∷ ‵ (Q.own_val y (w ∷ [])) ∷ Γ) G
-    two_in t v w = step (λ s. nothing t $ move t (1 ∷ 2 ∷ 0 ∷ []) $ fjoin3 t $ feq_i t (List Val) (both v w ∷ []) (both v w ∷ []) refl $ fjoin t $
-        fpack t (Valss (P ∷ Q ∷ [])) (within (record { name = []; args = []; types = []; fields = P ∷ Q ∷ [] }) (x, (y, tt)) (both v w ∷ [])) (v ∷ [], (w ∷ [], tt)) $ s)
+-- what an `Opened` owns is taken apart and made
+module _ {M : Type 1} {𝓤 : Ura M} {𝓛 : Logic 𝓤} {K : Type 0} {Γ : List (Item 𝓤)} {G : Goal 𝓤 𝓛.H} where
+  pub opened_out : K → (d : Opened.Denot) (vs : List Val)
+      → (vs ≡ both (ptr_val d.at) (vint w32 d.status) ∷ [] → d.status < 2 ^ 32 → Seq K 𝓛 (‵ (engine_where d.status d.at d.engine) ∷ Γ) G)
+      → Seq K 𝓛 (‵ (Opened.own_val d vs) ∷ Γ) G
+  opened_out t d vs k =
+      fsplit t $ fpick t (λ vss. fsplit t $ feq_l t (λ ev. fsplit t $ feq_l t (λ ep. fsplit t $ fsplit t $ feq_l t (λ es. flt_l t (λ fits. drop t $
+      k (subst (λ (ws : List Val). vs ≡ vstruct (of_list (ptr_val d.at ∷ (ws ++ []))) ∷ []) es
+      (subst (λ (ps : List Val). vs ≡ vstruct (of_list (ps ++ (vss.1.0 ++ []))) ∷ []) ep ev)) fits)))))
 
-    pub two_out : K → P.mir ≡ layout P ∷ [] → Q.mir ≡ layout Q ∷ [] → Lawful 𝓛 P → Lawful 𝓛 Q → (us : List Val)
-        → ((v w : Val) → Good (layout P) v → Good (layout Q) w → us ≡ both v w ∷ [] → Seq K 𝓛 (‵ (P.own_val x (v ∷ [])) ∷ ‵ (Q.own_val y (w ∷ [])) ∷ Γ) G) → Seq K 𝓛 (‵ (Two.own_val (x, (y, tt)) us) ∷ Γ) G
-    two_out t eP eQ LP LQ us k = fpick t (λ vss. fsplit t $ feq_l t (λ e. fsplit3 t $ peeks t P (Is P) (shows 𝓛 P) x vss.0 (λ i. move t (1 ∷ []) $ peeks t Q (Is Q) (shows 𝓛 Q) y vss.1.0 (λ j.
-        let g₁ = one (layout P) vss.0 (subst (λ (ρs : List mir.Syntax.Ty). Typed ρs vss.0) eP (LP.typed x vss.0 i)) in let g₂ = one (layout Q) vss.1.0 (subst (λ (ρs : List mir.Syntax.Ty). Typed ρs vss.1.0) eQ (LQ.typed y vss.1.0 j)) in
-        rewrite t 0 (λ (ws : List Val). ‵ (Q.own_val y ws)) g₂.1 refl $ rewrite t 1 (λ (ws : List Val). ‵ (P.own_val x ws)) g₁.1 refl $ move t (2 ∷ []) $ drop t $ move t (1 ∷ 0 ∷ []) $
-        k g₁.0 g₂.0 g₁.2 g₂.2 (mathlib.Core.Path.◌∙◌ e (λ n. vstruct (of_list (g₁.1 n ++ (g₂.1 n ++ []))) ∷ []))))))
+  pub opened_in : K → (d : Opened.Denot) → d.status < 2 ^ 32
+      → Step K 𝓛 (‵ (Opened.own_val d (both (ptr_val d.at) (vint w32 d.status) ∷ [])) ∷ Γ) G (‵ (engine_where d.status d.at d.engine) ∷ Γ) G
+  opened_in t d fits = step (λ s. let v : Val = both (ptr_val d.at) (vint w32 d.status) in
+      nothing t $ flt_i t d.status (2 ^ 32) fits $ feq_i t (List Val) (vint w32 d.status ∷ []) (vint w32 d.status ∷ []) refl $ fjoin t $ fjoin t $
+      feq_i t (List Val) (ptr_val d.at ∷ []) (ptr_val d.at ∷ []) refl $ fjoin t $ feq_i t (List Val) (v ∷ []) (v ∷ []) refl $ fjoin t $
+      fpack t (Valss (RawPtr ∷ u32 ∷ [])) (within (shape opened.the_type) (d.at, (d.status, tt)) (v ∷ [])) (ptr_val d.at ∷ [], (vint w32 d.status ∷ [], tt)) $ fjoin t $ s)
 
-module _ (P Q : RattleType) {M : Type 1} {𝓤 : Ura M} {𝓛 : Logic 𝓤} {K : Type 0} {Γ : List (Item 𝓤)} {G : Goal 𝓤 𝓛.H} where
-  pub pair_in : K → (x : P.Denot) (y : Q.Denot) (v w : Val) → Step K 𝓛 (‵ ((Tuple (P ∷ Q ∷ [])).own_val (x, y) (both v w ∷ [])) ∷ Γ) G (‵ (P.own_val x (v ∷ [])) ∷ ‵ (Q.own_val y (w ∷ [])) ∷ Γ) G
-  pair_in t x y v w = two_in P Q x y t v w
+-- an engine that nobody has: what an `Opened` without one names
+abbrev pub nobody : EngineState
+nobody = fresh (record { tables = []; first_revision = 0 })
+
+-- no engine is owned where the status isn't 0
+pub nowhere : (n : ℕ) (x : EngineState) → 0 < n → feq Ptr null_ptr null_ptr ≡ engine_where n null_ptr x
+nowhere zero x some = absurd (omega (arith, some))
+nowhere (suc n) x some = refl

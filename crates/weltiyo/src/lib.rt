@@ -9,14 +9,15 @@ ghost use Rattle.mi_commands.specs.Answer.{MayGive};
 ghost use Rattle.mi_commands.specs.Holder.{released};
 ghost use Rattle.mi_embed.specs.Opening.{IsOpened};
 ghost use Rattle.mi_embed.specs.State.{EngineState, line_of, IsCopied};
-ghost use Rattle.weltiyo.specs.Handle.{engine_at, TellsOpening};
+ghost use Rattle.weltiyo.specs.Handle.{engine_at, engine_where, TellsOpening};
 
 mod loose;
+mod opened;
 
 use loose::Loose;
 use mi_embed::{Engine, OpenFault};
+use opened::Opened;
 use std::alloc::Global;
-use std::ptr::null_mut;
 
 /// The engine that a schema's text opens, at an address of its own.
 fn boxed(alloc: Global, schema: &[u8], secret: u64) -> Result<Box<Engine>, OpenFault>
@@ -26,21 +27,24 @@ fn boxed(alloc: Global, schema: &[u8], secret: u64) -> Result<Box<Engine>, OpenF
     Ok(Box::new(alloc, engine)?)
 }
 
+/// What opening a schema's text gives.
+fn open_engine(alloc: Global, schema: &[u8], secret: u64) -> Opened
+    ensures { TellsOpening schema.now result.status result.engine }
+{
+    match boxed(alloc, schema, secret) {
+        Ok(made) => Opened::of(Loose::of(made)),
+        Err(fault) => Opened::none(fault.status()),
+    }
+}
+
 /// Opens the tables of a schema's text, and answers its status. Where that is 0 the handle is written to `out`, and else null.
 #[unsafe(no_mangle)]
 pub extern "C" fn weltiyo_open(alloc: Global, schema: &[u8], secret: u64, out: &mut *mut u8) -> u32
-    ensures { TellsOpening schema.now result }
+    ensures* { sem 𝓛 (fex EngineState (λ engine. fex (TellsOpening schema.now result engine) (λ _. engine_where result out.new engine))) }
 {
-    match boxed(alloc, schema, secret) {
-        Ok(made) => {
-            *out = Box::into_raw(made) as *mut u8;
-            0
-        }
-        Err(fault) => {
-            *out = null_mut();
-            fault.status()
-        }
-    }
+    let Opened { at, status } = open_engine(alloc, schema, secret);
+    *out = at as *mut u8;
+    status
 }
 
 /// Answers a line, and says how long its reply is.

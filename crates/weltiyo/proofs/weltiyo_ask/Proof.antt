@@ -1,12 +1,12 @@
 -- The engine at the pointer is lent to `asked` for the call, and lies there again at its new state; the caller's buffer is handed on.
-use Rattle.std.proofs.Common.{◌≡◌, ℕ, List, [], ◌∷◌, ◌++◌, length, refl, ap, w64, MutBor}
+use Rattle.std.proofs.Common.{◌≡◌, ℕ, [], ◌∷◌, ◌++◌, length, refl, ap, w64, MutBor}
 use Rattle.std.proofs.raw_atomic.Walks.{proved}
 use base.Fraction.{full_share}
 use base.Logic.{id⊢, never, fst∗}
 use base.Fml.{ftrue, fex, flft, flent}
 use mir.Syntax.{named}
 use mir.Raw.{raw as bare}
-use mir.Val.{Val, vint, vptr}
+use mir.Val.{vint, vptr}
 use contract.Monad.{fact}
 use contract.Running.{tables}
 use prog.Wp.{WpFn}
@@ -17,7 +17,7 @@ use types.Part.{whole, sub, agg}
 use types.ByLocal.{alloc_all, pass_all, free_all, look_at, look_in_at, get, get_in, through, sets, lands_as}
 use types.SemTy.{Body}
 use types.Tokens.{lft_new, lft_end}
-use denote.Builtin.{u8, u64, usize, SliceRefOf, SliceRefMutOf}
+use denote.Builtin.{u8, u64, usize, SliceRefOf}
 use denote.Exit.{yes}
 use denote.Lend.{lends_ref, ref_back}
 use denote.Memory.{mem, part_at, lone}

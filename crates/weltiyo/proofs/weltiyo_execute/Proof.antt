@@ -1,12 +1,12 @@
 -- The engine at the pointer is lent to `answered` for the call, and lies there again at its new state.
-use Rattle.std.proofs.Common.{◌≡◌, ℕ, List, [], ◌∷◌, ◌++◌, length, refl, ap, w64, MutBor}
+use Rattle.std.proofs.Common.{◌≡◌, ℕ, [], ◌∷◌, ◌++◌, length, refl, ap, w64, MutBor}
 use Rattle.std.proofs.raw_atomic.Walks.{proved}
 use base.Fraction.{full_share}
 use base.Logic.{id⊢, never, fst∗}
 use base.Fml.{ftrue, fex, flft, flent}
 use mir.Syntax.{named}
 use mir.Raw.{raw as bare}
-use mir.Val.{Val, vint, vptr}
+use mir.Val.{vint, vptr}
 use contract.Monad.{fact}
 use contract.Running.{tables}
 use prog.Wp.{WpFn}

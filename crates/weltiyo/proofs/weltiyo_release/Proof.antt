@@ -1,16 +1,16 @@
 -- The engine at the pointer is lent to `let_go` for the call, and lies there again with the connection gone.
-use Rattle.std.proofs.Common.{◌≡◌, ℕ, sym, List, [], ◌∷◌, ◌++◌, length, refl, ap, w64, MutBor}
+use Rattle.std.proofs.Common.{◌≡◌, ℕ, List, [], ◌∷◌, ◌++◌, refl, ap, w64, MutBor}
 use Rattle.std.proofs.raw_atomic.Walks.{proved}
 use base.Fraction.{full_share}
 use base.Logic.{id⊢, never, fst∗}
-use base.Fml.{ftrue, fex, flft, flent}
+use base.Fml.{ftrue, flft, flent}
 use mir.Syntax.{named}
 use mir.Raw.{raw as bare}
 use mir.Val.{Val, vunit, vptr}
 use contract.Monad.{fact}
 use contract.Running.{tables}
 use prog.Wp.{WpFn}
-use types.Kit.{‵, raw, ◌⊛◌, some, later, prop, ◌$◌, ◌∵◌, !, qed, done, move, keep, drop, use1, use2, use3, split, join, fsplit, fjoin, fpack, feq_i, feq_l, rewrite, pick, await, regoal, suffices, group}
+use types.Kit.{‵, raw, ◌⊛◌, some, later, prop, ◌$◌, ◌∵◌, !, qed, done, move, keep, drop, use1, use2, use3, split, join, fsplit, fjoin, feq_i, feq_l, rewrite, pick, await, regoal, suffices, group}
 use types.Logic.{sem}
 use types.Run.{enter, of_opd, unit_lit, addr, stop, no_more, and_then, returns}
 use types.ByLocal.{alloc_all, pass_all, free_all, look_at, get, through, sets, lands_as}
@@ -21,10 +21,9 @@ use denote.Exit.{yes}
 use denote.Lend.{lends_ref, ref_back}
 use denote.Memory.{mem, part_at, lone}
 use denote.Plain.{uint_Makes, uint_vals, uint_Tells}
-use denote.RattleType.{owns}
 use denote.RawPtr.{Ptr, RawPtr, block_ptr, null_ptr, in_a_block, rawptr_vals, rawptr_Tells}
 use denote.Ref.{MutRef, mut_vals}
-use denote.Signature.{plain, types_at}
+use denote.Signature.{plain}
 use denote.Steps.{nothing, owned, heard, only}
 use denote.Triple.Call.{calls_at}
 use denote.Triple.Clauses.{Lasts, lasts}
