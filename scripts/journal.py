@@ -17,6 +17,7 @@ locked, and a file that another program has locked is refused.
 Statuses: 0; 2 where the words are wrong; 3 where the journal is damaged, with the number of the first such line, from 1; 4 where a
 file can't be read or written, or is in use. A torn end is said, and is no damage."""
 import argparse
+import bisect
 import collections
 import fcntl
 import os
@@ -105,6 +106,11 @@ class Journal:
                 self.progress.at(at)
 
 
+def behind(places, start):
+    """The places, which are in order, that begin behind this one."""
+    return places[bisect.bisect_left(places, (start + 1,)):]
+
+
 class Open:
     """An open session: where its block begins, and how many sessions were held below it then."""
 
@@ -162,8 +168,8 @@ class Blocks:
     def undo(self, line, count):
         """The newest sessions are undone: their lines aren't needed, but for those that say something of what is below them."""
         lowest = self.open[-count]
-        inside = [it for it in self.commits if it[0] > lowest.start]
-        pushed = [it for it in self.pushes if it[0] > lowest.start]
+        inside = behind(self.commits, lowest.start)
+        pushed = behind(self.pushes, lowest.start)
         if pushed and lowest.held:
             inside.append(pushed[0])
         self.close(count, "undone")

@@ -36,7 +36,7 @@ no_lines = sym (lines_from-nothing []) ∙ (from_unended (Some []) [] ended_nil)
 no_rest : rest_of [] ≡ Some []
 no_rest = sym (rest_from-nothing []) ∙ (from_unended (Some []) [] ended_nil).1
 
-whole_line : (text : List ℕ) → ended text ≡ []
+pub whole_line : (text : List ℕ) → ended text ≡ []
     → (lines_of (text ++ 10 ∷ []) ≡ option_to_list (ended_line (marked text))) × (rest_of (text ++ 10 ∷ []) ≡ Some [])
 whole_line text h =
     let parts = from_ended (Some []) text [] h in

@@ -1,2 +1,3 @@
 mod BelongsLemmas
 mod JournalLemmas
+mod ReplayLemmas

@@ -79,6 +79,13 @@ impl<D: Sessions + Drop, L: Log + Drop> Ledger<D, L> {
         &self.hub
     }
 
+    /// What the journal is appended to.
+    pub fn log(&self) -> &L
+        ensures { result.now ≡ log_of self.now }
+    {
+        &self.log
+    }
+
     /// Whether a connection holds open sessions.
     pub fn holds(&self, conn: u64) -> bool
         ensures { result ≡ false → held_by conn (hub_of self.now).held.holder ≡ 0 }

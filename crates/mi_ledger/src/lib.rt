@@ -5,11 +5,11 @@ mod deciding;
 mod fault;
 pub mod laws;
 mod ledger;
-mod replay;
+mod replaying;
 mod replies;
 
 pub use deciding::belongs;
 pub use fault::LedgerFault;
 pub use ledger::Ledger;
-pub use replay::{LineFault, REPLAYER, replay_line};
+pub use replaying::{LineFault, REPLAYER, ReplayFault, replay, replay_line};
 pub use replies::HeldReplies;

@@ -2,7 +2,7 @@
 use Rattle.std.proofs.Common.{◌≡◌, ◌++◌, [], ◌∙◌, sym, ap}
 use Rattle.std.proofs.lemmas.Result.{on_ok_weaker}
 use Rattle.mi_ledger.proofs.JournalLemmas.{replayed_by}
-use Rattle.mi_ledger.proofs.replay.replay_line.Goals as goal
+use Rattle.mi_ledger.proofs.replaying.replay_line.Goals as goal
 
 pub returns-in-Ok-clause-ok : goal.returns-in-Ok-clause-ok
 returns-in-Ok-clause-ok g c =

@@ -1,0 +1,13 @@
+use Rattle.std.proofs.Common.{◌≡◌, Some, []}
+use Rattle.mi_hub.specs.Connections.{rest_at}
+use Rattle.mi_log.specs.LineReader.{reader_of}
+use Rattle.mi_replay.specs.Replayed.{replayer}
+use Rattle.mi_ledger.specs.Replay.{Onward}
+use Rattle.mi_ledger.proofs.replaying.replay.Given as goal
+
+-- what is left to ask leaves what all leaves
+abbrev pub invariant-lines : goal.invariant-lines
+invariant-lines g l = record {
+  still : rest_at replayer l.hub.attached ≡ Some (Some []);
+  so_far : Onward (g.R.Read.remaining (reader_of l.fn.lines)) (g.R.Read.remaining (reader_of l.lines)) l.fn.hub.held l.hub.held;
+}

@@ -1,0 +1,125 @@
+//! A line of a journal, asked again of a hub that nobody else asks.
+ghost use Rattle.std.specs.Prelude.{◌≡◌, ◌++◌, ◌∷◌, ℕ, List, [], Some, Ok, true, false, OnOk, IfSome};
+ghost use Rattle.mi_log.specs.LineReader.{reader_of, line_of};
+ghost use Rattle.mi_hub.specs.Ended.{after_newlines};
+ghost use Rattle.mi_ledger.specs.Replay.{Onward, IsTorn};
+ghost use Rattle.mi_hub.specs.Connections.{rest_at};
+ghost use Rattle.mi_hub.specs.Lines.{lines_of};
+ghost use Rattle.mi_replay.specs.Replayed.{replayer, replayed};
+ghost use Rattle.mi_ledger.specs.Belongs.{may_change};
+ghost use Rattle.mi_ledger.specs.Journals.{IsWholeLine};
+
+use crate::deciding::may_be_change;
+use mi_hub::{Hub, Watched};
+use mi_log::LineReader;
+use mi_sessions::Sessions;
+use std::alloc::Global;
+use std::io::BufRead;
+
+/// The connection that asks a journal's lines.
+pub const REPLAYER: u64 = 1;
+
+/// Why a line isn't replayed. What the hub is then isn't said.
+#[derive(Clone, Copy, Debug, PartialEq, Eq, Drop)]
+pub enum LineFault {
+    /// It isn't answered as the lines of a journal are: it is no command, or was refused, or asks for no change.
+    Refused,
+    /// It was refused memory, or its reply was.
+    Memory,
+}
+
+/// Why a journal isn't replayed to its end. What the hub is then isn't said.
+#[derive(Clone, Copy, Debug, PartialEq, Eq, Drop)]
+pub enum ReplayFault {
+    /// A read failed, or a line has no room in memory.
+    Read,
+    /// The line of this number, from 1, isn't one of a journal. The header is line 1.
+    Damaged(u64),
+    /// A line, or its reply, was refused memory.
+    Memory,
+    /// The most lines of one replay, 2^64, were read.
+    Turns,
+}
+
+/// Whether a reply, with its newline, is one that a line of a journal has.
+fn judge(reply: &[u8]) -> Result<(), LineFault>
+    ensures { OnOk result ((text : List ℕ) × (reply.now ≡ text ++ 10 ∷ []) × (may_change text ≡ true)) }
+{
+    let Some((newline, text)) = reply.split_last() else {
+        return Err(LineFault::Refused);
+    };
+    if text == b"{\"error\":\"memory\",\"ok\":false}".as_slice() {
+        return Err(LineFault::Memory);
+    }
+    if *newline != b'\n' {
+        return Err(LineFault::Refused);
+    }
+    if !may_be_change(text) {
+        return Err(LineFault::Refused);
+    }
+    Ok(())
+}
+
+/// Asks a line of a journal, with its newline, as the one connection that asks them, which is attached: the hub is left as the line leaves it
+/// where it is answered by the definition. So the lines of a journal, asked one after another, leave what its run left.
+pub fn replay_line<D: Sessions + Drop>(
+    alloc: Global,
+    hub: &mut Hub<D>,
+    line: &[u8],
+) -> Result<(), LineFault>
+    requires attached { rest_at replayer hub.old.attached ≡ Some (Some []) }
+    requires whole { IsWholeLine line.now }
+    ensures ok { OnOk result (hub.new.held ≡ replayed (lines_of line.now) hub.old.held) }
+    ensures still { OnOk result (rest_at replayer hub.new.attached ≡ Some (Some [])) }
+{
+    let mut writer = Watched::new(Vec::new(alloc));
+    match hub.feed(REPLAYER, line, &mut writer) {
+        Ok(()) => judge(writer.inner().as_slice()),
+        Err(_fault) => Err(LineFault::Memory),
+    }
+}
+
+/// Replays the next line, whose number this is, where there is one.
+fn replay_next<D: Sessions + Drop, R: BufRead>(
+    alloc: Global,
+    hub: &mut Hub<D>,
+    lines: &mut LineReader<R>,
+    number: u64,
+) -> Result<bool, ReplayFault>
+    requires { rest_at replayer hub.old.attached ≡ Some (Some []) }
+    ensures more { result ≡ Ok true → Onward (R.remaining (reader_of lines.old)) (R.remaining (reader_of lines.new)) hub.old.held hub.new.held }
+    ensures end { result ≡ Ok false → (hub.new ≡ hub.old)
+        × IfSome (R.remaining (reader_of lines.old)) (λ bytes. IsTorn bytes (line_of lines.new)) }
+    ensures still { OnOk result (rest_at replayer hub.new.attached ≡ Some (Some [])) }
+{
+    match lines.advance() {
+        Ok(true) => match replay_line(alloc, hub, lines.line()) {
+            Ok(()) => Ok(true),
+            Err(LineFault::Refused) => Err(ReplayFault::Damaged(number)),
+            Err(LineFault::Memory) => Err(ReplayFault::Memory),
+        },
+        Ok(false) => Ok(false),
+        Err(_error) => Err(ReplayFault::Read),
+    }
+}
+
+/// Asks a hub all whole lines that a reader has left behind a journal's header, as the one connection that asks them, which is attached. What
+/// stands behind the last newline isn't asked; it is `line` of the reader then.
+pub fn replay<D: Sessions + Drop, R: BufRead>(
+    alloc: Global,
+    hub: &mut Hub<D>,
+    lines: &mut LineReader<R>,
+) -> Result<(), ReplayFault>
+    requires { rest_at replayer hub.old.attached ≡ Some (Some []) }
+    ensures ok { OnOk result (IfSome (R.remaining (reader_of lines.old)) (λ bytes. hub.new.held ≡ replayed (lines_of bytes) hub.old.held)) }
+    ensures torn { OnOk result (IfSome (R.remaining (reader_of lines.old)) (λ bytes. line_of lines.new ≡ after_newlines bytes)) }
+    ensures still { OnOk result (rest_at replayer hub.new.attached ≡ Some (Some [])) }
+{
+    'lines: for before in 1..u64::MAX {
+        if replay_next(alloc, hub, lines, before + 1)? {
+            continue 'lines;
+        }
+        return Ok(());
+    }
+    Err(ReplayFault::Turns)
+}
