@@ -212,7 +212,7 @@ class _Sending:
         self._db, self._made = db, made
 
     def __enter__(self) -> Pipeline:
-        self._db._lock.acquire()
+        self._db._lock.__enter__()
         self._db._ahead.append(self._made)
         return self._made
 
@@ -225,7 +225,7 @@ class _Sending:
             if error is None:
                 self._made.end()
         finally:
-            self._db._lock.release()
+            self._db._lock.__exit__(None, None, None)
 
     def _settle(self, error: Optional[BaseException]) -> None:
         """All that was called is answered; behind an interruption the connection ends instead."""
