@@ -17,13 +17,15 @@ SHARE = $(ROOT)/share/weltiyo
 
 comma := ,
 
-.PHONY: help try run build lib test check-docs bench fuzz faults sanitize soak install dist clean
+.PHONY: help try run build service lib test check-docs bench fuzz faults sanitize soak crash rates replica-tests install dist clean
 
 help:
 	@echo 'make try         compiles without proving (about a minute the first time) and serves, at a terminal by a prompt'
 	@echo 'make run         proves, builds and serves; a program that is up to date starts at once, without `rt`'
 	@echo '                 (ARGS="--schema FILE" and the like are the options of the program for both)'
 	@echo 'make build       the same, without serving'
+	@echo 'make service     proves, builds and serves `mi_service`: connections without end, and a journal that keeps what was acknowledged'
+	@echo '                 (ARGS="--listen 8000 --journal FILE"; docs/SERVICE.md)'
 	@echo 'make lib         proves and builds the library for programs that keep their tables in their own process, into out/library'
 	@echo '                 (docs/EMBEDDING.md; needs a C compiler); one that is up to date is left as it is'
 	@echo 'make test        the gate: the proofs, the must-fail edits, the tests, the program by two compilers'
@@ -31,9 +33,14 @@ help:
 	@echo 'make fuzz        random lines to the program and to a reference in Python: SEED=$(SEED) LINES=$(LINES), of which DAMAGED=$(DAMAGED) are damaged'
 	@echo 'make faults      each request for memory refused in turn on worked rows and in blocks that need none, and a server under a hard'
 	@echo '                 limit of memory (needs a C compiler; ARGS=--short is the part that the gate runs, ARGS="--row WORDS" another)'
-	@echo 'make sanitize    the tests of the pool of nodes under AddressSanitizer, without proofs, and with requests for memory refused in turn'
+	@echo 'make sanitize    the tests of the pool of nodes under AddressSanitizer, without proofs, and with each of their requests for memory refused'
+	@echo '                 in turn (needs a C compiler; ARGS=--short leaves out the test of a hundred chunks: two minutes)'
 	@echo 'make soak        CLIENTS=$(CLIENTS) loopback clients of 10,000 lines each, all replies compared; clients that read slowly, break off or'
 	@echo '                 never read; and for SECONDS=$(SECONDS) clients whose sums are watched (ARGS="--part lines --lines 1000" takes a part)'
+	@echo 'make crash       the service killed under load, on a disk that forgets what was not synced, with torn and damaged journals and full disks;'
+	@echo '                 then all its places taken by 10,000 clients that come and go (needs crates/mi_service/out/mi_service or MI_SERVICE=FILE;'
+	@echo '                 ARGS=--short is the part that make check-docs runs)'
+	@echo 'make rates       lines a second of the service beside the program over standard input, and how long the replay of a journal takes'
 	@echo 'make bench       the program against a Boost.MultiIndex container, SQLite and Redis, into docs/bench (see bench/README.md);'
 	@echo '                 ROWS=1000,10000 are other sizes; QUICK=1 is small, and shows only that all answer alike'
 	@echo 'make install     copies the proved program (make build makes it), its prompt and linter, clients, documents, man pages and'
@@ -49,6 +56,9 @@ run:
 
 build:
 	@$(PYTHON) scripts/program.py build
+
+service:
+	@exec $(PYTHON) scripts/program.py serve -- $(ARGS)
 
 lib:
 	@$(PYTHON) scripts/library.py build
@@ -71,6 +81,13 @@ sanitize:
 
 soak:
 	@$(PYTHON) scripts/soak.py --seconds $(SECONDS) --clients $(CLIENTS) --seed $(SEED) $(ARGS)
+
+crash:
+	@$(PYTHON) scripts/crash.py $(ARGS)
+	@$(PYTHON) scripts/crowd.py $(ARGS)
+
+rates:
+	@$(PYTHON) scripts/rates.py $(ARGS)
 
 bench:
 	@$(if $(QUICK),$(PYTHON) -m unittest discover -s bench/tests)

@@ -28,6 +28,7 @@ import tempfile
 
 import library
 import program
+import service
 
 TOP = program.TOP
 sys.path.insert(0, f"{TOP}/clients/python")
@@ -305,6 +306,28 @@ class Documents:
         if ran.returncode:
             raise Differs(ran.stdout + ran.stderr)
 
+    def services(self):
+        """The short forms of what tries the service, where it is there, and of what tries members of one ledger, where etcd is."""
+        if service.is_there():
+            self.check("scripts/crash.py", self.short, "crash.py")
+            self.check("scripts/crowd.py", self.short, "crowd.py")
+        else:
+            self.skipped.append("scripts/crash.py and scripts/crowd.py need the service, which `make service` builds")
+        if not shutil.which("etcd"):
+            self.skipped.append("scripts/replica_test.py needs etcd, which `apt-get install etcd-server` brings")
+        elif not service.is_there():
+            self.skipped.append("scripts/replica_test.py needs the service, which `make service` builds")
+        else:
+            self.check("scripts/replica_test.py", self.short, "replica_test.py")
+
+    def short(self, name):
+        """The short form of a script that has one."""
+        env = {**os.environ, "MI_SERVER": self.path}
+        words = [sys.executable, f"{TOP}/scripts/{name}", "--short"]
+        ran = subprocess.run(words, env=env, stdin=subprocess.DEVNULL, capture_output=True, text=True, timeout=900)
+        if ran.returncode:
+            raise Differs(ran.stdout + ran.stderr)
+
     def heads(self):
         """Whether each source file and each file of answers opens with what it is."""
         ran = self.run([sys.executable, f"{TOP}/scripts/check_heads.py"])
@@ -346,6 +369,7 @@ def main():
             checks.check("scripts/tests", checks.tests, f"{TOP}/scripts/tests")
             checks.check("scripts/fuzz.py", checks.script, "fuzz.py", "--lines", "600")
             checks.check("scripts/stall.py", checks.script, "stall.py")
+            checks.services()
             checks.check("scripts/check_heads.py", checks.heads)
     for it in checks.skipped:
         print(f"skipped: {it}")
