@@ -1,6 +1,6 @@
 -- What the bytes of a record hold.
 use Rattle.std.proofs.Common.{◌≡◌, ◌≤◌, ◌<◌, ◌+◌, ◌++◌, ◌^◌, ℕ, true, false, FitsSigned, zero, suc, ℤ, Option, Some, None}
-use Rattle.std.proofs.Common.{List, [], ◌∷◌, length, take, drop, if◌then◌else◌, Result, Ok, Err, is_ok, OnOk, refl, ap, sym, ◌∙◌, arith}
+use Rattle.std.proofs.Common.{List, [], ◌∷◌, length, take, drop, if◌then◌else◌, Bool, Result, Ok, Err, is_ok, OnOk, refl, ap, sym, ◌∙◌, arith}
 use Rattle.std.specs.Int.{w32, w64, from_le_bytes, to_le_bytes, cast_signed, cast_unsigned}
 use Rattle.std.proofs.lemmas.Bool.{le-ltb}
 use Rattle.std.proofs.lemmas.Int.{to_z-of_z}
@@ -108,21 +108,29 @@ packable_texts : (vs : List Value) → ArePackable vs → HasTexts vs
 packable_texts [] packable = tt
 packable_texts (v ∷ vs) packable = (packable_text v packable.0, packable_texts vs packable.1)
 
--- when no value is left to be packed
+-- bytes that were packed hold what they were packed of
+pub holds_all : (bytes old : List ℕ) (vs : List Value) → old ≡ [] → bytes ≡ old ++ packed vs → ArePackable vs → unpacked bytes ≡ vs
+holds_all bytes old vs none are packable = ap unpacked (are ∙ ap (λ bs. bs ++ packed vs) none) ∙ packed_unpacked vs packable
+
+pub holds_texts : (bytes old : List ℕ) (vs : List Value) → old ≡ [] → bytes ≡ old ++ packed vs → ArePackable vs → HasTexts (unpacked bytes)
+holds_texts bytes old vs none are packable = carried (sym (holds_all bytes old vs none are packable)) (packable_texts vs packable)
+
+-- when no value is left, all are packed
 left_packable : (left : List Value) → left ≡ [] → ArePackable left
 left_packable left none = rw none tt
 
-pub holds_all : (bytes : List ℕ) (vs left : List Value) → left ≡ [] → bytes ++ packed left ≡ packed vs → (ArePackable left → ArePackable vs)
-    → unpacked bytes ≡ vs
-holds_all bytes vs left none are packable =
-    ap unpacked (sym (append-nil bytes) ∙ ap (λ ws. bytes ++ packed ws) (sym none) ∙ are) ∙ packed_unpacked vs (packable (left_packable left none))
-
-pub holds_texts : (bytes : List ℕ) (vs left : List Value) → left ≡ [] → bytes ++ packed left ≡ packed vs → (ArePackable left → ArePackable vs)
-    → HasTexts (unpacked bytes)
-holds_texts bytes vs left none are packable = carried (sym (holds_all bytes vs left none are packable)) (packable_texts vs (packable (left_packable left none)))
+pub all_packed : (bytes old : List ℕ) (vs left : List Value) → left ≡ [] → bytes ++ packed left ≡ old ++ packed vs → (ArePackable left → ArePackable vs)
+    → (bytes ≡ old ++ packed vs) × ArePackable vs
+all_packed bytes old vs left none are packable =
+    (sym (append-nil bytes) ∙ ap (λ ws. bytes ++ packed ws) (sym none) ∙ are, packable (left_packable left none))
 
 -- what was put behind a byte that was put behind others
 pub put_behind : {E : Type 0} (r : Result (Unit {0}) E) (P : Type 0) (old mid new : List ℕ) (x : ℕ) (zs ys : List ℕ) → mid ≡ old ++ x ∷ []
-    → new ≡ (if is_ok r then mid ++ zs else mid) → zs ≡ ys → P → OnOk r ((new ≡ old ++ x ∷ ys) × P)
+    → OnOk r (new ≡ mid ++ zs) → zs ≡ ys → P → OnOk r ((new ≡ old ++ x ∷ ys) × P)
 put_behind (Ok u) P old mid new x zs ys one more same p = (more ∙ ap (λ bs. bs ++ zs) one ∙ append_assoc old (x ∷ []) zs ∙ ap (λ bs. old ++ x ∷ bs) same, p)
 put_behind (Err e) P old mid new x zs ys one more same p = tt
+
+-- what holds where it is answered
+pub answered : {E P : Type 0} (r : Result (Unit {0}) E) (b : Bool) → b ≡ is_ok r → b ≡ true → OnOk r P → P
+answered (Ok u) b is true_is p = p
+answered (Err e) b is true_is p = let no : true ≡ false = sym true_is ∙ is in absurd cc

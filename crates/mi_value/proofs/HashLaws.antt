@@ -58,7 +58,7 @@ then_equal Equal b h = (refl, h)
 then_equal Greater b h = absurd (cc)
 
 -- records of one key have the same values there
-equal_keys : (ps : List KeyPart) (r s : List Value) → compare_key ps r s ≡ Equal → key_values ps r ≡ key_values ps s
+pub equal_keys : (ps : List KeyPart) (r s : List Value) → compare_key ps r s ≡ Equal → key_values ps r ≡ key_values ps s
 equal_keys [] r s h = refl
 equal_keys (p ∷ ps) r s h =
     let both = then_equal (compare_part p r s) (compare_key ps r s) h in
@@ -71,7 +71,7 @@ pub equal_hashes : EqualKeysHaveEqualHashes
 equal_hashes ps r s h = ap values_hash (equal_keys ps r s h)
 
 -- a whole key that equals a record's is its values there
-whole_key : (ps : List KeyPart) (key r : List Value) → length key ≡ length ps → compare_prefix ps key r ≡ Equal → key ≡ key_values ps r
+pub whole_key : (ps : List KeyPart) (key r : List Value) → length key ≡ length ps → compare_prefix ps key r ≡ Equal → key ≡ key_values ps r
 whole_key [] [] r long h = refl
 whole_key [] (v ∷ key) r long h = absurd (cc)
 whole_key (p ∷ ps) [] r long h = absurd (omega arith)

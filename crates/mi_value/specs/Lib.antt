@@ -4,4 +4,5 @@ pub mod Words
 pub mod Hash
 pub mod Lent
 pub mod Block
+pub mod Bytes
 pub mod Keys

@@ -1,5 +1,5 @@
 //! Edits: what a modify does to the columns of one record.
-ghost use Rattle.std.specs.Prelude.{◌≡◌, ◌⊎◌, Some, None, Err, IfOk, IfErr, OnOk, map, option_map, slice_set};
+ghost use Rattle.std.specs.Prelude.{◌≡◌, ◌≤◌, ◌⊎◌, Some, None, Err, IfSome, IfOk, IfErr, OnOk, length, take, map, option_map, slice_set};
 ghost use Rattle.mi_value.specs.Lent.{lent};
 ghost use Rattle.mi_value.specs.Edits as meaning;
 ghost use Rattle.mi_value.specs.declared.value.Value.TheVariants.{Int};
@@ -57,6 +57,40 @@ fn edit_one<'a>(values: &mut [ValueRef<'a>], edit: &'a Edit) -> Result<(), Refus
     }
 }
 
+/// Records of up to so many values are edited where no memory is taken for the values.
+const FEW: usize = 8;
+
+/// Lays the values of a record into the first places, and answers how many there are; none where there are more than places.
+fn lay<'a>(places: &mut [ValueRef<'a>], row: &'a Record) -> Option<usize>
+    ensures { IfSome result (λ n. (n ≤ length places.new) × (map lent (take n places.new) ≡ row.now)) }
+{
+    let mut count = 0;
+    for value in row.values() {
+        if count == places.len() {
+            return None;
+        }
+        places[count] = value;
+        count += 1;
+    }
+    Some(count)
+}
+
+/// The record of these values after these edits, one after another.
+fn edited<'a>(
+    alloc: Global,
+    values: &mut [ValueRef<'a>],
+    edits: &'a [Edit],
+) -> Result<Record, Refusal>
+    ensures ok { IfOk result (λ row. meaning.apply edits.now (map lent values.old) ≡ Some row) }
+    ensures range { result ≡ Err Refusal.Range → meaning.apply edits.now (map lent values.old) ≡ None }
+    ensures only { IfErr result (λ e. (e ≡ Refusal.Range) ⊎ (e ≡ Refusal.Memory)) }
+{
+    for edit in edits {
+        edit_one(values, edit)?;
+    }
+    Ok(Record::new(alloc, values)?)
+}
+
 /// The record after these edits, one after another; where no column is named twice their order doesn't matter
 /// (`laws::edits_in_any_order`).
 ///
@@ -67,9 +101,10 @@ pub fn apply(alloc: Global, row: &Record, edits: &[Edit]) -> Result<Record, Refu
     ensures range { result ≡ Err Refusal.Range → meaning.apply edits.now row.now ≡ None }
     ensures only { IfErr result (λ e. (e ≡ Refusal.Range) ⊎ (e ≡ Refusal.Memory)) }
 {
-    let mut values: Vec<ValueRef<'_>> = row.values().collect(alloc)?;
-    for edit in edits {
-        edit_one(values.as_mut_slice(), edit)?;
+    let mut few = [ValueRef::default(); FEW];
+    if let Some(count) = lay(&mut few, row) {
+        return edited(alloc, &mut few[..count], edits);
     }
-    Ok(Record::new(alloc, values.as_slice())?)
+    let mut values: Vec<ValueRef<'_>> = row.values().collect(alloc)?;
+    edited(alloc, values.as_mut_slice(), edits)
 }

@@ -3,6 +3,7 @@
 #![tactic(auto)]
 
 mod bound;
+mod bytes;
 mod compare;
 mod edit;
 mod hash;

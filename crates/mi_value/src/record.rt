@@ -1,12 +1,13 @@
-//! Records. A record lies in one block: its values one behind another, each a tag and its content. They are decoded when they are
-//! asked for; contracts see their list.
-ghost use Rattle.std.specs.Prelude.{◌≡◌, ◌<◌, ◌^◌, ◌++◌, ℕ, length, Some, None, MatchOption, OnOk};
+//! Records. A record is bytes: its values one behind another, each a tag and its content. They are decoded when they are asked for;
+//! contracts see their list. Where the bytes lie is the matter of `bytes`.
+ghost use Rattle.std.specs.Prelude.{◌≡◌, ◌<◌, ◌^◌, ◌++◌, ℕ, length, map, Some, None, MatchOption, OnOk};
 ghost use Rattle.std.specs.Iterator.{YieldsFirstBy, item_count};
 ghost use Rattle.mi_value.specs.Lent.{lent};
-ghost use Rattle.mi_value.specs.Block.{int_at, text_at, value_at, packed_value, IsText, IsPackable, BeginsWith};
+ghost use Rattle.mi_value.specs.Block.{int_at, text_at, value_at, packed, packed_value, IsText, IsPackable, ArePackable, BeginsWith};
 ghost use Rattle.mi_value.specs.declared.value.Value.{Value};
 ghost use Rattle.mi_value.specs.declared.value.Value.TheVariants.{Int, Text};
 
+use crate::bytes::{Bytes, Short, Sink};
 use crate::refusal::Refusal;
 use crate::value::ValueRef;
 use std::alloc::{AllocError, Global};
@@ -24,7 +25,7 @@ const TRUE: u8 = 3;
 /// A record, seen as the list of its values, one per column.
 #[derive(Debug, Drop)]
 pub struct Record {
-    bytes: Vec<u8>,
+    bytes: Bytes,
 }
 
 impl Model for Record {
@@ -34,10 +35,11 @@ impl Model for Record {
     ghost Value = { List ValueSpec };
 
     ghost use Rattle.mi_value.specs.Block.{unpacked, HasTexts};
+    ghost use Rattle.mi_value.specs.Bytes.{bytes_in};
 
-    ghost view = { λ a. unpacked a.bytes.items };
+    ghost view = { λ a. unpacked (bytes_in a.bytes) };
 
-    ghost invariant = { λ a. HasTexts (unpacked a.bytes.items) };
+    ghost invariant = { λ a. HasTexts (unpacked (bytes_in a.bytes)) };
 }
 
 /// The values of a record that are left, lent one after another.
@@ -132,50 +134,66 @@ fn room_for(values: &[ValueRef<'_>]) -> usize {
 }
 
 /// Puts a number behind what is there. On an error nothing is said of the bytes.
-fn push_int(bytes: &mut Vec<u8>, n: i64) -> Result<(), AllocError>
-    ensures { OnOk result ((bytes.new.items ≡ bytes.old.items ++ packed_value (Int n)) × IsPackable (Int n)) }
+fn push_int<S: Sink>(bytes: &mut S, n: i64) -> Result<(), AllocError>
+    ensures { OnOk result ((S.held bytes.new ≡ S.held bytes.old ++ packed_value (Int n)) × IsPackable (Int n)) }
 {
-    bytes.push(INT)?;
-    bytes.extend_from_slice(&n.to_le_bytes())
+    bytes.put(&[INT])?;
+    bytes.put(&n.to_le_bytes())
 }
 
 /// Puts a text behind what is there. On an error nothing is said of the bytes.
-fn push_text(bytes: &mut Vec<u8>, text: &str) -> Result<(), AllocError>
-    ensures { OnOk result ((bytes.new.items ≡ bytes.old.items ++ packed_value (Text text.now)) × IsPackable (Text text.now)) }
+fn push_text<S: Sink>(bytes: &mut S, text: &str) -> Result<(), AllocError>
+    ensures { OnOk result ((S.held bytes.new ≡ S.held bytes.old ++ packed_value (Text text.now)) × IsPackable (Text text.now)) }
 {
     let Ok(length) = u32::try_from(text.len()) else {
         return Err(AllocError);
     };
-    bytes.push(TEXT)?;
-    bytes.extend_from_slice(&length.to_le_bytes())?;
-    bytes.extend_from_slice(text.as_bytes())
+    bytes.put(&[TEXT])?;
+    bytes.put(&length.to_le_bytes())?;
+    bytes.put(text.as_bytes())
 }
 
 /// Puts a value behind those that are there. On an error nothing is said of the bytes.
-fn push_value(bytes: &mut Vec<u8>, value: ValueRef<'_>) -> Result<(), AllocError>
-    ensures { OnOk result ((bytes.new.items ≡ bytes.old.items ++ packed_value (lent value.entry)) × IsPackable (lent value.entry)) }
+fn push_value<S: Sink>(bytes: &mut S, value: ValueRef<'_>) -> Result<(), AllocError>
+    ensures { OnOk result ((S.held bytes.new ≡ S.held bytes.old ++ packed_value (lent value.entry)) × IsPackable (lent value.entry)) }
 {
     match value {
         ValueRef::Int(n) => push_int(bytes, n),
         ValueRef::Text(text) => push_text(bytes, text),
-        ValueRef::Flag(false) => Ok(bytes.push(FALSE)?),
-        ValueRef::Flag(true) => Ok(bytes.push(TRUE)?),
+        ValueRef::Flag(false) => bytes.put(&[FALSE]),
+        ValueRef::Flag(true) => bytes.put(&[TRUE]),
     }
+}
+
+/// Puts values behind what is there. On an error nothing is said of the bytes.
+fn push_values<S: Sink>(bytes: &mut S, values: &[ValueRef<'_>]) -> Result<(), AllocError>
+    ensures { OnOk result ((S.held bytes.new ≡ S.held bytes.old ++ packed (map lent values.now)) × ArePackable (map lent values.now)) }
+{
+    for value in values {
+        push_value(bytes, *value)?;
+    }
+    Ok(())
 }
 
 impl Record {
     ghost use Rattle.std.specs.Prelude.{◌≡◌, ◌<◌, ◌^◌, length, map, option_map, slice_get, IfOk, IfErr};
 
-    /// The record of these values, in one block. Answers `AllocError` where memory is refused, or where a text has 2^32 bytes or
-    /// more.
+    /// The record of these values. One of up to 46 bytes takes no memory, a longer one is one block. Answers `AllocError` where
+    /// memory is refused, or where a text has 2^32 bytes or more.
     pub fn new(alloc: Global, values: &[ValueRef<'_>]) -> Result<Record, AllocError>
         ensures { IfOk result (λ made. made ≡ map lent values.now) }
     {
-        let mut bytes = Vec::with_capacity(alloc, room_for(values))?;
-        for value in values {
-            push_value(&mut bytes, *value)?;
+        let mut short = Short::new();
+        if push_values(&mut short, values).is_ok() {
+            return Ok(Record {
+                bytes: Bytes::Short(short),
+            });
         }
-        Ok(Record { bytes })
+        let mut block = Vec::with_capacity(alloc, room_for(values))?;
+        push_values(&mut block, values)?;
+        Ok(Record {
+            bytes: Bytes::Long(block),
+        })
     }
 
     /// An equal record. Answers `Memory` where memory is refused, and nothing else.
@@ -184,7 +202,7 @@ impl Record {
         ensures err { IfErr result (λ e. e ≡ Refusal.Memory) }
     {
         Ok(Record {
-            bytes: Vec::from_slice(alloc, self.bytes.as_slice())?,
+            bytes: self.bytes.copy(alloc)?,
         })
     }
 

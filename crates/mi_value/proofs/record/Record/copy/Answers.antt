@@ -4,4 +4,4 @@ use Rattle.mi_value.specs.Block.{unpacked}
 use Rattle.mi_value.proofs.record.Record.copy.Goals as goal
 
 pub returns-clause-ok : goal.returns-clause-ok
-returns-clause-ok c = ap unpacked (c.in_ok-from_slice.ensures.items ∙ c.as_slice.ensures.value) ∙ c.self.view_is
+returns-clause-ok c = ap unpacked c.in_ok-copy.ensures ∙ c.self.view_is

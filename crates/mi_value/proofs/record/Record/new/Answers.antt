@@ -1,18 +1,24 @@
--- The bytes hold the values, their texts are UTF-8, and no value is left.
-use Rattle.std.proofs.Common.{◌≡◌, [], map, drop, ap}
-use Rattle.std.proofs.Math.ListN.{drop_of_length-le}
+-- The bytes were packed of the values, so they hold them, and their texts are UTF-8.
+use Rattle.std.proofs.Common.{map}
 use Rattle.mi_value.specs.Lent.{lent}
-use Rattle.mi_value.proofs.BlockLemmas.{holds_all, holds_texts}
+use Rattle.mi_value.specs.Bytes.{short_bytes}
+use Rattle.mi_value.proofs.BlockLemmas.{answered, holds_all, holds_texts}
 use Rattle.mi_value.proofs.record.Record.new.Goals as goal
 
 pub invariant_of-result : goal.invariant_of-result
 invariant_of-result c =
-    let vs = c.args.values.now in let i = c.loop-value.value-index in
-    let none : map lent (drop i vs) ≡ [] = ap (map lent) (drop_of_length-le vs c.loop-value-test.false) in
-    holds_texts c.loop-value.bytes.items (map lent vs) (map lent (drop i vs)) none c.loop-value.invariant.0 c.loop-value.invariant.1
+    let done = answered c.push_values.result _ c.is_ok.ensures.value c.if-is_ok.true c.push_values.ensures in
+    holds_texts (short_bytes c.push_values.new.bytes) (short_bytes c.new-short.result) (map lent c.args.values.now) c.new-short.ensures done.0 done.1
+
+pub returns-then-is_ok : goal.returns-then-is_ok
+returns-then-is_ok c =
+    let done = answered c.push_values.result _ c.is_ok.ensures.value c.if-is_ok.true c.push_values.ensures in
+    holds_all (short_bytes c.push_values.new.bytes) (short_bytes c.new-short.result) (map lent c.args.values.now) c.new-short.ensures done.0 done.1
+
+pub invariant_of-result-2 : goal.invariant_of-result-2
+invariant_of-result-2 c = holds_texts c.push_values-2.new.bytes.items c.in_ok-block.block.items (map lent c.args.values.now)
+    c.in_ok-block.ensures.items c.in_ok-push_values.ensures.0 c.in_ok-push_values.ensures.1
 
 pub returns : goal.returns
-returns c =
-    let vs = c.args.values.now in let i = c.loop-value.value-index in
-    let none : map lent (drop i vs) ≡ [] = ap (map lent) (drop_of_length-le vs c.loop-value-test.false) in
-    holds_all c.loop-value.bytes.items (map lent vs) (map lent (drop i vs)) none c.loop-value.invariant.0 c.loop-value.invariant.1
+returns c = holds_all c.push_values-2.new.bytes.items c.in_ok-block.block.items (map lent c.args.values.now)
+    c.in_ok-block.ensures.items c.in_ok-push_values.ensures.0 c.in_ok-push_values.ensures.1

@@ -2,7 +2,7 @@
 use Rattle.std.proofs.Common.{◌≡◌, drop, map}
 use Rattle.mi_value.specs.Edits as meaning
 use Rattle.mi_value.specs.Lent.{lent}
-use Rattle.mi_value.proofs.edit.apply.Given as goal
+use Rattle.mi_value.proofs.edit.edited.Given as goal
 
 abbrev pub invariant-loop-edit : goal.invariant-loop-edit
-invariant-loop-edit l = meaning.apply (drop l.edit-index l.edits) (map lent l.values.items) ≡ meaning.apply l.edits l.row
+invariant-loop-edit l = meaning.apply (drop l.edit-index l.edits) (map lent l.values) ≡ meaning.apply l.edits (map lent l.fn.values)
