@@ -5,6 +5,7 @@ pub mod ColumnLemmas
 pub mod MapLemmas
 pub mod NeighbourLemmas
 pub mod RefLemmas
+mod SpareLemmas
 mod RowSteps
 mod SlotCalls
 mod FrameSteps

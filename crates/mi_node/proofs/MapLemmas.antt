@@ -21,16 +21,16 @@ use Rattle.mi_node.specs.declared.cell.Cell.{Cell}
 use Rattle.mi_node.specs.declared.home.Home.{Home}
 use Rattle.mi_node.specs.declared.home.Home.TheVariants.{Free, Held}
 
-some_inj : {X : Type 0} (x y : X) → Some x ≡ Some y → x ≡ y
+pub some_inj : {X : Type 0} (x y : X) → Some x ≡ Some y → x ≡ y
 some_inj x y e = cc
 
-none_some : {X : Type 0} (x : X) → None ≡ Some x → ⊥
+pub none_some : {X : Type 0} (x : X) → None ≡ Some x → ⊥
 none_some x e = cc
 
-same : (k q : ℕ) → (k == q) ≡ true → k ≡ q
+pub same : (k q : ℕ) → (k == q) ≡ true → k ≡ q
 same k q e = grind (arith, e)
 
-itself : (k : ℕ) → (k == k) ≡ true
+pub itself : (k : ℕ) → (k == k) ≡ true
 itself k = grind arith
 
 from_zero : (q : ℕ) → 0 + q ≡ q
@@ -70,20 +70,20 @@ long_none cs s less = omega arith
 differs : (b c : ℕ) → b ≡ c → 1 - b ≡ c → ⊥
 differs b c e f = omega (arith, e, f)
 
-last_mark : (k : ℕ) (o : Option ℕ) (r : Ref) → option_map (λ m. record { name = k; mark = m }) o ≡ Some r → o ≡ Some r.mark
+pub last_mark : (k : ℕ) (o : Option ℕ) (r : Ref) → option_map (λ m. record { name = k; mark = m }) o ≡ Some r → o ≡ Some r.mark
 last_mark k None r e = absurd (none_some r e)
 last_mark k (Some m) r e = ap Some (ap (λ (q : Ref). q.mark) (some_inj _ r e))
 
 module _ {T : Type 0} where
   -- the node at the place k
-  abbrev made : List (List Cell) → ℕ → Ref → T → Entry T
+  abbrev pub made : List (List Cell) → ℕ → Ref → T → Entry T
   made cs k r v = record { mark = r.mark; value = v; links = links_at cs k }
 
-  abbrev entry_at : List (List Cell) → ℕ → Home T → Option (Entry T)
+  abbrev pub entry_at : List (List Cell) → ℕ → Home T → Option (Entry T)
   entry_at cs k (Free r n) = None
   entry_at cs k (Held r v) = Some (made cs k r v)
 
-  abbrev entry_of : List (List Cell) → ℕ → Option (Home T) → Option (Entry T)
+  abbrev pub entry_of : List (List Cell) → ℕ → Option (Home T) → Option (Entry T)
   entry_of cs k None = None
   entry_of cs k (Some h) = entry_at cs k h
 
@@ -110,10 +110,10 @@ module _ {T : Type 0} where
       put_other cs k (k + suc j) h (map_from cs (suc k) hs) apart
       ∙ subst (λ q. get (map_from cs (suc k) hs) q ≡ entry_of cs q (home_at hs j)) on (get-from cs (suc k) j hs)
 
-  get-map : (cs : List (List Cell)) (hs : List (Home T)) (q : ℕ) → get (map_from cs 0 hs) q ≡ entry_of cs q (home_at hs q)
+  pub get-map : (cs : List (List Cell)) (hs : List (Home T)) (q : ℕ) → get (map_from cs 0 hs) q ≡ entry_of cs q (home_at hs q)
   get-map cs hs q = subst (λ k. get (map_from cs 0 hs) k ≡ entry_of cs k (home_at hs q)) (from_zero q) (get-from cs 0 q hs)
 
-  at_index : (hs : List (Home T)) (j : ℕ) (d : Home T) → j < length hs → home_at hs j ≡ Some (slice_index_or hs j d)
+  pub at_index : (hs : List (Home T)) (j : ℕ) (d : Home T) → j < length hs → home_at hs j ≡ Some (slice_index_or hs j d)
   at_index [] j d less = absurd (omega (arith, less))
   at_index (h ∷ hs) zero d less = refl
   at_index (h ∷ hs) (suc j) d less = at_index hs j d (omega (arith, less))
@@ -201,10 +201,10 @@ module _ {T : Type 0} where
         | false ↦ λ e. ap (entry_of ds q) (homes q e) ∙ same_entry cs ds q (home_at hs q) (links q e) ∙ sym (get-map cs hs q)
       ]) refl
 
-  other_home : (hs : List (Home T)) (j : ℕ) (h : Home T) → j < length hs → (q : ℕ) → (q == j) ≡ false → home_at (slice_set hs j h) q ≡ home_at hs q
+  pub other_home : (hs : List (Home T)) (j : ℕ) (h : Home T) → j < length hs → (q : ℕ) → (q == j) ≡ false → home_at (slice_set hs j h) q ≡ home_at hs q
   other_home hs j h less q e = at_set hs j q h less ∙ ap (λ b. cond b (Some h) (home_at hs q)) e
 
-  this_home : (hs : List (Home T)) (j : ℕ) (h : Home T) → j < length hs → home_at (slice_set hs j h) j ≡ Some h
+  pub this_home : (hs : List (Home T)) (j : ℕ) (h : Home T) → j < length hs → home_at (slice_set hs j h) j ≡ Some h
   this_home hs j h less = at_set hs j j h less ∙ ap (λ b. cond b (Some h) (home_at hs j)) (itself j)
 
   entry-there : (n : ℕ) (cs : List (List Cell)) (hs : List (Home T)) (r : Ref) (t : There cs hs r)

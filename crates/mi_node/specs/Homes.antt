@@ -34,3 +34,6 @@ module _ {T : Type 0} where
 
   abbrev pub IsFreeAt : List (Home T) → ℕ → Type 0
   IsFreeAt hs k = IsFreeIf (home_at hs k)
+
+  abbrev pub IsNotFreeAt : List (Home T) → ℕ → Type 0
+  IsNotFreeAt hs k = IsFreeAt hs k → ⊥

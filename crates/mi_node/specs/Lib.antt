@@ -11,3 +11,4 @@ pub mod RefView
 pub mod Refs
 pub mod Rows
 pub mod Seen
+pub mod Spares

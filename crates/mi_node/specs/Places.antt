@@ -1,6 +1,7 @@
 -- What the places of a pool stand for, and that they are sound.
 use Rattle.mi_node.specs.Pool.{Pooled}
 use Rattle.mi_node.specs.Seen.{seen, IsSound}
+use Rattle.mi_node.specs.Spares.{AreListed}
 use Rattle.mi_node.specs.declared.places.Places.{Places}
 
 module _ {T : Type 0} where
@@ -8,4 +9,4 @@ module _ {T : Type 0} where
   nodes p = seen p.slots p.columns.items p.homes p.gone.marks
 
   abbrev pub AreSound : Places T → Type 0
-  AreSound p = IsSound p.slots p.columns.items p.homes p.gone.marks
+  AreSound p = IsSound p.slots p.columns.items p.homes p.gone.marks × AreListed p.homes p.gone.marks p.free

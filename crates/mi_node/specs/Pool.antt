@@ -4,6 +4,7 @@
 --     ref_of, value_of, link_of      the reference that `take` gave for a name, its value, its link of a slot
 --     IsHeld, IsHeldIf          this pool's entry of the reference's name has this very reference
 --     last_given, IsNotLast      the reference of a name that was given back last; that a reference isn't that one
+--     HasSpare        a place that was given back is free
 --     no_nodes, taken, without, with_link, with_value      the pool after a call
 --     node_count      how many nodes are held
 --     Keeps           what a change of one structure leaves as it was
@@ -85,6 +86,13 @@ module _ {T : Type 0} where
   -- r isn't the reference that was given back last at its place
   abbrev pub IsNotLast : Pooled T → Ref → Type 0
   IsNotLast m r = last_given m r.name ≡ Some r → ⊥
+
+  -- a node was given back, and at its place no node stands
+  pub record HasSpare (m : Pooled T) : Type 0 where
+    pub name : ℕ
+    pub node : Ref
+    pub given : last_given m name ≡ Some node
+    pub free : ref_of m name ≡ None
 
   -- the node that is named, if one is, is held
   abbrev pub IsHeldIf : Pooled T → Option Ref → Type 0

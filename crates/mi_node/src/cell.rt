@@ -1,7 +1,7 @@
 //! The form in which a link is stored: 32 bytes, where a `Link` takes more.
 //! Plain data: it owns no node and never follows a reference.
 ghost use Rattle.std.specs.Prelude.{◌≡◌, ⊤, cond};
-ghost use Rattle.mi_node.specs.Cells.{link_of_cell, ref_in, sized};
+ghost use Rattle.mi_node.specs.Cells.{link_of_cell, ref_in, sided, sized};
 
 use crate::link::{Link, Tag};
 use crate::node_ref::{NOBODY, NodeRef};
@@ -11,12 +11,15 @@ use std::mem::size_of;
 /// A `Link` whose neighbours are the bits of their references.
 ///
 /// What a look-up reads stands in the first half: where a cell lies across two lines of the cache, it reads one.
+/// No byte is without a field, so a cell of which one field changes is written by that field alone.
 pub(crate) struct Cell {
     back: u32,
     forth: u32,
     key: u64,
     size: u32,
     height: u8,
+    spare: u8,
+    spares: u16,
     stamp: u64,
 }
 
@@ -29,6 +32,8 @@ pub(crate) const EMPTY: Cell = Cell {
     key: 0,
     size: 0,
     height: 0,
+    spare: 0,
+    spares: 0,
     stamp: 0,
 };
 
@@ -55,6 +60,8 @@ impl Cell {
             key: link.tag.key,
             size: link.size,
             height: link.height,
+            spare: 0,
+            spares: 0,
             stamp: link.tag.stamp,
         }
     }
@@ -81,6 +88,27 @@ impl Cell {
         ensures { link_of_cell result ≡ sized size (link_of_cell self) }
     {
         Cell { size, ..self }
+    }
+
+    /// The same with another neighbour, `back` or else `forth`, and another height.
+    #[inline(always)]
+    pub(crate) fn with_side(self, back: bool, node: Option<NodeRef>, height: u8) -> Cell
+        ensures { link_of_cell result ≡ sided back node height (link_of_cell self) }
+    {
+        let bits = bits_of(node);
+        if back {
+            Cell {
+                back: bits,
+                height,
+                ..self
+            }
+        } else {
+            Cell {
+                forth: bits,
+                height,
+                ..self
+            }
+        }
     }
 
     /// The bits of one neighbour.

@@ -3,6 +3,7 @@
 ghost use Rattle.std.specs.Prelude.{◌≡◌, ◌≤◌, ◌+◌, ◌-◌, Some, IfOk, IsTrue, is_some};
 ghost use Rattle.core.specs.Mem.Slots.{slots_items, slots_ptr, slots_len, IsFull};
 ghost use Rattle.mi_node.specs.Homes.{IsFree, AreFree, node_in, value_in};
+ghost use Rattle.mi_node.specs.Spares.{GoesOn};
 
 use crate::chunk::{Chunk, places_of};
 use crate::chunks::CHUNK;
@@ -26,6 +27,7 @@ pub(crate) fn next_at<T>(home: &Home<T>) -> (NodeRef, u32)
     requires { IsFree home.now }
     ensures name { result.0.name ≡ (node_in home.now).name }
     ensures mark { result.0.mark ≡ 1 - (node_in home.now).mark }
+    ensures next { GoesOn result.1 (Some home.now) }
 {
     match home {
         Home::Free { node, next } => (node.renewed(), *next),
@@ -57,7 +59,8 @@ pub(crate) fn into_value<T>(home: Home<T>) -> T
 
 /// Whether no node stands there.
 pub(crate) fn is_free<T>(home: &Home<T>) -> bool
-    ensures { IsTrue result → IsFree home.now }
+    ensures free { IsTrue result → IsFree home.now }
+    ensures held { IsFree home.now → IsTrue result }
 {
     match home {
         Home::Free { node: _, next: _ } => true,

@@ -45,6 +45,15 @@ impl Clone for NodeRef {
 
 impl Copy for NodeRef {}
 
+/// A reference that fills room in which none stands yet. Which one isn't said, nor that a node is held by it.
+impl Default for NodeRef {
+    ghost is_default = { λ _. ⊤ };
+
+    fn default() -> NodeRef {
+        NodeRef { bits: 0 }
+    }
+}
+
 impl NodeRef {
     /// The reference to the node at that place, which its mark (0 or 1) tells from the node that stood there before.
     pub(crate) fn new(place: u32, mark: u32) -> NodeRef

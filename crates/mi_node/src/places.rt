@@ -1,8 +1,8 @@
 //! The places of a pool: what stands at each, and its links.
 //! Safe code over arrays in chunks: it never reads what a link says.
-ghost use Rattle.std.specs.Prelude.{◌≡◌, ◌<◌, Some, None, IfOk};
+ghost use Rattle.std.specs.Prelude.{◌≡◌, ◌<◌, Some, None, IfOk, IsOk, IsTrue};
 ghost use Rattle.mi_node.specs.Cells.{link_of_cell};
-ghost use Rattle.mi_node.specs.Homes.{IsFreeAt};
+ghost use Rattle.mi_node.specs.Homes.{IsFreeAt, IsNotFreeAt};
 ghost use Rattle.mi_node.specs.Pool.{IsHeld, IsNotLast, ref_of, value_of, link_of, no_nodes, taken, without, with_link, with_value};
 
 use crate::cell::Cell;
@@ -16,7 +16,7 @@ use crate::node_ref::{NodeRef, PLACES};
 use std::alloc::{AllocError, Global};
 
 /// The places, each free or with a node. `free` is a place that is free, if one is: a free place
-/// names the next one.
+/// names the next one, and those that were given back come before those that were never used.
 #[derive(Drop)]
 pub(crate) struct Places<T> {
     homes: Chunks<Home<T>>,
@@ -52,22 +52,33 @@ impl<T> Places<T> {
         self.slots
     }
 
-    /// A free place. Where there is none, a chunk of free places is added.
+    /// The first free place. Where there is none, a chunk of free places is added.
     pub(crate) fn free_place(&mut self) -> Result<usize, AllocError>
     where
         T: Drop,
         requires { AreSound self.old }
         ensures place { IfOk result (λ k. IsFreeAt self.new.homes k) }
+        ensures first { IfOk result (λ k. self.new.free ≡ k) }
+        ensures ready { IsFreeAt self.old.homes self.old.free → IsOk result }
         ensures nodes { nodes self.new ≡ nodes self.old }
         ensures sound { AreSound self.new }
     {
-        let place = self.free as usize;
-        if place < self.homes.len() {
-            if is_free(self.homes.at(place)) {
-                return Ok(place);
-            }
+        if self.has_free() {
+            return Ok(self.free as usize);
         }
         self.add_chunk()
+    }
+
+    /// Whether there is a free place: then `free` is one.
+    fn has_free(&self) -> bool
+        ensures free { IsTrue result → IsFreeAt self.now.homes self.now.free }
+        ensures none { IsFreeAt self.now.homes self.now.free → IsTrue result }
+    {
+        let place = self.free as usize;
+        if place >= self.homes.len() {
+            return false;
+        }
+        is_free(self.homes.at(place))
     }
 
     /// Adds a chunk of free places, and answers the first of them. Memory is taken for the links
@@ -75,8 +86,10 @@ impl<T> Places<T> {
     fn add_chunk(&mut self) -> Result<usize, AllocError>
     where
         T: Drop,
-        requires { AreSound self.old }
+        requires sound { AreSound self.old }
+        requires none { IsNotFreeAt self.old.homes self.old.free }
         ensures place { IfOk result (λ k. IsFreeAt self.new.homes k) }
+        ensures first { IfOk result (λ k. self.new.free ≡ k) }
         ensures nodes { nodes self.new ≡ nodes self.old }
         ensures sound { AreSound self.new }
     {
@@ -92,12 +105,13 @@ impl<T> Places<T> {
         Ok(first)
     }
 
-    /// A new node at a free place, none of whose links is set.
+    /// A new node at the first free place, none of whose links is set.
     pub(crate) fn settle(&mut self, place: usize, value: T) -> NodeRef
     where
         T: Drop,
         requires sound { AreSound self.old }
         requires free { IsFreeAt self.old.homes place }
+        requires first { self.old.free ≡ place }
         ensures free { ref_of (nodes self.old) result.name ≡ None }
         ensures other { IsNotLast (nodes self.old) result }
         ensures nodes { nodes self.new ≡ taken (nodes self.old) result value }

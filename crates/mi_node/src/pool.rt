@@ -1,8 +1,8 @@
 //! The pool of all nodes, seen as a finite map from places.
 //! Safe code over the places: it never reads what a link says.
-ghost use Rattle.std.specs.Prelude.{◌≡◌, ◌<◌, ◌≤◌, Some, None, IfOk, IfErr, cond};
-ghost use Rattle.mi_node.specs.Cells.{sized};
-ghost use Rattle.mi_node.specs.Pool.{IsHeld, IsNotLast, ref_of, value_of, link_of, no_nodes, taken, without, with_link, with_value};
+ghost use Rattle.std.specs.Prelude.{◌≡◌, ◌<◌, ◌≤◌, Some, None, IfOk, IfErr, IsOk, cond};
+ghost use Rattle.mi_node.specs.Cells.{sided, sized};
+ghost use Rattle.mi_node.specs.Pool.{HasSpare, IsHeld, IsNotLast, ref_of, value_of, link_of, no_nodes, taken, without, with_link, with_value};
 
 use crate::link::Link;
 use crate::node_ref::NodeRef;
@@ -77,13 +77,15 @@ impl<T> Pool<T> {
     /// last at that place.
     ///
     /// Where memory is refused, or no place is left, the pool is as it was and
-    /// the value comes back.
+    /// the value comes back. Where a place that was given back is free, no memory is asked for, and it
+    /// isn't refused.
     pub fn take(&mut self, value: T) -> Result<NodeRef, (AllocError, T)>
     where
         T: Drop,
         ensures free { IfOk result (λ r. ref_of self.old r.name ≡ None) }
         ensures other { IfOk result (λ r. IsNotLast self.old r) }
         ensures ok { IfOk result (λ r. self.new ≡ taken self.old r value) }
+        ensures ready { HasSpare self.old → IsOk result }
         ensures value_returned { IfErr result (λ e. e.1 ≡ value) }
         ensures err { IfErr result (λ _. self.new ≡ self.old) }
     {
@@ -157,5 +159,25 @@ impl<T> Pool<T> {
     {
         let cell = self.places.stored(node, slot);
         self.places.store(node, slot, cell.with_size(size));
+    }
+
+    /// Sets one neighbour in the node's link of a slot, counted from 0: `back`, or else `forth`; and the height. The rest of the link
+    /// and all other links stay.
+    #[inline(always)]
+    pub fn set_side(
+        &mut self,
+        node: NodeRef,
+        slot: usize,
+        back: bool,
+        neighbour: Option<NodeRef>,
+        height: u8,
+    )
+        requires held { IsHeld self.old node }
+        requires slot { slot < self.old.slots }
+        ensures { self.new ≡ with_link self.old node.name slot (sided back neighbour height (link_of self.old node.name slot)) }
+    {
+        let cell = self.places.stored(node, slot);
+        self.places
+            .store(node, slot, cell.with_side(back, neighbour, height));
     }
 }

@@ -65,7 +65,7 @@ module _ {T : Type 0} where
       record { path_is = refl; can = c; has = e; above = tt; beside = tt; apart = c.apart; places = λ u p. p; room = omega arith }
 
   -- the node is there
-  sunk_here : (m : Pooled T) (s : ℕ) (items : List (Option Turn)) (at : Option Ref)
+  sunk_here : (m : Pooled T) (s : ℕ) (items : List Turn) (at : Option Ref)
       (fs : List Frame) (t : BinaryTree) (xs : List Ref) (x : Ref) (ys vs ws : List Ref)
       → Sinks m s items at fs t xs x ys vs ws → at ≡ Some x
       → (A B : BinaryTree) → t ≡ Fork A x B → nodes A ≡ xs → nodes B ≡ ys → HasSunk m m s items xs x ys vs ws (plug fs t) fs A B
@@ -82,17 +82,17 @@ module _ {T : Type 0} where
   }
 
   -- a step down: where the way goes on, and what its end says of the whole
-  pub record NextSink (m n : Pooled T) (s : ℕ) (new : List (Option Turn)) (at next : Option Ref)
+  pub record NextSink (m n : Pooled T) (s : ℕ) (new : List Turn) (at next : Option Ref)
       (fs : List Frame) (t : BinaryTree) (xs : List Ref) (x : Ref) (ys vs ws us : List Ref) : Type 0 where
     pub gs : List Frame
     pub sub : BinaryTree
     pub zs : List Ref
     pub sinks : Sinks n s new next gs sub us x zs vs ws
     pub lower : height_at n s next < height_at m s at
-    pub sunk : (v : Pooled T) (last : List (Option Turn)) (ks : List Frame) (A B : BinaryTree)
+    pub sunk : (v : Pooled T) (last : List Turn) (ks : List Frame) (A B : BinaryTree)
         → HasSunk n v s last us x zs vs ws (plug gs sub) ks A B → HasSunk m v s last xs x ys vs ws (plug fs t) ks A B
 
-  module _ {m n : Pooled T} {s : ℕ} {items : List (Option Turn)} {at : Option Ref} {here : Ref}
+  module _ {m n : Pooled T} {s : ℕ} {items : List Turn} {at : Option Ref} {here : Ref}
       {y : Link} {fs : List Frame} {t : BinaryTree} {xs : List Ref} {x : Ref} {ys vs ws : List Ref}
       (h : Sinks m s items at fs t xs x ys vs ws) (e : at ≡ Some here) (i : y ≡ link_of m here.name s)
       (set : n ≡ with_link m here.name s (sized_link (y.size - 1) y)) where
@@ -113,7 +113,7 @@ module _ {T : Type 0} where
 
     -- the way goes on to a side where the node stands between us and zs
     record Lowered (b : Bool) (us zs : List Ref) : Type 0 where
-      pub sinks : Sinks n s (items ++ Some (turn b) ∷ []) (cond b y.back y.forth) (frame (turn b) (at_side b).other ∷ fs) (at_side b).sub us x zs vs ws
+      pub sinks : Sinks n s (items ++ turn b ∷ []) (cond b y.back y.forth) (frame (turn b) (at_side b).other ∷ fs) (at_side b).sub us x zs vs ws
       pub among : (j : ℕ) → IsOut j (xs ++ ys) → IsOut j (here ∷ []) × IsOut j (us ++ zs)
 
     lowered_on : (b : Bool) (us zs : List Ref) → nodes (at_side b).sub ≡ us ++ x ∷ zs
@@ -121,7 +121,7 @@ module _ {T : Type 0} where
         → ((j : ℕ) → IsOut j (xs ++ ys) → IsOut j (here ∷ []) × IsOut j (us ++ zs)) → Lowered b us zs
     lowered_on b us zs has places among = let k = on_side b open_here in record {
       sinks = record {
-        path_is = ap (λ z. z ++ Some (turn b) ∷ []) h.path_is;
+        path_is = ap (λ z. z ++ turn b ∷ []) h.path_is;
         can = sized_can open_here i _ set k;
         has = has;
         above = sized_above open_here i _ set k fs (forks k.sub - 1) e h.apart (ap (λ z. z - 1) open_here.size_is)
@@ -159,7 +159,7 @@ module _ {T : Type 0} where
     pub room_here : length items < 45
     room_here = let a = h.room in let b = ap length h.path_is in let c = path_length fs in let d = ap height open_here.is in omega arith
 
-    sunk_on : (b : Bool) (us zs : List Ref) (k : Lowered b us zs) (v : Pooled T) (last : List (Option Turn)) (gs : List Frame) (A B : BinaryTree)
+    sunk_on : (b : Bool) (us zs : List Ref) (k : Lowered b us zs) (v : Pooled T) (last : List Turn) (gs : List Frame) (A B : BinaryTree)
         → HasSunk n v s last us x zs vs ws (plug fs (forked b (at_side b).sub here (at_side b).other)) gs A B
         → HasSunk m v s last xs x ys vs ws (plug fs t) gs A B
     sunk_on b us zs k v last gs A B f = record {
@@ -174,19 +174,19 @@ module _ {T : Type 0} where
       tags = λ j. f.tags j ∙ tags_here j;
     }
 
-    abbrev next_of : {new : List (Option Turn)} {next : Option Ref} (b : Bool) (us zs : List Ref) (k : Lowered b us zs)
-        → new ≡ items ++ Some (turn b) ∷ [] → next ≡ cond b y.back y.forth → NextSink m n s new at next fs t xs x ys vs ws us
+    abbrev next_of : {new : List Turn} {next : Option Ref} (b : Bool) (us zs : List Ref) (k : Lowered b us zs)
+        → new ≡ items ++ turn b ∷ [] → next ≡ cond b y.back y.forth → NextSink m n s new at next fs t xs x ys vs ws us
     next_of {new} {next} b us zs k p q = record {
       gs = frame (turn b) (at_side b).other ∷ fs;
       sub = (at_side b).sub;
       zs = zs;
-      sinks = subst (λ (z : List (Option Turn) × Option Ref). Sinks n s z.0 z.1 (frame (turn b) (at_side b).other ∷ fs) (at_side b).sub us x zs vs ws)
+      sinks = subst (λ (z : List Turn × Option Ref). Sinks n s z.0 z.1 (frame (turn b) (at_side b).other ∷ fs) (at_side b).sub us x zs vs ws)
           (λ j. (sym p j, sym q j)) k.sinks;
       lower = subst (λ z. height_at n s z < height_at m s at) (sym q) (sized_lower open_here i _ set (at_side b) h.can.rooted);
       sunk = sunk_on b us zs k;
     }
 
-    pub next_first : {new : List (Option Turn)} {left : Ref} → y.back ≡ Some left → xs ≡ [] → new ≡ items ++ Some (record { node = here; left = true }) ∷ []
+    pub next_first : {new : List Turn} {left : Ref} → y.back ≡ Some left → xs ≡ [] → new ≡ items ++ record { node = here; left = true } ∷ []
         → NextSink m n s new at (Some left) fs t xs x ys vs ws xs
     next_first {new} {left} f none p = let st = lowered_first left f none in next_of true xs st.0 st.1 p (sym f)
 
@@ -214,8 +214,8 @@ module _ {T : Type 0} where
       tagged_sub b r = let k = on_side b open_here in tagged_kept order tag m n s keeps_here.values tags_here (nodes k.sub)
           (forked_tagged tag m s b here k.other k.sub (subst (λ z. AreTagged tag m s (nodes z)) k.is r))
 
-      pub next_sink : {new : List (Option Turn)} {next : Option Ref} {k : Ordering} {b : Bool} → side order m s x here ≡ k → is_eq k ≡ false → b ≡ is_lt k
-          → new ≡ items ++ Some (record { node = here; left = b }) ∷ [] → next ≡ cond b y.back y.forth → Rising (side order m s) (nodes t)
+      pub next_sink : {new : List Turn} {next : Option Ref} {k : Ordering} {b : Bool} → side order m s x here ≡ k → is_eq k ≡ false → b ≡ is_lt k
+          → new ≡ items ++ record { node = here; left = b } ∷ [] → next ≡ cond b y.back y.forth → Rising (side order m s) (nodes t)
           → (us : List Ref) × (o : NextSink m n s new at next fs t xs x ys vs ws us)
           × Rising (side order n s) (nodes o.sub) × (AreTagged tag m s (nodes t) → AreTagged tag n s (nodes o.sub))
       next_sink {new} {next} {k} {b} f g l p q r =
@@ -230,7 +230,7 @@ module _ {T : Type 0} where
       (o.held_root, ((tagged_right tag m s (nodes o.A) (here ∷ nodes o.B) (subst (AreTagged tag m s) (ap nodes o.is) g)).0, tt))
 
   -- the node is here
-  pub sunk_equal : {order : T → T → Ordering} {m : Pooled T} {s : ℕ} {items : List (Option Turn)} {at : Option Ref} {fs : List Frame} {t : BinaryTree}
+  pub sunk_equal : {order : T → T → Ordering} {m : Pooled T} {s : ℕ} {items : List Turn} {at : Option Ref} {fs : List Frame} {t : BinaryTree}
       {xs : List Ref} {x : Ref} {ys vs ws : List Ref} {here : Ref} → IsTotalOrder order → Sinks m s items at fs t xs x ys vs ws
       → Rising (side order m s) (nodes t) → at ≡ Some here → side order m s x here ≡ Equal
       → (A : BinaryTree) × (B : BinaryTree) × HasSunk m m s items xs x ys vs ws (plug fs t) fs A B
@@ -241,7 +241,7 @@ module _ {T : Type 0} where
       (o.A, o.B, sunk_here m s items at fs t xs x ys vs ws h (e ∙ ap (λ z. Some z) on.1) o.A o.B (o.is ∙ ap (λ z. Fork o.A z o.B) on.1) on.0 on.2)
 
   -- the first node is here
-  pub sunk_first : (m : Pooled T) (s : ℕ) (items : List (Option Turn)) (at : Ref) (fs : List Frame) (t : BinaryTree) (x : Ref) (ys vs ws : List Ref)
+  pub sunk_first : (m : Pooled T) (s : ℕ) (items : List Turn) (at : Ref) (fs : List Frame) (t : BinaryTree) (x : Ref) (ys vs ws : List Ref)
       → Sinks m s items (Some at) fs t [] x ys vs ws → (y : Link) → y ≡ link_of m at.name s → y.back ≡ None
       → (at ≡ x) × (gs : List Frame) × (B : BinaryTree) × HasSunk m m s items [] x ys vs ws (plug fs t) gs Tip B
   sunk_first m s items at fs t x ys vs ws h y i none =
@@ -257,7 +257,7 @@ module _ {T : Type 0} where
       )
 
   -- x is at the end of the way, and goes
-  module _ {m n : Pooled T} {s : ℕ} {items : List (Option Turn)} {root : Option Ref} {t : BinaryTree} {xs : List Ref} {x : Ref} {ys : List Ref}
+  module _ {m n : Pooled T} {s : ℕ} {items : List Turn} {root : Option Ref} {t : BinaryTree} {xs : List Ref} {x : Ref} {ys : List Ref}
       {gs : List Frame} {A B : BinaryTree} (c : CanTake m s root t) (has : nodes t ≡ xs ++ x ∷ ys)
       (f : HasSunk m n s items xs x ys xs ys t gs A B) {y : Link} (i : y ≡ link_of n x.name s) where
     link_is : y ≡ fork_link A B (link_of n x.name s).tag

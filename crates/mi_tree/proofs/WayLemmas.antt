@@ -2,7 +2,6 @@
 use Rattle.std.proofs.Common.{◌≡◌, ◌==◌, ℕ, Bool, true, false, cond, not, ◌+◌, ◌-◌, ◌^◌, ◌<◌, ◌≤◌, max, List, [], ◌∷◌}
 use Rattle.std.proofs.Common.{◌++◌, length, take, Option, Some, None, refl, sym, ap, ◌∙◌, subst, arith, length-append}
 use Rattle.std.specs.List.{slice_get}
-use Rattle.std.specs.Option.{option_flatten}
 use Rattle.std.proofs.lemmas.Option.{slice_get-get_or}
 use Rattle.std.proofs.Math.Seq.{take-append_seam, get_or-append_seam}
 use Rattle.std.specs.declared.cmp.Ordering.{Ordering}
@@ -38,7 +37,7 @@ turn_of f = record { node = f.node; left = f.left }
 
 pub path_length : (fs : List Frame) → length (way_of fs) ≡ length fs
 path_length [] = refl
-path_length (f ∷ fs) = let i = path_length fs in let j = length-append (way_of fs) (Some (turn_of f) ∷ []) in omega arith
+path_length (f ∷ fs) = let i = path_length fs in let j = length-append (way_of fs) (turn_of f ∷ []) in omega arith
 
 some_two : (a b : Turn) → Some a ≡ Some b → a ≡ b
 some_two a b e = cc
@@ -46,43 +45,43 @@ some_two a b e = cc
 abbrev pub frame : Turn → BinaryTree → Frame
 frame turn q = record { node = turn.node; left = turn.left; other = q }
 
-pub record IsTurned (fs : List Frame) (new : List (Option Turn)) (turn : Turn) : Type 0 where
+pub record IsTurned (fs : List Frame) (new : List Turn) (turn : Turn) : Type 0 where
   pub other : BinaryTree
   pub rest : List Frame
   pub was : fs ≡ frame turn other ∷ rest
   pub now : new ≡ way_of rest
 
-last_length : (items : List (Option Turn)) (f : Frame) (fs : List Frame) → items ≡ way_of (f ∷ fs) → length items - 1 ≡ length (way_of fs)
-last_length items f fs e = let i = ap length e in let j = length-append (way_of fs) (Some (turn_of f) ∷ []) in omega arith
+last_length : (items : List Turn) (f : Frame) (fs : List Frame) → items ≡ way_of (f ∷ fs) → length items - 1 ≡ length (way_of fs)
+last_length items f fs e = let i = ap length e in let j = length-append (way_of fs) (turn_of f ∷ []) in omega arith
 
-last_is : (items : List (Option Turn)) (f : Frame) (fs : List Frame) → items ≡ way_of (f ∷ fs) → slice_get items (length items - 1) ≡ Some (Some (turn_of f))
+last_is : (items : List Turn) (f : Frame) (fs : List Frame) → items ≡ way_of (f ∷ fs) → slice_get items (length items - 1) ≡ Some (turn_of f)
 last_is items f fs e =
-    let n = last_length items f fs e in let ps = way_of fs in let j = length-append ps (Some (turn_of f) ∷ []) in
-    (λ i. slice_get (e i) (n i)) ∙ slice_get-get_or (ps ++ Some (turn_of f) ∷ []) (length ps) (Some (turn_of f)) (omega arith)
-    ∙ ap (λ k. Some k) (get_or-append_seam ps (Some (turn_of f)) [] (Some (turn_of f)))
+    let n = last_length items f fs e in let ps = way_of fs in let j = length-append ps (turn_of f ∷ []) in
+    (λ i. slice_get (e i) (n i)) ∙ slice_get-get_or (ps ++ turn_of f ∷ []) (length ps) (turn_of f) (omega arith)
+    ∙ ap (λ k. Some k) (get_or-append_seam ps (turn_of f) [] (turn_of f))
 
-pub turned_back : {items new : List (Option Turn)} {last : Option (Option Turn)} {fs : List Frame} {turn : Turn}
+pub turned_back : {items new : List Turn} {last : Option Turn} {fs : List Frame} {turn : Turn}
     → items ≡ way_of fs → new ≡ take (length items - 1) items → last ≡ slice_get items (length items - 1)
-    → option_flatten last ≡ Some turn → IsTurned fs new turn
+    → last ≡ Some turn → IsTurned fs new turn
 turned_back {items} {new} {last} {fs = []} {turn = r} e n l g =
-    let i : last ≡ None = l ∙ (λ k. slice_get (e k) (length (e k) - 1)) in let j : None ≡ Some r = sym (ap option_flatten i) ∙ g in absurd cc
+    let i : last ≡ None = l ∙ (λ k. slice_get (e k) (length (e k) - 1)) in let j : None ≡ Some r = sym i ∙ g in absurd cc
 turned_back {items} {new} {last} {fs = f ∷ fs} {turn = r} e n l g =
-    let same : r ≡ turn_of f = some_two r (turn_of f) (sym g ∙ ap option_flatten (l ∙ last_is items f fs e)) in record {
+    let same : r ≡ turn_of f = some_two r (turn_of f) (sym g ∙ l ∙ last_is items f fs e) in record {
       other = f.other;
       rest = fs;
       was = ap (λ (z : Turn). frame z f.other ∷ fs) (sym same);
-      now = n ∙ (λ i. take (last_length items f fs e i) (e i)) ∙ take-append_seam (way_of fs) (Some (turn_of f) ∷ []);
+      now = n ∙ (λ i. take (last_length items f fs e i) (e i)) ∙ take-append_seam (way_of fs) (turn_of f ∷ []);
     }
 
-pub shorter_way : {items new : List (Option Turn)} {fs : List Frame} {turn : Turn} → items ≡ way_of fs → IsTurned fs new turn → length new < length items
+pub shorter_way : {items new : List Turn} {fs : List Frame} {turn : Turn} → items ≡ way_of fs → IsTurned fs new turn → length new < length items
 shorter_way {items} {new} {fs} {turn} e w =
     let a = ap length e in let b = path_length fs in let c = ap (λ (k : List Frame). length k) w.was in let d = ap length w.now in let f = path_length w.rest in
     omega arith
 
-pub no_turn : (items : List (Option Turn)) (last : Option (Option Turn)) (fs : List Frame)
-    → items ≡ way_of fs → last ≡ slice_get items (length items - 1) → option_flatten last ≡ None → fs ≡ []
+pub no_turn : (items : List Turn) (last : Option Turn) (fs : List Frame)
+    → items ≡ way_of fs → last ≡ slice_get items (length items - 1) → last ≡ None → fs ≡ []
 no_turn items last [] e l g = refl
-no_turn items last (f ∷ fs) e l g = let j : Some (turn_of f) ≡ None = sym (ap option_flatten (l ∙ last_is items f fs e)) ∙ g in absurd cc
+no_turn items last (f ∷ fs) e l g = let j : Some (turn_of f) ≡ None = sym (l ∙ last_is items f fs e) ∙ g in absurd cc
 
 -- the names of a node above a tree
 forked_out : (b : Bool) (r : Ref) (q t : BinaryTree) (k : ℕ) → IsOut k (nodes (forked b t r q)) → IsOut k (nodes t) × ((k == r.name) ≡ false)
@@ -419,7 +418,7 @@ module _ {T : Type 0} where
       (record { two = plain_parts r.sides; size_is = r.size_is; height_is = f; tag_is = ap (λ (w : Link). w.tag) i })
 
   -- nothing is above
-  pub climbed_none : {m : Pooled T} {s : ℕ} {root below : Option Ref} {items : List (Option Turn)} {fs : List Frame} {at : Option Ref} {h : ℕ} {u : BinaryTree}
+  pub climbed_none : {m : Pooled T} {s : ℕ} {root below : Option Ref} {items : List Turn} {fs : List Frame} {at : Option Ref} {h : ℕ} {u : BinaryTree}
       → Climbs m s root below items fs at h u → fs ≡ [] → HasClimbed m m s (plug fs u) below u
   climbed_none {m} {s} {fs = fs} {u = u} c e = record {
     rooted = c.rooted;
@@ -430,7 +429,7 @@ module _ {T : Type 0} where
   }
 
   -- what a step up gives: the tree that is to stand next, and what the rest of the way makes of it
-  pub record NextClimb (m n : Pooled T) (s : ℕ) (root : Option Ref) (new : List (Option Turn)) (fs : List Frame)
+  pub record NextClimb (m n : Pooled T) (s : ℕ) (root : Option Ref) (new : List Turn) (fs : List Frame)
       (h : ℕ) (u : BinaryTree) (turn : Turn) (before : ℕ) (next : Ref) : Type 0 where
     pub rest : List Frame
     pub z : BinaryTree
@@ -439,7 +438,7 @@ module _ {T : Type 0} where
     pub climbed : (v : Pooled T) (result : Option Ref) (t : BinaryTree) → HasClimbed n v s (plug rest z) result t → HasClimbed m v s (plug fs u) result t
 
   -- a tree as high as the one before
-  module _ {m n : Pooled T} {s : ℕ} {root : Option Ref} {new : List (Option Turn)} {fs : List Frame}
+  module _ {m n : Pooled T} {s : ℕ} {root : Option Ref} {new : List Turn} {fs : List Frame}
       {h : ℕ} {u : BinaryTree} {turn : Turn} {before : ℕ} {next : Ref} (o : NextClimb m n s root new fs h u turn before next) where
     same_height : before ≡ height_at n s (Some next) → before ≡ height o.z
     same_height e = e ∙ height-root n s (Some next) o.z o.climbs.rooted
@@ -450,7 +449,7 @@ module _ {T : Type 0} where
     pub same_level : before ≡ height_at n s (Some next) → (j : ℕ) → j ≡ risen o.rest (height o.z) → IsLevel (height u) h j (risen fs h)
     same_level e j is = o.level j (level_same (height o.z) before j _ (is ∙ ap (risen o.rest) (sym (same_height e))))
 
-  module _ {m : Pooled T} {s : ℕ} {root below : Option Ref} {items new : List (Option Turn)} {fs : List Frame} {at : Option Ref}
+  module _ {m : Pooled T} {s : ℕ} {root below : Option Ref} {items new : List Turn} {fs : List Frame} {at : Option Ref}
       {h : ℕ} {u : BinaryTree} (c : Climbs m s root below items fs at h u) {turn : Turn} (w : IsTurned fs new turn)
       {y : Link} (i : y ≡ link_of m turn.node.name s) where
     abbrev whole : BinaryTree
@@ -566,7 +565,7 @@ module _ {T : Type 0} where
         }
 
   -- the last change
-  pub hung : {m n : Pooled T} {s : ℕ} {root : Option Ref} {next : Ref} {items new : List (Option Turn)} {fs : List Frame} {at : Option Ref} {u : BinaryTree}
+  pub hung : {m n : Pooled T} {s : ℕ} {root : Option Ref} {next : Ref} {items new : List Turn} {fs : List Frame} {at : Option Ref} {u : BinaryTree}
       {turn : Turn} {y : Link} → Climbs m s root (Some next) items fs at (height u) u → IsTurned fs new turn → y ≡ link_of m turn.node.name s
       → n ≡ with_link m turn.node.name s (rehung turn.left (Some next) y)
       → HasClimbed m n s (plug fs u) root (plug fs u)
@@ -607,7 +606,7 @@ module _ {T : Type 0} where
 
   -- the end of the way down
   pub fallen_none : {m : Pooled T} {s : ℕ} {R : Ref → Ref → Ordering} {tag : T → ℕ}
-      {items : List (Option Turn)} {at : Option Ref} {x : Ref} {fs : List Frame} {t : BinaryTree}
+      {items : List Turn} {at : Option Ref} {x : Ref} {fs : List Frame} {t : BinaryTree}
       → Falls m s R tag items at x fs t → at ≡ None
       → HasFallen m m s R items x (plug fs t) fs
   fallen_none {m} {s} {R} {tag} {items} {at} {x} {fs} {t} h e =
@@ -623,13 +622,13 @@ module _ {T : Type 0} where
       }
 
   -- a step down: where the way goes on, and what its end says of the whole
-  pub record NextFall (m n : Pooled T) (s : ℕ) (order : T → T → Ordering) (tag : T → ℕ) (new : List (Option Turn))
+  pub record NextFall (m n : Pooled T) (s : ℕ) (order : T → T → Ordering) (tag : T → ℕ) (new : List Turn)
       (at next : Option Ref) (x : Ref) (fs : List Frame) (t : BinaryTree) : Type 0 where
     pub gs : List Frame
     pub sub : BinaryTree
     pub falls : Falls n s (side order n s) tag new next x gs sub
     pub lower : height_at n s next < height_at m s at
-    pub fallen : (v : Pooled T) (last : List (Option Turn)) (ks : List Frame)
+    pub fallen : (v : Pooled T) (last : List Turn) (ks : List Frame)
         → HasFallen n v s (side order n s) last x (plug gs sub) ks → HasFallen m v s (side order m s) last x (plug fs t) ks
 
   -- a node on a way that goes on to one of its sides
@@ -722,7 +721,7 @@ module _ {T : Type 0} where
       )
 
   module _ {order : T → T → Ordering} (total : IsTotalOrder order) {tag : T → ℕ} {m n : Pooled T} {s : ℕ}
-      {items : List (Option Turn)} {at : Option Ref} {here x : Ref} {y : Link} {fs : List Frame} {t : BinaryTree}
+      {items : List Turn} {at : Option Ref} {here x : Ref} {y : Link} {fs : List Frame} {t : BinaryTree}
       (h : Falls m s (side order m s) tag items at x fs t) (e : at ≡ Some here)
       (i : y ≡ link_of m here.name s) (set : n ≡ with_link m here.name s (sized_link (y.size + 1) y)) where
     abbrev R : Ref → Ref → Ordering
@@ -750,11 +749,11 @@ module _ {T : Type 0} where
 
     -- the way goes on to the side where the node belongs
     stepped : (b : Bool) → R x here ≡ cond b Less Greater
-        → Falls n s R tag (items ++ Some (turn b) ∷ []) (cond b y.back y.forth) x (frame (turn b) (on_side b o).other ∷ fs) (on_side b o).sub
+        → Falls n s R tag (items ++ turn b ∷ []) (cond b y.back y.forth) x (frame (turn b) (on_side b o).other ∷ fs) (on_side b o).sub
     stepped b on_b =
         let k = on_side b o in let w = subst (Falls m s R tag items at x fs) k.is h in let can = sized_can o i _ set k in
         let part = size_part b here k.other k.sub in let fits = w.can.fits in record {
-          path_is = ap (λ z. z ++ Some (turn b) ∷ []) h.path_is;
+          path_is = ap (λ z. z ++ turn b ∷ []) h.path_is;
           can = record {
             rooted = can.rooted;
             even = can.even;
@@ -791,7 +790,7 @@ module _ {T : Type 0} where
     pub room_here : length items < 45
     room_here = let a = h.room in let b = ap length h.path_is in let c = path_length fs in let d = ap height o.is in omega arith
 
-    fallen_on : (b : Bool) (v : Pooled T) (last : List (Option Turn)) (gs : List Frame)
+    fallen_on : (b : Bool) (v : Pooled T) (last : List Turn) (gs : List Frame)
         → HasFallen n v s (side order n s) last x (plug fs (forked b (on_side b o).sub here (on_side b o).other)) gs → HasFallen m v s R last x (plug fs t) gs
     fallen_on b v last gs f =
         let k = on_side b o in let whole : plug fs t ≡ plug fs (forked b k.sub here k.other) = ap (plug fs) k.is in record {
@@ -810,19 +809,19 @@ module _ {T : Type 0} where
           tags = λ j. f.tags j ∙ tags_here j;
         }
 
-    pub next_fall : {new : List (Option Turn)} {next : Option Ref} {k : Ordering} {b : Bool} → side order m s x here ≡ k → b ≡ is_lt k
-        → new ≡ items ++ Some (record { node = here; left = b }) ∷ [] → next ≡ cond b y.back y.forth → NextFall m n s order tag new at next x fs t
+    pub next_fall : {new : List Turn} {next : Option Ref} {k : Ordering} {b : Bool} → side order m s x here ≡ k → b ≡ is_lt k
+        → new ≡ items ++ record { node = here; left = b } ∷ [] → next ≡ cond b y.back y.forth → NextFall m n s order tag new at next x fs t
     next_fall {new} {next} {k} {b} f g p q = let on = on_side b o in record {
       gs = frame (turn b) on.other ∷ fs;
       sub = on.sub;
-      falls = subst (λ (z : (Ref → Ref → Ordering) × List (Option Turn) × Option Ref). Falls n s z.0 tag z.1 z.2 x (frame (turn b) on.other ∷ fs) on.sub)
+      falls = subst (λ (z : (Ref → Ref → Ordering) × List Turn × Option Ref). Falls n s z.0 tag z.1 z.2 x (frame (turn b) on.other ∷ fs) on.sub)
           (λ j. (sym same j, sym p j, sym q j)) (stepped b (on_by k b f g));
       lower = subst (λ z. height_at n s z < height_at m s at) (sym q) (sized_lower o i _ set on h.can.rooted);
       fallen = fallen_on b;
     }
 
   -- from the way down to the way up, and the whole
-  module _ {m n : Pooled T} {s : ℕ} {R : Ref → Ref → Ordering} {items : List (Option Turn)} {at : Option Ref}
+  module _ {m n : Pooled T} {s : ℕ} {R : Ref → Ref → Ordering} {items : List Turn} {at : Option Ref}
       {x : Ref} {t : BinaryTree} (c : CanPut m s R at x t) {gs : List Frame} (f : HasFallen m n s R items x t gs) where
     placed : IsPutIn (R x) x (nodes t) (nodes (plug gs (Fork Tip x Tip)))
     placed = f.places (Fork Tip x Tip) (record { xs = []; ys = []; was = refl; now = refl; below = tt; above = tt })

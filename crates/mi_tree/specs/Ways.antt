@@ -24,9 +24,9 @@ pub record Frame : Type 0 where
   pub left : Bool
   pub other : BinaryTree
 
-abbrev pub way_of : List Frame → List (Option Turn)
+abbrev pub way_of : List Frame → List Turn
 way_of [] = []
-way_of (f ∷ fs) = way_of fs ++ Some (record { node = f.node; left = f.left }) ∷ []
+way_of (f ∷ fs) = way_of fs ++ record { node = f.node; left = f.left } ∷ []
 
 -- a node above a tree, which is to its left or to its right
 abbrev pub forked : Bool → BinaryTree → Ref → BinaryTree → BinaryTree
@@ -82,7 +82,7 @@ module _ {T : Type 0} where
 
   -- t stands at the end of the way; above it each size counts one more
   pub record Falls (m : Pooled T) (s : ℕ) (R : Ref → Ref → Ordering) (tag : T → ℕ)
-      (items : List (Option Turn)) (at : Option Ref) (x : Ref) (fs : List Frame) (t : BinaryTree) : Type 0 where
+      (items : List Turn) (at : Option Ref) (x : Ref) (fs : List Frame) (t : BinaryTree) : Type 0 where
     pub path_is : items ≡ way_of fs
     pub can : CanPut m s R at x t
     pub tagged : AreTagged tag m s (x ∷ nodes t)
@@ -94,7 +94,7 @@ module _ {T : Type 0} where
 
   -- the way of the whole tree to where x belongs
   pub record HasFallen (m n : Pooled T) (s : ℕ) (R : Ref → Ref → Ordering)
-      (items : List (Option Turn)) (x : Ref) (whole : BinaryTree) (gs : List Frame) : Type 0 where
+      (items : List Turn) (x : Ref) (whole : BinaryTree) (gs : List Frame) : Type 0 where
     pub path_is : items ≡ way_of gs
     pub whole_is : plug gs Tip ≡ whole
     pub alone : IsRooted n s (Some x) (Fork Tip x Tip)
@@ -105,7 +105,7 @@ module _ {T : Type 0} where
     pub tags : SameTags m n s
 
   -- t, in which x is between xs and ys, stands at the end of the way; above it each size counts one less. Without x the whole is vs and ws
-  pub record Sinks (m : Pooled T) (s : ℕ) (items : List (Option Turn)) (at : Option Ref)
+  pub record Sinks (m : Pooled T) (s : ℕ) (items : List Turn) (at : Option Ref)
       (fs : List Frame) (t : BinaryTree) (xs : List Ref) (x : Ref) (ys vs ws : List Ref) : Type 0 where
     pub path_is : items ≡ way_of fs
     pub can : CanTake m s at t
@@ -117,7 +117,7 @@ module _ {T : Type 0} where
     pub room : height t + length fs ≤ 45
 
   -- the way of the whole tree to x, which has the sides A and B
-  pub record HasSunk (m n : Pooled T) (s : ℕ) (items : List (Option Turn)) (xs : List Ref) (x : Ref)
+  pub record HasSunk (m n : Pooled T) (s : ℕ) (items : List Turn) (xs : List Ref) (x : Ref)
       (ys vs ws : List Ref) (whole : BinaryTree) (gs : List Frame) (A B : BinaryTree) : Type 0 where
     pub path_is : items ≡ way_of gs
     pub whole_is : plug gs (Fork A x B) ≡ whole
@@ -130,7 +130,7 @@ module _ {T : Type 0} where
     pub tags : SameTags m n s
 
   -- u is to stand where a tree of nearly its height is; above it each size counts the nodes of u
-  pub record Climbs (m : Pooled T) (s : ℕ) (root below : Option Ref) (items : List (Option Turn))
+  pub record Climbs (m : Pooled T) (s : ℕ) (root below : Option Ref) (items : List Turn)
       (fs : List Frame) (at : Option Ref) (h : ℕ) (u : BinaryTree) : Type 0 where
     pub path_is : items ≡ way_of fs
     pub above : Above m s fs at (forks u) h

@@ -1,7 +1,8 @@
 //! Subtrees and nodes between them are put together.
 //! Here alone links are set; it knows no order.
 ghost use Rattle.std.specs.Prelude.{◌≡◌, ◌<◌, [], ◌∷◌, Some};
-ghost use Rattle.mi_node.specs.Pool.{IsHeldIf, Keeps};
+ghost use Rattle.mi_node.specs.Cells.{sided};
+ghost use Rattle.mi_node.specs.Pool.{IsHeldIf, Keeps, link_of};
 ghost use Rattle.mi_tree.specs.BinaryTree.{BinaryTree, Fork, IsRooted, size_at, height_at};
 ghost use Rattle.mi_tree.specs.Joining.{Two, IsFork, Three, Four};
 ghost use Rattle.mi_tree.specs.Sorted.{SameTags};
@@ -65,6 +66,26 @@ pub(crate) fn set_fork<T>(p: &mut Pool<T>, slot: usize, x: NodeRef, link: Link)
     ensures tags { SameTags p.old p.new slot }
 {
     p.set_link(x, slot, link);
+}
+
+/// The node gets another side and another height. Its other side and its size are right.
+pub(crate) fn set_side<T>(
+    p: &mut Pool<T>,
+    slot: usize,
+    x: NodeRef,
+    left: bool,
+    side: Option<NodeRef>,
+    height: u8,
+)
+    requires slot { slot < p.old.slots }
+    requires parts { (A : BinaryTree) × (B : BinaryTree) × IsFork p.old slot x (sided left side height (link_of p.old x.name slot)) A B }
+    ensures tree { (A : BinaryTree) (B : BinaryTree) → IsFork p.old slot x (sided left side height (link_of p.old x.name slot)) A B
+        → IsRooted p.new slot (Some x) (Fork A x B) }
+    ensures slots { p.new.slots ≡ p.old.slots }
+    ensures keeps { Keeps p.old p.new slot (x ∷ []) }
+    ensures tags { SameTags p.old p.new slot }
+{
+    p.set_side(x, slot, left, side, height);
 }
 
 /// `x` is above `y`.

@@ -11,21 +11,21 @@ ghost use Rattle.mi_tree.specs.Joining.{IsBalanced};
 use crate::balance::balance;
 use crate::compare::compare_nodes;
 use crate::order::NodeOrder;
-use crate::parts::{height, set_fork};
+use crate::parts::{height, set_side};
 use crate::walk::MAX_LEVELS;
 use arrayvec::ArrayVec;
 use mi_node::{Counted, Link, NO_LINK, NodeRef, Pool, Tag};
 use mi_value::Steps;
 
 /// A node on a way down, and whether the way goes on to the left.
-#[derive(Clone, Copy)]
+#[derive(Clone, Copy, Default)]
 pub(crate) struct Turn {
     node: NodeRef,
     left: bool,
 }
 
 /// A way down, the root first.
-pub(crate) type Way = ArrayVec<Option<Turn>, MAX_LEVELS>;
+pub(crate) type Way = ArrayVec<Turn, MAX_LEVELS>;
 
 /// Goes down to where a node of that tag belongs, which no node there compares Equal to, and puts each
 /// node on the way onto the way. Each gets a size that is one greater: a node is about to stand below it.
@@ -58,7 +58,7 @@ pub(crate) fn go_in<T, O: NodeOrder<T>>(
     let link = p.link(here, slot);
     let next = p.neighbour(here, slot, left);
     p.set_size(here, slot, link.size + 1);
-    way.push(Some(Turn { node: here, left }));
+    way.push(Turn { node: here, left });
     go_in(p, slot, order, next, node, tag, way, steps);
 }
 
@@ -95,7 +95,7 @@ pub(crate) fn go_to<T, O: NodeOrder<T>>(
     let link = p.link(here, slot);
     let next = p.neighbour(here, slot, left);
     p.set_size(here, slot, link.size - 1);
-    way.push(Some(Turn { node: here, left }));
+    way.push(Turn { node: here, left });
     go_to(p, slot, order, next, node, tag, way, steps);
 }
 
@@ -115,18 +115,11 @@ pub(crate) fn go_first<T>(p: &mut Pool<T>, slot: usize, at: NodeRef, way: &mut W
         return at;
     };
     p.set_size(at, slot, link.size - 1);
-    way.push(Some(Turn {
+    way.push(Turn {
         node: at,
         left: true,
-    }));
+    });
     go_first(p, slot, left, way)
-}
-
-/// The child on that side.
-fn child(link: Link, left: bool) -> Option<NodeRef>
-    ensures { result ≡ cond left link.back link.forth }
-{
-    if left { link.back } else { link.forth }
 }
 
 /// The link with another child on that side.
@@ -164,7 +157,7 @@ pub(crate) fn climb<T>(
     ensures height { (fs : List Frame) (at : Option Ref) (h : ℕ) (u : BinaryTree) → Climbs p.old slot root below way.old.items fs at h u
         → IsLevel (height_of u) h (height_at p.new slot result) (risen fs h) }
 {
-    let Some(turn) = way.pop().flatten() else {
+    let Some(turn) = way.pop() else {
         return below;
     };
     let before = p.link(turn.node, slot).height;
@@ -191,19 +184,19 @@ fn rejoin<T>(p: &mut Pool<T>, slot: usize, turn: Turn, below: Option<NodeRef>) -
         back: below,
         ..NO_LINK
     };
-    let link = with_child(p.link(turn.node, slot), turn.left, under.back);
     let high = height(p, slot, under.back);
-    if high + 1 == link.height {
-        set_fork(p, slot, turn.node, link);
+    let before = p.link(turn.node, slot).height;
+    if high + 1 == before {
+        set_side(p, slot, turn.node, turn.left, under.back, before);
         return turn.node;
     }
-    let other = p.link(turn.node, slot);
-    let beside = height(p, slot, child(other, !turn.left));
+    let beside = height(p, slot, p.neighbour(turn.node, slot, !turn.left));
     if high.abs_diff(beside) <= 1 {
-        let height = high.max(beside) + 1;
-        set_fork(p, slot, turn.node, Link { height, ..link });
+        let now = high.max(beside) + 1;
+        set_side(p, slot, turn.node, turn.left, under.back, now);
         return turn.node;
     }
+    let link = with_child(p.link(turn.node, slot), turn.left, under.back);
     balance(p, slot, link.back, turn.node, link.forth)
 }
 
@@ -223,11 +216,11 @@ fn hang<T>(
     ensures height { (fs : List Frame) (at : Option Ref) (u : BinaryTree) → Climbs p.old slot root (Some top) way.old.items fs at (height_of u) u
         → height_at p.new slot result ≡ risen fs (height_of u) }
 {
-    let Some(turn) = way.pop().flatten() else {
+    let Some(turn) = way.pop() else {
         return Some(top);
     };
-    let link = with_child(p.link(turn.node, slot), turn.left, Some(top));
-    p.set_link(turn.node, slot, link);
+    let height = p.link(turn.node, slot).height;
+    p.set_side(turn.node, slot, turn.left, Some(top), height);
     root
 }
 

@@ -15,7 +15,7 @@ module _ (g : Over) (c : After-new-way g) where
       → AreTagged (g.O.NodeOrder.tag_of c.args.order.now) c.args.p.now c.args.slot (c.args.node ∷ nodes t)
       → Falls c.args.p.now c.args.slot (side (g.O.NodeOrder.order c.args.order.now) c.args.p.now c.args.slot) (g.O.NodeOrder.tag_of c.args.order.now)
       c.new-way.result.items c.args.root c.args.node [] t
-  start {t} h k = subst (λ (z : List (Option Turn)). Falls c.args.p.now c.args.slot (side (g.O.NodeOrder.order c.args.order.now) c.args.p.now c.args.slot)
+  start {t} h k = subst (λ (z : List Turn). Falls c.args.p.now c.args.slot (side (g.O.NodeOrder.order c.args.order.now) c.args.p.now c.args.slot)
       (g.O.NodeOrder.tag_of c.args.order.now) z c.args.root c.args.node [] t) (sym c.new-way.ensures) (falls_start h k)
 
 pub go_in-requires-clause-way : goal.go_in-requires-clause-way

@@ -15,7 +15,7 @@ module _ (g : Over) (c : After-new-way g) {t : BinaryTree} {x : Ref} {ys : List 
   -- the way down begins at the root
   start : CanTake c.args.p.now c.args.slot (Some c.args.root) t → nodes t ≡ x ∷ ys
       → Sinks c.args.p.now c.args.slot c.new-way.result.items (Some c.args.root) [] t [] x ys [] ys
-  start h e = subst (λ (k : List (Option Turn)). Sinks c.args.p.now c.args.slot k (Some c.args.root) [] t [] x ys [] ys) (sym c.new-way.ensures)
+  start h e = subst (λ (k : List Turn). Sinks c.args.p.now c.args.slot k (Some c.args.root) [] t [] x ys [] ys) (sym c.new-way.ensures)
       (sinks_start h e)
 
 module _ (g : Over) (c : After-go_first-first g) {t : BinaryTree} {x : Ref} {ys : List Ref} where

@@ -14,7 +14,7 @@ module _ (g : Over) (c : After-new-way g) {t : BinaryTree} {xs ys : List Ref} wh
   -- the way down begins at the root
   start : CanTake c.args.p.now c.args.slot c.args.root t → nodes t ≡ xs ++ c.args.node ∷ ys
       → Sinks c.args.p.now c.args.slot c.new-way.result.items c.args.root [] t xs c.args.node ys xs ys
-  start can e = subst (λ (k : List (Option Turn)). Sinks c.args.p.now c.args.slot k c.args.root [] t xs c.args.node ys xs ys) (sym c.new-way.ensures)
+  start can e = subst (λ (k : List Turn). Sinks c.args.p.now c.args.slot k c.args.root [] t xs c.args.node ys xs ys) (sym c.new-way.ensures)
       (sinks_start can e)
 
 module _ (g : Over) (c : After-go_to g) {t : BinaryTree} {xs ys : List Ref} where

@@ -14,19 +14,19 @@ use Rattle.mi_tree.proofs.way.+climb.Goals as goal
 module _ (g : Over) (t : ℕ) (c : In-Some g t) where
   -- the way before its last turn
   turned : {fs : List Frame} → c.args.way.now.items ≡ way_of fs → IsTurned fs c.pop.new.self.items c.in-Some.turn
-  turned e = turned_back e c.pop.ensures.rest c.pop.ensures.value (sym c.flatten.ensures ∙ c.in-Some.is)
+  turned e = turned_back e c.pop.ensures.rest c.pop.ensures.value c.in-Some.is
 
 module _ (g : Over) (t : ℕ) (c : After-rejoin-top g t) where
   -- the step up to the node of that turn, for each way that the turns may stand for
   next : {fs : List Frame} {at : Option Ref} {h : ℕ} {u : BinaryTree} → Climbs c.args.p.now c.args.slot c.args.root c.args.below c.args.way.now.items fs at h u
       → NextClimb c.args.p.now c.rejoin-top.new.p c.args.slot c.args.root c.pop.new.self.items fs h u c.in-Some.turn c.link-before.result.height
       c.rejoin-top.result
-  next k = next_climb k (turned_back k.path_is c.pop.ensures.rest c.pop.ensures.value (sym c.flatten.ensures ∙ c.in-Some.is)) refl
+  next k = next_climb k (turned_back k.path_is c.pop.ensures.rest c.pop.ensures.value c.in-Some.is) refl
       (ap (λ (x : Link). x.height) c.link-before.ensures) c.rejoin-top.ensures.tree
 
 pub returns-in_default-clause-tree : goal.returns-in_default-clause-tree
 returns-in_default-clause-tree g t c fs at h u k =
-    (u, climbed_none k (no_turn c.args.way.now.items _ fs k.path_is c.pop.ensures.value (sym c.flatten.ensures ∙ c.in_default.is)))
+    (u, climbed_none k (no_turn c.args.way.now.items _ fs k.path_is c.pop.ensures.value c.in_default.is))
 
 pub link-before-requires-clause-held : goal.link-before-requires-clause-held
 link-before-requires-clause-held g t c =

@@ -2,6 +2,7 @@
 use Rattle.std.proofs.Common.{◌≤◌, sym, subst, length, arith, ◌∙◌}
 use Rattle.mi_node.specs.Seen.{seen, IsSound}
 use Rattle.mi_node.proofs.MapLemmas.{seen-none, sound-none}
+use Rattle.mi_node.proofs.SpareLemmas.{listed-none}
 use Rattle.mi_node.proofs.places.Places.new.Goals as goal
 
 pub returns-clause-nodes : goal.returns-clause-nodes
@@ -10,6 +11,8 @@ returns-clause-nodes g c =
 
 pub returns-clause-sound : goal.returns-clause-sound
 returns-clause-sound g c =
-    let cs = c.new-2.result.items in let n = c.args.slots in let none = c.new-2.ensures.items in
-    subst (λ m. IsSound n cs c.new.result m) (sym c.new-3.ensures)
-    (sound-none n cs c.new.result (subst (λ xs. length xs ≤ n) (sym none) (omega arith)) c.new.ensures)
+    let cs = c.new-2.result.items in let n = c.args.slots in let none = c.new-2.ensures.items in (
+      subst (λ m. IsSound n cs c.new.result m) (sym c.new-3.ensures)
+          (sound-none n cs c.new.result (subst (λ xs. length xs ≤ n) (sym none) (omega arith)) c.new.ensures),
+      listed-none c.new.result c.new-3.result.marks _ c.new-3.ensures,
+    )

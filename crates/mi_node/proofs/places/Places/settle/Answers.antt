@@ -1,10 +1,12 @@
 -- A free place is taken by a new reference, and the map has that node more.
-use Rattle.std.proofs.Common.{◌≡◌, ◌<◌, ◌==◌, ap, sym, subst, length, slice_set, replicate, ◌∙◌}
+use Rattle.std.proofs.Common.{◌≡◌, ◌<◌, ◌==◌, Some, ap, sym, subst, length, slice_set, replicate, ◌∙◌}
 use Rattle.mi_node.specs.Columns.{links_at}
 use Rattle.mi_node.specs.Pool.{no_link, ref_of}
 use Rattle.mi_node.specs.Seen.{seen, IsSound}
+use Rattle.mi_node.specs.Spares.{AreListed, GoesOn}
 use Rattle.mi_node.specs.declared.home.Home.TheVariants.{Held}
-use Rattle.mi_node.proofs.MapLemmas.{free_less, free_found, free-seen, named_found, some_wide, up_to, seen-settled, sound-columns, sound-held, other_than_last}
+use Rattle.mi_node.proofs.MapLemmas.{free_less, free_found, free-seen, named_found, some_wide, up_to, seen-settled, sound-columns, sound-held, other_than_last, at_index}
+use Rattle.mi_node.proofs.SpareLemmas.{listed-held}
 use Rattle.mi_node.proofs.places.Places.settle.Goals as goal
 
 pub at-requires : goal.at-requires
@@ -15,7 +17,7 @@ next_at-node-requires g c = free_found c.args.self.now.homes c.args.place c.at.r
 
 pub clear-requires : goal.clear-requires
 clear-requires g c s there =
-    let p = c.args.self.now in up_to c.args.place (length p.homes) _ (free_less p.homes c.args.place c.requires.free) (c.requires.sound.long s there)
+    let p = c.args.self.now in up_to c.args.place (length p.homes) _ (free_less p.homes c.args.place c.requires.free) (c.requires.sound.0.long s there)
 
 pub set-requires : goal.set-requires
 set-requires g c = free_less c.args.self.now.homes c.args.place c.requires.free
@@ -25,18 +27,22 @@ returns g c =
     let p = c.args.self.now in let r = c.next_at-node.result.0 in let ds = c.clear.new.columns.items in
     let less = free_less p.homes c.args.place c.requires.free in
     let name : r.name ≡ c.args.place = c.next_at-node.ensures.name
-    ∙ named_found p.homes c.args.place c.at.result.now c.requires.sound.named less c.at.ensures in
-    let wide : length p.columns.items ≡ p.slots = some_wide p.slots p.columns.items p.homes c.args.place c.requires.sound less in
+    ∙ named_found p.homes c.args.place c.at.result.now c.requires.sound.0.named less c.at.ensures in
+    let wide : length p.columns.items ≡ p.slots = some_wide p.slots p.columns.items p.homes c.args.place c.requires.sound.0 less in
     record {
       free = ap (ref_of (seen p.slots p.columns.items p.homes p.gone.marks)) name
           ∙ free-seen p.slots p.columns.items p.homes p.gone.marks c.args.place c.requires.free;
-      other = other_than_last p.slots p.columns.items p.homes p.gone.marks c.args.place c.at.result.now r c.requires.sound c.requires.free c.at.ensures name
+      other = other_than_last p.slots p.columns.items p.homes p.gone.marks c.args.place c.at.result.now r c.requires.sound.0 c.requires.free c.at.ensures name
           c.next_at-node.ensures.mark;
       nodes = ap (λ hs. seen p.slots ds hs p.gone.marks) (c.set.ensures ∙ ap (λ k. slice_set p.homes k (Held r c.args.value)) (sym name))
           ∙ seen-settled p.slots p.columns.items ds p.homes p.gone.marks r c.args.value (subst (λ k. k < length p.homes) (sym name) less)
           (λ q e. c.clear.ensures.others q (ap (λ k. q == k) (sym name) ∙ e))
           (ap (links_at ds) name ∙ c.clear.ensures.links ∙ ap (λ n. replicate n no_link) wide);
-      sound = subst (λ hs. IsSound p.slots ds hs p.gone.marks) (sym c.set.ensures)
-          (sound-held p.slots ds p.homes c.args.place r c.args.value
-          (sound-columns p.slots p.columns.items ds p.homes c.requires.sound c.clear.ensures.count c.clear.ensures.long) name less);
+      sound = subst (λ hs. IsSound p.slots ds hs p.gone.marks × AreListed hs p.gone.marks c.next_at-node.result.1) (sym c.set.ensures) (
+        sound-held p.slots ds p.homes c.args.place r c.args.value
+            (sound-columns p.slots p.columns.items ds p.homes c.requires.sound.0 c.clear.ensures.count c.clear.ensures.long) name less,
+        listed-held p.homes p.gone.marks c.args.place c.next_at-node.result.1 r c.args.value
+            (subst (AreListed p.homes p.gone.marks) c.requires.first c.requires.sound.1) less
+            (subst (GoesOn c.next_at-node.result.1) (sym (at_index p.homes c.args.place c.at.result.now less ∙ ap Some (sym c.at.ensures))) c.next_at-node.ensures.next),
+      );
     }

@@ -4,10 +4,10 @@ use Rattle.mi_node.proofs.MapLemmas.{held_less, held_some, held_value}
 use Rattle.mi_node.proofs.places.Places.value.Goals as goal
 
 pub at-requires : goal.at-requires
-at-requires g c = held_less c.requires.sound c.requires.held c.name.ensures
+at-requires g c = held_less c.requires.sound.0 c.requires.held c.name.ensures
 
 pub value_at-requires : goal.value_at-requires
-value_at-requires g c = held_some c.requires.sound c.requires.held c.name.ensures c.at.result.now c.at.ensures
+value_at-requires g c = held_some c.requires.sound.0 c.requires.held c.name.ensures c.at.result.now c.at.ensures
 
 pub returns : goal.returns
-returns g c = held_value c.requires.sound c.requires.held c.name.ensures c.at.result.now c.at.ensures ∙ c.value_at.ensures
+returns g c = held_value c.requires.sound.0 c.requires.held c.name.ensures c.at.result.now c.at.ensures ∙ c.value_at.ensures
