@@ -1,6 +1,4 @@
-pub mod LexemeLemmas
 pub mod NumberLemmas
 pub mod ObjectLemmas
 pub mod ParsingLemmas
 pub mod ShortLemmas
-pub mod TokenLemmas

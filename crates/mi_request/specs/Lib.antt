@@ -1,9 +1,7 @@
 pub mod Answers
 pub mod Commands
-pub mod Ends
 pub mod Json
 pub mod Lines
 pub mod Meant
 pub mod ObjectCode
 pub mod Short
-pub mod Tokens

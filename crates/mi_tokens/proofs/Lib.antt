@@ -1,0 +1,2 @@
+pub mod LexemeLemmas
+pub mod TokenLemmas
