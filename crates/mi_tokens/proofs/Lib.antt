@@ -1,2 +1,3 @@
 pub mod LexemeLemmas
+mod RunLemmas
 pub mod TokenLemmas

@@ -6,9 +6,10 @@ ghost use Rattle.std.specs.Char.{is_ascii_digit};
 ghost use Rattle.json.specs.Token as spec;
 ghost use Rattle.json.specs.Word.{head, ends_word, after_digits, after_minus, after_whole};
 ghost use Rattle.json.specs.Lex.{class, operator, operator_lexeme, token, between, lex};
-ghost use Rattle.json.specs.Run.{is_plain, EndsAt};
+ghost use Rattle.json.specs.Run.{EndsAt};
 ghost use Rattle.mi_tokens.specs.Ends.{is_end};
 
+use crate::plain::plain_end;
 use std::marker::Model;
 
 /// The byte at `at`, or a space behind the end.
@@ -26,20 +27,6 @@ pub(crate) fn is_end(byte: u8) -> bool
     ensures { result ≡ is_end byte }
 {
     byte == b',' || byte == b'}' || byte == b']'
-}
-
-/// Where the first quote, backslash or control byte stands from `from` on, or the length.
-#[inline(always)]
-fn plain_end(text: &[u8], from: usize) -> usize
-    requires { from ≤ length text.now }
-    ensures value { result ≡ from + prefix_len is_plain (drop from text.now) }
-    ensures bound { result ≤ length text.now }
-{
-    let mut at = from;
-    'bytes: while at < text.len() && text[at] != b'"' && text[at] != b'\\' && text[at] >= 0x20 {
-        at += 1;
-    }
-    at
 }
 
 /// Where the first byte stands from `from` on that is no digit, or the length.

@@ -4,6 +4,7 @@
 
 mod lexemes;
 mod pass;
+mod plain;
 mod tokens;
 
 pub use pass::{MAX_DEPTH, Tree, pass_text};
