@@ -1,3 +1,4 @@
+pub mod DigitLemmas
 pub mod NumberLemmas
 pub mod ObjectLemmas
 pub mod ParsingLemmas
