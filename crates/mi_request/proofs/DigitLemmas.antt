@@ -1,5 +1,5 @@
 -- Digits alone are a number, if it has 64 bits.
-use Rattle.std.proofs.Common.{◌≡◌, ℕ, ◌+◌, ◌^◌, ◌<◌, List, [], ◌∷◌, ◌++◌, length, drop, get_or, ◌==◌, true, false, cond, Some, Result, Ok, Err, sym, ap, ◌∙◌, refl, arith, append-nil, lt-ltb, ne_eqb, subst, true≢false}
+use Rattle.std.proofs.Common.{◌≡◌, ℕ, ◌^◌, ◌<◌, List, [], ◌∷◌, ◌++◌, length, drop, get_or, ◌==◌, true, false, cond, Some, Result, Ok, Err, sym, ap, ◌∙◌, refl, arith, append-nil, lt-ltb, ne_eqb, subst, true≢false}
 use Rattle.std.proofs.lemmas.Option.{none-some, same_Some}
 use Rattle.std.specs.Result.{result_ok}
 use Rattle.std.specs.Char.{digit_value, is_ascii_digit}

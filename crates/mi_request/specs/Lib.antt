@@ -4,4 +4,5 @@ pub mod Json
 pub mod Lines
 pub mod Meant
 pub mod ObjectCode
+pub mod Row
 pub mod Short

@@ -5,6 +5,7 @@
 mod array;
 mod command;
 mod forms;
+mod insert;
 mod line_reader;
 mod name;
 mod numbers;

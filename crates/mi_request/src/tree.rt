@@ -16,7 +16,7 @@ use mi_value::Refusal;
 
 /// Whether each number in a value is one for `serde_json`.
 #[cycle(numbers)]
-fn has_numbers(value: &Tree<'_>) -> bool
+pub(crate) fn has_numbers(value: &Tree<'_>) -> bool
     ensures { result ≡ is_some (of_json (value_view value.now)) }
 {
     match value {

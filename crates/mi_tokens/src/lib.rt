@@ -7,4 +7,4 @@ mod pass;
 mod plain;
 mod tokens;
 
-pub use pass::{MAX_DEPTH, Tree, pass_text};
+pub use pass::{MAX_DEPTH, Tree, pass_last_member, pass_text};

@@ -3,6 +3,7 @@
 ghost use Rattle.std.specs.Prelude.{◌≡◌, ◌∷◌, ◌++◌, IfSome, IsTrue, Some, [], length};
 ghost use Rattle.json.specs.Json.{value, items, members};
 ghost use Rattle.json.specs.Lex.{tokens};
+ghost use Rattle.json.specs.Token.{end_object};
 ghost use Rattle.json.specs.Value.{value_view, items_view, members_view};
 
 use crate::tokens::Tokens;
@@ -102,4 +103,17 @@ pub fn pass_text<'a>(arena: &'a Bump, text: &'a str) -> Option<Tree<'a>>
     let mut tokens = Tokens::new(text);
     let value = pass_value(arena, &mut tokens, MAX_DEPTH)?;
     if tokens.is_done() { Some(value) } else { None }
+}
+
+/// The value of an object's last member, where the text begins with it, and has nothing behind it but the brace that ends the object.
+/// Want of memory counts as another way of writing.
+pub fn pass_last_member<'a>(arena: &'a Bump, text: &'a str) -> Option<Tree<'a>>
+    ensures { IfSome result (λ v. value 126 (tokens text.now) ≡ Some (value_view v, end_object ∷ [])) }
+{
+    let mut tokens = Tokens::new(text);
+    let value = pass_value(arena, &mut tokens, MAX_DEPTH - 1)?;
+    if tokens.next_key()?.is_some() || !tokens.is_done() {
+        return None;
+    }
+    Some(value)
 }
