@@ -66,7 +66,7 @@ STAGES = [
     ("memory", r"rattle_(alloc|realloc|dealloc)$|(_int_|__libc_)?(malloc|free|realloc|calloc)\b|malloc_consolidate|unlink_chunk|sysmalloc|std_heap::"),
     ("moves", r"(__)?(mem(cpy|move|set|pcpy)|bcopy|bzero)(_|$)"),
     ("reply", r"mi_protocol::(reply|shown)|mi_hub::send|mi_program::buffered|itoa::"),
-    ("reading", r"mi_request::|serde_json::|json::|simdutf8::|fast_float::|bumpalo::|mi_hub::line"),
+    ("reading", r"mi_request::|mi_tokens::|serde_json::|json::|simdutf8::|fast_float::|bumpalo::|mi_hub::line"),
     ("binding", r"mi_protocol::|mi_catalog::"),
     ("conflicts", r"mi_multi::conflicts"),
     ("trees", r"mi_tree::|mi_index::\w+::\w*tree\w*"),

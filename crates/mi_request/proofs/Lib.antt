@@ -1,6 +1,6 @@
-pub mod LexemeLemmas
+pub mod DigitLemmas
+pub mod InsertLemmas
 pub mod NumberLemmas
 pub mod ObjectLemmas
 pub mod ParsingLemmas
 pub mod ShortLemmas
-pub mod TokenLemmas

@@ -1,9 +1,8 @@
 pub mod Answers
 pub mod Commands
-pub mod Ends
 pub mod Json
 pub mod Lines
 pub mod Meant
 pub mod ObjectCode
+pub mod Row
 pub mod Short
-pub mod Tokens

@@ -1,6 +1,6 @@
 //! A JSON array, seen by contracts as its items. It hands them out by moving them, and copies none.
-use crate::tree::Tree;
 use bumpalo::Bump;
+use mi_tokens::Tree;
 use std::marker::Model;
 
 /// A JSON array, seen as what its items mean.

@@ -5,23 +5,21 @@
 mod array;
 mod command;
 mod forms;
-mod lexemes;
+mod insert;
 mod line_reader;
 mod name;
 mod numbers;
 mod object;
-mod pass;
 mod reading;
 mod request;
 mod short;
-mod tokens;
 mod tree;
 mod value;
 
 pub use array::Array;
 pub use line_reader::LineReader;
+pub use mi_tokens::Tree;
 pub use name::Name;
 pub use object::Object;
 pub use request::{End, Place, Request};
-pub use tree::Tree;
 pub use value::Json;

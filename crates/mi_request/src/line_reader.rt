@@ -6,6 +6,7 @@ ghost use Rattle.mi_request.specs.Short.{short_line};
 ghost use Rattle.mi_request.specs.declared.request.Request.{Request as Asked};
 ghost use Rattle.mi_request.specs.declared.request.Request.TheVariants as request;
 
+use crate::insert::insert_line;
 use crate::request::{Request, request_of};
 use crate::short::short_request;
 use crate::tree::read_value;
@@ -50,6 +51,9 @@ impl LineReader {
     {
         self.empty_arena();
         let arena = &self.arena;
+        if let Some(request) = insert_line(arena, line) {
+            return Ok(request);
+        }
         let value = read_value(arena, &mut self.scratch, line)?;
         request_of(arena, value).ok_or(Refusal::Form)
     }

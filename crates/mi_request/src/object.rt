@@ -4,10 +4,10 @@ ghost use Rattle.std.specs.List.{list_any, list_all, slice_set};
 ghost use Rattle.json.specs.declared.value.Value.{Null};
 ghost use Rattle.mi_request.specs.Meant.{last_at};
 
-use crate::tree::Tree;
 use crate::value::Json;
 use bumpalo::Bump;
 use json::Value;
+use mi_tokens::Tree;
 use std::marker::Model;
 use std::mem;
 

@@ -14,9 +14,9 @@ use crate::name::Name;
 use crate::numbers::whole_number;
 use crate::object::Object;
 use crate::request::{End, Place};
-use crate::tree::Tree;
 use crate::value::Json;
 use bumpalo::Bump;
+use mi_tokens::Tree;
 use mi_value::limits::MAX_PAGE;
 
 fn name_of<'a>(value: &Tree<'a>) -> Option<Name<'a>>

@@ -8,21 +8,15 @@ ghost use Rattle.serde_json.specs.Read.{of_json, of_items, of_members, read};
 ghost use Rattle.mi_request.specs.Lines.{json_of};
 
 use crate::numbers::is_number;
-use crate::pass::pass_text;
 use crate::value::Json;
 use bumpalo::Bump;
 use json::{Error, Reader, Scratch, Value};
+use mi_tokens::{MAX_DEPTH, Tree, pass_text};
 use mi_value::Refusal;
-
-/// A JSON value as a tree. Its texts are borrowed from where it was read, and its arrays and objects lie in an arena.
-pub type Tree<'a> = Value<'a, &'a Bump>;
-
-/// How deep arrays and objects may nest, as in `serde_json`.
-pub(crate) const MAX_DEPTH: usize = 127;
 
 /// Whether each number in a value is one for `serde_json`.
 #[cycle(numbers)]
-fn has_numbers(value: &Tree<'_>) -> bool
+pub(crate) fn has_numbers(value: &Tree<'_>) -> bool
     ensures { result ≡ is_some (of_json (value_view value.now)) }
 {
     match value {

@@ -3,8 +3,8 @@
 use crate::array::Array;
 use crate::numbers::whole_number;
 use crate::object::Object;
-use crate::tree::Tree;
 use json::Value;
+use mi_tokens::Tree;
 use std::marker::Model;
 
 /// A JSON value, seen as what it means.

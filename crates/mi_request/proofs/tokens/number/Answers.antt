@@ -1,7 +1,0 @@
--- A whole number is a value.
-use Rattle.mi_request.proofs.TokenLemmas.{number_begins}
-use Rattle.mi_request.proofs.tokens.number.Goals as goal
-
-pub returns : goal.returns
-returns c =
-    number_begins c.args.lexemes.now c.number.new.self c.after_value.new.lexemes c.in_ok-text.text.now c.after_value.result c.in_ok-text.ensures c.after_value.ensures

@@ -1,0 +1,39 @@
+//! Inserts as a compact writer gives them: `cmd` and `row` alone, in this order and without a space between them. The row is read in
+//! one pass. What is written in another way is left to the reading of any line.
+ghost use Rattle.std.specs.Prelude.{◌≡◌, Ok, IfSome};
+ghost use Rattle.mi_request.specs.Lines.{command_line};
+ghost use Rattle.mi_request.specs.Row.{IsRow};
+
+use crate::object::Object;
+use crate::request::Request;
+use crate::tree::has_numbers;
+use crate::value::Json;
+use bumpalo::Bump;
+use mi_tokens::pass_last_member;
+
+/// The row with which a text begins, if nothing but a brace stands behind it.
+fn last_row<'a>(arena: &'a Bump, text: &'a str) -> Option<Object<'a>>
+    ensures { IfSome result (λ row. IsRow text.now row) }
+{
+    let value = pass_last_member(arena, text)?;
+    if !has_numbers(&value) {
+        return None;
+    }
+    Json::new(value).into_object()
+}
+
+/// The request of an insert whose row comes last. The row lies in the arena, and its names and texts are borrowed from the line.
+pub(crate) fn insert_line<'a>(arena: &'a Bump, line: &'a [u8]) -> Option<Request<'a>>
+    ensures { IfSome result (λ r. command_line line.now ≡ Ok r) }
+{
+    let behind = line.strip_prefix(b"{\"cmd\":\"insert\",\"row\":".as_slice())?;
+    let Ok(text) = simdutf8::compat::from_utf8(behind) else {
+        return None;
+    };
+    let row = last_row(arena, text)?;
+    Some(Request::Insert {
+        table: None,
+        row,
+        before: None,
+    })
+}

@@ -1,0 +1,3 @@
+pub mod LexemeLemmas
+mod RunLemmas
+pub mod TokenLemmas

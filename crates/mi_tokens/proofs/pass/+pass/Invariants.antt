@@ -1,0 +1,28 @@
+-- What was passed and what is left make the whole; the tokens get fewer.
+use Rattle.std.proofs.Common.{◌≡◌, ℕ, ◌+◌, ◌*◌, ◌≤◌, length}
+use Rattle.json.specs.Json.{items, members, value, parse_map}
+use Rattle.json.proofs.Trees.{items_before, members_before}
+use Rattle.mi_tokens.proofs.pass.+pass.Given as goal
+
+abbrev pub decreases-pass_value : goal.decreases-pass_value
+decreases-pass_value l = 2 * l.depth
+
+abbrev pub decreases-pass_items : goal.decreases-pass_items
+decreases-pass_items l = 2 * l.depth + 1
+
+abbrev pub decreases-pass_members : goal.decreases-pass_members
+decreases-pass_members l = 2 * l.depth + 1
+
+abbrev pub invariant-pass_items-items : goal.invariant-pass_items-items
+invariant-pass_items-items l =
+    (n : ℕ) × (length l.tokens ≤ n) × (items (value l.depth) (length l.initial.tokens) l.initial.tokens ≡ parse_map (items_before l.found.items) (items (value l.depth) n l.tokens))
+
+abbrev pub decreases-pass_items-items : goal.decreases-pass_items-items
+decreases-pass_items-items l = length l.tokens
+
+abbrev pub invariant-pass_members-members : goal.invariant-pass_members-members
+invariant-pass_members-members l =
+    (n : ℕ) × (length l.tokens ≤ n) × (members (value l.depth) (length l.initial.tokens) l.initial.tokens ≡ parse_map (members_before l.found.items) (members (value l.depth) n l.tokens))
+
+abbrev pub decreases-pass_members-members : goal.decreases-pass_members-members
+decreases-pass_members-members l = length l.tokens

@@ -1,0 +1,26 @@
+-- The first byte that isn't plain is the first bit of the mask, and without one all sixteen are passed.
+use Rattle.std.proofs.Common.{refl, sym, ap, ◌∙◌, arith}
+use lib.Count.{count_trailing_zeros}
+use Rattle.json.specs.Run.{is_stop, is_plain}
+use Rattle.mi_tokens.proofs.RunLemmas.{run_bound, run_through, run_stops}
+use Rattle.mi_tokens.proofs.plain.plain_end.Goals as goal
+
+pub returns-then-found-ne0-clause-value : goal.returns-then-found-ne0-clause-value
+returns-then-found-ne0-clause-value c =
+    let found = c.stops_16-found in
+    let run = run_stops is_stop is_plain (λ x. refl) c.args.text.now c.sixteens.at 16 (omega arith) (omega arith) (omega (arith, found.ensures)) ∙ ap (count_trailing_zeros 64) (sym found.ensures) in
+    omega (arith, run, c.sixteens.invariant.0)
+
+pub returns-then-found-ne0-clause-bound : goal.returns-then-found-ne0-clause-bound
+returns-then-found-ne0-clause-bound c =
+    let found = c.stops_16-found in
+    let run = run_stops is_stop is_plain (λ x. refl) c.args.text.now c.sixteens.at 16 (omega arith) (omega arith) (omega (arith, found.ensures)) ∙ ap (count_trailing_zeros 64) (sym found.ensures) in
+    omega (arith, run, run_bound is_plain c.args.text.now c.sixteens.at c.sixteens.invariant.1)
+
+pub sixteens-preserved : goal.sixteens-preserved
+sixteens-preserved c =
+    let run = run_through is_stop is_plain (λ x. refl) c.args.text.now c.sixteens.at 16 (omega arith) (omega (arith, c.stops_16-found.ensures)) in
+    (omega (arith, run, c.sixteens.invariant.0), omega arith)
+
+pub returns-clause-bound : goal.returns-clause-bound
+returns-clause-bound c = omega (arith, run_bound is_plain c.args.text.now c.sixteens.at c.sixteens.invariant.1)

@@ -1,0 +1,10 @@
+//! JSON texts written as a writer gives them, read in one pass without an index: lexemes, tokens, and the value as a tree.
+//! It knows no command and no catalog, and gives up at what a writer doesn't give.
+#![tactic(auto)]
+
+mod lexemes;
+mod pass;
+mod plain;
+mod tokens;
+
+pub use pass::{MAX_DEPTH, Tree, pass_last_member, pass_text};

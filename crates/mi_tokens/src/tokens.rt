@@ -1,0 +1,221 @@
+//! Tokens of a JSON text, read where they stand and without an index: each with its commas and colons. What is written in
+//! another way than a writer gives is left to `json`.
+ghost use Rattle.std.specs.Prelude.{◌≡◌, ◌⊎◌, ◌∷◌, ◌<◌, [], IfSome, IsTrue, Some, option_map};
+ghost use Rattle.std.specs.Bool.{MatchBool};
+ghost use Rattle.json.specs.Token as spec;
+ghost use Rattle.json.specs.Word.{head};
+ghost use Rattle.json.specs.Lex.{between, lex, after_value, may_begin, may_close, punctuate, tokens};
+ghost use Rattle.json.specs.Json.{after_end_array, read_key};
+ghost use Rattle.json.specs.Reads.{token_of};
+ghost use Rattle.mi_tokens.specs.Tokens.{place_of, tokens_at, Begins, Closes, end_token, IsWordOf, Opens};
+ghost use Rattle.mi_tokens.specs.declared.tokens.Place.TheVariants.{Fresh};
+
+use crate::lexemes::{Lexemes, is_end};
+use json::Token;
+use std::marker::Model;
+
+/// What may stand next.
+#[derive(Clone, Copy, Drop)]
+pub(crate) enum Place {
+    Fresh,
+    AfterValue,
+    AfterComma,
+}
+
+impl Place {
+    #[inline(always)]
+    fn may_begin(self) -> bool
+        ensures { result ≡ may_begin (place_of self) }
+    {
+        matches!(self, Place::Fresh | Place::AfterComma)
+    }
+
+    #[inline(always)]
+    fn may_close(self) -> bool
+        ensures { result ≡ may_close (place_of self) }
+    {
+        matches!(self, Place::Fresh | Place::AfterValue)
+    }
+}
+
+/// Passes the comma that may follow a value.
+#[inline(always)]
+fn after_value(lexemes: &mut Lexemes<'_>) -> Place
+    ensures { tokens_at result lexemes.new ≡ punctuate after_value (lex between lexemes.old) }
+{
+    if lexemes.peek() == b',' {
+        lexemes.pass_spaced();
+        Place::AfterComma
+    } else {
+        Place::AfterValue
+    }
+}
+
+/// Passes the bracket or the brace that ends an array or an object, and the comma that may follow.
+#[inline(always)]
+fn close(lexemes: &mut Lexemes<'_>) -> Place
+    requires { (head lexemes.old ≡ 125) ⊎ (head lexemes.old ≡ 93) }
+    ensures { Closes lexemes.old (end_token (head lexemes.old)) result lexemes.new }
+{
+    lexemes.pass();
+    after_value(lexemes)
+}
+
+/// The name of a member, with its colon.
+#[inline(always)]
+fn key<'a>(lexemes: &mut Lexemes<'a>) -> Option<&'a str>
+    requires { head lexemes.old ≡ 34 }
+    ensures { IfSome result (λ s. Begins lexemes.old (spec.key s.now) Fresh lexemes.new) }
+{
+    let name = lexemes.string()?;
+    if lexemes.peek() != b':' {
+        return None;
+    }
+    lexemes.pass_spaced();
+    Some(name)
+}
+
+/// A text that is a value.
+#[inline(always)]
+fn string<'a>(lexemes: &mut Lexemes<'a>) -> Option<(Token<'a>, Place)>
+    requires { head lexemes.old ≡ 34 }
+    ensures { IfSome result (λ t. Begins lexemes.old (token_of t.0) t.1 lexemes.new) }
+{
+    let text = lexemes.string()?;
+    if !is_end(lexemes.peek()) {
+        return None;
+    }
+    Some((Token::String(text), after_value(lexemes)))
+}
+
+/// A whole number.
+#[inline(always)]
+fn number<'a>(lexemes: &mut Lexemes<'a>) -> Option<(Token<'a>, Place)>
+    requires { (32 < head lexemes.old) × (head lexemes.old < 128) }
+    ensures { IfSome result (λ t. Begins lexemes.old (token_of t.0) t.1 lexemes.new) }
+{
+    let text = lexemes.number()?;
+    Some((Token::Number(text), after_value(lexemes)))
+}
+
+/// True, false or null, by its word.
+#[inline(always)]
+fn word<'a>(lexemes: &mut Lexemes<'a>, text: &[u8], token: Token<'a>) -> Option<(Token<'a>, Place)>
+    requires { IsWordOf (token_of token) text.now }
+    ensures { IfSome result (λ t. Begins lexemes.old (token_of t.0) t.1 lexemes.new) }
+{
+    if !lexemes.pass_word(text) {
+        return None;
+    }
+    Some((token, after_value(lexemes)))
+}
+
+/// The bracket or the brace that begins an array or an object.
+#[inline(always)]
+fn open<'a>(lexemes: &mut Lexemes<'a>, token: Token<'a>) -> Option<(Token<'a>, Place)>
+    requires { Opens (head lexemes.old) (token_of token) }
+    ensures { IfSome result (λ t. Begins lexemes.old (token_of t.0) t.1 lexemes.new) }
+{
+    lexemes.pass();
+    Some((token, Place::Fresh))
+}
+
+/// The token with which a value begins, and what may stand behind it.
+#[inline(always)]
+fn begin<'a>(lexemes: &mut Lexemes<'a>) -> Option<(Token<'a>, Place)>
+    ensures { IfSome result (λ t. Begins lexemes.old (token_of t.0) t.1 lexemes.new) }
+{
+    match lexemes.peek() {
+        b'"' => string(lexemes),
+        b'{' => open(lexemes, Token::BeginObject),
+        b'[' => open(lexemes, Token::BeginArray),
+        b't' => word(lexemes, b"true", Token::Bool(true)),
+        b'f' => word(lexemes, b"false", Token::Bool(false)),
+        b'n' => word(lexemes, b"null", Token::Null),
+        b'-' | b'0'..=b'9' => number(lexemes),
+        _ => None,
+    }
+}
+
+/// A JSON text, seen as the tokens that are still to come.
+#[derive(Drop)]
+pub(crate) struct Tokens<'a> {
+    lexemes: Lexemes<'a>,
+    place: Place,
+}
+
+impl<'a> Model for Tokens<'a> {
+    ghost use Rattle.std.specs.Prelude.{List};
+    ghost use Rattle.json.specs.Token.{Token as SpecToken, tokens_code};
+    ghost use Rattle.mi_tokens.specs.Tokens.{tokens_at};
+
+    ghost Value = { List SpecToken };
+
+    ghost coded = { tokens_code };
+
+    ghost view = { λ a. tokens_at a.place a.lexemes };
+}
+
+impl<'a> Tokens<'a> {
+    /// The tokens of a text.
+    #[inline(always)]
+    pub(crate) fn new(text: &'a str) -> Tokens<'a>
+        ensures { result ≡ tokens text.now }
+    {
+        Tokens {
+            lexemes: Lexemes::new(text),
+            place: Place::Fresh,
+        }
+    }
+
+    /// Whether no token is left, and the text has ended.
+    #[inline(always)]
+    pub(crate) fn is_done(&self) -> bool
+        ensures { IsTrue result → self.now ≡ [] }
+    {
+        self.place.may_close() && self.lexemes.is_done()
+    }
+
+    /// The name of a member with its colon, or none at the brace that ends an object.
+    #[inline(always)]
+    pub(crate) fn next_key(&mut self) -> Option<Option<&'a str>>
+        ensures { IfSome result (λ k. read_key self.old ≡ Some (option_map (λ s. s.now) k, self.new)) }
+    {
+        let byte = self.lexemes.peek();
+        if byte == b'"' && self.place.may_begin() {
+            let name = key(&mut self.lexemes)?;
+            self.place = Place::Fresh;
+            return Some(Some(name));
+        }
+        if byte == b'}' && self.place.may_close() {
+            self.place = close(&mut self.lexemes);
+            return Some(None);
+        }
+        None
+    }
+
+    /// Takes the bracket that ends an array, if it is next.
+    #[inline(always)]
+    pub(crate) fn take_end_array(&mut self) -> bool
+        ensures { MatchBool result (after_end_array self.old ≡ Some self.new) (self.new ≡ self.old) }
+    {
+        if self.lexemes.peek() != b']' || !self.place.may_close() {
+            return false;
+        }
+        self.place = close(&mut self.lexemes);
+        true
+    }
+
+    /// The token with which a value begins.
+    #[inline(always)]
+    pub(crate) fn next(&mut self) -> Option<Token<'a>>
+        ensures { IfSome result (λ t. self.old ≡ token_of t ∷ self.new) }
+    {
+        if !self.place.may_begin() {
+            return None;
+        }
+        let (token, place) = begin(&mut self.lexemes)?;
+        self.place = place;
+        Some(token)
+    }
+}
