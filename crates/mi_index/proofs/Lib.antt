@@ -2,8 +2,10 @@ pub mod FrameLemmas
 pub mod StayLemmas
 pub mod JoinLemmas
 pub mod PassLemmas
+pub mod LoopLemmas
 pub mod OtherNodeLemmas
 pub mod InsertLemmas
+pub mod RoomLemmas
 pub mod RekeyLemmas
 pub mod OpeningLemmas
 pub mod LookUpLemmas

@@ -1,7 +1,7 @@
 -- One pass over the structures: a step in the first, and then a pass over those behind it.
---     rest_asked  what those behind the first structure ask for
---     passed      the whole pass
-use Rattle.std.proofs.Common.{◌≡◌, ℕ, ◌+◌, ◌<◌, ◌^◌, ◌==◌, false, List, [], ◌∷◌, length, refl, sym, ap, ◌∙◌, subst, arith}
+--     tail_ready      what those behind the first structure ask for
+--     tail_passed      the whole pass
+use Rattle.std.proofs.Common.{◌≡◌, ℕ, ◌+◌, ◌<◌, ◌==◌, false, List, [], ◌∷◌, refl, ap, ◌∙◌, arith}
 use Rattle.mi_node.specs.Pool.{Pooled, Keeps}
 use Rattle.mi_node.specs.Refs.{Ref}
 use Rattle.mi_index.specs.Standing.{slot_in, IsLike}
@@ -89,7 +89,7 @@ module _ (P : Asks) (Q : Gives) (local : IsLocal P Q) where
 
   module _ (r : Ref) (x : Structure) (xs : List Structure) (s : ℕ) (m : Pooled Stored) where
     module _ (y : Structure) (n : Pooled Stored) (step : IsStep P Q r s x y m n) where
-      tail_ready : AreReady P s (x ∷ xs) m → AreReady P (s + 1) xs n
+      pub tail_ready : AreReady P s (x ∷ xs) m → AreReady P (s + 1) xs n
       tail_ready q = at_tail q.rss q.stand q.can
         where
           at_tail : (rss : List (List Ref)) → AllStand (x ∷ xs) s m rss → AllCan P (x ∷ xs) s m rss → AreReady P (s + 1) xs n
@@ -102,7 +102,7 @@ module _ (P : Asks) (Q : Gives) (local : IsLocal P Q) where
                 can = all_can xs (s + 1) (slot_in x) m n (r ∷ rs) rss g l h.2 c.1;
               }
 
-      tail_passed : (ys : List Structure) (o : Pooled Stored) → IsLike x y → IsPass P Q r (s + 1) xs ys n o → IsPass P Q r s (x ∷ xs) (y ∷ ys) m o
+      pub tail_passed : (ys : List Structure) (o : Pooled Stored) → IsLike x y → IsPass P Q r (s + 1) xs ys n o → IsPass P Q r s (x ∷ xs) (y ∷ ys) m o
       tail_passed ys o like tail [] h c = absurd h
       tail_passed ys o like tail (rs ∷ rss) h c =
           let a = step rs h.1 c.0 in let g = a.keeps in let l : slot_in x < s + 1 = (let e = h.0 in omega arith) in
@@ -128,19 +128,3 @@ module _ (P : Asks) (Q : Gives) (local : IsLocal P Q) where
   }
   none_left r [] s m none (rs ∷ rss) h c = absurd h
   none_left r (x ∷ xs) s m none rss h c = absurd (cc)
-
--- A step in the first of all, which are x and xs, and then a pass over xs
-module _ {P : Asks} {Q : Gives} (local : IsLocal P Q) {r : Ref} {s : ℕ} {all xs : List Structure} {x y : Structure} {m n : Pooled Stored}
-    (split : (all ≡ x ∷ xs) × (length xs + 1 ≡ length all)) (step : IsStep P Q r s x y m n) where
-  -- xs is shorter and ready, and its slots fit
-  pub rest_asked : AreReady P s all m → s + length all < 2 ^ 64 → (length xs < length all) × AreReady P (s + 1) xs n × (s + 1 + length xs < 2 ^ 64)
-  rest_asked ready few =
-      let long = split.1 in (
-        omega (arith, long),
-        tail_ready P Q local r x xs s m y n step (subst (λ ss. AreReady P s ss m) split.0 ready),
-        omega (arith, long, few),
-      )
-
-  -- the pass over all is done
-  pub passed : {ys : List Structure} {o : Pooled Stored} → IsLike x y → IsPass P Q r (s + 1) xs ys n o → IsPass P Q r s all (y ∷ ys) m o
-  passed {ys} {o} like tail = subst (λ ss. IsPass P Q r s ss (y ∷ ys) m o) (sym split.0) (tail_passed P Q local r x xs s m y n step ys o like tail)

@@ -1,5 +1,6 @@
 pub mod Standing
 pub mod Places
+pub mod Indexed
 pub mod Pass
 pub mod PassSteps
 pub mod Passes

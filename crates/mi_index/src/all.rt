@@ -1,5 +1,5 @@
 //! Passes over the structures of all indexes, one after another. A change in one leaves all others standing, since each
-//! sets links of its own slot alone.
+//! sets links of its own slot alone. What a pass says of the node is lent to each step.
 ghost use Rattle.std.specs.Prelude.{◌≡◌, ◌+◌, ◌<◌, ◌^◌, List as Seq, ◌++◌, length, IfOk};
 ghost use Rattle.mi_node.specs.Pool.{IsHeld};
 ghost use Rattle.mi_node.specs.Refs.{Ref};
@@ -17,23 +17,25 @@ use mi_node::{NodeRef, Pool};
 use mi_order::Stored;
 use std::alloc::{AllocError, Global};
 
+/// A node that comes into the indexes in which it moves: by its key and this stamp, in the list of the index that is given
+/// directly before the node that is given, and last in each other list.
+#[derive(Clone, Copy)]
+pub(crate) struct Joining<'a> {
+    pub(crate) node: NodeRef,
+    pub(crate) moves: Moves<'a>,
+    pub(crate) stamp: u64,
+    pub(crate) before: Option<(usize, NodeRef)>,
+}
+
 /// Puts a node into one structure, if it moves there.
-fn link_one(
-    structure: &mut Structure,
-    slot: usize,
-    p: &mut Pool<Stored>,
-    node: NodeRef,
-    moves: Moves<'_>,
-    stamp: u64,
-    before: Option<(usize, NodeRef)>,
-)
-    requires { IsReady (pass.joining moves node stamp before) slot structure.old p.old }
-    ensures step { IsStep (pass.joining moves.entry node stamp before)
-        (pass.joined moves.entry node stamp before) node slot structure.old structure.new p.old p.new }
+fn link_one(structure: &mut Structure, slot: usize, p: &mut Pool<Stored>, it: &Joining<'_>)
+    requires { IsReady (pass.joining it.now.moves it.now.node it.now.stamp it.now.before) slot structure.old p.old }
+    ensures step { IsStep (pass.joining it.now.moves it.now.node it.now.stamp it.now.before)
+        (pass.joined it.now.moves it.now.node it.now.stamp it.now.before) it.now.node slot structure.old structure.new p.old p.new }
     ensures like { IsLike structure.old structure.new }
 {
-    if moves.moves_in(slot) {
-        structure.link(p, node, stamp, before_in(slot, before));
+    if it.moves.moves_in(slot) {
+        structure.link(p, it.node, it.stamp, before_in(slot, it.before));
     }
 }
 
@@ -43,10 +45,10 @@ fn unlink_one(
     slot: usize,
     p: &mut Pool<Stored>,
     node: NodeRef,
-    moves: Moves<'_>,
+    moves: &Moves<'_>,
 )
-    requires { IsReady (pass.leaving moves node) slot structure.old p.old }
-    ensures step { IsStep (pass.leaving moves.entry node) (pass.left moves.entry node) node slot structure.old structure.new p.old p.new }
+    requires { IsReady (pass.leaving moves.now node) slot structure.old p.old }
+    ensures step { IsStep (pass.leaving moves.now node) (pass.left moves.now node) node slot structure.old structure.new p.old p.new }
     ensures like { IsLike structure.old structure.new }
 {
     if moves.moves_in(slot) {
@@ -60,12 +62,12 @@ fn relink_one(
     slot: usize,
     p: &mut Pool<Stored>,
     node: NodeRef,
-    moves: Moves<'_>,
+    moves: &Moves<'_>,
 )
     requires held { IsHeld p.old node }
     requires slot { slot < p.old.slots }
-    requires ready { IsReady (pass.returning moves node) slot structure.old p.old }
-    ensures step { IsStep (pass.returning moves.entry node) (pass.returned moves.entry node) node slot structure.old structure.new p.old p.new }
+    requires ready { IsReady (pass.returning moves.now node) slot structure.old p.old }
+    ensures step { IsStep (pass.returning moves.now node) (pass.returned moves.now node) node slot structure.old structure.new p.old p.new }
     ensures like { IsLike structure.old structure.new }
 {
     let link = p.link(node, slot);
@@ -92,108 +94,83 @@ fn relocate_one(
     }
 }
 
-/// Puts a node into each structure in which it moves, the first of which has this slot: by its key and this stamp, in
-/// the list of the index that is given directly before the node that is given, and last in each other list.
-pub fn link_all(
-    structures: &mut [Structure],
-    slot: usize,
-    p: &mut Pool<Stored>,
-    node: NodeRef,
-    moves: Moves<'_>,
-    stamp: u64,
-    before: Option<(usize, NodeRef)>,
-)
-    requires all { AreReady (pass.joining moves node stamp before) slot structures.old p.old }
-    requires few { slot + length structures.old < 2 ^ 64 }
-    ensures pass { IsPass (pass.joining moves.entry node stamp before)
-        (pass.joined moves.entry node stamp before) node slot structures.old structures.new p.old p.new }
+/// Puts a node into each structure in which it moves.
+pub(crate) fn link_all(structures: &mut [Structure], p: &mut Pool<Stored>, it: &Joining<'_>)
+    requires { AreReady (pass.joining it.now.moves it.now.node it.now.stamp it.now.before) 0 structures.old p.old }
+    ensures pass { IsPass (pass.joining it.now.moves it.now.node it.now.stamp it.now.before)
+        (pass.joined it.now.moves it.now.node it.now.stamp it.now.before) it.now.node 0 structures.old structures.new p.old p.new }
     ensures like { AllLike structures.old structures.new }
 {
-    if let Some((first, rest)) = structures.split_first_mut() {
-        link_one(first, slot, p, node, moves, stamp, *&before);
-        link_all(rest, slot + 1, p, node, moves, stamp, before);
+    for (slot, structure) in structures.iter_mut().enumerate() {
+        link_one(structure, slot, p, it);
     }
 }
 
-/// Takes a node out of each structure in which it moves, the first of which has this slot.
-pub fn unlink_all(
+/// Takes a node out of each structure in which it moves.
+pub(crate) fn unlink_all(
     structures: &mut [Structure],
-    slot: usize,
     p: &mut Pool<Stored>,
     node: NodeRef,
-    moves: Moves<'_>,
+    moves: &Moves<'_>,
 )
-    requires all { AreReady (pass.leaving moves node) slot structures.old p.old }
-    requires few { slot + length structures.old < 2 ^ 64 }
-    ensures pass { IsPass (pass.leaving moves.entry node) (pass.left moves.entry node) node slot structures.old structures.new p.old p.new }
+    requires { AreReady (pass.leaving moves.now node) 0 structures.old p.old }
+    ensures pass { IsPass (pass.leaving moves.now node) (pass.left moves.now node) node 0 structures.old structures.new p.old p.new }
     ensures like { AllLike structures.old structures.new }
 {
-    if let Some((first, rest)) = structures.split_first_mut() {
-        unlink_one(first, slot, p, node, moves);
-        unlink_all(rest, slot + 1, p, node, moves);
+    for (slot, structure) in structures.iter_mut().enumerate() {
+        unlink_one(structure, slot, p, node, moves);
     }
 }
 
-/// Puts a node back into each structure in which it moves, the first of which has this slot.
-pub fn relink_all(
+/// Puts a node back into each structure in which it moves.
+pub(crate) fn relink_all(
     structures: &mut [Structure],
-    slot: usize,
     p: &mut Pool<Stored>,
     node: NodeRef,
-    moves: Moves<'_>,
+    moves: &Moves<'_>,
 )
     requires held { IsHeld p.old node }
-    requires all { AreReady (pass.returning moves node) slot structures.old p.old }
-    requires few { slot + length structures.old < 2 ^ 64 }
-    ensures pass { IsPass (pass.returning moves.entry node) (pass.returned moves.entry node) node slot structures.old structures.new p.old p.new }
+    requires all { AreReady (pass.returning moves.now node) 0 structures.old p.old }
+    ensures pass { IsPass (pass.returning moves.now node) (pass.returned moves.now node) node 0 structures.old structures.new p.old p.new }
     ensures like { AllLike structures.old structures.new }
 {
-    if let Some((first, rest)) = structures.split_first_mut() {
-        relink_one(first, slot, p, node, moves);
-        relink_all(rest, slot + 1, p, node, moves);
+    for (slot, structure) in structures.iter_mut().enumerate() {
+        relink_one(structure, slot, p, node, moves);
     }
 }
 
-/// Moves a node in the list of the index of this number, if it is one of the structures, the first of which has this
-/// slot.
-pub fn relocate_all(
+/// Moves a node in the list of the index of this number, if it is one of the structures.
+pub(crate) fn relocate_all(
     structures: &mut [Structure],
-    slot: usize,
     p: &mut Pool<Stored>,
     index: usize,
     node: NodeRef,
     before: Option<NodeRef>,
 )
-    requires all { AreReady (insert.relocating_at index node before) slot structures.old p.old }
-    requires few { slot + length structures.old < 2 ^ 64 }
-    ensures pass { IsPass (insert.relocating_at index node before) (insert.relocated_at index node before) node slot structures.old structures.new p.old p.new }
+    requires { AreReady (insert.relocating_at index node before) 0 structures.old p.old }
+    ensures pass { IsPass (insert.relocating_at index node before) (insert.relocated_at index node before) node 0 structures.old structures.new p.old p.new }
     ensures like { AllLike structures.old structures.new }
 {
-    if let Some((first, rest)) = structures.split_first_mut() {
-        relocate_one(first, slot, p, index, node, *&before);
-        relocate_all(rest, slot + 1, p, index, node, before);
+    for (slot, structure) in structures.iter_mut().enumerate() {
+        relocate_one(structure, slot, p, index, node, *&before);
     }
 }
 
-/// Makes room for n nodes in every structure, the first of which has this slot. No list changes, also where memory is
-/// refused: it then goes on with the others.
-pub fn make_room_all(
+/// Makes room for n nodes in every structure. No list changes, also where memory is refused: the structures behind the one
+/// that got none then stay as they are.
+pub(crate) fn make_room_all(
     structures: &mut [Structure],
-    slot: usize,
     alloc: Global,
     p: &mut Pool<Stored>,
     n: u64,
 ) -> Result<(), AllocError>
-    requires all { AreReady pass.nothing_asked slot structures.old p.old }
-    requires few { slot + length structures.old < 2 ^ 64 }
-    ensures pass { (r : Ref) → IsPass pass.nothing_asked pass.grown r slot structures.old structures.new p.old p.new }
+    requires { AreReady pass.nothing_asked 0 structures.old p.old }
+    ensures pass { (r : Ref) → IsPass pass.nothing_asked pass.grown r 0 structures.old structures.new p.old p.new }
     ensures like { AllLike structures.old structures.new }
     ensures room { IfOk result (λ _. AllRoomy structures.new n) }
 {
-    if let Some((first, rest)) = structures.split_first_mut() {
-        let first_made = first.make_room(alloc, p, n);
-        let rest_made = make_room_all(rest, slot + 1, alloc, p, n);
-        return first_made.and(rest_made);
+    for structure in structures.iter_mut() {
+        structure.make_room(alloc, p, n)?;
     }
     Ok(())
 }

@@ -3,15 +3,17 @@
 //! hands on.
 #![tactic(auto)]
 
-pub mod all;
+mod all;
 pub mod laws;
 mod look;
 mod moves;
 mod nodes;
 mod structure;
+mod structures;
 mod walk;
 
 pub use mi_order::{ByHash, ByKey, Stored, hash_values};
 pub use moves::{Moves, Place};
 pub use nodes::Nodes;
 pub use structure::Structure;
+pub use structures::Structures;

@@ -11,9 +11,9 @@ ghost use Rattle.mi_index.specs.Inserting as insert;
 ghost use Rattle.mi_index.specs.Opened as opened;
 ghost use Rattle.mi_index.specs.declared.moves.Moves.TheVariants.{All};
 
-use crate::all::{add_structures, link_all, make_room_all, relink_all, relocate_all, unlink_all};
+use crate::all::Joining;
 use crate::moves::{Moves, Place};
-use crate::structure::Structure;
+use crate::structures::Structures;
 use mi_catalog::Schema;
 use mi_node::{NodeRef, Pool};
 use mi_order::Stored;
@@ -23,7 +23,7 @@ use std::alloc::{AllocError, Global};
 #[derive(Drop)]
 pub struct Nodes {
     pub pool: Pool<Stored>,
-    pub structures: Vec<Structure>,
+    pub structures: Structures,
 }
 
 impl Nodes {
@@ -34,15 +34,7 @@ impl Nodes {
     {
         let slots = schema.index_count();
         at_most_sixteen(schema);
-        let mut structures = Vec::new(alloc);
-        add_structures(
-            alloc,
-            schema.indexes(),
-            schema.columns(),
-            0,
-            secret,
-            &mut structures,
-        )?;
+        let structures = Structures::new(alloc, schema.indexes(), schema.columns(), secret)?;
         Ok(Nodes {
             pool: Pool::with_slots(alloc, slots),
             structures,
@@ -72,18 +64,17 @@ impl Nodes {
             → IsPass pass.nothing_asked pass.grown r 0 self.old.structures.items self.new.structures.items self.old.pool self.new.pool) }
         ensures like { AllLike self.old.structures.items self.new.structures.items }
     {
-        if let Err(refused) = grow_each(&mut self.structures, alloc, &mut self.pool, n) {
+        if let Err(refused) = self.structures.make_room(alloc, &mut self.pool, n) {
             return Err((refused, stored));
         }
         let node = self.pool.take(stored)?;
-        link_each(
-            &mut self.structures,
-            &mut self.pool,
+        let joining = Joining {
             node,
-            Moves::All,
+            moves: Moves::All,
             stamp,
             before,
-        );
+        };
+        self.structures.link(&mut self.pool, &joining);
         Ok(node)
     }
 
@@ -94,7 +85,7 @@ impl Nodes {
             self.old.structures.items self.new.structures.items self.old.pool self.new.pool }
         ensures like { AllLike self.old.structures.items self.new.structures.items }
     {
-        unlink_each(&mut self.structures, &mut self.pool, node, Moves::All);
+        self.structures.unlink(&mut self.pool, node, &Moves::All);
     }
 
     /// Puts a node back into every index, to the places that its links remember. Takes no memory.
@@ -105,7 +96,7 @@ impl Nodes {
             self.old.structures.items self.new.structures.items self.old.pool self.new.pool }
         ensures like { AllLike self.old.structures.items self.new.structures.items }
     {
-        relink_each(&mut self.structures, &mut self.pool, node, Moves::All);
+        self.structures.relink(&mut self.pool, node, &Moves::All);
     }
 
     /// Gives a node another value, and the old one back. In each index that is marked the node moves, by its new key and
@@ -120,17 +111,15 @@ impl Nodes {
             self.old.structures.items self.new.structures.items self.old.pool self.new.pool rss }
         ensures like { AllLike self.old.structures.items self.new.structures.items }
     {
-        let moves = Moves::Marked(marks);
-        unlink_each(&mut self.structures, &mut self.pool, node, moves);
-        let old = self.pool.swap_value(node, stored);
-        link_each(
-            &mut self.structures,
-            &mut self.pool,
+        let joining = Joining {
             node,
-            moves,
+            moves: Moves::Marked(marks),
             stamp,
-            None,
-        );
+            before: None,
+        };
+        self.structures.unlink(&mut self.pool, node, &joining.moves);
+        let old = self.pool.swap_value(node, stored);
+        self.structures.link(&mut self.pool, &joining);
         old
     }
 
@@ -147,9 +136,9 @@ impl Nodes {
         ensures like { AllLike self.old.structures.items self.new.structures.items }
     {
         let moves = Moves::Placed(places);
-        unlink_each(&mut self.structures, &mut self.pool, node, moves);
+        self.structures.unlink(&mut self.pool, node, &moves);
         let old = self.pool.swap_value(node, stored);
-        relink_each(&mut self.structures, &mut self.pool, node, moves);
+        self.structures.relink(&mut self.pool, node, &moves);
         old
     }
 
@@ -161,14 +150,8 @@ impl Nodes {
             node 0 self.old.structures.items self.new.structures.items self.old.pool self.new.pool }
         ensures like { AllLike self.old.structures.items self.new.structures.items }
     {
-        relocate_all(
-            self.structures.as_mut_slice(),
-            0,
-            &mut self.pool,
-            index,
-            node,
-            before,
-        );
+        self.structures
+            .relocate(&mut self.pool, index, node, before);
     }
 
     /// Frees a node that stands in no index, and gives its value back. Takes no memory.
@@ -190,65 +173,4 @@ fn at_most_sixteen(schema: &Schema)
     ensures few { length schema.now.indexes ≤ 16 }
 {
     schema.keeps_rules();
-}
-
-/// Puts a node into each structure in which it moves.
-fn link_each(
-    structures: &mut Vec<Structure>,
-    p: &mut Pool<Stored>,
-    node: NodeRef,
-    moves: Moves<'_>,
-    stamp: u64,
-    before: Option<(usize, NodeRef)>,
-)
-    requires { AreReady (pass.joining moves node stamp before) 0 structures.old.items p.old }
-    ensures pass { IsPass (pass.joining moves.entry node stamp before) (pass.joined moves.entry node stamp before)
-        node 0 structures.old.items structures.new.items p.old p.new }
-    ensures like { AllLike structures.old.items structures.new.items }
-{
-    link_all(structures.as_mut_slice(), 0, p, node, moves, stamp, before);
-}
-
-/// Takes a node out of each structure in which it moves.
-fn unlink_each(
-    structures: &mut Vec<Structure>,
-    p: &mut Pool<Stored>,
-    node: NodeRef,
-    moves: Moves<'_>,
-)
-    requires { AreReady (pass.leaving moves node) 0 structures.old.items p.old }
-    ensures pass { IsPass (pass.leaving moves.entry node) (pass.left moves.entry node) node 0 structures.old.items structures.new.items p.old p.new }
-    ensures like { AllLike structures.old.items structures.new.items }
-{
-    unlink_all(structures.as_mut_slice(), 0, p, node, moves);
-}
-
-/// Puts a node back into each structure in which it moves.
-fn relink_each(
-    structures: &mut Vec<Structure>,
-    p: &mut Pool<Stored>,
-    node: NodeRef,
-    moves: Moves<'_>,
-)
-    requires held { IsHeld p.old node }
-    requires all { AreReady (pass.returning moves node) 0 structures.old.items p.old }
-    ensures pass { IsPass (pass.returning moves.entry node) (pass.returned moves.entry node) node 0 structures.old.items structures.new.items p.old p.new }
-    ensures like { AllLike structures.old.items structures.new.items }
-{
-    relink_all(structures.as_mut_slice(), 0, p, node, moves);
-}
-
-/// Makes room for n nodes in each structure.
-fn grow_each(
-    structures: &mut Vec<Structure>,
-    alloc: Global,
-    p: &mut Pool<Stored>,
-    n: u64,
-) -> Result<(), AllocError>
-    requires { AreReady pass.nothing_asked 0 structures.old.items p.old }
-    ensures pass { (r : Ref) → IsPass pass.nothing_asked pass.grown r 0 structures.old.items structures.new.items p.old p.new }
-    ensures like { AllLike structures.old.items structures.new.items }
-    ensures room { IfOk result (λ _. AllRoomy structures.new.items n) }
-{
-    make_room_all(structures.as_mut_slice(), 0, alloc, p, n)
 }

@@ -56,7 +56,7 @@ fn kept_row(inverse: Inverse) -> Option<RowRef>
 }
 
 impl MultiIndex {
-    /// Adds a record that no rule refuses and answers its id. It goes last in each index among its equals; in the sequenced
+    /// Adds a record that no rule refuses and answers its row. It goes last in each index among its equals; in the sequenced
     /// index that `before` names it stands directly before the record that `before` names.
     ///
     /// Where memory is refused, the record is handed back.
@@ -65,11 +65,11 @@ impl MultiIndex {
         alloc: Global,
         row: Record,
         before: Option<(usize, u64)>,
-    ) -> Result<(u64, Inverse), Record>
+    ) -> Result<RowRef, Record>
         requires before { IfSome before (λ at. IsSequenced self.old.shape at.0) }
         requires accepted { insert_refusal self.old.shape before row (as_table self.old.plain) ≡ None }
-        ensures id { IfOk result (λ p. p.0 ≡ self.old.plain.next) }
-        ensures made { IfOk result (λ p. MakesInsert self.old.shape before row self.old.plain p.1 self.new.plain) }
+        ensures id { IfOk result (λ r. r.id ≡ self.old.plain.next) }
+        ensures made { IfOk result (λ r. MakesInsert self.old.shape before row self.old.plain (Inserted (row_seen r)) self.new.plain) }
         ensures refused { IfErr result (λ _. self.new.plain ≡ self.old.plain) }
         ensures handed_back { IfErr result (λ e. e ≡ row) }
         ensures shape { self.new.shape ≡ self.old.shape }
@@ -92,7 +92,7 @@ impl MultiIndex {
                 self.ids.insert(id, node);
                 self.next += 1;
                 self.arrivals += 1;
-                Ok((id, Inverse::new(Undo::Inserted(RowRef { id, node }))))
+                Ok(RowRef { id, node })
             }
             Err((_, stored)) => Err(stored.row),
         }
@@ -157,7 +157,10 @@ impl MultiIndex {
             return Err((refusal, row));
         }
         match self.insert_accepted(alloc, row, before) {
-            Ok(inserted) => Ok(inserted),
+            Ok(inserted) => {
+                let id = inserted.id;
+                Ok((id, Inverse::new(Undo::Inserted(inserted))))
+            }
             Err(row) => Err((Refusal::Memory, row)),
         }
     }

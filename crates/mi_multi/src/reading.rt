@@ -23,7 +23,7 @@ pub(crate) fn structure_at(nodes: &Nodes, index: usize) -> &Structure
     requires { index < length nodes.now.structures.items }
     ensures { slice_get nodes.now.structures.items index ≡ Some result.now }
 {
-    &nodes.structures[index]
+    nodes.structures.at(index)
 }
 
 /// The id of a node, if there is one.

@@ -9,8 +9,8 @@ use Rattle.mi_index.proofs.all.relink_one.Goals as goal
 pub returns-in-Some-clause-step : goal.returns-in-Some-clause-step
 returns-in-Some-clause-step c rs h j =
     let x = c.args.structure.now in let m = c.args.p.now in let n = c.relink.new.p in let r = c.args.node in let s = c.args.slot in
-    let is : place_for c.args.moves s (link_of m r.name s) ≡ Some c.in-Some.place =
-    ap (place_for c.args.moves s) (sym c.link-link.ensures) ∙ sym c.place_in.ensures ∙ c.in-Some.is in
+    let is : place_for c.args.moves.now s (link_of m r.name s) ≡ Some c.in-Some.place =
+    ap (place_for c.args.moves.now s) (sym c.link-link.ensures) ∙ sym c.place_in.ensures ∙ c.in-Some.is in
     let a = c.relink.ensures.step rs h (subst (λ o. CanReturnTo o x m r rs) is j) in
     record {
       us = a.us;

@@ -8,39 +8,39 @@ use Rattle.mi_index.proofs.InsertLemmas.{like_both}
 use Rattle.mi_index.proofs.RekeyLemmas.{can_leave, can_come, is_rekeyed}
 use Rattle.mi_index.proofs.nodes.Nodes.rekey.Goals as goal
 
-pub unlink_each-requires : goal.unlink_each-requires
-unlink_each-requires c = can_leave (mark_at c.args.marks.now) c.args.node c.args.stored
+pub unlink-requires : goal.unlink-requires
+unlink-requires c = can_leave (mark_at c.args.marks.now) c.args.node c.args.stored
     c.args.stamp c.args.self.now.structures.items c.args.self.now.pool c.requires.places
 
 pub swap_value-old-requires : goal.swap_value-old-requires
 swap_value-old-requires c =
     let q = c.requires.places in
     let l = can_leave (mark_at c.args.marks.now) c.args.node c.args.stored c.args.stamp c.args.self.now.structures.items c.args.self.now.pool q in
-    (c.unlink_each.ensures.pass l.rss l.stand l.can).keeps.refs c.args.node.name ∙ c.requires.held
+    (c.unlink.ensures.pass l.rss l.stand l.can).keeps.refs c.args.node.name ∙ c.requires.held
 
-pub link_each-requires : goal.link_each-requires
-link_each-requires c =
-    let i = c.args.self.now in let r = c.args.node in let ys = c.unlink_each.new.structures.items in let n = c.unlink_each.new.p in
+pub link-requires : goal.link-requires
+link-requires c =
+    let i = c.args.self.now in let r = c.args.node in let ys = c.unlink.new.self.items in let n = c.unlink.new.p in
     subst (AreReady (joining (Marked c.args.marks) r c.args.stamp None) 0 ys) (sym c.swap_value-old.ensures.pool)
     (can_come (mark_at c.args.marks.now) r c.args.stored c.args.stamp i.structures.items ys i.pool
-    n c.requires.held c.unlink_each.ensures.like c.unlink_each.ensures.pass c.requires.places)
+    n c.requires.held c.unlink.ensures.like c.unlink.ensures.pass c.requires.places)
 
 pub returns-clause-value : goal.returns-clause-value
 returns-clause-value c =
     let q = c.requires.places in
     let l = can_leave (mark_at c.args.marks.now) c.args.node c.args.stored c.args.stamp c.args.self.now.structures.items c.args.self.now.pool q in
-    sym ((c.unlink_each.ensures.pass l.rss l.stand l.can).keeps.values c.args.node.name) ∙ c.swap_value-old.ensures.value
+    sym ((c.unlink.ensures.pass l.rss l.stand l.can).keeps.values c.args.node.name) ∙ c.swap_value-old.ensures.value
 
 pub returns-clause-rekeyed : goal.returns-clause-rekeyed
 returns-clause-rekeyed c =
-    let i = c.args.self.now in let r = c.args.node in let ys = c.unlink_each.new.structures.items in
-    let n = c.unlink_each.new.p in let zs = c.link_each.new.structures.items in
-    let p = c.link_each.new.p in
+    let i = c.args.self.now in let r = c.args.node in let ys = c.unlink.new.self.items in
+    let n = c.unlink.new.p in let zs = c.link.new.self.items in
+    let p = c.link.new.p in
     is_rekeyed (mark_at c.args.marks.now) r c.args.stored c.args.stamp i.structures.items ys
-    i.pool n c.requires.held c.unlink_each.ensures.like c.unlink_each.ensures.pass zs p
+    i.pool n c.requires.held c.unlink.ensures.like c.unlink.ensures.pass zs p
     (subst (λ z. IsPass (joining (Marked c.args.marks) r c.args.stamp None) (joined (Marked c.args.marks) r c.args.stamp None) r 0 ys zs z p)
-    c.swap_value-old.ensures.pool c.link_each.ensures.pass)
+    c.swap_value-old.ensures.pool c.link.ensures.pass)
 
 pub returns-clause-like : goal.returns-clause-like
-returns-clause-like c = like_both c.args.self.now.structures.items c.unlink_each.new.structures.items
-    c.link_each.new.structures.items c.unlink_each.ensures.like c.link_each.ensures.like
+returns-clause-like c = like_both c.args.self.now.structures.items c.unlink.new.self.items
+    c.link.new.self.items c.unlink.ensures.like c.link.ensures.like

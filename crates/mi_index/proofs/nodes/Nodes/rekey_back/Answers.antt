@@ -10,47 +10,47 @@ use Rattle.mi_index.proofs.InsertLemmas.{like_both}
 use Rattle.mi_index.proofs.RekeyLemmas.{can_go_leave, can_go_come, is_given_back}
 use Rattle.mi_index.proofs.nodes.Nodes.rekey_back.Goals as goal
 
-pub unlink_each-requires : goal.unlink_each-requires
-unlink_each-requires c = can_go_leave (given_at c.args.places.now) c.args.node c.args.stored
+pub unlink-requires : goal.unlink-requires
+unlink-requires c = can_go_leave (given_at c.args.places.now) c.args.node c.args.stored
     c.args.self.now.structures.items c.args.self.now.pool c.requires.places
 
 pub swap_value-old-requires : goal.swap_value-old-requires
 swap_value-old-requires c =
     let q = c.requires.places in
     let l = can_go_leave (given_at c.args.places.now) c.args.node c.args.stored c.args.self.now.structures.items c.args.self.now.pool q in
-    (c.unlink_each.ensures.pass l.rss l.stand l.can).keeps.refs c.args.node.name ∙ c.requires.held
+    (c.unlink.ensures.pass l.rss l.stand l.can).keeps.refs c.args.node.name ∙ c.requires.held
 
-pub relink_each-requires-clause-held : goal.relink_each-requires-clause-held
-relink_each-requires-clause-held c =
+pub relink-requires-clause-held : goal.relink-requires-clause-held
+relink-requires-clause-held c =
     let q = c.requires.places in
     let l = can_go_leave (given_at c.args.places.now) c.args.node c.args.stored c.args.self.now.structures.items c.args.self.now.pool q in
-    let still = (c.unlink_each.ensures.pass l.rss l.stand l.can).keeps.refs c.args.node.name ∙ c.requires.held in
+    let still = (c.unlink.ensures.pass l.rss l.stand l.can).keeps.refs c.args.node.name ∙ c.requires.held in
     subst (λ z. IsHeld z c.args.node) (sym c.swap_value-old.ensures.pool)
-    (ref-with_value c.unlink_each.new.p c.args.node.name c.args.stored c.args.node.name ∙ still)
+    (ref-with_value c.unlink.new.p c.args.node.name c.args.stored c.args.node.name ∙ still)
 
-pub relink_each-requires-clause-all : goal.relink_each-requires-clause-all
-relink_each-requires-clause-all c =
-    let i = c.args.self.now in let r = c.args.node in let ys = c.unlink_each.new.structures.items in let n = c.unlink_each.new.p in
+pub relink-requires-clause-all : goal.relink-requires-clause-all
+relink-requires-clause-all c =
+    let i = c.args.self.now in let r = c.args.node in let ys = c.unlink.new.self.items in let n = c.unlink.new.p in
     subst (AreReady (returning (Placed c.args.places) r) 0 ys) (sym c.swap_value-old.ensures.pool)
     (can_go_come (given_at c.args.places.now) r c.args.stored i.structures.items ys i.pool n
-    c.requires.held c.unlink_each.ensures.like c.unlink_each.ensures.pass c.requires.places)
+    c.requires.held c.unlink.ensures.like c.unlink.ensures.pass c.requires.places)
 
 pub returns-clause-value : goal.returns-clause-value
 returns-clause-value c =
     let q = c.requires.places in
     let l = can_go_leave (given_at c.args.places.now) c.args.node c.args.stored c.args.self.now.structures.items c.args.self.now.pool q in
-    sym ((c.unlink_each.ensures.pass l.rss l.stand l.can).keeps.values c.args.node.name) ∙ c.swap_value-old.ensures.value
+    sym ((c.unlink.ensures.pass l.rss l.stand l.can).keeps.values c.args.node.name) ∙ c.swap_value-old.ensures.value
 
 pub returns-clause-rekeyed : goal.returns-clause-rekeyed
 returns-clause-rekeyed c =
-    let i = c.args.self.now in let r = c.args.node in let ys = c.unlink_each.new.structures.items in
-    let n = c.unlink_each.new.p in let zs = c.relink_each.new.structures.items in
-    let p = c.relink_each.new.p in
+    let i = c.args.self.now in let r = c.args.node in let ys = c.unlink.new.self.items in
+    let n = c.unlink.new.p in let zs = c.relink.new.self.items in
+    let p = c.relink.new.p in
     is_given_back (given_at c.args.places.now) r c.args.stored i.structures.items ys i.pool n
-    c.requires.held c.unlink_each.ensures.like c.unlink_each.ensures.pass zs p
+    c.requires.held c.unlink.ensures.like c.unlink.ensures.pass zs p
     (subst (λ z. IsPass (returning (Placed c.args.places) r) (returned (Placed c.args.places) r) r 0 ys zs z p)
-    c.swap_value-old.ensures.pool c.relink_each.ensures.pass)
+    c.swap_value-old.ensures.pool c.relink.ensures.pass)
 
 pub returns-clause-like : goal.returns-clause-like
-returns-clause-like c = like_both c.args.self.now.structures.items c.unlink_each.new.structures.items
-    c.relink_each.new.structures.items c.unlink_each.ensures.like c.relink_each.ensures.like
+returns-clause-like c = like_both c.args.self.now.structures.items c.unlink.new.self.items
+    c.relink.new.self.items c.unlink.ensures.like c.relink.ensures.like

@@ -10,6 +10,7 @@ use Rattle.mi_container.specs.Asked.{IsSequenced}
 use Rattle.mi_container.specs.Data.{Data, as_table}
 use Rattle.mi_container.specs.Run.{PlaceFits}
 use Rattle.mi_container.specs.Makes.{MakesInsert}
+use Rattle.mi_container.specs.Inverse.Inverse.{Inserted}
 use Rattle.mi_multi.specs.Before.{node_before}
 use Rattle.mi_multi.specs.Multi.{IsMulti, plain_of}
 use Rattle.mi_multi.specs.Seen.{Seen, seen_of}
@@ -84,7 +85,7 @@ returns-in-Ok-link_in-clause-made c =
     let came = c.in-Ok-link_in.ensures.ok is.rss is.stand (can f) in
     let entries = c.insert.ensures.entries ∙ ap (λ w. insert w i.next (record { node = r; live = true })) c.make_room.ensures.entries in
     let new : Data = plain_of i.schema c.insert.new.self.entries c.link_in.new.self.pool c.link_in.new.self.structures.items (i.next + 1) (i.arrivals + 1) in
-    subst (λ (w : Seen). MakesInsert w.shape c.args.before c.args.row w.plain c.new.result new) c.self.view_is (
+    subst (λ (w : Seen). MakesInsert w.shape c.args.before c.args.row w.plain (Inserted (record { id = i.next; at = r })) new) c.self.view_is (
       r,
       record {
         allowed = (
@@ -96,7 +97,7 @@ returns-in-Ok-link_in-clause-made c =
         changed_data = ap (λ w. plain_of i.schema w c.link_in.new.self.pool c.link_in.new.self.structures.items (i.next + 1) (i.arrivals + 1)) entries
             ∙ come_seen i.schema i.ids.entries i.nodes.pool c.link_in.new.self.pool i.nodes.structures.items c.link_in.new.self.structures.items
             i.next i.arrivals is (value f) refl c.args.before c.node_at-place.result (there f) r c.link_in.ensures.like came;
-        inverse = c.new.ensures;
+        inverse = refl;
       },
     )
 
