@@ -1,3 +1,4 @@
 mod AloneLaws
 mod AnswerLemmas
+mod CallLaws
 mod ReadLemmas

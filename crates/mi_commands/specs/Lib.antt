@@ -3,4 +3,5 @@ pub mod Asked
 pub mod Holder
 pub mod Performed
 pub mod Answer
+pub mod Calls
 pub mod Alone
