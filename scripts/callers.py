@@ -1,0 +1,197 @@
+"""Clients of a service that come and go, ask random lines ahead of the replies, hold sessions, break off or never read; what each sent and
+was answered is kept, for `journal_walk.py`."""
+import collections
+import contextlib
+import random
+import re
+import selectors
+import socket
+import struct
+import time
+
+from fuzz import Lines
+from journal_walk import Said, mark
+from reference import CHANGES, STEPS, Index, Schema
+
+SHORT = ["", "a", "b", "ann", "bob", "\u00e4", "\U0001f600", "z\"\\\n", "a" * 300]
+ENDS = ["undo", "undo", "undo_all", "squash", "squash", "push", "commit"]
+ID = re.compile(rb'"id":(\d+)')
+
+TABLES = [
+    Schema(
+        "kept",
+        [("k", "int"), ("s", "text"), ("f", "flag")],
+        [
+            Index("u", "hashed", [(1, False)], unique=True),
+            Index("r", "ranked", [(0, True), (1, False)]),
+            Index("h", "hashed", [(2, False)]),
+            Index("o", "ordered", [(0, False)]),
+            Index("q", "sequenced"),
+        ],
+        max_rows=24,
+    ),
+    Schema("side", [("n", "int")], [Index("r", "ranked", [(0, False)]), Index("q", "sequenced")], max_rows=8),
+]
+"""Small, so that the reference is quick, tables are full at times, and keys are taken."""
+
+
+class Speech(Lines):
+    """Random commands over the tables, with runs of changes inside of sessions. The ids are those that others were answered."""
+
+    def __init__(self, seed, ids, schemas=TABLES):
+        super().__init__(seed)
+        self.texts, self.numbers = SHORT, [0, 1, 2, 3, 5, 7, -1, 50]
+        self.ids, self.schemas, self.run = ids, schemas, 0
+
+    def id(self, schema):
+        return self.random.choice(self.ids) if self.ids and self.random.random() < 0.95 else self.random.randint(0, 5)
+
+    def chosen(self):
+        """A command that fits the run of changes that it stands in."""
+        pick = self.random
+        if self.run:
+            self.run -= 1
+            if not self.run:
+                name = pick.choice(ENDS)
+                return {"cmd": name, **({"revision": pick.randint(0, 9)} if name == "commit" else {})}
+        elif pick.random() < 0.03:
+            self.run = pick.randint(2, 20)
+            return {"cmd": "start"}
+        if pick.random() < 0.12:
+            return {"cmd": "erase", "id": self.id(None)}
+        while True:
+            said = self.command(self.schemas)
+            if said["cmd"] not in ("start", *ENDS) or pick.random() < (0.3 if self.run else 0.02):
+                return said
+
+    def next(self, number, n):
+        """The line of this number of a connection, without its newline; one that may be kept has its mark."""
+        said = self.chosen()
+        return self.text(said) + (mark(number, n) if said["cmd"] in CHANGES | STEPS else b"")
+
+
+class Caller:
+    """One connection: `lines` to ask, of which at most `window` are awaited, and how it leaves then: by `shut`, `close` or `reset`."""
+
+    def __init__(self, stream, said, speech, lines, window, leaves):
+        self.stream, self.said, self.speech = stream, said, speech
+        self.left, self.window, self.leaves = lines, window, leaves
+        self.out, self.rest, self.is_open, self.is_shut = b"", b"", True, False
+        stream.setblocking(False)
+
+    def write(self):
+        """Asks ahead, as far as its window and the system's buffers go; leaves when all is asked."""
+        while self.left and len(self.said.lines) - len(self.said.replies) < self.window and len(self.out) < 1 << 16:
+            self.left -= 1
+            text = self.speech.next(self.said.number, len(self.said.lines))
+            self.said.lines.append(text)
+            self.out += text + (b"\n" if self.left or self.leaves != "shut" else b"")
+        try:
+            if self.out:
+                self.out = self.out[self.stream.send(self.out):]
+        except BlockingIOError:
+            return
+        except OSError:
+            self.out, self.left, self.is_shut = b"", 0, True
+        if not self.out and not self.left and not self.is_shut:
+            self.leave()
+
+    def leave(self):
+        self.said.has_left = self.is_shut = True
+        if self.leaves == "shut":
+            with contextlib.suppress(OSError):
+                self.stream.shutdown(socket.SHUT_WR)
+            return
+        if self.leaves == "reset":
+            self.stream.setsockopt(socket.SOL_SOCKET, socket.SO_LINGER, struct.pack("ii", 1, 0))
+        self.close()
+
+    def read(self):
+        """Takes what has come."""
+        try:
+            more = self.stream.recv(1 << 16)
+        except BlockingIOError:
+            return
+        except OSError:
+            more = b""
+        *lines, self.rest = (self.rest + more).split(b"\n")
+        self.said.replies += [it + b"\n" for it in lines]
+        for it in lines:
+            self.speech.ids.extend(map(int, ID.findall(it[:40])))
+        if not more:
+            self.close()
+
+    def drain(self):
+        """Takes all that still comes, once the service has ended."""
+        self.stream.setblocking(True)
+        while self.is_open:
+            self.read()
+
+    def close(self):
+        self.is_open, self.left, self.out = False, 0, b""
+        self.stream.close()
+
+
+class Load:
+    """So many callers at once on a service; those that leave are followed by others, until the time is up."""
+
+    def __init__(self, running, journal, seed, first_number, callers=8):
+        self.running, self.journal, self.pick = running, journal, random.Random(seed)
+        self.seed, self.next, self.count = seed, first_number, callers
+        self.ids, self.callers, self.all = collections.deque(maxlen=24), [], []
+        self.selector = selectors.DefaultSelector()
+
+    def length(self):
+        """How long the journal is."""
+        with open(self.journal, "rb") as file:
+            return file.seek(0, 2)
+
+    def come(self):
+        said, pick = Said(self.next, self.length()), self.pick
+        stream = self.running.connect()
+        speech = Speech(f"{self.seed}/{self.next}", self.ids)
+        caller = Caller(stream, said, speech, pick.randint(1, 150), pick.choice([1, 4, 64]), pick.choice(["shut", "close", "reset"]))
+        self.next += 1
+        self.callers.append(caller)
+        self.all.append(said)
+        self.selector.register(stream, selectors.EVENT_READ | selectors.EVENT_WRITE, caller)
+
+    def step(self):
+        """One look at who can write or read."""
+        while len(self.callers) < self.count:
+            self.come()
+        for it in self.callers:
+            wants = selectors.EVENT_WRITE if it.out or it.left and len(it.said.lines) - len(it.said.replies) < it.window else 0
+            self.selector.modify(it.stream, selectors.EVENT_READ | wants, it)
+        for key, events in self.selector.select(0.05):
+            caller = key.data
+            if events & selectors.EVENT_READ:
+                caller.read()
+            if events & selectors.EVENT_WRITE and caller.is_open:
+                caller.write()
+            if not caller.is_open:
+                self.selector.unregister(key.fileobj)
+                self.callers.remove(caller)
+
+    def go_on(self, seconds):
+        """Asks for so long, or until the service ends."""
+        end = time.monotonic() + seconds
+        while time.monotonic() < end and self.running.process.poll() is None:
+            try:
+                self.step()
+            except OSError:
+                return  # (it has ended while one came)
+
+    def drain(self):
+        """The replies that still come once it has ended. All connections have left then."""
+        for it in self.callers:
+            if it.is_open:
+                it.drain()
+        self.selector.close()
+        for it in self.all:
+            it.has_left = True
+
+
+def counted(said):
+    """How many lines were sent, and how many of them were answered."""
+    return sum(len(it.lines) for it in said), sum(len(it.replies) for it in said)

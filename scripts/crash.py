@@ -1,0 +1,348 @@
+#!/usr/bin/env python3
+"""Whether a service keeps what it has acknowledged, however it ends.
+
+    crash.py [--part rounds|power|torn|full|damaged] [--rounds N] [--short] [--seed N] [--program FILE]
+
+Without --part all run, one behind another. Each lets clients come and go, with sessions held and lines sent ahead, ends the service, and
+compares what was sent, answered and kept by `journal_walk.py`: each acknowledged line is in the journal, in its order; what is there was
+sent, or is the undo of a holder that went away; each reply is the reference's; and the service that is started again has the tables of
+`reference.py` that was asked the journal, with no session held.
+
+    rounds   the service is killed at random moments, now and then while it starts; one journal goes through ten rounds
+    power    the same on a disk that forgets, at the kill, what wasn't synced, and keeps a random front of it (needs a C compiler)
+    torn     a short journal is cut at each byte
+    full     the journal's disk is full at some byte, or a sync fails (needs a C compiler): status 4, `fault: journal`
+    damaged  a line is damaged, or the journal is another schema's: status 3 and the line, and the file stays as it is
+
+--short takes some seconds: fewer rounds, and some of the bytes. Where something differs, the status is 1, and the journal is left below
+out/crash."""
+import argparse
+import os
+import random
+import shutil
+import signal
+import subprocess
+import sys
+import tempfile
+import time
+
+import program
+import service
+from callers import TABLES, Load, counted
+from fuzz import ACCOUNTS
+from journal_walk import Differs, Said, Walk, fork, mark
+from reference import Reference
+from service import Ended, Service
+
+ROUNDS, SHORT_ROUNDS, POWER_ROUNDS = 100, 6, 30
+A_JOURNAL = 10
+"""Rounds that a journal goes through."""
+LONGEST = 0.4
+"""Seconds of load before a kill, at most."""
+
+
+def line(text, number=None, n=0):
+    return text.encode() + (b"" if number is None else mark(number, n)) + b"\n"
+
+
+def looks(number):
+    """Lines that show all tables: each index in its order, and which ids come next; the sessions are marked as one connection's."""
+    found = ['{"cmd":"revision"}']
+    for table in TABLES:
+        for index in table.indexes:
+            if index.kind != "hashed":
+                name = "list" if index.kind == "sequenced" else "range"
+                found.append(f'{{"cmd":"{name}","table":"{table.name}","index":"{index.name}"}}')
+    rows = ['"kept","row":{"k":1,"s":"~","f":true}', '"side","row":{"n":9}']
+    for row in rows:
+        erase = '{"cmd":"erase_key","table":%s,"index":"id","key":[%%d]}' % row.partition(",")[0]
+        found += ['{"cmd":"start"}', *(erase % id for id in range(2)), f'{{"cmd":"insert","table":{row}}}', '{"cmd":"undo"}']
+    return [line(it, number, n) if '"range"' not in it and '"list"' not in it else line(it) for n, it in enumerate(found)]
+
+
+class Kept:
+    """A journal over several lives of a service, and the reference that goes along."""
+
+    def __init__(self, path, folder, seed, tables=TABLES):
+        self.path, self.folder, self.journal, self.seed = path, folder, f"{folder}/journal", seed
+        self.schema = service.written_schema(folder, tables)
+        self.walk, self.known, self.next, self.torn = Walk(tables), b"", 1, 0
+        self.sent = self.answered = 0
+
+    def started(self, **how):
+        return Service(self.path, self.schema, self.journal, **how)
+
+    def whole(self):
+        """The whole lines of the journal behind those that are known, without the header; what was known must still be there."""
+        with open(self.journal, "rb") as file:
+            found = file.read()
+        if not found.startswith(self.known):
+            raise Differs("the journal has changed where it was whole before")
+        end = found.rfind(b"\n") + 1
+        more, self.torn = found[len(self.known):end], len(found) - end
+        lines = more.split(b"\n")[:-1]
+        if not self.known and lines:
+            self.walk.size = len(lines.pop(0)) + 1
+        self.known = found[:end]
+        return lines
+
+    def follow(self, said):
+        """Walks along what the journal has since; answers how many lines that were."""
+        lines = self.whole()
+        self.walk.on(lines, said)
+        sent, answered = counted(said)
+        self.sent, self.answered = self.sent + sent, self.answered + answered
+        return len(lines)
+
+    def look(self, running):
+        """A started service has the journal's tables, and nobody holds sessions. Its sessions for looking are a connection's."""
+        self.follow([])
+        if self.walk.reference.held:
+            raise Differs("sessions are held in the journal of a service that was started again")
+        said = Said(self.next)
+        self.next += 1
+        said.lines = [it[:-1] for it in looks(said.number)]
+        want = fork(self.walk.reference).feed(said.number, b"\n".join(said.lines) + b"\n")
+        with running.connect() as stream:
+            got = service.asked(stream, b"\n".join(said.lines) + b"\n")
+        if got != want:
+            pairs = zip(said.lines, want.split(b"\n"), got.split(b"\n"))
+            raise Differs("after the start, {!r}: wanted {!r}, got {!r}".format(*next(it for it in pairs if it[1] != it[2])))
+        said.replies, said.has_left = got.splitlines(keepends=True), True
+        return said
+
+    def round(self, seconds, how=signal.SIGKILL, **start):
+        """One life: it is started, looked at, loaded and ended."""
+        with self.started(**start) as running:
+            looked = self.look(running)
+            load = Load(running, self.journal, f"{self.seed}/{self.next}", self.next)
+            load.go_on(seconds)
+            self.next = load.next
+            ended = running.process.poll()
+            running.kill(how)
+            load.drain()
+            self.follow([looked, *load.all])
+            return ended, running.ended()[1]
+
+    def die_early(self, seconds, **start):
+        """It is killed while it starts."""
+        how = {"stdin": subprocess.DEVNULL, "stdout": subprocess.DEVNULL, "stderr": subprocess.DEVNULL}
+        words = [self.path, "--schema", self.schema, "--listen", "0", "--journal", self.journal]
+        with subprocess.Popen(words, preexec_fn=program.end_with_parent, **how, env={**os.environ, **start.get("env", {})}) as ran:
+            time.sleep(seconds)
+            ran.kill()
+
+
+def kept_through(path, rounds, seed, folder, start, early=True):
+    """Rounds over journals of ten each; answers what they saw."""
+    pick, began, torn, sent, answered, kept = random.Random(seed), time.monotonic(), 0, 0, 0, None
+    lines = 0
+    for n in range(rounds):
+        if n % A_JOURNAL == 0:
+            home = tempfile.mkdtemp(dir=folder)
+            kept = Kept(path, home, f"{seed}/{n}")
+        more = start(n)
+        if early and n % 5 == 4:
+            kept.die_early(pick.uniform(0, 0.03), **more)
+        before = kept.sent, kept.answered, len(kept.known)
+        ended, said = kept.round(pick.uniform(0.02, LONGEST), pick.choice([signal.SIGKILL] * 4 + [signal.SIGTERM]), **more)
+        if ended is not None:
+            raise Differs(f"in round {n} the service ended by itself, with status {ended}: {said}")
+        sent, answered, lines = sent + kept.sent - before[0], answered + kept.answered - before[1], lines + len(kept.known) - before[2]
+        torn += kept.torn > 0
+        if n % A_JOURNAL == A_JOURNAL - 1 or n == rounds - 1:
+            with kept.started(**more) as running:
+                kept.follow([kept.look(running)])
+            shutil.rmtree(home)
+    took = time.monotonic() - began
+    return f"{rounds} rounds, {sent} lines sent, {answered} acknowledged, {lines} bytes kept, {torn} torn ends; none was lost, none was added; {took:.0f} s"
+
+
+def rounds(path, options, folder):
+    count = options.rounds or (SHORT_ROUNDS if options.short else ROUNDS)
+    return kept_through(path, count, options.seed, folder, lambda n: {"sync": "always" if n % 4 == 3 else "turn"})
+
+
+def library():
+    """The disk that forgets, compiled; None where there is no compiler."""
+    compiler = shutil.which(os.environ.get("CC", "cc"))
+    source, made = f"{program.TOP}/scripts/forget_unsynced.c", f"{program.TOP}/out/forget_unsynced.so"
+    if compiler and (not os.path.exists(made) or os.path.getmtime(made) < os.path.getmtime(source)):
+        os.makedirs(os.path.dirname(made), exist_ok=True)
+        subprocess.run([compiler, "-O2", "-Wall", "-shared", "-fPIC", "-o", f"{made}.new", source], check=True)
+        os.replace(f"{made}.new", made)
+    return made if compiler else None
+
+
+def forgetting(folder, seed, **more):
+    """The environment of a service whose disk forgets."""
+    env = {"LD_PRELOAD": library(), "FORGET_FILE": f"{folder}/journal", "FORGET_SEED": str(seed), "ASAN_OPTIONS": "verify_asan_link_order=0"}
+    return {**env, **{f"FORGET_{name}": str(value) for name, value in more.items()}}
+
+
+def power(path, options, folder):
+    if not library():
+        return "left out: it needs a C compiler"
+    count = options.rounds or (SHORT_ROUNDS if options.short else POWER_ROUNDS)
+
+    def start(n):
+        # (the journal's folder is the last one that was made)
+        home = max((it.path for it in os.scandir(folder)), key=os.path.getctime)
+        return {"sync": "always" if n % 4 == 3 else "turn", "env": forgetting(home, n + 1, DELAY=500)}
+
+    return kept_through(path, count, f"{options.seed}/power", folder, start, early=False)
+
+
+def short_journal(path, folder):
+    """The bytes of a short journal whose holder was there at the end."""
+    kept = Kept(path, folder, "torn")
+    with kept.started() as running, running.connect() as stream:
+        rows = ['{"k":1,"s":"a","f":true}', '{"k":1,"s":"\u00e4\\n","f":false}', '{"k":0,"s":"c","f":true}']
+        said = [f'{{"cmd":"insert","row":{it}}}' for it in rows] + ['{"cmd":"start"}', '{"cmd":"erase","id":0}', '{"cmd":"start"}']
+        said += ['{"cmd":"insert","table":"side","row":{"n":4}}', '{"cmd":"relocate","index":"q","id":2,"before":1}']
+        service.asked(stream, b"".join(map(line, said)))
+        running.kill()
+    with open(kept.journal, "rb") as file:
+        return file.read()
+
+
+def known_after(whole):
+    """The reference after a journal's whole lines, asked by one connection that then goes."""
+    reference = Reference(TABLES)
+    for text in whole.split(b"\n")[1:-1]:
+        reference.answer_ended(1, text)
+    return reference
+
+
+def torn(path, options, folder):
+    began = time.monotonic()
+    bytes_ = short_journal(path, folder)
+    header = bytes_.index(b"\n") + 1
+    lengths = range(0, len(bytes_) + 1, 17 if options.short else 1)
+    refused = 0
+    for length in sorted({*lengths, header - 1, header, len(bytes_)}):
+        kept = Kept(path, folder, "torn")
+        with open(kept.journal, "wb") as file:
+            file.write(bytes_[:length])
+        end = bytes_.rfind(b"\n", 0, length) + 1
+        reference = known_after(bytes_[:end])
+        held = reference.held
+        reference.close(1)
+        try:
+            with kept.started() as running, running.connect() as stream:
+                lines = [it for it in looks(1) if b'"range"' in it or b'"list"' in it]
+                add = line('{"cmd":"insert","row":{"k":7,"s":"new","f":true}}', 1)
+                got = service.asked(stream, b"".join(lines) + add)
+                running.kill()
+        except Ended as ended:
+            # (a file whose header is torn may be refused, as it is no journal)
+            if 0 < length < header and ended.status == 3 and ended.said.startswith("journal: "):
+                refused += 1
+                continue
+            raise Differs(f"cut at byte {length}: {ended}") from None
+        with open(kept.journal, "rb") as file:
+            found = file.read()
+        want = reference.feed(1, b"".join(lines) + add)
+        if got != want:
+            raise Differs(f"cut at byte {length}: wanted {want!r}, got {got!r}")
+        kept_now = (bytes_[:end] or bytes_[:header]) + b'{"cmd":"undo"}\n' * held + add
+        if found != kept_now:
+            raise Differs(f"cut at byte {length}: the journal is to be {kept_now!r}, and is {found!r}")
+    most = f"; {refused} with a torn header were refused" if refused else ""
+    return f"a journal of {len(bytes_)} bytes, cut at {'some' if options.short else 'each'} of them{most}; {time.monotonic() - began:.0f} s"
+
+
+def full_once(kept, wanted, **how):
+    """A life that ends because the journal can't be written; then what was acknowledged is there."""
+    try:
+        ended, said = kept.round(20, **how)
+    except Ended as error:
+        ended, said = error.status, error.said
+    if (ended, said) != (4, "fault: journal"):
+        raise Differs(f"{wanted}: status 4 and `fault: journal` were wanted, it ended with {ended}: {said}")
+    with kept.started() as running:
+        kept.look(running)
+    return kept.answered
+
+
+def full(path, options, folder):
+    began, pick, acknowledged, counts = time.monotonic(), random.Random(options.seed), 0, [0, 0]
+    for n in range(2 if options.short else 12):
+        size = pick.randint(50, 20_000)
+        kept = Kept(path, tempfile.mkdtemp(dir=folder), f"{options.seed}/full/{n}")
+        acknowledged += full_once(kept, f"a file of at most {size} bytes", largest_file=size)
+        counts[0] += 1
+    for n in range(2 if options.short else 12) if library() else []:
+        kept = Kept(path, tempfile.mkdtemp(dir=folder), f"{options.seed}/sync/{n}")
+        which = {"SYNC": pick.randint(1, 200)} if n % 2 else {"WRITE": pick.randint(1, 400)}
+        acknowledged += full_once(kept, f"failing {which}", env=forgetting(kept.folder, n + 1, **which))
+        counts[1] += 1
+    took = time.monotonic() - began
+    return f"{counts[0]} full disks, {counts[1]} writes or syncs that failed; status 4 each, {acknowledged} acknowledged lines are there; {took:.0f} s"
+
+
+def refused(kept, bytes_, wanted):
+    """A start with this journal is refused with status 3, and the file stays."""
+    with open(kept.journal, "wb") as file:
+        file.write(bytes_)
+    try:
+        with kept.started():
+            pass
+        raise Differs(f"{wanted!r} was wanted, and it listens with the journal {bytes_[:2000]!r}")
+    except Ended as ended:
+        if (ended.status, ended.said) != (3, wanted):
+            raise Differs(f"status 3 and {wanted!r} were wanted, it ended with {ended.status}: {ended.said}") from None
+    with open(kept.journal, "rb") as file:
+        if file.read() != bytes_:
+            raise Differs(f"{wanted}: the journal that was refused has changed")
+
+
+def damaged(path, options, folder):
+    began = time.monotonic()
+    bytes_ = short_journal(path, folder)
+    header, *lines = bytes_.split(b"\n")[:-1]
+    kept, count = Kept(path, folder, "damaged"), 0
+    bad = [b"{", b"", b"\x00" * 30, b'{"cmd":"fly"}', b'{"cmd":"size"}', b'{"cmd":"erase","id":99}', header]
+    for n in range(len(lines) + 1):
+        for text in bad[n % 3::3] if options.short else bad:
+            whole = b"\n".join([header, *lines[:n], text, *lines[n:], b""])
+            refused(kept, whole, f"journal: line {n + 2}")
+            count += 1
+    for text in (b"", b"{", b'{"cmd":"start"}', b'{"Journal":1}'):
+        refused(kept, b"\n".join([text, *lines, b""]), "journal: line 1")
+    kept.schema = service.written_schema(folder, [ACCOUNTS], name="other.toml")
+    refused(kept, bytes_, OTHER)
+    kept.schema = service.written_schema(folder, TABLES)
+    refused(kept, bytes_.replace(b'{"journal":1,', b'{"journal":2,'), OTHER)
+    return f"{count} damaged lines, 4 damaged headers, a journal of another schema and one of another format are refused; {time.monotonic() - began:.0f} s"
+
+
+OTHER = "journal: schema"
+"""What is said of a journal of another schema or format."""
+PARTS = {"rounds": rounds, "power": power, "torn": torn, "full": full, "damaged": damaged}
+
+
+def main(given=None):
+    parser = argparse.ArgumentParser(description=__doc__, formatter_class=argparse.RawDescriptionHelpFormatter)
+    parser.add_argument("--part", choices=list(PARTS))
+    parser.add_argument("--rounds", type=int)
+    parser.add_argument("--short", action="store_true")
+    parser.add_argument("--seed", type=int, default=1)
+    parser.add_argument("--program", metavar="FILE")
+    options = parser.parse_args(given)
+    path = service.needed(options.program)
+    home = f"{program.TOP}/out/crash"
+    os.makedirs(home, exist_ok=True)
+    for name in [options.part] if options.part else PARTS:
+        folder = tempfile.mkdtemp(dir=home, prefix=f"{name}-")
+        try:
+            print(f"{name}: {PARTS[name](path, options, folder)}", flush=True)
+        except (Differs, Ended) as why:
+            print(f"crash: {name}, seed {options.seed}: {why}\nthe journal is below {os.path.relpath(folder)}", flush=True)
+            return 1
+        shutil.rmtree(folder)
+    return 0
+
+
+if __name__ == "__main__":
+    sys.exit(main())
