@@ -76,7 +76,7 @@ class Caller:
     def __init__(self, stream, said, speech, lines, window, leaves):
         self.stream, self.said, self.speech = stream, said, speech
         self.left, self.window, self.leaves = lines, window, leaves
-        self.out, self.rest, self.is_open, self.is_shut = b"", b"", True, False
+        self.out, self.rest, self.is_open, self.is_shut, self.watched = b"", b"", True, False, 0
         stream.setblocking(False)
 
     def write(self):
@@ -132,52 +132,127 @@ class Caller:
         self.stream.close()
 
 
+    def events(self):
+        """What its connection is looked at for."""
+        has_room = self.left and len(self.said.lines) - len(self.said.replies) < self.window
+        return selectors.EVENT_READ | (selectors.EVENT_WRITE if self.out or has_room else 0)
+
+    def at(self, now):
+        """The time goes on."""
+
+
+class Silent(Caller):
+    """It sends nothing but the front of a line, and leaves at some time."""
+
+    def __init__(self, stream, said, speech, leaves, until):
+        super().__init__(stream, said, speech, 0, 1, leaves)
+        self.until = until
+        if speech.random.random() < 0.3:
+            self.stream.send(b'{"cmd":"si')
+            self.said.lines.append(b'{"cmd":"si')
+
+    def events(self):
+        return selectors.EVENT_READ
+
+    def at(self, now):
+        if now > self.until and not self.is_shut:
+            self.leave()
+
+
+class Deaf(Silent):
+    """It asks pages without end, never reads, and leaves at some time."""
+
+    def __init__(self, stream, said, speech, until):
+        super().__init__(stream, said, speech, "close", until)
+        self.said.lines.clear()
+        first = b'{"cmd":"insert","table":"side","row":{"n":3}}' + mark(said.number, 0)
+        self.said.lines += [first, *[b'{"cmd":"range","index":"r"}'] * 4_000]
+        self.out = b"\n".join(self.said.lines) + b"\n"
+
+    def events(self):
+        return selectors.EVENT_WRITE if self.out else 0
+
+    def write(self):
+        try:
+            self.out = self.out[self.stream.send(self.out):]
+        except BlockingIOError:
+            pass
+        except OSError:
+            self.out = b""
+
+
 class Load:
-    """So many callers at once on a service; those that leave are followed by others, until the time is up."""
+    """So many callers at once on a service; those that leave are followed by others."""
 
     def __init__(self, running, journal, seed, first_number, callers=8):
         self.running, self.journal, self.pick = running, journal, random.Random(seed)
         self.seed, self.next, self.count = seed, first_number, callers
         self.ids, self.callers, self.all = collections.deque(maxlen=24), [], []
         self.selector = selectors.DefaultSelector()
+        self.replied = time.monotonic()
 
     def length(self):
         """How long the journal is."""
         with open(self.journal, "rb") as file:
             return file.seek(0, 2)
 
+    def made(self, stream, said, speech):
+        """The caller of a connection."""
+        pick = self.pick
+        return Caller(stream, said, speech, pick.randint(1, 150), pick.choice([1, 4, 64]), pick.choice(["shut", "close", "reset"]))
+
     def come(self):
-        said, pick = Said(self.next, self.length()), self.pick
-        stream = self.running.connect()
-        speech = Speech(f"{self.seed}/{self.next}", self.ids)
-        caller = Caller(stream, said, speech, pick.randint(1, 150), pick.choice([1, 4, 64]), pick.choice(["shut", "close", "reset"]))
+        said = Said(self.next, self.length())
+        caller = self.made(self.running.connect(), said, Speech(f"{self.seed}/{self.next}", self.ids))
         self.next += 1
         self.callers.append(caller)
         self.all.append(said)
-        self.selector.register(stream, selectors.EVENT_READ | selectors.EVENT_WRITE, caller)
 
     def step(self):
         """One look at who can write or read."""
-        while len(self.callers) < self.count:
-            self.come()
-        for it in self.callers:
-            wants = selectors.EVENT_WRITE if it.out or it.left and len(it.said.lines) - len(it.said.replies) < it.window else 0
-            self.selector.modify(it.stream, selectors.EVENT_READ | wants, it)
-        for key, events in self.selector.select(0.05):
-            caller = key.data
-            if events & selectors.EVENT_READ:
-                caller.read()
-            if events & selectors.EVENT_WRITE and caller.is_open:
-                caller.write()
-            if not caller.is_open:
-                self.selector.unregister(key.fileobj)
-                self.callers.remove(caller)
+        now = time.monotonic()
+        for it in list(self.callers):
+            it.at(now)
+            if not it.is_open:
+                self.go(it)
+                continue
+            self.watch(it, it.events())
+        for key, events in self.selector.select(0.02):
+            self.serve(key.data, events)
+
+    def watch(self, caller, events):
+        """Its connection is looked at for these events from now on."""
+        if caller.watched and events and caller.watched != events:
+            self.selector.modify(caller.stream, events, caller)
+        elif events and not caller.watched:
+            self.selector.register(caller.stream, events, caller)
+        elif caller.watched and not events:
+            self.selector.unregister(caller.stream)
+        caller.watched = events
+
+    def serve(self, caller, events):
+        if events & selectors.EVENT_READ:
+            before = len(caller.said.replies)
+            caller.read()
+            if len(caller.said.replies) > before:
+                self.replied = time.monotonic()
+        if events & selectors.EVENT_WRITE and caller.is_open:
+            caller.write()
+        if not caller.is_open:
+            self.go(caller)
+
+    def go(self, caller):
+        """A caller whose connection is closed."""
+        self.watch(caller, 0)
+        self.callers.remove(caller)
 
     def go_on(self, seconds):
         """Asks for so long, or until the service ends."""
         end = time.monotonic() + seconds
         while time.monotonic() < end and self.running.process.poll() is None:
             try:
+                while len(self.callers) < self.count:
+                    self.come()
                 self.step()
             except OSError:
                 return  # (it has ended while one came)

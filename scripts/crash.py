@@ -10,7 +10,7 @@ sent, or is the undo of a holder that went away; each reply is the reference's; 
 
     rounds   the service is killed at random moments, now and then while it starts; one journal goes through ten rounds
     power    the same on a disk that forgets, at the kill, what wasn't synced, and keeps a random front of it (needs a C compiler)
-    torn     a short journal is cut at each byte
+    torn     a short journal is cut at each byte; one that has not its whole header is begun anew
     full     the journal's disk is full at some byte, or a sync fails (needs a C compiler): status 4, `fault: journal`
     damaged  a line is damaged, or the journal is another schema's: status 3 and the line, and the file stays as it is
 
@@ -219,7 +219,6 @@ def torn(path, options, folder):
     bytes_ = short_journal(path, folder)
     header = bytes_.index(b"\n") + 1
     lengths = range(0, len(bytes_) + 1, 17 if options.short else 1)
-    refused = 0
     for length in sorted({*lengths, header - 1, header, len(bytes_)}):
         kept = Kept(path, folder, "torn")
         with open(kept.journal, "wb") as file:
@@ -235,10 +234,6 @@ def torn(path, options, folder):
                 got = service.asked(stream, b"".join(lines) + add)
                 running.kill()
         except Ended as ended:
-            # (a file whose header is torn may be refused, as it is no journal)
-            if 0 < length < header and ended.status == 3 and ended.said.startswith("journal: "):
-                refused += 1
-                continue
             raise Differs(f"cut at byte {length}: {ended}") from None
         with open(kept.journal, "rb") as file:
             found = file.read()
@@ -248,8 +243,7 @@ def torn(path, options, folder):
         kept_now = (bytes_[:end] or bytes_[:header]) + b'{"cmd":"undo"}\n' * held + add
         if found != kept_now:
             raise Differs(f"cut at byte {length}: the journal is to be {kept_now!r}, and is {found!r}")
-    most = f"; {refused} with a torn header were refused" if refused else ""
-    return f"a journal of {len(bytes_)} bytes, cut at {'some' if options.short else 'each'} of them{most}; {time.monotonic() - began:.0f} s"
+    return f"a journal of {len(bytes_)} bytes, cut at {'some' if options.short else 'each'} of them; {time.monotonic() - began:.0f} s"
 
 
 def full_once(kept, wanted, **how):
