@@ -12,6 +12,7 @@ import time
 from fuzz import Lines
 from journal_walk import Said, mark
 from reference import CHANGES, STEPS, Index, Schema
+from service import WAIT
 
 SHORT = ["", "a", "b", "ann", "bob", "\u00e4", "\U0001f600", "z\"\\\n", "a" * 300]
 ENDS = ["undo", "undo", "undo_all", "squash", "squash", "push", "commit"]
@@ -247,15 +248,17 @@ class Load:
         self.callers.remove(caller)
 
     def go_on(self, seconds):
-        """Asks for so long, or until the service ends."""
+        """Asks for so long, or until the service ends; its status then."""
         end = time.monotonic() + seconds
-        while time.monotonic() < end and self.running.process.poll() is None:
-            try:
+        try:
+            while time.monotonic() < end and self.running.process.poll() is None:
                 while len(self.callers) < self.count:
                     self.come()
                 self.step()
-            except OSError:
-                return  # (it has ended while one came)
+        except OSError:
+            # (nobody listens any more)
+            return self.running.process.wait(WAIT)
+        return self.running.process.poll()
 
     def drain(self):
         """The replies that still come once it has ended. All connections have left then."""

@@ -116,9 +116,8 @@ class Kept:
         with self.started(**start) as running:
             looked = self.look(running)
             load = Load(running, self.journal, f"{self.seed}/{self.next}", self.next)
-            load.go_on(seconds)
+            ended = load.go_on(seconds)
             self.next = load.next
-            ended = running.process.poll()
             running.kill(how)
             load.drain()
             self.follow([looked, *load.all])
@@ -128,7 +127,7 @@ class Kept:
         """It is killed while it starts."""
         how = {"stdin": subprocess.DEVNULL, "stdout": subprocess.DEVNULL, "stderr": subprocess.DEVNULL}
         words = [self.path, "--schema", self.schema, "--listen", "0", "--journal", self.journal]
-        with subprocess.Popen(words, preexec_fn=program.end_with_parent, **how, env={**os.environ, **start.get("env", {})}) as ran:
+        with subprocess.Popen(words, preexec_fn=program.end_with_parent, **how, env={**os.environ, **service.SANITIZER, **start.get("env", {})}) as ran:
             time.sleep(seconds)
             ran.kill()
 
@@ -176,7 +175,7 @@ def library():
 
 def forgetting(folder, seed, **more):
     """The environment of a service whose disk forgets."""
-    env = {"LD_PRELOAD": library(), "FORGET_FILE": f"{folder}/journal", "FORGET_SEED": str(seed), "ASAN_OPTIONS": "verify_asan_link_order=0"}
+    env = {"LD_PRELOAD": library(), "FORGET_FILE": f"{folder}/journal", "FORGET_SEED": str(seed)}
     return {**env, **{f"FORGET_{name}": str(value) for name, value in more.items()}}
 
 

@@ -21,6 +21,9 @@ WAIT = 60
 """Seconds that anything may take here that isn't a long replay."""
 MOST = 64
 """Connections that are served at once."""
+SANITIZER = {"ASAN_OPTIONS": "quarantine_size_mb=0:thread_local_quarantine_size_kb=0:verify_asan_link_order=0"}
+"""For a program that was compiled without proofs, whose allocator is the sanitizer's: it keeps nothing that was freed, and takes libraries
+that are loaded before it."""
 
 
 def path():
@@ -76,7 +79,7 @@ class Service:
             words += [name, value] if value is not None else []
         self.said = tempfile.TemporaryFile()
         how = {"stdin": subprocess.DEVNULL, "stdout": subprocess.PIPE, "stderr": self.said, "bufsize": 0}
-        self.process = subprocess.Popen(words, env={**os.environ, **(env or {})}, preexec_fn=prepared(largest_file), **how)
+        self.process = subprocess.Popen(words, env={**os.environ, **SANITIZER, **(env or {})}, preexec_fn=prepared(largest_file), **how)
         try:
             self.port = self.listening(time.monotonic() + wait)
         except BaseException:
