@@ -260,12 +260,19 @@ class Load:
             return self.running.process.wait(WAIT)
         return self.running.process.poll()
 
+    def __enter__(self):
+        return self
+
+    def __exit__(self, *_):
+        for it in self.callers:
+            it.close()
+        self.selector.close()
+
     def drain(self):
         """The replies that still come once it has ended. All connections have left then."""
         for it in self.callers:
             if it.is_open:
                 it.drain()
-        self.selector.close()
         for it in self.all:
             it.has_left = True
 

@@ -115,11 +115,11 @@ class Kept:
         """One life: it is started, looked at, loaded and ended."""
         with self.started(**start) as running:
             looked = self.look(running)
-            load = Load(running, self.journal, f"{self.seed}/{self.next}", self.next)
-            ended = load.go_on(seconds)
-            self.next = load.next
-            running.kill(how)
-            load.drain()
+            with Load(running, self.journal, f"{self.seed}/{self.next}", self.next) as load:
+                ended = load.go_on(seconds)
+                self.next = load.next
+                running.kill(how)
+                load.drain()
             self.follow([looked, *load.all])
             return ended, running.ended()[1]
 

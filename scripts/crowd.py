@@ -12,6 +12,7 @@ Without --part all run, one behind another.
              client, and the server's memory rises by no more than the bound of what is unsent, one page, and some
     place    64 silent clients are attached; the 65th and others wait, and are served as places become free"""
 import argparse
+import contextlib
 import os
 import random
 import shutil
@@ -77,11 +78,10 @@ def comers(path, options, folder):
     kept = Kept(path, folder, options.seed)
     with kept.started() as running:
         looked = kept.look(running)
-        crowd = Crowd(running, kept.journal, options.seed, kept.next, count)
-        crowd.all_come()
-        came = time.monotonic() - began
-        kept.next = crowd.next
-        crowd.drain()
+        with Crowd(running, kept.journal, options.seed, kept.next, count) as crowd:
+            crowd.all_come()
+            crowd.drain()
+        came, kept.next = time.monotonic() - began, crowd.next
         last = running.memory()
         kept.follow([looked, *crowd.all])
         kept.follow([kept.look(running)])
@@ -140,8 +140,8 @@ def median_waits(running, streams, rounds, count):
 
 def deaf(path, options, folder):
     rounds, count = (2, 200) if options.short else (10, 1000)
-    with Service(path, wait=service.WAIT) as running:
-        streams = [running.connect() for _ in range(8)]
+    with Service(path) as running, contextlib.ExitStack() as opened:
+        streams = [opened.enter_context(running.connect()) for _ in range(8)]
         for it in streams:
             it.settimeout(STILL)
         try:
@@ -154,8 +154,6 @@ def deaf(path, options, folder):
                     break
         except socket.timeout:
             raise Differs(f"the others weren't answered within {STILL} s, beside a client that never reads") from None
-        for it in streams:
-            it.close()
     said = f"the others wait {1e6 * without:.0f} µs without and {1e6 * beside:.0f} µs beside a client that never reads (medians)"
     # (what is unsent, one reply that is being made, which may have room for twice as much, and what is read at once)
     most = (65_536 + 3 * page) // 1024 + 4_000
@@ -182,11 +180,11 @@ def is_answered(stream, seconds):
 
 def place(path, options, folder):
     size = b'{"cmd":"size"}\n'
-    with Service(path) as running:
-        attached = [running.connect() for _ in range(MOST)]
+    with Service(path) as running, contextlib.ExitStack() as opened:
+        attached = [opened.enter_context(running.connect()) for _ in range(MOST)]
         for it in attached:
             service.asked(it, size)
-        waiting = [running.connect() for _ in range(8)]
+        waiting = [opened.enter_context(running.connect()) for _ in range(8)]
         for it in waiting:
             it.sendall(size)
         if any(is_answered(it, 0.3) for it in waiting[:3]):
@@ -199,8 +197,7 @@ def place(path, options, folder):
                 raise Differs(f"a place is free, and the connection that waits isn't served ({n} were before it)")
         for it in attached:
             service.asked(it, size)
-        for it in (*attached, *waiting):
-            it.close()
+        opened.close()
         with running.connect() as late:
             service.asked(late, size)
     return f"{MOST} silent clients are attached, {len(waiting)} wait, and each is served as a place becomes free"
