@@ -10,8 +10,8 @@ import struct
 import time
 
 from fuzz import Lines
-from journal_walk import Said, mark
-from reference import CHANGES, STEPS, Index, Schema
+from journal_walk import Said, mark, may_change
+from reference import CHANGES, LONGEST_LINE, STEPS, Index, Schema
 from service import WAIT
 
 SHORT = ["", "a", "b", "ann", "bob", "\u00e4", "\U0001f600", "z\"\\\n", "a" * 300]
@@ -67,8 +67,18 @@ class Speech(Lines):
 
     def next(self, number, n):
         """The line of this number of a connection, without its newline; one that may be kept has its mark."""
-        said = self.chosen()
-        return self.text(said) + (mark(number, n) if said["cmd"] in CHANGES | STEPS else b"")
+        said, pick = self.chosen(), self.random
+        text = self.text(said)
+        if pick.random() < 0.02:
+            odd = self.damaged(text, said).replace(b"\n", b"\x0b") if pick.random() < 0.9 else text + b" " * LONGEST_LINE
+            if odd.strip(b"\r") and not may_change(odd.strip(b"\r")):
+                return odd
+        text += mark(number, n) if said["cmd"] in CHANGES | STEPS else b""
+        return text + b"\r" if pick.random() < 0.02 else text
+
+    def between(self):
+        """Bytes between two lines that have no reply."""
+        return self.random.choice([b"\n", b"\r\n"]) if self.random.random() < 0.02 else b""
 
 
 class Caller:
@@ -86,7 +96,7 @@ class Caller:
             self.left -= 1
             text = self.speech.next(self.said.number, len(self.said.lines))
             self.said.lines.append(text)
-            self.out += text + (b"\n" if self.left or self.leaves != "shut" else b"")
+            self.out += self.speech.between() + text + (b"\n" if self.left or self.leaves != "shut" else b"")
         try:
             if self.out:
                 self.out = self.out[self.stream.send(self.out):]
@@ -107,10 +117,10 @@ class Caller:
             self.stream.setsockopt(socket.SOL_SOCKET, socket.SO_LINGER, struct.pack("ii", 1, 0))
         self.close()
 
-    def read(self):
+    def read(self, most=1 << 16):
         """Takes what has come."""
         try:
-            more = self.stream.recv(1 << 16)
+            more = self.stream.recv(most)
         except BlockingIOError:
             return
         except OSError:
@@ -140,6 +150,21 @@ class Caller:
 
     def at(self, now):
         """The time goes on."""
+
+
+class Slow(Caller):
+    """It asks all ahead, and reads little at a time."""
+
+    def __init__(self, stream, said, speech, lines):
+        super().__init__(stream, said, speech, lines, lines, "shut")
+        self.next = 0
+
+    def events(self):
+        return super().events() & (selectors.EVENT_WRITE if time.monotonic() < self.next else ~0)
+
+    def read(self, most=100):
+        self.next = time.monotonic() + 0.005
+        super().read(most)
 
 
 class Silent(Caller):

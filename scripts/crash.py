@@ -1,7 +1,7 @@
 #!/usr/bin/env python3
 """Whether a service keeps what it has acknowledged, however it ends.
 
-    crash.py [--part rounds|power|torn|full|damaged] [--rounds N] [--short] [--seed N] [--program FILE]
+    crash.py [--part rounds|power|torn|deep|full|damaged] [--rounds N] [--short] [--seed N] [--program FILE]
 
 Without --part all run, one behind another. Each lets clients come and go, with sessions held and lines sent ahead, ends the service, and
 compares what was sent, answered and kept by `journal_walk.py`: each acknowledged line is in the journal, in its order; what is there was
@@ -11,8 +11,9 @@ sent, or is the undo of a holder that went away; each reply is the reference's; 
     rounds   the service is killed at random moments, now and then while it starts; one journal goes through ten rounds
     power    the same on a disk that forgets, at the kill, what wasn't synced, and keeps a random front of it (needs a C compiler)
     torn     a short journal is cut at each byte; one that has not its whole header is begun anew
+    deep     a client that holds 1,024 sessions goes away, or is there when the service is killed
     full     the journal's disk is full at some byte, or a sync fails (needs a C compiler): status 4, `fault: journal`
-    damaged  a line is damaged, or the journal is another schema's: status 3 and the line, and the file stays as it is
+    damaged  a line is damaged, or the journal is another schema's or in use: status 3 and the line, and the file stays as it is
 
 --short takes some seconds: fewer rounds, and some of the bytes. Where something differs, the status is 1, and the journal is left below
 out/crash."""
@@ -21,6 +22,8 @@ import os
 import random
 import shutil
 import signal
+import socket
+import struct
 import subprocess
 import sys
 import tempfile
@@ -31,7 +34,7 @@ import service
 from callers import TABLES, Load, counted
 from fuzz import ACCOUNTS
 from journal_walk import Differs, Said, Walk, fork, mark
-from reference import Reference
+from reference import MOST_SESSIONS, Reference
 from service import Ended, Service
 
 ROUNDS, SHORT_ROUNDS, POWER_ROUNDS = 100, 6, 30
@@ -248,7 +251,7 @@ def torn(path, options, folder):
 def full_once(kept, wanted, **how):
     """A life that ends because the journal can't be written; then what was acknowledged is there."""
     try:
-        ended, said = kept.round(20, **how)
+        ended, said = kept.round(120, **how)
     except Ended as error:
         ended, said = error.status, error.said
     if (ended, said) != (4, "fault: journal"):
@@ -261,23 +264,24 @@ def full_once(kept, wanted, **how):
 def full(path, options, folder):
     began, pick, acknowledged, counts = time.monotonic(), random.Random(options.seed), 0, [0, 0]
     for n in range(2 if options.short else 12):
-        size = pick.randint(50, 20_000)
+        size = pick.randint(50, 6_000)
         kept = Kept(path, tempfile.mkdtemp(dir=folder), f"{options.seed}/full/{n}")
         acknowledged += full_once(kept, f"a file of at most {size} bytes", largest_file=size)
         counts[0] += 1
     for n in range(2 if options.short else 12) if library() else []:
         kept = Kept(path, tempfile.mkdtemp(dir=folder), f"{options.seed}/sync/{n}")
-        which = {"SYNC": pick.randint(1, 200)} if n % 2 else {"WRITE": pick.randint(1, 400)}
+        which = {"SYNC": pick.randint(1, 60)} if n % 2 else {"WRITE": pick.randint(1, 120)}
         acknowledged += full_once(kept, f"failing {which}", env=forgetting(kept.folder, n + 1, **which))
         counts[1] += 1
     took = time.monotonic() - began
     return f"{counts[0]} full disks, {counts[1]} writes or syncs that failed; status 4 each, {acknowledged} acknowledged lines are there; {took:.0f} s"
 
 
-def refused(kept, bytes_, wanted):
-    """A start with this journal is refused with status 3, and the file stays."""
-    with open(kept.journal, "wb") as file:
-        file.write(bytes_)
+def refused(kept, bytes_, wanted, is_there=False):
+    """A start with a journal of these bytes, if any, is refused with status 3, and the file stays."""
+    if bytes_ is not None and not is_there:
+        with open(kept.journal, "wb") as file:
+            file.write(bytes_)
     try:
         with kept.started():
             pass
@@ -285,6 +289,8 @@ def refused(kept, bytes_, wanted):
     except Ended as ended:
         if (ended.status, ended.said) != (3, wanted):
             raise Differs(f"status 3 and {wanted!r} were wanted, it ended with {ended.status}: {ended.said}") from None
+    if bytes_ is None:
+        return
     with open(kept.journal, "rb") as file:
         if file.read() != bytes_:
             raise Differs(f"{wanted}: the journal that was refused has changed")
@@ -307,12 +313,66 @@ def damaged(path, options, folder):
     refused(kept, bytes_, OTHER)
     kept.schema = service.written_schema(folder, TABLES)
     refused(kept, bytes_.replace(b'{"journal":1,', b'{"journal":2,'), OTHER)
-    return f"{count} damaged lines, 4 damaged headers, a journal of another schema and one of another format are refused; {time.monotonic() - began:.0f} s"
+    with open(kept.journal, "wb") as file:
+        file.write(bytes_)
+    with kept.started():
+        with open(kept.journal, "rb") as file:
+            refused(kept, file.read(), "journal: locked", is_there=True)
+    kept.journal = f"{folder}/none/journal"
+    refused(kept, None, "journal: file")
+    more = "a journal of another schema, one of another format, one in use and one that can't be made"
+    return f"{count} damaged lines, 4 damaged headers, {more} are refused; {time.monotonic() - began:.0f} s"
+
+
+def gone(stream, how):
+    """A client's connection ends."""
+    if how == "reset":
+        stream.setsockopt(socket.SOL_SOCKET, socket.SO_LINGER, struct.pack("ii", 1, 0))
+    stream.shutdown(socket.SHUT_WR) if how == "shut" else stream.close()
+
+
+def deep(path, options, folder):
+    """As many sessions as can be are held by a client that goes away, or by one that is there when the service is killed."""
+    began, count = time.monotonic(), 0
+    starts = 40 if options.short else MOST_SESSIONS
+    for how in ("shut", "close", "reset", "killed"):
+        kept = Kept(path, tempfile.mkdtemp(dir=folder), f"deep/{how}")
+        with kept.started() as running:
+            holder = Said(kept.next)
+            kept.next += 1
+            lines = ['{"cmd":"insert","table":"side","row":{"n":1}}'] + ['{"cmd":"start"}'] * starts + ['{"cmd":"erase","table":"side","id":0}']
+            holder.lines = [line(it, holder.number, n)[:-1] for n, it in enumerate(lines)]
+            stream = running.connect()
+            got = service.asked(stream, b"\n".join(holder.lines) + b"\n")
+            holder.replies, holder.has_left = got.splitlines(keepends=True), True
+            running.kill() if how == "killed" else gone(stream, how)
+            if how != "killed":
+                looked = kept_free(kept, running, holder)
+                running.kill()
+            stream.close()
+        with kept.started() as running:
+            kept.follow([holder] if how == "killed" else [looked])
+            kept.look(running)
+        if kept.walk.reference.tables[1].rows != {0: [1]}:
+            raise Differs(f"{how}: what was held wasn't undone: {kept.walk.reference.tables[1].rows}")
+        count += 1
+    return f"{count} holders of {starts} sessions are gone, and what they held is undone; {time.monotonic() - began:.0f} s"
+
+
+def kept_free(kept, running, holder):
+    """Once nobody holds sessions, the tables are those of the journal."""
+    end = time.monotonic() + service.WAIT
+    with running.connect() as stream:
+        while b"busy" in service.asked(stream, b'{"cmd":"undo"}\n'):
+            if time.monotonic() > end:
+                raise Differs("what a client held that has gone is still held")
+    kept.walk.on(kept.whole(), [holder])
+    return kept.look(running)
 
 
 OTHER = "journal: schema"
 """What is said of a journal of another schema or format."""
-PARTS = {"rounds": rounds, "power": power, "torn": torn, "full": full, "damaged": damaged}
+PARTS = {"rounds": rounds, "power": power, "torn": torn, "deep": deep, "full": full, "damaged": damaged}
 
 
 def main(given=None):

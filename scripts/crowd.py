@@ -5,8 +5,8 @@
 
 Without --part all run, one behind another.
 
-    comers   N connections (10,000), 64 at once: half of them silent, a tenth asks pages and never reads, the others ask random lines ahead,
-             hold sessions and break off. By the journal that is kept meanwhile each reply must be the reference's, byte for byte
+    comers   N connections (10,000), 64 at once: half of them silent, a tenth asks pages and never reads, some read slowly, the others ask
+             random lines ahead, hold sessions and break off. By the journal that is kept meanwhile each reply must be the reference's, byte for byte
              (`journal_walk.py`), and the server's memory must end where it began
     deaf     one client asks pages of a megabyte without reading: the median wait of the others is at most 1.5 of what it is without that
              client, and the server's memory rises by no more than the bound of what is unsent, one page, and some
@@ -24,7 +24,7 @@ import time
 
 import program
 import service
-from callers import Caller, Deaf, Load, Silent
+from callers import Caller, Deaf, Load, Silent, Slow
 from crash import Kept
 from journal_walk import Differs
 from service import MOST, Ended, Service
@@ -41,7 +41,7 @@ class Crowd(Load):
 
     def __init__(self, running, journal, seed, first_number, connections):
         super().__init__(running, journal, seed, first_number, MOST)
-        self.to_come, self.kinds, self.memory = connections, {"silent": 0, "deaf": 0, "asking": 0}, []
+        self.to_come, self.kinds, self.memory = connections, {"silent": 0, "deaf": 0, "slow": 0, "asking": 0}, []
 
     def made(self, stream, said, speech):
         pick, now = self.pick, time.monotonic()
@@ -52,6 +52,9 @@ class Crowd(Load):
         if chance < 0.6:
             self.kinds["deaf"] += 1
             return Deaf(stream, said, speech, now + pick.uniform(0.05, 0.3))
+        if chance < 0.63:
+            self.kinds["slow"] += 1
+            return Slow(stream, said, speech, pick.randint(1, 60))
         self.kinds["asking"] += 1
         return Caller(stream, said, speech, pick.randint(1, 30), pick.choice([1, 4, 30]), pick.choice(["shut", "close", "reset"]))
 

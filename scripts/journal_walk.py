@@ -8,7 +8,7 @@ Each line that may be kept ends with a mark, blanks that say its connection and 
 service's own: the connection that holds sessions has gone away."""
 import copy
 
-from reference import CHANGES, STEPS, Reference, Refusal, form, read
+from reference import CHANGES, LONGEST_LINE, STEPS, Reference, Refusal, form, read
 
 BITS = 16, 12
 """Of a mark: the number of the connection, and that of the line."""
@@ -27,7 +27,8 @@ def mark(connection, line):
 
 
 def marked(text):
-    """The connection and the line that a mark says, or None."""
+    """The connection and the line that a mark says, or None. A carriage return may stand behind it."""
+    text = text[:-1] if text.endswith(b"\r") else text
     blanks = text[-sum(BITS):]
     if len(blanks) < sum(BITS) or blanks.strip(b" \t"):
         return None
@@ -38,7 +39,7 @@ def marked(text):
 def may_change(text):
     """Whether a line asks for a change or a session step."""
     try:
-        return form(read(text))[0] in CHANGES | STEPS
+        return len(text) <= LONGEST_LINE and form(read(text))[0] in CHANGES | STEPS
     except Refusal:
         return False
 

@@ -9,6 +9,7 @@ fault, which the scripts are to find:
     foreign  the journal of another schema is taken               quiet     a full disk is no fault
     added    a line that nobody sent is in the journal at times"""
 import argparse
+import fcntl
 import hashlib
 import json
 import os
@@ -20,7 +21,7 @@ TOP = os.path.dirname(os.path.dirname(os.path.dirname(os.path.realpath(__file__)
 sys.path[:0] = [f"{TOP}/scripts", f"{TOP}/clients/python"]
 
 import mi_client.schema  # noqa: E402
-from reference import Index, Reference, Refusal, Schema, form, read  # noqa: E402
+from reference import Index, Reference, Schema  # noqa: E402
 
 PLANT = os.environ.get("PLANT", "")
 BOUND = 65_536
@@ -56,10 +57,15 @@ class Journal:
         self.sync, self.handle, self.waits = sync, None, False
         if not path:
             return
-        whole = b""
-        if os.path.exists(path):
-            with open(path, "rb") as file:
-                whole = file.read()
+        try:
+            self.handle = os.open(path, os.O_RDWR | os.O_CREAT | os.O_APPEND, 0o600)
+            fcntl.flock(self.handle, fcntl.LOCK_EX | fcntl.LOCK_NB)
+        except BlockingIOError:
+            stop(3, "journal: locked")
+        except OSError:
+            stop(3, "journal: file")
+        with open(path, "rb") as file:
+            whole = file.read()
         end = len(whole) if PLANT == "torn" else whole.rfind(b"\n") + 1
         lines = whole[:end].split(b"\n")[:-1] if PLANT != "torn" else [it for it in whole.split(b"\n") if it]
         if lines and lines[0] != wanted and not (PLANT == "foreign" and lines[0].startswith(b'{"journal"')):
@@ -68,7 +74,6 @@ class Journal:
             reply = reference.answer_ended(1, text)
             if not changed(reply) and PLANT != "torn":
                 stop(3, f"journal: line {number}")
-        self.handle = os.open(path, os.O_WRONLY | os.O_CREAT | os.O_APPEND, 0o600)
         os.ftruncate(self.handle, end)
         if not lines:
             self.append(wanted + b"\n")
