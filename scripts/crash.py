@@ -1,7 +1,7 @@
 #!/usr/bin/env python3
 """Whether a service keeps what it has acknowledged, however it ends.
 
-    crash.py [--part rounds|power|torn|deep|full|damaged] [--rounds N] [--short] [--seed N] [--program FILE]
+    crash.py [--part rounds|power|torn|deep|full|damaged|tools] [--rounds N] [--short] [--seed N] [--program FILE] [--server FILE]
 
 Without --part all run, one behind another. Each lets clients come and go, with sessions held and lines sent ahead, ends the service, and
 compares what was sent, answered and kept by `journal_walk.py`: each acknowledged line is in the journal, in its order; what is there was
@@ -14,6 +14,7 @@ sent, or is the undo of a holder that went away; each reply is the reference's; 
     deep     a client that holds 1,024 sessions goes away, or is there when the service is killed
     full     the journal's disk is full at some byte, or a sync fails (needs a C compiler): status 4, `fault: journal`
     damaged  a line is damaged, or the journal is another schema's or in use: status 3 and the line, and the file stays as it is
+    tools    `mi_server` (--server) that is asked a journal as its input has the same tables; so has the service behind `journal.py compact`
 
 --short takes some seconds: fewer rounds, and some of the bytes. Where something differs, the status is 1, and the journal is left below
 out/crash."""
@@ -261,16 +262,31 @@ def full_once(kept, wanted, **how):
     return kept.answered
 
 
+def full_at_once(kept, size):
+    """There is no room for the header of a new journal."""
+    try:
+        with kept.started(largest_file=size):
+            pass
+        raise Differs(f"it listens, and its journal has room for {size} bytes")
+    except Ended as ended:
+        if (ended.status, ended.said) != (4, "fault: journal"):
+            raise Differs(f"room for {size} bytes: status 4 and `fault: journal` were wanted, it ended with {ended.status}: {ended.said}") from None
+    with kept.started() as running:
+        kept.look(running)
+
+
 def full(path, options, folder):
     began, pick, acknowledged, counts = time.monotonic(), random.Random(options.seed), 0, [0, 0]
+    for size in (20, 50):
+        full_at_once(Kept(path, tempfile.mkdtemp(dir=folder), "full"), size)
     for n in range(2 if options.short else 12):
-        size = pick.randint(50, 6_000)
+        size = pick.randint(1_500, 8_000)
         kept = Kept(path, tempfile.mkdtemp(dir=folder), f"{options.seed}/full/{n}")
         acknowledged += full_once(kept, f"a file of at most {size} bytes", largest_file=size)
         counts[0] += 1
     for n in range(2 if options.short else 12) if library() else []:
         kept = Kept(path, tempfile.mkdtemp(dir=folder), f"{options.seed}/sync/{n}")
-        which = {"SYNC": pick.randint(1, 60)} if n % 2 else {"WRITE": pick.randint(1, 120)}
+        which = {"SYNC": pick.randint(5, 60)} if n % 2 else {"WRITE": pick.randint(30, 120)}
         acknowledged += full_once(kept, f"failing {which}", env=forgetting(kept.folder, n + 1, **which))
         counts[1] += 1
     took = time.monotonic() - began
@@ -324,6 +340,49 @@ def damaged(path, options, folder):
     return f"{count} damaged lines, 4 damaged headers, {more} are refused; {time.monotonic() - began:.0f} s"
 
 
+def replayed_by(server, kept, path):
+    """What a `mi_server` answers to the lines for looking, behind a journal as its standard input."""
+    lines = looks(1)
+    with open(path, "rb") as file:
+        whole = file.read()
+    ran = subprocess.run([server, "--schema", kept.schema], input=whole + b"".join(lines), capture_output=True, timeout=300)
+    if ran.returncode or ran.stderr:
+        raise Differs(f"mi_server ended with {ran.returncode}: {ran.stderr!r}")
+    return b"".join(ran.stdout.splitlines(keepends=True)[-len(lines):])
+
+
+def tool(*words):
+    """What `journal.py` says."""
+    ran = subprocess.run([sys.executable, f"{program.TOP}/scripts/journal.py", *words], capture_output=True, text=True, timeout=300)
+    if ran.returncode:
+        raise Differs(f"journal.py {words[0]} ended with {ran.returncode}: {ran.stdout}{ran.stderr}")
+    return ran.stdout
+
+
+def tools(path, options, folder):
+    """A journal of some rounds is one for `mi_server` and for `journal.py`."""
+    began, server, kept = time.monotonic(), options.server or program.program(), Kept(path, folder, f"{options.seed}/tools")
+    for _ in range(2 if options.short else 10):
+        kept.round(0.5)
+    with kept.started() as running:
+        kept.follow([kept.look(running)])
+    want = fork(kept.walk.reference).feed(1, b"".join(looks(1)))
+    tool("check", kept.journal, "--replay", server, "--schema", kept.schema)
+    shorter = f"{folder}/shorter"
+    tool("compact", kept.journal, "--to", shorter)
+    for it in (kept.journal, shorter):
+        got = replayed_by(server, kept, it)
+        if got != want:
+            raise Differs(f"mi_server that was asked {os.path.basename(it)} shows other tables: wanted {want!r}, got {got!r}")
+    sizes = [os.path.getsize(it) for it in (kept.journal, shorter)]
+    shutil.move(shorter, kept.journal)
+    with kept.started() as running, running.connect() as stream:
+        got = service.asked(stream, b"".join(looks(1)))
+    if got != want:
+        raise Differs(f"the service shows other tables behind a compacted journal: wanted {want!r}, got {got!r}")
+    return f"mi_server, and the service with the compacted journal, show the tables of a journal of {sizes[0]} bytes, compacted {sizes[1]}; {time.monotonic() - began:.0f} s"
+
+
 def gone(stream, how):
     """A client's connection ends."""
     if how == "reset":
@@ -372,7 +431,7 @@ def kept_free(kept, running, holder):
 
 OTHER = "journal: schema"
 """What is said of a journal of another schema or format."""
-PARTS = {"rounds": rounds, "power": power, "torn": torn, "deep": deep, "full": full, "damaged": damaged}
+PARTS = {"rounds": rounds, "power": power, "torn": torn, "deep": deep, "full": full, "damaged": damaged, "tools": tools}
 
 
 def main(given=None):
@@ -382,6 +441,7 @@ def main(given=None):
     parser.add_argument("--short", action="store_true")
     parser.add_argument("--seed", type=int, default=1)
     parser.add_argument("--program", metavar="FILE")
+    parser.add_argument("--server", metavar="FILE")
     options = parser.parse_args(given)
     path = service.needed(options.program)
     home = f"{program.TOP}/out/crash"
