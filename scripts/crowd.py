@@ -25,7 +25,7 @@ import time
 import program
 import service
 from callers import Caller, Deaf, Load, Silent, Slow
-from crash import Kept
+from kept import Kept
 from journal_walk import Differs
 from service import MOST, Ended, Service
 

@@ -4,7 +4,7 @@ import multiprocessing
 import time
 
 from callers import Caller, Silent
-from crash import Kept
+from kept import Kept
 from crowd import Crowd
 from journal_walk import Differs
 from service import WAIT, asked

@@ -25,7 +25,7 @@ import time
 
 import program
 import service
-from service import Service
+from service import Service, seconds_of
 
 STREAMS = 16
 RECORDS = 10_000
@@ -34,8 +34,9 @@ CHUNK = 1 << 18
 
 
 def filling(records):
-    rows = (f'{{"cmd":"insert","row":{{"owner":"owner {n}","balance":{n * 7919 % 1000},"vip":{"true" if n % 3 else "false"}}}}}\n' for n in range(records))
-    return "".join(rows).encode()
+    vip = ["false", "true", "true"]
+    rows = (f'"owner":"owner {n}","balance":{n * 7919 % 1000},"vip":{vip[n % 3]}' for n in range(records))
+    return "".join(f'{{"cmd":"insert","row":{{{it}}}}}\n' for it in rows).encode()
 
 
 def gets(pick, records):
@@ -123,12 +124,6 @@ def replies_of(pipe, count):
         count -= got.count(b"\n")
 
 
-def seconds_of(number):
-    with open(f"/proc/{number}/stat", encoding="ascii") as file:
-        fields = file.read().rpartition(")")[2].split()
-    return (int(fields[11]) + int(fields[12])) / os.sysconf("SC_CLK_TCK")
-
-
 def server_once(path, first, texts):
     """The same for a server over standard input."""
     whole = b"".join(texts)
@@ -168,7 +163,8 @@ def lines_part(options, folder):
         least = {"service": SHARE, "--sync turn": SHARE_WITH_JOURNAL}.get(way)
         note = f", at least {least} wanted" if least and not options.short else ""
         spread = f"{asked / max(it[0] for it in times):,.0f} to {asked / min(it[0] for it in times):,.0f}"
-        print(f"lines: {kind:8} {way:13} {rate:10,.0f} lines a second ({spread}), {1e6 * used / asked:6.2f} µs of processor a line, {rate / base:.2f}{note}", flush=True)
+        each = f"{rate:10,.0f} lines a second ({spread}), {1e6 * used / asked:6.2f} µs of processor a line"
+        print(f"lines: {kind:8} {way:13} {each}, {rate / base:.2f}{note}", flush=True)
         well = well and (options.short or least is None or rate >= least * base)
     return well
 
@@ -184,11 +180,9 @@ def replay_part(options, folder):
         again, used_again = time.monotonic() - began, running.seconds()
         memory = running.memory()
     os.unlink(journal)
-    print(
-        f"replay: {lines:,} lines of {size / lines:.1f} bytes took {took:.2f} s over {STREAMS} connections ({used:.2f} s of processor) and {again:.2f} s at"
-        f" the start ({used_again:.2f} s of processor), {lines / again:,.0f} lines a second; {memory / 1000:.0f} MB",
-        flush=True,
-    )
+    asking = f"{lines:,} lines of {size / lines:.1f} bytes took {took:.2f} s over {STREAMS} connections ({used:.2f} s of processor)"
+    start = f"{again:.2f} s at the start ({used_again:.2f} s of processor), {lines / again:,.0f} lines a second"
+    print(f"replay: {asking} and {start}; {memory / 1000:.0f} MB", flush=True)
     return options.short or again <= REPLAY * took
 
 

@@ -124,9 +124,7 @@ class Service:
 
     def seconds(self):
         """Its processor time."""
-        with open(f"/proc/{self.process.pid}/stat", encoding="ascii") as file:
-            fields = file.read().rpartition(")")[2].split()
-        return (int(fields[11]) + int(fields[12])) / os.sysconf("SC_CLK_TCK")
+        return seconds_of(self.process.pid)
 
     def ended(self, wait=WAIT):
         """Waits until it has ended; its status, and what it said on standard error."""
@@ -145,6 +143,13 @@ class Service:
         self.process.wait(WAIT)
         self.process.stdout.close()
         self.said.close()
+
+
+def seconds_of(number):
+    """The processor time of a process."""
+    with open(f"/proc/{number}/stat", encoding="ascii") as file:
+        fields = file.read().rpartition(")")[2].split()
+    return (int(fields[11]) + int(fields[12])) / os.sysconf("SC_CLK_TCK")
 
 
 def written_schema(folder, schemas, first_revision=0, name="schema.toml"):

@@ -136,8 +136,10 @@ class AgainstAStandIn(unittest.TestCase):
         return status, out.getvalue()
 
     def test_none_is_found(self):
-        for script, words in [(crash, ("--part", "rounds", "--rounds", "2")), (crowd, ("--part", "place")), (crowd, ("--part", "comers", "--connections", "120"))]:
-            status, said = self.ran(script, "", *words)
+        of_crash = [("rounds", "--rounds", "2"), ("tools",)]
+        of_crowd = [("place",), ("comers", "--connections", "120")]
+        for script, words in [*((crash, it) for it in of_crash), *((crowd, it) for it in of_crowd)]:
+            status, said = self.ran(script, "", "--part", *words)
             self.assertEqual(status, 0, said)
 
     def test_faults_are_found(self):
