@@ -144,7 +144,7 @@ class AgainstAStandIn(unittest.TestCase):
 
     def test_faults_are_found(self):
         cases = [
-            ("held", crash, "torn", "cut at byte"),
+            ("held", crash, "rounds", ""),
             ("torn", crash, "torn", "cut at byte"),
             ("added", crash, "rounds", "nobody sent"),
             ("quiet", crash, "full", ""),
