@@ -10,7 +10,9 @@ Without --part all run, one behind another.
              (`journal_walk.py`), and the server's memory must end where it began
     deaf     one client asks pages of a megabyte without reading: the median wait of the others is at most 1.5 of what it is without that
              client, and the server's memory rises by no more than the bound of what is unsent, one page, and some
-    place    64 silent clients are attached; the 65th and others wait, and are served as places become free"""
+    place    64 silent clients are attached; the 65th and others wait, and are served as places become free
+
+Where nobody asks, the server takes no processor time, in the last two."""
 import argparse
 import contextlib
 import os
@@ -125,6 +127,15 @@ def waits(streams, count):
     return found
 
 
+def idles(running, what):
+    """Where nobody asks, it takes no processor time."""
+    used = running.seconds()
+    time.sleep(1)
+    used = running.seconds() - used
+    if used > 0.2:
+        raise Differs(f"{what} it takes {used:.2f} s of processor in a second, and nobody asks")
+
+
 def median_waits(running, streams, rounds, count):
     """The median wait without a client that never reads and with one, in rounds by turns, and how far the memory rose meanwhile."""
     without, beside, before = [], [], running.memory()
@@ -136,6 +147,7 @@ def median_waits(running, streams, rounds, count):
             time.sleep(0.2)
             beside += waits(streams, count)
             rise = running.memory() - before
+            idles(running, "beside a client that never reads")
         if asked < len(PAGE) * 20:
             raise Differs("the client that never reads could not ask")
     return statistics.median(without), statistics.median(beside), rise
@@ -192,6 +204,7 @@ def place(path, options, folder):
             it.sendall(size)
         if any(is_answered(it, 0.3) for it in waiting[:3]):
             raise Differs(f"connection {MOST + 1} is served while {MOST} are")
+        idles(running, f"with {MOST} silent clients and {len(waiting)} that wait")
         pick = random.Random(options.seed)
         for n, it in enumerate(waiting):
             gone = attached.pop(pick.randrange(len(attached)))
