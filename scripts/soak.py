@@ -2,26 +2,38 @@
 """Bounded runs over loopback.
 
     soak.py [--part lines|readers|moves] [--clients K] [--lines N] [--seconds N] [--seed N] [--program FILE]
+    soak.py --part service [--seconds N] [--seed N] [--program FILE] [--plot FILE.svg]
 
-Without --part all three run, one behind another. `lines` and `readers` stand in `load.py`: in the first K clients ask N lines each in random
+Without --part the first three run, one behind another. `lines` and `readers` stand in `load.py`: in the first K clients ask N lines each in random
 pieces, with sessions that are pushed and clients that break off; in the second one client reads slowly, one breaks off in the middle of a page
 and one never reads. Every reply of both is compared with `reference.py`. `lines` asks no more behind ten minutes.
 
 `moves` runs for some seconds with the Python client. Each of four clients has some accounts and, in its own thread, moves sums
 between them inside of sessions, some of which it undoes, some it lets
 fail and some it pushes or leaves to the end of its connection. The sum of all balances must stay what it was, whatever was undone, and the
-server's memory is looked at: once the tables have their size it must not grow with the number of commands."""
+server's memory is looked at: once the tables have their size it must not grow with the number of commands.
+
+`service` uses `mi_service`, with a journal, for some seconds (`lasting.py`): 61 places are taken by clients that come and go, half of them
+silent, and three clients stay, whose waits are measured. Every ten seconds a row is printed: connections and lines since the last one, memory,
+and the waits by their shares; --plot draws the memory and the waits. The memory must not grow, and a service that is killed and started again
+must have the same tables."""
 import argparse
 import random
 import sys
+import tempfile
 import threading
 import time
 
+import lasting
 import load
 import program
+import service
+from journal_walk import Differs
 
 sys.path.insert(0, f"{program.TOP}/clients/python")
 from mi_client import Refused, Server  # noqa: E402
+from mi_client.plot import line_as_svg  # noqa: E402
+from mi_client.sampling import Line  # noqa: E402
 
 ACCOUNTS = 20
 BALANCE = 1_000
@@ -159,15 +171,41 @@ def move(path, seconds, clients=4):
     )
 
 
+def serve(options):
+    """A service for so many seconds; answers what it saw, in words."""
+    path = service.needed(options.program)
+    print(f"with {program.title(path)}:", flush=True)
+    with tempfile.TemporaryDirectory(prefix="soak-") as folder:
+        said, rows = lasting.last(path, folder, options.seconds, options.seed, min(10.0, options.seconds / 3))
+    if options.plot:
+        drawn = [Line(f"{lasting.COLUMNS[n]} by seconds", [(int(it[0]), it[n]) for it in rows]) for n in (3, 4, 6)]
+        with open(options.plot, "w", encoding="utf-8") as file:
+            file.write(stacked([line_as_svg(it) for it in drawn]))
+    return said
+
+
+def stacked(pictures, height=420):
+    """Pictures one under another."""
+    parts = [f'<g transform="translate(0 {n * height})">{it}</g>' for n, it in enumerate(pictures)]
+    return f'<svg xmlns="http://www.w3.org/2000/svg" viewBox="0 0 800 {height * len(parts)}">\n' + "\n".join(parts) + "\n</svg>\n"
+
+
 def main():
-    parser = argparse.ArgumentParser()
-    parser.add_argument("--part", choices=["lines", "readers", "moves"])
+    parser = argparse.ArgumentParser(description=__doc__, formatter_class=argparse.RawDescriptionHelpFormatter)
+    parser.add_argument("--part", choices=["lines", "readers", "moves", "service"])
     parser.add_argument("--clients", type=int, default=64)
     parser.add_argument("--lines", type=int, default=10_000)
     parser.add_argument("--seconds", type=float, default=30)
     parser.add_argument("--seed", type=int, default=1)
     parser.add_argument("--program")
+    parser.add_argument("--plot", metavar="FILE")
     options = parser.parse_args()
+    if options.part == "service":
+        try:
+            print(f"service: {serve(options)}")
+        except (Differs, service.Ended) as why:
+            fail(f"service, seed {options.seed}: {why}")
+        return
     if not 1 <= options.clients <= 64:
         fail("--clients is 1 to 64")
     path = options.program or program.program()

@@ -1,0 +1,92 @@
+"""A service that the client starts: connections that come and go, and a journal that is there at the next start. The program is the one that
+MI_SERVICE names, else the built one, else the stand-in of the scripts' tests."""
+import os
+import unittest
+
+import kit
+from kit import ANN, BOB, TOP
+
+from mi_client import Ended, Refused, Server
+
+BUILT = f"{TOP}/crates/mi_service/out/mi_service"
+SERVICE = os.environ.get("MI_SERVICE") or (BUILT if os.path.exists(BUILT) else f"{TOP}/scripts/tests/stand_in.py")
+
+
+class Services(unittest.TestCase):
+    def setUp(self):
+        self.journal = f"{kit.folder(self)}/journal"
+
+    def started(self, **how):
+        server = Server(service=SERVICE, journal=self.journal, **how)
+        self.addCleanup(server.close)
+        return server
+
+    def test_connections_come_and_go(self):
+        with Server(service=SERVICE) as server:
+            silent = server.connect(10)
+            for n in range(5):
+                with server.connect(10) as db:
+                    self.assertEqual(db.insert({**ANN, "owner": str(n)}), n)
+            with server.connect(10) as db:
+                self.assertEqual(db.size(), 5)
+            self.assertEqual(silent.size(), 5)
+            silent.close()
+
+    def test_the_journal_is_kept(self):
+        for sync in (None, "always", "never"):
+            with self.started(sync=sync) as server, server.connect(10) as db:
+                count = db.size()
+                db.insert({**ANN, "owner": f"{sync}"})
+                with db.pipeline() as ahead:
+                    for n in range(20):
+                        ahead.modify(count, add={"balance": 1})
+            with self.started() as server, server.connect(10) as db:
+                self.assertEqual((db.size(), db.get(count)["balance"]), (count + 1, ANN["balance"] + 20))
+
+    def test_what_is_held_is_undone(self):
+        with self.started() as server:
+            db = server.connect(10)
+            db.insert(ANN)
+            db.begin()
+            db.erase(0)
+            with server.connect(10) as other:
+                with self.assertRaises(Refused):
+                    other.insert(BOB)
+            server.process.kill()
+            server.process.wait()
+            with self.assertRaises(Ended):
+                db.size()
+        with self.started() as server, server.connect(10) as db:
+            self.assertEqual((db.get(0)["owner"], db.revision()), ("ann", (0, 0, 0)))
+
+    def test_a_schema(self):
+        path = kit.written(self, 'table = "t"\ncolumn = [{ name = "n", type = "int" }]\n')
+        with self.started(schema=path) as server, server.connect(10) as db:
+            self.assertEqual(db.insert({"n": 1}), 0)
+        with self.assertRaisesRegex(Ended, "status 3: journal: schema"):
+            self.started()
+
+    def test_a_damaged_journal(self):
+        self.started().close()
+        with open(self.journal, "ab") as file:
+            file.write(b"{\n")
+        with self.assertRaisesRegex(Ended, "status 3: journal: line 2"):
+            self.started()
+
+    def test_its_end(self):
+        server = self.started()
+        self.assertIsNone(server.process.poll())
+        server.close()
+        server.close()
+        self.assertIsNotNone(server.process.poll())
+
+    def test_words(self):
+        for how in ({}, {"program": "x", "service": "x"}, {"program": "x", "journal": "j"}, {"program": "x", "sync": "turn"}):
+            with self.assertRaises(ValueError):
+                Server(**how)
+        with self.assertRaises(OSError):
+            Server(service="/no/such/program")
+
+
+if __name__ == "__main__":
+    unittest.main()

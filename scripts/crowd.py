@@ -1,0 +1,248 @@
+#!/usr/bin/env python3
+"""A service with all its places taken by clients that come and go, most of which say nothing or don't read.
+
+    crowd.py [--part comers|deaf|place] [--connections N] [--short] [--seed N] [--program FILE]
+
+Without --part all run, one behind another.
+
+    comers   N connections (10,000), 64 at once: half of them silent, a tenth asks pages and never reads, some read slowly, the others ask
+             random lines ahead, hold sessions and break off. By the journal that is kept meanwhile each reply must be the reference's, byte for byte
+             (`journal_walk.py`), and the server's memory must end where it began
+    deaf     one client asks pages of a megabyte without reading: the median wait of the others is at most 1.5 of what it is without that
+             client, and the server's memory rises by no more than the bound of what is unsent, one page, and some
+    place    64 silent clients are attached; the 65th and others wait, and are served as places become free
+
+Where nobody asks, the server takes no processor time, in the last two."""
+import argparse
+import contextlib
+import os
+import random
+import shutil
+import socket
+import statistics
+import sys
+import tempfile
+import time
+
+import program
+import service
+from callers import Caller, Deaf, Load, Silent, Slow
+from kept import Kept
+from journal_walk import Differs
+from service import MOST, Ended, Service
+
+CONNECTIONS, SHORT_CONNECTIONS = 10_000, 300
+STILL = 60
+"""Seconds in which somebody must be answered."""
+RISE = 16_000
+"""What a server's memory may rise by from the first connections to the last, in kB: a little of each place."""
+
+
+class Crowd(Load):
+    """All places are taken until so many connections have come."""
+
+    def __init__(self, running, journal, seed, first_number, connections):
+        super().__init__(running, journal, seed, first_number, MOST)
+        self.to_come, self.kinds, self.memory = connections, {"silent": 0, "deaf": 0, "slow": 0, "asking": 0}, []
+
+    def made(self, stream, said, speech):
+        pick, now = self.pick, time.monotonic()
+        chance = pick.random()
+        if chance < 0.5:
+            self.kinds["silent"] += 1
+            return Silent(stream, said, speech, pick.choice(["shut", "close", "reset"]), now + pick.uniform(0, 0.3))
+        if chance < 0.6:
+            self.kinds["deaf"] += 1
+            return Deaf(stream, said, speech, now + pick.uniform(0.05, 0.3))
+        if chance < 0.63:
+            self.kinds["slow"] += 1
+            return Slow(stream, said, speech, pick.randint(1, 60))
+        self.kinds["asking"] += 1
+        return Caller(stream, said, speech, pick.randint(1, 30), pick.choice([1, 4, 30]), pick.choice(["shut", "close", "reset"]))
+
+    def look_on(self):
+        """Its memory, now and then; and that somebody is answered."""
+        if len(self.all) >= 100 * (len(self.memory) + 1):
+            self.memory.append(self.running.memory())
+        if time.monotonic() - self.replied > STILL:
+            raise Differs(f"nobody was answered for {STILL} s, when {len(self.all)} connections had come")
+        if self.running.process.poll() is not None:
+            raise Ended(*self.running.ended())
+
+    def all_come(self):
+        while self.callers or self.to_come:
+            while self.to_come and len(self.callers) < self.count:
+                self.come()
+                self.to_come -= 1
+            self.step()
+            self.look_on()
+
+
+def comers(path, options, folder):
+    began, count = time.monotonic(), options.connections or (SHORT_CONNECTIONS if options.short else CONNECTIONS)
+    kept = Kept(path, folder, options.seed)
+    with kept.started() as running:
+        looked = kept.look(running)
+        with Crowd(running, kept.journal, options.seed, kept.next, count) as crowd:
+            crowd.all_come()
+            crowd.drain()
+        came, kept.next = time.monotonic() - began, crowd.next
+        last = running.memory()
+        kept.follow([looked, *crowd.all])
+        kept.follow([kept.look(running)])
+    early, most = crowd.memory[0], max(crowd.memory)
+    if max(last, most) > early + RISE:
+        raise Differs(f"the server's memory rose from {early} kB to {most} kB, and was {last} kB at the end")
+    kinds = ", ".join(f"{n} {it}" for it, n in crowd.kinds.items())
+    return (
+        f"{count} connections, {MOST} at once ({kinds}), in {came:.0f} s: {kept.answered} replies are the reference's; "
+        f"memory {early} kB after the first hundred, {most} kB at most, {last} kB behind them"
+    )
+
+
+# One that never reads
+
+
+PAGE = b'{"cmd":"range","index":"by_balance"}\n'
+GET = b'{"cmd":"get","id":7}\n'
+ROWS = 1000
+
+
+def fill(stream):
+    """As many records as a page has, each with a text as long as can be."""
+    for first in range(0, ROWS, 50):
+        owners = [f"{n:04}".ljust(1024, "x") for n in range(first, first + 50)]
+        rows = [f'{{"cmd":"insert","row":{{"owner":"{it}","balance":1,"vip":true}}}}\n' for it in owners]
+        service.asked(stream, "".join(rows).encode())
+
+
+def waits(streams, count):
+    """How long so many lines wait for their replies, by turns on these connections."""
+    found = []
+    for n in range(count):
+        stream = streams[n % len(streams)]
+        began = time.perf_counter()
+        service.asked(stream, GET)
+        found.append(time.perf_counter() - began)
+    return found
+
+
+def idles(running, what):
+    """Where nobody asks, it takes no processor time."""
+    used = running.seconds()
+    time.sleep(1)
+    used = running.seconds() - used
+    if used > 0.2:
+        raise Differs(f"{what} it takes {used:.2f} s of processor in a second, and nobody asks")
+
+
+def median_waits(running, streams, rounds, count):
+    """The median wait without a client that never reads and with one, in rounds by turns, and how far the memory rose meanwhile."""
+    without, beside, before = [], [], running.memory()
+    for _ in range(rounds):
+        without += waits(streams, count)
+        with running.connect(receive=65_536) as deaf:
+            deaf.setblocking(False)
+            asked = deaf.send(PAGE * 500)
+            time.sleep(0.2)
+            beside += waits(streams, count)
+            rise = running.memory() - before
+            idles(running, "beside a client that never reads")
+        if asked < len(PAGE) * 20:
+            raise Differs("the client that never reads could not ask")
+    return statistics.median(without), statistics.median(beside), rise
+
+
+def deaf(path, options, folder):
+    rounds, count = (2, 200) if options.short else (10, 1000)
+    with Service(path) as running, contextlib.ExitStack() as opened:
+        streams = [opened.enter_context(running.connect()) for _ in range(8)]
+        for it in streams:
+            it.settimeout(STILL)
+        try:
+            fill(streams[0])
+            page = len(service.asked(streams[0], PAGE))
+            for _ in range(3):
+                # (a machine that is busy makes some tries slow, and a client that holds up the others makes all slow)
+                without, beside, rise = median_waits(running, streams, rounds, count)
+                if beside <= 1.5 * without:
+                    break
+        except socket.timeout:
+            raise Differs(f"the others weren't answered within {STILL} s, beside a client that never reads") from None
+    said = f"the others wait {1e6 * without:.0f} µs without and {1e6 * beside:.0f} µs beside a client that never reads (medians)"
+    # (what is unsent, one reply that is being made, which may have room for twice as much, and what is read at once)
+    most = (65_536 + 3 * page) // 1024 + 4_000
+    if beside > 1.5 * without:
+        raise Differs(said)
+    if rise > most:
+        raise Differs(f"beside a client that never reads the server's memory rises by {rise} kB, and {most} kB are the most")
+    return f"{said}; memory rises by {rise} kB, with pages of {page // 1024} kB"
+
+
+# Places
+
+
+def is_answered(stream, seconds):
+    """Whether a connection that has asked is answered in so many seconds."""
+    stream.settimeout(seconds)
+    try:
+        return stream.recv(1 << 16) == b'{"ok":true,"size":0}\n'
+    except socket.timeout:
+        return False
+    finally:
+        stream.settimeout(service.WAIT)
+
+
+def place(path, options, folder):
+    size = b'{"cmd":"size"}\n'
+    with Service(path) as running, contextlib.ExitStack() as opened:
+        attached = [opened.enter_context(running.connect()) for _ in range(MOST)]
+        for it in attached:
+            service.asked(it, size)
+        waiting = [opened.enter_context(running.connect()) for _ in range(8)]
+        for it in waiting:
+            it.sendall(size)
+        if any(is_answered(it, 0.3) for it in waiting[:3]):
+            raise Differs(f"connection {MOST + 1} is served while {MOST} are")
+        idles(running, f"with {MOST} silent clients and {len(waiting)} that wait")
+        pick = random.Random(options.seed)
+        for n, it in enumerate(waiting):
+            gone = attached.pop(pick.randrange(len(attached)))
+            gone.shutdown(socket.SHUT_WR) if n % 2 else gone.close()
+            if not is_answered(it, 10):
+                raise Differs(f"a place is free, and the connection that waits isn't served ({n} were before it)")
+        for it in attached:
+            service.asked(it, size)
+        opened.close()
+        with running.connect() as late:
+            service.asked(late, size)
+    return f"{MOST} silent clients are attached, {len(waiting)} wait, and each is served as a place becomes free"
+
+
+PARTS = {"comers": comers, "deaf": deaf, "place": place}
+
+
+def main(given=None):
+    parser = argparse.ArgumentParser(description=__doc__, formatter_class=argparse.RawDescriptionHelpFormatter)
+    parser.add_argument("--part", choices=list(PARTS))
+    parser.add_argument("--connections", type=int)
+    parser.add_argument("--short", action="store_true")
+    parser.add_argument("--seed", type=int, default=1)
+    parser.add_argument("--program", metavar="FILE")
+    options = parser.parse_args(given)
+    path = service.needed(options.program)
+    home = f"{program.TOP}/out/crowd"
+    os.makedirs(home, exist_ok=True)
+    for name in [options.part] if options.part else PARTS:
+        folder = tempfile.mkdtemp(dir=home, prefix=f"{name}-")
+        try:
+            print(f"{name}: {PARTS[name](path, options, folder)}", flush=True)
+        except (Differs, Ended, OSError) as why:
+            print(f"crowd: {name}, seed {options.seed}: {why}\nwhat it left is below {os.path.relpath(folder)}", flush=True)
+            return 1
+        shutil.rmtree(folder)
+    return 0
+
+
+if __name__ == "__main__":
+    sys.exit(main())

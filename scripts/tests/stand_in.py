@@ -1,0 +1,248 @@
+#!/usr/bin/env python3
+"""A service that stands in for `mi_service` in the tests of the scripts: the reference behind sockets, with a journal. By PLANT it has a
+fault, which the scripts are to find:
+
+    early    replies go out before their lines are appended       unsynced  replies go out before their lines stay
+    held     a holder that goes away leaves no undo lines         torn      a torn last line is replayed and stays
+    beyond   a 65th connection is served                          deaf      a reader that doesn't read holds up all
+    hoards   what isn't read is kept without a bound              crossed   at times a reply goes to another connection
+    foreign  the journal of another schema is taken               quiet     a full disk is no fault
+    added    a line that nobody sent is in the journal at times"""
+import argparse
+import fcntl
+import hashlib
+import json
+import os
+import selectors
+import socket
+import sys
+
+TOP = os.path.dirname(os.path.dirname(os.path.dirname(os.path.realpath(__file__))))
+sys.path[:0] = [f"{TOP}/scripts", f"{TOP}/clients/python"]
+
+import mi_client.schema  # noqa: E402
+from reference import Index, Reference, Schema  # noqa: E402
+
+PLANT = os.environ.get("PLANT", "")
+BOUND = 65_536
+MOST = 64
+UNDO = b'{"cmd":"undo"}\n'
+CHANGED = (b'{"id":', b'{"ok":true}', b'{"erased":', b'{"ok":true,"revision":', b'{"committed":', b'{"ok":true,"undone":', b'{"ok":true,"pushed":')
+
+
+def stop(status, why):
+    print(why, file=sys.stderr, flush=True)
+    os._exit(status)
+
+
+def schemas_of(file):
+    """The schemas of the reference that a file says."""
+    found = mi_client.schema.Schema.read(file) if file else mi_client.schema.Schema.built_in()
+    made = []
+    for table in found.tables:
+        names = [it.name for it in table.columns]
+        indexes = [Index(it.name, it.kind, [(names.index(p.column), p.descends) for p in it.parts], it.unique) for it in table.indexes[1:]]
+        made.append(Schema(table.name, [(it.name, it.type) for it in table.columns], indexes, table.max_rows, table.first_id))
+    return made
+
+
+def changed(reply):
+    return reply.startswith(CHANGED) or reply.endswith(b'"lost":true,"ok":false}\n')
+
+
+class Journal:
+    """The file: lines are appended, and made to stay."""
+
+    def __init__(self, path, reference, wanted, sync):
+        self.sync, self.handle, self.waits = sync, None, False
+        if not path:
+            return
+        try:
+            self.handle = os.open(path, os.O_RDWR | os.O_CREAT | os.O_APPEND, 0o600)
+            fcntl.flock(self.handle, fcntl.LOCK_EX | fcntl.LOCK_NB)
+        except BlockingIOError:
+            stop(3, "journal: locked")
+        except OSError:
+            stop(3, "journal: file")
+        with open(path, "rb") as file:
+            whole = file.read()
+        end = len(whole) if PLANT == "torn" else whole.rfind(b"\n") + 1
+        lines = whole[:end].split(b"\n")[:-1] if PLANT != "torn" else [it for it in whole.split(b"\n") if it]
+        if lines and lines[0] != wanted and not (PLANT == "foreign" and lines[0].startswith(b'{"journal"')):
+            stop(3, "journal: schema" if lines[0].startswith(b'{"journal"') else "journal: line 1")
+        for number, text in enumerate(lines[1:], 2):
+            reply = reference.answer_ended(1, text)
+            if not changed(reply) and PLANT != "torn":
+                stop(3, f"journal: line {number}")
+        os.ftruncate(self.handle, end)
+        if not lines:
+            self.append(wanted + b"\n")
+        self.gone(reference, 1)
+        self.stay()
+
+    def append(self, text):
+        if self.handle is None:
+            return
+        self.waits = True
+        try:
+            while text:
+                text = text[os.write(self.handle, text):]
+        except OSError:
+            PLANT == "quiet" or stop(4, "fault: journal")
+
+    def gone(self, reference, connection):
+        """A connection has gone away; what it held is undone."""
+        held = reference.held if reference.holder == connection else 0
+        reference.rests.pop(connection, None)
+        reference.close(connection)
+        if PLANT != "held":
+            self.append(UNDO * held)
+
+    def stay(self):
+        if self.handle is None or not self.waits or self.sync == "never":
+            return
+        try:
+            os.fdatasync(self.handle)
+        except OSError:
+            PLANT == "quiet" or stop(4, "fault: journal")
+        self.waits = False
+
+
+class Client:
+    def __init__(self, number, stream):
+        self.number, self.stream = number, stream
+        self.lines, self.rest, self.held, self.out, self.has_ended = [], b"", b"", b"", False
+
+    def take(self, more):
+        """Bytes that have come, b"" at the end."""
+        *lines, self.rest = (self.rest + more).split(b"\n")
+        self.lines += lines
+        if not more:
+            self.has_ended = True
+            if self.rest:
+                self.lines.append(self.rest)
+                self.rest = b""
+
+
+class Service:
+    def __init__(self, options):
+        schemas = schemas_of(options.schema)
+        self.reference = Reference(schemas)
+        told = json.dumps([[it.name, it.columns, [vars(x) for x in it.indexes]] for it in schemas]).encode()
+        digest = hashlib.sha256(told).hexdigest()
+        wanted = f'{{"journal":1,"revision":0,"schema":"{digest}"}}'.encode()
+        self.journal = Journal(options.journal, self.reference, wanted, options.sync)
+        self.listener = socket.create_server(("127.0.0.1", options.listen), backlog=128)
+        self.listener.setblocking(False)
+        self.selector, self.clients, self.next, self.asked = selectors.DefaultSelector(), {}, 2, 0
+        self.selector.register(self.listener, selectors.EVENT_READ, None)
+        print(f"listening 127.0.0.1:{self.listener.getsockname()[1]}", flush=True)
+
+    def accept(self):
+        while len(self.clients) < MOST or PLANT == "beyond":
+            try:
+                stream, _ = self.listener.accept()
+            except BlockingIOError:
+                return
+            stream.setsockopt(socket.IPPROTO_TCP, socket.TCP_NODELAY, 1)
+            stream.setblocking(False)
+            self.clients[self.next] = Client(self.next, stream)
+            self.selector.register(stream, selectors.EVENT_READ | selectors.EVENT_WRITE, self.clients[self.next])
+            self.next += 1
+
+    def gone(self, client):
+        """A connection ends or is cut."""
+        self.selector.unregister(client.stream)
+        client.stream.close()
+        del self.clients[client.number]
+        self.journal.gone(self.reference, client.number)
+
+    def ask(self, client):
+        """Lines of a connection, as long as its replies have room."""
+        while client.lines and (len(client.out) + len(client.held) <= BOUND or PLANT == "hoards"):
+            text = client.lines.pop(0)
+            holder = self.reference.holder
+            reply = self.reference.answer_ended(client.number, text)
+            self.asked += 1
+            keep = changed(reply) and holder in (None, client.number)
+            to = client
+            if PLANT == "crossed" and self.asked % 97 == 0 and not keep:
+                to = next(iter(self.clients.values()))
+            to.held += reply
+            if PLANT == "early":
+                self.send(to, to.held)
+                to.held = b""
+            if keep:
+                self.journal.append(text + b"\n")
+            if PLANT == "added" and self.asked % 50 == 0 and not self.reference.held:
+                self.reference.answer(0, b'{"cmd":"start"}')
+                self.reference.answer(0, b'{"cmd":"squash"}')
+                self.journal.append(b'{"cmd":"start"}\n{"cmd":"squash"}\n')
+
+    def read(self, client):
+        """What has come, while what it is answered has room."""
+        if client.has_ended or len(client.lines) > 100 and PLANT != "hoards":
+            return
+        try:
+            client.take(client.stream.recv(BOUND))
+        except BlockingIOError:
+            pass
+        except OSError:
+            client.lines, client.has_ended, client.out, client.held = [], True, b"", b""
+
+    def send(self, client, more=b""):
+        client.out += more
+        try:
+            if PLANT == "deaf" and client.out:
+                client.stream.setblocking(True)
+                client.stream.sendall(client.out)
+                client.stream.setblocking(False)
+                client.out = b""
+            elif client.out:
+                client.out = client.out[client.stream.send(client.out):]
+        except BlockingIOError:
+            pass
+        except OSError:
+            client.lines, client.has_ended, client.out, client.held = [], True, b"", b""
+
+    def turn(self):
+        """One poll, and all that it shows."""
+        busy = any(it.lines and len(it.out) <= BOUND for it in self.clients.values())
+        for it in self.clients.values():
+            wants = selectors.EVENT_READ * (not it.has_ended and len(it.lines) <= 100 or PLANT == "hoards") | selectors.EVENT_WRITE * bool(it.out)
+            self.selector.modify(it.stream, wants or selectors.EVENT_WRITE, it)
+        for key, events in self.selector.select(0 if busy else 0.1):
+            if key.data is None:
+                self.accept()
+            elif events & selectors.EVENT_READ:
+                self.read(key.data)
+        for client in list(self.clients.values()):
+            self.ask(client)
+        if PLANT == "unsynced":
+            self.flush()
+        self.journal.stay()
+        self.flush()
+        for client in [it for it in self.clients.values() if it.has_ended and not it.lines and not it.out]:
+            self.gone(client)
+            self.accept()
+        self.journal.stay()
+
+    def flush(self):
+        for client in self.clients.values():
+            more, client.held = client.held, b""
+            self.send(client, more)
+
+
+def main():
+    parser = argparse.ArgumentParser()
+    parser.add_argument("--schema")
+    parser.add_argument("--listen", type=int, required=True)
+    parser.add_argument("--journal")
+    parser.add_argument("--sync", choices=["always", "turn", "never"], default="turn")
+    service = Service(parser.parse_args())
+    while True:
+        service.turn()
+
+
+if __name__ == "__main__":
+    main()

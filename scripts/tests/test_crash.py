@@ -1,0 +1,162 @@
+"""Whether `crash.py` and `crowd.py` find the faults that a stand-in of the service has on purpose, and none in one without; and what
+`journal_walk.py` takes for right."""
+import contextlib
+import io
+import os
+import shutil
+import sys
+import unittest
+import unittest.mock
+
+HERE = os.path.dirname(os.path.realpath(__file__))
+TOP = os.path.dirname(os.path.dirname(HERE))
+sys.path.insert(0, f"{TOP}/scripts")
+
+import crash  # noqa: E402
+import crowd  # noqa: E402
+from callers import TABLES  # noqa: E402
+from journal_walk import UNDO, Differs, Said, Walk, fork, mark, marked, state  # noqa: E402
+
+STAND_IN = f"{HERE}/stand_in.py"
+START = b'{"cmd":"start"}'
+INSERT = b'{"cmd":"insert","table":"side","row":{"n":%d}}'
+SIZE = b'{"cmd":"size","table":"side"}'
+BUSY = b'{"error":"busy","ok":false}\n'
+
+
+def inserted(id):
+    return b'{"id":%d,"ok":true}\n' % id
+
+
+def size(n):
+    return b'{"ok":true,"size":%d}\n' % n
+
+
+class AWalk(unittest.TestCase):
+    """Connections that are written down, and journals of them."""
+
+    def setUp(self):
+        self.walk, self.said = Walk(TABLES), {}
+
+    def says(self, number, *pairs, left=False):
+        """A connection, by what it asked and was answered, or None; answers its lines with their marks."""
+        said = self.said[number] = Said(number)
+        said.has_left = left
+        said.lines = [text + (b"" if text == SIZE else mark(number, n)) for n, (text, _) in enumerate(pairs)]
+        said.replies = [reply for _, reply in pairs if reply]
+        return said.lines
+
+    def walked(self, *lines):
+        self.walk.on(lines, list(self.said.values()))
+
+    def differs(self, why, *lines):
+        with self.assertRaisesRegex(Differs, why):
+            self.walked(*lines)
+
+    def test_marks(self):
+        for it in [(0, 0), (1, 0), (65_535, 4_095), (2, 77)]:
+            self.assertEqual(marked(b'{"cmd":"undo"}' + mark(*it)), it)
+        self.assertIsNone(marked(UNDO))
+        self.assertIsNone(marked(b""))
+
+    def test_two_in_either_order(self):
+        a, = self.says(1, (INSERT % 5, inserted(1)))
+        b, = self.says(2, (INSERT % 6, inserted(0)))
+        self.walked(b, a)
+        self.assertEqual(self.walk.reference.tables[1].rows, {0: [6], 1: [5]})
+
+    def test_the_order_is_the_journals(self):
+        a, = self.says(1, (INSERT % 5, inserted(1)))
+        b, = self.says(2, (INSERT % 6, inserted(0)))
+        self.differs("wanted .*0.*, got .*1", a, b)
+
+    def test_reads_find_their_place(self):
+        a, _, b = self.says(1, (INSERT % 5, inserted(0)), (SIZE, size(1)), (INSERT % 6, inserted(1)))
+        self.says(2, (SIZE, size(0)), (SIZE, size(0)), (SIZE, size(2)))
+        self.walked(a, b)
+
+    def test_a_read_that_fits_nowhere(self):
+        a, _, b = self.says(1, (INSERT % 5, inserted(0)), (SIZE, size(2)), (INSERT % 6, inserted(1)))
+        self.differs("fits nowhere", a, b)
+
+    def test_reads_go_forward(self):
+        a, = self.says(1, (INSERT % 5, inserted(0)))
+        self.says(2, (SIZE, size(1)), (SIZE, size(0)))
+        self.differs("fits nowhere", a)
+
+    def test_a_lost_line(self):
+        self.says(1, (INSERT % 5, inserted(0)))
+        self.differs("the journal lacks it")
+
+    def test_a_line_without_a_reply_may_be_there_or_not(self):
+        a, b = self.says(1, (INSERT % 5, inserted(0)), (INSERT % 6, None))
+        self.walked(a, b)
+        self.walk, self.said[1] = Walk(TABLES), Said(1)
+        self.said[1].lines, self.said[1].replies = [a, b], [inserted(0)]
+        self.walked(a)
+
+    def test_lines_that_nobody_sent(self):
+        a, = self.says(1, (INSERT % 5, inserted(0)))
+        self.differs("wasn't sent", a, INSERT % 7 + mark(1, 1))
+        self.setUp()
+        a, = self.says(1, (INSERT % 5, inserted(0)))
+        self.differs("wasn't sent", a.replace(b"5", b"6"))
+        self.setUp()
+        a, = self.says(1, (INSERT % 5, inserted(0)))
+        self.differs("twice", a, a)
+
+    def test_the_undo_of_a_holder(self):
+        a, b = self.says(1, (START, b'{"ok":true,"revision":1}\n'), (INSERT % 5, inserted(0)), left=True)
+        self.says(2, (SIZE, size(1)), (INSERT % 9, BUSY), (SIZE, size(0)))
+        self.walked(a, b, UNDO)
+        self.assertEqual((self.walk.reference.held, self.walk.reference.tables[1].rows), (0, {}))
+
+    def test_no_undo_of_one_that_is_there(self):
+        a, = self.says(1, (START, b'{"ok":true,"revision":1}\n'))
+        self.differs("still there", a, UNDO)
+        self.setUp()
+        self.differs("nobody sent", UNDO)
+
+    def test_a_fork_is_its_own(self):
+        a, b = self.says(1, (START, b'{"ok":true,"revision":1}\n'), (INSERT % 5, inserted(0)))
+        self.walked(a, b)
+        before = state(fork(self.walk.reference))
+        other = fork(self.walk.reference)
+        for text in (INSERT % 6, UNDO, START, b'{"cmd":"erase","table":"side","id":0}'):
+            other.answer_ended(1, text)
+        self.assertEqual(state(self.walk.reference), before)
+
+
+class AgainstAStandIn(unittest.TestCase):
+    def ran(self, script, plant, *words):
+        """The status, and what is said."""
+        out = io.StringIO()
+        with unittest.mock.patch.dict(os.environ, {"PLANT": plant}), contextlib.redirect_stdout(out):
+            status = script.main([*words, "--short", "--program", STAND_IN])
+        return status, out.getvalue()
+
+    def test_none_is_found(self):
+        of_crash = [("rounds", "--rounds", "2"), ("tools",)]
+        of_crowd = [("place",), ("comers", "--connections", "120")]
+        for script, words in [*((crash, it) for it in of_crash), *((crowd, it) for it in of_crowd)]:
+            status, said = self.ran(script, "", "--part", *words)
+            self.assertEqual(status, 0, said)
+
+    def test_faults_are_found(self):
+        cases = [
+            ("held", crash, "rounds", ""),
+            ("torn", crash, "torn", "cut at byte"),
+            ("added", crash, "rounds", "nobody sent"),
+            ("quiet", crash, "full", ""),
+            ("beyond", crowd, "place", "connection 65 is served"),
+        ]
+        if shutil.which(os.environ.get("CC", "cc")):
+            cases += [("unsynced", crash, "power", "the journal lacks it"), ("early", crash, "power", "the journal lacks it")]
+        for plant, script, part, why in cases:
+            status, said = self.ran(script, plant, "--part", part)
+            self.assertEqual(status, 1, (plant, said))
+            self.assertIn(why, said, plant)
+
+
+if __name__ == "__main__":
+    unittest.main()
