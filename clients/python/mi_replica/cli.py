@@ -12,6 +12,7 @@ from typing import Any, Dict, List, Optional, Tuple
 from mi_replica.etcd import Rejected, Unreachable
 from mi_replica.log import Log, Snapshot
 from mi_replica.member import Member, OtherSchema, Settings
+from mi_replica.own import Gone
 
 ENDS = (signal.SIGTERM, signal.SIGINT)
 
@@ -55,7 +56,7 @@ def main(words: Optional[List[str]] = None) -> int:
     except OtherSchema as error:
         print(f"mi_replica: schema: {error}", file=sys.stderr)
         return 3
-    except (OSError, Rejected) as error:
+    except (OSError, Rejected, Gone) as error:
         print(f"mi_replica: {error}", file=sys.stderr)
         return 4
 

@@ -53,7 +53,7 @@ class Settings(NamedTuple):
 
 
 def schema_hash(path: Optional[str]) -> str:
-    """What identifies a schema here: its bytes."""
+    """What identifies a schema where the program doesn't tell: its bytes."""
     if path is None:
         return hashlib.sha256(b"").hexdigest()[:16]
     with open(path, "rb") as file:
@@ -75,8 +75,7 @@ class Member:
         self._temporary = tempfile.TemporaryDirectory(prefix="mi_replica-")
         self._folder = Folder(settings.folder or self._temporary.name, settings.name)
         self._role, self._leader, self._term, self._number = "starting", "", 0, 0
-        self._schema = schema_hash(settings.schema)
-        self._header = b""
+        self._schema, self._header = "", b""
         self._tail: List[Tuple[int, bytes]] = []
         self._tail_bytes = 0
         self._checkpoint = self._folder.newest()[0]
@@ -100,6 +99,8 @@ class Member:
             self._log.close()
 
     async def _live(self) -> None:
+        self._header = await own_of(self._settings.program, self._settings.schema, self._settings.body).header()
+        self._schema = json.loads(self._header)["schema"] if self._header else schema_hash(self._settings.schema)
         found = await self._log.agree(self._schema)
         if found != self._schema:
             raise OtherSchema(f"{self._settings.name} belongs to the schema {found}, and this one is {self._schema}")
@@ -142,7 +143,7 @@ class Member:
         if self._writing:
             await asyncio.wait([self._writing])
         fresh = json.loads((await own.ask([REVISION]))[0])
-        self._header = header(fresh["revision"], self._schema)
+        self._header = self._header or header(fresh["revision"], self._schema)
         number, path = self._folder.newest()
         for lines in batches(path) if path else ():
             await replay(own, lines, str(path))

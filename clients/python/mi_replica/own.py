@@ -6,16 +6,14 @@ from __future__ import annotations
 import asyncio
 import contextlib
 import os
-import socket
 import subprocess
-import time
+import tempfile
 from typing import List, Optional, Sequence
 
 from mi_client.server import GUARD
 from mi_replica import lines as known
 
 LARGEST_READ = 1 << 18
-START_SECONDS = 20.0
 
 
 class Gone(Exception):
@@ -65,6 +63,10 @@ class Own:
 
     async def close(self) -> None:
         raise NotImplementedError
+
+    async def header(self) -> bytes:
+        """The first line of a journal over its schema, asked in the place of `start`; nothing, where the program doesn't tell."""
+        return b""
 
     async def held(self) -> int:
         """How many sessions the connection that changes holds."""
@@ -128,25 +130,35 @@ class Service(Own):
         self._lock = asyncio.Lock()
 
     async def start(self) -> None:
-        with socket.socket() as it:
-            it.bind(("127.0.0.1", 0))
-            port = it.getsockname()[1]
-        words = [self._program, "--listen", str(port)] + (["--schema", self._schema] if self._schema else [])
-        self._process = subprocess.Popen(words, stdin=subprocess.DEVNULL, start_new_session=True)
+        port = await asyncio.get_running_loop().run_in_executor(None, self._started)
+        try:
+            self._wires = [Wire(*await asyncio.open_connection("127.0.0.1", port)) for _ in range(2)]
+        except OSError as error:
+            raise Gone(f"{self._program}: {error}") from error
+
+    def _started(self, *more: str) -> int:
+        """Starts the program, and answers its port."""
+        words = [self._program, "--listen", "0", *more] + (["--schema", self._schema] if self._schema else [])
+        self._process = subprocess.Popen(words, stdin=subprocess.DEVNULL, stdout=subprocess.PIPE, start_new_session=True)
         quiet = {"stdout": subprocess.DEVNULL, "stderr": subprocess.DEVNULL, "start_new_session": True}
         self._guard = subprocess.Popen([*GUARD, str(self._process.pid)], stdin=subprocess.PIPE, **quiet)  # type: ignore[call-overload]
-        self._wires = [await self._connected(port) for _ in range(2)]
+        assert self._process.stdout
+        said = self._process.stdout.readline()
+        if not said.startswith(b"listening "):
+            raise Gone(f"{self._program} doesn't listen")
+        return int(said.rpartition(b":")[2])
 
-    async def _connected(self, port: int) -> Wire:
-        end = time.monotonic() + START_SECONDS
-        while True:
+    async def header(self) -> bytes:
+        """The first line of a journal of this program over this schema."""
+        with tempfile.TemporaryDirectory(prefix="mi_replica-") as folder:
             try:
-                return Wire(*await asyncio.open_connection("127.0.0.1", port))
+                await asyncio.get_running_loop().run_in_executor(None, self._started, "--journal", f"{folder}/journal")
+                with open(f"{folder}/journal", "rb") as file:
+                    return file.readline()
             except OSError as error:
-                assert self._process
-                if self._process.poll() is not None or time.monotonic() > end:
-                    raise Gone(f"{self._program} doesn't listen: {error}") from error
-                await asyncio.sleep(0.02)
+                raise Gone(f"{self._program}: {error}") from error
+            finally:
+                await self.close()
 
     async def ask(self, lines: Sequence[bytes]) -> List[bytes]:
         async with self._lock:
@@ -163,8 +175,9 @@ class Service(Own):
             if ran:
                 ran.kill()
                 ran.wait()
-        if self._guard and self._guard.stdin:
-            self._guard.stdin.close()
+        for it in (self._process and self._process.stdout, self._guard and self._guard.stdin):
+            if it:
+                it.close()
 
 
 def own_of(program: str, schema: Optional[str], body: str = "") -> Own:
