@@ -13,7 +13,6 @@ Address = Union[int, str]
 """A port of 127.0.0.1, or HOST:PORT."""
 PAUSE_SECONDS = 0.1
 ANSWER_SECONDS = 2.0
-"""A member that doesn't say for so long how it stands is passed over."""
 
 
 def place(address: Address) -> Tuple[str, int]:
@@ -22,9 +21,12 @@ def place(address: Address) -> Tuple[str, int]:
     return host or "127.0.0.1", int(port)
 
 
-def connect_leader(members: Sequence[Address], timeout: Optional[float] = None, schema: AnySchema = None, wait: float = 10.0) -> Database:
-    """A connection to the member that leads, which is looked for during `wait` seconds; else Ended is raised. `timeout` and `schema` are
-    those of `Database.connect`.
+def connect_leader(
+    members: Sequence[Address], timeout: Optional[float] = None, schema: AnySchema = None, wait: float = 10.0, answers: float = ANSWER_SECONDS
+) -> Database:
+    """A connection to the member that leads, which is looked for during `wait` seconds; else Ended is raised. A member that doesn't say
+    for `answers` seconds how it stands is passed over. `timeout` and `schema` are those of `Database.connect`: a leader that is stopped
+    is told from one that takes its time by `timeout` alone.
 
     A command that raises Ended may have been done or not: it was, if the new leader's tables say so. Sessions that the connection held
     are undone."""
@@ -32,7 +34,7 @@ def connect_leader(members: Sequence[Address], timeout: Optional[float] = None, 
     rest: List[Address] = list(members)
     while True:
         for it in list(rest):
-            found, named = asked(it, timeout, schema)
+            found, named = asked(it, timeout, schema, answers)
             if found:
                 return found
             if named and named not in rest:
@@ -42,11 +44,11 @@ def connect_leader(members: Sequence[Address], timeout: Optional[float] = None, 
         time.sleep(PAUSE_SECONDS)
 
 
-def asked(address: Address, timeout: Optional[float], schema: AnySchema) -> Tuple[Optional[Database], str]:
+def asked(address: Address, timeout: Optional[float], schema: AnySchema, answers: float) -> Tuple[Optional[Database], str]:
     """The connection, if this member leads; and which one does, as it says."""
     host, port = place(address)
     try:
-        db = Database.connect(port, ANSWER_SECONDS, schema, host=host)
+        db = Database.connect(port, answers, schema, host=host)
     except OSError:
         return None, ""
     try:

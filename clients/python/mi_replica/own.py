@@ -182,5 +182,5 @@ class Service(Own):
 
 def own_of(program: str, schema: Optional[str], body: str = "") -> Own:
     """The server of this program: by its name, where no body is named."""
-    is_service = body == "service" or not body and os.path.basename(program).startswith("mi_service")
+    is_service = body == "service" or not body and "mi_service" in os.path.basename(program)
     return Service(program, schema) if is_service else Piped(program, schema)
