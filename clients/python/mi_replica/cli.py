@@ -76,27 +76,22 @@ async def serve(options: argparse.Namespace) -> int:
 async def status(options: argparse.Namespace) -> int:
     log = Log(options.etcd.split(","), options.name)
     try:
-        found, members = await asked(log, len(options.etcd.split(",")))
+        found, last, members = await asked(log, len(options.etcd.split(",")))
     finally:
         log.close()
-    last, is_there = await_number(found)
     print(f"{options.name}: " + (f"{found.leader.said['address']} leads in term {found.leader.term}" if found.leader else "nobody leads"))
-    print(f"  the log begins with entry {found.first}" + (f" and has {last} at least" if is_there else ", and is empty"))
+    print(f"  the log has the entries {found.first} to {last}" if last else "  the log is empty")
     for name in sorted(members):
         it = members[name]
         print(f"  {name:<24} {it['role']:<9} applied {it['applied']:<10} checkpoint {it['checkpoint']}")
     return 0 if found.leader else 1
 
 
-def await_number(found: Snapshot) -> Tuple[int, bool]:
-    return (found.entries[-1][0], True) if found.entries else (0, False)
-
-
-async def asked(log: Log, tries: int) -> Tuple[Snapshot, Dict[str, Dict[str, Any]]]:
+async def asked(log: Log, tries: int) -> Tuple[Snapshot, int, Dict[str, Dict[str, Any]]]:
     """What etcd says, by one of its members."""
     while True:
         try:
-            return await log.read(0, 1), await log.members()
+            return await log.read(0, 1), await log.last(), await log.members()
         except Unreachable:
             tries -= 1
             if not tries:

@@ -91,6 +91,13 @@ class Log:
         entries = [(self._number(it.key), it.value) for it in found]
         return Snapshot(entries[:limit], len(entries) > limit, int(first[0].value) if first else 1, leader_of(pairs(answer, 1)), revision(answer))
 
+    async def last(self) -> int:
+        """The number of the last entry; 0 where there is none."""
+        newest = {"key": text64(self._entries), "range_end": text64(behind(self._entries)), "limit": "1"}
+        order = {"sort_order": "DESCEND", "sort_target": "KEY", "keys_only": True}
+        answer = await self._reading.post("/v3/kv/txn", {"success": [{"request_range": {**newest, **order}}]})
+        return max((self._number(it.key) for it in pairs(answer, 0)), default=0)
+
     async def watch(self, start: int, silence: float) -> AsyncIterator[News]:
         """What changes from this revision on, until nothing has for so many seconds, or the revision is too old for etcd."""
         wanted = {"key": text64(self._prefix), "range_end": text64(behind(self._prefix)), "start_revision": str(start)}
