@@ -27,7 +27,7 @@ from mi_client import connect_leader
 PER_RUN = 20
 LONGEST_WAIT = 60
 KINDS = {"kill leader": 5, "kill member": 1, "end leader": 1, "stop leader": 3, "stop member": 1, "kill etcd": 3, "stop etcd": 2,
-         "kill both": 1, "empty member": 1}
+         "kill both": 1, "stop both": 1, "empty member": 1}
 """How often each happens, in proportion."""
 SHORT = ["kill leader", "stop leader", "kill etcd", "end leader"]
 SETTINGS = ["--lease", "2", "--margin", "0.4", "--folder", "FOLDER", "--checkpoint", "8000"]

@@ -52,6 +52,7 @@ class Following:
 
     async def until_vacant(self) -> None:
         """Follows the log until there is no leader, and answers look-ups meanwhile. Raises Behind, Diverged and Gone."""
+        self._is_done = False
         tasks = [asyncio.ensure_future(it) for it in (self._follow(), self._answer())]
         try:
             done, _ = await asyncio.wait(tasks, return_when=asyncio.FIRST_COMPLETED)

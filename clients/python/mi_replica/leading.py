@@ -1,6 +1,6 @@
 """What the leader does in one term: it asks its own server the lines of its clients, one batch at a time so that their order is known;
 appends those that are a journal's to the log, in this order; and lets a reply out when the log has all lines up to its own. A reply to
-a line that isn't in the log is let out while the lease holds as well. Where the term ends, Lost is raised and nothing more goes out."""
+a line that isn't in the log is let out while the term surely lasts as well. Where the term ends, Lost is raised and nothing more goes out."""
 from __future__ import annotations
 
 import asyncio
@@ -10,7 +10,8 @@ from typing import Awaitable, Callable, Deque, List, NamedTuple, Optional, Tuple
 
 from mi_replica.clients import Client, Clients
 from mi_replica.lines import REVISION, UNDO, belongs, is_of_member, may_start
-from mi_replica.log import MOST_BYTES, Lease, Log, Lost
+from mi_replica.etcd import Unreachable
+from mi_replica.log import AGAIN_SECONDS, MOST_BYTES, Log, Term
 from mi_replica.own import Gone, Own, held
 
 MOST_ASKED = 2_000
@@ -18,6 +19,8 @@ MOST_ASKED = 2_000
 MOST_AHEAD = 4 << 20
 """Bytes of lines that are executed and not in the log; while there are more, none is executed."""
 SLOW_SECONDS = 0.02
+PARTS = 5
+"""A term is prolonged so often in the time that it lasts."""
 SPECIAL = re.compile(rb'"(?:start|member)"|\\')
 """What lines have that don't go with those of other clients. Others may have it too."""
 
@@ -42,10 +45,10 @@ class Reply(NamedTuple):
 
 
 class Leading:
-    def __init__(self, own: Own, log: Log, lease: Lease, clients: Clients, term: int, number: int, most_lines: int = 0) -> None:
+    def __init__(self, own: Own, log: Log, clients: Clients, term: Term, number: int, most_lines: int = 0) -> None:
         """`number` is the last entry of the log, which the own server has executed. At most `most_lines` make an entry, where that isn't 0."""
-        self._own, self._log, self._lease, self._clients = own, log, lease, clients
-        self._term, self._lease_id, self.number, self._most_lines = term, lease.id, number, most_lines
+        self._own, self._log, self._clients, self._term = own, log, clients, term
+        self.number, self._most_lines = number, most_lines
         self.holder: Optional[Client] = None
         self._held = 0
         self._executed = self._committed = 0
@@ -59,7 +62,7 @@ class Leading:
     async def run(self) -> None:
         """Until Lost is raised, or Gone."""
         await self._undo(await self._own.held())  # (of a leader that is gone)
-        tasks = [asyncio.ensure_future(it) for it in (self._execute(), self._append(), self._watch_lease())]
+        tasks = [asyncio.ensure_future(it) for it in (self._execute(), self._append(), self._prolong())]
         try:
             done, _ = await asyncio.wait(tasks, return_when=asyncio.FIRST_COMPLETED)
             for it in done:
@@ -179,7 +182,7 @@ class Leading:
 
     def release(self) -> None:
         """Lets out the replies that wait for nothing more, in their order."""
-        holds, replies = self._lease.holds() and self._lease.id == self._lease_id, self._replies
+        holds, replies = self._term.holds(), self._replies
         now: Optional[Client] = None
         out: List[bytes] = []
         while replies and replies[0].needs <= self._committed and (holds or not replies[0].is_look):
@@ -195,13 +198,16 @@ class Leading:
                 out.append(data)
         send(now, out)
 
-    async def _watch_lease(self) -> None:
-        """Looks at the lease whenever it was kept: replies may wait for it. Raises Lost where it is another one."""
-        while self._lease.id == self._lease_id:
+    async def _prolong(self) -> None:
+        """Lets the term go on, and out what has waited for that. Raises Lost."""
+        while True:
+            try:
+                await self._log.prolong(self._term)
+            except Unreachable:
+                await asyncio.sleep(AGAIN_SECONDS)
+                continue
             self.release()
-            self._lease.kept.clear()
-            await self._lease.kept.wait()
-        raise Lost("the lease has ended")
+            await asyncio.sleep(self._term.seconds / PARTS)
 
 
 def send(client: Optional[Client], replies: List[bytes]) -> None:

@@ -20,10 +20,10 @@ MOST_BYTES = 1_000_000
 """The most bytes of an entry: etcd takes requests of 1,572,864 bytes unless it is told otherwise."""
 PAGE = 8
 """Entries that are read at once: 8 MB at most."""
-NOT_FOUND = 5
-"""How etcd's gateway tells that there is no such lease."""
-REQUEST_SECONDS = 3.0
+REQUEST_SECONDS = 2.0
 AGAIN_SECONDS = 0.1
+COMPACTED = 1_000
+"""etcd forgets so many revisions at once."""
 
 Said = Dict[str, Any]
 """What a member says of itself."""
@@ -36,6 +36,22 @@ class Lost(Exception):
 class Leader(NamedTuple):
     term: int
     said: Said
+
+
+class Term:
+    """A time in which one member may append. `holds` says whether it lasts, by this machine's clock and less a margin: etcd ends it no
+    earlier than `seconds` behind the last request that prolonged it."""
+
+    def __init__(self, number: int, value: bytes, seconds: int, margin: float) -> None:
+        self.number, self.value, self.seconds = number, value, seconds
+        self._margin, self._until = margin, 0.0
+
+    def holds(self) -> bool:
+        return clock() < self._until
+
+    def prolong(self, began: float) -> None:
+        """A request that was sent at this moment has prolonged it."""
+        self._until = began + self.seconds - self._margin
 
 
 class Snapshot(NamedTuple):
@@ -70,11 +86,12 @@ class Log:
         self._prefix, self._members = f"{name}/".encode(), f"{name}.members/".encode()
         self._leader, self._first, self._schema = (self._prefix + it for it in (b"leader", b"first", b"schema"))
         self._entries = self._prefix + b"log/"
-        # (a connection for each purpose, so that a lease isn't kept waiting behind an entry)
-        self._appending, self._reading, self._watching = (Etcd(urls, REQUEST_SECONDS) for _ in range(3))
+        self._compacted = 0
+        # (a connection for each purpose, so that a term isn't kept waiting behind an entry)
+        self._appending, self._reading, self._watching, self._electing = (Etcd(urls, REQUEST_SECONDS) for _ in range(4))
 
     def close(self) -> None:
-        for it in (self._appending, self._reading, self._watching):
+        for it in (self._appending, self._reading, self._watching, self._electing):
             it.close()
 
     def _key(self, number: int) -> bytes:
@@ -119,11 +136,11 @@ class Log:
 
     # Appending
 
-    async def append(self, number: int, value: bytes, term: int) -> None:
+    async def append(self, number: int, value: bytes, term: Term) -> None:
         """Appends an entry, asking until etcd has answered: it is committed behind this. Raises Lost where the term has ended; then
         the entry may be there or not."""
         asked = {
-            "compare": [is_new(self._key(number)), is_made_at(self._leader, term)],
+            "compare": [is_new(self._key(number)), is_made_at(self._leader, term.number)],
             "success": [put(self._key(number), value)],
             "failure": [ranged(self._key(number)), ranged(self._leader)],
         }
@@ -132,32 +149,65 @@ class Log:
             return
         found, leader = pairs(answer, 0), leader_of(pairs(answer, 1))
         # (in this term nobody else appends: an entry of this number is the one that an unanswered request has put there)
-        if not (found and leader and leader.term == term and found[0].value == value):
+        if not (found and leader and leader.term == term.number and found[0].value == value):
             raise Lost("another member has appended, or the lease has ended")
 
-    async def elect(self, lease: int, said: Said) -> Optional[int]:
-        """Asks to be the leader. Answers the term, or None where another one is."""
-        value = json.dumps(said).encode()
-        asked = {"compare": [is_new(self._leader)], "success": [put(self._leader, value, lease)], "failure": [ranged(self._leader)]}
-        answer = await self._reading.post("/v3/kv/txn", asked)
+    async def elect(self, said: Said, seconds: int, margin: float) -> Optional[Term]:
+        """Asks to be the leader. Answers the term, or None where another one is. Raises Unreachable; asked again, it knows an election
+        that was won and not answered by what the member says, which is to be of this election alone."""
+        value, began = json.dumps(said).encode(), clock()
+        won = put(self._leader, value, await self._granted(seconds))
+        asked = {"compare": [is_new(self._leader)], "success": [won], "failure": [ranged(self._leader)]}
+        answer = await self._electing.post("/v3/kv/txn", asked)
         if answer.get("succeeded"):
-            return revision(answer)
+            term = Term(revision(answer), value, seconds, margin)
+            term.prolong(began)
+            return term
         leader = leader_of(pairs(answer, 0))
-        return leader.term if leader and leader.said == said else None
+        return Term(leader.term, value, seconds, margin) if leader and leader.said == said else None
 
-    async def forget(self, number: int, term: int) -> None:
-        """Takes the entries up to this number out of the log, and lets etcd forget what stood there. Raises Lost."""
+    async def prolong(self, term: Term) -> None:
+        """Lets a term go on. Raises Lost and Unreachable.
+
+        The leader's key gets a new lease, in the place of one that is kept alive: a member of etcd that was its leader and doesn't know yet
+        that it isn't would answer that a lease lives, but can't grant one."""
+        began = clock()
+        again = put(self._leader, term.value, await self._granted(term.seconds))
+        answer = await self._electing.post("/v3/kv/txn", {"compare": [is_made_at(self._leader, term.number)], "success": [again]})
+        if not answer.get("succeeded"):
+            raise Lost("the lease has ended")
+        term.prolong(began)
+
+    async def _granted(self, seconds: int) -> int:
+        answer = await self._electing.post("/v3/lease/grant", {"TTL": str(seconds)})
+        if int(answer["TTL"]) < seconds:
+            raise Rejected(0, f"etcd grants {answer['TTL']} s of {seconds}")
+        return int(answer["ID"])
+
+    async def resign(self, term: Term) -> None:
+        """Ends a term, where it hasn't ended, so that others needn't wait for that."""
+        ended = {"compare": [is_made_at(self._leader, term.number)], "success": [deleted(self._leader, self._leader + b"\0")]}
+        try:
+            await self._electing.post("/v3/kv/txn", ended)
+        except (Unreachable, Rejected):
+            pass
+
+    async def forget(self, number: int, term: Term) -> None:
+        """Takes the entries up to this number out of the log. Raises Lost."""
         asked = {
-            "compare": [is_made_at(self._leader, term)],
+            "compare": [is_made_at(self._leader, term.number)],
             "success": [deleted(self._entries, self._key(number + 1)), put(self._first, b"%d" % (number + 1))],
         }
         answer = await self._until_answered(self._reading, "/v3/kv/txn", asked)
         if not answer.get("succeeded"):
             raise Lost("the lease has ended")
-        try:
-            await self._reading.post("/v3/kv/compaction", {"revision": str(revision(answer))})
-        except (Unreachable, Rejected):
-            pass  # (next time)
+
+    async def compact(self) -> None:
+        """Lets etcd forget what keys were before, which takes room as long as it doesn't, once that is enough to be worth it."""
+        now = revision(await self._reading.post("/v3/kv/txn", {"success": [ranged(self._leader)]}))
+        if now >= self._compacted + COMPACTED:
+            await self._reading.post("/v3/kv/compaction", {"revision": str(now)})
+            self._compacted = now
 
     async def _until_answered(self, etcd: Etcd, path: str, body: Message) -> Message:
         while True:
@@ -183,47 +233,31 @@ class Log:
 
 
 class Lease:
-    """A member's lease. `holds` says whether it lives, by this machine's clock and less a margin: etcd ends it no earlier than its time
-    behind the last request that was answered. `keep` is a task of its own."""
+    """A lease for what a member says of itself. `keep` is a task of its own."""
 
-    def __init__(self, urls: Sequence[str], seconds: int, margin: float) -> None:
-        self._etcd = Etcd(urls, max(0.5, seconds / 3))
-        self._wanted, self._margin, self._until = seconds, margin, 0.0
-        self.id = 0
-        self.kept = asyncio.Event()
-        """Is set whenever the lease was kept or replaced."""
-
-    def holds(self) -> bool:
-        return clock() < self._until
+    def __init__(self, urls: Sequence[str], seconds: int) -> None:
+        self._etcd, self._seconds, self.id = Etcd(urls, REQUEST_SECONDS), seconds, 0
 
     async def keep(self) -> None:
         while True:
-            began = clock()
             try:
-                seconds = await self._keep() if self.id else await self._grant()
-                self._until = began + seconds - self._margin
-                self.kept.set()
-                await asyncio.sleep(self._wanted / 5)
-            except Unreachable:
+                if not await self._is_kept():
+                    self.id = int((await self._etcd.post("/v3/lease/grant", {"TTL": str(self._seconds)}))["ID"])
+                await asyncio.sleep(self._seconds / 4)
+            except (Unreachable, Rejected):
                 await asyncio.sleep(AGAIN_SECONDS)
 
-    async def _keep(self) -> int:
-        """For how many seconds it lives now. Where it is gone there is a new one."""
+    async def _is_kept(self) -> bool:
+        if not self.id:
+            return False
         answer = await self._etcd.post("/v3/lease/keepalive", {"ID": str(self.id)})
-        seconds = int(answer["result"].get("TTL", 0))
-        return seconds or await self._grant()
-
-    async def _grant(self) -> int:
-        self._until = 0.0
-        answer = await self._etcd.post("/v3/lease/grant", {"TTL": str(self._wanted)})
-        self.id = int(answer["ID"])
-        return int(answer["TTL"])
+        return int(answer["result"].get("TTL", 0)) > 0
 
     async def leave(self) -> None:
-        """Ends the lease, so that others needn't wait for its end. `keep` takes another one."""
-        lease, self.id, self._until = self.id, 0, 0.0
+        """Ends the lease."""
         try:
-            if lease:
-                await self._etcd.post("/v3/lease/revoke", {"ID": str(lease)})
+            if self.id:
+                await self._etcd.post("/v3/lease/revoke", {"ID": str(self.id)})
         except (Unreachable, Rejected):
             pass
+        self._etcd.close()

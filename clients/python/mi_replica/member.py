@@ -18,10 +18,12 @@ from mi_replica.etcd import Rejected, Unreachable
 from mi_replica.following import Behind, Diverged, Following, replay
 from mi_replica.leading import Leading
 from mi_replica.lines import REVISION, said
-from mi_replica.log import AGAIN_SECONDS, Lease, Log, Lost
+from mi_replica.log import AGAIN_SECONDS, Lease, Log, Lost, Term
 from mi_replica.own import Gone, Own, own_of
 
 SAY_SECONDS = 1.0
+MEMBER_SECONDS = 5
+"""So long after a member is gone what it said is gone too."""
 FORGET_SECONDS = 5.0
 LEAST_COPIES = 2
 """An entry leaves the log where so many members have it in their checkpoints."""
@@ -69,7 +71,7 @@ class Member:
         self._settings = settings
         self._address = settings.address or f"{settings.host}:{settings.port}"
         self._log = Log(settings.etcd, settings.name)
-        self._lease = Lease(settings.etcd, settings.lease, settings.margin)
+        self._lease = Lease(settings.etcd, MEMBER_SECONDS)
         self._clients = Clients()
         self._clients.on_checkpoint = self._send_checkpoint
         self._temporary = tempfile.TemporaryDirectory(prefix="mi_replica-")
@@ -131,12 +133,16 @@ class Member:
             term = await self._elected()
             if term:
                 break
-        self._term = term
-        note(f"leads in term {term}")
-        found = await following.catch_up()
-        if not found.leader or found.leader.term != term:
-            raise Lost("the lease ended before the log was read")
-        await self._lead(own, following.number, term)
+        self._term = term.number
+        note(f"leads in term {term.number}")
+        try:
+            found = await following.catch_up()
+            if not found.leader or found.leader.term != term.number:
+                raise Lost("the lease ended before the log was read")
+            await self._lead(own, following.number, term)
+        finally:
+            self._clients.cut_all()
+            await self._log.resign(term)
 
     async def _load(self, own: Own) -> int:
         """Asks the server the newest checkpoint, and answers up to which entry that goes."""
@@ -150,27 +156,19 @@ class Member:
         self._tail, self._tail_bytes, self._checkpoint = [], 0, number
         return number
 
-    async def _elected(self) -> Optional[int]:
+    async def _elected(self) -> Optional[Term]:
         """The term, where this member was elected."""
-        if not self._lease.holds():
-            await asyncio.sleep(AGAIN_SECONDS)
-            return None
         # (what it says is of this time alone, so that an unanswered election is known again, and an older one isn't)
         me = {"address": self._address, "once": secrets.token_hex(8)}
         while True:
             try:
-                return await self._log.elect(self._lease.id, me)
+                return await self._log.elect(me, self._settings.lease, self._settings.margin)
             except Unreachable:
                 await asyncio.sleep(AGAIN_SECONDS)
-            except Rejected as error:  # (the lease has ended)
-                note(f"no election: {error}")
-                await asyncio.sleep(AGAIN_SECONDS)
-                return None
 
-    async def _lead(self, own: Own, number: int, term: int) -> None:
+    async def _lead(self, own: Own, number: int, term: Term) -> None:
         self._role, self._leader = "leader", self._address
-        s = self._settings
-        leading = Leading(own, self._log, self._lease, self._clients, term, number, s.most_lines)
+        leading = Leading(own, self._log, self._clients, term, number, self._settings.most_lines)
         leading.on_entry, leading.on_member = self._took, self._status
         forgetting = asyncio.ensure_future(self._forget(term))
         try:
@@ -178,8 +176,6 @@ class Member:
         finally:
             forgetting.cancel()
             await asyncio.gather(forgetting, return_exceptions=True)
-            self._clients.cut_all()
-            await self._lease.leave()
 
     # What it tells
 
@@ -231,7 +227,7 @@ class Member:
         finally:
             self._writing = None
 
-    async def _forget(self, term: int) -> None:
+    async def _forget(self, term: Term) -> None:
         """Takes entries out of the log that enough members have in their checkpoints."""
         done = 0
         while True:
@@ -241,6 +237,7 @@ class Member:
                 if len(found) >= LEAST_COPIES and min(found) > done:
                     done = min(found)
                     await self._log.forget(done, term)
+                await self._log.compact()
             except (Unreachable, Rejected, Lost) as error:
                 note(f"the log stays as it is: {error}")
 

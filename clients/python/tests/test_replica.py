@@ -15,7 +15,7 @@ from mi_replica.clients import Clients
 from mi_replica.etcd import behind
 from mi_replica.following import Diverged, Following, replay
 from mi_replica.leading import Leading
-from mi_replica.log import Leader, Lost
+from mi_replica.log import Leader, Lost, Term, clock
 from mi_replica.member import schema_hash
 from mi_replica.own import Piped
 
@@ -99,7 +99,8 @@ class FakeLog:
     """A log whose entries are committed once `may` is set, or which a member has lost."""
 
     def __init__(self) -> None:
-        self.may, self.entries, self.is_lost = asyncio.Event(), [], False  # type: Any, List[bytes], bool
+        self.may, self.entries = asyncio.Event(), []  # type: Any, List[bytes]
+        self.is_lost, self.is_ended, self.is_reached = False, False, True
         self.may.set()
 
     async def append(self, number: int, value: bytes, term: int) -> None:
@@ -109,13 +110,11 @@ class FakeLog:
         assert number == len(self.entries) + 1
         self.entries.append(value)
 
-
-class FakeLease:
-    def __init__(self) -> None:
-        self.id, self.is_held, self.kept = 7, True, asyncio.Event()
-
-    def holds(self) -> bool:
-        return self.is_held
+    async def prolong(self, term: Term) -> None:
+        if self.is_ended:
+            raise Lost("by the test")
+        if self.is_reached:
+            term.prolong(clock())
 
 
 class Talk:
@@ -147,7 +146,7 @@ class Scene:
     """A leader of an empty log, or a follower, with its own server."""
 
     async def begin(self, lines: Tuple[bytes, ...] = ()) -> None:
-        self.log, self.lease, self.clients, self.own = FakeLog(), FakeLease(), Clients(), Piped(kit.program(), None)
+        self.log, self.clients, self.own = FakeLog(), Clients(), Piped(kit.program(), None)
         await self.own.start()
         if lines:
             await self.own.ask(lines)
@@ -155,7 +154,8 @@ class Scene:
         self.talks: List[Talk] = []
 
     def lead(self, most_lines: int = 0) -> None:
-        leading = Leading(self.own, self.log, self.lease, self.clients, 1, 0, most_lines)  # type: ignore[arg-type]
+        term = Term(1, b"", 1, 0.5)
+        leading = Leading(self.own, self.log, self.clients, term, 0, most_lines)  # type: ignore[arg-type]
         leading.on_member = lambda: b'{"role":"leader"}'
         self.running = asyncio.ensure_future(leading.run())
 
@@ -205,11 +205,11 @@ class Replies(unittest.TestCase):
     def test_a_look_up_waits_for_the_lease(self) -> None:
         async def act(it: Scene) -> None:
             one = await it.talk()
-            it.lease.is_held = False
+            it.log.is_reached = False
+            await asyncio.sleep(0.8)  # (the term lasted for half a second)
             one.send(b'{"cmd":"size"}\n')
             await one.nothing()
-            it.lease.is_held = True
-            it.lease.kept.set()
+            it.log.is_reached = True
             self.assertEqual(await one.reply(), b'{"ok":true,"size":0}\n')
 
         self.play(act)
@@ -228,10 +228,9 @@ class Replies(unittest.TestCase):
 
         self.play(act)
 
-    def test_another_lease_ends_the_term(self) -> None:
+    def test_a_lease_that_is_gone_ends_the_term(self) -> None:
         async def act(it: Scene) -> None:
-            it.lease.id = 8
-            it.lease.kept.set()
+            it.log.is_ended = True
             with self.assertRaises(Lost):
                 await it.running
 
