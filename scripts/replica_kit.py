@@ -133,14 +133,14 @@ def asked(port, line, seconds=3.0):
 class Members:
     """Three members of one ledger. Each has a folder of its own."""
 
-    def __init__(self, name, urls, path, folder, *more, schema=None):
+    def __init__(self, name, urls, path, folder, *more, client=None):
         self.name, self.urls = name, urls
         self.ports = [program.free_port() for _ in range(3)]
         self.folder, self.all = folder, []
-        env = {**os.environ, "PYTHONPATH": CLIENT, "PYTHONDONTWRITEBYTECODE": "1"}
+        env = {**os.environ, "PYTHONPATH": client or CLIENT, "PYTHONDONTWRITEBYTECODE": "1"}
         for n, port in enumerate(self.ports):
             words = [sys.executable, "-m", "mi_replica", "--etcd", ",".join(urls[n:] + urls[:n]), "--name", name, "--program", path]
-            words += ["--listen", str(port), *(["--schema", schema] if schema else []), *(it.replace("FOLDER", f"{folder}/{name}-m{n}") for it in more)]
+            words += ["--listen", str(port), *(it.replace("FOLDER", f"{folder}/{name}-m{n}") for it in more)]
             self.all.append(Process(f"{name}-m{n}", words, folder, env))
 
     def forget(self, member):

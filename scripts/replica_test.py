@@ -1,7 +1,7 @@
 #!/usr/bin/env python3
 """Failures of a ledger's members (clients/python/mi_replica) and of etcd's, and a check that nothing was lost.
 
-    replica_test.py [--short | --failures N] [--seed N] [--program FILE] [--seconds N]
+    replica_test.py [--short | --failures N] [--seed N] [--program FILE] [--seconds N] [--kinds KIND,..]
     replica_test.py --figures [--program FILE]
 
 Three members of etcd and three of a ledger run on this machine. While clients change its tables, in blocks too, members are killed,
@@ -36,9 +36,9 @@ SETTINGS = ["--lease", "2", "--margin", "0.4", "--folder", "FOLDER", "--checkpoi
 class Run:
     """One ledger with its clients, until it is checked."""
 
-    def __init__(self, name, etcds, path, folder, seed):
+    def __init__(self, name, etcds, options, folder, seed):
         self.etcds, self.random = etcds, random.Random(seed)
-        self.members = Members(name, etcds.urls, path, folder, *SETTINGS)
+        self.members = Members(name, etcds.urls, options.program, folder, *SETTINGS, client=options.client)
         self.waits = []
         self.recorder = Recorder(name, etcds.urls)
         self.recorder.start()
@@ -49,7 +49,8 @@ class Run:
         except BaseException:
             self.members.close()
             raise
-        self.talkers = [register] + [Talker(n, self.members.ports, seed, 0.04) for n in range(1, 5)]
+        # (two of the clients wait through a stop of the leader, and so see what it tells them when it wakes)
+        self.talkers = [register] + [Talker(n, self.members.ports, seed, 0.04, 2.0 if n < 3 else 20.0) for n in range(1, 5)]
         self.readers = [Reader(it, register) for it in self.members.ports]
         for it in (*self.talkers, *self.readers):
             it.start()
@@ -124,7 +125,15 @@ class Run:
         self.members.close()
 
 
-def runs(options, path):
+def kinds_of(options, rng, count):
+    """Which failures come."""
+    if options.short:
+        return SHORT
+    named = options.kinds.split(",") if options.kinds else list(KINDS)
+    return rng.choices(named, [KINDS[it] for it in named], k=count)
+
+
+def runs(options):
     """The failures, run by run. Those that happened, with the times until a line was acknowledged again."""
     waits, rng = [], random.Random(options.seed)
     end = time.monotonic() + options.seconds
@@ -133,10 +142,9 @@ def runs(options, path):
         try:
             while len(waits) < options.failures and time.monotonic() < end:
                 seed = rng.randrange(10**6)
-                run = Run(f"run{seed}", etcds, path, folder, seed)
+                run = Run(f"run{seed}", etcds, options, folder, seed)
                 try:
-                    kinds = SHORT if options.short else rng.choices(list(KINDS), KINDS.values(), k=min(PER_RUN, options.failures - len(waits)))
-                    for kind in kinds:
+                    for kind in kinds_of(options, rng, min(PER_RUN, options.failures - len(waits))):
                         if time.monotonic() < end:
                             run.fail(kind)
                     print(f"run of seed {seed}: {run.check()}", flush=True)
@@ -164,19 +172,21 @@ def main():
     parser.add_argument("--seed", type=int, default=1)
     parser.add_argument("--seconds", type=float, default=3600, help="begins no failure behind so many seconds")
     parser.add_argument("--program", help="mi_service or mi_server")
+    parser.add_argument("--kinds", help="these failures alone: " + ", ".join(KINDS))
+    parser.add_argument("--client", help="a folder with another mi_replica, which the members run")
     parser.add_argument("--figures", action="store_true")
     options = parser.parse_args()
     if not shutil.which("etcd"):
         print("skipped: replica_test.py needs etcd (apt-get install etcd-server)")
         return 0
-    path = options.program or program.program()
+    options.program = options.program or program.program()
     if options.short:
         options.failures = len(SHORT)
     began = time.monotonic()
     try:
         if options.figures:
-            return replica_figures.told(path)
-        waits = runs(options, path)
+            return replica_figures.told(options.program)
+        waits = runs(options)
     except (Differs, Stuck) as error:
         print(f"{type(error).__name__}: {error}")
         return 1

@@ -13,6 +13,8 @@ Streams = Tuple[asyncio.StreamReader, asyncio.StreamWriter]
 
 LARGEST_HEAD = 1 << 16
 CONNECT_SECONDS = 1.0
+EXHAUSTED = 8
+"""The code of an answer for want of room, which may be there later."""
 
 
 class Unreachable(OSError):
@@ -61,10 +63,11 @@ class Etcd:
         status, message = found
         if status == 200:
             return message
-        if status in (503, 504):  # (no leader, or its answer took too long)
+        code, why = int(message.get("code", status)), str(message.get("message", status))
+        if status in (503, 504) or code == EXHAUSTED:  # (it has no leader, or no room, or too much to do)
             self.turn()
-            raise Unreachable(f"etcd: {message.get('message', status)}")
-        raise Rejected(int(message.get("code", status)), str(message.get("message", message)))
+            raise Unreachable(f"etcd: {why}")
+        raise Rejected(code, why)
 
     def turn(self) -> None:
         """The next request goes to the next member."""
@@ -77,23 +80,14 @@ class Etcd:
         self._streams = None
 
     async def _opened(self) -> Streams:
-        if self._streams is None:
-            host, port = self._places[self._at]
-            self._streams = await asyncio.wait_for(asyncio.open_connection(host, port, limit=LARGEST_HEAD), CONNECT_SECONDS)
-        return self._streams
-
-    async def _asked(self, path: str, body: Message) -> Tuple[Streams, int, Dict[str, str]]:
-        """Sends a request and reads the head of its answer."""
-        reader, writer = await self._opened()
-        data = json.dumps(body, separators=(",", ":")).encode()
-        head = f"POST {path} HTTP/1.1\r\nHost: etcd\r\nContent-Type: application/json\r\nContent-Length: {len(data)}\r\n\r\n"
-        writer.write(head.encode() + data)
-        first, *rest = (await reader.readuntil(b"\r\n\r\n")).decode("latin-1").split("\r\n")
-        members = {name.strip().lower(): it.strip() for name, _, it in (line.partition(":") for line in rest if line)}
-        return (reader, writer), int(first.split()[1]), members
+        host, port = self._places[self._at]
+        return await asyncio.wait_for(asyncio.open_connection(host, port, limit=LARGEST_HEAD), CONNECT_SECONDS)
 
     async def _exchange(self, path: str, body: Message) -> Tuple[int, Message]:
-        (reader, _), status, members = await self._asked(path, body)
+        if self._streams is None:
+            self._streams = await self._opened()
+        reader = self._streams[0]
+        status, members = await asked(self._streams, path, body)
         if members.get("transfer-encoding") == "chunked":
             data = b"".join([it async for it in chunks(reader)])
         else:
@@ -103,13 +97,15 @@ class Etcd:
         return status, json.loads(data)
 
     async def watch(self, body: Message, silence: float) -> AsyncIterator[Message]:
-        """The results of a watch, as they come, until none has come for so many seconds. Raises Unreachable."""
+        """The results of a watch, as they come, until none has come for so many seconds. It has a connection of its own. Raises
+        Unreachable."""
+        streams: Optional[Streams] = None
         try:
-            (reader, _), status, _ = await asyncio.wait_for(self._asked("/v3/watch", body), self._timeout)
+            streams = await self._opened()
+            status, _ = await asyncio.wait_for(asked(streams, "/v3/watch", body), self._timeout)
             if status != 200:
                 raise Unreachable(f"etcd: a watch was answered {status}")
-            rest = b""
-            pieces = chunks(reader)
+            rest, pieces = b"", chunks(streams[0])
             while True:
                 try:
                     rest += await asyncio.wait_for(pieces.__anext__(), silence)
@@ -122,7 +118,19 @@ class Etcd:
             self.turn()
             raise Unreachable(f"etcd: {error or 'no answer in time'}") from error
         finally:
-            self.close()
+            if streams:
+                streams[1].transport.abort()
+
+
+async def asked(streams: Streams, path: str, body: Message) -> Tuple[int, Dict[str, str]]:
+    """Sends a request, and reads the head of its answer: the status and its members."""
+    reader, writer = streams
+    data = json.dumps(body, separators=(",", ":")).encode()
+    head = f"POST {path} HTTP/1.1\r\nHost: etcd\r\nContent-Type: application/json\r\nContent-Length: {len(data)}\r\n\r\n"
+    writer.write(head.encode() + data)
+    first, *rest = (await reader.readuntil(b"\r\n\r\n")).decode("latin-1").split("\r\n")
+    members = {name.strip().lower(): it.strip() for name, _, it in (line.partition(":") for line in rest if line)}
+    return int(first.split()[1]), members
 
 
 async def chunks(reader: asyncio.StreamReader) -> AsyncIterator[bytes]:

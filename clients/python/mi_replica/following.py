@@ -10,6 +10,7 @@ from mi_replica.clients import Client, Clients
 from mi_replica.log import AGAIN_SECONDS, Leader, Log, News, Snapshot
 from mi_replica.etcd import Unreachable
 from mi_replica.own import Own
+from mi_replica.tasks import end
 
 SILENCE_SECONDS = 2.0
 """A watch that says nothing for so long is begun anew: its member of etcd may be gone."""
@@ -63,9 +64,7 @@ class Following:
             self._clients.wake()
             await tasks[1]
         finally:
-            for it in tasks:
-                it.cancel()
-            await asyncio.gather(*tasks, return_exceptions=True)
+            await end(tasks)
 
     async def catch_up(self) -> Snapshot:
         """Asks the own server all that the log has. Answers how that stood at the last look."""

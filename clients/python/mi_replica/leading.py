@@ -13,6 +13,7 @@ from mi_replica.lines import REVISION, UNDO, belongs, is_of_member, may_start
 from mi_replica.etcd import Unreachable
 from mi_replica.log import AGAIN_SECONDS, MOST_BYTES, Log, Term
 from mi_replica.own import Gone, Own, held
+from mi_replica.tasks import first_ended
 
 MOST_ASKED = 2_000
 """Lines that are asked of the own server in one batch."""
@@ -62,15 +63,7 @@ class Leading:
     async def run(self) -> None:
         """Until Lost is raised, or Gone."""
         await self._undo(await self._own.held())  # (of a leader that is gone)
-        tasks = [asyncio.ensure_future(it) for it in (self._execute(), self._append(), self._prolong())]
-        try:
-            done, _ = await asyncio.wait(tasks, return_when=asyncio.FIRST_COMPLETED)
-            for it in done:
-                it.result()
-        finally:
-            for it in tasks:
-                it.cancel()
-            await asyncio.gather(*tasks, return_exceptions=True)
+        await first_ended([self._execute(), self._append(), self._prolong()])
 
     # Executing
 

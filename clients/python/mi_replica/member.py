@@ -20,6 +20,7 @@ from mi_replica.leading import Leading
 from mi_replica.lines import REVISION, said
 from mi_replica.log import AGAIN_SECONDS, Lease, Log, Lost, Term
 from mi_replica.own import Gone, Own, own_of
+from mi_replica.tasks import end, first_ended
 
 SAY_SECONDS = 1.0
 MEMBER_SECONDS = 5
@@ -29,6 +30,8 @@ LEAST_COPIES = 2
 """An entry leaves the log where so many members have it in their checkpoints."""
 FETCH_SECONDS = 600.0
 PAUSE_SECONDS = 0.5
+END_SECONDS = 5.0
+"""So long a member takes at most to give its term back at its end."""
 
 
 class OtherSchema(Exception):
@@ -86,15 +89,9 @@ class Member:
     async def run(self) -> None:
         """Until it is cancelled. Raises OSError where the port is taken, and OtherSchema."""
         server = await asyncio.start_server(self._clients.serve, self._settings.host, self._settings.port)
-        tasks = [asyncio.ensure_future(it) for it in (self._lease.keep(), self._say(), self._live())]
         try:
-            done, _ = await asyncio.wait(tasks, return_when=asyncio.FIRST_COMPLETED)
-            for it in done:
-                it.result()
+            await first_ended([self._lease.keep(), self._say(), self._live()], END_SECONDS)
         finally:
-            for it in tasks:
-                it.cancel()
-            await asyncio.gather(*tasks, return_exceptions=True)
             server.close()
             self._clients.cut_all()
             await self._lease.leave()
@@ -174,8 +171,7 @@ class Member:
         try:
             await leading.run()
         finally:
-            forgetting.cancel()
-            await asyncio.gather(forgetting, return_exceptions=True)
+            await end([forgetting])
 
     # What it tells
 
