@@ -118,6 +118,59 @@ class Etcds:
             return False
 
 
+class Way(threading.Thread):
+    """A member's way to etcd, which can be cut: then nothing passes, and nothing is told. What was sent meanwhile passes once it is mended."""
+
+    def __init__(self, urls):
+        super().__init__(daemon=True)
+        self._urls, self._begun = urls, threading.Event()
+        self.urls = []
+        self.start()
+        self._begun.wait(LONGEST_START)
+
+    def run(self):
+        asyncio.run(self._run())
+
+    async def _run(self):
+        self._loop, self._passes = asyncio.get_running_loop(), asyncio.Event()
+        self._passes.set()
+        for url in self._urls:
+            server = await asyncio.start_server(self._serve_to(int(url.rpartition(":")[2])), "127.0.0.1", 0)
+            self.urls.append(f"http://127.0.0.1:{server.sockets[0].getsockname()[1]}")
+        self._begun.set()
+        await asyncio.Event().wait()
+
+    def _serve_to(self, port):
+        async def serve(reader, writer):
+            try:
+                await self._passes.wait()
+                back, there = await asyncio.open_connection("127.0.0.1", port)
+            except OSError:
+                return writer.transport.abort()
+            await asyncio.gather(self._pump(reader, there), self._pump(back, writer))
+
+        return serve
+
+    async def _pump(self, reader, writer):
+        try:
+            while True:
+                data = await reader.read(1 << 16)
+                await self._passes.wait()
+                if not data:
+                    break
+                writer.write(data)
+                await writer.drain()
+        except OSError:
+            pass
+        writer.transport.close()
+
+    def cut(self):
+        self._loop.call_soon_threadsafe(self._passes.clear)
+
+    def mend(self):
+        self._loop.call_soon_threadsafe(self._passes.set)
+
+
 def asked(port, line, seconds=3.0):
     """The reply of whoever listens there to one line, or None."""
     try:
@@ -131,15 +184,17 @@ def asked(port, line, seconds=3.0):
 
 
 class Members:
-    """Three members of one ledger. Each has a folder of its own."""
+    """Three members of one ledger. Each has a folder of its own, and, where they are to be cut off at times, a way of its own to etcd."""
 
-    def __init__(self, name, urls, path, folder, *more, client=None):
+    def __init__(self, name, urls, path, folder, *more, client=None, are_cut=False):
         self.name, self.urls = name, urls
         self.ports = [program.free_port() for _ in range(3)]
         self.folder, self.all = folder, []
         env = {**os.environ, "PYTHONPATH": client or CLIENT, "PYTHONDONTWRITEBYTECODE": "1"}
+        self.ways = [Way(urls[n:] + urls[:n]) if are_cut else None for n in range(3)]
         for n, port in enumerate(self.ports):
-            words = [sys.executable, "-m", "mi_replica", "--etcd", ",".join(urls[n:] + urls[:n]), "--name", name, "--program", path]
+            reached = self.ways[n].urls if are_cut else urls[n:] + urls[:n]
+            words = [sys.executable, "-m", "mi_replica", "--etcd", ",".join(reached), "--name", name, "--program", path]
             words += ["--listen", str(port), *(it.replace("FOLDER", f"{folder}/{name}-m{n}") for it in more)]
             self.all.append(Process(f"{name}-m{n}", words, folder, env))
 

@@ -5,7 +5,7 @@
     replica_test.py --figures [--program FILE]
 
 Three members of etcd and three of a ledger run on this machine. While clients change its tables, in blocks too, members are killed,
-stopped until another leads and woken, and ended; and members of etcd are killed and stopped. After every few failures all clients end,
+stopped until another leads and woken, cut off from etcd, ended, and begun with an empty folder; and members of etcd are killed and stopped. After every few failures all clients end,
 and then: each acknowledged line is in the log, once, in its client's order and with the reply that the reference gives there; a line that
 was refused isn't; each member has applied the whole log, and its tables are the reference's. All the while the leader's look-ups are
 compared with what was acknowledged before. --short is some seconds long; --figures measures instead. Where etcd isn't installed it says
@@ -26,10 +26,11 @@ from mi_client import connect_leader
 
 PER_RUN = 20
 LONGEST_WAIT = 60
-KINDS = {"kill leader": 5, "kill member": 1, "end leader": 1, "stop leader": 3, "stop member": 1, "kill etcd": 3, "stop etcd": 2,
-         "kill both": 1, "stop both": 1, "empty member": 1}
-"""How often each happens, in proportion."""
-SHORT = ["kill leader", "stop leader", "kill etcd", "end leader"]
+KINDS = {
+    "kill leader": 5, "end leader": 1, "stop leader": 3, "cut leader": 3, "kill member": 1, "stop member": 1, "cut member": 1, "empty member": 1,
+    "kill etcd": 3, "stop etcd": 2, "kill both": 1, "stop both": 1,
+}
+SHORT = ["kill leader", "stop leader", "kill etcd", "cut leader"]
 SETTINGS = ["--lease", "2", "--margin", "0.4", "--folder", "FOLDER", "--checkpoint", "8000"]
 
 
@@ -38,7 +39,7 @@ class Run:
 
     def __init__(self, name, etcds, options, folder, seed):
         self.etcds, self.random = etcds, random.Random(seed)
-        self.members = Members(name, etcds.urls, options.program, folder, *SETTINGS, client=options.client)
+        self.members = Members(name, etcds.urls, options.program, folder, *SETTINGS, client=options.client, are_cut=True)
         self.waits = []
         self.recorder = Recorder(name, etcds.urls)
         self.recorder.start()
@@ -61,29 +62,40 @@ class Run:
     def fail(self, kind):
         """One failure: until lines are acknowledged again, and all is there again."""
         what, _, whom = kind.partition(" ")
-        leader = self.members.wait_for_leader()
-        chosen = []
-        if whom in ("leader", "both"):
-            chosen.append(self.members.all[leader])
+        number = self.members.wait_for_leader()
         if whom == "member":  # (one that follows)
-            chosen.append(self.members.all[(leader + self.random.choice((1, 2))) % 3])
+            number = (number + self.random.choice((1, 2))) % 3
+        chosen = [] if whom == "etcd" else [self.members.all[number]]
         if whom in ("etcd", "both"):
             chosen.append(self.random.choice(self.etcds.all))
         time.sleep(self.random.random() * 0.3)
         began = time.monotonic()
         for it in chosen:
-            {"kill": it.kill, "end": it.end, "stop": it.stop, "empty": it.kill}[what]()
-        since = time.monotonic()
-        self.waits.append((kind, self.acknowledged(since) - began))
-        if what == "stop":
+            self.begin(what, it, number)
+        self.waits.append((kind, self.acknowledged(time.monotonic()) - began))
+        if what in ("stop", "cut"):
             time.sleep(self.random.random() * 3)
-        if what == "empty":
-            self.members.forget(chosen[0])
         for it in chosen:
-            it.go_on() if what == "stop" else it.start()
+            self.mend(what, it, number)
         for n in range(3):
             self.etcds.wait(n)
         self.acknowledged(time.monotonic())
+
+    def begin(self, what, it, number):
+        if what == "cut":
+            self.members.ways[number].cut()
+        else:
+            {"kill": it.kill, "end": it.end, "stop": it.stop, "empty": it.kill}[what]()
+
+    def mend(self, what, it, number):
+        if what == "cut":
+            self.members.ways[number].mend()
+        elif what == "stop":
+            it.go_on()
+        else:
+            if what == "empty":
+                self.members.forget(it)
+            it.start()
 
     def acknowledged(self, since):
         """The moment of the first change that was acknowledged behind this one."""
