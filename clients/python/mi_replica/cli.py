@@ -51,6 +51,8 @@ def main(words: Optional[List[str]] = None) -> int:
         made.error("--name has letters, digits, - and _, at most 64")
     if not options.status and not options.listen:
         made.error("--listen is wanted, or --status")
+    if not 0 <= options.margin < options.lease:
+        made.error("--margin is less than --lease")
     try:
         return asyncio.run(status(options)) if options.status else asyncio.run(serve(options))
     except OtherSchema as error:

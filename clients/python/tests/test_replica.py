@@ -2,13 +2,17 @@
 With etcd `scripts/replica_test.py` tests them."""
 import asyncio
 import os
+import socket
 import subprocess
 import sys
+import threading
+import time
 import unittest
 from typing import Any, Awaitable, Callable, List, Tuple
 
 import kit
 
+from mi_client import Ended, Server, connect_leader
 from mi_replica import lines as known
 from mi_replica.checkpoint import TOOL, Folder, batches, header
 from mi_replica.clients import Clients
@@ -282,6 +286,66 @@ class Replies(unittest.TestCase):
             self.assertEqual(await one.reply() + await one.reply() + await one.reply(), b'{"id":0,"ok":true}\n{"ok":true,"size":1}\n')
 
         self.play(act)
+
+
+class FakeMember(threading.Thread):
+    """Says how it stands, as a member does, or stands still."""
+
+    def __init__(self, role: str, leader: str = "") -> None:
+        super().__init__(daemon=True)
+        self.said, self.listener = known.said({"leader": leader, "ok": True, "role": role}) + b"\n", socket.create_server(("127.0.0.1", 0))
+        self.port: int = self.listener.getsockname()[1]
+        self.start()
+
+    def run(self) -> None:
+        try:
+            while True:
+                stream, _ = self.listener.accept()
+                with stream, stream.makefile("rb") as lines:
+                    for _ in lines:
+                        if b"still" in self.said:
+                            time.sleep(2)
+                        stream.sendall(self.said)
+        except OSError:
+            pass
+
+
+class Finding(unittest.TestCase):
+    def member(self, role: str, leader: str = "") -> FakeMember:
+        made = FakeMember(role, leader)
+        self.addCleanup(made.listener.close)
+        return made
+
+    def test_the_leader_is_found(self) -> None:
+        """Where members are gone, stand still, follow, or tell of one that the list doesn't name."""
+        leader = self.member("leader")
+        follower = self.member("follower", f"127.0.0.1:{leader.port}")
+        still = self.member("still")
+        for members in ([leader.port], [still.port, f"127.0.0.1:{leader.port}"], [1, follower.port], [follower.port, follower.port]):
+            with connect_leader(members, wait=5, answers=0.3) as db:
+                self.assertIn('"role":"leader"', db.ask_line('{"cmd":"member"}'))
+
+    def test_none_is_found(self) -> None:
+        follower = self.member("follower")
+        with self.assertRaises(Ended):
+            connect_leader([follower.port], wait=0.3)
+
+    def test_a_plain_server_is_no_member(self) -> None:
+        with Server(kit.program(), clients=1) as server, self.assertRaises(Ended):
+            connect_leader([server.port], wait=1)
+
+
+class Options(unittest.TestCase):
+    def test_words_that_are_refused(self) -> None:
+        for words in (["--name", "a b", "--listen", "8001"], ["--name", "a"], ["--name", "a", "--listen", "8001", "--lease", "2", "--margin", "2"]):
+            ran = subprocess.run([sys.executable, "-m", "mi_replica", "--etcd", "http://127.0.0.1:1", *words], capture_output=True, text=True,
+                                 env=kit.environment(), timeout=60)
+            self.assertEqual(ran.returncode, 2, ran.stderr)
+
+    def test_without_etcd_there_is_no_status(self) -> None:
+        ran = subprocess.run([sys.executable, "-m", "mi_replica", "--etcd", "http://127.0.0.1:1", "--name", "a", "--status"], capture_output=True,
+                             text=True, env=kit.environment(), timeout=60)
+        self.assertEqual((ran.returncode, ran.stderr[:12]), (4, "mi_replica: "))
 
 
 class Looks(unittest.TestCase):
