@@ -1,4 +1,4 @@
-"""Builds the package for pip (PEP 517 and 660) with the standard library alone, so that `pip install` needs no network and no
+"""Builds the packages for pip (PEP 517 and 660) with the standard library alone, so that `pip install` needs no network and no
 other package. It reads pyproject.toml and writes the archive that pip asks for; it changes nothing here."""
 from __future__ import annotations
 
@@ -13,7 +13,7 @@ from typing import Any, Dict, Iterable, List, Optional, Tuple
 from mi_client import __version__, toml_places
 
 HERE = os.path.dirname(os.path.realpath(__file__))
-PACKAGE = "mi_client"
+PACKAGES = ["mi_client", "mi_replica"]
 LONG_AGO = (1980, 1, 1, 0, 0, 0)
 """The time of every file, so that the same sources make the same archive."""
 Settings = Optional[Dict[str, Any]]
@@ -24,14 +24,14 @@ def project() -> Dict[str, Any]:
         members = toml_places.read(file.read()).value["project"].value
     found = {name: it.value for name, it in members.items()}
     if found["version"] != __version__:
-        raise SystemExit(f"pyproject.toml says {found['version']}, and {PACKAGE} is {__version__}")
+        raise SystemExit(f"pyproject.toml says {found['version']}, and {PACKAGES[0]} is {__version__}")
     return found
 
 
 def sources() -> List[str]:
-    """The package's files, from the folder of pyproject.toml."""
-    names = sorted(it for it in os.listdir(f"{HERE}/{PACKAGE}") if it.endswith(".py") or it == "py.typed")
-    return [f"{PACKAGE}/{it}" for it in names]
+    """The files of the packages, from the folder of pyproject.toml."""
+    found = [(package, it) for package in PACKAGES for it in sorted(os.listdir(f"{HERE}/{package}"))]
+    return [f"{package}/{it}" for package, it in found if it.endswith(".py") or it == "py.typed"]
 
 
 def content(name: str) -> bytes:

@@ -13,6 +13,7 @@ from mi_client.calls import Page, Revision
 from mi_client.database import Database
 from mi_client.embedded import Embedded
 from mi_client.errors import Ended, NeedsSchema, Refused, TooManyEqual
+from mi_client.members import connect_leader
 from mi_client.pipeline import Answer, Pipeline
 from mi_client.plans import Window
 from mi_client.schema import Schema
@@ -22,5 +23,5 @@ __version__ = "0.1.0"
 
 __all__ = [
     "Answer", "Database", "Embedded", "Ended", "NeedsSchema", "Page", "Pipeline", "Refused", "Revision", "Schema", "Server", "TooManyEqual",
-    "Window",
+    "Window", "connect_leader",
 ]

@@ -19,7 +19,7 @@ class Channel:
     def __init__(self, reading: int, writing: int, write: Callable[[bytes], int], timeout: Optional[float] = None) -> None:
         """Use `of_pipes` or `of_socket`. `write` takes some bytes at once, or raises BlockingIOError."""
         self._reading, self._writing, self._taken_at_once = reading, writing, write
-        self._timeout = None if timeout is None else max(1, int(timeout * 1000))
+        self.wait_for(timeout)
         self._in, self._both = select.poll(), select.poll()
         self._in.register(reading, IN)
         self._both.register(reading, IN)
@@ -47,6 +47,10 @@ class Channel:
             # it is asked to do so at once; the system forgets that with time)
             made._acknowledge = lambda: stream.setsockopt(socket.IPPROTO_TCP, socket.TCP_QUICKACK, 1)
         return made
+
+    def wait_for(self, timeout: Optional[float]) -> None:
+        """A wait that takes longer than so many seconds raises TimeoutError."""
+        self._timeout: Optional[int] = None if timeout is None else max(1, int(timeout * 1000))
 
     def queued(self) -> int:
         """How many bytes are still to be written."""

@@ -45,16 +45,18 @@ class Database(Walks):
         _opened.add(self)
 
     @classmethod
-    def connect(cls, port: int, timeout: Optional[float] = None, schema: AnySchema = None, wait: float = 0.0) -> Database:
+    def connect(
+        cls, port: int, timeout: Optional[float] = None, schema: AnySchema = None, wait: float = 0.0, host: str = "127.0.0.1"
+    ) -> Database:
         """A connection to a server that listens on this port of 127.0.0.1, or does so within `wait` seconds; else OSError is
         raised. The server answers once all its clients have come. A reply that takes longer than `timeout` seconds ends the
         connection. With the `schema` that the server was started with, refusals say which column is at fault, and keys can be
-        given by columns."""
+        given by columns. Another `host` has members of a ledger alone: servers listen on 127.0.0.1."""
         read = Schema.of(schema)
         end = time.monotonic() + wait
         while True:
             try:
-                stream = socket.create_connection(("127.0.0.1", port), timeout=timeout)
+                stream = socket.create_connection((host, port), timeout=timeout)
                 break
             except ConnectionRefusedError:
                 if time.monotonic() >= end:
@@ -95,6 +97,11 @@ class Database(Walks):
 
     def __exit__(self, *_: object) -> None:
         self.close()
+
+    def answer_within(self, timeout: Optional[float]) -> None:
+        """From here on a reply that takes longer than so many seconds ends the connection; None waits."""
+        with self._lock:
+            self._channel.wait_for(timeout)
 
     def is_open(self) -> bool:
         """Whether commands can be asked: the connection wasn't closed and hasn't broken off, as far as is known."""

@@ -16,7 +16,8 @@ import kit
 
 import mi_client
 
-MODULES = sorted(glob.glob(f"{kit.CLIENT}/mi_client/*.py"))
+PACKAGES = ["mi_client", "mi_replica"]
+MODULES = sorted(it for package in PACKAGES for it in glob.glob(f"{kit.CLIENT}/{package}/*.py"))
 LINTER = f"{kit.CLIENT}/mi_client/lint.py"
 """It has no hints."""
 INSTALLED = ["README.md", "pyproject.toml", "build_backend.py"]
@@ -30,11 +31,12 @@ class Pip(unittest.TestCase):
             self.skipTest("this Python has no pip")
         folder = kit.folder(self)
         venv.create(f"{folder}/venv", symlinks=True)
-        os.makedirs(f"{folder}/share/mi_client")
         for it in INSTALLED:
+            os.makedirs(f"{folder}/share", exist_ok=True)
             shutil.copy(f"{kit.CLIENT}/{it}", f"{folder}/share/")
-        for it in [*MODULES, f"{kit.CLIENT}/mi_client/py.typed"]:
-            shutil.copy(it, f"{folder}/share/mi_client/")
+        for it in [*MODULES, *(f"{kit.CLIENT}/{package}/py.typed" for package in PACKAGES)]:
+            os.makedirs(f"{folder}/share/{os.path.basename(os.path.dirname(it))}", exist_ok=True)
+            shutil.copy(it, f"{folder}/share/{os.path.basename(os.path.dirname(it))}/")
         schema = f"{kit.TOP}/examples/shop.toml"
         before = sorted(os.listdir(kit.CLIENT))
         for words in [[kit.CLIENT], [f"{folder}/share"], ["-e", kit.CLIENT]]:
@@ -44,6 +46,7 @@ class Pip(unittest.TestCase):
                 said = self.run_in(folder, "weltiyo", typed='{"cmd":"size"}\n')
                 self.assertEqual(said, '{"ok":true,"size":0}\n')
                 self.assertEqual(self.run_in(folder, "weltiyo-lint", schema), f"{schema}: ok\n")
+                self.assertIn("--etcd URL,..", self.run_in(folder, "weltiyo-replica", "--help"))
                 code = "import mi_client, os; print(os.path.exists(os.path.dirname(mi_client.__file__) + '/py.typed'), mi_client.__version__)"
                 self.assertEqual(self.run_in(folder, "python", "-c", code), f"True {mi_client.__version__}\n")
         self.pip(folder, "uninstall", "--yes", "weltiyo")
@@ -87,7 +90,7 @@ class Sources(unittest.TestCase):
             name = os.path.basename(path)[:-3]
             if name in ("__main__", "lint"):
                 continue
-            module = importlib.import_module(f"mi_client.{name}")
+            module = importlib.import_module(f"{os.path.basename(os.path.dirname(path))}.{name}")
             kinds = [it for it in vars(module).values() if inspect.isclass(it) and it.__module__ == module.__name__]
             for it in [module, *kinds]:
                 for what in vars(it).values():
@@ -110,7 +113,8 @@ class Sources(unittest.TestCase):
         if not words[0]:
             self.skipTest("neither mypy nor pyright is there")
         strict = ["--strict", "--python-version", "3.9"] if "mypy" in words[-1] else []
-        ran = subprocess.run([*words, *strict, f"{kit.CLIENT}/mi_client"], capture_output=True, text=True, timeout=300)
+        folders = [f"{kit.CLIENT}/{it}" for it in PACKAGES]
+        ran = subprocess.run([*words, *strict, *folders], capture_output=True, text=True, timeout=300)
         self.assertEqual(ran.returncode, 0, ran.stdout)
 
 

@@ -1,0 +1,100 @@
+"""The options of `python3 -m mi_replica`, and the table that --status prints."""
+from __future__ import annotations
+
+import argparse
+import asyncio
+import os
+import re
+import signal
+import sys
+from typing import Any, Dict, List, Optional, Tuple
+
+from mi_replica.etcd import Rejected, Unreachable
+from mi_replica.log import Log, Snapshot
+from mi_replica.member import Member, OtherSchema, Settings
+from mi_replica.own import Gone
+
+ENDS = (signal.SIGTERM, signal.SIGINT)
+
+
+def parser() -> argparse.ArgumentParser:
+    made = argparse.ArgumentParser(prog="mi_replica", description="A member of a ledger whose lines etcd keeps in order.")
+    made.add_argument("--etcd", required=True, metavar="URL,..", help="the members of etcd, as http://127.0.0.1:2379")
+    made.add_argument("--name", required=True, metavar="LEDGER", help="the ledger: letters, digits, - and _")
+    made.add_argument("--status", action="store_true", help="tells how the members and the log stand, and nothing else")
+    made.add_argument("--program", default=os.environ.get("MI_SERVICE", "mi_service"), help="the server of its own: mi_service or mi_server (%(default)s)")
+    made.add_argument("--body", choices=["service", "pipes"], help="how it is asked; by the program's name where this is left out")
+    made.add_argument("--schema", metavar="FILE", help="the schema, the same for all members")
+    made.add_argument("--listen", type=int, metavar="PORT", help="where clients connect")
+    made.add_argument("--host", default="127.0.0.1", help="the address to listen on; there are no passwords (%(default)s)")
+    made.add_argument("--address", default="", metavar="HOST:PORT", help="where clients and other members reach it, where that is another one")
+    made.add_argument("--folder", metavar="FOLDER", help="where its checkpoints stand; without it none is written and the log isn't shortened")
+    made.add_argument("--checkpoint", type=int, default=16 << 20, metavar="BYTES", help="bytes of lines from one checkpoint to the next (%(default)s)")
+    made.add_argument("--lease", type=int, default=3, metavar="SECONDS", help="so long after its leader is gone the ledger has none (%(default)s)")
+    made.add_argument("--margin", type=float, default=0.5, metavar="SECONDS", help="so much earlier the leader takes its lease for ended (%(default)s)")
+    made.add_argument("--batch", type=int, default=0, metavar="LINES", help="the most lines of an entry (as many as wait, up to 1 MB)")
+    return made
+
+
+def settings(options: argparse.Namespace) -> Settings:
+    return Settings(
+        etcd=options.etcd.split(","), name=options.name, program=options.program, port=options.listen, schema=options.schema, host=options.host,
+        address=options.address, folder=options.folder, lease=options.lease, margin=options.margin, most_lines=options.batch,
+        checkpoint=options.checkpoint, body=options.body or "",
+    )
+
+
+def main(words: Optional[List[str]] = None) -> int:
+    made = parser()
+    options = made.parse_args(words)
+    if not re.fullmatch(r"[A-Za-z0-9_-]{1,64}", options.name):
+        made.error("--name has letters, digits, - and _, at most 64")
+    if not options.status and not options.listen:
+        made.error("--listen is wanted, or --status")
+    if not 0 <= options.margin < options.lease:
+        made.error("--margin is less than --lease")
+    try:
+        return asyncio.run(status(options)) if options.status else asyncio.run(serve(options))
+    except OtherSchema as error:
+        print(f"mi_replica: schema: {error}", file=sys.stderr)
+        return 3
+    except (OSError, Rejected, Gone) as error:
+        print(f"mi_replica: {error}", file=sys.stderr)
+        return 4
+
+
+async def serve(options: argparse.Namespace) -> int:
+    """A member until it is told to end. Its lease is given back then, so that another one leads at once."""
+    running = asyncio.ensure_future(Member(settings(options)).run())
+    for it in ENDS:
+        asyncio.get_running_loop().add_signal_handler(it, running.cancel)
+    try:
+        await running
+    except asyncio.CancelledError:
+        pass
+    return 0
+
+
+async def status(options: argparse.Namespace) -> int:
+    log = Log(options.etcd.split(","), options.name)
+    try:
+        found, last, members = await asked(log, len(options.etcd.split(",")))
+    finally:
+        log.close()
+    print(f"{options.name}: " + (f"{found.leader.said['address']} leads in term {found.leader.term}" if found.leader else "nobody leads"))
+    print(f"  the log has the entries {found.first} to {last}" if last else "  the log is empty")
+    for name in sorted(members):
+        it = members[name]
+        print(f"  {name:<24} {it['role']:<9} applied {it['applied']:<10} checkpoint {it['checkpoint']}")
+    return 0 if found.leader else 1
+
+
+async def asked(log: Log, tries: int) -> Tuple[Snapshot, int, Dict[str, Dict[str, Any]]]:
+    """What etcd says, by one of its members."""
+    while True:
+        try:
+            return await log.read(0, 1), await log.last(), await log.members()
+        except Unreachable:
+            tries -= 1
+            if not tries:
+                raise

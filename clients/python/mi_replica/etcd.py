@@ -1,0 +1,190 @@
+"""Requests to etcd by its JSON gateway (version 3.4: paths below /v3, keys and values in base64), over connections that stay open.
+It knows nothing of ledgers. An `Etcd` asks one member at a time and turns to the next where that fails; it never asks twice."""
+from __future__ import annotations
+
+import asyncio
+import base64
+import json
+from typing import Any, AsyncIterator, Dict, List, Optional, Sequence, Tuple
+from urllib.parse import urlsplit
+
+Message = Dict[str, Any]
+Streams = Tuple[asyncio.StreamReader, asyncio.StreamWriter]
+
+LARGEST_HEAD = 1 << 16
+CONNECT_SECONDS = 1.0
+EXHAUSTED = 8
+"""The code of an answer for want of room, which may be there later."""
+
+
+class Unreachable(OSError):
+    """The member of etcd that was asked gave no answer: what was asked may be done or not."""
+
+
+class Rejected(Exception):
+    """etcd answered that it doesn't do this: its code, and why."""
+
+    def __init__(self, code: int, why: str) -> None:
+        super().__init__(why)
+        self.code = code
+
+
+def text64(data: bytes) -> str:
+    """Bytes as a key or value of a request."""
+    return base64.b64encode(data).decode()
+
+
+def behind(prefix: bytes) -> bytes:
+    """The end of the range of all keys with this prefix."""
+    return prefix[:-1] + bytes([prefix[-1] + 1])
+
+
+class Etcd:
+    """One exchange at a time with one of the members at `urls`, which are http://HOST:PORT."""
+
+    def __init__(self, urls: Sequence[str], timeout: float) -> None:
+        parts = [urlsplit(it) for it in urls]
+        self._places = [(it.hostname or "127.0.0.1", it.port or 2379) for it in parts]
+        self._timeout, self._at = timeout, 0
+        self._streams: Optional[Streams] = None
+        self._lock = asyncio.Lock()
+
+    async def post(self, path: str, body: Message) -> Message:
+        """The answer. Raises Unreachable and Rejected."""
+        async with self._lock:
+            try:
+                found = await asyncio.wait_for(self._exchange(path, body), self._timeout)
+            except (OSError, EOFError, ValueError, asyncio.TimeoutError, asyncio.LimitOverrunError) as error:
+                self.turn()
+                raise Unreachable(f"etcd: {error or 'no answer in time'}") from error
+            except BaseException:
+                self.close()
+                raise
+        status, message = found
+        if status == 200:
+            return message
+        code, why = int(message.get("code", status)), str(message.get("message", status))
+        if status in (503, 504) or code == EXHAUSTED:  # (it has no leader, or no room, or too much to do)
+            self.turn()
+            raise Unreachable(f"etcd: {why}")
+        raise Rejected(code, why)
+
+    def turn(self) -> None:
+        """The next request goes to the next member."""
+        self.close()
+        self._at = (self._at + 1) % len(self._places)
+
+    def close(self) -> None:
+        if self._streams:
+            self._streams[1].transport.abort()
+        self._streams = None
+
+    async def _opened(self) -> Streams:
+        host, port = self._places[self._at]
+        return await asyncio.wait_for(asyncio.open_connection(host, port, limit=LARGEST_HEAD), CONNECT_SECONDS)
+
+    async def _exchange(self, path: str, body: Message) -> Tuple[int, Message]:
+        if self._streams is None:
+            self._streams = await self._opened()
+        reader = self._streams[0]
+        status, members = await asked(self._streams, path, body)
+        if members.get("transfer-encoding") == "chunked":
+            data = b"".join([it async for it in chunks(reader)])
+        else:
+            data = await reader.readexactly(int(members.get("content-length", "0")))
+        if members.get("connection") == "close":
+            self.close()
+        return status, json.loads(data)
+
+    async def watch(self, body: Message, silence: float) -> AsyncIterator[Message]:
+        """The results of a watch, as they come, until none has come for so many seconds. It has a connection of its own. Raises
+        Unreachable."""
+        streams: Optional[Streams] = None
+        try:
+            streams = await self._opened()
+            status, _ = await asyncio.wait_for(asked(streams, "/v3/watch", body), self._timeout)
+            if status != 200:
+                raise Unreachable(f"etcd: a watch was answered {status}")
+            rest, pieces = b"", chunks(streams[0])
+            while True:
+                try:
+                    rest += await asyncio.wait_for(pieces.__anext__(), silence)
+                except asyncio.TimeoutError:
+                    return
+                *whole, rest = rest.split(b"\n")
+                for line in whole:
+                    yield json.loads(line)["result"]
+        except (OSError, EOFError, ValueError, KeyError, StopAsyncIteration, asyncio.TimeoutError, asyncio.LimitOverrunError) as error:
+            self.turn()
+            raise Unreachable(f"etcd: {error or 'no answer in time'}") from error
+        finally:
+            if streams:
+                streams[1].transport.abort()
+
+
+async def asked(streams: Streams, path: str, body: Message) -> Tuple[int, Dict[str, str]]:
+    """Sends a request, and reads the head of its answer: the status and its members."""
+    reader, writer = streams
+    data = json.dumps(body, separators=(",", ":")).encode()
+    head = f"POST {path} HTTP/1.1\r\nHost: etcd\r\nContent-Type: application/json\r\nContent-Length: {len(data)}\r\n\r\n"
+    writer.write(head.encode() + data)
+    first, *rest = (await reader.readuntil(b"\r\n\r\n")).decode("latin-1").split("\r\n")
+    members = {name.strip().lower(): it.strip() for name, _, it in (line.partition(":") for line in rest if line)}
+    return int(first.split()[1]), members
+
+
+async def chunks(reader: asyncio.StreamReader) -> AsyncIterator[bytes]:
+    """The pieces of a body that is sent in chunks."""
+    while True:
+        size = int((await reader.readline()).split(b";")[0], 16)
+        if not size:
+            break
+        yield (await reader.readexactly(size + 2))[:-2]
+    while (await reader.readline()).strip():
+        pass  # (what stands behind the last piece, up to an empty line)
+
+
+# Parts of a transaction
+
+
+def is_new(key: bytes) -> Message:
+    """Compares: there is no such key."""
+    return is_made_at(key, 0)
+
+
+def is_made_at(key: bytes, revision: int) -> Message:
+    """Compares: the key was made by the transaction of this revision, and wasn't deleted since."""
+    return {"key": text64(key), "target": "CREATE", "result": "EQUAL", "create_revision": str(revision)}
+
+
+def put(key: bytes, value: bytes, lease: int = 0) -> Message:
+    more = {"lease": str(lease)} if lease else {}
+    return {"request_put": {"key": text64(key), "value": text64(value), **more}}
+
+
+def ranged(key: bytes, end: bytes = b"", limit: int = 0) -> Message:
+    """The keys from `key` to before `end`, or the key alone."""
+    more = {"range_end": text64(end)} if end else {}
+    return {"request_range": {"key": text64(key), "limit": str(limit), **more}}
+
+
+def deleted(key: bytes, end: bytes) -> Message:
+    return {"request_delete_range": {"key": text64(key), "range_end": text64(end)}}
+
+
+class Pair:
+    """A key with its value and the revision at which it was made."""
+
+    def __init__(self, found: Message) -> None:
+        self.key = base64.b64decode(found["key"])
+        self.value = base64.b64decode(found.get("value", ""))
+        self.made = int(found.get("create_revision", 0))
+
+
+def pairs(answer: Message, which: int) -> List[Pair]:
+    """What the range at this place of a transaction found."""
+    return [Pair(it) for it in answer["responses"][which].get("response_range", {}).get("kvs", [])]
+
+
+def revision(answer: Message) -> int:
+    return int(answer["header"]["revision"])

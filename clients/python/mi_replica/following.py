@@ -1,0 +1,156 @@
+"""What a follower does: it asks its own server the log's entries as they come, and answers its clients' look-ups, which show an older
+state by so much as it has not read yet. Whatever changes is refused, with the leader's address."""
+from __future__ import annotations
+
+import asyncio
+from typing import Callable, Iterator, List, Optional
+
+from mi_replica import lines as known
+from mi_replica.clients import Client, Clients
+from mi_replica.log import AGAIN_SECONDS, Leader, Log, News, Snapshot
+from mi_replica.etcd import Unreachable
+from mi_replica.own import Own
+from mi_replica.tasks import end
+
+SILENCE_SECONDS = 2.0
+"""A watch that says nothing for so long is begun anew: its member of etcd may be gone."""
+MOST_ASKED = 500
+SLOW_SECONDS = 0.02
+
+
+class Diverged(Exception):
+    """The own server refused a line of the log."""
+
+
+class Behind(Exception):
+    """The log's next entry has left it: a checkpoint of another member has to be taken."""
+
+    def __init__(self, first: int) -> None:
+        super().__init__(f"the log begins with entry {first}")
+        self.first = first
+
+
+def lines_of(value: bytes) -> List[bytes]:
+    """The lines of an entry, each with its newline."""
+    return [it + b"\n" for it in value.split(b"\n")[:-1]]
+
+
+async def replay(own: Own, lines: List[bytes], place: str) -> None:
+    """Asks lines of a journal. Raises Diverged where one isn't done."""
+    for line, reply in zip(lines, await own.ask(lines)):
+        if not known.belongs(reply):
+            raise Diverged(f"{place}: {reply[:120]!r} to {line[:120]!r}")
+
+
+class Following:
+    def __init__(self, own: Own, log: Log, clients: Clients, number: int) -> None:
+        """`number` is the entry up to which the own server has the log."""
+        self._own, self._log, self._clients, self.number = own, log, clients, number
+        self.leader: Optional[Leader] = None
+        self._is_done = False
+        self.on_entry: Callable[[int, bytes], None] = lambda number, value: None
+        self.on_member: Callable[[], bytes] = lambda: b"{}"
+
+    async def until_vacant(self) -> None:
+        """Follows the log until there is no leader, and answers look-ups meanwhile. Raises Behind, Diverged and Gone."""
+        self._is_done = False
+        tasks = [asyncio.ensure_future(it) for it in (self._follow(), self._answer())]
+        try:
+            done, _ = await asyncio.wait(tasks, return_when=asyncio.FIRST_COMPLETED)
+            for it in done:
+                it.result()
+            # (the lines that are being answered are answered to the end)
+            self._is_done = True
+            self._clients.wake()
+            await tasks[1]
+        finally:
+            await end(tasks)
+
+    async def catch_up(self) -> Snapshot:
+        """Asks the own server all that the log has. Answers how that stood at the last look."""
+        while True:
+            try:
+                found = await self._log.read(self.number)
+            except Unreachable:
+                await asyncio.sleep(AGAIN_SECONDS)
+                continue
+            if found.first > self.number + 1:
+                raise Behind(found.first)
+            for number, value in found.entries:
+                await self._apply(number, value)
+            self.leader = found.leader
+            if not found.more:
+                return found
+
+    async def _apply(self, number: int, value: bytes) -> None:
+        if number <= self.number:
+            return
+        if number != self.number + 1:
+            raise Behind(number)
+        await replay(self._own, lines_of(value), f"entry {number}")
+        self.number = number
+        self.on_entry(number, value)
+
+    # The log
+
+    async def _follow(self) -> None:
+        while True:
+            found = await self.catch_up()
+            if found.leader is None:
+                return
+            try:
+                async for news in self._log.watch(found.revision + 1, SILENCE_SECONDS):
+                    await self._heard(news)
+                    if self.leader is None:
+                        break
+            except Unreachable:
+                pass  # (all is read again, from another member of etcd)
+
+    async def _heard(self, news: News) -> None:
+        if news.entry:
+            await self._apply(*news.entry)
+        else:
+            self.leader = news.leads
+
+    # Look-ups
+
+    async def _answer(self) -> None:
+        while not self._is_done:
+            clients = self._clients.next()
+            for it in clients:
+                if not it.is_slow():
+                    await self._look(it)
+                self._clients.put(it)
+            if not clients:
+                await self._clients.wait()
+            elif all(it.is_slow() for it in clients):
+                await asyncio.sleep(SLOW_SECONDS)
+
+    async def _look(self, client: Client) -> None:
+        """Answers the next lines of a client, of which only look-ups are asked of the server."""
+        lines = [client.waiting.popleft() for _ in range(min(MOST_ASKED, len(client.waiting)))]
+        told = [self._refusal(it) for it in lines]
+        asked = [line for line, refusal in zip(lines, told) if refusal is None]
+        replies = iter(await self._own.look(asked) if asked else [])
+        self._send(client, told, replies)
+        if client.is_ended and not client.waiting:
+            client.is_over = True
+            client.done.set()
+
+    def _refusal(self, line: bytes) -> Optional[bytes]:
+        """What the member says itself to a line; None to a look-up."""
+        if known.is_of_member(line):
+            return self.on_member()
+        name, refusal = known.command(line)
+        if name is None:
+            return refusal
+        return None if name in known.LOOK_UPS else known.not_leader(self.address())
+
+    @staticmethod
+    def _send(client: Client, told: List[Optional[bytes]], replies: Iterator[bytes]) -> None:
+        if told:
+            client.send(b"".join((next(replies) if it is None else it) + b"\n" for it in told))
+
+    def address(self) -> str:
+        """Where the leader listens, as far as is known."""
+        return str(self.leader.said["address"]) if self.leader else ""

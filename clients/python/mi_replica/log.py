@@ -1,0 +1,263 @@
+"""A ledger's log in etcd: its entries, who may append, and what members say of themselves. An entry is lines of a journal, and the
+entries one behind the other are one journal. It knows nothing of servers and clients.
+
+    NAME/log/<20 digits>   an entry, from 1 on
+    NAME/leader            who may append, while its lease lives; the revision at which the key was made is the leader's term
+    NAME/first             the first entry that is still there, once some have left
+    NAME/schema            what identifies the schema, so that no member of another one takes part
+    NAME.members/ID        what a member says of itself, while its lease lives
+"""
+from __future__ import annotations
+
+import asyncio
+import json
+import time
+from typing import Any, AsyncIterator, Dict, List, NamedTuple, Optional, Sequence, Tuple
+
+from mi_replica.etcd import Etcd, Message, Pair, Rejected, Unreachable, behind, deleted, is_made_at, is_new, pairs, put, ranged, revision, text64
+
+MOST_BYTES = 1_000_000
+"""The most bytes of an entry: etcd takes requests of 1,572,864 bytes unless it is told otherwise."""
+PAGE = 8
+"""Entries that are read at once: 8 MB at most."""
+REQUEST_SECONDS = 2.0
+AGAIN_SECONDS = 0.1
+COMPACTED = 1_000
+"""etcd forgets so many revisions at once."""
+
+Said = Dict[str, Any]
+"""What a member says of itself."""
+
+
+class Lost(Exception):
+    """This member may append no more: its term has ended."""
+
+
+class Leader(NamedTuple):
+    term: int
+    said: Said
+
+
+class Term:
+    """A time in which one member may append. `holds` says whether it lasts, by this machine's clock and less a margin: etcd ends it no
+    earlier than `seconds` behind the last request that prolonged it."""
+
+    def __init__(self, number: int, value: bytes, seconds: int, margin: float) -> None:
+        self.number, self.value, self.seconds = number, value, seconds
+        self._margin, self._until = margin, 0.0
+
+    def holds(self) -> bool:
+        return clock() < self._until
+
+    def prolong(self, began: float) -> None:
+        """A request that was sent at this moment has prolonged it."""
+        self._until = began + self.seconds - self._margin
+
+
+class Snapshot(NamedTuple):
+    """What stood in etcd at one moment: the entries behind a number (some of them, where `more`), and who may append."""
+
+    entries: List[Tuple[int, bytes]]
+    more: bool
+    first: int
+    leader: Optional[Leader]
+    revision: int
+
+
+class News(NamedTuple):
+    """What changed: an entry that was appended, or another leader, or none."""
+
+    entry: Optional[Tuple[int, bytes]] = None
+    leads: Optional[Leader] = None
+    is_vacant: bool = False
+
+
+def clock() -> float:
+    """Seconds of this machine, also while it sleeps."""
+    return time.clock_gettime(time.CLOCK_BOOTTIME) if hasattr(time, "CLOCK_BOOTTIME") else time.monotonic()
+
+
+def leader_of(found: Sequence[Pair]) -> Optional[Leader]:
+    return Leader(found[0].made, json.loads(found[0].value)) if found else None
+
+
+class Log:
+    def __init__(self, urls: Sequence[str], name: str) -> None:
+        self._prefix, self._members = f"{name}/".encode(), f"{name}.members/".encode()
+        self._leader, self._first, self._schema = (self._prefix + it for it in (b"leader", b"first", b"schema"))
+        self._entries = self._prefix + b"log/"
+        self._compacted = 0
+        # (a connection for each purpose, so that a term isn't kept waiting behind an entry)
+        self._appending, self._reading, self._watching, self._electing = (Etcd(urls, REQUEST_SECONDS) for _ in range(4))
+
+    def close(self) -> None:
+        for it in (self._appending, self._reading, self._watching, self._electing):
+            it.close()
+
+    def _key(self, number: int) -> bytes:
+        return self._entries + b"%020d" % number
+
+    def _number(self, key: bytes) -> int:
+        return int(key[len(self._entries):])
+
+    async def read(self, after: int, limit: int = PAGE) -> Snapshot:
+        """The entries behind this number, as they stand. Raises Unreachable."""
+        parts = [ranged(self._key(after + 1), behind(self._entries), limit + 1), ranged(self._leader), ranged(self._first)]
+        answer = await self._reading.post("/v3/kv/txn", {"success": parts})
+        found, first = pairs(answer, 0), pairs(answer, 2)
+        entries = [(self._number(it.key), it.value) for it in found]
+        return Snapshot(entries[:limit], len(entries) > limit, int(first[0].value) if first else 1, leader_of(pairs(answer, 1)), revision(answer))
+
+    async def last(self) -> int:
+        """The number of the last entry; 0 where there is none."""
+        newest = {"key": text64(self._entries), "range_end": text64(behind(self._entries)), "limit": "1"}
+        order = {"sort_order": "DESCEND", "sort_target": "KEY", "keys_only": True}
+        answer = await self._reading.post("/v3/kv/txn", {"success": [{"request_range": {**newest, **order}}]})
+        return max((self._number(it.key) for it in pairs(answer, 0)), default=0)
+
+    async def watch(self, start: int, silence: float) -> AsyncIterator[News]:
+        """What changes from this revision on, until nothing has for so many seconds, or the revision is too old for etcd."""
+        wanted = {"key": text64(self._prefix), "range_end": text64(behind(self._prefix)), "start_revision": str(start)}
+        async for result in self._watching.watch({"create_request": wanted}, silence):
+            if result.get("canceled"):
+                return
+            for event in result.get("events", []):
+                news = self._news(event)
+                if news:
+                    yield news
+
+    def _news(self, event: Message) -> Optional[News]:
+        it, is_gone = Pair(event["kv"]), event.get("type") == "DELETE"
+        if it.key == self._leader:
+            return News(is_vacant=True) if is_gone else News(leads=leader_of([it]))
+        if it.key.startswith(self._entries) and not is_gone:
+            return News(entry=(self._number(it.key), it.value))
+        return None
+
+    # Appending
+
+    async def append(self, number: int, value: bytes, term: Term) -> None:
+        """Appends an entry, asking until etcd has answered: it is committed behind this. Raises Lost where the term has ended; then
+        the entry may be there or not."""
+        asked = {
+            "compare": [is_new(self._key(number)), is_made_at(self._leader, term.number)],
+            "success": [put(self._key(number), value)],
+            "failure": [ranged(self._key(number)), ranged(self._leader)],
+        }
+        answer = await self._until_answered(self._appending, "/v3/kv/txn", asked)
+        if answer.get("succeeded"):
+            return
+        found, leader = pairs(answer, 0), leader_of(pairs(answer, 1))
+        # (in this term nobody else appends: an entry of this number is the one that an unanswered request has put there)
+        if not (found and leader and leader.term == term.number and found[0].value == value):
+            raise Lost("another member has appended, or the lease has ended")
+
+    async def elect(self, said: Said, seconds: int, margin: float) -> Optional[Term]:
+        """Asks to be the leader. Answers the term, or None where another one is. Raises Unreachable; asked again, it knows an election
+        that was won and not answered by what the member says, which is to be of this election alone."""
+        value, began = json.dumps(said).encode(), clock()
+        won = put(self._leader, value, await self._granted(seconds))
+        asked = {"compare": [is_new(self._leader)], "success": [won], "failure": [ranged(self._leader)]}
+        answer = await self._electing.post("/v3/kv/txn", asked)
+        if answer.get("succeeded"):
+            term = Term(revision(answer), value, seconds, margin)
+            term.prolong(began)
+            return term
+        leader = leader_of(pairs(answer, 0))
+        return Term(leader.term, value, seconds, margin) if leader and leader.said == said else None
+
+    async def prolong(self, term: Term) -> None:
+        """Lets a term go on. Raises Lost and Unreachable.
+
+        The leader's key gets a new lease, in the place of one that is kept alive: a member of etcd that was its leader and doesn't know yet
+        that it isn't would answer that a lease lives, but can't grant one."""
+        began = clock()
+        again = put(self._leader, term.value, await self._granted(term.seconds))
+        answer = await self._electing.post("/v3/kv/txn", {"compare": [is_made_at(self._leader, term.number)], "success": [again]})
+        if not answer.get("succeeded"):
+            raise Lost("the lease has ended")
+        term.prolong(began)
+
+    async def _granted(self, seconds: int) -> int:
+        answer = await self._electing.post("/v3/lease/grant", {"TTL": str(seconds)})
+        if int(answer["TTL"]) < seconds:
+            raise Rejected(0, f"etcd grants {answer['TTL']} s of {seconds}")
+        return int(answer["ID"])
+
+    async def resign(self, term: Term) -> None:
+        """Ends a term, where it hasn't ended, so that others needn't wait for that."""
+        ended = {"compare": [is_made_at(self._leader, term.number)], "success": [deleted(self._leader, self._leader + b"\0")]}
+        try:
+            await self._electing.post("/v3/kv/txn", ended)
+        except (Unreachable, Rejected):
+            pass
+
+    async def forget(self, number: int, term: Term) -> None:
+        """Takes the entries up to this number out of the log. Raises Lost."""
+        asked = {
+            "compare": [is_made_at(self._leader, term.number)],
+            "success": [deleted(self._entries, self._key(number + 1)), put(self._first, b"%d" % (number + 1))],
+        }
+        answer = await self._until_answered(self._reading, "/v3/kv/txn", asked)
+        if not answer.get("succeeded"):
+            raise Lost("the lease has ended")
+
+    async def compact(self) -> None:
+        """Lets etcd forget what keys were before, which takes room as long as it doesn't, once that is enough to be worth it."""
+        now = revision(await self._reading.post("/v3/kv/txn", {"success": [ranged(self._leader)]}))
+        if now >= self._compacted + COMPACTED:
+            await self._reading.post("/v3/kv/compaction", {"revision": str(now)})
+            self._compacted = now
+
+    async def _until_answered(self, etcd: Etcd, path: str, body: Message) -> Message:
+        while True:
+            try:
+                return await etcd.post(path, body)
+            except Unreachable:
+                await asyncio.sleep(AGAIN_SECONDS)
+
+    # Members
+
+    async def agree(self, schema: str) -> str:
+        """What identifies the ledger's schema: this one, where no member came before."""
+        asked = {"compare": [is_new(self._schema)], "success": [put(self._schema, schema.encode())], "failure": [ranged(self._schema)]}
+        answer = await self._until_answered(self._reading, "/v3/kv/txn", asked)
+        return schema if answer.get("succeeded") else pairs(answer, 0)[0].value.decode()
+
+    async def say(self, name: str, said: Said, lease: int) -> None:
+        await self._reading.post("/v3/kv/txn", {"success": [put(self._members + name.encode(), json.dumps(said).encode(), lease)]})
+
+    async def members(self) -> Dict[str, Said]:
+        answer = await self._reading.post("/v3/kv/txn", {"success": [ranged(self._members, behind(self._members))]})
+        return {it.key[len(self._members):].decode(): json.loads(it.value) for it in pairs(answer, 0)}
+
+
+class Lease:
+    """A lease for what a member says of itself. `keep` is a task of its own."""
+
+    def __init__(self, urls: Sequence[str], seconds: int) -> None:
+        self._etcd, self._seconds, self.id = Etcd(urls, REQUEST_SECONDS), seconds, 0
+
+    async def keep(self) -> None:
+        while True:
+            try:
+                if not await self._is_kept():
+                    self.id = int((await self._etcd.post("/v3/lease/grant", {"TTL": str(self._seconds)}))["ID"])
+                await asyncio.sleep(self._seconds / 4)
+            except (Unreachable, Rejected):
+                await asyncio.sleep(AGAIN_SECONDS)
+
+    async def _is_kept(self) -> bool:
+        if not self.id:
+            return False
+        answer = await self._etcd.post("/v3/lease/keepalive", {"ID": str(self.id)})
+        return int(answer["result"].get("TTL", 0)) > 0
+
+    async def leave(self) -> None:
+        """Ends the lease."""
+        try:
+            if self.id:
+                await self._etcd.post("/v3/lease/revoke", {"ID": str(self.id)})
+        except (Unreachable, Rejected):
+            pass
+        self._etcd.close()

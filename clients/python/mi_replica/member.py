@@ -1,0 +1,277 @@
+"""A member of a ledger: it follows the log with a server of its own, leads while it has the lease, and begins anew from the log where its
+term has ended. What it is told by others is in `log.py`; what is kept on its disk in `checkpoint.py`."""
+from __future__ import annotations
+
+import asyncio
+import hashlib
+import json
+import os
+import secrets
+import sys
+import tempfile
+import time
+from typing import Any, Dict, List, NamedTuple, Optional, Sequence, Tuple
+
+from mi_replica.checkpoint import Folder, batches, header
+from mi_replica.clients import Clients
+from mi_replica.etcd import Rejected, Unreachable
+from mi_replica.following import Behind, Diverged, Following, replay
+from mi_replica.leading import Leading
+from mi_replica.lines import REVISION, said
+from mi_replica.log import AGAIN_SECONDS, Lease, Log, Lost, Term
+from mi_replica.own import Gone, Own, own_of
+from mi_replica.tasks import end, first_ended
+
+SAY_SECONDS = 1.0
+MEMBER_SECONDS = 5
+"""So long after a member is gone what it said is gone too."""
+FORGET_SECONDS = 5.0
+LEAST_COPIES = 2
+"""An entry leaves the log where so many members have it in their checkpoints."""
+FETCH_SECONDS = 600.0
+PAUSE_SECONDS = 0.5
+END_SECONDS = 5.0
+"""So long a member takes at most to give its term back at its end."""
+
+
+class OtherSchema(Exception):
+    """The ledger belongs to another schema."""
+
+
+class Settings(NamedTuple):
+    etcd: Sequence[str]
+    name: str
+    program: str
+    port: int
+    schema: Optional[str] = None
+    host: str = "127.0.0.1"
+    address: str = ""
+    """Where others reach this member; also its name among them."""
+    folder: Optional[str] = None
+    """Where its checkpoints stand. Without one none is written, and the log keeps all entries."""
+    lease: int = 3
+    margin: float = 0.5
+    most_lines: int = 0
+    checkpoint: int = 16 << 20
+    """Bytes of entries behind which a checkpoint is written."""
+    body: str = ""
+
+
+def schema_hash(path: Optional[str]) -> str:
+    """What identifies a schema where the program doesn't tell: its bytes."""
+    if path is None:
+        return hashlib.sha256(b"").hexdigest()[:16]
+    with open(path, "rb") as file:
+        return hashlib.sha256(file.read()).hexdigest()[:16]
+
+
+def note(text: str) -> None:
+    print(f"{time.strftime('%H:%M:%S')} {text}", file=sys.stderr, flush=True)
+
+
+class Member:
+    def __init__(self, settings: Settings) -> None:
+        self._settings = settings
+        self._address = settings.address or f"{settings.host}:{settings.port}"
+        self._log = Log(settings.etcd, settings.name)
+        self._lease = Lease(settings.etcd, MEMBER_SECONDS)
+        self._clients = Clients()
+        self._clients.on_checkpoint = self._send_checkpoint
+        self._temporary = tempfile.TemporaryDirectory(prefix="mi_replica-")
+        self._folder = Folder(settings.folder or self._temporary.name, settings.name)
+        self._role, self._leader, self._term, self._number = "starting", "", 0, 0
+        self._schema, self._header = "", b""
+        self._tail: List[Tuple[int, bytes]] = []
+        self._tail_bytes = 0
+        self._checkpoint = self._folder.newest()[0]
+        self._writing: Optional["asyncio.Future[None]"] = None
+
+    async def run(self) -> None:
+        """Until it is cancelled. Raises OSError where the port is taken, and OtherSchema."""
+        server = await asyncio.start_server(self._clients.serve, self._settings.host, self._settings.port)
+        try:
+            await first_ended([self._lease.keep(), self._say(), self._live()], END_SECONDS)
+        finally:
+            server.close()
+            self._clients.cut_all()
+            await self._lease.leave()
+            self._log.close()
+
+    async def _live(self) -> None:
+        self._header = await own_of(self._settings.program, self._settings.schema, self._settings.body).header()
+        self._schema = json.loads(self._header)["schema"] if self._header else schema_hash(self._settings.schema)
+        found = await self._log.agree(self._schema)
+        if found != self._schema:
+            raise OtherSchema(f"{self._settings.name} belongs to the schema {found}, and this one is {self._schema}")
+        while True:
+            own = own_of(self._settings.program, self._settings.schema, self._settings.body)
+            try:
+                await self._once(own)
+            except (Lost, Gone, Diverged, Rejected, ValueError) as error:
+                note(f"begins anew: {type(error).__name__}: {error}")
+                await asyncio.sleep(0 if isinstance(error, Lost) else PAUSE_SECONDS)
+            except Behind as behind:
+                note(f"takes a checkpoint: {behind}")
+                await self._fetch(behind.first)
+            finally:
+                self._role, self._leader = "starting", ""
+                self._clients.cut_all()
+                await own.close()
+
+    async def _once(self, own: Own) -> None:
+        """From a fresh server to the end of a term."""
+        await own.start()
+        self._number = await self._load(own)
+        following = Following(own, self._log, self._clients, self._number)
+        following.on_entry, following.on_member = self._took, lambda: self._status(following)
+        self._role = "follower"
+        while True:
+            await following.until_vacant()
+            term = await self._elected()
+            if term:
+                break
+        self._term = term.number
+        note(f"leads in term {term.number}")
+        try:
+            found = await following.catch_up()
+            if not found.leader or found.leader.term != term.number:
+                raise Lost("the lease ended before the log was read")
+            await self._lead(own, following.number, term)
+        finally:
+            self._clients.cut_all()
+            await self._log.resign(term)
+
+    async def _load(self, own: Own) -> int:
+        """Asks the server the newest checkpoint, and answers up to which entry that goes."""
+        if self._writing:
+            await asyncio.wait([self._writing])
+        fresh = json.loads((await own.ask([REVISION]))[0])
+        self._header = self._header or header(fresh["revision"], self._schema)
+        number, path = self._folder.newest()
+        for lines in batches(path) if path else ():
+            await replay(own, lines, str(path))
+        self._tail, self._tail_bytes, self._checkpoint = [], 0, number
+        return number
+
+    async def _elected(self) -> Optional[Term]:
+        """The term, where this member was elected."""
+        # (what it says is of this time alone, so that an unanswered election is known again, and an older one isn't)
+        me = {"address": self._address, "once": secrets.token_hex(8)}
+        while True:
+            try:
+                return await self._log.elect(me, self._settings.lease, self._settings.margin)
+            except Unreachable:
+                await asyncio.sleep(AGAIN_SECONDS)
+
+    async def _lead(self, own: Own, number: int, term: Term) -> None:
+        self._role, self._leader = "leader", self._address
+        leading = Leading(own, self._log, self._clients, term, number, self._settings.most_lines)
+        leading.on_entry, leading.on_member = self._took, self._status
+        forgetting = asyncio.ensure_future(self._forget(term))
+        try:
+            await leading.run()
+        finally:
+            await end([forgetting])
+
+    # What it tells
+
+    def _status(self, following: Optional[Following] = None) -> bytes:
+        if following:
+            self._leader = following.address()
+        return said({**self._said(), "ok": True})
+
+    def _said(self) -> Dict[str, Any]:
+        return {
+            "address": self._address, "applied": self._number, "checkpoint": self._checkpoint, "leader": self._leader, "role": self._role,
+            "term": self._term,
+        }
+
+    async def _say(self) -> None:
+        """Tells the others how it stands."""
+        before: Tuple[int, Dict[str, Any]] = (0, {})
+        while True:
+            now = (self._lease.id, self._said())
+            if now != before and self._lease.id:
+                try:
+                    await self._log.say(self._address, now[1], now[0])
+                    before = now
+                except (Unreachable, Rejected):
+                    pass
+            await asyncio.sleep(SAY_SECONDS)
+
+    # Checkpoints
+
+    def _took(self, number: int, value: bytes) -> None:
+        """An entry that the own server has and the log too."""
+        self._number = number
+        if self._settings.folder:
+            self._tail.append((number, value))
+            self._tail_bytes += len(value)
+            if self._tail_bytes >= self._settings.checkpoint and not self._writing:
+                self._writing = asyncio.ensure_future(self._write())
+
+    async def _write(self) -> None:
+        """Writes a checkpoint of what it has, while it goes on."""
+        number, values = self._number, [value for _, value in self._tail]
+        self._tail, self._tail_bytes = [], 0
+        try:
+            await asyncio.get_running_loop().run_in_executor(None, self._folder.write, number, self._header, values)
+            self._checkpoint = number
+        except OSError as error:
+            note(f"no checkpoint: {error}")
+            self._tail_bytes = -(1 << 62)  # (none is written before it begins anew, since lines are lacking)
+        finally:
+            self._writing = None
+
+    async def _forget(self, term: Term) -> None:
+        """Takes entries out of the log that enough members have in their checkpoints."""
+        done = 0
+        while True:
+            await asyncio.sleep(FORGET_SECONDS)
+            try:
+                found = [int(it["checkpoint"]) for it in (await self._log.members()).values()]
+                if len(found) >= LEAST_COPIES and min(found) > done:
+                    done = min(found)
+                    await self._log.forget(done, term)
+                await self._log.compact()
+            except (Unreachable, Rejected, Lost) as error:
+                note(f"the log stays as it is: {error}")
+
+    async def _send_checkpoint(self, writer: asyncio.StreamWriter) -> None:
+        """Sends the newest checkpoint behind a line that says how long it is."""
+        number, path = self._folder.newest()
+        if not path:
+            writer.write(b'{"error":"checkpoint","ok":false}\n')
+            return
+        with open(path, "rb") as file:
+            writer.write(said({"bytes": os.fstat(file.fileno()).st_size, "entry": number, "ok": True}) + b"\n")
+            for piece in iter(lambda: file.read(1 << 18), b""):
+                writer.write(piece)
+                await writer.drain()
+
+    async def _fetch(self, first: int) -> None:
+        """Takes a checkpoint of another member that goes up to where the log begins."""
+        try:
+            others = {name: it for name, it in (await self._log.members()).items() if it["checkpoint"] >= first - 1 and name != self._address}
+            for name in others:
+                await asyncio.wait_for(self._fetch_from(name), FETCH_SECONDS)
+                return
+        except (OSError, EOFError, ValueError, KeyError, asyncio.TimeoutError) as error:
+            note(f"no checkpoint was taken: {error}")
+        await asyncio.sleep(PAUSE_SECONDS)
+
+    async def _fetch_from(self, address: str) -> None:
+        host, _, port = address.rpartition(":")
+        reader, writer = await asyncio.open_connection(host, int(port))
+        try:
+            writer.write(b'{"cmd":"checkpoint"}\n')
+            found = json.loads(await reader.readline())
+            left = found["bytes"]
+            with self._folder.written(found["entry"]) as target:
+                while left:
+                    piece = await reader.readexactly(min(left, 1 << 16))
+                    target.write(piece)
+                    left -= len(piece)
+            note(f"has the checkpoint of {address} up to entry {found['entry']}")
+        finally:
+            writer.transport.abort()
