@@ -14,10 +14,10 @@ use Rattle.mi_commands.specs.Holder.{HeldDatabase, held_by}
 use Rattle.mi_commands.specs.declared.holder.Holder.{Holder}
 use Rattle.mi_hub.specs.Ended.{ended}
 use Rattle.mi_hub.specs.Lines.{Rest, marked, ended_line, lines_of, rest_of, lines_from, rest_from}
-use Rattle.mi_hub.specs.Connections.{rest_at}
+use Rattle.mi_hub.specs.Connections.{rest_at, with_rest}
 use Rattle.mi_hub.specs.Served.{InTurn, sent}
 use Rattle.mi_hub.specs.Run.{HubState, piece, attach, cut, Done}
-use Rattle.mi_hub.proofs.ConnectionLemmas.{rest_at-with_rest, rest_at-last}
+use Rattle.mi_hub.proofs.ConnectionLemmas.{rest_at-with_rest, with_rest-same, rest_at-last}
 use Rattle.mi_hub.proofs.LineLemmas.{ended_nil, lines_from-nothing, rest_from-nothing, from_ended, from_unended, from_rests}
 use Rattle.mi_replay.specs.Acts.{Act, leaves}
 use Rattle.mi_replay.specs.Journal.{JournalOf, undo_line}
@@ -150,6 +150,17 @@ module _ (conn : ℕ) (line out : List ℕ) (holder : Option ℕ) (old new : Hub
       appended = noted.2;
     };
   }
+
+alike : (r s : Rest) → ◌≡◌ {A = Option Rest} (Some r) (Some s) → r ≡ s
+alike r s h = cc
+
+-- a line that is asked, and leaves its connection no rest again, leaves who is attached
+pub asked_attached : (conn : ℕ) (line out : List ℕ) (old new : HubState) → rest_at conn old.attached ≡ Some (Some []) → Done old (piece conn line) out new
+    → rest_at conn new.attached ≡ Some (Some []) → new.attached ≡ old.attached
+asked_attached conn line out old new here done still =
+    let rest = rest_from done.0 line in
+    let left : rest_at conn new.attached ≡ Some rest = ap (rest_at conn) done.3 ∙ rest_at-with_rest conn rest (Some []) old.attached here in
+    done.3 ∙ ap (λ r. with_rest conn r old.attached) (alike rest (Some []) (sym left ∙ still)) ∙ with_rest-same conn (Some []) old.attached here
 
 -- what stands before the last byte is one text
 pub cut_last : (xs rest text : List ℕ) (x y : ℕ) → xs ≡ rest ++ x ∷ [] → xs ≡ text ++ y ∷ [] → rest ≡ text

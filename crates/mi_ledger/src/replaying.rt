@@ -71,6 +71,7 @@ pub fn replay_line<D: Sessions + Drop>(
     requires whole { IsWholeLine line.now }
     ensures ok { OnOk result (hub.new.held ≡ replayed (lines_of line.now) hub.old.held) }
     ensures still { OnOk result (rest_at replayer hub.new.attached ≡ Some (Some [])) }
+    ensures attached { OnOk result (hub.new.attached ≡ hub.old.attached) }
 {
     let mut writer = Watched::new(Vec::new(alloc));
     match hub.feed(REPLAYER, line, &mut writer) {
@@ -91,6 +92,7 @@ fn replay_next<D: Sessions + Drop, R: BufRead>(
     ensures end { result ≡ Ok false → (hub.new ≡ hub.old)
         × IfSome (R.remaining (reader_of lines.old)) (λ bytes. IsTorn bytes (line_of lines.new)) }
     ensures still { OnOk result (rest_at replayer hub.new.attached ≡ Some (Some [])) }
+    ensures attached { OnOk result (hub.new.attached ≡ hub.old.attached) }
 {
     match lines.advance() {
         Ok(true) => match replay_line(alloc, hub, lines.line()) {
@@ -114,6 +116,7 @@ pub fn replay<D: Sessions + Drop, R: BufRead>(
     ensures ok { OnOk result (IfSome (R.remaining (reader_of lines.old)) (λ bytes. hub.new.held ≡ replayed (lines_of bytes) hub.old.held)) }
     ensures torn { OnOk result (IfSome (R.remaining (reader_of lines.old)) (λ bytes. line_of lines.new ≡ after_newlines bytes)) }
     ensures still { OnOk result (rest_at replayer hub.new.attached ≡ Some (Some [])) }
+    ensures attached { OnOk result (hub.new.attached ≡ hub.old.attached) }
 {
     'lines: for before in 1..u64::MAX {
         if replay_next(alloc, hub, lines, before + 1)? {

@@ -1,5 +1,5 @@
 //! Replies that are not to go out yet.
-ghost use Rattle.std.specs.Prelude.{◌≡◌, ◌++◌, [], OnOk, OnErr};
+ghost use Rattle.std.specs.Prelude.{◌≡◌, ◌↔◌, ◌++◌, [], length, IsTrue, OnOk, OnErr};
 
 use std::alloc::{AllocError, Global};
 
@@ -19,6 +19,20 @@ impl HeldReplies {
         HeldReplies {
             bytes: Vec::new(alloc),
         }
+    }
+
+    /// How many bytes they have.
+    pub fn len(&self) -> usize
+        ensures { result ≡ length (bytes_of self.now) }
+    {
+        self.bytes.len()
+    }
+
+    /// Whether there is none.
+    pub fn is_empty(&self) -> bool
+        ensures { IsTrue result ↔ (bytes_of self.now ≡ []) }
+    {
+        self.bytes.is_empty()
     }
 
     /// A reply more, with its newline. An error leaves them as they are.

@@ -8,6 +8,7 @@ use Rattle.mi_ledger.proofs.replaying.replay.Given as goal
 -- what is left to ask leaves what all leaves
 abbrev pub invariant-lines : goal.invariant-lines
 invariant-lines g l = record {
+  attached : l.hub.attached ≡ l.fn.hub.attached;
   still : rest_at replayer l.hub.attached ≡ Some (Some []);
   so_far : Onward (g.R.Read.remaining (reader_of l.fn.lines)) (g.R.Read.remaining (reader_of l.lines)) l.fn.hub.held l.hub.held;
 }
