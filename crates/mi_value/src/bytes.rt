@@ -1,5 +1,5 @@
 //! Where the bytes of a record lie: up to 46 in the record itself, more in a block of memory. Plain data, which knows no values.
-ghost use Rattle.std.specs.Prelude.{◌≡◌, ◌≤◌, ◌+◌, ◌++◌, ◌↔◌, ℕ, List, [], length, IsOk, IfOk, OnOk};
+ghost use Rattle.std.specs.Prelude.{◌≡◌, ◌≤◌, ◌++◌, ℕ, List, OnOk};
 
 use std::alloc::{AllocError, Global};
 use std::mem::size_of;
