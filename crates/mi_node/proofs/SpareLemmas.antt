@@ -1,20 +1,20 @@
 -- The free places that were given back stay among the first ones.
 --     listed-..      after a change
 --     spare_first      where one was given back and is free, so is the first one
-use Rattle.std.proofs.Common.{◌≡◌, ℕ, zero, suc, ◌<◌, ◌==◌, ◌⊎◌, inl, inr, true, false, cond, List, [], ◌∷◌, ◌++◌, length, option_map}
-use Rattle.std.proofs.Common.{slice_set, slice_index_or, Option, Some, None, refl, sym, ap, ◌∙◌, subst, arith}
+use Rattle.std.proofs.Common.{◌≡◌, ℕ, zero, suc, ◌<◌, ◌==◌, inl, inr, true, false, cond, List, [], ◌∷◌, ◌++◌, length, option_map}
+use Rattle.std.proofs.Common.{slice_set, Option, Some, None, refl, sym, ap, ◌∙◌, subst, arith}
 use Rattle.std.specs.Ordering.{nat_cmp}
 use Rattle.std.specs.Cmp.{nat_cmp_total, unsigned_tied}
 use Rattle.std.specs.FinMap.{FinMap, get, insert, empty, get-empty, get-insert}
 use Rattle.mi_node.specs.Refs.{Ref}
-use Rattle.mi_node.specs.Homes.{IsFree, home_at, IsFreeIf, IsFreeAt}
+use Rattle.mi_node.specs.Homes.{home_at, IsFreeIf, IsFreeAt}
 use Rattle.mi_node.specs.Pool.{HasSpare, ref_of, node_at, last_given}
 use Rattle.mi_node.specs.Seen.{seen, KeepsMark, IsSound}
 use Rattle.mi_node.specs.Spares.{IsIn, IsNotIn, AreOnce, GoesOn, IsWay, AreListed}
 use Rattle.mi_node.specs.declared.cell.Cell.{Cell}
 use Rattle.mi_node.specs.declared.home.Home.{Home}
 use Rattle.mi_node.specs.declared.home.Home.TheVariants.{Free, Held}
-use Rattle.mi_node.proofs.MapLemmas.{some_inj, none_some, same, itself, last_mark, get-map, entry_of, There, other_home, this_home, at_index}
+use Rattle.mi_node.proofs.MapLemmas.{none_some, same, last_mark, get-map, entry_of, other_home, this_home}
 
 flipped : (k q : ℕ) → (k == q) ≡ false → (q == k) ≡ false
 flipped k q e = grind (arith, e)

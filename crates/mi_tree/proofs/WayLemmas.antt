@@ -8,7 +8,7 @@ use Rattle.std.specs.declared.cmp.Ordering.{Ordering}
 use Rattle.std.specs.declared.cmp.Ordering.TheVariants.{Less, Equal, Greater}
 use Rattle.std.specs.Ordering.{is_lt}
 use Rattle.std.specs.Cmp.{IsTotalOrder}
-use Rattle.mi_node.specs.Pool.{Pooled, link_of, with_link, IsHeld, IsHeldIf, Keeps}
+use Rattle.mi_node.specs.Pool.{Pooled, ref_of, link_of, with_link, IsHeld, IsHeldIf, Keeps}
 use Rattle.mi_node.specs.declared.link.Link.{Link}
 use Rattle.mi_node.specs.declared.link.Tag.{Tag}
 use Rattle.mi_node.specs.Refs.{Ref, IsOut, IsApart, AreOut}
@@ -41,6 +41,9 @@ path_length (f ∷ fs) = let i = path_length fs in let j = length-append (way_of
 
 some_two : (a b : Turn) → Some a ≡ Some b → a ≡ b
 some_two a b e = cc
+
+some_ref : (a b : Ref) → Some a ≡ Some b → a ≡ b
+some_ref a b e = cc
 
 abbrev pub frame : Turn → BinaryTree → Frame
 frame turn q = record { node = turn.node; left = turn.left; other = q }
@@ -189,6 +192,10 @@ top_plug f (g ∷ gs) t u = top_plug g gs (forked f.left t f.node f.other) (fork
 root_next : (root : Option Ref) (f : Frame) (fs : List Frame) → IsRootOf root (f ∷ fs) → IsRootOf root fs
 root_next root f [] e = tt
 root_next root f (g ∷ gs) e = e ∙ top_plug g gs (forked f.left Tip f.node f.other) Tip
+
+root_stays : (root : Option Ref) (f : Frame) (fs : List Frame) (z : BinaryTree) → IsRootOf root (f ∷ fs) → top z ≡ Some f.node → root ≡ top (plug fs z)
+root_stays root f [] z e g = e ∙ top_forked f.left f.node f.other Tip ∙ sym g
+root_stays root f (g ∷ gs) z e h = e ∙ top_plug g gs (forked f.left Tip f.node f.other) z
 
 -- the root of the whole, if a node is above the end of the way
 pub root_above : (root : Option Ref) (fs : List Frame) (t : BinaryTree) → root ≡ top (plug fs t) → IsRootOf root fs
@@ -434,6 +441,8 @@ module _ {T : Type 0} where
     pub rest : List Frame
     pub z : BinaryTree
     pub climbs : Climbs n s root (Some next) new rest (Some turn.node) before z
+    pub node_held : IsHeld n turn.node
+    pub root_is : top z ≡ Some turn.node → root ≡ top (plug rest z)
     pub level : (j : ℕ) → IsLevel (height z) before j (risen rest before) → IsLevel (height u) h j (risen fs h)
     pub climbed : (v : Pooled T) (result : Option Ref) (t : BinaryTree) → HasClimbed n v s (plug rest z) result t → HasClimbed m v s (plug fs u) result t
 
@@ -448,6 +457,29 @@ module _ {T : Type 0} where
 
     pub same_level : before ≡ height_at n s (Some next) → (j : ℕ) → j ≡ risen o.rest (height o.z) → IsLevel (height u) h j (risen fs h)
     same_level e j is = o.level j (level_same (height o.z) before j _ (is ∙ ap (risen o.rest) (sym (same_height e))))
+
+    -- where its root is the node of the way too, all above is right
+    standing : before ≡ height_at n s (Some next) → next.name ≡ turn.node.name → HasClimbed n n s (plug o.rest o.z) root (plug o.rest o.z)
+    standing e f =
+        let c = same_climbs e in
+        let one = some_ref next turn.node (sym (held-root n s (Some next) o.z o.climbs.rooted) ∙ ap (ref_of n) f ∙ o.node_held) in
+        let here : top o.z ≡ Some turn.node = sym c.rooted.root ∙ ap (λ (r : Ref). Some r) one in record {
+          rooted = record {
+            root = o.root_is here;
+            stands = plug_stands n s o.rest o.z c.rooted.stands (above_moved n s o.rest _ _ _ _ _ _ (sym here) refl refl c.above);
+          };
+          even = plug_even o.rest o.z c.even c.beside;
+          nodes_are = refl;
+          keeps = keeps_none s n (nodes (plug o.rest o.z));
+          tags = λ k. refl;
+        }
+
+    pub climbed_here : before ≡ height_at n s (Some next) → next.name ≡ turn.node.name → HasClimbed m n s (plug fs u) root (plug o.rest o.z)
+    climbed_here e f = o.climbed n root (plug o.rest o.z) (standing e f)
+
+    pub level_here : before ≡ height_at n s (Some next) → next.name ≡ turn.node.name → IsLevel (height u) h (height_at n s root) (risen fs h)
+    level_here e f =
+        same_level e (height_at n s root) (height-root n s root (plug o.rest o.z) (standing e f).rooted ∙ plug_height o.rest o.z)
 
   module _ {m : Pooled T} {s : ℕ} {root below : Option Ref} {items new : List Turn} {fs : List Frame} {at : Option Ref}
       {h : ℕ} {u : BinaryTree} (c : Climbs m s root below items fs at h u) {turn : Turn} (w : IsTurned fs new turn)
@@ -560,6 +592,8 @@ module _ {T : Type 0} where
           rest = w.rest;
           z = k.0;
           climbs = subst (λ j. Climbs n s root (Some next) new w.rest (Some turn.node) j k.0) is (climbs_on climb_sides.2 k.1);
+          node_held = held_kept s m n _ turn.node k.1.keeps turn_held;
+          root_is = λ g. root_stays root (frame turn w.other) w.rest k.0 (subst (IsRootOf root) w.was c.root_is) g;
           level = λ j d. level_on climb_sides.2 k.1 j (subst (λ b. IsLevel (height k.0) b j (risen w.rest b)) (sym is) d);
           climbed = climbed_on climb_sides.2 k.1;
         }

@@ -141,7 +141,7 @@ fn with_child(link: Link, left: bool, child: Option<NodeRef>) -> Link
 
 /// Puts the tree `below` in place of the one at the end of the way, whose height differs from its own by
 /// at most one, and rejoins the nodes of the way while heights change. The sizes on the way are right
-/// already. The tree's root.
+/// already; and so is all above a node that stays where it is, and as high. The tree's root.
 pub(crate) fn climb<T>(
     p: &mut Pool<T>,
     slot: usize,
@@ -160,10 +160,15 @@ pub(crate) fn climb<T>(
     let Some(turn) = way.pop() else {
         return below;
     };
+    let name = turn.node.name();
     let before = p.link(turn.node, slot).height;
     let top = rejoin(p, slot, turn, below);
     if height(p, slot, Some(top)) == before {
-        hang(p, slot, root, top, way)
+        if top.name() == name {
+            root
+        } else {
+            hang(p, slot, root, top, way)
+        }
     } else {
         climb(p, slot, root, Some(top), way)
     }

@@ -3,10 +3,10 @@ use Rattle.std.proofs.Common.{◌≡◌, ℕ, ◌<◌, List, Option, Some, refl,
 use Rattle.mi_node.specs.Refs.{Ref}
 use Rattle.mi_node.specs.declared.link.Link.{Link}
 use Rattle.mi_tree.specs.BinaryTree.{BinaryTree, height_at}
-use Rattle.mi_tree.specs.Ways.{Frame, way_of, Climbs}
+use Rattle.mi_tree.specs.Ways.{Frame, way_of, plug, Climbs}
 use Rattle.mi_tree.proofs.BinaryTreeLemmas.{held-root}
 use Rattle.mi_tree.proofs.WayLemmas.{IsTurned, NextClimb, turned_back, no_turn, climbed_none, turn_held, shorter_way, climb_given, low_below}
-use Rattle.mi_tree.proofs.WayLemmas.{next_climb, same_climbs, same_level}
+use Rattle.mi_tree.proofs.WayLemmas.{next_climb, same_climbs, same_level, climbed_here, level_here}
 use Rattle.mi_tree.proofs.way.+climb.Given.{Over}
 use Rattle.mi_tree.proofs.way.+climb.Goals.{In-Some, After-rejoin-top}
 use Rattle.mi_tree.proofs.way.+climb.Goals as goal
@@ -65,9 +65,15 @@ climb-requires g t c κs within =
       ),
     )
 
-pub returns-then-height-before-clause-tree : goal.returns-then-height-before-clause-tree
-returns-then-height-before-clause-tree g t c fs at h u k =
-    let on = next g t (goal.at.returns-then-height-before-clause-tree g t c).After-rejoin-top k in
+pub returns-then-name-clause-tree : goal.returns-then-name-clause-tree
+returns-then-name-clause-tree g t c fs at h u k =
+    let on = next g t (goal.at.returns-then-name-clause-tree g t c).After-rejoin-top k in
+    let same = sym c.name.ensures ∙ c.if-name.true ∙ c.name-name.ensures in
+    (plug on.rest on.z, climbed_here on (sym c.if-height-before.true ∙ c.height.ensures) same)
+
+pub returns-else-name-clause-tree : goal.returns-else-name-clause-tree
+returns-else-name-clause-tree g t c fs at h u k =
+    let on = next g t (goal.at.returns-else-name-clause-tree g t c).After-rejoin-top k in
     let all = c.hang.ensures.tree _ _ _ (same_climbs on (sym c.if-height-before.true ∙ c.height.ensures)) in
     (all.0, on.climbed c.hang.new.p c.hang.result all.0 all.1)
 
@@ -77,9 +83,15 @@ returns-else-height-before-clause-tree g t c fs at h u k =
     let all = c.climb.ensures.tree _ _ _ _ on.climbs in
     (all.0, on.climbed c.climb.new.p c.climb.result all.0 all.1)
 
-pub returns-then-height-before-clause-height : goal.returns-then-height-before-clause-height
-returns-then-height-before-clause-height g t c fs at h u k =
-    let on = next g t (goal.at.returns-then-height-before-clause-height g t c).After-rejoin-top k in
+pub returns-then-name-clause-height : goal.returns-then-name-clause-height
+returns-then-name-clause-height g t c fs at h u k =
+    let on = next g t (goal.at.returns-then-name-clause-height g t c).After-rejoin-top k in
+    let same = sym c.name.ensures ∙ c.if-name.true ∙ c.name-name.ensures in
+    level_here on (sym c.if-height-before.true ∙ c.height.ensures) same
+
+pub returns-else-name-clause-height : goal.returns-else-name-clause-height
+returns-else-name-clause-height g t c fs at h u k =
+    let on = next g t (goal.at.returns-else-name-clause-height g t c).After-rejoin-top k in
     let same = sym c.if-height-before.true ∙ c.height.ensures in
     same_level on same (height_at c.hang.new.p c.args.slot c.hang.result) (c.hang.ensures.height _ _ _ (same_climbs on same))
 
