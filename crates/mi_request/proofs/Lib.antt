@@ -1,4 +1,3 @@
-pub mod DigitLemmas
 pub mod InsertLemmas
 pub mod NumberLemmas
 pub mod ObjectLemmas

@@ -1,22 +1,9 @@
 //! Numbers of JSON, as `serde_json` reads them: which are in range, and which are whole.
-ghost use Rattle.std.specs.Prelude.{◌≡◌, ◌==◌, ◌<◌, ◌^◌, length, true, false, IsTrue, IfSome, Some, is_some, slice_index, option_and_then};
-ghost use Rattle.serde_json.specs.Data.{unsigned};
+ghost use Rattle.std.specs.Prelude.{◌≡◌, ◌==◌, ◌<◌, length, true, false, IsTrue, is_some, slice_index, option_and_then};
 ghost use Rattle.serde_json.specs.Find.{as_i64};
 ghost use Rattle.serde_json.specs.Read.{number_of, number_from};
 
-use fast_float::{Numeral, parse_u64};
-
-/// The number that digits alone write, if it is less than 2^63: most numbers of lines are such.
-#[inline(always)]
-fn plain_natural(bytes: &[u8]) -> Option<u64>
-    ensures { IfSome result (λ n. (number_of bytes.now ≡ Some (unsigned n)) × (n < 2 ^ 63)) }
-{
-    if bytes.is_empty() || !bytes[0].is_ascii_digit() {
-        return None;
-    }
-    let n = parse_u64(bytes).ok()?;
-    if n < 1 << 63 { Some(n) } else { None }
-}
+use fast_float::Numeral;
 
 fn has_minus(bytes: &[u8]) -> bool
     ensures value { result ≡ (slice_index bytes.now 0 == 45) }
@@ -25,7 +12,7 @@ fn has_minus(bytes: &[u8]) -> bool
     !bytes.is_empty() && bytes[0] == b'-'
 }
 
-fn not_negative(numeral: &Numeral<'_>) -> Option<i64>
+fn unsigned(numeral: &Numeral<'_>) -> Option<i64>
     ensures { result ≡ option_and_then as_i64 (number_from false numeral.now) }
 {
     match numeral.to_u64() {
@@ -43,15 +30,15 @@ fn negative(numeral: &Numeral<'_>) -> Option<i64>
     }
 }
 
-/// The whole number that a numeral writes, whatever stands in it.
-fn whole_numeral(text: &str) -> Option<i64>
+/// The whole number that a numeral writes, from -2^63 to 2^63 - 1, without point and exponent.
+pub(crate) fn whole_number(text: &str) -> Option<i64>
     ensures { result ≡ option_and_then as_i64 (number_of text.now) }
 {
     let bytes = text.as_bytes();
     if has_minus(bytes) {
         negative(&Numeral::scan(&bytes[1..]))
     } else {
-        not_negative(&Numeral::scan(bytes))
+        unsigned(&Numeral::scan(bytes))
     }
 }
 
@@ -70,8 +57,8 @@ fn is_negative(numeral: &Numeral<'_>) -> bool
     }
 }
 
-/// Whether a numeral is not too large for a float, whatever stands in it.
-fn is_numeral(text: &str) -> bool
+/// Whether a numeral is not too large for a float.
+pub(crate) fn is_number(text: &str) -> bool
     ensures { result ≡ is_some (number_of text.now) }
 {
     let bytes = text.as_bytes();
@@ -80,21 +67,4 @@ fn is_numeral(text: &str) -> bool
     } else {
         is_unsigned(&Numeral::scan(bytes))
     }
-}
-
-/// The whole number that a numeral writes, from -2^63 to 2^63 - 1, without point and exponent.
-pub(crate) fn whole_number(text: &str) -> Option<i64>
-    ensures { result ≡ option_and_then as_i64 (number_of text.now) }
-{
-    match plain_natural(text.as_bytes()) {
-        Some(n) => Some(n as i64),
-        None => whole_numeral(text),
-    }
-}
-
-/// Whether a numeral is not too large for a float.
-pub(crate) fn is_number(text: &str) -> bool
-    ensures { result ≡ is_some (number_of text.now) }
-{
-    plain_natural(text.as_bytes()).is_some() || is_numeral(text)
 }

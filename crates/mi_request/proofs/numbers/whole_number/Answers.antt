@@ -3,7 +3,7 @@ use Rattle.std.proofs.Common.{◌≡◌, drop, get_or, true, false, ◌==◌, op
 use Rattle.fast_float.specs.Text.{scan}
 use Rattle.serde_json.specs.Find.{as_i64}
 use Rattle.serde_json.specs.Read.{number_of, number_from}
-use Rattle.mi_request.proofs.numbers.whole_numeral.Goals as goal
+use Rattle.mi_request.proofs.numbers.whole_number.Goals as goal
 
 pub returns-then-has_minus : goal.returns-then-has_minus
 unfolding number_of
@@ -21,4 +21,4 @@ returns-else-has_minus c =
     let plain : (get_or s 0 0 == 45) ≡ false = sym c.if-has_minus.ensures.value in
     let read : number_from false (scan s) ≡ number_of s = rw plain in
     let parts = ap (number_from false) c.scan-else-has_minus.ensures.parts in
-    c.not_negative.ensures ∙ ap (option_and_then as_i64) (parts ∙ read ∙ ap number_of c.as_bytes-bytes.ensures.value)
+    c.unsigned.ensures ∙ ap (option_and_then as_i64) (parts ∙ read ∙ ap number_of c.as_bytes-bytes.ensures.value)

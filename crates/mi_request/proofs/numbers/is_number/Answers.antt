@@ -2,7 +2,7 @@
 use Rattle.std.proofs.Common.{◌≡◌, drop, get_or, true, false, ◌==◌, is_some, sym, ap, ◌∙◌, arith, take_all, length-drop}
 use Rattle.fast_float.specs.Text.{scan}
 use Rattle.serde_json.specs.Read.{number_of, number_from}
-use Rattle.mi_request.proofs.numbers.is_numeral.Goals as goal
+use Rattle.mi_request.proofs.numbers.is_number.Goals as goal
 
 pub returns-then-has_minus : goal.returns-then-has_minus
 unfolding number_of
