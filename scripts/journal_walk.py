@@ -85,6 +85,9 @@ class Walk:
         """Goes on with whole lines of the journal, without their newlines, and with the connections of their time, all of whose replies
         are known. Raises Differs."""
         self.said = {it.number: it for it in connections}
+        for it in connections:
+            if len(it.replies) > len(it.lines):
+                raise Differs(f"connection {it.number} asked {len(it.lines)} lines and got {len(it.replies)} replies, the last {it.replies[-1]!r}")
         self.unborn = sorted(connections, key=lambda it: -it.born)
         places = [self.place(it) for it in lines]
         for text, it in zip(lines, places):

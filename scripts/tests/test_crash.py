@@ -105,6 +105,11 @@ class AWalk(unittest.TestCase):
         a, = self.says(1, (INSERT % 5, inserted(0)))
         self.differs("twice", a, a)
 
+    def test_a_reply_that_was_another_ones(self):
+        self.says(1, (SIZE, size(0)))
+        self.said[1].replies.append(size(0))
+        self.differs("asked 1 lines and got 2 replies")
+
     def test_the_undo_of_a_holder(self):
         a, b = self.says(1, (START, b'{"ok":true,"revision":1}\n'), (INSERT % 5, inserted(0)), left=True)
         self.says(2, (SIZE, size(1)), (INSERT % 9, BUSY), (SIZE, size(0)))
@@ -149,6 +154,7 @@ class AgainstAStandIn(unittest.TestCase):
             ("added", crash, "rounds", "nobody sent"),
             ("quiet", crash, "full", ""),
             ("beyond", crowd, "place", "connection 65 is served"),
+            ("crossed", crash, "rounds", ""),
         ]
         if shutil.which(os.environ.get("CC", "cc")):
             cases += [("unsynced", crash, "power", "the journal lacks it"), ("early", crash, "power", "the journal lacks it")]
