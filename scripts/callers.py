@@ -215,7 +215,7 @@ class Load:
         self.seed, self.next, self.count = seed, first_number, callers
         self.ids, self.callers, self.all = collections.deque(maxlen=24), [], []
         self.selector = selectors.DefaultSelector()
-        self.replied = time.monotonic()
+        self.replied, self.replies = time.monotonic(), 0
 
     def length(self):
         """How long the journal is."""
@@ -262,6 +262,7 @@ class Load:
             caller.read()
             if len(caller.said.replies) > before:
                 self.replied = time.monotonic()
+                self.replies += len(caller.said.replies) - before
         if events & selectors.EVENT_WRITE and caller.is_open:
             caller.write()
         if not caller.is_open:
@@ -272,11 +273,13 @@ class Load:
         self.watch(caller, 0)
         self.callers.remove(caller)
 
-    def go_on(self, seconds):
-        """Asks for so long, or until the service ends; its status then."""
-        end = time.monotonic() + seconds
+    def go_on(self, seconds, replies=0, most=0):
+        """Asks for so long, and on until so many replies have come, but for at most so many seconds; or until the service ends. Its status
+        then."""
+        began = time.monotonic()
+        end, last = began + seconds, began + max(seconds, most)
         try:
-            while time.monotonic() < end and self.running.process.poll() is None:
+            while (time.monotonic() < end or self.replies < replies and time.monotonic() < last) and self.running.process.poll() is None:
                 while len(self.callers) < self.count:
                     self.come()
                 self.step()

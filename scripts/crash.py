@@ -44,8 +44,8 @@ SYNCS = ["turn", "turn", "always", "turn", "never"]
 """Of the rounds, in which a kill forgets nothing that was written."""
 A_JOURNAL = 10
 """Rounds that a journal goes through."""
-LONGEST = 0.4
-"""Seconds of load before a kill, at most."""
+LOAD, REPLIES = 0.3, 300
+"""Seconds of load and replies before a kill, each at most: a round ends at a random one of the first, and of the second."""
 
 
 def kept_through(path, rounds, seed, folder, start, early=True):
@@ -60,7 +60,8 @@ def kept_through(path, rounds, seed, folder, start, early=True):
         if early and n % 5 == 4:
             kept.die_early(pick.uniform(0, 0.03), **more)
         before = kept.sent, kept.answered, len(kept.known)
-        ended, said = kept.round(pick.uniform(0.02, LONGEST), pick.choice([signal.SIGKILL] * 4 + [signal.SIGTERM]), **more)
+        how = pick.choice([signal.SIGKILL] * 4 + [signal.SIGTERM])
+        ended, said = kept.round(pick.uniform(0, LOAD), pick.randint(0, REPLIES), how, **more)
         if ended is not None:
             raise Differs(f"in round {n} the service ended by itself, with status {ended}: {said}")
         sent, answered, lines = sent + kept.sent - before[0], answered + kept.answered - before[1], lines + len(kept.known) - before[2]
@@ -259,7 +260,7 @@ def tools(path, options, folder):
     """A journal of some rounds is one for `mi_server` and for `journal.py`."""
     began, server, kept = time.monotonic(), options.server or program.program(), Kept(path, folder, f"{options.seed}/tools")
     for _ in range(2 if options.short else 10):
-        kept.round(0.5)
+        kept.round(0.3, 300)
     with kept.started() as running:
         kept.follow([kept.look(running)])
     want = fork(kept.walk.reference).feed(1, b"".join(looks(1)))

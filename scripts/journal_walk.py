@@ -27,9 +27,8 @@ def mark(connection, line):
 
 
 def marked(text):
-    """The connection and the line that a mark says, or None. A carriage return may stand behind it."""
-    text = text[:-1] if text.endswith(b"\r") else text
-    blanks = text[-sum(BITS):]
+    """The connection and the line that a mark says, or None. Carriage returns may stand behind it."""
+    blanks = text.rstrip(b"\r")[-sum(BITS):]
     if len(blanks) < sum(BITS) or blanks.strip(b" \t"):
         return None
     whole = sum((it == 9) << bit for bit, it in enumerate(blanks))
@@ -85,6 +84,9 @@ class Walk:
         """Goes on with whole lines of the journal, without their newlines, and with the connections of their time, all of whose replies
         are known. Raises Differs."""
         self.said = {it.number: it for it in connections}
+        for it in connections:
+            if len(it.replies) > len(it.lines):
+                raise Differs(f"connection {it.number} asked {len(it.lines)} lines and got {len(it.replies)} replies, the last {it.replies[-1]!r}")
         self.unborn = sorted(connections, key=lambda it: -it.born)
         places = [self.place(it) for it in lines]
         for text, it in zip(lines, places):
@@ -103,7 +105,9 @@ class Walk:
         if it is None:
             return None
         said = self.said.get(it[0])
-        if said is None or it[1] >= len(said.lines) or said.lines[it[1]] != text:
+        sent = said.lines[it[1]] if said and it[1] < len(said.lines) else None
+        # (what no newline ended and a carriage return did is kept with one more of them: a line's own, and that before its newline)
+        if sent is None or text != sent and not (text == sent + b"\r" and sent.endswith(b"\r") and it[1] == len(said.lines) - 1):
             raise Differs(f"the journal has a line that wasn't sent: {text!r}")
         if it[1] in said.kept:
             raise Differs(f"the journal has a line twice: {text!r}")

@@ -13,6 +13,10 @@ from journal_walk import Differs, Said, Walk, fork, mark
 from service import Service
 
 
+LONGEST = 10
+"""Seconds of load before a kill, at most, where a slow machine needs them for the replies that are wanted."""
+
+
 def line(text, number=None, n=0):
     return text.encode() + (b"" if number is None else mark(number, n)) + b"\n"
 
@@ -83,12 +87,13 @@ class Kept:
         said.replies, said.has_left = got.splitlines(keepends=True), True
         return said
 
-    def round(self, seconds, how=signal.SIGKILL, **start):
-        """One life: it is started, looked at, loaded and ended."""
+    def round(self, seconds, replies=0, how=signal.SIGKILL, **start):
+        """One life: it is started, looked at, loaded for so long and for so many replies, and ended. Its status where it ended by itself, and
+        what it said."""
         with self.started(**start) as running:
             looked = self.look(running)
             with Load(running, self.journal, f"{self.seed}/{self.next}", self.next) as load:
-                ended = load.go_on(seconds)
+                ended = load.go_on(seconds, replies, LONGEST)
                 self.next = load.next
                 running.kill(how)
                 load.drain()

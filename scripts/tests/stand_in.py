@@ -165,13 +165,13 @@ class Service:
             reply = self.reference.answer_ended(client.number, text)
             self.asked += 1
             keep = changed(reply) and holder in (None, client.number)
-            to = client
-            if PLANT == "crossed" and self.asked % 97 == 0 and not keep:
-                to = next(iter(self.clients.values()))
-            to.held += reply
+            client.held += reply
+            if PLANT == "crossed" and self.asked % 97 == 0:
+                for it in self.clients.values():
+                    it.held += reply if it is not client else b""
             if PLANT == "early":
-                self.send(to, to.held)
-                to.held = b""
+                self.send(client, client.held)
+                client.held = b""
             if keep:
                 self.journal.append(text + b"\n")
             if PLANT == "added" and self.asked % 50 == 0 and not self.reference.held:

@@ -56,6 +56,7 @@ class AWalk(unittest.TestCase):
     def test_marks(self):
         for it in [(0, 0), (1, 0), (65_535, 4_095), (2, 77)]:
             self.assertEqual(marked(b'{"cmd":"undo"}' + mark(*it)), it)
+        self.assertEqual(marked(UNDO + mark(3, 4) + b"\r\r"), (3, 4))
         self.assertIsNone(marked(UNDO))
         self.assertIsNone(marked(b""))
 
@@ -105,6 +106,20 @@ class AWalk(unittest.TestCase):
         a, = self.says(1, (INSERT % 5, inserted(0)))
         self.differs("twice", a, a)
 
+    def test_a_reply_that_was_another_ones(self):
+        self.says(1, (SIZE, size(0)))
+        self.said[1].replies.append(size(0))
+        self.differs("asked 1 lines and got 2 replies")
+
+    def test_a_carriage_return(self):
+        a, b = self.says(1, (INSERT % 5, inserted(0)), (INSERT % 6, inserted(1)))
+        self.said[1].lines = [a + b"\r", b + b"\r"]
+        self.walked(a + b"\r", b + b"\r\r")
+        self.setUp()
+        a, b = self.says(1, (INSERT % 5, inserted(0)), (INSERT % 6, inserted(1)))
+        self.said[1].lines = [a + b"\r", b + b"\r"]
+        self.differs("wasn't sent", a + b"\r\r", b)
+
     def test_the_undo_of_a_holder(self):
         a, b = self.says(1, (START, b'{"ok":true,"revision":1}\n'), (INSERT % 5, inserted(0)), left=True)
         self.says(2, (SIZE, size(1)), (INSERT % 9, BUSY), (SIZE, size(0)))
@@ -149,11 +164,13 @@ class AgainstAStandIn(unittest.TestCase):
             ("added", crash, "rounds", "nobody sent"),
             ("quiet", crash, "full", ""),
             ("beyond", crowd, "place", "connection 65 is served"),
+            ("crossed", crash, "rounds", ""),
         ]
         if shutil.which(os.environ.get("CC", "cc")):
             cases += [("unsynced", crash, "power", "the journal lacks it"), ("early", crash, "power", "the journal lacks it")]
         for plant, script, part, why in cases:
-            status, said = self.ran(script, plant, "--part", part)
+            more = ("--rounds", "3") if script is crash else ()
+            status, said = self.ran(script, plant, "--part", part, *more)
             self.assertEqual(status, 1, (plant, said))
             self.assertIn(why, said, plant)
 
