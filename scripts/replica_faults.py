@@ -25,8 +25,7 @@ FAULTS = {
         "kill etcd,stop etcd",
     ),
     "entry-is-passed-over": (
-        "following.py", "        await replay(self._own, lines_of(value), ", "        await replay(self._own, lines_of(value) if number % 40 else [], ",
-        "kill leader,kill member",
+        "following.py", "for _, value in entries for line", "for number, value in entries if number % 40 for line", "kill leader,kill member",
     ),
 }
 FAILURES = 12

@@ -21,7 +21,7 @@ sys.path.insert(0, CLIENT)
 from mi_replica.etcd import Rejected, Unreachable  # noqa: E402
 from mi_replica.log import Log  # noqa: E402
 
-LONGEST_START = 60
+LONGEST_START = 120
 RECORD_SECONDS = 0.25
 
 

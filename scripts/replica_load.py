@@ -120,7 +120,7 @@ class Register(Talker):
 
 
 class Reader(threading.Thread):
-    """Looks a member's record up all the while, without waiting for replies: where the member says before and behind that it leads, the
+    """Looks a member's record up all the while: where the member says before and behind that it leads, the
     number is none that is older than the one that was acknowledged when the look-up was sent."""
 
     def __init__(self, port, register):
@@ -138,11 +138,14 @@ class Reader(threading.Thread):
                 time.sleep(0.05)
 
     def _read(self, stream):
-        rest, lows, lines = b"", [], []
+        """Where the member doesn't answer it connects anew, so that what it answers when it wakes was asked shortly before."""
+        rest, asked_at, lines = b"", [], []
         text = b'{"cmd":"member"}\n{"cmd":"get","id":%d}\n{"cmd":"member"}\n' % self._register.id
         while not self._ends.is_set():
-            if len(lows) < 2_000:
-                lows.append(self._register.acknowledged)
+            if asked_at and time.monotonic() - asked_at[0][0] > 0.3:
+                return
+            if len(asked_at) < 3:
+                asked_at.append((time.monotonic(), self._register.acknowledged))
                 stream.sendall(text)
             while select.select([stream], [], [], 0.02)[0]:
                 data = stream.recv(1 << 16)
@@ -151,7 +154,7 @@ class Reader(threading.Thread):
                 *whole, rest = (rest + data).split(b"\n")
                 lines += whole
             while len(lines) >= 3:
-                self._judge(lows.pop(0), *map(json.loads, lines[:3]))
+                self._judge(asked_at.pop(0)[1], *map(json.loads, lines[:3]))
                 del lines[:3]
 
     def _judge(self, low, before, found, behind):

@@ -25,7 +25,7 @@ from replica_load import REGISTER, Differs, Reader, Register, Talker, check_tabl
 from mi_client import connect_leader
 
 PER_RUN = 20
-LONGEST_WAIT = 60
+LONGEST_WAIT = 120
 KINDS = {
     "kill leader": 5, "end leader": 1, "stop leader": 3, "cut leader": 3, "kill member": 1, "stop member": 1, "cut member": 1, "empty member": 1,
     "kill etcd": 3, "stop etcd": 2, "kill both": 1, "stop both": 1,
@@ -103,6 +103,13 @@ class Run:
 
     # The end
 
+    def look_for_divergence(self):
+        """No member's server has refused a line of the log."""
+        for it in self.members.all:
+            for line in it.said().splitlines():
+                if "Diverged" in line:
+                    raise Differs(f"{it.name}: {line}")
+
     def check(self):
         """Ends the clients, and checks. A line on what there was."""
         for it in (*self.talkers, *self.readers):
@@ -115,6 +122,7 @@ class Run:
         counts = [check_talker(it, replies, places) for it in self.talkers]
         self.members.wait_until_equal(len(entries))
         check_tables(self.members.ports, reference)
+        self.look_for_divergence()
         stale = [text for it in self.readers for text in it.stale]
         if stale:
             raise Differs(f"a look-up of the leader was stale: {stale[0]}")
@@ -161,6 +169,9 @@ def runs(options):
                             run.fail(kind)
                     print(f"run of seed {seed}: {run.check()}", flush=True)
                     waits += run.waits
+                except Stuck:
+                    run.look_for_divergence()
+                    raise
                 finally:
                     run.close()
         finally:

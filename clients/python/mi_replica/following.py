@@ -3,11 +3,11 @@ state by so much as it has not read yet. Whatever changes is refused, with the l
 from __future__ import annotations
 
 import asyncio
-from typing import Callable, Iterator, List, Optional
+from typing import Callable, Iterator, List, Optional, Tuple
 
 from mi_replica import lines as known
 from mi_replica.clients import Client, Clients
-from mi_replica.log import AGAIN_SECONDS, Leader, Log, News, Snapshot
+from mi_replica.log import AGAIN_SECONDS, MOST_BYTES, Leader, Log, Snapshot
 from mi_replica.etcd import Unreachable
 from mi_replica.own import Own
 from mi_replica.tasks import end
@@ -76,20 +76,34 @@ class Following:
                 continue
             if found.first > self.number + 1:
                 raise Behind(found.first)
-            for number, value in found.entries:
-                await self._apply(number, value)
+            await self._apply(found.entries)
             self.leader = found.leader
             if not found.more:
                 return found
 
-    async def _apply(self, number: int, value: bytes) -> None:
-        if number <= self.number:
-            return
-        if number != self.number + 1:
-            raise Behind(number)
-        await replay(self._own, lines_of(value), f"entry {number}")
-        self.number = number
-        self.on_entry(number, value)
+    async def _apply(self, entries: List[Tuple[int, bytes]]) -> None:
+        """Asks the own server entries, together where they are short."""
+        taken: List[Tuple[int, bytes]] = []
+        size = 0
+        for number, value in entries:
+            if number <= self.number + len(taken):
+                continue
+            if number != self.number + len(taken) + 1:
+                raise Behind(number)
+            taken.append((number, value))
+            size += len(value)
+            if size > MOST_BYTES:
+                await self._apply_at_once(taken)
+                taken, size = [], 0
+        await self._apply_at_once(taken)
+
+    async def _apply_at_once(self, entries: List[Tuple[int, bytes]]) -> None:
+        lines = [line for _, value in entries for line in lines_of(value)]
+        if lines:
+            await replay(self._own, lines, f"entries {entries[0][0]} to {entries[-1][0]}")
+        for number, value in entries:
+            self.number = number
+            self.on_entry(number, value)
 
     # The log
 
@@ -100,17 +114,13 @@ class Following:
                 return
             try:
                 async for news in self._log.watch(found.revision + 1, SILENCE_SECONDS):
-                    await self._heard(news)
+                    await self._apply([it.entry for it in news if it.entry])
+                    for it in news:
+                        self.leader = self.leader if it.entry else it.leads
                     if self.leader is None:
                         break
             except Unreachable:
                 pass  # (all is read again, from another member of etcd)
-
-    async def _heard(self, news: News) -> None:
-        if news.entry:
-            await self._apply(*news.entry)
-        else:
-            self.leader = news.leads
 
     # Look-ups
 

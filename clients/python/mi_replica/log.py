@@ -18,8 +18,9 @@ from mi_replica.etcd import Etcd, Message, Pair, Rejected, Unreachable, behind, 
 
 MOST_BYTES = 1_000_000
 """The most bytes of an entry: etcd takes requests of 1,572,864 bytes unless it is told otherwise."""
-PAGE = 8
-"""Entries that are read at once: 8 MB at most."""
+LEAST_PAGE, MOST_PAGE = 8, 512
+PAGE_BYTES = 4 << 20
+"""So many entries are read at once, and about so many bytes, as the entries before let expect."""
 REQUEST_SECONDS = 2.0
 AGAIN_SECONDS = 0.1
 COMPACTED = 1_000
@@ -65,11 +66,10 @@ class Snapshot(NamedTuple):
 
 
 class News(NamedTuple):
-    """What changed: an entry that was appended, or another leader, or none."""
+    """What changed: an entry that was appended, or else who leads."""
 
     entry: Optional[Tuple[int, bytes]] = None
     leads: Optional[Leader] = None
-    is_vacant: bool = False
 
 
 def clock() -> float:
@@ -86,7 +86,7 @@ class Log:
         self._prefix, self._members = f"{name}/".encode(), f"{name}.members/".encode()
         self._leader, self._first, self._schema = (self._prefix + it for it in (b"leader", b"first", b"schema"))
         self._entries = self._prefix + b"log/"
-        self._compacted = 0
+        self._compacted, self._page = 0, LEAST_PAGE
         # (a connection for each purpose, so that a term isn't kept waiting behind an entry)
         self._appending, self._reading, self._watching, self._electing = (Etcd(urls, REQUEST_SECONDS) for _ in range(4))
 
@@ -100,12 +100,15 @@ class Log:
     def _number(self, key: bytes) -> int:
         return int(key[len(self._entries):])
 
-    async def read(self, after: int, limit: int = PAGE) -> Snapshot:
-        """The entries behind this number, as they stand. Raises Unreachable."""
+    async def read(self, after: int, limit: int = 0) -> Snapshot:
+        """The entries behind this number, as they stand, `limit` of them at most. Raises Unreachable."""
+        limit = limit or self._page
         parts = [ranged(self._key(after + 1), behind(self._entries), limit + 1), ranged(self._leader), ranged(self._first)]
         answer = await self._reading.post("/v3/kv/txn", {"success": parts})
         found, first = pairs(answer, 0), pairs(answer, 2)
         entries = [(self._number(it.key), it.value) for it in found]
+        average = sum(len(value) for _, value in entries) // max(1, len(entries)) or 1
+        self._page = max(LEAST_PAGE, min(MOST_PAGE, PAGE_BYTES // average))
         return Snapshot(entries[:limit], len(entries) > limit, int(first[0].value) if first else 1, leader_of(pairs(answer, 1)), revision(answer))
 
     async def last(self) -> int:
@@ -115,21 +118,18 @@ class Log:
         answer = await self._reading.post("/v3/kv/txn", {"success": [{"request_range": {**newest, **order}}]})
         return max((self._number(it.key) for it in pairs(answer, 0)), default=0)
 
-    async def watch(self, start: int, silence: float) -> AsyncIterator[News]:
+    async def watch(self, start: int, silence: float) -> AsyncIterator[List[News]]:
         """What changes from this revision on, until nothing has for so many seconds, or the revision is too old for etcd."""
         wanted = {"key": text64(self._prefix), "range_end": text64(behind(self._prefix)), "start_revision": str(start)}
         async for result in self._watching.watch({"create_request": wanted}, silence):
             if result.get("canceled"):
                 return
-            for event in result.get("events", []):
-                news = self._news(event)
-                if news:
-                    yield news
+            yield [it for it in map(self._news, result.get("events", [])) if it]
 
     def _news(self, event: Message) -> Optional[News]:
         it, is_gone = Pair(event["kv"]), event.get("type") == "DELETE"
         if it.key == self._leader:
-            return News(is_vacant=True) if is_gone else News(leads=leader_of([it]))
+            return News() if is_gone else News(leads=leader_of([it]))
         if it.key.startswith(self._entries) and not is_gone:
             return News(entry=(self._number(it.key), it.value))
         return None

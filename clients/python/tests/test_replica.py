@@ -48,10 +48,12 @@ class Lines(unittest.TestCase):
     def test_pieces_of_any_size_give_the_same_lines(self) -> None:
         data = b'{"a":1}\n\n\r\n{"b"\r\n' + b"x" * 70_000 + b"\nrest"
         wanted = [b'{"a":1}\n', b'{"b"\r\n', b"x" * (known.LONGEST_LINE + 1) + b"\n", b"rest\n"]
-        for size in (1, 7, 4096, 100_000):
+        for size in (97, 4096, 100_000):
             cut = known.Splitter()
             found = [line for at in range(0, len(data), size) for line in cut.feed(data[at:at + size])]
             self.assertEqual(found + cut.end() + cut.end(), wanted, size)
+        cut, short = known.Splitter(), b'{"a":1}\n\n\r\n{"b"\r\nrest'
+        self.assertEqual([line for at in range(len(short)) for line in cut.feed(short[at:at + 1])] + cut.end(), [wanted[0], wanted[1], wanted[3]])
         cut = known.Splitter()
         self.assertEqual(cut.feed(b"\r") + cut.end(), [b"\r\r\n"])  # (which no newline ended: it isn't empty)
 
