@@ -29,7 +29,7 @@ use Rattle.mi_index.specs.Standing.{slot_in, swap_order, AllAbove, Climb, Stands
 use Rattle.mi_order.specs.declared.stored.Stored.{Stored}
 use Rattle.mi_order.specs.declared.orders.ByHash.{ByHash}
 use Rattle.mi_index.specs.declared.structure.Structure.{Structure}
-use Rattle.mi_index.specs.declared.structure.Structure.TheVariants.{Ordered, Hashed, Sequenced}
+use Rattle.mi_index.specs.declared.structure.Structure.TheVariants.{Sorted, Hashed, Sequenced}
 
 -- a list needs nothing of values
 alike_links : (x : Structure) (m n : Pooled Stored) (s : ℕ) (rs : List Ref) → AreAlike (swap_order x) m n s rs → SameLinks m n s rs
@@ -71,7 +71,7 @@ climb_on order m n s (r ∷ rs) all h = (above_on order m n s r rs all.0 all.1 h
 
 pub stands_alike : (x : Structure) (m n : Pooled Stored) (rs : List Ref) → n.slots ≡ m.slots
     → AreAlike (swap_order x) m n (slot_in x) rs → Stands x m rs → Stands x n rs
-stands_alike (Ordered t) m n rs slots y h =
+stands_alike (Sorted t) m n rs slots y h =
     tree_where (stored_order t.order.parts) (stored_tag t.order.types t.order.parts) (stored_total t.order.parts)
     (is_tagged t.order.types t.order.parts).tag_below t m n rs h y (subst (λ k. t.slot < k) (sym slots) h.has_slot)
 stands_alike (Hashed c) m n rs slots y h = (
@@ -83,7 +83,7 @@ stands_alike (Sequenced l) m n rs slots y h = listed_same l m n rs slots (alike_
 -- the same values compare Equal
 pub itself : (x : Structure) (o : Option Stored) → compared (swap_order x) o o ≡ Equal
 itself x None = refl
-itself (Ordered t) (Some v) = tied_itself (stored_total t.order.parts) v
+itself (Sorted t) (Some v) = tied_itself (stored_total t.order.parts) v
 itself (Hashed c) (Some v) = tied_itself (compare_key_total c.keys.parts) v.row
 itself (Sequenced l) (Some v) = refl
 

@@ -20,25 +20,25 @@ use Rattle.mi_order.specs.declared.stored.Stored.{Stored}
 use Rattle.mi_order.specs.declared.orders.ByKey.{ByKey}
 use Rattle.mi_index.specs.declared.moves.Moves.TheVariants.{All}
 use Rattle.mi_index.specs.declared.structure.Structure.{Structure}
-use Rattle.mi_index.specs.declared.structure.Structure.TheVariants.{Ordered, Hashed, Sequenced}
+use Rattle.mi_index.specs.declared.structure.Structure.TheVariants.{Sorted, Hashed, Sequenced}
 use Rattle.mi_index.proofs.OtherNodeLemmas.{AgreeBut, but_taken, all_but, out_of_one, out_of_all, OtherTags, place_seen}
 
 -- Structures of one kind
 
 like_one : (x y z : Structure) → IsLike x y → IsLike y z → IsLike x z
-like_one (Ordered a) (Ordered b) (Ordered c) g h = (h.0 ∙ g.0, h.1 ∙ g.1)
-like_one (Ordered a) (Ordered b) (Hashed c) g h = absurd h
-like_one (Ordered a) (Ordered b) (Sequenced c) g h = absurd h
-like_one (Ordered a) (Hashed b) z g h = absurd g
-like_one (Ordered a) (Sequenced b) z g h = absurd g
-like_one (Hashed a) (Ordered b) z g h = absurd g
-like_one (Hashed a) (Hashed b) (Ordered c) g h = absurd h
+like_one (Sorted a) (Sorted b) (Sorted c) g h = (h.0 ∙ g.0, h.1 ∙ g.1)
+like_one (Sorted a) (Sorted b) (Hashed c) g h = absurd h
+like_one (Sorted a) (Sorted b) (Sequenced c) g h = absurd h
+like_one (Sorted a) (Hashed b) z g h = absurd g
+like_one (Sorted a) (Sequenced b) z g h = absurd g
+like_one (Hashed a) (Sorted b) z g h = absurd g
+like_one (Hashed a) (Hashed b) (Sorted c) g h = absurd h
 like_one (Hashed a) (Hashed b) (Hashed c) g h = let f = g.2 in let k = h.2 in (h.0 ∙ g.0, h.1 ∙ g.1, omega (arith, f, k))
 like_one (Hashed a) (Hashed b) (Sequenced c) g h = absurd h
 like_one (Hashed a) (Sequenced b) z g h = absurd g
-like_one (Sequenced a) (Ordered b) z g h = absurd g
+like_one (Sequenced a) (Sorted b) z g h = absurd g
 like_one (Sequenced a) (Hashed b) z g h = absurd g
-like_one (Sequenced a) (Sequenced b) (Ordered c) g h = absurd h
+like_one (Sequenced a) (Sequenced b) (Sorted c) g h = absurd h
 like_one (Sequenced a) (Sequenced b) (Hashed c) g h = absurd h
 like_one (Sequenced a) (Sequenced b) (Sequenced c) g h = h ∙ g
 
@@ -52,8 +52,8 @@ like_both (x ∷ xs) (y ∷ ys) (z ∷ zs) g h = (like_one x y z g.0 h.0, like_b
 -- room stays
 
 roomy_one : (x y : Structure) (n : ℕ) → IsLike x y → IsRoomy x n → IsRoomy y n
-roomy_one x (Ordered c) n g h = tt
-roomy_one (Ordered a) (Hashed c) n g h = absurd g
+roomy_one x (Sorted c) n g h = tt
+roomy_one (Sorted a) (Hashed c) n g h = absurd g
 roomy_one (Hashed a) (Hashed c) n g h = let f = g.2 in omega (arith, f, h)
 roomy_one (Sequenced a) (Hashed c) n g h = absurd g
 roomy_one x (Sequenced c) n g h = tt
@@ -67,60 +67,60 @@ roomy_all (x ∷ xs) (y ∷ ys) n g h = (roomy_one x y n g.0 h.0, roomy_all xs y
 -- a place in one is a place in the other
 pub place_like : (x y : Structure) (m : Pooled Stored) (v : Stored) (t : ℕ) (b : Option Ref) (rs : List Ref)
     → IsLike x y → HasPlaceFor x m v t b rs → HasPlaceFor y m v t b rs
-place_like (Ordered a) (Ordered c) m v t b rs g h =
+place_like (Sorted a) (Sorted c) m v t b rs g h =
     subst (λ s. NoneAre (side_of_value (stored_order c.order.parts) m s v t) Equal rs) (sym g.0)
     (subst (λ (o : ByKey). NoneAre (side_of_value (stored_order o.parts) m a.slot v t) Equal rs) (sym g.1) h)
-place_like (Ordered a) (Hashed c) m v t b rs g h = absurd g
-place_like (Ordered a) (Sequenced c) m v t b rs g h = absurd g
-place_like (Hashed a) (Ordered c) m v t b rs g h = absurd g
+place_like (Sorted a) (Hashed c) m v t b rs g h = absurd g
+place_like (Sorted a) (Sequenced c) m v t b rs g h = absurd g
+place_like (Hashed a) (Sorted c) m v t b rs g h = absurd g
 place_like (Hashed a) (Hashed c) m v t b rs g h = subst (λ s. NoneHas (stamp_at m s) t rs) (sym g.0) h
 place_like (Hashed a) (Sequenced c) m v t b rs g h = absurd g
-place_like (Sequenced a) (Ordered c) m v t b rs g h = absurd g
+place_like (Sequenced a) (Sorted c) m v t b rs g h = absurd g
 place_like (Sequenced a) (Hashed c) m v t b rs g h = absurd g
 place_like (Sequenced a) (Sequenced c) m v t b rs g h = h
 
 -- tags of other nodes
 
 pub tags_like : (x y : Structure) (k : ℕ) (m n : Pooled Stored) → IsLike x y → OtherTags x k m n → OtherTags y k m n
-tags_like (Ordered a) (Ordered c) k m n g h = subst (λ s. (q : ℕ) → (k == q) ≡ false → (link_of n q s).tag ≡ (link_of m q s).tag) (sym g.0) h
-tags_like (Ordered a) (Hashed c) k m n g h = absurd g
-tags_like (Ordered a) (Sequenced c) k m n g h = absurd g
-tags_like (Hashed a) (Ordered c) k m n g h = absurd g
+tags_like (Sorted a) (Sorted c) k m n g h = subst (λ s. (q : ℕ) → (k == q) ≡ false → (link_of n q s).tag ≡ (link_of m q s).tag) (sym g.0) h
+tags_like (Sorted a) (Hashed c) k m n g h = absurd g
+tags_like (Sorted a) (Sequenced c) k m n g h = absurd g
+tags_like (Hashed a) (Sorted c) k m n g h = absurd g
 tags_like (Hashed a) (Hashed c) k m n g h = subst (λ s. (q : ℕ) → (k == q) ≡ false → (link_of n q s).tag ≡ (link_of m q s).tag) (sym g.0) h
 tags_like (Hashed a) (Sequenced c) k m n g h = absurd g
-tags_like (Sequenced a) (Ordered c) k m n g h = absurd g
+tags_like (Sequenced a) (Sorted c) k m n g h = absurd g
 tags_like (Sequenced a) (Hashed c) k m n g h = absurd g
 tags_like (Sequenced a) (Sequenced c) k m n g h = tt
 
 pub tags_but : (x : Structure) (k : ℕ) (m n o : Pooled Stored) → KeepsTags x m n → AgreeBut k n o → OtherTags x k m o
-tags_but (Ordered a) k m n o h g = λ q e. ap (λ (l : Link). l.tag) (g.links q a.slot e) ∙ h q
+tags_but (Sorted a) k m n o h g = λ q e. ap (λ (l : Link). l.tag) (g.links q a.slot e) ∙ h q
 tags_but (Hashed a) k m n o h g = λ q e. ap (λ (l : Link). l.tag) (g.links q a.slot e) ∙ h q
 tags_but (Sequenced a) k m n o h g = tt
 
 -- a node that got its stamp after other changes
 pub stamp_over : (x y : Structure) (m n o : Pooled Stored) (r : Ref) (t : ℕ) → IsLike x y → OtherTags x r.name m n → HasStamp y n o r t → HasStamp x m o r t
-stamp_over (Ordered a) (Ordered c) m n o r t g tags h =
+stamp_over (Sorted a) (Sorted c) m n o r t g tags h =
     let own : stamp_at o a.slot r ≡ t = subst (λ s. stamp_at o s r ≡ t) g.0 h.0 in
     let others : (q : ℕ) → (r.name == q) ≡ false → (link_of o q a.slot).tag ≡ (link_of n q a.slot).tag =
     subst (λ s. (q : ℕ) → (r.name == q) ≡ false → (link_of o q s).tag ≡ (link_of n q s).tag) g.0 h.1 in
     (own, λ q e. others q e ∙ tags q e)
-stamp_over (Ordered a) (Hashed c) m n o r t g tags h = absurd g
-stamp_over (Ordered a) (Sequenced c) m n o r t g tags h = absurd g
-stamp_over (Hashed a) (Ordered c) m n o r t g tags h = absurd g
+stamp_over (Sorted a) (Hashed c) m n o r t g tags h = absurd g
+stamp_over (Sorted a) (Sequenced c) m n o r t g tags h = absurd g
+stamp_over (Hashed a) (Sorted c) m n o r t g tags h = absurd g
 stamp_over (Hashed a) (Hashed c) m n o r t g tags h =
     let own : stamp_at o a.slot r ≡ t = subst (λ s. stamp_at o s r ≡ t) g.0 h.0 in
     let others : (q : ℕ) → (r.name == q) ≡ false → (link_of o q a.slot).tag ≡ (link_of n q a.slot).tag =
     subst (λ s. (q : ℕ) → (r.name == q) ≡ false → (link_of o q s).tag ≡ (link_of n q s).tag) g.0 h.1 in
     (own, λ q e. others q e ∙ tags q e)
 stamp_over (Hashed a) (Sequenced c) m n o r t g tags h = absurd g
-stamp_over (Sequenced a) (Ordered c) m n o r t g tags h = absurd g
+stamp_over (Sequenced a) (Sorted c) m n o r t g tags h = absurd g
 stamp_over (Sequenced a) (Hashed c) m n o r t g tags h = absurd g
 stamp_over (Sequenced a) (Sequenced c) m n o r t g tags h = tt
 
 put_like : (x y : Structure) (b : Option Ref) (ys : List Ref) → IsLike x y → IsPut y b ys → IsPut x b ys
-put_like (Ordered a) y b ys g h = tt
+put_like (Sorted a) y b ys g h = tt
 put_like (Hashed a) y b ys g h = tt
-put_like (Sequenced a) (Ordered c) b ys g h = absurd g
+put_like (Sequenced a) (Sorted c) b ys g h = absurd g
 put_like (Sequenced a) (Hashed c) b ys g h = absurd g
 put_like (Sequenced a) (Sequenced c) b ys g h = h
 

@@ -9,7 +9,7 @@ use Rattle.mi_index.specs.Standing.{slot_in, Stands, IsLike}
 use Rattle.mi_index.specs.Pass.{Asks, Gives, AllStand, AllCan, IsReady, IsStep, AreReady, IsPass, AllLike}
 use Rattle.mi_order.specs.declared.stored.Stored.{Stored}
 use Rattle.mi_index.specs.declared.structure.Structure.{Structure}
-use Rattle.mi_index.specs.declared.structure.Structure.TheVariants.{Ordered, Hashed, Sequenced}
+use Rattle.mi_index.specs.declared.structure.Structure.TheVariants.{Sorted, Hashed, Sequenced}
 use Rattle.mi_index.proofs.StayLemmas.{IsLocal}
 use Rattle.mi_index.proofs.PassLemmas.{tail_ready, tail_passed, none_left}
 
@@ -31,7 +31,7 @@ first_ready P s x xs m q = of_first q.rss q.stand q.can
     of_first (rs ∷ rss) h c = record { rs = rs; stands = h.1; can = c.0 }
 
 slot_there : (x : Structure) (m : Pooled Stored) (rs : List Ref) → Stands x m rs → slot_in x < m.slots
-slot_there (Ordered t) m rs h = h.has_slot
+slot_there (Sorted t) m rs h = h.has_slot
 slot_there (Hashed c) m rs h = let b = h.0.buckets in b.slot
 slot_there (Sequenced l) m rs h = h.slot_fits
 

@@ -24,7 +24,7 @@ use Rattle.std.specs.declared.option.Option.TheVariants.{None}
 use Rattle.mi_index.specs.Opened.{IsOpenedFor, AllOpenedFor, IsEmpty, AllEmpty, empties, IsOpened}
 use Rattle.mi_order.specs.declared.stored.Stored.{Stored}
 use Rattle.mi_index.specs.declared.structure.Structure.{Structure}
-use Rattle.mi_index.specs.declared.structure.Structure.TheVariants.{Ordered, Hashed, Sequenced}
+use Rattle.mi_index.specs.declared.structure.Structure.TheVariants.{Sorted, Hashed, Sequenced}
 
 pub some_index : (s : Shape) → is_schema s ≡ true → 1 ≤ length s.indexes
 some_index s h = let l = has_indexes s h in omega (arith, l)
@@ -38,7 +38,7 @@ few_indexes s h = few_of (length s.columns) s.indexes (and_parts _ _ (and_parts 
 
 stands_empty : (secret : ℕ) (cs : List Column) (i : Index) (s : ℕ) (x : Structure) (m : Pooled Stored)
     → IsOpenedFor secret cs i s x → IsEmpty x → s < m.slots → (slot_in x ≡ s) × Stands x m []
-stands_empty secret cs i s (Ordered t) m f e l = (
+stands_empty secret cs i s (Sorted t) m f e l = (
   f.3,
   tree_empty t m (stored_order t.order.parts) (stored_tag t.order.types t.order.parts) e (subst (λ k. k < m.slots) (sym f.3) l),
 )
@@ -65,7 +65,7 @@ room_all [] s m v t = tt
 room_all (x ∷ xs) s m v t = (record { few = omega arith; place = room_one x }, room_all xs (s + 1) m v t)
   where
     room_one : (x : Structure) → HasPlaceFor x m v t None []
-    room_one (Ordered u) = tt
+    room_one (Sorted u) = tt
     room_one (Hashed c) = tt
     room_one (Sequenced l) = ([], [], refl, refl)
 

@@ -29,7 +29,7 @@ use Rattle.mi_order.specs.declared.stored.Stored.{Stored}
 use Rattle.mi_order.specs.declared.orders.ByHash.{ByHash}
 use Rattle.mi_index.specs.declared.moves.Place.{Place}
 use Rattle.mi_index.specs.declared.structure.Structure.{Structure}
-use Rattle.mi_index.specs.declared.structure.Structure.TheVariants.{Ordered, Hashed, Sequenced}
+use Rattle.mi_index.specs.declared.structure.Structure.TheVariants.{Sorted, Hashed, Sequenced}
 use Rattle.mi_index.proofs.FrameLemmas.{stands_alike, itself}
 
 pub record AgreeBut (k : ℕ) (m n : Pooled Stored) : Type 0 where
@@ -86,12 +86,12 @@ all_but (x ∷ xs) s k m n (rs ∷ rss) a o h = (h.0, stands_but x k m n rs a o.
 -- nodes of structures are held, each once
 
 pub nodes_held : (x : Structure) (m : Pooled Stored) (rs : List Ref) → Stands x m rs → AreHeld m rs
-nodes_held (Ordered t) m rs h = subst (AreHeld m) h.nodes_are (all_held m t.slot h.shape h.rooted.stands)
+nodes_held (Sorted t) m rs h = subst (AreHeld m) h.nodes_are (all_held m t.slot h.shape h.rooted.stands)
 nodes_held (Hashed c) m rs h = h.0.buckets.held
 nodes_held (Sequenced l) m rs h = listed_held l m rs h
 
 pub nodes_apart : (x : Structure) (m : Pooled Stored) (rs : List Ref) → Stands x m rs → IsApart rs
-nodes_apart (Ordered t) m rs h = h.apart
+nodes_apart (Sorted t) m rs h = h.apart
 nodes_apart (Hashed c) m rs h = h.0.buckets.apart
 nodes_apart (Sequenced l) m rs h = h.apart
 
@@ -106,7 +106,7 @@ out_of_all (x ∷ xs) s m k (rs ∷ rss) none h = (out_of_one x m k rs none h.1,
 
 -- the tags of all other nodes are the same; lists have none
 abbrev pub OtherTags : Structure → ℕ → Pooled Stored → Pooled Stored → Type 0
-OtherTags (Ordered t) k m n = (q : ℕ) → (k == q) ≡ false → (link_of n q t.slot).tag ≡ (link_of m q t.slot).tag
+OtherTags (Sorted t) k m n = (q : ℕ) → (k == q) ≡ false → (link_of n q t.slot).tag ≡ (link_of m q t.slot).tag
 OtherTags (Hashed c) k m n = (q : ℕ) → (k == q) ≡ false → (link_of n q c.slot).tag ≡ (link_of m q c.slot).tag
 OtherTags (Sequenced l) k m n = Unit {0}
 
@@ -144,7 +144,7 @@ module _ (m n : Pooled Stored) (r : Ref) (v : Stored) (own : value_of n r.name �
 
   pub place_seen : (x : Structure) (t : ℕ) (b : Option Ref) (rs : List Ref)
       → OtherTags x r.name m n → IsOut r.name rs → HasPlaceFor x m v t b rs → HasPlace x n r t b rs
-  place_seen (Ordered u) t b rs tags out h = none_on r.name (side_of_value (stored_order u.order.parts) m u.slot v t)
+  place_seen (Sorted u) t b rs tags out h = none_on r.name (side_of_value (stored_order u.order.parts) m u.slot v t)
       (side_of_new (stored_order u.order.parts) n u.slot r t) Equal rs (side_seen (stored_order u.order.parts) u.slot t tags) out h
   place_seen (Hashed c) t b rs tags out h = has_on r.name (stamp_at m c.slot) (stamp_at n c.slot) t rs (λ q e. ap (λ (z : Tag). z.stamp) (tags q.name e)) out h
   place_seen (Sequenced l) t b rs tags out h = h
@@ -155,7 +155,7 @@ module _ (m n : Pooled Stored) (r : Ref) (v : Stored) (own : value_of n r.name �
 
   pub old_place_seen : (x : Structure) (p : Place) (rs : List Ref) → OtherTags x r.name m n
       → IsOut r.name rs → HasOldPlaceFor x m v p rs → HasOldPlace x n r p rs
-  old_place_seen (Ordered u) p rs tags out h =
+  old_place_seen (Sorted u) p rs tags out h =
       none_on r.name (side_of_value (stored_order u.order.parts) m u.slot v p.stamp) (side_of_new (stored_order u.order.parts) n u.slot r p.stamp)
       Equal rs (side_seen (stored_order u.order.parts) u.slot p.stamp tags) out h
   old_place_seen (Hashed c) p rs tags out h =

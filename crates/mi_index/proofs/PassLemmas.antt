@@ -8,7 +8,7 @@ use Rattle.mi_index.specs.Standing.{slot_in, IsLike}
 use Rattle.mi_index.specs.Pass.{Asks, Gives, AllStand, AllCan, AllGiven, KeepsFrom, IsStep, AreReady, IsPass}
 use Rattle.mi_order.specs.declared.stored.Stored.{Stored}
 use Rattle.mi_index.specs.declared.structure.Structure.{Structure}
-use Rattle.mi_index.specs.declared.structure.Structure.TheVariants.{Ordered, Hashed, Sequenced}
+use Rattle.mi_index.specs.declared.structure.Structure.TheVariants.{Sorted, Hashed, Sequenced}
 use Rattle.mi_index.proofs.FrameLemmas.{Agree, stands_same}
 use Rattle.mi_index.proofs.StayLemmas.{IsLocal}
 
@@ -30,13 +30,13 @@ agree_first : (x : Structure) (s : ℕ) (n o : Pooled Stored) (r : Ref) (rss : L
 agree_first x s n o r rss q e = record { refs = q.refs; values = q.values; slots = q.slots; links = λ k. q.earlier_slots k (slot_in x) (omega (arith, e)) }
 
 pub like_slot : (x y : Structure) → IsLike x y → slot_in y ≡ slot_in x
-like_slot (Ordered t) (Ordered u) h = h.0
-like_slot (Ordered t) (Hashed d) h = absurd h
-like_slot (Ordered t) (Sequenced k) h = absurd h
-like_slot (Hashed c) (Ordered u) h = absurd h
+like_slot (Sorted t) (Sorted u) h = h.0
+like_slot (Sorted t) (Hashed d) h = absurd h
+like_slot (Sorted t) (Sequenced k) h = absurd h
+like_slot (Hashed c) (Sorted u) h = absurd h
 like_slot (Hashed c) (Hashed d) h = h.0
 like_slot (Hashed c) (Sequenced k) h = absurd h
-like_slot (Sequenced l) (Ordered u) h = absurd h
+like_slot (Sequenced l) (Sorted u) h = absurd h
 like_slot (Sequenced l) (Hashed d) h = absurd h
 like_slot (Sequenced l) (Sequenced k) h = h
 

@@ -26,7 +26,7 @@ use Rattle.mi_order.specs.declared.orders.ByKey.{ByKey}
 use Rattle.mi_order.specs.declared.orders.ByHash.{ByHash}
 use Rattle.mi_index.specs.declared.moves.Place.{Place}
 use Rattle.mi_index.specs.declared.structure.Structure.{Structure}
-use Rattle.mi_index.specs.declared.structure.Structure.TheVariants.{Ordered, Hashed, Sequenced}
+use Rattle.mi_index.specs.declared.structure.Structure.TheVariants.{Sorted, Hashed, Sequenced}
 use Rattle.mi_index.proofs.FrameLemmas.{stands_alike, itself}
 use Rattle.mi_index.proofs.PassLemmas.{like_slot}
 use Rattle.mi_index.proofs.JoinLemmas.{long_with}
@@ -53,13 +53,13 @@ cut_once r (x ∷ xs) ys (u ∷ us) vs a e = λ i. head_of e i ∷ cut_once r xs
 -- Values
 
 order_like : (x y : Structure) → IsLike x y → swap_order y ≡ swap_order x
-order_like (Ordered a) (Ordered c) g = ap (λ (o : ByKey). swap_order (Ordered (record { slot = c.slot; order = o; root = c.root }))) g.1
-order_like (Ordered a) (Hashed c) g = absurd g
-order_like (Ordered a) (Sequenced c) g = absurd g
-order_like (Hashed a) (Ordered c) g = absurd g
+order_like (Sorted a) (Sorted c) g = ap (λ (o : ByKey). swap_order (Sorted (record { slot = c.slot; order = o; root = c.root }))) g.1
+order_like (Sorted a) (Hashed c) g = absurd g
+order_like (Sorted a) (Sequenced c) g = absurd g
+order_like (Hashed a) (Sorted c) g = absurd g
 order_like (Hashed a) (Hashed c) g = ap (λ (k : ByHash). swap_order (Hashed (record { slot = c.slot; keys = k; buckets = c.buckets; groups = c.groups }))) g.1
 order_like (Hashed a) (Sequenced c) g = absurd g
-order_like (Sequenced a) (Ordered c) g = absurd g
+order_like (Sequenced a) (Sorted c) g = absurd g
 order_like (Sequenced a) (Hashed c) g = absurd g
 order_like (Sequenced a) (Sequenced c) g = refl
 
@@ -94,12 +94,12 @@ module _ (m : Pooled Stored) (r : Ref) (v : Stored) where
 
 old_place_like : (x y : Structure) (m : Pooled Stored) (v : Stored) (p : Place) (rs : List Ref)
     → IsLike x y → HasOldPlaceFor x m v p rs → HasOldPlaceFor y m v p rs
-old_place_like (Ordered a) (Ordered c) m v p rs g h =
+old_place_like (Sorted a) (Sorted c) m v p rs g h =
     subst (λ s. NoneAre (side_of_value (stored_order c.order.parts) m s v p.stamp) Equal rs) (sym g.0)
     (subst (λ (o : ByKey). NoneAre (side_of_value (stored_order o.parts) m a.slot v p.stamp) Equal rs) (sym g.1) h)
-old_place_like (Ordered a) (Hashed c) m v p rs g h = absurd g
-old_place_like (Ordered a) (Sequenced c) m v p rs g h = absurd g
-old_place_like (Hashed a) (Ordered c) m v p rs g h = absurd g
+old_place_like (Sorted a) (Hashed c) m v p rs g h = absurd g
+old_place_like (Sorted a) (Sequenced c) m v p rs g h = absurd g
+old_place_like (Hashed a) (Sorted c) m v p rs g h = absurd g
 old_place_like (Hashed a) (Hashed c) m v p rs g h = record {
   xs = h.xs;
   ys = h.ys;
@@ -113,15 +113,15 @@ old_place_like (Hashed a) (Hashed c) m v p rs g h = record {
     key_of : ByHash → Ref → Bool
     key_of k q = same_values (has_one_key k.parts) (Some v) (value_of m q.name)
 old_place_like (Hashed a) (Sequenced c) m v p rs g h = absurd g
-old_place_like (Sequenced a) (Ordered c) m v p rs g h = absurd g
+old_place_like (Sequenced a) (Sorted c) m v p rs g h = absurd g
 old_place_like (Sequenced a) (Hashed c) m v p rs g h = absurd g
 old_place_like (Sequenced a) (Sequenced c) m v p rs g h = h
 
 beside_over : (x y : Structure) (o p : Pooled Stored) (r : Ref) (b f : Option Ref) (xs ys : List Ref)
     → IsLike x y → ((k : ℕ) → value_of p k ≡ value_of o k) → IsBeside y o r b f xs ys → IsBeside x p r b f xs ys
 unfolding same_nodes
-beside_over (Ordered a) y o p r b f xs ys g values h = tt
-beside_over (Hashed a) (Ordered c) o p r b f xs ys g values h = absurd g
+beside_over (Sorted a) y o p r b f xs ys g values h = tt
+beside_over (Hashed a) (Sorted c) o p r b f xs ys g values h = absurd g
 beside_over (Hashed a) (Hashed c) o p r b f xs ys g values h =
     let e : same_nodes (keying_of c.keys) o r ≡ same_nodes (keying_of a.keys) p r = same_over g.1 in
     (h.0 ∙ (λ i. last_of None (filter (e i) xs)), h.1 ∙ (λ i. first_of (filter (e i) ys) None))
@@ -129,7 +129,7 @@ beside_over (Hashed a) (Hashed c) o p r b f xs ys g values h =
     same_over : c.keys ≡ a.keys → same_nodes (keying_of c.keys) o r ≡ same_nodes (keying_of a.keys) p r
     same_over w = λ i q. same_values (has_one_key (w i).parts) (sym (values r.name) i) (sym (values q.name) i)
 beside_over (Hashed a) (Sequenced c) o p r b f xs ys g values h = absurd g
-beside_over (Sequenced a) (Ordered c) o p r b f xs ys g values h = absurd g
+beside_over (Sequenced a) (Sorted c) o p r b f xs ys g values h = absurd g
 beside_over (Sequenced a) (Hashed c) o p r b f xs ys g values h = absurd g
 beside_over (Sequenced a) (Sequenced c) o p r b f xs ys g values h = h
 

@@ -9,10 +9,10 @@ use Rattle.mi_index.specs.Pass.{AllStand, AllGiven, AllLike, AllRoomy, IsPass}
 use Rattle.mi_index.specs.Passes.{nothing_asked, grown}
 use Rattle.mi_order.specs.declared.stored.Stored.{Stored}
 use Rattle.mi_index.specs.declared.structure.Structure.{Structure}
-use Rattle.mi_index.specs.declared.structure.Structure.TheVariants.{Ordered, Hashed, Sequenced}
+use Rattle.mi_index.specs.declared.structure.Structure.TheVariants.{Sorted, Hashed, Sequenced}
 
 fewer_one : (x : Structure) (k n : ℕ) → k ≤ n → IsRoomy x n → IsRoomy x k
-fewer_one (Ordered t) k n l h = tt
+fewer_one (Sorted t) k n l h = tt
 fewer_one (Hashed c) k n l h = omega (arith, l, h)
 fewer_one (Sequenced q) k n l h = tt
 
@@ -22,7 +22,7 @@ fewer_all [] k n l h = tt
 fewer_all (x ∷ xs) k n l h = (fewer_one x k n l h.0, fewer_all xs k n l h.1)
 
 none_one : (x : Structure) → IsRoomy x 0
-none_one (Ordered t) = tt
+none_one (Sorted t) = tt
 none_one (Hashed c) = omega arith
 none_one (Sequenced q) = tt
 
@@ -40,7 +40,7 @@ pub roomy_more : (xs : List Structure) (i : ℕ) (y : Structure) (n : ℕ) → i
 roomy_more xs i y n l g h = subst (λ zs. AllRoomy zs n) (sym (take_more_set xs i y l)) (both_roomy (take i xs) y n g h)
 
 like_itself : (x : Structure) → IsLike x x
-like_itself (Ordered t) = (refl, refl)
+like_itself (Sorted t) = (refl, refl)
 like_itself (Hashed c) = (refl, refl, omega arith)
 like_itself (Sequenced q) = refl
 
@@ -49,7 +49,7 @@ all_like [] = tt
 all_like (x ∷ xs) = (like_itself x, all_like xs)
 
 tags_stay : (x : Structure) (m : Pooled Stored) → KeepsTags x m m
-tags_stay (Ordered t) m = λ k. refl
+tags_stay (Sorted t) m = λ k. refl
 tags_stay (Hashed c) m = λ k. refl
 tags_stay (Sequenced q) m = tt
 

@@ -21,7 +21,7 @@ use Rattle.mi_order.specs.declared.stored.Stored.{Stored}
 use Rattle.mi_index.specs.declared.moves.Place.{Place}
 use Rattle.mi_index.specs.declared.moves.Moves.{Moves}
 use Rattle.mi_index.specs.declared.structure.Structure.{Structure}
-use Rattle.mi_index.specs.declared.structure.Structure.TheVariants.{Ordered, Hashed, Sequenced}
+use Rattle.mi_index.specs.declared.structure.Structure.TheVariants.{Sorted, Hashed, Sequenced}
 use Rattle.mi_index.proofs.FrameLemmas.{Agree}
 
 abbrev pub Stays : Asks → Type 0
@@ -60,7 +60,7 @@ tag_in s m n a k = ap (λ (l : Link). l.tag) (a.links k)
 
 place_stays : (x : Structure) (m n : Pooled Stored) (r : Ref) (stamp : ℕ) (b : Option Ref) (rs : List Ref)
     → Agree (slot_in x) m n → HasPlace x m r stamp b rs → HasPlace x n r stamp b rs
-place_stays (Ordered t) m n r stamp b rs a h = subst (λ f. NoneAre f Equal rs) (sym (sides_same t.slot m n a (stored_order t.order.parts) r stamp)) h
+place_stays (Sorted t) m n r stamp b rs a h = subst (λ f. NoneAre f Equal rs) (sym (sides_same t.slot m n a (stored_order t.order.parts) r stamp)) h
 place_stays (Hashed c) m n r stamp b rs a h = subst (λ f. NoneHas f stamp rs) (sym (stamps_same c.slot m n a)) h
 place_stays (Sequenced l) m n r stamp b rs a h = h
 
@@ -77,12 +77,12 @@ joining_stays : (moves : Moves) (r : Ref) (stamp : ℕ) (b : Option (ℕ × Ref)
 joining_stays moves r stamp b s x m n rs e a c = join_if_stays (is_moved moves s) x m n r stamp (before_at s b) rs a c
 
 stamp_before : (x : Structure) (l m n : Pooled Stored) (r : Ref) (stamp : ℕ) → Agree (slot_in x) l m → HasStamp x m n r stamp → HasStamp x l n r stamp
-stamp_before (Ordered t) l m n r stamp a h = (h.0, λ k e. h.1 k e ∙ tag_in t.slot l m a k)
+stamp_before (Sorted t) l m n r stamp a h = (h.0, λ k e. h.1 k e ∙ tag_in t.slot l m a k)
 stamp_before (Hashed c) l m n r stamp a h = (h.0, λ k e. h.1 k e ∙ tag_in c.slot l m a k)
 stamp_before (Sequenced q) l m n r stamp a h = tt
 
 stamp_after : (x : Structure) (m n o : Pooled Stored) (r : Ref) (stamp : ℕ) → Agree (slot_in x) n o → HasStamp x m n r stamp → HasStamp x m o r stamp
-stamp_after (Ordered t) m n o r stamp a h = (ap (λ (l : Link). l.tag.stamp) (a.links r.name) ∙ h.0, λ k e. tag_in t.slot n o a k ∙ h.1 k e)
+stamp_after (Sorted t) m n o r stamp a h = (ap (λ (l : Link). l.tag.stamp) (a.links r.name) ∙ h.0, λ k e. tag_in t.slot n o a k ∙ h.1 k e)
 stamp_after (Hashed c) m n o r stamp a h = (ap (λ (l : Link). l.tag.stamp) (a.links r.name) ∙ h.0, λ k e. tag_in c.slot n o a k ∙ h.1 k e)
 stamp_after (Sequenced q) m n o r stamp a h = tt
 
@@ -119,7 +119,7 @@ leaving_stays moves r s x m n rs e a c = c
 
 beside_stays : (x : Structure) (m n : Pooled Stored) (r : Ref) (back forth : Option Ref) (xs ys : List Ref)
     → Agree (slot_in x) m n → IsBeside x m r back forth xs ys → IsBeside x n r back forth xs ys
-beside_stays (Ordered t) m n r back forth xs ys a h = tt
+beside_stays (Sorted t) m n r back forth xs ys a h = tt
 beside_stays (Hashed c) m n r back forth xs ys a h =
     let e = keys_same c.slot m n a (keying_of c.keys) r in
     (h.0 ∙ (λ i. last_of None (filter (sym e i) xs)), h.1 ∙ (λ i. first_of (filter (sym e i) ys) None))
@@ -132,12 +132,12 @@ own_beside : (x : Structure) (n o : Pooled Stored) (r : Ref) (xs ys : List Ref) 
 own_beside x n o r xs ys a h = subst (λ (l : Link). IsBeside x o r l.back l.forth xs ys) (sym (a.links r.name)) (beside_stays x n o r _ _ xs ys a h)
 
 tags_before : (x : Structure) (l m n : Pooled Stored) → Agree (slot_in x) l m → KeepsTags x m n → KeepsTags x l n
-tags_before (Ordered t) l m n a h = λ k. h k ∙ tag_in t.slot l m a k
+tags_before (Sorted t) l m n a h = λ k. h k ∙ tag_in t.slot l m a k
 tags_before (Hashed c) l m n a h = λ k. h k ∙ tag_in c.slot l m a k
 tags_before (Sequenced q) l m n a h = tt
 
 tags_after : (x : Structure) (m n o : Pooled Stored) → Agree (slot_in x) n o → KeepsTags x m n → KeepsTags x m o
-tags_after (Ordered t) m n o a h = λ k. tag_in t.slot n o a k ∙ h k
+tags_after (Sorted t) m n o a h = λ k. tag_in t.slot n o a k ∙ h k
 tags_after (Hashed c) m n o a h = λ k. tag_in c.slot n o a k ∙ h k
 tags_after (Sequenced q) m n o a h = tt
 
@@ -169,7 +169,7 @@ leaving_local moves r = record { stays = leaving_stays moves r; before = left_be
 
 old_place_stays : (x : Structure) (m n : Pooled Stored) (r : Ref) (p : Place) (rs : List Ref)
     → Agree (slot_in x) m n → HasOldPlace x m r p rs → HasOldPlace x n r p rs
-old_place_stays (Ordered t) m n r p rs a h = subst (λ f. NoneAre f Equal rs) (sym (sides_same t.slot m n a (stored_order t.order.parts) r p.stamp)) h
+old_place_stays (Sorted t) m n r p rs a h = subst (λ f. NoneAre f Equal rs) (sym (sides_same t.slot m n a (stored_order t.order.parts) r p.stamp)) h
 old_place_stays (Hashed c) m n r p rs a h =
     let e = sym (stamps_same c.slot m n a) in
     record {
@@ -211,7 +211,7 @@ back_before (Some p) x l m n r rs us a h = record {
   where
     beside_back : (x : Structure) (m n : Pooled Stored) (r : Ref) (back forth : Option Ref) (xs ys : List Ref)
         → Agree (slot_in x) m n → IsBeside x n r back forth xs ys → IsBeside x m r back forth xs ys
-    beside_back (Ordered t) m n r back forth xs ys a h = tt
+    beside_back (Sorted t) m n r back forth xs ys a h = tt
     beside_back (Hashed c) m n r back forth xs ys a h =
         let e = keys_same c.slot m n a (keying_of c.keys) r in
         (h.0 ∙ (λ i. last_of None (filter (e i) xs)), h.1 ∙ (λ i. first_of (filter (e i) ys) None))

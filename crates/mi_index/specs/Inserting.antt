@@ -8,7 +8,7 @@ use Rattle.mi_index.specs.Passes.{IsSame}
 use Rattle.mi_index.specs.Rekeying.{HasPlaceFor}
 use Rattle.mi_order.specs.declared.stored.Stored.{Stored}
 use Rattle.mi_index.specs.declared.structure.Structure.{Structure}
-use Rattle.mi_index.specs.declared.structure.Structure.TheVariants.{Ordered, Hashed, Sequenced}
+use Rattle.mi_index.specs.declared.structure.Structure.TheVariants.{Sorted, Hashed, Sequenced}
 
 -- there is room for a node of this value, with this stamp
 pub record HasRoom (x : Structure) (m : Pooled Stored) (v : Stored) (stamp : ℕ) (b : Option Ref) (rs : List Ref) : Type 0 where
@@ -40,7 +40,7 @@ IsPlace r b rs = (b ≡ Some r) ⊎ ((us : List Ref) × (vs : List Ref) × (rs �
 
 -- the node stands in the list, and the place is the node itself, or one among the others
 abbrev pub CanRelocate : Structure → Ref → Option Ref → List Ref → Type 0
-CanRelocate (Ordered t) r b rs = ⊥
+CanRelocate (Sorted t) r b rs = ⊥
 CanRelocate (Hashed c) r b rs = ⊥
 CanRelocate (Sequenced l) r b rs = (xs : List Ref) × (ys : List Ref) × (rs ≡ xs ++ r ∷ ys) × IsPlace r b (xs ++ ys)
 

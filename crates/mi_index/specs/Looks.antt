@@ -10,44 +10,44 @@ use Rattle.mi_index.specs.Places.{IsBeside}
 use Rattle.mi_order.specs.declared.stored.Stored.{Stored}
 use Rattle.mi_index.specs.declared.moves.Place.{Place}
 use Rattle.mi_index.specs.declared.structure.Structure.{Structure}
-use Rattle.mi_index.specs.declared.structure.Structure.TheVariants.{Ordered, Hashed, Sequenced}
+use Rattle.mi_index.specs.declared.structure.Structure.TheVariants.{Sorted, Hashed, Sequenced}
 
 -- it shows its nodes as one list; chains show one for each key
 abbrev pub HasOneList : Structure → Type 0
-HasOneList (Ordered t) = Unit {0}
+HasOneList (Sorted t) = Unit {0}
 HasOneList (Hashed c) = ⊥
 HasOneList (Sequenced l) = Unit {0}
 
 abbrev pub IsSortedStructure : Structure → Type 0
-IsSortedStructure (Ordered t) = Unit {0}
+IsSortedStructure (Sorted t) = Unit {0}
 IsSortedStructure (Hashed c) = ⊥
 IsSortedStructure (Sequenced l) = ⊥
 
 abbrev pub IsHashedStructure : Structure → Type 0
-IsHashedStructure (Ordered t) = ⊥
+IsHashedStructure (Sorted t) = ⊥
 IsHashedStructure (Hashed c) = Unit {0}
 IsHashedStructure (Sequenced l) = ⊥
 
 -- whether a node has the key of a probe; none has one in a list
 abbrev pub has_sought : Structure → Pooled Stored → Probe → Ref → Bool
-has_sought (Ordered t) m k = is_node_at (λ v. place_in t.order.parts v k) m
+has_sought (Sorted t) m k = is_node_at (λ v. place_in t.order.parts v k) m
 has_sought (Hashed c) m k = has_key (keying_of c.keys) m k
 has_sought (Sequenced l) m k = λ q. false
 
 -- whether a node isn't before a probe, or with `strict` is behind it; this is asked of sorted indexes alone
 abbrev pub is_past : Bool → Structure → Pooled Stored → Probe → Ref → Bool
-is_past strict (Ordered t) m k = is_past_node strict (λ v. place_in t.order.parts v k) m
+is_past strict (Sorted t) m k = is_past_node strict (λ v. place_in t.order.parts v k) m
 is_past strict (Hashed c) m k = λ q. false
 is_past strict (Sequenced l) m k = λ q. false
 
 -- whether another node has the key of this one; this is asked of hashed indexes alone
 abbrev pub has_same_key : Structure → Pooled Stored → Ref → Ref → Bool
-has_same_key (Ordered t) m r = λ q. false
+has_same_key (Sorted t) m r = λ q. false
 has_same_key (Hashed c) m r = same_nodes (keying_of c.keys) m r
 has_same_key (Sequenced l) m r = λ q. false
 
 abbrev pub HasItsStamp : Structure → Pooled Stored → Ref → ℕ → Type 0
-HasItsStamp (Ordered t) m r stamp = stamp ≡ stamp_at m t.slot r
+HasItsStamp (Sorted t) m r stamp = stamp ≡ stamp_at m t.slot r
 HasItsStamp (Hashed c) m r stamp = stamp ≡ stamp_at m c.slot r
 HasItsStamp (Sequenced l) m r stamp = Unit {0}
 

@@ -17,7 +17,7 @@ use Rattle.mi_index.specs.Pass.{AllStand}
 use Rattle.mi_order.specs.declared.stored.Stored.{Stored}
 use Rattle.mi_order.specs.declared.leads.LeadTypes.{LeadTypes}
 use Rattle.mi_index.specs.declared.structure.Structure.{Structure}
-use Rattle.mi_index.specs.declared.structure.Structure.TheVariants.{Ordered, Hashed, Sequenced}
+use Rattle.mi_index.specs.declared.structure.Structure.TheVariants.{Sorted, Hashed, Sequenced}
 
 -- the type of a column; one that isn't there counts as a number's
 abbrev pub type_at : Option Column → ColumnType
@@ -35,7 +35,7 @@ lead_types columns ps = record { first = type_of columns (slice_get ps 0); secon
 
 -- a structure of the kind, the key and the slot of an index, with the secret where it hashes
 abbrev pub IsOpenedFor : ℕ → List Column → Index → ℕ → Structure → Type 0
-IsOpenedFor secret columns i s (Ordered t) = ((i.kind ≡ kinds.Ordered) ⊎ (i.kind ≡ kinds.Ranked))
+IsOpenedFor secret columns i s (Sorted t) = ((i.kind ≡ kinds.Ordered) ⊎ (i.kind ≡ kinds.Ranked))
     × (t.order.parts ≡ i.parts) × (t.order.types ≡ lead_types columns i.parts) × (t.slot ≡ s)
 IsOpenedFor secret columns i s (Hashed c) = (i.kind ≡ kinds.Hashed) × (c.keys.parts ≡ i.parts) × (c.slot ≡ s) × (c.keys.secret ≡ secret)
 IsOpenedFor secret columns i s (Sequenced l) = (i.kind ≡ kinds.Sequenced) × (slot_of l ≡ s)
@@ -47,7 +47,7 @@ AllOpenedFor secret columns (i ∷ is) s [] = ⊥
 AllOpenedFor secret columns (i ∷ is) s (x ∷ xs) = IsOpenedFor secret columns i s x × AllOpenedFor secret columns is (s + 1) xs
 
 abbrev pub IsEmpty : Structure → Type 0
-IsEmpty (Ordered t) = t.root ≡ None
+IsEmpty (Sorted t) = t.root ≡ None
 IsEmpty (Hashed c) = AreNew c c.slot c.keys
 IsEmpty (Sequenced l) = IsNew l (slot_of l)
 

@@ -22,7 +22,7 @@ use Rattle.mi_index.specs.declared.moves.Place.{Place}
 use Rattle.mi_index.specs.declared.moves.Moves.{Moves}
 use Rattle.mi_index.specs.declared.moves.Moves.TheVariants.{All, Marked, Placed}
 use Rattle.mi_index.specs.declared.structure.Structure.{Structure}
-use Rattle.mi_index.specs.declared.structure.Structure.TheVariants.{Ordered, Hashed, Sequenced}
+use Rattle.mi_index.specs.declared.structure.Structure.TheVariants.{Sorted, Hashed, Sequenced}
 
 -- Which indexes
 
@@ -79,7 +79,7 @@ NoneHas f n (r ∷ rs) = (n ≡ f r → ⊥) × NoneHas f n rs
 
 -- with that stamp no node is its equal; in a list the place that is given is one
 abbrev pub HasPlace : Structure → Pooled Stored → Ref → ℕ → Option Ref → List Ref → Type 0
-HasPlace (Ordered t) m r stamp b rs = NoneAre (side_of_new (stored_order t.order.parts) m t.slot r stamp) Equal rs
+HasPlace (Sorted t) m r stamp b rs = NoneAre (side_of_new (stored_order t.order.parts) m t.slot r stamp) Equal rs
 HasPlace (Hashed c) m r stamp b rs = NoneHas (stamp_at m c.slot) stamp rs
 HasPlace (Sequenced l) m r stamp b rs = (xs : List Ref) × (ys : List Ref) × (rs ≡ xs ++ ys) × (first_of ys None ≡ b)
 
@@ -91,13 +91,13 @@ pub record CanJoin (x : Structure) (m : Pooled Stored) (r : Ref) (stamp : ℕ) (
 
 -- in a list it stands directly before b, or last
 abbrev pub IsPut : Structure → Option Ref → List Ref → Type 0
-IsPut (Ordered t) b ys = Unit {0}
+IsPut (Sorted t) b ys = Unit {0}
 IsPut (Hashed c) b ys = Unit {0}
 IsPut (Sequenced l) b ys = first_of ys None ≡ b
 
 -- the node has that stamp, and every other node the one that it had; lists have no stamps
 abbrev pub HasStamp : Structure → Pooled Stored → Pooled Stored → Ref → ℕ → Type 0
-HasStamp (Ordered t) m n r stamp = (stamp_at n t.slot r ≡ stamp) × ((k : ℕ) → (r.name == k) ≡ false → (link_of n k t.slot).tag ≡ (link_of m k t.slot).tag)
+HasStamp (Sorted t) m n r stamp = (stamp_at n t.slot r ≡ stamp) × ((k : ℕ) → (r.name == k) ≡ false → (link_of n k t.slot).tag ≡ (link_of m k t.slot).tag)
 HasStamp (Hashed c) m n r stamp = (stamp_at n c.slot r ≡ stamp) × ((k : ℕ) → (r.name == k) ≡ false → (link_of n k c.slot).tag ≡ (link_of m k c.slot).tag)
 HasStamp (Sequenced l) m n r stamp = Unit {0}
 
@@ -110,14 +110,14 @@ pub record IsJoined (x : Structure) (m n : Pooled Stored) (r : Ref) (stamp : ℕ
 
 -- between xs and ys it stands beside these: in chains the nearest of its key, in a list the nearest; a tree keeps no neighbours
 abbrev pub IsBeside : Structure → Pooled Stored → Ref → Option Ref → Option Ref → List Ref → List Ref → Type 0
-IsBeside (Ordered t) m r back forth xs ys = Unit {0}
+IsBeside (Sorted t) m r back forth xs ys = Unit {0}
 IsBeside (Hashed c) m r back forth xs ys =
     (back ≡ last_of None (filter (same_nodes (keying_of c.keys) m r) xs)) × (forth ≡ first_of (filter (same_nodes (keying_of c.keys) m r) ys) None)
 IsBeside (Sequenced l) m r back forth xs ys = (back ≡ last_of None xs) × (forth ≡ first_of ys None)
 
 -- every node has the tag that it had; lists have none
 abbrev pub KeepsTags : Structure → Pooled Stored → Pooled Stored → Type 0
-KeepsTags (Ordered t) m n = (k : ℕ) → (link_of n k t.slot).tag ≡ (link_of m k t.slot).tag
+KeepsTags (Sorted t) m n = (k : ℕ) → (link_of n k t.slot).tag ≡ (link_of m k t.slot).tag
 KeepsTags (Hashed c) m n = (k : ℕ) → (link_of n k c.slot).tag ≡ (link_of m k c.slot).tag
 KeepsTags (Sequenced l) m n = Unit {0}
 
@@ -146,7 +146,7 @@ pub record HasSpot (l : Listed) (m : Pooled Stored) (r : Ref) (p : Place) (rs : 
   pub beside : IsBeside (Sequenced l) m r p.back p.forth xs ys
 
 abbrev pub HasOldPlace : Structure → Pooled Stored → Ref → Place → List Ref → Type 0
-HasOldPlace (Ordered t) m r p rs = NoneAre (side_of_new (stored_order t.order.parts) m t.slot r p.stamp) Equal rs
+HasOldPlace (Sorted t) m r p rs = NoneAre (side_of_new (stored_order t.order.parts) m t.slot r p.stamp) Equal rs
 HasOldPlace (Hashed c) m r p rs = HasGap c m r p rs
 HasOldPlace (Sequenced l) m r p rs = HasSpot l m r p rs
 

@@ -20,7 +20,7 @@ use Rattle.mi_order.specs.declared.stored.Stored.{Stored}
 use Rattle.mi_order.specs.declared.orders.ByHash.{ByHash}
 use Rattle.mi_index.specs.declared.moves.Place.{Place}
 use Rattle.mi_index.specs.declared.structure.Structure.{Structure}
-use Rattle.mi_index.specs.declared.structure.Structure.TheVariants.{Ordered, Hashed, Sequenced}
+use Rattle.mi_index.specs.declared.structure.Structure.TheVariants.{Sorted, Hashed, Sequenced}
 
 -- on which side of a node one would stand that had this value and this stamp
 abbrev pub side_of_value : (Stored → Stored → Ordering) → Pooled Stored → ℕ → Stored → ℕ → Ref → Ordering
@@ -31,7 +31,7 @@ abbrev pub has_key_of : Chains ByHash → Pooled Stored → Stored → Ref → B
 has_key_of c m v q = same_values (has_one_key c.keys.parts) (Some v) (value_of m q.name)
 
 abbrev pub HasPlaceFor : Structure → Pooled Stored → Stored → ℕ → Option Ref → List Ref → Type 0
-HasPlaceFor (Ordered t) m v stamp b rs = NoneAre (side_of_value (stored_order t.order.parts) m t.slot v stamp) Equal rs
+HasPlaceFor (Sorted t) m v stamp b rs = NoneAre (side_of_value (stored_order t.order.parts) m t.slot v stamp) Equal rs
 HasPlaceFor (Hashed c) m v stamp b rs = NoneHas (stamp_at m c.slot) stamp rs
 HasPlaceFor (Sequenced l) m v stamp b rs = (xs : List Ref) × (ys : List Ref) × (rs ≡ xs ++ ys) × (first_of ys None ≡ b)
 
@@ -46,7 +46,7 @@ pub record HasGapFor (c : Chains ByHash) (m : Pooled Stored) (v : Stored) (p : P
 
 -- a list is never given a place
 abbrev pub HasOldPlaceFor : Structure → Pooled Stored → Stored → Place → List Ref → Type 0
-HasOldPlaceFor (Ordered t) m v p rs = NoneAre (side_of_value (stored_order t.order.parts) m t.slot v p.stamp) Equal rs
+HasOldPlaceFor (Sorted t) m v p rs = NoneAre (side_of_value (stored_order t.order.parts) m t.slot v p.stamp) Equal rs
 HasOldPlaceFor (Hashed c) m v p rs = HasGapFor c m v p rs
 HasOldPlaceFor (Sequenced l) m v p rs = ⊥
 

@@ -17,16 +17,16 @@ use Rattle.mi_chain.specs.Chained.{AreChained}
 use Rattle.mi_order.specs.Orders.{stored_order, stored_tag, keying_of}
 use Rattle.mi_order.specs.declared.stored.Stored.{Stored}
 use Rattle.mi_index.specs.declared.structure.Structure.{Structure}
-use Rattle.mi_index.specs.declared.structure.Structure.TheVariants.{Ordered, Hashed, Sequenced}
+use Rattle.mi_index.specs.declared.structure.Structure.TheVariants.{Sorted, Hashed, Sequenced}
 
 abbrev pub slot_in : Structure → ℕ
-slot_in (Ordered t) = t.slot
+slot_in (Sorted t) = t.slot
 slot_in (Hashed c) = c.slot
 slot_in (Sequenced l) = slot_of l
 
 -- values that compare Equal may stand for one another in the index: they have one key, and in a list all do
 abbrev pub swap_order : Structure → Stored → Stored → Ordering
-swap_order (Ordered t) = stored_order t.order.parts
+swap_order (Sorted t) = stored_order t.order.parts
 swap_order (Hashed c) = on (λ v. v.row) (compare_key c.keys.parts)
 swap_order (Sequenced l) = λ x y. Equal
 
@@ -45,24 +45,24 @@ Climb f (r ∷ rs) = AllAbove f (f r) rs × Climb f rs
 
 -- the list of a hashed index is that of all its nodes by their stamps, so each key has its nodes in the order of it
 abbrev pub Stands : Structure → Pooled Stored → List Ref → Type 0
-Stands (Ordered t) m rs = IsTree t m (stored_order t.order.parts) (stored_tag t.order.types t.order.parts) rs
+Stands (Sorted t) m rs = IsTree t m (stored_order t.order.parts) (stored_tag t.order.types t.order.parts) rs
 Stands (Hashed c) m rs = AreChained c (keying_of c.keys) m rs × Climb (stamp_at m c.slot) rs
 Stands (Sequenced l) m rs = IsListed l m rs
 
 abbrev pub IsLike : Structure → Structure → Type 0
-IsLike (Ordered t) (Ordered u) = (u.slot ≡ t.slot) × (u.order ≡ t.order)
-IsLike (Ordered t) (Hashed d) = ⊥
-IsLike (Ordered t) (Sequenced k) = ⊥
-IsLike (Hashed c) (Ordered u) = ⊥
+IsLike (Sorted t) (Sorted u) = (u.slot ≡ t.slot) × (u.order ≡ t.order)
+IsLike (Sorted t) (Hashed d) = ⊥
+IsLike (Sorted t) (Sequenced k) = ⊥
+IsLike (Hashed c) (Sorted u) = ⊥
 IsLike (Hashed c) (Hashed d) = (d.slot ≡ c.slot) × (d.keys ≡ c.keys) × (vec_len c.buckets ≤ vec_len d.buckets)
 IsLike (Hashed c) (Sequenced k) = ⊥
-IsLike (Sequenced l) (Ordered u) = ⊥
+IsLike (Sequenced l) (Sorted u) = ⊥
 IsLike (Sequenced l) (Hashed d) = ⊥
 IsLike (Sequenced l) (Sequenced k) = slot_of k ≡ slot_of l
 
 -- chains have a bucket for each of n keys; other structures need no room
 abbrev pub IsRoomy : Structure → ℕ → Type 0
-IsRoomy (Ordered t) n = Unit {0}
+IsRoomy (Sorted t) n = Unit {0}
 IsRoomy (Hashed c) n = n ≤ vec_len c.buckets
 IsRoomy (Sequenced l) n = Unit {0}
 

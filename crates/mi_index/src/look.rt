@@ -6,7 +6,7 @@ ghost use Rattle.mi_tree.specs.BinaryTree.{nth_of};
 ghost use Rattle.mi_tree.specs.Probed.{first_where};
 ghost use Rattle.mi_index.specs.Standing.{slot_in, Stands};
 ghost use Rattle.mi_index.specs.Looks as look;
-ghost use Rattle.mi_index.specs.declared.structure.Structure.TheVariants.{Ordered, Hashed, Sequenced};
+ghost use Rattle.mi_index.specs.declared.structure.Structure.TheVariants.{Sorted, Hashed, Sequenced};
 
 use crate::moves::Place;
 use crate::structure::Structure;
@@ -24,7 +24,7 @@ impl Structure {
         ensures { (rs : Seq Ref) → Stands self.now p.now rs → result ≡ first_of rs None }
     {
         match self {
-            Structure::Ordered(tree) => first_in_tree(tree, p),
+            Structure::Sorted(tree) => first_in_tree(tree, p),
             Structure::Hashed(_) => None,
             Structure::Sequenced(list) => list.first(p),
         }
@@ -36,7 +36,7 @@ impl Structure {
         ensures { (rs : Seq Ref) → Stands self.now p.now rs → result ≡ last_of None rs }
     {
         match self {
-            Structure::Ordered(tree) => last_in_tree(tree, p),
+            Structure::Sorted(tree) => last_in_tree(tree, p),
             Structure::Hashed(_) => None,
             Structure::Sequenced(list) => list.last(p),
         }
@@ -48,7 +48,7 @@ impl Structure {
         ensures { (xs ys : Seq Ref) → Stands self.now p.now (xs ++ node ∷ ys) → result ≡ first_of ys None }
     {
         match self {
-            Structure::Ordered(tree) => next_in_tree(tree, p, node),
+            Structure::Sorted(tree) => next_in_tree(tree, p, node),
             Structure::Hashed(_) => None,
             Structure::Sequenced(list) => list.next(p, node),
         }
@@ -60,7 +60,7 @@ impl Structure {
         ensures { (xs ys : Seq Ref) → Stands self.now p.now (xs ++ node ∷ ys) → result ≡ last_of None xs }
     {
         match self {
-            Structure::Ordered(tree) => prev_in_tree(tree, p, node),
+            Structure::Sorted(tree) => prev_in_tree(tree, p, node),
             Structure::Hashed(_) => None,
             Structure::Sequenced(list) => list.prev(p, node),
         }
@@ -72,7 +72,7 @@ impl Structure {
         ensures { (rs : Seq Ref) → Stands self.now p.now rs → result ≡ nth_of rs n }
     {
         match self {
-            Structure::Ordered(tree) => nth_in_tree(tree, p, n),
+            Structure::Sorted(tree) => nth_in_tree(tree, p, n),
             Structure::Hashed(_) | Structure::Sequenced(_) => None,
         }
     }
@@ -85,7 +85,7 @@ impl Structure {
         ensures steps { (rs : Seq Ref) → Stands self.now p.now rs → (b : ℕ) → length rs < 2 ^ b → steps.new.count ≤ steps.old.count + 2 * b }
     {
         match self {
-            Structure::Ordered(tree) => rank_in_tree(tree, p, node, steps),
+            Structure::Sorted(tree) => rank_in_tree(tree, p, node, steps),
             Structure::Hashed(_) | Structure::Sequenced(_) => 0,
         }
     }
@@ -98,7 +98,7 @@ impl Structure {
         ensures steps { (rs : Seq Ref) → Stands self.now p.now rs → (b : ℕ) → length rs < 2 ^ b → steps.new.count ≤ steps.old.count + 2 * b }
     {
         match self {
-            Structure::Ordered(tree) => lower_in_tree(tree, p, probe, steps),
+            Structure::Sorted(tree) => lower_in_tree(tree, p, probe, steps),
             Structure::Hashed(_) | Structure::Sequenced(_) => None,
         }
     }
@@ -111,7 +111,7 @@ impl Structure {
         ensures steps { (rs : Seq Ref) → Stands self.now p.now rs → (b : ℕ) → length rs < 2 ^ b → steps.new.count ≤ steps.old.count + 2 * b }
     {
         match self {
-            Structure::Ordered(tree) => upper_in_tree(tree, p, probe, steps),
+            Structure::Sorted(tree) => upper_in_tree(tree, p, probe, steps),
             Structure::Hashed(_) | Structure::Sequenced(_) => None,
         }
     }
@@ -122,7 +122,7 @@ impl Structure {
         ensures { (rs : Seq Ref) → Stands self.now p.now rs → result ≡ first_where (look.has_sought self.now p.now probe.entry) rs }
     {
         match self {
-            Structure::Ordered(tree) => find_in_tree(tree, p, probe),
+            Structure::Sorted(tree) => find_in_tree(tree, p, probe),
             Structure::Hashed(chains) => find_in_chains(chains, p, probe),
             Structure::Sequenced(_) => None,
         }
@@ -136,7 +136,7 @@ impl Structure {
     {
         match self {
             Structure::Hashed(chains) => next_in_chains(chains, p, node),
-            Structure::Ordered(_) | Structure::Sequenced(_) => None,
+            Structure::Sorted(_) | Structure::Sequenced(_) => None,
         }
     }
 
@@ -148,7 +148,7 @@ impl Structure {
         ensures { (xs ys : Seq Ref) → Stands self.now p.now (xs ++ node ∷ ys) → look.IsPlaceOf self.now p.now node result xs ys }
     {
         match self {
-            Structure::Ordered(tree) => place_in_tree(tree, p, slot, node),
+            Structure::Sorted(tree) => place_in_tree(tree, p, slot, node),
             Structure::Hashed(chains) => place_in_chains(chains, p, slot, node),
             Structure::Sequenced(list) => place_in_list(list, p, slot, node),
         }
@@ -156,15 +156,15 @@ impl Structure {
 }
 
 fn first_in_tree(tree: &Tree<ByKey>, p: &Pool<Stored>) -> Option<NodeRef>
-    requires { (rs : Seq Ref) × Stands (Ordered tree.now) p.now rs }
-    ensures { (rs : Seq Ref) → Stands (Ordered tree.now) p.now rs → result ≡ first_of rs None }
+    requires { (rs : Seq Ref) × Stands (Sorted tree.now) p.now rs }
+    ensures { (rs : Seq Ref) → Stands (Sorted tree.now) p.now rs → result ≡ first_of rs None }
 {
     tree.nth(&mut Counted::new(p), 0)
 }
 
 fn last_in_tree(tree: &Tree<ByKey>, p: &Pool<Stored>) -> Option<NodeRef>
-    requires { (rs : Seq Ref) × Stands (Ordered tree.now) p.now rs }
-    ensures { (rs : Seq Ref) → Stands (Ordered tree.now) p.now rs → result ≡ last_of None rs }
+    requires { (rs : Seq Ref) × Stands (Sorted tree.now) p.now rs }
+    ensures { (rs : Seq Ref) → Stands (Sorted tree.now) p.now rs → result ≡ last_of None rs }
 {
     let len = tree.len(p);
     if len == 0 {
@@ -174,30 +174,30 @@ fn last_in_tree(tree: &Tree<ByKey>, p: &Pool<Stored>) -> Option<NodeRef>
 }
 
 fn next_in_tree(tree: &Tree<ByKey>, p: &Pool<Stored>, node: NodeRef) -> Option<NodeRef>
-    requires { (xs : Seq Ref) × (ys : Seq Ref) × Stands (Ordered tree.now) p.now (xs ++ node ∷ ys) }
-    ensures { (xs ys : Seq Ref) → Stands (Ordered tree.now) p.now (xs ++ node ∷ ys) → result ≡ first_of ys None }
+    requires { (xs : Seq Ref) × (ys : Seq Ref) × Stands (Sorted tree.now) p.now (xs ++ node ∷ ys) }
+    ensures { (xs ys : Seq Ref) → Stands (Sorted tree.now) p.now (xs ++ node ∷ ys) → result ≡ first_of ys None }
 {
     tree.next(&mut Counted::new(p), node, &mut Steps::new())
 }
 
 fn prev_in_tree(tree: &Tree<ByKey>, p: &Pool<Stored>, node: NodeRef) -> Option<NodeRef>
-    requires { (xs : Seq Ref) × (ys : Seq Ref) × Stands (Ordered tree.now) p.now (xs ++ node ∷ ys) }
-    ensures { (xs ys : Seq Ref) → Stands (Ordered tree.now) p.now (xs ++ node ∷ ys) → result ≡ last_of None xs }
+    requires { (xs : Seq Ref) × (ys : Seq Ref) × Stands (Sorted tree.now) p.now (xs ++ node ∷ ys) }
+    ensures { (xs ys : Seq Ref) → Stands (Sorted tree.now) p.now (xs ++ node ∷ ys) → result ≡ last_of None xs }
 {
     tree.prev(&mut Counted::new(p), node, &mut Steps::new())
 }
 
 fn nth_in_tree(tree: &Tree<ByKey>, p: &Pool<Stored>, n: u32) -> Option<NodeRef>
-    requires { (rs : Seq Ref) × Stands (Ordered tree.now) p.now rs }
-    ensures { (rs : Seq Ref) → Stands (Ordered tree.now) p.now rs → result ≡ nth_of rs n }
+    requires { (rs : Seq Ref) × Stands (Sorted tree.now) p.now rs }
+    ensures { (rs : Seq Ref) → Stands (Sorted tree.now) p.now rs → result ≡ nth_of rs n }
 {
     tree.nth(&mut Counted::new(p), n)
 }
 
 fn rank_in_tree(tree: &Tree<ByKey>, p: &Pool<Stored>, node: NodeRef, steps: &mut Steps) -> u32
-    requires { (xs : Seq Ref) × (ys : Seq Ref) × Stands (Ordered tree.now) p.now (xs ++ node ∷ ys) }
-    ensures rank { (xs ys : Seq Ref) → Stands (Ordered tree.now) p.now (xs ++ node ∷ ys) → result ≡ length xs }
-    ensures steps { (rs : Seq Ref) → Stands (Ordered tree.now) p.now rs → (b : ℕ) → length rs < 2 ^ b → steps.new.count ≤ steps.old.count + 2 * b }
+    requires { (xs : Seq Ref) × (ys : Seq Ref) × Stands (Sorted tree.now) p.now (xs ++ node ∷ ys) }
+    ensures rank { (xs ys : Seq Ref) → Stands (Sorted tree.now) p.now (xs ++ node ∷ ys) → result ≡ length xs }
+    ensures steps { (rs : Seq Ref) → Stands (Sorted tree.now) p.now rs → (b : ℕ) → length rs < 2 ^ b → steps.new.count ≤ steps.old.count + 2 * b }
 {
     tree.rank(&mut Counted::new(p), node, steps)
 }
@@ -208,9 +208,9 @@ fn lower_in_tree(
     probe: Probe<'_>,
     steps: &mut Steps,
 ) -> Option<NodeRef>
-    requires { (rs : Seq Ref) × Stands (Ordered tree.now) p.now rs }
-    ensures node { (rs : Seq Ref) → Stands (Ordered tree.now) p.now rs → result ≡ first_where (look.is_past false (Ordered tree.now) p.now probe.entry) rs }
-    ensures steps { (rs : Seq Ref) → Stands (Ordered tree.now) p.now rs → (b : ℕ) → length rs < 2 ^ b → steps.new.count ≤ steps.old.count + 2 * b }
+    requires { (rs : Seq Ref) × Stands (Sorted tree.now) p.now rs }
+    ensures node { (rs : Seq Ref) → Stands (Sorted tree.now) p.now rs → result ≡ first_where (look.is_past false (Sorted tree.now) p.now probe.entry) rs }
+    ensures steps { (rs : Seq Ref) → Stands (Sorted tree.now) p.now rs → (b : ℕ) → length rs < 2 ^ b → steps.new.count ≤ steps.old.count + 2 * b }
 {
     tree.lower(&mut Counted::new(p), probe, steps)
 }
@@ -221,16 +221,16 @@ fn upper_in_tree(
     probe: Probe<'_>,
     steps: &mut Steps,
 ) -> Option<NodeRef>
-    requires { (rs : Seq Ref) × Stands (Ordered tree.now) p.now rs }
-    ensures node { (rs : Seq Ref) → Stands (Ordered tree.now) p.now rs → result ≡ first_where (look.is_past true (Ordered tree.now) p.now probe.entry) rs }
-    ensures steps { (rs : Seq Ref) → Stands (Ordered tree.now) p.now rs → (b : ℕ) → length rs < 2 ^ b → steps.new.count ≤ steps.old.count + 2 * b }
+    requires { (rs : Seq Ref) × Stands (Sorted tree.now) p.now rs }
+    ensures node { (rs : Seq Ref) → Stands (Sorted tree.now) p.now rs → result ≡ first_where (look.is_past true (Sorted tree.now) p.now probe.entry) rs }
+    ensures steps { (rs : Seq Ref) → Stands (Sorted tree.now) p.now rs → (b : ℕ) → length rs < 2 ^ b → steps.new.count ≤ steps.old.count + 2 * b }
 {
     tree.upper(&mut Counted::new(p), probe, steps)
 }
 
 fn find_in_tree(tree: &Tree<ByKey>, p: &Pool<Stored>, probe: Probe<'_>) -> Option<NodeRef>
-    requires { (rs : Seq Ref) × Stands (Ordered tree.now) p.now rs }
-    ensures { (rs : Seq Ref) → Stands (Ordered tree.now) p.now rs → result ≡ first_where (look.has_sought (Ordered tree.now) p.now probe.entry) rs }
+    requires { (rs : Seq Ref) × Stands (Sorted tree.now) p.now rs }
+    ensures { (rs : Seq Ref) → Stands (Sorted tree.now) p.now rs → result ≡ first_where (look.has_sought (Sorted tree.now) p.now probe.entry) rs }
 {
     tree.find(&mut Counted::new(p), probe, &mut Steps::new())
 }
@@ -251,9 +251,9 @@ fn next_in_chains(chains: &Chains<ByHash>, p: &Pool<Stored>, node: NodeRef) -> O
 }
 
 fn place_in_tree(tree: &Tree<ByKey>, p: &Pool<Stored>, slot: usize, node: NodeRef) -> Place
-    requires slot { slot_in (Ordered tree.now) ≡ slot }
-    requires node { (xs : Seq Ref) × (ys : Seq Ref) × Stands (Ordered tree.now) p.now (xs ++ node ∷ ys) }
-    ensures { (xs ys : Seq Ref) → Stands (Ordered tree.now) p.now (xs ++ node ∷ ys) → look.IsPlaceOf (Ordered tree.now) p.now node result xs ys }
+    requires slot { slot_in (Sorted tree.now) ≡ slot }
+    requires node { (xs : Seq Ref) × (ys : Seq Ref) × Stands (Sorted tree.now) p.now (xs ++ node ∷ ys) }
+    ensures { (xs ys : Seq Ref) → Stands (Sorted tree.now) p.now (xs ++ node ∷ ys) → look.IsPlaceOf (Sorted tree.now) p.now node result xs ys }
 {
     let _ = tree;
     Place {

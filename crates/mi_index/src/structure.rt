@@ -9,7 +9,7 @@ ghost use Rattle.mi_index.specs.Passes as pass;
 ghost use Rattle.mi_index.specs.PassSteps as step;
 ghost use Rattle.mi_index.specs.Opened as opened;
 ghost use Rattle.mi_index.specs.Inserting as insert;
-ghost use Rattle.mi_index.specs.declared.structure.Structure.TheVariants.{Ordered, Hashed, Sequenced};
+ghost use Rattle.mi_index.specs.declared.structure.Structure.TheVariants.{Sorted, Hashed, Sequenced};
 
 use crate::moves::Place;
 use mi_catalog::{Column, Index, IndexKind, Parts};
@@ -24,7 +24,7 @@ use std::alloc::{AllocError, Global};
 /// The structure of an index: a tree for an ordered or ranked one, chains for a hashed one, a list for a sequenced one.
 #[derive(Drop)]
 pub enum Structure {
-    Ordered(Tree<ByKey>),
+    Sorted(Tree<ByKey>),
     Hashed(Chains<ByHash>),
     Sequenced(List),
 }
@@ -45,7 +45,7 @@ impl Structure {
             IndexKind::Ordered | IndexKind::Ranked => {
                 let types = lead_types(columns, index.parts.as_slice());
                 let parts = Parts::new(index.parts.as_slice().to_vec(alloc)?);
-                Ok(Structure::Ordered(Tree::new(slot, ByKey { parts, types })))
+                Ok(Structure::Sorted(Tree::new(slot, ByKey { parts, types })))
             }
             IndexKind::Hashed => {
                 let parts = Parts::new(index.parts.as_slice().to_vec(alloc)?);
@@ -64,7 +64,7 @@ impl Structure {
         ensures like { IsLike self.old self.new }
     {
         match self {
-            Structure::Ordered(tree) => link_tree(tree, p, node, stamp, before),
+            Structure::Sorted(tree) => link_tree(tree, p, node, stamp, before),
             Structure::Hashed(chains) => link_chains(chains, p, node, stamp, before),
             Structure::Sequenced(list) => link_list(list, p, node, stamp, before),
         }
@@ -78,7 +78,7 @@ impl Structure {
         ensures like { IsLike self.old self.new }
     {
         match self {
-            Structure::Ordered(tree) => unlink_tree(tree, p, node),
+            Structure::Sorted(tree) => unlink_tree(tree, p, node),
             Structure::Hashed(chains) => unlink_chains(chains, p, node),
             Structure::Sequenced(list) => unlink_list(list, p, node),
         }
@@ -92,7 +92,7 @@ impl Structure {
         ensures like { IsLike self.old self.new }
     {
         match self {
-            Structure::Ordered(tree) => relink_tree(tree, p, node, place),
+            Structure::Sorted(tree) => relink_tree(tree, p, node, place),
             Structure::Hashed(chains) => relink_chains(chains, p, node, place),
             Structure::Sequenced(list) => relink_list(list, p, node, place),
         }
@@ -106,7 +106,7 @@ impl Structure {
         ensures like { IsLike self.old self.new }
     {
         match self {
-            Structure::Ordered(_) | Structure::Hashed(_) => {}
+            Structure::Sorted(_) | Structure::Hashed(_) => {}
             Structure::Sequenced(list) => move_in_list(list, p, node, before),
         }
     }
@@ -128,7 +128,7 @@ impl Structure {
     {
         match self {
             Structure::Hashed(chains) => room_in_chains(chains, alloc, p, n),
-            Structure::Ordered(_) | Structure::Sequenced(_) => Ok(()),
+            Structure::Sorted(_) | Structure::Sequenced(_) => Ok(()),
         }
     }
 }
@@ -163,9 +163,9 @@ fn link_tree(
     stamp: u64,
     before: Option<NodeRef>,
 )
-    requires { IsReady (step.joining_one node stamp before) 0 (Ordered tree.old) p.old }
-    ensures step { IsStep (step.joining_one node stamp before) (step.joined_one node stamp before) node 0 (Ordered tree.old) (Ordered tree.new) p.old p.new }
-    ensures like { IsLike (Ordered tree.old) (Ordered tree.new) }
+    requires { IsReady (step.joining_one node stamp before) 0 (Sorted tree.old) p.old }
+    ensures step { IsStep (step.joining_one node stamp before) (step.joined_one node stamp before) node 0 (Sorted tree.old) (Sorted tree.new) p.old p.new }
+    ensures like { IsLike (Sorted tree.old) (Sorted tree.new) }
 {
     let _ = before;
     tree.insert(p, node, stamp, &mut Steps::new());
@@ -203,9 +203,9 @@ fn link_list(
 }
 
 fn unlink_tree(tree: &mut Tree<ByKey>, p: &mut Pool<Stored>, node: NodeRef)
-    requires { IsReady (step.leaving_one node) 0 (Ordered tree.old) p.old }
-    ensures step { IsStep (step.leaving_one node) (step.left_one node) node 0 (Ordered tree.old) (Ordered tree.new) p.old p.new }
-    ensures like { IsLike (Ordered tree.old) (Ordered tree.new) }
+    requires { IsReady (step.leaving_one node) 0 (Sorted tree.old) p.old }
+    ensures step { IsStep (step.leaving_one node) (step.left_one node) node 0 (Sorted tree.old) (Sorted tree.new) p.old p.new }
+    ensures like { IsLike (Sorted tree.old) (Sorted tree.new) }
 {
     tree.remove(p, node, &mut Steps::new());
 }
@@ -227,9 +227,9 @@ fn unlink_list(list: &mut List, p: &mut Pool<Stored>, node: NodeRef)
 }
 
 fn relink_tree(tree: &mut Tree<ByKey>, p: &mut Pool<Stored>, node: NodeRef, place: Place)
-    requires { IsReady (step.returning_one node place) 0 (Ordered tree.old) p.old }
-    ensures step { IsStep (step.returning_one node place) (step.returned_one node place) node 0 (Ordered tree.old) (Ordered tree.new) p.old p.new }
-    ensures like { IsLike (Ordered tree.old) (Ordered tree.new) }
+    requires { IsReady (step.returning_one node place) 0 (Sorted tree.old) p.old }
+    ensures step { IsStep (step.returning_one node place) (step.returned_one node place) node 0 (Sorted tree.old) (Sorted tree.new) p.old p.new }
+    ensures like { IsLike (Sorted tree.old) (Sorted tree.new) }
 {
     tree.insert(p, node, place.stamp, &mut Steps::new());
 }

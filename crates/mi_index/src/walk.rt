@@ -7,7 +7,7 @@ ghost use Rattle.mi_tree.specs.Walking.{IsWalk, beyond, far_of};
 ghost use Rattle.mi_index.specs.Standing.{slot_in, Stands};
 ghost use Rattle.mi_index.specs.Looks as look;
 ghost use Rattle.mi_index.specs.Walks.{shown_row, Follow};
-ghost use Rattle.mi_index.specs.declared.structure.Structure.TheVariants.{Ordered};
+ghost use Rattle.mi_index.specs.declared.structure.Structure.TheVariants.{Sorted};
 
 use crate::structure::Structure;
 use mi_node::{Counted, Link, NodeRef};
@@ -47,7 +47,7 @@ impl Structure {
         ensures steps { (rs : Seq Ref) → Stands self.now p.old.pool rs → (b : ℕ) → length rs < 2 ^ b → steps.new.count ≤ steps.old.count + 2 * b }
     {
         match self {
-            Structure::Ordered(tree) => {
+            Structure::Sorted(tree) => {
                 rows_in_tree(tree, alloc, p, direction, node, limit, steps)
             }
             Structure::Hashed(_) => Ok(Vec::new(alloc)),
@@ -66,12 +66,12 @@ fn rows_in_tree<'a>(
     limit: usize,
     steps: &mut Steps,
 ) -> Result<Rows<'a>, AllocError>
-    requires { (xs : Seq Ref) × (ys : Seq Ref) × Stands (Ordered tree.now) p.old.pool (xs ++ node ∷ ys) }
-    ensures rows { (xs ys : Seq Ref) → Stands (Ordered tree.now) p.old.pool (xs ++ node ∷ ys)
+    requires { (xs : Seq Ref) × (ys : Seq Ref) × Stands (Sorted tree.now) p.old.pool (xs ++ node ∷ ys) }
+    ensures rows { (xs ys : Seq Ref) → Stands (Sorted tree.now) p.old.pool (xs ++ node ∷ ys)
         → IfOk result (λ rows. map (λ r. (r.0, r.1.now)) rows.items ≡ map (shown_row p.old.pool) (take limit (node ∷ beyond direction xs ys))) }
-    ensures reads { (xs ys : Seq Ref) → Stands (Ordered tree.now) p.old.pool (xs ++ node ∷ ys) → (b : ℕ) → length (xs ++ node ∷ ys) < 2 ^ b
+    ensures reads { (xs ys : Seq Ref) → Stands (Sorted tree.now) p.old.pool (xs ++ node ∷ ys) → (b : ℕ) → length (xs ++ node ∷ ys) < 2 ^ b
         → IfOk result (λ rows. p.new.reads ≤ p.old.reads + (2 * length rows.items + 6 * b + 2)) }
-    ensures steps { (rs : Seq Ref) → Stands (Ordered tree.now) p.old.pool rs → (b : ℕ) → length rs < 2 ^ b → steps.new.count ≤ steps.old.count + 2 * b }
+    ensures steps { (rs : Seq Ref) → Stands (Sorted tree.now) p.old.pool rs → (b : ℕ) → length rs < 2 ^ b → steps.new.count ≤ steps.old.count + 2 * b }
 {
     let mut walk = tree.walk_from(p, direction, node, steps);
     rows_ahead(alloc, p, &mut walk, limit)

@@ -21,7 +21,7 @@ use Rattle.mi_node.specs.Refs.{Ref, first_of, last_of}
 use Rattle.mi_tree.specs.BinaryTree.{nth_of}
 use Rattle.mi_order.specs.declared.stored.Stored.{Stored}
 use Rattle.mi_index.specs.declared.structure.Structure.{Structure}
-use Rattle.mi_index.specs.declared.structure.Structure.TheVariants.{Ordered, Hashed, Sequenced}
+use Rattle.mi_index.specs.declared.structure.Structure.TheVariants.{Sorted, Hashed, Sequenced}
 use Rattle.mi_index.specs.Looks as nodes
 use Rattle.mi_index.specs.Standing.{Stands}
 use Rattle.mi_container.specs.Asked.{ShowsOneList, IsSorted}
@@ -108,7 +108,7 @@ module _ (i : Inside) (is : AreMulti i) {w : Seen} (seen : seen_of i ≡ w) wher
     count_is h = h rs n.stood.stands ∙ long
 
     fits : (v : Structure) → nodes.IsSortedStructure v → Stands v m rs → length rs < 2 ^ 32
-    fits (Ordered t) sorted stands = stands.fits
+    fits (Sorted t) sorted stands = stands.fits
     fits (Hashed c) sorted stands = absurd sorted
     fits (Sequenced l) sorted stands = absurd sorted
 

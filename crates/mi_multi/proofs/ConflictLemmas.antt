@@ -29,7 +29,7 @@ use Rattle.mi_tree.specs.Probed.{first_where, is_value_at, is_node_at}
 use Rattle.mi_chain.specs.Keying.{has_key, passes}
 use Rattle.mi_order.specs.declared.stored.Stored.{Stored}
 use Rattle.mi_index.specs.declared.structure.Structure.{Structure}
-use Rattle.mi_index.specs.declared.structure.Structure.TheVariants.{Ordered, Hashed, Sequenced}
+use Rattle.mi_index.specs.declared.structure.Structure.TheVariants.{Sorted, Hashed, Sequenced}
 use Rattle.mi_index.specs.Looks as nodes
 use Rattle.mi_index.specs.Orders.{place_in, is_key_of}
 use Rattle.mi_index.specs.Standing.{Stands}
@@ -85,7 +85,7 @@ module _ (s : Shape) (ids : FinMap nat_cmp IdEntry) (m : Pooled Stored) (xs : Li
   sought_is : (w : Structure) → IsFor i w → has_keys i.kind ≡ true → (q : Ref) → IsLiveRef ids m q
       → nodes.has_sought w m (Of k) q ≡ has_key_of i.parts t k.now (id_at m q)
   unfolding is_node_at has_key
-  sought_is (Ordered u) f keyed q live =
+  sought_is (Sorted u) f keyed q live =
       let has = node_of_row s ids m xs next arrivals is x y n q live in
       ap (is_value_at (λ v. place_in u.order.parts v (Of k))) has.is
       ∙ ap (λ ps. is_eq (compare_key ps has.value.row k.now)) f.1

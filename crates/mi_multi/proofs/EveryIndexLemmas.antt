@@ -17,7 +17,7 @@ use Rattle.mi_list.specs.declared.list.List.{List as Line}
 use Rattle.mi_list.proofs.OrderLemmas.{order-listed}
 use Rattle.mi_order.specs.declared.stored.Stored.{Stored}
 use Rattle.mi_index.specs.declared.structure.Structure.{Structure}
-use Rattle.mi_index.specs.declared.structure.Structure.TheVariants.{Ordered, Hashed, Sequenced}
+use Rattle.mi_index.specs.declared.structure.Structure.TheVariants.{Sorted, Hashed, Sequenced}
 use Rattle.mi_index.specs.Standing.{slot_in, Stands, IsLike}
 use Rattle.mi_index.specs.Pass.{Gives, AllStand, AllGiven, AllLike}
 use Rattle.mi_container.specs.Data.{Order, has_stamps}
@@ -63,25 +63,25 @@ every Q ids m n s (i ∷ is) (x ∷ xs) (y ∷ ys) (rs ∷ rss) (us ∷ uss) f l
 -- Structures that are alike
 
 pub like_slot : (x y : Structure) → IsLike x y → slot_in y ≡ slot_in x
-like_slot (Ordered t) (Ordered u) l = l.0
+like_slot (Sorted t) (Sorted u) l = l.0
 like_slot (Hashed c) (Hashed d) l = l.0
 like_slot (Sequenced a) (Sequenced b) l = l
-like_slot (Ordered t) (Hashed d) l = absurd l
-like_slot (Ordered t) (Sequenced b) l = absurd l
-like_slot (Hashed c) (Ordered u) l = absurd l
+like_slot (Sorted t) (Hashed d) l = absurd l
+like_slot (Sorted t) (Sequenced b) l = absurd l
+like_slot (Hashed c) (Sorted u) l = absurd l
 like_slot (Hashed c) (Sequenced b) l = absurd l
-like_slot (Sequenced a) (Ordered u) l = absurd l
+like_slot (Sequenced a) (Sorted u) l = absurd l
 like_slot (Sequenced a) (Hashed d) l = absurd l
 
 like_for : (i : Index) (x y : Structure) → IsLike x y → IsFor i x → IsFor i y
-like_for i (Ordered t) (Ordered u) l f = (f.0, ap (λ o. o.parts) l.1 ∙ f.1)
+like_for i (Sorted t) (Sorted u) l f = (f.0, ap (λ o. o.parts) l.1 ∙ f.1)
 like_for i (Hashed c) (Hashed d) l f = (f.0, ap (λ k. k.parts) l.1 ∙ f.1)
 like_for i (Sequenced a) (Sequenced b) l f = f
-like_for i (Ordered t) (Hashed d) l f = absurd l
-like_for i (Ordered t) (Sequenced b) l f = absurd l
-like_for i (Hashed c) (Ordered u) l f = absurd l
+like_for i (Sorted t) (Hashed d) l f = absurd l
+like_for i (Sorted t) (Sequenced b) l f = absurd l
+like_for i (Hashed c) (Sorted u) l f = absurd l
 like_for i (Hashed c) (Sequenced b) l f = absurd l
-like_for i (Sequenced a) (Ordered u) l f = absurd l
+like_for i (Sequenced a) (Sorted u) l f = absurd l
 like_for i (Sequenced a) (Hashed d) l f = absurd l
 
 pub all_for : (is : List Index) (xs ys : List Structure) → AllLike xs ys → AllFor is xs → AllFor is ys
@@ -115,7 +115,7 @@ hashed_not_sequenced kind.Sequenced a b = false≢true a
 
 pub own_is : (i : Index) (x : Structure) (m : Pooled Stored) (rs : List Ref) → IsFor i x
     → Stands x m rs → is_sequenced i.kind ≡ true → own_list m x ≡ ids_at m rs
-own_is i (Ordered t) m rs f s is = absurd (sorted_not_sequenced i.kind f.0 is)
+own_is i (Sorted t) m rs f s is = absurd (sorted_not_sequenced i.kind f.0 is)
 own_is i (Hashed c) m rs f s is = absurd (hashed_not_sequenced i.kind f.0 is)
 own_is i (Sequenced l) m rs f s is = own_line m l rs s
 

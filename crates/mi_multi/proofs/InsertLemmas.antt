@@ -18,7 +18,7 @@ use Rattle.mi_tree.specs.Sorted.{NoneAre}
 use Rattle.mi_chain.specs.Keying.{stamp_at}
 use Rattle.mi_order.specs.declared.stored.Stored.{Stored}
 use Rattle.mi_index.specs.declared.structure.Structure.{Structure}
-use Rattle.mi_index.specs.declared.structure.Structure.TheVariants.{Ordered, Hashed, Sequenced}
+use Rattle.mi_index.specs.declared.structure.Structure.TheVariants.{Sorted, Hashed, Sequenced}
 use Rattle.mi_index.specs.Orders.{stored_order}
 use Rattle.mi_index.specs.Places.{before_at, NoneHas}
 use Rattle.mi_index.specs.Rekeying.{side_of_value, HasPlaceFor}
@@ -113,7 +113,7 @@ module _ (s : Shape) (ids : FinMap nat_cmp IdEntry) (m : Pooled Stored) (xs : Li
 
     place_in : (k : ℕ) (i : Index) (x y : Structure) (rs us : List Ref)
         → Now s ids m xs next arrivals is k i x y rs us → HasPlaceFor x m v arrivals (before_at k before) rs
-    place_in k i (Ordered t) y rs us h =
+    place_in k i (Sorted t) y rs us h =
         let slot : t.slot ≡ k = h.0.slot in
         let parts : t.order.parts ≡ i.parts = h.0.for_.1 in
         let plan_is = h.1.plan_is ∙ sorted_parts i.kind i.parts [] h.0.for_.0 in

@@ -25,7 +25,7 @@ use Rattle.mi_node.specs.Refs.{Ref, first_of}
 use Rattle.mi_node.specs.declared.link.Tag.{Tag}
 use Rattle.mi_order.specs.declared.stored.Stored.{Stored}
 use Rattle.mi_index.specs.declared.structure.Structure.{Structure}
-use Rattle.mi_index.specs.declared.structure.Structure.TheVariants.{Ordered, Hashed, Sequenced}
+use Rattle.mi_index.specs.declared.structure.Structure.TheVariants.{Sorted, Hashed, Sequenced}
 use Rattle.mi_index.specs.Standing.{slot_in}
 use Rattle.mi_index.specs.Places.{before_at, IsWith, HasStamp}
 use Rattle.mi_index.specs.Pass.{AllLike}
@@ -76,7 +76,7 @@ not_named name (r ∷ rows) up each =
 pub stamp_others : (i : Index) (x : Structure) (m n : Pooled Stored) (r : Ref) (l : List ℕ) (stamp : ℕ)
     → IsFor i x → HasStamp x m n r stamp → has_stamps (order_of i.kind i.parts l) ≡ true
     → (k : ℕ) → (r.name == k) ≡ false → (link_of n k (slot_in x)).tag.stamp ≡ (link_of m k (slot_in x)).tag.stamp
-stamp_others i (Ordered t) m n r l stamp f h has k ne = ap (λ (w : Tag). w.stamp) (h.1 k ne)
+stamp_others i (Sorted t) m n r l stamp f h has k ne = ap (λ (w : Tag). w.stamp) (h.1 k ne)
 stamp_others i (Hashed c) m n r l stamp f h has k ne = ap (λ (w : Tag). w.stamp) (h.1 k ne)
 stamp_others i (Sequenced q) m n r l stamp f h has k ne = absurd (false≢true (sym (ap has_stamps (sequenced_order i.kind i.parts l f)) ∙ has))
 
@@ -87,7 +87,7 @@ sorted_new n k x now (p ∷ ps) is = is
 
 pub one_new : (i : Index) (x : Structure) (m n : Pooled Stored) (r : Ref) (k now : ℕ) → IsFor i x → slot_in x ≡ k → HasStamp x m n r now
     → stamp_in n r.name k (order_of i.kind i.parts []) ≡ new_stamp now (order_of i.kind i.parts (own_list m x))
-one_new i (Ordered t) m n r k now f slot h =
+one_new i (Sorted t) m n r k now f slot h =
     ap (stamp_in n r.name k) (sorted_parts i.kind i.parts [] f.0)
     ∙ sorted_new n r.name k now i.parts (ap (λ w. (link_of n r.name w).tag.stamp) (sym slot) ∙ h.0)
     ∙ ap (new_stamp now) (sym (sorted_parts i.kind i.parts [] f.0))
@@ -229,7 +229,7 @@ module _ (s : Shape) (ids : FinMap nat_cmp IdEntry) (m n : Pooled Stored) (xs ys
       → Turned Q ids m n (0 + k) i x y rs us → ids_at n us ≡ moves k (ids_at m rs)
   step k i (Sequenced l) y rs us seq t =
       let zeroed : 0 + k ≡ k = omega arith in ids_with k rs us t.done.joined t.live (t.done.put ∙ ap (λ w. before_at w before) zeroed)
-  step k i (Ordered t) y rs us seq h = absurd (sorted_not_sequenced i.kind h.for_.0 seq)
+  step k i (Sorted t) y rs us seq h = absurd (sorted_not_sequenced i.kind h.for_.0 seq)
   step k i (Hashed c) y rs us seq h = absurd (hashed_not_sequenced i.kind h.for_.0 seq)
 
   by : SeqBy moves s.indexes (own_lists m xs) (own_lists n ys)

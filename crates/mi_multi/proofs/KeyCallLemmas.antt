@@ -25,7 +25,7 @@ use Rattle.mi_node.specs.Refs.{Ref, first_of}
 use Rattle.mi_tree.specs.Probed.{first_where}
 use Rattle.mi_order.specs.declared.stored.Stored.{Stored}
 use Rattle.mi_index.specs.declared.structure.Structure.{Structure}
-use Rattle.mi_index.specs.declared.structure.Structure.TheVariants.{Ordered, Hashed, Sequenced}
+use Rattle.mi_index.specs.declared.structure.Structure.TheVariants.{Sorted, Hashed, Sequenced}
 use Rattle.mi_index.specs.Looks as nodes
 use Rattle.mi_index.specs.Standing.{Stands}
 use Rattle.mi_container.specs.Asked.{IsSorted, IsKeyed, IsHashed, WholeKey}
@@ -177,7 +177,7 @@ module _ (i : Inside) (is : AreMulti i) {w : Seen} (seen : seen_of i ≡ w) wher
     -- the next of a key
 
     is_chains : (v : Structure) → IsFor (index_at i.schema x) v → is_hashed (index_at i.schema x).kind ≡ true → nodes.IsHashedStructure v
-    is_chains (Ordered u) f h = absurd (known.sorted_hashed (index_at i.schema x).kind f.0 h)
+    is_chains (Sorted u) f h = absurd (known.sorted_hashed (index_at i.schema x).kind f.0 h)
     is_chains (Hashed c) f h = tt
     is_chains (Sequenced l) f h = absurd (Rattle.mi_multi.proofs.EveryIndexLemmas.hashed_not_sequenced (index_at i.schema x).kind h f)
 

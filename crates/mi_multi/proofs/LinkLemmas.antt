@@ -15,7 +15,7 @@ use Rattle.mi_node.specs.Refs.{Ref, first_of, last_of}
 use Rattle.mi_chain.specs.Keying.{same_nodes, stamp_at}
 use Rattle.mi_order.specs.declared.stored.Stored.{Stored}
 use Rattle.mi_index.specs.declared.structure.Structure.{Structure}
-use Rattle.mi_index.specs.declared.structure.Structure.TheVariants.{Ordered, Hashed, Sequenced}
+use Rattle.mi_index.specs.declared.structure.Structure.TheVariants.{Sorted, Hashed, Sequenced}
 use Rattle.mi_index.specs.declared.moves.Moves.TheVariants.{All}
 use Rattle.mi_index.specs.Orders.{keying_of}
 use Rattle.mi_order.specs.declared.orders.ByHash.{ByHash as HashedBy}
@@ -36,7 +36,7 @@ use Rattle.mi_multi.proofs.NeighbourLemmas.{link_listed, link_hashed}
 
 pub tags_at : (i : Index) (x : Structure) (m n : Pooled Stored) (l : List ℕ) → IsFor i x → KeepsTags x m n
     → has_stamps (order_of i.kind i.parts l) ≡ true → (k : ℕ) → (link_of n k (slot_in x)).tag ≡ (link_of m k (slot_in x)).tag
-tags_at i (Ordered t) m n l f tags has k = tags k
+tags_at i (Sorted t) m n l f tags has k = tags k
 tags_at i (Hashed c) m n l f tags has k = tags k
 tags_at i (Sequenced q) m n l f tags has k = absurd (false≢true (sym (ap has_stamps (sequenced_order i.kind i.parts l f)) ∙ has))
 
@@ -93,7 +93,7 @@ module _ (s : Shape) (ids : FinMap nat_cmp IdEntry) (m n : Pooled Stored) (xs : 
 
   one_link : (k : ℕ) (i : Index) (x y : Structure) (rs us : List Ref) → Has k i x y rs us
       → link_in k rws e (order_of i.kind i.parts (own_list m x)) ≡ neighbours_in n r.name k (order_of i.kind i.parts [])
-  one_link k i (Ordered t) y rs us h =
+  one_link k i (Sorted t) y rs us h =
       ap (link_in k rws e) (sorted_parts i.kind i.parts [] h.0.for_.0) ∙ no_neighbours k rws e n r.name i.parts
       ∙ ap (neighbours_in n r.name k) (sym (sorted_parts i.kind i.parts [] h.0.for_.0))
   one_link k i (Hashed c) y rs us h =

@@ -21,7 +21,7 @@ use Rattle.mi_node.specs.Refs.{Ref, first_of, last_of}
 use Rattle.mi_tree.specs.BinaryTree.{nth_of}
 use Rattle.mi_order.specs.declared.stored.Stored.{Stored}
 use Rattle.mi_index.specs.declared.structure.Structure.{Structure}
-use Rattle.mi_index.specs.declared.structure.Structure.TheVariants.{Ordered, Hashed, Sequenced}
+use Rattle.mi_index.specs.declared.structure.Structure.TheVariants.{Sorted, Hashed, Sequenced}
 use Rattle.mi_index.specs.Looks as nodes
 use Rattle.mi_index.specs.Standing.{Stands}
 use Rattle.mi_container.specs.Asked.{ShowsOneList, IsSorted}
@@ -77,7 +77,7 @@ module _ (s : Shape) (ids : FinMap nat_cmp IdEntry) (m : Pooled Stored) (xs : Li
   rs = n.stood.rs
 
   one_list : (w : Structure) → IsFor (index_at s x) w → ShowsOneList s x → nodes.HasOneList w
-  one_list (Ordered u) f h = tt
+  one_list (Sorted u) f h = tt
   one_list (Hashed c) f h = absurd (hashed_lists (index_at s x).kind h f.0)
   one_list (Sequenced l) f h = tt
 
@@ -85,7 +85,7 @@ module _ (s : Shape) (ids : FinMap nat_cmp IdEntry) (m : Pooled Stored) (xs : Li
   lists h = one_list y n.stood.for_ h
 
   is_tree : (w : Structure) → IsFor (index_at s x) w → IsSorted s x → nodes.IsSortedStructure w
-  is_tree (Ordered u) f h = tt
+  is_tree (Sorted u) f h = tt
   is_tree (Hashed c) f h = absurd (sorted_hashed (index_at s x).kind h f.0)
   is_tree (Sequenced l) f h = absurd (sorted_sequenced (index_at s x).kind h f)
 

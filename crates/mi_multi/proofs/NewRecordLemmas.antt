@@ -29,7 +29,7 @@ use Rattle.mi_tree.specs.Sorted.{NoneAre}
 use Rattle.mi_chain.specs.Keying.{stamp_at}
 use Rattle.mi_order.specs.declared.stored.Stored.{Stored}
 use Rattle.mi_index.specs.declared.structure.Structure.{Structure}
-use Rattle.mi_index.specs.declared.structure.Structure.TheVariants.{Ordered, Hashed, Sequenced}
+use Rattle.mi_index.specs.declared.structure.Structure.TheVariants.{Sorted, Hashed, Sequenced}
 use Rattle.mi_index.specs.Orders.{stored_order}
 use Rattle.mi_index.specs.Places.{mark_at, NoneHas}
 use Rattle.mi_index.specs.Rekeying.{side_of_value, HasPlaceFor, KeepsKey, CanMove, CanMoveIf, HasMovedIf, rekeying, rekeyed, IsRekeyed}
@@ -150,7 +150,7 @@ module _ (s : Shape) (ids : FinMap nat_cmp IdEntry) (m : Pooled Stored) (xs : Li
 
   place_for : (k : ℕ) (i : Index) (x y : Structure) (rs us : List Ref) → Now s ids m xs next arrivals is k i x y rs us
       → (qs : List Ref) → AllByRecursion (IsLiveRef ids m) qs → Lacks e (ids_at m qs) → HasPlaceFor x m v arrivals None qs
-  place_for k i (Ordered t) y rs us h qs all lacks =
+  place_for k i (Sorted t) y rs us h qs all lacks =
       let slot : t.slot ≡ k = h.0.slot in
       let parts : t.order.parts ≡ i.parts = h.0.for_.1 in
       let plan_is = h.1.plan_is ∙ sorted_parts i.kind i.parts [] h.0.for_.0 in
@@ -175,9 +175,9 @@ module _ (s : Shape) (ids : FinMap nat_cmp IdEntry) (m : Pooled Stored) (xs : Li
 
   keeps : (k : ℕ) (i : Index) (x y : Structure) (rs us : List Ref) → Now s ids m xs next arrivals is k i x y rs us
       → stays (get_or d.orders k ById) was v.row ≡ true → KeepsKey x m r v
-  keeps k i (Ordered t) y rs us h same old is_ =
+  keeps k i (Sorted t) y rs us h same old is_ =
       let parts : t.order.parts ≡ i.parts = h.0.for_.1 in
-      let order_is : get_or d.orders k ById ≡ sorted_order i.parts = h.1.order_is ∙ sorted_parts i.kind i.parts (own_list m (Ordered t)) h.0.for_.0 in
+      let order_is : get_or d.orders k ById ≡ sorted_order i.parts = h.1.order_is ∙ sorted_parts i.kind i.parts (own_list m (Sorted t)) h.0.for_.0 in
       let by : parts_of (get_or d.orders k ById) ≡ t.order.parts = ap parts_of order_is ∙ parts_sorted i.parts ∙ sym parts in
       let value : was ≡ old.row = ap record_in is_ in
       let id_ : old.id ≡ v.id = sym (ap stored_id is_) ∙ id ∙ sym named in

@@ -20,7 +20,7 @@ use Rattle.mi_chain.specs.Keying.{stamp_at}
 use Rattle.mi_order.specs.declared.stored.Stored.{Stored}
 use Rattle.mi_index.specs.declared.moves.Place.{Place}
 use Rattle.mi_index.specs.declared.structure.Structure.{Structure}
-use Rattle.mi_index.specs.declared.structure.Structure.TheVariants.{Ordered, Hashed, Sequenced}
+use Rattle.mi_index.specs.declared.structure.Structure.TheVariants.{Sorted, Hashed, Sequenced}
 use Rattle.mi_index.specs.Standing.{Stands, Climb}
 use Rattle.mi_index.specs.Places.{mark_at, IsOneOf as Holds}
 use Rattle.mi_index.specs.Looks.{IsPlaceOf}
@@ -108,13 +108,13 @@ module _ (s : Shape) (ids : FinMap nat_cmp IdEntry) (m : Pooled Stored) (xs : Li
   pub place_is : (k : ℕ) (y : Structure) (w : Numbered s ids m xs k y) (p : Place)
       → ((as_ bs : List Ref) → Stands y m (as_ ++ r ∷ bs) → IsPlaceOf y m r p as_ bs) → (a b : List Value) → stays (get_or d.orders k ById) a b ≡ false
       → place_kept y p ≡ record { stamp = stamp_of d.rows k e; link = link_in k d.rows e (get_or d.orders k ById) }
-  place_is k (Ordered t) w p given a b h =
-      let h_ = has_it k (Ordered t) w in
-      let its = given h_.xs h_.ys (stands_with k (Ordered t) w) in
+  place_is k (Sorted t) w p given a b h =
+      let h_ = has_it k (Sorted t) w in
+      let its = given h_.xs h_.ys (stands_with k (Sorted t) w) in
       let slot : t.slot ≡ k = w.stood.slot in
-      let stamp : p.stamp ≡ stamp_of d.rows k e = its.stamp ∙ ap (λ z. stamp_at m z r) slot ∙ sym (stamp_is k (Ordered t) w a b h) in
+      let stamp : p.stamp ≡ stamp_of d.rows k e = its.stamp ∙ ap (λ z. stamp_at m z r) slot ∙ sym (stamp_is k (Sorted t) w a b h) in
       let link : link_in k d.rows e (get_or d.orders k ById) ≡ record { back = None; forth = None } =
-      ap (link_in k d.rows e) (w.ordered ∙ sorted_parts (index_at s k).kind (index_at s k).parts (own_list m (Ordered t)) w.stood.for_.0)
+      ap (link_in k d.rows e) (w.ordered ∙ sorted_parts (index_at s k).kind (index_at s k).parts (own_list m (Sorted t)) w.stood.for_.0)
       ∙ unlinked k d.rows e (index_at s k).parts in
       (λ j. record { stamp = stamp j; link = sym link j })
   place_is k (Hashed c) w p given a b h =

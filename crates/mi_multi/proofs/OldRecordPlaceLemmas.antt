@@ -27,7 +27,7 @@ use Rattle.mi_tree.specs.Sorted.{NoneAre}
 use Rattle.mi_chain.specs.Keying.{same_values, stamp_at}
 use Rattle.mi_order.specs.declared.stored.Stored.{Stored}
 use Rattle.mi_index.specs.declared.structure.Structure.{Structure}
-use Rattle.mi_index.specs.declared.structure.Structure.TheVariants.{Ordered, Hashed, Sequenced}
+use Rattle.mi_index.specs.declared.structure.Structure.TheVariants.{Sorted, Hashed, Sequenced}
 use Rattle.mi_catalog.specs.Key.{id_part}
 use Rattle.mi_index.specs.Orders.{stored_order, has_one_key}
 use Rattle.mi_index.specs.Standing.{AllAbove, AllBelow, Climb}
@@ -267,7 +267,7 @@ module _ (s : Shape) (ids : FinMap nat_cmp IdEntry) (m : Pooled Stored) (xs : Li
         → (was : OldPlace) → place k ≡ Some was → Meets k i x (Some was)
         → (as_ bs : List Ref) → rs ≡ as_ ++ r ∷ bs → AllByRecursion (IsLiveRef ids m) (as_ ++ bs)
         → Lacks e (ids_at m (as_ ++ bs)) → HasOldPlaceFor x m v (to_place was) (as_ ++ bs)
-    place_in k i (Ordered t) y rs us h was is_ met as_ bs parts live others =
+    place_in k i (Sorted t) y rs us h was is_ met as_ bs parts live others =
         let slot : t.slot ≡ k = h.0.slot in
         let same : t.order.parts ≡ i.parts = h.0.for_.1 in
         let plan_is : get_or os k ById ≡ sorted_order i.parts = h.1.plan_is ∙ sorted_parts i.kind i.parts [] h.0.for_.0 in
@@ -304,9 +304,9 @@ module _ (s : Shape) (ids : FinMap nat_cmp IdEntry) (m : Pooled Stored) (xs : Li
 
     -- a key that is the same
     same_key : (k : ℕ) (i : Index) (x y : Structure) (rs us : List Ref) → Now s ids m xs next arrivals is k i x y rs us → Meets k i x None → KeepsKey x m r v
-    same_key k i (Ordered t) y rs us h met w w_is =
+    same_key k i (Sorted t) y rs us h met w w_is =
         let own_ : w ≡ mine.value = (let both : Some w ≡ Some mine.value = sym w_is ∙ mine.is in cc) in
-        let order_is : order_of i.kind i.parts (own_list m (Ordered t)) ≡ sorted_order i.parts = sorted_parts i.kind i.parts [] h.0.for_.0 in
+        let order_is : order_of i.kind i.parts (own_list m (Sorted t)) ≡ sorted_order i.parts = sorted_parts i.kind i.parts [] h.0.for_.0 in
         let met' : is_eq (compare_key (parts_of (sorted_order i.parts)) old.values now) ≡ true =
         subst (λ o. is_eq (compare_key (parts_of o) old.values now) ≡ true) order_is met in
         ap (λ q. stored_order t.order.parts q v) own_ ∙ ap (λ ps. stored_order ps mine.value v) h.0.for_.1 ∙ sorted_same i.parts met'

@@ -19,7 +19,7 @@ use Rattle.mi_node.specs.Pool.{Pooled, no_nodes, ref_of}
 use Rattle.mi_node.proofs.EntryLemmas.{ref-no_nodes}
 use Rattle.mi_order.specs.declared.stored.Stored.{Stored}
 use Rattle.mi_index.specs.declared.structure.Structure.{Structure}
-use Rattle.mi_index.specs.declared.structure.Structure.TheVariants.{Ordered, Hashed, Sequenced}
+use Rattle.mi_index.specs.declared.structure.Structure.TheVariants.{Sorted, Hashed, Sequenced}
 use Rattle.mi_index.specs.Pass.{AllStand}
 use Rattle.mi_index.specs.Opened.{IsOpenedFor as Opens, AllOpenedFor as AllOpen, empties, IsOpened}
 use Rattle.mi_container.specs.Data.{IsData}
@@ -37,7 +37,7 @@ use Rattle.mi_multi.proofs.EveryIndexLemmas.{own_is}
 
 module _ (secret : ℕ) where
   is_for : (columns : List Column) (i : Index) (s : ℕ) (x : Structure) → Opens secret columns i s x → IsFor i x
-  is_for columns i s (Ordered t) f = (elim f.0 [ inl k ↦ ap is_sorted k | inr k ↦ ap is_sorted k ], f.1)
+  is_for columns i s (Sorted t) f = (elim f.0 [ inl k ↦ ap is_sorted k | inr k ↦ ap is_sorted k ], f.1)
   is_for columns i s (Hashed c) f = (ap is_hashed f.0, f.1)
   is_for columns i s (Sequenced l) f = ap is_sequenced f.0
 
@@ -48,7 +48,7 @@ module _ (secret : ℕ) where
   all_for columns (i ∷ is) s (x ∷ xs) f = (is_for columns i s x f.0, all_for columns is (s + 1) xs f.1)
 
   one_secret : (columns : List Column) (i : Index) (s : ℕ) (x : Structure) → Opens secret columns i s x → secret_in x ≡ secret_for secret i.kind
-  one_secret columns i s (Ordered t) f = elim f.0 [ inl k ↦ ap (secret_for secret) (sym k) | inr k ↦ ap (secret_for secret) (sym k) ]
+  one_secret columns i s (Sorted t) f = elim f.0 [ inl k ↦ ap (secret_for secret) (sym k) | inr k ↦ ap (secret_for secret) (sym k) ]
   one_secret columns i s (Hashed c) f = ap Some f.3 ∙ ap (secret_for secret) (sym f.0)
   one_secret columns i s (Sequenced l) f = ap (secret_for secret) (sym f.0)
 

@@ -36,7 +36,7 @@ use Rattle.mi_tree.specs.Probed.{first_where, past, past_value, is_value_at, is_
 use Rattle.mi_chain.specs.Keying.{same_nodes, same_values, has_key, passes}
 use Rattle.mi_order.specs.declared.stored.Stored.{Stored}
 use Rattle.mi_index.specs.declared.structure.Structure.{Structure}
-use Rattle.mi_index.specs.declared.structure.Structure.TheVariants.{Ordered, Hashed, Sequenced}
+use Rattle.mi_index.specs.declared.structure.Structure.TheVariants.{Sorted, Hashed, Sequenced}
 use Rattle.mi_index.specs.Looks as nodes
 use Rattle.mi_index.specs.Orders.{place_in, row_in, keying_of, has_one_key, is_whole, is_key_of}
 use Rattle.mi_order.specs.declared.orders.ByHash.{ByHash as HashedBy}
@@ -177,7 +177,7 @@ module _ (s : Shape) (ids : FinMap nat_cmp IdEntry) (m : Pooled Stored) (xs : Li
     past_is : (strict : Bool) (w : Structure) → IsFor i w → nodes.IsSortedStructure w → (q : Ref) → IsLiveRef ids m q
         → nodes.is_past strict w m (Key k) q ≡ past strict (ordering_reverse (compare_to_id i t k.now (id_at m q)))
     unfolding is_past_node
-    past_is strict (Ordered u) f sorted q live =
+    past_is strict (Sorted u) f sorted q live =
         let has = node_of_row s ids m xs next arrivals is x y n q live in
         ap (past_value strict (λ v. place_in u.order.parts v (Key k))) has.is
         ∙ ap (λ ps. past strict (ordering_reverse (compare_to_row ps k.now (row_in has.value)))) f.1
@@ -216,7 +216,7 @@ module _ (s : Shape) (ids : FinMap nat_cmp IdEntry) (m : Pooled Stored) (xs : Li
     sought_is : (w : Structure) → IsFor i w → (has_keys i.kind ≡ true) → (q : Ref) → IsLiveRef ids m q
         → nodes.has_sought w m (Key k) q ≡ is_eq (compare_to_id i t k.now (id_at m q))
     unfolding is_node_at has_key
-    sought_is (Ordered u) f keyed q live =
+    sought_is (Sorted u) f keyed q live =
         let has = node_of_row s ids m xs next arrivals is x y n q live in
         ap (is_value_at (λ v. place_in u.order.parts v (Key k))) has.is
         ∙ ap (λ ps. is_eq (ordering_reverse (compare_to_row ps k.now (row_in has.value)))) f.1
@@ -265,7 +265,7 @@ module _ (s : Shape) (ids : FinMap nat_cmp IdEntry) (m : Pooled Stored) (xs : Li
 
     pub next_of_seen : (w : Structure) → IsFor i w → nodes.IsHashedStructure w
         → option_map (id_at m) (first_of (filter (nodes.has_same_key w m r) a.ys) None) ≡ look.next_with_key s t x e
-    next_of_seen (Ordered u) f hashed = absurd hashed
+    next_of_seen (Sorted u) f hashed = absurd hashed
     next_of_seen (Sequenced l) f hashed = absurd hashed
     next_of_seen (Hashed c) f hashed =
         let g : Ref → Bool = same_nodes (keying_of c.keys) m r in

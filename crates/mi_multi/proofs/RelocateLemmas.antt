@@ -24,7 +24,7 @@ use Rattle.mi_node.specs.Refs.{Ref, first_of}
 use Rattle.mi_node.specs.declared.link.Link.{Link as Line}
 use Rattle.mi_order.specs.declared.stored.Stored.{Stored}
 use Rattle.mi_index.specs.declared.structure.Structure.{Structure}
-use Rattle.mi_index.specs.declared.structure.Structure.TheVariants.{Ordered, Hashed, Sequenced}
+use Rattle.mi_index.specs.declared.structure.Structure.TheVariants.{Sorted, Hashed, Sequenced}
 use Rattle.mi_index.specs.Standing.{slot_in}
 use Rattle.mi_index.specs.Pass.{AllCan, AllLike, AreChanged, IsPass}
 use Rattle.mi_index.specs.Inserting.{relocating_at, relocated_at as moves_to, IsPlace, CanRelocate, CanRelocateIf, IsRelocated, IsRelocatedIf}
@@ -131,7 +131,7 @@ module _ (s : Shape) (ids : FinMap nat_cmp IdEntry) (m : Pooled Stored) (xs : Li
 
   can_here : (i : Index) (y : Structure) (rs : List Ref) → HasOwnList (order_of i.kind i.parts (own_list m y)) → AreLive ids m rs
       → (k : ℕ) (z : Structure) (us : List Ref) → Now s ids m xs next arrivals is k i y z rs us → CanRelocate y r b rs
-  can_here i (Ordered t) rs l live k z us h = absurd (sorted_not_sequenced i.kind h.0.for_.0 (listed_kind i.kind i.parts (own_list m (Ordered t)) l))
+  can_here i (Sorted t) rs l live k z us h = absurd (sorted_not_sequenced i.kind h.0.for_.0 (listed_kind i.kind i.parts (own_list m (Sorted t)) l))
   can_here i (Hashed c) rs l live k z us h = absurd (hashed_not_sequenced i.kind h.0.for_.0 (listed_kind i.kind i.parts (own_list m (Hashed c)) l))
   can_here i (Sequenced a) rs l live k z us h = let w = holds ids m e r rs there live in (w.xs, w.ys, w.parts, spot rs w.xs w.ys live w.parts q b other)
 

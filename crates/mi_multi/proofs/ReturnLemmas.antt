@@ -19,7 +19,7 @@ use Rattle.mi_tree.specs.Sorted.{NoneAre, side_of_new}
 use Rattle.mi_chain.specs.Keying.{same_nodes, same_values, stamp_at}
 use Rattle.mi_order.specs.declared.stored.Stored.{Stored}
 use Rattle.mi_index.specs.declared.structure.Structure.{Structure}
-use Rattle.mi_index.specs.declared.structure.Structure.TheVariants.{Ordered, Hashed, Sequenced}
+use Rattle.mi_index.specs.declared.structure.Structure.TheVariants.{Sorted, Hashed, Sequenced}
 use Rattle.mi_index.specs.declared.moves.Moves.TheVariants.{All}
 use Rattle.mi_index.specs.Orders.{stored_order, keying_of, has_one_key}
 use Rattle.mi_order.specs.declared.orders.ByHash.{ByHash as HashedBy}
@@ -94,7 +94,7 @@ abbrev pub nothing : Gives
 nothing s x m n rs us = Unit {0}
 
 like_self : (x : Structure) → IsLike x x
-like_self (Ordered t) = (refl, refl)
+like_self (Sorted t) = (refl, refl)
 like_self (Hashed c) = (refl, refl, omega arith)
 like_self (Sequenced l) = refl
 
@@ -242,7 +242,7 @@ module _ (s : Shape) (ids : FinMap nat_cmp IdEntry) (m : Pooled Stored) (xs : Li
 
     place_in : (k : ℕ) (i : Index) (x y : Structure) (rs us : List Ref) → Now k i x y rs us
         → MeetsAt k i x → HasOldPlace x m r (own_place (link_of m r.name k)) rs
-    place_in k i (Ordered t) y rs us h meets =
+    place_in k i (Sorted t) y rs us h meets =
         let slot : t.slot ≡ k = h.0.slot in
         let parts : t.order.parts ≡ i.parts = h.0.for_.1 in
         let plan_is : get_or os k ById ≡ sorted_order i.parts = h.1.plan_is ∙ sorted_parts i.kind i.parts [] h.0.for_.0 in

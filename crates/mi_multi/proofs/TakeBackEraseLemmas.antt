@@ -20,7 +20,7 @@ use Rattle.mi_node.specs.Refs.{Ref, first_of}
 use Rattle.mi_node.specs.declared.link.Tag.{Tag}
 use Rattle.mi_order.specs.declared.stored.Stored.{Stored}
 use Rattle.mi_index.specs.declared.structure.Structure.{Structure}
-use Rattle.mi_index.specs.declared.structure.Structure.TheVariants.{Ordered, Hashed, Sequenced}
+use Rattle.mi_index.specs.declared.structure.Structure.TheVariants.{Sorted, Hashed, Sequenced}
 use Rattle.mi_index.specs.declared.moves.Moves.TheVariants.{All}
 use Rattle.mi_index.specs.Standing.{slot_in}
 use Rattle.mi_index.specs.Places.{IsWith, HasStamp}
@@ -71,7 +71,7 @@ enough (i ∷ is) (l ∷ links) long = enough is links (let h : suc (length link
 stamp_still : (i : Index) (x : Structure) (m n : Pooled Stored) (r : Ref) (l : List ℕ) (stamp : ℕ)
     → IsFor i x → HasStamp x m n r stamp → has_stamps (order_of i.kind i.parts l) ≡ true
     → stamp ≡ (link_of m r.name (slot_in x)).tag.stamp → (k : ℕ) → (link_of n k (slot_in x)).tag.stamp ≡ (link_of m k (slot_in x)).tag.stamp
-stamp_still i (Ordered t) m n r l stamp f h has own k =
+stamp_still i (Sorted t) m n r l stamp f h has own k =
     elim (eqb_tells r.name k) [
       | inl same ↦ subst (λ w. (link_of n w t.slot).tag.stamp ≡ (link_of m w t.slot).tag.stamp) same.1 (h.0 ∙ own)
       | inr isnt ↦ ap (λ (w : Tag). w.stamp) (h.1 k isnt.0)
@@ -206,7 +206,7 @@ module _ (s : Shape) (ids : FinMap nat_cmp IdEntry) (m n : Pooled Stored) (xs ys
         neighbours_at m r.name 0 os k few
         ∙ ap (λ o. neighbours_in m r.name (0 + k) o) (ap (λ w. get_or os w ById) (sym zeroed) ∙ h.1.plan_is ∙ sequenced_order i.kind i.parts [] seq) in
         ids_back k rs us h.0.done.back h.0.live (ap (λ (w : Link). w.forth) link ∙ h.0.done.beside.1)
-    step k i (Ordered t) y rs us seq h = absurd (sorted_not_sequenced i.kind h.0.for_.0 seq)
+    step k i (Sorted t) y rs us seq h = absurd (sorted_not_sequenced i.kind h.0.for_.0 seq)
     step k i (Hashed c) y rs us seq h = absurd (hashed_not_sequenced i.kind h.0.for_.0 seq)
 
     orders_back : orders_of s.indexes (own_lists n ys) ≡ relinked d.rows e links d.orders

@@ -21,7 +21,7 @@ use Rattle.mi_node.specs.declared.link.Link.{Link as Line}
 use Rattle.mi_order.specs.declared.stored.Stored.{Stored}
 use Rattle.mi_index.specs.declared.moves.Place.{Place}
 use Rattle.mi_index.specs.declared.structure.Structure.{Structure}
-use Rattle.mi_index.specs.declared.structure.Structure.TheVariants.{Ordered, Hashed, Sequenced}
+use Rattle.mi_index.specs.declared.structure.Structure.TheVariants.{Sorted, Hashed, Sequenced}
 use Rattle.mi_index.specs.Standing.{slot_in}
 use Rattle.mi_index.specs.Pass.{AllLike}
 use Rattle.mi_index.specs.Rekeying.{HasMovedBack, HasMovedBackTo, returned_to, IsRekeyed}
@@ -143,14 +143,14 @@ module _ (s : Shape) (ids : FinMap nat_cmp IdEntry) (m n : Pooled Stored) (xs ys
         → HasMovedBackTo (option_map to_place o) x m n r rs us → has_stamps (order_of i.kind i.parts l) ≡ true → (k : ℕ) → (k == r.name) ≡ false
         → (link_of n k (slot_in x)).tag.stamp ≡ (link_of m k (slot_in x)).tag.stamp
     tag_beside None i x rs us l f moved has k ne = ap (λ (w : Line). w.tag.stamp) (moved.links k)
-    tag_beside (Some was) i (Ordered t) rs us l f moved has k ne = ap (λ (w : Tag). w.stamp) (moved.stamped.1 k (apart k ne))
+    tag_beside (Some was) i (Sorted t) rs us l f moved has k ne = ap (λ (w : Tag). w.stamp) (moved.stamped.1 k (apart k ne))
     tag_beside (Some was) i (Hashed c) rs us l f moved has k ne = ap (λ (w : Tag). w.stamp) (moved.stamped.1 k (apart k ne))
     tag_beside (Some was) i (Sequenced q) rs us l f moved has k ne = absurd (unstamped i l f has)
 
     -- and its own
     own_tag : (was : OldPlace) (i : Index) (x : Structure) (rs us : List Ref) (l : List ℕ) → IsFor i x → HasMovedBack x m n r (to_place was) rs us
         → has_stamps (order_of i.kind i.parts l) ≡ true → (link_of n r.name (slot_in x)).tag.stamp ≡ was.stamp
-    own_tag was i (Ordered t) rs us l f moved has = moved.stamped.0
+    own_tag was i (Sorted t) rs us l f moved has = moved.stamped.0
     own_tag was i (Hashed c) rs us l f moved has = moved.stamped.0
     own_tag was i (Sequenced q) rs us l f moved has = absurd (unstamped i l f has)
 

@@ -29,7 +29,7 @@ use Rattle.mi_tree.specs.Sorted.{Rising, AllAre, side, item_of, stamped, compare
 use Rattle.mi_chain.specs.Keying.{stamp_at}
 use Rattle.mi_order.specs.declared.stored.Stored.{Stored}
 use Rattle.mi_index.specs.declared.structure.Structure.{Structure}
-use Rattle.mi_index.specs.declared.structure.Structure.TheVariants.{Ordered, Hashed, Sequenced}
+use Rattle.mi_index.specs.declared.structure.Structure.TheVariants.{Sorted, Hashed, Sequenced}
 use Rattle.mi_index.specs.Orders.{stored_order, row_in}
 use Rattle.mi_index.specs.Standing.{Climb}
 use Rattle.mi_container.specs.Data.{Node, Order, Data, has_stamps, stamp_of, ids_of, listed, lists_from, as_table, Climbs}
@@ -195,14 +195,14 @@ module _ (s : Shape) (ids : FinMap nat_cmp IdEntry) (m : Pooled Stored) (xs : Li
 
   -- the ids of the nodes of an index are what it shows
   pub shows : (x : ℕ) (y : Structure) (n : Numbered s ids m xs x y) → ids_at m n.stood.rs ≡ view s t x
-  shows x (Ordered u) n =
+  shows x (Sorted u) n =
       let f = n.stood.for_ in
       let up : Rising (side (stored_order u.order.parts) m u.slot) n.stood.rs = n.stood.stands.rising in
       let slot : u.slot ≡ x = n.stood.slot in
       let moved : Rising (side (stored_order (index_at s x).parts) m x) n.stood.rs =
       subst (λ k. Rising (side (stored_order (index_at s x).parts) m k) n.stood.rs) slot
       (subst (λ ps. Rising (side (stored_order ps) m u.slot) n.stood.rs) f.1 up) in
-      by_key x (Ordered u) n (index_at s x).parts refl (n.ordered ∙ sorted_parts (index_at s x).kind (index_at s x).parts [] f.0)
+      by_key x (Sorted u) n (index_at s x).parts refl (n.ordered ∙ sorted_parts (index_at s x).kind (index_at s x).parts [] f.0)
       (sym (sorted_parts (index_at s x).kind (index_at s x).parts [] f.0)) moved
   shows x (Hashed c) n = by_hash x (Hashed c) n n.stood.for_.0 (subst (λ k. Climb (stamp_at m k) n.stood.rs) n.stood.slot n.stood.stands.1)
   shows x (Sequenced l) n = by_list x (Sequenced l) n n.stood.for_

@@ -20,7 +20,7 @@ use Rattle.mi_node.specs.Refs.{Ref}
 use Rattle.mi_list.specs.Order.{order}
 use Rattle.mi_order.specs.declared.stored.Stored.{Stored}
 use Rattle.mi_index.specs.declared.structure.Structure.{Structure}
-use Rattle.mi_index.specs.declared.structure.Structure.TheVariants.{Ordered, Hashed, Sequenced}
+use Rattle.mi_index.specs.declared.structure.Structure.TheVariants.{Sorted, Hashed, Sequenced}
 use Rattle.mi_index.specs.Pass.{AllStand}
 use Rattle.mi_container.specs.Data.{Data, IsData}
 use Rattle.mi_ids.specs.declared.entry.IdEntry.{IdEntry}
@@ -34,7 +34,7 @@ module _ (m : Pooled Stored) where
   ids_at rs = map id_at rs
 
 abbrev pub own_list : Pooled Stored → Structure → List ℕ
-own_list m (Ordered t) = []
+own_list m (Sorted t) = []
 own_list m (Hashed c) = []
 own_list m (Sequenced l) = map (λ k. stored_id (value_of m k)) (order l m)
 
@@ -43,7 +43,7 @@ own_lists m xs = map (own_list m) xs
 
 -- a structure of the kind and the parts of an index
 abbrev pub IsFor : Index → Structure → Type 0
-IsFor i (Ordered t) = (is_sorted i.kind ≡ true) × (t.order.parts ≡ i.parts)
+IsFor i (Sorted t) = (is_sorted i.kind ≡ true) × (t.order.parts ≡ i.parts)
 IsFor i (Hashed c) = (is_hashed i.kind ≡ true) × (c.keys.parts ≡ i.parts)
 IsFor i (Sequenced l) = is_sequenced i.kind ≡ true
 

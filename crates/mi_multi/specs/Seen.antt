@@ -5,7 +5,7 @@ use Rattle.std.specs.declared.option.Option.TheVariants.{None, Some}
 use Rattle.mi_catalog.specs.Shape.{Shape}
 use Rattle.mi_container.specs.Data.{Data}
 use Rattle.mi_index.specs.declared.structure.Structure.{Structure}
-use Rattle.mi_index.specs.declared.structure.Structure.TheVariants.{Ordered, Hashed, Sequenced}
+use Rattle.mi_index.specs.declared.structure.Structure.TheVariants.{Sorted, Hashed, Sequenced}
 use Rattle.mi_multi.specs.Held.{ids_held}
 use Rattle.mi_multi.specs.Multi.{IsMulti, plain_of}
 use Rattle.mi_multi.specs.declared.multi.MultiIndex.TheInside.{Inside}
@@ -18,7 +18,7 @@ pub record Seen : Type 0 where
 
 -- the secret of a structure that hashes
 abbrev pub secret_in : Structure → Option ℕ
-secret_in (Ordered t) = None
+secret_in (Sorted t) = None
 secret_in (Hashed c) = Some c.keys.secret
 secret_in (Sequenced l) = None
 

@@ -24,7 +24,7 @@ fn kept_place(structure: &Structure, place: Place) -> OldPlace
     ensures { place_seen result ≡ place_kept structure.now place }
 {
     match structure {
-        Structure::Ordered(_) => OldPlace {
+        Structure::Sorted(_) => OldPlace {
             stamp: place.stamp,
             back: None,
             forth: None,

@@ -9,7 +9,7 @@ ghost use Rattle.mi_node.specs.Pool.{IsHeld};
 ghost use Rattle.mi_node.specs.Refs.{Ref};
 ghost use Rattle.mi_index.specs.Standing.{Stands};
 ghost use Rattle.mi_index.specs.Looks as nodes;
-ghost use Rattle.mi_index.specs.declared.structure.Structure.TheVariants.{Ordered};
+ghost use Rattle.mi_index.specs.declared.structure.Structure.TheVariants.{Sorted};
 ghost use Rattle.mi_multi.specs.Multi.{id_at};
 
 use crate::multi::MultiIndex;
@@ -43,14 +43,14 @@ fn node_count(structure: &Structure, p: &Pool<Stored>) -> u32
     ensures { (rs : Seq Ref) → Stands structure.now p.now rs → result ≡ length rs }
 {
     match structure {
-        Structure::Ordered(tree) => tree_count(tree, p),
+        Structure::Sorted(tree) => tree_count(tree, p),
         Structure::Hashed(_) | Structure::Sequenced(_) => 0,
     }
 }
 
 fn tree_count(tree: &Tree<ByKey>, p: &Pool<Stored>) -> u32
-    requires { (rs : Seq Ref) × Stands (Ordered tree.now) p.now rs }
-    ensures { (rs : Seq Ref) → Stands (Ordered tree.now) p.now rs → result ≡ length rs }
+    requires { (rs : Seq Ref) × Stands (Sorted tree.now) p.now rs }
+    ensures { (rs : Seq Ref) → Stands (Sorted tree.now) p.now rs → result ≡ length rs }
 {
     tree.len(p)
 }

@@ -2,15 +2,15 @@
 use Rattle.std.proofs.Common.{sym, subst, ap, ◌∙◌}
 use Rattle.mi_order.specs.Orders.{place_in}
 use Rattle.mi_index.specs.Standing.{Stands}
-use Rattle.mi_index.specs.declared.structure.Structure.TheVariants.{Ordered}
+use Rattle.mi_index.specs.declared.structure.Structure.TheVariants.{Sorted}
 use Rattle.mi_tree.specs.Probed.{first_where, is_node_at}
 use Rattle.mi_index.proofs.look.find_in_tree.Goals as goal
 
 pub find-requires : goal.find-requires
-find-requires c = let t = c.args.tree.now in let q = c.requires in (q.0, subst (λ z. Stands (Ordered t) z q.0) (sym c.new.ensures.pool) q.1)
+find-requires c = let t = c.args.tree.now in let q = c.requires in (q.0, subst (λ z. Stands (Sorted t) z q.0) (sym c.new.ensures.pool) q.1)
 
 pub returns : goal.returns
 returns c rs h =
     let t = c.args.tree.now in
-    c.find.ensures.node rs (subst (λ z. Stands (Ordered t) z rs) (sym c.new.ensures.pool) h)
+    c.find.ensures.node rs (subst (λ z. Stands (Sorted t) z rs) (sym c.new.ensures.pool) h)
     ∙ ap (λ z. first_where (is_node_at (λ v. place_in t.order.parts v c.args.probe) z) rs) c.new.ensures.pool

@@ -2,7 +2,7 @@
 use Rattle.std.proofs.Common.{◌≡◌, ◌-◌, suc, length, sym, subst, ◌∙◌, arith}
 use Rattle.mi_order.specs.Orders.{stored_order, stored_tag}
 use Rattle.mi_index.specs.Standing.{Stands}
-use Rattle.mi_index.specs.declared.structure.Structure.TheVariants.{Ordered}
+use Rattle.mi_index.specs.declared.structure.Structure.TheVariants.{Sorted}
 use Rattle.mi_tree.proofs.BinaryTreeLemmas.{last-none}
 use Rattle.mi_index.proofs.LookUpLemmas.{last_nth}
 use Rattle.mi_index.proofs.look.last_in_tree.Goals as goal
@@ -19,5 +19,5 @@ returns c rs h =
     let some = c.if-len-eq0.false in
     let e : length rs ≡ suc (c.len-len.result - 1) = omega (arith, long, some) in
     c.nth.ensures.node (stored_order t.order.parts) (stored_tag t.order.types t.order.parts) rs
-    (subst (λ z. Stands (Ordered t) z rs) (sym c.new.ensures.pool) h)
+    (subst (λ z. Stands (Sorted t) z rs) (sym c.new.ensures.pool) h)
     ∙ last_nth rs (c.len-len.result - 1) e

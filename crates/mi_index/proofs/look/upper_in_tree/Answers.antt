@@ -2,21 +2,21 @@
 use Rattle.std.proofs.Common.{true, sym, subst, ap, ◌∙◌}
 use Rattle.mi_order.specs.Orders.{stored_order, stored_tag, place_in}
 use Rattle.mi_index.specs.Standing.{Stands}
-use Rattle.mi_index.specs.declared.structure.Structure.TheVariants.{Ordered}
+use Rattle.mi_index.specs.declared.structure.Structure.TheVariants.{Sorted}
 use Rattle.mi_tree.specs.Probed.{first_where, is_past_node}
 use Rattle.mi_index.proofs.look.upper_in_tree.Goals as goal
 
 pub upper-requires : goal.upper-requires
-upper-requires c = let t = c.args.tree.now in let q = c.requires in (q.0, subst (λ z. Stands (Ordered t) z q.0) (sym c.new.ensures.pool) q.1)
+upper-requires c = let t = c.args.tree.now in let q = c.requires in (q.0, subst (λ z. Stands (Sorted t) z q.0) (sym c.new.ensures.pool) q.1)
 
 pub returns-clause-node : goal.returns-clause-node
 returns-clause-node c rs h =
     let t = c.args.tree.now in
-    c.upper.ensures.node rs (subst (λ z. Stands (Ordered t) z rs) (sym c.new.ensures.pool) h)
+    c.upper.ensures.node rs (subst (λ z. Stands (Sorted t) z rs) (sym c.new.ensures.pool) h)
     ∙ ap (λ z. first_where (is_past_node true (λ v. place_in t.order.parts v c.args.probe) z) rs) c.new.ensures.pool
 
 pub returns-clause-steps : goal.returns-clause-steps
 returns-clause-steps c rs h b l =
     let t = c.args.tree.now in
     c.upper.ensures.steps (stored_order t.order.parts) (stored_tag t.order.types t.order.parts)
-    rs (subst (λ z. Stands (Ordered t) z rs) (sym c.new.ensures.pool) h) b l
+    rs (subst (λ z. Stands (Sorted t) z rs) (sym c.new.ensures.pool) h) b l

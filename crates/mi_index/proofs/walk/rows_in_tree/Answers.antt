@@ -7,7 +7,7 @@ use Rattle.mi_tree.specs.Walking.{IsWalk, beyond}
 use Rattle.mi_order.specs.Orders.{stored_order, stored_tag}
 use Rattle.mi_index.specs.Walks.{shown_row}
 use Rattle.mi_order.specs.declared.stored.Stored.{Stored}
-use Rattle.mi_index.specs.declared.structure.Structure.TheVariants.{Ordered}
+use Rattle.mi_index.specs.declared.structure.Structure.TheVariants.{Sorted}
 use Rattle.mi_index.proofs.OtherNodeLemmas.{nodes_held}
 use Rattle.mi_index.proofs.WalkLemmas.{held_beyond}
 use Rattle.mi_index.proofs.walk.rows_in_tree.Goals as goal
@@ -23,7 +23,7 @@ rows_ahead-requires c =
       us,
       subst (λ (z : Pooled Stored). IsWalk c.walk_from-walk.result z w.0 us) same w.1,
       subst (λ (z : Pooled Stored). AreHeld z us) same
-          (held_beyond m c.args.direction q.0 c.args.node q.1 (nodes_held (Ordered c.args.tree.now) m (q.0 ++ c.args.node ∷ q.1) q.2)),
+          (held_beyond m c.args.direction q.0 c.args.node q.1 (nodes_held (Sorted c.args.tree.now) m (q.0 ++ c.args.node ∷ q.1) q.2)),
     )
 
 pub returns-clause-rows : goal.returns-clause-rows
