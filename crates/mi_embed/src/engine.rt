@@ -19,8 +19,9 @@ use std::marker::Model;
 /// A database and the reply to the last line.
 #[derive(Drop)]
 pub struct Engine {
-    executor: Executor<Linked<MultiIndex>>,
+    pub(crate) executor: Executor<Linked<MultiIndex>>,
     reply: ReplyText,
+    pub(crate) alloc: Global,
 }
 
 impl Model for Engine {
@@ -59,6 +60,7 @@ impl Engine {
         Ok(Engine {
             executor: Executor::new(alloc, database),
             reply: ReplyText::Short(ArrayVec::new()),
+            alloc,
         })
     }
 

@@ -1,9 +1,17 @@
 //! A database in the process of its caller: opened from a schema's text, asked one whole line a call. The reply to the last
-//! line stays until the next. It reads and writes no stream, and knows nothing of C.
+//! line stays until the next. The same commands are calls too, with values in place of a line. It reads and writes no stream, and knows
+//! nothing of C.
 #![tactic(auto)]
 
+mod cell;
 mod engine;
 mod fault;
+mod put;
+mod rows;
+mod told;
+mod typed;
 
+pub use cell::Cell;
 pub use engine::Engine;
 pub use fault::OpenFault;
+pub use told::Told;

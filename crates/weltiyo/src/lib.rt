@@ -13,6 +13,7 @@ ghost use Rattle.weltiyo.specs.Handle.{engine_at, engine_where, TellsOpening};
 
 mod loose;
 mod opened;
+mod typed;
 
 use loose::Loose;
 use mi_embed::{Engine, OpenFault};

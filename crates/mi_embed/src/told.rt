@@ -1,0 +1,114 @@
+//! What a call with values tells, in numbers that C can take. Plain data.
+ghost use Rattle.std.specs.Prelude.{◌≡◌};
+ghost use Rattle.mi_embed.specs.Told as meaning;
+ghost use Rattle.mi_embed.specs.Told.{told_of};
+
+use mi_value::Refusal;
+
+/// Where there is no room for what is answered.
+const ROOM: u32 = 19;
+
+/// The answer of a call.
+#[repr(C)]
+#[derive(Clone, Copy, Debug, Drop)]
+pub struct Told {
+    /// 0 where the call was accepted, 1 to 18 why it was refused, in the order of `Refusal`, and 19 where there is no room for its answer.
+    pub status: u32,
+    /// Of a conflict the number of the index; of an answer without room the cells that it wants.
+    pub index: u32,
+    /// Of an accepted call an id, a count or a revision; of a conflict the id of the other record; of an answer without room the bytes that
+    /// its texts want.
+    pub number: u64,
+}
+
+/// A number in 32 bits, or the greatest one where it is greater.
+fn in_32(n: usize) -> u32
+    ensures { result ≡ meaning.in_32 n }
+{
+    u32::try_from(n).unwrap_or(u32::MAX)
+}
+
+/// The number of a refusal.
+fn refusal_number(refusal: Refusal) -> u32
+    ensures { result ≡ meaning.refusal_number refusal }
+{
+    match refusal {
+        Refusal::Line => 1,
+        Refusal::Json => 2,
+        Refusal::Form => 3,
+        Refusal::Busy => 4,
+        Refusal::NoTable => 5,
+        Refusal::Index => 6,
+        Refusal::Kind => 7,
+        Refusal::Row => 8,
+        Refusal::Key => 9,
+        Refusal::NoId => 10,
+        Refusal::Range => 11,
+        Refusal::Full => 12,
+        Refusal::Spent => 13,
+        Refusal::Unique { .. } => 14,
+        Refusal::Lost { .. } => 15,
+        Refusal::Depth => 16,
+        Refusal::Session => 17,
+        Refusal::Memory => 18,
+    }
+}
+
+impl Told {
+    /// What is accepted, with a number.
+    pub fn accepted(number: u64) -> Told
+        ensures { result ≡ meaning.accepted number }
+    {
+        Told {
+            status: 0,
+            index: 0,
+            number,
+        }
+    }
+
+    /// What is refused.
+    pub fn refused(refusal: Refusal) -> Told
+        ensures { result ≡ meaning.refused refusal }
+    {
+        let (index, number) = match refusal {
+            Refusal::Unique { index, id } | Refusal::Lost { index, id } => (in_32(index), id),
+            _ => (0, 0),
+        };
+        Told {
+            status: refusal_number(refusal),
+            index,
+            number,
+        }
+    }
+
+    /// What wants room for so many cells and so many bytes.
+    pub(crate) fn wanting(count: usize, bytes: u64) -> Told
+        ensures { result ≡ meaning.wanting count bytes }
+    {
+        Told {
+            status: ROOM,
+            index: in_32(count),
+            number: bytes,
+        }
+    }
+
+    /// An answer with a number.
+    pub fn of(answer: Result<u64, Refusal>) -> Told
+        ensures { result ≡ told_of (λ n. n) answer }
+    {
+        match answer {
+            Ok(number) => Told::accepted(number),
+            Err(refusal) => Told::refused(refusal),
+        }
+    }
+
+    /// An answer without one, which is told as 0.
+    pub fn done(answer: Result<(), Refusal>) -> Told
+        ensures { result ≡ told_of (λ _. 0) answer }
+    {
+        match answer {
+            Ok(()) => Told::accepted(0),
+            Err(refusal) => Told::refused(refusal),
+        }
+    }
+}

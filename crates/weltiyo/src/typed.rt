@@ -1,0 +1,209 @@
+//! The changes, the session steps and the look-ups with values in place of a line. What is told of each is `mi_embed`'s.
+ghost use Rattle.std.specs.Prelude.{◌≡◌, ℕ, ◌==◌, not};
+ghost use types.Logic.{sem};
+ghost use base.Fml.{fex};
+ghost use Rattle.mi_commands.specs.Calls.{start_call, undo_call, squash_call, commit_call};
+ghost use Rattle.mi_value.specs.declared.edit.Edit.TheVariants as edit;
+ghost use Rattle.mi_embed.specs.State.{EngineState};
+ghost use Rattle.mi_embed.specs.Typed as typed;
+ghost use Rattle.mi_embed.specs.Typed.{Tells, TellsJust};
+ghost use Rattle.mi_embed.specs.Shown.{got, TellsRow};
+ghost use Rattle.weltiyo.specs.Handle.{engine_at};
+
+use mi_embed::{Cell, Engine, Told};
+
+/// Adds a record, and tells its id.
+fn inserted(engine: &mut Engine, conn: u64, table: usize, cells: &[Cell], texts: &[u8]) -> Told
+    ensures { Tells (λ n. n) (typed.insert_by engine.old.held conn table cells.now texts.now) result engine.old engine.new }
+{
+    Told::of(engine.insert(conn, table, cells, texts))
+}
+
+/// Adds the record that cells are to a table, and tells its id.
+#[unsafe(no_mangle)]
+pub unsafe extern "C" fn weltiyo_insert(
+    at: *mut u8,
+    conn: u64,
+    table: usize,
+    cells: &[Cell],
+    texts: &[u8],
+) -> Told
+    ghost engine: { EngineState }
+    requires* { sem 𝓛 (engine_at at engine) }
+    ensures* { sem 𝓛 (fex EngineState (λ new. fex (Tells (λ n. n) (typed.insert_by engine.held conn table cells.now texts.now) result engine new) (λ _. engine_at at new))) }
+{
+    inserted(&mut *(at as *mut Engine), conn, table, cells, texts)
+}
+
+/// Puts a record into cells and bytes, and tells its id.
+fn shown(engine: &mut Engine, table: usize, id: u64, cells: &mut [Cell], texts: &mut [u8]) -> Told
+    ensures same { engine.new ≡ engine.old }
+    ensures row { TellsRow id (got engine.old.held table id) result cells.old cells.new texts.old texts.new }
+{
+    engine.get(table, id, cells, texts)
+}
+
+/// Puts the record of an id into cells, and its texts into bytes, and tells the id.
+#[unsafe(no_mangle)]
+pub unsafe extern "C" fn weltiyo_get(
+    at: *mut u8,
+    table: usize,
+    id: u64,
+    cells: &mut [Cell],
+    texts: &mut [u8],
+) -> Told
+    ghost engine: { EngineState }
+    requires* { sem 𝓛 (engine_at at engine) }
+    ensures* { sem 𝓛 (engine_at at engine) ∗ ⌜ TellsRow id (got engine.held table id) result cells.old cells.new texts.old texts.new ⌝ }
+{
+    shown(&mut *(at as *mut Engine), table, id, cells, texts)
+}
+
+/// Opens a session, and tells the new revision.
+fn started(engine: &mut Engine, conn: u64) -> Told
+    ensures { Tells (λ n. n) (start_call engine.old.held conn) result engine.old engine.new }
+{
+    Told::of(engine.start(conn))
+}
+
+/// Opens a session, which the connection then holds, and tells the new revision.
+#[unsafe(no_mangle)]
+pub unsafe extern "C" fn weltiyo_start(at: *mut u8, conn: u64) -> Told
+    ghost engine: { EngineState }
+    requires* { sem 𝓛 (engine_at at engine) }
+    ensures* { sem 𝓛 (fex EngineState (λ new. fex (Tells (λ n. n) (start_call engine.held conn) result engine new) (λ _. engine_at at new))) }
+{
+    started(&mut *(at as *mut Engine), conn)
+}
+
+/// Undoes the newest session, and tells the new revision.
+fn undone(engine: &mut Engine, conn: u64) -> Told
+    ensures { TellsJust (undo_call engine.old.held conn) result engine.old engine.new }
+{
+    Told::of(engine.undo(conn))
+}
+
+/// Undoes the newest session, and tells the new revision. It takes no memory.
+#[unsafe(no_mangle)]
+pub unsafe extern "C" fn weltiyo_undo(at: *mut u8, conn: u64) -> Told
+    ghost engine: { EngineState }
+    requires* { sem 𝓛 (engine_at at engine) }
+    ensures* { sem 𝓛 (fex EngineState (λ new. fex (TellsJust (undo_call engine.held conn) result engine new) (λ _. engine_at at new))) }
+{
+    undone(&mut *(at as *mut Engine), conn)
+}
+
+/// Sets another record for an id.
+fn replaced(
+    engine: &mut Engine,
+    conn: u64,
+    table: usize,
+    id: u64,
+    cells: &[Cell],
+    texts: &[u8],
+) -> Told
+    ensures { Tells (λ _. 0) (typed.replace_by engine.old.held conn table id cells.now texts.now) result engine.old engine.new }
+{
+    Told::done(engine.replace(conn, table, id, cells, texts))
+}
+
+/// Sets the record that cells are for an id.
+#[unsafe(no_mangle)]
+pub unsafe extern "C" fn weltiyo_replace(
+    at: *mut u8,
+    conn: u64,
+    table: usize,
+    id: u64,
+    cells: &[Cell],
+    texts: &[u8],
+) -> Told
+    ghost engine: { EngineState }
+    requires* { sem 𝓛 (engine_at at engine) }
+    ensures* { sem 𝓛 (fex EngineState (λ new. fex (Tells (λ _. 0) (typed.replace_by engine.held conn table id cells.now texts.now) result engine new) (λ _. engine_at at new))) }
+{
+    replaced(&mut *(at as *mut Engine), conn, table, id, cells, texts)
+}
+
+/// Adds a number to a column of a record.
+fn added(
+    engine: &mut Engine,
+    conn: u64,
+    table: usize,
+    id: u64,
+    column: usize,
+    n: i64,
+    rollback: u32,
+) -> Told
+    ensures { Tells (λ _. 0) (typed.modify_by engine.old.held conn table id (edit.Add column n) (not (rollback == 0))) result engine.old engine.new }
+{
+    Told::done(engine.modify_add(conn, table, id, column, n, rollback != 0))
+}
+
+/// Adds a number to a column of a record; `rollback` is 0 where a conflict erases the record, and any other number where it changes nothing.
+#[unsafe(no_mangle)]
+pub unsafe extern "C" fn weltiyo_modify_add(
+    at: *mut u8,
+    conn: u64,
+    table: usize,
+    id: u64,
+    column: usize,
+    n: i64,
+    rollback: u32,
+) -> Told
+    ghost engine: { EngineState }
+    requires* { sem 𝓛 (engine_at at engine) }
+    ensures* { sem 𝓛 (fex EngineState (λ new. fex (Tells (λ _. 0) (typed.modify_by engine.held conn table id (edit.Add column n) (not (rollback == 0))) result engine new) (λ _. engine_at at new))) }
+{
+    added(&mut *(at as *mut Engine), conn, table, id, column, n, rollback)
+}
+
+/// Erases a record.
+fn erased(engine: &mut Engine, conn: u64, table: usize, id: u64) -> Told
+    ensures { Tells (λ _. 0) (typed.erase_by engine.old.held conn table id) result engine.old engine.new }
+{
+    Told::done(engine.erase(conn, table, id))
+}
+
+/// Erases a record.
+#[unsafe(no_mangle)]
+pub unsafe extern "C" fn weltiyo_erase(at: *mut u8, conn: u64, table: usize, id: u64) -> Told
+    ghost engine: { EngineState }
+    requires* { sem 𝓛 (engine_at at engine) }
+    ensures* { sem 𝓛 (fex EngineState (λ new. fex (Tells (λ _. 0) (typed.erase_by engine.held conn table id) result engine new) (λ _. engine_at at new))) }
+{
+    erased(&mut *(at as *mut Engine), conn, table, id)
+}
+
+/// Joins the newest session into the one below, and tells the new revision.
+fn squashed(engine: &mut Engine, conn: u64) -> Told
+    ensures { TellsJust (squash_call engine.old.held conn) result engine.old engine.new }
+{
+    Told::of(engine.squash(conn))
+}
+
+/// Joins the newest session into the one below, and tells the new revision. It takes no memory.
+#[unsafe(no_mangle)]
+pub unsafe extern "C" fn weltiyo_squash(at: *mut u8, conn: u64) -> Told
+    ghost engine: { EngineState }
+    requires* { sem 𝓛 (engine_at at engine) }
+    ensures* { sem 𝓛 (fex EngineState (λ new. fex (TellsJust (squash_call engine.held conn) result engine new) (λ _. engine_at at new))) }
+{
+    squashed(&mut *(at as *mut Engine), conn)
+}
+
+/// Ends the sessions up to a number, and tells how many.
+fn committed(engine: &mut Engine, conn: u64, number: u64) -> Told
+    ensures { TellsJust (commit_call engine.old.held conn number) result engine.old engine.new }
+{
+    Told::of(engine.commit(conn, number))
+}
+
+/// Ends the sessions up to a number, keeps their changes, and tells how many. It takes no memory.
+#[unsafe(no_mangle)]
+pub unsafe extern "C" fn weltiyo_commit(at: *mut u8, conn: u64, number: u64) -> Told
+    ghost engine: { EngineState }
+    requires* { sem 𝓛 (engine_at at engine) }
+    ensures* { sem 𝓛 (fex EngineState (λ new. fex (TellsJust (commit_call engine.held conn number) result engine new) (λ _. engine_at at new))) }
+{
+    committed(&mut *(at as *mut Engine), conn, number)
+}
