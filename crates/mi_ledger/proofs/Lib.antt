@@ -1,3 +1,3 @@
 mod BelongsLemmas
-mod JournalLemmas
+pub mod JournalLemmas
 mod ReplayLemmas

@@ -1,0 +1,4 @@
+mod StepLemmas
+mod RowLemmas
+mod InputLemmas
+mod OpeningLemmas

@@ -1,0 +1,8 @@
+-- Where more may come nothing is undone.
+use Rattle.std.proofs.Common.{[]}
+use Rattle.std.proofs.KnownBytes.{Keeps-refl}
+use Rattle.mi_serving.proofs.StepLemmas.{makes_none}
+use Rattle.mi_serving.proofs.asking.settle.Goals as goal
+
+pub returns-else-eq-clause-undoes : goal.returns-else-eq-clause-undoes
+returns-else-eq-clause-undoes g c = ([], tt, makes_none _ _ _ (Keeps-refl _))

@@ -1,0 +1,16 @@
+use Rattle.std.proofs.Common.{◌-◌, length}
+use Rattle.mi_ledger.specs.Ledger.{hub_of, log_of, IsSettled}
+use Rattle.mi_serving.specs.Steps.{Goes}
+use Rattle.mi_serving.specs.Row.{ids, Attends}
+use Rattle.mi_serving.proofs.row.let_go.Given as goal
+
+-- the row stays what the hub has attached
+abbrev pub invariant-row : goal.invariant-row
+invariant-row g l = record {
+  attends : Attends (ids l.row.items) (hub_of l.ledger).attached;
+  settled : IsSettled g.L.Log.appended g.L.Log.synced l.ledger;
+  goes : Goes (hub_of l.fn.ledger) (hub_of l.ledger) (g.L.Log.appended (log_of l.fn.ledger)) (g.L.Log.appended (log_of l.ledger));
+}
+
+abbrev pub decreases-row : goal.decreases-row
+decreases-row g l = length l.row.items - l.at

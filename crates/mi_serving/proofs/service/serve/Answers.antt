@@ -1,0 +1,22 @@
+-- A turn more.
+use Rattle.std.proofs.Common.{sym, subst}
+use Rattle.std.proofs.KnownBytes.{Keeps-refl}
+use Rattle.mi_ledger.specs.Ledger.{hub_of}
+use Rattle.mi_serving.specs.Row.{ids, Attends}
+use Rattle.mi_serving.proofs.StepLemmas.{goes_none, goes_then}
+use Rattle.mi_serving.proofs.service.serve.Goals as goal
+
+pub turns-init : goal.turns-init
+turns-init g c = record {
+  attends = subst (λ items. Attends (ids items) (hub_of c.args.ledger.now).attached) (sym c.in-Ok.ensures.items)
+      (record { there = c.requires.none; differ = tt });
+  settled = c.requires.settled;
+  goes = goes_none _ _ _ (Keeps-refl _);
+}
+
+pub turns-preserved : goal.turns-preserved
+turns-preserved g c = record {
+  attends = c.in_default-take_turn.ensures.attends;
+  settled = c.in_default-take_turn.ensures.settled;
+  goes = goes_then _ (hub_of c.turns.ledger) _ _ _ _ c.turns.invariant.goes c.in_default-take_turn.ensures.goes;
+}

@@ -1,0 +1,12 @@
+use Rattle.mi_ledger.specs.Ledger.{hub_of, log_of, IsSettled}
+use Rattle.mi_serving.specs.Steps.{Goes}
+use Rattle.mi_serving.specs.Row.{ids, Attends}
+use Rattle.mi_serving.proofs.service.serve.Given as goal
+
+-- the row stays what the hub has attached, and all that was done are steps
+abbrev pub invariant-turns : goal.invariant-turns
+invariant-turns g l = record {
+  attends : Attends (ids l.row.items) (hub_of l.ledger).attached;
+  settled : IsSettled g.L.Log.appended g.L.Log.synced l.ledger;
+  goes : Goes (hub_of l.fn.ledger) (hub_of l.ledger) (g.L.Log.appended (log_of l.fn.ledger)) (g.L.Log.appended (log_of l.ledger));
+}

@@ -1,0 +1,36 @@
+-- What a journal's bytes leave when they are asked again: of "{\"journal\":1, ..}⏎start⏎st" the line "start" is replayed, and "st" is torn.
+use Rattle.std.specs.Prelude.{◌≡◌, ⊤, ℕ, List, [], ◌∷◌, ◌++◌, length, Option, Some, None}
+use Rattle.mi_commands.specs.Holder.{HeldDatabase}
+use Rattle.mi_hub.specs.Ended.{after_newlines}
+use Rattle.mi_hub.specs.Lines.{lines_of}
+use Rattle.mi_hub.specs.declared.connection.Connection.{Connection}
+use Rattle.mi_replay.specs.Replayed.{replayer, replayed}
+use Rattle.mi_serving.specs.Row.{fresh}
+use Rattle.mi_serving.specs.declared.opening.Journaled.{Journaled}
+use Rattle.mi_serving.specs.declared.opening.Journaled.TheVariants.{Nothing, Journal}
+
+-- these bytes are a beginning of the header, or nothing
+abbrev pub IsBeginning : List ℕ → List ℕ → Type 0
+IsBeginning header bytes = (more : List ℕ) × (header ≡ bytes ++ more)
+
+-- the header stood in front of what was left to read, where a reader tells that
+abbrev pub HasHeader : List ℕ → Option (List ℕ) → Option (List ℕ) → Type 0
+HasHeader header None later = ⊤
+HasHeader header (Some bytes) None = ⊥
+HasHeader header (Some bytes) (Some rest) = (newline : ℕ) × (bytes ≡ header ++ newline ∷ rest)
+
+-- From old all whole lines of these bytes are replayed, and new is left; so many bytes behind the last newline aren't.
+abbrev pub IsReplayed : List ℕ → ℕ → HeldDatabase → HeldDatabase → Type 0
+IsReplayed bytes torn old new = (new ≡ replayed (lines_of bytes) old) × (torn ≡ length (after_newlines bytes))
+
+-- From old these bytes are recovered, and new is left. They are no journal yet; or the wanted header stands in front, and what is behind it
+-- is replayed.
+abbrev pub IsRecovered : List ℕ → List ℕ → Journaled → HeldDatabase → HeldDatabase → Type 0
+IsRecovered header bytes Nothing old new = IsBeginning header bytes × (new ≡ old)
+IsRecovered header bytes (Journal torn) old new =
+    (newline : ℕ) × (rest : List ℕ) × (bytes ≡ header ++ newline ∷ rest) × IsReplayed rest torn old new
+
+-- the connection that replays is attached where there is a journal, and no other is
+abbrev pub IsWith : Journaled → List Connection → Type 0
+IsWith Nothing attached = attached ≡ []
+IsWith (Journal torn) attached = attached ≡ fresh replayer ∷ []

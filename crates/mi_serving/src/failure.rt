@@ -1,0 +1,103 @@
+//! Why the service ends: the line on standard error and the exit status.
+ghost use Rattle.std.specs.Prelude.{◌≡◌, ◌⊎◌};
+
+use mi_ledger::{LedgerFault, ReplayFault};
+use mi_schema::SchemaFault;
+use std::fmt;
+
+/// Why the service ends. The text is its line on standard error.
+#[derive(Clone, Copy, Drop)]
+pub enum Failure {
+    /// The schema's file can't be read, or has more than 65,536 bytes.
+    SchemaFile,
+    /// The schema is refused, or was refused memory.
+    Schema(SchemaFault),
+    /// The journal's file can't be opened, made or read.
+    JournalFile,
+    /// The journal is one of another schema or format.
+    JournalSchema,
+    /// This line of the journal isn't one of a journal.
+    JournalLine(u64),
+    /// Another process has the journal.
+    JournalLocked,
+    /// The journal can't be appended to, or can't be made to stay.
+    Journal,
+    /// Standard output can't be written to.
+    Output,
+    /// The port can't be listened on.
+    Listen,
+    /// The system doesn't tell which connections are ready.
+    Poll,
+    /// Memory was refused.
+    Memory,
+    /// The most turns, 2^62, were made.
+    Turns,
+}
+
+impl Failure {
+    /// What a fault of the ledger is.
+    pub fn of_ledger(fault: LedgerFault) -> Failure
+        ensures { (result ≡ Failure.Memory) ⊎ (result ≡ Failure.Journal) }
+    {
+        match fault {
+            LedgerFault::Memory => Failure::Memory,
+            LedgerFault::Journal => Failure::Journal,
+        }
+    }
+
+    /// What a fault of the replay is.
+    pub fn of_replay(fault: ReplayFault) -> Failure {
+        match fault {
+            ReplayFault::Read => Failure::JournalFile,
+            ReplayFault::Damaged(line) => Failure::JournalLine(line),
+            ReplayFault::Memory => Failure::Memory,
+            ReplayFault::Turns => Failure::Turns,
+        }
+    }
+
+    /// The exit status: 3 where the schema or the journal is at fault, else 4.
+    pub fn status(&self) -> u8 {
+        match self {
+            Failure::SchemaFile
+            | Failure::Schema(_)
+            | Failure::JournalFile
+            | Failure::JournalSchema
+            | Failure::JournalLine(_)
+            | Failure::JournalLocked => 3,
+            Failure::Journal
+            | Failure::Output
+            | Failure::Listen
+            | Failure::Poll
+            | Failure::Memory
+            | Failure::Turns => 4,
+        }
+    }
+}
+
+impl fmt::Display for Failure {
+    fn fmt<W: fmt::Write>(&self, f: &mut fmt::Formatter<W>) -> fmt::Result {
+        match self {
+            Failure::SchemaFile => f.write_str("schema: file"),
+            Failure::Schema(fault) => {
+                f.write_str("schema: ")?;
+                f.write_str(fault.word())
+            }
+            Failure::JournalFile => f.write_str("journal: file"),
+            Failure::JournalSchema => f.write_str("journal: schema"),
+            Failure::JournalLine(line) => write!(f, "journal: line {line}"),
+            Failure::JournalLocked => f.write_str("journal: locked"),
+            Failure::Journal => f.write_str("fault: journal"),
+            Failure::Output => f.write_str("fault: write"),
+            Failure::Listen => f.write_str("fault: listen"),
+            Failure::Poll => f.write_str("fault: poll"),
+            Failure::Memory => f.write_str("fault: memory"),
+            Failure::Turns => f.write_str("fault: turns"),
+        }
+    }
+}
+
+impl From<LedgerFault> for Failure {
+    fn from(fault: LedgerFault) -> Failure {
+        Failure::of_ledger(fault)
+    }
+}

@@ -1,0 +1,231 @@
+//! The journal at the start: what it has is asked again, a torn end of it is cut off, and it is opened to go on with.
+ghost use Rattle.std.specs.Prelude.{◌≡◌, ◌++◌, ◌∷◌, [], ℕ, true, false, Ok, OnOk, IfOk, IfSome};
+ghost use Rattle.mi_log.specs.LineReader.{reader_of};
+ghost use Rattle.mi_replay.specs.Replayed.{replayer};
+ghost use Rattle.mi_ledger.specs.Ledger.{hub_of};
+ghost use Rattle.mi_serving.specs.Row.{fresh};
+ghost use Rattle.mi_serving.specs.Recovery.{HasHeader, IsBeginning, IsReplayed, IsRecovered, IsWith};
+
+use crate::asking::part;
+use crate::device::{JournalDevice, Keeping};
+use crate::failure::Failure;
+use mi_hub::Hub;
+use mi_ledger::{HeldReplies, Ledger, REPLAYER, replay};
+use mi_log::{DeviceLog, Heading, LineReader, Log, judge_heading};
+use mi_sessions::Sessions;
+use std::alloc::Global;
+use std::fs;
+use std::fs::{File, OpenOptions};
+use std::io::{BufRead, BufReader, ErrorKind};
+use std::rt::Files;
+
+/// A ledger over a journal in a file, or over none.
+pub type FileLedger<D> = Ledger<D, DeviceLog<JournalDevice<File>>>;
+
+/// What a journal's file has.
+#[derive(Clone, Copy, Drop)]
+pub enum Journaled {
+    /// No journal yet, or the beginning of its header.
+    Nothing,
+    /// A journal, whose lines are asked, and then so many bytes of a torn line.
+    Journal(u64),
+}
+
+/// Whether a first line, with its newline, is the header, which it is to be.
+fn check_heading(line: &[u8], header: &[u8]) -> Result<(), Failure>
+    ensures { OnOk result ((newline : ℕ) × (line.now ≡ header.now ++ newline ∷ [])) }
+{
+    let Some((_newline, text)) = line.split_last() else {
+        return Err(Failure::JournalLine(1));
+    };
+    match judge_heading(text, header) {
+        Heading::Wanted => Ok(()),
+        Heading::Another => Err(Failure::JournalSchema),
+        Heading::Missing => Err(Failure::JournalLine(1)),
+    }
+}
+
+/// Whether bytes are a beginning of the header, or nothing.
+fn is_beginning(header: &[u8], bytes: &[u8]) -> bool
+    ensures { result ≡ true → IsBeginning header.now bytes.now }
+{
+    if bytes.len() > header.len() {
+        return false;
+    }
+    let (front, _) = header.split_at(bytes.len());
+    front == bytes
+}
+
+/// Reads the first line, which is to be the header, and answers whether there is one: else there is no more than a beginning of it.
+fn read_heading<R: BufRead>(lines: &mut LineReader<R>, header: &[u8]) -> Result<bool, Failure>
+    ensures found { result ≡ Ok true → HasHeader header.now (R.remaining (reader_of lines.old)) (R.remaining (reader_of lines.new)) }
+    ensures none { result ≡ Ok false → IfSome (R.remaining (reader_of lines.old)) (IsBeginning header.now) }
+{
+    match lines.advance() {
+        Ok(true) => match check_heading(lines.line(), header) {
+            Ok(()) => Ok(true),
+            Err(failure) => Err(failure),
+        },
+        Ok(false) => {
+            if is_beginning(header, lines.line()) {
+                Ok(false)
+            } else {
+                Err(Failure::JournalLine(1))
+            }
+        }
+        Err(_error) => Err(Failure::JournalFile),
+    }
+}
+
+/// Asks a hub the lines of a journal behind its header again, as connection 1, and answers how many bytes of a torn line follow.
+fn replay_all<D: Sessions + Drop, R: BufRead>(
+    alloc: Global,
+    hub: &mut Hub<D>,
+    lines: &mut LineReader<R>,
+) -> Result<usize, Failure>
+    requires { hub.old.attached ≡ [] }
+    ensures held { IfOk result (λ torn. IfSome (R.remaining (reader_of lines.old)) (λ bytes. IsReplayed bytes torn hub.old.held hub.new.held)) }
+    ensures attached { OnOk result (hub.new.attached ≡ fresh replayer ∷ []) }
+{
+    if hub.attach(REPLAYER).is_err() {
+        return Err(Failure::Memory);
+    }
+    match replay(alloc, hub, lines) {
+        Ok(()) => Ok(lines.line().len()),
+        Err(fault) => Err(Failure::of_replay(fault)),
+    }
+}
+
+/// Asks a hub the lines of a journal with this header again, as connection 1, which is attached where there is a journal.
+pub fn recovered<D: Sessions + Drop, R: BufRead + Drop>(
+    alloc: Global,
+    hub: &mut Hub<D>,
+    reader: R,
+    header: &[u8],
+) -> Result<Journaled, Failure>
+    requires { hub.old.attached ≡ [] }
+    ensures journal { IfOk result (λ found. IfSome (R.remaining reader) (λ bytes. IsRecovered header.now bytes found hub.old.held hub.new.held)) }
+    ensures attached { IfOk result (λ found. IsWith found hub.new.attached) }
+{
+    let mut lines = LineReader::new(alloc, reader);
+    if !read_heading(&mut lines, header)? {
+        return Ok(Journaled::Nothing);
+    }
+    let torn = replay_all(alloc, hub, &mut lines)?;
+    Ok(Journaled::Journal(torn as u64))
+}
+
+/// What a file that may not be there has.
+fn found<R: Files<File = File> + AllocGlobal, D: Sessions + Drop>(
+    rt: &R,
+    hub: &mut Hub<D>,
+    path: &str,
+    header: &[u8],
+) -> Result<Journaled, Failure>
+    requires { hub.old.attached ≡ [] }
+    ensures { IfOk result (λ found. IsWith found hub.new.attached) }
+{
+    match fs::open(rt, path) {
+        Ok(file) => match BufReader::with_capacity(rt.alloc(), 65_536, file) {
+            Ok(reader) => recovered(rt.alloc(), hub, reader, header),
+            Err(_error) => Err(Failure::Memory),
+        },
+        Err(error) => match error.kind() {
+            ErrorKind::NotFound => Ok(Journaled::Nothing),
+            _ => Err(Failure::JournalFile),
+        },
+    }
+}
+
+/// The file of a journal, to be appended to by this process alone.
+fn appended<R: Files<File = File>>(rt: &R, path: &str) -> Result<File, Failure> {
+    let Ok(file) = OpenOptions::new().append(true).create(true).open(rt, path) else {
+        return Err(Failure::JournalFile);
+    };
+    match file.try_lock() {
+        Ok(()) => Ok(file),
+        Err(_error) => Err(Failure::JournalLocked),
+    }
+}
+
+/// Cuts so many bytes off the end of a file.
+fn cut_off(file: &File, torn: u64) -> Result<(), Failure> {
+    if torn == 0 {
+        return Ok(());
+    }
+    let Ok(metadata) = file.metadata() else {
+        return Err(Failure::JournalFile);
+    };
+    match file.set_len(metadata.len().saturating_sub(torn)) {
+        Ok(()) => Ok(()),
+        Err(_error) => Err(Failure::JournalFile),
+    }
+}
+
+/// The log of a journal that begins: its header is appended.
+fn begun(
+    file: File,
+    keeping: Keeping,
+    header: &str,
+) -> Result<DeviceLog<JournalDevice<File>>, Failure> {
+    if file.set_len(0).is_err() {
+        return Err(Failure::JournalFile);
+    }
+    let mut log = DeviceLog::new(JournalDevice::new(Some(file), keeping));
+    if !header.is_empty() && log.append(header.as_bytes()).is_err() || log.append(b"\n").is_err() {
+        return Err(Failure::Journal);
+    }
+    Ok(log)
+}
+
+/// The log of a journal that goes on behind what was found.
+fn continued(
+    file: File,
+    keeping: Keeping,
+    found: Journaled,
+    header: &str,
+) -> Result<DeviceLog<JournalDevice<File>>, Failure> {
+    match found {
+        Journaled::Nothing => begun(file, keeping, header),
+        Journaled::Journal(torn) => {
+            cut_off(&file, torn)?;
+            Ok(DeviceLog::new(JournalDevice::new(Some(file), keeping)))
+        }
+    }
+}
+
+/// A hub with no journal.
+pub fn without<D: Sessions + Drop>(alloc: Global, hub: Hub<D>) -> FileLedger<D>
+    ensures { hub_of result ≡ hub }
+{
+    Ledger::new(
+        alloc,
+        hub,
+        DeviceLog::new(JournalDevice::new(None, Keeping::Unsynced)),
+    )
+}
+
+/// A hub that a journal's lines were asked of again, and that goes on with it. The sessions that were held at its end are undone, and
+/// what it has stays.
+pub fn opened<R: Files<File = File> + AllocGlobal, D: Sessions + Drop>(
+    rt: &R,
+    hub: Hub<D>,
+    path: &str,
+    keeping: Keeping,
+    header: &str,
+) -> Result<FileLedger<D>, Failure>
+    requires { hub.attached ≡ [] }
+    ensures { IfOk result (λ ledger. (hub_of ledger).attached ≡ []) }
+{
+    let mut hub = hub;
+    let file = appended(rt, path)?;
+    let found = found(rt, &mut hub, path, header.as_bytes())?;
+    let log = continued(file, keeping, found, header)?;
+    let mut ledger = Ledger::new(rt.alloc(), hub, log);
+    match found {
+        Journaled::Nothing => {}
+        Journaled::Journal(_torn) => part(rt.alloc(), &mut ledger, REPLAYER)?,
+    }
+    ledger.release(HeldReplies::new(rt.alloc()))?;
+    Ok(ledger)
+}

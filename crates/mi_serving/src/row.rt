@@ -1,0 +1,130 @@
+//! The attached connections in a row, each step over all of them.
+ghost use Rattle.std.specs.Prelude.{◌≡◌, ◌++◌, ◌∷◌, [], Some, OnOk};
+ghost use Rattle.mi_ledger.specs.Ledger.{hub_of, log_of, IsSettled};
+ghost use Rattle.mi_serving.specs.Steps.{Goes};
+ghost use Rattle.mi_serving.specs.Row.{ids, Attends};
+ghost use Rattle.mi_hub.specs.Connections.{rest_at};
+
+use crate::asking::{ask_lines, part, release, settle};
+use crate::client::Client;
+use mi_ledger::{Ledger, LedgerFault};
+use mi_log::Log;
+use mi_sessions::Sessions;
+use std::alloc::Global;
+use std::io::{Read, Write};
+
+/// What is ready of a connection is read, and its lines are asked.
+fn serve<D: Sessions + Drop, L: Log + Drop, S: Read + Write>(
+    ledger: &mut Ledger<D, L>,
+    client: &mut Client<S>,
+    buffer: &mut [u8],
+    each: bool,
+) -> Result<(), LedgerFault>
+    requires here { rest_at client.old.conn (hub_of ledger.old).attached ≡ Some (Some []) }
+    requires settled { IsSettled L.appended L.synced ledger.old }
+    ensures goes { OnOk result (Goes (hub_of ledger.old) (hub_of ledger.new) (L.appended (log_of ledger.old)) (L.appended (log_of ledger.new))) }
+    ensures conn { OnOk result (client.new.conn ≡ client.old.conn) }
+    ensures attached { OnOk result ((hub_of ledger.new).attached ≡ (hub_of ledger.old).attached) }
+    ensures settled { OnOk result (IsSettled L.appended L.synced ledger.new) }
+{
+    client.read(buffer);
+    ask_lines(ledger, client, each)?;
+    settle(ledger, client)
+}
+
+/// What is ready of each connection is read, and its lines are asked.
+pub fn ask_all<D: Sessions + Drop, L: Log + Drop, S: Read + Write>(
+    ledger: &mut Ledger<D, L>,
+    row: &mut Vec<Client<S>>,
+    buffer: &mut [u8],
+    each: bool,
+) -> Result<(), LedgerFault>
+    requires attends { Attends (ids row.old.items) (hub_of ledger.old).attached }
+    requires settled { IsSettled L.appended L.synced ledger.old }
+    ensures goes { OnOk result (Goes (hub_of ledger.old) (hub_of ledger.new) (L.appended (log_of ledger.old)) (L.appended (log_of ledger.new))) }
+    ensures attends { OnOk result (Attends (ids row.new.items) (hub_of ledger.new).attached) }
+    ensures settled { OnOk result (IsSettled L.appended L.synced ledger.new) }
+{
+    for client in row.iter_mut() {
+        serve(ledger, client, buffer, each)?;
+    }
+    Ok(())
+}
+
+/// The replies of all connections are handed out, and each is sent what its stream takes.
+pub fn send_all<D: Sessions + Drop, L: Log + Drop, S: Read + Write>(
+    ledger: &mut Ledger<D, L>,
+    row: &mut Vec<Client<S>>,
+) -> Result<(), LedgerFault>
+    requires attends { Attends (ids row.old.items) (hub_of ledger.old).attached }
+    requires settled { IsSettled L.appended L.synced ledger.old }
+    ensures goes { OnOk result (Goes (hub_of ledger.old) (hub_of ledger.new) (L.appended (log_of ledger.old)) (L.appended (log_of ledger.new))) }
+    ensures attends { OnOk result (Attends (ids row.new.items) (hub_of ledger.new).attached) }
+    ensures settled { OnOk result (IsSettled L.appended L.synced ledger.new) }
+{
+    for client in row.iter_mut() {
+        release(ledger, client)?;
+        client.send();
+    }
+    Ok(())
+}
+
+/// The connections that are over are let go.
+pub fn let_go<D: Sessions + Drop, L: Log + Drop, S: Drop>(
+    alloc: Global,
+    ledger: &mut Ledger<D, L>,
+    row: &mut Vec<Client<S>>,
+) -> Result<(), LedgerFault>
+    requires attends { Attends (ids row.old.items) (hub_of ledger.old).attached }
+    requires settled { IsSettled L.appended L.synced ledger.old }
+    ensures goes { OnOk result (Goes (hub_of ledger.old) (hub_of ledger.new) (L.appended (log_of ledger.old)) (L.appended (log_of ledger.new))) }
+    ensures attends { OnOk result (Attends (ids row.new.items) (hub_of ledger.new).attached) }
+    ensures settled { OnOk result (IsSettled L.appended L.synced ledger.new) }
+{
+    let mut at = 0;
+    'row: while at < row.len() {
+        if row[at].is_over() {
+            part(alloc, ledger, row[at].conn)?;
+            row.remove(at);
+        } else {
+            at += 1;
+        }
+    }
+    Ok(())
+}
+
+/// A connection stands behind the others.
+fn seat<S: Drop>(row: &mut Vec<Client<S>>, client: Client<S>) -> Result<(), LedgerFault>
+    ensures { OnOk result (row.new.items ≡ row.old.items ++ client ∷ []) }
+{
+    match row.push(client) {
+        Ok(()) => Ok(()),
+        Err(_error) => Err(LedgerFault::Memory),
+    }
+}
+
+/// A connection comes: it is attached under this number, and stands behind the others. Where the hub refuses it, it is let go, and nothing
+/// has changed.
+pub fn admit<D: Sessions + Drop, L: Log + Drop, S: Drop>(
+    alloc: Global,
+    ledger: &mut Ledger<D, L>,
+    row: &mut Vec<Client<S>>,
+    conn: u64,
+    stream: S,
+) -> Result<(), LedgerFault>
+    requires attends { Attends (ids row.old.items) (hub_of ledger.old).attached }
+    requires settled { IsSettled L.appended L.synced ledger.old }
+    ensures goes { OnOk result (Goes (hub_of ledger.old) (hub_of ledger.new) (L.appended (log_of ledger.old)) (L.appended (log_of ledger.new))) }
+    ensures attends { OnOk result (Attends (ids row.new.items) (hub_of ledger.new).attached) }
+    ensures settled { OnOk result (IsSettled L.appended L.synced ledger.new) }
+{
+    match ledger.attach(conn) {
+        Ok(()) => seat(row, Client::new(alloc, conn, stream)),
+        Err(_fault) => Ok(()),
+    }
+}
+
+/// Whether something of some connection can be done at once.
+pub fn is_any_busy<S>(row: &[Client<S>]) -> bool {
+    row.iter().any(|client| client.is_busy())
+}

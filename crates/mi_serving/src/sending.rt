@@ -1,0 +1,37 @@
+//! What waits goes to a stream that doesn't block.
+ghost use Rattle.std.specs.Prelude.{◌≡◌};
+ghost use Rattle.std.specs.Io.KnownBytes.{Keeps};
+ghost use Rattle.mi_serving.specs.Output.{sent_and_unsent};
+
+use crate::output::Output;
+use std::io::{ErrorKind, Write};
+
+/// What came of sending.
+#[derive(Clone, Copy, Drop)]
+pub enum Sending {
+    /// All is sent.
+    All,
+    /// The stream takes no more now.
+    Blocked,
+    /// The stream has failed.
+    Failed,
+}
+
+/// Sends what waits, as much as the stream takes now. Each byte is sent or waits still.
+pub fn send_out<S: Write>(stream: &mut S, output: &mut Output) -> Sending
+    ensures { Keeps (sent_and_unsent S.contents stream.old output.old) (sent_and_unsent S.contents stream.new output.new) }
+{
+    'out: while !output.waiting().is_empty() {
+        match stream.write(output.waiting()) {
+            Ok(count) if count > 0 => output.pass(count),
+            Ok(_none) => return Sending::Failed,
+            Err(error) => {
+                return match error.kind() {
+                    ErrorKind::WouldBlock => Sending::Blocked,
+                    _ => Sending::Failed,
+                };
+            }
+        }
+    }
+    Sending::All
+}

@@ -1,0 +1,132 @@
+//! The loop of the service: it waits until something is ready, and takes a turn.
+ghost use Rattle.std.specs.Prelude.{◌≡◌, [], Err, OnOk, OnErr};
+ghost use Rattle.mi_ledger.specs.Ledger.{hub_of, log_of, IsSettled};
+ghost use Rattle.mi_serving.specs.Steps.{Goes};
+ghost use Rattle.mi_serving.specs.Row.{ids, Attends};
+
+use crate::client::Client;
+use crate::door::Door;
+use crate::failure::Failure;
+use crate::row::{admit, ask_all, is_any_busy, let_go, send_all};
+use mi_ledger::{Ledger, LedgerFault, REPLAYER};
+use mi_log::Log;
+use mi_sessions::Sessions;
+use mi_value::limits::MAX_CONNECTIONS;
+use mio::net::TcpStream;
+use std::alloc::Global;
+
+/// Turns of one service, at most: 2^62, which takes longer than a machine stands.
+const MAX_TURNS: u64 = 4_611_686_018_427_387_904;
+
+/// Bytes of one read, at most.
+const READ: usize = 16_384;
+
+/// Accepts a connection, where one has come.
+fn accept_one<D: Sessions + Drop, L: Log + Drop>(
+    alloc: Global,
+    ledger: &mut Ledger<D, L>,
+    door: &mut Door,
+    row: &mut Vec<Client<TcpStream>>,
+    last: &mut u64,
+) -> Result<(), LedgerFault>
+    requires attends { Attends (ids row.old.items) (hub_of ledger.old).attached }
+    requires settled { IsSettled L.appended L.synced ledger.old }
+    ensures goes { OnOk result (Goes (hub_of ledger.old) (hub_of ledger.new) (L.appended (log_of ledger.old)) (L.appended (log_of ledger.new))) }
+    ensures attends { OnOk result (Attends (ids row.new.items) (hub_of ledger.new).attached) }
+    ensures settled { OnOk result (IsSettled L.appended L.synced ledger.new) }
+{
+    let conn = last.saturating_add(1);
+    match door.accept(conn) {
+        Some(stream) => {
+            *last = conn;
+            admit(alloc, ledger, row, conn, stream)
+        }
+        None => Ok(()),
+    }
+}
+
+/// Accepts what has come while there are places. `last` is the number of the connection that came last.
+fn accept_all<D: Sessions + Drop, L: Log + Drop>(
+    alloc: Global,
+    ledger: &mut Ledger<D, L>,
+    door: &mut Door,
+    row: &mut Vec<Client<TcpStream>>,
+    last: &mut u64,
+) -> Result<(), LedgerFault>
+    requires attends { Attends (ids row.old.items) (hub_of ledger.old).attached }
+    requires settled { IsSettled L.appended L.synced ledger.old }
+    ensures goes { OnOk result (Goes (hub_of ledger.old) (hub_of ledger.new) (L.appended (log_of ledger.old)) (L.appended (log_of ledger.new))) }
+    ensures attends { OnOk result (Attends (ids row.new.items) (hub_of ledger.new).attached) }
+    ensures settled { OnOk result (IsSettled L.appended L.synced ledger.new) }
+{
+    'places: for _place in 0..MAX_CONNECTIONS {
+        if row.len() >= MAX_CONNECTIONS || !door.may_accept() {
+            return Ok(());
+        }
+        accept_one(alloc, ledger, door, row, last)?;
+    }
+    Ok(())
+}
+
+/// What is done once some connections are ready: those that have come are accepted, what is ready is read, its lines are asked, and the
+/// replies are sent once the journal stays.
+pub fn take_turn<D: Sessions + Drop, L: Log + Drop>(
+    alloc: Global,
+    ledger: &mut Ledger<D, L>,
+    door: &mut Door,
+    row: &mut Vec<Client<TcpStream>>,
+    last: &mut u64,
+    each: bool,
+    buffer: &mut [u8],
+) -> Result<(), LedgerFault>
+    requires attends { Attends (ids row.old.items) (hub_of ledger.old).attached }
+    requires settled { IsSettled L.appended L.synced ledger.old }
+    ensures goes { OnOk result (Goes (hub_of ledger.old) (hub_of ledger.new) (L.appended (log_of ledger.old)) (L.appended (log_of ledger.new))) }
+    ensures attends { OnOk result (Attends (ids row.new.items) (hub_of ledger.new).attached) }
+    ensures settled { OnOk result (IsSettled L.appended L.synced ledger.new) }
+{
+    accept_all(alloc, ledger, door, row, last)?;
+    ask_all(ledger, row, buffer, each)?;
+    send_all(ledger, row)?;
+    let_go(alloc, ledger, row)
+}
+
+/// Waits until something is ready, and tells the connections.
+fn wait(door: &mut Door, row: &mut Vec<Client<TcpStream>>) -> Result<(), Failure>
+    ensures ids { ids row.new.items ≡ ids row.old.items }
+    ensures poll { OnErr result (result ≡ Err Failure.Poll) }
+{
+    let comes = door.may_accept() && row.len() < MAX_CONNECTIONS;
+    door.wait(comes || is_any_busy(row.as_slice()))?;
+    door.wake(row);
+    Ok(())
+}
+
+/// Serves connections that come through a door until something fails, and says what. With `each` a line's reply waits for a sync of its
+/// own, else for one that all lines of a turn have together.
+pub fn serve<D: Sessions + Drop, L: Log + Drop>(
+    alloc: Global,
+    ledger: &mut Ledger<D, L>,
+    door: &mut Door,
+    each: bool,
+) -> Failure
+    requires none { (hub_of ledger.old).attached ≡ [] }
+    requires settled { IsSettled L.appended L.synced ledger.old }
+    ensures turns { result ≡ Failure.Turns
+        → Goes (hub_of ledger.old) (hub_of ledger.new) (L.appended (log_of ledger.old)) (L.appended (log_of ledger.new)) }
+{
+    let Ok(mut row) = Vec::with_capacity(alloc, MAX_CONNECTIONS) else {
+        return Failure::Memory;
+    };
+    let mut buffer = [0u8; READ];
+    let mut last = REPLAYER;
+    'turns: for _turn in 0..MAX_TURNS {
+        if let Err(failure) = wait(door, &mut row) {
+            return failure;
+        }
+        if let Err(fault) = take_turn(alloc, ledger, door, &mut row, &mut last, each, &mut buffer) {
+            return Failure::of_ledger(fault);
+        }
+    }
+    Failure::Turns
+}

@@ -1,0 +1,183 @@
+//! The words that the service is called with: which options it has, and what the words say by them.
+use clap::builder::ValueParser;
+use clap::error::ErrorKind;
+use clap::{Arg, ArgAction, ArgMatches, Command};
+use std::alloc::{AllocError, Global};
+use std::convert::AsStr;
+
+/// When the lines of a journal are made to stay.
+#[derive(Clone, Copy, Drop)]
+pub enum SyncMode {
+    /// Each before its reply goes out.
+    Always,
+    /// Those of one turn together, before their replies go out.
+    Turn,
+    /// When the system does so.
+    Never,
+}
+
+/// The journal that is kept.
+#[derive(Drop)]
+pub struct JournalWords {
+    /// Its file.
+    pub file: String,
+    /// When its lines are made to stay.
+    pub sync: SyncMode,
+}
+
+/// What the service is asked to do.
+#[derive(Drop)]
+pub struct Options {
+    /// The file that the schema is read from; without one it is the built-in schema.
+    pub schema: Option<String>,
+    /// The port that is listened on; 0 for any that is free.
+    pub port: u16,
+    /// The journal, where one is kept.
+    pub journal: Option<JournalWords>,
+}
+
+/// Why words give no options.
+#[derive(Drop)]
+pub enum WordsFault {
+    /// The words aren't the program's options, or ask for help. The error has the text for the user.
+    Parse(clap::Error),
+    /// `--listen` is missing, or `--sync` stands without `--journal` or names no way.
+    Rules,
+    /// A growth was refused.
+    Memory,
+}
+
+impl From<AllocError> for WordsFault {
+    fn from(_error: AllocError) -> WordsFault {
+        WordsFault::Memory
+    }
+}
+
+/// An option `--name VALUE`, whose help calls the value by `value`.
+fn option<'a>(alloc: Global, name: &'a str, value: &'a str, help: &'a str) -> Arg<'a> {
+    Arg::new(alloc, name)
+        .long(name)
+        .action(ArgAction::Set)
+        .value_name(value)
+        .help(help)
+}
+
+/// Ports are 0 to 65535.
+fn port_parser<'a>() -> ValueParser<'a> {
+    clap::value_parser!(u16).range(0..)
+}
+
+/// The options that the service knows.
+fn command<'a>(alloc: Global) -> Result<Command<'a>, AllocError> {
+    let with_schema = Command::new(alloc, "mi_service").arg(option(
+        alloc,
+        "schema",
+        "FILE",
+        "Reads the schema from this TOML file; without it the table `accounts` is served",
+    ))?;
+    let with_listen = with_schema.arg(option(
+        alloc,
+        "listen",
+        "PORT",
+        "Serves connections on this port of 127.0.0.1, on any that is free where it is 0",
+    )
+    .value_parser(port_parser()))?;
+    let with_journal = with_listen.arg(option(
+        alloc,
+        "journal",
+        "FILE",
+        "Keeps what is changed in this file, and begins with what it has",
+    ))?;
+    let with_sync = with_journal.arg(option(
+        alloc,
+        "sync",
+        "WHEN",
+        "Makes the journal stay before replies go out: always (line by line), turn (the default), never",
+    ))?;
+    Ok(with_sync)
+}
+
+/// The fault that an error of the parser is.
+fn parser_fault(error: clap::Error) -> WordsFault {
+    if error.kind() == ErrorKind::OutOfMemory {
+        WordsFault::Memory
+    } else {
+        WordsFault::Parse(error)
+    }
+}
+
+/// What was matched in the words.
+fn parse<'a, S: AsStr>(alloc: Global, words: &'a [S]) -> Result<ArgMatches<'a>, WordsFault> {
+    match command(alloc)?.try_get_matches_from(words) {
+        Ok(matches) => Ok(matches),
+        Err(error) => Err(parser_fault(error)),
+    }
+}
+
+/// A copy of a text.
+fn owned(alloc: Global, text: Option<&str>) -> Result<Option<String>, AllocError> {
+    match text {
+        Some(text) => Ok(Some(String::from_str(alloc, text)?)),
+        None => Ok(None),
+    }
+}
+
+/// When a journal's lines are made to stay, by this word.
+fn sync_mode(word: Option<&str>) -> Option<SyncMode> {
+    match word {
+        None => Some(SyncMode::Turn),
+        Some(word) => {
+            if word == "always" {
+                Some(SyncMode::Always)
+            } else if word == "turn" {
+                Some(SyncMode::Turn)
+            } else if word == "never" {
+                Some(SyncMode::Never)
+            } else {
+                None
+            }
+        }
+    }
+}
+
+/// The journal that is kept, where one is; `Rules` where its way has no name, or it has a way and no file.
+fn journal_words(
+    alloc: Global,
+    file: Option<&str>,
+    sync: Option<&str>,
+) -> Result<Option<JournalWords>, WordsFault> {
+    match (file, sync) {
+        (None, None) => Ok(None),
+        (None, Some(_word)) => Err(WordsFault::Rules),
+        (Some(file), sync) => match sync_mode(sync) {
+            Some(sync) => Ok(Some(JournalWords {
+                file: String::from_str(alloc, file)?,
+                sync,
+            })),
+            None => Err(WordsFault::Rules),
+        },
+    }
+}
+
+/// The options that were matched. The fault is `Rules` or `Memory`.
+fn values(alloc: Global, matches: &ArgMatches<'_>) -> Result<Options, WordsFault> {
+    let schema = owned(alloc, matches.get_str("schema"))?;
+    let Some(port) = matches.get_one::<u16>("listen") else {
+        return Err(WordsFault::Rules);
+    };
+    let journal = journal_words(alloc, matches.get_str("journal"), matches.get_str("sync"))?;
+    Ok(Options {
+        schema,
+        port,
+        journal,
+    })
+}
+
+/// The options that words say, the first of which is the program's name.
+///
+/// `Parse` where they are refused or ask for help, `Rules` where they break a rule between options, `Memory` where a growth was
+/// refused.
+pub fn read_words<S: AsStr>(alloc: Global, words: &[S]) -> Result<Options, WordsFault> {
+    let matches = parse(alloc, words)?;
+    values(alloc, &matches)
+}
