@@ -1,7 +1,7 @@
 #!/usr/bin/env python3
 """Failures of a ledger's members (clients/python/mi_replica) and of etcd's, and a check that nothing was lost.
 
-    replica_test.py [--short | --failures N] [--seed N] [--program FILE] [--seconds N] [--kinds KIND,..]
+    replica_test.py [--short | --failures N] [--seed N] [--program FILE] [--seconds N] [--lease N] [--kinds KIND,..]
     replica_test.py --figures [--program FILE]
 
 Three members of etcd and three of a ledger run on this machine. While clients change its tables, in blocks too, members are killed,
@@ -31,7 +31,7 @@ KINDS = {
     "kill etcd": 3, "stop etcd": 2, "kill both": 1, "stop both": 1,
 }
 SHORT = ["kill leader", "stop leader", "kill etcd", "cut leader"]
-SETTINGS = ["--lease", "2", "--margin", "0.4", "--folder", "FOLDER", "--checkpoint", "8000"]
+SETTINGS = ["--margin", "0.4", "--folder", "FOLDER", "--checkpoint", "8000"]
 
 
 class Run:
@@ -39,7 +39,7 @@ class Run:
 
     def __init__(self, name, etcds, options, folder, seed):
         self.etcds, self.random = etcds, random.Random(seed)
-        self.members = Members(name, etcds.urls, options.program, folder, *SETTINGS, client=options.client, are_cut=True)
+        self.members = Members(name, etcds.urls, options.program, folder, "--lease", str(options.lease), *SETTINGS, client=options.client, are_cut=True)
         self.waits = []
         self.recorder = Recorder(name, etcds.urls)
         self.recorder.start()
@@ -195,6 +195,7 @@ def main():
     parser.add_argument("--seed", type=int, default=1)
     parser.add_argument("--seconds", type=float, default=3600, help="begins no failure behind so many seconds")
     parser.add_argument("--program", help="mi_service or mi_server")
+    parser.add_argument("--lease", type=int, default=2, help="seconds; more where the machine is busy (%(default)s)")
     parser.add_argument("--kinds", help="these failures alone: " + ", ".join(KINDS))
     parser.add_argument("--client", help="a folder with another mi_replica, which the members run")
     parser.add_argument("--figures", action="store_true")
