@@ -11,6 +11,7 @@ import sys
 import tempfile
 
 import program
+import replica_kit
 
 FAULTS = {
     "reply-before-commit": (
@@ -44,7 +45,7 @@ def is_found(name, path):
         with open(source, "w", encoding="utf-8") as it:
             it.write(text.replace(old, new))
         words = [sys.executable, f"{program.TOP}/scripts/replica_test.py", "--failures", str(FAILURES), "--kinds", kinds, "--program", path]
-        ran = subprocess.run([*words, "--client", f"{folder}/python"], capture_output=True, text=True, timeout=900)
+        ran = subprocess.run([*words, "--client", f"{folder}/python"], capture_output=True, text=True, timeout=900, preexec_fn=replica_kit.end_with_parent)
     last = (ran.stdout.splitlines() or ran.stderr.splitlines() or ["nothing"])[-1]
     is_it = ran.returncode == 1 and last.startswith("Differs: ")
     print(f"{name}: {'found' if is_it else 'NOT FOUND'}: {last[:200]}", flush=True)

@@ -1,7 +1,7 @@
 #!/usr/bin/env python3
 """Failures of a ledger's members (clients/python/mi_replica) and of etcd's, and a check that nothing was lost.
 
-    replica_test.py [--short | --failures N] [--seed N] [--program FILE] [--seconds N] [--kinds KIND,..]
+    replica_test.py [--short | --failures N] [--seed N] [--program FILE] [--seconds N] [--lease N] [--kinds KIND,..]
     replica_test.py --figures [--program FILE]
 
 Three members of etcd and three of a ledger run on this machine. While clients change its tables, in blocks too, members are killed,
@@ -27,19 +27,21 @@ from mi_client import connect_leader
 PER_RUN = 20
 LONGEST_WAIT = 120
 KINDS = {
-    "kill leader": 5, "end leader": 1, "stop leader": 3, "cut leader": 3, "kill member": 1, "stop member": 1, "cut member": 1, "empty member": 1,
-    "kill etcd": 3, "stop etcd": 2, "kill both": 1, "stop both": 1,
+    "kill leader": 5, "end leader": 1, "stop leader": 3, "kill member": 1, "stop member": 1, "empty member": 1, "kill etcd": 3, "stop etcd": 2,
+    "kill both": 1, "stop both": 1, "cut leader": 3, "cut member": 1,
 }
+"""How often each happens, in proportion; those of members that are cut off from etcd in every fourth run, and then alone."""
+CUTS = [it for it in KINDS if it.startswith("cut")]
 SHORT = ["kill leader", "stop leader", "kill etcd", "cut leader"]
-SETTINGS = ["--lease", "2", "--margin", "0.4", "--folder", "FOLDER", "--checkpoint", "8000"]
+SETTINGS = ["--margin", "0.4", "--folder", "FOLDER", "--checkpoint", "8000"]
 
 
 class Run:
     """One ledger with its clients, until it is checked."""
 
-    def __init__(self, name, etcds, options, folder, seed):
+    def __init__(self, name, etcds, options, folder, seed, are_cut):
         self.etcds, self.random = etcds, random.Random(seed)
-        self.members = Members(name, etcds.urls, options.program, folder, *SETTINGS, client=options.client, are_cut=True)
+        self.members = Members(name, etcds.urls, options.program, folder, "--lease", str(options.lease), *SETTINGS, client=options.client, are_cut=are_cut)
         self.waits = []
         self.recorder = Recorder(name, etcds.urls)
         self.recorder.start()
@@ -145,26 +147,28 @@ class Run:
         self.members.close()
 
 
-def kinds_of(options, rng, count):
-    """Which failures come."""
+def kinds_of(options, rng, turn, count):
+    """Which failures come in a run."""
     if options.short:
         return SHORT
-    named = options.kinds.split(",") if options.kinds else list(KINDS)
+    named = options.kinds.split(",") if options.kinds else CUTS if turn % 4 == 3 else [it for it in KINDS if it not in CUTS]
     return rng.choices(named, [KINDS[it] for it in named], k=count)
 
 
 def runs(options):
     """The failures, run by run. Those that happened, with the times until a line was acknowledged again."""
-    waits, rng = [], random.Random(options.seed)
+    waits, rng, turn = [], random.Random(options.seed), 0
     end = time.monotonic() + options.seconds
     with Folder() as folder:
         etcds = Etcds(folder)
         try:
             while len(waits) < options.failures and time.monotonic() < end:
                 seed = rng.randrange(10**6)
-                run = Run(f"run{seed}", etcds, options, folder, seed)
+                kinds = kinds_of(options, rng, turn, min(PER_RUN, options.failures - len(waits)))
+                turn += 1
+                run = Run(f"run{seed}", etcds, options, folder, seed, any(it in CUTS for it in kinds))
                 try:
-                    for kind in kinds_of(options, rng, min(PER_RUN, options.failures - len(waits))):
+                    for kind in kinds:
                         if time.monotonic() < end:
                             run.fail(kind)
                     print(f"run of seed {seed}: {run.check()}", flush=True)
@@ -195,6 +199,7 @@ def main():
     parser.add_argument("--seed", type=int, default=1)
     parser.add_argument("--seconds", type=float, default=3600, help="begins no failure behind so many seconds")
     parser.add_argument("--program", help="mi_service or mi_server")
+    parser.add_argument("--lease", type=int, default=2, help="seconds; more where the machine is busy (%(default)s)")
     parser.add_argument("--kinds", help="these failures alone: " + ", ".join(KINDS))
     parser.add_argument("--client", help="a folder with another mi_replica, which the members run")
     parser.add_argument("--figures", action="store_true")

@@ -21,6 +21,8 @@ MOST_BYTES = 1_000_000
 LEAST_PAGE, MOST_PAGE = 8, 512
 PAGE_BYTES = 4 << 20
 """So many entries are read at once, and about so many bytes, as the entries before let expect."""
+NOT_FOUND = 5
+"""The code of an answer where there is no such lease."""
 REQUEST_SECONDS = 2.0
 AGAIN_SECONDS = 0.1
 COMPACTED = 1_000
@@ -158,7 +160,7 @@ class Log:
         value, began = json.dumps(said).encode(), clock()
         won = put(self._leader, value, await self._granted(seconds))
         asked = {"compare": [is_new(self._leader)], "success": [won], "failure": [ranged(self._leader)]}
-        answer = await self._electing.post("/v3/kv/txn", asked)
+        answer = await self._put_with_lease(asked)
         if answer.get("succeeded"):
             term = Term(revision(answer), value, seconds, margin)
             term.prolong(began)
@@ -173,10 +175,18 @@ class Log:
         that it isn't would answer that a lease lives, but can't grant one."""
         began = clock()
         again = put(self._leader, term.value, await self._granted(term.seconds))
-        answer = await self._electing.post("/v3/kv/txn", {"compare": [is_made_at(self._leader, term.number)], "success": [again]})
+        answer = await self._put_with_lease({"compare": [is_made_at(self._leader, term.number)], "success": [again]})
         if not answer.get("succeeded"):
             raise Lost("the lease has ended")
         term.prolong(began)
+
+    async def _put_with_lease(self, asked: Message) -> Message:
+        try:
+            return await self._electing.post("/v3/kv/txn", asked)
+        except Rejected as error:
+            if error.code == NOT_FOUND:  # (the new lease has ended already, on a machine that has too much to do)
+                raise Unreachable(str(error)) from error
+            raise
 
     async def _granted(self, seconds: int) -> int:
         answer = await self._electing.post("/v3/lease/grant", {"TTL": str(seconds)})
