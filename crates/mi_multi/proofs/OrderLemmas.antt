@@ -3,7 +3,7 @@ use Rattle.std.proofs.Common.{◌≡◌, ◌≢◌, ℕ, zero, suc, true, List, 
 use Rattle.mi_value.specs.declared.compare.KeyPart.{KeyPart}
 use Rattle.mi_catalog.specs.declared.index.Index.{Index}
 use Rattle.mi_catalog.specs.declared.index.IndexKind.{IndexKind}
-use Rattle.mi_catalog.specs.declared.index.IndexKind.TheVariants.{Sorted, Ranked, Hashed, Sequenced}
+use Rattle.mi_catalog.specs.declared.index.IndexKind.TheVariants.{Ordered, Ranked, Hashed, Sequenced}
 use Rattle.mi_catalog.specs.Kinds.{is_sequenced}
 use Rattle.mi_container.specs.Data.{Node, Link}
 use Rattle.mi_container.specs.Data.Order.{ById, Listed}
@@ -19,7 +19,7 @@ sorted_still (p ∷ ps) f = refl
 
 order_by : (kind : IndexKind) (ps : List KeyPart) (f : List ℕ → List ℕ) (l u : List ℕ)
     → (is_sequenced kind ≡ true → u ≡ f l) → order_of kind ps u ≡ in_order f (order_of kind ps l)
-order_by Sorted ps f l u is = sorted_still ps f
+order_by Ordered ps f l u is = sorted_still ps f
 order_by Ranked ps f l u is = sorted_still ps f
 order_by Hashed ps f l u is = refl
 order_by Sequenced ps f l u is = ap Listed (is refl)

@@ -5,7 +5,7 @@ use Rattle.std.specs.FinMap.{FinMap, get}
 use Rattle.std.specs.declared.option.Option.TheVariants.{None, Some}
 use Rattle.mi_catalog.specs.declared.index.Index.{Index}
 use Rattle.mi_catalog.specs.declared.index.IndexKind.{IndexKind}
-use Rattle.mi_catalog.specs.declared.index.IndexKind.TheVariants.{Sorted, Ranked, Hashed, Sequenced}
+use Rattle.mi_catalog.specs.declared.index.IndexKind.TheVariants.{Ordered, Ranked, Hashed, Sequenced}
 use Rattle.mi_value.specs.declared.compare.KeyPart.{KeyPart}
 use Rattle.mi_node.specs.Pool.{Pooled, link_of}
 use Rattle.mi_node.specs.Refs.{Ref}
@@ -87,7 +87,7 @@ kept_alike os ids m n e altered q a ne is = kept_of os m n a a.live (altered.say
 
 one_plain : (m : Pooled Stored) (k x : ℕ) (kind : IndexKind) (ps : List KeyPart) (l u : List ℕ)
     → neighbours_in m k x (order_of kind ps l) ≡ neighbours_in m k x (order_of kind ps u)
-one_plain m k x Sorted ps l u = refl
+one_plain m k x Ordered ps l u = refl
 one_plain m k x Ranked ps l u = refl
 one_plain m k x Hashed ps l u = refl
 one_plain m k x Sequenced ps l u = refl

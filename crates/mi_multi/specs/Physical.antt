@@ -12,7 +12,7 @@ use Rattle.mi_value.specs.declared.value.Value.{Value}
 use Rattle.mi_value.specs.declared.compare.KeyPart.{KeyPart}
 use Rattle.mi_catalog.specs.declared.index.Index.{Index}
 use Rattle.mi_catalog.specs.declared.index.IndexKind.{IndexKind}
-use Rattle.mi_catalog.specs.declared.index.IndexKind.TheVariants.{Sorted, Ranked, Hashed, Sequenced}
+use Rattle.mi_catalog.specs.declared.index.IndexKind.TheVariants.{Ordered, Ranked, Hashed, Sequenced}
 use Rattle.mi_node.specs.Pool.{Pooled, value_of, link_of}
 use Rattle.mi_node.specs.Refs.{Ref}
 use Rattle.mi_order.specs.declared.stored.Stored.{Stored}
@@ -32,7 +32,7 @@ picked f (r ∷ es) = with_pair r.0 (f r.1) (picked f es)
 
 -- the order of an index of that kind with these parts, and with that list if it is sequenced
 abbrev pub order_of : IndexKind → List KeyPart → List ℕ → Order
-order_of Sorted ps ids = sorted_order ps
+order_of Ordered ps ids = sorted_order ps
 order_of Ranked ps ids = sorted_order ps
 order_of Hashed ps ids = ByHash ps
 order_of Sequenced ps ids = Listed ids
