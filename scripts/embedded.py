@@ -25,6 +25,8 @@ LONGEST_RUN = 120
 STRICT = ["-Wall", "-Wextra", "-Werror", "-pedantic"]
 # What valgrind is to tell of: errors, and blocks that are left, reached or not.
 VALGRIND = ["valgrind", "-q", "--error-exitcode=9", "--leak-check=full", "--show-leak-kinds=all", "--errors-for-leak-kinds=all"]
+# What valgrind watches of each test: it takes fifty times as long.
+WATCHED_COMMANDS = {"calls": [], "typed": ["2000"]}
 # Lines beside the examples' whose requests are refused: an index grows, rows are moved and shown, and sessions are undone over all of it.
 REFUSED_ROWS = 40
 
@@ -144,6 +146,7 @@ class Bindings:
         self.answers("clients/c", [to], cases)
         self.answers("clients/c, in parts", [to, "--parts"], cases[:5])
         self.check("clients/c/tests/calls.c", self.prints, "ok\n", self.compiled(f"{CLIENTS}/c/tests/calls.c"))
+        self.check("clients/c/tests/typed.c", self.prints, "ok\n", self.compiled(f"{CLIENTS}/c/tests/typed.c"))
         with open(f"{CLIENTS}/c/unwind.out", encoding="utf-8") as file:
             self.check("clients/c/unwind.c", self.prints, file.read(), self.compiled(f"{CLIENTS}/c/unwind.c"))
 
@@ -182,25 +185,31 @@ class Bindings:
         if not self.has("AddressSanitizer", "clang"):
             return
         words = ["-fsanitize=address,undefined", "-fno-sanitize-recover=all", "-fno-omit-frame-pointer"]
-        for name in ("calls", "answers"):
+        for name in ("calls", "typed"):
             to = self.compiled(f"{CLIENTS}/c/tests/{name}.c", *words, compiler="clang")
-            if name == "calls":
-                self.check("calls.c under AddressSanitizer", self.prints, "ok\n", to)
-            else:
-                self.answers("answers.c under AddressSanitizer", [to], cases)
+            self.check(f"{name}.c under AddressSanitizer", self.prints, "ok\n", to)
+        to = self.compiled(f"{CLIENTS}/c/tests/answers.c", *words, compiler="clang")
+        self.answers("answers.c under AddressSanitizer", [to], cases)
 
     def watched(self, cases):
         if not self.has("valgrind", "valgrind", self.cc):
             return
-        self.check("calls.c under valgrind", self.prints, "ok\n", *VALGRIND, self.compiled(f"{CLIENTS}/c/tests/calls.c"))
+        for name in ("calls", "typed"):
+            to = self.compiled(f"{CLIENTS}/c/tests/{name}.c")
+            self.check(f"{name}.c under valgrind", self.prints, "ok\n", *VALGRIND, to, *WATCHED_COMMANDS[name])
         to = self.compiled(f"{CLIENTS}/c/tests/answers.c")
         self.answers("answers.c under valgrind", [*VALGRIND, to], cases)
 
     def refused(self):
         if not self.has("requests for memory refused", self.cc):
             return
-        to = self.compiled(f"{CLIENTS}/c/tests/faults.c", "-Wl,--wrap=malloc,--wrap=realloc")
-        self.check("clients/c/tests/faults.c", lambda: print(f"  {answered([to], refused_lines()).decode()}", end="", flush=True))
+        for name, lines in (("faults", refused_lines()), ("typed_faults", b"")):
+            to = self.compiled(f"{CLIENTS}/c/tests/{name}.c", "-Wl,--wrap=malloc,--wrap=realloc")
+            self.check(f"clients/c/tests/{name}.c", self.refuses, to, lines)
+
+    @staticmethod
+    def refuses(to, lines):
+        print(f"  {answered([to], lines).decode()}", end="", flush=True)
 
 
 def refused_lines():

@@ -59,11 +59,96 @@ size_t weltiyo_reply(weltiyo_db *handle, size_t from, void *out, size_t room);
 /* Both: answers a line, copies as much of its reply as there is room for, and returns the length of the whole reply. */
 size_t weltiyo_ask(weltiyo_db *handle, uint64_t connection, const void *line, size_t length, void *out, size_t room);
 
+/* ---- The same commands with values in place of a line: no JSON is read or written.
+
+   A table is named by its number in the order of the schema, from 0 on, and so is a column. A call answers what the line of its command
+   answers to the same connection, and leaves what it leaves. The reply to the last line stays. */
+
+/* What a value is. */
+enum { WELTIYO_INT = 0, WELTIYO_TEXT = 1, WELTIYO_FALSE = 2, WELTIYO_TRUE = 3 };
+
+/* A value. A text isn't pointed to: it lies in the bytes that stand beside the values in a call, which may have many texts one behind another. */
+typedef struct weltiyo_value {
+    uint32_t kind;   /* one of those above; any other fits no column */
+    int64_t integer; /* of WELTIYO_INT the number */
+    size_t at;       /* of WELTIYO_TEXT where it begins in the bytes, */
+    size_t length;   /* and how many it has; they are UTF-8 */
+} weltiyo_value;
+
+/* Why a call is refused: as the word of a line's reply, in its order. */
+typedef enum weltiyo_refusal {
+    WELTIYO_REFUSED_BUSY = 4,     /* another connection holds sessions */
+    WELTIYO_REFUSED_TABLE = 5,    /* no table has this number */
+    WELTIYO_REFUSED_INDEX = 6,    /* no index has this number */
+    WELTIYO_REFUSED_KIND = 7,     /* the call isn't one of this index's kind */
+    WELTIYO_REFUSED_ROW = 8,      /* the values or the edit don't fit the columns */
+    WELTIYO_REFUSED_KEY = 9,      /* the values are no key of the index */
+    WELTIYO_REFUSED_ID = 10,      /* there is no such record */
+    WELTIYO_REFUSED_RANGE = 11,   /* a sum leaves 64 bits */
+    WELTIYO_REFUSED_FULL = 12,    /* the table has its most rows */
+    WELTIYO_REFUSED_SPENT = 13,   /* a counter is at its end */
+    WELTIYO_REFUSED_UNIQUE = 14,  /* a unique index refuses: `index` is its number, and `number` the id of the record that has the key */
+    WELTIYO_REFUSED_LOST = 15,    /* as that, of a modify without rollback, which has erased its record */
+    WELTIYO_REFUSED_DEPTH = 16,   /* 1,024 sessions are open */
+    WELTIYO_REFUSED_SESSION = 17, /* no session is open */
+    WELTIYO_REFUSED_MEMORY = 18,  /* a growth was refused, and nothing has changed */
+    WELTIYO_NO_ROOM = 19          /* a row needs `index` values and `number` bytes of texts */
+} weltiyo_refusal;
+
+/* What a call tells. */
+typedef struct weltiyo_told {
+    uint32_t status; /* 0, or one of those above */
+    uint32_t index;
+    uint64_t number; /* where the status is 0: the id, the count or the revision that the line's reply has, and 0 where it has none */
+} weltiyo_told;
+
+/* Room that any row fits: its values, and the bytes of its texts. */
+enum { WELTIYO_ROW_VALUES = 16, WELTIYO_ROW_TEXTS = 16 * 1024 };
+
+/* Adds a row: a value for each column in order. Its id is told. */
+weltiyo_told weltiyo_insert(weltiyo_db *handle, uint64_t connection, size_t table, const weltiyo_value *row, size_t count, const void *texts,
+                            size_t length);
+
+/* Sets another row for an id. */
+weltiyo_told weltiyo_replace(weltiyo_db *handle, uint64_t connection, size_t table, uint64_t id, const weltiyo_value *row, size_t count,
+                             const void *texts, size_t length);
+
+/* Adds a number to a column of whole numbers. Where a unique index refuses the result, nothing changes with `rollback`, and without it (0) the
+   row is erased. */
+weltiyo_told weltiyo_modify_add(weltiyo_db *handle, uint64_t connection, size_t table, uint64_t id, size_t column, int64_t number,
+                                uint32_t rollback);
+
+/* Erases a row. */
+weltiyo_told weltiyo_erase(weltiyo_db *handle, uint64_t connection, size_t table, uint64_t id);
+
+/* Opens a session, which the connection then holds; the new revision is told. */
+weltiyo_told weltiyo_start(weltiyo_db *handle, uint64_t connection);
+
+/* Undoes the newest session, or joins it into the one below; the new revision is told. Neither takes memory. */
+weltiyo_told weltiyo_undo(weltiyo_db *handle, uint64_t connection);
+weltiyo_told weltiyo_squash(weltiyo_db *handle, uint64_t connection);
+
+/* Ends the sessions up to a number and keeps their changes; how many is told. It takes no memory. */
+weltiyo_told weltiyo_commit(weltiyo_db *handle, uint64_t connection, uint64_t number);
+
+/* Copies the row of an id: its values to the front of `row`, and their texts to the front of `texts`, where they lie as the values say. The id is
+   told. With WELTIYO_NO_ROOM nothing is said of what `row` and `texts` hold. It takes no memory. */
+weltiyo_told weltiyo_get(weltiyo_db *handle, size_t table, uint64_t id, weltiyo_value *row, size_t count, void *texts, size_t room);
+
+/* ---- */
+
 /* A connection goes away: the sessions that it holds are undone, as where a client of the program breaks off. It takes no memory. */
 void weltiyo_release(weltiyo_db *handle, uint64_t connection);
 
 /* Frees all that a database holds. Its handle is dead then. */
 void weltiyo_close(weltiyo_db *handle);
+
+/* The word of a refusal, as a line's reply has it. */
+static inline const char *weltiyo_refusal_word(uint32_t status) {
+    static const char *const words[] = {"ok",   "line",  "json",   "form", "busy",  "table",  "index",  "kind", "row",     "key",
+                                        "id",   "range", "full",   "spent", "unique", "unique", "depth", "session", "memory", "room"};
+    return status < sizeof words / sizeof *words ? words[status] : "unknown";
+}
 
 /* The word of a status, as the program prints it behind `schema: `. */
 static inline const char *weltiyo_word(uint32_t status) {

@@ -10,19 +10,18 @@ index = [
     { name = "by_balance", kind = "ranked", key = ["balance"] },
 ]
 )");
-    db.ask(R"({"cmd":"insert","row":{"owner":"ann","balance":50}})");
-    db.ask(R"({"cmd":"insert","row":{"owner":"bob","balance":7}})");
+    const auto ann = db.insert(0, {"ann", 50}), bob = db.insert(0, {"bob", 7});
 
     {
         auto session = db.start_undo_session();
-        db.ask(R"({"cmd":"modify","id":0,"add":{"balance":-20}})");
-        db.ask(R"({"cmd":"modify","id":1,"add":{"balance":20}})");
+        db.add(0, ann, 1, -20); // (table 0, column 1: the balance)
+        db.add(0, bob, 1, 20);
         session.squash();
     }
     try {
         auto session = db.start_undo_session();
-        db.ask(R"({"cmd":"modify","id":0,"add":{"balance":-30}})");
-        db.ask(R"({"cmd":"insert","row":{"owner":"bob","balance":30}})");
+        db.add(0, ann, 1, -30);
+        db.insert(0, {"bob", 30});
         session.squash();
     } catch (const weltiyo::Refused &refused) {
         std::cout << "undone: " << refused.word() << '\n';

@@ -9,6 +9,8 @@
 //         db.ask(R"({"cmd":"modify","id":0,"add":{"balance":-20}})");
 //         session.squash();                               // without this the block is undone
 //     }
+//     const auto id = db.insert(0, {"bob", 7, true});     // the same commands with values in place of a line
+//     db.add(0, id, 1, -2);
 #ifndef WELTIYO_HPP
 #define WELTIYO_HPP
 
@@ -22,6 +24,8 @@
 #include <string>
 #include <string_view>
 #include <utility>
+#include <variant>
+#include <vector>
 
 #include <weltiyo.h>
 
@@ -46,6 +50,13 @@ public:
         word_ = reply.substr(front().size(), end - front().size());
     }
 
+    // That of a call with values, as the line's reply has it but for the index of a conflict, whose number is told.
+    explicit Refused(weltiyo_told told)
+        : std::runtime_error(std::string(front()) + weltiyo_refusal_word(told.status) + "\",\"ok\":false}"), word_(weltiyo_refusal_word(told.status)), told_(told) {}
+
+    // What a call with values told; its status is 0 of a line.
+    weltiyo_told told() const noexcept { return told_; }
+
     std::string_view reply() const noexcept { return what(); }
 
     const std::string &word() const noexcept { return word_; }
@@ -58,7 +69,25 @@ private:
     static constexpr std::string_view front() noexcept { return "{\"error\":\""; }
 
     std::string word_;
+    weltiyo_told told_{};
 };
+
+// A value of a row: a whole number, a text, true or false.
+class Value : public std::variant<std::int64_t, bool, std::string> {
+public:
+    Value(std::int64_t number) : variant(number) {}
+    Value(int number) : variant(std::int64_t{number}) {}
+    Value(bool flag) : variant(flag) {}
+    Value(std::string text) : variant(std::move(text)) {}
+    Value(const char *text) : variant(std::string(text)) {}
+
+    std::int64_t number() const { return std::get<std::int64_t>(*this); }
+    bool flag() const { return std::get<bool>(*this); }
+    const std::string &text() const { return std::get<std::string>(*this); }
+};
+
+// A value for each column, in their order.
+using Row = std::vector<Value>;
 
 class Session;
 
@@ -118,17 +147,61 @@ public:
         return reply;
     }
 
+    // The same commands with values in place of a line. Tables and columns go by their numbers, from 0 on. Each throws Refused.
+
+    // Adds a row, and answers its id.
+    std::uint64_t insert(std::size_t table, const Row &row, std::uint64_t connection = own) {
+        const Laid laid(row);
+        return well(weltiyo_insert(handle_, connection, table, laid.values.data(), row.size(), laid.texts.data(), laid.texts.size()));
+    }
+
+    // Sets another row for an id.
+    void replace(std::size_t table, std::uint64_t id, const Row &row, std::uint64_t connection = own) {
+        const Laid laid(row);
+        well(weltiyo_replace(handle_, connection, table, id, laid.values.data(), row.size(), laid.texts.data(), laid.texts.size()));
+    }
+
+    // Adds a number to a column. Where a unique index refuses the result, nothing changes.
+    void add(std::size_t table, std::uint64_t id, std::size_t column, std::int64_t number, std::uint64_t connection = own) {
+        well(weltiyo_modify_add(handle_, connection, table, id, column, number, 1));
+    }
+
+    // Erases a row.
+    void erase(std::size_t table, std::uint64_t id, std::uint64_t connection = own) { well(weltiyo_erase(handle_, connection, table, id)); }
+
+    // The row of an id.
+    Row get(std::size_t table, std::uint64_t id) {
+        weltiyo_value values[WELTIYO_ROW_VALUES] = {};
+        char texts[WELTIYO_ROW_TEXTS];
+        // (what isn't written stays of a kind that there isn't)
+        for (weltiyo_value &it : values)
+            it.kind = WELTIYO_TRUE + 1;
+        well(weltiyo_get(handle_, table, id, values, WELTIYO_ROW_VALUES, texts, sizeof texts));
+        Row row;
+        for (const weltiyo_value &it : values) {
+            if (it.kind > WELTIYO_TRUE)
+                break;
+            if (it.kind == WELTIYO_INT)
+                row.emplace_back(it.integer);
+            else if (it.kind == WELTIYO_TEXT)
+                row.emplace_back(std::string(texts + it.at, it.length));
+            else
+                row.emplace_back(it.kind == WELTIYO_TRUE);
+        }
+        return row;
+    }
+
     // A session for a block: it is undone at the end of the block, unless it was squashed or pushed. Throws Refused.
     [[nodiscard]] Session start_undo_session();
 
     // Takes back all that was done since the newest session was started, and ends it. It takes no memory. Throws Refused.
-    void undo() { ask(R"({"cmd":"undo"})"); }
+    void undo() { well(weltiyo_undo(handle_, own)); }
 
     // Ends the newest session, and leaves what was done in it to the one below. Throws Refused.
-    void squash() { ask(R"({"cmd":"squash"})"); }
+    void squash() { well(weltiyo_squash(handle_, own)); }
 
     // Ends all sessions up to the one of this revision: what was done in them can't be undone any more. Throws Refused.
-    void commit(std::uint64_t revision) { ask("{\"cmd\":\"commit\",\"revision\":" + std::to_string(revision) + "}"); }
+    void commit(std::uint64_t revision) { well(weltiyo_commit(handle_, own, revision)); }
 
     // Undoes every open session. Throws Refused.
     void undo_all() { ask(R"({"cmd":"undo_all"})"); }
@@ -154,6 +227,32 @@ private:
         return (std::uint64_t{drawn()} << 32) ^ drawn();
     }
 
+    // Values as C takes them, and their texts one behind another.
+    struct Laid {
+        explicit Laid(const Row &row) {
+            values.reserve(row.size() + 1); // (no pointer is null)
+            for (const Value &it : row) {
+                if (const auto *number = std::get_if<std::int64_t>(&it)) {
+                    values.push_back({WELTIYO_INT, *number, 0, 0});
+                } else if (const auto *flag = std::get_if<bool>(&it)) {
+                    values.push_back({static_cast<std::uint32_t>(*flag ? WELTIYO_TRUE : WELTIYO_FALSE), 0, 0, 0});
+                } else {
+                    values.push_back({WELTIYO_TEXT, 0, texts.size(), it.text().size()});
+                    texts += it.text();
+                }
+            }
+        }
+
+        std::vector<weltiyo_value> values;
+        std::string texts;
+    };
+
+    static std::uint64_t well(weltiyo_told told) {
+        if (told.status != 0)
+            throw Refused(told);
+        return told.number;
+    }
+
     static std::uint64_t number_in(const std::string &reply, std::string_view name) {
         return std::strtoull(reply.c_str() + reply.find(name) + name.size(), nullptr, 10);
     }
@@ -165,7 +264,11 @@ private:
 // database does.
 class Session {
 public:
-    explicit Session(Database &db) : db_(&db) { db.ask(R"({"cmd":"start"})"); }
+    explicit Session(Database &db) : db_(&db) {
+        const weltiyo_told told = weltiyo_start(db.handle(), Database::own);
+        if (told.status != 0)
+            throw Refused(told);
+    }
 
     Session(Session &&other) noexcept : db_(std::exchange(other.db_, nullptr)) {}
 
@@ -173,7 +276,7 @@ public:
 
     ~Session() {
         if (db_ != nullptr)
-            weltiyo_execute(db_->handle(), Database::own, undo_line().data(), undo_line().size());
+            weltiyo_undo(db_->handle(), Database::own);
     }
 
     // What was done is left to the session below, or stays where there is none. Throws Refused.
@@ -186,8 +289,6 @@ public:
     void push() noexcept { db_ = nullptr; }
 
 private:
-    static constexpr std::string_view undo_line() noexcept { return R"({"cmd":"undo"})"; }
-
     Database *db_;
 };
 

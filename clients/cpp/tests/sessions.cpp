@@ -109,9 +109,31 @@ static void long_replies() {
     EXPECT(db.ask(R"({"cmd":"get","id":0})") == R"({"ok":true,"row":{"balance":1,"id":0,"owner":")" + owner + R"(","vip":false}})");
 }
 
+// The same commands with values in place of a line.
+static void values() {
+    Database db("", 3);
+    const auto ann = db.insert(0, {"ann é", 50, true});
+    EXPECT(db.ask(R"({"cmd":"get","id":0})") == "{\"ok\":true,\"row\":{\"balance\":50,\"id\":0,\"owner\":\"ann é\",\"vip\":true}}");
+    EXPECT(refused([&] { db.insert(0, {"ann é", 1, true}); }) == "unique");
+    EXPECT(refused([&] { db.insert(0, {"bob", 1}); }) == "row");
+    EXPECT(refused([&] { db.insert(1, {}); }) == "table");
+    {
+        auto session = db.start_undo_session();
+        EXPECT(refused([&] { db.insert(0, {"eve", 1, true}, 7); }) == "busy");
+        db.add(0, ann, 1, -60);
+        EXPECT(db.get(0, ann)[1].number() == -10);
+        db.replace(0, ann, {"", 1, false});
+        EXPECT(db.get(0, ann)[0].text().empty() && !db.get(0, ann)[2].flag() && db.get(0, ann).size() == 3);
+        db.erase(0, ann);
+        EXPECT(refused([&] { db.get(0, ann); }) == "id");
+    }
+    EXPECT(db.get(0, ann)[0].text() == "ann é" && db.get(0, ann)[1].number() == 50);
+}
+
 int main() {
     blocks();
     pushed();
+    values();
     opening();
     long_replies();
     std::puts("ok");

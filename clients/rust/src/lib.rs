@@ -10,6 +10,8 @@
 //!     session.ask(r#"{"cmd":"modify","id":0,"add":{"balance":-20}}"#)?;
 //!     session.squash()?; // without this the block is undone
 //! }
+//! let id = db.insert(0, &["bob".into(), 7.into(), true.into()])?; // the same commands with values in place of a line
+//! db.add(0, id, 1, -2)?;
 //! # Ok(())
 //! # }
 //! ```
@@ -43,7 +45,7 @@ const REFUSAL: &str = "{\"error\":\"";
 pub enum Error {
     /// The schema opens nothing; its word, as the program prints it behind `schema: `.
     Schema(&'static str),
-    /// A command was refused; the whole reply.
+    /// A command was refused; the whole reply. That of a call with values is the line's but for the index and the record of a conflict.
     Refused(String),
 }
 
@@ -72,6 +74,75 @@ impl error::Error for Error {}
 fn word_of(status: u32) -> &'static str {
     const WORDS: [&str; 12] = ["ok", "memory", "file", "toml", "shape", "name", "twice", "type", "kind", "key", "limit", "number"];
     WORDS.get(status as usize).copied().unwrap_or("unknown")
+}
+
+/// The word of a refusal of a call with values.
+fn refusal_of(status: u32) -> &'static str {
+    const WORDS: [&str; 20] = [
+        "ok", "line", "json", "form", "busy", "table", "index", "kind", "row", "key", "id", "range", "full", "spent", "unique", "unique", "depth",
+        "session", "memory", "room",
+    ];
+    WORDS.get(status as usize).copied().unwrap_or("unknown")
+}
+
+/// What a call with values told: a number, or why it was refused.
+fn number_of(told: raw::Told) -> Result<u64, Error> {
+    if told.status == 0 {
+        return Ok(told.number);
+    }
+    Err(Error::Refused(format!("{REFUSAL}{}\",\"ok\":false}}", refusal_of(told.status))))
+}
+
+/// A value of a row.
+#[derive(Clone, Debug, PartialEq, Eq)]
+pub enum Value {
+    Int(i64),
+    Flag(bool),
+    Text(String),
+}
+
+impl From<i64> for Value {
+    fn from(number: i64) -> Value {
+        Value::Int(number)
+    }
+}
+
+impl From<bool> for Value {
+    fn from(flag: bool) -> Value {
+        Value::Flag(flag)
+    }
+}
+
+impl From<&str> for Value {
+    fn from(text: &str) -> Value {
+        Value::Text(text.to_owned())
+    }
+}
+
+/// Values as C takes them, and their texts one behind another.
+fn laid(row: &[Value]) -> (Vec<raw::Cell>, Vec<u8>) {
+    let (mut cells, mut texts) = (Vec::with_capacity(row.len()), Vec::new());
+    for value in row {
+        cells.push(match value {
+            Value::Int(number) => raw::Cell { kind: raw::INT, integer: *number, ..Default::default() },
+            Value::Flag(flag) => raw::Cell { kind: if *flag { raw::TRUE } else { raw::FALSE }, ..Default::default() },
+            Value::Text(text) => raw::Cell { kind: raw::TEXT, at: texts.len(), length: text.len(), ..Default::default() },
+        });
+        if let Value::Text(text) = value {
+            texts.extend_from_slice(text.as_bytes());
+        }
+    }
+    (cells, texts)
+}
+
+/// The value of a cell that was filled, or none.
+fn value_of(cell: &raw::Cell, texts: &[u8]) -> Option<Value> {
+    match cell.kind {
+        raw::INT => Some(Value::Int(cell.integer)),
+        raw::TEXT => Some(Value::Text(String::from_utf8_lossy(&texts[cell.at..cell.at + cell.length]).into_owned())),
+        raw::FALSE | raw::TRUE => Some(Value::Flag(cell.kind == raw::TRUE)),
+        _ => None,
+    }
 }
 
 /// A database of its own tables. It is closed where it is dropped.
@@ -129,9 +200,71 @@ impl Database {
         Ok(reply)
     }
 
+    /// Adds a row, a value for each column, and answers its id. Tables and columns go by their numbers here, from 0 on.
+    pub fn insert(&mut self, table: usize, row: &[Value]) -> Result<u64, Error> {
+        let (cells, texts) = laid(row);
+        // SAFETY: as in `answer`; slices are never null.
+        number_of(unsafe {
+            raw::weltiyo_insert(self.handle.as_ptr(), OWN, table, cells.as_ptr(), cells.len(), texts.as_ptr(), texts.len())
+        })
+    }
+
+    /// Sets another row for an id.
+    pub fn replace(&mut self, table: usize, id: u64, row: &[Value]) -> Result<(), Error> {
+        let (cells, texts) = laid(row);
+        // SAFETY: as in `insert`.
+        number_of(unsafe {
+            raw::weltiyo_replace(self.handle.as_ptr(), OWN, table, id, cells.as_ptr(), cells.len(), texts.as_ptr(), texts.len())
+        })
+        .map(drop)
+    }
+
+    /// Adds a number to a column. Where a unique index refuses the result, nothing changes.
+    pub fn add(&mut self, table: usize, id: u64, column: usize, number: i64) -> Result<(), Error> {
+        // SAFETY: as in `answer`.
+        number_of(unsafe { raw::weltiyo_modify_add(self.handle.as_ptr(), OWN, table, id, column, number, 1) }).map(drop)
+    }
+
+    /// Erases a row.
+    pub fn erase(&mut self, table: usize, id: u64) -> Result<(), Error> {
+        // SAFETY: as in `answer`.
+        number_of(unsafe { raw::weltiyo_erase(self.handle.as_ptr(), OWN, table, id) }).map(drop)
+    }
+
+    /// The row of an id.
+    pub fn get(&mut self, table: usize, id: u64) -> Result<Vec<Value>, Error> {
+        // (what isn't written stays of a kind that there isn't)
+        let mut cells = [raw::Cell { kind: raw::TRUE + 1, ..Default::default() }; raw::ROW_CELLS];
+        let mut texts = vec![0; raw::ROW_TEXTS];
+        // SAFETY: as in `insert`; the slices lie apart.
+        number_of(unsafe {
+            raw::weltiyo_get(self.handle.as_ptr(), table, id, cells.as_mut_ptr(), cells.len(), texts.as_mut_ptr(), texts.len())
+        })?;
+        Ok(cells.iter().map_while(|cell| value_of(cell, &texts)).collect())
+    }
+
+    /// Undoes the newest session. It takes no memory.
+    pub fn undo(&mut self) -> Result<(), Error> {
+        // SAFETY: as in `answer`.
+        number_of(unsafe { raw::weltiyo_undo(self.handle.as_ptr(), OWN) }).map(drop)
+    }
+
+    /// Joins the newest session into the one below.
+    pub fn squash(&mut self) -> Result<(), Error> {
+        // SAFETY: as in `answer`.
+        number_of(unsafe { raw::weltiyo_squash(self.handle.as_ptr(), OWN) }).map(drop)
+    }
+
+    /// Ends the sessions up to the one of this revision, and answers how many: what was done in them can't be undone any more.
+    pub fn commit(&mut self, revision: u64) -> Result<u64, Error> {
+        // SAFETY: as in `answer`.
+        number_of(unsafe { raw::weltiyo_commit(self.handle.as_ptr(), OWN, revision) })
+    }
+
     /// A session for a block: it is undone where it is dropped, unless it was squashed or pushed before.
     pub fn session(&mut self) -> Result<Session<'_>, Error> {
-        self.ask(r#"{"cmd":"start"}"#)?;
+        // SAFETY: as in `answer`.
+        number_of(unsafe { raw::weltiyo_start(self.handle.as_ptr(), OWN) })?;
         Ok(Session { db: self, is_over: false })
     }
 
@@ -159,22 +292,19 @@ pub struct Session<'a> {
 impl Session<'_> {
     /// What was done is left to the session below, or stays where there is none.
     pub fn squash(mut self) -> Result<(), Error> {
-        self.end(r#"{"cmd":"squash"}"#)
+        self.is_over = true;
+        self.db.squash()
     }
 
     /// All of it is undone now.
     pub fn undo(mut self) -> Result<(), Error> {
-        self.end(r#"{"cmd":"undo"}"#)
+        self.is_over = true;
+        self.db.undo()
     }
 
     /// The session stays open behind the block; an undo, a squash or a commit of the database ends it.
     pub fn push(mut self) {
         self.is_over = true;
-    }
-
-    fn end(&mut self, line: &str) -> Result<(), Error> {
-        self.is_over = true;
-        self.db.ask(line).map(drop)
     }
 }
 
@@ -182,7 +312,7 @@ impl Drop for Session<'_> {
     fn drop(&mut self) {
         if !self.is_over {
             // (it takes no memory, so it isn't refused; where the session was ended by a line of the caller's, there is nothing to undo)
-            let _ = self.end(r#"{"cmd":"undo"}"#);
+            let _ = self.db.undo();
         }
     }
 }

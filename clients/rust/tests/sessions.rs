@@ -69,3 +69,26 @@ fn long_replies_come_whole() -> Result<(), Error> {
     assert_eq!(db.ask(r#"{"cmd":"get","id":0}"#)?, wanted);
     Ok(())
 }
+
+#[test]
+fn values_in_place_of_a_line() -> Result<(), Error> {
+    let mut db = Database::open("")?;
+    let ann = db.insert(0, &["ann é".into(), 50.into(), true.into()])?;
+    assert_eq!(db.ask(r#"{"cmd":"get","id":0}"#)?, r#"{"ok":true,"row":{"balance":50,"id":0,"owner":"ann é","vip":true}}"#);
+    assert_eq!(db.insert(0, &["ann é".into(), 1.into(), true.into()]).unwrap_err().word(), "unique");
+    assert_eq!(db.insert(0, &["bob".into(), 1.into()]).unwrap_err().word(), "row");
+    assert_eq!(db.insert(1, &[]).unwrap_err().word(), "table");
+    {
+        let mut session = db.session()?;
+        session.add(0, ann, 1, -60)?;
+        session.replace(0, ann, &["".into(), 1.into(), false.into()])?;
+        assert_eq!(session.get(0, ann)?, ["".into(), 1.into(), false.into()]);
+        session.erase(0, ann)?;
+        assert_eq!(session.get(0, ann).unwrap_err().word(), "id");
+    }
+    assert_eq!(db.get(0, ann)?, ["ann é".into(), 50.into(), true.into()]);
+    assert_eq!(db.undo().unwrap_err().to_string(), r#"{"error":"session","ok":false}"#);
+    db.session()?.push();
+    assert_eq!(db.commit(9)?, 1);
+    Ok(())
+}

@@ -1,0 +1,348 @@
+// The library's calls beside Boost.MultiIndex's own and SQLite's prepared statements, in one process each: embedded SYSTEM LOOP ROWS CALLS
+// SCHEMA.
+//
+// SYSTEM is ours, lines, boost or sqlite: `ours` makes the calls with values, `lines` asks lines of JSON. The table of `accounts.toml` is filled
+// with ROWS rows, and then LOOP is called CALLS times; all systems draw the same numbers. It prints the nanoseconds of the processor that a call
+// took, and a sum of what was seen, which is the same for all. LOOP is one of
+//     insert       adds a row
+//     get          the balance of a row by its id
+//     modify       adds a number to the balance of a row: it moves in two indexes
+//     undone       start, the same, undo: theirs by a copy of the row, SQLite's by a savepoint
+//     sessions     start, undo
+#include "accounts.hpp"
+
+#include <cstdio>
+#include <cstdlib>
+#include <cstring>
+#include <ctime>
+#include <fstream>
+#include <iterator>
+#include <memory>
+#include <string>
+
+#include <sqlite3.h>
+#include <weltiyo.h>
+
+namespace {
+
+[[noreturn]] void stop(const std::string &why) {
+    std::fprintf(stderr, "%s\n", why.c_str());
+    std::exit(1);
+}
+
+struct Random {
+    std::uint64_t state = 1;
+
+    std::uint64_t below(std::uint64_t n) {
+        state = state * 6364136223846793005u + 1442695040888963407u;
+        return (state >> 33) % n;
+    }
+};
+
+class System {
+public:
+    virtual ~System() = default;
+    virtual void insert(const std::string &owner, std::int64_t balance, bool vip) = 0;
+    virtual std::int64_t balance(std::int64_t id) = 0;
+    virtual void add(std::int64_t id, std::int64_t more) = 0;
+    virtual void add_undone(std::int64_t id, std::int64_t more) = 0;
+    virtual void start_and_undo() = 0;
+};
+
+weltiyo_db *opened(const char *schema) {
+    std::ifstream file(schema, std::ios::binary);
+    const std::string text{std::istreambuf_iterator<char>(file), {}};
+    weltiyo_db *db = nullptr;
+    if (text.empty() || weltiyo_open(text.data(), text.size(), 1, &db) != WELTIYO_OK)
+        stop(std::string(schema) + " isn't opened");
+    return db;
+}
+
+class Ours : public System {
+public:
+    explicit Ours(const char *schema) : db_(opened(schema)) {}
+
+    ~Ours() override { weltiyo_close(db_); }
+
+    void insert(const std::string &owner, std::int64_t balance, bool vip) override {
+        const weltiyo_value row[] = {{WELTIYO_TEXT, 0, 0, owner.size()}, {WELTIYO_INT, balance, 0, 0}, {vip ? WELTIYO_TRUE : WELTIYO_FALSE, 0, 0, 0}};
+        well(weltiyo_insert(db_, 1, 0, row, 3, owner.data(), owner.size()));
+    }
+
+    std::int64_t balance(std::int64_t id) override {
+        weltiyo_value row[3];
+        char texts[1024];
+        well(weltiyo_get(db_, 0, static_cast<std::uint64_t>(id), row, 3, texts, sizeof texts));
+        return row[1].integer;
+    }
+
+    void add(std::int64_t id, std::int64_t more) override { well(weltiyo_modify_add(db_, 1, 0, static_cast<std::uint64_t>(id), 1, more, 1)); }
+
+    void add_undone(std::int64_t id, std::int64_t more) override {
+        well(weltiyo_start(db_, 1));
+        add(id, more);
+        well(weltiyo_undo(db_, 1));
+    }
+
+    void start_and_undo() override {
+        well(weltiyo_start(db_, 1));
+        well(weltiyo_undo(db_, 1));
+    }
+
+private:
+    static void well(weltiyo_told told) {
+        if (told.status != 0)
+            stop(weltiyo_refusal_word(told.status));
+    }
+
+    weltiyo_db *db_;
+};
+
+class Lines : public System {
+public:
+    explicit Lines(const char *schema) : db_(opened(schema)) {}
+
+    ~Lines() override { weltiyo_close(db_); }
+
+    void insert(const std::string &owner, std::int64_t balance, bool vip) override {
+        ask("{\"cmd\":\"insert\",\"row\":{\"owner\":\"%s\",\"balance\":%lld,\"vip\":%s}}", owner.c_str(), static_cast<long long>(balance), vip ? "true" : "false");
+    }
+
+    std::int64_t balance(std::int64_t id) override {
+        ask("{\"cmd\":\"get\",\"id\":%lld}", static_cast<long long>(id));
+        return std::strtoll(std::strstr(out_, "\"balance\":") + 10, nullptr, 10);
+    }
+
+    void add(std::int64_t id, std::int64_t more) override {
+        ask("{\"cmd\":\"modify\",\"id\":%lld,\"add\":{\"balance\":%lld},\"rollback\":true}", static_cast<long long>(id), static_cast<long long>(more));
+    }
+
+    void add_undone(std::int64_t id, std::int64_t more) override {
+        ask("{\"cmd\":\"start\"}");
+        add(id, more);
+        ask("{\"cmd\":\"undo\"}");
+    }
+
+    void start_and_undo() override {
+        ask("{\"cmd\":\"start\"}");
+        ask("{\"cmd\":\"undo\"}");
+    }
+
+private:
+    template <class... Words>
+    void ask(const char *line, Words... words) {
+        char text[256];
+        const int length = std::snprintf(text, sizeof text, line, words...);
+        const std::size_t came = weltiyo_ask(db_, 1, text, static_cast<std::size_t>(length), out_, sizeof out_ - 1);
+        out_[came < sizeof out_ ? came : sizeof out_ - 1] = 0;
+        if (!std::strncmp(out_, "{\"error\"", 8))
+            stop(out_);
+    }
+
+    weltiyo_db *db_;
+    char out_[2048];
+};
+
+class Boost : public System {
+public:
+    void insert(const std::string &owner, std::int64_t balance, bool vip) override {
+        if (!ids().insert(Account{next_, owner, balance, vip, arrivals_, arrivals_, arrivals_}).second)
+            stop("unique");
+        next_++, arrivals_++;
+    }
+
+    std::int64_t balance(std::int64_t id) override { return found(id)->balance; }
+
+    void add(std::int64_t id, std::int64_t more) override { put(found(id), more); }
+
+    void add_undone(std::int64_t id, std::int64_t more) override {
+        auto it = found(id);
+        Account old = *it;
+        put(it, more);
+        ids().modify(it, [&](Account &account) { account = std::move(old); });
+        arrivals_--;
+    }
+
+    void start_and_undo() override {}
+
+private:
+    using Ids = Accounts::index<ById>::type;
+
+    Ids &ids() { return accounts_.get<ById>(); }
+
+    Ids::iterator found(std::int64_t id) {
+        auto it = ids().find(id);
+        if (it == ids().end())
+            stop("id");
+        return it;
+    }
+
+    void put(Ids::iterator it, std::int64_t more) {
+        std::int64_t balance;
+        if (__builtin_add_overflow(it->balance, more, &balance))
+            stop("range");
+        const std::int64_t now = arrivals_++;
+        ids().modify(it, [&](Account &account) {
+            account.balance = balance;
+            account.balance_at = account.class_at = now;
+        });
+    }
+
+    Accounts accounts_;
+    std::int64_t next_ = 0, arrivals_ = 0;
+};
+
+class Sqlite : public System {
+public:
+    Sqlite() {
+        if (sqlite3_open(":memory:", &db_) != SQLITE_OK)
+            stop("sqlite3_open");
+        run("create table accounts (id integer primary key, owner text not null unique, balance integer not null, vip integer not null)");
+        run("create index by_balance on accounts (balance)");
+        run("create index by_vip on accounts (vip)");
+        run("create index by_class on accounts (vip desc, balance)");
+        insert_ = prepared("insert into accounts values (?, ?, ?, ?)");
+        get_ = prepared("select owner, balance, vip from accounts where id = ?");
+        add_ = prepared("update accounts set balance = balance + ?2 where id = ?1");
+        start_ = prepared("savepoint s");
+        undo_ = prepared("rollback to s");
+        release_ = prepared("release s");
+        run("begin"); // (so that no change is a transaction of its own)
+    }
+
+    ~Sqlite() override {
+        for (sqlite3_stmt *it : {insert_, get_, add_, start_, undo_, release_})
+            sqlite3_finalize(it);
+        sqlite3_close(db_);
+    }
+
+    void insert(const std::string &owner, std::int64_t balance, bool vip) override {
+        sqlite3_bind_int64(insert_, 1, next_++);
+        sqlite3_bind_text(insert_, 2, owner.data(), static_cast<int>(owner.size()), SQLITE_STATIC);
+        sqlite3_bind_int64(insert_, 3, balance);
+        sqlite3_bind_int(insert_, 4, vip);
+        step(insert_);
+    }
+
+    std::int64_t balance(std::int64_t id) override {
+        sqlite3_bind_int64(get_, 1, id);
+        if (sqlite3_step(get_) != SQLITE_ROW)
+            stop("id");
+        const std::int64_t balance = sqlite3_column_int64(get_, 1);
+        sqlite3_reset(get_);
+        return balance;
+    }
+
+    void add(std::int64_t id, std::int64_t more) override {
+        sqlite3_bind_int64(add_, 1, id);
+        sqlite3_bind_int64(add_, 2, more);
+        step(add_);
+    }
+
+    void add_undone(std::int64_t id, std::int64_t more) override {
+        step(start_);
+        add(id, more);
+        step(undo_);
+        step(release_);
+    }
+
+    void start_and_undo() override {
+        step(start_);
+        step(undo_);
+        step(release_);
+    }
+
+private:
+    void run(const char *sql) {
+        if (sqlite3_exec(db_, sql, nullptr, nullptr, nullptr) != SQLITE_OK)
+            stop(sqlite3_errmsg(db_));
+    }
+
+    sqlite3_stmt *prepared(const char *sql) {
+        sqlite3_stmt *made = nullptr;
+        if (sqlite3_prepare_v2(db_, sql, -1, &made, nullptr) != SQLITE_OK)
+            stop(sqlite3_errmsg(db_));
+        return made;
+    }
+
+    void step(sqlite3_stmt *it) {
+        if (sqlite3_step(it) != SQLITE_DONE)
+            stop(sqlite3_errmsg(db_));
+        sqlite3_reset(it);
+    }
+
+    sqlite3 *db_ = nullptr;
+    sqlite3_stmt *insert_ = nullptr, *get_ = nullptr, *add_ = nullptr, *start_ = nullptr, *undo_ = nullptr, *release_ = nullptr;
+    std::int64_t next_ = 0;
+};
+
+std::unique_ptr<System> made(const std::string &name, const char *schema) {
+    if (name == "ours")
+        return std::make_unique<Ours>(schema);
+    if (name == "lines")
+        return std::make_unique<Lines>(schema);
+    if (name == "boost")
+        return std::make_unique<Boost>();
+    if (name == "sqlite")
+        return std::make_unique<Sqlite>();
+    stop("a system: ours, lines, boost or sqlite");
+}
+
+double on_processor() {
+    timespec now;
+    clock_gettime(CLOCK_PROCESS_CPUTIME_ID, &now);
+    return static_cast<double>(now.tv_sec) * 1e9 + static_cast<double>(now.tv_nsec);
+}
+
+void fill(System &system, std::int64_t from, std::int64_t to, Random &random) {
+    for (std::int64_t n = from; n < to; n++)
+        system.insert("owner " + std::to_string(n), static_cast<std::int64_t>(random.below(1000003)), random.below(10) < 3);
+}
+
+} // namespace
+
+// What callgrind counts alone (--toggle-collect=measured).
+extern "C" __attribute__((noinline)) std::int64_t measured(System &system, const char *loop, std::int64_t rows, std::int64_t calls) {
+    Random random{7};
+    std::int64_t sum = 0;
+    const auto id = [&] { return static_cast<std::int64_t>(random.below(static_cast<std::uint64_t>(rows))); };
+    const auto more = [&] { return static_cast<std::int64_t>(random.below(101)) - 50; };
+    const std::string name = loop;
+    if (name == "insert")
+        fill(system, rows, rows + calls, random);
+    else if (name == "get")
+        for (std::int64_t n = 0; n < calls; n++)
+            sum += system.balance(id());
+    else if (name == "modify")
+        for (std::int64_t n = 0; n < calls; n++) {
+            const std::int64_t it = id();
+            system.add(it, more());
+        }
+    else if (name == "undone")
+        for (std::int64_t n = 0; n < calls; n++) {
+            const std::int64_t it = id();
+            system.add_undone(it, more());
+        }
+    else if (name == "sessions")
+        for (std::int64_t n = 0; n < calls; n++)
+            system.start_and_undo();
+    else
+        stop("a loop: insert, get, modify, undone or sessions");
+    return sum;
+}
+
+int main(int count, char **words) {
+    if (count != 6)
+        stop("embedded SYSTEM LOOP ROWS CALLS SCHEMA");
+    const std::int64_t rows = std::atoll(words[3]), calls = std::atoll(words[4]);
+    const auto system = made(words[1], words[5]);
+    Random random;
+    fill(*system, 0, rows, random);
+    const double began = on_processor();
+    std::int64_t sum = measured(*system, words[2], rows, calls);
+    const double took = (on_processor() - began) / static_cast<double>(calls);
+    for (std::int64_t id = 0; id < rows; id += rows / 100 + 1)
+        sum = sum * 31 + system->balance(id);
+    std::printf("%.1f %lld\n", took, static_cast<long long>(sum));
+    return 0;
+}

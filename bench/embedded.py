@@ -1,0 +1,109 @@
+#!/usr/bin/env python3
+"""Nanoseconds or instructions a call in one process: the library beside Boost.MultiIndex's own calls and SQLite's prepared statements.
+
+    embedded.py [--rows N[,N..]] [--calls N] [--rounds N] [--instructions] [--library FOLDER] [--out FILE]
+
+`embedded.cpp` has the loops. Every system draws the same numbers, and the sums of what they saw must agree. A figure is the least of the
+rounds, by processor time; with --instructions it is what callgrind counts in the loop, one round. The library is that of `make lib`. What
+isn't installed is left out by its name. It prints a table, and writes it as JSON where --out names a file."""
+import argparse
+import json
+import os
+import re
+import shutil
+import subprocess
+import sys
+import tempfile
+
+HERE = os.path.dirname(os.path.realpath(__file__))
+sys.path.insert(0, f"{os.path.dirname(HERE)}/scripts")
+
+import library  # noqa: E402
+
+SCHEMA = f"{HERE}/accounts.toml"
+SYSTEMS = ("ours", "lines", "boost", "sqlite")
+LOOPS = ("insert", "get", "modify", "undone", "sessions")
+NAMES = {
+    "insert": "insert", "get": "get", "modify": "modify a balance", "undone": "start, modify, undo", "sessions": "start, undo",
+}
+LONGEST_RUN = 600
+
+
+def compiled(made, folder):
+    """The program of the loops, linked with the archive."""
+    lacking = [it for it in ("/usr/include/boost/multi_index_container.hpp", "/usr/include/sqlite3.h") if not os.path.isfile(it)]
+    if lacking or not shutil.which("g++"):
+        sys.exit(f"embedded.py: needs g++, libboost-dev and libsqlite3-dev: {', '.join(lacking) or 'g++'} isn't there")
+    to = f"{folder}/embedded"
+    subprocess.run(
+        ["g++", "-std=c++17", "-O2", "-g", f"-I{made}", f"{HERE}/embedded.cpp", f"{made}/libweltiyo.a", "-lsqlite3", "-o", to], check=True)
+    return to
+
+
+def timed(program, system, loop, rows, calls):
+    """Nanoseconds a call, and the sum of what was seen."""
+    ran = subprocess.run([program, system, loop, str(rows), str(calls), SCHEMA], capture_output=True, text=True, timeout=LONGEST_RUN, check=True)
+    took, seen = ran.stdout.split()
+    return float(took), int(seen)
+
+
+def counted(program, system, loop, rows, calls):
+    """Instructions a call in the loop, and the sum of what was seen."""
+    words = ["valgrind", "--tool=callgrind", "--callgrind-out-file=/dev/null", "--collect-atstart=no", "--toggle-collect=measured"]
+    ran = subprocess.run(
+        [*words, program, system, loop, str(rows), str(calls), SCHEMA], capture_output=True, text=True, timeout=LONGEST_RUN, check=True)
+    said = re.search(r"Collected : (\d+)", ran.stderr)
+    return int(said.group(1)) / calls, int(ran.stdout.split()[1])
+
+
+def measured(program, options, rows, loop):
+    """The least figure of each system."""
+    measure = counted if options.instructions else timed
+    least, sums = {}, set()
+    for _ in range(1 if options.instructions else options.rounds):
+        for system in SYSTEMS:
+            if system == "boost" and loop == "sessions":
+                continue  # (nothing is done there)
+            figure, seen = measure(program, system, loop, rows, options.calls)
+            least[system] = min(figure, least.get(system, figure))
+            sums.add(seen)
+    if len(sums) != 1:
+        sys.exit(f"embedded.py: {loop} at {rows} rows: not all saw the same: {sums}")
+    return least
+
+
+def options_of():
+    parser = argparse.ArgumentParser(description=__doc__, formatter_class=argparse.RawDescriptionHelpFormatter)
+    parser.add_argument("--rows", default="10000,100000,1000000")
+    parser.add_argument("--calls", type=int, default=20_000, metavar="N")
+    parser.add_argument("--rounds", type=int, default=3, metavar="N")
+    parser.add_argument("--instructions", action="store_true")
+    parser.add_argument("--library", metavar="FOLDER")
+    parser.add_argument("--out", metavar="FILE")
+    return parser.parse_args()
+
+
+def main():
+    options = options_of()
+    made = os.path.abspath(options.library) if options.library else library.path()
+    if not made:
+        sys.exit("embedded.py: no library is built; `make lib` makes it")
+    unit = "instructions" if options.instructions else "nanoseconds"
+    print(f"{unit} a call, {options.calls} calls\n\n| Rows | Loop | " + " | ".join(SYSTEMS) + " | ours through Boost's |\n|---|---|" + "---|" * (len(SYSTEMS) + 1))
+    found = []
+    with tempfile.TemporaryDirectory(prefix="embedded-bench-") as folder:
+        program = compiled(made, folder)
+        for rows in map(int, options.rows.split(",")):
+            for loop in LOOPS:
+                least = measured(program, options, rows, loop)
+                found.append({"rows": rows, "loop": loop, "unit": unit, **least})
+                ratio = f"{least['ours'] / least['boost']:.2f}" if "boost" in least else "-"
+                print(f"| {rows:,} | {NAMES[loop]} | " + " | ".join(f"{least[it]:,.0f}" if it in least else "-" for it in SYSTEMS) + f" | {ratio} |", flush=True)
+    if options.out:
+        with open(options.out, "w", encoding="utf-8") as file:
+            json.dump(found, file, indent=1)
+    return 0
+
+
+if __name__ == "__main__":
+    sys.exit(main())
