@@ -1,9 +1,8 @@
 -- A row of connections, and what its hub has attached.
-use Rattle.std.proofs.Common.{◌≡◌, ◌⊎◌, inl, inr, ℕ, zero, suc, ◌<◌, List, [], ◌∷◌, ◌++◌, length, map, get_or, Bool, true, false, cond, nat_eq}
-use Rattle.std.proofs.Common.{Option, Some, None, refl, sym, ap, ◌∙◌, subst, arith}
+use Rattle.std.proofs.Common.{◌≡◌, ◌⊎◌, inl, inr, ℕ, zero, suc, ◌<◌, List, [], ◌∷◌, ◌++◌, length, map, Bool, true, false, cond, nat_eq}
+use Rattle.std.proofs.Common.{Some, None, refl, sym, ap, ◌∙◌, subst, arith}
 use Rattle.std.specs.Prelude.{slice_set, slice_index_or}
 use Rattle.std.specs.List.{remove}
-use Rattle.mi_hub.specs.Lines.{Rest}
 use Rattle.mi_hub.specs.Connections.{rest_at, others}
 use Rattle.mi_hub.specs.Run.{HubState, attach, Done}
 use Rattle.mi_hub.specs.declared.connection.Connection.{Connection}

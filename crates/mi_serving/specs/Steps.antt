@@ -1,7 +1,6 @@
 -- What a service does to its hub, one step after another. Connection 2 comes, asks to start a session, and goes away:
 -- comes 2, asks 2 "{\"cmd\":\"start\"}⏎" "{\"ok\":true,\"revision\":1}⏎", undoes 2 "{\"ok\":true,\"revision\":0}⏎", goes 2.
 use Rattle.std.specs.Prelude.{◌≡◌, ℕ, List, [], ◌∷◌, ◌++◌, codes, Option}
-use Rattle.mi_commands.specs.Holder.{HeldDatabase}
 use Rattle.mi_hub.specs.Run.{HubState, Event, attach, piece, cut, Done}
 use Rattle.mi_replay.specs.Acts.{Act}
 use Rattle.mi_replay.specs.RunActs.{ActsOfDone}

@@ -2,7 +2,6 @@
 use Rattle.std.proofs.Common.{◌++◌, ◌∷◌, [], ◌∙◌, refl, ap}
 use Rattle.std.proofs.KnownBytes.{Keeps-refl}
 use Rattle.mi_hub.specs.Connections.{rest_at}
-use Rattle.mi_hub.specs.Run.{HubState}
 use Rattle.mi_ledger.specs.Ledger.{hub_of}
 use Rattle.mi_serving.specs.Steps.{undoes}
 use Rattle.mi_serving.proofs.StepLemmas.{makes_none, makes_then, undo_makes, undo_whole, undos_more, asks_attached}
