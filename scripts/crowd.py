@@ -32,7 +32,7 @@ from journal_walk import Differs
 from service import MOST, Ended, Service
 
 CONNECTIONS, SHORT_CONNECTIONS = 10_000, 300
-STILL = 60
+STILL = 300
 """Seconds in which somebody must be answered."""
 RISE = 16_000
 """What a server's memory may rise by from the first connections to the last, in kB: a little of each place."""

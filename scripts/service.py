@@ -17,7 +17,7 @@ from fuzz import toml
 
 NAME = "mi_service"
 LISTENS = re.compile(rb"127\.0\.0\.1:(\d+)")
-WAIT = 60
+WAIT = 300
 """Seconds that anything may take here that isn't a long replay."""
 MOST = 64
 """Connections that are served at once."""

@@ -152,7 +152,7 @@ class AgainstAStandIn(unittest.TestCase):
 
     def test_none_is_found(self):
         of_crash = [("rounds", "--rounds", "2"), ("tools",)]
-        of_crowd = [("place",), ("comers", "--connections", "120")]
+        of_crowd = [("place",), ("comers", "--connections", "70")]
         for script, words in [*((crash, it) for it in of_crash), *((crowd, it) for it in of_crowd)]:
             status, said = self.ran(script, "", "--part", *words)
             self.assertEqual(status, 0, said)
