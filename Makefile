@@ -7,6 +7,7 @@ PREFIX ?= /usr/local
 SEED ?= 1
 LINES ?= 2000
 SECONDS ?= 30
+FAILURES ?= 200
 CLIENTS ?= 64
 DAMAGED ?= 0.07
 ROWS ?=
@@ -40,6 +41,8 @@ help:
 	@echo 'make crash       the service killed under load, on a disk that forgets what was not synced, with torn and damaged journals and full disks;'
 	@echo '                 then all its places taken by 10,000 clients that come and go (needs crates/mi_service/out/mi_service or MI_SERVICE=FILE;'
 	@echo '                 ARGS=--short is the part that make check-docs runs)'
+	@echo 'make replica-tests  three members of a ledger over three of etcd on this machine: FAILURES=$(FAILURES) failures, and a check that no'
+	@echo '                 acknowledged line is lost or doubled (needs etcd; PROGRAM=FILE takes another program; docs/REPLICATION.md)'
 	@echo 'make rates       lines a second of the service beside the program over standard input, and how long the replay of a journal takes'
 	@echo 'make bench       the program against a Boost.MultiIndex container, SQLite and Redis, into docs/bench (see bench/README.md);'
 	@echo '                 ROWS=1000,10000 are other sizes; QUICK=1 is small, and shows only that all answer alike'
@@ -89,6 +92,9 @@ crash:
 rates:
 	@$(PYTHON) scripts/rates.py $(ARGS)
 
+replica-tests:
+	@$(PYTHON) scripts/replica_test.py --failures $(FAILURES) --seed $(SEED) $(if $(PROGRAM),--program '$(PROGRAM)') $(ARGS)
+
 bench:
 	@$(if $(QUICK),$(PYTHON) -m unittest discover -s bench/tests)
 	@$(PYTHON) bench/run.py $(if $(ROWS),--rows $(ROWS)) $(if $(QUICK),--quick) $(ARGS)
@@ -98,6 +104,7 @@ install:
 	@install -d '$(ROOT)/bin' '$(ROOT)/share/man/man1' '$(ROOT)/share/bash-completion/completions' '$(ROOT)/share/zsh/site-functions'
 	@install -d '$(SHARE)/docs/bench' '$(SHARE)/bench' '$(SHARE)/examples' '$(SHARE)/scripts' '$(SHARE)/clients/python/mi_client' '$(SHARE)/clients/node'
 	@install -m 755 '$(or $(PROGRAM),crates/mi_server/out/mi_server)' '$(ROOT)/bin/mi_server'
+	@$(if $(wildcard crates/mi_service/out/mi_service),install -m 755 crates/mi_service/out/mi_service '$(ROOT)/bin/')
 	@install -m 755 scripts/installed/weltiyo scripts/installed/weltiyo-lint '$(ROOT)/bin/'
 	@install -m 644 docs/man/*.1 '$(ROOT)/share/man/man1/'
 	@for it in mi_server weltiyo weltiyo-lint; do \
@@ -109,8 +116,11 @@ install:
 	@install -m 644 bench/README.md '$(SHARE)/bench/'
 	@install -m 644 examples/* '$(SHARE)/examples/'
 	@install -m 644 scripts/program.py scripts/schema_lint.py $(wildcard scripts/toml_places.py) '$(SHARE)/scripts/'
+	@install -m 644 scripts/journal.py scripts/reference.py $(wildcard scripts/journal_walk.py) '$(SHARE)/scripts/'
 	@install -m 644 $(filter-out %/tests,$(wildcard clients/python/*.*)) '$(SHARE)/clients/python/'
 	@install -m 644 $(wildcard clients/python/mi_client/*.*) '$(SHARE)/clients/python/mi_client/'
+	@install -d '$(SHARE)/clients/python/mi_replica'
+	@install -m 644 $(wildcard clients/python/mi_replica/*.*) '$(SHARE)/clients/python/mi_replica/'
 	@install -m 644 $(wildcard clients/node/*.*) '$(SHARE)/clients/node/'
 	@install -d '$(SHARE)/clients/c' '$(SHARE)/clients/cpp' '$(SHARE)/clients/rust/src' '$(SHARE)/clients/rust/examples'
 	@install -m 644 clients/c/unwind.c '$(SHARE)/clients/c/'

@@ -315,15 +315,15 @@ class Documents:
             self.skipped.append("scripts/crash.py and scripts/crowd.py need the service, which `make service` builds")
         if not shutil.which("etcd"):
             self.skipped.append("scripts/replica_test.py needs etcd, which `apt-get install etcd-server` brings")
-        elif not service.is_there():
-            self.skipped.append("scripts/replica_test.py needs the service, which `make service` builds")
+        elif self.path == program.UNPROVED:
+            self.skipped.append("scripts/replica_test.py needs a program that isn't slow, which `make build` builds")
         else:
-            self.check("scripts/replica_test.py", self.short, "replica_test.py")
+            self.check("scripts/replica_test.py", self.short, "replica_test.py", "--program", self.path)
 
-    def short(self, name):
+    def short(self, name, *words):
         """The short form of a script that has one."""
         env = {**os.environ, "MI_SERVER": self.path}
-        words = [sys.executable, f"{TOP}/scripts/{name}", "--short"]
+        words = [sys.executable, f"{TOP}/scripts/{name}", "--short", *words]
         ran = subprocess.run(words, env=env, stdin=subprocess.DEVNULL, capture_output=True, text=True, timeout=900)
         if ran.returncode:
             raise Differs(ran.stdout + ran.stderr)
