@@ -70,6 +70,7 @@ other_count cs bytes cells others = by (values_in bytes cells) refl
     no : (vs : List Value) → values_in bytes cells ≡ Some vs → (b : Bool) → fits_record cs vs ≡ b → cond b (Some vs) None ≡ None
     no vs e true fits = absurd (others (sym (values_count bytes cells vs e) ∙ record_count cs vs fits))
     no vs e false fits = refl
+
     by : (r : Option (List Value)) → values_in bytes cells ≡ r → option_and_then (if_row cs) r ≡ None
     by None e = refl
     by (Some vs) e = no vs e (fits_record cs vs) refl

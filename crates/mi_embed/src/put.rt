@@ -26,7 +26,12 @@ fn cell_of(at: usize, value: ValueRef<'_>) -> Cell
 
 /// Puts values to the front of cells, and their texts to the front of bytes, from this place on as the cells count. Answers whether there
 /// was room for all; where there wasn't, nothing is said of either.
-pub(crate) fn put_values(values: Values<'_>, cells: &mut [Cell], texts: &mut [u8], at: usize) -> bool
+pub(crate) fn put_values(
+    values: Values<'_>,
+    cells: &mut [Cell],
+    texts: &mut [u8],
+    at: usize,
+) -> bool
     requires { at + length texts.old < 2 ^ 64 }
     ensures room { result ≡ (nat_le (length values.entry) (length cells.old) && nat_le (length (texts_of values.entry)) (length texts.old)) }
     ensures put { IsTrue result → ArePut at values.entry cells.old cells.new texts.old texts.new }

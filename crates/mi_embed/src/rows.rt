@@ -43,7 +43,9 @@ impl Engine {
         if table >= database.catalog().table_count() {
             return Err(Refusal::NoTable);
         }
-        database.get(table, id, &mut Steps::new()).ok_or(Refusal::NoId)
+        database
+            .get(table, id, &mut Steps::new())
+            .ok_or(Refusal::NoId)
     }
 
     /// Puts the record of an id into cells, one for each column, and its texts into bytes, and tells the id. Refusals, in this order:

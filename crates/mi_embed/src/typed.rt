@@ -21,12 +21,7 @@ use std::alloc::Global;
 use std::array;
 
 /// The record that cells are, as many as there are columns. Refusals: `Row` and `Memory`.
-fn packed(
-    alloc: Global,
-    schema: &Schema,
-    cells: &[Cell],
-    texts: &[u8],
-) -> Result<Record, Refusal>
+fn packed(alloc: Global, schema: &Schema, cells: &[Cell], texts: &[u8]) -> Result<Record, Refusal>
     requires few { length cells.now ≤ MAX_COLUMNS }
     ensures row { IsAnswer result (ok_or (row_in schema.now.columns texts.now cells.now) Refusal.Row) }
     ensures fits { IfOk result (λ row. IsTrue (fits_record schema.now.columns row)) }
@@ -44,12 +39,7 @@ fn packed(
 
 /// The record that cells are over the columns of a schema. Refusals: `Row` and `Memory`.
 #[tactic(auto, using(crate::proofs::CellLemmas::other_count))]
-fn row_of(
-    alloc: Global,
-    schema: &Schema,
-    cells: &[Cell],
-    texts: &[u8],
-) -> Result<Record, Refusal>
+fn row_of(alloc: Global, schema: &Schema, cells: &[Cell], texts: &[u8]) -> Result<Record, Refusal>
     ensures row { IsAnswer result (ok_or (row_in schema.now.columns texts.now cells.now) Refusal.Row) }
     ensures fits { IfOk result (λ row. IsTrue (fits_record schema.now.columns row)) }
 {
@@ -86,7 +76,7 @@ impl Engine {
     fn changeable(&self, conn: u64, table: usize) -> Result<&Schema, Refusal>
         ensures { MatchResult result
             (λ schema. (change_refusal self.now.held conn table ≡ None) × HasTable self.now.held.database.catalog table
-                × (schema.now ≡ schema_at self.now.held.database.catalog table))
+            × (schema.now ≡ schema_at self.now.held.database.catalog table))
             (λ e. change_refusal self.now.held conn table ≡ Some e) }
     {
         if self.executor.keeps_out(conn) {

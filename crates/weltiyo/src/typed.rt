@@ -154,7 +154,15 @@ pub unsafe extern "C" fn weltiyo_modify_add(
     requires* { sem 𝓛 (engine_at at engine) }
     ensures* { sem 𝓛 (fex EngineState (λ new. fex (Tells (λ _. 0) (typed.modify_by engine.held conn table id (edit.Add column n) (not (rollback == 0))) result engine new) (λ _. engine_at at new))) }
 {
-    added(&mut *(at as *mut Engine), conn, table, id, column, n, rollback)
+    added(
+        &mut *(at as *mut Engine),
+        conn,
+        table,
+        id,
+        column,
+        n,
+        rollback,
+    )
 }
 
 /// Erases a record.
