@@ -88,11 +88,17 @@ class Talker(threading.Thread):
     def block(self):
         if not self.ask(cmd="start")["ok"]:
             return
+        started = 1
         for _ in range(self._random.randrange(1, 6)):
-            self.ask(cmd="start") if self._random.random() < 0.2 else self.change()
+            if self._random.random() < 0.2:
+                started += self.ask(cmd="start")["ok"]
+            else:
+                self.change()
         end = self._random.random()
         if end < 0.3:
-            self.ask(cmd="undo_all")
+            # (its own alone: a session that was pushed has changes of others, which were acknowledged)
+            for _ in range(started):
+                self.ask(cmd="undo")
         elif end < 0.6:
             while self.ask(cmd="squash")["ok"] and self._random.random() < 0.9:
                 pass
