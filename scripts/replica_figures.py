@@ -9,6 +9,7 @@ BATCHES = (1, 100, 1_000, 0)
 SECONDS = 10.0
 TRIES = 3
 WINDOW = 8_000
+"""So many lines are sent ahead at most, and 16 entries of them."""
 LEASE = "10"
 """So long, since a machine that is busy with measuring may keep a leader waiting."""
 
@@ -20,10 +21,10 @@ def lines(mark):
         yield f'{{"cmd":"insert","row":{{"owner":"o{mark}-{n}","balance":{n % 1000},"vip":false}}}}'
 
 
-def rate(db, members, mark):
+def rate(db, members, batch, mark):
     """Lines a second that were acknowledged, with many sent ahead, and entries a second."""
     first, began, count = members.status(members.leader())["applied"], time.monotonic(), 0
-    for _ in db.ask_lines(lines(mark), WINDOW):
+    for _ in db.ask_lines(lines(mark), min(WINDOW, 16 * batch) if batch else WINDOW):
         count += 1
         if time.monotonic() - began > SECONDS:
             break
@@ -36,7 +37,7 @@ def measured(members, batch):
     for n in range(TRIES):
         try:
             with connect_leader(members.ports, wait=60) as db:
-                return rate(db, members, f"{batch}-{n}")
+                return rate(db, members, batch, f"{batch}-{n}")
         except Ended:
             pass
     return None
