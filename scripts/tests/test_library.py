@@ -21,11 +21,15 @@ PASSED = {
     "usize": ["size_t"],
     "*mut u8": ["weltiyo_db *"],
     "&mut *mut u8": ["weltiyo_db **"],
+    "&[Cell]": ["const weltiyo_value *", "size_t"],
+    "&mut [Cell]": ["weltiyo_value *", "size_t"],
+    "i64": ["int64_t"],
+    "Told": ["weltiyo_told"],
 }
 """What C passes for a parameter of an export."""
 
 EXPORT = re.compile(r'#\[unsafe\(no_mangle\)\]\s+pub (?:unsafe )?extern "C" fn (\w+)\(([^)]*)\)(?: -> (\w+))?')
-PROTOTYPE = re.compile(r"^(uint32_t|size_t|void) (weltiyo_\w+)\(([^)]*)\);", re.M)
+PROTOTYPE = re.compile(r"^(uint32_t|size_t|void|weltiyo_told) (weltiyo_\w+)\(([^)]*)\);", re.M)
 
 
 def read(path):
@@ -36,7 +40,7 @@ def read(path):
 def exports():
     """Each export: its parameters and its result as C passes them."""
     found = {}
-    for name, parameters, result in EXPORT.findall(read("crates/weltiyo/src/lib.rt")):
+    for name, parameters, result in EXPORT.findall(read("crates/weltiyo/src/lib.rt") + read("crates/weltiyo/src/typed.rt")):
         kinds = [it.partition(":")[2].strip() for it in parameters.split(",") if it.strip()]
         found[name] = (PASSED[result][0] if result else "void", [it for kind in kinds for it in PASSED[kind]])
     return found
@@ -51,16 +55,30 @@ def prototypes():
 
 class Agree(unittest.TestCase):
     def test_the_header_has_the_exports(self):
-        self.assertEqual(len(exports()), 6)
+        self.assertEqual(len(exports()), 15)
         self.assertEqual(prototypes(), exports())
 
     def test_the_map_has_the_exports(self):
         self.assertEqual(sorted(re.findall(r"(weltiyo_\w+);", read("clients/c/weltiyo.map"))), sorted(exports()))
 
+    def test_the_words_of_refusals(self):
+        header = read("clients/c/weltiyo.h")
+        word = header[header.index("*weltiyo_refusal_word"):]
+        words = re.findall(r'"(\w+)"', word[:word.index("return status <")])
+        numbered = header[header.index("typedef enum weltiyo_refusal"):header.index("} weltiyo_refusal;")]
+        for name, n in re.findall(r"WELTIYO_(?:REFUSED_|NO_)(\w+) = (\d+)", numbered):
+            self.assertEqual(words[int(n)], {"lost": "unique"}.get(name.lower(), name.lower()))
+        refusals = dict(re.findall(r"Refusal::(\w+)(?: { \.\. })? => (\d+)", read("crates/mi_embed/src/told.rt")))
+        self.assertEqual(sorted(map(int, refusals.values())), list(range(1, 19)))
+        self.assertEqual(int(refusals["NoTable"]), words.index("table"))
+        self.assertEqual(int(refusals["Memory"]), words.index("memory"))
+
     def test_the_words_of_statuses(self):
         header = read("clients/c/weltiyo.h")
-        words = re.findall(r'"(\w+)"', header[header.index("*const words[]"):header.index("return status <")])
-        numbers = {name.lower(): int(n) for name, n in re.findall(r"WELTIYO_(\w+) = (\d+)", header)}
+        word = header[header.index("*weltiyo_word"):]
+        words = re.findall(r'"(\w+)"', word[:word.index("return status <")])
+        statuses = header[header.index("typedef enum weltiyo_status"):header.index("} weltiyo_status;")]
+        numbers = {name.lower(): int(n) for name, n in re.findall(r"WELTIYO_(\w+) = (\d+)", statuses)}
         self.assertEqual(numbers, {word: n for n, word in enumerate(words)})
         rust = read("clients/rust/src/lib.rs")
         self.assertEqual(re.findall(r'"(\w+)"', rust[rust.index("const WORDS"):rust.index("WORDS.get")]), words)
