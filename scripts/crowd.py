@@ -90,7 +90,8 @@ def comers(path, options, folder):
         last = running.memory()
         kept.follow([looked, *crowd.all])
         kept.follow([kept.look(running)])
-    early, most = crowd.memory[0], max(crowd.memory)
+    looks = crowd.memory or [last]  # (of fewer than a hundred there is none before the end)
+    early, most = looks[0], max(looks)
     if max(last, most) > early + RISE:
         raise Differs(f"the server's memory rose from {early} kB to {most} kB, and was {last} kB at the end")
     kinds = ", ".join(f"{n} {it}" for it, n in crowd.kinds.items())

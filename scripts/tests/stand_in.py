@@ -150,6 +150,15 @@ class Service:
             self.selector.register(stream, selectors.EVENT_READ | selectors.EVENT_WRITE, self.clients[self.next])
             self.next += 1
 
+    def watch(self):
+        """Those that come are told while there is a place, so that it doesn't wake for one that waits."""
+        has_place = len(self.clients) < MOST or PLANT == "beyond"
+        is_told = self.listener in self.selector.get_map()
+        if has_place and not is_told:
+            self.selector.register(self.listener, selectors.EVENT_READ, None)
+        elif is_told and not has_place:
+            self.selector.unregister(self.listener)
+
     def gone(self, client):
         """A connection ends or is cut."""
         self.selector.unregister(client.stream)
@@ -207,6 +216,7 @@ class Service:
 
     def turn(self):
         """One poll, and all that it shows."""
+        self.watch()
         busy = any(it.lines and len(it.out) <= BOUND for it in self.clients.values())
         for it in self.clients.values():
             wants = selectors.EVENT_READ * (not it.has_ended and len(it.lines) <= 100 or PLANT == "hoards") | selectors.EVENT_WRITE * bool(it.out)
