@@ -104,7 +104,7 @@ install:
 	@install -d '$(ROOT)/bin' '$(ROOT)/share/man/man1' '$(ROOT)/share/bash-completion/completions' '$(ROOT)/share/zsh/site-functions'
 	@install -d '$(SHARE)/docs/bench' '$(SHARE)/bench' '$(SHARE)/examples' '$(SHARE)/scripts' '$(SHARE)/clients/python/mi_client' '$(SHARE)/clients/node'
 	@install -m 755 '$(or $(PROGRAM),crates/mi_server/out/mi_server)' '$(ROOT)/bin/mi_server'
-	@$(if $(wildcard crates/mi_service/out/mi_service),install -m 755 crates/mi_service/out/mi_service '$(ROOT)/bin/')
+	@if $(PYTHON) scripts/program.py fresh mi_service; then install -m 755 crates/mi_service/out/mi_service '$(ROOT)/bin/'; fi
 	@install -m 755 scripts/installed/weltiyo scripts/installed/weltiyo-lint '$(ROOT)/bin/'
 	@install -m 644 docs/man/*.1 '$(ROOT)/share/man/man1/'
 	@for it in mi_server weltiyo weltiyo-lint; do \
