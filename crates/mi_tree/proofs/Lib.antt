@@ -15,3 +15,4 @@ pub mod RemoveLemmas
 pub mod RotationLemmas
 pub mod WalkLemmas
 pub mod WayLemmas
+pub mod ProbeRankLemmas

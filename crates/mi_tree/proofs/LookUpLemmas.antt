@@ -31,10 +31,10 @@ first_or f (a ∷ A) r C o is = (elim (f a)
       | false ↦ λ h. first_or f A r C o is
     ]) refl
 
-true_false : (b : Bool) → b ≡ true → b ≡ false → ⊥
+pub true_false : (b : Bool) → b ≡ true → b ≡ false → ⊥
 true_false b e f = cc
 
-where_right : (f : Ref → Bool) (xs : List Ref) (r : Ref) (ys : List Ref) → AllWhere f (xs ++ r ∷ ys) → f r ≡ true
+pub where_right : (f : Ref → Bool) (xs : List Ref) (r : Ref) (ys : List Ref) → AllWhere f (xs ++ r ∷ ys) → f r ≡ true
 where_right f [] r ys h = h.0
 where_right f (x ∷ xs) r ys h = where_right f xs r ys h.1
 
@@ -51,11 +51,11 @@ where_left : (f : Ref → Bool) (xs ys : List Ref) → AllWhere f (xs ++ ys) →
 where_left f [] ys h = tt
 where_left f (x ∷ xs) ys h = (h.0, where_left f xs ys h.1)
 
-steady_left : (f : Ref → Bool) (xs ys : List Ref) → IsSteady f (xs ++ ys) → IsSteady f xs
+pub steady_left : (f : Ref → Bool) (xs ys : List Ref) → IsSteady f (xs ++ ys) → IsSteady f xs
 steady_left f [] ys h = tt
 steady_left f (x ∷ xs) ys h = (λ e. where_left f xs ys (h.0 e), steady_left f xs ys h.1)
 
-steady_right : (f : Ref → Bool) (xs ys : List Ref) → IsSteady f (xs ++ ys) → IsSteady f ys
+pub steady_right : (f : Ref → Bool) (xs ys : List Ref) → IsSteady f (xs ++ ys) → IsSteady f ys
 steady_right f [] ys h = h
 steady_right f (x ∷ xs) ys h = steady_right f xs ys h.1
 
@@ -130,7 +130,7 @@ not_here Less h = refl
 not_here Equal h = absurd (h refl)
 not_here Greater h = refl
 
-is_false : (b : Bool) → (b ≡ true → ⊥) → b ≡ false
+pub is_false : (b : Bool) → (b ≡ true → ⊥) → b ≡ false
 is_false true h = absurd (h refl)
 is_false false h = refl
 
@@ -347,7 +347,7 @@ at_most_one None = omega arith
 at_most_one (Some r) = omega arith
 
 module _ {T : Type 0} where
-  size_of_link : (m : Pooled T) (s : ℕ) (o : Option Ref) (y : Link) → y ≡ link_at m s o → y.size ≡ size_at m s o
+  pub size_of_link : (m : Pooled T) (s : ℕ) (o : Option Ref) (y : Link) → y ≡ link_at m s o → y.size ≡ size_at m s o
   size_of_link m s None y e = ap (λ (z : Link). z.size) e
   size_of_link m s (Some r) y e = ap (λ (z : Link). z.size) e
 

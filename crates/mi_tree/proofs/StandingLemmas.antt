@@ -255,6 +255,13 @@ module _ {T O : Type 0} where
   seeks_root {l} {m} {order} strict place mono h =
       (h.shape, h.rooted, tagged_in h, steady order place mono strict m l.slot (nodes h.shape) (rising_in h))
 
+  -- and so may one that counts what it passes
+  pub ranks_root : {l : Tree O} {m : Pooled T} {order : T → T → Ordering} {tag : T → ℕ} {rs : List Ref} (strict : Bool) (place : T → Ordering)
+      → IsMonotone order place → IsTree l m order tag rs
+      → (t : BinaryTree) × IsRooted m l.slot l.root t × (forks t < 2 ^ 32) × AreTagged tag m l.slot (nodes t) × IsSteady (is_past_node strict place m) (nodes t)
+  ranks_root {l} {m} {order} strict place mono h =
+      (h.shape, h.rooted, (can_take h).fits, tagged_in h, steady order place mono strict m l.slot (nodes h.shape) (rising_in h))
+
   -- a walk may begin at the root
   pub enters_root : {l : Tree O} {m : Pooled T} {order : T → T → Ordering} {tag : T → ℕ} {rs : List Ref} (h : IsTree l m order tag rs) (d : Direction)
       → Enters m l.slot d (height h.shape) [] l.root [] h.shape

@@ -1,11 +1,12 @@
 //! Ways down from a node to one below it.
 //! They read links through a counted pool, and change nothing.
-ghost use Rattle.std.specs.Prelude.{◌≡◌, ◌+◌, ◌*◌, ◌<◌, ◌≤◌, ◌∷◌, ◌++◌, List, length};
+ghost use Rattle.std.specs.Prelude.{◌≡◌, ◌+◌, ◌*◌, ◌^◌, ◌<◌, ◌≤◌, ◌∷◌, ◌++◌, List, length};
+ghost use Rattle.std.specs.List.{position_or_len};
 ghost use Rattle.mi_node.specs.Refs.{Ref};
 ghost use Rattle.mi_node.specs.Pool.{IsHeldIf, link_of};
 ghost use Rattle.mi_tree.specs.Sorted.{side, AreTagged, Rising, CanTake};
 ghost use Rattle.mi_tree.specs.Probed.{past, is_past_node, first_where, IsSteady};
-ghost use Rattle.mi_tree.specs.BinaryTree.{BinaryTree, IsRooted, nodes, height, size_at, link_at, links_of, nth_of};
+ghost use Rattle.mi_tree.specs.BinaryTree.{BinaryTree, IsRooted, nodes, forks, height, size_at, link_at, links_of, nth_of};
 
 use crate::compare::{compare_nodes, compare_probe};
 use crate::order::NodeOrder;
@@ -146,6 +147,44 @@ pub(crate) fn seek_in<T, O: NodeOrder<T>>(
         }
     }
     found
+}
+
+/// How many nodes stand in front of the first that the probe isn't after, or with `strict` of the first that it is before; where
+/// there is none, how many there are. Whichever way it goes, it goes on with the link that it has read.
+pub(crate) fn rank_of_probe_in<T, O: NodeOrder<T>>(
+    p: &mut Counted<T>,
+    slot: usize,
+    order: &O,
+    root: Option<NodeRef>,
+    probe: Probe<'_>,
+    strict: bool,
+    steps: &mut Steps,
+) -> u32
+    requires slot { slot < p.old.pool.slots }
+    requires tree { (t : BinaryTree) × IsRooted p.old.pool slot root t × (forks t < 2 ^ 32) × AreTagged (O.tag_of order.now) p.old.pool slot (nodes t)
+        × IsSteady (is_past_node strict (λ v. O.place order.now v probe) p.old.pool) (nodes t) }
+    ensures rank { (t : BinaryTree) → IsRooted p.old.pool slot root t
+        → result ≡ position_or_len (is_past_node strict (λ v. O.place order.now v probe.entry) p.old.pool) (nodes t) }
+    ensures pool { p.new.pool ≡ p.old.pool }
+    ensures reads { (t : BinaryTree) → IsRooted p.old.pool slot root t → p.new.reads ≤ p.old.reads + height t }
+    ensures steps { (t : BinaryTree) → IsRooted p.old.pool slot root t → steps.new.count ≤ steps.old.count + height t }
+{
+    let probe_tag = order.probe_tag(probe);
+    let (mut at, mut before) = (root, 0);
+    let mut link = link_ahead(p, slot, root);
+    while let Some(node) = at {
+        let side = compare_probe(p, order, node, link.tag, probe, probe_tag, steps);
+        if is_past(side, strict) {
+            at = link.back;
+            link = link_ahead(p, slot, link.back);
+        } else {
+            let ahead = link_ahead(p, slot, link.forth);
+            before += link.size - ahead.size;
+            at = link.forth;
+            link = ahead;
+        }
+    }
+    before
 }
 
 fn is_past(side: Ordering, strict: bool) -> bool

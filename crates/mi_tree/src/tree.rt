@@ -1,6 +1,7 @@
 //! The tree: its slot, its order and its root.
 //! It sets links of its own slot alone, owns no node, and never touches a value.
 ghost use Rattle.std.specs.Prelude.{◌≡◌, ℕ, ◌+◌, ◌*◌, ◌^◌, ◌<◌, ◌≤◌, ◌∷◌, ◌++◌, ◌==◌, List, length, take, drop, None, true, false};
+ghost use Rattle.std.specs.List.{position_or_len};
 ghost use Rattle.std.specs.declared.cmp.Ordering.{Ordering as Side};
 ghost use Rattle.mi_node.specs.Pool.{Keeps, link_of};
 ghost use Rattle.mi_node.specs.Refs.{Ref, first_of, last_of};
@@ -10,7 +11,7 @@ ghost use Rattle.mi_tree.specs.Probed.{is_past_node, is_node_at, first_where};
 
 use crate::change::{put_in, take_out};
 use crate::compare::compare_probe;
-use crate::look::{nth_in, rank_in, seek_in};
+use crate::look::{nth_in, rank_in, rank_of_probe_in, seek_in};
 use crate::order::NodeOrder;
 use crate::parts::size;
 use crate::walk::{Direction, Walk};
@@ -187,6 +188,40 @@ impl<O> Tree<O> {
             → (b : ℕ) → length rs < 2 ^ b → steps.new.count ≤ steps.old.count + 2 * b }
     {
         seek_in(p, self.slot, &self.order, self.root, probe, true, steps)
+    }
+
+    /// How many nodes are before the probe: all in front of the first that isn't, in one way down. At most 2b
+    /// comparisons and 2b reads of links.
+    pub fn lower_rank<T>(&self, p: &mut Counted<T>, probe: Probe<'_>, steps: &mut Steps) -> u32
+    where
+        O: NodeOrder<T>,
+        requires { (rs : List Ref) × IsTree self.now p.old.pool (O.order self.now.order) (O.tag_of self.now.order) rs }
+        ensures rank { (rs : List Ref) → IsTree self.now p.old.pool (O.order self.now.order) (O.tag_of self.now.order) rs
+            → result ≡ position_or_len (is_past_node false (λ v. O.place self.now.order v probe.entry) p.old.pool) rs }
+        ensures pool { p.new.pool ≡ p.old.pool }
+        ensures reads { (order : T → T → Side) (tag : T → ℕ) (rs : List Ref) → IsTree self.now p.old.pool order tag rs
+            → (b : ℕ) → length rs < 2 ^ b → p.new.reads ≤ p.old.reads + 2 * b }
+        ensures steps { (order : T → T → Side) (tag : T → ℕ) (rs : List Ref) → IsTree self.now p.old.pool order tag rs
+            → (b : ℕ) → length rs < 2 ^ b → steps.new.count ≤ steps.old.count + 2 * b }
+    {
+        rank_of_probe_in(p, self.slot, &self.order, self.root, probe, false, steps)
+    }
+
+    /// How many nodes aren't after the probe: all in front of the first that is, in one way down. At most 2b
+    /// comparisons and 2b reads of links.
+    pub fn upper_rank<T>(&self, p: &mut Counted<T>, probe: Probe<'_>, steps: &mut Steps) -> u32
+    where
+        O: NodeOrder<T>,
+        requires { (rs : List Ref) × IsTree self.now p.old.pool (O.order self.now.order) (O.tag_of self.now.order) rs }
+        ensures rank { (rs : List Ref) → IsTree self.now p.old.pool (O.order self.now.order) (O.tag_of self.now.order) rs
+            → result ≡ position_or_len (is_past_node true (λ v. O.place self.now.order v probe.entry) p.old.pool) rs }
+        ensures pool { p.new.pool ≡ p.old.pool }
+        ensures reads { (order : T → T → Side) (tag : T → ℕ) (rs : List Ref) → IsTree self.now p.old.pool order tag rs
+            → (b : ℕ) → length rs < 2 ^ b → p.new.reads ≤ p.old.reads + 2 * b }
+        ensures steps { (order : T → T → Side) (tag : T → ℕ) (rs : List Ref) → IsTree self.now p.old.pool order tag rs
+            → (b : ℕ) → length rs < 2 ^ b → steps.new.count ≤ steps.old.count + 2 * b }
+    {
+        rank_of_probe_in(p, self.slot, &self.order, self.root, probe, true, steps)
     }
 
     /// The first node at the probe, if there is one. At most 2b + 1 comparisons and 4b reads of links.
