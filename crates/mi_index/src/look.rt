@@ -1,6 +1,6 @@
 //! What the structure of one index answers. It reads the pool and changes nothing.
 ghost use Rattle.std.specs.Prelude.{◌≡◌, ℕ, ◌+◌, ◌*◌, ◌<◌, ◌≤◌, ◌^◌, List as Seq, ◌∷◌, ◌++◌, None, length, false, true};
-ghost use Rattle.std.specs.List.{filter};
+ghost use Rattle.std.specs.List.{filter, position_or_len};
 ghost use Rattle.mi_node.specs.Refs.{Ref, first_of, last_of};
 ghost use Rattle.mi_tree.specs.BinaryTree.{nth_of};
 ghost use Rattle.mi_tree.specs.Probed.{first_where};
@@ -116,6 +116,32 @@ impl Structure {
         }
     }
 
+    /// How many nodes are before the probe: all in front of the first that isn't. Asked of sorted indexes alone. One look-up: at
+    /// most 2b comparisons for fewer than 2^b nodes.
+    pub fn lower_rank(&self, p: &Pool<Stored>, probe: Probe<'_>, steps: &mut Steps) -> u32
+        requires { (rs : Seq Ref) × Stands self.now p.now rs × look.IsSortedStructure self.now }
+        ensures rank { (rs : Seq Ref) → Stands self.now p.now rs → result ≡ position_or_len (look.is_past false self.now p.now probe.entry) rs }
+        ensures steps { (rs : Seq Ref) → Stands self.now p.now rs → (b : ℕ) → length rs < 2 ^ b → steps.new.count ≤ steps.old.count + 2 * b }
+    {
+        match self {
+            Structure::Sorted(tree) => lower_rank_in_tree(tree, p, probe, steps),
+            Structure::Hashed(_) | Structure::Sequenced(_) => 0,
+        }
+    }
+
+    /// How many nodes aren't behind the probe: all in front of the first that is. Asked of sorted indexes alone. One look-up: at
+    /// most 2b comparisons for fewer than 2^b nodes.
+    pub fn upper_rank(&self, p: &Pool<Stored>, probe: Probe<'_>, steps: &mut Steps) -> u32
+        requires { (rs : Seq Ref) × Stands self.now p.now rs × look.IsSortedStructure self.now }
+        ensures rank { (rs : Seq Ref) → Stands self.now p.now rs → result ≡ position_or_len (look.is_past true self.now p.now probe.entry) rs }
+        ensures steps { (rs : Seq Ref) → Stands self.now p.now rs → (b : ℕ) → length rs < 2 ^ b → steps.new.count ≤ steps.old.count + 2 * b }
+    {
+        match self {
+            Structure::Sorted(tree) => upper_rank_in_tree(tree, p, probe, steps),
+            Structure::Hashed(_) | Structure::Sequenced(_) => 0,
+        }
+    }
+
     /// The first node that has the key of the probe, in the order of the stamps, if there is one. A list has no keys.
     pub fn find(&self, p: &Pool<Stored>, probe: Probe<'_>) -> Option<NodeRef>
         requires { (rs : Seq Ref) × Stands self.now p.now rs }
@@ -226,6 +252,34 @@ fn upper_in_tree(
     ensures steps { (rs : Seq Ref) → Stands (Sorted tree.now) p.now rs → (b : ℕ) → length rs < 2 ^ b → steps.new.count ≤ steps.old.count + 2 * b }
 {
     tree.upper(&mut Counted::new(p), probe, steps)
+}
+
+fn lower_rank_in_tree(
+    tree: &Tree<ByKey>,
+    p: &Pool<Stored>,
+    probe: Probe<'_>,
+    steps: &mut Steps,
+) -> u32
+    requires { (rs : Seq Ref) × Stands (Sorted tree.now) p.now rs }
+    ensures rank { (rs : Seq Ref) → Stands (Sorted tree.now) p.now rs
+        → result ≡ position_or_len (look.is_past false (Sorted tree.now) p.now probe.entry) rs }
+    ensures steps { (rs : Seq Ref) → Stands (Sorted tree.now) p.now rs → (b : ℕ) → length rs < 2 ^ b → steps.new.count ≤ steps.old.count + 2 * b }
+{
+    tree.lower_rank(&mut Counted::new(p), probe, steps)
+}
+
+fn upper_rank_in_tree(
+    tree: &Tree<ByKey>,
+    p: &Pool<Stored>,
+    probe: Probe<'_>,
+    steps: &mut Steps,
+) -> u32
+    requires { (rs : Seq Ref) × Stands (Sorted tree.now) p.now rs }
+    ensures rank { (rs : Seq Ref) → Stands (Sorted tree.now) p.now rs
+        → result ≡ position_or_len (look.is_past true (Sorted tree.now) p.now probe.entry) rs }
+    ensures steps { (rs : Seq Ref) → Stands (Sorted tree.now) p.now rs → (b : ℕ) → length rs < 2 ^ b → steps.new.count ≤ steps.old.count + 2 * b }
+{
+    tree.upper_rank(&mut Counted::new(p), probe, steps)
 }
 
 fn find_in_tree(tree: &Tree<ByKey>, p: &Pool<Stored>, probe: Probe<'_>) -> Option<NodeRef>

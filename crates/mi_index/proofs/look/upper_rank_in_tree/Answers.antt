@@ -1,0 +1,23 @@
+-- How many nodes stand in front of the first past a probe.
+use Rattle.std.proofs.Common.{true, sym, subst, ap, ◌∙◌}
+use Rattle.std.specs.List.{position_or_len}
+use Rattle.mi_order.specs.Orders.{stored_order, stored_tag, place_in}
+use Rattle.mi_index.specs.Standing.{Stands}
+use Rattle.mi_index.specs.declared.structure.Structure.TheVariants.{Sorted}
+use Rattle.mi_tree.specs.Probed.{is_past_node}
+use Rattle.mi_index.proofs.look.upper_rank_in_tree.Goals as goal
+
+pub upper_rank-requires : goal.upper_rank-requires
+upper_rank-requires c = let t = c.args.tree.now in let q = c.requires in (q.0, subst (λ z. Stands (Sorted t) z q.0) (sym c.new.ensures.pool) q.1)
+
+pub returns-clause-rank : goal.returns-clause-rank
+returns-clause-rank c rs h =
+    let t = c.args.tree.now in
+    c.upper_rank.ensures.rank rs (subst (λ z. Stands (Sorted t) z rs) (sym c.new.ensures.pool) h)
+    ∙ ap (λ z. position_or_len (is_past_node true (λ v. place_in t.order.parts v c.args.probe) z) rs) c.new.ensures.pool
+
+pub returns-clause-steps : goal.returns-clause-steps
+returns-clause-steps c rs h b l =
+    let t = c.args.tree.now in
+    c.upper_rank.ensures.steps (stored_order t.order.parts) (stored_tag t.order.types t.order.parts)
+    rs (subst (λ z. Stands (Sorted t) z rs) (sym c.new.ensures.pool) h) b l
