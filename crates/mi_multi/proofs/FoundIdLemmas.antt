@@ -1,8 +1,8 @@
 -- Look-ups in the ids of a list of nodes.
-use Rattle.std.proofs.Common.{◌≡◌, ℕ, ◌+◌, ◌≤◌, zero, suc, Bool, true, false, cond, List, [], ◌∷◌}
+use Rattle.std.proofs.Common.{◌≡◌, ℕ, ◌+◌, ◌≤◌, zero, suc, Bool, true, false, not, cond, List, [], ◌∷◌}
 use Rattle.std.proofs.Common.{◌++◌, map, slice_get, length, refl, ap, sym, ◌∙◌, subst, arith}
 use Rattle.std.specs.Prelude.{◌==◌, IfSome}
-use Rattle.std.specs.List.{AllByRecursion, filter}
+use Rattle.std.specs.List.{AllByRecursion, filter, position_or_len}
 use Rattle.std.specs.Option.{option_map}
 use Rattle.std.specs.declared.option.Option.{Option}
 use Rattle.std.specs.declared.option.Option.TheVariants.{None, Some}
@@ -98,6 +98,11 @@ module _ (idf : Ref → ℕ) where
         | true ↦ refl
         | false ↦ where_ids f p rs all.1
       ]
+
+  pub place_ids : (f : Ref → Bool) (p : ℕ → Bool) (rs : List Ref) → AllByRecursion (λ r. f r ≡ p (idf r)) rs
+      → position_or_len f rs ≡ position_or_len p (map idf rs)
+  place_ids f p [] all = refl
+  place_ids f p (r ∷ rs) all = λ j. cond (not (all.0 j)) (1 + place_ids f p rs all.1 j) 0
 
   -- a node between others
 

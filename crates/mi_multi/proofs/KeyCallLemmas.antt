@@ -1,8 +1,8 @@
 -- What the calls by keys ask of an index and answer, by what contracts see of the container.
-use Rattle.std.proofs.Common.{Bor, ◌≡◌, ◌≢◌, ℕ, ◌+◌, ◌*◌, ◌^◌, ◌<◌, ◌≤◌, zero, suc, Bool, true, false}
-use Rattle.std.proofs.Common.{List, [], ◌∷◌, ◌++◌, length, slice_get, refl, ap, sym, ◌∙◌, subst, arith}
+use Rattle.std.proofs.Common.{Bor, ◌≡◌, ◌≢◌, ℕ, ◌<◌, ◌≤◌, zero, suc, Bool, true, false}
+use Rattle.std.proofs.Common.{List, [], ◌∷◌, ◌++◌, length, slice_get, ap, sym, ◌∙◌, subst, arith}
 use Rattle.std.specs.Prelude.{IsTrue, IfSome}
-use Rattle.std.specs.List.{AllByRecursion, filter}
+use Rattle.std.specs.List.{AllByRecursion, filter, position_or_len}
 use Rattle.std.specs.Option.{option_map}
 use Rattle.std.proofs.lemmas.Bool.{and_parts}
 use Rattle.std.specs.declared.option.Option.{Option}
@@ -13,13 +13,10 @@ use Rattle.mi_value.specs.declared.bound.Probe.TheVariants.{Key}
 use Rattle.mi_catalog.specs.Kinds.{is_hashed}
 use Rattle.mi_catalog.specs.Rules.{is_schema}
 use Rattle.mi_catalog.specs.Shape.{index_at}
-use Rattle.mi_model.specs.Table.{Table, size}
+use Rattle.mi_model.specs.Table.{Table}
 use Rattle.mi_model.specs.View.{view}
 use Rattle.mi_model.specs.LookUp as look
-use Rattle.mi_model.proofs.LookUpLaws.{rank_at}
 use Rattle.mi_model.proofs.NextLaws.{whole_key_long}
-use Rattle.mi_model.proofs.QueryLaws.{lower-le-upper, upper-le-length}
-use Rattle.mi_model.proofs.PlaceLaws.{IsOnce, once_of_each, each_in_view, length-view}
 use Rattle.mi_node.specs.Pool.{Pooled, IsHeld}
 use Rattle.mi_node.specs.Refs.{Ref, first_of}
 use Rattle.mi_tree.specs.Probed.{first_where}
@@ -30,16 +27,15 @@ use Rattle.mi_index.specs.Looks as nodes
 use Rattle.mi_index.specs.Standing.{Stands}
 use Rattle.mi_container.specs.Asked.{IsSorted, IsKeyed, IsHashed, WholeKey}
 use Rattle.mi_container.specs.Data.{as_table}
-use Rattle.mi_ids.specs.IdMap.{live_node, node_if_live}
+use Rattle.mi_ids.specs.IdMap.{live_node}
 use Rattle.mi_multi.specs.Multi.{id_at, IsFor}
 use Rattle.mi_multi.specs.Seen.{Seen, seen_of, AreMulti}
 use Rattle.mi_multi.specs.declared.multi.MultiIndex.TheInside.{Inside}
-use Rattle.mi_multi.proofs.LiveNodeLemmas.{IsLiveRef}
 use Rattle.mi_multi.proofs.IndexNumberLemmas.{Numbered, numbered, reaches}
 use Rattle.mi_multi.proofs.FoundIdLemmas.{all_where, all_first, all_filter, all_behind}
 use Rattle.mi_multi.proofs.LookUpLemmas as known
 use Rattle.mi_multi.proofs.ProbeLemmas as probes
-use Rattle.mi_multi.proofs.CallLemmas.{in_order, there, a as among, ranked, rank_is, count_is, long}
+use Rattle.mi_multi.proofs.CallLemmas.{in_order, there, a as among}
 
 -- nothing stands behind the end
 pub past_end : (ids : List ℕ) (k : ℕ) → slice_get ids k ≡ None → length ids ≤ k
@@ -77,17 +73,12 @@ module _ (i : Inside) (is : AreMulti i) {w : Seen} (seen : seen_of i ≡ w) wher
     found_held f h = subst (λ k. IfSome k (IsHeld m)) (sym (h rs n.stood.stands)) (all_where (IsHeld m) f rs alls)
 
     -- the node that a search finds is held
+    pub past_held : (past : Bool) (k : Bor (List Value)) {o : Option Ref}
+        → ((qs : List Ref) → Stands y m qs → o ≡ first_where (nodes.is_past past y m (Key k)) qs) → IfSome o (IsHeld m)
+    past_held past k h = found_held (nodes.is_past past y m (Key k)) h
+
     pub sought_held : (q : Probe) {o : Option Ref} → ((qs : List Ref) → Stands y m qs → o ≡ first_where (nodes.has_sought y m q) qs) → IfSome o (IsHeld m)
     sought_held q h = found_held (nodes.has_sought y m q) h
-
-    -- what is found is a live node
-    found_live : (f : Ref → Bool) {o : Option Ref} (r : Ref) → o ≡ Some r
-        → ((qs : List Ref) → Stands y m qs → o ≡ first_where f qs) → live_node i.ids.entries (id_at m r) ≡ Some r
-    found_live f {o} r is_ h =
-        let one : IfSome o (IsLiveRef i.ids.entries m) = subst (λ k. IfSome k (IsLiveRef i.ids.entries m))
-        (sym (h rs n.stood.stands)) (all_where (IsLiveRef i.ids.entries m) f rs n.stood.live.rows) in
-        let live : IsLiveRef i.ids.entries m r = subst (λ k. IfSome k (IsLiveRef i.ids.entries m)) is_ one in
-        ap node_if_live live
 
     -- how many have a smaller key, or also those that have it
     abbrev pub rank_past : Bool → List Value → ℕ
@@ -109,52 +100,19 @@ module _ (i : Inside) (is : AreMulti i) {w : Seen} (seen : seen_of i ≡ w) wher
         (subst (λ (v : Seen). IsSorted v.shape x) (sym seen) sorted) (in_order i is seen x at sorted).2
         ∙ ap (λ (v : Seen). look.upper v.shape (as_table v.plain) x k.now) seen
 
-    -- the rank of the node at a place, and the number of all where there is none
-
-    once : IsOnce (view w.shape t x)
-    once = subst (λ (v : Seen). IsOnce (view v.shape (as_table v.plain) x)) seen
-        (once_of_each (as_table (seen_of i).plain) (view i.schema (as_table (seen_of i).plain) x)
-        (each_in_view i.schema (as_table (seen_of i).plain) x is.is_data.table n.few))
-
-    past_within : (past : Bool) (key : List Value) → rank_past past key ≤ length (view w.shape t x)
-    past_within false key = let a = lower-le-upper w.shape t x key in let b = upper-le-length w.shape t x key in omega arith
-    past_within true key = upper-le-length w.shape t x key
-
-    module _ (sorted : IsSorted w.shape x) (past : Bool) (k : Bor (List Value)) {o : Option Ref}
-        (h : (qs : List Ref) → Stands y m qs → o ≡ first_where (nodes.is_past past y m (Key k)) qs) where
-      pub past_held : IfSome o (IsHeld m)
-      past_held = found_held (nodes.is_past past y m (Key k)) h
-
-      -- the node that is found is a row's
-      found : {r : Ref} → o ≡ Some r → live_node i.ids.entries (id_at m r) ≡ Some r
-      found {r} is_ = found_live (nodes.is_past past y m (Key k)) r is_ h
-
-      pub past_ranked : {r : Ref} → o ≡ Some r → (xs : List Ref) × (ys : List Ref) × Stands y m (xs ++ r ∷ ys) × nodes.IsSortedStructure y
-      past_ranked {r} is_ = ranked i is seen x at (id_at m r) refl (found is_) sorted
-
-      pub past_rank : {r : Ref} → o ≡ Some r → {j : ℕ} → ((xs ys : List Ref) → Stands y m (xs ++ r ∷ ys) → j ≡ length xs) → j ≡ rank_past past k.now
-      past_rank {r} is_ rank =
-          rank_is i is seen x at (id_at m r) refl (found is_) rank
-          ∙ rank_at (rank_past past k.now) (id_at m r) (view w.shape t x) once (sym (past_is sorted past k h) ∙ ap (option_map (id_at m)) is_)
-
-      pub past_count : o ≡ None → {j : ℕ} → ((qs : List Ref) → Stands y m qs → j ≡ length qs) → j ≡ rank_past past k.now
-      past_count none {j} count =
-          let all : j ≡ size t = count_is i is seen x at count in
-          let long : length (view w.shape t x) ≡ size t = subst (λ (v : Seen). length (view v.shape (as_table v.plain) x) ≡ size (as_table v.plain))
-          seen (length-view i.schema (as_table (seen_of i).plain) x is.is_data.table n.few) in
-          let least : length (view w.shape t x) ≤ rank_past past k.now =
-          past_end (view w.shape t x) (rank_past past k.now) (sym (past_is sorted past k h) ∙ ap (option_map (id_at m)) none) in
-          let most : rank_past past k.now ≤ length (view w.shape t x) = past_within past k.now in
-          omega arith
-
-    -- two look-ups one after the other
-    pub both_looks : (old : ℕ) {mid new : ℕ} → ((qs : List Ref) → Stands y m qs → (b : ℕ) → length qs < 2 ^ b → mid ≤ old + 2 * b)
-        → ((qs : List Ref) → Stands y m qs → (b : ℕ) → length qs < 2 ^ b → new ≤ mid + 2 * b)
-        → (b : ℕ) → size t < 2 ^ b → new ≤ old + 2 * (2 * b + 1)
-    both_looks old {mid} {new} g h b l =
-        let less : length rs < 2 ^ b = subst (λ k. k < 2 ^ b) (sym (long i is seen x at)) l in
-        let one : mid ≤ old + 2 * b = g rs n.stood.stands b less in
-        let two : new ≤ mid + 2 * b = h rs n.stood.stands b less in omega arith
+    -- as many stand in front of it
+    pub past_rank : IsSorted w.shape x → (past : Bool) (k : Bor (List Value)) {j : ℕ}
+        → ((qs : List Ref) → Stands y m qs → j ≡ position_or_len (nodes.is_past past y m (Key k)) qs) → j ≡ rank_past past k.now
+    past_rank sorted false k h =
+        h rs n.stood.stands
+        ∙ probes.lower_placed i.schema i.ids.entries m items i.next i.arrivals is x y n k
+        (subst (λ (v : Seen). IsSorted v.shape x) (sym seen) sorted) (in_order i is seen x at sorted).2
+        ∙ ap (λ (v : Seen). look.lower_rank v.shape (as_table v.plain) x k.now) seen
+    past_rank sorted true k h =
+        h rs n.stood.stands
+        ∙ probes.upper_placed i.schema i.ids.entries m items i.next i.arrivals is x y n k
+        (subst (λ (v : Seen). IsSorted v.shape x) (sym seen) sorted) (in_order i is seen x at sorted).2
+        ∙ ap (λ (v : Seen). look.upper_rank v.shape (as_table v.plain) x k.now) seen
 
     -- whole keys
 

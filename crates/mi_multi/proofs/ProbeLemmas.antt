@@ -1,8 +1,8 @@
 -- What a key finds in an index.
-use Rattle.std.proofs.Common.{Bor, ◌≡◌, ℕ, ◌<◌, zero, suc, Bool, true, false, cond, not, ◌&&◌, List, []}
+use Rattle.std.proofs.Common.{Bor, ◌≡◌, ℕ, ◌+◌, ◌<◌, zero, suc, Bool, true, false, cond, not, ◌&&◌, List, []}
 use Rattle.std.proofs.Common.{◌∷◌, ◌++◌, slice_get, get_or, length, refl, ap, sym, ◌∙◌, subst, arith}
 use Rattle.std.specs.Prelude.{◌≢◌}
-use Rattle.std.specs.List.{AllByRecursion, filter, list_all}
+use Rattle.std.specs.List.{AllByRecursion, filter, list_all, position_or_len}
 use Rattle.std.specs.Option.{option_map}
 use Rattle.std.specs.Ordering.{is_lt, is_eq, is_gt, is_ge, nat_cmp, ordering_reverse}
 use Rattle.std.specs.Cmp.{IsTotalOrder, tied_itself}
@@ -51,7 +51,7 @@ use Rattle.mi_multi.proofs.ViewLemmas.{row_at, node_of_row}
 use Rattle.mi_multi.proofs.AnswerLemmas.{live_is}
 use Rattle.mi_multi.proofs.NeighbourLemmas.{filter_append, filter_eq, lacks_filter}
 use Rattle.mi_multi.proofs.ListLemmas.{itself, filter_ids}
-use Rattle.mi_multi.proofs.FoundIdLemmas.{where_ids, all_before, all_behind, after_middle}
+use Rattle.mi_multi.proofs.FoundIdLemmas.{where_ids, place_ids, all_before, all_behind, after_middle}
 use Rattle.mi_multi.proofs.LookUpLemmas.{Among, among, ids_shown}
 
 -- The first for which something no longer holds
@@ -75,6 +75,21 @@ module _ (order : ℕ → ℕ → Ordering) (p : ℕ → Bool) (began : (a b : �
       let none : filter p ids ≡ [] = none_pass p ids (each (λ b l. failed a b isnt l) ids up.0) in
       ap (λ b. slice_get (cond (not b) (a ∷ filter (λ k. not (p k)) ids) (filter (λ k. not (p k)) ids)) 0) isnt
       ∙ sym (ap (λ b. slice_get (a ∷ ids) (length (cond b (a ∷ filter p ids) (filter p ids)))) isnt ∙ ap (λ (k : List ℕ). slice_get (a ∷ ids) (length k)) none))
+
+  -- it stands behind those for which it holds
+  place_past : (ids : List ℕ) → Ascends order ids → position_or_len (λ a. not (p a)) ids ≡ length (filter p ids)
+  place_past [] up = refl
+  place_past (a ∷ ids) up =
+      both_ways (p a)
+      (λ yes.
+      let rest : position_or_len (λ k. not (p k)) ids ≡ length (filter p ids) = place_past ids up.1 in
+      let more : 1 + position_or_len (λ k. not (p k)) ids ≡ suc (length (filter p ids)) = omega arith in
+      ap (λ b. cond (not (not b)) (1 + position_or_len (λ k. not (p k)) ids) 0) yes ∙ more
+      ∙ sym (ap (λ b. length (cond b (a ∷ filter p ids) (filter p ids))) yes))
+      (λ isnt.
+      let none : filter p ids ≡ [] = none_pass p ids (each (λ b l. failed a b isnt l) ids up.0) in
+      ap (λ b. cond (not (not b)) (1 + position_or_len (λ k. not (p k)) ids) 0) isnt
+      ∙ sym (ap (λ b. length (cond b (a ∷ filter p ids) (filter p ids))) isnt ∙ ap (λ (k : List ℕ). length k) none))
 
 -- Keys along an order
 
@@ -204,6 +219,26 @@ module _ (s : Shape) (ids : FinMap nat_cmp IdEntry) (m : Pooled Stored) (xs : Li
         ∙ ap (λ l. slice_get (filter (λ id. not (p id)) l) 0) shown_ids
         ∙ first_past (compare_ids i t) p (λ a b up yes. ge_back _ _ (falls i t k.now a b up) yes) (view s t x) (view_ascends s t x sorts)
         ∙ ap (slice_get (view s t x)) (length-filter p (view s t x))
+
+    pub lower_placed : IsSorted s x → nodes.IsSortedStructure y → position_or_len (nodes.is_past false y m (Key k)) rs ≡ look.lower_rank s t x k.now
+    lower_placed sorts sorted =
+        let p : ℕ → Bool = λ id. is_gt (compare_to_id i t k.now id) in
+        place_ids (id_at m) (nodes.is_past false y m (Key k)) (λ id. not (p id)) rs
+        (each_of (λ q. nodes.is_past false y m (Key k) q ≡ not (p (id_at m q)))
+        (λ q live. past_is false y n.stood.for_ sorted q live ∙ past_lower (compare_to_id i t k.now (id_at m q))) rs n.stood.live.rows)
+        ∙ ap (λ l. position_or_len (λ id. not (p id)) l) shown_ids
+        ∙ place_past (compare_ids i t) p (λ a b up yes. gt_back _ _ (falls i t k.now a b up) yes) (view s t x) (view_ascends s t x sorts)
+        ∙ length-filter p (view s t x)
+
+    pub upper_placed : IsSorted s x → nodes.IsSortedStructure y → position_or_len (nodes.is_past true y m (Key k)) rs ≡ look.upper_rank s t x k.now
+    upper_placed sorts sorted =
+        let p : ℕ → Bool = λ id. is_ge (compare_to_id i t k.now id) in
+        place_ids (id_at m) (nodes.is_past true y m (Key k)) (λ id. not (p id)) rs
+        (each_of (λ q. nodes.is_past true y m (Key k) q ≡ not (p (id_at m q)))
+        (λ q live. past_is true y n.stood.for_ sorted q live ∙ past_upper (compare_to_id i t k.now (id_at m q))) rs n.stood.live.rows)
+        ∙ ap (λ l. position_or_len (λ id. not (p id)) l) shown_ids
+        ∙ place_past (compare_ids i t) p (λ a b up yes. ge_back _ _ (falls i t k.now a b up) yes) (view s t x) (view_ascends s t x sorts)
+        ∙ length-filter p (view s t x)
 
   -- Whole keys
 

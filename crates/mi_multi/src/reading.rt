@@ -160,36 +160,28 @@ impl MultiIndex {
         id_of(&self.nodes.pool, node)
     }
 
-    /// How many records of an ordered or ranked index have a key less than a key or the first values of one. At most two
-    /// look-ups.
+    /// How many records of an ordered or ranked index have a key less than a key or the first values of one. At most one
+    /// look-up.
     pub fn lower_rank(&self, index: usize, key: &[Value], steps: &mut Steps) -> u64
         requires index { IsSorted self.now.shape index }
         requires key { KeyPrefix self.now.shape index key.now }
         ensures rank { result ≡ look.lower_rank self.now.shape (as_table self.now.plain) index key.now }
-        ensures steps { (b : ℕ) → size_of (as_table self.now.plain) < 2 ^ b → steps.new.count ≤ steps.old.count + 2 * (2 * b + 1) }
+        ensures steps { (b : ℕ) → size_of (as_table self.now.plain) < 2 ^ b → steps.new.count ≤ steps.old.count + (2 * b + 1) }
     {
         let structure = structure_at(&self.nodes, index);
-        let first = structure.lower(&self.nodes.pool, Probe::Key(key), steps);
-        match first {
-            Some(node) => structure.rank(&self.nodes.pool, node, steps) as u64,
-            None => node_count(structure, &self.nodes.pool) as u64,
-        }
+        structure.lower_rank(&self.nodes.pool, Probe::Key(key), steps) as u64
     }
 
     /// How many records of an ordered or ranked index have a key not greater than a key or the first values of one. At most
-    /// two look-ups.
+    /// one look-up.
     pub fn upper_rank(&self, index: usize, key: &[Value], steps: &mut Steps) -> u64
         requires index { IsSorted self.now.shape index }
         requires key { KeyPrefix self.now.shape index key.now }
         ensures rank { result ≡ look.upper_rank self.now.shape (as_table self.now.plain) index key.now }
-        ensures steps { (b : ℕ) → size_of (as_table self.now.plain) < 2 ^ b → steps.new.count ≤ steps.old.count + 2 * (2 * b + 1) }
+        ensures steps { (b : ℕ) → size_of (as_table self.now.plain) < 2 ^ b → steps.new.count ≤ steps.old.count + (2 * b + 1) }
     {
         let structure = structure_at(&self.nodes, index);
-        let first = structure.upper(&self.nodes.pool, Probe::Key(key), steps);
-        match first {
-            Some(node) => structure.rank(&self.nodes.pool, node, steps) as u64,
-            None => node_count(structure, &self.nodes.pool) as u64,
-        }
+        structure.upper_rank(&self.nodes.pool, Probe::Key(key), steps) as u64
     }
 
     /// The first id of a whole key in an index with keys, or none. Takes no memory.

@@ -12,7 +12,7 @@ lower-node-requires c = in_order c.self.inside c.self.invariant c.self.view_is c
 
 pub id_of-requires : goal.id_of-requires
 id_of-requires c =
-    past_held c.self.inside c.self.invariant c.self.view_is c.args.index c.structure_at-structure.ensures c.requires.index false c.args.key
+    past_held c.self.inside c.self.invariant c.self.view_is c.args.index c.structure_at-structure.ensures false c.args.key
     c.lower-node.ensures.node
 
 pub returns-clause-id : goal.returns-clause-id
