@@ -1,5 +1,5 @@
 -- What a probe finds in a list of nodes.
-use Rattle.std.specs.Prelude.{◌≡◌, Bool, true, false, cond, not, List, [], ◌∷◌, Option, Some, None}
+use Rattle.std.specs.Prelude.{◌≡◌, ℕ, Bool, true, false, cond, not, List, [], ◌∷◌, Option, Some, None}
 use Rattle.std.specs.declared.cmp.Ordering.{Ordering}
 use Rattle.std.specs.declared.cmp.Ordering.TheVariants.{Less, Equal, Greater}
 use Rattle.std.specs.Ordering.{is_eq}
@@ -11,6 +11,11 @@ abbrev pub past : Bool → Ordering → Bool
 past strict Less = false
 past strict Equal = not strict
 past strict Greater = true
+
+-- a probe has a tag, which says all of its key
+abbrev pub is_decided : (ℕ → Bool) → Option ℕ → Bool
+is_decided exact None = false
+is_decided exact (Some tag) = exact tag
 
 module _ {T : Type 0} where
   -- where a value stands, if there is one

@@ -38,7 +38,10 @@ pub(crate) fn put_in<T, O: NodeOrder<T>>(
         ..NO_LINK
     };
     let mut way = ArrayVec::new();
-    go_in(p, slot, order, above.back, node, tag, &mut way, steps);
+    let decided = order.decides(tag.key);
+    go_in(
+        p, slot, order, above.back, node, tag, decided, &mut way, steps,
+    );
     climb(p, slot, above.back, Some(node), &mut way)
 }
 
@@ -105,7 +108,10 @@ pub(crate) fn take_out<T, O: NodeOrder<T>>(
         ..NO_LINK
     };
     let mut way = ArrayVec::new();
-    go_to(p, slot, order, above.back, node, tag, &mut way, steps);
+    let decided = order.decides(tag.key);
+    go_to(
+        p, slot, order, above.back, node, tag, decided, &mut way, steps,
+    );
     let link = p.link(node, slot);
     let below = append(p, slot, link.back, link.forth);
     replace(p, slot, above.back, below, link.height, &mut way)

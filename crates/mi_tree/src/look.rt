@@ -8,7 +8,7 @@ ghost use Rattle.mi_tree.specs.Sorted.{side, AreTagged, Rising, CanTake};
 ghost use Rattle.mi_tree.specs.Probed.{past, is_past_node, first_where, IsSteady};
 ghost use Rattle.mi_tree.specs.BinaryTree.{BinaryTree, IsRooted, nodes, forks, height, size_at, link_at, links_of, nth_of};
 
-use crate::compare::{compare_nodes, compare_probe};
+use crate::compare::{compare_nodes, compare_probe, probe_decides};
 use crate::order::NodeOrder;
 use mi_node::{Counted, Link, NO_LINK, NodeRef, Tag};
 use mi_value::{Probe, Steps};
@@ -100,10 +100,11 @@ pub(crate) fn rank_in<T, O: NodeOrder<T>>(
     ensures reads { (t : BinaryTree) → IsRooted p.old.pool slot root t → p.new.reads ≤ p.old.reads + 2 * height t }
     ensures steps { (t : BinaryTree) → IsRooted p.old.pool slot root t → steps.new.count ≤ steps.old.count + height t }
 {
+    let decided = order.decides(tag.key);
     let (mut at, mut before) = (root, 0);
     while let Some(here) = at {
         let link = p.link(here, slot);
-        match compare_nodes(p, order, node, tag, here, link.tag, steps) {
+        match compare_nodes(p, order, node, tag, decided, here, link.tag, steps) {
             Ordering::Less => at = link.back,
             Ordering::Equal => return before + size(p, slot, link.back),
             Ordering::Greater => {
@@ -135,10 +136,11 @@ pub(crate) fn seek_in<T, O: NodeOrder<T>>(
     ensures steps { (t : BinaryTree) → IsRooted p.old.pool slot root t → steps.new.count ≤ steps.old.count + height t }
 {
     let probe_tag = order.probe_tag(probe);
+    let decided = probe_decides::<T, O>(order, probe_tag);
     let (mut at, mut found) = (root, None);
     while let Some(node) = at {
         let link = p.link(node, slot);
-        let side = compare_probe(p, order, node, link.tag, probe, probe_tag, steps);
+        let side = compare_probe(p, order, node, link.tag, probe, probe_tag, decided, steps);
         if is_past(side, strict) {
             found = Some(node);
             at = link.back;
@@ -170,10 +172,11 @@ pub(crate) fn rank_of_probe_in<T, O: NodeOrder<T>>(
     ensures steps { (t : BinaryTree) → IsRooted p.old.pool slot root t → steps.new.count ≤ steps.old.count + height t }
 {
     let probe_tag = order.probe_tag(probe);
+    let decided = probe_decides::<T, O>(order, probe_tag);
     let (mut at, mut before) = (root, 0);
     let mut link = link_ahead(p, slot, root);
     while let Some(node) = at {
-        let side = compare_probe(p, order, node, link.tag, probe, probe_tag, steps);
+        let side = compare_probe(p, order, node, link.tag, probe, probe_tag, decided, steps);
         if is_past(side, strict) {
             at = link.back;
             link = link_ahead(p, slot, link.back);

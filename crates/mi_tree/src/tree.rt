@@ -10,7 +10,7 @@ ghost use Rattle.mi_tree.specs.Sorted.{side_of_new, IsPutIn};
 ghost use Rattle.mi_tree.specs.Probed.{is_past_node, is_node_at, first_where};
 
 use crate::change::{put_in, take_out};
-use crate::compare::compare_probe;
+use crate::compare::{compare_probe, probe_decides};
 use crate::look::{nth_in, rank_in, rank_of_probe_in, seek_in};
 use crate::order::NodeOrder;
 use crate::parts::size;
@@ -246,7 +246,8 @@ impl<O> Tree<O> {
             return None;
         };
         let (tag, probe_tag) = (p.link(node, self.slot).tag, self.order.probe_tag(probe));
-        match compare_probe(p, &self.order, node, tag, probe, probe_tag, steps) {
+        let decided = probe_decides::<T, O>(&self.order, probe_tag);
+        match compare_probe(p, &self.order, node, tag, probe, probe_tag, decided, steps) {
             Ordering::Equal => Some(node),
             _ => None,
         }

@@ -122,7 +122,10 @@ impl Walk {
         ensures steps { (t : BinaryTree) → IsRooted p.old.pool slot root t → steps.new.count ≤ steps.old.count + height t }
     {
         let mut path = ArrayVec::new();
-        find_down(p, slot, direction, order, root, node, tag, &mut path, steps);
+        let decided = order.decides(tag.key);
+        find_down(
+            p, slot, direction, order, root, node, tag, decided, &mut path, steps,
+        );
         Walk {
             slot,
             direction,
@@ -217,11 +220,13 @@ fn find_down<T, O: NodeOrder<T>>(
     at: Option<NodeRef>,
     node: NodeRef,
     tag: Tag,
+    decided: bool,
     path: &mut Path,
     steps: &mut Steps,
 )
     requires slot { slot < p.old.pool.slots }
     requires tag { tag ≡ (link_of p.old.pool node.name slot).tag }
+    requires decided { decided ≡ O.is_exact order.now tag.key }
     requires way { (levels : ℕ) × (xs : List Pending) × (t : BinaryTree) × (vs : List Ref) × (ws : List Ref)
         × Enters p.old.pool slot direction levels path.old.items at xs t × CanTake p.old.pool slot at t
         × Rising (side (O.order order.now) p.old.pool slot) (nodes t) × AreTagged (O.tag_of order.now) p.old.pool slot (nodes t) × (nodes t ≡ vs ++ node ∷ ws) }
@@ -236,16 +241,18 @@ fn find_down<T, O: NodeOrder<T>>(
 {
     let Some(root) = at else { unreachable!() };
     let link = p.link(root, slot);
-    match compare_nodes(p, order, node, tag, root, link.tag, steps) {
+    match compare_nodes(p, order, node, tag, decided, root, link.tag, steps) {
         Ordering::Less => {
             push_if(path, root, direction.is_ascending());
-            find_down(p, slot, direction, order, link.back, node, tag, path, steps);
+            find_down(
+                p, slot, direction, order, link.back, node, tag, decided, path, steps,
+            );
         }
         Ordering::Equal => push_if(path, root, true),
         Ordering::Greater => {
             push_if(path, root, !direction.is_ascending());
             find_down(
-                p, slot, direction, order, link.forth, node, tag, path, steps,
+                p, slot, direction, order, link.forth, node, tag, decided, path, steps,
             );
         }
     }

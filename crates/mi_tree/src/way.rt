@@ -28,7 +28,7 @@ pub(crate) struct Turn {
 pub(crate) type Way = ArrayVec<Turn, MAX_LEVELS>;
 
 /// Goes down to where a node of that tag belongs, which no node there compares Equal to, and puts each
-/// node on the way onto the way. Each gets a size that is one greater: a node is about to stand below it.
+/// node on the way onto the way. `decided` says whether the tag decides, which is asked once for the way. Each gets a size that is one greater: a node is about to stand below it.
 ///
 /// Its size is read again right before it is set: the compiler then adds to it in its place.
 pub(crate) fn go_in<T, O: NodeOrder<T>>(
@@ -38,11 +38,13 @@ pub(crate) fn go_in<T, O: NodeOrder<T>>(
     at: Option<NodeRef>,
     node: NodeRef,
     tag: Tag,
+    decided: bool,
     way: &mut Way,
     steps: &mut Steps,
 )
     requires slot { slot < p.old.slots }
     requires tag { tag ≡ (link_of p.old node.name slot).tag }
+    requires decided { decided ≡ O.is_exact order.now tag.key }
     requires way { (fs : List Frame) × (t : BinaryTree)
         × Falls p.old slot (side (O.order order.now) p.old slot) (O.tag_of order.now) way.old.items at node fs t }
     ensures slots { p.new.slots ≡ p.old.slots }
@@ -53,13 +55,22 @@ pub(crate) fn go_in<T, O: NodeOrder<T>>(
         return;
     };
     let seen = p.link(here, slot);
-    let side = compare_nodes(&Counted::new(p), order, node, tag, here, seen.tag, steps);
+    let side = compare_nodes(
+        &Counted::new(p),
+        order,
+        node,
+        tag,
+        decided,
+        here,
+        seen.tag,
+        steps,
+    );
     let left = side.is_lt();
     let link = p.link(here, slot);
     let next = p.neighbour(here, slot, left);
     p.set_size(here, slot, link.size + 1);
     way.push(Turn { node: here, left });
-    go_in(p, slot, order, next, node, tag, way, steps);
+    go_in(p, slot, order, next, node, tag, decided, way, steps);
 }
 
 /// Goes down to a node of that tag, which stands there, and puts each node above it onto the way. Each
@@ -71,11 +82,13 @@ pub(crate) fn go_to<T, O: NodeOrder<T>>(
     at: Option<NodeRef>,
     node: NodeRef,
     tag: Tag,
+    decided: bool,
     way: &mut Way,
     steps: &mut Steps,
 )
     requires slot { slot < p.old.slots }
     requires tag { tag ≡ (link_of p.old node.name slot).tag }
+    requires decided { decided ≡ O.is_exact order.now tag.key }
     requires way { (fs : List Frame) × (t : BinaryTree) × (xs : List Ref) × (ys : List Ref)
         × (vs : List Ref) × (ws : List Ref) × Sinks p.old slot way.old.items at fs t xs node ys vs ws
         × Rising (side (O.order order.now) p.old slot) (nodes t) × AreTagged (O.tag_of order.now) p.old slot (nodes t) }
@@ -87,7 +100,16 @@ pub(crate) fn go_to<T, O: NodeOrder<T>>(
 {
     let Some(here) = at else { unreachable!() };
     let seen = p.link(here, slot);
-    let side = compare_nodes(&Counted::new(p), order, node, tag, here, seen.tag, steps);
+    let side = compare_nodes(
+        &Counted::new(p),
+        order,
+        node,
+        tag,
+        decided,
+        here,
+        seen.tag,
+        steps,
+    );
     if side.is_eq() {
         return;
     }
@@ -96,7 +118,7 @@ pub(crate) fn go_to<T, O: NodeOrder<T>>(
     let next = p.neighbour(here, slot, left);
     p.set_size(here, slot, link.size - 1);
     way.push(Turn { node: here, left });
-    go_to(p, slot, order, next, node, tag, way, steps);
+    go_to(p, slot, order, next, node, tag, decided, way, steps);
 }
 
 /// Goes down to the first node, and puts each node above it onto the way. Each gets a size that is one

@@ -53,7 +53,7 @@ go_in-requires g t c κs within =
     let on = next g t (goal.at.go_in-requires g t c).After-push h in
     let tag_is = c.requires.tag ∙ sym (same_tag total h c.in-Some.is refl (set g t (goal.at.go_in-requires g t c).After-set_size)) in
     let slots = subst (λ j. c.args.slot < j) (sym (keeps_here total h c.in-Some.is refl (set g t (goal.at.go_in-requires g t c).After-set_size)).slots) c.requires.slot in
-    (omega (arith, c.decreases, on.lower), (within.0, (within.1, (slots, (tag_is, (on.gs, on.sub, on.falls))))))
+    (omega (arith, c.decreases, on.lower), (within.0, (within.1, (slots, (tag_is, (c.requires.decided, (on.gs, on.sub, on.falls)))))))
 
 pub returns-clause-slots : goal.returns-clause-slots
 returns-clause-slots g t c =
