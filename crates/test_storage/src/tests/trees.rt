@@ -30,6 +30,16 @@ fn assert_keys(rt: &impl Abort, stock: &Stock<'_>) {
     }
 }
 
+/// Its keys 3, 5 and 5: how many are less than a key, and how many aren't greater.
+const RANKS_AT_KEYS: [(i64, u32, u32); 5] = [(2, 0, 0), (3, 0, 1), (4, 1, 1), (5, 1, 3), (6, 3, 3)];
+
+fn assert_key_ranks(rt: &impl Abort, stock: &Stock<'_>) {
+    for (key, less, no_greater) in &RANKS_AT_KEYS {
+        assert_eq!(rt; stock.lower_rank(*key), *less);
+        assert_eq!(rt; stock.upper_rank(*key), *no_greater);
+    }
+}
+
 /// Its ranks: the nodes before and after each.
 const AT_RANKS: [(u32, Option<u32>, Option<u32>); 3] = [
     (0, None, Some(10)),
@@ -65,6 +75,7 @@ fn assert_small_tree(rt: &impl Abort, stock: &mut Stock<'_>) {
     assert_ids(rt, stock, [Some(12), Some(10), Some(11), None]);
     assert_eq!(rt; stock.rank_of_nth(2), Some(2));
     assert_keys(rt, stock);
+    assert_key_ranks(rt, stock);
     assert_neighbours(rt, stock);
     second_leaves(rt, stock);
 }
@@ -126,6 +137,10 @@ fn look_up_all(rt: &impl Abort, stock: &Stock<'_>, calls: &Cell<u64>, most: u64)
         let _ = stock.lower(key);
         assert_few(rt, calls, most);
         let _ = stock.upper(key);
+        assert_few(rt, calls, most);
+        let _ = stock.lower_rank(key);
+        assert_few(rt, calls, most);
+        let _ = stock.upper_rank(key);
         assert_few(rt, calls, most);
     }
     for rank in 0..stock.len() {

@@ -183,6 +183,26 @@ impl<'a> Stock<'a> {
         id_of(&self.pool, node)
     }
 
+    /// How many nodes have a smaller key.
+    pub(crate) fn lower_rank(&self, key: i64) -> u32 {
+        let values = [Value::Int(key)];
+        self.tree.lower_rank(
+            &mut Counted::new(&self.pool),
+            Probe::Key(&values),
+            &mut Steps::new(),
+        )
+    }
+
+    /// How many nodes have no greater key.
+    pub(crate) fn upper_rank(&self, key: i64) -> u32 {
+        let values = [Value::Int(key)];
+        self.tree.upper_rank(
+            &mut Counted::new(&self.pool),
+            Probe::Key(&values),
+            &mut Steps::new(),
+        )
+    }
+
     pub(crate) fn find(&self, key: i64) -> Option<u32> {
         let values = [Value::Int(key)];
         let node = self.tree.find(
