@@ -1,0 +1,5 @@
+pub mod DecodedLemmas
+pub mod RoomLemmas
+pub mod PlaceLemmas
+pub mod FlagLemmas
+pub mod RingLemmas
