@@ -256,8 +256,8 @@ taken ss ss' n e i rs more ps others (newer, rest, was, is) settles records plac
         decoded_all newer rs ps,
         decoded rest (drop k rs) (drop m ps),
         ap (λ q. decoded_all q (rs ++ more) (ps ++ others)) was ∙ decoded_push newer (rest ++ (n, e) ∷ []) (rs ++ more) (ps ++ others)
-        ∙ ap₂ (λ p q. p ++ q ∷ []) outer (decoded-append rest ((n, e) ∷ []) (drop k (rs ++ more)) (drop m (ps ++ others))
-        ∙ ap (λ q. q ++ (n, filled e left stay) ∷ []) inner),
+            ∙ ap₂ (λ p q. p ++ q ∷ []) outer (decoded-append rest ((n, e) ∷ []) (drop k (rs ++ more)) (drop m (ps ++ others))
+            ∙ ap (λ q. q ++ (n, filled e left stay) ∷ []) inner),
         ap (λ q. decoded_all q rs ps) is ∙ decoded_push newer rest rs ps,
       ),
     )

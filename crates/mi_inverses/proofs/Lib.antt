@@ -3,3 +3,4 @@ pub mod RoomLemmas
 pub mod PlaceLemmas
 pub mod FlagLemmas
 pub mod RingLemmas
+pub mod SettleLemmas

@@ -1,6 +1,6 @@
 -- Places that go to the back of a ring, the first last, and come off at either end.
-use Rattle.std.proofs.Common.{◌≡◌, ℕ, suc, ◌+◌, ◌<◌, ◌≤◌, Bool, true, false, Option, None, Some, List, [], ◌∷◌, ◌++◌, length}
-use Rattle.std.proofs.Common.{map, drop, reverse, refl, ap, sym, ◌∙◌, subst, arith}
+use Rattle.std.proofs.Common.{◌≡◌, suc, ◌+◌, ◌<◌, ◌≤◌, Bool, true, false, Option, None, Some, List, [], ◌∷◌, ◌++◌, length}
+use Rattle.std.proofs.Common.{map, drop, reverse, ap, sym, ◌∙◌, arith}
 use Rattle.std.specs.Option.{option_map, is_some}
 use Rattle.std.proofs.lemmas.List.{reverse-append, length_push, map-append, append_assoc}
 use Rattle.std.proofs.lemmas.Bool.{false≢true}
@@ -12,7 +12,6 @@ use Rattle.mi_inverses.specs.Stored.{place_count}
 
 abbrev Places : Type 0
 Places = List (Option Place)
-
 
 -- some of the old places are stored, and marked
 pub record Storing (old now : Places) (marks : List Bool) (before ring : Places) : Type 0 where

@@ -98,7 +98,12 @@ impl Inverses {
         ensures starts { self.new.starts ≡ self.old.starts }
         ensures most { self.new.most ≡ self.old.most }
     {
-        let entry = store(inverse.undo(), &mut self.records, &mut self.places, self.most);
+        let entry = store(
+            inverse.undo(),
+            &mut self.records,
+            &mut self.places,
+            self.most,
+        );
         self.entries.note(table, entry);
     }
 

@@ -1,9 +1,7 @@
 -- the last of the places that are left is stored, or only marked
-use Rattle.std.proofs.Common.{◌≡◌, ◌∙◌, ◌+◌, ◌<◌, ◌∷◌, ◌++◌, [], true, false, map, sym, ap, subst, arith}
-use Rattle.std.specs.Option.{option_map, is_some}
+use Rattle.std.proofs.Common.{◌∙◌, ◌+◌, ◌∷◌, true, sym, ap, subst, arith}
 use Rattle.std.specs.VecDeque.{deque_len}
 use Rattle.mi_inverses.specs.Filled.{marked}
-use Rattle.mi_inverses.specs.Stored.{place_count}
 use Rattle.mi_inverses.proofs.PlaceLemmas.{Storing, storing_place, storing_none}
 use Rattle.mi_inverses.proofs.store.store_places.Goals as goal
 

@@ -1,10 +1,10 @@
 -- the newest session has no entry, so no record and no place is its
-use Rattle.std.proofs.Common.{◌≡◌, ◌∙◌, ℕ, List, ap, sym, subst, reverse}
+use Rattle.std.proofs.Common.{◌∙◌, ℕ, ap, sym, subst, reverse}
 use Rattle.mi_container.specs.Inverse.{Inverse}
 use Rattle.mi_journal.specs.Noted.{NewestIsEmpty, without_newest}
 use Rattle.mi_inverses.specs.Filled.{records_of_all, places_of_all, decoded_all}
 use Rattle.mi_inverses.specs.Stored.{Stored}
-use Rattle.mi_inverses.proofs.DecodedLemmas.{Ended, newest_empty, ended}
+use Rattle.mi_inverses.proofs.DecodedLemmas.{newest_empty, ended}
 use Rattle.mi_inverses.proofs.inverses.Inverses.end_session.Goals as goal
 
 pub end_session-requires : goal.end_session-requires

@@ -1,5 +1,5 @@
 -- each ring has room for one change less at most
-use Rattle.std.proofs.Common.{◌-◌, ap, subst, ◌≤◌, ◌+◌, arith}
+use Rattle.std.proofs.Common.{◌-◌, ap, arith}
 use Rattle.std.specs.VecDeque.{deque_len, deque_capacity}
 use Rattle.mi_inverses.specs.Stored.{Stored}
 use Rattle.mi_inverses.proofs.RoomLemmas.{from_was, room_falls}

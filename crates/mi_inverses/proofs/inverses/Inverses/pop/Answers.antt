@@ -1,10 +1,10 @@
 -- the record and the places of the newest entry are the last of their rings
-use Rattle.std.proofs.Common.{◌-◌, ◌∙◌, ◌≤◌, ap, ap₂, sym, subst, reverse, arith}
+use Rattle.std.proofs.Common.{◌-◌, ◌∙◌, ap, ap₂, sym, reverse, arith}
 use Rattle.mi_journal.specs.Noted.{without_entry}
 use Rattle.mi_inverses.specs.Filled.{records_in, places_in, records_of_all, places_of_all, decoded_all}
 use Rattle.std.specs.VecDeque.{deque_len, deque_capacity}
 use Rattle.mi_inverses.specs.Stored.{Stored}
-use Rattle.mi_inverses.proofs.DecodedLemmas.{Popped, popped}
+use Rattle.mi_inverses.proofs.DecodedLemmas.{popped}
 use Rattle.mi_inverses.proofs.RingLemmas.{shorter}
 use Rattle.mi_inverses.proofs.RoomLemmas.{from_was, room_mono}
 use Rattle.mi_inverses.proofs.inverses.Inverses.pop.Goals as goal

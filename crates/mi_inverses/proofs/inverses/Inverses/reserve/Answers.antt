@@ -1,5 +1,5 @@
 -- no ring has room for fewer, and at last each has room for as many as are asked for
-use Rattle.std.proofs.Common.{◌-◌, ◌≤◌, ◌+◌, ◌*◌, ◌≡◌, Ok, Err, OnOk, ap, subst, arith}
+use Rattle.std.proofs.Common.{◌-◌, ◌≤◌, ◌*◌, ◌≡◌, Ok, Err, OnOk, ap, subst, arith}
 use Rattle.std.specs.declared.result.Result.{Result}
 use Rattle.std.specs.VecDeque.{deque_len, deque_capacity}
 use Rattle.mi_inverses.specs.Stored.{Stored}

@@ -1,5 +1,5 @@
 -- the record and the places of the oldest entry are the first of their rings
-use Rattle.std.proofs.Common.{◌-◌, ◌∙◌, ◌≤◌, ℕ, List, None, Some, ap, ap₂, sym, subst, reverse, take, length, arith}
+use Rattle.std.proofs.Common.{◌-◌, ◌∙◌, ℕ, List, None, Some, ap, ap₂, sym, subst, reverse, take, length, arith}
 use Rattle.std.proofs.lemmas.List.{length-reverse, length-drop}
 use Rattle.mi_container.specs.Inverse.{Inverse}
 use Rattle.mi_journal.specs.Noted.{TakesOldest}
