@@ -4,29 +4,33 @@ use Rattle.std.specs.declared.result.Result.{Result}
 use Rattle.std.specs.declared.option.Option.TheVariants.{None}
 use Rattle.std.specs.declared.option.Option.{Option}
 use Rattle.mi_value.specs.declared.refusal.Refusal.{Refusal}
-use Rattle.mi_catalog.specs.Shape.{Shape, CatalogShape}
+use Rattle.std.proofs.lemmas.List.{length-map}
+use Rattle.mi_catalog.specs.Shape.{Shape, CatalogShape, schema_at}
 use Rattle.mi_model.specs.Table.{Table}
 use Rattle.mi_model.specs.Verdict.{Outcome}
 use Rattle.mi_model.specs.DatabaseChange.{Meets}
 use Rattle.mi_model.specs.Database.{on_table}
 use Rattle.mi_model.specs.Run.{Command}
 use Rattle.mi_model.specs.Footprint.{kept_after, kept_more}
-use Rattle.mi_container.specs.Data.{Data, as_table}
+use Rattle.mi_container.specs.Data.{Data, IsData, as_table}
 use Rattle.mi_container.specs.Inverse.{Inverse, keeps}
 use Rattle.mi_container.specs.Fits.{KeptBy}
 use Rattle.mi_container.specs.Run.{Change}
 use Rattle.mi_container.specs.Makes.{Makes}
-use Rattle.mi_journal.specs.Noted.{Noted, noted}
+use Rattle.mi_journal.specs.Noted.{noted}
+use Rattle.mi_inverses.specs.Stored.{Stored, IsWithin}
 use Rattle.mi_database.specs.Journal.{Journal, data_at, state_of, kept_in}
 use Rattle.mi_database.specs.LinkedData.{LinkedData, data_seen, meaning, IsLinkedData, with_room, kept_datas}
 use Rattle.mi_database.specs.Kept.{kept_rows, KeptRefused}
-use Rattle.mi_database.proofs.LinkedDataLemmas.{Made, made_is_linked, made_keeps}
+use Rattle.mi_database.specs.Most.{HasAtMost, AllHaveAtMost}
+use Rattle.mi_database.proofs.MostLemmas.{made_within}
+use Rattle.mi_database.proofs.LinkedDataLemmas.{Made, made_is_linked, made_keeps, shape_at, set_data}
 use Rattle.mi_database.specs.declared.linked.Linked.TheInside.{Inside}
 use Rattle.mi_database.proofs.StateLemmas.{within_containers, lift_made, lift_refused, refused_held}
 use Rattle.mi_database.proofs.KeptLemmas.{plain_keeps, kept_refusal}
 
 -- the container k of table n, which a change left as k', where all else but room is as in the old database
-pub record Spot {X : Type 0} (shape : X → Shape) (plain : X → Data) (c : CatalogShape) (cs : List X) (j : Noted Inverse) (r n : ℕ) (k k' : X)
+pub record Spot {X : Type 0} (shape : X → Shape) (plain : X → Data) (c : CatalogShape) (cs : List X) (j : Stored) (r n : ℕ) (k k' : X)
     (old : LinkedData) : Type 0 where
   pub is : IsLinkedData (map shape cs) c (map plain cs) j.sessions r
   pub state : state_of c (map plain cs) j.sessions r ≡ meaning old
@@ -40,7 +44,7 @@ pub record Spot {X : Type 0} (shape : X → Shape) (plain : X → Data) (c : Cat
 abbrev pub SpotIn : {X : Type 0} → (X → Shape) → (X → Data) → Inside X → ℕ → X → X → LinkedData → Type 0
 SpotIn shape plain a n k k' old = Spot shape plain a.catalog a.containers.items a.journal a.revision n k k' old
 
-module _ {X : Type 0} {shape : X → Shape} {plain : X → Data} {c : CatalogShape} {cs : List X} {j : Noted Inverse} {r n : ℕ} {k k' : X}
+module _ {X : Type 0} {shape : X → Shape} {plain : X → Data} {c : CatalogShape} {cs : List X} {j : Stored} {r n : ℕ} {k k' : X}
     {old : LinkedData} where
   -- what the code knows before the change makes it so, where the change left the schema
   pub spot : (changes starts : ℕ) {held : List (List ℕ)} {secrets : List (List (Option ℕ))} → IsLinkedData (map shape cs) c (map plain cs) j.sessions r
@@ -62,6 +66,16 @@ module _ {X : Type 0} {shape : X → Shape} {plain : X → Data} {c : CatalogSha
     -- what the inverse of a change keeps is kept
     pub spot_keeps : {i : Inverse} (change : Change) → Makes (shape k) change (plain k) i (plain k') → KeptBy i (data_at (map plain (set cs n k')) n)
     spot_keeps {i} change makes = made_keeps shape plain c cs n k k' i change j.sessions s.within s.there makes s.is.shapes s.is.linked
+
+    -- an inverse has no more places than there is room for
+    pub spot_within : {i : Inverse} (change : Change) → AllHaveAtMost j.most c → Makes (shape k) change (plain k) i (plain k') → IsWithin j.most i
+    spot_within {i} change most makes =
+        let schema : shape k ≡ schema_at c n = shape_at shape c cs n k s.within s.there s.is.shapes in
+        let listed : n < length (map plain cs) = subst (λ q. n < q) (sym (length-map cs plain)) s.within in
+        let there : data_at (map plain cs) n ≡ plain k = set_data plain cs n k s.within s.there in
+        made_within j.most (shape k) change (plain k) (plain k') i
+        (subst (λ (q : Shape). HasAtMost j.most q.indexes) (sym schema) (most n s.listed))
+        (subst (λ q. IsData q (plain k)) (sym schema) (subst (IsData (schema_at c n)) there (s.is.linked.each n listed))) makes
 
     -- the change is made, and the inverse noted or settled
     module _ {i : Inverse} {next : Journal} (change : Change) (makes : Makes (shape k) change (plain k) i (plain k')) (after : List X)

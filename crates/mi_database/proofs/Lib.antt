@@ -7,4 +7,5 @@ pub mod KeyLemmas
 pub mod OpeningLemmas
 pub mod KeptLemmas
 pub mod BoundLemmas
+pub mod MostLemmas
 pub mod ChangeLemmas

@@ -1,4 +1,5 @@
 pub mod Journal
+pub mod Most
 pub mod LinkedData
 pub mod Keyed
 pub mod Kept

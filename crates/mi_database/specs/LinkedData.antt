@@ -9,7 +9,8 @@ use Rattle.mi_container.specs.Changes.{opened_data}
 use Rattle.mi_container.specs.Secrets.{opened_secrets}
 use Rattle.mi_container.specs.Inverse.{Inverse, settled}
 use Rattle.mi_database.specs.Journal.{JournalEntry, Journal, data_at, entry_back, entries, unwound, old_of, tables_of, state_of, IsLinked}
-use Rattle.mi_journal.specs.Noted.{Noted, OldestIsEmpty}
+use Rattle.mi_journal.specs.Noted.{OldestIsEmpty}
+use Rattle.mi_inverses.specs.Stored.{Stored}
 
 -- the containers' data, the inverses of each session, the revision, the journal's room, and of each container the ids in the nodes of its pool
 -- and the secrets of its indexes
@@ -24,7 +25,7 @@ pub record LinkedData : Type 0 where
   pub secrets : List (List (Option ℕ))
 
 -- as the fields have it
-abbrev pub data_seen : CatalogShape → List Data → Noted Inverse → ℕ → List (List ℕ) → List (List (Option ℕ)) → LinkedData
+abbrev pub data_seen : CatalogShape → List Data → Stored → ℕ → List (List ℕ) → List (List (Option ℕ)) → LinkedData
 data_seen c ds j r held secrets = record {
   catalog = c;
   datas = ds;

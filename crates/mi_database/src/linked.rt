@@ -2,7 +2,7 @@
 //! inverse is noted, else it is settled at once. This file knows nothing of how a container keeps its rows.
 use mi_catalog::Catalog;
 use mi_container::{Container, Inverse};
-use mi_journal::Journal;
+use mi_inverses::Inverses;
 use std::alloc::{AllocError, Global};
 use std::marker::Model;
 
@@ -11,19 +11,21 @@ use std::marker::Model;
 pub struct Linked<C: Container> {
     pub(crate) catalog: Catalog,
     pub(crate) containers: Vec<C>,
-    pub(crate) journal: Journal<Inverse>,
+    pub(crate) journal: Inverses,
     pub(crate) revision: u64,
 }
 
 impl<C: Container> Model for Linked<C> {
     ghost use Rattle.std.specs.Prelude.{map};
     ghost use Rattle.mi_database.specs.LinkedData.{LinkedData, data_seen, IsLinkedData};
+    ghost use Rattle.mi_database.specs.Most.{AllHaveAtMost};
 
     ghost Value = { LinkedData };
 
     ghost view = { λ a. data_seen a.catalog (map C.plain a.containers.items) a.journal a.revision (map C.held a.containers.items) (map C.secrets a.containers.items) };
 
-    ghost invariant = { λ a. IsLinkedData (map C.shape a.containers.items) a.catalog (map C.plain a.containers.items) a.journal.sessions a.revision };
+    ghost invariant = { λ a. IsLinkedData (map C.shape a.containers.items) a.catalog (map C.plain a.containers.items) a.journal.sessions a.revision
+        × AllHaveAtMost a.journal.most a.catalog };
 }
 
 ghost use Rattle.std.specs.Prelude.{◌≡◌, ◌<◌, ◌≤◌, ◌+◌, [], length, map, vec_len, IfOk, OnErr};
@@ -32,7 +34,9 @@ ghost use Rattle.mi_container.specs.Secrets.{opened_secrets};
 ghost use Rattle.mi_container.specs.Fits.{KeptBy};
 ghost use Rattle.mi_database.specs.Journal.{data_at};
 ghost use Rattle.mi_journal.specs.Noted.{noted};
+ghost use Rattle.mi_inverses.specs.Stored.{IsWithin};
 ghost use Rattle.mi_database.specs.LinkedData.{kept_datas};
+ghost use Rattle.mi_database.specs.Most.{AllHaveAtMost};
 
 /// The containers that a catalog opens with, all with one secret.
 fn open_containers<C: Container>(
@@ -52,21 +56,37 @@ fn open_containers<C: Container>(
     Ok(new)
 }
 
+/// The most indexes that a table has beside `id`: so many old places a put has at most, since `id` never changes.
+fn most_indexes(catalog: &Catalog) -> usize
+    ensures most { AllHaveAtMost result catalog.now }
+    ensures few { result < 256 }
+{
+    let mut most = 0;
+    for n in 0..catalog.table_count() {
+        let table = catalog.table(n);
+        table.keeps_rules();
+        most = most.max(table.index_count() - 1);
+    }
+    most
+}
+
 /// Notes the inverse of a change that a container has just made, or settles it where no session is open.
 pub(crate) fn keep<C: Container>(
     containers: &mut Vec<C>,
-    journal: &mut Journal<Inverse>,
+    journal: &mut Inverses,
     table: usize,
     inverse: Inverse,
 )
     requires table { table < vec_len containers.old }
     requires kept { KeptBy inverse (data_at (map C.plain containers.old.items) table) }
     requires room { 0 < length journal.old.sessions → 0 < journal.old.changes }
+    requires within { IsWithin journal.old.most inverse }
     ensures datas { map C.plain containers.new.items ≡ kept_datas table inverse journal.old.sessions (map C.plain containers.old.items) }
     ensures shapes { map C.shape containers.new.items ≡ map C.shape containers.old.items }
     ensures journal { journal.new.sessions ≡ noted (table, inverse) journal.old.sessions }
     ensures changes { journal.old.changes ≤ journal.new.changes + 1 }
     ensures starts { journal.new.starts ≡ journal.old.starts }
+    ensures most { journal.new.most ≡ journal.old.most }
 {
     if journal.depth() == 0 {
         containers[table].settle(inverse);
@@ -95,10 +115,11 @@ impl<C: Container> Linked<C> {
         catalog.keeps_rules();
         let containers = open_containers(alloc, &catalog, secret)?;
         let revision = catalog.first_revision();
+        let most = most_indexes(&catalog);
         Ok(Linked {
             catalog,
             containers,
-            journal: Journal::new(alloc),
+            journal: Inverses::new(alloc, most),
             revision,
         })
     }

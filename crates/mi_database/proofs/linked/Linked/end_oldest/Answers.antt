@@ -2,6 +2,7 @@
 use Rattle.std.proofs.Common.{◌∙◌, ◌+◌, ap, sym, subst, arith}
 use Rattle.mi_journal.specs.Noted.{OldestIsEmpty}
 use Rattle.mi_database.specs.LinkedData.{LinkedData, EndsOldest}
+use Rattle.mi_database.specs.Most.{AllHaveAtMost}
 use Rattle.mi_database.proofs.LoopLemmas.{linked_data, settling_from, settling_more, settled_up, ends_law, ended_law}
 use Rattle.mi_database.proofs.linked.Linked.end_oldest.Goals as goal
 
@@ -23,8 +24,10 @@ end_oldest-requires g c =
 
 pub invariant_of-self : goal.invariant_of-self
 invariant_of-self g c =
-    let a = c.self.inside in
-    ends_law a.catalog _ _ a.journal.sessions c.end_oldest.new.self.sessions a.revision c.end_oldest.ensures.sessions c.self.invariant
+    let a = c.self.inside in (
+      ends_law a.catalog _ _ a.journal.sessions c.end_oldest.new.self.sessions a.revision c.end_oldest.ensures.sessions c.self.invariant.0,
+      subst (λ m. AllHaveAtMost m a.catalog) (sym c.end_oldest.ensures.most) c.self.invariant.1,
+    )
 
 pub returns : goal.returns
 returns g c =

@@ -1,5 +1,5 @@
 -- What the container answers and leaves, the database does.
-use Rattle.std.proofs.Common.{◌≢◌, ◌∙◌, map, set, ap}
+use Rattle.std.proofs.Common.{◌≢◌, ◌∙◌, map, set, ap, sym, subst}
 use Rattle.std.specs.Prelude.{Ok, Err}
 use Rattle.std.specs.declared.option.Option.TheVariants.{None}
 use Rattle.mi_value.specs.declared.refusal.Refusal.TheVariants.{Memory}
@@ -11,7 +11,8 @@ use Rattle.mi_container.specs.Run.Change.{Erase}
 use Rattle.mi_journal.specs.Noted.{noted}
 use Rattle.mi_database.specs.LinkedData.{LinkedData, data_seen, meaning}
 use Rattle.mi_database.proofs.KeptLemmas.{erase_keeps, erase_refused, refused_keeps, met_refusal}
-use Rattle.mi_database.proofs.ChangeLemmas.{SpotIn, spot, spot_keeps, spot_held, spot_outcome, spot_stays, spot_refused}
+use Rattle.mi_database.specs.Most.{AllHaveAtMost}
+use Rattle.mi_database.proofs.ChangeLemmas.{SpotIn, spot, spot_keeps, spot_within, spot_held, spot_outcome, spot_stays, spot_refused}
 use Rattle.mi_database.proofs.linked.Linked.erase_row.Given.{Over}
 use Rattle.mi_database.proofs.linked.Linked.erase_row.Goals.{After-erase}
 use Rattle.mi_database.proofs.linked.Linked.erase_row.Goals as goal
@@ -19,18 +20,26 @@ use Rattle.mi_database.proofs.linked.Linked.erase_row.Goals as goal
 module _ (g : Over) (c : After-erase g) where
   -- the container of the table, as the change found it in the database and left it
   at : SpotIn g.C.Container.shape g.C.Container.plain c.self.inside c.args.table c.index_mut.result.now c.erase.new.self c.args.self.now
-  at = spot _ _ c.self.invariant c.self.view_is c.requires.table c.index_mut.ensures.value c.erase.ensures.shape
+  at = spot _ _ c.self.invariant.0 c.self.view_is c.requires.table c.index_mut.ensures.value c.erase.ensures.shape
 
 pub keep-requires-clause-kept : goal.keep-requires-clause-kept
 keep-requires-clause-kept g c = spot_keeps (at g (goal.at.keep-requires-clause-kept g c).After-erase)
     (Erase c.args.id None) c.in-Ok.ensures.made
 
+pub keep-requires-clause-within : goal.keep-requires-clause-within
+keep-requires-clause-within g c = spot_within (at g (goal.at.keep-requires-clause-within g c).After-erase)
+    (Erase c.args.id None) c.self.invariant.1 c.in-Ok.ensures.made
+
 pub invariant_of-self : goal.invariant_of-self
-invariant_of-self g c = spot_held (at g (goal.at.invariant_of-self g c).After-erase)
-    (Erase c.args.id None) c.in-Ok.ensures.made c.keep.new.containers.items c.keep.ensures.datas c.keep.ensures.shapes c.keep.ensures.journal
+invariant_of-self g c = (
+  spot_held (at g (goal.at.invariant_of-self g c).After-erase)
+      (Erase c.args.id None) c.in-Ok.ensures.made c.keep.new.containers.items c.keep.ensures.datas c.keep.ensures.shapes c.keep.ensures.journal,
+  subst (λ m. AllHaveAtMost m c.self.inside.catalog) (sym c.keep.ensures.most) c.self.invariant.1,
+)
 
 pub invariant_of-self-in-Err : goal.invariant_of-self-in-Err
-invariant_of-self-in-Err g c = spot_stays (at g (goal.at.invariant_of-self-in-Err g c).After-erase) c.in-Err.ensures.refused
+invariant_of-self-in-Err g c =
+    (spot_stays (at g (goal.at.invariant_of-self-in-Err g c).After-erase) c.in-Err.ensures.refused, c.self.invariant.1)
 
 pub returns-in-Ok-clause-outcome : goal.returns-in-Ok-clause-outcome
 returns-in-Ok-clause-outcome g c = spot_outcome (at g (goal.at.returns-in-Ok-clause-outcome g c).After-erase)

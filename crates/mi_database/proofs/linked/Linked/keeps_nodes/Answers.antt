@@ -14,7 +14,7 @@ returns g c =
     (map g.C.Container.held a.containers.items) (map g.C.Container.secrets a.containers.items) in
     let listed : c.args.n < length a.catalog.tables = subst (λ (q : LinkedData). c.args.n < length q.catalog.tables) (sym c.self.view_is) c.requires in
     let within : c.args.n < length a.containers.items =
-    within_containers g.C.Container.shape g.C.Container.plain a.catalog a.containers.items a.journal.sessions a.revision c.args.n c.self.invariant listed in
+    within_containers g.C.Container.shape g.C.Container.plain a.catalog a.containers.items a.journal.sessions a.revision c.args.n c.self.invariant.0 listed in
     subst (λ (q : LinkedData). NodesAreKept q c.args.n) c.self.view_is
-    (nodes_kept _ h c.args.n c.self.invariant (subst (λ m. c.args.n < m) (sym (length-map a.containers.items g.C.Container.plain)) within)
+    (nodes_kept _ h c.args.n c.self.invariant.0 (subst (λ m. c.args.n < m) (sym (length-map a.containers.items g.C.Container.plain)) within)
     (holds_at g.C.Container.held g.C.Container.plain a.containers.items c.args.n c.index.result.now within c.index.ensures c.keeps_nodes.ensures))

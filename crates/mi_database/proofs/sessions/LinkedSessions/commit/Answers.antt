@@ -19,7 +19,7 @@ returns g c =
     let ended : Ending c.min-ending.result first c.loop.self = subst (λ n. Ending n first c.loop.self) done c.loop.invariant in
     let revision : c.self.inside.revision ≡ first.revision = ap (λ (h : LinkedData). h.revision) c.self.view_is in
     let opens : c.depth-open.result ≡ length first.journal = c.depth-open.ensures ∙ ap (λ (h : LinkedData). length h.journal) c.self.view_is in
-    let within : length first.journal ≤ first.revision = subst (λ (h : LinkedData). length h.journal ≤ h.revision) c.self.view_is c.self.invariant.numbered in
+    let within : length first.journal ≤ first.revision = subst (λ (h : LinkedData). length h.journal ≤ h.revision) c.self.view_is c.self.invariant.0.numbered in
     let many : c.min-ending.result ≡ min (c.args.number - (first.revision - c.depth-open.result)) c.depth-open.result =
     c.min-ending.ensures ∙ ap (λ n. min n c.depth-open.result) (c.saturating_sub.ensures ∙ ap (λ n. c.args.number - (n - c.depth-open.result)) revision) in
     let all = ended_all c.min-ending.result c.args.number c.depth-open.result first c.loop.self ended opens many within in

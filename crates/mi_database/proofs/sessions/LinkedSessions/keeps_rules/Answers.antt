@@ -8,4 +8,4 @@ use Rattle.mi_database.proofs.sessions.LinkedSessions.keeps_rules.Goals as goal
 pub returns : goal.returns
 returns g c =
     let a = c.self.inside in
-    subst (λ (h : LinkedData). IsDatabase (meaning h)) c.self.view_is (is_database _ _ _ _ _ c.self.invariant)
+    subst (λ (h : LinkedData). IsDatabase (meaning h)) c.self.view_is (is_database _ _ _ _ _ c.self.invariant.0)

@@ -11,7 +11,8 @@ use Rattle.mi_journal.specs.Noted.{noted}
 use Rattle.mi_database.specs.LinkedData.{LinkedData, data_seen, meaning}
 use Rattle.mi_database.proofs.LinkedDataLemmas.{some_modify}
 use Rattle.mi_database.proofs.KeptLemmas.{modify_keeps, modify_kept, modify_refused}
-use Rattle.mi_database.proofs.ChangeLemmas.{SpotIn, spot, spot_keeps, spot_held, spot_outcome, spot_stays, spot_refused}
+use Rattle.mi_database.specs.Most.{AllHaveAtMost}
+use Rattle.mi_database.proofs.ChangeLemmas.{SpotIn, spot, spot_keeps, spot_within, spot_held, spot_outcome, spot_stays, spot_refused}
 use Rattle.mi_database.proofs.sessions.LinkedSessions.modify.Given.{Over}
 use Rattle.mi_database.proofs.sessions.LinkedSessions.modify.Goals.{After-modify}
 use Rattle.mi_database.proofs.sessions.LinkedSessions.modify.Goals as goal
@@ -19,19 +20,27 @@ use Rattle.mi_database.proofs.sessions.LinkedSessions.modify.Goals as goal
 module _ (g : Over) (c : After-modify g) where
   -- the container of the table, as the change found it in the database and left it
   at : SpotIn g.C.Container.shape g.C.Container.plain c.self.inside c.args.table c.index_mut.result.now c.modify.new.self c.args.self.now
-  at = spot _ _ c.self.invariant (c.self.view_is ∙ c.make_room.ensures.same) c.requires.table c.index_mut.ensures.value c.modify.ensures.shape
+  at = spot _ _ c.self.invariant.0 (c.self.view_is ∙ c.make_room.ensures.same) c.requires.table c.index_mut.ensures.value c.modify.ensures.shape
 
 pub keep-requires-clause-kept : goal.keep-requires-clause-kept
 keep-requires-clause-kept g c = spot_keeps (at g (goal.at.keep-requires-clause-kept g c).After-modify)
     _ (some_modify (lost_to c.in-Ok.inverse) _ c.args.id _ c.in-Ok.inverse _ c.in-Ok.ensures.made).1
 
+pub keep-requires-clause-within : goal.keep-requires-clause-within
+keep-requires-clause-within g c = spot_within (at g (goal.at.keep-requires-clause-within g c).After-modify)
+    _ c.self.invariant.1 (some_modify (lost_to c.in-Ok.inverse) _ c.args.id _ c.in-Ok.inverse _ c.in-Ok.ensures.made).1
+
 pub invariant_of-self : goal.invariant_of-self
-invariant_of-self g c = spot_held (at g (goal.at.invariant_of-self g c).After-modify)
-    _ (some_modify (lost_to c.in-Ok.inverse) _ c.args.id _ c.in-Ok.inverse _ c.in-Ok.ensures.made).1
-    c.keep.new.containers.items c.keep.ensures.datas c.keep.ensures.shapes c.keep.ensures.journal
+invariant_of-self g c = (
+  spot_held (at g (goal.at.invariant_of-self g c).After-modify)
+      _ (some_modify (lost_to c.in-Ok.inverse) _ c.args.id _ c.in-Ok.inverse _ c.in-Ok.ensures.made).1
+      c.keep.new.containers.items c.keep.ensures.datas c.keep.ensures.shapes c.keep.ensures.journal,
+  subst (λ m. AllHaveAtMost m c.self.inside.catalog) (sym c.keep.ensures.most) c.self.invariant.1,
+)
 
 pub invariant_of-self-in-Err : goal.invariant_of-self-in-Err
-invariant_of-self-in-Err g c = spot_stays (at g (goal.at.invariant_of-self-in-Err g c).After-modify) c.in-Err.ensures.refused
+invariant_of-self-in-Err g c =
+    (spot_stays (at g (goal.at.invariant_of-self-in-Err g c).After-modify) c.in-Err.ensures.refused, c.self.invariant.1)
 
 pub returns-in-Ok-clause-outcome : goal.returns-in-Ok-clause-outcome
 returns-in-Ok-clause-outcome g c = spot_outcome (at g (goal.at.returns-in-Ok-clause-outcome g c).After-modify)

@@ -1,5 +1,5 @@
 -- What the container answers and leaves, the database does.
-use Rattle.std.proofs.Common.{◌∙◌, ap, map, set}
+use Rattle.std.proofs.Common.{◌∙◌, ap, map, set, sym, subst}
 use Rattle.std.specs.Prelude.{Ok, Err}
 use Rattle.mi_model.specs.Verdict.{replace_outcome}
 use Rattle.mi_model.specs.Run.Command.{Replace as TheCommand}
@@ -7,7 +7,8 @@ use Rattle.mi_container.specs.Inverse.{keeps}
 use Rattle.mi_container.specs.Run.Change.{Replace}
 use Rattle.mi_database.specs.Kept.{kept_rows}
 use Rattle.mi_database.proofs.KeptLemmas.{none_more}
-use Rattle.mi_database.proofs.ChangeLemmas.{SpotIn, spot, spot_held, spot_outcome, spot_plain, spot_stays, spot_refused, spot_unkept}
+use Rattle.mi_database.specs.Most.{AllHaveAtMost}
+use Rattle.mi_database.proofs.ChangeLemmas.{SpotIn, spot, spot_within, spot_held, spot_outcome, spot_plain, spot_stays, spot_refused, spot_unkept}
 use Rattle.mi_database.proofs.sessions.LinkedSessions.replace.Given.{Over}
 use Rattle.mi_database.proofs.sessions.LinkedSessions.replace.Goals.{After-replace}
 use Rattle.mi_database.proofs.sessions.LinkedSessions.replace.Goals as goal
@@ -15,14 +16,22 @@ use Rattle.mi_database.proofs.sessions.LinkedSessions.replace.Goals as goal
 module _ (g : Over) (c : After-replace g) where
   -- the container of the table, as the change found it in the database and left it
   at : SpotIn g.C.Container.shape g.C.Container.plain c.self.inside c.args.table c.index_mut.result.now c.replace.new.self c.args.self.now
-  at = spot _ _ c.self.invariant (c.self.view_is ∙ c.make_room.ensures.same) c.requires.table c.index_mut.ensures.value c.replace.ensures.shape
+  at = spot _ _ c.self.invariant.0 (c.self.view_is ∙ c.make_room.ensures.same) c.requires.table c.index_mut.ensures.value c.replace.ensures.shape
+
+pub keep-requires-clause-within : goal.keep-requires-clause-within
+keep-requires-clause-within g c = spot_within (at g (goal.at.keep-requires-clause-within g c).After-replace)
+    (Replace c.args.id c.args.row) c.self.invariant.1 c.in-Ok.ensures.made
 
 pub invariant_of-self : goal.invariant_of-self
-invariant_of-self g c = spot_held (at g (goal.at.invariant_of-self g c).After-replace)
-    (Replace c.args.id c.args.row) c.in-Ok.ensures.made c.keep.new.containers.items c.keep.ensures.datas c.keep.ensures.shapes c.keep.ensures.journal
+invariant_of-self g c = (
+  spot_held (at g (goal.at.invariant_of-self g c).After-replace)
+      (Replace c.args.id c.args.row) c.in-Ok.ensures.made c.keep.new.containers.items c.keep.ensures.datas c.keep.ensures.shapes c.keep.ensures.journal,
+  subst (λ m. AllHaveAtMost m c.self.inside.catalog) (sym c.keep.ensures.most) c.self.invariant.1,
+)
 
 pub invariant_of-self-in-Err : goal.invariant_of-self-in-Err
-invariant_of-self-in-Err g c = spot_stays (at g (goal.at.invariant_of-self-in-Err g c).After-replace) c.in-Err.ensures.refused
+invariant_of-self-in-Err g c =
+    (spot_stays (at g (goal.at.invariant_of-self-in-Err g c).After-replace) c.in-Err.ensures.refused, c.self.invariant.1)
 
 pub returns-in-Ok-clause-outcome : goal.returns-in-Ok-clause-outcome
 returns-in-Ok-clause-outcome g c = spot_outcome (at g (goal.at.returns-in-Ok-clause-outcome g c).After-replace)

@@ -1,0 +1,18 @@
+-- each ring has room for one change less at most
+use Rattle.std.proofs.Common.{◌-◌, ap, arith}
+use Rattle.std.specs.VecDeque.{deque_len, deque_capacity}
+use Rattle.mi_inverses.specs.Stored.{Stored}
+use Rattle.mi_inverses.proofs.RoomLemmas.{from_was, room_falls}
+use Rattle.mi_inverses.proofs.inverses.Inverses.note.Goals as goal
+
+pub returns-clause-changes : goal.returns-clause-changes
+returns-clause-changes c =
+    let was = ap (λ (v : Stored). v.changes) c.self.view_is in
+    let a = c.self.inside in
+    let s = c.store-entry in
+    let e = s.ensures in
+    let one = c.note.ensures.changes in
+    from_was was
+    (room_falls a.most a.entries.changes c.note.new.self.changes (deque_capacity a.records - deque_len a.records) (deque_capacity s.new.records - deque_len s.new.records)
+    (deque_capacity a.places - deque_len a.places) (deque_capacity s.new.places - deque_len s.new.places) (omega (arith, one)) (omega (arith, e.records_len, e.records_capacity, e.few_records))
+    (omega (arith, e.places_len, e.places_capacity, e.few_places)))

@@ -1,0 +1,47 @@
+-- What contracts see of the inverses of open sessions.
+use Rattle.std.specs.Prelude.{◌≡◌, ℕ, zero, suc, ◌≤◌, ◌/◌, List, [], ◌∷◌, min}
+use Rattle.std.specs.declared.option.Option.{Option}
+use Rattle.std.specs.declared.option.Option.TheVariants.{None, Some}
+use Rattle.mi_journal.specs.Noted.{TakesOldest}
+use Rattle.mi_container.specs.Inverse.{OldPlace, Inverse}
+use Rattle.mi_container.specs.Inverse.Inverse.{Inserted, Put, Erased, Relocated, Nothing}
+
+-- the inverses of each open session, the newest session and the newest inverse first; for how many changes and sessions more there is room;
+-- and how many places a put has at most
+pub record Stored : Type 0 where
+  pub sessions : List (List (ℕ × Inverse))
+  pub changes : ℕ
+  pub starts : ℕ
+  pub most : ℕ
+
+-- for how many changes there is room in three rings
+abbrev pub room_in : ℕ → ℕ → ℕ → ℕ → ℕ
+room_in zero entries records places = min entries records
+room_in (suc most) entries records places = min (min entries records) (places / suc most)
+
+-- how many places are there
+abbrev pub place_count : List (Option OldPlace) → ℕ
+place_count [] = 0
+place_count (None ∷ ps) = place_count ps
+place_count (Some p ∷ ps) = suc (place_count ps)
+
+-- an inverse has at most so many places, and names an index by no greater number
+abbrev pub IsWithin : ℕ → Inverse → Type 0
+IsWithin most (Inserted r) = Unit {0}
+IsWithin most (Put r old) = place_count old.places ≤ most
+IsWithin most (Erased r why) = Unit {0}
+IsWithin most (Relocated x r b) = x ≤ most
+IsWithin most Nothing = Unit {0}
+
+-- what an inverse is settled by: of a put neither the record nor the places are asked for
+abbrev pub to_settle : Inverse → Inverse
+to_settle (Inserted r) = Inserted r
+to_settle (Put r old) = Nothing
+to_settle (Erased r why) = Erased r why
+to_settle (Relocated x r b) = Relocated x r b
+to_settle Nothing = Nothing
+
+-- the oldest inverse of the oldest session leaves, if it has one, and what it is settled by is answered
+abbrev pub TakesToSettle : Option (ℕ × Inverse) → List (List (ℕ × Inverse)) → List (List (ℕ × Inverse)) → Type 0
+TakesToSettle None old new = TakesOldest {A = ℕ × Inverse} None old new
+TakesToSettle (Some x) old new = (i : Inverse) × (x.1 ≡ to_settle i) × TakesOldest (Some (x.0, i)) old new
