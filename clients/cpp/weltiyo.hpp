@@ -31,6 +31,7 @@
 #include <stdexcept>
 #include <string>
 #include <string_view>
+#include <type_traits>
 #include <utility>
 #include <variant>
 #include <vector>
@@ -84,8 +85,9 @@ private:
 // A value of a row: a whole number, a text, true or false.
 class Value : public std::variant<std::int64_t, bool, std::string> {
 public:
-    Value(std::int64_t number) : variant(number) {}
-    Value(int number) : variant(std::int64_t{number}) {}
+    // A number of any width, an id too. Throws std::out_of_range where it is above 2^63 - 1.
+    template <class Number, std::enable_if_t<std::is_integral_v<Number> && !std::is_same_v<Number, bool>, int> = 0>
+    Value(Number number) : variant(whole(number)) {}
     Value(bool flag) : variant(flag) {}
     Value(std::string text) : variant(std::move(text)) {}
     Value(const char *text) : variant(std::string(text)) {}
@@ -93,6 +95,13 @@ public:
     std::int64_t number() const { return std::get<std::int64_t>(*this); }
     bool flag() const { return std::get<bool>(*this); }
     const std::string &text() const { return std::get<std::string>(*this); }
+
+private:
+    template <class Number> static std::int64_t whole(Number number) {
+        if (number > 0 && static_cast<std::uint64_t>(number) > static_cast<std::uint64_t>(INT64_MAX))
+            throw std::out_of_range("a number is above 2^63 - 1");
+        return static_cast<std::int64_t>(number);
+    }
 };
 
 // A value for each column, in their order.

@@ -228,6 +228,8 @@ static void pages() {
     EXPECT(ids(page) == "2 1 " && !page.more());
     db.range(page, 0, by_class, Lower::from({true, 7}), Upper::up_to({false}), true);
     EXPECT(ids(page) == "0 2 " && page.more());
+    db.range(page, 0, by_id, Lower::beyond({db.find(0, by_owner, {"ann"})->id}));
+    EXPECT(ids(page) == "1 2 ");
     EXPECT(refused([&] { db.range(page, 0, by_owner); }) == "kind");
     EXPECT(page.empty() && !page.more());
     db.list(page, 0, line, 0);

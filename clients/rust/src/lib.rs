@@ -179,7 +179,7 @@ fn laid(row: &[Value]) -> (Vec<raw::Cell>, Vec<u8>) {
 }
 
 /// The kind of an end of a range, and its key.
-fn end_of<'a>(end: Bound<&'a [Value]>) -> (u32, &'a [Value]) {
+fn end_of(end: Bound<&[Value]>) -> (u32, &[Value]) {
     match end {
         Bound::Unbounded => (raw::OPEN, &[]),
         Bound::Included(key) => (raw::INCLUDED, key),
