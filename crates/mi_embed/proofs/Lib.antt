@@ -1,1 +1,4 @@
 pub mod CellLemmas
+pub mod ReadLemmas
+pub mod EditLemmas
+pub mod RowLemmas

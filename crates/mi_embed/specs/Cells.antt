@@ -24,7 +24,8 @@ value_in bytes c =
     else if c.kind == 3 then Some (Flag true)
     else None
 
-abbrev pub before_all : Option Value → Option (List Value) → Option (List Value)
+-- what is made of one and of those behind it, if each is made
+abbrev pub before_all : {A : Type 0} → Option A → Option (List A) → Option (List A)
 before_all v vs = option_and_then (λ x. option_and_then (λ xs. Some (x ∷ xs)) vs) v
 
 -- the values of all cells, if each is one

@@ -1,5 +1,5 @@
 -- What a call with values tells: a number for its answer.
-use Rattle.std.specs.Prelude.{ℕ, ◌-◌, ◌^◌, min, Result, Ok, Err}
+use Rattle.std.specs.Prelude.{ℕ, ◌-◌, ◌^◌, min, Bool, if◌then◌else◌, Result, Ok, Err}
 use Rattle.mi_value.specs.declared.refusal.Refusal.{Refusal}
 use Rattle.mi_value.specs.declared.refusal.Refusal.TheVariants.{Line, Json, Form as NoCommand, Busy, NoTable, Index, Kind, Row, Key, NoId}
 use Rattle.mi_value.specs.declared.refusal.Refusal.TheVariants.{Range, Full, Spent, Unique, Lost, Depth, Session, Memory}
@@ -49,3 +49,7 @@ told_of number (Err e) = refused e
 -- there is no room for what is answered: so many cells or rows are wanted, and so many bytes of texts
 abbrev pub wanting : ℕ → ℕ → Told
 wanting count bytes = record { status = 19; index = in_32 count; number = in_64 bytes }
+
+-- a page has so many rows, and others remain or don't
+abbrev pub paged : ℕ → Bool → Told
+paged count more = record { status = 0; index = if more then 1 else 0; number = count }

@@ -3,15 +3,22 @@
 //! nothing of C.
 #![tactic(auto)]
 
+mod asked;
 mod cell;
+mod edits;
 mod engine;
 mod fault;
+mod look_ups;
+mod pages;
 mod put;
+mod room;
 mod rows;
 mod told;
 mod typed;
 
 pub use cell::Cell;
+pub use edits::EditCell;
 pub use engine::Engine;
 pub use fault::OpenFault;
+pub use pages::End;
 pub use told::Told;

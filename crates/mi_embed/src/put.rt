@@ -1,5 +1,5 @@
 //! Values put into cells and bytes of the caller's.
-ghost use Rattle.std.specs.Prelude.{◌≡◌, ◌+◌, ◌<◌, ◌^◌, ◌&&◌, nat_le, length, IsTrue};
+ghost use Rattle.std.specs.Prelude.{◌≡◌, ◌+◌, ◌<◌, ◌^◌, ◌&&◌, nat_le, length, is_some, IfSome};
 ghost use Rattle.mi_embed.specs.Cells.{texts_of, cell_of, ArePut};
 ghost use Rattle.mi_value.specs.Lent.{lent};
 
@@ -24,32 +24,49 @@ fn cell_of(at: usize, value: ValueRef<'_>) -> Cell
     }
 }
 
-/// Puts values to the front of cells, and their texts to the front of bytes, from this place on as the cells count. Answers whether there
-/// was room for all; where there wasn't, nothing is said of either.
+/// How many cells and how many bytes have values and texts in them.
+#[derive(Clone, Copy, Drop)]
+pub(crate) struct Taken {
+    pub(crate) cells: usize,
+    pub(crate) bytes: usize,
+}
+
+/// Puts values to the front of cells, and their texts to the front of bytes, which are those behind what is taken. Answers what is taken then,
+/// or none where there isn't room for all; then nothing is said of either.
 pub(crate) fn put_values(
     values: Values<'_>,
     cells: &mut [Cell],
     texts: &mut [u8],
-    at: usize,
-) -> bool
-    requires { at + length texts.old < 2 ^ 64 }
-    ensures room { result ≡ (nat_le (length values.entry) (length cells.old) && nat_le (length (texts_of values.entry)) (length texts.old)) }
-    ensures put { IsTrue result → ArePut at values.entry cells.old cells.new texts.old texts.new }
+    taken: Taken,
+) -> Option<Taken>
+    requires cells { taken.cells + length cells.old < 2 ^ 64 }
+    requires bytes { taken.bytes + length texts.old < 2 ^ 64 }
+    ensures room { is_some result ≡ (nat_le (length values.entry) (length cells.old) && nat_le (length (texts_of values.entry)) (length texts.old)) }
+    ensures next { IfSome result (λ next. (next.cells ≡ taken.cells + length values.entry) × (next.bytes ≡ taken.bytes + length (texts_of values.entry))) }
+    ensures put { IfSome result (λ _. ArePut taken.bytes values.entry cells.old cells.new texts.old texts.new) }
 {
     let mut left = values;
     let Some(value) = left.next() else {
-        return true;
+        return Some(taken);
     };
     let Some((cell, cells)) = cells.split_first_mut() else {
-        return false;
+        return None;
     };
-    *cell = cell_of(at, value);
+    *cell = cell_of(taken.bytes, value);
     let ValueRef::Text(text) = value else {
-        return put_values(left, cells, texts, at);
+        let taken = Taken {
+            cells: taken.cells + 1,
+            bytes: taken.bytes,
+        };
+        return put_values(left, cells, texts, taken);
     };
     let Some((place, texts)) = texts.split_at_mut_checked(text.len()) else {
-        return false;
+        return None;
     };
     place.copy_from_slice(text.as_bytes());
-    put_values(left, cells, texts, at + text.len())
+    let taken = Taken {
+        cells: taken.cells + 1,
+        bytes: taken.bytes + text.len(),
+    };
+    put_values(left, cells, texts, taken)
 }

@@ -6,13 +6,13 @@ ghost use Rattle.mi_embed.specs.Shown.{got, IsShown, TellsRow};
 
 use crate::cell::Cell;
 use crate::engine::Engine;
-use crate::put::put_values;
+use crate::put::{Taken, put_values};
 use crate::told::Told;
 use mi_sessions::Sessions;
 use mi_value::{Record, Refusal, Steps, ValueRef, Values};
 
 /// How many bytes the texts of values have, or the greatest number where it is greater.
-fn text_bytes(values: Values<'_>) -> u64
+pub(crate) fn text_bytes(values: Values<'_>) -> u64
     ensures { result ≡ in_64 (length (texts_of values.entry)) }
 {
     let mut left = values;
@@ -24,10 +24,11 @@ fn text_bytes(values: Values<'_>) -> u64
 }
 
 /// Shows a record, and tells its id, or the room that it wants.
-fn shown(id: u64, row: &Record, cells: &mut [Cell], texts: &mut [u8]) -> Told
+pub(crate) fn shown(id: u64, row: &Record, cells: &mut [Cell], texts: &mut [u8]) -> Told
     ensures { IsShown id row.now result cells.old cells.new texts.old texts.new }
 {
-    if put_values(row.values(), cells, texts, 0) {
+    let none = Taken { cells: 0, bytes: 0 };
+    if put_values(row.values(), cells, texts, none).is_some() {
         Told::accepted(id)
     } else {
         Told::wanting(row.column_count(), text_bytes(row.values()))

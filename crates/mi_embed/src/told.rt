@@ -14,9 +14,9 @@ const ROOM: u32 = 19;
 pub struct Told {
     /// 0 where the call was accepted, 1 to 18 why it was refused, in the order of `Refusal`, and 19 where there is no room for its answer.
     pub status: u32,
-    /// Of a conflict the number of the index; of an answer without room the cells that it wants.
+    /// Of a conflict the number of the index; of a page 1 where others remain, and else 0; of an answer without room the cells that it wants.
     pub index: u32,
-    /// Of an accepted call an id, a count or a revision; of a conflict the id of the other record; of an answer without room the bytes that
+    /// Of an accepted call an id, a count, a rank or a revision; of a page how many rows it has; of a conflict the id of the other record; of an answer without room the bytes that
     /// its texts want.
     pub number: u64,
 }
@@ -89,6 +89,17 @@ impl Told {
             status: ROOM,
             index: in_32(count),
             number: bytes,
+        }
+    }
+
+    /// What is told of a page of so many rows: others remain, or don't.
+    pub(crate) fn paged(count: usize, more: bool) -> Told
+        ensures { result ≡ meaning.paged count more }
+    {
+        Told {
+            status: 0,
+            index: u32::from(more),
+            number: count as u64,
         }
     }
 

@@ -5,14 +5,16 @@ ghost use Rattle.std.specs.Option.{ok_or};
 ghost use Rattle.mi_catalog.specs.Shape.{schema_at};
 ghost use Rattle.mi_catalog.specs.Fits.{fits_record, fits_edit};
 ghost use Rattle.mi_catalog.specs.Fitting.{HasTable};
-ghost use Rattle.mi_commands.specs.Calls.{start_call, undo_call, squash_call, commit_call};
+ghost use Rattle.mi_commands.specs.Calls.{start_call, undo_call, squash_call, commit_call, undo_all_call, push_call};
 ghost use Rattle.mi_request.specs.Answers.{IsAnswer};
 ghost use Rattle.mi_value.specs.declared.edit.Edit.TheVariants as edit;
 ghost use Rattle.mi_embed.specs.Typed as meaning;
 ghost use Rattle.mi_value.specs.declared.limits.TheConstants.{MAX_COLUMNS};
 ghost use Rattle.mi_embed.specs.Typed.{change_refusal, row_in, MayAnswer};
 
+use crate::asked::{key_for, keyed_index, sequenced_index};
 use crate::cell::{Cell, values_of};
+use crate::edits::{EditCell, edits_for};
 use crate::engine::Engine;
 use mi_catalog::{Column, Schema};
 use mi_sessions::Sessions;
@@ -105,6 +107,26 @@ impl Engine {
         self.executor.insert_row(conn, table, row, None)
     }
 
+    /// Adds the record that cells are as `insert` does, in a sequenced index directly before a record, and answers its id. Refusals, in this
+    /// order: `Busy`, `NoTable`, `Index`, `Kind` (the index isn't sequenced), `Row`, and those of `Sessions::insert`.
+    pub fn insert_before(
+        &mut self,
+        conn: u64,
+        table: usize,
+        cells: &[Cell],
+        texts: &[u8],
+        index: usize,
+        before: u64,
+    ) -> Result<u64, Refusal>
+        ensures { MayAnswer (meaning.insert_before_by self.old.held conn table cells.now texts.now index before) result self.old self.new }
+    {
+        let schema = self.changeable(conn, table)?;
+        let index = sequenced_index(schema, index)?;
+        let row = row_of(self.alloc, schema, cells, texts)?;
+        self.executor
+            .insert_row(conn, table, row, Some((index, before)))
+    }
+
     /// Sets the record that cells are for an id. Refusals, in this order: `Busy`, `NoTable`, `Row`, and those of `Sessions::replace`.
     pub fn replace(
         &mut self,
@@ -143,12 +165,66 @@ impl Engine {
         self.executor.modify_row(conn, table, id, edits, rollback)
     }
 
+    /// Changes columns of a record. Refusals, in this order: `Busy`, `NoTable`, `Row` (an edit is none, or doesn't fit its column, or two are of
+    /// one column), and those of `Sessions::modify`.
+    pub fn modify(
+        &mut self,
+        conn: u64,
+        table: usize,
+        id: u64,
+        edits: &[EditCell],
+        texts: &[u8],
+        rollback: bool,
+    ) -> Result<(), Refusal>
+        ensures { MayAnswer (meaning.modify_edits_by self.old.held conn table id edits.now texts.now rollback) result self.old self.new }
+    {
+        let schema = self.changeable(conn, table)?;
+        let edits = edits_for(self.alloc, schema, edits, texts)?;
+        self.executor
+            .modify_row(conn, table, id, edits.as_slice(), rollback)
+    }
+
     /// Erases a record. Refusals, in this order: `Busy`, `NoTable`, and those of `Sessions::erase`.
     pub fn erase(&mut self, conn: u64, table: usize, id: u64) -> Result<(), Refusal>
         ensures { MayAnswer (meaning.erase_by self.old.held conn table id) result self.old self.new }
     {
         let _ = self.changeable(conn, table)?;
         self.executor.erase_row(conn, table, id)
+    }
+
+    /// Erases the records of a whole key, and answers how many. Refusals, in this order: `Busy`, `NoTable`, `Index`, `Kind` (a sequenced index),
+    /// `Key`, and those of `Sessions::erase_key`.
+    pub fn erase_key(
+        &mut self,
+        conn: u64,
+        table: usize,
+        index: usize,
+        key: &[Cell],
+        texts: &[u8],
+    ) -> Result<u64, Refusal>
+        ensures { MayAnswer (meaning.erase_key_by self.old.held conn table index key.now texts.now) result self.old self.new }
+    {
+        let schema = self.changeable(conn, table)?;
+        let index = keyed_index(schema, index)?;
+        let key = key_for(self.alloc, schema, index, true, key, texts)?;
+        self.executor.erase_rows(conn, table, index, key.values())
+    }
+
+    /// Moves a record in a sequenced index directly before another, or to its end. Refusals, in this order: `Busy`, `NoTable`, `Index`, `Kind`,
+    /// and those of `Sessions::relocate`.
+    pub fn relocate(
+        &mut self,
+        conn: u64,
+        table: usize,
+        index: usize,
+        id: u64,
+        before: Option<u64>,
+    ) -> Result<(), Refusal>
+        ensures { MayAnswer (meaning.relocate_by self.old.held conn table index id before) result self.old self.new }
+    {
+        let schema = self.changeable(conn, table)?;
+        let index = sequenced_index(schema, index)?;
+        self.executor.relocate_row(conn, table, index, id, before)
     }
 
     /// Opens a session, which the connection then holds, and answers the new revision. Refusals: `Busy`, and those of `Sessions::start`.
@@ -180,5 +256,21 @@ impl Engine {
         ensures left { self.new ≡ record { held = (commit_call self.old.held conn number).1; reply = self.old.reply } }
     {
         self.executor.commit_sessions(conn, number)
+    }
+
+    /// Undoes every open session, and answers how many. Refusal: `Busy`. It takes no memory.
+    pub fn undo_all(&mut self, conn: u64) -> Result<u64, Refusal>
+        ensures answer { result ≡ (undo_all_call self.old.held conn).0 }
+        ensures left { self.new ≡ record { held = (undo_all_call self.old.held conn).1; reply = self.old.reply } }
+    {
+        self.executor.undo_sessions(conn)
+    }
+
+    /// Lets go of the sessions that the connection holds, which stay open, and answers how many. Refusal: `Busy`. It takes no memory.
+    pub fn push(&mut self, conn: u64) -> Result<u64, Refusal>
+        ensures answer { result ≡ (push_call self.old.held conn).0 }
+        ensures left { self.new ≡ record { held = (push_call self.old.held conn).1; reply = self.old.reply } }
+    {
+        self.executor.push_sessions(conn)
     }
 }
