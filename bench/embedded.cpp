@@ -6,11 +6,15 @@
 // took, and a sum of what was seen, which is the same for all. LOOP is one of
 //     insert       adds a row
 //     get          the balance of a row by its id
+//     find         the balance of a row by its owner, in a hashed index
+//     count        how many rows have a balance, in a ranked index
+//     range        ten rows from a balance on, in a ranked index, each whole: theirs are copied from iterators
 //     modify       adds a number to the balance of a row: it moves in two indexes
 //     undone       start, the same, undo: theirs by a copy of the row, SQLite's by a savepoint
 //     sessions     start, undo
 #include "accounts.hpp"
 
+#include <array>
 #include <cstdio>
 #include <cstdlib>
 #include <cstring>
@@ -44,10 +48,21 @@ public:
     virtual ~System() = default;
     virtual void insert(const std::string &owner, std::int64_t balance, bool vip) = 0;
     virtual std::int64_t balance(std::int64_t id) = 0;
+    virtual std::int64_t find(const std::string &owner) = 0;
+    virtual std::int64_t count(std::int64_t balance) = 0;
+    virtual std::int64_t ten_from(std::int64_t balance) = 0;
     virtual void add(std::int64_t id, std::int64_t more) = 0;
     virtual void add_undone(std::int64_t id, std::int64_t more) = 0;
     virtual void start_and_undo() = 0;
 };
+
+// The rows of a page that is asked for.
+constexpr std::size_t page = 10;
+
+// What is seen of a row.
+std::int64_t seen(std::int64_t id, std::int64_t balance, bool vip, std::size_t owner_length) {
+    return 7 * id + balance + vip + static_cast<std::int64_t>(owner_length);
+}
 
 weltiyo_db *opened(const char *schema) {
     std::ifstream file(schema, std::ios::binary);
@@ -76,6 +91,31 @@ public:
         return row[1].integer;
     }
 
+    std::int64_t find(const std::string &owner) override {
+        const weltiyo_value key = {WELTIYO_TEXT, 0, 0, owner.size()};
+        weltiyo_value row[3];
+        char texts[1024];
+        well(weltiyo_find(db_, 0, by_owner, &key, 1, owner.data(), owner.size(), row, 3, texts, sizeof texts));
+        return row[1].integer;
+    }
+
+    std::int64_t count(std::int64_t balance) override {
+        const weltiyo_value key = {WELTIYO_INT, balance, 0, 0};
+        return static_cast<std::int64_t>(well(weltiyo_count(db_, 0, by_balance, &key, 1, "", 0)).number);
+    }
+
+    std::int64_t ten_from(std::int64_t balance) override {
+        const weltiyo_value key = {WELTIYO_INT, balance, 0, 0};
+        const weltiyo_told told = well(weltiyo_range(db_, 0, by_balance, WELTIYO_INCLUDED, &key, 1, WELTIYO_OPEN, &key, 0, "", 0, 0, ids_, page,
+                                                     rows_, 3 * page, texts_, sizeof texts_));
+        std::int64_t sum = 0;
+        for (std::size_t n = 0; n < told.number; n++) {
+            const weltiyo_value *row = weltiyo_row(rows_, 3, n);
+            sum += seen(static_cast<std::int64_t>(ids_[n]), row[1].integer, row[2].kind == WELTIYO_TRUE, row[0].length);
+        }
+        return sum;
+    }
+
     void add(std::int64_t id, std::int64_t more) override { well(weltiyo_modify_add(db_, 1, 0, static_cast<std::uint64_t>(id), 1, more, 1)); }
 
     void add_undone(std::int64_t id, std::int64_t more) override {
@@ -90,12 +130,19 @@ public:
     }
 
 private:
-    static void well(weltiyo_told told) {
+    // (the index of ids is 0)
+    enum : std::size_t { by_owner = 1, by_balance = 2 };
+
+    static weltiyo_told well(weltiyo_told told) {
         if (told.status != 0)
             stop(weltiyo_refusal_word(told.status));
+        return told;
     }
 
     weltiyo_db *db_;
+    std::uint64_t ids_[page];
+    weltiyo_value rows_[3 * page];
+    char texts_[page * 1024];
 };
 
 class Lines : public System {
@@ -110,7 +157,29 @@ public:
 
     std::int64_t balance(std::int64_t id) override {
         ask("{\"cmd\":\"get\",\"id\":%lld}", static_cast<long long>(id));
-        return std::strtoll(std::strstr(out_, "\"balance\":") + 10, nullptr, 10);
+        return number(out_, "\"balance\":");
+    }
+
+    std::int64_t find(const std::string &owner) override {
+        ask("{\"cmd\":\"find\",\"index\":\"by_owner\",\"key\":[\"%s\"]}", owner.c_str());
+        return number(out_, "\"balance\":");
+    }
+
+    std::int64_t count(std::int64_t balance) override {
+        ask("{\"cmd\":\"count\",\"index\":\"by_balance\",\"key\":[%lld]}", static_cast<long long>(balance));
+        return number(out_, "\"count\":");
+    }
+
+    std::int64_t ten_from(std::int64_t balance) override {
+        ask("{\"cmd\":\"range\",\"index\":\"by_balance\",\"lower\":{\"ge\":[%lld]},\"limit\":10}", static_cast<long long>(balance));
+        std::int64_t sum = 0;
+        const char *end = out_;
+        for (const char *row = out_; (row = std::strstr(row, "{\"balance\":")) != nullptr; row = end) {
+            const char *owner = std::strstr(row, "\"owner\":\"") + 9;
+            end = std::strchr(owner, '"');
+            sum += seen(number(row, "\"id\":"), number(row, "\"balance\":"), end[8] == 't', static_cast<std::size_t>(end - owner));
+        }
+        return sum;
     }
 
     void add(std::int64_t id, std::int64_t more) override {
@@ -129,6 +198,10 @@ public:
     }
 
 private:
+    static std::int64_t number(const char *reply, const char *name) {
+        return std::strtoll(std::strstr(reply, name) + std::strlen(name), nullptr, 10);
+    }
+
     template <class... Words>
     void ask(const char *line, Words... words) {
         char text[256];
@@ -152,6 +225,30 @@ public:
     }
 
     std::int64_t balance(std::int64_t id) override { return found(id)->balance; }
+
+    std::int64_t find(const std::string &owner) override {
+        const auto &index = accounts_.get<ByOwner>();
+        const auto it = index.find(owner);
+        if (it == index.end())
+            stop("id");
+        return it->balance;
+    }
+
+    std::int64_t count(std::int64_t balance) override {
+        return static_cast<std::int64_t>(accounts_.get<ByBalance>().count(boost::make_tuple(balance)));
+    }
+
+    std::int64_t ten_from(std::int64_t balance) override {
+        const auto &index = accounts_.get<ByBalance>();
+        auto it = index.lower_bound(boost::make_tuple(balance));
+        std::size_t count = 0;
+        for (; count < page && it != index.end(); ++it)
+            copies_[count++] = *it;
+        std::int64_t sum = 0;
+        for (std::size_t n = 0; n < count; n++)
+            sum += seen(copies_[n].id, copies_[n].balance, copies_[n].vip, copies_[n].owner.size());
+        return sum;
+    }
 
     void add(std::int64_t id, std::int64_t more) override { put(found(id), more); }
 
@@ -189,6 +286,7 @@ private:
     }
 
     Accounts accounts_;
+    std::array<Account, page> copies_;
     std::int64_t next_ = 0, arrivals_ = 0;
 };
 
@@ -203,6 +301,9 @@ public:
         run("create index by_class on accounts (vip desc, balance)");
         insert_ = prepared("insert into accounts values (?, ?, ?, ?)");
         get_ = prepared("select owner, balance, vip from accounts where id = ?");
+        find_ = prepared("select owner, balance, vip from accounts where owner = ?");
+        count_ = prepared("select count(*) from accounts where balance = ?");
+        ten_ = prepared("select id, owner, balance, vip from accounts where balance >= ? order by balance, id limit 10");
         add_ = prepared("update accounts set balance = balance + ?2 where id = ?1");
         start_ = prepared("savepoint s");
         undo_ = prepared("rollback to s");
@@ -211,7 +312,7 @@ public:
     }
 
     ~Sqlite() override {
-        for (sqlite3_stmt *it : {insert_, get_, add_, start_, undo_, release_})
+        for (sqlite3_stmt *it : {insert_, get_, find_, count_, ten_, add_, start_, undo_, release_})
             sqlite3_finalize(it);
         sqlite3_close(db_);
     }
@@ -231,6 +332,41 @@ public:
         const std::int64_t balance = sqlite3_column_int64(get_, 1);
         sqlite3_reset(get_);
         return balance;
+    }
+
+    std::int64_t find(const std::string &owner) override {
+        sqlite3_bind_text(find_, 1, owner.data(), static_cast<int>(owner.size()), SQLITE_STATIC);
+        if (sqlite3_step(find_) != SQLITE_ROW)
+            stop("id");
+        const std::int64_t balance = sqlite3_column_int64(find_, 1);
+        sqlite3_reset(find_);
+        return balance;
+    }
+
+    std::int64_t count(std::int64_t balance) override {
+        sqlite3_bind_int64(count_, 1, balance);
+        if (sqlite3_step(count_) != SQLITE_ROW)
+            stop(sqlite3_errmsg(db_));
+        const std::int64_t count = sqlite3_column_int64(count_, 0);
+        sqlite3_reset(count_);
+        return count;
+    }
+
+    std::int64_t ten_from(std::int64_t balance) override {
+        sqlite3_bind_int64(ten_, 1, balance);
+        std::size_t count = 0;
+        for (; sqlite3_step(ten_) == SQLITE_ROW; count++) {
+            Account &it = copies_[count];
+            it.id = sqlite3_column_int64(ten_, 0);
+            it.owner.assign(reinterpret_cast<const char *>(sqlite3_column_text(ten_, 1)), static_cast<std::size_t>(sqlite3_column_bytes(ten_, 1)));
+            it.balance = sqlite3_column_int64(ten_, 2);
+            it.vip = sqlite3_column_int(ten_, 3) != 0;
+        }
+        sqlite3_reset(ten_);
+        std::int64_t sum = 0;
+        for (std::size_t n = 0; n < count; n++)
+            sum += seen(copies_[n].id, copies_[n].balance, copies_[n].vip, copies_[n].owner.size());
+        return sum;
     }
 
     void add(std::int64_t id, std::int64_t more) override {
@@ -272,7 +408,9 @@ private:
     }
 
     sqlite3 *db_ = nullptr;
-    sqlite3_stmt *insert_ = nullptr, *get_ = nullptr, *add_ = nullptr, *start_ = nullptr, *undo_ = nullptr, *release_ = nullptr;
+    sqlite3_stmt *insert_ = nullptr, *get_ = nullptr, *find_ = nullptr, *count_ = nullptr, *ten_ = nullptr, *add_ = nullptr, *start_ = nullptr;
+    sqlite3_stmt *undo_ = nullptr, *release_ = nullptr;
+    std::array<Account, page> copies_;
     std::int64_t next_ = 0;
 };
 
@@ -294,9 +432,16 @@ double on_processor() {
     return static_cast<double>(now.tv_sec) * 1e9 + static_cast<double>(now.tv_nsec);
 }
 
+// The balances of rows are below this.
+constexpr std::uint64_t most = 1000003;
+
+std::string owner(std::int64_t n) { return "owner " + std::to_string(n); }
+
 void fill(System &system, std::int64_t from, std::int64_t to, Random &random) {
-    for (std::int64_t n = from; n < to; n++)
-        system.insert("owner " + std::to_string(n), static_cast<std::int64_t>(random.below(1000003)), random.below(10) < 3);
+    for (std::int64_t n = from; n < to; n++) {
+        const auto balance = static_cast<std::int64_t>(random.below(most));
+        system.insert(owner(n), balance, random.below(10) < 3);
+    }
 }
 
 } // namespace
@@ -306,28 +451,37 @@ extern "C" __attribute__((noinline)) std::int64_t measured(System &system, const
     Random random{7};
     std::int64_t sum = 0;
     const auto id = [&] { return static_cast<std::int64_t>(random.below(static_cast<std::uint64_t>(rows))); };
+    const auto balance = [&] { return static_cast<std::int64_t>(random.below(most)); };
     const auto more = [&] { return static_cast<std::int64_t>(random.below(101)) - 50; };
+    const auto each = [&](auto call) {
+        for (std::int64_t n = 0; n < calls; n++)
+            call();
+    };
     const std::string name = loop;
     if (name == "insert")
         fill(system, rows, rows + calls, random);
     else if (name == "get")
-        for (std::int64_t n = 0; n < calls; n++)
-            sum += system.balance(id());
+        each([&] { sum += system.balance(id()); });
+    else if (name == "find")
+        each([&] { sum += system.find(owner(id())); });
+    else if (name == "count")
+        each([&] { sum += system.count(balance()); });
+    else if (name == "range")
+        each([&] { sum += system.ten_from(balance()); });
     else if (name == "modify")
-        for (std::int64_t n = 0; n < calls; n++) {
+        each([&] {
             const std::int64_t it = id();
             system.add(it, more());
-        }
+        });
     else if (name == "undone")
-        for (std::int64_t n = 0; n < calls; n++) {
+        each([&] {
             const std::int64_t it = id();
             system.add_undone(it, more());
-        }
+        });
     else if (name == "sessions")
-        for (std::int64_t n = 0; n < calls; n++)
-            system.start_and_undo();
+        each([&] { system.start_and_undo(); });
     else
-        stop("a loop: insert, get, modify, undone or sessions");
+        stop("a loop: insert, get, find, count, range, modify, undone or sessions");
     return sum;
 }
 

@@ -1,7 +1,7 @@
 #!/usr/bin/env python3
 """Nanoseconds or instructions a call in one process: the library beside Boost.MultiIndex's own calls and SQLite's prepared statements.
 
-    embedded.py [--rows N[,N..]] [--calls N] [--rounds N] [--instructions] [--library FOLDER] [--out FILE]
+    embedded.py [--rows N[,N..]] [--calls N] [--rounds N] [--loops NAME[,NAME..]] [--instructions] [--library FOLDER] [--out FILE]
 
 `embedded.cpp` has the loops. Every system draws the same numbers, and the sums of what they saw must agree. A figure is the least of the
 rounds, by processor time; with --instructions it is what callgrind counts in the loop, one round. The library is that of `make lib`. What
@@ -22,9 +22,10 @@ import library  # noqa: E402
 
 SCHEMA = f"{HERE}/accounts.toml"
 SYSTEMS = ("ours", "lines", "boost", "sqlite")
-LOOPS = ("insert", "get", "modify", "undone", "sessions")
+LOOPS = ("insert", "get", "find", "count", "range", "modify", "undone", "sessions")
 NAMES = {
-    "insert": "insert", "get": "get", "modify": "modify a balance", "undone": "start, modify, undo", "sessions": "start, undo",
+    "insert": "insert", "get": "get", "find": "find an owner", "count": "count a balance", "range": "range of ten", "modify": "modify a balance",
+    "undone": "start, modify, undo", "sessions": "start, undo",
 }
 LONGEST_RUN = 600
 
@@ -77,6 +78,7 @@ def options_of():
     parser.add_argument("--rows", default="10000,100000,1000000")
     parser.add_argument("--calls", type=int, default=20_000, metavar="N")
     parser.add_argument("--rounds", type=int, default=3, metavar="N")
+    parser.add_argument("--loops", default=",".join(LOOPS))
     parser.add_argument("--instructions", action="store_true")
     parser.add_argument("--library", metavar="FOLDER")
     parser.add_argument("--out", metavar="FILE")
@@ -94,7 +96,7 @@ def main():
     with tempfile.TemporaryDirectory(prefix="embedded-bench-") as folder:
         program = compiled(made, folder)
         for rows in map(int, options.rows.split(",")):
-            for loop in LOOPS:
+            for loop in options.loops.split(","):
                 least = measured(program, options, rows, loop)
                 found.append({"rows": rows, "loop": loop, "unit": unit, **least})
                 ratio = f"{least['ours'] / least['boost']:.2f}" if "boost" in least else "-"

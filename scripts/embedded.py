@@ -25,8 +25,9 @@ LONGEST_RUN = 120
 STRICT = ["-Wall", "-Wextra", "-Werror", "-pedantic"]
 # What valgrind is to tell of: errors, and blocks that are left, reached or not.
 VALGRIND = ["valgrind", "-q", "--error-exitcode=9", "--leak-check=full", "--show-leak-kinds=all", "--errors-for-leak-kinds=all"]
-# What valgrind watches of each test: it takes fifty times as long.
-WATCHED_COMMANDS = {"calls": [], "typed": ["2000"]}
+# The tests in C that print `ok`, and what valgrind watches of each: it takes fifty times as long.
+C_TESTS = ("calls", "edges", "typed")
+WATCHED_COMMANDS = {"calls": [], "edges": [], "typed": ["2000"]}
 # Lines beside the examples' whose requests are refused: an index grows, rows are moved and shown, and sessions are undone over all of it.
 REFUSED_ROWS = 40
 
@@ -145,8 +146,8 @@ class Bindings:
         to = self.compiled(f"{CLIENTS}/c/tests/answers.c")
         self.answers("clients/c", [to], cases)
         self.answers("clients/c, in parts", [to, "--parts"], cases[:5])
-        self.check("clients/c/tests/calls.c", self.prints, "ok\n", self.compiled(f"{CLIENTS}/c/tests/calls.c"))
-        self.check("clients/c/tests/typed.c", self.prints, "ok\n", self.compiled(f"{CLIENTS}/c/tests/typed.c"))
+        for name in C_TESTS:
+            self.check(f"clients/c/tests/{name}.c", self.prints, "ok\n", self.compiled(f"{CLIENTS}/c/tests/{name}.c"))
         with open(f"{CLIENTS}/c/unwind.out", encoding="utf-8") as file:
             self.check("clients/c/unwind.c", self.prints, file.read(), self.compiled(f"{CLIENTS}/c/unwind.c"))
 
@@ -185,7 +186,7 @@ class Bindings:
         if not self.has("AddressSanitizer", "clang"):
             return
         words = ["-fsanitize=address,undefined", "-fno-sanitize-recover=all", "-fno-omit-frame-pointer"]
-        for name in ("calls", "typed"):
+        for name in C_TESTS:
             to = self.compiled(f"{CLIENTS}/c/tests/{name}.c", *words, compiler="clang")
             self.check(f"{name}.c under AddressSanitizer", self.prints, "ok\n", to)
         to = self.compiled(f"{CLIENTS}/c/tests/answers.c", *words, compiler="clang")
@@ -194,7 +195,7 @@ class Bindings:
     def watched(self, cases):
         if not self.has("valgrind", "valgrind", self.cc):
             return
-        for name in ("calls", "typed"):
+        for name in C_TESTS:
             to = self.compiled(f"{CLIENTS}/c/tests/{name}.c")
             self.check(f"{name}.c under valgrind", self.prints, "ok\n", *VALGRIND, to, *WATCHED_COMMANDS[name])
         to = self.compiled(f"{CLIENTS}/c/tests/answers.c")

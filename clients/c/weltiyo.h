@@ -61,8 +61,9 @@ size_t weltiyo_ask(weltiyo_db *handle, uint64_t connection, const void *line, si
 
 /* ---- The same commands with values in place of a line: no JSON is read or written.
 
-   A table is named by its number in the order of the schema, from 0 on, and so is a column. A call answers what the line of its command
-   answers to the same connection, and leaves what it leaves. The reply to the last line stays. */
+   A table is named by its number in the order of the schema, from 0 on, and so is a column. Of the indexes the one of ids has the number 0, and
+   those of the schema follow from 1 on. A call answers what the line of its command answers to the same connection, and leaves what it leaves.
+   The reply to the last line stays. */
 
 /* What a value is. */
 enum { WELTIYO_INT = 0, WELTIYO_TEXT = 1, WELTIYO_FALSE = 2, WELTIYO_TRUE = 3 };
@@ -92,22 +93,31 @@ typedef enum weltiyo_refusal {
     WELTIYO_REFUSED_DEPTH = 16,   /* 1,024 sessions are open */
     WELTIYO_REFUSED_SESSION = 17, /* no session is open */
     WELTIYO_REFUSED_MEMORY = 18,  /* a growth was refused, and nothing has changed */
-    WELTIYO_NO_ROOM = 19          /* a row needs `index` values and `number` bytes of texts */
+    WELTIYO_NO_ROOM = 19          /* what is answered needs `index` values and `number` bytes of texts */
 } weltiyo_refusal;
 
 /* What a call tells. */
 typedef struct weltiyo_told {
     uint32_t status; /* 0, or one of those above */
     uint32_t index;
-    uint64_t number; /* where the status is 0: the id, the count or the revision that the line's reply has, and 0 where it has none */
+    uint64_t number; /* where the status is 0: the id, the count, the rank or the revision that the line's reply has, and 0 where it has none */
 } weltiyo_told;
 
 /* Room that any row fits: its values, and the bytes of its texts. */
 enum { WELTIYO_ROW_VALUES = 16, WELTIYO_ROW_TEXTS = 16 * 1024 };
 
+/* A key is values too, one for each part of the index in its order; the index of ids has one part, a whole number. Where it says so the first
+   values of a key will do: they stand for every key that begins with them. */
+
+/* ---- Changes. Each is refused with WELTIYO_REFUSED_BUSY first, while another connection holds sessions. */
+
 /* Adds a row: a value for each column in order. Its id is told. */
 weltiyo_told weltiyo_insert(weltiyo_db *handle, uint64_t connection, size_t table, const weltiyo_value *row, size_t count, const void *texts,
                             size_t length);
+
+/* The same, and in the sequenced index of that number the row stands directly before the row of that id. */
+weltiyo_told weltiyo_insert_before(weltiyo_db *handle, uint64_t connection, size_t table, const weltiyo_value *row, size_t count,
+                                   const void *texts, size_t length, size_t index, uint64_t before);
 
 /* Sets another row for an id. */
 weltiyo_told weltiyo_replace(weltiyo_db *handle, uint64_t connection, size_t table, uint64_t id, const weltiyo_value *row, size_t count,
@@ -118,8 +128,34 @@ weltiyo_told weltiyo_replace(weltiyo_db *handle, uint64_t connection, size_t tab
 weltiyo_told weltiyo_modify_add(weltiyo_db *handle, uint64_t connection, size_t table, uint64_t id, size_t column, int64_t number,
                                 uint32_t rollback);
 
+/* What an edit does with its value. */
+enum {
+    WELTIYO_PUT = 0, /* it is the column's */
+    WELTIYO_ADD = 1  /* it is a whole number, and added to a column of whole numbers */
+};
+
+/* An edit of a column. */
+typedef struct weltiyo_edit {
+    uint32_t kind; /* one of those above; any other fits no column */
+    size_t column;
+    weltiyo_value value;
+} weltiyo_edit;
+
+/* Makes edits, each of a column of its own; no edits are accepted too. Where a unique index refuses the result it is as with
+   `weltiyo_modify_add`. */
+weltiyo_told weltiyo_modify(weltiyo_db *handle, uint64_t connection, size_t table, uint64_t id, const weltiyo_edit *edits, size_t count,
+                            const void *texts, size_t length, uint32_t rollback);
+
 /* Erases a row. */
 weltiyo_told weltiyo_erase(weltiyo_db *handle, uint64_t connection, size_t table, uint64_t id);
+
+/* Erases every row of a whole key; how many is told. */
+weltiyo_told weltiyo_erase_key(weltiyo_db *handle, uint64_t connection, size_t table, size_t index, const weltiyo_value *key, size_t count,
+                               const void *texts, size_t length);
+
+/* Moves a row of a sequenced index directly before the row `before`, or to its end where `has_before` is 0. */
+weltiyo_told weltiyo_relocate(weltiyo_db *handle, uint64_t connection, size_t table, size_t index, uint64_t id, uint32_t has_before,
+                              uint64_t before);
 
 /* Opens a session, which the connection then holds; the new revision is told. */
 weltiyo_told weltiyo_start(weltiyo_db *handle, uint64_t connection);
@@ -131,9 +167,77 @@ weltiyo_told weltiyo_squash(weltiyo_db *handle, uint64_t connection);
 /* Ends the sessions up to a number and keeps their changes; how many is told. It takes no memory. */
 weltiyo_told weltiyo_commit(weltiyo_db *handle, uint64_t connection, uint64_t number);
 
+/* Undoes every open session; how many is told. It takes no memory. */
+weltiyo_told weltiyo_undo_all(weltiyo_db *handle, uint64_t connection);
+
+/* Lets go of the sessions that the connection holds, which stay open; how many is told. It takes no memory. */
+weltiyo_told weltiyo_push(weltiyo_db *handle, uint64_t connection);
+
+/* ---- Look-ups. They change nothing, and are answered whoever holds sessions. A key with a text, or of several values, takes memory for the time
+   of the call, so one that is given a key may be refused with WELTIYO_REFUSED_MEMORY; the others take none, but for pages. */
+
+/* How many rows a table has. */
+weltiyo_told weltiyo_size(weltiyo_db *handle, size_t table);
+
 /* Copies the row of an id: its values to the front of `row`, and their texts to the front of `texts`, where they lie as the values say. The id is
    told. With WELTIYO_NO_ROOM nothing is said of what `row` and `texts` hold. It takes no memory. */
 weltiyo_told weltiyo_get(weltiyo_db *handle, size_t table, uint64_t id, weltiyo_value *row, size_t count, void *texts, size_t room);
+
+/* The first row of a key; in an ordered or ranked index the first values of one will do. Its id is told, and it is copied as by `weltiyo_get`;
+   where there is none, WELTIYO_REFUSED_ID. */
+weltiyo_told weltiyo_find(weltiyo_db *handle, size_t table, size_t index, const weltiyo_value *key, size_t key_count, const void *key_texts,
+                          size_t key_length, weltiyo_value *row, size_t count, void *texts, size_t room);
+
+/* How many rows have a key; in an ordered or ranked index the first values of one will do. */
+weltiyo_told weltiyo_count(weltiyo_db *handle, size_t table, size_t index, const weltiyo_value *key, size_t count, const void *texts,
+                           size_t length);
+
+/* How many rows stand before the row of an id in a ranked index. */
+weltiyo_told weltiyo_rank(weltiyo_db *handle, size_t table, size_t index, uint64_t id);
+
+/* How many rows of a ranked index have a key that is less than this one, or not greater; the first values of one will do. */
+weltiyo_told weltiyo_lower_rank(weltiyo_db *handle, size_t table, size_t index, const weltiyo_value *key, size_t count, const void *texts,
+                                size_t length);
+weltiyo_told weltiyo_upper_rank(weltiyo_db *handle, size_t table, size_t index, const weltiyo_value *key, size_t count, const void *texts,
+                                size_t length);
+
+/* The row of a ranked index before which `n` others stand. Its id is told, and it is copied as by `weltiyo_get`; where there is none,
+   WELTIYO_REFUSED_ID. */
+weltiyo_told weltiyo_nth(weltiyo_db *handle, size_t table, size_t index, uint64_t n, weltiyo_value *row, size_t count, void *texts, size_t room);
+
+/* An end of a range. */
+enum {
+    WELTIYO_OPEN = 0,     /* there is none, and the key isn't read */
+    WELTIYO_INCLUDED = 1, /* the rows of the key are in the range: a line's `ge` and `le` */
+    WELTIYO_EXCLUDED = 2  /* and here they aren't: a line's `gt` and `lt`; any other is refused with WELTIYO_REFUSED_KEY */
+};
+
+/* The most rows that a page has, as a line's. */
+enum { WELTIYO_MOST_ROWS = 1000 };
+
+/* The first rows between two ends of an ordered or ranked index, at most `most` of them and at most WELTIYO_MOST_ROWS: a page. The keys of both
+   ends have their texts in the same bytes, and the first values of a key will do. With `reverse` the range is walked from its upper end down.
+
+   The ids go to the front of `ids`, which has room for `most`; the values of the rows, one row behind another, to the front of `rows`; and their
+   texts, one behind another, to the front of `texts`, where they lie as the values say. `number` is how many rows there are, and `index` is 1
+   where others follow behind them and else 0. `weltiyo_row` and `weltiyo_text` walk a page.
+
+   With WELTIYO_NO_ROOM `index` and `number` say what the page wants, and nothing is said of what `ids`, `rows` and `texts` hold. A page takes
+   memory for the list of its rows while it is copied, so it may be refused with WELTIYO_REFUSED_MEMORY. */
+weltiyo_told weltiyo_range(weltiyo_db *handle, size_t table, size_t index, uint32_t lower, const weltiyo_value *lower_key, size_t lower_count,
+                           uint32_t upper, const weltiyo_value *upper_key, size_t upper_count, const void *key_texts, size_t key_length,
+                           uint32_t reverse, uint64_t *ids, size_t most, weltiyo_value *rows, size_t values, void *texts, size_t room);
+
+/* The first rows of a sequenced index, or with `has_after` of those behind the row `after`: a page as above. Where there is no such row,
+   WELTIYO_REFUSED_ID. */
+weltiyo_told weltiyo_list(weltiyo_db *handle, size_t table, size_t index, uint32_t has_after, uint64_t after, uint64_t *ids, size_t most,
+                          weltiyo_value *rows, size_t values, void *texts, size_t room);
+
+/* Row `n` of a page over a table of so many columns: its values. */
+static inline const weltiyo_value *weltiyo_row(const weltiyo_value *rows, size_t columns, size_t n) { return rows + n * columns; }
+
+/* Where the text of a value begins; it has `value->length` bytes, and no 0 behind them. */
+static inline const char *weltiyo_text(const void *texts, const weltiyo_value *value) { return (const char *)texts + value->at; }
 
 /* ---- */
 

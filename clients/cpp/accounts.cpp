@@ -26,6 +26,16 @@ index = [
     } catch (const weltiyo::Refused &refused) {
         std::cout << "undone: " << refused.word() << '\n';
     }
-    std::cout << db.ask(R"({"cmd":"range","index":"by_balance"})") << '\n';
-    std::cout << db.ask(R"({"cmd":"rank","index":"by_balance","id":0})") << '\n';
+    const std::size_t by_balance = 2; // (index 0 is the one of ids)
+    weltiyo::Page page;
+    db.range(page, 0, by_balance);
+    for (const auto it : page)
+        std::cout << it.text(0) << ' ' << it.number(1) << '\n';
+    std::cout << "rank " << db.rank(0, by_balance, ann) << '\n';
+    if (const auto found = db.find(0, by_balance, {27}))
+        std::cout << "27: " << found->row[0].text() << '\n';
+    std::cout << db.count(0, by_balance, {30}) << " with 30\n";
+    db.range(page, 0, by_balance, weltiyo::Lower::from({28}), weltiyo::Upper::below({100}));
+    for (const auto it : page)
+        std::cout << "28 to 99: " << it.text(0) << '\n';
 }

@@ -11,18 +11,27 @@
 //     }
 //     const auto id = db.insert(0, {"bob", 7, true});     // the same commands with values in place of a line
 //     db.add(0, id, 1, -2);
+//     weltiyo::Page page(10);
+//     db.range(page, 0, 2, weltiyo::Lower::from({5}));    // (index 0 is the one of ids, and index 2 `by_balance`)
+//     for (const auto row : page)
+//         std::cout << row.id() << ' ' << row.text(0) << ' ' << row.number(1) << '\n';
 #ifndef WELTIYO_HPP
 #define WELTIYO_HPP
 
+#include <algorithm>
+#include <array>
 #include <cstdint>
 #include <cstdlib>
 #include <fstream>
+#include <initializer_list>
 #include <iterator>
 #include <new>
+#include <optional>
 #include <random>
 #include <stdexcept>
 #include <string>
 #include <string_view>
+#include <type_traits>
 #include <utility>
 #include <variant>
 #include <vector>
@@ -52,7 +61,8 @@ public:
 
     // That of a call with values, as the line's reply has it but for the index of a conflict, whose number is told.
     explicit Refused(weltiyo_told told)
-        : std::runtime_error(std::string(front()) + weltiyo_refusal_word(told.status) + "\",\"ok\":false}"), word_(weltiyo_refusal_word(told.status)), told_(told) {}
+        : std::runtime_error(std::string(front()) + weltiyo_refusal_word(told.status) + "\",\"ok\":false}"),
+          word_(weltiyo_refusal_word(told.status)), told_(told) {}
 
     // What a call with values told; its status is 0 of a line.
     weltiyo_told told() const noexcept { return told_; }
@@ -75,8 +85,9 @@ private:
 // A value of a row: a whole number, a text, true or false.
 class Value : public std::variant<std::int64_t, bool, std::string> {
 public:
-    Value(std::int64_t number) : variant(number) {}
-    Value(int number) : variant(std::int64_t{number}) {}
+    // A number of any width, an id too. Throws std::out_of_range where it is above 2^63 - 1.
+    template <class Number, std::enable_if_t<std::is_integral_v<Number> && !std::is_same_v<Number, bool>, int> = 0>
+    Value(Number number) : variant(whole(number)) {}
     Value(bool flag) : variant(flag) {}
     Value(std::string text) : variant(std::move(text)) {}
     Value(const char *text) : variant(std::string(text)) {}
@@ -84,10 +95,208 @@ public:
     std::int64_t number() const { return std::get<std::int64_t>(*this); }
     bool flag() const { return std::get<bool>(*this); }
     const std::string &text() const { return std::get<std::string>(*this); }
+
+private:
+    template <class Number> static std::int64_t whole(Number number) {
+        if (number > 0 && static_cast<std::uint64_t>(number) > static_cast<std::uint64_t>(INT64_MAX))
+            throw std::out_of_range("a number is above 2^63 - 1");
+        return static_cast<std::int64_t>(number);
+    }
 };
 
 // A value for each column, in their order.
 using Row = std::vector<Value>;
+
+// A row that was looked for.
+struct Found {
+    std::uint64_t id;
+    Row row;
+};
+
+// A place in the sequenced index of a number: directly before the row of an id.
+struct Place {
+    std::size_t index;
+    std::uint64_t before;
+};
+
+// An edit of a column.
+struct Edit {
+    std::uint32_t kind;
+    std::size_t column;
+    Value value;
+
+    // The column gets a value.
+    static Edit put(std::size_t column, Value value) { return {WELTIYO_PUT, column, std::move(value)}; }
+
+    // A number is added to a column of whole numbers.
+    static Edit add(std::size_t column, std::int64_t number) { return {WELTIYO_ADD, column, number}; }
+};
+
+// The value as C takes it; a text goes behind the others.
+inline weltiyo_value laid(const Value &value, std::string &texts) {
+    if (const auto *number = std::get_if<std::int64_t>(&value))
+        return {WELTIYO_INT, *number, 0, 0};
+    if (const auto *flag = std::get_if<bool>(&value))
+        return {static_cast<std::uint32_t>(*flag ? WELTIYO_TRUE : WELTIYO_FALSE), 0, 0, 0};
+    const std::size_t at = texts.size();
+    texts += value.text();
+    return {WELTIYO_TEXT, 0, at, value.text().size()};
+}
+
+// The values of a key, or the first of them: `{"ann"}`, `{true, 50}`. It takes no memory beside that of long texts.
+class Key {
+public:
+    Key() = default;
+    Key(std::initializer_list<Value> values) { take(values); }
+    Key(const Row &values) { take(values); }
+
+private:
+    friend class Database;
+
+    // (an index has at most four parts, so a fifth value is refused like more of them)
+    template <class Values> void take(const Values &values) {
+        for (const Value &it : values)
+            if (count_ < values_.size())
+                values_[count_++] = laid(it, texts_);
+    }
+
+    std::array<weltiyo_value, 5> values_{};
+    std::size_t count_ = 0;
+    std::string texts_;
+};
+
+// Where a range begins in the order of its index: at its front, or
+struct Lower {
+    std::uint32_t kind = WELTIYO_OPEN;
+    Key key;
+
+    // with the rows of a key, or
+    static Lower from(Key key) { return {WELTIYO_INCLUDED, std::move(key)}; }
+
+    // behind them.
+    static Lower beyond(Key key) { return {WELTIYO_EXCLUDED, std::move(key)}; }
+};
+
+// Where a range ends in the order of its index: at its end, or
+struct Upper {
+    std::uint32_t kind = WELTIYO_OPEN;
+    Key key;
+
+    // with the rows of a key, or
+    static Upper up_to(Key key) { return {WELTIYO_INCLUDED, std::move(key)}; }
+
+    // before them.
+    static Upper below(Key key) { return {WELTIYO_EXCLUDED, std::move(key)}; }
+};
+
+// A row of a page, which lends it until it is filled again.
+class RowView {
+public:
+    RowView(std::uint64_t id, const weltiyo_value *values, std::size_t count, const char *texts) noexcept
+        : id_(id), values_(values), count_(count), texts_(texts) {}
+
+    std::uint64_t id() const noexcept { return id_; }
+
+    // How many columns it has.
+    std::size_t size() const noexcept { return count_; }
+
+    // The value of a column. Each throws std::out_of_range where there is no such column, and std::bad_variant_access where it is of another type.
+    std::int64_t number(std::size_t column) const { return of_kind(column, WELTIYO_INT, WELTIYO_INT).integer; }
+    bool flag(std::size_t column) const { return of_kind(column, WELTIYO_FALSE, WELTIYO_TRUE).kind == WELTIYO_TRUE; }
+    std::string_view text(std::size_t column) const {
+        const weltiyo_value &it = of_kind(column, WELTIYO_TEXT, WELTIYO_TEXT);
+        return {texts_ + it.at, it.length};
+    }
+
+    // A copy.
+    Row row() const {
+        Row row;
+        row.reserve(count_);
+        for (std::size_t n = 0; n < count_; n++) {
+            if (values_[n].kind == WELTIYO_INT)
+                row.emplace_back(values_[n].integer);
+            else if (values_[n].kind == WELTIYO_TEXT)
+                row.emplace_back(std::string(text(n)));
+            else
+                row.emplace_back(flag(n));
+        }
+        return row;
+    }
+
+private:
+    const weltiyo_value &of_kind(std::size_t column, std::uint32_t least, std::uint32_t most) const {
+        if (column >= count_)
+            throw std::out_of_range("a row has no such column");
+        if (values_[column].kind < least || values_[column].kind > most)
+            throw std::bad_variant_access();
+        return values_[column];
+    }
+
+    std::uint64_t id_;
+    const weltiyo_value *values_;
+    std::size_t count_;
+    const char *texts_;
+};
+
+// The first rows of a range or a list, copied. It is filled by `Database::range` and `Database::list`, again and again: it keeps its memory, and
+// takes more only for a page that is larger than those before.
+class Page {
+public:
+    // A page of at most so many rows.
+    explicit Page(std::size_t most = 1000) : most_(most), ids_(most + 1), values_(usual_values), texts_(usual_texts) {}
+
+    std::size_t size() const noexcept { return count_; }
+    bool empty() const noexcept { return count_ == 0; }
+
+    // Whether others follow behind the last row.
+    bool more() const noexcept { return more_; }
+
+    // Row `n`, which must be there.
+    RowView operator[](std::size_t n) const noexcept { return {ids_[n], values_.data() + n * columns_, columns_, texts_.data()}; }
+    RowView back() const noexcept { return (*this)[count_ - 1]; }
+
+    class Iterator {
+    public:
+        using iterator_category = std::input_iterator_tag;
+        using value_type = RowView;
+        using difference_type = std::ptrdiff_t;
+        using pointer = void;
+        using reference = RowView;
+
+        Iterator(const Page &page, std::size_t n) noexcept : page_(&page), n_(n) {}
+        RowView operator*() const noexcept { return (*page_)[n_]; }
+        Iterator &operator++() noexcept { return n_++, *this; }
+        Iterator operator++(int) noexcept { return Iterator(*page_, n_++); }
+        bool operator==(const Iterator &other) const noexcept { return n_ == other.n_; }
+        bool operator!=(const Iterator &other) const noexcept { return n_ != other.n_; }
+
+    private:
+        const Page *page_;
+        std::size_t n_;
+    };
+
+    Iterator begin() const noexcept { return {*this, 0}; }
+    Iterator end() const noexcept { return {*this, count_}; }
+
+private:
+    friend class Database;
+
+    // (room to begin with; no pointer is null)
+    static constexpr std::size_t usual_values = 64, usual_texts = 1024;
+
+    void grow(std::size_t values, std::size_t texts) {
+        if (values > values_.size())
+            values_.resize(std::max(values, 2 * values_.size()));
+        if (texts > texts_.size())
+            texts_.resize(std::max(texts, 2 * texts_.size()));
+    }
+
+    std::size_t most_, count_ = 0, columns_ = 0;
+    bool more_ = false;
+    std::vector<std::uint64_t> ids_;
+    std::vector<weltiyo_value> values_;
+    std::vector<char> texts_;
+};
 
 class Session;
 
@@ -116,10 +325,11 @@ public:
         return Database(text);
     }
 
-    Database(Database &&other) noexcept : handle_(std::exchange(other.handle_, nullptr)) {}
+    Database(Database &&other) noexcept : handle_(std::exchange(other.handle_, nullptr)), columns_(other.columns_) {}
 
     Database &operator=(Database &&other) noexcept {
         std::swap(handle_, other.handle_);
+        std::swap(columns_, other.columns_);
         return *this;
     }
 
@@ -147,12 +357,20 @@ public:
         return reply;
     }
 
-    // The same commands with values in place of a line. Tables and columns go by their numbers, from 0 on. Each throws Refused.
+    // The same commands with values in place of a line. Tables and columns go by their numbers, from 0 on; of the indexes the one of ids has the
+    // number 0, and those of the schema follow. Each throws Refused.
 
     // Adds a row, and answers its id.
     std::uint64_t insert(std::size_t table, const Row &row, std::uint64_t connection = own) {
         const Laid laid(row);
         return well(weltiyo_insert(handle_, connection, table, laid.values.data(), row.size(), laid.texts.data(), laid.texts.size()));
+    }
+
+    // The same, at a place of a sequenced index.
+    std::uint64_t insert(std::size_t table, const Row &row, Place place, std::uint64_t connection = own) {
+        const Laid laid(row);
+        return well(weltiyo_insert_before(
+            handle_, connection, table, laid.values.data(), row.size(), laid.texts.data(), laid.texts.size(), place.index, place.before));
     }
 
     // Sets another row for an id.
@@ -166,29 +384,92 @@ public:
         well(weltiyo_modify_add(handle_, connection, table, id, column, number, 1));
     }
 
+    // Makes edits, each of a column of its own. Where a unique index refuses the result, nothing changes; without `rollback` the row is erased then.
+    void modify(std::size_t table, std::uint64_t id, const std::vector<Edit> &edits, bool rollback = true, std::uint64_t connection = own) {
+        std::vector<weltiyo_edit> made;
+        std::string texts;
+        made.reserve(edits.size() + 1); // (no pointer is null)
+        for (const Edit &it : edits)
+            made.push_back({it.kind, it.column, laid(it.value, texts)});
+        well(weltiyo_modify(handle_, connection, table, id, made.data(), edits.size(), texts.data(), texts.size(), rollback));
+    }
+
     // Erases a row.
     void erase(std::size_t table, std::uint64_t id, std::uint64_t connection = own) { well(weltiyo_erase(handle_, connection, table, id)); }
 
+    // Erases every row of a whole key, and answers how many.
+    std::uint64_t erase_key(std::size_t table, std::size_t index, const Key &key, std::uint64_t connection = own) {
+        return well(weltiyo_erase_key(handle_, connection, table, index, key.values_.data(), key.count_, key.texts_.data(), key.texts_.size()));
+    }
+
+    // Moves a row of a sequenced index directly before another, or to its end.
+    void relocate(std::size_t table, std::size_t index, std::uint64_t id, std::optional<std::uint64_t> before = {}, std::uint64_t connection = own) {
+        well(weltiyo_relocate(handle_, connection, table, index, id, before.has_value(), before.value_or(0)));
+    }
+
+    // How many rows a table has.
+    std::uint64_t size(std::size_t table) { return well(weltiyo_size(handle_, table)); }
+
     // The row of an id.
     Row get(std::size_t table, std::uint64_t id) {
-        weltiyo_value values[WELTIYO_ROW_VALUES] = {};
-        char texts[WELTIYO_ROW_TEXTS];
-        // (what isn't written stays of a kind that there isn't)
-        for (weltiyo_value &it : values)
-            it.kind = WELTIYO_TRUE + 1;
-        well(weltiyo_get(handle_, table, id, values, WELTIYO_ROW_VALUES, texts, sizeof texts));
         Row row;
-        for (const weltiyo_value &it : values) {
-            if (it.kind > WELTIYO_TRUE)
-                break;
-            if (it.kind == WELTIYO_INT)
-                row.emplace_back(it.integer);
-            else if (it.kind == WELTIYO_TEXT)
-                row.emplace_back(std::string(texts + it.at, it.length));
-            else
-                row.emplace_back(it.kind == WELTIYO_TRUE);
-        }
+        well(copied(row, [&](weltiyo_value *values, char *texts) {
+            return weltiyo_get(handle_, table, id, values, WELTIYO_ROW_VALUES, texts, WELTIYO_ROW_TEXTS);
+        }));
         return row;
+    }
+
+    // The first row of a key, or in an ordered or ranked index of the first values of one, if there is one.
+    std::optional<Found> find(std::size_t table, std::size_t index, const Key &key) {
+        return if_there([&](weltiyo_value *values, char *texts) {
+            return weltiyo_find(handle_, table, index, key.values_.data(), key.count_, key.texts_.data(), key.texts_.size(), values,
+                                WELTIYO_ROW_VALUES, texts, WELTIYO_ROW_TEXTS);
+        });
+    }
+
+    // The row of a ranked index before which `n` others stand, if there is one.
+    std::optional<Found> nth(std::size_t table, std::size_t index, std::uint64_t n) {
+        return if_there([&](weltiyo_value *values, char *texts) {
+            return weltiyo_nth(handle_, table, index, n, values, WELTIYO_ROW_VALUES, texts, WELTIYO_ROW_TEXTS);
+        });
+    }
+
+    // How many rows have a key, or in an ordered or ranked index the first values of one.
+    std::uint64_t count(std::size_t table, std::size_t index, const Key &key) { return of_key(weltiyo_count, table, index, key); }
+
+    // How many rows stand before the row of an id in a ranked index.
+    std::uint64_t rank(std::size_t table, std::size_t index, std::uint64_t id) { return well(weltiyo_rank(handle_, table, index, id)); }
+
+    // How many rows of a ranked index have a key that is less than this one, or not greater; the first values of one will do.
+    std::uint64_t lower_rank(std::size_t table, std::size_t index, const Key &key) { return of_key(weltiyo_lower_rank, table, index, key); }
+    std::uint64_t upper_rank(std::size_t table, std::size_t index, const Key &key) { return of_key(weltiyo_upper_rank, table, index, key); }
+
+    // Fills a page with the first rows between two ends of an ordered or ranked index; in reverse, from its upper end down. Refused, it is empty.
+    void range(Page &page, std::size_t table, std::size_t index, const Lower &lower = {}, const Upper &upper = {}, bool reverse = false) {
+        // (the texts of both keys lie one behind another)
+        const Key *last = &upper.key;
+        Key both;
+        if (!lower.key.texts_.empty() && !upper.key.texts_.empty()) {
+            both = upper.key;
+            both.texts_.insert(0, lower.key.texts_);
+            for (weltiyo_value &it : both.values_)
+                it.at += lower.key.texts_.size();
+            last = &both;
+        }
+        const std::string &texts = last->texts_.empty() ? lower.key.texts_ : last->texts_;
+        fill(page, table, [&] {
+            return weltiyo_range(handle_, table, index, lower.kind, lower.key.values_.data(), lower.key.count_, upper.kind, last->values_.data(),
+                                 last->count_, texts.data(), texts.size(), reverse, page.ids_.data(), page.most_, page.values_.data(),
+                                 page.values_.size(), page.texts_.data(), page.texts_.size());
+        });
+    }
+
+    // Fills a page with the first rows of a sequenced index, or of those behind a row. Refused, it is empty.
+    void list(Page &page, std::size_t table, std::size_t index, std::optional<std::uint64_t> after = {}) {
+        fill(page, table, [&] {
+            return weltiyo_list(handle_, table, index, after.has_value(), after.value_or(0), page.ids_.data(), page.most_, page.values_.data(),
+                                page.values_.size(), page.texts_.data(), page.texts_.size());
+        });
     }
 
     // A session for a block: it is undone at the end of the block, unless it was squashed or pushed. Throws Refused.
@@ -203,8 +484,11 @@ public:
     // Ends all sessions up to the one of this revision: what was done in them can't be undone any more. Throws Refused.
     void commit(std::uint64_t revision) { well(weltiyo_commit(handle_, own, revision)); }
 
-    // Undoes every open session. Throws Refused.
-    void undo_all() { ask(R"({"cmd":"undo_all"})"); }
+    // Undoes every open session, and answers how many. Throws Refused.
+    std::uint64_t undo_all() { return well(weltiyo_undo_all(handle_, own)); }
+
+    // Lets go of the sessions that are held, which stay open, and answers how many. Throws Refused.
+    std::uint64_t push() { return well(weltiyo_push(handle_, own)); }
 
     // The number of the newest session. Throws Refused.
     std::uint64_t revision() { return number_in(ask(R"({"cmd":"revision"})"), "\"revision\":"); }
@@ -227,25 +511,75 @@ private:
         return (std::uint64_t{drawn()} << 32) ^ drawn();
     }
 
-    // Values as C takes them, and their texts one behind another.
+    // A row as C takes it, and its texts one behind another.
     struct Laid {
         explicit Laid(const Row &row) {
             values.reserve(row.size() + 1); // (no pointer is null)
-            for (const Value &it : row) {
-                if (const auto *number = std::get_if<std::int64_t>(&it)) {
-                    values.push_back({WELTIYO_INT, *number, 0, 0});
-                } else if (const auto *flag = std::get_if<bool>(&it)) {
-                    values.push_back({static_cast<std::uint32_t>(*flag ? WELTIYO_TRUE : WELTIYO_FALSE), 0, 0, 0});
-                } else {
-                    values.push_back({WELTIYO_TEXT, 0, texts.size(), it.text().size()});
-                    texts += it.text();
-                }
-            }
+            for (const Value &it : row)
+                values.push_back(laid(it, texts));
         }
 
         std::vector<weltiyo_value> values;
         std::string texts;
     };
+
+    // What a call tells that copies a row, and the row where there is one.
+    template <class Call> static weltiyo_told copied(Row &row, Call call) {
+        weltiyo_value values[WELTIYO_ROW_VALUES] = {};
+        char texts[WELTIYO_ROW_TEXTS];
+        // (what isn't written stays of a kind that there isn't)
+        for (weltiyo_value &it : values)
+            it.kind = WELTIYO_TRUE + 1;
+        const weltiyo_told told = call(values, texts);
+        std::size_t count = 0;
+        while (count < WELTIYO_ROW_VALUES && values[count].kind <= WELTIYO_TRUE)
+            count++;
+        if (told.status == 0)
+            row = RowView(told.number, values, count, texts).row();
+        return told;
+    }
+
+    // The row that a call copies, and its id, or none where there is no such row.
+    template <class Call> static std::optional<Found> if_there(Call call) {
+        Found found;
+        const weltiyo_told told = copied(found.row, call);
+        if (told.status == WELTIYO_REFUSED_ID)
+            return {};
+        found.id = well(told);
+        return found;
+    }
+
+    using OfKey = weltiyo_told(weltiyo_db *, std::size_t, std::size_t, const weltiyo_value *, std::size_t, const void *, std::size_t);
+
+    std::uint64_t of_key(OfKey *call, std::size_t table, std::size_t index, const Key &key) {
+        return well(call(handle_, table, index, key.values_.data(), key.count_, key.texts_.data(), key.texts_.size()));
+    }
+
+    // Fills a page by a call, which is made again where it wants more room.
+    template <class Call> void fill(Page &page, std::size_t table, Call call) {
+        page.count_ = 0;
+        page.more_ = false;
+        weltiyo_told told = call();
+        if (told.status == WELTIYO_NO_ROOM) {
+            page.grow(told.index, told.number);
+            told = call();
+        }
+        const std::size_t count = well(told);
+        page.columns_ = count == 0 ? 0 : column_count(table, page.ids_[0]);
+        page.more_ = told.index != 0;
+        page.count_ = count;
+    }
+
+    // How many columns a table has, which is asked once: the row of an id wants a value for each.
+    std::size_t column_count(std::size_t table, std::uint64_t id) {
+        std::uint32_t &count = columns_[table];
+        if (count == 0) {
+            weltiyo_value value;
+            char text;
+            count = weltiyo_get(handle_, table, id, &value, 0, &text, 0).index;
+        }
+        return count;
+    }
 
     static std::uint64_t well(weltiyo_told told) {
         if (told.status != 0)
@@ -258,6 +592,7 @@ private:
     }
 
     weltiyo_db *handle_ = nullptr;
+    std::array<std::uint32_t, 16> columns_{}; // (a catalog has at most 16 tables)
 };
 
 // A session of a block, of the connection `Database::own`. Sessions end in the order opposite to that in which they began, and before their

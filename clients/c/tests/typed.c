@@ -1,186 +1,443 @@
-/* The calls with values beside lines: one database is asked by calls, another by the lines of the same commands, by the same connections. What a
-   call tells must be what the line's reply says, byte for byte. It prints `ok`, or what differs: typed [COMMANDS [SEED]]. */
-#include <inttypes.h>
-#include <stdio.h>
-#include <stdlib.h>
-#include <string.h>
-#include <weltiyo.h>
+/* The calls with values beside lines: one database is asked by calls, another by the lines of the same commands, by the same connections, over
+   random catalogs. What a call tells must be what the line's reply says, byte for byte; without room it must tell what it wants, and with just
+   that room it must answer as with more. It prints `ok`, or what differs: typed [COMMANDS [SEED]]. */
+#include "made.h"
 
-enum { CONNECTIONS = 3, LONGEST = 1024, NAMES = 40 };
+enum { CONNECTIONS = 3, OF_A_CATALOG = 400, MOST_ROWS = 1000, KEYED = 1 << ORDERED | 1 << RANKED | 1 << HASHED, SORTED = 1 << ORDERED | 1 << RANKED };
 
 static weltiyo_db *called, *asked;
-static uint64_t drawn;
+static made_catalog catalog;
+static made_values values;
+static written line, reply;
 
-static uint64_t below(uint64_t n) {
-    drawn ^= drawn << 13, drawn ^= drawn >> 7, drawn ^= drawn << 17;
-    return drawn % n;
-}
+/* ---- What a line's reply says */
 
-/* What a reply of the line says, from what the call told; `accepted` is the reply of an accepted one, with its number. */
-static void said(char *out, weltiyo_told told, const char *accepted, int is_modify) {
-    static const char *const indexes[] = {"id", "by_owner", "by_balance", "by_vip", "by_class", "line"};
-    const char *word = weltiyo_refusal_word(told.status);
-    if (told.status == 0)
-        snprintf(out, LONGEST, accepted, told.number);
-    else if (told.status == WELTIYO_REFUSED_UNIQUE || told.status == WELTIYO_REFUSED_LOST)
-        snprintf(out, LONGEST, "{\"error\":\"unique\",\"id\":%" PRIu64 ",\"index\":\"%s\",%s\"ok\":false}", told.number, indexes[told.index],
-                 told.status == WELTIYO_REFUSED_LOST ? "\"lost\":true," : is_modify ? "\"lost\":false," : "");
-    else
-        snprintf(out, LONGEST, "{\"error\":\"%s\",\"ok\":false}", word);
-}
-
-static int differs(const char *line, const char *reply, const char *wanted) {
-    if (!strcmp(reply, wanted))
-        return 0;
-    printf("line %s\n  told %s\n  came %s\n", line, reply, wanted);
-    return 1;
-}
-
-static int is_other(uint64_t conn, const char *line, const char *reply) {
-    char came[4 * LONGEST];
-    size_t length = weltiyo_ask(asked, conn, line, strlen(line), came, sizeof came - 1);
-    came[length] = 0;
-    return differs(line, reply, came);
-}
-
-/* A row: the owner's name, which may be another's, or too long, or no UTF-8 or out of the bytes; the number; whether it is a VIP. */
-static size_t make_row(weltiyo_value *row, char *texts, char *json) {
-    uint64_t n = below(NAMES);
-    size_t length = (size_t)snprintf(texts, 64, "##owner%" PRIu64 "é", n) - 2;
-    int64_t balance = (int64_t)below(2001) - 1000;
-    int vip = (int)below(2);
-    row[0] = (weltiyo_value){WELTIYO_TEXT, 77, 2, length};
-    row[1] = (weltiyo_value){WELTIYO_INT, balance, 99, 98};
-    row[2] = (weltiyo_value){vip ? WELTIYO_TRUE : WELTIYO_FALSE, 5, 0, 0};
-    snprintf(json, LONGEST, "{\"owner\":\"%s\",\"balance\":%" PRId64 ",\"vip\":%s}", texts + 2, balance, vip ? "true" : "false");
-    return length + 2;
-}
-
-static int insert(uint64_t conn) {
-    weltiyo_value row[3];
-    char texts[64], json[LONGEST / 2], line[LONGEST], reply[LONGEST];
-    size_t length = make_row(row, texts, json);
-    said(reply, weltiyo_insert(called, conn, 0, row, 3, texts, length), "{\"id\":%" PRIu64 ",\"ok\":true}", 0);
-    snprintf(line, LONGEST, "{\"cmd\":\"insert\",\"row\":%s}", json);
-    return is_other(conn, line, reply);
-}
-
-static int replace(uint64_t conn, uint64_t id) {
-    weltiyo_value row[3];
-    char texts[64], json[LONGEST / 2], line[LONGEST], reply[LONGEST];
-    size_t length = make_row(row, texts, json);
-    said(reply, weltiyo_replace(called, conn, 0, id, row, 3, texts, length), "{\"ok\":true}", 0);
-    snprintf(line, LONGEST, "{\"cmd\":\"replace\",\"id\":%" PRIu64 ",\"row\":%s}", id, json);
-    return is_other(conn, line, reply);
-}
-
-static int add(uint64_t conn, uint64_t id) {
-    char line[LONGEST], reply[LONGEST];
-    int64_t number = below(50) ? (int64_t)below(11) - 5 : INT64_MAX;
-    size_t column = below(30) ? 1 : 0;
-    uint32_t rollback = below(2) != 0;
-    said(reply, weltiyo_modify_add(called, conn, 0, id, column, number, rollback), "{\"ok\":true}", 1);
-    snprintf(line, LONGEST, "{\"cmd\":\"modify\",\"id\":%" PRIu64 ",\"add\":{\"%s\":%" PRId64 "},\"rollback\":%s}", id, column ? "balance" : "owner", number,
-             rollback ? "true" : "false");
-    return is_other(conn, line, reply);
-}
-
-static int erase(uint64_t conn, uint64_t id) {
-    char line[LONGEST], reply[LONGEST];
-    said(reply, weltiyo_erase(called, conn, 0, id), "{\"ok\":true}", 0);
-    snprintf(line, LONGEST, "{\"cmd\":\"erase\",\"id\":%" PRIu64 "}", id);
-    return is_other(conn, line, reply);
-}
-
-static int get(uint64_t conn, uint64_t id) {
-    weltiyo_value row[WELTIYO_ROW_VALUES];
-    char texts[64], line[LONGEST], reply[LONGEST];
-    weltiyo_told told = weltiyo_get(called, 0, id, row, WELTIYO_ROW_VALUES, texts, sizeof texts);
-    if (told.status)
-        said(reply, told, "", 0);
-    else
-        snprintf(reply, LONGEST, "{\"ok\":true,\"row\":{\"balance\":%" PRId64 ",\"id\":%" PRIu64 ",\"owner\":\"%.*s\",\"vip\":%s}}", row[1].integer, told.number,
-                 (int)row[0].length, texts + row[0].at, row[2].kind == WELTIYO_TRUE ? "true" : "false");
-    snprintf(line, LONGEST, "{\"cmd\":\"get\",\"id\":%" PRIu64 "}", id);
-    return is_other(conn, line, reply);
-}
-
-static int step(uint64_t conn, int which) {
-    static weltiyo_told (*const calls[])(weltiyo_db *, uint64_t) = {weltiyo_start, weltiyo_undo, weltiyo_squash};
-    static const char *const lines[] = {"{\"cmd\":\"start\"}", "{\"cmd\":\"undo\"}", "{\"cmd\":\"squash\"}"};
-    char reply[LONGEST];
-    said(reply, calls[which](called, conn), "{\"ok\":true,\"revision\":%" PRIu64 "}", 0);
-    return is_other(conn, lines[which], reply);
-}
-
-static int commit(uint64_t conn) {
-    char line[LONGEST], reply[LONGEST];
-    uint64_t number = below(20);
-    said(reply, weltiyo_commit(called, conn, number), "{\"committed\":%" PRIu64 ",\"ok\":true}", 0);
-    snprintf(line, LONGEST, "{\"cmd\":\"commit\",\"revision\":%" PRIu64 "}", number);
-    return is_other(conn, line, reply);
-}
-
-static int one_of(uint64_t conn) {
-    uint64_t id = below(120);
-    switch (below(16)) {
-    case 0: case 1: case 2: return insert(conn);
-    case 3: return replace(conn, id);
-    case 4: case 5: case 6: return add(conn, id);
-    case 7: return erase(conn, id);
-    case 8: case 9: case 10: return get(conn, id);
-    case 11: return below(4) ? 0 : commit(conn);
-    default: return step(conn, (int)below(3));
+/* What it says of a call that told this; `accepted` is the reply of an accepted one, with its number. */
+static void said(weltiyo_told told, const char *accepted, int is_modify) {
+    start_text(&reply);
+    if (told.status == 0) {
+        put(&reply, accepted, told.number);
+    } else if (told.status == WELTIYO_REFUSED_UNIQUE || told.status == WELTIYO_REFUSED_LOST) {
+        put(&reply, "{\"error\":\"unique\",\"id\":%" PRIu64 ",\"index\":\"", told.number);
+        put(&reply, told.index ? "i%u" : "id", told.index);
+        put(&reply, "\",%s\"ok\":false}", told.status == WELTIYO_REFUSED_LOST ? "\"lost\":true," : is_modify ? "\"lost\":false," : "");
+    } else {
+        put(&reply, "{\"error\":\"%s\",\"ok\":false}", weltiyo_refusal_word(told.status));
     }
 }
 
-static int is_told(weltiyo_told told, uint32_t status, uint32_t index, uint64_t number) {
-    if (told.status == status && told.index == index && told.number == number)
-        return 1;
-    printf("told %u %u %" PRIu64 ", wanted %u %u %" PRIu64 "\n", told.status, told.index, told.number, status, index, number);
-    return 0;
+static void begin(const char *command, size_t table) {
+    start_text(&line);
+    put(&line, "{\"cmd\":\"%s\",\"table\":\"t%zu\"", command, table);
 }
 
-/* What no line can ask: values that are none, tables and columns that aren't there, and rooms that are too small. */
-static int is_well_at_edges(void) {
-    weltiyo_db *db = NULL;
-    weltiyo_value row[] = {{WELTIYO_TEXT, 0, 0, 3}, {WELTIYO_INT, -7, 0, 0}, {WELTIYO_TRUE, 0, 0, 0}}, out[4];
-    char texts[4] = "ann";
-    int well = weltiyo_open("", 0, 1, &db) == WELTIYO_OK;
-    well &= is_told(weltiyo_insert(db, 1, 1, row, 3, "ann", 3), WELTIYO_REFUSED_TABLE, 0, 0);
-    well &= is_told(weltiyo_insert(db, 1, 0, row, 2, "ann", 3), WELTIYO_REFUSED_ROW, 0, 0);
-    well &= is_told(weltiyo_insert(db, 1, 0, row, 3, "ann", 2), WELTIYO_REFUSED_ROW, 0, 0); /* (the text goes past the bytes) */
-    row[0].at = SIZE_MAX;
-    well &= is_told(weltiyo_insert(db, 1, 0, row, 3, "ann", 3), WELTIYO_REFUSED_ROW, 0, 0);
-    row[0].at = 0;
-    well &= is_told(weltiyo_insert(db, 1, 0, row, 3, "\xff\xff\xff", 3), WELTIYO_REFUSED_ROW, 0, 0);
-    row[2].kind = 4;
-    well &= is_told(weltiyo_insert(db, 1, 0, row, 3, "ann", 3), WELTIYO_REFUSED_ROW, 0, 0);
-    row[2].kind = WELTIYO_FALSE;
-    well &= is_told(weltiyo_insert(db, 1, 0, row, 3, "ann", 3), 0, 0, 0);
-    well &= is_told(weltiyo_modify_add(db, 1, 0, 0, 3, 1, 1), WELTIYO_REFUSED_ROW, 0, 0);
-    well &= is_told(weltiyo_get(db, 1, 0, out, 4, texts, 4), WELTIYO_REFUSED_TABLE, 0, 0);
-    well &= is_told(weltiyo_get(db, 0, 1, out, 4, texts, 4), WELTIYO_REFUSED_ID, 0, 0);
-    well &= is_told(weltiyo_get(db, 0, 0, out, 2, texts, 4), WELTIYO_NO_ROOM, 3, 3);
-    well &= is_told(weltiyo_get(db, 0, 0, out, 3, texts, 2), WELTIYO_NO_ROOM, 3, 3);
-    out[3].integer = 42, texts[3] = '#';
-    well &= is_told(weltiyo_get(db, 0, 0, out, 4, texts, 4), 0, 0, 0);
-    well &= !memcmp(texts, "ann#", 4) && out[0].kind == WELTIYO_TEXT && out[0].at == 0 && out[0].length == 3;
-    well &= out[1].kind == WELTIYO_INT && out[1].integer == -7 && out[2].kind == WELTIYO_FALSE && out[3].integer == 42;
-    weltiyo_close(db);
+/* Whether the line isn't answered with the reply. */
+static int is_other(uint64_t conn) {
+    static char came[LONGEST];
+    put(&line, "}");
+    size_t length = weltiyo_ask(asked, conn, line.text, line.length, came, sizeof came - 1);
+    came[length < sizeof came ? length : 0] = 0;
+    if (!strcmp(reply.text, came))
+        return 0;
+    printf("line %s\n  told %s\n  came %s\n", line.text, reply.text, came);
+    return 1;
+}
+
+static void put_index(written *to, size_t index) { put(to, index ? ",\"index\":\"i%zu\"" : ",\"index\":\"id\"", index); }
+
+static made_table *pick_table(size_t *number) {
+    *number = below(60) ? below(catalog.tables) : below(2) ? catalog.tables : SIZE_MAX;
+    return &catalog.table[*number < catalog.tables ? *number : 0];
+}
+
+/* ---- Changes */
+
+static int insert(uint64_t conn) {
+    size_t number, index;
+    made_table *table = pick_table(&number);
+    uint64_t before = made_id(table);
+    weltiyo_told told;
+    start_values(&values);
+    add_row(&values, table);
+    begin("insert", number);
+    put(&line, ",\"row\":");
+    put_members(&line, &values);
+    if (below(4)) {
+        told = weltiyo_insert(called, conn, number, values.values, values.count, values.texts, values.length);
+    } else {
+        index = pick_index(table, 1 << SEQUENCED);
+        told = weltiyo_insert_before(called, conn, number, values.values, values.count, values.texts, values.length, index, before);
+        put(&line, ",\"before\":{\"id\":%" PRIu64, before);
+        put_index(&line, index);
+        put(&line, "}");
+    }
+    table->inserts += told.status == 0;
+    said(told, "{\"id\":%" PRIu64 ",\"ok\":true}", 0);
+    return is_other(conn);
+}
+
+static int replace(uint64_t conn) {
+    size_t number;
+    made_table *table = pick_table(&number);
+    uint64_t id = made_id(table);
+    start_values(&values);
+    add_row(&values, table);
+    said(weltiyo_replace(called, conn, number, id, values.values, values.count, values.texts, values.length), "{\"ok\":true}", 0);
+    begin("replace", number);
+    put(&line, ",\"id\":%" PRIu64 ",\"row\":", id);
+    put_members(&line, &values);
+    return is_other(conn);
+}
+
+static int add(uint64_t conn) {
+    size_t number;
+    made_table *table = pick_table(&number);
+    uint64_t id = made_id(table);
+    size_t column = below(table->columns + (below(20) ? 0 : 1));
+    int64_t more = below(30) ? (int64_t)below(11) - 5 : INT64_MAX;
+    uint32_t rollback = (uint32_t)below(3);
+    said(weltiyo_modify_add(called, conn, number, id, column, more, rollback), "{\"ok\":true}", 1);
+    begin("modify", number);
+    put(&line, ",\"id\":%" PRIu64 ",\"add\":{\"c%zu\":%" PRId64 "},\"rollback\":%s", id, column, more, rollback ? "true" : "false");
+    return is_other(conn);
+}
+
+/* An edit as a member of `set` or of `add`; one of a column that has one already as members of both, which a line refuses for the same. */
+static void put_edit(written *sets, written *adds, const weltiyo_edit *edits, size_t n) {
+    int is_second = 0;
+    for (size_t other = 0; other < n; other++)
+        is_second |= edits[other].column == edits[n].column;
+    for (uint32_t kind = WELTIYO_PUT; kind <= WELTIYO_ADD; kind++) {
+        written *to = kind == WELTIYO_ADD ? adds : sets;
+        if (!is_second && (edits[n].kind == WELTIYO_ADD) != (kind == WELTIYO_ADD))
+            continue;
+        put(to, "%s\"c%zu\":", to->length ? "," : "", edits[n].column);
+        if (edits[n].kind > WELTIYO_ADD)
+            put(to, "null");
+        else
+            put_value(to, &edits[n].value, values.texts, values.length);
+    }
+}
+
+static int modify(uint64_t conn) {
+    static written sets, adds;
+    size_t number, count = below(4);
+    made_table *table = pick_table(&number);
+    uint64_t id = made_id(table);
+    uint32_t rollback = (uint32_t)below(3);
+    weltiyo_edit edits[3];
+    start_values(&values), start_text(&sets), start_text(&adds);
+    for (size_t n = 0, column = below(table->columns); n < count; n++, column = below(6) ? (column + 1) % table->columns : below(table->columns + 1)) {
+        uint32_t type = column < table->columns ? table->types[column] : WELTIYO_INT;
+        add_value(&values, type);
+        uint32_t kind = !below(100) ? 2 : type == WELTIYO_INT ? (uint32_t)below(2) : below(40) ? WELTIYO_PUT : WELTIYO_ADD;
+        edits[n] = (weltiyo_edit){kind, column, values.values[n]};
+        put_edit(&sets, &adds, edits, n);
+    }
+    said(weltiyo_modify(called, conn, number, id, edits, count, values.texts, values.length, rollback), "{\"ok\":true}", 1);
+    begin("modify", number);
+    put(&line, ",\"id\":%" PRIu64 ",\"set\":{%s},\"add\":{%s},\"rollback\":%s", id, sets.text, adds.text, rollback ? "true" : "false");
+    return is_other(conn);
+}
+
+static int erase(uint64_t conn) {
+    size_t number;
+    uint64_t id = made_id(pick_table(&number));
+    said(weltiyo_erase(called, conn, number, id), "{\"ok\":true}", 0);
+    begin("erase", number);
+    put(&line, ",\"id\":%" PRIu64, id);
+    return is_other(conn);
+}
+
+static int relocate(uint64_t conn) {
+    size_t number;
+    made_table *table = pick_table(&number);
+    size_t index = pick_index(table, 1 << SEQUENCED);
+    uint64_t id = made_id(table), before = made_id(table);
+    uint32_t has_before = (uint32_t)below(3);
+    said(weltiyo_relocate(called, conn, number, index, id, has_before, before), "{\"ok\":true}", 0);
+    begin("relocate", number);
+    put_index(&line, index);
+    put(&line, ",\"id\":%" PRIu64, id);
+    if (has_before)
+        put(&line, ",\"before\":%" PRIu64, before);
+    return is_other(conn);
+}
+
+/* ---- Session steps */
+
+static int step(uint64_t conn) {
+    static weltiyo_told (*const calls[])(weltiyo_db *, uint64_t) = {weltiyo_start, weltiyo_undo, weltiyo_squash, weltiyo_undo_all, weltiyo_push};
+    static const char *const lines[] = {"start", "undo", "squash", "undo_all", "push"};
+    static const char *const numbers[] = {"revision", "revision", "revision", "undone", "pushed"};
+    size_t which = below(6) ? below(3) : below(5);
+    char accepted[64];
+    snprintf(accepted, sizeof accepted, "{\"ok\":true,\"%s\":%%" PRIu64 "}", numbers[which]);
+    said(calls[which](called, conn), accepted, 0);
+    start_text(&line);
+    put(&line, "{\"cmd\":\"%s\"", lines[which]);
+    return is_other(conn);
+}
+
+static int commit(uint64_t conn) {
+    uint64_t number = below(20);
+    said(weltiyo_commit(called, conn, number), "{\"committed\":%" PRIu64 ",\"ok\":true}", 0);
+    start_text(&line);
+    put(&line, "{\"cmd\":\"commit\",\"revision\":%" PRIu64, number);
+    return is_other(conn);
+}
+
+/* ---- Numbers of a key, or of a row */
+
+static int of_key(uint64_t conn) {
+    static const char *const commands[] = {"count", "lower_rank", "upper_rank", "erase_key"};
+    static const char *const accepted[] = {
+        "{\"count\":%" PRIu64 ",\"ok\":true}",
+        "{\"ok\":true,\"rank\":%" PRIu64 "}",
+        "{\"ok\":true,\"rank\":%" PRIu64 "}",
+        "{\"erased\":%" PRIu64 ",\"ok\":true}",
+    };
+    size_t number, which = below(9) / 2 % 4;
+    made_table *table = pick_table(&number);
+    size_t index = pick_index(table, which % 3 ? 1 << RANKED : KEYED);
+    weltiyo_told told;
+    start_values(&values);
+    add_key(&values, table, index);
+    if (which == 3)
+        told = weltiyo_erase_key(called, conn, number, index, values.values, values.count, values.texts, values.length);
+    else
+        told = (which == 0 ? weltiyo_count : which == 1 ? weltiyo_lower_rank : weltiyo_upper_rank)(
+            called, number, index, values.values, values.count, values.texts, values.length);
+    said(told, accepted[which], 0);
+    begin(commands[which], number);
+    put_index(&line, index);
+    put(&line, ",\"key\":");
+    put_key(&line, values.values, values.count, &values);
+    return is_other(conn);
+}
+
+static int rank_or_size(uint64_t conn) {
+    size_t number;
+    made_table *table = pick_table(&number);
+    if (!below(3)) {
+        said(weltiyo_size(called, number), "{\"ok\":true,\"size\":%" PRIu64 "}", 0);
+        begin("size", number);
+        return is_other(conn);
+    }
+    size_t index = pick_index(table, 1 << RANKED);
+    uint64_t id = made_id(table);
+    said(weltiyo_rank(called, number, index, id), "{\"ok\":true,\"rank\":%" PRIu64 "}", 0);
+    begin("rank", number);
+    put_index(&line, index);
+    put(&line, ",\"id\":%" PRIu64, id);
+    return is_other(conn);
+}
+
+/* ---- Rows and pages */
+
+typedef enum { GET, FIND, NTH, RANGE, LIST } look_up;
+
+/* A look-up that answers rows. */
+typedef struct {
+    look_up which;
+    size_t table, columns, index, most, lower_count;
+    uint64_t number; /* an id, or a rank */
+    uint32_t lower, upper, reverse, has_after;
+    made_values keys; /* (of a range the lower one's values first) */
+} query;
+
+/* Where rows are copied to. */
+typedef struct {
+    uint64_t *ids;
+    weltiyo_value *rows;
+    char *texts;
+    size_t values, room;
+} place;
+
+static weltiyo_told fetch(const query *it, const place *to) {
+    const made_values *keys = &it->keys;
+    size_t upper_count = keys->count - it->lower_count;
+    switch (it->which) {
+    case GET: return weltiyo_get(called, it->table, it->number, to->rows, to->values, to->texts, to->room);
+    case NTH: return weltiyo_nth(called, it->table, it->index, it->number, to->rows, to->values, to->texts, to->room);
+    case FIND:
+        return weltiyo_find(called, it->table, it->index, keys->values, keys->count, keys->texts, keys->length, to->rows, to->values, to->texts, to->room);
+    case LIST:
+        return weltiyo_list(called, it->table, it->index, it->has_after, it->number, to->ids, it->most, to->rows, to->values, to->texts, to->room);
+    default:
+        return weltiyo_range(called, it->table, it->index, it->lower, keys->values, it->lower_count, it->upper, keys->values + it->lower_count, upper_count,
+                             keys->texts, keys->length, it->reverse, to->ids, it->most, to->rows, to->values, to->texts, to->room);
+    }
+}
+
+static int is_page(const query *it) { return it->which >= RANGE; }
+
+static size_t row_count(const query *it, weltiyo_told told) { return is_page(it) ? told.number : 1; }
+
+/* What the reply shows of rows that were copied. */
+static void show(const query *it, weltiyo_told told, const place *from) {
+    said(told, "", 0);
+    if (told.status)
+        return;
+    put(&reply, is_page(it) ? "{\"more\":%s,\"ok\":true,\"rows\":[" : "{\"ok\":true,\"row\":", told.index ? "true" : "false");
+    for (size_t n = 0; n < row_count(it, told); n++) {
+        put(&reply, "%s", n ? "," : "");
+        put_shown(&reply, is_page(it) ? from->ids[n] : told.number, weltiyo_row(from->rows, it->columns, n), it->columns, from->texts, from->room);
+    }
+    put(&reply, is_page(it) ? "]}" : "}");
+}
+
+/* How many bytes of texts the rows have. */
+static size_t text_bytes(const weltiyo_value *rows, size_t count) {
+    size_t bytes = 0;
+    for (size_t n = 0; n < count; n++)
+        bytes += rows[n].kind == WELTIYO_TEXT ? rows[n].length : 0;
+    return bytes;
+}
+
+/* Asks with blocks of just these sizes, and answers whether it tells this and, where it is accepted, shows this. */
+static int tells(const query *it, size_t wanted_values, size_t room, weltiyo_told wanted, const char *shown) {
+    place to = {malloc(it->most * sizeof *to.ids + 1), malloc(wanted_values * sizeof *to.rows + 1), malloc(room + 1), wanted_values, room};
+    to.texts += 1; /* (so that what is written behind any of them is seen) */
+    weltiyo_told told = fetch(it, &to);
+    int well = told.status == wanted.status && told.index == wanted.index && told.number == wanted.number;
+    if (well && told.status == 0) {
+        show(it, told, &to);
+        well = !strcmp(reply.text, shown);
+    }
+    if (!well)
+        printf("room %zu and %zu: told %u %u %" PRIu64 "\n", wanted_values, room, told.status, told.index, told.number);
+    free(to.ids), free(to.rows), free(to.texts - 1);
     return well;
 }
 
-int main(int count, char **words) {
-    long commands = count > 1 ? atol(words[1]) : 20000;
-    drawn = count > 2 ? strtoull(words[2], NULL, 10) : 88172645463325252u;
-    if (!is_well_at_edges() || weltiyo_open("", 0, 1, &called) || weltiyo_open("", 0, 1, &asked))
+/* Whether rows that fit want what they take: with less it is told, and with just that they are the same. */
+static int wants(const query *it, weltiyo_told told, const place *from) {
+    static char shown[LONGEST];
+    size_t count = row_count(it, told) * it->columns, bytes = text_bytes(from->rows, count);
+    weltiyo_told without = {WELTIYO_NO_ROOM, (uint32_t)count, bytes};
+    memcpy(shown, reply.text, reply.length + 1);
+    return tells(it, count, bytes, told, shown) && (!count || tells(it, below(count), bytes, without, "")) &&
+           (!bytes || tells(it, count, below(bytes), without, ""));
+}
+
+static int answer_rows(uint64_t conn, const query *it) {
+    static uint64_t ids[MOST_ROWS];
+    static weltiyo_value rows[MOST_ROWS * MOST_COLUMNS];
+    static char texts[MOST_ROWS * 256];
+    const place to = {ids, rows, texts, sizeof rows / sizeof *rows, sizeof texts};
+    weltiyo_told told = fetch(it, &to);
+    show(it, told, &to);
+    return is_other(conn) || (told.status == 0 && !wants(it, told, &to));
+}
+
+static int row(uint64_t conn) {
+    static const char *const commands[] = {"get", "find", "nth"};
+    static query it;
+    made_table *table = pick_table(&it.table);
+    it.which = (look_up)below(3);
+    it.columns = table->columns, it.most = 0, it.lower_count = 0;
+    it.index = pick_index(table, it.which == NTH ? 1 << RANKED : KEYED);
+    it.number = it.which == NTH ? below(20) : made_id(table);
+    start_values(&it.keys);
+    begin(commands[it.which], it.table);
+    if (it.which == GET)
+        put(&line, ",\"id\":%" PRIu64, it.number);
+    else
+        put_index(&line, it.index);
+    if (it.which == NTH)
+        put(&line, ",\"n\":%" PRIu64, it.number);
+    if (it.which == FIND) {
+        add_key(&it.keys, table, it.index);
+        put(&line, ",\"key\":");
+        put_key(&line, it.keys.values, it.keys.count, &it.keys);
+    }
+    return answer_rows(conn, &it);
+}
+
+/* An end of a range: its key is added behind what is there. */
+static uint32_t make_end(query *it, const made_table *table, const char *name, const char *included, const char *excluded) {
+    uint32_t kind = (uint32_t)below(3);
+    size_t from = it->keys.count;
+    if (kind != WELTIYO_OPEN || !below(4))
+        add_key(&it->keys, table, it->index);
+    if (kind != WELTIYO_OPEN) {
+        put(&line, ",\"%s\":{\"%s\":", name, kind == WELTIYO_INCLUDED ? included : excluded);
+        put_key(&line, it->keys.values + from, it->keys.count - from, &it->keys);
+        put(&line, "}");
+    }
+    return kind;
+}
+
+static int range(uint64_t conn) {
+    static query it;
+    made_table *table = pick_table(&it.table);
+    it.which = RANGE;
+    it.columns = table->columns, it.index = pick_index(table, SORTED), it.most = 1 + below(below(3) ? 5 : MOST_ROWS);
+    it.reverse = (uint32_t)(below(3) ? 0 : below(3));
+    start_values(&it.keys);
+    begin("range", it.table);
+    put_index(&line, it.index);
+    it.lower = make_end(&it, table, "lower", "ge", "gt");
+    it.lower_count = it.keys.count;
+    it.upper = make_end(&it, table, "upper", "le", "lt");
+    put(&line, ",\"reverse\":%s,\"limit\":%zu", it.reverse ? "true" : "false", it.most);
+    return answer_rows(conn, &it);
+}
+
+static int list(uint64_t conn) {
+    static query it;
+    made_table *table = pick_table(&it.table);
+    it.which = LIST;
+    it.columns = table->columns, it.index = pick_index(table, 1 << SEQUENCED), it.most = 1 + below(below(3) ? 5 : MOST_ROWS);
+    it.has_after = (uint32_t)below(3), it.number = made_id(table);
+    start_values(&it.keys);
+    begin("list", it.table);
+    put_index(&line, it.index);
+    if (it.has_after)
+        put(&line, ",\"after\":%" PRIu64, it.number);
+    put(&line, ",\"limit\":%zu", it.most);
+    return answer_rows(conn, &it);
+}
+
+static int one_of(uint64_t conn) {
+    switch (below(32)) {
+    case 0: case 1: case 2: case 3: case 4: case 5: case 6: return insert(conn);
+    case 7: return replace(conn);
+    case 8: case 9: return add(conn);
+    case 10: case 11: case 12: return modify(conn);
+    case 13: return erase(conn);
+    case 14: return relocate(conn);
+    case 15: case 16: case 17: case 18: return of_key(conn);
+    case 19: case 20: return rank_or_size(conn);
+    case 21: case 22: case 23: return row(conn);
+    case 24: case 25: case 26: return range(conn);
+    case 27: return list(conn);
+    case 28: return below(4) ? 0 : commit(conn);
+    default: return step(conn);
+    }
+}
+
+static int open_both(void) {
+    make_catalog(&catalog);
+    if (!weltiyo_open(catalog.text, strlen(catalog.text), below(UINT64_MAX), &called) && !weltiyo_open(catalog.text, strlen(catalog.text), 1, &asked))
         return 1;
-    for (long n = 0; n < commands; n++) {
+    printf("not opened:\n%s", catalog.text);
+    return 0;
+}
+
+static void close_both(void) {
+    weltiyo_close(called);
+    weltiyo_close(asked);
+}
+
+/* Commands over one catalog. */
+static int are_well(long from, long count) {
+    for (long n = from; n < from + count; n++) {
         uint64_t conn = below(8) ? 1 : below(CONNECTIONS);
         if (one_of(conn)) {
-            printf("command %ld\n", n);
-            return 1;
+            printf("command %ld over\n%s", n, catalog.text);
+            return 0;
         }
         if (!below(200)) {
             conn = below(CONNECTIONS);
@@ -188,8 +445,17 @@ int main(int count, char **words) {
             weltiyo_release(asked, conn);
         }
     }
-    weltiyo_close(called);
-    weltiyo_close(asked);
+    return 1;
+}
+
+int main(int count, char **words) {
+    long commands = count > 1 ? atol(words[1]) : 20000;
+    drawn = count > 2 ? strtoull(words[2], NULL, 10) : 88172645463325252u;
+    for (long n = 0; n < commands; n += OF_A_CATALOG) {
+        if (!open_both() || !are_well(n, commands - n < OF_A_CATALOG ? commands - n : OF_A_CATALOG))
+            return 1;
+        close_both();
+    }
     printf("ok\n");
     return 0;
 }

@@ -7,7 +7,13 @@
 #include <weltiyo.hpp>
 
 using weltiyo::Database;
+using weltiyo::Edit;
+using weltiyo::Lower;
+using weltiyo::Page;
+using weltiyo::Place;
 using weltiyo::Refused;
+using weltiyo::Row;
+using weltiyo::Upper;
 
 static void expect(bool holds, int line, const char *what) {
     if (!holds) {
@@ -130,10 +136,141 @@ static void values() {
     EXPECT(db.get(0, ann)[0].text() == "ann é" && db.get(0, ann)[1].number() == 50);
 }
 
+// Indexes of the built-in table.
+enum : std::size_t { by_id, by_owner, by_balance, by_vip, by_class, line };
+
+// ann has 50, bob 7 and `vip`, eve 7, and so they arrived.
+static Database filled() {
+    Database db("", 5);
+    EXPECT(db.insert(0, {"ann", 50, false}) == 0);
+    EXPECT(db.insert(0, {"bob", 7, true}) == 1);
+    EXPECT(db.insert(0, {"eve, whose name is long", 7, false}) == 2);
+    return db;
+}
+
+static std::string ids(const Page &page) {
+    std::string said;
+    for (const auto row : page)
+        said += std::to_string(row.id()) + ' ';
+    return said;
+}
+
+static std::string listed(Database &db) {
+    Page page;
+    db.list(page, 0, line);
+    return ids(page);
+}
+
+static void changes() {
+    auto db = filled();
+    EXPECT(db.insert(0, {"cid", 9, false}, Place{line, 1}) == 3);
+    EXPECT(refused([&] { db.insert(0, {"dan", 9, false}, Place{line, 9}); }) == "id");
+    EXPECT(refused([&] { db.insert(0, {"dan", 9, false}, Place{by_class, 1}); }) == "kind");
+    EXPECT(listed(db) == "0 3 1 2 ");
+    db.relocate(0, line, 0, 2);
+    EXPECT(listed(db) == "3 1 0 2 ");
+    db.relocate(0, line, 3);
+    EXPECT(listed(db) == "1 0 2 3 ");
+    db.modify(0, 1, {Edit::put(0, "Bob"), Edit::add(1, -7), Edit::put(2, false)});
+    EXPECT((db.get(0, 1) == Row{"Bob", 0, false}));
+    EXPECT(refused([&] { db.modify(0, 1, {Edit::put(0, "x"), Edit::put(0, "y")}); }) == "row");
+    EXPECT(refused([&] { db.modify(0, 1, {Edit::put(0, "ann")}); }) == "unique");
+    EXPECT(db.size(0) == 4);
+    try {
+        db.modify(0, 1, {Edit::put(0, "ann")}, false);
+        EXPECT(false);
+    } catch (const Refused &it) {
+        EXPECT(it.told().status == WELTIYO_REFUSED_LOST && it.told().index == by_owner && it.told().number == 0);
+    }
+    EXPECT(db.size(0) == 3);
+    db.start_undo_session().push();
+    db.start_undo_session().push();
+    EXPECT(db.erase_key(0, by_vip, {false}) == 3);
+    EXPECT(db.size(0) == 0);
+    EXPECT(db.push() == 2);
+    EXPECT(db.undo_all() == 2);
+    EXPECT(db.size(0) == 3 && db.undo_all() == 0);
+    EXPECT(refused([&] { db.size(1); }) == "table");
+}
+
+static void look_ups() {
+    auto db = filled();
+    const auto bob = db.find(0, by_class, {true});
+    EXPECT(bob && bob->id == 1 && (bob->row == Row{"bob", 7, true}));
+    EXPECT(db.find(0, by_owner, {"eve, whose name is long"})->id == 2);
+    EXPECT(!db.find(0, by_owner, {"eve"}));
+    EXPECT(refused([&] { db.find(0, by_owner, {1}); }) == "key");
+    EXPECT(refused([&] { db.find(0, by_class, {true, 7, 7, 7, 7, 7}); }) == "key");
+    EXPECT(refused([&] { db.find(0, line, {1}); }) == "kind");
+    EXPECT(refused([&] { db.find(0, 6, {1}); }) == "index");
+    EXPECT(db.count(0, by_balance, {7}) == 2 && db.count(0, by_class, {false, 50}) == 1);
+    EXPECT(refused([&] { db.count(0, by_class, {}); }) == "key");
+    EXPECT(db.rank(0, by_balance, 2) == 1);
+    EXPECT(refused([&] { db.rank(0, by_balance, 3); }) == "id");
+    EXPECT(db.lower_rank(0, by_balance, {50}) == 2 && db.upper_rank(0, by_balance, {50}) == 3);
+    EXPECT(db.nth(0, by_balance, 1)->id == 2 && db.nth(0, by_id, 0)->row[0].text() == "ann");
+    EXPECT(!db.nth(0, by_balance, 3));
+}
+
+static void pages() {
+    auto db = filled();
+    Page page(2);
+    EXPECT(page.empty() && !page.more());
+    db.range(page, 0, by_balance);
+    EXPECT(ids(page) == "1 2 " && page.more() && page.size() == 2);
+    EXPECT(page[0].text(0) == "bob" && page[0].number(1) == 7 && page[0].flag(2) && page[0].size() == 3);
+    EXPECT(page.back().text(0) == "eve, whose name is long" && (page.back().row() == Row{"eve, whose name is long", 7, false}));
+    db.range(page, 0, by_balance, Lower::beyond({7}));
+    EXPECT(ids(page) == "0 " && !page.more());
+    db.range(page, 0, by_balance, {}, Upper::below({7}));
+    EXPECT(page.empty() && !page.more());
+    db.range(page, 0, by_balance, Lower::from({7}), Upper::up_to({7}), true);
+    EXPECT(ids(page) == "2 1 " && !page.more());
+    db.range(page, 0, by_class, Lower::from({true, 7}), Upper::up_to({false}), true);
+    EXPECT(ids(page) == "0 2 " && page.more());
+    db.range(page, 0, by_id, Lower::beyond({db.find(0, by_owner, {"ann"})->id}));
+    EXPECT(ids(page) == "1 2 ");
+    EXPECT(refused([&] { db.range(page, 0, by_owner); }) == "kind");
+    EXPECT(page.empty() && !page.more());
+    db.list(page, 0, line, 0);
+    EXPECT(ids(page) == "1 2 " && !page.more());
+    EXPECT(refused([&] { db.list(page, 0, line, 9); }) == "id");
+}
+
+// Bounds that both have texts, and pages that take more room than those before.
+static void pages_of_texts() {
+    Database db("table = \"t\"\ncolumn = [{ name = \"a\", type = \"text\" }]\nindex = [{ name = \"by_a\", kind = \"ordered\", key = [\"-a\"] }]\n");
+    Page page(500);
+    for (int n = 0; n < 400; n++)
+        db.insert(0, {std::string(static_cast<std::size_t>(n), 'a' + n % 2)});
+    db.range(page, 0, 1, Lower::from({"bbbbb"}), Upper::up_to({"b"}));
+    EXPECT(ids(page) == "5 3 1 " && page[0].text(0) == "bbbbb" && page[2].text(0) == "b");
+    db.range(page, 0, 1, Lower::from({"a"}), Upper::below({""}));
+    EXPECT(page.empty());
+    db.range(page, 0, 1, Lower::beyond({std::string(21, 'b')}), Upper::up_to({std::string(17, 'b')}));
+    EXPECT(ids(page) == "19 17 ");
+    db.range(page, 0, 1);
+    EXPECT(page.size() == 400 && page.back().id() == 0 && page[0].text(0) == std::string(399, 'b'));
+    try {
+        page[0].number(0);
+        EXPECT(false);
+    } catch (const std::bad_variant_access &) {
+    }
+    try {
+        page[0].text(1);
+        EXPECT(false);
+    } catch (const std::out_of_range &) {
+    }
+}
+
 int main() {
     blocks();
     pushed();
     values();
+    changes();
+    look_ups();
+    pages();
+    pages_of_texts();
     opening();
     long_replies();
     std::puts("ok");

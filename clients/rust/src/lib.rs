@@ -2,6 +2,7 @@
 //! unless it is squashed or pushed.
 //!
 //! ```
+//! # use std::ops::Bound;
 //! # fn main() -> Result<(), weltiyo::Error> {
 //! let mut db = weltiyo::Database::open("")?; // the built-in table
 //! db.ask(r#"{"cmd":"insert","row":{"owner":"ann","balance":50,"vip":false}}"#)?;
@@ -12,20 +13,28 @@
 //! }
 //! let id = db.insert(0, &["bob".into(), 7.into(), true.into()])?; // the same commands with values in place of a line
 //! db.add(0, id, 1, -2)?;
+//! let mut page = weltiyo::Page::new(10);
+//! db.range(&mut page, 0, 2, (Bound::Included(&[5.into()][..]), Bound::Unbounded), false)?; // (index 2 is `by_balance`; 0 is the one of ids)
+//! for row in &page {
+//!     println!("{} {:?} {:?}", row.id(), row.text(0), row.int(1));
+//! }
 //! # Ok(())
 //! # }
 //! ```
 //!
 //! A line is a JSON object with a command, and its reply the same bytes that the program `mi_server` answers to it. A database stays on the
 //! thread that opened it, so it is neither `Send` nor `Sync`.
+mod page;
 mod raw;
+
+pub use page::{Page, Row, Rows};
 
 use std::collections::hash_map::RandomState;
 use std::error;
 use std::fmt;
 use std::hash::{BuildHasher, Hasher};
 use std::marker::PhantomData;
-use std::ops::{Deref, DerefMut};
+use std::ops::{Bound, Deref, DerefMut, RangeBounds};
 use std::ptr::{self, NonNull};
 
 /// The bytes that a line may have.
@@ -119,30 +128,82 @@ impl From<&str> for Value {
     }
 }
 
-/// Values as C takes them, and their texts one behind another.
-fn laid(row: &[Value]) -> (Vec<raw::Cell>, Vec<u8>) {
-    let (mut cells, mut texts) = (Vec::with_capacity(row.len()), Vec::new());
-    for value in row {
-        cells.push(match value {
+impl Value {
+    /// The value as C takes it; a text goes behind the others.
+    fn laid(&self, texts: &mut Vec<u8>) -> raw::Cell {
+        match self {
             Value::Int(number) => raw::Cell { kind: raw::INT, integer: *number, ..Default::default() },
             Value::Flag(flag) => raw::Cell { kind: if *flag { raw::TRUE } else { raw::FALSE }, ..Default::default() },
-            Value::Text(text) => raw::Cell { kind: raw::TEXT, at: texts.len(), length: text.len(), ..Default::default() },
-        });
-        if let Value::Text(text) = value {
-            texts.extend_from_slice(text.as_bytes());
+            Value::Text(text) => {
+                let at = texts.len();
+                texts.extend_from_slice(text.as_bytes());
+                raw::Cell { kind: raw::TEXT, at, length: text.len(), ..Default::default() }
+            }
         }
     }
-    (cells, texts)
+
+    /// The value of a cell that was filled, or none.
+    fn of(cell: &raw::Cell, texts: &[u8]) -> Option<Value> {
+        match cell.kind {
+            raw::INT => Some(Value::Int(cell.integer)),
+            raw::TEXT => Some(Value::Text(String::from_utf8_lossy(&texts[cell.at..cell.at + cell.length]).into_owned())),
+            raw::FALSE | raw::TRUE => Some(Value::Flag(cell.kind == raw::TRUE)),
+            _ => None,
+        }
+    }
 }
 
-/// The value of a cell that was filled, or none.
-fn value_of(cell: &raw::Cell, texts: &[u8]) -> Option<Value> {
-    match cell.kind {
-        raw::INT => Some(Value::Int(cell.integer)),
-        raw::TEXT => Some(Value::Text(String::from_utf8_lossy(&texts[cell.at..cell.at + cell.length]).into_owned())),
-        raw::FALSE | raw::TRUE => Some(Value::Flag(cell.kind == raw::TRUE)),
-        _ => None,
+/// An edit of a column, which goes by its number.
+#[derive(Clone, Debug, PartialEq, Eq)]
+pub enum Edit {
+    /// The column gets a value.
+    Put(usize, Value),
+    /// A number is added to a column of whole numbers.
+    Add(usize, i64),
+}
+
+impl Edit {
+    /// The edit as C takes it; a text goes behind the others.
+    fn laid(&self, texts: &mut Vec<u8>) -> raw::CellEdit {
+        match self {
+            Edit::Put(column, value) => raw::CellEdit { kind: raw::PUT, column: *column, value: value.laid(texts) },
+            Edit::Add(column, number) => raw::CellEdit { kind: raw::ADD, column: *column, value: Value::Int(*number).laid(texts) },
+        }
     }
+}
+
+/// Values as C takes them, and their texts one behind another.
+fn laid(row: &[Value]) -> (Vec<raw::Cell>, Vec<u8>) {
+    let mut texts = Vec::new();
+    (row.iter().map(|value| value.laid(&mut texts)).collect(), texts)
+}
+
+/// The kind of an end of a range, and its key.
+fn end_of(end: Bound<&[Value]>) -> (u32, &[Value]) {
+    match end {
+        Bound::Unbounded => (raw::OPEN, &[]),
+        Bound::Included(key) => (raw::INCLUDED, key),
+        Bound::Excluded(key) => (raw::EXCLUDED, key),
+    }
+}
+
+/// What a call tells that copies a row, and the row where there is one.
+fn copied(call: impl FnOnce(&mut [raw::Cell], &mut [u8]) -> raw::Told) -> (raw::Told, Vec<Value>) {
+    // (what isn't written stays of a kind that there isn't)
+    let mut cells = [raw::Cell { kind: raw::TRUE + 1, ..Default::default() }; raw::ROW_CELLS];
+    let mut texts = [0; raw::ROW_TEXTS];
+    let told = call(&mut cells, &mut texts);
+    let row = if told.status == 0 { cells.iter().map_while(|cell| Value::of(cell, &texts)).collect() } else { Vec::new() };
+    (told, row)
+}
+
+/// The id and the row that a call copies, or none where there is no such row.
+fn if_there(call: impl FnOnce(&mut [raw::Cell], &mut [u8]) -> raw::Told) -> Result<Option<(u64, Vec<Value>)>, Error> {
+    let (told, row) = copied(call);
+    if told.status == raw::REFUSED_ID {
+        return Ok(None);
+    }
+    Ok(Some((number_of(told)?, row)))
 }
 
 /// A database of its own tables. It is closed where it is dropped.
@@ -154,6 +215,8 @@ fn value_of(cell: &raw::Cell, texts: &[u8]) -> Option<Value> {
 #[derive(Debug)]
 pub struct Database {
     handle: NonNull<raw::Handle>,
+    /// How many columns each table has, of those that were asked; a catalog has at most 16 tables.
+    columns: [u32; 16],
     on_its_thread: PhantomData<*mut ()>,
 }
 
@@ -169,7 +232,7 @@ impl Database {
         // SAFETY: the text is a slice, which is never null, and the handle a place of its own.
         let status = unsafe { raw::weltiyo_open(schema.as_ptr(), schema.len(), secret, &mut handle) };
         match NonNull::new(handle) {
-            Some(handle) if status == 0 => Ok(Database { handle, on_its_thread: PhantomData }),
+            Some(handle) if status == 0 => Ok(Database { handle, columns: [0; 16], on_its_thread: PhantomData }),
             _ => Err(Error::Schema(word_of(status))),
         }
     }
@@ -200,12 +263,24 @@ impl Database {
         Ok(reply)
     }
 
-    /// Adds a row, a value for each column, and answers its id. Tables and columns go by their numbers here, from 0 on.
+    /// Adds a row, a value for each column, and answers its id. Tables and columns go by their numbers here, from 0 on; of the indexes the one
+    /// of ids has the number 0, and those of the schema follow.
     pub fn insert(&mut self, table: usize, row: &[Value]) -> Result<u64, Error> {
         let (cells, texts) = laid(row);
         // SAFETY: as in `answer`; slices are never null.
         number_of(unsafe {
             raw::weltiyo_insert(self.handle.as_ptr(), OWN, table, cells.as_ptr(), cells.len(), texts.as_ptr(), texts.len())
+        })
+    }
+
+    /// The same, and in the sequenced index of that number the row stands directly before the row `before`.
+    pub fn insert_before(&mut self, table: usize, row: &[Value], index: usize, before: u64) -> Result<u64, Error> {
+        let (cells, texts) = laid(row);
+        // SAFETY: as in `insert`.
+        number_of(unsafe {
+            raw::weltiyo_insert_before(
+                self.handle.as_ptr(), OWN, table, cells.as_ptr(), cells.len(), texts.as_ptr(), texts.len(), index, before,
+            )
         })
     }
 
@@ -225,22 +300,175 @@ impl Database {
         number_of(unsafe { raw::weltiyo_modify_add(self.handle.as_ptr(), OWN, table, id, column, number, 1) }).map(drop)
     }
 
+    /// Makes edits, each of a column of its own. Where a unique index refuses the result, nothing changes.
+    pub fn modify(&mut self, table: usize, id: u64, edits: &[Edit]) -> Result<(), Error> {
+        let mut texts = Vec::new();
+        let made: Vec<_> = edits.iter().map(|edit| edit.laid(&mut texts)).collect();
+        // SAFETY: as in `insert`.
+        number_of(unsafe {
+            raw::weltiyo_modify(self.handle.as_ptr(), OWN, table, id, made.as_ptr(), made.len(), texts.as_ptr(), texts.len(), 1)
+        })
+        .map(drop)
+    }
+
     /// Erases a row.
     pub fn erase(&mut self, table: usize, id: u64) -> Result<(), Error> {
         // SAFETY: as in `answer`.
         number_of(unsafe { raw::weltiyo_erase(self.handle.as_ptr(), OWN, table, id) }).map(drop)
     }
 
+    /// Erases every row of a whole key, and answers how many.
+    pub fn erase_key(&mut self, table: usize, index: usize, key: &[Value]) -> Result<u64, Error> {
+        let (cells, texts) = laid(key);
+        // SAFETY: as in `insert`.
+        number_of(unsafe {
+            raw::weltiyo_erase_key(
+                self.handle.as_ptr(), OWN, table, index, cells.as_ptr(), cells.len(), texts.as_ptr(), texts.len(),
+            )
+        })
+    }
+
+    /// Moves a row of a sequenced index directly before another, or to its end.
+    pub fn relocate(&mut self, table: usize, index: usize, id: u64, before: Option<u64>) -> Result<(), Error> {
+        let (has_before, before) = (before.is_some().into(), before.unwrap_or(0));
+        // SAFETY: as in `answer`.
+        number_of(unsafe { raw::weltiyo_relocate(self.handle.as_ptr(), OWN, table, index, id, has_before, before) }).map(drop)
+    }
+
+    /// How many rows a table has.
+    pub fn size(&mut self, table: usize) -> Result<u64, Error> {
+        // SAFETY: as in `answer`.
+        number_of(unsafe { raw::weltiyo_size(self.handle.as_ptr(), table) })
+    }
+
     /// The row of an id.
     pub fn get(&mut self, table: usize, id: u64) -> Result<Vec<Value>, Error> {
-        // (what isn't written stays of a kind that there isn't)
-        let mut cells = [raw::Cell { kind: raw::TRUE + 1, ..Default::default() }; raw::ROW_CELLS];
-        let mut texts = vec![0; raw::ROW_TEXTS];
+        let handle = self.handle.as_ptr();
         // SAFETY: as in `insert`; the slices lie apart.
+        let (told, row) = copied(|cells, texts| unsafe {
+            raw::weltiyo_get(handle, table, id, cells.as_mut_ptr(), cells.len(), texts.as_mut_ptr(), texts.len())
+        });
+        number_of(told).map(|_| row)
+    }
+
+    /// The id and the row of the first that has a key, or in an ordered or ranked index the first values of one; none where there is none.
+    pub fn find(&mut self, table: usize, index: usize, key: &[Value]) -> Result<Option<(u64, Vec<Value>)>, Error> {
+        let (handle, (key, key_texts)) = (self.handle.as_ptr(), laid(key));
+        // SAFETY: as in `get`.
+        if_there(|cells, texts| unsafe {
+            raw::weltiyo_find(
+                handle, table, index, key.as_ptr(), key.len(), key_texts.as_ptr(), key_texts.len(), cells.as_mut_ptr(), cells.len(),
+                texts.as_mut_ptr(), texts.len(),
+            )
+        })
+    }
+
+    /// The id and the row of a ranked index before which `n` others stand, if there is one.
+    pub fn nth(&mut self, table: usize, index: usize, n: u64) -> Result<Option<(u64, Vec<Value>)>, Error> {
+        let handle = self.handle.as_ptr();
+        // SAFETY: as in `get`.
+        if_there(|cells, texts| unsafe {
+            raw::weltiyo_nth(handle, table, index, n, cells.as_mut_ptr(), cells.len(), texts.as_mut_ptr(), texts.len())
+        })
+    }
+
+    /// How many rows have a key, or in an ordered or ranked index the first values of one.
+    pub fn count(&mut self, table: usize, index: usize, key: &[Value]) -> Result<u64, Error> {
+        let (cells, texts) = laid(key);
+        // SAFETY: as in `insert`.
         number_of(unsafe {
-            raw::weltiyo_get(self.handle.as_ptr(), table, id, cells.as_mut_ptr(), cells.len(), texts.as_mut_ptr(), texts.len())
-        })?;
-        Ok(cells.iter().map_while(|cell| value_of(cell, &texts)).collect())
+            raw::weltiyo_count(self.handle.as_ptr(), table, index, cells.as_ptr(), cells.len(), texts.as_ptr(), texts.len())
+        })
+    }
+
+    /// How many rows stand before the row of an id in a ranked index.
+    pub fn rank(&mut self, table: usize, index: usize, id: u64) -> Result<u64, Error> {
+        // SAFETY: as in `answer`.
+        number_of(unsafe { raw::weltiyo_rank(self.handle.as_ptr(), table, index, id) })
+    }
+
+    /// How many rows of a ranked index have a key that is less than this one, or than the first values of one.
+    pub fn lower_rank(&mut self, table: usize, index: usize, key: &[Value]) -> Result<u64, Error> {
+        let (cells, texts) = laid(key);
+        // SAFETY: as in `insert`.
+        number_of(unsafe {
+            raw::weltiyo_lower_rank(self.handle.as_ptr(), table, index, cells.as_ptr(), cells.len(), texts.as_ptr(), texts.len())
+        })
+    }
+
+    /// How many rows of a ranked index have a key that isn't greater than this one, or than the first values of one.
+    pub fn upper_rank(&mut self, table: usize, index: usize, key: &[Value]) -> Result<u64, Error> {
+        let (cells, texts) = laid(key);
+        // SAFETY: as in `insert`.
+        number_of(unsafe {
+            raw::weltiyo_upper_rank(self.handle.as_ptr(), table, index, cells.as_ptr(), cells.len(), texts.as_ptr(), texts.len())
+        })
+    }
+
+    /// Fills a page with the first rows between two bounds of an ordered or ranked index: `..` or a pair of `Bound`s, whose keys may be the
+    /// first values of one. In reverse it begins with the last of them. Refused, the page is empty.
+    pub fn range(
+        &mut self,
+        page: &mut Page,
+        table: usize,
+        index: usize,
+        bounds: impl RangeBounds<[Value]>,
+        reverse: bool,
+    ) -> Result<(), Error> {
+        let ((lower, lower_key), (upper, upper_key)) = (end_of(bounds.start_bound()), end_of(bounds.end_bound()));
+        let (mut keys, mut key_texts) = (std::mem::take(&mut page.keys), std::mem::take(&mut page.key_texts));
+        keys.clear();
+        key_texts.clear();
+        keys.extend(lower_key.iter().chain(upper_key).map(|value| value.laid(&mut key_texts)));
+        let (low, high) = keys.split_at(lower_key.len());
+        // SAFETY: as in `get`.
+        let filled = self.fill(page, table, |handle, to| unsafe {
+            raw::weltiyo_range(
+                handle, table, index, lower, low.as_ptr(), low.len(), upper, high.as_ptr(), high.len(), key_texts.as_ptr(), key_texts.len(),
+                reverse.into(), to.ids.as_mut_ptr(), to.ids.len(), to.cells.as_mut_ptr(), to.cells.len(), to.texts.as_mut_ptr(),
+                to.texts.len(),
+            )
+        });
+        page.keys = keys;
+        page.key_texts = key_texts;
+        filled
+    }
+
+    /// Fills a page with the first rows of a sequenced index, or of those behind a row. Refused, the page is empty.
+    pub fn list(&mut self, page: &mut Page, table: usize, index: usize, after: Option<u64>) -> Result<(), Error> {
+        let (has_after, after) = (after.is_some().into(), after.unwrap_or(0));
+        // SAFETY: as in `get`.
+        self.fill(page, table, |handle, to| unsafe {
+            raw::weltiyo_list(
+                handle, table, index, has_after, after, to.ids.as_mut_ptr(), to.ids.len(), to.cells.as_mut_ptr(), to.cells.len(),
+                to.texts.as_mut_ptr(), to.texts.len(),
+            )
+        })
+    }
+
+    /// Fills a page by a call, which is made again where it wants more room.
+    fn fill(&mut self, page: &mut Page, table: usize, call: impl Fn(*mut raw::Handle, page::Room<'_>) -> raw::Told) -> Result<(), Error> {
+        let handle = self.handle.as_ptr();
+        let mut told = call(handle, page.room());
+        if told.status == raw::NO_ROOM {
+            page.grow(told.index as usize, told.number as usize);
+            told = call(handle, page.room());
+        }
+        let count = number_of(told)? as usize;
+        let columns = if count == 0 { 0 } else { self.column_count(table, page.first_id()) };
+        page.set(count, columns, told.index != 0);
+        Ok(())
+    }
+
+    /// How many columns a table has, which is asked once: the row of an id wants a value for each.
+    fn column_count(&mut self, table: usize, id: u64) -> usize {
+        if self.columns[table] == 0 {
+            let (mut cells, mut texts): ([raw::Cell; 0], [u8; 0]) = ([], []);
+            // SAFETY: as in `get`.
+            let told = unsafe { raw::weltiyo_get(self.handle.as_ptr(), table, id, cells.as_mut_ptr(), 0, texts.as_mut_ptr(), 0) };
+            self.columns[table] = told.index;
+        }
+        self.columns[table] as usize
     }
 
     /// Undoes the newest session. It takes no memory.
@@ -259,6 +487,18 @@ impl Database {
     pub fn commit(&mut self, revision: u64) -> Result<u64, Error> {
         // SAFETY: as in `answer`.
         number_of(unsafe { raw::weltiyo_commit(self.handle.as_ptr(), OWN, revision) })
+    }
+
+    /// Undoes every open session, and answers how many. It takes no memory.
+    pub fn undo_all(&mut self) -> Result<u64, Error> {
+        // SAFETY: as in `answer`.
+        number_of(unsafe { raw::weltiyo_undo_all(self.handle.as_ptr(), OWN) })
+    }
+
+    /// Lets go of the sessions that are held, which stay open, and answers how many.
+    pub fn push(&mut self) -> Result<u64, Error> {
+        // SAFETY: as in `answer`.
+        number_of(unsafe { raw::weltiyo_push(self.handle.as_ptr(), OWN) })
     }
 
     /// A session for a block: it is undone where it is dropped, unless it was squashed or pushed before.

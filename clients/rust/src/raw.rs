@@ -22,6 +22,23 @@ pub(crate) const TEXT: u32 = 1;
 pub(crate) const FALSE: u32 = 2;
 pub(crate) const TRUE: u32 = 3;
 
+/// `weltiyo_edit`.
+#[repr(C)]
+#[derive(Clone, Copy, Debug)]
+pub(crate) struct CellEdit {
+    pub(crate) kind: u32,
+    pub(crate) column: usize,
+    pub(crate) value: Cell,
+}
+
+pub(crate) const PUT: u32 = 0;
+pub(crate) const ADD: u32 = 1;
+
+/// The ends of a range.
+pub(crate) const OPEN: u32 = 0;
+pub(crate) const INCLUDED: u32 = 1;
+pub(crate) const EXCLUDED: u32 = 2;
+
 /// `weltiyo_told`.
 #[repr(C)]
 #[derive(Clone, Copy, Debug)]
@@ -30,6 +47,10 @@ pub(crate) struct Told {
     pub(crate) index: u32,
     pub(crate) number: u64,
 }
+
+/// The statuses that are told apart here: there is no such row, and no room for what is answered.
+pub(crate) const REFUSED_ID: u32 = 10;
+pub(crate) const NO_ROOM: u32 = 19;
 
 /// Room that any row fits.
 pub(crate) const ROW_CELLS: usize = 16;
@@ -59,4 +80,47 @@ extern "C" {
     pub(crate) fn weltiyo_undo(handle: *mut Handle, connection: u64) -> Told;
     pub(crate) fn weltiyo_squash(handle: *mut Handle, connection: u64) -> Told;
     pub(crate) fn weltiyo_commit(handle: *mut Handle, connection: u64, number: u64) -> Told;
+    pub(crate) fn weltiyo_undo_all(handle: *mut Handle, connection: u64) -> Told;
+    pub(crate) fn weltiyo_push(handle: *mut Handle, connection: u64) -> Told;
+    pub(crate) fn weltiyo_insert_before(
+        handle: *mut Handle, connection: u64, table: usize, row: *const Cell, count: usize, texts: *const u8, length: usize, index: usize,
+        before: u64,
+    ) -> Told;
+    pub(crate) fn weltiyo_modify(
+        handle: *mut Handle, connection: u64, table: usize, id: u64, edits: *const CellEdit, count: usize, texts: *const u8, length: usize,
+        rollback: u32,
+    ) -> Told;
+    pub(crate) fn weltiyo_erase_key(
+        handle: *mut Handle, connection: u64, table: usize, index: usize, key: *const Cell, count: usize, texts: *const u8, length: usize,
+    ) -> Told;
+    pub(crate) fn weltiyo_relocate(
+        handle: *mut Handle, connection: u64, table: usize, index: usize, id: u64, has_before: u32, before: u64,
+    ) -> Told;
+    pub(crate) fn weltiyo_size(handle: *mut Handle, table: usize) -> Told;
+    pub(crate) fn weltiyo_find(
+        handle: *mut Handle, table: usize, index: usize, key: *const Cell, key_count: usize, key_texts: *const u8, key_length: usize,
+        row: *mut Cell, count: usize, texts: *mut u8, room: usize,
+    ) -> Told;
+    pub(crate) fn weltiyo_count(
+        handle: *mut Handle, table: usize, index: usize, key: *const Cell, count: usize, texts: *const u8, length: usize,
+    ) -> Told;
+    pub(crate) fn weltiyo_rank(handle: *mut Handle, table: usize, index: usize, id: u64) -> Told;
+    pub(crate) fn weltiyo_lower_rank(
+        handle: *mut Handle, table: usize, index: usize, key: *const Cell, count: usize, texts: *const u8, length: usize,
+    ) -> Told;
+    pub(crate) fn weltiyo_upper_rank(
+        handle: *mut Handle, table: usize, index: usize, key: *const Cell, count: usize, texts: *const u8, length: usize,
+    ) -> Told;
+    pub(crate) fn weltiyo_nth(
+        handle: *mut Handle, table: usize, index: usize, n: u64, row: *mut Cell, count: usize, texts: *mut u8, room: usize,
+    ) -> Told;
+    pub(crate) fn weltiyo_range(
+        handle: *mut Handle, table: usize, index: usize, lower: u32, lower_key: *const Cell, lower_count: usize, upper: u32,
+        upper_key: *const Cell, upper_count: usize, key_texts: *const u8, key_length: usize, reverse: u32, ids: *mut u64, most: usize,
+        rows: *mut Cell, values: usize, texts: *mut u8, room: usize,
+    ) -> Told;
+    pub(crate) fn weltiyo_list(
+        handle: *mut Handle, table: usize, index: usize, has_after: u32, after: u64, ids: *mut u64, most: usize, rows: *mut Cell,
+        values: usize, texts: *mut u8, room: usize,
+    ) -> Told;
 }
