@@ -4,6 +4,7 @@
 #![tactic(auto)]
 
 mod asking;
+mod claim;
 mod client;
 mod device;
 mod digest;

@@ -70,8 +70,13 @@ fn accept_all<D: Sessions + Drop, L: Log + Drop>(
     Ok(())
 }
 
-/// What is done once some connections are ready: those that have come are accepted, what is ready is read, its lines are asked, and the
-/// replies are sent once the journal stays.
+/// What is done once some connections are ready: those that have come are accepted, what is ready is read, its lines are asked, the
+/// replies are sent once the journal stays, and those that are over are let go. What a connection receives are the replies to its own
+/// lines, whole and in their order.
+///
+/// `Memory` where memory for a reply or for the row is refused, or one that goes holds sessions still once 1,025 lines undid some;
+/// `Journal` where a line can't be appended whole, or what was appended can't be made to stay. Nothing is said of the hub then, and
+/// the service ends.
 pub fn take_turn<D: Sessions + Drop, L: Log + Drop>(
     alloc: Global,
     ledger: &mut Ledger<D, L>,
