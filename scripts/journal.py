@@ -12,13 +12,15 @@ away there is an undo for each session that it held. What stands behind the last
 compact drops whole blocks that were undone, from the start to the undo: an undo restores everything, counters too. It follows squash,
 commit, undo_all and push. A commit inside such a block has ended sessions below it, so it stays; a push stays where the sessions below
 were held. So the database is the same, the open sessions are, and as many of them are held. The file must not be in use meanwhile: it is
-locked, and a file that another program has locked is refused.
+locked, and a file that another program has locked is refused; so are a file whose place the new one takes, and the new one until its name
+stays.
 
 Statuses: 0; 2 where the words are wrong; 3 where the journal is damaged, with the number of the first such line, from 1; 4 where a
 file can't be read or written, or is in use. A torn end is said, and is no damage."""
 import argparse
 import bisect
 import collections
+import contextlib
 import fcntl
 import os
 import subprocess
@@ -284,24 +286,42 @@ def sync_folder(folder):
         os.close(handle)
 
 
+def lock(file):
+    fcntl.flock(file, fcntl.LOCK_EX | fcntl.LOCK_NB)
+
+
+def claimed(path):
+    """The file of this name, opened and locked. Where another has taken its place between the open and the lock, that one is opened."""
+    while True:
+        with contextlib.ExitStack() as opened:
+            file = opened.enter_context(open(path, "rb"))
+            lock(file)
+            if os.path.samestat(os.fstat(file.fileno()), os.stat(path)):
+                opened.pop_all()
+                return file
+
+
 def compact(path, new):
     """The new file has the old one's mode; it takes the old one's place, or the name that is asked for, once it is whole."""
     new = new or path
     folder = os.path.dirname(os.path.abspath(new))
-    with open(path, "rb") as file:
-        fcntl.flock(file, fcntl.LOCK_EX | fcntl.LOCK_NB)
+    with contextlib.ExitStack() as locked:
+        file = locked.enter_context(claimed(path))
+        if os.path.exists(new) and not os.path.samefile(new, path):
+            locked.enter_context(claimed(new))
         journal = Journal(file)
         blocks, _ = blocks_of(journal)
         end = journal.size - journal.torn
         with tempfile.NamedTemporaryFile(dir=folder, prefix=os.path.basename(new) + ".", delete=False) as target:
             try:
+                lock(target)
                 os.fchmod(target.fileno(), os.fstat(file.fileno()).st_mode & 0o7777)
                 write_without(file, target, blocks.dropped, end)
                 os.rename(target.name, new)
             except BaseException:
                 os.unlink(target.name)
                 raise
-        sync_folder(folder)
+            sync_folder(folder)
     print(f"{new}: {os.path.getsize(new)} bytes, of {journal.size}{torn_note(journal)}")
 
 

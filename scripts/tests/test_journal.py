@@ -1,5 +1,5 @@
 """Journals: of random runs of the reference, whose lines are taken by what they changed; that the program, asked one, has the run's tables,
-and a shorter one the same; and which lines are damaged."""
+and a shorter one the same; which lines are damaged; and that nobody goes on with a file whose place another has taken."""
 import contextlib
 import copy
 import fcntl
@@ -7,6 +7,8 @@ import io
 import json
 import os
 import random
+import shutil
+import subprocess
 import sys
 import tempfile
 import unittest
@@ -18,6 +20,7 @@ sys.path.insert(0, f"{TOP}/scripts")
 import fuzz  # noqa: E402
 import journal  # noqa: E402
 import program  # noqa: E402
+import service  # noqa: E402
 from reference import Reference  # noqa: E402
 
 HASH = "a" * 64
@@ -180,6 +183,34 @@ class Compact(Files):
             self.assertEqual(self.ran("compact", self.path), (4, f"{self.path}: in use by another program\n"))
         self.assertEqual(self.text(), first_line() + START + b"\n" + UNDO + b"\n")
 
+    def test_one_whose_place_is_taken_meanwhile(self):
+        new, flock, calls = f"{self.folder}/new", fcntl.flock, []
+
+        def replaced(file, how):
+            if not calls:
+                os.rename(new, self.path)
+            calls.append(how)
+            flock(file, how)
+
+        self.write([START, insert("b"), UNDO, insert("a")])
+        os.rename(self.path, new)
+        self.write([insert("old")])
+        with unittest.mock.patch("fcntl.flock", replaced):
+            self.assertEqual(self.ran("compact", self.path)[0], 0)
+        self.assertEqual(self.text(), first_line() + insert("a") + b"\n")
+        # (the old one, the one that took its place, and the one that is made)
+        self.assertEqual(len(calls), 3)
+
+    def test_one_in_use_keeps_its_place(self):
+        new = f"{self.folder}/new"
+        self.write([insert("used")])
+        os.rename(self.path, new)
+        self.write([START, UNDO])
+        with open(new, "rb") as file:
+            fcntl.flock(file, fcntl.LOCK_EX)
+            self.assertEqual(self.ran("compact", self.path, "--to", new)[0], 4)
+        self.assertEqual(self.text(new), first_line() + insert("used") + b"\n")
+
     def test_a_damaged_one_stays(self):
         self.write([START, b"{", UNDO])
         self.assertEqual(self.ran("compact", self.path), (3, f"{self.path}: line 3: no JSON\n"))
@@ -294,6 +325,40 @@ class OverTheProgram(Files):
         lost = [insert("a"), insert("b"), line("modify", id=1, set={"owner": "a"}), line("size")]
         self.write(lost)
         self.assertEqual(self.ran(*words)[0], 0)
+
+
+class OverTheService(Files):
+    """The service at its start."""
+
+    @classmethod
+    def setUpClass(cls):
+        cls.compiler = shutil.which(os.environ.get("CC", "cc"))
+        cls.path_of = os.environ.get("MI_SERVICE") or program.proved(program.SERVICE)
+        if not os.environ.get("MI_SERVICE") and not program.is_fresh(program.SERVICE):
+            port, cls.path_of = program.free_port(), f"{program.TOP}/out/unproved/{program.SERVICE}"
+            words = ["--seconds", "600", "--", "--listen", str(port)]
+            program.compile_by_try(program.SERVICE, cls.path_of, words, lambda folder, to: program.copy_once_it_listens(port, folder, to))
+
+    def asked(self, *lines, **how):
+        """The replies of a service over the journal to these lines."""
+        with service.Service(self.path_of, journal=self.path, **how) as ran, ran.connect() as stream, stream.makefile("rb") as replies:
+            stream.sendall(b"".join(it + b"\n" for it in lines))
+            return [replies.readline() for _ in lines]
+
+    def test_a_file_whose_place_is_taken_meanwhile(self):
+        if not self.compiler:
+            self.skipTest("no C compiler")
+        library, new = f"{self.folder}/replace.so", f"{self.folder}/new"
+        source = f"{TOP}/scripts/tests/replace_at_lock.c"
+        subprocess.run([self.compiler, "-O2", "-Wall", "-shared", "-fPIC", "-o", library, source], check=True)
+        first = [b'{"id":0,"ok":true}\n', b'{"ok":true,"revision":1}\n', b'{"ok":true,"revision":0}\n']
+        self.assertEqual(self.asked(insert("a"), START, UNDO), first)
+        self.assertEqual(self.ran("compact", self.path, "--to", new)[0], 0)
+        env = {"LD_PRELOAD": library, "REPLACE_FILE": self.path, "REPLACE_BY": new}
+        self.assertEqual(self.asked(insert("b"), env=env), [b'{"id":1,"ok":true}\n'])
+        self.assertFalse(os.path.exists(new))
+        self.assertEqual(self.text().splitlines()[1:], [insert("a"), insert("b")])
+        self.assertEqual(self.asked(line("size")), [b'{"ok":true,"size":2}\n'])
 
 
 if __name__ == "__main__":

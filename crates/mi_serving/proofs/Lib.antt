@@ -1,4 +1,5 @@
 mod StepLemmas
 mod RowLemmas
+mod ServedLemmas
 mod InputLemmas
 mod OpeningLemmas

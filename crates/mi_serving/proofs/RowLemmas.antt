@@ -13,13 +13,13 @@ test_of : (b : Bool) → (b ≡ true) ⊎ (b ≡ false)
 test_of true = inl refl
 test_of false = inr refl
 
-same_test : (x : ℕ) → nat_eq x x ≡ true
+pub same_test : (x : ℕ) → nat_eq x x ≡ true
 same_test x = grind arith
 
 is_same : (x y : ℕ) → nat_eq x y ≡ true → x ≡ y
 is_same x y h = grind arith
 
-turned : (x y : ℕ) → nat_eq x y ≡ false → nat_eq y x ≡ false
+pub turned : (x y : ℕ) → nat_eq x y ≡ false → nat_eq y x ≡ false
 turned x y h = grind arith
 
 -- a client that keeps its number keeps the row's numbers
@@ -46,7 +46,7 @@ attends_at row i d attached p lt = ap (rest_at (slice_index_or row i d).conn) p.
 
 -- ---- one goes
 
-none_at : {S : Type 0} (k : ℕ) (row : List (Client S)) (i : ℕ) (d : Client S) → i < length row → IsNoneOf k (ids row)
+pub none_at : {S : Type 0} (k : ℕ) (row : List (Client S)) (i : ℕ) (d : Client S) → i < length row → IsNoneOf k (ids row)
     → nat_eq (slice_index_or row i d).conn k ≡ false
 none_at k [] i d lt p = absurd (omega arith)
 none_at k (y ∷ row) zero d lt p = p.0
@@ -84,7 +84,7 @@ attends_less row i d old new lt p is = record {
 
 -- ---- one comes
 
-not_there : (k : ℕ) (xs : List ℕ) → rest_at k (map fresh xs) ≡ None → IsNoneOf k xs
+pub not_there : (k : ℕ) (xs : List ℕ) → rest_at k (map fresh xs) ≡ None → IsNoneOf k xs
 not_there k [] h = tt
 not_there k (x ∷ xs) h = elim (test_of (nat_eq x k)) [
   | inl is ↦ absurd (some_none (sym (ap (λ b. cond b (Some (Some [])) (rest_at k (map fresh xs))) is) ∙ h))
@@ -118,3 +118,7 @@ attends_more row c conn old new p is done =
       there = ap (λ (s : HubState). s.attached) done.3 ∙ ap (λ cs. cs ++ fresh conn ∷ []) p.there ∙ map_more (ids row) conn;
       differ = differ_more conn (ids row) p.differ (not_there conn (ids row) (sym (ap (rest_at conn) p.there) ∙ done.0));
     })
+
+-- who is attached anew has a number of its own
+pub none_of_attended : (conn : ℕ) (row : List ℕ) (old new : HubState) → Attends row old.attached → Done old (attach conn) [] new → IsNoneOf conn row
+none_of_attended conn row old new p done = not_there conn row (sym (ap (rest_at conn) p.there) ∙ done.0)

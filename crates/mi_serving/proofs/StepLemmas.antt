@@ -1,5 +1,5 @@
 -- Steps one behind another, and the steps that calls of a ledger are.
-use Rattle.std.proofs.Common.{◌≡◌, ◌⊎◌, inl, inr, ℕ, List, [], ◌∷◌, ◌++◌, codes, Option, Some, refl, sym, ap, ◌∙◌, subst, append-nil, append_assoc}
+use Rattle.std.proofs.Common.{◌≡◌, ℕ, List, [], ◌∷◌, ◌++◌, codes, Option, Some, refl, sym, ap, ◌∙◌, subst, append-nil, append_assoc}
 use Rattle.std.specs.Io.KnownBytes.{Appends, Keeps}
 use Rattle.std.proofs.KnownBytes.{Appends-nil, Appends-kept, Appends-trans}
 use Rattle.mi_commands.specs.Asked.{Asked}
@@ -14,8 +14,6 @@ use Rattle.mi_replay.specs.Journal.{JournalOf}
 use Rattle.mi_replay.specs.RunActs.{ActsOfDone}
 use Rattle.mi_ledger.specs.Journals.{Journals, Asks, IsWholeLine}
 use Rattle.mi_ledger.proofs.JournalLemmas.{asked_attached}
-use Rattle.mi_serving.specs.declared.client.Phase.{Phase}
-use Rattle.mi_serving.specs.declared.client.Phase.TheVariants.{Broken}
 use Rattle.mi_serving.specs.Steps.{Step, comes, asks, undoes, goes, undo_bytes, event_of, written_in, DoneBy, Makes, Goes, AreAsks, AreUndos}
 
 -- ---- nothing
@@ -26,7 +24,7 @@ no_lines = sym (lines_from-nothing []) ∙ (from_unended (Some []) [] ended_nil)
 no_rest : rest_of [] ≡ Some []
 no_rest = sym (rest_from-nothing []) ∙ (from_unended (Some []) [] ended_nil).1
 
-none_more : (a b : Option (List ℕ)) → Keeps a b → Appends a b []
+pub none_more : (a b : Option (List ℕ)) → Keeps a b → Appends a b []
 none_more a b kept = Appends-kept a a b [] (Appends-nil a) kept
 
 -- a journal of no acts
@@ -194,13 +192,6 @@ makes_kept steps old new later a b c p is kept = record {
     appended = Appends-kept a b c p.journal.bytes p.journal.appended kept;
   });
 }
-
--- what a connection is owed behind a line more, and once it may have been handed out
-pub owes_more : (old mid new : Phase) (a b c d given out : List ℕ) → (old ≡ Broken) ⊎ (b ≡ a ++ given) → mid ≡ old → c ≡ b ++ out
-    → (new ≡ Broken) ⊎ ((new ≡ mid) × (d ≡ c)) → (new ≡ Broken) ⊎ (d ≡ a ++ (given ++ out))
-owes_more old mid new a b c d given out before same more (inl broken) = inl broken
-owes_more old mid new a b c d given out (inl broken) same more (inr p) = inl (p.0 ∙ same ∙ broken)
-owes_more old mid new a b c d given out (inr q) same more (inr p) = inr (p.1 ∙ more ∙ ap (λ t. t ++ out) q ∙ append_assoc a given out)
 
 -- what was asked, and what waits then
 pub waits_more : (all taken line w v : List ℕ) → all ≡ taken ++ w → w ≡ line ++ v → all ≡ (taken ++ line) ++ v

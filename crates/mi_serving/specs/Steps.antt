@@ -1,6 +1,6 @@
 -- What a service does to its hub, one step after another. Connection 2 comes, asks to start a session, and goes away:
 -- comes 2, asks 2 "{\"cmd\":\"start\"}⏎" "{\"ok\":true,\"revision\":1}⏎", undoes 2 "{\"ok\":true,\"revision\":0}⏎", goes 2.
-use Rattle.std.specs.Prelude.{◌≡◌, ℕ, List, [], ◌∷◌, ◌++◌, codes, Option}
+use Rattle.std.specs.Prelude.{◌≡◌, ℕ, List, [], ◌∷◌, ◌++◌, ◌==◌, false, if◌then◌else◌, codes, Option}
 use Rattle.mi_hub.specs.Run.{HubState, Event, attach, piece, cut, Done}
 use Rattle.mi_replay.specs.Acts.{Act}
 use Rattle.mi_replay.specs.RunActs.{ActsOfDone}
@@ -65,3 +65,23 @@ AreUndos conn (comes k ∷ steps) = ⊥
 AreUndos conn (asks k line reply ∷ steps) = ⊥
 AreUndos conn (undoes k reply ∷ steps) = (k ≡ conn) × AreUndos conn steps
 AreUndos conn (goes k ∷ steps) = ⊥
+
+-- what a connection is replied in a step: only where it asks a line itself
+abbrev pub reply_to : ℕ → Step → List ℕ
+reply_to k (comes conn) = []
+reply_to k (asks conn line reply) = if conn == k then reply else []
+reply_to k (undoes conn reply) = []
+reply_to k (goes conn) = []
+
+-- what a connection is given in these steps: the replies to its own lines, whole and in their order
+abbrev pub given_to : ℕ → List Step → List ℕ
+given_to k [] = []
+given_to k (step ∷ steps) = reply_to k step ++ given_to k steps
+
+-- in these steps no other connection than this one is given anything
+abbrev pub GivesOnly : ℕ → List Step → Type 0
+GivesOnly conn steps = (k : ℕ) → (conn == k) ≡ false → given_to k steps ≡ []
+
+-- in these steps no connection is given anything
+abbrev pub GivesNone : List Step → Type 0
+GivesNone steps = (k : ℕ) → given_to k steps ≡ []

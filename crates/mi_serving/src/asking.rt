@@ -4,11 +4,11 @@ ghost use Rattle.std.specs.Io.KnownBytes.{Keeps};
 ghost use Rattle.mi_commands.specs.Holder.{held_by};
 ghost use Rattle.mi_hub.specs.Connections.{rest_at, others};
 ghost use Rattle.mi_ledger.specs.Ledger.{hub_of, log_of, IsSettled};
-ghost use Rattle.mi_serving.specs.Steps.{Step, asks, Makes, Goes, AreAsks, AreUndos};
+ghost use Rattle.mi_serving.specs.Steps.{Step, asks, Makes, GivesNone, AreAsks, AreUndos};
 ghost use Rattle.mi_serving.specs.Input.{waiting};
 ghost use Rattle.mi_ledger.specs.HeldReplies.{bytes_of};
 ghost use Rattle.mi_serving.specs.Output.{unsent};
-ghost use Rattle.mi_serving.specs.Client.{owed};
+ghost use Rattle.mi_serving.specs.Client.{owed, Owes};
 ghost use Rattle.mi_serving.specs.declared.client.Phase.TheVariants as phases;
 
 use crate::client::{Client, Phase};
@@ -24,7 +24,7 @@ const UNDO: &[u8] = b"{\"cmd\":\"undo\"}\n";
 
 /// Replies that stay wait for the stream behind those that do already. Without room for them the connection is broken.
 fn hand_out<S>(client: &mut Client<S>, bytes: Vec<u8>)
-    ensures unsent { (client.new.phase ≡ phases.Broken)
+    ensures unsent { ((client.new.phase ≡ phases.Broken) × (unsent client.new.output ≡ unsent client.old.output))
         ⊎ ((client.new.phase ≡ client.old.phase) × (unsent client.new.output ≡ unsent client.old.output ++ bytes.items)) }
     ensures same { client.new ≡ record client.old { output = client.new.output; phase = client.new.phase } }
 {
@@ -50,8 +50,9 @@ pub fn release<D: Sessions + Drop, L: Log + Drop, S>(
 ) -> Result<(), LedgerFault>
     requires settled { IsSettled L.appended L.synced ledger.old }
     ensures stays { OnOk result ((client.new ≡ client.old) ⊎ Keeps (L.appended (log_of ledger.new)) (L.synced (log_of ledger.new))) }
-    ensures owed { OnOk result ((client.new.phase ≡ phases.Broken) ⊎ ((client.new.phase ≡ client.old.phase) × (owed client.new ≡ owed client.old))) }
-    ensures input { OnOk result ((client.new.conn ≡ client.old.conn) × (client.new.input ≡ client.old.input) × (client.new.stream ≡ client.old.stream)) }
+    ensures owes { OnOk result (Owes [] client.old client.new) }
+    ensures phase { OnOk result ((client.new.phase ≡ phases.Broken) ⊎ (client.new.phase ≡ client.old.phase)) }
+    ensures input { OnOk result (client.new.input ≡ client.old.input) }
     ensures unsent { OnErr result (client.new.output ≡ client.old.output) }
     ensures hub { hub_of ledger.new ≡ hub_of ledger.old }
     ensures appended { Keeps (L.appended (log_of ledger.old)) (L.appended (log_of ledger.new)) }
@@ -74,8 +75,9 @@ fn release_each<D: Sessions + Drop, L: Log + Drop, S>(
 ) -> Result<(), LedgerFault>
     requires settled { IsSettled L.appended L.synced ledger.old }
     ensures stays { OnOk result ((client.new ≡ client.old) ⊎ Keeps (L.appended (log_of ledger.new)) (L.synced (log_of ledger.new))) }
-    ensures owed { OnOk result ((client.new.phase ≡ phases.Broken) ⊎ ((client.new.phase ≡ client.old.phase) × (owed client.new ≡ owed client.old))) }
-    ensures input { OnOk result ((client.new.conn ≡ client.old.conn) × (client.new.input ≡ client.old.input)) }
+    ensures owes { OnOk result (Owes [] client.old client.new) }
+    ensures phase { OnOk result ((client.new.phase ≡ phases.Broken) ⊎ (client.new.phase ≡ client.old.phase)) }
+    ensures input { OnOk result (client.new.input ≡ client.old.input) }
     ensures hub { hub_of ledger.new ≡ hub_of ledger.old }
     ensures appended { Keeps (L.appended (log_of ledger.old)) (L.appended (log_of ledger.new)) }
     ensures settled { IsSettled L.appended L.synced ledger.new }
@@ -98,7 +100,7 @@ fn ask_line<D: Sessions + Drop, L: Log + Drop, S>(
         × Makes (asks client.old.conn line out ∷ []) (hub_of ledger.old) (hub_of ledger.new)
         (L.appended (log_of ledger.old)) (L.appended (log_of ledger.new))) }
     ensures none { IfOk result (λ found. found ≡ false → (client.new ≡ client.old) × (ledger.new ≡ ledger.old)) }
-    ensures same { OnOk result ((client.new.conn ≡ client.old.conn) × (client.new.phase ≡ client.old.phase)) }
+    ensures same { OnOk result ((client.new.conn ≡ client.old.conn) × (client.new.phase ≡ client.old.phase) × (client.new.stream ≡ client.old.stream)) }
     ensures attached { OnOk result ((hub_of ledger.new).attached ≡ (hub_of ledger.old).attached) }
     ensures settled { IsSettled L.appended L.synced ledger.old → IsSettled L.appended L.synced ledger.new }
 {
@@ -122,9 +124,8 @@ pub fn ask_lines<D: Sessions + Drop, L: Log + Drop, S>(
     requires settled { IsSettled L.appended L.synced ledger.old }
     ensures asks { OnOk result ((steps : List Step) × (taken : List ℕ) × (given : List ℕ) × AreAsks client.old.conn steps taken given
         × (waiting client.old.input ≡ taken ++ waiting client.new.input)
-        × ((client.new.phase ≡ phases.Broken) ⊎ (owed client.new ≡ owed client.old ++ given))
+        × Owes given client.old client.new
         × Makes steps (hub_of ledger.old) (hub_of ledger.new) (L.appended (log_of ledger.old)) (L.appended (log_of ledger.new))) }
-    ensures conn { OnOk result (client.new.conn ≡ client.old.conn) }
     ensures attached { OnOk result ((hub_of ledger.new).attached ≡ (hub_of ledger.old).attached) }
     ensures settled { OnOk result (IsSettled L.appended L.synced ledger.new) }
 {
@@ -167,9 +168,9 @@ pub fn settle<D: Sessions + Drop, L: Log + Drop, S>(
     client: &mut Client<S>,
 ) -> Result<(), LedgerFault>
     requires here { rest_at client.old.conn (hub_of ledger.old).attached ≡ Some (Some []) }
-    ensures undoes { OnOk result ((steps : List Step) × AreUndos client.old.conn steps
+    ensures undoes { OnOk result ((steps : List Step) × AreUndos client.old.conn steps × Owes [] client.old client.new
         × Makes steps (hub_of ledger.old) (hub_of ledger.new) (L.appended (log_of ledger.old)) (L.appended (log_of ledger.new))) }
-    ensures same { OnOk result ((client.new.conn ≡ client.old.conn) × (client.new.input ≡ client.old.input) × (owed client.new ≡ owed client.old)) }
+    ensures input { OnOk result (client.new.input ≡ client.old.input) }
     ensures attached { OnOk result ((hub_of ledger.new).attached ≡ (hub_of ledger.old).attached) }
     ensures settled { IsSettled L.appended L.synced ledger.old → IsSettled L.appended L.synced ledger.new }
 {
@@ -187,7 +188,8 @@ pub fn part<D: Sessions + Drop, L: Log + Drop>(
     conn: u64,
 ) -> Result<(), LedgerFault>
     requires here { rest_at conn (hub_of ledger.old).attached ≡ Some (Some []) }
-    ensures goes { OnOk result (Goes (hub_of ledger.old) (hub_of ledger.new) (L.appended (log_of ledger.old)) (L.appended (log_of ledger.new))) }
+    ensures goes { OnOk result ((steps : List Step) × GivesNone steps
+        × Makes steps (hub_of ledger.old) (hub_of ledger.new) (L.appended (log_of ledger.old)) (L.appended (log_of ledger.new))) }
     ensures attached { OnOk result ((hub_of ledger.new).attached ≡ others conn (hub_of ledger.old).attached) }
     ensures settled { IsSettled L.appended L.synced ledger.old → IsSettled L.appended L.synced ledger.new }
 {

@@ -1,15 +1,15 @@
 //! A connection: its stream, what came of it and wasn't asked yet, and what it is to be sent. It asks nobody.
 ghost use Rattle.std.specs.Prelude.{◌≡◌, ◌⊎◌, ◌++◌, ℕ, List, [], true};
-ghost use Rattle.std.specs.Io.KnownBytes.{Keeps, Consumes};
 ghost use Rattle.mi_hub.specs.Ended.{ended};
 ghost use Rattle.mi_serving.specs.declared.client.Phase.TheVariants as phases;
 
+use crate::duplex::Duplex;
 use crate::input::Input;
 use crate::output::Output;
 use crate::sending::{Sending, send_out};
 use mi_ledger::HeldReplies;
 use std::alloc::Global;
-use std::io::{ErrorKind, Read, Write};
+use std::io::ErrorKind;
 
 /// Unsent bytes of a connection beyond which no line of it is asked.
 pub const MOST_UNSENT: usize = 65_536;
@@ -44,7 +44,7 @@ pub struct Client<S> {
 }
 
 impl<S> Client<S> {
-    ghost use Rattle.mi_serving.specs.Client.{owed};
+    ghost use Rattle.mi_serving.specs.Client.{owed, IsOver};
     ghost use Rattle.mi_serving.specs.Input.{waiting};
 
     /// A connection that has just come.
@@ -77,12 +77,16 @@ impl<S> Client<S> {
     }
 
     /// Whether its lines may be asked.
-    pub fn may_ask(&self) -> bool {
+    pub fn may_ask(&self) -> bool
+        ensures { result ≡ true → ¬ (self.now.phase ≡ phases.Broken) }
+    {
         self.phase != Phase::Broken && self.has_lines && self.has_room()
     }
 
     /// Whether its stream is to be read.
-    pub fn wants_bytes(&self) -> bool {
+    pub fn wants_bytes(&self) -> bool
+        ensures { result ≡ true → self.now.phase ≡ phases.Open }
+    {
         self.phase == Phase::Open && self.may_read && !self.has_lines && self.has_room()
     }
 
@@ -91,11 +95,20 @@ impl<S> Client<S> {
         self.may_ask() || self.wants_bytes() || self.may_write && !self.output.waiting().is_empty()
     }
 
+    /// Whether nothing of its replies is unsent.
+    fn owes_nothing(&self) -> bool
+        ensures { result ≡ true → owed self.now ≡ [] }
+    {
+        self.held.is_empty() && self.output.waiting().is_empty()
+    }
+
     /// Whether it is to be let go: its stream has failed, or all of it is asked and sent.
-    pub fn is_over(&self) -> bool {
+    pub fn is_over(&self) -> bool
+        ensures { result ≡ true → IsOver self.now }
+    {
         match self.phase {
             Phase::Open | Phase::Ended => false,
-            Phase::Asked => self.output.waiting().is_empty(),
+            Phase::Asked => self.owes_nothing(),
             Phase::Broken => true,
         }
     }
@@ -110,8 +123,10 @@ impl<S> Client<S> {
     }
 }
 
-impl<S: Read + Write> Client<S> {
-    ghost use Rattle.mi_serving.specs.Client.{owed, taken_and_owed};
+impl<S: Duplex> Client<S> {
+    ghost use Rattle.std.specs.Io.KnownBytes.{Keeps, Consumes};
+    ghost use Rattle.mi_serving.specs.Client.{owed};
+    ghost use Rattle.mi_serving.specs.Output.{Sends};
     ghost use Rattle.mi_serving.specs.Input.{waiting};
     ghost use Rattle.mi_serving.specs.Lines.{SameLines, Ends};
 
@@ -120,7 +135,9 @@ impl<S: Read + Write> Client<S> {
         ensures piece { (piece : List ℕ) × Consumes (S.remaining self.old.stream) (S.remaining self.new.stream) piece
             × ((self.new.phase ≡ phases.Broken) ⊎ (SameLines (waiting self.old.input ++ piece) (waiting self.new.input)
             ⊎ ((self.new.phase ≡ phases.Ended) × (piece ≡ []) × Ends (waiting self.old.input) (waiting self.new.input)))) }
+        ensures contents { Keeps (S.contents self.old.stream) (S.contents self.new.stream) }
         ensures owed { owed self.new ≡ owed self.old }
+        ensures broken { self.old.phase ≡ phases.Broken → self.new.phase ≡ phases.Broken }
         ensures conn { self.new.conn ≡ self.old.conn }
     {
         if !self.wants_bytes() || self.input.line().is_some() {
@@ -183,7 +200,8 @@ impl<S: Read + Write> Client<S> {
 
     /// Sends what was handed out, as much as its stream takes now. Each byte is sent or owed still.
     pub fn send(&mut self)
-        ensures sent { Keeps (taken_and_owed S.contents self.old) (taken_and_owed S.contents self.new) }
+        ensures sent { Sends S.contents self.old.stream self.new.stream (owed self.old) (owed self.new) }
+        ensures broken { self.old.phase ≡ phases.Broken → self.new.phase ≡ phases.Broken }
         ensures same { self.new ≡ record self.old { stream = self.new.stream; output = self.new.output; phase = self.new.phase; may_write = self.new.may_write } }
     {
         if !self.may_write || self.phase == Phase::Broken {

@@ -4,10 +4,12 @@
 #![tactic(auto)]
 
 mod asking;
+mod claim;
 mod client;
 mod device;
 mod digest;
 mod door;
+mod duplex;
 mod failure;
 mod input;
 mod lines;
@@ -24,12 +26,13 @@ pub use client::{Client, Phase};
 pub use device::{JournalDevice, Keeping};
 pub use digest::fingerprint;
 pub use door::Door;
+pub use duplex::Duplex;
 pub use failure::Failure;
 pub use input::Input;
 pub use opening::{FileLedger, Journaled, opened, recovered, without};
 pub use output::Output;
 pub use program::run;
-pub use row::{admit, ask_all, let_go, send_all};
+pub use row::{admit, ask_all, let_go, send_all, serve_all};
 pub use sending::{Sending, send_out};
 pub use service::{serve, take_turn};
 pub use words::{JournalWords, Options, SyncMode, WordsFault, read_words};

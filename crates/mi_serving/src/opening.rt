@@ -1,4 +1,4 @@
-//! The journal at the start: what it has is asked again, a torn end of it is cut off, and it is opened to go on with.
+//! The journal at the start: what it has is asked again, a torn end of it is cut off, and it is opened to go on with, under a name that stays.
 ghost use Rattle.std.specs.Prelude.{◌≡◌, ◌++◌, ◌∷◌, [], ℕ, true, false, Ok, OnOk, IfOk, IfSome};
 ghost use Rattle.mi_log.specs.LineReader.{reader_of};
 ghost use Rattle.mi_replay.specs.Replayed.{replayer};
@@ -7,6 +7,7 @@ ghost use Rattle.mi_serving.specs.Row.{fresh};
 ghost use Rattle.mi_serving.specs.Recovery.{HasHeader, IsBeginning, IsReplayed, IsRecovered, IsWith};
 
 use crate::asking::part;
+use crate::claim::{claimed, cut_off, keep_name};
 use crate::device::{JournalDevice, Keeping};
 use crate::failure::Failure;
 use mi_hub::Hub;
@@ -15,12 +16,20 @@ use mi_log::{DeviceLog, Heading, LineReader, Log, judge_heading};
 use mi_sessions::Sessions;
 use std::alloc::Global;
 use std::fs;
-use std::fs::{File, OpenOptions};
+use std::fs::File;
 use std::io::{BufRead, BufReader, ErrorKind};
 use std::rt::Files;
 
 /// A ledger over a journal in a file, or over none.
 pub type FileLedger<D> = Ledger<D, DeviceLog<JournalDevice<File>>>;
+
+/// Makes the name of a journal's file stay, where what is appended to it is made to stay.
+fn named<R: Files<File = File>>(rt: &R, path: &str, keeping: Keeping) -> Result<(), Failure> {
+    match keeping {
+        Keeping::Synced => keep_name(rt, path),
+        Keeping::Unsynced => Ok(()),
+    }
+}
 
 /// What a journal's file has.
 #[derive(Clone, Copy, Drop)]
@@ -137,31 +146,6 @@ fn found<R: Files<File = File> + AllocGlobal, D: Sessions + Drop>(
     }
 }
 
-/// The file of a journal, to be appended to by this process alone.
-fn appended<R: Files<File = File>>(rt: &R, path: &str) -> Result<File, Failure> {
-    let Ok(file) = OpenOptions::new().append(true).create(true).open(rt, path) else {
-        return Err(Failure::JournalFile);
-    };
-    match file.try_lock() {
-        Ok(()) => Ok(file),
-        Err(_error) => Err(Failure::JournalLocked),
-    }
-}
-
-/// Cuts so many bytes off the end of a file.
-fn cut_off(file: &File, torn: u64) -> Result<(), Failure> {
-    if torn == 0 {
-        return Ok(());
-    }
-    let Ok(metadata) = file.metadata() else {
-        return Err(Failure::JournalFile);
-    };
-    match file.set_len(metadata.len().saturating_sub(torn)) {
-        Ok(()) => Ok(()),
-        Err(_error) => Err(Failure::JournalFile),
-    }
-}
-
 /// The log of a journal that begins: its header is appended.
 fn begun(
     file: File,
@@ -206,7 +190,7 @@ pub fn without<D: Sessions + Drop>(alloc: Global, hub: Hub<D>) -> FileLedger<D>
 }
 
 /// A hub that a journal's lines were asked of again, and that goes on with it. The sessions that were held at its end are undone, and
-/// what it has stays.
+/// what it has stays, its name too.
 pub fn opened<R: Files<File = File> + AllocGlobal, D: Sessions + Drop>(
     rt: &R,
     hub: Hub<D>,
@@ -218,7 +202,8 @@ pub fn opened<R: Files<File = File> + AllocGlobal, D: Sessions + Drop>(
     ensures { IfOk result (λ ledger. (hub_of ledger).attached ≡ []) }
 {
     let mut hub = hub;
-    let file = appended(rt, path)?;
+    let file = claimed(rt, path)?;
+    named(rt, path, keeping)?;
     let found = found(rt, &mut hub, path, header.as_bytes())?;
     let log = continued(file, keeping, found, header)?;
     let mut ledger = Ledger::new(rt.alloc(), hub, log);

@@ -1,20 +1,23 @@
 //! The attached connections in a row, each step over all of them.
-ghost use Rattle.std.specs.Prelude.{◌≡◌, ◌++◌, ◌∷◌, [], Some, OnOk};
+ghost use Rattle.std.specs.Prelude.{◌≡◌, ◌⊎◌, ◌++◌, ◌∷◌, List, [], Some, OnOk};
+ghost use Rattle.std.specs.Io.KnownBytes.{Keeps};
 ghost use Rattle.mi_ledger.specs.Ledger.{hub_of, log_of, IsSettled};
-ghost use Rattle.mi_serving.specs.Steps.{Goes};
-ghost use Rattle.mi_serving.specs.Row.{ids, Attends};
+ghost use Rattle.mi_serving.specs.Client.{owed, IsServed};
+ghost use Rattle.mi_serving.specs.Steps.{Step, Makes, given_to, GivesOnly, GivesNone};
+ghost use Rattle.mi_serving.specs.Row.{ids, Attends, EachServed, Joins, LetsGo, Serves};
+ghost use Rattle.mi_serving.specs.declared.client.Client.{Client};
 ghost use Rattle.mi_hub.specs.Connections.{rest_at};
 
 use crate::asking::{ask_lines, part, release, settle};
 use crate::client::Client;
+use crate::duplex::Duplex;
 use mi_ledger::{Ledger, LedgerFault};
 use mi_log::Log;
 use mi_sessions::Sessions;
 use std::alloc::Global;
-use std::io::{Read, Write};
 
 /// What is ready of a connection is read, and its lines are asked.
-fn serve<D: Sessions + Drop, L: Log + Drop, S: Read + Write>(
+fn serve<D: Sessions + Drop, L: Log + Drop, S: Duplex>(
     ledger: &mut Ledger<D, L>,
     client: &mut Client<S>,
     buffer: &mut [u8],
@@ -22,8 +25,9 @@ fn serve<D: Sessions + Drop, L: Log + Drop, S: Read + Write>(
 ) -> Result<(), LedgerFault>
     requires here { rest_at client.old.conn (hub_of ledger.old).attached ≡ Some (Some []) }
     requires settled { IsSettled L.appended L.synced ledger.old }
-    ensures goes { OnOk result (Goes (hub_of ledger.old) (hub_of ledger.new) (L.appended (log_of ledger.old)) (L.appended (log_of ledger.new))) }
-    ensures conn { OnOk result (client.new.conn ≡ client.old.conn) }
+    ensures serves { OnOk result ((steps : List Step) × GivesOnly client.old.conn steps
+        × IsServed S.contents (given_to client.old.conn steps) client.old client.new
+        × Makes steps (hub_of ledger.old) (hub_of ledger.new) (L.appended (log_of ledger.old)) (L.appended (log_of ledger.new))) }
     ensures attached { OnOk result ((hub_of ledger.new).attached ≡ (hub_of ledger.old).attached) }
     ensures settled { OnOk result (IsSettled L.appended L.synced ledger.new) }
 {
@@ -33,7 +37,7 @@ fn serve<D: Sessions + Drop, L: Log + Drop, S: Read + Write>(
 }
 
 /// What is ready of each connection is read, and its lines are asked.
-pub fn ask_all<D: Sessions + Drop, L: Log + Drop, S: Read + Write>(
+pub fn ask_all<D: Sessions + Drop, L: Log + Drop, S: Duplex>(
     ledger: &mut Ledger<D, L>,
     row: &mut Vec<Client<S>>,
     buffer: &mut [u8],
@@ -41,7 +45,8 @@ pub fn ask_all<D: Sessions + Drop, L: Log + Drop, S: Read + Write>(
 ) -> Result<(), LedgerFault>
     requires attends { Attends (ids row.old.items) (hub_of ledger.old).attached }
     requires settled { IsSettled L.appended L.synced ledger.old }
-    ensures goes { OnOk result (Goes (hub_of ledger.old) (hub_of ledger.new) (L.appended (log_of ledger.old)) (L.appended (log_of ledger.new))) }
+    ensures serves { OnOk result ((steps : List Step) × EachServed S.contents steps row.old.items row.new.items
+        × Makes steps (hub_of ledger.old) (hub_of ledger.new) (L.appended (log_of ledger.old)) (L.appended (log_of ledger.new))) }
     ensures attends { OnOk result (Attends (ids row.new.items) (hub_of ledger.new).attached) }
     ensures settled { OnOk result (IsSettled L.appended L.synced ledger.new) }
 {
@@ -52,13 +57,15 @@ pub fn ask_all<D: Sessions + Drop, L: Log + Drop, S: Read + Write>(
 }
 
 /// The replies of all connections are handed out, and each is sent what its stream takes.
-pub fn send_all<D: Sessions + Drop, L: Log + Drop, S: Read + Write>(
+pub fn send_all<D: Sessions + Drop, L: Log + Drop, S: Duplex>(
     ledger: &mut Ledger<D, L>,
     row: &mut Vec<Client<S>>,
 ) -> Result<(), LedgerFault>
     requires attends { Attends (ids row.old.items) (hub_of ledger.old).attached }
     requires settled { IsSettled L.appended L.synced ledger.old }
-    ensures goes { OnOk result (Goes (hub_of ledger.old) (hub_of ledger.new) (L.appended (log_of ledger.old)) (L.appended (log_of ledger.new))) }
+    ensures sends { OnOk result (EachServed S.contents [] row.old.items row.new.items) }
+    ensures hub { OnOk result (hub_of ledger.new ≡ hub_of ledger.old) }
+    ensures appended { OnOk result (Keeps (L.appended (log_of ledger.old)) (L.appended (log_of ledger.new))) }
     ensures attends { OnOk result (Attends (ids row.new.items) (hub_of ledger.new).attached) }
     ensures settled { OnOk result (IsSettled L.appended L.synced ledger.new) }
 {
@@ -77,7 +84,8 @@ pub fn let_go<D: Sessions + Drop, L: Log + Drop, S: Drop>(
 ) -> Result<(), LedgerFault>
     requires attends { Attends (ids row.old.items) (hub_of ledger.old).attached }
     requires settled { IsSettled L.appended L.synced ledger.old }
-    ensures goes { OnOk result (Goes (hub_of ledger.old) (hub_of ledger.new) (L.appended (log_of ledger.old)) (L.appended (log_of ledger.new))) }
+    ensures goes { OnOk result ((steps : List Step) × GivesNone steps × LetsGo row.old.items row.new.items
+        × Makes steps (hub_of ledger.old) (hub_of ledger.new) (L.appended (log_of ledger.old)) (L.appended (log_of ledger.new))) }
     ensures attends { OnOk result (Attends (ids row.new.items) (hub_of ledger.new).attached) }
     ensures settled { OnOk result (IsSettled L.appended L.synced ledger.new) }
 {
@@ -103,6 +111,29 @@ fn seat<S: Drop>(row: &mut Vec<Client<S>>, client: Client<S>) -> Result<(), Ledg
     }
 }
 
+/// The connections of a row are served: what is ready of each is read, its lines are asked, the replies are sent once all that was appended
+/// stays, and those that are over are let go.
+///
+/// What one is sent or owed are the replies to its own lines, whole and in their order.
+pub fn serve_all<D: Sessions + Drop, L: Log + Drop, S: Duplex + Drop>(
+    alloc: Global,
+    ledger: &mut Ledger<D, L>,
+    row: &mut Vec<Client<S>>,
+    buffer: &mut [u8],
+    each: bool,
+) -> Result<(), LedgerFault>
+    requires attends { Attends (ids row.old.items) (hub_of ledger.old).attached }
+    requires settled { IsSettled L.appended L.synced ledger.old }
+    ensures serves { OnOk result ((steps : List Step) × Serves S.contents steps row.old.items row.new.items
+        × Makes steps (hub_of ledger.old) (hub_of ledger.new) (L.appended (log_of ledger.old)) (L.appended (log_of ledger.new))) }
+    ensures attends { OnOk result (Attends (ids row.new.items) (hub_of ledger.new).attached) }
+    ensures settled { OnOk result (IsSettled L.appended L.synced ledger.new) }
+{
+    ask_all(ledger, row, buffer, each)?;
+    send_all(ledger, row)?;
+    let_go(alloc, ledger, row)
+}
+
 /// A connection comes: it is attached under this number, and stands behind the others. Where the hub refuses it, it is let go, and nothing
 /// has changed.
 pub fn admit<D: Sessions + Drop, L: Log + Drop, S: Drop>(
@@ -114,7 +145,10 @@ pub fn admit<D: Sessions + Drop, L: Log + Drop, S: Drop>(
 ) -> Result<(), LedgerFault>
     requires attends { Attends (ids row.old.items) (hub_of ledger.old).attached }
     requires settled { IsSettled L.appended L.synced ledger.old }
-    ensures goes { OnOk result (Goes (hub_of ledger.old) (hub_of ledger.new) (L.appended (log_of ledger.old)) (L.appended (log_of ledger.new))) }
+    ensures comes { OnOk result ((steps : List Step) × GivesNone steps × Joins row.old.items row.new.items
+        × Makes steps (hub_of ledger.old) (hub_of ledger.new) (L.appended (log_of ledger.old)) (L.appended (log_of ledger.new))) }
+    ensures row { OnOk result ((row.new.items ≡ row.old.items)
+        ⊎ ((client : Client S) × (row.new.items ≡ row.old.items ++ client ∷ []) × (client.conn ≡ conn) × (client.stream ≡ stream) × (owed client ≡ []))) }
     ensures attends { OnOk result (Attends (ids row.new.items) (hub_of ledger.new).attached) }
     ensures settled { OnOk result (IsSettled L.appended L.synced ledger.new) }
 {

@@ -1,10 +1,9 @@
 //! What waits goes to a stream that doesn't block.
-ghost use Rattle.std.specs.Prelude.{◌≡◌};
-ghost use Rattle.std.specs.Io.KnownBytes.{Keeps};
-ghost use Rattle.mi_serving.specs.Output.{sent_and_unsent};
+ghost use Rattle.mi_serving.specs.Output.{unsent, Sends};
 
+use crate::duplex::Duplex;
 use crate::output::Output;
-use std::io::{ErrorKind, Write};
+use std::io::ErrorKind;
 
 /// What came of sending.
 #[derive(Clone, Copy, Drop)]
@@ -18,8 +17,8 @@ pub enum Sending {
 }
 
 /// Sends what waits, as much as the stream takes now. Each byte is sent or waits still.
-pub fn send_out<S: Write>(stream: &mut S, output: &mut Output) -> Sending
-    ensures { Keeps (sent_and_unsent S.contents stream.old output.old) (sent_and_unsent S.contents stream.new output.new) }
+pub fn send_out<S: Duplex>(stream: &mut S, output: &mut Output) -> Sending
+    ensures { Sends S.contents stream.old stream.new (unsent output.old) (unsent output.new) }
 {
     'out: while !output.waiting().is_empty() {
         match stream.write(output.waiting()) {

@@ -1,13 +1,13 @@
 //! The loop of the service: it waits until something is ready, and takes a turn.
-ghost use Rattle.std.specs.Prelude.{◌≡◌, [], Err, OnOk, OnErr};
+ghost use Rattle.std.specs.Prelude.{◌≡◌, List, [], None, Err, OnOk, OnErr};
 ghost use Rattle.mi_ledger.specs.Ledger.{hub_of, log_of, IsSettled};
-ghost use Rattle.mi_serving.specs.Steps.{Goes};
-ghost use Rattle.mi_serving.specs.Row.{ids, Attends};
+ghost use Rattle.mi_serving.specs.Steps.{Step, Makes, Goes, GivesNone};
+ghost use Rattle.mi_serving.specs.Row.{ids, Attends, Joins, Serves};
 
 use crate::client::Client;
 use crate::door::Door;
 use crate::failure::Failure;
-use crate::row::{admit, ask_all, is_any_busy, let_go, send_all};
+use crate::row::{admit, is_any_busy, serve_all};
 use mi_ledger::{Ledger, LedgerFault, REPLAYER};
 use mi_log::Log;
 use mi_sessions::Sessions;
@@ -31,7 +31,8 @@ fn accept_one<D: Sessions + Drop, L: Log + Drop>(
 ) -> Result<(), LedgerFault>
     requires attends { Attends (ids row.old.items) (hub_of ledger.old).attached }
     requires settled { IsSettled L.appended L.synced ledger.old }
-    ensures goes { OnOk result (Goes (hub_of ledger.old) (hub_of ledger.new) (L.appended (log_of ledger.old)) (L.appended (log_of ledger.new))) }
+    ensures comes { OnOk result ((steps : List Step) × GivesNone steps × Joins row.old.items row.new.items
+        × Makes steps (hub_of ledger.old) (hub_of ledger.new) (L.appended (log_of ledger.old)) (L.appended (log_of ledger.new))) }
     ensures attends { OnOk result (Attends (ids row.new.items) (hub_of ledger.new).attached) }
     ensures settled { OnOk result (IsSettled L.appended L.synced ledger.new) }
 {
@@ -55,7 +56,8 @@ fn accept_all<D: Sessions + Drop, L: Log + Drop>(
 ) -> Result<(), LedgerFault>
     requires attends { Attends (ids row.old.items) (hub_of ledger.old).attached }
     requires settled { IsSettled L.appended L.synced ledger.old }
-    ensures goes { OnOk result (Goes (hub_of ledger.old) (hub_of ledger.new) (L.appended (log_of ledger.old)) (L.appended (log_of ledger.new))) }
+    ensures comes { OnOk result ((steps : List Step) × GivesNone steps × Joins row.old.items row.new.items
+        × Makes steps (hub_of ledger.old) (hub_of ledger.new) (L.appended (log_of ledger.old)) (L.appended (log_of ledger.new))) }
     ensures attends { OnOk result (Attends (ids row.new.items) (hub_of ledger.new).attached) }
     ensures settled { OnOk result (IsSettled L.appended L.synced ledger.new) }
 {
@@ -68,8 +70,13 @@ fn accept_all<D: Sessions + Drop, L: Log + Drop>(
     Ok(())
 }
 
-/// What is done once some connections are ready: those that have come are accepted, what is ready is read, its lines are asked, and the
-/// replies are sent once the journal stays.
+/// What is done once some connections are ready: those that have come are accepted, what is ready is read, its lines are asked, the
+/// replies are sent once the journal stays, and those that are over are let go. What a connection receives are the replies to its own
+/// lines, whole and in their order.
+///
+/// `Memory` where memory for a reply or for the row is refused, or one that goes holds sessions still once 1,025 lines undid some;
+/// `Journal` where a line can't be appended whole, or what was appended can't be made to stay. Nothing is said of the hub then, and
+/// the service ends.
 pub fn take_turn<D: Sessions + Drop, L: Log + Drop>(
     alloc: Global,
     ledger: &mut Ledger<D, L>,
@@ -81,14 +88,13 @@ pub fn take_turn<D: Sessions + Drop, L: Log + Drop>(
 ) -> Result<(), LedgerFault>
     requires attends { Attends (ids row.old.items) (hub_of ledger.old).attached }
     requires settled { IsSettled L.appended L.synced ledger.old }
-    ensures goes { OnOk result (Goes (hub_of ledger.old) (hub_of ledger.new) (L.appended (log_of ledger.old)) (L.appended (log_of ledger.new))) }
+    ensures serves { OnOk result ((steps : List Step) × Serves (λ _. None) steps row.old.items row.new.items
+        × Makes steps (hub_of ledger.old) (hub_of ledger.new) (L.appended (log_of ledger.old)) (L.appended (log_of ledger.new))) }
     ensures attends { OnOk result (Attends (ids row.new.items) (hub_of ledger.new).attached) }
     ensures settled { OnOk result (IsSettled L.appended L.synced ledger.new) }
 {
     accept_all(alloc, ledger, door, row, last)?;
-    ask_all(ledger, row, buffer, each)?;
-    send_all(ledger, row)?;
-    let_go(alloc, ledger, row)
+    serve_all(alloc, ledger, row, buffer, each)
 }
 
 /// Waits until something is ready, and tells the connections.

@@ -1,15 +1,13 @@
-use Rattle.std.proofs.Common.{◌≡◌, ◌⊎◌, ◌++◌, ℕ, List, length}
+use Rattle.std.proofs.Common.{◌≡◌, ◌++◌, ℕ, List, length}
 use Rattle.mi_ledger.specs.Ledger.{hub_of, log_of, IsSettled}
 use Rattle.mi_serving.specs.Steps.{Step, Makes, AreAsks}
 use Rattle.mi_serving.specs.Input.{waiting}
-use Rattle.mi_serving.specs.Client.{owed}
-use Rattle.mi_serving.specs.declared.client.Phase.TheVariants.{Broken}
+use Rattle.mi_serving.specs.Client.{Owes}
 use Rattle.mi_serving.proofs.asking.ask_lines.Given as goal
 
 -- the lines so far are the first of what waited, and their replies are owed
 abbrev pub invariant-lines : goal.invariant-lines
 invariant-lines g l = record {
-  conn : l.client.conn ≡ l.fn.client.conn;
   attached : (hub_of l.ledger).attached ≡ (hub_of l.fn.ledger).attached;
   settled : IsSettled g.L.Log.appended g.L.Log.synced l.ledger;
   steps : List Step;
@@ -17,7 +15,7 @@ invariant-lines g l = record {
   given : List ℕ;
   own : AreAsks l.fn.client.conn steps taken given;
   input : waiting l.fn.client.input ≡ taken ++ waiting l.client.input;
-  owes : (l.client.phase ≡ Broken) ⊎ (owed l.client ≡ owed l.fn.client ++ given);
+  owes : Owes given l.fn.client l.client;
   makes : Makes steps (hub_of l.fn.ledger) (hub_of l.ledger) (g.L.Log.appended (log_of l.fn.ledger)) (g.L.Log.appended (log_of l.ledger));
 }
 

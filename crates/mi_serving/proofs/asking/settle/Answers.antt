@@ -2,7 +2,8 @@
 use Rattle.std.proofs.Common.{[]}
 use Rattle.std.proofs.KnownBytes.{Keeps-refl}
 use Rattle.mi_serving.proofs.StepLemmas.{makes_none}
+use Rattle.mi_serving.proofs.ServedLemmas.{owes_none}
 use Rattle.mi_serving.proofs.asking.settle.Goals as goal
 
 pub returns-else-eq-clause-undoes : goal.returns-else-eq-clause-undoes
-returns-else-eq-clause-undoes g c = ([], tt, makes_none _ _ _ (Keeps-refl _))
+returns-else-eq-clause-undoes g c = ([], tt, owes_none _, makes_none _ _ _ (Keeps-refl _))

@@ -1,19 +1,29 @@
 -- One connection more.
+use Rattle.std.proofs.Common.{◌++◌, []}
 use Rattle.std.proofs.KnownBytes.{Keeps-refl}
 use Rattle.mi_ledger.specs.Ledger.{hub_of}
-use Rattle.mi_serving.proofs.StepLemmas.{goes_none, goes_then}
+use Rattle.mi_serving.proofs.StepLemmas.{makes_none, makes_then}
+use Rattle.mi_serving.proofs.ServedLemmas.{nothing_given, none_join, joins_none, joins_then}
 use Rattle.mi_serving.proofs.service.accept_all.Goals as goal
 
 pub places-init : goal.places-init
 places-init g c = record {
   attends = c.requires.attends;
   settled = c.requires.settled;
-  goes = goes_none _ _ _ (Keeps-refl _);
+  steps = [];
+  none = nothing_given;
+  joins = joins_none c.args.row.now.items;
+  makes = makes_none _ _ _ (Keeps-refl _);
 }
 
 pub places-preserved : goal.places-preserved
-places-preserved g c = record {
-  attends = c.in_ok-accept_one.ensures.attends;
-  settled = c.in_ok-accept_one.ensures.settled;
-  goes = goes_then _ (hub_of c.places.ledger) _ _ _ _ c.places.invariant.goes c.in_ok-accept_one.ensures.goes;
-}
+places-preserved g c =
+    let before = c.places.invariant in
+    let one = c.in_ok-accept_one.ensures.comes in record {
+      attends = c.in_ok-accept_one.ensures.attends;
+      settled = c.in_ok-accept_one.ensures.settled;
+      steps = before.steps ++ one.0;
+      none = none_join before.steps one.0 before.none one.1;
+      joins = joins_then c.args.row.now.items c.places.row.items c.accept_one.new.row.items before.joins one.2;
+      makes = makes_then before.steps one.0 _ (hub_of c.places.ledger) _ _ _ _ before.makes one.3;
+    }

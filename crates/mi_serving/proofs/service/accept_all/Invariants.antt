@@ -1,12 +1,16 @@
+use Rattle.std.proofs.Common.{List}
 use Rattle.mi_ledger.specs.Ledger.{hub_of, log_of, IsSettled}
-use Rattle.mi_serving.specs.Steps.{Goes}
-use Rattle.mi_serving.specs.Row.{ids, Attends}
+use Rattle.mi_serving.specs.Steps.{Step, Makes, GivesNone}
+use Rattle.mi_serving.specs.Row.{ids, Attends, Joins}
 use Rattle.mi_serving.proofs.service.accept_all.Given as goal
 
--- the row stays what the hub has attached
+-- the row stays what the hub has attached, and those that were there stay as they are
 abbrev pub invariant-places : goal.invariant-places
 invariant-places g l = record {
   attends : Attends (ids l.row.items) (hub_of l.ledger).attached;
   settled : IsSettled g.L.Log.appended g.L.Log.synced l.ledger;
-  goes : Goes (hub_of l.fn.ledger) (hub_of l.ledger) (g.L.Log.appended (log_of l.fn.ledger)) (g.L.Log.appended (log_of l.ledger));
+  steps : List Step;
+  none : GivesNone steps;
+  joins : Joins l.fn.row.items l.row.items;
+  makes : Makes steps (hub_of l.fn.ledger) (hub_of l.ledger) (g.L.Log.appended (log_of l.fn.ledger)) (g.L.Log.appended (log_of l.ledger));
 }

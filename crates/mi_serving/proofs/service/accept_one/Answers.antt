@@ -1,7 +1,9 @@
 -- Where none has come nothing is done.
+use Rattle.std.proofs.Common.{[]}
 use Rattle.std.proofs.KnownBytes.{Keeps-refl}
-use Rattle.mi_serving.proofs.StepLemmas.{goes_none}
+use Rattle.mi_serving.proofs.StepLemmas.{makes_none}
+use Rattle.mi_serving.proofs.ServedLemmas.{nothing_given, joins_none}
 use Rattle.mi_serving.proofs.service.accept_one.Goals as goal
 
-pub returns-in-None-clause-goes : goal.returns-in-None-clause-goes
-returns-in-None-clause-goes g c = goes_none _ _ _ (Keeps-refl _)
+pub returns-in-None-clause-comes : goal.returns-in-None-clause-comes
+returns-in-None-clause-comes g c = ([], nothing_given, joins_none c.args.row.now.items, makes_none _ _ _ (Keeps-refl _))

@@ -18,5 +18,6 @@ pub turns-preserved : goal.turns-preserved
 turns-preserved g c = record {
   attends = c.in_default-take_turn.ensures.attends;
   settled = c.in_default-take_turn.ensures.settled;
-  goes = goes_then _ (hub_of c.turns.ledger) _ _ _ _ c.turns.invariant.goes c.in_default-take_turn.ensures.goes;
+  goes = let turn = c.in_default-take_turn.ensures.serves in
+      goes_then _ (hub_of c.turns.ledger) _ _ _ _ c.turns.invariant.goes (turn.0, turn.2);
 }

@@ -1,13 +1,16 @@
--- What is done of a turn is done one behind another.
+-- Those that come give nobody anything, and then all of the row are served.
+use Rattle.std.proofs.Common.{◌++◌, None}
 use Rattle.std.proofs.lemmas.Result.{on_ok_weaker}
 use Rattle.mi_ledger.specs.Ledger.{hub_of}
-use Rattle.mi_serving.proofs.StepLemmas.{goes_then}
+use Rattle.mi_serving.proofs.StepLemmas.{makes_then}
+use Rattle.mi_serving.proofs.ServedLemmas.{serves_joined}
 use Rattle.mi_serving.proofs.service.take_turn.Goals as goal
 
-pub returns-clause-goes : goal.returns-clause-goes
-returns-clause-goes g c =
-    on_ok_weaker c.let_go.result (λ last.
-    goes_then _ (hub_of c.send_all.new.ledger) _ _ _ _
-    (goes_then _ (hub_of c.ask_all.new.ledger) _ _ _ _
-    (goes_then _ (hub_of c.accept_all.new.ledger) _ _ _ _ c.in_ok-accept_all.ensures.goes c.in_ok-ask_all.ensures.goes)
-    c.in_ok-send_all.ensures.goes) last) c.let_go.ensures.goes
+pub returns-clause-serves : goal.returns-clause-serves
+returns-clause-serves g c =
+    let came = c.in_ok-accept_all.ensures.comes in
+    on_ok_weaker c.serve_all.result (λ served. (
+      came.0 ++ served.0,
+      serves_joined (λ _. None) came.0 served.0 c.args.row.now.items c.accept_all.new.row.items c.serve_all.new.row.items came.1 came.2 served.1,
+      makes_then came.0 served.0 _ (hub_of c.accept_all.new.ledger) _ _ _ _ came.3 served.2,
+    )) c.serve_all.ensures.serves
