@@ -1,6 +1,6 @@
 -- The way down that counts the nodes in front of the first that is past a probe.
 use Rattle.std.proofs.Common.{◌≡◌, ℕ, ◌+◌, ◌-◌, ◌^◌, ◌<◌, ◌≤◌, Bool, true, false, not, cond, List, [], ◌∷◌, ◌++◌, length}
-use Rattle.std.proofs.Common.{Option, Some, None, refl, sym, ap, ◌∙◌, subst, arith}
+use Rattle.std.proofs.Common.{Option, Some, None, refl, ap, ◌∙◌, subst, arith}
 use Rattle.std.specs.List.{position_or_len}
 use Rattle.mi_node.specs.Pool.{Pooled, link_of, IsHeld, IsHeldIf}
 use Rattle.mi_node.specs.Refs.{Ref}

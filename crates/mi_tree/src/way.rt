@@ -28,7 +28,8 @@ pub(crate) struct Turn {
 pub(crate) type Way = ArrayVec<Turn, MAX_LEVELS>;
 
 /// Goes down to where a node of that tag belongs, which no node there compares Equal to, and puts each
-/// node on the way onto the way. `decided` says whether the tag decides, which is asked once for the way. Each gets a size that is one greater: a node is about to stand below it.
+/// node on the way onto the way. `decided` is whether the tag decides, which is asked once for the way. Each
+/// node on it gets a size that is one greater: a node is about to stand below it.
 ///
 /// Its size is read again right before it is set: the compiler then adds to it in its place.
 pub(crate) fn go_in<T, O: NodeOrder<T>>(

@@ -1,5 +1,5 @@
 -- The way down ends where the node belongs, and the climb puts it there with all heights right.
-use Rattle.std.proofs.Common.{None, [], List, ◌∷◌, Option, sym, subst}
+use Rattle.std.proofs.Common.{None, [], List, ◌∷◌, sym, subst}
 use Rattle.mi_tree.specs.BinaryTree.{BinaryTree, Fork, Tip, nodes}
 use Rattle.mi_tree.specs.Sorted.{AreTagged, CanPut, side}
 use Rattle.mi_tree.specs.Ways.{Falls}

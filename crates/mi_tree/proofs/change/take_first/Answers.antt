@@ -1,5 +1,5 @@
 -- The way down to the left ends at the first node, and the climb puts its right side in its place.
-use Rattle.std.proofs.Common.{◌≡◌, [], ◌∷◌, List, Option, Some, refl, sym, ap, ◌∙◌, subst}
+use Rattle.std.proofs.Common.{◌≡◌, [], ◌∷◌, List, Some, refl, sym, ap, ◌∙◌, subst}
 use Rattle.mi_node.specs.Pool.{link_of, IsHeld}
 use Rattle.mi_node.specs.Refs.{Ref}
 use Rattle.mi_tree.specs.BinaryTree.{BinaryTree, Fork, Tip, nodes, height}

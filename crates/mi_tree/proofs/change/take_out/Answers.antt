@@ -1,5 +1,5 @@
 -- The way down ends at the node, its two sides become one tree, and this takes its place.
-use Rattle.std.proofs.Common.{◌≡◌, [], List, ◌∷◌, ◌++◌, Option, Some, refl, sym, subst}
+use Rattle.std.proofs.Common.{◌≡◌, [], List, ◌∷◌, ◌++◌, Some, refl, sym, subst}
 use Rattle.mi_node.specs.Refs.{Ref}
 use Rattle.mi_tree.specs.BinaryTree.{BinaryTree, nodes}
 use Rattle.mi_tree.specs.Sorted.{CanTake, Rising, side}

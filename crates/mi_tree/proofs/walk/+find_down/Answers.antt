@@ -69,7 +69,8 @@ find_down-requires g t c κs within =
     let on = find_left total h c.in-Some.is i same (side_found g t o.After-compare_nodes ∙ c.in-Less.is) c.is_ascending.ensures c.push_if.ensures in
     let tags = find_tags total h c.in-Some.is i same tag c.requires.way.8 in
     let falls = enters_lower c.args.direction (entered h.enters c.in-Some.is i) same c.in-Some.is in
-    (omega (arith, c.decreases, falls.0), (within.0, (within.1, (slot-moved s same c.requires.slot, (tag_kept g t o.After-link-link, (c.requires.decided, way_of tag on.1 tags.0))))))
+    let kept = tag_kept g t o.After-link-link in
+    (omega (arith, c.decreases, falls.0), (within.0, (within.1, (slot-moved s same c.requires.slot, (kept, (c.requires.decided, way_of tag on.1 tags.0))))))
 
 pub find_down-requires-in-Greater : goal.find_down-requires-in-Greater
 find_down-requires-in-Greater g t c κs within =
@@ -79,7 +80,8 @@ find_down-requires-in-Greater g t c κs within =
     c.push_if-in-Greater.ensures in
     let tags = find_tags total h c.in-Some.is i same tag c.requires.way.8 in
     let falls = enters_lower c.args.direction (entered h.enters c.in-Some.is i) same c.in-Some.is in
-    (omega (arith, c.decreases, falls.1), (within.0, (within.1, (slot-moved s same c.requires.slot, (tag_kept g t o.After-link-link, (c.requires.decided, way_of tag on.1 tags.2))))))
+    let kept = tag_kept g t o.After-link-link in
+    (omega (arith, c.decreases, falls.1), (within.0, (within.1, (slot-moved s same c.requires.slot, (kept, (c.requires.decided, way_of tag on.1 tags.2))))))
 
 pub returns-in-Less-clause-way : goal.returns-in-Less-clause-way
 returns-in-Less-clause-way g t c levels xs u vs ws h can up e =

@@ -78,7 +78,8 @@ go_to-requires g t c κs within =
     let on = next g t o.After-push (side_found g t o.After-compare_nodes-side) w.6 w.7 in let k = on.1 in
     let tag_is = c.requires.tag ∙ sym (tags_here w.6 c.in-Some.is refl now c.args.node.name) in
     let slots = subst (λ j. c.args.slot < j) (sym (keeps_here w.6 c.in-Some.is refl now).slots) c.requires.slot in
-    (omega (arith, c.decreases, k.lower), (within.0, (within.1, (slots, (tag_is, (c.requires.decided, (k.gs, k.sub, on.0, k.zs, w.4, w.5, k.sinks, on.2, on.3 w.8)))))))
+    let decided = c.requires.decided in
+    (omega (arith, c.decreases, k.lower), (within.0, (within.1, (slots, (tag_is, (decided, (k.gs, k.sub, on.0, k.zs, w.4, w.5, k.sinks, on.2, on.3 w.8)))))))
 
 pub returns-clause-slots : goal.returns-clause-slots
 returns-clause-slots g t c = c.go_to.ensures.slots ∙ (keeps_here c.requires.way.6 c.in-Some.is refl (set g t (goal.at.returns-clause-slots g t c).After-set_size)).slots

@@ -1,5 +1,5 @@
 -- The tree at the end of the way is as high as the one before, so only the link above it is set.
-use Rattle.std.proofs.Common.{◌≡◌, List, Option, Some, refl, sym, ap, ◌∙◌}
+use Rattle.std.proofs.Common.{◌≡◌, List, Option, Some, refl, ap, ◌∙◌}
 use Rattle.mi_node.specs.Refs.{Ref}
 use Rattle.mi_tree.specs.BinaryTree.{BinaryTree, height}
 use Rattle.mi_node.specs.Cells.{sided}

@@ -1,11 +1,11 @@
 -- A side that is one level lower than its node needs no balance; sides of nearly one height need another height alone; else the two sides are balanced.
-use Rattle.std.proofs.Common.{◌≡◌, ◌+◌, ◌-◌, ◌≤◌, cond, not, refl, sym, ap, ◌∙◌, subst, arith}
+use Rattle.std.proofs.Common.{◌+◌, ◌-◌, ◌≤◌, cond, not, refl, sym, ap, ◌∙◌, subst, arith}
 use Rattle.mi_node.specs.Cells.{sided}
 use Rattle.mi_node.specs.Pool.{IsHeldIf, link_of}
 use Rattle.mi_node.specs.declared.link.Link.{Link}
 use Rattle.mi_tree.specs.BinaryTree.{BinaryTree, height, height_at, DifferByAtMost}
 use Rattle.mi_tree.specs.Joining.{IsFork}
-use Rattle.mi_tree.specs.Ways.{rehung, AreRejoined}
+use Rattle.mi_tree.specs.Ways.{AreRejoined}
 use Rattle.mi_tree.proofs.RotationLemmas.{plains}
 use Rattle.mi_tree.proofs.WayLemmas.{AreHigh, other_held, rejoined_high, rejoined_fork}
 use Rattle.mi_tree.proofs.way.rejoin.Given.{Over}
