@@ -1,10 +1,8 @@
 -- What the marks of the indexes in which a key changes say of each index.
-use Rattle.std.proofs.Common.{◌≡◌, ℕ, ◌<◌, Bool, true, false, not, List, [], map, get_or, length, refl, ap, sym, ◌∙◌}
+use Rattle.std.proofs.Common.{◌≡◌, ℕ, ◌<◌, Bool, true, false, not, List, [], get_or, length, refl, ap, sym, ◌∙◌}
 use Rattle.std.specs.Option.{option_map, unwrap_or}
-use Rattle.std.specs.Ordering.{is_eq}
 use Rattle.std.proofs.lemmas.List.{get_or-map, length-map}
 use Rattle.mi_value.specs.declared.value.Value.{Value}
-use Rattle.mi_value.specs.Order.{compare_key}
 use Rattle.mi_catalog.specs.declared.index.Index.{Index}
 use Rattle.mi_catalog.specs.Shape.{index_at}
 use Rattle.mi_model.specs.Table.{row}

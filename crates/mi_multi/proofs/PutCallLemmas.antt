@@ -1,6 +1,6 @@
 -- What the calls that put another record ask and answer, by what contracts see of the container.
 use Rattle.std.proofs.Common.{◌≡◌, ℕ, ◌+◌, ◌^◌, ◌<◌, Bool, true, false, not, List, ◌++◌, ◌∷◌, map, length, slice_get, refl, ap, sym, ◌∙◌, subst}
-use Rattle.std.specs.Option.{IsSome, option_map, is_some}
+use Rattle.std.specs.Option.{IsSome, option_map}
 use Rattle.std.specs.Ordering.{is_eq}
 use Rattle.std.specs.FinMap.{get}
 use Rattle.std.specs.declared.option.Option.{Option}
@@ -30,7 +30,6 @@ use Rattle.mi_container.specs.declared.place.OldPlace.{OldPlace as Was}
 use Rattle.mi_container.specs.declared.inverse.RowRef.{RowRef as Row}
 use Rattle.mi_model.specs.Table.{has}
 use Rattle.mi_ids.specs.IdMap.{live_node}
-use Rattle.mi_multi.specs.Physical.{plan}
 use Rattle.mi_multi.specs.Multi.{own_lists, HasNode, IsMulti, plain_of}
 use Rattle.mi_multi.specs.Placed.{place_kept}
 use Rattle.mi_multi.specs.Seen.{Seen, seen_of, AreMulti}

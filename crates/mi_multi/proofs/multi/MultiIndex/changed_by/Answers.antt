@@ -1,5 +1,5 @@
 -- The record that the row has is that of its node.
-use Rattle.std.proofs.Common.{ap, sym, ◌∙◌}
+use Rattle.std.proofs.Common.{ap, ◌∙◌}
 use Rattle.mi_container.specs.declared.inverse.RowRef.{RowRef as Row}
 use Rattle.mi_multi.specs.Changed.{changed_keys}
 use Rattle.mi_multi.proofs.PutCallLemmas.{row_held, marks_are}

@@ -1,5 +1,5 @@
 -- Where the key changes, the place is the stamp and in a hashed index the neighbours.
-use Rattle.std.proofs.Common.{ap, sym, ◌∙◌}
+use Rattle.std.proofs.Common.{ap, ◌∙◌}
 use Rattle.std.specs.Option.{option_map}
 use Rattle.std.specs.declared.option.Option.TheVariants.{Some}
 use Rattle.mi_container.specs.Backs.{place_seen}
