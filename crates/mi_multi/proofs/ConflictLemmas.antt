@@ -1,5 +1,5 @@
 -- The row that a unique index finds for a record's key.
-use Rattle.std.proofs.Common.{Bor, ◌≡◌, ◌≢◌, ℕ, ◌<◌, zero, suc, Bool, true, not, List, [], ◌∷◌, slice_get, get_or, length, refl, ap, sym, ◌∙◌, subst, arith}
+use Rattle.std.proofs.Common.{Bor, ◌≡◌, ◌≢◌, ℕ, ◌<◌, zero, suc, Bool, true, false, not, List, [], ◌∷◌, slice_get, get_or, length, refl, ap, sym, ◌∙◌, subst, arith}
 use Rattle.std.specs.Prelude.{IsTrue}
 use Rattle.std.specs.List.{filter, list_all}
 use Rattle.std.specs.Option.{option_map}
@@ -19,7 +19,7 @@ use Rattle.mi_catalog.specs.Kinds.{has_keys}
 use Rattle.mi_catalog.specs.Rules.{keeps_kind, is_declared_index, are_indexes, is_schema}
 use Rattle.mi_catalog.specs.Shape.{Shape, index_at}
 use Rattle.mi_catalog.specs.Key.{Row}
-use Rattle.mi_model.specs.Table.{Table}
+use Rattle.mi_model.specs.Table.{Table, has}
 use Rattle.mi_model.specs.View.{view}
 use Rattle.mi_model.specs.Conflict.{rival}
 use Rattle.mi_model.proofs.PlaceLaws.{each_in_view}
@@ -33,17 +33,20 @@ use Rattle.mi_index.specs.declared.structure.Structure.TheVariants.{Sorted, Hash
 use Rattle.mi_index.specs.Looks as nodes
 use Rattle.mi_index.specs.Orders.{place_in, is_key_of}
 use Rattle.mi_index.specs.Standing.{Stands}
-use Rattle.mi_container.specs.Data.{IsData, as_table}
+use Rattle.mi_container.specs.Data.{IsData, as_table, content_of}
+use Rattle.mi_container.proofs.InvariantLemmas.{there_has}
 use Rattle.mi_ids.specs.declared.entry.IdEntry.{IdEntry}
 use Rattle.mi_multi.specs.Multi.{id_at, IsFor, IsMulti, plain_of}
 use Rattle.mi_multi.specs.Seen.{Seen, seen_of, AreMulti}
+use Rattle.mi_multi.specs.Changed.{is_changed}
 use Rattle.mi_multi.specs.declared.multi.MultiIndex.TheInside.{Inside}
 use Rattle.mi_multi.proofs.LiveNodeLemmas.{IsLiveRef}
 use Rattle.mi_multi.proofs.IndexNumberLemmas.{Numbered, numbered, reaches}
 use Rattle.mi_multi.proofs.ViewLemmas.{row_at, node_of_row, shows}
 use Rattle.mi_multi.proofs.FoundIdLemmas.{where_ids}
 use Rattle.mi_multi.proofs.ProbeLemmas.{each_of, no_keys}
-use Rattle.mi_multi.proofs.UniqueLemmas.{has_key_of, rival_is_first, no_rival, own_row, other_row}
+use Rattle.mi_multi.proofs.ChangedLemmas.{not_not, values_there}
+use Rattle.mi_multi.proofs.UniqueLemmas.{has_key_of, rival_is_first, no_rival, kept_row, own_row, other_row}
 
 -- A unique index has keys
 
@@ -142,6 +145,14 @@ module _ (i : Inside) (is : AreMulti i) (w : Seen) (seen : seen_of i ≡ w) (x :
     pub own_is_none : (own : ℕ) → rival (as_table w.plain).rows (index_at w.shape x).parts r None ≡ Some own
         → rival (as_table w.plain).rows (index_at w.shape x).parts r (Some own) ≡ None
     own_is_none = own_row w.shape (as_table w.plain) x r data_is.table data_is.unique_keys p one some
+
+    -- where the key of a row stays none but it has the key
+    pub kept_is_none : (own : ℕ) → has (as_table w.plain) own ≡ true → false ≡ is_changed (index_at w.shape x).parts (content_of w.plain.rows own).values r
+        → rival (as_table w.plain).rows (index_at w.shape x).parts r (Some own) ≡ None
+    kept_is_none own there kept =
+        kept_row w.shape (as_table w.plain) x r data_is.table data_is.unique_keys p one some own there
+        (ap (λ vs. is_eq (compare_key (index_at w.shape x).parts vs r)) (values_there w.plain own (there_has w.plain own there))
+        ∙ sym (not_not (is_eq (compare_key (index_at w.shape x).parts (content_of w.plain.rows own).values r))) ∙ ap not (sym kept))
 
     pub other_is : (own e : ℕ) → own ≢ e → rival (as_table w.plain).rows (index_at w.shape x).parts r None ≡ Some e
         → rival (as_table w.plain).rows (index_at w.shape x).parts r (Some own) ≡ Some e

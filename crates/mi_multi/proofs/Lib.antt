@@ -35,6 +35,7 @@ pub mod KeptNodeLemmas
 pub mod RelocateCallLemmas
 pub mod OldRecordPlaceLemmas
 pub mod TakeBackPutLemmas
+pub mod ChangedLemmas
 pub mod UniqueLemmas
 pub mod ConflictLemmas
 pub mod ReplaceLemmas

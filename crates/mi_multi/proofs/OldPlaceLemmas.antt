@@ -1,7 +1,7 @@
 -- The places that a row had, as its structures answer them, are those that the data say.
 use Rattle.std.proofs.Common.{◌≡◌, ℕ, ◌+◌, ◌^◌, ◌<◌, ◌≤◌, zero, suc, Bool, true, false, cond, not, List, []}
 use Rattle.std.proofs.Common.{◌∷◌, ◌++◌, map, take, get_or, length, slice_get, refl, ap, sym, ◌∙◌, subst, arith}
-use Rattle.std.specs.Option.{option_map, is_some}
+use Rattle.std.specs.Option.{option_map}
 use Rattle.std.specs.Ordering.{nat_cmp, is_eq}
 use Rattle.std.specs.FinMap.{FinMap, get}
 use Rattle.std.proofs.lemmas.Bool.{false≢true}
@@ -13,6 +13,7 @@ use Rattle.mi_value.specs.declared.value.Value.{Value}
 use Rattle.mi_value.specs.declared.compare.KeyPart.{KeyPart}
 use Rattle.mi_value.specs.Order.{compare_key}
 use Rattle.mi_catalog.specs.declared.index.Index.{Index}
+use Rattle.mi_catalog.specs.declared.index.IndexKind.TheVariants.{Hashed as Hashed_}
 use Rattle.mi_catalog.specs.Shape.{Shape, index_at}
 use Rattle.mi_node.specs.Pool.{Pooled, value_of, link_of}
 use Rattle.mi_node.specs.Refs.{Ref}
@@ -33,6 +34,8 @@ use Rattle.mi_ids.specs.declared.entry.IdEntry.{IdEntry}
 use Rattle.mi_multi.specs.Physical.{stored_id, record_in, plan, stamps_in, node_in}
 use Rattle.mi_multi.specs.Multi.{id_at, ids_at, own_list, own_lists, AreLive, IsMulti, plain_of}
 use Rattle.mi_multi.specs.Placed.{place_kept}
+use Rattle.mi_multi.specs.Changed.{is_changed, changed_keys}
+use Rattle.mi_multi.proofs.ChangedLemmas.{mark_of}
 use Rattle.mi_multi.proofs.EveryIndexLemmas.{sorted_parts, hashed_order, has_plan, length_orders}
 use Rattle.mi_multi.proofs.LiveNodeLemmas.{holds, id_of}
 use Rattle.mi_multi.proofs.StampLemmas.{stamp_row, by_stamp_is}
@@ -139,13 +142,18 @@ module _ (s : Shape) (ids : FinMap nat_cmp IdEntry) (m : Pooled Stored) (xs : Li
   place_is k (Sequenced l) w p given a b h = absurd
       (false≢true (sym h ∙ sequenced_stays (index_at s k) (own_list m (Sequenced l)) (get_or d.orders k ById) a b w.stood.for_ w.ordered))
 
+  -- the record that it has
+  pub values_here : (v : Stored) → value_of m r.name ≡ Some v → (content_of d.rows e).values ≡ v.row
+  values_here v v_is =
+      ap (λ (c : Content). c.values) (content_here s ids m xs next arrivals is e r there v (ap stored_id (sym v_is) ∙ id)) ∙ ap record_in v_is
+
   -- the old place in the index of a number
   module _ (k : ℕ) (few : k < length s.indexes) (v : Stored) (v_is : value_of m r.name ≡ Some v) (new : List Value) where
     abbrev old : List Value
     old = (content_of d.rows e).values
 
     old_is : old ≡ v.row
-    old_is = ap (λ (c : Content). c.values) (content_here s ids m xs next arrivals is e r there v (ap stored_id (sym v_is) ∙ id)) ∙ ap record_in v_is
+    old_is = values_here v v_is
 
     -- keys compare by the parts of the index
     stays_is : (b : Bool) → b ≡ is_eq (compare_key (index_at s k).parts v.row new) → stays (get_or d.orders k ById) old new ≡ b
@@ -227,24 +235,6 @@ length_stamps m q y (o ∷ os) = ap suc (length_stamps m q (suc y) os)
 
 -- Marks
 
-given_if : (b : Bool) (p : OldPlace) → is_some (cond b None (Some p)) ≡ not b
-given_if true p = refl
-given_if false p = refl
-
-mapped_some : {A B : Type 0} (f : A → B) (o : Option A) → is_some (option_map f o) ≡ is_some o
-mapped_some f None = refl
-mapped_some f (Some a) = refl
-
-mark_of : {A : Type 0} (f : A → OldPlace) (ps : List (Option A)) (k : ℕ) → mark_at (map is_some ps) k ≡ is_some (get_or (map (option_map f) ps) k None)
-mark_of f [] k = refl
-mark_of f (p ∷ ps) zero = sym (mapped_some f p)
-mark_of f (p ∷ ps) (suc k) = mark_of f ps k
-
--- an index is marked where its place is kept
-mark_is : {A : Type 0} (f : A → OldPlace) (ps : List (Option A)) (all : List (Option OldPlace)) (k : ℕ)
-    → map (option_map f) ps ≡ all → mark_at (map is_some ps) k ≡ is_some (get_or all k None)
-mark_is f ps all k same = mark_of f ps k ∙ ap (λ w. is_some (get_or w k None)) same
-
 module _ (s : Shape) (ids : FinMap nat_cmp IdEntry) (m : Pooled Stored) (xs : List Structure)
     (next arrivals : ℕ) (is : IsMulti s ids m xs next arrivals) (e : ℕ) (r : Ref)
     (there : get ids e ≡ Some (record { node = r; live = true })) (v : Stored) (named : v.id ≡ e) where
@@ -260,11 +250,12 @@ module _ (s : Shape) (ids : FinMap nat_cmp IdEntry) (m : Pooled Stored) (xs : Li
       ∙ length_orders s.indexes [] ∙ sym (length_orders s.indexes (own_lists m xs))
 
   -- the marks are those of the indexes in which its key changes
-  pub marked_by : {A : Type 0} (f : A → OldPlace) (ps : List (Option A))
-      → map (option_map f) ps ≡ old_places 0 plain.rows e its.values v.row plain.orders its.stamps
-      → Marked s ids m xs next arrivals is e r there v named (map is_some ps)
-  marked_by f ps same k l =
-      mark_is f ps (old_places 0 plain.rows e its.values v.row plain.orders its.stamps) k same
-      ∙ ap is_some (place_of plain.rows e its.values v.row plain.orders its.stamps k l long_stamps)
-      ∙ given_if (stays (get_or plain.orders k ById) its.values v.row) _
+  pub marked_by : (marks : List Bool) → marks ≡ changed_keys s.indexes its.values v.row
+      → Marked s ids m xs next arrivals is e r there v named marks
+  marked_by marks same k l =
+      let all : length plain.orders ≡ length s.indexes = length_orders s.indexes (own_lists m xs) in
+      let few : k < length s.indexes = omega (arith, l, all) in
+      let none : Index = record { name = []; kind = Hashed_; «unique» = false; parts = [] } in
+      ap (λ bs. mark_at bs k) same ∙ mark_of s.indexes its.values v.row k none few
+      ∙ ap (λ ps. is_changed ps its.values v.row) (sym (parts_at s.indexes plain.orders is.is_data.kinds k none few))
       ∙ ap (λ (c : Content). not (stays (get_or plain.orders k ById) c.values v.row)) (content_here s ids m xs next arrivals is e r there v named)

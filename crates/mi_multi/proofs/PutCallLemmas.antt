@@ -1,6 +1,6 @@
 -- What the calls that put another record ask and answer, by what contracts see of the container.
-use Rattle.std.proofs.Common.{◌≡◌, ℕ, ◌+◌, ◌^◌, ◌<◌, Bool, true, false, List, ◌++◌, ◌∷◌, map, length, slice_get, refl, sym, ◌∙◌, subst}
-use Rattle.std.specs.Option.{IsSome, option_map, is_some}
+use Rattle.std.proofs.Common.{◌≡◌, ℕ, ◌+◌, ◌^◌, ◌<◌, Bool, true, false, not, List, ◌++◌, ◌∷◌, map, length, slice_get, refl, ap, sym, ◌∙◌, subst}
+use Rattle.std.specs.Option.{IsSome, option_map}
 use Rattle.std.specs.Ordering.{is_eq}
 use Rattle.std.specs.FinMap.{get}
 use Rattle.std.specs.declared.option.Option.{Option}
@@ -18,7 +18,7 @@ use Rattle.mi_index.specs.Standing.{slot_in, Stands}
 use Rattle.mi_index.specs.Looks.{IsPlaceOf}
 use Rattle.mi_index.specs.Rekeying.{rekeying, rekeyed, IsRekeyed}
 use Rattle.mi_index.specs.Pass.{AllStand, AllCan, AllLike, AreReady}
-use Rattle.mi_container.specs.Data.{order_at, content_of, stamp_of}
+use Rattle.mi_container.specs.Data.{order_at, content_of, stamp_of, as_table}
 use Rattle.mi_container.specs.Inverse.{OldPlace, Inverse, old_place, old_places}
 use Rattle.mi_container.specs.Inverse.Inverse.{Put}
 use Rattle.mi_container.specs.Makes.{Makes}
@@ -28,19 +28,20 @@ use Rattle.mi_container.specs.Fits.{IsLive}
 use Rattle.mi_container.specs.Backs.{row_seen, place_seen}
 use Rattle.mi_container.specs.declared.place.OldPlace.{OldPlace as Was}
 use Rattle.mi_container.specs.declared.inverse.RowRef.{RowRef as Row}
-use Rattle.mi_container.proofs.InvariantLemmas.{has_there}
+use Rattle.mi_model.specs.Table.{has}
 use Rattle.mi_ids.specs.IdMap.{live_node}
-use Rattle.mi_multi.specs.Physical.{plan, node_in}
-use Rattle.mi_multi.specs.Multi.{own_lists, IsMulti, plain_of}
+use Rattle.mi_multi.specs.Multi.{own_lists, HasNode, IsMulti, plain_of}
 use Rattle.mi_multi.specs.Placed.{place_kept}
 use Rattle.mi_multi.specs.Seen.{Seen, seen_of, AreMulti}
 use Rattle.mi_multi.specs.declared.multi.MultiIndex.TheInside.{Inside}
+use Rattle.mi_multi.specs.Changed.{is_changed, changed_keys, changed_by}
+use Rattle.mi_multi.proofs.ChangedLemmas.{not_not}
 use Rattle.mi_multi.proofs.EveryIndexLemmas.{length_orders}
 use Rattle.mi_multi.proofs.IndexNumberLemmas.{Numbered, numbered, reaches}
 use Rattle.mi_multi.proofs.TakeBackInsertLemmas.{live_there}
-use Rattle.mi_multi.proofs.AnswerLemmas.{live_is}
+use Rattle.mi_multi.proofs.RelocateCallLemmas.{live_row_is}
 use Rattle.mi_multi.proofs.CallLemmas.{absent}
-use Rattle.mi_multi.proofs.NewRecordLemmas.{Marked, row_here, can_put, put_seen, put_multi, put_inverse_is}
+use Rattle.mi_multi.proofs.NewRecordLemmas.{Marked, can_put, put_seen, put_multi, put_inverse_is}
 use Rattle.mi_multi.proofs.OldPlaceLemmas as old
 
 module _ (i : Inside) (is : AreMulti i) (w : Seen) (seen : seen_of i ≡ w) (row : Row) (live : IsLive w.plain.rows (row_seen row)) where
@@ -66,6 +67,13 @@ module _ (i : Inside) (is : AreMulti i) (w : Seen) (seen : seen_of i ≡ w) (row
       subst (λ (v : Seen). length (content_of v.plain.rows row.id).stamps ≡ length v.plain.orders) seen
       (old.long_stamps i.schema i.ids.entries m items i.next i.arrivals is row.id row.node row_there h.value h.id)
 
+  -- marks by the record in its node are those of the row
+  pub marks_are : (v : Stored) → value_of m row.node.name ≡ Some v → (new : List Value) → changed_keys i.schema.indexes v.row new ≡ changed_by w row.id new
+  marks_are v v_is new =
+      subst (λ (u : Seen). changed_keys i.schema.indexes v.row new ≡ changed_by u row.id new) seen
+      (ap (λ vs. changed_keys i.schema.indexes vs new)
+      (sym (old.values_here i.schema i.ids.entries m items i.next i.arrivals is row.id row.node row_there v v_is)))
+
   module _ (k : ℕ) (few : k < length w.shape.indexes) where
     few_here : k < length i.schema.indexes
     few_here = subst (λ (v : Seen). k < length v.shape.indexes) (sym seen) few
@@ -89,93 +97,104 @@ module _ (i : Inside) (is : AreMulti i) (w : Seen) (seen : seen_of i ≡ w) (row
     ItsPlace new p = p ≡ old_place k w.plain.rows row.id (content_of w.plain.rows row.id).values
         new (order_at w.plain.orders k) (stamp_of w.plain.rows k row.id)
 
-    module _ (v : Stored) (v_is : value_of m row.node.name ≡ Some v) (new : List Value) where
-      pub no_place : true ≡ is_eq (compare_key (index_at i.schema k).parts v.row new) → ItsPlace new None
-      no_place same =
+    module _ (new : List Value) (changed : Bool)
+        (says : changed ≡ is_changed (index_at w.shape k).parts (content_of w.plain.rows row.id).values new) where
+      its : HasNode m row.id row.node
+      its = is.held row.id (record { node = row.node; live = true }) row_there
+
+      -- the key is that of the record in its node
+      key_is : not changed ≡ is_eq (compare_key (index_at i.schema k).parts its.value.row new)
+      key_is =
+          ap not (subst (λ (u : Seen). changed ≡ is_changed (index_at u.shape k).parts (content_of u.plain.rows row.id).values new) (sym seen) says)
+          ∙ not_not (is_eq (compare_key (index_at i.schema k).parts (content_of (seen_of i).plain.rows row.id).values new))
+          ∙ ap (λ vs. is_eq (compare_key (index_at i.schema k).parts vs new))
+          (old.values_here i.schema i.ids.entries m items i.next i.arrivals is row.id row.node row_there its.value its.is)
+
+      pub no_place : changed ≡ false → ItsPlace new None
+      no_place stays =
           subst (λ (u : Seen). None ≡ old_place k u.plain.rows row.id (content_of u.plain.rows row.id).values
           new (order_at u.plain.orders k) (stamp_of u.plain.rows k row.id))
           seen
-          (old.no_place i.schema i.ids.entries m items i.next i.arrivals is row.id row.node row_there k few_here v v_is new same)
+          (old.no_place i.schema i.ids.entries m items i.next i.arrivals is row.id row.node row_there k few_here its.value its.is new (ap not (sym stays) ∙ key_is))
 
-      pub some_place : false ≡ is_eq (compare_key (index_at i.schema k).parts v.row new) → (y : Structure) → slice_get items k ≡ Some y → (p : Place)
-          → ((xs ys : List Ref) → Stands y m (xs ++ row.node ∷ ys) → IsPlaceOf y m row.node p xs ys) → ItsPlace new (Some (place_kept y p))
-      some_place other y at p given =
-          subst (λ (u : Seen). Some (place_kept y p)
-          ≡ old_place k u.plain.rows row.id (content_of u.plain.rows row.id).values new (order_at u.plain.orders k) (stamp_of u.plain.rows k row.id))
-          seen
-          (old.some_place i.schema i.ids.entries m items i.next i.arrivals is row.id row.node row_there k few_here v v_is new other y at p given)
+      module _ (changes : changed ≡ true) (y : Structure) (at : slice_get items k ≡ Some y) (p : Place)
+          (place : (xs ys : List Ref) → Stands y m (xs ++ row.node ∷ ys) → IsPlaceOf y m row.node p xs ys) where
+        other : false ≡ is_eq (compare_key (index_at i.schema k).parts its.value.row new)
+        other = ap not (sym changes) ∙ key_is
 
-      -- the stamp of what is kept is below 2^63
-      pub kept_stamp : false ≡ is_eq (compare_key (index_at i.schema k).parts v.row new) → (y : Structure) → slice_get items k ≡ Some y → (p : Place)
-          → ((xs ys : List Ref) → Stands y m (xs ++ row.node ∷ ys) → IsPlaceOf y m row.node p xs ys) → (q : OldPlace) → q ≡ place_kept y p → q.stamp < 2 ^ 63
-      kept_stamp other y at p given q same =
-          subst (λ (a : OldPlace). a.stamp < 2 ^ 63) (sym same)
-          (old.few_stamp i.schema i.ids.entries m items i.next i.arrivals is row.id row.node row_there k few_here v v_is new other y at p given)
+        pub some_place : ItsPlace new (Some (place_kept y p))
+        some_place =
+            subst (λ (u : Seen). Some (place_kept y p)
+            ≡ old_place k u.plain.rows row.id (content_of u.plain.rows row.id).values new (order_at u.plain.orders k) (stamp_of u.plain.rows k row.id))
+            seen
+            (old.some_place i.schema i.ids.entries m items i.next i.arrivals is row.id row.node row_there k few_here its.value its.is new other y at p place)
+
+        -- the stamp of what is kept is below 2^63
+        pub kept_stamp : (q : OldPlace) → q ≡ place_kept y p → q.stamp < 2 ^ 63
+        kept_stamp q same =
+            subst (λ (a : OldPlace). a.stamp < 2 ^ 63) (sym same)
+            (old.few_stamp i.schema i.ids.entries m items i.next i.arrivals is row.id row.node row_there k few_here its.value its.is new other y at p place)
 
 -- The put
+
+-- a live node is that of its row
+pub live_of : (i : Inside) (w : Seen) → seen_of i ≡ w → (e : ℕ) (r : Ref) → live_node i.ids.entries e ≡ Some r → IsLive w.plain.rows (record { id = e; at = r })
+live_of i w seen e r here =
+    subst (λ (u : Seen). IsLive u.plain.rows (record { id = e; at = r })) seen
+    (live_row_is i.schema i.ids.entries i.nodes.pool i.nodes.structures.items i.next i.arrivals e r here)
 
 is_some_live : (o : Option Ref) → (o ≡ None → ⊥) → IsSome o
 is_some_live None h = absurd (h refl)
 is_some_live (Some r) h = refl
 
-module _ (i : Inside) (is : AreMulti i) (w : Seen) (seen : seen_of i ≡ w) (e : ℕ) (row : List Value) (allowed : Allowed w.shape (Replace e row) w.plain) where
-  -- the row is live
-  pub has_node : (o : Option Ref) → o ≡ live_node i.ids.entries e → IsSome o
-  has_node o same = is_some_live o (λ none_. absent i is seen e same none_ (has_there w.plain e allowed.0))
+-- a row that is there has one
+pub has_node : (i : Inside) (is : AreMulti i) (w : Seen) → seen_of i ≡ w → (e : ℕ) → has (as_table w.plain) e ≡ true
+    → (o : Option Ref) → o ≡ live_node i.ids.entries e → IsSome o
+has_node i is w seen e there o same = is_some_live o (λ none. absent i is seen e same none there)
 
-  module _ (r : Ref) (live : live_node i.ids.entries e ≡ Some r) where
-    abbrev v : Stored
-    v = record { id = e; row = row }
+module _ (i : Inside) (is : AreMulti i) (w : Seen) (seen : seen_of i ≡ w) (e : ℕ) (r : Ref) (live : IsLive w.plain.rows (record { id = e; at = r }))
+    (row : List Value) (allowed : Allowed w.shape (Replace e row) w.plain) where
+  abbrev v : Stored
+  v = record { id = e; row = row }
 
-    abbrev there : get i.ids.entries e ≡ Some (record { node = r; live = true })
-    there = live_is i.ids.entries e r live
+  abbrev there : get i.ids.entries e ≡ Some (record { node = r; live = true })
+  there = row_there i is w seen (record { id = e; node = r }) live
 
-    pub live_row : IsLive w.plain.rows (record { id = e; at = r })
-    live_row =
-        subst (λ (u : Seen). IsLive u.plain.rows (record { id = e; at = r })) seen (
-          node_in i.nodes.pool (plan i.schema.indexes) r,
-          row_here i.schema i.ids.entries i.nodes.pool i.nodes.structures.items i.next i.arrivals is e r there v refl,
-          refl,
-        )
+  module _ (marks : List Bool) (marks_are : marks ≡ changed_by w e row) where
+    marked : Marked i.schema i.ids.entries i.nodes.pool i.nodes.structures.items i.next i.arrivals is e r there v refl marks
+    marked =
+        old.marked_by i.schema i.ids.entries i.nodes.pool i.nodes.structures.items i.next i.arrivals is e r there v refl marks
+        (subst (λ (u : Seen). marks ≡ changed_by u e row) (sym seen) marks_are)
 
-    pub node_held : IsHeld i.nodes.pool r
-    node_held = (is.held e (record { node = r; live = true }) there).held
+    can : AllCan (rekeying marks r v i.arrivals) i.nodes.structures.items 0 i.nodes.pool is.rss
+    can = can_put i.schema i.ids.entries i.nodes.pool i.nodes.structures.items i.next i.arrivals is e r there v refl marks marked
 
-    module _ (ps : List (Option Was)) (places : map (option_map place_seen) ps
-        ≡ old_places 0 w.plain.rows e (content_of w.plain.rows e).values row w.plain.orders (content_of w.plain.rows e).stamps)
-        (marks : List Bool) (marks_are : marks ≡ map is_some ps) where
-      places_here : map (option_map place_seen) ps
-          ≡ old_places 0 (seen_of i).plain.rows e (content_of (seen_of i).plain.rows e).values
-          row (seen_of i).plain.orders (content_of (seen_of i).plain.rows e).stamps
-      places_here = subst (λ (u : Seen). map (option_map place_seen) ps
-          ≡ old_places 0 u.plain.rows e (content_of u.plain.rows e).values row u.plain.orders (content_of u.plain.rows e).stamps)
-          (sym seen) places
+    pub put_ready : AreReady (rekeying marks r v i.arrivals) 0 i.nodes.structures.items i.nodes.pool
+    put_ready = record { rss = is.rss; stand = is.stand; can = can }
 
-      marked : Marked i.schema i.ids.entries i.nodes.pool i.nodes.structures.items i.next i.arrivals is e r there v refl marks
-      marked =
-          subst (Marked i.schema i.ids.entries i.nodes.pool i.nodes.structures.items i.next i.arrivals is e r there v refl) (sym marks_are)
-          (old.marked_by i.schema i.ids.entries i.nodes.pool i.nodes.structures.items i.next i.arrivals is e r there v refl place_seen ps places_here)
+    module _ (n : Pooled Stored) (ys : List Structure) (like : AllLike i.nodes.structures.items ys)
+        (done : (rss : List (List Ref)) → AllStand i.nodes.structures.items 0 i.nodes.pool rss
+        → AllCan (rekeying marks r v i.arrivals) i.nodes.structures.items 0 i.nodes.pool rss
+        → IsRekeyed (rekeyed marks r i.arrivals) r v i.nodes.structures.items ys i.nodes.pool n rss) where
+      here : Allowed i.schema (Replace e row) (seen_of i).plain
+      here = subst (λ (u : Seen). Allowed u.shape (Replace e row) u.plain) (sym seen) allowed
 
-      can : AllCan (rekeying marks r v i.arrivals) i.nodes.structures.items 0 i.nodes.pool is.rss
-      can = can_put i.schema i.ids.entries i.nodes.pool i.nodes.structures.items i.next i.arrivals is e r there v refl marks marked
+      -- all stands after it
+      pub now_multi : w.plain.arrivals < LAST_COUNT → IsMulti i.schema i.ids.entries n ys i.next (i.arrivals + 1)
+      now_multi few =
+          put_multi i.schema i.ids.entries i.nodes.pool i.nodes.structures.items i.next i.arrivals is e r there v refl marks marked
+          n ys like (done is.rss is.stand can) (subst (λ (u : Seen). u.plain.arrivals < LAST_COUNT) (sym seen) few) here
 
-      pub put_ready : AreReady (rekeying marks r v i.arrivals) 0 i.nodes.structures.items i.nodes.pool
-      put_ready = record { rss = is.rss; stand = is.stand; can = can }
+      -- the change and its inverse
+      module _ (ps : List (Option Was)) (places : map (option_map place_seen) ps
+          ≡ old_places 0 w.plain.rows e (content_of w.plain.rows e).values row w.plain.orders (content_of w.plain.rows e).stamps) where
+        places_here : map (option_map place_seen) ps
+            ≡ old_places 0 (seen_of i).plain.rows e (content_of (seen_of i).plain.rows e).values
+            row (seen_of i).plain.orders (content_of (seen_of i).plain.rows e).stamps
+        places_here = subst (λ (u : Seen). map (option_map place_seen) ps
+            ≡ old_places 0 u.plain.rows e (content_of u.plain.rows e).values row u.plain.orders (content_of u.plain.rows e).stamps)
+            (sym seen) places
 
-      module _ (n : Pooled Stored) (ys : List Structure) (like : AllLike i.nodes.structures.items ys)
-          (done : (rss : List (List Ref)) → AllStand i.nodes.structures.items 0 i.nodes.pool rss
-          → AllCan (rekeying marks r v i.arrivals) i.nodes.structures.items 0 i.nodes.pool rss
-          → IsRekeyed (rekeyed marks r i.arrivals) r v i.nodes.structures.items ys i.nodes.pool n rss) where
-        here : Allowed i.schema (Replace e row) (seen_of i).plain
-        here = subst (λ (u : Seen). Allowed u.shape (Replace e row) u.plain) (sym seen) allowed
-
-        -- all stands after it
-        pub now_multi : w.plain.arrivals < LAST_COUNT → IsMulti i.schema i.ids.entries n ys i.next (i.arrivals + 1)
-        now_multi few =
-            put_multi i.schema i.ids.entries i.nodes.pool i.nodes.structures.items i.next i.arrivals is e r there v refl marks marked
-            n ys like (done is.rss is.stand can) (subst (λ (u : Seen). u.plain.arrivals < LAST_COUNT) (sym seen) few) here
-
-        -- the change and its inverse
         pub now_made : (old_ : Stored) → value_of i.nodes.pool r.name ≡ Some old_ → (undo : Inverse)
             → undo ≡ Put (record { id = e; at = r }) (record { values = old_.row; places = map (option_map place_seen) ps })
             → Makes w.shape (Replace e row) w.plain undo (plain_of i.schema i.ids.entries n ys i.next (i.arrivals + 1))

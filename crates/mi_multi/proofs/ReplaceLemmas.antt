@@ -30,6 +30,9 @@ module _ (s : Shape) (e : ℕ) (r : List Value) (t : Table) where
   pub replace_refused : (x : Refusal) → replace_refusal s e r t ≡ Some x → MeetsRefusal (replace_outcome s e r t) x t t
   replace_refused x h = subst (λ o. MeetsRefusal (unless o tt (put s e r t) t) x t t) (sym h) (refused_meets (Unit {0}) x t)
 
+  pub replace_no_row : has t e ≡ false → replace_refusal s e r t ≡ Some NoId
+  replace_no_row h = ap (λ b. cond (not b) (Some NoId) (cond (is_spent t.arrivals) (Some Spent) (option_map as_unique (conflict s t r (Some e))))) h
+
   pub replace_meets : (new : Table) → replace_refusal s e r t ≡ None → new ≡ put s e r t
       → ((replace_outcome s e r t).0 ≡ Ok tt) × (new ≡ (replace_outcome s e r t).1)
   replace_meets new h is = (ap (λ o. (unless o tt (put s e r t) t).0) h, is ∙ sym (ap (λ o. (unless o tt (put s e r t) t).1) h))

@@ -179,19 +179,22 @@ module _ (s : Shape) (t : Table) (x : ℕ) (r : List Value) (is : IsTable s t) (
   no_rival None none = none
   no_rival (Some own) none = none_but own (rival t.rows ps r (Some own)) refl none
 
-  itself_but : (own : ℕ) (o : Option ℕ) → rival t.rows ps r (Some own) ≡ o → rival t.rows ps r None ≡ Some own → o ≡ None
-  itself_but own None h is_own = refl
-  itself_but own (Some e) h is_own =
+  kept_but : (own : ℕ) (o : Option ℕ) → rival t.rows ps r (Some own) ≡ o → has t own ≡ true → key own ≡ true → o ≡ None
+  kept_but own None h there kept = refl
+  kept_but own (Some e) h there kept =
       let f : Found ps r (Some own) t.rows e = found ps r (Some own) t.next t.rows is.ordered e h in
       let a = found_key (Some own) e h in
-      let b = found_key None own is_own in
-      let same : e ≡ own = one_row e own a.0 b.0 a.1 b.1 in
+      let same : e ≡ own = one_row e own a.0 there a.1 kept in
       let other : not (e == own) ≡ true = (and_parts (not (e == own)) (is_eq (compare_key ps f.values r)) f.is).0 in
       absurd (false≢true (sym (ap (λ k. not (k == own)) same ∙ ap not (is_itself own)) ∙ other))
 
+  -- but for a row that has the key there is none
+  pub kept_row : (own : ℕ) → has t own ≡ true → key own ≡ true → rival t.rows ps r (Some own) ≡ None
+  kept_row own there kept = kept_but own (rival t.rows ps r (Some own)) refl there kept
+
   -- the row itself is no rival
   pub own_row : (own : ℕ) → rival t.rows ps r None ≡ Some own → rival t.rows ps r (Some own) ≡ None
-  own_row own h = itself_but own (rival t.rows ps r (Some own)) refl h
+  own_row own h = let k = found_key None own h in kept_row own k.0 k.1
 
   other_but : (own e : ℕ) (o : Option ℕ) → rival t.rows ps r (Some own) ≡ o → own ≢ e → rival t.rows ps r None ≡ Some e → o ≡ Some e
   other_but own e None h ne is_e =

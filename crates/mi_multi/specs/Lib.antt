@@ -7,4 +7,5 @@ pub mod Before
 pub mod RowAt
 pub mod Restored
 pub mod Placed
+pub mod Changed
 pub mod Walks

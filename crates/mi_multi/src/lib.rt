@@ -19,6 +19,7 @@
 //! it back to the pool, and the value is dropped. No one else gives nodes back; dropping the pool drops all that are left.
 #![tactic(auto)]
 
+mod changed;
 mod changes;
 mod conflicts;
 mod container;

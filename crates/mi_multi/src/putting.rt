@@ -1,7 +1,8 @@
 //! Another record for a live row, and the places that the row had.
 ghost use Rattle.std.specs.Prelude.{◌≡◌, ◌<◌, length, map};
-ghost use Rattle.std.specs.Option.{option_map, is_some};
+ghost use Rattle.std.specs.Option.{option_map};
 ghost use Rattle.mi_value.specs.declared.limits.TheConstants.{LAST_COUNT};
+ghost use Rattle.mi_catalog.specs.Shape.{index_at};
 ghost use Rattle.mi_container.specs.Data.{content_of, stamp_of, order_at};
 ghost use Rattle.mi_container.specs.Inverse as inverse;
 ghost use Rattle.mi_container.specs.Fits.{IsLive};
@@ -9,15 +10,16 @@ ghost use Rattle.mi_container.specs.Makes.{Makes};
 ghost use Rattle.mi_container.specs.Run.{Allowed};
 ghost use Rattle.mi_container.specs.Run.Change.{Replace};
 ghost use Rattle.mi_container.specs.Backs.{row_seen, place_seen};
+ghost use Rattle.mi_multi.specs.Changed.{is_changed, changed_by};
 ghost use Rattle.mi_multi.specs.Placed.{place_kept};
 
 use crate::multi::MultiIndex;
 use crate::reading::structure_at;
 use arrayvec::ArrayVec;
-use mi_container::{Inverse, MAX_PLACES, MaybePlace, OldPlace, OldPlaces, RowRef, Undo};
+use mi_container::{Inverse, MaybePlace, OldPlace, OldPlaces, RowRef, Undo};
 use mi_index::{Place, Stored, Structure};
 use mi_node::NodeRef;
-use mi_value::{Record, same_key};
+use mi_value::Record;
 
 /// What an inverse keeps of a node's place in an index.
 fn kept_place(structure: &Structure, place: Place) -> OldPlace
@@ -37,27 +39,18 @@ fn kept_place(structure: &Structure, place: Place) -> OldPlace
     }
 }
 
-/// Marks the indexes in which there is an old place.
-fn marks_of(places: &OldPlaces) -> ArrayVec<bool, MAX_PLACES>
-    ensures { result.items ≡ map is_some places.now.items }
-{
-    let mut marks = ArrayVec::new();
-    for place in places.as_slice() {
-        marks.push(place.is_some());
-    }
-    marks
-}
-
 impl MultiIndex {
-    /// The place of a row in an index, if another record has another key there.
-    fn old_place(&self, index: usize, row: RowRef, new: &Record) -> MaybePlace
+    /// The place of a row in an index, if another record has another key there, which `changed` says.
+    fn old_place(&self, index: usize, row: RowRef, new: &Record, changed: bool) -> MaybePlace
         requires index { index < length self.now.shape.indexes }
         requires row { IsLive self.now.plain.rows (row_seen row) }
+        requires changed { changed ≡ is_changed (index_at self.now.shape index).parts (content_of self.now.plain.rows row.id).values new.now }
         ensures { option_map place_seen result ≡ inverse.old_place index self.now.plain.rows row.id (content_of self.now.plain.rows row.id).values new.now
             (order_at self.now.plain.orders index) (stamp_of self.now.plain.rows index row.id) }
     {
-        let old = &self.nodes.pool.value(row.node).row;
-        if same_key(old, new, self.schema.parts(index)) {
+        let _ = new;
+        self.schema.keeps_rules();
+        if !changed {
             return MaybePlace::none();
         }
         let structure = structure_at(&self.nodes, index);
@@ -65,35 +58,34 @@ impl MultiIndex {
         MaybePlace::new(kept_place(structure, place))
     }
 
-    /// The places of a row, which has this node, in the indexes in which another record has another key.
-    fn old_places(&self, id: u64, node: NodeRef, new: &Record) -> OldPlaces
-        requires { IsLive self.now.plain.rows (record { id = id; at = node }) }
+    /// The places of a row in the indexes in which another record has another key, which are marked.
+    fn old_places(&self, id: u64, node: NodeRef, new: &Record, marks: &[bool]) -> OldPlaces
+        requires row { IsLive self.now.plain.rows (record { id = id; at = node }) }
+        requires marks { marks.now ≡ changed_by self.now id new.now }
         ensures { map (option_map place_seen) result.items ≡ inverse.old_places 0 self.now.plain.rows id (content_of self.now.plain.rows id).values new.now
             self.now.plain.orders (content_of self.now.plain.rows id).stamps }
     {
         self.schema.keeps_rules();
         let mut places = ArrayVec::new();
         for index in 0..self.schema.index_count() {
-            places.push(self.old_place(index, RowRef { id, node }, new));
+            places.push(self.old_place(index, RowRef { id, node }, new, marks[index]));
         }
         places
     }
 
-    /// Sets another record for a live row, and answers what takes it back. Where its key stays in an index it keeps its place
-    /// there; else it goes last among its new equals. Takes no memory.
-    pub(crate) fn put(&mut self, id: u64, row: Record) -> Inverse
+    /// Sets another record for a live row, and answers what takes it back. In the marked indexes its key changes, and it goes
+    /// last among its new equals; in the others it keeps its place. Takes no memory.
+    pub(crate) fn put(&mut self, id: u64, node: NodeRef, row: Record, marks: &[bool]) -> Inverse
+        requires live { IsLive self.old.plain.rows (record { id = id; at = node }) }
+        requires marks { marks.now ≡ changed_by self.old id row }
         requires allowed { Allowed self.old.shape (Replace id row) self.old.plain }
         requires times { self.old.plain.arrivals < LAST_COUNT }
         ensures made { Makes self.old.shape (Replace id row) self.old.plain result self.new.plain }
         ensures shape { self.new.shape ≡ self.old.shape }
     {
-        let node = self.ids.live(id).unwrap();
-        let places = self.old_places(id, node, &row);
-        let marks = marks_of(&places);
+        let places = self.old_places(id, node, &row, marks);
         let stored = Stored { id, row };
-        let old = self
-            .nodes
-            .rekey(node, stored, marks.as_slice(), self.arrivals);
+        let old = self.nodes.rekey(node, stored, marks, self.arrivals);
         self.arrivals += 1;
         Inverse::new(Undo::Put(RowRef { id, node }, old.row, places))
     }

@@ -11,6 +11,7 @@ ghost use Rattle.mi_container.specs.Data.{as_table};
 ghost use Rattle.mi_container.specs.Inverse.{lost_to};
 ghost use Rattle.mi_container.specs.Run.Change.{Replace};
 ghost use Rattle.mi_container.specs.Makes.{Makes, MakesModify, MeetsOn, replace_answer, modify_answer, IsNoLoss};
+ghost use Rattle.mi_multi.specs.Changed.{changed_by};
 
 use crate::conflicts::unique_refusal;
 use crate::multi::MultiIndex;
@@ -20,18 +21,17 @@ use mi_value::{Edit, Record, Refusal, Steps, apply};
 use std::alloc::Global;
 
 impl MultiIndex {
-    /// Why a record may not be set for a row, or none.
-    fn replace_refusal(&self, id: u64, row: &Record) -> Option<Refusal>
+    /// Why a record may not be set for a live row, or none. The indexes in which its key changes are marked.
+    fn put_refusal(&self, id: u64, row: &Record, marks: &[bool]) -> Option<Refusal>
+        requires live { has_row (as_table self.now.plain) id ≡ true }
+        requires marks { marks.now ≡ changed_by self.now id row.now }
         ensures refusal { result ≡ replace_refusal self.now.shape id row.now (as_table self.now.plain) }
         ensures times { result ≡ None → self.now.plain.arrivals < last_count }
     {
-        if !self.has(id) {
-            return Some(Refusal::NoId);
-        }
         if self.arrivals == LAST_COUNT {
             return Some(Refusal::Spent);
         }
-        unique_refusal(self.conflict(row, Some(id)))
+        unique_refusal(self.conflict_of_put(id, row, marks))
     }
 
     /// Sets another record for an id. Takes no memory. Refusals, in this order: `NoId`, `Spent`, `Unique`. The refused record
@@ -46,10 +46,14 @@ impl MultiIndex {
         ensures shape { self.new.shape ≡ self.old.shape }
     {
         self.keeps_rules();
-        if let Some(refusal) = self.replace_refusal(id, &row) {
+        let Some(node) = self.ids.live(id) else {
+            return Err((Refusal::NoId, row));
+        };
+        let marks = self.changed_by(id, node, &row);
+        if let Some(refusal) = self.put_refusal(id, &row, marks.as_slice()) {
             return Err((refusal, row));
         }
-        Ok(self.put(id, row))
+        Ok(self.put(id, node, row, marks.as_slice()))
     }
 
     /// The record that edits make of a row's. Refusals: `NoId`, `Range` and `Memory`.
@@ -81,8 +85,10 @@ impl MultiIndex {
         if self.arrivals == LAST_COUNT {
             return Err(Refusal::Spent);
         }
-        match self.conflict(&row, Some(id)) {
-            None => Ok(self.put(id, row)),
+        let node = self.ids.live(id).unwrap();
+        let marks = self.changed_by(id, node, &row);
+        match self.conflict_of_put(id, &row, marks.as_slice()) {
+            None => Ok(self.put(id, node, row, marks.as_slice())),
             Some((index, other)) if rollback => Err(Refusal::Unique { index, id: other }),
             Some(rival) => self.erase_for(id, Some(rival)),
         }

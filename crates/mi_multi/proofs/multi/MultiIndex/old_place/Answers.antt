@@ -1,22 +1,16 @@
 -- Where the key changes, the place is the stamp and in a hashed index the neighbours.
-use Rattle.std.proofs.Common.{ap, sym, ◌∙◌}
+use Rattle.std.proofs.Common.{ap, ◌∙◌}
 use Rattle.std.specs.Option.{option_map}
-use Rattle.std.specs.Ordering.{is_eq}
 use Rattle.std.specs.declared.option.Option.TheVariants.{Some}
-use Rattle.mi_value.specs.Order.{compare_key}
 use Rattle.mi_container.specs.Backs.{place_seen}
-use Rattle.mi_multi.proofs.PutCallLemmas.{row_held, few_items, its_slot, its_node, no_place, some_place, kept_stamp}
+use Rattle.mi_multi.proofs.PutCallLemmas.{few_items, its_slot, its_node, no_place, some_place, kept_stamp}
 use Rattle.mi_multi.proofs.multi.MultiIndex.old_place.Goals as goal
 
-pub value-requires : goal.value-requires
-value-requires c = row_held c.self.inside c.self.invariant c.args.self.now c.self.view_is c.args.row c.requires.row
-
-pub returns-then-same_key : goal.returns-then-same_key
-returns-then-same_key c =
-    let same = sym c.if-same_key.true ∙ c.same_key.ensures ∙ ap (λ ps. is_eq (compare_key ps c.value.result.now.row c.args.new.now)) c.parts.ensures in
+pub returns-then-not-changed : goal.returns-then-not-changed
+returns-then-not-changed c =
     ap (option_map place_seen) c.none.ensures
     ∙ no_place c.self.inside c.self.invariant c.args.self.now c.self.view_is c.args.row c.requires.row
-    c.args.index c.requires.index c.value.result.now c.value.ensures c.args.new.now same
+    c.args.index c.requires.index c.args.new.now c.args.changed c.requires.changed c.if-not-changed.true
 
 pub structure_at-structure-requires : goal.structure_at-structure-requires
 structure_at-structure-requires c = few_items c.self.inside c.self.invariant c.args.self.now
@@ -34,16 +28,14 @@ place-place-requires-clause-node c =
 
 pub new-requires : goal.new-requires
 new-requires c =
-    let other = sym c.if-same_key.false ∙ c.same_key.ensures ∙ ap (λ ps. is_eq (compare_key ps c.value.result.now.row c.args.new.now)) c.parts.ensures in
     kept_stamp c.self.inside c.self.invariant c.args.self.now c.self.view_is c.args.row c.requires.row
-    c.args.index c.requires.index c.value.result.now c.value.ensures c.args.new.now other
+    c.args.index c.requires.index c.args.new.now c.args.changed c.requires.changed c.if-not-changed.false
     c.structure_at-structure.result.now c.structure_at-structure.ensures c.place-place.result c.place-place.ensures _ c.kept_place.ensures
 
 pub returns : goal.returns
 returns c =
-    let other = sym c.if-same_key.false ∙ c.same_key.ensures ∙ ap (λ ps. is_eq (compare_key ps c.value.result.now.row c.args.new.now)) c.parts.ensures in
     ap (option_map place_seen) c.new.ensures
     ∙ ap Some c.kept_place.ensures
     ∙ some_place c.self.inside c.self.invariant c.args.self.now c.self.view_is c.args.row c.requires.row
-    c.args.index c.requires.index c.value.result.now c.value.ensures c.args.new.now other
+    c.args.index c.requires.index c.args.new.now c.args.changed c.requires.changed c.if-not-changed.false
     c.structure_at-structure.result.now c.structure_at-structure.ensures c.place-place.result c.place-place.ensures

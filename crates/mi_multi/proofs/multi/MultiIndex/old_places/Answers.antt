@@ -13,12 +13,12 @@ loop-index-preserved c =
     let row : Row = record { id = c.args.id; node = c.args.node } in
     let its = content_of d.rows c.args.id in
     let orders : length d.orders ≡ length c.self.inside.schema.indexes = long_orders
-    c.self.inside c.self.invariant c.args.self.now c.self.view_is row c.requires in
+    c.self.inside c.self.invariant c.args.self.now c.self.view_is row c.requires.row in
     let few : c.loop-index.index < length d.orders =
     (let l = c.loop-index-test.true in let n = c.index_count-index-end.ensures in omega (arith, l, n, orders)) in (
       places_more d.rows c.args.id its.values c.args.new.now place_seen c.loop-index.places.items
           c.push.new.self.items c.old_place.result d.orders its.stamps c.loop-index.index
-          (long_stamps c.self.inside c.self.invariant c.args.self.now c.self.view_is row c.requires)
+          (long_stamps c.self.inside c.self.invariant c.args.self.now c.self.view_is row c.requires.row)
           few c.loop-index.invariant.0 c.old_place.ensures c.push.ensures.items,
       (let n = c.push.ensures.len in let k = c.loop-index.invariant.1 in omega (arith, n, k)),
     )
@@ -29,9 +29,9 @@ returns c =
     let row : Row = record { id = c.args.id; node = c.args.node } in
     let its = content_of d.rows c.args.id in
     let orders : length d.orders ≡ length c.self.inside.schema.indexes = long_orders
-    c.self.inside c.self.invariant c.args.self.now c.self.view_is row c.requires in
+    c.self.inside c.self.invariant c.args.self.now c.self.view_is row c.requires.row in
     let end : c.loop-index.index ≡ length d.orders =
     (let l = c.loop-index-test.false in let u = c.loop-index.auto.index-end in let n = c.index_count-index-end.ensures in omega (arith, l, u, n, orders)) in
     c.loop-index.invariant.0
     ∙ places_all d.rows c.args.id its.values c.args.new.now d.orders its.stamps c.loop-index.index
-    (long_stamps c.self.inside c.self.invariant c.args.self.now c.self.view_is row c.requires) end
+    (long_stamps c.self.inside c.self.invariant c.args.self.now c.self.view_is row c.requires.row) end
