@@ -36,8 +36,7 @@ impl Model for Inverses {
       most = a.most;
     } };
 
-    ghost invariant = { λ a. (length a.records.items ≡ records_of_all a.entries.sessions) × (length a.places.items ≡ places_of_all a.entries.sessions)
-        × (a.most < 256) };
+    ghost invariant = { λ a. (length a.records.items ≡ records_of_all a.entries.sessions) × (length a.places.items ≡ places_of_all a.entries.sessions) };
 }
 
 impl Inverses {
@@ -46,9 +45,8 @@ impl Inverses {
     ghost use Rattle.mi_journal.specs.Noted.{NewestIsEmpty, TwoAreOpen, OldestIsEmpty};
     ghost use Rattle.mi_inverses.specs.Stored.{IsWithin, TakesToSettle};
 
-    /// No open session, and no room. A put has at most so many places, and no index has a greater number.
+    /// No open session, and no room. `most` is how many old places a put has at most.
     pub fn new(alloc: Global, most: usize) -> Inverses
-        requires { most < 256 }
         ensures sessions { result.sessions ≡ [] }
         ensures most { result.most ≡ most }
     {
