@@ -58,8 +58,9 @@ impl Inverses {
         }
     }
 
-    /// Room for so many changes and so many sessions more, whichever changes they are. A change takes 40 bytes for its entry, 48
-    /// for an old record and 16 for each of `most` places. Where memory is refused the room for some of it may have grown.
+    /// Room for so many changes and so many sessions more, whichever changes they are: 40 bytes a change for its entry, 48 for an
+    /// old record and 16 for each of `most` old places. Where memory is refused, or the places are more than can be counted, the
+    /// room for some of it may have grown.
     pub fn reserve(&mut self, changes: usize, sessions: usize) -> Result<(), AllocError>
         ensures sessions { self.new.sessions ≡ self.old.sessions }
         ensures changes { self.old.changes ≤ self.new.changes }
