@@ -1,10 +1,10 @@
 -- How many places the inverse of a change has, and how many indexes beside `id` a table has.
 use Rattle.std.proofs.Common.{◌≡◌, ◌∙◌, ℕ, zero, suc, ◌-◌, ◌+◌, ◌<◌, ◌≤◌, ◌==◌, ◌⊎◌, inl, inr, Bool, true, false, Option, None, Some, List, [], ◌∷◌, length}
-use Rattle.std.proofs.Common.{refl, ap, sym, subst, arith}
+use Rattle.std.proofs.Common.{take, get_or, add-one, refl, ap, sym, subst, arith}
 use Rattle.std.specs.Prelude.{if◌then◌else◌}
 use Rattle.std.specs.Ordering.{is_eq, ord_max, nat_cmp}
 use Rattle.std.proofs.lemmas.Bool.{and_parts, leb-true}
-use Rattle.std.proofs.Math.Nat.{eq-or-lt_of_le}
+use Rattle.std.proofs.Math.Nat.{eq-or-lt_of_le, le_trans}
 use Rattle.mi_value.specs.declared.limits.TheConstants.{MAX_INDEXES}
 use Rattle.mi_value.specs.declared.value.Value.{Value}
 use Rattle.mi_value.specs.declared.compare.KeyPart.{KeyPart}
@@ -23,18 +23,11 @@ use Rattle.mi_container.specs.Run.{Change}
 use Rattle.mi_container.specs.Run.Change.{Insert, Replace, Erase, Relocate}
 use Rattle.mi_container.specs.Makes.{Makes}
 use Rattle.mi_inverses.specs.Stored.{place_count, IsWithin}
-use Rattle.mi_database.specs.Most.{HasAtMost}
+use Rattle.mi_database.specs.Most.{key_of, keyed_count, HasAtMost}
 
 one_more : (p : Option OldPlace) (ps : List (Option OldPlace)) (n : ℕ) → place_count ps ≤ n → place_count (p ∷ ps) ≤ suc n
 one_more None ps n few = omega (arith, few)
 one_more (Some p) ps n few = omega (arith, few)
-
-few_places : (x : ℕ) (rows : List (ℕ × Node)) (e : ℕ) (old new : List Value) (os : List Order) (stamps : List ℕ)
-    → place_count (old_places x rows e old new os stamps) ≤ length os
-few_places x rows e old new [] stamps = omega arith
-few_places x rows e old new (o ∷ os) [] = omega arith
-few_places x rows e old new (o ∷ os) (a ∷ stamps) =
-    one_more (old_place x rows e old new o a) _ (length os) (few_places (suc x) rows e old new os stamps)
 
 -- an index without parts has no old place
 none_there : (x : ℕ) (rows : List (ℕ × Node)) (e : ℕ) (old new : List Value) (o : Order) (a : ℕ) → parts_of o ≡ [] → old_place x rows e old new o a ≡ None
@@ -53,18 +46,22 @@ many_orders [] (o ∷ os) fits = absurd fits
 many_orders (i ∷ is) [] fits = absurd fits
 many_orders (i ∷ is) (o ∷ os) fits = ap suc (many_orders is os fits.1)
 
-put_few : (most : ℕ) (is : List Index) (rows : List (ℕ × Node)) (e : ℕ) (old new : List Value) (os : List Order) (stamps : List ℕ)
-    → HasAtMost most is → KindsFit is os → place_count (old_places 0 rows e old new os stamps) ≤ most
-put_few most [] rows e old new [] stamps most_ fits = omega arith
-put_few most [] rows e old new (o ∷ os) stamps most_ fits = absurd fits
-put_few most (i ∷ is) rows e old new [] stamps most_ fits = absurd fits
-put_few most (i ∷ is) rows e old new (o ∷ os) [] most_ fits = omega arith
-put_few most (i ∷ is) rows e old new (o ∷ os) (a ∷ stamps) most_ fits =
-    let few = few_places 1 rows e old new os stamps in
-    let same = many_orders is os fits.1 in
-    let under = most_.1 in
-    let first = ap (λ p. place_count (p ∷ old_places 1 rows e old new os stamps)) (none_there 0 rows e old new o a (no_parts_of i o most_.0 fits.0)) in
-    omega (arith, few, same, under, first)
+-- an index has one old place at most, and none where it has no parts
+one_index : (x : ℕ) (rows : List (ℕ × Node)) (e : ℕ) (old new : List Value) (o : Order) (a : ℕ) (i : Index) (rest : List (Option OldPlace)) (n : ℕ)
+    → KindFits i o → place_count rest ≤ n → (ps : List KeyPart) → i.parts ≡ ps → place_count (old_place x rows e old new o a ∷ rest) ≤ key_of ps + n
+one_index x rows e old new o a i rest n fits few [] none =
+    let first = ap (λ p. place_count (p ∷ rest)) (none_there x rows e old new o a (no_parts_of i o none fits)) in omega (arith, first, few)
+one_index x rows e old new o a i rest n fits few (p ∷ ps) some =
+    let first = one_more (old_place x rows e old new o a) rest n few in omega (arith, first)
+
+put_few : (x : ℕ) (is : List Index) (rows : List (ℕ × Node)) (e : ℕ) (old new : List Value) (os : List Order) (stamps : List ℕ)
+    → KindsFit is os → place_count (old_places x rows e old new os stamps) ≤ keyed_count is
+put_few x is rows e old new [] stamps fits = omega arith
+put_few x is rows e old new (o ∷ os) [] fits = omega arith
+put_few x [] rows e old new (o ∷ os) (a ∷ stamps) fits = absurd fits
+put_few x (i ∷ is) rows e old new (o ∷ os) (a ∷ stamps) fits =
+    one_index x rows e old new o a i (old_places (suc x) rows e old new os stamps) (keyed_count is) fits.0
+    (put_few (suc x) is rows e old new os stamps fits.1) i.parts refl
 
 own_listed : (os : List Order) (x : ℕ) → HasOwnList (order_at os x) → x < length os
 own_listed [] zero own = absurd own
@@ -72,72 +69,82 @@ own_listed [] (suc x) own = absurd own
 own_listed (o ∷ os) zero own = omega arith
 own_listed (o ∷ os) (suc x) own = let rest = own_listed os x own in omega (arith, rest)
 
-listed_within : (most : ℕ) (is : List Index) (os : List Order) (x : ℕ) → HasAtMost most is → KindsFit is os → x < length os → x ≤ most
-listed_within most [] [] x most_ fits under = absurd (omega (arith, under))
-listed_within most [] (o ∷ os) x most_ fits under = absurd fits
-listed_within most (i ∷ is) os x most_ fits under =
-    let same = many_orders (i ∷ is) os fits in
-    let few = most_.1 in
-    omega (arith, under, same, few)
-
-moved_within : (most x e : ℕ) (d : Data) (b : Bool) → x ≤ most → IsWithin most (if b then Nothing else moved_back x e d)
+moved_within : (most x e : ℕ) (d : Data) (b : Bool) → x < 256 → IsWithin most (if b then Nothing else moved_back x e d)
 moved_within most x e d true few = tt
 moved_within most x e d false few = few
 
-relocate_within : (most x e : ℕ) (b : Option ℕ) (d : Data) → x ≤ most → IsWithin most (relocate_inverse x e b d)
+relocate_within : (most x e : ℕ) (b : Option ℕ) (d : Data) → x < 256 → IsWithin most (relocate_inverse x e b d)
 relocate_within most x e None d few = few
 relocate_within most x e (Some b) d few = moved_within most x e d (b == e) few
 
--- what a container made has no more places than its table has indexes beside `id`
+-- what a container made has no more places than its table has indexes with keys
 pub made_within : (most : ℕ) (s : Shape) (change : Change) (old new : Data) (i : Inverse) → HasAtMost most s.indexes → IsData s old
     → Makes s change old i new → IsWithin most i
 made_within most s (Insert p at r) old new i few is makes = subst (IsWithin most) (sym makes.inverse) tt
 made_within most s (Replace e r) old new i few is makes =
     subst (IsWithin most) (sym makes.inverse)
-    (put_few most s.indexes old.rows e (content_of old.rows e).values r old.orders (content_of old.rows e).stamps few is.kinds)
+    (le_trans (put_few 0 s.indexes old.rows e (content_of old.rows e).values r old.orders (content_of old.rows e).stamps is.kinds) few.0)
 made_within most s (Erase e why) old new i few is makes = subst (IsWithin most) (sym makes.inverse) tt
 made_within most s (Relocate x e b) old new i few is makes =
-    subst (IsWithin most) (sym makes.inverse)
-    (relocate_within most x e b old (listed_within most s.indexes old.orders x few is.kinds (own_listed old.orders x makes.allowed.1)))
+    let under = own_listed old.orders x makes.allowed.1 in
+    let many = many_orders s.indexes old.orders is.kinds in
+    let bytes = few.1 in
+    subst (IsWithin most) (sym makes.inverse) (relocate_within most x e b old (omega (arith, under, many, bytes)))
 
 -- The indexes of tables
 
 pub more_allowed : (most more : ℕ) (is : List Index) → most ≤ more → HasAtMost most is → HasAtMost more is
-more_allowed most more [] less few = tt
-more_allowed most more (i ∷ is) less few = let under = few.1 in (few.0, omega (arith, less, under))
+more_allowed most more is less few = (le_trans few.0 less, few.1)
 
-id_has_none : (i : Index) → is_id_index i ≡ true → i.parts ≡ []
-id_has_none i kept = no_parts i.parts (and_parts _ _ kept).1
+few_indexes : (columns : ℕ) (is : List Index) → are_indexes columns is ≡ true → length is ≤ 16
+few_indexes columns [] kept = omega arith
+few_indexes columns (i ∷ is) kept =
+    let both = and_parts _ _ kept in
+    let most : length is ≤ MAX_INDEXES = leb-true _ _ (and_parts _ _ both.0).1 in
+    omega (arith, most)
 
-indexes_counted : (columns : ℕ) (is : List Index) → are_indexes columns is ≡ true → HasAtMost (length is - 1) is × (length is ≤ 16) × (0 < length is)
-indexes_counted columns [] kept = absurd (cc)
-indexes_counted columns (i ∷ is) kept =
-    let few = and_parts _ _ (and_parts _ _ kept).0 in
-    let id : is_id_index i ≡ true = (and_parts _ _ few.0).0 in
-    let most : length is ≤ MAX_INDEXES = leb-true _ _ few.1 in
-    ((id_has_none i id, omega arith), omega (arith, most), omega arith)
+pub indexes_are_few : (s : Shape) → is_schema s ≡ true → length s.indexes ≤ 16
+indexes_are_few s kept = few_indexes (length s.columns) s.indexes (and_parts _ _ (and_parts _ _ kept).0).1
 
-pub counted : (s : Shape) → is_schema s ≡ true → HasAtMost (length s.indexes - 1) s.indexes × (length s.indexes ≤ 16) × (0 < length s.indexes)
-counted s kept = indexes_counted (length s.columns) s.indexes (and_parts _ _ (and_parts _ _ kept).0).1
+-- the greater of two
+record Greater (a b r : ℕ) : Type 0 where
+  left : a ≤ r
+  right : b ≤ r
+
+greater : (a b r : ℕ) → r ≡ ord_max nat_cmp a b → Greater a b r
+greater a b r is = record { left = grind (arith, is); right = grind (arith, is) }
 
 -- one table more
 pub counted_up : (c : CatalogShape) (k most more : ℕ) → ((n : ℕ) → n < k → HasAtMost most (schema_at c n).indexes) → is_schema (schema_at c k) ≡ true
-    → most ≤ more → length (schema_at c k).indexes - 1 ≤ more → (n : ℕ) → n < k + 1 → HasAtMost more (schema_at c n).indexes
-counted_up c k most more before kept less fewer n under = at_or_before (eq-or-lt_of_le (under_or_at under))
+    → more ≡ ord_max nat_cmp most (keyed_count (schema_at c k).indexes) → (n : ℕ) → n < k + 1 → HasAtMost more (schema_at c n).indexes
+counted_up c k most more before kept is n under = at_or_before (eq-or-lt_of_le (under_or_at under))
   where
+    both : Greater most (keyed_count (schema_at c k).indexes) more
+    both = greater most (keyed_count (schema_at c k).indexes) more is
+
     under_or_at : n < k + 1 → n ≤ k
     under_or_at below = omega (arith, below)
 
+    bytes : length (schema_at c k).indexes ≤ 256
+    bytes = let few = indexes_are_few (schema_at c k) kept in omega (arith, few)
+
     at_or_before : (n ≡ k) ⊎ (n < k) → HasAtMost more (schema_at c n).indexes
-    at_or_before (inl same) = subst (λ m. HasAtMost more (schema_at c m).indexes) (sym same)
-        (more_allowed (length (schema_at c k).indexes - 1) more (schema_at c k).indexes fewer (counted (schema_at c k) kept).0)
-    at_or_before (inr below) = more_allowed most more (schema_at c n).indexes less (before n below)
+    at_or_before (inl same) = subst (λ m. HasAtMost more (schema_at c m).indexes) (sym same) (both.right, bytes)
+    at_or_before (inr below) = more_allowed most more (schema_at c n).indexes both.left (before n below)
 
--- the greater of two
-pub record Greater (a b r : ℕ) : Type 0 where
-  pub left : a ≤ r
-  pub right : b ≤ r
-  pub under : (m : ℕ) → a < m → b < m → r < m
+-- one index more
+keyed_suc : (is : List Index) (i : ℕ) (d : Index) → i < length is → keyed_count (take (suc i) is) ≡ keyed_count (take i is) + key_of (get_or is i d).parts
+keyed_suc [] i d under = absurd (omega (arith, under))
+keyed_suc (a ∷ is) zero d under = omega arith
+keyed_suc (a ∷ is) (suc i) d under = let rest = keyed_suc is i d (omega (arith, under)) in omega (arith, rest)
 
-pub greater : (a b r : ℕ) → r ≡ ord_max nat_cmp a b → Greater a b r
-greater a b r is = record { left = grind (arith, is); right = grind (arith, is); under = λ m p q. grind (arith, is, p, q) }
+pub keyed_up : (is : List Index) (i : ℕ) (d : Index) → i < length is → keyed_count (take (i + 1) is) ≡ keyed_count (take i is) + key_of (get_or is i d).parts
+keyed_up is i d under = ap (λ n. keyed_count (take n is)) (add-one i) ∙ keyed_suc is i d under
+
+pub key_some : (ps : List KeyPart) → 0 < length ps → key_of ps ≡ 1
+key_some [] some = absurd (omega (arith, some))
+key_some (p ∷ ps) some = refl
+
+pub key_none : (ps : List KeyPart) → length ps ≤ 0 → key_of ps ≡ 0
+key_none [] none = refl
+key_none (p ∷ ps) none = absurd (omega (arith, none))

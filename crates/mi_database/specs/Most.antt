@@ -1,12 +1,22 @@
--- How many indexes beside `id` tables have: so many old places a put has at most.
-use Rattle.std.specs.Prelude.{◌≡◌, ℕ, ◌<◌, ◌≤◌, List, [], ◌∷◌, length}
+-- How many indexes with keys tables have: so many old places a put has at most.
+use Rattle.std.specs.Prelude.{ℕ, ◌+◌, ◌<◌, ◌≤◌, List, [], ◌∷◌, length}
+use Rattle.mi_value.specs.declared.compare.KeyPart.{KeyPart}
 use Rattle.mi_catalog.specs.declared.index.Index.{Index}
 use Rattle.mi_catalog.specs.Shape.{CatalogShape, schema_at}
 
--- the first index has no parts, and there are at most so many others
+-- an index has keys of its own if it has parts: `id` has none, nor has a sequenced one
+abbrev pub key_of : List KeyPart → ℕ
+key_of [] = 0
+key_of (p ∷ ps) = 1
+
+-- how many have
+abbrev pub keyed_count : List Index → ℕ
+keyed_count [] = 0
+keyed_count (i ∷ is) = key_of i.parts + keyed_count is
+
+-- at most so many, and the number of each is a byte
 abbrev pub HasAtMost : ℕ → List Index → Type 0
-HasAtMost most [] = Unit {0}
-HasAtMost most (i ∷ is) = (i.parts ≡ []) × (length is ≤ most)
+HasAtMost most is = (keyed_count is ≤ most) × (length is ≤ 256)
 
 -- in each table of a catalog
 abbrev pub AllHaveAtMost : ℕ → CatalogShape → Type 0

@@ -1,6 +1,6 @@
 //! The containers and the journal. A change is made by its container, which answers the inverse; with a session open the
 //! inverse is noted, else it is settled at once. This file knows nothing of how a container keeps its rows.
-use mi_catalog::Catalog;
+use mi_catalog::{Catalog, Schema};
 use mi_container::{Container, Inverse};
 use mi_inverses::Inverses;
 use std::alloc::{AllocError, Global};
@@ -36,7 +36,7 @@ ghost use Rattle.mi_database.specs.Journal.{data_at};
 ghost use Rattle.mi_journal.specs.Noted.{noted};
 ghost use Rattle.mi_inverses.specs.Stored.{IsWithin};
 ghost use Rattle.mi_database.specs.LinkedData.{kept_datas};
-ghost use Rattle.mi_database.specs.Most.{AllHaveAtMost};
+ghost use Rattle.mi_database.specs.Most.{keyed_count, AllHaveAtMost};
 
 /// The containers that a catalog opens with, all with one secret.
 fn open_containers<C: Container>(
@@ -56,16 +56,28 @@ fn open_containers<C: Container>(
     Ok(new)
 }
 
-/// The most indexes that a table has beside `id`: so many old places a put has at most, since `id` never changes.
-fn most_indexes(catalog: &Catalog) -> usize
-    ensures most { AllHaveAtMost result catalog.now }
-    ensures few { result < 256 }
+/// How many indexes of a table have keys: a put has old places in those at most.
+fn keyed_indexes(table: &Schema) -> usize
+    ensures { result ≡ keyed_count table.now.indexes }
+{
+    let mut count = 0;
+    for i in 0..table.index_count() {
+        if table.parts(i).len() > 0 {
+            count += 1;
+        }
+    }
+    count
+}
+
+/// The most that a table of a catalog has.
+fn most_keyed_indexes(catalog: &Catalog) -> usize
+    ensures { AllHaveAtMost result catalog.now }
 {
     let mut most = 0;
     for n in 0..catalog.table_count() {
         let table = catalog.table(n);
         table.keeps_rules();
-        most = most.max(table.index_count() - 1);
+        most = most.max(keyed_indexes(table));
     }
     most
 }
@@ -115,7 +127,7 @@ impl<C: Container> Linked<C> {
         catalog.keeps_rules();
         let containers = open_containers(alloc, &catalog, secret)?;
         let revision = catalog.first_revision();
-        let most = most_indexes(&catalog);
+        let most = most_keyed_indexes(&catalog);
         Ok(Linked {
             catalog,
             containers,

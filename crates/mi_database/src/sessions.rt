@@ -373,8 +373,9 @@ impl<C: Container> Sessions for Linked<C> {
         open
     }
 
-    /// Room for so many changes inside a session and so many sessions more. Until it is used, an erase, a replacement, a
-    /// relocation and an erase by key, which uses as much as it erases records, aren't refused for memory, nor is a start.
+    /// Room for so many changes inside a session and so many sessions more. A change has 88 bytes, and 16 for each index with keys
+    /// of the table that has the most. Until it is used, an erase, a replacement, a relocation and an erase by key, which uses as
+    /// much as it erases records, aren't refused for memory, nor is a start.
     fn reserve(&mut self, changes: u64, sessions: u64) -> Result<(), Refusal>
         ensures same { meaning self.new ≡ meaning self.old }
         ensures memory { IfErr result (λ e. e ≡ Memory) }

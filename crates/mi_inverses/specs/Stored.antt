@@ -1,5 +1,5 @@
 -- What contracts see of the inverses of open sessions.
-use Rattle.std.specs.Prelude.{◌≡◌, ℕ, zero, suc, ◌≤◌, ◌/◌, List, [], ◌∷◌, min}
+use Rattle.std.specs.Prelude.{◌≡◌, ℕ, zero, suc, ◌<◌, ◌≤◌, ◌/◌, List, [], ◌∷◌, min}
 use Rattle.std.specs.declared.option.Option.{Option}
 use Rattle.std.specs.declared.option.Option.TheVariants.{None, Some}
 use Rattle.mi_journal.specs.Noted.{TakesOldest}
@@ -25,12 +25,12 @@ place_count [] = 0
 place_count (None ∷ ps) = place_count ps
 place_count (Some p ∷ ps) = suc (place_count ps)
 
--- an inverse has at most so many places, and names an index by no greater number
+-- an inverse has at most so many places, and the number of a relocation's index is a byte
 abbrev pub IsWithin : ℕ → Inverse → Type 0
 IsWithin most (Inserted r) = Unit {0}
 IsWithin most (Put r old) = place_count old.places ≤ most
 IsWithin most (Erased r why) = Unit {0}
-IsWithin most (Relocated x r b) = x ≤ most
+IsWithin most (Relocated x r b) = x < 256
 IsWithin most Nothing = Unit {0}
 
 -- what an inverse is settled by: of a put neither the record nor the places are asked for

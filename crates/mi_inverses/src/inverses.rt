@@ -36,8 +36,7 @@ impl Model for Inverses {
       most = a.most;
     } };
 
-    ghost invariant = { λ a. (length a.records.items ≡ records_of_all a.entries.sessions) × (length a.places.items ≡ places_of_all a.entries.sessions)
-        × (a.most < 256) };
+    ghost invariant = { λ a. (length a.records.items ≡ records_of_all a.entries.sessions) × (length a.places.items ≡ places_of_all a.entries.sessions) };
 }
 
 impl Inverses {
@@ -46,9 +45,8 @@ impl Inverses {
     ghost use Rattle.mi_journal.specs.Noted.{NewestIsEmpty, TwoAreOpen, OldestIsEmpty};
     ghost use Rattle.mi_inverses.specs.Stored.{IsWithin, TakesToSettle};
 
-    /// No open session, and no room. A put has at most so many places, and no index has a greater number.
+    /// No open session, and no room. `most` is how many old places a put has at most.
     pub fn new(alloc: Global, most: usize) -> Inverses
-        requires { most < 256 }
         ensures sessions { result.sessions ≡ [] }
         ensures most { result.most ≡ most }
     {
@@ -60,8 +58,9 @@ impl Inverses {
         }
     }
 
-    /// Room for so many changes and so many sessions more, whichever changes they are. A change takes 40 bytes for its entry, 48
-    /// for an old record and 16 for each of `most` places. Where memory is refused the room for some of it may have grown.
+    /// Room for so many changes and so many sessions more, whichever changes they are: 40 bytes a change for its entry, 48 for an
+    /// old record and 16 for each of `most` old places. Where memory is refused, or the places are more than can be counted, the
+    /// room for some of it may have grown.
     pub fn reserve(&mut self, changes: usize, sessions: usize) -> Result<(), AllocError>
         ensures sessions { self.new.sessions ≡ self.old.sessions }
         ensures changes { self.old.changes ≤ self.new.changes }

@@ -8,3 +8,6 @@ mod marks;
 mod store;
 
 pub use inverses::Inverses;
+
+#[cfg(test)]
+mod tests;

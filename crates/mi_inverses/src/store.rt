@@ -78,7 +78,6 @@ pub fn store(
     most: usize,
 ) -> Entry
     requires within { IsWithin most (inverse_seen undo) }
-    requires most { most < 256 }
     requires records { deque_len records.old < deque_capacity records.old }
     requires places { deque_len places.old + most ≤ deque_capacity places.old }
     ensures is { filled result (reverse records.new.items) (reverse places.new.items) ≡ inverse_seen undo }

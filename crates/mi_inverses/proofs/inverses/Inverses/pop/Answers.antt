@@ -19,7 +19,6 @@ invariant_of-self c =
           ∙ sym (ap records_of_all c.in-Some.ensures.sessions),
       shorter a.places.items f.new.places.items (places_in c.in-Some.entry) _ f.ensures.places_rest (held.1 ∙ p.places)
           ∙ sym (ap places_of_all c.in-Some.ensures.sessions),
-      held.2,
     )
 
 pub returns-in-Some-clause-sessions : goal.returns-in-Some-clause-sessions

@@ -21,7 +21,6 @@ invariant_of-self c =
           (held.0 ∙ taken_records a.entries.sessions ss c.in-Some.table c.in-Some.entry c.in-Some.ensures.sessions),
       shorter_front a.places.items f.new.places.items (places_in c.in-Some.entry) (places_of_all ss) f.ensures.places_rest
           (held.1 ∙ taken_places a.entries.sessions ss c.in-Some.table c.in-Some.entry c.in-Some.ensures.sessions),
-      held.2,
     )
 
 pub returns-in-Some-clause-sessions : goal.returns-in-Some-clause-sessions
