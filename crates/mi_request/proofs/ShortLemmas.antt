@@ -1,6 +1,6 @@
 -- A short line means its request, and each is found.
 use Rattle.std.proofs.Common.{◌≡◌, ℕ, ◌^◌, ◌<◌, ◌≤◌, ◌+◌, length, nat_le, subst, List, [], ◌∷◌, ◌++◌, true, ◌&&◌, Some, None, option_map, option_and_then}
-use Rattle.std.proofs.Common.{Result, Ok, Err, IsUtf8, codes, decimal, bytes_eq, nat_lt, refl, sym, ap, ◌∙◌, arith, lt-ltb, ltb-true}
+use Rattle.std.proofs.Common.{Result, Ok, Err, IsUtf8, codes, decimal, bytes_eq, nat_lt, get_or, refl, sym, ap, ◌∙◌, ◌⊎◌, inl, inr, arith, lt-ltb, ltb-true}
 use Rattle.std.proofs.lemmas.Option.{none-some, same_Some, cond_some}
 use Rattle.std.proofs.lemmas.Bool.{leb-true}
 use Rattle.std.proofs.lemmas.Fmt.{IsAscii-decimal, length-decimal-le}
@@ -22,7 +22,7 @@ use Rattle.mi_value.specs.declared.refusal.Refusal.{Refusal}
 use Rattle.mi_request.specs.Commands.{look_up_named, step_named}
 use Rattle.mi_request.specs.Json.{has_only}
 use Rattle.mi_request.specs.Lines.{request_or_refusal, command_line}
-use Rattle.mi_request.specs.Short.{number_line, short_line}
+use Rattle.mi_request.specs.Short.{number_line, short_line, bare_line}
 use Rattle.mi_request.specs.declared.request.Request.{Request}
 use Rattle.mi_request.specs.declared.request.Request.TheVariants as request
 use Rattle.mi_request.proofs.ParsingLemmas.{json-found}
@@ -152,31 +152,34 @@ undo_is_short line is = ap Some (sym is)
 
 -- ---- how long they are
 
-bare_length : (text line : List ℕ) → Some text ≡ Some line → nat_le (length text) 47 ≡ true → length line ≤ 47
-bare_length text line is short = subst (λ t. length t ≤ 47) (same_Some text line is) (leb-true (length text) 47 short)
+bare_length : (text line : List ℕ) → Some text ≡ Some line → nat_le 11 (length text) ≡ true → nat_le (length text) 47 ≡ true → (10 < length line) × (length line ≤ 47)
+bare_length text line is long short =
+    subst (λ t. (10 < length t) × (length t ≤ 47)) (same_Some text line is) (leb-true 11 (length text) long, leb-true (length text) 47 short)
 
-numbered_length : (front line : List ℕ) (n : ℕ) → number_line front n ≡ Some line → nat_le (length front) 27 ≡ true → length line ≤ 47
-numbered_length front line n is short =
+numbered_length : (front line : List ℕ) (n : ℕ) → number_line front n ≡ Some line → nat_le 11 (length front) ≡ true → nat_le (length front) 27 ≡ true
+    → (10 < length line) × (length line ≤ 47)
+numbered_length front line n is long short =
     let p = cond_some (nat_lt n (2 ^ 63)) _ line is in
     let small : n < 2 ^ 63 = ltb-true n (2 ^ 63) p.0 in
     let digits : length (decimal n) ≤ 19 = length-decimal-le 19 n (omega arith) (omega arith) (omega arith) in
     let behind : length (decimal n ++ codes "}") ≡ length (decimal n) + 1 = length-append (decimal n) (codes "}") in
     let whole : length line ≡ length front + length (decimal n ++ codes "}") = sym (ap length p.1) ∙ length-append front _ in
-    let first : length front ≤ 27 = leb-true (length front) 27 short in
-    omega arith
+    let least : 11 ≤ length front = leb-true 11 (length front) long in
+    let most : length front ≤ 27 = leb-true (length front) 27 short in
+    (omega arith, omega arith)
 
--- a short line has at most 47 bytes
-pub short_length : (r : Request) (line : List ℕ) → short_line r ≡ Some line → length line ≤ 47
-short_length request.Start line is = bare_length _ line is refl
-short_length request.Undo line is = bare_length _ line is refl
-short_length request.Squash line is = bare_length _ line is refl
-short_length (request.Commit revision) line is = numbered_length (codes "{\"cmd\":\"commit\",\"revision\":") line revision is refl
-short_length request.UndoAll line is = bare_length _ line is refl
-short_length request.Push line is = bare_length _ line is refl
-short_length request.Revision line is = bare_length _ line is refl
-short_length (request.Get None id) line is = numbered_length (codes "{\"cmd\":\"get\",\"id\":") line id is refl
-short_length (request.Erase None id) line is = numbered_length (codes "{\"cmd\":\"erase\",\"id\":") line id is refl
-short_length (request.Size None) line is = bare_length _ line is refl
+-- a short line has 11 to 47 bytes
+pub short_length : (r : Request) (line : List ℕ) → short_line r ≡ Some line → (10 < length line) × (length line ≤ 47)
+short_length request.Start line is = bare_length _ line is refl refl
+short_length request.Undo line is = bare_length _ line is refl refl
+short_length request.Squash line is = bare_length _ line is refl refl
+short_length (request.Commit revision) line is = numbered_length (codes "{\"cmd\":\"commit\",\"revision\":") line revision is refl refl
+short_length request.UndoAll line is = bare_length _ line is refl refl
+short_length request.Push line is = bare_length _ line is refl refl
+short_length request.Revision line is = bare_length _ line is refl refl
+short_length (request.Get None id) line is = numbered_length (codes "{\"cmd\":\"get\",\"id\":") line id is refl refl
+short_length (request.Erase None id) line is = numbered_length (codes "{\"cmd\":\"erase\",\"id\":") line id is refl refl
+short_length (request.Size None) line is = bare_length _ line is refl refl
 short_length (request.Get (Some table) id) line is = absurd (none-some line is)
 short_length (request.Erase (Some table) id) line is = absurd (none-some line is)
 short_length (request.Size (Some table)) line is = absurd (none-some line is)
@@ -194,3 +197,43 @@ short_length (request.List table index after limit) line is = absurd (none-some 
 short_length (request.Rank table index id) line is = absurd (none-some line is)
 short_length (request.LowerRank table index key) line is = absurd (none-some line is)
 short_length (request.UpperRank table index key) line is = absurd (none-some line is)
+
+-- ---- their third letters
+
+bare_told : (text line : List ℕ) (r : Request) → Some text ≡ Some line → bare_line text ≡ Some r → bare_line line ≡ Some r
+bare_told text line r is means = ap bare_line (sym (same_Some text line is)) ∙ means
+
+lettered : (front line : List ℕ) (n d letter : ℕ) → number_line front n ≡ Some line → ((rest : List ℕ) → get_or (front ++ rest) 10 d ≡ letter)
+    → get_or line 10 d ≡ letter
+lettered front line n d letter is at = ap (λ t. get_or t 10 d) (numbered_parts front line n is).1 ∙ at (decimal n ++ codes "}")
+
+-- a short line with a number has the letter of `get`, `commit` or `erase`, and each other has no members
+pub told : (r : Request) (line : List ℕ) (d : ℕ) → short_line r ≡ Some line
+    → (get_or line 10 d ≡ 116) ⊎ ((get_or line 10 d ≡ 109) ⊎ ((get_or line 10 d ≡ 97) ⊎ (bare_line line ≡ Some r)))
+told request.Start line d is = inr (inr (inr (bare_told _ line _ is refl)))
+told request.Undo line d is = inr (inr (inr (bare_told _ line _ is refl)))
+told request.Squash line d is = inr (inr (inr (bare_told _ line _ is refl)))
+told (request.Commit revision) line d is = inr (inl (lettered (codes "{\"cmd\":\"commit\",\"revision\":") line revision d 109 is (λ rest. refl)))
+told request.UndoAll line d is = inr (inr (inr (bare_told _ line _ is refl)))
+told request.Push line d is = inr (inr (inr (bare_told _ line _ is refl)))
+told request.Revision line d is = inr (inr (inr (bare_told _ line _ is refl)))
+told (request.Get None id) line d is = inl (lettered (codes "{\"cmd\":\"get\",\"id\":") line id d 116 is (λ rest. refl))
+told (request.Erase None id) line d is = inr (inr (inl (lettered (codes "{\"cmd\":\"erase\",\"id\":") line id d 97 is (λ rest. refl))))
+told (request.Size None) line d is = inr (inr (inr (bare_told _ line _ is refl)))
+told (request.Get (Some table) id) line d is = absurd (none-some line is)
+told (request.Erase (Some table) id) line d is = absurd (none-some line is)
+told (request.Size (Some table)) line d is = absurd (none-some line is)
+told (request.Insert table row before) line d is = absurd (none-some line is)
+told (request.Replace table id row) line d is = absurd (none-some line is)
+told (request.Modify table id set add rollback) line d is = absurd (none-some line is)
+told (request.EraseKey table index key) line d is = absurd (none-some line is)
+told (request.Relocate table index id before) line d is = absurd (none-some line is)
+told (request.Reserve changes sessions) line d is = absurd (none-some line is)
+told (request.Find table index key) line d is = absurd (none-some line is)
+told (request.Nth table index n) line d is = absurd (none-some line is)
+told (request.Count table index key) line d is = absurd (none-some line is)
+told (request.Range table index lower upper reverse limit) line d is = absurd (none-some line is)
+told (request.List table index after limit) line d is = absurd (none-some line is)
+told (request.Rank table index id) line d is = absurd (none-some line is)
+told (request.LowerRank table index key) line d is = absurd (none-some line is)
+told (request.UpperRank table index key) line d is = absurd (none-some line is)

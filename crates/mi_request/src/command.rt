@@ -1,6 +1,9 @@
 //! The commands by name, and the members that each may have. It reads no member's value.
-ghost use Rattle.std.specs.Prelude.{◌≡◌, ◌∷◌, map, codes};
+ghost use Rattle.std.specs.Prelude.{◌≡◌, ◌∷◌, codes};
 ghost use Rattle.mi_request.specs.Commands.{look_up_named, step_named, command_named, form_of};
+ghost use Rattle.mi_request.specs.Json.{has_only};
+
+use crate::object::Object;
 
 /// The commands.
 #[derive(Clone, Copy)]
@@ -85,36 +88,38 @@ impl CommandName {
         }
     }
 
-    /// The members that it may have, `cmd` among them.
-    pub(crate) fn members(self) -> &'static [&'static str]
-        ensures { map (λ n. n.now) result.now ≡ codes "cmd" ∷ (form_of self).members }
+    /// Whether an object has no other members than it may have, `cmd` among them. Each form's names are compared in place.
+    pub(crate) fn allows(self, object: &Object<'_>) -> bool
+        ensures { result ≡ has_only (codes "cmd" ∷ (form_of self).members) object.now }
     {
         match self {
-            CommandName::Insert => &["cmd", "table", "row", "before"],
-            CommandName::Replace => &["cmd", "table", "id", "row"],
-            CommandName::Modify => &["cmd", "table", "id", "set", "add", "rollback"],
-            CommandName::Erase | CommandName::Get => &["cmd", "table", "id"],
+            CommandName::Insert => object.has_only(&["cmd", "table", "row", "before"]),
+            CommandName::Replace => object.has_only(&["cmd", "table", "id", "row"]),
+            CommandName::Modify => {
+                object.has_only(&["cmd", "table", "id", "set", "add", "rollback"])
+            }
+            CommandName::Erase | CommandName::Get => object.has_only(&["cmd", "table", "id"]),
             CommandName::EraseKey
             | CommandName::Find
             | CommandName::Count
             | CommandName::LowerRank
-            | CommandName::UpperRank => &["cmd", "table", "index", "key"],
-            CommandName::Relocate => &["cmd", "table", "index", "id", "before"],
-            CommandName::Nth => &["cmd", "table", "index", "n"],
-            CommandName::Range => &[
+            | CommandName::UpperRank => object.has_only(&["cmd", "table", "index", "key"]),
+            CommandName::Relocate => object.has_only(&["cmd", "table", "index", "id", "before"]),
+            CommandName::Nth => object.has_only(&["cmd", "table", "index", "n"]),
+            CommandName::Range => object.has_only(&[
                 "cmd", "table", "index", "lower", "upper", "reverse", "limit",
-            ],
-            CommandName::List => &["cmd", "table", "index", "after", "limit"],
-            CommandName::Rank => &["cmd", "table", "index", "id"],
-            CommandName::Size => &["cmd", "table"],
-            CommandName::Commit => &["cmd", "revision"],
-            CommandName::Reserve => &["cmd", "changes", "sessions"],
+            ]),
+            CommandName::List => object.has_only(&["cmd", "table", "index", "after", "limit"]),
+            CommandName::Rank => object.has_only(&["cmd", "table", "index", "id"]),
+            CommandName::Size => object.has_only(&["cmd", "table"]),
+            CommandName::Commit => object.has_only(&["cmd", "revision"]),
+            CommandName::Reserve => object.has_only(&["cmd", "changes", "sessions"]),
             CommandName::Start
             | CommandName::Undo
             | CommandName::Squash
             | CommandName::UndoAll
             | CommandName::Push
-            | CommandName::Revision => &["cmd"],
+            | CommandName::Revision => object.has_only(&["cmd"]),
         }
     }
 }

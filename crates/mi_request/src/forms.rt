@@ -259,7 +259,7 @@ pub(crate) fn request_by<'a>(
 ) -> Option<Request<'a>>
     ensures { result ≡ lines.request_by object.old (form_of name) }
 {
-    if !object.has_only(name.members()) {
+    if !name.allows(object) {
         return None;
     }
     match name {

@@ -11,6 +11,9 @@ use crate::value::Json;
 use bumpalo::Bump;
 use mi_tokens::pass_last_member;
 
+/// Where the command's name begins in such a line. Its first letter, which no other command has, is looked at before all else.
+const NAME_AT: usize = 8;
+
 /// The row with which a text begins, if nothing but a brace stands behind it.
 fn last_row<'a>(arena: &'a Bump, text: &'a str) -> Option<Object<'a>>
     ensures { IfSome result (λ row. IsRow text.now row) }
@@ -26,6 +29,9 @@ fn last_row<'a>(arena: &'a Bump, text: &'a str) -> Option<Object<'a>>
 pub(crate) fn insert_line<'a>(arena: &'a Bump, line: &'a [u8]) -> Option<Request<'a>>
     ensures { IfSome result (λ r. command_line line.now ≡ Ok r) }
 {
+    if line.len() <= NAME_AT || line[NAME_AT] != b'i' {
+        return None;
+    }
     let behind = line.strip_prefix(b"{\"cmd\":\"insert\",\"row\":".as_slice())?;
     let Ok(text) = simdutf8::compat::from_utf8(behind) else {
         return None;

@@ -30,6 +30,7 @@ impl<'a> Model for Object<'a> {
 }
 
 /// Whether a name is one of these.
+#[inline(always)]
 fn is_named(names: &[&str], name: &str) -> bool
     ensures { result ≡ list_any (λ n. bytes_eq name.now n.now) names.now }
 {
@@ -42,6 +43,7 @@ fn is_named(names: &[&str], name: &str) -> bool
 }
 
 /// Whether each member has one of these names.
+#[inline(always)]
 fn are_named(names: &[&str], members: &[(&str, Tree<'_>)]) -> bool
     ensures { result ≡ list_all (λ m. list_any (λ n. bytes_eq m.0.now n.now) names.now) members.now }
 {
@@ -54,6 +56,7 @@ fn are_named(names: &[&str], members: &[(&str, Tree<'_>)]) -> bool
 }
 
 /// Where the last member of this name stands.
+#[inline(always)]
 fn place_of(members: &[(&str, Tree<'_>)], name: &str) -> Option<usize>
     ensures found { result ≡ last_at name.now members.now }
     ensures within { IfSome result (λ i. i < length members.now) }
@@ -91,6 +94,7 @@ impl<'a> Object<'a> {
     }
 
     /// The value of the member of this name, as it was read.
+    #[inline(always)]
     pub(crate) fn get(&self, name: &str) -> Option<&Tree<'a>>
         ensures { option_map (λ v. seen v.now) result ≡ get_member name.now self.now }
     {
@@ -99,6 +103,7 @@ impl<'a> Object<'a> {
     }
 
     /// Moves the value of the member of this name out. Null stands in its place.
+    #[inline(always)]
     pub fn move_out(&mut self, name: &str) -> Option<Json<'a>>
         ensures value { result ≡ get_member name.now self.old }
         ensures rest { self.new ≡ emptied name.now self.old }
@@ -108,6 +113,7 @@ impl<'a> Object<'a> {
     }
 
     /// Moves the values of the members of two names out. Null stands in their places.
+    #[inline(always)]
     pub(crate) fn move_two_out(
         &mut self,
         first: &str,
@@ -122,6 +128,7 @@ impl<'a> Object<'a> {
     }
 
     /// Whether no member has another name than these.
+    #[inline(always)]
     pub(crate) fn has_only(&self, names: &[&str]) -> bool
         ensures { result ≡ has_only (map (λ n. n.now) names.now) self.now }
     {

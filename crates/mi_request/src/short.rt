@@ -1,5 +1,5 @@
 //! Lines without a text for the database, read where they stand as they are written without spaces. It takes no memory.
-ghost use Rattle.std.specs.Prelude.{◌≡◌, ◌<◌, ◌^◌, ◌&&◌, nat_lt, IfSome, IsSome, Some, bytes_eq, decimal, ℕ};
+ghost use Rattle.std.specs.Prelude.{◌≡◌, ◌<◌, ◌^◌, ◌&&◌, nat_lt, IfSome, IsSome, Some, bytes_eq, codes, decimal, ℕ};
 ghost use Rattle.mi_request.specs.Short.{number_line, short_line, bare_line};
 ghost use Rattle.mi_request.specs.declared.request.Request.{Request as Asked};
 
@@ -9,6 +9,9 @@ use itoa::Buffer;
 
 /// Bytes of a short line, at most: so many has a commit with a number of 19 digits.
 const LONGEST: usize = 47;
+
+/// Where the third letter of the command's name stands in a short line.
+const LETTER_AT: usize = 10;
 
 /// Whether a text is how a number up to 2^63 - 1 is written.
 fn is_natural(n: u64, text: &[u8]) -> bool
@@ -67,23 +70,37 @@ fn bare_request<'a>(line: &[u8]) -> Option<Request<'a>>
     }
 }
 
-/// The request that a line is, where it is written as `short_line` writes it.
+/// The request with the id of a record to be erased that a line is, or the one without members.
+fn erase_or_bare<'a>(line: &[u8]) -> Option<Request<'a>>
+    ensures value { IfSome result (λ r. short_line r ≡ Some line.now) }
+    ensures erase { (n : ℕ) → number_line (codes "{\"cmd\":\"erase\",\"id\":") n ≡ Some line.now → IsSome result }
+    ensures bare { IsSome (bare_line line.now) → IsSome result }
+{
+    if let Some(id) = number_behind(b"{\"cmd\":\"erase\",\"id\":".as_slice(), line) {
+        return Some(Request::Erase { table: None, id });
+    }
+    bare_request(line)
+}
+
+/// The request that a line is, where it is written as `short_line` writes it. The third letter of the command's name tells which lines
+/// it can be.
 pub(crate) fn short_request<'a>(line: &[u8]) -> Option<Request<'a>>
     ensures value { IfSome result (λ r. short_line r ≡ Some line.now) }
     ensures whole { (r : Asked) → short_line r ≡ Some line.now → IsSome result }
 {
-    if line.len() > LONGEST {
+    if line.len() > LONGEST || line.len() <= LETTER_AT {
         return None;
     }
-    if let Some(request) = bare_request(line) {
-        return Some(request);
+    match line[LETTER_AT] {
+        b't' => {
+            let id = number_behind(b"{\"cmd\":\"get\",\"id\":".as_slice(), line)?;
+            Some(Request::Get { table: None, id })
+        }
+        b'm' => {
+            let revision = number_behind(b"{\"cmd\":\"commit\",\"revision\":".as_slice(), line)?;
+            Some(Request::Commit { revision })
+        }
+        b'a' => erase_or_bare(line),
+        _ => bare_request(line),
     }
-    if let Some(id) = number_behind(b"{\"cmd\":\"get\",\"id\":".as_slice(), line) {
-        return Some(Request::Get { table: None, id });
-    }
-    if let Some(id) = number_behind(b"{\"cmd\":\"erase\",\"id\":".as_slice(), line) {
-        return Some(Request::Erase { table: None, id });
-    }
-    let revision = number_behind(b"{\"cmd\":\"commit\",\"revision\":".as_slice(), line)?;
-    Some(Request::Commit { revision })
 }
