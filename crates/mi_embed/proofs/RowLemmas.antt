@@ -7,7 +7,6 @@ use Rattle.std.proofs.lemmas.List.{take_at, take_more, drop_more, set_at, map-ap
 use Rattle.std.proofs.lemmas.Slice.{drop-append-drop}
 use Rattle.std.proofs.lemmas.Grind.{flat_map-append}
 use Rattle.mi_value.specs.declared.value.Value.{Value}
-use Rattle.mi_value.specs.declared.value.Value.TheVariants.{Int, Text, Flag}
 use Rattle.mi_catalog.specs.Key.{Row}
 use Rattle.mi_embed.specs.declared.cell.Cell.{Cell}
 use Rattle.mi_embed.specs.Cells.{text_of, texts_of, cell_of, cells_of}

@@ -1,5 +1,5 @@
 -- Values as they cross the border of a process: cells, and the bytes in which their texts lie.
-use Rattle.std.specs.Prelude.{◌≡◌, ◌≢◌, ℕ, ◌+◌, ◌==◌, nat_le, ◌&&◌, if◌then◌else◌, List, [], ◌∷◌, ◌++◌, length, take, drop, true, false}
+use Rattle.std.specs.Prelude.{◌≡◌, ℕ, ◌+◌, ◌==◌, nat_le, if◌then◌else◌, List, [], ◌∷◌, ◌++◌, length, take, drop, true, false}
 use Rattle.std.specs.Prelude.{Option, Some, None, option_and_then, pos}
 use Rattle.std.specs.Str.{is_utf8}
 use Rattle.mi_value.specs.declared.value.Value.{Value}

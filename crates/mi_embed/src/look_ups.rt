@@ -67,13 +67,8 @@ impl Engine {
         ensures { result ≡ meaning.rank_by self.now.held table index id }
     {
         let index = ranked_index(self.schema(table)?, index)?;
-        rank(
-            self.executor.database(),
-            table,
-            index,
-            id,
-            &mut Steps::new(),
-        )
+        let database = self.executor.database();
+        rank(database, table, index, id, &mut Steps::new())
     }
 
     /// A key of a ranked index, or the first values of one.

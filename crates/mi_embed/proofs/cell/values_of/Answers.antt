@@ -1,9 +1,9 @@
 -- The values so far are those of the cells that were gone over.
-use Rattle.std.proofs.Common.{List, [], ◌∷◌, ◌++◌, ◌+◌, Option, Some, None, map, option_map, drop, length, refl, ap, sym, ◌≡◌, ◌∙◌, arith}
+use Rattle.std.proofs.Common.{List, [], ◌++◌, ◌+◌, Option, Some, None, map, option_map, drop, length, refl, ap, sym, ◌≡◌, ◌∙◌, arith}
 use Rattle.std.proofs.lemmas.List.{drop_more}
 use Rattle.mi_value.specs.Lent.{lent}
 use Rattle.mi_value.specs.declared.value.Value.{Value}
-use Rattle.mi_embed.specs.Cells.{value_in, values_in, before_all}
+use Rattle.mi_embed.specs.Cells.{values_in, before_all}
 use Rattle.mi_embed.proofs.CellLemmas.{one_more}
 use Rattle.mi_embed.proofs.cell.values_of.Goals as goal
 

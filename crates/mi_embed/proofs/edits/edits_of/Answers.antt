@@ -1,5 +1,5 @@
 -- The edits so far are those of the cells that were gone over.
-use Rattle.std.proofs.Common.{refl, arith}
+use Rattle.std.proofs.Common.{refl}
 use Rattle.mi_value.specs.declared.refusal.Refusal.TheVariants.{Row}
 use Rattle.mi_embed.specs.EditCells.{edit_in, edits_in}
 use Rattle.mi_embed.proofs.ReadLemmas.{is_made, read_more, read_none, refused_all}

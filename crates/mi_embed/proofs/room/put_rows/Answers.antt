@@ -1,9 +1,8 @@
 -- Each row is put behind those so far.
-use Rattle.std.proofs.Common.{◌≡◌, ◌∙◌, ◌<◌, ◌+◌, ◌++◌, ◌∷◌, [], List, ℕ, length, map, take, drop, get_or, set, sym, ap, arith, length-append, length-take}
+use Rattle.std.proofs.Common.{◌≡◌, ◌∙◌, ◌<◌, ◌+◌, ◌++◌, List, length, map, take, drop, get_or, set, sym, ap, arith, length-append, length-take}
 use Rattle.std.proofs.lemmas.List.{get_or-map, length-map}
 use Rattle.mi_value.specs.declared.value.Value.{Value}
 use Rattle.mi_catalog.specs.Key.{Row}
-use Rattle.mi_embed.specs.declared.cell.Cell.{Cell}
 use Rattle.mi_embed.specs.Cells.{cells_of, texts_of}
 use Rattle.mi_embed.specs.Pages.{values_of}
 use Rattle.mi_embed.proofs.RowLemmas.{texts_of-append, one_more_row, one_more_id, put_id, more_cells, more_texts, room_tells, no_room_for_more, fewer_values, fewer_texts}

@@ -2,7 +2,6 @@
 use Rattle.std.proofs.Common.{◌≡◌, ◌∙◌, ◌+◌, ◌++◌, ◌∷◌, List, ℕ, length, map, drop, sym, ap, length-append}
 use Rattle.std.proofs.lemmas.List.{drop_more}
 use Rattle.mi_value.specs.declared.value.Value.{Value}
-use Rattle.mi_catalog.specs.Key.{Row}
 use Rattle.mi_embed.specs.Cells.{texts_of}
 use Rattle.mi_embed.specs.Pages.{values_of}
 use Rattle.mi_embed.specs.Told.{in_64}
