@@ -11,8 +11,11 @@ ghost use Rattle.mi_embed.specs.Opening.{IsOpened};
 ghost use Rattle.mi_embed.specs.State.{EngineState, line_of, IsCopied};
 ghost use Rattle.weltiyo.specs.Handle.{engine_at, engine_where, TellsOpening};
 
+mod given;
+mod look_ups;
 mod loose;
 mod opened;
+mod pages;
 mod typed;
 
 use loose::Loose;

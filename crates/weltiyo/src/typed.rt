@@ -1,16 +1,18 @@
-//! The changes, the session steps and the look-ups with values in place of a line. What is told of each is `mi_embed`'s.
+//! The changes, the session steps and `get` with values in place of a line. What is told of each is `mi_embed`'s.
 ghost use Rattle.std.specs.Prelude.{◌≡◌, ℕ, ◌==◌, not};
 ghost use types.Logic.{sem};
 ghost use base.Fml.{fex};
-ghost use Rattle.mi_commands.specs.Calls.{start_call, undo_call, squash_call, commit_call};
+ghost use Rattle.mi_commands.specs.Calls.{start_call, undo_call, squash_call, commit_call, undo_all_call, push_call};
 ghost use Rattle.mi_value.specs.declared.edit.Edit.TheVariants as edit;
 ghost use Rattle.mi_embed.specs.State.{EngineState};
 ghost use Rattle.mi_embed.specs.Typed as typed;
 ghost use Rattle.mi_embed.specs.Typed.{Tells, TellsJust};
 ghost use Rattle.mi_embed.specs.Shown.{got, TellsRow};
+ghost use Rattle.weltiyo.specs.Given.{given};
 ghost use Rattle.weltiyo.specs.Handle.{engine_at};
 
-use mi_embed::{Cell, Engine, Told};
+use crate::given::given;
+use mi_embed::{Cell, EditCell, Engine, Told};
 
 /// Adds a record, and tells its id.
 fn inserted(engine: &mut Engine, conn: u64, table: usize, cells: &[Cell], texts: &[u8]) -> Told
@@ -30,7 +32,8 @@ pub unsafe extern "C" fn weltiyo_insert(
 ) -> Told
     ghost engine: { EngineState }
     requires* { sem 𝓛 (engine_at at engine) }
-    ensures* { sem 𝓛 (fex EngineState (λ new. fex (Tells (λ n. n) (typed.insert_by engine.held conn table cells.now texts.now) result engine new) (λ _. engine_at at new))) }
+    ensures* { sem 𝓛 (fex EngineState (λ new. fex (Tells (λ n. n) (typed.insert_by engine.held conn table cells.now texts.now) result engine new)
+        (λ _. engine_at at new))) }
 {
     inserted(&mut *(at as *mut Engine), conn, table, cells, texts)
 }
@@ -119,7 +122,8 @@ pub unsafe extern "C" fn weltiyo_replace(
 ) -> Told
     ghost engine: { EngineState }
     requires* { sem 𝓛 (engine_at at engine) }
-    ensures* { sem 𝓛 (fex EngineState (λ new. fex (Tells (λ _. 0) (typed.replace_by engine.held conn table id cells.now texts.now) result engine new) (λ _. engine_at at new))) }
+    ensures* { sem 𝓛 (fex EngineState (λ new. fex (Tells (λ _. 0) (typed.replace_by engine.held conn table id cells.now texts.now) result engine new)
+        (λ _. engine_at at new))) }
 {
     replaced(&mut *(at as *mut Engine), conn, table, id, cells, texts)
 }
@@ -152,7 +156,8 @@ pub unsafe extern "C" fn weltiyo_modify_add(
 ) -> Told
     ghost engine: { EngineState }
     requires* { sem 𝓛 (engine_at at engine) }
-    ensures* { sem 𝓛 (fex EngineState (λ new. fex (Tells (λ _. 0) (typed.modify_by engine.held conn table id (edit.Add column n) (not (rollback == 0))) result engine new) (λ _. engine_at at new))) }
+    ensures* { sem 𝓛 (fex EngineState (λ new. fex (Tells (λ _. 0) (typed.modify_by engine.held conn table id (edit.Add column n) (not (rollback == 0)))
+        result engine new) (λ _. engine_at at new))) }
 {
     added(
         &mut *(at as *mut Engine),
@@ -214,4 +219,197 @@ pub unsafe extern "C" fn weltiyo_commit(at: *mut u8, conn: u64, number: u64) -> 
     ensures* { sem 𝓛 (fex EngineState (λ new. fex (TellsJust (commit_call engine.held conn number) result engine new) (λ _. engine_at at new))) }
 {
     committed(&mut *(at as *mut Engine), conn, number)
+}
+
+/// Adds a record directly before another in a sequenced index, and tells its id.
+fn inserted_before(
+    engine: &mut Engine,
+    conn: u64,
+    table: usize,
+    cells: &[Cell],
+    texts: &[u8],
+    index: usize,
+    before: u64,
+) -> Told
+    ensures { Tells (λ n. n) (typed.insert_before_by engine.old.held conn table cells.now texts.now index before) result engine.old engine.new }
+{
+    Told::of(engine.insert_before(conn, table, cells, texts, index, before))
+}
+
+/// Adds the record that cells are to a table, in a sequenced index directly before the record of an id, and tells its id.
+#[unsafe(no_mangle)]
+pub unsafe extern "C" fn weltiyo_insert_before(
+    at: *mut u8,
+    conn: u64,
+    table: usize,
+    cells: &[Cell],
+    texts: &[u8],
+    index: usize,
+    before: u64,
+) -> Told
+    ghost engine: { EngineState }
+    requires* { sem 𝓛 (engine_at at engine) }
+    ensures* { sem 𝓛 (fex EngineState (λ new. fex (Tells (λ n. n) (typed.insert_before_by engine.held conn table cells.now texts.now index before)
+        result engine new) (λ _. engine_at at new))) }
+{
+    inserted_before(
+        &mut *(at as *mut Engine),
+        conn,
+        table,
+        cells,
+        texts,
+        index,
+        before,
+    )
+}
+
+/// Changes columns of a record.
+fn modified(
+    engine: &mut Engine,
+    conn: u64,
+    table: usize,
+    id: u64,
+    edits: &[EditCell],
+    texts: &[u8],
+    rollback: u32,
+) -> Told
+    ensures { Tells (λ _. 0) (typed.modify_edits_by engine.old.held conn table id edits.now texts.now (not (rollback == 0))) result engine.old engine.new }
+{
+    Told::done(engine.modify(conn, table, id, edits, texts, rollback != 0))
+}
+
+/// Changes columns of a record, each by an edit of its own; `rollback` is 0 where a conflict erases the record, and any other number where it
+/// changes nothing.
+#[unsafe(no_mangle)]
+pub unsafe extern "C" fn weltiyo_modify(
+    at: *mut u8,
+    conn: u64,
+    table: usize,
+    id: u64,
+    edits: &[EditCell],
+    texts: &[u8],
+    rollback: u32,
+) -> Told
+    ghost engine: { EngineState }
+    requires* { sem 𝓛 (engine_at at engine) }
+    ensures* { sem 𝓛 (fex EngineState (λ new. fex (Tells (λ _. 0) (typed.modify_edits_by engine.held conn table id edits.now texts.now (not (rollback == 0)))
+        result engine new) (λ _. engine_at at new))) }
+{
+    modified(
+        &mut *(at as *mut Engine),
+        conn,
+        table,
+        id,
+        edits,
+        texts,
+        rollback,
+    )
+}
+
+/// Erases the records of a whole key, and tells how many.
+fn erased_by_key(
+    engine: &mut Engine,
+    conn: u64,
+    table: usize,
+    index: usize,
+    key: &[Cell],
+    texts: &[u8],
+) -> Told
+    ensures { Tells (λ n. n) (typed.erase_key_by engine.old.held conn table index key.now texts.now) result engine.old engine.new }
+{
+    Told::of(engine.erase_key(conn, table, index, key, texts))
+}
+
+/// Erases the records of a whole key, and tells how many.
+#[unsafe(no_mangle)]
+pub unsafe extern "C" fn weltiyo_erase_key(
+    at: *mut u8,
+    conn: u64,
+    table: usize,
+    index: usize,
+    key: &[Cell],
+    texts: &[u8],
+) -> Told
+    ghost engine: { EngineState }
+    requires* { sem 𝓛 (engine_at at engine) }
+    ensures* { sem 𝓛 (fex EngineState (λ new. fex (Tells (λ n. n) (typed.erase_key_by engine.held conn table index key.now texts.now) result engine new)
+        (λ _. engine_at at new))) }
+{
+    erased_by_key(&mut *(at as *mut Engine), conn, table, index, key, texts)
+}
+
+/// Moves a record in a sequenced index.
+fn relocated(
+    engine: &mut Engine,
+    conn: u64,
+    table: usize,
+    index: usize,
+    id: u64,
+    has_before: u32,
+    before: u64,
+) -> Told
+    ensures { Tells (λ _. 0) (typed.relocate_by engine.old.held conn table index id (given has_before before)) result engine.old engine.new }
+{
+    Told::done(engine.relocate(conn, table, index, id, given(has_before, before)))
+}
+
+/// Moves a record in a sequenced index directly before the record `before`, or where `has_before` is 0 to its end.
+#[unsafe(no_mangle)]
+pub unsafe extern "C" fn weltiyo_relocate(
+    at: *mut u8,
+    conn: u64,
+    table: usize,
+    index: usize,
+    id: u64,
+    has_before: u32,
+    before: u64,
+) -> Told
+    ghost engine: { EngineState }
+    requires* { sem 𝓛 (engine_at at engine) }
+    ensures* { sem 𝓛 (fex EngineState (λ new. fex (Tells (λ _. 0) (typed.relocate_by engine.held conn table index id (given has_before before))
+        result engine new) (λ _. engine_at at new))) }
+{
+    relocated(
+        &mut *(at as *mut Engine),
+        conn,
+        table,
+        index,
+        id,
+        has_before,
+        before,
+    )
+}
+
+/// Undoes every open session, and tells how many.
+fn all_undone(engine: &mut Engine, conn: u64) -> Told
+    ensures { TellsJust (undo_all_call engine.old.held conn) result engine.old engine.new }
+{
+    Told::of(engine.undo_all(conn))
+}
+
+/// Undoes every open session, and tells how many. It takes no memory.
+#[unsafe(no_mangle)]
+pub unsafe extern "C" fn weltiyo_undo_all(at: *mut u8, conn: u64) -> Told
+    ghost engine: { EngineState }
+    requires* { sem 𝓛 (engine_at at engine) }
+    ensures* { sem 𝓛 (fex EngineState (λ new. fex (TellsJust (undo_all_call engine.held conn) result engine new) (λ _. engine_at at new))) }
+{
+    all_undone(&mut *(at as *mut Engine), conn)
+}
+
+/// Lets go of the sessions of a connection, and tells how many.
+fn pushed(engine: &mut Engine, conn: u64) -> Told
+    ensures { TellsJust (push_call engine.old.held conn) result engine.old engine.new }
+{
+    Told::of(engine.push(conn))
+}
+
+/// Lets go of the sessions that the connection holds, which stay open, and tells how many. It takes no memory.
+#[unsafe(no_mangle)]
+pub unsafe extern "C" fn weltiyo_push(at: *mut u8, conn: u64) -> Told
+    ghost engine: { EngineState }
+    requires* { sem 𝓛 (engine_at at engine) }
+    ensures* { sem 𝓛 (fex EngineState (λ new. fex (TellsJust (push_call engine.held conn) result engine new) (λ _. engine_at at new))) }
+{
+    pushed(&mut *(at as *mut Engine), conn)
 }
