@@ -1,5 +1,5 @@
 -- A short line means its request, and each is found.
-use Rattle.std.proofs.Common.{◌≡◌, ℕ, ◌^◌, ◌<◌, ◌≤◌, ◌+◌, length, nat_le, subst, List, [], ◌∷◌, ◌++◌, true, ◌&&◌, Some, None, option_map, option_and_then}
+use Rattle.std.proofs.Common.{◌≡◌, ℕ, ◌^◌, ◌<◌, ◌≤◌, ◌+◌, length, nat_le, subst, List, [], ◌∷◌, ◌++◌, true, ◌&&◌, Option, Some, None, is_some, option_map, option_and_then}
 use Rattle.std.proofs.Common.{Result, Ok, Err, IsUtf8, codes, decimal, bytes_eq, nat_lt, get_or, refl, sym, ap, ◌∙◌, ◌⊎◌, inl, inr, arith, lt-ltb, ltb-true}
 use Rattle.std.proofs.lemmas.Option.{none-some, same_Some, cond_some}
 use Rattle.std.proofs.lemmas.Bool.{leb-true}
@@ -22,9 +22,10 @@ use Rattle.mi_value.specs.declared.refusal.Refusal.{Refusal}
 use Rattle.mi_request.specs.Commands.{look_up_named, step_named}
 use Rattle.mi_request.specs.Json.{has_only}
 use Rattle.mi_request.specs.Lines.{request_or_refusal, command_line}
-use Rattle.mi_request.specs.Short.{number_line, short_line, bare_line}
+use Rattle.mi_request.specs.Short.{number_line, short_line, bare_line, asked}
 use Rattle.mi_request.specs.declared.request.Request.{Request}
 use Rattle.mi_request.specs.declared.request.Request.TheVariants as request
+use Rattle.mi_request.specs.declared.short.Short.{Short}
 use Rattle.mi_request.proofs.ParsingLemmas.{json-found}
 
 -- ---- a command with a number
@@ -149,6 +150,11 @@ one_request q r line first second = ap (request_in q) (sym (short_means q line f
 -- the undo line is short
 pub undo_is_short : (line : List ℕ) → line ≡ codes "{\"cmd\":\"undo\"}" → short_line request.Undo ≡ Some line
 undo_is_short line is = ap Some (sym is)
+
+-- what is some by a map is some
+pub some_of : (o : Option Short) → is_some (option_map asked o) ≡ true → is_some o ≡ true
+some_of None is = is
+some_of (Some s) is = refl
 
 -- ---- how long they are
 

@@ -2,6 +2,8 @@
 use Rattle.std.specs.Prelude.{ℕ, ◌^◌, List, ◌++◌, nat_lt, if◌then◌else◌, Option, Some, None, codes, decimal, bytes_eq}
 use Rattle.mi_request.specs.declared.request.Request.{Request}
 use Rattle.mi_request.specs.declared.request.Request.TheVariants as request
+use Rattle.mi_request.specs.declared.short.Short.{Short}
+use Rattle.mi_request.specs.declared.short.Short.TheVariants as short
 
 -- a text that ends with a number from 0 to 2^63 - 1 and a brace
 abbrev pub number_line : List ℕ → ℕ → Option (List ℕ)
@@ -36,6 +38,19 @@ short_line (request.List table index after limit) = None
 short_line (request.Rank table index id) = None
 short_line (request.LowerRank table index key) = None
 short_line (request.UpperRank table index key) = None
+
+-- the request that a short line asks
+abbrev pub asked : Short → Request
+asked short.Start = request.Start
+asked short.Undo = request.Undo
+asked short.Squash = request.Squash
+asked (short.Commit revision) = request.Commit revision
+asked short.UndoAll = request.UndoAll
+asked short.Push = request.Push
+asked short.Revision = request.Revision
+asked (short.Get id) = request.Get None id
+asked (short.Erase id) = request.Erase None id
+asked short.Size = request.Size None
 
 -- the request without members that a line is
 abbrev pub bare_line : List ℕ → Option Request

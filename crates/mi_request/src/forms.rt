@@ -1,4 +1,5 @@
-//! The request that each command's members are. It knows the table of commands and no catalog.
+//! The request that each command's members are. It knows the table of commands and no catalog. Each form is a call of its own, so that
+//! no other form's fields are moved with its request.
 ghost use Rattle.std.specs.Prelude.{◌≡◌, ℕ, Bool, false, List, Option, option_map, codes};
 ghost use Rattle.serde_json.specs.Data.{Items};
 ghost use Rattle.serde_json.specs.Find.{as_bool};
@@ -31,6 +32,7 @@ struct KeyMembers<'a> {
 }
 
 /// Its members of the names `table`, `index` and `key`.
+#[inline(always)]
 fn key_members<'a>(object: &mut Object<'a>) -> Option<KeyMembers<'a>>
     ensures { (make : Option (List ℕ) → List ℕ → Items → Asked) → option_map (λ m. make m.table m.index m.key) result
         ≡ option_map₃ make (table_in object.old) (index_in object.old) (key_in object.old) }
@@ -51,6 +53,7 @@ struct RangeMembers<'a> {
 }
 
 /// Its members of the names `lower`, `upper`, `reverse` and `limit`.
+#[inline(always)]
 fn range_members<'a>(object: &mut Object<'a>) -> Option<RangeMembers<'a>>
     ensures { (make : EndSpec → EndSpec → Bool → ℕ → Asked) → option_map (λ m. make m.lower m.upper m.reverse m.limit) result
         ≡ option_map₄ make (default Open lower_end (codes "lower") object.old) (default Open upper_end (codes "upper") object.old)
@@ -71,6 +74,7 @@ fn range_members<'a>(object: &mut Object<'a>) -> Option<RangeMembers<'a>>
     })
 }
 
+#[inline(never)]
 fn insert_request<'a>(object: &mut Object<'a>) -> Option<Request<'a>>
     ensures { result ≡ (form_of name.Insert).request object.old }
 {
@@ -81,6 +85,7 @@ fn insert_request<'a>(object: &mut Object<'a>) -> Option<Request<'a>>
     Some(Request::Insert { table, row, before })
 }
 
+#[inline(never)]
 fn replace_request<'a>(object: &mut Object<'a>) -> Option<Request<'a>>
     ensures { result ≡ (form_of name.Replace).request object.old }
 {
@@ -90,6 +95,7 @@ fn replace_request<'a>(object: &mut Object<'a>) -> Option<Request<'a>>
     Some(Request::Replace { table, id, row })
 }
 
+#[inline(never)]
 fn modify_request<'a>(arena: &'a Bump, object: &mut Object<'a>) -> Option<Request<'a>>
     ensures { result ≡ (form_of name.Modify).request object.old }
 {
@@ -109,6 +115,7 @@ fn modify_request<'a>(arena: &'a Bump, object: &mut Object<'a>) -> Option<Reques
     })
 }
 
+#[inline(never)]
 fn erase_request<'a>(object: &Object<'a>) -> Option<Request<'a>>
     ensures { result ≡ (form_of name.Erase).request object.now }
 {
@@ -117,6 +124,7 @@ fn erase_request<'a>(object: &Object<'a>) -> Option<Request<'a>>
     Some(Request::Erase { table, id })
 }
 
+#[inline(never)]
 fn erase_key_request<'a>(object: &mut Object<'a>) -> Option<Request<'a>>
     ensures { result ≡ (form_of name.EraseKey).request object.old }
 {
@@ -124,6 +132,7 @@ fn erase_key_request<'a>(object: &mut Object<'a>) -> Option<Request<'a>>
     Some(Request::EraseKey { table, index, key })
 }
 
+#[inline(never)]
 fn relocate_request<'a>(object: &Object<'a>) -> Option<Request<'a>>
     ensures { result ≡ (form_of name.Relocate).request object.now }
 {
@@ -139,6 +148,7 @@ fn relocate_request<'a>(object: &Object<'a>) -> Option<Request<'a>>
     })
 }
 
+#[inline(never)]
 fn commit_request<'a>(object: &Object<'a>) -> Option<Request<'a>>
     ensures { result ≡ (form_of name.Commit).request object.now }
 {
@@ -146,6 +156,7 @@ fn commit_request<'a>(object: &Object<'a>) -> Option<Request<'a>>
     Some(Request::Commit { revision })
 }
 
+#[inline(never)]
 fn reserve_request<'a>(object: &Object<'a>) -> Option<Request<'a>>
     ensures { result ≡ (form_of name.Reserve).request object.now }
 {
@@ -154,6 +165,7 @@ fn reserve_request<'a>(object: &Object<'a>) -> Option<Request<'a>>
     Some(Request::Reserve { changes, sessions })
 }
 
+#[inline(never)]
 fn get_request<'a>(object: &Object<'a>) -> Option<Request<'a>>
     ensures { result ≡ (form_of name.Get).request object.now }
 {
@@ -162,6 +174,7 @@ fn get_request<'a>(object: &Object<'a>) -> Option<Request<'a>>
     Some(Request::Get { table, id })
 }
 
+#[inline(never)]
 fn find_request<'a>(object: &mut Object<'a>) -> Option<Request<'a>>
     ensures { result ≡ (form_of name.Find).request object.old }
 {
@@ -169,6 +182,7 @@ fn find_request<'a>(object: &mut Object<'a>) -> Option<Request<'a>>
     Some(Request::Find { table, index, key })
 }
 
+#[inline(never)]
 fn nth_request<'a>(object: &Object<'a>) -> Option<Request<'a>>
     ensures { result ≡ (form_of name.Nth).request object.now }
 {
@@ -178,6 +192,7 @@ fn nth_request<'a>(object: &Object<'a>) -> Option<Request<'a>>
     Some(Request::Nth { table, index, n })
 }
 
+#[inline(never)]
 fn count_request<'a>(object: &mut Object<'a>) -> Option<Request<'a>>
     ensures { result ≡ (form_of name.Count).request object.old }
 {
@@ -185,6 +200,7 @@ fn count_request<'a>(object: &mut Object<'a>) -> Option<Request<'a>>
     Some(Request::Count { table, index, key })
 }
 
+#[inline(never)]
 fn range_request<'a>(object: &mut Object<'a>) -> Option<Request<'a>>
     ensures { result ≡ (form_of name.Range).request object.old }
 {
@@ -206,6 +222,7 @@ fn range_request<'a>(object: &mut Object<'a>) -> Option<Request<'a>>
     })
 }
 
+#[inline(never)]
 fn list_request<'a>(object: &Object<'a>) -> Option<Request<'a>>
     ensures { result ≡ (form_of name.List).request object.now }
 {
@@ -221,6 +238,7 @@ fn list_request<'a>(object: &Object<'a>) -> Option<Request<'a>>
     })
 }
 
+#[inline(never)]
 fn rank_request<'a>(object: &Object<'a>) -> Option<Request<'a>>
     ensures { result ≡ (form_of name.Rank).request object.now }
 {
@@ -230,6 +248,7 @@ fn rank_request<'a>(object: &Object<'a>) -> Option<Request<'a>>
     Some(Request::Rank { table, index, id })
 }
 
+#[inline(never)]
 fn lower_rank_request<'a>(object: &mut Object<'a>) -> Option<Request<'a>>
     ensures { result ≡ (form_of name.LowerRank).request object.old }
 {
@@ -237,6 +256,7 @@ fn lower_rank_request<'a>(object: &mut Object<'a>) -> Option<Request<'a>>
     Some(Request::LowerRank { table, index, key })
 }
 
+#[inline(never)]
 fn upper_rank_request<'a>(object: &mut Object<'a>) -> Option<Request<'a>>
     ensures { result ≡ (form_of name.UpperRank).request object.old }
 {
@@ -244,6 +264,7 @@ fn upper_rank_request<'a>(object: &mut Object<'a>) -> Option<Request<'a>>
     Some(Request::UpperRank { table, index, key })
 }
 
+#[inline(never)]
 fn size_request<'a>(object: &Object<'a>) -> Option<Request<'a>>
     ensures { result ≡ (form_of name.Size).request object.now }
 {

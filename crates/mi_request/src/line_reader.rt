@@ -8,7 +8,7 @@ ghost use Rattle.mi_request.specs.declared.request.Request.TheVariants as reques
 
 use crate::insert::insert_line;
 use crate::request::{Request, request_of};
-use crate::short::short_request;
+use crate::short::short_of;
 use crate::tree::read_value;
 use bumpalo::Bump;
 use json::Scratch;
@@ -25,6 +25,20 @@ pub struct LineReader {
     alloc: Global,
     scratch: Scratch,
     arena: Bump,
+}
+
+/// The request that any line is, by the value that it is.
+#[inline(never)]
+fn read_any<'a>(
+    arena: &'a Bump,
+    scratch: &'a mut Scratch,
+    line: &'a [u8],
+) -> Result<Request<'a>, Refusal>
+    ensures answer { IsAnswer result (command_line line.now) }
+    ensures refusal { IfErr result NamesNoIndex }
+{
+    let value = read_value(arena, scratch, line)?;
+    request_of(arena, value).ok_or(Refusal::Form)
 }
 
 impl LineReader {
@@ -54,8 +68,7 @@ impl LineReader {
         if let Some(request) = insert_line(arena, line) {
             return Ok(request);
         }
-        let value = read_value(arena, &mut self.scratch, line)?;
-        request_of(arena, value).ok_or(Refusal::Form)
+        read_any(arena, &mut self.scratch, line)
     }
 
     /// The request that a line, without its newline, is. Its names and values are borrowed from the line and from this reader.
@@ -67,8 +80,8 @@ impl LineReader {
         ensures undo { line.now ≡ codes "{\"cmd\":\"undo\"}" → result ≡ Ok request.Undo }
         ensures short { (r : Asked) → short_line r ≡ Some line.now → result ≡ Ok r }
     {
-        match short_request(line) {
-            Some(request) => Ok(request),
+        match short_of(line) {
+            Some(short) => Ok(short.request()),
             None => self.read(line),
         }
     }

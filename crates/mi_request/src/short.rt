@@ -1,6 +1,6 @@
 //! Lines without a text for the database, read where they stand as they are written without spaces. It takes no memory.
-ghost use Rattle.std.specs.Prelude.{◌≡◌, ◌<◌, ◌^◌, ◌&&◌, nat_lt, IfSome, IsSome, Some, bytes_eq, codes, decimal, ℕ};
-ghost use Rattle.mi_request.specs.Short.{number_line, short_line, bare_line};
+ghost use Rattle.std.specs.Prelude.{◌≡◌, ◌<◌, ◌^◌, ◌&&◌, nat_lt, IfSome, IsSome, Some, bytes_eq, codes, decimal, option_map, ℕ};
+ghost use Rattle.mi_request.specs.Short.{number_line, short_line, bare_line, asked};
 ghost use Rattle.mi_request.specs.declared.request.Request.{Request as Asked};
 
 use crate::request::Request;
@@ -12,6 +12,42 @@ const LONGEST: usize = 47;
 
 /// Where the third letter of the command's name stands in a short line.
 const LETTER_AT: usize = 10;
+
+/// What a short line asks: a request without a text, and its number.
+#[derive(Clone, Copy)]
+pub(crate) enum Short {
+    Start,
+    Undo,
+    Squash,
+    Commit(u64),
+    UndoAll,
+    Push,
+    Revision,
+    Get(u64),
+    Erase(u64),
+    Size,
+}
+
+impl Short {
+    /// The request that it asks.
+    #[inline(always)]
+    pub(crate) fn request<'a>(self) -> Request<'a>
+        ensures { result ≡ asked self }
+    {
+        match self {
+            Short::Start => Request::Start,
+            Short::Undo => Request::Undo,
+            Short::Squash => Request::Squash,
+            Short::Commit(revision) => Request::Commit { revision },
+            Short::UndoAll => Request::UndoAll,
+            Short::Push => Request::Push,
+            Short::Revision => Request::Revision,
+            Short::Get(id) => Request::Get { table: None, id },
+            Short::Erase(id) => Request::Erase { table: None, id },
+            Short::Size => Request::Size { table: None },
+        }
+    }
+}
 
 /// Whether a text is how a number up to 2^63 - 1 is written.
 fn is_natural(n: u64, text: &[u8]) -> bool
@@ -47,45 +83,48 @@ fn is_text(line: &[u8], text: &[u8]) -> bool
     line == text
 }
 
-/// The request without members that a line is.
-fn bare_request<'a>(line: &[u8]) -> Option<Request<'a>>
-    ensures value { result ≡ bare_line line.now }
+/// The short line without members that a line is.
+#[inline(always)]
+fn bare_of(line: &[u8]) -> Option<Short>
+    ensures value { option_map asked result ≡ bare_line line.now }
 {
     if is_text(line, b"{\"cmd\":\"undo\"}") {
-        Some(Request::Undo)
+        Some(Short::Undo)
     } else if is_text(line, b"{\"cmd\":\"start\"}") {
-        Some(Request::Start)
+        Some(Short::Start)
     } else if is_text(line, b"{\"cmd\":\"squash\"}") {
-        Some(Request::Squash)
+        Some(Short::Squash)
     } else if is_text(line, b"{\"cmd\":\"undo_all\"}") {
-        Some(Request::UndoAll)
+        Some(Short::UndoAll)
     } else if is_text(line, b"{\"cmd\":\"push\"}") {
-        Some(Request::Push)
+        Some(Short::Push)
     } else if is_text(line, b"{\"cmd\":\"revision\"}") {
-        Some(Request::Revision)
+        Some(Short::Revision)
     } else if is_text(line, b"{\"cmd\":\"size\"}") {
-        Some(Request::Size { table: None })
+        Some(Short::Size)
     } else {
         None
     }
 }
 
-/// The request with the id of a record to be erased that a line is, or the one without members.
-fn erase_or_bare<'a>(line: &[u8]) -> Option<Request<'a>>
-    ensures value { IfSome result (λ r. short_line r ≡ Some line.now) }
+/// The short line with the id of a record to be erased that a line is, or the one without members.
+#[inline(always)]
+fn erase_or_bare(line: &[u8]) -> Option<Short>
+    ensures value { IfSome result (λ s. short_line (asked s) ≡ Some line.now) }
     ensures erase { (n : ℕ) → number_line (codes "{\"cmd\":\"erase\",\"id\":") n ≡ Some line.now → IsSome result }
     ensures bare { IsSome (bare_line line.now) → IsSome result }
 {
     if let Some(id) = number_behind(b"{\"cmd\":\"erase\",\"id\":".as_slice(), line) {
-        return Some(Request::Erase { table: None, id });
+        return Some(Short::Erase(id));
     }
-    bare_request(line)
+    bare_of(line)
 }
 
-/// The request that a line is, where it is written as `short_line` writes it. The third letter of the command's name tells which lines
+/// The short line that a line is, where it is written as `short_line` writes it. The third letter of the command's name tells which
 /// it can be.
-pub(crate) fn short_request<'a>(line: &[u8]) -> Option<Request<'a>>
-    ensures value { IfSome result (λ r. short_line r ≡ Some line.now) }
+#[inline(always)]
+pub(crate) fn short_of(line: &[u8]) -> Option<Short>
+    ensures value { IfSome result (λ s. short_line (asked s) ≡ Some line.now) }
     ensures whole { (r : Asked) → short_line r ≡ Some line.now → IsSome result }
 {
     if line.len() > LONGEST || line.len() <= LETTER_AT {
@@ -94,13 +133,13 @@ pub(crate) fn short_request<'a>(line: &[u8]) -> Option<Request<'a>>
     match line[LETTER_AT] {
         b't' => {
             let id = number_behind(b"{\"cmd\":\"get\",\"id\":".as_slice(), line)?;
-            Some(Request::Get { table: None, id })
+            Some(Short::Get(id))
         }
         b'm' => {
             let revision = number_behind(b"{\"cmd\":\"commit\",\"revision\":".as_slice(), line)?;
-            Some(Request::Commit { revision })
+            Some(Short::Commit(revision))
         }
         b'a' => erase_or_bare(line),
-        _ => bare_request(line),
+        _ => bare_of(line),
     }
 }

@@ -1,6 +1,6 @@
 -- The request of the value that the line is, or the refusal.
 use Rattle.mi_request.proofs.ParsingLemmas.{answer-value}
-use Rattle.mi_request.proofs.line_reader.LineReader.read.Goals as goal
+use Rattle.mi_request.proofs.line_reader.read_any.Goals as goal
 
 pub returns-clause-answer : goal.returns-clause-answer
 returns-clause-answer c =

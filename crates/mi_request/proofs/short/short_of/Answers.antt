@@ -1,9 +1,9 @@
 -- A line that is longer or shorter than every short line is none, and one with another third letter than the numbered lines have is one
 -- without members, if any.
 use Rattle.std.proofs.Common.{arith, is_some, ap, ◌∙◌, inl, inr}
-use Rattle.mi_request.proofs.ShortLemmas.{short_length, told}
-use Rattle.mi_request.proofs.short.short_request.Goals as goal
-use Rattle.mi_request.proofs.short.short_request.Goals.{then-line-gt-LONGEST-via-then-line-gt-LONGEST, then-line-gt-LONGEST-via-else-line-gt-LONGEST+then-line-le-LETTER_AT}
+use Rattle.mi_request.proofs.ShortLemmas.{short_length, told, some_of}
+use Rattle.mi_request.proofs.short.short_of.Goals as goal
+use Rattle.mi_request.proofs.short.short_of.Goals.{then-line-gt-LONGEST-via-then-line-gt-LONGEST, then-line-gt-LONGEST-via-else-line-gt-LONGEST+then-line-le-LETTER_AT}
 
 pub returns-then-line-gt-LONGEST-clause-whole : goal.returns-then-line-gt-LONGEST-clause-whole
 returns-then-line-gt-LONGEST-clause-whole c r is =
@@ -20,5 +20,5 @@ returns-in_default-clause-whole c r is =
       | inl get ↦ absurd (other.0.0.1 get)
       | inr (inl commit) ↦ absurd (other.0.1 commit)
       | inr (inr (inl erase)) ↦ absurd (other.1 erase)
-      | inr (inr (inr bare)) ↦ ap is_some (c.bare_request.ensures.value ∙ bare)
+      | inr (inr (inr bare)) ↦ some_of c.bare_of.result (ap is_some (c.bare_of.ensures.value ∙ bare))
     ]
