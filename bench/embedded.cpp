@@ -1,9 +1,9 @@
-// The library's calls beside Boost.MultiIndex's own and SQLite's prepared statements, in one process each: embedded SYSTEM LOOP ROWS CALLS
-// SCHEMA.
+// The library's calls beside Boost.MultiIndex's own and SQLite's prepared statements, in one process each: embedded SYSTEM LOOP[,LOOP..] ROWS
+// CALLS SCHEMA.
 //
 // SYSTEM is ours, lines, boost or sqlite: `ours` makes the calls with values, `lines` asks lines of JSON. The table of `accounts.toml` is filled
-// with ROWS rows, and then LOOP is called CALLS times; all systems draw the same numbers. It prints the nanoseconds of the processor that a call
-// took, and a sum of what was seen, which is the same for all. LOOP is one of
+// with ROWS rows, and then each LOOP is called CALLS times; all systems draw the same numbers. Of each loop it prints the nanoseconds of the
+// processor that a call took, and a sum of what was seen, which is the same for all. A LOOP is one of
 //     insert       adds a row
 //     get          the balance of a row by its id
 //     find         the balance of a row by its owner, in a hashed index
@@ -22,6 +22,7 @@
 #include <fstream>
 #include <iterator>
 #include <memory>
+#include <sstream>
 #include <string>
 
 #include <sqlite3.h>
@@ -487,16 +488,19 @@ extern "C" __attribute__((noinline)) std::int64_t measured(System &system, const
 
 int main(int count, char **words) {
     if (count != 6)
-        stop("embedded SYSTEM LOOP ROWS CALLS SCHEMA");
+        stop("embedded SYSTEM LOOP[,LOOP..] ROWS CALLS SCHEMA");
     const std::int64_t rows = std::atoll(words[3]), calls = std::atoll(words[4]);
     const auto system = made(words[1], words[5]);
     Random random;
     fill(*system, 0, rows, random);
-    const double began = on_processor();
-    std::int64_t sum = measured(*system, words[2], rows, calls);
-    const double took = (on_processor() - began) / static_cast<double>(calls);
-    for (std::int64_t id = 0; id < rows; id += rows / 100 + 1)
-        sum = sum * 31 + system->balance(id);
-    std::printf("%.1f %lld\n", took, static_cast<long long>(sum));
+    std::istringstream loops(words[2]);
+    for (std::string loop; std::getline(loops, loop, ',');) {
+        const double began = on_processor();
+        std::int64_t sum = measured(*system, loop.c_str(), rows, calls);
+        const double took = (on_processor() - began) / static_cast<double>(calls);
+        for (std::int64_t id = 0; id < rows; id += rows / 100 + 1)
+            sum = sum * 31 + system->balance(id);
+        std::printf("%.1f %lld\n", took, static_cast<long long>(sum));
+    }
     return 0;
 }

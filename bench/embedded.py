@@ -41,35 +41,38 @@ def compiled(made, folder):
     return to
 
 
-def timed(program, system, loop, rows, calls):
-    """Nanoseconds a call, and the sum of what was seen."""
-    ran = subprocess.run([program, system, loop, str(rows), str(calls), SCHEMA], capture_output=True, text=True, timeout=LONGEST_RUN, check=True)
-    took, seen = ran.stdout.split()
-    return float(took), int(seen)
-
-
-def counted(program, system, loop, rows, calls):
-    """Instructions a call in the loop, and the sum of what was seen."""
-    words = ["valgrind", "--tool=callgrind", "--callgrind-out-file=/dev/null", "--collect-atstart=no", "--toggle-collect=measured"]
+def timed(program, system, loops, rows, calls):
+    """Of each loop the nanoseconds a call, and the sum of what was seen: one process makes all loops over one table."""
     ran = subprocess.run(
-        [*words, program, system, loop, str(rows), str(calls), SCHEMA], capture_output=True, text=True, timeout=LONGEST_RUN, check=True)
-    said = re.search(r"Collected : (\d+)", ran.stderr)
-    return int(said.group(1)) / calls, int(ran.stdout.split()[1])
+        [program, system, ",".join(loops), str(rows), str(calls), SCHEMA], capture_output=True, text=True, timeout=LONGEST_RUN, check=True)
+    return [(float(took), int(seen)) for took, seen in map(str.split, ran.stdout.splitlines())]
 
 
-def measured(program, options, rows, loop):
-    """The least figure of each system."""
+def counted(program, system, loops, rows, calls):
+    """Of each loop the instructions a call, and the sum of what was seen: each loop in a process of its own."""
+    words = ["valgrind", "--tool=callgrind", "--callgrind-out-file=/dev/null", "--collect-atstart=no", "--toggle-collect=measured"]
+    figures = []
+    for loop in loops:
+        ran = subprocess.run(
+            [*words, program, system, loop, str(rows), str(calls), SCHEMA], capture_output=True, text=True, timeout=LONGEST_RUN, check=True)
+        said = re.search(r"Collected : (\d+)", ran.stderr)
+        figures.append((int(said.group(1)) / calls, int(ran.stdout.split()[1])))
+    return figures
+
+
+def measured(program, options, rows, loops):
+    """Of each loop the least figure of each system."""
     measure = counted if options.instructions else timed
-    least, sums = {}, set()
+    least, sums = {it: {} for it in loops}, {it: set() for it in loops}
     for _ in range(1 if options.instructions else options.rounds):
         for system in SYSTEMS:
-            if system == "boost" and loop == "sessions":
-                continue  # (nothing is done there)
-            figure, seen = measure(program, system, loop, rows, options.calls)
-            least[system] = min(figure, least.get(system, figure))
-            sums.add(seen)
-    if len(sums) != 1:
-        sys.exit(f"embedded.py: {loop} at {rows} rows: not all saw the same: {sums}")
+            made = [it for it in loops if (system, it) != ("boost", "sessions")]  # (nothing is done there)
+            for loop, (figure, seen) in zip(made, measure(program, system, made, rows, options.calls)):
+                least[loop][system] = min(figure, least[loop].get(system, figure))
+                sums[loop].add(seen)
+    for loop in loops:
+        if len(sums[loop]) != 1:
+            sys.exit(f"embedded.py: {loop} at {rows} rows: not all saw the same: {sums[loop]}")
     return least
 
 
@@ -96,8 +99,7 @@ def main():
     with tempfile.TemporaryDirectory(prefix="embedded-bench-") as folder:
         program = compiled(made, folder)
         for rows in map(int, options.rows.split(",")):
-            for loop in options.loops.split(","):
-                least = measured(program, options, rows, loop)
+            for loop, least in measured(program, options, rows, options.loops.split(",")).items():
                 found.append({"rows": rows, "loop": loop, "unit": unit, **least})
                 ratio = f"{least['ours'] / least['boost']:.2f}" if "boost" in least else "-"
                 print(f"| {rows:,} | {NAMES[loop]} | " + " | ".join(f"{least[it]:,.0f}" if it in least else "-" for it in SYSTEMS) + f" | {ratio} |", flush=True)
