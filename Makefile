@@ -107,7 +107,7 @@ install:
 	@if $(PYTHON) scripts/program.py fresh mi_service; then install -m 755 crates/mi_service/out/mi_service '$(ROOT)/bin/'; fi
 	@install -m 755 scripts/installed/weltiyo scripts/installed/weltiyo-lint '$(ROOT)/bin/'
 	@install -m 644 docs/man/*.1 '$(ROOT)/share/man/man1/'
-	@for it in mi_server weltiyo weltiyo-lint; do \
+	@for it in mi_server mi_service weltiyo weltiyo-lint; do \
 		install -m 644 scripts/completion/weltiyo.bash "$(ROOT)/share/bash-completion/completions/$$it"; done
 	@install -m 644 scripts/completion/_weltiyo '$(ROOT)/share/zsh/site-functions/'
 	@install -m 644 $(wildcard *.md) '$(SHARE)/'

@@ -1,4 +1,4 @@
-# Completion by bash of the options of mi_server, weltiyo and weltiyo-lint, and of weltiyo's tools.
+# Completion by bash of the options of mi_server, mi_service, weltiyo and weltiyo-lint, and of weltiyo's tools.
 
 _weltiyo_files() {
     local IFS=$'\n'
@@ -27,13 +27,15 @@ _weltiyo() {
     COMPREPLY=()
     case $before in
         --schema) _weltiyo_files "$word" .toml; return ;;
-        --program | --run | --dump | --file | --svg | --load) _weltiyo_files "$word"; return ;;
+        --program | --run | --dump | --file | --svg | --load | --journal) _weltiyo_files "$word"; return ;;
         --listen | --connect) COMPREPLY=($(compgen -W '8000' -- "$word")); return ;;
         --clients) COMPREPLY=($(compgen -W '1 2 4 8 16 32 64' -- "$word")); return ;;
         --format) COMPREPLY=($(compgen -W 'csv jsonl' -- "$word")); return ;;
+        --sync) COMPREPLY=($(compgen -W 'always turn never' -- "$word")); return ;;
     esac
     case ${1##*/} in
         mi_server) options='--schema --check --listen --clients --help' ;;
+        mi_service) options='--schema --listen --journal --sync --help' ;;
         weltiyo-lint)
             options='--program --help'
             [[ $word == -* ]] || { _weltiyo_files "$word" .toml; return; } ;;
@@ -46,4 +48,4 @@ _weltiyo() {
     COMPREPLY=($(compgen -W "$options" -- "$word"))
 }
 
-complete -F _weltiyo mi_server weltiyo weltiyo-lint
+complete -F _weltiyo mi_server mi_service weltiyo weltiyo-lint

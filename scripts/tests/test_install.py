@@ -14,7 +14,7 @@ sys.path.insert(0, f"{TOP}/scripts")
 import program  # noqa: E402
 
 LINK = re.compile(r"\]\(([^)#:]+)(?:#[^)]*)?\)")
-COMMANDS = ("mi_server", "weltiyo", "weltiyo-lint")
+COMMANDS = ("mi_server", "mi_service", "weltiyo", "weltiyo-lint")
 
 
 class Installed(unittest.TestCase):
@@ -69,6 +69,17 @@ class Installed(unittest.TestCase):
         self.assertTrue(listed)
         self.assertEqual({it for it in listed if it not in page}, set())
 
+    def test_the_service_s_options_are_everywhere(self):
+        """Its page, and both completions, by the options that its words are read by."""
+        with open(f"{TOP}/crates/mi_serving/src/words.rt", encoding="utf-8") as file:
+            listed = {f"--{it}" for it in re.findall(r'arg\(option\(\s*alloc,\s*"(\w+)"', file.read())} | {"--help"}
+        self.assertEqual(len(listed), 5)
+        with open(f"{self.root}/share/man/man1/mi_service.1", encoding="utf-8") as page, \
+                open(f"{self.root}/share/zsh/site-functions/_weltiyo", encoding="utf-8") as by_zsh:
+            for text in (page.read().replace("\\-", "-"), by_zsh.read()):
+                self.assertEqual({it for it in listed if it not in text}, set())
+        self.assertEqual(set(self.completed("mi_service", "-")), listed)
+
     def completed(self, *words):
         """What bash offers for the last of these words."""
         text = 'source "$1"; shift; COMP_WORDS=("$@"); COMP_CWORD=$(($# - 1)); _weltiyo "$1"; printf "%s\\n" "${COMPREPLY[@]}"'
@@ -81,6 +92,8 @@ class Installed(unittest.TestCase):
         self.assertEqual(self.completed("mi_server", "--li"), ["--listen"])
         examples = f"{self.root}/share/weltiyo/examples"
         self.assertEqual(self.completed("/usr/bin/mi_server", "--schema", f"{examples}/sh"), [f"{examples}/shop.toml"])
+        self.assertEqual(self.completed("mi_service", "--j"), ["--journal"])
+        self.assertEqual(self.completed("mi_service", "--sync", "t"), ["turn"])
         self.assertEqual(self.completed("weltiyo-lint", f"{examples}/a"), [f"{examples}/accounts.toml"])
         self.assertEqual(self.completed("weltiyo", "--c"), ["--connect"])
         self.assertEqual(self.completed("weltiyo", "m"), ["metrics"])
@@ -103,8 +116,8 @@ class Installed(unittest.TestCase):
         """It can be read, and stands for each program."""
         file = f"{self.root}/share/zsh/site-functions/_weltiyo"
         self.assertEqual(self.ran("zsh", "-n", file).returncode, 0)
-        text = f'fpath=({self.root}/share/zsh/site-functions $fpath); autoload -Uz compinit; compinit -u -D; print -l $_comps[mi_server] $_comps[weltiyo-lint]'
-        self.assertEqual(self.ran("zsh", "-f", "-c", text).stdout.split(), ["_weltiyo", "_weltiyo"])
+        text = f'fpath=({self.root}/share/zsh/site-functions $fpath); autoload -Uz compinit; compinit -u -D; print -l $_comps[mi_server] $_comps[mi_service] $_comps[weltiyo-lint]'
+        self.assertEqual(self.ran("zsh", "-f", "-c", text).stdout.split(), ["_weltiyo"] * 3)
 
 
 if __name__ == "__main__":
