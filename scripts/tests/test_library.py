@@ -23,6 +23,8 @@ PASSED = {
     "&mut *mut u8": ["weltiyo_db **"],
     "&[Cell]": ["const weltiyo_value *", "size_t"],
     "&mut [Cell]": ["weltiyo_value *", "size_t"],
+    "&[EditCell]": ["const weltiyo_edit *", "size_t"],
+    "&mut [u64]": ["uint64_t *", "size_t"],
     "i64": ["int64_t"],
     "Told": ["weltiyo_told"],
 }
@@ -40,7 +42,8 @@ def read(path):
 def exports():
     """Each export: its parameters and its result as C passes them."""
     found = {}
-    for name, parameters, result in EXPORT.findall(read("crates/weltiyo/src/lib.rt") + read("crates/weltiyo/src/typed.rt")):
+    sources = sorted(os.listdir(f"{TOP}/crates/weltiyo/src"))
+    for name, parameters, result in EXPORT.findall("".join(read(f"crates/weltiyo/src/{it}") for it in sources)):
         kinds = [it.partition(":")[2].strip() for it in parameters.split(",") if it.strip()]
         found[name] = (PASSED[result][0] if result else "void", [it for kind in kinds for it in PASSED[kind]])
     return found
@@ -55,7 +58,7 @@ def prototypes():
 
 class Agree(unittest.TestCase):
     def test_the_header_has_the_exports(self):
-        self.assertEqual(len(exports()), 15)
+        self.assertEqual(len(exports()), 30)
         self.assertEqual(prototypes(), exports())
 
     def test_the_map_has_the_exports(self):
