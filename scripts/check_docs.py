@@ -218,7 +218,7 @@ class Documents:
         with open(file, encoding="utf-8") as it:
             text = it.read()
         named = set(re.findall(r"`((?:docs|examples|scripts|clients|\.ci)/[\w./-]+)`", text))
-        named |= {os.path.relpath(os.path.normpath(f"{os.path.dirname(file)}/{it}"), TOP) for it in re.findall(r"\]\(([^)#:]+)(?:#[^)]*)?\)", text)}
+        named |= {os.path.relpath(os.path.normpath(f"{os.path.dirname(os.path.abspath(file))}/{it}"), TOP) for it in re.findall(r"\]\(([^)#:]+)(?:#[^)]*)?\)", text)}
         lacking = sorted(it for it in named if not os.path.exists(f"{TOP}/{it}"))
         if lacking:
             raise Differs(f"names what isn't there: {', '.join(lacking)}")
