@@ -1,12 +1,15 @@
 #!/usr/bin/env python3
 """Random lines to the program and to `reference.py`, whose replies must be the same bytes.
 
-    fuzz.py [--seed N] [--lines N] [--damaged SHARE] [--program FILE]
+    fuzz.py [--seed N] [--lines N] [--damaged SHARE] [--campaign] [--program FILE]
 
 A case is a random schema with some 200 lines: mostly commands that mean something, and a share that is damaged by one thing: a byte, a member, a
 value or its type, a length, an order, brackets, escapes, numbers at the limits, bytes that are no UTF-8. Each case goes through
 standard input in one piece; each third one goes through two to four loopback connections, in pieces cut inside of lines. The same seed
-gives the same cases. Where a reply differs, the case is left below out/fuzz/."""
+gives the same cases. Where a reply differs, the case is left below out/fuzz/.
+
+With --campaign a case has a thousand lines and goes one way alone: of ten cases two go over connections, one has fifty sessions and more open
+at each line but the first ones, and one has tables of fifteen indexes."""
 import argparse
 import collections
 import json
@@ -22,6 +25,9 @@ import program
 from reference import KINDS, LAST, LONGEST_LINE, Index, Reference, Schema
 
 CASE_LINES = 200
+CAMPAIGN_LINES = 1000
+DEEP = 50
+MOST_INDEXES = 15
 PIECE = 4096
 FOLDER = f"{program.TOP}/out/fuzz/{os.getpid()}"
 """Of this run alone, so that several may run at once."""
@@ -95,11 +101,11 @@ class Lines:
         self.numbers = self.random.sample(NUMBERS, min(size, len(NUMBERS)))
         self.inserts = collections.Counter()
 
-    def schema(self, n):
+    def schema(self, n, is_wide=False):
         pick = self.random
         columns = [(f"c{i}", pick.choice(["int", "text", "flag"])) for i in range(pick.randint(1, 5))]
         indexes, often_unique = [], pick.choice([0, 0.1, 0.3])
-        for i in range(pick.randint(0, 6)):
+        for i in range(MOST_INDEXES if is_wide else pick.randint(0, 6)):
             kind = pick.choice(["ordered", "ranked", "hashed", "sequenced"])
             parts = pick.sample(range(len(columns)), pick.randint(1, min(3, len(columns))))
             parts = [(it, kind != "hashed" and pick.random() < 0.4) for it in parts]
@@ -117,11 +123,11 @@ class Lines:
             first_arrival=LAST - pick.randint(0, 40) if pick.random() < 0.1 else 0,
         )
 
-    def catalog(self):
-        if self.random.random() < 0.3:
+    def catalog(self, is_wide=False):
+        if self.random.random() < 0.3 and not is_wide:
             return [ACCOUNTS], 0
         first_revision = LAST - self.random.randint(0, 5) if self.random.random() < 0.1 else self.random.choice([0, 0, 7])
-        return [self.schema(n) for n in range(self.random.choice([1, 1, 2, 3]))], first_revision
+        return [self.schema(n, is_wide) for n in range(self.random.choice([1, 1, 2, 3]))], first_revision
 
     def value(self, kind):
         if kind == "int":
@@ -286,6 +292,18 @@ class Lines:
         return json.dumps(replaced(said, pick)).replace('"@"', odd).encode()
 
 
+def deep_lines(made, schemas, count):
+    """Lines of which most are asked with fifty sessions and more open, and how many are."""
+    reference, lines, deep = Reference(schemas), [], 0
+    while len(lines) < count:
+        is_deep = len(reference.old) >= DEEP
+        line = made.line(schemas) if is_deep or made.random.random() < 0.4 else b'{"cmd":"start"}'
+        lines.append(line)
+        deep += is_deep
+        reference.feed(1, line + b"\n")
+    return lines, deep
+
+
 def replaced(said, pick):
     """The object with one value, at any depth, replaced by "@"."""
     if isinstance(said, dict) and said:
@@ -406,30 +424,60 @@ def by_turns(reference, streams, lines, pick):
     return None
 
 
+def case_of(options, case, count):
+    """How a case differs, if it does, the file that has it then, and of which kinds its lines are."""
+    made = Lines(f"{options.seed}/{case}", options.damaged)
+    catalog, kinds = made.catalog(), collections.Counter()
+    lines = [made.line(catalog[0]) for _ in range(count)]
+    differs = over_pipes(options.program, catalog, lines)
+    if not differs and case % 3 == 0:
+        kinds["over connections too"] = count
+        return over_loopback(options.program, catalog, lines, made.random), "turns.txt", kinds
+    return differs, "lines.txt", kinds
+
+
+def campaign_case_of(options, case, count):
+    """The same of a case of a campaign."""
+    made = Lines(f"{options.seed}/{case}", options.damaged)
+    kinds = collections.Counter()
+    if case % 10 == 1:
+        schemas = made.catalog()[0]
+        lines, kinds[f"with {DEEP} sessions open or more"] = deep_lines(made, schemas, count)
+        return over_pipes(options.program, (schemas, 0), lines), "lines.txt", kinds
+    catalog = made.catalog(case % 10 == 2)
+    lines = [made.line(catalog[0]) for _ in range(count)]
+    if case % 10 in (0, 5):
+        kinds["over connections"] = count
+        return over_loopback(options.program, catalog, lines, made.random), "turns.txt", kinds
+    if case % 10 == 2:
+        kinds[f"on tables of {MOST_INDEXES} indexes"] = count
+    return over_pipes(options.program, catalog, lines), "lines.txt", kinds
+
+
 def main():
     parser = argparse.ArgumentParser()
     parser.add_argument("--seed", type=int, default=1)
     parser.add_argument("--lines", type=int, default=2000)
     parser.add_argument("--damaged", type=float, default=0.07, help="the share of lines that are damaged")
+    parser.add_argument("--campaign", action="store_true")
     parser.add_argument("--program")
     options = parser.parse_args()
-    path = options.program or program.program()
+    options.program = options.program or program.program()
     os.makedirs(FOLDER, exist_ok=True)
-    began, asked, case = time.monotonic(), 0, 0
+    began, asked, case, kinds = time.monotonic(), 0, 0, collections.Counter()
+    ask, most = (campaign_case_of, CAMPAIGN_LINES) if options.campaign else (case_of, CASE_LINES)
     while asked < options.lines:
-        made = Lines(f"{options.seed}/{case}", options.damaged)
-        catalog, count = made.catalog(), min(CASE_LINES, options.lines - asked)
-        lines = [made.line(catalog[0]) for _ in range(count)]
-        differs = over_pipes(path, catalog, lines)
-        where = "lines.txt"
-        if not differs and case % 3 == 0:
-            differs, where = over_loopback(path, catalog, lines, made.random), "turns.txt"
+        count = min(most, options.lines - asked)
+        differs, where, of_kinds = ask(options, case, count)
         if differs:
             sys.exit(f"seed {options.seed}, case {case}: {differs}\nthe case is in {os.path.relpath(FOLDER)}: schema.toml, {where}")
         asked, case = asked + count, case + 1
+        kinds.update(of_kinds)
     seconds = time.monotonic() - began
     shutil.rmtree(FOLDER)
-    print(f"{asked} lines in {case} cases of seed {options.seed}: {program.title(path)} and the reference wrote the same bytes ({seconds:.0f} s)")
+    title = program.title(options.program)
+    print(f"{asked} lines in {case} cases of seed {options.seed}: {title} and the reference wrote the same bytes ({seconds:.0f} s)")
+    print(f"a share of {options.damaged} of them is damaged; " + ", ".join(f"{it} {n}" for it, n in sorted(kinds.items())))
 
 
 if __name__ == "__main__":

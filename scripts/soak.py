@@ -2,7 +2,7 @@
 """Bounded runs over loopback.
 
     soak.py [--part lines|readers|moves] [--clients K] [--lines N] [--seconds N] [--seed N] [--program FILE]
-    soak.py --part service [--seconds N] [--seed N] [--program FILE] [--plot FILE.svg]
+    soak.py --part service [--seconds N] [--share PART] [--seed N] [--program FILE] [--plot FILE.svg]
 
 Without --part the first three run, one behind another. `lines` and `readers` stand in `load.py`: in the first K clients ask N lines each in random
 pieces, with sessions that are pushed and clients that break off; in the second one client reads slowly, one breaks off in the middle of a page
@@ -14,9 +14,10 @@ fail and some it pushes or leaves to the end of its connection. The sum of all b
 server's memory is looked at: once the tables have their size it must not grow with the number of commands.
 
 `service` uses `mi_service`, with a journal, for some seconds (`lasting.py`): 61 places are taken by clients that come and go, half of them
-silent, and three clients stay, whose waits are measured. Every ten seconds a row is printed: connections and lines since the last one, memory,
-and the waits by their shares; --plot draws the memory and the waits. The memory must not grow, and a service that is killed and started again
-must have the same tables."""
+silent, and three clients stay, whose waits are measured. Those that come and go are at work for --share of each tenth of a second, all of it if
+left out. Every ten seconds a row is printed: connections and lines since the last one, memory, and the waits by their shares; --plot draws the
+memory and the waits. The memory must not grow, in a long run by no more than a twentieth from the tenth minute on, and a service that is killed
+and started again must have the same tables."""
 import argparse
 import random
 import sys
@@ -176,7 +177,7 @@ def serve(options):
     path = service.needed(options.program)
     print(f"with {program.title(path)}:", flush=True)
     with tempfile.TemporaryDirectory(prefix="soak-") as folder:
-        said, rows = lasting.last(path, folder, options.seconds, options.seed, min(10.0, options.seconds / 3))
+        said, rows = lasting.last(path, folder, options.seconds, options.seed, min(10.0, options.seconds / 3), options.share)
     if options.plot:
         drawn = [Line(f"{lasting.COLUMNS[n]} by seconds", [(int(it[0]), it[n]) for it in rows]) for n in (3, 4, 6)]
         with open(options.plot, "w", encoding="utf-8") as file:
@@ -196,6 +197,7 @@ def main():
     parser.add_argument("--clients", type=int, default=64)
     parser.add_argument("--lines", type=int, default=10_000)
     parser.add_argument("--seconds", type=float, default=30)
+    parser.add_argument("--share", type=float, default=1.0)
     parser.add_argument("--seed", type=int, default=1)
     parser.add_argument("--program")
     parser.add_argument("--plot", metavar="FILE")
