@@ -3,7 +3,7 @@ use crate::marks::Marks;
 use mi_node::NodeRef;
 
 /// An inverse without the old record and the old places of a put. A row stands as its node and its id, apart and in this
-/// order, so that an entry takes 32 bytes.
+/// order, so that an entry takes 32 bytes, and 40 with its table's number beside it.
 #[derive(Drop)]
 pub enum Entry {
     /// The row was inserted.

@@ -22,7 +22,7 @@ use mi_value::limits::LAST_COUNT;
 use mi_value::{Record, Refusal};
 use std::alloc::Global;
 
-/// The most nodes, live and kept, that a container has. They are as many as a pool has places.
+/// The most nodes, live and kept, that a container has. A pool has no more places.
 const MOST_NODES: usize = 2_147_483_648;
 
 /// The node of a live row that is given with an index, or none.

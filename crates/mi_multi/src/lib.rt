@@ -14,9 +14,11 @@
 //! ```
 //!
 //! A search compares tags, and reads values where tags are equal. `ids` maps 12 to this node, and says whether it is live. An erased
-//! row's node leaves every index and stays in the pool, held and not live; its links still name its neighbours. The inverse that a
-//! call answers names it, and the journal keeps the inverse until its session ends. `unwind` links the node in again; `settle` gives
-//! it back to the pool, and the value is dropped. No one else gives nodes back; dropping the pool drops all that are left.
+//! row's node leaves every index and stays in the pool, held and not live; in lists and chains its links still name its neighbours, in
+//! trees it keeps its stamp. The inverse that a call answers names it, and the journal keeps the inverse until its session ends. `unwind`
+//! of an erase links the node in again. Two calls give nodes back to the pool, whose values are dropped: `settle` of an erase, and
+//! `unwind` of an insert; dropping the pool drops all that are left. It touches its own pool, ids and structures, and no stream; an
+//! insert and a modify alone take memory.
 #![tactic(auto)]
 
 mod changed;
