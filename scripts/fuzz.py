@@ -8,8 +8,8 @@ value or its type, a length, an order, brackets, escapes, numbers at the limits,
 standard input in one piece; each third one goes through two to four loopback connections, in pieces cut inside of lines. The same seed
 gives the same cases. Where a reply differs, the case is left below out/fuzz/.
 
-With --campaign a case has a thousand lines and goes one way alone: of ten cases two go over connections, one has fifty sessions and more open
-at each line but the first ones, and one has tables of fifteen indexes."""
+With --campaign a case has a thousand lines and goes one way alone: of ten cases two go over connections, two have fifty sessions and more open at
+more than half of their lines, and one has tables of fifteen indexes."""
 import argparse
 import collections
 import json
@@ -440,7 +440,7 @@ def campaign_case_of(options, case, count):
     """The same of a case of a campaign."""
     made = Lines(f"{options.seed}/{case}", options.damaged)
     kinds = collections.Counter()
-    if case % 10 == 1:
+    if case % 10 in (1, 6):
         schemas = made.catalog()[0]
         lines, kinds[f"with {DEEP} sessions open or more"] = deep_lines(made, schemas, count)
         return over_pipes(options.program, (schemas, 0), lines), "lines.txt", kinds
