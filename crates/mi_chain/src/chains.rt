@@ -17,7 +17,7 @@ use crate::look::{
     other,
 };
 use mi_node::neighbours::{set_back, set_forth};
-use mi_node::{Link, NodeRef, Pool, Tag};
+use mi_node::{Link, NodeRef, PackedRef, Pool, Tag};
 use mi_value::Probe;
 use std::alloc::{AllocError, Global};
 use std::mem;
@@ -38,7 +38,7 @@ const FIRST_BUCKETS: usize = 16;
 pub struct Chains<H> {
     slot: usize,
     keys: H,
-    buckets: Vec<Option<NodeRef>>,
+    buckets: Vec<PackedRef>,
     groups: u64,
 }
 
@@ -58,7 +58,7 @@ impl<H> Chains<H> {
         Ok(Chains {
             slot,
             keys,
-            buckets: vec![in alloc; None; FIRST_BUCKETS]?,
+            buckets: vec![in alloc; PackedRef::new(None); FIRST_BUCKETS]?,
             groups: 0,
         })
     }
@@ -279,14 +279,14 @@ impl<H> Chains<H> {
             return Ok(());
         }
         let count = n.checked_next_power_of_two().ok_or(AllocError)? as usize;
-        let mut old = vec![in alloc; None; count]?;
+        let mut old = vec![in alloc; PackedRef::new(None); count]?;
         mem::swap(&mut self.buckets, &mut old);
         self.move_all(p, &mut old);
         Ok(())
     }
 
     /// Moves all groups that stand in the old buckets. Costs a step for each of them and each old bucket.
-    fn move_all<T>(&mut self, p: &mut Pool<T>, old: &mut Vec<Option<NodeRef>>)
+    fn move_all<T>(&mut self, p: &mut Pool<T>, old: &mut Vec<PackedRef>)
     where
         H: KeyHash<T>,
         requires { (rs : Seq Ref) × AreBetween self.old old.old.items (vec_len old.old) (H.keying self.old.keys) p.old rs }
@@ -305,7 +305,7 @@ impl<H> Chains<H> {
     }
 
     /// Moves the groups of one old bucket, the first one first. Other old buckets that have none stay so.
-    fn move_bucket<T>(&mut self, p: &mut Pool<T>, old: &mut Vec<Option<NodeRef>>, bucket: usize)
+    fn move_bucket<T>(&mut self, p: &mut Pool<T>, old: &mut Vec<PackedRef>, bucket: usize)
     where
         H: KeyHash<T>,
         requires moving { (rs : Seq Ref) × AreBetween self.old old.old.items (vec_len old.old) (H.keying self.old.keys) p.old rs }
@@ -322,7 +322,7 @@ impl<H> Chains<H> {
         ensures slot { self.new.slot ≡ self.old.slot }
         ensures keys { self.new.keys ≡ self.old.keys }
     {
-        while let Some(first) = old[bucket] {
+        while let Some(first) = old[bucket].node() {
             self.move_group(p, old, bucket, first);
         }
     }
@@ -331,7 +331,7 @@ impl<H> Chains<H> {
     fn move_group<T>(
         &mut self,
         p: &mut Pool<T>,
-        old: &mut Vec<Option<NodeRef>>,
+        old: &mut Vec<PackedRef>,
         bucket: usize,
         first: NodeRef,
     )
@@ -359,8 +359,8 @@ impl<H> Chains<H> {
         let target = self.bucket(link.tag.key);
         let head = self.head(target);
         set_forth(p, self.slot, link.back, head);
-        old[bucket] = next;
-        self.buckets[target] = Some(first);
+        old[bucket] = PackedRef::new(next);
+        self.buckets[target] = PackedRef::new(Some(first));
     }
 
     /// The group that ends with `end`, where the gap is at an end of it. Within a group nothing is looked for.
@@ -455,7 +455,7 @@ impl<H> Chains<H> {
         requires { bucket < vec_len self.now.buckets }
         ensures { result ≡ slice_index_or self.now.buckets.items bucket None }
     {
-        self.buckets[bucket]
+        self.buckets[bucket].node()
     }
 
     /// The node `left`, or the bucket, gets `forth` as what comes after it, and the node `right`, if there is one,
@@ -482,7 +482,7 @@ impl<H> Chains<H> {
         set_forth(p, self.slot, *&left, *&forth);
         set_back(p, self.slot, right, back);
         if left.is_none() {
-            self.buckets[bucket] = forth;
+            self.buckets[bucket] = PackedRef::new(forth);
         }
     }
 }

@@ -1,8 +1,9 @@
 //! A reference, or none, in four bytes. Plain data: it owns no node and never follows a reference.
-ghost use Rattle.std.specs.Prelude.{◌≡◌};
+ghost use Rattle.std.specs.Prelude.{◌≡◌, ⊤};
 
 use crate::cell::{bits_of, ref_of};
 use crate::node_ref::NodeRef;
+use std::alloc::AllocError;
 use std::marker::Model;
 
 /// A reference or none, in the four bytes of a reference: contracts see the `Option`.
@@ -19,6 +20,16 @@ impl Model for PackedRef {
     ghost Value = { Option Ref };
 
     ghost view = { λ a. ref_in a.bits };
+}
+
+impl Clone for PackedRef {
+    ghost is_clone = { λ x y. y ≡ x };
+
+    ghost is_infallible = { λ _. ⊤ };
+
+    fn clone(&self) -> Result<PackedRef, AllocError> {
+        Ok(PackedRef { bits: self.bits })
+    }
 }
 
 impl PackedRef {

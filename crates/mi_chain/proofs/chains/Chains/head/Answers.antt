@@ -6,4 +6,4 @@ use Rattle.mi_chain.proofs.chains.Chains.head.Goals as goal
 pub returns : goal.returns
 returns g c =
     let v = c.args.self.now.buckets in let count : vec_len v ≡ length v.items = v.ok.0 in
-    c.index.ensures ∙ any_head v.items c.args.bucket _ None (subst (λ n. c.args.bucket < n) count c.requires)
+    c.node.ensures ∙ c.index.ensures ∙ any_head v.items c.args.bucket _ None (subst (λ n. c.args.bucket < n) count c.requires)

@@ -18,7 +18,7 @@ move_group-requires-clause-first g c = let v = c.args in let a = c.loop-first in
     let count : vec_len o ≡ length o.items = o.ok.0 in
     let lt : v.bucket < vec_len o = subst (λ z. v.bucket < z) (sym a.invariant.2) c.requires.bucket in
     let at : slice_index_or o.items v.bucket None ≡ Some c.in-Some.first =
-    sym (c.index.ensures ∙ any_head o.items v.bucket _ None (subst (λ z. v.bucket < z) count lt)) ∙ c.in-Some.is in
+    sym (c.node.ensures ∙ c.index.ensures ∙ any_head o.items v.bucket _ None (subst (λ z. v.bucket < z) count lt)) ∙ c.in-Some.is in
     at
 
 pub loop-first-smaller : goal.loop-first-smaller
@@ -33,7 +33,7 @@ loop-first-preserved g c = let v = c.args in let a = c.loop-first in let o = a.o
     let count : vec_len o ≡ length o.items = o.ok.0 in
     let lt : v.bucket < vec_len o = subst (λ z. v.bucket < z) (sym a.invariant.2) c.requires.bucket in
     let at : slice_index_or o.items v.bucket None ≡ Some c.in-Some.first =
-    sym (c.index.ensures ∙ any_head o.items v.bucket _ None (subst (λ z. v.bucket < z) count lt)) ∙ c.in-Some.is in
+    sym (c.node.ensures ∙ c.index.ensures ∙ any_head o.items v.bucket _ None (subst (λ z. v.bucket < z) count lt)) ∙ c.in-Some.is in
     let l = v.self.now in let k = g.H.KeyHash.keying l.keys in let z = c.move_group.new in (
       λ rs b.
           let on = a.invariant.0 rs b in

@@ -93,10 +93,17 @@ returns-clause-tags g c z = let s = c.args.self.now.slot in
     ap (λ (p : Pooled g.row.T.Denot). (link_of p z s).tag) c.set_forth.ensures ∙ tag-forth s c.args.p.now c.link-link.result.back c.head-head.result z s
 
 pub returns-clause-moving : goal.returns-clause-moving
-returns-clause-moving g c rs q = let o = goal.at.returns-clause-moving g c in (moved g o.After-set_forth (target_found g o.After-bucket-target) rs q).0
+returns-clause-moving g c rs q = let o = goal.at.returns-clause-moving g c in let v = c.args in let l = v.self.now in
+    subst (λ x. AreBetween (record l { buckets = with_item l.buckets c.bucket-target.result x }) (slice_set v.old.now.items v.bucket c.new.result) (vec_len v.old.now)
+    (g.H.KeyHash.keying l.keys) c.set_forth.new.p rs) (sym c.new-2.ensures)
+    (subst (λ y. AreBetween (record l { buckets = with_item l.buckets c.bucket-target.result (Some v.first) }) (slice_set v.old.now.items v.bucket y) (vec_len v.old.now)
+    (g.H.KeyHash.keying l.keys) c.set_forth.new.p rs) (sym c.new.ensures) (moved g o.After-set_forth (target_found g o.After-bucket-target) rs q).0)
 
 pub returns-clause-fewer : goal.returns-clause-fewer
-returns-clause-fewer g c rs q = let o = goal.at.returns-clause-fewer g c in (moved g o.After-set_forth (target_found g o.After-bucket-target) rs q).2
+returns-clause-fewer g c rs q = let o = goal.at.returns-clause-fewer g c in let v = c.args in let s = v.self.now.slot in
+    subst (λ y. hops (next_group c.set_forth.new.p s) (node_count c.set_forth.new.p) (slice_index_or (slice_set v.old.now.items v.bucket y) v.bucket None)
+    < hops (next_group v.p.now s) (node_count v.p.now) (slice_index_or v.old.now.items v.bucket None)) (sym c.new.ensures)
+    (moved g o.After-set_forth (target_found g o.After-bucket-target) rs q).2
 
 pub returns-clause-keeps : goal.returns-clause-keeps
 returns-clause-keeps g c rs q = let o = goal.at.returns-clause-keeps g c in (moved g o.After-set_forth (target_found g o.After-bucket-target) rs q).1
