@@ -9,6 +9,7 @@ ghost use Rattle.mi_tree.specs.Sorted.{side, AreTagged, CanPut, HasPut, CanTake,
 use crate::balance::balance;
 use crate::compare::compare_nodes;
 use crate::order::NodeOrder;
+use crate::parts::height;
 use crate::way::{climb, go_first, go_in, go_to, replace};
 use arrayvec::ArrayVec;
 use mi_node::{Counted, Link, NO_LINK, NodeRef, Pool, Tag};
@@ -42,7 +43,7 @@ pub(crate) fn put_in<T, O: NodeOrder<T>>(
     go_in(
         p, slot, order, above.back, node, tag, decided, &mut way, steps,
     );
-    climb(p, slot, above.back, Some(node), &mut way)
+    climb(p, slot, above.back, Some(node), 1, &mut way)
 }
 
 /// Takes the first node out: the node, and the new root.
@@ -59,8 +60,10 @@ pub(crate) fn take_first<T>(
 {
     let mut way = ArrayVec::new();
     let first = go_first(p, slot, root, &mut way);
-    let rest = p.link(first, slot).forth;
-    (first, climb(p, slot, Some(root), rest, &mut way))
+    let link = p.link(first, slot);
+    let high = height(p, slot, link.forth);
+    let rest = climb(p, slot, Some(root), link.forth, high, &mut way);
+    (first, rest)
 }
 
 /// One tree of the two sides of a node, without the node. Its root.
