@@ -290,6 +290,12 @@ module _ {T : Type 0} where
       (above_moved m s fs _ _ _ _ _ _ (sym (top_forked f.left f.node f.other t))
       (sym (size_forked f.left f.node f.other t)) (sym (height_forked f.left f.node f.other t)) a.3)
 
+  are_sides : {m : Pooled T} {s : ℕ} {a : Option Ref} {x : Ref} {b : Option Ref} {l q : BinaryTree} → IsRooted m s a l → IsHeld m x → IsRooted m s b q
+      → IsApart (nodes l ++ x ∷ nodes q) → IsEven l → IsEven q → DifferByAtMost 2 (height l) (height q) → forks l + forks q + 1 < 2 ^ 32
+      → AreSides m s a x b l q
+  are_sides f h g apart left right near fits =
+      record { left_is = f; held = h; right_is = g; apart = apart; left_even = left; right_even = right; near = near; fits = fits }
+
   -- the two sides of a node on the way, with another tree on the side of the way: the node's link counts the nodes of both, and is
   -- right for them where that tree is one level lower than the node
   pub record Sided (m : Pooled T) (s : ℕ) (below : Option Ref) (y : Link) (r : Ref) (b : Bool) (q u l z : BinaryTree) : Type 0 where
@@ -304,16 +310,8 @@ module _ {T : Type 0} where
       → y ≡ forked_link b at (forks u) h q t → Stands m s q → IsApart (nodes (forked b u r q)) → forks (forked b u r q) < 2 ^ 32
       → (l : BinaryTree) × (z : BinaryTree) × Sided m s below y r b q u l z
   sided m s true r q u below y at h t rooted even near beside other held link stands apart fits =
-      let sides : AreSides m s below r y.forth u q = record {
-        left_is = rooted;
-        held = held;
-        right_is = record { root = ap (λ (z : Link). z.forth) link; stands = stands };
-        apart = apart;
-        left_even = even;
-        right_even = other;
-        near = (omega arith, omega arith);
-        fits = fits;
-      } in
+      let right : IsRooted m s y.forth q = record { root = ap (λ (z : Link). z.forth) link; stands = stands } in
+      let sides = are_sides rooted held right apart even other (omega arith, omega arith) fits in
       let size = ap (λ (z : Link). z.size) link in (
         u,
         q,
@@ -328,16 +326,8 @@ module _ {T : Type 0} where
         },
       )
   sided m s false r q u below y at h t rooted even near beside other held link stands apart fits =
-      let sides : AreSides m s y.back r below q u = record {
-        left_is = record { root = ap (λ (z : Link). z.back) link; stands = stands };
-        held = held;
-        right_is = rooted;
-        apart = apart;
-        left_even = other;
-        right_even = even;
-        near = (omega arith, omega arith);
-        fits = fits;
-      } in
+      let left : IsRooted m s y.back q = record { root = ap (λ (z : Link). z.back) link; stands = stands } in
+      let sides = are_sides left held rooted apart other even (omega arith, omega arith) fits in
       let size = ap (λ (z : Link). z.size) link in let turned = max_turned (height q) in (
         q,
         u,

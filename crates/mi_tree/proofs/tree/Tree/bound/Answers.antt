@@ -1,12 +1,12 @@
 -- The first node that meets the probe stands in the subtree that is left, or is the last one that was gone left at.
-use Rattle.std.proofs.Common.{◌≡◌, ◌<◌, sym, refl, ap, ◌∙◌, subst, arith}
+use Rattle.std.proofs.Common.{◌≡◌, ◌<◌, sym, refl, ap, ◌∙◌, subst}
 use Rattle.mi_node.specs.Pool.{Pooled, link_of, IsHeld}
 use Rattle.mi_node.specs.declared.link.Link.{Link}
 use Rattle.mi_tree.specs.Probed.{is_past_node, first_where}
 use Rattle.mi_tree.proofs.BinaryTreeLemmas.{lower-moved}
 use Rattle.mi_tree.proofs.SortedLemmas.{tagged_read}
 use Rattle.mi_tree.proofs.LookUpLemmas.{past_read, seek_start, seek_held, seek_tag, seek_lower, seek_left, seek_right, seek_end}
-use Rattle.mi_tree.proofs.StandingLemmas.{bound, seeks_root}
+use Rattle.mi_tree.proofs.StandingLemmas.{within, seeks_root}
 use Rattle.mi_tree.proofs.tree.Tree.bound.Given.{Over}
 use Rattle.mi_tree.proofs.tree.Tree.bound.Goals.{After-link-link, After-is_past}
 use Rattle.mi_tree.proofs.tree.Tree.bound.Goals as goal
@@ -47,11 +47,6 @@ compare_probe-side-requires-clause-node g c =
     tagged_read (g.O.NodeOrder.tag_of c.args.self.now.order) c.args.self.now.slot c.in-Some.node (pool_is g o) (ap (λ (k : Link). k.tag) (link_is g o))
     (seek_held h c.in-Some.is (link_is g o)) (seek_tag h c.in-Some.is (link_is g o))
 
-pub loop-at-smaller-then-is_past : goal.loop-at-smaller-then-is_past
-loop-at-smaller-then-is_past g c =
-    let o = (goal.at.loop-at-smaller-then-is_past g c).After-link-link in
-    lower-moved _ _ _ _ _ (pool_is g o) c.loop-at.invariant.0 (seek_lower c.loop-at.invariant.1 c.in-Some.is (link_is g o)).0
-
 pub loop-at-preserved-then-is_past : goal.loop-at-preserved-then-is_past
 loop-at-preserved-then-is_past g c =
     let o = goal.at.loop-at-preserved-then-is_past g c in (
@@ -59,6 +54,11 @@ loop-at-preserved-then-is_past g c =
       seek_left c.loop-at.invariant.1 c.in-Some.is (link_is g o.After-link-link) c.link-link.ensures.reads
           c.compare_probe-side.ensures.steps (answer_is g o.After-is_past ∙ c.if-is_past.true),
     )
+
+pub loop-at-smaller-then-is_past : goal.loop-at-smaller-then-is_past
+loop-at-smaller-then-is_past g c =
+    let o = (goal.at.loop-at-smaller-then-is_past g c).After-link-link in
+    lower-moved _ _ _ _ _ (pool_is g o) c.loop-at.invariant.0 (seek_lower c.loop-at.invariant.1 c.in-Some.is (link_is g o)).0
 
 pub loop-at-smaller : goal.loop-at-smaller
 loop-at-smaller g c =
@@ -73,13 +73,11 @@ loop-at-preserved g c =
           c.compare_probe-side.ensures.steps (answer_is g o.After-is_past ∙ c.if-is_past.false),
     )
 
-pub returns-clause-node : goal.returns-clause-node
-returns-clause-node g c rs h = (seek_end c.loop-at.invariant.1 c.in_default.is h.shape h.rooted).0 ∙ ap (first_where _) h.nodes_are
-
 pub returns-clause-reads : goal.returns-clause-reads
-returns-clause-reads g c order tag rs h b f =
-    let a = (seek_end c.loop-at.invariant.1 c.in_default.is h.shape h.rooted).1 in let d = bound h b f in omega arith
+returns-clause-reads g c order tag rs h b f = within h b f _ _ (seek_end c.loop-at.invariant.1 c.in_default.is h.shape h.rooted).1
 
 pub returns-clause-steps : goal.returns-clause-steps
-returns-clause-steps g c order tag rs h b f =
-    let a = (seek_end c.loop-at.invariant.1 c.in_default.is h.shape h.rooted).2 in let d = bound h b f in omega arith
+returns-clause-steps g c order tag rs h b f = within h b f _ _ (seek_end c.loop-at.invariant.1 c.in_default.is h.shape h.rooted).2
+
+pub returns-clause-node : goal.returns-clause-node
+returns-clause-node g c rs h = (seek_end c.loop-at.invariant.1 c.in_default.is h.shape h.rooted).0 ∙ ap (first_where _) h.nodes_are

@@ -1,5 +1,5 @@
 -- What was passed over on the left, with the place of the first in the subtree that is left, is its place in the whole.
-use Rattle.std.proofs.Common.{◌≡◌, ◌<◌, sym, ap, ◌∙◌, subst, arith}
+use Rattle.std.proofs.Common.{◌≡◌, ◌<◌, sym, ap, ◌∙◌, subst}
 use Rattle.std.specs.List.{position_or_len}
 use Rattle.mi_node.specs.Pool.{Pooled, IsHeldIf}
 use Rattle.mi_node.specs.declared.link.Link.{Link}
@@ -10,7 +10,7 @@ use Rattle.mi_tree.proofs.SortedLemmas.{tagged_read}
 use Rattle.mi_tree.proofs.LookUpLemmas.{past_read}
 use Rattle.mi_tree.proofs.ProbeRankLemmas.{pass_start, pass_link, pass_held, pass_tag, pass_sides, pass_lower}
 use Rattle.mi_tree.proofs.ProbeRankLemmas.{pass_left, pass_not_less, pass_fits, pass_right, pass_end}
-use Rattle.mi_tree.proofs.StandingLemmas.{bound, ranks_root}
+use Rattle.mi_tree.proofs.StandingLemmas.{within, ranks_root}
 use Rattle.mi_tree.proofs.tree.Tree.bound_rank.Given.{Over}
 use Rattle.mi_tree.proofs.tree.Tree.bound_rank.Goals.{After-is_past, After-link_ahead-ahead}
 use Rattle.mi_tree.proofs.tree.Tree.bound_rank.Goals as goal
@@ -99,9 +99,7 @@ pub returns-clause-rank : goal.returns-clause-rank
 returns-clause-rank g c rs h = (pass_end c.loop-at.invariant.1 c.in_default.is h.shape h.rooted).0 ∙ ap (position_or_len _) h.nodes_are
 
 pub returns-clause-reads : goal.returns-clause-reads
-returns-clause-reads g c order tag rs h b f =
-    let a = (pass_end c.loop-at.invariant.1 c.in_default.is h.shape h.rooted).1 in let d = bound h b f in omega arith
+returns-clause-reads g c order tag rs h b f = within h b f _ _ (pass_end c.loop-at.invariant.1 c.in_default.is h.shape h.rooted).1
 
 pub returns-clause-steps : goal.returns-clause-steps
-returns-clause-steps g c order tag rs h b f =
-    let a = (pass_end c.loop-at.invariant.1 c.in_default.is h.shape h.rooted).2 in let d = bound h b f in omega arith
+returns-clause-steps g c order tag rs h b f = within h b f _ _ (pass_end c.loop-at.invariant.1 c.in_default.is h.shape h.rooted).2
