@@ -43,7 +43,9 @@ pub(crate) fn put_in<T, O: NodeOrder<T>>(
     go_in(
         p, slot, order, above.back, node, tag, decided, &mut way, steps,
     );
-    climb(p, slot, above.back, Some(node), 1, &mut way)
+    let mut top = above.back;
+    climb(p, slot, &mut top, Some(node), 1, &mut way);
+    top
 }
 
 /// Takes the first node out: the node, and the new root.
@@ -62,7 +64,8 @@ pub(crate) fn take_first<T>(
     let first = go_first(p, slot, root, &mut way);
     let link = p.link(first, slot);
     let high = height(p, slot, link.forth);
-    let rest = climb(p, slot, Some(root), link.forth, high, &mut way);
+    let mut rest = Some(root);
+    climb(p, slot, &mut rest, link.forth, high, &mut way);
     (first, rest)
 }
 
@@ -117,5 +120,7 @@ pub(crate) fn take_out<T, O: NodeOrder<T>>(
     );
     let link = p.link(node, slot);
     let below = append(p, slot, link.back, link.forth);
-    replace(p, slot, above.back, below, link.height, &mut way)
+    let mut top = above.back;
+    replace(p, slot, &mut top, below, link.height, &mut way);
+    top
 }

@@ -164,38 +164,39 @@ fn with_child(link: Link, left: bool, child: Option<NodeRef>) -> Link
 
 /// Puts the tree `below`, which is so high, in place of the one at the end of the way, whose height differs from its own by
 /// at most one, and rejoins the nodes of the way while heights change. The sizes on the way are right
-/// already; and so is all above a node that stays where it is, and as high. The tree's root.
+/// already; and so is all above a node that stays where it is, and as high. `root` becomes the tree's root.
+///
+/// It answers nothing, so that the compiler makes a loop of it.
 pub(crate) fn climb<T>(
     p: &mut Pool<T>,
     slot: usize,
-    root: Option<NodeRef>,
+    root: &mut Option<NodeRef>,
     below: Option<NodeRef>,
     high: u8,
     way: &mut Way,
-) -> Option<NodeRef>
+)
     requires slot { slot < p.old.slots }
     requires high { high ≡ height_at p.old slot below }
-    requires way { (fs : List Frame) × (at : Option Ref) × (h : ℕ) × (u : BinaryTree) × Climbs p.old slot root below way.old.items fs at h u }
+    requires way { (fs : List Frame) × (at : Option Ref) × (h : ℕ) × (u : BinaryTree) × Climbs p.old slot root.old below way.old.items fs at h u }
     ensures slots { p.new.slots ≡ p.old.slots }
-    ensures tree { (fs : List Frame) (at : Option Ref) (h : ℕ) (u : BinaryTree) → Climbs p.old slot root below way.old.items fs at h u
-        → (v : BinaryTree) × HasClimbed p.old p.new slot (plug fs u) result v }
-    ensures height { (fs : List Frame) (at : Option Ref) (h : ℕ) (u : BinaryTree) → Climbs p.old slot root below way.old.items fs at h u
-        → IsLevel (height_of u) h (height_at p.new slot result) (risen fs h) }
+    ensures tree { (fs : List Frame) (at : Option Ref) (h : ℕ) (u : BinaryTree) → Climbs p.old slot root.old below way.old.items fs at h u
+        → (v : BinaryTree) × HasClimbed p.old p.new slot (plug fs u) root.new v }
+    ensures height { (fs : List Frame) (at : Option Ref) (h : ℕ) (u : BinaryTree) → Climbs p.old slot root.old below way.old.items fs at h u
+        → IsLevel (height_of u) h (height_at p.new slot root.new) (risen fs h) }
 {
     let Some(turn) = way.pop() else {
-        return below;
+        *root = below;
+        return;
     };
     let name = turn.node.name();
     let before = p.link(turn.node, slot).height;
     let (top, now) = rejoin(p, slot, turn, below, high, before);
-    if now == before {
-        if top.name() == name {
-            root
-        } else {
-            hang(p, slot, root, top, way)
-        }
-    } else {
-        climb(p, slot, root, Some(top), now, way)
+    if now != before {
+        climb(p, slot, root, Some(top), now, way);
+        return;
+    }
+    if top.name() != name {
+        hang(p, slot, root, top, way);
     }
 }
 
@@ -236,47 +237,41 @@ fn rejoin<T>(
     (top, now)
 }
 
-/// Puts the tree of that root in place of the one at the end of the way, which is as high. The tree's root.
-fn hang<T>(
-    p: &mut Pool<T>,
-    slot: usize,
-    root: Option<NodeRef>,
-    top: NodeRef,
-    way: &mut Way,
-) -> Option<NodeRef>
+/// Puts the tree of that root in place of the one at the end of the way, which is as high. `root` becomes the tree's root.
+fn hang<T>(p: &mut Pool<T>, slot: usize, root: &mut Option<NodeRef>, top: NodeRef, way: &mut Way)
     requires slot { slot < p.old.slots }
-    requires way { (fs : List Frame) × (at : Option Ref) × (u : BinaryTree) × Climbs p.old slot root (Some top) way.old.items fs at (height_of u) u }
+    requires way { (fs : List Frame) × (at : Option Ref) × (u : BinaryTree) × Climbs p.old slot root.old (Some top) way.old.items fs at (height_of u) u }
     ensures slots { p.new.slots ≡ p.old.slots }
-    ensures tree { (fs : List Frame) (at : Option Ref) (u : BinaryTree) → Climbs p.old slot root (Some top) way.old.items fs at (height_of u) u
-        → (v : BinaryTree) × HasClimbed p.old p.new slot (plug fs u) result v }
-    ensures height { (fs : List Frame) (at : Option Ref) (u : BinaryTree) → Climbs p.old slot root (Some top) way.old.items fs at (height_of u) u
-        → height_at p.new slot result ≡ risen fs (height_of u) }
+    ensures tree { (fs : List Frame) (at : Option Ref) (u : BinaryTree) → Climbs p.old slot root.old (Some top) way.old.items fs at (height_of u) u
+        → (v : BinaryTree) × HasClimbed p.old p.new slot (plug fs u) root.new v }
+    ensures height { (fs : List Frame) (at : Option Ref) (u : BinaryTree) → Climbs p.old slot root.old (Some top) way.old.items fs at (height_of u) u
+        → height_at p.new slot root.new ≡ risen fs (height_of u) }
 {
     let Some(turn) = way.pop() else {
-        return Some(top);
+        *root = Some(top);
+        return;
     };
     let height = p.link(turn.node, slot).height;
     p.set_side(turn.node, slot, turn.left, Some(top), height);
-    root
 }
 
 /// Puts the tree `below` in place of the one of that height at the end of the way, as `climb` does; where
-/// it is as high, no other height changes. The tree's root.
+/// it is as high, no other height changes. `root` becomes the tree's root.
 pub(crate) fn replace<T>(
     p: &mut Pool<T>,
     slot: usize,
-    root: Option<NodeRef>,
+    root: &mut Option<NodeRef>,
     below: Option<NodeRef>,
     before: u8,
     way: &mut Way,
-) -> Option<NodeRef>
+)
     requires slot { slot < p.old.slots }
-    requires way { (fs : List Frame) × (at : Option Ref) × (u : BinaryTree) × Climbs p.old slot root below way.old.items fs at before u }
+    requires way { (fs : List Frame) × (at : Option Ref) × (u : BinaryTree) × Climbs p.old slot root.old below way.old.items fs at before u }
     ensures slots { p.new.slots ≡ p.old.slots }
-    ensures tree { (fs : List Frame) (at : Option Ref) (u : BinaryTree) → Climbs p.old slot root below way.old.items fs at before u
-        → (v : BinaryTree) × HasClimbed p.old p.new slot (plug fs u) result v }
-    ensures height { (fs : List Frame) (at : Option Ref) (u : BinaryTree) → Climbs p.old slot root below way.old.items fs at before u
-        → IsLevel (height_of u) before (height_at p.new slot result) (risen fs before) }
+    ensures tree { (fs : List Frame) (at : Option Ref) (u : BinaryTree) → Climbs p.old slot root.old below way.old.items fs at before u
+        → (v : BinaryTree) × HasClimbed p.old p.new slot (plug fs u) root.new v }
+    ensures height { (fs : List Frame) (at : Option Ref) (u : BinaryTree) → Climbs p.old slot root.old below way.old.items fs at before u
+        → IsLevel (height_of u) before (height_at p.new slot root.new) (risen fs before) }
 {
     let under = Link {
         back: below,

@@ -44,9 +44,9 @@ height-high-requires-clause-held g c =
     let i = c.link-link.ensures ∙ ap (λ (z : Ref). link_of c.go_first-first.new.p z.name c.args.slot) far.0 in
     held-root c.go_first-first.new.p c.args.slot c.link-link.result.forth far.2 (ends_here h f.2 far.3 i).right_is
 
-pub climb-rest-requires-clause-way : goal.climb-rest-requires-clause-way
-climb-rest-requires-clause-way g c =
-    let at = goal.at.climb-rest-requires-clause-way g c in let h = c.requires.tree.1 in let f = some_first c.args.p.now c.args.slot c.args.root _ h in
+pub climb-requires-clause-way : goal.climb-requires-clause-way
+climb-requires-clause-way g c =
+    let at = goal.at.climb-requires-clause-way g c in let h = c.requires.tree.1 in let f = some_first c.args.p.now c.args.slot c.args.root _ h in
     let far = end g at.After-go_first-first (start g at.After-new-way h f.2) in
     let i = c.link-link.ensures ∙ ap (λ (z : Ref). link_of c.go_first-first.new.p z.name c.args.slot) far.0 in
     (far.1, Some f.0, height (Fork Tip f.0 far.2), far.2, climbs_away h f.2 far.3 i (alone_right h f.2 far.3 i refl) refl)
@@ -57,6 +57,6 @@ returns-clause-tree g c t h =
     let far = end g at.After-go_first-first (start g at.After-new-way h f.2) in
     let i = c.link-link.ensures ∙ ap (λ (z : Ref). link_of c.go_first-first.new.p z.name c.args.slot) far.0 in
     let alone = alone_right h f.2 far.3 i refl in let up = climbs_away h f.2 far.3 i alone refl in
-    let all = c.climb-rest.ensures.tree far.1 (Some f.0) _ far.2 up in
-    let left = has_left h f.2 far.3 i alone refl all.1 (c.climb-rest.ensures.height far.1 (Some f.0) _ far.2 up) in
+    let all = c.climb.ensures.tree far.1 (Some f.0) _ far.2 up in
+    let left = has_left h f.2 far.3 i alone refl all.1 (c.climb.ensures.height far.1 (Some f.0) _ far.2 up) in
     (all.0, f.1, f.2 ∙ ap (λ (z : Ref). z ∷ f.1) (sym far.0), left)

@@ -17,8 +17,8 @@ module _ (g : Over) (t : ℕ) (c : In-Some g t) where
 
 module _ (g : Over) (t : ℕ) (c : After-rejoin-now g t) where
   -- the step up to the node of that turn, for each way that the turns may stand for
-  next : {fs : List Frame} {at : Option Ref} {h : ℕ} {u : BinaryTree} → Climbs c.args.p.now c.args.slot c.args.root c.args.below c.args.way.now.items fs at h u
-      → NextClimb c.args.p.now c.rejoin-now.new.p c.args.slot c.args.root c.pop.new.self.items fs h u c.in-Some.turn c.link-before.result.height
+  next : {fs : List Frame} {at : Option Ref} {h : ℕ} {u : BinaryTree} → Climbs c.args.p.now c.args.slot c.args.root.now c.args.below c.args.way.now.items fs at h u
+      → NextClimb c.args.p.now c.rejoin-now.new.p c.args.slot c.args.root.now c.pop.new.self.items fs h u c.in-Some.turn c.link-before.result.height
       c.rejoin-now.result.0
   next k = next_climb k (turned_back k.path_is c.pop.ensures.rest c.pop.ensures.value c.in-Some.is) refl
       (ap (λ (x : Link). x.height) c.link-before.ensures) c.rejoin-now.ensures.tree
@@ -46,7 +46,7 @@ rejoin-now-requires-clause-sides g t c =
 pub hang-requires-clause-way : goal.hang-requires-clause-way
 hang-requires-clause-way g t c =
     let on = next g t (goal.at.hang-requires-clause-way g t c).After-rejoin-now c.requires.way.4 in
-    (on.rest, Some c.in-Some.turn.node, on.z, same_climbs on (sym c.if-now-before.true ∙ c.rejoin-now.ensures.height))
+    (on.rest, Some c.in-Some.turn.node, on.z, same_climbs on (sym c.if-now-before.false ∙ c.rejoin-now.ensures.height))
 
 pub climb-requires : goal.climb-requires
 climb-requires g t c κs within =
@@ -62,37 +62,37 @@ climb-requires g t c κs within =
       ),
     )
 
-pub returns-then-name-clause-tree : goal.returns-then-name-clause-tree
-returns-then-name-clause-tree g t c fs at h u k =
-    let on = next g t (goal.at.returns-then-name-clause-tree g t c).After-rejoin-now k in
-    let same = sym c.name.ensures ∙ c.if-name.true ∙ c.name-name.ensures in
-    (plug on.rest on.z, climbed_here on (sym c.if-now-before.true ∙ c.rejoin-now.ensures.height) same)
-
 pub returns-else-name-clause-tree : goal.returns-else-name-clause-tree
 returns-else-name-clause-tree g t c fs at h u k =
     let on = next g t (goal.at.returns-else-name-clause-tree g t c).After-rejoin-now k in
-    let all = c.hang.ensures.tree _ _ _ (same_climbs on (sym c.if-now-before.true ∙ c.rejoin-now.ensures.height)) in
-    (all.0, on.climbed c.hang.new.p c.hang.result all.0 all.1)
+    let same = sym c.name.ensures ∙ c.if-name.false ∙ c.name-name.ensures in
+    (plug on.rest on.z, climbed_here on (sym c.if-now-before.false ∙ c.rejoin-now.ensures.height) same)
 
-pub returns-else-now-before-clause-tree : goal.returns-else-now-before-clause-tree
-returns-else-now-before-clause-tree g t c fs at h u k =
-    let on = next g t (goal.at.returns-else-now-before-clause-tree g t c).After-rejoin-now k in
+pub returns-then-name-clause-tree : goal.returns-then-name-clause-tree
+returns-then-name-clause-tree g t c fs at h u k =
+    let on = next g t (goal.at.returns-then-name-clause-tree g t c).After-rejoin-now k in
+    let all = c.hang.ensures.tree _ _ _ (same_climbs on (sym c.if-now-before.false ∙ c.rejoin-now.ensures.height)) in
+    (all.0, on.climbed c.hang.new.p c.hang.new.root all.0 all.1)
+
+pub returns-then-now-before-clause-tree : goal.returns-then-now-before-clause-tree
+returns-then-now-before-clause-tree g t c fs at h u k =
+    let on = next g t (goal.at.returns-then-now-before-clause-tree g t c).After-rejoin-now k in
     let all = c.climb.ensures.tree _ _ _ _ on.climbs in
-    (all.0, on.climbed c.climb.new.p c.climb.result all.0 all.1)
-
-pub returns-then-name-clause-height : goal.returns-then-name-clause-height
-returns-then-name-clause-height g t c fs at h u k =
-    let on = next g t (goal.at.returns-then-name-clause-height g t c).After-rejoin-now k in
-    let same = sym c.name.ensures ∙ c.if-name.true ∙ c.name-name.ensures in
-    level_here on (sym c.if-now-before.true ∙ c.rejoin-now.ensures.height) same
+    (all.0, on.climbed c.climb.new.p c.climb.new.root all.0 all.1)
 
 pub returns-else-name-clause-height : goal.returns-else-name-clause-height
 returns-else-name-clause-height g t c fs at h u k =
     let on = next g t (goal.at.returns-else-name-clause-height g t c).After-rejoin-now k in
-    let same = sym c.if-now-before.true ∙ c.rejoin-now.ensures.height in
-    same_level on same (height_at c.hang.new.p c.args.slot c.hang.result) (c.hang.ensures.height _ _ _ (same_climbs on same))
+    let same = sym c.name.ensures ∙ c.if-name.false ∙ c.name-name.ensures in
+    level_here on (sym c.if-now-before.false ∙ c.rejoin-now.ensures.height) same
 
-pub returns-else-now-before-clause-height : goal.returns-else-now-before-clause-height
-returns-else-now-before-clause-height g t c fs at h u k =
-    let on = next g t (goal.at.returns-else-now-before-clause-height g t c).After-rejoin-now k in
-    on.level (height_at c.climb.new.p c.args.slot c.climb.result) (c.climb.ensures.height _ _ _ _ on.climbs)
+pub returns-then-name-clause-height : goal.returns-then-name-clause-height
+returns-then-name-clause-height g t c fs at h u k =
+    let on = next g t (goal.at.returns-then-name-clause-height g t c).After-rejoin-now k in
+    let same = sym c.if-now-before.false ∙ c.rejoin-now.ensures.height in
+    same_level on same (height_at c.hang.new.p c.args.slot c.hang.new.root) (c.hang.ensures.height _ _ _ (same_climbs on same))
+
+pub returns-then-now-before-clause-height : goal.returns-then-now-before-clause-height
+returns-then-now-before-clause-height g t c fs at h u k =
+    let on = next g t (goal.at.returns-then-now-before-clause-height g t c).After-rejoin-now k in
+    on.level (height_at c.climb.new.p c.args.slot c.climb.new.root) (c.climb.ensures.height _ _ _ _ on.climbs)

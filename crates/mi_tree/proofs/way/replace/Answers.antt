@@ -12,5 +12,5 @@ pub hang-requires-clause-way : goal.hang-requires-clause-way
 hang-requires-clause-way g c =
     let v = c.args in let m = v.p.now in let s = v.slot in let w = c.requires.way in let u = w.2 in let k = w.3 in
     let same = sym c.if-high-before.true ∙ c.height-high.ensures ∙ height-root m s v.below u k.rooted in
-    let opened = subst (λ (z : Option Ref). Climbs m s v.root z v.way.now.items w.0 w.1 v.before u) c.in-Some.is k in
-    (w.0, w.1, u, subst (λ j. Climbs m s v.root (Some c.in-Some.top) v.way.now.items w.0 w.1 j u) same opened)
+    let opened = subst (λ (z : Option Ref). Climbs m s v.root.now z v.way.now.items w.0 w.1 v.before u) c.in-Some.is k in
+    (w.0, w.1, u, subst (λ j. Climbs m s v.root.now (Some c.in-Some.top) v.way.now.items w.0 w.1 j u) same opened)
