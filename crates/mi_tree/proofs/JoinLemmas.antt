@@ -90,6 +90,29 @@ module _ {T : Type 0} where
   two {x = x} {A = A} {B} f h g apart fits low = let w = between (nodes A) x (nodes B) apart in
       record { first = f; held = h; second = g; out_first = w.out_left; out_second = w.out_right; fits = fits; low = low }
 
+  pub three : {m : Pooled T} {s : ℕ} {a : Option Ref} {x : Ref} {b : Option Ref} {y : Ref} {c : Option Ref} {A B C : BinaryTree}
+      → IsRooted m s a A → IsHeld m x → IsRooted m s b B → IsHeld m y → IsRooted m s c C → IsApart (nodes A ++ x ∷ (nodes B ++ y ∷ nodes C))
+      → forks A + forks B + forks C + 2 < 2 ^ 32 → (height A < 254) × (height B < 254) × (height C < 254) → Three m s a x b y c A B C
+  three f h g k d apart fits low =
+      record { first = f; held_x = h; second = g; held_y = k; third = d; apart = apart; fits = fits; low = low }
+
+  pub four : {m : Pooled T} {s : ℕ} {a : Option Ref} {x : Ref} {b : Option Ref} {y : Ref} {c : Option Ref} {z : Ref} {d : Option Ref} {A B C D : BinaryTree}
+      → IsRooted m s a A → IsHeld m x → IsRooted m s b B → IsHeld m y → IsRooted m s c C → IsHeld m z → IsRooted m s d D
+      → IsApart (nodes A ++ x ∷ (nodes B ++ y ∷ (nodes C ++ z ∷ nodes D))) → forks A + forks B + forks C + forks D + 3 < 2 ^ 32
+      → (height A < 254) × (height B < 254) × (height C < 254) × (height D < 254) → Four m s a x b y c z d A B C D
+  four f h g k d j e apart fits low = record {
+    first = f;
+    held_x = h;
+    second = g;
+    held_y = k;
+    third = d;
+    held_z = j;
+    fourth = e;
+    apart = apart;
+    fits = fits;
+    low = low;
+  }
+
   module _ {m : Pooled T} {s : ℕ} {a : Option Ref} {x : Ref} {b : Option Ref} {y : Ref} {c : Option Ref} {A B C : BinaryTree}
       (h : Three m s a x b y c A B C) where
     parted : Thrice (nodes A) x (nodes B) y (nodes C)

@@ -229,6 +229,11 @@ module _ {T : Type 0} where
     pub steps : step + height u ≤ step0 + height t
 
   module _ {m : Pooled T} {s : ℕ} {tag : T → ℕ} {f : Ref → Bool} {root : Option Ref} where
+    pub seek_start : (t : BinaryTree) → IsRooted m s root t → AreTagged tag m s (nodes t) → IsSteady f (nodes t)
+        → (a c : ℕ) → Seeking m s tag f root root None a a c c
+    seek_start t h tags up a c =
+        record { t = t; u = t; whole = h; rooted = h; tagged = tags; steady = up; is = or_none (first_where f (nodes t)); reads = omega arith; steps = omega arith }
+
     module _ {at : Option Ref} {r : Ref} {y : Link} {found : Option Ref} {a b c d : ℕ}
         (h : Seeking m s tag f root at found a b c d) (e : at ≡ Some r) (i : y ≡ link_of m r.name s) where
       pub seek_held : IsHeld m r

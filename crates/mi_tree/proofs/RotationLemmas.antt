@@ -10,7 +10,7 @@ use Rattle.mi_tree.specs.Sorted.{SameTags}
 use Rattle.mi_tree.specs.Joining.{Two, Three, Four, Rebalanced, AreSides, IsBalanced}
 use Rattle.mi_tree.proofs.HeightLemmas.{low_enough}
 use Rattle.mi_tree.proofs.BinaryTreeLemmas.{Sides, sides}
-use Rattle.mi_tree.proofs.JoinLemmas.{two}
+use Rattle.mi_tree.proofs.JoinLemmas.{two, three, four}
 
 turn_plain : (l : BinaryTree) (x : Ref) (q : BinaryTree) → IsEven l → IsEven q → DifferByAtMost 1 (height l) (height q) → Rebalanced l x q (Fork l x q)
 turn_plain l x q el eq d = record { nodes_are = refl; even = (d, el, eq); not_lower = omega arith; not_higher = omega arith; as_high = λ h. refl }
@@ -91,16 +91,9 @@ module _ {T : Type 0} where
   left_opened {m} {s} {left} {x} {right} {l} {q} {r} {y} h e i =
       let o = sides m s left r y l h.left_is e i in let f = h.fits in let size_is = ap forks o.is in let high = o.height_is in let low = sides_low h in (
         o,
-        record {
-          first = o.left;
-          held_x = o.held;
-          second = o.right;
-          held_y = h.held;
-          third = h.right_is;
-          apart = subst IsApart (ap (λ t. nodes t ++ x ∷ nodes q) o.is ∙ append_assoc (nodes o.A) (r ∷ nodes o.B) (x ∷ nodes q)) h.apart;
-          fits = omega arith;
-          low = (omega arith, omega arith, omega arith);
-        },
+        three o.left o.held o.right h.held h.right_is
+            (subst IsApart (ap (λ t. nodes t ++ x ∷ nodes q) o.is ∙ append_assoc (nodes o.A) (r ∷ nodes o.B) (x ∷ nodes q)) h.apart)
+            (omega arith) (omega arith, omega arith, omega arith),
       )
 
   -- the right side, opened
@@ -109,16 +102,8 @@ module _ {T : Type 0} where
   right_opened {m} {s} {left} {x} {right} {l} {q} {r} {y} h e i =
       let o = sides m s right r y q h.right_is e i in let f = h.fits in let size_is = ap forks o.is in let high = o.height_is in let low = sides_low h in (
         o,
-        record {
-          first = h.left_is;
-          held_x = h.held;
-          second = o.left;
-          held_y = o.held;
-          third = o.right;
-          apart = subst IsApart (ap (λ t. nodes l ++ x ∷ nodes t) o.is) h.apart;
-          fits = omega arith;
-          low = (omega arith, omega arith, omega arith);
-        },
+        three h.left_is h.held o.left o.held o.right (subst IsApart (ap (λ t. nodes l ++ x ∷ nodes t) o.is) h.apart)
+            (omega arith) (omega arith, omega arith, omega arith),
       )
 
   -- the middle, opened
@@ -127,20 +112,10 @@ module _ {T : Type 0} where
   middle_opened {m} {s} {a} {x} {b} {y} {z} {d} {w} {A} {M} {D} h e i =
       let o = sides m s b y w M h.second e i in let f = h.fits in let k = h.low in let size_is = ap forks o.is in let high = o.height_is in (
         o,
-        record {
-          first = h.first;
-          held_x = h.held_x;
-          second = o.left;
-          held_y = o.held;
-          third = o.right;
-          held_z = h.held_y;
-          fourth = h.third;
-          apart = subst IsApart (ap (λ t. nodes A ++ x ∷ (nodes t ++ z ∷ nodes D)) o.is
-              ∙ ap (λ u. nodes A ++ x ∷ u) (append_assoc (nodes o.A) (y ∷ nodes o.B) (z ∷ nodes D)))
-              h.apart;
-          fits = omega arith;
-          low = (omega arith, omega arith, omega arith, omega arith);
-        },
+        four h.first h.held_x o.left o.held o.right h.held_y h.third
+            (subst IsApart (ap (λ t. nodes A ++ x ∷ (nodes t ++ z ∷ nodes D)) o.is
+            ∙ ap (λ u. nodes A ++ x ∷ u) (append_assoc (nodes o.A) (y ∷ nodes o.B) (z ∷ nodes D))) h.apart)
+            (omega arith) (omega arith, omega arith, omega arith, omega arith),
       )
 
   -- what the calls give, which set links of the nodes us alone

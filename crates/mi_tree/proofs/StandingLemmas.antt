@@ -232,6 +232,11 @@ module _ {T O : Type 0} where
       → length rs < 2 ^ b → height h.shape ≤ 2 * b
   bound h b f = short h.shape h.even b (subst (λ k. k < 2 ^ b) (sym (tree_size h)) f)
 
+  -- what grows by at most the height grows by at most 2b
+  pub within : {l : Tree O} {m : Pooled T} {order : T → T → Ordering} {tag : T → ℕ} {rs : List Ref} (h : IsTree l m order tag rs) (b : ℕ)
+      → length rs < 2 ^ b → (j k : ℕ) → k ≤ j + height h.shape → k ≤ j + 2 * b
+  within h b f j k a = let d = bound h b f in omega arith
+
   -- of a tree with a node
   pub bound_less : {l : Tree O} {m : Pooled T} {order : T → T → Ordering} {tag : T → ℕ} {rs : List Ref} (h : IsTree l m order tag rs) (b : ℕ)
       → length rs < 2 ^ b → 1 ≤ length rs → height h.shape + 1 ≤ 2 * b

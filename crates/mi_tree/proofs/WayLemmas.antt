@@ -290,96 +290,57 @@ module _ {T : Type 0} where
       (above_moved m s fs _ _ _ _ _ _ (sym (top_forked f.left f.node f.other t))
       (sym (size_forked f.left f.node f.other t)) (sym (height_forked f.left f.node f.other t)) a.3)
 
-  -- the two sides of a node on the way, with another tree on the side of the way
-  pub record Sided (m : Pooled T) (s : ℕ) (back forth : Option Ref) (r : Ref) (b : Bool) (q u l z : BinaryTree) : Type 0 where
-    pub sides : AreSides m s back r forth l z
+  are_sides : {m : Pooled T} {s : ℕ} {a : Option Ref} {x : Ref} {b : Option Ref} {l q : BinaryTree} → IsRooted m s a l → IsHeld m x → IsRooted m s b q
+      → IsApart (nodes l ++ x ∷ nodes q) → IsEven l → IsEven q → DifferByAtMost 2 (height l) (height q) → forks l + forks q + 1 < 2 ^ 32
+      → AreSides m s a x b l q
+  are_sides f h g apart left right near fits =
+      record { left_is = f; held = h; right_is = g; apart = apart; left_even = left; right_even = right; near = near; fits = fits }
+
+  -- the two sides of a node on the way, with another tree on the side of the way: the node's link counts the nodes of both, and is
+  -- right for them where that tree is one level lower than the node
+  pub record Sided (m : Pooled T) (s : ℕ) (below : Option Ref) (y : Link) (r : Ref) (b : Bool) (q u l z : BinaryTree) : Type 0 where
+    pub sides : AreSides m s (cond b below y.back) r (cond b y.forth below) l z
     pub names : nodes l ++ r ∷ nodes z ≡ nodes (forked b u r q)
     pub heights : (max (height l) (height z) ≡ max (height u) (height q)) × (DifferByAtMost 1 (height u) (height q) → DifferByAtMost 1 (height l) (height z))
+    pub size_is : y.size ≡ forks l + forks z + 1
+    pub settled : y.tag ≡ (link_of m r.name s).tag → height u + 1 ≡ y.height → IsSettled m s r (rehung b below y) l z
 
-  sided : (m : Pooled T) (s : ℕ) (b : Bool) (r : Ref) (q u : BinaryTree) (below : Option Ref) (y : Link) (at : Option Ref) (n h : ℕ) (t : Tag)
+  sided : (m : Pooled T) (s : ℕ) (b : Bool) (r : Ref) (q u : BinaryTree) (below : Option Ref) (y : Link) (at : Option Ref) (h : ℕ) (t : Tag)
       → IsRooted m s below u → IsEven u → DifferByAtMost 1 (height u) h → DifferByAtMost 1 h (height q) → IsEven q → IsHeld m r
-      → y ≡ forked_link b at n h q t → Stands m s q → IsApart (nodes (forked b u r q)) → forks (forked b u r q) < 2 ^ 32
-      → (l : BinaryTree) × (z : BinaryTree) × Sided m s (cond b below y.back) (cond b y.forth below) r b q u l z
-  sided m s true r q u below y at n h t rooted even near beside other held link stands apart fits = (
-    u,
-    q,
-    record {
-      sides = record {
-        left_is = rooted;
-        held = held;
-        right_is = record { root = ap (λ (z : Link). z.forth) link; stands = stands };
-        apart = apart;
-        left_even = even;
-        right_even = other;
-        near = (omega arith, omega arith);
-        fits = fits;
-      };
-      names = refl;
-      heights = (refl, λ d. d);
-    },
-  )
-  sided m s false r q u below y at n h t rooted even near beside other held link stands apart fits = (
-    q,
-    u,
-    record {
-      sides = record {
-        left_is = record { root = ap (λ (z : Link). z.back) link; stands = stands };
-        held = held;
-        right_is = rooted;
-        apart = apart;
-        left_even = other;
-        right_even = even;
-        near = (omega arith, omega arith);
-        fits = fits;
-      };
-      names = refl;
-      heights = (max_turned (height q) (height u), λ d. (d.1, d.0));
-    },
-  )
-
-  -- the link is right for them where the other tree is one level lower than before the node
-  settled : (m : Pooled T) (s : ℕ) (b : Bool) (r : Ref) (q u : BinaryTree) (below : Option Ref) (y : Link) (at : Option Ref) (h : ℕ) (t : Tag)
-      → (rooted : IsRooted m s below u) (even : IsEven u) (near : DifferByAtMost 1 (height u) h) (beside : DifferByAtMost 1 h (height q))
-      (other : IsEven q) (held : IsHeld m r) (link : y ≡ forked_link b at (forks u) h q t) (stands : Stands m s q)
-      (apart : IsApart (nodes (forked b u r q))) (fits : forks (forked b u r q) < 2 ^ 32)
-      → y.tag ≡ (link_of m r.name s).tag → height u + 1 ≡ y.height
-      → let o = sided m s b r q u below y at (forks u) h t rooted even near beside other held link stands apart fits in
-      IsSettled m s r (rehung b below y) o.0 o.1
-  unfolding sided
-  settled m s true r q u below y at h t rooted even near beside other held link stands apart fits tag high =
-      let o = sided m s true r q u below y at (forks u) h t rooted even near beside other held link stands apart fits in
-      let e = settled_heights h (height q) (height u) y.height (ap (λ (z : Link). z.height) link) high beside in (
+      → y ≡ forked_link b at (forks u) h q t → Stands m s q → IsApart (nodes (forked b u r q)) → forks (forked b u r q) < 2 ^ 32
+      → (l : BinaryTree) × (z : BinaryTree) × Sided m s below y r b q u l z
+  sided m s true r q u below y at h t rooted even near beside other held link stands apart fits =
+      let right : IsRooted m s y.forth q = record { root = ap (λ (z : Link). z.forth) link; stands = stands } in
+      let sides = are_sides rooted held right apart even other (omega arith, omega arith) fits in
+      let size = ap (λ (z : Link). z.size) link in (
+        u,
+        q,
         record {
-          two = plain_parts o.2.sides;
-          size_is = ap (λ (z : Link). z.size) link;
-          height_is = e.0;
-          tag_is = tag;
+          sides = sides;
+          names = refl;
+          heights = (refl, λ d. d);
+          size_is = size;
+          settled = λ tag high. (
+              let e = settled_heights h (height q) (height u) y.height (ap (λ (z : Link). z.height) link) high beside in
+              (record { two = plain_parts sides; size_is = size; height_is = e.0; tag_is = tag }, e.1));
         },
-        e.1,
       )
-  settled m s false r q u below y at h t rooted even near beside other held link stands apart fits tag high =
-      let o = sided m s false r q u below y at (forks u) h t rooted even near beside other held link stands apart fits in
-      let e = settled_heights h (height q) (height u) y.height
-      (ap (λ (z : Link). z.height) link ∙ ap (λ j. j + 1) (max_turned (height q) h)) high beside in (
+  sided m s false r q u below y at h t rooted even near beside other held link stands apart fits =
+      let left : IsRooted m s y.back q = record { root = ap (λ (z : Link). z.back) link; stands = stands } in
+      let sides = are_sides left held rooted apart other even (omega arith, omega arith) fits in
+      let size = ap (λ (z : Link). z.size) link in let turned = max_turned (height q) in (
+        q,
+        u,
         record {
-          two = plain_parts o.2.sides;
-          size_is = ap (λ (z : Link). z.size) link;
-          height_is = e.0 ∙ ap (λ j. j + 1) (max_turned (height u) (height q));
-          tag_is = tag;
+          sides = sides;
+          names = refl;
+          heights = (turned (height u), λ d. (d.1, d.0));
+          size_is = size;
+          settled = λ tag high. (
+              let e = settled_heights h (height q) (height u) y.height (ap (λ (z : Link). z.height) link ∙ ap (λ j. j + 1) (turned h)) high beside in
+              (record { two = plain_parts sides; size_is = size; height_is = e.0 ∙ ap (λ j. j + 1) (sym (turned (height u))); tag_is = tag }, (e.1.1, e.1.0)));
         },
-        (e.1.1, e.1.0),
       )
-
-  -- the link counts the nodes of both sides
-  sided_size : (m : Pooled T) (s : ℕ) (b : Bool) (r : Ref) (q u : BinaryTree) (below : Option Ref) (y : Link) (at : Option Ref) (h : ℕ) (t : Tag)
-      → (rooted : IsRooted m s below u) (even : IsEven u) (near : DifferByAtMost 1 (height u) h) (beside : DifferByAtMost 1 h (height q))
-      (other : IsEven q) (held : IsHeld m r) (link : y ≡ forked_link b at (forks u) h q t) (stands : Stands m s q)
-      (apart : IsApart (nodes (forked b u r q))) (fits : forks (forked b u r q) < 2 ^ 32)
-      → let o = sided m s b r q u below y at (forks u) h t rooted even near beside other held link stands apart fits in
-      y.size ≡ forks o.0 + forks o.1 + 1
-  unfolding sided
-  sided_size m s true r q u below y at h t rooted even near beside other held link stands apart fits = ap (λ (z : Link). z.size) link
-  sided_size m s false r q u below y at h t rooted even near beside other held link stands apart fits = ap (λ (z : Link). z.size) link
 
   -- what is known of the heights of two sides, of which one was read from below and one from the node's link
   pub record AreHigh (m : Pooled T) (s : ℕ) (other : Option Ref) (l q : BinaryTree) (k j : ℕ) : Type 0 where
@@ -511,28 +472,16 @@ module _ {T : Type 0} where
     before_is : y.height ≡ forked_height turn.left h (height w.other)
     before_is = ap (λ (z : Link). z.height) link_is ∙ link_height turn.left at (forks u) h w.other y.tag
 
-    climb_sides : (l : BinaryTree) × (z : BinaryTree) × Sided m s (cond turn.left below y.back) (cond turn.left y.forth below) turn.node turn.left w.other u l z
+    climb_sides : (l : BinaryTree) × (z : BinaryTree) × Sided m s below y turn.node turn.left w.other u l z
     climb_sides = let f = plug_size w.rest whole in let k = open_fits in
-        sided m s turn.left turn.node w.other u below y at (forks u) h y.tag c.rooted c.even c.near open_beside.0
-        open_beside.1 open_above.0 link_is open_above.2 (plug_apart w.rest whole open_apart) (omega arith)
-
-    climb_settled : height u + 1 ≡ y.height → IsSettled m s turn.node (rehung turn.left below y) climb_sides.0 climb_sides.1
-    unfolding climb_sides sided
-    climb_settled = let f = plug_size w.rest whole in let k = open_fits in
-        settled m s turn.left turn.node w.other u below y at h y.tag c.rooted c.even c.near open_beside.0
-        open_beside.1 open_above.0 link_is open_above.2 (plug_apart w.rest whole open_apart) (omega arith) (ap (λ (z : Link). z.tag) i)
-
-    climb_size : y.size ≡ forks climb_sides.0 + forks climb_sides.1 + 1
-    unfolding climb_sides sided
-    climb_size = let f = plug_size w.rest whole in let k = open_fits in
-        sided_size m s turn.left turn.node w.other u below y at h y.tag c.rooted c.even c.near open_beside.0
+        sided m s turn.left turn.node w.other u below y at h y.tag c.rooted c.even c.near open_beside.0
         open_beside.1 open_above.0 link_is open_above.2 (plug_apart w.rest whole open_apart) (omega arith)
 
     climb_rejoined : AreRejoined m s turn below y climb_sides.0 climb_sides.1
     climb_rejoined = record {
       sides = climb_sides.2.sides;
-      size_is = climb_size;
-      settled = λ e. climb_settled (ap (λ j. j + 1) (sym (height-root m s below u c.rooted)) ∙ e);
+      size_is = climb_sides.2.size_is;
+      settled = λ e. climb_sides.2.settled (ap (λ (z : Link). z.tag) i) (ap (λ j. j + 1) (sym (height-root m s below u c.rooted)) ∙ e);
     }
 
     -- what the node of the way is put over again
@@ -545,7 +494,7 @@ module _ {T : Type 0} where
         let e = height-root m s below u c.rooted in omega arith
 
     -- the next node of the way
-    module _ {n : Pooled T} {back forth : Option Ref} {l q : BinaryTree} (o : Sided m s back forth turn.node turn.left w.other u l q)
+    module _ {n : Pooled T} {l q : BinaryTree} (o : Sided m s below y turn.node turn.left w.other u l q)
         {next : Ref} {z : BinaryTree} (k : IsBalanced m n s l turn.node q next z) where
       names_are : nodes z ≡ nodes whole
       names_are = k.rebalanced.nodes_are ∙ o.names

@@ -9,6 +9,7 @@ ghost use Rattle.mi_tree.specs.Sorted.{side, AreTagged, CanPut, HasPut, CanTake,
 use crate::balance::balance;
 use crate::compare::compare_nodes;
 use crate::order::NodeOrder;
+use crate::parts::height;
 use crate::way::{climb, go_first, go_in, go_to, replace};
 use arrayvec::ArrayVec;
 use mi_node::{Counted, Link, NO_LINK, NodeRef, Pool, Tag};
@@ -42,7 +43,9 @@ pub(crate) fn put_in<T, O: NodeOrder<T>>(
     go_in(
         p, slot, order, above.back, node, tag, decided, &mut way, steps,
     );
-    climb(p, slot, above.back, Some(node), &mut way)
+    let mut top = above.back;
+    climb(p, slot, &mut top, Some(node), 1, &mut way);
+    top
 }
 
 /// Takes the first node out: the node, and the new root.
@@ -59,8 +62,11 @@ pub(crate) fn take_first<T>(
 {
     let mut way = ArrayVec::new();
     let first = go_first(p, slot, root, &mut way);
-    let rest = p.link(first, slot).forth;
-    (first, climb(p, slot, Some(root), rest, &mut way))
+    let link = p.link(first, slot);
+    let high = height(p, slot, link.forth);
+    let mut rest = Some(root);
+    climb(p, slot, &mut rest, link.forth, high, &mut way);
+    (first, rest)
 }
 
 /// One tree of the two sides of a node, without the node. Its root.
@@ -114,5 +120,7 @@ pub(crate) fn take_out<T, O: NodeOrder<T>>(
     );
     let link = p.link(node, slot);
     let below = append(p, slot, link.back, link.forth);
-    replace(p, slot, above.back, below, link.height, &mut way)
+    let mut top = above.back;
+    replace(p, slot, &mut top, below, link.height, &mut way);
+    top
 }

@@ -1,17 +1,16 @@
 //! Ways down from a node to one below it.
 //! They read links through a counted pool, and change nothing.
-ghost use Rattle.std.specs.Prelude.{◌≡◌, ◌+◌, ◌*◌, ◌^◌, ◌<◌, ◌≤◌, ◌∷◌, ◌++◌, List, length};
-ghost use Rattle.std.specs.List.{position_or_len};
+ghost use Rattle.std.specs.Prelude.{◌≡◌, ◌+◌, ◌*◌, ◌<◌, ◌≤◌, ◌∷◌, ◌++◌, List, length};
 ghost use Rattle.mi_node.specs.Refs.{Ref};
 ghost use Rattle.mi_node.specs.Pool.{IsHeldIf, link_of};
 ghost use Rattle.mi_tree.specs.Sorted.{side, AreTagged, Rising, CanTake};
-ghost use Rattle.mi_tree.specs.Probed.{past, is_past_node, first_where, IsSteady};
-ghost use Rattle.mi_tree.specs.BinaryTree.{BinaryTree, IsRooted, nodes, forks, height, size_at, link_at, links_of, nth_of};
+ghost use Rattle.mi_tree.specs.Probed.{past};
+ghost use Rattle.mi_tree.specs.BinaryTree.{BinaryTree, IsRooted, nodes, height, size_at, link_at, links_of, nth_of};
 
-use crate::compare::{compare_nodes, compare_probe, probe_decides};
+use crate::compare::compare_nodes;
 use crate::order::NodeOrder;
 use mi_node::{Counted, Link, NO_LINK, NodeRef, Tag};
-use mi_value::{Probe, Steps};
+use mi_value::Steps;
 use std::cmp::Ordering;
 
 /// How many nodes stand there. At most one read.
@@ -29,7 +28,7 @@ pub(crate) fn size<T>(p: &mut Counted<T>, slot: usize, at: Option<NodeRef>) -> u
 }
 
 /// The link of the node, if there is one, and else one that was never set. At most one read.
-fn link_ahead<T>(p: &mut Counted<T>, slot: usize, at: Option<NodeRef>) -> Link
+pub(crate) fn link_ahead<T>(p: &mut Counted<T>, slot: usize, at: Option<NodeRef>) -> Link
     requires held { IsHeldIf p.old.pool at }
     requires slot { slot < p.old.pool.slots }
     ensures link { result ≡ link_at p.old.pool slot at }
@@ -116,81 +115,8 @@ pub(crate) fn rank_in<T, O: NodeOrder<T>>(
     before
 }
 
-/// The first node that the probe isn't after, or with `strict` the first that it is before.
-pub(crate) fn seek_in<T, O: NodeOrder<T>>(
-    p: &mut Counted<T>,
-    slot: usize,
-    order: &O,
-    root: Option<NodeRef>,
-    probe: Probe<'_>,
-    strict: bool,
-    steps: &mut Steps,
-) -> Option<NodeRef>
-    requires slot { slot < p.old.pool.slots }
-    requires tree { (t : BinaryTree) × IsRooted p.old.pool slot root t × AreTagged (O.tag_of order.now) p.old.pool slot (nodes t)
-        × IsSteady (is_past_node strict (λ v. O.place order.now v probe) p.old.pool) (nodes t) }
-    ensures node { (t : BinaryTree) → IsRooted p.old.pool slot root t
-        → result ≡ first_where (is_past_node strict (λ v. O.place order.now v probe.entry) p.old.pool) (nodes t) }
-    ensures pool { p.new.pool ≡ p.old.pool }
-    ensures reads { (t : BinaryTree) → IsRooted p.old.pool slot root t → p.new.reads ≤ p.old.reads + height t }
-    ensures steps { (t : BinaryTree) → IsRooted p.old.pool slot root t → steps.new.count ≤ steps.old.count + height t }
-{
-    let probe_tag = order.probe_tag(probe);
-    let decided = probe_decides::<T, O>(order, probe_tag);
-    let (mut at, mut found) = (root, None);
-    while let Some(node) = at {
-        let link = p.link(node, slot);
-        let side = compare_probe(p, order, node, link.tag, probe, probe_tag, decided, steps);
-        if is_past(side, strict) {
-            found = Some(node);
-            at = link.back;
-        } else {
-            at = link.forth;
-        }
-    }
-    found
-}
-
-/// How many nodes stand in front of the first that the probe isn't after, or with `strict` of the first that it is before; where
-/// there is none, how many there are. Whichever way it goes, it goes on with the link that it has read.
-pub(crate) fn rank_of_probe_in<T, O: NodeOrder<T>>(
-    p: &mut Counted<T>,
-    slot: usize,
-    order: &O,
-    root: Option<NodeRef>,
-    probe: Probe<'_>,
-    strict: bool,
-    steps: &mut Steps,
-) -> u32
-    requires slot { slot < p.old.pool.slots }
-    requires tree { (t : BinaryTree) × IsRooted p.old.pool slot root t × (forks t < 2 ^ 32) × AreTagged (O.tag_of order.now) p.old.pool slot (nodes t)
-        × IsSteady (is_past_node strict (λ v. O.place order.now v probe) p.old.pool) (nodes t) }
-    ensures rank { (t : BinaryTree) → IsRooted p.old.pool slot root t
-        → result ≡ position_or_len (is_past_node strict (λ v. O.place order.now v probe.entry) p.old.pool) (nodes t) }
-    ensures pool { p.new.pool ≡ p.old.pool }
-    ensures reads { (t : BinaryTree) → IsRooted p.old.pool slot root t → p.new.reads ≤ p.old.reads + height t }
-    ensures steps { (t : BinaryTree) → IsRooted p.old.pool slot root t → steps.new.count ≤ steps.old.count + height t }
-{
-    let probe_tag = order.probe_tag(probe);
-    let decided = probe_decides::<T, O>(order, probe_tag);
-    let (mut at, mut before) = (root, 0);
-    let mut link = link_ahead(p, slot, root);
-    while let Some(node) = at {
-        let side = compare_probe(p, order, node, link.tag, probe, probe_tag, decided, steps);
-        if is_past(side, strict) {
-            at = link.back;
-            link = link_ahead(p, slot, link.back);
-        } else {
-            let ahead = link_ahead(p, slot, link.forth);
-            before += link.size - ahead.size;
-            at = link.forth;
-            link = ahead;
-        }
-    }
-    before
-}
-
-fn is_past(side: Ordering, strict: bool) -> bool
+/// Whether the probe isn't after what stands on that side of it, or with `strict` whether it is before.
+pub(crate) fn is_past(side: Ordering, strict: bool) -> bool
     ensures { result ≡ past strict side }
 {
     match side {

@@ -33,6 +33,22 @@ pub(crate) fn height<T>(p: &Pool<T>, slot: usize, at: Option<NodeRef>) -> u8
     }
 }
 
+/// How many nodes stand there, and how many levels they have: one link says both.
+fn measures<T>(p: &Pool<T>, slot: usize, at: Option<NodeRef>) -> (u32, u8)
+    requires held { IsHeldIf p.now at }
+    requires slot { slot < p.now.slots }
+    ensures size { result.0 ≡ size_at p.now slot at }
+    ensures height { result.1 ≡ height_at p.now slot at }
+{
+    match at {
+        None => (0, 0),
+        Some(node) => {
+            let link = p.link(node, slot);
+            (link.size, link.height)
+        }
+    }
+}
+
 /// The node gets these two sides.
 pub(crate) fn join<T>(
     p: &mut Pool<T>,
@@ -51,8 +67,10 @@ pub(crate) fn join<T>(
     let mut link = p.link(x, slot);
     link.back = a;
     link.forth = b;
-    link.size = size(p, slot, link.back) + size(p, slot, link.forth) + 1;
-    link.height = height(p, slot, link.back).max(height(p, slot, link.forth)) + 1;
+    let left = measures(p, slot, link.back);
+    let right = measures(p, slot, link.forth);
+    link.size = left.0 + right.0 + 1;
+    link.height = left.1.max(right.1) + 1;
     set_fork(p, slot, x, link);
 }
 

@@ -11,7 +11,7 @@ ghost use Rattle.mi_tree.specs.Probed.{is_past_node, is_node_at, first_where};
 
 use crate::change::{put_in, take_out};
 use crate::compare::{compare_probe, probe_decides};
-use crate::look::{nth_in, rank_in, rank_of_probe_in, seek_in};
+use crate::look::{is_past, link_ahead, nth_in, rank_in};
 use crate::order::NodeOrder;
 use crate::parts::size;
 use crate::walk::{Direction, Walk};
@@ -166,7 +166,7 @@ impl<O> Tree<O> {
         ensures steps { (order : T → T → Side) (tag : T → ℕ) (rs : List Ref) → IsTree self.now p.old.pool order tag rs
             → (b : ℕ) → length rs < 2 ^ b → steps.new.count ≤ steps.old.count + 2 * b }
     {
-        seek_in(p, self.slot, &self.order, self.root, probe, false, steps)
+        self.bound(p, probe, false, steps)
     }
 
     /// The first node that is after the probe. At most 2b comparisons and 2b reads of links.
@@ -187,7 +187,7 @@ impl<O> Tree<O> {
         ensures steps { (order : T → T → Side) (tag : T → ℕ) (rs : List Ref) → IsTree self.now p.old.pool order tag rs
             → (b : ℕ) → length rs < 2 ^ b → steps.new.count ≤ steps.old.count + 2 * b }
     {
-        seek_in(p, self.slot, &self.order, self.root, probe, true, steps)
+        self.bound(p, probe, true, steps)
     }
 
     /// How many nodes are before the probe: all in front of the first that isn't, in one way down. At most 2b
@@ -204,7 +204,7 @@ impl<O> Tree<O> {
         ensures steps { (order : T → T → Side) (tag : T → ℕ) (rs : List Ref) → IsTree self.now p.old.pool order tag rs
             → (b : ℕ) → length rs < 2 ^ b → steps.new.count ≤ steps.old.count + 2 * b }
     {
-        rank_of_probe_in(p, self.slot, &self.order, self.root, probe, false, steps)
+        self.bound_rank(p, probe, false, steps)
     }
 
     /// How many nodes aren't after the probe: all in front of the first that is, in one way down. At most 2b
@@ -221,7 +221,99 @@ impl<O> Tree<O> {
         ensures steps { (order : T → T → Side) (tag : T → ℕ) (rs : List Ref) → IsTree self.now p.old.pool order tag rs
             → (b : ℕ) → length rs < 2 ^ b → steps.new.count ≤ steps.old.count + 2 * b }
     {
-        rank_of_probe_in(p, self.slot, &self.order, self.root, probe, true, steps)
+        self.bound_rank(p, probe, true, steps)
+    }
+
+    /// The first node that the probe isn't after, or with `strict` the first that it is before.
+    fn bound<T>(
+        &self,
+        p: &mut Counted<T>,
+        probe: Probe<'_>,
+        strict: bool,
+        steps: &mut Steps,
+    ) -> Option<NodeRef>
+    where
+        O: NodeOrder<T>,
+        requires { (rs : List Ref) × IsTree self.now p.old.pool (O.order self.now.order) (O.tag_of self.now.order) rs }
+        ensures node { (rs : List Ref) → IsTree self.now p.old.pool (O.order self.now.order) (O.tag_of self.now.order) rs
+            → result ≡ first_where (is_past_node strict (λ v. O.place self.now.order v probe.entry) p.old.pool) rs }
+        ensures pool { p.new.pool ≡ p.old.pool }
+        ensures reads { (order : T → T → Side) (tag : T → ℕ) (rs : List Ref) → IsTree self.now p.old.pool order tag rs
+            → (b : ℕ) → length rs < 2 ^ b → p.new.reads ≤ p.old.reads + 2 * b }
+        ensures steps { (order : T → T → Side) (tag : T → ℕ) (rs : List Ref) → IsTree self.now p.old.pool order tag rs
+            → (b : ℕ) → length rs < 2 ^ b → steps.new.count ≤ steps.old.count + 2 * b }
+    {
+        let probe_tag = self.order.probe_tag(probe);
+        let decided = probe_decides::<T, O>(&self.order, probe_tag);
+        let (mut at, mut found) = (self.root, None);
+        while let Some(node) = at {
+            let link = p.link(node, self.slot);
+            let side = compare_probe(
+                p,
+                &self.order,
+                node,
+                link.tag,
+                probe,
+                probe_tag,
+                decided,
+                steps,
+            );
+            if is_past(side, strict) {
+                found = Some(node);
+                at = link.back;
+            } else {
+                at = link.forth;
+            }
+        }
+        found
+    }
+
+    /// How many nodes stand in front of the first that the probe isn't after, or with `strict` of the first that it is before. Whichever
+    /// way it goes, it goes on with the link that it has read.
+    fn bound_rank<T>(
+        &self,
+        p: &mut Counted<T>,
+        probe: Probe<'_>,
+        strict: bool,
+        steps: &mut Steps,
+    ) -> u32
+    where
+        O: NodeOrder<T>,
+        requires { (rs : List Ref) × IsTree self.now p.old.pool (O.order self.now.order) (O.tag_of self.now.order) rs }
+        ensures rank { (rs : List Ref) → IsTree self.now p.old.pool (O.order self.now.order) (O.tag_of self.now.order) rs
+            → result ≡ position_or_len (is_past_node strict (λ v. O.place self.now.order v probe.entry) p.old.pool) rs }
+        ensures pool { p.new.pool ≡ p.old.pool }
+        ensures reads { (order : T → T → Side) (tag : T → ℕ) (rs : List Ref) → IsTree self.now p.old.pool order tag rs
+            → (b : ℕ) → length rs < 2 ^ b → p.new.reads ≤ p.old.reads + 2 * b }
+        ensures steps { (order : T → T → Side) (tag : T → ℕ) (rs : List Ref) → IsTree self.now p.old.pool order tag rs
+            → (b : ℕ) → length rs < 2 ^ b → steps.new.count ≤ steps.old.count + 2 * b }
+    {
+        let probe_tag = self.order.probe_tag(probe);
+        let decided = probe_decides::<T, O>(&self.order, probe_tag);
+        let (mut at, mut before) = (self.root, 0);
+        let mut link = link_ahead(p, self.slot, self.root);
+        while let Some(node) = at {
+            let side = compare_probe(
+                p,
+                &self.order,
+                node,
+                link.tag,
+                probe,
+                probe_tag,
+                decided,
+                steps,
+            );
+            if is_past(side, strict) {
+                at = link.back;
+                link = link_ahead(p, self.slot, link.back);
+            } else {
+                let ahead = link_ahead(p, self.slot, link.forth);
+                before += link.size - ahead.size;
+                at = link.forth;
+                link = ahead;
+            }
+        }
+        before
     }
 
     /// The first node at the probe, if there is one. At most 2b + 1 comparisons and 4b reads of links.

@@ -1,7 +1,7 @@
 //! The way from a tree's root down to a place in it, and back up as far as heights change.
 //! Sizes change on the way down, so that a change visits no link above the last whose height it changes.
 ghost use Rattle.std.specs.Prelude.{◌≡◌, ℕ, ◌<◌, List, [], Option, cond, Some, ◌+◌};
-ghost use Rattle.mi_node.specs.Pool.{link_of, IsHeldIf};
+ghost use Rattle.mi_node.specs.Pool.{link_of};
 ghost use Rattle.mi_node.specs.Refs.{Ref};
 ghost use Rattle.mi_tree.specs.BinaryTree.{BinaryTree, Tip, nodes, height as height_of, height_at};
 ghost use Rattle.mi_tree.specs.Sorted.{side, AreTagged, Rising};
@@ -162,116 +162,124 @@ fn with_child(link: Link, left: bool, child: Option<NodeRef>) -> Link
     }
 }
 
-/// Puts the tree `below` in place of the one at the end of the way, whose height differs from its own by
+/// Puts the tree `below`, which is so high, in place of the one at the end of the way, whose height differs from its own by
 /// at most one, and rejoins the nodes of the way while heights change. The sizes on the way are right
-/// already; and so is all above a node that stays where it is, and as high. The tree's root.
+/// already; and so is all above a node that stays where it is, and as high. `root` becomes the tree's root.
+///
+/// It answers nothing, so that the compiler makes a loop of it.
 pub(crate) fn climb<T>(
     p: &mut Pool<T>,
     slot: usize,
-    root: Option<NodeRef>,
+    root: &mut Option<NodeRef>,
     below: Option<NodeRef>,
+    high: u8,
     way: &mut Way,
-) -> Option<NodeRef>
+)
     requires slot { slot < p.old.slots }
-    requires way { (fs : List Frame) × (at : Option Ref) × (h : ℕ) × (u : BinaryTree) × Climbs p.old slot root below way.old.items fs at h u }
+    requires high { high ≡ height_at p.old slot below }
+    requires way { (fs : List Frame) × (at : Option Ref) × (h : ℕ) × (u : BinaryTree) × Climbs p.old slot root.old below way.old.items fs at h u }
     ensures slots { p.new.slots ≡ p.old.slots }
-    ensures tree { (fs : List Frame) (at : Option Ref) (h : ℕ) (u : BinaryTree) → Climbs p.old slot root below way.old.items fs at h u
-        → (v : BinaryTree) × HasClimbed p.old p.new slot (plug fs u) result v }
-    ensures height { (fs : List Frame) (at : Option Ref) (h : ℕ) (u : BinaryTree) → Climbs p.old slot root below way.old.items fs at h u
-        → IsLevel (height_of u) h (height_at p.new slot result) (risen fs h) }
+    ensures tree { (fs : List Frame) (at : Option Ref) (h : ℕ) (u : BinaryTree) → Climbs p.old slot root.old below way.old.items fs at h u
+        → (v : BinaryTree) × HasClimbed p.old p.new slot (plug fs u) root.new v }
+    ensures height { (fs : List Frame) (at : Option Ref) (h : ℕ) (u : BinaryTree) → Climbs p.old slot root.old below way.old.items fs at h u
+        → IsLevel (height_of u) h (height_at p.new slot root.new) (risen fs h) }
 {
     let Some(turn) = way.pop() else {
-        return below;
+        *root = below;
+        return;
     };
     let name = turn.node.name();
     let before = p.link(turn.node, slot).height;
-    let top = rejoin(p, slot, turn, below);
-    if height(p, slot, Some(top)) == before {
-        if top.name() == name {
-            root
-        } else {
-            hang(p, slot, root, top, way)
-        }
-    } else {
-        climb(p, slot, root, Some(top), way)
+    let (top, now) = rejoin(p, slot, turn, below, high, before);
+    if now != before {
+        climb(p, slot, root, Some(top), now, way);
+        return;
+    }
+    if top.name() != name {
+        hang(p, slot, root, top, way);
     }
 }
 
-/// Puts a node of the way over its two sides again, of which `below` is another tree than before. The node's size is right. Where
-/// `below` is one level lower than the node, the two are balanced and the node's height is right: the other side isn't read. Where
-/// they are balanced, the height is all that is to be said anew. The root of what they give.
-fn rejoin<T>(p: &mut Pool<T>, slot: usize, turn: Turn, below: Option<NodeRef>) -> NodeRef
+/// Puts a node of the way, which was as high as `before` says, over its two sides again, of which `below`, which is so high, is
+/// another tree than before. The node's size is right. Where `below` is one level lower than the node, the two are balanced and the
+/// node's height is right: the other side isn't read. Where they are balanced, the height is all that is to be said anew. The root
+/// of what they give, and how high it is.
+fn rejoin<T>(
+    p: &mut Pool<T>,
+    slot: usize,
+    turn: Turn,
+    below: Option<NodeRef>,
+    high: u8,
+    before: u8,
+) -> (NodeRef, u8)
     requires slot { slot < p.old.slots }
-    requires below { IsHeldIf p.old below × (height_at p.old slot below + 1 < 256) }
+    requires high { (high ≡ height_at p.old slot below) × (high + 1 < 256) }
+    requires before { before ≡ (link_of p.old turn.node.name slot).height }
     requires sides { (l : BinaryTree) × (q : BinaryTree) × AreRejoined p.old slot turn below (link_of p.old turn.node.name slot) l q }
     ensures slots { p.new.slots ≡ p.old.slots }
     ensures tree { (l : BinaryTree) (q : BinaryTree) → AreRejoined p.old slot turn below (link_of p.old turn.node.name slot) l q
-        → (t : BinaryTree) × IsBalanced p.old p.new slot l turn.node q result t }
+        → (t : BinaryTree) × IsBalanced p.old p.new slot l turn.node q result.0 t }
+    ensures height { result.1 ≡ height_at p.new slot (Some result.0) }
+{
+    if high + 1 == before {
+        set_side(p, slot, turn.node, turn.left, below, before);
+        return (turn.node, before);
+    }
+    let beside = height(p, slot, p.neighbour(turn.node, slot, !turn.left));
+    if high.abs_diff(beside) <= 1 {
+        let now = high.max(beside) + 1;
+        set_side(p, slot, turn.node, turn.left, below, now);
+        return (turn.node, now);
+    }
+    let link = with_child(p.link(turn.node, slot), turn.left, below);
+    let top = balance(p, slot, link.back, turn.node, link.forth);
+    let now = height(p, slot, Some(top));
+    (top, now)
+}
+
+/// Puts the tree of that root in place of the one at the end of the way, which is as high. `root` becomes the tree's root.
+fn hang<T>(p: &mut Pool<T>, slot: usize, root: &mut Option<NodeRef>, top: NodeRef, way: &mut Way)
+    requires slot { slot < p.old.slots }
+    requires way { (fs : List Frame) × (at : Option Ref) × (u : BinaryTree) × Climbs p.old slot root.old (Some top) way.old.items fs at (height_of u) u }
+    ensures slots { p.new.slots ≡ p.old.slots }
+    ensures tree { (fs : List Frame) (at : Option Ref) (u : BinaryTree) → Climbs p.old slot root.old (Some top) way.old.items fs at (height_of u) u
+        → (v : BinaryTree) × HasClimbed p.old p.new slot (plug fs u) root.new v }
+    ensures height { (fs : List Frame) (at : Option Ref) (u : BinaryTree) → Climbs p.old slot root.old (Some top) way.old.items fs at (height_of u) u
+        → height_at p.new slot root.new ≡ risen fs (height_of u) }
+{
+    let Some(turn) = way.pop() else {
+        *root = Some(top);
+        return;
+    };
+    let height = p.link(turn.node, slot).height;
+    p.set_side(turn.node, slot, turn.left, Some(top), height);
+}
+
+/// Puts the tree `below` in place of the one of that height at the end of the way, as `climb` does; where
+/// it is as high, no other height changes. `root` becomes the tree's root.
+pub(crate) fn replace<T>(
+    p: &mut Pool<T>,
+    slot: usize,
+    root: &mut Option<NodeRef>,
+    below: Option<NodeRef>,
+    before: u8,
+    way: &mut Way,
+)
+    requires slot { slot < p.old.slots }
+    requires way { (fs : List Frame) × (at : Option Ref) × (u : BinaryTree) × Climbs p.old slot root.old below way.old.items fs at before u }
+    ensures slots { p.new.slots ≡ p.old.slots }
+    ensures tree { (fs : List Frame) (at : Option Ref) (u : BinaryTree) → Climbs p.old slot root.old below way.old.items fs at before u
+        → (v : BinaryTree) × HasClimbed p.old p.new slot (plug fs u) root.new v }
+    ensures height { (fs : List Frame) (at : Option Ref) (u : BinaryTree) → Climbs p.old slot root.old below way.old.items fs at before u
+        → IsLevel (height_of u) before (height_at p.new slot root.new) (risen fs before) }
 {
     let under = Link {
         back: below,
         ..NO_LINK
     };
     let high = height(p, slot, under.back);
-    let before = p.link(turn.node, slot).height;
-    if high + 1 == before {
-        set_side(p, slot, turn.node, turn.left, under.back, before);
-        return turn.node;
-    }
-    let beside = height(p, slot, p.neighbour(turn.node, slot, !turn.left));
-    if high.abs_diff(beside) <= 1 {
-        let now = high.max(beside) + 1;
-        set_side(p, slot, turn.node, turn.left, under.back, now);
-        return turn.node;
-    }
-    let link = with_child(p.link(turn.node, slot), turn.left, under.back);
-    balance(p, slot, link.back, turn.node, link.forth)
-}
-
-/// Puts the tree of that root in place of the one at the end of the way, which is as high. The tree's root.
-fn hang<T>(
-    p: &mut Pool<T>,
-    slot: usize,
-    root: Option<NodeRef>,
-    top: NodeRef,
-    way: &mut Way,
-) -> Option<NodeRef>
-    requires slot { slot < p.old.slots }
-    requires way { (fs : List Frame) × (at : Option Ref) × (u : BinaryTree) × Climbs p.old slot root (Some top) way.old.items fs at (height_of u) u }
-    ensures slots { p.new.slots ≡ p.old.slots }
-    ensures tree { (fs : List Frame) (at : Option Ref) (u : BinaryTree) → Climbs p.old slot root (Some top) way.old.items fs at (height_of u) u
-        → (v : BinaryTree) × HasClimbed p.old p.new slot (plug fs u) result v }
-    ensures height { (fs : List Frame) (at : Option Ref) (u : BinaryTree) → Climbs p.old slot root (Some top) way.old.items fs at (height_of u) u
-        → height_at p.new slot result ≡ risen fs (height_of u) }
-{
-    let Some(turn) = way.pop() else {
-        return Some(top);
-    };
-    let height = p.link(turn.node, slot).height;
-    p.set_side(turn.node, slot, turn.left, Some(top), height);
-    root
-}
-
-/// Puts the tree `below` in place of the one of that height at the end of the way, as `climb` does; where
-/// it is as high, no other height changes. The tree's root.
-pub(crate) fn replace<T>(
-    p: &mut Pool<T>,
-    slot: usize,
-    root: Option<NodeRef>,
-    below: Option<NodeRef>,
-    before: u8,
-    way: &mut Way,
-) -> Option<NodeRef>
-    requires slot { slot < p.old.slots }
-    requires way { (fs : List Frame) × (at : Option Ref) × (u : BinaryTree) × Climbs p.old slot root below way.old.items fs at before u }
-    ensures slots { p.new.slots ≡ p.old.slots }
-    ensures tree { (fs : List Frame) (at : Option Ref) (u : BinaryTree) → Climbs p.old slot root below way.old.items fs at before u
-        → (v : BinaryTree) × HasClimbed p.old p.new slot (plug fs u) result v }
-    ensures height { (fs : List Frame) (at : Option Ref) (u : BinaryTree) → Climbs p.old slot root below way.old.items fs at before u
-        → IsLevel (height_of u) before (height_at p.new slot result) (risen fs before) }
-{
-    match below {
-        Some(top) if height(p, slot, Some(top)) == before => hang(p, slot, root, top, way),
-        _ => climb(p, slot, root, below, way),
+    match under.back {
+        Some(top) if high == before => hang(p, slot, root, top, way),
+        _ => climb(p, slot, root, under.back, high, way),
     }
 }

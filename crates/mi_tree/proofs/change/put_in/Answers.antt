@@ -1,9 +1,10 @@
 -- The way down ends where the node belongs, and the climb puts it there with all heights right.
-use Rattle.std.proofs.Common.{None, [], List, ◌∷◌, sym, subst}
+use Rattle.std.proofs.Common.{None, Some, [], List, ◌∷◌, sym, subst}
 use Rattle.mi_tree.specs.BinaryTree.{BinaryTree, Fork, Tip, nodes}
 use Rattle.mi_tree.specs.Sorted.{AreTagged, CanPut, side}
 use Rattle.mi_tree.specs.Ways.{Falls}
 use Rattle.mi_tree.specs.declared.way.Turn.{Turn}
+use Rattle.mi_tree.proofs.BinaryTreeLemmas.{height-root}
 use Rattle.mi_tree.proofs.WayLemmas.{falls_start, climbs_start, has_put}
 use Rattle.mi_tree.proofs.change.put_in.Given.{Over}
 use Rattle.mi_tree.proofs.change.put_in.Goals.{After-new-way}
@@ -21,6 +22,12 @@ module _ (g : Over) (c : After-new-way g) where
 pub go_in-requires-clause-way : goal.go_in-requires-clause-way
 go_in-requires-clause-way g c =
     let w = c.requires.tree in ([], w.0, start g (goal.at.go_in-requires-clause-way g c).After-new-way w.1 w.2)
+
+pub climb-requires-clause-high : goal.climb-requires-clause-high
+climb-requires-clause-high g c =
+    let w = c.requires.tree in
+    let far = c.go_in.ensures.way [] w.0 (start g (goal.at.climb-requires-clause-high g c).After-new-way w.1 w.2) in
+    sym (height-root c.go_in.new.p c.args.slot (Some c.args.node) (Fork Tip c.args.node Tip) far.1.alone)
 
 pub climb-requires-clause-way : goal.climb-requires-clause-way
 climb-requires-clause-way g c =

@@ -6,7 +6,8 @@ use Rattle.mi_tree.specs.BinaryTree.{BinaryTree, Fork, Tip, nodes, height}
 use Rattle.mi_tree.specs.Sorted.{CanTake}
 use Rattle.mi_tree.specs.Ways.{Frame, Sinks, HasSunk}
 use Rattle.mi_tree.specs.declared.way.Turn.{Turn}
-use Rattle.mi_tree.proofs.RemovalWayLemmas.{some_first, sinks_start, held_here, alone_right, climbs_away, has_left}
+use Rattle.mi_tree.proofs.BinaryTreeLemmas.{held-root}
+use Rattle.mi_tree.proofs.RemovalWayLemmas.{some_first, sinks_start, held_here, ends_here, alone_right, climbs_away, has_left}
 use Rattle.mi_tree.proofs.change.take_first.Given.{Over}
 use Rattle.mi_tree.proofs.change.take_first.Goals.{After-new-way, After-go_first-first}
 use Rattle.mi_tree.proofs.change.take_first.Goals as goal
@@ -30,24 +31,31 @@ go_first-first-requires-clause-way g c =
     let w = c.requires.tree in let f = some_first c.args.p.now c.args.slot c.args.root w.0 w.1 in
     ([], w.0, f.0, f.1, [], f.1, start g (goal.at.go_first-first-requires-clause-way g c).After-new-way w.1 f.2)
 
-pub link-rest-requires-clause-held : goal.link-rest-requires-clause-held
-link-rest-requires-clause-held g c =
-    let at = goal.at.link-rest-requires-clause-held g c in let w = c.requires.tree in let f = some_first c.args.p.now c.args.slot c.args.root w.0 w.1 in
+pub link-link-requires-clause-held : goal.link-link-requires-clause-held
+link-link-requires-clause-held g c =
+    let at = goal.at.link-link-requires-clause-held g c in let w = c.requires.tree in let f = some_first c.args.p.now c.args.slot c.args.root w.0 w.1 in
     let far = end g at.After-go_first-first (start g at.After-new-way w.1 f.2) in
     subst (IsHeld c.go_first-first.new.p) (sym far.0) (held_here w.1 f.2 far.3 refl)
+
+pub height-high-requires-clause-held : goal.height-high-requires-clause-held
+height-high-requires-clause-held g c =
+    let at = goal.at.height-high-requires-clause-held g c in let h = c.requires.tree.1 in let f = some_first c.args.p.now c.args.slot c.args.root _ h in
+    let far = end g at.After-go_first-first (start g at.After-new-way h f.2) in
+    let i = c.link-link.ensures ∙ ap (λ (z : Ref). link_of c.go_first-first.new.p z.name c.args.slot) far.0 in
+    held-root c.go_first-first.new.p c.args.slot c.link-link.result.forth far.2 (ends_here h f.2 far.3 i).right_is
 
 pub climb-requires-clause-way : goal.climb-requires-clause-way
 climb-requires-clause-way g c =
     let at = goal.at.climb-requires-clause-way g c in let h = c.requires.tree.1 in let f = some_first c.args.p.now c.args.slot c.args.root _ h in
     let far = end g at.After-go_first-first (start g at.After-new-way h f.2) in
-    let i = c.link-rest.ensures ∙ ap (λ (z : Ref). link_of c.go_first-first.new.p z.name c.args.slot) far.0 in
+    let i = c.link-link.ensures ∙ ap (λ (z : Ref). link_of c.go_first-first.new.p z.name c.args.slot) far.0 in
     (far.1, Some f.0, height (Fork Tip f.0 far.2), far.2, climbs_away h f.2 far.3 i (alone_right h f.2 far.3 i refl) refl)
 
 pub returns-clause-tree : goal.returns-clause-tree
 returns-clause-tree g c t h =
     let at = goal.at.returns-clause-tree g c in let f = some_first c.args.p.now c.args.slot c.args.root t h in
     let far = end g at.After-go_first-first (start g at.After-new-way h f.2) in
-    let i = c.link-rest.ensures ∙ ap (λ (z : Ref). link_of c.go_first-first.new.p z.name c.args.slot) far.0 in
+    let i = c.link-link.ensures ∙ ap (λ (z : Ref). link_of c.go_first-first.new.p z.name c.args.slot) far.0 in
     let alone = alone_right h f.2 far.3 i refl in let up = climbs_away h f.2 far.3 i alone refl in
     let all = c.climb.ensures.tree far.1 (Some f.0) _ far.2 up in
     let left = has_left h f.2 far.3 i alone refl all.1 (c.climb.ensures.height far.1 (Some f.0) _ far.2 up) in

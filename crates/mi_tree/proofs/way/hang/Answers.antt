@@ -20,9 +20,9 @@ module _ (g : Over) (c : In-Some g) where
 
 module _ (g : Over) (c : After-set_side g) {fs : List Frame} {at : Option Ref} {u : BinaryTree} where
   -- the tree is in place
-  placed : Climbs c.args.p.now c.args.slot c.args.root (Some c.args.top) c.args.way.now.items fs at (height u) u
+  placed : Climbs c.args.p.now c.args.slot c.args.root.now (Some c.args.top) c.args.way.now.items fs at (height u) u
       → IsTurned fs c.pop.new.self.items c.in-Some.turn
-      → HasClimbed c.args.p.now c.set_side.new.self c.args.slot (plug fs u) c.args.root (plug fs u)
+      → HasClimbed c.args.p.now c.set_side.new.self c.args.slot (plug fs u) c.args.root.now (plug fs u)
   placed h w =
       let m = c.args.p.now in let s = c.args.slot in let r = c.in-Some.turn.node in
       hung h w refl (c.set_side.ensures ∙ ap (λ j. with_link m r.name s (sided c.in-Some.turn.left (Some c.args.top) j (link_of m r.name s)))
@@ -47,4 +47,4 @@ returns-clause-tree g c fs at u h =
 pub returns-clause-height : goal.returns-clause-height
 returns-clause-height g c fs at u h =
     let o = goal.at.returns-clause-height g c in let on = placed g o.After-set_side h (turned g o.In-Some fs h.path_is) in
-    height-root c.set_side.new.self c.args.slot c.args.root (plug fs u) on.rooted ∙ plug_height fs u
+    height-root c.set_side.new.self c.args.slot c.args.root.now (plug fs u) on.rooted ∙ plug_height fs u

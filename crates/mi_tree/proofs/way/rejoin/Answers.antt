@@ -1,11 +1,12 @@
 -- A side that is one level lower than its node needs no balance; sides of nearly one height need another height alone; else the two sides are balanced.
-use Rattle.std.proofs.Common.{◌+◌, ◌-◌, ◌≤◌, cond, not, refl, sym, ap, ◌∙◌, subst, arith}
+use Rattle.std.proofs.Common.{◌≡◌, ◌+◌, ◌-◌, ◌≤◌, max, Some, cond, not, refl, sym, ap, ◌∙◌, subst, arith}
 use Rattle.mi_node.specs.Cells.{sided}
 use Rattle.mi_node.specs.Pool.{IsHeldIf, link_of}
 use Rattle.mi_node.specs.declared.link.Link.{Link}
-use Rattle.mi_tree.specs.BinaryTree.{BinaryTree, height, height_at, DifferByAtMost}
-use Rattle.mi_tree.specs.Joining.{IsFork}
-use Rattle.mi_tree.specs.Ways.{AreRejoined}
+use Rattle.mi_tree.specs.BinaryTree.{BinaryTree, Fork, height, height_at, DifferByAtMost}
+use Rattle.mi_tree.specs.Joining.{AreSides, IsFork}
+use Rattle.mi_tree.specs.Ways.{AreRejoined, rehung}
+use Rattle.mi_tree.proofs.BinaryTreeLemmas.{height-root, held-root}
 use Rattle.mi_tree.proofs.RotationLemmas.{plains}
 use Rattle.mi_tree.proofs.WayLemmas.{AreHigh, other_held, rejoined_high, rejoined_fork}
 use Rattle.mi_tree.proofs.way.rejoin.Given.{Over}
@@ -17,20 +18,20 @@ module _ (g : Over) (c : Then-high-before g) where
   over : {l q : BinaryTree}
       → AreRejoined c.args.p.now c.args.slot c.args.turn c.args.below (link_of c.args.p.now c.args.turn.node.name c.args.slot) l q
       → IsFork c.args.p.now c.args.slot c.args.turn.node
-      (sided c.args.turn.left c.args.below c.link-before.result.height (link_of c.args.p.now c.args.turn.node.name c.args.slot)) l q
+      (sided c.args.turn.left c.args.below c.args.before (link_of c.args.p.now c.args.turn.node.name c.args.slot)) l q
       × DifferByAtMost 1 (height l) (height q)
   over {l} {q} r =
-      let v = c.args in let tall = ap (λ (z : Link). z.height) c.link-before.ensures in
-      let k = r.settled (ap (λ j. j + 1) (sym c.height-high.ensures) ∙ c.if-high-before.true ∙ tall) in
+      let v = c.args in let tall = c.requires.before in
+      let k = r.settled (ap (λ j. j + 1) (sym c.requires.high.0) ∙ c.if-high-before.true ∙ tall) in
       (subst (λ j. IsFork v.p.now v.slot v.turn.node (sided v.turn.left v.below j (link_of v.p.now v.turn.node.name v.slot)) l q) (sym tall) k.0, k.1)
 
 module _ (g : Over) (c : After-height-beside g) where
   -- the heights of the two sides
-  high : {l q : BinaryTree}
+  tall : {l q : BinaryTree}
       → AreRejoined c.args.p.now c.args.slot c.args.turn c.args.below (link_of c.args.p.now c.args.turn.node.name c.args.slot) l q
       → AreHigh c.args.p.now c.args.slot (cond (not c.args.turn.left) (link_of c.args.p.now c.args.turn.node.name c.args.slot).back
-      (link_of c.args.p.now c.args.turn.node.name c.args.slot).forth) l q c.height-high.result c.height-beside.result
-  high r = rejoined_high r c.height-high.ensures (c.height-beside.ensures ∙ ap (height_at c.args.p.now c.args.slot) c.neighbour.ensures)
+      (link_of c.args.p.now c.args.turn.node.name c.args.slot).forth) l q c.args.high c.height-beside.result
+  tall r = rejoined_high r c.requires.high.0 (c.height-beside.ensures ∙ ap (height_at c.args.p.now c.args.slot) c.neighbour.ensures)
 
 pub set_side-requires-clause-parts : goal.set_side-requires-clause-parts
 set_side-requires-clause-parts g c =
@@ -41,24 +42,45 @@ returns-then-high-before-clause-tree g c l q h =
     let k = over g (goal.at.returns-then-high-before-clause-tree g c).Then-high-before h in let set = c.set_side.ensures in
     plains h.sides k.1 (set.tree l q k.0) set.keeps set.tags
 
+pub returns-then-high-before-clause-height : goal.returns-then-high-before-clause-height
+returns-then-high-before-clause-height g c =
+    let w = c.requires.sides in let k = over g (goal.at.returns-then-high-before-clause-height g c).Then-high-before w.2 in
+    k.0.height_is ∙ sym (height-root c.set_side.new.p c.args.slot (Some c.args.turn.node) (Fork w.0 c.args.turn.node w.1) (c.set_side.ensures.tree w.0 w.1 k.0))
+
 pub height-beside-requires-clause-held : goal.height-beside-requires-clause-held
 height-beside-requires-clause-held g c =
     let w = c.requires.sides in subst (IsHeldIf c.args.p.now) (sym c.neighbour.ensures) (other_held w.2)
 
 pub overflow_add-now : goal.overflow_add-now
 overflow_add-now g c =
-    let h = high g (goal.at.overflow_add-now g c).After-height-beside c.requires.sides.2 in let low = h.low in let top = c.max-now.ensures in omega arith
+    let h = tall g (goal.at.overflow_add-now g c).After-height-beside c.requires.sides.2 in let low = h.low in let top = c.max-now.ensures in omega arith
 
 pub set_side-requires-then-abs_diff-le1-clause-parts : goal.set_side-requires-then-abs_diff-le1-clause-parts
 set_side-requires-then-abs_diff-le1-clause-parts g c =
-    let w = c.requires.sides in let h = high g (goal.at.set_side-requires-then-abs_diff-le1-clause-parts g c).After-height-beside w.2 in
+    let w = c.requires.sides in let h = tall g (goal.at.set_side-requires-then-abs_diff-le1-clause-parts g c).After-height-beside w.2 in
     (w.0, w.1, rejoined_fork (c.max-now.result + 1) w.2 refl refl (ap (λ j. j + 1) (c.max-now.ensures ∙ h.top_is)))
 
 pub returns-then-abs_diff-le1-clause-tree : goal.returns-then-abs_diff-le1-clause-tree
 returns-then-abs_diff-le1-clause-tree g c l q r =
-    let h = high g (goal.at.returns-then-abs_diff-le1-clause-tree g c).After-height-beside r in
+    let h = tall g (goal.at.returns-then-abs_diff-le1-clause-tree g c).After-height-beside r in
     let fork = rejoined_fork (c.max-now.result + 1) r refl refl (ap (λ j. j + 1) (c.max-now.ensures ∙ h.top_is)) in
-    let close : c.height-high.result - c.height-beside.result + (c.height-beside.result - c.height-high.result) ≤ 1 = omega (arith, c.abs_diff.ensures) in
-    let near : DifferByAtMost 1 c.height-high.result c.height-beside.result = (omega arith, omega arith) in
+    let close : c.args.high - c.height-beside.result + (c.height-beside.result - c.args.high) ≤ 1 = omega (arith, c.abs_diff.ensures) in
+    let near : DifferByAtMost 1 c.args.high c.height-beside.result = (omega arith, omega arith) in
     let set = c.set_side-then-abs_diff-le1.ensures in
     plains r.sides (h.near near) (set.tree l q fork) set.keeps set.tags
+
+pub returns-then-abs_diff-le1-clause-height : goal.returns-then-abs_diff-le1-clause-height
+returns-then-abs_diff-le1-clause-height g c =
+    let w = c.requires.sides in let h = tall g (goal.at.returns-then-abs_diff-le1-clause-height g c).After-height-beside w.2 in
+    let is = ap (λ j. j + 1) (c.max-now.ensures ∙ h.top_is) in
+    let set = c.set_side-then-abs_diff-le1 in
+    is ∙ sym (height-root set.new.p c.args.slot (Some c.args.turn.node) (Fork w.0 c.args.turn.node w.1)
+    (set.ensures.tree w.0 w.1 (rejoined_fork (c.max-now.result + 1) w.2 refl refl is)))
+
+pub height-now-requires-clause-held : goal.height-now-requires-clause-held
+height-now-requires-clause-held g c =
+    let v = c.args in let w = c.requires.sides in
+    let hung = c.with_child-link.ensures ∙ ap (rehung v.turn.left v.below) c.link.ensures in
+    let sides = subst (λ (z : Link). AreSides v.p.now v.slot z.back v.turn.node z.forth w.0 w.1) (sym hung) w.2.sides in
+    let k = c.balance-top.ensures.tree w.0 w.1 sides in
+    held-root c.balance-top.new.p c.args.slot (Some c.balance-top.result) k.0 k.1.rooted

@@ -1,6 +1,6 @@
 -- The rank in the tree is the number of nodes in front in the list, and the height bounds what is read.
 use Rattle.std.proofs.Common.{arith}
-use Rattle.mi_tree.proofs.StandingLemmas.{bound, bound_node, can_take, rising_in, tagged_in, tree_moved, node_held}
+use Rattle.mi_tree.proofs.StandingLemmas.{within, bound_node, can_take, rising_in, tagged_in, tree_moved, node_held}
 use Rattle.mi_tree.proofs.tree.Tree.rank.Goals as goal
 
 pub link-requires-clause-held : goal.link-requires-clause-held
@@ -22,4 +22,4 @@ returns-clause-reads g c order t rs was b f =
 
 pub returns-clause-steps : goal.returns-clause-steps
 returns-clause-steps g c order t rs was b f =
-    let h = tree_moved c.link.ensures.pool was in let a = c.rank_in.ensures.steps h.shape h.rooted in let d = bound h b f in omega arith
+    let h = tree_moved c.link.ensures.pool was in within h b f _ _ (c.rank_in.ensures.steps h.shape h.rooted)

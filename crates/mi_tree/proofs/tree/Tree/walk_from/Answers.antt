@@ -3,7 +3,7 @@ use Rattle.std.proofs.Common.{◌∷◌, subst, arith}
 use Rattle.mi_node.specs.Pool.{Pooled}
 use Rattle.mi_tree.specs.BinaryTree.{height}
 use Rattle.mi_tree.specs.Walking.{IsWalk, beyond}
-use Rattle.mi_tree.proofs.StandingLemmas.{bound, bound_node, can_take, rising_in, tagged_in, tree_moved, node_held, enters_root}
+use Rattle.mi_tree.proofs.StandingLemmas.{bound, within, bound_node, can_take, rising_in, tagged_in, tree_moved, node_held, enters_root}
 use Rattle.mi_tree.proofs.tree.Tree.walk_from.Goals as goal
 
 pub link-requires-clause-held : goal.link-requires-clause-held
@@ -23,12 +23,12 @@ returns-clause-walk g c xs ys was =
       λ b f. bound h b f,
     )
 
+pub returns-clause-steps : goal.returns-clause-steps
+returns-clause-steps g c order t rs was b f =
+    let h = tree_moved c.link.ensures.pool was in within h b f _ _ (c.start_at.ensures.steps h.shape h.rooted)
+
 pub returns-clause-reads : goal.returns-clause-reads
 returns-clause-reads g c order t rs was b f =
     let w = c.requires in let same = c.link.ensures.pool in let h = tree_moved same was in let e = c.link.ensures.reads in
     let d = bound_node h w.0 c.args.node w.1 (tree_moved same w.2) b f in let a = c.start_at.ensures.reads h.shape h.rooted in
     omega arith
-
-pub returns-clause-steps : goal.returns-clause-steps
-returns-clause-steps g c order t rs was b f =
-    let h = tree_moved c.link.ensures.pool was in let a = c.start_at.ensures.steps h.shape h.rooted in let d = bound h b f in omega arith
