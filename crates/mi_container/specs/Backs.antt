@@ -2,7 +2,7 @@
 use Rattle.std.specs.Prelude.{map}
 use Rattle.std.specs.Option.{option_map}
 use Rattle.mi_container.specs.declared.inverse.RowRef.{RowRef as Row}
-use Rattle.mi_container.specs.declared.place.OldPlace.{OldPlace as Place}
+use Rattle.mi_node.specs.declared.old_place.OldPlace.{OldPlace as Place}
 use Rattle.mi_container.specs.declared.inverse.Undo.{Undo}
 use Rattle.mi_container.specs.declared.inverse.Undo.TheVariants as undo
 use Rattle.mi_container.specs.Inverse.{RowRef, OldPlace, Inverse}

@@ -9,6 +9,5 @@ pub mod Makes
 pub mod Asked
 pub mod Held
 pub mod Made
-pub mod Packed
 pub mod Backs
 pub mod Secrets

@@ -1,8 +1,7 @@
 //! What takes a change back. A container makes it, as it changes, and alone can use it; to the journal it is plain data. It
 //! takes no memory: the places that it remembers stand in itself.
-use crate::place::MaybePlace;
 use arrayvec::ArrayVec;
-use mi_node::NodeRef;
+use mi_node::{MaybePlace, NodeRef};
 use mi_value::Record;
 use std::marker::Model;
 

@@ -7,8 +7,6 @@ mod container;
 pub mod examples;
 mod inverse;
 pub mod laws;
-mod place;
 
 pub use container::Container;
 pub use inverse::{Inverse, MAX_PLACES, OldPlaces, RowRef, Undo};
-pub use place::{MaybePlace, OldPlace};

@@ -27,7 +27,7 @@ use Rattle.mi_index.specs.Pass.{AllStand, IsOutOfAll}
 use Rattle.mi_index.specs.Rekeying.{side_of_value, has_key_of, HasPlaceFor, HasOldPlaceFor}
 use Rattle.mi_order.specs.declared.stored.Stored.{Stored}
 use Rattle.mi_order.specs.declared.orders.ByHash.{ByHash}
-use Rattle.mi_index.specs.declared.moves.Place.{Place}
+use Rattle.mi_node.specs.declared.old_place.OldPlace.{OldPlace}
 use Rattle.mi_index.specs.declared.structure.Structure.{Structure}
 use Rattle.mi_index.specs.declared.structure.Structure.TheVariants.{Sorted, Hashed, Sequenced}
 use Rattle.mi_index.proofs.FrameLemmas.{stands_alike, itself}
@@ -153,7 +153,7 @@ module _ (m n : Pooled Stored) (r : Ref) (v : Stored) (own : value_of n r.name �
   unfolding same_nodes
   key_seen c q e = λ i. same_values (has_one_key c.keys.parts) (own i) (values q.name e i)
 
-  pub old_place_seen : (x : Structure) (p : Place) (rs : List Ref) → OtherTags x r.name m n
+  pub old_place_seen : (x : Structure) (p : OldPlace) (rs : List Ref) → OtherTags x r.name m n
       → IsOut r.name rs → HasOldPlaceFor x m v p rs → HasOldPlace x n r p rs
   old_place_seen (Sorted u) p rs tags out h =
       none_on r.name (side_of_value (stored_order u.order.parts) m u.slot v p.stamp) (side_of_new (stored_order u.order.parts) n u.slot r p.stamp)

@@ -24,7 +24,7 @@ use Rattle.mi_order.specs.Orders.{stored_order, keying_of, has_one_key}
 use Rattle.mi_order.specs.declared.stored.Stored.{Stored}
 use Rattle.mi_order.specs.declared.orders.ByKey.{ByKey}
 use Rattle.mi_order.specs.declared.orders.ByHash.{ByHash}
-use Rattle.mi_index.specs.declared.moves.Place.{Place}
+use Rattle.mi_node.specs.declared.old_place.OldPlace.{OldPlace}
 use Rattle.mi_index.specs.declared.structure.Structure.{Structure}
 use Rattle.mi_index.specs.declared.structure.Structure.TheVariants.{Sorted, Hashed, Sequenced}
 use Rattle.mi_index.proofs.FrameLemmas.{stands_alike, itself}
@@ -92,7 +92,7 @@ module _ (m : Pooled Stored) (r : Ref) (v : Stored) where
 
 -- Places in a structure of one kind
 
-old_place_like : (x y : Structure) (m : Pooled Stored) (v : Stored) (p : Place) (rs : List Ref)
+old_place_like : (x y : Structure) (m : Pooled Stored) (v : Stored) (p : OldPlace) (rs : List Ref)
     → IsLike x y → HasOldPlaceFor x m v p rs → HasOldPlaceFor y m v p rs
 old_place_like (Sorted a) (Sorted c) m v p rs g h =
     subst (λ s. NoneAre (side_of_value (stored_order c.order.parts) m s v p.stamp) Equal rs) (sym g.0)
@@ -137,7 +137,7 @@ leave_one : (b : Bool) (x : Structure) (m : Pooled Stored) (r : Ref) (v : Stored
 leave_one true x m r v t rs c = record { xs = c.xs; ys = c.ys; parts = c.parts }
 leave_one false x m r v t rs c = tt
 
-leave_for : (g : Option Place) (x : Structure) (m : Pooled Stored) (r : Ref) (v : Stored) (rs : List Ref)
+leave_for : (g : Option OldPlace) (x : Structure) (m : Pooled Stored) (r : Ref) (v : Stored) (rs : List Ref)
     → CanMoveBackTo g x m r v rs → HasNodeIf (is_given g) r rs
 leave_for (Some w) x m r v rs c = record { xs = c.xs; ys = c.ys; parts = c.parts }
 leave_for None x m r v rs c = tt
@@ -216,12 +216,12 @@ module _ (m n : Pooled Stored) (r : Ref) (v : Stored) (refs : (k : ℕ) → ref_
     moved_one false x y p rs us ws like g c d e = same_over x y p rs us ws like d e
 
   -- to the place that is given
-  stand_for : (g : Option Place) (x y : Structure) (rs us : List Ref) → IsLike x y → Stands x m rs
+  stand_for : (g : Option OldPlace) (x y : Structure) (rs us : List Ref) → IsLike x y → Stands x m rs
       → Stands y n us → CanMoveBackTo g x m r v rs → IsLeftIf (is_given g) x m n r rs us → Stands y o us
   stand_for (Some w) x y rs us like a h c d = stands_but y r.name n o us (but_value n r.name v) (left_out x rs us a d) h
   stand_for None x y rs us like a h c d = stands_own n r v y us (stays_own x y like c) h
 
-  return_one : (g : Option Place) (x y : Structure) (rs us : List Ref) → IsLike x y → Stands x m rs
+  return_one : (g : Option OldPlace) (x y : Structure) (rs us : List Ref) → IsLike x y → Stands x m rs
       → CanMoveBackTo g x m r v rs → IsLeftIf (is_given g) x m n r rs us → CanReturnTo g y o r us
   return_one (Some w) x y rs us like a c d =
       let out = left_out x rs us a d in
@@ -234,7 +234,7 @@ module _ (m n : Pooled Stored) (r : Ref) (v : Stored) (refs : (k : ℕ) → ref_
       }
   return_one None x y rs us like a c d = tt
 
-  back_one : (g : Option Place) (x y : Structure) (p : Pooled Stored) (rs us ws : List Ref) → ((k : ℕ) → value_of p k ≡ value_of o k)
+  back_one : (g : Option OldPlace) (x y : Structure) (p : Pooled Stored) (rs us ws : List Ref) → ((k : ℕ) → value_of p k ≡ value_of o k)
       → IsLike x y → CanMoveBackTo g x m r v rs → IsLeftIf (is_given g) x m n r rs us → IsBackAt g y o p r us ws
       → HasMovedBackTo g x m p r rs ws
   back_one (Some w) x y p rs us ws kept like c d e =
@@ -373,7 +373,7 @@ module _ (flag : ℕ → Bool) (r : Ref) (v : Stored) (t : ℕ) where
 
 -- back to the places that are given
 
-module _ (given : ℕ → Option Place) (r : Ref) (v : Stored) where
+module _ (given : ℕ → Option OldPlace) (r : Ref) (v : Stored) where
   abbrev back_asks : Asks
   back_asks s x m rs = CanMoveBackTo (given s) x m r v rs
 

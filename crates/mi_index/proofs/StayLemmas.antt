@@ -12,13 +12,14 @@ use Rattle.mi_tree.specs.Sorted.{NoneAre, compared, by_stamp, stamped, item_of, 
 use Rattle.mi_chain.specs.Keying.{Keying, same_values, same_nodes, stamp_at}
 use Rattle.mi_order.specs.Orders.{stored_order, keying_of}
 use Rattle.mi_index.specs.Standing.{slot_in, AllAbove, AllBelow}
-use Rattle.mi_index.specs.Places.{is_moved, place_for, before_at, own_place, NoneHas, HasPlace, CanJoin, HasStamp, IsBeside, KeepsTags, HasOldPlace}
+use Rattle.mi_index.specs.Places.{is_moved, place_for, before_at, NoneHas, HasPlace, CanJoin, HasStamp, IsBeside, KeepsTags, HasOldPlace}
 use Rattle.mi_index.specs.Pass.{Asks, Gives}
 use Rattle.mi_index.specs.Passes.{IsSame, CanJoinIf, IsJoinedIf, joining, joined, IsLeftIf, leaving}
 use Rattle.mi_index.specs.Passes.{left, CanReturnTo, IsBackAt, returning, returned, nothing_asked, grown}
 use Rattle.mi_index.specs.Inserting.{IsRelocatedIf, relocating_at, relocated_at}
 use Rattle.mi_order.specs.declared.stored.Stored.{Stored}
-use Rattle.mi_index.specs.declared.moves.Place.{Place}
+use Rattle.mi_node.specs.OldPlace.{own_place}
+use Rattle.mi_node.specs.declared.old_place.OldPlace.{OldPlace}
 use Rattle.mi_index.specs.declared.moves.Moves.{Moves}
 use Rattle.mi_index.specs.declared.structure.Structure.{Structure}
 use Rattle.mi_index.specs.declared.structure.Structure.TheVariants.{Sorted, Hashed, Sequenced}
@@ -167,7 +168,7 @@ leaving_local moves r = record { stays = leaving_stays moves r; before = left_be
 
 -- A node comes back
 
-old_place_stays : (x : Structure) (m n : Pooled Stored) (r : Ref) (p : Place) (rs : List Ref)
+old_place_stays : (x : Structure) (m n : Pooled Stored) (r : Ref) (p : OldPlace) (rs : List Ref)
     → Agree (slot_in x) m n → HasOldPlace x m r p rs → HasOldPlace x n r p rs
 old_place_stays (Sorted t) m n r p rs a h = subst (λ f. NoneAre f Equal rs) (sym (sides_same t.slot m n a (stored_order t.order.parts) r p.stamp)) h
 old_place_stays (Hashed c) m n r p rs a h =
@@ -188,7 +189,7 @@ old_place_stays (Sequenced l) m n r p rs a h = record {
   beside = h.beside;
 }
 
-return_stays : (o : Option Place) (x : Structure) (m n : Pooled Stored) (r : Ref) (rs : List Ref)
+return_stays : (o : Option OldPlace) (x : Structure) (m n : Pooled Stored) (r : Ref) (rs : List Ref)
     → Agree (slot_in x) m n → CanReturnTo o x m r rs → CanReturnTo o x n r rs
 return_stays None x m n r rs a c = tt
 return_stays (Some p) x m n r rs a c = record { held = a.refs r.name ∙ c.held; out = c.out; few = c.few; place = old_place_stays x m n r p rs a c.place }
@@ -200,7 +201,7 @@ returning_stays : (moves : Moves) (r : Ref) → Stays (returning moves r)
 returning_stays moves r s x m n rs e a c =
     subst (λ l. CanReturnTo (place_for moves s l) x n r rs) (sym (link_at s x m n r e a)) (return_stays (place_for moves s (link_of m r.name s)) x m n r rs a c)
 
-back_before : (o : Option Place) (x : Structure) (l m n : Pooled Stored) (r : Ref) (rs us : List Ref)
+back_before : (o : Option OldPlace) (x : Structure) (l m n : Pooled Stored) (r : Ref) (rs us : List Ref)
     → Agree (slot_in x) l m → IsBackAt o x m n r rs us → IsBackAt o x l n r rs us
 back_before None x l m n r rs us a h = same_before x l m n rs us a h
 back_before (Some p) x l m n r rs us a h = record {
@@ -217,7 +218,7 @@ back_before (Some p) x l m n r rs us a h = record {
         (h.0 ∙ (λ i. last_of None (filter (e i) xs)), h.1 ∙ (λ i. first_of (filter (e i) ys) None))
     beside_back (Sequenced l) m n r back forth xs ys a h = h
 
-back_after : (o : Option Place) (x : Structure) (m n q : Pooled Stored) (r : Ref) (rs us : List Ref)
+back_after : (o : Option OldPlace) (x : Structure) (m n q : Pooled Stored) (r : Ref) (rs us : List Ref)
     → Agree (slot_in x) n q → IsBackAt o x m n r rs us → IsBackAt o x m q r rs us
 back_after None x m n q r rs us a h = same_after x m n q rs us a h
 back_after (Some p) x m n q r rs us a h = record { back = h.back; beside = h.beside; stamped = stamp_after x m n q r p.stamp a h.stamped }

@@ -1,5 +1,5 @@
 -- What the structure of an index answers: its list, and what a probe finds in it.
-use Rattle.std.specs.Prelude.{ℕ, ◌≡◌, Bool, false, List}
+use Rattle.std.specs.Prelude.{ℕ, ◌≡◌, Bool, false, List, None}
 use Rattle.mi_value.specs.declared.bound.Probe.{Probe}
 use Rattle.mi_node.specs.Pool.{Pooled}
 use Rattle.mi_node.specs.Refs.{Ref}
@@ -8,7 +8,7 @@ use Rattle.mi_chain.specs.Keying.{same_nodes, has_key, stamp_at}
 use Rattle.mi_order.specs.Orders.{place_in, keying_of}
 use Rattle.mi_index.specs.Places.{IsBeside}
 use Rattle.mi_order.specs.declared.stored.Stored.{Stored}
-use Rattle.mi_index.specs.declared.moves.Place.{Place}
+use Rattle.mi_node.specs.declared.old_place.OldPlace.{OldPlace}
 use Rattle.mi_index.specs.declared.structure.Structure.{Structure}
 use Rattle.mi_index.specs.declared.structure.Structure.TheVariants.{Sorted, Hashed, Sequenced}
 
@@ -51,7 +51,14 @@ HasItsStamp (Sorted t) m r stamp = stamp ≡ stamp_at m t.slot r
 HasItsStamp (Hashed c) m r stamp = stamp ≡ stamp_at m c.slot r
 HasItsStamp (Sequenced l) m r stamp = Unit {0}
 
+-- in a tree a place has its stamp alone
+abbrev pub NamesNoneIfSorted : Structure → OldPlace → Type 0
+NamesNoneIfSorted (Sorted t) p = (p.back ≡ None) × (p.forth ≡ None)
+NamesNoneIfSorted (Hashed c) p = Unit {0}
+NamesNoneIfSorted (Sequenced l) p = Unit {0}
+
 -- the place of a node that stands between xs and ys; a list has no stamps
-pub record IsPlaceOf (x : Structure) (m : Pooled Stored) (r : Ref) (p : Place) (xs ys : List Ref) : Type 0 where
+pub record IsPlaceOf (x : Structure) (m : Pooled Stored) (r : Ref) (p : OldPlace) (xs ys : List Ref) : Type 0 where
   pub stamp : HasItsStamp x m r p.stamp
   pub beside : IsBeside x m r p.back p.forth xs ys
+  pub alone : NamesNoneIfSorted x p

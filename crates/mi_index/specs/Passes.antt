@@ -6,7 +6,7 @@ use Rattle.mi_index.specs.Standing.{slot_in}
 use Rattle.mi_index.specs.Places.{is_moved, place_for, before_at, IsOneOf, CanJoin, IsJoined, IsLeft, CanReturn, IsBack, KeepsTags}
 use Rattle.mi_index.specs.Pass.{Asks, Gives}
 use Rattle.mi_order.specs.declared.stored.Stored.{Stored}
-use Rattle.mi_index.specs.declared.moves.Place.{Place}
+use Rattle.mi_node.specs.declared.old_place.OldPlace.{OldPlace}
 use Rattle.mi_index.specs.declared.moves.Moves.{Moves}
 use Rattle.mi_index.specs.declared.structure.Structure.{Structure}
 
@@ -49,11 +49,11 @@ left moves r s x m n rs us = IsLeftIf (is_moved moves s) x m n r rs us
 
 -- A node comes back
 
-abbrev pub CanReturnTo : Option Place → Structure → Pooled Stored → Ref → List Ref → Type 0
+abbrev pub CanReturnTo : Option OldPlace → Structure → Pooled Stored → Ref → List Ref → Type 0
 CanReturnTo None x m r rs = Unit {0}
 CanReturnTo (Some p) x m r rs = CanReturn x m r p rs
 
-abbrev pub IsBackAt : Option Place → Structure → Pooled Stored → Pooled Stored → Ref → List Ref → List Ref → Type 0
+abbrev pub IsBackAt : Option OldPlace → Structure → Pooled Stored → Pooled Stored → Ref → List Ref → List Ref → Type 0
 IsBackAt None x m n r rs us = IsSame x m n rs us
 IsBackAt (Some p) x m n r rs us = IsBack x m n r p rs us
 

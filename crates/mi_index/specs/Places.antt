@@ -8,6 +8,7 @@ use Rattle.std.specs.List.{filter}
 use Rattle.std.specs.declared.cmp.Ordering.TheVariants.{Equal}
 use Rattle.mi_node.specs.Pool.{Pooled, IsHeld, link_of}
 use Rattle.mi_node.specs.Refs.{Ref, first_of, last_of, IsOut}
+use Rattle.mi_node.specs.OldPlace.{own_place}
 use Rattle.mi_node.specs.declared.link.Link.{Link}
 use Rattle.mi_list.specs.Listed.{slot_of}
 use Rattle.mi_list.specs.declared.list.List.{List as Listed}
@@ -18,7 +19,7 @@ use Rattle.mi_order.specs.Orders.{stored_order, keying_of}
 use Rattle.mi_index.specs.Standing.{slot_in, AllAbove, AllBelow}
 use Rattle.mi_order.specs.declared.stored.Stored.{Stored}
 use Rattle.mi_order.specs.declared.orders.ByHash.{ByHash}
-use Rattle.mi_index.specs.declared.moves.Place.{Place}
+use Rattle.mi_node.specs.declared.old_place.OldPlace.{OldPlace}
 use Rattle.mi_index.specs.declared.moves.Moves.{Moves}
 use Rattle.mi_index.specs.declared.moves.Moves.TheVariants.{All, Marked, Placed}
 use Rattle.mi_index.specs.declared.structure.Structure.{Structure}
@@ -26,14 +27,14 @@ use Rattle.mi_index.specs.declared.structure.Structure.TheVariants.{Sorted, Hash
 
 -- Which indexes
 
-abbrev pub is_given : Option Place → Bool
+abbrev pub is_given : Option OldPlace → Bool
 is_given None = false
 is_given (Some p) = true
 
 abbrev pub mark_at : List Bool → ℕ → Bool
 mark_at marks s = slice_index_or marks s false
 
-abbrev pub given_at : List (Option Place) → ℕ → Option Place
+abbrev pub given_at : List (Option OldPlace) → ℕ → Option OldPlace
 given_at places s = slice_index_or places s None
 
 -- whether a pass changes the index of a slot
@@ -42,12 +43,8 @@ is_moved All s = true
 is_moved (Marked marks) s = mark_at marks.now s
 is_moved (Placed places) s = is_given (given_at places.now s)
 
--- the place that a link remembers
-abbrev pub own_place : Link → Place
-own_place l = record { stamp = l.tag.stamp; back = l.back; forth = l.forth }
-
 -- where a node comes back to in the index of a slot: the place that is given, or else what its own link there remembers
-abbrev pub place_for : Moves → ℕ → Link → Option Place
+abbrev pub place_for : Moves → ℕ → Link → Option OldPlace
 place_for All s l = Some (own_place l)
 place_for (Marked marks) s l = cond (mark_at marks.now s) (Some (own_place l)) None
 place_for (Placed places) s l = given_at places.now s
@@ -129,7 +126,7 @@ pub record IsLeft (x : Structure) (m n : Pooled Stored) (r : Ref) (rs us : List 
 -- Back
 
 -- chains have the place: rising stamps cut at its stamp, and between the neighbours that it names
-pub record HasGap (c : Chains ByHash) (m : Pooled Stored) (r : Ref) (p : Place) (rs : List Ref) : Type 0 where
+pub record HasGap (c : Chains ByHash) (m : Pooled Stored) (r : Ref) (p : OldPlace) (rs : List Ref) : Type 0 where
   pub xs : List Ref
   pub ys : List Ref
   pub parts : rs ≡ xs ++ ys
@@ -138,26 +135,26 @@ pub record HasGap (c : Chains ByHash) (m : Pooled Stored) (r : Ref) (p : Place) 
   pub beside : IsBeside (Hashed c) m r p.back p.forth xs ys
 
 -- a list has the place, which is the one that the node's own link names
-pub record HasSpot (l : Listed) (m : Pooled Stored) (r : Ref) (p : Place) (rs : List Ref) : Type 0 where
+pub record HasSpot (l : Listed) (m : Pooled Stored) (r : Ref) (p : OldPlace) (rs : List Ref) : Type 0 where
   pub own : p ≡ own_place (link_of m r.name (slot_of l))
   pub xs : List Ref
   pub ys : List Ref
   pub parts : rs ≡ xs ++ ys
   pub beside : IsBeside (Sequenced l) m r p.back p.forth xs ys
 
-abbrev pub HasOldPlace : Structure → Pooled Stored → Ref → Place → List Ref → Type 0
+abbrev pub HasOldPlace : Structure → Pooled Stored → Ref → OldPlace → List Ref → Type 0
 HasOldPlace (Sorted t) m r p rs = NoneAre (side_of_new (stored_order t.order.parts) m t.slot r p.stamp) Equal rs
 HasOldPlace (Hashed c) m r p rs = HasGap c m r p rs
 HasOldPlace (Sequenced l) m r p rs = HasSpot l m r p rs
 
-pub record CanReturn (x : Structure) (m : Pooled Stored) (r : Ref) (p : Place) (rs : List Ref) : Type 0 where
+pub record CanReturn (x : Structure) (m : Pooled Stored) (r : Ref) (p : OldPlace) (rs : List Ref) : Type 0 where
   pub held : IsHeld m r
   pub out : IsOut r.name rs
   pub few : length rs + 1 < 2 ^ 32
   pub place : HasOldPlace x m r p rs
 
 -- it has the stamp of the place, and stands again between the neighbours that the place names
-pub record IsBack (x : Structure) (m n : Pooled Stored) (r : Ref) (p : Place) (rs us : List Ref) : Type 0 where
+pub record IsBack (x : Structure) (m n : Pooled Stored) (r : Ref) (p : OldPlace) (rs us : List Ref) : Type 0 where
   pub back : IsWith r rs us
   pub beside : IsBeside x m r p.back p.forth back.xs back.ys
   pub stamped : HasStamp x m n r p.stamp

@@ -18,7 +18,7 @@ use Rattle.mi_index.specs.Pass.{Asks, Gives, AllStand, AllGiven, IsOutOfAll}
 use Rattle.mi_index.specs.Passes.{IsSame}
 use Rattle.mi_order.specs.declared.stored.Stored.{Stored}
 use Rattle.mi_order.specs.declared.orders.ByHash.{ByHash}
-use Rattle.mi_index.specs.declared.moves.Place.{Place}
+use Rattle.mi_node.specs.declared.old_place.OldPlace.{OldPlace}
 use Rattle.mi_index.specs.declared.structure.Structure.{Structure}
 use Rattle.mi_index.specs.declared.structure.Structure.TheVariants.{Sorted, Hashed, Sequenced}
 
@@ -35,7 +35,7 @@ HasPlaceFor (Sorted t) m v stamp b rs = NoneAre (side_of_value (stored_order t.o
 HasPlaceFor (Hashed c) m v stamp b rs = NoneHas (stamp_at m c.slot) stamp rs
 HasPlaceFor (Sequenced l) m v stamp b rs = (xs : List Ref) × (ys : List Ref) × (rs ≡ xs ++ ys) × (first_of ys None ≡ b)
 
-pub record HasGapFor (c : Chains ByHash) (m : Pooled Stored) (v : Stored) (p : Place) (rs : List Ref) : Type 0 where
+pub record HasGapFor (c : Chains ByHash) (m : Pooled Stored) (v : Stored) (p : OldPlace) (rs : List Ref) : Type 0 where
   pub xs : List Ref
   pub ys : List Ref
   pub parts : rs ≡ xs ++ ys
@@ -45,7 +45,7 @@ pub record HasGapFor (c : Chains ByHash) (m : Pooled Stored) (v : Stored) (p : P
   pub forth_is : p.forth ≡ first_of (filter (has_key_of c m v) ys) None
 
 -- a list is never given a place
-abbrev pub HasOldPlaceFor : Structure → Pooled Stored → Stored → Place → List Ref → Type 0
+abbrev pub HasOldPlaceFor : Structure → Pooled Stored → Stored → OldPlace → List Ref → Type 0
 HasOldPlaceFor (Sorted t) m v p rs = NoneAre (side_of_value (stored_order t.order.parts) m t.slot v p.stamp) Equal rs
 HasOldPlaceFor (Hashed c) m v p rs = HasGapFor c m v p rs
 HasOldPlaceFor (Sequenced l) m v p rs = ⊥
@@ -85,14 +85,14 @@ rekeyed marks r stamp s x m n rs us = HasMovedIf (mark_at marks s) x m n r stamp
 
 -- Back
 
-pub record CanMoveBack (x : Structure) (m : Pooled Stored) (r : Ref) (v : Stored) (p : Place) (rs : List Ref) : Type 0 where
+pub record CanMoveBack (x : Structure) (m : Pooled Stored) (r : Ref) (v : Stored) (p : OldPlace) (rs : List Ref) : Type 0 where
   pub xs : List Ref
   pub ys : List Ref
   pub parts : rs ≡ xs ++ r ∷ ys
   pub few : length rs < 2 ^ 32
   pub place : HasOldPlaceFor x m v p (xs ++ ys)
 
-pub record HasMovedBack (x : Structure) (m n : Pooled Stored) (r : Ref) (p : Place) (rs us : List Ref) : Type 0 where
+pub record HasMovedBack (x : Structure) (m n : Pooled Stored) (r : Ref) (p : OldPlace) (rs us : List Ref) : Type 0 where
   pub xs : List Ref
   pub ys : List Ref
   pub parts : rs ≡ xs ++ r ∷ ys
@@ -100,18 +100,18 @@ pub record HasMovedBack (x : Structure) (m n : Pooled Stored) (r : Ref) (p : Pla
   pub beside : IsBeside x n r p.back p.forth moved.xs moved.ys
   pub stamped : HasStamp x m n r p.stamp
 
-abbrev pub CanMoveBackTo : Option Place → Structure → Pooled Stored → Ref → Stored → List Ref → Type 0
+abbrev pub CanMoveBackTo : Option OldPlace → Structure → Pooled Stored → Ref → Stored → List Ref → Type 0
 CanMoveBackTo None x m r v rs = KeepsKey x m r v
 CanMoveBackTo (Some p) x m r v rs = CanMoveBack x m r v p rs
 
-abbrev pub HasMovedBackTo : Option Place → Structure → Pooled Stored → Pooled Stored → Ref → List Ref → List Ref → Type 0
+abbrev pub HasMovedBackTo : Option OldPlace → Structure → Pooled Stored → Pooled Stored → Ref → List Ref → List Ref → Type 0
 HasMovedBackTo None x m n r rs us = IsSame x m n rs us
 HasMovedBackTo (Some p) x m n r rs us = HasMovedBack x m n r p rs us
 
-abbrev pub returning_to : List (Option Place) → Ref → Stored → Asks
+abbrev pub returning_to : List (Option OldPlace) → Ref → Stored → Asks
 returning_to places r v s x m rs = CanMoveBackTo (given_at places s) x m r v rs
 
-abbrev pub returned_to : List (Option Place) → Ref → Gives
+abbrev pub returned_to : List (Option OldPlace) → Ref → Gives
 returned_to places r s x m n rs us = HasMovedBackTo (given_at places s) x m n r rs us
 
 -- the node has the new value, all else stands as Q says

@@ -13,7 +13,7 @@ mod structures;
 mod walk;
 
 pub use mi_order::{ByHash, ByKey, Stored, hash_values};
-pub use moves::{Moves, Place};
+pub use moves::Moves;
 pub use nodes::Nodes;
 pub use structure::Structure;
 pub use structures::Structures;

@@ -1,5 +1,5 @@
 //! What the structure of one index answers. It reads the pool and changes nothing.
-ghost use Rattle.std.specs.Prelude.{◌≡◌, ℕ, ◌+◌, ◌*◌, ◌<◌, ◌≤◌, ◌^◌, List as Seq, ◌∷◌, ◌++◌, None, length, false, true};
+ghost use Rattle.std.specs.Prelude.{◌≡◌, ℕ, ◌+◌, ◌*◌, ◌<◌, ◌≤◌, ◌^◌, List as Seq, ◌∷◌, ◌++◌, None, length};
 ghost use Rattle.std.specs.List.{filter, position_or_len};
 ghost use Rattle.mi_node.specs.Refs.{Ref, first_of, last_of};
 ghost use Rattle.mi_tree.specs.BinaryTree.{nth_of};
@@ -8,11 +8,10 @@ ghost use Rattle.mi_index.specs.Standing.{slot_in, Stands};
 ghost use Rattle.mi_index.specs.Looks as look;
 ghost use Rattle.mi_index.specs.declared.structure.Structure.TheVariants.{Sorted, Hashed, Sequenced};
 
-use crate::moves::Place;
 use crate::structure::Structure;
 use mi_chain::Chains;
 use mi_list::List;
-use mi_node::{Counted, NodeRef, Pool};
+use mi_node::{Counted, NodeRef, OldPlace, Pool};
 use mi_order::{ByHash, ByKey, Stored};
 use mi_tree::Tree;
 use mi_value::{Probe, Steps};
@@ -90,54 +89,40 @@ impl Structure {
         }
     }
 
-    /// The first node that isn't before the probe, if there is one. Asked of sorted indexes alone. One look-up: at most
-    /// 2b comparisons for fewer than 2^b nodes.
-    pub fn lower(&self, p: &Pool<Stored>, probe: Probe<'_>, steps: &mut Steps) -> Option<NodeRef>
+    /// The first node that isn't before the probe, or with `strict` the first that is behind it, if there is one. Asked of
+    /// sorted indexes alone. One look-up: at most 2b comparisons for fewer than 2^b nodes.
+    pub fn past(
+        &self,
+        p: &Pool<Stored>,
+        probe: Probe<'_>,
+        strict: bool,
+        steps: &mut Steps,
+    ) -> Option<NodeRef>
         requires { (rs : Seq Ref) × Stands self.now p.now rs × look.IsSortedStructure self.now }
-        ensures node { (rs : Seq Ref) → Stands self.now p.now rs → result ≡ first_where (look.is_past false self.now p.now probe.entry) rs }
+        ensures node { (rs : Seq Ref) → Stands self.now p.now rs → result ≡ first_where (look.is_past strict self.now p.now probe.entry) rs }
         ensures steps { (rs : Seq Ref) → Stands self.now p.now rs → (b : ℕ) → length rs < 2 ^ b → steps.new.count ≤ steps.old.count + 2 * b }
     {
         match self {
-            Structure::Sorted(tree) => lower_in_tree(tree, p, probe, steps),
+            Structure::Sorted(tree) => past_in_tree(tree, p, probe, strict, steps),
             Structure::Hashed(_) | Structure::Sequenced(_) => None,
         }
     }
 
-    /// The first node that is behind the probe, if there is one. Asked of sorted indexes alone. One look-up: at most 2b
-    /// comparisons for fewer than 2^b nodes.
-    pub fn upper(&self, p: &Pool<Stored>, probe: Probe<'_>, steps: &mut Steps) -> Option<NodeRef>
+    /// How many nodes stand in front of that one: those before the probe, or with `strict` all that aren't behind it. Asked of
+    /// sorted indexes alone. One look-up: at most 2b comparisons for fewer than 2^b nodes.
+    pub fn past_rank(
+        &self,
+        p: &Pool<Stored>,
+        probe: Probe<'_>,
+        strict: bool,
+        steps: &mut Steps,
+    ) -> u32
         requires { (rs : Seq Ref) × Stands self.now p.now rs × look.IsSortedStructure self.now }
-        ensures node { (rs : Seq Ref) → Stands self.now p.now rs → result ≡ first_where (look.is_past true self.now p.now probe.entry) rs }
+        ensures rank { (rs : Seq Ref) → Stands self.now p.now rs → result ≡ position_or_len (look.is_past strict self.now p.now probe.entry) rs }
         ensures steps { (rs : Seq Ref) → Stands self.now p.now rs → (b : ℕ) → length rs < 2 ^ b → steps.new.count ≤ steps.old.count + 2 * b }
     {
         match self {
-            Structure::Sorted(tree) => upper_in_tree(tree, p, probe, steps),
-            Structure::Hashed(_) | Structure::Sequenced(_) => None,
-        }
-    }
-
-    /// How many nodes are before the probe: all in front of the first that isn't. Asked of sorted indexes alone. One look-up: at
-    /// most 2b comparisons for fewer than 2^b nodes.
-    pub fn lower_rank(&self, p: &Pool<Stored>, probe: Probe<'_>, steps: &mut Steps) -> u32
-        requires { (rs : Seq Ref) × Stands self.now p.now rs × look.IsSortedStructure self.now }
-        ensures rank { (rs : Seq Ref) → Stands self.now p.now rs → result ≡ position_or_len (look.is_past false self.now p.now probe.entry) rs }
-        ensures steps { (rs : Seq Ref) → Stands self.now p.now rs → (b : ℕ) → length rs < 2 ^ b → steps.new.count ≤ steps.old.count + 2 * b }
-    {
-        match self {
-            Structure::Sorted(tree) => lower_rank_in_tree(tree, p, probe, steps),
-            Structure::Hashed(_) | Structure::Sequenced(_) => 0,
-        }
-    }
-
-    /// How many nodes aren't behind the probe: all in front of the first that is. Asked of sorted indexes alone. One look-up: at
-    /// most 2b comparisons for fewer than 2^b nodes.
-    pub fn upper_rank(&self, p: &Pool<Stored>, probe: Probe<'_>, steps: &mut Steps) -> u32
-        requires { (rs : Seq Ref) × Stands self.now p.now rs × look.IsSortedStructure self.now }
-        ensures rank { (rs : Seq Ref) → Stands self.now p.now rs → result ≡ position_or_len (look.is_past true self.now p.now probe.entry) rs }
-        ensures steps { (rs : Seq Ref) → Stands self.now p.now rs → (b : ℕ) → length rs < 2 ^ b → steps.new.count ≤ steps.old.count + 2 * b }
-    {
-        match self {
-            Structure::Sorted(tree) => upper_rank_in_tree(tree, p, probe, steps),
+            Structure::Sorted(tree) => past_rank_in_tree(tree, p, probe, strict, steps),
             Structure::Hashed(_) | Structure::Sequenced(_) => 0,
         }
     }
@@ -168,7 +153,7 @@ impl Structure {
 
     /// The place of a node, to which it could come back: its stamp, and the neighbours that it would remember if it left.
     /// The slot is that of this index.
-    pub fn place(&self, p: &Pool<Stored>, slot: usize, node: NodeRef) -> Place
+    pub fn place(&self, p: &Pool<Stored>, slot: usize, node: NodeRef) -> OldPlace
         requires slot { slot_in self.now ≡ slot }
         requires node { (xs : Seq Ref) × (ys : Seq Ref) × Stands self.now p.now (xs ++ node ∷ ys) }
         ensures { (xs ys : Seq Ref) → Stands self.now p.now (xs ++ node ∷ ys) → look.IsPlaceOf self.now p.now node result xs ys }
@@ -228,58 +213,43 @@ fn rank_in_tree(tree: &Tree<ByKey>, p: &Pool<Stored>, node: NodeRef, steps: &mut
     tree.rank(&mut Counted::new(p), node, steps)
 }
 
-fn lower_in_tree(
+fn past_in_tree(
     tree: &Tree<ByKey>,
     p: &Pool<Stored>,
     probe: Probe<'_>,
+    strict: bool,
     steps: &mut Steps,
 ) -> Option<NodeRef>
     requires { (rs : Seq Ref) × Stands (Sorted tree.now) p.now rs }
-    ensures node { (rs : Seq Ref) → Stands (Sorted tree.now) p.now rs → result ≡ first_where (look.is_past false (Sorted tree.now) p.now probe.entry) rs }
+    ensures node { (rs : Seq Ref) → Stands (Sorted tree.now) p.now rs → result ≡ first_where (look.is_past strict (Sorted tree.now) p.now probe.entry) rs }
     ensures steps { (rs : Seq Ref) → Stands (Sorted tree.now) p.now rs → (b : ℕ) → length rs < 2 ^ b → steps.new.count ≤ steps.old.count + 2 * b }
 {
-    tree.lower(&mut Counted::new(p), probe, steps)
+    let mut pool = Counted::new(p);
+    if strict {
+        tree.upper(&mut pool, probe, steps)
+    } else {
+        tree.lower(&mut pool, probe, steps)
+    }
 }
 
-fn upper_in_tree(
+fn past_rank_in_tree(
     tree: &Tree<ByKey>,
     p: &Pool<Stored>,
     probe: Probe<'_>,
-    steps: &mut Steps,
-) -> Option<NodeRef>
-    requires { (rs : Seq Ref) × Stands (Sorted tree.now) p.now rs }
-    ensures node { (rs : Seq Ref) → Stands (Sorted tree.now) p.now rs → result ≡ first_where (look.is_past true (Sorted tree.now) p.now probe.entry) rs }
-    ensures steps { (rs : Seq Ref) → Stands (Sorted tree.now) p.now rs → (b : ℕ) → length rs < 2 ^ b → steps.new.count ≤ steps.old.count + 2 * b }
-{
-    tree.upper(&mut Counted::new(p), probe, steps)
-}
-
-fn lower_rank_in_tree(
-    tree: &Tree<ByKey>,
-    p: &Pool<Stored>,
-    probe: Probe<'_>,
+    strict: bool,
     steps: &mut Steps,
 ) -> u32
     requires { (rs : Seq Ref) × Stands (Sorted tree.now) p.now rs }
     ensures rank { (rs : Seq Ref) → Stands (Sorted tree.now) p.now rs
-        → result ≡ position_or_len (look.is_past false (Sorted tree.now) p.now probe.entry) rs }
+        → result ≡ position_or_len (look.is_past strict (Sorted tree.now) p.now probe.entry) rs }
     ensures steps { (rs : Seq Ref) → Stands (Sorted tree.now) p.now rs → (b : ℕ) → length rs < 2 ^ b → steps.new.count ≤ steps.old.count + 2 * b }
 {
-    tree.lower_rank(&mut Counted::new(p), probe, steps)
-}
-
-fn upper_rank_in_tree(
-    tree: &Tree<ByKey>,
-    p: &Pool<Stored>,
-    probe: Probe<'_>,
-    steps: &mut Steps,
-) -> u32
-    requires { (rs : Seq Ref) × Stands (Sorted tree.now) p.now rs }
-    ensures rank { (rs : Seq Ref) → Stands (Sorted tree.now) p.now rs
-        → result ≡ position_or_len (look.is_past true (Sorted tree.now) p.now probe.entry) rs }
-    ensures steps { (rs : Seq Ref) → Stands (Sorted tree.now) p.now rs → (b : ℕ) → length rs < 2 ^ b → steps.new.count ≤ steps.old.count + 2 * b }
-{
-    tree.upper_rank(&mut Counted::new(p), probe, steps)
+    let mut pool = Counted::new(p);
+    if strict {
+        tree.upper_rank(&mut pool, probe, steps)
+    } else {
+        tree.lower_rank(&mut pool, probe, steps)
+    }
 }
 
 fn find_in_tree(tree: &Tree<ByKey>, p: &Pool<Stored>, probe: Probe<'_>) -> Option<NodeRef>
@@ -304,38 +274,43 @@ fn next_in_chains(chains: &Chains<ByHash>, p: &Pool<Stored>, node: NodeRef) -> O
     chains.next_of(p, node)
 }
 
-fn place_in_tree(tree: &Tree<ByKey>, p: &Pool<Stored>, slot: usize, node: NodeRef) -> Place
+fn place_in_tree(tree: &Tree<ByKey>, p: &Pool<Stored>, slot: usize, node: NodeRef) -> OldPlace
     requires slot { slot_in (Sorted tree.now) ≡ slot }
     requires node { (xs : Seq Ref) × (ys : Seq Ref) × Stands (Sorted tree.now) p.now (xs ++ node ∷ ys) }
     ensures { (xs ys : Seq Ref) → Stands (Sorted tree.now) p.now (xs ++ node ∷ ys) → look.IsPlaceOf (Sorted tree.now) p.now node result xs ys }
 {
     let _ = tree;
-    Place {
+    OldPlace {
         stamp: p.link(node, slot).tag.stamp,
         back: None,
         forth: None,
     }
 }
 
-fn place_in_chains(chains: &Chains<ByHash>, p: &Pool<Stored>, slot: usize, node: NodeRef) -> Place
+fn place_in_chains(
+    chains: &Chains<ByHash>,
+    p: &Pool<Stored>,
+    slot: usize,
+    node: NodeRef,
+) -> OldPlace
     requires slot { slot_in (Hashed chains.now) ≡ slot }
     requires node { (xs : Seq Ref) × (ys : Seq Ref) × Stands (Hashed chains.now) p.now (xs ++ node ∷ ys) }
     ensures { (xs ys : Seq Ref) → Stands (Hashed chains.now) p.now (xs ++ node ∷ ys) → look.IsPlaceOf (Hashed chains.now) p.now node result xs ys }
 {
-    Place {
+    OldPlace {
         stamp: p.link(node, slot).tag.stamp,
         back: chains.prev_of(p, node),
         forth: chains.next_of(p, node),
     }
 }
 
-fn place_in_list(list: &List, p: &Pool<Stored>, slot: usize, node: NodeRef) -> Place
+fn place_in_list(list: &List, p: &Pool<Stored>, slot: usize, node: NodeRef) -> OldPlace
     requires slot { slot_in (Sequenced list.now) ≡ slot }
     requires node { (xs : Seq Ref) × (ys : Seq Ref) × Stands (Sequenced list.now) p.now (xs ++ node ∷ ys) }
     ensures { (xs ys : Seq Ref) → Stands (Sequenced list.now) p.now (xs ++ node ∷ ys) → look.IsPlaceOf (Sequenced list.now) p.now node result xs ys }
 {
     let _ = slot;
-    Place {
+    OldPlace {
         stamp: 0,
         back: list.prev(p, node),
         forth: list.next(p, node),

@@ -2,37 +2,16 @@
 ghost use Rattle.std.specs.Prelude.{◌≡◌};
 ghost use Rattle.mi_index.specs.Places as places;
 
-use mi_node::{Link, NodeRef};
-
-/// A node's place among the nodes of an index: its stamp, and the neighbours that it had as it left. In chains these
-/// are the nearest nodes of its key, in a list the nearest nodes; in a tree they say nothing.
-#[derive(Clone, Copy)]
-pub struct Place {
-    pub stamp: u64,
-    pub back: Option<NodeRef>,
-    pub forth: Option<NodeRef>,
-}
+use mi_node::{Link, MaybePlace, NodeRef, OldPlace};
 
 /// The indexes in which a node moves, by their numbers: all of them; those that are marked; or those that have a place
-/// to which the node comes back.
+/// to which the node comes back. The neighbours that a place names are in chains the nearest nodes of its key, in a list
+/// the nearest nodes; in a tree they say nothing.
 #[derive(Clone, Copy)]
 pub enum Moves<'a> {
     All,
     Marked(&'a [bool]),
-    Placed(&'a [Option<Place>]),
-}
-
-impl Place {
-    /// The place that a link remembers.
-    pub fn of(link: Link) -> Place
-        ensures { result ≡ places.own_place link }
-    {
-        Place {
-            stamp: link.tag.stamp,
-            back: link.back,
-            forth: link.forth,
-        }
-    }
+    Placed(&'a [MaybePlace]),
 }
 
 /// Whether the mark of a number is set. One past the last is not.
@@ -46,11 +25,11 @@ fn is_marked(marks: &[bool], slot: usize) -> bool
 }
 
 /// The place of a number, if there is one.
-fn place_at(all: &[Option<Place>], slot: usize) -> Option<Place>
+fn place_at(all: &[MaybePlace], slot: usize) -> Option<OldPlace>
     ensures { result ≡ places.given_at all.now slot }
 {
     match all.get(slot) {
-        Some(place) => *place,
+        Some(place) => place.place(),
         None => None,
     }
 }
@@ -69,14 +48,14 @@ impl Moves<'_> {
 
     /// Where the node comes back to in the index of this number, if it moves there: the place that is given, or else
     /// the one that its own link there remembers.
-    pub fn place_in(self, slot: usize, link: Link) -> Option<Place>
+    pub fn place_in(self, slot: usize, link: Link) -> Option<OldPlace>
         ensures { result ≡ places.place_for self.entry slot link }
     {
         match self {
-            Moves::All => Some(Place::of(link)),
+            Moves::All => Some(OldPlace::of(link)),
             Moves::Marked(marks) => {
                 if is_marked(marks, slot) {
-                    Some(Place::of(link))
+                    Some(OldPlace::of(link))
                 } else {
                     None
                 }

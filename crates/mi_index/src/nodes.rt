@@ -12,10 +12,10 @@ ghost use Rattle.mi_index.specs.Opened as opened;
 ghost use Rattle.mi_index.specs.declared.moves.Moves.TheVariants.{All};
 
 use crate::all::Joining;
-use crate::moves::{Moves, Place};
+use crate::moves::Moves;
 use crate::structures::Structures;
 use mi_catalog::Schema;
-use mi_node::{NodeRef, Pool};
+use mi_node::{MaybePlace, NodeRef, Pool};
 use mi_order::Stored;
 use std::alloc::{AllocError, Global};
 
@@ -125,7 +125,7 @@ impl Nodes {
 
     /// Gives a node an old value again, and the other one back. In each index that has a place for it the node moves
     /// there, which is never a list; in the others the key is the same. Takes no memory.
-    pub fn rekey_back(&mut self, node: NodeRef, stored: Stored, places: &[Option<Place>]) -> Stored
+    pub fn rekey_back(&mut self, node: NodeRef, stored: Stored, places: &[MaybePlace]) -> Stored
         requires held { IsHeld self.old.pool node }
         requires places { AreReady (rekey.returning_to places.now node stored) 0 self.old.structures.items self.old.pool }
         ensures value { value_of self.old.pool node.name ≡ Some result }

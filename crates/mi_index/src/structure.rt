@@ -11,11 +11,10 @@ ghost use Rattle.mi_index.specs.Opened as opened;
 ghost use Rattle.mi_index.specs.Inserting as insert;
 ghost use Rattle.mi_index.specs.declared.structure.Structure.TheVariants.{Sorted, Hashed, Sequenced};
 
-use crate::moves::Place;
 use mi_catalog::{Column, Index, IndexKind, Parts};
 use mi_chain::Chains;
 use mi_list::List;
-use mi_node::{Link, NodeRef, Pool, Tag};
+use mi_node::{Link, NodeRef, OldPlace, Pool, Tag};
 use mi_order::{ByHash, ByKey, LeadTypes, Stored};
 use mi_tree::Tree;
 use mi_value::{ColumnType, KeyPart, Steps};
@@ -86,7 +85,7 @@ impl Structure {
 
     /// Puts a node back to a place: in a tree by its key and the place's stamp, in chains and in a list between the
     /// neighbours that the place names. A list knows only the place that the node's own link names. Takes no memory.
-    pub fn relink(&mut self, p: &mut Pool<Stored>, node: NodeRef, place: Place)
+    pub fn relink(&mut self, p: &mut Pool<Stored>, node: NodeRef, place: OldPlace)
         requires { IsReady (step.returning_one node place) 0 self.old p.old }
         ensures step { IsStep (step.returning_one node place) (step.returned_one node place) node 0 self.old self.new p.old p.new }
         ensures like { IsLike self.old self.new }
@@ -226,7 +225,7 @@ fn unlink_list(list: &mut List, p: &mut Pool<Stored>, node: NodeRef)
     list.unlink(p, node);
 }
 
-fn relink_tree(tree: &mut Tree<ByKey>, p: &mut Pool<Stored>, node: NodeRef, place: Place)
+fn relink_tree(tree: &mut Tree<ByKey>, p: &mut Pool<Stored>, node: NodeRef, place: OldPlace)
     requires { IsReady (step.returning_one node place) 0 (Sorted tree.old) p.old }
     ensures step { IsStep (step.returning_one node place) (step.returned_one node place) node 0 (Sorted tree.old) (Sorted tree.new) p.old p.new }
     ensures like { IsLike (Sorted tree.old) (Sorted tree.new) }
@@ -234,7 +233,7 @@ fn relink_tree(tree: &mut Tree<ByKey>, p: &mut Pool<Stored>, node: NodeRef, plac
     tree.insert(p, node, place.stamp, &mut Steps::new());
 }
 
-fn relink_chains(chains: &mut Chains<ByHash>, p: &mut Pool<Stored>, node: NodeRef, place: Place)
+fn relink_chains(chains: &mut Chains<ByHash>, p: &mut Pool<Stored>, node: NodeRef, place: OldPlace)
     requires { IsReady (step.returning_one node place) 0 (Hashed chains.old) p.old }
     ensures step { IsStep (step.returning_one node place) (step.returned_one node place) node 0 (Hashed chains.old) (Hashed chains.new) p.old p.new }
     ensures like { IsLike (Hashed chains.old) (Hashed chains.new) }
@@ -257,7 +256,7 @@ fn relink_chains(chains: &mut Chains<ByHash>, p: &mut Pool<Stored>, node: NodeRe
     );
 }
 
-fn relink_list(list: &mut List, p: &mut Pool<Stored>, node: NodeRef, place: Place)
+fn relink_list(list: &mut List, p: &mut Pool<Stored>, node: NodeRef, place: OldPlace)
     requires { IsReady (step.returning_one node place) 0 (Sequenced list.old) p.old }
     ensures step { IsStep (step.returning_one node place) (step.returned_one node place) node 0 (Sequenced list.old) (Sequenced list.new) p.old p.new }
     ensures like { IsLike (Sequenced list.old) (Sequenced list.new) }

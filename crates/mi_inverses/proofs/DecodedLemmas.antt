@@ -4,7 +4,7 @@ use Rattle.std.proofs.Common.{drop, refl, ap, ap₂, sym, ◌∙◌, subst, arit
 use Rattle.std.specs.Option.{option_map}
 use Rattle.std.proofs.lemmas.List.{length-drop, drop-append-le, drop-drop, length_push, same_from_push}
 use Rattle.mi_value.specs.declared.value.Value.{Value}
-use Rattle.mi_container.specs.declared.place.OldPlace.{OldPlace as Place}
+use Rattle.mi_node.specs.declared.old_place.OldPlace.{OldPlace as Place}
 use Rattle.mi_container.specs.Backs.{place_seen}
 use Rattle.mi_container.specs.Inverse.{Inverse}
 use Rattle.mi_container.specs.Inverse.Inverse.{Put}

@@ -4,7 +4,7 @@ use Rattle.std.proofs.Common.{map, drop, reverse, ap, sym, ◌∙◌, arith}
 use Rattle.std.specs.Option.{option_map, is_some}
 use Rattle.std.proofs.lemmas.List.{reverse-append, length_push, map-append, append_assoc}
 use Rattle.std.proofs.lemmas.Bool.{false≢true}
-use Rattle.mi_container.specs.declared.place.OldPlace.{OldPlace as Place}
+use Rattle.mi_node.specs.declared.old_place.OldPlace.{OldPlace as Place}
 use Rattle.mi_container.specs.Backs.{place_seen}
 use Rattle.mi_container.specs.Inverse.{OldPlace}
 use Rattle.mi_inverses.specs.Filled.{marked, placed}

@@ -8,7 +8,7 @@ use Rattle.std.specs.declared.option.Option.{Option}
 use Rattle.std.specs.declared.option.Option.TheVariants.{None, Some}
 use Rattle.mi_value.specs.declared.value.Value.{Value}
 use Rattle.mi_node.specs.Refs.{Ref}
-use Rattle.mi_container.specs.declared.place.OldPlace.{OldPlace as Place}
+use Rattle.mi_node.specs.declared.old_place.OldPlace.{OldPlace as Place}
 use Rattle.mi_container.specs.Backs.{place_seen}
 use Rattle.mi_container.specs.Inverse.{RowRef, OldPlace, Inverse}
 use Rattle.mi_container.specs.Inverse.Inverse.{Inserted, Put, Erased, Relocated, Nothing}

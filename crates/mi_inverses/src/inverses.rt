@@ -2,8 +2,9 @@
 //! that it has stand in two rings, the newest last. An inverse is put together again as it leaves the newest session.
 use crate::entry::Entry;
 use crate::store::{fetch, fetch_to_settle, store};
-use mi_container::{Inverse, MaybePlace};
+use mi_container::Inverse;
 use mi_journal::Journal;
+use mi_node::MaybePlace;
 use mi_value::Record;
 use std::alloc::{AllocError, Global};
 use std::collections::VecDeque;

@@ -2,7 +2,7 @@
 //! takes no memory.
 ghost use Rattle.std.specs.Prelude.{◌≡◌, ◌<◌, ◌≤◌, ◌+◌, List, Option, length, reverse, drop, map};
 ghost use Rattle.mi_value.specs.declared.value.Value.{Value};
-ghost use Rattle.mi_container.specs.declared.place.OldPlace.{OldPlace as Place};
+ghost use Rattle.mi_node.specs.declared.old_place.OldPlace.{OldPlace as Place};
 ghost use Rattle.std.specs.Option.{option_map};
 ghost use Rattle.std.specs.VecDeque.{deque_len, deque_capacity};
 ghost use Rattle.mi_container.specs.Backs.{inverse_seen, place_seen};
@@ -12,7 +12,8 @@ ghost use Rattle.mi_inverses.specs.Stored.{IsWithin, place_count, to_settle};
 use crate::entry::Entry;
 use crate::marks::Marks;
 use arrayvec::ArrayVec;
-use mi_container::{MaybePlace, OldPlaces, RowRef, Undo};
+use mi_container::{OldPlaces, RowRef, Undo};
+use mi_node::MaybePlace;
 use mi_value::Record;
 use std::collections::VecDeque;
 

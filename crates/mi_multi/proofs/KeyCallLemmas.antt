@@ -14,7 +14,6 @@ use Rattle.mi_catalog.specs.Kinds.{is_hashed}
 use Rattle.mi_catalog.specs.Rules.{is_schema}
 use Rattle.mi_catalog.specs.Shape.{index_at}
 use Rattle.mi_model.specs.Table.{Table}
-use Rattle.mi_model.specs.View.{view}
 use Rattle.mi_model.specs.LookUp as look
 use Rattle.mi_model.proofs.NextLaws.{whole_key_long}
 use Rattle.mi_node.specs.Pool.{Pooled, IsHeld}
@@ -29,6 +28,7 @@ use Rattle.mi_container.specs.Asked.{IsSorted, IsKeyed, IsHashed, WholeKey}
 use Rattle.mi_container.specs.Data.{as_table}
 use Rattle.mi_ids.specs.IdMap.{live_node}
 use Rattle.mi_multi.specs.Multi.{id_at, IsFor}
+use Rattle.mi_multi.specs.Past.{rank_past}
 use Rattle.mi_multi.specs.Seen.{Seen, seen_of, AreMulti}
 use Rattle.mi_multi.specs.declared.multi.MultiIndex.TheInside.{Inside}
 use Rattle.mi_multi.proofs.IndexNumberLemmas.{Numbered, numbered, reaches}
@@ -80,15 +80,10 @@ module _ (i : Inside) (is : AreMulti i) {w : Seen} (seen : seen_of i ≡ w) wher
     pub sought_held : (q : Probe) {o : Option Ref} → ((qs : List Ref) → Stands y m qs → o ≡ first_where (nodes.has_sought y m q) qs) → IfSome o (IsHeld m)
     sought_held q h = found_held (nodes.has_sought y m q) h
 
-    -- how many have a smaller key, or also those that have it
-    abbrev pub rank_past : Bool → List Value → ℕ
-    rank_past false key = look.lower_rank w.shape t x key
-    rank_past true key = look.upper_rank w.shape t x key
-
     -- the first one that is past a key stands there
     pub past_is : IsSorted w.shape x → (past : Bool) (k : Bor (List Value)) {o : Option Ref}
         → ((qs : List Ref) → Stands y m qs → o ≡ first_where (nodes.is_past past y m (Key k)) qs)
-        → option_map (id_at m) o ≡ slice_get (view w.shape t x) (rank_past past k.now)
+        → option_map (id_at m) o ≡ look.nth w.shape t x (rank_past past w.shape t x k.now)
     past_is sorted false k h =
         ap (option_map (id_at m)) (h rs n.stood.stands)
         ∙ probes.lower_seen i.schema i.ids.entries m items i.next i.arrivals is x y n k
@@ -102,7 +97,7 @@ module _ (i : Inside) (is : AreMulti i) {w : Seen} (seen : seen_of i ≡ w) wher
 
     -- as many stand in front of it
     pub past_rank : IsSorted w.shape x → (past : Bool) (k : Bor (List Value)) {j : ℕ}
-        → ((qs : List Ref) → Stands y m qs → j ≡ position_or_len (nodes.is_past past y m (Key k)) qs) → j ≡ rank_past past k.now
+        → ((qs : List Ref) → Stands y m qs → j ≡ position_or_len (nodes.is_past past y m (Key k)) qs) → j ≡ rank_past past w.shape t x k.now
     past_rank sorted false k h =
         h rs n.stood.stands
         ∙ probes.lower_placed i.schema i.ids.entries m items i.next i.arrivals is x y n k

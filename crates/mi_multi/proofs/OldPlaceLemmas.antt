@@ -19,7 +19,7 @@ use Rattle.mi_node.specs.Pool.{Pooled, value_of, link_of}
 use Rattle.mi_node.specs.Refs.{Ref}
 use Rattle.mi_chain.specs.Keying.{stamp_at}
 use Rattle.mi_order.specs.declared.stored.Stored.{Stored}
-use Rattle.mi_index.specs.declared.moves.Place.{Place}
+use Rattle.mi_node.specs.declared.old_place.OldPlace.{OldPlace as Place}
 use Rattle.mi_index.specs.declared.structure.Structure.{Structure}
 use Rattle.mi_index.specs.declared.structure.Structure.TheVariants.{Sorted, Hashed, Sequenced}
 use Rattle.mi_index.specs.Standing.{Stands, Climb}
@@ -30,10 +30,10 @@ use Rattle.mi_container.specs.Data.{stamp_of, ids_by_stamp, KindFits, KindsFit, 
 use Rattle.mi_container.specs.Data.Order.{ById, ByKey, ByHash, Listed}
 use Rattle.mi_container.specs.Changes.{sorted_order, link_in}
 use Rattle.mi_container.specs.Inverse.{OldPlace, old_place, old_places}
+use Rattle.mi_container.specs.Backs.{place_seen}
 use Rattle.mi_ids.specs.declared.entry.IdEntry.{IdEntry}
 use Rattle.mi_multi.specs.Physical.{stored_id, record_in, plan, stamps_in, node_in}
 use Rattle.mi_multi.specs.Multi.{id_at, ids_at, own_list, own_lists, AreLive, IsMulti, plain_of}
-use Rattle.mi_multi.specs.Placed.{place_kept}
 use Rattle.mi_multi.specs.Changed.{is_changed, changed_keys}
 use Rattle.mi_multi.proofs.ChangedLemmas.{mark_of}
 use Rattle.mi_multi.proofs.EveryIndexLemmas.{sorted_parts, hashed_order, has_plan, length_orders}
@@ -110,15 +110,16 @@ module _ (s : Shape) (ids : FinMap nat_cmp IdEntry) (m : Pooled Stored) (xs : Li
   -- what is kept of its place where its key changes
   pub place_is : (k : ℕ) (y : Structure) (w : Numbered s ids m xs k y) (p : Place)
       → ((as_ bs : List Ref) → Stands y m (as_ ++ r ∷ bs) → IsPlaceOf y m r p as_ bs) → (a b : List Value) → stays (get_or d.orders k ById) a b ≡ false
-      → place_kept y p ≡ record { stamp = stamp_of d.rows k e; link = link_in k d.rows e (get_or d.orders k ById) }
+      → place_seen p ≡ record { stamp = stamp_of d.rows k e; link = link_in k d.rows e (get_or d.orders k ById) }
   place_is k (Sorted t) w p given a b h =
       let h_ = has_it k (Sorted t) w in
       let its = given h_.xs h_.ys (stands_with k (Sorted t) w) in
       let slot : t.slot ≡ k = w.stood.slot in
       let stamp : p.stamp ≡ stamp_of d.rows k e = its.stamp ∙ ap (λ z. stamp_at m z r) slot ∙ sym (stamp_is k (Sorted t) w a b h) in
-      let link : link_in k d.rows e (get_or d.orders k ById) ≡ record { back = None; forth = None } =
+      let link : link_in k d.rows e (get_or d.orders k ById) ≡ record { back = p.back; forth = p.forth } =
       ap (link_in k d.rows e) (w.ordered ∙ sorted_parts (index_at s k).kind (index_at s k).parts (own_list m (Sorted t)) w.stood.for_.0)
-      ∙ unlinked k d.rows e (index_at s k).parts in
+      ∙ unlinked k d.rows e (index_at s k).parts
+      ∙ (λ j. record { back = sym its.alone.0 j; forth = sym its.alone.1 j }) in
       (λ j. record { stamp = stamp j; link = sym link j })
   place_is k (Hashed c) w p given a b h =
       let h_ = has_it k (Hashed c) w in
@@ -171,9 +172,9 @@ module _ (s : Shape) (ids : FinMap nat_cmp IdEntry) (m : Pooled Stored) (xs : Li
     -- its stamp is below 2^63
     pub few_stamp : false ≡ is_eq (compare_key (index_at s k).parts v.row new) → (y : Structure) → slice_get xs k ≡ Some y
         → (p : Place) → ((as_ bs : List Ref) → Stands y m (as_ ++ r ∷ bs) → IsPlaceOf y m r p as_ bs)
-        → (place_kept y p).stamp < 2 ^ 63
+        → p.stamp < 2 ^ 63
     few_stamp other y at p given =
-        let same : (place_kept y p).stamp ≡ stamp_of d.rows k e = ap (λ (q : OldPlace). q.stamp)
+        let same : p.stamp ≡ stamp_of d.rows k e = ap (λ (q : OldPlace). q.stamp)
         (place_is k y (numbered s ids m xs next arrivals is k y at) p given old new (stays_is false other)) in
         let here = row_here s ids m xs next arrivals is e r there v (ap stored_id (sym v_is) ∙ id) in
         let content : content_of d.rows e ≡ (node_in m os r).content = ap content_in here in
@@ -184,7 +185,7 @@ module _ (s : Shape) (ids : FinMap nat_cmp IdEntry) (m : Pooled Stored) (xs : Li
 
     pub some_place : false ≡ is_eq (compare_key (index_at s k).parts v.row new) → (y : Structure) → slice_get xs k ≡ Some y
         → (p : Place) → ((as_ bs : List Ref) → Stands y m (as_ ++ r ∷ bs) → IsPlaceOf y m r p as_ bs)
-        → Some (place_kept y p) ≡ its_place
+        → Some (place_seen p) ≡ its_place
     some_place other y at p given =
         ap Some (place_is k y (numbered s ids m xs next arrivals is k y at) p given old new (stays_is false other))
         ∙ ap (λ t. cond t None (Some (record { stamp = stamp_of d.rows k e; link = link_in k d.rows e (get_or d.orders k ById) }))) (sym (stays_is false other))

@@ -23,6 +23,7 @@ use Rattle.mi_catalog.specs.Shape.{Shape}
 use Rattle.mi_model.proofs.ViewLaws.{Lacks}
 use Rattle.mi_node.specs.Pool.{Pooled, value_of, link_of}
 use Rattle.mi_node.specs.Refs.{Ref, first_of, last_of}
+use Rattle.mi_node.specs.declared.old_place.OldPlace.{OldPlace as Place}
 use Rattle.mi_tree.specs.Sorted.{NoneAre}
 use Rattle.mi_chain.specs.Keying.{same_values, stamp_at}
 use Rattle.mi_order.specs.declared.stored.Stored.{Stored}
@@ -40,6 +41,7 @@ use Rattle.mi_container.specs.Changes.{sorted_order, group}
 use Rattle.mi_container.specs.Inverse.{OldPlace, Old, stamp_back, stamps_back, old_content, taken_back}
 use Rattle.mi_container.specs.Inverse.Inverse.{Put}
 use Rattle.mi_container.specs.Fits.{MeetByStamp, PlaceMeets, PlacesMeet}
+use Rattle.mi_container.specs.Backs.{place_seen}
 use Rattle.mi_container.proofs.ContentLemmas.{node_with, node_beside}
 use Rattle.mi_ids.specs.declared.entry.IdEntry.{IdEntry}
 use Rattle.mi_multi.specs.Physical.{stored_id, order_of, plan, record_in, stamps_in, node_in}
@@ -95,6 +97,12 @@ places_long y rows now old [] [] meet = refl
 places_long y rows now old [] (o ∷ os) meet = absurd meet
 places_long y rows now old (p ∷ ps) [] meet = absurd meet
 places_long y rows now old (p ∷ ps) (o ∷ os) meet = ap suc (places_long (suc y) rows now old ps os meet.1)
+
+-- the indexes take places as they are kept
+pub taken_as_kept : (ps : List (Option Place)) → map (option_map to_place) (map (option_map place_seen) ps) ≡ ps
+taken_as_kept [] = refl
+taken_as_kept (None ∷ ps) = ap (λ qs. None ∷ qs) (taken_as_kept ps)
+taken_as_kept (Some p ∷ ps) = ap (λ qs. Some p ∷ qs) (taken_as_kept ps)
 
 pub given_is : (ps : List (Option OldPlace)) (k : ℕ) → given_at (map (option_map to_place) ps) k ≡ option_map to_place (get_or ps k None)
 given_is [] k = refl

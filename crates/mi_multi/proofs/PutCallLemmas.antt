@@ -12,7 +12,7 @@ use Rattle.mi_catalog.specs.Shape.{index_at}
 use Rattle.mi_node.specs.Pool.{Pooled, IsHeld, value_of}
 use Rattle.mi_node.specs.Refs.{Ref}
 use Rattle.mi_order.specs.declared.stored.Stored.{Stored}
-use Rattle.mi_index.specs.declared.moves.Place.{Place}
+use Rattle.mi_node.specs.declared.old_place.OldPlace.{OldPlace as Place}
 use Rattle.mi_index.specs.declared.structure.Structure.{Structure}
 use Rattle.mi_index.specs.Standing.{slot_in, Stands}
 use Rattle.mi_index.specs.Looks.{IsPlaceOf}
@@ -26,12 +26,10 @@ use Rattle.mi_container.specs.Run.{Allowed}
 use Rattle.mi_container.specs.Run.Change.{Replace}
 use Rattle.mi_container.specs.Fits.{IsLive}
 use Rattle.mi_container.specs.Backs.{row_seen, place_seen}
-use Rattle.mi_container.specs.declared.place.OldPlace.{OldPlace as Was}
 use Rattle.mi_container.specs.declared.inverse.RowRef.{RowRef as Row}
 use Rattle.mi_model.specs.Table.{has}
 use Rattle.mi_ids.specs.IdMap.{live_node}
 use Rattle.mi_multi.specs.Multi.{own_lists, HasNode, IsMulti, plain_of}
-use Rattle.mi_multi.specs.Placed.{place_kept}
 use Rattle.mi_multi.specs.Seen.{Seen, seen_of, AreMulti}
 use Rattle.mi_multi.specs.declared.multi.MultiIndex.TheInside.{Inside}
 use Rattle.mi_multi.specs.Changed.{is_changed, changed_keys, changed_by}
@@ -122,18 +120,17 @@ module _ (i : Inside) (is : AreMulti i) (w : Seen) (seen : seen_of i ≡ w) (row
         other : false ≡ is_eq (compare_key (index_at i.schema k).parts its.value.row new)
         other = ap not (sym changes) ∙ key_is
 
-        pub some_place : ItsPlace new (Some (place_kept y p))
+        pub some_place : ItsPlace new (Some (place_seen p))
         some_place =
-            subst (λ (u : Seen). Some (place_kept y p)
+            subst (λ (u : Seen). Some (place_seen p)
             ≡ old_place k u.plain.rows row.id (content_of u.plain.rows row.id).values new (order_at u.plain.orders k) (stamp_of u.plain.rows k row.id))
             seen
             (old.some_place i.schema i.ids.entries m items i.next i.arrivals is row.id row.node row_there k few_here its.value its.is new other y at p place)
 
         -- the stamp of what is kept is below 2^63
-        pub kept_stamp : (q : OldPlace) → q ≡ place_kept y p → q.stamp < 2 ^ 63
-        kept_stamp q same =
-            subst (λ (a : OldPlace). a.stamp < 2 ^ 63) (sym same)
-            (old.few_stamp i.schema i.ids.entries m items i.next i.arrivals is row.id row.node row_there k few_here its.value its.is new other y at p place)
+        pub kept_stamp : p.stamp < 2 ^ 63
+        kept_stamp =
+            old.few_stamp i.schema i.ids.entries m items i.next i.arrivals is row.id row.node row_there k few_here its.value its.is new other y at p place
 
 -- The put
 
@@ -186,7 +183,7 @@ module _ (i : Inside) (is : AreMulti i) (w : Seen) (seen : seen_of i ≡ w) (e :
           n ys like (done is.rss is.stand can) (subst (λ (u : Seen). u.plain.arrivals < LAST_COUNT) (sym seen) few) here
 
       -- the change and its inverse
-      module _ (ps : List (Option Was)) (places : map (option_map place_seen) ps
+      module _ (ps : List (Option Place)) (places : map (option_map place_seen) ps
           ≡ old_places 0 w.plain.rows e (content_of w.plain.rows e).values row w.plain.orders (content_of w.plain.rows e).stamps) where
         places_here : map (option_map place_seen) ps
             ≡ old_places 0 (seen_of i).plain.rows e (content_of (seen_of i).plain.rows e).values

@@ -24,7 +24,8 @@ use Rattle.mi_index.specs.declared.moves.Moves.TheVariants.{All}
 use Rattle.mi_index.specs.Orders.{stored_order, keying_of, has_one_key}
 use Rattle.mi_order.specs.declared.orders.ByHash.{ByHash as HashedBy}
 use Rattle.mi_index.specs.Standing.{slot_in, AllAbove, AllBelow, Climb, IsLike}
-use Rattle.mi_index.specs.Places.{own_place, CanReturn, HasOldPlace}
+use Rattle.mi_node.specs.OldPlace.{own_place}
+use Rattle.mi_index.specs.Places.{CanReturn, HasOldPlace}
 use Rattle.mi_index.specs.Pass.{Gives, AllStand, AllCan, AllGiven, AllLike}
 use Rattle.mi_index.specs.Passes.{returning}
 use Rattle.mi_container.specs.Data.{Node, Link, Order, Data, has_stamps, node_of, content_in, content_of, stamp_of, ids_by_stamp, IsData}

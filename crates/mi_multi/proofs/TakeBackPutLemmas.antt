@@ -19,7 +19,7 @@ use Rattle.mi_node.specs.Refs.{Ref}
 use Rattle.mi_node.specs.declared.link.Tag.{Tag}
 use Rattle.mi_node.specs.declared.link.Link.{Link as Line}
 use Rattle.mi_order.specs.declared.stored.Stored.{Stored}
-use Rattle.mi_index.specs.declared.moves.Place.{Place}
+use Rattle.mi_node.specs.declared.old_place.OldPlace.{OldPlace as Place}
 use Rattle.mi_index.specs.declared.structure.Structure.{Structure}
 use Rattle.mi_index.specs.declared.structure.Structure.TheVariants.{Sorted, Hashed, Sequenced}
 use Rattle.mi_index.specs.Standing.{slot_in}

@@ -6,6 +6,6 @@ pub mod Seen
 pub mod Before
 pub mod RowAt
 pub mod Restored
-pub mod Placed
 pub mod Changed
 pub mod Walks
+pub mod Past

@@ -11,33 +11,14 @@ ghost use Rattle.mi_container.specs.Run.{Allowed};
 ghost use Rattle.mi_container.specs.Run.Change.{Replace};
 ghost use Rattle.mi_container.specs.Backs.{row_seen, place_seen};
 ghost use Rattle.mi_multi.specs.Changed.{is_changed, changed_by};
-ghost use Rattle.mi_multi.specs.Placed.{place_kept};
 
 use crate::multi::MultiIndex;
 use crate::reading::structure_at;
 use arrayvec::ArrayVec;
-use mi_container::{Inverse, MaybePlace, OldPlace, OldPlaces, RowRef, Undo};
-use mi_index::{Place, Stored, Structure};
-use mi_node::NodeRef;
+use mi_container::{Inverse, OldPlaces, RowRef, Undo};
+use mi_index::Stored;
+use mi_node::{MaybePlace, NodeRef};
 use mi_value::Record;
-
-/// What an inverse keeps of a node's place in an index.
-fn kept_place(structure: &Structure, place: Place) -> OldPlace
-    ensures { place_seen result ≡ place_kept structure.now place }
-{
-    match structure {
-        Structure::Sorted(_) => OldPlace {
-            stamp: place.stamp,
-            back: None,
-            forth: None,
-        },
-        Structure::Hashed(_) | Structure::Sequenced(_) => OldPlace {
-            stamp: place.stamp,
-            back: place.back,
-            forth: place.forth,
-        },
-    }
-}
 
 impl MultiIndex {
     /// The place of a row in an index, if another record has another key there, which `changed` says.
@@ -54,8 +35,7 @@ impl MultiIndex {
             return MaybePlace::none();
         }
         let structure = structure_at(&self.nodes, index);
-        let place = structure.place(&self.nodes.pool, index, row.node);
-        MaybePlace::new(kept_place(structure, place))
+        MaybePlace::new(structure.place(&self.nodes.pool, index, row.node))
     }
 
     /// The places of a row in the indexes in which another record has another key, which are marked.

@@ -11,6 +11,7 @@ ghost use Rattle.mi_index.specs.Standing.{Stands};
 ghost use Rattle.mi_index.specs.Looks as nodes;
 ghost use Rattle.mi_index.specs.declared.structure.Structure.TheVariants.{Sorted};
 ghost use Rattle.mi_multi.specs.Multi.{id_at};
+ghost use Rattle.mi_multi.specs.Past.{rank_past};
 
 use crate::multi::MultiIndex;
 use mi_index::{ByKey, Nodes, Stored, Structure};
@@ -134,6 +135,28 @@ impl MultiIndex {
         structure_at(&self.nodes, index).rank(&self.nodes.pool, node, steps) as u64
     }
 
+    /// The first id of an ordered or ranked index whose key isn't less than a key or the first values of one, or with `strict`
+    /// is greater; or none. At most one look-up.
+    fn past(&self, index: usize, key: &[Value], strict: bool, steps: &mut Steps) -> Option<u64>
+        requires { IsSorted self.now.shape index }
+        ensures id { result ≡ look.nth self.now.shape (as_table self.now.plain) index (rank_past strict self.now.shape (as_table self.now.plain) index key.now) }
+        ensures steps { (b : ℕ) → size_of (as_table self.now.plain) < 2 ^ b → steps.new.count ≤ steps.old.count + (2 * b + 1) }
+    {
+        let structure = structure_at(&self.nodes, index);
+        let node = structure.past(&self.nodes.pool, Probe::Key(key), strict, steps);
+        id_of(&self.nodes.pool, node)
+    }
+
+    /// How many records of an ordered or ranked index stand before that one. At most one look-up.
+    fn past_rank(&self, index: usize, key: &[Value], strict: bool, steps: &mut Steps) -> u64
+        requires { IsSorted self.now.shape index }
+        ensures rank { result ≡ rank_past strict self.now.shape (as_table self.now.plain) index key.now }
+        ensures steps { (b : ℕ) → size_of (as_table self.now.plain) < 2 ^ b → steps.new.count ≤ steps.old.count + (2 * b + 1) }
+    {
+        let structure = structure_at(&self.nodes, index);
+        structure.past_rank(&self.nodes.pool, Probe::Key(key), strict, steps) as u64
+    }
+
     /// The first id of an ordered or ranked index whose key isn't less than a key or the first values of one, or none. At
     /// most one look-up.
     pub fn lower(&self, index: usize, key: &[Value], steps: &mut Steps) -> Option<u64>
@@ -142,9 +165,7 @@ impl MultiIndex {
         ensures id { result ≡ look.lower self.now.shape (as_table self.now.plain) index key.now }
         ensures steps { (b : ℕ) → size_of (as_table self.now.plain) < 2 ^ b → steps.new.count ≤ steps.old.count + (2 * b + 1) }
     {
-        let structure = structure_at(&self.nodes, index);
-        let node = structure.lower(&self.nodes.pool, Probe::Key(key), steps);
-        id_of(&self.nodes.pool, node)
+        self.past(index, key, false, steps)
     }
 
     /// The first id of an ordered or ranked index whose key is greater than a key or the first values of one, or none. At
@@ -155,9 +176,7 @@ impl MultiIndex {
         ensures id { result ≡ look.upper self.now.shape (as_table self.now.plain) index key.now }
         ensures steps { (b : ℕ) → size_of (as_table self.now.plain) < 2 ^ b → steps.new.count ≤ steps.old.count + (2 * b + 1) }
     {
-        let structure = structure_at(&self.nodes, index);
-        let node = structure.upper(&self.nodes.pool, Probe::Key(key), steps);
-        id_of(&self.nodes.pool, node)
+        self.past(index, key, true, steps)
     }
 
     /// How many records of an ordered or ranked index have a key less than a key or the first values of one. At most one
@@ -168,8 +187,7 @@ impl MultiIndex {
         ensures rank { result ≡ look.lower_rank self.now.shape (as_table self.now.plain) index key.now }
         ensures steps { (b : ℕ) → size_of (as_table self.now.plain) < 2 ^ b → steps.new.count ≤ steps.old.count + (2 * b + 1) }
     {
-        let structure = structure_at(&self.nodes, index);
-        structure.lower_rank(&self.nodes.pool, Probe::Key(key), steps) as u64
+        self.past_rank(index, key, false, steps)
     }
 
     /// How many records of an ordered or ranked index have a key not greater than a key or the first values of one. At most
@@ -180,8 +198,7 @@ impl MultiIndex {
         ensures rank { result ≡ look.upper_rank self.now.shape (as_table self.now.plain) index key.now }
         ensures steps { (b : ℕ) → size_of (as_table self.now.plain) < 2 ^ b → steps.new.count ≤ steps.old.count + (2 * b + 1) }
     {
-        let structure = structure_at(&self.nodes, index);
-        structure.upper_rank(&self.nodes.pool, Probe::Key(key), steps) as u64
+        self.past_rank(index, key, true, steps)
     }
 
     /// The first id of a whole key in an index with keys, or none. Takes no memory.

@@ -1,57 +1,26 @@
 //! Taking changes of a container back, each by its inverse.
-ghost use Rattle.std.specs.Prelude.{◌≡◌, map};
-ghost use Rattle.std.specs.Option.{option_map};
+ghost use Rattle.std.specs.Prelude.{◌≡◌};
 ghost use Rattle.mi_container.specs.Data.{IsData};
 ghost use Rattle.mi_container.specs.Inverse.{taken_back};
 ghost use Rattle.mi_container.specs.Inverse.Inverse.{Put};
 ghost use Rattle.mi_container.specs.Fits.{Ready};
-ghost use Rattle.mi_container.specs.Backs.{row_seen, place_seen};
-ghost use Rattle.mi_multi.specs.Restored.{to_place, old_seen};
+ghost use Rattle.mi_container.specs.Backs.{row_seen};
+ghost use Rattle.mi_multi.specs.Restored.{old_seen};
 
 use crate::multi::MultiIndex;
-use arrayvec::ArrayVec;
-use mi_container::{Inverse, MAX_PLACES, OldPlace, OldPlaces, RowRef, Undo};
-use mi_index::{Place, Stored};
-use mi_node::NodeRef;
+use mi_container::{Inverse, OldPlaces, RowRef, Undo};
+use mi_index::Stored;
 use mi_value::Record;
-
-/// An old place as the indexes take it.
-fn place_of(old: Option<OldPlace>) -> Option<Place>
-    ensures { result ≡ option_map to_place (option_map place_seen old) }
-{
-    match old {
-        Some(old) => Some(Place {
-            stamp: old.stamp,
-            back: old.back,
-            forth: old.forth,
-        }),
-        None => None,
-    }
-}
-
-/// The old places of a node as the indexes take them. The toolchain takes a loop over such an array only in a function that is
-/// passed a reference, so it is passed the node's.
-fn places_of(node: NodeRef, old: &OldPlaces) -> ArrayVec<Option<Place>, MAX_PLACES>
-    ensures { result.items ≡ map (option_map to_place) (map (option_map place_seen) old.now.items) }
-{
-    let _ = node;
-    let mut places = ArrayVec::new();
-    for place in old.as_slice() {
-        places.push(place_of(place.place()));
-    }
-    places
-}
 
 impl MultiIndex {
     /// Takes back that a row got another record: it has the old one again, and stands where it stood in each index in which
     /// its key had changed. Takes no memory.
-    fn take_back_put(&mut self, row: RowRef, old: Record, places: OldPlaces)
-        requires ready { Ready (Put (row_seen row) (old_seen old places.items)) self.old.plain }
-        requires before { IsData self.old.shape (taken_back (Put (row_seen row) (old_seen old places.items)) self.old.plain) }
-        ensures plain { self.new.plain ≡ taken_back (Put (row_seen row) (old_seen old places.items)) self.old.plain }
+    fn take_back_put(&mut self, row: RowRef, old: Record, places: &OldPlaces)
+        requires ready { Ready (Put (row_seen row) (old_seen old places.now.items)) self.old.plain }
+        requires before { IsData self.old.shape (taken_back (Put (row_seen row) (old_seen old places.now.items)) self.old.plain) }
+        ensures plain { self.new.plain ≡ taken_back (Put (row_seen row) (old_seen old places.now.items)) self.old.plain }
         ensures shape { self.new.shape ≡ self.old.shape }
     {
-        let places = places_of(row.node, &places);
         let stored = Stored {
             id: row.id,
             row: old,
@@ -70,7 +39,7 @@ impl MultiIndex {
     {
         match inverse.undo() {
             Undo::Inserted(row) => self.take_back_inserted(row),
-            Undo::Put(row, old, places) => self.take_back_put(row, old, places),
+            Undo::Put(row, old, places) => self.take_back_put(row, old, &places),
             Undo::Erased(row, _) => self.take_back_erased(row),
             Undo::Relocated(index, row, behind) => self.stand_before(index, row, behind),
             Undo::Nothing => {}

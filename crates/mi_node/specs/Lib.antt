@@ -5,6 +5,7 @@ pub mod Counted
 pub mod Frames
 pub mod Homes
 pub mod Neighbours
+pub mod OldPlace
 pub mod Places
 pub mod Pool
 pub mod RefView

@@ -4,7 +4,7 @@ use Rattle.mi_node.specs.Pool.{Keeps}
 use Rattle.mi_node.specs.Refs.{IsOut}
 use Rattle.mi_node.proofs.KeepingLemmas.{keeps_more}
 use Rattle.mi_list.specs.Listed.{slot_of, IsListed, FitsBetween}
-use Rattle.mi_index.specs.declared.moves.Place.{Place}
+use Rattle.mi_node.specs.declared.old_place.OldPlace.{OldPlace}
 use Rattle.mi_index.proofs.structure.relink_list.Goals as goal
 
 pub relink-requires : goal.relink-requires
@@ -16,8 +16,8 @@ relink-requires c =
         listed = subst (IsListed c.args.list.now c.args.p.now) p.parts q.stands;
         held = j.held;
         out = subst (IsOut c.args.node.name) p.parts j.out;
-        back_is = sym (ap (λ (k : Place). k.back) p.own) ∙ p.beside.0;
-        forth_is = sym (ap (λ (k : Place). k.forth) p.own) ∙ p.beside.1;
+        back_is = sym (ap (λ (k : OldPlace). k.back) p.own) ∙ p.beside.0;
+        forth_is = sym (ap (λ (k : OldPlace). k.forth) p.own) ∙ p.beside.1;
       },
     )
 
@@ -29,8 +29,8 @@ returns-clause-step c rs h j =
       listed = subst (IsListed l m) p.parts h;
       held = j.held;
       out = subst (IsOut r.name) p.parts j.out;
-      back_is = sym (ap (λ (k : Place). k.back) p.own) ∙ p.beside.0;
-      forth_is = sym (ap (λ (k : Place). k.forth) p.own) ∙ p.beside.1;
+      back_is = sym (ap (λ (k : OldPlace). k.back) p.own) ∙ p.beside.0;
+      forth_is = sym (ap (λ (k : OldPlace). k.forth) p.own) ∙ p.beside.1;
     } in
     record {
       us = p.xs ++ r ∷ p.ys;

@@ -1,7 +1,6 @@
 -- Where the key changes, the place is the stamp and in a hashed index the neighbours.
 use Rattle.std.proofs.Common.{ap, ◌∙◌}
 use Rattle.std.specs.Option.{option_map}
-use Rattle.std.specs.declared.option.Option.TheVariants.{Some}
 use Rattle.mi_container.specs.Backs.{place_seen}
 use Rattle.mi_multi.proofs.PutCallLemmas.{few_items, its_slot, its_node, no_place, some_place, kept_stamp}
 use Rattle.mi_multi.proofs.multi.MultiIndex.old_place.Goals as goal
@@ -16,13 +15,13 @@ pub structure_at-structure-requires : goal.structure_at-structure-requires
 structure_at-structure-requires c = few_items c.self.inside c.self.invariant c.args.self.now
     c.self.view_is c.args.row c.requires.row c.args.index c.requires.index
 
-pub place-place-requires-clause-slot : goal.place-place-requires-clause-slot
-place-place-requires-clause-slot c =
+pub place-requires-clause-slot : goal.place-requires-clause-slot
+place-requires-clause-slot c =
     its_slot c.self.inside c.self.invariant c.args.self.now c.self.view_is c.args.row c.requires.row
     c.args.index c.requires.index c.structure_at-structure.result.now c.structure_at-structure.ensures
 
-pub place-place-requires-clause-node : goal.place-place-requires-clause-node
-place-place-requires-clause-node c =
+pub place-requires-clause-node : goal.place-requires-clause-node
+place-requires-clause-node c =
     its_node c.self.inside c.self.invariant c.args.self.now c.self.view_is c.args.row c.requires.row
     c.args.index c.requires.index c.structure_at-structure.result.now c.structure_at-structure.ensures
 
@@ -30,12 +29,11 @@ pub new-requires : goal.new-requires
 new-requires c =
     kept_stamp c.self.inside c.self.invariant c.args.self.now c.self.view_is c.args.row c.requires.row
     c.args.index c.requires.index c.args.new.now c.args.changed c.requires.changed c.if-not-changed.false
-    c.structure_at-structure.result.now c.structure_at-structure.ensures c.place-place.result c.place-place.ensures _ c.kept_place.ensures
+    c.structure_at-structure.result.now c.structure_at-structure.ensures c.place.result c.place.ensures
 
 pub returns : goal.returns
 returns c =
     ap (option_map place_seen) c.new.ensures
-    ∙ ap Some c.kept_place.ensures
     ∙ some_place c.self.inside c.self.invariant c.args.self.now c.self.view_is c.args.row c.requires.row
     c.args.index c.requires.index c.args.new.now c.args.changed c.requires.changed c.if-not-changed.false
-    c.structure_at-structure.result.now c.structure_at-structure.ensures c.place-place.result c.place-place.ensures
+    c.structure_at-structure.result.now c.structure_at-structure.ensures c.place.result c.place.ensures

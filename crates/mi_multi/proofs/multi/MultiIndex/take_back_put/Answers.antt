@@ -14,7 +14,7 @@ use Rattle.mi_multi.specs.Restored.{old_seen, to_place}
 use Rattle.std.specs.FinMap.{get}
 use Rattle.std.specs.Option.{option_map}
 use Rattle.mi_multi.proofs.TakeBackInsertLemmas.{live_there}
-use Rattle.mi_multi.proofs.OldRecordPlaceLemmas.{can_move_back}
+use Rattle.mi_multi.proofs.OldRecordPlaceLemmas.{taken_as_kept, can_move_back}
 use Rattle.mi_multi.proofs.TakeBackPutLemmas.{unput_seen, unput_multi}
 use Rattle.mi_multi.proofs.multi.MultiIndex.take_back_put.Goals.{After-as_slice, After-rekey_back-put}
 use Rattle.mi_multi.proofs.multi.MultiIndex.take_back_put.Goals as goal
@@ -22,7 +22,7 @@ use Rattle.mi_multi.proofs.multi.MultiIndex.take_back_put.Goals as goal
 module _ (c : After-as_slice) where
   -- what is taken back, and the data before that
   abbrev put : Inverse
-  put = Put (row_seen c.args.row) (old_seen c.args.old c.args.places.items)
+  put = Put (row_seen c.args.row) (old_seen c.args.old c.args.places.now.items)
 
   abbrev data_now : Data
   data_now = plain_of c.self.inside.schema c.self.inside.ids.entries c.self.inside.nodes.pool c.self.inside.nodes.structures.items
@@ -45,10 +45,10 @@ module _ (c : After-as_slice) where
   -- and may go back to each old place
   can : AllCan (returning_to c.as_slice.result.now c.args.row.node restored) c.self.inside.nodes.structures.items 0
       c.self.inside.nodes.pool c.self.invariant.rss
-  can = let i = c.self.inside in let given = c.as_slice.ensures.value ∙ c.places_of-places.ensures in
+  can = let i = c.self.inside in let given = c.as_slice.ensures.value ∙ sym (taken_as_kept c.args.places.now.items) in
       subst (λ q. AllCan (returning_to q c.args.row.node restored) i.nodes.structures.items 0 i.nodes.pool c.self.invariant.rss) (sym given)
       (can_move_back i.schema i.ids.entries i.nodes.pool i.nodes.structures.items i.next i.arrivals c.self.invariant
-      c.args.row.id c.args.row.node there (old_seen c.args.old c.args.places.items) ready.2 before)
+      c.args.row.id c.args.row.node there (old_seen c.args.old c.args.places.now.items) ready.2 before)
 
 pub rekey_back-put-requires-clause-held : goal.rekey_back-put-requires-clause-held
 rekey_back-put-requires-clause-held c =
@@ -65,20 +65,20 @@ rekey_back-put-requires-clause-places c = record {
 module _ (c : After-rekey_back-put) (all : AllCan (returning_to c.as_slice.result.now c.args.row.node (record { id = c.args.row.id; row = c.args.old }))
     c.self.inside.nodes.structures.items 0 c.self.inside.nodes.pool c.self.invariant.rss) where
   -- the node stands again where its old places say
-  done : IsRekeyed (returned_to (map (option_map to_place) (old_seen c.args.old c.args.places.items).places) c.args.row.node) c.args.row.node
+  done : IsRekeyed (returned_to (map (option_map to_place) (old_seen c.args.old c.args.places.now.items).places) c.args.row.node) c.args.row.node
       (record { id = c.args.row.id; row = c.args.old }) c.self.inside.nodes.structures.items c.rekey_back-put.new.self.structures.items
       c.self.inside.nodes.pool c.rekey_back-put.new.self.pool c.self.invariant.rss
   done = let i = c.self.inside in
       subst (λ q. IsRekeyed (returned_to q c.args.row.node) c.args.row.node (record { id = c.args.row.id; row = c.args.old }) i.nodes.structures.items
       c.rekey_back-put.new.self.structures.items i.nodes.pool c.rekey_back-put.new.self.pool c.self.invariant.rss)
-      (c.as_slice.ensures.value ∙ c.places_of-places.ensures) (c.rekey_back-put.ensures.rekeyed c.self.invariant.rss c.self.invariant.stand all)
+      (c.as_slice.ensures.value ∙ sym (taken_as_kept c.args.places.now.items)) (c.rekey_back-put.ensures.rekeyed c.self.invariant.rss c.self.invariant.stand all)
 
 pub invariant_of-self : goal.invariant_of-self
 invariant_of-self c =
     let i = c.self.inside in let o = goal.at.invariant_of-self c in let f = o.After-as_slice in
     unput_multi i.schema i.ids.entries i.nodes.pool c.rekey_back-put.new.self.pool i.nodes.structures.items
     c.rekey_back-put.new.self.structures.items i.next i.arrivals c.self.invariant c.args.row.id c.args.row.node (there f)
-    (old_seen c.args.old c.args.places.items) (ready f).2 (before f) c.rekey_back-put.ensures.like (done o.After-rekey_back-put (can f))
+    (old_seen c.args.old c.args.places.now.items) (ready f).2 (before f) c.rekey_back-put.ensures.like (done o.After-rekey_back-put (can f))
 
 pub returns-clause-plain : goal.returns-clause-plain
 returns-clause-plain c =
@@ -87,4 +87,4 @@ returns-clause-plain c =
     subst (λ (w : Seen). new ≡ taken_back (put f) w.plain) c.self.view_is
     (unput_seen i.schema i.ids.entries i.nodes.pool c.rekey_back-put.new.self.pool i.nodes.structures.items
     c.rekey_back-put.new.self.structures.items i.next i.arrivals c.self.invariant c.args.row.id c.args.row.node (there f)
-    (old_seen c.args.old c.args.places.items) (ready f).2 (before f) c.rekey_back-put.ensures.like (done o.After-rekey_back-put (can f)))
+    (old_seen c.args.old c.args.places.now.items) (ready f).2 (before f) c.rekey_back-put.ensures.like (done o.After-rekey_back-put (can f)))

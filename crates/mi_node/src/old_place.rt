@@ -1,17 +1,35 @@
-//! The place that a record had in an index before its key changed there, and a form of it that takes 16 bytes. Plain data.
+//! The place that a node had among the nodes of a structure, to which it may come back, and a form of it that takes 16 bytes.
+//! Plain data: it owns no node and never follows a reference.
 ghost use Rattle.std.specs.Prelude.{◌≡◌, ◌<◌, ◌^◌, Some, None};
 ghost use Rattle.std.specs.Option.{is_some};
 
-use mi_node::{NodeRef, PackedRef};
+use crate::link::Link;
+use crate::node_ref::NodeRef;
+use crate::packed::PackedRef;
 use std::marker::Model;
 
-/// The place that a record had in an index before its key changed there: its stamp, and in a hashed index the neighbours
-/// among the records of its key.
+/// The place that a node had in a structure: its stamp, and the neighbours that it had. Which neighbours these are is said by the
+/// structure; one that finds the place by the stamp alone names none.
 #[derive(Clone, Copy)]
 pub struct OldPlace {
     pub stamp: u64,
     pub back: Option<NodeRef>,
     pub forth: Option<NodeRef>,
+}
+
+impl OldPlace {
+    ghost use Rattle.mi_node.specs.OldPlace.{own_place};
+
+    /// The place that a link remembers.
+    pub fn of(link: Link) -> OldPlace
+        ensures { result ≡ own_place link }
+    {
+        OldPlace {
+            stamp: link.tag.stamp,
+            back: link.back,
+            forth: link.forth,
+        }
+    }
 }
 
 /// The least number that is no stamp: it stands where there is no place.
@@ -27,8 +45,8 @@ pub struct MaybePlace {
 
 impl Model for MaybePlace {
     ghost use Rattle.std.specs.Prelude.{Option};
-    ghost use Rattle.mi_container.specs.declared.place.OldPlace.{OldPlace};
-    ghost use Rattle.mi_container.specs.Packed.{unpacked_place};
+    ghost use Rattle.mi_node.specs.declared.old_place.OldPlace.{OldPlace};
+    ghost use Rattle.mi_node.specs.OldPlace.{unpacked_place};
 
     ghost Value = { Option OldPlace };
 

@@ -1,6 +1,6 @@
 -- A place has its stamp and its neighbours.
 use Rattle.std.proofs.lemmas.Bool.{lt-ltb}
-use Rattle.mi_container.proofs.place.MaybePlace.place.Goals as goal
+use Rattle.mi_node.proofs.old_place.MaybePlace.place.Goals as goal
 
 pub returns-then-self-lt-NO_STAMP : goal.returns-then-self-lt-NO_STAMP
 returns-then-self-lt-NO_STAMP c =
