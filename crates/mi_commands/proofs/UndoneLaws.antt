@@ -6,7 +6,7 @@ use Rattle.std.proofs.lemmas.Bool.{ne_eqb}
 use Rattle.std.proofs.lemmas.List.{length-take-le}
 use Rattle.mi_value.specs.declared.refusal.NoSession.{NoSession}
 use Rattle.mi_value.specs.declared.refusal.Refusal.{Refusal}
-use Rattle.mi_value.specs.declared.refusal.Refusal.TheVariants.{Busy, Spent, Depth}
+use Rattle.mi_value.specs.declared.refusal.Refusal.TheVariants.{Busy, Spent, Depth, Memory}
 use Rattle.mi_value.specs.declared.limits.TheConstants.{MAX_SESSIONS}
 use Rattle.mi_catalog.specs.Shape.{CatalogShape}
 use Rattle.mi_model.specs.Table.{Table}
@@ -233,29 +233,30 @@ undo_lines_are_given t conn (suc k) =
     let rest = undo_lines_are_given a.1 conn k in
     (rest.0, reply_text t.database.catalog a.0 ∷ rest.1, ap suc rest.2, (a.1, inl (refl, refl), rest.3))
 
--- a session is opened, or nothing has changed
-abbrev OpenedOrNot : HeldDatabase → Said × HeldDatabase → Type 0
-OpenedOrNot s a = ((a.1.database ≡ started s.database) × (a.0 ≡ say.revised (s.database.revision + 1))) ⊎ (a.1 ≡ s)
+-- a session is opened, or it is refused and nothing has changed
+abbrev OpenedOrRefused : HeldDatabase → Said × HeldDatabase → Type 0
+OpenedOrRefused s a =
+    ((a.1.database ≡ started s.database) × (a.0 ≡ say.revised (s.database.revision + 1))) ⊎ ((e : Refusal) × (a.0 ≡ say.refused 0 e) × (a.1 ≡ s))
 
-start_by : (s : HeldDatabase) (conn : ℕ) (busy : Bool) → OpenedOrNot s (command_answer s conn (cond busy (Err Busy) (Ok command.Start)))
-start_by s conn true = inr refl
+start_by : (s : HeldDatabase) (conn : ℕ) (busy : Bool) → OpenedOrRefused s (command_answer s conn (cond busy (Err Busy) (Ok command.Start)))
+start_by s conn true = inr (Busy, refl, refl)
 start_by s conn false =
     let d = s.database in
     let opens : Step ℕ = if depth d == MAX_SESSIONS then (Err Depth, d) else (Ok (d.revision + 1), started d) in
-    either_way {X = Step ℕ} by_step (is_spent d.revision) (Err Spent, d) opens (inr refl)
-    (either_way {X = Step ℕ} by_step (depth d == MAX_SESSIONS) (Err Depth, d) (Ok (d.revision + 1), started d) (inr refl) (inl (refl, refl)))
+    either_way {X = Step ℕ} by_step (is_spent d.revision) (Err Spent, d) opens (inr (Spent, refl, refl))
+    (either_way {X = Step ℕ} by_step (depth d == MAX_SESSIONS) (Err Depth, d) (Ok (d.revision + 1), started d) (inr (Depth, refl, refl)) (inl (refl, refl)))
   where
     by_step : Step ℕ → Type 0
-    by_step step = OpenedOrNot s (revised step.0 step.1 (one_more conn) s)
+    by_step step = OpenedOrRefused s (revised step.0 step.1 (one_more conn) s)
 
-start_answer : (s : HeldDatabase) (conn : ℕ) → OpenedOrNot s (answer s conn (text (codes "{\"cmd\":\"start\"}")))
+start_answer : (s : HeldDatabase) (conn : ℕ) → OpenedOrRefused s (answer s conn (text (codes "{\"cmd\":\"start\"}")))
 start_answer s conn =
-    subst (λ r. OpenedOrNot s (command_answer s conn (command_of s conn r))) (sym (short_means request.Start _ refl))
+    subst (λ r. OpenedOrRefused s (command_answer s conn (command_of s conn r))) (sym (short_means request.Start _ refl))
     (start_by s conn (is_busy s.holder conn))
 
 pub start_lines_open : StartLinesOpen
-start_lines_open s u conn reply (inr p) = inr p.1.1
+start_lines_open s u conn reply (inr p) = inr (Memory, p.1.0, p.1.1)
 start_lines_open s u conn reply (inl p) = elim (start_answer s conn) [
   | inl o ↦ inl ((inl p, ap (λ (t : HeldDatabase). t.database) p.1 ∙ o.0), p.0 ∙ ap (reply_text s.database.catalog) o.1)
-  | inr o ↦ inr (p.1 ∙ o)
+  | inr o ↦ inr (o.0, p.0 ∙ ap (reply_text s.database.catalog) o.1, p.1 ∙ o.2)
 ]

@@ -1,9 +1,10 @@
 -- Undos take back all lines since a start, whoever asked them and whatever they were answered: after a start, an insert, a second start, an
 -- erase and a look-up, two lines {"cmd":"undo"} give back the tables and the revision that the first start began with.
 use Rattle.std.specs.Prelude.{◌≡◌, ◌⊎◌, ℕ, zero, suc, ◌+◌, ◌-◌, ◌≤◌, List, [], ◌∷◌, length, map, false, codes}
+use Rattle.mi_value.specs.declared.refusal.Refusal.{Refusal}
 use Rattle.mi_catalog.specs.Shape.{CatalogShape}
 use Rattle.mi_model.specs.Database.{Database, depth, started}
-use Rattle.mi_protocol.specs.Replies.{revised, reply_text}
+use Rattle.mi_protocol.specs.Replies.{revised, refused, reply_text}
 use Rattle.mi_commands.specs.Asked.{Asked, text}
 use Rattle.mi_commands.specs.Holder.{HeldDatabase, is_busy}
 use Rattle.mi_commands.specs.Answer.{MayGive}
@@ -69,8 +70,11 @@ abbrev pub UndoLinesAreGiven : Type 0
 UndoLinesAreGiven = (t : HeldDatabase) (conn k : ℕ)
     → (v : HeldDatabase) × (replies : List (List ℕ)) × (length replies ≡ k) × Leads (undo_lines conn replies) t v
 
--- the line {"cmd":"start"} opens a session and says its number, or it is refused and nothing has changed
+-- the line is refused, and nothing has changed
+abbrev pub IsRefusedFrom : HeldDatabase → GivenLine → HeldDatabase → Type 0
+IsRefusedFrom s l u = (e : Refusal) × (l.reply ≡ reply_text s.database.catalog (refused 0 e)) × (u ≡ s)
+
+-- the line {"cmd":"start"} opens a session and says its number, or it is refused
 abbrev pub StartLinesOpen : Type 0
-StartLinesOpen = (s u : HeldDatabase) (conn : ℕ) (reply : List ℕ) → IsGivenFrom s (line_of conn (codes "{\"cmd\":\"start\"}") reply) u
-    → (Opens s (line_of conn (codes "{\"cmd\":\"start\"}") reply) u × (reply ≡ reply_text s.database.catalog (revised (s.database.revision + 1))))
-    ⊎ (u ≡ s)
+StartLinesOpen = (s u : HeldDatabase) (conn : ℕ) (reply : List ℕ) → let l = line_of conn (codes "{\"cmd\":\"start\"}") reply in IsGivenFrom s l u
+    → (Opens s l u × (reply ≡ reply_text s.database.catalog (revised (s.database.revision + 1)))) ⊎ IsRefusedFrom s l u
