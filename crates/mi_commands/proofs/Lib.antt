@@ -2,3 +2,4 @@ mod AloneLaws
 mod AnswerLemmas
 mod CallLaws
 mod ReadLemmas
+mod UndoneLaws

@@ -4,7 +4,7 @@
 --
 -- The law: where a catalog has one table, a line without a member `table` is answered as that table by itself answers it. The bytes of the
 -- reply are the same, and so are the table, its sessions, the revision and the holder that it leaves.
-use Rattle.std.specs.Prelude.{◌≡◌, ◌⊎◌, ◌↔◌, ℕ, List, [], ◌++◌, length, map, true, false, not, ◌&&◌, if◌then◌else◌}
+use Rattle.std.specs.Prelude.{◌≡◌, ◌⊎◌, ◌↔◌, ℕ, List, [], ◌++◌, length, map, true, not, ◌&&◌, if◌then◌else◌}
 use Rattle.std.specs.Prelude.{Option, Some, None, option_and_then, Result, Ok, Err, codes, decimal, bytes_eq}
 use Rattle.std.specs.List.{filter}
 use Rattle.std.specs.Option.{ok_or}

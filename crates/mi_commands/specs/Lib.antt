@@ -3,5 +3,6 @@ pub mod Asked
 pub mod Holder
 pub mod Performed
 pub mod Answer
+pub mod Undone
 pub mod Calls
 pub mod Alone
