@@ -1,5 +1,5 @@
 //! From bytes to the JSON value that they are, as a tree over borrowed text whose arrays and objects lie in an arena. A text that is
-//! written as a writer gives it is read in one pass, any other by `json`.
+//! written as a writer gives it, with short whole numbers, is read in one pass, any other by `json`.
 ghost use Rattle.std.specs.Prelude.{◌≡◌, ◌⊎◌, is_some, Some, None, IfOk, IfErr, IfSome};
 ghost use Rattle.json.specs.Json.{value};
 ghost use Rattle.json.specs.Value.{value_view, items_view, members_view};
@@ -16,7 +16,7 @@ use mi_value::Refusal;
 
 /// Whether each number in a value is one for `serde_json`.
 #[cycle(numbers)]
-pub(crate) fn has_numbers(value: &Tree<'_>) -> bool
+fn has_numbers(value: &Tree<'_>) -> bool
     ensures { result ≡ is_some (of_json (value_view value.now)) }
 {
     match value {
@@ -67,12 +67,7 @@ fn first_value<'a>(arena: &'a Bump, reader: &mut Reader<'a>) -> Result<Tree<'a>,
 fn passed<'a>(arena: &'a Bump, text: &'a str) -> Option<Json<'a>>
     ensures { IfSome result (λ v. read text.now ≡ Some v) }
 {
-    let value = pass_text(arena, text)?;
-    if has_numbers(&value) {
-        Some(Json::new(value))
-    } else {
-        None
-    }
+    Some(Json::new(pass_text(arena, text)?))
 }
 
 /// The value that bytes are. Refusals: `Json` where they are not UTF-8 or no JSON, and `Memory`.
