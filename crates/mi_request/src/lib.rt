@@ -22,4 +22,4 @@ pub use mi_tokens::Tree;
 pub use name::Name;
 pub use object::Object;
 pub use request::{End, Place, Request};
-pub use value::Json;
+pub use value::{Json, flag_in, text_in, whole_in};
