@@ -6,6 +6,7 @@ ghost use Rattle.mi_request.specs.Row.{IsRow};
 
 use crate::object::Object;
 use crate::request::Request;
+use crate::text::text_of;
 use crate::value::Json;
 use bumpalo::Bump;
 use mi_tokens::pass_last_member;
@@ -28,7 +29,7 @@ pub(crate) fn insert_line<'a>(arena: &'a Bump, line: &'a [u8]) -> Option<Request
         return None;
     }
     let behind = line.strip_prefix(b"{\"cmd\":\"insert\",\"row\":".as_slice())?;
-    let Ok(text) = simdutf8::compat::from_utf8(behind) else {
+    let Ok(text) = text_of(behind) else {
         return None;
     };
     let row = last_row(arena, text)?;

@@ -13,6 +13,7 @@ mod object;
 mod reading;
 mod request;
 mod short;
+mod text;
 mod tree;
 mod value;
 

@@ -8,6 +8,7 @@ ghost use Rattle.serde_json.specs.Read.{of_json, of_items, of_members, read};
 ghost use Rattle.mi_request.specs.Lines.{json_of};
 
 use crate::numbers::is_number;
+use crate::text::text_of;
 use crate::value::Json;
 use bumpalo::Bump;
 use json::{Error, Reader, Scratch, Value};
@@ -79,7 +80,7 @@ pub(crate) fn read_value<'a>(
     ensures ok { IfOk result (λ v. json_of bytes.now ≡ Some v) }
     ensures err { IfErr result (λ e. (e ≡ Refusal.Memory) ⊎ ((e ≡ Refusal.Json) × (json_of bytes.now ≡ None))) }
 {
-    let Ok(text) = simdutf8::compat::from_utf8(bytes) else {
+    let Ok(text) = text_of(bytes) else {
         return Err(Refusal::Json);
     };
     if let Some(value) = passed(arena, text) {
