@@ -9,6 +9,7 @@ ghost use Rattle.mi_protocol.specs.Rows.{bound_row};
 ghost use Rattle.mi_value.specs.Lent.{lent};
 ghost use Rattle.mi_value.specs.declared.limits.TheConstants.{MAX_COLUMNS};
 ghost use Rattle.mi_catalog.specs.Rules.{are_distinct};
+ghost use Rattle.mi_protocol.specs.declared.row.TheConstants.{FEW};
 
 use crate::columns::has_only_columns;
 use arrayvec::ArrayVec;
@@ -17,6 +18,9 @@ use mi_request::{Object, Tree, flag_in, text_in, whole_in};
 use mi_value::limits::{MAX_COLUMNS, MAX_TEXT};
 use mi_value::{ColumnType, Record, Refusal, Value, ValueRef};
 use std::alloc::Global;
+
+/// Rows of so many columns have places for no more values: to clear sixteen places takes some 140 instructions.
+const FEW: usize = 4;
 
 /// A text of at most 1,024 bytes.
 #[inline(always)]
@@ -51,14 +55,15 @@ pub(crate) fn fit(alloc: Global, kind: ColumnType, value: &Tree<'_>) -> Result<V
 }
 
 /// Puts the values of the members behind one another, if these are the columns' in their order and each fits.
-fn put_in_order<'a>(
-    values: &mut ArrayVec<ValueRef<'a>, MAX_COLUMNS>,
+#[inline(always)]
+fn put_in_order<'a, const N: usize>(
+    values: &mut ArrayVec<ValueRef<'a>, N>,
     members: &[(&'a str, Tree<'a>)],
     columns: &[Column],
 ) -> bool
     requires empty { values.old.items ≡ [] }
     requires distinct { IsTrue (are_distinct (map (λ c. c.name) columns.now)) }
-    requires few { length columns.now ≤ MAX_COLUMNS }
+    requires few { length columns.now ≤ N }
     ensures { IsTrue result → bound_row columns.now (members_seen members.now) ≡ Some (map lent values.new.items) }
 {
     if members.len() != columns.len() {
@@ -103,15 +108,43 @@ fn record_of(alloc: Global, row: &Object<'_>, columns: &[Column]) -> Result<Reco
     Ok(Record::new(alloc, values.as_slice())?)
 }
 
+/// The record of a row of few columns: its members are tried in the columns' order first.
+#[inline(never)]
+fn record_of_few(alloc: Global, row: &Object<'_>, columns: &[Column]) -> Result<Record, Refusal>
+    requires distinct { IsTrue (are_distinct (map (λ c. c.name) columns.now)) }
+    requires few { length columns.now ≤ FEW }
+    ensures { IsAnswer result (ok_or (bound_row columns.now row.now) Refusal.Row) }
+{
+    let mut values: ArrayVec<ValueRef<'_>, FEW> = ArrayVec::new();
+    if put_in_order(&mut values, row.members(), columns) {
+        return Ok(Record::new(alloc, values.as_slice())?);
+    }
+    record_of(alloc, row, columns)
+}
+
+/// The record of a row of up to sixteen columns, in the same way.
+#[inline(never)]
+fn record_of_many(alloc: Global, row: &Object<'_>, columns: &[Column]) -> Result<Record, Refusal>
+    requires distinct { IsTrue (are_distinct (map (λ c. c.name) columns.now)) }
+    requires few { length columns.now ≤ MAX_COLUMNS }
+    ensures { IsAnswer result (ok_or (bound_row columns.now row.now) Refusal.Row) }
+{
+    let mut values: ArrayVec<ValueRef<'_>, MAX_COLUMNS> = ArrayVec::new();
+    if put_in_order(&mut values, row.members(), columns) {
+        return Ok(Record::new(alloc, values.as_slice())?);
+    }
+    record_of(alloc, row, columns)
+}
+
 /// The record that a row is: a fitting member for each column, and no other. Refusals: `Row` and `Memory`.
 pub(crate) fn bind_row(alloc: Global, row: &Object<'_>, schema: &Schema) -> Result<Record, Refusal>
     ensures { IsAnswer result (ok_or (bound_row schema.now.columns row.now) Refusal.Row) }
 {
     schema.keeps_rules();
     let columns = schema.columns();
-    let mut values: ArrayVec<ValueRef<'_>, MAX_COLUMNS> = ArrayVec::new();
-    if put_in_order(&mut values, row.members(), columns) {
-        return Ok(Record::new(alloc, values.as_slice())?);
+    if columns.len() <= FEW {
+        record_of_few(alloc, row, columns)
+    } else {
+        record_of_many(alloc, row, columns)
     }
-    record_of(alloc, row, columns)
 }

@@ -6,7 +6,7 @@ use Rattle.mi_protocol.proofs.RowLemmas.{names, names_of, pairwise, row_in_order
 use Rattle.mi_protocol.proofs.row.put_in_order.Goals as goal
 
 pub returns : goal.returns
-returns c is_put =
+returns g c is_put =
     let l = c.columns in let cs = c.args.columns.now in let ms = c.args.members.now in
     let no_columns : drop l.i cs ≡ [] = drop_all l.i cs (omega arith) in
     let no_members : drop l.i ms ≡ [] = drop_all l.i ms (omega arith) in
