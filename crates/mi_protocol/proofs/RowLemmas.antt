@@ -1,26 +1,22 @@
 -- Rows, column by column.
 use Rattle.std.proofs.Common.{◌≡◌, ℕ, List, [], ◌∷◌, map, not, ◌&&◌, Bool, true, false}
-use Rattle.std.proofs.Common.{Option, Some, None, ◌++◌, option_map, option_and_then, refl, sym, ap, ◌∙◌, ◌||◌, true≢false}
-use Rattle.std.specs.List.{list_any}
+use Rattle.std.proofs.Common.{Option, Some, None, ◌++◌, option_map, option_and_then, refl, sym, ap, ap₂, ◌∙◌, ◌||◌, true≢false, subst, append_assoc, if◌then◌else◌}
+use Rattle.std.specs.List.{list_any, list_all}
 use Rattle.std.specs.Str.{bytes_eq}
 use Rattle.std.proofs.lemmas.Slice.Eq.{bytes_eq-Decides}
-use Rattle.serde_json.specs.Data.{Members}
-use Rattle.serde_json.specs.Find.{get_member}
+use Rattle.json.specs.Value.{members_view}
+use Rattle.serde_json.specs.Data.{Members, no_members, put}
 use Rattle.mi_value.specs.declared.value.Value.{Value}
 use Rattle.mi_value.specs.declared.value.ValueRef.{ValueRef}
 use Rattle.mi_value.specs.Lent.{lent}
 use Rattle.mi_catalog.specs.declared.index.Column.{Column}
 use Rattle.mi_catalog.specs.Rules.{are_distinct}
-use Rattle.mi_request.proofs.ObjectLemmas.{get_member-emptied}
-use Rattle.mi_request.specs.Json.{emptied, option_map₂}
-use Rattle.mi_protocol.specs.Rows.{fitting, values_of}
+use Rattle.mi_request.proofs.ObjectLemmas.{Member, has_only-names, present}
+use Rattle.mi_request.specs.Json.{option_map₂}
+use Rattle.mi_request.specs.Meant.{seen, meant_members, members_seen, or_first, last_at}
+use Rattle.mi_protocol.specs.Rows.{fitting, values_of, bound_row}
 
 -- ---- from an object to a record
-
--- the value of each column, whose member is moved out
-abbrev pub moved : List Column → Members → Option (List Value)
-moved [] ms = Some []
-moved (c ∷ cs) ms = option_map₂ (λ v vs. v ∷ vs) (option_and_then (fitting c.kind) (get_member c.name ms)) (moved cs (emptied c.name ms))
 
 append_one : (front : List ValueRef) (v : ValueRef) (vs : List Value) → map lent (front ++ v ∷ []) ++ vs ≡ map lent front ++ (lent v ∷ vs)
 append_one [] v vs = refl
@@ -32,34 +28,78 @@ pub one_more : (front : List ValueRef) (v : ValueRef) (r : Option (List Value))
 one_more front v None = refl
 one_more front v (Some vs) = ap Some (append_one front v vs)
 
-pub not_or : (a b : Bool) → not (a || b) ≡ true → (a ≡ false) × (not b ≡ true)
+-- nothing in front
+pub in_front_none : (r : Option (List Value)) → option_map (λ vs. [] ++ vs) r ≡ r
+in_front_none None = refl
+in_front_none (Some vs) = refl
+
+not_or : (a b : Bool) → not (a || b) ≡ true → (a ≡ false) × (not b ≡ true)
 not_or true b h = absurd (true≢false (sym h))
 not_or false b h = (refl, h)
 
-pub and_true : (a b : Bool) → (a && b) ≡ true → (a ≡ true) × (b ≡ true)
+and_true : (a b : Bool) → (a && b) ≡ true → (a ≡ true) × (b ≡ true)
 and_true true b h = (refl, h)
 and_true false b h = absurd (true≢false (sym h))
 
-pub bytes_eq-sym : (a b : List ℕ) → bytes_eq a b ≡ false → bytes_eq b a ≡ false
-bytes_eq-sym a b h = by_test (bytes_eq b a) refl
-  where
-    by_test : (t : Bool) → bytes_eq b a ≡ t → t ≡ false
-    by_test true is = absurd (true≢false (sym ((bytes_eq-Decides a b).1 (sym ((bytes_eq-Decides b a).0 is))) ∙ h))
-    by_test false is = refl
+-- ---- members in the columns' order
 
--- other columns' values stay where a member is moved out
-values_of-emptied : (n : List ℕ) (cs : List Column) (ms : Members)
-    → not (list_any (λ m. bytes_eq n m) (map (λ c. c.name) cs)) ≡ true → values_of cs (emptied n ms) ≡ values_of cs ms
-values_of-emptied n [] ms h = refl
-values_of-emptied n (c ∷ cs) ms h =
-    let p = not_or (bytes_eq n c.name) _ h in
-    λ i. option_map₂ (λ v vs. v ∷ vs) (option_and_then (fitting c.kind) (get_member-emptied c.name n ms (bytes_eq-sym n c.name p.0) i))
-    (values_of-emptied n cs ms p.1 i)
+abbrev pub names : {A : Type 0} → List (Member A) → List (List ℕ)
+names ms = map (λ m. m.0.now) ms
 
--- of columns with names of their own
-pub moved_all : (cs : List Column) (ms : Members) → are_distinct (map (λ c. c.name) cs) ≡ true → moved cs ms ≡ values_of cs ms
-moved_all [] ms h = refl
-moved_all (c ∷ cs) ms h =
+abbrev pub names_of : List Column → List (List ℕ)
+names_of cs = map (λ c. c.name) cs
+
+-- each member's value in the column of its place
+abbrev pub pairwise : {A : Type 0} → List Column → List (Member A) → Option (List Value)
+pairwise [] ms = Some []
+pairwise (c ∷ cs) [] = None
+pairwise (c ∷ cs) (m ∷ ms) = option_map₂ (λ v vs. v ∷ vs) (fitting c.kind (seen m.1)) (pairwise cs ms)
+
+none_of : {A : Type 0} (name : List ℕ) (ms : List (Member A)) → not (list_any (λ n. bytes_eq name n) (names ms)) ≡ true → last_at name ms ≡ None
+none_of name [] h = refl
+none_of name (m ∷ ms) h = let p = not_or (bytes_eq name m.0.now) _ h in ap₂ or_first p.0 (none_of name ms p.1)
+
+abbrev first_of_names : List (List ℕ) → List ℕ
+first_of_names [] = []
+first_of_names (n ∷ ns) = n
+
+abbrev others_of_names : List (List ℕ) → List (List ℕ)
+others_of_names [] = []
+others_of_names (n ∷ ns) = ns
+
+values_pairwise : {A : Type 0} (cs : List Column) (ms : List (Member A)) (found : Members) → names ms ≡ names_of cs → are_distinct (names_of cs) ≡ true
+    → values_of cs (meant_members (members_view ms) found) ≡ pairwise cs ms
+values_pairwise [] ms found same h = refl
+values_pairwise (c ∷ cs) [] found same h = absurd (cc)
+values_pairwise (c ∷ cs) (m ∷ ms) found same h =
     let p = and_true _ _ h in
-    ap (option_map₂ (λ v vs. v ∷ vs) (option_and_then (fitting c.kind) (get_member c.name ms)))
-    (moved_all cs (emptied c.name ms) p.1 ∙ values_of-emptied c.name cs ms p.0)
+    let first : m.0.now ≡ c.name = ap first_of_names same in
+    let rest : names ms ≡ names_of cs = ap others_of_names same in
+    let alone = none_of c.name ms (subst (λ ns. not (list_any (λ n. bytes_eq c.name n) ns) ≡ true) (sym rest) p.0) in
+    let here : last_at c.name (m ∷ ms) ≡ Some 0 = ap₂ or_first ((bytes_eq-Decides c.name m.0.now).1 (sym first)) alone in
+    ap₂ (λ o vs. option_map₂ (λ w ws. w ∷ ws) (option_and_then (fitting c.kind) o) vs) (present c.name (m ∷ ms) found 0 m here)
+    (values_pairwise cs ms (put m.0.now (seen m.1) found) rest p.1)
+
+or_true : (b : Bool) → (b || true) ≡ true
+or_true true = refl
+or_true false = refl
+
+any_behind : (name : List ℕ) (front cs : List Column) (c : Column) → bytes_eq name c.name ≡ true → list_any (λ d. bytes_eq name d.name) (front ++ c ∷ cs) ≡ true
+any_behind name [] cs c same = ap (λ b. b || list_any (λ d. bytes_eq name d.name) cs) same
+any_behind name (d ∷ front) cs c same = ap (λ b. bytes_eq name d.name || b) (any_behind name front cs c same) ∙ or_true (bytes_eq name d.name)
+
+all_named : {A : Type 0} (front cs : List Column) (ms : List (Member A)) → names ms ≡ names_of cs
+    → list_all (λ m. list_any (λ c. bytes_eq m.0.now c.name) (front ++ cs)) ms ≡ true
+all_named front cs [] same = refl
+all_named front [] (m ∷ ms) same = absurd (cc)
+all_named front (c ∷ cs) (m ∷ ms) same =
+    let first : m.0.now ≡ c.name = ap first_of_names same in
+    let rest = all_named (front ++ c ∷ []) cs ms (ap others_of_names same) in
+    let others = subst (λ ds. list_all (λ m. list_any (λ d. bytes_eq m.0.now d.name) ds) ms ≡ true) (append_assoc front (c ∷ []) cs) rest in
+    ap₂ (λ a b. a && b) (any_behind m.0.now front cs c ((bytes_eq-Decides m.0.now c.name).1 first)) others
+
+pub row_in_order : {A : Type 0} (cs : List Column) (ms : List (Member A)) → names ms ≡ names_of cs → are_distinct (names_of cs) ≡ true
+    → bound_row cs (members_seen ms) ≡ pairwise cs ms
+row_in_order cs ms same h =
+    ap (λ b. if b then values_of cs (members_seen ms) else None) (sym (has_only-names (λ c. c.name) cs ms) ∙ all_named [] cs ms same)
+    ∙ values_pairwise cs ms no_members same h

@@ -24,7 +24,7 @@ pub(crate) fn bind_insert(
 {
     let (table, schema) = named_table(table, catalog)?;
     let before = bind_place(before, schema)?;
-    let row = bind_row(alloc, row, schema)?;
+    let row = bind_row(alloc, &row, schema)?;
     Ok(Command::Insert { table, row, before })
 }
 
@@ -42,7 +42,7 @@ pub(crate) fn bind_replace(
     Ok(Command::Replace {
         table,
         id,
-        row: bind_row(alloc, row, schema)?,
+        row: bind_row(alloc, &row, schema)?,
     })
 }
 
@@ -59,7 +59,7 @@ pub(crate) fn bind_modify(
     ensures { IsAnswer result (bound_command catalog.now (request.Modify table.entry id set.entry add.entry rollback)) }
 {
     let (table, schema) = named_table(table, catalog)?;
-    let edits = bind_edits(alloc, set, add, schema)?;
+    let edits = bind_edits(alloc, &set, &add, schema)?;
     Ok(Command::Modify {
         table,
         id,

@@ -1,17 +1,16 @@
 //! Edits: from the members `set` and `add` of a modify to edits of columns by number.
-ghost use Rattle.std.specs.Prelude.{◌≡◌, map, IsTrue};
+ghost use Rattle.std.specs.Prelude.{◌≡◌};
 ghost use Rattle.std.specs.Option.{ok_or};
-ghost use Rattle.mi_catalog.specs.Rules.{are_distinct};
 ghost use Rattle.serde_json.specs.Find.{get_member};
 ghost use Rattle.mi_request.specs.Answers.{IsAnswer};
-ghost use Rattle.mi_request.specs.Json.{emptied};
+ghost use Rattle.mi_request.specs.Meant.{seen};
 ghost use Rattle.mi_protocol.specs.Edits as edits;
 ghost use Rattle.mi_protocol.specs.Edits.{edits_from, bound_edits};
 
 use crate::columns::has_only_columns;
 use crate::row::fit;
 use mi_catalog::{Column, Schema};
-use mi_request::{Json, Object};
+use mi_request::{Object, Tree, whole_in};
 use mi_value::{ColumnType, Edit, Refusal};
 use std::alloc::Global;
 use std::marker::Model;
@@ -50,11 +49,11 @@ impl Edits {
 }
 
 /// An addition of a whole number to a column, which must be an `int`.
-fn addition(i: usize, kind: ColumnType, value: &Json) -> Option<Edit>
-    ensures { result ≡ edits.addition i kind value.now }
+fn addition(i: usize, kind: ColumnType, value: &Tree<'_>) -> Option<Edit>
+    ensures { result ≡ edits.addition i kind (seen value.now) }
 {
     match kind {
-        ColumnType::Int => Some(Edit::Add(i, value.as_i64()?)),
+        ColumnType::Int => Some(Edit::Add(i, whole_in(value)?)),
         ColumnType::Text | ColumnType::Flag => None,
     }
 }
@@ -64,13 +63,16 @@ fn addition(i: usize, kind: ColumnType, value: &Json) -> Option<Edit>
 fn edit_of(
     alloc: Global,
     i: usize,
-    kind: ColumnType,
-    set: &Option<Json>,
-    add: &Option<Json>,
+    column: &Column,
+    set: &Object<'_>,
+    add: &Object<'_>,
 ) -> Result<Option<Edit>, Refusal>
-    ensures { IsAnswer result (ok_or (edits.edit_of i kind set.now add.now) Refusal.Row) }
+    ensures { IsAnswer result (ok_or (edits.edit_of i column.now.kind
+        (get_member column.now.name set.now) (get_member column.now.name add.now)) Refusal.Row) }
 {
-    match (set, add) {
+    let name = column.name.as_str();
+    let kind = column.kind;
+    match (set.get(name), add.get(name)) {
         (None, None) => Ok(None),
         (Some(value), None) => Ok(Some(Edit::Put(i, fit(alloc, kind, value)?))),
         (None, Some(value)) => Ok(Some(addition(i, kind, value).ok_or(Refusal::Row)?)),
@@ -78,35 +80,18 @@ fn edit_of(
     }
 }
 
-/// The edit of column i, if there is one, from its members of `set` and `add`, which are moved out.
-fn take_edit(
+/// The edits of the columns' members.
+fn edits_of(
     alloc: Global,
-    i: usize,
-    column: &Column,
-    set: &mut Object,
-    add: &mut Object,
-) -> Result<Option<Edit>, Refusal>
-    ensures edit { IsAnswer result (ok_or (edits.edit_of i column.now.kind
-        (get_member column.now.name set.old) (get_member column.now.name add.old)) Refusal.Row) }
-    ensures set { set.new ≡ emptied column.now.name set.old }
-    ensures add { add.new ≡ emptied column.now.name add.old }
+    set: &Object<'_>,
+    add: &Object<'_>,
+    columns: &[Column],
+) -> Result<Edits, Refusal>
+    ensures { IsAnswer result (ok_or (edits_from 0 columns.now set.now add.now) Refusal.Row) }
 {
-    let name = column.name.as_str();
-    let put = set.move_out(name);
-    let added = add.move_out(name);
-    edit_of(alloc, i, column.kind, &put, &added)
-}
-
-/// The edits of the columns' members, whose values are moved out one by one.
-fn take_edits(alloc: Global, set: Object, add: Object, columns: &[Column]) -> Result<Edits, Refusal>
-    requires { IsTrue (are_distinct (map (λ c. c.name) columns.now)) }
-    ensures { IsAnswer result (ok_or (edits_from 0 columns.now set.entry add.entry) Refusal.Row) }
-{
-    let mut set_left = set;
-    let mut add_left = add;
     let mut edits = Vec::new(alloc);
     'columns: for (i, column) in columns.iter().enumerate() {
-        if let Some(edit) = take_edit(alloc, i, column, &mut set_left, &mut add_left)? {
+        if let Some(edit) = edit_of(alloc, i, column, set, add)? {
             edits.push(edit)?;
         }
     }
@@ -117,16 +102,15 @@ fn take_edits(alloc: Global, set: Object, add: Object, columns: &[Column]) -> Re
 /// `Memory`.
 pub(crate) fn bind_edits(
     alloc: Global,
-    set: Object,
-    add: Object,
+    set: &Object<'_>,
+    add: &Object<'_>,
     schema: &Schema,
 ) -> Result<Edits, Refusal>
-    ensures { IsAnswer result (ok_or (bound_edits schema.now.columns set.entry add.entry) Refusal.Row) }
+    ensures { IsAnswer result (ok_or (bound_edits schema.now.columns set.now add.now) Refusal.Row) }
 {
-    schema.keeps_rules();
     let columns = schema.columns();
-    if !has_only_columns(&set, columns) || !has_only_columns(&add, columns) {
+    if !has_only_columns(set, columns) || !has_only_columns(add, columns) {
         return Err(Refusal::Row);
     }
-    take_edits(alloc, set, add, columns)
+    edits_of(alloc, set, add, columns)
 }

@@ -1,3 +1,4 @@
+pub mod DigitLemmas
 pub mod InsertLemmas
 pub mod NumberLemmas
 pub mod ObjectLemmas

@@ -1,8 +1,10 @@
 -- Trees whose numbers are all in range, and what they mean.
-use Rattle.std.proofs.Common.{◌≡◌, ℕ, List, Bool, true, false, ◌&&◌, Option, Some, None, is_some, option_map, option_and_then, refl, sym, ap, ◌∙◌, true≢false}
+use Rattle.std.proofs.Common.{◌≡◌, ℕ, List, Bool, true, false, ◌&&◌, Option, Some, None, is_some, option_map, option_and_then, refl, sym, ap, ◌∙◌, inl, inr, true≢false, arith}
 use Rattle.json.specs.Json as json
 use Rattle.serde_json.specs.Data.{Num, Data, number, array, object, Items, item, Members, no_members, put}
 use Rattle.serde_json.specs.Read.{number_of, of_json, of_items, of_members}
+use Rattle.serde_json.proofs.Numbers.{number_of-decimal, number_of-negative}
+use Rattle.mi_tokens.specs.Whole.{IsShortWhole, IsWhole, AreWhole, MembersAreWhole}
 use Rattle.mi_request.specs.Meant.{finite_or_infinite, meant, meant_items, meant_members}
 
 pub is_some-map : {A B : Type 0} (f : A → B) (o : Option A) → is_some (option_map f o) ≡ is_some o
@@ -75,3 +77,30 @@ mutual
       let p = both (is_some (of_json j)) (is_some (of_members ms no_members)) all in
       ap (option_and_then (λ d. of_members ms (put k d found))) (of_json-meant j p.0)
       ∙ of_members-meant ms (put k (meant j) found) (some-after ms (put k (meant j) found) no_members ∙ p.1)
+
+-- ---- short whole numbers are in range
+
+short_number : (s : List ℕ) → IsShortWhole s → is_some (number_of s) ≡ true
+short_number s (n, small, inl e) = ap (λ t. is_some (number_of t)) e ∙ ap is_some (number_of-decimal n (omega (arith, small)))
+short_number s (n, small, inr e) = ap (λ t. is_some (number_of t)) e ∙ ap is_some (number_of-negative n (omega (arith, small)))
+
+both_some : (a b : Bool) → a ≡ true → b ≡ true → (a && b) ≡ true
+both_some true b first second = second
+both_some false b first second = first
+
+mutual
+  pub whole-some : (j : json.Json) → IsWhole j → is_some (of_json j) ≡ true
+  whole-some json.null h = refl
+  whole-some (json.boolean b) h = refl
+  whole-some (json.number s) h = is_some-map number (number_of s) ∙ short_number s h
+  whole-some (json.string s) h = refl
+  whole-some (json.array js) h = is_some-map array (of_items js) ∙ items-whole-some js h
+  whole-some (json.object ms) h = is_some-map object (of_members ms no_members) ∙ members-whole-some ms h
+
+  items-whole-some : (js : json.Items) → AreWhole js → is_some (of_items js) ≡ true
+  items-whole-some json.no_items h = refl
+  items-whole-some (json.item j js) h = some-item j js ∙ both_some _ _ (whole-some j h.0) (items-whole-some js h.1)
+
+  members-whole-some : (ms : json.Members) → MembersAreWhole ms → is_some (of_members ms no_members) ≡ true
+  members-whole-some json.no_members h = refl
+  members-whole-some (json.member k j ms) h = some-member k j ms ∙ both_some _ _ (whole-some j h.0) (members-whole-some ms h.1)

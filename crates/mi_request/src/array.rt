@@ -1,4 +1,4 @@
-//! A JSON array, seen by contracts as its items. It hands them out by moving them, and copies none.
+//! A JSON array, seen by contracts as its items. It lends them or hands them out by moving them, and copies none.
 use bumpalo::Bump;
 use mi_tokens::Tree;
 use std::marker::Model;
@@ -30,6 +30,13 @@ impl<'a> Array<'a> {
         ensures { result ≡ items_seen items.entry.items }
     {
         Array { items }
+    }
+
+    /// Its items in order.
+    pub fn items(&self) -> &[Tree<'a>]
+        ensures { items_seen result.now ≡ self.now }
+    {
+        self.items.as_slice()
     }
 
     /// Its items in order, moved out.

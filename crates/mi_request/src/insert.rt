@@ -6,7 +6,7 @@ ghost use Rattle.mi_request.specs.Row.{IsRow};
 
 use crate::object::Object;
 use crate::request::Request;
-use crate::tree::has_numbers;
+use crate::text::text_of;
 use crate::value::Json;
 use bumpalo::Bump;
 use mi_tokens::pass_last_member;
@@ -18,11 +18,7 @@ const NAME_AT: usize = 8;
 fn last_row<'a>(arena: &'a Bump, text: &'a str) -> Option<Object<'a>>
     ensures { IfSome result (λ row. IsRow text.now row) }
 {
-    let value = pass_last_member(arena, text)?;
-    if !has_numbers(&value) {
-        return None;
-    }
-    Json::new(value).into_object()
+    Json::new(pass_last_member(arena, text)?).into_object()
 }
 
 /// The request of an insert whose row comes last. The row lies in the arena, and its names and texts are borrowed from the line.
@@ -33,7 +29,7 @@ pub(crate) fn insert_line<'a>(arena: &'a Bump, line: &'a [u8]) -> Option<Request
         return None;
     }
     let behind = line.strip_prefix(b"{\"cmd\":\"insert\",\"row\":".as_slice())?;
-    let Ok(text) = simdutf8::compat::from_utf8(behind) else {
+    let Ok(text) = text_of(behind) else {
         return None;
     };
     let row = last_row(arena, text)?;

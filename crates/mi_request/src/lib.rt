@@ -13,6 +13,7 @@ mod object;
 mod reading;
 mod request;
 mod short;
+mod text;
 mod tree;
 mod value;
 
@@ -22,4 +23,4 @@ pub use mi_tokens::Tree;
 pub use name::Name;
 pub use object::Object;
 pub use request::{End, Place, Request};
-pub use value::Json;
+pub use value::{Json, flag_in, text_in, whole_in};

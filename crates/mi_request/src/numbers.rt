@@ -1,9 +1,12 @@
 //! Numbers of JSON, as `serde_json` reads them: which are in range, and which are whole.
-ghost use Rattle.std.specs.Prelude.{◌≡◌, ◌==◌, ◌<◌, length, true, false, IsTrue, is_some, slice_index, option_and_then};
+ghost use Rattle.std.specs.Prelude.{◌≡◌, ◌==◌, ◌<◌, length, true, false, IsTrue, is_some, slice_index, option_and_then, Some, IfSome};
 ghost use Rattle.serde_json.specs.Find.{as_i64};
 ghost use Rattle.serde_json.specs.Read.{number_of, number_from};
 
 use fast_float::Numeral;
+
+/// Digits that are read one by one, at most: so many always fit 64 bits.
+const FEW_DIGITS: usize = 18;
 
 fn has_minus(bytes: &[u8]) -> bool
     ensures value { result ≡ (slice_index bytes.now 0 == 45) }
@@ -30,11 +33,32 @@ fn negative(numeral: &Numeral<'_>) -> Option<i64>
     }
 }
 
+/// The number that few digits write, one or more; none where there is another byte, or more than 18.
+#[inline(always)]
+fn few_digits(bytes: &[u8]) -> Option<i64>
+    ensures { IfSome result (λ n. option_and_then as_i64 (number_of bytes.now) ≡ Some n) }
+{
+    if bytes.is_empty() || bytes.len() > FEW_DIGITS {
+        return None;
+    }
+    let mut n = 0u64;
+    'digits: for byte in bytes {
+        if !byte.is_ascii_digit() {
+            return None;
+        }
+        n = n * 10 + (*byte - b'0') as u64;
+    }
+    Some(n as i64)
+}
+
 /// The whole number that a numeral writes, from -2^63 to 2^63 - 1, without point and exponent.
 pub(crate) fn whole_number(text: &str) -> Option<i64>
     ensures { result ≡ option_and_then as_i64 (number_of text.now) }
 {
     let bytes = text.as_bytes();
+    if let Some(n) = few_digits(bytes) {
+        return Some(n);
+    }
     if has_minus(bytes) {
         negative(&Numeral::scan(&bytes[1..]))
     } else {

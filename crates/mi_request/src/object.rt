@@ -95,7 +95,7 @@ impl<'a> Object<'a> {
 
     /// The value of the member of this name, as it was read.
     #[inline(always)]
-    pub(crate) fn get(&self, name: &str) -> Option<&Tree<'a>>
+    pub fn get(&self, name: &str) -> Option<&Tree<'a>>
         ensures { option_map (λ v. seen v.now) result ≡ get_member name.now self.now }
     {
         let at = place_of(self.members.as_slice(), name)?;
@@ -104,7 +104,7 @@ impl<'a> Object<'a> {
 
     /// Moves the value of the member of this name out. Null stands in its place.
     #[inline(always)]
-    pub fn move_out(&mut self, name: &str) -> Option<Json<'a>>
+    pub(crate) fn move_out(&mut self, name: &str) -> Option<Json<'a>>
         ensures value { result ≡ get_member name.now self.old }
         ensures rest { self.new ≡ emptied name.now self.old }
     {

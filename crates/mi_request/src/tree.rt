@@ -1,5 +1,5 @@
 //! From bytes to the JSON value that they are, as a tree over borrowed text whose arrays and objects lie in an arena. A text that is
-//! written as a writer gives it is read in one pass, any other by `json`.
+//! written as a writer gives it, with short whole numbers, is read in one pass, any other by `json`.
 ghost use Rattle.std.specs.Prelude.{◌≡◌, ◌⊎◌, is_some, Some, None, IfOk, IfErr, IfSome};
 ghost use Rattle.json.specs.Json.{value};
 ghost use Rattle.json.specs.Value.{value_view, items_view, members_view};
@@ -8,6 +8,7 @@ ghost use Rattle.serde_json.specs.Read.{of_json, of_items, of_members, read};
 ghost use Rattle.mi_request.specs.Lines.{json_of};
 
 use crate::numbers::is_number;
+use crate::text::text_of;
 use crate::value::Json;
 use bumpalo::Bump;
 use json::{Error, Reader, Scratch, Value};
@@ -16,7 +17,7 @@ use mi_value::Refusal;
 
 /// Whether each number in a value is one for `serde_json`.
 #[cycle(numbers)]
-pub(crate) fn has_numbers(value: &Tree<'_>) -> bool
+fn has_numbers(value: &Tree<'_>) -> bool
     ensures { result ≡ is_some (of_json (value_view value.now)) }
 {
     match value {
@@ -67,12 +68,7 @@ fn first_value<'a>(arena: &'a Bump, reader: &mut Reader<'a>) -> Result<Tree<'a>,
 fn passed<'a>(arena: &'a Bump, text: &'a str) -> Option<Json<'a>>
     ensures { IfSome result (λ v. read text.now ≡ Some v) }
 {
-    let value = pass_text(arena, text)?;
-    if has_numbers(&value) {
-        Some(Json::new(value))
-    } else {
-        None
-    }
+    Some(Json::new(pass_text(arena, text)?))
 }
 
 /// The value that bytes are. Refusals: `Json` where they are not UTF-8 or no JSON, and `Memory`.
@@ -84,7 +80,7 @@ pub(crate) fn read_value<'a>(
     ensures ok { IfOk result (λ v. json_of bytes.now ≡ Some v) }
     ensures err { IfErr result (λ e. (e ≡ Refusal.Memory) ⊎ ((e ≡ Refusal.Json) × (json_of bytes.now ≡ None))) }
 {
-    let Ok(text) = simdutf8::compat::from_utf8(bytes) else {
+    let Ok(text) = text_of(bytes) else {
         return Err(Refusal::Json);
     };
     if let Some(value) = passed(arena, text) {

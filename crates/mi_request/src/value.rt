@@ -1,11 +1,39 @@
 //! A JSON value, seen by contracts as what it means. Its texts are borrowed from where it was read, and its numbers are read when
 //! they are asked for.
+ghost use Rattle.std.specs.Prelude.{◌≡◌, option_map, option_and_then};
+ghost use Rattle.serde_json.specs.Find.{as_bool, as_number, as_i64, as_str};
+ghost use Rattle.mi_request.specs.Meant.{seen};
+
 use crate::array::Array;
 use crate::numbers::whole_number;
 use crate::object::Object;
 use json::Value;
 use mi_tokens::Tree;
 use std::marker::Model;
+
+/// The whole number that a value is, from -2^63 to 2^63 - 1, written without point and exponent.
+#[inline(always)]
+pub fn whole_in(value: &Tree<'_>) -> Option<i64>
+    ensures { result ≡ option_and_then as_i64 (as_number (seen value.now)) }
+{
+    whole_number(value.as_number()?)
+}
+
+/// Which of true and false a value is.
+#[inline(always)]
+pub fn flag_in(value: &Tree<'_>) -> Option<bool>
+    ensures { result ≡ as_bool (seen value.now) }
+{
+    value.as_bool()
+}
+
+/// The text that a value is.
+#[inline(always)]
+pub fn text_in<'a>(value: &Tree<'a>) -> Option<&'a str>
+    ensures { option_map (λ s. s.now) result ≡ as_str (seen value.now) }
+{
+    value.as_str()
+}
 
 /// A JSON value, seen as what it means.
 #[derive(Drop)]

@@ -1,3 +1,4 @@
 pub mod LexemeLemmas
 mod RunLemmas
 pub mod TokenLemmas
+pub mod WholeLemmas

@@ -1,6 +1,6 @@
 //! Lexemes of a JSON text, read where they stand, in the spacing that a writer gives: no space, or one behind a comma or a colon.
-//! It reads no escape, and no number but whole ones. It takes no memory, and knows no nesting.
-ghost use Rattle.std.specs.Prelude.{◌≡◌, ◌∷◌, ◌++◌, ◌+◌, ◌<◌, ◌≤◌, [], length, drop, get_or, true, false, IfSome, IsTrue};
+//! It reads no escape, and no number but whole ones of at most 18 digits. It takes no memory, and knows no nesting.
+ghost use Rattle.std.specs.Prelude.{◌≡◌, ◌∷◌, ◌++◌, ◌+◌, ◌-◌, ◌<◌, ◌≤◌, ◌==◌, [], length, take, drop, get_or, cond, true, false, Some, IfSome, IsTrue};
 ghost use Rattle.std.specs.List.{prefix_len};
 ghost use Rattle.std.specs.Char.{is_ascii_digit};
 ghost use Rattle.json.specs.Token as spec;
@@ -8,9 +8,13 @@ ghost use Rattle.json.specs.Word.{head, ends_word, after_digits, after_minus, af
 ghost use Rattle.json.specs.Lex.{class, operator, operator_lexeme, token, between, lex};
 ghost use Rattle.json.specs.Run.{EndsAt};
 ghost use Rattle.mi_tokens.specs.Ends.{is_end};
+ghost use Rattle.mi_tokens.specs.Whole.{IsShortWhole};
 
 use crate::plain::plain_end;
 use std::marker::Model;
+
+/// Digits of a number, at most: so many always fit 64 bits.
+const MAX_DIGITS: usize = 18;
 
 /// The byte at `at`, or a space behind the end.
 #[inline(always)]
@@ -71,6 +75,7 @@ fn whole_end(text: &[u8], from: usize) -> Option<usize>
 fn minus_end(text: &[u8], from: usize) -> usize
     requires { from ≤ length text.now }
     ensures value { drop result text.now ≡ after_minus (drop from text.now) }
+    ensures place { result ≡ cond (head (drop from text.now) == 45) (from + 1) from }
     ensures bounds { (from ≤ result) × (result ≤ length text.now) }
 {
     if byte_at(text, from) == b'-' {
@@ -78,6 +83,22 @@ fn minus_end(text: &[u8], from: usize) -> usize
     } else {
         from
     }
+}
+
+/// Where a whole number ends that has at most 18 digits. It takes no minus in front of a zero.
+#[inline(always)]
+fn short_whole_end(text: &[u8], from: usize) -> Option<usize>
+    requires { from ≤ length text.now }
+    ensures read { IfSome result (λ e. after_whole (after_minus (drop from text.now)) ≡ Some (drop e text.now)) }
+    ensures short { IfSome result (λ e. IsShortWhole (take (e - from) (drop from text.now))) }
+    ensures bounds { IfSome result (λ e. (from ≤ e) × (e ≤ length text.now)) }
+{
+    let first = minus_end(text, from);
+    let end = whole_end(text, first)?;
+    if end - first > MAX_DIGITS || (from < first && byte_at(text, first) == b'0') {
+        return None;
+    }
+    Some(end)
 }
 
 /// A JSON text from a byte on, seen as the bytes that are left.
@@ -168,16 +189,17 @@ impl<'a> Lexemes<'a> {
         Some(&text[start..stop])
     }
 
-    /// A whole number in front of the end of a value: digits without zeros in front, or a minus and these.
+    /// A whole number of at most 18 digits in front of the end of a value: digits without zeros in front, or a minus and these.
     #[inline(always)]
     pub(crate) fn number(&mut self) -> Option<&'a str>
         requires { (32 < head self.old) × (head self.old < 128) }
-        ensures { IfSome result (λ s. lex between self.old ≡ token (spec.number s.now) ∷ lex between self.new) }
+        ensures lexeme { IfSome result (λ s. lex between self.old ≡ token (spec.number s.now) ∷ lex between self.new) }
+        ensures short { IfSome result (λ s. IsShortWhole s.now) }
     {
         let text = self.text;
         let bytes = text.as_bytes();
         let from = self.at;
-        let end = whole_end(bytes, minus_end(bytes, from))?;
+        let end = short_whole_end(bytes, from)?;
         if !is_end(byte_at(bytes, end)) {
             return None;
         }

@@ -5,6 +5,7 @@ ghost use Rattle.json.specs.Json.{value, items, members};
 ghost use Rattle.json.specs.Lex.{tokens};
 ghost use Rattle.json.specs.Token.{end_object};
 ghost use Rattle.json.specs.Value.{value_view, items_view, members_view};
+ghost use Rattle.mi_tokens.specs.Whole.{IsWhole, AreWhole, MembersAreWhole};
 
 use crate::tokens::Tokens;
 use bumpalo::Bump;
@@ -36,7 +37,8 @@ fn pass_items<'a>(
     tokens: &mut Tokens<'a>,
     depth: usize,
 ) -> Option<Vec<Tree<'a>, &'a Bump>>
-    ensures { IfSome result (λ v. items (value depth) (length tokens.old) tokens.old ≡ Some (items_view v.items, tokens.new)) }
+    ensures read { IfSome result (λ v. items (value depth) (length tokens.old) tokens.old ≡ Some (items_view v.items, tokens.new)) }
+    ensures whole { IfSome result (λ v. AreWhole (items_view v.items)) }
 {
     let mut found = Vec::new(arena);
     'items: while !tokens.take_end_array() {
@@ -56,7 +58,8 @@ fn pass_members<'a>(
     tokens: &mut Tokens<'a>,
     depth: usize,
 ) -> Option<Vec<(&'a str, Tree<'a>), &'a Bump>>
-    ensures { IfSome result (λ v. members (value depth) (length tokens.old) tokens.old ≡ Some (members_view v.items, tokens.new)) }
+    ensures read { IfSome result (λ v. members (value depth) (length tokens.old) tokens.old ≡ Some (members_view v.items, tokens.new)) }
+    ensures whole { IfSome result (λ v. MembersAreWhole (members_view v.items)) }
 {
     let mut found = Vec::new(arena);
     'members: while let Some(key) = tokens.next_key()? {
@@ -72,7 +75,8 @@ fn pass_members<'a>(
 #[cycle(pass)]
 #[inline(always)]
 fn pass_value<'a>(arena: &'a Bump, tokens: &mut Tokens<'a>, depth: usize) -> Option<Tree<'a>>
-    ensures { IfSome result (λ v. value depth tokens.old ≡ Some (value_view v, tokens.new)) }
+    ensures read { IfSome result (λ v. value depth tokens.old ≡ Some (value_view v, tokens.new)) }
+    ensures whole { IfSome result (λ v. IsWhole (value_view v)) }
 {
     let token = tokens.next()?;
     match token {
@@ -96,9 +100,11 @@ fn pass_value<'a>(arena: &'a Bump, tokens: &mut Tokens<'a>, depth: usize) -> Opt
     }
 }
 
-/// The value that a text is, where it is written as a writer gives it. Want of memory counts as another way of writing.
+/// The value that a text is, where it is written as a writer gives it, with numbers alone that are whole and have at most 18 digits. Want
+/// of memory counts as another way of writing.
 pub fn pass_text<'a>(arena: &'a Bump, text: &'a str) -> Option<Tree<'a>>
-    ensures { IfSome result (λ v. value 127 (tokens text.now) ≡ Some (value_view v, [])) }
+    ensures read { IfSome result (λ v. value 127 (tokens text.now) ≡ Some (value_view v, [])) }
+    ensures whole { IfSome result (λ v. IsWhole (value_view v)) }
 {
     let mut tokens = Tokens::new(text);
     let value = pass_value(arena, &mut tokens, MAX_DEPTH)?;
@@ -106,9 +112,10 @@ pub fn pass_text<'a>(arena: &'a Bump, text: &'a str) -> Option<Tree<'a>>
 }
 
 /// The value of an object's last member, where the text begins with it, and has nothing behind it but the brace that ends the object.
-/// Want of memory counts as another way of writing.
+/// Its numbers are whole and have at most 18 digits. Want of memory counts as another way of writing.
 pub fn pass_last_member<'a>(arena: &'a Bump, text: &'a str) -> Option<Tree<'a>>
-    ensures { IfSome result (λ v. value 126 (tokens text.now) ≡ Some (value_view v, end_object ∷ [])) }
+    ensures read { IfSome result (λ v. value 126 (tokens text.now) ≡ Some (value_view v, end_object ∷ [])) }
+    ensures whole { IfSome result (λ v. IsWhole (value_view v)) }
 {
     let mut tokens = Tokens::new(text);
     let value = pass_value(arena, &mut tokens, MAX_DEPTH - 1)?;

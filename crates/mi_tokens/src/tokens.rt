@@ -8,6 +8,7 @@ ghost use Rattle.json.specs.Lex.{between, lex, after_value, may_begin, may_close
 ghost use Rattle.json.specs.Json.{after_end_array, read_key};
 ghost use Rattle.json.specs.Reads.{token_of};
 ghost use Rattle.mi_tokens.specs.Tokens.{place_of, tokens_at, Begins, Closes, end_token, IsWordOf, Opens};
+ghost use Rattle.mi_tokens.specs.Whole.{IsWholeToken};
 ghost use Rattle.mi_tokens.specs.declared.tokens.Place.TheVariants.{Fresh};
 
 use crate::lexemes::{Lexemes, is_end};
@@ -79,7 +80,8 @@ fn key<'a>(lexemes: &mut Lexemes<'a>) -> Option<&'a str>
 #[inline(always)]
 fn string<'a>(lexemes: &mut Lexemes<'a>) -> Option<(Token<'a>, Place)>
     requires { head lexemes.old ≡ 34 }
-    ensures { IfSome result (λ t. Begins lexemes.old (token_of t.0) t.1 lexemes.new) }
+    ensures begins { IfSome result (λ t. Begins lexemes.old (token_of t.0) t.1 lexemes.new) }
+    ensures whole { IfSome result (λ t. IsWholeToken (token_of t.0)) }
 {
     let text = lexemes.string()?;
     if !is_end(lexemes.peek()) {
@@ -92,7 +94,8 @@ fn string<'a>(lexemes: &mut Lexemes<'a>) -> Option<(Token<'a>, Place)>
 #[inline(always)]
 fn number<'a>(lexemes: &mut Lexemes<'a>) -> Option<(Token<'a>, Place)>
     requires { (32 < head lexemes.old) × (head lexemes.old < 128) }
-    ensures { IfSome result (λ t. Begins lexemes.old (token_of t.0) t.1 lexemes.new) }
+    ensures begins { IfSome result (λ t. Begins lexemes.old (token_of t.0) t.1 lexemes.new) }
+    ensures whole { IfSome result (λ t. IsWholeToken (token_of t.0)) }
 {
     let text = lexemes.number()?;
     Some((Token::Number(text), after_value(lexemes)))
@@ -102,7 +105,8 @@ fn number<'a>(lexemes: &mut Lexemes<'a>) -> Option<(Token<'a>, Place)>
 #[inline(always)]
 fn word<'a>(lexemes: &mut Lexemes<'a>, text: &[u8], token: Token<'a>) -> Option<(Token<'a>, Place)>
     requires { IsWordOf (token_of token) text.now }
-    ensures { IfSome result (λ t. Begins lexemes.old (token_of t.0) t.1 lexemes.new) }
+    ensures begins { IfSome result (λ t. Begins lexemes.old (token_of t.0) t.1 lexemes.new) }
+    ensures whole { IfSome result (λ t. IsWholeToken (token_of t.0)) }
 {
     if !lexemes.pass_word(text) {
         return None;
@@ -114,7 +118,8 @@ fn word<'a>(lexemes: &mut Lexemes<'a>, text: &[u8], token: Token<'a>) -> Option<
 #[inline(always)]
 fn open<'a>(lexemes: &mut Lexemes<'a>, token: Token<'a>) -> Option<(Token<'a>, Place)>
     requires { Opens (head lexemes.old) (token_of token) }
-    ensures { IfSome result (λ t. Begins lexemes.old (token_of t.0) t.1 lexemes.new) }
+    ensures begins { IfSome result (λ t. Begins lexemes.old (token_of t.0) t.1 lexemes.new) }
+    ensures whole { IfSome result (λ t. IsWholeToken (token_of t.0)) }
 {
     lexemes.pass();
     Some((token, Place::Fresh))
@@ -123,7 +128,8 @@ fn open<'a>(lexemes: &mut Lexemes<'a>, token: Token<'a>) -> Option<(Token<'a>, P
 /// The token with which a value begins, and what may stand behind it.
 #[inline(always)]
 fn begin<'a>(lexemes: &mut Lexemes<'a>) -> Option<(Token<'a>, Place)>
-    ensures { IfSome result (λ t. Begins lexemes.old (token_of t.0) t.1 lexemes.new) }
+    ensures begins { IfSome result (λ t. Begins lexemes.old (token_of t.0) t.1 lexemes.new) }
+    ensures whole { IfSome result (λ t. IsWholeToken (token_of t.0)) }
 {
     match lexemes.peek() {
         b'"' => string(lexemes),
@@ -209,7 +215,8 @@ impl<'a> Tokens<'a> {
     /// The token with which a value begins.
     #[inline(always)]
     pub(crate) fn next(&mut self) -> Option<Token<'a>>
-        ensures { IfSome result (λ t. self.old ≡ token_of t ∷ self.new) }
+        ensures token { IfSome result (λ t. self.old ≡ token_of t ∷ self.new) }
+        ensures whole { IfSome result (λ t. IsWholeToken (token_of t)) }
     {
         if !self.place.may_begin() {
             return None;

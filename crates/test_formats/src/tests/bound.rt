@@ -24,6 +24,10 @@ kind {"cmd":"insert","row":{"owner":"ann","balance":50,"vip":false},"before":{"i
 index {"cmd":"insert","row":{"owner":"ann","balance":50,"vip":false},"before":{"index":"none","id":1}}
 form {"cmd":"insert","row":{"owner":"ann","balance":50,"vip":false},"before":7}
 index {"cmd":"insert","row":{"owner":"ann","balance":50},"before":{"index":"none","id":1}}
+ok {"cmd":"insert","row":{"vip":false,"owner":"ann","balance":50}}
+ok {"cmd":"insert","row":{"owner":"ann","balance":1.5,"vip":false,"balance":50}}
+row {"cmd":"insert","row":{"owner":"ann","balance":50,"vip":false,"balance":1.5}}
+row {"cmd":"insert","row":{"owner":"ann","balance":50,"balance":50}}
 row {"cmd":"insert","row":{"owner":"ann","balance":50}}
 row {"cmd":"insert","row":{"owner":"ann","balance":50,"vip":false,"x":1}}
 row {"cmd":"insert","row":{"owner":"ann","balance":1.5,"vip":false}}

@@ -41,6 +41,17 @@ ok {"cmd":"get","table":"accounts","id":0}
 ok {"cmd":"get","table":"c","id":0}
 form {"cmd":"get","table":0,"id":0}
 form {"cmd":"insert"}
+ok {"cmd":"nth","index":"a","n":-1,"n":0}
+form {"cmd":"nth","index":"a","n":0,"n":-1}
+ok {"cmd":"fly","id":0,"cmd":"get"}
+form {"cmd":"modify","add":{"balance":1}}
+form {"cmd":"modify","id":0,"row":{}}
+ok {"cmd":"modify","\u0069d":0}
+form {"cmd":"modify","\u0069":0}
+ok {"cmd":"nth","index":"a","n":9223372036854775807}
+form {"cmd":"nth","index":"a","n":9223372036854775808}
+form {"cmd":"nth","index":"a","n":-0}
+json {"cmd":"nth","index":"a","n":1e400}
 "#;
 
 /// Why a line is refused, if it is.

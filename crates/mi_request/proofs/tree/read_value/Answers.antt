@@ -9,7 +9,7 @@ use Rattle.mi_request.proofs.ParsingLemmas.{json-found, json-refused, text-read}
 use Rattle.mi_request.proofs.tree.read_value.Goals as goal
 
 pub returns-in_default-clause-err : goal.returns-in_default-clause-err
-returns-in_default-clause-err c = inr (refl, json-refused c.args.bytes.now (λ utf8. absurd (c.in_default.ensures.cases.0 utf8)))
+returns-in_default-clause-err c = inr (refl, json-refused c.args.bytes.now (λ utf8. absurd (c.in_default.ensures.cases utf8)))
 
 pub returns-in-Some-clause-ok : goal.returns-in-Some-clause-ok
 returns-in-Some-clause-ok c =

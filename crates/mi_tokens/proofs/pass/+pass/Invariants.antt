@@ -1,7 +1,9 @@
--- What was passed and what is left make the whole; the tokens get fewer.
+-- What was passed and what is left make the whole, and what was passed has short whole numbers alone; the tokens get fewer.
 use Rattle.std.proofs.Common.{◌≡◌, ℕ, ◌+◌, ◌*◌, ◌≤◌, length}
 use Rattle.json.specs.Json.{items, members, value, parse_map}
 use Rattle.json.proofs.Trees.{items_before, members_before}
+use Rattle.json.specs.Value.{items_view, members_view}
+use Rattle.mi_tokens.specs.Whole.{AreWhole, MembersAreWhole}
 use Rattle.mi_tokens.proofs.pass.+pass.Given as goal
 
 abbrev pub decreases-pass_value : goal.decreases-pass_value
@@ -16,6 +18,7 @@ decreases-pass_members l = 2 * l.depth + 1
 abbrev pub invariant-pass_items-items : goal.invariant-pass_items-items
 invariant-pass_items-items l =
     (n : ℕ) × (length l.tokens ≤ n) × (items (value l.depth) (length l.initial.tokens) l.initial.tokens ≡ parse_map (items_before l.found.items) (items (value l.depth) n l.tokens))
+    × AreWhole (items_view l.found.items)
 
 abbrev pub decreases-pass_items-items : goal.decreases-pass_items-items
 decreases-pass_items-items l = length l.tokens
@@ -23,6 +26,7 @@ decreases-pass_items-items l = length l.tokens
 abbrev pub invariant-pass_members-members : goal.invariant-pass_members-members
 invariant-pass_members-members l =
     (n : ℕ) × (length l.tokens ≤ n) × (members (value l.depth) (length l.initial.tokens) l.initial.tokens ≡ parse_map (members_before l.found.items) (members (value l.depth) n l.tokens))
+    × MembersAreWhole (members_view l.found.items)
 
 abbrev pub decreases-pass_members-members : goal.decreases-pass_members-members
 decreases-pass_members-members l = length l.tokens
