@@ -38,7 +38,8 @@ fn digit_count(n: u64) -> usize
 #[inline(always)]
 pub fn put_u64(buf: &mut [u8], at: usize, n: u64) -> usize
     requires { at + 20 ≤ length buf.old }
-    ensures { Placed buf.old buf.new at (decimal n) result }
+    ensures value { Placed buf.old buf.new at (decimal n) result }
+    ensures bound { result ≤ at + 20 }
 {
     let end = at + digit_count(n);
     write_digits(n, buf, end);
@@ -49,7 +50,8 @@ pub fn put_u64(buf: &mut [u8], at: usize, n: u64) -> usize
 #[inline(always)]
 pub fn put_i64(buf: &mut [u8], at: usize, n: i64) -> usize
     requires { at + 21 ≤ length buf.old }
-    ensures { Placed buf.old buf.new at (signed_decimal n) result }
+    ensures value { Placed buf.old buf.new at (signed_decimal n) result }
+    ensures bound { result ≤ at + 21 }
 {
     buf[at] = b'-';
     let first = if n < 0 { at + 1 } else { at };

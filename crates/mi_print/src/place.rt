@@ -2,6 +2,7 @@
 //! knows no JSON.
 ghost use Rattle.std.specs.Prelude.{◌≡◌, ◌+◌, ◌<◌, ◌≤◌, [], ◌∷◌, length, take};
 ghost use Rattle.json.specs.Filled.{Placed};
+ghost use Rattle.serde_json.specs.Written.{comma_if};
 
 use std::simd::Simd;
 
@@ -13,6 +14,16 @@ pub fn put_byte(buf: &mut [u8], at: usize, byte: u8) -> usize
 {
     buf[at] = byte;
     at + 1
+}
+
+/// Puts a comma where one is wanted. It is always stored, and else doesn't count.
+#[inline(always)]
+pub fn put_comma(buf: &mut [u8], at: usize, wanted: bool) -> usize
+    requires { at < length buf.old }
+    ensures { Placed buf.old buf.new at (comma_if wanted) result }
+{
+    buf[at] = b',';
+    if wanted { at + 1 } else { at }
 }
 
 /// Puts the first bytes of an array, which is stored whole: those behind them don't count.

@@ -91,7 +91,7 @@ fn plain_short(text: &[u8]) -> bool
 
 /// Whether a text needs no escape.
 #[inline(always)]
-pub(crate) fn is_plain(text: &[u8]) -> bool
+pub fn is_plain(text: &[u8]) -> bool
     ensures { OnTrue result (escape text.now ≡ text.now) }
 {
     if text.len() < 16 {

@@ -44,10 +44,7 @@ fn escape_of(byte: u8) -> ([u8; 6], usize)
         return ([b'\\', letter, 0, 0, 0, 0], 2);
     }
     if byte < 0x20 {
-        return (
-            [b'\\', b'u', b'0', b'0', hex(byte / 16), hex(byte % 16)],
-            6,
-        );
+        return ([b'\\', b'u', b'0', b'0', hex(byte / 16), hex(byte % 16)], 6);
     }
     ([byte, 0, 0, 0, 0, 0], 1)
 }
@@ -66,7 +63,8 @@ fn put_escape(buf: &mut [u8], at: usize, byte: u8) -> usize
 #[inline(never)]
 fn put_escaped(buf: &mut [u8], at: usize, text: &[u8]) -> usize
     requires { at + 6 * length text.now + 2 ≤ length buf.old }
-    ensures { Placed buf.old buf.new at (quoted text.now) result }
+    ensures value { Placed buf.old buf.new at (quoted text.now) result }
+    ensures bound { result ≤ at + 6 * length text.now + 2 }
 {
     let mut end = put_byte(buf, at, b'"');
     'bytes: for &byte in text {
@@ -90,7 +88,8 @@ fn put_plain(buf: &mut [u8], at: usize, text: &[u8]) -> usize
 #[inline(always)]
 pub fn put_string(buf: &mut [u8], at: usize, text: &str) -> usize
     requires { at + 6 * length text.now + 2 ≤ length buf.old }
-    ensures { Placed buf.old buf.new at (quoted text.now) result }
+    ensures value { Placed buf.old buf.new at (quoted text.now) result }
+    ensures bound { result ≤ at + 6 * length text.now + 2 }
 {
     let bytes = text.as_bytes();
     if is_plain(bytes) {

@@ -1,5 +1,5 @@
 -- The digits stand where their count says, and all else as it was.
-use Rattle.std.proofs.Common.{◌≡◌, ◌+◌, ◌-◌, ◌≤◌, ◌++◌, List, ℕ, length, take, drop, sym, ap, ap₂, ◌∙◌, arith, append_assoc}
+use Rattle.std.proofs.Common.{◌≡◌, ◌+◌, ◌≤◌, ◌++◌, List, ℕ, length, take, drop, sym, ap, ap₂, ◌∙◌, arith, append_assoc}
 use Rattle.std.proofs.Common.{length-append, length-take-le, length-drop, take_at, take-append-drop}
 use Rattle.std.specs.Fmt.{decimal}
 use Rattle.std.proofs.lemmas.Fmt.{length-decimal-le}
@@ -29,8 +29,8 @@ write_digits-requires c =
     let most : length (decimal c.args.n) ≤ 20 = length-decimal-le 20 c.args.n (omega arith) (omega (arith, c.ranges.n.fits)) (omega (arith, c.ranges.n.fits)) in
     (omega (arith, c.digit_count.ensures), omega (arith, most, c.digit_count.ensures, c.requires))
 
-pub returns : goal.returns
-returns c =
+pub returns-clause-value : goal.returns-clause-value
+returns-clause-value c =
     let n = c.args.n in
     let at = c.args.at in
     let most : length (decimal n) ≤ 20 = length-decimal-le 20 n (omega arith) (omega (arith, c.ranges.n.fits)) (omega (arith, c.ranges.n.fits)) in
@@ -41,3 +41,8 @@ returns c =
     put_between old new (decimal n) at end (omega (arith, c.digit_count.ensures)) (omega (arith, most, c.digit_count.ensures, c.requires))
     (ap₂ (λ j k. take j new) (sym begins) begins ∙ c.write_digits.ensures.before ∙ ap (λ j. take j old) begins)
     (ap (λ j. drop j new) (sym begins) ∙ c.write_digits.ensures.written)
+
+pub returns-clause-bound : goal.returns-clause-bound
+returns-clause-bound c =
+    let most : length (decimal c.args.n) ≤ 20 = length-decimal-le 20 c.args.n (omega arith) (omega (arith, c.ranges.n.fits)) (omega (arith, c.ranges.n.fits)) in
+    omega (arith, most, c.digit_count.ensures)
