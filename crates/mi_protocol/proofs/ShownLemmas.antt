@@ -1,15 +1,15 @@
 -- Rows that are lent to the writer.
 use Rattle.std.proofs.Common.{◌≡◌, ◌+◌, ◌<◌, ℕ, zero, suc, Some, None, slice_get, Bool, true, false}
 use Rattle.std.proofs.Common.{codes, List, [], ◌∷◌, ◌++◌, length, take, drop, get_or, slice_set, slice_index_or, unwrap_or}
-use Rattle.std.proofs.Common.{Ordering, Less, Equal, Greater, nat_cmp, refl, sym, ap, ap₂, ◌∙◌}
+use Rattle.std.proofs.Common.{Ordering, Less, Equal, Greater, nat_cmp, refl, sym, ap, ap₂, ◌∙◌, append_assoc, take_all, arith}
 use Rattle.std.proofs.lemmas.List.{take-append-drop, take-set, drop-set, drop_more, get_or_default}
 use Rattle.std.specs.Ordering.{match_ordering}
 use Rattle.std.specs.Cmp.Lexicographic.{slice_cmp}
 use Rattle.json.specs.Token.{Token}
 use Rattle.json.specs.Print.{print, escape_byte}
 use Rattle.json.specs.Tree.{json_tokens}
-use Rattle.serde_json.specs.Data.{Data, null, boolean, object, Members, no_members, member, put}
-use Rattle.serde_json.specs.Written.{outline, compact_text}
+use Rattle.serde_json.specs.Data.{Data, null, boolean, array, object, Items, Members, no_members, member, put}
+use Rattle.serde_json.specs.Written.{outline, compact_text, items_text}
 use Rattle.serde_json.proofs.Texts.{print-outline}
 use Rattle.mi_value.specs.declared.value.Value.{Value}
 use Rattle.mi_catalog.specs.declared.index.Column.{Column}
@@ -76,19 +76,30 @@ with_values-known (c ∷ cs) (v ∷ vs) ms = with_values-known cs vs (put c.name
 
 -- ---- texts
 
--- a value that is written between two texts
-pub text_between : (d : Data) (ts : List Token) (front before text whole back : List ℕ) → before ≡ front → ts ≡ json_tokens (outline d)
-    → text ≡ before ++ print ts → whole ≡ text ++ back → whole ≡ (front ++ compact_text d) ++ back
-text_between d ts front before text whole back begun tokens written closed =
-    closed ∙ ap (λ t. t ++ back) (written ∙ ap₂ (λ b t. b ++ t) begun (ap print tokens ∙ print-outline d))
+-- a value that is written by itself
+pub text_alone : (d : Data) (ts : List Token) (before text : List ℕ) → before ≡ [] → ts ≡ json_tokens (outline d) → text ≡ before ++ print ts → text ≡ compact_text d
+text_alone d ts before text begun tokens written = written ∙ ap₂ (λ b t. b ++ t) begun (ap print tokens ∙ print-outline d)
+
+-- a text in the first bytes of a vector, between a front and an end
+pub text_closed : (front body back one two three whole : List ℕ) (len end : ℕ) → one ≡ front → len ≡ length one → take end two ≡ take len one ++ body
+    → three ≡ take end two → whole ≡ three ++ back → whole ≡ (front ++ body) ++ back
+text_closed front body back one two three whole len end begun long added cut closed =
+    let all : take len one ≡ front = take_all len one (omega (arith, long)) ∙ begun in
+    closed ∙ ap (λ t. t ++ back) (cut ∙ added ∙ ap (λ t. t ++ body) all)
+
+-- the same where the end begins with a byte that is a part of the text
+pub items_closed : (front body one two three whole : List ℕ) (b : ℕ) (back : List ℕ) (end : ℕ) → one ≡ front → take end two ++ b ∷ [] ≡ one ++ body
+    → three ≡ take end two → whole ≡ three ++ b ∷ back → whole ≡ (front ++ body) ++ back
+items_closed front body one two three whole b back end begun added cut closed =
+    closed ∙ sym (append_assoc three (b ∷ []) back) ∙ ap (λ t. t ++ back) (ap (λ t. t ++ b ∷ []) cut ∙ added ∙ ap (λ t. t ++ body) begun)
 
 pub row_reply : (d : Data) → (codes "{\"ok\":true,\"row\":" ++ compact_text d) ++ codes "}"
     ≡ compact_text (object (member (codes "ok") (boolean true) (member (codes "row") d no_members)))
 unfolding escape_byte
 row_reply d = refl
 
-pub rows_reply : (more : Bool) (d : Data) → (rows_front more ++ compact_text d) ++ codes "}"
-    ≡ compact_text (object (member (codes "more") (boolean more) (member (codes "ok") (boolean true) (member (codes "rows") d no_members))))
+pub rows_reply : (more : Bool) (ds : Items) → (rows_front more ++ items_text false ds) ++ codes "}"
+    ≡ compact_text (object (member (codes "more") (boolean more) (member (codes "ok") (boolean true) (member (codes "rows") (array ds) no_members))))
 unfolding escape_byte
-rows_reply true d = refl
-rows_reply false d = refl
+rows_reply true ds = refl
+rows_reply false ds = refl

@@ -3,6 +3,7 @@ pub mod EditOrder
 pub mod Edits
 pub mod FirstTable
 pub mod Keys
+pub mod Labels
 pub mod Replies
 pub mod ReplyJson
 pub mod Rows

@@ -30,5 +30,5 @@ with_member m (n ∷ ns) = match_ordering (slice_cmp nat_cmp m.name.now n.name.n
 
 -- the text before the rows of a reply, by whether more follow
 abbrev pub rows_front : Bool → List ℕ
-rows_front true = codes "{\"more\":true,\"ok\":true,\"rows\":"
-rows_front false = codes "{\"more\":false,\"ok\":true,\"rows\":"
+rows_front true = codes "{\"more\":true,\"ok\":true,\"rows\":["
+rows_front false = codes "{\"more\":false,\"ok\":true,\"rows\":["

@@ -3,15 +3,18 @@
 #![tactic(auto)]
 
 mod binding;
+mod cells;
 mod changes;
 mod columns;
 mod edits;
 mod indexes;
 mod keys;
+mod labels;
 mod laws;
 mod look_ups;
 mod reply;
 mod row;
+mod rows;
 mod shown;
 mod text;
 

@@ -6,6 +6,7 @@ use Rattle.mi_value.specs.declared.value.Value.TheVariants as value
 use Rattle.mi_protocol.specs.Rows.{value_data, with_values}
 use Rattle.mi_protocol.specs.Shown.{first_data, shown_members}
 use Rattle.mi_protocol.proofs.ShownLemmas.{shown_members-with_member}
+use Rattle.mi_protocol.proofs.LabelLemmas.{room_step, members_room-grown}
 use Rattle.mi_protocol.proofs.shown.row_order.Goals as goal
 
 pub columns-preserved : goal.columns-preserved
@@ -24,4 +25,8 @@ columns-preserved c = (
       let here : drop i c.args.columns.now ≡ c.index-columns-i.result ∷ cs =
       drop_more c.args.columns.now i c.index-columns-i.result (omega arith) ∙ ap (λ x. x ∷ cs) (sym c.index-columns-i.is) in
       ap (with_values cs (drop (i + 1) vs)) added ∙ sym (ap₂ (λ xs ys. with_values xs ys old) here there) ∙ c.columns.invariant.1 id vs long,
+  λ vs.
+      let i = c.columns.i in
+      let added = members_room-grown vs _ c.columns.order.items _ c.add_member-in-columns.ensures.members in
+      omega (arith, added, room_step vs i, c.columns.invariant.2 vs),
 )

@@ -17,7 +17,7 @@ returns-clause-tokens c =
     ∙ ap (λ n. take n c.args.columns.now) c.column_count.ensures in
     let fits : length c.split_at.result.0.now ≤ length vs = omega (arith, c.split_at.ensures.front_len, c.column_count.ensures) in
     let shown : shown_members c.args.id vs c.row_order-order.result.items ≡ row_members c.split_at.result.0.now c.args.id vs =
-    c.row_order-order.ensures c.args.id vs fits in
+    c.row_order-order.ensures.members c.args.id vs fits in
     let is : shown_members c.args.id vs c.row_order-order.result.items ≡ row_members c.args.columns.now c.args.id vs =
     shown ∙ ap (λ cs. with_values cs vs start) front ∙ with_values-known c.args.columns.now vs start in
     let lent : c.as_slice.result.now ≡ c.row_order-order.result.items = c.as_slice.ensures.value in

@@ -1,0 +1,10 @@
+use Rattle.std.proofs.Common.{◌-◌, rules, length}
+use Rattle.std.proofs.lemmas.List.{take_rest}
+use Rattle.json.proofs.Printed.Places.{Placed-ends}
+use Rattle.mi_print.proofs.place.put_ends.Goals as goal
+
+pub returns : goal.returns
+returns g c =
+    let src = c.args.src.now in
+    Placed-ends src g.row.N (search rules) c.requires.covers.0 c.requires.covers.1 c.put_first.ensures
+    (rw (take_rest src (length src - g.row.N)) at c.put_first-2.ensures)

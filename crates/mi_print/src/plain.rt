@@ -1,0 +1,102 @@
+//! Whether a text needs no escape. Two loads that lie over each other cover a short one. It knows no lexeme.
+ghost use Rattle.std.specs.Prelude.{◌≡◌, ◌+◌, ◌≤◌, length};
+ghost use Rattle.std.specs.Bool.{OnTrue};
+ghost use Rattle.json.specs.Print.{escape};
+ghost use Rattle.json.specs.Written.{PlainBetween};
+
+use std::simd::prelude::*;
+
+/// Whether no byte of four is a quote, a backslash or a control byte.
+#[inline(always)]
+fn plain_4(text: &[u8], at: usize) -> bool
+    requires { at + 4 ≤ length text.now }
+    ensures { OnTrue result (PlainBetween text.now at (at + 4)) }
+{
+    let bytes = u8x4::from_slice(&text[at..]);
+    (bytes.simd_eq(u8x4::splat(b'"'))
+        | bytes.simd_eq(u8x4::splat(b'\\'))
+        | bytes.simd_lt(u8x4::splat(0x20))).to_bitmask()
+        == 0
+}
+
+/// The same of eight.
+#[inline(always)]
+fn plain_8(text: &[u8], at: usize) -> bool
+    requires { at + 8 ≤ length text.now }
+    ensures { OnTrue result (PlainBetween text.now at (at + 8)) }
+{
+    let bytes = u8x8::from_slice(&text[at..]);
+    (bytes.simd_eq(u8x8::splat(b'"'))
+        | bytes.simd_eq(u8x8::splat(b'\\'))
+        | bytes.simd_lt(u8x8::splat(0x20))).to_bitmask()
+        == 0
+}
+
+/// The same of sixteen.
+#[inline(always)]
+fn plain_16(text: &[u8], at: usize) -> bool
+    requires { at + 16 ≤ length text.now }
+    ensures { OnTrue result (PlainBetween text.now at (at + 16)) }
+{
+    let bytes = u8x16::from_slice(&text[at..]);
+    (bytes.simd_eq(u8x16::splat(b'"'))
+        | bytes.simd_eq(u8x16::splat(b'\\'))
+        | bytes.simd_lt(u8x16::splat(0x20))).to_bitmask()
+        == 0
+}
+
+/// The same of a text of three bytes or fewer, one by one.
+#[inline(always)]
+fn plain_few(text: &[u8]) -> bool
+    ensures { OnTrue result (PlainBetween text.now 0 (length text.now)) }
+{
+    'bytes: for &byte in text {
+        if byte == b'"' || byte == b'\\' || byte < 0x20 {
+            return false;
+        }
+    }
+    true
+}
+
+/// The same of a text of sixteen bytes or more.
+fn plain_long(text: &[u8]) -> bool
+    requires { 16 ≤ length text.now }
+    ensures { OnTrue result (PlainBetween text.now 0 (length text.now)) }
+{
+    let mut at = 0;
+    'sixteens: while text.len() - at > 16 {
+        if !plain_16(text, at) {
+            return false;
+        }
+        at += 16;
+    }
+    plain_16(text, text.len() - 16)
+}
+
+/// The same of a text of fifteen bytes or fewer.
+#[inline(always)]
+fn plain_short(text: &[u8]) -> bool
+    requires { length text.now ≤ 16 }
+    ensures { OnTrue result (PlainBetween text.now 0 (length text.now)) }
+{
+    let len = text.len();
+    if len >= 8 {
+        plain_8(text, 0) && plain_8(text, len - 8)
+    } else if len >= 4 {
+        plain_4(text, 0) && plain_4(text, len - 4)
+    } else {
+        plain_few(text)
+    }
+}
+
+/// Whether a text needs no escape.
+#[inline(always)]
+pub fn is_plain(text: &[u8]) -> bool
+    ensures { OnTrue result (escape text.now ≡ text.now) }
+{
+    if text.len() < 16 {
+        plain_short(text)
+    } else {
+        plain_long(text)
+    }
+}
