@@ -1,3 +1,4 @@
+pub mod EditList
 pub mod Binding
 pub mod EditOrder
 pub mod Edits

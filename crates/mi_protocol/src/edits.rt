@@ -1,6 +1,7 @@
 //! Edits: from the members `set` and `add` of a modify to edits of columns by number.
-ghost use Rattle.std.specs.Prelude.{◌≡◌};
+ghost use Rattle.std.specs.Prelude.{◌≡◌, ◌∷◌, ◌++◌, [], IfOk, IfErr, OnOk};
 ghost use Rattle.std.specs.Option.{ok_or};
+ghost use Rattle.mi_protocol.specs.EditList.{edits_in};
 ghost use Rattle.serde_json.specs.Find.{get_member};
 ghost use Rattle.mi_request.specs.Answers.{IsAnswer};
 ghost use Rattle.mi_request.specs.Meant.{seen};
@@ -14,37 +15,90 @@ use mi_request::{Object, Tree, whole_in};
 use mi_value::{ColumnType, Edit, Refusal};
 use std::alloc::Global;
 use std::marker::Model;
+use std::{array, mem};
 
-/// The edits of one modify, each of a column of its own, in the order of the columns; seen as their list.
+/// No edit, a single one, or several in a vector.
+#[derive(Drop)]
+enum EditList {
+    None,
+    One(Edit),
+    Many(Vec<Edit>),
+}
+
+/// The edits of one modify, each of a column of its own, in the order of the columns; seen as their list. A single one takes no
+/// vector.
 #[derive(Drop)]
 pub struct Edits {
-    edits: Vec<Edit>,
+    list: EditList,
 }
 
 impl Model for Edits {
     ghost use Rattle.std.specs.Prelude.{List};
     ghost use Rattle.mi_value.specs.declared.edit.Edit.{Edit as EditSpec};
+    ghost use Rattle.mi_protocol.specs.EditList.{edits_in};
 
     ghost Value = { List EditSpec };
 
-    ghost view = { λ a. a.edits.items };
+    ghost view = { λ a. edits_in a.list };
+}
+
+/// Two edits in a vector. Refusal: `Memory`.
+fn two_edits(alloc: Global, first: Edit, second: Edit) -> Result<Vec<Edit>, Refusal>
+    ensures ok { IfOk result (λ v. v.items ≡ first ∷ second ∷ []) }
+    ensures err { IfErr result (λ e. e ≡ Refusal.Memory) }
+{
+    let mut edits = Vec::new(alloc);
+    edits.push(first)?;
+    edits.push(second)?;
+    Ok(edits)
+}
+
+/// These edits and one more behind them. Refusal: `Memory`.
+fn with_edit(alloc: Global, list: EditList, edit: Edit) -> Result<EditList, Refusal>
+    ensures ok { IfOk result (λ more. edits_in more ≡ edits_in list ++ edit ∷ []) }
+    ensures err { IfErr result (λ e. e ≡ Refusal.Memory) }
+{
+    match list {
+        EditList::None => Ok(EditList::One(edit)),
+        EditList::One(first) => Ok(EditList::Many(two_edits(alloc, first, edit)?)),
+        EditList::Many(edits) => {
+            let mut edits = edits;
+            edits.push(edit)?;
+            Ok(EditList::Many(edits))
+        }
+    }
+}
+
+/// Puts one more edit behind the others. Refusal: `Memory`, after which nothing is said of them.
+fn put_edit(alloc: Global, list: &mut EditList, edit: Edit) -> Result<(), Refusal>
+    ensures ok { OnOk result (edits_in list.new ≡ edits_in list.old ++ edit ∷ []) }
+    ensures err { IfErr result (λ e. e ≡ Refusal.Memory) }
+{
+    let others = mem::replace(list, EditList::None);
+    *list = with_edit(alloc, others, edit)?;
+    Ok(())
 }
 
 impl Edits {
     ghost use Rattle.std.specs.Prelude.{◌≡◌};
+    ghost use Rattle.mi_protocol.specs.EditList.{edits_in};
 
     /// These edits. Takes no memory.
-    pub(crate) fn new(edits: Vec<Edit>) -> Edits
-        ensures { result ≡ edits.items }
+    fn new(list: EditList) -> Edits
+        ensures { result ≡ edits_in list }
     {
-        Edits { edits }
+        Edits { list }
     }
 
     /// The edits in order.
     pub fn as_slice(&self) -> &[Edit]
         ensures { result.now ≡ self.now }
     {
-        self.edits.as_slice()
+        match &self.list {
+            EditList::None => &[],
+            EditList::One(edit) => array::from_ref(edit).as_slice(),
+            EditList::Many(edits) => edits.as_slice(),
+        }
     }
 }
 
@@ -89,10 +143,10 @@ fn edits_of(
 ) -> Result<Edits, Refusal>
     ensures { IsAnswer result (ok_or (edits_from 0 columns.now set.now add.now) Refusal.Row) }
 {
-    let mut edits = Vec::new(alloc);
+    let mut edits = EditList::None;
     'columns: for (i, column) in columns.iter().enumerate() {
         if let Some(edit) = edit_of(alloc, i, column, set, add)? {
-            edits.push(edit)?;
+            put_edit(alloc, &mut edits, edit)?;
         }
     }
     Ok(Edits::new(edits))
