@@ -196,6 +196,19 @@ pub(crate) fn row_text(
     Ok(text)
 }
 
+/// Whether each row has a value for every column. It reads the records one right behind another, so that the processor
+/// fetches those that lie far apart in memory side by side, before the first of them is written.
+fn are_whole(rows: &[(u64, &Record)], columns: &[Column]) -> bool
+    ensures { result ≡ list_all (λ r. nat_le (length columns.now) (length r.1.now)) rows.now }
+{
+    'rows: for row in rows {
+        if row.1.column_count() < columns.len() {
+            return false;
+        }
+    }
+    true
+}
+
 /// Adds the texts of rows, with commas between them, to a vector. Answers how many of its bytes count then.
 fn add_rows(
     alloc: Global,
@@ -208,7 +221,11 @@ fn add_rows(
         ≡ text.old.items ++ items_text false (rows_items columns.now (map (λ r. (r.0, r.1.now)) rows.now))) }
     ensures within { IfOk result (λ end. end ≤ vec_len text.new) }
 {
-    let labels = labels_of(columns);
+    let labels = if are_whole(rows, columns) {
+        labels_of(columns)
+    } else {
+        None
+    };
     let mut cells = ArrayVec::new();
     let mut end = text.len();
     let mut later = false;

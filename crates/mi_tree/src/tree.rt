@@ -268,8 +268,8 @@ impl<O> Tree<O> {
         found
     }
 
-    /// How many nodes stand in front of the first that the probe isn't after, or with `strict` of the first that it is before. Whichever
-    /// way it goes, it goes on with the link that it has read.
+    /// How many nodes stand in front of the first that the probe isn't after, or with `strict` of the first that it is before; where
+    /// there is none, how many there are. Whichever way it goes, it goes on with the link that it has read.
     fn bound_rank<T>(
         &self,
         p: &mut Counted<T>,

@@ -1,5 +1,5 @@
 -- A side that is one level lower than its node needs no balance; sides of nearly one height need another height alone; else the two sides are balanced.
-use Rattle.std.proofs.Common.{◌≡◌, ◌+◌, ◌-◌, ◌≤◌, max, Some, cond, not, refl, sym, ap, ◌∙◌, subst, arith}
+use Rattle.std.proofs.Common.{◌+◌, ◌-◌, ◌≤◌, Some, cond, not, refl, sym, ap, ◌∙◌, subst, arith}
 use Rattle.mi_node.specs.Cells.{sided}
 use Rattle.mi_node.specs.Pool.{IsHeldIf, link_of}
 use Rattle.mi_node.specs.declared.link.Link.{Link}
