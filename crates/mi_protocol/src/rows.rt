@@ -1,6 +1,7 @@
 //! Rows to text: what is the same in each is prepared once for all of them, and each is put behind the last into room that is there. Short
 //! rows, and such as no schema has, go the way of `shown`.
-ghost use Rattle.std.specs.Prelude.{◌≡◌, ◌∷◌, ◌++◌, ◌+◌, ◌≤◌, [], ℕ, List, false, true, length, map, take, codes, vec_len, IfOk};
+ghost use Rattle.std.specs.Prelude.{◌≡◌, ◌∷◌, ◌++◌, ◌+◌, ◌≤◌, [], ℕ, List, false, true, length, map, nat_le, take, codes, vec_len, IfOk};
+ghost use Rattle.std.specs.List.{list_all};
 ghost use Rattle.arrayvec.specs.ArrayVec.{array_vec_len};
 ghost use Rattle.json.specs.Filled.{Placed};
 ghost use Rattle.mi_value.specs.Lent.{lent};
@@ -60,13 +61,7 @@ fn put_value(buf: &mut [u8], at: usize, value: ValueRef<'_>) -> usize
 
 /// Puts what stands at a place of a row; null where the row is too short for it.
 #[inline(always)]
-fn put_source(
-    buf: &mut [u8],
-    at: usize,
-    id: u64,
-    cells: &[ValueRef<'_>],
-    source: Source,
-) -> usize
+fn put_source(buf: &mut [u8], at: usize, id: u64, cells: &[ValueRef<'_>], source: Source) -> usize
     requires { at + 21 + source_room (map lent cells.now) source ≤ length buf.old }
     ensures value { Placed buf.old buf.new at (compact_text (source_data id (map lent cells.now) source)) result }
     ensures bound { result ≤ at + 21 + source_room (map lent cells.now) source }
@@ -167,7 +162,14 @@ fn add_row<'a>(
     if let (Some(labels), Some(room)) = (labels, lend_values(row, cells)) {
         if cells.len() >= columns.len() {
             make_room(text, len, 64 * (columns.len() + 1) + room + 3)?;
-            return Ok(put_row(text.as_mut_slice(), len, later, id, cells.as_slice(), labels.as_slice()));
+            return Ok(put_row(
+                text.as_mut_slice(),
+                len,
+                later,
+                id,
+                cells.as_slice(),
+                labels.as_slice(),
+            ));
         }
     }
     text.truncate(len);
@@ -190,7 +192,9 @@ pub(crate) fn row_text(
     let mut text = Vec::with_capacity(alloc, REPLY_ROOM)?;
     text.extend_from_slice(b"{\"ok\":true,\"row\":")?;
     let len = text.len();
-    let end = add_row(alloc, &mut text, len, false, id, row, columns, &labels, &mut cells)?;
+    let end = add_row(
+        alloc, &mut text, len, false, id, row, columns, &labels, &mut cells,
+    )?;
     text.truncate(end);
     text.push(b'}')?;
     Ok(text)
@@ -209,6 +213,18 @@ fn are_whole(rows: &[(u64, &Record)], columns: &[Column]) -> bool
     true
 }
 
+/// The labels for rows that all have a value for every column; none where one is shorter, and then each goes token by token.
+fn labels_for(rows: &[(u64, &Record)], columns: &[Column]) -> Option<Labels>
+    requires { length columns.now ≤ MAX_COLUMNS }
+    ensures { AreLabels columns.now result }
+{
+    if are_whole(rows, columns) {
+        labels_of(columns)
+    } else {
+        None
+    }
+}
+
 /// Adds the texts of rows, with commas between them, to a vector. Answers how many of its bytes count then.
 fn add_rows(
     alloc: Global,
@@ -221,17 +237,15 @@ fn add_rows(
         ≡ text.old.items ++ items_text false (rows_items columns.now (map (λ r. (r.0, r.1.now)) rows.now))) }
     ensures within { IfOk result (λ end. end ≤ vec_len text.new) }
 {
-    let labels = if are_whole(rows, columns) {
-        labels_of(columns)
-    } else {
-        None
-    };
+    let labels = labels_for(rows, columns);
     let mut cells = ArrayVec::new();
     let mut end = text.len();
     let mut later = false;
     'rows: for row in rows {
         let (id, row) = *row;
-        end = add_row(alloc, text, end, later, id, row, columns, &labels, &mut cells)?;
+        end = add_row(
+            alloc, text, end, later, id, row, columns, &labels, &mut cells,
+        )?;
         later = true;
     }
     Ok(end)

@@ -16,8 +16,7 @@ members-preserved c =
     let inv = c.members.invariant in
     let put = c.put_member-end.ensures in
     let there : drop i c.args.labels.now ≡ label ∷ rest = drop_more c.args.labels.now i label c.members-test.true ∙ ap (λ l. l ∷ rest) (sym c.label-item.is) in
-    let room : labels_room vs (drop i c.args.labels.now) ≡ 64 + source_room vs label.source + labels_room vs rest = ap (labels_room vs) there in
-    (
+    let room : labels_room vs (drop i c.args.labels.now) ≡ 64 + source_room vs label.source + labels_room vs rest = ap (labels_room vs) there in (
       inv.0 ++ _,
       Placed-then inv.1 put.value,
       append_assoc inv.0 _ (labelled_text true c.args.id vs rest)
