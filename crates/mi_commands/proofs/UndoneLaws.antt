@@ -1,4 +1,5 @@
--- Undos take back the lines since a start: what lines leave of a database is what commands leave, so the law of commands speaks of them.
+-- Undos take back all since a start: what lines, and connections that go away, leave of a database is what commands leave, so the law of
+-- commands speaks of them.
 use Rattle.std.proofs.Common.{◌≡◌, ℕ, zero, suc, ◌+◌, ◌-◌, ◌<◌, ◌≤◌, List, [], ◌∷◌, length, take, Bool, true, false, cond, nat_le, Option, Some, None}
 use Rattle.std.proofs.Common.{Result, Ok, Err, codes, refl, sym, ap, ◌∙◌, subst, ◌⊎◌, inl, inr, arith}
 use Rattle.std.specs.Prelude.{◌==◌, if◌then◌else◌}
@@ -23,10 +24,11 @@ use Rattle.mi_protocol.specs.Replies.{Said, reply_text}
 use Rattle.mi_protocol.specs.declared.binding.Command.{Command}
 use Rattle.mi_protocol.specs.declared.binding.Command.TheVariants as command
 use Rattle.mi_commands.specs.Asked.{Asked, text, too_long}
-use Rattle.mi_commands.specs.Holder.{HeldDatabase, is_busy, one_more, one_less}
+use Rattle.mi_commands.specs.Holder.{HeldDatabase, is_busy, one_more, one_less, held_by}
 use Rattle.mi_commands.specs.Performed.{performed, or_session, revised}
 use Rattle.mi_commands.specs.Answer.{answer, command_answer, command_of, MayGive}
-use Rattle.mi_commands.specs.Undone.{GivenLine, IsGivenFrom, Leads, IsOpen, StaysOpen, line_of, undo_lines, undo_replies, TakenBack}
+use Rattle.mi_commands.specs.Acts.{Act, asks, leaves, Acts, AllActs}
+use Rattle.mi_commands.specs.Undone.{IsOpen, StaysOpen, undo_lines, undo_replies, TakenBack}
 use Rattle.mi_commands.specs.Undone.{UndoLinesTakeBack, UndoLinesAreGiven, StartLinesOpen}
 use Rattle.mi_commands.specs.declared.holder.Holder.{Holder}
 
@@ -94,16 +96,59 @@ after_move n d mid e (inr p) o h =
     let rest : AreCommands n (after_command p.0 d) e = subst (λ x. AreCommands n x e) p.1 h in
     record { commands = p.0 ∷ rest.commands; opens = (spares n p.0 d here, here.1, rest.opens); leads = rest.leads }
 
+-- undos of a connection that goes away
+
+not_zero : (n : ℕ) → 1 ≤ n → (n == 0) ≡ false
+not_zero n some = ne_eqb n 0 (λ e. omega arith)
+
+-- what an undo answers and leaves, by whether no session is open
+abbrev undo_by : Database → List (List Table) → Bool → Result ℕ NoSession × Database
+undo_by d old none = cond none (Err (record {}), d) (Ok (d.revision - 1), undone_to d old)
+
+undo_leaves : (d : Database) (old : List (List Table)) → (undo_by d old (length old == 0)).1 ≡ undone_to d old
+undo_leaves d [] = refl
+undo_leaves d (tables ∷ old) = ap (λ b. (undo_by d (tables ∷ old) b).1) (not_zero (length (tables ∷ old)) (omega arith))
+
+undone_falls : (d : Database) (old : List (List Table)) → (undone_to d old).revision ≤ d.revision
+undone_falls d [] = omega arith
+undone_falls d (tables ∷ old) = omega arith
+
+undone_times_falls : (k : ℕ) (d : Database) → (undone_times k d).revision ≤ d.revision
+undone_times_falls zero d = omega arith
+undone_times_falls (suc k) d =
+    let first : (undone d).revision ≤ d.revision = undone_falls d d.old in
+    let later : (undone_times k (undone d)).revision ≤ (undone d).revision = undone_times_falls k (undone d) in
+    omega arith
+
+after_undos : (n k : ℕ) (d e : Database) → n ≤ (undone_times k d).revision → AreCommands n (undone_times k d) e → AreCommands n d e
+after_undos n zero d e o h = h
+after_undos n (suc k) d e o h =
+    let rest : AreCommands n (undone d) e = after_undos n k (undone d) e o h in
+    let later : (undone_times k (undone d)).revision ≤ (undone d).revision = undone_times_falls k (undone d) in
+    let left : n ≤ (undone d).revision = omega arith in
+    let is : after_command Change.Undo d ≡ undone d = undo_leaves d d.old in
+    record {
+      commands = Change.Undo ∷ rest.commands;
+      opens = (tt, subst (λ (x : Database). n ≤ x.revision) (sym is) left, subst (model.StaysOpen n rest.commands) (sym is) rest.opens);
+      leads = ap (run rest.commands) is ∙ rest.leads;
+    }
+
 module _ (n : ℕ) where
-  are_commands : (ls : List GivenLine) (s t : HeldDatabase) (p : Leads ls s t) → StaysOpen n ls s t p → AreCommands n s.database t.database
+  after_act : (act : Act) (s mid : HeldDatabase) (e : Database) → Acts s act mid → IsOpen n mid.database → AreCommands n mid.database e
+      → AreCommands n s.database e
+  after_act (asks conn line reply) s mid e p o h = after_move n s.database mid.database e (by_line s conn line reply mid p) o h
+  after_act (leaves conn) s mid e p o h =
+      let gone = ap (λ (u : HeldDatabase). u.database) p in
+      after_undos n (held_by conn s.holder) s.database e (subst (IsOpen n) gone o).1 (subst (λ d. AreCommands n d e) gone h)
+
+  are_commands : (acts : List Act) (s t : HeldDatabase) (p : AllActs s acts t) → StaysOpen n acts s t p → AreCommands n s.database t.database
   are_commands [] s t p o = record { commands = []; opens = tt; leads = sym (ap (λ (u : HeldDatabase). u.database) p) }
-  are_commands (l ∷ ls) s t p o =
-      after_move n s.database p.0.database t.database (by_line s l.conn l.line l.reply p.0 p.1) o.0 (are_commands ls p.0 t p.2 o.1)
+  are_commands (act ∷ acts) s t p o = after_act act s p.0 t.database p.1 o.0 (are_commands acts p.0 t p.2 o.1)
 
   -- so it is open at the end
-  open_then : (ls : List GivenLine) (s t : HeldDatabase) (p : Leads ls s t) → IsOpen n s.database → StaysOpen n ls s t p → IsOpen n t.database
+  open_then : (acts : List Act) (s t : HeldDatabase) (p : AllActs s acts t) → IsOpen n s.database → StaysOpen n acts s t p → IsOpen n t.database
   open_then [] s t p here o = subst (λ (u : HeldDatabase). IsOpen n u.database) (sym p) here
-  open_then (l ∷ ls) s t p here o = open_then ls p.0 t p.2 o.0 o.1
+  open_then (act ∷ acts) s t p here o = open_then acts p.0 t p.2 o.0 o.1
 
 -- ---- no command changes the catalog
 
@@ -142,9 +187,6 @@ run_catalog (c ∷ cs) d = run_catalog cs (after_command c d) ∙ after_catalog 
 
 -- ---- lines of undo
 
-not_zero : (n : ℕ) → 1 ≤ n → (n == 0) ≡ false
-not_zero n some = ne_eqb n 0 (λ e. omega arith)
-
 undone_depth : (d : Database) (old : List (List Table)) → 1 ≤ length old → depth (undone_to d old) + 1 ≡ length old
 undone_depth d [] some = absurd (omega arith)
 undone_depth d (tables ∷ old) some = omega arith
@@ -153,11 +195,9 @@ undone_revision : (d : Database) (old : List (List Table)) → 1 ≤ length old 
 undone_revision d [] some = absurd (omega arith)
 undone_revision d (tables ∷ old) some = refl
 
--- what an undo says and leaves, by whether no session is open
-abbrev undo_by : HeldDatabase → Bool → Said × HeldDatabase
-undo_by s none =
-    let step : Result ℕ NoSession × Database = cond none (Err (record {}), s.database) (Ok (s.database.revision - 1), undone s.database) in
-    revised (or_session step.0) step.1 one_less s
+-- what an undo says and leaves
+abbrev undo_says : HeldDatabase → Result ℕ NoSession × Database → Said × HeldDatabase
+undo_says s step = revised (or_session step.0) step.1 one_less s
 
 free_less : (o : Option Holder) (conn : ℕ) → is_busy o conn ≡ false → is_busy (one_less o) conn ≡ false
 free_less None conn free = refl
@@ -174,10 +214,10 @@ module _ (conn : ℕ) where
   undo_answer s free some =
       ap (λ r. command_answer s conn (command_of s conn r)) (short_means request.Undo _ refl)
       ∙ ap (λ b. command_answer s conn (cond b (Err Busy) (Ok command.Undo))) free
-      ∙ ap (undo_by s) (not_zero (depth s.database) some)
+      ∙ ap (λ b. undo_says s (undo_by s.database s.database.old b)) (not_zero (depth s.database) some)
 
   undo_given : (c : CatalogShape) (s t : HeldDatabase) (reply : List ℕ) → is_busy s.holder conn ≡ false → 1 ≤ depth s.database
-      → IsGivenFrom s (line_of conn (codes "{\"cmd\":\"undo\"}") reply) t
+      → MayGive conn s (text (codes "{\"cmd\":\"undo\"}")) reply t
       → (reply ≡ reply_text c (say.revised (s.database.revision - 1))) × (t ≡ less_one s)
   undo_given c s t reply free some (inl p) =
       let is = undo_answer s free some in (p.0 ∙ ap (λ a. reply_text s.database.catalog a.0) is, p.1 ∙ ap (λ a. a.1) is)
@@ -185,7 +225,7 @@ module _ (conn : ℕ) where
 
   -- undos of no more sessions than are open
   undos_given : (c : CatalogShape) (replies : List (List ℕ)) (t v : HeldDatabase) → length replies ≤ depth t.database → is_busy t.holder conn ≡ false
-      → Leads (undo_lines conn replies) t v
+      → AllActs t (undo_lines conn replies) v
       → (replies ≡ undo_replies c (length replies) t.database.revision) × (v.database ≡ undone_times (length replies) t.database)
   undos_given c [] t v most free p = (refl, ap (λ (u : HeldDatabase). u.database) p)
   undos_given c (reply ∷ replies) t v most free p =
@@ -193,7 +233,7 @@ module _ (conn : ℕ) where
       let first = undo_given c t p.0 reply free some p.1 in
       let fewer : depth (undone t.database) + 1 ≡ depth t.database = undone_depth t.database t.database.old some in
       let rest = undos_given c replies (less_one t) v (omega arith) (free_less t.holder conn free)
-      (subst (λ mid. Leads (undo_lines conn replies) mid v) first.1 p.2) in
+      (subst (λ mid. AllActs mid (undo_lines conn replies) v) first.1 p.2) in
       let later = rest.0 ∙ ap (undo_replies c (length replies)) (undone_revision t.database t.database.old some) in
       (λ i. first.0 i ∷ later i, rest.1)
 
@@ -202,7 +242,7 @@ module _ (conn : ℕ) where
 -- what commands have led to from a start, k undos take back
 module _ (s t v : HeldDatabase) (conn k : ℕ) (replies : List (List ℕ)) where
   taken_back : AreCommands (s.database.revision + 1) (started s.database) t.database → IsOpen (s.database.revision + 1) t.database
-      → t.database.revision ≡ s.database.revision + k → is_busy t.holder conn ≡ false → length replies ≡ k → Leads (undo_lines conn replies) t v
+      → t.database.revision ≡ s.database.revision + k → is_busy t.holder conn ≡ false → length replies ≡ k → AllActs t (undo_lines conn replies) v
       → TakenBack s t v k replies
   taken_back these here count free many undos =
       let older : t.database.revision - depth t.database + 1 ≤ s.database.revision + 1 = here.0 in
@@ -220,11 +260,11 @@ module _ (s t v : HeldDatabase) (conn k : ℕ) (replies : List (List ℕ)) where
       }
 
 pub undo_lines_take_back : UndoLinesTakeBack
-undo_lines_take_back s u t v start ls p conn k replies opens stays count free many undos =
+undo_lines_take_back s u t v start acts p conn k replies opens stays count free many undos =
     let n : ℕ = s.database.revision + 1 in
     let first : IsOpen n (started s.database) = (omega arith, omega arith) in
-    taken_back s t v conn k replies (subst (λ d. AreCommands n d t.database) opens.1 (are_commands n ls u t p stays))
-    (open_then n ls u t p (subst (IsOpen n) (sym opens.1) first) stays) count free many undos
+    taken_back s t v conn k replies (subst (λ d. AreCommands n d t.database) opens.1 (are_commands n acts u t p stays))
+    (open_then n acts u t p (subst (IsOpen n) (sym opens.1) first) stays) count free many undos
 
 pub undo_lines_are_given : UndoLinesAreGiven
 undo_lines_are_given t conn zero = (t, [], refl, refl)

@@ -15,10 +15,10 @@ pub fn calls_answer_as_lines()
     ensures { CallsAnswerAsLines }
 {}
 
-/// After a line that starts a session, and any lines of any connections that leave that session open, with k - 1 sessions above
-/// it, k lines `{"cmd":"undo"}` of a connection that isn't kept out give back the tables and the revision of the start, and each is
-/// accepted: none is refused as `memory`, `busy` or `session`. Such lines are always given replies. The line `{"cmd":"start"}`
-/// starts a session and says its number, or it is refused and changes nothing.
+/// After a line that starts a session, and any acts that leave that session open, lines of any connections and connections that go
+/// away, with k - 1 sessions above it, k lines `{"cmd":"undo"}` of a connection that isn't kept out give back the tables and the
+/// revision of the start, and each is accepted: none is refused as `memory`, `busy` or `session`. Such lines are always given
+/// replies. The line `{"cmd":"start"}` starts a session and says its number, or it is refused and changes nothing.
 pub fn undo_lines_take_back()
     ensures back { UndoLinesTakeBack }
     ensures given { UndoLinesAreGiven }

@@ -1,8 +1,9 @@
 -- To be read in this order.
-pub mod Acts
 pub mod Journal
 pub mod LeftOut
 pub mod Replayed
 pub mod ReplayLaws
 pub mod RunActs
 pub mod Examples
+-- What a run does, whole step by step.
+pub use Rattle.mi_commands.specs.Acts
