@@ -8,7 +8,8 @@ use Rattle.mi_replay.specs.Journal.{undo_line, Keeps, JournalOf}
 use Rattle.mi_replay.specs.Replayed.{replayer, replayed, unheld}
 use Rattle.mi_replay.specs.ReplayLaws.{FrontOf, FrontsReplay, TornFilesReplay, FilesGrowByLines}
 use Rattle.mi_replay.proofs.AnswerLemmas.{Twin, held_by_holder, held_by_other}
-use Rattle.mi_replay.proofs.ReplayLemmas.{Behind, twin_run, twin_opens, twin_undos, released_same, same_less, replayed_append, journals_join}
+use Rattle.mi_replay.proofs.ReplayLemmas.{Behind, twin_run, twin_opens, twin_undos, released_same, same_less, replayed_append}
+use Rattle.mi_replay.proofs.JoinLemmas.{journals_join}
 use Rattle.mi_hub.specs.Ended.{ended, after_newlines}
 use Rattle.mi_hub.specs.Lines.{marked, ended_line, lines_of, rest_of, lines_from, rest_from}
 use Rattle.mi_hub.proofs.LineLemmas.{from_rests, from_ended, lines_from-nothing, rest_from-nothing}

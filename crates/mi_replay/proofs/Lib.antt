@@ -1,6 +1,7 @@
 mod UndoLemmas
 mod AnswerLemmas
 mod LeftOutLemmas
+pub mod JoinLemmas
 mod ReplayLemmas
 mod FrontLemmas
 mod RunActLemmas

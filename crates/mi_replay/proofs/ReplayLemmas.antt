@@ -1,6 +1,6 @@
 -- A journal asked again keeps step with its run.
 use Rattle.std.proofs.Common.{◌≡◌, ℕ, zero, suc, ◌+◌, ◌-◌, ◌≤◌, List, [], ◌∷◌, ◌++◌, replicate, Bool, true, false}
-use Rattle.std.proofs.Common.{Option, refl, sym, ap, ◌∙◌, subst, arith, inl, inr, append_assoc}
+use Rattle.std.proofs.Common.{Option, refl, sym, ap, ◌∙◌, subst, arith, inl, inr}
 use Rattle.mi_model.specs.Database.{Database, depth, undone, undone_times}
 use Rattle.mi_commands.specs.Asked.{Asked}
 use Rattle.mi_commands.specs.Answer.{answer, MayGive}
@@ -9,7 +9,7 @@ use Rattle.mi_commands.specs.declared.holder.Holder.{Holder}
 use Rattle.mi_replay.specs.Acts.{Act, asks, leaves, Acts}
 use Rattle.mi_replay.specs.Journal.{undo_line, Keeps, JournalOf}
 use Rattle.mi_replay.specs.Replayed.{replayer, replayed, unheld, IsSame, IsSameLess}
-use Rattle.mi_replay.specs.ReplayLaws.{ReplaysAreRuns, RunsHaveJournals, JournalsReplay, ReplaysEndAsRuns, JournalsJoin}
+use Rattle.mi_replay.specs.ReplayLaws.{ReplaysAreRuns, RunsHaveJournals, JournalsReplay, ReplaysEndAsRuns}
 use Rattle.mi_replay.proofs.AnswerLemmas.{busy_quiet, held_by_holder, held_by_other, without_free, without_busy}
 use Rattle.mi_replay.proofs.AnswerLemmas.{Twin, twin_line, on, undo_left, depth_undone, less_count, less_free}
 
@@ -178,16 +178,3 @@ runs_have_journals old new (act ∷ acts) p =
     let first = keeps_some act old p.0 p.1 in
     let later = runs_have_journals p.0 new acts p.2 in
     (first.0 ++ later.0, (p.0, first.0, later.0, p.1, first.1, later.1, refl))
-
-pub journals_join : JournalsJoin
-journals_join old mid new [] later lines more p q =
-    subst (λ s. JournalOf s later (lines ++ more) new) p.1 (subst (λ ls. JournalOf mid later (ls ++ more) new) (sym p.0) q)
-journals_join old mid new (act ∷ acts) later lines more p q = (
-  p.0,
-  p.1,
-  p.2 ++ more,
-  p.3,
-  p.4,
-  journals_join p.0 mid new acts later p.2 more p.5 q,
-  ap (λ ls. ls ++ more) p.6 ∙ append_assoc p.1 p.2 more,
-)

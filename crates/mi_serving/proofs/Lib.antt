@@ -1,5 +1,2 @@
-mod StepLemmas
-mod RowLemmas
-mod ServedLemmas
-mod InputLemmas
+mod TurnLemmas
 mod OpeningLemmas

@@ -1,8 +1,3 @@
--- To be read in this order.
-pub mod Steps
-pub mod Lines
-pub mod Input
-pub mod Output
-pub mod Client
-pub mod Row
+-- To be read in this order, behind those of mi_clients.
+pub mod Turns
 pub mod Recovery

@@ -5,7 +5,7 @@ use Rattle.mi_hub.specs.Ended.{after_newlines}
 use Rattle.mi_hub.specs.Lines.{lines_of}
 use Rattle.mi_hub.specs.declared.connection.Connection.{Connection}
 use Rattle.mi_replay.specs.Replayed.{replayer, replayed}
-use Rattle.mi_serving.specs.Row.{fresh}
+use Rattle.mi_clients.specs.Row.{fresh}
 use Rattle.mi_serving.specs.declared.opening.Journaled.{Journaled}
 use Rattle.mi_serving.specs.declared.opening.Journaled.TheVariants.{Nothing, Journal}
 

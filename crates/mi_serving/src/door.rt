@@ -1,9 +1,9 @@
 //! What the system tells of sockets: which connections come, and which are ready. It reads and writes none of their bytes.
 ghost use Rattle.std.specs.Prelude.{◌≡◌, Err, OnErr};
-ghost use Rattle.mi_serving.specs.Row.{ids};
+ghost use Rattle.mi_clients.specs.Row.{ids};
 
-use crate::client::Client;
 use crate::failure::Failure;
+use mi_clients::Client;
 use mio::event::Event;
 use mio::net::{TcpListener, TcpStream};
 use mio::{Events, Interest, Poll, Token};

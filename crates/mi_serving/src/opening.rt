@@ -3,13 +3,13 @@ ghost use Rattle.std.specs.Prelude.{◌≡◌, ◌++◌, ◌∷◌, [], ℕ, tru
 ghost use Rattle.mi_log.specs.LineReader.{reader_of};
 ghost use Rattle.mi_replay.specs.Replayed.{replayer};
 ghost use Rattle.mi_ledger.specs.Ledger.{hub_of};
-ghost use Rattle.mi_serving.specs.Row.{fresh};
+ghost use Rattle.mi_clients.specs.Row.{fresh};
 ghost use Rattle.mi_serving.specs.Recovery.{HasHeader, IsBeginning, IsReplayed, IsRecovered, IsWith};
 
-use crate::asking::part;
 use crate::claim::{claimed, cut_off, keep_name};
 use crate::device::{JournalDevice, Keeping};
 use crate::failure::Failure;
+use mi_clients::part;
 use mi_hub::Hub;
 use mi_ledger::{HeldReplies, Ledger, REPLAYER, replay};
 use mi_log::{DeviceLog, Heading, LineReader, Log, judge_heading};

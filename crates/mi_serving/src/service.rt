@@ -1,13 +1,13 @@
 //! The loop of the service: it waits until something is ready, and takes a turn.
 ghost use Rattle.std.specs.Prelude.{◌≡◌, List, [], None, Err, OnOk, OnErr};
 ghost use Rattle.mi_ledger.specs.Ledger.{hub_of, log_of, IsSettled};
-ghost use Rattle.mi_serving.specs.Steps.{Step, Makes, Goes, GivesNone};
-ghost use Rattle.mi_serving.specs.Row.{ids, Attends, Joins, Serves};
+ghost use Rattle.mi_clients.specs.Steps.{Step, Makes, GivesNone};
+ghost use Rattle.mi_clients.specs.Row.{ids, Attends, Joins, Serves};
+ghost use Rattle.mi_serving.specs.Turns.{Goes};
 
-use crate::client::Client;
 use crate::door::Door;
 use crate::failure::Failure;
-use crate::row::{admit, is_any_busy, serve_all};
+use mi_clients::{Client, admit, is_any_busy, serve_all};
 use mi_ledger::{Ledger, LedgerFault, REPLAYER};
 use mi_log::Log;
 use mi_sessions::Sessions;

@@ -1,5 +1,5 @@
 -- The law is proved with the definitions.
-use Rattle.mi_replay.proofs.ReplayLemmas.{journals_join}
+use Rattle.mi_replay.proofs.JoinLemmas.{journals_join}
 use Rattle.mi_replay.proofs.laws.journals_join.Goals as goal
 
 pub returns : goal.returns

@@ -1,6 +1,6 @@
 -- A connection that is told keeps its number.
 use Rattle.std.proofs.Common.{◌∙◌}
-use Rattle.mi_serving.proofs.RowLemmas.{ids_set}
+use Rattle.mi_clients.proofs.RowLemmas.{ids_set}
 use Rattle.mi_serving.proofs.door.tell.Goals as goal
 
 pub loop-client-preserved : goal.loop-client-preserved

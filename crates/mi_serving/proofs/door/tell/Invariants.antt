@@ -1,5 +1,5 @@
 use Rattle.std.proofs.Common.{◌≡◌}
-use Rattle.mi_serving.specs.Row.{ids}
+use Rattle.mi_clients.specs.Row.{ids}
 use Rattle.mi_serving.proofs.door.tell.Given as goal
 
 -- no number changes

@@ -2,8 +2,8 @@
 use Rattle.std.proofs.Common.{◌++◌, []}
 use Rattle.std.proofs.KnownBytes.{Keeps-refl}
 use Rattle.mi_ledger.specs.Ledger.{hub_of}
-use Rattle.mi_serving.proofs.StepLemmas.{makes_none, makes_then}
-use Rattle.mi_serving.proofs.ServedLemmas.{nothing_given, none_join, joins_none, joins_then}
+use Rattle.mi_clients.proofs.StepLemmas.{makes_none, makes_then}
+use Rattle.mi_clients.proofs.ServedLemmas.{nothing_given, none_join, joins_none, joins_then}
 use Rattle.mi_serving.proofs.service.accept_all.Goals as goal
 
 pub places-init : goal.places-init

@@ -1,7 +1,7 @@
 use Rattle.std.proofs.Common.{List}
 use Rattle.mi_ledger.specs.Ledger.{hub_of, log_of, IsSettled}
-use Rattle.mi_serving.specs.Steps.{Step, Makes, GivesNone}
-use Rattle.mi_serving.specs.Row.{ids, Attends, Joins}
+use Rattle.mi_clients.specs.Steps.{Step, Makes, GivesNone}
+use Rattle.mi_clients.specs.Row.{ids, Attends, Joins}
 use Rattle.mi_serving.proofs.service.accept_all.Given as goal
 
 -- the row stays what the hub has attached, and those that were there stay as they are

@@ -1,8 +1,8 @@
 -- Where none has come nothing is done.
 use Rattle.std.proofs.Common.{[]}
 use Rattle.std.proofs.KnownBytes.{Keeps-refl}
-use Rattle.mi_serving.proofs.StepLemmas.{makes_none}
-use Rattle.mi_serving.proofs.ServedLemmas.{nothing_given, joins_none}
+use Rattle.mi_clients.proofs.StepLemmas.{makes_none}
+use Rattle.mi_clients.proofs.ServedLemmas.{nothing_given, joins_none}
 use Rattle.mi_serving.proofs.service.accept_one.Goals as goal
 
 pub returns-in-None-clause-comes : goal.returns-in-None-clause-comes

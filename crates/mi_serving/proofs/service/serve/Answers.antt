@@ -2,8 +2,8 @@
 use Rattle.std.proofs.Common.{sym, subst}
 use Rattle.std.proofs.KnownBytes.{Keeps-refl}
 use Rattle.mi_ledger.specs.Ledger.{hub_of}
-use Rattle.mi_serving.specs.Row.{ids, Attends}
-use Rattle.mi_serving.proofs.StepLemmas.{goes_none, goes_then}
+use Rattle.mi_clients.specs.Row.{ids, Attends}
+use Rattle.mi_serving.proofs.TurnLemmas.{goes_none, goes_then}
 use Rattle.mi_serving.proofs.service.serve.Goals as goal
 
 pub turns-init : goal.turns-init

@@ -1,6 +1,6 @@
 use Rattle.mi_ledger.specs.Ledger.{hub_of, log_of, IsSettled}
-use Rattle.mi_serving.specs.Steps.{Goes}
-use Rattle.mi_serving.specs.Row.{ids, Attends}
+use Rattle.mi_serving.specs.Turns.{Goes}
+use Rattle.mi_clients.specs.Row.{ids, Attends}
 use Rattle.mi_serving.proofs.service.serve.Given as goal
 
 -- the row stays what the hub has attached, and all that was done are steps

@@ -2,8 +2,8 @@
 use Rattle.std.proofs.Common.{◌++◌, None}
 use Rattle.std.proofs.lemmas.Result.{on_ok_weaker}
 use Rattle.mi_ledger.specs.Ledger.{hub_of}
-use Rattle.mi_serving.proofs.StepLemmas.{makes_then}
-use Rattle.mi_serving.proofs.ServedLemmas.{serves_joined}
+use Rattle.mi_clients.proofs.StepLemmas.{makes_then}
+use Rattle.mi_clients.proofs.ServedLemmas.{serves_joined}
 use Rattle.mi_serving.proofs.service.take_turn.Goals as goal
 
 pub returns-clause-serves : goal.returns-clause-serves

@@ -1,0 +1,4 @@
+pub mod StepLemmas
+pub mod RowLemmas
+pub mod ServedLemmas
+mod InputLemmas

@@ -1,0 +1,124 @@
+-- A row of connections, and what its hub has attached.
+use Rattle.std.proofs.Common.{◌≡◌, ◌⊎◌, inl, inr, ℕ, zero, suc, ◌<◌, List, [], ◌∷◌, ◌++◌, length, map, Bool, true, false, cond, nat_eq}
+use Rattle.std.proofs.Common.{Some, None, refl, sym, ap, ◌∙◌, subst, arith}
+use Rattle.std.specs.Prelude.{slice_set, slice_index_or}
+use Rattle.std.specs.List.{remove}
+use Rattle.mi_hub.specs.Connections.{rest_at, others}
+use Rattle.mi_hub.specs.Run.{HubState, attach, Done}
+use Rattle.mi_hub.specs.declared.connection.Connection.{Connection}
+use Rattle.mi_clients.specs.Row.{ids, fresh, IsNoneOf, AllDiffer, Attends}
+use Rattle.mi_clients.specs.declared.client.Client.{Client}
+
+test_of : (b : Bool) → (b ≡ true) ⊎ (b ≡ false)
+test_of true = inl refl
+test_of false = inr refl
+
+pub same_test : (x : ℕ) → nat_eq x x ≡ true
+same_test x = grind arith
+
+is_same : (x y : ℕ) → nat_eq x y ≡ true → x ≡ y
+is_same x y h = grind arith
+
+pub turned : (x y : ℕ) → nat_eq x y ≡ false → nat_eq y x ≡ false
+turned x y h = grind arith
+
+-- a client that keeps its number keeps the row's numbers
+pub ids_set : {S : Type 0} (row : List (Client S)) (i : ℕ) (x d : Client S) → x.conn ≡ (slice_index_or row i d).conn → ids (slice_set row i x) ≡ ids row
+ids_set [] i x d h = refl
+ids_set (y ∷ row) zero x d h = ap (λ k. k ∷ ids row) h
+ids_set (y ∷ row) (suc i) x d h = ap (λ ks. y.conn ∷ ks) (ids_set row i x d h)
+
+-- each of the numbers is attached, with no rest
+fresh_at : {S : Type 0} (row : List (Client S)) (i : ℕ) (d : Client S) → i < length row
+    → rest_at (slice_index_or row i d).conn (map fresh (ids row)) ≡ Some (Some [])
+fresh_at [] i d lt = absurd (omega arith)
+fresh_at (y ∷ row) zero d lt = ap (λ b. cond b (Some (Some [])) (rest_at y.conn (map fresh (ids row)))) (same_test y.conn)
+fresh_at (y ∷ row) (suc i) d lt =
+    let k = (slice_index_or row i d).conn in
+    elim (test_of (nat_eq y.conn k)) [
+      | inl is ↦ ap (λ b. cond b (Some (Some [])) (rest_at k (map fresh (ids row)))) is
+      | inr other ↦ ap (λ b. cond b (Some (Some [])) (rest_at k (map fresh (ids row)))) other ∙ fresh_at row i d (omega arith)
+    ]
+
+pub attends_at : {S : Type 0} (row : List (Client S)) (i : ℕ) (d : Client S) (attached : List Connection) → Attends (ids row) attached → i < length row
+    → rest_at (slice_index_or row i d).conn attached ≡ Some (Some [])
+attends_at row i d attached p lt = ap (rest_at (slice_index_or row i d).conn) p.there ∙ fresh_at row i d lt
+
+-- ---- one goes
+
+pub none_at : {S : Type 0} (k : ℕ) (row : List (Client S)) (i : ℕ) (d : Client S) → i < length row → IsNoneOf k (ids row)
+    → nat_eq (slice_index_or row i d).conn k ≡ false
+none_at k [] i d lt p = absurd (omega arith)
+none_at k (y ∷ row) zero d lt p = p.0
+none_at k (y ∷ row) (suc i) d lt p = none_at k row i d (omega arith) p.1
+
+none_less : {S : Type 0} (k : ℕ) (row : List (Client S)) (i : ℕ) → IsNoneOf k (ids row) → IsNoneOf k (ids (remove row i))
+none_less k [] zero p = tt
+none_less k [] (suc i) p = tt
+none_less k (y ∷ row) zero p = p.1
+none_less k (y ∷ row) (suc i) p = (p.0, none_less k row i p.1)
+
+differ_less : {S : Type 0} (row : List (Client S)) (i : ℕ) → AllDiffer (ids row) → AllDiffer (ids (remove row i))
+differ_less [] zero p = tt
+differ_less [] (suc i) p = tt
+differ_less (y ∷ row) zero p = p.1
+differ_less (y ∷ row) (suc i) p = (none_less y.conn row i p.0, differ_less row i p.1)
+
+others_less : {S : Type 0} (row : List (Client S)) (i : ℕ) (d : Client S) → i < length row → AllDiffer (ids row)
+    → others (slice_index_or row i d).conn (map fresh (ids row)) ≡ map fresh (ids (remove row i))
+others_less [] i d lt p = absurd (omega arith)
+others_less (y ∷ row) zero d lt p =
+    ap (λ b. cond b (map fresh (ids row)) (fresh y.conn ∷ others y.conn (map fresh (ids row)))) (same_test y.conn)
+others_less (y ∷ row) (suc i) d lt p =
+    let k = (slice_index_or row i d).conn in
+    let other : nat_eq y.conn k ≡ false = turned k y.conn (none_at y.conn row i d (omega arith) p.0) in
+    ap (λ b. cond b (map fresh (ids row)) (fresh y.conn ∷ others k (map fresh (ids row)))) other
+    ∙ ap (λ cs. fresh y.conn ∷ cs) (others_less row i d (omega arith) p.1)
+
+pub attends_less : {S : Type 0} (row : List (Client S)) (i : ℕ) (d : Client S) (old new : List Connection) → i < length row → Attends (ids row) old
+    → new ≡ others (slice_index_or row i d).conn old → Attends (ids (remove row i)) new
+attends_less row i d old new lt p is = record {
+  there = is ∙ ap (others (slice_index_or row i d).conn) p.there ∙ others_less row i d lt p.differ;
+  differ = differ_less row i p.differ;
+}
+
+-- ---- one comes
+
+not_there : (k : ℕ) (xs : List ℕ) → rest_at k (map fresh xs) ≡ None → IsNoneOf k xs
+not_there k [] h = tt
+not_there k (x ∷ xs) h = elim (test_of (nat_eq x k)) [
+  | inl is ↦ absurd (some_none (sym (ap (λ b. cond b (Some (Some [])) (rest_at k (map fresh xs))) is) ∙ h))
+  | inr other ↦ (other, not_there k xs (sym (ap (λ b. cond b (Some (Some [])) (rest_at k (map fresh xs))) other) ∙ h))
+]
+  where
+    some_none : {A : Type 0} {x : A} → Some x ≡ None → ⊥
+    some_none e = cc
+
+none_more : (k x : ℕ) (xs : List ℕ) → IsNoneOf k xs → nat_eq x k ≡ false → IsNoneOf k (xs ++ x ∷ [])
+none_more k x [] p h = (h, tt)
+none_more k x (y ∷ xs) p h = (p.0, none_more k x xs p.1 h)
+
+differ_more : (x : ℕ) (xs : List ℕ) → AllDiffer xs → IsNoneOf x xs → AllDiffer (xs ++ x ∷ [])
+differ_more x [] p q = (tt, tt)
+differ_more x (y ∷ xs) p q = (none_more y x xs p.0 (turned y x q.0), differ_more x xs p.1 q.1)
+
+map_more : (xs : List ℕ) (x : ℕ) → map fresh xs ++ fresh x ∷ [] ≡ map fresh (xs ++ x ∷ [])
+map_more [] x = refl
+map_more (y ∷ xs) x = ap (λ cs. fresh y ∷ cs) (map_more xs x)
+
+ids_more : {S : Type 0} (row : List (Client S)) (c : Client S) → ids (row ++ c ∷ []) ≡ ids row ++ c.conn ∷ []
+ids_more [] c = refl
+ids_more (y ∷ row) c = ap (λ ks. y.conn ∷ ks) (ids_more row c)
+
+pub attends_more : {S : Type 0} (row : List (Client S)) (c : Client S) (conn : ℕ) (old new : HubState) → Attends (ids row) old.attached
+    → c.conn ≡ conn → Done old (attach conn) [] new → Attends (ids (row ++ c ∷ [])) new.attached
+attends_more row c conn old new p is done =
+    let all : ids (row ++ c ∷ []) ≡ ids row ++ conn ∷ [] = ids_more row c ∙ ap (λ k. ids row ++ k ∷ []) is in
+    subst (λ ks. Attends ks new.attached) (sym all) (record {
+      there = ap (λ (s : HubState). s.attached) done.3 ∙ ap (λ cs. cs ++ fresh conn ∷ []) p.there ∙ map_more (ids row) conn;
+      differ = differ_more conn (ids row) p.differ (not_there conn (ids row) (sym (ap (rest_at conn) p.there) ∙ done.0));
+    })
+
+-- who is attached anew has a number of its own
+pub none_of_attended : (conn : ℕ) (row : List ℕ) (old new : HubState) → Attends row old.attached → Done old (attach conn) [] new → IsNoneOf conn row
+none_of_attended conn row old new p done = not_there conn row (sym (ap (rest_at conn) p.there) ∙ done.0)

@@ -1,0 +1,396 @@
+-- What connections are owed and sent, one step behind another, and over a row.
+use Rattle.std.proofs.Common.{◌≡◌, ◌⊎◌, inl, inr, ℕ, zero, suc, ◌<◌, List, [], ◌∷◌, ◌++◌, length, nat_eq, cond, Option, refl, sym, ap, ◌∙◌, subst}
+use Rattle.std.proofs.Common.{append-nil, append_assoc, arith}
+use Rattle.std.specs.Prelude.{slice_set, slice_index_or}
+use Rattle.std.specs.List.{remove, Contains}
+use Rattle.std.specs.Io.KnownBytes.{Appends, Keeps}
+use Rattle.std.proofs.KnownBytes.{Appends-nil, Appends-trans}
+use Rattle.mi_clients.specs.Client.{owed, Owes, IsServed, IsOver}
+use Rattle.mi_clients.specs.Output.{Sends}
+use Rattle.mi_clients.specs.Row.{ids, IsNoneOf, AllDiffer, EachServed, IsNew, Joins, LetsGo, Serves}
+use Rattle.mi_clients.specs.Steps.{Step, comes, asks, undoes, goes, reply_to, given_to, GivesOnly, GivesNone, AreAsks, AreUndos}
+use Rattle.mi_clients.specs.declared.client.Client.{Client}
+use Rattle.mi_clients.specs.declared.client.Phase.{Phase}
+use Rattle.mi_clients.specs.declared.client.Phase.TheVariants.{Broken}
+use Rattle.mi_clients.proofs.StepLemmas.{none_more}
+use Rattle.mi_clients.proofs.RowLemmas.{same_test, turned, none_at}
+
+-- ---- what is given in steps
+
+given_join : (k : ℕ) (xs ys : List Step) → given_to k (xs ++ ys) ≡ given_to k xs ++ given_to k ys
+given_join k [] ys = refl
+given_join k (x ∷ xs) ys =
+    ap (λ t. reply_to k x ++ t) (given_join k xs ys) ∙ sym (append_assoc (reply_to k x) (given_to k xs) (given_to k ys))
+
+given_front : (k : ℕ) (xs ys : List Step) → GivesNone ys → given_to k (xs ++ ys) ≡ given_to k xs
+given_front k xs ys none = given_join k xs ys ∙ ap (λ t. given_to k xs ++ t) (none k) ∙ append-nil (given_to k xs)
+
+given_behind : (k : ℕ) (xs ys : List Step) → GivesNone xs → given_to k (xs ++ ys) ≡ given_to k ys
+given_behind k xs ys none = given_join k xs ys ∙ ap (λ t. t ++ given_to k ys) (none k)
+
+pub none_join : (xs ys : List Step) → GivesNone xs → GivesNone ys → GivesNone (xs ++ ys)
+none_join xs ys p q = λ k. given_behind k xs ys p ∙ q k
+
+only_join : (conn : ℕ) (xs ys : List Step) → GivesOnly conn xs → GivesNone ys → GivesOnly conn (xs ++ ys)
+only_join conn xs ys p q = λ k other. given_front k xs ys q ∙ p k other
+
+-- to the one that asks, the replies to its lines
+asks_given : (conn : ℕ) (steps : List Step) (taken given : List ℕ) → AreAsks conn steps taken given → given_to conn steps ≡ given
+asks_given conn [] taken given p = sym p.1
+asks_given conn (comes k ∷ steps) taken given p = absurd p
+asks_given conn (asks k line reply ∷ steps) taken given p =
+    ap (λ n. cond (nat_eq n conn) reply [] ++ given_to conn steps) p.0
+    ∙ ap (λ b. cond b reply [] ++ given_to conn steps) (same_test conn)
+    ∙ ap (λ t. reply ++ t) (asks_given conn steps p.1 p.2 p.3) ∙ sym p.5
+asks_given conn (undoes k reply ∷ steps) taken given p = absurd p
+asks_given conn (goes k ∷ steps) taken given p = absurd p
+
+asks_only : (conn : ℕ) (steps : List Step) (taken given : List ℕ) → AreAsks conn steps taken given → GivesOnly conn steps
+asks_only conn [] taken given p = λ k other. refl
+asks_only conn (comes k ∷ steps) taken given p = absurd p
+asks_only conn (asks j line reply ∷ steps) taken given p = λ k other.
+    ap (λ n. cond (nat_eq n k) reply [] ++ given_to k steps) p.0
+    ∙ ap (λ b. cond b reply [] ++ given_to k steps) other
+    ∙ asks_only conn steps p.1 p.2 p.3 k other
+asks_only conn (undoes k reply ∷ steps) taken given p = absurd p
+asks_only conn (goes k ∷ steps) taken given p = absurd p
+
+-- who hears an undo's reply: nobody
+pub undos_none : (conn : ℕ) (steps : List Step) → AreUndos conn steps → GivesNone steps
+undos_none conn [] p = λ k. refl
+undos_none conn (comes k ∷ steps) p = absurd p
+undos_none conn (asks k line reply ∷ steps) p = absurd p
+undos_none conn (undoes j reply ∷ steps) p = λ k. undos_none conn steps p.1 k
+undos_none conn (goes k ∷ steps) p = absurd p
+
+-- nobody is given anything by one that comes or goes
+pub goes_none_given : (conn : ℕ) → GivesNone (goes conn ∷ [])
+goes_none_given conn = λ k. refl
+
+pub comes_none_given : (conn : ℕ) → GivesNone (comes conn ∷ [])
+comes_none_given conn = λ k. refl
+
+pub nothing_given : GivesNone []
+nothing_given = λ k. refl
+
+-- ---- one connection
+
+-- what two are given, the second behind the first; something is lost of the first only where the second is nothing
+joined : (a b c g h l m : List ℕ) → a ++ g ≡ b ++ l → b ++ h ≡ c ++ m → (h ≡ []) ⊎ (l ≡ []) → a ++ (g ++ h) ≡ c ++ (m ++ l)
+joined a b c g h l m p q (inl none) =
+    ap (λ t. a ++ (g ++ t)) none ∙ ap (λ t. a ++ t) (append-nil g) ∙ p
+    ∙ ap (λ t. t ++ l) (sym (append-nil b) ∙ ap (λ t. b ++ t) (sym none) ∙ q) ∙ append_assoc c m l
+joined a b c g h l m p q (inr none) =
+    sym (append_assoc a g h) ∙ ap (λ t. t ++ h) (p ∙ ap (λ t. b ++ t) none ∙ append-nil b) ∙ q
+    ∙ ap (λ t. c ++ t) (sym (ap (λ t. m ++ t) none ∙ append-nil m))
+
+-- the same where a front of each is sent
+joined_sent : (a b c g h l m s t : List ℕ) → a ++ g ≡ s ++ (b ++ l) → b ++ h ≡ t ++ (c ++ m) → (h ≡ []) ⊎ (l ≡ [])
+    → a ++ (g ++ h) ≡ (s ++ t) ++ (c ++ (m ++ l))
+joined_sent a b c g h l m s t p q none =
+    let first : a ++ g ≡ (s ++ b) ++ l = p ∙ sym (append_assoc s b l) in
+    let second : (s ++ b) ++ h ≡ ((s ++ t) ++ c) ++ m =
+    append_assoc s b h ∙ ap (λ x. s ++ x) q ∙ sym (append_assoc s t (c ++ m)) ∙ sym (append_assoc (s ++ t) c m) in
+    joined a (s ++ b) ((s ++ t) ++ c) g h l m first second none ∙ append_assoc (s ++ t) c (m ++ l)
+
+either_none : {b c : Phase} {h l : List ℕ} → (b ≡ Broken) ⊎ (l ≡ []) → (b ≡ Broken → (c ≡ Broken) × (h ≡ [])) → (h ≡ []) ⊎ (l ≡ [])
+either_none (inl is) more = inl (more is).1
+either_none (inr none) more = inr none
+
+whole_then : {b c : Phase} {h : List ℕ} (l m : List ℕ) → (b ≡ Broken) ⊎ (l ≡ []) → (c ≡ Broken) ⊎ (m ≡ [])
+    → (b ≡ Broken → (c ≡ Broken) × (h ≡ [])) → (c ≡ Broken) ⊎ (m ++ l ≡ [])
+whole_then l m (inl is) q more = inl (more is).0
+whole_then l m (inr none) (inl is) more = inl is
+whole_then l m (inr none) (inr all) more = inr (ap (λ t. t ++ l) all ∙ none)
+
+module _ {S : Type 0} where
+  pub owes_none : (c : Client S) → Owes [] c c
+  owes_none c = record {
+    conn = refl;
+    stream = refl;
+    lost = [];
+    bytes = refl;
+    whole = inr refl;
+    broken = λ is. (is, refl);
+  }
+
+  owes_then : (g h : List ℕ) (a b c : Client S) → Owes g a b → Owes h b c → Owes (g ++ h) a c
+  owes_then g h a b c p q = record {
+    conn = q.conn ∙ p.conn;
+    stream = q.stream ∙ p.stream;
+    lost = q.lost ++ p.lost;
+    bytes = joined (owed a) (owed b) (owed c) g h p.lost q.lost p.bytes q.bytes (either_none p.whole q.broken);
+    whole = whole_then p.lost q.lost p.whole q.whole q.broken;
+    broken = λ is. let mid = p.broken is in let last = q.broken mid.0 in (last.0, ap (λ t. t ++ h) mid.1 ∙ last.1);
+  }
+
+  -- behind a reply that is owed nothing more is given
+  pub owes_more : (g h : List ℕ) (a b c d : Client S) → Owes g a b → Owes h b c → Owes [] c d → Owes (g ++ h) a d
+  owes_more g h a b c d p q r =
+      subst (λ t. Owes t a d) (append-nil (g ++ h)) (owes_then (g ++ h) [] a c d (owes_then g h a b c p q) r)
+
+  -- a reply is owed to one that isn't broken
+  pub owes_reply : (out : List ℕ) (a b : Client S) → b.conn ≡ a.conn → b.stream ≡ a.stream → owed b ≡ owed a ++ out → ¬ (a.phase ≡ Broken) → Owes out a b
+  owes_reply out a b conn stream is sound = record {
+    conn = conn;
+    stream = stream;
+    lost = [];
+    bytes = sym is ∙ sym (append-nil (owed b));
+    whole = inr refl;
+    broken = λ broken. absurd (sound broken);
+  }
+
+  module _ (contents : S → Option (List ℕ)) where
+    served_same : (c : Client S) (g : List ℕ) → g ≡ [] → IsServed contents g c c
+    served_same c g none = record {
+      conn = refl;
+      sent = [];
+      lost = [];
+      taken = Appends-nil (contents c.stream);
+      bytes = ap (λ t. owed c ++ t) none;
+      whole = inr refl;
+      broken = λ is. (is, none);
+    }
+
+    pub served_then : (g h : List ℕ) (a b c : Client S) → IsServed contents g a b → IsServed contents h b c → IsServed contents (g ++ h) a c
+    served_then g h a b c p q = record {
+      conn = q.conn ∙ p.conn;
+      sent = p.sent ++ q.sent;
+      lost = q.lost ++ p.lost;
+      taken = Appends-trans _ _ _ p.sent q.sent p.taken q.taken;
+      bytes = joined_sent (owed a) (owed b) (owed c) g h p.lost q.lost p.sent q.sent p.bytes q.bytes (either_none p.whole q.broken);
+      whole = whole_then p.lost q.lost p.whole q.whole q.broken;
+      broken = λ is. let mid = p.broken is in let last = q.broken mid.0 in (last.0, ap (λ t. t ++ h) mid.1 ∙ last.1);
+    }
+
+    served_by : (g h : List ℕ) (a b : Client S) → g ≡ h → IsServed contents g a b → IsServed contents h a b
+    served_by g h a b is p = subst (λ t. IsServed contents t a b) is p
+
+    pub served_owes : (g : List ℕ) (a b : Client S) → Owes g a b → IsServed contents g a b
+    served_owes g a b p = record {
+      conn = p.conn;
+      sent = [];
+      lost = p.lost;
+      taken = subst (λ s. Appends (contents a.stream) (contents s) []) (sym p.stream) (Appends-nil (contents a.stream));
+      bytes = p.bytes;
+      whole = p.whole;
+      broken = p.broken;
+    }
+
+    -- what is owed goes to its own stream
+    pub served_sends : (a b : Client S) → b.conn ≡ a.conn → Sends contents a.stream b.stream (owed a) (owed b) → (a.phase ≡ Broken → b.phase ≡ Broken)
+        → IsServed contents [] a b
+    served_sends a b conn p broken = record {
+      conn = conn;
+      sent = p.0;
+      lost = [];
+      taken = p.1;
+      bytes = append-nil (owed a) ∙ p.2 ∙ ap (λ t. p.0 ++ t) (sym (append-nil (owed b)));
+      whole = inr refl;
+      broken = λ is. (broken is, refl);
+    }
+
+    -- a read sends and owes nothing
+    pub served_read : (a b : Client S) → b.conn ≡ a.conn → Keeps (contents a.stream) (contents b.stream) → owed b ≡ owed a
+        → (a.phase ≡ Broken → b.phase ≡ Broken) → IsServed contents [] a b
+    served_read a b conn kept same broken = served_sends a b conn ([], none_more _ _ kept, sym same) broken
+
+    -- a connection whose stream is read, whose lines are asked, and whose sessions may be undone then
+    pub served_whole : (a b c d : Client S) (xs ys : List Step) (taken given : List ℕ) → IsServed contents [] a b → AreAsks a.conn xs taken given
+        → Owes given b c → AreUndos a.conn ys → Owes [] c d
+        → GivesOnly a.conn (xs ++ ys) × IsServed contents (given_to a.conn (xs ++ ys)) a d
+    served_whole a b c d xs ys taken given first own second undone third =
+        let none = undos_none a.conn ys undone in
+        let all : given ++ [] ≡ given_to a.conn (xs ++ ys) =
+        append-nil given ∙ sym (asks_given a.conn xs taken given own) ∙ sym (given_front a.conn xs ys none) in (
+          only_join a.conn xs ys (asks_only a.conn xs taken given own) none,
+          served_by (given ++ []) (given_to a.conn (xs ++ ys)) a d all
+              (served_then given [] a c d (served_then [] given a b c first (served_owes given b c second)) (served_owes [] c d third)),
+        )
+
+-- ---- a row
+
+none_front : (k : ℕ) (xs ys : List ℕ) → IsNoneOf k (xs ++ ys) → IsNoneOf k xs
+none_front k [] ys p = tt
+none_front k (x ∷ xs) ys p = (p.0, none_front k xs ys p.1)
+
+-- c stands in the row
+abbrev IsIn : {S : Type 0} → Client S → List (Client S) → Type 0
+IsIn c [] = ⊥
+IsIn c (x ∷ row) = (x ≡ c) ⊎ IsIn c row
+
+module _ {S : Type 0} where
+  in_at : (row : List (Client S)) (c : Client S) (k : ℕ) → k < length row → slice_index_or row k c ≡ c → IsIn c row
+  in_at [] c k lt is = absurd (omega arith)
+  in_at (x ∷ row) c zero lt is = inl is
+  in_at (x ∷ row) c (suc k) lt is = inr (in_at row c k (omega arith) is)
+
+  in_from : (row : List (Client S)) (c : Client S) → Contains row c → IsIn c row
+  in_from row c p = in_at row c p.0 p.1 p.2
+
+  in_to : (row : List (Client S)) (c : Client S) → IsIn c row → Contains row c
+  in_to [] c p = absurd p
+  in_to (x ∷ row) c (inl is) = (zero, omega arith, is)
+  in_to (x ∷ row) c (inr p) = let q = in_to row c p in (suc q.0, omega (arith, q.1), q.2)
+
+  in_join : (a b : List (Client S)) (c : Client S) → IsIn c (a ++ b) → IsIn c a ⊎ IsIn c b
+  in_join [] b c p = inr p
+  in_join (x ∷ a) b c (inl is) = inl (inl is)
+  in_join (x ∷ a) b c (inr p) = elim (in_join a b c p) [ inl q ↦ inl (inr q) | inr q ↦ inr q ]
+
+  in_front : (a b : List (Client S)) (c : Client S) → IsIn c a → IsIn c (a ++ b)
+  in_front [] b c p = absurd p
+  in_front (x ∷ a) b c (inl is) = inl is
+  in_front (x ∷ a) b c (inr p) = inr (in_front a b c p)
+
+  in_less : (row : List (Client S)) (i : ℕ) (c : Client S) → IsIn c (remove row i) → IsIn c row
+  in_less [] zero c p = absurd p
+  in_less [] (suc i) c p = absurd p
+  in_less (y ∷ row) zero c p = inr p
+  in_less (y ∷ row) (suc i) c (inl is) = inl is
+  in_less (y ∷ row) (suc i) c (inr p) = inr (in_less row i c p)
+
+  in_more : (row : List (Client S)) (i : ℕ) (d c : Client S) → i < length row → IsIn c row → IsIn c (remove row i) ⊎ (slice_index_or row i d ≡ c)
+  in_more [] i d c lt p = absurd p
+  in_more (y ∷ row) zero d c lt (inl is) = inr is
+  in_more (y ∷ row) zero d c lt (inr p) = inl p
+  in_more (y ∷ row) (suc i) d c lt (inl is) = inl (inl is)
+  in_more (y ∷ row) (suc i) d c lt (inr p) = elim (in_more row i d c (omega arith) p) [ inl q ↦ inl (inr q) | inr is ↦ inr is ]
+
+  -- ---- those that stay in the row
+
+  module _ (contents : S → Option (List ℕ)) where
+    pub each_none : (steps : List Step) (row : List (Client S)) → GivesNone steps → EachServed contents steps row row
+    each_none steps [] none = tt
+    each_none steps (y ∷ row) none = (served_same contents y (given_to y.conn steps) (none y.conn), each_none steps row none)
+
+    each_other : (steps : List Step) (conn : ℕ) (row : List (Client S)) → GivesOnly conn steps → IsNoneOf conn (ids row)
+        → EachServed contents steps row row
+    each_other steps conn [] only p = tt
+    each_other steps conn (y ∷ row) only p = (
+      served_same contents y (given_to y.conn steps) (only y.conn (turned y.conn conn p.0)),
+      each_other steps conn row only p.1,
+    )
+
+    -- one is served, and the others are given nothing
+    pub each_set : (steps : List Step) (row : List (Client S)) (i : ℕ) (d x : Client S) → AllDiffer (ids row) → i < length row
+        → GivesOnly (slice_index_or row i d).conn steps
+        → IsServed contents (given_to (slice_index_or row i d).conn steps) (slice_index_or row i d) x → EachServed contents steps row (slice_set row i x)
+    each_set steps [] i d x differ lt only p = absurd (omega arith)
+    each_set steps (y ∷ row) zero d x differ lt only p = (p, each_other steps y.conn row only differ.0)
+    each_set steps (y ∷ row) (suc i) d x differ lt only p = (
+      served_same contents y (given_to y.conn steps) (only y.conn (none_at y.conn row i d (omega arith) differ.0)),
+      each_set steps row i d x differ.1 (omega arith) only p,
+    )
+
+    pub each_then : (xs ys : List Step) (a b c : List (Client S)) → EachServed contents xs a b → EachServed contents ys b c
+        → EachServed contents (xs ++ ys) a c
+    each_then xs ys [] [] [] p q = tt
+    each_then xs ys [] [] (z ∷ c) p q = absurd q
+    each_then xs ys [] (y ∷ b) c p q = absurd p
+    each_then xs ys (x ∷ a) [] c p q = absurd p
+    each_then xs ys (x ∷ a) (y ∷ b) [] p q = absurd q
+    each_then xs ys (x ∷ a) (y ∷ b) (z ∷ c) p q = (
+      served_by contents (given_to x.conn xs ++ given_to y.conn ys) (given_to x.conn (xs ++ ys)) x z
+          (ap (λ k. given_to x.conn xs ++ given_to k ys) p.0.conn ∙ sym (given_join x.conn xs ys))
+          (served_then contents (given_to x.conn xs) (given_to y.conn ys) x y z p.0 q.0),
+      each_then xs ys a b c p.1 q.1,
+    )
+
+    each_from : (steps : List Step) (a b : List (Client S)) (new : Client S) → EachServed contents steps a b → IsIn new b
+        → (old : Client S) × IsIn old a × IsServed contents (given_to old.conn steps) old new
+    each_from steps [] [] new p h = absurd h
+    each_from steps [] (y ∷ b) new p h = absurd p
+    each_from steps (x ∷ a) [] new p h = absurd p
+    each_from steps (x ∷ a) (y ∷ b) new p (inl is) = (x, inl refl, subst (IsServed contents (given_to x.conn steps) x) is p.0)
+    each_from steps (x ∷ a) (y ∷ b) new p (inr h) = let r = each_from steps a b new p.1 h in (r.0, inr r.1, r.2)
+
+    each_to : (steps : List Step) (a b : List (Client S)) (old : Client S) → EachServed contents steps a b → IsIn old a
+        → (new : Client S) × IsIn new b × IsServed contents (given_to old.conn steps) old new
+    each_to steps [] [] old p h = absurd h
+    each_to steps [] (y ∷ b) old p h = absurd p
+    each_to steps (x ∷ a) [] old p h = absurd p
+    each_to steps (x ∷ a) (y ∷ b) old p (inl is) = (y, inl refl, subst (λ c. IsServed contents (given_to c.conn steps) c y) is p.0)
+    each_to steps (x ∷ a) (y ∷ b) old p (inr h) = let r = each_to steps a b old p.1 h in (r.0, inr r.1, r.2)
+
+  -- ---- those that go
+
+  pub lets_none : (row : List (Client S)) → LetsGo row row
+  lets_none row = record { from = λ c h. h; to = λ c h. inl h }
+
+  pub lets_one : (olds row : List (Client S)) (i : ℕ) (d : Client S) → LetsGo olds row → i < length row → IsOver (slice_index_or row i d)
+      → LetsGo olds (remove row i)
+  lets_one olds row i d p lt over = record {
+    from = λ c h. p.from c (in_to row c (in_less row i c (in_from (remove row i) c h)));
+    to = λ c h. elim (p.to c h) [
+      | inl here ↦ elim (in_more row i d c lt (in_from row c here)) [
+        | inl stays ↦ inl (in_to (remove row i) c stays)
+        | inr is ↦ inr (subst (λ (x : Client S). IsOver x) is over)
+      ]
+      | inr gone ↦ inr gone
+    ];
+  }
+
+  -- ---- those that come
+
+  ids_join : (a b : List (Client S)) → ids (a ++ b) ≡ ids a ++ ids b
+  ids_join [] b = refl
+  ids_join (x ∷ a) b = ap (λ ks. x.conn ∷ ks) (ids_join a b)
+
+  new_before : (c : Client S) (a b comers : List (Client S)) → b ≡ a ++ comers → IsNew c b → IsNew c a
+  new_before c a b comers is p = (p.0, none_front c.conn (ids a) (ids comers) (subst (IsNoneOf c.conn) (ap ids is ∙ ids_join a comers) p.1))
+
+  nobody : (c : Client S) → Contains [] c → ⊥
+  nobody c h = in_from [] c h
+
+  pub joins_none : (row : List (Client S)) → Joins row row
+  joins_none row = ([], sym (append-nil row), λ c h. absurd (nobody c h))
+
+  pub joins_one : (row : List (Client S)) (comer : Client S) → IsNew comer row → Joins row (row ++ comer ∷ [])
+  joins_one row comer new = (
+    comer ∷ [],
+    refl,
+    λ c h. elim (in_from (comer ∷ []) c h) [
+      | inl is ↦ subst (λ (x : Client S). IsNew x row) is new
+      | inr none ↦ absurd none
+    ],
+  )
+
+  pub joins_then : (a b c : List (Client S)) → Joins a b → Joins b c → Joins a c
+  joins_then a b c p q = (
+    p.0 ++ q.0,
+    q.1 ∙ ap (λ t. t ++ q.0) p.1 ∙ append_assoc a p.0 q.0,
+    λ x h. elim (in_join p.0 q.0 x (in_from (p.0 ++ q.0) x h)) [
+      | inl first ↦ p.2 x (in_to p.0 x first)
+      | inr second ↦ new_before x a b p.0 p.1 (q.2 x (in_to q.0 x second))
+    ],
+  )
+
+  -- ---- all of them
+
+  module _ (contents : S → Option (List ℕ)) where
+    pub serves_each : (steps : List Step) (a b c : List (Client S)) → EachServed contents steps a b → LetsGo b c → Serves contents steps a c
+    serves_each steps a b c each left = record {
+      from = λ new h. let r = each_from contents steps a b new each (in_from b new (left.from new h)) in (r.0, inl (in_to a r.0 r.1), r.2);
+      to = λ old h. let r = each_to contents steps a b old each (in_from a old h) in (r.0, left.to r.0 (in_to b r.0 r.1), r.2);
+    }
+
+    pub serves_joined : (xs ys : List Step) (a b c : List (Client S)) → GivesNone xs → Joins a b → Serves contents ys b c → Serves contents (xs ++ ys) a c
+    serves_joined xs ys a b c none joins p = record {
+      from = λ new h. let r = p.from new h in (
+        r.0,
+        elim r.1 [
+          | inl here ↦ elim (in_join a joins.0 r.0 (subst (IsIn r.0) joins.1 (in_from b r.0 here))) [
+            | inl old ↦ inl (in_to a r.0 old)
+            | inr comer ↦ inr (joins.2 r.0 (in_to joins.0 r.0 comer))
+          ]
+          | inr came ↦ inr (new_before r.0 a b joins.0 joins.1 came)
+        ],
+        served_by contents (given_to r.0.conn ys) (given_to r.0.conn (xs ++ ys)) r.0 new (sym (given_behind r.0.conn xs ys none)) r.2,
+      );
+      to = λ old h. let r = p.to old (in_to b old (subst (IsIn old) (sym joins.1) (in_front a joins.0 old (in_from a old h)))) in (
+        r.0,
+        r.1,
+        served_by contents (given_to old.conn ys) (given_to old.conn (xs ++ ys)) old r.0 (sym (given_behind old.conn xs ys none)) r.2,
+      );
+    }

@@ -1,0 +1,174 @@
+-- Steps one behind another, and the steps that calls of a ledger are.
+use Rattle.std.proofs.Common.{◌≡◌, ℕ, List, [], ◌∷◌, ◌++◌, codes, Option, Some, refl, sym, ap, ◌∙◌, subst, append-nil, append_assoc}
+use Rattle.std.specs.Io.KnownBytes.{Appends, Keeps}
+use Rattle.std.proofs.KnownBytes.{Appends-nil, Appends-kept, Appends-trans}
+use Rattle.mi_commands.specs.Holder.{HeldDatabase}
+use Rattle.mi_hub.specs.Ended.{ended}
+use Rattle.mi_hub.specs.Lines.{lines_of, rest_of, lines_from, rest_from}
+use Rattle.mi_hub.specs.Connections.{rest_at}
+use Rattle.mi_hub.specs.Run.{HubState, attach, piece, cut, Done}
+use Rattle.mi_hub.proofs.LineLemmas.{ended_nil, lines_from-nothing, rest_from-nothing, from_rests, from_unended}
+use Rattle.mi_replay.specs.Acts.{Act, leaves}
+use Rattle.mi_replay.specs.Journal.{JournalOf}
+use Rattle.mi_replay.specs.RunActs.{ActsOfDone}
+use Rattle.mi_replay.proofs.JoinLemmas.{journals_join}
+use Rattle.mi_ledger.specs.Journals.{Journals, Asks, IsWholeLine}
+use Rattle.mi_ledger.proofs.JournalLemmas.{asked_attached}
+use Rattle.mi_clients.specs.Steps.{Step, comes, asks, undoes, goes, undo_bytes, event_of, written_in, DoneBy, Makes, AreAsks, AreUndos}
+
+-- ---- nothing
+
+no_lines : lines_of [] ≡ []
+no_lines = sym (lines_from-nothing []) ∙ (from_unended (Some []) [] ended_nil).0
+
+no_rest : rest_of [] ≡ Some []
+no_rest = sym (rest_from-nothing []) ∙ (from_unended (Some []) [] ended_nil).1
+
+pub none_more : (a b : Option (List ℕ)) → Keeps a b → Appends a b []
+none_more a b kept = Appends-kept a a b [] (Appends-nil a) kept
+
+-- a journal of no acts
+journal_none : (s : HeldDatabase) (a b : Option (List ℕ)) → Keeps a b → Journals s s a b []
+journal_none s a b kept = record {
+  bytes = [];
+  whole = no_rest;
+  journal = (no_lines, refl);
+  appended = none_more a b kept;
+}
+
+pub makes_none : (s : HubState) (a b : Option (List ℕ)) → Keeps a b → Makes [] s s a b
+makes_none s a b kept = record { acts = []; done = (refl, refl); journal = journal_none s.held a b kept }
+
+-- ---- one behind another
+
+done_then : (xs ys : List Step) (does more : List Act) (old mid new : HubState) → DoneBy old xs does mid → DoneBy mid ys more new
+    → DoneBy old (xs ++ ys) (does ++ more) new
+done_then [] ys does more old mid new p q =
+    subst (λ zs. DoneBy old ys (zs ++ more) new) (sym p.0) (subst (λ s. DoneBy s ys more new) p.1 q)
+done_then (x ∷ xs) ys does more old mid new p q = (
+  p.0,
+  p.1,
+  p.2 ++ more,
+  p.3,
+  p.4,
+  done_then xs ys p.2 more p.0 mid new p.5 q,
+  ap (λ zs. zs ++ more) p.6 ∙ append_assoc p.1 p.2 more,
+)
+
+journals_then : (old mid new : HeldDatabase) (a b c : Option (List ℕ)) (does more : List Act) → Journals old mid a b does → Journals mid new b c more
+    → Journals old new a c (does ++ more)
+journals_then old mid new a b c does more p q =
+    let all = from_rests p.bytes q.bytes in
+    let lines : lines_of (p.bytes ++ q.bytes) ≡ lines_of p.bytes ++ lines_of q.bytes =
+    all.0 ∙ ap (λ r. lines_of p.bytes ++ lines_from r q.bytes) p.whole ∙ ap (λ ls. lines_of p.bytes ++ ls) (lines_from-nothing q.bytes) in record {
+      bytes = p.bytes ++ q.bytes;
+      whole = all.1 ∙ ap (λ r. rest_from r q.bytes) p.whole ∙ rest_from-nothing q.bytes ∙ q.whole;
+      journal = subst (λ ls. JournalOf old (does ++ more) ls new) (sym lines)
+          (journals_join old mid new does more (lines_of p.bytes) (lines_of q.bytes) p.journal q.journal);
+      appended = Appends-trans a b c p.bytes q.bytes p.appended q.appended;
+    }
+
+pub makes_then : (xs ys : List Step) (old mid new : HubState) (a b c : Option (List ℕ)) → Makes xs old mid a b → Makes ys mid new b c
+    → Makes (xs ++ ys) old new a c
+makes_then xs ys old mid new a b c p q = record {
+  acts = p.acts ++ q.acts;
+  done = done_then xs ys p.acts q.acts old mid new p.done q.done;
+  journal = journals_then old.held mid.held new.held a b c p.acts q.acts p.journal q.journal;
+}
+
+-- ---- one step
+
+one_step : (step : Step) (old new : HubState) (acts : List Act) → Done old (event_of step) (written_in step) new
+    → ActsOfDone old (event_of step) (written_in step) acts → DoneBy old (step ∷ []) acts new
+one_step step old new acts done are = (new, acts, [], done, are, (refl, refl), sym (append-nil acts))
+
+pub undo_makes : (conn : ℕ) (line out : List ℕ) (old new : HubState) (a b : Option (List ℕ)) → line ≡ undo_bytes → Asks conn line old new a b out
+    → Makes (undoes conn out ∷ []) old new a b
+undo_makes conn line out old new a b is p = record {
+  acts = p.acts;
+  done = one_step (undoes conn out) old new p.acts (subst (λ l. Done old (piece conn l) out new) is p.done)
+      (subst (λ l. ActsOfDone old (piece conn l) out p.acts) is p.are);
+  journal = p.journal;
+}
+
+pub leaves_makes : (conn : ℕ) (old new : HubState) (a b : Option (List ℕ)) → Done old (cut conn) [] new
+    → Journals old.held new.held a b (leaves conn ∷ []) → Makes (goes conn ∷ []) old new a b
+leaves_makes conn old new a b done journal = record {
+  acts = leaves conn ∷ [];
+  done = one_step (goes conn) old new (leaves conn ∷ []) done (record { replies = []; are = refl; each = refl; written = refl });
+  journal = journal;
+}
+
+pub comes_makes : (conn : ℕ) (old new : HubState) (a b : Option (List ℕ)) → Done old (attach conn) [] new → Keeps a b
+    → Makes (comes conn ∷ []) old new a b
+comes_makes conn old new a b done kept = record {
+  acts = [];
+  done = one_step (comes conn) old new [] done (record { replies = []; are = refl; each = refl; written = refl });
+  journal = subst (λ h. Journals old.held h a b []) (sym (ap (λ (s : HubState). s.held) done.3)) (journal_none old.held a b kept);
+}
+
+-- ---- who is attached
+
+-- a line that is asked leaves who is attached
+pub asks_attached : (conn : ℕ) (line out : List ℕ) (old new : HubState) (a b : Option (List ℕ)) → rest_at conn old.attached ≡ Some (Some [])
+    → Asks conn line old new a b out → new.attached ≡ old.attached
+asks_attached conn line out old new a b here p = asked_attached conn line out old new here p.done p.still
+
+-- ---- lines of one connection
+
+pub asks_more : (conn : ℕ) (steps : List Step) (taken given line out : List ℕ) → AreAsks conn steps taken given
+    → AreAsks conn (steps ++ asks conn line out ∷ []) (taken ++ line) (given ++ out)
+asks_more conn [] taken given line out p = (
+  refl,
+  [],
+  [],
+  (refl, refl),
+  ap (λ t. t ++ line) p.0 ∙ sym (append-nil line),
+  ap (λ t. t ++ out) p.1 ∙ sym (append-nil out),
+)
+asks_more conn (comes k ∷ steps) taken given line out p = absurd p
+asks_more conn (asks k l o ∷ steps) taken given line out p = (
+  p.0,
+  p.1 ++ line,
+  p.2 ++ out,
+  asks_more conn steps p.1 p.2 line out p.3,
+  ap (λ t. t ++ line) p.4 ∙ append_assoc l p.1 line,
+  ap (λ t. t ++ out) p.5 ∙ append_assoc o p.2 out,
+)
+asks_more conn (undoes k o ∷ steps) taken given line out p = absurd p
+asks_more conn (goes k ∷ steps) taken given line out p = absurd p
+
+pub undos_more : (conn : ℕ) (steps : List Step) (out : List ℕ) → AreUndos conn steps → AreUndos conn (steps ++ undoes conn out ∷ [])
+undos_more conn [] out p = (refl, tt)
+undos_more conn (comes k ∷ steps) out p = absurd p
+undos_more conn (asks k l o ∷ steps) out p = absurd p
+undos_more conn (undoes k o ∷ steps) out p = (p.0, undos_more conn steps out p.1)
+undos_more conn (goes k ∷ steps) out p = absurd p
+
+-- the line that undoes a session is a whole line
+pub undo_whole : IsWholeLine undo_bytes
+unfolding ended
+undo_whole = (codes "{\"cmd\":\"undo\"}", refl, refl)
+
+-- what stays where a journal is left as it is
+pub makes_kept : (steps : List Step) (old new later : HubState) (a b c : Option (List ℕ)) → Makes steps old new a b → later ≡ new → Keeps b c
+    → Makes steps old later a c
+makes_kept steps old new later a b c p is kept = record {
+  acts = p.acts;
+  done = subst (λ s. DoneBy old steps p.acts s) (sym is) p.done;
+  journal = subst (λ (s : HubState). Journals old.held s.held a c p.acts) (sym is) (record {
+    bytes = p.journal.bytes;
+    whole = p.journal.whole;
+    journal = p.journal.journal;
+    appended = Appends-kept a b c p.journal.bytes p.journal.appended kept;
+  });
+}
+
+-- what was asked, and what waits then
+pub waits_more : (all taken line w v : List ℕ) → all ≡ taken ++ w → w ≡ line ++ v → all ≡ (taken ++ line) ++ v
+waits_more all taken line w v p q = p ∙ ap (λ t. taken ++ t) q ∙ sym (append_assoc taken line v)
+
+-- a line asked by a connection of this number
+pub asks_of : (k conn : ℕ) (line out : List ℕ) (old new : HubState) (a b : Option (List ℕ)) → k ≡ conn → Makes (asks k line out ∷ []) old new a b
+    → Makes (asks conn line out ∷ []) old new a b
+asks_of k conn line out old new a b is p = subst (λ n. Makes (asks n line out ∷ []) old new a b) is p

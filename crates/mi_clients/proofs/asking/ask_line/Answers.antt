@@ -1,0 +1,9 @@
+-- A line that is asked leaves who is attached.
+use Rattle.mi_ledger.specs.Ledger.{hub_of}
+use Rattle.mi_clients.proofs.StepLemmas.{asks_attached}
+use Rattle.mi_clients.proofs.asking.ask_line.Goals as goal
+
+pub returns-clause-attached : goal.returns-clause-attached
+returns-clause-attached g c =
+    let asked = c.in_ok-ask.ensures.ok in
+    asks_attached c.args.client.now.conn _ asked.0 (hub_of c.args.ledger.now) (hub_of c.ask.new.self) _ _ c.requires.here asked.2

@@ -1,0 +1,49 @@
+-- Each line that is asked is a step more, and its reply is owed.
+use Rattle.std.proofs.Common.{◌≡◌, ◌++◌, ◌∷◌, [], ◌∙◌, refl, sym, ap, arith, true}
+use Rattle.std.proofs.KnownBytes.{Keeps-refl}
+use Rattle.mi_hub.specs.Run.{HubState}
+use Rattle.mi_ledger.specs.Ledger.{hub_of}
+use Rattle.mi_clients.specs.Input.{waiting}
+use Rattle.mi_clients.specs.Steps.{asks}
+use Rattle.mi_clients.specs.declared.client.Phase.TheVariants.{Broken}
+use Rattle.mi_clients.proofs.StepLemmas.{makes_none, makes_then, makes_kept, asks_of, asks_more, waits_more}
+use Rattle.mi_clients.proofs.ServedLemmas.{owes_none, owes_more, owes_reply}
+use Rattle.mi_clients.proofs.asking.ask_lines.Goals as goal
+
+pub lines-init : goal.lines-init
+lines-init g c = record {
+  attached = refl;
+  settled = c.requires.settled;
+  steps = [];
+  taken = [];
+  given = [];
+  own = (refl, refl);
+  input = refl;
+  owes = owes_none c.args.client.now;
+  makes = makes_none _ _ _ (Keeps-refl _);
+}
+
+pub lines-preserved : goal.lines-preserved
+lines-preserved g c =
+    let before = c.lines.invariant in
+    let found : c.in_ok-ask_line.field-0 ≡ true = grind (arith, c.if-not-branch.false) in
+    let one = c.in_ok-ask_line.ensures.one found in
+    let same = c.in_ok-ask_line.ensures.same in
+    let conn = c.args.client.now.conn in
+    let step = asks conn one.0 one.1 in
+    let sound : ¬ (c.lines.client.phase ≡ Broken) = c.may_ask.ensures c.lines-test.true in record {
+      attached = ap (λ (s : HubState). s.attached) c.in_ok-release_each.ensures.hub ∙ c.in_ok-ask_line.ensures.attached ∙ before.attached;
+      settled = c.in_ok-release_each.ensures.settled;
+      steps = before.steps ++ step ∷ [];
+      taken = before.taken ++ one.0;
+      given = before.given ++ one.1;
+      own = asks_more conn before.steps before.taken before.given one.0 one.1 before.own;
+      input = waits_more _ before.taken one.0 (waiting c.lines.client.input) _ before.input
+          (one.3 ∙ ap (λ i. one.0 ++ waiting i) (sym c.in_ok-release_each.ensures.input));
+      owes = owes_more before.given one.1 c.args.client.now c.lines.client c.ask_line.new.client c.release_each.new.client before.owes
+          (owes_reply one.1 c.lines.client c.ask_line.new.client same.0 same.2 one.4 sound) c.in_ok-release_each.ensures.owes;
+      makes = makes_kept (before.steps ++ step ∷ []) _ (hub_of c.ask_line.new.ledger) _ _ _ _
+          (makes_then before.steps (step ∷ []) _ (hub_of c.lines.ledger) _ _ _ _ before.makes
+          (asks_of c.lines.client.conn conn one.0 one.1 (hub_of c.lines.ledger) (hub_of c.ask_line.new.ledger) _ _ before.owes.conn one.5))
+          c.in_ok-release_each.ensures.hub c.in_ok-release_each.ensures.appended;
+    }

@@ -1,0 +1,23 @@
+use Rattle.std.proofs.Common.{◌≡◌, ◌++◌, ℕ, List, length}
+use Rattle.mi_ledger.specs.Ledger.{hub_of, log_of, IsSettled}
+use Rattle.mi_clients.specs.Steps.{Step, Makes, AreAsks}
+use Rattle.mi_clients.specs.Input.{waiting}
+use Rattle.mi_clients.specs.Client.{Owes}
+use Rattle.mi_clients.proofs.asking.ask_lines.Given as goal
+
+-- the lines so far are the first of what waited, and their replies are owed
+abbrev pub invariant-lines : goal.invariant-lines
+invariant-lines g l = record {
+  attached : (hub_of l.ledger).attached ≡ (hub_of l.fn.ledger).attached;
+  settled : IsSettled g.L.Log.appended g.L.Log.synced l.ledger;
+  steps : List Step;
+  taken : List ℕ;
+  given : List ℕ;
+  own : AreAsks l.fn.client.conn steps taken given;
+  input : waiting l.fn.client.input ≡ taken ++ waiting l.client.input;
+  owes : Owes given l.fn.client l.client;
+  makes : Makes steps (hub_of l.fn.ledger) (hub_of l.ledger) (g.L.Log.appended (log_of l.fn.ledger)) (g.L.Log.appended (log_of l.ledger));
+}
+
+abbrev pub decreases-lines : goal.decreases-lines
+decreases-lines g l = length (waiting l.client.input)

@@ -1,0 +1,21 @@
+-- What was read waits to be asked.
+use Rattle.std.proofs.Common.{◌≡◌, ◌∙◌, ◌++◌, inl, inr, sym, ap, subst, take}
+use Rattle.std.specs.Io.KnownBytes.{Consumes}
+use Rattle.mi_clients.specs.Input.{waiting}
+use Rattle.mi_clients.specs.Lines.{SameLines}
+use Rattle.mi_clients.specs.declared.client.Client.{Client}
+use Rattle.mi_clients.proofs.client.Client.read.Goals as goal
+
+pub returns-in-Ok-clause-piece : goal.returns-in-Ok-clause-piece
+returns-in-Ok-clause-piece g c =
+    let piece = take c.in-Ok.count c.read.new.buffer in
+    let stream : c.take.new.self.stream ≡ c.read.new.self =
+    ap (λ (s : Client _). s.stream) c.take.ensures.same ∙ ap (λ (s : Client _). s.stream) c.is_drained.ensures in (
+      piece,
+      subst (λ s. Consumes (g.S.Duplex.remaining c.args.self.now.stream) (g.S.Duplex.remaining s) piece) (sym stream) c.in-Ok.ensures.bytes.0,
+      elim c.take.ensures.waits [
+        | inl broken ↦ inl broken
+        | inr same ↦ inr (inl
+            (subst (λ i. SameLines (waiting i ++ piece) (waiting c.take.new.self.input)) (ap (λ (s : Client _). s.input) c.is_drained.ensures) same))
+      ],
+    )

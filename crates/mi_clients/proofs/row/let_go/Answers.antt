@@ -1,0 +1,49 @@
+-- Who is over goes away, and the others stay what the hub has attached, as they are.
+use Rattle.std.proofs.Common.{◌≡◌, ◌++◌, ◌∙◌, ◌<◌, [], length, Some, sym, ap, subst, rules}
+use Rattle.std.proofs.KnownBytes.{Keeps-refl}
+use Rattle.mi_hub.specs.Connections.{rest_at, others}
+use Rattle.mi_ledger.specs.Ledger.{hub_of}
+use Rattle.mi_clients.specs.Client.{IsOver}
+use Rattle.mi_clients.specs.Row.{ids, Attends, LetsGo}
+use Rattle.mi_clients.specs.declared.client.Client.{Client}
+use Rattle.mi_clients.proofs.StepLemmas.{makes_none, makes_then}
+use Rattle.mi_clients.proofs.RowLemmas.{attends_at, attends_less}
+use Rattle.mi_clients.proofs.ServedLemmas.{nothing_given, none_join, lets_none, lets_one}
+use Rattle.mi_clients.proofs.row.let_go.Goals as goal
+
+pub row-init : goal.row-init
+row-init g c = record {
+  attends = c.requires.attends;
+  settled = c.requires.settled;
+  gone = lets_none c.args.row.now.items;
+  steps = [];
+  none = nothing_given;
+  makes = makes_none _ _ _ (Keeps-refl _);
+}
+
+pub part-requires : goal.part-requires
+part-requires g c =
+    let within : c.row.at < length c.row.row.items = search rules in
+    let client = c.index-then-is_over.result.now in record {
+      here = subst (λ k. rest_at k (hub_of c.row.ledger).attached ≡ Some (Some [])) (sym (ap (λ (x : Client _). x.conn) c.index-then-is_over.ensures))
+          (attends_at c.row.row.items c.row.at client (hub_of c.row.ledger).attached c.row.invariant.attends within);
+    }
+
+pub row-preserved-then-is_over : goal.row-preserved-then-is_over
+row-preserved-then-is_over g c =
+    let within : c.row.at < length c.row.row.items = search rules in
+    let client = c.index-then-is_over.result.now in
+    let before = c.row.invariant in
+    let parted = c.in_ok-part.ensures.goes in
+    let gone = c.in_ok-part.ensures.attached
+    ∙ ap (λ k. others k (hub_of c.row.ledger).attached) (ap (λ (x : Client _). x.conn) c.index-then-is_over.ensures) in
+    let over = subst (λ (x : Client _). IsOver x) c.index.ensures (c.is_over.ensures c.if-is_over.true) in record {
+      attends = subst (λ row. Attends (ids row) (hub_of c.part.new.ledger).attached) (sym c.remove.ensures.items)
+          (attends_less c.row.row.items c.row.at client (hub_of c.row.ledger).attached (hub_of c.part.new.ledger).attached within before.attends gone);
+      settled = c.in_ok-part.ensures.settled before.settled;
+      gone = subst (LetsGo c.args.row.now.items) (sym c.remove.ensures.items)
+          (lets_one c.args.row.now.items c.row.row.items c.row.at c.index.result.now before.gone within over);
+      steps = before.steps ++ parted.0;
+      none = none_join before.steps parted.0 before.none parted.1;
+      makes = makes_then before.steps parted.0 _ (hub_of c.row.ledger) _ _ _ _ before.makes parted.2;
+    }

@@ -1,0 +1,43 @@
+-- Nothing is asked, and each connection is sent what it is owed itself.
+use Rattle.std.proofs.Common.{◌<◌, [], length, ◌∙◌, refl, sym, ap, subst, arith}
+use Rattle.std.proofs.KnownBytes.{Keeps-refl, Keeps-trans}
+use Rattle.std.specs.Prelude.{slice_set, slice_index_or}
+use Rattle.mi_hub.specs.Run.{HubState}
+use Rattle.mi_ledger.specs.Ledger.{hub_of}
+use Rattle.mi_clients.specs.Row.{ids, Attends, EachServed}
+use Rattle.mi_clients.specs.declared.client.Client.{Client}
+use Rattle.mi_clients.proofs.RowLemmas.{ids_set}
+use Rattle.mi_clients.proofs.ServedLemmas.{nothing_given, each_none, each_set, each_then, served_then, served_owes, served_sends}
+use Rattle.mi_clients.proofs.row.send_all.Goals as goal
+
+pub loop-client-init : goal.loop-client-init
+loop-client-init g c = record {
+  attends = subst (λ items. Attends (ids items) (hub_of c.args.ledger.now).attached) (sym c.deref_mut-client-items.ensures.value) c.requires.attends;
+  settled = c.requires.settled;
+  each = subst (EachServed g.S.Duplex.contents [] c.args.row.now.items) (sym c.deref_mut-client-items.ensures.value)
+      (each_none g.S.Duplex.contents [] c.args.row.now.items nothing_given);
+  hub = refl;
+  appended = Keeps-refl _;
+}
+
+pub loop-client-preserved : goal.loop-client-preserved
+loop-client-preserved g c =
+    let before = c.loop-client.invariant in
+    let contents = g.S.Duplex.contents in
+    let row = c.loop-client.client-items in
+    let at = c.loop-client.client-index in
+    let within : at < length row = omega (arith, c.loop-client-test.true, c.loop-client.auto.client-items) in
+    let released = c.in_ok-release.ensures.owes in
+    let sent = served_sends contents c.release.new.client c.send.new.self (ap (λ (x : Client _). x.conn) c.send.ensures.same)
+    c.send.ensures.sent c.send.ensures.broken in
+    let old = slice_index_or row at c.client-item.result in
+    let one = served_then contents [] [] old c.release.new.client c.send.new.self (served_owes contents [] old c.release.new.client released) sent in
+    let same = ids_set row at c.send.new.self c.client-item.result one.conn in
+    let set = each_set contents [] row at c.client-item.result c.send.new.self before.attends.differ within (λ k other. refl) one in record {
+      attends = subst (λ ks. Attends ks (hub_of c.release.new.ledger).attached) (sym same)
+          (subst (Attends (ids row)) (sym (ap (λ (s : HubState). s.attached) c.release.ensures.hub)) before.attends);
+      settled = c.release.ensures.settled;
+      each = each_then contents [] [] c.args.row.now.items row (slice_set row at c.send.new.self) before.each set;
+      hub = c.release.ensures.hub ∙ before.hub;
+      appended = Keeps-trans _ _ _ before.appended c.release.ensures.appended;
+    }

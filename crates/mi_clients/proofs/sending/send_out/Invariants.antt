@@ -1,0 +1,10 @@
+use Rattle.std.proofs.Common.{length}
+use Rattle.mi_clients.specs.Output.{unsent, Sends}
+use Rattle.mi_clients.proofs.sending.send_out.Given as goal
+
+-- no byte is lost
+abbrev pub invariant-out : goal.invariant-out
+invariant-out g l = Sends g.S.Duplex.contents l.fn.stream l.stream (unsent l.fn.output) (unsent l.output)
+
+abbrev pub decreases-out : goal.decreases-out
+decreases-out g l = length (unsent l.output)

@@ -1,0 +1,56 @@
+-- The connections of a service in a row are those that its hub has attached, in this order, and none has a rest there.
+use Rattle.std.specs.Prelude.{◌≡◌, ◌⊎◌, ℕ, List, [], ◌∷◌, ◌++◌, map, false, ◌==◌, Some, Option}
+use Rattle.std.specs.List.{AllZip, Contains}
+use Rattle.mi_hub.specs.declared.connection.Connection.{Connection}
+use Rattle.mi_clients.specs.Client.{owed, IsServed, IsOver}
+use Rattle.mi_clients.specs.Steps.{Step, given_to}
+use Rattle.mi_clients.specs.declared.client.Client.{Client}
+
+-- the numbers of clients, in order
+abbrev pub ids : {S : Type 0} → List (Client S) → List ℕ
+ids row = map (λ c. c.conn) row
+
+-- a connection that is attached, and has sent nothing that wasn't asked
+abbrev pub fresh : ℕ → Connection
+fresh conn = record { id = conn; rest = Some [] }
+
+-- none of these is this number
+abbrev pub IsNoneOf : ℕ → List ℕ → Type 0
+IsNoneOf k [] = Unit {0}
+IsNoneOf k (x ∷ xs) = ((x == k) ≡ false) × IsNoneOf k xs
+
+-- none stands behind another of the same number
+abbrev pub AllDiffer : List ℕ → Type 0
+AllDiffer [] = Unit {0}
+AllDiffer (x ∷ xs) = IsNoneOf x xs × AllDiffer xs
+
+-- these connections are attached, in this order, and no other is
+pub record Attends (row : List ℕ) (attached : List Connection) : Type 0 where
+  pub there : attached ≡ map fresh row
+  pub differ : AllDiffer row
+
+-- Each connection of a row is given in these steps the replies to its own lines, and no other bytes; the row stays.
+abbrev pub EachServed : {S : Type 0} → (S → Option (List ℕ)) → List Step → List (Client S) → List (Client S) → Type 0
+EachServed contents steps olds news = AllZip (λ old new. IsServed contents (given_to old.conn steps) old new) olds news
+
+-- it has just come: it is owed nothing, and its number is none of the row's
+abbrev pub IsNew : {S : Type 0} → Client S → List (Client S) → Type 0
+IsNew c row = (owed c ≡ []) × IsNoneOf c.conn (ids row)
+
+-- some connections have come, and stand behind the others, which are as they were
+abbrev pub Joins : {S : Type 0} → List (Client S) → List (Client S) → Type 0
+Joins {S} olds news = (comers : List (Client S)) × (news ≡ olds ++ comers) × ((c : Client S) → Contains comers c → IsNew c olds)
+
+-- Of a row those that are over may have gone; the others are as they were, and no other is there.
+pub record LetsGo {S : Type 0} (olds news : List (Client S)) : Type 0 where
+  pub from : (c : Client S) → Contains news c → Contains olds c
+  pub to : (c : Client S) → Contains olds c → Contains news c ⊎ IsOver c
+
+-- What becomes of a row while these steps are made. Each connection that is there then was there before, or has come owed nothing; each that
+-- was there before is there, or has gone when it was broken or owed nothing. What it was given meanwhile are the replies to its own lines:
+-- behind what it was owed they were sent to its own stream, or are owed still.
+pub record Serves {S : Type 0} (contents : S → Option (List ℕ)) (steps : List Step) (olds news : List (Client S)) : Type 0 where
+  pub from : (new : Client S) → Contains news new
+      → (old : Client S) × (Contains olds old ⊎ IsNew old olds) × IsServed contents (given_to old.conn steps) old new
+  pub to : (old : Client S) → Contains olds old
+      → (last : Client S) × (Contains news last ⊎ IsOver last) × IsServed contents (given_to old.conn steps) old last

@@ -1,0 +1,199 @@
+//! The lines of one connection, asked of the ledger. It reads and writes no stream.
+ghost use Rattle.std.specs.Prelude.{◌≡◌, ◌⊎◌, ◌<◌, ◌++◌, ℕ, List, [], ◌∷◌, Some, true, false, length, OnOk, OnErr, IfOk};
+ghost use Rattle.std.specs.Io.KnownBytes.{Keeps};
+ghost use Rattle.mi_commands.specs.Holder.{held_by};
+ghost use Rattle.mi_hub.specs.Connections.{rest_at, others};
+ghost use Rattle.mi_ledger.specs.Ledger.{hub_of, log_of, IsSettled};
+ghost use Rattle.mi_clients.specs.Steps.{Step, asks, Makes, GivesNone, AreAsks, AreUndos};
+ghost use Rattle.mi_clients.specs.Input.{waiting};
+ghost use Rattle.mi_ledger.specs.HeldReplies.{bytes_of};
+ghost use Rattle.mi_clients.specs.Output.{unsent};
+ghost use Rattle.mi_clients.specs.Client.{owed, Owes};
+ghost use Rattle.mi_clients.specs.declared.client.Phase.TheVariants as phases;
+
+use crate::client::{Client, Phase};
+use mi_ledger::{HeldReplies, Ledger, LedgerFault};
+use mi_log::Log;
+use mi_sessions::Sessions;
+use mi_value::limits::MAX_SESSIONS;
+use std::alloc::Global;
+use std::mem;
+
+/// What a holder that goes away is taken to ask.
+const UNDO: &[u8] = b"{\"cmd\":\"undo\"}\n";
+
+/// Replies that stay wait for the stream behind those that do already. Without room for them the connection is broken.
+fn hand_out<S>(client: &mut Client<S>, bytes: Vec<u8>)
+    ensures unsent { ((client.new.phase ≡ phases.Broken) × (unsent client.new.output ≡ unsent client.old.output))
+        ⊎ ((client.new.phase ≡ client.old.phase) × (unsent client.new.output ≡ unsent client.old.output ++ bytes.items)) }
+    ensures same { client.new ≡ record client.old { output = client.new.output; phase = client.new.phase } }
+{
+    match client.output.add(bytes) {
+        Ok(()) => {}
+        Err(_error) => client.phase = Phase::Broken,
+    }
+}
+
+/// The replies of a connection that were held are held no more.
+fn take_held<S>(client: &mut Client<S>) -> HeldReplies
+    ensures held { bytes_of result ≡ bytes_of client.old.held }
+    ensures none { bytes_of client.new.held ≡ [] }
+    ensures same { client.new ≡ record client.old { held = client.new.held } }
+{
+    mem::replace(&mut client.held, HeldReplies::new(client.alloc))
+}
+
+/// Hands the replies of a connection out, once all that was appended stays. One whose replies have no room is broken.
+pub fn release<D: Sessions + Drop, L: Log + Drop, S>(
+    ledger: &mut Ledger<D, L>,
+    client: &mut Client<S>,
+) -> Result<(), LedgerFault>
+    requires settled { IsSettled L.appended L.synced ledger.old }
+    ensures stays { OnOk result ((client.new ≡ client.old) ⊎ Keeps (L.appended (log_of ledger.new)) (L.synced (log_of ledger.new))) }
+    ensures owes { OnOk result (Owes [] client.old client.new) }
+    ensures phase { OnOk result ((client.new.phase ≡ phases.Broken) ⊎ (client.new.phase ≡ client.old.phase)) }
+    ensures input { OnOk result (client.new.input ≡ client.old.input) }
+    ensures unsent { OnErr result (client.new.output ≡ client.old.output) }
+    ensures hub { hub_of ledger.new ≡ hub_of ledger.old }
+    ensures appended { Keeps (L.appended (log_of ledger.old)) (L.appended (log_of ledger.new)) }
+    ensures settled { IsSettled L.appended L.synced ledger.new }
+{
+    if client.held.is_empty() {
+        return Ok(());
+    }
+    let held = take_held(client);
+    let bytes = ledger.release(held)?;
+    hand_out(client, bytes);
+    Ok(())
+}
+
+/// The same where that is done for each line.
+fn release_each<D: Sessions + Drop, L: Log + Drop, S>(
+    ledger: &mut Ledger<D, L>,
+    client: &mut Client<S>,
+    each: bool,
+) -> Result<(), LedgerFault>
+    requires settled { IsSettled L.appended L.synced ledger.old }
+    ensures stays { OnOk result ((client.new ≡ client.old) ⊎ Keeps (L.appended (log_of ledger.new)) (L.synced (log_of ledger.new))) }
+    ensures owes { OnOk result (Owes [] client.old client.new) }
+    ensures phase { OnOk result ((client.new.phase ≡ phases.Broken) ⊎ (client.new.phase ≡ client.old.phase)) }
+    ensures input { OnOk result (client.new.input ≡ client.old.input) }
+    ensures hub { hub_of ledger.new ≡ hub_of ledger.old }
+    ensures appended { Keeps (L.appended (log_of ledger.old)) (L.appended (log_of ledger.new)) }
+    ensures settled { IsSettled L.appended L.synced ledger.new }
+{
+    if each {
+        release(ledger, client)
+    } else {
+        Ok(())
+    }
+}
+
+/// Asks the first whole line of a connection that waits, and answers whether there was one. Its reply is held.
+fn ask_line<D: Sessions + Drop, L: Log + Drop, S>(
+    ledger: &mut Ledger<D, L>,
+    client: &mut Client<S>,
+) -> Result<bool, LedgerFault>
+    requires here { rest_at client.old.conn (hub_of ledger.old).attached ≡ Some (Some []) }
+    ensures one { IfOk result (λ found. found ≡ true → (line : List ℕ) × (out : List ℕ) × (0 < length line)
+        × (waiting client.old.input ≡ line ++ waiting client.new.input) × (owed client.new ≡ owed client.old ++ out)
+        × Makes (asks client.old.conn line out ∷ []) (hub_of ledger.old) (hub_of ledger.new)
+        (L.appended (log_of ledger.old)) (L.appended (log_of ledger.new))) }
+    ensures none { IfOk result (λ found. found ≡ false → (client.new ≡ client.old) × (ledger.new ≡ ledger.old)) }
+    ensures same { OnOk result ((client.new.conn ≡ client.old.conn) × (client.new.phase ≡ client.old.phase) × (client.new.stream ≡ client.old.stream)) }
+    ensures attached { OnOk result ((hub_of ledger.new).attached ≡ (hub_of ledger.old).attached) }
+    ensures settled { IsSettled L.appended L.synced ledger.old → IsSettled L.appended L.synced ledger.new }
+{
+    let Some(line) = client.input.line() else {
+        return Ok(false);
+    };
+    ledger.ask(client.conn, line, &mut client.held)?;
+    let count = line.len();
+    client.input.pass(count);
+    Ok(true)
+}
+
+/// Asks the lines of a connection that have come, as long as its replies have room. With `each` a reply is handed out, behind a sync,
+/// before the next line is asked.
+pub fn ask_lines<D: Sessions + Drop, L: Log + Drop, S>(
+    ledger: &mut Ledger<D, L>,
+    client: &mut Client<S>,
+    each: bool,
+) -> Result<(), LedgerFault>
+    requires here { rest_at client.old.conn (hub_of ledger.old).attached ≡ Some (Some []) }
+    requires settled { IsSettled L.appended L.synced ledger.old }
+    ensures asks { OnOk result ((steps : List Step) × (taken : List ℕ) × (given : List ℕ) × AreAsks client.old.conn steps taken given
+        × (waiting client.old.input ≡ taken ++ waiting client.new.input)
+        × Owes given client.old client.new
+        × Makes steps (hub_of ledger.old) (hub_of ledger.new) (L.appended (log_of ledger.old)) (L.appended (log_of ledger.new))) }
+    ensures attached { OnOk result ((hub_of ledger.new).attached ≡ (hub_of ledger.old).attached) }
+    ensures settled { OnOk result (IsSettled L.appended L.synced ledger.new) }
+{
+    'lines: while client.may_ask() {
+        if !ask_line(ledger, client)? {
+            client.has_lines = false;
+            return Ok(());
+        }
+        release_each(ledger, client, each)?;
+    }
+    Ok(())
+}
+
+/// The sessions that a connection holds are undone, each by a line that is asked and whose reply nobody hears.
+pub fn undo_all<D: Sessions + Drop, L: Log + Drop>(
+    alloc: Global,
+    ledger: &mut Ledger<D, L>,
+    conn: u64,
+) -> Result<(), LedgerFault>
+    requires here { rest_at conn (hub_of ledger.old).attached ≡ Some (Some []) }
+    ensures undoes { OnOk result ((steps : List Step) × AreUndos conn steps
+        × Makes steps (hub_of ledger.old) (hub_of ledger.new) (L.appended (log_of ledger.old)) (L.appended (log_of ledger.new))) }
+    ensures none { OnOk result (held_by conn (hub_of ledger.new).held.holder ≡ 0) }
+    ensures attached { OnOk result ((hub_of ledger.new).attached ≡ (hub_of ledger.old).attached) }
+    ensures settled { IsSettled L.appended L.synced ledger.old → IsSettled L.appended L.synced ledger.new }
+{
+    let mut unheard = HeldReplies::new(alloc);
+    'sessions: for _session in 0..=MAX_SESSIONS {
+        if !ledger.holds(conn) {
+            return Ok(());
+        }
+        ledger.ask(conn, UNDO, &mut unheard)?;
+    }
+    Err(LedgerFault::Memory)
+}
+
+/// Once all lines of a connection are asked whose bytes have ended, its sessions are undone.
+pub fn settle<D: Sessions + Drop, L: Log + Drop, S>(
+    ledger: &mut Ledger<D, L>,
+    client: &mut Client<S>,
+) -> Result<(), LedgerFault>
+    requires here { rest_at client.old.conn (hub_of ledger.old).attached ≡ Some (Some []) }
+    ensures undoes { OnOk result ((steps : List Step) × AreUndos client.old.conn steps × Owes [] client.old client.new
+        × Makes steps (hub_of ledger.old) (hub_of ledger.new) (L.appended (log_of ledger.old)) (L.appended (log_of ledger.new))) }
+    ensures input { OnOk result (client.new.input ≡ client.old.input) }
+    ensures attached { OnOk result ((hub_of ledger.new).attached ≡ (hub_of ledger.old).attached) }
+    ensures settled { IsSettled L.appended L.synced ledger.old → IsSettled L.appended L.synced ledger.new }
+{
+    if client.phase == Phase::Ended && !client.has_lines {
+        undo_all(client.alloc, ledger, client.conn)?;
+        client.phase = Phase::Asked;
+    }
+    Ok(())
+}
+
+/// A connection goes away: the sessions that it holds are undone.
+pub fn part<D: Sessions + Drop, L: Log + Drop>(
+    alloc: Global,
+    ledger: &mut Ledger<D, L>,
+    conn: u64,
+) -> Result<(), LedgerFault>
+    requires here { rest_at conn (hub_of ledger.old).attached ≡ Some (Some []) }
+    ensures goes { OnOk result ((steps : List Step) × GivesNone steps
+        × Makes steps (hub_of ledger.old) (hub_of ledger.new) (L.appended (log_of ledger.old)) (L.appended (log_of ledger.new))) }
+    ensures attached { OnOk result ((hub_of ledger.new).attached ≡ others conn (hub_of ledger.old).attached) }
+    ensures settled { IsSettled L.appended L.synced ledger.old → IsSettled L.appended L.synced ledger.new }
+{
+    undo_all(alloc, ledger, conn)?;
+    ledger.leave(conn);
+    Ok(())
+}

@@ -1,0 +1,227 @@
+//! A connection: its stream, what came of it and wasn't asked yet, and what it is to be sent. It asks nobody.
+ghost use Rattle.std.specs.Prelude.{◌≡◌, ◌⊎◌, ◌++◌, ℕ, List, [], true};
+ghost use Rattle.mi_hub.specs.Ended.{ended};
+ghost use Rattle.mi_clients.specs.declared.client.Phase.TheVariants as phases;
+
+use crate::duplex::Duplex;
+use crate::input::Input;
+use crate::output::Output;
+use crate::sending::{Sending, send_out};
+use mi_ledger::HeldReplies;
+use std::alloc::Global;
+use std::io::ErrorKind;
+
+/// Unsent bytes of a connection beyond which no line of it is asked.
+pub const MOST_UNSENT: usize = 65_536;
+
+/// How far a connection has come.
+#[derive(Clone, Copy, PartialEq, Eq, Drop)]
+pub enum Phase {
+    /// More may come of it.
+    Open,
+    /// Its bytes have ended; lines of it may wait to be asked.
+    Ended,
+    /// All its lines are asked, and it holds no session; replies may wait to be sent.
+    Asked,
+    /// Its stream has failed, or memory for it was refused. Nothing more of it is asked or sent.
+    Broken,
+}
+
+/// A connection. It is made by `admit`, and owes its peer the replies to its own lines alone.
+#[derive(Drop)]
+pub struct Client<S> {
+    /// The number under which the hub has it attached.
+    pub conn: u64,
+    /// What its bytes come from and go to.
+    pub(crate) stream: S,
+    /// What it has sent and wasn't asked yet.
+    pub(crate) input: Input,
+    /// Replies that wait until their lines stay in the journal.
+    pub(crate) held: HeldReplies,
+    /// Replies that were handed out, and that its stream hasn't taken.
+    pub(crate) output: Output,
+    /// How far it has come.
+    pub(crate) phase: Phase,
+    /// Whether a read may give something, as far as was reported.
+    may_read: bool,
+    /// Whether a write may take something, as far as was reported.
+    may_write: bool,
+    /// Whether its peer has closed, or its stream has failed, as was reported.
+    is_closing: bool,
+    /// Whether a whole line of it may wait to be asked.
+    pub(crate) has_lines: bool,
+    /// Where memory for it comes from.
+    pub(crate) alloc: Global,
+}
+
+impl<S> Client<S> {
+    ghost use Rattle.mi_clients.specs.Client.{owed, IsOver};
+    ghost use Rattle.mi_clients.specs.Input.{waiting};
+
+    /// A connection that has just come.
+    pub(crate) fn new(alloc: Global, conn: u64, stream: S) -> Client<S>
+    where
+        S: Drop,
+        ensures conn { result.conn ≡ conn }
+        ensures stream { result.stream ≡ stream }
+        ensures none { (waiting result.input ≡ []) × (owed result ≡ []) }
+    {
+        Client {
+            conn,
+            stream,
+            input: Input::new(alloc),
+            held: HeldReplies::new(alloc),
+            output: Output::new(alloc),
+            phase: Phase::Open,
+            may_read: true,
+            may_write: true,
+            is_closing: false,
+            has_lines: false,
+            alloc,
+        }
+    }
+
+    /// Whether so little of its replies is unsent that a line may be asked.
+    fn has_room(&self) -> bool {
+        let held = self.held.len();
+        held <= MOST_UNSENT && self.output.waiting().len() <= MOST_UNSENT - held
+    }
+
+    /// Whether its lines may be asked.
+    pub(crate) fn may_ask(&self) -> bool
+        ensures { result ≡ true → ¬ (self.now.phase ≡ phases.Broken) }
+    {
+        self.phase != Phase::Broken && self.has_lines && self.has_room()
+    }
+
+    /// Whether its stream is to be read.
+    fn wants_bytes(&self) -> bool
+        ensures { result ≡ true → self.now.phase ≡ phases.Open }
+    {
+        self.phase == Phase::Open && self.may_read && !self.has_lines && self.has_room()
+    }
+
+    /// Whether something of it can be done at once, without waiting for its stream.
+    pub(crate) fn is_busy(&self) -> bool {
+        self.may_ask() || self.wants_bytes() || self.may_write && !self.output.waiting().is_empty()
+    }
+
+    /// Whether nothing of its replies is unsent.
+    fn owes_nothing(&self) -> bool
+        ensures { result ≡ true → owed self.now ≡ [] }
+    {
+        self.held.is_empty() && self.output.waiting().is_empty()
+    }
+
+    /// Whether it is to be let go: its stream has failed, or all of it is asked and sent.
+    pub(crate) fn is_over(&self) -> bool
+        ensures { result ≡ true → IsOver self.now }
+    {
+        match self.phase {
+            Phase::Open | Phase::Ended => false,
+            Phase::Asked => self.owes_nothing(),
+            Phase::Broken => true,
+        }
+    }
+
+    /// Its stream is ready again: to be read, to be written to, or closed by its peer or failed, which a read or a write will tell.
+    pub fn wake(&mut self, readable: bool, writable: bool, closing: bool)
+        ensures { self.new ≡ record self.old { may_read = self.new.may_read; may_write = self.new.may_write; is_closing = self.new.is_closing } }
+    {
+        self.may_read = self.may_read || readable || closing;
+        self.may_write = self.may_write || writable || closing;
+        self.is_closing = self.is_closing || closing;
+    }
+}
+
+impl<S: Duplex> Client<S> {
+    ghost use Rattle.std.specs.Io.KnownBytes.{Keeps, Consumes};
+    ghost use Rattle.mi_clients.specs.Client.{owed};
+    ghost use Rattle.mi_clients.specs.Output.{Sends};
+    ghost use Rattle.mi_clients.specs.Input.{waiting};
+    ghost use Rattle.mi_clients.specs.Lines.{SameLines, Ends};
+
+    /// Reads one piece, where it is to be read: what comes waits to be asked, or its bytes have ended, or it is broken.
+    pub(crate) fn read(&mut self, buffer: &mut [u8])
+        ensures piece { (piece : List ℕ) × Consumes (S.remaining self.old.stream) (S.remaining self.new.stream) piece
+            × ((self.new.phase ≡ phases.Broken) ⊎ (SameLines (waiting self.old.input ++ piece) (waiting self.new.input)
+            ⊎ ((self.new.phase ≡ phases.Ended) × (piece ≡ []) × Ends (waiting self.old.input) (waiting self.new.input)))) }
+        ensures contents { Keeps (S.contents self.old.stream) (S.contents self.new.stream) }
+        ensures owed { owed self.new ≡ owed self.old }
+        ensures broken { self.old.phase ≡ phases.Broken → self.new.phase ≡ phases.Broken }
+        ensures conn { self.new.conn ≡ self.old.conn }
+    {
+        if !self.wants_bytes() || self.input.line().is_some() {
+            return;
+        }
+        match self.stream.read(buffer) {
+            Ok(0) => self.finish(),
+            Ok(count) => {
+                self.is_drained(count < buffer.len());
+                self.take(&buffer[..count]);
+            }
+            Err(error) => self.fail(error.kind()),
+        }
+    }
+
+    /// A piece was read, and less than there was room for: then no more is there now, unless the peer has closed.
+    fn is_drained(&mut self, short: bool)
+        ensures { self.new ≡ record self.old { may_read = self.new.may_read } }
+    {
+        if short && !self.is_closing {
+            self.may_read = false;
+        }
+    }
+
+    /// A read has failed, or would wait.
+    fn fail(&mut self, kind: ErrorKind)
+        ensures { self.new ≡ record self.old { may_read = self.new.may_read; phase = self.new.phase } }
+    {
+        match kind {
+            ErrorKind::WouldBlock => self.may_read = false,
+            ErrorKind::Interrupted => {}
+            _ => self.phase = Phase::Broken,
+        }
+    }
+
+    /// A piece has come.
+    fn take(&mut self, piece: &[u8])
+        ensures waits { (self.new.phase ≡ phases.Broken) ⊎ SameLines (waiting self.old.input ++ piece.now) (waiting self.new.input) }
+        ensures same { self.new ≡ record self.old { input = self.new.input; phase = self.new.phase; has_lines = self.new.has_lines } }
+    {
+        self.has_lines = true;
+        match self.input.fill(piece) {
+            Ok(()) => {}
+            Err(_error) => self.phase = Phase::Broken,
+        }
+    }
+
+    /// Nothing more comes.
+    fn finish(&mut self)
+        requires { ended (waiting self.old.input) ≡ [] }
+        ensures ends { (self.new.phase ≡ phases.Broken) ⊎ ((self.new.phase ≡ phases.Ended) × Ends (waiting self.old.input) (waiting self.new.input)) }
+        ensures same { self.new ≡ record self.old { input = self.new.input; phase = self.new.phase; has_lines = self.new.has_lines } }
+    {
+        self.has_lines = true;
+        match self.input.end() {
+            Ok(()) => self.phase = Phase::Ended,
+            Err(_error) => self.phase = Phase::Broken,
+        }
+    }
+
+    /// Sends what was handed out, as much as its stream takes now. Each byte is sent or owed still.
+    pub(crate) fn send(&mut self)
+        ensures sent { Sends S.contents self.old.stream self.new.stream (owed self.old) (owed self.new) }
+        ensures broken { self.old.phase ≡ phases.Broken → self.new.phase ≡ phases.Broken }
+        ensures same { self.new ≡ record self.old { stream = self.new.stream; output = self.new.output; phase = self.new.phase; may_write = self.new.may_write } }
+    {
+        if !self.may_write || self.phase == Phase::Broken {
+            return;
+        }
+        match send_out(&mut self.stream, &mut self.output) {
+            Sending::All => {}
+            Sending::Blocked => self.may_write = false,
+            Sending::Failed => self.phase = Phase::Broken,
+        }
+    }
+}

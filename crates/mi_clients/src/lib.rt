@@ -1,0 +1,18 @@
+//! Connections as values, over one hub whose lines are journaled: what came of each and wasn't asked yet, what it is to be sent, its lines
+//! asked one after another, and all of them in a row. A stream is asked only when it may be ready, one that is slow holds up itself alone,
+//! and a reply goes out once its line stays in the journal. It opens no socket, waits for none, and knows nothing of commands.
+#![tactic(auto)]
+
+mod asking;
+mod client;
+mod duplex;
+mod input;
+mod lines;
+mod output;
+mod row;
+mod sending;
+
+pub use asking::part;
+pub use client::Client;
+pub use duplex::Duplex;
+pub use row::{admit, is_any_busy, serve_all};

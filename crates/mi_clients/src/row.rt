@@ -1,0 +1,164 @@
+//! The attached connections in a row, each step over all of them.
+ghost use Rattle.std.specs.Prelude.{◌≡◌, ◌⊎◌, ◌++◌, ◌∷◌, List, [], Some, OnOk};
+ghost use Rattle.std.specs.Io.KnownBytes.{Keeps};
+ghost use Rattle.mi_ledger.specs.Ledger.{hub_of, log_of, IsSettled};
+ghost use Rattle.mi_clients.specs.Client.{owed, IsServed};
+ghost use Rattle.mi_clients.specs.Steps.{Step, Makes, given_to, GivesOnly, GivesNone};
+ghost use Rattle.mi_clients.specs.Row.{ids, Attends, EachServed, Joins, LetsGo, Serves};
+ghost use Rattle.mi_clients.specs.declared.client.Client.{Client};
+ghost use Rattle.mi_hub.specs.Connections.{rest_at};
+
+use crate::asking::{ask_lines, part, release, settle};
+use crate::client::Client;
+use crate::duplex::Duplex;
+use mi_ledger::{Ledger, LedgerFault};
+use mi_log::Log;
+use mi_sessions::Sessions;
+use std::alloc::Global;
+
+/// What is ready of a connection is read, and its lines are asked.
+fn serve<D: Sessions + Drop, L: Log + Drop, S: Duplex>(
+    ledger: &mut Ledger<D, L>,
+    client: &mut Client<S>,
+    buffer: &mut [u8],
+    each: bool,
+) -> Result<(), LedgerFault>
+    requires here { rest_at client.old.conn (hub_of ledger.old).attached ≡ Some (Some []) }
+    requires settled { IsSettled L.appended L.synced ledger.old }
+    ensures serves { OnOk result ((steps : List Step) × GivesOnly client.old.conn steps
+        × IsServed S.contents (given_to client.old.conn steps) client.old client.new
+        × Makes steps (hub_of ledger.old) (hub_of ledger.new) (L.appended (log_of ledger.old)) (L.appended (log_of ledger.new))) }
+    ensures attached { OnOk result ((hub_of ledger.new).attached ≡ (hub_of ledger.old).attached) }
+    ensures settled { OnOk result (IsSettled L.appended L.synced ledger.new) }
+{
+    client.read(buffer);
+    ask_lines(ledger, client, each)?;
+    settle(ledger, client)
+}
+
+/// What is ready of each connection is read, and its lines are asked.
+pub fn ask_all<D: Sessions + Drop, L: Log + Drop, S: Duplex>(
+    ledger: &mut Ledger<D, L>,
+    row: &mut Vec<Client<S>>,
+    buffer: &mut [u8],
+    each: bool,
+) -> Result<(), LedgerFault>
+    requires attends { Attends (ids row.old.items) (hub_of ledger.old).attached }
+    requires settled { IsSettled L.appended L.synced ledger.old }
+    ensures serves { OnOk result ((steps : List Step) × EachServed S.contents steps row.old.items row.new.items
+        × Makes steps (hub_of ledger.old) (hub_of ledger.new) (L.appended (log_of ledger.old)) (L.appended (log_of ledger.new))) }
+    ensures attends { OnOk result (Attends (ids row.new.items) (hub_of ledger.new).attached) }
+    ensures settled { OnOk result (IsSettled L.appended L.synced ledger.new) }
+{
+    for client in row.iter_mut() {
+        serve(ledger, client, buffer, each)?;
+    }
+    Ok(())
+}
+
+/// The replies of all connections are handed out, and each is sent what its stream takes.
+pub fn send_all<D: Sessions + Drop, L: Log + Drop, S: Duplex>(
+    ledger: &mut Ledger<D, L>,
+    row: &mut Vec<Client<S>>,
+) -> Result<(), LedgerFault>
+    requires attends { Attends (ids row.old.items) (hub_of ledger.old).attached }
+    requires settled { IsSettled L.appended L.synced ledger.old }
+    ensures sends { OnOk result (EachServed S.contents [] row.old.items row.new.items) }
+    ensures hub { OnOk result (hub_of ledger.new ≡ hub_of ledger.old) }
+    ensures appended { OnOk result (Keeps (L.appended (log_of ledger.old)) (L.appended (log_of ledger.new))) }
+    ensures attends { OnOk result (Attends (ids row.new.items) (hub_of ledger.new).attached) }
+    ensures settled { OnOk result (IsSettled L.appended L.synced ledger.new) }
+{
+    for client in row.iter_mut() {
+        release(ledger, client)?;
+        client.send();
+    }
+    Ok(())
+}
+
+/// The connections that are over are let go.
+pub fn let_go<D: Sessions + Drop, L: Log + Drop, S: Drop>(
+    alloc: Global,
+    ledger: &mut Ledger<D, L>,
+    row: &mut Vec<Client<S>>,
+) -> Result<(), LedgerFault>
+    requires attends { Attends (ids row.old.items) (hub_of ledger.old).attached }
+    requires settled { IsSettled L.appended L.synced ledger.old }
+    ensures goes { OnOk result ((steps : List Step) × GivesNone steps × LetsGo row.old.items row.new.items
+        × Makes steps (hub_of ledger.old) (hub_of ledger.new) (L.appended (log_of ledger.old)) (L.appended (log_of ledger.new))) }
+    ensures attends { OnOk result (Attends (ids row.new.items) (hub_of ledger.new).attached) }
+    ensures settled { OnOk result (IsSettled L.appended L.synced ledger.new) }
+{
+    let mut at = 0;
+    'row: while at < row.len() {
+        if row[at].is_over() {
+            part(alloc, ledger, row[at].conn)?;
+            row.remove(at);
+        } else {
+            at += 1;
+        }
+    }
+    Ok(())
+}
+
+/// A connection stands behind the others.
+fn seat<S: Drop>(row: &mut Vec<Client<S>>, client: Client<S>) -> Result<(), LedgerFault>
+    ensures { OnOk result (row.new.items ≡ row.old.items ++ client ∷ []) }
+{
+    match row.push(client) {
+        Ok(()) => Ok(()),
+        Err(_error) => Err(LedgerFault::Memory),
+    }
+}
+
+/// The connections of a row are served: what is ready of each is read, its lines are asked, the replies are sent once all that was appended
+/// stays, and those that are over are let go.
+///
+/// What one is sent or owed are the replies to its own lines, whole and in their order.
+pub fn serve_all<D: Sessions + Drop, L: Log + Drop, S: Duplex + Drop>(
+    alloc: Global,
+    ledger: &mut Ledger<D, L>,
+    row: &mut Vec<Client<S>>,
+    buffer: &mut [u8],
+    each: bool,
+) -> Result<(), LedgerFault>
+    requires attends { Attends (ids row.old.items) (hub_of ledger.old).attached }
+    requires settled { IsSettled L.appended L.synced ledger.old }
+    ensures serves { OnOk result ((steps : List Step) × Serves S.contents steps row.old.items row.new.items
+        × Makes steps (hub_of ledger.old) (hub_of ledger.new) (L.appended (log_of ledger.old)) (L.appended (log_of ledger.new))) }
+    ensures attends { OnOk result (Attends (ids row.new.items) (hub_of ledger.new).attached) }
+    ensures settled { OnOk result (IsSettled L.appended L.synced ledger.new) }
+{
+    ask_all(ledger, row, buffer, each)?;
+    send_all(ledger, row)?;
+    let_go(alloc, ledger, row)
+}
+
+/// A connection comes: it is attached under this number, and stands behind the others. Where the hub refuses it, it is let go, and nothing
+/// has changed.
+pub fn admit<D: Sessions + Drop, L: Log + Drop, S: Drop>(
+    alloc: Global,
+    ledger: &mut Ledger<D, L>,
+    row: &mut Vec<Client<S>>,
+    conn: u64,
+    stream: S,
+) -> Result<(), LedgerFault>
+    requires attends { Attends (ids row.old.items) (hub_of ledger.old).attached }
+    requires settled { IsSettled L.appended L.synced ledger.old }
+    ensures comes { OnOk result ((steps : List Step) × GivesNone steps × Joins row.old.items row.new.items
+        × Makes steps (hub_of ledger.old) (hub_of ledger.new) (L.appended (log_of ledger.old)) (L.appended (log_of ledger.new))) }
+    ensures row { OnOk result ((row.new.items ≡ row.old.items)
+        ⊎ ((client : Client S) × (row.new.items ≡ row.old.items ++ client ∷ []) × (client.conn ≡ conn) × (client.stream ≡ stream) × (owed client ≡ []))) }
+    ensures attends { OnOk result (Attends (ids row.new.items) (hub_of ledger.new).attached) }
+    ensures settled { OnOk result (IsSettled L.appended L.synced ledger.new) }
+{
+    match ledger.attach(conn) {
+        Ok(()) => seat(row, Client::new(alloc, conn, stream)),
+        Err(_fault) => Ok(()),
+    }
+}
+
+/// Whether something of some connection can be done at once.
+pub fn is_any_busy<S>(row: &[Client<S>]) -> bool {
+    row.iter().any(|client| client.is_busy())
+}

@@ -1,0 +1,36 @@
+//! What waits goes to a stream that doesn't block.
+ghost use Rattle.mi_clients.specs.Output.{unsent, Sends};
+
+use crate::duplex::Duplex;
+use crate::output::Output;
+use std::io::ErrorKind;
+
+/// What came of sending.
+#[derive(Clone, Copy, Drop)]
+pub enum Sending {
+    /// All is sent.
+    All,
+    /// The stream takes no more now.
+    Blocked,
+    /// The stream has failed.
+    Failed,
+}
+
+/// Sends what waits, as much as the stream takes now. Each byte is sent or waits still.
+pub fn send_out<S: Duplex>(stream: &mut S, output: &mut Output) -> Sending
+    ensures { Sends S.contents stream.old stream.new (unsent output.old) (unsent output.new) }
+{
+    'out: while !output.waiting().is_empty() {
+        match stream.write(output.waiting()) {
+            Ok(count) if count > 0 => output.pass(count),
+            Ok(_none) => return Sending::Failed,
+            Err(error) => {
+                return match error.kind() {
+                    ErrorKind::WouldBlock => Sending::Blocked,
+                    _ => Sending::Failed,
+                };
+            }
+        }
+    }
+    Sending::All
+}
