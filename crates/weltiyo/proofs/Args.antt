@@ -1,7 +1,7 @@
 -- The arguments of an export that it hands on to its safe function: what type each has in either, and that it is the same. Assumes `Logic`.
 use Rattle.std.proofs.Common.{◌≡◌, ℕ, suc, List, [], ◌∷◌, ◌++◌, refl, ap, ap₂}
 use seplogic.Ra.Ura.{Ura}
-use base.Fml.{Fml, fsep}
+use base.Fml.{fsep}
 use mir.Syntax.{Width, named}
 use mir.Val.{Val}
 use contract.Lifetimes.{Lfts, Within}
@@ -14,7 +14,7 @@ use denote.RattleType.{RattleType, Denots, Valss, flat, owns}
 use denote.Signature.{Slot, plain, types_at, meet_at}
 use denote.Signed.{SInt, sint_vals, sint_Tells, sint_Lawful}
 use denote.Slice.{shr_slice_vals, shr_slice_Tells, shr_slice_Lawful, mut_slice_vals, mut_slice_Tells, mut_slice_Lawful}
-use denote.Triple.End.{Kepts, Fins, all, lasts_of}
+use denote.Triple.End.{Fins, all, lasts_of}
 
 -- An argument of a function of n lifetimes. The safe function has one more, the engine's, which stands first.
 pub record Arg (n : ℕ) : Type 3 where

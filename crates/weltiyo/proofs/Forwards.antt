@@ -2,7 +2,7 @@
 use Rattle.std.proofs.Common.{[], ◌∷◌, refl}
 use seplogic.Ra.Ura.{Ura}
 use mir.Syntax.{Ty, ty_ptr, ty_ref, erased, mut, Local, local, value_local, Fn, Callee, place, copy, assign, seq, call, return, rv_opd, addr_of, deref}
-use mir.Val.{Val, vptr}
+use mir.Val.{Val}
 use contract.Running.{Running, tables}
 use prog.Model.{Model}
 use types.Kit.{raw, ◌$◌, ◌∵◌, !, qed, done, await, learn}

@@ -9,7 +9,7 @@ use base.Fml.{Fml, ftrue, fsep, fex, flft, flent}
 use mir.Syntax.{named, Ty, ty_unit, Fn, Callee}
 use mir.Raw.{raw as bare}
 use mir.Val.{Val, vunit, vbool, vint, vfloat, vptr, vstruct, vcode, WT, has_ty}
-use contract.Lifetimes.{Lfts, Shares, toks}
+use contract.Lifetimes.{Lfts, toks}
 use contract.Monad.{fact}
 use contract.Running.{Running, MachineTables, tables}
 use prog.Model.{Model}
@@ -19,18 +19,17 @@ use types.Logic.{Logic, sem}
 use types.SemTy.{Body}
 use types.Tokens.{lft_new, lft_end}
 use denote.Builtin.{RefMutOf}
-use denote.Exit.{Kept, yes, left}
-use denote.Laws.{Typed, Lawful, Is, Are, Ises, valss, all_Typed, shows}
+use denote.Exit.{yes, left}
+use denote.Laws.{Typed, Lawful, Is, valss, all_Typed, shows}
 use denote.Lend.{lends_ref, ref_back}
 use denote.Memory.{mem, part_at, lone}
 use denote.RattleType.{RattleType, Denots, Valss, mirs, flat, owns}
 use denote.RawPtr.{Ptr, RawPtr, block_ptr, null_ptr, in_a_block, rawptr_vals, rawptr_Tells}
 use denote.Ref.{MutRef, mut_vals}
-use denote.Signature.{Slot, Signature, plain, types_at}
+use denote.Signature.{Slot, plain, types_at}
 use denote.Steps.{nothing, peeks, heard}
 use denote.Triple.Clauses.{Ended, Clauses, Lasts, lasts, at_exit, closing}
-use denote.Triple.End.{Kepts, Fins, Outs, all, lasts_of, outs}
-use denote.Triple.Entry.{alive}
+use denote.Triple.End.{Kepts, Fins, Outs, all, lasts_of}
 use denote.Triple.Spec.{Meets, triple_of}
 use denote.Triple.Table.{framed, enters}
 use denote.Triple.Walked.{Stays, AllGo, walk_of, fits_of, has_of, ends_at, says}
