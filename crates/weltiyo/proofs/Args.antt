@@ -31,29 +31,55 @@ pub record Arg (n : ℕ) : Type 3 where
 module _ {n : ℕ} where
   abbrev pub number : Width → Arg n
   number w = record {
-    outer = plain (λ _. UInt w); inner = plain (λ _. UInt w); spell = λ κs. uint_vals w; tells = λ κs. uint_Tells w; lawful = λ 𝓛 κs. uint_Lawful 𝓛 w;
-    arg = λ κs α x. x; fin = λ κs α x w. w; own = λ κs α x vs. refl; end = λ κs α x w. refl;
+    outer = plain (λ _. UInt w);
+    inner = plain (λ _. UInt w);
+    spell = λ κs. uint_vals w;
+    tells = λ κs. uint_Tells w;
+    lawful = λ 𝓛 κs. uint_Lawful 𝓛 w;
+    arg = λ κs α x. x;
+    fin = λ κs α x w. w;
+    own = λ κs α x vs. refl;
+    end = λ κs α x w. refl;
   }
 
   abbrev pub signed : Width → Arg n
   signed w = record {
-    outer = plain (λ _. SInt w); inner = plain (λ _. SInt w); spell = λ κs. sint_vals w; tells = λ κs. sint_Tells w; lawful = λ 𝓛 κs. sint_Lawful 𝓛 w;
-    arg = λ κs α x. x; fin = λ κs α x w. w; own = λ κs α x vs. refl; end = λ κs α x w. refl;
+    outer = plain (λ _. SInt w);
+    inner = plain (λ _. SInt w);
+    spell = λ κs. sint_vals w;
+    tells = λ κs. sint_Tells w;
+    lawful = λ 𝓛 κs. sint_Lawful 𝓛 w;
+    arg = λ κs α x. x;
+    fin = λ κs α x w. w;
+    own = λ κs α x vs. refl;
+    end = λ κs α x w. refl;
   }
 
   -- at the lifetime j
   abbrev pub slice : (R : RattleType) → One R.mir → (j : ℕ) → Within n j → Arg n
   slice R one j ok = record {
-    outer = SliceRefOf (j ∷ []) ok (plain (λ _. R)) (λ _. one); inner = SliceRefOf (suc j ∷ []) ok (plain (λ _. R)) (λ _. one); spell = λ κs. shr_slice_vals;
-    tells = λ κs. shr_slice_Tells (named j) (meet_at n (j ∷ []) ok κs) R; lawful = λ 𝓛 κs. shr_slice_Lawful 𝓛 (named j) (meet_at n (j ∷ []) ok κs) R;
-    arg = λ κs α x. x; fin = λ κs α x w. w; own = λ κs α x vs. refl; end = λ κs α x w. refl;
+    outer = SliceRefOf (j ∷ []) ok (plain (λ _. R)) (λ _. one);
+    inner = SliceRefOf (suc j ∷ []) ok (plain (λ _. R)) (λ _. one);
+    spell = λ κs. shr_slice_vals;
+    tells = λ κs. shr_slice_Tells (named j) (meet_at n (j ∷ []) ok κs) R;
+    lawful = λ 𝓛 κs. shr_slice_Lawful 𝓛 (named j) (meet_at n (j ∷ []) ok κs) R;
+    arg = λ κs α x. x;
+    fin = λ κs α x w. w;
+    own = λ κs α x vs. refl;
+    end = λ κs α x w. refl;
   }
 
   abbrev pub buffer : (R : RattleType) → One R.mir → (j : ℕ) → Within n j → Arg n
   buffer R one j ok = record {
-    outer = SliceRefMutOf (j ∷ []) ok (plain (λ _. R)) (λ _. one); inner = SliceRefMutOf (suc j ∷ []) ok (plain (λ _. R)) (λ _. one); spell = λ κs. mut_slice_vals;
-    tells = λ κs. mut_slice_Tells (named j) (meet_at n (j ∷ []) ok κs) R; lawful = λ 𝓛 κs. mut_slice_Lawful 𝓛 (named j) (meet_at n (j ∷ []) ok κs) R;
-    arg = λ κs α x. x; fin = λ κs α x w. w; own = λ κs α x vs. refl; end = λ κs α x w. refl;
+    outer = SliceRefMutOf (j ∷ []) ok (plain (λ _. R)) (λ _. one);
+    inner = SliceRefMutOf (suc j ∷ []) ok (plain (λ _. R)) (λ _. one);
+    spell = λ κs. mut_slice_vals;
+    tells = λ κs. mut_slice_Tells (named j) (meet_at n (j ∷ []) ok κs) R;
+    lawful = λ 𝓛 κs. mut_slice_Lawful 𝓛 (named j) (meet_at n (j ∷ []) ok κs) R;
+    arg = λ κs α x. x;
+    fin = λ κs α x w. w;
+    own = λ κs α x vs. refl;
+    end = λ κs α x w. refl;
   }
 
   -- ---- of all
