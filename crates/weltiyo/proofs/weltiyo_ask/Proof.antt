@@ -1,112 +1,26 @@
 -- The engine at the pointer is lent to `asked` for the call, and lies there again at its new state; the caller's buffer is handed on.
-use Rattle.std.proofs.Common.{◌≡◌, ℕ, [], ◌∷◌, ◌++◌, length, refl, ap, w64, MutBor}
-use Rattle.std.proofs.raw_atomic.Walks.{proved}
-use base.Fraction.{full_share}
-use base.Logic.{id⊢, never, fst∗}
-use base.Fml.{ftrue, fex, flft, flent}
-use mir.Syntax.{named}
-use mir.Raw.{raw as bare}
-use mir.Val.{vint, vptr}
-use contract.Monad.{fact}
+use Rattle.std.proofs.Common.{[], ◌∷◌, refl, w64}
 use contract.Running.{tables}
-use prog.Wp.{WpFn}
-use types.Kit.{‵, raw, ◌⊛◌, some, later, prop, ◌$◌, ◌∵◌, !, qed, done, move, keep, drop, use1, use2, use3, split, join, fsplit, fjoin, fpack, feq_l, flt_l, pick, await, regoal, suffices, group}
-use types.Logic.{sem}
-use types.Run.{enter, of_opd, addr, from, fld, hop, stop, no_more, and_then, returns}
+use types.Kit.{raw, ◌$◌, ◌∵◌, !, qed, done, await, learn}
+use types.Run.{enter, of_opd, addr, calls, stop, fld, hop, from, no_more, and_then, returns}
 use types.Part.{whole, sub, agg}
 use types.ByLocal.{alloc_all, pass_all, free_all, look_at, look_in_at, get, get_in, through, sets, lands_as}
-use types.SemTy.{Body}
-use types.Tokens.{lft_new, lft_end}
-use denote.Builtin.{u8, u64, usize, SliceRefOf}
-use denote.Exit.{yes}
-use denote.Lend.{lends_ref, ref_back}
-use denote.Memory.{mem, part_at, lone}
-use denote.Plain.{uint_Makes, uint_vals, uint_Tells}
-use denote.RattleType.{owns}
-use denote.RawPtr.{Ptr, RawPtr, block_ptr, null_ptr, in_a_block, rawptr_vals, rawptr_Tells}
-use denote.Ref.{MutRef, mut_vals}
-use denote.Signature.{plain, types_at}
-use denote.Slice.{shr_slice_vals, shr_slice_Tells, mut_slice_vals, mut_slice_Tells}
-use denote.Steps.{nothing, owned, heard, only}
-use denote.Triple.Call.{calls_at}
-use denote.Triple.Clauses.{Lasts, lasts}
-use denote.Triple.Spec.{triple_of}
+use denote.Builtin.{u8, usize}
+use denote.Memory.{lone}
+use denote.Plain.{uint_Lawful}
 use denote.Triple.Table.{framed}
-use denote.Triple.Walked.{Stays, walk_of, stay_dropped, gave_slice, Goes-dropped, Goes-gave_slice, ends_at}
-use Rattle.std_alloc.specs.Box.Ownership.{box_owns}
-use Rattle.libc.specs.Heap.{chunk}
-use Rattle.mi_commands.specs.Answer.{MayGive}
-use Rattle.mi_embed.specs.State.{EngineState, line_of, IsCopied}
-use Rattle.mi_embed.specs.contracts.engine.Engine.{the_row as R}
 use Rattle.weltiyo.specs.contracts.weltiyo_ask as f
 use Rattle.weltiyo.proofs.weltiyo_ask.Statement.{statement}
 use Rattle.weltiyo.proofs.weltiyo_ask.Code as code
 use Rattle.weltiyo.specs.contracts.asked as g
 use Rattle.weltiyo.proofs.asked.Met.{met}
-
-abbrev stayed : Stays f.ended.signature.params f.ended.kept
-stayed = (stay_dropped _ yes, (stay_dropped _ yes, (stay_dropped _ yes, (gave_slice (1 ∷ []) tt (plain (λ _. u8)), tt))))
+use Rattle.weltiyo.proofs.Args.{buffer, number, slice}
+use Rattle.weltiyo.proofs.Lent.{lent, changes_thrice, Asked, after}
 
 pub weltiyo_ask_spec : {M : Type 1} → statement M
 weltiyo_ask_spec 𝓤 𝓛 𝓜 𝓡 wired =
-    let c = f.clauses 𝓛 𝓜.mem 𝓡.returns in let W = walk_of 𝓛 f.ended stayed c in let 𝓣 = tables 𝓤 𝓛.H 𝓜 𝓡 𝓡.env in
-    proved 𝓛 f.ended stayed c 𝓜 𝓡 (
-      Goes-dropped 𝓛 2 (plain (λ _. RawPtr)) yes (λ κs x w. refl),
-      (
-        Goes-dropped 𝓛 2 (plain (λ _. u64)) yes (λ κs x w. refl),
-        (Goes-dropped 𝓛 2 (SliceRefOf (0 ∷ []) tt (plain (λ _. u8)) (λ κs. tt)) yes (λ κs x w. refl), (Goes-gave_slice 𝓛 2 1 tt (plain (λ _. u8)), tt)),
-      ),
-    )
-    f.Key.name code.function (code.unfolded 𝓤 𝓛.H 𝓜 𝓡 wired)
-    (λ κs. (rawptr_vals, (uint_vals w64, (shr_slice_vals, (mut_slice_vals, tt)))))
-    (λ κs. (rawptr_Tells, (uint_Tells w64, (shr_slice_Tells (named 0) κs.0 u8, (mut_slice_Tells (named 1) κs.1.0 u8, tt))))) (λ κs qs bounds a h are.
-    let κ = κs.0 in let q = qs.0 in let ρ = κs.1.0 in let p = qs.1.0 in let conn = a.1.0 in let line = a.1.1.0 in let out = a.1.1.1.0 in let tok = chunk in
-    let count = are.1.1.1.0.0.1.0 in
-    let y : Ptr → W.Ghost = λ at. ((κs, qs, bounds, (at, (conn, (line, (out, tt)))), (rawptr_vals at, (uint_vals w64 conn, (shr_slice_vals line, (mut_slice_vals out, tt))))), h) in
-    qed 𝓛 (((‵ (flft κ q) ⊛ ‵ (flft ρ p) ⊛ ‵ ftrue) ⊛ ‵ (owns (types_at f.signature.params κs) a (y a.0).0.4)) ∷ ‵ (box_owns tok R a.0 h) ∷ []) ∵
-    split ! $ move ! (1 ∷ []) $ fsplit ! $ drop ! $ fsplit ! $ drop ! $ fsplit ! $ move ! (1 ∷ []) $ fsplit ! $ move ! (4 ∷ []) $
-    -- [the box; the buffer; nothing; the line; their tokens]
-    in_a_block ! a.0 (λ at. box_owns tok R at h) (fst∗ 𝓤 (never 𝓤) (sem 𝓛 (tok (bare (lone R.mir)) null_ptr))) (λ b o e.
-    regoal ! (λ at. prop (WpFn 𝓤 𝓛.H 𝓣.C 𝓣.Λ code.function (rawptr_vals at ++ (uint_vals w64 conn ++ (shr_slice_vals line ++ (mut_slice_vals out ++ [])))) (W.post (y at)))) e refl $
-    fsplit ! $
-    enter ! _ _ _ _ _ $ alloc_all ! (λ l. pass_all ! refl (
-      (tt, tt),
-      (
-        (tt, record { fits = are.1.0.1 }),
-        ((tt, (tt, (record { fits = are.1.1.0.0.1.0 }, tt))), ((tt, (tt, (record { fits = count }, tt))), tt)),
-      ),
-    ) $
-    sets ! (of_opd ! (get ! refl)) refl (tt, tt) $
-    sets ! (addr ! (through ! refl (stop !))) refl (tt, tt) $
-    sets ! (addr ! (from ! (fld ! refl (hop ! (look_in_at ! 4 (sub ! 0 refl (whole !))) (stop !))))) refl (tt, tt) $
-    sets ! (agg ! (and_then ! (get ! refl) (and_then ! (get_in ! (fld ! refl (stop !)) (sub ! 1 refl (whole !))) (no_more !)))) refl (tt, (tt, (record { fits = count }, tt))) $
-    lft_new ! tt (λ α. move ! (1 ∷ []) $
-    use1 𝓛 (later (some (λ (γ : ℕ). ‵ ((MutRef (named 0) (α ∷ []) R).own_val (record { ref_ptr = (b, o); ghost_name = γ; now = h }) (vptr b o ∷ [])) ⊛ ‵ (flent (α ∷ []) (Body (mem R) b o γ)))))
-    (lends_ref 𝓛 R (named 0) (α ∷ []) h b o) $ await ! tt $ pick ! (λ γ. split ! $
-    -- [the loan; what the lender keeps; the token of α; the right to free; the buffer; nothing; the line; their tokens]
-    let loan : MutBor EngineState = record { ref_ptr = (b, o); ghost_name = γ; now = h } in
-    let G = triple_of 𝓛 g.signature (g.spec 𝓛 𝓜.mem 𝓡.returns) in
-    let z : G.Ghost = (((α ∷ [], (κ, (ρ, tt))), (full_share, (q, (p, tt))), tt, (loan, (conn, (line, (out, tt)))), (mut_vals loan, (uint_vals w64 conn, (shr_slice_vals line, (mut_slice_vals out, tt))))), tt) in
-    nothing ! $ move ! (5 ∷ 0 ∷ []) $ join ! $ move ! (6 ∷ 0 ∷ []) $ join ! $ owned ! u64 _ (uint_Makes 𝓛 w64) conn _ (refl, are.1.0.1) $ join ! $ move ! (1 ∷ 0 ∷ []) $ join ! $
-    move ! (2 ∷ 5 ∷ []) $ join ! $ join ! $ nothing ! $ move ! (1 ∷ 0 ∷ []) $ use2 𝓛 (raw (G.pre z)) (id⊢ 𝓤 _) $
-    calls_at ! (framed 𝓤 𝓛.H 𝓜 (tables 𝓤 𝓛.H 𝓜 𝓡 𝓡.env)) G (met 𝓤 𝓛 𝓜 𝓡 (code.calls-weltiyo::asked 𝓡.env wired)) z
-    (and_then ! (get ! refl) (and_then ! (get ! refl) (and_then ! (get ! refl) (and_then ! (get ! refl) (no_more !))))) (λ v.
-    use1 𝓛 (later (some (λ (r : ℕ). ((‵ (flft (α ∷ []) full_share) ⊛ (‵ (flft κ q) ⊛ (‵ (flft ρ p) ⊛ ‵ ftrue))) ⊛ ‵ (usize.own_val r (v ∷ []))) ⊛
-    some (λ (ws : Lasts g.ended z.0.0 z.0.3). ‵ (lasts g.ended z.0.0 z.0.3 ws) ⊛ (raw (fact 𝓤 (MayGive conn h.held (line_of line.now) ws.0.reply ws.0.held)) ⊛
-    (raw (fact 𝓤 (r ≡ length ws.0.reply)) ⊛ raw (fact 𝓤 ((count : ℕ) × IsCopied ws.0.reply 0 out.now ws.1.1.1.0 count)))))))) (id⊢ 𝓤 _) $
-    await ! tt $ pick ! (λ r. split ! $ split ! $ split ! $ lft_end ! tt $ move ! (2 ∷ []) $ fsplit ! $ feq_l ! (λ is_r. flt_l ! (λ fits.
-    lands_as ! (ap only is_r) refl (tt, record { fits = fits }) $
-    -- [α is over; the tokens; what the callee left; what the lender keeps; the right to free; nothing]
-    move ! (2 ∷ []) $ pick ! (λ ws. split ! $ move ! (1 ∷ []) $ split ! $ heard ! _ (λ gives. split ! $ heard ! _ (λ says_r. heard ! _ (λ is_copied. fsplit ! $ fsplit ! $
-    -- [the loan's last value; its borrow; what is left of the others; α is over; the tokens; what the lender keeps; the right to free; nothing]
-    move ! (3 ∷ 5 ∷ 0 ∷ []) $ use3 𝓛 (later (‵ (part_at R full_share ws.0 b o))) (ref_back 𝓛 R (α ∷ []) γ ws.0 b o) $ await ! tt $
-    move ! (2 ∷ []) $ fsplit ! $ drop ! $ fsplit ! $ drop ! $ fsplit ! $ fsplit ! $ fsplit ! $ move ! (1 ∷ []) $ feq_l ! (λ counted. fjoin ! $
-    -- [the buffer; nothing; the engine; its borrow; the tokens; the right to free; nothing]
-    returns ! (look_at ! 0 refl) $ free_all ! refl $ keep ! (2 ∷ 5 ∷ 0 ∷ 4 ∷ []) $
-    suffices ! _ (ends_at 𝓛 f.ended stayed c (y (block_ptr b o)) (vint w64 r) r (tt, (tt, (tt, (ws.1.1.1.0, tt)))) (tt, (tt, (tt, (counted, tt))))) $
-    fjoin ! $ fpack ! ((MayGive conn h.held (line_of line.now) ws.0.reply ws.0.held) × (r ≡ length ws.0.reply) × ((count : ℕ) × IsCopied ws.0.reply 0 out.now ws.1.1.1.0 count))
-    (λ _. box_owns tok R (block_ptr b o) ws.0) (gives, says_r, is_copied) $
-    fpack ! EngineState (λ new. fex ((MayGive conn h.held (line_of line.now) new.reply new.held) × (r ≡ length new.reply) × ((count : ℕ) × IsCopied new.reply 0 out.now ws.1.1.1.0 count))
-    (λ _. box_owns tok R (block_ptr b o) new)) ws.0 $
-    owned ! usize _ (uint_Makes 𝓛 w64) r _ (refl, fits) $ nothing ! $ move ! (3 ∷ 0 ∷ []) $ join ! $ nothing ! $ join ! $ nothing ! $ join ! $ nothing ! $ join ! $
-    move ! (3 ∷ []) $ group ! 3 $ done !))))))))))))))
+    lent 𝓛 𝓜 𝓡 2 (number w64 ∷ slice u8 tt 0 tt ∷ buffer u8 tt 1 tt ∷ []) usize (λ κs a. (f.clauses 𝓛 𝓜.mem 𝓡.returns κs a).ensures) (λ κs a. (g.clauses 𝓛 𝓜.mem 𝓡.returns κs a).ensures) (uint_Lawful 𝓛 w64)
+    _ code.function (code.unfolded 𝓤 𝓛.H 𝓜 𝓡 wired) _ (met 𝓤 𝓛 𝓜 𝓡 (code.calls-weltiyo::asked 𝓡.env wired)) (λ κs a typed b o K.
+    qed 𝓛 (raw (Asked 𝓛 𝓜 𝓡 _ (lone usize.mir) _ b o K) ∷ []) ∵ enter ! _ _ _ _ _ $ alloc_all ! (λ l. pass_all ! refl ((tt, tt), typed) $ sets ! (of_opd ! (get ! refl)) refl (tt, tt) $ sets ! (addr ! (through ! refl (stop !))) refl (tt, tt) $
+    sets ! (addr ! (from ! (fld ! refl (hop ! (look_in_at ! 4 (sub ! 0 refl (whole !))) (stop !))))) refl (tt, tt) $ sets ! (agg ! (and_then ! (get ! refl) (and_then ! (get_in ! (fld ! refl (stop !)) (sub ! 1 refl (whole !))) (no_more !)))) refl typed.1.1.0 $
+    calls ! (framed 𝓤 𝓛.H 𝓜 (tables 𝓤 𝓛.H 𝓜 𝓡 𝓡.env)) (after (lone usize.mir) K) (and_then ! (get ! refl) (and_then ! (get ! refl) (and_then ! (get ! refl) (and_then ! (get ! refl) (no_more !))))) (λ v. await ! tt $ learn ! (λ fits. lands_as ! refl refl fits $ returns ! (look_at ! 0 refl) $ free_all ! refl $ done !)))) (λ κs α a loan r w ws p. changes_thrice 𝓛 _ _ _ _ _)
