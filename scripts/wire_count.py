@@ -65,7 +65,7 @@ def kinds_over(rows):
 STAGES = [
     ("memory", r"rattle_(alloc|realloc|dealloc)$|(_int_|__libc_)?(malloc|free|realloc|calloc)\b|malloc_consolidate|unlink_chunk|sysmalloc|std_heap::"),
     ("moves", r"(__)?(mem(cpy|move|set|pcpy)|bcopy|bzero)(_|$)"),
-    ("reply", r"mi_protocol::(reply|rows|labels|cells|shown)|mi_print::|mi_hub::send|mi_program::buffered|itoa::"),
+    ("reply", r"mi_protocol::reply|mi_rows::|mi_print::|mi_hub::send|mi_program::buffered|itoa::"),
     ("reading", r"mi_request::|mi_tokens::|serde_json::|json::|simdutf8::|fast_float::|bumpalo::|mi_hub::line"),
     ("binding", r"mi_protocol::|mi_catalog::"),
     ("conflicts", r"mi_multi::conflicts"),

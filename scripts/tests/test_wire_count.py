@@ -70,6 +70,7 @@ class Stages(unittest.TestCase):
             ("mi_index::structure::link_tree", "trees"),
             ("mi_index::all::link_all", "container"),
             ("mi_protocol::reply::Reply::text", "reply"),
+            ("mi_rows::rows::row_text", "reply"),
             ("mi_protocol::row::bind_row", "binding"),
             ("mi_hub::line::LineBuffer::fill", "reading"),
             ("mi_hub::hub::Hub::feed::<#a3>", "commands"),

@@ -35,7 +35,7 @@ use Rattle.mi_protocol.specs.Edits.{addition, edit_of, with_edit, edits_from, bo
 use Rattle.mi_request.specs.Json.{has_only, option_map₂}
 use Rattle.mi_protocol.specs.Keys.{plain_values, if_key, bound_key, bound_lower, bound_upper}
 use Rattle.mi_catalog.specs.Kinds.{has_keys, is_sequenced, is_sorted, is_ranked, is_hashed}
-use Rattle.mi_protocol.specs.Rows.{short_text, fitting, values_of, bound_row}
+use Rattle.mi_protocol.specs.Values.{short_text, fitting, values_of, bound_row}
 use Rattle.mi_protocol.specs.Binding.{and_then, table_number, of_kind, index_number, bound_place, bound_insert, bound_replace}
 use Rattle.mi_protocol.specs.Binding.{bound_modify, named_key, bound_ends, bound_range, bound_relocate, bound_command, FitsCatalog}
 use Rattle.mi_request.specs.declared.request.End.{End}

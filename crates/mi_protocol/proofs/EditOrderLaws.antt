@@ -12,7 +12,7 @@ use Rattle.mi_value.specs.declared.edit.Edit.TheVariants as edit
 use Rattle.mi_value.specs.Edits.{column_of, SparesColumn, NamesEachOnce}
 use Rattle.mi_catalog.specs.declared.index.Column.{Column}
 use Rattle.mi_request.specs.Json.{option_map₂}
-use Rattle.mi_protocol.specs.Rows.{fitting}
+use Rattle.mi_protocol.specs.Values.{fitting}
 use Rattle.mi_protocol.specs.Edits.{edit_of, with_edit, edits_from}
 use Rattle.mi_protocol.specs.EditOrder.{LinesEditColumnsOnce}
 

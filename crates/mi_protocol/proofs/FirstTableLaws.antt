@@ -8,7 +8,7 @@ use Rattle.mi_catalog.specs.Kinds.{is_sequenced, is_sorted, is_ranked}
 use Rattle.mi_catalog.specs.Shape.{schema_at}
 use Rattle.mi_request.specs.declared.request.Request.TheVariants as request
 use Rattle.mi_protocol.specs.declared.binding.Command.{Command}
-use Rattle.mi_protocol.specs.Rows.{bound_row}
+use Rattle.mi_protocol.specs.Values.{bound_row}
 use Rattle.mi_protocol.specs.Edits.{bound_edits}
 use Rattle.mi_protocol.specs.Binding.{and_then, bound_place, whole_key, key_or_prefix, ranked_key, index_number, bound_ends}
 use Rattle.mi_protocol.specs.FirstTable.{IsOverFirst, NoNameIsTheFirst, OtherTablesAreNotSeen}

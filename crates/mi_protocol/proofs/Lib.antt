@@ -2,9 +2,7 @@ pub mod AnswerLemmas
 pub mod BindingLemmas
 pub mod EditLemmas
 pub mod KeyLemmas
-pub mod LabelLemmas
 pub mod ReplyLemmas
 pub mod RowLemmas
 pub mod FirstTableLaws
 pub mod EditOrderLaws
-pub mod ShownLemmas

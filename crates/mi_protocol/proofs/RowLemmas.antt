@@ -1,6 +1,7 @@
 -- Rows, column by column.
 use Rattle.std.proofs.Common.{◌≡◌, ℕ, List, [], ◌∷◌, map, not, ◌&&◌, Bool, true, false}
-use Rattle.std.proofs.Common.{Option, Some, None, ◌++◌, option_map, option_and_then, refl, sym, ap, ap₂, ◌∙◌, ◌||◌, true≢false, subst, append_assoc, if◌then◌else◌}
+use Rattle.std.proofs.Common.{Option, Some, None, ◌++◌, option_map, option_and_then, refl, sym, ap, ap₂, ◌∙◌, ◌||◌, true≢false, subst, append_assoc}
+use Rattle.std.proofs.Common.{if◌then◌else◌}
 use Rattle.std.specs.List.{list_any, list_all}
 use Rattle.std.specs.Str.{bytes_eq}
 use Rattle.std.proofs.lemmas.Slice.Eq.{bytes_eq-Decides}
@@ -14,7 +15,7 @@ use Rattle.mi_catalog.specs.Rules.{are_distinct}
 use Rattle.mi_request.proofs.ObjectLemmas.{Member, has_only-names, present}
 use Rattle.mi_request.specs.Json.{option_map₂}
 use Rattle.mi_request.specs.Meant.{seen, meant_members, members_seen, or_first, last_at}
-use Rattle.mi_protocol.specs.Rows.{fitting, values_of, bound_row}
+use Rattle.mi_protocol.specs.Values.{fitting, values_of, bound_row}
 
 -- ---- from an object to a record
 

@@ -14,7 +14,7 @@ use Rattle.serde_json.specs.Data.{Items, Members}
 use Rattle.mi_protocol.specs.Edits.{bound_edits}
 use Rattle.mi_protocol.specs.Keys.{bound_key, bound_lower, bound_upper}
 use Rattle.mi_catalog.specs.Kinds.{has_keys, is_sequenced, is_sorted, is_ranked, is_hashed}
-use Rattle.mi_protocol.specs.Rows.{bound_row}
+use Rattle.mi_protocol.specs.Values.{bound_row}
 use Rattle.mi_request.specs.declared.request.End.{End}
 use Rattle.mi_request.specs.declared.request.Place.{Place}
 use Rattle.mi_request.specs.declared.request.Request.{Request}

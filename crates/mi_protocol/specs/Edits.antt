@@ -8,7 +8,7 @@ use Rattle.mi_value.specs.declared.edit.Edit.{Edit}
 use Rattle.mi_value.specs.declared.edit.Edit.TheVariants as edit
 use Rattle.mi_catalog.specs.declared.index.Column.{Column}
 use Rattle.mi_request.specs.Json.{has_only, option_map₂}
-use Rattle.mi_protocol.specs.Rows.{fitting}
+use Rattle.mi_protocol.specs.Values.{fitting}
 
 -- an addition to column x, which must be an `int`, of a whole number
 abbrev pub addition : ℕ → ColumnType → Data → Option Edit

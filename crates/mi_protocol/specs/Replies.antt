@@ -7,7 +7,7 @@ use Rattle.mi_value.specs.declared.refusal.Refusal.{Refusal}
 use Rattle.mi_value.specs.declared.refusal.Refusal.TheVariants.{Unique, Lost}
 use Rattle.mi_value.specs.declared.value.Value.{Value}
 use Rattle.mi_catalog.specs.Shape.{CatalogShape, schema_at, index_at}
-use Rattle.mi_protocol.specs.Rows.{row_data, rows_items}
+use Rattle.mi_rows.specs.Rows.{row_data, rows_items}
 use Rattle.mi_protocol.specs.declared.reply.Reply.{Reply}
 use Rattle.mi_protocol.specs.declared.reply.Reply.TheVariants as reply
 

@@ -7,7 +7,7 @@ use Rattle.mi_value.specs.declared.refusal.Refusal.{Refusal}
 use Rattle.mi_value.specs.declared.refusal.Refusal.TheVariants.{Unique, Lost}
 use Rattle.mi_catalog.specs.Shape.{CatalogShape, schema_at}
 use Rattle.mi_catalog.specs.Rules.{is_catalog}
-use Rattle.mi_protocol.specs.Rows.{row_data, rows_items}
+use Rattle.mi_rows.specs.Rows.{row_data, rows_items}
 use Rattle.mi_protocol.specs.Replies.{Said, inserted, done, erased, shown, revised, committed, undone, pushed, status}
 use Rattle.mi_protocol.specs.Replies.{counted, ranked, sized, rows, refused_modify, refused, index_name, reply_text, IsSaidOf}
 

@@ -1,21 +1,17 @@
 //! Requests to commands over a catalog, and replies to text. How lines are read to requests stands in `mi_request`, which is
-//! handed on. It knows nothing of tables' rows, sessions or connections; it reads and writes no stream.
+//! handed on; the text of rows stands in `mi_rows`. It knows nothing of tables' rows, sessions or connections; it reads and writes no stream.
 #![tactic(auto)]
 
 mod binding;
-mod cells;
 mod changes;
 mod columns;
 mod edits;
 mod indexes;
 mod keys;
-mod labels;
 mod laws;
 mod look_ups;
 mod reply;
 mod row;
-mod rows;
-mod shown;
 mod text;
 
 pub use binding::{Command, bind};

@@ -6,11 +6,11 @@ ghost use Rattle.mi_protocol.specs.Replies as replies;
 ghost use Rattle.mi_protocol.specs.Replies.{reply_text, said, is_short, index_name, IsSaidOf, IsRefusalOf};
 ghost use Rattle.mi_protocol.specs.Text.{text_bytes, is_short_text};
 
-use crate::rows::{row_text, rows_text};
 use crate::text::ReplyText;
 use arrayvec::ArrayVec;
 use itoa::Buffer;
 use mi_catalog::Catalog;
+use mi_rows::{row_text, rows_text};
 use mi_value::limits::SHORT_REPLY;
 use mi_value::{Record, Refusal};
 use std::alloc::Global;

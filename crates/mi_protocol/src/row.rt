@@ -4,8 +4,8 @@ ghost use Rattle.serde_json.specs.Find.{get_member};
 ghost use Rattle.std.specs.Option.{ok_or};
 ghost use Rattle.mi_request.specs.Answers.{IsAnswer};
 ghost use Rattle.mi_request.specs.Meant.{seen, members_seen};
-ghost use Rattle.mi_protocol.specs.Rows as rows;
-ghost use Rattle.mi_protocol.specs.Rows.{bound_row};
+ghost use Rattle.mi_protocol.specs.Values as given;
+ghost use Rattle.mi_protocol.specs.Values.{bound_row};
 ghost use Rattle.mi_value.specs.Lent.{lent};
 ghost use Rattle.mi_value.specs.declared.limits.TheConstants.{MAX_COLUMNS};
 ghost use Rattle.mi_catalog.specs.Rules.{are_distinct};
@@ -25,7 +25,7 @@ const FEW: usize = 4;
 /// A text of at most 1,024 bytes.
 #[inline(always)]
 fn short_text(text: &str) -> Option<ValueRef<'_>>
-    ensures { option_map lent result ≡ rows.short_text text.now }
+    ensures { option_map lent result ≡ given.short_text text.now }
 {
     if text.len() <= MAX_TEXT {
         Some(ValueRef::Text(text))
@@ -37,7 +37,7 @@ fn short_text(text: &str) -> Option<ValueRef<'_>>
 /// The value that fits a column of this type, lent by the line.
 #[inline(always)]
 fn fitting<'a>(kind: ColumnType, value: &Tree<'a>) -> Option<ValueRef<'a>>
-    ensures { option_map lent result ≡ rows.fitting kind (seen value.now) }
+    ensures { option_map lent result ≡ given.fitting kind (seen value.now) }
 {
     match kind {
         ColumnType::Int => Some(ValueRef::Int(whole_in(value)?)),
@@ -48,7 +48,7 @@ fn fitting<'a>(kind: ColumnType, value: &Tree<'a>) -> Option<ValueRef<'a>>
 
 /// The value that fits a column of this type. A text is copied. Refusals: `Row` and `Memory`.
 pub(crate) fn fit(alloc: Global, kind: ColumnType, value: &Tree<'_>) -> Result<Value, Refusal>
-    ensures { IsAnswer result (ok_or (rows.fitting kind (seen value.now)) Refusal.Row) }
+    ensures { IsAnswer result (ok_or (given.fitting kind (seen value.now)) Refusal.Row) }
 {
     let value = fitting(kind, value).ok_or(Refusal::Row)?;
     Ok(value.to_value(alloc)?)
@@ -84,7 +84,7 @@ fn put_in_order<'a, const N: usize>(
 
 /// The value of a column's member, if it is there and fits.
 fn value_in<'a>(row: &Object<'a>, column: &Column) -> Option<ValueRef<'a>>
-    ensures { option_map lent result ≡ option_and_then (rows.fitting column.now.kind) (get_member column.now.name row.now) }
+    ensures { option_map lent result ≡ option_and_then (given.fitting column.now.kind) (get_member column.now.name row.now) }
 {
     fitting(column.kind, row.get(column.name.as_str())?)
 }

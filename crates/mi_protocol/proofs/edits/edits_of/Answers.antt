@@ -30,5 +30,5 @@ returns-in_err-edit c =
     let l = c.columns in
     let p = err_from_is_err_and c.from_residual.result c.from_residual.ensures.1 in
     refused c.from_residual.result p.0 _ _ _ _ p.1 p.2
-    (no_step (edits_in l.edits) l.i c.args.columns.now c.index-columns-i.result c.args.set.now c.args.add.now c.index-columns-i.is c.columns-test.true l.invariant)
-    c.in_err-edit.ensures
+    (no_step (edits_in l.edits) l.i c.args.columns.now c.index-columns-i.result c.args.set.now c.args.add.now c.index-columns-i.is
+    c.columns-test.true l.invariant) c.in_err-edit.ensures

@@ -3,7 +3,7 @@ use Rattle.std.proofs.Common.{◌∷◌, ◌++◌, ◌+◌, Some, map, option_ma
 use Rattle.std.proofs.lemmas.List.{drop_more}
 use Rattle.serde_json.specs.Find.{get_member}
 use Rattle.mi_request.specs.Json.{option_map₂}
-use Rattle.mi_protocol.specs.Rows.{fitting, values_of}
+use Rattle.mi_protocol.specs.Values.{fitting, values_of}
 use Rattle.mi_value.specs.Lent.{lent}
 use Rattle.mi_protocol.proofs.RowLemmas.{one_more, in_front_none}
 use Rattle.mi_protocol.proofs.row.record_of.Goals as goal

@@ -1,7 +1,7 @@
 use Rattle.std.proofs.Common.{◌≡◌, ◌++◌, drop, map, option_map}
 use Rattle.arrayvec.specs.ArrayVec.{array_vec_len}
 use Rattle.mi_value.specs.Lent.{lent}
-use Rattle.mi_protocol.specs.Rows.{values_of}
+use Rattle.mi_protocol.specs.Values.{values_of}
 use Rattle.mi_protocol.proofs.row.record_of.Given as goal
 
 -- the values so far, and those of the columns to come, are those of all

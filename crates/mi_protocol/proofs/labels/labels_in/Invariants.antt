@@ -1,9 +1,0 @@
-use Rattle.std.proofs.Common.{◌≡◌, ◌++◌, drop, map}
-use Rattle.arrayvec.specs.ArrayVec.{array_vec_len}
-use Rattle.mi_protocol.specs.Labels.{label_of}
-use Rattle.mi_protocol.proofs.labels.labels_in.Given as goal
-
--- the labels so far: with those of the members to come they are all
-abbrev pub invariant-members : goal.invariant-members
-invariant-members l =
-    (l.labels.items ++ map label_of (drop l.member-index l.order) ≡ map label_of l.order) × (array_vec_len l.labels ≡ l.member-index)

@@ -1,0 +1,94 @@
+-- Labels stand for members: the same text, and the same room.
+use Rattle.std.proofs.Common.{◌≡◌, ℕ, zero, suc, ◌+◌, ◌≤◌, List, [], ◌∷◌, ◌++◌, drop, map, length, get_or, ◌*◌, ◌<◌, Bool, true, false}
+use Rattle.std.proofs.Common.{Ordering, Less, Equal, Greater, nat_cmp, ℤ, pos, negsuc, refl, sym, ap, ◌∙◌, append_assoc, add-one, arith}
+use Rattle.std.specs.Prelude.{Option, Some, None, IfSome}
+use Rattle.std.proofs.lemmas.List.{drop_more, get_or-map, length-map}
+use Rattle.mi_value.specs.Lent.{lent}
+use Rattle.mi_value.specs.declared.value.ValueRef.{ValueRef}
+use Rattle.std.specs.Fmt.{signed_decimal}
+use Rattle.std.specs.Ordering.{match_ordering}
+use Rattle.std.specs.Cmp.Lexicographic.{slice_cmp}
+use Rattle.json.specs.Print.{quoted}
+use Rattle.serde_json.specs.Data.{number}
+use Rattle.serde_json.specs.Find.{of_integer}
+use Rattle.serde_json.specs.Written.{compact_text, comma_if, members_text}
+use Rattle.mi_value.specs.declared.value.Value.{Value}
+use Rattle.mi_catalog.specs.declared.index.Column.{Column}
+use Rattle.arrayvec.specs.ArrayVec.{ArrayVec}
+use Rattle.mi_rows.specs.Rows.{row_members, value_data}
+use Rattle.mi_rows.specs.Shown.{first_data, source_data, shown_members, with_member}
+use Rattle.mi_rows.specs.Labels.{label_of, labelled_text, texts_room, text_room, first_room, source_room, labels_room, members_room, LabelShape, AreLabels}
+use Rattle.mi_rows.specs.declared.shown.Member.{Member}
+
+pub integer_text : (z : ℤ) → compact_text (number (of_integer z)) ≡ signed_decimal z
+integer_text (pos n) = refl
+integer_text (negsuc n) = refl
+
+-- the room for the texts from a place on
+room_at : (vs : List Value) (i : ℕ) → first_room (drop i vs) + texts_room (drop (suc i) vs) ≡ texts_room (drop i vs)
+room_at [] zero = refl
+room_at [] (suc i) = refl
+room_at (v ∷ vs) zero = refl
+room_at (v ∷ vs) (suc i) = room_at vs i
+
+pub room_step : (vs : List Value) (i : ℕ) → first_room (drop i vs) + texts_room (drop (i + 1) vs) ≡ texts_room (drop i vs)
+room_step vs i = ap (λ k. first_room (drop i vs) + texts_room (drop k vs)) (add-one i) ∙ room_at vs i
+
+by_order : (vs : List Value) (o : Ordering) (a b c : List Member) (k : ℕ) → members_room vs a ≤ k → members_room vs b ≤ k → members_room vs c ≤ k
+    → members_room vs (match_ordering o a b c) ≤ k
+by_order vs Less a b c k x y z = x
+by_order vs Equal a b c k x y z = y
+by_order vs Greater a b c k x y z = z
+
+-- a member that is added wants its own room at most
+pub members_room-with_member : (vs : List Value) (m : Member) (ns : List Member)
+    → members_room vs (with_member m ns) ≤ 64 + source_room vs m.source + members_room vs ns
+members_room-with_member vs m [] = omega arith
+members_room-with_member vs m (n ∷ ns) =
+    let taken : Member = record n { source = m.source } in
+    by_order vs (slice_cmp nat_cmp m.name.now n.name.now) (m ∷ n ∷ ns) (taken ∷ ns) (n ∷ with_member m ns) _
+    (omega arith) (omega arith) (omega (arith, members_room-with_member vs m ns))
+
+pub members_room-grown : (vs : List Value) (m : Member) (ns new : List Member) → new ≡ with_member m ns
+    → members_room vs new ≤ 64 + source_room vs m.source + members_room vs ns
+members_room-grown vs m ns new is = omega (arith, ap (members_room vs) is, members_room-with_member vs m ns)
+
+pub labels_room-label_of : (vs : List Value) (ms : List Member) → labels_room vs (map label_of ms) ≡ members_room vs ms
+labels_room-label_of vs [] = refl
+labels_room-label_of vs (m ∷ ms) = ap (λ n. 64 + source_room vs m.source + n) (labels_room-label_of vs ms)
+
+pub labelled : (later : Bool) (id : ℕ) (vs : List Value) (ms : List Member)
+    → labelled_text later id vs (map label_of ms) ≡ members_text later (shown_members id vs ms)
+labelled later id vs [] = refl
+labelled later id vs (m ∷ ms) =
+    let name = quoted m.name.now in
+    let value = compact_text (source_data id vs m.source) in
+    let rest = members_text true (shown_members id vs ms) in
+    ap (λ t. (comma_if later ++ ((name ++ 58 ∷ []) ++ value)) ++ t) (labelled true id vs ms)
+    ∙ append_assoc (comma_if later) ((name ++ 58 ∷ []) ++ value) rest
+    ∙ ap (λ t. comma_if later ++ t) (append_assoc (name ++ 58 ∷ []) value rest ∙ append_assoc name (58 ∷ []) (value ++ rest))
+
+-- the labels of an order of all members are labels of the columns
+pub are_labels : (cs : List Column) (order : List Member) (labels : Option (ArrayVec LabelShape)) → IfSome labels (λ ls. ls.items ≡ map label_of order)
+    → ((id : ℕ) (vs : List Value) → length cs ≤ length vs → shown_members id vs order ≡ row_members cs id vs)
+    → ((vs : List Value) → members_room vs order ≤ 64 * (length cs + 1) + texts_room vs) → AreLabels cs labels
+are_labels cs order None is members room = tt
+are_labels cs order (Some ls) is members room = (
+  λ id vs long. ap (labelled_text false id vs) is ∙ labelled false id vs order ∙ ap (members_text false) (members id vs long),
+  λ vs. omega (arith, ap (labels_room vs) is, labels_room-label_of vs order, room vs),
+)
+
+-- a value of a row that stands among the lent ones
+pub cell_there : (cells : List ValueRef) (i : ℕ) (v : ValueRef) → i < length cells → v ≡ get_or cells i v
+    → drop i (map lent cells) ≡ lent v ∷ drop (i + 1) (map lent cells)
+cell_there cells i v there is =
+    drop_more (map lent cells) i (lent v) (omega (arith, there, length-map cells lent))
+    ∙ ap (λ x. x ∷ drop (i + 1) (map lent cells)) (get_or-map lent cells i v (lent v) there ∙ ap lent (sym is))
+
+pub room_there : (cells : List ValueRef) (i : ℕ) (v : ValueRef) → i < length cells → v ≡ get_or cells i v
+    → first_room (drop i (map lent cells)) ≡ text_room (lent v)
+room_there cells i v there is = ap first_room (cell_there cells i v there is)
+
+pub data_of_cell : (cells : List ValueRef) (i : ℕ) (v : ValueRef) → i < length cells → v ≡ get_or cells i v
+    → first_data (drop i (map lent cells)) ≡ value_data (lent v)
+data_of_cell cells i v there is = ap first_data (cell_there cells i v there is)

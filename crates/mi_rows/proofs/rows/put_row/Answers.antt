@@ -1,0 +1,25 @@
+-- A member is put behind those so far.
+use Rattle.std.proofs.Common.{◌≡◌, ◌+◌, ◌≤◌, List, ◌∷◌, ◌++◌, length, drop, map, true, arith, ap, sym, ◌∙◌, append_assoc}
+use Rattle.std.proofs.lemmas.List.{drop_more}
+use Rattle.json.proofs.Printed.Places.{Placed-then}
+use Rattle.mi_value.specs.Lent.{lent}
+use Rattle.mi_value.specs.declared.value.Value.{Value}
+use Rattle.mi_rows.specs.Labels.{labelled_text, labels_room, source_room}
+use Rattle.mi_rows.proofs.rows.put_row.Goals as goal
+
+pub members-preserved : goal.members-preserved
+members-preserved c =
+    let vs : List Value = map lent c.args.cells.now in
+    let i = c.members.label-index in
+    let label = c.label-item.result in
+    let rest = drop (i + 1) c.args.labels.now in
+    let inv = c.members.invariant in
+    let put = c.put_member-end.ensures in
+    let there : drop i c.args.labels.now ≡ label ∷ rest = drop_more c.args.labels.now i label c.members-test.true ∙ ap (λ l. l ∷ rest) (sym c.label-item.is) in
+    let room : labels_room vs (drop i c.args.labels.now) ≡ 64 + source_room vs label.source + labels_room vs rest = ap (labels_room vs) there in (
+      inv.0 ++ _,
+      Placed-then inv.1 put.value,
+      append_assoc inv.0 _ (labelled_text true c.args.id vs rest)
+          ∙ ap (λ ls. inv.0 ++ labelled_text c.members.behind c.args.id vs ls) (sym there) ∙ inv.2,
+      omega (arith, put.bound, put.value.len, room, inv.3),
+    )

@@ -1,0 +1,14 @@
+use Rattle.std.proofs.Common.{◌≡◌, ◌+◌, ◌≤◌, ℕ, List, ◌∷◌, ◌++◌, drop, map, length, false}
+use Rattle.json.specs.Filled.{Placed}
+use Rattle.serde_json.specs.Written.{comma_if}
+use Rattle.mi_value.specs.Lent.{lent}
+use Rattle.mi_rows.specs.Labels.{labelled_text, labels_room}
+use Rattle.mi_rows.proofs.rows.put_row.Given as goal
+
+-- what is put: with the members to come it is the whole row, and there is room for them
+abbrev pub invariant-members : goal.invariant-members
+invariant-members l =
+    let vs = map lent l.cells in let rest = drop l.label-index l.labels in
+    (xs : List ℕ) × Placed l.fn.buf l.buf l.at xs l.end
+    × (xs ++ labelled_text l.behind l.id vs rest ≡ comma_if l.later ++ 123 ∷ labelled_text false l.id vs l.labels)
+    × (l.end + labels_room vs rest + 1 ≤ length l.buf)

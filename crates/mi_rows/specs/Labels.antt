@@ -1,0 +1,61 @@
+-- The members of rows as labels: what stands before each value, and the room that is enough for a row.
+use Rattle.std.specs.Prelude.{◌≡◌, ℕ, ◌+◌, ◌*◌, ◌≤◌, List, [], ◌∷◌, ◌++◌, length, drop, Bool, true, false, Option, IfSome}
+use Rattle.json.specs.Print.{quoted}
+use Rattle.serde_json.specs.Written.{compact_text, comma_if, members_text}
+use Rattle.arrayvec.specs.ArrayVec.{ArrayVec}
+use Rattle.mi_value.specs.declared.value.Value.{Value}
+use Rattle.mi_value.specs.declared.value.Value.TheVariants.{Int, Text, Flag}
+use Rattle.mi_catalog.specs.declared.index.Column.{Column as TableColumn}
+use Rattle.mi_rows.specs.Rows.{row_members}
+use Rattle.mi_rows.specs.Shown.{source_data}
+use Rattle.mi_rows.specs.declared.shown.Member.{Member}
+use Rattle.mi_rows.specs.declared.shown.Source.{Source}
+use Rattle.mi_rows.specs.declared.shown.Source.TheVariants.{Id, Column}
+
+-- a member of rows: the bytes before its value, and where the value stands
+pub record LabelShape : Type 0 where
+  pub text : List ℕ
+  pub source : Source
+
+-- its name as a string, and a colon
+abbrev pub label_of : Member → LabelShape
+label_of m = record { text = quoted m.name.now ++ 58 ∷ []; source = m.source }
+
+-- the members of a row with these labels, with the closing bracket
+abbrev pub labelled_text : Bool → ℕ → List Value → List LabelShape → List ℕ
+labelled_text later id vs [] = 125 ∷ []
+labelled_text later id vs (l ∷ ls) = (comma_if later ++ (l.text ++ compact_text (source_data id vs l.source))) ++ labelled_text true id vs ls
+
+-- the room for the bytes of a text, each of which may need an escape of six
+abbrev pub text_room : Value → ℕ
+text_room (Int n) = 0
+text_room (Text t) = 6 * length t
+text_room (Flag b) = 0
+
+abbrev pub texts_room : List Value → ℕ
+texts_room [] = 0
+texts_room (v ∷ vs) = text_room v + texts_room vs
+
+abbrev pub first_room : List Value → ℕ
+first_room [] = 0
+first_room (v ∷ vs) = text_room v
+
+abbrev pub source_room : List Value → Source → ℕ
+source_room vs Id = 0
+source_room vs (Column i) = first_room (drop i vs)
+
+-- the room for the members of a row with these labels
+abbrev pub labels_room : List Value → List LabelShape → ℕ
+labels_room vs [] = 0
+labels_room vs (l ∷ ls) = 64 + source_room vs l.source + labels_room vs ls
+
+-- the same by members that aren't labelled yet
+abbrev pub members_room : List Value → List Member → ℕ
+members_room vs [] = 0
+members_room vs (m ∷ ms) = 64 + source_room vs m.source + members_room vs ms
+
+-- labels of columns: with them each row that has a value for every column has its members' text, in this room; none are labels of any
+abbrev pub AreLabels : List TableColumn → Option (ArrayVec LabelShape) → Type 0
+AreLabels cs labels = IfSome labels (λ ls.
+    ((id : ℕ) (vs : List Value) → length cs ≤ length vs → labelled_text false id vs ls.items ≡ members_text false (row_members cs id vs))
+    × ((vs : List Value) → labels_room vs ls.items ≤ 64 * (length cs + 1) + texts_room vs))

@@ -1,0 +1,90 @@
+//! What is the same in each row of a reply: the members in the order of their names, each as a label, the bytes that stand before its
+//! value, and where the value stands. It takes no memory.
+ghost use Rattle.std.specs.Prelude.{◌≡◌, ◌≤◌, length, map, IfSome};
+ghost use Rattle.arrayvec.specs.ArrayVec.{array_vec_len};
+ghost use Rattle.mi_value.specs.declared.limits.TheConstants.{MAX_COLUMNS};
+ghost use Rattle.mi_rows.specs.Labels as given;
+ghost use Rattle.mi_rows.specs.Labels.{AreLabels};
+
+use crate::shown::{MAX_MEMBERS, Member, Source, row_order};
+use arrayvec::ArrayVec;
+use mi_catalog::Column;
+use mi_print::{is_plain, put_byte, put_text};
+use mi_value::limits::MAX_NAME;
+use std::marker::Model;
+
+/// A name of up to 32 bytes, its quotation marks, a colon, and bytes that don't count.
+const LABEL: usize = 40;
+
+/// A member of a row: its label, whose first bytes count, and where its value stands.
+#[derive(Drop)]
+pub(crate) struct Label {
+    pub(crate) bytes: [u8; LABEL],
+    pub(crate) len: usize,
+    pub(crate) source: Source,
+}
+
+impl Model for Label {
+    ghost use Rattle.std.specs.Prelude.{◌≤◌, take};
+    ghost use Rattle.mi_rows.specs.Labels.{LabelShape};
+
+    ghost Value = { LabelShape };
+
+    ghost view = { λ a. record { text = take a.len a.bytes; source = a.source } };
+
+    ghost invariant = { λ a. a.len ≤ 35 };
+}
+
+impl Default for Label {
+    fn default() -> Self {
+        Label {
+            bytes: [0; LABEL],
+            len: 0,
+            source: Source::Id,
+        }
+    }
+}
+
+/// The labels of a row's members.
+pub(crate) type Labels = ArrayVec<Label, MAX_MEMBERS>;
+
+/// The label of a member; none where its name is longer than a column's may be, or needs an escape.
+fn label_of(member: Member<'_>) -> Option<Label>
+    ensures { IfSome result (λ label. label ≡ given.label_of member.entry) }
+{
+    let name = member.name.as_bytes();
+    if name.len() > MAX_NAME || !is_plain(name) {
+        return None;
+    }
+    let mut bytes = [0; LABEL];
+    let begun = put_byte(&mut bytes, 0, b'"');
+    let end = put_text(&mut bytes, begun, name);
+    let closed = put_byte(&mut bytes, end, b'"');
+    let len = put_byte(&mut bytes, closed, b':');
+    Some(Label {
+        bytes,
+        len,
+        source: member.source,
+    })
+}
+
+/// The labels of members, in their order.
+fn labels_in(order: &[Member]) -> Option<Labels>
+    requires { length order.now ≤ MAX_MEMBERS }
+    ensures { IfSome result (λ labels. labels.items ≡ map given.label_of order.now) }
+{
+    let mut labels = ArrayVec::new();
+    'members: for member in order {
+        labels.push(label_of(*member)?);
+    }
+    Some(labels)
+}
+
+/// The labels of the members of rows with these columns.
+pub(crate) fn labels_of(columns: &[Column]) -> Option<Labels>
+    requires { length columns.now ≤ MAX_COLUMNS }
+    ensures { AreLabels columns.now result }
+{
+    let order = row_order(columns);
+    labels_in(order.as_slice())
+}

@@ -1,0 +1,10 @@
+//! Rows of a reply to text: each as an object whose members stand in the order of their names. It knows columns and values, and no
+//! tables, requests or other replies; it reads and writes no stream, and takes memory for the text alone.
+#![tactic(auto)]
+
+mod cells;
+mod labels;
+mod rows;
+mod shown;
+
+pub use rows::{row_text, rows_text};
