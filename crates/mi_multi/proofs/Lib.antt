@@ -36,6 +36,7 @@ pub mod RelocateCallLemmas
 pub mod OldRecordPlaceLemmas
 pub mod TakeBackPutLemmas
 pub mod ChangedLemmas
+pub mod ColumnLemmas
 pub mod UniqueLemmas
 pub mod ConflictLemmas
 pub mod ReplaceLemmas

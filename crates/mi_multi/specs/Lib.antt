@@ -9,3 +9,4 @@ pub mod Restored
 pub mod Changed
 pub mod Walks
 pub mod Past
+pub mod Columns
