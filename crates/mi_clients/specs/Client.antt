@@ -4,7 +4,7 @@ use Rattle.std.specs.Io.KnownBytes.{Appends}
 use Rattle.mi_ledger.specs.HeldReplies.{bytes_of}
 use Rattle.mi_clients.specs.Output.{unsent}
 use Rattle.mi_clients.specs.declared.client.Client.{Client}
-use Rattle.mi_clients.specs.declared.client.Phase.TheVariants.{Broken}
+use Rattle.mi_clients.specs.declared.client.Phase.TheVariants.{Asked, Broken}
 
 -- the replies that its stream hasn't taken: those that were handed out, and then those that are held
 abbrev pub owed : {S : Type 0} → Client S → List ℕ
@@ -31,6 +31,6 @@ pub record IsServed {S : Type 0} (contents : S → Option (List ℕ)) (given : L
   pub whole : (new.phase ≡ Broken) ⊎ (lost ≡ [])
   pub broken : old.phase ≡ Broken → (new.phase ≡ Broken) × (given ≡ [])
 
--- it may be let go: its stream has failed, or it is owed nothing
+-- it is to be let go: its stream has failed, or all its lines are asked and it is owed nothing
 abbrev pub IsOver : {S : Type 0} → Client S → Type 0
-IsOver c = (c.phase ≡ Broken) ⊎ (owed c ≡ [])
+IsOver c = (c.phase ≡ Broken) ⊎ ((c.phase ≡ Asked) × (owed c ≡ []))

@@ -1,5 +1,5 @@
 //! A connection: its stream, what came of it and wasn't asked yet, and what it is to be sent. It asks nobody.
-ghost use Rattle.std.specs.Prelude.{◌≡◌, ◌⊎◌, ◌++◌, ℕ, List, [], true};
+ghost use Rattle.std.specs.Prelude.{◌≡◌, ◌⊎◌, ◌↔◌, ◌++◌, ◌||◌, ℕ, List, [], true, IsTrue};
 ghost use Rattle.mi_hub.specs.Ended.{ended};
 ghost use Rattle.mi_clients.specs.declared.client.Phase.TheVariants as phases;
 
@@ -108,14 +108,14 @@ impl<S> Client<S> {
 
     /// Whether nothing of its replies is unsent.
     fn owes_nothing(&self) -> bool
-        ensures { result ≡ true → owed self.now ≡ [] }
+        ensures { IsTrue result ↔ (owed self.now ≡ []) }
     {
         self.held.is_empty() && self.output.waiting().is_empty()
     }
 
     /// Whether it is to be let go: its stream has failed, or all of it is asked and sent.
     pub(crate) fn is_over(&self) -> bool
-        ensures { result ≡ true → IsOver self.now }
+        ensures { IsTrue result ↔ IsOver self.now }
     {
         match self.phase {
             Phase::Open | Phase::Ended => false,
@@ -126,7 +126,8 @@ impl<S> Client<S> {
 
     /// Its stream is ready again: to be read, to be written to, or closed by its peer or failed, which a read or a write will tell.
     pub fn wake(&mut self, readable: bool, writable: bool, closing: bool)
-        ensures { self.new ≡ record self.old { may_read = self.new.may_read; may_write = self.new.may_write; is_closing = self.new.is_closing } }
+        ensures { let reads = self.old.may_read || readable || closing in let writes = self.old.may_write || writable || closing in
+            self.new ≡ record self.old { may_read = reads; may_write = writes; is_closing = self.old.is_closing || closing } }
     {
         self.may_read = self.may_read || readable || closing;
         self.may_write = self.may_write || writable || closing;
