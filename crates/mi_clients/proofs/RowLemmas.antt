@@ -1,8 +1,9 @@
 -- A row of connections, and what its hub has attached.
 use Rattle.std.proofs.Common.{◌≡◌, ◌⊎◌, inl, inr, ℕ, zero, suc, ◌+◌, ◌<◌, ◌≤◌, List, [], ◌∷◌, ◌++◌, length, map, Bool, true, false, cond, nat_eq}
-use Rattle.std.proofs.Common.{Some, None, refl, sym, ap, ◌∙◌, subst, arith}
-use Rattle.std.specs.Prelude.{slice_set, slice_index_or}
-use Rattle.std.specs.List.{remove}
+use Rattle.std.proofs.Common.{MatchBool, Some, None, refl, sym, ap, ◌∙◌, subst, arith}
+use Rattle.std.specs.Prelude.{◌↔◌, IsTrue, slice_set, slice_index_or}
+use Rattle.std.specs.List.{remove, Any, AllWithin, HoldsAt}
+use Rattle.std.proofs.lemmas.Iterator.Search.{true_from_Any}
 use Rattle.std.proofs.lemmas.List.{get_or_default}
 use Rattle.std.proofs.lemmas.List.Edits.{get_or-remove_below}
 use Rattle.mi_hub.specs.Connections.{rest_at, others}
@@ -118,6 +119,20 @@ stay_more row i x is lt stays p = λ k d below within over. elim (test_of (nat_e
 
 pub stay_all : {S : Type 0} (row : List (Client S)) (n : ℕ) → length row ≤ n → StayTo n row → NoneIsOver row
 stay_all row n all p = λ k d within. p k d (omega (arith, all, within)) within
+
+-- ---- some is so
+
+pub any_of : {X : Type 0} (P : X → Type 0) (r : Bool) (xs : List X)
+    → MatchBool r ((k : ℕ) × (k < length xs) × HoldsAt P xs k) (AllWithin (λ x. ¬ P x) xs 0 (length xs)) → IsTrue r ↔ Any P xs
+any_of P true [] m = absurd (omega (arith, m.1))
+any_of P true (y ∷ xs) m = (
+  λ is. let x = slice_index_or (y ∷ xs) m.0 y in (m.0, x, m.1, get_or_default (y ∷ xs) m.0 x y m.1, m.2 y),
+  λ some. refl,
+)
+any_of P false xs m = (
+  λ is. absurd (true_false false is refl),
+  λ some. true_from_Any P (λ x. ¬ P x) false xs (λ x is not. not is) m some.1 (some.0, some.2, some.3) some.4,
+)
 
 -- ---- one comes
 

@@ -55,7 +55,7 @@ pub struct Client<S> {
 }
 
 impl<S> Client<S> {
-    ghost use Rattle.mi_clients.specs.Client.{owed, IsOver};
+    ghost use Rattle.mi_clients.specs.Client.{owed, IsOver, HasRoom, MayAsk, WantsBytes, IsBusy};
     ghost use Rattle.mi_clients.specs.Input.{waiting};
 
     /// A connection that has just come.
@@ -82,27 +82,31 @@ impl<S> Client<S> {
     }
 
     /// Whether so little of its replies is unsent that a line may be asked.
-    fn has_room(&self) -> bool {
+    fn has_room(&self) -> bool
+        ensures { IsTrue result ↔ HasRoom self.now }
+    {
         let held = self.held.len();
         held <= MOST_UNSENT && self.output.waiting().len() <= MOST_UNSENT - held
     }
 
     /// Whether its lines may be asked.
     pub(crate) fn may_ask(&self) -> bool
-        ensures { result ≡ true → ¬ (self.now.phase ≡ phases.Broken) }
+        ensures { IsTrue result ↔ MayAsk self.now }
     {
         self.phase != Phase::Broken && self.has_lines && self.has_room()
     }
 
     /// Whether its stream is to be read.
     fn wants_bytes(&self) -> bool
-        ensures { result ≡ true → self.now.phase ≡ phases.Open }
+        ensures { IsTrue result ↔ WantsBytes self.now }
     {
         self.phase == Phase::Open && self.may_read && !self.has_lines && self.has_room()
     }
 
     /// Whether something of it can be done at once, without waiting for its stream.
-    pub(crate) fn is_busy(&self) -> bool {
+    pub(crate) fn is_busy(&self) -> bool
+        ensures { IsTrue result ↔ IsBusy self.now }
+    {
         self.may_ask() || self.wants_bytes() || self.may_write && !self.output.waiting().is_empty()
     }
 

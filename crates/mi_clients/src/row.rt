@@ -1,8 +1,9 @@
 //! The attached connections in a row, each step over all of them.
-ghost use Rattle.std.specs.Prelude.{◌≡◌, ◌⊎◌, ◌++◌, ◌∷◌, List, [], Some, OnOk};
+ghost use Rattle.std.specs.Prelude.{◌≡◌, ◌⊎◌, ◌↔◌, ◌++◌, ◌∷◌, List, [], Some, IsTrue, OnOk};
+ghost use Rattle.std.specs.List.{Any};
 ghost use Rattle.std.specs.Io.KnownBytes.{Keeps};
 ghost use Rattle.mi_ledger.specs.Ledger.{hub_of, log_of, IsSettled};
-ghost use Rattle.mi_clients.specs.Client.{owed, IsServed};
+ghost use Rattle.mi_clients.specs.Client.{owed, IsServed, IsBusy};
 ghost use Rattle.mi_clients.specs.Steps.{Step, Makes, given_to, GivesOnly, GivesNone};
 ghost use Rattle.mi_clients.specs.Row.{ids, Attends, EachServed, Joins, LetsGo, NoneIsOver, Serves};
 ghost use Rattle.mi_clients.specs.declared.client.Client.{Client};
@@ -161,6 +162,8 @@ pub fn admit<D: Sessions + Drop, L: Log + Drop, S: Drop>(
 }
 
 /// Whether something of some connection can be done at once.
-pub fn is_any_busy<S>(row: &[Client<S>]) -> bool {
+pub fn is_any_busy<S>(row: &[Client<S>]) -> bool
+    ensures { IsTrue result ↔ Any IsBusy row.now }
+{
     row.iter().any(|client| client.is_busy())
 }
