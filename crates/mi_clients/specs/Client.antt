@@ -32,7 +32,7 @@ pub record IsServed {S : Type 0} (contents : S → Option (List ℕ)) (given : L
   pub whole : (new.phase ≡ Broken) ⊎ (lost ≡ [])
   pub broken : old.phase ≡ Broken → (new.phase ≡ Broken) × (given ≡ [])
 
--- it is to be let go: its stream has failed, or all its lines are asked and it is owed nothing
+-- it is over, and to be let go: its stream has failed, or all its lines are asked and it is owed nothing
 abbrev pub IsOver : {S : Type 0} → Client S → Type 0
 IsOver c = (c.phase ≡ Broken) ⊎ ((c.phase ≡ Asked) × (owed c ≡ []))
 
