@@ -2,7 +2,7 @@
 use Rattle.std.proofs.Common.{◌≡◌, ℕ, ◌+◌, ◌-◌, ◌<◌, ◌≤◌, List, [], ◌∷◌, ◌++◌, length, take, drop, get_or, Bool, true, false, ◌&&◌, cond, nat_eq, nat_lt}
 use Rattle.std.proofs.Common.{Some, None, refl, sym, ap, ◌∙◌, arith, append_assoc, option_to_list}
 use Rattle.std.proofs.Math.Seq.{take-append_seam, get_or-append_seam}
-use Rattle.std.specs.Prelude.{slice_index, Result, Ok, Err, is_ok, OnOk, OnErr, if◌then◌else◌}
+use Rattle.std.specs.Prelude.{slice_index}
 use Rattle.std.proofs.lemmas.List.{length-append, length-take}
 use Rattle.mi_value.specs.declared.limits.TheConstants.{MAX_LINE}
 use Rattle.mi_hub.specs.Ended.{ended, put_front}

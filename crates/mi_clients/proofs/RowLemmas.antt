@@ -1,12 +1,16 @@
 -- A row of connections, and what its hub has attached.
-use Rattle.std.proofs.Common.{◌≡◌, ◌⊎◌, inl, inr, ℕ, zero, suc, ◌<◌, List, [], ◌∷◌, ◌++◌, length, map, Bool, true, false, cond, nat_eq}
-use Rattle.std.proofs.Common.{Some, None, refl, sym, ap, ◌∙◌, subst, arith}
-use Rattle.std.specs.Prelude.{slice_set, slice_index_or}
-use Rattle.std.specs.List.{remove}
+use Rattle.std.proofs.Common.{◌≡◌, ◌⊎◌, inl, inr, ℕ, zero, suc, ◌+◌, ◌<◌, ◌≤◌, List, [], ◌∷◌, ◌++◌, length, map, Bool, true, false, cond, nat_eq}
+use Rattle.std.proofs.Common.{MatchBool, Some, None, refl, sym, ap, ◌∙◌, subst, arith}
+use Rattle.std.specs.Prelude.{◌↔◌, IsTrue, slice_set, slice_index_or}
+use Rattle.std.specs.List.{remove, Any, AllWithin, HoldsAt}
+use Rattle.std.proofs.lemmas.Iterator.Search.{true_from_Any}
+use Rattle.std.proofs.lemmas.List.{get_or_default}
+use Rattle.std.proofs.lemmas.List.Edits.{get_or-remove_below}
 use Rattle.mi_hub.specs.Connections.{rest_at, others}
 use Rattle.mi_hub.specs.Run.{HubState, attach, Done}
 use Rattle.mi_hub.specs.declared.connection.Connection.{Connection}
-use Rattle.mi_clients.specs.Row.{ids, fresh, IsNoneOf, AllDiffer, Attends}
+use Rattle.mi_clients.specs.Client.{IsOver}
+use Rattle.mi_clients.specs.Row.{ids, fresh, IsNoneOf, AllDiffer, Attends, NoneIsOver}
 use Rattle.mi_clients.specs.declared.client.Client.{Client}
 
 test_of : (b : Bool) → (b ≡ true) ⊎ (b ≡ false)
@@ -15,6 +19,13 @@ test_of false = inr refl
 
 pub same_test : (x : ℕ) → nat_eq x x ≡ true
 same_test x = grind arith
+
+pub true_false : (b : Bool) → b ≡ true → b ≡ false → ⊥
+true_false b is other = cc
+
+pub back_none : {A : Type 0} (xs ys : List A) → xs ++ ys ≡ [] → ys ≡ []
+back_none [] ys none = none
+back_none (x ∷ xs) ys none = cc
 
 is_same : (x y : ℕ) → nat_eq x y ≡ true → x ≡ y
 is_same x y h = grind arith
@@ -81,6 +92,47 @@ attends_less row i d old new lt p is = record {
   there = is ∙ ap (others (slice_index_or row i d).conn) p.there ∙ others_less row i d lt p.differ;
   differ = differ_less row i p.differ;
 }
+
+-- ---- those that stay
+
+-- none of the first is to be let go
+abbrev pub StayTo : {S : Type 0} → ℕ → List (Client S) → Type 0
+StayTo {S} n row = (k : ℕ) (d : Client S) → k < n → k < length row → ¬ IsOver (slice_index_or row k d)
+
+pub stay_none : {S : Type 0} (row : List (Client S)) → StayTo 0 row
+stay_none row = λ k d below within over. absurd (omega (arith, below))
+
+pub stay_less : {S : Type 0} (row : List (Client S)) (i : ℕ) → i < length row → StayTo i row → StayTo i (remove row i)
+stay_less row i lt p = λ k d below within over. p k d below (omega (arith, below, lt)) (subst (λ x. IsOver x) (get_or-remove_below row i d k below lt) over)
+
+pub stay_more : {S : Type 0} (row : List (Client S)) (i : ℕ) (x : Client S) → x ≡ slice_index_or row i x → i < length row → ¬ IsOver x → StayTo i row
+    → StayTo (i + 1) row
+stay_more row i x is lt stays p = λ k d below within over. elim (test_of (nat_eq k i)) [
+  | inl same ↦
+      let at : k ≡ i = is_same k i same in
+      stays (subst (λ y. IsOver y) (ap (λ n. slice_index_or row n d) at ∙ get_or_default row i d x lt ∙ sym is) over)
+  | inr other ↦ p k d (lower k i below other) within over
+]
+  where
+    lower : (k i : ℕ) → k < i + 1 → nat_eq k i ≡ false → k < i
+    lower k i lt other = grind arith
+
+pub stay_all : {S : Type 0} (row : List (Client S)) (n : ℕ) → length row ≤ n → StayTo n row → NoneIsOver row
+stay_all row n all p = λ k d within. p k d (omega (arith, all, within)) within
+
+-- ---- some is so
+
+pub any_of : {X : Type 0} (P : X → Type 0) (r : Bool) (xs : List X)
+    → MatchBool r ((k : ℕ) × (k < length xs) × HoldsAt P xs k) (AllWithin (λ x. ¬ P x) xs 0 (length xs)) → IsTrue r ↔ Any P xs
+any_of P true [] m = absurd (omega (arith, m.1))
+any_of P true (y ∷ xs) m = (
+  λ is. let x = slice_index_or (y ∷ xs) m.0 y in (m.0, x, m.1, get_or_default (y ∷ xs) m.0 x y m.1, m.2 y),
+  λ some. refl,
+)
+any_of P false xs m = (
+  λ is. absurd (true_false false is refl),
+  λ some. true_from_Any P (λ x. ¬ P x) false xs (λ x is not. not is) m some.1 (some.0, some.2, some.3) some.4,
+)
 
 -- ---- one comes
 

@@ -1,10 +1,11 @@
 -- What a connection is to be sent, and what becomes of that while some steps are made.
-use Rattle.std.specs.Prelude.{◌≡◌, ◌⊎◌, ℕ, List, [], ◌++◌, Option}
+use Rattle.std.specs.Prelude.{◌≡◌, ◌⊎◌, ◌≤◌, ℕ, List, [], ◌++◌, length, IsTrue, IsFalse, Option}
 use Rattle.std.specs.Io.KnownBytes.{Appends}
 use Rattle.mi_ledger.specs.HeldReplies.{bytes_of}
 use Rattle.mi_clients.specs.Output.{unsent}
 use Rattle.mi_clients.specs.declared.client.Client.{Client}
-use Rattle.mi_clients.specs.declared.client.Phase.TheVariants.{Broken}
+use Rattle.mi_clients.specs.declared.client.Phase.TheVariants.{Open, Asked, Broken}
+use Rattle.mi_clients.specs.declared.client.TheConstants.{MOST_UNSENT}
 
 -- the replies that its stream hasn't taken: those that were handed out, and then those that are held
 abbrev pub owed : {S : Type 0} → Client S → List ℕ
@@ -31,6 +32,22 @@ pub record IsServed {S : Type 0} (contents : S → Option (List ℕ)) (given : L
   pub whole : (new.phase ≡ Broken) ⊎ (lost ≡ [])
   pub broken : old.phase ≡ Broken → (new.phase ≡ Broken) × (given ≡ [])
 
--- it may be let go: its stream has failed, or it is owed nothing
+-- it is over, and to be let go: its stream has failed, or all its lines are asked and it is owed nothing
 abbrev pub IsOver : {S : Type 0} → Client S → Type 0
-IsOver c = (c.phase ≡ Broken) ⊎ (owed c ≡ [])
+IsOver c = (c.phase ≡ Broken) ⊎ ((c.phase ≡ Asked) × (owed c ≡ []))
+
+-- so little of its replies is unsent that a line may be asked
+abbrev pub HasRoom : {S : Type 0} → Client S → Type 0
+HasRoom c = length (owed c) ≤ MOST_UNSENT
+
+-- its lines may be asked: its stream hasn't failed, a whole line may wait, and its replies have room
+abbrev pub MayAsk : {S : Type 0} → Client S → Type 0
+MayAsk c = ¬ (c.phase ≡ Broken) × IsTrue c.has_lines × HasRoom c
+
+-- its stream is to be read: more may come, a read may give something, no whole line waits, and its replies have room
+abbrev pub WantsBytes : {S : Type 0} → Client S → Type 0
+WantsBytes c = (c.phase ≡ Open) × IsTrue c.may_read × IsFalse c.has_lines × HasRoom c
+
+-- something of it can be done at once: its lines asked, its stream read, or some of what was handed out written to it
+abbrev pub IsBusy : {S : Type 0} → Client S → Type 0
+IsBusy c = MayAsk c ⊎ (WantsBytes c ⊎ (IsTrue c.may_write × ¬ (unsent c.output ≡ [])))

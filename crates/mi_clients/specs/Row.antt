@@ -1,6 +1,6 @@
 -- The connections of a service in a row are those that its hub has attached, in this order, and none has a rest there.
 use Rattle.std.specs.Prelude.{◌≡◌, ◌⊎◌, ℕ, List, [], ◌∷◌, ◌++◌, map, false, ◌==◌, Some, Option}
-use Rattle.std.specs.List.{AllZip, Contains}
+use Rattle.std.specs.List.{All, AllZip, Contains}
 use Rattle.mi_hub.specs.declared.connection.Connection.{Connection}
 use Rattle.mi_clients.specs.Client.{owed, IsServed, IsOver}
 use Rattle.mi_clients.specs.Steps.{Step, given_to}
@@ -46,9 +46,13 @@ pub record LetsGo {S : Type 0} (olds news : List (Client S)) : Type 0 where
   pub from : (c : Client S) → Contains news c → Contains olds c
   pub to : (c : Client S) → Contains olds c → Contains news c ⊎ IsOver c
 
+-- none of a row is over
+abbrev pub NoneIsOver : {S : Type 0} → List (Client S) → Type 0
+NoneIsOver row = All (λ c. ¬ IsOver c) row
+
 -- What becomes of a row while these steps are made. Each connection that is there then was there before, or has come owed nothing; each that
--- was there before is there, or has gone when it was broken or owed nothing. What it was given meanwhile are the replies to its own lines:
--- behind what it was owed they were sent to its own stream, or are owed still.
+-- was there before is there, or has gone when it was over. What it was given meanwhile are the replies to its own lines: behind what it was
+-- owed they were sent to its own stream, or are owed still.
 pub record Serves {S : Type 0} (contents : S → Option (List ℕ)) (steps : List Step) (olds news : List (Client S)) : Type 0 where
   pub from : (new : Client S) → Contains news new
       → (old : Client S) × (Contains olds old ⊎ IsNew old olds) × IsServed contents (given_to old.conn steps) old new

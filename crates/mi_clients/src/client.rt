@@ -1,5 +1,5 @@
 //! A connection: its stream, what came of it and wasn't asked yet, and what it is to be sent. It asks nobody.
-ghost use Rattle.std.specs.Prelude.{◌≡◌, ◌⊎◌, ◌++◌, ℕ, List, [], true};
+ghost use Rattle.std.specs.Prelude.{◌≡◌, ◌⊎◌, ◌↔◌, ◌++◌, ◌||◌, ℕ, List, [], true, IsTrue};
 ghost use Rattle.mi_hub.specs.Ended.{ended};
 ghost use Rattle.mi_clients.specs.declared.client.Phase.TheVariants as phases;
 
@@ -55,7 +55,7 @@ pub struct Client<S> {
 }
 
 impl<S> Client<S> {
-    ghost use Rattle.mi_clients.specs.Client.{owed, IsOver};
+    ghost use Rattle.mi_clients.specs.Client.{owed, IsOver, HasRoom, MayAsk, WantsBytes, IsBusy};
     ghost use Rattle.mi_clients.specs.Input.{waiting};
 
     /// A connection that has just come.
@@ -82,40 +82,44 @@ impl<S> Client<S> {
     }
 
     /// Whether so little of its replies is unsent that a line may be asked.
-    fn has_room(&self) -> bool {
+    fn has_room(&self) -> bool
+        ensures { IsTrue result ↔ HasRoom self.now }
+    {
         let held = self.held.len();
         held <= MOST_UNSENT && self.output.waiting().len() <= MOST_UNSENT - held
     }
 
     /// Whether its lines may be asked.
     pub(crate) fn may_ask(&self) -> bool
-        ensures { result ≡ true → ¬ (self.now.phase ≡ phases.Broken) }
+        ensures { IsTrue result ↔ MayAsk self.now }
     {
         self.phase != Phase::Broken && self.has_lines && self.has_room()
     }
 
     /// Whether its stream is to be read.
     fn wants_bytes(&self) -> bool
-        ensures { result ≡ true → self.now.phase ≡ phases.Open }
+        ensures { IsTrue result ↔ WantsBytes self.now }
     {
         self.phase == Phase::Open && self.may_read && !self.has_lines && self.has_room()
     }
 
     /// Whether something of it can be done at once, without waiting for its stream.
-    pub(crate) fn is_busy(&self) -> bool {
+    pub(crate) fn is_busy(&self) -> bool
+        ensures { IsTrue result ↔ IsBusy self.now }
+    {
         self.may_ask() || self.wants_bytes() || self.may_write && !self.output.waiting().is_empty()
     }
 
     /// Whether nothing of its replies is unsent.
     fn owes_nothing(&self) -> bool
-        ensures { result ≡ true → owed self.now ≡ [] }
+        ensures { IsTrue result ↔ (owed self.now ≡ []) }
     {
         self.held.is_empty() && self.output.waiting().is_empty()
     }
 
     /// Whether it is to be let go: its stream has failed, or all of it is asked and sent.
     pub(crate) fn is_over(&self) -> bool
-        ensures { result ≡ true → IsOver self.now }
+        ensures { IsTrue result ↔ IsOver self.now }
     {
         match self.phase {
             Phase::Open | Phase::Ended => false,
@@ -126,7 +130,8 @@ impl<S> Client<S> {
 
     /// Its stream is ready again: to be read, to be written to, or closed by its peer or failed, which a read or a write will tell.
     pub fn wake(&mut self, readable: bool, writable: bool, closing: bool)
-        ensures { self.new ≡ record self.old { may_read = self.new.may_read; may_write = self.new.may_write; is_closing = self.new.is_closing } }
+        ensures { let reads = self.old.may_read || readable || closing in let writes = self.old.may_write || writable || closing in
+            self.new ≡ record self.old { may_read = reads; may_write = writes; is_closing = self.old.is_closing || closing } }
     {
         self.may_read = self.may_read || readable || closing;
         self.may_write = self.may_write || writable || closing;

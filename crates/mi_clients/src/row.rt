@@ -1,10 +1,11 @@
 //! The attached connections in a row, each step over all of them.
-ghost use Rattle.std.specs.Prelude.{◌≡◌, ◌⊎◌, ◌++◌, ◌∷◌, List, [], Some, OnOk};
+ghost use Rattle.std.specs.Prelude.{◌≡◌, ◌⊎◌, ◌↔◌, ◌++◌, ◌∷◌, List, [], Some, IsTrue, OnOk};
+ghost use Rattle.std.specs.List.{Any};
 ghost use Rattle.std.specs.Io.KnownBytes.{Keeps};
 ghost use Rattle.mi_ledger.specs.Ledger.{hub_of, log_of, IsSettled};
-ghost use Rattle.mi_clients.specs.Client.{owed, IsServed};
+ghost use Rattle.mi_clients.specs.Client.{owed, IsServed, IsBusy};
 ghost use Rattle.mi_clients.specs.Steps.{Step, Makes, given_to, GivesOnly, GivesNone};
-ghost use Rattle.mi_clients.specs.Row.{ids, Attends, EachServed, Joins, LetsGo, Serves};
+ghost use Rattle.mi_clients.specs.Row.{ids, Attends, EachServed, Joins, LetsGo, NoneIsOver, Serves};
 ghost use Rattle.mi_clients.specs.declared.client.Client.{Client};
 ghost use Rattle.mi_hub.specs.Connections.{rest_at};
 
@@ -86,6 +87,7 @@ pub fn let_go<D: Sessions + Drop, L: Log + Drop, S: Drop>(
     requires settled { IsSettled L.appended L.synced ledger.old }
     ensures goes { OnOk result ((steps : List Step) × GivesNone steps × LetsGo row.old.items row.new.items
         × Makes steps (hub_of ledger.old) (hub_of ledger.new) (L.appended (log_of ledger.old)) (L.appended (log_of ledger.new))) }
+    ensures stay { OnOk result (NoneIsOver row.new.items) }
     ensures attends { OnOk result (Attends (ids row.new.items) (hub_of ledger.new).attached) }
     ensures settled { OnOk result (IsSettled L.appended L.synced ledger.new) }
 {
@@ -126,6 +128,7 @@ pub fn serve_all<D: Sessions + Drop, L: Log + Drop, S: Duplex + Drop>(
     requires settled { IsSettled L.appended L.synced ledger.old }
     ensures serves { OnOk result ((steps : List Step) × Serves S.contents steps row.old.items row.new.items
         × Makes steps (hub_of ledger.old) (hub_of ledger.new) (L.appended (log_of ledger.old)) (L.appended (log_of ledger.new))) }
+    ensures stay { OnOk result (NoneIsOver row.new.items) }
     ensures attends { OnOk result (Attends (ids row.new.items) (hub_of ledger.new).attached) }
     ensures settled { OnOk result (IsSettled L.appended L.synced ledger.new) }
 {
@@ -159,6 +162,8 @@ pub fn admit<D: Sessions + Drop, L: Log + Drop, S: Drop>(
 }
 
 /// Whether something of some connection can be done at once.
-pub fn is_any_busy<S>(row: &[Client<S>]) -> bool {
+pub fn is_any_busy<S>(row: &[Client<S>]) -> bool
+    ensures { IsTrue result ↔ Any IsBusy row.now }
+{
     row.iter().any(|client| client.is_busy())
 }

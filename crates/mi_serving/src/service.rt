@@ -2,7 +2,7 @@
 ghost use Rattle.std.specs.Prelude.{◌≡◌, List, [], None, Err, OnOk, OnErr};
 ghost use Rattle.mi_ledger.specs.Ledger.{hub_of, log_of, IsSettled};
 ghost use Rattle.mi_clients.specs.Steps.{Step, Makes, GivesNone};
-ghost use Rattle.mi_clients.specs.Row.{ids, Attends, Joins, Serves};
+ghost use Rattle.mi_clients.specs.Row.{ids, Attends, Joins, NoneIsOver, Serves};
 ghost use Rattle.mi_serving.specs.Turns.{Goes};
 
 use crate::door::Door;
@@ -90,6 +90,7 @@ pub fn take_turn<D: Sessions + Drop, L: Log + Drop>(
     requires settled { IsSettled L.appended L.synced ledger.old }
     ensures serves { OnOk result ((steps : List Step) × Serves (λ _. None) steps row.old.items row.new.items
         × Makes steps (hub_of ledger.old) (hub_of ledger.new) (L.appended (log_of ledger.old)) (L.appended (log_of ledger.new))) }
+    ensures stay { OnOk result (NoneIsOver row.new.items) }
     ensures attends { OnOk result (Attends (ids row.new.items) (hub_of ledger.new).attached) }
     ensures settled { OnOk result (IsSettled L.appended L.synced ledger.new) }
 {

@@ -7,7 +7,7 @@ use Rattle.mi_clients.specs.Client.{IsOver}
 use Rattle.mi_clients.specs.Row.{ids, Attends, LetsGo}
 use Rattle.mi_clients.specs.declared.client.Client.{Client}
 use Rattle.mi_clients.proofs.StepLemmas.{makes_none, makes_then}
-use Rattle.mi_clients.proofs.RowLemmas.{attends_at, attends_less}
+use Rattle.mi_clients.proofs.RowLemmas.{attends_at, attends_less, stay_none, stay_less, stay_more, stay_all, true_false, StayTo}
 use Rattle.mi_clients.proofs.ServedLemmas.{nothing_given, none_join, lets_none, lets_one}
 use Rattle.mi_clients.proofs.row.let_go.Goals as goal
 
@@ -16,6 +16,7 @@ row-init g c = record {
   attends = c.requires.attends;
   settled = c.requires.settled;
   gone = lets_none c.args.row.now.items;
+  stay = stay_none c.args.row.now.items;
   steps = [];
   none = nothing_given;
   makes = makes_none _ _ _ (Keeps-refl _);
@@ -37,13 +38,31 @@ row-preserved-then-is_over g c =
     let parted = c.in_ok-part.ensures.goes in
     let gone = c.in_ok-part.ensures.attached
     ∙ ap (λ k. others k (hub_of c.row.ledger).attached) (ap (λ (x : Client _). x.conn) c.index-then-is_over.ensures) in
-    let over = subst (λ (x : Client _). IsOver x) c.index.ensures (c.is_over.ensures c.if-is_over.true) in record {
+    let over = subst (λ (x : Client _). IsOver x) c.index.ensures (c.is_over.ensures.0 c.if-is_over.true) in record {
       attends = subst (λ row. Attends (ids row) (hub_of c.part.new.ledger).attached) (sym c.remove.ensures.items)
           (attends_less c.row.row.items c.row.at client (hub_of c.row.ledger).attached (hub_of c.part.new.ledger).attached within before.attends gone);
       settled = c.in_ok-part.ensures.settled before.settled;
       gone = subst (LetsGo c.args.row.now.items) (sym c.remove.ensures.items)
           (lets_one c.args.row.now.items c.row.row.items c.row.at c.index.result.now before.gone within over);
+      stay = subst (StayTo c.row.at) (sym c.remove.ensures.items) (stay_less c.row.row.items c.row.at within before.stay);
       steps = before.steps ++ parted.0;
       none = none_join before.steps parted.0 before.none parted.1;
       makes = makes_then before.steps parted.0 _ (hub_of c.row.ledger) _ _ _ _ before.makes parted.2;
     }
+
+pub row-preserved : goal.row-preserved
+row-preserved g c =
+    let within : c.row.at < length c.row.row.items = search rules in
+    let before = c.row.invariant in record {
+      attends = before.attends;
+      settled = before.settled;
+      gone = before.gone;
+      stay = stay_more c.row.row.items c.row.at c.index.result.now c.index.ensures within
+          (λ over. true_false c.is_over.result (c.is_over.ensures.1 over) c.if-is_over.false) before.stay;
+      steps = before.steps;
+      none = before.none;
+      makes = before.makes;
+    }
+
+pub returns-clause-stay : goal.returns-clause-stay
+returns-clause-stay g c = stay_all c.row.row.items c.row.at (search rules) c.row.invariant.stay
