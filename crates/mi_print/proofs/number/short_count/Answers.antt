@@ -1,3 +1,4 @@
+-- A number below ten has one digit, and each bound that it reaches adds one.
 use Rattle.std.proofs.Common.{◌+◌, ◌/◌, ap, sym, ◌∙◌, arith}
 use Rattle.itoa.proofs.Decimal.{length_one, length_two, length_pair}
 use Rattle.mi_print.proofs.number.short_count.Goals as goal

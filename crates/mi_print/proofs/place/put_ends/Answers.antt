@@ -1,3 +1,4 @@
+-- The first N bytes of a text and its last N are all of it, where it has N to 2 N.
 use Rattle.std.proofs.Common.{◌-◌, rules, length}
 use Rattle.std.proofs.lemmas.List.{take_rest}
 use Rattle.json.proofs.Printed.Places.{Placed-ends}

@@ -1,3 +1,4 @@
+-- One store of N bytes leaves the N bytes of the source, and what stood in front of them.
 use Rattle.std.proofs.Common.{◌≡◌, length, take, arith, length-take-le}
 use Rattle.std.proofs.lemmas.Simd.{take_more_put_chunk, length-put_chunk}
 use Rattle.mi_print.proofs.place.put_first.Goals as goal

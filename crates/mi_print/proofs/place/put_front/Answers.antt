@@ -1,3 +1,4 @@
+-- The whole array is stored; of it the first bytes count.
 use Rattle.std.proofs.Common.{◌≡◌, ◌+◌, ◌-◌, ap, sym, arith, length, take, subst, ◌∙◌}
 use borrow.Rule.Slice.PartMut.{put_mid}
 use Rattle.json.specs.Filled.{Placed}

@@ -1,3 +1,4 @@
+-- What was put so far is the front of the text; the last sixteen bytes end it.
 use Rattle.std.proofs.Common.{◌≡◌, ◌+◌, rules, arith, ap, length, take-add, length-take-le, take-append-drop}
 use Rattle.std.proofs.lemmas.List.{take_rest}
 use Rattle.json.proofs.Printed.Places.{Placed-then}

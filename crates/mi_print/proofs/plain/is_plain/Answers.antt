@@ -1,3 +1,4 @@
+-- A text that is plain from its beginning to its end is its own escape.
 use Rattle.json.proofs.Printed.Plain.{escape_on_plain}
 use Rattle.mi_print.proofs.plain.is_plain.Goals as goal
 

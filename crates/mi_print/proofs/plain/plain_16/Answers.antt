@@ -1,3 +1,4 @@
+-- No lane of sixteen is a byte that needs an escape, so none of these bytes is.
 use Rattle.std.proofs.Common.{arith}
 use Rattle.json.proofs.Printed.Plain.{plain_from_lanes}
 use Rattle.mi_print.proofs.plain.plain_16.Goals as goal
