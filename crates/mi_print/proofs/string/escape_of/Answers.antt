@@ -1,4 +1,4 @@
--- The first bytes of the array are the escape of the byte: two where it has a letter, six where it has none.
+-- The first bytes of the array are the escape of the byte: two where it has a letter, six of another control byte, and else the byte itself.
 use Rattle.std.proofs.Common.{rules}
 use Rattle.json.specs.Print.{escape_byte}
 use Rattle.mi_print.proofs.string.escape_of.Goals as goal
