@@ -94,6 +94,12 @@ pub items_closed : (front body one two three whole : List ℕ) (b : ℕ) (back :
 items_closed front body one two three whole b back end begun added cut closed =
     closed ∙ sym (append_assoc three (b ∷ []) back) ∙ ap (λ t. t ++ back) (ap (λ t. t ++ b ∷ []) cut ∙ added ∙ ap (λ t. t ++ body) begun)
 
+-- a value that is written between two texts
+pub text_between : (d : Data) (ts : List Token) (front before text whole back : List ℕ) → before ≡ front → ts ≡ json_tokens (outline d)
+    → text ≡ before ++ print ts → whole ≡ text ++ back → whole ≡ (front ++ compact_text d) ++ back
+text_between d ts front before text whole back begun tokens written closed =
+    closed ∙ ap (λ t. t ++ back) (written ∙ ap₂ (λ b t. b ++ t) begun (ap print tokens ∙ print-outline d))
+
 pub row_reply : (d : Data) → (codes "{\"ok\":true,\"row\":" ++ compact_text d) ++ codes "}"
     ≡ compact_text (object (member (codes "ok") (boolean true) (member (codes "row") d no_members)))
 unfolding escape_byte

@@ -7,4 +7,5 @@ mod labels;
 mod rows;
 mod shown;
 
-pub use rows::{row_text, rows_text};
+pub use rows::rows_text;
+pub use shown::row_text;

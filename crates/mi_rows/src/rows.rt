@@ -25,7 +25,7 @@ use mi_value::limits::MAX_PAGE;
 use mi_value::{Record, ValueRef};
 use std::alloc::{AllocError, Global};
 
-/// Room for the text of a reply that shows a row of a few columns.
+/// Room for the text of a reply that shows rows, beside that of the rows.
 const REPLY_ROOM: usize = 512;
 
 /// Room for one more row of a few short columns.
@@ -174,31 +174,6 @@ fn add_row<'a>(
     }
     text.truncate(len);
     add_slowly(alloc, text, later, id, row, columns)
-}
-
-/// The text of the reply that shows a row, without a newline: `{"ok":true,"row":{..}}`. A row with fewer values than columns shows those
-/// that it has. Of columns there are at most 16.
-pub fn row_text(
-    alloc: Global,
-    id: u64,
-    row: &Record,
-    columns: &[Column],
-) -> Result<Vec<u8>, AllocError>
-    requires { length columns.now ≤ MAX_COLUMNS }
-    ensures { IfOk result (λ t. t.items
-        ≡ compact_text (object (member (codes "ok") (boolean true) (member (codes "row") (row_data columns.now id row.now) no_members)))) }
-{
-    let labels = labels_of(columns);
-    let mut cells = ArrayVec::new();
-    let mut text = Vec::with_capacity(alloc, REPLY_ROOM)?;
-    text.extend_from_slice(b"{\"ok\":true,\"row\":")?;
-    let len = text.len();
-    let end = add_row(
-        alloc, &mut text, len, false, id, row, columns, &labels, &mut cells,
-    )?;
-    text.truncate(end);
-    text.push(b'}')?;
-    Ok(text)
 }
 
 /// Whether each row has a value for every column. It reads the records one right behind another, so that the processor

@@ -1,11 +1,11 @@
 //! The order of a row's members by their names, and a row to text token by token: of any values, fewer than there are columns or longer
 //! than a table takes. It knows columns and values, and no tables.
-ghost use Rattle.std.specs.Prelude.{◌≡◌, ◌++◌, ◌+◌, ◌*◌, ◌≤◌, ◌<◌, ℕ, List, length, insert, slice_set, slice_index_or, OnOk, IfOk, IfErr};
+ghost use Rattle.std.specs.Prelude.{◌≡◌, ◌++◌, ◌+◌, ◌*◌, ◌≤◌, ◌<◌, ℕ, List, codes, true, length, insert, slice_set, slice_index_or, OnOk, IfOk, IfErr};
 ghost use Rattle.json.specs.Tree.{json_tokens};
 ghost use Rattle.mi_value.specs.Lent.{lent};
 ghost use Rattle.mi_value.specs.declared.limits.TheConstants.{MAX_COLUMNS};
 ghost use Rattle.mi_value.specs.declared.value.Value.{Value as ValueSpec};
-ghost use Rattle.serde_json.specs.Data.{object};
+ghost use Rattle.serde_json.specs.Data.{boolean, object, member, no_members};
 ghost use Rattle.serde_json.specs.Written.{compact_text, outline};
 ghost use Rattle.arrayvec.specs.ArrayVec.{array_vec_len};
 ghost use Rattle.mi_rows.specs.Rows as rows;
@@ -21,6 +21,9 @@ use mi_value::limits::MAX_COLUMNS;
 use mi_value::{Record, ValueRef};
 use std::alloc::{AllocError, Global};
 use std::cmp::Ordering;
+
+/// Room for the text of a reply that shows a row of a few columns.
+const ROW_REPLY_ROOM: usize = 192;
 
 /// Members of a row, at most: `id` and one for each column.
 pub(crate) const MAX_MEMBERS: usize = MAX_COLUMNS + 1;
@@ -195,4 +198,26 @@ pub(crate) fn row_by_tokens(
     let mut writer = Writer::new(Vec::new(alloc));
     write_row(&mut writer, id, row, columns)?;
     Ok(writer.into_inner())
+}
+
+/// The text of the reply that shows a row, without a newline: `{"ok":true,"row":{..}}`. A row with fewer values than columns shows those
+/// that it has. Of columns there are at most 16. One row is written token by token:
+/// the labels that a page's rows share take longer to make than they save here.
+pub fn row_text(
+    alloc: Global,
+    id: u64,
+    row: &Record,
+    columns: &[Column],
+) -> Result<Vec<u8>, AllocError>
+    requires { length columns.now ≤ MAX_COLUMNS }
+    ensures { IfOk result (λ t. t.items
+        ≡ compact_text (object (member (codes "ok") (boolean true) (member (codes "row") (row_data columns.now id row.now) no_members)))) }
+{
+    let mut text = Vec::with_capacity(alloc, ROW_REPLY_ROOM)?;
+    text.extend_from_slice(b"{\"ok\":true,\"row\":")?;
+    let mut writer = Writer::new(text);
+    write_row(&mut writer, id, row, columns)?;
+    let mut text = writer.into_inner();
+    text.push(b'}')?;
+    Ok(text)
 }

@@ -1,5 +1,5 @@
 -- The value that stands at a place of the row, and its room.
-use Rattle.std.proofs.Common.{◌≡◌, ◌+◌, ◌≤◌, List, arith, ap, sym, ◌∙◌, map, subst}
+use Rattle.std.proofs.Common.{◌≡◌, List, arith, ap, sym, ◌∙◌, map, subst}
 use Rattle.json.specs.Filled.{Placed}
 use Rattle.serde_json.specs.Written.{compact_text}
 use Rattle.mi_value.specs.declared.value.Value.{Value}

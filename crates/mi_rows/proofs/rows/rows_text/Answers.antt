@@ -1,5 +1,5 @@
 -- The front, the rows and the end are the compact text of the reply.
-use Rattle.std.proofs.Common.{◌≡◌, [], ◌∷◌, codes, map, ◌∙◌, rules}
+use Rattle.std.proofs.Common.{◌≡◌, [], ◌∷◌, map, ◌∙◌, rules}
 use Rattle.serde_json.specs.Data.{Items}
 use Rattle.serde_json.specs.Written.{items_text}
 use Rattle.std.specs.Prelude.{false}
