@@ -28,6 +28,9 @@ use std::alloc::{AllocError, Global};
 /// Room for the text of a reply that shows rows, beside that of the rows.
 const REPLY_ROOM: usize = 512;
 
+/// So many rows are written token by token in less time than labels take to be made.
+const FEW_ROWS: usize = 3;
+
 /// Room for one more row of a few short columns.
 const ROW_ROOM: usize = 64;
 
@@ -189,12 +192,13 @@ fn are_whole(rows: &[(u64, &Record)], columns: &[Column]) -> bool
     true
 }
 
-/// The labels for rows that all have a value for every column; none where one is shorter, and then each goes token by token.
+/// The labels for rows that all have a value for every column; none for a few rows, which are written token by token before labels
+/// are made, and none where a row is shorter.
 fn labels_for(rows: &[(u64, &Record)], columns: &[Column]) -> Option<Labels>
     requires { length columns.now ≤ MAX_COLUMNS }
     ensures { AreLabels columns.now result }
 {
-    if are_whole(rows, columns) {
+    if rows.len() > FEW_ROWS && are_whole(rows, columns) {
         labels_of(columns)
     } else {
         None

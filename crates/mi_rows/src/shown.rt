@@ -184,7 +184,6 @@ fn write_row(
 }
 
 /// The text of a row as an object.
-#[cold]
 #[inline(never)]
 pub(crate) fn row_by_tokens(
     alloc: Global,
@@ -195,7 +194,7 @@ pub(crate) fn row_by_tokens(
     requires { length columns.now ≤ MAX_COLUMNS }
     ensures { IfOk result (λ t. t.items ≡ compact_text (row_data columns.now id row.now)) }
 {
-    let mut writer = Writer::new(Vec::new(alloc));
+    let mut writer = Writer::new(Vec::with_capacity(alloc, ROW_REPLY_ROOM)?);
     write_row(&mut writer, id, row, columns)?;
     Ok(writer.into_inner())
 }
