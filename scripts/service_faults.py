@@ -41,16 +41,17 @@ MEMORY = b'{"error":"memory","ok":false}\n'
 ENDS = re.compile(r"(4 fault: (journal|listen|poll|write|memory))|(3 (journal: (file|locked)|schema: \w+))")
 ERRORS = {
     "memory": ["ENOMEM"],
-    "read": ["EIO", "EINTR"], "readv": ["EIO", "EINTR"], "pread": ["EIO"], "recv": ["ECONNRESET", "EINTR", "EAGAIN"],
-    "recvfrom": ["ECONNRESET", "EINTR", "EAGAIN"],
-    "write": ["ENOSPC", "EINTR", ""], "writev": ["ENOSPC", "EINTR", ""], "pwrite": ["ENOSPC", ""], "send": ["ECONNRESET", "EINTR", "EAGAIN", ""],
-    "sendto": ["ECONNRESET", "EINTR", "EAGAIN", ""],
+    "read": ["EIO", "EINTR"], "readv": ["EIO", "EINTR"], "pread": ["EIO"], "recv": ["ECONNRESET", "EINTR"],
+    "recvfrom": ["ECONNRESET", "EINTR"],
+    "write": ["ENOSPC", "EINTR", ""], "writev": ["ENOSPC", "EINTR", ""], "pwrite": ["ENOSPC", ""], "send": ["ECONNRESET", "EINTR", ""],
+    "sendto": ["ECONNRESET", "EINTR", ""],
     "fdatasync": ["EIO"], "fsync": ["EIO", "EINVAL"], "ftruncate": ["EIO"], "ftruncate64": ["EIO"], "open": ["EACCES"], "open64": ["EACCES"],
     "openat": ["EACCES"], "accept": ["EMFILE", "ECONNABORTED"], "accept4": ["EMFILE", "ECONNABORTED"], "epoll_wait": ["EINTR", "EBADF"],
     "epoll_ctl": ["ENOSPC"], "epoll_create1": ["EMFILE"], "socket": ["EMFILE"], "bind": ["EADDRINUSE"], "listen": ["EADDRINUSE"],
     "flock": ["EWOULDBLOCK", "EINTR"], "setsockopt": ["ENOMEM"], "shutdown": ["ENOTCONN"], "getsockname": ["ENOBUFS"],
 }
-"""With which errors each call is refused; one that isn't here, with EIO. No error: half of a write."""
+"""With which errors each call is refused; one that isn't here, with EIO. No error: half of a write. A socket isn't said to be unready (EAGAIN) where
+it is ready: the service asks the system once when a socket becomes ready, and the system never says so of one that is."""
 
 
 class MemoryWalk(Walk):
