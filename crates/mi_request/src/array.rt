@@ -1,4 +1,4 @@
-//! A JSON array, seen by contracts as its items. It lends them or hands them out by moving them, and copies none.
+//! A JSON array, seen by contracts as its items. It lends them, and copies none.
 use bumpalo::Bump;
 use mi_tokens::Tree;
 use std::marker::Model;
@@ -37,12 +37,5 @@ impl<'a> Array<'a> {
         ensures { items_seen result.now ≡ self.now }
     {
         self.items.as_slice()
-    }
-
-    /// Its items in order, moved out.
-    pub fn into_items(self) -> Vec<Tree<'a>, &'a Bump>
-        ensures { items_seen result.items ≡ self.entry }
-    {
-        self.items
     }
 }

@@ -14,7 +14,7 @@ use crate::name::Name;
 use crate::numbers::whole_number;
 use crate::object::Object;
 use crate::request::{End, Place};
-use crate::value::Json;
+use crate::value::{Json, flag_in};
 use bumpalo::Bump;
 use mi_tokens::Tree;
 use mi_value::limits::MAX_PAGE;
@@ -39,12 +39,6 @@ fn natural_or_null(value: &Tree<'_>) -> Option<Option<u64>>
         return Some(None);
     }
     Some(Some(natural_of(value)?))
-}
-
-fn flag_of(value: &Tree<'_>) -> Option<bool>
-    ensures { result ≡ as_bool (seen value.now) }
-{
-    value.as_bool()
 }
 
 /// The text of a member.
@@ -96,7 +90,7 @@ pub(crate) fn flag(object: &Object<'_>, name: &str) -> Option<bool>
     ensures { result ≡ default false as_bool name.now object.now }
 {
     match object.get(name) {
-        Some(value) => flag_of(value),
+        Some(value) => flag_in(value),
         None => Some(false),
     }
 }

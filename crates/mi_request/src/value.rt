@@ -54,8 +54,8 @@ impl<'a> Model for Json<'a> {
 }
 
 impl<'a> Json<'a> {
-    ghost use Rattle.std.specs.Prelude.{◌≡◌, is_some, option_map, option_and_then};
-    ghost use Rattle.serde_json.specs.Find.{as_null, as_bool, as_number, as_i64, as_str, as_array, as_object};
+    ghost use Rattle.std.specs.Prelude.{◌≡◌, is_some};
+    ghost use Rattle.serde_json.specs.Find.{as_null, as_array, as_object};
     ghost use Rattle.mi_request.specs.Meant.{seen};
 
     /// What a value means.
@@ -70,27 +70,6 @@ impl<'a> Json<'a> {
         ensures { result ≡ is_some (as_null self.now) }
     {
         self.value.is_null()
-    }
-
-    /// The whole number that it is, from -2^63 to 2^63 - 1, written without point and exponent.
-    pub fn as_i64(&self) -> Option<i64>
-        ensures { result ≡ option_and_then as_i64 (as_number self.now) }
-    {
-        whole_number(self.value.as_number()?)
-    }
-
-    /// Which of true and false it is.
-    pub fn as_bool(&self) -> Option<bool>
-        ensures { result ≡ as_bool self.now }
-    {
-        self.value.as_bool()
-    }
-
-    /// The text that it is.
-    pub fn as_str(&self) -> Option<&'a str>
-        ensures { option_map (λ s. s.now) result ≡ as_str self.now }
-    {
-        self.value.as_str()
     }
 
     /// The array that it is.

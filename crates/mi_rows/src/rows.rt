@@ -1,5 +1,5 @@
-//! Rows to text: what is the same in each is prepared once for all of them, and each is put behind the last into room that is there. Short
-//! rows, and such as no schema has, go the way of `shown`.
+//! Rows to text: what is the same in each is prepared once for all of them, and each is put behind the last into room that is there. A few
+//! rows, short ones, and such as no schema has, go the way of `shown`.
 ghost use Rattle.std.specs.Prelude.{◌≡◌, ◌∷◌, ◌++◌, ◌+◌, ◌≤◌, [], ℕ, List, false, true, length, map, nat_le, take, codes, vec_len, IfOk};
 ghost use Rattle.std.specs.List.{list_all};
 ghost use Rattle.arrayvec.specs.ArrayVec.{array_vec_len};

@@ -201,8 +201,7 @@ fn is_object(
 }
 
 fn is_array(alloc: Global, member: Option<&Json>, array: Array<'_>) -> Result<bool, AllocError> {
-    let items = array.into_items();
-    let items = Json::Array(owned_items(alloc, items.as_slice())?);
+    let items = Json::Array(owned_items(alloc, array.items())?);
     match member {
         Some(value) => Ok(*value == items),
         None => Ok(false),
