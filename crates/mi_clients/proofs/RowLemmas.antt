@@ -2,15 +2,15 @@
 use Rattle.std.proofs.Common.{◌≡◌, ◌⊎◌, inl, inr, ℕ, zero, suc, ◌+◌, ◌<◌, ◌≤◌, List, [], ◌∷◌, ◌++◌, length, map, Bool, true, false, cond, nat_eq}
 use Rattle.std.proofs.Common.{MatchBool, Some, None, refl, sym, ap, ◌∙◌, subst, arith}
 use Rattle.std.specs.Prelude.{◌↔◌, IsTrue, slice_set, slice_index_or}
-use Rattle.std.specs.List.{remove, Any, AllWithin, HoldsAt}
+use Rattle.std.specs.List.{remove, All, Any, AllWithin, HoldsAt}
 use Rattle.std.proofs.lemmas.Iterator.Search.{true_from_Any}
-use Rattle.std.proofs.lemmas.List.{get_or_default}
+use Rattle.std.proofs.lemmas.List.{get_or_default, get_or-set_same, get_or-set_other, length-set}
+use Rattle.std.proofs.Math.Seq.{map-set_same}
 use Rattle.std.proofs.lemmas.List.Edits.{get_or-remove_below}
 use Rattle.mi_hub.specs.Connections.{rest_at, others}
 use Rattle.mi_hub.specs.Run.{HubState, attach, Done}
 use Rattle.mi_hub.specs.declared.connection.Connection.{Connection}
-use Rattle.mi_clients.specs.Client.{IsOver}
-use Rattle.mi_clients.specs.Row.{ids, fresh, IsNoneOf, AllDiffer, Attends, NoneIsOver}
+use Rattle.mi_clients.specs.Row.{ids, inputs, fresh, IsNoneOf, AllDiffer, Attends}
 use Rattle.mi_clients.specs.declared.client.Client.{Client}
 
 test_of : (b : Bool) → (b ≡ true) ⊎ (b ≡ false)
@@ -38,6 +38,11 @@ pub ids_set : {S : Type 0} (row : List (Client S)) (i : ℕ) (x d : Client S) �
 ids_set [] i x d h = refl
 ids_set (y ∷ row) zero x d h = ap (λ k. k ∷ ids row) h
 ids_set (y ∷ row) (suc i) x d h = ap (λ ks. y.conn ∷ ks) (ids_set row i x d h)
+
+-- one that has sent no more keeps what the row has sent
+pub inputs_set : {S : Type 0} (row : List (Client S)) (i : ℕ) (x d : Client S) → x.input ≡ (slice_index_or row i d).input
+    → inputs (slice_set row i x) ≡ inputs row
+inputs_set row i x d h = map-set_same (λ c. c.input) row i x d h
 
 -- each of the numbers is attached, with no rest
 fresh_at : {S : Type 0} (row : List (Client S)) (i : ℕ) (d : Client S) → i < length row
@@ -93,32 +98,45 @@ attends_less row i d old new lt p is = record {
   differ = differ_less row i p.differ;
 }
 
--- ---- those that stay
+-- ---- what holds of the first of a row
 
--- none of the first is to be let go
-abbrev pub StayTo : {S : Type 0} → ℕ → List (Client S) → Type 0
-StayTo {S} n row = (k : ℕ) (d : Client S) → k < n → k < length row → ¬ IsOver (slice_index_or row k d)
+-- it holds of each of the first
+abbrev pub HoldsTo : {X : Type 0} → (X → Type 0) → ℕ → List X → Type 0
+HoldsTo {X} P n row = (k : ℕ) (d : X) → k < n → k < length row → P (slice_index_or row k d)
 
-pub stay_none : {S : Type 0} (row : List (Client S)) → StayTo 0 row
-stay_none row = λ k d below within over. absurd (omega (arith, below))
+module _ {X : Type 0} (P : X → Type 0) where
+  pub holds_none : (row : List X) → HoldsTo P 0 row
+  holds_none row = λ k d below within. absurd (omega (arith, below))
 
-pub stay_less : {S : Type 0} (row : List (Client S)) (i : ℕ) → i < length row → StayTo i row → StayTo i (remove row i)
-stay_less row i lt p = λ k d below within over. p k d below (omega (arith, below, lt)) (subst (λ x. IsOver x) (get_or-remove_below row i d k below lt) over)
+  -- one behind them goes
+  pub holds_less : (row : List X) (i : ℕ) → i < length row → HoldsTo P i row → HoldsTo P i (remove row i)
+  holds_less row i lt p = λ k d below within.
+      subst P (sym (get_or-remove_below row i d k below lt)) (p k d below (omega (arith, below, lt)))
 
-pub stay_more : {S : Type 0} (row : List (Client S)) (i : ℕ) (x : Client S) → x ≡ slice_index_or row i x → i < length row → ¬ IsOver x → StayTo i row
-    → StayTo (i + 1) row
-stay_more row i x is lt stays p = λ k d below within over. elim (test_of (nat_eq k i)) [
-  | inl same ↦
-      let at : k ≡ i = is_same k i same in
-      stays (subst (λ y. IsOver y) (ap (λ n. slice_index_or row n d) at ∙ get_or_default row i d x lt ∙ sym is) over)
-  | inr other ↦ p k d (lower k i below other) within over
-]
-  where
-    lower : (k i : ℕ) → k < i + 1 → nat_eq k i ≡ false → k < i
-    lower k i lt other = grind arith
+  -- it holds of the next
+  pub holds_more : (row : List X) (i : ℕ) (x : X) → x ≡ slice_index_or row i x → i < length row → P x → HoldsTo P i row → HoldsTo P (i + 1) row
+  holds_more row i x is lt one p = λ k d below within. elim (test_of (nat_eq k i)) [
+    | inl same ↦
+        let at : k ≡ i = is_same k i same in
+        subst P (is ∙ sym (get_or_default row i d x lt) ∙ ap (λ n. slice_index_or row n d) (sym at)) one
+    | inr other ↦ p k d (lower k i below other) within
+  ]
+    where
+      lower : (k i : ℕ) → k < i + 1 → nat_eq k i ≡ false → k < i
+      lower k i lt other = grind arith
 
-pub stay_all : {S : Type 0} (row : List (Client S)) (n : ℕ) → length row ≤ n → StayTo n row → NoneIsOver row
-stay_all row n all p = λ k d within. p k d (omega (arith, all, within)) within
+  -- the next becomes one of which it holds
+  pub holds_set : (row : List X) (i : ℕ) (x : X) → i < length row → P x → HoldsTo P i row → HoldsTo P (i + 1) (slice_set row i x)
+  holds_set row i x lt one p =
+      let long : length (slice_set row i x) ≡ length row = length-set row i x in
+      holds_more (slice_set row i x) i x (sym (get_or-set_same row i x x lt)) (omega (arith, lt, long)) one
+      (λ k d below within. subst P (sym (get_or-set_other row i k x d (λ same. unequal k i below same))) (p k d below (omega (arith, within, long))))
+    where
+      unequal : (k i : ℕ) → k < i → k ≡ i → ⊥
+      unequal k i below same = absurd (omega (arith, below, same))
+
+  pub holds_all : (row : List X) (n : ℕ) → length row ≤ n → HoldsTo P n row → All P row
+  holds_all row n all p = λ k d within. p k d (omega (arith, all, within)) within
 
 -- ---- some is so
 

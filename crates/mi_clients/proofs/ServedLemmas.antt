@@ -1,13 +1,17 @@
 -- What connections are owed and sent, one step behind another, and over a row.
-use Rattle.std.proofs.Common.{◌≡◌, ◌⊎◌, inl, inr, ℕ, zero, suc, ◌<◌, List, [], ◌∷◌, ◌++◌, length, nat_eq, cond, Option, refl, sym, ap, ◌∙◌, subst}
+use Rattle.std.proofs.Common.{◌≡◌, ◌⊎◌, inl, inr, ℕ, zero, suc, ◌<◌, List, [], ◌∷◌, ◌++◌, length, nat_eq, cond, ◌≤◌, Option, refl, sym, ap, ◌∙◌, subst}
 use Rattle.std.proofs.Common.{append-nil, append_assoc, arith}
+use Rattle.std.proofs.lemmas.List.{length-append}
 use Rattle.std.specs.Prelude.{slice_set, slice_index_or}
-use Rattle.std.specs.List.{remove, Contains}
+use Rattle.std.specs.List.{remove, All, AllZip, Contains}
 use Rattle.std.specs.Io.KnownBytes.{Appends, Keeps}
 use Rattle.std.proofs.KnownBytes.{Appends-nil, Appends-trans}
-use Rattle.mi_clients.specs.Client.{owed, Owes, IsServed, IsOver}
+use Rattle.mi_clients.specs.Client.{owed, Owes, IsServed, IsAsked, AsksAll, IsOver}
+use Rattle.mi_clients.specs.Input.{waiting}
+use Rattle.mi_clients.specs.declared.client.TheConstants.{MOST_UNSENT}
+use Rattle.mi_hub.specs.Ended.{ended}
 use Rattle.mi_clients.specs.Output.{Sends}
-use Rattle.mi_clients.specs.Row.{ids, IsNoneOf, AllDiffer, EachServed, IsNew, Joins, LetsGo, Serves}
+use Rattle.mi_clients.specs.Row.{ids, inputs, IsNoneOf, AllDiffer, EachServed, IsNew, Joins, LetsGo, NoneIsOver, Serves}
 use Rattle.mi_clients.specs.Steps.{Step, comes, asks, undoes, goes, reply_to, given_to, GivesOnly, GivesNone, AreAsks, AreUndos}
 use Rattle.mi_clients.specs.declared.client.Client.{Client}
 use Rattle.mi_clients.specs.declared.client.Phase.{Phase}
@@ -140,6 +144,16 @@ module _ {S : Type 0} where
     broken = λ broken. absurd (sound broken);
   }
 
+  -- one that is owed no more, and of which nothing more has come, is asked still
+  pub asked_still : (a b : Client S) → Owes [] a b → b.input ≡ a.input → IsAsked a → IsAsked b
+  asked_still a b p same (inl broken) = inl (p.broken broken).0
+  asked_still a b p same (inr (inl none)) = inr (inl (ap (λ i. ended (waiting i)) same ∙ none))
+  asked_still a b p same (inr (inr full)) = elim p.whole [
+    | inl broken ↦ inl broken
+    | inr none ↦ inr (inr (λ room. full (subst (λ t. length t ≤ MOST_UNSENT)
+        (sym (append-nil (owed b)) ∙ ap (λ t. owed b ++ t) (sym none) ∙ sym p.bytes ∙ append-nil (owed a)) room)))
+  ]
+
   module _ (contents : S → Option (List ℕ)) where
     served_same : (c : Client S) (g : List ℕ) → g ≡ [] → IsServed contents g c c
     served_same c g none = record {
@@ -257,6 +271,20 @@ module _ {S : Type 0} where
   in_more (y ∷ row) (suc i) d c lt (inl is) = inl (inl is)
   in_more (y ∷ row) (suc i) d c lt (inr p) = elim (in_more row i d c (omega arith) p) [ inl q ↦ inl (inr q) | inr is ↦ inr is ]
 
+  -- what holds of two rows, place by place
+  zip_from : (R : Client S → Client S → Type 0) (a b : List (Client S)) (new : Client S) → AllZip R a b → IsIn new b → (old : Client S) × IsIn old a × R old new
+  zip_from R [] [] new p h = absurd h
+  zip_from R [] (y ∷ b) new p h = absurd p
+  zip_from R (x ∷ a) [] new p h = absurd p
+  zip_from R (x ∷ a) (y ∷ b) new p (inl is) = (x, inl refl, subst (R x) is p.0)
+  zip_from R (x ∷ a) (y ∷ b) new p (inr h) = let r = zip_from R a b new p.1 h in (r.0, inr r.1, r.2)
+
+  zip_both : (P Q : Client S → Client S → Type 0) (a b : List (Client S)) → AllZip P a b → AllZip Q a b → AllZip (λ x y. P x y × Q x y) a b
+  zip_both P Q [] [] p q = tt
+  zip_both P Q [] (y ∷ b) p q = absurd p
+  zip_both P Q (x ∷ a) [] p q = absurd p
+  zip_both P Q (x ∷ a) (y ∷ b) p q = ((p.0, q.0), zip_both P Q a b p.1 q.1)
+
   -- ---- those that stay in the row
 
   module _ (contents : S → Option (List ℕ)) where
@@ -297,13 +325,44 @@ module _ {S : Type 0} where
       each_then xs ys a b c p.1 q.1,
     )
 
-    each_from : (steps : List Step) (a b : List (Client S)) (new : Client S) → EachServed contents steps a b → IsIn new b
-        → (old : Client S) × IsIn old a × IsServed contents (given_to old.conn steps) old new
-    each_from steps [] [] new p h = absurd h
-    each_from steps [] (y ∷ b) new p h = absurd p
-    each_from steps (x ∷ a) [] new p h = absurd p
-    each_from steps (x ∷ a) (y ∷ b) new p (inl is) = (x, inl refl, subst (IsServed contents (given_to x.conn steps) x) is p.0)
-    each_from steps (x ∷ a) (y ∷ b) new p (inr h) = let r = each_from steps a b new p.1 h in (r.0, inr r.1, r.2)
+    -- the middle one is asked, and then replies are sent: of one that isn't broken all lines are asked
+    asks_one : (given : List ℕ) (old mid new : Client S) → IsServed contents given old mid → IsAsked mid → IsServed contents [] mid new
+        → new.input ≡ mid.input → ¬ (new.phase ≡ Broken) → AsksAll given old new
+    asks_one given old mid new p (inl broken) q same sound = absurd (sound (q.broken broken).0)
+    asks_one given old mid new p (inr (inl none)) q same sound = inl (ap (λ i. ended (waiting i)) same ∙ none)
+    asks_one given old mid new p (inr (inr full)) q same sound = inr (more_than MOST_UNSENT (length (owed mid)) _ full
+        (within_length p.sent (owed mid) p.lost (owed old ++ given) p.bytes))
+      where
+        more_than : (m k n : ℕ) → ¬ (k ≤ m) → k ≤ n → m < n
+        more_than m k n above le = omega (arith, above, le)
+
+        within_length : (s m l all : List ℕ) → all ≡ s ++ (m ++ l) → length m ≤ length all
+        within_length s m l all is = omega (arith, ap length is, length-append s (m ++ l), length-append m l)
+
+    -- The same of a row.
+    each_asked : (xs : List Step) (a b d : List (Client S)) → EachServed contents xs a b → All (λ c. IsAsked c) b → EachServed contents [] b d → inputs d ≡ inputs b
+        → AllZip (λ old new. ¬ (new.phase ≡ Broken) → AsksAll (given_to old.conn xs) old new) a d
+    each_asked xs [] [] [] p q r same = tt
+    each_asked xs [] [] (z ∷ d) p q r same = absurd r
+    each_asked xs [] (y ∷ b) d p q r same = absurd p
+    each_asked xs (x ∷ a) [] d p q r same = absurd p
+    each_asked xs (x ∷ a) (y ∷ b) [] p q r same = absurd r
+    each_asked xs (x ∷ a) (y ∷ b) (z ∷ d) p q r same = (
+      asks_one (given_to x.conn xs) x y z p.0 (q 0 y (omega arith)) r.0 (cc),
+      each_asked xs a b d p.1 (λ k e within. q (suc k) e (omega (arith, within))) r.1 (cc),
+    )
+
+    -- and nobody is given more
+    each_asked_still : (xs ys : List Step) (a d : List (Client S)) → GivesNone ys
+        → AllZip (λ old new. ¬ (new.phase ≡ Broken) → AsksAll (given_to old.conn xs) old new) a d
+        → AllZip (λ old new. ¬ (new.phase ≡ Broken) → AsksAll (given_to old.conn (xs ++ ys)) old new) a d
+    each_asked_still xs ys [] [] none p = tt
+    each_asked_still xs ys [] (z ∷ d) none p = absurd p
+    each_asked_still xs ys (x ∷ a) [] none p = absurd p
+    each_asked_still xs ys (x ∷ a) (z ∷ d) none p = (
+      λ sound. subst (λ t. AsksAll t x z) (sym (given_front x.conn xs ys none)) (p.0 sound),
+      each_asked_still xs ys a d none p.1,
+    )
 
     each_to : (steps : List Step) (a b : List (Client S)) (old : Client S) → EachServed contents steps a b → IsIn old a
         → (new : Client S) × IsIn new b × IsServed contents (given_to old.conn steps) old new
@@ -314,6 +373,9 @@ module _ {S : Type 0} where
     each_to steps (x ∷ a) (y ∷ b) old p (inr h) = let r = each_to steps a b old p.1 h in (r.0, inr r.1, r.2)
 
   -- ---- those that go
+
+  over_none : (row : List (Client S)) (c : Client S) → NoneIsOver row → Contains row c → ¬ IsOver c
+  over_none row c stay h = λ over. stay h.0 c h.1 (subst (λ (x : Client S). IsOver x) (sym h.2) over)
 
   pub lets_none : (row : List (Client S)) → LetsGo row row
   lets_none row = record { from = λ c h. h; to = λ c h. inl h }
@@ -369,11 +431,19 @@ module _ {S : Type 0} where
   -- ---- all of them
 
   module _ (contents : S → Option (List ℕ)) where
-    pub serves_each : (steps : List Step) (a b c : List (Client S)) → EachServed contents steps a b → LetsGo b c → Serves contents steps a c
-    serves_each steps a b c each left = record {
-      from = λ new h. let r = each_from contents steps a b new each (in_from b new (left.from new h)) in (r.0, inl (in_to a r.0 r.1), r.2);
-      to = λ old h. let r = each_to contents steps a b old each (in_from a old h) in (r.0, left.to r.0 (in_to b r.0 r.1), r.2);
-    }
+    -- all are asked, replies are sent, and those that are over go
+    pub serves_each : (xs ys : List Step) (a b d e : List (Client S)) → GivesNone ys → EachServed contents xs a b → All (λ c. IsAsked c) b
+        → EachServed contents [] b d → inputs d ≡ inputs b → LetsGo d e → NoneIsOver e → Serves contents (xs ++ ys) a e
+    serves_each xs ys a b d e none asked all sent same left stay =
+        let each : EachServed contents (xs ++ ys) a d = each_then contents xs ys a b d asked (each_then contents [] ys b d d sent (each_none contents ys d none)) in
+        let served : Client S → Client S → Type 0 = λ old new. IsServed contents (given_to old.conn (xs ++ ys)) old new in
+        let asks : Client S → Client S → Type 0 = λ old new. ¬ (new.phase ≡ Broken) → AsksAll (given_to old.conn (xs ++ ys)) old new in
+        let both = zip_both served asks a d each (each_asked_still contents xs ys a d none (each_asked contents xs a b d asked all sent same)) in record {
+          from = λ new h.
+              let r = zip_from (λ old new. served old new × asks old new) a d new both (in_from d new (left.from new h)) in
+              (r.0, inl (in_to a r.0 r.1), r.2.0, r.2.1 (λ broken. over_none e new stay h (inl broken)));
+          to = λ old h. let r = each_to contents (xs ++ ys) a d old each (in_from a old h) in (r.0, left.to r.0 (in_to d r.0 r.1), r.2);
+        }
 
     pub serves_joined : (xs ys : List Step) (a b c : List (Client S)) → GivesNone xs → Joins a b → Serves contents ys b c → Serves contents (xs ++ ys) a c
     serves_joined xs ys a b c none joins p = record {
@@ -387,6 +457,7 @@ module _ {S : Type 0} where
           | inr came ↦ inr (new_before r.0 a b joins.0 joins.1 came)
         ],
         served_by contents (given_to r.0.conn ys) (given_to r.0.conn (xs ++ ys)) r.0 new (sym (given_behind r.0.conn xs ys none)) r.2,
+        subst (λ t. AsksAll t r.0 new) (sym (given_behind r.0.conn xs ys none)) r.3,
       );
       to = λ old h. let r = p.to old (in_to b old (subst (IsIn old) (sym joins.1) (in_front a joins.0 old (in_from a old h)))) in (
         r.0,

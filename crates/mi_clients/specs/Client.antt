@@ -1,8 +1,10 @@
 -- What a connection is to be sent, and what becomes of that while some steps are made.
-use Rattle.std.specs.Prelude.{◌≡◌, ◌⊎◌, ◌≤◌, ℕ, List, [], ◌++◌, length, IsTrue, IsFalse, Option}
+use Rattle.std.specs.Prelude.{◌≡◌, ◌⊎◌, ◌≤◌, ◌<◌, ℕ, List, [], ◌++◌, length, IsTrue, IsFalse, Option}
 use Rattle.std.specs.Io.KnownBytes.{Appends}
 use Rattle.mi_ledger.specs.HeldReplies.{bytes_of}
 use Rattle.mi_clients.specs.Output.{unsent}
+use Rattle.mi_clients.specs.Input.{waiting}
+use Rattle.mi_hub.specs.Ended.{ended}
 use Rattle.mi_clients.specs.declared.client.Client.{Client}
 use Rattle.mi_clients.specs.declared.client.Phase.TheVariants.{Open, Asked, Broken}
 use Rattle.mi_clients.specs.declared.client.TheConstants.{MOST_UNSENT}
@@ -43,6 +45,19 @@ HasRoom c = length (owed c) ≤ MOST_UNSENT
 -- its lines may be asked: its stream hasn't failed, a whole line may wait, and its replies have room
 abbrev pub MayAsk : {S : Type 0} → Client S → Type 0
 MayAsk c = ¬ (c.phase ≡ Broken) × IsTrue c.has_lines × HasRoom c
+
+-- no whole line of it waits to be asked
+abbrev pub HasNoLine : {S : Type 0} → Client S → Type 0
+HasNoLine c = ended (waiting c.input) ≡ []
+
+-- no more of its lines can be asked now: its stream has failed, or no whole line waits, or its replies have no room
+abbrev pub IsAsked : {S : Type 0} → Client S → Type 0
+IsAsked c = (c.phase ≡ Broken) ⊎ (HasNoLine c ⊎ ¬ HasRoom c)
+
+-- Between old and new a connection is given these replies, and all its lines that had come are asked: no whole one waits, unless what it was
+-- owed and these together had no room.
+abbrev pub AsksAll : {S : Type 0} → List ℕ → Client S → Client S → Type 0
+AsksAll given old new = HasNoLine new ⊎ (MOST_UNSENT < length (owed old ++ given))
 
 -- its stream is to be read: more may come, a read may give something, no whole line waits, and its replies have room
 abbrev pub WantsBytes : {S : Type 0} → Client S → Type 0

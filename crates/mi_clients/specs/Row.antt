@@ -2,13 +2,18 @@
 use Rattle.std.specs.Prelude.{◌≡◌, ◌⊎◌, ℕ, List, [], ◌∷◌, ◌++◌, map, false, ◌==◌, Some, Option}
 use Rattle.std.specs.List.{All, AllZip, Contains}
 use Rattle.mi_hub.specs.declared.connection.Connection.{Connection}
-use Rattle.mi_clients.specs.Client.{owed, IsServed, IsOver}
+use Rattle.mi_clients.specs.Client.{owed, IsServed, IsOver, AsksAll}
 use Rattle.mi_clients.specs.Steps.{Step, given_to}
 use Rattle.mi_clients.specs.declared.client.Client.{Client}
+use Rattle.mi_clients.specs.declared.input.Input.{Input}
 
 -- the numbers of clients, in order
 abbrev pub ids : {S : Type 0} → List (Client S) → List ℕ
 ids row = map (λ c. c.conn) row
+
+-- what each of them has sent and wasn't asked yet, in order
+abbrev pub inputs : {S : Type 0} → List (Client S) → List Input
+inputs row = map (λ c. c.input) row
 
 -- a connection that is attached, and has sent nothing that wasn't asked
 abbrev pub fresh : ℕ → Connection
@@ -52,9 +57,10 @@ NoneIsOver row = All (λ c. ¬ IsOver c) row
 
 -- What becomes of a row while these steps are made. Each connection that is there then was there before, or has come owed nothing; each that
 -- was there before is there, or has gone when it was over. What it was given meanwhile are the replies to its own lines: behind what it was
--- owed they were sent to its own stream, or are owed still.
+-- owed they were sent to its own stream, or are owed still. No whole line of those that are there waits, but where the replies had no room.
 pub record Serves {S : Type 0} (contents : S → Option (List ℕ)) (steps : List Step) (olds news : List (Client S)) : Type 0 where
   pub from : (new : Client S) → Contains news new
       → (old : Client S) × (Contains olds old ⊎ IsNew old olds) × IsServed contents (given_to old.conn steps) old new
+      × AsksAll (given_to old.conn steps) old new
   pub to : (old : Client S) → Contains olds old
       → (last : Client S) × (Contains news last ⊎ IsOver last) × IsServed contents (given_to old.conn steps) old last

@@ -1,5 +1,5 @@
 //! The lines of one connection, asked of the ledger. It reads and writes no stream.
-ghost use Rattle.std.specs.Prelude.{◌≡◌, ◌⊎◌, ◌<◌, ◌++◌, ℕ, List, [], ◌∷◌, Some, true, false, length, OnOk, OnErr, IfOk};
+ghost use Rattle.std.specs.Prelude.{◌≡◌, ◌⊎◌, ◌<◌, ◌++◌, ℕ, List, [], ◌∷◌, Some, true, false, length, IsTrue, OnOk, OnErr, IfOk};
 ghost use Rattle.std.specs.Io.KnownBytes.{Keeps};
 ghost use Rattle.mi_commands.specs.Holder.{held_by};
 ghost use Rattle.mi_hub.specs.Connections.{rest_at, others};
@@ -8,7 +8,8 @@ ghost use Rattle.mi_clients.specs.Steps.{Step, asks, Makes, GivesNone, AreAsks, 
 ghost use Rattle.mi_clients.specs.Input.{waiting};
 ghost use Rattle.mi_ledger.specs.HeldReplies.{bytes_of};
 ghost use Rattle.mi_clients.specs.Output.{unsent};
-ghost use Rattle.mi_clients.specs.Client.{owed, Owes};
+ghost use Rattle.mi_clients.specs.Client.{owed, Owes, IsAsked};
+ghost use Rattle.mi_hub.specs.Ended.{ended};
 ghost use Rattle.mi_clients.specs.declared.client.Phase.TheVariants as phases;
 
 use crate::client::{Client, Phase};
@@ -95,11 +96,12 @@ fn ask_line<D: Sessions + Drop, L: Log + Drop, S>(
     client: &mut Client<S>,
 ) -> Result<bool, LedgerFault>
     requires here { rest_at client.old.conn (hub_of ledger.old).attached ≡ Some (Some []) }
+    requires lines { IsTrue client.old.has_lines }
     ensures one { IfOk result (λ found. found ≡ true → (line : List ℕ) × (out : List ℕ) × (0 < length line)
         × (waiting client.old.input ≡ line ++ waiting client.new.input) × (owed client.new ≡ owed client.old ++ out)
         × Makes (asks client.old.conn line out ∷ []) (hub_of ledger.old) (hub_of ledger.new)
         (L.appended (log_of ledger.old)) (L.appended (log_of ledger.new))) }
-    ensures none { IfOk result (λ found. found ≡ false → (client.new ≡ client.old) × (ledger.new ≡ ledger.old)) }
+    ensures none { IfOk result (λ found. found ≡ false → (client.new ≡ client.old) × (ledger.new ≡ ledger.old) × (ended (waiting client.old.input) ≡ [])) }
     ensures same { OnOk result ((client.new.conn ≡ client.old.conn) × (client.new.phase ≡ client.old.phase) × (client.new.stream ≡ client.old.stream)) }
     ensures attached { OnOk result ((hub_of ledger.new).attached ≡ (hub_of ledger.old).attached) }
     ensures settled { IsSettled L.appended L.synced ledger.old → IsSettled L.appended L.synced ledger.new }
@@ -113,8 +115,8 @@ fn ask_line<D: Sessions + Drop, L: Log + Drop, S>(
     Ok(true)
 }
 
-/// Asks the lines of a connection that have come, as long as its replies have room. With `each` a reply is handed out, behind a sync,
-/// before the next line is asked.
+/// Asks the lines of a connection that have come, as long as its replies have room: all of them, unless it breaks or the room ends. With
+/// `each` a reply is handed out, behind a sync, before the next line is asked.
 pub fn ask_lines<D: Sessions + Drop, L: Log + Drop, S>(
     ledger: &mut Ledger<D, L>,
     client: &mut Client<S>,
@@ -126,6 +128,7 @@ pub fn ask_lines<D: Sessions + Drop, L: Log + Drop, S>(
         × (waiting client.old.input ≡ taken ++ waiting client.new.input)
         × Owes given client.old client.new
         × Makes steps (hub_of ledger.old) (hub_of ledger.new) (L.appended (log_of ledger.old)) (L.appended (log_of ledger.new))) }
+    ensures all { OnOk result (IsAsked client.new) }
     ensures attached { OnOk result ((hub_of ledger.new).attached ≡ (hub_of ledger.old).attached) }
     ensures settled { OnOk result (IsSettled L.appended L.synced ledger.new) }
 {

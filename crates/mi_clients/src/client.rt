@@ -1,6 +1,7 @@
 //! A connection: its stream, what came of it and wasn't asked yet, and what it is to be sent. It asks nobody.
-ghost use Rattle.std.specs.Prelude.{◌≡◌, ◌⊎◌, ◌↔◌, ◌++◌, ◌||◌, ℕ, List, [], true, IsTrue};
+ghost use Rattle.std.specs.Prelude.{◌≡◌, ◌⊎◌, ◌↔◌, ◌++◌, ◌||◌, ℕ, List, [], true, IsTrue, IsFalse};
 ghost use Rattle.mi_hub.specs.Ended.{ended};
+ghost use Rattle.mi_clients.specs.Input.{waiting};
 ghost use Rattle.mi_clients.specs.declared.client.Phase.TheVariants as phases;
 
 use crate::duplex::Duplex;
@@ -52,11 +53,12 @@ pub struct Client<S> {
     pub(crate) has_lines: bool,
     /// Where memory for it comes from.
     pub(crate) alloc: Global,
+    /// Where no line may wait, none does.
+    ghost lines: { IsFalse has_lines → ended (waiting input) ≡ [] },
 }
 
 impl<S> Client<S> {
-    ghost use Rattle.mi_clients.specs.Client.{owed, IsOver, HasRoom, MayAsk, WantsBytes, IsBusy};
-    ghost use Rattle.mi_clients.specs.Input.{waiting};
+    ghost use Rattle.mi_clients.specs.Client.{owed, IsOver, HasRoom, MayAsk, IsAsked, WantsBytes, IsBusy};
 
     /// A connection that has just come.
     pub(crate) fn new(alloc: Global, conn: u64, stream: S) -> Client<S>
@@ -91,7 +93,8 @@ impl<S> Client<S> {
 
     /// Whether its lines may be asked.
     pub(crate) fn may_ask(&self) -> bool
-        ensures { IsTrue result ↔ MayAsk self.now }
+        ensures may { IsTrue result ↔ MayAsk self.now }
+        ensures not { IsFalse result → IsAsked self.now }
     {
         self.phase != Phase::Broken && self.has_lines && self.has_room()
     }
@@ -143,7 +146,6 @@ impl<S: Duplex> Client<S> {
     ghost use Rattle.std.specs.Io.KnownBytes.{Keeps, Consumes};
     ghost use Rattle.mi_clients.specs.Client.{owed};
     ghost use Rattle.mi_clients.specs.Output.{Sends};
-    ghost use Rattle.mi_clients.specs.Input.{waiting};
     ghost use Rattle.mi_clients.specs.Lines.{SameLines, Ends};
 
     /// Reads one piece, where it is to be read: what comes waits to be asked, or its bytes have ended, or it is broken.
@@ -192,7 +194,7 @@ impl<S: Duplex> Client<S> {
     /// A piece has come.
     fn take(&mut self, piece: &[u8])
         ensures waits { (self.new.phase ≡ phases.Broken) ⊎ SameLines (waiting self.old.input ++ piece.now) (waiting self.new.input) }
-        ensures same { self.new ≡ record self.old { input = self.new.input; phase = self.new.phase; has_lines = self.new.has_lines } }
+        ensures same { self.new ≡ record self.old { input = self.new.input; phase = self.new.phase; has_lines = self.new.has_lines; lines = self.new.lines } }
     {
         self.has_lines = true;
         match self.input.fill(piece) {
@@ -205,7 +207,7 @@ impl<S: Duplex> Client<S> {
     fn finish(&mut self)
         requires { ended (waiting self.old.input) ≡ [] }
         ensures ends { (self.new.phase ≡ phases.Broken) ⊎ ((self.new.phase ≡ phases.Ended) × Ends (waiting self.old.input) (waiting self.new.input)) }
-        ensures same { self.new ≡ record self.old { input = self.new.input; phase = self.new.phase; has_lines = self.new.has_lines } }
+        ensures same { self.new ≡ record self.old { input = self.new.input; phase = self.new.phase; has_lines = self.new.has_lines; lines = self.new.lines } }
     {
         self.has_lines = true;
         match self.input.end() {

@@ -1,11 +1,11 @@
 //! The attached connections in a row, each step over all of them.
 ghost use Rattle.std.specs.Prelude.{◌≡◌, ◌⊎◌, ◌↔◌, ◌++◌, ◌∷◌, List, [], Some, IsTrue, OnOk};
-ghost use Rattle.std.specs.List.{Any};
+ghost use Rattle.std.specs.List.{All, Any};
 ghost use Rattle.std.specs.Io.KnownBytes.{Keeps};
 ghost use Rattle.mi_ledger.specs.Ledger.{hub_of, log_of, IsSettled};
-ghost use Rattle.mi_clients.specs.Client.{owed, IsServed, IsBusy};
+ghost use Rattle.mi_clients.specs.Client.{owed, IsServed, IsAsked, IsBusy};
 ghost use Rattle.mi_clients.specs.Steps.{Step, Makes, given_to, GivesOnly, GivesNone};
-ghost use Rattle.mi_clients.specs.Row.{ids, Attends, EachServed, Joins, LetsGo, NoneIsOver, Serves};
+ghost use Rattle.mi_clients.specs.Row.{ids, inputs, Attends, EachServed, Joins, LetsGo, NoneIsOver, Serves};
 ghost use Rattle.mi_clients.specs.declared.client.Client.{Client};
 ghost use Rattle.mi_hub.specs.Connections.{rest_at};
 
@@ -29,6 +29,7 @@ fn serve<D: Sessions + Drop, L: Log + Drop, S: Duplex>(
     ensures serves { OnOk result ((steps : List Step) × GivesOnly client.old.conn steps
         × IsServed S.contents (given_to client.old.conn steps) client.old client.new
         × Makes steps (hub_of ledger.old) (hub_of ledger.new) (L.appended (log_of ledger.old)) (L.appended (log_of ledger.new))) }
+    ensures asked { OnOk result (IsAsked client.new) }
     ensures attached { OnOk result ((hub_of ledger.new).attached ≡ (hub_of ledger.old).attached) }
     ensures settled { OnOk result (IsSettled L.appended L.synced ledger.new) }
 {
@@ -48,6 +49,7 @@ pub fn ask_all<D: Sessions + Drop, L: Log + Drop, S: Duplex>(
     requires settled { IsSettled L.appended L.synced ledger.old }
     ensures serves { OnOk result ((steps : List Step) × EachServed S.contents steps row.old.items row.new.items
         × Makes steps (hub_of ledger.old) (hub_of ledger.new) (L.appended (log_of ledger.old)) (L.appended (log_of ledger.new))) }
+    ensures asked { OnOk result (All IsAsked row.new.items) }
     ensures attends { OnOk result (Attends (ids row.new.items) (hub_of ledger.new).attached) }
     ensures settled { OnOk result (IsSettled L.appended L.synced ledger.new) }
 {
@@ -65,6 +67,7 @@ pub fn send_all<D: Sessions + Drop, L: Log + Drop, S: Duplex>(
     requires attends { Attends (ids row.old.items) (hub_of ledger.old).attached }
     requires settled { IsSettled L.appended L.synced ledger.old }
     ensures sends { OnOk result (EachServed S.contents [] row.old.items row.new.items) }
+    ensures inputs { OnOk result (inputs row.new.items ≡ inputs row.old.items) }
     ensures hub { OnOk result (hub_of ledger.new ≡ hub_of ledger.old) }
     ensures appended { OnOk result (Keeps (L.appended (log_of ledger.old)) (L.appended (log_of ledger.new))) }
     ensures attends { OnOk result (Attends (ids row.new.items) (hub_of ledger.new).attached) }

@@ -3,9 +3,10 @@ use Rattle.std.proofs.Common.{◌<◌, ◌++◌, [], length, sym, subst, arith}
 use Rattle.std.proofs.KnownBytes.{Keeps-refl}
 use Rattle.std.specs.Prelude.{slice_set}
 use Rattle.mi_ledger.specs.Ledger.{hub_of}
+use Rattle.mi_clients.specs.Client.{IsAsked}
 use Rattle.mi_clients.specs.Row.{ids, Attends, EachServed}
 use Rattle.mi_clients.proofs.StepLemmas.{makes_none, makes_then}
-use Rattle.mi_clients.proofs.RowLemmas.{ids_set, attends_at}
+use Rattle.mi_clients.proofs.RowLemmas.{ids_set, attends_at, holds_none, holds_set, holds_all}
 use Rattle.mi_clients.proofs.ServedLemmas.{nothing_given, each_none, each_set, each_then}
 use Rattle.mi_clients.proofs.row.ask_all.Goals as goal
 
@@ -13,6 +14,7 @@ pub loop-client-init : goal.loop-client-init
 loop-client-init g c = record {
   attends = subst (λ items. Attends (ids items) (hub_of c.args.ledger.now).attached) (sym c.deref_mut-client-items.ensures.value) c.requires.attends;
   settled = c.requires.settled;
+  asked = holds_none (λ x. IsAsked x) _;
   steps = [];
   each = subst (EachServed g.S.Duplex.contents [] c.args.row.now.items) (sym c.deref_mut-client-items.ensures.value)
       (each_none g.S.Duplex.contents [] c.args.row.now.items nothing_given);
@@ -37,6 +39,7 @@ loop-client-preserved g c =
           (subst (Attends (ids row)) (sym c.in_ok-serve.ensures.attached) before.attends);
       settled = c.in_ok-serve.ensures.settled;
       steps = before.steps ++ one.0;
+      asked = holds_set (λ x. IsAsked x) row at c.serve.new.client within c.in_ok-serve.ensures.asked before.asked;
       each = each_then g.S.Duplex.contents before.steps one.0 c.args.row.now.items row (slice_set row at c.serve.new.client) before.each set;
       makes = makes_then before.steps one.0 _ (hub_of c.loop-client.ledger) _ _ _ _ before.makes one.3;
     }

@@ -7,16 +7,20 @@ use Rattle.mi_clients.specs.Client.{IsOver}
 use Rattle.mi_clients.specs.Row.{ids, Attends, LetsGo}
 use Rattle.mi_clients.specs.declared.client.Client.{Client}
 use Rattle.mi_clients.proofs.StepLemmas.{makes_none, makes_then}
-use Rattle.mi_clients.proofs.RowLemmas.{attends_at, attends_less, stay_none, stay_less, stay_more, stay_all, true_false, StayTo}
+use Rattle.mi_clients.proofs.RowLemmas.{attends_at, attends_less, holds_none, holds_less, holds_more, holds_all, true_false, HoldsTo}
 use Rattle.mi_clients.proofs.ServedLemmas.{nothing_given, none_join, lets_none, lets_one}
 use Rattle.mi_clients.proofs.row.let_go.Goals as goal
+
+-- it isn't to be let go
+abbrev stays : {S : Type 0} → Client S → Type 0
+stays c = ¬ IsOver c
 
 pub row-init : goal.row-init
 row-init g c = record {
   attends = c.requires.attends;
   settled = c.requires.settled;
   gone = lets_none c.args.row.now.items;
-  stay = stay_none c.args.row.now.items;
+  stay = holds_none stays c.args.row.now.items;
   steps = [];
   none = nothing_given;
   makes = makes_none _ _ _ (Keeps-refl _);
@@ -44,7 +48,7 @@ row-preserved-then-is_over g c =
       settled = c.in_ok-part.ensures.settled before.settled;
       gone = subst (LetsGo c.args.row.now.items) (sym c.remove.ensures.items)
           (lets_one c.args.row.now.items c.row.row.items c.row.at c.index.result.now before.gone within over);
-      stay = subst (StayTo c.row.at) (sym c.remove.ensures.items) (stay_less c.row.row.items c.row.at within before.stay);
+      stay = subst (HoldsTo stays c.row.at) (sym c.remove.ensures.items) (holds_less stays c.row.row.items c.row.at within before.stay);
       steps = before.steps ++ parted.0;
       none = none_join before.steps parted.0 before.none parted.1;
       makes = makes_then before.steps parted.0 _ (hub_of c.row.ledger) _ _ _ _ before.makes parted.2;
@@ -57,7 +61,7 @@ row-preserved g c =
       attends = before.attends;
       settled = before.settled;
       gone = before.gone;
-      stay = stay_more c.row.row.items c.row.at c.index.result.now c.index.ensures within
+      stay = holds_more stays c.row.row.items c.row.at c.index.result.now c.index.ensures within
           (λ over. true_false c.is_over.result (c.is_over.ensures.1 over) c.if-is_over.false) before.stay;
       steps = before.steps;
       none = before.none;
@@ -65,4 +69,4 @@ row-preserved g c =
     }
 
 pub returns-clause-stay : goal.returns-clause-stay
-returns-clause-stay g c = stay_all c.row.row.items c.row.at (search rules) c.row.invariant.stay
+returns-clause-stay g c = holds_all stays c.row.row.items c.row.at (search rules) c.row.invariant.stay

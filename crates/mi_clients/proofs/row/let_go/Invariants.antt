@@ -2,7 +2,8 @@ use Rattle.std.proofs.Common.{◌-◌, List, length}
 use Rattle.mi_ledger.specs.Ledger.{hub_of, log_of, IsSettled}
 use Rattle.mi_clients.specs.Steps.{Step, Makes, GivesNone}
 use Rattle.mi_clients.specs.Row.{ids, Attends, LetsGo}
-use Rattle.mi_clients.proofs.RowLemmas.{StayTo}
+use Rattle.mi_clients.specs.Client.{IsOver}
+use Rattle.mi_clients.proofs.RowLemmas.{HoldsTo}
 use Rattle.mi_clients.proofs.row.let_go.Given as goal
 
 -- the row stays what the hub has attached, and only those that are over have gone
@@ -11,7 +12,7 @@ invariant-row g l = record {
   attends : Attends (ids l.row.items) (hub_of l.ledger).attached;
   settled : IsSettled g.L.Log.appended g.L.Log.synced l.ledger;
   gone : LetsGo l.fn.row.items l.row.items;
-  stay : StayTo l.at l.row.items;
+  stay : HoldsTo (λ c. ¬ IsOver c) l.at l.row.items;
   steps : List Step;
   none : GivesNone steps;
   makes : Makes steps (hub_of l.fn.ledger) (hub_of l.ledger) (g.L.Log.appended (log_of l.fn.ledger)) (g.L.Log.appended (log_of l.ledger));

@@ -4,9 +4,9 @@ use Rattle.std.proofs.KnownBytes.{Keeps-refl, Keeps-trans}
 use Rattle.std.specs.Prelude.{slice_set, slice_index_or}
 use Rattle.mi_hub.specs.Run.{HubState}
 use Rattle.mi_ledger.specs.Ledger.{hub_of}
-use Rattle.mi_clients.specs.Row.{ids, Attends, EachServed}
+use Rattle.mi_clients.specs.Row.{ids, inputs, Attends, EachServed}
 use Rattle.mi_clients.specs.declared.client.Client.{Client}
-use Rattle.mi_clients.proofs.RowLemmas.{ids_set}
+use Rattle.mi_clients.proofs.RowLemmas.{ids_set, inputs_set}
 use Rattle.mi_clients.proofs.ServedLemmas.{nothing_given, each_none, each_set, each_then, served_then, served_owes, served_sends}
 use Rattle.mi_clients.proofs.row.send_all.Goals as goal
 
@@ -14,6 +14,7 @@ pub loop-client-init : goal.loop-client-init
 loop-client-init g c = record {
   attends = subst (λ items. Attends (ids items) (hub_of c.args.ledger.now).attached) (sym c.deref_mut-client-items.ensures.value) c.requires.attends;
   settled = c.requires.settled;
+  inputs = ap inputs c.deref_mut-client-items.ensures.value;
   each = subst (EachServed g.S.Duplex.contents [] c.args.row.now.items) (sym c.deref_mut-client-items.ensures.value)
       (each_none g.S.Duplex.contents [] c.args.row.now.items nothing_given);
   hub = refl;
@@ -32,11 +33,13 @@ loop-client-preserved g c =
     c.send.ensures.sent c.send.ensures.broken in
     let old = slice_index_or row at c.client-item.result in
     let one = served_then contents [] [] old c.release.new.client c.send.new.self (served_owes contents [] old c.release.new.client released) sent in
+    let kept = ap (λ (x : Client _). x.input) c.send.ensures.same ∙ c.in_ok-release.ensures.input in
     let same = ids_set row at c.send.new.self c.client-item.result one.conn in
     let set = each_set contents [] row at c.client-item.result c.send.new.self before.attends.differ within (λ k other. refl) one in record {
       attends = subst (λ ks. Attends ks (hub_of c.release.new.ledger).attached) (sym same)
           (subst (Attends (ids row)) (sym (ap (λ (s : HubState). s.attached) c.release.ensures.hub)) before.attends);
       settled = c.release.ensures.settled;
+      inputs = inputs_set row at c.send.new.self c.client-item.result kept ∙ before.inputs;
       each = each_then contents [] [] c.args.row.now.items row (slice_set row at c.send.new.self) before.each set;
       hub = c.release.ensures.hub ∙ before.hub;
       appended = Keeps-trans _ _ _ before.appended c.release.ensures.appended;

@@ -4,7 +4,8 @@ use Rattle.std.proofs.lemmas.Result.{on_ok_weaker}
 use Rattle.mi_ledger.specs.Ledger.{hub_of}
 use Rattle.mi_clients.specs.Steps.{AreAsks, AreUndos}
 use Rattle.mi_clients.proofs.StepLemmas.{makes_then}
-use Rattle.mi_clients.proofs.ServedLemmas.{served_read, served_whole}
+use Rattle.mi_ledger.proofs.JournalLemmas.{on_ok_both}
+use Rattle.mi_clients.proofs.ServedLemmas.{asked_still, served_read, served_whole}
 use Rattle.mi_clients.proofs.row.serve.Goals as goal
 
 pub returns-clause-serves : goal.returns-clause-serves
@@ -24,3 +25,8 @@ returns-clause-serves g c =
       all.1,
       makes_then asked.0 undone.0 _ (hub_of c.ask_lines.new.ledger) _ _ _ _ asked.6 undone.3,
     )) c.settle.ensures.undoes
+
+pub returns-clause-asked : goal.returns-clause-asked
+returns-clause-asked g c =
+    on_ok_both c.settle.result (λ undone same. asked_still c.ask_lines.new.client c.settle.new.client undone.2 same c.in_ok-ask_lines.ensures.all)
+    c.settle.ensures.undoes c.settle.ensures.input

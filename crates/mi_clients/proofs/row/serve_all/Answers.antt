@@ -1,9 +1,9 @@
 -- What each is owed behind its lines is sent, and then those that are over go.
-use Rattle.std.proofs.Common.{◌++◌, []}
-use Rattle.std.proofs.lemmas.Result.{on_ok_weaker}
+use Rattle.std.proofs.Common.{◌++◌}
 use Rattle.mi_ledger.specs.Ledger.{hub_of}
+use Rattle.mi_ledger.proofs.JournalLemmas.{on_ok_both}
 use Rattle.mi_clients.proofs.StepLemmas.{makes_then, makes_kept}
-use Rattle.mi_clients.proofs.ServedLemmas.{each_none, each_then, serves_each}
+use Rattle.mi_clients.proofs.ServedLemmas.{serves_each}
 use Rattle.mi_clients.proofs.row.serve_all.Goals as goal
 
 pub returns-clause-serves : goal.returns-clause-serves
@@ -14,11 +14,10 @@ returns-clause-serves g c =
     let a = c.args.row.now.items in
     let b = c.ask_all.new.row.items in
     let d = c.send_all.new.row.items in
-    on_ok_weaker c.let_go.result (λ gone.
-    let steps = asked.0 ++ gone.0 in
-    let last = each_then contents [] gone.0 b d d sent.sends (each_none contents gone.0 d gone.1) in (
-      steps,
-      serves_each contents steps a d c.let_go.new.row.items (each_then contents asked.0 gone.0 a b d asked.1 last) gone.2,
+    on_ok_both c.let_go.result (λ gone stay.
+    let e = c.let_go.new.row.items in (
+      asked.0 ++ gone.0,
+      serves_each contents asked.0 gone.0 a b d e gone.1 asked.1 c.in_ok-ask_all.ensures.asked sent.sends sent.inputs gone.2 stay,
       makes_then asked.0 gone.0 _ (hub_of c.send_all.new.ledger) _ _ _ _
           (makes_kept asked.0 _ (hub_of c.ask_all.new.ledger) _ _ _ _ asked.2 sent.hub sent.appended) gone.3,
-    )) c.let_go.ensures.goes
+    )) c.let_go.ensures.goes c.let_go.ensures.stay

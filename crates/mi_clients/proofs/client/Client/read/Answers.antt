@@ -1,5 +1,6 @@
 -- What was read waits to be asked.
-use Rattle.std.proofs.Common.{◌≡◌, ◌∙◌, ◌++◌, inl, inr, sym, ap, subst, take}
+use Rattle.std.proofs.Common.{◌≡◌, ◌∙◌, ◌++◌, [], inl, inr, refl, sym, ap, subst, append-nil, take}
+use Rattle.std.proofs.KnownBytes.{Consumes-kept, Consumes-nil}
 use Rattle.std.specs.Io.KnownBytes.{Consumes}
 use Rattle.mi_clients.specs.Input.{waiting}
 use Rattle.mi_clients.specs.Lines.{SameLines}
@@ -18,4 +19,17 @@ returns-in-Ok-clause-piece g c =
         | inr same ↦ inr (inl
             (subst (λ i. SameLines (waiting i ++ piece) (waiting c.take.new.self.input)) (ap (λ (s : Client _). s.input) c.is_drained.ensures) same))
       ],
+    )
+
+-- where the read fails, nothing has come
+pub returns-in-Err-clause-piece : goal.returns-in-Err-clause-piece
+returns-in-Err-clause-piece g c =
+    let old = waiting c.args.self.now.input in
+    let stream : c.fail.new.self.stream ≡ c.read.new.self = ap (λ (s : Client _). s.stream) c.fail.ensures in
+    let input : c.fail.new.self.input ≡ c.args.self.now.input = ap (λ (s : Client _). s.input) c.fail.ensures in
+    let same : SameLines (old ++ []) old = subst (λ t. SameLines t old) (sym (append-nil old)) (refl, refl) in (
+      [],
+      subst (λ s. Consumes (g.S.Duplex.remaining c.args.self.now.stream) (g.S.Duplex.remaining s) []) (sym stream)
+          (Consumes-kept _ _ _ [] (Consumes-nil _) c.in-Err.ensures.bytes),
+      inr (inl (subst (λ i. SameLines (old ++ []) (waiting i)) (sym input) same)),
     )
