@@ -9,7 +9,7 @@ ghost use Rattle.mi_tree.specs.Sorted.{side, AreTagged, CanPut, HasPut, CanTake,
 use crate::balance::balance;
 use crate::compare::compare_nodes;
 use crate::order::NodeOrder;
-use crate::parts::height;
+use crate::parts::{Sub, height};
 use crate::way::{climb, go_first, go_in, go_to, replace};
 use arrayvec::ArrayVec;
 use mi_node::{Counted, Link, NO_LINK, NodeRef, Pool, Tag};
@@ -85,7 +85,10 @@ pub(crate) fn append<T>(
         None => left,
         Some(right) => {
             let (first, rest) = take_first(p, slot, right);
-            Some(balance(p, slot, left, first, rest))
+            let before = Sub::of(p, slot, left);
+            let after = Sub::of(p, slot, rest);
+            let (top, _) = balance(p, slot, before, first, after);
+            Some(top)
         }
     }
 }

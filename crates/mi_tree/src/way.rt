@@ -11,7 +11,7 @@ ghost use Rattle.mi_tree.specs.Joining.{IsBalanced};
 use crate::balance::balance;
 use crate::compare::compare_nodes;
 use crate::order::NodeOrder;
-use crate::parts::{height, set_side};
+use crate::parts::{Sub, height, set_side};
 use crate::walk::MAX_LEVELS;
 use arrayvec::ArrayVec;
 use mi_node::{Counted, Link, NO_LINK, NodeRef, Pool, Tag};
@@ -232,9 +232,9 @@ fn rejoin<T>(
         return (turn.node, now);
     }
     let link = with_child(p.link(turn.node, slot), turn.left, below);
-    let top = balance(p, slot, link.back, turn.node, link.forth);
-    let now = height(p, slot, Some(top));
-    (top, now)
+    let left = Sub::of(p, slot, link.back);
+    let right = Sub::of(p, slot, link.forth);
+    balance(p, slot, left, turn.node, right)
 }
 
 /// Puts the tree of that root in place of the one at the end of the way, which is as high. `root` becomes the tree's root.
