@@ -1,5 +1,5 @@
 -- What a new link of one node does to the trees.
-use Rattle.std.proofs.Common.{◌≡◌, ℕ, ◌+◌, ◌^◌, ◌<◌, ◌==◌, true, false, max, List, [], ◌∷◌, ◌++◌, Option, Some, refl, sym, ap, ◌∙◌, subst, arith}
+use Rattle.std.proofs.Common.{◌≡◌, ℕ, ◌+◌, ◌^◌, ◌<◌, ◌==◌, true, false, max, List, [], ◌∷◌, ◌++◌, Option, Some, None, refl, sym, ap, ◌∙◌, subst, arith}
 use Rattle.mi_node.specs.Pool.{Pooled, IsHeld, link_of, with_link, Keeps}
 use Rattle.mi_node.specs.declared.link.Link.{Link}
 use Rattle.mi_node.specs.declared.link.Tag.{Tag}
@@ -7,8 +7,9 @@ use Rattle.mi_node.proofs.EntryLemmas.{link_here, link_there, same_name}
 use Rattle.mi_node.proofs.KeepingLemmas.{keeps_link, held_kept}
 use Rattle.mi_node.specs.Refs.{Ref, IsOut, IsApart, AreOut}
 use Rattle.mi_node.proofs.RefLemmas.{out_left, out_right, between, are_out_none, are_out_cons}
-use Rattle.mi_tree.specs.BinaryTree.{BinaryTree, Tip, Fork, nodes, forks, height, fork_link, Stands, IsRooted, size_at, height_at}
-use Rattle.mi_tree.specs.Joining.{Two, IsFork, Three, Four}
+use Rattle.mi_tree.specs.BinaryTree.{BinaryTree, Tip, Fork, nodes, forks, height, height_at, fork_link, Stands, IsRooted}
+use Rattle.mi_tree.specs.Joining.{Two, IsFork, IsSized, read, Three, Four}
+use Rattle.mi_tree.specs.declared.parts.Sub.{Sub}
 use Rattle.mi_tree.specs.Sorted.{SameTags}
 use Rattle.mi_tree.proofs.BinaryTreeLemmas.{size-root, height-root}
 use Rattle.mi_tree.proofs.ApartLemmas.{Thrice, thrice}
@@ -16,6 +17,9 @@ use Rattle.mi_tree.proofs.ApartLemmas.{Thrice, thrice}
 cut_out : (xs : List Ref) (r : Ref) (ys us : List Ref) → AreOut (xs ++ r ∷ ys) us → AreOut xs us × IsOut r.name us × AreOut ys us
 cut_out [] r ys us a = (tt, a.0, a.1)
 cut_out (x ∷ xs) r ys us a = let on = cut_out xs r ys us a.1 in ((a.0, on.0), on.1, on.2)
+
+pub root_read : {a b : Sub} → a ≡ b → a.root ≡ b.root
+root_read e = ap (λ (z : Sub). z.root) e
 
 module _ {T : Type 0} where
   -- a link that says something of itself by its tag
@@ -76,13 +80,28 @@ module _ {T : Type 0} where
         | false ↦ λ is. ap (λ (z : Link). z.tag) (link_there m x.name s y k s is)
       ]) refl
 
-  pub fork_of : (s : ℕ) (m : Pooled T) (x : Ref) (y : Link) (A B : BinaryTree) → Two m s y.back x y.forth A B
-      → y.size ≡ size_at m s y.back + size_at m s y.forth + 1
-      → y.height ≡ max (height_at m s y.back) (height_at m s y.forth) + 1 → y.tag ≡ (link_of m x.name s).tag → IsFork m s x y A B
-  fork_of s m x y A B h e f g =
-      let a = size-root m s y.back A h.first in let b = size-root m s y.forth B h.second in
-      let c = height-root m s y.back A h.first in let d = height-root m s y.forth B h.second in
-      record { two = h; size_is = omega arith; height_is = f ∙ (λ i. max (c i) (d i) + 1); tag_is = g }
+  pub fork_of : {s : ℕ} {m : Pooled T} {x : Ref} {y : Link} (a b : Sub) {A B : BinaryTree} → Two m s y.back x y.forth A B → IsSized a A → IsSized b B
+      → y.size ≡ a.size + b.size + 1 → y.height ≡ max a.height b.height + 1 → y.tag ≡ (link_of m x.name s).tag → IsFork m s x y A B
+  fork_of a b h f g e i t =
+      record { two = h; size_is = e ∙ (λ k. f.0 k + g.0 k + 1); height_is = i ∙ (λ k. max (f.1 k) (g.1 k) + 1); tag_is = t }
+
+  -- a subtree whose root was read is sized, and stands under the same root
+  pub sized : {s : ℕ} {m : Pooled T} {a : Sub} {at : Option Ref} {A : BinaryTree} → a ≡ read m s at → IsRooted m s at A → IsSized a A
+  sized {s} {m} {a} {at} {A} e h = (ap (λ (z : Sub). z.size) e ∙ size-root m s at A h, ap (λ (z : Sub). z.height) e ∙ height-root m s at A h)
+
+  pub none_low : (m : Pooled T) (s : ℕ) {a : Sub} {at : Option Ref} → a ≡ read m s at → a.root ≡ None → a.height ≡ 0
+  none_low m s e n = ap (λ (z : Sub). z.height) e ∙ ap (height_at m s) (sym (root_read e) ∙ n)
+
+  pub at_root : {s : ℕ} {m : Pooled T} {o at : Option Ref} {A : BinaryTree} → o ≡ at → IsRooted m s at A → IsRooted m s o A
+  at_root e h = record { root = e ∙ h.root; stands = h.stands }
+
+  -- the root of a subtree that has one is its node
+  pub stood : {s : ℕ} {m : Pooled T} {o : Option Ref} {l : BinaryTree} {x : Ref} {q : BinaryTree} → IsRooted m s o (Fork l x q) → IsRooted m s (Some x) (Fork l x q)
+  stood h = record { root = refl; stands = h.stands }
+
+  pub stood_high : {s : ℕ} {m : Pooled T} (a : Sub) {l : BinaryTree} {x : Ref} {q : BinaryTree} → IsRooted m s a.root (Fork l x q) × IsSized a (Fork l x q)
+      → a.height ≡ height_at m s (Some x)
+  stood_high {s} {m} a {l} {x} {q} h = h.1.1 ∙ sym (height-root m s (Some x) (Fork l x q) (stood h.0))
 
   -- two trees and a node that stand apart and are small enough may be put together
   pub two : {m : Pooled T} {s : ℕ} {a : Option Ref} {x : Ref} {b : Option Ref} {A B : BinaryTree} → IsRooted m s a A → IsHeld m x → IsRooted m s b B
@@ -113,6 +132,15 @@ module _ {T : Type 0} where
     low = low;
   }
 
+  -- the same under roots that were read
+  pub three_at : {m : Pooled T} {s : ℕ} {a b c u v w : Option Ref} {x y : Ref} {A B C : BinaryTree} → u ≡ a → v ≡ b → w ≡ c
+      → Three m s a x b y c A B C → Three m s u x v y w A B C
+  three_at e f g h = three (at_root e h.first) h.held_x (at_root f h.second) h.held_y (at_root g h.third) h.apart h.fits h.low
+
+  pub four_at : {m : Pooled T} {s : ℕ} {a b c d t u v w : Option Ref} {x y z : Ref} {A B C D : BinaryTree} → t ≡ a → u ≡ b → v ≡ c → w ≡ d
+      → Four m s a x b y c z d A B C D → Four m s t x u y v z w A B C D
+  four_at e f g i h = four (at_root e h.first) h.held_x (at_root f h.second) h.held_y (at_root g h.third) h.held_z (at_root i h.fourth) h.apart h.fits h.low
+
   module _ {m : Pooled T} {s : ℕ} {a : Option Ref} {x : Ref} {b : Option Ref} {y : Ref} {c : Option Ref} {A B C : BinaryTree}
       (h : Three m s a x b y c A B C) where
     parted : Thrice (nodes A) x (nodes B) y (nodes C)
@@ -121,14 +149,14 @@ module _ {T : Type 0} where
     pub down_low : Two m s b y c B C
     down_low = let f = h.fits in let w = h.low in two h.second h.held_y h.third parted.low_right (omega arith) (omega arith, omega arith)
 
-    pub down_high : {n : Pooled T} → Keeps m n s (y ∷ []) → IsRooted n s (Some y) (Fork B y C) → Two n s a x (Some y) A (Fork B y C)
+    pub down_high : {n : Pooled T} {o : Option Ref} → Keeps m n s (y ∷ []) → IsRooted n s o (Fork B y C) → Two n s a x o A (Fork B y C)
     down_high {n} k r = let f = h.fits in let w = h.low in
         two (rooted_past s m n y a A k parted.y_A h.first) (held_kept s m n (y ∷ []) x k h.held_x) r h.apart (omega arith) (omega arith, omega arith)
 
     pub up_low : Two m s a x b A B
     up_low = let f = h.fits in let w = h.low in two h.first h.held_x h.second parted.low_left (omega arith) (omega arith, omega arith)
 
-    pub up_high : {n : Pooled T} → Keeps m n s (x ∷ []) → IsRooted n s (Some x) (Fork A x B) → Two n s (Some x) y c (Fork A x B) C
+    pub up_high : {n : Pooled T} {o : Option Ref} → Keeps m n s (x ∷ []) → IsRooted n s o (Fork A x B) → Two n s o y c (Fork A x B) C
     up_high {n} k r = let f = h.fits in let w = h.low in
         two r (held_kept s m n (x ∷ []) y k h.held_y) (rooted_past s m n x c C k parted.x_C h.third) parted.turned (omega arith) (omega arith, omega arith)
 
@@ -145,9 +173,9 @@ module _ {T : Type 0} where
         two (rooted_past s m n x c C k (out_left x.name (nodes C) (z ∷ nodes D) halves.x_C) h.third) (held_kept s m n (x ∷ []) z k h.held_z)
         (rooted_past s m n x d D k (out_right x.name (nodes C) (z ∷ nodes D) halves.x_C).1 h.fourth) halves.right (omega arith) (omega arith, omega arith)
 
-    pub both_top : {n o : Pooled T} → Keeps m n s (x ∷ []) → IsRooted n s (Some x) (Fork A x B) → Keeps n o s (z ∷ [])
-        → IsRooted o s (Some z) (Fork C z D) → Two o s (Some x) y (Some z) (Fork A x B) (Fork C z D)
-    both_top {n} {o} k r l u = let f = h.fits in let w = h.low in
+    pub both_top : {n o : Pooled T} {v w : Option Ref} → Keeps m n s (x ∷ []) → IsRooted n s v (Fork A x B) → Keeps n o s (z ∷ [])
+        → IsRooted o s w (Fork C z D) → Two o s v y w (Fork A x B) (Fork C z D)
+    both_top {n} {o} {v} k r l u = let f = h.fits in let w = h.low in
         let z_out = (thrice (nodes A ++ x ∷ nodes B) y (nodes C) z (nodes D) halves.turned).y_A in
-        two (rooted_past s n o z (Some x) (Fork A x B) l z_out r) (held_kept s n o (z ∷ []) y l (held_kept s m n (x ∷ []) y k h.held_y)) u
+        two (rooted_past s n o z v (Fork A x B) l z_out r) (held_kept s n o (z ∷ []) y l (held_kept s m n (x ∷ []) y k h.held_y)) u
         halves.turned (omega arith) (omega arith, omega arith)

@@ -11,6 +11,7 @@ pub mod BinaryTreeLemmas
 pub mod RemovalWayLemmas
 pub mod SortedLemmas
 pub mod StandingLemmas
+pub mod TurnLemmas
 pub mod RemoveLemmas
 pub mod RotationLemmas
 pub mod WalkLemmas

@@ -13,7 +13,7 @@ use Rattle.mi_node.proofs.RefLemmas.{out_left, out_right, out_both}
 use Rattle.mi_tree.specs.BinaryTree.{BinaryTree, Tip, Fork, nodes, top, forks, height, IsEven, fork_link, IsRooted, height_at}
 use Rattle.mi_tree.specs.Sorted.{Rising, AreTagged, SameTags, CanTake, HasTaken, AreEnds, AreAppended, side}
 use Rattle.mi_tree.specs.Ways.{Frame, forked, plug, risen, IsLevel, Sinks, HasSunk, Climbs, HasClimbed}
-use Rattle.mi_tree.specs.declared.way.Turn.{Turn}
+use Rattle.mi_tree.specs.declared.turns.Turn.{Turn}
 use Rattle.mi_tree.proofs.BinaryTreeLemmas.{moved, opened, tip_is, size-nodes, height-root}
 use Rattle.mi_tree.proofs.HeightLemmas.{low_enough}
 use Rattle.mi_tree.proofs.RemoveLemmas.{TakeOpened, take_opened, out_less, apart_less}

@@ -7,10 +7,11 @@ use Rattle.mi_node.proofs.KeepingLemmas.{keeps_more}
 use Rattle.mi_node.proofs.RefLemmas.{out_left, out_right}
 use Rattle.mi_tree.specs.BinaryTree.{BinaryTree, Fork, nodes, forks, height, DifferByAtMost, IsEven, IsRooted}
 use Rattle.mi_tree.specs.Sorted.{SameTags}
-use Rattle.mi_tree.specs.Joining.{Two, Three, Four, Rebalanced, AreSides, IsBalanced}
+use Rattle.mi_tree.specs.Joining.{IsSized, read, Two, Three, Four, Rebalanced, AreSides, IsBalanced}
+use Rattle.mi_tree.specs.declared.parts.Sub.{Sub}
 use Rattle.mi_tree.proofs.HeightLemmas.{low_enough}
 use Rattle.mi_tree.proofs.BinaryTreeLemmas.{Sides, sides}
-use Rattle.mi_tree.proofs.JoinLemmas.{two, three, four}
+use Rattle.mi_tree.proofs.JoinLemmas.{two, three, four, sized, at_root, root_read}
 
 turn_plain : (l : BinaryTree) (x : Ref) (q : BinaryTree) → IsEven l → IsEven q → DifferByAtMost 1 (height l) (height q) → Rebalanced l x q (Fork l x q)
 turn_plain l x q el eq d = record { nodes_are = refl; even = (d, el, eq); not_lower = omega arith; not_higher = omega arith; as_high = λ h. refl }
@@ -172,3 +173,21 @@ module _ {T : Type 0} where
   pub plain_parts : {m : Pooled T} {s : ℕ} {left : Option Ref} {x : Ref} {right : Option Ref} {l q : BinaryTree}
       → AreSides m s left x right l q → Two m s left x right l q
   plain_parts h = let low = sides_low h in two h.left_is h.held h.right_is h.apart h.fits (omega arith, omega arith)
+
+  -- the same sides by subtrees that were read
+  pub sides_read : {m : Pooled T} {s : ℕ} {a b : Sub} {left : Option Ref} {x : Ref} {right : Option Ref} {l q : BinaryTree} → a ≡ read m s left → b ≡ read m s right
+      → AreSides m s left x right l q → AreSides m s a.root x b.root l q × IsSized a l × IsSized b q
+  sides_read e f h = (
+    record {
+      left_is = at_root (root_read e) h.left_is;
+      held = h.held;
+      right_is = at_root (root_read f) h.right_is;
+      apart = h.apart;
+      left_even = h.left_even;
+      right_even = h.right_even;
+      near = h.near;
+      fits = h.fits;
+    },
+    sized e h.left_is,
+    sized f h.right_is,
+  )

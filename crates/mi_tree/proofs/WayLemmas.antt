@@ -20,7 +20,7 @@ use Rattle.mi_tree.specs.Joining.{AreSides, IsBalanced, IsFork, IsSettled}
 use Rattle.mi_tree.specs.Sorted.{NoneAre, Rising, AreTagged, SameTags, IsPutIn, CanPut, HasPut, CanTake, side}
 use Rattle.mi_tree.specs.Ways.{Frame, way_of, forked, forked_size, forked_height, forked_link, rehung, plug}
 use Rattle.mi_tree.specs.Ways.{risen, IsLevel, AreEven, IsRootOf, Above, Falls, HasFallen, Climbs, HasClimbed, AreRejoined}
-use Rattle.mi_tree.specs.declared.way.Turn.{Turn}
+use Rattle.mi_tree.specs.declared.turns.Turn.{Turn}
 use Rattle.mi_tree.proofs.BinaryTreeLemmas.{moved, tip_is, size-nodes, height-root, held-root}
 use Rattle.mi_tree.proofs.JoinLemmas.{link_kept, stands_kept, rooted_past, tags_set}
 use Rattle.mi_tree.proofs.HeightLemmas.{low_enough}

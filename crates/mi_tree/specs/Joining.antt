@@ -1,5 +1,6 @@
 -- What is put together, and what comes of it.
 --     Two, Three, Four      subtrees with nodes between them, which may be put together
+--     IsSized, read      what is known of a subtree is so; what its root's link says of it
 --     IsSettled      a node's link is right for two sides of nearly one height
 --     AreSides, IsBalanced      two balanced subtrees of nearly one height, and the balanced tree that they give
 use Rattle.std.specs.Prelude.{◌≡◌, ℕ, ◌+◌, ◌^◌, ◌<◌, ◌≤◌, max, ◌∷◌, ◌++◌, Option, Some}
@@ -7,9 +8,16 @@ use Rattle.mi_node.specs.Pool.{Pooled, IsHeld, Keeps, link_of}
 use Rattle.mi_node.specs.declared.link.Link.{Link}
 use Rattle.mi_node.specs.Refs.{Ref, IsOut, IsApart}
 use Rattle.mi_tree.specs.Sorted.{SameTags}
-use Rattle.mi_tree.specs.BinaryTree.{BinaryTree, nodes, forks, height, DifferByAtMost, IsEven, IsRooted}
+use Rattle.mi_tree.specs.BinaryTree.{BinaryTree, nodes, forks, height, DifferByAtMost, IsEven, IsRooted, size_at, height_at}
+use Rattle.mi_tree.specs.declared.parts.Sub.{Sub}
+
+abbrev pub IsSized : Sub → BinaryTree → Type 0
+IsSized a A = (a.size ≡ forks A) × (a.height ≡ height A)
 
 module _ {T : Type 0} where
+  abbrev pub read : Pooled T → ℕ → Option Ref → Sub
+  read m s at = record { root = at; size = size_at m s at; height = height_at m s at }
+
   pub record Two (m : Pooled T) (s : ℕ) (a : Option Ref) (x : Ref) (b : Option Ref) (A B : BinaryTree) : Type 0 where
     pub first : IsRooted m s a A
     pub held : IsHeld m x

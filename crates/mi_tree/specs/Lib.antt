@@ -6,5 +6,6 @@ pub mod Probed
 pub mod BinaryTree
 pub mod Sorted
 pub mod Standing
+pub mod Turns
 pub mod Walking
 pub mod Ways

@@ -16,7 +16,7 @@ use Rattle.mi_node.specs.declared.link.Tag.{Tag}
 use Rattle.mi_tree.specs.BinaryTree.{BinaryTree, Tip, Fork, nodes, top, forks, height, DifferByAtMost, IsEven, Stands, IsRooted, height_at}
 use Rattle.mi_tree.specs.Joining.{AreSides, IsSettled}
 use Rattle.mi_tree.specs.Sorted.{AreTagged, SameTags, IsPutIn, CanPut, CanTake}
-use Rattle.mi_tree.specs.declared.way.Turn.{Turn}
+use Rattle.mi_tree.specs.declared.turns.Turn.{Turn}
 
 -- a node on a way, whether the way goes on to its left, and its other side. The last one of a way is the first of a list of frames
 pub record Frame : Type 0 where

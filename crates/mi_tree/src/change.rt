@@ -9,9 +9,9 @@ ghost use Rattle.mi_tree.specs.Sorted.{side, AreTagged, CanPut, HasPut, CanTake,
 use crate::balance::balance;
 use crate::compare::compare_nodes;
 use crate::order::NodeOrder;
-use crate::parts::height;
+use crate::parts::{Sub, height};
+use crate::turns::{START, no_nodes};
 use crate::way::{climb, go_first, go_in, go_to, replace};
-use arrayvec::ArrayVec;
 use mi_node::{Counted, Link, NO_LINK, NodeRef, Pool, Tag};
 use mi_value::Steps;
 
@@ -38,13 +38,13 @@ pub(crate) fn put_in<T, O: NodeOrder<T>>(
         back: root,
         ..NO_LINK
     };
-    let mut way = ArrayVec::new();
+    let mut nodes = no_nodes();
     let decided = order.decides(tag.key);
-    go_in(
-        p, slot, order, above.back, node, tag, decided, &mut way, steps,
+    let depth = go_in(
+        p, slot, order, above.back, node, tag, decided, &mut nodes, START, steps,
     );
     let mut top = above.back;
-    climb(p, slot, &mut top, Some(node), 1, &mut way);
+    climb(p, slot, &mut top, Some(node), 1, &nodes, depth);
     top
 }
 
@@ -60,12 +60,12 @@ pub(crate) fn take_first<T>(
     ensures tree { (t : BinaryTree) → CanTake p.old slot (Some root) t
         → (u : BinaryTree) × (rs : List Ref) × (nodes t ≡ result.0 ∷ rs) × HasTaken p.old p.new slot t rs result.1 u }
 {
-    let mut way = ArrayVec::new();
-    let first = go_first(p, slot, root, &mut way);
+    let mut nodes = no_nodes();
+    let (first, depth) = go_first(p, slot, root, &mut nodes, START);
     let link = p.link(first, slot);
     let high = height(p, slot, link.forth);
     let mut rest = Some(root);
-    climb(p, slot, &mut rest, link.forth, high, &mut way);
+    climb(p, slot, &mut rest, link.forth, high, &nodes, depth);
     (first, rest)
 }
 
@@ -85,7 +85,10 @@ pub(crate) fn append<T>(
         None => left,
         Some(right) => {
             let (first, rest) = take_first(p, slot, right);
-            Some(balance(p, slot, left, first, rest))
+            let before = Sub::of(p, slot, left);
+            let after = Sub::of(p, slot, rest);
+            let (top, _) = balance(p, slot, before, first, after);
+            Some(top)
         }
     }
 }
@@ -113,14 +116,14 @@ pub(crate) fn take_out<T, O: NodeOrder<T>>(
         back: root,
         ..NO_LINK
     };
-    let mut way = ArrayVec::new();
+    let mut nodes = no_nodes();
     let decided = order.decides(tag.key);
-    go_to(
-        p, slot, order, above.back, node, tag, decided, &mut way, steps,
+    let depth = go_to(
+        p, slot, order, above.back, node, tag, decided, &mut nodes, START, steps,
     );
     let link = p.link(node, slot);
     let below = append(p, slot, link.back, link.forth);
     let mut top = above.back;
-    replace(p, slot, &mut top, below, link.height, &mut way);
+    replace(p, slot, &mut top, below, link.height, &nodes, depth);
     top
 }

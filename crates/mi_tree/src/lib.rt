@@ -10,6 +10,7 @@ mod look;
 mod order;
 mod parts;
 mod tree;
+mod turns;
 mod walk;
 mod way;
 

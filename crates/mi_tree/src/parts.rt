@@ -4,7 +4,7 @@ ghost use Rattle.std.specs.Prelude.{◌≡◌, ◌<◌, [], ◌∷◌, Some};
 ghost use Rattle.mi_node.specs.Cells.{sided};
 ghost use Rattle.mi_node.specs.Pool.{IsHeldIf, Keeps, link_of};
 ghost use Rattle.mi_tree.specs.BinaryTree.{BinaryTree, Fork, IsRooted, size_at, height_at};
-ghost use Rattle.mi_tree.specs.Joining.{Two, IsFork, Three, Four};
+ghost use Rattle.mi_tree.specs.Joining.{Two, IsFork, IsSized, read, Three, Four};
 ghost use Rattle.mi_tree.specs.Sorted.{SameTags};
 
 use mi_node::{Link, NodeRef, Pool};
@@ -33,45 +33,62 @@ pub(crate) fn height<T>(p: &Pool<T>, slot: usize, at: Option<NodeRef>) -> u8
     }
 }
 
-/// How many nodes stand there, and how many levels they have: one link says both.
-fn measures<T>(p: &Pool<T>, slot: usize, at: Option<NodeRef>) -> (u32, u8)
-    requires held { IsHeldIf p.now at }
-    requires slot { slot < p.now.slots }
-    ensures size { result.0 ≡ size_at p.now slot at }
-    ensures height { result.1 ≡ height_at p.now slot at }
-{
-    match at {
-        None => (0, 0),
-        Some(node) => {
-            let link = p.link(node, slot);
-            (link.size, link.height)
+/// A subtree: its root, if it has a node, how many nodes it has, and how many levels. Who has one reads none of its links.
+#[derive(Clone, Copy)]
+pub(crate) struct Sub {
+    pub(crate) root: Option<NodeRef>,
+    size: u32,
+    pub(crate) height: u8,
+}
+
+impl Sub {
+    /// The subtree of that root, as its link says it.
+    pub(crate) fn of<T>(p: &Pool<T>, slot: usize, root: Option<NodeRef>) -> Sub
+        requires held { IsHeldIf p.now root }
+        requires slot { slot < p.now.slots }
+        ensures { result ≡ read p.now slot root }
+    {
+        match root {
+            None => Sub {
+                root: None,
+                size: 0,
+                height: 0,
+            },
+            Some(node) => {
+                let link = p.link(node, slot);
+                Sub {
+                    root: Some(node),
+                    size: link.size,
+                    height: link.height,
+                }
+            }
         }
     }
 }
 
-/// The node gets these two sides.
-pub(crate) fn join<T>(
-    p: &mut Pool<T>,
-    slot: usize,
-    a: Option<NodeRef>,
-    x: NodeRef,
-    b: Option<NodeRef>,
-)
+/// The node gets these two sides. The subtree of all.
+pub(crate) fn join<T>(p: &mut Pool<T>, slot: usize, a: Sub, x: NodeRef, b: Sub) -> Sub
     requires slot { slot < p.old.slots }
-    requires parts { (A : BinaryTree) × (B : BinaryTree) × Two p.old slot a x b A B }
-    ensures tree { (A : BinaryTree) (B : BinaryTree) → Two p.old slot a x b A B → IsRooted p.new slot (Some x) (Fork A x B) }
+    requires parts { (A : BinaryTree) × (B : BinaryTree) × Two p.old slot a.root x b.root A B × IsSized a A × IsSized b B }
+    ensures tree { (A : BinaryTree) (B : BinaryTree) → Two p.old slot a.root x b.root A B → IsSized a A → IsSized b B
+        → IsRooted p.new slot result.root (Fork A x B) × IsSized result (Fork A x B) }
     ensures slots { p.new.slots ≡ p.old.slots }
     ensures keeps { Keeps p.old p.new slot (x ∷ []) }
     ensures tags { SameTags p.old p.new slot }
 {
+    let size = a.size + b.size + 1;
+    let height = a.height.max(b.height) + 1;
     let mut link = p.link(x, slot);
-    link.back = a;
-    link.forth = b;
-    let left = measures(p, slot, link.back);
-    let right = measures(p, slot, link.forth);
-    link.size = left.0 + right.0 + 1;
-    link.height = left.1.max(right.1) + 1;
+    link.back = a.root;
+    link.forth = b.root;
+    link.size = size;
+    link.height = height;
     set_fork(p, slot, x, link);
+    Sub {
+        root: Some(x),
+        size,
+        height,
+    }
 }
 
 /// Sets the node's link, by which it has two sides.
@@ -110,67 +127,71 @@ pub(crate) fn set_side<T>(
 pub(crate) fn join_down<T>(
     p: &mut Pool<T>,
     slot: usize,
-    a: Option<NodeRef>,
+    a: Sub,
     x: NodeRef,
-    b: Option<NodeRef>,
+    b: Sub,
     y: NodeRef,
-    c: Option<NodeRef>,
-)
+    c: Sub,
+) -> Sub
     requires slot { slot < p.old.slots }
-    requires parts { (A : BinaryTree) × (B : BinaryTree) × (C : BinaryTree) × Three p.old slot a x b y c A B C }
-    ensures tree { (A : BinaryTree) (B : BinaryTree) (C : BinaryTree) → Three p.old slot a x b y c A B C
-        → IsRooted p.new slot (Some x) (Fork A x (Fork B y C)) }
+    requires parts { (A : BinaryTree) × (B : BinaryTree) × (C : BinaryTree) × Three p.old slot a.root x b.root y c.root A B C
+        × IsSized a A × IsSized b B × IsSized c C }
+    ensures tree { (A : BinaryTree) (B : BinaryTree) (C : BinaryTree) → Three p.old slot a.root x b.root y c.root A B C
+        → IsSized a A → IsSized b B → IsSized c C → IsRooted p.new slot result.root (Fork A x (Fork B y C)) × IsSized result (Fork A x (Fork B y C)) }
     ensures slots { p.new.slots ≡ p.old.slots }
     ensures keeps { Keeps p.old p.new slot (x ∷ y ∷ []) }
     ensures tags { SameTags p.old p.new slot }
 {
-    join(p, slot, b, y, c);
-    join(p, slot, a, x, Some(y));
+    let below = join(p, slot, b, y, c);
+    join(p, slot, a, x, below)
 }
 
 /// `y` is above `x`.
 pub(crate) fn join_up<T>(
     p: &mut Pool<T>,
     slot: usize,
-    a: Option<NodeRef>,
+    a: Sub,
     x: NodeRef,
-    b: Option<NodeRef>,
+    b: Sub,
     y: NodeRef,
-    c: Option<NodeRef>,
-)
+    c: Sub,
+) -> Sub
     requires slot { slot < p.old.slots }
-    requires parts { (A : BinaryTree) × (B : BinaryTree) × (C : BinaryTree) × Three p.old slot a x b y c A B C }
-    ensures tree { (A : BinaryTree) (B : BinaryTree) (C : BinaryTree) → Three p.old slot a x b y c A B C
-        → IsRooted p.new slot (Some y) (Fork (Fork A x B) y C) }
+    requires parts { (A : BinaryTree) × (B : BinaryTree) × (C : BinaryTree) × Three p.old slot a.root x b.root y c.root A B C
+        × IsSized a A × IsSized b B × IsSized c C }
+    ensures tree { (A : BinaryTree) (B : BinaryTree) (C : BinaryTree) → Three p.old slot a.root x b.root y c.root A B C
+        → IsSized a A → IsSized b B → IsSized c C → IsRooted p.new slot result.root (Fork (Fork A x B) y C) × IsSized result (Fork (Fork A x B) y C) }
     ensures slots { p.new.slots ≡ p.old.slots }
     ensures keeps { Keeps p.old p.new slot (x ∷ y ∷ []) }
     ensures tags { SameTags p.old p.new slot }
 {
-    join(p, slot, a, x, b);
-    join(p, slot, Some(x), y, c);
+    let below = join(p, slot, a, x, b);
+    join(p, slot, below, y, c)
 }
 
 /// `y` is above `x` and `z`.
 pub(crate) fn join_both<T>(
     p: &mut Pool<T>,
     slot: usize,
-    a: Option<NodeRef>,
+    a: Sub,
     x: NodeRef,
-    b: Option<NodeRef>,
+    b: Sub,
     y: NodeRef,
-    c: Option<NodeRef>,
+    c: Sub,
     z: NodeRef,
-    d: Option<NodeRef>,
-)
+    d: Sub,
+) -> Sub
     requires slot { slot < p.old.slots }
-    requires parts { (A : BinaryTree) × (B : BinaryTree) × (C : BinaryTree) × (D : BinaryTree) × Four p.old slot a x b y c z d A B C D }
-    ensures tree { (A : BinaryTree) (B : BinaryTree) (C : BinaryTree) (D : BinaryTree) → Four p.old slot a x b y c z d A B C D
-        → IsRooted p.new slot (Some y) (Fork (Fork A x B) y (Fork C z D)) }
+    requires parts { (A : BinaryTree) × (B : BinaryTree) × (C : BinaryTree) × (D : BinaryTree)
+        × Four p.old slot a.root x b.root y c.root z d.root A B C D × IsSized a A × IsSized b B × IsSized c C × IsSized d D }
+    ensures tree { (A : BinaryTree) (B : BinaryTree) (C : BinaryTree) (D : BinaryTree) → Four p.old slot a.root x b.root y c.root z d.root A B C D
+        → IsSized a A → IsSized b B → IsSized c C → IsSized d D
+        → IsRooted p.new slot result.root (Fork (Fork A x B) y (Fork C z D)) × IsSized result (Fork (Fork A x B) y (Fork C z D)) }
     ensures slots { p.new.slots ≡ p.old.slots }
     ensures keeps { Keeps p.old p.new slot (x ∷ y ∷ z ∷ []) }
     ensures tags { SameTags p.old p.new slot }
 {
-    join(p, slot, a, x, b);
-    join(p, slot, c, z, d);
-    join(p, slot, Some(x), y, Some(z));
+    let before = join(p, slot, a, x, b);
+    let after = join(p, slot, c, z, d);
+    join(p, slot, before, y, after)
 }

@@ -3,29 +3,19 @@
 ghost use Rattle.std.specs.Prelude.{◌≡◌, ℕ, ◌<◌, List, [], Option, cond, Some, ◌+◌};
 ghost use Rattle.mi_node.specs.Pool.{link_of};
 ghost use Rattle.mi_node.specs.Refs.{Ref};
-ghost use Rattle.mi_tree.specs.BinaryTree.{BinaryTree, Tip, nodes, height as height_of, height_at};
+ghost use Rattle.mi_tree.specs.BinaryTree.{BinaryTree, Tip, nodes as nodes_of, height as height_of, height_at};
 ghost use Rattle.mi_tree.specs.Sorted.{side, AreTagged, Rising};
 ghost use Rattle.mi_tree.specs.Ways.{Frame, plug, risen, rehung, Falls, HasFallen, Sinks, HasSunk, Climbs, HasClimbed, IsLevel, AreRejoined};
 ghost use Rattle.mi_tree.specs.Joining.{IsBalanced};
+ghost use Rattle.mi_tree.specs.Turns.{turns, AreBits};
 
 use crate::balance::balance;
 use crate::compare::compare_nodes;
 use crate::order::NodeOrder;
-use crate::parts::{height, set_side};
-use crate::walk::MAX_LEVELS;
-use arrayvec::ArrayVec;
+use crate::parts::{Sub, height, set_side};
+use crate::turns::{Depth, Nodes, Turn};
 use mi_node::{Counted, Link, NO_LINK, NodeRef, Pool, Tag};
 use mi_value::Steps;
-
-/// A node on a way down, and whether the way goes on to the left.
-#[derive(Clone, Copy, Default)]
-pub(crate) struct Turn {
-    node: NodeRef,
-    left: bool,
-}
-
-/// A way down, the root first.
-pub(crate) type Way = ArrayVec<Turn, MAX_LEVELS>;
 
 /// Goes down to where a node of that tag belongs, which no node there compares Equal to, and puts each
 /// node on the way onto the way. `decided` is whether the tag decides, which is asked once for the way. Each
@@ -40,20 +30,23 @@ pub(crate) fn go_in<T, O: NodeOrder<T>>(
     node: NodeRef,
     tag: Tag,
     decided: bool,
-    way: &mut Way,
+    nodes: &mut Nodes,
+    depth: Depth,
     steps: &mut Steps,
-)
+) -> Depth
     requires slot { slot < p.old.slots }
     requires tag { tag ≡ (link_of p.old node.name slot).tag }
     requires decided { decided ≡ O.is_exact order.now tag.key }
+    requires bits { AreBits nodes.old depth }
     requires way { (fs : List Frame) × (t : BinaryTree)
-        × Falls p.old slot (side (O.order order.now) p.old slot) (O.tag_of order.now) way.old.items at node fs t }
+        × Falls p.old slot (side (O.order order.now) p.old slot) (O.tag_of order.now) (turns nodes.old depth) at node fs t }
     ensures slots { p.new.slots ≡ p.old.slots }
-    ensures way { (fs : List Frame) (t : BinaryTree) → Falls p.old slot (side (O.order order.now) p.old slot) (O.tag_of order.now) way.old.items at node fs t
-        → (gs : List Frame) × HasFallen p.old p.new slot (side (O.order order.now) p.old slot) way.new.items node (plug fs t) gs }
+    ensures bits { AreBits nodes.new result }
+    ensures way { (fs : List Frame) (t : BinaryTree) → Falls p.old slot (side (O.order order.now) p.old slot) (O.tag_of order.now) (turns nodes.old depth) at node fs t
+        → (gs : List Frame) × HasFallen p.old p.new slot (side (O.order order.now) p.old slot) (turns nodes.new result) node (plug fs t) gs }
 {
     let Some(here) = at else {
-        return;
+        return depth;
     };
     let seen = p.link(here, slot);
     let side = compare_nodes(
@@ -70,8 +63,10 @@ pub(crate) fn go_in<T, O: NodeOrder<T>>(
     let link = p.link(here, slot);
     let next = p.neighbour(here, slot, left);
     p.set_size(here, slot, link.size + 1);
-    way.push(Turn { node: here, left });
-    go_in(p, slot, order, next, node, tag, decided, way, steps);
+    let deeper = depth.push(nodes, Turn { node: here, left });
+    go_in(
+        p, slot, order, next, node, tag, decided, nodes, deeper, steps,
+    )
 }
 
 /// Goes down to a node of that tag, which stands there, and puts each node above it onto the way. Each
@@ -84,20 +79,23 @@ pub(crate) fn go_to<T, O: NodeOrder<T>>(
     node: NodeRef,
     tag: Tag,
     decided: bool,
-    way: &mut Way,
+    nodes: &mut Nodes,
+    depth: Depth,
     steps: &mut Steps,
-)
+) -> Depth
     requires slot { slot < p.old.slots }
     requires tag { tag ≡ (link_of p.old node.name slot).tag }
     requires decided { decided ≡ O.is_exact order.now tag.key }
+    requires bits { AreBits nodes.old depth }
     requires way { (fs : List Frame) × (t : BinaryTree) × (xs : List Ref) × (ys : List Ref)
-        × (vs : List Ref) × (ws : List Ref) × Sinks p.old slot way.old.items at fs t xs node ys vs ws
-        × Rising (side (O.order order.now) p.old slot) (nodes t) × AreTagged (O.tag_of order.now) p.old slot (nodes t) }
+        × (vs : List Ref) × (ws : List Ref) × Sinks p.old slot (turns nodes.old depth) at fs t xs node ys vs ws
+        × Rising (side (O.order order.now) p.old slot) (nodes_of t) × AreTagged (O.tag_of order.now) p.old slot (nodes_of t) }
     ensures slots { p.new.slots ≡ p.old.slots }
+    ensures bits { AreBits nodes.new result }
     ensures way { (fs : List Frame) (t : BinaryTree) (xs : List Ref) (ys : List Ref) (vs : List Ref) (ws : List Ref)
-        → Sinks p.old slot way.old.items at fs t xs node ys vs ws
-        → Rising (side (O.order order.now) p.old slot) (nodes t)
-        → (gs : List Frame) × (A : BinaryTree) × (B : BinaryTree) × HasSunk p.old p.new slot way.new.items xs node ys vs ws (plug fs t) gs A B }
+        → Sinks p.old slot (turns nodes.old depth) at fs t xs node ys vs ws
+        → Rising (side (O.order order.now) p.old slot) (nodes_of t)
+        → (gs : List Frame) × (A : BinaryTree) × (B : BinaryTree) × HasSunk p.old p.new slot (turns nodes.new result) xs node ys vs ws (plug fs t) gs A B }
 {
     let Some(here) = at else { unreachable!() };
     let seen = p.link(here, slot);
@@ -112,37 +110,48 @@ pub(crate) fn go_to<T, O: NodeOrder<T>>(
         steps,
     );
     if side.is_eq() {
-        return;
+        return depth;
     }
     let left = side.is_lt();
     let link = p.link(here, slot);
     let next = p.neighbour(here, slot, left);
     p.set_size(here, slot, link.size - 1);
-    way.push(Turn { node: here, left });
-    go_to(p, slot, order, next, node, tag, decided, way, steps);
+    let deeper = depth.push(nodes, Turn { node: here, left });
+    go_to(
+        p, slot, order, next, node, tag, decided, nodes, deeper, steps,
+    )
 }
 
 /// Goes down to the first node, and puts each node above it onto the way. Each gets a size that is one
 /// less: the first node is about to leave. That node.
-pub(crate) fn go_first<T>(p: &mut Pool<T>, slot: usize, at: NodeRef, way: &mut Way) -> NodeRef
+pub(crate) fn go_first<T>(
+    p: &mut Pool<T>,
+    slot: usize,
+    at: NodeRef,
+    nodes: &mut Nodes,
+    depth: Depth,
+) -> (NodeRef, Depth)
     requires slot { slot < p.old.slots }
+    requires bits { AreBits nodes.old depth }
     requires way { (fs : List Frame) × (t : BinaryTree) × (x : Ref) × (ys : List Ref) × (vs : List Ref)
-        × (ws : List Ref) × Sinks p.old slot way.old.items (Some at) fs t [] x ys vs ws }
+        × (ws : List Ref) × Sinks p.old slot (turns nodes.old depth) (Some at) fs t [] x ys vs ws }
     ensures slots { p.new.slots ≡ p.old.slots }
+    ensures bits { AreBits nodes.new result.1 }
     ensures way { (fs : List Frame) (t : BinaryTree) (x : Ref) (ys : List Ref) (vs : List Ref) (ws : List Ref)
-        → Sinks p.old slot way.old.items (Some at) fs t [] x ys vs ws
-        → (result ≡ x) × (gs : List Frame) × (B : BinaryTree) × HasSunk p.old p.new slot way.new.items [] x ys vs ws (plug fs t) gs Tip B }
+        → Sinks p.old slot (turns nodes.old depth) (Some at) fs t [] x ys vs ws
+        → (result.0 ≡ x) × (gs : List Frame) × (B : BinaryTree) × HasSunk p.old p.new slot (turns nodes.new result.1) [] x ys vs ws (plug fs t) gs Tip B }
 {
     let link = p.link(at, slot);
     let Some(left) = link.back else {
-        return at;
+        return (at, depth);
     };
     p.set_size(at, slot, link.size - 1);
-    way.push(Turn {
+    let turn = Turn {
         node: at,
         left: true,
-    });
-    go_first(p, slot, left, way)
+    };
+    let deeper = depth.push(nodes, turn);
+    go_first(p, slot, left, nodes, deeper)
 }
 
 /// The link with another child on that side.
@@ -173,18 +182,21 @@ pub(crate) fn climb<T>(
     root: &mut Option<NodeRef>,
     below: Option<NodeRef>,
     high: u8,
-    way: &mut Way,
+    nodes: &Nodes,
+    depth: Depth,
 )
     requires slot { slot < p.old.slots }
     requires high { high ≡ height_at p.old slot below }
-    requires way { (fs : List Frame) × (at : Option Ref) × (h : ℕ) × (u : BinaryTree) × Climbs p.old slot root.old below way.old.items fs at h u }
+    requires bits { AreBits nodes.now depth }
+    requires way { (fs : List Frame) × (at : Option Ref) × (h : ℕ) × (u : BinaryTree) × Climbs p.old slot root.old below (turns nodes.now depth) fs at h u }
     ensures slots { p.new.slots ≡ p.old.slots }
-    ensures tree { (fs : List Frame) (at : Option Ref) (h : ℕ) (u : BinaryTree) → Climbs p.old slot root.old below way.old.items fs at h u
+    ensures tree { (fs : List Frame) (at : Option Ref) (h : ℕ) (u : BinaryTree) → Climbs p.old slot root.old below (turns nodes.now depth) fs at h u
         → (v : BinaryTree) × HasClimbed p.old p.new slot (plug fs u) root.new v }
-    ensures height { (fs : List Frame) (at : Option Ref) (h : ℕ) (u : BinaryTree) → Climbs p.old slot root.old below way.old.items fs at h u
+    ensures height { (fs : List Frame) (at : Option Ref) (h : ℕ) (u : BinaryTree) → Climbs p.old slot root.old below (turns nodes.now depth) fs at h u
         → IsLevel (height_of u) h (height_at p.new slot root.new) (risen fs h) }
 {
-    let Some(turn) = way.pop() else {
+    let (last, rest) = depth.pop(nodes);
+    let Some(turn) = last else {
         *root = below;
         return;
     };
@@ -192,11 +204,11 @@ pub(crate) fn climb<T>(
     let before = p.link(turn.node, slot).height;
     let (top, now) = rejoin(p, slot, turn, below, high, before);
     if now != before {
-        climb(p, slot, root, Some(top), now, way);
+        climb(p, slot, root, Some(top), now, nodes, rest);
         return;
     }
     if top.name() != name {
-        hang(p, slot, root, top, way);
+        hang(p, slot, root, top, nodes, rest);
     }
 }
 
@@ -232,22 +244,31 @@ fn rejoin<T>(
         return (turn.node, now);
     }
     let link = with_child(p.link(turn.node, slot), turn.left, below);
-    let top = balance(p, slot, link.back, turn.node, link.forth);
-    let now = height(p, slot, Some(top));
-    (top, now)
+    let left = Sub::of(p, slot, link.back);
+    let right = Sub::of(p, slot, link.forth);
+    balance(p, slot, left, turn.node, right)
 }
 
 /// Puts the tree of that root in place of the one at the end of the way, which is as high. `root` becomes the tree's root.
-fn hang<T>(p: &mut Pool<T>, slot: usize, root: &mut Option<NodeRef>, top: NodeRef, way: &mut Way)
+fn hang<T>(
+    p: &mut Pool<T>,
+    slot: usize,
+    root: &mut Option<NodeRef>,
+    top: NodeRef,
+    nodes: &Nodes,
+    depth: Depth,
+)
     requires slot { slot < p.old.slots }
-    requires way { (fs : List Frame) × (at : Option Ref) × (u : BinaryTree) × Climbs p.old slot root.old (Some top) way.old.items fs at (height_of u) u }
+    requires bits { AreBits nodes.now depth }
+    requires way { (fs : List Frame) × (at : Option Ref) × (u : BinaryTree) × Climbs p.old slot root.old (Some top) (turns nodes.now depth) fs at (height_of u) u }
     ensures slots { p.new.slots ≡ p.old.slots }
-    ensures tree { (fs : List Frame) (at : Option Ref) (u : BinaryTree) → Climbs p.old slot root.old (Some top) way.old.items fs at (height_of u) u
+    ensures tree { (fs : List Frame) (at : Option Ref) (u : BinaryTree) → Climbs p.old slot root.old (Some top) (turns nodes.now depth) fs at (height_of u) u
         → (v : BinaryTree) × HasClimbed p.old p.new slot (plug fs u) root.new v }
-    ensures height { (fs : List Frame) (at : Option Ref) (u : BinaryTree) → Climbs p.old slot root.old (Some top) way.old.items fs at (height_of u) u
+    ensures height { (fs : List Frame) (at : Option Ref) (u : BinaryTree) → Climbs p.old slot root.old (Some top) (turns nodes.now depth) fs at (height_of u) u
         → height_at p.new slot root.new ≡ risen fs (height_of u) }
 {
-    let Some(turn) = way.pop() else {
+    let (last, rest) = depth.pop(nodes);
+    let Some(turn) = last else {
         *root = Some(top);
         return;
     };
@@ -263,14 +284,16 @@ pub(crate) fn replace<T>(
     root: &mut Option<NodeRef>,
     below: Option<NodeRef>,
     before: u8,
-    way: &mut Way,
+    nodes: &Nodes,
+    depth: Depth,
 )
     requires slot { slot < p.old.slots }
-    requires way { (fs : List Frame) × (at : Option Ref) × (u : BinaryTree) × Climbs p.old slot root.old below way.old.items fs at before u }
+    requires bits { AreBits nodes.now depth }
+    requires way { (fs : List Frame) × (at : Option Ref) × (u : BinaryTree) × Climbs p.old slot root.old below (turns nodes.now depth) fs at before u }
     ensures slots { p.new.slots ≡ p.old.slots }
-    ensures tree { (fs : List Frame) (at : Option Ref) (u : BinaryTree) → Climbs p.old slot root.old below way.old.items fs at before u
+    ensures tree { (fs : List Frame) (at : Option Ref) (u : BinaryTree) → Climbs p.old slot root.old below (turns nodes.now depth) fs at before u
         → (v : BinaryTree) × HasClimbed p.old p.new slot (plug fs u) root.new v }
-    ensures height { (fs : List Frame) (at : Option Ref) (u : BinaryTree) → Climbs p.old slot root.old below way.old.items fs at before u
+    ensures height { (fs : List Frame) (at : Option Ref) (u : BinaryTree) → Climbs p.old slot root.old below (turns nodes.now depth) fs at before u
         → IsLevel (height_of u) before (height_at p.new slot root.new) (risen fs before) }
 {
     let under = Link {
@@ -279,7 +302,7 @@ pub(crate) fn replace<T>(
     };
     let high = height(p, slot, under.back);
     match under.back {
-        Some(top) if high == before => hang(p, slot, root, top, way),
-        _ => climb(p, slot, root, under.back, high, way),
+        Some(top) if high == before => hang(p, slot, root, top, nodes, depth),
+        _ => climb(p, slot, root, under.back, high, nodes, depth),
     }
 }

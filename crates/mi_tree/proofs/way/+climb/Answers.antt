@@ -3,6 +3,7 @@ use Rattle.std.proofs.Common.{◌≡◌, ℕ, ◌+◌, ◌<◌, List, Option, So
 use Rattle.mi_node.specs.Refs.{Ref}
 use Rattle.mi_node.specs.declared.link.Link.{Link}
 use Rattle.mi_tree.specs.BinaryTree.{BinaryTree, height_at}
+use Rattle.mi_tree.specs.Turns.{turns}
 use Rattle.mi_tree.specs.Ways.{Frame, way_of, plug, Climbs}
 use Rattle.mi_tree.proofs.WayLemmas.{IsTurned, NextClimb, turned_back, no_turn, climbed_none, turn_held, shorter_way, climb_given, low_below}
 use Rattle.mi_tree.proofs.WayLemmas.{next_climb, same_climbs, same_level, climbed_here, level_here}
@@ -12,20 +13,20 @@ use Rattle.mi_tree.proofs.way.+climb.Goals as goal
 
 module _ (g : Over) (t : ℕ) (c : In-Some g t) where
   -- the way before its last turn
-  turned : {fs : List Frame} → c.args.way.now.items ≡ way_of fs → IsTurned fs c.pop.new.self.items c.in-Some.turn
+  turned : {fs : List Frame} → (turns c.args.nodes.now c.args.depth) ≡ way_of fs → IsTurned fs (turns c.args.nodes.now c.pop.result.1) c.in-Some.turn
   turned e = turned_back e c.pop.ensures.rest c.pop.ensures.value c.in-Some.is
 
 module _ (g : Over) (t : ℕ) (c : After-rejoin-now g t) where
   -- the step up to the node of that turn, for each way that the turns may stand for
-  next : {fs : List Frame} {at : Option Ref} {h : ℕ} {u : BinaryTree} → Climbs c.args.p.now c.args.slot c.args.root.now c.args.below c.args.way.now.items fs at h u
-      → NextClimb c.args.p.now c.rejoin-now.new.p c.args.slot c.args.root.now c.pop.new.self.items fs h u c.in-Some.turn c.link-before.result.height
+  next : {fs : List Frame} {at : Option Ref} {h : ℕ} {u : BinaryTree} → Climbs c.args.p.now c.args.slot c.args.root.now c.args.below (turns c.args.nodes.now c.args.depth) fs at h u
+      → NextClimb c.args.p.now c.rejoin-now.new.p c.args.slot c.args.root.now (turns c.args.nodes.now c.pop.result.1) fs h u c.in-Some.turn c.link-before.result.height
       c.rejoin-now.result.0
   next k = next_climb k (turned_back k.path_is c.pop.ensures.rest c.pop.ensures.value c.in-Some.is) refl
       (ap (λ (x : Link). x.height) c.link-before.ensures) c.rejoin-now.ensures.tree
 
 pub returns-in_default-clause-tree : goal.returns-in_default-clause-tree
 returns-in_default-clause-tree g t c fs at h u k =
-    (u, climbed_none k (no_turn c.args.way.now.items _ fs k.path_is c.pop.ensures.value c.in_default.is))
+    (u, climbed_none k (no_turn (turns c.args.nodes.now c.args.depth) _ fs k.path_is c.pop.ensures.value c.in_default.is))
 
 pub link-before-requires-clause-held : goal.link-before-requires-clause-held
 link-before-requires-clause-held g t c =
@@ -57,7 +58,7 @@ climb-requires g t c κs within =
         within,
         (
           subst (λ j. c.args.slot < j) (sym c.rejoin-now.ensures.slots) c.requires.slot,
-          (c.rejoin-now.ensures.height, (on.rest, Some c.in-Some.turn.node, _, on.z, on.climbs)),
+          (c.rejoin-now.ensures.height, (c.pop.ensures.bits, (on.rest, Some c.in-Some.turn.node, _, on.z, on.climbs))),
         ),
       ),
     )

@@ -4,11 +4,12 @@ use Rattle.mi_node.specs.Pool.{with_link}
 use Rattle.mi_node.specs.Refs.{Ref}
 use Rattle.mi_node.specs.declared.link.Link.{Link}
 use Rattle.mi_tree.specs.BinaryTree.{BinaryTree, Tip}
+use Rattle.mi_tree.specs.Turns.{turns}
 use Rattle.mi_tree.specs.Ways.{Frame, Sinks}
 use Rattle.mi_tree.proofs.WayLemmas.{sized_link}
 use Rattle.mi_tree.proofs.RemovalWayLemmas.{NextSink, sunk_first, keeps_here, room_here, next_first}
 use Rattle.mi_tree.proofs.way.+go_first.Given.{Over}
-use Rattle.mi_tree.proofs.way.+go_first.Goals.{After-set_size, After-push}
+use Rattle.mi_tree.proofs.way.+go_first.Goals.{After-set_size, After-push-deeper}
 use Rattle.mi_tree.proofs.way.+go_first.Goals as goal
 
 module _ (g : Over) (t : ℕ) (c : After-set_size g t) where
@@ -17,34 +18,34 @@ module _ (g : Over) (t : ℕ) (c : After-set_size g t) where
   set = c.set_size.ensures
       ∙ ap (λ (z : Link). with_link c.args.p.now c.args.at.name c.args.slot (sized_link (c.link-link.result.size - 1) z)) (sym c.link-link.ensures)
 
-module _ (g : Over) (t : ℕ) (c : After-push g t) where
+module _ (g : Over) (t : ℕ) (c : After-push-deeper g t) where
   -- the step down from the node here, for each way that the turns may stand for
   next : {fs : List Frame} {u : BinaryTree} {x : Ref} {ys vs ws : List Ref}
-      → Sinks c.args.p.now c.args.slot c.args.way.now.items (Some c.args.at) fs u [] x ys vs ws
-      → NextSink c.args.p.now c.set_size.new.self c.args.slot c.push.new.self.items (Some c.args.at) (Some c.in-Some.left) fs u [] x ys vs ws []
+      → Sinks c.args.p.now c.args.slot (turns c.args.nodes.now c.args.depth) (Some c.args.at) fs u [] x ys vs ws
+      → NextSink c.args.p.now c.set_size.new.self c.args.slot (turns c.push-deeper.new.nodes c.push-deeper.result) (Some c.args.at) (Some c.in-Some.left) fs u [] x ys vs ws []
   next h = next_first h refl c.link-link.ensures (c.set_size.ensures
-      ∙ ap (λ (z : Link). with_link c.args.p.now c.args.at.name c.args.slot (sized_link (c.link-link.result.size - 1) z)) (sym c.link-link.ensures)) c.in-Some.is refl c.push.ensures.items
+      ∙ ap (λ (z : Link). with_link c.args.p.now c.args.at.name c.args.slot (sized_link (c.link-link.result.size - 1) z)) (sym c.link-link.ensures)) c.in-Some.is refl c.push-deeper.ensures.items
 
 pub returns-in_default-clause-way : goal.returns-in_default-clause-way
 returns-in_default-clause-way g t c fs u x ys vs ws h =
-    let v = c.args in sunk_first v.p.now v.slot v.way.now.items v.at fs u x ys vs ws h c.link-link.result c.link-link.ensures c.in_default.is
+    let v = c.args in sunk_first v.p.now v.slot (turns v.nodes.now v.depth) v.at fs u x ys vs ws h c.link-link.result c.link-link.ensures c.in_default.is
 
-pub push-requires : goal.push-requires
-push-requires g t c =
-    let room : length c.args.way.now.items < 45 = room_here c.requires.way.6 refl c.link-link.ensures (set g t (goal.at.push-requires g t c).After-set_size) in
-    (omega arith, room)
+pub push-deeper-requires-clause-room : goal.push-deeper-requires-clause-room
+push-deeper-requires-clause-room g t c =
+    let room : length (turns c.args.nodes.now c.args.depth) < 45 = room_here c.requires.way.6 refl c.link-link.ensures (set g t (goal.at.push-deeper-requires-clause-room g t c).After-set_size) in
+    room
 
 pub go_first-requires : goal.go_first-requires
 go_first-requires g t c κs within =
-    let w = c.requires.way in let on = next g t (goal.at.go_first-requires g t c).After-push w.6 in
+    let w = c.requires.way in let on = next g t (goal.at.go_first-requires g t c).After-push-deeper w.6 in
     let slots = subst (λ j. c.args.slot < j) (sym (keeps_here w.6 refl c.link-link.ensures (set g t (goal.at.go_first-requires g t c).After-set_size)).slots) c.requires.slot in
-    (omega (arith, c.decreases, on.lower), (within, (slots, (on.gs, on.sub, w.2, on.zs, w.4, w.5, on.sinks))))
+    (omega (arith, c.decreases, on.lower), (within, (slots, (c.push-deeper.ensures.bits, (on.gs, on.sub, w.2, on.zs, w.4, w.5, on.sinks)))))
 
 pub returns-clause-slots : goal.returns-clause-slots
 returns-clause-slots g t c = c.go_first.ensures.slots ∙ (keeps_here c.requires.way.6 refl c.link-link.ensures (set g t (goal.at.returns-clause-slots g t c).After-set_size)).slots
 
 pub returns-clause-way : goal.returns-clause-way
 returns-clause-way g t c fs u x ys vs ws h =
-    let on = next g t (goal.at.returns-clause-way g t c).After-push h in
+    let on = next g t (goal.at.returns-clause-way g t c).After-push-deeper h in
     let far = c.go_first.ensures.way on.gs on.sub x on.zs vs ws on.sinks in
-    (far.0, far.1, far.2, on.sunk c.go_first.new.p c.go_first.new.way.items far.1 Tip far.2 far.3)
+    (far.0, far.1, far.2, on.sunk c.go_first.new.p (turns c.go_first.new.nodes c.go_first.result.1) far.1 Tip far.2 far.3)

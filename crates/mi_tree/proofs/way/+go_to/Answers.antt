@@ -5,6 +5,7 @@ use Rattle.mi_node.specs.Pool.{link_of, with_link}
 use Rattle.mi_node.specs.declared.link.Link.{Link}
 use Rattle.mi_tree.specs.BinaryTree.{BinaryTree, nodes}
 use Rattle.mi_tree.specs.Sorted.{AreTagged, side, Rising}
+use Rattle.mi_tree.specs.Turns.{turns}
 use Rattle.mi_tree.specs.Ways.{Frame, Sinks}
 use Rattle.mi_tree.proofs.BinaryTreeLemmas.{moved, tip_is}
 use Rattle.mi_tree.proofs.SortedLemmas.{side_read, tagged_read, none_here, tagged_right}
@@ -12,7 +13,7 @@ use Rattle.mi_tree.proofs.RemoveLemmas.{held_in}
 use Rattle.mi_tree.proofs.WayLemmas.{sized_link}
 use Rattle.mi_tree.proofs.RemovalWayLemmas.{NextSink, sunk_equal, equal_is, keeps_here, tags_here, tagged_here, room_here, next_sink}
 use Rattle.mi_tree.proofs.way.+go_to.Given.{Over}
-use Rattle.mi_tree.proofs.way.+go_to.Goals.{After-compare_nodes-side, After-set_size, After-push}
+use Rattle.mi_tree.proofs.way.+go_to.Goals.{After-compare_nodes-side, After-set_size, After-push-deeper}
 use Rattle.mi_tree.proofs.way.+go_to.Goals as goal
 
 module _ (g : Over) (t : ℕ) (c : After-compare_nodes-side g t) where
@@ -28,19 +29,19 @@ module _ (g : Over) (t : ℕ) (c : After-set_size g t) where
   set = c.set_size.ensures ∙ ap (λ (z : Link). with_link c.args.p.now c.in-Some.here.name c.args.slot
       (sized_link (z.size - 1) (link_of c.args.p.now c.in-Some.here.name c.args.slot))) c.link-link.ensures
 
-module _ (g : Over) (t : ℕ) (c : After-push g t)
+module _ (g : Over) (t : ℕ) (c : After-push-deeper g t)
     (found : side (g.O.NodeOrder.order c.args.order.now) c.args.p.now c.args.slot c.args.node c.in-Some.here ≡ c.compare_nodes-side.result) where
   -- the step down from the node here, for each way that the turns may stand for
   next : {fs : List Frame} {u : BinaryTree} {xs ys vs ws : List Ref}
-      → Sinks c.args.p.now c.args.slot c.args.way.now.items c.args.at fs u xs c.args.node ys vs ws
+      → Sinks c.args.p.now c.args.slot (turns c.args.nodes.now c.args.depth) c.args.at fs u xs c.args.node ys vs ws
       → Rising (side (g.O.NodeOrder.order c.args.order.now) c.args.p.now c.args.slot) (nodes u)
-      → (us : List Ref) × (o : NextSink c.args.p.now c.set_size.new.self c.args.slot c.push.new.self.items c.args.at c.neighbour-next.result fs u xs c.args.node
+      → (us : List Ref) × (o : NextSink c.args.p.now c.set_size.new.self c.args.slot (turns c.push-deeper.new.nodes c.push-deeper.result) c.args.at c.neighbour-next.result fs u xs c.args.node
       ys vs ws us) × Rising (side (g.O.NodeOrder.order c.args.order.now) c.set_size.new.self c.args.slot) (nodes o.sub)
       × (AreTagged (g.O.NodeOrder.tag_of c.args.order.now) c.args.p.now c.args.slot (nodes u)
       → AreTagged (g.O.NodeOrder.tag_of c.args.order.now) c.set_size.new.self c.args.slot (nodes o.sub))
   next h rising = next_sink h c.in-Some.is refl (c.set_size.ensures ∙ ap (λ (z : Link). with_link c.args.p.now c.in-Some.here.name c.args.slot
       (sized_link (z.size - 1) (link_of c.args.p.now c.in-Some.here.name c.args.slot))) c.link-link.ensures) (g.met.O.NodeOrder.total c.args.order.now)
-      (g.O.NodeOrder.tag_of c.args.order.now) found (sym c.is_eq.ensures ∙ c.if-is_eq.false) c.is_lt-left.ensures c.push.ensures.items
+      (g.O.NodeOrder.tag_of c.args.order.now) found (sym c.is_eq.ensures ∙ c.if-is_eq.false) c.is_lt-left.ensures c.push-deeper.ensures.items
       c.neighbour-next.ensures rising
 
 pub unreachable-requires : goal.unreachable-requires
@@ -67,19 +68,19 @@ returns-then-is_eq-clause-way g t c fs u xs ys vs ws h r =
     (found ∙ equal_is c.compare_nodes-side.result (sym c.is_eq.ensures ∙ c.if-is_eq.true)) in
     (fs, on.0, on.1, on.2)
 
-pub push-requires : goal.push-requires
-push-requires g t c =
-    let room : length c.args.way.now.items < 45 = room_here c.requires.way.6 c.in-Some.is refl (set g t (goal.at.push-requires g t c).After-set_size) in
-    (omega arith, room)
+pub push-deeper-requires-clause-room : goal.push-deeper-requires-clause-room
+push-deeper-requires-clause-room g t c =
+    let room : length (turns c.args.nodes.now c.args.depth) < 45 = room_here c.requires.way.6 c.in-Some.is refl (set g t (goal.at.push-deeper-requires-clause-room g t c).After-set_size) in
+    room
 
 pub go_to-requires : goal.go_to-requires
 go_to-requires g t c κs within =
     let o = goal.at.go_to-requires g t c in let w = c.requires.way in let now = set g t o.After-set_size in
-    let on = next g t o.After-push (side_found g t o.After-compare_nodes-side) w.6 w.7 in let k = on.1 in
+    let on = next g t o.After-push-deeper (side_found g t o.After-compare_nodes-side) w.6 w.7 in let k = on.1 in
     let tag_is = c.requires.tag ∙ sym (tags_here w.6 c.in-Some.is refl now c.args.node.name) in
     let slots = subst (λ j. c.args.slot < j) (sym (keeps_here w.6 c.in-Some.is refl now).slots) c.requires.slot in
     let decided = c.requires.decided in
-    (omega (arith, c.decreases, k.lower), (within.0, (within.1, (slots, (tag_is, (decided, (k.gs, k.sub, on.0, k.zs, w.4, w.5, k.sinks, on.2, on.3 w.8)))))))
+    (omega (arith, c.decreases, k.lower), (within.0, (within.1, (slots, (tag_is, (decided, (c.push-deeper.ensures.bits, (k.gs, k.sub, on.0, k.zs, w.4, w.5, k.sinks, on.2, on.3 w.8))))))))
 
 pub returns-clause-slots : goal.returns-clause-slots
 returns-clause-slots g t c = c.go_to.ensures.slots ∙ (keeps_here c.requires.way.6 c.in-Some.is refl (set g t (goal.at.returns-clause-slots g t c).After-set_size)).slots
@@ -87,6 +88,6 @@ returns-clause-slots g t c = c.go_to.ensures.slots ∙ (keeps_here c.requires.wa
 pub returns-clause-way : goal.returns-clause-way
 returns-clause-way g t c fs u xs ys vs ws h r =
     let o = goal.at.returns-clause-way g t c in
-    let on = next g t o.After-push (side_found g t o.After-compare_nodes-side) h r in let k = on.1 in
+    let on = next g t o.After-push-deeper (side_found g t o.After-compare_nodes-side) h r in let k = on.1 in
     let far = c.go_to.ensures.way k.gs k.sub on.0 k.zs vs ws k.sinks on.2 in
-    (far.0, far.1, far.2, k.sunk c.go_to.new.p c.go_to.new.way.items far.0 far.1 far.2 far.3)
+    (far.0, far.1, far.2, k.sunk c.go_to.new.p (turns c.go_to.new.nodes c.go_to.result) far.0 far.1 far.2 far.3)

@@ -6,6 +6,7 @@ use Rattle.mi_node.specs.Cells.{sided}
 use Rattle.mi_node.specs.Pool.{Pooled, link_of, with_link}
 use Rattle.mi_node.specs.declared.link.Link.{Link}
 use Rattle.mi_node.proofs.EntryLemmas.{slots-with_link}
+use Rattle.mi_tree.specs.Turns.{turns}
 use Rattle.mi_tree.specs.Ways.{Frame, way_of, plug, Climbs, HasClimbed}
 use Rattle.mi_tree.proofs.BinaryTreeLemmas.{height-root}
 use Rattle.mi_tree.proofs.WayLemmas.{IsTurned, turned_back, no_turn, climbed_none, turn_held, plug_height, hung}
@@ -15,13 +16,13 @@ use Rattle.mi_tree.proofs.way.hang.Goals as goal
 
 module _ (g : Over) (c : In-Some g) where
   -- the way before its last turn
-  turned : (fs : List Frame) → c.args.way.now.items ≡ way_of fs → IsTurned fs c.pop.new.self.items c.in-Some.turn
+  turned : (fs : List Frame) → (turns c.args.nodes.now c.args.depth) ≡ way_of fs → IsTurned fs (turns c.args.nodes.now c.pop.result.1) c.in-Some.turn
   turned fs e = turned_back e c.pop.ensures.rest c.pop.ensures.value c.in-Some.is
 
 module _ (g : Over) (c : After-set_side g) {fs : List Frame} {at : Option Ref} {u : BinaryTree} where
   -- the tree is in place
-  placed : Climbs c.args.p.now c.args.slot c.args.root.now (Some c.args.top) c.args.way.now.items fs at (height u) u
-      → IsTurned fs c.pop.new.self.items c.in-Some.turn
+  placed : Climbs c.args.p.now c.args.slot c.args.root.now (Some c.args.top) (turns c.args.nodes.now c.args.depth) fs at (height u) u
+      → IsTurned fs (turns c.args.nodes.now c.pop.result.1) c.in-Some.turn
       → HasClimbed c.args.p.now c.set_side.new.self c.args.slot (plug fs u) c.args.root.now (plug fs u)
   placed h w =
       let m = c.args.p.now in let s = c.args.slot in let r = c.in-Some.turn.node in
@@ -30,7 +31,7 @@ module _ (g : Over) (c : After-set_side g) {fs : List Frame} {at : Option Ref} {
 
 pub returns-in_default-clause-tree : goal.returns-in_default-clause-tree
 returns-in_default-clause-tree g c fs at u h =
-    (u, climbed_none h (no_turn c.args.way.now.items _ fs h.path_is c.pop.ensures.value c.in_default.is))
+    (u, climbed_none h (no_turn (turns c.args.nodes.now c.args.depth) _ fs h.path_is c.pop.ensures.value c.in_default.is))
 
 pub link-height-requires-clause-held : goal.link-height-requires-clause-held
 link-height-requires-clause-held g c =

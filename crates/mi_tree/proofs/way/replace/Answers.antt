@@ -1,6 +1,7 @@
 -- Where the tree that comes is as high as the one that went, it is only hung on; else the climb goes on.
 use Rattle.std.proofs.Common.{Option, Some, sym, ◌∙◌, subst}
 use Rattle.mi_node.specs.Refs.{Ref}
+use Rattle.mi_tree.specs.Turns.{turns}
 use Rattle.mi_tree.specs.Ways.{Climbs}
 use Rattle.mi_tree.proofs.BinaryTreeLemmas.{height-root, held-root}
 use Rattle.mi_tree.proofs.way.replace.Goals as goal
@@ -12,5 +13,5 @@ pub hang-requires-clause-way : goal.hang-requires-clause-way
 hang-requires-clause-way g c =
     let v = c.args in let m = v.p.now in let s = v.slot in let w = c.requires.way in let u = w.2 in let k = w.3 in
     let same = sym c.if-high-before.true ∙ c.height-high.ensures ∙ height-root m s v.below u k.rooted in
-    let opened = subst (λ (z : Option Ref). Climbs m s v.root.now z v.way.now.items w.0 w.1 v.before u) c.in-Some.is k in
-    (w.0, w.1, u, subst (λ j. Climbs m s v.root.now (Some c.in-Some.top) v.way.now.items w.0 w.1 j u) same opened)
+    let opened = subst (λ (z : Option Ref). Climbs m s v.root.now z (turns v.nodes.now v.depth) w.0 w.1 v.before u) c.in-Some.is k in
+    (w.0, w.1, u, subst (λ j. Climbs m s v.root.now (Some c.in-Some.top) (turns v.nodes.now v.depth) w.0 w.1 j u) same opened)

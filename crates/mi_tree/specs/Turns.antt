@@ -1,0 +1,21 @@
+-- The turns of a way, as they lie in an array of nodes and in the bits of a number.
+use Rattle.std.specs.Prelude.{◌≡◌, ℕ, zero, suc, ◌/◌, ◌%◌, ◌==◌, ◌^◌, ◌<◌, ◌≤◌, List, [], ◌∷◌, ◌++◌, length, slice_index_or}
+use Rattle.mi_node.specs.Refs.{Ref}
+use Rattle.mi_tree.specs.declared.turns.Turn.{Turn}
+use Rattle.mi_tree.specs.declared.turns.Depth.{Depth}
+
+-- what a place beyond the array would have
+abbrev pub anyone : Ref
+anyone = record { name = 0; mark = 0 }
+
+-- the first so many nodes; the last of them has the lowest bit
+abbrev pub turns_of : List Ref → ℕ → ℕ → List Turn
+turns_of nodes lefts zero = []
+turns_of nodes lefts (suc n) = turns_of nodes (lefts / 2) n ++ record { node = slice_index_or nodes n anyone; left = (lefts % 2 == 1) } ∷ []
+
+abbrev pub turns : List Ref → Depth → List Turn
+turns nodes d = turns_of nodes d.lefts d.len
+
+-- there is room, and no bit more than turns
+abbrev pub AreBits : List Ref → Depth → Type 0
+AreBits nodes d = (length nodes ≡ 45) × (d.len ≤ 45) × (d.lefts < 2 ^ d.len)
