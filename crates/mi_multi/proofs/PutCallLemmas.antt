@@ -27,8 +27,8 @@ use Rattle.mi_container.specs.Run.Change.{Replace}
 use Rattle.mi_container.specs.Fits.{IsLive}
 use Rattle.mi_container.specs.Backs.{row_seen, place_seen}
 use Rattle.mi_container.specs.declared.inverse.RowRef.{RowRef as Row}
-use Rattle.mi_model.specs.Table.{has}
-use Rattle.mi_ids.specs.IdMap.{live_node}
+use Rattle.mi_model.specs.Table.{has, get as get_row}
+use Rattle.mi_ids.specs.IdMap.{live_node, node_if_live}
 use Rattle.mi_multi.specs.Multi.{own_lists, HasNode, IsMulti, plain_of}
 use Rattle.mi_multi.specs.Seen.{Seen, seen_of, AreMulti}
 use Rattle.mi_multi.specs.declared.multi.MultiIndex.TheInside.{Inside}
@@ -39,6 +39,7 @@ use Rattle.mi_multi.proofs.IndexNumberLemmas.{Numbered, numbered, reaches}
 use Rattle.mi_multi.proofs.TakeBackInsertLemmas.{live_there}
 use Rattle.mi_multi.proofs.RelocateCallLemmas.{live_row_is}
 use Rattle.mi_multi.proofs.CallLemmas.{absent}
+use Rattle.mi_multi.proofs.AnswerLemmas.{record_of}
 use Rattle.mi_multi.proofs.NewRecordLemmas.{Marked, can_put, put_seen, put_multi, put_inverse_is}
 use Rattle.mi_multi.proofs.OldPlaceLemmas as old
 
@@ -54,6 +55,11 @@ module _ (i : Inside) (is : AreMulti i) (w : Seen) (seen : seen_of i ≡ w) (row
 
   pub row_held : IsHeld m row.node
   row_held = (is.held row.id (record { node = row.node; live = true }) row_there).held
+
+  -- its record is that of its node
+  pub row_got : (v : Stored) → value_of m row.node.name ≡ Some v → get_row (as_table w.plain) row.id ≡ Some v.row
+  row_got v v_is = subst (λ (u : Seen). get_row (as_table u.plain) row.id ≡ Some v.row) seen
+      (record_of i.schema i.ids.entries m items i.next i.arrivals row.id row.node v (ap node_if_live row_there) v_is)
 
   -- as many orders and stamps as indexes
   pub long_orders : length w.plain.orders ≡ length i.schema.indexes

@@ -3,23 +3,11 @@ use Rattle.std.proofs.Common.{◌≢◌, ap, sym, ◌∙◌}
 use Rattle.mi_value.specs.declared.limits.TheConstants.{LAST_COUNT}
 use Rattle.mi_container.proofs.InvariantLemmas.{there_has}
 use Rattle.mi_multi.specs.Seen.{Seen}
-use Rattle.mi_multi.proofs.PutCallLemmas.{has_node, live_of}
 use Rattle.mi_multi.proofs.ReplaceLemmas.{put_meets}
 use Rattle.mi_multi.proofs.multi.MultiIndex.modify_to.Goals as goal
 
-pub unwrap-node-requires : goal.unwrap-node-requires
-unwrap-node-requires c = has_node c.self.inside c.self.invariant c.args.self.now c.self.view_is c.args.id c.requires c.live.result c.live.ensures
-
-pub changed_by-marks-requires : goal.changed_by-marks-requires
-changed_by-marks-requires c =
-    live_of c.self.inside c.args.self.now c.self.view_is c.args.id c.unwrap-node.result (sym c.live.ensures ∙ c.unwrap-node.ensures)
-
-pub put-requires-clause-live : goal.put-requires-clause-live
-put-requires-clause-live c =
-    live_of c.self.inside c.args.self.now c.self.view_is c.args.id c.unwrap-node.result (sym c.live.ensures ∙ c.unwrap-node.ensures)
-
 pub put-requires-clause-allowed : goal.put-requires-clause-allowed
-put-requires-clause-allowed c = (there_has c.args.self.now.plain c.args.id c.requires, sym c.conflict_of_put.ensures ∙ c.in-None.is)
+put-requires-clause-allowed c = (there_has c.args.self.now.plain c.args.id c.requires.there, sym c.conflict_of_put.ensures ∙ c.in-None.is)
 
 pub returns-in-None-clause-outcome : goal.returns-in-None-clause-outcome
 returns-in-None-clause-outcome c =
