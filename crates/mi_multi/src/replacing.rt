@@ -16,7 +16,8 @@ ghost use Rattle.mi_multi.specs.Changed.{changed_by};
 
 use crate::conflicts::unique_refusal;
 use crate::multi::MultiIndex;
-use mi_container::Inverse;
+use arrayvec::ArrayVec;
+use mi_container::{Inverse, RowRef, Undo};
 use mi_node::NodeRef;
 use mi_value::limits::LAST_COUNT;
 use mi_value::{Edit, Record, Refusal, apply};
@@ -55,7 +56,9 @@ impl MultiIndex {
         if let Some(refusal) = self.put_refusal(id, &row, marks.as_slice()) {
             return Err((refusal, row));
         }
-        Ok(self.put(id, node, row, marks.as_slice()))
+        let mut places = ArrayVec::new();
+        let old = self.put(id, node, row, marks.as_slice(), &mut places);
+        Ok(Inverse::new(Undo::Put(RowRef { id, node }, old, places)))
     }
 
     /// The record that edits make of a live row's. Refusals: `Range` and `Memory`.
@@ -101,7 +104,11 @@ impl MultiIndex {
         }
         let marks = self.changed_by(id, node, &row);
         match self.conflict_of_put(id, &row, marks.as_slice()) {
-            None => Ok(self.put(id, node, row, marks.as_slice())),
+            None => {
+                let mut places = ArrayVec::new();
+                let old = self.put(id, node, row, marks.as_slice(), &mut places);
+                Ok(Inverse::new(Undo::Put(RowRef { id, node }, old, places)))
+            }
             Some((index, other)) if rollback => Err(Refusal::Unique { index, id: other }),
             Some(rival) => self.erase_for(id, Some(rival)),
         }
