@@ -1,7 +1,6 @@
 pub mod FrameLemmas
 pub mod StayLemmas
 pub mod JoinLemmas
-pub mod MovesLemmas
 pub mod PassLemmas
 pub mod LoopLemmas
 pub mod OtherNodeLemmas

@@ -11,7 +11,7 @@ ghost use Rattle.mi_index.specs.Inserting as insert;
 ghost use Rattle.mi_index.specs.Opened as opened;
 ghost use Rattle.mi_index.specs.declared.structure.Structure.{Structure as One};
 
-use crate::moves::{Moves, before_in};
+use crate::moves::{Moves, before_in, place_at};
 use crate::structure::Structure;
 use mi_catalog::{Column, Index};
 use mi_node::{NodeRef, OldPlace, Pool};
@@ -57,21 +57,16 @@ fn unlink_one(
     }
 }
 
-/// Where a node comes back to in one structure, if it moves there: its own link is read only then.
-fn place_of(
-    p: &Pool<Stored>,
-    slot: usize,
-    node: NodeRef,
-    moves: &Moves<'_>,
-) -> Option<OldPlace>
+/// Where a node comes back to in one structure, if it moves there. Its own link isn't read where places are given.
+fn place_of(p: &Pool<Stored>, slot: usize, node: NodeRef, moves: &Moves<'_>) -> Option<OldPlace>
     requires held { IsHeld p.now node }
     requires slot { slot < p.now.slots }
     ensures { result ≡ place_for moves.now slot (link_of p.now node.name slot) }
 {
-    if !moves.moves_in(slot) {
-        return None;
+    match moves {
+        Moves::Placed(all) => place_at(all, slot),
+        _ => moves.place_in(slot, p.link(node, slot)),
     }
-    moves.place_in(slot, p.link(node, slot))
 }
 
 /// Puts a node back into one structure, if it moves there.
