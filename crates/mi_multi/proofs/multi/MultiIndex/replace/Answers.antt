@@ -1,5 +1,5 @@
 -- The refusals are asked in their order, and else the record is set.
-use Rattle.std.proofs.Common.{◌≡◌, true, false, sym, ◌∙◌, subst}
+use Rattle.std.proofs.Common.{◌≡◌, true, sym, ◌∙◌, subst}
 use Rattle.mi_value.specs.declared.refusal.Refusal.TheVariants.{NoId}
 use Rattle.mi_model.specs.Table.{has as has_row}
 use Rattle.mi_container.specs.Data.{as_table}
@@ -7,20 +7,15 @@ use Rattle.mi_container.specs.Fits.{IsLive}
 use Rattle.mi_container.specs.Makes.{Makes}
 use Rattle.mi_container.specs.Run.Change.{Replace}
 use Rattle.mi_container.proofs.InvariantLemmas.{has_there, there_has}
-use Rattle.mi_multi.specs.Seen.{Seen}
-use Rattle.mi_multi.proofs.AnswerLemmas.{none_has}
-use Rattle.mi_multi.proofs.PutCallLemmas.{live_of}
+use Rattle.mi_multi.proofs.PutCallLemmas.{live_of, gone_of}
 use Rattle.mi_multi.proofs.ReplaceLemmas.{replace_no_row, replace_refused, replaceable, replace_meets, put_table}
 use Rattle.mi_multi.proofs.multi.MultiIndex.replace.Goals.{In-Some}
 use Rattle.mi_multi.proofs.multi.MultiIndex.replace.Goals as goal
 
 pub returns-in_default-clause-outcome : goal.returns-in_default-clause-outcome
 returns-in_default-clause-outcome c =
-    let i = c.self.inside in
     let now = c.args.self.now in
-    let gone : has_row (as_table now.plain) c.args.id ≡ false =
-    subst (λ (w : Seen). has_row (as_table w.plain) c.args.id ≡ false) c.self.view_is
-    (none_has i.schema i.ids.entries i.nodes.pool i.nodes.structures.items i.next i.arrivals c.args.id (sym c.live.ensures ∙ c.in_default.is)) in
+    let gone = gone_of c.self.inside now c.self.view_is c.args.id (sym c.live.ensures ∙ c.in_default.is) in
     replace_refused now.shape c.args.id c.args.row (as_table now.plain) NoId (replace_no_row now.shape c.args.id c.args.row (as_table now.plain) gone)
 
 module _ (c : In-Some) where
