@@ -1,19 +1,20 @@
 //! Passes over the structures of all indexes, one after another. A change in one leaves all others standing, since each
 //! sets links of its own slot alone. What a pass says of the node is lent to each step.
 ghost use Rattle.std.specs.Prelude.{◌≡◌, ◌+◌, ◌<◌, ◌^◌, List as Seq, ◌++◌, length, IfOk};
-ghost use Rattle.mi_node.specs.Pool.{IsHeld};
+ghost use Rattle.mi_node.specs.Pool.{IsHeld, link_of};
 ghost use Rattle.mi_node.specs.Refs.{Ref};
 ghost use Rattle.mi_index.specs.Standing.{IsLike};
+ghost use Rattle.mi_index.specs.Places.{place_for};
 ghost use Rattle.mi_index.specs.Pass.{IsReady, IsStep, AreReady, IsPass, AllLike, AllRoomy};
 ghost use Rattle.mi_index.specs.Passes as pass;
 ghost use Rattle.mi_index.specs.Inserting as insert;
 ghost use Rattle.mi_index.specs.Opened as opened;
 ghost use Rattle.mi_index.specs.declared.structure.Structure.{Structure as One};
 
-use crate::moves::{Moves, before_in};
+use crate::moves::{Moves, before_in, place_at};
 use crate::structure::Structure;
 use mi_catalog::{Column, Index};
-use mi_node::{NodeRef, Pool};
+use mi_node::{NodeRef, OldPlace, Pool};
 use mi_order::Stored;
 use std::alloc::{AllocError, Global};
 
@@ -56,6 +57,18 @@ fn unlink_one(
     }
 }
 
+/// Where a node comes back to in one structure, if it moves there. Its own link isn't read where places are given.
+fn place_of(p: &Pool<Stored>, slot: usize, node: NodeRef, moves: &Moves<'_>) -> Option<OldPlace>
+    requires held { IsHeld p.now node }
+    requires slot { slot < p.now.slots }
+    ensures { result ≡ place_for moves.now slot (link_of p.now node.name slot) }
+{
+    match moves {
+        Moves::Placed(all) => place_at(all, slot),
+        _ => moves.place_in(slot, p.link(node, slot)),
+    }
+}
+
 /// Puts a node back into one structure, if it moves there.
 fn relink_one(
     structure: &mut Structure,
@@ -70,8 +83,7 @@ fn relink_one(
     ensures step { IsStep (pass.returning moves.now node) (pass.returned moves.now node) node slot structure.old structure.new p.old p.new }
     ensures like { IsLike structure.old structure.new }
 {
-    let link = p.link(node, slot);
-    if let Some(place) = moves.place_in(slot, link) {
+    if let Some(place) = place_of(p, slot, node, moves) {
         structure.relink(p, node, place);
     }
 }

@@ -25,7 +25,7 @@ fn is_marked(marks: &[bool], slot: usize) -> bool
 }
 
 /// The place of a number, if there is one.
-fn place_at(all: &[MaybePlace], slot: usize) -> Option<OldPlace>
+pub(crate) fn place_at(all: &[MaybePlace], slot: usize) -> Option<OldPlace>
     ensures { result ≡ places.given_at all.now slot }
 {
     match all.get(slot) {

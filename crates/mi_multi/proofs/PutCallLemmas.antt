@@ -1,6 +1,6 @@
 -- What the calls that put another record ask and answer, by what contracts see of the container.
 use Rattle.std.proofs.Common.{◌≡◌, ℕ, ◌+◌, ◌^◌, ◌<◌, Bool, true, false, not, List, ◌++◌, ◌∷◌, map, length, slice_get, refl, ap, sym, ◌∙◌, subst}
-use Rattle.std.specs.Option.{IsSome, option_map}
+use Rattle.std.specs.Option.{option_map}
 use Rattle.std.specs.Ordering.{is_eq}
 use Rattle.std.specs.FinMap.{get}
 use Rattle.std.specs.declared.option.Option.{Option}
@@ -27,8 +27,8 @@ use Rattle.mi_container.specs.Run.Change.{Replace}
 use Rattle.mi_container.specs.Fits.{IsLive}
 use Rattle.mi_container.specs.Backs.{row_seen, place_seen}
 use Rattle.mi_container.specs.declared.inverse.RowRef.{RowRef as Row}
-use Rattle.mi_model.specs.Table.{has}
-use Rattle.mi_ids.specs.IdMap.{live_node}
+use Rattle.mi_model.specs.Table.{has, get as get_row}
+use Rattle.mi_ids.specs.IdMap.{live_node, node_if_live}
 use Rattle.mi_multi.specs.Multi.{own_lists, HasNode, IsMulti, plain_of}
 use Rattle.mi_multi.specs.Seen.{Seen, seen_of, AreMulti}
 use Rattle.mi_multi.specs.declared.multi.MultiIndex.TheInside.{Inside}
@@ -38,7 +38,7 @@ use Rattle.mi_multi.proofs.EveryIndexLemmas.{length_orders}
 use Rattle.mi_multi.proofs.IndexNumberLemmas.{Numbered, numbered, reaches}
 use Rattle.mi_multi.proofs.TakeBackInsertLemmas.{live_there}
 use Rattle.mi_multi.proofs.RelocateCallLemmas.{live_row_is}
-use Rattle.mi_multi.proofs.CallLemmas.{absent}
+use Rattle.mi_multi.proofs.AnswerLemmas.{none_has, record_of}
 use Rattle.mi_multi.proofs.NewRecordLemmas.{Marked, can_put, put_seen, put_multi, put_inverse_is}
 use Rattle.mi_multi.proofs.OldPlaceLemmas as old
 
@@ -54,6 +54,11 @@ module _ (i : Inside) (is : AreMulti i) (w : Seen) (seen : seen_of i ≡ w) (row
 
   pub row_held : IsHeld m row.node
   row_held = (is.held row.id (record { node = row.node; live = true }) row_there).held
+
+  -- its record is that of its node
+  pub row_got : (v : Stored) → value_of m row.node.name ≡ Some v → get_row (as_table w.plain) row.id ≡ Some v.row
+  row_got v v_is = subst (λ (u : Seen). get_row (as_table u.plain) row.id ≡ Some v.row) seen
+      (record_of i.schema i.ids.entries m items i.next i.arrivals row.id row.node v (ap node_if_live row_there) v_is)
 
   -- as many orders and stamps as indexes
   pub long_orders : length w.plain.orders ≡ length i.schema.indexes
@@ -140,14 +145,11 @@ live_of i w seen e r here =
     subst (λ (u : Seen). IsLive u.plain.rows (record { id = e; at = r })) seen
     (live_row_is i.schema i.ids.entries i.nodes.pool i.nodes.structures.items i.next i.arrivals e r here)
 
-is_some_live : (o : Option Ref) → (o ≡ None → ⊥) → IsSome o
-is_some_live None h = absurd (h refl)
-is_some_live (Some r) h = refl
-
--- a row that is there has one
-pub has_node : (i : Inside) (is : AreMulti i) (w : Seen) → seen_of i ≡ w → (e : ℕ) → has (as_table w.plain) e ≡ true
-    → (o : Option Ref) → o ≡ live_node i.ids.entries e → IsSome o
-has_node i is w seen e there o same = is_some_live o (λ none. absent i is seen e same none there)
+-- without one there is no row
+pub gone_of : (i : Inside) (w : Seen) → seen_of i ≡ w → (e : ℕ) → live_node i.ids.entries e ≡ None → has (as_table w.plain) e ≡ false
+gone_of i w seen e none =
+    subst (λ (u : Seen). has (as_table u.plain) e ≡ false) seen
+    (none_has i.schema i.ids.entries i.nodes.pool i.nodes.structures.items i.next i.arrivals e none)
 
 module _ (i : Inside) (is : AreMulti i) (w : Seen) (seen : seen_of i ≡ w) (e : ℕ) (r : Ref) (live : IsLive w.plain.rows (record { id = e; at = r }))
     (row : List Value) (allowed : Allowed w.shape (Replace e row) w.plain) where

@@ -1,21 +1,22 @@
 //! Another record for a live row, and the places that the row had.
-ghost use Rattle.std.specs.Prelude.{◌≡◌, ◌<◌, length, map};
+ghost use Rattle.std.specs.Prelude.{◌≡◌, ◌<◌, [], length, map};
 ghost use Rattle.std.specs.Option.{option_map};
 ghost use Rattle.mi_value.specs.declared.limits.TheConstants.{LAST_COUNT};
 ghost use Rattle.mi_catalog.specs.Shape.{index_at};
 ghost use Rattle.mi_container.specs.Data.{content_of, stamp_of, order_at};
 ghost use Rattle.mi_container.specs.Inverse as inverse;
+ghost use Rattle.mi_container.specs.Inverse.Inverse.{Put};
 ghost use Rattle.mi_container.specs.Fits.{IsLive};
 ghost use Rattle.mi_container.specs.Makes.{Makes};
 ghost use Rattle.mi_container.specs.Run.{Allowed};
 ghost use Rattle.mi_container.specs.Run.Change.{Replace};
 ghost use Rattle.mi_container.specs.Backs.{row_seen, place_seen};
 ghost use Rattle.mi_multi.specs.Changed.{is_changed, changed_by};
+ghost use Rattle.mi_multi.specs.Restored.{old_seen};
 
 use crate::multi::MultiIndex;
 use crate::reading::structure_at;
-use arrayvec::ArrayVec;
-use mi_container::{Inverse, OldPlaces, RowRef, Undo};
+use mi_container::{OldPlaces, RowRef};
 use mi_index::Stored;
 use mi_node::{MaybePlace, NodeRef};
 use mi_value::Record;
@@ -38,35 +39,51 @@ impl MultiIndex {
         MaybePlace::new(structure.place(&self.nodes.pool, index, row.node))
     }
 
-    /// The places of a row in the indexes in which another record has another key, which are marked.
-    fn old_places(&self, id: u64, node: NodeRef, new: &Record, marks: &[bool]) -> OldPlaces
+    /// Lays down the places of a row in the indexes in which another record has another key, which are marked: where the inverse
+    /// has them, since they are 264 bytes that would be copied on each way out.
+    fn old_places(
+        &self,
+        id: u64,
+        node: NodeRef,
+        new: &Record,
+        marks: &[bool],
+        places: &mut OldPlaces,
+    )
         requires row { IsLive self.now.plain.rows (record { id = id; at = node }) }
         requires marks { marks.now ≡ changed_by self.now id new.now }
-        ensures { map (option_map place_seen) result.items ≡ inverse.old_places 0 self.now.plain.rows id (content_of self.now.plain.rows id).values new.now
+        requires empty { places.old.items ≡ [] }
+        ensures { map (option_map place_seen) places.new.items ≡ inverse.old_places 0 self.now.plain.rows id (content_of self.now.plain.rows id).values new.now
             self.now.plain.orders (content_of self.now.plain.rows id).stamps }
     {
         self.schema.keeps_rules();
-        let mut places = ArrayVec::new();
         for index in 0..self.schema.index_count() {
             places.push(self.old_place(index, RowRef { id, node }, new, marks[index]));
         }
-        places
     }
 
-    /// Sets another record for a live row, and answers what takes it back. In the marked indexes its key changes, and it goes
-    /// last among its new equals; in the others it keeps its place. Takes no memory.
-    pub(crate) fn put(&mut self, id: u64, node: NodeRef, row: Record, marks: &[bool]) -> Inverse
+    /// Sets another record for a live row, and answers the one that it had; its old places are laid down. In the marked
+    /// indexes its key changes, and it goes last among its new equals; in the others it keeps its place. Takes no memory.
+    pub(crate) fn put(
+        &mut self,
+        id: u64,
+        node: NodeRef,
+        row: Record,
+        marks: &[bool],
+        places: &mut OldPlaces,
+    ) -> Record
         requires live { IsLive self.old.plain.rows (record { id = id; at = node }) }
         requires marks { marks.now ≡ changed_by self.old id row }
         requires allowed { Allowed self.old.shape (Replace id row) self.old.plain }
         requires times { self.old.plain.arrivals < LAST_COUNT }
-        ensures made { Makes self.old.shape (Replace id row) self.old.plain result self.new.plain }
+        requires empty { places.old.items ≡ [] }
+        ensures made { Makes self.old.shape (Replace id row) self.old.plain
+            (Put (record { id = id; at = node }) (old_seen result places.new.items)) self.new.plain }
         ensures shape { self.new.shape ≡ self.old.shape }
     {
-        let places = self.old_places(id, node, &row, marks);
+        self.old_places(id, node, &row, marks, places);
         let stored = Stored { id, row };
         let old = self.nodes.rekey(node, stored, marks, self.arrivals);
         self.arrivals += 1;
-        Inverse::new(Undo::Put(RowRef { id, node }, old.row, places))
+        old.row
     }
 }

@@ -9,15 +9,18 @@ ghost use Rattle.mi_model.specs.Verdict.{replace_refusal, replace_outcome, modif
 ghost use Rattle.mi_container.specs.Asked.{RecordFits, EditsFit};
 ghost use Rattle.mi_container.specs.Data.{as_table};
 ghost use Rattle.mi_container.specs.Inverse.{lost_to};
+ghost use Rattle.mi_container.specs.Fits.{IsLive};
 ghost use Rattle.mi_container.specs.Run.Change.{Replace};
 ghost use Rattle.mi_container.specs.Makes.{Makes, MakesModify, MeetsOn, replace_answer, modify_answer, IsNoLoss};
 ghost use Rattle.mi_multi.specs.Changed.{changed_by};
 
 use crate::conflicts::unique_refusal;
 use crate::multi::MultiIndex;
-use mi_container::Inverse;
+use arrayvec::ArrayVec;
+use mi_container::{Inverse, RowRef, Undo};
+use mi_node::NodeRef;
 use mi_value::limits::LAST_COUNT;
-use mi_value::{Edit, Record, Refusal, Steps, apply};
+use mi_value::{Edit, Record, Refusal, apply};
 use std::alloc::Global;
 
 impl MultiIndex {
@@ -53,11 +56,20 @@ impl MultiIndex {
         if let Some(refusal) = self.put_refusal(id, &row, marks.as_slice()) {
             return Err((refusal, row));
         }
-        Ok(self.put(id, node, row, marks.as_slice()))
+        let mut places = ArrayVec::new();
+        let old = self.put(id, node, row, marks.as_slice(), &mut places);
+        Ok(Inverse::new(Undo::Put(RowRef { id, node }, old, places)))
     }
 
-    /// The record that edits make of a row's. Refusals: `NoId`, `Range` and `Memory`.
-    fn edited(&self, alloc: Global, id: u64, edits: &[Edit]) -> Result<Record, Refusal>
+    /// The record that edits make of a live row's. Refusals: `Range` and `Memory`.
+    fn edited(
+        &self,
+        alloc: Global,
+        id: u64,
+        node: NodeRef,
+        edits: &[Edit],
+    ) -> Result<Record, Refusal>
+        requires { IsLive self.now.plain.rows (record { id = id; at = node }) }
         ensures there { IfOk result (λ r. has_row (as_table self.now.plain) id ≡ true) }
         ensures edited { IfOk result (λ r. apply_edits edits.now (row_of (as_table self.now.plain) id).1 ≡ Some r) }
         ensures refused { (rollback : Bool) → IfErr result (λ e.
@@ -65,16 +77,21 @@ impl MultiIndex {
             e (as_table self.now.plain) (as_table self.now.plain)) }
         ensures loss { IfErr result IsNoLoss }
     {
-        let Some(row) = self.get(id, &mut Steps::new()) else {
-            return Err(Refusal::NoId);
-        };
-        apply(alloc, row, edits)
+        let _ = id;
+        apply(alloc, &self.nodes.pool.value(node).row, edits)
     }
 
-    /// Sets the record that a modify made for a row, unless a unique index refuses it: then with `rollback` nothing changes,
-    /// and without it the row is erased. Takes no memory.
-    fn modify_to(&mut self, id: u64, row: Record, rollback: bool) -> Result<Inverse, Refusal>
-        requires { has_row (as_table self.old.plain) id ≡ true }
+    /// Sets the record that a modify made for a live row, unless a unique index refuses it: then with `rollback` nothing
+    /// changes, and without it the row is erased. Takes no memory.
+    fn modify_to(
+        &mut self,
+        id: u64,
+        node: NodeRef,
+        row: Record,
+        rollback: bool,
+    ) -> Result<Inverse, Refusal>
+        requires there { has_row (as_table self.old.plain) id ≡ true }
+        requires live { IsLive self.old.plain.rows (record { id = id; at = node }) }
         ensures outcome { MeetsOn (modified self.old.shape id rollback (Some row)) (modify_answer result) self.old.plain self.new.plain }
         ensures made { IfOk result (λ i. MakesModify (lost_to i) self.old.shape id self.old.plain i self.new.plain) }
         ensures loss { IfErr result (λ e. IsNoLoss e) }
@@ -85,10 +102,13 @@ impl MultiIndex {
         if self.arrivals == LAST_COUNT {
             return Err(Refusal::Spent);
         }
-        let node = self.ids.live(id).unwrap();
         let marks = self.changed_by(id, node, &row);
         match self.conflict_of_put(id, &row, marks.as_slice()) {
-            None => Ok(self.put(id, node, row, marks.as_slice())),
+            None => {
+                let mut places = ArrayVec::new();
+                let old = self.put(id, node, row, marks.as_slice(), &mut places);
+                Ok(Inverse::new(Undo::Put(RowRef { id, node }, old, places)))
+            }
             Some((index, other)) if rollback => Err(Refusal::Unique { index, id: other }),
             Some(rival) => self.erase_for(id, Some(rival)),
         }
@@ -112,7 +132,10 @@ impl MultiIndex {
         ensures refused { IfErr result (λ e. self.new.plain ≡ self.old.plain) }
         ensures shape { self.new.shape ≡ self.old.shape }
     {
-        let row = self.edited(alloc, id, edits)?;
-        self.modify_to(id, row, rollback)
+        let Some(node) = self.ids.live(id) else {
+            return Err(Refusal::NoId);
+        };
+        let row = self.edited(alloc, id, node, edits)?;
+        self.modify_to(id, node, row, rollback)
     }
 }

@@ -30,7 +30,9 @@ impl MultiIndex {
         self.arrivals -= 1;
     }
 
-    /// Takes a change back, by its inverse: of the changes not yet taken back it is the newest. Takes no memory.
+    /// Takes a change back, by its inverse: of the changes not yet taken back it is the newest. Takes no memory. An inverse is
+    /// large: in line it stays where its caller has it.
+    #[inline(always)]
     pub fn unwind(&mut self, inverse: Inverse)
         requires ready { Ready inverse self.old.plain }
         requires before { IsData self.old.shape (taken_back inverse self.old.plain) }

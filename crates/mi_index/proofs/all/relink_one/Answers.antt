@@ -1,5 +1,5 @@
 -- The node has a place here.
-use Rattle.std.proofs.Common.{◌≡◌, ap, sym, ◌∙◌, subst}
+use Rattle.std.proofs.Common.{◌≡◌, sym, ◌∙◌, subst}
 use Rattle.std.specs.declared.option.Option.TheVariants.{Some}
 use Rattle.mi_node.specs.Pool.{link_of}
 use Rattle.mi_index.specs.Places.{place_for}
@@ -10,7 +10,7 @@ pub returns-in-Some-clause-step : goal.returns-in-Some-clause-step
 returns-in-Some-clause-step c rs h j =
     let x = c.args.structure.now in let m = c.args.p.now in let n = c.relink.new.p in let r = c.args.node in let s = c.args.slot in
     let is : place_for c.args.moves.now s (link_of m r.name s) ≡ Some c.in-Some.place =
-    ap (place_for c.args.moves.now s) (sym c.link-link.ensures) ∙ sym c.place_in.ensures ∙ c.in-Some.is in
+    sym c.place_of.ensures ∙ c.in-Some.is in
     let a = c.relink.ensures.step rs h (subst (λ o. CanReturnTo o x m r rs) is j) in
     record {
       us = a.us;

@@ -1,4 +1,5 @@
 -- The node gets its new record and its new places, and the data are those of the put.
+use Rattle.std.proofs.Common.{refl}
 use Rattle.mi_multi.proofs.PutCallLemmas.{row_held, put_ready, now_multi, now_made}
 use Rattle.mi_container.specs.declared.inverse.RowRef.{RowRef as Row}
 use Rattle.mi_multi.proofs.multi.MultiIndex.put.Goals as goal
@@ -24,4 +25,4 @@ returns-clause-made c =
     now_made c.self.inside c.self.invariant c.args.self.now c.self.view_is c.args.id c.args.node c.requires.live c.args.row c.requires.allowed
     c.args.marks.now c.requires.marks c.rekey-old.new.self.pool c.rekey-old.new.self.structures.items
     c.rekey-old.ensures.like c.rekey-old.ensures.rekeyed
-    c.old_places-places.result.items c.old_places-places.ensures c.rekey-old.result c.rekey-old.ensures.value c.new.result c.new.ensures
+    c.old_places.new.places.items c.old_places.ensures c.rekey-old.result c.rekey-old.ensures.value _ refl

@@ -1,24 +1,21 @@
 -- The refusals are asked in their order, and else the record is set.
-use Rattle.std.proofs.Common.{◌≡◌, true, false, sym, ◌∙◌, subst}
+use Rattle.std.proofs.Common.{◌≡◌, true, sym, ◌∙◌, subst}
 use Rattle.mi_value.specs.declared.refusal.Refusal.TheVariants.{NoId}
 use Rattle.mi_model.specs.Table.{has as has_row}
 use Rattle.mi_container.specs.Data.{as_table}
 use Rattle.mi_container.specs.Fits.{IsLive}
+use Rattle.mi_container.specs.Makes.{Makes}
+use Rattle.mi_container.specs.Run.Change.{Replace}
 use Rattle.mi_container.proofs.InvariantLemmas.{has_there, there_has}
-use Rattle.mi_multi.specs.Seen.{Seen}
-use Rattle.mi_multi.proofs.AnswerLemmas.{none_has}
-use Rattle.mi_multi.proofs.PutCallLemmas.{live_of}
+use Rattle.mi_multi.proofs.PutCallLemmas.{live_of, gone_of}
 use Rattle.mi_multi.proofs.ReplaceLemmas.{replace_no_row, replace_refused, replaceable, replace_meets, put_table}
 use Rattle.mi_multi.proofs.multi.MultiIndex.replace.Goals.{In-Some}
 use Rattle.mi_multi.proofs.multi.MultiIndex.replace.Goals as goal
 
 pub returns-in_default-clause-outcome : goal.returns-in_default-clause-outcome
 returns-in_default-clause-outcome c =
-    let i = c.self.inside in
     let now = c.args.self.now in
-    let gone : has_row (as_table now.plain) c.args.id ≡ false =
-    subst (λ (w : Seen). has_row (as_table w.plain) c.args.id ≡ false) c.self.view_is
-    (none_has i.schema i.ids.entries i.nodes.pool i.nodes.structures.items i.next i.arrivals c.args.id (sym c.live.ensures ∙ c.in_default.is)) in
+    let gone = gone_of c.self.inside now c.self.view_is c.args.id (sym c.live.ensures ∙ c.in_default.is) in
     replace_refused now.shape c.args.id c.args.row (as_table now.plain) NoId (replace_no_row now.shape c.args.id c.args.row (as_table now.plain) gone)
 
 module _ (c : In-Some) where
@@ -34,18 +31,23 @@ changed_by-marks-requires c = its (goal.at.changed_by-marks-requires c).In-Some
 pub put_refusal-requires-clause-live : goal.put_refusal-requires-clause-live
 put_refusal-requires-clause-live c = there (goal.at.put_refusal-requires-clause-live c).In-Some
 
-pub put-requires-clause-live : goal.put-requires-clause-live
-put-requires-clause-live c = its (goal.at.put-requires-clause-live c).In-Some
+pub put-old-requires-clause-live : goal.put-old-requires-clause-live
+put-old-requires-clause-live c = its (goal.at.put-old-requires-clause-live c).In-Some
 
-pub put-requires-clause-allowed : goal.put-requires-clause-allowed
-put-requires-clause-allowed c =
+pub put-old-requires-clause-allowed : goal.put-old-requires-clause-allowed
+put-old-requires-clause-allowed c =
     let now = c.args.self.now in
     let can = replaceable now.shape c.args.id c.args.row (as_table now.plain) (sym c.put_refusal.ensures.refusal ∙ c.in_default-put_refusal.is) in
     (there_has now.plain c.args.id can.0, can.1)
 
 pub returns-clause-outcome : goal.returns-clause-outcome
 returns-clause-outcome c =
-    let now = c.args.self.now in
-    replace_meets now.shape c.args.id c.args.row (as_table now.plain) (as_table c.put.new.self.plain)
+    let now = c.args.self.now in let new = c.put-old.new.self.plain in
+    replace_meets now.shape c.args.id c.args.row (as_table now.plain) (as_table new)
     (sym c.put_refusal.ensures.refusal ∙ c.in_default-put_refusal.is)
-    (put_table now.shape c.args.id c.args.row now.plain c.put.result c.put.new.self.plain c.keeps_rules.ensures c.put.ensures.made)
+    (put_table now.shape c.args.id c.args.row now.plain _ new c.keeps_rules.ensures c.put-old.ensures.made)
+
+pub returns-clause-made : goal.returns-clause-made
+returns-clause-made c =
+    let now = c.args.self.now in
+    subst (λ i. Makes now.shape (Replace c.args.id c.args.row) now.plain i c.put-old.new.self.plain) (sym c.new.ensures) c.put-old.ensures.made
