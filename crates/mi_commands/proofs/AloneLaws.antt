@@ -12,7 +12,7 @@ use Rattle.std.proofs.lemmas.List.{length-map}
 use Rattle.std.proofs.lemmas.Map.Text.{is_eq-slice_cmp}
 use Rattle.std.proofs.lemmas.Slice.Eq.{bytes_eq-Decides}
 use Rattle.serde_json.specs.Data.{Data, Members, no_members, member}
-use Rattle.serde_json.specs.Find.{get_member, as_object, as_str, as_bool}
+use Rattle.serde_json.specs.Find.{get_member, as_object, as_str}
 use Rattle.mi_value.specs.declared.value.Value.{Value}
 use Rattle.mi_value.specs.declared.refusal.Refusal.{Refusal}
 use Rattle.mi_value.specs.declared.refusal.Refusal.TheVariants as refusal
@@ -26,11 +26,9 @@ use Rattle.mi_model.specs.Database.{Database, Step, depth}
 use Rattle.mi_model.specs.OneTable as one
 use Rattle.mi_model.specs.OneTable.{OneTable, IsAsOneTable, in_catalog}
 use Rattle.mi_model.proofs.OneTableLaws.{one_table_as_before}
-use Rattle.mi_request.specs.Json.{has_only, natural, needed, optional, default, option_map₂, option_map₃, option_map₄, option_map₅, option_map₆, if_there}
-use Rattle.mi_request.specs.Commands.{Form, form_of, look_up_named, step_named, command_named, keeps_out, table_in, index_in, id_in}
-use Rattle.mi_request.specs.Commands.{key_in, limit_in, lower_end, upper_end, up_to, place_or_none, natural_or_null}
-use Rattle.mi_request.specs.declared.request.End.TheVariants.{Open}
-use Rattle.mi_value.specs.declared.limits.TheConstants.{MAX_RESERVED_CHANGES, MAX_RESERVED_SESSIONS}
+use Rattle.mi_request.specs.Json.{has_only, needed}
+use Rattle.mi_request.specs.Commands.{Form, keeps_out}
+use Rattle.mi_request.proofs.FormLemmas.{forms_name_none}
 use Rattle.mi_request.specs.Lines.{json_of, request_by, form_in, request_in, request_or_refusal, command_line}
 use Rattle.mi_request.specs.declared.request.Request.{Request}
 use Rattle.mi_request.specs.declared.request.Request.TheVariants as request
@@ -109,119 +107,10 @@ only_without names (member k d ms) none =
 abbrev NoName : Option Request → Type 0
 NoName o = IfSome o (λ r. names_table r ≡ false)
 
-all₁ : {A : Type 0} (f : A → Request) → ((a : A) → names_table (f a) ≡ false) → (a : Option A) → NoName (option_map f a)
-all₁ f h (Some a) = h a
-all₁ f h None = tt
-
-all₂ : {A B : Type 0} (f : A → B → Request) → ((a : A) (b : B) → names_table (f a b) ≡ false) → (a : Option A) (b : Option B) → NoName (option_map₂ f a b)
-all₂ f h (Some a) b = all₁ (f a) (h a) b
-all₂ f h None b = tt
-
-all₃ : {A B C : Type 0} (f : A → B → C → Request) → ((a : A) (b : B) (c : C) → names_table (f a b c) ≡ false)
-    → (a : Option A) (b : Option B) (c : Option C) → NoName (option_map₃ f a b c)
-all₃ f h (Some a) b c = all₂ (f a) (h a) b c
-all₃ f h None b c = tt
-
-all₄ : {A B C D : Type 0} (f : A → B → C → D → Request) → ((a : A) (b : B) (c : C) (d : D) → names_table (f a b c d) ≡ false)
-    → (a : Option A) (b : Option B) (c : Option C) (d : Option D) → NoName (option_map₄ f a b c d)
-all₄ f h (Some a) b c d = all₃ (f a) (h a) b c d
-all₄ f h None b c d = tt
-
-all₅ : {A B C D E : Type 0} (f : A → B → C → D → E → Request) → ((a : A) (b : B) (c : C) (d : D) (e : E) → names_table (f a b c d e) ≡ false)
-    → (a : Option A) (b : Option B) (c : Option C) (d : Option D) (e : Option E) → NoName (option_map₅ f a b c d e)
-all₅ f h (Some a) b c d e = all₄ (f a) (h a) b c d e
-all₅ f h None b c d e = tt
-
--- the same where the first part is that no table is named
-first₁ : (f : Option (List ℕ) → Request) → names_table (f None) ≡ false → (t : Option (Option (List ℕ))) → t ≡ Some None → NoName (option_map f t)
-first₁ f h t none = subst (λ t. NoName (option_map f t)) (sym none) h
-
-first₂ : {A : Type 0} (f : Option (List ℕ) → A → Request) → ((a : A) → names_table (f None a) ≡ false)
-    → (t : Option (Option (List ℕ))) → t ≡ Some None → (a : Option A) → NoName (option_map₂ f t a)
-first₂ f h t none a = subst (λ t. NoName (option_map₂ f t a)) (sym none) (all₁ (f None) h a)
-
-first₃ : {A B : Type 0} (f : Option (List ℕ) → A → B → Request) → ((a : A) (b : B) → names_table (f None a b) ≡ false)
-    → (t : Option (Option (List ℕ))) → t ≡ Some None → (a : Option A) (b : Option B) → NoName (option_map₃ f t a b)
-first₃ f h t none a b = subst (λ t. NoName (option_map₃ f t a b)) (sym none) (all₂ (f None) h a b)
-
-first₄ : {A B C : Type 0} (f : Option (List ℕ) → A → B → C → Request) → ((a : A) (b : B) (c : C) → names_table (f None a b c) ≡ false)
-    → (t : Option (Option (List ℕ))) → t ≡ Some None → (a : Option A) (b : Option B) (c : Option C) → NoName (option_map₄ f t a b c)
-first₄ f h t none a b c = subst (λ t. NoName (option_map₄ f t a b c)) (sym none) (all₃ (f None) h a b c)
-
-first₅ : {A B C D : Type 0} (f : Option (List ℕ) → A → B → C → D → Request) → ((a : A) (b : B) (c : C) (d : D) → names_table (f None a b c d) ≡ false)
-    → (t : Option (Option (List ℕ))) → t ≡ Some None → (a : Option A) (b : Option B) (c : Option C) (d : Option D) → NoName (option_map₅ f t a b c d)
-first₅ f h t none a b c d = subst (λ t. NoName (option_map₅ f t a b c d)) (sym none) (all₄ (f None) h a b c d)
-
-first₆ : {A B C D E : Type 0} (f : Option (List ℕ) → A → B → C → D → E → Request)
-    → ((a : A) (b : B) (c : C) (d : D) (e : E) → names_table (f None a b c d e) ≡ false) → (t : Option (Option (List ℕ))) → t ≡ Some None
-    → (a : Option A) (b : Option B) (c : Option C) (d : Option D) (e : Option E) → NoName (option_map₆ f t a b c d e)
-first₆ f h t none a b c d e = subst (λ t. NoName (option_map₆ f t a b c d e)) (sym none) (all₅ (f None) h a b c d e)
-
 module _ (ms : Members) (none : get_member the_table ms ≡ None) where
-  no_table : table_in ms ≡ Some None
-  no_table = ap (if_there as_str) none
-
   -- of each form that may be
   abbrev OfForm : Option Form → Type 0
   OfForm o = IfSome o (λ form. NoName (form.request ms))
-
-  either : {A : Type 0} (f : A → Form) (b : Bool) (x y : Option A) → OfForm (option_map f x) → OfForm (option_map f y) → OfForm (option_map f (cond b x y))
-  either f true x y h k = h
-  either f false x y h k = k
-
-  look_up_names : (t : List ℕ) → OfForm (option_map form_of (look_up_named t))
-  unfolding look_up_named
-  look_up_names t =
-      either form_of (bytes_eq t (codes "revision")) _ _ refl
-      (either form_of (bytes_eq t (codes "get")) _ _ (first₂ request.Get (λ a. refl) (table_in ms) no_table (id_in ms))
-      (either form_of (bytes_eq t (codes "find")) _ _ (first₃ request.Find (λ a b. refl) (table_in ms) no_table (index_in ms) (key_in ms))
-      (either form_of (bytes_eq t (codes "nth")) _ _
-      (first₃ request.Nth (λ a b. refl) (table_in ms) no_table (index_in ms) (needed natural (codes "n") ms))
-      (either form_of (bytes_eq t (codes "count")) _ _ (first₃ request.Count (λ a b. refl) (table_in ms) no_table (index_in ms) (key_in ms))
-      (either form_of (bytes_eq t (codes "range")) _ _
-      (first₆ request.Range (λ a b c d e. refl) (table_in ms) no_table (index_in ms) (default Open lower_end (codes "lower") ms)
-      (default Open upper_end (codes "upper") ms) (default false as_bool (codes "reverse") ms) (limit_in ms))
-      (either form_of (bytes_eq t (codes "list")) _ _
-      (first₄ request.List (λ a b c. refl) (table_in ms) no_table (index_in ms) (optional natural (codes "after") ms) (limit_in ms))
-      (either form_of (bytes_eq t (codes "rank")) _ _ (first₃ request.Rank (λ a b. refl) (table_in ms) no_table (index_in ms) (id_in ms))
-      (either form_of (bytes_eq t (codes "lower_rank")) _ _
-      (first₃ request.LowerRank (λ a b. refl) (table_in ms) no_table (index_in ms) (key_in ms))
-      (either form_of (bytes_eq t (codes "upper_rank")) _ _
-      (first₃ request.UpperRank (λ a b. refl) (table_in ms) no_table (index_in ms) (key_in ms))
-      (either form_of (bytes_eq t (codes "size")) _ _ (first₁ request.Size refl (table_in ms) no_table) tt))))))))))
-
-  step_names : (t : List ℕ) → OfForm (option_map form_of (step_named t))
-  unfolding step_named
-  step_names t =
-      either form_of (bytes_eq t (codes "start")) _ _ refl
-      (either form_of (bytes_eq t (codes "undo")) _ _ refl
-      (either form_of (bytes_eq t (codes "squash")) _ _ refl
-      (either form_of (bytes_eq t (codes "commit")) _ _ (all₁ request.Commit (λ a. refl) (needed natural (codes "revision") ms))
-      (either form_of (bytes_eq t (codes "undo_all")) _ _ refl
-      (either form_of (bytes_eq t (codes "push")) _ _ refl
-      (either form_of (bytes_eq t (codes "reserve")) _ _
-      (all₂ request.Reserve (λ a b. refl) (needed (up_to MAX_RESERVED_CHANGES) (codes "changes") ms)
-      (needed (up_to MAX_RESERVED_SESSIONS) (codes "sessions") ms)) (look_up_names t)))))))
-
-  command_names : (t : List ℕ) → OfForm (option_map form_of (command_named t))
-  command_names t =
-      either form_of (bytes_eq t (codes "insert")) _ _
-      (first₃ request.Insert (λ a b. refl) (table_in ms) no_table (needed as_object (codes "row") ms) (default None place_or_none (codes "before") ms))
-      (either form_of (bytes_eq t (codes "replace")) _ _
-      (first₃ request.Replace (λ a b. refl) (table_in ms) no_table (id_in ms) (needed as_object (codes "row") ms))
-      (either form_of (bytes_eq t (codes "modify")) _ _
-      (first₅ request.Modify (λ a b c d. refl) (table_in ms) no_table (id_in ms) (default no_members as_object (codes "set") ms)
-      (default no_members as_object (codes "add") ms) (default false as_bool (codes "rollback") ms))
-      (either form_of (bytes_eq t (codes "erase")) _ _ (first₂ request.Erase (λ a. refl) (table_in ms) no_table (id_in ms))
-      (either form_of (bytes_eq t (codes "erase_key")) _ _
-      (first₃ request.EraseKey (λ a b. refl) (table_in ms) no_table (index_in ms) (key_in ms))
-      (either form_of (bytes_eq t (codes "relocate")) _ _
-      (first₄ request.Relocate (λ a b c. refl) (table_in ms) no_table (index_in ms) (id_in ms) (default None natural_or_null (codes "before") ms))
-      (step_names t))))))
-
-  named_names : (o : Option (List ℕ)) → OfForm (option_map form_of (option_and_then command_named o))
-  named_names None = tt
-  named_names (Some t) = command_names t
 
   kept : (b : Bool) (o : Option Request) → NoName o → NoName (cond b o None)
   kept true o h = h
@@ -244,7 +133,7 @@ object_same (Some ms) none = request_same ms none (form_in ms)
 
 object_names : (o : Option Members) → option_and_then (get_member the_table) o ≡ None → NoName (option_and_then request_in o)
 object_names None none = tt
-object_names (Some ms) none = request_names ms none (form_in ms) (named_names ms none (needed as_str (codes "cmd") ms))
+object_names (Some ms) none = request_names ms none (form_in ms) (forms_name_none ms none (needed as_str (codes "cmd") ms))
 
 or_form : (o : Option Request) → NoName o → OfOne (ok_or o refusal.Form)
 or_form (Some r) h = h
@@ -266,45 +155,22 @@ module _ (first : ℕ) (s : Shape) where
 
   bound_same : (r : Request) → names_table r ≡ false → bound_command of_one r ≡ bound_alone s r
   bound_same (request.Insert (Some name) row before) none = absurd (cc)
-  bound_same (request.Insert None row before) none = refl
   bound_same (request.Replace (Some name) id row) none = absurd (cc)
-  bound_same (request.Replace None id row) none = refl
   bound_same (request.Modify (Some name) id set add rollback) none = absurd (cc)
-  bound_same (request.Modify None id set add rollback) none = refl
   bound_same (request.Erase (Some name) id) none = absurd (cc)
-  bound_same (request.Erase None id) none = refl
   bound_same (request.EraseKey (Some name) index key) none = absurd (cc)
-  bound_same (request.EraseKey None index key) none = refl
   bound_same (request.Relocate (Some name) index id before) none = absurd (cc)
-  bound_same (request.Relocate None index id before) none = refl
-  bound_same request.Start none = refl
-  bound_same request.Undo none = refl
-  bound_same request.Squash none = refl
-  bound_same (request.Commit revision) none = refl
-  bound_same request.UndoAll none = refl
-  bound_same request.Push none = refl
-  bound_same (request.Reserve changes sessions) none = refl
-  bound_same request.Revision none = refl
   bound_same (request.Get (Some name) id) none = absurd (cc)
-  bound_same (request.Get None id) none = refl
   bound_same (request.Find (Some name) index key) none = absurd (cc)
-  bound_same (request.Find None index key) none = refl
   bound_same (request.Nth (Some name) index n) none = absurd (cc)
-  bound_same (request.Nth None index n) none = refl
   bound_same (request.Count (Some name) index key) none = absurd (cc)
-  bound_same (request.Count None index key) none = refl
   bound_same (request.Range (Some name) index lower upper reverse limit) none = absurd (cc)
-  bound_same (request.Range None index lower upper reverse limit) none = refl
   bound_same (request.List (Some name) index after limit) none = absurd (cc)
-  bound_same (request.List None index after limit) none = refl
   bound_same (request.Rank (Some name) index id) none = absurd (cc)
-  bound_same (request.Rank None index id) none = refl
   bound_same (request.LowerRank (Some name) index key) none = absurd (cc)
-  bound_same (request.LowerRank None index key) none = refl
   bound_same (request.UpperRank (Some name) index key) none = absurd (cc)
-  bound_same (request.UpperRank None index key) none = refl
   bound_same (request.Size (Some name)) none = absurd (cc)
-  bound_same (request.Size None) none = refl
+  bound_same r none = refl
 
   -- ---- the text of a reply
 
@@ -400,28 +266,19 @@ module _ (first : ℕ) (s : Shape) where
     performed_first (command.Replace n id row) = said_first all_done (say.refused 0) _ (λ a. tt) (λ e. refl)
     performed_first (command.Modify n id edits rollback) = said_first all_done (say.refused_modify 0) _ (λ a. tt) (λ e. refl)
     performed_first (command.Erase n id) = said_first all_done (say.refused 0) _ (λ a. tt) (λ e. refl)
-    performed_first (command.EraseKey n x key) = tt
     performed_first (command.Relocate n x id before) = said_first all_done (say.refused 0) _ (λ a. tt) (λ e. refl)
     performed_first command.Start = said_first say.revised (say.refused 0) _ (λ a. tt) (λ e. refl)
     performed_first command.Undo = said_first say.revised (say.refused 0) _ (λ a. tt) (λ e. refl)
     performed_first command.Squash = said_first say.revised (say.refused 0) _ (λ a. tt) (λ e. refl)
-    performed_first (command.Commit revision) = tt
-    performed_first command.UndoAll = tt
-    performed_first command.Push = tt
-    performed_first (command.Reserve changes sessions) = tt
-    performed_first command.Revision = tt
     performed_first (command.Get n id) = found_first id _
     performed_first (command.Find n x key) = shown_first d.database.table _
     performed_first (command.Nth n x place) = shown_first d.database.table _
-    performed_first (command.Count n x key) = tt
     performed_first (command.Range n x low high reverse limit) = refl
     performed_first (command.List n x after limit) =
         either_first (has_place d.database.table after) (paged d.database.table (list s d.database.table x after limit)) (say.refused 0 refusal.NoId) refl refl
     performed_first (command.Rank n x id) =
         either_first (has d.database.table id) (say.ranked (rank s d.database.table x id)) (say.refused 0 refusal.NoId) tt refl
-    performed_first (command.LowerRank n x key) = tt
-    performed_first (command.UpperRank n x key) = tt
-    performed_first (command.Size n) = tt
+    performed_first other = tt
 
     done_first : (c : Result Command Refusal) → IsFirst (done_alone s d conn c).0
     done_first (Ok c) = performed_first c
@@ -448,22 +305,16 @@ module _ (first : ℕ) (s : Shape) where
     abbrev stepped_down : Result ℕ Refusal → Database → Said × HeldDatabase
     stepped_down answer left = (said_of say.revised (say.refused 0) answer, record { database = left; holder = holder_after answer one_less d.holder })
 
-    show_same : (o : Option ℕ) → show_found here 0 o ≡ shown d.database.table o
+    show_same : (o : Option ℕ) → show_found here.database 0 o ≡ shown d.database.table o
     show_same None = refl
     show_same (Some id) = refl
 
     performed_same : (c : Command) → IsOverFirst c → performed here conn c ≡ and_here (performed_alone s d conn c)
-    performed_same (command.Insert zero row before) h = refl
     performed_same (command.Insert (suc n) row before) h = absurd (cc)
-    performed_same (command.Replace zero id row) h = refl
     performed_same (command.Replace (suc n) id row) h = absurd (cc)
-    performed_same (command.Modify zero id edits rollback) h = refl
     performed_same (command.Modify (suc n) id edits rollback) h = absurd (cc)
-    performed_same (command.Erase zero id) h = refl
     performed_same (command.Erase (suc n) id) h = absurd (cc)
-    performed_same (command.EraseKey zero x key) h = refl
     performed_same (command.EraseKey (suc n) x key) h = absurd (cc)
-    performed_same (command.Relocate zero x id before) h = refl
     performed_same (command.Relocate (suc n) x id before) h = absurd (cc)
     performed_same command.Start h =
         ap (λ (step : Step ℕ).
@@ -478,29 +329,20 @@ module _ (first : ℕ) (s : Shape) where
         ∙ ap (λ n. and_here_held (one.commit revision d.database) (at_most n d.holder)) (kept_long (one.commit revision d.database).1)
     performed_same command.UndoAll h =
         ap (λ (step : Step ℕ). (said_of say.undone (say.refused 0) step.0, record { database = step.1; holder = None })) law.undo_all
-    performed_same command.Push h = refl
-    performed_same (command.Reserve changes sessions) h = refl
     performed_same command.Revision h = ap (λ n. (say.status n (held_by conn d.holder) d.database.revision, here)) (kept_long d.database)
-    performed_same (command.Get zero id) h = refl
     performed_same (command.Get (suc n) id) h = absurd (cc)
     performed_same (command.Find zero x key) h = ap (λ said. (said, here)) (show_same _)
     performed_same (command.Find (suc n) x key) h = absurd (cc)
     performed_same (command.Nth zero x place) h = ap (λ said. (said, here)) (show_same _)
     performed_same (command.Nth (suc n) x place) h = absurd (cc)
-    performed_same (command.Count zero x key) h = refl
     performed_same (command.Count (suc n) x key) h = absurd (cc)
-    performed_same (command.Range zero x low high reverse limit) h = refl
     performed_same (command.Range (suc n) x low high reverse limit) h = absurd (cc)
-    performed_same (command.List zero x after limit) h = refl
     performed_same (command.List (suc n) x after limit) h = absurd (cc)
-    performed_same (command.Rank zero x id) h = refl
     performed_same (command.Rank (suc n) x id) h = absurd (cc)
-    performed_same (command.LowerRank zero x key) h = refl
     performed_same (command.LowerRank (suc n) x key) h = absurd (cc)
-    performed_same (command.UpperRank zero x key) h = refl
     performed_same (command.UpperRank (suc n) x key) h = absurd (cc)
-    performed_same (command.Size zero) h = refl
     performed_same (command.Size (suc n)) h = absurd (cc)
+    performed_same c h = refl
 
     done_same : (c : Result Command Refusal) → IfOk c IsOverFirst → command_answer here conn c ≡ and_here (done_alone s d conn c)
     done_same (Ok c) h = performed_same c h

@@ -1,5 +1,6 @@
 -- From the command that a line is to its answer.
 use Rattle.std.proofs.Common.{◌≡◌, ℕ, List, Bool, true, false, cond, ◌&&◌, Some, None, Result, Ok, Err, refl, sym, ap, ◌∙◌, inl, inr, ◌⊎◌, subst, true≢false}
+use Rattle.std.specs.Prelude.{IfOk}
 use Rattle.mi_value.specs.declared.refusal.Refusal.{Refusal}
 use Rattle.mi_value.specs.declared.refusal.Refusal.TheVariants.{Busy, Memory}
 use Rattle.mi_catalog.specs.Shape.{CatalogShape}
@@ -12,7 +13,6 @@ use Rattle.mi_request.proofs.ShortLemmas.{short_means}
 use Rattle.mi_protocol.specs.Binding.{bound_command}
 use Rattle.mi_protocol.specs.Replies.{refused, reply_text}
 use Rattle.mi_protocol.specs.declared.binding.Command.{Command}
-use Rattle.mi_protocol.specs.declared.binding.Command.TheVariants as command
 use Rattle.mi_commands.specs.Answer.{needs_none, done_without, TakesNone, command_answer, command_of, GivenOrMemory}
 use Rattle.mi_commands.specs.Holder.{HeldDatabase, is_busy}
 use Rattle.mi_commands.specs.Performed.{performed}
@@ -20,39 +20,30 @@ use Rattle.mi_commands.specs.Performed.{performed}
 not_true : {A : Type 0} → false ≡ true → A
 not_true e = absurd (true≢false (sym e))
 
-of_ok : (k c : Command) → ◌≡◌ {A = Result Command Refusal} (Ok k) (Ok c) → done_without k ≡ true → done_without c ≡ true
-of_ok k c is without = subst (λ x. done_without x ≡ true) (same is) without
-  where
-    same : ◌≡◌ {A = Result Command Refusal} (Ok k) (Ok c) → k ≡ c
-    same e = cc
-
 -- a request that is done without memory is a command that is
+bound_without : (catalog : CatalogShape) (r : Request) → needs_none r ≡ true → IfOk (bound_command catalog r) (λ c. done_without c ≡ true)
+bound_without catalog (request.Insert table row before) none = not_true none
+bound_without catalog (request.Replace table id row) none = not_true none
+bound_without catalog (request.Modify table id set add rollback) none = not_true none
+bound_without catalog (request.Erase table id) none = not_true none
+bound_without catalog (request.EraseKey table index key) none = not_true none
+bound_without catalog (request.Relocate table index id before) none = not_true none
+bound_without catalog request.Start none = not_true none
+bound_without catalog (request.Reserve changes sessions) none = not_true none
+bound_without catalog (request.Get table id) none = not_true none
+bound_without catalog (request.Find table index key) none = not_true none
+bound_without catalog (request.Nth table index n) none = not_true none
+bound_without catalog (request.Count table index key) none = not_true none
+bound_without catalog (request.Range table index lower upper reverse limit) none = not_true none
+bound_without catalog (request.List table index after limit) none = not_true none
+bound_without catalog (request.Rank table index id) none = not_true none
+bound_without catalog (request.LowerRank table index key) none = not_true none
+bound_without catalog (request.UpperRank table index key) none = not_true none
+bound_without catalog (request.Size (Some table)) none = not_true none
+bound_without catalog r none = refl
+
 none_bound : (catalog : CatalogShape) (r : Request) (c : Command) → needs_none r ≡ true → bound_command catalog r ≡ Ok c → done_without c ≡ true
-none_bound catalog request.Undo c none is = of_ok command.Undo c is refl
-none_bound catalog request.Squash c none is = of_ok command.Squash c is refl
-none_bound catalog (request.Commit revision) c none is = of_ok (command.Commit revision) c is refl
-none_bound catalog request.UndoAll c none is = of_ok command.UndoAll c is refl
-none_bound catalog request.Push c none is = of_ok command.Push c is refl
-none_bound catalog request.Revision c none is = of_ok command.Revision c is refl
-none_bound catalog (request.Size None) c none is = of_ok (command.Size 0) c is refl
-none_bound catalog (request.Size (Some table)) c none is = not_true none
-none_bound catalog (request.Insert table row before) c none is = not_true none
-none_bound catalog (request.Replace table id row) c none is = not_true none
-none_bound catalog (request.Modify table id set add rollback) c none is = not_true none
-none_bound catalog (request.Erase table id) c none is = not_true none
-none_bound catalog (request.EraseKey table index key) c none is = not_true none
-none_bound catalog (request.Relocate table index id before) c none is = not_true none
-none_bound catalog request.Start c none is = not_true none
-none_bound catalog (request.Reserve changes sessions) c none is = not_true none
-none_bound catalog (request.Get table id) c none is = not_true none
-none_bound catalog (request.Find table index key) c none is = not_true none
-none_bound catalog (request.Nth table index n) c none is = not_true none
-none_bound catalog (request.Count table index key) c none is = not_true none
-none_bound catalog (request.Range table index lower upper reverse limit) c none is = not_true none
-none_bound catalog (request.List table index after limit) c none is = not_true none
-none_bound catalog (request.Rank table index id) c none is = not_true none
-none_bound catalog (request.LowerRank table index key) c none is = not_true none
-none_bound catalog (request.UpperRank table index key) c none is = not_true none
+none_bound catalog r c none is = subst (λ b. IfOk b (λ k. done_without k ≡ true)) is (bound_without catalog r none)
 
 -- a line that takes no memory is a command that is done without, where it is one
 none_kept : (kept_out : Bool) (bound : Result Command Refusal) (c : Command) → cond kept_out (Err Busy) bound ≡ Ok c → bound ≡ Ok c

@@ -24,8 +24,8 @@ use Rattle.mi_protocol.specs.Replies.{Said, reply_text}
 use Rattle.mi_protocol.specs.declared.binding.Command.{Command}
 use Rattle.mi_protocol.specs.declared.binding.Command.TheVariants as command
 use Rattle.mi_commands.specs.Asked.{Asked, text, too_long}
-use Rattle.mi_commands.specs.Holder.{HeldDatabase, is_busy, one_more, one_less, held_by}
-use Rattle.mi_commands.specs.Performed.{performed, or_session, revised}
+use Rattle.mi_commands.specs.Holder.{HeldDatabase, is_busy, one_less, held_by}
+use Rattle.mi_commands.specs.Performed.{performed, or_session, revised, one_up, one_down, done_by}
 use Rattle.mi_commands.specs.Answer.{answer, command_answer, command_of, MayGive}
 use Rattle.mi_commands.specs.Acts.{Act, asks, leaves, Acts, AllActs}
 use Rattle.mi_commands.specs.Undone.{IsOpen, StaysOpen, undo_lines, undo_replies, TakenBack}
@@ -197,7 +197,7 @@ undone_revision d (tables ∷ old) some = refl
 
 -- what an undo says and leaves
 abbrev undo_says : HeldDatabase → Result ℕ NoSession × Database → Said × HeldDatabase
-undo_says s step = revised (or_session step.0) step.1 one_less s
+undo_says s step = done_by 0 s (revised (or_session step.0) step.1 one_down)
 
 free_less : (o : Option Holder) (conn : ℕ) → is_busy o conn ≡ false → is_busy (one_less o) conn ≡ false
 free_less None conn free = refl
@@ -287,7 +287,7 @@ start_by s conn false =
     (either_way {X = Step ℕ} by_step (depth d == MAX_SESSIONS) (Err Depth, d) (Ok (d.revision + 1), started d) (inr (Depth, refl, refl)) (inl (refl, refl)))
   where
     by_step : Step ℕ → Type 0
-    by_step step = OpenedOrRefused s (revised step.0 step.1 (one_more conn) s)
+    by_step step = OpenedOrRefused s (done_by conn s (revised step.0 step.1 one_up))
 
 start_answer : (s : HeldDatabase) (conn : ℕ) → OpenedOrRefused s (answer s conn (text (codes "{\"cmd\":\"start\"}")))
 start_answer s conn =

@@ -14,7 +14,7 @@ use Rattle.serde_json.specs.Written.{compact_text}
 use Rattle.mi_value.specs.declared.refusal.Refusal.{Refusal}
 use Rattle.mi_value.specs.declared.refusal.Refusal.TheVariants.{Line, Json, Form as NoCommand, Busy, NoId, Unique, Lost, Memory}
 use Rattle.mi_value.specs.Words.{word_of}
-use Rattle.mi_catalog.specs.Shape.{Shape, index_at}
+use Rattle.mi_catalog.specs.Shape.{Shape, CatalogShape, index_at}
 use Rattle.mi_catalog.specs.Kinds.{is_ranked, is_sequenced}
 use Rattle.mi_model.specs.Table.{Table, get, has, row, size}
 use Rattle.mi_model.specs.LookUp as look
@@ -27,7 +27,7 @@ use Rattle.mi_request.specs.Commands.{Form, keeps_out}
 use Rattle.mi_request.specs.Lines.{json_of, request_by, form_in}
 use Rattle.mi_request.specs.declared.request.Request.{Request}
 use Rattle.mi_request.specs.declared.request.Request.TheVariants as request
-use Rattle.mi_protocol.specs.Binding.{and_then, bound_insert, bound_replace, bound_modify, bound_range, bound_relocate, index_number}
+use Rattle.mi_protocol.specs.Binding.{and_then, bound_insert, bound_replace, bound_modify, bound_range, bound_relocate, bound_command, index_number}
 use Rattle.mi_protocol.specs.Binding.{whole_key, key_or_prefix, ranked_key}
 use Rattle.mi_protocol.specs.Replies as say
 use Rattle.mi_protocol.specs.Replies.{Said, reply_text}
@@ -62,6 +62,10 @@ read_alone (Some d) = ok_or (option_and_then request_alone (as_object d)) NoComm
 abbrev pub line_alone : List ℕ → Result Request Refusal
 line_alone bytes = read_alone (json_of bytes)
 
+-- a catalog of no tables: what names nothing of a schema is the same over it
+abbrev no_tables : CatalogShape
+no_tables = record { tables = []; first_revision = 0 }
+
 -- the command that a request is over the one schema. Where commands have the number of a table stands 0
 abbrev pub bound_alone : Shape → Request → Result Command Refusal
 bound_alone s (request.Insert table row before) = bound_insert s 0 row before
@@ -70,14 +74,6 @@ bound_alone s (request.Modify table id set add rollback) = bound_modify s 0 id s
 bound_alone s (request.Erase table id) = Ok (command.Erase 0 id)
 bound_alone s (request.EraseKey table index key) = and_then (λ k. Ok (command.EraseKey 0 k.0 k.1)) (whole_key s index key)
 bound_alone s (request.Relocate table index id before) = bound_relocate s 0 index id before
-bound_alone s request.Start = Ok command.Start
-bound_alone s request.Undo = Ok command.Undo
-bound_alone s request.Squash = Ok command.Squash
-bound_alone s (request.Commit revision) = Ok (command.Commit revision)
-bound_alone s request.UndoAll = Ok command.UndoAll
-bound_alone s request.Push = Ok command.Push
-bound_alone s (request.Reserve changes sessions) = Ok (command.Reserve changes sessions)
-bound_alone s request.Revision = Ok command.Revision
 bound_alone s (request.Get table id) = Ok (command.Get 0 id)
 bound_alone s (request.Find table index key) = and_then (λ k. Ok (command.Find 0 k.0 k.1)) (key_or_prefix s index key)
 bound_alone s (request.Nth table index n) = and_then (λ x. Ok (command.Nth 0 x n)) (index_number is_ranked s index)
@@ -88,6 +84,7 @@ bound_alone s (request.Rank table index id) = and_then (λ x. Ok (command.Rank 0
 bound_alone s (request.LowerRank table index key) = and_then (λ k. Ok (command.LowerRank 0 k.0 k.1)) (ranked_key s index key)
 bound_alone s (request.UpperRank table index key) = and_then (λ k. Ok (command.UpperRank 0 k.0 k.1)) (ranked_key s index key)
 bound_alone s (request.Size table) = Ok (command.Size 0)
+bound_alone s session = bound_command no_tables session
 
 -- ---- what a command says and leaves
 
@@ -170,7 +167,7 @@ abbrev pub modify_refusal_alone : Shape → Refusal → List ℕ
 modify_refusal_alone s (Unique x id) = conflict_alone s x id ++ codes "\",\"lost\":false,\"ok\":false}"
 modify_refusal_alone s e = refusal_alone s e
 
--- the other replies name nothing of a schema: they are the same over no tables at all
+-- the other replies name nothing of a schema
 abbrev pub text_alone : Shape → Said → List ℕ
 text_alone s (say.shown n id row) =
     compact_text (object (member (codes "ok") (boolean true) (member (codes "row") (row_data s.columns id row) no_members)))
@@ -179,7 +176,7 @@ text_alone s (say.rows n records more) =
     (member (codes "rows") (array (rows_items s.columns records)) no_members))))
 text_alone s (say.refused_modify n e) = modify_refusal_alone s e
 text_alone s (say.refused n e) = refusal_alone s e
-text_alone s other = reply_text (record { tables = []; first_revision = 0 }) other
+text_alone s other = reply_text no_tables other
 
 -- ---- the law
 

@@ -1,10 +1,10 @@
 -- What a line is answered, and what it leaves: a line that is kept out is answered `busy`, and nothing changes.
-use Rattle.std.specs.Prelude.{◌≡◌, ◌⊎◌, ℕ, List, Bool, true, false, ◌&&◌, if◌then◌else◌, Some, None, Result, Ok, Err}
+use Rattle.std.specs.Prelude.{◌≡◌, ◌⊎◌, ℕ, List, Bool, true, false, ◌&&◌, if◌then◌else◌, Some, None, is_none, Result, Ok, Err}
 use Rattle.mi_value.specs.declared.refusal.Refusal.{Refusal}
 use Rattle.mi_value.specs.declared.refusal.Refusal.TheVariants.{Line, Busy, Memory}
 use Rattle.mi_protocol.specs.Lines.{command_line}
-use Rattle.mi_protocol.specs.Commands.{keeps_out}
-use Rattle.mi_protocol.specs.Binding.{bound_command}
+use Rattle.mi_protocol.specs.Commands.{keeps_out, table_member}
+use Rattle.mi_protocol.specs.Binding.{bound_command, table_of}
 use Rattle.mi_protocol.specs.Replies.{Said, refused, reply_text}
 use Rattle.mi_request.specs.Short.{short_line}
 use Rattle.mi_request.specs.declared.request.Request.{Request}
@@ -38,27 +38,20 @@ answer s conn too_long = refusal s Line
 abbrev pub IsGiven : Said × HeldDatabase → HeldDatabase → List ℕ → HeldDatabase → Type 0
 IsGiven a s reply t = (reply ≡ reply_text s.database.catalog a.0) × (t ≡ a.1)
 
--- a request that is done and answered without memory. A start and an erase may need room, and a record is shown in memory that is asked for
+-- a request that is done and answered without memory: one of sessions, or the size of the first table. A start, an erase and a reserve may
+-- need room, and a record is shown in memory that is asked for
 abbrev pub needs_none : Request → Bool
-needs_none request.Undo = true
-needs_none request.Squash = true
-needs_none (request.Commit revision) = true
-needs_none request.UndoAll = true
-needs_none request.Push = true
-needs_none request.Revision = true
-needs_none (request.Size None) = true
-needs_none other = false
+needs_none request.Start = false
+needs_none (request.Reserve changes sessions) = false
+needs_none (request.Size table) = is_none table
+needs_none r = is_none (table_member r)
 
 -- the command that such a request is
 abbrev pub done_without : Command → Bool
-done_without command.Undo = true
-done_without command.Squash = true
-done_without (command.Commit revision) = true
-done_without command.UndoAll = true
-done_without command.Push = true
-done_without command.Revision = true
+done_without command.Start = false
+done_without (command.Reserve changes sessions) = false
 done_without (command.Size table) = true
-done_without other = false
+done_without c = is_none (table_of c)
 
 -- a line that takes no memory from its first byte to its reply: one of these, as it is written without spaces
 abbrev pub TakesNone : List ℕ → Type 0

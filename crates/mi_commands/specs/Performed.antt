@@ -25,57 +25,62 @@ abbrev pub said_of : {A : Type 0} → (A → Said) → (Refusal → Said) → Re
 said_of accepted refused (Ok v) = accepted v
 said_of accepted refused (Err e) = refused e
 
--- a change of a table, whoever holds sessions
-abbrev pub altered : {A : Type 0} → (A → Said) → (Refusal → Said) → Step A → HeldDatabase → Said × HeldDatabase
-altered accepted refused step s = (said_of accepted refused step.0, record { database = step.1; holder = s.holder })
-
--- a change that answers nothing but that it is done
-abbrev pub all_done : Unit {0} → Said
-all_done u = say.done
+-- ---- how a command moves the holder
 
 -- the holder moves where the step is accepted
 abbrev pub holder_after : Result ℕ Refusal → (Option Holder → Option Holder) → Option Holder → Option Holder
 holder_after (Ok n) move h = move h
 holder_after (Err e) move h = h
 
+-- it stays; the connection holds one more; the holder one less, or no more than so many; nobody is the holder; the connection isn't; or one of
+-- these, where a step is accepted
+pub data Move : Type 0 where
+  stays : Move
+  one_up : Move
+  one_down : Move
+  down_to : ℕ → Move
+  to_nobody : Move
+  lets_go : Move
+  if_accepted : Result ℕ Refusal → Move → Move
+
+-- the holder after a command of a connection
+abbrev pub moved : ℕ → Move → Option Holder → Option Holder
+moved conn stays = λ h. h
+moved conn one_up = one_more conn
+moved conn one_down = one_less
+moved conn (down_to opened) = at_most opened
+moved conn to_nobody = λ h. None
+moved conn lets_go = without_holder conn
+moved conn (if_accepted answer move) = holder_after answer (moved conn move)
+
+-- ---- what commands do
+
+-- what a command says to a connection that holds so many sessions, the database that it leaves, and how it moves the holder
+pub record Effect : Type 0 where
+  pub says : ℕ → Said
+  pub left : Database
+  pub move : Move
+
+-- a change of a table, whoever holds sessions
+abbrev pub altered : {A : Type 0} → (A → Said) → (Refusal → Said) → Step A → Effect
+altered accepted refused step = record { says = λ held. said_of accepted refused step.0; left = step.1; move = stays }
+
+-- a change that answers nothing but that it is done
+abbrev pub all_done : Unit {0} → Said
+all_done u = say.done
+
 -- the one refusal of an undo and of a squash
 abbrev pub or_session : Result ℕ NoSession → Result ℕ Refusal
 or_session (Ok n) = Ok n
 or_session (Err none) = Err Session
 
--- a session step that says the new revision
-abbrev pub revised : Result ℕ Refusal → Database → (Option Holder → Option Holder) → HeldDatabase → Said × HeldDatabase
-revised answer left move s = (said_of say.revised (say.refused 0) answer, record { database = left; holder = holder_after answer move s.holder })
+-- a session step that says the new revision, and moves the holder where it is accepted
+abbrev pub revised : Result ℕ Refusal → Database → Move → Effect
+revised answer left move = record { says = λ held. said_of say.revised (say.refused 0) answer; left = left; move = if_accepted answer move }
 
-abbrev pub start_session : HeldDatabase → ℕ → Said × HeldDatabase
-start_session s conn = let step = start_step s.database in revised step.0 step.1 (one_more conn) s
-
-abbrev pub undo_session : HeldDatabase → Said × HeldDatabase
-undo_session s = let step = undo_step s.database in revised (or_session step.0) step.1 one_less s
-
-abbrev pub squash_session : HeldDatabase → Said × HeldDatabase
-squash_session s = let step = squash_step s.database in revised (or_session step.0) step.1 one_less s
-
--- sessions with a number of at most x end; the holder holds no more than those that stay open
-abbrev pub commit_sessions : HeldDatabase → ℕ → Said × HeldDatabase
-commit_sessions s x =
-    (say.committed (ending x s.database), record { database = committed x s.database; holder = at_most (depth (committed x s.database)) s.holder })
-
--- all open sessions are undone, and nobody holds any
-abbrev pub undo_sessions : HeldDatabase → Said × HeldDatabase
-undo_sessions s = (say.undone (depth s.database), record { database = undone_times (depth s.database) s.database; holder = None })
-
--- the sessions that the connection holds are open and held by nobody
-abbrev pub push_sessions : HeldDatabase → ℕ → Said × HeldDatabase
-push_sessions s conn = (say.pushed (held_by conn s.holder), record { database = s.database; holder = without_holder conn s.holder })
-
--- room is asked for: it is in no reply, and the database means what it meant
-abbrev pub reserve_room : HeldDatabase → Said × HeldDatabase
-reserve_room s = (say.done, s)
-
--- how many sessions are open, how many of them the connection holds, and the revision
-abbrev pub status : HeldDatabase → ℕ → Said
-status s conn = say.status (depth s.database) (held_by conn s.holder) s.database.revision
+-- what leaves all as it is
+abbrev pub shows : Database → Said → Effect
+shows d said = record { says = λ held. said; left = d; move = stays }
 
 -- what a look-up of an id says
 abbrev pub found : ℕ → ℕ → Option (List Value) → Said
@@ -83,58 +88,67 @@ found table id None = say.refused table NoId
 found table id (Some row) = say.shown table id row
 
 -- a record is shown
-abbrev pub show_row : HeldDatabase → ℕ → ℕ → Said
-show_row s table id = found table id (get (table_of s.database table) id)
+abbrev pub show_row : Database → ℕ → ℕ → Said
+show_row d table id = found table id (get (table_of d table) id)
 
 -- the record of the id that a look-up found
-abbrev pub show_found : HeldDatabase → ℕ → Option ℕ → Said
-show_found s table None = say.refused table NoId
-show_found s table (Some id) = show_row s table id
+abbrev pub show_found : Database → ℕ → Option ℕ → Said
+show_found d table None = say.refused table NoId
+show_found d table (Some id) = show_row d table id
 
 -- the records of a page
-abbrev pub show_page : HeldDatabase → ℕ → Page → Said
-show_page s table p = say.rows table (map (row (table_of s.database table)) p.ids) p.more
+abbrev pub show_page : Database → ℕ → Page → Said
+show_page d table p = say.rows table (map (row (table_of d table)) p.ids) p.more
 
 -- the records of a list, unless the one behind which it begins isn't there
-abbrev pub show_list : HeldDatabase → ℕ → ℕ → Option ℕ → ℕ → Said
-show_list s table index after limit =
-    let t = table_of s.database table in
-    if has_place t after then show_page s table (page.list (schema_of s.database table) t index after limit) else say.refused table NoId
+abbrev pub show_list : Database → ℕ → ℕ → Option ℕ → ℕ → Said
+show_list d table index after limit =
+    let t = table_of d table in
+    if has_place t after then show_page d table (page.list (schema_of d table) t index after limit) else say.refused table NoId
 
 -- how many records stand before one, unless it isn't there
-abbrev pub say_rank : HeldDatabase → ℕ → ℕ → ℕ → Said
-say_rank s table index id =
-    let t = table_of s.database table in
-    if has t id then say.ranked (look.rank (schema_of s.database table) t index id) else say.refused table NoId
+abbrev pub say_rank : Database → ℕ → ℕ → ℕ → Said
+say_rank d table index id =
+    let t = table_of d table in
+    if has t id then say.ranked (look.rank (schema_of d table) t index id) else say.refused table NoId
 
 -- what a look-up of a table answers
-abbrev pub asked : {A : Type 0} → HeldDatabase → ℕ → (Shape → Table → A) → A
-asked s table look_up = look_up (schema_of s.database table) (table_of s.database table)
+abbrev pub asked : {A : Type 0} → Database → ℕ → (Shape → Table → A) → A
+asked d table look_up = look_up (schema_of d table) (table_of d table)
+
+-- what each command does. A commit ends the sessions with a number of at most x, and the holder holds no more than those that stay open; after
+-- an undo of all nobody holds any; a push leaves those of its connection open and held by nobody; a reserve asks for room, which is in no reply
+abbrev pub effect : Database → Command → Effect
+effect d (command.Insert table row before) = altered say.inserted (say.refused table) (insert_step table before row d)
+effect d (command.Replace table id row) = altered all_done (say.refused table) (replace_step table id row d)
+effect d (command.Modify table id edits rollback) = altered all_done (say.refused_modify table) (modify_step table id edits rollback d)
+effect d (command.Erase table id) = altered all_done (say.refused table) (erase_step table id d)
+effect d (command.EraseKey table index key) = altered say.erased (say.refused table) (erase_key_step table index key d)
+effect d (command.Relocate table index id before) = altered all_done (say.refused table) (relocate_step table index id before d)
+effect d command.Start = let step = start_step d in revised step.0 step.1 one_up
+effect d command.Undo = let step = undo_step d in revised (or_session step.0) step.1 one_down
+effect d command.Squash = let step = squash_step d in revised (or_session step.0) step.1 one_down
+effect d (command.Commit x) = record { says = λ held. say.committed (ending x d); left = committed x d; move = down_to (depth (committed x d)) }
+effect d command.UndoAll = record { says = λ held. say.undone (depth d); left = undone_times (depth d) d; move = to_nobody }
+effect d command.Push = record { says = say.pushed; left = d; move = lets_go }
+effect d (command.Reserve changes sessions) = shows d say.done
+effect d command.Revision = record { says = λ held. say.status (depth d) held d.revision; left = d; move = stays }
+effect d (command.Get table id) = shows d (show_row d table id)
+effect d (command.Find table index key) = shows d (show_found d table (asked d table (λ shape t. look.find shape t index key)))
+effect d (command.Nth table index n) = shows d (show_found d table (asked d table (λ shape t. look.nth shape t index n)))
+effect d (command.Count table index key) = shows d (say.counted (asked d table (λ shape t. look.count shape t index key)))
+effect d (command.Range table index low high reverse limit) =
+    shows d (show_page d table (asked d table (λ shape t. page.range shape t index low high reverse limit)))
+effect d (command.List table index after limit) = shows d (show_list d table index after limit)
+effect d (command.Rank table index id) = shows d (say_rank d table index id)
+effect d (command.LowerRank table index key) = shows d (say.ranked (asked d table (λ shape t. look.lower_rank shape t index key)))
+effect d (command.UpperRank table index key) = shows d (say.ranked (asked d table (λ shape t. look.upper_rank shape t index key)))
+effect d (command.Size table) = shows d (say.sized (size (table_of d table)))
+
+-- what is said and left of a command of a connection that nobody keeps out
+abbrev pub done_by : ℕ → HeldDatabase → Effect → Said × HeldDatabase
+done_by conn s e = (e.says (held_by conn s.holder), record { database = e.left; holder = moved conn e.move s.holder })
 
 -- a command, done by a connection that nobody keeps out
 abbrev pub performed : HeldDatabase → ℕ → Command → Said × HeldDatabase
-performed s conn (command.Insert table row before) = altered say.inserted (say.refused table) (insert_step table before row s.database) s
-performed s conn (command.Replace table id row) = altered all_done (say.refused table) (replace_step table id row s.database) s
-performed s conn (command.Modify table id edits rollback) = altered all_done (say.refused_modify table) (modify_step table id edits rollback s.database) s
-performed s conn (command.Erase table id) = altered all_done (say.refused table) (erase_step table id s.database) s
-performed s conn (command.EraseKey table index key) = altered say.erased (say.refused table) (erase_key_step table index key s.database) s
-performed s conn (command.Relocate table index id before) = altered all_done (say.refused table) (relocate_step table index id before s.database) s
-performed s conn command.Start = start_session s conn
-performed s conn command.Undo = undo_session s
-performed s conn command.Squash = squash_session s
-performed s conn (command.Commit revision) = commit_sessions s revision
-performed s conn command.UndoAll = undo_sessions s
-performed s conn command.Push = push_sessions s conn
-performed s conn (command.Reserve changes sessions) = reserve_room s
-performed s conn command.Revision = (status s conn, s)
-performed s conn (command.Get table id) = (show_row s table id, s)
-performed s conn (command.Find table index key) = (show_found s table (asked s table (λ shape t. look.find shape t index key)), s)
-performed s conn (command.Nth table index n) = (show_found s table (asked s table (λ shape t. look.nth shape t index n)), s)
-performed s conn (command.Count table index key) = (say.counted (asked s table (λ shape t. look.count shape t index key)), s)
-performed s conn (command.Range table index low high reverse limit) =
-    (show_page s table (asked s table (λ shape t. page.range shape t index low high reverse limit)), s)
-performed s conn (command.List table index after limit) = (show_list s table index after limit, s)
-performed s conn (command.Rank table index id) = (say_rank s table index id, s)
-performed s conn (command.LowerRank table index key) = (say.ranked (asked s table (λ shape t. look.lower_rank shape t index key)), s)
-performed s conn (command.UpperRank table index key) = (say.ranked (asked s table (λ shape t. look.upper_rank shape t index key)), s)
-performed s conn (command.Size table) = (say.sized (size (table_of s.database table)), s)
+performed s conn c = done_by conn s (effect s.database c)

@@ -8,9 +8,7 @@ use mi_sessions::Sessions;
 use mi_value::{Edit, Record, Value};
 
 impl<D: Sessions + Drop> Executor<D> {
-    ghost use Rattle.mi_model.specs.DatabaseChange.{insert_step, replace_step, modify_step, erase_step, erase_key_step, relocate_step};
-    ghost use Rattle.mi_protocol.specs.Replies.{inserted, erased, refused, refused_modify};
-    ghost use Rattle.mi_commands.specs.Performed.{altered, all_done};
+    ghost use Rattle.mi_commands.specs.Performed.{performed as done};
     ghost use Rattle.mi_commands.specs.Answer.{GivenOrMemory};
 
     /// Adds a record to a table, before a place where one is given.
@@ -21,8 +19,7 @@ impl<D: Sessions + Drop> Executor<D> {
         before: Option<(usize, u64)>,
     ) -> ReplyText
         requires { FitsCatalog self.old.database.catalog (Command.Insert table row before) }
-        ensures { GivenOrMemory (Unit {0}) (altered inserted (refused table) (insert_step table before row self.old.database) self.old)
-            self.old (text_bytes result) self.new }
+        ensures { GivenOrMemory (Unit {0}) (done self.old 0 (Command.Insert table row before)) self.old (text_bytes result) self.new }
     {
         match self.database.insert(self.alloc, table, row, before) {
             Ok(id) => self.say(Reply::Inserted(id)),
@@ -33,8 +30,7 @@ impl<D: Sessions + Drop> Executor<D> {
     /// Sets another record for an id.
     pub(crate) fn replace(&mut self, table: usize, id: u64, row: Record) -> ReplyText
         requires { FitsCatalog self.old.database.catalog (Command.Replace table id row) }
-        ensures { GivenOrMemory (Unit {0}) (altered all_done (refused table) (replace_step table id row self.old.database) self.old)
-            self.old (text_bytes result) self.new }
+        ensures { GivenOrMemory (Unit {0}) (done self.old 0 (Command.Replace table id row)) self.old (text_bytes result) self.new }
     {
         match self.database.replace(self.alloc, table, id, row) {
             Ok(()) => self.say(Reply::Done),
@@ -51,8 +47,7 @@ impl<D: Sessions + Drop> Executor<D> {
         rollback: bool,
     ) -> ReplyText
         requires { FitsCatalog self.old.database.catalog (Command.Modify table id edits.now rollback) }
-        ensures { GivenOrMemory (Unit {0}) (altered all_done (refused_modify table) (modify_step table id edits.now rollback self.old.database) self.old)
-            self.old (text_bytes result) self.new }
+        ensures { GivenOrMemory (Unit {0}) (done self.old 0 (Command.Modify table id edits.now rollback)) self.old (text_bytes result) self.new }
     {
         match self.database.modify(self.alloc, table, id, edits, rollback) {
             Ok(()) => self.say(Reply::Done),
@@ -63,8 +58,7 @@ impl<D: Sessions + Drop> Executor<D> {
     /// Erases a record.
     pub(crate) fn erase(&mut self, table: usize, id: u64) -> ReplyText
         requires { FitsCatalog self.old.database.catalog (Command.Erase table id) }
-        ensures { GivenOrMemory (Unit {0}) (altered all_done (refused table) (erase_step table id self.old.database) self.old)
-            self.old (text_bytes result) self.new }
+        ensures { GivenOrMemory (Unit {0}) (done self.old 0 (Command.Erase table id)) self.old (text_bytes result) self.new }
     {
         match self.database.erase(self.alloc, table, id) {
             Ok(()) => self.say(Reply::Done),
@@ -75,8 +69,7 @@ impl<D: Sessions + Drop> Executor<D> {
     /// Erases every record with a key.
     pub(crate) fn erase_key(&mut self, table: usize, index: usize, key: &[Value]) -> ReplyText
         requires { FitsCatalog self.old.database.catalog (Command.EraseKey table index key.now) }
-        ensures { GivenOrMemory (Unit {0}) (altered erased (refused table) (erase_key_step table index key.now self.old.database) self.old)
-            self.old (text_bytes result) self.new }
+        ensures { GivenOrMemory (Unit {0}) (done self.old 0 (Command.EraseKey table index key.now)) self.old (text_bytes result) self.new }
     {
         match self.database.erase_key(self.alloc, table, index, key) {
             Ok(count) => self.say(Reply::Erased(count)),
@@ -93,8 +86,7 @@ impl<D: Sessions + Drop> Executor<D> {
         before: Option<u64>,
     ) -> ReplyText
         requires { FitsCatalog self.old.database.catalog (Command.Relocate table index id before) }
-        ensures { GivenOrMemory (Unit {0}) (altered all_done (refused table) (relocate_step table index id before self.old.database) self.old)
-            self.old (text_bytes result) self.new }
+        ensures { GivenOrMemory (Unit {0}) (done self.old 0 (Command.Relocate table index id before)) self.old (text_bytes result) self.new }
     {
         match self.database.relocate(self.alloc, table, index, id, before) {
             Ok(()) => self.say(Reply::Done),

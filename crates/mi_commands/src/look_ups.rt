@@ -19,7 +19,7 @@ impl<D: Sessions + Drop> Executor<D> {
     /// Shows a record.
     pub(crate) fn get(&self, table: usize, id: u64) -> ReplyText
         requires { table < length self.now.database.catalog.tables }
-        ensures { GivenOrMemory (Unit {0}) (performed.show_row self.now table id, self.now) self.now (text_bytes result) self.now }
+        ensures { GivenOrMemory (Unit {0}) (performed.show_row self.now.database table id, self.now) self.now (text_bytes result) self.now }
     {
         let mut steps = Steps::new();
         let Some(row) = self.database.get(table, id, &mut steps) else {
@@ -31,7 +31,7 @@ impl<D: Sessions + Drop> Executor<D> {
     /// Shows the record that a look-up found.
     fn get_found(&self, table: usize, found: Option<u64>) -> ReplyText
         requires { table < length self.now.database.catalog.tables }
-        ensures { GivenOrMemory (Unit {0}) (performed.show_found self.now table found, self.now) self.now (text_bytes result) self.now }
+        ensures { GivenOrMemory (Unit {0}) (performed.show_found self.now.database table found, self.now) self.now (text_bytes result) self.now }
     {
         match found {
             Some(id) => self.get(table, id),

@@ -4,11 +4,10 @@ use Rattle.std.proofs.Common.{Option, Some, None, IsSome, is_some, Result, Ok, E
 use Rattle.mi_value.specs.declared.refusal.Refusal.{Refusal}
 use Rattle.mi_protocol.specs.Lines.{command_line}
 use Rattle.mi_protocol.specs.declared.binding.Command.{Command}
-use Rattle.mi_protocol.specs.declared.binding.Command.TheVariants as command
 use Rattle.mi_commands.specs.Asked.{Asked, text, too_long}
 use Rattle.mi_hub.specs.Lines.{Rest}
 use Rattle.mi_commands.specs.Holder.{HeldDatabase, one_more, one_less, at_most, without_holder, released}
-use Rattle.mi_commands.specs.Performed.{performed, holder_after}
+use Rattle.mi_commands.specs.Performed.{holder_after, Move, stays, one_up, one_down, down_to, to_nobody, lets_go, if_accepted, moved, effect}
 use Rattle.mi_commands.specs.Answer.{command_answer, command_of, answer, MayGive}
 use Rattle.mi_hub.specs.Served.{InTurn, Served, CutOff}
 use Rattle.mi_hub.specs.Connections.{rest_at, with_rest, others, holder_is_attached}
@@ -49,35 +48,18 @@ module _ (cs : List Connection) where
 
   -- ---- answers
   module _ (conn : ℕ) (here : IsSome (rest_at conn cs)) where
-    by_command : (s : HeldDatabase) (c : Command) → holder_is_attached s.holder cs ≡ true → holder_is_attached (performed s conn c).1.holder cs ≡ true
-    by_command s (command.Insert table row before) h = h
-    by_command s (command.Replace table id row) h = h
-    by_command s (command.Modify table id edits rollback) h = h
-    by_command s (command.Erase table id) h = h
-    by_command s (command.EraseKey table index key) h = h
-    by_command s (command.Relocate table index id before) h = h
-    by_command s command.Start h = where_accepted _ (one_more conn) s.holder (more conn s.holder here h) h
-    by_command s command.Undo h = where_accepted _ one_less s.holder (less s.holder h) h
-    by_command s command.Squash h = where_accepted _ one_less s.holder (less s.holder h) h
-    by_command s (command.Commit revision) h = most _ s.holder h
-    by_command s command.UndoAll h = refl
-    by_command s command.Push h = without conn s.holder h
-    by_command s (command.Reserve changes sessions) h = h
-    by_command s command.Revision h = h
-    by_command s (command.Get table id) h = h
-    by_command s (command.Find table index key) h = h
-    by_command s (command.Nth table index n) h = h
-    by_command s (command.Count table index key) h = h
-    by_command s (command.Range table index low high reverse limit) h = h
-    by_command s (command.List table index after limit) h = h
-    by_command s (command.Rank table index id) h = h
-    by_command s (command.LowerRank table index key) h = h
-    by_command s (command.UpperRank table index key) h = h
-    by_command s (command.Size table) h = h
+    by_move : (m : Move) (o : Option Holder) → holder_is_attached o cs ≡ true → holder_is_attached (moved conn m o) cs ≡ true
+    by_move stays o h = h
+    by_move one_up o h = more conn o here h
+    by_move one_down o h = less o h
+    by_move (down_to opened) o h = most opened o h
+    by_move to_nobody o h = refl
+    by_move lets_go o h = without conn o h
+    by_move (if_accepted answer m) o h = where_accepted answer (moved conn m) o (by_move m o h) h
 
     by_bound : (s : HeldDatabase) (c : Result Command Refusal) → holder_is_attached s.holder cs ≡ true
         → holder_is_attached (command_answer s conn c).1.holder cs ≡ true
-    by_bound s (Ok c) h = by_command s c h
+    by_bound s (Ok c) h = by_move (effect s.database c).move s.holder h
     by_bound s (Err e) h = h
 
     by_answer : (s : HeldDatabase) (line : Asked) → holder_is_attached s.holder cs ≡ true → holder_is_attached (answer s conn line).1.holder cs ≡ true

@@ -117,10 +117,6 @@ module _ (s : HeldDatabase) (conn : ℕ) where
   command_shows command.Start h = absurd (not_shown say.revised (say.refused 0) (start_step s.database).0 (λ v k. k) (λ e k. k) h)
   command_shows command.Undo h = absurd (not_shown say.revised (say.refused 0) (or_session (undo_step s.database).0) (λ v k. k) (λ e k. k) h)
   command_shows command.Squash h = absurd (not_shown say.revised (say.refused 0) (or_session (squash_step s.database).0) (λ v k. k) (λ e k. k) h)
-  command_shows (command.Commit revision) h = absurd h
-  command_shows command.UndoAll h = absurd h
-  command_shows command.Push h = absurd h
-  command_shows (command.Reserve changes sessions) h = refl
   command_shows command.Revision h = refl
   command_shows (command.Get table id) h = refl
   command_shows (command.Find table index key) h = refl
@@ -132,6 +128,7 @@ module _ (s : HeldDatabase) (conn : ℕ) where
   command_shows (command.LowerRank table index key) h = refl
   command_shows (command.UpperRank table index key) h = refl
   command_shows (command.Size table) h = refl
+  command_shows c h = absurd h
 
   bound_shows : (c : Result Command Refusal) → IsShown (command_answer s conn c).0 → (command_answer s conn c).1 ≡ s
   bound_shows (Ok c) h = command_shows c h

@@ -363,14 +363,6 @@ bound-fits c (request.Erase table id) h = over-table c table _ h (λ n there. th
 bound-fits c (request.EraseKey table index key) h = over-table c table _ h
     (λ n there. by_key c n has_keys (λ kind. true) index key _ (λ k fits. (there, fits.0, fits.1)))
 bound-fits c (request.Relocate table index id before) h = over-table c table _ h (λ n there. relocate-fits c n index id before there)
-bound-fits c request.Start h = tt
-bound-fits c request.Undo h = tt
-bound-fits c request.Squash h = tt
-bound-fits c (request.Commit revision) h = tt
-bound-fits c request.UndoAll h = tt
-bound-fits c request.Push h = tt
-bound-fits c (request.Reserve changes sessions) h = tt
-bound-fits c request.Revision h = tt
 bound-fits c (request.Get table id) h = over-table c table _ h (λ n there. there)
 bound-fits c (request.Find table index key) h = over-table c table _ h
     (λ n there. by_key c n has_keys is_hashed index key _ (λ k fits. (there, fits.0, fits.1)))
@@ -390,6 +382,7 @@ bound-fits c (request.UpperRank table index key) h =
     over-table c table _ h (λ n there. by_key c n is_ranked (λ kind. false) index key
     _ (λ k fits. (there, ranked (index_at (schema_at c n) k.0).kind fits.0.1, fits.1)))
 bound-fits c (request.Size table) h = over-table c table _ h (λ n there. there)
+bound-fits c session h = tt
 
 -- the answer of the code
 pub answer-fits : (c : CatalogShape) (request : Request) (r : Result Command Refusal)

@@ -120,7 +120,7 @@ bound_command c (request.UpperRank table index key) =
     and_then (λ n. and_then (λ k. Ok (command.UpperRank n k.0 k.1)) (ranked_key (schema_at c n) index key)) (table_number c table)
 bound_command c (request.Size table) = and_then (λ n. Ok (command.Size n)) (table_number c table)
 
--- the table is there, and records, edits, keys and indexes are as its schema wants them
+-- the table is there, and records, edits, keys and indexes are as its schema wants them; what is over sessions fits each catalog
 abbrev pub FitsCatalog : CatalogShape → Command → Type 0
 FitsCatalog c (command.Insert n row before) = HasTable c n × FitsTable c n row × IfSome before (λ at. IsSequencedIndex c n at.0)
 FitsCatalog c (command.Replace n id row) = HasTable c n × FitsTable c n row
@@ -128,14 +128,6 @@ FitsCatalog c (command.Modify n id edits rollback) = HasTable c n × FitsEdits c
 FitsCatalog c (command.Erase n id) = HasTable c n
 FitsCatalog c (command.EraseKey n x key) = HasTable c n × IsKeyedIndex c n x × FitsWhole c n x key
 FitsCatalog c (command.Relocate n x id before) = HasTable c n × IsSequencedIndex c n x
-FitsCatalog c command.Start = Unit {0}
-FitsCatalog c command.Undo = Unit {0}
-FitsCatalog c command.Squash = Unit {0}
-FitsCatalog c (command.Commit revision) = Unit {0}
-FitsCatalog c command.UndoAll = Unit {0}
-FitsCatalog c command.Push = Unit {0}
-FitsCatalog c (command.Reserve changes sessions) = Unit {0}
-FitsCatalog c command.Revision = Unit {0}
 FitsCatalog c (command.Get n id) = HasTable c n
 FitsCatalog c (command.Find n x key) = HasTable c n × IsKeyedIndex c n x × FitsLookUp c n x key
 FitsCatalog c (command.Nth t x n) = HasTable c t × IsRankedIndex c t x
@@ -146,3 +138,24 @@ FitsCatalog c (command.Rank n x id) = HasTable c n × IsRankedIndex c n x
 FitsCatalog c (command.LowerRank n x key) = HasTable c n × IsRankedIndex c n x × FitsPrefix c n x key
 FitsCatalog c (command.UpperRank n x key) = HasTable c n × IsRankedIndex c n x × FitsPrefix c n x key
 FitsCatalog c (command.Size n) = HasTable c n
+FitsCatalog c session = Unit {0}
+
+-- the table that a command is over; one over sessions has none
+abbrev pub table_of : Command → Option ℕ
+table_of (command.Insert n row before) = Some n
+table_of (command.Replace n id row) = Some n
+table_of (command.Modify n id edits rollback) = Some n
+table_of (command.Erase n id) = Some n
+table_of (command.EraseKey n x key) = Some n
+table_of (command.Relocate n x id before) = Some n
+table_of (command.Get n id) = Some n
+table_of (command.Find n x key) = Some n
+table_of (command.Nth t x n) = Some t
+table_of (command.Count n x key) = Some n
+table_of (command.Range n x low high reverse limit) = Some n
+table_of (command.List n x after limit) = Some n
+table_of (command.Rank n x id) = Some n
+table_of (command.LowerRank n x key) = Some n
+table_of (command.UpperRank n x key) = Some n
+table_of (command.Size n) = Some n
+table_of session = None

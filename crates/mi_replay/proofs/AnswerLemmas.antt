@@ -1,6 +1,7 @@
 -- What an answer leaves depends on who asks in one way alone: another's sessions keep changes and session commands out.
 use Rattle.std.proofs.Common.{◌≡◌, ◌≢◌, ℕ, ◌+◌, ◌-◌, ◌≤◌, min, List, [], ◌∷◌, Bool, true, false, cond, not, ◌&&◌, nat_eq, nat_le, length}
 use Rattle.std.proofs.Common.{Option, Some, None, Result, Ok, Err, refl, sym, ap, ◌∙◌, subst, arith, inl, inr}
+use Rattle.std.proofs.Math.Nat.{le_trans}
 use Rattle.mi_value.specs.declared.refusal.Refusal.{Refusal}
 use Rattle.mi_value.specs.declared.refusal.Refusal.TheVariants.{Busy, Spent, Depth}
 use Rattle.mi_value.specs.declared.refusal.NoSession.{NoSession}
@@ -22,7 +23,8 @@ use Rattle.mi_protocol.specs.declared.binding.Command.TheVariants as command
 use Rattle.mi_commands.specs.Asked.{Asked, text, too_long}
 use Rattle.mi_commands.specs.Answer.{answer, command_answer, command_of, MayGive}
 use Rattle.mi_commands.specs.Holder.{HeldDatabase, is_busy, one_more, one_less, at_most, held_count, held_by, without_holder}
-use Rattle.mi_commands.specs.Performed.{performed, holder_after, or_session}
+use Rattle.mi_commands.specs.Performed.{performed, holder_after, or_session, effect, moved}
+use Rattle.mi_commands.specs.Performed.{Move, stays, one_up, one_down, down_to, to_nobody, lets_go, if_accepted}
 use Rattle.mi_commands.specs.declared.holder.Holder.{Holder}
 use Rattle.mi_replay.specs.Journal.{undo_line}
 use Rattle.mi_replay.specs.Replayed.{replayer}
@@ -40,19 +42,6 @@ module _ (s : HeldDatabase) (conn : ℕ) where
 
   -- what isn't kept out is a look-up
   pub look_up_quiet : (c : CatalogShape) (r : Request) → keeps_out r ≡ false → IsQuiet s conn (bound_command c r)
-  look_up_quiet c (request.Insert table row before) h = absurd (cc)
-  look_up_quiet c (request.Replace table id row) h = absurd (cc)
-  look_up_quiet c (request.Modify table id set add rollback) h = absurd (cc)
-  look_up_quiet c (request.Erase table id) h = absurd (cc)
-  look_up_quiet c (request.EraseKey table index key) h = absurd (cc)
-  look_up_quiet c (request.Relocate table index id before) h = absurd (cc)
-  look_up_quiet c request.Start h = absurd (cc)
-  look_up_quiet c request.Undo h = absurd (cc)
-  look_up_quiet c request.Squash h = absurd (cc)
-  look_up_quiet c (request.Commit revision) h = absurd (cc)
-  look_up_quiet c request.UndoAll h = absurd (cc)
-  look_up_quiet c request.Push h = absurd (cc)
-  look_up_quiet c (request.Reserve changes sessions) h = absurd (cc)
   look_up_quiet c request.Revision h = refl
   look_up_quiet c (request.Get table id) h = quiet_then _ (table_number c table) (λ n. refl)
   look_up_quiet c (request.Find table index key) h =
@@ -73,6 +62,7 @@ module _ (s : HeldDatabase) (conn : ℕ) where
   look_up_quiet c (request.UpperRank table index key) h =
       quiet_then _ (table_number c table) (λ n. quiet_then _ (ranked_key (schema_at c n) index key) (λ k. refl))
   look_up_quiet c (request.Size table) h = quiet_then _ (table_number c table) (λ n. refl)
+  look_up_quiet c r h = absurd (cc)
 
   pub kept_out : (busy keeps : Bool) (c : Result Command Refusal) → busy ≡ true → (keeps ≡ false → IsQuiet s conn c)
       → IsQuiet s conn (cond (keeps && busy) (Err Busy) c)
@@ -213,48 +203,26 @@ module _ (d : Database) (o p : Option Holder) (conn : ℕ) (free : is_busy o con
   abbrev AreAlike : Said × HeldDatabase → Said × HeldDatabase → Type 0
   AreAlike a b = (b.1.database ≡ a.1.database) × (held_count b.1.holder ≡ held_count a.1.holder) × (is_busy b.1.holder replayer ≡ false)
 
-  stepped : (answer : Result ℕ Refusal) (f g : Option Holder → Option Holder) → held_count (g p) ≡ held_count (f o) → is_busy (g p) replayer ≡ false
-      → (held_count (holder_after answer g p) ≡ held_count (holder_after answer f o)) × (is_busy (holder_after answer g p) replayer ≡ false)
-  stepped answer f g count holds = (after_count answer g f p o count same, after_free replayer answer g p holds mine)
+  count_alike : (m : Move) → held_count (moved replayer m p) ≡ held_count (moved conn m o)
+  count_alike stays = same
+  count_alike one_up = more_count replayer p ∙ ap (λ n. n + 1) same ∙ sym (more_count conn o)
+  count_alike one_down = less_count p ∙ ap (λ n. n - 1) same ∙ sym (less_count o)
+  count_alike (down_to n) = most_count n p ∙ ap (λ k. min k n) same ∙ sym (most_count n o)
+  count_alike to_nobody = refl
+  count_alike lets_go = ap held_count (without_free replayer p mine) ∙ sym (ap held_count (without_free conn o free))
+  count_alike (if_accepted answer m) = after_count answer (moved replayer m) (moved conn m) p o (count_alike m) same
+
+  stays_free : (m : Move) → is_busy (moved replayer m p) replayer ≡ false
+  stays_free stays = mine
+  stays_free one_up = more_free replayer p refl mine
+  stays_free one_down = less_free replayer p mine
+  stays_free (down_to n) = most_free replayer n p mine
+  stays_free to_nobody = refl
+  stays_free lets_go = ap (λ h. is_busy h replayer) (without_free replayer p mine)
+  stays_free (if_accepted answer m) = after_free replayer answer (moved replayer m) p (stays_free m) mine
 
   command_alike : (c : Command) → AreAlike (performed (on d o) conn c) (performed (on d p) replayer c)
-  command_alike (command.Insert table row before) = (refl, same, mine)
-  command_alike (command.Replace table id row) = (refl, same, mine)
-  command_alike (command.Modify table id edits rollback) = (refl, same, mine)
-  command_alike (command.Erase table id) = (refl, same, mine)
-  command_alike (command.EraseKey table index key) = (refl, same, mine)
-  command_alike (command.Relocate table index id before) = (refl, same, mine)
-  command_alike command.Start =
-      let s = stepped (start_step d).0 (one_more conn) (one_more replayer)
-      (more_count replayer p ∙ ap (λ n. n + 1) same ∙ sym (more_count conn o)) (more_free replayer p refl mine) in
-      (refl, s.0, s.1)
-  command_alike command.Undo =
-      let s = stepped (or_session (undo_step d).0) one_less one_less (less_count p ∙ ap (λ n. n - 1) same ∙ sym (less_count o)) (less_free replayer p mine) in
-      (refl, s.0, s.1)
-  command_alike command.Squash =
-      let s = stepped (or_session (squash_step d).0) one_less one_less (less_count p ∙ ap (λ n. n - 1) same ∙ sym (less_count o)) (less_free replayer p mine) in
-      (refl, s.0, s.1)
-  command_alike (command.Commit revision) =
-      let n = depth (committed revision d) in
-      (refl, most_count n p ∙ ap (λ k. min k n) same ∙ sym (most_count n o), most_free replayer n p mine)
-  command_alike command.UndoAll = (refl, refl, refl)
-  command_alike command.Push = (
-    refl,
-    ap held_count (without_free replayer p mine) ∙ sym (ap held_count (without_free conn o free)),
-    ap (λ h. is_busy h replayer) (without_free replayer p mine),
-  )
-  command_alike (command.Reserve changes sessions) = (refl, same, mine)
-  command_alike command.Revision = (refl, same, mine)
-  command_alike (command.Get table id) = (refl, same, mine)
-  command_alike (command.Find table index key) = (refl, same, mine)
-  command_alike (command.Nth table index n) = (refl, same, mine)
-  command_alike (command.Count table index key) = (refl, same, mine)
-  command_alike (command.Range table index low high reverse limit) = (refl, same, mine)
-  command_alike (command.List table index after limit) = (refl, same, mine)
-  command_alike (command.Rank table index id) = (refl, same, mine)
-  command_alike (command.LowerRank table index key) = (refl, same, mine)
-  command_alike (command.UpperRank table index key) = (refl, same, mine)
-  command_alike (command.Size table) = (refl, same, mine)
+  command_alike c = (refl, count_alike (effect d c).move, stays_free (effect d c).move)
 
   bound_alike : (c : Result Command Refusal) → AreAlike (command_answer (on d o) conn c) (command_answer (on d p) replayer c)
   bound_alike (Ok c) = command_alike c
@@ -321,13 +289,23 @@ module _ (d : Database) (o : Option Holder) (fits : held_count o ≤ depth d) (c
       (let count : held_count (one_less o) ≡ held_count o - 1 = less_count o in
       let open_then : depth (squashed d) ≡ depth d - 1 = squashed_depth d.catalog d.tables d.old d.revision in omega arith)
 
+  -- no move but that of a start makes more of what is held
+  abbrev is_up : Move → Bool
+  is_up one_up = true
+  is_up (if_accepted answer m) = is_up m
+  is_up m = false
+
+  no_more : (m : Move) → is_up m ≡ false → held_count (moved conn m o) ≤ held_count o
+  no_more stays h = omega arith
+  no_more one_up h = absurd (cc)
+  no_more one_down h = let count : held_count (one_less o) ≡ held_count o - 1 = less_count o in omega arith
+  no_more (down_to n) h = let count : held_count (at_most n o) ≡ min (held_count o) n = most_count n o in omega arith
+  no_more to_nobody h = omega arith
+  no_more lets_go h = without_count conn o
+  no_more (if_accepted (Ok n) m) h = no_more m h
+  no_more (if_accepted (Err e) m) h = omega arith
+
   command_fits : (c : Command) → Fits (performed (on d o) conn c).1
-  command_fits (command.Insert table row before) = fits
-  command_fits (command.Replace table id row) = fits
-  command_fits (command.Modify table id edits rollback) = fits
-  command_fits (command.Erase table id) = fits
-  command_fits (command.EraseKey table index key) = fits
-  command_fits (command.Relocate table index id before) = fits
   command_fits command.Start = start_fits
   command_fits command.Undo = undo_fits
   command_fits command.Squash = squash_fits
@@ -335,19 +313,7 @@ module _ (d : Database) (o : Option Holder) (fits : held_count o ≤ depth d) (c
       let n : ℕ = depth (committed revision d) in
       let count : held_count (at_most n o) ≡ min (held_count o) n = most_count n o in omega arith
   command_fits command.UndoAll = omega arith
-  command_fits command.Push = let less : held_count (without_holder conn o) ≤ held_count o = without_count conn o in omega arith
-  command_fits (command.Reserve changes sessions) = fits
-  command_fits command.Revision = fits
-  command_fits (command.Get table id) = fits
-  command_fits (command.Find table index key) = fits
-  command_fits (command.Nth table index n) = fits
-  command_fits (command.Count table index key) = fits
-  command_fits (command.Range table index low high reverse limit) = fits
-  command_fits (command.List table index after limit) = fits
-  command_fits (command.Rank table index id) = fits
-  command_fits (command.LowerRank table index key) = fits
-  command_fits (command.UpperRank table index key) = fits
-  command_fits (command.Size table) = fits
+  command_fits c = le_trans (no_more (effect d c).move refl) fits
 
   bound_fits : (c : Result Command Refusal) → Fits (command_answer (on d o) conn c).1
   bound_fits (Ok c) = command_fits c

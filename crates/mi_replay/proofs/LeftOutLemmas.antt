@@ -29,9 +29,8 @@ use Rattle.mi_protocol.specs.declared.binding.Command.{Command}
 use Rattle.mi_protocol.specs.declared.binding.Command.TheVariants as command
 use Rattle.mi_commands.specs.Asked.{Asked, text, too_long}
 use Rattle.mi_commands.specs.Answer.{answer, command_answer, command_of}
-use Rattle.mi_commands.specs.Holder.{HeldDatabase, is_busy, one_more, one_less}
-use Rattle.mi_commands.specs.Performed.{performed, altered, said_of, all_done, or_session, revised}
-use Rattle.mi_commands.specs.declared.holder.Holder.{Holder}
+use Rattle.mi_commands.specs.Holder.{HeldDatabase, is_busy}
+use Rattle.mi_commands.specs.Performed.{performed, altered, said_of, all_done, or_session, revised, Move, one_up, one_down, done_by}
 use Rattle.mi_replay.specs.LeftOut.{LosesNone, IsPlainRefusal, alters, RefusalsChangeNothing, LookUpsChangeNothing}
 use Rattle.mi_replay.proofs.AnswerLemmas.{look_up_quiet, IsQuiet}
 
@@ -88,18 +87,19 @@ on_table-keeps n change d keeps e none is =
 
 -- ---- commands
 
-module _ (s : HeldDatabase) where
+module _ (s : HeldDatabase) (conn : ℕ) where
   altered_keeps : {A : Type 0} (accepted : A → Said) (refused : Refusal → Said) (step : Step A) → ((v : A) → IsPlainRefusal (accepted v) → ⊥)
       → ((e : Refusal) → IsPlainRefusal (refused e) → LosesNone e) → Keeps step s.database
-      → IsPlainRefusal (altered accepted refused step s).0 → (altered accepted refused step s).1 ≡ s
+      → IsPlainRefusal (done_by conn s (altered accepted refused step)).0 → (done_by conn s (altered accepted refused step)).1 ≡ s
   altered_keeps {A} accepted refused step never says keeps h = by_answer step.0 refl h
     where
-      by_answer : (a : Result A Refusal) → step.0 ≡ a → IsPlainRefusal (said_of accepted refused a) → (altered accepted refused step s).1 ≡ s
+      by_answer : (a : Result A Refusal) → step.0 ≡ a → IsPlainRefusal (said_of accepted refused a) → (done_by conn s (altered accepted refused step)).1 ≡ s
       by_answer (Ok v) is k = absurd (never v k)
       by_answer (Err e) is k = ap (λ d. record s { database = d }) (keeps e (says e k) is)
 
-  revised_keeps : (answer : Result ℕ Refusal) (left : Database) (move : Option Holder → Option Holder)
-      → ((e : Refusal) → answer ≡ Err e → left ≡ s.database) → IsPlainRefusal (revised answer left move s).0 → (revised answer left move s).1 ≡ s
+  revised_keeps : (answer : Result ℕ Refusal) (left : Database) (move : Move)
+      → ((e : Refusal) → answer ≡ Err e → left ≡ s.database) → IsPlainRefusal (done_by conn s (revised answer left move)).0
+      → (done_by conn s (revised answer left move)).1 ≡ s
   revised_keeps (Ok n) left move keeps h = absurd h
   revised_keeps (Err e) left move keeps h = ap (λ d. record s { database = d }) (keeps e refl)
 
@@ -127,48 +127,39 @@ session_keeps false number left d e is = absurd (cc)
 module _ (s : HeldDatabase) (conn : ℕ) where
   command_keeps : (c : Command) → IsPlainRefusal (performed s conn c).0 → (performed s conn c).1 ≡ s
   command_keeps (command.Insert table values before) h =
-      altered_keeps s say.inserted (say.refused table) _ (λ v h. h) (λ e h. h)
+      altered_keeps s conn say.inserted (say.refused table) _ (λ v h. h) (λ e h. h)
       (on_table-keeps table (λ shape t. insert_outcome shape before values t) s.database
       (unless_keeps (insert_refusal (schema_of s.database table) before values (table_of s.database table)) _ _ (table_of s.database table))) h
   command_keeps (command.Replace table id values) h =
-      altered_keeps s all_done (say.refused table) _ (λ v h. h) (λ e h. h) (on_table-keeps table (λ shape t. replace_outcome shape id values t) s.database
+      altered_keeps s conn all_done (say.refused table) _ (λ v h. h) (λ e h. h) (on_table-keeps table (λ shape t. replace_outcome shape id values t) s.database
       (unless_keeps (replace_refusal (schema_of s.database table) id values (table_of s.database table)) _ _ (table_of s.database table))) h
   command_keeps (command.Modify table id edits rollback) h =
-      altered_keeps s all_done (say.refused_modify table) _ (λ v h. h) (λ e h. h)
+      altered_keeps s conn all_done (say.refused_modify table) _ (λ v h. h) (λ e h. h)
       (on_table-keeps table (λ shape t. modify_outcome shape id edits rollback t) s.database
       (modify_keeps (schema_of s.database table) id edits rollback (table_of s.database table))) h
   command_keeps (command.Erase table id) h =
-      altered_keeps s all_done (say.refused table) _ (λ v h. h) (λ e h. h) (on_table-keeps table (λ shape t. erase_outcome id t) s.database
+      altered_keeps s conn all_done (say.refused table) _ (λ v h. h) (λ e h. h) (on_table-keeps table (λ shape t. erase_outcome id t) s.database
       (either_keeps (has (table_of s.database table) id) (Ok tt, erase id (table_of s.database table)) (Err NoId, table_of s.database table)
       (table_of s.database table) (accepted_keeps tt _ _) (refused_keeps NoId (table_of s.database table)))) h
   command_keeps (command.EraseKey table index key) h =
-      altered_keeps s say.erased (say.refused table) _ (λ v h. h) (λ e h. h)
+      altered_keeps s conn say.erased (say.refused table) _ (λ v h. h) (λ e h. h)
       (on_table-keeps table (λ shape t. erase_key_outcome shape index key t) s.database (accepted_keeps _ _ _)) h
   command_keeps (command.Relocate table index id before) h =
-      altered_keeps s all_done (say.refused table) _ (λ v h. h) (λ e h. h) (on_table-keeps table (λ shape t. relocate_outcome index id before t) s.database
+      altered_keeps s conn all_done (say.refused table) _ (λ v h. h) (λ e h. h) (on_table-keeps table (λ shape t. relocate_outcome index id before t) s.database
       (either_keeps (has (table_of s.database table) id && has_place (table_of s.database table) before)
       (Ok tt, relocate index id before (table_of s.database table)) (Err NoId, table_of s.database table)
       (table_of s.database table) (accepted_keeps tt _ _) (refused_keeps NoId (table_of s.database table)))) h
-  command_keeps command.Start h = revised_keeps s (start_step s.database).0 (start_step s.database).1 (one_more conn) (start_keeps s.database) h
-  command_keeps command.Undo h = revised_keeps s (or_session (undo_step s.database).0) (undo_step s.database).1 one_less
+  command_keeps command.Start h = revised_keeps s conn (start_step s.database).0 (start_step s.database).1 one_up (start_keeps s.database) h
+  command_keeps command.Undo h = revised_keeps s conn (or_session (undo_step s.database).0) (undo_step s.database).1 one_down
       (session_keeps (nat_eq (depth s.database) 0) (s.database.revision - 1) (undone s.database) s.database) h
-  command_keeps command.Squash h = revised_keeps s (or_session (squash_step s.database).0) (squash_step s.database).1 one_less
+  command_keeps command.Squash h = revised_keeps s conn (or_session (squash_step s.database).0) (squash_step s.database).1 one_down
       (session_keeps (nat_eq (depth s.database) 0) (s.database.revision - 1) (squashed s.database) s.database) h
-  command_keeps (command.Commit revision) h = absurd h
-  command_keeps command.UndoAll h = absurd h
-  command_keeps command.Push h = absurd h
-  command_keeps (command.Reserve changes sessions) h = refl
-  command_keeps command.Revision h = refl
   command_keeps (command.Get table id) h = refl
   command_keeps (command.Find table index key) h = refl
   command_keeps (command.Nth table index n) h = refl
-  command_keeps (command.Count table index key) h = refl
-  command_keeps (command.Range table index low high reverse limit) h = refl
   command_keeps (command.List table index after limit) h = refl
   command_keeps (command.Rank table index id) h = refl
-  command_keeps (command.LowerRank table index key) h = refl
-  command_keeps (command.UpperRank table index key) h = refl
-  command_keeps (command.Size table) h = refl
+  command_keeps c h = absurd h
 
   bound_keeps : (c : Result Command Refusal) → IsPlainRefusal (command_answer s conn c).0 → (command_answer s conn c).1 ≡ s
   bound_keeps (Ok c) h = command_keeps c h
@@ -189,29 +180,7 @@ module _ (s : HeldDatabase) (conn : ℕ) where
 
   request_keeps : (r : Request) → alters r ≡ false → IsQuiet s conn (command_of s conn (Ok r))
   request_keeps (request.Reserve changes sessions) h = either_way (is_busy s.holder conn) (Err Busy) (Ok (command.Reserve changes sessions)) refl refl
-  request_keeps (request.Insert table row before) h = absurd (cc)
-  request_keeps (request.Replace table id row) h = absurd (cc)
-  request_keeps (request.Modify table id set add rollback) h = absurd (cc)
-  request_keeps (request.Erase table id) h = absurd (cc)
-  request_keeps (request.EraseKey table index key) h = absurd (cc)
-  request_keeps (request.Relocate table index id before) h = absurd (cc)
-  request_keeps request.Start h = absurd (cc)
-  request_keeps request.Undo h = absurd (cc)
-  request_keeps request.Squash h = absurd (cc)
-  request_keeps (request.Commit revision) h = absurd (cc)
-  request_keeps request.UndoAll h = absurd (cc)
-  request_keeps request.Push h = absurd (cc)
-  request_keeps request.Revision h = asked_quiet request.Revision refl
-  request_keeps (request.Get table id) h = asked_quiet (request.Get table id) refl
-  request_keeps (request.Find table index key) h = asked_quiet (request.Find table index key) refl
-  request_keeps (request.Nth table index n) h = asked_quiet (request.Nth table index n) refl
-  request_keeps (request.Count table index key) h = asked_quiet (request.Count table index key) refl
-  request_keeps (request.Range table index lower upper reverse limit) h = asked_quiet (request.Range table index lower upper reverse limit) refl
-  request_keeps (request.List table index after limit) h = asked_quiet (request.List table index after limit) refl
-  request_keeps (request.Rank table index id) h = asked_quiet (request.Rank table index id) refl
-  request_keeps (request.LowerRank table index key) h = asked_quiet (request.LowerRank table index key) refl
-  request_keeps (request.UpperRank table index key) h = asked_quiet (request.UpperRank table index key) refl
-  request_keeps (request.Size table) h = asked_quiet (request.Size table) refl
+  request_keeps r h = asked_quiet r h
 
 pub refusals_change_nothing : RefusalsChangeNothing
 refusals_change_nothing conn line reply old new (inr p) plain = p.1.1

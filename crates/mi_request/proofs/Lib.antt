@@ -1,4 +1,5 @@
 pub mod DigitLemmas
+pub mod FormLemmas
 pub mod InsertLemmas
 pub mod NumberLemmas
 pub mod ObjectLemmas

@@ -19,10 +19,13 @@ use Rattle.serde_json.specs.Read.{of_json, read}
 use Rattle.serde_json.proofs.Numbers.{number_of-decimal}
 use Rattle.serde_json.proofs.OnLiterals.{serde_json_on_literals}
 use Rattle.mi_value.specs.declared.refusal.Refusal.{Refusal}
+use Rattle.mi_request.specs.Bare.{asked_bare, bare_of, bare_text, bare_named}
 use Rattle.mi_request.specs.Commands.{look_up_named, step_named}
 use Rattle.mi_request.specs.Json.{has_only}
 use Rattle.mi_request.specs.Lines.{request_or_refusal, command_line}
-use Rattle.mi_request.specs.Short.{number_line, short_line, bare_line, asked}
+use Rattle.mi_request.specs.Short.{number_line, short_line, numberless_line, asked}
+use Rattle.mi_request.specs.declared.bare.Bare.{Bare}
+use Rattle.mi_request.specs.declared.bare.Bare.TheVariants as bare
 use Rattle.mi_request.specs.declared.request.Request.{Request}
 use Rattle.mi_request.specs.declared.request.Request.TheVariants as request
 use Rattle.mi_request.specs.declared.short.Short.{Short}
@@ -91,39 +94,38 @@ numbered_means front line r n is means =
     let p = cond_some (nat_lt n (2 ^ 63)) _ line is in
     ap command_line (sym p.1) ∙ means (ltb-true n (2 ^ 63) p.0)
 
-bare_means : (text line : List ℕ) (r : Request) → Some text ≡ Some line → command_line text ≡ Ok r → command_line line ≡ Ok r
-bare_means text line r is means = ap command_line (sym (same_Some text line is)) ∙ means
+-- the line of a command without members means it
+bare_means : (b : Bare) → command_line (bare_text b) ≡ Ok (asked_bare b)
+unfolding serde_json_on_literals is_utf8 chars has_only bare_named step_named look_up_named
+bare_means bare.Undo = refl
+bare_means b = refl
+
+size_means : command_line (codes "{\"cmd\":\"size\"}") ≡ Ok (request.Size None)
+unfolding serde_json_on_literals is_utf8 chars has_only look_up_named
+size_means = refl
+
+-- which of them a request is asks that request
+abbrev asked_or : Request → Option Bare → Request
+asked_or r None = r
+asked_or r (Some b) = asked_bare b
+
+asked_back : (r : Request) → asked_or r (bare_of r) ≡ r
+asked_back request.Undo = refl
+asked_back r = refl
+
+-- what holds of the request and the line of each command without members holds of each request that is one, and its line
+by_bare : (P : Request → List ℕ → Type 0) → ((b : Bare) → P (asked_bare b) (bare_text b)) → (r : Request) (line : List ℕ) → (o : Option Bare)
+    → asked_or r o ≡ r → option_map bare_text o ≡ Some line → P r line
+by_bare P h r line None back is = absurd (none-some line is)
+by_bare P h r line (Some b) back is = subst (λ q. P q line) back (subst (P (asked_bare b)) (same_Some (bare_text b) line is) (h b))
 
 -- a short line means its request
 pub short_means : (r : Request) (line : List ℕ) → short_line r ≡ Some line → command_line line ≡ Ok r
-unfolding serde_json_on_literals is_utf8 chars has_only step_named look_up_named
-short_means request.Start line is = bare_means _ line _ is refl
-short_means request.Undo line is = bare_means _ line _ is refl
-short_means request.Squash line is = bare_means _ line _ is refl
 short_means (request.Commit revision) line is = numbered_means (codes "{\"cmd\":\"commit\",\"revision\":") line _ revision is (commit_means revision)
-short_means request.UndoAll line is = bare_means _ line _ is refl
-short_means request.Push line is = bare_means _ line _ is refl
-short_means request.Revision line is = bare_means _ line _ is refl
 short_means (request.Get None id) line is = numbered_means (codes "{\"cmd\":\"get\",\"id\":") line _ id is (get_means id)
 short_means (request.Erase None id) line is = numbered_means (codes "{\"cmd\":\"erase\",\"id\":") line _ id is (erase_means id)
-short_means (request.Size None) line is = bare_means _ line _ is refl
-short_means (request.Get (Some table) id) line is = absurd (none-some line is)
-short_means (request.Erase (Some table) id) line is = absurd (none-some line is)
-short_means (request.Size (Some table)) line is = absurd (none-some line is)
-short_means (request.Insert table row before) line is = absurd (none-some line is)
-short_means (request.Replace table id row) line is = absurd (none-some line is)
-short_means (request.Modify table id set add rollback) line is = absurd (none-some line is)
-short_means (request.EraseKey table index key) line is = absurd (none-some line is)
-short_means (request.Relocate table index id before) line is = absurd (none-some line is)
-short_means (request.Reserve changes sessions) line is = absurd (none-some line is)
-short_means (request.Find table index key) line is = absurd (none-some line is)
-short_means (request.Nth table index n) line is = absurd (none-some line is)
-short_means (request.Count table index key) line is = absurd (none-some line is)
-short_means (request.Range table index lower upper reverse limit) line is = absurd (none-some line is)
-short_means (request.List table index after limit) line is = absurd (none-some line is)
-short_means (request.Rank table index id) line is = absurd (none-some line is)
-short_means (request.LowerRank table index key) line is = absurd (none-some line is)
-short_means (request.UpperRank table index key) line is = absurd (none-some line is)
+short_means (request.Size None) line is = ap command_line (sym (same_Some _ line is)) ∙ size_means
+short_means r line is = by_bare (λ q t. command_line t ≡ Ok q) bare_means r line (bare_of r) (asked_back r) is
 
 -- ---- numbers between a front and a brace
 
@@ -158,8 +160,8 @@ some_of (Some s) is = refl
 
 -- ---- how long they are
 
-bare_length : (text line : List ℕ) → Some text ≡ Some line → nat_le 11 (length text) ≡ true → nat_le (length text) 47 ≡ true → (10 < length line) × (length line ≤ 47)
-bare_length text line is long short =
+text_length : (text line : List ℕ) → Some text ≡ Some line → nat_le 11 (length text) ≡ true → nat_le (length text) 47 ≡ true → (10 < length line) × (length line ≤ 47)
+text_length text line is long short =
     subst (λ t. (10 < length t) × (length t ≤ 47)) (same_Some text line is) (leb-true 11 (length text) long, leb-true (length text) 47 short)
 
 numbered_length : (front line : List ℕ) (n : ℕ) → number_line front n ≡ Some line → nat_le 11 (length front) ≡ true → nat_le (length front) 27 ≡ true
@@ -174,40 +176,26 @@ numbered_length front line n is long short =
     let most : length front ≤ 27 = leb-true (length front) 27 short in
     (omega arith, omega arith)
 
+abbrev HasLength : Request → List ℕ → Type 0
+HasLength r line = (10 < length line) × (length line ≤ 47)
+
+bare_length : (b : Bare) → HasLength (asked_bare b) (bare_text b)
+bare_length bare.Undo = text_length (bare_text bare.Undo) (bare_text bare.Undo) refl refl refl
+bare_length b = text_length (bare_text b) (bare_text b) refl refl refl
+
 -- a short line has 11 to 47 bytes
 pub short_length : (r : Request) (line : List ℕ) → short_line r ≡ Some line → (10 < length line) × (length line ≤ 47)
-short_length request.Start line is = bare_length _ line is refl refl
-short_length request.Undo line is = bare_length _ line is refl refl
-short_length request.Squash line is = bare_length _ line is refl refl
 short_length (request.Commit revision) line is = numbered_length (codes "{\"cmd\":\"commit\",\"revision\":") line revision is refl refl
-short_length request.UndoAll line is = bare_length _ line is refl refl
-short_length request.Push line is = bare_length _ line is refl refl
-short_length request.Revision line is = bare_length _ line is refl refl
 short_length (request.Get None id) line is = numbered_length (codes "{\"cmd\":\"get\",\"id\":") line id is refl refl
 short_length (request.Erase None id) line is = numbered_length (codes "{\"cmd\":\"erase\",\"id\":") line id is refl refl
-short_length (request.Size None) line is = bare_length _ line is refl refl
-short_length (request.Get (Some table) id) line is = absurd (none-some line is)
-short_length (request.Erase (Some table) id) line is = absurd (none-some line is)
-short_length (request.Size (Some table)) line is = absurd (none-some line is)
-short_length (request.Insert table row before) line is = absurd (none-some line is)
-short_length (request.Replace table id row) line is = absurd (none-some line is)
-short_length (request.Modify table id set add rollback) line is = absurd (none-some line is)
-short_length (request.EraseKey table index key) line is = absurd (none-some line is)
-short_length (request.Relocate table index id before) line is = absurd (none-some line is)
-short_length (request.Reserve changes sessions) line is = absurd (none-some line is)
-short_length (request.Find table index key) line is = absurd (none-some line is)
-short_length (request.Nth table index n) line is = absurd (none-some line is)
-short_length (request.Count table index key) line is = absurd (none-some line is)
-short_length (request.Range table index lower upper reverse limit) line is = absurd (none-some line is)
-short_length (request.List table index after limit) line is = absurd (none-some line is)
-short_length (request.Rank table index id) line is = absurd (none-some line is)
-short_length (request.LowerRank table index key) line is = absurd (none-some line is)
-short_length (request.UpperRank table index key) line is = absurd (none-some line is)
+short_length (request.Size None) line is = text_length _ line is refl refl
+short_length r line is = by_bare HasLength bare_length r line (bare_of r) (asked_back r) is
 
 -- ---- their third letters
 
-bare_told : (text line : List ℕ) (r : Request) → Some text ≡ Some line → bare_line text ≡ Some r → bare_line line ≡ Some r
-bare_told text line r is means = ap bare_line (sym (same_Some text line is)) ∙ means
+bare_told : (b : Bare) → numberless_line (bare_text b) ≡ Some (asked_bare b)
+bare_told bare.Undo = refl
+bare_told b = refl
 
 lettered : (front line : List ℕ) (n d letter : ℕ) → number_line front n ≡ Some line → ((rest : List ℕ) → get_or (front ++ rest) 10 d ≡ letter)
     → get_or line 10 d ≡ letter
@@ -215,31 +203,9 @@ lettered front line n d letter is at = ap (λ t. get_or t 10 d) (numbered_parts 
 
 -- a short line with a number has the letter of `get`, `commit` or `erase`, and each other has no members
 pub told : (r : Request) (line : List ℕ) (d : ℕ) → short_line r ≡ Some line
-    → (get_or line 10 d ≡ 116) ⊎ ((get_or line 10 d ≡ 109) ⊎ ((get_or line 10 d ≡ 97) ⊎ (bare_line line ≡ Some r)))
-told request.Start line d is = inr (inr (inr (bare_told _ line _ is refl)))
-told request.Undo line d is = inr (inr (inr (bare_told _ line _ is refl)))
-told request.Squash line d is = inr (inr (inr (bare_told _ line _ is refl)))
+    → (get_or line 10 d ≡ 116) ⊎ ((get_or line 10 d ≡ 109) ⊎ ((get_or line 10 d ≡ 97) ⊎ (numberless_line line ≡ Some r)))
 told (request.Commit revision) line d is = inr (inl (lettered (codes "{\"cmd\":\"commit\",\"revision\":") line revision d 109 is (λ rest. refl)))
-told request.UndoAll line d is = inr (inr (inr (bare_told _ line _ is refl)))
-told request.Push line d is = inr (inr (inr (bare_told _ line _ is refl)))
-told request.Revision line d is = inr (inr (inr (bare_told _ line _ is refl)))
 told (request.Get None id) line d is = inl (lettered (codes "{\"cmd\":\"get\",\"id\":") line id d 116 is (λ rest. refl))
 told (request.Erase None id) line d is = inr (inr (inl (lettered (codes "{\"cmd\":\"erase\",\"id\":") line id d 97 is (λ rest. refl))))
-told (request.Size None) line d is = inr (inr (inr (bare_told _ line _ is refl)))
-told (request.Get (Some table) id) line d is = absurd (none-some line is)
-told (request.Erase (Some table) id) line d is = absurd (none-some line is)
-told (request.Size (Some table)) line d is = absurd (none-some line is)
-told (request.Insert table row before) line d is = absurd (none-some line is)
-told (request.Replace table id row) line d is = absurd (none-some line is)
-told (request.Modify table id set add rollback) line d is = absurd (none-some line is)
-told (request.EraseKey table index key) line d is = absurd (none-some line is)
-told (request.Relocate table index id before) line d is = absurd (none-some line is)
-told (request.Reserve changes sessions) line d is = absurd (none-some line is)
-told (request.Find table index key) line d is = absurd (none-some line is)
-told (request.Nth table index n) line d is = absurd (none-some line is)
-told (request.Count table index key) line d is = absurd (none-some line is)
-told (request.Range table index lower upper reverse limit) line d is = absurd (none-some line is)
-told (request.List table index after limit) line d is = absurd (none-some line is)
-told (request.Rank table index id) line d is = absurd (none-some line is)
-told (request.LowerRank table index key) line d is = absurd (none-some line is)
-told (request.UpperRank table index key) line d is = absurd (none-some line is)
+told (request.Size None) line d is = inr (inr (inr (ap numberless_line (sym (same_Some _ line is)))))
+told r line d is = inr (inr (inr (by_bare (λ q t. numberless_line t ≡ Some q) bare_told r line (bare_of r) (asked_back r) is)))

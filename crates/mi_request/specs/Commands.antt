@@ -3,6 +3,7 @@ use Rattle.std.specs.Prelude.{ℕ, List, [], ◌∷◌, Bool, true, false, ◌&&
 use Rattle.std.specs.Prelude.{Option, Some, None, option_map, option_and_then, codes, bytes_eq}
 use Rattle.serde_json.specs.Data.{Data, null, boolean, number, string, array, object, Items, Members, no_members}
 use Rattle.serde_json.specs.Find.{get_member, as_str, as_array, as_bool, as_object}
+use Rattle.mi_request.specs.Bare.{asked_bare, bare_named}
 use Rattle.mi_request.specs.Json.{has_only, natural, needed, optional, default, option_map₂, option_map₃, option_map₄, option_map₅, option_map₆}
 use Rattle.mi_value.specs.declared.limits.TheConstants.{MAX_PAGE, MAX_RESERVED_CHANGES, MAX_RESERVED_SESSIONS}
 use Rattle.mi_request.specs.declared.command.CommandName.{CommandName}
@@ -13,11 +14,21 @@ use Rattle.mi_request.specs.declared.request.Place.{Place}
 use Rattle.mi_request.specs.declared.request.Request.{Request}
 use Rattle.mi_request.specs.declared.request.Request.TheVariants as request
 
--- the look-up of a name
+-- the command without members of a name
+abbrev pub named_bare : List ℕ → Option CommandName
+named_bare t = option_map name.Bare (bare_named t)
+
+-- the session command with members or reserve of a name, or else the one without members
+unfoldable pub step_named : List ℕ → Option CommandName
+step_named t =
+    if bytes_eq t (codes "commit") then Some name.Commit
+    else if bytes_eq t (codes "reserve") then Some name.Reserve
+    else named_bare t
+
+-- the look-up of a table of a name, or else the step
 unfoldable pub look_up_named : List ℕ → Option CommandName
 look_up_named t =
-    if bytes_eq t (codes "revision") then Some name.Revision
-    else if bytes_eq t (codes "get") then Some name.Get
+    if bytes_eq t (codes "get") then Some name.Get
     else if bytes_eq t (codes "find") then Some name.Find
     else if bytes_eq t (codes "nth") then Some name.Nth
     else if bytes_eq t (codes "count") then Some name.Count
@@ -27,19 +38,7 @@ look_up_named t =
     else if bytes_eq t (codes "lower_rank") then Some name.LowerRank
     else if bytes_eq t (codes "upper_rank") then Some name.UpperRank
     else if bytes_eq t (codes "size") then Some name.Size
-    else None
-
--- the session command or reserve of a name, or else its look-up
-unfoldable pub step_named : List ℕ → Option CommandName
-step_named t =
-    if bytes_eq t (codes "start") then Some name.Start
-    else if bytes_eq t (codes "undo") then Some name.Undo
-    else if bytes_eq t (codes "squash") then Some name.Squash
-    else if bytes_eq t (codes "commit") then Some name.Commit
-    else if bytes_eq t (codes "undo_all") then Some name.UndoAll
-    else if bytes_eq t (codes "push") then Some name.Push
-    else if bytes_eq t (codes "reserve") then Some name.Reserve
-    else look_up_named t
+    else step_named t
 
 -- the command of a name
 abbrev pub command_named : List ℕ → Option CommandName
@@ -50,7 +49,7 @@ command_named t =
     else if bytes_eq t (codes "erase") then Some name.Erase
     else if bytes_eq t (codes "erase_key") then Some name.EraseKey
     else if bytes_eq t (codes "relocate") then Some name.Relocate
-    else step_named t
+    else look_up_named t
 
 abbrev pub make_place : List ℕ → ℕ → Place
 make_place index id = record { index = index; id = id }
@@ -157,18 +156,13 @@ form_of name.Relocate = record {
   members = codes "table" ∷ codes "index" ∷ codes "id" ∷ codes "before" ∷ [];
   request = λ ms. option_map₄ request.Relocate (table_in ms) (index_in ms) (id_in ms) (default None natural_or_null (codes "before") ms);
 }
-form_of name.Start = record { members = []; request = λ ms. Some request.Start }
-form_of name.Undo = record { members = []; request = λ ms. Some request.Undo }
-form_of name.Squash = record { members = []; request = λ ms. Some request.Squash }
+form_of (name.Bare b) = record { members = []; request = λ ms. Some (asked_bare b) }
 form_of name.Commit = record { members = codes "revision" ∷ []; request = λ ms. option_map request.Commit (needed natural (codes "revision") ms) }
-form_of name.UndoAll = record { members = []; request = λ ms. Some request.UndoAll }
-form_of name.Push = record { members = []; request = λ ms. Some request.Push }
 form_of name.Reserve = record {
   members = codes "changes" ∷ codes "sessions" ∷ [];
   request = λ ms. option_map₂ request.Reserve (needed (up_to MAX_RESERVED_CHANGES) (codes "changes") ms)
       (needed (up_to MAX_RESERVED_SESSIONS) (codes "sessions") ms);
 }
-form_of name.Revision = record { members = []; request = λ ms. Some request.Revision }
 form_of name.Get = record {
   members = codes "table" ∷ codes "id" ∷ [];
   request = λ ms. option_map₂ request.Get (table_in ms) (id_in ms);
@@ -208,21 +202,8 @@ form_of name.UpperRank = record {
 }
 form_of name.Size = record { members = codes "table" ∷ []; request = λ ms. option_map request.Size (table_in ms) }
 
--- a change, a session command or a reserve, which waits while another connection holds sessions
+-- a change, a session command or a reserve, which waits while another connection holds sessions: whatever isn't a look-up
 abbrev pub keeps_out : Request → Bool
-keeps_out (request.Insert table row before) = true
-keeps_out (request.Replace table id row) = true
-keeps_out (request.Modify table id set add rollback) = true
-keeps_out (request.Erase table id) = true
-keeps_out (request.EraseKey table index key) = true
-keeps_out (request.Relocate table index id before) = true
-keeps_out request.Start = true
-keeps_out request.Undo = true
-keeps_out request.Squash = true
-keeps_out (request.Commit revision) = true
-keeps_out request.UndoAll = true
-keeps_out request.Push = true
-keeps_out (request.Reserve changes sessions) = true
 keeps_out request.Revision = false
 keeps_out (request.Get table id) = false
 keeps_out (request.Find table index key) = false
@@ -234,3 +215,24 @@ keeps_out (request.Rank table index id) = false
 keeps_out (request.LowerRank table index key) = false
 keeps_out (request.UpperRank table index key) = false
 keeps_out (request.Size table) = false
+keeps_out other = true
+
+-- the member `table` of a request, which those of sessions never have
+abbrev pub table_member : Request → Option (Option (List ℕ))
+table_member (request.Insert table row before) = Some table
+table_member (request.Replace table id row) = Some table
+table_member (request.Modify table id set add rollback) = Some table
+table_member (request.Erase table id) = Some table
+table_member (request.EraseKey table index key) = Some table
+table_member (request.Relocate table index id before) = Some table
+table_member (request.Get table id) = Some table
+table_member (request.Find table index key) = Some table
+table_member (request.Nth table index n) = Some table
+table_member (request.Count table index key) = Some table
+table_member (request.Range table index lower upper reverse limit) = Some table
+table_member (request.List table index after limit) = Some table
+table_member (request.Rank table index id) = Some table
+table_member (request.LowerRank table index key) = Some table
+table_member (request.UpperRank table index key) = Some table
+table_member (request.Size table) = Some table
+table_member session = None

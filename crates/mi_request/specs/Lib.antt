@@ -1,4 +1,5 @@
 pub mod Answers
+pub mod Bare
 pub mod Commands
 pub mod Json
 pub mod Lines

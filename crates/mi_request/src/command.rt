@@ -3,6 +3,7 @@ ghost use Rattle.std.specs.Prelude.{◌≡◌, ◌∷◌, codes};
 ghost use Rattle.mi_request.specs.Commands.{look_up_named, step_named, command_named, form_of};
 ghost use Rattle.mi_request.specs.Json.{has_only};
 
+use crate::bare::Bare;
 use crate::object::Object;
 
 /// The commands.
@@ -14,14 +15,6 @@ pub(crate) enum CommandName {
     Erase,
     EraseKey,
     Relocate,
-    Start,
-    Undo,
-    Squash,
-    Commit,
-    UndoAll,
-    Push,
-    Reserve,
-    Revision,
     Get,
     Find,
     Nth,
@@ -32,15 +25,30 @@ pub(crate) enum CommandName {
     LowerRank,
     UpperRank,
     Size,
+    Commit,
+    Reserve,
+    /// One without members.
+    Bare(Bare),
 }
 
-/// The look-up of a name, or none.
+/// The session command with members or reserve of a name, or else the command without members, or none.
+#[tactic(auto, unfolding(crate::specs::Commands::step_named))]
+fn step_of(text: &str) -> Option<CommandName>
+    ensures { result ≡ step_named text.now }
+{
+    match text {
+        "commit" => Some(CommandName::Commit),
+        "reserve" => Some(CommandName::Reserve),
+        _ => Some(CommandName::Bare(Bare::of(text)?)),
+    }
+}
+
+/// The look-up of a table of a name, or else its step, or none.
 #[tactic(auto, unfolding(crate::specs::Commands::look_up_named))]
 fn look_up_of(text: &str) -> Option<CommandName>
     ensures { result ≡ look_up_named text.now }
 {
     match text {
-        "revision" => Some(CommandName::Revision),
         "get" => Some(CommandName::Get),
         "find" => Some(CommandName::Find),
         "nth" => Some(CommandName::Nth),
@@ -51,24 +59,7 @@ fn look_up_of(text: &str) -> Option<CommandName>
         "lower_rank" => Some(CommandName::LowerRank),
         "upper_rank" => Some(CommandName::UpperRank),
         "size" => Some(CommandName::Size),
-        _ => None,
-    }
-}
-
-/// The session command or reserve of a name, or else its look-up, or none.
-#[tactic(auto, unfolding(crate::specs::Commands::step_named))]
-fn step_of(text: &str) -> Option<CommandName>
-    ensures { result ≡ step_named text.now }
-{
-    match text {
-        "start" => Some(CommandName::Start),
-        "undo" => Some(CommandName::Undo),
-        "squash" => Some(CommandName::Squash),
-        "commit" => Some(CommandName::Commit),
-        "undo_all" => Some(CommandName::UndoAll),
-        "push" => Some(CommandName::Push),
-        "reserve" => Some(CommandName::Reserve),
-        _ => look_up_of(text),
+        _ => step_of(text),
     }
 }
 
@@ -84,7 +75,7 @@ impl CommandName {
             "erase" => Some(CommandName::Erase),
             "erase_key" => Some(CommandName::EraseKey),
             "relocate" => Some(CommandName::Relocate),
-            _ => step_of(text),
+            _ => look_up_of(text),
         }
     }
 
@@ -114,12 +105,7 @@ impl CommandName {
             CommandName::Size => object.has_only(&["cmd", "table"]),
             CommandName::Commit => object.has_only(&["cmd", "revision"]),
             CommandName::Reserve => object.has_only(&["cmd", "changes", "sessions"]),
-            CommandName::Start
-            | CommandName::Undo
-            | CommandName::Squash
-            | CommandName::UndoAll
-            | CommandName::Push
-            | CommandName::Revision => object.has_only(&["cmd"]),
+            CommandName::Bare(_) => object.has_only(&["cmd"]),
         }
     }
 }

@@ -3,6 +3,7 @@
 #![tactic(auto)]
 
 mod array;
+mod bare;
 mod command;
 mod forms;
 mod insert;

@@ -1,8 +1,9 @@
 //! Lines without a text for the database, read where they stand as they are written without spaces. It takes no memory.
 ghost use Rattle.std.specs.Prelude.{◌≡◌, ◌<◌, ◌^◌, ◌&&◌, nat_lt, IfSome, IsSome, Some, bytes_eq, codes, decimal, option_map, ℕ};
-ghost use Rattle.mi_request.specs.Short.{number_line, short_line, bare_line, asked};
+ghost use Rattle.mi_request.specs.Short.{number_line, short_line, numberless_line, asked};
 ghost use Rattle.mi_request.specs.declared.request.Request.{Request as Asked};
 
+use crate::bare::{Bare, is_text};
 use crate::request::Request;
 use fast_float::parse_u64;
 use itoa::Buffer;
@@ -16,13 +17,8 @@ const LETTER_AT: usize = 10;
 /// What a short line asks: a request without a text, and its number.
 #[derive(Clone, Copy)]
 pub(crate) enum Short {
-    Start,
-    Undo,
-    Squash,
+    Bare(Bare),
     Commit(u64),
-    UndoAll,
-    Push,
-    Revision,
     Get(u64),
     Erase(u64),
     Size,
@@ -35,13 +31,8 @@ impl Short {
         ensures { result ≡ asked self }
     {
         match self {
-            Short::Start => Request::Start,
-            Short::Undo => Request::Undo,
-            Short::Squash => Request::Squash,
+            Short::Bare(bare) => bare.request(),
             Short::Commit(revision) => Request::Commit { revision },
-            Short::UndoAll => Request::UndoAll,
-            Short::Push => Request::Push,
-            Short::Revision => Request::Revision,
             Short::Get(id) => Request::Get { table: None, id },
             Short::Erase(id) => Request::Erase { table: None, id },
             Short::Size => Request::Size { table: None },
@@ -75,32 +66,15 @@ fn number_behind(front: &[u8], line: &[u8]) -> Option<u64>
     natural_text(text)
 }
 
-/// Whether a line is this text. Inlined, it asks for the text's length first and compares words, with no call.
-#[inline(always)]
-fn is_text(line: &[u8], text: &[u8]) -> bool
-    ensures { result ≡ bytes_eq line.now text.now }
-{
-    line == text
-}
-
 /// The short line without members that a line is.
 #[inline(always)]
-fn bare_of(line: &[u8]) -> Option<Short>
-    ensures value { option_map asked result ≡ bare_line line.now }
+fn numberless(line: &[u8]) -> Option<Short>
+    ensures value { option_map asked result ≡ numberless_line line.now }
 {
-    if is_text(line, b"{\"cmd\":\"undo\"}") {
-        Some(Short::Undo)
-    } else if is_text(line, b"{\"cmd\":\"start\"}") {
-        Some(Short::Start)
-    } else if is_text(line, b"{\"cmd\":\"squash\"}") {
-        Some(Short::Squash)
-    } else if is_text(line, b"{\"cmd\":\"undo_all\"}") {
-        Some(Short::UndoAll)
-    } else if is_text(line, b"{\"cmd\":\"push\"}") {
-        Some(Short::Push)
-    } else if is_text(line, b"{\"cmd\":\"revision\"}") {
-        Some(Short::Revision)
-    } else if is_text(line, b"{\"cmd\":\"size\"}") {
+    if let Some(bare) = Bare::of_line(line) {
+        return Some(Short::Bare(bare));
+    }
+    if is_text(line, b"{\"cmd\":\"size\"}") {
         Some(Short::Size)
     } else {
         None
@@ -109,15 +83,15 @@ fn bare_of(line: &[u8]) -> Option<Short>
 
 /// The short line with the id of a record to be erased that a line is, or the one without members.
 #[inline(always)]
-fn erase_or_bare(line: &[u8]) -> Option<Short>
+fn erase_or_numberless(line: &[u8]) -> Option<Short>
     ensures value { IfSome result (λ s. short_line (asked s) ≡ Some line.now) }
     ensures erase { (n : ℕ) → number_line (codes "{\"cmd\":\"erase\",\"id\":") n ≡ Some line.now → IsSome result }
-    ensures bare { IsSome (bare_line line.now) → IsSome result }
+    ensures numberless { IsSome (numberless_line line.now) → IsSome result }
 {
     if let Some(id) = number_behind(b"{\"cmd\":\"erase\",\"id\":".as_slice(), line) {
         return Some(Short::Erase(id));
     }
-    bare_of(line)
+    numberless(line)
 }
 
 /// The short line that a line is, where it is written as `short_line` writes it. The third letter of the command's name tells which
@@ -139,7 +113,7 @@ pub(crate) fn short_of(line: &[u8]) -> Option<Short>
             let revision = number_behind(b"{\"cmd\":\"commit\",\"revision\":".as_slice(), line)?;
             Some(Short::Commit(revision))
         }
-        b'a' => erase_or_bare(line),
-        _ => bare_of(line),
+        b'a' => erase_or_numberless(line),
+        _ => numberless(line),
     }
 }

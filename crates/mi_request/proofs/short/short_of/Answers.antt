@@ -20,5 +20,5 @@ returns-in_default-clause-whole c r is =
       | inl get ↦ absurd (other.0.0.1 get)
       | inr (inl commit) ↦ absurd (other.0.1 commit)
       | inr (inr (inl erase)) ↦ absurd (other.1 erase)
-      | inr (inr (inr bare)) ↦ some_of c.bare_of.result (ap is_some (c.bare_of.ensures.value ∙ bare))
+      | inr (inr (inr bare)) ↦ some_of c.numberless.result (ap is_some (c.numberless.ensures.value ∙ bare))
     ]
