@@ -12,19 +12,20 @@ ghost use Rattle.mi_commands.specs.Answer.{needs_none};
 use crate::holder::{Holder, held_by, is_busy, without_holder};
 use crate::line::Line;
 use mi_catalog::Catalog;
-use mi_protocol::{Command, LineReader, Reply, ReplyText, Request, bind};
+use mi_protocol::{Command, LineReader, Reply, ReplyLabels, ReplyText, Request, bind};
 use mi_sessions::Sessions;
 use mi_value::Refusal;
 use std::alloc::Global;
 use std::marker::Model;
 
-/// A database, who holds its open sessions, and what reads the lines that ask it.
+/// A database, who holds its open sessions, what reads the lines that ask it, and the labels of the rows that are shown.
 #[derive(Drop)]
 pub struct Executor<D: Sessions + Drop> {
     pub(crate) database: D,
     pub(crate) holder: Option<Holder>,
     pub(crate) alloc: Global,
     lines: LineReader,
+    pub(crate) labels: ReplyLabels,
 }
 
 impl<D: Sessions + Drop> Model for Executor<D> {
@@ -45,15 +46,18 @@ impl<D: Sessions + Drop> Executor<D> {
     ghost use Rattle.mi_commands.specs.Answer.{command_of, done_without, TakesNone, GivenOrMemory, MayGive};
     ghost use Rattle.mi_commands.specs.Asked.{text, asked_of};
 
-    /// A database that nobody holds sessions of.
+    /// A database that nobody holds sessions of. The labels of its rows are made here; where memory for them is refused it has none, and
+    /// rows are written without.
     pub fn new(alloc: Global, database: D) -> Executor<D>
         ensures { result ≡ record { database = D.state database; holder = None } }
     {
+        let labels = ReplyLabels::of(alloc, database.catalog());
         Executor {
             database,
             holder: None,
             alloc,
             lines: LineReader::new(alloc),
+            labels,
         }
     }
 

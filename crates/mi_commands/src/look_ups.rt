@@ -182,7 +182,7 @@ impl<D: Sessions + Drop> Executor<D> {
         requires { IsSaidOf self.now.database.catalog (said reply) }
         ensures { GivenOrMemory (Unit {0}) (said reply.entry, self.now) self.now (text_bytes result) self.now }
     {
-        match reply.text(self.alloc, self.database.catalog()) {
+        match reply.text_with(self.alloc, self.database.catalog(), &self.labels) {
             Ok(text) => text,
             Err(refusal) => self.refuse(refusal),
         }

@@ -8,6 +8,7 @@ mod columns;
 mod edits;
 mod indexes;
 mod keys;
+mod labels;
 mod laws;
 mod look_ups;
 mod reply;
@@ -16,6 +17,7 @@ mod text;
 
 pub use binding::{Command, bind};
 pub use edits::Edits;
+pub use labels::ReplyLabels;
 pub use laws::{lines_edit_columns_once, lines_without_a_table, replies_are_compact_json};
 pub use mi_request::{Array, End, Json, LineReader, Name, Object, Place, Request};
 pub use reply::Reply;

@@ -1,19 +1,20 @@
 //! Replies and their text. Only a reply that shows rows takes memory; the others stand in a buffer of 128 bytes.
-ghost use Rattle.std.specs.Prelude.{◌≡◌, ◌+◌, ◌≤◌, ◌<◌, ◌++◌, length, codes, decimal, true, IfOk, IfErr, IsOk};
+ghost use Rattle.std.specs.Prelude.{◌≡◌, ◌+◌, ◌≤◌, ◌<◌, ◌++◌, length, map, codes, decimal, true, IfOk, IfErr, IsOk};
 ghost use Rattle.arrayvec.specs.ArrayVec.{array_vec_len};
 ghost use Rattle.mi_value.specs.declared.limits.TheConstants.{MAX_NAME, SHORT_REPLY};
 ghost use Rattle.mi_protocol.specs.Replies as replies;
-ghost use Rattle.mi_protocol.specs.Replies.{reply_text, said, is_short, index_name, IsSaidOf, IsRefusalOf};
+ghost use Rattle.mi_protocol.specs.Replies.{reply_text, said, is_short, index_name, shown, rows, IsSaidOf, IsRefusalOf};
 ghost use Rattle.mi_protocol.specs.Text.{text_bytes, is_short_text};
 
+use crate::labels::ReplyLabels;
 use crate::text::ReplyText;
 use arrayvec::ArrayVec;
 use itoa::Buffer;
 use mi_catalog::Catalog;
-use mi_rows::{row_text, rows_text};
+use mi_rows::{row_text, row_text_with, rows_text, rows_text_with};
 use mi_value::limits::SHORT_REPLY;
 use mi_value::{Record, Refusal};
-use std::alloc::Global;
+use std::alloc::{AllocError, Global};
 
 /// What a command is answered. `table` is the number of the table that the command is over; of a refusal it matters for a
 /// conflict alone.
@@ -173,6 +174,48 @@ fn modify_refusal_text(catalog: &Catalog, table: usize, refusal: Refusal) -> Rep
     }
 }
 
+/// The text of a row of a table, by its labels where they were made.
+fn shown_text(
+    alloc: Global,
+    catalog: &Catalog,
+    labels: &ReplyLabels,
+    table: usize,
+    id: u64,
+    row: &Record,
+) -> Result<Vec<u8>, AllocError>
+    requires { table < length catalog.now.tables }
+    ensures { IfOk result (λ t. t.items ≡ reply_text catalog.now (shown table id row.now)) }
+{
+    let schema = catalog.table(table);
+    schema.keeps_rules();
+    let columns = schema.columns();
+    match labels.of_table(table, columns) {
+        Some(labels) => row_text_with(alloc, id, row, columns, labels),
+        None => row_text(alloc, id, row, columns),
+    }
+}
+
+/// The text of rows of a table, by its labels where they were made.
+fn page_text(
+    alloc: Global,
+    catalog: &Catalog,
+    labels: &ReplyLabels,
+    table: usize,
+    records: &[(u64, &Record)],
+    more: bool,
+) -> Result<Vec<u8>, AllocError>
+    requires { table < length catalog.now.tables }
+    ensures { IfOk result (λ t. t.items ≡ reply_text catalog.now (rows table (map (λ r. (r.0, r.1.now)) records.now) more)) }
+{
+    let schema = catalog.table(table);
+    schema.keeps_rules();
+    let columns = schema.columns();
+    match labels.of_table(table, columns) {
+        Some(labels) => rows_text_with(alloc, records, more, columns, labels),
+        None => rows_text(alloc, records, more, columns),
+    }
+}
+
 impl Reply<'_> {
     /// The text of a reply, without a newline. Its table, and the index of a conflict, are in the catalog. It is `Long`
     /// exactly where the reply shows rows; such a one answers `Memory` where a growth is refused, every other is `Short`
@@ -217,6 +260,36 @@ impl Reply<'_> {
                 Ok(modify_refusal_text(catalog, *table, *refusal))
             }
             Reply::Refused { table, refusal } => Ok(refusal_text(catalog, *table, *refusal)),
+        }
+    }
+
+    /// The text of `text`, with labels that were made of tables before. Those of the reply's table are used where they were made of its
+    /// columns; else the text is made as `text` makes it.
+    pub fn text_with(
+        &self,
+        alloc: Global,
+        catalog: &Catalog,
+        labels: &ReplyLabels,
+    ) -> Result<ReplyText, Refusal>
+        requires { IsSaidOf catalog.now (said self.now) }
+        ensures text { IfOk result (λ t. text_bytes t ≡ reply_text catalog.now (said self.now)) }
+        ensures short { is_short (said self.now) ≡ true → IsOk result }
+        ensures form { IfOk result (λ t. is_short_text t ≡ is_short (said self.now)) }
+        ensures memory { IfErr result (λ e. e ≡ Refusal.Memory) }
+    {
+        match self {
+            Reply::Shown { table, id, row } => Ok(ReplyText::Long(shown_text(
+                alloc, catalog, labels, *table, *id, row,
+            )?)),
+            Reply::Rows { table, rows, more } => Ok(ReplyText::Long(page_text(
+                alloc,
+                catalog,
+                labels,
+                *table,
+                rows.as_slice(),
+                *more,
+            )?)),
+            _ => self.text(alloc, catalog),
         }
     }
 }

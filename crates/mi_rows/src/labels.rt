@@ -1,6 +1,7 @@
 //! What is the same in each row of a reply: the members in the order of their names, each as a label, the bytes that stand before its
-//! value, and where the value stands. It takes no memory.
-ghost use Rattle.std.specs.Prelude.{◌≡◌, ◌≤◌, length, map, IfSome};
+//! value, and where the value stands. They are made without memory, and kept with a copy of the columns that they were made of.
+ghost use Rattle.std.specs.Prelude.{◌≡◌, ◌≤◌, length, map, IfOk, IfSome};
+ghost use Rattle.std.specs.Bool.{OnTrue};
 ghost use Rattle.arrayvec.specs.ArrayVec.{array_vec_len};
 ghost use Rattle.mi_value.specs.declared.limits.TheConstants.{MAX_COLUMNS};
 ghost use Rattle.mi_rows.specs.Labels as given;
@@ -11,6 +12,7 @@ use arrayvec::ArrayVec;
 use mi_catalog::Column;
 use mi_print::{is_plain, put_byte, put_text};
 use mi_value::limits::MAX_NAME;
+use std::alloc::{AllocError, Global};
 use std::marker::Model;
 
 /// A name of up to 32 bytes, its quotation marks, a colon, and bytes that don't count.
@@ -87,4 +89,94 @@ pub(crate) fn labels_of(columns: &[Column]) -> Option<Labels>
 {
     let order = row_order(columns);
     labels_in(order.as_slice())
+}
+
+/// The labels of the rows of given columns, made once for all replies that show such rows, with the columns that they were made of. It
+/// has none where a name is longer than a column's may be or needs an escape: those rows are written token by token.
+#[derive(Drop)]
+pub struct RowLabels {
+    columns: Vec<Column>,
+    members: Option<Labels>,
+}
+
+impl Model for RowLabels {
+    ghost use Rattle.std.specs.Prelude.{List};
+    ghost use Rattle.mi_catalog.specs.declared.index.Column.{Column as ColumnSpec};
+    ghost use Rattle.mi_rows.specs.Labels.{AreLabels};
+
+    ghost Value = { List ColumnSpec };
+
+    ghost view = { λ a. a.columns.items };
+
+    ghost invariant = { λ a. AreLabels a.columns.items a.members };
+}
+
+/// The same columns.
+fn copy_columns(alloc: Global, columns: &[Column]) -> Result<Vec<Column>, AllocError>
+    ensures { IfOk result (λ copied. copied.items ≡ columns.now) }
+{
+    let mut copied = Vec::with_capacity(alloc, columns.len())?;
+    'columns: for column in columns {
+        copied.push(Column {
+            name: column.name.copy(alloc)?,
+            kind: column.kind,
+        })?;
+    }
+    Ok(copied)
+}
+
+/// Whether two columns have the same name and type.
+#[inline(always)]
+fn is_same(column: &Column, other: &Column) -> bool
+    ensures { OnTrue result (column.now ≡ other.now) }
+{
+    column.kind == other.kind && column.name.as_str() == other.name.as_str()
+}
+
+/// Whether columns are the same in number, names and types.
+fn are_same(columns: &[Column], others: &[Column]) -> bool
+    ensures { OnTrue result (columns.now ≡ others.now) }
+{
+    if columns.len() != others.len() {
+        return false;
+    }
+    'columns: for (i, column) in columns.iter().enumerate() {
+        if !is_same(column, &others[i]) {
+            return false;
+        }
+    }
+    true
+}
+
+impl RowLabels {
+    ghost use Rattle.std.specs.Prelude.{◌≡◌, ◌≤◌, length, IfOk};
+    ghost use Rattle.std.specs.Bool.{OnTrue};
+    ghost use Rattle.mi_value.specs.declared.limits.TheConstants.{MAX_COLUMNS};
+    ghost use Rattle.mi_rows.specs.Labels.{AreLabels};
+
+    /// The labels of rows with these columns, at most 16. It takes memory for a copy of the columns alone.
+    pub fn of(alloc: Global, columns: &[Column]) -> Result<RowLabels, AllocError>
+        requires { length columns.now ≤ MAX_COLUMNS }
+        ensures { IfOk result (λ labels. labels ≡ columns.now) }
+    {
+        let members = labels_of(columns);
+        Ok(RowLabels {
+            columns: copy_columns(alloc, columns)?,
+            members,
+        })
+    }
+
+    /// Whether they are the labels of rows with these columns.
+    pub fn are_of(&self, columns: &[Column]) -> bool
+        ensures { OnTrue result (self.now ≡ columns.now) }
+    {
+        are_same(self.columns.as_slice(), columns)
+    }
+
+    /// The labels themselves.
+    pub(crate) fn members(&self) -> &Option<Labels>
+        ensures { AreLabels self.now result.now }
+    {
+        &self.members
+    }
 }

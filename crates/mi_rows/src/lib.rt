@@ -7,5 +7,6 @@ mod labels;
 mod rows;
 mod shown;
 
-pub use rows::rows_text;
+pub use labels::RowLabels;
+pub use rows::{row_text_with, rows_text, rows_text_with};
 pub use shown::row_text;

@@ -16,7 +16,7 @@ ghost use Rattle.mi_rows.specs.Shown.{source_data};
 ghost use Rattle.mi_rows.specs.Labels.{labelled_text, labels_room, source_room, text_room, AreLabels};
 
 use crate::cells::{Cells, lend_values};
-use crate::labels::{Label, Labels, labels_of};
+use crate::labels::{Label, Labels, RowLabels, labels_of};
 use crate::shown::{Source, row_by_tokens};
 use arrayvec::ArrayVec;
 use mi_catalog::Column;
@@ -211,20 +211,21 @@ fn add_rows(
     text: &mut Vec<u8>,
     rows: &[(u64, &Record)],
     columns: &[Column],
+    labels: &Option<Labels>,
 ) -> Result<usize, AllocError>
-    requires { length columns.now ≤ MAX_COLUMNS }
+    requires few { length columns.now ≤ MAX_COLUMNS }
+    requires labels { AreLabels columns.now labels.now }
     ensures text { IfOk result (λ end. take end text.new.items ++ 93 ∷ []
         ≡ text.old.items ++ items_text false (rows_items columns.now (map (λ r. (r.0, r.1.now)) rows.now))) }
     ensures within { IfOk result (λ end. end ≤ vec_len text.new) }
 {
-    let labels = labels_for(rows, columns);
     let mut cells = ArrayVec::new();
     let mut end = text.len();
     let mut later = false;
     'rows: for row in rows {
         let (id, row) = *row;
         end = add_row(
-            alloc, text, end, later, id, row, columns, &labels, &mut cells,
+            alloc, text, end, later, id, row, columns, labels, &mut cells,
         )?;
         later = true;
     }
@@ -242,6 +243,29 @@ fn rows_front(more: bool) -> &'static [u8]
     }
 }
 
+/// The text of the reply that shows several rows, by these labels.
+fn labelled_rows(
+    alloc: Global,
+    rows: &[(u64, &Record)],
+    more: bool,
+    columns: &[Column],
+    labels: &Option<Labels>,
+) -> Result<Vec<u8>, AllocError>
+    requires few { length columns.now ≤ MAX_COLUMNS }
+    requires labels { AreLabels columns.now labels.now }
+    ensures { IfOk result (λ t. t.items
+        ≡ compact_text (object (member (codes "more") (boolean more) (member (codes "ok") (boolean true)
+        (member (codes "rows") (array (rows_items columns.now (map (λ r. (r.0, r.1.now)) rows.now))) no_members))))) }
+{
+    let room = REPLY_ROOM + rows.len().min(MAX_PAGE) * ROW_ROOM;
+    let mut text = Vec::with_capacity(alloc, room)?;
+    text.extend_from_slice(rows_front(more))?;
+    let end = add_rows(alloc, &mut text, rows, columns, labels)?;
+    text.truncate(end);
+    text.extend_from_slice(b"]}")?;
+    Ok(text)
+}
+
 /// The text of the reply that shows several rows, and whether more follow, without a newline: `{"more":false,"ok":true,"rows":[..]}`. Of
 /// columns there are at most 16.
 pub fn rows_text(
@@ -255,11 +279,53 @@ pub fn rows_text(
         ≡ compact_text (object (member (codes "more") (boolean more) (member (codes "ok") (boolean true)
         (member (codes "rows") (array (rows_items columns.now (map (λ r. (r.0, r.1.now)) rows.now))) no_members))))) }
 {
-    let room = REPLY_ROOM + rows.len().min(MAX_PAGE) * ROW_ROOM;
-    let mut text = Vec::with_capacity(alloc, room)?;
-    text.extend_from_slice(rows_front(more))?;
-    let end = add_rows(alloc, &mut text, rows, columns)?;
+    let labels = labels_for(rows, columns);
+    labelled_rows(alloc, rows, more, columns, &labels)
+}
+
+/// The text of `rows_text`, with labels that were made of these columns before.
+pub fn rows_text_with(
+    alloc: Global,
+    rows: &[(u64, &Record)],
+    more: bool,
+    columns: &[Column],
+    labels: &RowLabels,
+) -> Result<Vec<u8>, AllocError>
+    requires few { length columns.now ≤ MAX_COLUMNS }
+    requires labels { labels.now ≡ columns.now }
+    ensures { IfOk result (λ t. t.items
+        ≡ compact_text (object (member (codes "more") (boolean more) (member (codes "ok") (boolean true)
+        (member (codes "rows") (array (rows_items columns.now (map (λ r. (r.0, r.1.now)) rows.now))) no_members))))) }
+{
+    if are_whole(rows, columns) {
+        labelled_rows(alloc, rows, more, columns, labels.members())
+    } else {
+        labelled_rows(alloc, rows, more, columns, &None)
+    }
+}
+
+/// The text of `row_text`, with labels that were made of these columns before.
+pub fn row_text_with(
+    alloc: Global,
+    id: u64,
+    row: &Record,
+    columns: &[Column],
+    labels: &RowLabels,
+) -> Result<Vec<u8>, AllocError>
+    requires few { length columns.now ≤ MAX_COLUMNS }
+    requires labels { labels.now ≡ columns.now }
+    ensures { IfOk result (λ t. t.items
+        ≡ compact_text (object (member (codes "ok") (boolean true) (member (codes "row") (row_data columns.now id row.now) no_members)))) }
+{
+    let mut cells = ArrayVec::new();
+    let mut text = Vec::with_capacity(alloc, REPLY_ROOM)?;
+    text.extend_from_slice(b"{\"ok\":true,\"row\":")?;
+    let len = text.len();
+    let labels = labels.members();
+    let end = add_row(
+        alloc, &mut text, len, false, id, row, columns, labels, &mut cells,
+    )?;
     text.truncate(end);
-    text.extend_from_slice(b"]}")?;
+    text.push(b'}')?;
     Ok(text)
 }

@@ -3,7 +3,7 @@ ghost use Rattle.std.specs.Prelude.{IsTrue};
 ghost use Rattle.mi_protocol.specs.Replies.{said, IsSaidOf, IsRefusalOf};
 
 use mi_catalog::{Catalog, built_in};
-use mi_protocol::Reply;
+use mi_protocol::{Reply, ReplyLabels};
 use mi_value::{Record, Refusal, ValueRef};
 use std::alloc::{AllocError, Global};
 use std::process::Abort;
@@ -50,9 +50,14 @@ fn is_said(catalog: &Catalog, given: &Reply<'_>) -> bool
     }
 }
 
+/// A reply's text is this one, made alone and with labels.
 fn assert_text(rt: &impl Abort, alloc: Global, catalog: &Catalog, given: &Reply<'_>, want: &str) {
     assert!(rt; is_said(catalog, given), "{want}");
     let text = given.text(alloc, catalog).expect(rt, "memory is there");
+    assert_eq!(rt; text.as_slice(), want.as_bytes(), "{want}");
+    let labels = ReplyLabels::of(alloc, catalog);
+    let text = given.text_with(alloc, catalog, &labels);
+    let text = text.expect(rt, "memory is there");
     assert_eq!(rt; text.as_slice(), want.as_bytes(), "{want}");
 }
 

@@ -6,7 +6,7 @@ use Rattle.std.specs.Prelude.{false}
 use Rattle.mi_rows.specs.Rows.{rows_items}
 use Rattle.mi_rows.specs.Shown.{rows_front}
 use Rattle.mi_rows.proofs.ShownLemmas.{items_closed, rows_reply}
-use Rattle.mi_rows.proofs.rows.rows_text.Goals as goal
+use Rattle.mi_rows.proofs.rows.labelled_rows.Goals as goal
 
 pub returns : goal.returns
 returns c =

@@ -1,0 +1,65 @@
+//! The labels of the rows of a catalog's tables, made once and kept beside the catalog. It shows no row.
+ghost use Rattle.std.specs.Prelude.{◌≡◌, map, IfOk};
+
+use mi_catalog::{Catalog, Column};
+use mi_rows::RowLabels;
+use std::alloc::{AllocError, Global};
+use std::marker::Model;
+
+/// The labels of the rows of tables, by their numbers. Each table's keep the columns that they were made of, and are used for rows of
+/// these columns alone, whichever catalog a reply is over.
+#[derive(Drop)]
+pub struct ReplyLabels {
+    tables: Vec<RowLabels>,
+}
+
+impl Model for ReplyLabels {
+    ghost use Rattle.std.specs.Prelude.{List};
+    ghost use Rattle.mi_catalog.specs.declared.index.Column.{Column as ColumnSpec};
+
+    ghost Value = { List (List ColumnSpec) };
+
+    ghost view = { λ a. a.tables.items };
+}
+
+/// The labels of a catalog's tables.
+fn labels_of(alloc: Global, catalog: &Catalog) -> Result<Vec<RowLabels>, AllocError>
+    ensures { IfOk result (λ labels. labels.items ≡ map (λ s. s.columns) catalog.now.tables) }
+{
+    let count = catalog.table_count();
+    let mut labels = Vec::with_capacity(alloc, count)?;
+    'tables: for table in 0..count {
+        let schema = catalog.table(table);
+        schema.keeps_rules();
+        labels.push(RowLabels::of(alloc, schema.columns())?)?;
+    }
+    Ok(labels)
+}
+
+impl ReplyLabels {
+    ghost use Rattle.std.specs.Prelude.{◌≡◌, ◌⊎◌, [], map, IfSome};
+
+    /// The labels of a catalog's tables; of none where memory for them is refused.
+    pub fn of(alloc: Global, catalog: &Catalog) -> ReplyLabels
+        ensures { (result ≡ map (λ s. s.columns) catalog.now.tables) ⊎ (result ≡ []) }
+    {
+        match labels_of(alloc, catalog) {
+            Ok(tables) => ReplyLabels { tables },
+            Err(_refused) => ReplyLabels {
+                tables: Vec::new(alloc),
+            },
+        }
+    }
+
+    /// The labels of a table's rows, if they were made of these columns.
+    pub(crate) fn of_table(&self, table: usize, columns: &[Column]) -> Option<&RowLabels>
+        ensures { IfSome result (λ labels. labels.now ≡ columns.now) }
+    {
+        let labels = self.tables.get(table)?;
+        if labels.are_of(columns) {
+            Some(labels)
+        } else {
+            None
+        }
+    }
+}
