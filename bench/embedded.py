@@ -91,9 +91,7 @@ def options_of():
 
 def main():
     options = options_of()
-    made = os.path.abspath(options.library) if options.library else library.path()
-    if not made:
-        sys.exit("embedded.py: no library is built; `make lib` makes it")
+    made = library.needed(options.library)
     unit = "instructions" if options.instructions else "nanoseconds"
     print(f"{unit} a call, {options.calls} calls\n\n| Rows | Loop | " + " | ".join(SYSTEMS) + " | ours through Boost's |\n|---|---|" + "---|" * (len(SYSTEMS) + 1))
     found = []

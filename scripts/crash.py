@@ -18,7 +18,6 @@ sent, or is the undo of a holder that went away; each reply is the reference's; 
 
 --short takes some seconds: fewer rounds, and some of the bytes. Where something differs, the status is 1, and the journal is left below
 out/crash."""
-import argparse
 import os
 import random
 import shutil
@@ -30,6 +29,7 @@ import sys
 import tempfile
 import time
 
+import parts
 import program
 import service
 from callers import TABLES
@@ -333,26 +333,10 @@ PARTS = {"rounds": rounds, "power": power, "torn": torn, "deep": deep, "full": f
 
 
 def main(given=None):
-    parser = argparse.ArgumentParser(description=__doc__, formatter_class=argparse.RawDescriptionHelpFormatter)
-    parser.add_argument("--part", choices=list(PARTS))
+    parser = parts.parser_of(__doc__, PARTS)
     parser.add_argument("--rounds", type=int)
-    parser.add_argument("--short", action="store_true")
-    parser.add_argument("--seed", type=int, default=1)
-    parser.add_argument("--program", metavar="FILE")
     parser.add_argument("--server", metavar="FILE")
-    options = parser.parse_args(given)
-    path = service.needed(options.program)
-    home = f"{program.TOP}/out/crash"
-    os.makedirs(home, exist_ok=True)
-    for name in [options.part] if options.part else PARTS:
-        folder = tempfile.mkdtemp(dir=home, prefix=f"{name}-")
-        try:
-            print(f"{name}: {PARTS[name](path, options, folder)}", flush=True)
-        except (Differs, Ended) as why:
-            print(f"crash: {name}, seed {options.seed}: {why}\nthe journal is below {os.path.relpath(folder)}", flush=True)
-            return 1
-        shutil.rmtree(folder)
-    return 0
+    return parts.run("crash", PARTS, parser.parse_args(given), (Differs, Ended))
 
 
 if __name__ == "__main__":

@@ -13,18 +13,14 @@ Without --part all run, one behind another.
     place    64 silent clients are attached; the 65th and others wait, and are served as places become free
 
 Where nobody asks, the server takes no processor time, in the last two."""
-import argparse
 import contextlib
-import os
 import random
-import shutil
 import socket
 import statistics
 import sys
-import tempfile
 import time
 
-import program
+import parts
 import service
 from callers import Caller, Deaf, Load, Silent, Slow
 from kept import Kept
@@ -224,25 +220,9 @@ PARTS = {"comers": comers, "deaf": deaf, "place": place}
 
 
 def main(given=None):
-    parser = argparse.ArgumentParser(description=__doc__, formatter_class=argparse.RawDescriptionHelpFormatter)
-    parser.add_argument("--part", choices=list(PARTS))
+    parser = parts.parser_of(__doc__, PARTS)
     parser.add_argument("--connections", type=int)
-    parser.add_argument("--short", action="store_true")
-    parser.add_argument("--seed", type=int, default=1)
-    parser.add_argument("--program", metavar="FILE")
-    options = parser.parse_args(given)
-    path = service.needed(options.program)
-    home = f"{program.TOP}/out/crowd"
-    os.makedirs(home, exist_ok=True)
-    for name in [options.part] if options.part else PARTS:
-        folder = tempfile.mkdtemp(dir=home, prefix=f"{name}-")
-        try:
-            print(f"{name}: {PARTS[name](path, options, folder)}", flush=True)
-        except (Differs, Ended, OSError) as why:
-            print(f"crowd: {name}, seed {options.seed}: {why}\nwhat it left is below {os.path.relpath(folder)}", flush=True)
-            return 1
-        shutil.rmtree(folder)
-    return 0
+    return parts.run("crowd", PARTS, parser.parse_args(given), (Differs, Ended, OSError))
 
 
 if __name__ == "__main__":

@@ -55,6 +55,14 @@ def path():
     return MADE if is_fresh() else None
 
 
+def needed(folder=None):
+    """This folder, or that of the library where it is up to date. Ends, with what is needed, where there is neither."""
+    found = os.path.abspath(folder) if folder else path()
+    if not found:
+        sys.exit("no library is built; `make lib` makes it")
+    return found
+
+
 def config(include, lib):
     """What pkg-config is told: the folders of the headers and of the library."""
     return (

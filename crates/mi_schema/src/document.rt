@@ -1,8 +1,8 @@
 //! From a TOML document to a draft: which members each level has, and of which kind each is. It knows no other rule.
-ghost use Rattle.std.specs.Prelude.{◌≡◌, [], None, false, bytes_eq, codes, map, option_map, string_bytes};
+ghost use Rattle.std.specs.Prelude.{◌≡◌, [], Option, None, false, bytes_eq, codes, map, option_map, string_bytes};
 ghost use Rattle.std.specs.List.{list_any, list_all};
 ghost use Rattle.std.specs.BTreeMap.{keys};
-ghost use Rattle.toml.specs.Data.{get_member, as_str, as_array, as_table, as_integer, as_bool};
+ghost use Rattle.toml.specs.Data.{Data, get_member, as_str, as_array, as_table, as_integer, as_bool};
 ghost use Rattle.toml.specs.View.{view, table_view, array_view, items_view};
 ghost use Rattle.mi_schema.specs.Members.{IsReadAs, has_no_other, required, or_default, each, array_of, key_draft, column_draft, index_draft};
 ghost use Rattle.mi_schema.specs.Members.{table_draft, one_table, named_table, several_tables, schema_draft, first_format, catalog_draft};
@@ -70,12 +70,34 @@ fn member<'a>(members: &'a Table, name: &str) -> Option<&'a Value>
     members.get(name)
 }
 
-fn text(alloc: Global, value: &Value) -> Result<Text, Misread>
-    ensures { IsReadAs (λ t. t) result (as_str (view value.now)) }
+/// What each value of an array is read as.
+trait Item: Drop {
+    ghost kind: { Data → Option Self };
+
+    /// What a value is read as.
+    fn read(alloc: Global, value: &Value) -> Result<Self, Misread>
+        ensures { IsReadAs (λ x. x) result (kind (view value.now)) };
+}
+
+/// What the values of an array are read as.
+fn items<T: Item>(alloc: Global, values: &[Value]) -> Result<Vec<T>, Misread>
+    ensures { IsReadAs (λ xs. xs.items) result (each T.kind (items_view values.now)) }
 {
-    match value.as_str() {
-        Some(text) => Ok(Text::of(alloc, text)?),
-        None => Err(Misread::Shape),
+    let mut items = Vec::new(alloc);
+    for value in values {
+        items.push(T::read(alloc, value)?)?;
+    }
+    Ok(items)
+}
+
+impl Item for Text {
+    ghost kind = { as_str };
+
+    fn read(alloc: Global, value: &Value) -> Result<Text, Misread> {
+        match value.as_str() {
+            Some(text) => Ok(Text::of(alloc, text)?),
+            None => Err(Misread::Shape),
+        }
     }
 }
 
@@ -90,7 +112,7 @@ fn required_text(alloc: Global, members: &Table, name: &str) -> Result<Text, Mis
     ensures { IsReadAs (λ t. t) result (required as_str name.now (table_view members.now)) }
 {
     match member(members, name) {
-        Some(value) => text(alloc, value),
+        Some(value) => Text::read(alloc, value),
         None => Err(Misread::Shape),
     }
 }
@@ -121,77 +143,51 @@ fn array(value: &Value) -> Result<&Vec<Value>, Misread>
     value.as_array().ok_or(Misread::Shape)
 }
 
-fn texts(alloc: Global, values: &[Value]) -> Result<Vec<Text>, Misread>
-    ensures { IsReadAs (λ ts. ts.items) result (each as_str (items_view values.now)) }
-{
-    let mut texts = Vec::new(alloc);
-    for value in values {
-        texts.push(text(alloc, value)?)?;
-    }
-    Ok(texts)
-}
-
 /// The key of an index, if it has one.
 fn key(alloc: Global, members: &Table) -> Result<Option<Texts>, Misread>
     ensures { IsReadAs (λ k. k) result (or_default None key_draft (codes "key") (table_view members.now)) }
 {
     match member(members, "key") {
-        Some(value) => Ok(Some(Texts::new(texts(alloc, array(value)?)?))),
+        Some(value) => Ok(Some(Texts::new(items(alloc, array(value)?)?))),
         None => Ok(None),
     }
 }
 
-#[tactic(auto, unfolding(crate::specs::Members::column_draft))]
-fn column(alloc: Global, value: &Value) -> Result<DraftColumn, Misread>
-    ensures { IsReadAs (λ c. c) result (column_draft (view value.now)) }
-{
-    let members = table(value)?;
-    if !has_no_other(&["name", "type"], members) {
-        return Err(Misread::Shape);
+impl Item for DraftColumn {
+    ghost kind = { column_draft };
+
+    #[tactic(auto, unfolding(crate::specs::Members::column_draft))]
+    fn read(alloc: Global, value: &Value) -> Result<DraftColumn, Misread> {
+        let members = table(value)?;
+        if !has_no_other(&["name", "type"], members) {
+            return Err(Misread::Shape);
+        }
+        let name = required_text(alloc, members, "name")?;
+        let kind = required_text(alloc, members, "type")?;
+        Ok(DraftColumn { name, kind })
     }
-    let name = required_text(alloc, members, "name")?;
-    let kind = required_text(alloc, members, "type")?;
-    Ok(DraftColumn { name, kind })
 }
 
-fn columns(alloc: Global, values: &[Value]) -> Result<Vec<DraftColumn>, Misread>
-    ensures { IsReadAs (λ cs. cs.items) result (each column_draft (items_view values.now)) }
-{
-    let mut columns = Vec::new(alloc);
-    for value in values {
-        columns.push(column(alloc, value)?)?;
-    }
-    Ok(columns)
-}
+impl Item for DraftIndex {
+    ghost kind = { index_draft };
 
-#[tactic(auto, unfolding(crate::specs::Members::index_draft))]
-fn index(alloc: Global, value: &Value) -> Result<DraftIndex, Misread>
-    ensures { IsReadAs (λ i. i) result (index_draft (view value.now)) }
-{
-    let members = table(value)?;
-    if !has_no_other(&["name", "kind", "unique", "key"], members) {
-        return Err(Misread::Shape);
+    #[tactic(auto, unfolding(crate::specs::Members::index_draft))]
+    fn read(alloc: Global, value: &Value) -> Result<DraftIndex, Misread> {
+        let members = table(value)?;
+        if !has_no_other(&["name", "kind", "unique", "key"], members) {
+            return Err(Misread::Shape);
+        }
+        let name = required_text(alloc, members, "name")?;
+        let kind = required_text(alloc, members, "kind")?;
+        let unique = optional_flag(members, "unique")?;
+        let key = key(alloc, members)?;
+        Ok(DraftIndex {
+            name,
+            kind,
+            unique,
+            key,
+        })
     }
-    let name = required_text(alloc, members, "name")?;
-    let kind = required_text(alloc, members, "kind")?;
-    let unique = optional_flag(members, "unique")?;
-    let key = key(alloc, members)?;
-    Ok(DraftIndex {
-        name,
-        kind,
-        unique,
-        key,
-    })
-}
-
-fn indexes(alloc: Global, values: &[Value]) -> Result<Vec<DraftIndex>, Misread>
-    ensures { IsReadAs (λ is. is.items) result (each index_draft (items_view values.now)) }
-{
-    let mut indexes = Vec::new(alloc);
-    for value in values {
-        indexes.push(index(alloc, value)?)?;
-    }
-    Ok(indexes)
 }
 
 /// The columns, which have to be there.
@@ -199,7 +195,7 @@ fn required_columns(alloc: Global, members: &Table) -> Result<Vec<DraftColumn>, 
     ensures { IsReadAs (λ cs. cs.items) result (required (array_of column_draft) (codes "column") (table_view members.now)) }
 {
     match member(members, "column") {
-        Some(value) => columns(alloc, array(value)?),
+        Some(value) => items(alloc, array(value)?),
         None => Err(Misread::Shape),
     }
 }
@@ -209,7 +205,7 @@ fn optional_indexes(alloc: Global, members: &Table) -> Result<Vec<DraftIndex>, M
     ensures { IsReadAs (λ is. is.items) result (or_default [] (array_of index_draft) (codes "index") (table_view members.now)) }
 {
     match member(members, "index") {
-        Some(value) => indexes(alloc, array(value)?),
+        Some(value) => items(alloc, array(value)?),
         None => Ok(Vec::new(alloc)),
     }
 }
@@ -250,44 +246,36 @@ fn one_table(alloc: Global, members: &Table) -> Result<Draft, Misread>
     })
 }
 
-/// A table among several.
-#[tactic(auto, unfolding(crate::specs::Members::named_table))]
-fn named_table(alloc: Global, value: &Value) -> Result<DraftTable, Misread>
-    ensures { IsReadAs (λ t. t) result (named_table (view value.now)) }
-{
-    let members = table(value)?;
-    if !has_no_other(
-        &[
-            "name",
-            "column",
-            "index",
-            "first_id",
-            "first_arrival",
-            "max_rows",
-        ],
-        members,
-    ) {
-        return Err(Misread::Shape);
-    }
-    let name = required_text(alloc, members, "name")?;
-    table_named(alloc, name, members)
-}
+/// One of several tables.
+impl Item for DraftTable {
+    ghost kind = { named_table };
 
-fn tables(alloc: Global, values: &[Value]) -> Result<Vec<DraftTable>, Misread>
-    ensures { IsReadAs (λ ts. ts.items) result (each named_table (items_view values.now)) }
-{
-    let mut tables = Vec::new(alloc);
-    for value in values {
-        tables.push(named_table(alloc, value)?)?;
+    #[tactic(auto, unfolding(crate::specs::Members::named_table))]
+    fn read(alloc: Global, value: &Value) -> Result<DraftTable, Misread> {
+        let members = table(value)?;
+        if !has_no_other(
+            &[
+                "name",
+                "column",
+                "index",
+                "first_id",
+                "first_arrival",
+                "max_rows",
+            ],
+            members,
+        ) {
+            return Err(Misread::Shape);
+        }
+        let name = required_text(alloc, members, "name")?;
+        table_named(alloc, name, members)
     }
-    Ok(tables)
 }
 
 fn required_tables(alloc: Global, members: &Table) -> Result<Vec<DraftTable>, Misread>
     ensures { IsReadAs (λ ts. ts.items) result (required (array_of named_table) (codes "table") (table_view members.now)) }
 {
     match member(members, "table") {
-        Some(value) => tables(alloc, array(value)?),
+        Some(value) => items(alloc, array(value)?),
         None => Err(Misread::Shape),
     }
 }

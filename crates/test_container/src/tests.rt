@@ -5,7 +5,6 @@ mod change;
 mod container;
 mod fitting;
 mod journaled;
-mod random;
 mod reference;
 mod undoable;
 mod views;

@@ -3,12 +3,12 @@ ghost use Rattle.test_container.specs.Undone.{CanTakeBack};
 
 use super::change::{Answer, Change, TABLE};
 use super::container::BY_ID;
-use super::random::Random;
 use super::reference::Reference;
 use super::undoable::Undoable;
 use super::views::compare;
 use mi_container::Container;
 use mi_multi::MultiIndex;
+use mi_random::Random;
 use mi_schema::{Schema, read_schema};
 use mi_value::Refusal;
 use std::alloc::Global;

@@ -1,5 +1,5 @@
 //! Random changes of a table with every kind of index, of keys from few values.
-use super::random::Random;
+use mi_random::Random;
 use mi_value::{Edit, Record, Refusal, Text, Value};
 use std::alloc::{AllocError, Global};
 

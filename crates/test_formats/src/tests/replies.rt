@@ -13,6 +13,15 @@ const UNIQUE: Refusal = Refusal::Unique { index: 1, id: 0 };
 
 const LOST: Refusal = Refusal::Lost { index: 1, id: 0 };
 
+const UNIQUE_TEXT: &str = "{\"error\":\"unique\",\"id\":0,\"index\":\"by_owner\",\"ok\":false}";
+
+/// Of a modify that left the record as it was.
+const KEPT_TEXT: &str =
+    "{\"error\":\"unique\",\"id\":0,\"index\":\"by_owner\",\"lost\":false,\"ok\":false}";
+
+const LOST_TEXT: &str =
+    "{\"error\":\"unique\",\"id\":0,\"index\":\"by_owner\",\"lost\":true,\"ok\":false}";
+
 fn catalog_of_accounts(alloc: Global) -> Result<Catalog, AllocError> {
     Catalog::of(alloc, built_in(alloc)?)
 }
@@ -112,27 +121,15 @@ fn refusals_have_their_texts(rt: HostRuntime) -> Result<(), Fail> {
     for (refusal, want) in [
         (Refusal::NoId, "{\"error\":\"id\",\"ok\":false}"),
         (Refusal::Memory, "{\"error\":\"memory\",\"ok\":false}"),
-        (
-            UNIQUE,
-            "{\"error\":\"unique\",\"id\":0,\"index\":\"by_owner\",\"ok\":false}",
-        ),
-        (
-            LOST,
-            "{\"error\":\"unique\",\"id\":0,\"index\":\"by_owner\",\"lost\":true,\"ok\":false}",
-        ),
+        (UNIQUE, UNIQUE_TEXT),
+        (LOST, LOST_TEXT),
     ] {
         assert_refused(&rt, alloc, &catalog, refusal, want);
     }
     for (refusal, want) in [
         (Refusal::Range, "{\"error\":\"range\",\"ok\":false}"),
-        (
-            UNIQUE,
-            "{\"error\":\"unique\",\"id\":0,\"index\":\"by_owner\",\"lost\":false,\"ok\":false}",
-        ),
-        (
-            LOST,
-            "{\"error\":\"unique\",\"id\":0,\"index\":\"by_owner\",\"lost\":true,\"ok\":false}",
-        ),
+        (UNIQUE, KEPT_TEXT),
+        (LOST, LOST_TEXT),
     ] {
         assert_refused_modify(&rt, alloc, &catalog, refusal, want);
     }

@@ -22,6 +22,30 @@ impl Read for Pieces<'_> {
     }
 }
 
+/// The pieces that a client sends, one a read; a read behind them is at its end, or with `sound` false fails.
+#[derive(Drop)]
+pub(super) struct Sent {
+    pub(super) pieces: &'static [&'static [u8]],
+    pub(super) sound: bool,
+}
+
+impl Read for Sent {
+    fn read(&mut self, buf: &mut [u8]) -> Result<usize> {
+        let [piece, later @ ..] = self.pieces else {
+            return if self.sound {
+                Ok(0)
+            } else {
+                Err(Error::from(ErrorKind::Other))
+            };
+        };
+        let count = piece.len().min(buf.len());
+        let (front, _) = piece.split_at(count);
+        buf[..count].copy_from_slice(front);
+        self.pieces = later;
+        Ok(count)
+    }
+}
+
 /// What a writer does once its room is used up.
 #[derive(Clone, Copy)]
 pub(super) enum AtEnd {

@@ -1,6 +1,6 @@
 //! A host whose port is the test's own: the address that is listened on is noted, and clients come by script. Its files, its memory and its
 //! random bytes are those of the host below; how often it is asked for its allocator is counted.
-use super::devices::Pieces;
+use super::devices::{Pieces, Sent};
 use mi_program::run;
 use std::alloc::{Allocator, Global};
 use std::cell::Cell;
@@ -56,23 +56,12 @@ impl Visit {
 #[derive(Drop)]
 struct Caller<'a> {
     visit: &'a Visit,
-    left: &'static [&'static [u8]],
+    sent: Sent,
 }
 
 impl Read for Caller<'_> {
     fn read(&mut self, buf: &mut [u8]) -> io::Result<usize> {
-        let [piece, later @ ..] = self.left else {
-            return if self.visit.sound {
-                Ok(0)
-            } else {
-                Err(Error::from(ErrorKind::Other))
-            };
-        };
-        let count = piece.len().min(buf.len());
-        let (front, _) = piece.split_at(count);
-        buf[..count].copy_from_slice(front);
-        self.left = later;
-        Ok(count)
+        self.sent.read(buf)
     }
 }
 
@@ -113,7 +102,10 @@ impl<'a> OpenListener for Door<'a> {
         self.accepted.set(at.saturating_add(1));
         let caller = Caller {
             visit,
-            left: visit.pieces,
+            sent: Sent {
+                pieces: visit.pieces,
+                sound: visit.sound,
+            },
         };
         Ok((caller, SocketAddr::from((Ipv4Addr::LOCALHOST, 1))))
     }

@@ -1,6 +1,7 @@
 //! Connections over the loopback interface, and over streams that fail in the middle.
 ghost use Rattle.std.specs.Prelude.{◌≡◌, []};
 
+use super::devices::Sent;
 use super::serving::{Opens, Served, assert_attach, assert_idle, opened, serve_all};
 use mi_hub::{Hub, ServeFault};
 use mi_plain::Plain;
@@ -189,25 +190,13 @@ fn check_accept(rt: &impl Abort, host: &HostRuntime, hub: &mut Hub<Plain>) -> Re
 /// A stream over memory: it gives one piece a read, and then is at its end or fails; where it is dumb each write fails.
 #[derive(Drop)]
 struct Script {
-    pieces: &'static [&'static [u8]],
-    sound: bool,
+    sent: Sent,
     dumb: bool,
 }
 
 impl Read for Script {
     fn read(&mut self, buf: &mut [u8]) -> io::Result<usize> {
-        let [piece, later @ ..] = self.pieces else {
-            return if self.sound {
-                Ok(0)
-            } else {
-                Err(Error::from(ErrorKind::Other))
-            };
-        };
-        let count = piece.len().min(buf.len());
-        let (front, _) = piece.split_at(count);
-        buf[..count].copy_from_slice(front);
-        self.pieces = later;
-        Ok(count)
+        self.sent.read(buf)
     }
 }
 
@@ -227,6 +216,12 @@ impl Write for Script {
 /// It knows no call of a socket, so it answers each with an error.
 impl OpenStream for Script {}
 
+/// What the second connection sends.
+const SECOND: &[&[u8]] = &[
+    b"{\"cmd\":\"insert\",",
+    b"\"row\":{\"owner\":\"b\",\"balance\":2,\"vip\":true}}\n",
+];
+
 /// The first connection, in these pieces, breaks off at its end or at its first reply; the second inserts the owner b.
 #[derive(Drop)]
 struct Breaking {
@@ -241,17 +236,18 @@ impl OpenListener for Breaking {
     fn accept(&self) -> io::Result<(Script, SocketAddr)> {
         let stream = if self.accepted.replace(true) {
             Script {
-                pieces: &[
-                    b"{\"cmd\":\"insert\",",
-                    b"\"row\":{\"owner\":\"b\",\"balance\":2,\"vip\":true}}\n",
-                ],
-                sound: true,
+                sent: Sent {
+                    pieces: SECOND,
+                    sound: true,
+                },
                 dumb: false,
             }
         } else {
             Script {
-                pieces: self.pieces,
-                sound: self.sound,
+                sent: Sent {
+                    pieces: self.pieces,
+                    sound: self.sound,
+                },
                 dumb: self.sound,
             }
         };

@@ -27,48 +27,20 @@ column = [{name = "a", type = "int"}]
 "#;
 
 const TWO: &str = r#"format = 2
-[[table]]
-name = "a"
-column = [{name = "k", type = "int"}]
-index = [{name = "u", kind = "ordered", unique = true, key = ["k"]}]
-[[table]]
-name = "b"
-first_id = 10
-max_rows = 1
-column = [{name = "t", type = "text"}]
+table = [
+    {name = "a", column = [{name = "k", type = "int"}], index = [{name = "u", kind = "ordered", unique = true, key = ["k"]}]},
+    {name = "b", first_id = 10, max_rows = 1, column = [{name = "t", type = "text"}]},
+]
 "#;
 
 /// The table that is served without a schema, as a file.
 const ACCOUNTS: &str = r#"table = "accounts"
-[[column]]
-name = "owner"
-type = "text"
-[[column]]
-name = "balance"
-type = "int"
-[[column]]
-name = "vip"
-type = "flag"
-[[index]]
-name = "by_owner"
-kind = "hashed"
-unique = true
-key = ["owner"]
-[[index]]
-name = "by_balance"
-kind = "ranked"
-key = ["balance"]
-[[index]]
-name = "by_vip"
-kind = "hashed"
-key = ["vip"]
-[[index]]
-name = "by_class"
-kind = "ordered"
-key = ["-vip", "balance"]
-[[index]]
-name = "line"
-kind = "sequenced"
+column = [{name = "owner", type = "text"}, {name = "balance", type = "int"}, {name = "vip", type = "flag"}]
+index = [
+    {name = "by_owner", kind = "hashed", unique = true, key = ["owner"]}, {name = "by_balance", kind = "ranked", key = ["balance"]},
+    {name = "by_vip", kind = "hashed", key = ["vip"]}, {name = "by_class", kind = "ordered", key = ["-vip", "balance"]},
+    {name = "line", kind = "sequenced"},
+]
 "#;
 
 /// What `--check` makes of a file.

@@ -19,57 +19,17 @@ enum Call {
     Cut,
 }
 
-/// As many connections as can be, and one more: calls of so many connections, and what each is answered.
-struct Limit {
-    call: Call,
-    first: u64,
-    last: u64,
-    want: Result<(), HubFault>,
-}
+/// As many connections as can be, and one more: a call, the first and the last connection that it is made of, and what each is answered.
+struct Limit(Call, u64, u64, Result<(), HubFault>);
 
 const LIMITS: [Limit; 7] = [
-    Limit {
-        call: Call::Attach,
-        first: 1,
-        last: 1,
-        want: Ok(()),
-    },
-    Limit {
-        call: Call::Attach,
-        first: 1,
-        last: 1,
-        want: Err(HubFault::AlreadyAttached),
-    },
-    Limit {
-        call: Call::Attach,
-        first: 2,
-        last: 64,
-        want: Ok(()),
-    },
-    Limit {
-        call: Call::Attach,
-        first: 65,
-        last: 65,
-        want: Err(HubFault::TooMany),
-    },
-    Limit {
-        call: Call::Cut,
-        first: 64,
-        last: 64,
-        want: Ok(()),
-    },
-    Limit {
-        call: Call::Attach,
-        first: 65,
-        last: 65,
-        want: Ok(()),
-    },
-    Limit {
-        call: Call::Cut,
-        first: 64,
-        last: 64,
-        want: Err(HubFault::NotAttached),
-    },
+    Limit(Call::Attach, 1, 1, Ok(())),
+    Limit(Call::Attach, 1, 1, Err(HubFault::AlreadyAttached)),
+    Limit(Call::Attach, 2, 64, Ok(())),
+    Limit(Call::Attach, 65, 65, Err(HubFault::TooMany)),
+    Limit(Call::Cut, 64, 64, Ok(())),
+    Limit(Call::Attach, 65, 65, Ok(())),
+    Limit(Call::Cut, 64, 64, Err(HubFault::NotAttached)),
 ];
 
 impl Call {
@@ -116,9 +76,9 @@ fn check_piece<D: Opens>(rt: &impl Abort, hub: &mut Hub<D>, writer: &mut Watched
 
 /// A hub takes 64 connections, and another once one of them is cut.
 fn check_limits<D: Opens>(rt: &impl Abort, hub: &mut Hub<D>) {
-    for limit in &LIMITS {
-        for conn in limit.first..=limit.last {
-            assert_eq!(rt; limit.call.of(hub, conn), limit.want, "{conn}");
+    for Limit(call, first, last, want) in &LIMITS {
+        for conn in *first..=*last {
+            assert_eq!(rt; call.of(hub, conn), *want, "{conn}");
         }
     }
 }

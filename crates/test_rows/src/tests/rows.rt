@@ -12,43 +12,14 @@ pub(super) const ROWS: [&str; 3] = [changes::CHANGES, look_ups::LOOK_UPS, sessio
 
 /// The tables of rows that name no others.
 pub(super) const ACCOUNTS: &str = "table = \"accounts\"
-
-[[column]]
-name = \"owner\"
-type = \"text\"
-
-[[column]]
-name = \"balance\"
-type = \"int\"
-
-[[column]]
-name = \"vip\"
-type = \"flag\"
-
-[[index]]
-name = \"by_owner\"
-kind = \"hashed\"
-unique = true
-key = [\"owner\"]
-
-[[index]]
-name = \"by_balance\"
-kind = \"ranked\"
-key = [\"balance\"]
-
-[[index]]
-name = \"by_vip\"
-kind = \"hashed\"
-key = [\"vip\"]
-
-[[index]]
-name = \"by_class\"
-kind = \"ordered\"
-key = [\"-vip\", \"balance\"]
-
-[[index]]
-name = \"line\"
-kind = \"sequenced\"
+column = [{name = \"owner\", type = \"text\"}, {name = \"balance\", type = \"int\"}, {name = \"vip\", type = \"flag\"}]
+index = [
+    {name = \"by_owner\", kind = \"hashed\", unique = true, key = [\"owner\"]},
+    {name = \"by_balance\", kind = \"ranked\", key = [\"balance\"]},
+    {name = \"by_vip\", kind = \"hashed\", key = [\"vip\"]},
+    {name = \"by_class\", kind = \"ordered\", key = [\"-vip\", \"balance\"]},
+    {name = \"line\", kind = \"sequenced\"},
+]
 ";
 
 /// Two tables; the second holds one row, and a line may stand behind.
