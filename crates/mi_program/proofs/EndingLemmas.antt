@@ -1,12 +1,15 @@
 -- What the program has done when it ends, and what was written to the third stream part by part.
 use Rattle.std.proofs.Common.{◌≡◌, ℕ, List, ◌++◌, Bool, true, false, Option, None, Result, Ok, Err, inl, inr, refl, sym, subst}
-use Rattle.std.specs.Prelude.{⊤}
+use Rattle.std.specs.Prelude.{⊤, []}
+use Rattle.clap.specs.Faults.{fault_of}
+use Rattle.clap.specs.Words.{matches_of}
 use Rattle.std.proofs.KnownBytes.{Appends-trans}
 use Rattle.mi_hub.specs.Watching.{has_failed}
 use Rattle.mi_hub.specs.declared.watched.Watched.{Watched}
 use Rattle.mi_catalog.specs.Shape.{CatalogShape}
 use Rattle.mi_model.specs.Database.{Database}
 use Rattle.mi_program.specs.Serving.{ServesInput}
+use Rattle.mi_program.specs.Words.{program_options, keeps_rules, AreValues}
 use Rattle.mi_program.specs.Ending.{Confirms, Serves, ServesTables, UsesCatalog}
 use Rattle.mi_program.specs.Ending.{IsTold, IsCalled, Performs, PerformsBuffered, Ends, EndsBuffered, ending_of}
 use Rattle.mi_program.specs.declared.words.Options.{Options}
@@ -40,6 +43,12 @@ pub input_served : {I O S : Type 0} (remaining : I → Option (List ℕ)) (conte
     → Serves remaining contents given taken old_reader new_reader old_writer new_writer database listen answer
 input_served remaining contents given taken database listen answer old_reader new_reader old_writer new_writer is p =
     subst (λ (l : Option (ℕ × ℕ)). Serves remaining contents given taken old_reader new_reader old_writer new_writer database l answer) (sym is) p
+
+-- the options that words give are theirs
+pub called_by : (words : List (List ℕ)) (options : Options)
+    → (fault_of program_options words ≡ []) × (keeps_rules (matches_of program_options words) ≡ true) × AreValues options (matches_of program_options words)
+    → IsCalled words options
+called_by words options read = record { known = read.0; rules = read.1; values = read.2 }
 
 module _ {F I O S : Type 0} (file : F → Option (List ℕ)) (remaining : I → Option (List ℕ)) (contents : O → Option (List ℕ))
     (given taken : S → Option (List ℕ)) (words : List (List ℕ)) (options : Options) (called : IsCalled words options) where

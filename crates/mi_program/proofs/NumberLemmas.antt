@@ -79,46 +79,39 @@ number_taken m given k id q o read is = go (args_of c) refl
         absurd (omega arith)
     go (x ∷ xs) some = with_default x
 
-first_of_text : (s t : List ℕ) → s ≡ t → slice_index s 0 ≡ slice_index t 0
-first_of_text s t e = ap (λ u. slice_index u 0) e
+-- an option by its facts, whose first letter is none that `help` and `version` begin with
+option_at : (k n : ℕ) (t : List ℕ) (q : ValueParser) → k < 4 → ((r : Rule) → (slice_index_or options k r).id ≡ n ∷ t)
+    → ((r : Rule) → ((slice_index_or options k r).parser ≡ Some q) × ((slice_index_or options k r).ignore_case ≡ false))
+    → ((j : ℕ) (r : Rule) → j < 4 → bytes_eq (slice_index_or options j r).id (n ∷ t) ≡ true → j ≡ k)
+    → (n ≡ 0 → ⊥) → (n ≡ 104 → ⊥) → (n ≡ 118 → ⊥) → IsOption k (n ∷ t) q
+option_at k n t q there id rest alone none help version = record {
+  there = there;
+  id_is = id;
+  parser_is = λ r. (rest r).0;
+  case_is = λ r. (rest r).1;
+  alone = alone;
+  named = λ e. none (ap (λ u. slice_index u 0) e);
+  no_help = λ e. help (ap (λ u. slice_index u 0) e);
+  no_version = λ e. version (ap (λ u. slice_index u 0) e);
+}
+
+-- what holds of each of the four options
+each_option : (P : ℕ → Type 0) → P 0 → P 1 → P 2 → P 3 → (j : ℕ) → j < 4 → P j
+each_option P a b c d zero lt = a
+each_option P a b c d (suc zero) lt = b
+each_option P a b c d (suc (suc zero)) lt = c
+each_option P a b c d (suc (suc (suc zero))) lt = d
+each_option P a b c d (suc (suc (suc (suc n)))) lt = absurd (omega arith)
 
 listen_option : IsOption 2 (codes "listen") port_parser
-listen_option = record {
-  there = omega arith;
-  id_is = λ r. refl;
-  parser_is = λ r. refl;
-  case_is = λ r. refl;
-  alone = only;
-  named = λ e. let bad : 108 ≡ 0 = first_of_text _ _ e in absurd (omega arith);
-  no_help = λ e. let bad : 108 ≡ 104 = first_of_text _ _ e in absurd (omega arith);
-  no_version = λ e. let bad : 108 ≡ 118 = first_of_text _ _ e in absurd (omega arith);
-}
-  where
-    only : (j : ℕ) (r : Rule) → j < 4 → bytes_eq (slice_index_or options j r).id (codes "listen") ≡ true → j ≡ 2
-    only zero r lt same = cc
-    only (suc zero) r lt same = cc
-    only (suc (suc zero)) r lt same = refl
-    only (suc (suc (suc zero))) r lt same = cc
-    only (suc (suc (suc (suc n)))) r lt same = absurd (omega arith)
+listen_option = option_at 2 108 _ port_parser (omega arith) (λ r. refl) (λ r. (refl, refl))
+    (λ j r. each_option (λ i. bytes_eq (slice_index_or options i r).id (codes "listen") ≡ true → i ≡ 2) (λ e. cc) (λ e. cc) (λ e. refl) (λ e. cc) j)
+    (λ e. absurd (omega arith)) (λ e. absurd (omega arith)) (λ e. absurd (omega arith))
 
 clients_option : IsOption 3 (codes "clients") clients_parser
-clients_option = record {
-  there = omega arith;
-  id_is = λ r. refl;
-  parser_is = λ r. refl;
-  case_is = λ r. refl;
-  alone = only;
-  named = λ e. let bad : 99 ≡ 0 = first_of_text _ _ e in absurd (omega arith);
-  no_help = λ e. let bad : 99 ≡ 104 = first_of_text _ _ e in absurd (omega arith);
-  no_version = λ e. let bad : 99 ≡ 118 = first_of_text _ _ e in absurd (omega arith);
-}
-  where
-    only : (j : ℕ) (r : Rule) → j < 4 → bytes_eq (slice_index_or options j r).id (codes "clients") ≡ true → j ≡ 3
-    only zero r lt same = cc
-    only (suc zero) r lt same = cc
-    only (suc (suc zero)) r lt same = cc
-    only (suc (suc (suc zero))) r lt same = refl
-    only (suc (suc (suc (suc n)))) r lt same = absurd (omega arith)
+clients_option = option_at 3 99 _ clients_parser (omega arith) (λ r. refl) (λ r. (refl, refl))
+    (λ j r. each_option (λ i. bytes_eq (slice_index_or options i r).id (codes "clients") ≡ true → i ≡ 3) (λ e. cc) (λ e. cc) (λ e. cc) (λ e. refl) j)
+    (λ e. absurd (omega arith)) (λ e. absurd (omega arith)) (λ e. absurd (omega arith))
 
 -- a port that was matched is read
 port_read : (E : Type 0) (G : List ℕ → Result ℕ E → Type 0) → ((u : List ℕ) (x : Result ℕ E) → G u x → ParsesUnsigned 16 10 u x)

@@ -23,26 +23,27 @@ pub has_come : (database : Database) (old new : HubState)
     → new ≡ come database
 has_come database old new is done = done.3 ∙ ap (with_connection 1) is
 
-pub was_read : (fault : ServeFault) → served_failure fault ≡ Read → fault ≡ serving.Read
-was_read serving.Read h = refl
-was_read serving.Write h = cc
-was_read serving.Accept h = cc
-was_read serving.Memory h = cc
-was_read serving.Turns h = cc
+-- the fault that a failure of serving is of; of any other failure it says nothing
+abbrev fault_in : Failure → ServeFault
+fault_in Read = serving.Read
+fault_in Write = serving.Write
+fault_in Accept = serving.Accept
+fault_in Memory = serving.Memory
+fault_in Turns = serving.Turns
+fault_in SchemaFile = serving.Memory
+fault_in (Schema fault) = serving.Memory
+fault_in Listen = serving.Memory
 
-pub was_write : (fault : ServeFault) → served_failure fault ≡ Write → fault ≡ serving.Write
-was_write serving.Read h = cc
-was_write serving.Write h = refl
-was_write serving.Accept h = cc
-was_write serving.Memory h = cc
-was_write serving.Turns h = cc
+fault_back : (fault : ServeFault) → fault_in (served_failure fault) ≡ fault
+fault_back serving.Read = refl
+fault_back serving.Write = refl
+fault_back serving.Accept = refl
+fault_back serving.Memory = refl
+fault_back serving.Turns = refl
 
-pub was_turns : (fault : ServeFault) → served_failure fault ≡ Turns → fault ≡ serving.Turns
-was_turns serving.Read h = cc
-was_turns serving.Write h = cc
-was_turns serving.Accept h = cc
-was_turns serving.Memory h = cc
-was_turns serving.Turns h = refl
+-- a failure of serving is of one fault
+pub was : (fault other : ServeFault) → served_failure fault ≡ served_failure other → fault ≡ other
+was fault other same = sym (fault_back fault) ∙ (ap fault_in same ∙ fault_back other)
 
 -- what comes of one input, by what serving it answers
 pub serves_input : {R W : Type 0} (remaining : R → Option (List ℕ)) (contents : W → Option (List ℕ)) (database : Database)

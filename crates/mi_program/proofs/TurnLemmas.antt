@@ -2,7 +2,11 @@
 use Rattle.std.proofs.Common.{◌≡◌, ◌⊎◌, ℕ, zero, suc, ◌+◌, ◌<◌, ◌≤◌, List, [], ◌∷◌, ◌++◌, length, map, Bool, true, false, cond, nat_eq}
 use Rattle.std.proofs.Common.{Option, Some, None, IsSome, is_some, Result, Ok, Err, refl, sym, ap, ◌∙◌, subst, arith, inl, inr, length-append}
 use Rattle.std.specs.Prelude.{⊤, ◌||◌, OnOk, OnErr}
-use Rattle.mi_hub.specs.Watching.{has_failed}
+use Rattle.mi_hub.specs.Watching.{has_failed, Writes}
+use Rattle.mi_hub.specs.declared.watched.Watched.{Watched}
+use Rattle.mi_hub.specs.Turn.{Gave}
+use Rattle.mi_program.specs.Buffer.{contents_of, remaining_of}
+use Rattle.mi_program.specs.declared.buffered.Buffered.{Buffered}
 use Rattle.mi_hub.specs.IoNotes.{reads_fail, writes_fail, with_read, with_write}
 use Rattle.mi_hub.specs.declared.io_errors.IoErrors.{IoErrors}
 use Rattle.std.specs.Result.{result_and}
@@ -506,3 +510,38 @@ on_err_kept (Err fault) A P p = p.1
 pub sound_last : {S : Type 0} (clients : List (Client S)) (c : Client S) → AllSound clients → has_failed c.stream ≡ false → AllSound (clients ++ c ∷ [])
 sound_last [] c h last = (last, tt)
 sound_last (x ∷ clients) c h last = (h.0, sound_last clients c h.1 last)
+
+-- what a turn of the first of a row is, by what becomes of the row
+pub turn_taken : {S : Type 0} (remaining contents : S → Option (List ℕ)) (row left : List (Client S)) (old new : HubState) (before noted : IoErrors)
+    (first after : Client S) (others : List (Client S)) (answer : Result Bool ServeFault) (result : Result ⊤ ServeFault) → row ≡ first ∷ others
+    → (turn : Turn) × (out : List ℕ) × TakesTurn remaining contents turn out first after × (answer ≡ outcome turn) × Made old turn out new
+    → noted ≡ with_turn answer before
+    → ((turn : Turn) → answer ≡ outcome turn → (left ≡ row_after turn after others) × (result ≡ turn_fault (outcome turn)))
+    → (turn : Turn) × (out : List ℕ) × (first : Client S) × (after : Client S) × (others : List (Client S)) × (row ≡ first ∷ others)
+    × TakesTurn remaining contents turn out first after × Made old turn out new × (left ≡ row_after turn after others)
+    × (result ≡ turn_fault (outcome turn)) × (noted ≡ with_turn (outcome turn) before)
+turn_taken remaining contents row left old new before noted first after others answer result is made notes ends =
+    let e = ends made.0 made.3 in
+    (made.0, made.1, first, after, others, is, made.2, made.4, e.0, e.1, notes ∙ ap (λ r. with_turn r before) made.3)
+
+-- what a turn of a client is, by what its stream gave and has been written
+pub client_turned : {S : Type 0} (remaining contents : S → Option (List ℕ)) (old new : Client S) (between : Watched (Buffered S)) (piece : Option (List ℕ))
+    (answer : Result Bool ServeFault) (before after : HubState) → new.conn ≡ old.conn
+    → (turn : Turn) × (out : List ℕ) × (conn_of turn ≡ old.conn) × (given_in turn ≡ piece) × (answer ≡ outcome turn)
+    × Writes (contents_of contents) between new.stream out × Made before turn out after
+    → Gave (remaining_of remaining) old.stream between piece → OnErr answer (has_failed new.stream ≡ true)
+    → (turn : Turn) × (out : List ℕ) × TakesTurn remaining contents turn out old new × (answer ≡ outcome turn) × Made before turn out after
+client_turned remaining contents old new between piece answer before after same made gave failed = (
+  made.0,
+  made.1,
+  record {
+    conn = made.2;
+    same = same;
+    between = between;
+    read = subst (Gave (remaining_of remaining) old.stream between) (sym made.3) gave;
+    written = made.5;
+    failed = subst (λ (r : Result Bool ServeFault). OnErr r (has_failed new.stream ≡ true)) made.4 failed;
+  },
+  made.4,
+  made.6,
+)

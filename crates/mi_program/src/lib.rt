@@ -18,4 +18,5 @@ pub use listener::serve_listener;
 pub use program::{run, run_over};
 pub use report::refuse_arguments;
 pub use secret::drawn;
+pub use source::whole_text;
 pub use words::{Options, WordsFault, read_words};

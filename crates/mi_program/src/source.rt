@@ -29,8 +29,10 @@ fn file_failure(error: &io::Error) -> Failure
     }
 }
 
-/// All bytes of a reader that has no more than a schema's file may have.
-fn whole_text<R: Read + Drop>(alloc: Global, reader: R) -> Result<Vec<u8>, Failure>
+/// All bytes of a reader that has no more than a schema's file may have, 65,536.
+///
+/// `SchemaFile` where it has more or can't be read, `Schema` where memory was refused.
+pub fn whole_text<R: Read + Drop>(alloc: Global, reader: R) -> Result<Vec<u8>, Failure>
     ensures ok { IfOk result (λ text. IfSome (R.remaining reader) (λ bytes. (text.items ≡ bytes) × (length bytes ≤ most_bytes))) }
     ensures err { IfErr result IsUnread }
 {

@@ -32,7 +32,7 @@ pub struct Options {
 pub enum WordsFault {
     /// The words aren't the program's options, or ask for help. The error has the text for the user.
     Parse(clap::Error),
-    /// One of `--listen` and `--clients` is there without the other, or `--check` stands with them.
+    /// The words break a rule between options: one of `--listen` and `--clients` is there without the other, or `--check` stands with them.
     Rules,
     /// A growth was refused.
     Memory,

@@ -10,7 +10,7 @@ use Rattle.mi_program.specs.Buffer.{remaining_of}
 use Rattle.mi_hub.specs.IoNotes.{with_write}
 use Rattle.mi_hub.specs.declared.fault.ServeFault.{ServeFault}
 use Rattle.mi_program.specs.Turns.{with_turn}
-use Rattle.mi_program.proofs.TurnLemmas.{answered_fault, written_noted, on_err_kept, on_err_of}
+use Rattle.mi_program.proofs.TurnLemmas.{client_turned, answered_fault, written_noted, on_err_kept, on_err_of}
 use Rattle.mi_program.proofs.listener.client_turn.Goals as goal
 
 pub returns-in-Ok-clause-turn : goal.returns-in-Ok-clause-turn
@@ -18,22 +18,9 @@ returns-in-Ok-clause-turn g c =
     let made = c.take_turn-is_open.ensures.turn in
     let gives = remaining_of g.S.Read.remaining in
     let room : 0 < length c.read_from.new.buf = omega (arith, c.requires.room, c.read_from.auto.buf) in
-    let gave = gave_read gives c.args.client.now.stream c.read_from.new.stream _ c.read_from.new.buf
-    c.in-Ok.n refl c.in-Ok.ensures.bound.0 room c.in-Ok.ensures.bytes in (
-      made.0,
-      made.1,
-      record {
-        conn = made.2;
-        same = refl;
-        between = c.read_from.new.stream;
-        read = subst (Gave gives c.args.client.now.stream c.read_from.new.stream) (sym made.3) gave;
-        written = made.5;
-        failed = subst (λ (r : Result Bool ServeFault). OnErr r (has_failed c.take_turn-is_open.new.writer ≡ true)) made.4
-            (on_err_kept _ _ _ (answered_fault made.0 _ _ _ made.3 made.4 c.take_turn-is_open.ensures.write));
-      },
-      made.4,
-      made.6,
-    )
+    client_turned g.S.Read.remaining g.S.Write.contents _ _ c.read_from.new.stream _ _ _ _ refl made
+    (gave_read gives c.args.client.now.stream c.read_from.new.stream _ c.read_from.new.buf c.in-Ok.n refl c.in-Ok.ensures.bound.0 room c.in-Ok.ensures.bytes)
+    (on_err_kept _ _ _ (answered_fault made.0 _ _ _ made.3 made.4 c.take_turn-is_open.ensures.write))
 
 pub returns-in-Ok-clause-failed : goal.returns-in-Ok-clause-failed
 returns-in-Ok-clause-failed g c =
@@ -54,24 +41,10 @@ returns-in-Ok-clause-noted g c =
 
 pub returns-in-Err-clause-turn : goal.returns-in-Err-clause-turn
 returns-in-Err-clause-turn g c =
-    let made = c.take_turn.ensures.turn in
-    let gives = remaining_of g.S.Read.remaining in
-    let gave : Gave gives c.args.client.now.stream c.read_from.new.stream None =
-    (Consumes-kept _ _ _ [] (Consumes-nil _) c.in-Err.ensures.bytes, c.in-Err.ensures.failed) in (
-      made.0,
-      made.1,
-      record {
-        conn = made.2;
-        same = refl;
-        between = c.read_from.new.stream;
-        read = subst (Gave gives c.args.client.now.stream c.read_from.new.stream) (sym made.3) gave;
-        written = made.5;
-        failed = subst (λ (r : Result Bool ServeFault). OnErr r (has_failed c.take_turn.new.writer ≡ true)) made.4
-            (on_err_of _ _ (ap has_failed (c.take_turn.ensures.unread (c.take_turn.ensures.read.1 refl)) ∙ c.in-Err.ensures.failed));
-      },
-      made.4,
-      made.6,
-    )
+    let gave : Gave (remaining_of g.S.Read.remaining) c.args.client.now.stream c.read_from.new.stream None =
+    (Consumes-kept _ _ _ [] (Consumes-nil _) c.in-Err.ensures.bytes, c.in-Err.ensures.failed) in
+    client_turned g.S.Read.remaining g.S.Write.contents _ _ c.read_from.new.stream _ _ _ _ refl c.take_turn.ensures.turn gave
+    (on_err_of _ _ (ap has_failed (c.take_turn.ensures.unread (c.take_turn.ensures.read.1 refl)) ∙ c.in-Err.ensures.failed))
 
 pub returns-in-Err-clause-failed : goal.returns-in-Err-clause-failed
 returns-in-Err-clause-failed g c =

@@ -1,16 +1,12 @@
 -- What is done over the buffered output is one of the program's ends, of the input and output that it was given.
 use Rattle.std.specs.Prelude.{map}
-use Rattle.mi_program.specs.Ending.{IsCalled, refused, ending_of}
-use Rattle.mi_program.proofs.EndingLemmas.{buffered_ends}
+use Rattle.mi_program.specs.Ending.{refused, ending_of}
+use Rattle.mi_program.proofs.EndingLemmas.{called_by, buffered_ends}
 use Rattle.mi_program.proofs.program.run.Goals as goal
 
 pub returns-in-Ok : goal.returns-in-Ok
 returns-in-Ok g c =
-    let called : IsCalled (map g.S.AsStr.text c.args.words.now) c.in-Ok.options = record {
-      known = c.in-Ok.ensures.ok.0;
-      rules = c.in-Ok.ensures.ok.1;
-      values = c.in-Ok.ensures.ok.2;
-    } in (
+    let called = called_by (map g.S.AsStr.text c.args.words.now) c.in-Ok.options c.in-Ok.ensures.ok in (
       ending_of c.perform_buffered.result,
       c.new-errors.result,
       c.conclude.new.errors,

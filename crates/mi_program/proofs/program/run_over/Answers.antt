@@ -1,17 +1,13 @@
 -- The words are refused, or what is done by their options is the end that is answered.
 use Rattle.std.proofs.Common.{refl}
 use Rattle.std.specs.Prelude.{map}
-use Rattle.mi_program.specs.Ending.{IsCalled, refused, ending_of}
-use Rattle.mi_program.proofs.EndingLemmas.{performed_ends}
+use Rattle.mi_program.specs.Ending.{refused, ending_of}
+use Rattle.mi_program.proofs.EndingLemmas.{called_by, performed_ends}
 use Rattle.mi_program.proofs.program.run_over.Goals as goal
 
 pub returns-in-Ok : goal.returns-in-Ok
 returns-in-Ok g c =
-    let called : IsCalled (map g.S.AsStr.text c.args.words.now) c.in-Ok.options = record {
-      known = c.in-Ok.ensures.ok.0;
-      rules = c.in-Ok.ensures.ok.1;
-      values = c.in-Ok.ensures.ok.2;
-    } in (
+    let called = called_by (map g.S.AsStr.text c.args.words.now) c.in-Ok.options c.in-Ok.ensures.ok in (
       ending_of c.perform.result,
       c.conclude.ensures.status,
       c.conclude.ensures.told,

@@ -3,39 +3,34 @@ use Rattle.std.proofs.Common.{◌≡◌, ◌⊎◌, [], ◌∷◌, Err, sym, ap,
 use Rattle.std.specs.Io.KnownBytes.{IsAtEnd}
 use Rattle.mi_hub.specs.Run.{piece, close, cut, AllDone, DoneToFault}
 use Rattle.mi_hub.specs.Watching.{watched}
+use Rattle.mi_hub.specs.declared.fault.ServeFault.TheVariants as serving
 use Rattle.mi_hub.proofs.PieceLemmas.{same_err}
-use Rattle.mi_program.proofs.ServingLemmas.{has_come, was_read, was_write, was_turns}
+use Rattle.mi_program.proofs.ServingLemmas.{has_come, was}
 use Rattle.mi_program.proofs.serve.serve.Goals as goal
 
 pub returns-in-Ok-serve_stream-clause-ok : goal.returns-in-Ok-serve_stream-clause-ok
 returns-in-Ok-serve_stream-clause-ok g c =
+    let p = c.in-Ok-serve_stream.ensures.ok in let new = c.serve_stream.new.hub in
     let come = has_come _ _ _ c.new-hub.ensures c.in-Ok.ensures.ok in
-    let p = c.in-Ok-serve_stream.ensures.ok in
-    let new = c.serve_stream.new.hub in
     (p.0, p.1, new, p.2, p.3, p.4, subst (λ s. AllDone s (piece 1 p.0 ∷ close 1 ∷ []) p.1 new) come p.5)
 
 pub returns-clause-read : goal.returns-clause-read
 returns-clause-read g c = λ is.
-    let come = has_come _ _ _ c.new-hub.ensures c.in-Ok.ensures.ok in
-    let fault = ap Err (was_read c.in-Err.fault (sym c.of_serving.ensures.is ∙ same_err is)) in
-    let p = c.in-Err.ensures.read fault in
-    let new = c.serve_stream.new.hub in
-    (p.0, p.1, new, p.2, p.3, subst (λ s. AllDone s (piece 1 p.0 ∷ cut 1 ∷ []) p.1 new) come p.4, c.in-Err.ensures.read_failed fault)
+    let fault = ap Err (was c.in-Err.fault serving.Read (sym c.of_serving.ensures.is ∙ same_err is)) in
+    let p = c.in-Err.ensures.read fault in let new = c.serve_stream.new.hub in
+    let done = subst (λ s. AllDone s (piece 1 p.0 ∷ cut 1 ∷ []) p.1 new) (has_come _ _ _ c.new-hub.ensures c.in-Ok.ensures.ok) p.4 in
+    (p.0, p.1, new, p.2, p.3, done, c.in-Err.ensures.read_failed fault)
 
 pub returns-clause-turns : goal.returns-clause-turns
 returns-clause-turns g c = λ is.
-    let come = has_come _ _ _ c.new-hub.ensures c.in-Ok.ensures.ok in
-    let fault = ap Err (was_turns c.in-Err.fault (sym c.of_serving.ensures.is ∙ same_err is)) in
-    let p = c.in-Err.ensures.turns fault in
-    let new = c.serve_stream.new.hub in
+    let p = c.in-Err.ensures.turns (ap Err (was c.in-Err.fault serving.Turns (sym c.of_serving.ensures.is ∙ same_err is))) in
+    let come = has_come _ _ _ c.new-hub.ensures c.in-Ok.ensures.ok in let new = c.serve_stream.new.hub in
     (p.0, p.1, new, p.2, p.3, p.4, subst (λ s. AllDone s (piece 1 p.0 ∷ cut 1 ∷ []) p.1 new) come p.5)
 
 pub returns-clause-write : goal.returns-clause-write
 returns-clause-write g c = λ is.
-    let come = has_come _ _ _ c.new-hub.ensures c.in-Ok.ensures.ok in
-    let fault = ap Err (was_write c.in-Err.fault (sym c.of_serving.ensures.is ∙ same_err is)) in
-    let p = c.in-Err.ensures.write fault in
-    let new = c.serve_stream.new.hub in (
+    let fault = ap Err (was c.in-Err.fault serving.Write (sym c.of_serving.ensures.is ∙ same_err is)) in
+    let p = c.in-Err.ensures.write fault in let new = c.serve_stream.new.hub in (
       p.0,
       p.1,
       p.2,
@@ -45,6 +40,7 @@ returns-clause-write g c = λ is.
       p.5,
       subst
           (λ s. DoneToFault s (piece 1 p.0 ∷ []) (piece 1 p.1) p.2 new
-          ⊎ (IsAtEnd (g.R.Read.remaining (watched c.serve_stream.new.reader)) × (p.1 ≡ []) × DoneToFault s (piece 1 p.0 ∷ []) (close 1) p.2 new)) come p.6,
+          ⊎ (IsAtEnd (g.R.Read.remaining (watched c.serve_stream.new.reader)) × (p.1 ≡ []) × DoneToFault s (piece 1 p.0 ∷ []) (close 1) p.2 new))
+          (has_come _ _ _ c.new-hub.ensures c.in-Ok.ensures.ok) p.6,
       (c.in-Err.ensures.write_failed fault).0,
     )
