@@ -10,6 +10,7 @@ ghost use Rattle.mi_container.specs.Asked.{RecordFits, EditsFit};
 ghost use Rattle.mi_container.specs.Data.{as_table};
 ghost use Rattle.mi_container.specs.Inverse.{lost_to};
 ghost use Rattle.mi_container.specs.Fits.{IsLive};
+ghost use Rattle.mi_container.specs.Backs.{row_seen};
 ghost use Rattle.mi_container.specs.Run.Change.{Replace};
 ghost use Rattle.mi_container.specs.Makes.{Makes, MakesModify, MeetsOn, replace_answer, modify_answer, IsNoLoss};
 ghost use Rattle.mi_multi.specs.Changed.{changed_by};
@@ -62,23 +63,16 @@ impl MultiIndex {
     }
 
     /// The record that edits make of a live row's. Refusals: `Range` and `Memory`.
-    fn edited(
-        &self,
-        alloc: Global,
-        id: u64,
-        node: NodeRef,
-        edits: &[Edit],
-    ) -> Result<Record, Refusal>
-        requires { IsLive self.now.plain.rows (record { id = id; at = node }) }
-        ensures there { IfOk result (λ r. has_row (as_table self.now.plain) id ≡ true) }
-        ensures edited { IfOk result (λ r. apply_edits edits.now (row_of (as_table self.now.plain) id).1 ≡ Some r) }
+    fn edited(&self, alloc: Global, row: RowRef, edits: &[Edit]) -> Result<Record, Refusal>
+        requires { IsLive self.now.plain.rows (row_seen row) }
+        ensures there { IfOk result (λ r. has_row (as_table self.now.plain) row.id ≡ true) }
+        ensures edited { IfOk result (λ r. apply_edits edits.now (row_of (as_table self.now.plain) row.id).1 ≡ Some r) }
         ensures refused { (rollback : Bool) → IfErr result (λ e.
-            MeetsRefusal (modify_outcome self.now.shape id edits.now rollback (as_table self.now.plain))
+            MeetsRefusal (modify_outcome self.now.shape row.id edits.now rollback (as_table self.now.plain))
             e (as_table self.now.plain) (as_table self.now.plain)) }
         ensures loss { IfErr result IsNoLoss }
     {
-        let _ = id;
-        apply(alloc, &self.nodes.pool.value(node).row, edits)
+        apply(alloc, &self.nodes.pool.value(row.node).row, edits)
     }
 
     /// Sets the record that a modify made for a live row, unless a unique index refuses it: then with `rollback` nothing
@@ -135,7 +129,7 @@ impl MultiIndex {
         let Some(node) = self.ids.live(id) else {
             return Err(Refusal::NoId);
         };
-        let row = self.edited(alloc, id, node, edits)?;
+        let row = self.edited(alloc, RowRef { id, node }, edits)?;
         self.modify_to(id, node, row, rollback)
     }
 }
