@@ -84,6 +84,11 @@ module _ {C E : Type 0} (items : C → List E) where
   pub in_chunks : (i : ℕ) (cs : List C) → AreFull items 4096 cs → i < length (flat items cs) → i / 4096 < length cs
   in_chunks i cs full less = let e = length-flat cs full in omega (arith, less, e)
 
+  -- l: the list that the chunks are seen as
+  pub in_bounds : (cs : List C) {i n : ℕ} {l : List E} → AreFull items 4096 cs → n ≡ length cs → flat items cs ≡ l → i < length l → i / 4096 < n
+  in_bounds cs {i} {n} {l} full count is less =
+      subst (λ m. i / 4096 < m) (sym count) (in_chunks i cs full (subst (λ (k : List E). i < length k) (sym is) less))
+
   pub IsChunked-set : (q : ℕ) (cs : List C) (c : C) → IsChunked items cs → length (items c) ≡ 4096 → IsChunked items (slice_set cs q c)
   IsChunked-set q cs c all size = record { full = AreFull-set 4096 q cs c all.full size; few = subst (λ n. n ≤ 524288) (sym (length-set cs q c)) all.few }
 

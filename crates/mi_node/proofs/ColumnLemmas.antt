@@ -53,13 +53,13 @@ at_there (y ∷ c) zero (suc q) x e = refl
 at_there (y ∷ c) (suc k) zero x e = refl
 at_there (y ∷ c) (suc k) (suc q) x e = at_there c k q x (grind (arith, e))
 
-pub links-here : (cs : List (List Cell)) (s k : ℕ) (x : Cell) → s < length cs → k < length (column cs s)
+links-here : (cs : List (List Cell)) (s k : ℕ) (x : Cell) → s < length cs → k < length (column cs s)
     → links_at (slice_set cs s (slice_set (column cs s) k x)) k ≡ put_link (links_at cs k) s (link_of_cell x)
 links-here [] s k x less inside = absurd (omega (arith, less))
 links-here (c ∷ cs) zero k x less inside = ap (λ y. link_of_cell y ∷ links_at cs k) (at_here c k x inside)
 links-here (c ∷ cs) (suc s) k x less inside = ap (λ ls. link_of_cell (cell_at k c) ∷ ls) (links-here cs s k x (omega (arith, less)) inside)
 
-pub links-there : (cs : List (List Cell)) (s k q : ℕ) (x : Cell) → (q == k) ≡ false → links_at (slice_set cs s (slice_set (column cs s) k x)) q ≡ links_at cs q
+links-there : (cs : List (List Cell)) (s k q : ℕ) (x : Cell) → (q == k) ≡ false → links_at (slice_set cs s (slice_set (column cs s) k x)) q ≡ links_at cs q
 links-there [] s k q x e = refl
 links-there (c ∷ cs) zero k q x e = ap (λ y. link_of_cell y ∷ links_at cs q) (at_there c k q x e)
 links-there (c ∷ cs) (suc s) k q x e = ap (λ ls. link_of_cell (cell_at q c) ∷ ls) (links-there cs s k q x e)
@@ -104,16 +104,6 @@ cleared-there (c ∷ cs) (suc s) k q e = λ i. link_of_cell (at_there c k q empt
 pub long-cleared : (cs : List (List Cell)) (s k m : ℕ) → AreLong m cs → AreLong m (cleared s k cs)
 long-cleared cs s k m long t less = subst (λ n. m ≤ n) (sym (cleared-column cs s k t)) (long t (subst (λ n. t < n) (cleared-length cs s k) less))
 
--- a column of as many cells or more takes the place of one
-longer : (m : ℕ) (b : Bool) (x y : List Cell) → m ≤ length x → m ≤ length y → m ≤ length (cond b x y)
-longer m true x y g h = g
-longer m false x y g h = h
-
-long-set : (cs : List (List Cell)) (s m : ℕ) (c : List Cell) → s < length cs → AreLong m cs → m ≤ length c → AreLong m (slice_set cs s c)
-long-set cs s m c there long size t less =
-    subst (λ (d : List Cell). m ≤ length d) (sym (index-set cs s t c [] there))
-    (longer m (t == s) c (column cs t) size (long t (subst (λ n. t < n) (length-set cs s c) less)))
-
 -- a column as an index finds it
 found_column : (cs : List (List Cell)) (s : ℕ) (x : List Cell) → s < length cs → x ≡ slice_index_or cs s x → x ≡ column cs s
 found_column cs s x less is = is ∙ index-any cs s x [] less
@@ -123,13 +113,17 @@ pub read_cell : (cs : List (List Cell)) (s k : ℕ) (x : List Cell) (y : Cell) �
 read_cell cs s k x y less is at = ap link_of_cell (at ∙ ap (cell_at k) (found_column cs s x less is)) ∙ sym (index-links cs k s less)
 
 -- a column with another cell, as it is put back
-pub put_column : (cs : List (List Cell)) (s k : ℕ) (x w : List Cell) (y : Cell) → s < length cs
+put_column : (cs : List (List Cell)) (s k : ℕ) (x w : List Cell) (y : Cell) → s < length cs
     → x ≡ slice_index_or cs s x → w ≡ slice_set x k y → slice_set cs s w ≡ slice_set cs s (slice_set (column cs s) k y)
 put_column cs s k x w y less is at = ap (slice_set cs s) (at ∙ ap (λ (c : List Cell). slice_set c k y) (found_column cs s x less is))
 
--- a column of which more is known than its length
-pub long_put : (cs : List (List Cell)) (s k m : ℕ) (y : Cell) → s < length cs → AreLong m cs → AreLong m (slice_set cs s (slice_set (column cs s) k y))
-long_put cs s k m y less long = long-set cs s m (slice_set (column cs s) k y) less long (subst (λ n. m ≤ n) (sym (length-set (column cs s) k y)) (long s less))
+-- the links once the column is put back
+module _ (cs : List (List Cell)) (k : ℕ) (y : Cell) {s : ℕ} {x w : List Cell} (less : s < length cs) (is : x ≡ slice_index_or cs s x) (at : w ≡ slice_set x k y) where
+  pub put_here : k < length (column cs s) → links_at (slice_set cs s w) k ≡ put_link (links_at cs k) s (link_of_cell y)
+  put_here inside = ap (λ ds. links_at ds k) (put_column cs s k x w y less is at) ∙ links-here cs s k y less inside
+
+  pub put_there : (q : ℕ) → (q == k) ≡ false → links_at (slice_set cs s w) q ≡ links_at cs q
+  put_there q e = ap (λ ds. links_at ds q) (put_column cs s k x w y less is at) ∙ links-there cs s k q y e
 
 -- while columns are cleared
 pub cleared_room : (cs : List (List Cell)) (s k : ℕ) (x : List Cell) → s < length cs
@@ -174,10 +168,11 @@ pub lengthened_start : (places : ℕ) (cs : List (List Cell)) → ((s : ℕ) →
 lengthened_start places cs near = record { done = λ s less. absurd (omega (arith, less)); near = near; links = λ k. refl; count = refl; long = λ m long. long }
 
 -- a column is put back that is as long or longer, and has the same cells
-pub put_longer : (places n : ℕ) (cs ds : List (List Cell)) (x w : List Cell) → Lengthened places n cs ds
-    → n < length ds → x ≡ slice_index_or ds n x → ((k : ℕ) → cell_at k w ≡ cell_at k x) → length x ≤ length w
+pub put_longer : {places n e : ℕ} {cs ds : List (List Cell)} {x : List Cell} (w : List Cell) → Lengthened places n cs ds
+    → e ≡ length cs → n < e → x ≡ slice_index_or ds n x → ((k : ℕ) → cell_at k w ≡ cell_at k x) → length x ≤ length w
     → Lengthened places n cs (slice_set ds n w)
-put_longer places n cs ds x w all less is cells longer =
+put_longer {places} {n} {e} {cs} {ds} {x} w all end early is cells longer =
+    let less : n < length ds = subst (λ m. n < m) (end ∙ sym all.count) early in
     let found : x ≡ column ds n = found_column ds n x less is in
     let size : length x ≡ length (column ds n) = ap (λ (c : List Cell). length c) found in
     record {
@@ -190,9 +185,9 @@ put_longer places n cs ds x w all less is cells longer =
           (λ e. let h = all.long m long n less in omega (arith, h, size, longer)) (λ e. all.long m long s (subst (λ j. s < j) (length-set ds n w) there));
     }
 
-pub lengthened_next : (places n : ℕ) (cs ds : List (List Cell)) (w : List Cell) → Lengthened places n cs (slice_set ds n w)
-    → n < length ds → places ≤ length w → Lengthened places (n + 1) cs (slice_set ds n w)
-lengthened_next places n cs ds w all less size = record {
+pub lengthened_next : {places n e : ℕ} {cs : List (List Cell)} (ds : List (List Cell)) (w : List Cell) → Lengthened places n cs (slice_set ds n w)
+    → e ≡ length cs → n < e → places ≤ length w → Lengthened places (n + 1) cs (slice_set ds n w)
+lengthened_next {places} {n} {e} {cs} ds w all end early size = record {
   done = λ s early. at_column (λ m. places ≤ m) ds n s w less (λ e. size) (λ e. still s early e);
   near = all.near;
   links = all.links;
@@ -200,6 +195,9 @@ lengthened_next places n cs ds w all less size = record {
   long = all.long;
 }
   where
+    less : n < length ds
+    less = subst (λ m. n < m) (end ∙ sym all.count ∙ length-set ds n w) early
+
     still : (s : ℕ) → s < n + 1 → (s == n) ≡ false → places ≤ length (column ds s)
     still s early e = let before : s < n = grind (arith, e, early) in
         subst (λ (d : List Cell). places ≤ length d) (index-set ds n s w [] less ∙ ap (λ b. cond b w (column ds s)) e) (all.done s before)

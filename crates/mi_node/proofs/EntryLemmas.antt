@@ -20,7 +20,7 @@ use Rattle.mi_node.specs.Pool.{put_link, IsHeld, change, changed, no_nodes, take
 use Rattle.mi_node.specs.Refs.{Ref}
 use Rattle.mi_node.specs.declared.link.Link.{Link}
 
-some_inj : {X : Type 0} (x y : X) → Some x ≡ Some y → x ≡ y
+pub some_inj : {X : Type 0} (x y : X) → Some x ≡ Some y → x ≡ y
 some_inj x y e = cc
 
 pub none_some : {X : Type 0} (x : X) → None ≡ Some x → ⊥

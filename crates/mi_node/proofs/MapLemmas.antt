@@ -10,28 +10,20 @@ use Rattle.std.specs.Ordering.{nat_cmp}
 use Rattle.std.specs.Cmp.{nat_cmp_total, unsigned_tied}
 use Rattle.std.specs.FinMap.{FinMap, get, insert, remove, empty, get-empty, get-insert, get-remove, same_map, nat_cmp-IsAntisymmetric}
 use Rattle.std.proofs.Math.ListN.{length-set}
+use Rattle.mi_node.proofs.EntryLemmas.{some_inj, none_some, same_name, same_refl}
 use Rattle.mi_node.specs.Refs.{Ref}
 use Rattle.mi_node.specs.Columns.{column, links_at, AreLong}
 use Rattle.mi_node.specs.Homes.{node_in, value_in, IsFree, AreFree, home_at, IsFreeIf, IsFreeAt}
+use Rattle.mi_node.specs.Pool.{Pooled}
 use Rattle.mi_node.specs.Pool.{Entry, no_link, no_nodes, node_at, ref_of, value_of, link_of, entry_link, noted, last_given, IsNotLast}
 use Rattle.mi_node.specs.Pool.{put_link, IsHeld, change, changed, taken, without, with_link, with_value}
+use Rattle.mi_node.specs.Places.{nodes}
+use Rattle.mi_node.specs.declared.places.Places.{Places}
 use Rattle.mi_node.specs.Seen.{put_home, map_from, seen, IsNamed, KeepsMark, AreMarked, IsSound}
 use Rattle.mi_node.specs.declared.link.Link.{Link}
 use Rattle.mi_node.specs.declared.cell.Cell.{Cell}
 use Rattle.mi_node.specs.declared.home.Home.{Home}
 use Rattle.mi_node.specs.declared.home.Home.TheVariants.{Free, Held}
-
-pub some_inj : {X : Type 0} (x y : X) → Some x ≡ Some y → x ≡ y
-some_inj x y e = cc
-
-pub none_some : {X : Type 0} (x : X) → None ≡ Some x → ⊥
-none_some x e = cc
-
-pub same : (k q : ℕ) → (k == q) ≡ true → k ≡ q
-same k q e = grind (arith, e)
-
-pub itself : (k : ℕ) → (k == k) ≡ true
-itself k = grind arith
 
 from_zero : (q : ℕ) → 0 + q ≡ q
 from_zero q = omega arith
@@ -90,7 +82,7 @@ module _ {T : Type 0} where
   put_same : (cs : List (List Cell)) (k : ℕ) (h : Home T) (m : FinMap nat_cmp (Entry T)) → get m k ≡ None → get (put_home cs k h m) k ≡ entry_at cs k h
   put_same cs k (Free r n) m e = e
   put_same cs k (Held r v) m e = get-insert nat_cmp_total m k (made cs k r v) k
-      ∙ ap (λ b. cond b (Some (made cs k r v)) (get m k)) (unsigned_tied k k ∙ itself k)
+      ∙ ap (λ b. cond b (Some (made cs k r v)) (get m k)) (unsigned_tied k k ∙ same_refl k)
 
   put_other : (cs : List (List Cell)) (k q : ℕ) (h : Home T) (m : FinMap nat_cmp (Entry T)) → (q == k) ≡ false → get (put_home cs k h m) q ≡ get m q
   put_other cs k q (Free r n) m e = refl
@@ -197,7 +189,7 @@ module _ {T : Type 0} where
       → (q : ℕ) → get (map_from ds 0 gs) q ≡ cond (q == j) (entry_of ds j (home_at gs j)) (get (map_from cs 0 hs) q)
   get-one cs ds hs gs j links homes q = get-map ds gs q
       ∙ (elim (q == j) as (λ y. (q == j) ≡ y → entry_of ds q (home_at gs q) ≡ cond y (entry_of ds j (home_at gs j)) (get (map_from cs 0 hs) q)) [
-        | true ↦ λ e. ap (λ k. entry_of ds k (home_at gs k)) (same q j e)
+        | true ↦ λ e. ap (λ k. entry_of ds k (home_at gs k)) (same_name q j e)
         | false ↦ λ e. ap (entry_of ds q) (homes q e) ∙ same_entry cs ds q (home_at hs q) (links q e) ∙ sym (get-map cs hs q)
       ]) refl
 
@@ -205,7 +197,7 @@ module _ {T : Type 0} where
   other_home hs j h less q e = at_set hs j q h less ∙ ap (λ b. cond b (Some h) (home_at hs q)) e
 
   pub this_home : (hs : List (Home T)) (j : ℕ) (h : Home T) → j < length hs → home_at (slice_set hs j h) j ≡ Some h
-  this_home hs j h less = at_set hs j j h less ∙ ap (λ b. cond b (Some h) (home_at hs j)) (itself j)
+  this_home hs j h less = at_set hs j j h less ∙ ap (λ b. cond b (Some h) (home_at hs j)) (same_refl j)
 
   entry-there : (n : ℕ) (cs : List (List Cell)) (hs : List (Home T)) (r : Ref) (t : There cs hs r)
       → get (map_from cs 0 hs) r.name ≡ Some (made cs r.name r t.value)
@@ -246,7 +238,7 @@ module _ {T : Type 0} where
   change_found : (f : Entry T → Entry T) (m : FinMap nat_cmp (Entry T)) (k q : ℕ) (o : Option (Entry T))
       → get m k ≡ o → get (changed m k f o) q ≡ cond (q == k) (option_map f o) (get m q)
   change_found f m k q None e = (elim (q == k) as (λ y. (q == k) ≡ y → get m q ≡ cond y None (get m q)) [
-    | true ↦ λ t. ap (get m) (same q k t) ∙ e
+    | true ↦ λ t. ap (get m) (same_name q k t) ∙ e
     | false ↦ λ t. refl
   ]) refl
   change_found f m k q (Some x) e = get-insert nat_cmp_total m k (f x) q ∙ ap (λ y. cond y (Some (f x)) (get m q)) (unsigned_tied q k)
@@ -272,7 +264,7 @@ module _ {T : Type 0} where
       (ap (entry_of cs r.name) (this_home hs r.name (Held r v) t.less)
       ∙ ap (λ o. option_map (λ (e : Entry T). record e { value = v }) (entry_of cs r.name o)) (sym t.at))
 
-  pub seen-link : (n : ℕ) (cs ds : List (List Cell)) (hs : List (Home T)) (g : FinMap nat_cmp ℕ) (r : Ref) (s : ℕ) (l : Link)
+  seen-link : (n : ℕ) (cs ds : List (List Cell)) (hs : List (Home T)) (g : FinMap nat_cmp ℕ) (r : Ref) (s : ℕ) (l : Link)
       → There cs hs r → ((q : ℕ) → (q == r.name) ≡ false → links_at ds q ≡ links_at cs q)
       → links_at ds r.name ≡ put_link (links_at cs r.name) s l → seen n ds hs g ≡ with_link (seen n cs hs g) r.name s l
   unfolding with_link
@@ -346,6 +338,11 @@ module _ {T : Type 0} where
   unfolding seen
   slots-seen n cs hs g = refl
 
+  -- a slot of what the places stand for
+  pub slot_seen : (p : Places T) {m : Pooled T} {s : ℕ} → nodes p ≡ m → s < m.slots → s < p.slots
+  slot_seen p {m} {s} is less =
+      subst (λ k. s < k) (ap (λ (n : Pooled T). n.slots) (sym is) ∙ slots-seen p.slots p.columns.items p.homes p.gone.marks) less
+
   pub seen-none : (n : ℕ) (cs : List (List Cell)) → seen {T = T} n cs [] empty ≡ no_nodes n
   unfolding seen no_nodes
   seen-none n cs = refl
@@ -359,7 +356,7 @@ module _ {T : Type 0} where
   -- a node that stands where a free place was
   marked-held : (g : FinMap nat_cmp ℕ) (hs : List (Home T)) (j : ℕ) (r : Ref) (v : T) → j < length hs → AreMarked g hs → AreMarked g (slice_set hs j (Held r v))
   marked-held g hs j r v less h k b e = (elim (k == j) as (λ y. (k == j) ≡ y → KeepsMark b (home_at (slice_set hs j (Held r v)) k)) [
-    | true ↦ λ t. subst (KeepsMark b) (sym (ap (home_at (slice_set hs j (Held r v))) (same k j t) ∙ this_home hs j (Held r v) less)) tt
+    | true ↦ λ t. subst (KeepsMark b) (sym (ap (home_at (slice_set hs j (Held r v))) (same_name k j t) ∙ this_home hs j (Held r v) less)) tt
     | false ↦ λ t. subst (KeepsMark b) (sym (other_home hs j (Held r v) less k t)) (h k b e)
   ]) refl
 
@@ -370,7 +367,7 @@ module _ {T : Type 0} where
       let at : get (insert g r.name r.mark) k ≡ cond (k == r.name) (Some r.mark) (get g k) =
       get-insert nat_cmp_total g r.name r.mark k ∙ ap (λ y. cond y (Some r.mark) (get g k)) (unsigned_tied k r.name) in
       (elim (k == r.name) as (λ y. (k == r.name) ≡ y → KeepsMark b (home_at (slice_set hs r.name (Free r next)) k)) [
-        | true ↦ λ t. subst (KeepsMark b) (sym (ap (home_at (slice_set hs r.name (Free r next))) (same k r.name t) ∙ this_home hs r.name (Free r next) less))
+        | true ↦ λ t. subst (KeepsMark b) (sym (ap (home_at (slice_set hs r.name (Free r next))) (same_name k r.name t) ∙ this_home hs r.name (Free r next) less))
             (some_inj r.mark b (sym (at ∙ ap (λ y. cond y (Some r.mark) (get g k)) t) ∙ e))
         | false ↦ λ t. subst (KeepsMark b) (sym (other_home hs r.name (Free r next) less k t))
             (h k b (sym (at ∙ ap (λ y. cond y (Some r.mark) (get g k)) t) ∙ e))
@@ -478,6 +475,12 @@ module _ {T : Type 0} where
 
     pub held_link : (s : ℕ) → slice_index_or (links_at cs k) s no_link ≡ link_of (seen n cs hs g) r.name s
     held_link s = ap (λ q. slice_index_or (links_at cs q) s no_link) name ∙ sym (link-seen n cs hs g r s (there sound held))
+
+    -- the node's link in a slot is set
+    pub held_put : (ds : List (List Cell)) (s : ℕ) (l : Link) → ((q : ℕ) → (q == k) ≡ false → links_at ds q ≡ links_at cs q)
+        → links_at ds k ≡ put_link (links_at cs k) s l → seen n ds hs g ≡ with_link (seen n cs hs g) r.name s l
+    held_put ds s l others here = seen-link n cs ds hs g r s l (there sound held) (λ q e. others q (ap (λ z. q == z) name ∙ e))
+        (ap (links_at ds) (sym name) ∙ here ∙ ap (λ z. put_link (links_at cs z) s l) name)
 
   pub some_wide : (n : ℕ) (cs : List (List Cell)) (hs : List (Home T)) {g : FinMap nat_cmp ℕ} (k : ℕ) → IsSound n cs hs g → k < length hs → length cs ≡ n
   some_wide n cs hs k sound less = sound.wide (omega (arith, less))

@@ -72,15 +72,22 @@ module _ {T : Type 0} (s : ℕ) where
   frame_forth m None c b xs f h l = l
   frame_forth m (Some r) c b xs f h l = frame m r.name (record (link_of m r.name s) { forth = c }) b xs f h l
 
-  ref-forth : (m : Pooled T) (o c : Option Ref) (q : ℕ) → ref_of (with_forth_if m s o c) q ≡ ref_of m q
+  -- what no link has a part in stays
+  stays-forth : {X : Type 0} (f : Pooled T → X) (m : Pooled T) → ((k : ℕ) (l : Link) → f (with_link m k s l) ≡ f m) → (o c : Option Ref) → f (with_forth_if m s o c) ≡ f m
   unfolding with_forth
-  ref-forth m None c q = refl
-  ref-forth m (Some r) c q = ref-with_link m r.name s (record (link_of m r.name s) { forth = c }) q
+  stays-forth f m same None c = refl
+  stays-forth f m same (Some r) c = same r.name (record (link_of m r.name s) { forth = c })
+
+  stays-back : {X : Type 0} (f : Pooled T → X) (m : Pooled T) → ((k : ℕ) (l : Link) → f (with_link m k s l) ≡ f m) → (o c : Option Ref) → f (with_back_if m s o c) ≡ f m
+  unfolding with_back
+  stays-back f m same None c = refl
+  stays-back f m same (Some r) c = same r.name (record (link_of m r.name s) { back = c })
+
+  ref-forth : (m : Pooled T) (o c : Option Ref) (q : ℕ) → ref_of (with_forth_if m s o c) q ≡ ref_of m q
+  ref-forth m o c q = stays-forth (λ n. ref_of n q) m (λ k l. ref-with_link m k s l q) o c
 
   ref-back : (m : Pooled T) (o c : Option Ref) (q : ℕ) → ref_of (with_back_if m s o c) q ≡ ref_of m q
-  unfolding with_back
-  ref-back m None c q = refl
-  ref-back m (Some r) c q = ref-with_link m r.name s (record (link_of m r.name s) { back = c }) q
+  ref-back m o c q = stays-back (λ n. ref_of n q) m (λ k l. ref-with_link m k s l q) o c
 
   forth_there : (m : Pooled T) (o c : Option Ref) (q t : ℕ) → IsNot o q → link_of (with_forth_if m s o c) q t ≡ link_of m q t
   unfolding with_forth
@@ -128,37 +135,25 @@ module _ {T : Type 0} (s : ℕ) where
   joined_there m b l f r q t g h = back_there (with_forth_if m s b l) f r q t h ∙ forth_there m b l q t g
 
   pub slots-forth : (m : Pooled T) (o c : Option Ref) → (with_forth_if m s o c).slots ≡ m.slots
-  unfolding with_forth
-  slots-forth m None c = refl
-  slots-forth m (Some r) c = slots-with_link m r.name s (record (link_of m r.name s) { forth = c })
+  slots-forth m o c = stays-forth (λ n. n.slots) m (λ k l. slots-with_link m k s l) o c
 
   slots-back : (m : Pooled T) (o c : Option Ref) → (with_back_if m s o c).slots ≡ m.slots
-  unfolding with_back
-  slots-back m None c = refl
-  slots-back m (Some r) c = slots-with_link m r.name s (record (link_of m r.name s) { back = c })
+  slots-back m o c = stays-back (λ n. n.slots) m (λ k l. slots-with_link m k s l) o c
 
   pub slots-joined : (m : Pooled T) (b l f r : Option Ref) → (joined m s b l f r).slots ≡ m.slots
   slots-joined m b l f r = slots-back (with_forth_if m s b l) f r ∙ slots-forth m b l
 
   value-forth : (m : Pooled T) (o c : Option Ref) (k : ℕ) → value_of (with_forth_if m s o c) k ≡ value_of m k
-  unfolding with_forth
-  value-forth m None c k = refl
-  value-forth m (Some r) c k = value-with_link m r.name s (record (link_of m r.name s) { forth = c }) k
+  value-forth m o c k = stays-forth (λ n. value_of n k) m (λ q l. value-with_link m q s l k) o c
 
   value-back : (m : Pooled T) (o c : Option Ref) (k : ℕ) → value_of (with_back_if m s o c) k ≡ value_of m k
-  unfolding with_back
-  value-back m None c k = refl
-  value-back m (Some r) c k = value-with_link m r.name s (record (link_of m r.name s) { back = c }) k
+  value-back m o c k = stays-back (λ n. value_of n k) m (λ q l. value-with_link m q s l k) o c
 
   beside-forth : (m : Pooled T) (o c : Option Ref) (k t : ℕ) → (s == t) ≡ false → link_of (with_forth_if m s o c) k t ≡ link_of m k t
-  unfolding with_forth
-  beside-forth m None c k t e = refl
-  beside-forth m (Some r) c k t e = link_beside m r.name s (record (link_of m r.name s) { forth = c }) k t e
+  beside-forth m o c k t e = stays-forth (λ n. link_of n k t) m (λ q l. link_beside m q s l k t e) o c
 
   beside-back : (m : Pooled T) (o c : Option Ref) (k t : ℕ) → (s == t) ≡ false → link_of (with_back_if m s o c) k t ≡ link_of m k t
-  unfolding with_back
-  beside-back m None c k t e = refl
-  beside-back m (Some r) c k t e = link_beside m r.name s (record (link_of m r.name s) { back = c }) k t e
+  beside-back m o c k t e = stays-back (λ n. link_of n k t) m (λ q l. link_beside m q s l k t e) o c
 
   pub keeps_joined : (m : Pooled T) (xs ys : List Ref) (l r : Option Ref) → Keeps m (joined m s (last_of None xs) l (first_of ys None) r) s (xs ++ ys)
   keeps_joined m xs ys l r = let b = last_of None xs in let f = first_of ys None in let n = with_forth_if m s b l in record {

@@ -14,7 +14,8 @@ use Rattle.mi_node.specs.Spares.{IsIn, IsNotIn, AreOnce, GoesOn, IsWay, AreListe
 use Rattle.mi_node.specs.declared.cell.Cell.{Cell}
 use Rattle.mi_node.specs.declared.home.Home.{Home}
 use Rattle.mi_node.specs.declared.home.Home.TheVariants.{Free, Held}
-use Rattle.mi_node.proofs.MapLemmas.{none_some, same, last_mark, get-map, entry_of, other_home, this_home}
+use Rattle.mi_node.proofs.EntryLemmas.{none_some, same_name}
+use Rattle.mi_node.proofs.MapLemmas.{last_mark, get-map, entry_of, other_home, this_home}
 
 flipped : (k q : ℕ) → (k == q) ≡ false → (q == k) ≡ false
 flipped k q e = grind (arith, e)
@@ -41,7 +42,7 @@ module _ {T : Type 0} where
   not_on hs at j [] r v way is = tt
   not_on hs at j (k ∷ ks) r v way is = (
     (elim (k == j) as (λ y. (k == j) ≡ y → (k == j) ≡ false) [
-      | true ↦ λ t. absurd (held_not_free (home_at hs k) r v (ap (home_at hs) (same k j t) ∙ is) (goes_free way.1 (home_at hs k) way.2))
+      | true ↦ λ t. absurd (held_not_free (home_at hs k) r v (ap (home_at hs) (same_name k j t) ∙ is) (goes_free way.1 (home_at hs k) way.2))
       | false ↦ λ t. t
     ]) refl,
     not_on hs way.1 j ks r v way.3 is,
@@ -57,7 +58,7 @@ module _ {T : Type 0} where
   was_free : (hs : List (Home T)) (j k : ℕ) (r : Ref) (v : T) → j < length hs → IsFreeAt (slice_set hs j (Held r v)) k → ((k == j) ≡ false) × IsFreeAt hs k
   was_free hs j k r v less free = (elim (k == j) as (λ y. (k == j) ≡ y → ((k == j) ≡ false) × IsFreeAt hs k) [
     | true ↦ λ t. absurd (held_not_free (home_at (slice_set hs j (Held r v)) k) r v
-        (ap (home_at (slice_set hs j (Held r v))) (same k j t) ∙ this_home hs j (Held r v) less) free)
+        (ap (home_at (slice_set hs j (Held r v))) (same_name k j t) ∙ this_home hs j (Held r v) less) free)
     | false ↦ λ t. (t, subst IsFreeIf (other_home hs j (Held r v) less k t) free)
   ]) refl
 
@@ -113,7 +114,7 @@ module _ {T : Type 0} where
     );
     once = (out, l.once);
     all = λ k b e free. ((elim (k == r.name) as (λ y. (k == r.name) ≡ y → IsIn k (r.name ∷ l.ks)) [
-      | true ↦ λ t. inl (same k r.name t)
+      | true ↦ λ t. inl (same_name k r.name t)
       | false ↦ λ t. inr (l.all k b
           (sym (get-insert nat_cmp_total g r.name r.mark k ∙ ap (λ y. cond y (Some r.mark) (get g k)) (unsigned_tied k r.name)
           ∙ ap (λ y. cond y (Some r.mark) (get g k)) t) ∙ e)

@@ -1,25 +1,13 @@
 -- The column's cell is set, and no other place and no other column.
-use Rattle.std.proofs.Common.{ap, sym, subst, ◌∙◌}
-use Rattle.mi_node.specs.Columns.{links_at, AreLong}
+use Rattle.std.proofs.Common.{ap, ◌∙◌}
+use Rattle.mi_node.specs.Columns.{links_at}
 use Rattle.mi_node.specs.Pool.{put_link}
-use Rattle.mi_node.proofs.ColumnLemmas.{put_column, links-here, links-there, long_put}
+use Rattle.mi_node.proofs.ColumnLemmas.{put_here, put_there}
 use Rattle.mi_node.proofs.columns.set_link_at.Goals as goal
 
 pub returns-clause-link : goal.returns-clause-link
-returns-clause-link c =
-    let cs = c.args.columns.now.items in
-    ap (λ ds. links_at ds c.args.place) (put_column c.args.columns.now.items c.args.slot c.args.place
-    c.index_mut.result.now c.set.new.self c.new.result c.requires.slot c.index_mut.ensures.value c.set.ensures)
-    ∙ links-here cs c.args.slot c.args.place c.new.result c.requires.slot c.requires.place ∙ ap (put_link (links_at cs c.args.place) c.args.slot) c.new.ensures
+returns-clause-link c = put_here c.args.columns.now.items c.args.place c.new.result c.requires.slot c.index_mut.ensures.value c.set.ensures c.requires.place
+    ∙ ap (put_link (links_at c.args.columns.now.items c.args.place) c.args.slot) c.new.ensures
 
 pub returns-clause-others : goal.returns-clause-others
-returns-clause-others c k e =
-    ap (λ ds. links_at ds k) (put_column c.args.columns.now.items c.args.slot c.args.place c.index_mut.result.now
-    c.set.new.self c.new.result c.requires.slot c.index_mut.ensures.value c.set.ensures)
-    ∙ links-there c.args.columns.now.items c.args.slot c.args.place k c.new.result e
-
-pub returns-clause-long : goal.returns-clause-long
-returns-clause-long c m long =
-    subst (AreLong m) (sym (put_column c.args.columns.now.items c.args.slot c.args.place c.index_mut.result.now
-    c.set.new.self c.new.result c.requires.slot c.index_mut.ensures.value c.set.ensures))
-    (long_put c.args.columns.now.items c.args.slot c.args.place m c.new.result c.requires.slot long)
+returns-clause-others c = put_there c.args.columns.now.items c.args.place c.new.result c.requires.slot c.index_mut.ensures.value c.set.ensures

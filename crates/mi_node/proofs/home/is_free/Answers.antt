@@ -2,7 +2,7 @@
 use Rattle.std.proofs.Common.{sym, subst}
 use Rattle.std.proofs.lemmas.Bool.{false≢true}
 use Rattle.mi_node.specs.Homes.{IsFree}
-use Rattle.mi_node.proofs.MapLemmas.{none_some}
+use Rattle.mi_node.proofs.EntryLemmas.{none_some}
 use Rattle.mi_node.proofs.home.is_free.Goals as goal
 
 pub returns-in-Held : goal.returns-in-Held

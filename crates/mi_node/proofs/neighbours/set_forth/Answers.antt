@@ -7,6 +7,5 @@ use Rattle.mi_node.proofs.neighbours.set_forth.Goals as goal
 pub returns-in-Some : goal.returns-in-Some
 unfolding with_forth
 returns-in-Some g c =
-    let r = c.in-Some.node in
-    c.set_link.ensures ∙ ap (λ l. with_link c.args.p.now r.name c.args.slot (record l { forth = c.args.forth })) c.link-link.ensures
+    c.set_link.ensures ∙ ap (λ l. with_link c.args.p.now c.in-Some.node.name c.args.slot (record l { forth = c.args.forth })) c.link-link.ensures
     ∙ ap (λ o. with_forth_if c.args.p.now c.args.slot o c.args.forth) (sym c.in-Some.is)

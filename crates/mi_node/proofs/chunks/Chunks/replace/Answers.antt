@@ -1,14 +1,11 @@
 -- An element is replaced in its chunk, and in the list at its index.
-use Rattle.std.proofs.Common.{◌<◌, ◌/◌, ◌%◌, List, ap, sym, subst, length, slice_index_or, slice_set, ◌∙◌}
+use Rattle.std.proofs.Common.{◌/◌, ◌%◌, refl, ap, sym, slice_index_or, slice_set, ◌∙◌}
 use Rattle.mi_node.specs.Chunks.{in_chunk}
-use Rattle.mi_node.proofs.ChunkLemmas.{index-flat, set-flat, IsChunked-set, in_chunks, split_of, small_of}
+use Rattle.mi_node.proofs.ChunkLemmas.{index-flat, set-flat, IsChunked-set, in_bounds, split_of, small_of}
 use Rattle.mi_node.proofs.chunks.Chunks.replace.Goals as goal
 
 pub index_mut-requires : goal.index_mut-requires
-index_mut-requires g c =
-    let cs = c.self.inside.chunks.items in let i = c.args.at in
-    subst (λ n. i / 4096 < n) (sym c.self.inside.chunks.ok.0)
-    (in_chunks in_chunk i cs c.self.invariant.full (subst (λ (l : List g.row.E.Denot). i < length l) (sym c.self.view_is) c.requires))
+index_mut-requires g c = in_bounds in_chunk c.self.inside.chunks.items c.self.invariant.full c.self.inside.chunks.ok.0 c.self.view_is c.requires
 
 pub invariant_of-self : goal.invariant_of-self
 invariant_of-self g c = let w = c.replace.new.self in IsChunked-set in_chunk (c.args.at / 4096) c.self.inside.chunks.items w c.self.invariant w.row.long.0
@@ -16,7 +13,7 @@ invariant_of-self g c = let w = c.replace.new.self in IsChunked-set in_chunk (c.
 pub returns : goal.returns
 returns g c =
     let cs = c.self.inside.chunks.items in let v = c.index_mut.result.now in let w = c.replace.new.self in let i = c.args.at in let x = c.replace.result in
-    let there = in_chunks in_chunk i cs c.self.invariant.full (subst (λ (l : List g.row.E.Denot). i < length l) (sym c.self.view_is) c.requires) in
+    let there = in_bounds in_chunk cs c.self.invariant.full refl c.self.view_is c.requires in
     record {
       item = c.replace.ensures.item
           ∙ sym (index-flat in_chunk (i / 4096) (i % 4096) i cs v x c.self.invariant.full there c.index_mut.ensures.value (small_of i) (split_of i))

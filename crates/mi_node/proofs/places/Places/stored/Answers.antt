@@ -3,11 +3,9 @@ use Rattle.std.proofs.Common.{◌∙◌}
 use Rattle.mi_node.proofs.MapLemmas.{held_wide, held_long, held_link}
 use Rattle.mi_node.proofs.places.Places.stored.Goals as goal
 
-pub stored_at-requires-clause-slot : goal.stored_at-requires-clause-slot
-stored_at-requires-clause-slot g c = held_wide c.requires.sound.0 c.requires.held c.name.ensures c.args.slot c.requires.slot
-
-pub stored_at-requires-clause-place : goal.stored_at-requires-clause-place
-stored_at-requires-clause-place g c = held_long c.requires.sound.0 c.requires.held c.name.ensures c.args.slot c.requires.slot
+pub stored_at-requires : goal.stored_at-requires
+stored_at-requires g c = let h = c.requires in
+    record { slot = held_wide h.sound.0 h.held c.name.ensures c.args.slot h.slot; place = held_long h.sound.0 h.held c.name.ensures c.args.slot h.slot }
 
 pub returns : goal.returns
 returns g c = c.stored_at.ensures ∙ held_link c.requires.sound.0 c.requires.held c.name.ensures c.args.slot
