@@ -81,6 +81,10 @@ module _ {T : Type 0} (m : Pooled T) (s : ℕ) (first : Ref) (X Y : List (List R
       let e0 = append-nil (u ∷ us) in after_last m s (last_of None (u ∷ us)) u us f (subst (λ z. IsLinked m s (last_of None z) z f) e0 h)
   spot_forth us (v ∷ vs) e h = refl
 
+decide_empty : (l : List Ref) → (l ≡ []) ⊎ (l ≡ [] → ⊥)
+decide_empty [] = inl refl
+decide_empty (x ∷ l) = inr (λ e. cc)
+
 module _ (R : Ref → Ref → Bool) (A : IsAlike R) (stamp hash : Ref → ℕ) (H : (a b : Ref) → R a b ≡ true → hash a ≡ hash b) where
   module _ {T : Type 0} (m m2 : Pooled T) (s : ℕ) (heads heads2 : List (Option Ref)) (n : ℕ) (xs : List Ref) (r : Ref) (ys : List Ref) where
     abbrev mine : ℕ
@@ -207,20 +211,8 @@ module _ (R : Ref → Ref → Bool) (A : IsAlike R) (stamp hash : Ref → ℕ) (
             (λ i. option_or (en i) (forth_of m s (ep i))) ∙ spot_forth m s first X Y (first_in Y None) us vs first_is group,
           )
 
-decide_empty : (l : List Ref) → (l ≡ []) ⊎ (l ≡ [] → ⊥)
-decide_empty [] = inl refl
-decide_empty (x ∷ l) = inr (λ e. cc)
-
-module _ (R : Ref → Ref → Bool) (A : IsAlike R) (stamp hash : Ref → ℕ) (H : (a b : Ref) → R a b ≡ true → hash a ≡ hash b) where
-  module _ {T : Type 0} (m m2 : Pooled T) (s : ℕ) (heads heads2 : List (Option Ref)) (n : ℕ) (xs : List Ref) (r : Ref) (ys : List Ref) where
-    abbrev it : ℕ
-    it = hash r % n
-
-    abbrev Jt : Ref → Bool
-    Jt = in_bucket hash n it
-
-    module _ (h : AreBuckets R stamp hash m s heads n (xs ++ r ∷ ys)) (lt : it < n) (fits : it < length heads)
-        (bef : Option Ref) (first : Ref) (f : Found (R r) (h.each it lt).groups bef first) where
+    module _ (h : AreBuckets R stamp hash m s heads n (xs ++ r ∷ ys)) (lt : mine < n) (fits : mine < length heads)
+        (bef : Option Ref) (first : Ref) (f : Found (R r) (h.each mine lt).groups bef first) where
       abbrev us : List Ref
       us = filter (R r) xs
 
@@ -236,20 +228,20 @@ module _ (R : Ref → Ref → Bool) (A : IsAlike R) (stamp hash : Ref → ℕ) (
       group_is : f.group ≡ us ++ r ∷ vs
       group_is = sym (group_found R A stamp hash H m s heads n (xs ++ r ∷ ys) h r lt bef first f) ∙ filter_with (R r) xs r ys (A.reflexive r)
 
-      G : (h.each it lt).groups ≡ X ++ (us ++ r ∷ vs) ∷ Y
+      G : (h.each mine lt).groups ≡ X ++ (us ++ r ∷ vs) ∷ Y
       G = f.parts ∙ ap (λ z. X ++ z ∷ Y) group_is
 
       flat_apart : IsApart ((members X ++ us) ++ r ∷ (vs ++ members Y))
-      flat_apart = subst IsApart (ap members G ∙ members_at X us (r ∷ vs) Y) (chain_of R A stamp hash H m s heads n (xs ++ r ∷ ys) h it lt).apart
+      flat_apart = subst IsApart (ap members G ∙ members_at X us (r ∷ vs) Y) (chain_of R A stamp hash H m s heads n (xs ++ r ∷ ys) h mine lt).apart
 
       full : AreFull X
-      full = full_left X ((us ++ r ∷ vs) ∷ Y) (subst AreFull G (chain_of R A stamp hash H m s heads n (xs ++ r ∷ ys) h it lt).full)
+      full = full_left X ((us ++ r ∷ vs) ∷ Y) (subst AreFull G (chain_of R A stamp hash H m s heads n (xs ++ r ∷ ys) h mine lt).full)
 
       a : AreParted X us vs Y
       a = parted X us vs Y (apart_remove (members X ++ us) r (vs ++ members Y) flat_apart).0
 
       linked : IsChained m s (X ++ (us ++ r ∷ vs) ∷ Y) None
-      linked = let b = h.each it lt in subst (λ z. IsChained m s z None) G b.chained
+      linked = let b = h.each mine lt in subst (λ z. IsChained m s z None) G b.chained
 
       in_group : IsLinked m s (last_of None (us ++ r ∷ vs)) (us ++ r ∷ vs) (first_in Y None)
       in_group = (chained_right s m X ((us ++ r ∷ vs) ∷ Y) None linked).0
@@ -262,10 +254,10 @@ module _ (R : Ref → Ref → Bool) (A : IsAlike R) (stamp hash : Ref → ℕ) (
 
       rest_apart : IsApart ((us ++ r ∷ vs) ++ members Y)
       rest_apart = apart_right (members X) ((us ++ r ∷ vs) ++ members Y)
-          (subst IsApart (ap members G ∙ members-append X ((us ++ r ∷ vs) ∷ Y)) (chain_of R A stamp hash H m s heads n (xs ++ r ∷ ys) h it lt).apart)
+          (subst IsApart (ap members G ∙ members-append X ((us ++ r ∷ vs) ∷ Y)) (chain_of R A stamp hash H m s heads n (xs ++ r ∷ ys) h mine lt).apart)
 
       rest_full : AreFull Y
-      rest_full = (full_right X ((us ++ r ∷ vs) ∷ Y) (subst AreFull G (chain_of R A stamp hash H m s heads n (xs ++ r ∷ ys) h it lt).full)).1
+      rest_full = (full_right X ((us ++ r ∷ vs) ∷ Y) (subst AreFull G (chain_of R A stamp hash H m s heads n (xs ++ r ∷ ys) h mine lt).full)).1
 
       rest_chained : IsChained m s Y None
       rest_chained = (chained_right s m X ((us ++ r ∷ vs) ∷ Y) None linked).1
@@ -303,42 +295,42 @@ module _ (R : Ref → Ref → Bool) (A : IsAlike R) (stamp hash : Ref → ℕ) (
 
       module _ (left right : Option Ref) (el : left ≡ left_of X us) (er : right ≡ right_of us vs)
           (e : m2 ≡ joined m s left (link_of m r.name s).forth right (link_of m r.name s).back)
-          (he : heads2 ≡ heads_joined left heads it (link_of m r.name s).forth) where
+          (he : heads2 ≡ heads_joined left heads mine (link_of m r.name s).forth) where
         same : m2 ≡ joined m s (left_of X us) (first_of vs (first_in Y None)) (right_of us vs) (last_of (last_of (Some r) vs) us)
         same = e ∙ (λ i. joined m s (el i) (link_forth i) (er i) (link_back i))
 
-        top : slice_index_or heads2 it None ≡ first_in (X ++ (us ++ vs) ∷ Y) None
+        top : slice_index_or heads2 mine None ≡ first_in (X ++ (us ++ vs) ∷ Y) None
         top =
-            let b = h.each it lt in
-            ap (λ z. slice_index_or z it None) (he ∙ (λ i. heads_joined (el i) heads it (link_forth i)))
-            ∙ this_head (left_of X us) heads it (first_of vs (first_in Y None)) fits
+            let b = h.each mine lt in
+            ap (λ z. slice_index_or z mine None) (he ∙ (λ i. heads_joined (el i) heads mine (link_forth i)))
+            ∙ this_head (left_of X us) heads mine (first_of vs (first_in Y None)) fits
             ∙ ap (λ z. kept_if (left_of X us) z (first_of vs (first_in Y None))) (b.first_is ∙ ap (λ z. first_in z None) G) ∙ take_head X us r vs Y full
 
-        keeps_all : ((k : ℕ) → IsOut k (filter Jt (xs ++ ys)) → IsOut k (members (X ++ (us ++ vs) ∷ Y))) → Keeps m m2 s (filter Jt (xs ++ ys))
-        keeps_all out = subst (λ z. Keeps m z s (filter Jt (xs ++ ys))) (sym same)
-            (keeps_joined s m (left_of X us) (first_of vs (first_in Y None)) (right_of us vs) (last_of (last_of (Some r) vs) us) (filter Jt (xs ++ ys))
+        keeps_all : ((k : ℕ) → IsOut k (filter J (xs ++ ys)) → IsOut k (members (X ++ (us ++ vs) ∷ Y))) → Keeps m m2 s (filter J (xs ++ ys))
+        keeps_all out = subst (λ z. Keeps m z s (filter J (xs ++ ys))) (sym same)
+            (keeps_joined s m (left_of X us) (first_of vs (first_in Y None)) (right_of us vs) (last_of (last_of (Some r) vs) us) (filter J (xs ++ ys))
             (λ k o.
             let p = subst (IsOut k) (members_at X us vs Y) (out k o) in
             place_out X us vs k (out_left k (members X ++ us) (vs ++ members Y) p)
             (out_left k vs (members Y) (out_right k (members X ++ us) (vs ++ members Y) p))))
 
-        finish : Keeps m m2 s (filter Jt (xs ++ ys)) → IsBucket R m2 s (slice_index_or heads2 it None) (filter Jt (xs ++ ys))
-            → AreBuckets R stamp hash m2 s heads2 n (xs ++ ys) × Keeps m m2 s (filter Jt (xs ++ ys))
+        finish : Keeps m m2 s (filter J (xs ++ ys)) → IsBucket R m2 s (slice_index_or heads2 mine None) (filter J (xs ++ ys))
+            → AreBuckets R stamp hash m2 s heads2 n (xs ++ ys) × Keeps m m2 s (filter J (xs ++ ys))
         finish keeps bucket = (
-          unsettled R A stamp hash H m s heads n m2 heads2 xs r ys h (keeps_more s m m2 (filter Jt (xs ++ ys)) (r ∷ filter Jt (xs ++ ys)) keeps (λ k o. o.1))
-              (λ i d. ap (λ z. slice_index_or z i None) he ∙ other_head left heads it (link_of m r.name s).forth i d) bucket,
+          unsettled R A stamp hash H m s heads n m2 heads2 xs r ys h (keeps_more s m m2 (filter J (xs ++ ys)) (r ∷ filter J (xs ++ ys)) keeps (λ k o. o.1))
+              (λ i d. ap (λ z. slice_index_or z i None) he ∙ other_head left heads mine (link_of m r.name s).forth i d) bucket,
           keeps,
         )
 
-        old_grouped : IsGrouped R (X ++ f.group ∷ Y) (filter Jt (xs ++ r ∷ ys))
-        old_grouped = let b = h.each it lt in subst (λ z. IsGrouped R z (filter Jt (xs ++ r ∷ ys))) f.parts b.grouped
+        old_grouped : IsGrouped R (X ++ f.group ∷ Y) (filter J (xs ++ r ∷ ys))
+        old_grouped = let b = h.each mine lt in subst (λ z. IsGrouped R z (filter J (xs ++ r ∷ ys))) f.parts b.grouped
 
-        take_some : (us ++ vs ≡ [] → ⊥) → AreBuckets R stamp hash m2 s heads2 n (xs ++ ys) × Keeps m m2 s (filter Jt (xs ++ ys))
+        take_some : (us ++ vs ≡ [] → ⊥) → AreBuckets R stamp hash m2 s heads2 n (xs ++ ys) × Keeps m m2 s (filter J (xs ++ ys))
         take_some some =
-            let grouped = group_other R A r X f.group Y (us ++ vs) (filter Jt (xs ++ r ∷ ys))
-            (filter Jt (xs ++ ys)) first old_grouped f.passed f.first_is f.of_key
+            let grouped = group_other R A r X f.group Y (us ++ vs) (filter J (xs ++ r ∷ ys))
+            (filter J (xs ++ ys)) first old_grouped f.passed f.first_is f.of_key
             (sym (others_same R A stamp hash H m s heads n m2 heads2 xs r ys)) (class_without R A stamp hash H m s heads n m2 heads2 xs r ys) some in
-            finish (keeps_all (λ k o. grouped_out R A k (X ++ (us ++ vs) ∷ Y) (filter Jt (xs ++ ys)) grouped o))
+            finish (keeps_all (λ k o. grouped_out R A k (X ++ (us ++ vs) ∷ Y) (filter J (xs ++ ys)) grouped o))
             (record {
               groups = X ++ (us ++ vs) ∷ Y;
               first_is = top;
@@ -346,16 +338,16 @@ module _ (R : Ref → Ref → Bool) (A : IsAlike R) (stamp hash : Ref → ℕ) (
               grouped = grouped;
             })
 
-        take_last : us ++ vs ≡ [] → AreBuckets R stamp hash m2 s heads2 n (xs ++ ys) × Keeps m m2 s (filter Jt (xs ++ ys))
+        take_last : us ++ vs ≡ [] → AreBuckets R stamp hash m2 s heads2 n (xs ++ ys) × Keeps m m2 s (filter J (xs ++ ys))
         take_last none =
-            let grouped = group_gone R A r X f.group Y (filter Jt (xs ++ r ∷ ys)) (filter Jt (xs ++ ys)) first old_grouped f.passed f.first_is f.of_key
+            let grouped = group_gone R A r X f.group Y (filter J (xs ++ r ∷ ys)) (filter J (xs ++ ys)) first old_grouped f.passed f.first_is f.of_key
             (sym (others_same R A stamp hash H m s heads n m2 heads2 xs r ys)) (class_without R A stamp hash H m s heads n m2 heads2 xs r ys ∙ none) in
             let both = both_empty us vs none in
             let flat : members (X ++ (us ++ vs) ∷ Y) ≡ members (X ++ Y) =
             ap (λ z. members (X ++ z ∷ Y)) none ∙ members-append X ([] ∷ Y) ∙ sym (members-append X Y) in
             let ends : first_in (X ++ (us ++ vs) ∷ Y) None ≡ first_in (X ++ Y) None =
             ap (λ z. first_in (X ++ z ∷ Y) None) none ∙ first_in-append X ([] ∷ Y) None ∙ sym (first_in-append X Y None) in
-            finish (keeps_all (λ k o. subst (IsOut k) (sym flat) (grouped_out R A k (X ++ Y) (filter Jt (xs ++ ys)) grouped o)))
+            finish (keeps_all (λ k o. subst (IsOut k) (sym flat) (grouped_out R A k (X ++ Y) (filter J (xs ++ ys)) grouped o)))
             (record {
               groups = X ++ Y;
               first_is = top ∙ ends;
@@ -363,7 +355,7 @@ module _ (R : Ref → Ref → Bool) (A : IsAlike R) (stamp hash : Ref → ℕ) (
               grouped = grouped;
             })
 
-        pub take_old : AreBuckets R stamp hash m2 s heads2 n (xs ++ ys) × Keeps m m2 s (filter Jt (xs ++ ys))
+        pub take_old : AreBuckets R stamp hash m2 s heads2 n (xs ++ ys) × Keeps m m2 s (filter J (xs ++ ys))
         take_old = elim (decide_empty (us ++ vs)) [
           | inl e' ↦ take_last e'
           | inr e' ↦ take_some e'

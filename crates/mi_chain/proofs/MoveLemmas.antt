@@ -9,7 +9,7 @@ use Rattle.mi_node.specs.Pool.{Pooled, node_count, link_of, IsHeld, IsHeldIf, Ke
 use Rattle.mi_node.specs.Neighbours.{IsLinked, with_forth_if}
 use Rattle.mi_node.specs.Refs.{Ref, last_of, IsOut, IsApart, AreOut}
 use Rattle.mi_node.proofs.EntryLemmas.{same_refl}
-use Rattle.mi_node.proofs.KeepingLemmas.{keeps_more, node_count-least}
+use Rattle.mi_node.proofs.KeepingLemmas.{keeps_more, keeps_then, node_count-least}
 use Rattle.mi_node.proofs.NeighbourLemmas.{retail, tag-forth, linked_held}
 use Rattle.mi_node.proofs.RefLemmas.{are_out_flip}
 use Rattle.mi_chain.specs.Keying.{Keying, IsLawful, same_nodes, hash_node, stamp_at}
@@ -469,3 +469,12 @@ module _ {T H : Type 0} (k : Keying T) (w : IsLawful k) where
         let now = steps_now R (alike k m w) (stamp_at m c.slot) (hash_node k m) (same_hash k m w) m c.slot c.buckets.items (vec_len c.buckets) heads n rs q.0 P
         i lt first at m2 c2.buckets.items heads2 em' en eo' (subst (λ z. hash_node k m first % vec_len c.buckets < z) count_is room_there) fo room_there in
         omega arith
+
+-- one more step of a loop that moves groups: its keys and its slot are those of the start
+pub move_on : {T Q : Type 0} (at : Q → Keying T) (P P2 : Keying T → Type 0) (p0 a z : Pooled T) (rs : List Ref) {k k0 : Q} {s s0 : ℕ} → k ≡ k0 → s ≡ s0
+    → (P (at k) → P2 (at k)) → (P (at k) → Keeps a z s rs) → P (at k0) × Keeps p0 a s0 rs → P2 (at k0) × Keeps p0 z s0 rs
+move_on at P P2 p0 a z rs {k} {k0} {s} {s0} keys slot moves keeps on =
+    let now : P (at k) = subst (λ q. P (at q)) (sym keys) on.0 in (
+      subst (λ q. P2 (at q)) keys (moves now),
+      keeps_then s0 p0 a z rs rs rs on.1 (subst (λ t. Keeps a z t rs) slot (keeps now)) (λ q out. (out, out)),
+    )

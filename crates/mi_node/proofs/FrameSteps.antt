@@ -17,6 +17,9 @@ use types.Kit.{feq_l, feq_i}
 use denote.RattleType.{RattleType, Valss}
 use denote.Array.{Array}
 use denote.Param.{layout}
+use denote.Param.Laws.{Laws}
+use mir.Syntax.{Dict}
+use Rattle.core.specs.declared.alloc.Allocator.{Ghosts}
 use denote.RawPtr.{Ptr, RawPtr, block_ptr, ptr_val, room_for, in_a_block}
 use denote.Steps.{nothing}
 use denote.Struct.Declared as Declared
@@ -42,6 +45,10 @@ frame_val hv p q = vstruct (vcons (ptr_val p) (vcons (ptr_val q) (vcons hv vnil)
 
 abbrev pub Block : RattleType
 Block = B.the_row
+
+-- the box of an element type and of an allocator with its laws
+abbrev pub boxed : (T : RattleType) → Laws T → (A : RattleType) → Laws A → Ghosts A.Denot → Dict → Dict → Bx
+boxed T L A LA g d drops = record { row = T; laws = L; al = record { row = A; laws = LA; g = g; d = d; drops = drops } }
 
 module _ (E : Bx) where
   -- the element type, as the steps over slots name it

@@ -73,12 +73,14 @@ module _ {T : Type 0} (s : ℕ) where
   frame_forth m (Some r) c b xs f h l = frame m r.name (record (link_of m r.name s) { forth = c }) b xs f h l
 
   -- what no link has a part in stays
-  stays-forth : {X : Type 0} (f : Pooled T → X) (m : Pooled T) → ((k : ℕ) (l : Link) → f (with_link m k s l) ≡ f m) → (o c : Option Ref) → f (with_forth_if m s o c) ≡ f m
+  stays-forth : {X : Type 0} (f : Pooled T → X) (m : Pooled T) → ((k : ℕ) (l : Link) → f (with_link m k s l) ≡ f m)
+      → (o c : Option Ref) → f (with_forth_if m s o c) ≡ f m
   unfolding with_forth
   stays-forth f m same None c = refl
   stays-forth f m same (Some r) c = same r.name (record (link_of m r.name s) { forth = c })
 
-  stays-back : {X : Type 0} (f : Pooled T → X) (m : Pooled T) → ((k : ℕ) (l : Link) → f (with_link m k s l) ≡ f m) → (o c : Option Ref) → f (with_back_if m s o c) ≡ f m
+  stays-back : {X : Type 0} (f : Pooled T → X) (m : Pooled T) → ((k : ℕ) (l : Link) → f (with_link m k s l) ≡ f m)
+      → (o c : Option Ref) → f (with_back_if m s o c) ≡ f m
   unfolding with_back
   stays-back f m same None c = refl
   stays-back f m same (Some r) c = same r.name (record (link_of m r.name s) { back = c })

@@ -8,7 +8,8 @@ loop-slot-init c = lengthened_start c.args.places c.args.columns.now.items c.req
 
 pub loop-slot-preserved : goal.loop-slot-preserved
 loop-slot-preserved c =
-    lengthened_next _ c.lengthen_column.new.column (put_longer c.lengthen_column.new.column c.loop-slot.invariant (c.len-slot-end.ensures ∙ c.args.columns.now.ok.0) c.loop-slot-test.true
+    lengthened_next _ c.lengthen_column.new.column
+    (put_longer c.lengthen_column.new.column c.loop-slot.invariant (c.len-slot-end.ensures ∙ c.args.columns.now.ok.0) c.loop-slot-test.true
     c.index_mut.ensures.value c.lengthen_column.ensures.cells c.lengthen_column.ensures.longer)
     (c.len-slot-end.ensures ∙ c.args.columns.now.ok.0) c.loop-slot-test.true c.in_ok-lengthen_column.ensures.ok
 

@@ -32,7 +32,7 @@ use Rattle.core.proofs.slots.Slots.into_raw_parts.Met as callee
 use Rattle.std_alloc.proofs.BoxSteps.Form.{Bx, R, args, τ}
 use Rattle.std_alloc.proofs.OfVacant.{Vacant, vacant_val, vacant_typed, Vacant-made}
 use Rattle.std_alloc.proofs.RawLayout.{as_raw}
-use Rattle.mi_node.proofs.FrameSteps.{Bare, Whole, in_slots, bare_val, bare_typed, bare_had}
+use Rattle.mi_node.proofs.FrameSteps.{Bare, Whole, boxed, in_slots, bare_val, bare_typed, bare_had}
 use Rattle.mi_node.proofs.SlotCalls.{Places, parts_typed, spelled, Into, into_at, into_asks, into_gives}
 use Rattle.core.proofs.alloc.Calls.{token}
 use Rattle.mi_node.specs.Frames.{places_type}
@@ -46,11 +46,9 @@ use Rattle.mi_node.proofs.frame.close_bare.Code as code
 
 pub close_bare_spec : {M : Type 1} → statement M
 close_bare_spec 𝓤 𝓛 𝓜 𝓡 wired T A L LA ga da dd met md =
-    let H = 𝓛.H in let 𝓣 = tables 𝓤 H 𝓜 𝓡 𝓡.env in
-    let E : Bx = record { row = T; laws = L; al = record { row = A; laws = LA; g = ga; d = da; drops = dd } } in let S : El = in_slots E in
+    let H = 𝓛.H in let 𝓣 = tables 𝓤 H 𝓜 𝓡 𝓡.env in let E : Bx = boxed T L A LA ga da dd in let S : El = in_slots E in
     let En = ended T A ga da dd in let fn = inst_fn (args E) code.function in let c = clauses T A ga da dd 𝓛 𝓜.mem 𝓡.returns in
-    let calls = callee.met 𝓤 𝓛 𝓜 𝓡 (code.calls-core::slots::Slots::into_raw_parts 𝓡.env wired) T L in
-    let Room : RattleType = Vacant E.al (Whole E) in
+    let calls = callee.met 𝓤 𝓛 𝓜 𝓡 (code.calls-core::slots::Slots::into_raw_parts 𝓡.env wired) T L in let Room : RattleType = Vacant E.al (Whole E) in
     let hs : Stays En.signature.params En.kept = (stay_dropped (plain (λ _. Bare E)) no, (stay_dropped (plain (λ _. Places S)) no, tt)) in
     proved_at 𝓛 En hs c 𝓜 𝓡 (Goes-blank 𝓛 2 (plain (λ _. Bare E)) no (λ κs x f. tt), (Goes-dropped 𝓛 2 (plain (λ _. Places S)) no (λ κs x f. refl), tt))
     (#self (args E)) fn (code.unfolded 𝓤 H 𝓜 𝓡 wired (T, (A, tt)) da dd) (λ z are.

@@ -36,7 +36,7 @@ use denote.Param.{layout}
 use prog.Memory.{size}
 use Rattle.std_alloc.proofs.BoxSteps.Form.{Bx, R, args, τ}
 use Rattle.std_alloc.proofs.OfVacant.{Vacant, vacant_val, vacant_typed, Vacant-had}
-use Rattle.mi_node.proofs.FrameSteps.{Bare, Whole, in_slots, bare_typed, bare_made}
+use Rattle.mi_node.proofs.FrameSteps.{Bare, Whole, boxed, in_slots, bare_typed, bare_made}
 use Rattle.mi_node.proofs.FrameSteps as steps
 use Rattle.mi_node.proofs.SlotCalls.{memory, places_typed, From, from_at, from_asks, from_gives}
 use Rattle.mi_node.proofs.RowSteps.{big_lit}
@@ -47,11 +47,9 @@ use Rattle.mi_node.proofs.frame.open_bare.Code as code
 
 pub open_bare_spec : {M : Type 1} → statement M
 open_bare_spec 𝓤 𝓛 𝓜 𝓡 wired T A L LA ga da dd met md =
-    let H = 𝓛.H in let 𝓣 = tables 𝓤 H 𝓜 𝓡 𝓡.env in
-    let E : Bx = record { row = T; laws = L; al = record { row = A; laws = LA; g = ga; d = da; drops = dd } } in let S : El = in_slots E in
+    let H = 𝓛.H in let 𝓣 = tables 𝓤 H 𝓜 𝓡 𝓡.env in let E : Bx = boxed T L A LA ga da dd in let S : El = in_slots E in
     let En = ended T A ga da dd in let fn = inst_fn (args E) code.function in let c = clauses T A ga da dd 𝓛 𝓜.mem 𝓡.returns in
-    let calls = callee.met 𝓤 𝓛 𝓜 𝓡 (code.calls-core::slots::Slots::from_raw_parts 𝓡.env wired) T L in
-    let Room : RattleType = Vacant E.al (Whole E) in
+    let calls = callee.met 𝓤 𝓛 𝓜 𝓡 (code.calls-core::slots::Slots::from_raw_parts 𝓡.env wired) T L in let Room : RattleType = Vacant E.al (Whole E) in
     let hs : Stays En.signature.params En.kept = (stay_dropped (plain (λ _. Room)) no, tt) in
     proved_at 𝓛 En hs c 𝓜 𝓡 (Goes-blank 𝓛 2 (plain (λ _. Room)) no (λ κs x f. tt), tt) (#self (args E)) fn (code.unfolded 𝓤 H 𝓜 𝓡 wired (T, (A, tt)) da dd) (λ z are.
     let κ : Lft = z.0.0.0 in let ρ : Lft = z.0.0.1.0 in let q : Share = z.0.1.0 in let r : Share = z.0.1.1.0 in let d : Room.Denot = z.0.3.0 in let vss = z.0.4 in

@@ -80,20 +80,8 @@ module _ (g : Over) (c : After-gap_for-gap g) (nodes : List Ref)
   ends_held = gap_ends c.args.p.now (stamp_at c.args.p.now c.args.self.now.slot) c.args.stamp nodes c.gap_for-gap.result.prev
       c.gap_for-gap.result.next group.all_held gap_found
 
-pub value-requires : goal.value-requires
-value-requires g c = c.requires.3.held
-
-pub bucket-bucket-requires : goal.bucket-bucket-requires
-bucket-bucket-requires g c = c.requires.2.power
-
 pub head-head-requires : goal.head-head-requires
 head-head-requires g c = bucket_inside g (goal.at.head-head-requires g c).After-bucket-bucket
-
-pub group_of-place-requires-clause-held : goal.group_of-place-requires-clause-held
-group_of-place-requires-clause-held g c = c.requires.3.held
-
-pub group_of-place-requires-clause-slot : goal.group_of-place-requires-clause-slot
-group_of-place-requires-clause-slot g c = let b = c.requires.2.buckets in b.slot
 
 pub group_of-place-requires-clause-hash : goal.group_of-place-requires-clause-hash
 group_of-place-requires-clause-hash g c = hash_found g (goal.at.group_of-place-requires-clause-hash g c).After-bucket-bucket
@@ -103,21 +91,11 @@ group_of-place-requires-clause-chain g c =
     let o = goal.at.group_of-place-requires-clause-chain g c in let bucket = bucket_found g o.After-bucket-bucket in let h = c.requires.2 in
     (groups g o.After-head-head bucket _ h, chain_found g o.After-head-head bucket _ h, tags_found g o.After-head-head bucket _ h)
 
-pub begin_group-requires-clause-node : goal.begin_group-requires-clause-node
-begin_group-requires-clause-node g c = c.requires.3.held
-
-pub begin_group-requires-clause-slot : goal.begin_group-requires-clause-slot
-begin_group-requires-clause-slot g c = let b = c.requires.2.buckets in b.slot
-
 pub begin_group-requires-clause-bucket : goal.begin_group-requires-clause-bucket
 begin_group-requires-clause-bucket g c = bucket_inside g (goal.at.begin_group-requires-clause-bucket g c).After-bucket-bucket
 
 pub begin_group-requires-clause-few : goal.begin_group-requires-clause-few
-begin_group-requires-clause-few g c = let l = c.args.self.now in few_groups l (g.H.KeyHash.keying l.keys) (g.met.H.KeyHash.lawful l.keys) c.args.p.now
-    (c.requires.0 ++ c.requires.1) c.requires.2
-
-pub gap_for-gap-requires-clause-slot : goal.gap_for-gap-requires-clause-slot
-gap_for-gap-requires-clause-slot g c = let b = c.requires.2.buckets in b.slot
+begin_group-requires-clause-few g c = few_groups c.args.self.now _ (g.met.H.KeyHash.lawful c.args.self.now.keys) _ _ c.requires.2
 
 pub gap_for-gap-requires-clause-group : goal.gap_for-gap-requires-clause-group
 gap_for-gap-requires-clause-group g c =
@@ -130,22 +108,10 @@ link-link-requires-clause-held g c =
     let o = goal.at.link-link-requires-clause-held g c in let bucket = bucket_found g o.After-bucket-bucket in
     (group_stands g o.In-Some bucket _ c.requires.2).first_held
 
-pub link-link-requires-clause-slot : goal.link-link-requires-clause-slot
-link-link-requires-clause-slot g c = let b = c.requires.2.buckets in b.slot
-
 pub after-follower-requires-clause-held : goal.after-follower-requires-clause-held
 after-follower-requires-clause-held g c =
     let o = goal.at.after-follower-requires-clause-held g c in let bucket = bucket_found g o.After-bucket-bucket in
     (ends_held g o.After-gap_for-gap _ (group_stands g o.In-Some bucket _ c.requires.2)).0
-
-pub after-follower-requires-clause-slot : goal.after-follower-requires-clause-slot
-after-follower-requires-clause-slot g c = let b = c.requires.2.buckets in b.slot
-
-pub put-requires-clause-node : goal.put-requires-clause-node
-put-requires-clause-node g c = c.requires.3.held
-
-pub put-requires-clause-slot : goal.put-requires-clause-slot
-put-requires-clause-slot g c = let b = c.requires.2.buckets in b.slot
 
 pub put-requires-clause-bucket : goal.put-requires-clause-bucket
 put-requires-clause-bucket g c = bucket_inside g (goal.at.put-requires-clause-bucket g c).After-bucket-bucket
@@ -248,7 +214,5 @@ pub returns-in-Some-clause-tags : goal.returns-in-Some-clause-tags
 returns-in-Some-clause-tags g c q = let v = c.args in let m = v.p.now in let l = v.self.now in let k = g.H.KeyHash.keying l.keys in
     let w = g.met.H.KeyHash.lawful l.keys in let r = v.node in
     let hash = hash_found g (goal.at.returns-in-Some-clause-tags g c).After-bucket-bucket in
-    tags_put l k w m r (record
-    { back = c.or-back.result; forth = c.or-forth.result; size = 0; height = 0; tag = record { key = c.hash-hash.result; stamp = v.stamp } }) c.or-left.result
-    c.or-right.result (Some r) (Some r) c.put.new.p c.requires.3.held c.put.ensures.pool q
+    tags_put l k w m r _ c.or-left.result c.or-right.result (Some r) (Some r) c.put.new.p c.requires.3.held c.put.ensures.pool q
     ∙ ap (λ z. cond (r.name == q) (record { key = z; stamp = v.stamp }) (link_of m q l.slot).tag) hash

@@ -1,8 +1,8 @@
 -- The groups that were moved stand in new buckets, the others still in the old one.
 use Rattle.std.proofs.Common.{◌≡◌, ◌<◌, length, ◌∙◌, sym, ap, subst, vec_len, slice_index_or, Some, None}
-use Rattle.mi_node.specs.Pool.{Keeps, node_count, link_of}
-use Rattle.mi_node.proofs.KeepingLemmas.{keeps_then}
+use Rattle.mi_node.specs.Pool.{node_count, link_of}
 use Rattle.mi_chain.specs.Moves.{AreBetween, hops, next_group}
+use Rattle.mi_chain.proofs.MoveLemmas.{move_on}
 use Rattle.mi_chain.proofs.StandingLemmas.{any_head}
 use Rattle.mi_chain.proofs.chains.Chains.move_bucket.Goals as goal
 
@@ -34,15 +34,9 @@ loop-first-preserved g c = let v = c.args in let a = c.loop-first in let o = a.o
     let lt : v.bucket < vec_len o = subst (λ z. v.bucket < z) (sym a.invariant.2) c.requires.bucket in
     let at : slice_index_or o.items v.bucket None ≡ Some c.in-Some.first =
     sym (c.node.ensures ∙ c.index.ensures ∙ any_head o.items v.bucket _ None (subst (λ z. v.bucket < z) count lt)) ∙ c.in-Some.is in
-    let l = v.self.now in let k = g.H.KeyHash.keying l.keys in let z = c.move_group.new in (
-      λ rs b.
-          let on = a.invariant.0 rs b in
-          let now : AreBetween a.self o.items (vec_len o) (g.H.KeyHash.keying a.self.keys) a.p rs = subst
-          (λ q. AreBetween a.self o.items (vec_len o) (g.H.KeyHash.keying q) a.p rs) (sym a.invariant.5) on.0 in
-          let keeps : Keeps a.p z.p l.slot rs = subst (λ t. Keeps a.p z.p t rs) a.invariant.4 (c.move_group.ensures.keeps rs now) in (
-            subst (λ q. AreBetween z.self z.old.items (vec_len z.old) (g.H.KeyHash.keying q) z.p rs) a.invariant.5 (c.move_group.ensures.moving rs now),
-            keeps_then l.slot v.p.now a.p z.p rs rs rs on.1 keeps (λ q out. (out, out)),
-          ),
+    let z = c.move_group.new in (
+      λ rs b. move_on g.H.KeyHash.keying (λ k. AreBetween a.self o.items (vec_len o) k a.p rs) (λ k. AreBetween z.self z.old.items (vec_len z.old) k z.p rs)
+          v.p.now a.p z.p rs a.invariant.5 a.invariant.4 (c.move_group.ensures.moving rs) (c.move_group.ensures.keeps rs) (a.invariant.0 rs b),
       λ j less e.
           let was = a.invariant.1 j less e in
           c.move_group.ensures.others j (λ same. let f : None ≡ Some c.in-Some.first = sym was ∙ ap (λ d. slice_index_or o.items d None) same ∙ at in cc) ∙ was,
@@ -58,6 +52,3 @@ returns-clause-moving g c rs b = (c.loop-first.invariant.0 rs b).0
 
 pub returns-clause-keeps : goal.returns-clause-keeps
 returns-clause-keeps g c rs b = (c.loop-first.invariant.0 rs b).1
-
-pub returns-clause-tags : goal.returns-clause-tags
-returns-clause-tags g c q = c.loop-first.invariant.6 q

@@ -7,8 +7,7 @@ use Rattle.mi_chain.proofs.CallLemmas.{held_it, next_of_it, none_of_it}
 use Rattle.mi_chain.proofs.chains.Chains.next_of.Goals as goal
 
 pub link-link-requires-clause-held : goal.link-link-requires-clause-held
-link-link-requires-clause-held g c =
-    let l = c.args.self.now in
+link-link-requires-clause-held g c = let l = c.args.self.now in
     held_it l (g.H.KeyHash.keying l.keys) (g.met.H.KeyHash.lawful l.keys) c.args.p.now c.requires.0 c.args.node c.requires.1 c.requires.2
 
 pub link-after-requires-clause-held : goal.link-after-requires-clause-held

@@ -8,8 +8,7 @@ use Rattle.mi_chain.proofs.CallLemmas.{held_it, back_held, prev_of_it}
 use Rattle.mi_chain.proofs.chains.Chains.prev_of.Goals as goal
 
 pub link-link-requires-clause-held : goal.link-link-requires-clause-held
-link-link-requires-clause-held g c =
-    let l = c.args.self.now in
+link-link-requires-clause-held g c = let l = c.args.self.now in
     held_it l (g.H.KeyHash.keying l.keys) (g.met.H.KeyHash.lawful l.keys) c.args.p.now c.requires.0 c.args.node c.requires.1 c.requires.2
 
 pub after-forth-requires-clause-held : goal.after-forth-requires-clause-held

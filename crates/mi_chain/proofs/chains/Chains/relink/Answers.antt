@@ -52,35 +52,19 @@ module _ (g : Over) (c : After-or-forth g)
       subst (λ (z : Option Ref × Option Ref × Option Ref × Option Ref). Room l k w m xs r ys y h q z.0 z.1 z.2 z.3)
       (λ i. (sym c.or-left.ensures i, sym c.or-right.ensures i, sym c.or-back.ensures i, sym forth i)) found
 
-pub bucket-bucket-requires : goal.bucket-bucket-requires
-bucket-bucket-requires g c = c.requires.2.power
-
-pub begin_group-requires-clause-node : goal.begin_group-requires-clause-node
-begin_group-requires-clause-node g c = let p = c.requires.3.placed in p.held
-
-pub begin_group-requires-clause-slot : goal.begin_group-requires-clause-slot
-begin_group-requires-clause-slot g c = let b = c.requires.2.buckets in b.slot
-
 pub begin_group-requires-clause-bucket : goal.begin_group-requires-clause-bucket
 begin_group-requires-clause-bucket g c = bucket_inside g (goal.at.begin_group-requires-clause-bucket g c).After-bucket-bucket
 
 pub begin_group-requires-clause-few : goal.begin_group-requires-clause-few
-begin_group-requires-clause-few g c = let l = c.args.self.now in few_groups l (g.H.KeyHash.keying l.keys) (g.met.H.KeyHash.lawful l.keys) c.args.p.now
-    (c.requires.0 ++ c.requires.1) c.requires.2
+begin_group-requires-clause-few g c = few_groups c.args.self.now _ (g.met.H.KeyHash.lawful c.args.self.now.keys) _ _ c.requires.2
 
 pub end-end-requires-clause-held : goal.end-end-requires-clause-held
 end-end-requires-clause-held g c = let l = c.args.self.now in
     (sides_held l (g.H.KeyHash.keying l.keys) (g.met.H.KeyHash.lawful l.keys) c.args.p.now c.requires.0 c.args.node c.requires.1 c.args.remembered c.requires.2
     c.requires.3).1
 
-pub end-end-requires-clause-slot : goal.end-end-requires-clause-slot
-end-end-requires-clause-slot g c = let b = c.requires.2.buckets in b.slot
-
 pub place_at-place-requires-clause-bucket : goal.place_at-place-requires-clause-bucket
 place_at-place-requires-clause-bucket g c = bucket_inside g (goal.at.place_at-place-requires-clause-bucket g c).After-bucket-bucket
-
-pub place_at-place-requires-clause-slot : goal.place_at-place-requires-clause-slot
-place_at-place-requires-clause-slot g c = let b = c.requires.2.buckets in b.slot
 
 pub place_at-place-requires-clause-chain : goal.place_at-place-requires-clause-chain
 place_at-place-requires-clause-chain g c = (_, chain_found g (goal.at.place_at-place-requires-clause-chain g c).After-bucket-bucket)
@@ -89,15 +73,6 @@ pub after-follower-requires-clause-held : goal.after-follower-requires-clause-he
 after-follower-requires-clause-held g c = let l = c.args.self.now in
     (sides_held l (g.H.KeyHash.keying l.keys) (g.met.H.KeyHash.lawful l.keys) c.args.p.now c.requires.0 c.args.node c.requires.1 c.args.remembered c.requires.2
     c.requires.3).0
-
-pub after-follower-requires-clause-slot : goal.after-follower-requires-clause-slot
-after-follower-requires-clause-slot g c = let b = c.requires.2.buckets in b.slot
-
-pub put-requires-clause-node : goal.put-requires-clause-node
-put-requires-clause-node g c = let p = c.requires.3.placed in p.held
-
-pub put-requires-clause-slot : goal.put-requires-clause-slot
-put-requires-clause-slot g c = let b = c.requires.2.buckets in b.slot
 
 pub put-requires-clause-bucket : goal.put-requires-clause-bucket
 put-requires-clause-bucket g c = bucket_inside g (goal.at.put-requires-clause-bucket g c).After-bucket-bucket
@@ -166,6 +141,5 @@ returns-clause-keeps g c xs ys h q = let o = goal.at.returns-clause-keeps g c in
 
 pub returns-clause-tags : goal.returns-clause-tags
 returns-clause-tags g c q = let v = c.args in let m = v.p.now in let l = v.self.now in let r = v.node in let p = c.requires.3.placed in
-    tags_put l (g.H.KeyHash.keying l.keys) (g.met.H.KeyHash.lawful l.keys) m r
-    (record { back = c.or-back.result; forth = c.or-forth.result; size = 0; height = 0; tag = v.remembered.tag }) c.or-left.result c.or-right.result (Some r)
-    (Some r) c.put.new.p p.held c.put.ensures.pool q
+    tags_put l (g.H.KeyHash.keying l.keys) (g.met.H.KeyHash.lawful l.keys) m r _ c.or-left.result c.or-right.result
+    (Some r) (Some r) c.put.new.p p.held c.put.ensures.pool q
