@@ -1,20 +1,20 @@
 -- What the passes find is what the look-ups answer.
-use Rattle.std.proofs.Common.{◌≡◌, ℕ, true, not, Option, List, length, slice_get, ap, sym, ◌∙◌}
+use Rattle.std.proofs.Common.{◌≡◌, ℕ, Bool, true, not, Option, List, length, slice_get, ap, sym, ◌∙◌}
 use Rattle.std.specs.List.{filter, count_by}
-use Rattle.std.specs.Ordering.{is_gt, is_ge}
 use Rattle.std.proofs.lemmas.List.Sums.{length-filter}
 use Rattle.mi_value.specs.declared.value.Value.{Value}
 use Rattle.mi_catalog.specs.declared.index.Index.{Index}
 use Rattle.mi_catalog.specs.Shape.{Shape, index_at}
 use Rattle.mi_model.specs.Table.{Table, IsTable, has, list_of}
-use Rattle.mi_model.specs.View.{sorted, compare_to_id}
+use Rattle.mi_model.specs.View.{sorted, view}
 use Rattle.mi_catalog.specs.Kinds.{is_sorted, shows_one_list}
 use Rattle.mi_model.specs.LookUp as look
 use Rattle.mi_model.specs.LookUp.{rank_in}
 use Rattle.mi_plain.specs.declared.pass.Boundary.{Boundary}
 use Rattle.mi_plain.specs.declared.pass.Boundary.TheVariants.{Start, End, Lower, Upper, Before, Behind}
 use Rattle.mi_plain.specs.Boundary.{order_in, is_before, last_id}
-use Rattle.mi_plain.proofs.BoundaryLemmas.{view_is, listed_shown, listed_sorted, after_is, before_is, rank_is}
+use Rattle.mi_model.proofs.LookUpLaws.{HoldsBefore}
+use Rattle.mi_plain.proofs.BoundaryLemmas.{by_place_total, view_is, listed_shown, listed_sorted, after_is, before_is, rank_is}
 use Rattle.mi_plain.proofs.BoundaryLemmas.{first_is, last_is, shown_past, shown_count, holds_lower, holds_upper}
 
 abbrev pub past : Index → Table → ℕ → List Value → Boundary → Option ℕ
@@ -54,32 +54,31 @@ module _ (s : Shape) (t : Table) (x : ℕ) (is : IsTable s t) (i : Index) (same 
         ∙ rank_is (index_at s x) t (list_of t x) (listed_sorted s t x is sorts) key e there ∙ ap (λ ids. rank_in ids e) (sym (view_is s t x))
 
   module _ (sorts : is_sorted (index_at s x).kind ≡ true) where
+    -- whether an id stands before a boundary
+    abbrev stands : Boundary → ℕ → Bool
+    stands b = is_before (index_at s x) t (list_of t x) key b
+
+    -- how many of the ids that the index shows stand before a boundary, and the first that doesn't
+    counted : (b : Boundary) → count_of i t x key b ≡ count_by (stands b) (view s t x)
+    counted b =
+        ap (λ (j : Index). count_of j t x key b) same ∙ shown_count (index_at s x) t (list_of t x) (listed_sorted s t x is sorts) (stands b)
+        ∙ length-filter (stands b) _ ∙ ap (count_by (stands b)) (sym (view_is s t x))
+
+    looked_up : (b : Boundary) → HoldsBefore (by_place_total (index_at s x) t (list_of t x)) (stands b)
+        → past i t x key b ≡ slice_get (view s t x) (count_by (stands b) (view s t x))
+    looked_up b holds =
+        ap (λ (j : Index). past j t x key b) same ∙ shown_past (index_at s x) t (list_of t x) (listed_sorted s t x is sorts) (stands b) holds
+        ∙ ap (slice_get (sorted (order_in (index_at s x) t) (list_of t x))) (length-filter (stands b) _)
+        ∙ ap (λ ids. slice_get ids (count_by (stands b) ids)) (sym (view_is s t x))
+
     pub lower_rank_shown : count_of i t x key Lower ≡ look.lower_rank s t x key
-    lower_rank_shown =
-        ap (λ (j : Index). count_of j t x key Lower) same
-        ∙ shown_count (index_at s x) t (list_of t x) (listed_sorted s t x is sorts) (is_before (index_at s x) t (list_of t x) key Lower)
-        ∙ length-filter (λ id. is_gt (compare_to_id (index_at s x) t key id)) _
-        ∙ ap (count_by (λ id. is_gt (compare_to_id (index_at s x) t key id))) (sym (view_is s t x))
+    lower_rank_shown = counted Lower
 
     pub upper_rank_shown : count_of i t x key Upper ≡ look.upper_rank s t x key
-    upper_rank_shown =
-        ap (λ (j : Index). count_of j t x key Upper) same
-        ∙ shown_count (index_at s x) t (list_of t x) (listed_sorted s t x is sorts) (is_before (index_at s x) t (list_of t x) key Upper)
-        ∙ length-filter (λ id. is_ge (compare_to_id (index_at s x) t key id)) _
-        ∙ ap (count_by (λ id. is_ge (compare_to_id (index_at s x) t key id))) (sym (view_is s t x))
+    upper_rank_shown = counted Upper
 
     pub lower_shown : past i t x key Lower ≡ look.lower s t x key
-    lower_shown =
-        ap (λ (j : Index). past j t x key Lower) same
-        ∙ shown_past (index_at s x) t (list_of t x) (listed_sorted s t x is sorts)
-        (is_before (index_at s x) t (list_of t x) key Lower) (holds_lower (index_at s x) t (list_of t x) sorts key)
-        ∙ ap (λ n. slice_get (sorted (order_in (index_at s x) t) (list_of t x)) n) (length-filter (λ id. is_gt (compare_to_id (index_at s x) t key id)) _)
-        ∙ ap (λ ids. slice_get ids (count_by (λ id. is_gt (compare_to_id (index_at s x) t key id)) ids)) (sym (view_is s t x))
+    lower_shown = looked_up Lower (holds_lower (index_at s x) t (list_of t x) sorts key)
 
     pub upper_shown : past i t x key Upper ≡ look.upper s t x key
-    upper_shown =
-        ap (λ (j : Index). past j t x key Upper) same
-        ∙ shown_past (index_at s x) t (list_of t x) (listed_sorted s t x is sorts)
-        (is_before (index_at s x) t (list_of t x) key Upper) (holds_upper (index_at s x) t (list_of t x) sorts key)
-        ∙ ap (λ n. slice_get (sorted (order_in (index_at s x) t) (list_of t x)) n) (length-filter (λ id. is_ge (compare_to_id (index_at s x) t key id)) _)
-        ∙ ap (λ ids. slice_get ids (count_by (λ id. is_ge (compare_to_id (index_at s x) t key id)) ids)) (sym (view_is s t x))
+    upper_shown = looked_up Upper (holds_upper (index_at s x) t (list_of t x) sorts key)

@@ -20,4 +20,4 @@ pub use failure::Failure;
 pub use opening::{FileLedger, Journaled, opened, recovered, without};
 pub use program::run;
 pub use service::{serve, take_turn};
-pub use words::{JournalWords, Options, SyncMode, WordsFault, read_words};
+pub use words::{JournalWords, Options, SyncMode, read_words};

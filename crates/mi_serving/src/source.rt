@@ -1,10 +1,10 @@
 //! Where the catalog comes from: the built-in schema or a file, which is read whole.
 use crate::failure::Failure;
+use mi_program::whole_text;
 use mi_schema::{Catalog, SchemaFault, built_in, read_catalog};
-use mi_value::limits::MAX_SCHEMA_FILE;
 use std::alloc::{AllocError, Global};
 use std::fs;
-use std::io::{ErrorKind, Read};
+use std::io::Read;
 use std::rt::Files;
 
 /// The catalog of the built-in schema.
@@ -12,21 +12,12 @@ fn built_in_catalog(alloc: Global) -> Result<Catalog, AllocError> {
     Catalog::of(alloc, built_in(alloc)?)
 }
 
-/// All bytes of a reader that has no more than a schema's file may have.
-fn whole_text<R: Read + Drop>(alloc: Global, reader: R) -> Result<Vec<u8>, Failure> {
-    let mut text = Vec::new(alloc);
-    let mut limited = reader.take(MAX_SCHEMA_FILE as u64 + 1);
-    match limited.read_to_end(&mut text) {
-        Ok(_count) => {
-            if text.len() > MAX_SCHEMA_FILE {
-                return Err(Failure::SchemaFile);
-            }
-            Ok(text)
-        }
-        Err(error) => match error.kind() {
-            ErrorKind::OutOfMemory => Err(Failure::Memory),
-            _ => Err(Failure::SchemaFile),
-        },
+/// All bytes of a schema's file, as the program reads them.
+fn file_text<R: Read + Drop>(alloc: Global, file: R) -> Result<Vec<u8>, Failure> {
+    match whole_text(alloc, file) {
+        Ok(text) => Ok(text),
+        Err(mi_program::Failure::Schema(_refused)) => Err(Failure::Memory),
+        Err(_other) => Err(Failure::SchemaFile),
     }
 }
 
@@ -44,7 +35,7 @@ pub fn catalog<R: Files + AllocGlobal>(rt: &R, file: Option<&str>) -> Result<Cat
     match file {
         Some(path) => match fs::open(rt, path) {
             Ok(opened) => {
-                let text = whole_text(alloc, opened)?;
+                let text = file_text(alloc, opened)?;
                 described(alloc, text.as_slice())
             }
             Err(_error) => Err(Failure::SchemaFile),

@@ -2,6 +2,7 @@
 use clap::builder::ValueParser;
 use clap::error::ErrorKind;
 use clap::{Arg, ArgAction, ArgMatches, Command};
+use mi_program::WordsFault;
 use std::alloc::{AllocError, Global};
 use std::convert::AsStr;
 
@@ -34,23 +35,6 @@ pub struct Options {
     pub port: u16,
     /// The journal, where one is kept.
     pub journal: Option<JournalWords>,
-}
-
-/// Why words give no options.
-#[derive(Drop)]
-pub enum WordsFault {
-    /// The words aren't the program's options, or ask for help. The error has the text for the user.
-    Parse(clap::Error),
-    /// `--listen` is missing, or `--sync` stands without `--journal` or names no way.
-    Rules,
-    /// A growth was refused.
-    Memory,
-}
-
-impl From<AllocError> for WordsFault {
-    fn from(_error: AllocError) -> WordsFault {
-        WordsFault::Memory
-    }
 }
 
 /// An option `--name VALUE`, whose help calls the value by `value`.
@@ -175,8 +159,8 @@ fn values(alloc: Global, matches: &ArgMatches<'_>) -> Result<Options, WordsFault
 
 /// The options that words say, the first of which is the program's name.
 ///
-/// `Parse` where they are refused or ask for help, `Rules` where they break a rule between options, `Memory` where a growth was
-/// refused.
+/// `Parse` where they are refused or ask for help, `Rules` where `--listen` is missing, or `--sync` stands without `--journal` or names no
+/// way, `Memory` where a growth was refused.
 pub fn read_words<S: AsStr>(alloc: Global, words: &[S]) -> Result<Options, WordsFault> {
     let matches = parse(alloc, words)?;
     values(alloc, &matches)
