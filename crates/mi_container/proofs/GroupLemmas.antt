@@ -19,7 +19,7 @@ use Rattle.mi_value.specs.Order.{compare_key}
 use Rattle.mi_value.proofs.OrderLaws.{compare_key_total}
 use Rattle.mi_model.specs.Table.{times}
 use Rattle.mi_model.specs.Change.{without}
-use Rattle.mi_model.proofs.SortLaws.{both_ways}
+use Rattle.mi_model.proofs.SortLaws.{all_filter, both_ways}
 use Rattle.mi_model.proofs.ViewLaws.{Lacks, none_is, filter_alike, filter_swap}
 use Rattle.mi_container.specs.Data.{Content, Node, Order, parts_of, has_stamps, node_of, content_in, content_of, stamp_of, ids_by_stamp, listed, lists_from}
 use Rattle.mi_container.specs.Data.Order.{ById, ByKey, ByHash, Listed}
@@ -123,14 +123,6 @@ ref_with e c rows (Some b) there =
     ]
 
 -- Lists that rise
-
-all_filter : (P : ℕ → Type 0) (p : ℕ → Bool) (ids : List ℕ) → AllByRecursion P ids → AllByRecursion P (filter p ids)
-all_filter P p [] all = tt
-all_filter P p (a ∷ ids) all =
-    elim (p a) as (λ b. AllByRecursion P (cond b (a ∷ filter p ids) (filter p ids))) [
-      | true ↦ (all.0, all_filter P p ids all.1)
-      | false ↦ all_filter P p ids all.1
-    ]
 
 rises_filter : (order : ℕ → ℕ → Ordering) (p : ℕ → Bool) (ids : List ℕ) → Rises order ids → Rises order (filter p ids)
 rises_filter order p [] up = tt

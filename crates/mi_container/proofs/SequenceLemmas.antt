@@ -1,17 +1,17 @@
 -- The list of a sequenced index: an id that left it stands again before the neighbour that it remembers.
-use Rattle.std.proofs.Common.{◌≡◌, ◌≢◌, ℕ, ◌+◌, ◌<◌, ◌≤◌, zero, suc, true, false, cond, not, inl, inr}
+use Rattle.std.proofs.Common.{◌≡◌, ◌≢◌, ℕ, ◌+◌, ◌<◌, ◌≤◌, zero, suc, true, false, cond, not}
 use Rattle.std.proofs.Common.{List, [], ◌∷◌, ◌++◌, map, get_or, set, refl, ap, sym, ◌∙◌, subst, arith}
 use Rattle.std.specs.Prelude.{◌==◌}
 use Rattle.std.specs.List.{AllByRecursion}
 use Rattle.std.specs.Option.{option_map}
 use Rattle.std.proofs.lemmas.Bool.{eqb-true}
-use Rattle.std.proofs.lemmas.Bool.Decides.{eqb_tells}
 use Rattle.std.proofs.lemmas.List.{set-get_or}
 use Rattle.std.specs.declared.option.Option.{Option}
 use Rattle.std.specs.declared.option.Option.TheVariants.{None, Some}
 use Rattle.mi_model.specs.Table.{times}
 use Rattle.mi_model.specs.Change.{stand_before, stand, without, relocated}
 use Rattle.mi_model.proofs.SortLaws.{both_ways}
+use Rattle.mi_model.proofs.TableLaws.{lacks_of_count}
 use Rattle.mi_model.proofs.ViewLaws.{Lacks, none_is}
 use Rattle.mi_container.specs.Data.{Node, Order, node_of, NamesDiffer}
 use Rattle.mi_container.specs.Data.Order.{ById, ByKey, ByHash, Listed}
@@ -26,13 +26,7 @@ Once [] = Unit {0}
 Once (a ∷ ids) = Lacks a ids × Once ids
 
 pub lacks_of_times : (e : ℕ) (ids : List ℕ) → times e ids ≡ 0 → Lacks e ids
-lacks_of_times e [] none = tt
-lacks_of_times e (a ∷ ids) none =
-    elim (eqb_tells a e) [
-      | inl is ↦ absurd
-          (let n : cond (a == e) 1 0 + times e ids ≡ 0 = none in let one : cond (a == e) 1 0 ≡ 1 = ap (λ b. cond {A = ℕ} b 1 0) is.0 in omega arith)
-      | inr isnt ↦ (isnt.1, lacks_of_times e ids (let n : cond (a == e) 1 0 + times e ids ≡ 0 = none in omega arith))
-    ]
+lacks_of_times = lacks_of_count
 
 times_of_lacks : (e : ℕ) (ids : List ℕ) → Lacks e ids → times e ids ≡ 0
 times_of_lacks e [] lacks = refl

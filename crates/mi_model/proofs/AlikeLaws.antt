@@ -263,6 +263,13 @@ committed_same x c ts us old others r same =
       revision = refl;
     }
 
+-- a step that needs an open session
+in_session_same : (f : Database → Database) (r : ℕ) (d e : Database) → SameDatabase d e → SameDatabase (f d) (f e)
+    → SameStep {A = Result ℕ NoSession} (if depth d == 0 then (Err (record {}), d) else (Ok (r - 1), f d))
+    (if depth e == 0 then (Err (record {}), e) else (Ok (r - 1), f e))
+in_session_same f r d e same on = by_depth {A = Result ℕ NoSession} 0 (depth d) (depth e) (Err (record {}), d) (Ok (r - 1), f d)
+    (Err (record {}), e) (Ok (r - 1), f e) (same_depth d e same) (refl, same) (refl, on)
+
 -- each command, in databases of one catalog and one revision
 abbrev WorksInBoth : Command → Database → Database → Type 0
 WorksInBoth c d e = IsDatabase d → IsDatabase e → IsCommandOf d.catalog c → AnswersAlike c d e × SameDatabase (after_command c d) (after_command c e)
@@ -290,17 +297,9 @@ works Start c ts us old others r same is iu placed =
     (Err Depth, e) (Ok (r + 1), started e) (same_depth d e same) (refl, same)
     (refl, started_same c ts us old others r same))
 works Undo c ts us old others r same is iu placed =
-    let d : Database = db c ts old r in
-    let e : Database = db c us others r in
-    by_depth {A = Result ℕ NoSession} 0 (depth d) (depth e) (Err (record {}), d) (Ok (r - 1), undone d)
-    (Err (record {}), e) (Ok (r - 1), undone e) (same_depth d e same) (refl, same)
-    (refl, undone_pair c ts us old others r same)
+    in_session_same undone r (db c ts old r) (db c us others r) same (undone_pair c ts us old others r same)
 works Squash c ts us old others r same is iu placed =
-    let d : Database = db c ts old r in
-    let e : Database = db c us others r in
-    by_depth {A = Result ℕ NoSession} 0 (depth d) (depth e) (Err (record {}), d) (Ok (r - 1), squashed d)
-    (Err (record {}), e) (Ok (r - 1), squashed e) (same_depth d e same) (refl, same)
-    (refl, squashed_pair c ts us old others r same)
+    in_session_same squashed r (db c ts old r) (db c us others r) same (squashed_pair c ts us old others r same)
 works (Commit x) c ts us old others r same is iu placed =
     (ap (λ k. Ok (ended x r k)) (same_depth (db c ts old r) (db c us others r) same), committed_same x c ts us old others r same)
 works UndoAll c ts us old others r same is iu placed =

@@ -30,9 +30,9 @@ unless_keeps s None answer changed t is was = is
 unless_keeps s (Some e) answer changed t is was = was
 
 -- whichever way a test goes
-either_keeps : {A : Type 0} (s : Shape) (b : Bool) (x y : Outcome A) → (b ≡ true → IsTable s x.1) → (b ≡ false → IsTable s y.1) → IsTable s (cond b x y).1
-either_keeps s true x y f g = f refl
-either_keeps s false x y f g = g refl
+pub either_keeps : {A : Type 0} (P : Table → Type 0) (b : Bool) (x y : Outcome A) → (b ≡ true → P x.1) → (b ≡ false → P y.1) → P (cond b x y).1
+either_keeps P true x y f g = f refl
+either_keeps P false x y f g = g refl
 
 insert_keeps : (s : Shape) (at : Option (ℕ × ℕ)) (r : List Value) (t : Table) → IsTable s t → IsTable s (insert_outcome s at r t).1
 insert_keeps s at r t is = unless_keeps s (insert_refusal s at r t) t.next (insert at r t) t (is_table_insert s at r t is) is
@@ -49,27 +49,33 @@ replaced_keeps s e r t false there rest is = is
 replace_keeps : (s : Shape) (e : ℕ) (r : List Value) (t : Table) → IsTable s t → IsTable s (replace_outcome s e r t).1
 replace_keeps s e r t is = replaced_keeps s e r t (has t e) refl (if is_spent t.arrivals then Some Spent else option_map as_unique (conflict s t r (Some e))) is
 
-lost_keeps : (s : Shape) (e : ℕ) (r : List Value) (rollback : Bool) (t : Table) (at : Option (ℕ × ℕ)) → has t e ≡ true → IsTable s t
-    → IsTable s (option_map_or (λ at. refused_modify rollback e at t) at (Ok tt, put s e r t)).1
-lost_keeps s e r rollback t None there is = is_table_put s e r t there is
-lost_keeps s e r true t (Some at) there is = is
-lost_keeps s e r false t (Some at) there is = is_table_erase s e t is
+lost_keeps : (P : Table → Type 0) (s : Shape) (e : ℕ) (r : List Value) (rollback : Bool) (t : Table) (at : Option (ℕ × ℕ)) → (at ≡ None → P (put s e r t))
+    → P (erase e t) → P t → P (option_map_or (λ at. refused_modify rollback e at t) at (Ok tt, put s e r t)).1
+lost_keeps P s e r rollback t None puts erased is = puts refl
+lost_keeps P s e r true t (Some at) puts erased is = is
+lost_keeps P s e r false t (Some at) puts erased is = erased
+
+-- what holds of a table after each put without a conflict, and once the row is erased, holds after an edit of the row
+pub edited_keeps : (P : Table → Type 0) (s : Shape) (e : ℕ) (rollback : Bool) (r : Option (List Value)) (t : Table)
+    → ((q : List Value) → conflict s t q (Some e) ≡ None → P (put s e q t)) → P (erase e t) → P t → P (modified s e rollback r t).1
+edited_keeps P s e rollback None t puts erased is = is
+edited_keeps P s e rollback (Some r) t puts erased is =
+    either_keeps {A = Unit {0}} P (is_spent t.arrivals) (Err Spent, t)
+    (option_map_or (λ at. refused_modify rollback e at t) (conflict s t r (Some e)) (Ok tt, put s e r t))
+    (λ _. is) (λ _. lost_keeps P s e r rollback t (conflict s t r (Some e)) (puts r) erased is)
 
 modified_keeps : (s : Shape) (e : ℕ) (rollback : Bool) (r : Option (List Value)) (t : Table)
     → has t e ≡ true → IsTable s t → IsTable s (modified s e rollback r t).1
-modified_keeps s e rollback None t there is = is
-modified_keeps s e rollback (Some r) t there is =
-    either_keeps {A = Unit {0}} s (is_spent t.arrivals) (Err Spent, t)
-    (option_map_or (λ at. refused_modify rollback e at t) (conflict s t r (Some e)) (Ok tt, put s e r t))
-    (λ _. is) (λ _. lost_keeps s e r rollback t (conflict s t r (Some e)) there is)
+modified_keeps s e rollback r t there is =
+    edited_keeps (IsTable s) s e rollback r t (λ q _. is_table_put s e q t there is) (is_table_erase s e t is) is
 
 modify_keeps : (s : Shape) (e : ℕ) (edits : List Edit) (rollback : Bool) (t : Table) → IsTable s t → IsTable s (modify_outcome s e edits rollback t).1
 modify_keeps s e edits rollback t is =
-    either_keeps {A = Unit {0}} s (not (has t e)) (Err NoId, t) (modified s e rollback (apply edits (row t e).1) t) (λ _. is)
+    either_keeps {A = Unit {0}} (IsTable s) (not (has t e)) (Err NoId, t) (modified s e rollback (apply edits (row t e).1) t) (λ _. is)
     (λ there. modified_keeps s e rollback (apply edits (row t e).1) t (not_not (has t e) there) is)
 
 erase_keeps : (s : Shape) (e : ℕ) (t : Table) → IsTable s t → IsTable s (erase_outcome e t).1
-erase_keeps s e t is = either_keeps {A = Unit {0}} s (has t e) (Ok tt, erase e t) (Err NoId, t) (λ _. is_table_erase s e t is) (λ _. is)
+erase_keeps s e t is = either_keeps {A = Unit {0}} (IsTable s) (has t e) (Ok tt, erase e t) (Err NoId, t) (λ _. is_table_erase s e t is) (λ _. is)
 
 is_table_erase_all : (s : Shape) (ids : List ℕ) (t : Table) → IsTable s t → IsTable s (erase_all ids t)
 is_table_erase_all s [] t is = is
@@ -84,7 +90,7 @@ both_true false b e = absurd (cc)
 
 relocate_keeps : (s : Shape) (x e : ℕ) (b : Option ℕ) (t : Table) → IsTable s t → IsTable s (relocate_outcome x e b t).1
 relocate_keeps s x e b t is =
-    either_keeps {A = Unit {0}} s (has t e && has_place t b) (Ok tt, relocate x e b t) (Err NoId, t)
+    either_keeps {A = Unit {0}} (IsTable s) (has t e && has_place t b) (Ok tt, relocate x e b t) (Err NoId, t)
     (λ there. is_table_relocate s x e b t (both_true (has t e) (has_place t b) there) is) (λ _. is)
 
 pub zip_get : (R : Shape → Table → Type 0) (xs : List Shape) (ys : List Table) (n : ℕ) (d : Shape) (e : Table)

@@ -124,6 +124,22 @@ same_from_view Hashed s x rows next arrivals l m e = λ key whole. ap
     (filter (λ id. is_eq (compare_to_id (index_at s x) (with_lists rows l next arrivals) key id))) e
 same_from_view kind s x rows next arrivals l m e = e
 
+-- tables that differ in their lists alone: where the lists are, and past the last
+same_lists : (s : Shape) (rows : List Row) (next arrivals : ℕ) (l m : List (List ℕ)) (n : ℕ)
+    → ((x : ℕ) → x < n → SameView (index_at s x).kind s x (with_lists rows l next arrivals) (with_lists rows m next arrivals))
+    → ((x : ℕ) → n ≤ x → view s (with_lists rows l next arrivals) x ≡ view s (with_lists rows m next arrivals) x)
+    → SameTable s (with_lists rows l next arrivals) (with_lists rows m next arrivals)
+same_lists s rows next arrivals l m n within past =
+    record {
+      rows = refl;
+      next = refl;
+      arrivals = refl;
+      views = λ x. elim (cases_lt x n) [
+        | inl less ↦ within x less
+        | inr more ↦ same_from_view (index_at s x).kind s x rows next arrivals l m (past x more)
+      ];
+    }
+
 inserted_past : (s : Shape) (r : List Value) (rows : List Row) (next arrivals : ℕ) (l m : List (List ℕ)) (x : ℕ) → length l ≤ x → length m ≤ x
     → view s (insert None r (with_lists rows l next arrivals)) x ≡ view s (insert None r (with_lists rows m next arrivals)) x
 inserted_past s r rows next arrivals l m x past_l past_m =
@@ -135,17 +151,9 @@ insert_lists : (s : Shape) (r : List Value) (rows : List Row) (next arrivals : �
     → SameTable s (with_lists rows l next arrivals) (with_lists rows m next arrivals)
     → SameTable s (insert None r (with_lists rows l next arrivals)) (insert None r (with_lists rows m next arrivals))
 insert_lists s r rows next arrivals l m long fresh_l fresh_m a =
-    record {
-      rows = refl;
-      next = refl;
-      arrivals = refl;
-      views = λ x. elim (cases_lt x (length l)) [
-        | inl within ↦ inserted_views (index_at s x).kind s r rows next arrivals l m x refl within (omega arith) (fresh_l x) (fresh_m x) (a.views x)
-        | inr past ↦ same_from_view (index_at s x).kind s x (rows ++ (next, r) ∷ []) (next + 1)
-            (arrivals + 1) (map (stand None next) l) (map (stand None next) m)
-            (inserted_past s r rows next arrivals l m x past (omega arith))
-      ];
-    }
+    same_lists s (rows ++ (next, r) ∷ []) (next + 1) (arrivals + 1) (map (stand None next) l) (map (stand None next) m) (length l)
+    (λ x less. inserted_views (index_at s x).kind s r rows next arrivals l m x refl less (omega arith) (fresh_l x) (fresh_m x) (a.views x))
+    (λ x past. inserted_past s r rows next arrivals l m x past (omega arith))
 
 insert_any : (s : Shape) (r : List Value) (rows : List Row) (next arrivals : ℕ) (l m : List (List ℕ)) (rows' : List Row) (next' arrivals' : ℕ)
     → rows ≡ rows' → next ≡ next' → arrivals ≡ arrivals' → length l ≡ length m
@@ -198,17 +206,10 @@ put_lists : (s : Shape) (e : ℕ) (r : List Value) (rows : List Row) (next arriv
     → has (with_lists rows l next arrivals) e ≡ true → SameTable s (with_lists rows l next arrivals) (with_lists rows m next arrivals)
     → SameTable s (put s e r (with_lists rows l next arrivals)) (put s e r (with_lists rows m next arrivals))
 put_lists s e r rows next arrivals l m long there a =
-    record {
-      rows = refl;
-      next = refl;
-      arrivals = refl;
-      views = λ x. elim (cases_lt x (length l)) [
-        | inl within ↦ put_views (index_at s x).kind s e r rows next arrivals l m x refl within (omega arith) there (a.views x) _ refl
-        | inr past ↦ same_from_view (index_at s x).kind s x (set_value (λ k. k == e) rows r) next (arrivals + 1)
-            (moved s.indexes (row (with_lists rows l next arrivals) e).1 r e l) (moved s.indexes (row (with_lists rows l next arrivals) e).1 r e m)
-            (put_past s e r rows next arrivals l m x past (omega arith))
-      ];
-    }
+    same_lists s (set_value (λ k. k == e) rows r) next (arrivals + 1)
+    (moved s.indexes (row (with_lists rows l next arrivals) e).1 r e l) (moved s.indexes (row (with_lists rows l next arrivals) e).1 r e m) (length l)
+    (λ x less. put_views (index_at s x).kind s e r rows next arrivals l m x refl less (omega arith) there (a.views x) _ refl)
+    (λ x past. put_past s e r rows next arrivals l m x past (omega arith))
 
 put_any : (s : Shape) (e : ℕ) (r : List Value) (rows : List Row) (next arrivals : ℕ) (l m : List (List ℕ)) (rows' : List Row) (next' arrivals' : ℕ)
     → rows ≡ rows' → next ≡ next' → arrivals ≡ arrivals' → length l ≡ length m → has (with_lists rows l next arrivals) e ≡ true

@@ -18,7 +18,7 @@ use Rattle.mi_catalog.specs.Shape.{Shape}
 use Rattle.mi_catalog.specs.Key.{Row}
 use Rattle.mi_model.specs.Table.{Table, get, has, row, list_of, Rise, times, ListsEach, IsTable, opened}
 use Rattle.mi_model.specs.Change.{stand_before, stand, without, added, insert, moved_in, moved, put, erase, relocated, relocate}
-use Rattle.mi_model.proofs.SortLaws.{both_ways}
+use Rattle.mi_model.proofs.SortLaws.{all_filter, both_ways}
 use Rattle.mi_model.proofs.ViewLaws.{Lacks, lookup_without, lookup_push, lookup_set}
 use Rattle.mi_model.proofs.PutLaws.{lookup_set_same}
 
@@ -120,14 +120,6 @@ pub rise_push : (next : ℕ) (rows : List Row) (r : List Value) → Rise next ro
 rise_push next [] r up = (omega arith, tt, tt)
 rise_push next (q ∷ rows) r up =
     (let l : q.0 < next = up.0 in omega arith, all_push (λ p. q.0 < p.0) rows (next, r) up.1 up.0, rise_push next rows r up.2)
-
-all_filter : (P : Row → Type 0) (p : Row → Bool) (rows : List Row) → AllByRecursion P rows → AllByRecursion P (filter p rows)
-all_filter P p [] all = tt
-all_filter P p (r ∷ rows) all =
-    elim (p r) as (λ b. AllByRecursion P (cond b (r ∷ filter p rows) (filter p rows))) [
-      | true ↦ (all.0, all_filter P p rows all.1)
-      | false ↦ all_filter P p rows all.1
-    ]
 
 pub rise_filter : (next : ℕ) (p : Row → Bool) (rows : List Row) → Rise next rows → Rise next (filter p rows)
 rise_filter next p [] up = tt

@@ -3,7 +3,7 @@ use Rattle.std.proofs.Common.{◌≡◌, ◌≢◌, ℕ, zero, suc, ◌+◌, ◌
 use Rattle.std.proofs.Common.{inl, inr, List, [], ◌∷◌, map, get_or, drop, refl, ap, sym, ◌∙◌, subst, arith}
 use Rattle.std.specs.Prelude.{◌==◌, if◌then◌else◌, ◌||◌}
 use Rattle.std.specs.List.{AllZip}
-use Rattle.std.specs.Option.{is_some, unwrap_or, option_or, option_map, option_map_or}
+use Rattle.std.specs.Option.{is_some, unwrap_or, option_or, option_map}
 use Rattle.std.specs.Ordering.{is_eq, ordering_reverse}
 use Rattle.std.specs.Map.{lookup}
 use Rattle.std.proofs.lemmas.Bool.Decides.{eqb_tells}
@@ -29,7 +29,7 @@ use Rattle.mi_model.specs.View.{of_key}
 use Rattle.mi_model.specs.Conflict.{is_rival, rival, conflict_from, conflict}
 use Rattle.mi_model.specs.Change.{insert, put, erase, erase_all, relocate}
 use Rattle.mi_model.specs.Verdict.{Outcome, is_spent, has_place, as_unique, unless, insert_refusal, insert_outcome, replace_refusal}
-use Rattle.mi_model.specs.Verdict.{replace_outcome, refused_modify, modified, modify_outcome, erase_outcome, erase_key_outcome, relocate_outcome}
+use Rattle.mi_model.specs.Verdict.{replace_outcome, modified, modify_outcome, erase_outcome, erase_key_outcome, relocate_outcome}
 use Rattle.mi_model.specs.Database.{Database, IsDatabase, opened_database, schema_of, table_of, on_table, depth, started, undone, undone_times, squashed}
 use Rattle.mi_model.specs.Run.{Command, after_command, run}
 use Rattle.mi_model.specs.Run.Command.{Insert, Replace, Modify, Erase, EraseKey, Relocate, Start, Undo, Squash, Commit, UndoAll}
@@ -37,7 +37,7 @@ use Rattle.mi_model.specs.Unique.{HasUniqueKeys, UniqueEverywhere, UniqueKeysSta
 use Rattle.mi_model.proofs.ViewLaws.{compare_rows_total, lookup_without, lookup_push, lookup_set}
 use Rattle.mi_model.proofs.PutLaws.{lookup_set_same}
 use Rattle.mi_model.proofs.TableLaws.{not_same, above_next, lookup_push_same, lookup_without_same, is_table_opened}
-use Rattle.mi_model.proofs.DatabaseLaws.{not_not, zip_get, zip_set, all_take, is_database_after, is_database_run}
+use Rattle.mi_model.proofs.DatabaseLaws.{either_keeps, edited_keeps, not_not, zip_get, zip_set, all_take, is_database_after, is_database_run}
 
 reversed : (o : Ordering) → is_eq (ordering_reverse o) ≡ is_eq o
 reversed Less = refl
@@ -171,11 +171,7 @@ unique_erase_all s (e ∷ ids) t unique = unique_erase_all s ids (erase e t) (un
 
 -- what one change leaves
 module _ {A : Type 0} (s : Shape) where
-  -- whichever way a test goes
-  either : (b : Bool) (x y : Outcome A) → (b ≡ true → HasUniqueKeys s x.1) → (b ≡ false → HasUniqueKeys s y.1) → HasUniqueKeys s (cond b x y).1
-  either true x y f g = f refl
-  either false x y f g = g refl
-
+  -- where a refusal came, nothing changed
   unless_refused : (o : Option Refusal) (answer : A) (changed t : Table) → HasUniqueKeys s t
       → (o ≡ None → HasUniqueKeys s changed) → HasUniqueKeys s (unless o answer changed t).1
   unless_refused None answer changed t was f = f refl
@@ -208,32 +204,22 @@ replace_unique s e r t unique =
     (λ h. unique_put s e r t (not_not (has t e) (none_after (not (has t e)) NoId late h).0) unique
     (none_mapped as_unique (conflict s t r (Some e)) (none_after (is_spent t.arrivals) Spent found (none_after (not (has t e)) NoId late h).1).1))
 
-refused_unique : (s : Shape) (e : ℕ) (r : List Value) (rollback : Bool) (t : Table) (at : Option (ℕ × ℕ))
-    → conflict s t r (Some e) ≡ at → has t e ≡ true → HasUniqueKeys s t
-    → HasUniqueKeys s (option_map_or (λ at. refused_modify rollback e at t) at (Ok tt, put s e r t)).1
-refused_unique s e r rollback t None is there unique = unique_put s e r t there unique is
-refused_unique s e r true t (Some at) is there unique = unique
-refused_unique s e r false t (Some at) is there unique = unique_erase s e t unique
-
 modified_unique : (s : Shape) (e : ℕ) (rollback : Bool) (r : Option (List Value)) (t : Table)
     → has t e ≡ true → HasUniqueKeys s t → HasUniqueKeys s (modified s e rollback r t).1
-modified_unique s e rollback None t there unique = unique
-modified_unique s e rollback (Some r) t there unique =
-    either {A = Unit {0}} s (is_spent t.arrivals) (Err Spent, t)
-    (option_map_or (λ at. refused_modify rollback e at t) (conflict s t r (Some e)) (Ok tt, put s e r t))
-    (λ _. unique) (λ _. refused_unique s e r rollback t (conflict s t r (Some e)) refl there unique)
+modified_unique s e rollback r t there unique =
+    edited_keeps (HasUniqueKeys s) s e rollback r t (λ q none. unique_put s e q t there unique none) (unique_erase s e t unique) unique
 
 modify_unique : (s : Shape) (e : ℕ) (edits : List Edit) (rollback : Bool) (t : Table)
     → HasUniqueKeys s t → HasUniqueKeys s (modify_outcome s e edits rollback t).1
 modify_unique s e edits rollback t unique =
-    either {A = Unit {0}} s (not (has t e)) (Err NoId, t) (modified s e rollback (apply edits (row t e).1) t) (λ _. unique)
+    either_keeps {A = Unit {0}} (HasUniqueKeys s) (not (has t e)) (Err NoId, t) (modified s e rollback (apply edits (row t e).1) t) (λ _. unique)
     (λ there. modified_unique s e rollback (apply edits (row t e).1) t (not_not (has t e) there) unique)
 
 erase_unique : (s : Shape) (e : ℕ) (t : Table) → HasUniqueKeys s t → HasUniqueKeys s (erase_outcome e t).1
-erase_unique s e t unique = either {A = Unit {0}} s (has t e) (Ok tt, erase e t) (Err NoId, t) (λ _. unique_erase s e t unique) (λ _. unique)
+erase_unique s e t unique = either_keeps {A = Unit {0}} (HasUniqueKeys s) (has t e) (Ok tt, erase e t) (Err NoId, t) (λ _. unique_erase s e t unique) (λ _. unique)
 
 relocate_unique : (s : Shape) (x e : ℕ) (b : Option ℕ) (t : Table) → HasUniqueKeys s t → HasUniqueKeys s (relocate_outcome x e b t).1
-relocate_unique s x e b t unique = either {A = Unit {0}} s (has t e && has_place t b) (Ok tt, relocate x e b t) (Err NoId, t) (λ _. unique) (λ _. unique)
+relocate_unique s x e b t unique = either_keeps {A = Unit {0}} (HasUniqueKeys s) (has t e && has_place t b) (Ok tt, relocate x e b t) (Err NoId, t) (λ _. unique) (λ _. unique)
 
 -- a change that keeps tables so keeps databases so
 on_table_unique : {A : Type 0} (n : ℕ) (change : Shape → Table → Outcome A)

@@ -126,6 +126,17 @@ put-requires-clause-held g c =
           (IsHeldIf m) (sym c.or-right.ensures) (held_or m c.gap_for-gap.result.next (Some c.in-Some.first) ends.1 group.first_held),
     )
 
+-- the link of the first node of its key
+module _ (g : Over) (c : After-begin_group g) where
+  abbrev first_link : Link
+  first_link = record {
+    back = Some c.args.node;
+    forth = slice_index_or c.args.self.now.buckets.items c.bucket-bucket.result None;
+    size = 0;
+    height = 0;
+    tag = record { key = c.hash-hash.result; stamp = c.args.stamp };
+  }
+
 module _ (g : Over) (c : After-begin_group g) (hash : c.hash-hash.result ≡ hash_node (g.H.KeyHash.keying c.args.self.now.keys) c.args.p.now c.args.node)
     (bucket : c.bucket-bucket.result ≡ hash_node (g.H.KeyHash.keying c.args.self.now.keys) c.args.p.now c.args.node % vec_len c.args.self.now.buckets) where
   -- the first node of its key is there, for each list that the chains may stand for
@@ -138,15 +149,7 @@ module _ (g : Over) (c : After-begin_group g) (hash : c.hash-hash.result ≡ has
       let chain = chain_here l k w m (xs ++ ys) h x c.head-head.result (c.head-head.ensures ∙ ap (λ i. slice_index_or l.buckets.items i None) bucket) in
       let tags = tags_here l k w m (xs ++ ys) h x in
       let gs = groups_at l k w m (xs ++ ys) h x in
-      let made : Link = record {
-        back = Some r;
-        forth = slice_index_or l.buckets.items c.bucket-bucket.result None;
-        size = 0;
-        height = 0;
-        tag = record
-            { key = c.hash-hash.result; stamp = v.stamp };
-      } in
-      let on = inserted_new l k w m xs r ys v.stamp made h p refl hash c.begin_group.new.self c.begin_group.new.p c.begin_group.ensures.slot
+      let on = inserted_new l k w m xs r ys v.stamp (first_link g c) h p refl hash c.begin_group.new.self c.begin_group.new.p c.begin_group.ensures.slot
       c.begin_group.ensures.count
       (none_left l k w m xs r ys h
       (subst (IsFound (same_nodes k m r) gs c.group_of-place.result.before) c.in-None.is (c.group_of-place.ensures gs chain tags))) refl
@@ -165,15 +168,8 @@ returns-in-None-clause-keeps g c xs ys h p = let o = goal.at.returns-in-None-cla
 pub returns-in-None-clause-tags : goal.returns-in-None-clause-tags
 returns-in-None-clause-tags g c q = let v = c.args in let m = v.p.now in let l = v.self.now in let k = g.H.KeyHash.keying l.keys in
     let w = g.met.H.KeyHash.lawful l.keys in let r = v.node in
-    let hash = hash_found g (goal.at.returns-in-None-clause-tags g c).After-bucket-bucket in
-    tags_put l k w m r (record {
-      back = Some r;
-      forth = slice_index_or l.buckets.items c.bucket-bucket.result None;
-      size = 0;
-      height = 0;
-      tag = record
-          { key = c.hash-hash.result; stamp = v.stamp };
-    }) None None None None c.begin_group.new.p c.requires.3.held c.begin_group.ensures.pool q
+    let o = goal.at.returns-in-None-clause-tags g c in let hash = hash_found g o.After-bucket-bucket in
+    tags_put l k w m r (first_link g o.After-begin_group) None None None None c.begin_group.new.p c.requires.3.held c.begin_group.ensures.pool q
     ∙ ap (λ z. cond (r.name == q) (record { key = z; stamp = v.stamp }) (link_of m q l.slot).tag) hash
 
 module _ (g : Over) (c : After-put g) (hash : c.hash-hash.result ≡ hash_node (g.H.KeyHash.keying c.args.self.now.keys) c.args.p.now c.args.node)

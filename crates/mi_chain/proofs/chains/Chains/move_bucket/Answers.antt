@@ -28,6 +28,12 @@ loop-first-smaller g c = let v = c.args in let a = c.loop-first in let o = a.old
     < hops (next_group a.p t) (node_count a.p) (slice_index_or o.items v.bucket None))
     a.invariant.4 (c.move_group.ensures.fewer rs b)
 
+pub returns-clause-moving : goal.returns-clause-moving
+returns-clause-moving g c rs b = (c.loop-first.invariant.0 rs b).0
+
+pub returns-clause-keeps : goal.returns-clause-keeps
+returns-clause-keeps g c rs b = (c.loop-first.invariant.0 rs b).1
+
 pub loop-first-preserved : goal.loop-first-preserved
 loop-first-preserved g c = let v = c.args in let a = c.loop-first in let o = a.old in
     let count : vec_len o ≡ length o.items = o.ok.0 in
@@ -46,9 +52,3 @@ loop-first-preserved g c = let v = c.args in let a = c.loop-first in let o = a.o
       c.move_group.ensures.keys ∙ a.invariant.5,
       λ q. subst (λ t. (link_of z.p q t).tag ≡ (link_of a.p q t).tag) a.invariant.4 (c.move_group.ensures.tags q) ∙ a.invariant.6 q,
     )
-
-pub returns-clause-moving : goal.returns-clause-moving
-returns-clause-moving g c rs b = (c.loop-first.invariant.0 rs b).0
-
-pub returns-clause-keeps : goal.returns-clause-keeps
-returns-clause-keeps g c rs b = (c.loop-first.invariant.0 rs b).1

@@ -1,9 +1,8 @@
 -- The cell of a place stands in the chunk of its quotient, at its rest.
-use Rattle.std.proofs.Common.{◌<◌, refl, ◌/◌, ◌%◌, List, ap, sym, subst, length, ◌∙◌}
+use Rattle.std.proofs.Common.{◌<◌, refl, ◌/◌, ◌%◌, ap, sym, subst, length, ◌∙◌}
 use Rattle.mi_node.specs.Cells.{empty_cell}
 use Rattle.mi_node.specs.Chunks.{in_cells}
 use Rattle.mi_node.specs.Columns.{cell_at}
-use Rattle.mi_node.specs.declared.cell.Cell.{Cell}
 use Rattle.mi_node.proofs.ChunkLemmas.{index-flat, in_bounds, split_of, small_of}
 use Rattle.mi_node.proofs.ColumnLemmas.{index-any}
 use Rattle.mi_node.proofs.column.Column.at.Goals as goal

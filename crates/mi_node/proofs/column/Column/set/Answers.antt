@@ -1,5 +1,5 @@
 -- A cell is set in its chunk, and in the list at its place.
-use Rattle.std.proofs.Common.{◌<◌, refl, ◌/◌, ◌%◌, List, ap, sym, subst, length, slice_set, ◌∙◌}
+use Rattle.std.proofs.Common.{refl, ◌/◌, ◌%◌, List, ap, slice_set, ◌∙◌}
 use Rattle.mi_node.specs.Chunks.{in_cells}
 use Rattle.mi_node.specs.declared.cell.Cell.{Cell}
 use Rattle.mi_node.proofs.ChunkLemmas.{set-flat, IsChunked-set, in_bounds, split_of, small_of}
