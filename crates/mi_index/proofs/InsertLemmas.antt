@@ -1,7 +1,9 @@
 -- A new node comes into every index.
 --     like_both      what is like a like one is like it
 --     can_insert, is_inserted      from chains that have grown and a node that was taken
-use Rattle.std.proofs.Common.{◌≡◌, ℕ, ◌+◌, ◌==◌, false, cond, List, [], ◌∷◌, Option, Some, None, refl, sym, ap, ◌∙◌, subst, arith}
+use Rattle.std.proofs.Common.{◌≡◌, ℕ, ◌+◌, ◌==◌, false, cond, List, [], ◌∷◌, length, Option, Some, None, Vec, Global, refl, sym, ap, ◌∙◌, subst, arith}
+use Rattle.std.specs.Vec.{with_items}
+use Rattle.std.proofs.lemmas.List.{with_items_is}
 use Rattle.mi_node.specs.Pool.{Pooled, ref_of, value_of, link_of, taken}
 use Rattle.mi_node.specs.Refs.{Ref}
 use Rattle.mi_node.specs.declared.link.Link.{Link}
@@ -63,6 +65,12 @@ roomy_all [] [] n g h = tt
 roomy_all [] (y ∷ ys) n g h = absurd g
 roomy_all (x ∷ xs) [] n g h = absurd g
 roomy_all (x ∷ xs) (y ∷ ys) n g h = (roomy_one x y n g.0 h.0, roomy_all xs ys n g.1 h.1)
+
+-- in a vector whose structures were lent, and are others like them
+pub roomy_lent : (v : Vec Structure Global) (was new : List Structure) (n : ℕ) → length new ≡ v.len → was ≡ v.items
+    → AllLike was new → AllRoomy v.items n → AllRoomy (with_items v new).items n
+roomy_lent v was new n long is like h =
+    subst (λ zs. AllRoomy zs n) (sym (with_items_is v new long)) (roomy_all v.items new n (subst (λ zs. AllLike zs new) is like) h)
 
 -- a place in one is a place in the other
 pub place_like : (x y : Structure) (m : Pooled Stored) (v : Stored) (t : ℕ) (b : Option Ref) (rs : List Ref)

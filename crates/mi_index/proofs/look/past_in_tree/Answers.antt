@@ -6,10 +6,10 @@ use Rattle.mi_index.proofs.LookUpLemmas.{read_there, found_here}
 use Rattle.mi_index.proofs.look.past_in_tree.Goals as goal
 
 pub upper-requires : goal.upper-requires
-upper-requires c = let q = c.requires in (q.0, read_there c.args.tree.now c.args.p.now c.new-pool.result.pool c.new-pool.ensures.pool q.0 q.1)
+upper-requires c = rw c.new-pool.ensures.pool c.requires
 
 pub lower-requires : goal.lower-requires
-lower-requires c = let q = c.requires in (q.0, read_there c.args.tree.now c.args.p.now c.new-pool.result.pool c.new-pool.ensures.pool q.0 q.1)
+lower-requires c = rw c.new-pool.ensures.pool c.requires
 
 pub returns-then-strict-clause-node : goal.returns-then-strict-clause-node
 returns-then-strict-clause-node c = rw c.if-strict.true (

@@ -7,10 +7,10 @@ use Rattle.mi_index.proofs.LookUpLemmas.{read_there, found_here}
 use Rattle.mi_index.proofs.look.past_rank_in_tree.Goals as goal
 
 pub upper_rank-requires : goal.upper_rank-requires
-upper_rank-requires c = let q = c.requires in (q.0, read_there c.args.tree.now c.args.p.now c.new-pool.result.pool c.new-pool.ensures.pool q.0 q.1)
+upper_rank-requires c = rw c.new-pool.ensures.pool c.requires
 
 pub lower_rank-requires : goal.lower_rank-requires
-lower_rank-requires c = let q = c.requires in (q.0, read_there c.args.tree.now c.args.p.now c.new-pool.result.pool c.new-pool.ensures.pool q.0 q.1)
+lower_rank-requires c = rw c.new-pool.ensures.pool c.requires
 
 pub returns-then-strict-clause-rank : goal.returns-then-strict-clause-rank
 returns-then-strict-clause-rank c = rw c.if-strict.true (
