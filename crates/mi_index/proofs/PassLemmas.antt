@@ -8,7 +8,6 @@ use Rattle.mi_index.specs.Standing.{slot_in, IsLike}
 use Rattle.mi_index.specs.Pass.{Asks, Gives, AllStand, AllCan, AllGiven, KeepsFrom, IsStep, AreReady, IsPass}
 use Rattle.mi_order.specs.declared.stored.Stored.{Stored}
 use Rattle.mi_index.specs.declared.structure.Structure.{Structure}
-use Rattle.mi_index.specs.declared.structure.Structure.TheVariants.{Sorted, Hashed, Sequenced}
 use Rattle.mi_index.proofs.FrameLemmas.{Agree, stands_same}
 use Rattle.mi_index.proofs.StayLemmas.{IsLocal}
 use Rattle.mi_index.proofs.LikeLemmas.{like_slot}
