@@ -1,7 +1,9 @@
 -- A new node comes into every index.
 --     like_both      what is like a like one is like it
 --     can_insert, is_inserted      from chains that have grown and a node that was taken
-use Rattle.std.proofs.Common.{◌≡◌, ℕ, ◌+◌, ◌==◌, false, cond, List, [], ◌∷◌, Option, Some, None, refl, sym, ap, ◌∙◌, subst, arith}
+use Rattle.std.proofs.Common.{◌≡◌, ℕ, ◌+◌, ◌==◌, false, cond, List, [], ◌∷◌, length, Option, Some, None, Vec, Global, refl, sym, ap, ◌∙◌, subst, arith}
+use Rattle.std.specs.Vec.{with_items}
+use Rattle.std.proofs.lemmas.List.{with_items_is}
 use Rattle.mi_node.specs.Pool.{Pooled, ref_of, value_of, link_of, taken}
 use Rattle.mi_node.specs.Refs.{Ref}
 use Rattle.mi_node.specs.declared.link.Link.{Link}
@@ -21,6 +23,7 @@ use Rattle.mi_order.specs.declared.orders.ByKey.{ByKey}
 use Rattle.mi_index.specs.declared.moves.Moves.TheVariants.{All}
 use Rattle.mi_index.specs.declared.structure.Structure.{Structure}
 use Rattle.mi_index.specs.declared.structure.Structure.TheVariants.{Sorted, Hashed, Sequenced}
+use Rattle.mi_index.proofs.LikeLemmas.{by_kind}
 use Rattle.mi_index.proofs.OtherNodeLemmas.{AgreeBut, but_taken, all_but, out_of_one, out_of_all, OtherTags, place_seen}
 
 -- Structures of one kind
@@ -52,11 +55,7 @@ like_both (x ∷ xs) (y ∷ ys) (z ∷ zs) g h = (like_one x y z g.0 h.0, like_b
 -- room stays
 
 roomy_one : (x y : Structure) (n : ℕ) → IsLike x y → IsRoomy x n → IsRoomy y n
-roomy_one x (Sorted c) n g h = tt
-roomy_one (Sorted a) (Hashed c) n g h = absurd g
-roomy_one (Hashed a) (Hashed c) n g h = let f = g.2 in omega (arith, f, h)
-roomy_one (Sequenced a) (Hashed c) n g h = absurd g
-roomy_one x (Sequenced c) n g h = tt
+roomy_one x y n = by_kind (λ x y. IsRoomy x n → IsRoomy y n) (λ a c g h. tt) (λ a c g h. let f = g.2 in omega (arith, f, h)) (λ a c g h. tt) x y
 
 pub roomy_all : (xs ys : List Structure) (n : ℕ) → AllLike xs ys → AllRoomy xs n → AllRoomy ys n
 roomy_all [] [] n g h = tt
@@ -64,33 +63,29 @@ roomy_all [] (y ∷ ys) n g h = absurd g
 roomy_all (x ∷ xs) [] n g h = absurd g
 roomy_all (x ∷ xs) (y ∷ ys) n g h = (roomy_one x y n g.0 h.0, roomy_all xs ys n g.1 h.1)
 
+-- in a vector whose structures were lent, and are others like them
+pub roomy_lent : (v : Vec Structure Global) (was new : List Structure) (n : ℕ) → length new ≡ v.len → was ≡ v.items
+    → AllLike was new → AllRoomy v.items n → AllRoomy (with_items v new).items n
+roomy_lent v was new n long is like h =
+    subst (λ zs. AllRoomy zs n) (sym (with_items_is v new long)) (roomy_all v.items new n (subst (λ zs. AllLike zs new) is like) h)
+
 -- a place in one is a place in the other
 pub place_like : (x y : Structure) (m : Pooled Stored) (v : Stored) (t : ℕ) (b : Option Ref) (rs : List Ref)
     → IsLike x y → HasPlaceFor x m v t b rs → HasPlaceFor y m v t b rs
-place_like (Sorted a) (Sorted c) m v t b rs g h =
-    subst (λ s. NoneAre (side_of_value (stored_order c.order.parts) m s v t) Equal rs) (sym g.0)
-    (subst (λ (o : ByKey). NoneAre (side_of_value (stored_order o.parts) m a.slot v t) Equal rs) (sym g.1) h)
-place_like (Sorted a) (Hashed c) m v t b rs g h = absurd g
-place_like (Sorted a) (Sequenced c) m v t b rs g h = absurd g
-place_like (Hashed a) (Sorted c) m v t b rs g h = absurd g
-place_like (Hashed a) (Hashed c) m v t b rs g h = subst (λ s. NoneHas (stamp_at m s) t rs) (sym g.0) h
-place_like (Hashed a) (Sequenced c) m v t b rs g h = absurd g
-place_like (Sequenced a) (Sorted c) m v t b rs g h = absurd g
-place_like (Sequenced a) (Hashed c) m v t b rs g h = absurd g
-place_like (Sequenced a) (Sequenced c) m v t b rs g h = h
+place_like x y m v t b rs = by_kind (λ x y. HasPlaceFor x m v t b rs → HasPlaceFor y m v t b rs)
+    (λ a c g h. subst (λ s. NoneAre (side_of_value (stored_order c.order.parts) m s v t) Equal rs) (sym g.0)
+    (subst (λ (o : ByKey). NoneAre (side_of_value (stored_order o.parts) m a.slot v t) Equal rs) (sym g.1) h))
+    (λ a c g h. subst (λ s. NoneHas (stamp_at m s) t rs) (sym g.0) h) (λ a c g h. h) x y
 
 -- tags of other nodes
 
+-- in one slot
+abbrev SameTags : ℕ → ℕ → Pooled Stored → Pooled Stored → Type 0
+SameTags s k m n = (q : ℕ) → (k == q) ≡ false → (link_of n q s).tag ≡ (link_of m q s).tag
+
 pub tags_like : (x y : Structure) (k : ℕ) (m n : Pooled Stored) → IsLike x y → OtherTags x k m n → OtherTags y k m n
-tags_like (Sorted a) (Sorted c) k m n g h = subst (λ s. (q : ℕ) → (k == q) ≡ false → (link_of n q s).tag ≡ (link_of m q s).tag) (sym g.0) h
-tags_like (Sorted a) (Hashed c) k m n g h = absurd g
-tags_like (Sorted a) (Sequenced c) k m n g h = absurd g
-tags_like (Hashed a) (Sorted c) k m n g h = absurd g
-tags_like (Hashed a) (Hashed c) k m n g h = subst (λ s. (q : ℕ) → (k == q) ≡ false → (link_of n q s).tag ≡ (link_of m q s).tag) (sym g.0) h
-tags_like (Hashed a) (Sequenced c) k m n g h = absurd g
-tags_like (Sequenced a) (Sorted c) k m n g h = absurd g
-tags_like (Sequenced a) (Hashed c) k m n g h = absurd g
-tags_like (Sequenced a) (Sequenced c) k m n g h = tt
+tags_like x y k m n = by_kind (λ x y. OtherTags x k m n → OtherTags y k m n) (λ a c g h. subst (λ s. SameTags s k m n) (sym g.0) h)
+    (λ a c g h. subst (λ s. SameTags s k m n) (sym g.0) h) (λ a c g h. tt) x y
 
 pub tags_but : (x : Structure) (k : ℕ) (m n o : Pooled Stored) → KeepsTags x m n → AgreeBut k n o → OtherTags x k m o
 tags_but (Sorted a) k m n o h g = λ q e. ap (λ (l : Link). l.tag) (g.links q a.slot e) ∙ h q
@@ -98,31 +93,17 @@ tags_but (Hashed a) k m n o h g = λ q e. ap (λ (l : Link). l.tag) (g.links q a
 tags_but (Sequenced a) k m n o h g = tt
 
 -- a node that got its stamp after other changes
+stamped_over : (s u : ℕ) (m n o : Pooled Stored) (r : Ref) (t : ℕ) → u ≡ s → SameTags s r.name m n
+    → (stamp_at o u r ≡ t) × SameTags u r.name n o → (stamp_at o s r ≡ t) × SameTags s r.name m o
+stamped_over s u m n o r t e tags h =
+    let others = subst (λ s. SameTags s r.name n o) e h.1 in (subst (λ s. stamp_at o s r ≡ t) e h.0, λ q d. others q d ∙ tags q d)
+
 pub stamp_over : (x y : Structure) (m n o : Pooled Stored) (r : Ref) (t : ℕ) → IsLike x y → OtherTags x r.name m n → HasStamp y n o r t → HasStamp x m o r t
-stamp_over (Sorted a) (Sorted c) m n o r t g tags h =
-    let own : stamp_at o a.slot r ≡ t = subst (λ s. stamp_at o s r ≡ t) g.0 h.0 in
-    let others : (q : ℕ) → (r.name == q) ≡ false → (link_of o q a.slot).tag ≡ (link_of n q a.slot).tag =
-    subst (λ s. (q : ℕ) → (r.name == q) ≡ false → (link_of o q s).tag ≡ (link_of n q s).tag) g.0 h.1 in
-    (own, λ q e. others q e ∙ tags q e)
-stamp_over (Sorted a) (Hashed c) m n o r t g tags h = absurd g
-stamp_over (Sorted a) (Sequenced c) m n o r t g tags h = absurd g
-stamp_over (Hashed a) (Sorted c) m n o r t g tags h = absurd g
-stamp_over (Hashed a) (Hashed c) m n o r t g tags h =
-    let own : stamp_at o a.slot r ≡ t = subst (λ s. stamp_at o s r ≡ t) g.0 h.0 in
-    let others : (q : ℕ) → (r.name == q) ≡ false → (link_of o q a.slot).tag ≡ (link_of n q a.slot).tag =
-    subst (λ s. (q : ℕ) → (r.name == q) ≡ false → (link_of o q s).tag ≡ (link_of n q s).tag) g.0 h.1 in
-    (own, λ q e. others q e ∙ tags q e)
-stamp_over (Hashed a) (Sequenced c) m n o r t g tags h = absurd g
-stamp_over (Sequenced a) (Sorted c) m n o r t g tags h = absurd g
-stamp_over (Sequenced a) (Hashed c) m n o r t g tags h = absurd g
-stamp_over (Sequenced a) (Sequenced c) m n o r t g tags h = tt
+stamp_over x y m n o r t = by_kind (λ x y. OtherTags x r.name m n → HasStamp y n o r t → HasStamp x m o r t)
+    (λ a c g. stamped_over a.slot c.slot m n o r t g.0) (λ a c g. stamped_over a.slot c.slot m n o r t g.0) (λ a c g tags h. tt) x y
 
 put_like : (x y : Structure) (b : Option Ref) (ys : List Ref) → IsLike x y → IsPut y b ys → IsPut x b ys
-put_like (Sorted a) y b ys g h = tt
-put_like (Hashed a) y b ys g h = tt
-put_like (Sequenced a) (Sorted c) b ys g h = absurd g
-put_like (Sequenced a) (Hashed c) b ys g h = absurd g
-put_like (Sequenced a) (Sequenced c) b ys g h = h
+put_like x y b ys = by_kind (λ x y. IsPut y b ys → IsPut x b ys) (λ a c g h. tt) (λ a c g h. tt) (λ a c g h. h) x y
 
 joined_over : (x y : Structure) (m n o : Pooled Stored) (r : Ref) (t : ℕ) (b : Option Ref) (rs us : List Ref)
     → IsLike x y → OtherTags x r.name m n → IsJoined y n o r t b rs us → IsJoined x m o r t b rs us

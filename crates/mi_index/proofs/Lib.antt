@@ -1,5 +1,6 @@
 pub mod FrameLemmas
 pub mod StayLemmas
+pub mod LikeLemmas
 pub mod JoinLemmas
 pub mod PassLemmas
 pub mod LoopLemmas

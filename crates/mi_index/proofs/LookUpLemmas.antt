@@ -1,5 +1,5 @@
 -- What a structure answers.
-use Rattle.std.proofs.Common.{◌≡◌, ℕ, suc, Bool, true, false, cond, List, [], ◌∷◌, ◌++◌, length, Some, None, refl, sym, ap, ◌∙◌, subst}
+use Rattle.std.proofs.Common.{◌≡◌, ℕ, suc, Bool, true, false, cond, List, [], ◌∷◌, ◌++◌, length, Some, None, refl, sym, ap, ◌∙◌}
 use Rattle.std.specs.List.{filter}
 use Rattle.mi_node.specs.Pool.{Pooled, IsHeld}
 use Rattle.mi_node.specs.Refs.{Ref, first_of, last_of}
@@ -9,11 +9,8 @@ use Rattle.mi_tree.specs.BinaryTree.{nth_of}
 use Rattle.mi_tree.specs.Probed.{first_where}
 use Rattle.mi_tree.proofs.BinaryTreeLemmas.{nth-last}
 use Rattle.mi_index.specs.Standing.{Stands}
-use Rattle.mi_tree.specs.declared.tree.Tree.{Tree}
 use Rattle.mi_order.specs.declared.stored.Stored.{Stored}
-use Rattle.mi_order.specs.declared.orders.ByKey.{ByKey}
 use Rattle.mi_index.specs.declared.structure.Structure.{Structure}
-use Rattle.mi_index.specs.declared.structure.Structure.TheVariants.{Sorted}
 use Rattle.mi_index.proofs.OtherNodeLemmas.{nodes_held}
 
 pub first_filter : (f : Ref → Bool) (rs : List Ref) → first_of (filter f rs) None ≡ first_where f rs
@@ -36,12 +33,3 @@ among m (x ∷ xs) r ys h = among m xs r ys h.1
 
 pub held_there : (x : Structure) (m : Pooled Stored) (xs : List Ref) (r : Ref) (ys : List Ref) → Stands x m (xs ++ r ∷ ys) → IsHeld m r
 held_there x m xs r ys h = among m xs r ys (nodes_held x m (xs ++ r ∷ ys) h)
-
--- In the pool that is read through a count a list stands as in the pool itself, and what is found there is found in it
-module _ (t : Tree ByKey) (m n : Pooled Stored) (same : n ≡ m) where
-  pub read_there : (rs : List Ref) → Stands (Sorted t) m rs → Stands (Sorted t) n rs
-  read_there rs h = subst (λ z. Stands (Sorted t) z rs) (sym same) h
-
-  pub found_here : {A : Type 0} (f : Pooled Stored → List Ref → A) {a : A} → ((rs : List Ref) → Stands (Sorted t) n rs → a ≡ f n rs)
-      → (rs : List Ref) → Stands (Sorted t) m rs → a ≡ f m rs
-  found_here f found rs h = found rs (read_there rs h) ∙ ap (λ z. f z rs) same

@@ -28,7 +28,7 @@ use Rattle.mi_node.specs.declared.old_place.OldPlace.{OldPlace}
 use Rattle.mi_index.specs.declared.structure.Structure.{Structure}
 use Rattle.mi_index.specs.declared.structure.Structure.TheVariants.{Sorted, Hashed, Sequenced}
 use Rattle.mi_index.proofs.FrameLemmas.{stands_alike, itself}
-use Rattle.mi_index.proofs.PassLemmas.{like_slot}
+use Rattle.mi_index.proofs.LikeLemmas.{like_slot}
 use Rattle.mi_index.proofs.JoinLemmas.{long_with}
 use Rattle.mi_index.proofs.OtherNodeLemmas.{but_value, stands_but, nodes_apart, OtherTags, place_seen, old_place_seen}
 use Rattle.mi_index.proofs.InsertLemmas.{place_like, tags_like, tags_but, stamp_over}

@@ -86,6 +86,11 @@ pub follow_held : (m : Pooled Stored) (s : ℕ) (d : Direction) (rs : List Ref) 
 follow_held m s d [] h = tt
 follow_held m s d (r ∷ rs) h = (h.0, follow_held m s d rs h.2)
 
+-- the next node is held in a pool that is the same
+pub held_read : (m z : Pooled Stored) (s : ℕ) (d : Direction) (us : List Ref) (k : ℕ) (r : Ref) → z ≡ m → Follow m s d us
+    → (next : Option Ref) → next ≡ first_of (drop k us) None → next ≡ Some r → IsHeld z r
+held_read m z s d us k r same h next is some = subst (λ o. IsHeld o r) (sym same) (held_next m us k r (follow_held m s d us h) (sym is ∙ some))
+
 -- the link of the next node names the one after it
 pub follow_next : (m : Pooled Stored) (s : ℕ) (d : Direction) (us : List Ref) (k n : ℕ) (r : Ref)
     → n ≡ k + 1 → Follow m s d us → first_of (drop k us) None ≡ Some r

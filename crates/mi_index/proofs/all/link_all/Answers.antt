@@ -1,14 +1,11 @@
 -- Each structure takes its step; those behind it are as ready as they were.
 use Rattle.mi_index.specs.Passes.{joining, joined}
 use Rattle.mi_index.proofs.StayLemmas.{joining_local}
-use Rattle.mi_index.proofs.LoopLemmas.{begun, within, next_ready, stepped, finished}
+use Rattle.mi_index.proofs.LoopLemmas.{begun, next_ready, stepped, finished}
 use Rattle.mi_index.proofs.all.link_all.Goals as goal
 
 pub loop-slot-init : goal.loop-slot-init
 loop-slot-init c = begun (joining c.args.it.now.moves c.args.it.now.node c.args.it.now.stamp c.args.it.now.before) (joined c.args.it.now.moves c.args.it.now.node c.args.it.now.stamp c.args.it.now.before) c.args.it.now.node c.args.structures.now c.args.p.now c.requires
-
-pub bounds-structures-slot : goal.bounds-structures-slot
-bounds-structures-slot c = within c.loop-slot.invariant c.loop-slot-test.true
 
 pub link_one-requires : goal.link_one-requires
 link_one-requires c = next_ready c.loop-slot.invariant c.index-structures-slot.result c.loop-slot-test.true

@@ -2,7 +2,7 @@
 use Rattle.std.proofs.Common.{◌∙◌}
 use Rattle.mi_index.specs.Passes.{returning, returned}
 use Rattle.mi_index.proofs.StayLemmas.{returning_local}
-use Rattle.mi_index.proofs.LoopLemmas.{begun, within, next_ready, next_slot, same_refs, stepped, finished}
+use Rattle.mi_index.proofs.LoopLemmas.{begun, next_ready, next_slot, same_refs, stepped, finished}
 use Rattle.mi_index.proofs.all.relink_all.Goals as goal
 
 pub loop-slot-init : goal.loop-slot-init
@@ -10,9 +10,6 @@ loop-slot-init c = (
   begun (returning c.args.moves.now c.args.node) (returned c.args.moves.now c.args.node) c.args.node c.args.structures.now c.args.p.now c.requires.all,
   c.requires.held,
 )
-
-pub bounds-structures-slot : goal.bounds-structures-slot
-bounds-structures-slot c = within c.loop-slot.invariant.0 c.loop-slot-test.true
 
 pub relink_one-requires-clause-ready : goal.relink_one-requires-clause-ready
 relink_one-requires-clause-ready c = next_ready c.loop-slot.invariant.0 c.index-structures-slot.result c.loop-slot-test.true

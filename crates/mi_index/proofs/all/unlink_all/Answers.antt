@@ -1,14 +1,11 @@
 -- Each structure takes its step; those behind it are as ready as they were.
 use Rattle.mi_index.specs.Passes.{leaving, left}
 use Rattle.mi_index.proofs.StayLemmas.{leaving_local}
-use Rattle.mi_index.proofs.LoopLemmas.{begun, within, next_ready, stepped, finished}
+use Rattle.mi_index.proofs.LoopLemmas.{begun, next_ready, stepped, finished}
 use Rattle.mi_index.proofs.all.unlink_all.Goals as goal
 
 pub loop-slot-init : goal.loop-slot-init
 loop-slot-init c = begun (leaving c.args.moves.now c.args.node) (left c.args.moves.now c.args.node) c.args.node c.args.structures.now c.args.p.now c.requires
-
-pub bounds-structures-slot : goal.bounds-structures-slot
-bounds-structures-slot c = within c.loop-slot.invariant c.loop-slot-test.true
 
 pub unlink_one-requires : goal.unlink_one-requires
 unlink_one-requires c = next_ready c.loop-slot.invariant c.index-structures-slot.result c.loop-slot-test.true

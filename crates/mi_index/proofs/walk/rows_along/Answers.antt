@@ -1,12 +1,12 @@
 -- The rows that were read are those of the nodes that followed one another, in their order.
 use Rattle.std.proofs.Common.{◌≡◌, ◌+◌, inl, inr, [], ◌∷◌, ◌++◌, ◌<◌, length, map, drop, take, Some, None, refl, ap, sym, ◌∙◌, subst, arith, length-append}
 use Rattle.std.proofs.lemmas.List.{map-append}
-use Rattle.mi_node.specs.Pool.{Pooled, value_of, link_of, IsHeld}
+use Rattle.mi_node.specs.Pool.{Pooled, value_of, link_of}
 use Rattle.mi_node.specs.Refs.{first_of}
 use Rattle.mi_tree.specs.Walking.{far_of}
 use Rattle.mi_order.specs.declared.stored.Stored.{Stored}
 use Rattle.mi_index.specs.Walks.{shown_row}
-use Rattle.mi_index.proofs.WalkLemmas.{held_next, row_next, all_taken, follow_held, follow_next}
+use Rattle.mi_index.proofs.WalkLemmas.{held_read, row_next, all_taken, follow_next}
 use Rattle.mi_index.proofs.walk.rows_along.Goals as goal
 use Rattle.mi_index.proofs.walk.rows_along.Goals.{else-nodes-test, then-nodes-test+in_default}
 
@@ -25,12 +25,8 @@ nodes-init c =
 pub value-stored-requires : goal.value-stored-requires
 value-stored-requires c =
     let q = c.requires.nodes in
-    let m = c.args.p.now.pool in
-    let us = c.args.first ∷ q.0 in
-    let k = length c.nodes.rows.items in
-    let first : first_of (drop k us) None ≡ Some c.in-Some.node = sym (c.nodes.invariant.next q.0 q.1) ∙ c.in-Some.is in
-    subst (λ (z : Pooled Stored). IsHeld z c.in-Some.node) (sym c.nodes.invariant.pool)
-    (held_next m us k c.in-Some.node (follow_held m c.args.slot c.args.direction us q.1) first)
+    held_read c.args.p.now.pool _ c.args.slot c.args.direction (c.args.first ∷ q.0) (length c.nodes.rows.items) c.in-Some.node
+    c.nodes.invariant.pool q.1 _ (c.nodes.invariant.next q.0 q.1) c.in-Some.is
 
 pub nodes-preserved : goal.nodes-preserved
 nodes-preserved c =
@@ -71,12 +67,8 @@ returns-clause-rows c = λ us h.
 pub link-requires-clause-held : goal.link-requires-clause-held
 link-requires-clause-held c =
     let q = c.requires.nodes in
-    let m = c.args.p.now.pool in
-    let us = c.args.first ∷ q.0 in
-    let k = length c.nodes.rows.items in
-    let first : first_of (drop k us) None ≡ Some c.in-Some.node = sym (c.nodes.invariant.next q.0 q.1) ∙ c.in-Some.is in
-    subst (λ (z : Pooled Stored). IsHeld z c.in-Some.node) (sym c.nodes.invariant.pool)
-    (held_next m us k c.in-Some.node (follow_held m c.args.slot c.args.direction us q.1) first)
+    held_read c.args.p.now.pool _ c.args.slot c.args.direction (c.args.first ∷ q.0) (length c.nodes.rows.items) c.in-Some.node
+    c.nodes.invariant.pool q.1 _ (c.nodes.invariant.next q.0 q.1) c.in-Some.is
 
 pub link-requires-clause-slot : goal.link-requires-clause-slot
 link-requires-clause-slot c = subst (λ (z : Pooled Stored). c.args.slot < z.slots) (sym c.nodes.invariant.pool) c.requires.slot
