@@ -199,14 +199,14 @@ module _ (i : Inside) (is : AreMulti i) {w : Seen} (seen : seen_of i ≡ w) wher
 
     -- one look-up, and what the contracts of calls with one or two allow
 
+    few_steps : (old : ℕ) {new : ℕ} → ((qs : List Ref) → Stands y m qs → (b : ℕ) → length qs < 2 ^ b → new ≤ old + 2 * b)
+        → (b : ℕ) → size (as_table w.plain) < 2 ^ b → new ≤ old + 2 * b
+    few_steps old h b l = h rs n.stood.stands b (subst (λ k. k < 2 ^ b) (sym long) l)
+
     pub one_look : (old : ℕ) {new : ℕ} → ((qs : List Ref) → Stands y m qs → (b : ℕ) → length qs < 2 ^ b → new ≤ old + 2 * b)
         → (b : ℕ) → size (as_table w.plain) < 2 ^ b → new ≤ old + (2 * b + 1)
-    one_look old {new} h b l =
-        let less : length rs < 2 ^ b = subst (λ k. k < 2 ^ b) (sym long) l in
-        let few : new ≤ old + 2 * b = h rs n.stood.stands b less in omega arith
+    one_look old {new} h b l = let few : new ≤ old + 2 * b = few_steps old h b l in omega arith
 
     pub two_looks : (old : ℕ) {new : ℕ} → ((qs : List Ref) → Stands y m qs → (b : ℕ) → length qs < 2 ^ b → new ≤ old + 2 * b)
         → (b : ℕ) → size (as_table w.plain) < 2 ^ b → new ≤ old + 2 * (2 * b + 1)
-    two_looks old {new} h b l =
-        let less : length rs < 2 ^ b = subst (λ k. k < 2 ^ b) (sym long) l in
-        let few : new ≤ old + 2 * b = h rs n.stood.stands b less in omega arith
+    two_looks old {new} h b l = let few : new ≤ old + 2 * b = few_steps old h b l in omega arith

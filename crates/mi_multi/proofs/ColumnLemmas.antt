@@ -1,10 +1,11 @@
 -- What the marks of the columns in which two records differ say of their keys.
-use Rattle.std.proofs.Common.{◌≡◌, ℕ, zero, suc, Bool, true, false, not, List, [], ◌∷◌, ◌++◌, slice_get, Some, None}
+use Rattle.std.proofs.Common.{◌≡◌, ℕ, ◌+◌, ◌<◌, zero, suc, Bool, true, false, not, List, [], ◌∷◌, ◌++◌, drop, length, get_or, slice_get, Some, None}
 use Rattle.std.proofs.Common.{refl, ap, sym, ◌∙◌}
 use Rattle.std.specs.Ordering.{is_eq, ordering_then}
 use Rattle.std.specs.declared.cmp.Ordering.{Ordering}
 use Rattle.std.specs.declared.cmp.Ordering.TheVariants.{Less, Equal, Greater}
 use Rattle.std.proofs.lemmas.Bool.{false≢true}
+use Rattle.std.proofs.lemmas.List.{at_drop_more}
 use Rattle.mi_value.specs.declared.value.Value.{Value}
 use Rattle.mi_value.specs.declared.compare.KeyPart.{KeyPart}
 use Rattle.mi_value.specs.Order.{compare_missing, directed}
@@ -48,3 +49,15 @@ module _ (marks : List Bool) (old new : List Value) (first : AreFirst marks old 
   -- one whose column isn't leaves it to the other parts
   pub part_stays : slice_get marks p.column ≡ Some false → is_changed (p ∷ ps) old new ≡ is_changed ps old new
   part_stays h = then_rest p.descending _ _ (part_mark false h)
+
+-- by the place of the part among all parts
+module _ (marks : List Bool) (old new : List Value) (first : AreFirst marks old new)
+    (ps : List KeyPart) (i : ℕ) (none : KeyPart) (there : i < length ps) where
+  at_part : is_changed (drop i ps) old new ≡ is_changed (get_or ps i none ∷ drop (i + 1) ps) old new
+  at_part = at_drop_more (λ (qs : List KeyPart). is_changed qs old new) ps i none there
+
+  pub changes_at : slice_get marks (get_or ps i none).column ≡ Some true → is_changed (drop i ps) old new ≡ true
+  changes_at h = at_part ∙ part_changes marks old new first (get_or ps i none) (drop (i + 1) ps) h
+
+  pub stays_at : slice_get marks (get_or ps i none).column ≡ Some false → is_changed (drop i ps) old new ≡ is_changed (drop (i + 1) ps) old new
+  stays_at h = at_part ∙ part_stays marks old new first (get_or ps i none) (drop (i + 1) ps) h

@@ -20,6 +20,7 @@ use Rattle.mi_index.specs.declared.structure.Structure.{Structure}
 use Rattle.mi_index.specs.declared.structure.Structure.TheVariants.{Sorted, Hashed, Sequenced}
 use Rattle.mi_index.specs.Standing.{slot_in, Stands, IsLike}
 use Rattle.mi_index.specs.Pass.{Gives, AllStand, AllGiven, AllLike}
+use Rattle.mi_index.proofs.LikeLemmas.{by_kind}
 use Rattle.mi_container.specs.Data.{Order, has_stamps}
 use Rattle.mi_container.specs.Data.Order.{ById, ByHash, Listed}
 use Rattle.mi_container.specs.Changes.{sorted_order}
@@ -62,27 +63,9 @@ every Q ids m n s (i ∷ is) (x ∷ xs) (y ∷ ys) (rs ∷ rss) (us ∷ uss) f l
 
 -- Structures that are alike
 
-pub like_slot : (x y : Structure) → IsLike x y → slot_in y ≡ slot_in x
-like_slot (Sorted t) (Sorted u) l = l.0
-like_slot (Hashed c) (Hashed d) l = l.0
-like_slot (Sequenced a) (Sequenced b) l = l
-like_slot (Sorted t) (Hashed d) l = absurd l
-like_slot (Sorted t) (Sequenced b) l = absurd l
-like_slot (Hashed c) (Sorted u) l = absurd l
-like_slot (Hashed c) (Sequenced b) l = absurd l
-like_slot (Sequenced a) (Sorted u) l = absurd l
-like_slot (Sequenced a) (Hashed d) l = absurd l
-
 like_for : (i : Index) (x y : Structure) → IsLike x y → IsFor i x → IsFor i y
-like_for i (Sorted t) (Sorted u) l f = (f.0, ap (λ o. o.parts) l.1 ∙ f.1)
-like_for i (Hashed c) (Hashed d) l f = (f.0, ap (λ k. k.parts) l.1 ∙ f.1)
-like_for i (Sequenced a) (Sequenced b) l f = f
-like_for i (Sorted t) (Hashed d) l f = absurd l
-like_for i (Sorted t) (Sequenced b) l f = absurd l
-like_for i (Hashed c) (Sorted u) l f = absurd l
-like_for i (Hashed c) (Sequenced b) l f = absurd l
-like_for i (Sequenced a) (Sorted u) l f = absurd l
-like_for i (Sequenced a) (Hashed d) l f = absurd l
+like_for i x y = by_kind (λ x y. IsFor i x → IsFor i y) (λ a c l f. (f.0, ap (λ o. o.parts) l.1 ∙ f.1))
+    (λ a c l f. (f.0, ap (λ k. k.parts) l.1 ∙ f.1)) (λ a c l f. f) x y
 
 pub all_for : (is : List Index) (xs ys : List Structure) → AllLike xs ys → AllFor is xs → AllFor is ys
 all_for [] [] [] l f = tt

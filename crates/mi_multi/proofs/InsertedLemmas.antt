@@ -51,7 +51,7 @@ use Rattle.mi_multi.proofs.SameNodeLemmas.{live_alike, kept_alike}
 use Rattle.mi_multi.proofs.OrderLemmas.{orders_map, orders_set}
 use Rattle.mi_multi.proofs.EveryIndexLemmas.{Turned, Every, At, at, every, all_for, seq_by, sorted_parts, hashed_order, at_stamps}
 use Rattle.mi_multi.proofs.EveryIndexLemmas.{sequenced_order, sorted_not_sequenced, hashed_not_sequenced, one, none}
-use Rattle.mi_multi.proofs.LiveNodeLemmas.{IsLiveRef, lacks_middle, id_of, out_of_all, all_left, all_right, all_append, once_more}
+use Rattle.mi_multi.proofs.LiveNodeLemmas.{live_rows_with, IsLiveRef, lacks_middle, id_of, out_of_all, all_left, all_right, once_more}
 use Rattle.mi_multi.proofs.NeighbourLemmas.{ids_append}
 use Rattle.mi_multi.proofs.SettleLemmas.{entry_live}
 use Rattle.mi_multi.proofs.InsertLemmas.{IsBefore, fresh, not_next}
@@ -287,15 +287,10 @@ module _ (s : Shape) (ids : FinMap nat_cmp IdEntry) (m n : Pooled Stored) (xs ys
       omega arith
 
   live_with : (rs us : List Ref) → AreLive ids m rs → IsWith r rs us → AreLive new_ids n us
-  live_with rs us live w =
-      let rows_ : AllByRecursion (IsLiveRef ids m) (w.xs ++ w.ys) = subst (AllByRecursion (IsLiveRef ids m)) w.was live.rows in
-      let itself_ : IsLiveRef new_ids n r = ap (get new_ids) id_here ∙ now in
-      record {
-        rows = subst (AllByRecursion (IsLiveRef new_ids n)) (sym w.now)
-            (all_append (IsLiveRef new_ids n) w.xs (r ∷ w.ys) (all_still w.xs (all_left (IsLiveRef ids m) w.xs w.ys rows_))
-            (itself_, all_still w.ys (all_right (IsLiveRef ids m) w.xs w.ys rows_)));
-        each = each_with rs us live w;
-      }
+  live_with rs us live w = record {
+    rows = live_rows_with ids new_ids m n all_still r (ap (get new_ids) id_here ∙ now) rs us w live.rows;
+    each = each_with rs us live w;
+  }
 
   all_live : {k : ℕ} {js : List Index} {as_ bs : List Structure} {rss uss : List (List Ref)}
       → Every (Turned Q ids m n) k js as_ bs rss uss → AllByRecursion (AreLive new_ids n) uss

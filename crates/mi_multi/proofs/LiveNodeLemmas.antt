@@ -1,5 +1,5 @@
 -- What is known of the nodes of live ids, and of those that are only kept.
-use Rattle.std.proofs.Common.{◌≡◌, ◌≢◌, ℕ, ◌+◌, ◌<◌, Bool, true, false, cond, inl, inr, List, [], ◌∷◌, ◌++◌, refl, ap, sym, ◌∙◌, arith}
+use Rattle.std.proofs.Common.{◌≡◌, ◌≢◌, ℕ, ◌+◌, ◌<◌, Bool, true, false, cond, inl, inr, List, [], ◌∷◌, ◌++◌, refl, ap, sym, ◌∙◌, subst, arith}
 use Rattle.std.specs.Prelude.{◌==◌}
 use Rattle.std.specs.Option.{option_and_then, is_some}
 use Rattle.std.specs.Ordering.{nat_cmp}
@@ -14,7 +14,7 @@ use Rattle.mi_model.proofs.ViewLaws.{Lacks}
 use Rattle.mi_node.specs.Pool.{Pooled, value_of}
 use Rattle.mi_node.specs.Refs.{Ref, IsOut}
 use Rattle.mi_order.specs.declared.stored.Stored.{Stored}
-use Rattle.mi_index.specs.Places.{IsOneOf as Holds}
+use Rattle.mi_index.specs.Places.{IsOneOf as Holds, IsWith}
 use Rattle.mi_index.specs.Pass.{IsOutOfAll}
 use Rattle.mi_container.specs.Data.{Order, node_of}
 use Rattle.mi_container.proofs.PairLemmas.{is_other, some_is}
@@ -151,6 +151,17 @@ module _ {A : Type 0} (P : A → Type 0) where
   pub all_append : (xs ys : List A) → AllByRecursion P xs → AllByRecursion P ys → AllByRecursion P (xs ++ ys)
   all_append [] ys a b = b
   all_append (x ∷ xs) ys a b = (a.0, all_append xs ys a.1 b)
+
+-- a list with one node more
+pub live_rows_with : (ids new_ids : FinMap nat_cmp IdEntry) (m n : Pooled Stored)
+    → ((qs : List Ref) → AllByRecursion (IsLiveRef ids m) qs → AllByRecursion (IsLiveRef new_ids n) qs)
+    → (r : Ref) → IsLiveRef new_ids n r → (rs us : List Ref) → IsWith r rs us
+    → AllByRecursion (IsLiveRef ids m) rs → AllByRecursion (IsLiveRef new_ids n) us
+live_rows_with ids new_ids m n still r live rs us w all =
+    let both : AllByRecursion (IsLiveRef ids m) (w.xs ++ w.ys) = subst (AllByRecursion (IsLiveRef ids m)) w.was all in
+    subst (AllByRecursion (IsLiveRef new_ids n)) (sym w.now)
+    (all_append (IsLiveRef new_ids n) w.xs (r ∷ w.ys) (still w.xs (all_left (IsLiveRef ids m) w.xs w.ys both))
+    (live, still w.ys (all_right (IsLiveRef ids m) w.xs w.ys both)))
 
 -- the ids of nodes whose values stay
 pub ids_same : (m n : Pooled Stored) (rs : List Ref) → ((k : ℕ) → value_of n k ≡ value_of m k) → ids_at n rs ≡ ids_at m rs

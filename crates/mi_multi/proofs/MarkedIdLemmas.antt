@@ -75,3 +75,22 @@ module _ (s : Shape) (ids : FinMap nat_cmp IdEntry) (m n : Pooled Stored) (xs : 
     arrivals_fit = is.arrivals_fit;
     few = marked_few;
   }
+
+-- a pool whose references and values stay, for the same ids
+pub same_ids_multi : (s : Shape) (ids : FinMap nat_cmp IdEntry) (m n : Pooled Stored) (xs ys : List Structure) (next arrivals : ℕ)
+    → IsMulti s ids m xs next arrivals → ((k : ℕ) → ref_of n k ≡ ref_of m k) → ((k : ℕ) → value_of n k ≡ value_of m k)
+    → (uss : List (List Ref)) → AllStand ys 0 n uss → AllFor s.indexes ys → AllByRecursion (AreLive ids n) uss
+    → IsData s (plain_of s ids n ys next arrivals) → IsMulti s ids n ys next arrivals
+same_ids_multi s ids m n xs ys next arrivals is refs values uss stand kinds live is_data = record {
+  rss = uss;
+  stand = stand;
+  kinds = kinds;
+  live = live;
+  held = λ q a here. (let h : HasNode m q a.node = is.held q a here in
+      record { value = h.value; is = values a.node.name ∙ h.is; id = h.id; held = refs a.node.name ∙ h.held });
+  owned = λ a h. is.owned a (sym (refs a.name) ∙ h);
+  is_data = is_data;
+  next_fits = is.next_fits;
+  arrivals_fit = is.arrivals_fit;
+  few = is.few;
+}

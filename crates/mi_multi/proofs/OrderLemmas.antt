@@ -5,8 +5,8 @@ use Rattle.mi_catalog.specs.declared.index.Index.{Index}
 use Rattle.mi_catalog.specs.declared.index.IndexKind.{IndexKind}
 use Rattle.mi_catalog.specs.declared.index.IndexKind.TheVariants.{Ordered, Ranked, Hashed, Sequenced}
 use Rattle.mi_catalog.specs.Kinds.{is_sequenced}
-use Rattle.mi_container.specs.Data.{Node, Link}
-use Rattle.mi_container.specs.Data.Order.{ById, Listed}
+use Rattle.mi_container.specs.Data.{Node, Link, Order}
+use Rattle.mi_container.specs.Data.Order.{ById, ByKey, ByHash, Listed}
 use Rattle.mi_container.specs.Changes.{in_order, sorted_order}
 use Rattle.mi_container.specs.Inverse.{id_of_ref, relinked}
 use Rattle.mi_model.specs.Change.{stand}
@@ -23,6 +23,17 @@ order_by Ordered ps f l u is = sorted_still ps f
 order_by Ranked ps f l u is = sorted_still ps f
 order_by Hashed ps f l u is = refl
 order_by Sequenced ps f l u is = ap Listed (is refl)
+
+order_same : (o : Order) → in_order (λ l. l) o ≡ o
+order_same ById = refl
+order_same (ByKey ps) = refl
+order_same (ByHash ps) = refl
+order_same (Listed l) = refl
+
+-- no change
+pub orders_same : (os : List Order) → map (in_order (λ l. l)) os ≡ os
+orders_same [] = refl
+orders_same (o ∷ os) = (λ i. order_same o i ∷ orders_same os i)
 
 -- the same change in each
 pub orders_map : (f : List ℕ → List ℕ) (g : ℕ → List ℕ → List ℕ) (is : List Index) (ls us : List (List ℕ))

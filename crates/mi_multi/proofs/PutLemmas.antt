@@ -1,7 +1,7 @@
 -- A row's node has another value, and may have moved in some indexes: what the pool says then are the data with another content, and all stands.
 --     IsShifted, Shift      what this takes of one index
 use Rattle.std.proofs.Common.{◌≡◌, ℕ, ◌+◌, ◌≤◌, true, false, cond, ◌⊎◌, inl, inr, List, []}
-use Rattle.std.proofs.Common.{◌∷◌, ◌++◌, map, get_or, refl, ap, sym, ◌∙◌, subst}
+use Rattle.std.proofs.Common.{◌∷◌, ◌++◌, get_or, refl, ap, sym, ◌∙◌, subst}
 use Rattle.std.specs.Prelude.{◌==◌}
 use Rattle.std.specs.List.{AllByRecursion}
 use Rattle.std.specs.Option.{option_and_then}
@@ -22,8 +22,8 @@ use Rattle.mi_index.specs.Places.{IsWith}
 use Rattle.mi_index.specs.Pass.{Gives, AllLike}
 use Rattle.mi_index.specs.Rekeying.{IsRekeyed}
 use Rattle.mi_container.specs.Data.{Content, Order, Data, has_stamps, IsData}
-use Rattle.mi_container.specs.Data.Order.{ById, ByKey, ByHash, Listed}
-use Rattle.mi_container.specs.Changes.{in_order, with_content}
+use Rattle.mi_container.specs.Data.Order.{ById}
+use Rattle.mi_container.specs.Changes.{with_content}
 use Rattle.mi_container.proofs.PairLemmas.{is_itself}
 use Rattle.mi_ids.specs.declared.entry.IdEntry.{IdEntry}
 use Rattle.mi_multi.specs.Physical.{stored_id, order_of, orders_of, plan, node_in, live_in, kept_in, picked}
@@ -32,7 +32,7 @@ use Rattle.mi_multi.specs.Multi.{id_at, ids_at, own_lists, AreLive, HasNode, IsM
 use Rattle.mi_multi.proofs.RowLemmas.{picked_with, picked_still}
 use Rattle.mi_multi.proofs.ListLemmas.{times_middle}
 use Rattle.mi_multi.proofs.SameNodeLemmas.{live_alike, kept_alike}
-use Rattle.mi_multi.proofs.OrderLemmas.{orders_map}
+use Rattle.mi_multi.proofs.OrderLemmas.{orders_map, orders_same}
 use Rattle.mi_multi.proofs.EveryIndexLemmas.{Turned, Known, Every, At, at, every, all_known, all_for, seq_known, one, none, at_stamps}
 use Rattle.mi_multi.proofs.LiveNodeLemmas.{IsLiveRef, id_of, names_apart, out_of_all, all_left, all_right, all_append}
 
@@ -46,16 +46,6 @@ pub record Shift (m n : Pooled Stored) (r : Ref) (k : ℕ) (i : Index) (rs us : 
   pub own : is_sequenced i.kind ≡ true → us ≡ rs
   pub stamps : (l : List ℕ) → has_stamps (order_of i.kind i.parts l) ≡ true → (q : ℕ)
       → (r.name == q) ≡ false → (link_of n q k).tag.stamp ≡ (link_of m q k).tag.stamp
-
-order_same : (o : Order) → in_order (λ l. l) o ≡ o
-order_same ById = refl
-order_same (ByKey ps) = refl
-order_same (ByHash ps) = refl
-order_same (Listed l) = refl
-
-orders_same : (os : List Order) → map (in_order (λ l. l)) os ≡ os
-orders_same [] = refl
-orders_same (o ∷ os) = (λ i. order_same o i ∷ orders_same os i)
 
 module _ (s : Shape) (ids : FinMap nat_cmp IdEntry) (m : Pooled Stored) (xs : List Structure)
     (next arrivals : ℕ) (is : IsMulti s ids m xs next arrivals) (e : ℕ) (r : Ref)

@@ -1,6 +1,6 @@
 -- A row moves in one sequenced index: what the pool and the structures say then are the data with it there, and all stands.
 use Rattle.std.proofs.Common.{◌≡◌, ◌≢◌, ℕ, ◌+◌, ◌≤◌, Bool, true, false, cond, inl, inr, List, []}
-use Rattle.std.proofs.Common.{◌∷◌, ◌++◌, map, get_or, set, refl, ap, sym, ◌∙◌, subst, arith}
+use Rattle.std.proofs.Common.{◌∷◌, ◌++◌, get_or, set, refl, ap, sym, ◌∙◌, subst, arith}
 use Rattle.std.specs.Prelude.{◌==◌}
 use Rattle.std.specs.List.{AllByRecursion}
 use Rattle.std.specs.Option.{option_map, option_and_then}
@@ -44,10 +44,11 @@ use Rattle.mi_multi.specs.Alike.{SaysSame, IsAltered}
 use Rattle.mi_multi.specs.Multi.{id_at, ids_at, own_list, own_lists, is_live, AreLive, HasNode, IsMulti, plain_of}
 use Rattle.mi_multi.specs.Seen.{Seen, seen_of}
 use Rattle.mi_multi.specs.declared.multi.MultiIndex.TheInside.{Inside}
+use Rattle.mi_multi.proofs.MarkedIdLemmas.{same_ids_multi}
 use Rattle.mi_multi.proofs.RowLemmas.{picked_still}
 use Rattle.mi_multi.proofs.ListLemmas.{itself, LacksIf, stand_there, times_middle, without_middle}
 use Rattle.mi_multi.proofs.SameNodeLemmas.{node_same, live_alike, kept_alike}
-use Rattle.mi_multi.proofs.OrderLemmas.{orders_set}
+use Rattle.mi_multi.proofs.OrderLemmas.{orders_set, orders_same}
 use Rattle.mi_multi.proofs.EveryIndexLemmas.{Turned, Every, At, at, every, all_for, seq_by, has_plan, at_stamps}
 use Rattle.mi_multi.proofs.EveryIndexLemmas.{sorted_not_sequenced, hashed_not_sequenced, one, none}
 use Rattle.mi_multi.proofs.LiveNodeLemmas.{IsLiveRef, found, holds, id_of, lacks_middle, names_apart, out_of_all, ids_same, all_left, all_right, all_append}
@@ -72,16 +73,6 @@ unstamped ById l = absurd l
 unstamped (ByKey ps) l = absurd l
 unstamped (ByHash ps) l = absurd l
 unstamped (Listed ids) l = refl
-
-order_same : (o : Order) → in_order (λ l. l) o ≡ o
-order_same ById = refl
-order_same (ByKey ps) = refl
-order_same (ByHash ps) = refl
-order_same (Listed l) = refl
-
-orders_same : (os : List Order) → map (in_order (λ l. l)) os ≡ os
-orders_same [] = refl
-orders_same (o ∷ os) = (λ i. order_same o i ∷ orders_same os i)
 
 -- the node is that of the live row that is given, which is another one
 abbrev pub IsOtherNode : FinMap nat_cmp IdEntry → ℕ → Option ℕ → Option Ref → Type 0
@@ -295,19 +286,8 @@ module _ (s : Shape) (ids : FinMap nat_cmp IdEntry) (m : Pooled Stored) (xs : Li
 
     -- all stands after it
     pub moved_multi : IsData s (record d { orders = moved_order x (λ ids_. stand q e (without e ids_)) d.orders }) → IsMulti s ids n ys next arrivals
-    moved_multi data_ = record {
-      rss = changed.uss;
-      stand = changed.stand;
-      kinds = all_for s.indexes xs ys like is.kinds;
-      live = all_live turns;
-      held = λ w a here. (let h : HasNode m w a.node = is.held w a here in
-          record { value = h.value; is = changed.keeps.values a.node.name ∙ h.is; id = h.id; held = changed.keeps.refs a.node.name ∙ h.held });
-      owned = λ a h. is.owned a (sym (changed.keeps.refs a.name) ∙ h);
-      is_data = subst (IsData s) (sym moved_seen) data_;
-      next_fits = is.next_fits;
-      arrivals_fit = is.arrivals_fit;
-      few = is.few;
-    }
+    moved_multi data_ = same_ids_multi s ids m n xs ys next arrivals is changed.keeps.refs changed.keeps.values changed.uss
+        changed.stand (all_for s.indexes xs ys like is.kinds) (all_live turns) (subst (IsData s) (sym moved_seen) data_)
 
 -- the row that an inverse names
 pub other_node : (i : Inside) (w : Seen) → seen_of i ≡ w → (e : ℕ) (b : Option Row) → IsOther w.plain.rows e (option_map row_seen b)

@@ -23,11 +23,12 @@ use Rattle.mi_index.specs.declared.structure.Structure.TheVariants.{Sorted, Hash
 use Rattle.mi_index.specs.declared.moves.Moves.TheVariants.{All}
 use Rattle.mi_index.specs.Orders.{stored_order, keying_of, has_one_key}
 use Rattle.mi_order.specs.declared.orders.ByHash.{ByHash as HashedBy}
-use Rattle.mi_index.specs.Standing.{slot_in, AllAbove, AllBelow, Climb, IsLike}
+use Rattle.mi_index.specs.Standing.{slot_in, AllAbove, AllBelow, Climb}
 use Rattle.mi_node.specs.OldPlace.{own_place}
 use Rattle.mi_index.specs.Places.{CanReturn, HasOldPlace}
-use Rattle.mi_index.specs.Pass.{Gives, AllStand, AllCan, AllGiven, AllLike}
+use Rattle.mi_index.specs.Pass.{Gives, AllStand, AllCan, AllGiven}
 use Rattle.mi_index.specs.Passes.{returning}
+use Rattle.mi_index.proofs.RoomLemmas.{all_like}
 use Rattle.mi_container.specs.Data.{Node, Link, Order, Data, has_stamps, node_of, content_in, content_of, stamp_of, ids_by_stamp, IsData}
 use Rattle.mi_container.specs.Data.Order.{ById, ByKey, ByHash, Listed}
 use Rattle.mi_container.specs.Changes.{sorted_order, in_order, entered, group, ref_of, head_of}
@@ -94,15 +95,6 @@ meets_between ids m os k a link p us vs gs meets whole left right few has below 
 abbrev pub nothing : Gives
 nothing s x m n rs us = Unit {0}
 
-like_self : (x : Structure) → IsLike x x
-like_self (Sorted t) = (refl, refl)
-like_self (Hashed c) = (refl, refl, omega arith)
-like_self (Sequenced l) = refl
-
-pub all_like_self : (xs : List Structure) → AllLike xs xs
-all_like_self [] = tt
-all_like_self (x ∷ xs) = (like_self x, all_like_self xs)
-
 done_nothing : (s : ℕ) (m : Pooled Stored) (xs : List Structure) (rss : List (List Ref)) → AllStand xs s m rss → AllGiven nothing xs s m m rss rss
 done_nothing s m [] [] a = tt
 done_nothing s m [] (rs ∷ rss) a = absurd a
@@ -122,7 +114,7 @@ module _ (s : Shape) (ids : FinMap nat_cmp IdEntry) (m : Pooled Stored) (xs : Li
   -- what is known of each index
   pub standing : Every Now 0 s.indexes xs xs is.rss is.rss
   standing = all_known nothing ids m m (every nothing ids m m 0 s.indexes xs xs is.rss is.rss
-      is.kinds (all_like_self xs) is.stand is.stand (done_nothing 0 m xs is.rss is.stand) is.live)
+      is.kinds (all_like xs) is.stand is.stand (done_nothing 0 m xs is.rss is.stand) is.live)
 
   module _ (e : ℕ) (r : Ref) (there : get ids e ≡ Some (record { node = r; live = false }))
       (meet : AllMeet 0 d.rows (node_in m os r).content (all_neighbours m r.name 0 os) d.orders) (b : Data)

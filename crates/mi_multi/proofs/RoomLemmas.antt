@@ -21,7 +21,8 @@ use Rattle.mi_container.proofs.PairLemmas.{is_other}
 use Rattle.mi_ids.specs.declared.entry.IdEntry.{IdEntry}
 use Rattle.mi_multi.specs.Physical.{stored_id, orders_of, plan, live_in, kept_in, picked}
 use Rattle.mi_multi.specs.Alike.{SaysSame, IsAltered}
-use Rattle.mi_multi.specs.Multi.{ids_at, own_lists, AreLive, HasNode, IsMulti, plain_of}
+use Rattle.mi_multi.specs.Multi.{ids_at, own_lists, AreLive, IsMulti, plain_of}
+use Rattle.mi_multi.proofs.MarkedIdLemmas.{same_ids_multi}
 use Rattle.mi_multi.proofs.RowLemmas.{picked_still}
 use Rattle.mi_multi.proofs.SameNodeLemmas.{live_alike, kept_alike}
 use Rattle.mi_multi.proofs.EveryIndexLemmas.{Turned, Every, At, at, every, all_for, seq_by, one, none, at_stamps}
@@ -116,16 +117,5 @@ module _ (s : Shape) (ids : FinMap nat_cmp IdEntry) (m n : Pooled Stored) (xs ys
 
   -- all stands
   pub grown_multi : IsMulti s ids n ys next arrivals
-  grown_multi = record {
-    rss = changed.uss;
-    stand = changed.stand;
-    kinds = all_for s.indexes xs ys like is.kinds;
-    live = all_live turns;
-    held = λ q a here. (let h : HasNode m q a.node = is.held q a here in
-        record { value = h.value; is = changed.keeps.values a.node.name ∙ h.is; id = h.id; held = changed.keeps.refs a.node.name ∙ h.held });
-    owned = λ a h. is.owned a (sym (changed.keeps.refs a.name) ∙ h);
-    is_data = subst (IsData s) (sym grown_seen) is.is_data;
-    next_fits = is.next_fits;
-    arrivals_fit = is.arrivals_fit;
-    few = is.few;
-  }
+  grown_multi = same_ids_multi s ids m n xs ys next arrivals is changed.keeps.refs changed.keeps.values changed.uss
+      changed.stand (all_for s.indexes xs ys like is.kinds) (all_live turns) (subst (IsData s) (sym grown_seen) is.is_data)

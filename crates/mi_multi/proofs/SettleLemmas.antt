@@ -24,6 +24,7 @@ use Rattle.mi_node.proofs.EntryLemmas.{value-without, link-without, ref-without}
 use Rattle.mi_order.specs.declared.stored.Stored.{Stored}
 use Rattle.mi_index.specs.declared.structure.Structure.{Structure}
 use Rattle.mi_index.specs.Pass.{Gives, AllStand, AllGiven, IsOutOfAll}
+use Rattle.mi_index.proofs.RoomLemmas.{all_like}
 use Rattle.mi_container.specs.Data.{Node, Kept, Data, Order, node_of, kept_of, IsData}
 use Rattle.mi_container.specs.Data.Order.{Listed}
 use Rattle.mi_container.specs.Changes.{left_out}
@@ -40,7 +41,6 @@ use Rattle.mi_multi.proofs.RowLemmas.{picked_lost, picked_still, get_gone, get_l
 use Rattle.mi_multi.proofs.SameNodeLemmas.{live_alike, kept_alike}
 use Rattle.mi_multi.proofs.LiveNodeLemmas.{IsLiveRef, names_apart, out_of, out_of_all}
 use Rattle.mi_multi.proofs.EveryIndexLemmas.{Turned, Every, every, seq_by}
-use Rattle.mi_multi.proofs.ReturnLemmas.{all_like_self}
 
 -- Entries
 
@@ -171,7 +171,7 @@ module _ (s : Shape) (ids : FinMap nat_cmp IdEntry) (m : Pooled Stored) (xs : Li
 
   module _ (stands : AllStand xs 0 n is.rss) where
     turns : Every (Turned same_list ids m n) 0 s.indexes xs xs is.rss is.rss
-    turns = every same_list ids m n 0 s.indexes xs xs is.rss is.rss is.kinds (all_like_self xs) is.stand stands (done_any 0 m n xs is.rss is.stand) is.live
+    turns = every same_list ids m n 0 s.indexes xs xs is.rss is.rss is.kinds (all_like xs) is.stand stands (done_any 0 m n xs is.rss is.stand) is.live
 
     orders_same : orders_of s.indexes (own_lists n xs) ≡ d.orders
     orders_same =

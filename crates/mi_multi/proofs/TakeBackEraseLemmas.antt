@@ -46,8 +46,8 @@ use Rattle.mi_multi.proofs.SameNodeLemmas.{node_same, live_alike, kept_alike}
 use Rattle.mi_multi.proofs.OrderLemmas.{Enough, orders_relinked}
 use Rattle.mi_multi.proofs.EveryIndexLemmas.{Turned, Every, At, at, every, Known, all_known, all_for, seq_known, length_orders, at_stamps}
 use Rattle.mi_multi.proofs.EveryIndexLemmas.{has_plan, sequenced_order, sorted_not_sequenced, hashed_not_sequenced, one, none}
-use Rattle.mi_multi.proofs.LiveNodeLemmas.{IsLiveRef, node_live, marked_here, marked_beside, names_apart}
-use Rattle.mi_multi.proofs.LiveNodeLemmas.{lacks_middle, out_of_all, ids_same, all_left, all_right, all_append, once_more}
+use Rattle.mi_multi.proofs.LiveNodeLemmas.{live_rows_with, IsLiveRef, node_live, marked_here, marked_beside, names_apart}
+use Rattle.mi_multi.proofs.LiveNodeLemmas.{lacks_middle, out_of_all, ids_same, all_right, once_more}
 use Rattle.mi_multi.proofs.MarkedIdLemmas.{marked_multi}
 use Rattle.mi_multi.proofs.NeighbourLemmas.{ids_append}
 use Rattle.mi_multi.proofs.ReturnLemmas.{can_return, length_neighbours, has_relinked}
@@ -239,15 +239,10 @@ module _ (s : Shape) (ids : FinMap nat_cmp IdEntry) (m n : Pooled Stored) (xs ys
         omega arith
 
     live_back : (rs us : List Ref) → AreLive ids m rs → IsWith r rs us → AreLive new_ids n us
-    live_back rs us live w =
-        let was : AllByRecursion (IsLiveRef ids m) (w.xs ++ w.ys) = subst (AllByRecursion (IsLiveRef ids m)) w.was live.rows in
-        let itself_ : IsLiveRef new_ids n r = ap (get new_ids) (ap stored_id (changed.keeps.values r.name) ∙ id) ∙ now in
-        record {
-          rows = subst (AllByRecursion (IsLiveRef new_ids n)) (sym w.now)
-              (all_append (IsLiveRef new_ids n) w.xs (r ∷ w.ys) (all_still w.xs (all_left (IsLiveRef ids m) w.xs w.ys was))
-              (itself_, all_still w.ys (all_right (IsLiveRef ids m) w.xs w.ys was)));
-          each = each_back rs us live w;
-        }
+    live_back rs us live w = record {
+      rows = live_rows_with ids new_ids m n all_still r (ap (get new_ids) (ap stored_id (changed.keeps.values r.name) ∙ id) ∙ now) rs us w live.rows;
+      each = each_back rs us live w;
+    }
 
     all_live_back : {k : ℕ} {js : List Index} {as_ bs : List Structure} {rss uss : List (List Ref)}
         → Every (Turned (comes_back All r) ids m n) k js as_ bs rss uss → AllByRecursion (AreLive new_ids n) uss
