@@ -54,8 +54,8 @@ HasNoLine c = ended (waiting c.input) ≡ []
 abbrev pub IsAsked : {S : Type 0} → Client S → Type 0
 IsAsked c = (c.phase ≡ Broken) ⊎ (HasNoLine c ⊎ ¬ HasRoom c)
 
--- Between old and new a connection is given these replies, and all its lines that had come are asked: no whole one waits, unless what it was
--- owed and these together had no room.
+-- Between old and new a connection is given these replies, and no whole line of it is left waiting, unless what it was owed and these together
+-- had no room.
 abbrev pub AsksAll : {S : Type 0} → List ℕ → Client S → Client S → Type 0
 AsksAll given old new = HasNoLine new ⊎ (MOST_UNSENT < length (owed old ++ given))
 

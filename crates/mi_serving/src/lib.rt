@@ -20,4 +20,5 @@ pub use failure::Failure;
 pub use opening::{FileLedger, Journaled, opened, recovered, without};
 pub use program::run;
 pub use service::{serve, take_turn};
+pub use mi_program::WordsFault;
 pub use words::{JournalWords, Options, SyncMode, read_words};
