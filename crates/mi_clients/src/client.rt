@@ -158,7 +158,7 @@ impl<S: Duplex> Client<S> {
         ensures broken { self.old.phase ≡ phases.Broken → self.new.phase ≡ phases.Broken }
         ensures conn { self.new.conn ≡ self.old.conn }
     {
-        if !self.wants_bytes() || self.input.line().is_some() {
+        if !self.wants_bytes() {
             return;
         }
         match self.stream.read(buffer) {
