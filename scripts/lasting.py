@@ -1,6 +1,7 @@
 """A service that is used for long: clients come and go, as in `crowd.py`, beside a few that stay and whose waits are measured. `soak.py` runs it."""
 import contextlib
 import multiprocessing
+import statistics
 import time
 
 from callers import Caller, Silent
@@ -88,7 +89,7 @@ def share(waits, part):
 
 
 def row(values):
-    return " ".join(f"{it:>11}" if isinstance(it, str) else f"{it:11,.0f}" for it in values)
+    return " ".join(f"{it:>11}" if isinstance(it, str) else f"{it:11,.2f}" if at == 3 else f"{it:11,.0f}" for at, it in enumerate(values))
 
 
 def gone_on(load, seconds, part):
@@ -123,16 +124,21 @@ def used_for(load, staying, seconds, every, part):
 
 
 def grown(rows):
-    """How the memory grew, in words: in a long run from its tenth minute on, when it must not by more than a twentieth."""
+    """How the memory grew, in words. It moves with what clients leave unread, so a long run is judged by medians: that of its last ten minutes
+    must not be over that of the ten behind its first ten by more than a twentieth."""
     early, late = (max(it[3] for it in half) for half in (rows[: len(rows) // 2 + 1], rows[len(rows) // 2:]))
     if late > 1.5 * early + 10:
         raise Differs(f"the server's memory rose from {early:.0f} to {late:.0f} MB")
-    begun = [it[3] for it in rows if it[0] >= BEGUN]
-    if len(begun) < 2:
+    end = rows[-1][0]
+    if end < 3 * BEGUN:
         return f"memory {early:.1f} MB in the first half, {late:.1f} MB in the second"
-    if max(begun) > 1.05 * begun[0]:
-        raise Differs(f"the server's memory rose from {begun[0]:.2f} MB after ten minutes to {max(begun):.2f} MB")
-    return f"memory {begun[0]:.2f} MB after ten minutes, from then on at most {max(begun):.2f} MB"
+    begun = statistics.median(it[3] for it in rows if BEGUN <= it[0] < 2 * BEGUN)
+    ended = statistics.median(it[3] for it in rows if it[0] > end - BEGUN)
+    most = max(it[3] for it in rows)
+    said = f"{begun:.2f} MB in the second ten minutes to {ended:.2f} MB in the last ten (medians; at most {most:.2f} MB)"
+    if ended > 1.05 * begun:
+        raise Differs(f"the server's memory rose from {said}")
+    return f"memory from {said}"
 
 
 def last(path, folder, seconds, seed, every=10.0, part=1.0):

@@ -16,7 +16,7 @@ server's memory is looked at: once the tables have their size it must not grow w
 `service` uses `mi_service`, with a journal, for some seconds (`lasting.py`): 61 places are taken by clients that come and go, half of them
 silent, and three clients stay, whose waits are measured. Those that come and go are at work for --share of each tenth of a second, all of it if
 left out. Every ten seconds a row is printed: connections and lines since the last one, memory, and the waits by their shares; --plot draws the
-memory and the waits. The memory must not grow, in a long run by no more than a twentieth from the tenth minute on, and a service that is killed
+memory and the waits. The memory must not grow, in a long run by no more than a twentieth from the second ten minutes to the last (medians), and a service that is killed
 and started again must have the same tables."""
 import argparse
 import random
