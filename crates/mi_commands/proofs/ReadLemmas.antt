@@ -3,22 +3,37 @@ use Rattle.std.proofs.Common.{◌≡◌, ℕ, List, Bool, true, false, cond, ◌
 use Rattle.std.specs.Prelude.{IfOk}
 use Rattle.mi_value.specs.declared.refusal.Refusal.{Refusal}
 use Rattle.mi_value.specs.declared.refusal.Refusal.TheVariants.{Busy, Memory}
-use Rattle.mi_catalog.specs.Shape.{CatalogShape}
+use Rattle.mi_catalog.specs.Shape.{CatalogShape, schema_at}
 use Rattle.mi_request.specs.Answers.{IsAnswer}
 use Rattle.mi_request.specs.Lines.{command_line}
 use Rattle.mi_request.specs.Commands.{keeps_out}
 use Rattle.mi_request.specs.declared.request.Request.{Request}
 use Rattle.mi_request.specs.declared.request.Request.TheVariants as request
 use Rattle.mi_request.proofs.ShortLemmas.{short_means}
-use Rattle.mi_protocol.specs.Binding.{bound_command}
+use Rattle.mi_protocol.specs.Binding.{and_then, bound_command, index_number, table_number}
+use Rattle.mi_catalog.specs.Kinds.{is_ranked}
 use Rattle.mi_protocol.specs.Replies.{refused, reply_text}
 use Rattle.mi_protocol.specs.declared.binding.Command.{Command}
+use Rattle.mi_protocol.specs.declared.binding.Command.TheVariants as command
 use Rattle.mi_commands.specs.Answer.{needs_none, done_without, TakesNone, command_answer, command_of, GivenOrMemory}
 use Rattle.mi_commands.specs.Holder.{HeldDatabase, is_busy}
 use Rattle.mi_commands.specs.Performed.{performed}
 
 not_true : {A : Type 0} → false ≡ true → A
 not_true e = absurd (true≢false (sym e))
+
+sized : (table : Result ℕ Refusal) → IfOk (and_then (λ n. Ok (command.Size n)) table) (λ c. done_without c ≡ true)
+sized (Ok n) = refl
+sized (Err e) = tt
+
+indexed : (n id : ℕ) (index : Result ℕ Refusal) → IfOk (and_then (λ x. Ok (command.Rank n x id)) index) (λ c. done_without c ≡ true)
+indexed n id (Ok x) = refl
+indexed n id (Err e) = tt
+
+ranked : (catalog : CatalogShape) (table : Result ℕ Refusal) (index : List ℕ) (id : ℕ)
+    → IfOk (and_then (λ n. and_then (λ x. Ok (command.Rank n x id)) (index_number is_ranked (schema_at catalog n) index)) table) (λ c. done_without c ≡ true)
+ranked catalog (Ok n) index id = indexed n id (index_number is_ranked (schema_at catalog n) index)
+ranked catalog (Err e) index id = tt
 
 -- a request that is done without memory is a command that is
 bound_without : (catalog : CatalogShape) (r : Request) → needs_none r ≡ true → IfOk (bound_command catalog r) (λ c. done_without c ≡ true)
@@ -36,10 +51,10 @@ bound_without catalog (request.Nth table index n) none = not_true none
 bound_without catalog (request.Count table index key) none = not_true none
 bound_without catalog (request.Range table index lower upper reverse limit) none = not_true none
 bound_without catalog (request.List table index after limit) none = not_true none
-bound_without catalog (request.Rank table index id) none = not_true none
+bound_without catalog (request.Rank table index id) none = ranked catalog (table_number catalog table) index id
 bound_without catalog (request.LowerRank table index key) none = not_true none
 bound_without catalog (request.UpperRank table index key) none = not_true none
-bound_without catalog (request.Size (Some table)) none = not_true none
+bound_without catalog (request.Size table) none = sized (table_number catalog table)
 bound_without catalog r none = refl
 
 none_bound : (catalog : CatalogShape) (r : Request) (c : Command) → needs_none r ≡ true → bound_command catalog r ≡ Ok c → done_without c ≡ true

@@ -3,8 +3,8 @@ use Rattle.std.specs.Prelude.{◌≡◌, ◌⊎◌, ℕ, List, Bool, true, false
 use Rattle.mi_value.specs.declared.refusal.Refusal.{Refusal}
 use Rattle.mi_value.specs.declared.refusal.Refusal.TheVariants.{Line, Busy, Memory}
 use Rattle.mi_protocol.specs.Lines.{command_line}
-use Rattle.mi_protocol.specs.Commands.{keeps_out, table_member}
-use Rattle.mi_protocol.specs.Binding.{bound_command, table_of}
+use Rattle.mi_protocol.specs.Commands.{keeps_out}
+use Rattle.mi_protocol.specs.Binding.{bound_command, binds_without, table_of}
 use Rattle.mi_protocol.specs.Replies.{Said, refused, reply_text}
 use Rattle.mi_request.specs.Short.{short_line}
 use Rattle.mi_request.specs.declared.request.Request.{Request}
@@ -38,19 +38,19 @@ answer s conn too_long = refusal s Line
 abbrev pub IsGiven : Said × HeldDatabase → HeldDatabase → List ℕ → HeldDatabase → Type 0
 IsGiven a s reply t = (reply ≡ reply_text s.database.catalog a.0) × (t ≡ a.1)
 
--- a request that is done and answered without memory: one of sessions, or the size of the first table. A start, an erase and a reserve may
--- need room, and a record is shown in memory that is asked for
+-- a request that is done and answered without memory: one of sessions, a size or a rank. A start, an erase and a reserve may need room,
+-- and a record is shown in memory that is asked for
 abbrev pub needs_none : Request → Bool
 needs_none request.Start = false
 needs_none (request.Reserve changes sessions) = false
-needs_none (request.Size table) = is_none table
-needs_none r = is_none (table_member r)
+needs_none r = binds_without r
 
 -- the command that such a request is
 abbrev pub done_without : Command → Bool
 done_without command.Start = false
 done_without (command.Reserve changes sessions) = false
 done_without (command.Size table) = true
+done_without (command.Rank table index id) = true
 done_without c = is_none (table_of c)
 
 -- a line that takes no memory from its first byte to its reply: one of these, as it is written without spaces

@@ -88,7 +88,7 @@ impl<D: Sessions + Drop> Executor<D> {
     }
 
     /// Answers a line of a connection. `memory` may stand in the place of any answer, and then nothing has changed; but not to an over-long
-    /// line, nor to one of a session command other than `start`, of `revision` or of `size` that is written without spaces.
+    /// line, nor to one of a session command other than `start`, of `revision`, of `size` or of `rank` that is written without spaces.
     pub fn answer(&mut self, conn: u64, line: Line<'_>) -> ReplyText
         ensures { MayGive conn self.old (asked_of line.entry) (text_bytes result) self.new }
     {
@@ -98,7 +98,7 @@ impl<D: Sessions + Drop> Executor<D> {
         }
     }
 
-    /// Does a command that fits the catalog. The session commands other than a start, `revision` and `size` take no memory.
+    /// Does a command that fits the catalog. The session commands other than a start, `revision`, `size` and `rank` take no memory.
     fn perform(&mut self, conn: u64, command: Command) -> ReplyText
         requires { FitsCatalog self.old.database.catalog command }
         ensures { GivenOrMemory (done_without command ≡ false) (performed self.old conn command) self.old (text_bytes result) self.new }
@@ -196,7 +196,7 @@ impl<D: Sessions + Drop> Executor<D> {
     }
 }
 
-/// The command that a request is over a catalog. One that names nothing of it is its command as it stands, and takes no memory.
+/// The command that a request is over a catalog. One that names nothing of it is its command as it stands.
 fn command_of(alloc: Global, request: Request<'_>, catalog: &Catalog) -> Result<Command, Refusal>
     ensures answer { IsAnswer result (bound_command catalog.now request.entry) }
     ensures refusal { IfErr result NamesNoIndex }

@@ -124,10 +124,10 @@ impl<D: Sessions + Drop> Executor<D> {
         }
     }
 
-    /// Says how many records stand before one.
+    /// Says how many records stand before one. It takes no memory.
     pub(crate) fn rank(&self, table: usize, index: usize, id: u64) -> ReplyText
         requires { FitsCatalog self.now.database.catalog (Command.Rank table index id) }
-        ensures { GivenOrMemory (Unit {0}) (done self.now 0 (Command.Rank table index id)) self.now (text_bytes result) self.now }
+        ensures { IsGiven (done self.now 0 (Command.Rank table index id)) self.now (text_bytes result) self.now }
     {
         let mut steps = Steps::new();
         match rank(&self.database, table, index, id, &mut steps) {

@@ -1,4 +1,4 @@
-//! The linked database: a container for each table under one journal. It is a `Sessions` whose undo takes no memory. It
+//! The linked database: a container for each table under one undo journal. It is a `Sessions` whose undo takes no memory. It
 //! knows a container by its calls alone.
 #![tactic(auto)]
 

@@ -33,7 +33,7 @@ fn as_text(bytes: &[u8]) -> Option<ValueRef<'_>>
     }
 }
 
-/// The text of so many bytes from a place on.
+/// The text of so many bytes from this byte on.
 fn text_at(texts: &[u8], at: usize, length: usize) -> Option<ValueRef<'_>>
     ensures { option_map lent result ≡ meaning.text_at texts.now at length }
 {

@@ -6,7 +6,7 @@ ghost use Rattle.mi_value.specs.Lent.{lent};
 use crate::cell::Cell;
 use mi_value::{ValueRef, Values};
 
-/// The cell of a value whose text lies from a place on.
+/// The cell of a value whose text lies from a byte on.
 fn cell_of(at: usize, value: ValueRef<'_>) -> Cell
     ensures { result ≡ cell_of at (lent value.entry) }
 {

@@ -12,7 +12,7 @@ pub struct Connection {
     pub rest: LineBuffer,
 }
 
-/// The first place of a connection.
+/// Where a connection stands first in the list, from 0.
 pub fn place_of(connections: &[Connection], conn: u64) -> Option<usize>
     ensures { MatchOption result (rest_at conn connections.now ≡ None) (λ i. StandsAt conn i connections.now) }
 {

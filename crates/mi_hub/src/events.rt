@@ -39,7 +39,7 @@ fn drive_one<D: Sessions + Drop, W: Write>(
     }
 }
 
-/// Does the events in order, with one writer for all replies, until one can't be done whole; answers the place of that one,
+/// Does the events in order, with one writer for all replies, until one can't be done whole; answers the number of that one,
 /// from 0, and its fault. Those before it are done, and those behind it are left out.
 ///
 /// After `Write` the connection of that event has been cut; after any other fault that event has changed nothing.

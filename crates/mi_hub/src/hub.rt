@@ -188,7 +188,7 @@ impl<D: Sessions + Drop> Hub<D> {
         place_of(self.connections.as_slice(), conn)
     }
 
-    /// The connection at this place goes away.
+    /// The connection of this number in the list goes away.
     fn leave(&mut self, at: usize, conn: u64)
         requires within { at < length self.old.attached }
         requires there { remove self.old.attached at ≡ others conn self.old.attached }

@@ -1,4 +1,4 @@
-//! The inverses of open sessions, each in the room of its change: what all inverses have stands in a journal of small entries, and
+//! The inverses of open sessions, each in the room of its change: what all inverses have stands in an undo journal of small entries, and
 //! the old records and old places of puts in two rings beside it. It takes memory in `reserve` alone.
 #![tactic(auto)]
 

@@ -1,6 +1,6 @@
 //! A line of a journal, asked again of a hub that nobody else asks.
 ghost use Rattle.std.specs.Prelude.{◌≡◌, ◌++◌, ◌∷◌, ℕ, List, [], Some, Ok, true, false, OnOk, IfSome};
-ghost use Rattle.mi_log.specs.LineReader.{reader_of, line_of};
+ghost use Rattle.mi_log.specs.LogLines.{reader_of, line_of};
 ghost use Rattle.mi_hub.specs.Ended.{after_newlines};
 ghost use Rattle.mi_ledger.specs.Replay.{Onward, IsTorn};
 ghost use Rattle.mi_hub.specs.Connections.{rest_at};
@@ -11,7 +11,7 @@ ghost use Rattle.mi_ledger.specs.Journals.{IsWholeLine};
 
 use crate::deciding::may_be_change;
 use mi_hub::{Hub, Watched};
-use mi_log::LineReader;
+use mi_log::LogLines;
 use mi_sessions::Sessions;
 use std::alloc::Global;
 use std::io::BufRead;
@@ -84,7 +84,7 @@ pub fn replay_line<D: Sessions + Drop>(
 fn replay_next<D: Sessions + Drop, R: BufRead>(
     alloc: Global,
     hub: &mut Hub<D>,
-    lines: &mut LineReader<R>,
+    lines: &mut LogLines<R>,
     number: u64,
 ) -> Result<bool, ReplayFault>
     requires { rest_at replayer hub.old.attached ≡ Some (Some []) }
@@ -110,7 +110,7 @@ fn replay_next<D: Sessions + Drop, R: BufRead>(
 pub fn replay<D: Sessions + Drop, R: BufRead>(
     alloc: Global,
     hub: &mut Hub<D>,
-    lines: &mut LineReader<R>,
+    lines: &mut LogLines<R>,
 ) -> Result<(), ReplayFault>
     requires { rest_at replayer hub.old.attached ≡ Some (Some []) }
     ensures ok { OnOk result (IfSome (R.remaining (reader_of lines.old)) (λ bytes. hub.new.held ≡ replayed (lines_of bytes) hub.old.held)) }

@@ -2,5 +2,5 @@
 pub mod Kept
 pub mod DeviceLog
 pub mod MemoryDevice
-pub mod LineReader
+pub mod LogLines
 pub mod Header

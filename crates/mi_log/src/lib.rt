@@ -12,6 +12,6 @@ mod memory;
 pub use device::{Device, OpenedFile};
 pub use device_log::DeviceLog;
 pub use header::{Heading, header_line, judge_heading};
-pub use lines::LineReader;
+pub use lines::LogLines;
 pub use log::{Log, LogFault};
 pub use memory::MemoryDevice;

@@ -10,20 +10,20 @@ use std::io::BufRead;
 
 /// A reader, and the line that was read last.
 #[derive(Drop)]
-pub struct LineReader<R> {
+pub struct LogLines<R> {
     reader: R,
     line: Vec<u8>,
 }
 
-impl<R> LineReader<R> {
-    ghost use Rattle.mi_log.specs.LineReader.{reader_of, line_of};
+impl<R> LogLines<R> {
+    ghost use Rattle.mi_log.specs.LogLines.{reader_of, line_of};
 
     /// No line is read yet.
-    pub fn new(alloc: Global, reader: R) -> LineReader<R>
+    pub fn new(alloc: Global, reader: R) -> LogLines<R>
         ensures reader { reader_of result ≡ reader }
         ensures none { line_of result ≡ [] }
     {
-        LineReader {
+        LogLines {
             reader,
             line: Vec::new(alloc),
         }
@@ -44,8 +44,8 @@ fn ends_line(bytes: &[u8]) -> bool
     bytes.ends_with(b"\n")
 }
 
-impl<R: BufRead> LineReader<R> {
-    ghost use Rattle.mi_log.specs.LineReader.{reader_of, line_of};
+impl<R: BufRead> LogLines<R> {
+    ghost use Rattle.mi_log.specs.LogLines.{reader_of, line_of};
 
     /// Reads up to and with the next newline, or to the end, and answers whether there was a newline. What stands behind the last one
     /// is no line: it is torn, and `line` is it then.

@@ -16,7 +16,7 @@
 //!
 //! A search compares tags, and reads values where tags are equal. `ids` maps 12 to this node, and says whether it is live. An erased
 //! row's node leaves every index and stays in the pool, held and not live; in lists and chains its links still name its neighbours, in
-//! trees it keeps its stamp. The inverse that a call answers names it, and the undo journal keeps the inverse until its session ends.
+//! trees it keeps its stamp. The inverse that a call answers names it, and the undo journal keeps the inverse until it is taken back or settled.
 //! `unwind` of an erase links the node in again. Two calls give nodes back to the pool, whose values are dropped: `settle` of an erase, and
 //! `unwind` of an insert; dropping the pool drops all that are left. It touches its own pool, ids, structures and
 //! two counters, of ids and of arrivals, and no stream. It takes memory when it is made, in an insert and a modify, and for the rows that

@@ -60,7 +60,8 @@ fn pair_tag(descending: bool, value: Option<ValueRef<'_>>, rest: u64) -> u64
     }
 }
 
-/// The tag of the values of two parts.
+/// The tag of the values of two parts. In line, so that the values aren't laid down for it.
+#[inline(always)]
 fn two_tag(
     types: &LeadTypes,
     part: &KeyPart,

@@ -9,7 +9,7 @@ mod room;
 mod string;
 
 pub use number::{put_i64, put_u64};
-pub use place::{put_byte, put_comma, put_front, put_text};
+pub use place::{put_byte, put_comma, put_label, put_text};
 pub use plain::is_plain;
 pub use room::make_room;
 pub use string::put_string;

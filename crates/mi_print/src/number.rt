@@ -1,37 +1,79 @@
-//! Whole numbers in decimal. Their digits are counted first, so that they're written where they belong. It knows no JSON.
-ghost use Rattle.std.specs.Prelude.{◌≡◌, ◌+◌, ◌<◌, ◌≤◌, length};
+//! Whole numbers in decimal, four digits at a time: each digit is stored once, where it belongs. It knows no JSON.
+ghost use Rattle.std.specs.Prelude.{◌≡◌, ◌+◌, ◌/◌, ◌%◌, ◌<◌, ◌≤◌, [], ◌∷◌, ◌++◌, length};
 ghost use Rattle.std.specs.Fmt.{decimal, signed_decimal};
 ghost use Rattle.json.specs.Filled.{Placed};
 
-use itoa::write_digits;
+use crate::place::put_byte;
 
-/// How many digits a number below 10,000 has.
+/// The numbers below 100, two digits each.
+static PAIRS: [u8; 200] =
+    *b"00010203040506070809101112131415161718192021222324252627282930313233343536373839404142434445464748495051525354555657585960616263646566676869707172737475767778798081828384858687888990919293949596979899";
+
+/// Puts the two digits of a number below 100.
 #[inline(always)]
-fn short_count(n: u64) -> usize
-    requires { n < 10000 }
-    ensures { result ≡ length (decimal n) }
+fn put_pair(buf: &mut [u8], at: usize, n: u64) -> usize
+    requires { (n < 100) × (at + 2 ≤ length buf.old) }
+    ensures { Placed buf.old buf.new at ((48 + n / 10) ∷ (48 + n % 10) ∷ []) result }
 {
-    if n < 100 {
-        if n < 10 { 1 } else { 2 }
-    } else if n < 1_000 {
-        3
+    let from = n as usize * 2;
+    let (tens, ones) = (PAIRS[from], PAIRS[from + 1]);
+    let end = put_byte(buf, at, tens);
+    put_byte(buf, end, ones)
+}
+
+/// Puts a number below 100.
+#[inline(always)]
+fn put_small(buf: &mut [u8], at: usize, n: u64) -> usize
+    requires { (n < 100) × (at + 2 ≤ length buf.old) }
+    ensures value { Placed buf.old buf.new at (decimal n) result }
+    ensures bound { result ≤ at + 2 }
+{
+    if n < 10 {
+        put_byte(buf, at, b'0' + n as u8)
     } else {
-        4
+        put_pair(buf, at, n)
     }
 }
 
-/// How many digits a number has.
+/// Puts a number below 10,000.
 #[inline(always)]
-fn digit_count(n: u64) -> usize
-    ensures { result ≡ length (decimal n) }
+fn put_short(buf: &mut [u8], at: usize, n: u64) -> usize
+    requires { (n < 10000) × (at + 4 ≤ length buf.old) }
+    ensures value { Placed buf.old buf.new at (decimal n) result }
+    ensures bound { result ≤ at + 4 }
 {
-    let mut left = n;
-    let mut count = 0;
-    'fours: while left >= 10_000 {
-        left /= 10_000;
-        count += 4;
+    if n < 100 {
+        return put_small(buf, at, n);
     }
-    count + short_count(left)
+    let end = put_small(buf, at, n / 100);
+    put_pair(buf, end, n % 100)
+}
+
+/// Puts the four digits of a number below 10,000.
+#[inline(always)]
+fn put_four(buf: &mut [u8], at: usize, n: u64) -> usize
+    requires { (n < 10000) × (at + 4 ≤ length buf.old) }
+    ensures { Placed buf.old buf.new at
+        (((48 + n / 100 / 10) ∷ (48 + n / 100 % 10) ∷ []) ++ ((48 + n % 100 / 10) ∷ (48 + n % 100 % 10) ∷ [])) result }
+{
+    let end = put_pair(buf, at, n / 100);
+    put_pair(buf, end, n % 100)
+}
+
+/// Puts a number of five digits or more: its last four behind those before them.
+#[inline(never)]
+fn put_large(buf: &mut [u8], at: usize, n: u64) -> usize
+    requires { (10000 ≤ n) × (at + 20 ≤ length buf.old) }
+    ensures value { Placed buf.old buf.new at (decimal n) result }
+    ensures bound { result ≤ at + 20 }
+{
+    let high = n / 10_000;
+    if high < 10_000 {
+        let begun = put_short(buf, at, high);
+        return put_four(buf, begun, n % 10_000);
+    }
+    let begun = put_large(buf, at, high);
+    put_four(buf, begun, n % 10_000)
 }
 
 /// Puts a number.
@@ -41,9 +83,11 @@ pub fn put_u64(buf: &mut [u8], at: usize, n: u64) -> usize
     ensures value { Placed buf.old buf.new at (decimal n) result }
     ensures bound { result ≤ at + 20 }
 {
-    let end = at + digit_count(n);
-    write_digits(n, buf, end);
-    end
+    if n < 10_000 {
+        put_short(buf, at, n)
+    } else {
+        put_large(buf, at, n)
+    }
 }
 
 /// Puts a number with its sign. The sign is always stored, and counts only where the number has one.

@@ -28,7 +28,12 @@ pub fn put_comma(buf: &mut [u8], at: usize, wanted: bool) -> usize
 
 /// Puts the first bytes of an array, which is stored whole: those behind them don't count.
 #[inline(always)]
-pub fn put_front<const N: usize>(buf: &mut [u8], at: usize, src: &[u8; N], len: usize) -> usize
+pub(crate) fn put_front<const N: usize>(
+    buf: &mut [u8],
+    at: usize,
+    src: &[u8; N],
+    len: usize,
+) -> usize
     requires fits { at + N ≤ length buf.old }
     requires within { len ≤ N }
     ensures { Placed buf.old buf.new at (take len src.now) result }
@@ -49,7 +54,7 @@ fn put_first<const N: usize>(buf: &mut [u8], at: usize, src: &[u8]) -> usize
 
 /// Puts a text of N to 2 N bytes: the first N of them, and the last N.
 #[inline(always)]
-fn put_ends<const N: usize>(buf: &mut [u8], at: usize, src: &[u8]) -> usize
+pub(crate) fn put_ends<const N: usize>(buf: &mut [u8], at: usize, src: &[u8]) -> usize
     requires fits { at + length src.now ≤ length buf.old }
     requires covers { (N ≤ length src.now) × (length src.now ≤ N + N) }
     ensures { Placed buf.old buf.new at src.now result }
@@ -94,4 +99,18 @@ pub fn put_text(buf: &mut [u8], at: usize, src: &[u8]) -> usize
     } else {
         at
     }
+}
+
+/// Puts the first bytes of an array. Where they are up to sixteen, sixteen are stored, and those behind them don't count.
+#[inline(always)]
+pub fn put_label<const N: usize>(buf: &mut [u8], at: usize, src: &[u8; N], len: usize) -> usize
+    requires fits { at + N ≤ length buf.old }
+    requires within { (16 ≤ N) × (len ≤ N) }
+    ensures { Placed buf.old buf.new at (take len src.now) result }
+{
+    if len > 16 {
+        return put_text(buf, at, &src[..len]);
+    }
+    put_first::<16>(buf, at, src);
+    at + len
 }

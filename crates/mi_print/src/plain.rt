@@ -73,20 +73,55 @@ fn plain_long(text: &[u8]) -> bool
     plain_16(text, text.len() - 16)
 }
 
-/// The same of a text of fifteen bytes or fewer.
+/// The same of a text of four to eight bytes.
+#[inline(always)]
+fn plain_by_4(text: &[u8]) -> bool
+    requires { (4 ≤ length text.now) × (length text.now ≤ 8) }
+    ensures { OnTrue result (PlainBetween text.now 0 (length text.now)) }
+{
+    plain_4(text, 0) && plain_4(text, text.len() - 4)
+}
+
+/// The same of a text of eight to sixteen bytes.
+#[inline(always)]
+fn plain_by_8(text: &[u8]) -> bool
+    requires { (8 ≤ length text.now) × (length text.now ≤ 16) }
+    ensures { OnTrue result (PlainBetween text.now 0 (length text.now)) }
+{
+    plain_8(text, 0) && plain_8(text, text.len() - 8)
+}
+
+/// The same of a text of sixteen bytes or fewer.
 #[inline(always)]
 fn plain_short(text: &[u8]) -> bool
     requires { length text.now ≤ 16 }
     ensures { OnTrue result (PlainBetween text.now 0 (length text.now)) }
 {
-    let len = text.len();
-    if len >= 8 {
-        plain_8(text, 0) && plain_8(text, len - 8)
-    } else if len >= 4 {
-        plain_4(text, 0) && plain_4(text, len - 4)
+    if text.len() >= 8 {
+        plain_by_8(text)
+    } else if text.len() >= 4 {
+        plain_by_4(text)
     } else {
         plain_few(text)
     }
+}
+
+/// Whether a text of four to eight bytes needs no escape.
+#[inline(always)]
+pub(crate) fn is_plain_by_4(text: &[u8]) -> bool
+    requires { (4 ≤ length text.now) × (length text.now ≤ 8) }
+    ensures { OnTrue result (escape text.now ≡ text.now) }
+{
+    plain_by_4(text)
+}
+
+/// Whether a text of eight to sixteen bytes needs no escape.
+#[inline(always)]
+pub(crate) fn is_plain_by_8(text: &[u8]) -> bool
+    requires { (8 ≤ length text.now) × (length text.now ≤ 16) }
+    ensures { OnTrue result (escape text.now ≡ text.now) }
+{
+    plain_by_8(text)
 }
 
 /// Whether a text needs no escape.

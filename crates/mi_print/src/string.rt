@@ -4,8 +4,8 @@ ghost use Rattle.std.specs.Char.{digit_char};
 ghost use Rattle.json.specs.Filled.{Placed};
 ghost use Rattle.json.specs.Print.{escape_letter, escape_byte, quoted};
 
-use crate::place::{put_byte, put_front, put_text};
-use crate::plain::is_plain;
+use crate::place::{put_byte, put_ends, put_front, put_text};
+use crate::plain::{is_plain, is_plain_by_4, is_plain_by_8};
 
 /// The letter of a byte's short escape, or 0 where it has none.
 fn letter(byte: u8) -> u8
@@ -84,7 +84,33 @@ fn put_plain(buf: &mut [u8], at: usize, text: &[u8]) -> usize
     put_byte(buf, end, b'"')
 }
 
-/// Puts a text in quotation marks, escaped where it has to be. An escape takes up to six bytes.
+/// Puts a text of N to 2 N bytes in quotation marks that needs no escape.
+#[inline(always)]
+fn put_quoted<const N: usize>(buf: &mut [u8], at: usize, text: &[u8]) -> usize
+    requires fits { at + length text.now + 2 ≤ length buf.old }
+    requires covers { (N ≤ length text.now) × (length text.now ≤ N + N) }
+    ensures { Placed buf.old buf.new at (34 ∷ (text.now ++ 34 ∷ [])) result }
+{
+    let begun = put_byte(buf, at, b'"');
+    let end = put_ends::<N>(buf, begun, text);
+    put_byte(buf, end, b'"')
+}
+
+/// Puts a text of any length in quotation marks, escaped where it has to be.
+fn put_any(buf: &mut [u8], at: usize, text: &[u8]) -> usize
+    requires { at + 6 * length text.now + 2 ≤ length buf.old }
+    ensures value { Placed buf.old buf.new at (quoted text.now) result }
+    ensures bound { result ≤ at + 6 * length text.now + 2 }
+{
+    if is_plain(text) {
+        put_plain(buf, at, text)
+    } else {
+        put_escaped(buf, at, text)
+    }
+}
+
+/// Puts a text in quotation marks, escaped where it has to be. An escape takes up to six bytes. Of a short text that needs none the
+/// length is asked once, for the test and the copy.
 #[inline(always)]
 pub fn put_string(buf: &mut [u8], at: usize, text: &str) -> usize
     requires { at + 6 * length text.now + 2 ≤ length buf.old }
@@ -92,9 +118,13 @@ pub fn put_string(buf: &mut [u8], at: usize, text: &str) -> usize
     ensures bound { result ≤ at + 6 * length text.now + 2 }
 {
     let bytes = text.as_bytes();
-    if is_plain(bytes) {
-        put_plain(buf, at, bytes)
-    } else {
-        put_escaped(buf, at, bytes)
+    let len = bytes.len();
+    if len >= 8 {
+        if len <= 16 && is_plain_by_8(bytes) {
+            return put_quoted::<8>(buf, at, bytes);
+        }
+    } else if len >= 4 && is_plain_by_4(bytes) {
+        return put_quoted::<4>(buf, at, bytes);
     }
+    put_any(buf, at, bytes)
 }

@@ -1,5 +1,5 @@
 -- The command that a request is over a catalog, with tables, indexes and columns by number.
-use Rattle.std.specs.Prelude.{ℕ, Bool, true, false, if◌then◌else◌, List, Option, Some, None, IfSome, Result, Ok, Err}
+use Rattle.std.specs.Prelude.{ℕ, Bool, true, false, if◌then◌else◌, List, Option, Some, None, is_none, IfSome, Result, Ok, Err}
 use Rattle.std.specs.Option.{ok_or}
 use Rattle.mi_value.specs.declared.refusal.Refusal.{Refusal}
 use Rattle.mi_value.specs.declared.refusal.Refusal.TheVariants.{NoTable, Index, Kind, Row, Key}
@@ -15,6 +15,7 @@ use Rattle.mi_protocol.specs.Edits.{bound_edits}
 use Rattle.mi_protocol.specs.Keys.{bound_key, bound_lower, bound_upper}
 use Rattle.mi_catalog.specs.Kinds.{has_keys, is_sequenced, is_sorted, is_ranked, is_hashed}
 use Rattle.mi_protocol.specs.Values.{bound_row}
+use Rattle.mi_request.specs.Commands.{table_member}
 use Rattle.mi_request.specs.declared.request.End.{End}
 use Rattle.mi_request.specs.declared.request.Place.{Place}
 use Rattle.mi_request.specs.declared.request.Request.{Request}
@@ -119,6 +120,12 @@ bound_command c (request.LowerRank table index key) =
 bound_command c (request.UpperRank table index key) =
     and_then (λ n. and_then (λ k. Ok (command.UpperRank n k.0 k.1)) (ranked_key (schema_at c n) index key)) (table_number c table)
 bound_command c (request.Size table) = and_then (λ n. Ok (command.Size n)) (table_number c table)
+
+-- a request that is bound without memory: one of sessions, a size or a rank. A row, edits and a key are made in memory that is asked for
+abbrev pub binds_without : Request → Bool
+binds_without (request.Rank table index id) = true
+binds_without (request.Size table) = true
+binds_without r = is_none (table_member r)
 
 -- the table is there, and records, edits, keys and indexes are as its schema wants them; what is over sessions fits each catalog
 abbrev pub FitsCatalog : CatalogShape → Command → Type 0

@@ -1,9 +1,9 @@
 //! From a request to a command over a catalog: names of tables and indexes become numbers, a row becomes a record.
-ghost use Rattle.std.specs.Prelude.{◌≡◌, Ok, Err, IfOk, IfErr};
+ghost use Rattle.std.specs.Prelude.{◌≡◌, ◌≢◌, true, Ok, Err, IfOk, IfErr};
 ghost use Rattle.mi_catalog.specs.Shape.{schema_at};
 ghost use Rattle.mi_request.specs.Answers.{IsAnswer, NamesNoIndex};
 ghost use Rattle.mi_protocol.specs.Binding as binding;
-ghost use Rattle.mi_protocol.specs.Binding.{bound_command, FitsCatalog};
+ghost use Rattle.mi_protocol.specs.Binding.{bound_command, binds_without, FitsCatalog};
 ghost use Rattle.mi_request.specs.declared.request.Request.TheVariants as request;
 
 use crate::changes::{
@@ -154,6 +154,7 @@ pub(crate) fn named_table<'a>(
 /// The command that a request is.
 fn command_of(alloc: Global, request: Request, catalog: &Catalog) -> Result<Command, Refusal>
     ensures answer { IsAnswer result (bound_command catalog.now request.entry) }
+    ensures memory { binds_without request.entry ≡ true → result ≢ Err Refusal.Memory }
     ensures undo { request.entry ≡ Request.Undo → result ≡ Ok Command.Undo }
 {
     match request {
@@ -214,11 +215,12 @@ fn command_of(alloc: Global, request: Request, catalog: &Catalog) -> Result<Comm
 }
 
 /// The command that a request is over this catalog. Refusals, in this order: `NoTable`, `Index`, `Kind`, `Row`, `Key`, and
-/// `Memory`. A command that is answered fits the catalog. An undo takes no memory.
+/// `Memory`. A command that is answered fits the catalog. One of sessions, a size and a rank take no memory (`binds_without`).
 pub fn bind(alloc: Global, request: Request, catalog: &Catalog) -> Result<Command, Refusal>
     ensures answer { IsAnswer result (bound_command catalog.now request.entry) }
     ensures refusal { IfErr result NamesNoIndex }
     ensures fits { IfOk result (λ command. FitsCatalog catalog.now command) }
+    ensures memory { binds_without request.entry ≡ true → result ≢ Err Refusal.Memory }
     ensures undo { request.entry ≡ Request.Undo → result ≡ Ok Command.Undo }
 {
     catalog.keeps_rules();

@@ -4,7 +4,7 @@ ghost use Rattle.std.specs.List.{list_any, list_all};
 ghost use Rattle.mi_request.specs.Json.{has_only};
 
 use mi_catalog::Column;
-use mi_request::{Object, Tree};
+use mi_request::{Json, Object};
 
 /// Whether a name is that of one of these columns.
 fn is_column(columns: &[Column], name: &str) -> bool
@@ -19,7 +19,7 @@ fn is_column(columns: &[Column], name: &str) -> bool
 }
 
 /// Whether each member has the name of one of these columns.
-fn are_columns(columns: &[Column], members: &[(&str, Tree<'_>)]) -> bool
+fn are_columns(columns: &[Column], members: &[(&str, Json<'_>)]) -> bool
     ensures { result ≡ list_all (λ m. list_any (λ c. bytes_eq m.0.now c.name) columns.now) members.now }
 {
     'members: for member in members {

@@ -4,14 +4,14 @@ ghost use Rattle.std.specs.Option.{ok_or};
 ghost use Rattle.mi_protocol.specs.EditList.{edits_in};
 ghost use Rattle.serde_json.specs.Find.{get_member};
 ghost use Rattle.mi_request.specs.Answers.{IsAnswer};
-ghost use Rattle.mi_request.specs.Meant.{seen};
+ghost use Rattle.mi_tokens.specs.Meaning.{meaning};
 ghost use Rattle.mi_protocol.specs.Edits as edits;
 ghost use Rattle.mi_protocol.specs.Edits.{edits_from, bound_edits};
 
 use crate::columns::has_only_columns;
 use crate::row::fit;
 use mi_catalog::{Column, Schema};
-use mi_request::{Object, Tree, whole_in};
+use mi_request::{Json, Object};
 use mi_value::{ColumnType, Edit, Refusal};
 use std::alloc::Global;
 use std::marker::Model;
@@ -103,11 +103,11 @@ impl Edits {
 }
 
 /// An addition of a whole number to a column, which must be an `int`.
-fn addition(i: usize, kind: ColumnType, value: &Tree<'_>) -> Option<Edit>
-    ensures { result ≡ edits.addition i kind (seen value.now) }
+fn addition(i: usize, kind: ColumnType, value: &Json<'_>) -> Option<Edit>
+    ensures { result ≡ edits.addition i kind (meaning value.now) }
 {
     match kind {
-        ColumnType::Int => Some(Edit::Add(i, whole_in(value)?)),
+        ColumnType::Int => Some(Edit::Add(i, value.as_i64()?)),
         ColumnType::Text | ColumnType::Flag => None,
     }
 }

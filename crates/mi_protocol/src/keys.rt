@@ -2,33 +2,33 @@
 ghost use Rattle.std.specs.Prelude.{◌≡◌, ◌<◌, length, option_map};
 ghost use Rattle.std.specs.Option.{ok_or};
 ghost use Rattle.mi_request.specs.Answers.{IsAnswer};
-ghost use Rattle.mi_request.specs.Meant.{seen};
+ghost use Rattle.mi_tokens.specs.Meaning.{meaning};
 ghost use Rattle.mi_value.specs.Lent.{lent};
 ghost use Rattle.mi_protocol.specs.Binding.{bound_ends};
 ghost use Rattle.mi_protocol.specs.Keys as keys;
 ghost use Rattle.mi_protocol.specs.Keys.{plain_values, bound_key, bound_lower, bound_upper};
 
 use mi_catalog::Schema;
-use mi_request::{Array, End, Tree, flag_in, text_in, whole_in};
+use mi_request::{Array, End, Json};
 use mi_value::{Key, Lower, Refusal, Upper, Value, ValueRef};
 use std::alloc::Global;
 
 /// The value that a JSON value is, lent by the line: a whole number, a text, or true or false.
-fn plain<'a>(value: &Tree<'a>) -> Option<ValueRef<'a>>
-    ensures { option_map lent result ≡ keys.plain_value (seen value.now) }
+fn plain<'a>(value: &Json<'a>) -> Option<ValueRef<'a>>
+    ensures { option_map lent result ≡ keys.plain_value (meaning value.now) }
 {
-    if let Some(text) = text_in(value) {
+    if let Some(text) = value.as_str() {
         return Some(ValueRef::Text(text));
     }
-    if let Some(n) = whole_in(value) {
+    if let Some(n) = value.as_i64() {
         return Some(ValueRef::Int(n));
     }
-    Some(ValueRef::Flag(flag_in(value)?))
+    Some(ValueRef::Flag(value.as_bool()?))
 }
 
 /// The value that a JSON value is. A text is copied. Refusals: `Key` and `Memory`.
-fn plain_value(alloc: Global, value: &Tree<'_>) -> Result<Value, Refusal>
-    ensures { IsAnswer result (ok_or (keys.plain_value (seen value.now)) Refusal.Key) }
+fn plain_value(alloc: Global, value: &Json<'_>) -> Result<Value, Refusal>
+    ensures { IsAnswer result (ok_or (keys.plain_value (meaning value.now)) Refusal.Key) }
 {
     let value = plain(value).ok_or(Refusal::Key)?;
     Ok(value.to_value(alloc)?)

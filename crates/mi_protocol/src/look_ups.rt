@@ -1,4 +1,5 @@
 //! The look-ups: from the members of a request to a command over a catalog.
+ghost use Rattle.std.specs.Prelude.{◌≢◌, Err};
 ghost use Rattle.mi_request.specs.Answers.{IsAnswer};
 ghost use Rattle.mi_request.specs.declared.request.Request.TheVariants as request;
 ghost use Rattle.mi_protocol.specs.Binding.{bound_command};
@@ -116,7 +117,8 @@ pub(crate) fn bind_rank(
     id: u64,
     catalog: &Catalog,
 ) -> Result<Command, Refusal>
-    ensures { IsAnswer result (bound_command catalog.now (request.Rank table.entry index.entry id)) }
+    ensures answer { IsAnswer result (bound_command catalog.now (request.Rank table.entry index.entry id)) }
+    ensures memory { result ≢ Err Refusal.Memory }
 {
     let (table, schema) = named_table(table, catalog)?;
     let index = ranked_index(&index, schema)?;
@@ -155,7 +157,8 @@ pub(crate) fn bind_upper_rank(
 
 /// Refusal: `NoTable`.
 pub(crate) fn bind_size(table: Option<Name>, catalog: &Catalog) -> Result<Command, Refusal>
-    ensures { IsAnswer result (bound_command catalog.now (request.Size table.entry)) }
+    ensures answer { IsAnswer result (bound_command catalog.now (request.Size table.entry)) }
+    ensures memory { result ≢ Err Refusal.Memory }
 {
     let table = table_number(table, catalog)?;
     Ok(Command::Size { table })

@@ -1,9 +1,10 @@
 //! Rows: from an object to a record over given columns. It knows columns and no tables.
 ghost use Rattle.std.specs.Prelude.{◌≡◌, ◌≤◌, [], length, map, option_map, option_and_then, IsTrue, Some};
+ghost use Rattle.serde_json.specs.Data.{no_members};
 ghost use Rattle.serde_json.specs.Find.{get_member};
 ghost use Rattle.std.specs.Option.{ok_or};
 ghost use Rattle.mi_request.specs.Answers.{IsAnswer};
-ghost use Rattle.mi_request.specs.Meant.{seen, members_seen};
+ghost use Rattle.mi_tokens.specs.Meaning.{meaning, members_meaning};
 ghost use Rattle.mi_protocol.specs.Values as given;
 ghost use Rattle.mi_protocol.specs.Values.{bound_row};
 ghost use Rattle.mi_value.specs.Lent.{lent};
@@ -14,7 +15,7 @@ ghost use Rattle.mi_protocol.specs.declared.row.TheConstants.{FEW};
 use crate::columns::has_only_columns;
 use arrayvec::ArrayVec;
 use mi_catalog::{Column, Schema};
-use mi_request::{Object, Tree, flag_in, text_in, whole_in};
+use mi_request::{Json, Object};
 use mi_value::limits::{MAX_COLUMNS, MAX_TEXT};
 use mi_value::{ColumnType, Record, Refusal, Value, ValueRef};
 use std::alloc::Global;
@@ -36,19 +37,19 @@ fn short_text(text: &str) -> Option<ValueRef<'_>>
 
 /// The value that fits a column of this type, lent by the line.
 #[inline(always)]
-fn fitting<'a>(kind: ColumnType, value: &Tree<'a>) -> Option<ValueRef<'a>>
-    ensures { option_map lent result ≡ given.fitting kind (seen value.now) }
+fn fitting<'a>(kind: ColumnType, value: &Json<'a>) -> Option<ValueRef<'a>>
+    ensures { option_map lent result ≡ given.fitting kind (meaning value.now) }
 {
     match kind {
-        ColumnType::Int => Some(ValueRef::Int(whole_in(value)?)),
-        ColumnType::Flag => Some(ValueRef::Flag(flag_in(value)?)),
-        ColumnType::Text => short_text(text_in(value)?),
+        ColumnType::Int => Some(ValueRef::Int(value.as_i64()?)),
+        ColumnType::Flag => Some(ValueRef::Flag(value.as_bool()?)),
+        ColumnType::Text => short_text(value.as_str()?),
     }
 }
 
 /// The value that fits a column of this type. A text is copied. Refusals: `Row` and `Memory`.
-pub(crate) fn fit(alloc: Global, kind: ColumnType, value: &Tree<'_>) -> Result<Value, Refusal>
-    ensures { IsAnswer result (ok_or (given.fitting kind (seen value.now)) Refusal.Row) }
+pub(crate) fn fit(alloc: Global, kind: ColumnType, value: &Json<'_>) -> Result<Value, Refusal>
+    ensures { IsAnswer result (ok_or (given.fitting kind (meaning value.now)) Refusal.Row) }
 {
     let value = fitting(kind, value).ok_or(Refusal::Row)?;
     Ok(value.to_value(alloc)?)
@@ -58,13 +59,13 @@ pub(crate) fn fit(alloc: Global, kind: ColumnType, value: &Tree<'_>) -> Result<V
 #[inline(always)]
 fn put_in_order<'a, const N: usize>(
     values: &mut ArrayVec<ValueRef<'a>, N>,
-    members: &[(&'a str, Tree<'a>)],
+    members: &[(&'a str, Json<'a>)],
     columns: &[Column],
 ) -> bool
     requires empty { values.old.items ≡ [] }
     requires distinct { IsTrue (are_distinct (map (λ c. c.name) columns.now)) }
     requires few { length columns.now ≤ N }
-    ensures { IsTrue result → bound_row columns.now (members_seen members.now) ≡ Some (map lent values.new.items) }
+    ensures { IsTrue result → bound_row columns.now (members_meaning members.now no_members) ≡ Some (map lent values.new.items) }
 {
     if members.len() != columns.len() {
         return false;

@@ -1,7 +1,6 @@
-pub mod DigitLemmas
 pub mod FormLemmas
 pub mod InsertLemmas
-pub mod NumberLemmas
 pub mod ObjectLemmas
 pub mod ParsingLemmas
 pub mod ShortLemmas
+pub mod WordLemmas

@@ -1,18 +1,18 @@
--- Members of objects: which names they have, what one of a name is, and one taken out.
-use Rattle.std.proofs.Common.{◌≡◌, ℕ, zero, suc, List, [], ◌∷◌, ◌++◌, length, map, get_or, set, Bool, true, false, cond, Option, Some, None}
-use Rattle.std.proofs.Common.{Bor, refl, sym, ap, ap₂, ◌∙◌, ◌&&◌, ◌||◌, ◌⊎◌, inl, inr, true≢false, Ordering, Less, Equal, Greater, nat_cmp, rules}
+-- Members of objects: which names they have, and what one of a name is.
+use Rattle.std.proofs.Common.{◌≡◌, ℕ, zero, suc, List, [], ◌∷◌, ◌++◌, length, map, get_or, Bool, true, false, cond, Option, Some, None}
+use Rattle.std.proofs.Common.{Bor, refl, sym, ap, ap₂, ◌∙◌, ◌&&◌, ◌||◌, ◌⊎◌, inl, inr, true≢false, Ordering, Less, Equal, Greater, nat_cmp}
 use Rattle.std.specs.List.{list_any, list_all}
 use Rattle.std.specs.Ordering.{match_ordering, is_eq}
 use Rattle.std.specs.Cmp.Lexicographic.{slice_cmp}
 use Rattle.std.specs.Str.{bytes_eq}
 use Rattle.std.proofs.lemmas.Map.Text.{is_eq-slice_cmp}
 use Rattle.std.proofs.lemmas.Slice.Eq.{bytes_eq-Decides}
-use Rattle.json.specs.Value.{members_view}
-use Rattle.json.specs.declared.value.Value.{Value, Null, the_lemmas}
-use Rattle.serde_json.specs.Data.{Data, null, Members, no_members, member, put}
+use Rattle.mi_tokens.specs.Meaning.{meaning, members_meaning}
+use Rattle.mi_tokens.specs.declared.value.Json.{Json}
+use Rattle.serde_json.specs.Data.{Data, Members, no_members, member, put}
 use Rattle.serde_json.specs.Find.{get_member}
-use Rattle.mi_request.specs.Json.{has_only, emptied}
-use Rattle.mi_request.specs.Meant.{meant_members, seen, members_seen, or_first, last_at}
+use Rattle.mi_request.specs.Json.{has_only}
+use Rattle.mi_request.specs.Places.{or_first, last_at}
 
 -- ---- names
 
@@ -69,39 +69,6 @@ get_member-put : (name k : List ℕ) (d : Data) (ms : Members) → get_member na
 get_member-put name k d no_members = get_front name k d no_members
 get_member-put name k d (member l e ms) = get_put_at _ name k l d e ms refl (get_member-put name k d ms)
 
--- ---- null in place of a member's value
-
-emptied_put_at : (o : Ordering) (k l : List ℕ) (d e : Data) (ms : Members) → slice_cmp nat_cmp k l ≡ o → emptied k (put k d ms) ≡ put k null ms
-    → emptied k (match_ordering o (member k d (member l e ms)) (member l d ms) (member l e (put k d ms)))
-    ≡ match_ordering o (member k null (member l e ms)) (member l null ms) (member l e (put k null ms))
-emptied_put_at Less k l d e ms is later =
-    ap (λ b. cond b (member k null (member l e ms)) (member k d (emptied k (member l e ms)))) (eq_self k)
-emptied_put_at Equal k l d e ms is later = ap (λ b. cond b (member l null ms) (member l d (emptied k ms))) (sym (eq_of k l Equal is))
-emptied_put_at Greater k l d e ms is later =
-    ap (λ b. cond b (member l null (put k d ms)) (member l e (emptied k (put k d ms)))) (sym (eq_of k l Greater is)) ∙ ap (member l e) later
-
--- of the one that was put
-emptied-put : (k : List ℕ) (d : Data) (ms : Members) → emptied k (put k d ms) ≡ put k null ms
-emptied-put k d no_members = ap (λ b. cond b (member k null no_members) (member k d no_members)) (eq_self k)
-emptied-put k d (member l e ms) = emptied_put_at _ k l d e ms refl (emptied-put k d ms)
-
-emptied_other_at : (t : Bool) (o : Ordering) (name k l : List ℕ) (d e : Data) (ms : Members) → bytes_eq name k ≡ false
-    → bytes_eq name l ≡ t → slice_cmp nat_cmp k l ≡ o → emptied name (put k d ms) ≡ put k d (emptied name ms)
-    → emptied name (match_ordering o (member k d (member l e ms)) (member l d ms) (member l e (put k d ms)))
-    ≡ put k d (cond t (member l null ms) (member l e (emptied name ms)))
-emptied_other_at true Less name k l d e ms other here is later = rw (other, here, is) refl
-emptied_other_at false Less name k l d e ms other here is later = rw (other, here, is) refl
-emptied_other_at true Equal name k l d e ms other here is later =
-    absurd (true≢false (sym here ∙ ap (bytes_eq name) (sym (same_name k l (sym (eq_of k l Equal is)))) ∙ other))
-emptied_other_at false Equal name k l d e ms other here is later = rw (here, is) refl
-emptied_other_at true Greater name k l d e ms other here is later = rw (here, is) refl
-emptied_other_at false Greater name k l d e ms other here is later = rw (here, is) (ap (member l e) later)
-
--- of another
-emptied-put_other : (name k : List ℕ) (d : Data) (ms : Members) → bytes_eq name k ≡ false → emptied name (put k d ms) ≡ put k d (emptied name ms)
-emptied-put_other name k d no_members other = ap (λ b. cond b (member k null no_members) (member k d no_members)) other
-emptied-put_other name k d (member l e ms) other = emptied_other_at _ _ name k l d e ms other refl refl (emptied-put_other name k d ms other)
-
 -- ---- which names there are
 
 swapped : (b c d : Bool) → (b && (c && d)) ≡ (c && (b && d))
@@ -135,12 +102,8 @@ has_only-put names k d (member l e ms) = has_put_at _ names k l d e ms refl (has
 
 -- ---- members as they were read
 
-abbrev pub Member : Type 0 → Type 0
-Member A = Bor (List ℕ) × Value A
-
--- these members, put after those that were found
-abbrev onto : {A : Type 0} → List (Member A) → Members → Members
-onto ms found = meant_members (members_view ms) found
+abbrev pub Member : Type 0
+Member = Bor (List ℕ) × Json
 
 list_any-map : {A : Type 0} (f : A → List ℕ) (k : List ℕ) (xs : List A) → list_any (λ x. bytes_eq k (f x)) xs ≡ list_any (λ n. bytes_eq k n) (map f xs)
 list_any-map f k [] = refl
@@ -150,16 +113,16 @@ both_true : (b : Bool) → b ≡ (b && true)
 both_true true = refl
 both_true false = refl
 
-has_only-onto : {A B : Type 0} (f : A → List ℕ) (xs : List A) (ms : List (Member B)) (found : Members)
-    → (list_all (λ m. list_any (λ x. bytes_eq m.0.now (f x)) xs) ms && has_only (map f xs) found) ≡ has_only (map f xs) (onto ms found)
+has_only-onto : {A : Type 0} (f : A → List ℕ) (xs : List A) (ms : List Member) (found : Members)
+    → (list_all (λ m. list_any (λ x. bytes_eq m.0.now (f x)) xs) ms && has_only (map f xs) found) ≡ has_only (map f xs) (members_meaning ms found)
 has_only-onto f xs [] found = refl
 has_only-onto f xs (m ∷ ms) found =
     let mine = list_any (λ x. bytes_eq m.0.now (f x)) xs in
     let others = list_all (λ y. list_any (λ x. bytes_eq y.0.now (f x)) xs) ms in
     moved mine others (has_only (map f xs) found)
     ∙ ap (λ b. others && (b && has_only (map f xs) found)) (list_any-map f m.0.now xs)
-    ∙ ap (λ b. others && b) (sym (has_only-put (map f xs) m.0.now (seen m.1) found))
-    ∙ has_only-onto f xs ms (put m.0.now (seen m.1) found)
+    ∙ ap (λ b. others && b) (sym (has_only-put (map f xs) m.0.now (meaning m.1) found))
+    ∙ has_only-onto f xs ms (put m.0.now (meaning m.1) found)
   where
     moved : (b c d : Bool) → ((b && c) && d) ≡ (c && (b && d))
     moved true c d = refl
@@ -167,8 +130,8 @@ has_only-onto f xs (m ∷ ms) found =
     moved false false d = refl
 
 -- each name is one of these, so no member has another name
-pub has_only-names : {A B : Type 0} (f : A → List ℕ) (xs : List A) (ms : List (Member B))
-    → list_all (λ m. list_any (λ x. bytes_eq m.0.now (f x)) xs) ms ≡ has_only (map f xs) (members_seen ms)
+pub has_only-names : {A : Type 0} (f : A → List ℕ) (xs : List A) (ms : List Member)
+    → list_all (λ m. list_any (λ x. bytes_eq m.0.now (f x)) xs) ms ≡ has_only (map f xs) (members_meaning ms no_members)
 unfolding has_only
 has_only-names f xs ms = both_true _ ∙ has_only-onto f xs ms no_members
 
@@ -194,77 +157,26 @@ put_behind b true i r = refl
 put_behind b false i r = refl
 
 -- a member behind the others is the last of its name
-pub last_at-push : {A : Type 0} (name : List ℕ) (ms : List (Member A)) (m : Member A)
+pub last_at-push : (name : List ℕ) (ms : List Member) (m : Member)
     → last_at name (ms ++ m ∷ []) ≡ cond (bytes_eq name m.0.now) (Some (length ms)) (last_at name ms)
 last_at-push name [] m = put_first (bytes_eq name m.0.now)
 last_at-push name (n ∷ ms) m =
     ap (or_first (bytes_eq name n.0.now)) (last_at-push name ms m)
     ∙ put_behind (bytes_eq name n.0.now) (bytes_eq name m.0.now) (length ms) (last_at name ms)
 
-pub absent : {A : Type 0} (name : List ℕ) (ms : List (Member A)) (found : Members) → last_at name ms ≡ None
-    → get_member name (onto ms found) ≡ get_member name found
+pub absent : (name : List ℕ) (ms : List Member) (found : Members) → last_at name ms ≡ None
+    → get_member name (members_meaning ms found) ≡ get_member name found
 absent name [] found is = refl
 absent name (m ∷ ms) found is =
     let p = or_none _ (last_at name ms) is in
-    absent name ms (put m.0.now (seen m.1) found) p.1 ∙ get_member-put name m.0.now (seen m.1) found
-    ∙ ap (λ b. cond b (Some (seen m.1)) (get_member name found)) p.0
+    absent name ms (put m.0.now (meaning m.1) found) p.1 ∙ get_member-put name m.0.now (meaning m.1) found
+    ∙ ap (λ b. cond b (Some (meaning m.1)) (get_member name found)) p.0
 
-pub present : {A : Type 0} (name : List ℕ) (ms : List (Member A)) (found : Members) (i : ℕ) (n : Member A) → last_at name ms ≡ Some i
-    → get_member name (onto ms found) ≡ Some (seen (get_or ms i n).1)
+pub present : (name : List ℕ) (ms : List Member) (found : Members) (i : ℕ) (n : Member) → last_at name ms ≡ Some i
+    → get_member name (members_meaning ms found) ≡ Some (meaning (get_or ms i n).1)
 present name [] found i n is = absurd (cc)
 present name (m ∷ ms) found i n is = elim (or_some _ (last_at name ms) i is) [
-  | inl p ↦ present name ms (put m.0.now (seen m.1) found) p.0 n p.1 ∙ ap (λ j. Some (seen (get_or (m ∷ ms) j n).1)) (sym p.2)
-  | inr p ↦ absent name ms (put m.0.now (seen m.1) found) p.0 ∙ get_member-put name m.0.now (seen m.1) found
-      ∙ ap (λ b. cond b (Some (seen m.1)) (get_member name found)) p.1 ∙ ap (λ j. Some (seen (get_or (m ∷ ms) j n).1)) (sym p.2)
+  | inl p ↦ present name ms (put m.0.now (meaning m.1) found) p.0 n p.1 ∙ ap (λ j. Some (meaning (get_or (m ∷ ms) j n).1)) (sym p.2)
+  | inr p ↦ absent name ms (put m.0.now (meaning m.1) found) p.0 ∙ get_member-put name m.0.now (meaning m.1) found
+      ∙ ap (λ b. cond b (Some (meaning m.1)) (get_member name found)) p.1 ∙ ap (λ j. Some (meaning (get_or (m ∷ ms) j n).1)) (sym p.2)
 ]
-
--- ---- null written over a member's value
-
-pub emptied-absent : {A : Type 0} (name : List ℕ) (ms : List (Member A)) (found : Members) → last_at name ms ≡ None
-    → emptied name (onto ms found) ≡ onto ms (emptied name found)
-emptied-absent name [] found is = refl
-emptied-absent name (m ∷ ms) found is =
-    let p = or_none _ (last_at name ms) is in
-    emptied-absent name ms (put m.0.now (seen m.1) found) p.1 ∙ ap (onto ms) (emptied-put_other name m.0.now (seen m.1) found p.0)
-
-seen-Null : (A : Type 0) → seen {A = A} Null ≡ null
-seen-Null A = search (rules, the_lemmas)
-
-pub set_to_null : {A : Type 0} (name : List ℕ) (ms : List (Member A)) (found : Members) (i : ℕ) (n : Member A) → last_at name ms ≡ Some i
-    → onto (set ms i ((get_or ms i n).0, Null)) found ≡ emptied name (onto ms found)
-set_to_null name [] found i n is = absurd (cc)
-set_to_null name (m ∷ ms) found i n is = elim (or_some _ (last_at name ms) i is) [
-  | inl p ↦ ap (λ j. onto (set (m ∷ ms) j ((get_or (m ∷ ms) j n).0, Null)) found) p.2
-      ∙ set_to_null name ms (put m.0.now (seen m.1) found) p.0 n p.1
-  | inr p ↦
-      let same : name ≡ m.0.now = same_name name m.0.now p.1 in
-      ap (λ j. onto (set (m ∷ ms) j ((get_or (m ∷ ms) j n).0, Null)) found) p.2
-      ∙ ap (λ d. onto ms (put m.0.now d found)) (seen-Null _)
-      ∙ ap (onto ms) (sym (emptied-put m.0.now (seen m.1) found))
-      ∙ ap (λ k. onto ms (emptied k (put m.0.now (seen m.1) found))) (sym same)
-      ∙ sym (emptied-absent name ms (put m.0.now (seen m.1) found) p.0)
-]
-
--- ---- members of other names
-
-either : {A : Type 0} (o : Ordering) (a b : A) → is_eq o ≡ false → match_ordering o a b a ≡ a
-either Less a b e = refl
-either Equal a b e = absurd (true≢false e)
-either Greater a b e = refl
-
-emptied_at : (t : Bool) (k l n : List ℕ) (d : Data) (ms : Members) → bytes_eq l n ≡ t → bytes_eq k l ≡ false
-    → get_member k (emptied l ms) ≡ get_member k ms
-    → get_member k (cond t (member n null ms) (member n d (emptied l ms))) ≡ get_member k (member n d ms)
-emptied_at true k l n d ms same other later =
-    let apart = is_eq-slice_cmp k n ∙ ap (bytes_eq k) (sym ((bytes_eq-Decides l n).0 same)) ∙ other in
-    either (slice_cmp nat_cmp k n) (get_member k ms) (Some null) apart ∙ sym (either (slice_cmp nat_cmp k n) (get_member k ms) (Some d) apart)
-emptied_at false k l n d ms same other later = ap (λ r. match_ordering (slice_cmp nat_cmp k n) r (Some d) r) later
-
--- a member of another name keeps its value where one is moved out
-pub get_member-emptied : (k l : List ℕ) (ms : Members) → bytes_eq k l ≡ false → get_member k (emptied l ms) ≡ get_member k ms
-get_member-emptied k l no_members other = refl
-get_member-emptied k l (member n d ms) other = emptied_at _ k l n d ms refl other (get_member-emptied k l ms other)
-
--- the same after a call that moved a value out
-pub kept : (k l : List ℕ) (ms left : Members) → left ≡ emptied l ms → bytes_eq k l ≡ false → get_member k left ≡ get_member k ms
-kept k l ms left is other = ap (get_member k) is ∙ get_member-emptied k l ms other

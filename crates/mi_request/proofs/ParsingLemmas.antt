@@ -1,19 +1,15 @@
 -- From the value that a text is to the request that it is.
-use Rattle.std.proofs.Common.{◌≡◌, ℕ, List, [], Bool, true, false, cond, Option, Some, None, is_some, option_and_then}
+use Rattle.std.proofs.Common.{◌≡◌, ℕ, List, Bool, true, false, cond, Option, Some, None}
 use Rattle.std.proofs.Common.{refl, sym, ap, ◌∙◌, inl, inr, ◌⊎◌}
 use Rattle.std.specs.Option.{ok_or}
 use Rattle.std.specs.Str.{IsUtf8, is_utf8}
 use Rattle.std.proofs.lemmas.Str.{IsUtf8-from_is_utf8, is_utf8-from_IsUtf8}
-use Rattle.json.specs.Json as json
-use Rattle.json.specs.Lex.{tokens}
 use Rattle.serde_json.specs.Data.{Data}
-use Rattle.serde_json.specs.Read.{of_json, read}
+use Rattle.serde_json.specs.Read.{read}
 use Rattle.mi_value.specs.declared.refusal.Refusal.TheVariants.{Form}
 use Rattle.mi_request.specs.Answers.{IsAnswer}
 use Rattle.mi_request.specs.Lines.{json_of, request_of, request_or_refusal, command_line}
-use Rattle.mi_request.specs.Meant.{meant}
 use Rattle.mi_request.specs.declared.request.Request.{Request}
-use Rattle.mi_request.proofs.NumberLemmas.{of_json-meant}
 
 test_of : (b : Bool) → (b ≡ true) ⊎ (b ≡ false)
 test_of true = inl refl
@@ -27,10 +23,6 @@ json-refused bytes none = elim (test_of (is_utf8 bytes)) [
   | inl is ↦ ap (λ b. cond b (read bytes) None) is ∙ none (IsUtf8-from_is_utf8 bytes is)
   | inr other ↦ ap (λ b. cond b (read bytes) None) other
 ]
-
--- the tokens are those of a value, and no more, and what it means is known
-pub text-read : (text : List ℕ) (j : json.Json) → json.value 127 (tokens text) ≡ Some (j, []) → is_some (of_json j) ≡ true → read text ≡ Some (meant j)
-text-read text j found good = ap (λ o. option_and_then of_json (option_and_then (λ p. json.if_last p.0 p.1) o)) found ∙ of_json-meant j good
 
 -- a value is read, and it is the request, if it is one
 pub answer-value : (r : Option Request) (bytes : List ℕ) (d : Data) → json_of bytes ≡ Some d → r ≡ request_of d → IsAnswer (ok_or r Form) (command_line bytes)

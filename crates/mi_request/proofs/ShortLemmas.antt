@@ -1,98 +1,334 @@
 -- A short line means its request, and each is found.
-use Rattle.std.proofs.Common.{◌≡◌, ℕ, ◌^◌, ◌<◌, ◌≤◌, ◌+◌, length, nat_le, subst, List, [], ◌∷◌, ◌++◌, true, ◌&&◌, Option, Some, None, is_some, option_map, option_and_then}
-use Rattle.std.proofs.Common.{Result, Ok, Err, IsUtf8, codes, decimal, bytes_eq, nat_lt, get_or, refl, sym, ap, ◌∙◌, ◌⊎◌, inl, inr, arith, lt-ltb, ltb-true}
+use Rattle.std.proofs.Common.{◌≡◌, ℕ, zero, suc, ◌^◌, ◌<◌, ◌≤◌, length, nat_le, subst, List, [], ◌∷◌, ◌++◌, Bool, true, false, cond, ◌&&◌, ◌==◌, Option, Some, None, is_some, option_map, option_and_then}
+use Rattle.std.proofs.Common.{Result, Ok, Err, IsUtf8, codes, decimal, nat_lt, get_or, refl, sym, ap, ap₂, ◌∙◌, ◌⊎◌, inl, inr, arith, ltb-true, append_assoc, ne_eqb}
 use Rattle.std.proofs.lemmas.Option.{none-some, same_Some, cond_some}
-use Rattle.std.proofs.lemmas.Bool.{leb-true}
-use Rattle.std.proofs.lemmas.Fmt.{IsAscii-decimal, length-decimal-le}
+use Rattle.std.proofs.lemmas.Bool.{leb-true, and_parts}
+use Rattle.std.proofs.lemmas.Fmt.{IsAscii-decimal}
 use Rattle.std.proofs.lemmas.List.{length-append}
-use Rattle.std.proofs.lemmas.Slice.Eq.{bytes_eq-Decides}
 use Rattle.std.proofs.lemmas.Str.{IsUtf8-append, IsUtf8-from_ascii}
+use Rattle.std.specs.Option.{ok_or}
 use Rattle.std.specs.Str.{is_utf8, chars}
-use Rattle.json.specs.Token.{Token}
-use Rattle.json.specs.Json.{items, members, value, if_last}
-use Rattle.json.specs.Print.{print, print_from, escape_byte, ArePrintable}
+use Rattle.json.specs.Token.{Token, begin_object, end_object, key, string, number}
+use Rattle.json.specs.Json as json
+use Rattle.json.specs.Json.{items, members, value, if_last, parse_map}
+use Rattle.json.specs.Lex.{tokens}
+use Rattle.json.specs.Print.{print, print_from, escape, escape_byte, ArePrintable}
 use Rattle.json.proofs.Printed.Decimals.{IsNumber-decimal}
+use Rattle.json.proofs.Printed.Strings.{escape_byte_plain}
 use Rattle.json.proofs.Printed.Tokens.{tokens-print}
 use Rattle.json.proofs.Printed.Utf8.{IsUtf8-are_ascii}
-use Rattle.serde_json.specs.Data.{Data, unsigned, string, number, object, no_members, member, put}
-use Rattle.serde_json.specs.Read.{of_json, read}
+use Rattle.serde_json.specs.Data as value_of
+use Rattle.serde_json.specs.Data.{Data, unsigned, Members, no_members, put}
+use Rattle.serde_json.specs.Read.{of_json, of_members, read}
 use Rattle.serde_json.proofs.Numbers.{number_of-decimal}
 use Rattle.serde_json.proofs.OnLiterals.{serde_json_on_literals}
 use Rattle.mi_value.specs.declared.refusal.Refusal.{Refusal}
-use Rattle.mi_request.specs.Bare.{asked_bare, bare_of, bare_text, bare_named}
+use Rattle.mi_value.specs.declared.refusal.Refusal.TheVariants.{Form}
+use Rattle.std.specs.Prelude.{bytes_eq}
+use Rattle.std.proofs.lemmas.Slice.Eq.{bytes_eq-Decides}
+use Rattle.mi_request.specs.Bare.{asked_bare, bare_of, bare_name, bare_text, bare_named, bare_line, bares, first_with}
 use Rattle.mi_request.specs.Commands.{look_up_named, step_named}
 use Rattle.mi_request.specs.Json.{has_only}
-use Rattle.mi_request.specs.Lines.{request_or_refusal, command_line}
-use Rattle.mi_request.specs.Short.{number_line, short_line, numberless_line, asked}
+use Rattle.mi_request.specs.Lines.{request_of, request_or_refusal, command_line}
+use Rattle.mi_request.specs.Short.{name, maybe_name, whole, maybe_whole, Member, is_name_byte, is_name, is_word, are_words, name_front, whole_front}
+use Rattle.mi_request.specs.Short.{members_text, command_front, line_text, table_is, index_is, id_is, written, short_line}
+use Rattle.mi_request.specs.ShortCode.{IsRead, a_name, perhaps_name, a_whole, perhaps_whole}
 use Rattle.mi_request.specs.declared.bare.Bare.{Bare}
 use Rattle.mi_request.specs.declared.bare.Bare.TheVariants as bare
 use Rattle.mi_request.specs.declared.request.Request.{Request}
 use Rattle.mi_request.specs.declared.request.Request.TheVariants as request
-use Rattle.mi_request.specs.declared.short.Short.{Short}
 use Rattle.mi_request.proofs.ParsingLemmas.{json-found}
+use Rattle.mi_request.proofs.WordLemmas.{name_byte, utf8_name, line-read}
 
--- ---- a command with a number
+-- ---- the tokens of a line
 
--- the tokens of `{"cmd":c,m:n}`
-abbrev number_tokens : List ℕ → List ℕ → ℕ → List Token
-number_tokens c m n =
-    Token.begin_object ∷ Token.key (codes "cmd") ∷ Token.string c ∷ Token.key m ∷ Token.number (decimal n) ∷ Token.end_object ∷ []
+abbrev tokens_of : List Member → List Token
+tokens_of [] = end_object ∷ []
+tokens_of ((m, name s) ∷ ms) = key m ∷ (string s ∷ tokens_of ms)
+tokens_of ((m, maybe_name None) ∷ ms) = tokens_of ms
+tokens_of ((m, maybe_name (Some s)) ∷ ms) = key m ∷ (string s ∷ tokens_of ms)
+tokens_of ((m, whole n) ∷ ms) = key m ∷ (number (decimal n) ∷ tokens_of ms)
+tokens_of ((m, maybe_whole None) ∷ ms) = tokens_of ms
+tokens_of ((m, maybe_whole (Some n)) ∷ ms) = key m ∷ (number (decimal n) ∷ tokens_of ms)
 
--- the value that they are
-abbrev number_value : List ℕ → List ℕ → ℕ → Data
-number_value c m n = object (put m (number (unsigned n)) (member (codes "cmd") (string c) no_members))
+abbrev line_tokens : List ℕ → List Member → List Token
+line_tokens c ms = begin_object ∷ (key (codes "cmd") ∷ (string c ∷ tokens_of ms))
 
-printable : (c m : List ℕ) (n : ℕ) → n < 2 ^ 64 → ArePrintable (number_tokens c m n)
+-- the members have names without escapes
+abbrev are_named : List Member → Bool
+are_named [] = true
+are_named (m ∷ ms) = is_name m.0 && are_named ms
+
+escape_name : (s : List ℕ) → is_name s ≡ true → escape s ≡ s
+escape_name [] all = refl
+escape_name (x ∷ s) all =
+    let p = and_parts (is_name_byte x) (is_name s) all in
+    let byte = name_byte x p.0 in
+    ap₂ (λ a b. a ++ b) (escape_byte_plain x (λ e. omega (arith, byte.0, e)) byte.2 (omega (arith, byte.0))) (escape_name s p.1)
+
+colon_joined : (m rest : List ℕ) → ((m ++ (34 ∷ [])) ++ (58 ∷ [])) ++ rest ≡ m ++ (34 ∷ (58 ∷ rest))
+colon_joined m rest = append_assoc (m ++ (34 ∷ [])) (58 ∷ []) rest ∙ append_assoc m (34 ∷ []) (58 ∷ rest)
+
+printed_name : (m s : List ℕ) (ms : List Member) → is_name m ≡ true → is_name s ≡ true → print_from true (tokens_of ms) ≡ members_text ms
+    → print_from true (key m ∷ (string s ∷ tokens_of ms)) ≡ name_front m ++ (s ++ (34 ∷ members_text ms))
+unfolding print_from
+printed_name m s ms named word rest =
+    rw (escape_name m named, escape_name s word, rest)
+    (ap (λ l. 44 ∷ (34 ∷ l)) (colon_joined m (34 ∷ ((s ++ (34 ∷ [])) ++ members_text ms))
+    ∙ ap (λ l. m ++ (34 ∷ (58 ∷ (34 ∷ l)))) (append_assoc s (34 ∷ []) (members_text ms))
+    ∙ sym (append_assoc m (34 ∷ (58 ∷ (34 ∷ []))) (s ++ (34 ∷ members_text ms)))))
+
+small : (n : ℕ) → nat_lt n (2 ^ 63) ≡ true → n < 2 ^ 64
+small n word = let below = ltb-true n (2 ^ 63) word in omega (arith, below)
+
+printed_whole : (m : List ℕ) (n : ℕ) (ms : List Member) → is_name m ≡ true → print_from true (tokens_of ms) ≡ members_text ms
+    → print_from true (key m ∷ (number (decimal n) ∷ tokens_of ms)) ≡ whole_front m ++ (decimal n ++ members_text ms)
+unfolding print_from
+printed_whole m n ms named rest =
+    rw (escape_name m named, rest)
+    (ap (λ l. 44 ∷ (34 ∷ l)) (colon_joined m (decimal n ++ members_text ms) ∙ sym (append_assoc m (34 ∷ (58 ∷ [])) (decimal n ++ members_text ms))))
+
+module _ (m : Member) (ms : List Member) where
+  head_named : are_named (m ∷ ms) ≡ true → is_name m.0 ≡ true
+  head_named e = (and_parts (is_name m.0) (are_named ms) e).0
+
+  rest_named : are_named (m ∷ ms) ≡ true → are_named ms ≡ true
+  rest_named e = (and_parts (is_name m.0) (are_named ms) e).1
+
+  head_word : are_words (m ∷ ms) ≡ true → is_word m.1 ≡ true
+  head_word e = (and_parts (is_word m.1) (are_words ms) e).0
+
+  rest_words : are_words (m ∷ ms) ≡ true → are_words ms ≡ true
+  rest_words e = (and_parts (is_word m.1) (are_words ms) e).1
+
+printed : (ms : List Member) → are_named ms ≡ true → are_words ms ≡ true → print_from true (tokens_of ms) ≡ members_text ms
+unfolding print_from
+printed [] named words = refl
+printed ((m, name s) ∷ ms) named words =
+    let k : Member = (m, name s) in
+    printed_name m s ms (head_named k ms named) (head_word k ms words) (printed ms (rest_named k ms named) (rest_words k ms words))
+printed ((m, maybe_name None) ∷ ms) named words = let k : Member = (m, maybe_name None) in printed ms (rest_named k ms named) (rest_words k ms words)
+printed ((m, maybe_name (Some s)) ∷ ms) named words =
+    let k : Member = (m, maybe_name (Some s)) in
+    printed_name m s ms (head_named k ms named) (head_word k ms words) (printed ms (rest_named k ms named) (rest_words k ms words))
+printed ((m, whole n) ∷ ms) named words =
+    let k : Member = (m, whole n) in printed_whole m n ms (head_named k ms named) (printed ms (rest_named k ms named) (rest_words k ms words))
+printed ((m, maybe_whole None) ∷ ms) named words = let k : Member = (m, maybe_whole None) in printed ms (rest_named k ms named) (rest_words k ms words)
+printed ((m, maybe_whole (Some n)) ∷ ms) named words =
+    let k : Member = (m, maybe_whole (Some n)) in printed_whole m n ms (head_named k ms named) (printed ms (rest_named k ms named) (rest_words k ms words))
+
+printable : (ms : List Member) → are_words ms ≡ true → ArePrintable (tokens_of ms)
 unfolding ArePrintable
-printable c m n h = (tt, (tt, (tt, (tt, (IsNumber-decimal n h, (tt, tt))))))
+printable [] words = (tt, tt)
+printable ((m, name s) ∷ ms) words = (tt, (tt, printable ms (rest_words (m, name s) ms words)))
+printable ((m, maybe_name None) ∷ ms) words = printable ms (rest_words (m, maybe_name None) ms words)
+printable ((m, maybe_name (Some s)) ∷ ms) words = (tt, (tt, printable ms (rest_words (m, maybe_name (Some s)) ms words)))
+printable ((m, whole n) ∷ ms) words =
+    let k : Member = (m, whole n) in (tt, (IsNumber-decimal n (small n (head_word k ms words)), printable ms (rest_words k ms words)))
+printable ((m, maybe_whole None) ∷ ms) words = printable ms (rest_words (m, maybe_whole None) ms words)
+printable ((m, maybe_whole (Some n)) ∷ ms) words =
+    let k : Member = (m, maybe_whole (Some n)) in (tt, (IsNumber-decimal n (small n (head_word k ms words)), printable ms (rest_words k ms words)))
 
-value_read : (c m : List ℕ) (n : ℕ) → n < 2 ^ 64
-    → option_and_then of_json (option_and_then (λ p. if_last p.0 p.1) (value 127 (number_tokens c m n))) ≡ Some (number_value c m n)
-unfolding items members value
-value_read c m n h =
-    ap (λ o. option_map object (option_and_then (λ d. Some (put m d (member (codes "cmd") (string c) no_members))) (option_map number o)))
-    (number_of-decimal n h)
+-- ---- the value that they are
 
-read_number : (c m : List ℕ) (n : ℕ) → n < 2 ^ 64 → read (print (number_tokens c m n)) ≡ Some (number_value c m n)
-read_number c m n h =
-    ap (λ ts. option_and_then of_json (option_and_then (λ p. if_last p.0 p.1) (value 127 ts))) (tokens-print (number_tokens c m n) (printable c m n h))
-    ∙ value_read c m n h
+abbrev json_of_members : List Member → json.Members
+json_of_members [] = json.no_members
+json_of_members ((m, name s) ∷ ms) = json.member m (json.string s) (json_of_members ms)
+json_of_members ((m, maybe_name None) ∷ ms) = json_of_members ms
+json_of_members ((m, maybe_name (Some s)) ∷ ms) = json.member m (json.string s) (json_of_members ms)
+json_of_members ((m, whole n) ∷ ms) = json.member m (json.number (decimal n)) (json_of_members ms)
+json_of_members ((m, maybe_whole None) ∷ ms) = json_of_members ms
+json_of_members ((m, maybe_whole (Some n)) ∷ ms) = json.member m (json.number (decimal n)) (json_of_members ms)
 
-utf8_number : (front : List ℕ) (n : ℕ) → n < 2 ^ 64 → IsUtf8 front → IsUtf8 (front ++ (decimal n ++ codes "}"))
-utf8_number front n h u =
-    IsUtf8-append front _ u (IsUtf8-append (decimal n) _ (IsUtf8-from_ascii (decimal n) (IsAscii-decimal n h)) (IsUtf8-are_ascii (codes "}") refl))
+members_first : (m : List ℕ) (t : Token) (j : json.Json) (ts : List Token) (js : json.Members) (n : ℕ) → value 126 (t ∷ ts) ≡ Some (j, ts)
+    → members (value 126) n ts ≡ Some (js, []) → members (value 126) (suc n) (key m ∷ (t ∷ ts)) ≡ Some (json.member m j js, [])
+unfolding members
+members_first m t j ts js n first rest =
+    ap (option_and_then (λ p. parse_map (json.member m p.0) (members (value 126) n p.1))) first ∙ ap (parse_map (json.member m j)) rest
 
-get_means : (n : ℕ) → n < 2 ^ 63 → command_line (codes "{\"cmd\":\"get\",\"id\":" ++ (decimal n ++ codes "}")) ≡ Ok (request.Get None n)
-unfolding print_from escape_byte has_only step_named look_up_named
-get_means n h =
-    let small : n < 2 ^ 64 = omega arith in
-    let utf8 = utf8_number (codes "{\"cmd\":\"get\",\"id\":") n small (IsUtf8-are_ascii _ refl) in
-    ap request_or_refusal (json-found _ (number_value (codes "get") (codes "id") n) utf8 (read_number (codes "get") (codes "id") n small))
-    ∙ rw (lt-ltb n (2 ^ 63) h)
+text_value : (s : List ℕ) (ts : List Token) → value 126 (string s ∷ ts) ≡ Some (json.string s, ts)
+unfolding value
+text_value s ts = refl
 
-erase_means : (n : ℕ) → n < 2 ^ 63 → command_line (codes "{\"cmd\":\"erase\",\"id\":" ++ (decimal n ++ codes "}")) ≡ Ok (request.Erase None n)
-unfolding print_from escape_byte has_only step_named look_up_named
-erase_means n h =
-    let small : n < 2 ^ 64 = omega arith in
-    let utf8 = utf8_number (codes "{\"cmd\":\"erase\",\"id\":") n small (IsUtf8-are_ascii _ refl) in
-    ap request_or_refusal (json-found _ (number_value (codes "erase") (codes "id") n) utf8 (read_number (codes "erase") (codes "id") n small))
-    ∙ rw (lt-ltb n (2 ^ 63) h)
+number_value : (s : List ℕ) (ts : List Token) → value 126 (number s ∷ ts) ≡ Some (json.number s, ts)
+unfolding value
+number_value s ts = refl
 
-commit_means : (n : ℕ) → n < 2 ^ 63 → command_line (codes "{\"cmd\":\"commit\",\"revision\":" ++ (decimal n ++ codes "}")) ≡ Ok (request.Commit n)
-unfolding print_from escape_byte has_only step_named look_up_named
-commit_means n h =
-    let small : n < 2 ^ 64 = omega arith in
-    let utf8 = utf8_number (codes "{\"cmd\":\"commit\",\"revision\":") n small (IsUtf8-are_ascii _ refl) in
-    ap request_or_refusal (json-found _ (number_value (codes "commit") (codes "revision") n) utf8 (read_number (codes "commit") (codes "revision") n small))
-    ∙ rw (lt-ltb n (2 ^ 63) h)
+members_read : (ms : List Member) (n : ℕ) → length (tokens_of ms) ≤ n → members (value 126) (suc n) (tokens_of ms) ≡ Some (json_of_members ms, [])
+unfolding members
+members_read [] n le = refl
+members_read ((m, maybe_name None) ∷ ms) n le = members_read ms n le
+members_read ((m, maybe_whole None) ∷ ms) n le = members_read ms n le
+members_read ((m, name s) ∷ ms) zero le = absurd (omega (arith, le))
+members_read ((m, name s) ∷ ms) (suc n) le =
+    members_first m (string s) (json.string s) (tokens_of ms) (json_of_members ms) (suc n) (text_value s (tokens_of ms)) (members_read ms n (omega (arith, le)))
+members_read ((m, maybe_name (Some s)) ∷ ms) zero le = absurd (omega (arith, le))
+members_read ((m, maybe_name (Some s)) ∷ ms) (suc n) le =
+    members_first m (string s) (json.string s) (tokens_of ms) (json_of_members ms) (suc n) (text_value s (tokens_of ms)) (members_read ms n (omega (arith, le)))
+members_read ((m, whole k) ∷ ms) zero le = absurd (omega (arith, le))
+members_read ((m, whole k) ∷ ms) (suc n) le =
+    members_first m (number (decimal k)) (json.number (decimal k)) (tokens_of ms) (json_of_members ms) (suc n) (number_value (decimal k) (tokens_of ms)) (members_read ms n (omega (arith, le)))
+members_read ((m, maybe_whole (Some k)) ∷ ms) zero le = absurd (omega (arith, le))
+members_read ((m, maybe_whole (Some k)) ∷ ms) (suc n) le =
+    members_first m (number (decimal k)) (json.number (decimal k)) (tokens_of ms) (json_of_members ms) (suc n) (number_value (decimal k) (tokens_of ms)) (members_read ms n (omega (arith, le)))
 
--- ---- all short lines
+abbrev line_json : List ℕ → List Member → json.Json
+line_json c ms = json.object (json.member (codes "cmd") (json.string c) (json_of_members ms))
 
-numbered_means : (front line : List ℕ) (r : Request) (n : ℕ) → number_line front n ≡ Some line
-    → (n < 2 ^ 63 → command_line (front ++ (decimal n ++ codes "}")) ≡ Ok r) → command_line line ≡ Ok r
-numbered_means front line r n is means =
-    let p = cond_some (nat_lt n (2 ^ 63)) _ line is in
-    ap command_line (sym p.1) ∙ means (ltb-true n (2 ^ 63) p.0)
+value_read : (c : List ℕ) (ms : List Member) → value 127 (line_tokens c ms) ≡ Some (line_json c ms, [])
+unfolding value
+value_read c ms =
+    ap (parse_map json.object)
+    (members_first (codes "cmd") (string c) (json.string c) (tokens_of ms) (json_of_members ms) (suc (length (tokens_of ms)))
+    (text_value c (tokens_of ms)) (members_read ms (length (tokens_of ms)) (omega arith)))
+
+-- the members, put in one after another
+abbrev data_of : List Member → Members → Members
+data_of [] found = found
+data_of ((m, name s) ∷ ms) found = data_of ms (put m (value_of.string s) found)
+data_of ((m, maybe_name None) ∷ ms) found = data_of ms found
+data_of ((m, maybe_name (Some s)) ∷ ms) found = data_of ms (put m (value_of.string s) found)
+data_of ((m, whole n) ∷ ms) found = data_of ms (put m (value_of.number (unsigned n)) found)
+data_of ((m, maybe_whole None) ∷ ms) found = data_of ms found
+data_of ((m, maybe_whole (Some n)) ∷ ms) found = data_of ms (put m (value_of.number (unsigned n)) found)
+
+number_put : (m : List ℕ) (n : ℕ) (js : json.Members) (found : Members) → nat_lt n (2 ^ 63) ≡ true
+    → of_members (json.member m (json.number (decimal n)) js) found ≡ of_members js (put m (value_of.number (unsigned n)) found)
+number_put m n js found word =
+    ap (λ o. option_and_then (λ d. of_members js (put m d found)) (option_map value_of.number o)) (number_of-decimal n (small n word))
+
+data_is : (ms : List Member) (found : Members) → are_words ms ≡ true → of_members (json_of_members ms) found ≡ Some (data_of ms found)
+data_is [] found words = refl
+data_is ((m, name s) ∷ ms) found words = data_is ms (put m (value_of.string s) found) (rest_words (m, name s) ms words)
+data_is ((m, maybe_name None) ∷ ms) found words = data_is ms found (rest_words (m, maybe_name None) ms words)
+data_is ((m, maybe_name (Some s)) ∷ ms) found words = data_is ms (put m (value_of.string s) found) (rest_words (m, maybe_name (Some s)) ms words)
+data_is ((m, whole n) ∷ ms) found words =
+    let k : Member = (m, whole n) in
+    number_put m n (json_of_members ms) found (head_word k ms words) ∙ data_is ms (put m (value_of.number (unsigned n)) found) (rest_words k ms words)
+data_is ((m, maybe_whole None) ∷ ms) found words = data_is ms found (rest_words (m, maybe_whole None) ms words)
+data_is ((m, maybe_whole (Some n)) ∷ ms) found words =
+    let k : Member = (m, maybe_whole (Some n)) in
+    number_put m n (json_of_members ms) found (head_word k ms words) ∙ data_is ms (put m (value_of.number (unsigned n)) found) (rest_words k ms words)
+
+abbrev line_data : List ℕ → List Member → Data
+line_data c ms = value_of.object (data_of ms (value_of.member (codes "cmd") (value_of.string c) no_members))
+
+-- ---- a line of names and numbers
+
+module _ (c : List ℕ) (ms : List Member) (command : is_name c ≡ true) (named : are_named ms ≡ true) (words : are_words ms ≡ true) where
+  line_printed : print (line_tokens c ms) ≡ line_text c ms
+  unfolding print_from escape_byte
+  line_printed = rw (escape_name c command, printed ms named words) refl
+
+  line_printable : ArePrintable (line_tokens c ms)
+  unfolding ArePrintable
+  line_printable = (tt, (tt, (tt, printable ms words)))
+
+  line_value : read (line_text c ms) ≡ Some (line_data c ms)
+  line_value =
+      ap (λ ts. option_and_then of_json (option_and_then (λ p. if_last p.0 p.1) (value 127 ts)))
+      (ap tokens (sym line_printed) ∙ tokens-print (line_tokens c ms) line_printable)
+      ∙ ap (λ o. option_and_then of_json (option_and_then (λ p. if_last p.0 p.1) o)) (value_read c ms)
+      ∙ ap (option_map value_of.object) (data_is ms (value_of.member (codes "cmd") (value_of.string c) no_members) words)
+
+front_utf8 : (m rest : List ℕ) → is_name m ≡ true → IsUtf8 rest → IsUtf8 (codes ",\"" ++ (m ++ rest))
+front_utf8 m rest named u = IsUtf8-append (codes ",\"") (m ++ rest) (IsUtf8-are_ascii _ refl) (IsUtf8-append m rest (utf8_name m named) u)
+
+named_utf8 : (m s rest : List ℕ) → is_name m ≡ true → is_name s ≡ true → IsUtf8 rest → IsUtf8 (name_front m ++ (s ++ (34 ∷ rest)))
+named_utf8 m s rest named word u =
+    IsUtf8-append (name_front m) _ (front_utf8 m (codes "\":\"") named (IsUtf8-are_ascii _ refl))
+    (IsUtf8-append s _ (utf8_name s word) (IsUtf8-append (34 ∷ []) rest (IsUtf8-are_ascii _ refl) u))
+
+whole_utf8 : (m : List ℕ) (n : ℕ) (rest : List ℕ) → is_name m ≡ true → nat_lt n (2 ^ 63) ≡ true → IsUtf8 rest → IsUtf8 (whole_front m ++ (decimal n ++ rest))
+whole_utf8 m n rest named word u =
+    IsUtf8-append (whole_front m) _ (front_utf8 m (codes "\":") named (IsUtf8-are_ascii _ refl))
+    (IsUtf8-append (decimal n) rest (IsUtf8-from_ascii (decimal n) (IsAscii-decimal n (small n word))) u)
+
+members_utf8 : (ms : List Member) → are_named ms ≡ true → are_words ms ≡ true → IsUtf8 (members_text ms)
+members_utf8 [] named words = IsUtf8-are_ascii _ refl
+members_utf8 ((m, name s) ∷ ms) named words =
+    let k : Member = (m, name s) in
+    named_utf8 m s (members_text ms) (head_named k ms named) (head_word k ms words) (members_utf8 ms (rest_named k ms named) (rest_words k ms words))
+members_utf8 ((m, maybe_name None) ∷ ms) named words = let k : Member = (m, maybe_name None) in members_utf8 ms (rest_named k ms named) (rest_words k ms words)
+members_utf8 ((m, maybe_name (Some s)) ∷ ms) named words =
+    let k : Member = (m, maybe_name (Some s)) in
+    named_utf8 m s (members_text ms) (head_named k ms named) (head_word k ms words) (members_utf8 ms (rest_named k ms named) (rest_words k ms words))
+members_utf8 ((m, whole n) ∷ ms) named words =
+    let k : Member = (m, whole n) in
+    whole_utf8 m n (members_text ms) (head_named k ms named) (head_word k ms words) (members_utf8 ms (rest_named k ms named) (rest_words k ms words))
+members_utf8 ((m, maybe_whole None) ∷ ms) named words = let k : Member = (m, maybe_whole None) in members_utf8 ms (rest_named k ms named) (rest_words k ms words)
+members_utf8 ((m, maybe_whole (Some n)) ∷ ms) named words =
+    let k : Member = (m, maybe_whole (Some n)) in
+    whole_utf8 m n (members_text ms) (head_named k ms named) (head_word k ms words) (members_utf8 ms (rest_named k ms named) (rest_words k ms words))
+
+line_utf8 : (c : List ℕ) (ms : List Member) → is_name c ≡ true → are_named ms ≡ true → are_words ms ≡ true → IsUtf8 (line_text c ms)
+line_utf8 c ms command named words =
+    IsUtf8-append (command_front c) (members_text ms)
+    (IsUtf8-append (codes "{\"cmd\":\"") (c ++ codes "\"") (IsUtf8-are_ascii _ refl) (IsUtf8-append c (codes "\"") (utf8_name c command) (IsUtf8-are_ascii _ refl)))
+    (members_utf8 ms named words)
+
+-- a line means the request of its members
+meant_by : (c : List ℕ) (ms : List Member) (line : List ℕ) (r : Request) → is_name c ≡ true → are_named ms ≡ true → written (c, ms) ≡ Some line
+    → (are_words ms ≡ true → request_of (line_data c ms) ≡ Some r) → command_line line ≡ Ok r
+meant_by c ms line r command named is asked =
+    let p = cond_some (are_words ms) (line_text c ms) line is in
+    ap command_line (sym p.1)
+    ∙ ap request_or_refusal (json-found (line_text c ms) (line_data c ms) (line_utf8 c ms command named p.0) (line_value c ms command named p.0))
+    ∙ ap (λ o. ok_or o Form) (asked p.0)
+
+-- ---- what each command asks
+
+get_asked : (t : Option (List ℕ)) (id : ℕ) → nat_lt id (2 ^ 63) ≡ true → request_of (line_data (codes "get") (table_is t ∷ id_is id ∷ [])) ≡ Some (request.Get t id)
+unfolding has_only step_named look_up_named
+get_asked None id h = rw h refl
+get_asked (Some t) id h = rw h refl
+
+erase_asked : (t : Option (List ℕ)) (id : ℕ) → nat_lt id (2 ^ 63) ≡ true → request_of (line_data (codes "erase") (table_is t ∷ id_is id ∷ [])) ≡ Some (request.Erase t id)
+unfolding has_only
+erase_asked None id h = rw h refl
+erase_asked (Some t) id h = rw h refl
+
+size_asked : (t : Option (List ℕ)) → request_of (line_data (codes "size") (table_is t ∷ [])) ≡ Some (request.Size t)
+unfolding has_only look_up_named
+size_asked None = refl
+size_asked (Some t) = refl
+
+rank_asked : (t : Option (List ℕ)) (index : List ℕ) (id : ℕ) → nat_lt id (2 ^ 63) ≡ true
+    → request_of (line_data (codes "rank") (table_is t ∷ index_is index ∷ id_is id ∷ [])) ≡ Some (request.Rank t index id)
+unfolding has_only look_up_named
+rank_asked None index id h = rw h refl
+rank_asked (Some t) index id h = rw h refl
+
+nth_asked : (t : Option (List ℕ)) (index : List ℕ) (n : ℕ) → nat_lt n (2 ^ 63) ≡ true
+    → request_of (line_data (codes "nth") (table_is t ∷ index_is index ∷ (codes "n", whole n) ∷ [])) ≡ Some (request.Nth t index n)
+unfolding has_only look_up_named
+nth_asked None index n h = rw h refl
+nth_asked (Some t) index n h = rw h refl
+
+relocate_asked : (t : Option (List ℕ)) (index : List ℕ) (id : ℕ) (before : Option ℕ) → nat_lt id (2 ^ 63) ≡ true → is_word (maybe_whole before) ≡ true
+    → request_of (line_data (codes "relocate") (table_is t ∷ index_is index ∷ id_is id ∷ (codes "before", maybe_whole before) ∷ []))
+    ≡ Some (request.Relocate t index id before)
+unfolding has_only
+relocate_asked None index id None h k = rw h refl
+relocate_asked (Some t) index id None h k = rw h refl
+relocate_asked None index id (Some before) h k = rw (h, k) refl
+relocate_asked (Some t) index id (Some before) h k = rw (h, k) refl
+
+commit_asked : (n : ℕ) → nat_lt n (2 ^ 63) ≡ true → request_of (line_data (codes "commit") ((codes "revision", whole n) ∷ [])) ≡ Some (request.Commit n)
+unfolding has_only step_named look_up_named
+commit_asked n h = rw h refl
+
+-- the word of the second member, of the third and of the fourth
+second : (a b : Member) (ms : List Member) → are_words (a ∷ (b ∷ ms)) ≡ true → is_word b.1 ≡ true
+second a b ms words = head_word b ms (rest_words a (b ∷ ms) words)
+
+third : (a b c : Member) (ms : List Member) → are_words (a ∷ (b ∷ (c ∷ ms))) ≡ true → is_word c.1 ≡ true
+third a b c ms words = second b c ms (rest_words a (b ∷ (c ∷ ms)) words)
+
+fourth : (a b c d : Member) (ms : List Member) → are_words (a ∷ (b ∷ (c ∷ (d ∷ ms)))) ≡ true → is_word d.1 ≡ true
+fourth a b c d ms words = third b c d ms (rest_words a (b ∷ (c ∷ (d ∷ ms))) words)
+
+-- ---- commands without members
 
 -- the line of a command without members means it
 bare_means : (b : Bare) → command_line (bare_text b) ≡ Ok (asked_bare b)
@@ -100,9 +336,9 @@ unfolding serde_json_on_literals is_utf8 chars has_only bare_named step_named lo
 bare_means bare.Undo = refl
 bare_means b = refl
 
-size_means : command_line (codes "{\"cmd\":\"size\"}") ≡ Ok (request.Size None)
-unfolding serde_json_on_literals is_utf8 chars has_only look_up_named
-size_means = refl
+bare_line_is : (b : Bare) → line_text (bare_name b) [] ≡ bare_text b
+bare_line_is bare.Undo = refl
+bare_line_is b = refl
 
 -- which of them a request is asks that request
 abbrev asked_or : Request → Option Bare → Request
@@ -113,33 +349,40 @@ asked_back : (r : Request) → asked_or r (bare_of r) ≡ r
 asked_back request.Undo = refl
 asked_back r = refl
 
+abbrev bare_words : Option Bare → Option (List ℕ)
+bare_words o = option_and_then written (option_map (λ b. (bare_name b, [])) o)
+
 -- what holds of the request and the line of each command without members holds of each request that is one, and its line
 by_bare : (P : Request → List ℕ → Type 0) → ((b : Bare) → P (asked_bare b) (bare_text b)) → (r : Request) (line : List ℕ) → (o : Option Bare)
-    → asked_or r o ≡ r → option_map bare_text o ≡ Some line → P r line
+    → asked_or r o ≡ r → bare_words o ≡ Some line → P r line
 by_bare P h r line None back is = absurd (none-some line is)
-by_bare P h r line (Some b) back is = subst (λ q. P q line) back (subst (P (asked_bare b)) (same_Some (bare_text b) line is) (h b))
+by_bare P h r line (Some b) back is =
+    subst (λ q. P q line) back (subst (P (asked_bare b)) (sym (bare_line_is b) ∙ same_Some (line_text (bare_name b) []) line is) (h b))
+
+-- ---- all short lines
 
 -- a short line means its request
 pub short_means : (r : Request) (line : List ℕ) → short_line r ≡ Some line → command_line line ≡ Ok r
-short_means (request.Commit revision) line is = numbered_means (codes "{\"cmd\":\"commit\",\"revision\":") line _ revision is (commit_means revision)
-short_means (request.Get None id) line is = numbered_means (codes "{\"cmd\":\"get\",\"id\":") line _ id is (get_means id)
-short_means (request.Erase None id) line is = numbered_means (codes "{\"cmd\":\"erase\",\"id\":") line _ id is (erase_means id)
-short_means (request.Size None) line is = ap command_line (sym (same_Some _ line is)) ∙ size_means
+unfolding is_name_byte
+short_means (request.Get t id) line is =
+    meant_by (codes "get") (table_is t ∷ id_is id ∷ []) line _ refl refl is (λ words. get_asked t id (second (table_is t) (id_is id) [] words))
+short_means (request.Erase t id) line is =
+    meant_by (codes "erase") (table_is t ∷ id_is id ∷ []) line _ refl refl is (λ words. erase_asked t id (second (table_is t) (id_is id) [] words))
+short_means (request.Size t) line is = meant_by (codes "size") (table_is t ∷ []) line _ refl refl is (λ words. size_asked t)
+short_means (request.Rank t index id) line is =
+    meant_by (codes "rank") (table_is t ∷ index_is index ∷ id_is id ∷ []) line _ refl refl is
+    (λ words. rank_asked t index id (third (table_is t) (index_is index) (id_is id) [] words))
+short_means (request.Nth t index n) line is =
+    meant_by (codes "nth") (table_is t ∷ index_is index ∷ (codes "n", whole n) ∷ []) line _ refl refl is
+    (λ words. nth_asked t index n (third (table_is t) (index_is index) (codes "n", whole n) [] words))
+short_means (request.Relocate t index id before) line is =
+    let last : Member = (codes "before", maybe_whole before) in
+    meant_by (codes "relocate") (table_is t ∷ index_is index ∷ id_is id ∷ last ∷ []) line _ refl refl is
+    (λ words. relocate_asked t index id before (third (table_is t) (index_is index) (id_is id) (last ∷ []) words)
+    (fourth (table_is t) (index_is index) (id_is id) last [] words))
+short_means (request.Commit n) line is =
+    meant_by (codes "commit") ((codes "revision", whole n) ∷ []) line _ refl refl is (λ words. commit_asked n (head_word (codes "revision", whole n) [] words))
 short_means r line is = by_bare (λ q t. command_line t ≡ Ok q) bare_means r line (bare_of r) (asked_back r) is
-
--- ---- numbers between a front and a brace
-
--- the front and the brace hold the number
-pub numbered_is : (front line text : List ℕ) (n : ℕ) → line ≡ front ++ (text ++ codes "}") → text ≡ decimal n → n < 2 ^ 63 → number_line front n ≡ Some line
-numbered_is front line text n is digits small = rw (lt-ltb n (2 ^ 63) small) (ap (λ t. Some (front ++ (t ++ codes "}"))) (sym digits) ∙ ap Some (sym is))
-
--- a numbered line has the front, the number and the brace
-pub numbered_parts : (front line : List ℕ) (n : ℕ) → number_line front n ≡ Some line → (n < 2 ^ 63) × (line ≡ front ++ (decimal n ++ codes "}"))
-numbered_parts front line n is = let p = cond_some (nat_lt n (2 ^ 63)) _ line is in (ltb-true n (2 ^ 63) p.0, sym p.1)
-
--- a number is written as its digits
-pub written : (n : ℕ) (text : List ℕ) → n < 2 ^ 63 → text ≡ decimal n → (nat_lt n (2 ^ 63) && bytes_eq (decimal n) text) ≡ true
-written n text small is = rw (lt-ltb n (2 ^ 63) small) ((bytes_eq-Decides (decimal n) text).1 (sym is))
 
 abbrev request_in : Request → Result Request Refusal → Request
 request_in q (Ok r) = r
@@ -147,65 +390,139 @@ request_in q (Err e) = q
 
 -- a line is a short line of one request
 pub one_request : (q r : Request) (line : List ℕ) → short_line q ≡ Some line → short_line r ≡ Some line → q ≡ r
-one_request q r line first second = ap (request_in q) (sym (short_means q line first) ∙ short_means r line second)
+one_request q r line first second_is = ap (request_in q) (sym (short_means q line first) ∙ short_means r line second_is)
 
 -- the undo line is short
 pub undo_is_short : (line : List ℕ) → line ≡ codes "{\"cmd\":\"undo\"}" → short_line request.Undo ≡ Some line
 undo_is_short line is = ap Some (sym is)
 
--- what is some by a map is some
-pub some_of : (o : Option Short) → is_some (option_map asked o) ≡ true → is_some o ≡ true
-some_of None is = is
-some_of (Some s) is = refl
+-- ---- which line it can be, by the third letter of its command
+
+pub data Which : Type 0 where
+  of_get : Which
+  of_rank : Which
+  of_commit : Which
+  of_nth : Which
+  of_relocate : Which
+  of_size : Which
+  of_erase : Which
+  of_bare : Which
+
+abbrev pub which : ℕ → Which
+which x =
+    cond (x == 116) of_get (cond (x == 110) of_rank (cond (x == 109) of_commit (cond (x == 104) of_nth
+    (cond (x == 108) of_relocate (cond (x == 122) of_size (cond (x == 97) of_erase of_bare))))))
+
+-- what is read of such a line is a request
+abbrev pub Found : Which → List ℕ → Type 0
+Found of_get line = (o : Option Request) → IsRead (codes "get") ((codes "table", perhaps_name) ∷ (codes "id", a_whole) ∷ []) line o → is_some o ≡ true
+Found of_rank line =
+    (o : Option Request) → IsRead (codes "rank") ((codes "table", perhaps_name) ∷ (codes "index", a_name) ∷ (codes "id", a_whole) ∷ []) line o → is_some o ≡ true
+Found of_commit line = (o : Option Request) → IsRead (codes "commit") ((codes "revision", a_whole) ∷ []) line o → is_some o ≡ true
+Found of_nth line =
+    (o : Option Request) → IsRead (codes "nth") ((codes "table", perhaps_name) ∷ (codes "index", a_name) ∷ (codes "n", a_whole) ∷ []) line o → is_some o ≡ true
+Found of_relocate line =
+    (o : Option Request)
+    → IsRead (codes "relocate") ((codes "table", perhaps_name) ∷ (codes "index", a_name) ∷ (codes "id", a_whole) ∷ (codes "before", perhaps_whole) ∷ []) line o
+    → is_some o ≡ true
+Found of_size line = (o : Option Request) → IsRead (codes "size") ((codes "table", perhaps_name) ∷ []) line o → is_some o ≡ true
+Found of_erase line =
+    ((o : Option Request) → IsRead (codes "erase") ((codes "table", perhaps_name) ∷ (codes "id", a_whole) ∷ []) line o → is_some o ≡ true)
+    ⊎ (is_some (bare_line line) ≡ true)
+Found of_bare line = is_some (bare_line line) ≡ true
+
+lettered : (c : List ℕ) (ms : List Member) (line : List ℕ) (d letter : ℕ) → written (c, ms) ≡ Some line
+    → ((rest : List ℕ) → get_or (command_front c ++ rest) 10 d ≡ letter) → get_or line 10 d ≡ letter
+lettered c ms line d letter is at =
+    let p = cond_some (are_words ms) (line_text c ms) line is in
+    ap (λ t. get_or t 10 d) (sym p.1) ∙ at (members_text ms)
+
+at_letter : (line : List ℕ) (d letter : ℕ) → get_or line 10 d ≡ letter → Found (which letter) line → Found (which (get_or line 10 d)) line
+at_letter line d letter is found = subst (λ x. Found (which x) line) (sym is) found
+
+bare_told : (d : ℕ) (b : Bare) → Found (which (get_or (bare_text b) 10 d)) (bare_text b)
+bare_told d bare.Undo = refl
+bare_told d bare.Start = inr refl
+bare_told d b = refl
+
+-- a short line is found by its letter
+pub told : (r : Request) (line : List ℕ) (d : ℕ) → short_line r ≡ Some line → Found (which (get_or line 10 d)) line
+told (request.Get t id) line d is =
+    let ms = table_is t ∷ id_is id ∷ [] in
+    at_letter line d 116 (lettered (codes "get") ms line d 116 is (λ rest. refl)) (λ o done. line-read (codes "get") ms line o done refl is)
+told (request.Erase t id) line d is =
+    let ms = table_is t ∷ id_is id ∷ [] in
+    at_letter line d 97 (lettered (codes "erase") ms line d 97 is (λ rest. refl)) (inl (λ o done. line-read (codes "erase") ms line o done refl is))
+told (request.Size t) line d is =
+    let ms = table_is t ∷ [] in
+    at_letter line d 122 (lettered (codes "size") ms line d 122 is (λ rest. refl)) (λ o done. line-read (codes "size") ms line o done refl is)
+told (request.Rank t index id) line d is =
+    let ms = table_is t ∷ index_is index ∷ id_is id ∷ [] in
+    at_letter line d 110 (lettered (codes "rank") ms line d 110 is (λ rest. refl)) (λ o done. line-read (codes "rank") ms line o done refl is)
+told (request.Nth t index n) line d is =
+    let ms = table_is t ∷ index_is index ∷ (codes "n", whole n) ∷ [] in
+    at_letter line d 104 (lettered (codes "nth") ms line d 104 is (λ rest. refl)) (λ o done. line-read (codes "nth") ms line o done refl is)
+told (request.Relocate t index id before) line d is =
+    let ms = table_is t ∷ index_is index ∷ id_is id ∷ (codes "before", maybe_whole before) ∷ [] in
+    at_letter line d 108 (lettered (codes "relocate") ms line d 108 is (λ rest. refl)) (λ o done. line-read (codes "relocate") ms line o done refl is)
+told (request.Commit n) line d is =
+    let ms = (codes "revision", whole n) ∷ [] in
+    at_letter line d 109 (lettered (codes "commit") ms line d 109 is (λ rest. refl)) (λ o done. line-read (codes "commit") ms line o done refl is)
+told r line d is = by_bare (λ q t. Found (which (get_or t 10 d)) t) (bare_told d) r line (bare_of r) (asked_back r) is
 
 -- ---- how long they are
 
-text_length : (text line : List ℕ) → Some text ≡ Some line → nat_le 11 (length text) ≡ true → nat_le (length text) 47 ≡ true → (10 < length line) × (length line ≤ 47)
-text_length text line is long short =
-    subst (λ t. (10 < length t) × (length t ≤ 47)) (same_Some text line is) (leb-true 11 (length text) long, leb-true (length text) 47 short)
+abbrev IsLong : Request → List ℕ → Type 0
+IsLong r line = 10 < length line
 
-numbered_length : (front line : List ℕ) (n : ℕ) → number_line front n ≡ Some line → nat_le 11 (length front) ≡ true → nat_le (length front) 27 ≡ true
-    → (10 < length line) × (length line ≤ 47)
-numbered_length front line n is long short =
-    let p = cond_some (nat_lt n (2 ^ 63)) _ line is in
-    let small : n < 2 ^ 63 = ltb-true n (2 ^ 63) p.0 in
-    let digits : length (decimal n) ≤ 19 = length-decimal-le 19 n (omega arith) (omega arith) (omega arith) in
-    let behind : length (decimal n ++ codes "}") ≡ length (decimal n) + 1 = length-append (decimal n) (codes "}") in
-    let whole : length line ≡ length front + length (decimal n ++ codes "}") = sym (ap length p.1) ∙ length-append front _ in
-    let least : 11 ≤ length front = leb-true 11 (length front) long in
-    let most : length front ≤ 27 = leb-true (length front) 27 short in
-    (omega arith, omega arith)
+long : (c : List ℕ) (ms : List Member) (line : List ℕ) → written (c, ms) ≡ Some line → nat_le 11 (length (command_front c)) ≡ true → 10 < length line
+long c ms line is le =
+    let p = cond_some (are_words ms) (line_text c ms) line is in
+    let most = leb-true 11 (length (command_front c)) le in
+    omega (arith, ap length p.1, length-append (command_front c) (members_text ms), most)
 
-abbrev HasLength : Request → List ℕ → Type 0
-HasLength r line = (10 < length line) × (length line ≤ 47)
+bare_long : (b : Bare) → IsLong (asked_bare b) (bare_text b)
+bare_long bare.Undo = leb-true 11 (length (bare_text bare.Undo)) refl
+bare_long b = leb-true 11 (length (bare_text b)) refl
 
-bare_length : (b : Bare) → HasLength (asked_bare b) (bare_text b)
-bare_length bare.Undo = text_length (bare_text bare.Undo) (bare_text bare.Undo) refl refl refl
-bare_length b = text_length (bare_text b) (bare_text b) refl refl refl
+-- a short line has at least 11 bytes
+pub short_length : (r : Request) (line : List ℕ) → short_line r ≡ Some line → 10 < length line
+short_length (request.Get t id) line is = long (codes "get") (table_is t ∷ id_is id ∷ []) line is refl
+short_length (request.Erase t id) line is = long (codes "erase") (table_is t ∷ id_is id ∷ []) line is refl
+short_length (request.Size t) line is = long (codes "size") (table_is t ∷ []) line is refl
+short_length (request.Rank t index id) line is = long (codes "rank") (table_is t ∷ index_is index ∷ id_is id ∷ []) line is refl
+short_length (request.Nth t index n) line is = long (codes "nth") (table_is t ∷ index_is index ∷ (codes "n", whole n) ∷ []) line is refl
+short_length (request.Relocate t index id before) line is =
+    long (codes "relocate") (table_is t ∷ index_is index ∷ id_is id ∷ (codes "before", maybe_whole before) ∷ []) line is refl
+short_length (request.Commit n) line is = long (codes "commit") ((codes "revision", whole n) ∷ []) line is refl
+short_length r line is = by_bare IsLong bare_long r line (bare_of r) (asked_back r) is
 
--- a short line has 11 to 47 bytes
-pub short_length : (r : Request) (line : List ℕ) → short_line r ≡ Some line → (10 < length line) × (length line ≤ 47)
-short_length (request.Commit revision) line is = numbered_length (codes "{\"cmd\":\"commit\",\"revision\":") line revision is refl refl
-short_length (request.Get None id) line is = numbered_length (codes "{\"cmd\":\"get\",\"id\":") line id is refl refl
-short_length (request.Erase None id) line is = numbered_length (codes "{\"cmd\":\"erase\",\"id\":") line id is refl refl
-short_length (request.Size None) line is = text_length _ line is refl refl
-short_length r line is = by_bare HasLength bare_length r line (bare_of r) (asked_back r) is
+-- ---- which request is found
 
--- ---- their third letters
+first_at : (same : Bool) (k b : Bare) (line : List ℕ) (o : Option Bare) → bytes_eq line (bare_text k) ≡ same → cond same (Some k) o ≡ Some b
+    → (o ≡ Some b → bare_text b ≡ line) → bare_text b ≡ line
+first_at true k b line o is found later = ap bare_text (sym (same_Some k b found)) ∙ sym ((bytes_eq-Decides line (bare_text k)).0 is)
+first_at false k b line o is found later = later found
 
-bare_told : (b : Bare) → numberless_line (bare_text b) ≡ Some (asked_bare b)
-bare_told bare.Undo = refl
-bare_told b = refl
+first_is : (bs : List Bare) (line : List ℕ) (b : Bare) → first_with bare_text bs line ≡ Some b → bare_text b ≡ line
+first_is [] line b e = absurd (none-some b e)
+first_is (k ∷ bs) line b e = first_at (bytes_eq line (bare_text k)) k b line (first_with bare_text bs line) refl e (first_is bs line b)
 
-lettered : (front line : List ℕ) (n d letter : ℕ) → number_line front n ≡ Some line → ((rest : List ℕ) → get_or (front ++ rest) 10 d ≡ letter)
-    → get_or line 10 d ≡ letter
-lettered front line n d letter is at = ap (λ t. get_or t 10 d) (numbered_parts front line n is).1 ∙ at (decimal n ++ codes "}")
+bare_short : (b : Bare) → short_line (asked_bare b) ≡ Some (bare_text b)
+bare_short bare.Undo = refl
+bare_short b = refl
 
--- a short line with a number has the letter of `get`, `commit` or `erase`, and each other has no members
-pub told : (r : Request) (line : List ℕ) (d : ℕ) → short_line r ≡ Some line
-    → (get_or line 10 d ≡ 116) ⊎ ((get_or line 10 d ≡ 109) ⊎ ((get_or line 10 d ≡ 97) ⊎ (numberless_line line ≡ Some r)))
-told (request.Commit revision) line d is = inr (inl (lettered (codes "{\"cmd\":\"commit\",\"revision\":") line revision d 109 is (λ rest. refl)))
-told (request.Get None id) line d is = inl (lettered (codes "{\"cmd\":\"get\",\"id\":") line id d 116 is (λ rest. refl))
-told (request.Erase None id) line d is = inr (inr (inl (lettered (codes "{\"cmd\":\"erase\",\"id\":") line id d 97 is (λ rest. refl))))
-told (request.Size None) line d is = inr (inr (inr (ap numberless_line (sym (same_Some _ line is)))))
-told r line d is = inr (inr (inr (by_bare (λ q t. numberless_line t ≡ Some q) bare_told r line (bare_of r) (asked_back r) is)))
+-- a command without members that is found has this line
+pub bare_found : (line : List ℕ) (b : Bare) → bare_line line ≡ Some b → short_line (asked_bare b) ≡ Some line
+bare_found line b is = bare_short b ∙ ap Some (first_is bares line b is)
+
+-- a short line by its letter
+pub by_letter : (line : List ℕ) (letter : ℕ) → get_or line 10 0 ≡ letter → (r : Request) → short_line r ≡ Some line → Found (which letter) line
+by_letter line letter at r is = subst (λ x. Found (which x) line) at (told r line 0 is)
+
+pub by_no_letter : (line : List ℕ) (r : Request) → short_line r ≡ Some line → (get_or line 10 0 ≡ 116 → ⊥) → (get_or line 10 0 ≡ 110 → ⊥) → (get_or line 10 0 ≡ 109 → ⊥)
+    → (get_or line 10 0 ≡ 104 → ⊥) → (get_or line 10 0 ≡ 108 → ⊥) → (get_or line 10 0 ≡ 122 → ⊥) → (get_or line 10 0 ≡ 97 → ⊥) → is_some (bare_line line) ≡ true
+by_no_letter line r is t n m h l z a =
+    let x = get_or line 10 0 in
+    let other : which x ≡ of_bare = rw (ne_eqb x 116 t, ne_eqb x 110 n, ne_eqb x 109 m, ne_eqb x 104 h, ne_eqb x 108 l, ne_eqb x 122 z, ne_eqb x 97 a) refl in
+    subst (λ w. Found w line) other (told r line 0 is)

@@ -1,18 +1,13 @@
 -- JSON objects by their members, and what a member may be.
-use Rattle.std.specs.Prelude.{ℕ, ℤ, pos, negsuc, List, Bool, true, ◌&&◌, if◌then◌else◌, Option, Some, None, option_map, option_and_then, bytes_eq}
+use Rattle.std.specs.Prelude.{ℕ, ℤ, pos, negsuc, List, Bool, true, ◌&&◌, Option, Some, None, option_map, option_and_then, bytes_eq}
 use Rattle.std.specs.List.{list_any}
-use Rattle.serde_json.specs.Data.{Data, null, Members, no_members, member}
+use Rattle.serde_json.specs.Data.{Data, Members, no_members, member}
 use Rattle.serde_json.specs.Find.{get_member, as_number, as_i64}
 
 -- no member has another name than these
 unfoldable pub has_only : List (List ℕ) → Members → Bool
 has_only names no_members = true
 has_only names (member k d ms) = list_any (λ n. bytes_eq k n) names && has_only names ms
-
--- the members with null in place of the value of this name
-abbrev pub emptied : List ℕ → Members → Members
-emptied k no_members = no_members
-emptied k (member l d ms) = if bytes_eq k l then member l null ms else member l d (emptied k ms)
 
 -- a number that is not negative
 abbrev pub not_negative : ℤ → Option ℕ

@@ -3,7 +3,8 @@ pub mod Bare
 pub mod Commands
 pub mod Json
 pub mod Lines
-pub mod Meant
 pub mod ObjectCode
+pub mod Places
 pub mod Row
 pub mod Short
+pub mod ShortCode

@@ -1,36 +1,102 @@
--- Lines without a text for the database, as they are written without spaces.
-use Rattle.std.specs.Prelude.{ℕ, ◌^◌, List, ◌++◌, nat_lt, if◌then◌else◌, Option, Some, None, option_map, codes, decimal, bytes_eq}
-use Rattle.mi_request.specs.Bare.{asked_bare, bare_of, bare_text, bare_line}
-use Rattle.mi_request.specs.declared.bare.Bare.{Bare}
+-- Lines whose members are names and whole numbers, as a compact writer writes them: `cmd` first, and then the members in the order of the
+-- table of commands. {"cmd":"rank","index":"balance","id":7} asks a rank.
+use Rattle.std.specs.Prelude.{ℕ, ◌^◌, List, [], ◌∷◌, ◌++◌, Bool, true, ◌&&◌, ◌||◌, ◌==◌, nat_lt, nat_le, if◌then◌else◌}
+use Rattle.std.specs.Prelude.{Option, Some, None, option_map, option_and_then, codes, decimal}
+use Rattle.std.specs.List.{list_all}
+use Rattle.mi_request.specs.Bare.{bare_of, bare_name}
 use Rattle.mi_request.specs.declared.request.Request.{Request}
 use Rattle.mi_request.specs.declared.request.Request.TheVariants as request
-use Rattle.mi_request.specs.declared.short.Short.{Short}
-use Rattle.mi_request.specs.declared.short.Short.TheVariants as short
 
--- a text that ends with a number from 0 to 2^63 - 1 and a brace
-abbrev pub number_line : List ℕ → ℕ → Option (List ℕ)
-number_line front n = if nat_lt n (2 ^ 63) then Some (front ++ (decimal n ++ codes "}")) else None
+-- what a member is: a name of a table or an index, or a whole number; each that must be there, or that may be absent
+pub data Word : Type 0 where
+  name : List ℕ → Word
+  maybe_name : Option (List ℕ) → Word
+  whole : ℕ → Word
+  maybe_whole : Option ℕ → Word
 
--- how a request that has no text, and names no table, is written without spaces, with `cmd` first. Other requests have none
+-- a member's name, and what it is
+abbrev pub Member : Type 0
+Member = List ℕ × Word
+
+-- a letter from a to z, a digit or _
+unfoldable pub is_name_byte : ℕ → Bool
+is_name_byte b = (nat_le 97 b && nat_le b 122) || ((nat_le 48 b && nat_le b 57) || (b == 95))
+
+abbrev pub is_name : List ℕ → Bool
+is_name = list_all is_name_byte
+
+-- a whole number from 0 to 2^63 - 1
+abbrev pub is_whole : ℕ → Bool
+is_whole n = nat_lt n (2 ^ 63)
+
+-- what can stand in such a line
+abbrev pub is_word : Word → Bool
+is_word (name s) = is_name s
+is_word (maybe_name None) = true
+is_word (maybe_name (Some s)) = is_name s
+is_word (whole n) = is_whole n
+is_word (maybe_whole None) = true
+is_word (maybe_whole (Some n)) = is_whole n
+
+abbrev pub are_words : List Member → Bool
+are_words [] = true
+are_words (m ∷ ms) = is_word m.1 && are_words ms
+
+-- what stands in front of a name, and of a number
+abbrev pub name_front : List ℕ → List ℕ
+name_front m = codes ",\"" ++ (m ++ codes "\":\"")
+
+abbrev pub whole_front : List ℕ → List ℕ
+whole_front m = codes ",\"" ++ (m ++ codes "\":")
+
+-- a member, and what stands behind it
+abbrev pub member_text : List ℕ → Word → List ℕ → List ℕ
+member_text m (name s) rest = name_front m ++ (s ++ (34 ∷ rest))
+member_text m (maybe_name None) rest = rest
+member_text m (maybe_name (Some s)) rest = name_front m ++ (s ++ (34 ∷ rest))
+member_text m (whole n) rest = whole_front m ++ (decimal n ++ rest)
+member_text m (maybe_whole None) rest = rest
+member_text m (maybe_whole (Some n)) rest = whole_front m ++ (decimal n ++ rest)
+
+-- the members behind the command, to the end of the line
+abbrev pub members_text : List Member → List ℕ
+members_text [] = codes "}"
+members_text (m ∷ ms) = member_text m.0 m.1 (members_text ms)
+
+-- a line up to its command
+abbrev pub command_front : List ℕ → List ℕ
+command_front command = codes "{\"cmd\":\"" ++ (command ++ codes "\"")
+
+-- the line of a command with these members
+abbrev pub line_text : List ℕ → List Member → List ℕ
+line_text command ms = command_front command ++ members_text ms
+
+-- members that many commands have
+abbrev pub table_is : Option (List ℕ) → Member
+table_is table = (codes "table", maybe_name table)
+
+abbrev pub index_is : List ℕ → Member
+index_is index = (codes "index", name index)
+
+abbrev pub id_is : ℕ → Member
+id_is id = (codes "id", whole id)
+
+-- the command and the members of a request that has such a line. Other requests have none
+abbrev pub words_of : Request → Option (List ℕ × List Member)
+words_of (request.Get table id) = Some (codes "get", table_is table ∷ id_is id ∷ [])
+words_of (request.Erase table id) = Some (codes "erase", table_is table ∷ id_is id ∷ [])
+words_of (request.Size table) = Some (codes "size", table_is table ∷ [])
+words_of (request.Rank table index id) = Some (codes "rank", table_is table ∷ index_is index ∷ id_is id ∷ [])
+words_of (request.Nth table index n) = Some (codes "nth", table_is table ∷ index_is index ∷ (codes "n", whole n) ∷ [])
+words_of (request.Relocate table index id before) =
+    Some (codes "relocate", table_is table ∷ index_is index ∷ id_is id ∷ (codes "before", maybe_whole before) ∷ [])
+words_of (request.Commit revision) = Some (codes "commit", (codes "revision", whole revision) ∷ [])
+words_of r = option_map (λ b. (bare_name b, [])) (bare_of r)
+
+-- the line, where each member can stand in it
+abbrev pub written : List ℕ × List Member → Option (List ℕ)
+written line = if are_words line.1 then Some (line_text line.0 line.1) else None
+
+-- how a request is written without spaces and without escapes, with `cmd` first
 abbrev pub short_line : Request → Option (List ℕ)
-short_line (request.Commit revision) = number_line (codes "{\"cmd\":\"commit\",\"revision\":") revision
-short_line (request.Get None id) = number_line (codes "{\"cmd\":\"get\",\"id\":") id
-short_line (request.Erase None id) = number_line (codes "{\"cmd\":\"erase\",\"id\":") id
-short_line (request.Size None) = Some (codes "{\"cmd\":\"size\"}")
-short_line r = option_map bare_text (bare_of r)
-
--- the request that a short line asks
-abbrev pub asked : Short → Request
-asked (short.Bare b) = asked_bare b
-asked (short.Commit revision) = request.Commit revision
-asked (short.Get id) = request.Get None id
-asked (short.Erase id) = request.Erase None id
-asked short.Size = request.Size None
-
--- the request without members that a line is
-abbrev pub or_size : List ℕ → Option Bare → Option Request
-or_size line (Some b) = Some (asked_bare b)
-or_size line None = if bytes_eq line (codes "{\"cmd\":\"size\"}") then Some (request.Size None) else None
-
-abbrev pub numberless_line : List ℕ → Option Request
-numberless_line line = or_size line (bare_line line)
+short_line r = option_and_then written (words_of r)

@@ -16,11 +16,10 @@ use crate::command::CommandName;
 use crate::name::Name;
 use crate::object::Object;
 use crate::reading::{
-    array, flag, lower, natural, natural_if_there, natural_or_absent, needed_object,
-    object_or_empty, page, place, text, text_if_there, up_to, upper,
+    array, flag, lower, natural, natural_if_there, natural_or_absent, object, object_or_empty,
+    page, place, text, text_if_there, up_to, upper,
 };
 use crate::request::{End, Request};
-use bumpalo::Bump;
 use mi_value::limits::{MAX_RESERVED_CHANGES, MAX_RESERVED_SESSIONS};
 
 /// The members of a command over a key of an index.
@@ -33,13 +32,13 @@ struct KeyMembers<'a> {
 
 /// Its members of the names `table`, `index` and `key`.
 #[inline(always)]
-fn key_members<'a>(object: &mut Object<'a>) -> Option<KeyMembers<'a>>
+fn key_members<'a>(object: &Object<'a>) -> Option<KeyMembers<'a>>
     ensures { (make : Option (List ℕ) → List ℕ → Items → Asked) → option_map (λ m. make m.table m.index m.key) result
-        ≡ option_map₃ make (table_in object.old) (index_in object.old) (key_in object.old) }
+        ≡ option_map₃ make (table_in object.now) (index_in object.now) (key_in object.now) }
 {
     let table = text_if_there(object, "table")?;
     let index = text(object, "index")?;
-    let key = array(object.move_out("key"))?;
+    let key = array(object, "key")?;
     Some(KeyMembers { table, index, key })
 }
 
@@ -54,18 +53,15 @@ struct RangeMembers<'a> {
 
 /// Its members of the names `lower`, `upper`, `reverse` and `limit`.
 #[inline(always)]
-fn range_members<'a>(object: &mut Object<'a>) -> Option<RangeMembers<'a>>
+fn range_members<'a>(object: &Object<'a>) -> Option<RangeMembers<'a>>
     ensures { (make : EndSpec → EndSpec → Bool → ℕ → Asked) → option_map (λ m. make m.lower m.upper m.reverse m.limit) result
-        ≡ option_map₄ make (default Open lower_end (codes "lower") object.old) (default Open upper_end (codes "upper") object.old)
-        (default false as_bool (codes "reverse") object.old) (limit_in object.old) }
+        ≡ option_map₄ make (default Open lower_end (codes "lower") object.now) (default Open upper_end (codes "upper") object.now)
+        (default false as_bool (codes "reverse") object.now) (limit_in object.now) }
 {
-    let reverse = flag(object, "reverse");
-    let limit = page(object, "limit");
-    let (lower_member, upper_member) = object.move_two_out("lower", "upper");
-    let lower = lower(lower_member)?;
-    let upper = upper(upper_member)?;
-    let reverse = reverse?;
-    let limit = limit?;
+    let lower = lower(object, "lower")?;
+    let upper = upper(object, "upper")?;
+    let reverse = flag(object, "reverse")?;
+    let limit = page(object, "limit")?;
     Some(RangeMembers {
         lower,
         upper,
@@ -75,37 +71,34 @@ fn range_members<'a>(object: &mut Object<'a>) -> Option<RangeMembers<'a>>
 }
 
 #[inline(never)]
-fn insert_request<'a>(object: &mut Object<'a>) -> Option<Request<'a>>
-    ensures { result ≡ (form_of name.Insert).request object.old }
+fn insert_request<'a>(members: &Object<'a>) -> Option<Request<'a>>
+    ensures { result ≡ (form_of name.Insert).request members.now }
 {
-    let table = text_if_there(object, "table")?;
-    let (row, before) = object.move_two_out("row", "before");
-    let row = needed_object(row)?;
-    let before = place(before)?;
+    let table = text_if_there(members, "table")?;
+    let row = object(members, "row")?;
+    let before = place(members, "before")?;
     Some(Request::Insert { table, row, before })
 }
 
 #[inline(never)]
-fn replace_request<'a>(object: &mut Object<'a>) -> Option<Request<'a>>
-    ensures { result ≡ (form_of name.Replace).request object.old }
+fn replace_request<'a>(members: &Object<'a>) -> Option<Request<'a>>
+    ensures { result ≡ (form_of name.Replace).request members.now }
 {
-    let table = text_if_there(object, "table")?;
-    let id = natural(object, "id")?;
-    let row = needed_object(object.move_out("row"))?;
+    let table = text_if_there(members, "table")?;
+    let id = natural(members, "id")?;
+    let row = object(members, "row")?;
     Some(Request::Replace { table, id, row })
 }
 
 #[inline(never)]
-fn modify_request<'a>(arena: &'a Bump, object: &mut Object<'a>) -> Option<Request<'a>>
-    ensures { result ≡ (form_of name.Modify).request object.old }
+fn modify_request<'a>(object: &Object<'a>) -> Option<Request<'a>>
+    ensures { result ≡ (form_of name.Modify).request object.now }
 {
     let table = text_if_there(object, "table")?;
     let id = natural(object, "id")?;
-    let rollback = flag(object, "rollback");
-    let (set, add) = object.move_two_out("set", "add");
-    let set = object_or_empty(arena, set)?;
-    let add = object_or_empty(arena, add)?;
-    let rollback = rollback?;
+    let set = object_or_empty(object, "set")?;
+    let add = object_or_empty(object, "add")?;
+    let rollback = flag(object, "rollback")?;
     Some(Request::Modify {
         table,
         id,
@@ -125,8 +118,8 @@ fn erase_request<'a>(object: &Object<'a>) -> Option<Request<'a>>
 }
 
 #[inline(never)]
-fn erase_key_request<'a>(object: &mut Object<'a>) -> Option<Request<'a>>
-    ensures { result ≡ (form_of name.EraseKey).request object.old }
+fn erase_key_request<'a>(object: &Object<'a>) -> Option<Request<'a>>
+    ensures { result ≡ (form_of name.EraseKey).request object.now }
 {
     let KeyMembers { table, index, key } = key_members(object)?;
     Some(Request::EraseKey { table, index, key })
@@ -175,8 +168,8 @@ fn get_request<'a>(object: &Object<'a>) -> Option<Request<'a>>
 }
 
 #[inline(never)]
-fn find_request<'a>(object: &mut Object<'a>) -> Option<Request<'a>>
-    ensures { result ≡ (form_of name.Find).request object.old }
+fn find_request<'a>(object: &Object<'a>) -> Option<Request<'a>>
+    ensures { result ≡ (form_of name.Find).request object.now }
 {
     let KeyMembers { table, index, key } = key_members(object)?;
     Some(Request::Find { table, index, key })
@@ -193,16 +186,16 @@ fn nth_request<'a>(object: &Object<'a>) -> Option<Request<'a>>
 }
 
 #[inline(never)]
-fn count_request<'a>(object: &mut Object<'a>) -> Option<Request<'a>>
-    ensures { result ≡ (form_of name.Count).request object.old }
+fn count_request<'a>(object: &Object<'a>) -> Option<Request<'a>>
+    ensures { result ≡ (form_of name.Count).request object.now }
 {
     let KeyMembers { table, index, key } = key_members(object)?;
     Some(Request::Count { table, index, key })
 }
 
 #[inline(never)]
-fn range_request<'a>(object: &mut Object<'a>) -> Option<Request<'a>>
-    ensures { result ≡ (form_of name.Range).request object.old }
+fn range_request<'a>(object: &Object<'a>) -> Option<Request<'a>>
+    ensures { result ≡ (form_of name.Range).request object.now }
 {
     let table = text_if_there(object, "table")?;
     let index = text(object, "index")?;
@@ -249,16 +242,16 @@ fn rank_request<'a>(object: &Object<'a>) -> Option<Request<'a>>
 }
 
 #[inline(never)]
-fn lower_rank_request<'a>(object: &mut Object<'a>) -> Option<Request<'a>>
-    ensures { result ≡ (form_of name.LowerRank).request object.old }
+fn lower_rank_request<'a>(object: &Object<'a>) -> Option<Request<'a>>
+    ensures { result ≡ (form_of name.LowerRank).request object.now }
 {
     let KeyMembers { table, index, key } = key_members(object)?;
     Some(Request::LowerRank { table, index, key })
 }
 
 #[inline(never)]
-fn upper_rank_request<'a>(object: &mut Object<'a>) -> Option<Request<'a>>
-    ensures { result ≡ (form_of name.UpperRank).request object.old }
+fn upper_rank_request<'a>(object: &Object<'a>) -> Option<Request<'a>>
+    ensures { result ≡ (form_of name.UpperRank).request object.now }
 {
     let KeyMembers { table, index, key } = key_members(object)?;
     Some(Request::UpperRank { table, index, key })
@@ -273,12 +266,8 @@ fn size_request<'a>(object: &Object<'a>) -> Option<Request<'a>>
 }
 
 /// The request that the members of a command are.
-pub(crate) fn request_by<'a>(
-    arena: &'a Bump,
-    name: CommandName,
-    object: &mut Object<'a>,
-) -> Option<Request<'a>>
-    ensures { result ≡ lines.request_by object.old (form_of name) }
+pub(crate) fn request_by<'a>(name: CommandName, object: &Object<'a>) -> Option<Request<'a>>
+    ensures { result ≡ lines.request_by object.now (form_of name) }
 {
     if !name.allows(object) {
         return None;
@@ -286,7 +275,7 @@ pub(crate) fn request_by<'a>(
     match name {
         CommandName::Insert => insert_request(object),
         CommandName::Replace => replace_request(object),
-        CommandName::Modify => modify_request(arena, object),
+        CommandName::Modify => modify_request(object),
         CommandName::Erase => erase_request(object),
         CommandName::EraseKey => erase_key_request(object),
         CommandName::Relocate => relocate_request(object),

@@ -5,9 +5,9 @@ ghost use Rattle.mi_request.specs.Lines.{command_line};
 ghost use Rattle.mi_request.specs.Row.{IsRow};
 
 use crate::object::Object;
+use crate::reading::object_of;
 use crate::request::Request;
 use crate::text::text_of;
-use crate::value::Json;
 use bumpalo::Bump;
 use mi_tokens::pass_last_member;
 
@@ -18,7 +18,7 @@ const NAME_AT: usize = 8;
 fn last_row<'a>(arena: &'a Bump, text: &'a str) -> Option<Object<'a>>
     ensures { IfSome result (λ row. IsRow text.now row) }
 {
-    Json::new(pass_last_member(arena, text)?).into_object()
+    object_of(&pass_last_member(arena, text)?)
 }
 
 /// The request of an insert whose row comes last. The row lies in the arena, and its names and texts are borrowed from the line.

@@ -1,4 +1,5 @@
-//! Lines to requests, with memory that is kept from line to line: a scratch for texts, and an arena for arrays and objects.
+//! Lines to requests, with memory that is kept from line to line: an arena for arrays and objects, and the value of a line that
+//! `serde_json` read.
 ghost use Rattle.std.specs.Prelude.{◌≡◌, codes, Some, Ok, IfErr};
 ghost use Rattle.mi_request.specs.Answers.{IsAnswer, NamesNoIndex};
 ghost use Rattle.mi_request.specs.Lines.{command_line};
@@ -6,39 +7,41 @@ ghost use Rattle.mi_request.specs.Short.{short_line};
 ghost use Rattle.mi_request.specs.declared.request.Request.{Request as Asked};
 ghost use Rattle.mi_request.specs.declared.request.Request.TheVariants as request;
 
+use crate::bare::Bare;
 use crate::insert::insert_line;
 use crate::request::{Request, request_of};
 use crate::short::short_of;
-use crate::tree::read_value;
+use crate::value::read_value;
 use bumpalo::Bump;
-use json::Scratch;
 use mi_value::Refusal;
+use serde_json::Value;
 use std::alloc::Global;
 
 /// Bytes that the arena keeps between lines, at most.
 const KEPT_ARENA: usize = 64 * 1024;
 
-/// Reads lines, and keeps the memory that reading took: at most the length of the longest line for texts, and 64 KiB for
-/// arrays and objects.
+/// Reads lines, and keeps the memory that reading took: at most 64 KiB for arrays and objects, and up to the next line that takes
+/// memory the value that `serde_json` read.
 #[derive(Drop)]
 pub struct LineReader {
     alloc: Global,
-    scratch: Scratch,
     arena: Bump,
+    value: Value,
 }
 
 /// The request that any line is, by the value that it is.
 #[inline(never)]
 fn read_any<'a>(
+    alloc: Global,
     arena: &'a Bump,
-    scratch: &'a mut Scratch,
+    kept: &'a mut Value,
     line: &'a [u8],
 ) -> Result<Request<'a>, Refusal>
     ensures answer { IsAnswer result (command_line line.now) }
     ensures refusal { IfErr result NamesNoIndex }
 {
-    let value = read_value(arena, scratch, line)?;
-    request_of(arena, value).ok_or(Refusal::Form)
+    let value = read_value(alloc, arena, kept, line)?;
+    request_of(&value).ok_or(Refusal::Form)
 }
 
 impl LineReader {
@@ -46,13 +49,14 @@ impl LineReader {
     pub fn new(alloc: Global) -> LineReader {
         LineReader {
             alloc,
-            scratch: Scratch::new(alloc),
             arena: Bump::new(alloc),
+            value: Value::Null,
         }
     }
 
-    /// Makes the arena empty. One that has grown past what is kept is given up.
-    fn empty_arena(&mut self) {
+    /// Gives up the value that is kept, and makes the arena empty. An arena that has grown past what is kept is given up.
+    fn empty(&mut self) {
+        self.value = Value::Null;
         if self.arena.reset().is_err() || self.arena.allocated_bytes() > KEPT_ARENA {
             self.arena = Bump::new(self.alloc);
         }
@@ -63,25 +67,29 @@ impl LineReader {
         ensures answer { IsAnswer result (command_line line.now) }
         ensures refusal { IfErr result NamesNoIndex }
     {
-        self.empty_arena();
+        self.empty();
+        let alloc = self.alloc;
         let arena = &self.arena;
         if let Some(request) = insert_line(arena, line) {
             return Ok(request);
         }
-        read_any(arena, &mut self.scratch, line)
+        read_any(alloc, arena, &mut self.value, line)
     }
 
     /// The request that a line, without its newline, is. Its names and values are borrowed from the line and from this reader.
-    /// Refusals: `Json` where the bytes are not UTF-8 or no JSON, `Form` where the value is no command, and `Memory`. The line of a
-    /// request that has no text, written as `short_line` says, takes no memory: so `{"cmd":"undo"}`, byte for byte.
+    /// Refusals: `Json` where the bytes are not UTF-8 or no JSON, `Form` where the value is no command, and `Memory`. A line whose members
+    /// are names and whole numbers, written as `short_line` says, takes no memory: so `{"cmd":"undo"}`, byte for byte.
     pub fn parse<'a>(&'a mut self, line: &'a [u8]) -> Result<Request<'a>, Refusal>
         ensures answer { IsAnswer result (command_line line.now) }
         ensures refusal { IfErr result NamesNoIndex }
         ensures undo { line.now ≡ codes "{\"cmd\":\"undo\"}" → result ≡ Ok request.Undo }
         ensures short { (r : Asked) → short_line r ≡ Some line.now → result ≡ Ok r }
     {
+        if let Some(bare) = Bare::of_line(line) {
+            return Ok(bare.request());
+        }
         match short_of(line) {
-            Some(short) => Ok(short.request()),
+            Some(request) => Ok(request),
             None => self.read(line),
         }
     }

@@ -1,39 +1,36 @@
 //! What each kind of member is. It knows no command.
-ghost use Rattle.std.specs.Prelude.{◌≡◌, option_and_then, None, false};
+ghost use Rattle.std.specs.Prelude.{◌≡◌, option_map, None, false};
 ghost use Rattle.serde_json.specs.Data.{no_members};
 ghost use Rattle.serde_json.specs.Find.{as_str, as_array, as_bool, as_object};
+ghost use Rattle.mi_tokens.specs.Meaning.{meaning};
 ghost use Rattle.mi_request.specs.Commands as commands;
 ghost use Rattle.mi_request.specs.Json as kinds;
-ghost use Rattle.mi_request.specs.Json.{needed, optional, default, default_if};
-ghost use Rattle.mi_request.specs.Meant.{seen};
+ghost use Rattle.mi_request.specs.Json.{needed, optional, default};
 ghost use Rattle.mi_request.specs.declared.request.End.TheVariants.{Open};
 ghost use Rattle.mi_value.specs.declared.limits.TheConstants.{MAX_PAGE};
 
 use crate::array::Array;
 use crate::name::Name;
-use crate::numbers::whole_number;
 use crate::object::Object;
 use crate::request::{End, Place};
-use crate::value::{Json, flag_in};
-use bumpalo::Bump;
-use mi_tokens::Tree;
+use mi_tokens::Json;
 use mi_value::limits::MAX_PAGE;
 
-fn name_of<'a>(value: &Tree<'a>) -> Option<Name<'a>>
-    ensures { result ≡ as_str (seen value.now) }
+fn name_of<'a>(value: &Json<'a>) -> Option<Name<'a>>
+    ensures { result ≡ as_str (meaning value.now) }
 {
     Some(Name::new(value.as_str()?))
 }
 
-fn natural_of(value: &Tree<'_>) -> Option<u64>
-    ensures { result ≡ kinds.natural (seen value.now) }
+fn natural_of(value: &Json<'_>) -> Option<u64>
+    ensures { result ≡ kinds.natural (meaning value.now) }
 {
-    let n = whole_number(value.as_number()?)?;
+    let n = value.as_i64()?;
     if n >= 0 { Some(n as u64) } else { None }
 }
 
-fn natural_or_null(value: &Tree<'_>) -> Option<Option<u64>>
-    ensures { result ≡ commands.natural_or_null (seen value.now) }
+fn natural_or_null(value: &Json<'_>) -> Option<Option<u64>>
+    ensures { result ≡ commands.natural_or_null (meaning value.now) }
 {
     if value.is_null() {
         return Some(None);
@@ -90,13 +87,13 @@ pub(crate) fn flag(object: &Object<'_>, name: &str) -> Option<bool>
     ensures { result ≡ default false as_bool name.now object.now }
 {
     match object.get(name) {
-        Some(value) => flag_in(value),
+        Some(value) => value.as_bool(),
         None => Some(false),
     }
 }
 
-fn up_to_of(value: &Tree<'_>, most: u64) -> Option<u64>
-    ensures { result ≡ commands.up_to most (seen value.now) }
+fn up_to_of(value: &Json<'_>, most: u64) -> Option<u64>
+    ensures { result ≡ commands.up_to most (meaning value.now) }
 {
     let n = natural_of(value)?;
     if n <= most { Some(n) } else { None }
@@ -109,8 +106,8 @@ pub(crate) fn up_to(object: &Object<'_>, name: &str, most: u64) -> Option<u64>
     up_to_of(object.get(name)?, most)
 }
 
-fn page_of(value: &Tree<'_>) -> Option<usize>
-    ensures { result ≡ commands.page (seen value.now) }
+fn page_of(value: &Json<'_>) -> Option<usize>
+    ensures { result ≡ commands.page (meaning value.now) }
 {
     let n = natural_of(value)?;
     if 1 <= n && n <= MAX_PAGE as u64 {
@@ -130,26 +127,41 @@ pub(crate) fn page(object: &Object<'_>, name: &str) -> Option<usize>
     }
 }
 
-pub(crate) fn needed_object<'a>(member: Option<Json<'a>>) -> Option<Object<'a>>
-    ensures { result ≡ option_and_then as_object member.entry }
+/// The object that a value is.
+pub(crate) fn object_of<'a>(value: &Json<'a>) -> Option<Object<'a>>
+    ensures { result ≡ as_object (meaning value.now) }
 {
-    member?.into_object()
+    Some(Object::new(value.as_members()?))
+}
+
+fn array_of<'a>(value: &Json<'a>) -> Option<Array<'a>>
+    ensures { result ≡ as_array (meaning value.now) }
+{
+    Some(Array::new(value.as_items()?))
+}
+
+/// The object of a member.
+pub(crate) fn object<'a>(object: &Object<'a>, name: &str) -> Option<Object<'a>>
+    ensures { result ≡ needed as_object name.now object.now }
+{
+    object_of(object.get(name)?)
 }
 
 /// An object; absent it has no members.
-pub(crate) fn object_or_empty<'a>(arena: &'a Bump, member: Option<Json<'a>>) -> Option<Object<'a>>
-    ensures { result ≡ default_if no_members as_object member.entry }
+pub(crate) fn object_or_empty<'a>(object: &Object<'a>, name: &str) -> Option<Object<'a>>
+    ensures { result ≡ default no_members as_object name.now object.now }
 {
-    match member {
-        Some(value) => value.into_object(),
-        None => Some(Object::new(Vec::new(arena))),
+    match object.get(name) {
+        Some(value) => object_of(value),
+        None => Some(Object::new(&[])),
     }
 }
 
-pub(crate) fn array<'a>(member: Option<Json<'a>>) -> Option<Array<'a>>
-    ensures { result ≡ option_and_then as_array member.entry }
+/// The array of a member.
+pub(crate) fn array<'a>(object: &Object<'a>, name: &str) -> Option<Array<'a>>
+    ensures { result ≡ needed as_array name.now object.now }
 {
-    member?.into_array()
+    array_of(object.get(name)?)
 }
 
 /// The place that an object with exactly `index` and `id` names.
@@ -164,73 +176,71 @@ fn place_of<'a>(object: &Object<'a>) -> Option<Place<'a>>
     Some(Place { index, id })
 }
 
-fn place_or_null<'a>(value: Json<'a>) -> Option<Option<Place<'a>>>
-    ensures { result ≡ commands.place_or_none value.entry }
+fn place_or_null<'a>(value: &Json<'a>) -> Option<Option<Place<'a>>>
+    ensures { result ≡ commands.place_or_none (meaning value.now) }
 {
     if value.is_null() {
         return Some(None);
     }
-    Some(Some(place_of(&value.into_object()?)?))
+    Some(Some(place_of(&object_of(value)?)?))
 }
 
 /// The place before which a record is inserted; null is as absent.
-pub(crate) fn place<'a>(member: Option<Json<'a>>) -> Option<Option<Place<'a>>>
-    ensures { result ≡ default_if None commands.place_or_none member.entry }
+pub(crate) fn place<'a>(object: &Object<'a>, name: &str) -> Option<Option<Place<'a>>>
+    ensures { result ≡ default None commands.place_or_none name.now object.now }
 {
-    match member {
+    match object.get(name) {
         Some(value) => place_or_null(value),
         None => Some(None),
     }
 }
 
 /// An end of a range by a key that is in it, or by one that isn't, and not both.
-fn one_end<'a>(with: Option<Json<'a>>, without: Option<Json<'a>>) -> Option<End<'a>>
-    ensures { result ≡ commands.one_end with.entry without.entry }
+fn one_end<'a>(with: Option<&Json<'a>>, without: Option<&Json<'a>>) -> Option<End<'a>>
+    ensures { result ≡ commands.one_end (option_map (λ v. meaning v.now) with.entry) (option_map (λ v. meaning v.now) without.entry) }
 {
     match (with, without) {
-        (Some(value), None) => Some(End::With(value.into_array()?)),
-        (None, Some(value)) => Some(End::Without(value.into_array()?)),
+        (Some(value), None) => Some(End::With(array_of(value)?)),
+        (None, Some(value)) => Some(End::Without(array_of(value)?)),
         _ => None,
     }
 }
 
-fn lower_end<'a>(value: Json<'a>) -> Option<End<'a>>
-    ensures { result ≡ commands.lower_end value.entry }
+fn lower_end<'a>(value: &Json<'a>) -> Option<End<'a>>
+    ensures { result ≡ commands.lower_end (meaning value.now) }
 {
-    let mut object = value.into_object()?;
+    let object = object_of(value)?;
     if !object.has_only(&["ge", "gt"]) {
         return None;
     }
-    let (with, without) = object.move_two_out("ge", "gt");
-    one_end(with, without)
+    one_end(object.get("ge"), object.get("gt"))
 }
 
-fn upper_end<'a>(value: Json<'a>) -> Option<End<'a>>
-    ensures { result ≡ commands.upper_end value.entry }
+fn upper_end<'a>(value: &Json<'a>) -> Option<End<'a>>
+    ensures { result ≡ commands.upper_end (meaning value.now) }
 {
-    let mut object = value.into_object()?;
+    let object = object_of(value)?;
     if !object.has_only(&["le", "lt"]) {
         return None;
     }
-    let (with, without) = object.move_two_out("le", "lt");
-    one_end(with, without)
+    one_end(object.get("le"), object.get("lt"))
 }
 
 /// The lower end of a range: an object with exactly `ge` or `gt`, an array. Absent it is open.
-pub(crate) fn lower<'a>(member: Option<Json<'a>>) -> Option<End<'a>>
-    ensures { result ≡ default_if Open commands.lower_end member.entry }
+pub(crate) fn lower<'a>(object: &Object<'a>, name: &str) -> Option<End<'a>>
+    ensures { result ≡ default Open commands.lower_end name.now object.now }
 {
-    match member {
+    match object.get(name) {
         Some(value) => lower_end(value),
         None => Some(End::Open),
     }
 }
 
 /// The upper end of a range: an object with exactly `le` or `lt`, an array. Absent it is open.
-pub(crate) fn upper<'a>(member: Option<Json<'a>>) -> Option<End<'a>>
-    ensures { result ≡ default_if Open commands.upper_end member.entry }
+pub(crate) fn upper<'a>(object: &Object<'a>, name: &str) -> Option<End<'a>>
+    ensures { result ≡ default Open commands.upper_end name.now object.now }
 {
-    match member {
+    match object.get(name) {
         Some(value) => upper_end(value),
         None => Some(End::Open),
     }

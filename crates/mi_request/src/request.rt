@@ -1,6 +1,7 @@
 //! From a JSON value to a request. It knows no catalog.
 ghost use Rattle.std.specs.Prelude.{◌≡◌, codes, option_and_then};
 ghost use Rattle.serde_json.specs.Find.{as_str};
+ghost use Rattle.mi_tokens.specs.Meaning.{meaning};
 ghost use Rattle.mi_request.specs.Commands as commands;
 ghost use Rattle.mi_request.specs.Commands.{command_named};
 ghost use Rattle.mi_request.specs.Json.{needed};
@@ -11,8 +12,8 @@ use crate::command::CommandName;
 use crate::forms::request_by;
 use crate::name::Name;
 use crate::object::Object;
-use crate::value::Json;
-use bumpalo::Bump;
+use crate::reading::object_of;
+use mi_tokens::Json;
 
 /// A place in a sequenced index, by its name: directly before the record of this id, 0 to 2^63 - 1.
 #[derive(Drop)]
@@ -179,10 +180,10 @@ fn name_in(object: &Object<'_>) -> Option<CommandName>
 }
 
 /// The request that a JSON value is.
-pub(crate) fn request_of<'a>(arena: &'a Bump, value: Json<'a>) -> Option<Request<'a>>
-    ensures { result ≡ lines.request_of value.entry }
+pub(crate) fn request_of<'a>(value: &Json<'a>) -> Option<Request<'a>>
+    ensures { result ≡ lines.request_of (meaning value.now) }
 {
-    let mut object = value.into_object()?;
+    let object = object_of(value)?;
     let name = name_in(&object)?;
-    request_by(arena, name, &mut object)
+    request_by(name, &object)
 }

@@ -1,119 +1,187 @@
-//! Lines without a text for the database, read where they stand as they are written without spaces. It takes no memory.
-ghost use Rattle.std.specs.Prelude.{◌≡◌, ◌<◌, ◌^◌, ◌&&◌, nat_lt, IfSome, IsSome, Some, bytes_eq, codes, decimal, option_map, ℕ};
-ghost use Rattle.mi_request.specs.Short.{number_line, short_line, numberless_line, asked};
+//! Lines whose members are names and whole numbers, read where they stand as they are written without spaces. It takes no memory.
+ghost use Rattle.std.specs.Prelude.{◌≡◌, ◌∷◌, [], ℕ, List, IfSome, IsSome, Some, None, codes, option_map};
+ghost use Rattle.mi_request.specs.Bare.{bare_line};
+ghost use Rattle.mi_request.specs.Short.{short_line, table_is, index_is, id_is, whole, whole_front};
+ghost use Rattle.mi_request.specs.ShortCode.{IsRead, read_members, a_name, perhaps_name, a_whole, perhaps_whole};
 ghost use Rattle.mi_request.specs.declared.request.Request.{Request as Asked};
 
-use crate::bare::{Bare, is_text};
+use crate::name::Name;
 use crate::request::Request;
-use fast_float::parse_u64;
-use itoa::Buffer;
+use crate::words::{
+    behind, is_end, maybe_name_behind, maybe_whole_behind, name_behind, whole_behind,
+};
 
-/// Bytes of a short line, at most: so many has a commit with a number of 19 digits.
-const LONGEST: usize = 47;
-
-/// Where the third letter of the command's name stands in a short line.
+/// Where the third letter of the command's name stands in such a line.
 const LETTER_AT: usize = 10;
 
-/// What a short line asks: a request without a text, and its number.
-#[derive(Clone, Copy)]
-pub(crate) enum Short {
-    Bare(Bare),
-    Commit(u64),
-    Get(u64),
-    Erase(u64),
-    Size,
+/// A record by its id: the members of a get and of an erase.
+#[derive(Drop)]
+struct RecordIn<'a> {
+    table: Option<Name<'a>>,
+    id: u64,
 }
 
-impl Short {
-    /// The request that it asks.
-    #[inline(always)]
-    pub(crate) fn request<'a>(self) -> Request<'a>
-        ensures { result ≡ asked self }
-    {
-        match self {
-            Short::Bare(bare) => bare.request(),
-            Short::Commit(revision) => Request::Commit { revision },
-            Short::Get(id) => Request::Get { table: None, id },
-            Short::Erase(id) => Request::Erase { table: None, id },
-            Short::Size => Request::Size { table: None },
-        }
-    }
-}
-
-/// Whether a text is how a number up to 2^63 - 1 is written.
-fn is_natural(n: u64, text: &[u8]) -> bool
-    ensures { result ≡ (nat_lt n (2 ^ 63) && bytes_eq (decimal n) text.now) }
-{
-    let mut buffer = Buffer::new();
-    n < 1 << 63 && buffer.format(n).as_bytes() == text
-}
-
-/// The number that a text writes without zeros in front, 0 to 2^63 - 1.
-fn natural_text(text: &[u8]) -> Option<u64>
-    ensures value { IfSome result (λ n. (text.now ≡ decimal n) × (n < 2 ^ 63)) }
-    ensures whole { (n : ℕ) → n < 2 ^ 63 → text.now ≡ decimal n → result ≡ Some n }
-{
-    let n = parse_u64(text).ok()?;
-    if is_natural(n, text) { Some(n) } else { None }
-}
-
-/// The number between a front and the brace that ends the line.
-fn number_behind(front: &[u8], line: &[u8]) -> Option<u64>
-    ensures value { IfSome result (λ n. number_line front.now n ≡ Some line.now) }
-    ensures whole { (n : ℕ) → number_line front.now n ≡ Some line.now → result ≡ Some n }
-{
-    let text = line.strip_prefix(front)?.strip_suffix(b"}".as_slice())?;
-    natural_text(text)
-}
-
-/// The short line without members that a line is.
+/// Its members, to the end of the line.
 #[inline(always)]
-fn numberless(line: &[u8]) -> Option<Short>
-    ensures value { option_map asked result ≡ numberless_line line.now }
+fn record_of(text: &[u8]) -> Option<RecordIn<'_>>
+    ensures { option_map (λ m. table_is m.table ∷ id_is m.id ∷ []) result
+        ≡ read_members ((codes "table", perhaps_name) ∷ (codes "id", a_whole) ∷ []) text.now }
 {
-    if let Some(bare) = Bare::of_line(line) {
-        return Some(Short::Bare(bare));
-    }
-    if is_text(line, b"{\"cmd\":\"size\"}") {
-        Some(Short::Size)
+    let (table, rest) = maybe_name_behind(b",\"table\":\"".as_slice(), text)?;
+    let (id, rest) = whole_behind(b",\"id\":".as_slice(), rest)?;
+    if is_end(rest) {
+        Some(RecordIn { table, id })
     } else {
         None
     }
 }
 
-/// The short line with the id of a record to be erased that a line is, or the one without members.
-#[inline(always)]
-fn erase_or_numberless(line: &[u8]) -> Option<Short>
-    ensures value { IfSome result (λ s. short_line (asked s) ≡ Some line.now) }
-    ensures erase { (n : ℕ) → number_line (codes "{\"cmd\":\"erase\",\"id\":") n ≡ Some line.now → IsSome result }
-    ensures numberless { IsSome (numberless_line line.now) → IsSome result }
-{
-    if let Some(id) = number_behind(b"{\"cmd\":\"erase\",\"id\":".as_slice(), line) {
-        return Some(Short::Erase(id));
-    }
-    numberless(line)
+/// A number in an index: the members of a rank and of an nth.
+#[derive(Drop)]
+struct PlaceIn<'a> {
+    table: Option<Name<'a>>,
+    index: Name<'a>,
+    n: u64,
 }
 
-/// The short line that a line is, where it is written as `short_line` writes it. The third letter of the command's name tells which
-/// it can be.
+/// Its members, the number behind this front, to the end of the line.
 #[inline(always)]
-pub(crate) fn short_of(line: &[u8]) -> Option<Short>
-    ensures value { IfSome result (λ s. short_line (asked s) ≡ Some line.now) }
-    ensures whole { (r : Asked) → short_line r ≡ Some line.now → IsSome result }
+fn place_of<'a>(front: &[u8], text: &'a [u8]) -> Option<PlaceIn<'a>>
+    ensures { (name : List ℕ) → front.now ≡ whole_front name
+        → option_map (λ m. table_is m.table ∷ index_is m.index ∷ (name, whole m.n) ∷ []) result
+        ≡ read_members ((codes "table", perhaps_name) ∷ (codes "index", a_name) ∷ (name, a_whole) ∷ []) text.now }
 {
-    if line.len() > LONGEST || line.len() <= LETTER_AT {
+    let (table, rest) = maybe_name_behind(b",\"table\":\"".as_slice(), text)?;
+    let (index, rest) = name_behind(b",\"index\":\"".as_slice(), rest)?;
+    let (n, rest) = whole_behind(front, rest)?;
+    if is_end(rest) {
+        Some(PlaceIn { table, index, n })
+    } else {
+        None
+    }
+}
+
+/// The line of a look-up by id.
+#[inline(never)]
+fn get(line: &[u8]) -> Option<Request<'_>>
+    ensures { IsRead (codes "get") ((codes "table", perhaps_name) ∷ (codes "id", a_whole) ∷ []) line.now result }
+{
+    let members = record_of(behind(b"{\"cmd\":\"get\"".as_slice(), line)?)?;
+    Some(Request::Get {
+        table: members.table,
+        id: members.id,
+    })
+}
+
+/// The line of an erase.
+#[inline(never)]
+fn erase(line: &[u8]) -> Option<Request<'_>>
+    ensures { IsRead (codes "erase") ((codes "table", perhaps_name) ∷ (codes "id", a_whole) ∷ []) line.now result }
+{
+    let members = record_of(behind(b"{\"cmd\":\"erase\"".as_slice(), line)?)?;
+    Some(Request::Erase {
+        table: members.table,
+        id: members.id,
+    })
+}
+
+/// The line that asks a record's rank.
+#[inline(never)]
+fn rank(line: &[u8]) -> Option<Request<'_>>
+    ensures { IsRead (codes "rank") ((codes "table", perhaps_name) ∷ (codes "index", a_name) ∷ (codes "id", a_whole) ∷ []) line.now result }
+{
+    let rest = behind(b"{\"cmd\":\"rank\"".as_slice(), line)?;
+    let members = place_of(b",\"id\":".as_slice(), rest)?;
+    Some(Request::Rank {
+        table: members.table,
+        index: members.index,
+        id: members.n,
+    })
+}
+
+/// The line that asks the record of a rank.
+#[inline(never)]
+fn nth(line: &[u8]) -> Option<Request<'_>>
+    ensures { IsRead (codes "nth") ((codes "table", perhaps_name) ∷ (codes "index", a_name) ∷ (codes "n", a_whole) ∷ []) line.now result }
+{
+    let rest = behind(b"{\"cmd\":\"nth\"".as_slice(), line)?;
+    let members = place_of(b",\"n\":".as_slice(), rest)?;
+    Some(Request::Nth {
+        table: members.table,
+        index: members.index,
+        n: members.n,
+    })
+}
+
+/// The line that asks a table's size.
+#[inline(never)]
+fn size(line: &[u8]) -> Option<Request<'_>>
+    ensures { IsRead (codes "size") ((codes "table", perhaps_name) ∷ []) line.now result }
+{
+    let rest = behind(b"{\"cmd\":\"size\"".as_slice(), line)?;
+    let (table, rest) = maybe_name_behind(b",\"table\":\"".as_slice(), rest)?;
+    if is_end(rest) {
+        Some(Request::Size { table })
+    } else {
+        None
+    }
+}
+
+/// The line of a commit.
+#[inline(never)]
+fn commit(line: &[u8]) -> Option<Request<'_>>
+    ensures { IsRead (codes "commit") ((codes "revision", a_whole) ∷ []) line.now result }
+{
+    let rest = behind(b"{\"cmd\":\"commit\"".as_slice(), line)?;
+    let (revision, rest) = whole_behind(b",\"revision\":".as_slice(), rest)?;
+    if is_end(rest) {
+        Some(Request::Commit { revision })
+    } else {
+        None
+    }
+}
+
+/// The line of a relocation, before a record or to the end.
+#[inline(never)]
+fn relocate(line: &[u8]) -> Option<Request<'_>>
+    ensures { IsRead (codes "relocate")
+        ((codes "table", perhaps_name) ∷ (codes "index", a_name) ∷ (codes "id", a_whole) ∷ (codes "before", perhaps_whole) ∷ []) line.now result }
+{
+    let rest = behind(b"{\"cmd\":\"relocate\"".as_slice(), line)?;
+    let (table, rest) = maybe_name_behind(b",\"table\":\"".as_slice(), rest)?;
+    let (index, rest) = name_behind(b",\"index\":\"".as_slice(), rest)?;
+    let (id, rest) = whole_behind(b",\"id\":".as_slice(), rest)?;
+    let (before, rest) = maybe_whole_behind(b",\"before\":".as_slice(), rest)?;
+    if is_end(rest) {
+        Some(Request::Relocate {
+            table,
+            index,
+            id,
+            before,
+        })
+    } else {
+        None
+    }
+}
+
+/// The request that a short line with members asks, where it is written as `short_line` writes it, and a size. The third letter of the
+/// command's name tells which it can be.
+#[inline(always)]
+pub(crate) fn short_of(line: &[u8]) -> Option<Request<'_>>
+    ensures value { IfSome result (λ r. short_line r ≡ Some line.now) }
+    ensures whole { (r : Asked) → bare_line line.now ≡ None → short_line r ≡ Some line.now → IsSome result }
+{
+    if line.len() <= LETTER_AT {
         return None;
     }
     match line[LETTER_AT] {
-        b't' => {
-            let id = number_behind(b"{\"cmd\":\"get\",\"id\":".as_slice(), line)?;
-            Some(Short::Get(id))
-        }
-        b'm' => {
-            let revision = number_behind(b"{\"cmd\":\"commit\",\"revision\":".as_slice(), line)?;
-            Some(Short::Commit(revision))
-        }
-        b'a' => erase_or_numberless(line),
-        _ => numberless(line),
+        b't' => get(line),
+        b'n' => rank(line),
+        b'm' => commit(line),
+        b'h' => nth(line),
+        b'l' => relocate(line),
+        b'z' => size(line),
+        b'a' => erase(line),
+        _ => None,
     }
 }

@@ -1,94 +1,51 @@
-//! A JSON value, seen by contracts as what it means. Its texts are borrowed from where it was read, and its numbers are read when
-//! they are asked for.
-ghost use Rattle.std.specs.Prelude.{◌≡◌, option_map, option_and_then};
-ghost use Rattle.serde_json.specs.Find.{as_bool, as_number, as_i64, as_str};
-ghost use Rattle.mi_request.specs.Meant.{seen};
+//! From bytes to the JSON value that they are. A text that is written as a writer gives it, with short whole numbers, is read in one
+//! pass, any other by `serde_json`.
+ghost use Rattle.std.specs.Prelude.{◌≡◌, ◌⊎◌, Some, None, IfOk, IfErr};
+ghost use Rattle.serde_json.specs.Read.{read};
+ghost use Rattle.serde_json.specs.View.{view};
+ghost use Rattle.mi_tokens.specs.Meaning.{meaning};
+ghost use Rattle.mi_request.specs.Lines.{json_of};
 
-use crate::array::Array;
-use crate::numbers::whole_number;
-use crate::object::Object;
-use json::Value;
-use mi_tokens::Tree;
-use std::marker::Model;
+use crate::lending::lend;
+use crate::text::text_of;
+use bumpalo::Bump;
+use mi_tokens::{Json, pass_text};
+use mi_value::Refusal;
+use serde_json::Value;
+use std::alloc::Global;
 
-/// The whole number that a value is, from -2^63 to 2^63 - 1, written without point and exponent.
-#[inline(always)]
-pub fn whole_in(value: &Tree<'_>) -> Option<i64>
-    ensures { result ≡ option_and_then as_i64 (as_number (seen value.now)) }
+/// The value that `serde_json` reads. Refusals: `Json` and `Memory`.
+fn owned_value(alloc: Global, text: &str) -> Result<Value, Refusal>
+    ensures ok { IfOk result (λ v. read text.now ≡ Some (view v)) }
+    ensures err { IfErr result (λ e. (e ≡ Refusal.Memory) ⊎ ((e ≡ Refusal.Json) × (read text.now ≡ None))) }
 {
-    whole_number(value.as_number()?)
+    match Value::from_str(alloc, text) {
+        Ok(value) => Ok(value),
+        Err(e) => if e.is_memory() {
+            Err(Refusal::Memory)
+        } else {
+            Err(Refusal::Json)
+        },
+    }
 }
 
-/// Which of true and false a value is.
-#[inline(always)]
-pub fn flag_in(value: &Tree<'_>) -> Option<bool>
-    ensures { result ≡ as_bool (seen value.now) }
+/// The value that bytes are. One that `serde_json` read stays in `kept`, which lends its texts. Refusals: `Json` where the bytes are not
+/// UTF-8 or no JSON, and `Memory`.
+pub(crate) fn read_value<'a>(
+    alloc: Global,
+    arena: &'a Bump,
+    kept: &'a mut Value,
+    bytes: &'a [u8],
+) -> Result<Json<'a>, Refusal>
+    ensures ok { IfOk result (λ v. json_of bytes.now ≡ Some (meaning v)) }
+    ensures err { IfErr result (λ e. (e ≡ Refusal.Memory) ⊎ ((e ≡ Refusal.Json) × (json_of bytes.now ≡ None))) }
 {
-    value.as_bool()
-}
-
-/// The text that a value is.
-#[inline(always)]
-pub fn text_in<'a>(value: &Tree<'a>) -> Option<&'a str>
-    ensures { option_map (λ s. s.now) result ≡ as_str (seen value.now) }
-{
-    value.as_str()
-}
-
-/// A JSON value, seen as what it means.
-#[derive(Drop)]
-pub struct Json<'a> {
-    value: Tree<'a>,
-}
-
-impl<'a> Model for Json<'a> {
-    ghost use Rattle.serde_json.specs.Data.{Data};
-    ghost use Rattle.mi_request.specs.Meant.{seen};
-    ghost use Rattle.mi_request.specs.ObjectCode.{data_code};
-
-    ghost Value = { Data };
-
-    ghost coded = { data_code };
-
-    ghost view = { λ a. seen a.value };
-}
-
-impl<'a> Json<'a> {
-    ghost use Rattle.std.specs.Prelude.{◌≡◌, is_some};
-    ghost use Rattle.serde_json.specs.Find.{as_null, as_array, as_object};
-    ghost use Rattle.mi_request.specs.Meant.{seen};
-
-    /// What a value means.
-    pub fn new(value: Tree<'a>) -> Json<'a>
-        ensures { result ≡ seen value.entry }
-    {
-        Json { value }
+    let Ok(text) = text_of(bytes) else {
+        return Err(Refusal::Json);
+    };
+    if let Some(value) = pass_text(arena, text) {
+        return Ok(value);
     }
-
-    /// Whether it is null.
-    pub fn is_null(&self) -> bool
-        ensures { result ≡ is_some (as_null self.now) }
-    {
-        self.value.is_null()
-    }
-
-    /// The array that it is.
-    pub fn into_array(self) -> Option<Array<'a>>
-        ensures { result ≡ as_array self.entry }
-    {
-        match self.value {
-            Value::Array(items) => Some(Array::new(items)),
-            _other => None,
-        }
-    }
-
-    /// The object that it is.
-    pub fn into_object(self) -> Option<Object<'a>>
-        ensures { result ≡ as_object self.entry }
-    {
-        match self.value {
-            Value::Object(members) => Some(Object::new(members)),
-            _other => None,
-        }
-    }
+    *kept = owned_value(alloc, text)?;
+    Ok(lend(arena, kept)?)
 }

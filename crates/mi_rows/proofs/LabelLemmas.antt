@@ -11,13 +11,13 @@ use Rattle.std.specs.Cmp.Lexicographic.{slice_cmp}
 use Rattle.json.specs.Print.{quoted}
 use Rattle.serde_json.specs.Data.{number}
 use Rattle.serde_json.specs.Find.{of_integer}
-use Rattle.serde_json.specs.Written.{compact_text, comma_if, members_text}
+use Rattle.serde_json.specs.Written.{compact_text, members_text}
 use Rattle.mi_value.specs.declared.value.Value.{Value}
 use Rattle.mi_catalog.specs.declared.index.Column.{Column}
 use Rattle.arrayvec.specs.ArrayVec.{ArrayVec}
 use Rattle.mi_rows.specs.Rows.{row_members, value_data}
 use Rattle.mi_rows.specs.Shown.{first_data, source_data, shown_members, with_member}
-use Rattle.mi_rows.specs.Labels.{label_of, labelled_text, texts_room, text_room, first_room, source_room, labels_room, members_room, LabelShape, AreLabels}
+use Rattle.mi_rows.specs.Labels.{labels_in, labelled_text, texts_room, text_room, first_room, source_room, labels_room, members_room, LabelShape, AreLabels}
 use Rattle.mi_rows.specs.declared.shown.Member.{Member}
 
 pub integer_text : (z : ℤ) → compact_text (number (of_integer z)) ≡ signed_decimal z
@@ -53,29 +53,40 @@ pub members_room-grown : (vs : List Value) (m : Member) (ns new : List Member) �
     → members_room vs new ≤ 64 + source_room vs m.source + members_room vs ns
 members_room-grown vs m ns new is = omega (arith, ap (members_room vs) is, members_room-with_member vs m ns)
 
-pub labels_room-label_of : (vs : List Value) (ms : List Member) → labels_room vs (map label_of ms) ≡ members_room vs ms
-labels_room-label_of vs [] = refl
-labels_room-label_of vs (m ∷ ms) = ap (λ n. 64 + source_room vs m.source + n) (labels_room-label_of vs ms)
+pub labels_room-labels_in : (later : Bool) (vs : List Value) (ms : List Member) → labels_room vs (labels_in later ms) ≡ members_room vs ms
+labels_room-labels_in later vs [] = refl
+labels_room-labels_in later vs (m ∷ ms) = ap (λ n. 64 + source_room vs m.source + n) (labels_room-labels_in true vs ms)
 
-pub labelled : (later : Bool) (id : ℕ) (vs : List Value) (ms : List Member)
-    → labelled_text later id vs (map label_of ms) ≡ members_text later (shown_members id vs ms)
-labelled later id vs [] = refl
-labelled later id vs (m ∷ ms) =
+-- a member behind its label, and those behind it
+labelled_one : (first : ℕ) (name value rest : List ℕ) → ((first ∷ (name ++ 58 ∷ [])) ++ value) ++ rest ≡ first ∷ (name ++ 58 ∷ (value ++ rest))
+labelled_one first name value rest =
+    ap (λ t. first ∷ t) (append_assoc (name ++ 58 ∷ []) value rest ∙ append_assoc name (58 ∷ []) (value ++ rest))
+
+labelled : (id : ℕ) (vs : List Value) (ms : List Member) → labelled_text id vs (labels_in true ms) ≡ members_text true (shown_members id vs ms)
+labelled id vs [] = refl
+labelled id vs (m ∷ ms) =
     let name = quoted m.name.now in
     let value = compact_text (source_data id vs m.source) in
-    let rest = members_text true (shown_members id vs ms) in
-    ap (λ t. (comma_if later ++ ((name ++ 58 ∷ []) ++ value)) ++ t) (labelled true id vs ms)
-    ∙ append_assoc (comma_if later) ((name ++ 58 ∷ []) ++ value) rest
-    ∙ ap (λ t. comma_if later ++ t) (append_assoc (name ++ 58 ∷ []) value rest ∙ append_assoc name (58 ∷ []) (value ++ rest))
+    ap (λ t. ((44 ∷ (name ++ 58 ∷ [])) ++ value) ++ t) (labelled id vs ms) ∙ labelled_one 44 name value (members_text true (shown_members id vs ms))
+
+-- the first member opens the row
+opened : (id : ℕ) (vs : List Value) (ms : List Member) → 0 < length ms
+    → labelled_text id vs (labels_in false ms) ≡ 123 ∷ members_text false (shown_members id vs ms)
+opened id vs [] some = absurd (omega arith)
+opened id vs (m ∷ ms) some =
+    let name = quoted m.name.now in
+    let value = compact_text (source_data id vs m.source) in
+    ap (λ t. ((123 ∷ (name ++ 58 ∷ [])) ++ value) ++ t) (labelled id vs ms) ∙ labelled_one 123 name value (members_text true (shown_members id vs ms))
 
 -- the labels of an order of all members are labels of the columns
-pub are_labels : (cs : List Column) (order : List Member) (labels : Option (ArrayVec LabelShape)) → IfSome labels (λ ls. ls.items ≡ map label_of order)
+pub are_labels : (cs : List Column) (order : List Member) (labels : Option (ArrayVec LabelShape)) → 0 < length order
+    → IfSome labels (λ ls. ls.items ≡ labels_in false order)
     → ((id : ℕ) (vs : List Value) → length cs ≤ length vs → shown_members id vs order ≡ row_members cs id vs)
     → ((vs : List Value) → members_room vs order ≤ 64 * (length cs + 1) + texts_room vs) → AreLabels cs labels
-are_labels cs order None is members room = tt
-are_labels cs order (Some ls) is members room = (
-  λ id vs long. ap (labelled_text false id vs) is ∙ labelled false id vs order ∙ ap (members_text false) (members id vs long),
-  λ vs. omega (arith, ap (labels_room vs) is, labels_room-label_of vs order, room vs),
+are_labels cs order None some is members room = tt
+are_labels cs order (Some ls) some is members room = (
+  λ id vs long. ap (labelled_text id vs) is ∙ opened id vs order some ∙ ap (λ ms. 123 ∷ members_text false ms) (members id vs long),
+  λ vs. omega (arith, ap (labels_room vs) is, labels_room-labels_in false vs order, room vs),
 )
 
 -- a value of a row that stands among the lent ones

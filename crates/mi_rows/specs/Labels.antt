@@ -1,7 +1,7 @@
 -- The members of rows as labels: what stands before each value, and the room that is enough for a row.
-use Rattle.std.specs.Prelude.{◌≡◌, ℕ, ◌+◌, ◌*◌, ◌≤◌, List, [], ◌∷◌, ◌++◌, length, drop, Bool, true, false, Option, IfSome}
+use Rattle.std.specs.Prelude.{◌≡◌, ℕ, ◌+◌, ◌*◌, ◌≤◌, List, [], ◌∷◌, ◌++◌, length, drop, Bool, true, false, Option, IfSome, if◌then◌else◌}
 use Rattle.json.specs.Print.{quoted}
-use Rattle.serde_json.specs.Written.{compact_text, comma_if, members_text}
+use Rattle.serde_json.specs.Written.{compact_text, members_text}
 use Rattle.arrayvec.specs.ArrayVec.{ArrayVec}
 use Rattle.mi_value.specs.declared.value.Value.{Value}
 use Rattle.mi_value.specs.declared.value.Value.TheVariants.{Int, Text, Flag}
@@ -17,14 +17,22 @@ pub record LabelShape : Type 0 where
   pub text : List ℕ
   pub source : Source
 
--- its name as a string, and a colon
-abbrev pub label_of : Member → LabelShape
-label_of m = record { text = quoted m.name.now ++ 58 ∷ []; source = m.source }
+-- what stands before a member: the opening bracket, or a comma before a later one
+abbrev pub opening : Bool → ℕ
+opening later = if later then 44 else 123
+
+-- that, its name as a string, and a colon
+abbrev pub label_of : Bool → Member → LabelShape
+label_of later m = record { text = opening later ∷ (quoted m.name.now ++ 58 ∷ []); source = m.source }
+
+abbrev pub labels_in : Bool → List Member → List LabelShape
+labels_in later [] = []
+labels_in later (m ∷ ms) = label_of later m ∷ labels_in true ms
 
 -- the members of a row with these labels, with the closing bracket
-abbrev pub labelled_text : Bool → ℕ → List Value → List LabelShape → List ℕ
-labelled_text later id vs [] = 125 ∷ []
-labelled_text later id vs (l ∷ ls) = (comma_if later ++ (l.text ++ compact_text (source_data id vs l.source))) ++ labelled_text true id vs ls
+abbrev pub labelled_text : ℕ → List Value → List LabelShape → List ℕ
+labelled_text id vs [] = 125 ∷ []
+labelled_text id vs (l ∷ ls) = (l.text ++ compact_text (source_data id vs l.source)) ++ labelled_text id vs ls
 
 -- the room for the bytes of a text, each of which may need an escape of six
 abbrev pub text_room : Value → ℕ
@@ -54,8 +62,8 @@ abbrev pub members_room : List Value → List Member → ℕ
 members_room vs [] = 0
 members_room vs (m ∷ ms) = 64 + source_room vs m.source + members_room vs ms
 
--- labels of columns: with them each row that has a value for every column has its members' text, in this room; none are labels of any
+-- labels of columns: with them each row that has a value for every column has its text, in this room; none are labels of any
 abbrev pub AreLabels : List TableColumn → Option (ArrayVec LabelShape) → Type 0
 AreLabels cs labels = IfSome labels (λ ls.
-    ((id : ℕ) (vs : List Value) → length cs ≤ length vs → labelled_text false id vs ls.items ≡ members_text false (row_members cs id vs))
+    ((id : ℕ) (vs : List Value) → length cs ≤ length vs → labelled_text id vs ls.items ≡ 123 ∷ members_text false (row_members cs id vs))
     × ((vs : List Value) → labels_room vs ls.items ≤ 64 * (length cs + 1) + texts_room vs))

@@ -1,6 +1,7 @@
 //! What is the same in each row of a reply: the members in the order of their names, each as a label, the bytes that stand before its
-//! value, and where the value stands. They are made without memory, and kept with a copy of the columns that they were made of.
-ghost use Rattle.std.specs.Prelude.{◌≡◌, ◌≤◌, length, map, IfOk, IfSome};
+//! value, the row's bracket or the comma among them, and where the value stands. They are made without memory, and kept with a copy of
+//! the columns that they were made of.
+ghost use Rattle.std.specs.Prelude.{◌≡◌, ◌≤◌, length, false, IfOk, IfSome};
 ghost use Rattle.std.specs.Bool.{OnTrue};
 ghost use Rattle.arrayvec.specs.ArrayVec.{array_vec_len};
 ghost use Rattle.mi_value.specs.declared.limits.TheConstants.{MAX_COLUMNS};
@@ -15,7 +16,7 @@ use mi_value::limits::MAX_NAME;
 use std::alloc::{AllocError, Global};
 use std::marker::Model;
 
-/// A name of up to 32 bytes, its quotation marks, a colon, and bytes that don't count.
+/// A bracket or a comma, a name of up to 32 bytes, its quotation marks, a colon, and bytes that don't count.
 const LABEL: usize = 40;
 
 /// A member of a row: its label, whose first bytes count, and where its value stands.
@@ -34,7 +35,7 @@ impl Model for Label {
 
     ghost view = { λ a. record { text = take a.len a.bytes; source = a.source } };
 
-    ghost invariant = { λ a. a.len ≤ 35 };
+    ghost invariant = { λ a. a.len ≤ 36 };
 }
 
 impl Default for Label {
@@ -50,16 +51,17 @@ impl Default for Label {
 /// The labels of a row's members.
 pub(crate) type Labels = ArrayVec<Label, MAX_MEMBERS>;
 
-/// The label of a member; none where its name is longer than a column's may be, or needs an escape.
-fn label_of(member: Member<'_>) -> Option<Label>
-    ensures { IfSome result (λ label. label ≡ given.label_of member.entry) }
+/// The label of a member, of the first or of a later one; none where its name is longer than a column's may be, or needs an escape.
+fn label_of(later: bool, member: Member<'_>) -> Option<Label>
+    ensures { IfSome result (λ label. label ≡ given.label_of later member.entry) }
 {
     let name = member.name.as_bytes();
     if name.len() > MAX_NAME || !is_plain(name) {
         return None;
     }
     let mut bytes = [0; LABEL];
-    let begun = put_byte(&mut bytes, 0, b'"');
+    let opened = put_byte(&mut bytes, 0, if later { b',' } else { b'{' });
+    let begun = put_byte(&mut bytes, opened, b'"');
     let end = put_text(&mut bytes, begun, name);
     let closed = put_byte(&mut bytes, end, b'"');
     let len = put_byte(&mut bytes, closed, b':');
@@ -73,11 +75,13 @@ fn label_of(member: Member<'_>) -> Option<Label>
 /// The labels of members, in their order.
 fn labels_in(order: &[Member]) -> Option<Labels>
     requires { length order.now ≤ MAX_MEMBERS }
-    ensures { IfSome result (λ labels. labels.items ≡ map given.label_of order.now) }
+    ensures { IfSome result (λ labels. labels.items ≡ given.labels_in false order.now) }
 {
     let mut labels = ArrayVec::new();
+    let mut later = false;
     'members: for member in order {
-        labels.push(label_of(*member)?);
+        labels.push(label_of(later, *member)?);
+        later = true;
     }
     Some(labels)
 }
@@ -88,6 +92,9 @@ pub(crate) fn labels_of(columns: &[Column]) -> Option<Labels>
     ensures { AreLabels columns.now result }
 {
     let order = row_order(columns);
+    if order.is_empty() {
+        return None;
+    }
     labels_in(order.as_slice())
 }
 

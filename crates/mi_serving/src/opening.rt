@@ -1,6 +1,6 @@
 //! The journal at the start: what it has is asked again, a torn end of it is cut off, and it is opened to go on with, under a name that stays.
 ghost use Rattle.std.specs.Prelude.{◌≡◌, ◌++◌, ◌∷◌, [], ℕ, true, false, Ok, OnOk, IfOk, IfSome};
-ghost use Rattle.mi_log.specs.LineReader.{reader_of};
+ghost use Rattle.mi_log.specs.LogLines.{reader_of};
 ghost use Rattle.mi_replay.specs.Replayed.{replayer};
 ghost use Rattle.mi_ledger.specs.Ledger.{hub_of};
 ghost use Rattle.mi_clients.specs.Row.{fresh};
@@ -12,7 +12,7 @@ use crate::failure::Failure;
 use mi_clients::part;
 use mi_hub::Hub;
 use mi_ledger::{HeldReplies, Ledger, REPLAYER, replay};
-use mi_log::{DeviceLog, Heading, LineReader, Log, judge_heading};
+use mi_log::{DeviceLog, Heading, Log, LogLines, judge_heading};
 use mi_sessions::Sessions;
 use std::alloc::Global;
 use std::fs;
@@ -66,7 +66,7 @@ fn is_beginning(header: &[u8], bytes: &[u8]) -> bool
 }
 
 /// Reads the first line, which is to be the header, and answers whether there is one: else there is no more than a beginning of it.
-fn read_heading<R: BufRead>(lines: &mut LineReader<R>, header: &[u8]) -> Result<bool, Failure>
+fn read_heading<R: BufRead>(lines: &mut LogLines<R>, header: &[u8]) -> Result<bool, Failure>
     ensures found { result ≡ Ok true → HasHeader header.now (R.remaining (reader_of lines.old)) (R.remaining (reader_of lines.new)) }
     ensures none { result ≡ Ok false → IfSome (R.remaining (reader_of lines.old)) (IsBeginning header.now) }
 {
@@ -90,7 +90,7 @@ fn read_heading<R: BufRead>(lines: &mut LineReader<R>, header: &[u8]) -> Result<
 fn replay_all<D: Sessions + Drop, R: BufRead>(
     alloc: Global,
     hub: &mut Hub<D>,
-    lines: &mut LineReader<R>,
+    lines: &mut LogLines<R>,
 ) -> Result<usize, Failure>
     requires { hub.old.attached ≡ [] }
     ensures held { IfOk result (λ torn. IfSome (R.remaining (reader_of lines.old)) (λ bytes. IsReplayed bytes torn hub.old.held hub.new.held)) }
@@ -116,7 +116,7 @@ pub fn recovered<D: Sessions + Drop, R: BufRead + Drop>(
     ensures journal { IfOk result (λ found. IfSome (R.remaining reader) (λ bytes. IsRecovered header.now bytes found hub.old.held hub.new.held)) }
     ensures attached { IfOk result (λ found. IsWith found hub.new.attached) }
 {
-    let mut lines = LineReader::new(alloc, reader);
+    let mut lines = LogLines::new(alloc, reader);
     if !read_heading(&mut lines, header)? {
         return Ok(Journaled::Nothing);
     }

@@ -280,7 +280,8 @@ pub trait Sessions {
         ensures same { state self.new ≡ state self.old }
         ensures memory { IfErr result (λ e. e ≡ Memory) };
 
-    /// The number of the newest session, or where none is open the one it opened with.
+    /// The revision: one more after each start, one less after each undo and each squash, and the same after a commit. While a
+    /// session is open it is the number of the newest one, and before the first start it is the catalog's first revision.
     fn revision(&self) -> u64
         ensures { result ≡ (state self.now).revision };
 

@@ -1,24 +1,43 @@
--- Digits that are passed are the decimal of what they write; and values whose numbers are all such, one part more.
-use Rattle.std.proofs.Common.{◌≡◌, ℕ, zero, suc, ◌+◌, ◌-◌, ◌<◌, ◌≤◌, ◌^◌, ◌==◌, ◌&&◌, Bool, true, false, cond, List, [], ◌∷◌, ◌++◌, length, take, drop, get_or, Bor}
-use Rattle.std.proofs.Common.{Option, Some, None, decimal, inl, inr, refl, sym, ap, ◌∙◌, subst, arith, length-drop, length-take}
-use Rattle.std.proofs.lemmas.Bool.{eqb-true, eqb-false}
+-- Digits that are passed are the decimal of what they write, and `serde_json` reads a number in decimal as that number.
+use Rattle.std.proofs.Common.{◌≡◌, ℕ, suc, ◌+◌, ◌*◌, ◌-◌, ◌<◌, ◌≤◌, ◌^◌, ◌==◌, ◌&&◌, Bool, true, false, cond, List, [], ◌∷◌, length, take, drop, get_or}
+use Rattle.std.proofs.Common.{ℤ, pos, negsuc, Some, decimal, refl, sym, ap, ◌∙◌, subst, arith, length-take-le, ne_eqb, add-one}
+use Rattle.std.proofs.Math.Nat.{pow-le-pow_right, pow-suc}
 use Rattle.std.proofs.lemmas.Fmt.{decimal-digits_value, decimal_digit}
-use Rattle.std.proofs.lemmas.List.{drop-drop, get_or-take}
+use Rattle.std.proofs.lemmas.List.{get_or-take}
+use Rattle.std.proofs.lemmas.Bool.Decides.{nat_tests}
 use Rattle.std.proofs.lemmas.List.Sums.{prefix_len-le-length}
-use Rattle.std.proofs.lemmas.Option.{none-some}
 use Rattle.std.proofs.lemmas.Str.Parse.{IsNumeralModel, numerals_by_value, tells_all_ascii_digits, digits_value_short}
-use Rattle.std.specs.Char.{is_ascii_digit}
+use Rattle.std.specs.Char.{is_ascii_digit, digit_value}
+use Rattle.std.specs.Fmt.{signed_decimal}
+use Rattle.std.specs.Int.{w64}
 use Rattle.std.specs.List.{prefix_len}
+use Rattle.std.specs.Prelude.{FitsSigned}
 use Rattle.std.specs.Str.{all_ascii_digits}
-use Rattle.std.specs.Str.Parse.{digits_value}
-use Rattle.json.specs.Token as token
-use Rattle.json.specs.Token.{Token}
-use Rattle.json.specs.Value.{value_view, items_view, members_view}
-use Rattle.json.specs.Word.{head, after_digits, after_whole}
-use Rattle.json.specs.declared.value.Value.{Value}
-use Rattle.mi_tokens.specs.Tokens.{Opens, IsWordOf}
-use Rattle.mi_tokens.specs.Whole.{IsShortWhole, IsWholeToken, IsWhole, AreWhole, MembersAreWhole}
+use Rattle.std.specs.Str.Parse.{digits_value, digits_value_after}
+use Rattle.json.specs.Word.{head, after_whole}
+use Rattle.serde_json.specs.Find.{of_integer}
+use Rattle.serde_json.specs.Read.{number_of}
+use Rattle.serde_json.proofs.Numbers.{number_of-decimal, number_of-negative}
 use Rattle.mi_tokens.proofs.LexemeLemmas.{byte_there}
+
+-- ---- digits, one more
+
+pub no_more : (i k n : ℕ) → i ≤ k → n < 10 ^ i → n < 10 ^ k
+no_more i k n le h = let some : 0 < 10 = omega arith in omega (arith, h, pow-le-pow_right {n = 10} some {i = i} {j = k} le)
+
+-- a digit more is below the next power of ten
+pub below_next : (k n d : ℕ) → n < 10 ^ k → d < 10 → n * 10 + d < 10 ^ (k + 1)
+below_next k n d small digit = rw add-one (omega (arith, pow-suc 10 k))
+
+-- the digits with which a text begins
+abbrev pub run : List ℕ → List ℕ
+run xs = take (prefix_len is_ascii_digit xs) xs
+
+run_front : (p : Bool) (c n : ℕ) (xs : List ℕ) → p ≡ true → take (cond p (1 + n) 0) (c ∷ xs) ≡ c ∷ take n xs
+run_front p c n xs e = rw e (let next : 1 + n ≡ suc n = omega arith in ap (λ k. take k (c ∷ xs)) next)
+
+pub run_more : (c : ℕ) (xs : List ℕ) → is_ascii_digit c ≡ true → run (c ∷ xs) ≡ c ∷ run xs
+run_more c xs e = run_front (is_ascii_digit c) c (prefix_len is_ascii_digit xs) xs e
 
 -- ---- digits
 
@@ -31,146 +50,67 @@ run_step true c n xs e ih =
     let next : suc n ≡ 1 + n = omega arith in
     subst (λ k. all_ascii_digits (take k (c ∷ xs)) ≡ true) next (ap (λ b. b && all_ascii_digits (take n xs)) e ∙ ih)
 
-run_digits : (xs : List ℕ) → all_ascii_digits (take (prefix_len is_ascii_digit xs) xs) ≡ true
+run_digits : (xs : List ℕ) → all_ascii_digits (run xs) ≡ true
 run_digits [] = refl
 run_digits (c ∷ xs) = run_step (is_ascii_digit c) c (prefix_len is_ascii_digit xs) xs refl (run_digits xs)
 
--- digits, and no zero in front of another
-record IsWholeDigits (ds : List ℕ) : Type 0 where
-  pub digits : all_ascii_digits ds ≡ true
-  pub some : 0 < length ds
-  pub front : get_or ds 0 0 ≡ 48 → length ds ≡ 1
-
-abbrev rest_of : Option (List ℕ) → List ℕ
-rest_of None = []
-rest_of (Some t) = t
-
--- the same rest is behind as many
-same_place : (t : List ℕ) (i k : ℕ) → i ≤ length t → k ≤ length t → Some (drop i t) ≡ Some (drop k t) → i ≡ k
-same_place t i k a b e = omega (arith, a, b, ap (λ o. length (rest_of o)) e, length-drop i t, length-drop k t)
-
-zero_digits : (x : ℕ) (xs : List ℕ) (k : ℕ) → x ≡ 48 → k ≡ 1 → IsWholeDigits (take k (x ∷ xs))
-zero_digits x xs k is one =
-    subst (λ n. IsWholeDigits (take n (x ∷ xs))) (sym one)
-    (subst (λ y. IsWholeDigits (y ∷ [])) (sym is) (record { digits = refl; some = omega arith; front = λ _. refl }))
-
-other_digits : (x : ℕ) (xs : List ℕ) (k : ℕ) → (x ≡ 48 → ⊥) → 0 < k → k ≡ prefix_len is_ascii_digit (x ∷ xs) → IsWholeDigits (take k (x ∷ xs))
-other_digits x xs zero other some is = absurd (omega arith)
-other_digits x xs (suc k) other some is = record {
-  digits = ap (λ n. all_ascii_digits (take n (x ∷ xs))) is ∙ run_digits (x ∷ xs);
-  some = omega arith;
-  front = λ e. absurd (other e);
-}
-
-run_found : (x : ℕ) (xs : List ℕ) (k : ℕ) (b : Bool) → (x ≡ 48 → ⊥) → (prefix_len is_ascii_digit (x ∷ xs) == 0) ≡ b
-    → cond b None (Some (drop (prefix_len is_ascii_digit (x ∷ xs)) (x ∷ xs))) ≡ Some (drop k (x ∷ xs)) → k ≤ length (x ∷ xs) → IsWholeDigits (take k (x ∷ xs))
-run_found x xs k true other none e le = absurd (none-some (drop k (x ∷ xs)) e)
-run_found x xs k false other none e le =
-    let same = same_place (x ∷ xs) _ k (prefix_len-le-length is_ascii_digit (x ∷ xs)) le e in
-    other_digits x xs k other (omega (arith, same, eqb-false (prefix_len is_ascii_digit (x ∷ xs)) 0 none)) (sym same)
-
-whole_at : (x : ℕ) (xs : List ℕ) (k : ℕ) (b : Bool) → (x == 48) ≡ b
-    → cond b (Some (drop 1 (x ∷ xs))) (after_digits (x ∷ xs)) ≡ Some (drop k (x ∷ xs)) → k ≤ length (x ∷ xs) → IsWholeDigits (take k (x ∷ xs))
-whole_at x xs k true is e le = zero_digits x xs k (eqb-true x 48 is) (sym (same_place (x ∷ xs) 1 k (omega arith) le e))
-whole_at x xs k false is e le = run_found x xs k _ (eqb-false x 48 is) refl e le
-
-whole_digits : (t : List ℕ) (k : ℕ) → after_whole t ≡ Some (drop k t) → k ≤ length t → IsWholeDigits (take k t)
-whole_digits [] k e le = absurd (none-some (drop k []) e)
-whole_digits (x ∷ xs) k e le = whole_at x xs k _ refl e le
-
--- what such digits write
-written : (ds : List ℕ) → IsWholeDigits ds → length ds ≤ 18 → (decimal (digits_value 10 ds) ≡ ds) × (digits_value 10 ds < 10 ^ 18)
-written ds h short =
-    let small = digits_value_short own ds 18 h.digits short in
-    (decimal-digits_value own ds h.digits h.some h.front (omega (arith, small)), small)
-
-plain_number : (ds : List ℕ) → IsWholeDigits ds → length ds ≤ 18 → IsShortWhole ds
-plain_number ds h short = let w = written ds h short in (digits_value 10 ds, w.1, inl (sym w.0))
-
-minus_at : (ds : List ℕ) (v : ℕ) → (get_or ds 0 0 ≡ 48 → ⊥) → decimal v ≡ ds → v < 10 ^ 18 → IsShortWhole (45 ∷ ds)
-minus_at ds zero other is small = absurd (other (ap (λ t. get_or t 0 0) (sym is ∙ decimal_digit 0 (omega arith))))
-minus_at ds (suc n) other is small = (n, omega arith, inr (ap (λ t. 45 ∷ t) (sym is)))
-
-minus_number : (ds : List ℕ) → IsWholeDigits ds → length ds ≤ 18 → (get_or ds 0 0 ≡ 48 → ⊥) → IsShortWhole (45 ∷ ds)
-minus_number ds h short other = let w = written ds h short in minus_at ds (digits_value 10 ds) other w.0 w.1
-
--- ---- in a text
-
--- the first byte, where there is one
 first_byte : (t : List ℕ) → 0 < length t → get_or t 0 0 ≡ 48 → head t ≡ 48
 first_byte [] some e = absurd (omega arith)
 first_byte (x ∷ xs) some e = e
 
-module _ (d : List ℕ) (first stop : ℕ) (le : first ≤ stop) (within : stop ≤ length d) (read : after_whole (drop first d) ≡ Some (drop stop d)) where
-  passed : IsWholeDigits (take (stop - first) (drop first d))
-  passed =
-      let whole : first + (stop - first) ≡ stop = omega arith in
-      let ends : drop (stop - first) (drop first d) ≡ drop stop d = drop-drop (stop - first) first d ∙ ap (λ k. drop k d) whole in
-      whole_digits (drop first d) (stop - first) (read ∙ ap Some (sym ends)) (omega (arith, length-drop first d))
+-- digits that begin with no zero: where they end, and what they write
+pub record IsWritten (t : List ℕ) (k : ℕ) : Type 0 where
+  pub passed : after_whole t ≡ Some (drop k t)
+  pub text : take k t ≡ decimal (digits_value 10 (take k t))
+  pub small : digits_value 10 (take k t) < 10 ^ 18
 
-  few : stop - first ≤ 18 → length (take (stop - first) (drop first d)) ≤ 18
-  few short = omega (arith, length-take (stop - first) (drop first d))
+pub digits_written : (t : List ℕ) (k : ℕ) → (head t == 48) ≡ false → k ≡ prefix_len is_ascii_digit t → 0 < k → k ≤ 18 → IsWritten t k
+digits_written t k other is some few =
+    let bound : k ≤ length t = omega (arith, prefix_len-le-length is_ascii_digit t) in
+    let long : length (take k t) ≡ k = length-take-le k t bound in
+    let all : all_ascii_digits (take k t) ≡ true = ap (λ n. all_ascii_digits (take n t)) is ∙ run_digits t in
+    let small = digits_value_short own (take k t) 18 all (omega arith) in
+    let no_zero : get_or (take k t) 0 0 ≡ 48 → length (take k t) ≡ 1 =
+    λ e. absurd (not_both (head t) (first_byte t (omega arith) (sym (get_or-take k t 0 0 some) ∙ e)) other) in
+    let none : (prefix_len is_ascii_digit t == 0) ≡ false = ne_eqb (prefix_len is_ascii_digit t) 0 (λ e. omega arith) in record {
+      passed = rw (other, none) (ap (λ n. Some (drop n t)) (sym is));
+      text = sym (decimal-digits_value own (take k t) all (omega arith) no_zero (omega (arith, small)));
+      small = small;
+    }
+  where
+    not_both : (x : ℕ) → x ≡ 48 → (x == 48) ≡ false → ⊥
+    not_both x e other = let is : (48 == 48) ≡ false = ap (λ y. y == 48) (sym e) ∙ other in cc
 
-  pub without_minus : stop - first ≤ 18 → IsShortWhole (take (stop - first) (drop first d))
-  without_minus short = plain_number _ passed (few short)
+-- a zero stands alone
+pub zero_written : (d : List ℕ) (i : ℕ) → head (drop i d) ≡ 48 → (take 1 (drop i d) ≡ decimal 0) × (after_whole (drop i d) ≡ Some (drop (i + 1) d))
+zero_written d i e =
+    let here = byte_there d i 48 e (λ s. omega arith) in
+    (ap (take 1) here.rest ∙ sym (decimal_digit 0 (omega arith)), rw here.rest refl)
 
-  no_zero : (head (drop first d) ≡ 48 → ⊥) → get_or (take (stop - first) (drop first d)) 0 0 ≡ 48 → ⊥
-  no_zero other e =
-      let some = passed.some in
-      let long = length-take (stop - first) (drop first d) in
-      let front = get_or-take (stop - first) (drop first d) 0 0 (omega (arith, some, long)) in
-      other (first_byte (drop first d) (omega (arith, some, long)) (sym front ∙ e))
+-- ---- numbers in decimal
 
-  pub with_minus : (from : ℕ) → first ≡ from + 1 → head (drop from d) ≡ 45 → stop - first ≤ 18 → (head (drop first d) ≡ 48 → ⊥) → IsShortWhole (take (stop - from) (drop from d))
-  with_minus from next minus short other =
-      let here = byte_there d from 45 minus (λ e. omega arith) in
-      let one : stop - from ≡ suc (stop - first) = omega arith in
-      let front : take (stop - from) (drop from d) ≡ 45 ∷ take (stop - first) (drop first d) =
-      ap (λ k. take k (drop from d)) one ∙ ap (take (suc (stop - first))) here.rest ∙ ap (λ k. 45 ∷ take (stop - first) (drop k d)) (sym next) in
-      subst IsShortWhole (sym front) (minus_number _ passed (few short) (no_zero other))
+pub number_read : (z : ℤ) → FitsSigned w64 z → number_of (signed_decimal z) ≡ Some (of_integer z)
+number_read (pos n) fits = number_of-decimal n (omega (arith, fits))
+number_read (negsuc n) fits = number_of-negative n (omega (arith, fits))
 
-  minus_or_not : (from : ℕ) (b : Bool) → (head (drop from d) == 45) ≡ b → first ≡ cond b (from + 1) from → stop - first ≤ 18 → (from < first → head (drop first d) ≡ 48 → ⊥)
-      → IsShortWhole (take (stop - from) (drop from d))
-  minus_or_not from true is place short other = with_minus from place (eqb-true (head (drop from d)) 45 is) short (other (omega (arith, place)))
-  minus_or_not from false is place short other = subst (λ i. IsShortWhole (take (stop - i) (drop i d))) place (without_minus short)
+-- ---- a loop over digits
 
-  pub short_whole : (from : ℕ) → first ≡ cond (head (drop from d) == 45) (from + 1) from → stop - first ≤ 18 → (from < first → head (drop first d) ≡ 48 → ⊥)
-      → IsShortWhole (take (stop - from) (drop from d))
-  short_whole from place short other = minus_or_not from _ refl place short other
+-- a digit passed: the run that is left is one shorter, and the number one digit longer
+pub record IsPassed (d : List ℕ) (i n c : ℕ) : Type 0 where
+  pub shorter : prefix_len is_ascii_digit (drop i d) ≡ 1 + prefix_len is_ascii_digit (drop (i + 1) d)
+  pub longer : digits_value_after 10 n (run (drop i d)) ≡ digits_value_after 10 (n * 10 + (c - 48)) (run (drop (i + 1) d))
+  pub few : c - 48 < 10
 
--- ---- tokens that are no numbers
+value_is : (c : ℕ) → is_ascii_digit c ≡ true → (digit_value c ≡ c - 48) × (c - 48 < 10)
+value_is c e =
+    let least : 48 ≤ c = grind (arith, nat_tests) in
+    let most : c < 58 = grind (arith, nat_tests) in
+    (grind (arith, nat_tests), omega arith)
 
-pub opens_whole : (c : ℕ) (t : Token) → Opens c t → IsWholeToken t
-opens_whole c token.begin_object e = tt
-opens_whole c token.begin_array e = tt
-opens_whole c token.end_object e = tt
-opens_whole c token.end_array e = tt
-opens_whole c (token.key s) e = tt
-opens_whole c (token.string s) e = tt
-opens_whole c (token.number s) e = absurd e
-opens_whole c (token.boolean b) e = tt
-opens_whole c token.null e = tt
-opens_whole c token.bad e = tt
-
-pub word_whole : (t : Token) (w : List ℕ) → IsWordOf t w → IsWholeToken t
-word_whole token.begin_object w e = tt
-word_whole token.begin_array w e = tt
-word_whole token.end_object w e = tt
-word_whole token.end_array w e = tt
-word_whole (token.key s) w e = tt
-word_whole (token.string s) w e = tt
-word_whole (token.number s) w e = absurd e
-word_whole (token.boolean b) w e = tt
-word_whole token.null w e = tt
-word_whole token.bad w e = tt
-
--- ---- one part more
-
-pub whole_push : {A : Type 0} (vs : List (Value A)) (v : Value A) → AreWhole (items_view vs) → IsWhole (value_view v) → AreWhole (items_view (vs ++ v ∷ []))
-whole_push [] v all one = (one, tt)
-whole_push (w ∷ vs) v all one = (all.0, whole_push vs v all.1 one)
-
-pub whole_member_push : {A : Type 0} (ms : List (Bor (List ℕ) × Value A)) (m : Bor (List ℕ) × Value A)
-    → MembersAreWhole (members_view ms) → IsWhole (value_view m.1) → MembersAreWhole (members_view (ms ++ m ∷ []))
-whole_member_push [] m all one = (one, tt)
-whole_member_push (n ∷ ms) m all one = (all.0, whole_member_push ms m all.1 one)
+pub digit_passed : (d : List ℕ) (i n c : ℕ) → drop i d ≡ c ∷ drop (i + 1) d → is_ascii_digit c ≡ true → IsPassed d i n c
+digit_passed d i n c here e =
+    let v = value_is c e in record {
+      shorter = rw (here, e) refl;
+      longer = rw (here, run_more c (drop (i + 1) d) e) (ap (λ x. digits_value_after 10 (n * 10 + x) (run (drop (i + 1) d))) v.0);
+      few = v.1;
+    }

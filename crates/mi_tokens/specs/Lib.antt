@@ -1,3 +1,3 @@
 pub mod Ends
+pub mod Meaning
 pub mod Tokens
-pub mod Whole

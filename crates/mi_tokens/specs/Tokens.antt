@@ -3,6 +3,9 @@ use Rattle.std.specs.Prelude.{◌≡◌, ℕ, List, true, false, ◌==◌, ◌�
 use Rattle.json.specs.Token.{Token, begin_object, end_object, begin_array, end_array, key, string, number, boolean, null, bad}
 use Rattle.json.specs.Lex.{lex, between, punctuate, fresh, after_value, after_comma, may_begin, may_close}
 use Rattle.json.specs.Lex as grammar
+use Rattle.std.specs.Fmt.{signed_decimal}
+use Rattle.mi_tokens.specs.declared.tokens.Start.{Start}
+use Rattle.mi_tokens.specs.declared.tokens.Start.TheVariants as start
 use Rattle.mi_tokens.specs.declared.tokens.Place.{Place}
 use Rattle.mi_tokens.specs.declared.tokens.Place.TheVariants.{Fresh, AfterValue, AfterComma}
 
@@ -11,6 +14,15 @@ abbrev pub place_of : Place → grammar.Place
 place_of Fresh = fresh
 place_of AfterValue = after_value
 place_of AfterComma = after_comma
+
+-- the token of the grammar; a whole number is written in decimal
+abbrev pub token_of : Start → Token
+token_of start.Array = begin_array
+token_of start.Object = begin_object
+token_of (start.Text s) = string s.now
+token_of (start.Whole z) = number (signed_decimal z)
+token_of (start.Bool b) = boolean b
+token_of start.Null = null
 
 -- the tokens of a text that is read from this place on
 abbrev pub tokens_at : Place → List ℕ → List Token

@@ -1,14 +1,14 @@
 //! Lexemes of a JSON text, read where they stand, in the spacing that a writer gives: no space, or one behind a comma or a colon.
 //! It reads no escape, and no number but whole ones of at most 18 digits. It takes no memory, and knows no nesting.
-ghost use Rattle.std.specs.Prelude.{◌≡◌, ◌∷◌, ◌++◌, ◌+◌, ◌-◌, ◌<◌, ◌≤◌, ◌==◌, [], length, take, drop, get_or, cond, true, false, Some, IfSome, IsTrue};
+ghost use Rattle.std.specs.Prelude.{◌≡◌, ◌∷◌, ◌++◌, ◌+◌, ◌-◌, ◌^◌, ◌<◌, ◌≤◌, ◌==◌, [], length, take, drop, get_or, cond, true, decimal, Some, IfSome, IsTrue};
 ghost use Rattle.std.specs.List.{prefix_len};
 ghost use Rattle.std.specs.Char.{is_ascii_digit};
+ghost use Rattle.std.specs.Fmt.{signed_decimal};
+ghost use Rattle.std.specs.Str.Parse.{digits_value};
 ghost use Rattle.json.specs.Token as spec;
-ghost use Rattle.json.specs.Word.{head, ends_word, after_digits, after_minus, after_whole};
+ghost use Rattle.json.specs.Word.{head, ends_word, after_minus, after_whole};
 ghost use Rattle.json.specs.Lex.{class, operator, operator_lexeme, token, between, lex};
-ghost use Rattle.json.specs.Run.{EndsAt};
 ghost use Rattle.mi_tokens.specs.Ends.{is_end};
-ghost use Rattle.mi_tokens.specs.Whole.{IsShortWhole};
 
 use crate::plain::plain_end;
 use std::marker::Model;
@@ -33,41 +33,39 @@ pub(crate) fn is_end(byte: u8) -> bool
     byte == b',' || byte == b'}' || byte == b']'
 }
 
-/// Where the first byte stands from `from` on that is no digit, or the length.
+/// What the digits from `from` on write, and where they end; none where there are too many.
 #[inline(always)]
-fn digits_end(text: &[u8], from: usize) -> usize
+fn digits(text: &[u8], from: usize) -> Option<(u64, usize)>
     requires { from ≤ length text.now }
-    ensures value { result ≡ from + prefix_len is_ascii_digit (drop from text.now) }
-    ensures bound { result ≤ length text.now }
+    ensures end { IfSome result (λ r. r.1 ≡ from + prefix_len is_ascii_digit (drop from text.now)) }
+    ensures value { IfSome result (λ r. r.0 ≡ digits_value 10 (take (r.1 - from) (drop from text.now))) }
+    ensures bounds { IfSome result (λ r. (r.1 ≤ length text.now) × (r.1 ≤ from + 18)) }
 {
     let mut at = from;
+    let mut n = 0_u64;
     'digits: while at < text.len() && text[at].is_ascii_digit() {
+        if at - from == MAX_DIGITS {
+            return None;
+        }
+        n = n * 10 + (text[at] - b'0') as u64;
         at += 1;
     }
-    at
+    Some((n, at))
 }
 
-/// Where the digits end that begin at `from`, if there is one.
+/// The number whose digits begin at `from`, and where they end: a zero stands alone.
 #[inline(always)]
-fn some_digits_end(text: &[u8], from: usize) -> Option<usize>
+fn whole(text: &[u8], from: usize) -> Option<(u64, usize)>
     requires { from ≤ length text.now }
-    ensures { EndsAt text.now from result (after_digits (drop from text.now)) }
-{
-    let end = digits_end(text, from);
-    if end == from { None } else { Some(end) }
-}
-
-/// Where the digits of a whole number end: a zero stands alone.
-#[inline(always)]
-fn whole_end(text: &[u8], from: usize) -> Option<usize>
-    requires { from ≤ length text.now }
-    ensures { EndsAt text.now from result (after_whole (drop from text.now)) }
+    ensures end { IfSome result (λ r. after_whole (drop from text.now) ≡ Some (drop r.1 text.now)) }
+    ensures value { IfSome result (λ r. take (r.1 - from) (drop from text.now) ≡ decimal r.0) }
+    ensures bounds { IfSome result (λ r. (from ≤ r.1) × (r.1 ≤ length text.now) × (r.0 < 10 ^ 18)) }
 {
     if byte_at(text, from) == b'0' {
-        Some(from + 1)
-    } else {
-        some_digits_end(text, from)
+        return Some((0, from + 1));
     }
+    let (n, end) = digits(text, from)?;
+    if end == from { None } else { Some((n, end)) }
 }
 
 /// Behind a minus, where one stands.
@@ -85,20 +83,30 @@ fn minus_end(text: &[u8], from: usize) -> usize
     }
 }
 
-/// Where a whole number ends that has at most 18 digits. It takes no minus in front of a zero.
+/// The number below zero of these digits; none of zero, which is another number with a minus.
 #[inline(always)]
-fn short_whole_end(text: &[u8], from: usize) -> Option<usize>
+fn negated(n: u64) -> Option<i64>
+    requires { n < 10 ^ 18 }
+    ensures { IfSome result (λ z. signed_decimal z ≡ 45 ∷ decimal n) }
+{
+    if n == 0 { None } else { Some(-(n as i64)) }
+}
+
+/// A whole number of at most 18 digits, and where it ends. It takes no minus in front of a zero.
+#[inline(always)]
+fn short_whole(text: &[u8], from: usize) -> Option<(i64, usize)>
     requires { from ≤ length text.now }
-    ensures read { IfSome result (λ e. after_whole (after_minus (drop from text.now)) ≡ Some (drop e text.now)) }
-    ensures short { IfSome result (λ e. IsShortWhole (take (e - from) (drop from text.now))) }
-    ensures bounds { IfSome result (λ e. (from ≤ e) × (e ≤ length text.now)) }
+    ensures end { IfSome result (λ r. after_whole (after_minus (drop from text.now)) ≡ Some (drop r.1 text.now)) }
+    ensures value { IfSome result (λ r. take (r.1 - from) (drop from text.now) ≡ signed_decimal r.0) }
+    ensures bounds { IfSome result (λ r. (from ≤ r.1) × (r.1 ≤ length text.now)) }
 {
     let first = minus_end(text, from);
-    let end = whole_end(text, first)?;
-    if end - first > MAX_DIGITS || (from < first && byte_at(text, first) == b'0') {
-        return None;
+    let (n, end) = whole(text, first)?;
+    if from < first {
+        Some((negated(n)?, end))
+    } else {
+        Some((n as i64, end))
     }
-    Some(end)
 }
 
 /// A JSON text from a byte on, seen as the bytes that are left.
@@ -191,20 +199,16 @@ impl<'a> Lexemes<'a> {
 
     /// A whole number of at most 18 digits in front of the end of a value: digits without zeros in front, or a minus and these.
     #[inline(always)]
-    pub(crate) fn number(&mut self) -> Option<&'a str>
-        requires { (32 < head self.old) × (head self.old < 128) }
-        ensures lexeme { IfSome result (λ s. lex between self.old ≡ token (spec.number s.now) ∷ lex between self.new) }
-        ensures short { IfSome result (λ s. IsShortWhole s.now) }
+    pub(crate) fn number(&mut self) -> Option<i64>
+        ensures { IfSome result (λ z. lex between self.old ≡ token (spec.number (signed_decimal z)) ∷ lex between self.new) }
     {
-        let text = self.text;
-        let bytes = text.as_bytes();
-        let from = self.at;
-        let end = short_whole_end(bytes, from)?;
+        let bytes = self.text.as_bytes();
+        let (n, end) = short_whole(bytes, self.at)?;
         if !is_end(byte_at(bytes, end)) {
             return None;
         }
         self.at = end;
-        Some(&text[from..end])
+        Some(n)
     }
 
     /// Passes a word in front of the end of a value.

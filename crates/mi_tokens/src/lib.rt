@@ -6,5 +6,7 @@ mod lexemes;
 mod pass;
 mod plain;
 mod tokens;
+mod value;
 
-pub use pass::{MAX_DEPTH, Tree, pass_last_member, pass_text};
+pub use pass::{pass_last_member, pass_text};
+pub use value::Json;

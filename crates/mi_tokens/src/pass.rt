@@ -1,21 +1,20 @@
-//! From a text to the JSON value that it is, in one pass and without an index, where it is written as a writer gives it. Arrays and
-//! objects lie in an arena.
+//! From a text to the JSON value that it is, in one pass and without an index, where it is written as a writer gives it. Items and
+//! members lie in an arena.
 ghost use Rattle.std.specs.Prelude.{◌≡◌, ◌∷◌, ◌++◌, IfSome, IsTrue, Some, [], length};
 ghost use Rattle.json.specs.Json.{value, items, members};
 ghost use Rattle.json.specs.Lex.{tokens};
 ghost use Rattle.json.specs.Token.{end_object};
-ghost use Rattle.json.specs.Value.{value_view, items_view, members_view};
-ghost use Rattle.mi_tokens.specs.Whole.{IsWhole, AreWhole, MembersAreWhole};
+ghost use Rattle.serde_json.specs.Data.{no_members};
+ghost use Rattle.serde_json.specs.Read.{of_json, of_items, of_members, converted, read};
+ghost use Rattle.mi_tokens.specs.Meaning.{meaning, items_meaning, members_meaning};
 
-use crate::tokens::Tokens;
+use crate::tokens::{Start, Tokens};
+use crate::value::Json;
 use bumpalo::Bump;
-use json::{Token, Value};
-
-/// A JSON value as a tree. Its texts are borrowed from where it was read, and its arrays and objects lie in an arena.
-pub type Tree<'a> = Value<'a, &'a Bump>;
+use bumpalo::collections::into_bump_slice;
 
 /// How deep arrays and objects may nest, as in `serde_json`.
-pub const MAX_DEPTH: usize = 127;
+const MAX_DEPTH: usize = 127;
 
 /// Puts an item behind the others; false where there is no memory for it.
 #[inline(always)]
@@ -32,13 +31,8 @@ fn push<'a, T: Drop>(items: &mut Vec<T, &'a Bump>, item: T) -> bool
 /// The items up to the bracket that ends an array.
 #[cycle(pass)]
 #[inline(never)]
-fn pass_items<'a>(
-    arena: &'a Bump,
-    tokens: &mut Tokens<'a>,
-    depth: usize,
-) -> Option<Vec<Tree<'a>, &'a Bump>>
-    ensures read { IfSome result (λ v. items (value depth) (length tokens.old) tokens.old ≡ Some (items_view v.items, tokens.new)) }
-    ensures whole { IfSome result (λ v. AreWhole (items_view v.items)) }
+fn pass_items<'a>(arena: &'a Bump, tokens: &mut Tokens<'a>, depth: usize) -> Option<&'a [Json<'a>]>
+    ensures { IfSome result (λ xs. converted of_items (items (value depth) (length tokens.old) tokens.old) ≡ Some (items_meaning xs.now, tokens.new)) }
 {
     let mut found = Vec::new(arena);
     'items: while !tokens.take_end_array() {
@@ -47,7 +41,7 @@ fn pass_items<'a>(
             return None;
         }
     }
-    Some(found)
+    Some(into_bump_slice(found))
 }
 
 /// The members up to the brace that ends an object.
@@ -57,9 +51,9 @@ fn pass_members<'a>(
     arena: &'a Bump,
     tokens: &mut Tokens<'a>,
     depth: usize,
-) -> Option<Vec<(&'a str, Tree<'a>), &'a Bump>>
-    ensures read { IfSome result (λ v. members (value depth) (length tokens.old) tokens.old ≡ Some (members_view v.items, tokens.new)) }
-    ensures whole { IfSome result (λ v. MembersAreWhole (members_view v.items)) }
+) -> Option<&'a [(&'a str, Json<'a>)]>
+    ensures { IfSome result (λ ms. converted (λ js. of_members js no_members) (members (value depth) (length tokens.old) tokens.old)
+        ≡ Some (members_meaning ms.now no_members, tokens.new)) }
 {
     let mut found = Vec::new(arena);
     'members: while let Some(key) = tokens.next_key()? {
@@ -68,43 +62,40 @@ fn pass_members<'a>(
             return None;
         }
     }
-    Some(found)
+    Some(into_bump_slice(found))
 }
 
 /// The value that comes first. Arrays and objects may nest `depth` deep.
 #[cycle(pass)]
 #[inline(always)]
-fn pass_value<'a>(arena: &'a Bump, tokens: &mut Tokens<'a>, depth: usize) -> Option<Tree<'a>>
-    ensures read { IfSome result (λ v. value depth tokens.old ≡ Some (value_view v, tokens.new)) }
-    ensures whole { IfSome result (λ v. IsWhole (value_view v)) }
+fn pass_value<'a>(arena: &'a Bump, tokens: &mut Tokens<'a>, depth: usize) -> Option<Json<'a>>
+    ensures { IfSome result (λ v. converted of_json (value depth tokens.old) ≡ Some (meaning v, tokens.new)) }
 {
     let token = tokens.next()?;
     match token {
-        Token::String(text) => Some(Value::String(text)),
-        Token::Number(text) => Some(Value::Number(text)),
-        Token::Bool(b) => Some(Value::Bool(b)),
-        Token::Null => Some(Value::Null),
-        Token::BeginArray => {
+        Start::Text(text) => Some(Json::Text(text)),
+        Start::Whole(n) => Some(Json::Whole(n)),
+        Start::Bool(b) => Some(Json::Bool(b)),
+        Start::Null => Some(Json::Null),
+        Start::Array => {
             if depth == 0 {
                 return None;
             }
-            Some(Value::Array(pass_items(arena, tokens, depth - 1)?))
+            Some(Json::Array(pass_items(arena, tokens, depth - 1)?))
         }
-        Token::BeginObject => {
+        Start::Object => {
             if depth == 0 {
                 return None;
             }
-            Some(Value::Object(pass_members(arena, tokens, depth - 1)?))
+            Some(Json::Object(pass_members(arena, tokens, depth - 1)?))
         }
-        Token::EndObject | Token::EndArray | Token::Key(_) | Token::Bad => None,
     }
 }
 
 /// The value that a text is, where it is written as a writer gives it, with numbers alone that are whole and have at most 18 digits. Want
 /// of memory counts as another way of writing.
-pub fn pass_text<'a>(arena: &'a Bump, text: &'a str) -> Option<Tree<'a>>
-    ensures read { IfSome result (λ v. value 127 (tokens text.now) ≡ Some (value_view v, [])) }
-    ensures whole { IfSome result (λ v. IsWhole (value_view v)) }
+pub fn pass_text<'a>(arena: &'a Bump, text: &'a str) -> Option<Json<'a>>
+    ensures { IfSome result (λ v. read text.now ≡ Some (meaning v)) }
 {
     let mut tokens = Tokens::new(text);
     let value = pass_value(arena, &mut tokens, MAX_DEPTH)?;
@@ -113,9 +104,8 @@ pub fn pass_text<'a>(arena: &'a Bump, text: &'a str) -> Option<Tree<'a>>
 
 /// The value of an object's last member, where the text begins with it, and has nothing behind it but the brace that ends the object.
 /// Its numbers are whole and have at most 18 digits. Want of memory counts as another way of writing.
-pub fn pass_last_member<'a>(arena: &'a Bump, text: &'a str) -> Option<Tree<'a>>
-    ensures read { IfSome result (λ v. value 126 (tokens text.now) ≡ Some (value_view v, end_object ∷ [])) }
-    ensures whole { IfSome result (λ v. IsWhole (value_view v)) }
+pub fn pass_last_member<'a>(arena: &'a Bump, text: &'a str) -> Option<Json<'a>>
+    ensures { IfSome result (λ v. converted of_json (value 126 (tokens text.now)) ≡ Some (meaning v, end_object ∷ [])) }
 {
     let mut tokens = Tokens::new(text);
     let value = pass_value(arena, &mut tokens, MAX_DEPTH - 1)?;

@@ -6,13 +6,10 @@ ghost use Rattle.json.specs.Token as spec;
 ghost use Rattle.json.specs.Word.{head};
 ghost use Rattle.json.specs.Lex.{between, lex, after_value, may_begin, may_close, punctuate, tokens};
 ghost use Rattle.json.specs.Json.{after_end_array, read_key};
-ghost use Rattle.json.specs.Reads.{token_of};
-ghost use Rattle.mi_tokens.specs.Tokens.{place_of, tokens_at, Begins, Closes, end_token, IsWordOf, Opens};
-ghost use Rattle.mi_tokens.specs.Whole.{IsWholeToken};
+ghost use Rattle.mi_tokens.specs.Tokens.{place_of, tokens_at, token_of, Begins, Closes, end_token, IsWordOf, Opens};
 ghost use Rattle.mi_tokens.specs.declared.tokens.Place.TheVariants.{Fresh};
 
 use crate::lexemes::{Lexemes, is_end};
-use json::Token;
 use std::marker::Model;
 
 /// What may stand next.
@@ -37,6 +34,18 @@ impl Place {
     {
         matches!(self, Place::Fresh | Place::AfterValue)
     }
+}
+
+/// The token with which a value begins.
+#[derive(Clone, Copy, Drop)]
+pub(crate) enum Start<'a> {
+    Array,
+    Object,
+    Text(&'a str),
+    /// A whole number, which is written in decimal.
+    Whole(i64),
+    Bool(bool),
+    Null,
 }
 
 /// Passes the comma that may follow a value.
@@ -78,35 +87,31 @@ fn key<'a>(lexemes: &mut Lexemes<'a>) -> Option<&'a str>
 
 /// A text that is a value.
 #[inline(always)]
-fn string<'a>(lexemes: &mut Lexemes<'a>) -> Option<(Token<'a>, Place)>
+fn string<'a>(lexemes: &mut Lexemes<'a>) -> Option<(Start<'a>, Place)>
     requires { head lexemes.old ≡ 34 }
-    ensures begins { IfSome result (λ t. Begins lexemes.old (token_of t.0) t.1 lexemes.new) }
-    ensures whole { IfSome result (λ t. IsWholeToken (token_of t.0)) }
+    ensures { IfSome result (λ t. Begins lexemes.old (token_of t.0) t.1 lexemes.new) }
 {
     let text = lexemes.string()?;
     if !is_end(lexemes.peek()) {
         return None;
     }
-    Some((Token::String(text), after_value(lexemes)))
+    Some((Start::Text(text), after_value(lexemes)))
 }
 
 /// A whole number.
 #[inline(always)]
-fn number<'a>(lexemes: &mut Lexemes<'a>) -> Option<(Token<'a>, Place)>
-    requires { (32 < head lexemes.old) × (head lexemes.old < 128) }
-    ensures begins { IfSome result (λ t. Begins lexemes.old (token_of t.0) t.1 lexemes.new) }
-    ensures whole { IfSome result (λ t. IsWholeToken (token_of t.0)) }
+fn number<'a>(lexemes: &mut Lexemes<'a>) -> Option<(Start<'a>, Place)>
+    ensures { IfSome result (λ t. Begins lexemes.old (token_of t.0) t.1 lexemes.new) }
 {
-    let text = lexemes.number()?;
-    Some((Token::Number(text), after_value(lexemes)))
+    let n = lexemes.number()?;
+    Some((Start::Whole(n), after_value(lexemes)))
 }
 
 /// True, false or null, by its word.
 #[inline(always)]
-fn word<'a>(lexemes: &mut Lexemes<'a>, text: &[u8], token: Token<'a>) -> Option<(Token<'a>, Place)>
+fn word<'a>(lexemes: &mut Lexemes<'a>, text: &[u8], token: Start<'a>) -> Option<(Start<'a>, Place)>
     requires { IsWordOf (token_of token) text.now }
-    ensures begins { IfSome result (λ t. Begins lexemes.old (token_of t.0) t.1 lexemes.new) }
-    ensures whole { IfSome result (λ t. IsWholeToken (token_of t.0)) }
+    ensures { IfSome result (λ t. Begins lexemes.old (token_of t.0) t.1 lexemes.new) }
 {
     if !lexemes.pass_word(text) {
         return None;
@@ -116,10 +121,9 @@ fn word<'a>(lexemes: &mut Lexemes<'a>, text: &[u8], token: Token<'a>) -> Option<
 
 /// The bracket or the brace that begins an array or an object.
 #[inline(always)]
-fn open<'a>(lexemes: &mut Lexemes<'a>, token: Token<'a>) -> Option<(Token<'a>, Place)>
+fn open<'a>(lexemes: &mut Lexemes<'a>, token: Start<'a>) -> Option<(Start<'a>, Place)>
     requires { Opens (head lexemes.old) (token_of token) }
-    ensures begins { IfSome result (λ t. Begins lexemes.old (token_of t.0) t.1 lexemes.new) }
-    ensures whole { IfSome result (λ t. IsWholeToken (token_of t.0)) }
+    ensures { IfSome result (λ t. Begins lexemes.old (token_of t.0) t.1 lexemes.new) }
 {
     lexemes.pass();
     Some((token, Place::Fresh))
@@ -127,17 +131,16 @@ fn open<'a>(lexemes: &mut Lexemes<'a>, token: Token<'a>) -> Option<(Token<'a>, P
 
 /// The token with which a value begins, and what may stand behind it.
 #[inline(always)]
-fn begin<'a>(lexemes: &mut Lexemes<'a>) -> Option<(Token<'a>, Place)>
-    ensures begins { IfSome result (λ t. Begins lexemes.old (token_of t.0) t.1 lexemes.new) }
-    ensures whole { IfSome result (λ t. IsWholeToken (token_of t.0)) }
+fn begin<'a>(lexemes: &mut Lexemes<'a>) -> Option<(Start<'a>, Place)>
+    ensures { IfSome result (λ t. Begins lexemes.old (token_of t.0) t.1 lexemes.new) }
 {
     match lexemes.peek() {
         b'"' => string(lexemes),
-        b'{' => open(lexemes, Token::BeginObject),
-        b'[' => open(lexemes, Token::BeginArray),
-        b't' => word(lexemes, b"true", Token::Bool(true)),
-        b'f' => word(lexemes, b"false", Token::Bool(false)),
-        b'n' => word(lexemes, b"null", Token::Null),
+        b'{' => open(lexemes, Start::Object),
+        b'[' => open(lexemes, Start::Array),
+        b't' => word(lexemes, b"true", Start::Bool(true)),
+        b'f' => word(lexemes, b"false", Start::Bool(false)),
+        b'n' => word(lexemes, b"null", Start::Null),
         b'-' | b'0'..=b'9' => number(lexemes),
         _ => None,
     }
@@ -214,9 +217,8 @@ impl<'a> Tokens<'a> {
 
     /// The token with which a value begins.
     #[inline(always)]
-    pub(crate) fn next(&mut self) -> Option<Token<'a>>
-        ensures token { IfSome result (λ t. self.old ≡ token_of t ∷ self.new) }
-        ensures whole { IfSome result (λ t. IsWholeToken (token_of t)) }
+    pub(crate) fn next(&mut self) -> Option<Start<'a>>
+        ensures { IfSome result (λ t. self.old ≡ token_of t ∷ self.new) }
     {
         if !self.place.may_begin() {
             return None;

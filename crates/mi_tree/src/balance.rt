@@ -9,6 +9,9 @@ use mi_node::{NodeRef, Pool};
 
 /// Makes one balanced tree of two, whose heights differ by at most two, and a node between them: the
 /// same nodes in the same order, at most one level higher. Its root, and how high it is.
+///
+/// In line, so that the subtrees aren't laid down for it.
+#[inline(always)]
 pub(crate) fn balance<T>(
     p: &mut Pool<T>,
     slot: usize,

@@ -65,7 +65,7 @@ int_begins bs rest n long is_rest is = (
 )
 
 -- bytes hold what they were packed of
-int_unpacked : (n : ℤ) (rest : List ℕ) → FitsSigned w64 n → unpacked (packed_value (Int n) ++ rest) ≡ Int n ∷ unpacked rest
+pub int_unpacked : (n : ℤ) (rest : List ℕ) → FitsSigned w64 n → unpacked (packed_value (Int n) ++ rest) ≡ Int n ∷ unpacked rest
 int_unpacked n rest fits =
     let eight = to_le_bytes w64 (cast_unsigned w64 n) in
     let whole = ap (cast_signed w64) (from_le_bytes-to_le_bytes_8 (cast_unsigned w64 n) (Fits-lt-pow (Fits-of_z {w = w64} {z = n} fits)))

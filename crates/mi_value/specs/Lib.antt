@@ -6,3 +6,4 @@ pub mod Lent
 pub mod Block
 pub mod Bytes
 pub mod Keys
+pub mod Numbers

@@ -37,7 +37,8 @@ pub(crate) trait Sink {
 }
 
 impl Short {
-    ghost use Rattle.std.specs.Prelude.{◌≡◌, []};
+    ghost use Rattle.std.specs.Prelude.{◌≡◌, ◌<◌, ◌≤◌, ◌+◌, [], length, slice_set};
+    ghost use Rattle.mi_value.specs.Numbers.{with_number};
     ghost use Rattle.mi_value.specs.Bytes.{short_bytes};
 
     /// No bytes.
@@ -56,6 +57,34 @@ impl Short {
         ensures { result.now ≡ short_bytes self.now }
     {
         &self.bytes[..self.length as usize]
+    }
+
+    /// The same with another number in the eight bytes from a place on.
+    #[inline]
+    pub(crate) fn with_number(&self, place: usize, n: i64) -> Short
+        requires { place + 8 ≤ length (short_bytes self.now) }
+        ensures { short_bytes result ≡ with_number place n (short_bytes self.now) }
+    {
+        let mut bytes = self.bytes;
+        bytes[place..place + 8].copy_from_slice(&n.to_le_bytes());
+        Short {
+            length: self.length,
+            bytes,
+        }
+    }
+
+    /// The same with another byte at a place.
+    #[inline]
+    pub(crate) fn with_byte(&self, place: usize, byte: u8) -> Short
+        requires { place < length (short_bytes self.now) }
+        ensures { short_bytes result ≡ slice_set (short_bytes self.now) place byte }
+    {
+        let mut bytes = self.bytes;
+        bytes[place] = byte;
+        Short {
+            length: self.length,
+            bytes,
+        }
     }
 }
 

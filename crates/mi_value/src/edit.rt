@@ -2,9 +2,10 @@
 ghost use Rattle.std.specs.Prelude.{◌≡◌, ◌≤◌, ◌⊎◌, Some, None, Err, IfSome, IfOk, IfErr, OnOk, length, take, map, option_map, slice_set};
 ghost use Rattle.mi_value.specs.Lent.{lent};
 ghost use Rattle.mi_value.specs.Edits as meaning;
+ghost use Rattle.mi_value.specs.Numbers.{IsMade};
 ghost use Rattle.mi_value.specs.declared.value.Value.TheVariants.{Int};
 
-use crate::record::Record;
+use crate::record::{InPlace, Record};
 use crate::refusal::Refusal;
 use crate::value::{Value, ValueRef};
 use std::alloc::Global;
@@ -91,6 +92,16 @@ fn edited<'a>(
     Ok(Record::new(alloc, values)?)
 }
 
+/// What comes of one edit in a copy of a record's bytes.
+fn edit_in_place(row: &Record, edit: &Edit) -> InPlace
+    ensures { IsMade edit.now row.now result }
+{
+    match edit {
+        Edit::Put(column, value) => row.exchanged(*column, value),
+        Edit::Add(column, n) => row.added(*column, *n),
+    }
+}
+
 /// The record after these edits, one after another; where no column is named twice their order doesn't matter
 /// (`laws::edits_in_any_order`).
 ///
@@ -101,6 +112,13 @@ pub fn apply(alloc: Global, row: &Record, edits: &[Edit]) -> Result<Record, Refu
     ensures range { result ≡ Err Refusal.Range → meaning.apply edits.now row.now ≡ None }
     ensures only { IfErr result (λ e. (e ≡ Refusal.Range) ⊎ (e ≡ Refusal.Memory)) }
 {
+    if let [edit] = edits {
+        match edit_in_place(row, edit) {
+            InPlace::Done(edited) => return Ok(edited),
+            InPlace::Range => return Err(Refusal::Range),
+            InPlace::Undone => {}
+        }
+    }
     let mut few = [ValueRef::default(); FEW];
     if let Some(count) = lay(&mut few, row) {
         return edited(alloc, &mut few[..count], edits);

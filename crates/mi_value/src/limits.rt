@@ -24,7 +24,7 @@ pub const MAX_ROWS: u64 = 16_777_216;
 /// The number of rows that a schema allows where it names none: with six indexes they take some 330 MB.
 pub const DEFAULT_MAX_ROWS: u64 = 1_000_000;
 
-/// Open sessions, at most. Each is an entry of the journal, whose room can be asked for ahead of them all.
+/// Open sessions, at most. Each is a count in the undo journal, whose room can be asked for ahead of them all.
 pub const MAX_SESSIONS: usize = 1024;
 
 /// Attached connections, at most. Each reserves the room of a whole line, 4 MB for all, and is found from the first on.

@@ -1,15 +1,19 @@
 //! Records. A record is bytes: its values one behind another, each a tag and its content. They are decoded when they are asked for;
 //! contracts see their list. Where the bytes lie is the matter of `bytes`.
-ghost use Rattle.std.specs.Prelude.{◌≡◌, ◌<◌, ◌^◌, ◌++◌, ℕ, length, map, Some, None, MatchOption, OnOk};
+ghost use Rattle.std.specs.Prelude.{◌≡◌, ◌<◌, ◌^◌, ◌++◌, ℕ, length, map, slice_set, Some, None, IfSome, MatchOption, OnOk};
 ghost use Rattle.std.specs.Iterator.{YieldsFirstBy, item_count};
+ghost use Rattle.std.specs.Option.{option_map};
 ghost use Rattle.mi_value.specs.Lent.{lent};
-ghost use Rattle.mi_value.specs.Block.{int_at, text_at, value_at, packed, packed_value, IsText, IsPackable, ArePackable, BeginsWith};
+ghost use Rattle.mi_value.specs.Edits.{add_to};
+ghost use Rattle.mi_value.specs.Block.{int_at, text_at, value_at, unpacked, packed, packed_value, IsText, HasTexts, IsPackable, ArePackable, BeginsWith};
+ghost use Rattle.mi_value.specs.Numbers.{ArePassed, IsNumberAt, IsFlagAt};
+ghost use Rattle.mi_value.specs.Bytes.{short_bytes};
 ghost use Rattle.mi_value.specs.declared.value.Value.{Value};
-ghost use Rattle.mi_value.specs.declared.value.Value.TheVariants.{Int, Text};
+ghost use Rattle.mi_value.specs.declared.value.Value.TheVariants.{Int, Text, Flag};
 
 use crate::bytes::{Bytes, Short, Sink};
 use crate::refusal::Refusal;
-use crate::value::ValueRef;
+use crate::value::{Value, ValueRef};
 use std::alloc::{AllocError, Global};
 use std::marker::Model;
 
@@ -40,6 +44,17 @@ impl Model for Record {
     ghost view = { λ a. unpacked (bytes_in a.bytes) };
 
     ghost invariant = { λ a. HasTexts (unpacked (bytes_in a.bytes)) };
+}
+
+/// What comes of an edit that is made in a copy of a record's bytes.
+#[derive(Drop)]
+pub(crate) enum InPlace {
+    /// This record.
+    Done(Record),
+    /// The sum leaves -2^63 to 2^63 - 1.
+    Range,
+    /// Nothing was tried.
+    Undone,
 }
 
 /// The values of a record that are left, lent one after another.
@@ -115,6 +130,103 @@ impl<'a> Iterator for Values<'a> {
     }
 }
 
+/// The bytes behind the first value, if there is one.
+fn pass(bytes: &[u8]) -> Option<&[u8]>
+    requires { HasTexts (unpacked bytes.now) }
+    ensures { IfSome result (λ rest. ArePassed 1 bytes.now rest.now) }
+{
+    let (tag, content) = bytes.split_first()?;
+    let (_, rest) = split_value(*tag, content)?;
+    Some(rest)
+}
+
+/// The bytes behind so many values, if there are as many.
+fn behind(bytes: &[u8], column: usize) -> Option<&[u8]>
+    requires { HasTexts (unpacked bytes.now) }
+    ensures { IfSome result (λ left. ArePassed column bytes.now left.now) }
+{
+    let mut left = bytes;
+    'columns: for _column in 0..column {
+        left = pass(left)?;
+    }
+    Some(left)
+}
+
+/// A number in a record, and where its eight bytes begin.
+#[derive(Clone, Copy)]
+struct Number {
+    value: i64,
+    place: usize,
+}
+
+/// The number in a column, if it has one.
+fn number_in(bytes: &[u8], column: usize) -> Option<Number>
+    requires { HasTexts (unpacked bytes.now) }
+    ensures { IfSome result (λ found. IsNumberAt bytes.now column found.value found.place) }
+{
+    let left = behind(bytes, column)?;
+    let (tag, content) = left.split_first()?;
+    if *tag != INT {
+        return None;
+    }
+    let (value, _) = split_int(content)?;
+    let place = bytes.len() - content.len();
+    Some(Number { value, place })
+}
+
+/// Where the byte of a flag stands, if a column has one.
+fn flag_in(bytes: &[u8], column: usize) -> Option<usize>
+    requires { HasTexts (unpacked bytes.now) }
+    ensures { IfSome result (λ place. IsFlagAt bytes.now column place) }
+{
+    let left = behind(bytes, column)?;
+    let (tag, _) = left.split_first()?;
+    if *tag != FALSE && *tag != TRUE {
+        return None;
+    }
+    Some(bytes.len() - left.len())
+}
+
+/// The bytes with another number in a column, if it has one.
+fn exchange_number(short: &Short, column: usize, n: i64) -> Option<Short>
+    requires { HasTexts (unpacked (short_bytes short.now)) }
+    ensures made { IfSome result (λ made. unpacked (short_bytes made) ≡ slice_set (unpacked (short_bytes short.now)) column (Int n)) }
+    ensures texts { IfSome result (λ made. HasTexts (unpacked (short_bytes made))) }
+{
+    let number = number_in(short.as_slice(), column)?;
+    Some(short.with_number(number.place, n))
+}
+
+/// The bytes with another flag in a column, if it has one.
+fn exchange_flag(short: &Short, column: usize, flag: bool) -> Option<Short>
+    requires { HasTexts (unpacked (short_bytes short.now)) }
+    ensures made { IfSome result (λ made. unpacked (short_bytes made) ≡ slice_set (unpacked (short_bytes short.now)) column (Flag flag)) }
+    ensures texts { IfSome result (λ made. HasTexts (unpacked (short_bytes made))) }
+{
+    let place = flag_in(short.as_slice(), column)?;
+    Some(short.with_byte(place, if flag { TRUE } else { FALSE }))
+}
+
+/// The bytes with another value in a column that is as long: a number for one, or a flag.
+fn exchange(short: &Short, column: usize, value: &Value) -> Option<Short>
+    requires { HasTexts (unpacked (short_bytes short.now)) }
+    ensures made { IfSome result (λ made. unpacked (short_bytes made) ≡ slice_set (unpacked (short_bytes short.now)) column value.now) }
+    ensures texts { IfSome result (λ made. HasTexts (unpacked (short_bytes made))) }
+{
+    match value {
+        Value::Int(n) => exchange_number(short, column, *n),
+        Value::Flag(flag) => exchange_flag(short, column, *flag),
+        Value::Text(_) => None,
+    }
+}
+
+/// The sum of two numbers, unless it leaves -2^63 to 2^63 - 1.
+pub(crate) fn sum(a: i64, b: i64) -> Option<i64>
+    ensures { option_map Int result ≡ add_to (Some (Int a)) b }
+{
+    a.checked_add(b)
+}
+
 /// How many bytes a value takes in a record.
 fn width(value: ValueRef<'_>) -> usize {
     match value {
@@ -177,6 +289,8 @@ fn push_values<S: Sink>(bytes: &mut S, values: &[ValueRef<'_>]) -> Result<(), Al
 
 impl Record {
     ghost use Rattle.std.specs.Prelude.{◌≡◌, ◌<◌, ◌^◌, length, map, option_map, slice_get, IfOk, IfErr};
+    ghost use Rattle.mi_value.specs.Numbers.{IsMade};
+    ghost use Rattle.mi_value.specs.declared.edit.Edit.TheVariants.{Put, Add};
 
     /// The record of these values. One of up to 46 bytes takes no memory, a longer one is one block. Answers `AllocError` where
     /// memory is refused, or where a text has 2^32 bytes or more.
@@ -214,6 +328,39 @@ impl Record {
         Values {
             bytes: self.bytes.as_slice(),
         }
+    }
+
+    /// The record with so much more in a column, where it is short and has a number there: a copy, but for the number's bytes.
+    pub(crate) fn added(&self, column: usize, more: i64) -> InPlace
+        ensures { IsMade (Add column more) self.now result }
+    {
+        let Bytes::Short(short) = &self.bytes else {
+            return InPlace::Undone;
+        };
+        let Some(number) = number_in(short.as_slice(), column) else {
+            return InPlace::Undone;
+        };
+        let Some(sum) = sum(number.value, more) else {
+            return InPlace::Range;
+        };
+        InPlace::Done(Record {
+            bytes: Bytes::Short(short.with_number(number.place, sum)),
+        })
+    }
+
+    /// The record with another value in a column, where it is short and has one there that is as long: a copy, but for its bytes.
+    pub(crate) fn exchanged(&self, column: usize, value: &Value) -> InPlace
+        ensures { IsMade (Put column value.now) self.now result }
+    {
+        let Bytes::Short(short) = &self.bytes else {
+            return InPlace::Undone;
+        };
+        let Some(made) = exchange(short, column, value) else {
+            return InPlace::Undone;
+        };
+        InPlace::Done(Record {
+            bytes: Bytes::Short(made),
+        })
     }
 
     /// How many values it has, one a column.

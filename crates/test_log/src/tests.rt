@@ -1,5 +1,5 @@
 //! A log over a device that fails, over a file, and lines out of bytes.
-use mi_log::{DeviceLog, LineReader, Log, MemoryDevice, OpenedFile, header_line};
+use mi_log::{DeviceLog, Log, LogLines, MemoryDevice, OpenedFile, header_line};
 use std::fs::OpenOptions;
 use std::test::Fail;
 use std::{fs, process};
@@ -51,7 +51,7 @@ fn a_file_is_appended_to(rt: HostRuntime) -> Result<(), Fail> {
 #[test]
 fn lines_and_a_torn_one(rt: HostRuntime) -> Result<(), Fail> {
     let bytes: &[u8] = b"ab\n\nc\r\nde";
-    let mut lines = LineReader::new(rt.alloc(), bytes);
+    let mut lines = LogLines::new(rt.alloc(), bytes);
     for want in [b"ab\n".as_slice(), b"\n", b"c\r\n"] {
         assert!(rt; lines.advance()?);
         assert!(rt; lines.line() == want);

@@ -1,14 +1,13 @@
-//! Random lines, read into borrowed trees and by `serde_json` alone: both read the same.
-use json::Value;
+//! Random lines, read to values that lend and by `serde_json` alone: both read the same.
 use mi_random::Random;
-use mi_request::{Array, End, LineReader, Name, Object, Place, Request, Tree};
+use mi_request::{Array, End, Json as Lent, LineReader, Name, Object, Place, Request};
 use mi_value::Refusal;
 use serde_json::{Map, Value as Json};
 use std::alloc::{AllocError, Global};
 use std::test::Fail;
 
 /// Lines of each command, with members and texts of each kind.
-const LINES: [&str; 28] = [
+const LINES: [&str; 46] = [
     "{\"cmd\":\"undo\"}",
     "{\"cmd\":\"size\",\"table\":\"accounts\"}",
     "{\"cmd\":\"get\",\"id\":7}",
@@ -37,10 +36,28 @@ const LINES: [&str; 28] = [
     "{\"cmd\":\"get\",\"id\":01}",
     "{\"cmd\":\"get\",\"id\":1e2,\"table\":null}",
     "{\"cmd\" :\"erase\" ,\"id\" :3}\t",
+    "{\"\\u0063md\":\"g\\u0065t\",\"i\\u0064\":7}",
+    "{\"cmd\":\"insert\",\"row\":{\"a\":1,\"\\u0061\":2,\"b\":\"\\/\\b\\f\\n\\r\\t\\\\\"}}",
+    "{\"cmd\":\"insert\",\"row\":{\"z\":1,\"a\":{\"y\":[],\"x\":{}},\"z\":-2,\"m\":\"\\ud834\\udd1e\"}}",
+    "\n{\r\"cmd\":\t\"replace\",\"id\":0,  \"row\":{ \"b\" : 1e2 , \"a\":[ 1 , 2.5 ] }\n}\n",
+    "{\"cmd\":\"find\",\"index\":\"id\",\"key\":[9223372036854775807,9223372036854775808,-9223372036854775808,-9223372036854775809]}",
+    "{\"cmd\":\"count\",\"index\":\"id\",\"key\":[18446744073709551615,18446744073709551616,-0,0.0,1.5e-3]}",
+    "{\"cmd\":\"find\",\"index\":\"id\",\"key\":[999999999999999999,1000000000000000000,-999999999999999999,-1000000000000000000]}",
+    "{\"cmd\":\"upper_rank\",\"index\":\"id\",\"key\":[1.7976931348623157e308,-5e-324,1E400]}",
+    "{\"cmd\":\"commit\",\"revision\":9223372036854775807}",
+    "{\"cmd\":\"commit\",\"revision\": 9223372036854775808}",
+    "{\"cmd\":\"modify\",\"id\":1,\"set\":{\"vip\":null,\"owner\":\"\\u00e9\"},\"add\":{\"balance\":-1000000000000000000}}",
+    "{\"cmd\":\"list\",\"index\":\"\\u006cine\",\"after\":1.0,\"limit\":1e3}",
+    "{\"cmd\":\"rank\",\"index\":\"by_balance\",\"id\":7}",
+    "{\"cmd\":\"rank\",\"table\":\"accounts\",\"index\":\"by_owner\",\"id\":9223372036854775807}",
+    "{\"cmd\":\"nth\",\"table\":\"a_1\",\"index\":\"by_balance\",\"n\":1000}",
+    "{\"cmd\":\"relocate\",\"table\":\"a\",\"index\":\"line\",\"id\":10,\"before\":2}",
+    "{\"cmd\":\"get\",\"table\":\"accounts\",\"id\":0}",
+    "{\"cmd\":\"erase\",\"table\":\"accounts\",\"id\":12}",
 ];
 
 /// What is put into a line.
-const PIECES: [&str; 22] = [
+const PIECES: [&str; 28] = [
     "",
     " ",
     "\"",
@@ -63,6 +80,12 @@ const PIECES: [&str; 22] = [
     "\u{e9}",
     ", ",
     ": ",
+    "\n\t",
+    "000000000000",
+    ".0",
+    "e1",
+    "\\ud800",
+    "\\u0061",
 ];
 
 fn without_first(bytes: &[u8], n: usize) -> &[u8] {
@@ -85,39 +108,32 @@ fn with_piece(
 }
 
 fn random_line(alloc: Global, random: &mut Random) -> Result<Vec<u8>, AllocError> {
-    let mut line = LINES[random.below(28) as usize].as_bytes().to_vec(alloc)?;
+    let mut line = LINES[random.below(46) as usize].as_bytes().to_vec(alloc)?;
     for _ in 0..random.below(4) {
         let at = random.below(96) as usize;
         let left_out = random.below(3) as usize;
-        let piece = PIECES[random.below(22) as usize].as_bytes();
+        let piece = PIECES[random.below(28) as usize].as_bytes();
         line = with_piece(alloc, line.as_slice(), at, left_out, piece)?;
     }
     Ok(line)
 }
 
-/// A number, read by `serde_json`.
-fn owned_number(alloc: Global, text: &str) -> Result<Json, AllocError> {
-    match Json::from_str(alloc, text) {
-        Ok(number) => Ok(number),
-        Err(_) => Err(AllocError),
-    }
-}
-
-/// A borrowed tree as a value of `serde_json`.
+/// A value that lends as a value of `serde_json`.
 #[cycle(owned)]
-fn owned(alloc: Global, value: &Tree<'_>) -> Result<Json, AllocError> {
+fn owned(alloc: Global, value: &Lent<'_>) -> Result<Json, AllocError> {
     match value {
-        Value::Null => Ok(Json::Null),
-        Value::Bool(b) => Ok(Json::Bool(*b)),
-        Value::Number(text) => owned_number(alloc, *text),
-        Value::String(text) => Ok(Json::String(String::from_str(alloc, *text)?)),
-        Value::Array(items) => Ok(Json::Array(owned_items(alloc, items.as_slice())?)),
-        Value::Object(members) => Ok(Json::Object(owned_members(alloc, members.as_slice())?)),
+        Lent::Null => Ok(Json::Null),
+        Lent::Bool(b) => Ok(Json::Bool(*b)),
+        Lent::Whole(n) => Ok(Json::from(*n)),
+        Lent::Number(n) => Ok(Json::Number(*n)),
+        Lent::Text(text) => Ok(Json::String(String::from_str(alloc, *text)?)),
+        Lent::Array(items) => Ok(Json::Array(owned_items(alloc, *items)?)),
+        Lent::Object(members) => Ok(Json::Object(owned_members(alloc, *members)?)),
     }
 }
 
 #[cycle(owned)]
-fn owned_items(alloc: Global, items: &[Tree<'_>]) -> Result<Vec<Json>, AllocError> {
+fn owned_items(alloc: Global, items: &[Lent<'_>]) -> Result<Vec<Json>, AllocError> {
     let mut all = Vec::new(alloc);
     for item in items {
         all.push(owned(alloc, item)?)?;
@@ -128,7 +144,7 @@ fn owned_items(alloc: Global, items: &[Tree<'_>]) -> Result<Vec<Json>, AllocErro
 #[cycle(owned)]
 fn owned_members(
     alloc: Global,
-    members: &[(&str, Tree<'_>)],
+    members: &[(&str, Lent<'_>)],
 ) -> Result<Map<String, Json>, AllocError> {
     let mut all = Map::new(alloc);
     for member in members {

@@ -52,6 +52,29 @@ ok {"cmd":"nth","index":"a","n":9223372036854775807}
 form {"cmd":"nth","index":"a","n":9223372036854775808}
 form {"cmd":"nth","index":"a","n":-0}
 json {"cmd":"nth","index":"a","n":1e400}
+ok {"cmd":"nth","table":"accounts","index":"by_owner","n":0}
+json {"cmd":"nth","index":"a","n":00}
+ok {"cmd":"rank","index":"by_balance","id":7}
+ok {"cmd":"rank","table":"accounts","index":"by_balance","id":9223372036854775807}
+form {"cmd":"rank","index":"by_balance","id":9223372036854775808}
+form {"cmd":"rank","index":"by_balance","id":10000000000000000000}
+form {"cmd":"rank","index":"by_balance"}
+form {"cmd":"rank","table":"accounts","id":7}
+form {"cmd":"rank","index":"by_balance","id":7,"before":1}
+json {"cmd":"rank","index":"by_balance","id":07}
+json {"cmd":"rank","index":"by_balance","id":}
+json {"cmd":"rank","index":"by_balance","id":7,}
+json {"cmd":"rank","index":"by"balance","id":7}
+ok {"cmd":"rank","index":"","id":0}
+ok {"cmd":"rank","index":"By Owner","id":0}
+ok {"cmd":"relocate","index":"line","id":1}
+ok {"cmd":"relocate","table":"a","index":"line","id":1,"before":2}
+ok {"cmd":"relocate","index":"line","id":1,"before":null}
+form {"cmd":"relocate","index":"line","before":2}
+json {"cmd":"relocate","index":"line","id":1,"before":02}
+ok {"cmd":"erase","table":"a_1","id":7}
+ok {"cmd":"size","table":"accounts"}
+json {"cmd":"size","table":"accounts}
 "#;
 
 /// Why a line is refused, if it is.

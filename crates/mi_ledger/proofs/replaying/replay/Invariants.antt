@@ -1,6 +1,6 @@
 use Rattle.std.proofs.Common.{◌≡◌, Some, []}
 use Rattle.mi_hub.specs.Connections.{rest_at}
-use Rattle.mi_log.specs.LineReader.{reader_of}
+use Rattle.mi_log.specs.LogLines.{reader_of}
 use Rattle.mi_replay.specs.Replayed.{replayer}
 use Rattle.mi_ledger.specs.Replay.{Onward}
 use Rattle.mi_ledger.proofs.replaying.replay.Given as goal

@@ -1,6 +1,6 @@
 -- What was read with a newline is a whole line; without one nothing is left, and no line ends there.
 use Rattle.std.proofs.Common.{Ok, ◌∙◌, refl, sym, ap, subst}
-use Rattle.mi_log.specs.LineReader.{reader_of, line_of}
+use Rattle.mi_log.specs.LogLines.{reader_of, line_of}
 use Rattle.mi_hub.specs.Lines.{lines_of}
 use Rattle.mi_replay.specs.Replayed.{replayed}
 use Rattle.mi_ledger.specs.Journals.{IsWholeLine}

@@ -2,12 +2,12 @@
 use Rattle.std.proofs.Common.{◌≡◌, ℕ, ◌+◌, ◌-◌, ◌<◌, List, [], ◌∷◌, ◌++◌, length, take, get_or, Bool, true, false, cond, Some, sym, ap, ap₂, ◌∙◌, arith}
 use Rattle.std.proofs.lemmas.List.{take_more, length-take-le}
 use Rattle.std.specs.Str.{bytes_eq}
-use Rattle.mi_request.specs.Meant.{last_at}
+use Rattle.mi_request.specs.Places.{last_at}
 use Rattle.mi_request.proofs.ObjectLemmas.{last_at-push, Member}
 use Rattle.mi_request.proofs.object.place_of.Goals as goal
 
 -- the members up to the one that is looked at
-module _ {A : Type 0} (name : List ℕ) (xs : List (Member A)) (left i : ℕ) (m : Member A) where
+module _ (name : List ℕ) (xs : List Member) (left i : ℕ) (m : Member) where
   step : (b : Bool) → left ≡ i + 1 → i < length xs → m ≡ get_or xs i m → bytes_eq name m.0.now ≡ b → last_at name xs ≡ last_at name (take left xs)
       → last_at name xs ≡ cond b (Some i) (last_at name (take i xs))
   step b next within here same before =

@@ -1,5 +1,5 @@
 use Rattle.std.proofs.Common.{◌≡◌, ◌≤◌, length, take}
-use Rattle.mi_request.specs.Meant.{last_at}
+use Rattle.mi_request.specs.Places.{last_at}
 use Rattle.mi_request.proofs.object.place_of.Given as goal
 
 abbrev pub decreases-places : goal.decreases-places

@@ -1,5 +1,5 @@
 -- A member is put behind those so far.
-use Rattle.std.proofs.Common.{◌≡◌, ◌+◌, List, ◌∷◌, ◌++◌, drop, map, true, arith, ap, sym, ◌∙◌, append_assoc}
+use Rattle.std.proofs.Common.{◌≡◌, ◌+◌, List, ◌∷◌, ◌++◌, drop, map, arith, ap, sym, ◌∙◌, append_assoc}
 use Rattle.std.proofs.lemmas.List.{drop_more}
 use Rattle.json.proofs.Printed.Places.{Placed-then}
 use Rattle.mi_value.specs.Lent.{lent}
@@ -19,7 +19,7 @@ members-preserved c =
     let room : labels_room vs (drop i c.args.labels.now) ≡ 64 + source_room vs label.source + labels_room vs rest = ap (labels_room vs) there in (
       inv.0 ++ _,
       Placed-then inv.1 put.value,
-      append_assoc inv.0 _ (labelled_text true c.args.id vs rest)
-          ∙ ap (λ ls. inv.0 ++ labelled_text c.members.behind c.args.id vs ls) (sym there) ∙ inv.2,
-      omega (arith, put.bound, put.value.len, room, inv.3),
+      append_assoc inv.0 _ (labelled_text c.args.id vs rest)
+          ∙ ap (λ ls. inv.0 ++ labelled_text c.args.id vs ls) (sym there) ∙ inv.2,
+      omega (arith, put.bound, room, inv.3),
     )

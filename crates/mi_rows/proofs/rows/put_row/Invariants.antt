@@ -1,4 +1,4 @@
-use Rattle.std.proofs.Common.{◌≡◌, ◌+◌, ◌≤◌, ℕ, List, ◌∷◌, ◌++◌, drop, map, length, false}
+use Rattle.std.proofs.Common.{◌≡◌, ◌+◌, ◌≤◌, ℕ, List, ◌++◌, drop, map}
 use Rattle.json.specs.Filled.{Placed}
 use Rattle.serde_json.specs.Written.{comma_if}
 use Rattle.mi_value.specs.Lent.{lent}
@@ -10,5 +10,5 @@ abbrev pub invariant-members : goal.invariant-members
 invariant-members l =
     let vs = map lent l.cells in let rest = drop l.label-index l.labels in
     (xs : List ℕ) × Placed l.fn.buf l.buf l.at xs l.end
-    × (xs ++ labelled_text l.behind l.id vs rest ≡ comma_if l.later ++ 123 ∷ labelled_text false l.id vs l.labels)
-    × (l.end + labels_room vs rest + 1 ≤ length l.buf)
+    × (xs ++ labelled_text l.id vs rest ≡ comma_if l.later ++ labelled_text l.id vs l.labels)
+    × (l.end + labels_room vs rest ≤ l.at + labels_room vs l.labels + 1)

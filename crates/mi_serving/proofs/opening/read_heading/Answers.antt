@@ -1,6 +1,6 @@
 -- Where no newline was found all that there is, is a beginning of the header.
 use Rattle.std.proofs.Common.{Ok, ap, subst}
-use Rattle.mi_log.specs.LineReader.{reader_of, line_of}
+use Rattle.mi_log.specs.LogLines.{reader_of, line_of}
 use Rattle.mi_serving.specs.Recovery.{IsBeginning}
 use Rattle.mi_serving.proofs.OpeningLemmas.{heading_none}
 use Rattle.mi_serving.proofs.opening.read_heading.Goals as goal

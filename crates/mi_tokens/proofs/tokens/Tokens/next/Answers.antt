@@ -4,8 +4,8 @@ use Rattle.json.specs.Lex.{may_begin}
 use Rattle.mi_tokens.specs.Tokens.{place_of}
 use Rattle.mi_tokens.proofs.tokens.Tokens.next.Goals as goal
 
-pub returns-clause-token : goal.returns-clause-token
-returns-clause-token c =
+pub returns : goal.returns
+returns c =
     let a = c.self.inside in
     let may : may_begin (place_of a.place) ≡ true = grind arith in
-    sym c.self.view_is ∙ c.in_ok-token.ensures.begins (place_of a.place) may
+    sym c.self.view_is ∙ c.in_ok-token.ensures (place_of a.place) may
