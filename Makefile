@@ -18,7 +18,7 @@ SHARE = $(ROOT)/share/weltiyo
 
 comma := ,
 
-.PHONY: help try run build service lib test check-docs bench fuzz faults sanitize soak crash rates replica-tests install dist clean
+.PHONY: help try run build service lib test edits check-docs bench fuzz faults sanitize soak crash rates replica-tests install dist clean
 
 help:
 	@echo 'make try         compiles without proving (about a minute the first time) and serves, at a terminal by a prompt'
@@ -30,6 +30,7 @@ help:
 	@echo 'make lib         proves and builds the library for programs that keep their tables in their own process, into out/library'
 	@echo '                 (docs/EMBEDDING.md; needs a C compiler); one that is up to date is left as it is'
 	@echo 'make test        the gate: the proofs, the must-fail edits, the tests, the program by two compilers'
+	@echo 'make edits       all wrong bodies that must be refused, those that the gate leaves out too (ARGS=NAME takes those of a crate)'
 	@echo 'make check-docs  runs what README, guide and examples print, and the tests of the Python client and of the scripts'
 	@echo 'make fuzz        random lines to the program and to a reference in Python: SEED=$(SEED) LINES=$(LINES), of which DAMAGED=$(DAMAGED) are damaged'
 	@echo 'make faults      each request for memory refused in turn on worked rows and in blocks that need none, and a server under a hard'
@@ -69,6 +70,9 @@ lib:
 test:
 	@command -v $(RT) > /dev/null || $(PYTHON) scripts/program.py needs
 	@$(RT) ci
+
+edits:
+	@$(PYTHON) scripts/further_edits.py $(ARGS)
 
 check-docs:
 	@$(PYTHON) scripts/check_docs.py

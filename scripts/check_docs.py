@@ -332,6 +332,12 @@ class Documents:
         if ran.returncode:
             raise Differs(ran.stdout + ran.stderr)
 
+    def further_edits(self):
+        """Whether each wrong body that the gate leaves out still applies."""
+        ran = self.run([sys.executable, f"{TOP}/scripts/further_edits.py", "--check"])
+        if ran.returncode:
+            raise Differs(ran.stdout + ran.stderr)
+
     def script(self, name, *words):
         ran = self.run([sys.executable, f"{TOP}/scripts/{name}", "--program", self.path, *words])
         if ran.returncode:
@@ -369,6 +375,7 @@ def main():
             checks.check("scripts/stall.py", checks.script, "stall.py")
             checks.services()
             checks.check("scripts/check_heads.py", checks.heads)
+            checks.check("scripts/further_edits.py --check", checks.further_edits)
     for it in checks.skipped:
         print(f"skipped: {it}")
     print(f"{checks.passed} passed, {checks.failed} failed", flush=True)
